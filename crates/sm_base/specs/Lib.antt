@@ -1,0 +1,4 @@
+pub mod LabelBytes
+pub mod Labels
+pub mod Names
+pub mod Numbers

@@ -1,0 +1,38 @@
+//! Why a line of a script is refused.
+
+/// Why a line is refused, in the order of the tests. The first that applies is the answer.
+#[derive(Clone, Copy, Debug, PartialEq, Eq)]
+pub enum Refusal {
+    /// The line spells no command that is built.
+    BadLine,
+    /// The new UUID is nil or of the form that base images have.
+    ReservedName,
+    /// No disk has the UUID.
+    UnknownDisk,
+    /// A disk or a hidden image has the new UUID.
+    NameTaken,
+    /// The disk is attached.
+    InUse,
+    /// The disk is not attached.
+    NotAttached,
+    /// The disk is a snapshot, or is attached for reading alone.
+    ReadOnly,
+    /// The disk's volume is raw.
+    RawDisk,
+    /// The sectors are none, too many, or not all within the disk.
+    OutOfRange,
+    /// The size is 0 or too large.
+    BadSize,
+    /// The size is below the present size.
+    Shrink,
+    /// The disk's chain has as many images as a chain may have.
+    ChainTooLong { depth: u32 },
+    /// The images that there are and those that are needed are too many together.
+    TooMany { have: u32, need: u32 },
+    /// The table's sequence number is nearly used up.
+    SequenceSpent,
+    /// More extents are needed than are free.
+    NoSpace { need: u32, free: u32 },
+    /// Memory ran out before the first write of the step.
+    NoMemory,
+}
