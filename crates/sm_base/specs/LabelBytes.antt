@@ -1,6 +1,6 @@
 -- How a label is kept: its text in front of zeros.
 use Rattle.std.specs.Prelude.{◌≡◌, ℕ, ◌-◌, List, ◌++◌, take, length, replicate, IsTrue}
-use Rattle.std.proofs.Common.{ap₂, sym, ap, ◌∙◌}
+use Rattle.std.proofs.Common.{ap₂, ap, ◌∙◌}
 use Rattle.sm_base.specs.Labels.{is_label}
 use Rattle.sm_base.specs.declared.labels.Label.TheInside.{Inside}
 

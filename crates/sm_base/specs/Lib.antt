@@ -2,3 +2,5 @@ pub mod LabelBytes
 pub mod Labels
 pub mod Names
 pub mod Numbers
+pub mod Refusals
+pub mod Texts

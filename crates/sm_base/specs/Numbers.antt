@@ -1,6 +1,6 @@
 -- The numbers of an image (this project's profile of the VHD format). Extent and block are in sectors, T
 -- is the number of entries of a block allocation table.
-use Rattle.std.specs.Prelude.{◌≡◌, ◌≤◌, ℕ, ◌+◌, ◌-◌, ◌*◌, ◌/◌, ◌%◌, ◌^◌, IsTrue}
+use Rattle.std.specs.Prelude.{◌≤◌, ℕ, ◌+◌, ◌-◌, ◌*◌, ◌/◌, IsTrue}
 use Rattle.std.specs.Int.{is_power_of_two}
 
 -- a / b, rounded up

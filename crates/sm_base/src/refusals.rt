@@ -1,5 +1,8 @@
 //! Why a line of a script is refused.
 
+ghost use Rattle.std.specs.Prelude.{◌≡◌};
+ghost use Rattle.sm_base.specs.Refusals.{number_of};
+
 /// Why a line is refused, in the order of the tests. The first that applies is the answer.
 #[derive(Clone, Copy, Debug, PartialEq, Eq)]
 pub enum Refusal {
@@ -35,4 +38,30 @@ pub enum Refusal {
     NoSpace { need: u32, free: u32 },
     /// Memory ran out before the first write of the step.
     NoMemory,
+}
+
+impl Refusal {
+    /// The refusal's number, from 1 to 16 in the order of the tests.
+    pub fn number(&self) -> u8
+        ensures { result ≡ number_of self.now }
+    {
+        match self {
+            Refusal::BadLine => 1,
+            Refusal::ReservedName => 2,
+            Refusal::UnknownDisk => 3,
+            Refusal::NameTaken => 4,
+            Refusal::InUse => 5,
+            Refusal::NotAttached => 6,
+            Refusal::ReadOnly => 7,
+            Refusal::RawDisk => 8,
+            Refusal::OutOfRange => 9,
+            Refusal::BadSize => 10,
+            Refusal::Shrink => 11,
+            Refusal::ChainTooLong { .. } => 12,
+            Refusal::TooMany { .. } => 13,
+            Refusal::SequenceSpent => 14,
+            Refusal::NoSpace { .. } => 15,
+            Refusal::NoMemory => 16,
+        }
+    }
 }

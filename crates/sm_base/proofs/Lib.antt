@@ -1,0 +1,6 @@
+pub mod BaseLemmas
+pub mod NameLemmas
+pub mod NumberLemmas
+pub mod OrderLemmas
+pub mod ReadLemmas
+pub mod TextLemmas
