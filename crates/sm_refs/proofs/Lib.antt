@@ -1,0 +1,6 @@
+pub mod CallerLemmas
+pub mod ChainLemmas
+pub mod FromScratchLemmas
+pub mod NameLemmas
+pub mod RemovalLemmas
+pub mod TallyLemmas

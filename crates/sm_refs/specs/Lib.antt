@@ -1,0 +1,5 @@
+pub mod Attached
+pub mod FromScratch
+pub mod Kept
+pub mod Rooms
+pub mod Tallies
