@@ -1,0 +1,9 @@
+pub mod Orders
+pub mod DisksShown
+pub mod DiskLists
+pub mod PlainDisks
+pub mod Finding
+pub mod PlainKept
+pub mod RecordLists
+pub mod RawAdded
+pub mod TurnLaws

@@ -1,0 +1,234 @@
+-- A repository of raw disks alone is kept exactly where it is sound fact by fact, and then today's checks pass.
+use Rattle.std.proofs.Common.{eq-eqb, ◌≡◌, ℕ, ◌≤◌, inl, inr, Bool, true, false, cond, not, ◌&&◌, ◌||◌, ◌==◌, List, [], ◌∷◌, length, Option, Some, None, is_some, refl, sym, ap, ◌∙◌, subst, arith, nat_lt}
+use Rattle.std.specs.List.{AllByRecursion, filter, find}
+use Rattle.std.proofs.lemmas.Bool.Decides.{nat_tests}
+use Rattle.std.proofs.lemmas.Bool.{le-ltb, ltb-false}
+use Rattle.sm_base.specs.declared.faults.Place.{Place}
+use Rattle.sm_base.specs.declared.faults.Place.TheVariants as at
+use Rattle.sm_base.specs.declared.names.Name.{Name}
+use Rattle.sm_base.specs.declared.names.Name.TheVariants.{Mgt, Vhd, Raw, Old, Clone, Inflate, Coalesce, Relink, Leaf}
+use Rattle.vg_layout.specs.Places.{record_extents}
+use Rattle.vg_meta.specs.Tables.{Listing, Row, is_image as is_data, is_journal}
+use Rattle.sm_machine.specs.Lists.{In, given, numbers, ◌>>=◌}
+use Rattle.sm_standing.specs.Plain.{is_plain, is_plain_name, IsPlain}
+use Rattle.sm_standing.specs.PlainSound.{PlainSound}
+use Rattle.sm_standing.specs.Contents.{Content, row, record_count, records, is_record_of}
+use Rattle.sm_standing.specs.Entries.{is_there, is_past, are_past, is_at_stage, making, second}
+use Rattle.sm_standing.specs.Images.{image_of, vhd_image, of_vhd}
+use Rattle.sm_standing.specs.Standing.{stands, uuids}
+use Rattle.sm_standing.specs.Checks.{first_name, name_in, placed, has_records, record_volume_fault, images, too_many_fault, has_twin, misnamed_fault, lesser, second_entry_fault, lost_entry_fault, is_orphaned, old_leaf_fault, is_image_wrong, is_oversize, invalid_fault, is_tree_wrong, tree_wrong_as, tree_fault, is_entry_linked, entry_link_fault, record_place, record_fault, disk_place, disk_uuids, is_unrecorded, disk_fault, all_faults, faults_today, first_fault, is_ahead, entry_ahead_fault, image_ahead_fault, first_fault_today}
+use Rattle.sm_standing.specs.Keeping.{IsKept}
+use Rattle.sm_standing.proofs.Finding.{find_none, none_find, none_first, first_none, numbers-In, In-numbers, In-filter, filter-In}
+use Rattle.sm_standing.proofs.DisksShown.{stands_listed}
+use Rattle.sm_standing.proofs.PlainDisks.{all-In, no_vhd, no_making, no_folding}
+
+-- a test that no row passes names no place
+none_named : (place : Name → Place) (test : Row → Bool) (rs : List Row) → ((r : Row) → In r rs → test r ≡ false) → placed place (first_name test rs) ≡ None
+unfolding first_name
+none_named place test rs fails = ap (λ o. placed place (name_in o)) (find_none test rs fails)
+
+named_step : (place : Name → Place) (o : Option Row) → placed place (name_in o) ≡ None → o ≡ None
+named_step place None h = refl
+named_step place (Some r) h = absurd (let e = h in cc)
+
+named_none : (place : Name → Place) (test : Row → Bool) (rs : List Row) → placed place (first_name test rs) ≡ None → (r : Row) → In r rs → test r ≡ false
+unfolding first_name
+named_none place test rs h = none_find test rs (named_step place (find test rs) h)
+
+-- ---- each check of a plain row, by its name
+
+plain_image : (c : Content) (u : List ℕ) → IsPlain c.table → image_of c (Vhd u) ≡ None
+unfolding image_of
+plain_image c u plain = ap (λ o. o >>= (λ r. cond r.fresh None (vhd_image c (Vhd u) r >>= (λ v. Some (of_vhd v))))) (no_vhd c.table u plain)
+
+misnamed_at : (t : Listing) (hidden : Bool) (n : Name) → IsPlain t → is_plain_name hidden n ≡ true → ((u : List ℕ) → n ≡ Raw u → is_past t.sequence u ≡ true)
+    → (is_data n && (has_twin t n || not (are_past t n))) ≡ false
+misnamed_at t hidden Mgt plain h past = refl
+misnamed_at t hidden (Raw u) plain h past =
+    ap (λ o. is_some o || not (is_past t.sequence u && true)) (no_vhd t u plain) ∙ ap (λ b. not (b && true)) (past u refl)
+misnamed_at t hidden (Vhd u) plain h past = absurd (let e = h in cc)
+misnamed_at t hidden (Old u) plain h past = absurd (let e = h in cc)
+misnamed_at t hidden (Clone d b w) plain h past = absurd (let e = h in cc)
+misnamed_at t hidden (Inflate i m) plain h past = absurd (let e = h in cc)
+misnamed_at t hidden (Coalesce a p) plain h past = absurd (let e = h in cc)
+misnamed_at t hidden (Relink a p) plain h past = absurd (let e = h in cc)
+misnamed_at t hidden (Leaf l p) plain h past = absurd (let e = h in cc)
+
+-- what a plain name is not
+pub record NotSpecial (n : Name) : Type 0 where
+  pub no_journal : is_journal n ≡ false
+  pub no_vhd_name : (u : List ℕ) → n ≡ Vhd u → ⊥
+  pub no_old_name : (t : Listing) → is_orphaned t n ≡ false
+  pub linked : (c : Content) → is_entry_linked c n ≡ true
+
+pub not_special : (hidden : Bool) (n : Name) → is_plain_name hidden n ≡ true → NotSpecial n
+unfolding is_entry_linked
+not_special hidden Mgt h = record { no_journal = refl; no_vhd_name = λ u e. (let x = e in cc); no_old_name = λ t. refl; linked = λ c. refl }
+not_special hidden (Raw u) h = record { no_journal = refl; no_vhd_name = λ v e. (let x = e in cc); no_old_name = λ t. refl; linked = λ c. refl }
+not_special hidden (Vhd u) h = absurd (let e = h in cc)
+not_special hidden (Old u) h = absurd (let e = h in cc)
+not_special hidden (Clone d b w) h = absurd (let e = h in cc)
+not_special hidden (Inflate i m) h = absurd (let e = h in cc)
+not_special hidden (Coalesce a p) h = absurd (let e = h in cc)
+not_special hidden (Relink a p) h = absurd (let e = h in cc)
+not_special hidden (Leaf l p) h = absurd (let e = h in cc)
+
+given_none : (b : Bool) (p : Place) → b ≡ false → given b p ≡ None
+given_none true p h = absurd (let e = h in cc)
+given_none false p h = refl
+
+none_given : (b : Bool) (p : Place) → given b p ≡ None → b ≡ false
+none_given true p h = absurd (let e = h in cc)
+none_given false p h = refl
+
+-- a volume of no VHD name passes the check of trees
+tree_at : (c : Content) (r : Row) (n : Name) → ((u : List ℕ) → n ≡ Vhd u → ⊥) → r.name ≡ n → is_tree_wrong c r ≡ false
+tree_at c r Mgt no_vhd_name is = ap (λ m. tree_wrong_as c r m) is
+tree_at c r (Raw u) no_vhd_name is = ap (λ m. tree_wrong_as c r m) is
+tree_at c r (Vhd u) no_vhd_name is = absurd (no_vhd_name u refl)
+tree_at c r (Old u) no_vhd_name is = ap (λ m. tree_wrong_as c r m) is
+tree_at c r (Clone d b w) no_vhd_name is = ap (λ m. tree_wrong_as c r m) is
+tree_at c r (Inflate i m) no_vhd_name is = ap (λ m. tree_wrong_as c r m) is
+tree_at c r (Coalesce a p) no_vhd_name is = ap (λ m. tree_wrong_as c r m) is
+tree_at c r (Relink a p) no_vhd_name is = ap (λ m. tree_wrong_as c r m) is
+tree_at c r (Leaf l p) no_vhd_name is = ap (λ m. tree_wrong_as c r m) is
+
+invalid_at : (c : Content) (r : Row) (hidden fresh : Bool) (n : Name) → is_plain_name hidden n ≡ true
+    → ((u : List ℕ) → n ≡ Raw u → fresh ≡ false → is_oversize c.extent c.block c.entries r ≡ false)
+    → (not fresh && is_image_wrong c r n) ≡ false
+invalid_at c r hidden true n h fits = refl
+invalid_at c r hidden false Mgt h fits = refl
+invalid_at c r hidden false (Raw u) h fits = fits u refl refl
+invalid_at c r hidden false (Vhd u) h fits = absurd (let e = h in cc)
+invalid_at c r hidden false (Old u) h fits = absurd (let e = h in cc)
+invalid_at c r hidden false (Clone d b w) h fits = absurd (let e = h in cc)
+invalid_at c r hidden false (Inflate i m) h fits = absurd (let e = h in cc)
+invalid_at c r hidden false (Coalesce a p) h fits = absurd (let e = h in cc)
+invalid_at c r hidden false (Relink a p) h fits = absurd (let e = h in cc)
+invalid_at c r hidden false (Leaf l p) h fits = absurd (let e = h in cc)
+
+records_fault : (c : Content) (o : Option Row) (s : Row) → o ≡ Some s → length s.extents ≡ record_extents c.extent → not (has_records c o) ≡ false
+records_fault c None s is long = absurd (let e = is in cc)
+records_fault c (Some r) s is long = ap not (eq-eqb (length r.extents) (record_extents c.extent) (let same : r ≡ s = (let e = is in cc) in ap (λ t. length t.extents) same ∙ long))
+
+plain_row : (c : Content) → PlainSound c → (r : Row) → In r c.table.volumes → is_plain r ≡ true
+plain_row c s r h = all-In (λ r. is_plain r ≡ true) c.table.volumes r s.plain h
+
+not_below : (n : ℕ) → n ≤ 500 → nat_lt 500 n ≡ false
+not_below n h = le-ltb 500 n h
+
+is_some-parts : {A : Type 0} (o : Option A) → is_some o ≡ true → (x : A) × (o ≡ Some x)
+is_some-parts None h = absurd (let e = h in cc)
+is_some-parts (Some x) h = (x, refl)
+
+recorded_once : (c : Content) → PlainSound c → (u : List ℕ) → In u (disk_uuids c) → is_unrecorded c u ≡ false
+recorded_once c s u h =
+    let w = is_some-parts (stands c.table u) (In-filter (λ v. is_some (stands c.table v)) (uuids c.table) u h).1 in
+    ap not (eq-eqb (length (filter (is_record_of u) (records c))) 1 (s.recorded u w.0 w.1))
+
+-- each check passes
+checks_pass : (c : Content) → PlainSound c → (o : Option Place)
+    → In o (record_volume_fault c ∷ too_many_fault c ∷ misnamed_fault c ∷ second_entry_fault c ∷ lost_entry_fault c ∷ old_leaf_fault c
+    ∷ invalid_fault c ∷ tree_fault c ∷ entry_link_fault c ∷ record_fault c ∷ disk_fault c ∷ []) → o ≡ None
+unfolding record_volume_fault too_many_fault misnamed_fault second_entry_fault lost_entry_fault old_leaf_fault invalid_fault tree_fault entry_link_fault record_fault disk_fault
+checks_pass c s o (inl is) = is ∙ given_none _ at.Mgt (records_fault c (row c Mgt) s.records_row s.records_there s.records_extents)
+checks_pass c s o (inr (inl is)) = is ∙ given_none _ at.Images (not_below (length (images c.table)) s.few_images)
+checks_pass c s o (inr (inr (inl is))) = is ∙ none_named at.Image _ c.table.volumes (λ r h.
+    misnamed_at c.table r.hidden r.name s.plain (plain_row c s r h) (λ u n. s.past r u h n))
+checks_pass c s o (inr (inr (inr (inl is)))) = is ∙ ap (λ ns. placed at.Journal (lesser (second ns) (second (making c.table)))) (no_folding c.table.volumes s.plain)
+    ∙ ap (λ ns. placed at.Journal (second ns)) (no_making c.table.volumes s.plain)
+checks_pass c s o (inr (inr (inr (inr (inl is))))) = is ∙ none_named at.Journal _ c.table.volumes (λ r h.
+    ap (λ b. b && not (is_at_stage c.table r.name && are_past c.table r.name)) (not_special r.hidden r.name (plain_row c s r h)).no_journal)
+checks_pass c s o (inr (inr (inr (inr (inr (inl is)))))) = is ∙ none_named at.Image _ c.table.volumes (λ r h.
+    (not_special r.hidden r.name (plain_row c s r h)).no_old_name c.table)
+checks_pass c s o (inr (inr (inr (inr (inr (inr (inl is))))))) = is ∙ none_named at.Image _ c.table.volumes (λ r h.
+    invalid_at c r r.hidden r.fresh r.name (plain_row c s r h) (λ u n f. s.sizes r u h n f))
+checks_pass c s o (inr (inr (inr (inr (inr (inr (inr (inl is)))))))) = is ∙ none_named at.Tree _ c.table.volumes (λ r h.
+    tree_at c r r.name (not_special r.hidden r.name (plain_row c s r h)).no_vhd_name refl)
+checks_pass c s o (inr (inr (inr (inr (inr (inr (inr (inr (inl is))))))))) = is ∙ none_named at.Journal _ c.table.volumes (λ r h.
+    ap not ((not_special r.hidden r.name (plain_row c s r h)).linked c))
+checks_pass c s o (inr (inr (inr (inr (inr (inr (inr (inr (inr (inl is)))))))))) = is ∙ ap record_place (find_none _ (numbers 0 record_count) (λ k h. s.right k (In-numbers 0 record_count k h).1))
+checks_pass c s o (inr (inr (inr (inr (inr (inr (inr (inr (inr (inr (inl is))))))))))) = is ∙ ap disk_place (find_none _ (disk_uuids c) (λ u h. recorded_once c s u h))
+checks_pass c s o (inr (inr (inr (inr (inr (inr (inr (inr (inr (inr (inr none))))))))))) = elim none [ ]
+
+-- kept, fact by fact
+pub plain_kept : (c : Content) → PlainSound c → IsKept c
+unfolding first_fault
+plain_kept c s = record {
+  sound = first_none (all_faults c) (checks_pass c s);
+  holding = λ u i is. absurd (let e = sym (plain_image c u s.plain) ∙ is in cc);
+  linking = λ child parent r v p n there is linked held. absurd (let e = sym (plain_image c child s.plain) ∙ is in cc);
+}
+
+-- ---- from today's checks to the facts
+
+eq_of : (a b : ℕ) → (a == b) ≡ true → a ≡ b
+eq_of a b h = grind (arith, nat_tests)
+
+not_not : (b : Bool) → not b ≡ false → b ≡ true
+not_not true h = refl
+not_not false h = absurd (let e = h in cc)
+
+journal_or_image : (hidden : Bool) (n : Name) → is_journal n ≡ false → is_ahead hidden n ≡ false → is_plain_name hidden n ≡ true
+journal_or_image hidden Mgt j h = refl
+journal_or_image hidden (Raw u) j h = ap not h
+journal_or_image hidden (Vhd u) j h = absurd (let e = h in cc)
+journal_or_image hidden (Old u) j h = absurd (let e = h in cc)
+journal_or_image hidden (Clone d b w) j h = absurd (let e = j in cc)
+journal_or_image hidden (Inflate i m) j h = absurd (let e = j in cc)
+journal_or_image hidden (Coalesce a p) j h = absurd (let e = j in cc)
+journal_or_image hidden (Relink a p) j h = absurd (let e = j in cc)
+journal_or_image hidden (Leaf l p) j h = absurd (let e = j in cc)
+
+all-of : (P : Row → Type 0) (rs : List Row) → ((r : Row) → In r rs → P r) → AllByRecursion P rs
+all-of P [] each = tt
+all-of P (r ∷ rs) each = (each r (inl refl), all-of P rs (λ s h. each s (inr h)))
+
+records_right : (c : Content) (o : Option Row) → row c Mgt ≡ o → not (has_records c o) ≡ false → (r : Row) × (row c Mgt ≡ Some r) × (length r.extents ≡ record_extents c.extent)
+records_right c None is h = absurd (let e = h in cc)
+records_right c (Some r) is h = (r, is, eq_of (length r.extents) (record_extents c.extent) (not_not (length r.extents == record_extents c.extent) h))
+
+past_at : (t : Listing) (n : Name) (u : List ℕ) → n ≡ Raw u → (is_data n && (has_twin t n || not (are_past t n))) ≡ false → is_past t.sequence u ≡ true
+past_at t n u is h = past_of (is_there t (Vhd u)) (is_past t.sequence u) (subst (λ m. (is_data m && (has_twin t m || not (are_past t m))) ≡ false) is h)
+  where
+    past_of : (twin past : Bool) → (twin || not (past && true)) ≡ false → past ≡ true
+    past_of true past h = absurd (let e = h in cc)
+    past_of false true h = refl
+    past_of false false h = absurd (let e = h in cc)
+
+size_at : (c : Content) (r : Row) (n : Name) (f : Bool) (u : List ℕ) → n ≡ Raw u → f ≡ false → (not f && is_image_wrong c r n) ≡ false → is_oversize c.extent c.block c.entries r ≡ false
+size_at c r n f u is fresh h = subst (λ b. (not b && is_oversize c.extent c.block c.entries r) ≡ false) fresh (subst (λ m. (not f && is_image_wrong c r m) ≡ false) is h)
+
+record_none : (o : Option ℕ) → record_place o ≡ None → o ≡ None
+record_none None h = refl
+record_none (Some k) h = absurd (let e = h in cc)
+
+disk_none : (o : Option (List ℕ)) → disk_place o ≡ None → o ≡ None
+disk_none None h = refl
+disk_none (Some k) h = absurd (let e = h in cc)
+
+not_above : (n : ℕ) → nat_lt 500 n ≡ false → n ≤ 500
+not_above n h = ltb-false 500 n h
+
+listed_disk : (c : Content) (u : List ℕ) (n : Name) → stands c.table u ≡ Some n → In u (disk_uuids c)
+listed_disk c u n is = filter-In (λ v. is_some (stands c.table v)) (uuids c.table) u (stands_listed c.table u n is) (ap is_some is)
+
+-- where today's checks pass, the repository is one of raw disks alone, and sound fact by fact
+pub today_sound : (c : Content) → first_fault_today c ≡ None → PlainSound c
+unfolding first_fault_today record_volume_fault too_many_fault misnamed_fault entry_ahead_fault image_ahead_fault invalid_fault record_fault disk_fault
+today_sound c h =
+    let each = none_first (faults_today c) h in
+    let w = records_right c (row c Mgt) refl (none_given _ at.Mgt (each (record_volume_fault c) (inl refl))) in
+    record {
+      plain = all-of (λ r. is_plain r ≡ true) c.table.volumes (λ r k. journal_or_image r.hidden r.name
+          (named_none at.Journal _ c.table.volumes (each (entry_ahead_fault c) (inr (inr (inr (inl refl))))) r k)
+          (named_none at.Image _ c.table.volumes (each (image_ahead_fault c) (inr (inr (inr (inr (inl refl)))))) r k));
+      records_row = w.0;
+      records_there = w.1;
+      records_extents = w.2;
+      few_images = not_above (length (images c.table)) (none_given _ at.Images (each (too_many_fault c) (inr (inl refl))));
+      past = λ r u k n. past_at c.table r.name u n (named_none at.Image _ c.table.volumes (each (misnamed_fault c) (inr (inr (inl refl)))) r k);
+      sizes = λ r u k n f. size_at c r r.name r.fresh u n f (named_none at.Image _ c.table.volumes (each (invalid_fault c) (inr (inr (inr (inr (inr (inl refl))))))) r k);
+      right = λ k below. none_find _ (numbers 0 record_count) (record_none _ (each (record_fault c) (inr (inr (inr (inr (inr (inr (inl refl))))))))) k (numbers-In 0 record_count k (omega arith) (omega arith));
+      recorded = λ u n is. eq_of _ 1 (not_not _ (none_find _ (disk_uuids c) (disk_none _ (each (disk_fault c) (inr (inr (inr (inr (inr (inr (inr (inl refl)))))))))) u (listed_disk c u n is)));
+    }

@@ -1,0 +1,316 @@
+-- The checks of an opening from the sixth on, in their order, each with the place that it names (this project's
+-- format). The first that fails gives the answer; a repository of which none fails is sound. Names are in byte order
+-- of their spelling, as they stand in the table.
+--    6. The volume of records is there with exactly its extents.
+--    7. There are at most 500 images. No two of the VHD and raw images have the same UUID, and a base image's UUID
+--       has a number below the table's sequence number.
+--    8. There is at most one entry of each group. Each stands at a stage as far as the table shows it, and its base
+--       UUIDs have numbers below the sequence number.
+--    9. Each old leaf belongs to a swap that is under way.
+--   10. Each VHD image that is not new is valid, and each raw image that is not new has at most as many blocks as a
+--       table has entries.
+--   11. The parent of each of these VHD images is there, not new, hidden and not larger; its chain has at most 30
+--       images; a visible one has no children.
+--   12. The entries' conditions on parents and children hold.
+--   13. Each record sector is free or right, and each disk has exactly one record.
+use Rattle.std.specs.Prelude.{ℕ, zero, suc, ◌*◌, ◌==◌, ◌&&◌, ◌||◌, not, nat_lt, nat_le, Bool, true, false, List, [], ◌∷◌, ◌++◌, length, Option, Some, None, is_some, is_none, if◌then◌else◌}
+use Rattle.std.specs.List.{filter, find, list_any}
+use Rattle.std.specs.Ordering.{is_lt}
+use Rattle.sm_base.specs.Names.{name_cmp}
+use Rattle.sm_base.specs.declared.faults.Place.{Place}
+use Rattle.sm_base.specs.declared.faults.Place.TheVariants as at
+use Rattle.sm_base.specs.declared.names.Name.{Name}
+use Rattle.sm_base.specs.declared.names.Name.TheVariants.{Mgt, Vhd, Raw, Old, Clone, Inflate, Coalesce, Relink, Leaf}
+use Rattle.vg_layout.specs.Places.{record_extents}
+use Rattle.vg_meta.specs.Tables.{Listing, Row, is_image as is_data, is_journal}
+use Rattle.vg_volumes.specs.Volumes.{span}
+use Rattle.sm_machine.specs.Lists.{◌>>=◌, given, first_some, numbers}
+use Rattle.sm_machine.specs.Shapes.{same_image, image_limit, chain_limit}
+use Rattle.sm_record.specs.declared.records.Reading.{Reading}
+use Rattle.sm_record.specs.declared.records.Reading.TheVariants.{Free, Taken, Damaged}
+use Rattle.sm_standing.specs.Contents.{Content, row, record_count, reading_at, records, is_record_of}
+use Rattle.sm_standing.specs.Entries.{is_there, is_hidden, are_past, is_at_stage, is_old_of, is_fork_made, is_leaf_copied, is_leaf_renamed, is_leaf_swapped, folding, making, second}
+use Rattle.sm_standing.specs.Images.{Image, image_of}
+use Rattle.sm_standing.specs.Standing.{stands, uuids}
+
+-- the name of the first volume that passes a test, in order of name
+abbrev pub name_in : Option Row → Option Name
+name_in None = None
+name_in (Some r) = Some r.name
+
+unfoldable pub first_name : (Row → Bool) → List Row → Option Name
+first_name test rs = name_in (find test rs)
+
+-- a place where there is a name
+abbrev pub placed : (Name → Place) → Option Name → Option Place
+placed place None = None
+placed place (Some n) = Some (place n)
+
+-- ---- 6: the volume of records
+
+abbrev pub has_records : Content → Option Row → Bool
+has_records c None = false
+has_records c (Some r) = length r.extents == record_extents c.extent
+
+unfoldable pub record_volume_fault : Content → Option Place
+record_volume_fault c = given (not (has_records c (row c Mgt))) at.Mgt
+
+-- ---- 7: the images
+
+abbrev pub images : Listing → List Row
+images t = filter (λ r. is_data r.name) t.volumes
+
+unfoldable pub too_many_fault : Content → Option Place
+too_many_fault c = given (nat_lt image_limit (length (images c.table))) at.Images
+
+-- a VHD and a raw image have one UUID
+abbrev pub has_twin : Listing → Name → Bool
+has_twin t (Vhd u) = is_there t (Raw u)
+has_twin t (Raw u) = is_there t (Vhd u)
+has_twin t _ = false
+
+abbrev pub is_misnamed : Listing → Row → Bool
+is_misnamed t r = is_data r.name && (has_twin t r.name || not (are_past t r.name))
+
+unfoldable pub misnamed_fault : Content → Option Place
+misnamed_fault c = placed at.Image (first_name (is_misnamed c.table) c.table.volumes)
+
+-- ---- 8: the entries, by the table
+
+-- the lesser of two names, where there are two
+abbrev pub lesser : Option Name → Option Name → Option Name
+lesser None b = b
+lesser (Some a) None = Some a
+lesser (Some a) (Some b) = if is_lt (name_cmp a b) then Some a else Some b
+
+unfoldable pub second_entry_fault : Content → Option Place
+second_entry_fault c = placed at.Journal (lesser (second (folding c.table)) (second (making c.table)))
+
+abbrev pub is_lost : Listing → Row → Bool
+is_lost t r = is_journal r.name && not (is_at_stage t r.name && are_past t r.name)
+
+unfoldable pub lost_entry_fault : Content → Option Place
+lost_entry_fault c = placed at.Journal (first_name (is_lost c.table) c.table.volumes)
+
+-- ---- 9: old leaves
+
+abbrev pub is_orphaned : Listing → Name → Bool
+is_orphaned t (Old u) = not (list_any (is_old_of t u) (folding t))
+is_orphaned t _ = false
+
+unfoldable pub old_leaf_fault : Content → Option Place
+old_leaf_fault c = placed at.Image (first_name (λ r. is_orphaned c.table r.name) c.table.volumes)
+
+-- ---- 10: each image by itself
+
+-- a raw image that has more blocks than a table has entries
+abbrev pub is_oversize : ℕ → ℕ → ℕ → Row → Bool
+is_oversize extent block entries r = nat_lt (entries * block) (span extent r.extents)
+
+abbrev pub is_image_wrong : Content → Row → Name → Bool
+is_image_wrong c r (Vhd u) = is_none (image_of c (Vhd u))
+is_image_wrong c r (Raw u) = is_oversize c.extent c.block c.entries r
+is_image_wrong c r Mgt = false
+is_image_wrong c r (Old u) = false
+is_image_wrong c r (Clone disk base twin) = false
+is_image_wrong c r (Inflate image extents) = false
+is_image_wrong c r (Coalesce child parent) = false
+is_image_wrong c r (Relink child parent) = false
+is_image_wrong c r (Leaf leaf parent) = false
+
+abbrev pub is_invalid : Content → Row → Bool
+is_invalid c r = not r.fresh && is_image_wrong c r r.name
+
+unfoldable pub invalid_fault : Content → Option Place
+invalid_fault c = placed at.Image (first_name (is_invalid c) c.table.volumes)
+
+-- ---- 11: parents and chains
+
+-- the images that are not new, with their names
+abbrev pub parent_is : Name → Option Image → Bool
+parent_is p None = false
+parent_is p (Some i) = elim i.parent [ None ↦ false | Some q ↦ same_image q p ]
+
+-- the volumes whose images have this parent
+unfoldable pub children : Content → Name → List Row
+children c p = filter (λ r. parent_is p (image_of c r.name)) c.table.volumes
+
+-- the number of images from one up, counted up to a limit
+unfoldable pub depth : Content → ℕ → Name → ℕ
+depth c zero n = 0
+depth c (suc most) n = suc (elim (image_of c n >>= (λ i. i.parent)) [ None ↦ 0 | Some p ↦ depth c most p ])
+
+-- a parent that is there, not new, hidden and not larger
+abbrev pub is_parent_right : Content → ℕ → Name → Bool
+is_parent_right c size p = is_hidden c.table p && of_some (image_of c p)
+  where
+    of_some : Option Image → Bool
+    of_some None = false
+    of_some (Some i) = nat_le i.size size
+
+-- an image's parent is right where it has one
+abbrev pub is_linked : Content → Image → Bool
+is_linked c i = elim i.parent [ None ↦ true | Some p ↦ is_parent_right c i.size p ]
+
+-- an image that is linked wrongly, whose chain is too long, or that is visible and has children
+abbrev pub is_misplaced : Content → Row → Option Image → Bool
+is_misplaced c r None = false
+is_misplaced c r (Some i) = not (is_linked c i
+    && (nat_le (depth c (suc chain_limit) r.name) chain_limit
+    && (r.hidden || (length (children c r.name) == 0))))
+
+-- the check speaks of VHD images alone
+abbrev pub tree_wrong_as : Content → Row → Name → Bool
+tree_wrong_as c r (Vhd u) = is_misplaced c r (image_of c (Vhd u))
+tree_wrong_as c r Mgt = false
+tree_wrong_as c r (Raw u) = false
+tree_wrong_as c r (Old u) = false
+tree_wrong_as c r (Clone disk base twin) = false
+tree_wrong_as c r (Inflate image extents) = false
+tree_wrong_as c r (Coalesce child parent) = false
+tree_wrong_as c r (Relink child parent) = false
+tree_wrong_as c r (Leaf leaf parent) = false
+
+abbrev pub is_tree_wrong : Content → Row → Bool
+is_tree_wrong c r = tree_wrong_as c r r.name
+
+unfoldable pub tree_fault : Content → Option Place
+tree_fault c = placed at.Tree (first_name (is_tree_wrong c) c.table.volumes)
+
+-- ---- 12: the entries, by parents and children
+
+abbrev pub has_parent_of : Content → List ℕ → List ℕ → (Image → Image → Bool) → Bool
+has_parent_of c child parent test = elim (image_of c (Vhd child)) [
+  | None ↦ false
+  | Some v ↦ elim v.parent [
+    | None ↦ false
+    | Some q ↦ (same_image q (Vhd parent) || same_image q (Raw parent))
+        && elim (image_of c q) [ None ↦ false | Some p ↦ test v p ]
+  ]
+]
+
+-- all children of either image with this UUID
+abbrev pub children_with : Content → List ℕ → List Row
+children_with c u = children c (Vhd u) ++ children c (Raw u)
+
+-- a new image of a fork that is filled has the base as parent, and nothing else has
+abbrev pub is_base_of : List ℕ → Option Image → Bool
+is_base_of base None = true
+is_base_of base (Some i) = elim i.parent [ None ↦ false | Some q ↦ same_image q (Vhd base) || same_image q (Raw base) ]
+
+abbrev pub is_fork_linked : Content → List ℕ → List ℕ → List ℕ → Bool
+is_fork_linked c disk base twin =
+    not (is_fork_made c.table disk base twin)
+    || (is_base_of base (image_of c (Vhd disk))
+    && (is_base_of base (image_of c (Vhd twin))
+    && (length (filter (λ r. not (same_image r.name (Vhd disk) || same_image r.name (Vhd twin))) (children_with c base)) == 0)))
+
+abbrev pub is_leaf_linked : Content → List ℕ → List ℕ → Bool
+is_leaf_linked c leaf parent =
+    if is_leaf_copied c.table leaf parent
+    then has_parent_of c leaf parent (λ l p. true) && (length (children c (Vhd parent)) == 1)
+    else if is_leaf_renamed c.table leaf parent then length (children c (Vhd parent)) == 0
+    else if is_leaf_swapped c.table leaf parent then length (children c (Vhd leaf)) == 0
+    else true
+
+unfoldable pub is_entry_linked : Content → Name → Bool
+is_entry_linked c (Clone disk base twin) = is_fork_linked c disk base twin
+is_entry_linked c (Coalesce child parent) =
+    has_parent_of c child parent (λ v p. true) && (length (children_with c parent) == 1)
+is_entry_linked c (Relink child parent) = has_parent_of c child parent (λ v p. nat_le v.size p.size)
+is_entry_linked c (Leaf leaf parent) = is_leaf_linked c leaf parent
+is_entry_linked c Mgt = true
+is_entry_linked c (Vhd u) = true
+is_entry_linked c (Raw u) = true
+is_entry_linked c (Old u) = true
+is_entry_linked c (Inflate image extents) = true
+
+unfoldable pub entry_link_fault : Content → Option Place
+entry_link_fault c = placed at.Journal (first_name (λ r. not (is_entry_linked c r.name)) c.table.volumes)
+
+-- ---- 13: the records
+
+abbrev pub is_damaged : Reading → Bool
+is_damaged Free = false
+is_damaged (Taken r) = false
+is_damaged Damaged = true
+
+abbrev pub record_place : Option ℕ → Option Place
+record_place None = None
+record_place (Some k) = Some (at.Record k)
+
+unfoldable pub record_fault : Content → Option Place
+record_fault c = record_place (find (λ k. is_damaged (reading_at c k)) (numbers 0 record_count))
+
+-- the UUIDs that are disks, in order
+abbrev pub disk_uuids : Content → List (List ℕ)
+disk_uuids c = filter (λ u. is_some (stands c.table u)) (uuids c.table)
+
+abbrev pub is_unrecorded : Content → List ℕ → Bool
+is_unrecorded c u = not (length (filter (is_record_of u) (records c)) == 1)
+
+abbrev pub disk_place : Option (List ℕ) → Option Place
+disk_place None = None
+disk_place (Some u) = Some (at.Disk u)
+
+unfoldable pub disk_fault : Content → Option Place
+disk_fault c = disk_place (find (is_unrecorded c) (disk_uuids c))
+
+-- ---- all of them
+
+abbrev pub all_faults : Content → List (Option Place)
+all_faults c = record_volume_fault c
+    ∷ too_many_fault c
+    ∷ misnamed_fault c
+    ∷ second_entry_fault c
+    ∷ lost_entry_fault c
+    ∷ old_leaf_fault c
+    ∷ invalid_fault c
+    ∷ tree_fault c
+    ∷ entry_link_fault c
+    ∷ record_fault c
+    ∷ disk_fault c
+    ∷ []
+
+-- the place of the first check that fails
+unfoldable pub first_fault : Content → Option Place
+first_fault c = first_some (all_faults c)
+
+-- ---- what can't be repaired yet
+
+-- an image that is no visible raw one
+abbrev pub is_ahead : Bool → Name → Bool
+is_ahead hidden (Raw u) = hidden
+is_ahead hidden (Vhd u) = true
+is_ahead hidden (Old u) = true
+is_ahead hidden Mgt = false
+is_ahead hidden (Clone disk base twin) = false
+is_ahead hidden (Inflate image extents) = false
+is_ahead hidden (Coalesce child parent) = false
+is_ahead hidden (Relink child parent) = false
+is_ahead hidden (Leaf leaf parent) = false
+
+abbrev pub is_image_ahead : Row → Bool
+is_image_ahead r = is_ahead r.hidden r.name
+
+-- the checks of the program as it is built today: the first entry is refused with the eighth check, and the first image
+-- that is no visible raw one with the tenth
+unfoldable pub entry_ahead_fault : Content → Option Place
+entry_ahead_fault c = placed at.Journal (first_name (λ r. is_journal r.name) c.table.volumes)
+
+unfoldable pub image_ahead_fault : Content → Option Place
+image_ahead_fault c = placed at.Image (first_name is_image_ahead c.table.volumes)
+
+abbrev pub faults_today : Content → List (Option Place)
+faults_today c = record_volume_fault c
+    ∷ too_many_fault c
+    ∷ misnamed_fault c
+    ∷ entry_ahead_fault c
+    ∷ image_ahead_fault c
+    ∷ invalid_fault c
+    ∷ record_fault c
+    ∷ disk_fault c
+    ∷ []
+
+unfoldable pub first_fault_today : Content → Option Place
+first_fault_today c = first_some (faults_today c)

@@ -1,0 +1,81 @@
+-- The images of a volume group and what is read through a chain of them (VHD specification, 'Differencing Hard
+-- Disk Images'; the profile is this project's). At one sector an image either answers with bytes or sends up to its
+-- parent: a turn. A sector past an image's own size is zeros. A raw image holds each of its sectors.
+use Rattle.std.specs.Prelude.{ℕ, zero, suc, nat_lt, List, length, map, take, [], Option, Some, None, if◌then◌else◌}
+use Rattle.sm_base.specs.declared.names.Name.{Name}
+use Rattle.sm_base.specs.declared.names.Name.TheVariants.{Vhd, Raw, Inflate}
+use Rattle.sm_disk.specs.Sectors.{zeros}
+use Rattle.vg_meta.specs.Tables.{Row}
+use Rattle.vg_volumes.specs.Volumes.{span}
+use Rattle.sm_machine.specs.Lists.{◌>>=◌, numbers}
+use Rattle.sm_machine.specs.Shapes.{same_image, chain_limit}
+use Rattle.sm_standing.specs.Vhd.{VhdImage, image_at}
+use Rattle.sm_standing.specs.Contents.{Content, row, sectors_of, size_of}
+use Rattle.sm_standing.specs.Entries.{making, head}
+
+-- size is in sectors; slots are those of the blocks, in order; own is what the image holds of a sector
+pub record Image : Type 0 where
+  pub size : ℕ
+  pub parent : Option Name
+  pub slots : List (Option ℕ)
+  pub own : ℕ → Option (List ℕ)
+
+-- while an image is being enlarged it lies in the extents that it had, which the entry says
+abbrev pub image_extents : List Name → Name → ℕ → ℕ
+image_extents entries n all = elim (head entries) [ None ↦ all | Some e ↦ entry_extents e n all ]
+  where
+    entry_extents : Name → Name → ℕ → ℕ
+    entry_extents (Inflate u extents) n all = if same_image (Vhd u) n then extents else all
+    entry_extents _ n all = all
+
+-- a VHD image as it lies in its volume, where it is valid
+unfoldable pub vhd_image : Content → Name → Row → Option VhdImage
+vhd_image c n r = image_at c.block c.entries (span c.extent (first_of (image_extents (making c.table) n (length r.extents)) r.extents)) (sectors_of c n)
+  where
+    first_of : ℕ → List ℕ → List ℕ
+    first_of e extents = take e extents
+
+abbrev pub of_vhd : VhdImage → Image
+of_vhd v = record { size = v.size; parent = v.parent; slots = v.slots; own = v.own }
+
+-- a raw image holds each of its sectors
+unfoldable pub raw_image : Content → Name → Image
+raw_image c n = record { size = size_of c n; parent = None; slots = []; own = λ s. if nat_lt s (size_of c n) then Some (sectors_of c n s) else None }
+
+-- the image of a volume that is there and not new; an old leaf is none
+unfoldable pub image_of : Content → Name → Option Image
+image_of c (Raw u) = do
+  r ← row c (Raw u)
+  if r.fresh then None else Some (raw_image c (Raw u))
+image_of c (Vhd u) = do
+  r ← row c (Vhd u)
+  if r.fresh then None else vhd_image c (Vhd u) r >>= (λ v. Some (of_vhd v))
+image_of c _ = None
+
+-- what an image does with a sector: it answers, or sends up
+pub data Turn : Type 0 where
+  here : List ℕ → Turn
+  up : Name → Turn
+
+-- what it holds, else its parent, else zeros
+abbrev pub held_or : Option (List ℕ) → Option Name → Turn
+held_or (Some bytes) parent = here bytes
+held_or None (Some p) = up p
+held_or None None = here zeros
+
+unfoldable pub turn_of : ℕ → Option Image → Turn
+turn_of s None = here zeros
+turn_of s (Some i) = if nat_lt s i.size then held_or (i.own s) i.parent else here zeros
+
+-- at most so many images are walked; past them it is zeros
+unfoldable pub walk : ℕ → (Name → Turn) → Name → List ℕ
+walk zero f n = zeros
+walk (suc most) f n = elim (f n) [ here bytes ↦ bytes | up p ↦ walk most f p ]
+
+-- a sector as it is read through the chain of an image
+unfoldable pub reads : Content → Name → ℕ → List ℕ
+reads c n s = walk chain_limit (λ m. turn_of s (image_of c m)) n
+
+-- all sectors of an image, read so
+unfoldable pub sectors_read : Content → Name → List (List ℕ)
+sectors_read c n = elim (image_of c n) [ None ↦ [] | Some i ↦ map (reads c n) (numbers 0 i.size) ]

@@ -1,0 +1,27 @@
+-- What every repository keeps, whenever the device stops (this project's format): the checks of an opening pass; each
+-- block that has a slot in a VHD image holds at least one sector; while the children of an image are being linked to
+-- its parent, the parent holds, with equal bytes, each sector that the image holds. The last two are seen only by
+-- reading all bitmaps and data, so no opening tests them.
+use Rattle.std.specs.Prelude.{◌≡◌, ℕ, ◌+◌, ◌*◌, ◌<◌, List, Some, None}
+use Rattle.std.specs.List.{slice_get}
+use Rattle.sm_base.specs.declared.names.Name.{Name}
+use Rattle.sm_base.specs.declared.names.Name.TheVariants.{Vhd, Relink}
+use Rattle.vg_meta.specs.Tables.{Row}
+use Rattle.sm_standing.specs.Contents.{Content, row}
+use Rattle.sm_standing.specs.Images.{Image, image_of}
+use Rattle.sm_standing.specs.Checks.{first_fault}
+
+-- each block with a slot holds a sector
+abbrev pub IsHolding : ℕ → Image → Type 0
+IsHolding block i = (b k : ℕ) → slice_get i.slots b ≡ Some (Some k)
+    → (j : ℕ) × (j < block) × ((bytes : List ℕ) × (i.own (b * block + j) ≡ Some bytes))
+
+-- what one image holds, another holds alike
+abbrev pub IsHeldAlike : Image → Image → Type 0
+IsHeldAlike v p = (s : ℕ) (bytes : List ℕ) → v.own s ≡ Some bytes → p.own s ≡ Some bytes
+
+pub record IsKept (c : Content) : Type 0 where
+  pub sound : first_fault c ≡ None
+  pub holding : (u : List ℕ) (i : Image) → image_of c (Vhd u) ≡ Some i → IsHolding c.block i
+  pub linking : (child parent : List ℕ) (r : Row) (v p : Image) (n : Name) → row c (Relink child parent) ≡ Some r
+      → image_of c (Vhd child) ≡ Some v → v.parent ≡ Some n → image_of c n ≡ Some p → IsHeldAlike v p

@@ -1,0 +1,15 @@
+pub mod Vhd
+pub mod Contents
+pub mod Entries
+pub mod Images
+pub mod Standing
+pub mod Turns
+pub mod Checks
+pub mod Keeping
+pub mod Devices
+pub mod Shapes
+pub mod Plain
+pub mod Ordered
+pub mod RawDisks
+pub mod PlainSound
+pub mod Additions

@@ -1,0 +1,23 @@
+-- A repository of raw disks alone: its volumes are the volume of records and visible raw images, new ones among them.
+use Rattle.std.specs.Prelude.{◌≡◌, Bool, true, false, not}
+use Rattle.std.specs.List.{AllByRecursion}
+use Rattle.sm_base.specs.declared.names.Name.{Name}
+use Rattle.sm_base.specs.declared.names.Name.TheVariants.{Mgt, Vhd, Raw, Old, Clone, Inflate, Coalesce, Relink, Leaf}
+use Rattle.vg_meta.specs.Tables.{Row, Listing}
+
+abbrev pub is_plain_name : Bool → Name → Bool
+is_plain_name hidden Mgt = true
+is_plain_name hidden (Raw u) = not hidden
+is_plain_name hidden (Vhd u) = false
+is_plain_name hidden (Old u) = false
+is_plain_name hidden (Clone disk base twin) = false
+is_plain_name hidden (Inflate image extents) = false
+is_plain_name hidden (Coalesce child parent) = false
+is_plain_name hidden (Relink child parent) = false
+is_plain_name hidden (Leaf leaf parent) = false
+
+abbrev pub is_plain : Row → Bool
+is_plain r = is_plain_name r.hidden r.name
+
+abbrev pub IsPlain : Listing → Type 0
+IsPlain t = AllByRecursion (λ r. is_plain r ≡ true) t.volumes

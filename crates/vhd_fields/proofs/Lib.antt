@@ -1,0 +1,9 @@
+pub mod BytesAgain
+pub mod Cylinders
+pub mod FooterLaws
+pub mod HeaderLaws
+pub mod Joining
+pub mod ParentLaws
+pub mod Sealing
+pub mod Sums
+pub mod Utf16
