@@ -8,6 +8,7 @@ pub mod Checks
 pub mod Keeping
 pub mod Devices
 pub mod Shapes
+pub mod Opened
 pub mod Plain
 pub mod Ordered
 pub mod RawDisks

@@ -1,0 +1,66 @@
+//! The trait of what a run steps.
+
+ghost use Rattle.std.specs.Prelude.{◌≡◌, ◌≤◌, ◌⊎◌, ℕ, List, Bool, true, false, Some, map, IfOk, OnOk};
+ghost use Rattle.sm_base.specs.declared.refusals.Refusal.TheVariants.{NoMemory};
+ghost use Rattle.sm_disk.specs.Held.{Rose};
+ghost use Rattle.sm_machine.specs.declared.replies.Reply.TheVariants.{No};
+ghost use Rattle.sm_machine.specs.Disks.{Disk};
+ghost use Rattle.sm_machine.specs.Steps.{State, step};
+ghost use Rattle.sm_machine.specs.Runs.{is_accepted, is_settling, face};
+ghost use Rattle.sm_run.specs.Between.{IsBetween, IsSettledAs};
+ghost use Rattle.sm_run.specs.declared.steps.StepFault.TheVariants.{Device, Broken};
+
+use sm_machine::{Command, Reply};
+use std::alloc::Global;
+
+/// Why a step gave no reply.
+#[derive(Clone, Copy, Debug, PartialEq, Eq)]
+pub enum StepFault {
+    /// The device failed.
+    Device,
+    /// An earlier step answered `Device`; nothing was done.
+    Broken,
+}
+
+/// What steps as the machine says, over a device. Clauses on content hold where the device tells its
+/// content (`told`).
+pub trait Steps {
+    /// Whether what the device holds is told: a fact that holds, or one that never does.
+    ghost told: { Type 0 };
+
+    /// The machine's disks and shape.
+    ghost state: { Self → State };
+
+    /// Between two steps: what is in memory agrees with the device.
+    ghost ready: { Self → Type 0 };
+
+    /// Whatever a stop leaves now opens again.
+    ghost kept: { Self → Type 0 };
+
+    /// The disks that a stop may leave.
+    ghost leaves: { Self → List Disk → Type 0 };
+
+    /// A step answered `Device`.
+    ghost broken: { Self → Bool };
+
+    /// How many calls of the device have failed. It never falls.
+    ghost faults: { Self → ℕ };
+
+    /// One step. A refused command, one that found no memory among them, leaves the device as it was.
+    fn step(&mut self, alloc: Global, command: &Command) -> Result<Reply, StepFault>
+        ensures counts { faults self.old ≤ faults self.new }
+        ensures device { result ≡ Err Device → Rose (faults self.old) (faults self.new) × (broken self.new ≡ true) }
+        ensures broken { (result ≡ Err Broken → broken self.old ≡ true) × (broken self.old ≡ true → result ≡ Err Broken) }
+        ensures going_on { OnOk result (broken self.new ≡ false) }
+        ensures reply { told → ready self.old → IfOk result (λ r.
+            ((r ≡ No NoMemory) × (state self.new ≡ state self.old))
+            ⊎ ((r ≡ (step (state self.old) command.now).reply) × (state self.new ≡ (step (state self.old) command.now).after))) }
+        ensures ready { told → ready self.old → OnOk result (ready self.new) }
+        ensures kept { told → ready self.old → kept self.new }
+        ensures refused { IfOk result (λ r. is_accepted r ≡ false → (ds : List Disk) → leaves self.new ds → leaves self.old ds) }
+        ensures crash { told → ready self.old → (ds : List Disk) → leaves self.new ds
+            → IsBetween (leaves self.old) (state self.old).disks ((step (state self.old) command.now).after).disks ds }
+        ensures faces { told → ready self.old → OnOk result ((ds : List Disk) → leaves self.new ds → map face ds ≡ map face (state self.new).disks) }
+        ensures settled { told → ready self.old → IfOk result (λ r. is_accepted r ≡ true → is_settling command.now ≡ true
+            → (ds : List Disk) → leaves self.new ds → IsSettledAs (state self.new).disks ds) };
+}

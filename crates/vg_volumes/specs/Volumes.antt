@@ -1,0 +1,32 @@
+-- A volume is its extents, one after another (this project's format). The extents of a group are one run of
+-- sectors, the area: extent i begins at its sector i * extent. Here a volume is read off the area.
+use Rattle.std.specs.Prelude.{◌≡◌, ◌≢◌, ℕ, ◌+◌, ◌*◌, ◌/◌, ◌%◌, ◌<◌, List, [], length, slice_index, nat_lt, if◌then◌else◌}
+use Rattle.sm_disk.specs.Held.{Held}
+
+-- the place in the area of a volume's sector p
+unfoldable pub spot : ℕ → List ℕ → ℕ → ℕ
+spot extent extents p = slice_index extents (p / extent) * extent + p % extent
+
+-- how many sectors a volume has
+abbrev pub span : ℕ → List ℕ → ℕ
+span extent extents = length extents * extent
+
+-- what a volume holds, place by place; nothing at and past its end
+unfoldable pub volume : ℕ → List ℕ → Held → Held
+volume extent extents area = record {
+  floor = λ p. if nat_lt p (span extent extents) then area.floor (spot extent extents p) else [];
+  pending = λ p. if nat_lt p (span extent extents) then area.pending (spot extent extents p) else [];
+}
+
+-- the sectors of a volume in an image of the area
+unfoldable pub piece : ℕ → List ℕ → (ℕ → List ℕ) → ℕ → List ℕ
+piece extent extents image p = image (spot extent extents p)
+
+-- a place of the area that no sector of the volume has
+abbrev pub IsElsewhere : ℕ → List ℕ → ℕ → Type 0
+IsElsewhere extent extents p = (q : ℕ) → q < span extent extents → spot extent extents q ≢ p
+
+-- what is held is the same at each place that the volume has not
+pub record SameElsewhere (extent : ℕ) (extents : List ℕ) (old new : Held) : Type 0 where
+  pub floor : (p : ℕ) → IsElsewhere extent extents p → new.floor p ≡ old.floor p
+  pub pending : (p : ℕ) → IsElsewhere extent extents p → new.pending p ≡ old.pending p

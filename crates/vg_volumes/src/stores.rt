@@ -1,0 +1,134 @@
+//! The trait of a store of volumes.
+
+ghost use Rattle.std.specs.Prelude.{◌≡◌, ◌≤◌, ◌<◌, ◌+◌, ℕ, List, Bool, true, false, length, OnOk, OnErr};
+ghost use Rattle.sm_disk.specs.Held.{Held, IsWhole, SameHeld, Gave, Torn, Wrote, Keeps, IsSettled, HasSectors, Rose};
+ghost use Rattle.vg_meta.specs.Tables.{Listing, IsTable, rows, extents_of};
+ghost use Rattle.vg_meta.specs.Kept.{Kept, listing, places};
+ghost use Rattle.vg_meta.specs.Changes.{Allows, HasRoom, applied};
+ghost use Rattle.vg_volumes.specs.Commits.{IsBefore, IsEither};
+ghost use Rattle.vg_volumes.specs.Sites.{Site, area_size, size_of, volume_of, Fits, MakesRoom, NoLessRoom, RoomAfter};
+ghost use Rattle.vg_volumes.specs.Volumes.{SameElsewhere};
+
+use sm_base::{Failed, Geometry, Name, NoMemory};
+use uuid::Uuid;
+use vg_meta::{Change, Table};
+
+/// A store of volumes. Clauses on content hold where the store tells its content (`told`).
+pub trait Store {
+    /// Whether what the store holds is told: a fact that holds, or one that never does.
+    ghost told: { Type 0 };
+
+    /// What never changes: the sizes, the number of extents, the repository's UUID.
+    ghost site: { Self → Site };
+
+    /// The table, and beside it the spare numbers.
+    ghost kept: { Self → Kept };
+
+    /// The sectors of all extents: what they hold, and what a crash may leave of them.
+    ghost area: { Self → Held };
+
+    /// A commit of this store has failed.
+    ghost failed: { Self → Bool };
+
+    /// What a stop may leave: a table, and the sectors of the area.
+    ghost leaves: { Self → Listing → (ℕ → List ℕ) → Type 0 };
+
+    /// How many calls have failed. It never falls.
+    ghost faults: { Self → ℕ };
+
+    /// The sizes that the repository was formatted with.
+    fn geometry(&self) -> Geometry
+        ensures { result ≡ (site self.now).geometry };
+
+    /// The number of extents.
+    fn extents(&self) -> u32
+        ensures count { result ≡ (site self.now).count }
+        ensures sectors { told → HasSectors (area_size (site self.now)) (area self.now) };
+
+    /// The table of volumes.
+    fn table(&self) -> &Table
+        ensures table { result.now ≡ kept self.now }
+        ensures spread { IsTable (site self.now).count (listing (kept self.now)) };
+
+    /// The repository's UUID.
+    fn repository(&self) -> Uuid
+        ensures { result ≡ (site self.now).identity };
+
+    /// Makes room for a change, so that its commit takes no memory. The room of several calls adds up.
+    fn room(&mut self, change: &Change) -> Result<(), NoMemory>
+        ensures same { (site self.new ≡ site self.old) × (area self.new ≡ area self.old) × (failed self.new ≡ failed self.old) × (faults self.new ≡ faults self.old) }
+        ensures table { listing (kept self.new) ≡ listing (kept self.old) }
+        ensures leaves { (t : Listing) (image : ℕ → List ℕ) → leaves self.new t image → leaves self.old t image }
+        ensures no_less { NoLessRoom (kept self.old) (kept self.new) }
+        ensures made { OnOk result (MakesRoom change.now (kept self.old) (kept self.new)) };
+
+    /// Makes room for so many rows more than are spare.
+    fn rooms(&mut self, rows: usize) -> Result<(), NoMemory>
+        ensures same { (site self.new ≡ site self.old) × (area self.new ≡ area self.old) × (failed self.new ≡ failed self.old) × (faults self.new ≡ faults self.old) }
+        ensures table { listing (kept self.new) ≡ listing (kept self.old) }
+        ensures leaves { (t : Listing) (image : ℕ → List ℕ) → leaves self.new t image → leaves self.old t image }
+        ensures no_less { NoLessRoom (kept self.old) (kept self.new) }
+        ensures made { OnOk result ((kept self.old).spare + rows ≤ (kept self.new).spare) };
+
+    /// Changes the table. At `Ok` the change has taken effect and nothing is pending. At `Failed` the store
+    /// still answers the earlier table and reads as before, and no further commit is made.
+    fn commit(&mut self, change: Change) -> Result<(), Failed>
+        requires usable { failed self.old ≡ false }
+        requires allowed { Allows (site self.old).count (listing (kept self.old)) change }
+        requires room { HasRoom (kept self.old) change }
+        requires fits { Fits (listing (kept self.old)) change }
+        ensures site { site self.new ≡ site self.old }
+        ensures counts { faults self.old ≤ faults self.new }
+        ensures cause { OnErr result (Rose (faults self.old) (faults self.new)) }
+        ensures changed { OnOk result ((listing (kept self.new) ≡ applied (listing (kept self.old)) change) × (failed self.new ≡ false)) }
+        ensures unchanged { OnErr result ((listing (kept self.new) ≡ listing (kept self.old)) × (failed self.new ≡ true)) }
+        ensures room_after { OnOk result (RoomAfter change (kept self.old) (kept self.new)) }
+        ensures keeps { told → Keeps (area self.old) (area self.new) }
+        ensures settled { OnOk result (told → IsSettled (area self.new)) }
+        ensures crash { told → (t : Listing) (image : ℕ → List ℕ) → leaves self.new t image
+            → IsEither (area_size (site self.old)) (listing (kept self.old)) (applied (listing (kept self.old)) change) (area self.old) t image };
+
+    /// Reads whole sectors of a volume, at least one, from its sector `at` on.
+    fn read(&mut self, volume: &Name, at: u64, to: &mut [u8]) -> Result<(), Failed>
+        requires { IsWhole at (length to.old) (size_of (site self.old) (listing (kept self.old)) volume.now) }
+        ensures site { site self.new ≡ site self.old }
+        ensures table { (listing (kept self.new) ≡ listing (kept self.old)) × (failed self.new ≡ failed self.old) }
+        ensures no_less { NoLessRoom (kept self.old) (kept self.new) }
+        ensures counts { faults self.old ≤ faults self.new }
+        ensures cause { OnErr result (Rose (faults self.old) (faults self.new)) }
+        ensures same { told → SameHeld (area self.old) (area self.new) }
+        ensures leaves { told → (t : Listing) (image : ℕ → List ℕ) → leaves self.new t image → leaves self.old t image }
+        ensures gave { OnOk result (told → Gave at (volume_of (site self.old) (listing (kept self.old)) (area self.old) volume.now) to.new) };
+
+    /// Writes whole sectors of a volume, at least one, from its sector `at` on. No other volume is touched.
+    fn write(&mut self, volume: &Name, at: u64, from: &[u8]) -> Result<(), Failed>
+        requires { IsWhole at (length from.now) (size_of (site self.old) (listing (kept self.old)) volume.now) }
+        ensures site { site self.new ≡ site self.old }
+        ensures table { (listing (kept self.new) ≡ listing (kept self.old)) × (failed self.new ≡ failed self.old) }
+        ensures no_less { NoLessRoom (kept self.old) (kept self.new) }
+        ensures counts { faults self.old ≤ faults self.new }
+        ensures cause { OnErr result (Rose (faults self.old) (faults self.new)) }
+        ensures torn { told → Torn at from.now
+            (volume_of (site self.old) (listing (kept self.old)) (area self.old) volume.now)
+            (volume_of (site self.old) (listing (kept self.old)) (area self.new) volume.now) }
+        ensures wrote { OnOk result (told → Wrote at from.now
+            (volume_of (site self.old) (listing (kept self.old)) (area self.old) volume.now)
+            (volume_of (site self.old) (listing (kept self.old)) (area self.new) volume.now)) }
+        ensures elsewhere { told → SameElsewhere (site self.old).geometry.extent
+            (extents_of (rows (listing (kept self.old)) volume.now)) (area self.old) (area self.new) };
+
+    /// Makes all that was written last.
+    fn sync(&mut self) -> Result<(), Failed>
+        ensures site { site self.new ≡ site self.old }
+        ensures table { (listing (kept self.new) ≡ listing (kept self.old)) × (failed self.new ≡ failed self.old) }
+        ensures no_less { NoLessRoom (kept self.old) (kept self.new) }
+        ensures counts { faults self.old ≤ faults self.new }
+        ensures cause { OnErr result (Rose (faults self.old) (faults self.new)) }
+        ensures keeps { told → Keeps (area self.old) (area self.new) }
+        ensures leaves { told → (t : Listing) (image : ℕ → List ℕ) → leaves self.new t image → leaves self.old t image }
+        ensures settled { OnOk result (told → IsSettled (area self.new)) };
+
+    /// While no commit has failed, a stop leaves the one table, and of the area a choice sector by sector.
+    ghost leaves_now: { (s : Self) → told → failed s ≡ false → (t : Listing) (image : ℕ → List ℕ) → leaves s t image
+        → IsBefore (area_size (site s)) (listing (kept s)) (area s) t image };
+}

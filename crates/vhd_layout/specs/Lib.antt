@@ -1,0 +1,6 @@
+pub mod Contents
+pub mod Examples
+pub mod Images
+pub mod Laws
+pub mod Layouts
+pub mod Readings

@@ -1,0 +1,5 @@
+pub mod Bitmaps
+pub mod Kept
+pub mod Places
+pub mod Slots
+pub mod Words
