@@ -7,3 +7,4 @@ pub mod PlainKept
 pub mod RecordLists
 pub mod RawAdded
 pub mod TurnLaws
+pub mod EmptyContent

@@ -14,7 +14,7 @@ use Rattle.sm_standing.specs.Plain.{is_plain, is_plain_name, IsPlain}
 use Rattle.sm_standing.specs.PlainSound.{PlainSound}
 use Rattle.sm_standing.specs.Contents.{Content, row, record_count, records, is_record_of}
 use Rattle.sm_standing.specs.Entries.{is_there, is_past, are_past, is_at_stage, making, second}
-use Rattle.sm_standing.specs.Images.{image_of, vhd_image, of_vhd}
+use Rattle.sm_standing.specs.Images.{image_of, vhd_image}
 use Rattle.sm_standing.specs.Standing.{stands, uuids}
 use Rattle.sm_standing.specs.Checks.{first_name, name_in, placed, has_records, record_volume_fault, images, too_many_fault, has_twin, misnamed_fault, lesser, second_entry_fault, lost_entry_fault, is_orphaned, old_leaf_fault, is_image_wrong, is_oversize, invalid_fault, is_tree_wrong, tree_wrong_as, tree_fault, is_entry_linked, entry_link_fault, record_place, record_fault, disk_place, disk_uuids, is_unrecorded, disk_fault, all_faults, faults_today, first_fault, is_ahead, entry_ahead_fault, image_ahead_fault, first_fault_today}
 use Rattle.sm_standing.specs.Keeping.{IsKept}
@@ -39,7 +39,7 @@ named_none place test rs h = none_find test rs (named_step place (find test rs) 
 
 plain_image : (c : Content) (u : List ℕ) → IsPlain c.table → image_of c (Vhd u) ≡ None
 unfolding image_of
-plain_image c u plain = ap (λ o. o >>= (λ r. cond r.fresh None (vhd_image c (Vhd u) r >>= (λ v. Some (of_vhd v))))) (no_vhd c.table u plain)
+plain_image c u plain = ap (λ o. o >>= (λ r. cond r.fresh None (vhd_image c (Vhd u) r))) (no_vhd c.table u plain)
 
 misnamed_at : (t : Listing) (hidden : Bool) (n : Name) → IsPlain t → is_plain_name hidden n ≡ true → ((u : List ℕ) → n ≡ Raw u → is_past t.sequence u ≡ true)
     → (is_data n && (has_twin t n || not (are_past t n))) ≡ false

@@ -1,24 +1,21 @@
 -- The images of a volume group and what is read through a chain of them (VHD specification, 'Differencing Hard
 -- Disk Images'; the profile is this project's). At one sector an image either answers with bytes or sends up to its
 -- parent: a turn. A sector past an image's own size is zeros. A raw image holds each of its sectors.
-use Rattle.std.specs.Prelude.{ℕ, zero, suc, nat_lt, List, length, map, take, [], Option, Some, None, if◌then◌else◌}
+use Rattle.std.specs.Prelude.{ℕ, ◌*◌, zero, suc, nat_lt, List, length, map, [], Option, Some, None, if◌then◌else◌}
 use Rattle.sm_base.specs.declared.names.Name.{Name}
 use Rattle.sm_base.specs.declared.names.Name.TheVariants.{Vhd, Raw, Inflate}
 use Rattle.sm_disk.specs.Sectors.{zeros}
 use Rattle.vg_meta.specs.Tables.{Row}
-use Rattle.vg_volumes.specs.Volumes.{span}
 use Rattle.sm_machine.specs.Lists.{◌>>=◌, numbers}
 use Rattle.sm_machine.specs.Shapes.{same_image, chain_limit}
-use Rattle.sm_standing.specs.Vhd.{VhdImage, image_at}
+use Rattle.vhd_layout.specs.Contents.{Content as LaidOut, raw_content}
+use Rattle.vhd_layout.specs.Readings.{image_at}
 use Rattle.sm_standing.specs.Contents.{Content, row, sectors_of, size_of}
 use Rattle.sm_standing.specs.Entries.{making, head}
 
--- size is in sectors; slots are those of the blocks, in order; own is what the image holds of a sector
-pub record Image : Type 0 where
-  pub size : ℕ
-  pub parent : Option Name
-  pub slots : List (Option ℕ)
-  pub own : ℕ → Option (List ℕ)
+-- an image by itself: its size in sectors, its parent, the slots of its blocks, and what it holds of a sector
+abbrev pub Image : Type 0
+Image = LaidOut
 
 -- while an image is being enlarged it lies in the extents that it had, which the entry says
 abbrev pub image_extents : List Name → Name → ℕ → ℕ
@@ -29,18 +26,12 @@ image_extents entries n all = elim (head entries) [ None ↦ all | Some e ↦ en
     entry_extents _ n all = all
 
 -- a VHD image as it lies in its volume, where it is valid
-unfoldable pub vhd_image : Content → Name → Row → Option VhdImage
-vhd_image c n r = image_at c.block c.entries (span c.extent (first_of (image_extents (making c.table) n (length r.extents)) r.extents)) (sectors_of c n)
-  where
-    first_of : ℕ → List ℕ → List ℕ
-    first_of e extents = take e extents
-
-abbrev pub of_vhd : VhdImage → Image
-of_vhd v = record { size = v.size; parent = v.parent; slots = v.slots; own = v.own }
+unfoldable pub vhd_image : Content → Name → Row → Option Image
+vhd_image c n r = image_at c.block c.entries (image_extents (making c.table) n (length r.extents) * c.extent) (sectors_of c n)
 
 -- a raw image holds each of its sectors
 unfoldable pub raw_image : Content → Name → Image
-raw_image c n = record { size = size_of c n; parent = None; slots = []; own = λ s. if nat_lt s (size_of c n) then Some (sectors_of c n s) else None }
+raw_image c n = raw_content (size_of c n) (sectors_of c n)
 
 -- the image of a volume that is there and not new; an old leaf is none
 unfoldable pub image_of : Content → Name → Option Image
@@ -49,7 +40,7 @@ image_of c (Raw u) = do
   if r.fresh then None else Some (raw_image c (Raw u))
 image_of c (Vhd u) = do
   r ← row c (Vhd u)
-  if r.fresh then None else vhd_image c (Vhd u) r >>= (λ v. Some (of_vhd v))
+  if r.fresh then None else vhd_image c (Vhd u) r
 image_of c _ = None
 
 -- what an image does with a sector: it answers, or sends up

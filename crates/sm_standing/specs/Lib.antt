@@ -1,4 +1,3 @@
-pub mod Vhd
 pub mod Contents
 pub mod Entries
 pub mod Images
@@ -14,3 +13,4 @@ pub mod Ordered
 pub mod RawDisks
 pub mod PlainSound
 pub mod Additions
+pub mod Examples

@@ -6,7 +6,7 @@
 //! first that fails, and what is kept whenever a device stops. Sizes are in sectors of 512 bytes, room in
 //! extents.
 //!
-//! The definitions are in `specs/`: `Contents`, `Entries` (journal entries and their stages), `Vhd`, `Images`
+//! The definitions are in `specs/`: `Contents`, `Entries` (journal entries and their stages), `Images`
 //! (an image, a turn, what is read), `Turns` (the same without a bound), `Standing` (the disks), `Checks` (the
 //! checks in their order), `Keeping` (kept), `Devices` (the same of a whole device), `Shapes` (the shape that
 //! a content spells), `Plain` and `PlainSound` (a repository of raw disks alone), `Additions` (a raw image
@@ -14,11 +14,13 @@
 #![tactic(auto)]
 
 mod chains;
+mod examples;
 mod listing;
 mod raw;
 
 pub use chains::{
     law_copy_below, law_guest_write, law_no_parent, law_relink, law_rename, law_walk,
 };
+pub use examples::example_empty;
 pub use listing::{law_disks_follow, law_disks_in_order, law_one_disk_more};
 pub use raw::{law_new_image, law_new_image_filled, law_plain_kept, law_today};

@@ -1,0 +1,9 @@
+pub mod SectorLaws
+pub mod HeldLaws
+pub mod ReachesLaws
+pub mod WindowLaws
+pub mod StreamLaws
+pub mod FailingLaws
+pub mod SlotLaws
+pub mod FrontLaws
+pub mod LeftLaws

@@ -1,0 +1,61 @@
+//! A source and a sink of bytes.
+
+ghost use Rattle.std.specs.Prelude.{◌≡◌, ◌≤◌, ◌<◌, ℕ, List, [], Option, length, take, OnOk, OnErr, IfOk, IfSome};
+ghost use Rattle.sm_disk.specs.Held.{Rose};
+ghost use Rattle.sm_disk.specs.Streams.{Takes, Adds, AddsFront};
+
+use sm_base::Failed;
+
+/// A stream of bytes that is read from the front.
+pub trait Source {
+    /// What is left, where that is told.
+    ghost content: { Self → Option (List ℕ) };
+
+    /// How many of its calls have failed. It never falls.
+    ghost faults: { Self → ℕ };
+
+    /// Reads up to `to.len()` bytes, and answers how many. 0 into a buffer that is not empty is the end.
+    /// Where it fails, nothing was taken, and what `to` holds is open.
+    fn read(&mut self, to: &mut [u8]) -> Result<usize, Failed>
+        ensures within { IfOk result (λ n. n ≤ length to.new) }
+        ensures takes { IfOk result (λ n. Takes (content self.old) (take n to.new) (content self.new)) }
+        ensures end { IfOk result (λ n. n ≡ 0 → 0 < length to.old
+            → IfSome (content self.old) (λ left. left ≡ [])) }
+        ensures kept { OnErr result (content self.new ≡ content self.old) }
+        ensures counts { faults self.old ≤ faults self.new }
+        ensures cause { OnErr result (Rose (faults self.old) (faults self.new)) };
+}
+
+/// A stream of bytes that is written at its end.
+pub trait Sink {
+    /// What it holds, where that is told.
+    ghost content: { Self → Option (List ℕ) };
+
+    /// How many of its calls have failed. It never falls.
+    ghost faults: { Self → ℕ };
+
+    /// Writes the front of a piece, and answers how many bytes of it were taken: of a piece that is not
+    /// empty at least one. Where it fails, nothing was taken.
+    fn write(&mut self, from: &[u8]) -> Result<usize, Failed>
+        ensures within { IfOk result (λ n. n ≤ length from.now) }
+        ensures some { IfOk result (λ n. 0 < length from.now → 0 < n) }
+        ensures adds { IfOk result (λ n. Adds (content self.old) (take n from.now) (content self.new)) }
+        ensures kept { OnErr result (content self.new ≡ content self.old) }
+        ensures counts { faults self.old ≤ faults self.new }
+        ensures cause { OnErr result (Rose (faults self.old) (faults self.new)) };
+}
+
+/// Writes a text whole. Where it fails, the sink has taken a front of it, maybe none.
+pub fn write_all<K: Sink>(sink: &mut K, bytes: &[u8]) -> Result<(), Failed>
+    ensures adds { OnOk result (Adds (K.content sink.old) bytes.now (K.content sink.new)) }
+    ensures front { OnErr result (AddsFront (K.content sink.old) bytes.now (K.content sink.new)) }
+    ensures counts { K.faults sink.old ≤ K.faults sink.new }
+    ensures cause { OnErr result (Rose (K.faults sink.old) (K.faults sink.new)) }
+{
+    let mut done = 0;
+    while done < bytes.len() {
+        let (_, rest) = bytes.split_at(done);
+        done += sink.write(rest)?;
+    }
+    Ok(())
+}

@@ -1,0 +1,49 @@
+-- A higher sequence number keeps a shape well-formed.
+use Rattle.std.proofs.Common.{ℕ, ◌<◌, ◌≤◌, Bool, true, false, arith}
+use Rattle.sm_base.specs.declared.names.Name.{Name}
+use Rattle.sm_base.specs.declared.operations.Op.{Op}
+use Rattle.sm_base.specs.declared.operations.Op.TheVariants as op
+use Rattle.sm_machine.specs.Shapes.{Shape, ImageRow, last_sequence}
+use Rattle.sm_machine.specs.WellFormed.{IsImage, IsChild, IsOnlyChild, IsOperation, IsWellFormed, table_length}
+
+module _ (s : Shape) (n : ℕ) where
+  abbrev counted : Shape
+  counted = record s { sequence = n }
+
+  link_counted : (hidden : Bool) (v p : Name) → IsChild s hidden v p → IsChild counted hidden v p
+  link_counted hidden v p h = record { child = h.child; there = h.there; is_named = h.is_named; is_shown = h.is_shown; vhd = h.vhd; linked = h.linked }
+
+  only_counted : (hidden : Bool) (v p : Name) → IsOnlyChild s hidden v p → IsOnlyChild counted hidden v p
+  unfolding link_counted
+  only_counted hidden v p h = record { link = link_counted hidden v p h.link; only = h.only; same_size = h.same_size }
+
+  operation_counted : (o : Op) → IsOperation s o → IsOperation counted o
+  operation_counted op.Idle h = tt
+  operation_counted (op.Copy v p cursor) h = only_counted true v p h
+  operation_counted (op.Relink v p) h = link_counted true v p h
+  operation_counted (op.Leaf l p cursor) h = (only_counted false l p h.0, h.1, h.2)
+
+  image_counted : (i : ImageRow) → IsImage s i → IsImage counted i
+  unfolding table_length
+  image_counted i g = record { named = g.named; whole = g.whole; volume = g.volume; table = g.table; raw = g.raw }
+
+  pub keeps_counted : IsWellFormed s → s.sequence ≤ n → n ≤ last_sequence → IsWellFormed counted
+  keeps_counted w h g = record {
+    geometry = w.geometry;
+    blocks = w.blocks;
+    sequence = g;
+    room = w.room;
+    few = w.few;
+    images_in_order = w.images_in_order;
+    one_image = w.one_image;
+    images = λ i k. image_counted i (w.images i k);
+    parents = w.parents;
+    chains = w.chains;
+    bases = λ i m k l e. (let a : m < s.sequence = w.bases i m k l e in omega arith);
+    records_in_order = w.records_in_order;
+    one_record = w.one_record;
+    disks = w.disks;
+    visible = w.visible;
+    attachments = record { once = w.attachments.once; disks = w.attachments.disks; writable = w.attachments.writable; thick = w.attachments.thick };
+    operation = operation_counted s.op w.operation;
+  }

@@ -1,0 +1,162 @@
+-- Each step of the collector keeps a shape well-formed.
+use Rattle.std.proofs.Common.{◌≡◌, ℕ, ◌+◌, true, false, List, [], ◌∷◌, ◌++◌, Option, Some, None, refl, sym, ap, subst, inl}
+use Rattle.std.specs.List.{find, filter}
+use Rattle.sm_base.specs.declared.names.Name.{Name}
+use Rattle.sm_base.specs.declared.operations.Op.{Op}
+use Rattle.sm_base.specs.declared.operations.Op.TheVariants as op
+use Rattle.sm_base.specs.declared.operations.Plan.{Plan}
+use Rattle.sm_base.specs.declared.operations.Plan.TheVariants as plan
+use Rattle.sm_machine.specs.Lists.{In}
+use Rattle.sm_machine.specs.Shapes.{Shape, ImageRow, is_parent, children, top, thin_in}
+use Rattle.sm_machine.specs.Collector.{Pair, next_step, plan_idle, plan_running, plan_copy, copy_or, relink_or, blocked, table_of, next_block, pairs, leaves, fits, target, is_garbage, is_loose, collected, copied, turned, linked, swapped}
+use Rattle.sm_machine.specs.WellFormed.{IsWellFormed, IsChild}
+use Rattle.sm_machine.proofs.InLists.{find-some, In-filter}
+use Rattle.sm_machine.proofs.ImageNames.{same_image-sound}
+use Rattle.sm_machine.proofs.Deletes.{remove_keeps}
+use Rattle.sm_machine.proofs.Collects.{operation_changes, cut_keeps, copy_keeps, copy_only}
+use Rattle.sm_machine.proofs.Begins.{IsFoldable, IsLeaf, chosen_pair, chosen_leaf, begin_keeps, begin_only}
+use Rattle.sm_machine.proofs.Folds.{link_keeps}
+use Rattle.sm_machine.proofs.Swaps.{swap_keeps}
+
+-- ---- no operation runs
+
+module _ (s : Shape) (w : IsWellFormed (record s { op = op.Idle })) where
+  abbrev resting : Shape
+  resting = record s { op = op.Idle }
+
+  removed : (i : ImageRow) → find (is_garbage resting) s.images ≡ Some i → IsWellFormed (collected (plan.Remove i.name) resting)
+  unfolding collected
+  removed i e = let f : In i s.images × (is_garbage resting i ≡ true) = find-some (is_garbage resting) s.images i e in remove_keeps resting w i f.0 f.1
+
+  cut : (i : ImageRow) → find (is_loose resting) s.images ≡ Some i → IsWellFormed (collected (plan.Deflate i.name (thin_in resting (top i.slots))) resting)
+  unfolding collected
+  cut i e = let f : In i s.images × (is_loose resting i ≡ true) = find-some (is_loose resting) s.images i e in cut_keeps resting w i f.0 f.1
+
+  begun : (p : Pair) → find (fits resting) (pairs resting) ≡ Some p → IsWellFormed (collected (plan.Begin p.child.name p.parent.name (target resting p)) resting)
+  unfolding collected
+  begun p e =
+      let f : In p (pairs resting) × (fits resting p ≡ true) = find-some (fits resting) (pairs resting) p e in
+      let k : IsFoldable resting true p = chosen_pair resting p f.0 in
+      begin_keeps resting w true p k f.1 (op.Copy p.child.name p.parent.name 0) (begin_only resting w true p k f.1 (op.Copy p.child.name p.parent.name 0))
+
+  leaf_begun : (p : Pair) → find (fits resting) (leaves resting) ≡ Some p → IsWellFormed (collected (plan.Leaf p.child.name p.parent.name (target resting p)) resting)
+  unfolding collected
+  leaf_begun p e =
+      let f : In p (leaves resting) × (fits resting p ≡ true) = find-some (fits resting) (leaves resting) p e in
+      let k : IsLeaf resting p = chosen_leaf resting p f.0 in
+      begin_keeps resting w false p k.foldable f.1 (op.Leaf p.child.name p.parent.name 0) (begin_only resting w false p k.foldable f.1 (op.Leaf p.child.name p.parent.name 0), k.parent_vhd, k.free_leaf)
+
+  rests : (ps : List Pair) → IsWellFormed (collected (blocked resting ps) resting)
+  unfolding collected
+  rests [] = w
+  rests (p ∷ ps) = w
+
+  abbrev idle_by : Option ImageRow → Option ImageRow → Option Pair → Option Pair → Plan
+  idle_by g l p q = elim g [ Some i ↦ plan.Remove i.name | None ↦ elim l [ Some i ↦ plan.Deflate i.name (thin_in resting (top i.slots)) | None ↦ elim p [ Some a ↦ plan.Begin a.child.name a.parent.name (target resting a) | None ↦ elim q [ Some a ↦ plan.Leaf a.child.name a.parent.name (target resting a) | None ↦ blocked resting (pairs resting ++ leaves resting) ] ] ] ]
+
+  by_rules : (g l : Option ImageRow) (p q : Option Pair) → find (is_garbage resting) s.images ≡ g → find (is_loose resting) s.images ≡ l → find (fits resting) (pairs resting) ≡ p → find (fits resting) (leaves resting) ≡ q → IsWellFormed (collected (idle_by g l p q) resting)
+  by_rules (Some i) l p q a b c d = removed i a
+  by_rules None (Some i) p q a b c d = cut i b
+  by_rules None None (Some x) q a b c d = begun x c
+  by_rules None None None (Some x) a b c d = leaf_begun x d
+  by_rules None None None None a b c d = rests (pairs resting ++ leaves resting)
+
+  idle_keeps : IsWellFormed (collected (plan_idle resting) resting)
+  unfolding plan_idle
+  idle_keeps = by_rules (find (is_garbage resting) s.images) (find (is_loose resting) s.images) (find (fits resting) (pairs resting)) (find (fits resting) (leaves resting)) refl refl refl refl
+
+-- ---- a copy
+
+module _ (s : Shape) (v p : Name) (cursor : ℕ) (w : IsWellFormed (record s { op = op.Copy v p cursor })) where
+  abbrev copying : Shape
+  copying = record s { op = op.Copy v p cursor }
+
+  by_block : (o : Option ℕ) → IsWellFormed (collected (copy_or plan.Turn o) copying)
+  unfolding collected copied turned
+  by_block None = let h : IsChild copying true v p = w.operation.link in
+      operation_changes copying w (op.Relink v p) (record { child = h.child; there = h.there; is_named = h.is_named; is_shown = h.is_shown; vhd = h.vhd; linked = h.linked })
+  by_block (Some b) = copy_keeps copying w p b (op.Copy v p (b + 1)) (copy_only copying w p b (op.Copy v p (b + 1)) true v w.operation)
+
+  by_children : (is : List ImageRow) → IsWellFormed (collected (plan_copy copying v cursor is) copying)
+  unfolding collected
+  by_children [] = operation_changes copying w op.Idle tt
+  by_children (i ∷ is) = by_block (next_block cursor (table_of v copying))
+
+-- ---- children are linked
+
+parent_is : (n : Name) (o : Option Name) → is_parent n o ≡ true → o ≡ Some n
+parent_is n None e = cc
+parent_is n (Some m) e = ap Some (same_image-sound m n e)
+
+module _ (s : Shape) (v p : Name) (w : IsWellFormed (record s { op = op.Relink v p })) where
+  abbrev linking : Shape
+  linking = record s { op = op.Relink v p }
+
+  by_child : (is : List ImageRow) → children v s.images ≡ is → IsWellFormed (collected (relink_or is) linking)
+  unfolding collected linked children
+  by_child [] e = operation_changes linking w op.Idle tt
+  by_child (c ∷ others) e =
+      let front : In c (filter (λ (i : ImageRow). is_parent v i.parent) s.images) = subst (λ (xs : List ImageRow). In c xs) (sym e) (inl refl) in
+      let f : In c s.images × (is_parent v c.parent ≡ true) = In-filter (λ (i : ImageRow). is_parent v i.parent) s.images c front in
+      link_keeps s v p w c f.0 (parent_is v c.parent f.1)
+
+-- ---- a leaf is folded
+
+module _ (s : Shape) (l p : Name) (cursor : ℕ) (w : IsWellFormed (record s { op = op.Leaf l p cursor })) where
+  abbrev folding : Shape
+  folding = record s { op = op.Leaf l p cursor }
+
+  by_leaf_block : (o : Option ℕ) → IsWellFormed (collected (copy_or plan.Swap o) folding)
+  unfolding collected copied
+  by_leaf_block None = swap_keeps s l p cursor w
+  by_leaf_block (Some b) = copy_keeps folding w p b (op.Leaf l p (b + 1)) (copy_only folding w p b (op.Leaf l p (b + 1)) false l w.operation.0, w.operation.1, w.operation.2)
+
+-- ---- every step
+
+by_operation : (s : Shape) (o : Op) → IsWellFormed (record s { op = o }) → IsWellFormed (collected (plan_running (record s { op = o }) o) (record s { op = o }))
+unfolding plan_running
+by_operation s op.Idle w = idle_keeps s w
+by_operation s (op.Copy v p cursor) w = by_children s v p cursor w (children v s.images)
+by_operation s (op.Relink v p) w = by_child s v p w (children v s.images) refl
+by_operation s (op.Leaf l p cursor) w = by_leaf_block s l p cursor w (next_block cursor (table_of l (record s { op = op.Leaf l p cursor })))
+
+pub gc_keeps : (s : Shape) → IsWellFormed s → IsWellFormed (collected (next_step s) s)
+unfolding next_step
+gc_keeps s w = by_operation s s.op w
+
+-- no step of the collector counts its commits itself
+copied_sequence : (o : Op) (b : ℕ) (s : Shape) → (copied o b s).sequence ≡ s.sequence
+unfolding copied
+copied_sequence op.Idle b s = refl
+copied_sequence (op.Copy v p cursor) b s = refl
+copied_sequence (op.Relink v p) b s = refl
+copied_sequence (op.Leaf l p cursor) b s = refl
+
+linked_sequence : (o : Op) (c : Name) (s : Shape) → (linked o c s).sequence ≡ s.sequence
+unfolding linked
+linked_sequence op.Idle c s = refl
+linked_sequence (op.Copy v p cursor) c s = refl
+linked_sequence (op.Relink v p) c s = refl
+linked_sequence (op.Leaf l p cursor) c s = refl
+
+swapped_sequence : (o : Op) (s : Shape) → (swapped o s).sequence ≡ s.sequence
+unfolding swapped
+swapped_sequence op.Idle s = refl
+swapped_sequence (op.Copy v p cursor) s = refl
+swapped_sequence (op.Relink v p) s = refl
+swapped_sequence (op.Leaf l p cursor) s = refl
+
+pub gc_sequence : (q : Plan) (s : Shape) → (collected q s).sequence ≡ s.sequence
+unfolding collected
+gc_sequence plan.Abandon s = refl
+gc_sequence (plan.Copy b) s = copied_sequence s.op b s
+gc_sequence plan.Turn s = refl
+gc_sequence (plan.RelinkOne c) s = linked_sequence s.op c s
+gc_sequence plan.Finish s = refl
+gc_sequence plan.Swap s = swapped_sequence s.op s
+gc_sequence (plan.Remove name) s = refl
+gc_sequence (plan.Deflate name to) s = refl
+gc_sequence (plan.Begin child parent to) s = refl
+gc_sequence (plan.Leaf leaf parent to) s = refl
+gc_sequence (plan.Blocked needed room) s = refl
+gc_sequence plan.Idle s = refl

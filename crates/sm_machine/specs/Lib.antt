@@ -1,0 +1,13 @@
+pub mod Collector
+pub mod Commits
+pub mod Disks
+pub mod Laws
+pub mod Lines
+pub mod Lists
+pub mod Refusals
+pub mod Replies
+pub mod Runs
+pub mod Shapes
+pub mod Stats
+pub mod Steps
+pub mod WellFormed

@@ -1,0 +1,93 @@
+//! What a line of a script asks for.
+use sm_base::{Label, Mode};
+use std::marker::Model;
+use uuid::Uuid;
+
+/// Bytes of a disk, whole sectors. A contract sees the list of them.
+#[derive(Debug, Drop)]
+pub struct Bytes {
+    pub bytes: Vec<u8>,
+}
+
+impl Model for Bytes {
+    ghost use Rattle.std.specs.Prelude.{List, ℕ};
+
+    ghost Value = { List ℕ };
+
+    ghost view = { λ a. a.bytes.items };
+}
+
+/// One line of a script. Each is one step of the machine. Sizes are in bytes, `sector` and `count` in
+/// sectors.
+#[derive(Debug, Drop)]
+pub enum Command {
+    /// Make a disk that reads as zeros, on a raw volume or on a VHD image.
+    Create {
+        disk: Uuid,
+        size: u64,
+        raw: bool,
+        label: Label,
+    },
+    /// Give a disk up.
+    Delete {
+        disk: Uuid,
+    },
+    /// Make a disk ready for reading, or for reading and writing.
+    Attach {
+        disk: Uuid,
+        mode: Mode,
+    },
+    /// End an attachment.
+    Detach {
+        disk: Uuid,
+    },
+    /// Make a disk that reads as this one does now, for reading alone.
+    Snapshot {
+        disk: Uuid,
+        twin: Uuid,
+    },
+    /// Make a disk that reads as this one does now.
+    Clone {
+        disk: Uuid,
+        twin: Uuid,
+    },
+    /// Enlarge a disk.
+    Resize {
+        disk: Uuid,
+        size: u64,
+    },
+    /// Give a disk another label.
+    Label {
+        disk: Uuid,
+        text: Label,
+    },
+    /// Write these bytes from a sector on.
+    Write {
+        disk: Uuid,
+        sector: u64,
+        bytes: Bytes,
+    },
+    /// Write one byte over so many sectors.
+    Fill {
+        disk: Uuid,
+        sector: u64,
+        count: u64,
+        byte: u8,
+    },
+    /// Read so many sectors.
+    Read {
+        disk: Uuid,
+        sector: u64,
+        count: u64,
+    },
+    /// Settle all that was written.
+    Flush {
+        disk: Uuid,
+    },
+    /// Take one step of the collector.
+    Gc,
+    /// List the disks.
+    List,
+    /// Tell the images and the room.
+    Stat,
+}

@@ -1,0 +1,45 @@
+//! Laws of the machine. Each function does nothing: its clause is the law, and the check proves it.
+
+ghost use Rattle.sm_machine.specs.Laws.{CollectorKeepsDisks, IdleIsDone, NewHasNoDisks, NewIsWellFormed, RefusedKeeps, StepKeepsDisks, StepKeepsShape, StepLowersDebt};
+ghost use Rattle.sm_machine.specs.Steps.{step, step_whole};
+
+/// A refused command changes neither disks nor shape.
+pub fn refused_step_keeps()
+    ensures built { RefusedKeeps step }
+    ensures whole { RefusedKeeps step_whole }
+{}
+
+/// The collector is idle only where no operation runs, no hidden image is without children, no volume
+/// is to be cut, and no image may be folded into its parent.
+pub fn idle_is_done()
+    ensures done { IdleIsDone }
+{}
+
+/// A step keeps a shape well-formed.
+pub fn step_keeps_shape()
+    ensures built { StepKeepsShape step }
+    ensures whole { StepKeepsShape step_whole }
+{}
+
+/// The shape of a new repository is well-formed, and has no disks.
+pub fn new_shape_is_well_formed()
+    ensures new { NewIsWellFormed }
+    ensures disks { NewHasNoDisks }
+{}
+
+/// Each step of the collector but the blocked and the idle one works off debt.
+pub fn step_lowers_debt()
+    ensures debt { StepLowersDebt }
+{}
+
+/// A step keeps disks and shape together: the disks are those of the records, and each is as large as
+/// its image.
+pub fn step_keeps_disks()
+    ensures built { StepKeepsDisks step }
+    ensures whole { StepKeepsDisks step_whole }
+{}
+
+/// No step of the collector changes a disk.
+pub fn collector_keeps_disks()
+    ensures disks { CollectorKeepsDisks }
+{}

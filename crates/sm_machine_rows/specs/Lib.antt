@@ -1,0 +1,7 @@
+pub mod Chains
+pub mod Collecting
+pub mod Disks
+pub mod Guests
+pub mod Scripts
+pub mod Today
+pub mod Texts

@@ -1,0 +1,78 @@
+-- What stands on a device, by the first five checks of an opening (this project's format): the label, the table
+-- header and the text of the table. The first check that fails gives the answer.
+--   1. The device has at least 2 sectors and the label begins with its letters, else it is no repository.
+--   2. The version is 1, else it is unsupported.
+--   3. The label is right: the sizes are in their ranges, the extents are on the device and hold at least the
+--      volume of records, and the sector is the spelling of its fields.
+--   4. The table header is right: the slot is 0 or 1, the text has at most 524,288 bytes, and the sector is the
+--      spelling of its fields.
+--   5. The text has the header's sum, and it spells a table, else it is damaged at its first fault.
+use Rattle.std.specs.Prelude.{◌≡◌, ◌≢◌, ℕ, ◌&&◌, ◌==◌, not, nat_le, nat_lt, Bool, List, take, drop, sum, if◌then◌else◌, Result, Ok, Err, Option, Some, None}
+use Rattle.std.specs.Str.{bytes_eq}
+use Rattle.sm_base.specs.declared.faults.OpenFault.{OpenFault}
+use Rattle.sm_base.specs.declared.faults.OpenFault.TheVariants.{NotARepository, Unsupported, Damaged}
+use Rattle.sm_base.specs.declared.faults.Place.{Place}
+use Rattle.sm_base.specs.declared.faults.Place.TheVariants.{Label, Header, TableSum, Table}
+use Rattle.vg_meta.specs.Tables.{Listing}
+use Rattle.vg_meta.specs.Reading.{Spells, IsDamagedAt}
+use Rattle.vg_layout.specs.Places.{label_place, header_place, slot_text, extents_on, record_extents}
+use Rattle.vg_layout.specs.Sectors.{Plate, Pointer, number_at, label_cookie, label_sector, header_sector, plate_in, pointer_in, is_geometry}
+
+-- a label that is right on a device of so many sectors
+unfoldable pub is_label_right : ℕ → List ℕ → Bool
+is_label_right size sector =
+    let p = plate_in sector in
+    bytes_eq sector (label_sector p)
+    && (is_geometry p.extent p.block p.entries
+    && (nat_le p.count (extents_on size p.extent) && nat_le (record_extents p.extent) p.count))
+
+-- the plate of a device, by the first three checks
+unfoldable pub plate_of : ℕ → (ℕ → List ℕ) → Result Plate OpenFault
+plate_of size image =
+    let sector = image label_place in
+    if nat_lt size 2 then Err NotARepository
+    else if not (bytes_eq (take 8 sector) label_cookie) then Err NotARepository
+    else if not (number_at 8 sector == 1) then Err (Unsupported (number_at 8 sector))
+    else if is_label_right size sector then Ok (plate_in sector)
+    else Err (Damaged Label)
+
+-- the most bytes of a text
+abbrev pub text_limit : ℕ
+text_limit = 524288
+
+-- a table header that is right
+unfoldable pub is_header_right : List ℕ → Bool
+is_header_right sector =
+    let h = pointer_in sector in
+    bytes_eq sector (header_sector h) && (nat_le h.slot 1 && nat_le h.size text_limit)
+
+-- the pointer of a device, by the fourth check
+unfoldable pub pointer_of : (ℕ → List ℕ) → Result Pointer OpenFault
+pointer_of image =
+    if is_header_right (image header_place) then Ok (pointer_in (image header_place)) else Err (Damaged Header)
+
+-- the text of the table that a pointer names
+abbrev pub text_in : (ℕ → List ℕ) → Pointer → List ℕ
+text_in image h = slot_text image h.slot h.size
+
+-- what an opening learns of a volume group
+pub record Standing : Type 0 where
+  pub plate : Plate
+  pub pointer : Pointer
+  pub table : Listing
+
+-- this group stands on a device of so many sectors: all five checks pass
+pub record StandsOn (sectors : ℕ) (image : ℕ → List ℕ) (g : Standing) : Type 0 where
+  pub labelled : plate_of sectors image ≡ Ok g.plate
+  pub headed : pointer_of image ≡ Ok g.pointer
+  pub summed : sum (text_in image g.pointer) ≡ g.pointer.total
+  pub spelled : Spells g.plate.count (text_in image g.pointer) g.table
+
+-- the first check that fails, and its answer
+pub data IsRefused (sectors : ℕ) (image : ℕ → List ℕ) : OpenFault → Type 0 where
+  by_label : (e : OpenFault) → plate_of sectors image ≡ Err e → IsRefused sectors image e
+  by_header : (p : Plate) (e : OpenFault) → plate_of sectors image ≡ Ok p → pointer_of image ≡ Err e → IsRefused sectors image e
+  by_sum : (p : Plate) (h : Pointer) → plate_of sectors image ≡ Ok p → pointer_of image ≡ Ok h
+      → sum (text_in image h) ≢ h.total → IsRefused sectors image (Damaged TableSum)
+  by_text : (p : Plate) (h : Pointer) (place : ℕ) → plate_of sectors image ≡ Ok p → pointer_of image ≡ Ok h
+      → sum (text_in image h) ≡ h.total → IsDamagedAt p.count (text_in image h) place → IsRefused sectors image (Damaged (Table place))

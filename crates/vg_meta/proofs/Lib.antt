@@ -1,0 +1,10 @@
+pub mod ByName
+pub mod ChangeLaws
+pub mod EditLaws
+pub mod ExtentLaws
+pub mod FreeLaws
+pub mod NameLaws
+pub mod Places
+pub mod PutLaws
+pub mod RoomLaws
+pub mod RowLaws

@@ -1,0 +1,118 @@
+-- The place at which a volume is put in.
+use Rattle.std.proofs.Common.{◌≡◌, ◌≢◌, ℕ, zero, suc, ◌+◌, ◌<◌, ◌≤◌, Bool, true, false, cond, List, [], ◌∷◌, ◌++◌, length, get_or, take, drop, drop-cons, add-one, Some, None, refl, sym, ap, ◌∙◌, append_assoc, arith}
+use Rattle.std.specs.Prelude.{insert}
+use Rattle.std.specs.Ordering.{is_lt}
+use Rattle.sm_base.specs.declared.names.Name.{Name}
+use Rattle.sm_base.specs.Names.{name_cmp}
+use Rattle.vg_meta.specs.Tables.{Row, row_of, name_eq}
+use Rattle.vg_meta.specs.Kept.{HeldRow, rows_alone, places_in}
+use Rattle.vg_meta.specs.Changes.{put}
+use Rattle.vg_meta.proofs.NameLaws.{name_eq-same, name_eq-other}
+
+-- a volume of this name is put in at or behind this place
+pub record Passed (hs : List HeldRow) (n : Name) (i : ℕ) : Type 0 where
+  pub so_far : (r : Row) → r.name ≡ n → rows_alone (take i hs) ++ put r (rows_alone (drop i hs)) ≡ put r (rows_alone hs)
+
+pub passed_first : (hs : List HeldRow) (n : Name) → Passed hs n 0
+passed_first hs n = record { so_far = λ r named. refl }
+
+opened : (hs : List HeldRow) (i : ℕ) (h : HeldRow) → i < length hs → h ≡ get_or hs i h → drop i hs ≡ h ∷ drop (i + 1) hs
+opened hs i h lt is = rw (add-one) (drop-cons hs i h lt ∙ ap (λ (x : HeldRow). x ∷ drop (suc i) hs) (sym is))
+
+taken : (hs : List HeldRow) (i : ℕ) (h : HeldRow) → i < length hs → h ≡ get_or hs i h → take (i + 1) hs ≡ take i hs ++ h ∷ []
+taken [] i h lt is = absurd (omega arith)
+taken (x ∷ hs) zero h lt is = ap (λ (y : HeldRow). y ∷ []) (sym is)
+taken (x ∷ hs) (suc i) h lt is =
+    let next : suc i + 1 ≡ suc (i + 1) = omega arith in
+    rw next (ap (λ (l : List HeldRow). x ∷ l) (taken hs i h (omega arith) is))
+
+rows-append : (xs ys : List HeldRow) → rows_alone (xs ++ ys) ≡ rows_alone xs ++ rows_alone ys
+rows-append [] ys = refl
+rows-append (x ∷ xs) ys = ap (λ (l : List Row). x.row ∷ l) (rows-append xs ys)
+
+put_before : (r s : Row) (rs : List Row) → is_lt (name_cmp r.name s.name) ≡ true → put r (s ∷ rs) ≡ r ∷ s ∷ rs
+unfolding put
+put_before r s rs h = rw h refl
+
+put_behind : (r s : Row) (rs : List Row) → is_lt (name_cmp r.name s.name) ≡ false → put r (s ∷ rs) ≡ s ∷ put r rs
+unfolding put
+put_behind r s rs h = rw h refl
+
+put_last : (r : Row) → put r [] ≡ r ∷ []
+unfolding put
+put_last r = refl
+
+pub passed_more : (hs : List HeldRow) (n : Name) (i : ℕ) (h : HeldRow) → i < length hs → h ≡ get_or hs i h
+    → is_lt (name_cmp n h.row.name) ≡ false → Passed hs n i → Passed hs n (i + 1)
+passed_more hs n i h lt is behind p = record {
+  so_far = λ r named.
+      let test : is_lt (name_cmp r.name h.row.name) ≡ false = rw named behind in
+      let rest = rows_alone (drop (i + 1) hs) in
+      let front : rows_alone (take (i + 1) hs) ≡ rows_alone (take i hs) ++ h.row ∷ [] =
+      ap rows_alone (taken hs i h lt is) ∙ rows-append (take i hs) (h ∷ []) in
+      let back : put r (rows_alone (drop i hs)) ≡ h.row ∷ put r rest =
+      ap (λ (l : List HeldRow). put r (rows_alone l)) (opened hs i h lt is) ∙ put_behind r h.row rest test in
+      ap (λ (l : List Row). l ++ put r rest) front ∙ append_assoc (rows_alone (take i hs)) (h.row ∷ []) (put r rest)
+      ∙ ap (λ (l : List Row). rows_alone (take i hs) ++ l) (sym back) ∙ p.so_far r named;
+}
+
+pub put_here : (hs : List HeldRow) (n : Name) (i : ℕ) (h : HeldRow) → i < length hs → h ≡ get_or hs i h
+    → is_lt (name_cmp n h.row.name) ≡ true → Passed hs n i
+    → (r : Row) → r.name ≡ n → rows_alone (take i hs) ++ r ∷ rows_alone (drop i hs) ≡ put r (rows_alone hs)
+put_here hs n i h lt is before p r named =
+    let test : is_lt (name_cmp r.name h.row.name) ≡ true = rw named before in
+    let rest = rows_alone (drop (i + 1) hs) in
+    let here : rows_alone (drop i hs) ≡ h.row ∷ rest = ap rows_alone (opened hs i h lt is) in
+    let back : put r (rows_alone (drop i hs)) ≡ r ∷ rows_alone (drop i hs) =
+    ap (put r) here ∙ put_before r h.row rest test ∙ ap (λ (l : List Row). r ∷ l) (sym here) in
+    ap (λ (l : List Row). rows_alone (take i hs) ++ l) (sym back) ∙ p.so_far r named
+
+gone : {X : Type 0} (xs : List X) (i : ℕ) → length xs ≤ i → drop i xs ≡ []
+gone [] zero h = refl
+gone [] (suc i) h = refl
+gone (x ∷ xs) zero h = absurd (omega arith)
+gone (x ∷ xs) (suc i) h = gone xs i (omega arith)
+
+whole : {X : Type 0} (xs : List X) (i : ℕ) → length xs ≤ i → take i xs ≡ xs
+whole [] zero h = refl
+whole [] (suc i) h = refl
+whole (x ∷ xs) zero h = absurd (omega arith)
+whole (x ∷ xs) (suc i) h = ap (λ (l : _). x ∷ l) (whole xs i (omega arith))
+
+pub put_at_end : (hs : List HeldRow) (n : Name) (i : ℕ) → length hs ≤ i → Passed hs n i
+    → (r : Row) → r.name ≡ n → rows_alone (take (length hs) hs) ++ r ∷ rows_alone (drop (length hs) hs) ≡ put r (rows_alone hs)
+put_at_end hs n i le p r named =
+    let now = p.so_far r named in
+    let front : rows_alone (take (length hs) hs) ≡ rows_alone (take i hs) =
+    ap rows_alone (whole hs (length hs) (omega arith) ∙ sym (whole hs i le)) in
+    let none : rows_alone (drop (length hs) hs) ≡ [] = ap rows_alone (gone hs (length hs) (omega arith)) in
+    let back : put r (rows_alone (drop i hs)) ≡ r ∷ [] = ap (λ (l : List HeldRow). put r (rows_alone l)) (gone hs i le) ∙ put_last r in
+    rw (front, none) (ap (λ (l : List Row). rows_alone (take i hs) ++ l) (sym back) ∙ now)
+
+-- ---- a volume put in at a place
+
+pub rows-insert : (hs : List HeldRow) (i : ℕ) (h : HeldRow) → rows_alone (insert hs i h) ≡ rows_alone (take i hs) ++ h.row ∷ rows_alone (drop i hs)
+rows-insert hs i h = rows-append (take i hs) (h ∷ drop i hs)
+
+absent_head : (x : HeldRow) (hs : List HeldRow) (n : Name) → row_of (rows_alone (x ∷ hs)) n ≡ None → (x.row.name ≢ n) × (row_of (rows_alone hs) n ≡ None)
+unfolding row_of
+absent_head x hs n h = parts (name_eq x.row.name n) refl h
+  where
+    parts : (b : Bool) → name_eq x.row.name n ≡ b → cond b (Some x.row) (row_of (rows_alone hs) n) ≡ None → (x.row.name ≢ n) × (row_of (rows_alone hs) n ≡ None)
+    parts true e h = absurd cc
+    parts false e h = ((λ same. let t = name_eq-same x.row.name n same in absurd cc), h)
+
+pub places-insert_same : (hs : List HeldRow) (i : ℕ) (h : HeldRow) → row_of (rows_alone hs) h.row.name ≡ None → places_in (insert hs i h) h.row.name ≡ h.spare
+unfolding places_in
+places-insert_same hs zero h none = rw (name_eq-same h.row.name h.row.name refl) refl
+places-insert_same [] (suc i) h none = rw (name_eq-same h.row.name h.row.name refl) refl
+places-insert_same (x ∷ hs) (suc i) h none =
+    let p = absent_head x hs h.row.name none in
+    rw (name_eq-other x.row.name h.row.name p.0) (places-insert_same hs i h p.1)
+
+pub places-insert_other : (hs : List HeldRow) (i : ℕ) (h : HeldRow) (n : Name) → h.row.name ≢ n → places_in (insert hs i h) n ≡ places_in hs n
+unfolding places_in
+places-insert_other hs zero h n other = rw (name_eq-other h.row.name n other) refl
+places-insert_other [] (suc i) h n other = rw (name_eq-other h.row.name n other) refl
+places-insert_other (x ∷ hs) (suc i) h n other =
+    ap (λ (k : ℕ). cond (name_eq x.row.name n) x.spare k) (places-insert_other hs i h n other)

@@ -1,0 +1,45 @@
+-- What contracts see of a table in memory: the table, and beside it how many rows, and how many extents of each
+-- volume, may be added without memory (this project's own). 'The same table' never speaks of these numbers.
+use Rattle.std.specs.Prelude.{◌≡◌, ℕ, false, List, [], ◌∷◌, map, Some, slice_get, take, if◌then◌else◌}
+use Rattle.std.specs.List.{AllByRecursion}
+use Rattle.sm_base.specs.declared.names.Name.{Name}
+use Rattle.vg_meta.specs.Tables.{Row, Listing, row_of, name_eq}
+
+-- a volume, and its spare places for extents
+pub record HeldRow : Type 0 where
+  pub row : Row
+  pub spare : ℕ
+
+-- a table, and its spare rows
+pub record Kept : Type 0 where
+  pub sequence : ℕ
+  pub rows : List HeldRow
+  pub spare : ℕ
+
+-- the volumes alone
+abbrev pub rows_alone : List HeldRow → List Row
+rows_alone hs = map (λ h. h.row) hs
+
+-- the table alone
+abbrev pub listing : Kept → Listing
+listing k = record { sequence = k.sequence; volumes = rows_alone k.rows }
+
+-- the spare places of the volume of this name that stands first, and 0 where there is none
+unfoldable pub places_in : List HeldRow → Name → ℕ
+places_in [] n = 0
+places_in (h ∷ hs) n = if name_eq h.row.name n then h.spare else places_in hs n
+
+abbrev pub places : Kept → Name → ℕ
+places k = places_in k.rows
+
+-- the volume of this name is this one
+pub record IsHeld (hs : List HeldRow) (n : Name) (h : HeldRow) : Type 0 where
+  pub row : row_of (rows_alone hs) n ≡ Some h.row
+  pub spare : places_in hs n ≡ h.spare
+
+-- the first volume of this name stands at this place
+pub record IsPlace (hs : List HeldRow) (n : Name) (i : ℕ) : Type 0 where
+  pub held : HeldRow
+  pub at : slice_get hs i ≡ Some held
+  pub is : IsHeld hs n held
+  pub before : AllByRecursion (λ h. name_eq h.row.name n ≡ false) (take i hs)
