@@ -1,0 +1,18 @@
+//! The edge to the system: a file as a device, and readers and writers of bytes as source and sink.
+//!
+//! Kept here: the file or stream, and the count of its faults. Nothing is told of what a file or a stream
+//! holds, since no proof knows that; what is proved is that each call answers `Failed` only where its count
+//! rose, stays within the buffer it was handed, and ends. A device has as many sectors of 512 bytes as its
+//! file has whole ones. The calls take no memory.
+//!
+//! That a real file keeps a sector whole, and keeps what was synced, is trusted.
+#![tactic(auto)]
+
+mod files;
+mod streams;
+
+pub use files::FileDisk;
+pub use streams::{ReadSource, WriteSink};
+
+#[cfg(test)]
+mod tests;

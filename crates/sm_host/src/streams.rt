@@ -1,0 +1,72 @@
+//! A reader as a source, and a writer as a sink.
+
+ghost use Rattle.std.specs.Prelude.{◌≡◌, ◌≤◌, None};
+ghost use Rattle.sm_disk.specs.Held.{Rose};
+
+use sm_disk::{Failed, Sink, Source};
+use std::io::{Read, Write};
+
+/// A reader as a source, as standard input.
+#[derive(Drop)]
+pub struct ReadSource<R> {
+    reader: R,
+    faults: u64,
+}
+
+impl<R: Read> ReadSource<R> {
+    /// The source that a reader is.
+    pub fn new(reader: R) -> ReadSource<R>
+        ensures { result.faults ≡ 0 }
+    {
+        ReadSource { reader, faults: 0 }
+    }
+}
+
+impl<R: Read> Source for ReadSource<R> {
+    ghost content = { λ _. None };
+
+    ghost faults = { λ source. source.faults };
+
+    fn read(&mut self, to: &mut [u8]) -> Result<usize, Failed> {
+        match self.reader.read(to) {
+            Ok(count) => Ok(count),
+            Err(_) => {
+                self.faults = self.faults.saturating_add(1);
+                Err(Failed)
+            }
+        }
+    }
+}
+
+/// A writer as a sink, as standard output. A piece that ends with a newline is handed on to the system before
+/// the call returns, so over a buffered writer a line goes out whole.
+#[derive(Drop)]
+pub struct WriteSink<W> {
+    writer: W,
+    faults: u64,
+}
+
+impl<W: Write> WriteSink<W> {
+    /// The sink that a writer is.
+    pub fn new(writer: W) -> WriteSink<W>
+        ensures { result.faults ≡ 0 }
+    {
+        WriteSink { writer, faults: 0 }
+    }
+}
+
+impl<W: Write> Sink for WriteSink<W> {
+    ghost content = { λ _. None };
+
+    ghost faults = { λ sink. sink.faults };
+
+    fn write(&mut self, from: &[u8]) -> Result<usize, Failed> {
+        if self.writer.write_all(from).is_err()
+            || (from.ends_with(b"\n") && self.writer.flush().is_err())
+        {
+            self.faults = self.faults.saturating_add(1);
+            return Err(Failed);
+        }
+        Ok(from.len())
+    }
+}
