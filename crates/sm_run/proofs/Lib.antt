@@ -1,1 +1,5 @@
 pub mod Growth
+pub mod LineLaws
+pub mod ReadLaws
+pub mod StepLaws
+pub mod RunLaws

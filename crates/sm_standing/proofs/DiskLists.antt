@@ -1,5 +1,5 @@
 -- The list of disks is determined by the disk of each UUID.
-use Rattle.std.proofs.Common.{◌≡◌, ◌≢◌, ℕ, ◌⊎◌, inl, inr, Bool, true, false, List, Option, Some, None, refl, sym, ap, ◌∙◌, subst, bytes_eq}
+use Rattle.std.proofs.Common.{◌≡◌, ◌≢◌, ℕ, ◌⊎◌, inl, inr, Bool, true, false, cond, List, [], ◌∷◌, Option, Some, None, refl, sym, ap, ◌∙◌, subst, bytes_eq}
 use Rattle.std.specs.declared.cmp.Ordering.TheVariants.{Less, Equal}
 use Rattle.std.specs.Ordering.{is_lt}
 use Rattle.std.proofs.lemmas.Map.Lookups.{exact_bytes}
@@ -8,7 +8,9 @@ use Rattle.sm_base.specs.declared.names.Name.{Name}
 use Rattle.sm_record.specs.declared.records.Record.{Record}
 use Rattle.sm_machine.specs.Lists.{In, insert_by, ◌>>=◌}
 use Rattle.sm_machine.specs.Disks.{Disk, with_disk}
-use Rattle.sm_standing.specs.Contents.{Content, record_of}
+use Rattle.std.specs.List.{find}
+use Rattle.sm_standing.specs.Contents.{Content, record_of, records, is_record_of}
+use Rattle.sm_standing.specs.Images.{sectors_read}
 use Rattle.sm_standing.specs.Standing.{disks, disk_at, disk_in, uuids, stands}
 use Rattle.sm_standing.specs.Ordered.{Rising, uuid_cmp, disk_cmp}
 use Rattle.sm_standing.proofs.Orders.{rising_ext, In-filter_map, filter_map-In, rising-filter_map, In-insert, new-insert, old-insert, rising-insert}
@@ -103,3 +105,34 @@ disks_more a b d none is same = rising_ext disk_cmp disk_cmp_total (disks b) (in
     back e (inl at) = subst (λ x. In x (disks b)) (sym at) (at_disks b d.uuid d is)
     back e (inr h) = at_disks b e.uuid e (same e.uuid (λ at.
         let there : disk_at a d.uuid ≡ Some e = subst (λ u. disk_at a u ≡ Some e) at (disks_at a e h) in cc) ∙ disks_at a e h)
+
+found-step : {A : Type 0} (test : A → Bool) (b : Bool) (x y : A) (xs : List A) (rest : Option A) → test y ≡ b → (rest ≡ Some x → In x xs × (test x ≡ true))
+    → cond b (Some y) rest ≡ Some x → In x (y ∷ xs) × (test x ≡ true)
+found-step test true x y xs rest is from h = let at : x ≡ y = (let e = h in cc) in (inl at, ap test at ∙ is)
+found-step test false x y xs rest is from h = let w = from h in (inr w.0, w.1)
+
+-- what is found is an element that passes
+find-In : {A : Type 0} (test : A → Bool) (xs : List A) (x : A) → find test xs ≡ Some x → In x xs × (test x ≡ true)
+find-In test [] x h = absurd (let e = h in cc)
+find-In test (y ∷ xs) x h = found-step test (test y) x y xs (find test xs) refl (find-In test xs x) h
+
+-- a disk has the fields of a record of its UUID
+pub disk_record : (c : Content) (u : List ℕ) (d : Disk) → disk_at c u ≡ Some d
+    → (r : Record) × In r (records c) × (r.uuid ≡ u) × (d.uuid ≡ u) × (d.label ≡ r.label) × (d.origin ≡ r.origin) × (d.read_only ≡ r.read_only)
+disk_record c u d h =
+    let parts = disk_parts c u d h in
+    let w = find-In (is_record_of u) (records c) parts.entry parts.recorded in (
+      parts.entry,
+      w.0,
+      (bytes_eq-Decides parts.entry.uuid u).0 w.1,
+      ap (λ (e : Disk). e.uuid) parts.made,
+      ap (λ (e : Disk). e.label) parts.made,
+      ap (λ (e : Disk). e.origin) parts.made,
+      ap (λ (e : Disk). e.read_only) parts.made,
+    )
+
+-- and the sectors that are read of the volume in which it stands
+pub disk_sectors : (c : Content) (u : List ℕ) (d : Disk) → disk_at c u ≡ Some d → (n : Name) × (stands c.table u ≡ Some n) × (d.sectors ≡ sectors_read c n)
+disk_sectors c u d h =
+    let parts = disk_parts c u d h in
+    (parts.name, parts.standing, ap (λ (e : Disk). e.sectors) parts.made)

@@ -1,22 +1,22 @@
 -- The empty repository is sound, and has no disks.
-use Rattle.std.proofs.Common.{◌≡◌, ◌≢◌, ℕ, ◌<◌, ◌≤◌, ◌⊎◌, inl, inr, Bool, true, false, cond, List, [], ◌∷◌, length, arith, Option, Some, None, refl, sym, ap, ◌∙◌, subst}
+use Rattle.std.proofs.Common.{◌≡◌, ℕ, inl, inr, List, [], ◌∷◌, length, arith, Some, None, refl, sym, ap, ◌∙◌}
 use Rattle.sm_base.specs.declared.names.Name.{Name}
-use Rattle.sm_base.specs.declared.names.Name.TheVariants.{Mgt, Vhd, Raw, Old, Clone, Inflate, Coalesce, Relink, Leaf}
+use Rattle.sm_base.specs.declared.names.Name.TheVariants.{Raw}
 use Rattle.sm_disk.specs.Sectors.{zeros}
 use Rattle.vg_layout.specs.Places.{record_extents}
-use Rattle.vg_meta.specs.Tables.{Row, rows, row_of, name_eq}
+use Rattle.vg_meta.specs.Tables.{Row, row_of, name_eq}
 use Rattle.vg_volumes.specs.Volumes.{piece}
 use Rattle.sm_base.specs.Numbers.{div_up}
 use Rattle.sm_machine.specs.Disks.{Disk}
 use Rattle.sm_machine.specs.Lists.{In}
 use Rattle.sm_record.specs.declared.records.Reading.TheVariants.{Free}
 use Rattle.sm_record.proofs.RoundTrips.{reading_zeros}
-use Rattle.sm_standing.specs.Contents.{Content, row, reading_at, sectors_of, record_of}
+use Rattle.sm_standing.specs.Contents.{row, reading_at, sectors_of, record_of}
 use Rattle.sm_standing.specs.Checks.{is_damaged}
 use Rattle.sm_standing.specs.Examples.{record_row, empty_content}
 use Rattle.sm_standing.specs.Plain.{IsPlain}
 use Rattle.sm_standing.specs.PlainSound.{PlainSound}
-use Rattle.sm_standing.specs.Standing.{stands, disks, disk_at}
+use Rattle.sm_standing.specs.Standing.{stands, disks}
 use Rattle.sm_standing.proofs.DiskLists.{disks_at}
 use Rattle.sm_standing.proofs.PlainDisks.{plain_stands, raw_stands, plain_disk_at, raw_disk_at}
 
@@ -55,7 +55,7 @@ empty_sound extents long = record {
   past = λ r u h n. absurd (named_raw extents u r h n);
   sizes = λ r u h n f. absurd (named_raw extents u r h n);
   right = λ k below. ap is_damaged (free_everywhere extents k);
-  recorded = λ u n is. absurd (no_standing extents u n is)
+  recorded = λ u n is. absurd (no_standing extents u n is);
 }
 
 no_disks : (ds : List Disk) → ((d : Disk) → In d ds → ⊥) → ds ≡ []

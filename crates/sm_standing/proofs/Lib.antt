@@ -8,3 +8,7 @@ pub mod RecordLists
 pub mod RawAdded
 pub mod TurnLaws
 pub mod EmptyContent
+pub mod WalkLaws
+pub mod ImageLaws
+pub mod WorldLaws
+pub mod FaultLaws

@@ -232,3 +232,36 @@ today_sound c h =
       right = λ k below. none_find _ (numbers 0 record_count) (record_none _ (each (record_fault c) (inr (inr (inr (inr (inr (inr (inl refl))))))))) k (numbers-In 0 record_count k (omega arith) (omega arith));
       recorded = λ u n is. eq_of _ 1 (not_not _ (none_find _ (disk_uuids c) (disk_none _ (each (disk_fault c) (inr (inr (inr (inr (inr (inr (inr (inl refl)))))))))) u (listed_disk c u n is)));
     }
+
+-- ---- and back
+
+ahead_at : (hidden : Bool) (n : Name) → is_plain_name hidden n ≡ true → is_ahead hidden n ≡ false
+ahead_at hidden Mgt h = refl
+ahead_at true (Raw u) h = absurd (let e = h in cc)
+ahead_at false (Raw u) h = refl
+ahead_at hidden (Vhd u) h = absurd (let e = h in cc)
+ahead_at hidden (Old u) h = absurd (let e = h in cc)
+ahead_at hidden (Clone d b w) h = absurd (let e = h in cc)
+ahead_at hidden (Inflate i m) h = absurd (let e = h in cc)
+ahead_at hidden (Coalesce a p) h = absurd (let e = h in cc)
+ahead_at hidden (Relink a p) h = absurd (let e = h in cc)
+ahead_at hidden (Leaf l p) h = absurd (let e = h in cc)
+
+-- where all checks pass on raw disks alone, each of today's passes
+today_pass : (c : Content) → ((o : Option Place) → In o (all_faults c) → o ≡ None) → IsPlain c.table → (o : Option Place) → In o (faults_today c) → o ≡ None
+unfolding entry_ahead_fault image_ahead_fault
+today_pass c each plain o (inl is) = each o (inl is)
+today_pass c each plain o (inr (inl is)) = each o (inr (inl is))
+today_pass c each plain o (inr (inr (inl is))) = each o (inr (inr (inl is)))
+today_pass c each plain o (inr (inr (inr (inl is)))) = is ∙ none_named at.Journal _ c.table.volumes (λ r h.
+    (not_special r.hidden r.name (all-In (λ s. is_plain s ≡ true) c.table.volumes r plain h)).no_journal)
+today_pass c each plain o (inr (inr (inr (inr (inl is))))) = is ∙ none_named at.Image _ c.table.volumes (λ r h.
+    ahead_at r.hidden r.name (all-In (λ s. is_plain s ≡ true) c.table.volumes r plain h))
+today_pass c each plain o (inr (inr (inr (inr (inr (inl is)))))) = each o (inr (inr (inr (inr (inr (inr (inl is)))))))
+today_pass c each plain o (inr (inr (inr (inr (inr (inr (inl is))))))) = each o (inr (inr (inr (inr (inr (inr (inr (inr (inr (inl is))))))))))
+today_pass c each plain o (inr (inr (inr (inr (inr (inr (inr (inl is)))))))) = each o (inr (inr (inr (inr (inr (inr (inr (inr (inr (inr (inl is)))))))))))
+today_pass c each plain o (inr (inr (inr (inr (inr (inr (inr (inr none)))))))) = elim none [ ]
+
+pub plain_today : (c : Content) → first_fault c ≡ None → IsPlain c.table → first_fault_today c ≡ None
+unfolding first_fault first_fault_today
+plain_today c sound plain = first_none (faults_today c) (today_pass c (none_first (all_faults c) sound) plain)

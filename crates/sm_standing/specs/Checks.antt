@@ -140,13 +140,14 @@ unfoldable pub depth : Content → ℕ → Name → ℕ
 depth c zero n = 0
 depth c (suc most) n = suc (elim (image_of c n >>= (λ i. i.parent)) [ None ↦ 0 | Some p ↦ depth c most p ])
 
+-- an image of at most this size
+abbrev pub is_no_larger : ℕ → Option Image → Bool
+is_no_larger size None = false
+is_no_larger size (Some i) = nat_le i.size size
+
 -- a parent that is there, not new, hidden and not larger
 abbrev pub is_parent_right : Content → ℕ → Name → Bool
-is_parent_right c size p = is_hidden c.table p && of_some (image_of c p)
-  where
-    of_some : Option Image → Bool
-    of_some None = false
-    of_some (Some i) = nat_le i.size size
+is_parent_right c size p = is_hidden c.table p && is_no_larger size (image_of c p)
 
 -- an image's parent is right where it has one
 abbrev pub is_linked : Content → Image → Bool
@@ -179,15 +180,23 @@ tree_fault c = placed at.Tree (first_name (is_tree_wrong c) c.table.volumes)
 
 -- ---- 12: the entries, by parents and children
 
+-- an image of this UUID
+abbrev pub has_uuid : List ℕ → Name → Bool
+has_uuid u n = same_image n (Vhd u) || same_image n (Raw u)
+
+-- a test of an image; false where there is none
+abbrev pub of_image : (Image → Bool) → Option Image → Bool
+of_image test None = false
+of_image test (Some i) = test i
+
+-- a parent of this UUID, which passes a test
+abbrev pub has_such_parent : Content → List ℕ → (Image → Bool) → Option Name → Bool
+has_such_parent c parent test None = false
+has_such_parent c parent test (Some q) = has_uuid parent q && of_image test (image_of c q)
+
+-- child and parent pass a test
 abbrev pub has_parent_of : Content → List ℕ → List ℕ → (Image → Image → Bool) → Bool
-has_parent_of c child parent test = elim (image_of c (Vhd child)) [
-  | None ↦ false
-  | Some v ↦ elim v.parent [
-    | None ↦ false
-    | Some q ↦ (same_image q (Vhd parent) || same_image q (Raw parent))
-        && elim (image_of c q) [ None ↦ false | Some p ↦ test v p ]
-  ]
-]
+has_parent_of c child parent test = of_image (λ v. has_such_parent c parent (test v) v.parent) (image_of c (Vhd child))
 
 -- all children of either image with this UUID
 abbrev pub children_with : Content → List ℕ → List Row
@@ -196,7 +205,7 @@ children_with c u = children c (Vhd u) ++ children c (Raw u)
 -- a new image of a fork that is filled has the base as parent, and nothing else has
 abbrev pub is_base_of : List ℕ → Option Image → Bool
 is_base_of base None = true
-is_base_of base (Some i) = elim i.parent [ None ↦ false | Some q ↦ same_image q (Vhd base) || same_image q (Raw base) ]
+is_base_of base (Some i) = elim i.parent [ None ↦ false | Some q ↦ has_uuid base q ]
 
 abbrev pub is_fork_linked : Content → List ℕ → List ℕ → List ℕ → Bool
 is_fork_linked c disk base twin =
@@ -208,7 +217,7 @@ is_fork_linked c disk base twin =
 abbrev pub is_leaf_linked : Content → List ℕ → List ℕ → Bool
 is_leaf_linked c leaf parent =
     if is_leaf_copied c.table leaf parent
-    then has_parent_of c leaf parent (λ l p. true) && (length (children c (Vhd parent)) == 1)
+    then parent_is (Vhd parent) (image_of c (Vhd leaf)) && (length (children c (Vhd parent)) == 1)
     else if is_leaf_renamed c.table leaf parent then length (children c (Vhd parent)) == 0
     else if is_leaf_swapped c.table leaf parent then length (children c (Vhd leaf)) == 0
     else true

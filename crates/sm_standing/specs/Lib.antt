@@ -14,3 +14,7 @@ pub mod RawDisks
 pub mod PlainSound
 pub mod Additions
 pub mod Examples
+pub mod ExampleTables
+pub mod ExampleFaults
+pub mod Changes
+pub mod Worlds

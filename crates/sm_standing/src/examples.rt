@@ -14,5 +14,4 @@ pub fn example_empty()
     ensures kept { (extents : List ℕ) → length extents ≡ 16 → IsKept (empty_content extents) }
     ensures no_fault { (extents : List ℕ) → length extents ≡ 16 → first_fault (empty_content extents) ≡ None }
     ensures disks { (extents : List ℕ) → disks (empty_content extents) ≡ [] }
-{
-}
+{}

@@ -1,9 +1,13 @@
 //! Laws of the list of disks.
 
 ghost use Rattle.std.specs.Prelude.{◌≡◌, ◌≢◌, List, ℕ, None, Some};
+ghost use Rattle.sm_base.specs.declared.names.Name.{Name};
+ghost use Rattle.sm_record.specs.declared.records.Record.{Record};
+ghost use Rattle.sm_machine.specs.Lists.{In};
 ghost use Rattle.sm_machine.specs.Disks.{Disk, with_disk};
-ghost use Rattle.sm_standing.specs.Contents.{Content};
-ghost use Rattle.sm_standing.specs.Standing.{disks, disk_at};
+ghost use Rattle.sm_standing.specs.Contents.{Content, records};
+ghost use Rattle.sm_standing.specs.Images.{sectors_read};
+ghost use Rattle.sm_standing.specs.Standing.{disks, disk_at, stands};
 ghost use Rattle.sm_standing.specs.Ordered.{Rising, disk_cmp};
 
 /// The disks stand in order of UUID, each once.
@@ -20,4 +24,11 @@ pub fn law_disks_follow()
 pub fn law_one_disk_more()
     ensures { (a b : Content) (d : Disk) → disk_at a d.uuid ≡ None → disk_at b d.uuid ≡ Some d
         → ((u : List ℕ) → u ≢ d.uuid → disk_at b u ≡ disk_at a u) → disks b ≡ with_disk d (disks a) }
+{}
+
+/// A disk has the UUID, the fields of a record of that UUID, and the sectors that are read of its standing volume.
+pub fn law_disk()
+    ensures record { (c : Content) (u : List ℕ) (d : Disk) → disk_at c u ≡ Some d
+        → (r : Record) × In r (records c) × (r.uuid ≡ u) × (d.uuid ≡ u) × (d.label ≡ r.label) × (d.origin ≡ r.origin) × (d.read_only ≡ r.read_only) }
+    ensures sectors { (c : Content) (u : List ℕ) (d : Disk) → disk_at c u ≡ Some d → (n : Name) × (stands c.table u ≡ Some n) × (d.sectors ≡ sectors_read c n) }
 {}

@@ -19,10 +19,12 @@ pub fn law_plain_kept()
     ensures { (c : Content) → PlainSound c → IsKept c }
 {}
 
-/// Where today's checks pass, all checks pass, and the repository is one of raw disks alone.
+/// Today's checks pass exactly where all checks pass and the repository is one of raw disks alone.
 pub fn law_today()
     ensures facts { (c : Content) → first_fault_today c ≡ None → PlainSound c }
     ensures all { (c : Content) → first_fault_today c ≡ None → first_fault c ≡ None }
+    ensures plain { (c : Content) → first_fault_today c ≡ None → IsPlain c.table }
+    ensures back { (c : Content) → first_fault c ≡ None → IsPlain c.table → first_fault_today c ≡ None }
 {}
 
 /// A raw image more that is new changes no disk, and the repository stays kept.

@@ -1,3 +1,4 @@
+pub mod Fields
 pub mod Places
 pub mod Sectors
 pub mod Opening

@@ -7,11 +7,10 @@
 --   4. The table header is right: the slot is 0 or 1, the text has at most 524,288 bytes, and the sector is the
 --      spelling of its fields.
 --   5. The text has the header's sum, and it spells a table, else it is damaged at its first fault.
-use Rattle.std.specs.Prelude.{◌≡◌, ◌≢◌, ℕ, ◌&&◌, ◌==◌, not, nat_le, nat_lt, Bool, List, take, drop, sum, if◌then◌else◌, Result, Ok, Err, Option, Some, None}
+use Rattle.std.specs.Prelude.{◌≡◌, ◌≢◌, ℕ, ◌&&◌, ◌==◌, not, nat_le, nat_lt, Bool, List, take, sum, if◌then◌else◌, Result, Ok, Err}
 use Rattle.std.specs.Str.{bytes_eq}
 use Rattle.sm_base.specs.declared.faults.OpenFault.{OpenFault}
 use Rattle.sm_base.specs.declared.faults.OpenFault.TheVariants.{NotARepository, Unsupported, Damaged}
-use Rattle.sm_base.specs.declared.faults.Place.{Place}
 use Rattle.sm_base.specs.declared.faults.Place.TheVariants.{Label, Header, TableSum, Table}
 use Rattle.vg_meta.specs.Tables.{Listing}
 use Rattle.vg_meta.specs.Reading.{Spells, IsDamagedAt}

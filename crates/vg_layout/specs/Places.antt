@@ -5,7 +5,7 @@
 --   1,026 to 2,049  slot 1 of the table
 --   2,050 to 4,095  not used
 --   4,096 on        the extents
-use Rattle.std.specs.Prelude.{◌≡◌, ℕ, zero, suc, ◌+◌, ◌-◌, ◌*◌, ◌/◌, ◌==◌, min, List, [], ◌++◌, take, if◌then◌else◌}
+use Rattle.std.specs.Prelude.{ℕ, zero, suc, ◌+◌, ◌-◌, ◌/◌, ◌==◌, min, List, [], ◌++◌, take, if◌then◌else◌}
 use Rattle.sm_base.specs.Numbers.{div_up}
 
 abbrev pub label_place : ℕ

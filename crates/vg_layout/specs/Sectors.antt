@@ -5,9 +5,8 @@
 --   of bytes 0 to 507.
 --   Table header: 0 the letters LVHDTABL; 8 the slot; 12 the length of the text in bytes; 16 the sum of the
 --   text; 20 zeros; 508 the sum of bytes 0 to 507.
-use Rattle.std.specs.Prelude.{◌≡◌, ℕ, ◌^◌, ◌%◌, ◌&&◌, ◌==◌, nat_le, Bool, List, [], ◌∷◌, ◌++◌, take, drop, length, replicate, sum, codes}
+use Rattle.std.specs.Prelude.{ℕ, ◌&&◌, nat_le, Bool, List, ◌++◌, take, drop, replicate, sum, codes}
 use Rattle.std.specs.Int.{w32, to_be_bytes, from_be_bytes, is_power_of_two}
-use Rattle.std.specs.Str.{bytes_eq}
 
 -- the numbers and the UUID that a repository is formatted with, and the number of its extents
 pub record Plate : Type 0 where
@@ -76,7 +75,7 @@ plate_in sector = record {
   block = number_at 32 sector;
   entries = number_at 36 sector;
   count = number_at 40 sector;
-  identity = take 16 (drop 12 sector)
+  identity = take 16 (drop 12 sector);
 }
 
 unfoldable pub pointer_in : List ℕ → Pointer

@@ -31,7 +31,7 @@ times-take e zero xs = omega arith
 times-take e (suc k) [] = omega arith
 times-take e (suc k) (x ∷ xs) = omega (arith, times-take e k xs)
 
-one_of_same : (x : ℕ) → one_if (x == x) ≡ 1
+pub one_of_same : (x : ℕ) → one_if (x == x) ≡ 1
 one_of_same x = ap one_if (eq-eqb x x refl)
 
 pub one_of_other : (x e : ℕ) → x ≢ e → one_if (x == e) ≡ 0
@@ -209,3 +209,11 @@ pub free_once : (e : ℕ) (us es : List ℕ) → AllByRecursion (λ (x : ℕ). i
     → times e es + times e us ≤ 1
 free_once e us es all one once =
     ⊎_elim (λ none. omega arith) (λ some. let apart = apart-times e us es all (omega arith) in omega arith) (cases_eq (times e es) 0)
+
+pub times-cons : (e x : ℕ) (xs : List ℕ) → times e (x ∷ xs) ≤ 1 + times e xs
+unfolding times
+times-cons e x xs = ⊎_elim (λ same. let one : one_if (x == e) ≡ 1 = ap one_if (eq-eqb x e same) in omega arith) (λ other. omega (arith, one_of_other x e other)) (cases_eq x e)
+
+pub times-first : (e x : ℕ) (xs : List ℕ) → x ≡ e → 0 < times e (x ∷ xs)
+unfolding times
+times-first e x xs same = let one : one_if (x == e) ≡ 1 = ap one_if (eq-eqb x e same) in omega arith

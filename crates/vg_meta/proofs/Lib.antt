@@ -1,10 +1,17 @@
 pub mod ByName
 pub mod ChangeLaws
+pub mod DecodeLaws
 pub mod EditLaws
 pub mod ExtentLaws
 pub mod FreeLaws
 pub mod NameLaws
 pub mod Places
+pub mod PushLaws
 pub mod PutLaws
+pub mod RangeLaws
+pub mod ReadLaws
+pub mod ReadSteps
 pub mod RoomLaws
 pub mod RowLaws
+pub mod TakenLaws
+pub mod WriteLaws

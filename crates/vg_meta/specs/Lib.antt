@@ -1,6 +1,11 @@
 pub mod Changes
+pub mod Faults
 pub mod Held
 pub mod Kept
 pub mod Reading
+pub mod Stopped
 pub mod Tables
+pub mod Taken
 pub mod Text
+pub mod Unread
+pub mod Writing

@@ -122,3 +122,10 @@ is_one_of es e = list_any (λ x. x == e) es
 -- the extents below the count that no volume has, rising
 unfoldable pub free : ℕ → Listing → List ℕ
 free count t = filter (λ e. not (is_one_of (used t) e)) (range_with_len 0 count)
+
+-- the table of a new group: the volume of the records alone, on the first extents
+abbrev pub new_table : ℕ → Listing
+new_table extents = record {
+  sequence = 1;
+  volumes = record { name = Mgt; hidden = false; fresh = false; extents = range_with_len 0 extents } ∷ [];
+}

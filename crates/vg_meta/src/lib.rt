@@ -3,10 +3,13 @@
 
 mod allowed;
 mod changes;
+mod decoding;
 mod edits;
+mod encoding;
 mod faults;
 mod free;
 mod kinds;
+mod reading;
 mod tables;
 mod volumes;
 

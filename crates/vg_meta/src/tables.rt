@@ -1,16 +1,25 @@
 //! The table of the group.
 
-ghost use Rattle.std.specs.Prelude.{◌≡◌, ◌≤◌, ◌+◌, ◌<◌, ◌^◌, ◌↔◌, IsTrue, None, IsSome, IfSome, IfNone, OnOk, OnErr};
+ghost use Rattle.std.specs.Prelude.{◌≡◌, ◌≤◌, ◌+◌, ◌<◌, ◌^◌, ◌-◌, ◌++◌, ◌↔◌, min, length, drop, IsTrue, None, IsSome, IfSome, IfNone, IfOk, IfErr, OnOk, OnErr};
 ghost use Rattle.sm_base.specs.declared.names.Name.{Name};
-ghost use Rattle.vg_meta.specs.Tables.{rows};
+ghost use Rattle.std.specs.List.{range_with_len};
+ghost use Rattle.vg_meta.specs.Tables.{IsTable, rows, new_table};
 ghost use Rattle.vg_meta.specs.Kept.{listing, places, IsHeld, IsPlace};
+ghost use Rattle.vg_meta.specs.Text.{text, HasText};
+ghost use Rattle.vg_meta.specs.Reading.{Spells, told as told_of};
+ghost use Rattle.vg_meta.specs.Faults.{IsFault};
 ghost use Rattle.vg_meta.specs.Changes.{Allows, HasRoom, applied, spare_after, places_after};
 
 use crate::allowed::is_allowed;
 use crate::changes::Change;
+use crate::decoding::{long_number_at, number_at};
 use crate::edits::{apply_to, reserve_for};
+use crate::encoding::{put_number, put_sequence, put_volumes, volumes_length};
+use crate::faults::DecodeFault;
+use crate::reading::{Stopped, volumes_at};
 use crate::volumes::{Volume, named, place};
 use sm_base::{Name, NoMemory};
+use std::alloc::Global;
 use std::marker::Model;
 
 /// The last sequence number, which a change leaves.
@@ -37,6 +46,22 @@ impl Model for Table {
 }
 
 impl Table {
+    /// The table of a new group: its sequence number is 1, and the volume of the records has so many extents,
+    /// the first ones.
+    pub fn formatted(alloc: Global, extents_of_mgt: u32) -> Result<Table, NoMemory>
+        ensures table { IfOk result (λ t. listing t ≡ new_table extents_of_mgt) }
+    {
+        let extents = first_extents(alloc, extents_of_mgt)?;
+        let mut volumes = Vec::new(alloc);
+        if volumes
+            .push(Volume::new(Name::Mgt, false, false, extents))
+            .is_err()
+        {
+            return Err(NoMemory);
+        }
+        Ok(Table { seq: 1, volumes })
+    }
+
     /// The sequence number, which each change raises.
     pub fn seq(&self) -> u64
         ensures seq { result ≡ self.now.sequence }
@@ -44,9 +69,10 @@ impl Table {
         self.seq
     }
 
-    /// The volumes, in order of name.
+    /// The volumes, in order of name. A table is always what it should be, with extents below 2^32.
     pub fn volumes(&self) -> &[Volume]
         ensures volumes { result.now ≡ self.now.rows }
+        ensures table { IsTable (2 ^ 32) (listing self.now) }
     {
         &self.volumes
     }
@@ -121,5 +147,78 @@ impl Table {
         if self.seq < LAST_SEQUENCE {
             self.seq += 1;
         }
+    }
+
+    /// The length of the text in bytes, or the greatest `usize` where it passes that.
+    pub fn length(&self) -> usize
+        ensures length { result ≡ min (length (text (listing self.now))) (2 ^ 64 - 1) }
+    {
+        volumes_length(&self.volumes).saturating_add(12)
+    }
+
+    /// Writes the text to the buffer's beginning, and answers its length in bytes. The bytes past it stay.
+    pub fn encode(&self, to: &mut [u8]) -> usize
+        requires fits { length (text (listing self.now)) ≤ length to.old }
+        requires numbers { HasText (listing self.now) }
+        ensures text { to.new ≡ text (listing self.now) ++ drop (length (text (listing self.now))) to.old }
+        ensures length { result ≡ length (text (listing self.now)) }
+    {
+        let number_at = put_sequence(to, 0, self.seq);
+        let volumes_at = put_number(to, number_at, self.volumes.len() as u32);
+        put_volumes(to, volumes_at, &self.volumes)
+    }
+
+    /// The table that the bytes spell, where extents are counted up to `extents`. The cost is that of going over
+    /// the bytes once, with one mark in memory for each of the `extents`.
+    pub fn decode(alloc: Global, bytes: &[u8], extents: u32) -> Result<Table, DecodeFault>
+        ensures spells { IfOk result (λ t. Spells extents bytes.now (listing t)) }
+        ensures fault { IfErr result (IsFault extents bytes.now) }
+    {
+        let Some((seq, rest)) = long_number_at(bytes) else {
+            return Err(DecodeFault::Damaged { at: 0 });
+        };
+        if seq > LAST_SEQUENCE {
+            return Err(DecodeFault::Damaged { at: 0 });
+        }
+        let Some((number, rest)) = number_at(rest) else {
+            return Err(DecodeFault::Damaged { at: 8 });
+        };
+        let (volumes, rest) = match volumes_at(alloc, rest, number, extents) {
+            Ok(read) => read,
+            Err(Stopped::Damaged { left }) => {
+                let at = told(bytes.len() - left);
+                return Err(DecodeFault::Damaged { at });
+            }
+            Err(Stopped::NoMemory) => return Err(DecodeFault::NoMemory),
+        };
+        if !rest.is_empty() {
+            let at = told(bytes.len() - rest.len());
+            return Err(DecodeFault::Damaged { at });
+        }
+        Ok(Table { seq, volumes })
+    }
+}
+
+// The extents below a count, rising.
+fn first_extents(alloc: Global, count: u32) -> Result<Vec<u32>, NoMemory>
+    ensures { IfOk result (λ v. v.items ≡ range_with_len 0 count) }
+{
+    let mut extents = Vec::new(alloc);
+    for extent in 0..count {
+        if extents.push(extent).is_err() {
+            return Err(NoMemory);
+        }
+    }
+    Ok(extents)
+}
+
+// A place in 32 bits.
+fn told(place: usize) -> u32
+    ensures { result ≡ told_of place }
+{
+    if place < u32::MAX as usize {
+        place as u32
+    } else {
+        u32::MAX
     }
 }

@@ -1,7 +1,7 @@
 //! A volume of the group.
 
-ghost use Rattle.std.specs.Prelude.{◌≡◌, ◌≤◌, ◌+◌, ◌↔◌, IsTrue, None, IfSome, IfNone, OnOk, OnErr, length, Bool, List};
-ghost use Rattle.vg_meta.specs.Tables.{row_of};
+ghost use Rattle.std.specs.Prelude.{◌≡◌, ◌≤◌, ◌+◌, ◌-◌, ◌^◌, min, ◌↔◌, IsTrue, None, IfSome, IfNone, OnOk, OnErr, length, Bool, List};
+ghost use Rattle.vg_meta.specs.Tables.{Row, row_of};
 ghost use Rattle.vg_meta.specs.Kept.{rows_alone, IsHeld, IsPlace};
 
 use crate::changes::{Extents, Tag};
@@ -28,6 +28,7 @@ impl Model for Volume {
 }
 
 impl Volume {
+    ghost use Rattle.vg_meta.specs.Text.{volume_text};
     ghost use Rattle.vg_meta.specs.Changes.{made, grown, cut_to, renamed, tagged, has_tag};
 
     /// The name.
@@ -65,16 +66,23 @@ impl Volume {
         self.name == *name
     }
 
+    // A volume with these fields.
+    pub(crate) fn new(name: Name, hidden: bool, fresh: bool, extents: Vec<u32>) -> Volume
+        ensures { let r : Row = record { name = name; hidden = hidden; fresh = fresh; extents = extents.items } in result.row ≡ r }
+    {
+        Volume {
+            name,
+            hidden,
+            fresh,
+            extents,
+        }
+    }
+
     // A volume that a Create makes.
     pub(crate) fn made(name: Name, fresh: bool, extents: Extents) -> Volume
         ensures { result.row ≡ made name fresh extents }
     {
-        Volume {
-            name,
-            hidden: false,
-            fresh,
-            extents: extents.into_vec(),
-        }
+        Volume::new(name, false, fresh, extents.into_vec())
     }
 
     // Makes room for more extents.
@@ -126,6 +134,18 @@ impl Volume {
             Tag::Hidden => self.hidden,
             Tag::Fresh => self.fresh,
         }
+    }
+
+    // The length of the volume's text in bytes.
+    pub(crate) fn text_length(&self) -> usize
+        ensures { result ≡ min (length (volume_text self.now.row)) (2 ^ 64 - 1) }
+    {
+        let mut name = [0; 128];
+        let size = self.name.spell(&mut name);
+        self.extents
+            .len()
+            .saturating_mul(4)
+            .saturating_add(size + 6)
     }
 
     // Another name.

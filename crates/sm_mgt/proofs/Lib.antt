@@ -1,0 +1,5 @@
+pub mod PlaceLaws
+pub mod StoreLaws
+pub mod ClearLaws
+pub mod AgreeLaws
+pub mod FindLaws

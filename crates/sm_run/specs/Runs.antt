@@ -1,0 +1,105 @@
+-- A run over a script (this project's format): which lines were read, which of them were answered, and what the sink
+-- got. A script is read byte by byte, and each line's reply goes out whole before the next byte is read. So at every
+-- return all lines that were read whole are answered, but for the last one where its step or its reply failed.
+use Rattle.std.specs.Prelude.{◌≡◌, ◌≢◌, ◌≤◌, ◌^◌, ◌+◌, ◌==◌, ◌⊎◌, ⊤, ℕ, Bool, true, false, List, [], ◌∷◌, ◌++◌, map, length, take, codes, nat_eq, Option, None, All, IfSome, Result, Ok, Err}
+use Rattle.std.specs.List.{starts_with}
+use Rattle.sm_disk.specs.Streams.{Takes, Adds}
+use Rattle.sm_machine.specs.Disks.{Disk}
+use Rattle.sm_machine.specs.Lines.{lines, spelled}
+use Rattle.sm_machine.specs.Runs.{Turn, after_run, replies, IsAsAfter, IsAsDuring}
+use Rattle.sm_machine.specs.Steps.{State}
+use Rattle.sm_run.specs.Between.{IsSettledAs}
+use Rattle.sm_run.specs.declared.runs.RunFault.{RunFault}
+use Rattle.sm_run.specs.declared.runs.RunFault.TheVariants.{Device, Source, Sink, NoMemory, TooLong}
+
+-- the most bytes of a script
+abbrev pub script_limit : ℕ
+script_limit = 2 ^ 40
+
+-- a byte in front of the lines that follow it, where what no newline ends is no line
+abbrev pub onto_ended : Bool → ℕ → List (List ℕ) → List (List ℕ)
+onto_ended true b lines = [] ∷ lines
+onto_ended false b [] = []
+onto_ended false b (line ∷ lines) = (b ∷ line) ∷ lines
+
+-- the lines of a script that a newline ends (0a hex): what stands behind its last newline is left out
+unfoldable pub ended : List ℕ → List (List ℕ)
+ended [] = []
+ended (b ∷ bytes) = onto_ended (b == 10) b (ended bytes)
+
+-- the lines of turns
+abbrev pub lines_of : List Turn → List (List ℕ)
+lines_of turns = map (λ t. t.line) turns
+
+-- nothing is left, where that is told
+abbrev pub IsSpent : Option (List ℕ) → Type 0
+IsSpent content = IfSome content (λ left. left ≡ [])
+
+-- want of memory is no answer to a line that spells no command and is no `write`
+abbrev pub IsSpared : Turn → Type 0
+IsSpared t = t.poor ≡ true → spelled t.line ≡ None → starts_with nat_eq t.line (codes "write ") ≡ true
+
+-- the script was read to its end, and every line of it was answered
+pub record IsDone (bytes : List ℕ) (turns pending : List Turn) (left : Option (List ℕ)) : Type 0 where
+  pub within : length bytes ≤ script_limit
+  pub answered : lines bytes ≡ lines_of turns
+  pub none_pending : pending ≡ []
+  pub at_end : IsSpent left
+
+-- reading was given up, and every line that a newline had ended was answered
+pub record IsStopped (bytes : List ℕ) (turns pending : List Turn) : Type 0 where
+  pub within : length bytes ≤ script_limit
+  pub answered : ended bytes ≡ lines_of turns
+  pub none_pending : pending ≡ []
+
+-- the source gave a byte past the most of a script, and every line that a newline had ended before was answered
+pub record IsPast (bytes : List ℕ) (turns pending : List Turn) : Type 0 where
+  pub past : length bytes ≡ script_limit + 1
+  pub answered : ended (take script_limit bytes) ≡ lines_of turns
+  pub none_pending : pending ≡ []
+
+-- the last line that was read whole did not get its whole reply, all earlier ones did
+pub record IsCutShort (bytes : List ℕ) (turns pending : List Turn) (left : Option (List ℕ)) : Type 0 where
+  pub last : Turn
+  pub is_pending : pending ≡ last ∷ []
+  pub within : length bytes ≤ script_limit
+  pub answered : lines bytes ≡ lines_of turns ++ last.line ∷ []
+  pub whole : (ended bytes ≡ lines bytes) ⊎ IsSpent left
+
+-- how far a run came, by its result
+abbrev pub HowFar : Result ⊤ RunFault → List ℕ → List Turn → List Turn → ℕ → Option (List ℕ) → Type 0
+HowFar (Ok _) bytes turns pending sent left = IsDone bytes turns pending left
+HowFar (Err Device) bytes turns pending sent left = IsCutShort bytes turns pending left × (sent ≡ 0)
+HowFar (Err Source) bytes turns pending sent left = IsStopped bytes turns pending
+HowFar (Err Sink) bytes turns pending sent left = IsCutShort bytes turns pending left
+HowFar (Err NoMemory) bytes turns pending sent left = (bytes ≡ []) × (turns ≡ []) × (pending ≡ [])
+HowFar (Err TooLong) bytes turns pending sent left = IsPast bytes turns pending
+
+-- the disks after the turns, or where a turn is pending perhaps after that one
+abbrev pub MayLeave : State → List Turn → List Turn → List Disk → Type 0
+MayLeave σ turns [] disks = IsAsAfter σ turns disks
+MayLeave σ turns (t ∷ _) disks = IsAsAfter σ turns disks ⊎ IsAsDuring σ turns t disks
+
+-- a stop as the run begins leaves these disks alone
+abbrev pub BeginsSettled : State → (List Disk → Type 0) → Type 0
+BeginsSettled σ leaves = (disks : List Disk) → leaves disks → IsSettledAs σ.disks disks
+
+-- What a run did that began in a state, by its result: with what the source had left and the sink held before and
+-- after it, and with the machine's state after it, what a stop leaves then, and whether it is ready and kept.
+pub record HasRun (σ σ' : State) (result : Result ⊤ RunFault) (had_left left had_got got : Option (List ℕ)) (may_leave : List Disk → Type 0) (is_ready is_kept : Type 0) : Type 0 where
+  -- what was read
+  pub bytes : List ℕ
+  -- the lines whose replies went out whole
+  pub turns : List Turn
+  -- the line read whole whose reply did not: one or none
+  pub pending : List Turn
+  -- how many bytes of that reply went out
+  pub sent : ℕ
+  pub takes : Takes had_left bytes left
+  pub adds : Adds had_got (replies σ turns ++ take sent (replies (after_run σ turns) pending)) got
+  pub how_far : HowFar result bytes turns pending sent left
+  pub state : result ≢ Err Device → σ' ≡ after_run σ (turns ++ pending)
+  pub leaves : (disks : List Disk) → may_leave disks → MayLeave σ turns pending disks
+  pub ready : result ≢ Err Device → is_ready
+  pub kept : is_kept
+  pub spared : All IsSpared (turns ++ pending)

@@ -1,0 +1,66 @@
+//! Stepping a line, and sending its reply.
+
+ghost use Rattle.std.specs.Prelude.{◌≡◌, ◌≢◌, ◌≤◌, ◌⊎◌, ℕ, List, true, false, map, Err, IfErr, OnOk, OnErr};
+ghost use Rattle.sm_disk.specs.Held.{Rose};
+ghost use Rattle.sm_machine.specs.Disks.{Disk};
+ghost use Rattle.sm_machine.specs.Runs.{face};
+ghost use Rattle.sm_run.specs.Parts.{front_of, HasStepped, HasAnswered};
+ghost use Rattle.sm_run.specs.declared.runs.RunFault.TheVariants.{Device, Sink as SinkFault};
+
+use crate::readers::{LineFault, Reader};
+use crate::runs::RunFault;
+use crate::steps::{StepFault, Steps};
+use sm_base::Refusal;
+use sm_disk::Sink;
+use sm_machine::Reply;
+use std::alloc::Global;
+
+/// Takes the step of one line, given by what the buffer keeps of it. A line that spells nothing is refused without one.
+pub fn take_step<L: Reader, M: Steps>(
+    alloc: Global,
+    machine: &mut M,
+    line: &[u8],
+) -> Result<Reply, StepFault>
+    ensures stepped { M.told → M.ready machine.old → M.kept machine.old
+        → ((ds : List Disk) → M.leaves machine.old ds → map face ds ≡ map face (M.state machine.old).disks)
+        → (whole : List ℕ) → line.now ≡ front_of whole
+        → HasStepped (M.state machine.old) (M.state machine.new) whole result
+        (M.leaves machine.old) (M.leaves machine.new) (M.ready machine.new) (M.kept machine.new) }
+    ensures counts { M.faults machine.old ≤ M.faults machine.new }
+    ensures device { M.broken machine.old ≡ false → OnErr result (Rose (M.faults machine.old) (M.faults machine.new)) }
+    ensures going_on { M.broken machine.old ≡ false → OnOk result (M.broken machine.new ≡ false) }
+{
+    match L::read(alloc, line) {
+        Ok(command) => machine.step(alloc, &command),
+        Err(LineFault::BadLine) => Ok(Reply::No(Refusal::BadLine)),
+        Err(LineFault::NoMemory) => Ok(Reply::No(Refusal::NoMemory)),
+    }
+}
+
+/// Steps one line and sends its whole reply.
+pub fn answer<L: Reader, M: Steps, K: Sink>(
+    alloc: Global,
+    machine: &mut M,
+    line: &[u8],
+    sink: &mut K,
+) -> Result<(), RunFault>
+    ensures answered { M.told → M.ready machine.old → M.kept machine.old
+        → ((ds : List Disk) → M.leaves machine.old ds → map face ds ≡ map face (M.state machine.old).disks)
+        → (whole : List ℕ) → line.now ≡ front_of whole
+        → HasAnswered (M.state machine.old) (M.state machine.new) whole result (K.content sink.old) (K.content sink.new)
+        (M.leaves machine.old) (M.leaves machine.new) (M.ready machine.new) (M.kept machine.new) }
+    ensures faults { IfErr result (λ fault. (fault ≡ Device) ⊎ (fault ≡ SinkFault)) }
+    ensures counts { M.faults machine.old ≤ M.faults machine.new }
+    ensures sink_counts { K.faults sink.old ≤ K.faults sink.new }
+    ensures device { M.broken machine.old ≡ false → result ≡ Err Device → Rose (M.faults machine.old) (M.faults machine.new) }
+    ensures sink { result ≡ Err SinkFault → Rose (K.faults sink.old) (K.faults sink.new) }
+    ensures going_on { M.broken machine.old ≡ false → result ≢ Err Device → M.broken machine.new ≡ false }
+{
+    let Ok(reply) = take_step::<L, M>(alloc, machine, line) else {
+        return Err(RunFault::Device);
+    };
+    match L::print(&reply, sink) {
+        Ok(()) => Ok(()),
+        Err(_) => Err(RunFault::Sink),
+    }
+}

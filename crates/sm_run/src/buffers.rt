@@ -1,0 +1,65 @@
+//! The buffer that a line is read into.
+
+ghost use Rattle.std.specs.Prelude.{◌≡◌, ◌++◌, ◌∷◌, [], IfOk};
+ghost use Rattle.sm_run.specs.Parts.{front_of};
+
+use sm_base::NoMemory;
+use std::alloc::Global;
+use std::marker::Model;
+
+/// One byte more than a line may have, so that a longer line is known by its length.
+const ROOM: usize = 65537;
+
+/// A line's bytes, of a longer one its first 65,537. A contract sees the list of them.
+#[derive(Drop)]
+pub struct LineBuffer {
+    bytes: Vec<u8>,
+}
+
+impl Model for LineBuffer {
+    ghost use Rattle.std.specs.Prelude.{◌≡◌, ◌≤◌, ◌+◌, List, ℕ, length, vec_len};
+    ghost use Rattle.std.specs.Vec.{vec_capacity};
+    ghost use Rattle.sm_machine.specs.Lines.{line_limit};
+
+    ghost Value = { List ℕ };
+
+    ghost view = { λ b. b.bytes.items };
+
+    ghost invariant = { λ b. (vec_len b.bytes ≡ length b.bytes.items)
+        × (length b.bytes.items ≤ line_limit + 1) × (line_limit + 1 ≤ vec_capacity b.bytes) };
+}
+
+impl LineBuffer {
+    /// An empty buffer, with all the room that a line needs.
+    pub fn new(alloc: Global) -> Result<LineBuffer, NoMemory>
+        ensures { IfOk result (λ b. b ≡ []) }
+    {
+        match Vec::with_capacity(alloc, ROOM) {
+            Ok(bytes) => Ok(LineBuffer { bytes }),
+            Err(_) => Err(NoMemory),
+        }
+    }
+
+    /// Forgets the line.
+    pub fn clear(&mut self)
+        ensures { self.new ≡ [] }
+    {
+        self.bytes.clear();
+    }
+
+    /// Takes one byte more, where there is room for it.
+    pub fn push(&mut self, byte: u8)
+        ensures { self.new ≡ front_of (self.old ++ byte ∷ []) }
+    {
+        if self.bytes.len() < ROOM {
+            self.bytes.push_reserved(byte);
+        }
+    }
+
+    /// The bytes.
+    pub fn bytes(&self) -> &[u8]
+        ensures { result.now ≡ self.now }
+    {
+        &self.bytes
+    }
+}

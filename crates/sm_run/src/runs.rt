@@ -1,0 +1,74 @@
+//! The loop of a run.
+
+ghost use Rattle.std.specs.Prelude.{◌≡◌, ◌≢◌, ◌≤◌, false, Err};
+ghost use Rattle.sm_disk.specs.Held.{Rose};
+ghost use Rattle.sm_run.specs.Runs.{BeginsSettled, HasRun};
+ghost use Rattle.sm_run.specs.declared.runs.RunFault.TheVariants as fault;
+
+use crate::answers::answer;
+use crate::buffers::LineBuffer;
+use crate::readers::Reader;
+use crate::reading::{Ending, read_line};
+use crate::steps::Steps;
+use sm_disk::{Sink, Source};
+use std::alloc::Global;
+
+/// The most bytes of a script.
+const SCRIPT_LIMIT: u64 = 1 << 40;
+
+/// Why a run ended early.
+#[derive(Clone, Copy, Debug, PartialEq, Eq)]
+pub enum RunFault {
+    /// The device failed.
+    Device,
+    /// The source failed.
+    Source,
+    /// The sink failed.
+    Sink,
+    /// The line buffer found no memory. Nothing was read, stepped or sent.
+    NoMemory,
+    /// The source gave a byte past the first 2^40 of the script.
+    TooLong,
+}
+
+/// Takes one step for each line of the source, and sends its whole reply before the next byte is read.
+pub fn run<L: Reader, M: Steps, S: Source, K: Sink>(
+    alloc: Global,
+    machine: &mut M,
+    source: &mut S,
+    sink: &mut K,
+) -> Result<(), RunFault>
+    ensures run { M.told → M.ready machine.old → M.kept machine.old
+        → BeginsSettled (M.state machine.old) (M.leaves machine.old)
+        → HasRun (M.state machine.old) (M.state machine.new) result
+        (S.content source.old) (S.content source.new) (K.content sink.old) (K.content sink.new)
+        (M.leaves machine.new) (M.ready machine.new) (M.kept machine.new) }
+    ensures memory { result ≡ Err fault.NoMemory
+        → (machine.new ≡ machine.old) × (source.new ≡ source.old) × (sink.new ≡ sink.old) }
+    ensures device { M.broken machine.old ≡ false → result ≡ Err fault.Device
+        → Rose (M.faults machine.old) (M.faults machine.new) }
+    ensures source { result ≡ Err fault.Source → Rose (S.faults source.old) (S.faults source.new) }
+    ensures sink { result ≡ Err fault.Sink → Rose (K.faults sink.old) (K.faults sink.new) }
+    ensures going_on { M.broken machine.old ≡ false → result ≢ Err fault.Device → M.broken machine.new ≡ false }
+    ensures device_counts { M.faults machine.old ≤ M.faults machine.new }
+    ensures source_counts { S.faults source.old ≤ S.faults source.new }
+    ensures sink_counts { K.faults sink.old ≤ K.faults sink.new }
+{
+    let Ok(mut line) = LineBuffer::new(alloc) else {
+        return Err(RunFault::NoMemory);
+    };
+    let mut room = SCRIPT_LIMIT;
+    'lines: loop {
+        match read_line(source, &mut room, &mut line) {
+            Err(_) => return Err(RunFault::Source),
+            Ok(Ending::PastLimit) => return Err(RunFault::TooLong),
+            Ok(Ending::ScriptEnd) => {
+                if line.bytes().is_empty() {
+                    return Ok(());
+                }
+                return answer::<L, M, K>(alloc, machine, line.bytes(), sink);
+            }
+            Ok(Ending::Newline) => answer::<L, M, K>(alloc, machine, line.bytes(), sink)?,
+        }
+    }
+}

@@ -1,0 +1,193 @@
+-- Walks of a bounded number of images, and the turns of a content.
+use Rattle.std.proofs.Common.{◌≡◌, ◌≢◌, ◌⊎◌, inl, inr, ℕ, zero, suc, ◌<◌, ◌≤◌, Bool, true, false, cond, List, Option, Some, None, refl, sym, ap, ◌∙◌, subst, arith, nat_lt}
+use Rattle.std.proofs.lemmas.Bool.{lt-ltb, le-ltb}
+use Rattle.sm_base.specs.declared.names.Name.{Name}
+use Rattle.sm_disk.specs.Sectors.{zeros}
+use Rattle.vg_meta.specs.Tables.{name_eq}
+use Rattle.vg_meta.proofs.NameLaws.{name_eq-true, name_eq-false}
+use Rattle.sm_machine.specs.Lists.{◌>>=◌}
+use Rattle.sm_standing.specs.Changes.{turns_of, parent_of, IsShort, renamed_parent, IsLinkedUp}
+use Rattle.sm_standing.specs.Checks.{depth}
+use Rattle.sm_standing.specs.Contents.{Content}
+use Rattle.sm_standing.specs.Images.{Image, Turn, here, up, held_or, turn_of, walk, reads, image_of}
+use Rattle.sm_standing.specs.Turns.{Turns, answer, Reads, IsClosed, SameBut}
+use Rattle.sm_standing.proofs.TurnLaws.{up_reads, here_reads, walked}
+
+-- ---- walks
+
+-- what a turn gives, with so many images to walk behind it
+abbrev turned : ℕ → Turns → Turn → List ℕ
+turned k f t = elim t [ here b ↦ b | up p ↦ walk k f p ]
+
+step_same : (f g : Turns) (k : ℕ) (t : Turn) → ((p : Name) → t ≡ up p → walk k g p ≡ walk k f p)
+    → turned k g t ≡ turned k f t
+step_same f g k (here b) rest = refl
+step_same f g k (up p) rest = rest p refl
+
+-- equal turns on a set that parents do not leave: the same walks there
+pub walk_same : (P : Name → Type 0) (f g : Turns) → IsClosed P f → ((n : Name) → P n → g n ≡ f n) → (k : ℕ) (n : Name) → P n → walk k g n ≡ walk k f n
+unfolding walk
+walk_same P f g inside same zero n is = refl
+walk_same P f g inside same (suc k) n is =
+    ap (λ t. elim t [ here b ↦ b | up p ↦ walk k g p ]) (same n is)
+    ∙ step_same f g k (f n) (λ p sent. walk_same P f g inside same k p (inside.closed n p is sent))
+
+walk_here : (f : Turns) (k : ℕ) (n : Name) → f n ≡ here zeros → walk k f n ≡ zeros
+unfolding walk
+walk_here f zero n h = refl
+walk_here f (suc k) n h = ap (λ t. elim t [ here b ↦ b | up p ↦ walk k f p ]) h
+
+walk_up : (f : Turns) (k : ℕ) (n p : Name) → f n ≡ up p → f p ≡ here zeros → walk k f n ≡ zeros
+unfolding walk
+walk_up f zero n p sent h = refl
+walk_up f (suc k) n p sent h = ap (λ t. elim t [ here b ↦ b | up q ↦ walk k f q ]) sent ∙ walk_here f k p h
+
+-- one name that answered with zeros answers so, or sends up to another that does
+abbrev pub IsZerosStill : Turns → Turns → Name → Type 0
+IsZerosStill f g x = (g x ≡ here zeros) ⊎ ((p : Name) × (g x ≡ up p) × (f p ≡ here zeros) × (p ≢ x))
+
+zeros_still : (f g : Turns) (x : Name) → SameBut f g x → IsZerosStill f g x → (k : ℕ) → walk k g x ≡ zeros
+zeros_still f g x same (inl h) k = walk_here g k x h
+zeros_still f g x same (inr w) k = walk_up g k x w.0 w.1 (same w.0 w.3 ∙ w.2)
+
+pub walk_zeros : (f g : Turns) (x : Name) → SameBut f g x → f x ≡ here zeros → IsZerosStill f g x → (k : ℕ) (n : Name) (b : Bool) → name_eq n x ≡ b → walk k g n ≡ walk k f n
+unfolding walk
+walk_zeros f g x same was still k n true is =
+    let at = name_eq-true n x is in
+    ap (walk k g) at ∙ zeros_still f g x same still k ∙ sym (walk_here f k x was) ∙ ap (walk k f) (sym at)
+walk_zeros f g x same was still zero n false is = refl
+walk_zeros f g x same was still (suc k) n false is =
+    ap (λ t. elim t [ here b ↦ b | up p ↦ walk k g p ]) (same n (name_eq-false n x is))
+    ∙ step_same f g k (f n) (λ p sent. walk_zeros f g x same was still k p (name_eq p x) refl)
+
+-- ---- turns of an image
+
+-- an image that sends up holds nothing there, and has that parent
+pub record SendsUp (o : Option Image) (s : ℕ) (p : Name) : Type 0 where
+  pub image : Image
+  pub there : o ≡ Some image
+  pub parent : image.parent ≡ Some p
+
+held-up : (b : Bool) (o : Option (List ℕ)) (q : Option Name) (p : Name) → cond b (held_or o q) (here zeros) ≡ up p → q ≡ Some p
+held-up true (Some bytes) q p h = absurd (let x = h in cc)
+held-up true None (Some r) p h = (let x = h in cc)
+held-up true None None p h = absurd (let x = h in cc)
+held-up false o q p h = absurd (let x = h in cc)
+
+pub turn-up : (s : ℕ) (o : Option Image) (p : Name) → turn_of s o ≡ up p → SendsUp o s p
+unfolding turn_of
+turn-up s None p h = absurd (let x = h in cc)
+turn-up s (Some i) p h = record { image = i; there = refl; parent = held-up (nat_lt s i.size) (i.own s) i.parent p h }
+
+-- the turn of an image within its size, and past it
+pub turn-within : (s : ℕ) (o : Option Image) (i : Image) → o ≡ Some i → s < i.size → turn_of s o ≡ held_or (i.own s) i.parent
+unfolding turn_of
+turn-within s o i is below = ap (turn_of s) is ∙ ap (λ b. cond b (held_or (i.own s) i.parent) (here zeros)) (lt-ltb s i.size below)
+
+pub turn-past : (s : ℕ) (o : Option Image) (i : Image) → o ≡ Some i → i.size ≤ s → turn_of s o ≡ here zeros
+unfolding turn_of
+turn-past s o i is past = ap (turn_of s) is ∙ ap (λ b. cond b (held_or (i.own s) i.parent) (here zeros)) (le-ltb s i.size past)
+
+-- ---- chains
+
+-- one image more than from the parent up
+pub depth_up : (c : Content) (k : ℕ) (n p : Name) → parent_of c n ≡ Some p → depth c (suc k) n ≡ suc (depth c k p)
+unfolding depth
+depth_up c k n p h = ap (λ o. suc (elim o [ None ↦ 0 | Some q ↦ depth c k q ])) h
+
+pub depth_top : (c : Content) (k : ℕ) (n : Name) → parent_of c n ≡ None → depth c (suc k) n ≡ 1
+unfolding depth
+depth_top c k n h = ap (λ o. suc (elim o [ None ↦ 0 | Some q ↦ depth c k q ])) h
+
+grows-step : (c : Content) (k : ℕ) (o : Option Name) → ((p : Name) → depth c (suc k) p ≤ suc (depth c k p))
+    → suc (elim o [ None ↦ 0 | Some p ↦ depth c (suc k) p ]) ≤ suc (suc (elim o [ None ↦ 0 | Some p ↦ depth c k p ]))
+grows-step c k None rest = omega arith
+grows-step c k (Some p) rest = omega (arith, rest p)
+
+-- one step more counts at most one image more
+pub depth_grows : (c : Content) (k : ℕ) (n : Name) → depth c (suc k) n ≤ suc (depth c k n)
+unfolding depth
+depth_grows c zero n = first (parent_of c n)
+  where
+    first : (o : Option Name) → suc (elim o [ None ↦ 0 | Some p ↦ 0 ]) ≤ 1
+    first None = omega arith
+    first (Some p) = omega arith
+depth_grows c (suc k) n = grows-step c k (parent_of c n) (λ p. depth_grows c k p)
+
+renamed-step : (rename : Name → Name) (a b : Content) (k : ℕ) (o : Option Name) → ((p : Name) → depth b k (rename p) ≡ depth a k p)
+    → suc (elim (renamed_parent rename o) [ None ↦ 0 | Some p ↦ depth b k p ]) ≡ suc (elim o [ None ↦ 0 | Some p ↦ depth a k p ])
+renamed-step rename a b k None rest = refl
+renamed-step rename a b k (Some p) rest = ap suc (rest p)
+
+-- a chain under other names is as long
+pub depth_renamed : (rename : Name → Name) (a b : Content) → ((n : Name) → parent_of b (rename n) ≡ renamed_parent rename (parent_of a n))
+    → (k : ℕ) (n : Name) → depth b k (rename n) ≡ depth a k n
+unfolding depth
+depth_renamed rename a b same zero n = refl
+depth_renamed rename a b same (suc k) n =
+    ap (λ o. suc (elim o [ None ↦ 0 | Some p ↦ depth b k p ])) (same n) ∙ renamed-step rename a b k (parent_of a n) (λ p. depth_renamed rename a b same k p)
+
+kept-step : (a b : Content) (k : ℕ) (o : Option Name) → ((p : Name) → depth b k p ≤ depth a k p)
+    → suc (elim o [ None ↦ 0 | Some p ↦ depth b k p ]) ≤ suc (elim o [ None ↦ 0 | Some p ↦ depth a k p ])
+kept-step a b k None rest = omega arith
+kept-step a b k (Some p) rest = omega (arith, rest p)
+
+-- two images up in k + 1 steps count at least as many as one in k + 1
+past-step : (a : Content) (k : ℕ) (v p : Name) → parent_of a v ≡ Some p → depth a k p ≤ depth a (suc k) v
+past-step a k v p h = omega (arith, depth_up a k v p h)
+
+linked-step : (a b : Content) (k : ℕ) (n : Name) → (parent_of b n ≡ parent_of a n)
+    ⊎ ((v : Name) × (p : Name) × (parent_of a n ≡ Some v) × (parent_of a v ≡ Some p) × (parent_of b n ≡ Some p))
+    → ((p : Name) → depth b k p ≤ depth a k p) → depth b (suc k) n ≤ depth a (suc k) n
+unfolding depth
+linked-step a b k n (inl same) rest = subst (λ o. suc (elim o [ None ↦ 0 | Some p ↦ depth b k p ]) ≤ depth a (suc k) n) (sym same) (kept-step a b k (parent_of a n) rest)
+linked-step a b zero n (inr (v, p, at, above, now)) rest = omega (arith, depth_up a 0 n v at, depth_up b 0 n p now, rest p)
+linked-step a b (suc k) n (inr (v, p, at, above, now)) rest =
+    omega (arith, depth_up a (suc k) n v at, depth_up b (suc k) n p now, rest p, depth_up a k v p above, depth_grows a k p)
+
+-- a chain past one image is no longer
+pub depth_linked : (a b : Content) → IsLinkedUp a b → (k : ℕ) (n : Name) → depth b k n ≤ depth a k n
+unfolding depth
+depth_linked a b linked zero n = omega arith
+depth_linked a b linked (suc k) n = linked-step a b k n (linked n) (λ p. depth_linked a b linked k p)
+
+-- ---- reading without a bound, and the walk
+
+ended-step : (c : Content) (s k : ℕ) (n : Name) → suc (elim (parent_of c n) [ None ↦ 0 | Some p ↦ depth c (suc k) p ]) ≤ suc k
+    → ((p : Name) → depth c (suc k) p ≤ k → (bytes : List ℕ) × (answer k (turns_of c s) p ≡ Some bytes))
+    → (t : Turn) → turn_of s (image_of c n) ≡ t → (bytes : List ℕ) × (elim t [ here b ↦ Some b | up p ↦ answer k (turns_of c s) p ] ≡ Some bytes)
+ended-step c s k n low rest (here b) is = (b, refl)
+ended-step c s k n low rest (up p) is =
+    let w = turn-up s (image_of c n) p is in
+    let at : parent_of c n ≡ Some p = ap (λ o. o >>= (λ i. i.parent)) w.there ∙ w.parent in
+    let counted = subst (λ o. suc (elim o [ None ↦ 0 | Some q ↦ depth c (suc k) q ]) ≤ suc k) at low in
+    rest p (omega (arith, counted))
+
+-- a chain of at most k images answers within k turns
+pub ended : (c : Content) (s k : ℕ) (n : Name) → depth c (suc k) n ≤ k → (bytes : List ℕ) × (answer k (turns_of c s) n ≡ Some bytes)
+unfolding depth answer
+ended c s zero n low = absurd (omega (arith, low))
+ended c s (suc k) n low = ended-step c s k n low (λ p h. ended c s k p h) (turn_of s (image_of c n)) refl
+
+once-step : (f : Turns) (k : ℕ) (n : Name) (b d : List ℕ) → ((p : Name) → answer k f p ≡ Some b → Reads f p d → d ≡ b) → Reads f n d
+    → (t : Turn) → f n ≡ t → elim t [ here x ↦ Some x | up p ↦ answer k f p ] ≡ Some b → d ≡ b
+once-step f k n b d rest reads (here x) is h = here_reads f n x d is reads ∙ (let e = h in cc)
+once-step f k n b d rest reads (up p) is h = rest p h (up_reads f n p d is reads)
+
+-- what is read is one value
+pub reads_once : (f : Turns) (k : ℕ) (n : Name) (b d : List ℕ) → answer k f n ≡ Some b → Reads f n d → d ≡ b
+unfolding answer
+reads_once f zero n b d h reads = absurd (let e = h in cc)
+reads_once f (suc k) n b d h reads = once-step f k n b d (λ p i r. reads_once f k p b d i r) reads (f n) refl h
+
+-- where the chain is short, the walk reads what turns without a bound read, and nothing else is read so
+pub short_reads : (c : Content) (n : Name) (s : ℕ) → IsShort c n → Reads (turns_of c s) n (reads c n s)
+unfolding reads
+short_reads c n s short =
+    let w = ended c s 30 n short in
+    (30, w.1 ∙ ap Some (sym (walked (turns_of c s) 30 n w.0 w.1)))
+
+pub reads_short : (c : Content) (n : Name) (s : ℕ) (bytes : List ℕ) → IsShort c n → Reads (turns_of c s) n bytes → bytes ≡ reads c n s
+reads_short c n s bytes short is =
+    let w = short_reads c n s short in
+    reads_once (turns_of c s) w.0 n (reads c n s) bytes w.1 is

@@ -1,0 +1,30 @@
+use Rattle.std.proofs.Common.{◌≡◌, ◌+◌, ◌++◌, ◌∷◌, [], false, length, replicate, sym, ap, subst, ◌∙◌, ℕ, List, Bool, rules, arith}
+use Rattle.vg_meta.specs.Tables.{AreVolumes, extents_in}
+use Rattle.vg_meta.specs.Kept.{HeldRow, rows_alone}
+use Rattle.vg_meta.specs.Taken.{IsMarked}
+use Rattle.vg_meta.proofs.ReadSteps.{Read, read_first, read_more, refilled}
+use Rattle.vg_meta.proofs.reading.volumes_at.Goals as goal
+
+pub loop-init : goal.loop-init
+loop-init c =
+    let none : c.in-Ok.met.items ≡ replicate c.args.count false = search rules in
+    read_first c.args.count c.args.bytes.now c.new-volumes.result.items c.in-Ok.met.items c.new-volumes.ensures.items none
+
+pub loop-preserved : goal.loop-preserved
+loop-preserved c =
+    let vs = c.loop.volumes.items in
+    let v = c.in-Ok-next_volume.read.0 in
+    let ws = c.next_volume.new.met in
+    let count : length c.deref_mut.result.now ≡ c.args.count = ap length c.deref_mut.ensures.value ∙ c.loop.invariant.long in
+    let same : length ws ≡ length c.deref_mut.result.now = search rules in
+    let full : length ws ≡ c.loop.met.len = omega (arith, same, count, c.loop.invariant.long, c.loop.met.ok.0) in
+    let kept = refilled c.loop.met.len ws c.loop.met.items full in
+    let pushed : c.push.new.self.items ≡ vs ++ v ∷ [] = search rules in
+    let volumes : AreVolumes c.args.count (rows_alone vs ++ v.row ∷ []) =
+    subst (λ (n : ℕ). AreVolumes n (rows_alone vs ++ v.row ∷ [])) count
+    (subst (λ (hs : List HeldRow). AreVolumes (length c.deref_mut.result.now) (rows_alone hs ++ v.row ∷ [])) c.deref.ensures.value c.in-Ok-next_volume.ensures.volumes) in
+    let marked : IsMarked (extents_in (rows_alone vs) ++ v.row.extents) ws =
+    subst (λ (hs : List HeldRow). IsMarked (extents_in (rows_alone hs) ++ v.row.extents) ws) c.deref.ensures.value c.in-Ok-next_volume.ensures.marks in
+    subst (λ (marks : List Bool). Read c.args.count c.args.bytes.now c.in-Ok-next_volume.read.1.now c.push.new.self.items marks (c.loop.counter + 1)) (sym kept)
+    (read_more c.args.count c.args.bytes.now c.loop.rest.now c.in-Ok-next_volume.read.1.now vs c.push.new.self.items v c.loop.met.items ws c.loop.counter
+    c.loop.invariant pushed c.in-Ok-next_volume.ensures.text volumes (same ∙ count) marked)

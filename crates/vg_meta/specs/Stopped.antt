@@ -1,0 +1,21 @@
+-- Why the volumes of a text were not read.
+use Rattle.std.specs.Prelude.{◌≡◌, ◌≢◌, ℕ, ◌<◌, ◌^◌, List, [], ◌∷◌, ◌++◌, length}
+use Rattle.std.specs.List.{flat_map}
+use Rattle.vg_meta.specs.declared.reading.Stopped.{Stopped}
+use Rattle.vg_meta.specs.declared.reading.Stopped.TheVariants.{Damaged, NoMemory}
+use Rattle.vg_meta.specs.Tables.{Row, AreVolumes}
+use Rattle.vg_meta.specs.Text.{volume_text}
+
+-- behind fewer than so many volumes no volume stands that goes on with them
+pub record IsCut (count number : ℕ) (bytes : List ℕ) (left : ℕ) : Type 0 where
+  pub front : List Row
+  pub rest : List ℕ
+  pub spelled : bytes ≡ flat_map volume_text front ++ rest
+  pub volumes : AreVolumes count front
+  pub fewer : length front < number
+  pub none : (r : Row) (more : List ℕ) → length r.extents < 2 ^ 32 → AreVolumes count (front ++ r ∷ []) → rest ≢ volume_text r ++ more
+  pub rest_length : left ≡ length rest
+
+abbrev pub IsStopped : ℕ → ℕ → List ℕ → Stopped → Type 0
+IsStopped count number bytes (Damaged left) = IsCut count number bytes left
+IsStopped count number bytes NoMemory = Unit {0}

@@ -1,0 +1,130 @@
+//! Reading the text of a table from left to right. Each reader answers what it read and the bytes behind it.
+
+ghost use Rattle.std.specs.Prelude.{◌≡◌, ◌≢◌, ◌<◌, ◌^◌, ◌++◌, ◌∷◌, ℕ, Bool, List, length, IfSome, IfNone, IfOk, IfErr};
+ghost use Rattle.std.specs.List.{AllByRecursion};
+ghost use Rattle.byteorder.specs.Endian.{big_bytes};
+ghost use Rattle.sm_base.specs.declared.names.Name.{Name};
+ghost use Rattle.sm_base.specs.Names.{IsName, spelling};
+ghost use Rattle.vg_meta.specs.Tables.{Row, IsVolume};
+ghost use Rattle.vg_meta.specs.Text.{flags_of, extents_text, volume_text};
+ghost use Rattle.vg_meta.specs.Unread.{IsUnread};
+
+use crate::allowed::suits_kind;
+use crate::volumes::Volume;
+use byteorder::{BigEndian, ByteOrder};
+use sm_base::Name;
+use std::alloc::Global;
+
+/// A number of 4 bytes; `None` exactly where they are not there.
+pub fn number_at(bytes: &[u8]) -> Option<(u32, &[u8])>
+    ensures number { IfSome result (λ x. bytes.now ≡ big_bytes 4 x.0 ++ x.1.now) }
+    ensures fits { IfSome result (λ x. x.0 < 2 ^ 32) }
+    ensures none { IfNone result (length bytes.now < 4) }
+{
+    if bytes.len() < 4 {
+        return None;
+    }
+    let (front, rest) = bytes.split_at(4);
+    Some((BigEndian::read_u32(front), rest))
+}
+
+/// A number of 8 bytes; `None` exactly where they are not there.
+pub fn long_number_at(bytes: &[u8]) -> Option<(u64, &[u8])>
+    ensures number { IfSome result (λ x. bytes.now ≡ big_bytes 8 x.0 ++ x.1.now) }
+    ensures fits { IfSome result (λ x. x.0 < 2 ^ 64) }
+    ensures none { IfNone result (length bytes.now < 8) }
+{
+    if bytes.len() < 8 {
+        return None;
+    }
+    let (front, rest) = bytes.split_at(8);
+    Some((BigEndian::read_u64(front), rest))
+}
+
+// A name behind its length; `None` exactly where no name stands so.
+fn name_at(bytes: &[u8]) -> Option<(Name, &[u8])>
+    ensures proper { IfSome result (λ x. IsName x.0) }
+    ensures name { IfSome result (λ x. bytes.now ≡ length (spelling x.0) ∷ spelling x.0 ++ x.1.now) }
+    ensures none { IfNone result ((n : Name) (rest : List ℕ) → IsName n → bytes.now ≢ length (spelling n) ∷ spelling n ++ rest) }
+{
+    let [size, rest @ ..] = bytes else {
+        return None;
+    };
+    let size = *size as usize;
+    if rest.len() < size {
+        return None;
+    }
+    let (spelled, rest) = rest.split_at(size);
+    let name = Name::read(spelled)?;
+    Some((name, rest))
+}
+
+// The two marks; `None` exactly where no flags stand so.
+fn marks_at(bytes: &[u8]) -> Option<(bool, bool, &[u8])>
+    ensures marks { IfSome result (λ x. bytes.now ≡ flags_of x.0 x.1 ∷ x.2.now) }
+    ensures none { IfNone result ((hidden fresh : Bool) (rest : List ℕ) → bytes.now ≢ flags_of hidden fresh ∷ rest) }
+{
+    match bytes {
+        [0, rest @ ..] => Some((false, false, rest)),
+        [1, rest @ ..] => Some((true, false, rest)),
+        [2, rest @ ..] => Some((false, true, rest)),
+        [3, rest @ ..] => Some((true, true, rest)),
+        _ => None,
+    }
+}
+
+/// Why a part was not read.
+#[derive(Clone, Copy, Debug, PartialEq, Eq)]
+pub enum Unread {
+    /// It does not stand there.
+    Damaged,
+    /// Memory ran out.
+    NoMemory,
+}
+
+// Extents behind their number; damaged exactly where no extents stand so.
+fn extents_at(alloc: Global, bytes: &[u8]) -> Result<(Vec<u32>, &[u8]), Unread>
+    ensures few { IfOk result (λ x. length x.0.items < 2 ^ 32) }
+    ensures fit { IfOk result (λ x. AllByRecursion (λ e. e < 2 ^ 32) x.0.items) }
+    ensures extents { IfOk result (λ x. bytes.now ≡ extents_text x.0.items ++ x.1.now) }
+    ensures damaged { IfErr result (λ e. IsUnread e ((es rest : List ℕ) → length es < 2 ^ 32 → bytes.now ≢ extents_text es ++ rest)) }
+{
+    let Some((count, mut rest)) = number_at(bytes) else {
+        return Err(Unread::Damaged);
+    };
+    let mut extents = Vec::new(alloc);
+    for _ in 0..count {
+        let Some((extent, after)) = number_at(rest) else {
+            return Err(Unread::Damaged);
+        };
+        if extents.push(extent).is_err() {
+            return Err(Unread::NoMemory);
+        }
+        rest = after;
+    }
+    Ok((extents, rest))
+}
+
+/// A volume with what its kind has; damaged exactly where no volume stands so.
+pub fn volume_at(alloc: Global, bytes: &[u8]) -> Result<(Volume, &[u8]), Unread>
+    ensures volume { IfOk result (λ x. IsVolume x.0.row) }
+    ensures few { IfOk result (λ x. length x.0.row.extents < 2 ^ 32) }
+    ensures fit { IfOk result (λ x. AllByRecursion (λ e. e < 2 ^ 32) x.0.row.extents) }
+    ensures text { IfOk result (λ x. bytes.now ≡ volume_text x.0.row ++ x.1.now) }
+    ensures damaged { IfErr result (λ e. IsUnread e ((r : Row) (rest : List ℕ) → IsVolume r → length r.extents < 2 ^ 32 → bytes.now ≢ volume_text r ++ rest)) }
+{
+    let Some((name, behind)) = name_at(bytes) else {
+        return Err(Unread::Damaged);
+    };
+    let Some((hidden, fresh, rest)) = marks_at(behind) else {
+        return Err(Unread::Damaged);
+    };
+    let (extents, after) = match extents_at(alloc, rest) {
+        Ok(read) => read,
+        Err(unread) => return Err(unread),
+    };
+    if !suits_kind(&name, hidden, fresh, &extents) {
+        return Err(Unread::Damaged);
+    }
+    Ok((Volume::new(name, hidden, fresh, extents), after))
+}

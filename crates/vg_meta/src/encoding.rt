@@ -1,0 +1,106 @@
+//! Writing the text of a table.
+
+ghost use Rattle.std.specs.Prelude.{◌≡◌, ◌≤◌, ◌<◌, ◌+◌, ◌-◌, ◌^◌, min, length};
+ghost use Rattle.std.specs.List.{flat_map, AllByRecursion};
+ghost use Rattle.byteorder.specs.Endian.{big_bytes};
+ghost use Rattle.vg_meta.specs.Kept.{rows_alone};
+ghost use Rattle.vg_meta.specs.Text.{flags_of, extents_text, volume_text};
+ghost use Rattle.vg_meta.specs.Writing.{Puts};
+
+use crate::volumes::Volume;
+use byteorder::{BigEndian, ByteOrder};
+
+fn put_bytes(to: &mut [u8], at: usize, bytes: &[u8]) -> usize
+    requires { at + length bytes.now ≤ length to.old }
+    ensures { Puts at bytes.now to.old to.new result }
+{
+    let end = at + bytes.len();
+    to[at..end].copy_from_slice(bytes);
+    end
+}
+
+/// Writes a number of 4 bytes at a place, and answers the place behind it.
+pub fn put_number(to: &mut [u8], at: usize, number: u32) -> usize
+    requires { at + 4 ≤ length to.old }
+    ensures { Puts at (big_bytes 4 number) to.old to.new result }
+{
+    let mut bytes = [0; 4];
+    BigEndian::write_u32(&mut bytes, number);
+    put_bytes(to, at, &bytes)
+}
+
+/// Writes a sequence number at a place, and answers the place behind it.
+pub fn put_sequence(to: &mut [u8], at: usize, sequence: u64) -> usize
+    requires { at + 8 ≤ length to.old }
+    ensures { Puts at (big_bytes 8 sequence) to.old to.new result }
+{
+    let mut bytes = [0; 8];
+    BigEndian::write_u64(&mut bytes, sequence);
+    put_bytes(to, at, &bytes)
+}
+
+fn flags(hidden: bool, fresh: bool) -> u8
+    ensures { result ≡ flags_of hidden fresh }
+{
+    match (hidden, fresh) {
+        (false, false) => 0,
+        (true, false) => 1,
+        (false, true) => 2,
+        (true, true) => 3,
+    }
+}
+
+/// Writes extents behind their number at a place, and answers the place behind them.
+fn put_extents(to: &mut [u8], at: usize, extents: &[u32]) -> usize
+    requires few { length extents.now < 2 ^ 32 }
+    requires room { at + length (extents_text extents.now) ≤ length to.old }
+    ensures { Puts at (extents_text extents.now) to.old to.new result }
+{
+    let mut end = put_number(to, at, extents.len() as u32);
+    for extent in extents {
+        end = put_number(to, end, *extent);
+    }
+    end
+}
+
+/// Writes a volume at a place, and answers the place behind it.
+fn put_volume(to: &mut [u8], at: usize, volume: &Volume) -> usize
+    requires few { length volume.now.row.extents < 2 ^ 32 }
+    requires room { at + length (volume_text volume.now.row) ≤ length to.old }
+    ensures { Puts at (volume_text volume.now.row) to.old to.new result }
+{
+    let mut name = [0; 128];
+    let size = volume.name().spell(&mut name);
+    let name_at = put_bytes(to, at, &[size as u8]);
+    let flags_at = put_bytes(to, name_at, &name[..size]);
+    let extents_at = put_bytes(
+        to,
+        flags_at,
+        &[flags(volume.is_hidden(), volume.is_fresh())],
+    );
+    put_extents(to, extents_at, volume.extents())
+}
+
+/// Writes volumes at a place, and answers the place behind them.
+pub fn put_volumes(to: &mut [u8], at: usize, volumes: &[Volume]) -> usize
+    requires few { AllByRecursion (λ v. length v.row.extents < 2 ^ 32) volumes.now }
+    requires room { at + length (flat_map volume_text (rows_alone volumes.now)) ≤ length to.old }
+    ensures { Puts at (flat_map volume_text (rows_alone volumes.now)) to.old to.new result }
+{
+    let mut end = at;
+    for volume in volumes {
+        end = put_volume(to, end, volume);
+    }
+    end
+}
+
+/// The length of the volumes' texts in bytes, or the greatest `usize` where it passes that.
+pub fn volumes_length(volumes: &[Volume]) -> usize
+    ensures { result ≡ min (length (flat_map volume_text (rows_alone volumes.now))) (2 ^ 64 - 1) }
+{
+    let mut total: usize = 0;
+    for volume in volumes {
+        total = total.saturating_add(volume.text_length());
+    }
+    total
+}
