@@ -1,4 +1,20 @@
-//! (to be written)
+//! The table of a volume group: which volumes there are, and which extents each has.
+//!
+//! **What is kept here.** A [`Table`] has a sequence number and its [`Volume`]s in order of name. A volume has its
+//! name, two flags (hidden, fresh) and its extents by number, in order. Nothing here reads or writes a device:
+//! a table is changed in memory by a [`Change`], and its text goes to bytes and comes from bytes.
+//!
+//! **The model** (`specs/`). `Tables` says what a table is, `Changes` which changes are allowed and what table each
+//! leaves, `Text` how a table is spelled, number by number, and `Reading` where a text that spells none goes
+//! wrong first. `Kept` has beside the table the rows, and the extents of each volume, that may still be added
+//! without memory.
+//!
+//! **What it promises.** A table is at all times a table: names rise, and no extent belongs to two volumes.
+//! [`Table::allows`] answers exactly whether a change is allowed, and [`Table::apply`] leaves exactly the changed
+//! table, without memory where room was made before. [`Table::decode`] reads exactly the texts that
+//! [`Table::encode`] writes; of other bytes it says where the first part stands that does not fit. Lengths and
+//! places are in bytes, extents are counted. Finding a volume costs a pass over the names, and writing or reading
+//! a text costs one pass.
 #![tactic(auto)]
 
 mod allowed;
