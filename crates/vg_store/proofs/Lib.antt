@@ -1,0 +1,5 @@
+pub mod CommitLaws
+pub mod ImageLaws
+pub mod OpeningLaws
+pub mod Spellings
+pub mod TurnLaws

@@ -1,0 +1,14 @@
+use Rattle.std.proofs.Common.{◌≡◌, ℕ, ◌*◌, sum, arith}
+use Rattle.vg_meta.specs.Kept.{listing}
+use Rattle.vg_meta.specs.Text.{text}
+use Rattle.vg_layout.specs.Fields.{plate, pointer}
+use Rattle.vg_store.proofs.ImageLaws.{plate_few}
+use Rattle.vg_store.proofs.CommitLaws.{leaves_before}
+use Rattle.vg_store.proofs.groups.Group.into_disk.Goals as goal
+
+pub returns-clause-leaves : goal.returns-clause-leaves
+returns-clause-leaves g c = λ told usable u image left.
+    let s = c.args.self in
+    let rests = s.rests told usable in
+    leaves_before (g.D.Disk.size s.disk) (s.label.extents * s.label.geometry.extent) (g.D.Disk.held s.disk) (plate s.label) (pointer s.header) (listing s.table) u (text (listing s.table)) image s.area
+    (record { rests = rests; summed = s.summed; spelled = s.spelled; few = plate_few _ _ (plate s.label) rests.labelled }) left

@@ -1,0 +1,58 @@
+-- What stands on the device of an open volume group, and what a stop may leave of it (this project's format).
+use Rattle.std.specs.Prelude.{◌≡◌, ℕ, ◌+◌, ◌-◌, ◌*◌, ◌^◌, ◌<◌, ◌≤◌, List, [], length, take, sum, Ok}
+use Rattle.sm_base.specs.Numbers.{div_up}
+use Rattle.sm_disk.specs.Held.{Held, Allows, moved}
+use Rattle.vg_meta.specs.Tables.{Listing}
+use Rattle.vg_meta.specs.Reading.{Spells}
+use Rattle.vg_layout.specs.Places.{area_place}
+use Rattle.vg_layout.specs.Sectors.{Plate, Pointer}
+use Rattle.vg_layout.specs.Opening.{Standing, StandsOn, plate_of, pointer_of, text_in, text_limit}
+use Rattle.vg_volumes.specs.Commits.{IsEither}
+
+-- the sectors of all extents: those of the device from the first extent on
+abbrev pub area_of : Held → Held
+area_of h = moved (λ q. area_place + q) h
+
+-- in front of the extents nothing is pending, and there stand this label, this header and this text
+pub record Rests (size : ℕ) (h : Held) (p : Plate) (at : Pointer) (bytes : List ℕ) : Type 0 where
+  pub still : (q : ℕ) → q < area_place → h.pending q ≡ []
+  pub labelled : plate_of size h.floor ≡ Ok p
+  pub headed : pointer_of h.floor ≡ Ok at
+  pub text : text_in h.floor at ≡ bytes
+
+-- a stop may leave this table and these sectors of the extents: they are those of one image that the device
+-- allows, on which a group stands with this plate and this table
+pub record Leaves (size area : ℕ) (h : Held) (p : Plate) (t : Listing) (image : ℕ → List ℕ) : Type 0 where
+  pub whole : ℕ → List ℕ
+  pub allowed : Allows size h whole
+  pub pointer : Pointer
+  pub stands : StandsOn size whole (record { plate = p; pointer = pointer; table = t })
+  pub sectors : (q : ℕ) → q < area → image q ≡ whole (area_place + q)
+
+-- a group that stands, with the table that its text spells
+pub record IsGroup (size : ℕ) (h : Held) (p : Plate) (at : Pointer) (t : Listing) (bytes : List ℕ) : Type 0 where
+  pub rests : Rests size h p at bytes
+  pub summed : sum bytes ≡ at.total
+  pub spelled : Spells p.count bytes t
+  pub few : p.count ≤ 65536
+
+-- a header of the other slot, and sectors that begin with its text, which spells the next table
+pub record IsNext (p : Plate) (at next : Pointer) (u : Listing) (written : List ℕ) : Type 0 where
+  pub slot : next.slot ≡ 1 - at.slot
+  pub size : next.size ≤ text_limit
+  pub total_fits : next.total < 2 ^ 32
+  pub long : length written ≡ 512 * div_up next.size 512
+  pub total : sum (take next.size written) ≡ next.total
+  pub spelled : Spells p.count (take next.size written) u
+
+-- after a turn of a group to its next table, which may have failed, a stop leaves one of the two
+abbrev pub LeavesEither : ℕ → Held → Held → Pointer → List ℕ → Type 0
+LeavesEither size old new next written =
+    (area : ℕ) (p : Plate) (at : Pointer) (t u : Listing) (bytes : List ℕ) → IsGroup size old p at t bytes → IsNext p at next u written → area_place + area ≤ size
+    → (v : Listing) (image : ℕ → List ℕ) → Leaves size area new p v image → IsEither area t u (area_of old) v image
+
+-- and after one that succeeded the group stands with the next table
+abbrev pub IsTurned : ℕ → Held → Held → Pointer → List ℕ → Type 0
+IsTurned size old new next written =
+    (p : Plate) (at : Pointer) (t u : Listing) (bytes : List ℕ) → IsGroup size old p at t bytes → IsNext p at next u written
+    → IsGroup size new p next u (take next.size written)
