@@ -1,0 +1,88 @@
+-- A line and its first word.
+use Rattle.std.proofs.Common.{◌≡◌, ◌≢◌, ℕ, ◌<◌, ◌≤◌, Bool, true, false, true≢false, List, ◌∷◌, ◌++◌, codes, length, nat_eq, nat_le, IsTrue, Option, Some, None, Bor, Result, Ok, Err, IfOk, if◌then◌else◌, arith, refl, sym, ap, subst, ◌∙◌}
+use Rattle.std.specs.Prelude.{option_copied, IsSome, IsErr}
+use Rattle.std.specs.List.{starts_with}
+use Rattle.std.specs.Str.{bytes_eq}
+use Rattle.std.proofs.lemmas.Bool.Decides.{nat_tests}
+use Rattle.std.proofs.lemmas.Slice.Eq.{bytes_eq-Decides}
+use Rattle.sm_machine.specs.Lines.{after_write, spelled, spelled_words, words}
+use Rattle.sm_machine.specs.declared.commands.Command.{Command}
+use Rattle.sm_script.specs.Cuts.{behind}
+use Rattle.sm_script.specs.declared.lines.LineFault.{LineFault}
+
+-- a line that is too long
+pub spelled-long : (line : List ℕ) → 65536 < length line → spelled line ≡ None
+unfolding spelled
+spelled-long line long = by (nat_le (length line) 65536) (grind (arith, nat_tests))
+  where
+    by : (t : Bool) → t ≡ false → (if t then spelled_words (words line) else None) ≡ None
+    by true e = cc
+    by false e = refl
+
+-- another line spells what its words do
+pub spelled-short : (line verb : List ℕ) (rest : List (List ℕ)) → length line ≤ 65536 → words line ≡ verb ∷ rest → spelled_words (verb ∷ rest) ≡ spelled line
+unfolding spelled
+spelled-short line verb rest short e =
+    ap spelled_words (sym e) ∙ by (nat_le (length line) 65536) (grind (arith, nat_tests))
+  where
+    by : (t : Bool) → t ≡ true → spelled_words (words line) ≡ (if t then spelled_words (words line) else None)
+    by true e = refl
+    by false e = cc
+
+pub same_word : (verb word text : List ℕ) → true ≡ bytes_eq verb text → text ≡ word → verb ≡ word
+same_word verb word text e is = (bytes_eq-Decides verb text).0 (sym e) ∙ is
+
+pub other_word : (verb word text : List ℕ) → false ≡ bytes_eq verb text → text ≡ word → verb ≢ word
+other_word verb word text e is = λ same. true≢false (sym ((bytes_eq-Decides verb text).1 (same ∙ sym is)) ∙ sym e)
+
+not_word : (verb word : List ℕ) → verb ≢ word → false ≡ bytes_eq verb word
+not_word verb word apart = by (bytes_eq verb word) (bytes_eq-Decides verb word).0
+  where
+    by : (t : Bool) → (t ≡ true → verb ≡ word) → false ≡ t
+    by true h = absurd (apart (h refl))
+    by false h = refl
+
+pub spelled_words-write : (verb : List ℕ) (rest : List (List ℕ)) → verb ≡ codes "write" → after_write rest ≡ spelled_words (verb ∷ rest)
+unfolding spelled_words
+spelled_words-write verb rest is = ap (λ v. spelled_words (v ∷ rest)) (sym is)
+
+-- a first word that is none of the commands
+pub spelled_words-none : (verb : List ℕ) (rest : List (List ℕ)) → verb ≢ codes "write"
+    → verb ≢ codes "create" → verb ≢ codes "delete" → verb ≢ codes "attach" → verb ≢ codes "detach" → verb ≢ codes "snapshot"
+    → verb ≢ codes "clone" → verb ≢ codes "resize" → verb ≢ codes "label" → verb ≢ codes "fill" → verb ≢ codes "read"
+    → verb ≢ codes "flush" → verb ≢ codes "gc" → verb ≢ codes "list" → verb ≢ codes "stat" → None ≡ spelled_words (verb ∷ rest)
+unfolding spelled_words
+spelled_words-none verb rest n1 n2 n3 n4 n5 n6 n7 n8 n9 n10 n11 n12 n13 n14 n15 =
+    let write = not_word verb (codes "write") n1 in
+    let create = not_word verb (codes "create") n2 in
+    let delete = not_word verb (codes "delete") n3 in
+    let attach = not_word verb (codes "attach") n4 in
+    let detach = not_word verb (codes "detach") n5 in
+    let snapshot = not_word verb (codes "snapshot") n6 in
+    let copy = not_word verb (codes "clone") n7 in
+    let resize = not_word verb (codes "resize") n8 in
+    let label = not_word verb (codes "label") n9 in
+    let fill = not_word verb (codes "fill") n10 in
+    let read = not_word verb (codes "read") n11 in
+    let flush = not_word verb (codes "flush") n12 in
+    let gc = not_word verb (codes "gc") n13 in
+    let list = not_word verb (codes "list") n14 in
+    let stat = not_word verb (codes "stat") n15 in
+    rw (← create, ← delete, ← attach, ← detach, ← snapshot, ← copy, ← resize, ← label, ← write, ← fill, ← read, ← flush, ← gc, ← list, ← stat) refl
+
+-- what holds of the answer, of the same words
+pub answered : (r : Result Command LineFault) (o p : Option Command) → o ≡ p → IfOk r (λ c. o ≡ Some c) → IfOk r (λ c. p ≡ Some c)
+answered (Ok c) o p e told = sym e ∙ told
+answered (Err x) o p e told = tt
+
+pub none_answered : (r : Result Command LineFault) (o : Option Command) → IfOk r (λ c. o ≡ Some c) → o ≡ None → IsErr r
+none_answered (Ok c) o told none = cc
+none_answered (Err x) o told none = refl
+
+-- a line of `write` and a space
+pub write_front : (line verb : List ℕ) (rest : Option (Bor (List ℕ))) → IsSome rest → line ≡ verb ++ behind (option_copied rest) → verb ≡ codes "write"
+    → IsTrue (starts_with nat_eq line (codes "write "))
+write_front line verb None some bytes is = cc some
+write_front line verb (Some more) some bytes is =
+    let P : List ℕ → Type 0 = λ l. IsTrue (starts_with nat_eq l (codes "write ")) in
+    subst P (sym (bytes ∙ ap (λ v. v ++ (32 ∷ more.now)) is)) refl

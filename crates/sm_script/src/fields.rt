@@ -1,0 +1,119 @@
+//! The words of a line, read one by one. Each answers the value that the word spells, or `None` where it
+//! spells none. `uuid` takes other forms of text too, and std a sign and leading zeros: those are refused
+//! first.
+
+ghost use Rattle.std.specs.Prelude.{◌≡◌, ◌≢◌, None, Some, Err, IfOk};
+ghost use Rattle.std.specs.Char.{is_ascii_digit};
+ghost use Rattle.std.specs.List.{list_all};
+ghost use Rattle.hex.specs.declared.error.FromHexError.TheVariants.{OutOfMemory};
+ghost use Rattle.sm_machine.specs.Lines.{byte_of, is_number, is_raw_of, mode_of, number_of, sectors_of, uuid_of};
+ghost use Rattle.sm_script.specs.declared.lines.LineFault.TheVariants.{BadLine, NoMemory};
+
+use crate::lines::LineFault;
+use hex::FromHexError;
+use sm_base::Mode;
+use sm_machine::Bytes;
+use std::alloc::Global;
+use std::str;
+use uuid::Uuid;
+
+/// A UUID of 36 characters.
+pub fn uuid_in(word: &[u8]) -> Option<Uuid>
+    ensures { result ≡ uuid_of word.now }
+{
+    if word.len() != 36 {
+        return None;
+    }
+    Uuid::try_parse_ascii(word).ok()
+}
+
+/// A decimal number up to 2^64 - 1.
+pub fn number_in(word: &[u8]) -> Option<u64>
+    ensures { result ≡ number_of word.now }
+{
+    if !has_digits(word) {
+        return None;
+    }
+    str::from_utf8(word).ok()?.parse().ok()
+}
+
+/// Whether a word has decimal digits alone, at least one, and no 0 before another digit.
+fn has_digits(word: &[u8]) -> bool
+    ensures { result ≡ is_number word.now }
+{
+    if word.is_empty() {
+        return false;
+    }
+    all_digits(word) && (word.len() == 1 || word[0] != b'0')
+}
+
+/// Whether each byte is a decimal digit.
+fn all_digits(word: &[u8]) -> bool
+    ensures { result ≡ list_all is_ascii_digit word.now }
+{
+    word.iter().all(|byte| byte.is_ascii_digit())
+}
+
+/// Whether a disk is to be raw.
+#[tactic(auto, unfolding(sm_machine::specs::Lines::is_raw_of))]
+pub fn is_raw_in(word: &[u8]) -> Option<bool>
+    ensures { result ≡ is_raw_of word.now }
+{
+    if word == b"vhd".as_slice() {
+        Some(false)
+    } else if word == b"raw".as_slice() {
+        Some(true)
+    } else {
+        None
+    }
+}
+
+/// How a disk is to be attached.
+#[tactic(auto, unfolding(sm_machine::specs::Lines::mode_of))]
+pub fn mode_in(word: &[u8]) -> Option<Mode>
+    ensures { result ≡ mode_of word.now }
+{
+    if word == b"ro".as_slice() {
+        Some(Mode::Ro)
+    } else if word == b"rw".as_slice() {
+        Some(Mode::Rw)
+    } else {
+        None
+    }
+}
+
+/// One byte, of two hexadecimal digits.
+pub fn byte_in(word: &[u8]) -> Option<u8>
+    ensures { result ≡ byte_of word.now }
+{
+    let mut byte = [0];
+    match hex::decode_to_slice(word, &mut byte) {
+        Ok(()) => Some(byte[0]),
+        Err(_) => None,
+    }
+}
+
+/// The bytes of whole sectors, at least one: 1,024 hexadecimal digits for each.
+pub fn sectors_in(alloc: Global, word: &[u8]) -> Result<Bytes, LineFault>
+    ensures ok { IfOk result (λ bytes. sectors_of word.now ≡ Some bytes) }
+    ensures bad { result ≡ Err BadLine → sectors_of word.now ≡ None }
+{
+    if word.is_empty() || word.len() % 1024 != 0 {
+        return Err(LineFault::BadLine);
+    }
+    match hex::decode(alloc, word) {
+        Ok(bytes) => Ok(Bytes { bytes }),
+        Err(fault) => Err(line_fault(fault)),
+    }
+}
+
+// Want of memory, or else a digit that is none.
+fn line_fault(fault: FromHexError) -> LineFault
+    ensures memory { fault ≡ OutOfMemory → result ≡ NoMemory }
+    ensures digit { fault ≢ OutOfMemory → result ≡ BadLine }
+{
+    match fault {
+        FromHexError::OutOfMemory => LineFault::NoMemory,
+        _ => LineFault::BadLine,
+    }
+}

@@ -1,0 +1,38 @@
+//! The script: reading its lines and printing the replies.
+//!
+//! Kept here: nothing on a device, and nothing is left by a stop. A line is read into a [`Command`] and a
+//! [`Reply`] is printed as one line of text; both are the machine's types, whose definitions say how a line
+//! spells a command and how a reply is printed. Lines, words and texts are in bytes, sizes in commands and
+//! replies too.
+//!
+//! What is promised: [`Line::read`] answers the command that the line spells, and [`LineFault::BadLine`] only
+//! where it spells none, so whatever the libraries take beyond the grammar is refused (a UUID in braces or
+//! without hyphens, a number with a sign or a leading zero). [`Print::print`] writes the reply's text, or
+//! fails where the sink's faults rose and has then written a front of it.
+//!
+//! What it costs: a line is cut in one pass over its bytes, which stops at a word too many, and each word is
+//! read once; only the bytes of `write` take memory. Printing takes none, and writes a word of at most 128
+//! bytes at a time.
+//!
+//! The definitions of the grammar and of the printed text are those of `sm_machine` (`Lines`, `Replies`). In
+//! `specs/` here: `Cuts` (what stands behind a line's first word), and `Pieces` (what a call did that was to
+//! write a text).
+#![tactic(auto)]
+
+mod cuts;
+mod fields;
+mod lines;
+mod listings;
+mod parts;
+mod pieces;
+mod printing;
+mod refusals;
+mod steps;
+mod words;
+
+pub use lines::{Line, LineFault};
+pub use printing::Print;
+pub use sm_machine::{Bytes, Command, DiskRow, DiskRows, Reply, StatRow, StatRows};
+
+#[cfg(test)]
+mod tests;
