@@ -5,3 +5,4 @@ pub mod Guests
 pub mod Scripts
 pub mod Today
 pub mod Texts
+pub mod Crowds

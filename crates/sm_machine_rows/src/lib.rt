@@ -13,6 +13,7 @@ ghost use Rattle.sm_machine.specs.Runs.{replies};
 ghost use Rattle.sm_machine_rows.specs.Texts.{answered, long_line, poor_once, states_after};
 ghost use Rattle.sm_machine_rows.specs.Today.{raw_disks};
 ghost use Rattle.sm_machine_rows.specs.Disks.{empty, grown, one_disk, order, refused, reserved, sizes, spent};
+ghost use Rattle.sm_machine_rows.specs.Crowds.{crowded_from, crowded};
 ghost use Rattle.sm_machine_rows.specs.Guests.{fork_room, snapshot_of_attached, guest_writes, shared_base, no_room, raw_base};
 ghost use Rattle.sm_machine_rows.specs.Collecting.{coalesce, given_up, fold, blocked};
 ghost use Rattle.sm_machine_rows.specs.Scripts.{IsAnswered, IsAnsweredToday, after, new, spent_from, whole};
@@ -50,6 +51,11 @@ pub fn script_reserved()
 /// The sequence number is nearly used up.
 pub fn script_spent()
     ensures replies { IsAnswered (spent_from (after whole new reserved)) spent }
+{}
+
+/// 500 images are the most.
+pub fn script_crowded()
+    ensures replies { IsAnswered (crowded_from new) crowded }
 {}
 
 /// An attached disk gets a snapshot.
