@@ -1,6 +1,6 @@
 //! The places of the records, and what is read and written of them.
 
-ghost use Rattle.std.specs.Prelude.{◌≡◌, ◌≤◌, ◌<◌, ◌+◌, ◌*◌, ◌⊎◌, ◌++◌, ℕ, List, Option, Some, None, IsSome, IfSome, length, map, take, drop, OnOk, OnErr, IfOk, IfErr, find, unwrap_or, count_by, position, is_none, slice_index_or};
+ghost use Rattle.std.specs.Prelude.{◌≡◌, ◌≤◌, ◌<◌, ◌+◌, ◌*◌, ◌⊎◌, ◌++◌, ℕ, List, Option, Some, None, IsSome, IfSome, length, map, take, drop, OnOk, OnErr, IfOk, IfErr, find, unwrap_or, count_by, position, is_none, is_some, slice_index_or};
 ghost use Rattle.std.specs.Option.{option_copied};
 ghost use Rattle.std.specs.List.{slice_get, slice_set};
 ghost use Rattle.sm_base.specs.declared.faults.OpenFault.TheVariants.{NoMemory};
@@ -204,6 +204,13 @@ impl Mgt {
         ensures { slice_get self.now place ≡ Some (option_copied result) }
     {
         self.places[place as usize].as_ref()
+    }
+
+    /// Whether there is a place for a record of this UUID: one that has it, or a free one.
+    pub fn has_room(&self, uuid: &Uuid) -> bool
+        ensures { result ≡ is_some (place_for self.now uuid.now) }
+    {
+        place_of(&self.places, uuid).is_some()
     }
 
     /// Writes a record over the one of the same UUID, else into the least free place. One sector is written,

@@ -7,20 +7,15 @@ ghost use Rattle.sm_machine.specs.Runs.{face};
 ghost use Rattle.sm_run.specs.Parts.{front_of, HasStepped, HasAnswered};
 ghost use Rattle.sm_run.specs.declared.runs.RunFault.TheVariants.{Device, Sink as SinkFault};
 
-use crate::readers::{LineFault, Reader};
 use crate::runs::RunFault;
 use crate::steps::{StepFault, Steps};
 use sm_base::Refusal;
 use sm_disk::Sink;
-use sm_machine::Reply;
+use sm_script::{Line, LineFault, Print, Reply};
 use std::alloc::Global;
 
 /// Takes the step of one line, given by what the buffer keeps of it. A line that spells nothing is refused without one.
-pub fn take_step<L: Reader, M: Steps>(
-    alloc: Global,
-    machine: &mut M,
-    line: &[u8],
-) -> Result<Reply, StepFault>
+pub fn take_step<M: Steps>(alloc: Global, machine: &mut M, line: &[u8]) -> Result<Reply, StepFault>
     ensures stepped { M.told → M.ready machine.old → M.kept machine.old
         → ((ds : List Disk) → M.leaves machine.old ds → map face ds ≡ map face (M.state machine.old).disks)
         → (whole : List ℕ) → line.now ≡ front_of whole
@@ -30,7 +25,7 @@ pub fn take_step<L: Reader, M: Steps>(
     ensures device { M.broken machine.old ≡ false → OnErr result (Rose (M.faults machine.old) (M.faults machine.new)) }
     ensures going_on { M.broken machine.old ≡ false → OnOk result (M.broken machine.new ≡ false) }
 {
-    match L::read(alloc, line) {
+    match Line::read(alloc, line) {
         Ok(command) => machine.step(alloc, &command),
         Err(LineFault::BadLine) => Ok(Reply::No(Refusal::BadLine)),
         Err(LineFault::NoMemory) => Ok(Reply::No(Refusal::NoMemory)),
@@ -38,7 +33,7 @@ pub fn take_step<L: Reader, M: Steps>(
 }
 
 /// Steps one line and sends its whole reply.
-pub fn answer<L: Reader, M: Steps, K: Sink>(
+pub fn answer<M: Steps, K: Sink>(
     alloc: Global,
     machine: &mut M,
     line: &[u8],
@@ -56,10 +51,10 @@ pub fn answer<L: Reader, M: Steps, K: Sink>(
     ensures sink { result ≡ Err SinkFault → Rose (K.faults sink.old) (K.faults sink.new) }
     ensures going_on { M.broken machine.old ≡ false → result ≢ Err Device → M.broken machine.new ≡ false }
 {
-    let Ok(reply) = take_step::<L, M>(alloc, machine, line) else {
+    let Ok(reply) = take_step(alloc, machine, line) else {
         return Err(RunFault::Device);
     };
-    match L::print(&reply, sink) {
+    match reply.print(sink) {
         Ok(()) => Ok(()),
         Err(_) => Err(RunFault::Sink),
     }

@@ -2,10 +2,10 @@
 //! next byte is read.
 //!
 //! **What is kept here.** Nothing on a device. [`Steps`] is the trait of what is stepped, over a device or over
-//! anything else; [`Reader`] reads a line into a command and prints a reply. A script is bytes, at most 2^40 of them;
-//! a line ends with a newline or with the script's end, and an end directly behind a newline, or before any byte, ends
-//! no further line. A line longer than 65,536 bytes spells nothing, so one byte more than that is all that is kept
-//! of it.
+//! anything else; lines are read and replies are printed as the script's language has it. A script is bytes, at most
+//! 2^40 of them; a line ends with a newline or with the script's end, and an end directly behind a newline, or before
+//! any byte, ends no further line. A line longer than 65,536 bytes spells nothing, so one byte more than that is all
+//! that is kept of it.
 //!
 //! **What is promised.** [`run`] says it in one record, `HasRun` (`specs/Runs.antt`), by its answer. There are the
 //! bytes that were taken from the source, and the turns: the lines whose replies went out whole, each with whether it
@@ -27,12 +27,10 @@
 mod answers;
 mod buffers;
 mod laws;
-mod readers;
 mod reading;
 mod runs;
 mod steps;
 
 pub use laws::{law_after, law_during, law_settled};
-pub use readers::{LineFault, Reader};
 pub use runs::{RunFault, run};
 pub use steps::{StepFault, Steps};

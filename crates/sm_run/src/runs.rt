@@ -7,7 +7,6 @@ ghost use Rattle.sm_run.specs.declared.runs.RunFault.TheVariants as fault;
 
 use crate::answers::answer;
 use crate::buffers::LineBuffer;
-use crate::readers::Reader;
 use crate::reading::{Ending, read_line};
 use crate::steps::Steps;
 use sm_disk::{Sink, Source};
@@ -32,7 +31,7 @@ pub enum RunFault {
 }
 
 /// Takes one step for each line of the source, and sends its whole reply before the next byte is read.
-pub fn run<L: Reader, M: Steps, S: Source, K: Sink>(
+pub fn run<M: Steps, S: Source, K: Sink>(
     alloc: Global,
     machine: &mut M,
     source: &mut S,
@@ -66,9 +65,9 @@ pub fn run<L: Reader, M: Steps, S: Source, K: Sink>(
                 if line.bytes().is_empty() {
                     return Ok(());
                 }
-                return answer::<L, M, K>(alloc, machine, line.bytes(), sink);
+                return answer(alloc, machine, line.bytes(), sink);
             }
-            Ok(Ending::Newline) => answer::<L, M, K>(alloc, machine, line.bytes(), sink)?,
+            Ok(Ending::Newline) => answer(alloc, machine, line.bytes(), sink)?,
         }
     }
 }

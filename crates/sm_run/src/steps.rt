@@ -10,7 +10,7 @@ ghost use Rattle.sm_machine.specs.Runs.{is_accepted, is_settling, face};
 ghost use Rattle.sm_run.specs.Between.{IsBetween, IsSettledAs};
 ghost use Rattle.sm_run.specs.declared.steps.StepFault.TheVariants.{Device, Broken};
 
-use sm_machine::{Command, Reply};
+use sm_script::{Command, Reply};
 use std::alloc::Global;
 
 /// Why a step gave no reply.

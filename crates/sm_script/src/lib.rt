@@ -14,6 +14,9 @@
 //! read once; only the bytes of `write` take memory. Printing takes none, and writes a word of at most 128
 //! bytes at a time.
 //!
+//! For other words than those of a script, as the program's own, there are [`number_in`] and [`uuid_in`], which
+//! read one, and [`Word`] and [`write_line`], which print a line of them.
+//!
 //! The definitions of the grammar and of the printed text are those of `sm_machine` (`Lines`, `Replies`). In
 //! `specs/` here: `Cuts` (what stands behind a line's first word), and `Pieces` (what a call did that was to
 //! write a text).
@@ -30,9 +33,12 @@ mod refusals;
 mod steps;
 mod words;
 
+pub use fields::{number_in, uuid_in};
 pub use lines::{Line, LineFault};
+pub use pieces::write_line;
 pub use printing::Print;
 pub use sm_machine::{Bytes, Command, DiskRow, DiskRows, Reply, StatRow, StatRows};
+pub use words::Word;
 
 #[cfg(test)]
 mod tests;

@@ -1,8 +1,8 @@
 // A reply's text, written word by word.
 
-ghost use Rattle.std.specs.Prelude.{◌∷◌};
+ghost use Rattle.std.specs.Prelude.{[], ◌∷◌, ◌++◌};
 ghost use Rattle.std.specs.List.{join_with_byte};
-ghost use Rattle.sm_machine.specs.Replies.{hex_text};
+ghost use Rattle.sm_machine.specs.Replies.{by_spaces, hex_text};
 ghost use Rattle.sm_script.specs.Pieces.{Writes, led};
 
 use crate::words::Word;
@@ -39,6 +39,15 @@ pub fn write_joined<K: Sink>(sink: &mut K, separator: u8, words: &[Word]) -> Res
     };
     write_all(sink, first.bytes())?;
     write_led(sink, separator, rest)
+}
+
+/// Writes a line: words with a space between them, and a newline.
+pub fn write_line<K: Sink>(sink: &mut K, words: &[Word]) -> Result<(), Failed>
+    ensures { Writes (by_spaces words.now ++ 10 ∷ [])
+        (K.content sink.old) (K.content sink.new) (K.faults sink.old) (K.faults sink.new) result }
+{
+    write_joined(sink, b' ', words)?;
+    write_all(sink, b"\n")
 }
 
 /// Writes two lower-case hexadecimal digits for each byte, 64 bytes at a time.

@@ -1,5 +1,6 @@
 pub mod ByName
 pub mod ChangeLaws
+pub mod CommitLaws
 pub mod DecodeLaws
 pub mod EditLaws
 pub mod ExtentLaws
@@ -13,5 +14,6 @@ pub mod ReadLaws
 pub mod ReadSteps
 pub mod RoomLaws
 pub mod RowLaws
+pub mod SpliceLaws
 pub mod TakenLaws
 pub mod WriteLaws

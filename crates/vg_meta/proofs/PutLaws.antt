@@ -1,20 +1,24 @@
 -- The place at which a volume is put in.
-use Rattle.std.proofs.Common.{◌≡◌, ◌≢◌, ℕ, zero, suc, ◌+◌, ◌<◌, ◌≤◌, Bool, true, false, cond, List, [], ◌∷◌, ◌++◌, length, get_or, take, drop, drop-cons, add-one, Some, None, refl, sym, ap, ◌∙◌, append_assoc, arith}
-use Rattle.std.specs.Prelude.{insert}
+use Rattle.std.proofs.Common.{◌≡◌, ◌≢◌, ℕ, zero, suc, ◌+◌, ◌<◌, ◌≤◌, Bool, true, false, cond, List, [], ◌∷◌, ◌++◌, length, get_or, take, drop, drop-cons, add-one, Some, None, refl, sym, ap, ◌∙◌, append_assoc, arith, subst}
+use Rattle.std.specs.Prelude.{insert, slice_get}
+use Rattle.std.specs.List.{AllByRecursion}
+use Rattle.std.proofs.lemmas.Option.{get_or_from_slice_get, slice_get_within}
 use Rattle.std.specs.Ordering.{is_lt}
 use Rattle.sm_base.specs.declared.names.Name.{Name}
 use Rattle.sm_base.specs.Names.{name_cmp}
 use Rattle.vg_meta.specs.Tables.{Row, row_of, name_eq}
-use Rattle.vg_meta.specs.Kept.{HeldRow, rows_alone, places_in}
+use Rattle.vg_meta.specs.Kept.{HeldRow, rows_alone, places_in, IsSlot}
 use Rattle.vg_meta.specs.Changes.{put}
 use Rattle.vg_meta.proofs.NameLaws.{name_eq-same, name_eq-other}
+use Rattle.vg_meta.proofs.Places.{All-push}
 
 -- a volume of this name is put in at or behind this place
 pub record Passed (hs : List HeldRow) (n : Name) (i : ℕ) : Type 0 where
+  pub before : AllByRecursion (λ h. is_lt (name_cmp n h.row.name) ≡ false) (take i hs)
   pub so_far : (r : Row) → r.name ≡ n → rows_alone (take i hs) ++ put r (rows_alone (drop i hs)) ≡ put r (rows_alone hs)
 
 pub passed_first : (hs : List HeldRow) (n : Name) → Passed hs n 0
-passed_first hs n = record { so_far = λ r named. refl }
+passed_first hs n = record { before = tt; so_far = λ r named. refl }
 
 opened : (hs : List HeldRow) (i : ℕ) (h : HeldRow) → i < length hs → h ≡ get_or hs i h → drop i hs ≡ h ∷ drop (i + 1) hs
 opened hs i h lt is = rw (add-one) (drop-cons hs i h lt ∙ ap (λ (x : HeldRow). x ∷ drop (suc i) hs) (sym is))
@@ -45,6 +49,7 @@ put_last r = refl
 pub passed_more : (hs : List HeldRow) (n : Name) (i : ℕ) (h : HeldRow) → i < length hs → h ≡ get_or hs i h
     → is_lt (name_cmp n h.row.name) ≡ false → Passed hs n i → Passed hs n (i + 1)
 passed_more hs n i h lt is behind p = record {
+  before = rw (taken hs i h lt is) (All-push (λ (x : HeldRow). is_lt (name_cmp n x.row.name) ≡ false) (take i hs) h p.before behind);
   so_far = λ r named.
       let test : is_lt (name_cmp r.name h.row.name) ≡ false = rw named behind in
       let rest = rows_alone (drop (i + 1) hs) in
@@ -88,6 +93,54 @@ put_at_end hs n i le p r named =
     let none : rows_alone (drop (length hs) hs) ≡ [] = ap rows_alone (gone hs (length hs) (omega arith)) in
     let back : put r (rows_alone (drop i hs)) ≡ r ∷ [] = ap (λ (l : List HeldRow). put r (rows_alone l)) (gone hs i le) ∙ put_last r in
     rw (front, none) (ap (λ (l : List Row). rows_alone (take i hs) ++ l) (sym back) ∙ now)
+
+pub slot_here : (hs : List HeldRow) (n : Name) (i : ℕ) (h : HeldRow) → i < length hs → h ≡ get_or hs i h
+    → is_lt (name_cmp n h.row.name) ≡ true → Passed hs n i → IsSlot hs n i
+slot_here hs n i h lt is before p = record {
+  before = p.before;
+  here = λ g at.
+      let same : h ≡ g = is ∙ get_or_from_slice_get hs i g h at in
+      subst (λ (x : HeldRow). is_lt (name_cmp n x.row.name) ≡ true) same before;
+}
+
+pub slot_at_end : (hs : List HeldRow) (n : Name) (i : ℕ) → length hs ≤ i → Passed hs n i → IsSlot hs n (length hs)
+slot_at_end hs n i le p = record {
+  before = rw (whole hs (length hs) (omega arith) ∙ sym (whole hs i le)) p.before;
+  here = λ g at. let lt = slice_get_within hs (length hs) g at in absurd (omega arith);
+}
+
+-- ---- a volume put in where a list goes on
+
+put_left : (r : Row) (xs : List HeldRow) (ys : List Row) (i : ℕ) → AllByRecursion (λ h. is_lt (name_cmp r.name h.row.name) ≡ false) (take i xs)
+    → ((h : HeldRow) → slice_get xs i ≡ Some h → is_lt (name_cmp r.name h.row.name) ≡ true) → i < length xs
+    → put r (rows_alone xs ++ ys) ≡ put r (rows_alone xs) ++ ys
+put_left r [] ys i before here lt = absurd (omega arith)
+put_left r (x ∷ xs) ys zero before here lt =
+    let test = here x refl in
+    put_before r x.row (rows_alone xs ++ ys) test ∙ sym (ap (λ (l : List Row). l ++ ys) (put_before r x.row (rows_alone xs) test))
+put_left r (x ∷ xs) ys (suc i) before here lt =
+    put_behind r x.row (rows_alone xs ++ ys) before.0
+    ∙ ap (λ (l : List Row). x.row ∷ l) (put_left r xs ys i before.1 here (omega arith))
+    ∙ sym (ap (λ (l : List Row). l ++ ys) (put_behind r x.row (rows_alone xs) before.0))
+
+put_right : (r : Row) (xs : List HeldRow) (ys : List Row) (i : ℕ) → AllByRecursion (λ h. is_lt (name_cmp r.name h.row.name) ≡ false) (take i xs)
+    → length xs ≤ i → put r (rows_alone xs ++ ys) ≡ rows_alone xs ++ put r ys
+put_right r [] ys i before le = refl
+put_right r (x ∷ xs) ys zero before le = absurd (omega arith)
+put_right r (x ∷ xs) ys (suc i) before le =
+    put_behind r x.row (rows_alone xs ++ ys) before.0 ∙ ap (λ (l : List Row). x.row ∷ l) (put_right r xs ys i before.1 (omega arith))
+
+-- the volume belongs in front, where its place there is not the end
+pub put_in_front : (r : Row) (n : Name) (xs : List HeldRow) (ys : List Row) (i : ℕ) → r.name ≡ n → IsSlot xs n i → i < length xs
+    → put r (rows_alone xs ++ ys) ≡ put r (rows_alone xs) ++ ys
+put_in_front r n xs ys i named s lt =
+    put_left r xs ys i (rw named s.before) (rw named s.here) lt
+
+-- else behind it
+pub put_in_back : (r : Row) (n : Name) (xs : List HeldRow) (ys : List Row) (i : ℕ) → r.name ≡ n → IsSlot xs n i → length xs ≤ i
+    → put r (rows_alone xs ++ ys) ≡ rows_alone xs ++ put r ys
+put_in_back r n xs ys i named s le =
+    put_right r xs ys i (rw named s.before) le
 
 -- ---- a volume put in at a place
 

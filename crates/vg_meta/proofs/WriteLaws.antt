@@ -1,6 +1,7 @@
 -- Texts that are written one behind the other.
 use Rattle.std.proofs.Common.{◌≡◌, ℕ, zero, suc, ◌+◌, ◌*◌, ◌<◌, ◌≤◌, ◌^◌, List, [], ◌∷◌, ◌++◌, length, get_or, take, drop, refl, sym, ap, subst, ◌∙◌, arith, length-append, append_assoc}
 use Rattle.std.specs.List.{flat_map, AllByRecursion}
+use Rattle.std.proofs.lemmas.Grind.{flat_map-append}
 use Rattle.std.proofs.lemmas.List.{append-nil, take-append-drop}
 use Rattle.byteorder.specs.Endian.{big_bytes}
 use Rattle.sm_base.specs.Texts.{placed}
@@ -70,6 +71,19 @@ puts_more_behind f front xs i x at middle end old half new lt is within p q =
     (append_assoc front (flat_map f (take i xs)) (f x)
     ∙ ap (λ (t : List ℕ). front ++ t) (sym (ap (flat_map f) (taken xs i x lt is) ∙ flat_map-push f (take i xs) x)))
     (puts_then at middle end (front ++ flat_map f (take i xs)) (f x) old half new within p q)
+
+-- extents are written in two slices
+pub extents_written : (es ms : List ℕ) (count at first second end : ℕ) (old one two new : List ℕ) → at ≤ length old → count ≡ length (es ++ ms)
+    → Puts at (big_bytes 4 count) old one first → Puts first (flat_map (big_bytes 4) es) one two second → Puts second (flat_map (big_bytes 4) ms) two new end
+    → Puts at (extents_text (es ++ ms)) old new end
+extents_written es ms count at first second end old one two new within is a b c =
+    let ab = puts_then at first second (big_bytes 4 count) (flat_map (big_bytes 4) es) old one two within a b in
+    let abc = puts_then at second end (big_bytes 4 count ++ flat_map (big_bytes 4) es) (flat_map (big_bytes 4) ms) old two new within ab c in
+    let regroup : (big_bytes 4 count ++ flat_map (big_bytes 4) es) ++ flat_map (big_bytes 4) ms ≡ extents_text (es ++ ms) =
+    append_assoc (big_bytes 4 count) (flat_map (big_bytes 4) es) (flat_map (big_bytes 4) ms)
+    ∙ ap (λ (l : List ℕ). big_bytes 4 count ++ l) (sym (flat_map-append (big_bytes 4) es ms))
+    ∙ ap (λ (n : ℕ). big_bytes 4 n ++ flat_map (big_bytes 4) (es ++ ms)) is in
+    subst (λ (t : List ℕ). Puts at t old new end) regroup abc
 
 -- volumes are written as their rows
 pub flat_map-rows : (hs : List HeldRow) → flat_map volume_text (rows_alone hs) ≡ flat_map (λ (v : HeldRow). volume_text v.row) hs

@@ -1,8 +1,10 @@
 -- What contracts see of a table in memory: the table, and beside it how many rows, and how many extents of each
 -- volume, may be added without memory (this project's own). 'The same table' never speaks of these numbers.
-use Rattle.std.specs.Prelude.{◌≡◌, ℕ, false, List, [], ◌∷◌, map, Some, slice_get, take, if◌then◌else◌}
+use Rattle.std.specs.Prelude.{◌≡◌, ℕ, true, false, List, [], ◌∷◌, map, Some, slice_get, take, if◌then◌else◌}
 use Rattle.std.specs.List.{AllByRecursion}
+use Rattle.std.specs.Ordering.{is_lt}
 use Rattle.sm_base.specs.declared.names.Name.{Name}
+use Rattle.sm_base.specs.Names.{name_cmp}
 use Rattle.vg_meta.specs.Tables.{Row, Listing, row_of, name_eq}
 
 -- a volume, and its spare places for extents
@@ -43,3 +45,8 @@ pub record IsPlace (hs : List HeldRow) (n : Name) (i : ℕ) : Type 0 where
   pub at : slice_get hs i ≡ Some held
   pub is : IsHeld hs n held
   pub before : AllByRecursion (λ h. name_eq h.row.name n ≡ false) (take i hs)
+
+-- in front of this place no volume is behind this name, and at it one is, if the list does not end there
+pub record IsSlot (hs : List HeldRow) (n : Name) (i : ℕ) : Type 0 where
+  pub before : AllByRecursion (λ h. is_lt (name_cmp n h.row.name) ≡ false) (take i hs)
+  pub here : (h : HeldRow) → slice_get hs i ≡ Some h → is_lt (name_cmp n h.row.name) ≡ true

@@ -3,7 +3,7 @@
 ghost use Rattle.std.specs.Prelude.{◌≡◌, ◌≢◌, ◌≤◌, ◌<◌, ◌+◌, ◌-◌, ◌^◌, ◌++◌, ◌∷◌, take, drop, None, Some, IsSome, OnOk, OnErr, length, vec_len, vec_capacity};
 ghost use Rattle.sm_base.specs.declared.names.Name.{Name};
 ghost use Rattle.vg_meta.specs.Tables.{Row, row_of, names_of};
-ghost use Rattle.vg_meta.specs.Kept.{rows_alone, places_in};
+ghost use Rattle.vg_meta.specs.Kept.{rows_alone, places_in, IsSlot};
 ghost use Rattle.vg_meta.specs.Changes.{put, without, with_row, grown, cut_to, tagged, AllowsIn, HasRoom, changed, spare_after, places_after};
 ghost use Rattle.vg_meta.specs.Held.{held};
 ghost use Rattle.std.specs.List.Sorted.{IsStrictlySortedBy};
@@ -79,8 +79,9 @@ pub fn mark(volumes: &mut Vec<Volume>, name: &Name, tag: Tag, on: bool)
 }
 
 /// The place at which a volume of this name is put in.
-fn slot(volumes: &[Volume], name: &Name) -> usize
+pub fn slot(volumes: &[Volume], name: &Name) -> usize
     ensures within { result ≤ length volumes.now }
+    ensures slot { IsSlot volumes.now name.now result }
     ensures place { (r : Row) → r.name ≡ name.now → rows_alone (take result volumes.now) ++ r ∷ rows_alone (drop result volumes.now) ≡ put r (rows_alone volumes.now) }
 {
     for (at, volume) in volumes.iter().enumerate() {

@@ -1,12 +1,13 @@
 //! Writing the text of a table.
 
-ghost use Rattle.std.specs.Prelude.{◌≡◌, ◌≤◌, ◌<◌, ◌+◌, ◌-◌, ◌^◌, min, length};
+ghost use Rattle.std.specs.Prelude.{◌≡◌, ◌≤◌, ◌<◌, ◌+◌, ◌-◌, ◌^◌, ◌++◌, min, length};
 ghost use Rattle.std.specs.List.{flat_map, AllByRecursion};
 ghost use Rattle.byteorder.specs.Endian.{big_bytes};
 ghost use Rattle.vg_meta.specs.Kept.{rows_alone};
 ghost use Rattle.vg_meta.specs.Text.{flags_of, extents_text, volume_text};
 ghost use Rattle.vg_meta.specs.Writing.{Puts};
 
+use crate::entries::Entry;
 use crate::volumes::Volume;
 use byteorder::{BigEndian, ByteOrder};
 
@@ -50,35 +51,53 @@ fn flags(hidden: bool, fresh: bool) -> u8
     }
 }
 
-/// Writes extents behind their number at a place, and answers the place behind them.
-fn put_extents(to: &mut [u8], at: usize, extents: &[u32]) -> usize
-    requires few { length extents.now < 2 ^ 32 }
-    requires room { at + length (extents_text extents.now) ≤ length to.old }
-    ensures { Puts at (extents_text extents.now) to.old to.new result }
+// Writes numbers of 4 bytes each at a place, and answers the place behind them.
+fn put_numbers(to: &mut [u8], at: usize, numbers: &[u32]) -> usize
+    requires { at + length (flat_map (big_bytes 4) numbers.now) ≤ length to.old }
+    ensures { Puts at (flat_map (big_bytes 4) numbers.now) to.old to.new result }
 {
-    let mut end = put_number(to, at, extents.len() as u32);
-    for extent in extents {
-        end = put_number(to, end, *extent);
+    let mut end = at;
+    for number in numbers {
+        end = put_number(to, end, *number);
     }
     end
 }
 
+// Writes extents, which stand in two slices, at a place, and answers the place behind them.
+fn put_extents(to: &mut [u8], at: usize, extents: &[u32], more: &[u32]) -> usize
+    requires few { length (extents.now ++ more.now) < 2 ^ 32 }
+    requires room { at + length (extents_text (extents.now ++ more.now)) ≤ length to.old }
+    ensures { Puts at (extents_text (extents.now ++ more.now)) to.old to.new result }
+{
+    let count = extents.len() + more.len();
+    let extents_at = put_number(to, at, count as u32);
+    let more_at = put_numbers(to, extents_at, extents);
+    put_numbers(to, more_at, more)
+}
+
 /// Writes a volume at a place, and answers the place behind it.
+pub fn put_entry(to: &mut [u8], at: usize, entry: &Entry) -> usize
+    requires few { length entry.now.extents < 2 ^ 32 }
+    requires room { at + length (volume_text entry.now) ≤ length to.old }
+    ensures { Puts at (volume_text entry.now) to.old to.new result }
+{
+    let mut name = [0; 128];
+    let size = entry.name().spell(&mut name);
+    let name_at = put_bytes(to, at, &[size as u8]);
+    let flags_at = put_bytes(to, name_at, &name[..size]);
+    let marks = flags(entry.is_hidden(), entry.is_fresh());
+    let extents_at = put_bytes(to, flags_at, &[marks]);
+    let (extents, more) = entry.extents();
+    put_extents(to, extents_at, extents, more)
+}
+
+// Writes a volume that is there at a place, and answers the place behind it.
 fn put_volume(to: &mut [u8], at: usize, volume: &Volume) -> usize
     requires few { length volume.now.row.extents < 2 ^ 32 }
     requires room { at + length (volume_text volume.now.row) ≤ length to.old }
     ensures { Puts at (volume_text volume.now.row) to.old to.new result }
 {
-    let mut name = [0; 128];
-    let size = volume.name().spell(&mut name);
-    let name_at = put_bytes(to, at, &[size as u8]);
-    let flags_at = put_bytes(to, name_at, &name[..size]);
-    let extents_at = put_bytes(
-        to,
-        flags_at,
-        &[flags(volume.is_hidden(), volume.is_fresh())],
-    );
-    put_extents(to, extents_at, volume.extents())
+    put_entry(to, at, &Entry::of(volume))
 }
 
 /// Writes volumes at a place, and answers the place behind them.

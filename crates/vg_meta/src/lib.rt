@@ -11,7 +11,8 @@
 //!
 //! **What it promises.** A table is at all times a table: names rise, and no extent belongs to two volumes.
 //! [`Table::allows`] answers exactly whether a change is allowed, and [`Table::apply`] leaves exactly the changed
-//! table, without memory where room was made before. [`Table::decode`] reads exactly the texts that
+//! table, without memory where room was made before. [`Table::encode_changed`] writes the text of the table that a
+//! change would leave, and leaves the table as it is. [`Table::decode`] reads exactly the texts that
 //! [`Table::encode`] writes; of other bytes it says where the first part stands that does not fit. Lengths and
 //! places are in bytes, extents are counted. Finding a volume costs a pass over the names, and writing or reading
 //! a text costs one pass.
@@ -22,10 +23,12 @@ mod changes;
 mod decoding;
 mod edits;
 mod encoding;
+mod entries;
 mod faults;
 mod free;
 mod kinds;
 mod reading;
+mod splices;
 mod tables;
 mod volumes;
 

@@ -17,6 +17,7 @@ use crate::edits::{apply_to, reserve_for};
 use crate::encoding::{put_number, put_sequence, put_volumes, volumes_length};
 use crate::faults::DecodeFault;
 use crate::reading::{Stopped, volumes_at};
+use crate::splices::{changed_count, put_changed, raised};
 use crate::volumes::{Volume, named, place};
 use sm_base::{Name, NoMemory};
 use std::alloc::Global;
@@ -166,6 +167,21 @@ impl Table {
         let number_at = put_sequence(to, 0, self.seq);
         let volumes_at = put_number(to, number_at, self.volumes.len() as u32);
         put_volumes(to, volumes_at, &self.volumes)
+    }
+
+    /// Writes the text of the table that a change leaves to the buffer's beginning, and answers its length in bytes.
+    /// The bytes past it stay, and so does this table. It takes no memory.
+    pub fn encode_changed(&self, change: &Change, to: &mut [u8]) -> usize
+        requires allowed { Allows (2 ^ 32) (listing self.now) change.now }
+        requires fits { length (text (applied (listing self.now) change.now)) ≤ length to.old }
+        requires numbers { HasText (applied (listing self.now) change.now) }
+        ensures text { to.new ≡ text (applied (listing self.now) change.now) ++ drop (length (text (applied (listing self.now) change.now))) to.old }
+        ensures length { result ≡ length (text (applied (listing self.now) change.now)) }
+    {
+        let count_at = put_sequence(to, 0, raised(self.seq));
+        let count = changed_count(&self.volumes, change);
+        let volumes_at = put_number(to, count_at, count as u32);
+        put_changed(to, volumes_at, &self.volumes, change)
     }
 
     /// The table that the bytes spell, where extents are counted up to `extents`. The cost is that of going over

@@ -1,7 +1,7 @@
 //! The trait of a store of volumes.
 
 ghost use Rattle.std.specs.Prelude.{◌≡◌, ◌≤◌, ◌<◌, ◌+◌, ℕ, List, Bool, true, false, length, OnOk, OnErr};
-ghost use Rattle.sm_disk.specs.Held.{Held, IsWhole, SameHeld, Gave, Torn, Wrote, Keeps, IsSettled, HasSectors, Rose};
+ghost use Rattle.sm_disk.specs.Held.{Held, IsWhole, SameHeld, Gave, Torn, Wrote, Keeps, IsSettled, HasSectors, Rose, reads};
 ghost use Rattle.vg_meta.specs.Tables.{Listing, IsTable, rows, extents_of};
 ghost use Rattle.vg_meta.specs.Kept.{Kept, listing, places};
 ghost use Rattle.vg_meta.specs.Changes.{Allows, HasRoom, applied};
@@ -40,9 +40,10 @@ pub trait Store {
     fn geometry(&self) -> Geometry
         ensures { result ≡ (site self.now).geometry };
 
-    /// The number of extents.
+    /// The number of extents, at most 65,536.
     fn extents(&self) -> u32
         ensures count { result ≡ (site self.now).count }
+        ensures few { (site self.now).count ≤ 65536 }
         ensures sectors { told → HasSectors (area_size (site self.now)) (area self.now) };
 
     /// The table of volumes.
@@ -131,4 +132,7 @@ pub trait Store {
     /// While no commit has failed, a stop leaves the one table, and of the area a choice sector by sector.
     ghost leaves_now: { (s : Self) → told → failed s ≡ false → (t : Listing) (image : ℕ → List ℕ) → leaves s t image
         → IsBefore (area_size (site s)) (listing (kept s)) (area s) t image };
+
+    /// And it may leave what reads give.
+    ghost leaves_read: { (s : Self) → told → failed s ≡ false → leaves s (listing (kept s)) (reads (area s)) };
 }

@@ -1,0 +1,66 @@
+-- What a commit asks of a change and of the text that it would leave.
+use Rattle.std.proofs.Common.{ℕ, ◌<◌, ◌≤◌, ◌^◌, List, [], ◌∷◌, length, arith, length-append}
+use Rattle.vg_meta.specs.declared.changes.Change.{Change}
+use Rattle.vg_meta.specs.declared.changes.Change.TheVariants.{Create, Remove, Rename, Grow, Cut, Mark}
+use Rattle.vg_meta.specs.Tables.{Row, Listing, extents_in}
+use Rattle.vg_meta.specs.Text.{text, volume_text, HasText}
+use Rattle.vg_meta.specs.Writing.{volumes_text}
+use Rattle.vg_meta.specs.Changes.{AreFree, AllowsIn, Allows}
+use Rattle.vg_meta.proofs.ExtentLaws.{All-weaken}
+use Rattle.vg_meta.proofs.WriteLaws.{length-text, length-volume_text, length-extents_text}
+
+-- ---- a short text is of few volumes and extents
+
+volumes_most : (rs : List Row) → length rs ≤ length (volumes_text rs)
+volumes_most [] = omega arith
+volumes_most (r ∷ rs) = omega (arith, length-append (volume_text r) (volumes_text rs), length-volume_text r, volumes_most rs)
+
+extents_most : (rs : List Row) → length (extents_in rs) ≤ length (volumes_text rs)
+extents_most [] = omega arith
+extents_most (r ∷ rs) =
+    omega (
+      arith,
+      length-append (volume_text r) (volumes_text rs),
+      length-append r.extents (extents_in rs),
+      length-volume_text r,
+      length-extents_text r.extents,
+      extents_most rs,
+    )
+
+pub HasText-short : (t : Listing) → length (text t) < 2 ^ 32 → HasText t
+HasText-short t short = record {
+  volumes = omega (arith, length-text t, volumes_most t.volumes, short);
+  extents = omega (arith, length-text t, extents_most t.volumes, short);
+}
+
+-- ---- a change that is allowed below a count is allowed below a greater one
+
+AreFree-wider : (count wide : ℕ) (rs : List Row) (es : List ℕ) → count ≤ wide → AreFree count rs es → AreFree wide rs es
+AreFree-wider count wide rs es le f = record {
+  below = All-weaken (λ (e : ℕ). e < count) (λ (e : ℕ). e < wide) es (λ e lt. omega arith) f.below;
+  unused = f.unused;
+  distinct = f.distinct;
+}
+
+pub AllowsIn-wider : (count wide : ℕ) (rs : List Row) (change : Change) → count ≤ wide → AllowsIn count rs change → AllowsIn wide rs change
+AllowsIn-wider count wide rs (Create name fresh es) le a = record {
+  name_proper = a.name_proper;
+  new_name = a.new_name;
+  not_mgt = a.not_mgt;
+  kind = a.kind;
+  extents_free = AreFree-wider count wide rs es le a.extents_free;
+}
+AllowsIn-wider count wide rs (Remove name) le a = a
+AllowsIn-wider count wide rs (Rename from to) le a = a
+AllowsIn-wider count wide rs (Grow name es) le a = record {
+  row = a.row;
+  there = a.there;
+  image = a.image;
+  some_extents = a.some_extents;
+  extents_free = AreFree-wider count wide rs es le a.extents_free;
+}
+AllowsIn-wider count wide rs (Cut name keep) le a = a
+AllowsIn-wider count wide rs (Mark name tag on) le a = a
+
+pub Allows-wider : (count wide : ℕ) (t : Listing) (change : Change) → count ≤ wide → Allows count t change → Allows wide t change
+Allows-wider count wide t change le a = AllowsIn-wider count wide t.volumes change le a

@@ -1,0 +1,181 @@
+//! Writing the text of the volumes that a change would leave, while the volumes stay as they are.
+//!
+//! The changed list is written in pieces: the volumes in front of the one that comes, goes or changes, that one,
+//! and those behind it. A change of name has two such places. Nothing takes memory. The cost is that of going over
+//! the names at most three times, and over the extents once.
+
+ghost use Rattle.std.specs.Prelude.{◌≡◌, ◌<◌, ◌+◌, ◌^◌, ◌++◌, ◌∷◌, take, drop, IsSome, length};
+ghost use Rattle.vg_meta.specs.Tables.{row_of};
+ghost use Rattle.vg_meta.specs.Kept.{rows_alone};
+ghost use Rattle.vg_meta.specs.Changes.{put, without, with_row, put_some, renamed, grown, cut_to, tagged, changed, AllowsIn, raised as raised_of};
+ghost use Rattle.vg_meta.specs.Writing.{Puts, HaveRoom, volumes_text};
+
+use crate::changes::{Change, Tag};
+use crate::edits::slot;
+use crate::encoding::{put_entry, put_volumes};
+use crate::entries::Entry;
+use crate::tables::LAST_SEQUENCE;
+use crate::volumes::{Volume, place};
+use sm_base::Name;
+
+/// The sequence number that a change leaves.
+pub fn raised(sequence: u64) -> u64
+    ensures { result ≡ raised_of sequence }
+{
+    if sequence < LAST_SEQUENCE {
+        sequence + 1
+    } else {
+        LAST_SEQUENCE
+    }
+}
+
+/// The number of volumes that a change leaves.
+pub fn changed_count(volumes: &[Volume], change: &Change) -> usize
+    requires allowed { AllowsIn (2 ^ 32) (rows_alone volumes.now) change.now }
+    requires few { length (changed (rows_alone volumes.now) change.now) < 2 ^ 32 }
+    ensures { result ≡ length (changed (rows_alone volumes.now) change.now) }
+{
+    match change {
+        Change::Create { .. } => volumes.len() + 1,
+        Change::Remove { .. } => volumes.len() - 1,
+        Change::Rename { .. } | Change::Grow { .. } | Change::Cut { .. } | Change::Mark { .. } => {
+            volumes.len()
+        }
+    }
+}
+
+/// Writes the volumes that a change leaves at a place, and answers the place behind them. It takes no memory.
+pub fn put_changed(to: &mut [u8], at: usize, volumes: &[Volume], change: &Change) -> usize
+    requires allowed { AllowsIn (2 ^ 32) (rows_alone volumes.now) change.now }
+    requires room { HaveRoom (changed (rows_alone volumes.now) change.now) at (length to.old) }
+    ensures { Puts at (volumes_text (changed (rows_alone volumes.now) change.now)) to.old to.new result }
+{
+    match change {
+        Change::Create {
+            name,
+            fresh,
+            extents,
+        } => {
+            let entry = Entry::made(*name, *fresh, extents.as_slice());
+            put_created(to, at, volumes, &entry)
+        }
+        Change::Remove { name } => put_removed(to, at, volumes, name),
+        Change::Rename { from, to: other } => put_renamed(to, at, volumes, from, other),
+        Change::Grow { name, extents } => put_grown(to, at, volumes, name, extents.as_slice()),
+        Change::Cut { name, keep } => put_cut(to, at, volumes, name, *keep as usize),
+        Change::Mark { name, tag, on } => put_marked(to, at, volumes, name, *tag, *on),
+    }
+}
+
+// Writes a volume between others.
+fn put_between(to: &mut [u8], at: usize, front: &[Volume], entry: &Entry, back: &[Volume]) -> usize
+    requires { HaveRoom (rows_alone front.now ++ entry.now ∷ rows_alone back.now) at (length to.old) }
+    ensures { Puts at (volumes_text (rows_alone front.now ++ entry.now ∷ rows_alone back.now)) to.old to.new result }
+{
+    let entry_at = put_volumes(to, at, front);
+    let back_at = put_entry(to, entry_at, entry);
+    put_volumes(to, back_at, back)
+}
+
+// Writes a volume in the stead of the one at an index.
+fn put_in_stead(to: &mut [u8], at: usize, volumes: &[Volume], index: usize, entry: &Entry) -> usize
+    requires within { index < length volumes.now }
+    requires room { HaveRoom (rows_alone (take index volumes.now) ++ entry.now ∷ rows_alone (drop (index + 1) volumes.now)) at (length to.old) }
+    ensures { Puts at (volumes_text (rows_alone (take index volumes.now) ++ entry.now ∷ rows_alone (drop (index + 1) volumes.now))) to.old to.new result }
+{
+    let (front, _) = volumes.split_at(index);
+    let (_, back) = volumes.split_at(index + 1);
+    put_between(to, at, front, entry, back)
+}
+
+// Writes the volumes with one more, in order of name.
+fn put_created(to: &mut [u8], at: usize, volumes: &[Volume], entry: &Entry) -> usize
+    requires { HaveRoom (put entry.now (rows_alone volumes.now)) at (length to.old) }
+    ensures { Puts at (volumes_text (put entry.now (rows_alone volumes.now))) to.old to.new result }
+{
+    let (front, back) = volumes.split_at(slot(volumes, &entry.name()));
+    put_between(to, at, front, entry, back)
+}
+
+// Writes the volumes without one.
+fn put_removed(to: &mut [u8], at: usize, volumes: &[Volume], name: &Name) -> usize
+    requires there { IsSome (row_of (rows_alone volumes.now) name.now) }
+    requires room { HaveRoom (without name.now (rows_alone volumes.now)) at (length to.old) }
+    ensures { Puts at (volumes_text (without name.now (rows_alone volumes.now))) to.old to.new result }
+{
+    let Some(index) = place(volumes, name) else {
+        unreachable!()
+    };
+    let (front, _) = volumes.split_at(index);
+    let (_, back) = volumes.split_at(index + 1);
+    let back_at = put_volumes(to, at, front);
+    put_volumes(to, back_at, back)
+}
+
+// Writes the volumes with one under another name, in order of name.
+fn put_renamed(to: &mut [u8], at: usize, volumes: &[Volume], from: &Name, other: &Name) -> usize
+    requires there { IsSome (row_of (rows_alone volumes.now) from.now) }
+    requires room { HaveRoom (put_some (row_of (rows_alone volumes.now) from.now) (renamed other.now) (without from.now (rows_alone volumes.now))) at (length to.old) }
+    ensures { Puts at (volumes_text (put_some (row_of (rows_alone volumes.now) from.now) (renamed other.now) (without from.now (rows_alone volumes.now)))) to.old to.new result }
+{
+    let Some(index) = place(volumes, from) else {
+        unreachable!()
+    };
+    let (front, _) = volumes.split_at(index);
+    let (_, back) = volumes.split_at(index + 1);
+    let entry = Entry::renamed(&volumes[index], *other);
+    let in_front = slot(front, other);
+    if in_front < front.len() {
+        let back_at = put_created(to, at, front, &entry);
+        put_volumes(to, back_at, back)
+    } else {
+        let back_at = put_volumes(to, at, front);
+        put_created(to, back_at, back, &entry)
+    }
+}
+
+// Writes the volumes with more extents at the end of one.
+fn put_grown(to: &mut [u8], at: usize, volumes: &[Volume], name: &Name, extents: &[u32]) -> usize
+    requires there { IsSome (row_of (rows_alone volumes.now) name.now) }
+    requires room { HaveRoom (with_row name.now (grown extents.now) (rows_alone volumes.now)) at (length to.old) }
+    ensures { Puts at (volumes_text (with_row name.now (grown extents.now) (rows_alone volumes.now))) to.old to.new result }
+{
+    let Some(index) = place(volumes, name) else {
+        unreachable!()
+    };
+    let entry = Entry::grown(&volumes[index], extents);
+    put_in_stead(to, at, volumes, index, &entry)
+}
+
+// Writes the volumes with only the first extents of one.
+fn put_cut(to: &mut [u8], at: usize, volumes: &[Volume], name: &Name, keep: usize) -> usize
+    requires there { IsSome (row_of (rows_alone volumes.now) name.now) }
+    requires room { HaveRoom (with_row name.now (cut_to keep) (rows_alone volumes.now)) at (length to.old) }
+    ensures { Puts at (volumes_text (with_row name.now (cut_to keep) (rows_alone volumes.now))) to.old to.new result }
+{
+    let Some(index) = place(volumes, name) else {
+        unreachable!()
+    };
+    let entry = Entry::cut(&volumes[index], keep);
+    put_in_stead(to, at, volumes, index, &entry)
+}
+
+// Writes the volumes with a mark of one set or taken away.
+fn put_marked(
+    to: &mut [u8],
+    at: usize,
+    volumes: &[Volume],
+    name: &Name,
+    tag: Tag,
+    on: bool,
+) -> usize
+    requires there { IsSome (row_of (rows_alone volumes.now) name.now) }
+    requires room { HaveRoom (with_row name.now (tagged tag on) (rows_alone volumes.now)) at (length to.old) }
+    ensures { Puts at (volumes_text (with_row name.now (tagged tag on) (rows_alone volumes.now))) to.old to.new result }
+{
+    let Some(index) = place(volumes, name) else {
+        unreachable!()
+    };
+    let entry = Entry::marked(&volumes[index], tag, on);
+    put_in_stead(to, at, volumes, index, &entry)
+}
