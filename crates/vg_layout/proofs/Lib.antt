@@ -1,2 +1,5 @@
+pub mod ImageLaws
 pub mod RoundTrips
 pub mod SectorLaws
+pub mod Spellings
+pub mod StandingLaws

@@ -2,6 +2,7 @@ pub mod Changes
 pub mod Faults
 pub mod Held
 pub mod Kept
+pub mod Proper
 pub mod Reading
 pub mod Stopped
 pub mod Tables

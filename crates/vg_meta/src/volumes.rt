@@ -59,6 +59,13 @@ impl Volume {
         &self.extents
     }
 
+    /// How many extents may be added without memory.
+    pub fn spare(&self) -> usize
+        ensures spare { result ≡ self.now.spare }
+    {
+        self.extents.capacity() - self.extents.len()
+    }
+
     /// Whether this is the volume's name.
     pub fn is_named(&self, name: &Name) -> bool
         ensures named { IsTrue result ↔ (self.now.row.name ≡ name.now) }

@@ -1,6 +1,6 @@
 -- What a crash leaves at each stage of a commit.
-use Rattle.std.proofs.Common.{◌≡◌, ℕ, ◌+◌, ◌-◌, ◌*◌, ◌^◌, ◌<◌, ◌≤◌, ◌⊎◌, inl, inr, Bool, true, false, List, [], ◌∷◌, ◌++◌, length, take, sum, Ok, refl, sym, ap, subst, ◌∙◌, arith}
-use Rattle.std.proofs.lemmas.Bool.{cases_lt, cases_eq}
+use Rattle.std.proofs.Common.{◌≡◌, ℕ, ◌+◌, ◌-◌, ◌*◌, ◌<◌, ◌≤◌, ◌⊎◌, inl, inr, List, length, take, Ok, refl, sym, ap, subst, ◌∙◌, arith}
+use Rattle.std.proofs.lemmas.Bool.{cases_eq}
 use Rattle.sm_base.specs.Numbers.{div_up}
 use Rattle.sm_disk.specs.Held.{Held, May, Allows, IsIn, IsSettled, Reaches, Puts, Gave, ReadsElsewhere, Keeps, reads}
 use Rattle.sm_disk.proofs.HeldLaws.{may_settled, reads-settled, May-reads, in_one}
@@ -9,14 +9,12 @@ use Rattle.sm_disk.proofs.SectorLaws.{sector-one}
 use Rattle.sm_disk.specs.Sectors.{sector}
 use Rattle.vg_layout.proofs.RoundTrips.{header_again}
 use Rattle.vg_meta.specs.Tables.{Listing}
-use Rattle.vg_meta.specs.Reading.{Spells}
 use Rattle.vg_layout.specs.Places.{area_place, header_place, slot_place, label_place}
 use Rattle.vg_layout.specs.Sectors.{Plate, Pointer, header_sector}
 use Rattle.vg_layout.specs.Opening.{StandsOn, plate_of, pointer_of, text_in}
-use Rattle.vg_volumes.specs.Commits.{IsBefore, IsAfter, IsEither}
-use Rattle.vg_store.specs.Groups.{Rests, Leaves, area_of, IsGroup, IsNext, LeavesEither, IsTurned}
+use Rattle.vg_volumes.specs.Commits.{IsBefore, IsEither}
+use Rattle.vg_store.specs.Groups.{Leaves, area_of, IsGroup, IsNext}
 use Rattle.vg_store.proofs.ImageLaws.{plate_same, pointer_same, text_same, text_written, stands_from, stands_once, slots_apart, sectors_most, pointer_right, IsRightPointer}
-use Rattle.vg_store.proofs.Spellings.{spells_once}
 
 -- an image that shows in front of the extents what a read gives, but perhaps in some sectors
 abbrev pub ShowsElsewhere : ℕ → ℕ → Held → (ℕ → List ℕ) → Type 0
@@ -55,7 +53,7 @@ pub shows_torn : (size wide : ℕ) (a b : Held) (p : Plate) (at : Pointer) (t : 
 shows_torn size wide a b p at t bytes written place m g all r allowed = λ q below apart. by q below apart (r.may q (m q) (allowed q (omega arith)))
   where
     by : (q : ℕ) → q < area_place → (IsIn place (length written) q → ⊥) → May a q (m q) ⊎ Puts place written q (m q) → m q ≡ a.floor q
-    by q below apart (inl was) = may_settled a q (m q) (g.rests.still q below) was ∙ reads-settled a q (g.rests.still q below)
+    by q below apart (inl was) = g.rests.still q (m q) below was
     by q below apart (inr (here, is)) = absurd (apart here)
 
 -- what was written in front of the extents leaves their choices
@@ -76,17 +74,34 @@ before_from size area a b p at t u image few l stands choices = record {
   sectors = λ q below. let P : List ℕ → Type 0 = λ v. May (area_of a) q v in subst P (sym (l.sectors q below)) (choices q below);
 }
 
+-- each image that may be left while the text is written stands as before
+pub slot_stands : (size : ℕ) (a b : Held) (p : Plate) (at : Pointer) (t : Listing) (bytes written : List ℕ) (place : ℕ) (m : ℕ → List ℕ)
+    → IsGroup size a p at t bytes → area_place ≤ size → place ≡ slot_place (1 - at.slot) → length written ≤ 524288
+    → Reaches (Puts place written) a b → Allows size b m → StandsOn size m (record { plate = p; pointer = at; table = t })
+slot_stands size a b p at t bytes written place m g room is most r allowed =
+    stands_before size a p at t bytes m place (length written) g is most (shows_torn size size a b p at t bytes written place m g room r allowed)
+
 pub slot_crash : (size area : ℕ) (a b : Held) (p : Plate) (at : Pointer) (t next u : Listing) (bytes written : List ℕ) (place : ℕ) (image : ℕ → List ℕ)
     → IsGroup size a p at t bytes → area_place + area ≤ size → place ≡ slot_place (1 - at.slot) → length written ≤ 524288
     → Reaches (Puts place written) a b → Leaves size area b p u image → IsEither area t next (area_of a) u image
 slot_crash size area a b p at t next u bytes written place image g fits is most r l =
-    let shows = shows_torn size size a b p at t bytes written place l.whole g (omega arith) r l.allowed in
-    let stands = stands_before size a p at t bytes l.whole place (length written) g is most shows in
+    let stands = slot_stands size a b p at t bytes written place l.whole g (omega arith) is most r l.allowed in
     inl (before_from size area a b p at t u image g.few l stands (area_kept size area place a b written l.whole fits (ends (slots_apart at.slot (pointer_right a.floor at g.rests.headed).slot)) r l.allowed))
   where
     ends : ((slot_place at.slot ≡ 2) × (slot_place (1 - at.slot) ≡ 1026)) ⊎ ((slot_place at.slot ≡ 1026) × (slot_place (1 - at.slot) ≡ 2)) → 512 * place + length written ≤ 512 * area_place
     ends (inl (own, other)) = let from : place ≡ 1026 = is ∙ other in omega (arith, from, most)
     ends (inr (own, other)) = let from : place ≡ 2 = is ∙ other in omega (arith, from, most)
+
+-- where the slot that is not in use stands
+slot_between : (at next : Pointer) (place : ℕ) → at.slot ≤ 1 → next.slot ≡ 1 - at.slot → place ≡ slot_place next.slot → (2 ≤ place) × (place ≤ 1026)
+slot_between at next place low other is = by (slots_apart at.slot low)
+  where
+    from : place ≡ slot_place (1 - at.slot)
+    from = is ∙ ap slot_place other
+
+    by : ((slot_place at.slot ≡ 2) × (slot_place (1 - at.slot) ≡ 1026)) ⊎ ((slot_place at.slot ≡ 1026) × (slot_place (1 - at.slot) ≡ 2)) → (2 ≤ place) × (place ≤ 1026)
+    by (inl (own, other)) = let e : place ≡ 1026 = from ∙ other in (omega (arith, e), omega (arith, e))
+    by (inr (own, other)) = let e : place ≡ 2 = from ∙ other in (omega (arith, e), omega (arith, e))
 
 -- ---- the second stage: the header, and the sync behind it
 
@@ -99,7 +114,7 @@ pub record IsStaged (a b : Held) (place : ℕ) (written : List ℕ) : Type 0 whe
 -- what stands in front of the extents once the text lasted, at each place that the text has not
 pub staged_reads : (size : ℕ) (a b : Held) (p : Plate) (at : Pointer) (t : Listing) (bytes written : List ℕ) (place q : ℕ) → IsGroup size a p at t bytes → IsStaged a b place written
     → q < area_place → (IsIn place (length written) q → ⊥) → reads b q ≡ a.floor q
-staged_reads size a b p at t bytes written place q g s below apart = s.elsewhere q apart ∙ reads-settled a q (g.rests.still q below)
+staged_reads size a b p at t bytes written place q g s below apart = s.elsewhere q apart ∙ g.rests.still q (reads a q) below (May-reads a q)
 
 -- an image that shows the next header and the next text
 record ShowsNext (size : ℕ) (p : Plate) (next : Pointer) (written : List ℕ) (m : ℕ → List ℕ) : Type 0 where
@@ -121,14 +136,7 @@ next_shown size a b p at next t u bytes written place m g s n is header shows = 
     right = pointer_right a.floor at g.rests.headed
 
     places : (2 ≤ place) × (place ≤ 1026)
-    places = by (slots_apart at.slot right.slot)
-      where
-        from : place ≡ slot_place (1 - at.slot)
-        from = is ∙ ap slot_place n.slot
-
-        by : ((slot_place at.slot ≡ 2) × (slot_place (1 - at.slot) ≡ 1026)) ⊎ ((slot_place at.slot ≡ 1026) × (slot_place (1 - at.slot) ≡ 2)) → (2 ≤ place) × (place ≤ 1026)
-        by (inl (own, other)) = let e : place ≡ 1026 = from ∙ other in (omega (arith, e), omega (arith, e))
-        by (inr (own, other)) = let e : place ≡ 2 = from ∙ other in (omega (arith, e), omega (arith, e))
+    places = slot_between at next place right.slot n.slot is
 
     label : m label_place ≡ a.floor label_place
     label = shows label_place (omega arith) (λ e. omega (arith, e)) ∙ staged_reads size a b p at t bytes written place label_place g s (omega arith) (λ i. omega (arith, i.0, places.0))
@@ -149,46 +157,40 @@ next_stands : (size : ℕ) (p : Plate) (at next : Pointer) (u : Listing) (writte
     → IsNext p at next u written → ShowsNext size p next written m → StandsOn size m (record { plate = p; pointer = next; table = u })
 next_stands size p at next u written m n s = stands_from size m p next u (take next.size written) s.labelled s.headed s.text n.total n.spelled
 
-pub header_crash : (size area : ℕ) (a b c : Held) (p : Plate) (at next : Pointer) (t u v : Listing) (bytes written head : List ℕ) (place : ℕ) (image : ℕ → List ℕ)
-    → IsGroup size a p at t bytes → area_place + area ≤ size → IsStaged a b place written → IsNext p at next u written → place ≡ slot_place next.slot
-    → head ≡ header_sector next → length head ≡ 512
-    → Reaches (Puts header_place head) b c → Leaves size area c p v image → IsEither area t u (area_of a) v image
-header_crash size area a b c p at next t u v bytes written head place image g fits s n is head_is long r l = by (may_reached s.settled r header_place (l.whole header_place) (l.allowed header_place (omega arith)))
+-- but for the header an image shows what a read gave once the text lasted
+header_shown : (size : ℕ) (b c : Held) (head : List ℕ) (m : ℕ → List ℕ) → IsSettled b → length head ≡ 512 → Reaches (Puts header_place head) b c → Allows size c m
+    → (q : ℕ) → q < size → (q ≡ header_place → ⊥) → m q ≡ reads b q
+header_shown size b c head m settled long r allowed q below apart = at_place (may_reached settled r q (m q) (allowed q below))
   where
-    m : ℕ → List ℕ
-    m = l.whole
+    at_place : (m q ≡ reads b q) ⊎ Puts header_place head q (m q) → m q ≡ reads b q
+    at_place (inl same) = same
+    at_place (inr (here, there)) = absurd (apart (in_one header_place (length head) q long here))
 
-    from : place ≡ slot_place (1 - at.slot)
-    from = is ∙ ap slot_place n.slot
-
-    most : length written ≤ 524288
-    most = omega (arith, n.long, sectors_most next.size n.size)
-
+-- each image that may be left while the header is written stands as before, or with the next table
+pub header_stands : (size : ℕ) (a b c : Held) (p : Plate) (at next : Pointer) (t u : Listing) (bytes written head : List ℕ) (place : ℕ) (m : ℕ → List ℕ)
+    → IsGroup size a p at t bytes → area_place ≤ size → IsStaged a b place written → IsNext p at next u written → place ≡ slot_place next.slot
+    → head ≡ header_sector next → length head ≡ 512
+    → Reaches (Puts header_place head) b c → Allows size c m
+    → StandsOn size m (record { plate = p; pointer = at; table = t }) ⊎ StandsOn size m (record { plate = p; pointer = next; table = u })
+header_stands size a b c p at next t u bytes written head place m g room s n is head_is long r allowed =
+    by (may_reached s.settled r header_place (m header_place) (allowed header_place (omega arith)))
+  where
     right : IsRightPointer at
     right = pointer_right a.floor at g.rests.headed
 
     ends : (2 ≤ place) × (place ≤ 1026)
-    ends = at_either (slots_apart at.slot right.slot)
-      where
-        at_either : ((slot_place at.slot ≡ 2) × (slot_place (1 - at.slot) ≡ 1026)) ⊎ ((slot_place at.slot ≡ 1026) × (slot_place (1 - at.slot) ≡ 2)) → (2 ≤ place) × (place ≤ 1026)
-        at_either (inl (own, other)) = let e : place ≡ 1026 = from ∙ other in (omega (arith, e), omega (arith, e))
-        at_either (inr (own, other)) = let e : place ≡ 2 = from ∙ other in (omega (arith, e), omega (arith, e))
+    ends = slot_between at next place right.slot n.slot is
+
+    most : length written ≤ 524288
+    most = omega (arith, n.long, sectors_most next.size n.size)
 
     shown : (q : ℕ) → q < size → (q ≡ header_place → ⊥) → m q ≡ reads b q
-    shown q below apart = at_place (may_reached s.settled r q (m q) (l.allowed q below))
-      where
-        at_place : (m q ≡ reads b q) ⊎ Puts header_place head q (m q) → m q ≡ reads b q
-        at_place (inl same) = same
-        at_place (inr (here, there)) = absurd (apart (in_one header_place (length head) q long here))
+    shown = header_shown size b c head m s.settled long r allowed
 
-    area_reads : (q : ℕ) → q < area → m (area_place + q) ≡ reads a (area_place + q)
-    area_reads q below = shown (area_place + q) (omega arith) (λ e. omega (arith, e)) ∙ s.elsewhere (area_place + q) (λ i. omega (arith, i.1, ends.1, most))
-
-    by : (m header_place ≡ reads b header_place) ⊎ Puts header_place head header_place (m header_place) → IsEither area t u (area_of a) v image
+    by : (m header_place ≡ reads b header_place) ⊎ Puts header_place head header_place (m header_place)
+        → StandsOn size m (record { plate = p; pointer = at; table = t }) ⊎ StandsOn size m (record { plate = p; pointer = next; table = u })
     by (inl same) =
-        let shows : ShowsElsewhere place (length written) a m = λ q below apart. at_place q below apart (cases_eq q header_place) in
-        let stands = stands_before size a p at t bytes m place (length written) g from most shows in
-        inl (before_from size area a c p at t v image g.few l stands (λ q below. let P : List ℕ → Type 0 = λ x. May a (area_place + q) x in subst P (sym (area_reads q below)) (May-reads a (area_place + q))))
+        inl (stands_before size a p at t bytes m place (length written) g (is ∙ ap slot_place n.slot) most (λ q below apart. at_place q below apart (cases_eq q header_place)))
       where
         at_place : (q : ℕ) → q < area_place → (IsIn place (length written) q → ⊥) → (q ≡ header_place) ⊎ (q ≡ header_place → ⊥) → m q ≡ a.floor q
         at_place q below apart (inl e) =
@@ -197,7 +199,33 @@ header_crash size area a b c p at next t u v bytes written head place image g fi
         at_place q below apart (inr other) = shown q (omega arith) other ∙ staged_reads size a b p at t bytes written place q g s below apart
     by (inr (here, there)) =
         let header : m header_place ≡ header_sector next = there ∙ sector-one head long ∙ head_is in
-        let stands = next_stands size p at next u written m n (next_shown size a b p at next t u bytes written place m g s n is header (λ q below other. shown q (omega arith) other)) in
+        inr (next_stands size p at next u written m n (next_shown size a b p at next t u bytes written place m g s n is header (λ q below other. shown q (omega arith) other)))
+
+pub header_crash : (size area : ℕ) (a b c : Held) (p : Plate) (at next : Pointer) (t u v : Listing) (bytes written head : List ℕ) (place : ℕ) (image : ℕ → List ℕ)
+    → IsGroup size a p at t bytes → area_place + area ≤ size → IsStaged a b place written → IsNext p at next u written → place ≡ slot_place next.slot
+    → head ≡ header_sector next → length head ≡ 512
+    → Reaches (Puts header_place head) b c → Leaves size area c p v image → IsEither area t u (area_of a) v image
+header_crash size area a b c p at next t u v bytes written head place image g fits s n is head_is long r l =
+    by (header_stands size a b c p at next t u bytes written head place m g (omega arith) s n is head_is long r l.allowed)
+  where
+    m : ℕ → List ℕ
+    m = l.whole
+
+    ends : (2 ≤ place) × (place ≤ 1026)
+    ends = slot_between at next place (pointer_right a.floor at g.rests.headed).slot n.slot is
+
+    most : length written ≤ 524288
+    most = omega (arith, n.long, sectors_most next.size n.size)
+
+    area_reads : (q : ℕ) → q < area → m (area_place + q) ≡ reads a (area_place + q)
+    area_reads q below =
+        header_shown size b c head m s.settled long r l.allowed (area_place + q) (omega arith) (λ e. omega (arith, e))
+        ∙ s.elsewhere (area_place + q) (λ i. omega (arith, i.1, ends.1, most))
+
+    by : StandsOn size m (record { plate = p; pointer = at; table = t }) ⊎ StandsOn size m (record { plate = p; pointer = next; table = u }) → IsEither area t u (area_of a) v image
+    by (inl stands) =
+        inl (before_from size area a c p at t v image g.few l stands (λ q below. let P : List ℕ → Type 0 = λ x. May a (area_place + q) x in subst P (sym (area_reads q below)) (May-reads a (area_place + q))))
+    by (inr stands) =
         inr (record {
           table_is = sym (stands_once size m p next l.pointer u v g.few stands l.stands);
           sectors = λ q below. l.sectors q below ∙ area_reads q below;
@@ -210,7 +238,7 @@ pub group_after : (size : ℕ) (a b c : Held) (p : Plate) (at next : Pointer) (t
     → head ≡ header_sector next → length head ≡ 512 → IsStaged b c header_place head → IsGroup size c p next u (take next.size written)
 group_after size a b c p at next t u bytes written head place g s n is head_is long e =
     record {
-      rests = record { still = λ q below. e.settled q; labelled = shows.labelled; headed = shows.headed; text = shows.text };
+      rests = record { still = λ q v below m. may_settled c q v (e.settled q) m ∙ reads-settled c q (e.settled q); labelled = shows.labelled; headed = shows.headed; text = shows.text };
       summed = n.total;
       spelled = n.spelled;
       few = g.few;
@@ -241,10 +269,15 @@ area_same place a b written front r = record {
     left q v (inl was) = was
     left q v (inr (here, is)) = absurd (omega (arith, here.1))
 
+-- while a group rests, each image that may be left stands as the group does
+pub stands_now : (size : ℕ) (h : Held) (p : Plate) (at : Pointer) (t : Listing) (bytes : List ℕ) (m : ℕ → List ℕ) → area_place ≤ size
+    → IsGroup size h p at t bytes → Allows size h m → StandsOn size m (record { plate = p; pointer = at; table = t })
+stands_now size h p at t bytes m room g allowed =
+    stands_before size h p at t bytes m (slot_place (1 - at.slot)) 0 g refl (omega arith)
+    (λ q below apart. g.rests.still q (m q) below (allowed q (omega arith)))
+
 -- while nothing failed, a stop leaves the one table and any choice of the extents' sectors
 pub leaves_before : (size area : ℕ) (h : Held) (p : Plate) (at : Pointer) (t u : Listing) (bytes : List ℕ) (image : ℕ → List ℕ) → area_place + area ≤ size
     → IsGroup size h p at t bytes → Leaves size area h p u image → IsBefore area t (area_of h) u image
 leaves_before size area h p at t u bytes image fits g l =
-    let shows : ShowsElsewhere (slot_place (1 - at.slot)) 0 h l.whole = λ q below apart. may_settled h q (l.whole q) (g.rests.still q below) (l.allowed q (omega arith)) ∙ reads-settled h q (g.rests.still q below) in
-    let stands = stands_before size h p at t bytes l.whole (slot_place (1 - at.slot)) 0 g refl (omega arith) shows in
-    before_from size area h h p at t u image g.few l stands (λ q below. l.allowed (area_place + q) (omega arith))
+    before_from size area h h p at t u image g.few l (stands_now size h p at t bytes l.whole (omega arith) g l.allowed) (λ q below. l.allowed (area_place + q) (omega arith))

@@ -1,5 +1,12 @@
 pub mod CommitLaws
+pub mod CommittedLaws
+pub mod FormatLaws
+pub mod HoldingLaws
 pub mod ImageLaws
+pub mod NewGroups
+pub mod OpenedLaws
 pub mod OpeningLaws
-pub mod Spellings
+pub mod PartLaws
+pub mod RunLaws
+pub mod StoreLaws
 pub mod TurnLaws

@@ -1,24 +1,30 @@
 -- What stands on the device of an open volume group, and what a stop may leave of it (this project's format).
-use Rattle.std.specs.Prelude.{◌≡◌, ℕ, ◌+◌, ◌-◌, ◌*◌, ◌^◌, ◌<◌, ◌≤◌, List, [], length, take, sum, Ok}
+use Rattle.std.specs.Prelude.{◌≡◌, ℕ, ◌+◌, ◌-◌, ◌*◌, ◌^◌, ◌<◌, ◌≤◌, ◌⊎◌, List, length, take, sum, Ok}
 use Rattle.sm_base.specs.Numbers.{div_up}
-use Rattle.sm_disk.specs.Held.{Held, Allows, moved}
+use Rattle.sm_disk.specs.Held.{Held, May, Allows, moved}
 use Rattle.vg_meta.specs.Tables.{Listing}
 use Rattle.vg_meta.specs.Reading.{Spells}
 use Rattle.vg_layout.specs.Places.{area_place}
 use Rattle.vg_layout.specs.Sectors.{Plate, Pointer}
-use Rattle.vg_layout.specs.Opening.{Standing, StandsOn, plate_of, pointer_of, text_in, text_limit}
+use Rattle.vg_layout.specs.Opening.{StandsOn, plate_of, pointer_of, text_in, text_limit}
 use Rattle.vg_volumes.specs.Commits.{IsEither}
 
 -- the sectors of all extents: those of the device from the first extent on
 abbrev pub area_of : Held → Held
 area_of h = moved (λ q. area_place + q) h
 
--- in front of the extents nothing is pending, and there stand this label, this header and this text
+-- in front of the extents a stop leaves what stands there: this label, this header and this text
 pub record Rests (size : ℕ) (h : Held) (p : Plate) (at : Pointer) (bytes : List ℕ) : Type 0 where
-  pub still : (q : ℕ) → q < area_place → h.pending q ≡ []
+  pub still : (q : ℕ) (v : List ℕ) → q < area_place → May h q v → v ≡ h.floor q
   pub labelled : plate_of size h.floor ≡ Ok p
   pub headed : pointer_of h.floor ≡ Ok at
   pub text : text_in h.floor at ≡ bytes
+
+-- a group with this label stands on an image
+pub record IsStanding (size : ℕ) (image : ℕ → List ℕ) (p : Plate) : Type 0 where
+  pub pointer : Pointer
+  pub table : Listing
+  pub stands : StandsOn size image (record { plate = p; pointer = pointer; table = table })
 
 -- a stop may leave this table and these sectors of the extents: they are those of one image that the device
 -- allows, on which a group stands with this plate and this table
@@ -50,6 +56,13 @@ abbrev pub LeavesEither : ℕ → Held → Held → Pointer → List ℕ → Typ
 LeavesEither size old new next written =
     (area : ℕ) (p : Plate) (at : Pointer) (t u : Listing) (bytes : List ℕ) → IsGroup size old p at t bytes → IsNext p at next u written → area_place + area ≤ size
     → (v : Listing) (image : ℕ → List ℕ) → Leaves size area new p v image → IsEither area t u (area_of old) v image
+
+-- and on each image that a stop leaves the group stands with one of the two
+abbrev pub StandsEither : ℕ → Held → Held → Pointer → List ℕ → Type 0
+StandsEither size old new next written =
+    (p : Plate) (at : Pointer) (t u : Listing) (bytes : List ℕ) → IsGroup size old p at t bytes → IsNext p at next u written
+    → (image : ℕ → List ℕ) → Allows size new image
+    → StandsOn size image (record { plate = p; pointer = at; table = t }) ⊎ StandsOn size image (record { plate = p; pointer = next; table = u })
 
 -- and after one that succeeded the group stands with the next table
 abbrev pub IsTurned : ℕ → Held → Held → Pointer → List ℕ → Type 0

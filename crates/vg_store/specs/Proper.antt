@@ -1,21 +1,30 @@
--- That a name is proper has one proof at most, so a group can carry that its table is one.
-use Rattle.std.specs.Prelude.{ℕ, List}
+-- That a group stands on an image has one proof at most, so a group can carry it.
+use Rattle.std.specs.Prelude.{◌≡◌, ℕ, List}
+use Rattle.std.proofs.Common.{subst}
 use Rattle.std.proofs.Props.{props}
-use Rattle.sm_base.specs.declared.names.Name.{Name}
-use Rattle.sm_base.specs.declared.names.Name.TheVariants.{Mgt, Vhd, Raw, Old, Clone, Inflate, Coalesce, Relink, Leaf}
-use Rattle.sm_base.specs.Names.{IsUuid, IsName}
+use Rattle.vg_meta.specs.Tables.{Listing}
+use Rattle.vg_meta.specs.Proper.{IsName-prop}
+use Rattle.vg_layout.specs.Sectors.{Plate, Pointer}
+use Rattle.vg_layout.specs.Opening.{Standing, StandsOn}
+use Rattle.vg_store.specs.Groups.{IsStanding}
+use Rattle.vg_layout.proofs.StandingLaws.{plate_few, pointer_once, stands_once}
 
-IsUuid-prop : (u : List ℕ) → IsProp (IsUuid u)
-IsUuid-prop u = hlevel props
+StandsOn-prop : (size : ℕ) (image : ℕ → List ℕ) (g : Standing) → IsProp (StandsOn size image g)
+StandsOn-prop size image g = hlevel (props, IsName-prop)
 
-pub IsName-prop : (n : Name) → IsProp (IsName n)
-unfolding IsName
-IsName-prop Mgt = hlevel props
-IsName-prop (Vhd u) = IsUuid-prop u
-IsName-prop (Raw u) = IsUuid-prop u
-IsName-prop (Old u) = IsUuid-prop u
-IsName-prop (Clone disk base twin) = hlevel (props, IsUuid-prop)
-IsName-prop (Inflate image extents) = hlevel (props, IsUuid-prop)
-IsName-prop (Coalesce child parent) = hlevel (props, IsUuid-prop)
-IsName-prop (Relink child parent) = hlevel (props, IsUuid-prop)
-IsName-prop (Leaf leaf parent) = hlevel (props, IsUuid-prop)
+-- an image shows one pointer and one table
+pub IsStanding-prop : (size : ℕ) (image : ℕ → List ℕ) (p : Plate) → IsProp (IsStanding size image p)
+IsStanding-prop size image p a b =
+    let few = plate_few size image p a.stands.labelled in
+    tables b.table (stands_once size image p a.pointer b.pointer a.table b.table few a.stands b.stands)
+    b.pointer (pointer_once size image p a.pointer b.pointer a.table b.table a.stands b.stands) b.stands
+  where
+    shown : (h : Pointer) (t : Listing) → StandsOn size image (record { plate = p; pointer = h; table = t }) → IsStanding size image p
+    shown h t s = record { pointer = h; table = t; stands = s }
+
+    pointers : (h : Pointer) → a.pointer ≡ h → (s : StandsOn size image (record { plate = p; pointer = h; table = a.table })) → a ≡ shown h a.table s
+    pointers h e = subst (λ k. (s : StandsOn size image (record { plate = p; pointer = k; table = a.table })) → a ≡ shown k a.table s) e
+        (λ s i. record { pointer = a.pointer; table = a.table; stands = StandsOn-prop size image (record { plate = p; pointer = a.pointer; table = a.table }) a.stands s i })
+
+    tables : (t : Listing) → a.table ≡ t → (h : Pointer) → a.pointer ≡ h → (s : StandsOn size image (record { plate = p; pointer = h; table = t })) → a ≡ shown h t s
+    tables t e = subst (λ u. (h : Pointer) → a.pointer ≡ h → (s : StandsOn size image (record { plate = p; pointer = h; table = u })) → a ≡ shown h u s) e pointers

@@ -1,44 +1,99 @@
 //! A volume group on a device.
 
-ghost use Rattle.std.specs.Prelude.{◌≡◌, ◌≤◌, ◌+◌, ◌*◌, ℕ, List, false, sum, vec_len};
+ghost use Rattle.std.specs.Prelude.{◌≡◌, ◌≤◌, ◌+◌, ◌*◌, ℕ, List, false, IfOk, IfErr, sum, vec_len};
 ghost use Rattle.std.proofs.Props.{props};
+ghost use Rattle.sm_disk.specs.Held.{Allows, Keeps, IsSettled, reads};
 ghost use Rattle.vg_meta.specs.Kept.{listing};
 ghost use Rattle.vg_meta.specs.Tables.{Listing};
 ghost use Rattle.vg_meta.specs.Text.{text};
 ghost use Rattle.vg_meta.specs.Reading.{Spells};
 ghost use Rattle.vg_layout.specs.Fields.{plate, pointer};
+ghost use Rattle.vg_layout.specs.Opening.{StandsOn, IsRefused};
 ghost use Rattle.vg_layout.specs.Places.{area_place};
 ghost use Rattle.vg_volumes.specs.Commits.{IsBefore};
-ghost use Rattle.vg_store.specs.Groups.{Rests, Leaves, area_of};
-ghost use Rattle.vg_store.specs.Proper.{IsName-prop};
+ghost use Rattle.vg_store.specs.Groups.{Rests, IsStanding, Leaves, area_of};
+ghost use Rattle.vg_store.specs.Openings.{IsAnswer};
+ghost use Rattle.vg_meta.specs.Proper.{IsName-prop};
+ghost use Rattle.vg_store.specs.Proper.{IsStanding-prop};
 
-use sm_base::Geometry;
+use crate::openings::{Found, find};
+use sm_base::{Geometry, OpenFault};
 use sm_disk::Disk;
+use std::alloc::Global;
 use uuid::Uuid;
-use vg_layout::{GroupLabel, TableHeader};
+use vg_layout::{GroupLabel, TEXT_LIMIT, TableHeader};
 use vg_meta::Table;
 
 /// A volume group on a device. Its table stands in memory; while no commit has failed, the label, the header
 /// and the text of this very table are the only ones that a stop may leave.
 pub struct Group<D: Disk> {
-    disk: D,
-    label: GroupLabel,
-    header: TableHeader,
-    table: Table,
-    buffer: Vec<u8>,
-    failed: bool,
-    // The extents are on the device.
+    pub(crate) disk: D,
+    pub(crate) label: GroupLabel,
+    pub(crate) header: TableHeader,
+    pub(crate) table: Table,
+    pub(crate) buffer: Vec<u8>,
+    pub(crate) failed: bool,
+    // The extents are few, and on the device.
+    ghost few: { label.extents ≤ 65536 },
     ghost area: { area_place + label.extents * label.geometry.extent ≤ D.size disk },
     // A text of any table fits.
     ghost room: { vec_len buffer ≡ 524288 },
     // The table has a text, with the header's sum.
     ghost spelled: { Spells label.extents (text (listing table)) (listing table) } by { Prim.hlevel (props, IsName-prop) },
     ghost summed: { sum (text (listing table)) ≡ header.sum },
-    // It stands on the device, and nothing is pending in front of the extents.
+    // It stands on the device, and while no commit has failed a stop leaves nothing else in front of the extents.
     ghost rests: { D.told → failed ≡ false → Rests (D.size disk) (D.held disk) (plate label) (pointer header) (text (listing table)) } by { Prim.hlevel props },
+    // Whatever a stop leaves, also after a commit that failed, a group with this label stands there.
+    ghost stands: { D.told → (image : ℕ → List ℕ) → Allows (D.size disk) (D.held disk) image → IsStanding (D.size disk) image (plate label) } by { Prim.hlevel (props, IsStanding-prop) },
 }
 
 impl<D: Disk> Group<D> {
+    /// Opens the group on a device: a buffer for a table's text, a sync, so that what a read gives lasts, and then
+    /// the five checks, of which the first that fails gives the answer. Nothing is written.
+    ///
+    /// # Errors
+    ///
+    /// The answer of the first check that fails, a fault of the device, or want of memory, with the device handed
+    /// back.
+    pub fn open(alloc: Global, disk: D) -> Result<Group<D>, (OpenFault, D)>
+        ensures size { IfOk result (λ g. D.size g.disk ≡ D.size disk) }
+        ensures counts { IfOk result (λ g. D.faults disk ≤ D.faults g.disk) }
+        ensures keeps { IfOk result (λ g. D.told → Keeps (D.held disk) (D.held g.disk)) }
+        ensures area { IfOk result (λ g. D.told → Keeps (area_of (D.held disk)) (area_of (D.held g.disk))) }
+        ensures settled { IfOk result (λ g. D.told → IsSettled (D.held g.disk)) }
+        ensures usable { IfOk result (λ g. g.failed ≡ false) }
+        ensures stands { IfOk result (λ g. D.told → StandsOn (D.size disk) (reads (D.held disk)) (record { plate = plate g.label; pointer = pointer g.header; table = listing g.table })) }
+        ensures size_back { IfErr result (λ e. D.size e.1 ≡ D.size disk) }
+        ensures counts_back { IfErr result (λ e. D.faults disk ≤ D.faults e.1) }
+        ensures keeps_back { IfErr result (λ e. D.told → Keeps (D.held disk) (D.held e.1)) }
+        ensures err { IfErr result (λ e. IsAnswer (λ f. D.told → IsRefused (D.size disk) (reads (D.held disk)) f) (D.faults disk) (D.faults e.1) e.0) }
+    {
+        let mut disk = disk;
+        let Ok(mut buffer) = vec![in alloc; 0u8; TEXT_LIMIT as usize] else {
+            return Err((OpenFault::NoMemory, disk));
+        };
+        let Ok(()) = disk.sync() else {
+            return Err((OpenFault::Device, disk));
+        };
+        match find(alloc, &mut disk, &mut buffer) {
+            Ok(
+                Found {
+                    label,
+                    header,
+                    table,
+                },
+            ) => Ok(Group {
+                disk,
+                label,
+                header,
+                table,
+                buffer,
+                failed: false,
+            }),
+            Err(fault) => Err((fault, disk)),
+        }
+    }
+
     /// The sizes that the repository was formatted with.
     pub fn geometry(&self) -> Geometry
         ensures { result ≡ self.now.label.geometry }
@@ -73,6 +128,7 @@ impl<D: Disk> Group<D> {
         ensures leaves { D.told → self.failed ≡ false → (t : Listing) (image : ℕ → List ℕ)
             → Leaves (D.size result) (self.label.extents * self.label.geometry.extent) (D.held result) (plate self.label) t image
             → IsBefore (self.label.extents * self.label.geometry.extent) (listing self.table) (area_of (D.held result)) t image }
+        ensures stands { D.told → (image : ℕ → List ℕ) → Allows (D.size result) (D.held result) image → IsStanding (D.size result) image (plate self.label) }
     {
         let Group {
             disk,

@@ -22,6 +22,7 @@ pub(crate) fn label_on<D: Disk>(disk: &mut D) -> Result<GroupLabel, OpenFault>
     ensures counts { D.faults disk.old ≤ D.faults disk.new }
     ensures same { D.told → SameHeld (D.held disk.old) (D.held disk.new) }
     ensures area { IfOk result (λ l. area_place + l.extents * l.geometry.extent ≤ D.size disk.old) }
+    ensures few { IfOk result (λ l. l.extents ≤ 65536) }
     ensures ok { IfOk result (λ l. D.told → plate_of (D.size disk.old) (reads (D.held disk.old)) ≡ Ok (plate l)) }
     ensures err { IfErr result (IsAnswer (λ e. D.told → plate_of (D.size disk.old) (reads (D.held disk.old)) ≡ Err e) (D.faults disk.old) (D.faults disk.new)) }
 {
@@ -133,6 +134,7 @@ pub(crate) fn find<D: Disk>(
     ensures same { D.told → SameHeld (D.held disk.old) (D.held disk.new) }
     ensures label { IfOk result (λ f. D.told → plate_of (D.size disk.old) (reads (D.held disk.old)) ≡ Ok (plate f.label)) }
     ensures header { IfOk result (λ f. D.told → pointer_of (reads (D.held disk.old)) ≡ Ok (pointer f.header)) }
+    ensures few { IfOk result (λ f. f.label.extents ≤ 65536) }
     ensures area { IfOk result (λ f. area_place + f.label.extents * f.label.geometry.extent ≤ D.size disk.old) }
     ensures spelled { IfOk result (λ f. Spells f.label.extents (text (listing f.table)) (listing f.table)) }
     ensures summed { IfOk result (λ f. sum (text (listing f.table)) ≡ f.header.sum) }

@@ -5,7 +5,7 @@ ghost use Rattle.sm_base.specs.Numbers.{div_up};
 ghost use Rattle.sm_disk.specs.Held.{Keeps, IsSettled, Rose};
 ghost use Rattle.vg_layout.specs.Fields.{pointer};
 ghost use Rattle.vg_layout.specs.Places.{area_place};
-ghost use Rattle.vg_store.specs.Groups.{area_of, LeavesEither, IsTurned};
+ghost use Rattle.vg_store.specs.Groups.{area_of, LeavesEither, StandsEither, IsTurned};
 
 use sm_base::Failed;
 use sm_disk::{Disk, put};
@@ -24,6 +24,7 @@ pub(crate) fn turn<D: Disk>(disk: &mut D, next: &TableHeader, text: &[u8]) -> Re
     ensures keeps { D.told → Keeps (area_of (D.held disk.old)) (area_of (D.held disk.new)) }
     ensures settled { OnOk result (D.told → IsSettled (D.held disk.new)) }
     ensures crash { D.told → LeavesEither (D.size disk.old) (D.held disk.old) (D.held disk.new) (pointer next.now) text.now }
+    ensures stands { D.told → StandsEither (D.size disk.old) (D.held disk.old) (D.held disk.new) (pointer next.now) text.now }
     ensures turned { OnOk result (D.told → IsTurned (D.size disk.old) (D.held disk.old) (D.held disk.new) (pointer next.now) text.now) }
 {
     put(disk, next.slot.place(), text)?;

@@ -1,4 +1,4 @@
-use Rattle.std.proofs.Common.{◌≡◌, sym, ◌∙◌}
+use Rattle.std.proofs.Common.{sym, ◌∙◌}
 use Rattle.sm_disk.specs.Held.{reads}
 use Rattle.vg_layout.specs.Fields.{pointer}
 use Rattle.vg_store.proofs.ImageLaws.{pointer_same, pointer_right}

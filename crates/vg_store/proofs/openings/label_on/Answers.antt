@@ -1,7 +1,7 @@
-use Rattle.std.proofs.Common.{◌≡◌, ◌<◌, sym, ◌∙◌, arith}
+use Rattle.std.proofs.Common.{sym, ◌∙◌}
 use Rattle.sm_disk.specs.Held.{reads}
 use Rattle.vg_layout.specs.Fields.{plate}
-use Rattle.vg_store.proofs.ImageLaws.{plate_same, plate_area}
+use Rattle.vg_store.proofs.ImageLaws.{plate_same, plate_few, plate_area}
 use Rattle.vg_store.proofs.OpeningLaws.{too_small, label_answer}
 use Rattle.vg_store.proofs.openings.label_on.Goals as goal
 
@@ -21,3 +21,6 @@ returns-in-Err-clause-err g c =
 pub returns-in-Ok-read-clause-area : goal.returns-in-Ok-read-clause-area
 returns-in-Ok-read-clause-area g c =
     rw (← c.sectors-sectors.ensures.size) (plate_area c.sectors-sectors.result (λ q. c.in-Ok.sector) (plate c.in-Ok-read.label) c.in-Ok-read.ensures.ok)
+
+pub returns-in-Ok-read-clause-few : goal.returns-in-Ok-read-clause-few
+returns-in-Ok-read-clause-few g c = plate_few c.sectors-sectors.result (λ q. c.in-Ok.sector) (plate c.in-Ok-read.label) c.in-Ok-read.ensures.ok

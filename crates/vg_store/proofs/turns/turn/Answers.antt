@@ -1,8 +1,8 @@
-use Rattle.std.proofs.Common.{◌≡◌, length, ap, ◌∙◌, arith, rules}
+use Rattle.std.proofs.Common.{◌≡◌, length, ap, ◌∙◌, inl, arith}
 use Rattle.sm_disk.proofs.HeldLaws.{Keeps-then}
 use Rattle.vg_layout.specs.Fields.{pointer}
 use Rattle.vg_layout.specs.Places.{slot_place}
-use Rattle.vg_store.proofs.CommitLaws.{slot_crash, header_crash, group_after, area_same}
+use Rattle.vg_store.proofs.CommitLaws.{slot_crash, slot_stands, header_crash, header_stands, group_after, area_same}
 use Rattle.vg_store.proofs.TurnLaws.{in_front, whole_from, len_most}
 use Rattle.vg_store.proofs.turns.turn.Goals as goal
 
@@ -54,3 +54,22 @@ returns-clause-turned g c = λ told p at t u bytes group next.
     (record { settled = c.in_ok-put.ensures.settled told; within = c.in_ok-put.ensures.within told; elsewhere = c.in_ok-put.ensures.elsewhere told })
     next c.place.ensures c.write.ensures long
     (record { settled = c.in_ok-put-2.ensures.settled told; within = c.in_ok-put-2.ensures.within told; elsewhere = c.in_ok-put-2.ensures.elsewhere told })
+
+pub returns-in_err-put-2-clause-stands : goal.returns-in_err-put-2-clause-stands
+returns-in_err-put-2-clause-stands g c = λ told p at t u bytes group next image allowed.
+    let long : length c.write.new.to ≡ 512 = omega arith in
+    header_stands _ _ _ _ p at (pointer c.args.next.now) t u bytes c.args.text.now c.write.new.to c.place.result image group c.requires.room
+    (record { settled = c.in_ok-put.ensures.settled told; within = c.in_ok-put.ensures.within told; elsewhere = c.in_ok-put.ensures.elsewhere told })
+    next c.place.ensures c.write.ensures long (c.put-2.ensures.reaches told) allowed
+
+pub returns-clause-stands : goal.returns-clause-stands
+returns-clause-stands g c = λ told p at t u bytes group next image allowed.
+    let long : length c.write.new.to ≡ 512 = omega arith in
+    header_stands _ _ _ _ p at (pointer c.args.next.now) t u bytes c.args.text.now c.write.new.to c.place.result image group c.requires.room
+    (record { settled = c.in_ok-put.ensures.settled told; within = c.in_ok-put.ensures.within told; elsewhere = c.in_ok-put.ensures.elsewhere told })
+    next c.place.ensures c.write.ensures long (c.put-2.ensures.reaches told) allowed
+
+pub returns-in_err-put-clause-stands : goal.returns-in_err-put-clause-stands
+returns-in_err-put-clause-stands g c = λ told p at t u bytes group next image allowed.
+    inl (slot_stands _ _ _ p at t bytes c.args.text.now c.place.result image group c.requires.room (c.place.ensures ∙ ap slot_place next.slot)
+    (len_most (length c.args.text.now) c.args.next.now.length c.requires.sectors c.requires.fits) (c.put.ensures.reaches told) allowed)

@@ -1,4 +1,4 @@
-use Rattle.std.proofs.Common.{◌≡◌, ℕ, ◌*◌, sum, arith}
+use Rattle.std.proofs.Common.{◌*◌}
 use Rattle.vg_meta.specs.Kept.{listing}
 use Rattle.vg_meta.specs.Text.{text}
 use Rattle.vg_layout.specs.Fields.{plate, pointer}

@@ -1,7 +1,7 @@
 -- Bytes spell one table alone.
-use Rattle.std.proofs.Common.{◌≡◌, ℕ, ◌+◌, ◌<◌, ◌≤◌, ◌^◌, List, [], ◌∷◌, ◌++◌, length, length-append, refl, sym, ap, ap₂, ◌∙◌, arith}
+use Rattle.std.proofs.Common.{◌≡◌, ℕ, ◌<◌, ◌≤◌, ◌^◌, List, [], ◌∷◌, ◌++◌, length, length-append, refl, sym, ap, ap₂, ◌∙◌, arith}
 use Rattle.std.specs.List.{flat_map, AllByRecursion}
-use Rattle.vg_meta.specs.Tables.{Row, Listing, IsVolume, extents_in, used}
+use Rattle.vg_meta.specs.Tables.{Row, Listing, IsVolume, extents_in}
 use Rattle.vg_meta.specs.Text.{text, volume_text}
 use Rattle.vg_meta.specs.Reading.{Spells}
 use Rattle.vg_meta.proofs.ReadLaws.{number_same, volume_same, parts_same}

@@ -1,0 +1,242 @@
+-- Where the sectors of a volume stand on the device, and what a call for one run of them is to the volume.
+use Rattle.std.proofs.Common.{◌≡◌, ℕ, zero, suc, ◌+◌, ◌-◌, ◌*◌, ◌/◌, ◌%◌, ◌<◌, ◌≤◌, min, cond, ◌⊎◌, inl, inr, List, [], ◌∷◌, ◌++◌, length, sym, ap, ap₂, subst, ◌∙◌, arith}
+use Rattle.std.specs.Prelude.{slice_index}
+use Rattle.std.proofs.lemmas.Bool.{lt-ltb, le-ltb, cases_lt}
+use Rattle.std.proofs.lemmas.Nat.{same_from_place, mod_below, div_below, div-add-mod'}
+use Rattle.std.proofs.Math.Nat.{div-lt_iff_lt-mul, mul-le-mul_right, mul-add-div_right, mul-add-mod_self_right}
+use Rattle.sm_disk.specs.Sectors.{sector}
+use Rattle.sm_disk.specs.Held.{Held, IsIn, IsWhole, Torn, Wrote, Gave, newest, reads}
+use Rattle.vg_layout.specs.Places.{area_place}
+use Rattle.vg_volumes.specs.Volumes.{spot, span, volume, SameElsewhere}
+use Rattle.vg_store.specs.Groups.{area_of}
+use Rattle.vg_store.specs.Runs.{AreAdjacent, AreOn, IsRun, SameInFront}
+
+-- ---- numbers
+
+ahead_split : (a d x : ℕ) → a / x * x + (a % x + d) ≡ a + d
+ahead_split a d x = omega (arith, div-add-mod' a x)
+
+pub ahead_div : (a d x : ℕ) → 0 < x → a / x + (a % x + d) / x ≡ (a + d) / x
+ahead_div a d x some = sym (mul-add-div_right some (a / x) (a % x + d)) ∙ ap (λ n. n / x) (ahead_split a d x)
+
+pub ahead_mod : (a d x : ℕ) → (a % x + d) % x ≡ (a + d) % x
+ahead_mod a d x = sym (mul-add-mod_self_right (a / x) x (a % x + d)) ∙ ap (λ n. n % x) (ahead_split a d x)
+
+-- a volume that has a sector has extents with sectors
+pub extent_some : (p many x : ℕ) → p < many * x → 0 < x
+extent_some p many zero h = absurd (omega arith)
+extent_some p many (suc x) h = omega arith
+
+-- ---- places
+
+-- the extent of a sector is one of the volume's
+pub in_extents : (x : ℕ) (es : List ℕ) (p : ℕ) → p < span x es → p / x < length es
+in_extents x es p below = (div-lt_iff_lt-mul (extent_some p (length es) x below)).1 below
+
+-- to the end of the extents that stand one after the other, one sector stands behind the other
+pub spot_next : (x : ℕ) (es : List ℕ) (p k many : ℕ) → AreAdjacent es (p / x) many → p % x + k < many * x → spot x es (p + k) ≡ spot x es p + k
+unfolding spot
+spot_next x es p k many beside low =
+    let wide = extent_some (p % x + k) many x low in
+    let i = (p % x + k) / x in
+    let index : (p + k) / x ≡ p / x + i = sym (ahead_div p k x wide) in
+    let offset : (p + k) % x ≡ (p % x + k) % x = sym (ahead_mod p k x) in
+    let along : slice_index es (p / x + i) ≡ slice_index es (p / x) + i = beside i (div_below (p % x + k) x many wide low) in
+    let sum : (slice_index es (p / x) + i) * x + (p % x + k) % x ≡ slice_index es (p / x) * x + p % x + k = omega (arith, div-add-mod' (p % x + k) x) in
+    ap₂ (λ j r. slice_index es j * x + r) index offset ∙ ap (λ e. e * x + (p % x + k) % x) along ∙ sum
+
+-- no two sectors of a volume stand in one place
+pub spot_once : (size x : ℕ) (es : List ℕ) (p q : ℕ) → AreOn size x es → p < span x es → q < span x es → spot x es p ≡ spot x es q → p ≡ q
+unfolding spot
+spot_once size x es p q on p_in q_in same =
+    let some = extent_some p (length es) x p_in in
+    let two = same_from_place (slice_index es (p / x)) (p % x) (slice_index es (q / x)) (q % x) x (mod_below p x some) (mod_below q x some) same in
+    let index : p / x ≡ q / x = on.once (p / x) (q / x) (in_extents x es p p_in) (in_extents x es q q_in) two.0 in
+    sym (div-add-mod' p x) ∙ ap₂ (λ i r. i * x + r) index two.1 ∙ div-add-mod' q x
+
+-- each stands on the device
+pub spot_below : (size x : ℕ) (es : List ℕ) (p : ℕ) → AreOn size x es → p < span x es → area_place + spot x es p < size
+unfolding spot
+spot_below size x es p on p_in =
+    let low = mod_below p x (extent_some p (length es) x p_in) in
+    let most = on.within (p / x) (in_extents x es p p_in) in
+    omega (arith, low, most)
+
+pub run_from : (x : ℕ) (es : List ℕ) (at done left place n many : ℕ) → 0 < left → at + (done + left) ≤ span x es
+    → 0 < many → AreAdjacent es (at / x + (at % x + done) / x) many
+    → place ≡ area_place + slice_index es (at / x + (at % x + done) / x) * x + (at % x + done) % x → n ≡ min (many * x - (at % x + done) % x) left
+    → IsRun x es (at + done) place n
+unfolding spot
+run_from x es at done left place n many some within more beside begins long =
+    let in_span : at + done < span x es = omega arith in
+    let wide = extent_some (at + done) (length es) x in_span in
+    let low = mod_below (at + done) x wide in
+    let index = ahead_div at done x wide in
+    let offset = ahead_mod at done x in
+    let room : 1 * x ≤ many * x = mul-le-mul_right x more in
+    let most : n ≤ many * x - (at + done) % x = omega (arith, long, offset) in
+    record {
+      some = omega (arith, long, offset, low, room);
+      within = omega (arith, long);
+      begins = begins ∙ ap₂ (λ i r. area_place + slice_index es i * x + r) index offset ∙ omega arith;
+      together = λ k below. spot_next x es (at + done) k many (subst (λ i. AreAdjacent es i many) index beside) (omega (arith, most));
+    }
+
+-- ---- what a volume holds, at a place and past its end
+
+volume_floor : (x : ℕ) (es : List ℕ) (a : Held) (p : ℕ) → p < span x es → (volume x es a).floor p ≡ a.floor (spot x es p)
+unfolding volume
+volume_floor x es a p below = ap (λ b. cond b (a.floor (spot x es p)) []) (lt-ltb p (span x es) below)
+
+volume_pending : (x : ℕ) (es : List ℕ) (a : Held) (p : ℕ) → p < span x es → (volume x es a).pending p ≡ a.pending (spot x es p)
+unfolding volume
+volume_pending x es a p below = ap (λ b. cond b (a.pending (spot x es p)) []) (lt-ltb p (span x es) below)
+
+volume_reads : (x : ℕ) (es : List ℕ) (a : Held) (p : ℕ) → p < span x es → reads (volume x es a) p ≡ reads a (spot x es p)
+volume_reads x es a p below = ap₂ newest (volume_floor x es a p below) (volume_pending x es a p below)
+
+past_floor : (x : ℕ) (es : List ℕ) (a : Held) (p : ℕ) → span x es ≤ p → (volume x es a).floor p ≡ []
+unfolding volume
+past_floor x es a p past = ap (λ b. cond b (a.floor (spot x es p)) []) (le-ltb p (span x es) past)
+
+past_pending : (x : ℕ) (es : List ℕ) (a : Held) (p : ℕ) → span x es ≤ p → (volume x es a).pending p ≡ []
+unfolding volume
+past_pending x es a p past = ap (λ b. cond b (a.pending (spot x es p)) []) (le-ltb p (span x es) past)
+
+-- where the area keeps its floor a volume does
+volume_floor_same : (x : ℕ) (es : List ℕ) (a b : Held) → ((p : ℕ) → b.floor p ≡ a.floor p) → (p : ℕ) → (volume x es b).floor p ≡ (volume x es a).floor p
+volume_floor_same x es a b same p = by (cases_lt p (span x es))
+  where
+    by : (p < span x es) ⊎ (span x es ≤ p) → (volume x es b).floor p ≡ (volume x es a).floor p
+    by (inl below) = volume_floor x es b p below ∙ same (spot x es p) ∙ sym (volume_floor x es a p below)
+    by (inr past) = past_floor x es b p past ∙ sym (past_floor x es a p past)
+
+-- ---- one run
+
+-- a run of a volume whose extents stand on the device
+pub record IsPart (size x : ℕ) (es : List ℕ) (p place n : ℕ) : Type 0 where
+  pub on : AreOn size x es
+  pub run : IsRun x es p place n
+
+-- a call for the run is for whole sectors of the device
+pub part_whole : {size x : ℕ} {es : List ℕ} {p place n : ℕ} (len wide : ℕ) → IsPart size x es p place n → len ≡ 512 * n → wide ≡ size → IsWhole place len wide
+part_whole {size} {x} {es} {p} {place} {n} len wide s long same =
+    let next = s.run.together (n - 1) (omega (arith, s.run.some)) in
+    let below = spot_below size x es (p + (n - 1)) s.on (omega (arith, s.run.some, s.run.within)) in
+    record {
+      some = omega (arith, long, s.run.some);
+      whole = omega (arith, long);
+      within = omega (arith, long, same, next, below, s.run.begins, s.run.some);
+    }
+
+-- the sectors of the run stand within it on the device
+pub within_run : {size x : ℕ} {es : List ℕ} {p place n : ℕ} → IsPart size x es p place n → (q : ℕ) → IsIn p (512 * n) q
+    → (q < span x es) × (area_place + spot x es q ≡ place + (q - p))
+within_run {size} {x} {es} {p} {place} {n} s q here =
+    let at : p + (q - p) ≡ q = omega (arith, here.0) in
+    let next = s.run.together (q - p) (omega (arith, here.0, here.1)) in
+    let spot_is : spot x es q ≡ spot x es p + (q - p) = ap (spot x es) (sym at) ∙ next in
+    (omega (arith, here.1, s.run.within), omega (arith, spot_is, s.run.begins))
+
+-- and no other sector does
+pub from_run : {size x : ℕ} {es : List ℕ} {p place n : ℕ} → IsPart size x es p place n → (q : ℕ) → q < span x es
+    → IsIn place (512 * n) (area_place + spot x es q) → IsIn p (512 * n) q
+from_run {size} {x} {es} {p} {place} {n} s q below there =
+    let k = spot x es q - spot x es p in
+    let low : k < n = omega (arith, there.0, there.1, s.run.begins) in
+    let sum : spot x es p + k ≡ spot x es q = omega (arith, there.0, s.run.begins) in
+    let same : p + k ≡ q = spot_once size x es (p + k) q s.on (omega (arith, low, s.run.within)) below (s.run.together k low ∙ sum) in
+    (omega (arith, same), omega (arith, same, low))
+
+run_pending : (x : ℕ) (es : List ℕ) (a b : Held) (bytes : List ℕ) (q there back : ℕ) → q < span x es → there ≡ back
+    → b.pending (spot x es q) ≡ a.pending (spot x es q) ++ sector bytes there ∷ []
+    → (volume x es b).pending q ≡ (volume x es a).pending q ++ sector bytes back ∷ []
+run_pending x es a b bytes q there back below is more =
+    volume_pending x es b q below ∙ more
+    ∙ ap₂ (λ l i. l ++ sector bytes i ∷ []) (sym (volume_pending x es a q below)) is
+
+-- a write of the run is a write of the volume
+pub run_torn : {size x : ℕ} {es : List ℕ} {p place n : ℕ} {bytes : List ℕ} {a b : Held} → IsPart size x es p place n → length bytes ≡ 512 * n
+    → Torn place bytes a b → Torn p bytes (volume x es (area_of a)) (volume x es (area_of b))
+run_torn {size} {x} {es} {p} {place} {n} {bytes} {a} {b} s long t = record {
+  floor = volume_floor_same x es (area_of a) (area_of b) (λ q. t.floor (area_place + q));
+  pending = λ q. at_place q (cases_lt q (span x es));
+}
+  where
+    IsEither : ℕ → Type 0
+    IsEither q = ((volume x es (area_of b)).pending q ≡ (volume x es (area_of a)).pending q)
+        ⊎ (IsIn p (length bytes) q × ((volume x es (area_of b)).pending q ≡ (volume x es (area_of a)).pending q ++ sector bytes (q - p) ∷ []))
+
+    by : (q : ℕ) → q < span x es → (b.pending (area_place + spot x es q) ≡ a.pending (area_place + spot x es q))
+        ⊎ (IsIn place (length bytes) (area_place + spot x es q) × (b.pending (area_place + spot x es q) ≡ a.pending (area_place + spot x es q) ++ sector bytes (area_place + spot x es q - place) ∷ []))
+        → IsEither q
+    by q below (inl same) = inl (volume_pending x es (area_of b) q below ∙ same ∙ sym (volume_pending x es (area_of a) q below))
+    by q below (inr (there, more)) =
+        let here = from_run s q below (there.0, omega (arith, there.1, long)) in
+        let at = (within_run s q here).1 in
+        inr ((here.0, omega (arith, here.1, long)), run_pending x es (area_of a) (area_of b) bytes q (area_place + spot x es q - place) (q - p) below (omega (arith, at)) more)
+
+    at_place : (q : ℕ) → (q < span x es) ⊎ (span x es ≤ q) → IsEither q
+    at_place q (inl below) = by q below (t.pending (area_place + spot x es q))
+    at_place q (inr past) = inl (past_pending x es (area_of b) q past ∙ sym (past_pending x es (area_of a) q past))
+
+pub run_wrote : {size x : ℕ} {es : List ℕ} {p place n : ℕ} {bytes : List ℕ} {a b : Held} → IsPart size x es p place n → length bytes ≡ 512 * n
+    → Wrote place bytes a b → Wrote p bytes (volume x es (area_of a)) (volume x es (area_of b))
+run_wrote {size} {x} {es} {p} {place} {n} {bytes} {a} {b} s long w = record {
+  floor = volume_floor_same x es (area_of a) (area_of b) (λ q. w.floor (area_place + q));
+  inside = λ q here. inside q (here.0, omega (arith, here.1, long));
+  outside = λ q not_here. outside q (λ here. not_here (here.0, omega (arith, here.1, long))) (cases_lt q (span x es));
+}
+  where
+    inside : (q : ℕ) → IsIn p (512 * n) q → (volume x es (area_of b)).pending q ≡ (volume x es (area_of a)).pending q ++ sector bytes (q - p) ∷ []
+    inside q here =
+        let at = within_run s q here in
+        run_pending x es (area_of a) (area_of b) bytes q (area_place + spot x es q - place) (q - p) at.0 (omega (arith, at.1))
+        (w.inside (area_place + spot x es q) (omega (arith, at.1), omega (arith, at.1, here.0, here.1, long)))
+
+    outside : (q : ℕ) → (IsIn p (512 * n) q → ⊥) → (q < span x es) ⊎ (span x es ≤ q) → (volume x es (area_of b)).pending q ≡ (volume x es (area_of a)).pending q
+    outside q not_here (inl below) =
+        volume_pending x es (area_of b) q below
+        ∙ w.outside (area_place + spot x es q) (λ there. not_here (from_run s q below (there.0, omega (arith, there.1, long))))
+        ∙ sym (volume_pending x es (area_of a) q below)
+    outside q not_here (inr past) = past_pending x es (area_of b) q past ∙ sym (past_pending x es (area_of a) q past)
+
+-- a read of the run is a read of the volume
+pub run_gave : {size x : ℕ} {es : List ℕ} {p place n : ℕ} (h : Held) (bytes : List ℕ) → IsPart size x es p place n → length bytes ≡ 512 * n
+    → Gave place h bytes → Gave p (volume x es (area_of h)) bytes
+run_gave {size} {x} {es} {p} {place} {n} h bytes s long g = λ q here.
+    let at = within_run s q (here.0, omega (arith, here.1, long)) in
+    let back : q - p ≡ area_place + spot x es q - place = omega (arith, at.1) in
+    ap (sector bytes) back
+    ∙ g (area_place + spot x es q) (omega (arith, at.1), omega (arith, at.1, here.0, here.1))
+    ∙ sym (volume_reads x es (area_of h) q at.0)
+
+-- no other place of the area is written
+pub run_elsewhere : {size x : ℕ} {es : List ℕ} {p place n : ℕ} {bytes : List ℕ} {a b : Held} → IsPart size x es p place n → length bytes ≡ 512 * n
+    → Torn place bytes a b → SameElsewhere x es (area_of a) (area_of b)
+run_elsewhere {size} {x} {es} {p} {place} {n} {bytes} {a} {b} s long t = record {
+  floor = λ q _. t.floor (area_place + q);
+  pending = λ q away. by q away (t.pending (area_place + q));
+}
+  where
+    by : (q : ℕ) → ((r : ℕ) → r < span x es → spot x es r ≡ q → ⊥) → (b.pending (area_place + q) ≡ a.pending (area_place + q))
+        ⊎ (IsIn place (length bytes) (area_place + q) × (b.pending (area_place + q) ≡ a.pending (area_place + q) ++ sector bytes (area_place + q - place) ∷ []))
+        → b.pending (area_place + q) ≡ a.pending (area_place + q)
+    by q away (inl same) = same
+    by q away (inr (there, more)) =
+        let k = q - spot x es p in
+        let low : k < n = omega (arith, there.0, there.1, s.run.begins, long) in
+        let sum : spot x es p + k ≡ q = omega (arith, there.0, s.run.begins) in
+        absurd (away (p + k) (omega (arith, low, s.run.within)) (s.run.together k low ∙ sum))
+
+-- nor any in front of it
+pub run_front : {size x : ℕ} {es : List ℕ} {p place n : ℕ} {bytes : List ℕ} {a b : Held} → IsPart size x es p place n
+    → Torn place bytes a b → SameInFront a b
+run_front {size} {x} {es} {p} {place} {n} {bytes} {a} {b} s t = record {
+  floor = λ q _. t.floor q;
+  pending = λ q front. by q front (t.pending q);
+}
+  where
+    by : (q : ℕ) → q < area_place → (b.pending q ≡ a.pending q) ⊎ (IsIn place (length bytes) q × (b.pending q ≡ a.pending q ++ sector bytes (q - place) ∷ [])) → b.pending q ≡ a.pending q
+    by q front (inl same) = same
+    by q front (inr (there, more)) = absurd (omega (arith, there.0, s.run.begins))

@@ -1,0 +1,79 @@
+use Rattle.std.proofs.Common.{◌≡◌, ◌<◌, ◌^◌, length, take, ap, arith, rules}
+use Rattle.vg_meta.specs.Text.{text}
+use Rattle.vg_layout.specs.Fields.{plate, pointer}
+use Rattle.vg_layout.specs.Places.{extents_on}
+use Rattle.vg_layout.specs.Sectors.{Plate}
+use Rattle.vg_store.specs.Formats.{new_group}
+use Rattle.vg_store.proofs.NewGroups.{fits_records, formatted_from, left_from, enough_from}
+use Rattle.vg_store.proofs.formats.format.Goals as goal
+
+pub lay_out-requires : goal.lay_out-requires
+lay_out-requires g c =
+    let size = g.D.Disk.size c.args.disk.now in
+    let e = c.args.geometry.extent in
+    let enough = enough_from size c.sectors-sectors.result c.record_extents-records.result c.from.result c.from-2.result e c.record_extents-records.ensures c.from.ensures c.from-2.ensures c.sectors-sectors.ensures.size c.if-sectors-least.false in
+    record { room = (fits_records size e c.args.geometry.in_range.extent_least enough).room }
+
+pub returns-in_default-lay_out-clause-crash : goal.returns-in_default-lay_out-clause-crash
+returns-in_default-lay_out-clause-crash g c = λ told image allowed.
+    let size = g.D.Disk.size c.args.disk.now in
+    let e = c.args.geometry.extent in
+    let enough = enough_from size c.sectors-sectors.result c.record_extents-records.result c.from.result c.from-2.result e c.record_extents-records.ensures c.from.ensures c.from-2.ensures c.sectors-sectors.ensures.size c.if-sectors-least.false in
+    let d = c.in-Ok.draft in
+    let r = c.args.repository in
+    let label : plate d.label ≡ (new_group size c.args.geometry r).plate = rw (← c.sectors-sectors.ensures.size) c.in-Ok.ensures.label in
+    let header : pointer d.header ≡ (new_group size c.args.geometry r).pointer = c.in-Ok.ensures.header in
+    let front : take d.header.length d.text ≡ text (new_group size c.args.geometry r).table = c.in-Ok.ensures.text in
+    let sixteen : length r ≡ 16 = search rules in
+    let low : d.header.sum < 2 ^ 32 = omega arith in
+    let long : length d.text ≡ 512 = omega arith in
+    let finished = formatted_from size c.args.geometry r d.text (plate d.label) (pointer d.header) enough low sixteen long label header front in
+    left_from size (g.D.Disk.held c.args.disk.now) c.args.geometry r d.text (plate d.label) (pointer d.header) image (finished image) (c.lay_out.ensures.crash told image allowed)
+
+pub overflow_sub-result : goal.overflow_sub-result
+overflow_sub-result g c =
+    let size = g.D.Disk.size c.args.disk.now in
+    let e = c.args.geometry.extent in
+    let enough = enough_from size c.sectors-sectors.result c.record_extents-records.result c.from.result c.from-2.result e c.record_extents-records.ensures c.from.ensures c.from-2.ensures c.sectors-sectors.ensures.size c.if-sectors-least.false in
+    let count : c.in-Ok.draft.label.extents ≡ extents_on size e = rw (← c.sectors-sectors.ensures.size) (ap (λ (p : Plate). p.count) c.in-Ok.ensures.label) in
+    omega (arith, (fits_records size e c.args.geometry.in_range.extent_least enough).least, count, c.record_extents-records.ensures)
+
+pub returns-clause-free : goal.returns-clause-free
+returns-clause-free g c =
+    let size = g.D.Disk.size c.args.disk.now in
+    let e = c.args.geometry.extent in
+    let enough = enough_from size c.sectors-sectors.result c.record_extents-records.result c.from.result c.from-2.result e c.record_extents-records.ensures c.from.ensures c.from-2.ensures c.sectors-sectors.ensures.size c.if-sectors-least.false in
+    let count : c.in-Ok.draft.label.extents ≡ extents_on size e = rw (← c.sectors-sectors.ensures.size) (ap (λ (p : Plate). p.count) c.in-Ok.ensures.label) in
+    omega (arith, (fits_records size e c.args.geometry.in_range.extent_least enough).least, count, c.record_extents-records.ensures)
+
+pub returns-clause-formatted : goal.returns-clause-formatted
+returns-clause-formatted g c = λ told.
+    let size = g.D.Disk.size c.args.disk.now in
+    let e = c.args.geometry.extent in
+    let enough = enough_from size c.sectors-sectors.result c.record_extents-records.result c.from.result c.from-2.result e c.record_extents-records.ensures c.from.ensures c.from-2.ensures c.sectors-sectors.ensures.size c.if-sectors-least.false in
+    let d = c.in-Ok.draft in
+    let r = c.args.repository in
+    let label : plate d.label ≡ (new_group size c.args.geometry r).plate = rw (← c.sectors-sectors.ensures.size) c.in-Ok.ensures.label in
+    let header : pointer d.header ≡ (new_group size c.args.geometry r).pointer = c.in-Ok.ensures.header in
+    let front : take d.header.length d.text ≡ text (new_group size c.args.geometry r).table = c.in-Ok.ensures.text in
+    let sixteen : length r ≡ 16 = search rules in
+    let low : d.header.sum < 2 ^ 32 = omega arith in
+    let long : length d.text ≡ 512 = omega arith in
+    let finished = formatted_from size c.args.geometry r d.text (plate d.label) (pointer d.header) enough low sixteen long label header front in
+    finished (g.D.Disk.held c.lay_out.new.disk).floor (c.in-Ok-lay_out.ensures.laid told)
+
+pub returns-clause-crash : goal.returns-clause-crash
+returns-clause-crash g c = λ told image allowed.
+    let size = g.D.Disk.size c.args.disk.now in
+    let e = c.args.geometry.extent in
+    let enough = enough_from size c.sectors-sectors.result c.record_extents-records.result c.from.result c.from-2.result e c.record_extents-records.ensures c.from.ensures c.from-2.ensures c.sectors-sectors.ensures.size c.if-sectors-least.false in
+    let d = c.in-Ok.draft in
+    let r = c.args.repository in
+    let label : plate d.label ≡ (new_group size c.args.geometry r).plate = rw (← c.sectors-sectors.ensures.size) c.in-Ok.ensures.label in
+    let header : pointer d.header ≡ (new_group size c.args.geometry r).pointer = c.in-Ok.ensures.header in
+    let front : take d.header.length d.text ≡ text (new_group size c.args.geometry r).table = c.in-Ok.ensures.text in
+    let sixteen : length r ≡ 16 = search rules in
+    let low : d.header.sum < 2 ^ 32 = omega arith in
+    let long : length d.text ≡ 512 = omega arith in
+    let finished = formatted_from size c.args.geometry r d.text (plate d.label) (pointer d.header) enough low sixteen long label header front in
+    left_from size (g.D.Disk.held c.args.disk.now) c.args.geometry r d.text (plate d.label) (pointer d.header) image (finished image) (c.lay_out.ensures.crash told image allowed)

@@ -1,0 +1,59 @@
+use Rattle.std.proofs.Common.{◌≤◌, ◌+◌, ◌*◌}
+use Rattle.vg_meta.specs.Kept.{listing}
+use Rattle.vg_meta.specs.Text.{text}
+use Rattle.vg_layout.specs.Fields.{plate, pointer}
+use Rattle.vg_layout.specs.Places.{area_place}
+use Rattle.vg_store.specs.Groups.{IsGroup}
+use Rattle.vg_store.proofs.OpenedLaws.{IsFound, opened_group, group_stands, opened_before, opened_keeps, opened_area, opened_settled, refused_before}
+use Rattle.vg_store.proofs.groups.Group.open.Goals as goal
+
+pub invariant_of-result : goal.invariant_of-result
+invariant_of-result g c =
+    let d = g.D.Disk in
+    let l = c.in-Ok-find.field-0.label in
+    let h = c.in-Ok-find.field-0.header in
+    let t = listing c.in-Ok-find.field-0.table in
+    let size = d.size c.find.new.disk in
+    let fits : area_place + l.extents * l.geometry.extent ≤ size = rw c.find.ensures.size c.in-Ok-find.ensures.area in
+    let group : d.told → IsGroup size (d.held c.find.new.disk) (plate l) (pointer h) t (text t) =
+    λ told. opened_group (d.size c.sync.new.self) size (d.held c.sync.new.self) (d.held c.find.new.disk) (plate l) (pointer h) t (text t) c.find.ensures.size
+    (c.in-Ok-sync.ensures.settled told) (c.find.ensures.same told)
+    (record { labelled = c.in-Ok-find.ensures.label told; headed = c.in-Ok-find.ensures.header told; text = c.in-Ok-find.ensures.stands told; summed = c.in-Ok-find.ensures.summed; spelled = c.in-Ok-find.ensures.spelled })
+    in
+    record {
+      few = c.in-Ok-find.ensures.few;
+      area = fits;
+      room = c.in-Ok.ensures.len;
+      spelled = c.in-Ok-find.ensures.spelled;
+      summed = c.in-Ok-find.ensures.summed;
+      rests = λ told usable. (group told).rests;
+      stands = λ told image allowed. group_stands size (l.extents * l.geometry.extent) (d.held c.find.new.disk) (plate l) (pointer h) t (text t) image fits (group told) allowed;
+    }
+
+pub returns-in-Ok-find-clause-keeps : goal.returns-in-Ok-find-clause-keeps
+returns-in-Ok-find-clause-keeps g c = λ told. opened_keeps (c.sync.ensures.keeps told) (c.find.ensures.same told)
+
+pub returns-in-Ok-find-clause-settled : goal.returns-in-Ok-find-clause-settled
+returns-in-Ok-find-clause-settled g c = λ told. opened_settled (c.in-Ok-sync.ensures.settled told) (c.find.ensures.same told)
+
+pub returns-in-Ok-find-clause-stands : goal.returns-in-Ok-find-clause-stands
+returns-in-Ok-find-clause-stands g c = λ told.
+    let d = g.D.Disk in
+    let t = listing c.in-Ok-find.field-0.table in
+    let found : IsFound (d.size c.sync.new.self) (d.held c.sync.new.self) (plate c.in-Ok-find.field-0.label) (pointer c.in-Ok-find.field-0.header) t (text t) =
+    record { labelled = c.in-Ok-find.ensures.label told; headed = c.in-Ok-find.ensures.header told; text = c.in-Ok-find.ensures.stands told; summed = c.in-Ok-find.ensures.summed; spelled = c.in-Ok-find.ensures.spelled } in
+    rw (← c.sync.ensures.size)
+    (opened_before (d.size c.sync.new.self) (d.held c.args.disk) (d.held c.sync.new.self) (plate c.in-Ok-find.field-0.label) (pointer c.in-Ok-find.field-0.header) t (text t) (c.sync.ensures.keeps told) found)
+
+pub returns-in-Err-clause-keeps_back : goal.returns-in-Err-clause-keeps_back
+returns-in-Err-clause-keeps_back g c = λ told. opened_keeps (c.sync.ensures.keeps told) (c.find.ensures.same told)
+
+pub returns-in-Err-clause-err : goal.returns-in-Err-clause-err
+returns-in-Err-clause-err g c =
+    let d = g.D.Disk in
+    rw (← c.sync.ensures.size)
+    (refused_before d.told (d.size c.sync.new.self) (d.faults c.args.disk) (d.faults c.sync.new.self) (d.faults c.find.new.disk) (d.held c.args.disk) (d.held c.sync.new.self) c.in-Err.fault
+    c.sync.ensures.counts (λ told. c.sync.ensures.keeps told) c.in-Err.ensures.err)
+
+pub returns-in-Ok-find-clause-area : goal.returns-in-Ok-find-clause-area
+returns-in-Ok-find-clause-area g c = λ told. opened_area (c.sync.ensures.keeps told) (c.find.ensures.same told)

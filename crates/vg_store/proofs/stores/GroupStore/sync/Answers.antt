@@ -1,0 +1,26 @@
+use Rattle.std.proofs.Common.{◌≡◌, ◌+◌, arith}
+use Rattle.sm_disk.proofs.WindowLaws.{Keeps-moved}
+use Rattle.vg_layout.specs.Places.{area_place}
+use Rattle.vg_layout.specs.Fields.{plate}
+use Rattle.vg_store.proofs.HoldingLaws.{no_more-keeps, rests_still, stands_still, Leaves-keeps}
+use Rattle.vg_store.proofs.stores.GroupStore.sync.Goals as goal
+
+pub invariant_of-self : goal.invariant_of-self
+invariant_of-self g c =
+    let s = c.args.self.now in
+    let same = c.sync.ensures.size in
+    record {
+      few = s.few;
+      area = omega (arith, s.area, same);
+      room = s.room;
+      spelled = s.spelled;
+      summed = s.summed;
+      rests = λ told usable. rests_still same (no_more-keeps (c.sync.ensures.keeps told)) (s.rests told usable);
+      stands = λ told. stands_still (g.D.Disk.held s.disk) (g.D.Disk.held c.sync.new.self) (plate s.label) same (no_more-keeps (c.sync.ensures.keeps told)) (s.stands told);
+    }
+
+pub returns-clause-keeps : goal.returns-clause-keeps
+returns-clause-keeps g c = λ told. Keeps-moved (λ q. area_place + q) (c.sync.ensures.keeps told)
+
+pub returns-clause-leaves : goal.returns-clause-leaves
+returns-clause-leaves g c = λ told t image left. Leaves-keeps c.sync.ensures.size (c.sync.ensures.keeps told) left

@@ -1,0 +1,26 @@
+use Rattle.std.proofs.Common.{arith}
+use Rattle.vg_layout.specs.Fields.{plate}
+use Rattle.vg_meta.specs.Kept.{listing}
+use Rattle.vg_store.proofs.HoldingLaws.{no_more-front, rests_still, stands_still}
+use Rattle.vg_store.proofs.StoreLaws.{extents_on_device}
+use Rattle.vg_store.proofs.stores.GroupStore.write.Goals as goal
+
+pub write_volume-requires-clause-on : goal.write_volume-requires-clause-on
+write_volume-requires-clause-on g c =
+    let s = c.args.self.now in
+    extents_on_device (g.D.Disk.size s.disk) s.label.extents s.label.geometry.extent (listing s.table) c.args.volume.now c.in-Some.volume.now.row c.extents.result.now
+    s.spelled.table s.area c.in-Some.ensures.found.row c.extents.ensures.extents
+
+pub invariant_of-self : goal.invariant_of-self
+invariant_of-self g c =
+    let s = c.args.self.now in
+    let same = c.write_volume.ensures.size in
+    record {
+      few = s.few;
+      area = omega (arith, s.area, same);
+      room = s.room;
+      spelled = s.spelled;
+      summed = s.summed;
+      rests = λ told usable. rests_still same (no_more-front (c.write_volume.ensures.front told)) (s.rests told usable);
+      stands = λ told. stands_still (g.D.Disk.held s.disk) (g.D.Disk.held c.write_volume.new.disk) (plate s.label) same (no_more-front (c.write_volume.ensures.front told)) (s.stands told);
+    }

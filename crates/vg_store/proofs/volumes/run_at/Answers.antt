@@ -1,0 +1,25 @@
+use Rattle.std.proofs.Common.{◌≡◌, ◌+◌, ◌%◌, ◌/◌, ◌<◌, refl, subst, arith}
+use Rattle.vg_volumes.specs.Volumes.{span}
+use Rattle.vg_store.specs.Runs.{AreAdjacent}
+use Rattle.vg_store.proofs.RunLaws.{ahead_div, in_extents, extent_some, run_from}
+use Rattle.vg_store.proofs.volumes.run_at.Goals as goal
+
+pub adjacent-requires-clause-there : goal.adjacent-requires-clause-there
+adjacent-requires-clause-there c =
+    let es = c.args.extents.now in
+    let x = c.args.extent in
+    let below : c.args.at + c.args.done < span x es = omega (arith, c.requires.within, c.requires.some) in
+    rw (c.from-extent.ensures, ahead_div c.args.at c.args.done x (extent_some _ _ x below)) (in_extents x es (c.args.at + c.args.done) below)
+
+pub bounds-extents-index : goal.bounds-extents-index
+bounds-extents-index c =
+    let es = c.args.extents.now in
+    let x = c.args.extent in
+    let below : c.args.at + c.args.done < span x es = omega (arith, c.requires.within, c.requires.some) in
+    rw (c.from-extent.ensures, ahead_div c.args.at c.args.done x (extent_some _ _ x below)) (in_extents x es (c.args.at + c.args.done) below)
+
+pub returns-clause-run : goal.returns-clause-run
+returns-clause-run c =
+    let beside = subst (λ y. AreAdjacent c.args.extents.now (c.args.at / y + (c.args.at % y + c.args.done) / y) c.adjacent.result) c.from-extent.ensures c.adjacent.ensures.each in
+    rw (c.from.ensures, c.min.ensures, c.from-extent.ensures)
+    (run_from c.args.extent c.args.extents.now c.args.at c.args.done c.args.left _ _ c.adjacent.result c.requires.some c.requires.within c.adjacent.ensures.some beside refl refl)

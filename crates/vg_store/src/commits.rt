@@ -1,0 +1,77 @@
+//! The commit: a change of the table, and the turn to the table that it leaves.
+
+ghost use Rattle.std.specs.Prelude.{◌≡◌, ◌≤◌, ◌<◌, ◌+◌, ◌*◌, ◌^◌, ℕ, List, true, false, OnOk, OnErr, length};
+ghost use Rattle.sm_disk.specs.Held.{Keeps, IsSettled, Rose};
+ghost use Rattle.vg_meta.specs.Tables.{Listing};
+ghost use Rattle.vg_meta.specs.Kept.{listing};
+ghost use Rattle.vg_meta.specs.Changes.{Allows, HasRoom, applied};
+ghost use Rattle.vg_layout.specs.Fields.{plate, pointer};
+ghost use Rattle.vg_volumes.specs.Commits.{IsEither};
+ghost use Rattle.vg_volumes.specs.Sites.{Fits, RoomAfter};
+ghost use Rattle.vg_store.specs.Groups.{Leaves, area_of};
+ghost use Rattle.vg_store.specs.Heads.{IsHead};
+
+use crate::groups::Group;
+use crate::turns::turn;
+use sm_base::Failed;
+use sm_disk::Disk;
+use vg_layout::{Slot, TableHeader, sum_of};
+use vg_meta::{Change, Table};
+
+/// Writes the text of the table that a change leaves to the buffer's beginning, and answers its header in a slot.
+fn next_header(table: &Table, change: &Change, slot: Slot, buffer: &mut [u8]) -> TableHeader
+    requires allowed { Allows (2 ^ 32) (listing table.now) change.now }
+    requires fits { Fits (listing table.now) change.now }
+    requires room { length buffer.old ≡ 524288 }
+    ensures slot { result.slot ≡ slot }
+    ensures head { IsHead (applied (listing table.now) change.now) (pointer result) buffer.new }
+    ensures long { length buffer.new ≡ length buffer.old }
+{
+    let length = table.encode_changed(change, buffer);
+    let sum = sum_of(&buffer[..length]);
+    TableHeader {
+        slot,
+        length: length as u32,
+        sum,
+    }
+}
+
+impl<D: Disk> Group<D> {
+    /// Changes the table. The text of the next table goes to the slot that is not in use, and its header takes
+    /// effect. At `Ok` nothing is pending. At `Failed` the table is the earlier one, and no further commit is made.
+    /// It takes no memory.
+    pub(crate) fn commit_change(&mut self, change: Change) -> Result<(), Failed>
+        requires usable { self.old.failed ≡ false }
+        requires allowed { Allows self.old.label.extents (listing self.old.table) change }
+        requires room { HasRoom self.old.table change }
+        requires fits { Fits (listing self.old.table) change }
+        ensures label { self.new.label ≡ self.old.label }
+        ensures size { D.size self.new.disk ≡ D.size self.old.disk }
+        ensures counts { D.faults self.old.disk ≤ D.faults self.new.disk }
+        ensures cause { OnErr result (Rose (D.faults self.old.disk) (D.faults self.new.disk)) }
+        ensures changed { OnOk result ((listing self.new.table ≡ applied (listing self.old.table) change) × (self.new.failed ≡ false)) }
+        ensures unchanged { OnErr result ((listing self.new.table ≡ listing self.old.table) × (self.new.failed ≡ true)) }
+        ensures room_after { OnOk result (RoomAfter change self.old.table self.new.table) }
+        ensures keeps { D.told → Keeps (area_of (D.held self.old.disk)) (area_of (D.held self.new.disk)) }
+        ensures settled { OnOk result (D.told → IsSettled (area_of (D.held self.new.disk))) }
+        ensures crash { D.told → (t : Listing) (image : ℕ → List ℕ)
+            → Leaves (D.size self.new.disk) (self.new.label.extents * self.new.label.geometry.extent) (D.held self.new.disk) (plate self.new.label) t image
+            → IsEither (self.old.label.extents * self.old.label.geometry.extent) (listing self.old.table) (applied (listing self.old.table) change) (area_of (D.held self.old.disk)) t image }
+    {
+        let next = next_header(
+            &self.table,
+            &change,
+            self.header.slot.other(),
+            &mut self.buffer,
+        );
+        let sectors = next.length.div_ceil(512) as usize;
+        let (text, _) = self.buffer.split_at(512 * sectors);
+        let Ok(()) = turn(&mut self.disk, &next, text) else {
+            self.failed = true;
+            return Err(Failed);
+        };
+        self.table.apply(change);
+        self.header = next;
+        Ok(())
+    }
+}

@@ -1,0 +1,103 @@
+//! A volume group as a store of volumes.
+
+use crate::groups::Group;
+use crate::volumes::{read_volume, write_volume};
+use sm_base::{Failed, Geometry, Name, NoMemory};
+use sm_disk::Disk;
+use uuid::Uuid;
+use vg_meta::{Change, Table};
+use vg_volumes::Store;
+
+impl<D: Disk> Store for Group<D> {
+    ghost use Rattle.std.specs.Prelude.{ℕ, ◌*◌, List};
+    ghost use Rattle.vg_meta.specs.Kept.{listing};
+    ghost use Rattle.vg_layout.specs.Fields.{plate, pointer};
+    ghost use Rattle.vg_store.specs.Groups.{Leaves, area_of};
+    ghost use Rattle.vg_meta.specs.Text.{text};
+    ghost use Rattle.vg_store.specs.Leaving.{leaves_one, leaves_reads};
+
+    ghost told = { D.told };
+
+    ghost site = { λ g. record { geometry = g.label.geometry; count = g.label.extents; identity = g.label.repository } };
+
+    ghost kept = { λ g. g.table };
+
+    ghost area = { λ g. area_of (D.held g.disk) };
+
+    ghost failed = { λ g. g.failed };
+
+    ghost leaves = { λ g t image. Leaves (D.size g.disk) (g.label.extents * g.label.geometry.extent) (D.held g.disk) (plate g.label) t image };
+
+    ghost faults = { λ g. D.faults g.disk };
+
+    fn geometry(&self) -> Geometry {
+        self.label.geometry
+    }
+
+    fn extents(&self) -> u32 {
+        let _sectors = self.disk.sectors();
+        self.label.extents
+    }
+
+    fn table(&self) -> &Table {
+        &self.table
+    }
+
+    fn repository(&self) -> Uuid {
+        self.label.repository
+    }
+
+    fn room(&mut self, change: &Change) -> Result<(), NoMemory> {
+        match change {
+            Change::Create { .. } => self.rooms(1),
+            Change::Grow { name, extents } => {
+                let Some(volume) = self.table.get(name) else {
+                    return Ok(());
+                };
+                let Some(room) = volume.spare().checked_add(extents.as_slice().len()) else {
+                    return Err(NoMemory);
+                };
+                self.table.reserve_extents(name, room)
+            }
+            Change::Remove { .. }
+            | Change::Rename { .. }
+            | Change::Cut { .. }
+            | Change::Mark { .. } => Ok(()),
+        }
+    }
+
+    fn rooms(&mut self, rows: usize) -> Result<(), NoMemory> {
+        let Some(room) = self.table.spare().checked_add(rows) else {
+            return Err(NoMemory);
+        };
+        self.table.reserve(room)
+    }
+
+    fn commit(&mut self, change: Change) -> Result<(), Failed> {
+        self.commit_change(change)
+    }
+
+    fn read(&mut self, volume: &Name, at: u64, to: &mut [u8]) -> Result<(), Failed> {
+        let Some(volume) = self.table.get(volume) else {
+            unreachable!()
+        };
+        let extent = self.label.geometry.extent;
+        read_volume(&mut self.disk, extent, volume.extents(), at, to)
+    }
+
+    fn write(&mut self, volume: &Name, at: u64, from: &[u8]) -> Result<(), Failed> {
+        let Some(volume) = self.table.get(volume) else {
+            unreachable!()
+        };
+        let extent = self.label.geometry.extent;
+        write_volume(&mut self.disk, extent, volume.extents(), at, from)
+    }
+
+    fn sync(&mut self) -> Result<(), Failed> {
+        self.disk.sync()
+    }
+
+    ghost leaves_now = { λ s told usable t image left. leaves_one (D.size s.disk) (s.label.extents * s.label.geometry.extent) (D.held s.disk) (plate s.label) (pointer s.header) (listing s.table) t (text (listing s.table)) image s.area (s.rests told usable) s.summed s.spelled left };
+
+    ghost leaves_read = { λ s told usable. leaves_reads (D.size s.disk) (s.label.extents * s.label.geometry.extent) (D.held s.disk) (plate s.label) (pointer s.header) (listing s.table) (text (listing s.table)) (s.rests told usable) s.summed s.spelled };
+}
