@@ -1,14 +1,13 @@
 -- A group goes on standing where a stop leaves in front of the extents nothing that it could not leave before.
-use Rattle.std.proofs.Common.{◌≡◌, ℕ, ◌+◌, ◌-◌, ◌*◌, ◌<◌, ◌≤◌, cond, ltb, ◌⊎◌, inl, inr, List, sum, Ok, refl, sym, ap, subst, ◌∙◌, arith}
+use Rattle.std.proofs.Common.{◌≡◌, ℕ, ◌<◌, ◌≤◌, cond, ltb, ◌⊎◌, inl, inr, List, sum, refl, sym, ap, subst, ◌∙◌, arith}
 use Rattle.std.proofs.lemmas.Bool.{lt-ltb, le-ltb, cases_lt}
-use Rattle.sm_base.specs.Numbers.{div_up}
 use Rattle.sm_disk.specs.Held.{Held, May, Allows, Keeps, SameHeld, reads}
 use Rattle.sm_disk.proofs.HeldLaws.{May-reads, may-at, Keeps-same, Allows-keeps}
 use Rattle.vg_meta.specs.Tables.{Listing}
 use Rattle.vg_meta.specs.Reading.{Spells}
-use Rattle.vg_layout.specs.Places.{area_place, label_place, header_place, slot_place}
+use Rattle.vg_layout.specs.Places.{area_place, label_place, header_place}
 use Rattle.vg_layout.specs.Sectors.{Plate, Pointer}
-use Rattle.vg_layout.specs.Opening.{StandsOn, plate_of, pointer_of, text_in}
+use Rattle.vg_layout.specs.Opening.{text_in}
 use Rattle.vg_store.specs.Groups.{Rests, IsStanding, Leaves}
 use Rattle.vg_store.specs.Runs.{SameInFront}
 use Rattle.vg_store.proofs.ImageLaws.{plate_same, pointer_same, text_front}

@@ -31,6 +31,8 @@
 
 mod commits;
 mod formats;
+#[cfg(test)]
+mod group_tests;
 mod groups;
 mod openings;
 mod stores;

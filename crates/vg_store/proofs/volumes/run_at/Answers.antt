@@ -1,4 +1,4 @@
-use Rattle.std.proofs.Common.{◌≡◌, ◌+◌, ◌%◌, ◌/◌, ◌<◌, refl, subst, arith}
+use Rattle.std.proofs.Common.{◌+◌, ◌%◌, ◌/◌, ◌<◌, refl, subst, arith}
 use Rattle.vg_volumes.specs.Volumes.{span}
 use Rattle.vg_store.specs.Runs.{AreAdjacent}
 use Rattle.vg_store.proofs.RunLaws.{ahead_div, in_extents, extent_some, run_from}

@@ -1,4 +1,4 @@
-use Rattle.std.proofs.Common.{◌≤◌, ◌+◌, ◌*◌}
+use Rattle.std.proofs.Common.{◌≤◌, ◌+◌, ◌*◌, refl}
 use Rattle.vg_meta.specs.Kept.{listing}
 use Rattle.vg_meta.specs.Text.{text}
 use Rattle.vg_layout.specs.Fields.{plate, pointer}
@@ -57,3 +57,9 @@ returns-in-Err-clause-err g c =
 
 pub returns-in-Ok-find-clause-area : goal.returns-in-Ok-find-clause-area
 returns-in-Ok-find-clause-area g c = λ told. opened_area (c.sync.ensures.keeps told) (c.find.ensures.same told)
+
+pub returns-in-Ok-find-clause-usable : goal.returns-in-Ok-find-clause-usable
+returns-in-Ok-find-clause-usable g c = refl
+
+pub returns-in_default-sync-clause-err : goal.returns-in_default-sync-clause-err
+returns-in_default-sync-clause-err g c = c.in_default-sync.ensures.cause

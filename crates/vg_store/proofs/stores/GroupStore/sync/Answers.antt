@@ -1,4 +1,4 @@
-use Rattle.std.proofs.Common.{◌≡◌, ◌+◌, arith}
+use Rattle.std.proofs.Common.{◌+◌, arith}
 use Rattle.sm_disk.proofs.WindowLaws.{Keeps-moved}
 use Rattle.vg_layout.specs.Places.{area_place}
 use Rattle.vg_layout.specs.Fields.{plate}

@@ -1,0 +1,9 @@
+pub mod PrunedLaws
+pub mod CheckLaws
+pub mod DiskLaws
+pub mod RemovalLaws
+pub mod FitLaws
+pub mod AreaLaws
+pub mod WipeLaws
+pub mod RestLaws
+pub mod OpeningLaws

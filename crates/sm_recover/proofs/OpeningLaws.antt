@@ -1,0 +1,202 @@
+-- The checks one after another: which place is the first, and what is known where none is.
+use Rattle.std.proofs.Common.{◌≡◌, ◌≢◌, ℕ, zero, suc, ◌+◌, ◌*◌, ◌<◌, ◌≤◌, ◌⊎◌, inl, inr, Bool, true, false, cond, not, ◌==◌, List, [], ◌∷◌, ◌++◌, length, get_or, Option, Some, None, refl, sym, ap, ◌∙◌, subst, arith, nat_lt}
+use Rattle.std.specs.List.{find, slice_get}
+use Rattle.std.specs.Prelude.{Result, Err, IfErr}
+use Rattle.std.proofs.lemmas.Bool.{ltb-false}
+use Rattle.std.proofs.lemmas.Bool.Decides.{nat_tests}
+use Rattle.std.proofs.lemmas.Option.{slice_get-get_or, slice_get_within}
+use Rattle.sm_base.specs.declared.faults.OpenFault.{OpenFault}
+use Rattle.sm_base.specs.declared.faults.OpenFault.TheVariants as fault
+use Rattle.sm_base.specs.declared.faults.Place.{Place}
+use Rattle.sm_base.specs.declared.faults.Place.TheVariants as at
+use Rattle.sm_base.specs.declared.names.Name.TheVariants.{Mgt}
+use Rattle.sm_base.specs.declared.sizes.Geometry.{Geometry}
+use Rattle.sm_disk.specs.Held.{Held, reads, Rose}
+use Rattle.vg_layout.specs.Places.{record_extents}
+use Rattle.vg_meta.specs.Tables.{Listing, Row, IsTable, extents_of}
+use Rattle.vg_meta.specs.Kept.{Kept, listing}
+use Rattle.vg_volumes.specs.Sites.{Site, size_of}
+use Rattle.sm_machine.specs.Lists.{first_some, numbers, given}
+use Rattle.sm_machine.specs.Shapes.{image_limit}
+use Rattle.sm_record.specs.declared.records.Record.{Record}
+use Rattle.sm_record.specs.declared.records.Reading.{Reading}
+use Rattle.sm_record.specs.declared.records.Reading.TheVariants.{Free, Taken, Damaged}
+use Rattle.sm_record.specs.Records.{reading}
+use Rattle.sm_mgt.specs.Places.{Agrees, as_reading, records_held, IsFirstDamaged, reading_of}
+use Rattle.sm_standing.specs.Contents.{Content, row, reading_at, record_count, sectors_of}
+use Rattle.sm_standing.specs.Checks.{has_records, record_volume_fault, images, too_many_fault, entry_ahead_fault, image_ahead_fault, record_fault, record_place, is_damaged, disk_fault, first_fault_today}
+use Rattle.sm_standing.specs.Plain.{IsPlain}
+use Rattle.sm_standing.proofs.Finding.{none_first, find_none, In-numbers}
+use Rattle.sm_recover.specs.Stores.{content_in, content_now}
+use Rattle.sm_recover.specs.Faults.{HasTable, HasPlaces, table_faults}
+use Rattle.sm_recover.specs.Repairs.{IsChecked, IsStopped}
+use Rattle.sm_recover.proofs.CheckLaws.{plain_from}
+use Rattle.sm_recover.proofs.AreaLaws.{record_places, records_fit, volume_reads, reading_is}
+
+-- ---- the first of all
+
+first_front : {A : Type 0} (xs ys : List (Option A)) (x : A) → first_some xs ≡ Some x → first_some (xs ++ ys) ≡ Some x
+first_front [] ys x h = absurd (let e = h in cc)
+first_front (Some y ∷ xs) ys x h = h
+first_front (None ∷ xs) ys x h = first_front xs ys x h
+
+first_behind : {A : Type 0} (xs ys : List (Option A)) → first_some xs ≡ None → first_some (xs ++ ys) ≡ first_some ys
+first_behind [] ys h = refl
+first_behind (Some y ∷ xs) ys h = absurd (let e = h in cc)
+first_behind (None ∷ xs) ys h = first_behind xs ys h
+
+-- a check by the table is the first that fails
+pub today_table : (c : Content) (place : Place) → first_some (table_faults c) ≡ Some place → first_fault_today c ≡ Some place
+unfolding first_fault_today
+today_table c place h = first_front (table_faults c) (record_fault c ∷ disk_fault c ∷ []) place h
+
+-- or one of the records
+pub today_records : (c : Content) (place : Place) → first_some (table_faults c) ≡ None → record_fault c ≡ Some place → first_fault_today c ≡ Some place
+unfolding first_fault_today
+today_records c place none h = first_behind (table_faults c) (record_fault c ∷ disk_fault c ∷ []) none ∙ ap (λ o. first_some (o ∷ disk_fault c ∷ [])) h
+
+only : {A : Type 0} (o : Option A) → first_some (o ∷ []) ≡ o
+only None = refl
+only (Some x) = refl
+
+-- or that of the disks, or none
+pub today_disks : (c : Content) (o : Option Place) → first_some (table_faults c) ≡ None → record_fault c ≡ None → disk_fault c ≡ o → first_fault_today c ≡ o
+unfolding first_fault_today
+today_disks c o none right h =
+    first_behind (table_faults c) (record_fault c ∷ disk_fault c ∷ []) none ∙ ap (λ q. first_some (q ∷ disk_fault c ∷ [])) right ∙ only (disk_fault c) ∙ h
+
+-- ---- where the checks by the table pass
+
+pub has_table : (s : Site) (g : Geometry) (t : Listing) (image : ℕ → List ℕ) → g ≡ s.geometry → HasTable g t (content_in s t image)
+has_table s g t image is = record {
+  extent = ap (λ (x : Geometry). x.extent) (sym is);
+  block = ap (λ (x : Geometry). x.block) (sym is);
+  entries = ap (λ (x : Geometry). x.entries) (sym is);
+  table = refl;
+}
+
+none_given : (b : Bool) (p : Place) → given b p ≡ None → b ≡ false
+none_given true p h = absurd (let e = h in cc)
+none_given false p h = refl
+
+eq_of : (a b : ℕ) → (a == b) ≡ true → a ≡ b
+eq_of a b h = grind (arith, nat_tests)
+
+not_not : (b : Bool) → not b ≡ false → b ≡ true
+not_not true h = refl
+not_not false h = absurd (let e = h in cc)
+
+records_long : (c : Content) (o : Option Row) → not (has_records c o) ≡ false → length (extents_of o) ≡ record_extents c.extent
+records_long c None h = absurd (let e = h in cc)
+records_long c (Some r) h = eq_of (length r.extents) (record_extents c.extent) (not_not (length r.extents == record_extents c.extent) h)
+
+volume_long : (c : Content) → record_volume_fault c ≡ None → length (extents_of (row c Mgt)) ≡ record_extents c.extent
+unfolding record_volume_fault
+volume_long c h = records_long c (row c Mgt) (none_given (not (has_records c (row c Mgt))) at.Mgt h)
+
+few : (c : Content) → too_many_fault c ≡ None → length (images c.table) ≤ 500
+unfolding too_many_fault
+few c h = ltb-false 500 (length (images c.table)) (none_given (nat_lt image_limit (length (images c.table))) at.Images h)
+
+pub checked_from : (s : Site) (t : Listing) → IsTable s.count t → s.count ≤ 65536 → ((image : ℕ → List ℕ) → first_some (table_faults (content_in s t image)) ≡ None) → IsChecked s t
+checked_from s t table extents none =
+    let c : Content = content_in s t (λ p. []) in
+    let each = none_first (table_faults c) (none (λ p. [])) in
+    record {
+      table = table;
+      few_extents = extents;
+      plain = plain_from c (each (entry_ahead_fault c) (inr (inr (inr (inl refl))))) (each (image_ahead_fault c) (inr (inr (inr (inr (inl refl))))));
+      few_images = few c (each (too_many_fault c) (inr (inl refl)));
+      record_volume = volume_long c (each (record_volume_fault c) (inl refl));
+    }
+
+-- ---- the records
+
+pub has_places : {s : Site} {t : Listing} (area : Held) (places : List (Option Record)) → IsChecked s t → Agrees (records_held s t area) places → HasPlaces places (content_now s t area)
+has_places area places c agrees = record {
+  long = agrees.long;
+  each = λ k o at. reading_is area c agrees k o (omega (arith, slice_get_within places k o at, agrees.long)) at;
+}
+
+as_right : (o : Option Record) → is_damaged (as_reading o) ≡ false
+as_right None = refl
+as_right (Some r) = refl
+
+pub records_right : (c : Content) (places : List (Option Record)) → HasPlaces places c → record_fault c ≡ None
+unfolding record_fault
+records_right c places has =
+    ap record_place (find_none (λ k. is_damaged (reading_at c k)) (numbers 0 record_count)
+    (λ k h. let w = In-numbers 0 record_count k h in
+    let found : slice_get places k ≡ Some (get_or places k None) = slice_get-get_or places k None (omega (arith, w.1, has.long)) in
+    ap is_damaged (has.each k (get_or places k None) found) ∙ as_right (get_or places k None)))
+
+first_step : (test : ℕ → Bool) (a : ℕ) (b : Bool) (rest : Option ℕ) (k : ℕ) → test a ≡ b → (a ≡ k → test k ≡ true → b ≡ true) → (a ≢ k → b ≡ false) → (a ≢ k → rest ≡ Some k) → (a ≡ k) ⊎ (a ≢ k)
+    → test k ≡ true → cond b (Some a) rest ≡ Some k
+first_step test a b rest k is same other behind (inl at) passes = ap (λ v. cond v (Some a) rest) (same at passes) ∙ ap Some at
+first_step test a b rest k is same other behind (inr away) passes = ap (λ v. cond v (Some a) rest) (other away) ∙ behind away
+
+eq_or_not : (a k : ℕ) → (a ≡ k) ⊎ (a ≢ k)
+eq_or_not a k = of_test (a == k) refl
+  where
+    of_test : (b : Bool) → (a == k) ≡ b → (a ≡ k) ⊎ (a ≢ k)
+    of_test true is = inl (eq_of a k is)
+    of_test false is = inr (λ e. (let h = is in grind (arith, nat_tests, e)))
+
+first_number : (test : ℕ → Bool) (a n k : ℕ) → a ≤ k → k < a + n → test k ≡ true → ((j : ℕ) → a ≤ j → j < k → test j ≡ false) → find test (numbers a n) ≡ Some k
+unfolding numbers
+first_number test a zero k from below passes before = absurd (omega arith)
+first_number test a (suc n) k from below passes before =
+    first_step test a (test a) (find test (numbers (a + 1) n)) k refl (λ e p. ap test e ∙ p) (λ away. before a (omega arith) (omega (arith, away)))
+    (λ away. first_number test (a + 1) n k (omega (arith, away)) (omega arith) passes (λ j lo hi. before j (omega arith) hi)) (eq_or_not a k) passes
+
+damaged_test : (r : Reading) → (r ≡ Damaged → ⊥) → is_damaged r ≡ false
+damaged_test Free h = refl
+damaged_test (Taken x) h = refl
+damaged_test Damaged h = absurd (h refl)
+
+reading_place : {s : Site} {t : Listing} (area : Held) (k : ℕ) → IsChecked s t → k < record_count → reading_at (content_now s t area) k ≡ reading_of (records_held s t area) k
+unfolding sectors_of
+reading_place {s} {t} area k c below = ap reading (sym (volume_reads s.geometry.extent (record_places t) area k (omega (arith, below, records_fit c))))
+
+-- the first sector that is damaged
+pub records_wrong : {s : Site} {t : Listing} (area : Held) (k : ℕ) → IsChecked s t → IsFirstDamaged (records_held s t area) k → record_fault (content_now s t area) ≡ Some (at.Record k)
+unfolding record_fault
+records_wrong {s} {t} area k c first =
+    ap record_place (first_number (λ j. is_damaged (reading_at (content_now s t area) j)) 0 record_count k (omega arith) (omega (arith, first.within))
+    (ap is_damaged (reading_place area k c first.within ∙ first.damaged))
+    (λ j lo hi. damaged_test (reading_at (content_now s t area) j) (λ e. first.before j hi (sym (reading_place area j c (omega (arith, first.within))) ∙ e))))
+
+pub load_fits : {s : Site} {t : Listing} → IsChecked s t → 512 * 512 ≤ 512 * size_of s t Mgt
+load_fits c = omega (arith, records_fit c)
+
+-- ---- as the checks are called
+
+pub tables_say : (s : Site) (g : Geometry) (k kept : Kept) (o : Option Place) → k ≡ kept → g ≡ s.geometry → ((c : Content) → HasTable g (listing k) c → o ≡ first_some (table_faults c))
+    → (image : ℕ → List ℕ) → first_some (table_faults (content_in s (listing kept) image)) ≡ o
+tables_say s g k kept o same geometry says image =
+    sym (says (content_in s (listing kept) image)
+    (subst (λ x. HasTable g (listing x) (content_in s (listing kept) image)) (sym same) (has_table s g (listing kept) image geometry)))
+
+pub all_say : {s : Site} {t u : Listing} (area : Held) (places : List (Option Record)) (o : Option Place) → IsChecked s t → u ≡ t → Agrees (records_held s t area) places
+    → ((image : ℕ → List ℕ) → first_some (table_faults (content_in s t image)) ≡ None)
+    → ((c : Content) → c.table ≡ u → HasPlaces places c → o ≡ disk_fault c) → first_fault_today (content_now s t area) ≡ o
+all_say {s} {t} {u} area places o c same agrees none says =
+    let has = has_places area places c agrees in
+    today_disks (content_now s t area) o (none (reads area)) (records_right (content_now s t area) places has) (sym (says (content_now s t area) (sym same) has))
+
+pub plain_later : {s : Site} {t u : Listing} → IsChecked s t → u ≡ t → IsPlain u
+plain_later c same = subst IsPlain (sym same) c.plain
+
+-- why the records were not read
+pub stopped_by : {s : Site} {t : Listing} (told : Type 0) (area : Held) (before now : ℕ) (e : OpenFault) → IsChecked s t
+    → ((image : ℕ → List ℕ) → first_some (table_faults (content_in s t image)) ≡ None)
+    → (e ≡ fault.NoMemory) ⊎ ((e ≡ fault.Device) × Rose before now) ⊎ ((k : ℕ) × (e ≡ fault.Damaged (at.Record k)) × (told → IsFirstDamaged (records_held s t area) k))
+    → IsStopped told (content_now s t area) before now e
+stopped_by {s} {t} told area before now e c none (inl is) = subst (IsStopped told (content_now s t area) before now) (sym is) tt
+stopped_by {s} {t} told area before now e c none (inr (inl (is, rose))) = subst (IsStopped told (content_now s t area) before now) (sym is) rose
+stopped_by {s} {t} told area before now e c none (inr (inr (k, is, first))) =
+    subst (IsStopped told (content_now s t area) before now) (sym is)
+    (λ known. today_records (content_now s t area) (at.Record k) (none (reads area)) (records_wrong area k c (first known)))
+
+pub if_err : {T E : Type 0} (P : E → Type 0) (r : Result T E) (e : E) → r ≡ Err e → P e → IfErr r P
+if_err P r e is p = subst (λ x. IfErr x P) (sym is) p

@@ -1,0 +1,63 @@
+use Rattle.std.proofs.Common.{⊎_elim, ap, ◌∙◌, arith}
+use Rattle.sm_disk.proofs.HeldLaws.{Keeps-then}
+use Rattle.vg_meta.specs.Kept.{listing}
+use Rattle.sm_recover.proofs.AreaLaws.{pruned_between, pruned_after, pruned_now}
+use Rattle.sm_recover.proofs.FitLaws.{text_fits}
+use Rattle.sm_recover.proofs.RemovalLaws.{may_remove, checked_one, without_one, without_then, removed_more, removed_shorter, new_at, orderly_from}
+use Rattle.sm_recover.proofs.removals.remove_new.Goals as goal
+
+pub commit-requires-clause-allowed : goal.commit-requires-clause-allowed
+commit-requires-clause-allowed g c =
+    let new = new_at c.in-Some.name c.table.ensures.table c.in-Some.ensures.some in
+    may_remove _ (listing (g.S.Store.kept c.loop-name.store)) c.in-Some.name new.0 c.loop-name.invariant.checked.table new.1 new.2
+
+pub commit-requires-clause-fits : goal.commit-requires-clause-fits
+commit-requires-clause-fits g c =
+    let new = new_at c.in-Some.name c.table.ensures.table c.in-Some.ensures.some in
+    text_fits (checked_one c.in-Some.name new.0 c.loop-name.invariant.checked new.1 new.2)
+
+pub loop-name-smaller : goal.loop-name-smaller
+loop-name-smaller g c =
+    removed_shorter (listing (g.S.Store.kept c.loop-name.store)) (listing (g.S.Store.kept c.commit.new.self)) c.in-Some.name
+    (new_at c.in-Some.name c.table.ensures.table c.in-Some.ensures.some) c.in_ok-commit.ensures.changed.0
+
+pub loop-name-preserved : goal.loop-name-preserved
+loop-name-preserved g c =
+    let i = c.loop-name.invariant in
+    let m = removed_more c.in-Some.name i.checked i.left (new_at c.in-Some.name c.table.ensures.table c.in-Some.ensures.some) c.in_ok-commit.ensures.changed.0 in
+    record {
+      site = c.commit.ensures.site ∙ i.site;
+      counts = omega (arith, i.counts, c.commit.ensures.counts);
+      usable = c.in_ok-commit.ensures.changed.1;
+      checked = m.0;
+      left = m.1;
+      settled = c.in_ok-commit.ensures.settled;
+      keeps = λ told. Keeps-then (i.keeps told) (c.commit.ensures.keeps told);
+    }
+
+pub returns-in_err-commit-clause-crash : goal.returns-in_err-commit-clause-crash
+returns-in_err-commit-clause-crash g c = λ told t image leaves.
+    let i = c.loop-name.invariant in
+    let new = new_at c.in-Some.name c.table.ensures.table c.in-Some.ensures.some in
+    ⊎_elim
+    (λ before. pruned_between c.requires.checked i.site i.left (i.keeps told) (i.settled told) before)
+    (λ after. pruned_after c.requires.checked i.site
+    (without_then i.left (without_one _ (listing (g.S.Store.kept c.loop-name.store)) c.in-Some.name new.0 i.checked.table new.1 new.2)) (i.keeps told) after)
+    (c.commit.ensures.crash told t image leaves)
+
+pub returns-clause-orderly : goal.returns-clause-orderly
+returns-clause-orderly g c =
+    let i = c.loop-name.invariant in
+    orderly_from c.table.result.now i.checked i.site (ap listing c.table.ensures.table) c.in_default.ensures.none
+
+pub returns-clause-pruned : goal.returns-clause-pruned
+returns-clause-pruned g c = λ told.
+    let i = c.loop-name.invariant in pruned_now c.requires.checked i.site i.left (i.keeps told)
+
+pub returns-clause-crash : goal.returns-clause-crash
+returns-clause-crash g c = λ told t image leaves.
+    let i = c.loop-name.invariant in
+    pruned_between c.requires.checked i.site i.left (i.keeps told) (i.settled told) (g.met.S.Store.leaves_now c.loop-name.store told i.usable t image leaves)
+
+pub returns-in_err-commit-clause-keeps : goal.returns-in_err-commit-clause-keeps
+returns-in_err-commit-clause-keeps g c = λ told. Keeps-then (c.loop-name.invariant.keeps told) (c.commit.ensures.keeps told)

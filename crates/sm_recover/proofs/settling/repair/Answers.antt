@@ -1,0 +1,36 @@
+use Rattle.sm_recover.specs.Stores.{content_now}
+use Rattle.vg_meta.specs.Kept.{listing}
+use Rattle.sm_recover.proofs.RestLaws.{agrees_left, repaired_once, repaired_twice, pruned_at, rest_from}
+use Rattle.sm_recover.proofs.settling.repair.Goals as goal
+
+pub returns-in_err-remove_new-clause-crash : goal.returns-in_err-remove_new-clause-crash
+returns-in_err-remove_new-clause-crash g c = λ told t image leaves. repaired_once (c.requires.sound told) (c.remove_new.ensures.crash told t image leaves)
+
+pub tidy_records-requires-clause-agrees : goal.tidy_records-requires-clause-agrees
+tidy_records-requires-clause-agrees g c = λ told.
+    agrees_left (g.S.Store.area c.args.store.now) (g.S.Store.area c.remove_new.new.store) c.args.mgt.now c.requires.checked c.remove_new.ensures.site c.in_ok-remove_new.ensures.left
+    (c.remove_new.ensures.keeps told) (c.requires.agrees told)
+
+pub returns-in_err-tidy_records-clause-crash : goal.returns-in_err-tidy_records-clause-crash
+returns-in_err-tidy_records-clause-crash g c = λ told t image leaves.
+    repaired_twice _ (content_now (g.S.Store.site c.remove_new.new.store) (listing (g.S.Store.kept c.remove_new.new.store)) (g.S.Store.area c.remove_new.new.store)) _
+    (c.requires.sound told) (c.in_ok-remove_new.ensures.pruned told)
+    (pruned_at (g.S.Store.area c.remove_new.new.store) c.remove_new.ensures.site (c.tidy_records.ensures.crash told t image leaves))
+
+pub returns-clause-at_rest : goal.returns-clause-at_rest
+returns-clause-at_rest g c = λ told.
+    let r = repaired_twice _ (content_now (g.S.Store.site c.remove_new.new.store) (listing (g.S.Store.kept c.remove_new.new.store)) (g.S.Store.area c.remove_new.new.store)) _
+    (c.requires.sound told) (c.in_ok-remove_new.ensures.pruned told) (c.in_ok-tidy_records.ensures.pruned told) in
+    rest_from (g.S.Store.area c.tidy_records.new.store) c.tidy_records.new.mgt r.sound (c.in_ok-tidy_records.ensures.settled told) (c.in_ok-tidy_records.ensures.no_stray told)
+    (c.in_ok-tidy_records.ensures.agrees told)
+
+pub returns-clause-repaired : goal.returns-clause-repaired
+returns-clause-repaired g c = λ told.
+    repaired_twice _ (content_now (g.S.Store.site c.remove_new.new.store) (listing (g.S.Store.kept c.remove_new.new.store)) (g.S.Store.area c.remove_new.new.store)) _
+    (c.requires.sound told) (c.in_ok-remove_new.ensures.pruned told) (c.in_ok-tidy_records.ensures.pruned told)
+
+pub returns-clause-crash : goal.returns-clause-crash
+returns-clause-crash g c = λ told t image leaves.
+    repaired_twice _ (content_now (g.S.Store.site c.remove_new.new.store) (listing (g.S.Store.kept c.remove_new.new.store)) (g.S.Store.area c.remove_new.new.store)) _
+    (c.requires.sound told) (c.in_ok-remove_new.ensures.pruned told)
+    (pruned_at (g.S.Store.area c.remove_new.new.store) c.remove_new.ensures.site (c.tidy_records.ensures.crash told t image leaves))

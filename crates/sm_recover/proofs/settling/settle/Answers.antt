@@ -1,0 +1,34 @@
+use Rattle.std.proofs.Common.{inr, ap, ◌∙◌}
+use Rattle.sm_standing.specs.Checks.{first_fault_today}
+use Rattle.sm_standing.specs.Standing.{disks}
+use Rattle.sm_recover.proofs.RestLaws.{content_as, agrees_as, settled_same, checked_as, repaired_as}
+use Rattle.sm_recover.proofs.settling.settle.Goals as goal
+
+pub repair-requires : goal.repair-requires
+repair-requires g c =
+    let k = c.in_ok-mgt.ensures in
+    let old = g.S.Store.area c.args.store.now in
+    let new = g.S.Store.area c.checked.new.store in
+    record {
+      usable = k.stays.same_flag ∙ c.requires.usable;
+      settled = λ told. settled_same (k.same told) (c.requires.settled told);
+      checked = checked_as k.stays.same_site k.stays.same_table k.checked;
+      sound = λ told. ap first_fault_today (content_as old new k.stays.same_site k.stays.same_table (k.same told)) ∙ k.sound told;
+      agrees = λ told. agrees_as old new c.in_ok-mgt.mgt k.checked k.stays.same_site k.stays.same_table (k.same told) (k.agrees told);
+    }
+
+pub returns-in_default-clause-crash : goal.returns-in_default-clause-crash
+returns-in_default-clause-crash g c = λ told t image leaves.
+    let k = c.checked.ensures in
+    inr (repaired_as (g.S.Store.area c.args.store.now) (g.S.Store.area c.checked.new.store) k.stays.same_site k.stays.same_table (k.same told) (c.repair.ensures.crash told t image leaves))
+
+pub returns-clause-crash : goal.returns-clause-crash
+returns-clause-crash g c = λ told t image leaves.
+    let k = c.checked.ensures in
+    inr (repaired_as (g.S.Store.area c.args.store.now) (g.S.Store.area c.checked.new.store) k.stays.same_site k.stays.same_table (k.same told) (c.repair.ensures.crash told t image leaves))
+
+pub returns-clause-disks : goal.returns-clause-disks
+returns-clause-disks g c = λ told.
+    let k = c.checked.ensures in
+    (c.in-Ok.ensures.repaired told).same_disks
+    ∙ ap disks (content_as (g.S.Store.area c.args.store.now) (g.S.Store.area c.checked.new.store) k.stays.same_site k.stays.same_table (k.same told))

@@ -1,0 +1,4 @@
+pub mod Stores
+pub mod Pruned
+pub mod Faults
+pub mod Repairs

@@ -1,0 +1,67 @@
+-- What stands in a store of volumes: the content of its table and of its area, and what holds of it between two steps
+-- (this project's format, as far as it is built: raw disks alone).
+use Rattle.std.specs.Prelude.{◌≡◌, ℕ, ◌<◌, ◌≤◌, true, false, List, length, Option, None, is_some}
+use Rattle.sm_base.specs.declared.names.Name.TheVariants.{Mgt}
+use Rattle.sm_disk.specs.Held.{Held, reads, IsSettled}
+use Rattle.vg_layout.specs.Places.{record_extents}
+use Rattle.vg_meta.specs.Tables.{Listing, Row, IsTable, rows, extents_of}
+use Rattle.vg_volumes.specs.Sites.{Site}
+use Rattle.sm_machine.specs.Lists.{In}
+use Rattle.sm_machine.specs.Shapes.{image_limit}
+use Rattle.sm_machine.specs.Steps.{State}
+use Rattle.sm_record.specs.declared.records.Record.{Record}
+use Rattle.sm_record.specs.declared.records.Reading.TheVariants.{Taken}
+use Rattle.sm_mgt.specs.Places.{Agrees, records_held}
+use Rattle.sm_standing.specs.Contents.{Content, record_count, reading_at}
+use Rattle.sm_standing.specs.Checks.{images, first_fault_today}
+use Rattle.sm_standing.specs.Plain.{IsPlain}
+use Rattle.sm_standing.specs.PlainSound.{PlainSound}
+use Rattle.sm_standing.specs.Shapes.{shape}
+use Rattle.sm_standing.specs.Standing.{stands, disks}
+
+-- the content of a table and of an image of the area
+abbrev pub content_in : Site → Listing → (ℕ → List ℕ) → Content
+content_in s t image = record {
+  extent = s.geometry.extent;
+  block = s.geometry.block;
+  entries = s.geometry.entries;
+  count = s.count;
+  table = t;
+  area = image;
+}
+
+-- the content that a read gives now
+abbrev pub content_now : Site → Listing → Held → Content
+content_now s t area = content_in s t (reads area)
+
+-- its disks and its shape
+abbrev pub state_now : Site → Listing → Held → State
+state_now s t area = record { disks = disks (content_now s t area); shape = shape (content_now s t area) }
+
+-- what is known of the table in memory between two steps: raw disks alone, none of them new, not too many, and the
+-- volume of records with exactly its extents
+pub record IsOrderly (s : Site) (t : Listing) : Type 0 where
+  pub table : IsTable s.count t
+  pub few_extents : s.count ≤ 65536
+  pub plain : IsPlain t
+  pub few_images : length (images t) ≤ image_limit
+  pub none_new : (r : Row) → In r t.volumes → r.fresh ≡ false
+  pub record_volume : length (extents_of (rows t Mgt)) ≡ record_extents s.geometry.extent
+
+-- each record is that of a disk
+abbrev pub HasNoStray : Content → Type 0
+HasNoStray c = (k : ℕ) (r : Record) → k < record_count → reading_at c k ≡ Taken r → is_some (stands c.table r.uuid) ≡ true
+
+-- what is known of the store between two steps, where its content is told: it is sound, nothing is pending, no record is
+-- stray, and the places in memory are those that a read gives
+pub record IsAtRest (s : Site) (t : Listing) (area : Held) (places : List (Option Record)) : Type 0 where
+  pub sound : PlainSound (content_now s t area)
+  pub settled : IsSettled area
+  pub no_stray : HasNoStray (content_now s t area)
+  pub agrees : Agrees (records_held s t area) places
+
+-- a content that an opening may leave: sound, and with the disks from before
+pub record IsRepairedFrom (old new : Content) : Type 0 where
+  pub was_sound : first_fault_today old ≡ None
+  pub sound : PlainSound new
+  pub same_disks : disks new ≡ disks old

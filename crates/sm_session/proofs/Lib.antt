@@ -1,0 +1,17 @@
+pub mod Causes
+pub mod FillLaws
+pub mod FitLaws
+pub mod JoinLaws
+pub mod ListLaws
+pub mod MomentLaws
+pub mod NameOrder
+pub mod PlainShapes
+pub mod PutRows
+pub mod RawRows
+pub mod RecordPlaces
+pub mod RestLaws
+pub mod SessionLaws
+pub mod ShapeLaws
+pub mod StageLaws
+pub mod TableLaws
+pub mod VolumeLaws

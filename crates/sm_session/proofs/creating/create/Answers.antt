@@ -1,0 +1,71 @@
+use Rattle.std.proofs.Common.{◌≡◌, ℕ, ◌*◌, length, sym, ap, ap₂, refl, ◌∙◌, subst, arith, Err}
+use Rattle.sm_base.specs.declared.sizes.Geometry.{Geometry}
+use Rattle.sm_disk.specs.Held.{reads}
+use Rattle.sm_machine.specs.Runs.{is_accepted}
+use Rattle.vg_meta.specs.Kept.{Kept, listing}
+use Rattle.sm_recover.specs.Stores.{IsOrderly}
+use Rattle.sm_session.specs.Refusing.{site_of, IsSiteOf, IsAccepted, extents_for}
+use Rattle.sm_session.proofs.Causes.{orderly_as}
+use Rattle.sm_session.proofs.SessionLaws.{taken_made, taken_failed, taken_refused, taken_poor, taken_poor_as, rests_at, shown_at}
+use Rattle.sm_session.proofs.creating.create.Goals as goal
+
+pub refuse_create-refusal-requires : goal.refuse_create-refusal-requires
+refuse_create-refusal-requires g c = record {
+  orderly = subst (λ (k : Kept). IsOrderly (site_of c.geometry-geometry.result c.extents-extents.result) (listing k)) (sym c.table.ensures.table)
+      (orderly_as (g.S.Store.site c.args.store.now) (site_of c.geometry-geometry.result c.extents-extents.result) (listing (g.S.Store.kept c.args.store.now)) c.geometry-geometry.ensures c.extents-extents.ensures.count c.requires.orderly);
+}
+
+pub returns-in-Some-clause-taken : goal.returns-in-Some-clause-taken
+returns-in-Some-clause-taken g c = λ told rest.
+    let exact = rw c.table.ensures.table at c.in-Some.ensures.exact in
+    let site : IsSiteOf c.geometry-geometry.result c.extents-extents.result (g.S.Store.site c.args.store.now) = record { same_sizes = sym c.geometry-geometry.ensures; same_count = sym c.extents-extents.ensures.count } in
+    taken_refused _ _ _ _ _ _ _ _ _ c.requires.orderly rest (g.met.S.Store.leaves_now c.args.store.now told c.requires.usable)
+    (sym (exact (g.S.Store.site c.args.store.now) (reads (g.S.Store.area c.args.store.now)) c.args.label.now site rest.sound))
+
+pub overflow_cast-need : goal.overflow_cast-need
+overflow_cast-need g c =
+    let accepted = rw c.table.ensures.table at c.in_default.ensures.accepted in
+    let site : IsSiteOf c.geometry-geometry.result c.extents-extents.result (g.S.Store.site c.args.store.now) = record { same_sizes = sym c.geometry-geometry.ensures; same_count = sym c.extents-extents.ensures.count } in
+    let few = (accepted refl (g.S.Store.site c.args.store.now) site).few in
+    let same : c.extents_needed-need.result ≡ extents_for (g.S.Store.site c.args.store.now).geometry.extent c.args.size = c.extents_needed-need.ensures.extents ∙ ap (λ (h : Geometry). extents_for h.extent c.args.size) c.geometry-geometry.ensures in
+    omega (arith, few, same, c.extents-extents.ensures.few)
+
+pub returns-in_default-first_fit-clause-taken : goal.returns-in_default-first_fit-clause-taken
+returns-in_default-first_fit-clause-taken g c = λ told rest.
+    taken_poor _ _ _ _ _ _ c.requires.orderly rest (g.met.S.Store.leaves_now c.args.store.now told c.requires.usable)
+
+pub returns-in-Ok-make_raw-clause-refused : goal.returns-in-Ok-make_raw-clause-refused
+unfolding is_accepted
+returns-in-Ok-make_raw-clause-refused g c = λ no. absurd (let e = no in cc)
+
+pub returns-in-Ok-make_raw-clause-taken : goal.returns-in-Ok-make_raw-clause-taken
+returns-in-Ok-make_raw-clause-taken g c = λ told rest.
+    let s = g.S.Store.site c.args.store.now in
+    let exact = rw c.table.ensures.table at c.in_default.ensures.exact in
+    let accepted = rw c.table.ensures.table at c.in_default.ensures.accepted in
+    let site : IsSiteOf c.geometry-geometry.result c.extents-extents.result s = record { same_sizes = sym c.geometry-geometry.ensures; same_count = sym c.extents-extents.ensures.count } in
+    let none = sym (exact s (reads (g.S.Store.area c.args.store.now)) c.args.label.now site rest.sound) in
+    let e = c.in-Ok-make_raw.ensures in
+    let extent : c.geometry-geometry.result.extent ≡ s.geometry.extent = ap (λ (h : Geometry). h.extent) c.geometry-geometry.ensures in
+    let need : c.extents_needed-need.result ≡ extents_for s.geometry.extent c.args.size = c.extents_needed-need.ensures.extents ∙ ap (λ n. extents_for n c.args.size) extent in
+    let long : length c.in-Ok.found.items ≡ extents_for s.geometry.extent c.args.size = c.in-Ok.ensures.fit.many ∙ need in
+    let bytes : c.extents_needed-need.result * c.from.result * 512 ≡ length c.in-Ok.found.items * s.geometry.extent * 512
+    = ap₂ (λ (n m : ℕ). n * m * 512) (sym c.in-Ok.ensures.fit.many) (c.from.ensures ∙ extent) in
+    taken_made s (listing (g.S.Store.kept c.args.store.now)) (g.S.Store.area c.args.store.now) c.args.disk.now c.args.label.now c.args.size c.in-Ok.found.items _ _ _ _ _
+    c.requires.orderly (accepted refl s site).disk_new long none e.table (rests_at _ _ _ e.site (e.at_rest told rest))
+    (shown_at (listing (g.S.Store.kept c.make_raw.new.store)) (g.S.Store.area c.make_raw.new.store) e.site (e.disks told rest)) (e.crash told rest) bytes
+
+pub returns-in-Err-NoMemory-clause-taken : goal.returns-in-Err-NoMemory-clause-taken
+returns-in-Err-NoMemory-clause-taken g c = λ told rest.
+    let poor = c.make_raw.ensures.poor (c.in-Err-NoMemory.is ∙ ap (λ f. Err f) c.in-Err-NoMemory.field-0-is) in
+    taken_poor_as _ _ _ _ _ _ _ _ _ _ c.requires.orderly rest (g.met.S.Store.leaves_now c.args.store.now told c.requires.usable) poor.0 (poor.2 told) poor.4 poor.3
+
+pub returns-in-Err-Device-clause-taken : goal.returns-in-Err-Device-clause-taken
+returns-in-Err-Device-clause-taken g c = λ told rest.
+    let s = g.S.Store.site c.args.store.now in
+    let exact = rw c.table.ensures.table at c.in_default.ensures.exact in
+    let site : IsSiteOf c.geometry-geometry.result c.extents-extents.result s = record { same_sizes = sym c.geometry-geometry.ensures; same_count = sym c.extents-extents.ensures.count } in
+    let none = sym (exact s (reads (g.S.Store.area c.args.store.now)) c.args.label.now site rest.sound) in
+    let extent : c.geometry-geometry.result.extent ≡ s.geometry.extent = ap (λ (h : Geometry). h.extent) c.geometry-geometry.ensures in
+    let need : c.extents_needed-need.result ≡ extents_for s.geometry.extent c.args.size = c.extents_needed-need.ensures.extents ∙ ap (λ n. extents_for n c.args.size) extent in
+    taken_failed s _ _ _ _ _ c.in-Ok.found.items _ _ _ _ _ (c.in-Ok.ensures.fit.many ∙ need) none (c.make_raw.ensures.crash told rest)

@@ -1,0 +1,61 @@
+//! Making a raw disk, by a command.
+
+ghost use Rattle.std.specs.Prelude.{◌≡◌, ◌≤◌, ℕ, List, true, false, IfOk, OnOk, OnErr};
+ghost use Rattle.sm_disk.specs.Held.{Rose, SameHeld};
+ghost use Rattle.vg_meta.specs.Kept.{listing};
+ghost use Rattle.vg_meta.specs.Tables.{Listing};
+ghost use Rattle.sm_machine.specs.declared.commands.Command.TheVariants.{Create};
+ghost use Rattle.sm_machine.specs.Runs.{is_accepted};
+ghost use Rattle.sm_recover.specs.Stores.{IsOrderly, IsAtRest};
+ghost use Rattle.sm_session.specs.Sessions.{HasTaken};
+
+use crate::making::make_raw;
+use crate::refusing::{extents_needed, refuse_create};
+use sm_base::{CallFault, Failed, Label, Refusal};
+use sm_machine::Reply;
+use sm_mgt::Mgt;
+use std::alloc::Global;
+use uuid::Uuid;
+use vg_extents::first_fit;
+use vg_volumes::Store;
+
+/// The bytes of a sector.
+const SECTOR: u64 = 512;
+
+/// Makes a raw disk of at least so many bytes, or refuses to.
+pub fn create<S: Store>(
+    alloc: Global,
+    store: &mut S,
+    records: &mut Mgt,
+    disk: &Uuid,
+    size: u64,
+    label: &Label,
+) -> Result<Reply, Failed>
+    requires usable { S.failed store.old ≡ false }
+    requires orderly { IsOrderly (S.site store.old) (listing (S.kept store.old)) }
+    ensures site { S.site store.new ≡ S.site store.old }
+    ensures counts { S.faults store.old ≤ S.faults store.new }
+    ensures cause { OnErr result (Rose (S.faults store.old) (S.faults store.new)) }
+    ensures usable_still { OnOk result (S.failed store.new ≡ false) }
+    ensures orderly_still { OnOk result (IsOrderly (S.site store.new) (listing (S.kept store.new))) }
+    ensures refused { IfOk result (λ r. is_accepted r ≡ false → (t : Listing) (image : ℕ → List ℕ) → S.leaves store.new t image → S.leaves store.old t image) }
+    ensures taken { S.told → IsAtRest (S.site store.old) (listing (S.kept store.old)) (S.area store.old) records.old
+        → HasTaken (S.site store.old) (Create disk.now size true label.now) (listing (S.kept store.old)) (S.area store.old)
+        (listing (S.kept store.new)) (S.area store.new) records.new (S.leaves store.new) result }
+{
+    let geometry = store.geometry();
+    let extents = store.extents();
+    let refusal = refuse_create(store.table(), &geometry, extents, disk, size);
+    if let Some(refusal) = refusal {
+        return Ok(Reply::No(refusal));
+    }
+    let need = extents_needed(&geometry, size);
+    let Ok(found) = first_fit(alloc, store.table(), extents, need as u32) else {
+        return Ok(Reply::No(Refusal::NoMemory));
+    };
+    match make_raw(alloc, store, records, *disk, *label, found) {
+        Ok(()) => Ok(Reply::Size(need * u64::from(geometry.extent) * SECTOR)),
+        Err(CallFault::NoMemory) => Ok(Reply::No(Refusal::NoMemory)),
+        Err(CallFault::Device) => Err(Failed),
+    }
+}

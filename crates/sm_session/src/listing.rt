@@ -1,0 +1,80 @@
+//! The list of the disks.
+//!
+//! Kept here: nothing. The list is made of the table and the records in memory, without a read of the device.
+//! Sizes are in bytes. A call costs one pass over the volumes and for each a pass over the records, and takes
+//! memory for the rows.
+
+ghost use Rattle.std.specs.Prelude.{◌≡◌, ◌≤◌, ◌^◌, map, length, IfOk};
+ghost use Rattle.std.specs.List.{filter_map};
+ghost use Rattle.sm_disk.specs.Held.{Held};
+ghost use Rattle.vg_meta.specs.Kept.{listing, rows_alone};
+ghost use Rattle.vg_meta.specs.Tables.{AreVolumes};
+ghost use Rattle.vg_volumes.specs.Sites.{Site};
+ghost use Rattle.sm_machine.specs.Steps.{disk_row as row_of_disk};
+ghost use Rattle.sm_recover.specs.Stores.{content_now, IsOrderly, IsAtRest};
+ghost use Rattle.sm_standing.specs.Standing.{disks};
+ghost use Rattle.sm_session.specs.Listing.{listed_row};
+
+use sm_base::{Geometry, Name, NoMemory};
+use sm_machine::{DiskRow, DiskRows};
+use sm_mgt::Mgt;
+use std::alloc::Global;
+use vg_meta::{Table, Volume};
+
+/// The bytes of a sector.
+const SECTOR: u64 = 512;
+
+/// The row of a volume's disk, or `None` where the volume is not raw or has no record.
+#[tactic(auto, unfolding(crate::specs::Listing::listed_row))]
+fn disk_row(volume: &Volume, geometry: &Geometry, mgt: &Mgt) -> Option<DiskRow>
+    requires { length volume.now.row.extents ≤ 2 ^ 32 }
+    ensures { result ≡ listed_row geometry.now.extent mgt.now volume.now.row }
+{
+    let Name::Raw(uuid) = volume.name() else {
+        return None;
+    };
+    let record = mgt.find(&uuid)?;
+    let sectors = volume.extents().len() as u64 * u64::from(geometry.extent);
+    Some(DiskRow {
+        uuid,
+        size: sectors * SECTOR,
+        read_only: record.read_only,
+        origin: record.origin,
+        label: record.label,
+    })
+}
+
+/// The rows of the volumes' disks, in order.
+fn rows_in(
+    alloc: Global,
+    volumes: &[Volume],
+    geometry: &Geometry,
+    mgt: &Mgt,
+) -> Result<DiskRows, NoMemory>
+    requires { AreVolumes (2 ^ 32) (rows_alone volumes.now) }
+    ensures { IfOk result (λ rows. rows ≡ filter_map (listed_row geometry.now.extent mgt.now) (rows_alone volumes.now)) }
+{
+    let mut rows = Vec::new(alloc);
+    for volume in volumes {
+        let Some(row) = disk_row(volume, geometry, mgt) else {
+            continue;
+        };
+        if rows.push(row).is_err() {
+            return Err(NoMemory);
+        }
+    }
+    Ok(DiskRows { rows })
+}
+
+/// The rows of all disks, in order of UUID. A raw volume whose record is not in memory is left out.
+pub(crate) fn list_disks(
+    alloc: Global,
+    table: &Table,
+    geometry: &Geometry,
+    mgt: &Mgt,
+) -> Result<DiskRows, NoMemory>
+    ensures rows { IfOk result (λ rows. (s : Site) (area : Held) → s.geometry ≡ geometry.now → IsOrderly s (listing table.now)
+        → IsAtRest s (listing table.now) area mgt.now → rows ≡ map row_of_disk (disks (content_now s (listing table.now) area))) }
+{
+    rows_in(alloc, table.volumes(), geometry, mgt)
+}

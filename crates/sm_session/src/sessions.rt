@@ -1,0 +1,128 @@
+//! A repository that is open, and its steps.
+
+ghost use Rattle.std.specs.Prelude.{◌≡◌, ◌≤◌, ◌⊎◌, ℕ, List, None, false, IfOk, IfErr, OnOk, OnErr};
+ghost use Rattle.std.proofs.Props.{props};
+ghost use Rattle.sm_disk.specs.Held.{IsSettled, Keeps, Rose};
+ghost use Rattle.vg_meta.specs.Kept.{listing};
+ghost use Rattle.vg_meta.specs.Tables.{Listing};
+ghost use Rattle.sm_recover.specs.Repairs.{IsStopped, UnlessDevice, IsUntouched};
+ghost use Rattle.sm_recover.specs.Stores.{IsOrderly, IsAtRest, IsRepairedFrom, content_in, content_now};
+ghost use Rattle.sm_standing.specs.Checks.{first_fault_today};
+ghost use Rattle.sm_standing.specs.Standing.{disks};
+ghost use Rattle.sm_session.specs.Proper.{IsOrderly-prop};
+
+use crate::taking::take;
+use sm_base::{Failed, OpenFault};
+use sm_machine::{Command, Reply};
+use sm_mgt::Mgt;
+use sm_recover::settle;
+use sm_run::{StepFault, Steps};
+use std::alloc::Global;
+use vg_volumes::Store;
+
+/// A repository that is open: its store, and the records of its disks in memory.
+pub struct Session<S: Store> {
+    store: S,
+    records: Mgt,
+    broken: bool,
+    // While no step has failed, the table is as it is between two steps, and commits may be made.
+    ghost orderly: { broken ≡ false → IsOrderly (S.site store) (listing (S.kept store)) } by { Prim.hlevel (props, IsOrderly-prop) },
+    ghost usable: { broken ≡ false → S.failed store ≡ false },
+}
+
+impl<S: Store> Session<S> {
+    /// Checks what stands in a store, all checks before the first write, and repairs what a stop has left.
+    ///
+    /// # Errors
+    /// Why there is no session, with the store: `Damaged` with the first place at which the checks fail; `Device` where
+    /// a call of the store failed; `NoMemory`. Unless a call of the store failed, nothing was written.
+    pub fn begin(alloc: Global, store: S) -> Result<Session<S>, (OpenFault, S)>
+        requires usable { S.failed store ≡ false }
+        requires settled { S.told → IsSettled (S.area store) }
+        ensures site { IfOk result (λ s. S.site s.store ≡ S.site store) }
+        ensures counts { IfOk result (λ s. S.faults store ≤ S.faults s.store) }
+        ensures whole { IfOk result (λ s. s.broken ≡ false) }
+        ensures sound { IfOk result (λ s. S.told → first_fault_today (content_now (S.site store) (listing (S.kept store)) (S.area store)) ≡ None) }
+        ensures rest { IfOk result (λ s. S.told → IsAtRest (S.site s.store) (listing (S.kept s.store)) (S.area s.store) s.records) }
+        ensures disks { IfOk result (λ s. S.told → disks (content_now (S.site s.store) (listing (S.kept s.store)) (S.area s.store))
+            ≡ disks (content_now (S.site store) (listing (S.kept store)) (S.area store))) }
+        ensures site_back { IfErr result (λ e. S.site e.1 ≡ S.site store) }
+        ensures counts_back { IfErr result (λ e. S.faults store ≤ S.faults e.1) }
+        ensures cause { IfErr result (λ e. IsStopped S.told (content_now (S.site store) (listing (S.kept store)) (S.area store)) (S.faults store) (S.faults e.1) e.0) }
+        ensures refused { IfErr result (λ e. UnlessDevice e.0 (IsUntouched S.told S.kept S.failed S.area S.leaves store e.1)) }
+        ensures crash_back { IfErr result (λ e. S.told → (t : Listing) (image : ℕ → List ℕ) → S.leaves e.1 t image
+            → S.leaves store t image ⊎ IsRepairedFrom (content_now (S.site store) (listing (S.kept store)) (S.area store)) (content_in (S.site store) t image)) }
+    {
+        let mut store = store;
+        match settle(alloc, &mut store) {
+            Ok(records) => Ok(Session {
+                store,
+                records,
+                broken: false,
+            }),
+            Err(fault) => Err((fault, store)),
+        }
+    }
+
+    /// Makes all that was written last.
+    pub fn sync(&mut self) -> Result<(), Failed>
+        ensures site { S.site self.new.store ≡ S.site self.old.store }
+        ensures counts { S.faults self.old.store ≤ S.faults self.new.store }
+        ensures cause { OnErr result (Rose (S.faults self.old.store) (S.faults self.new.store)) }
+        ensures records { self.new.records ≡ self.old.records }
+        ensures broken { self.new.broken ≡ self.old.broken }
+        ensures table { (listing (S.kept self.new.store) ≡ listing (S.kept self.old.store)) × (S.failed self.new.store ≡ S.failed self.old.store) }
+        ensures keeps { S.told → Keeps (S.area self.old.store) (S.area self.new.store) }
+        ensures leaves { S.told → (t : Listing) (image : ℕ → List ℕ) → S.leaves self.new.store t image → S.leaves self.old.store t image }
+        ensures settled { OnOk result (S.told → IsSettled (S.area self.new.store)) }
+    {
+        self.store.sync()
+    }
+
+    /// The store, as it is. It is not called.
+    pub fn into_store(self) -> S
+        ensures { result ≡ self.store }
+    {
+        let Session {
+            store,
+            records: _,
+            broken: _,
+        } = self;
+        store
+    }
+}
+
+impl<S: Store> Steps for Session<S> {
+    ghost use Rattle.std.specs.Prelude.{◌≡◌, false};
+    ghost use Rattle.vg_meta.specs.Kept.{listing};
+    ghost use Rattle.sm_recover.specs.Stores.{IsAtRest, state_now};
+    ghost use Rattle.sm_session.specs.Sessions.{MayShow, KeepsAll};
+
+    ghost told = { S.told };
+
+    ghost state = { λ s. state_now (S.site s.store) (listing (S.kept s.store)) (S.area s.store) };
+
+    ghost ready = { λ s. (s.broken ≡ false) × IsAtRest (S.site s.store) (listing (S.kept s.store)) (S.area s.store) s.records };
+
+    ghost kept = { λ s. KeepsAll (S.site s.store) (S.leaves s.store) };
+
+    ghost leaves = { λ s. MayShow (S.site s.store) (S.leaves s.store) };
+
+    ghost broken = { λ s. s.broken };
+
+    ghost faults = { λ s. S.faults s.store };
+
+    fn step(&mut self, alloc: Global, command: &Command) -> Result<Reply, StepFault> {
+        if self.broken {
+            return Err(StepFault::Broken);
+        }
+        let taken = take(alloc, &mut self.store, &mut self.records, command);
+        match taken {
+            Ok(reply) => Ok(reply),
+            Err(_) => {
+                self.broken = true;
+                Err(StepFault::Device)
+            }
+        }
+    }
+}
