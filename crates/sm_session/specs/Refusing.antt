@@ -7,9 +7,9 @@ use Rattle.vg_meta.specs.Changes.{AreFree}
 use Rattle.vg_volumes.specs.Sites.{Site}
 use Rattle.sm_session.specs.Making.{IsNewDisk, AreForDisk}
 
--- sizes and a number of extents, as a site that has no UUID yet
+-- sizes and a number of extents, as a site that has no UUID and no device yet
 abbrev pub site_of : Geometry → ℕ → Site
-site_of sizes extents = record { geometry = sizes; count = extents; identity = [] }
+site_of sizes extents = record { geometry = sizes; count = extents; identity = []; sectors = 0 }
 
 -- the sizes and the number of extents are those of this site
 pub record IsSiteOf (sizes : Geometry) (extents : ℕ) (s : Site) : Type 0 where

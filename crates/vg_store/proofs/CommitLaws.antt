@@ -67,11 +67,11 @@ area_kept wide area place a b written m fits front r allowed = λ q below. by q 
 
 -- what a stop leaves, where each image that is allowed stands as before
 pub before_from : (size area : ℕ) (a b : Held) (p : Plate) (at : Pointer) (t u : Listing) (image : ℕ → List ℕ) → p.count ≤ 65536
-    → (l : Leaves size area b p u image) → StandsOn size l.whole (record { plate = p; pointer = at; table = t })
+    → (l : Leaves size b p u image) → StandsOn size l.whole (record { plate = p; pointer = at; table = t })
     → Allows area (area_of a) (λ q. l.whole (area_place + q)) → IsBefore area t (area_of a) u image
 before_from size area a b p at t u image few l stands choices = record {
   table_is = sym (stands_once size l.whole p at l.pointer t u few stands l.stands);
-  sectors = λ q below. let P : List ℕ → Type 0 = λ v. May (area_of a) q v in subst P (sym (l.sectors q below)) (choices q below);
+  sectors = λ q below. let P : List ℕ → Type 0 = λ v. May (area_of a) q v in subst P (sym (l.sectors q)) (choices q below);
 }
 
 -- each image that may be left while the text is written stands as before
@@ -83,7 +83,7 @@ slot_stands size a b p at t bytes written place m g room is most r allowed =
 
 pub slot_crash : (size area : ℕ) (a b : Held) (p : Plate) (at : Pointer) (t next u : Listing) (bytes written : List ℕ) (place : ℕ) (image : ℕ → List ℕ)
     → IsGroup size a p at t bytes → area_place + area ≤ size → place ≡ slot_place (1 - at.slot) → length written ≤ 524288
-    → Reaches (Puts place written) a b → Leaves size area b p u image → IsEither area t next (area_of a) u image
+    → Reaches (Puts place written) a b → Leaves size b p u image → IsEither area t next (area_of a) u image
 slot_crash size area a b p at t next u bytes written place image g fits is most r l =
     let stands = slot_stands size a b p at t bytes written place l.whole g (omega arith) is most r l.allowed in
     inl (before_from size area a b p at t u image g.few l stands (area_kept size area place a b written l.whole fits (ends (slots_apart at.slot (pointer_right a.floor at g.rests.headed).slot)) r l.allowed))
@@ -204,7 +204,7 @@ header_stands size a b c p at next t u bytes written head place m g room s n is 
 pub header_crash : (size area : ℕ) (a b c : Held) (p : Plate) (at next : Pointer) (t u v : Listing) (bytes written head : List ℕ) (place : ℕ) (image : ℕ → List ℕ)
     → IsGroup size a p at t bytes → area_place + area ≤ size → IsStaged a b place written → IsNext p at next u written → place ≡ slot_place next.slot
     → head ≡ header_sector next → length head ≡ 512
-    → Reaches (Puts header_place head) b c → Leaves size area c p v image → IsEither area t u (area_of a) v image
+    → Reaches (Puts header_place head) b c → Leaves size c p v image → IsEither area t u (area_of a) v image
 header_crash size area a b c p at next t u v bytes written head place image g fits s n is head_is long r l =
     by (header_stands size a b c p at next t u bytes written head place m g (omega arith) s n is head_is long r l.allowed)
   where
@@ -228,7 +228,7 @@ header_crash size area a b c p at next t u v bytes written head place image g fi
     by (inr stands) =
         inr (record {
           table_is = sym (stands_once size m p next l.pointer u v g.few stands l.stands);
-          sectors = λ q below. l.sectors q below ∙ area_reads q below;
+          sectors = λ q below. l.sectors q ∙ area_reads q below;
         })
 
 -- ---- the end
@@ -278,6 +278,6 @@ stands_now size h p at t bytes m room g allowed =
 
 -- while nothing failed, a stop leaves the one table and any choice of the extents' sectors
 pub leaves_before : (size area : ℕ) (h : Held) (p : Plate) (at : Pointer) (t u : Listing) (bytes : List ℕ) (image : ℕ → List ℕ) → area_place + area ≤ size
-    → IsGroup size h p at t bytes → Leaves size area h p u image → IsBefore area t (area_of h) u image
+    → IsGroup size h p at t bytes → Leaves size h p u image → IsBefore area t (area_of h) u image
 leaves_before size area h p at t u bytes image fits g l =
     before_from size area h h p at t u image g.few l (stands_now size h p at t bytes l.whole (omega arith) g l.allowed) (λ q below. l.allowed (area_place + q) (omega arith))

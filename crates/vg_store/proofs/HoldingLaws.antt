@@ -85,10 +85,10 @@ stands_still {size} {wide} old new p same no_more stands =
     (stands (front_of old image) (front_allowed size old new image no_more allowed)))
 
 -- a sync, failed or not, leaves no more
-pub Leaves-keeps : {size wide area : ℕ} {old new : Held} {p : Plate} {t : Listing} {image : ℕ → List ℕ} → wide ≡ size → Keeps old new
-    → Leaves wide area new p t image → Leaves size area old p t image
-Leaves-keeps {size} {wide} {area} {old} {new} {p} {t} {image} same k l =
-    let P : ℕ → Type 0 = λ n. Leaves n area old p t image in
+pub Leaves-keeps : {size wide : ℕ} {old new : Held} {p : Plate} {t : Listing} {image : ℕ → List ℕ} → wide ≡ size → Keeps old new
+    → Leaves wide new p t image → Leaves size old p t image
+Leaves-keeps {size} {wide} {old} {new} {p} {t} {image} same k l =
+    let P : ℕ → Type 0 = λ n. Leaves n old p t image in
     subst P same (record {
       whole = l.whole;
       allowed = Allows-keeps wide l.whole k l.allowed;

@@ -28,12 +28,12 @@ pub record IsStanding (size : ℕ) (image : ℕ → List ℕ) (p : Plate) : Type
 
 -- a stop may leave this table and these sectors of the extents: they are those of one image that the device
 -- allows, on which a group stands with this plate and this table
-pub record Leaves (size area : ℕ) (h : Held) (p : Plate) (t : Listing) (image : ℕ → List ℕ) : Type 0 where
+pub record Leaves (size : ℕ) (h : Held) (p : Plate) (t : Listing) (image : ℕ → List ℕ) : Type 0 where
   pub whole : ℕ → List ℕ
   pub allowed : Allows size h whole
   pub pointer : Pointer
   pub stands : StandsOn size whole (record { plate = p; pointer = pointer; table = t })
-  pub sectors : (q : ℕ) → q < area → image q ≡ whole (area_place + q)
+  pub sectors : (q : ℕ) → image q ≡ whole (area_place + q)
 
 -- a group that stands, with the table that its text spells
 pub record IsGroup (size : ℕ) (h : Held) (p : Plate) (at : Pointer) (t : Listing) (bytes : List ℕ) : Type 0 where
@@ -55,7 +55,7 @@ pub record IsNext (p : Plate) (at next : Pointer) (u : Listing) (written : List 
 abbrev pub LeavesEither : ℕ → Held → Held → Pointer → List ℕ → Type 0
 LeavesEither size old new next written =
     (area : ℕ) (p : Plate) (at : Pointer) (t u : Listing) (bytes : List ℕ) → IsGroup size old p at t bytes → IsNext p at next u written → area_place + area ≤ size
-    → (v : Listing) (image : ℕ → List ℕ) → Leaves size area new p v image → IsEither area t u (area_of old) v image
+    → (v : Listing) (image : ℕ → List ℕ) → Leaves size new p v image → IsEither area t u (area_of old) v image
 
 -- and on each image that a stop leaves the group stands with one of the two
 abbrev pub StandsEither : ℕ → Held → Held → Pointer → List ℕ → Type 0

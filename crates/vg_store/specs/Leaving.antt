@@ -21,21 +21,21 @@ stands_in_front size h p at t bytes m r total spells same =
     (pointer_same h.floor m (same header_place (omega arith)) ∙ r.headed) (text_front h.floor m at r.headed same ∙ r.text) total spells
 
 pub leaves_one : (size area : ℕ) (h : Held) (p : Plate) (at : Pointer) (t u : Listing) (bytes : List ℕ) (image : ℕ → List ℕ) → area_place + area ≤ size
-    → Rests size h p at bytes → sum bytes ≡ at.total → Spells p.count bytes t → Leaves size area h p u image → IsBefore area t (area_of h) u image
+    → Rests size h p at bytes → sum bytes ≡ at.total → Spells p.count bytes t → Leaves size h p u image → IsBefore area t (area_of h) u image
 leaves_one size area h p at t u bytes image fits r total spells l =
     let same = λ (q : ℕ) (low : q < area_place). r.still q (l.whole q) low (l.allowed q (omega arith)) in
     let stands = stands_in_front size h p at t bytes l.whole r total spells same in
     record {
       table_is = sym (stands_once size l.whole p at l.pointer t u (plate_few size h.floor p r.labelled) stands l.stands);
-      sectors = λ q below. let P : List ℕ → Type 0 = λ v. May (area_of h) q v in subst P (sym (l.sectors q below)) (l.allowed (area_place + q) (omega arith));
+      sectors = λ q below. let P : List ℕ → Type 0 = λ v. May (area_of h) q v in subst P (sym (l.sectors q)) (l.allowed (area_place + q) (omega arith));
     }
 
-pub leaves_reads : (size area : ℕ) (h : Held) (p : Plate) (at : Pointer) (t : Listing) (bytes : List ℕ)
-    → Rests size h p at bytes → sum bytes ≡ at.total → Spells p.count bytes t → Leaves size area h p t (reads (area_of h))
-leaves_reads size area h p at t bytes r total spells = record {
+pub leaves_reads : (size : ℕ) (h : Held) (p : Plate) (at : Pointer) (t : Listing) (bytes : List ℕ)
+    → Rests size h p at bytes → sum bytes ≡ at.total → Spells p.count bytes t → Leaves size h p t (reads (area_of h))
+leaves_reads size h p at t bytes r total spells = record {
   whole = reads h;
   allowed = Allows-reads size h;
   pointer = at;
   stands = stands_in_front size h p at t bytes (reads h) r total spells (λ q low. r.still q (reads h q) low (May-reads h q));
-  sectors = λ q below. refl;
+  sectors = λ q. refl;
 }

@@ -55,7 +55,7 @@ impl<D: Disk> Group<D> {
         ensures keeps { D.told → Keeps (area_of (D.held self.old.disk)) (area_of (D.held self.new.disk)) }
         ensures settled { OnOk result (D.told → IsSettled (area_of (D.held self.new.disk))) }
         ensures crash { D.told → (t : Listing) (image : ℕ → List ℕ)
-            → Leaves (D.size self.new.disk) (self.new.label.extents * self.new.label.geometry.extent) (D.held self.new.disk) (plate self.new.label) t image
+            → Leaves (D.size self.new.disk) (D.held self.new.disk) (plate self.new.label) t image
             → IsEither (self.old.label.extents * self.old.label.geometry.extent) (listing self.old.table) (applied (listing self.old.table) change) (area_of (D.held self.old.disk)) t image }
     {
         let next = next_header(

@@ -126,7 +126,7 @@ impl<D: Disk> Group<D> {
     pub fn into_disk(self) -> D
         ensures disk { result ≡ self.disk }
         ensures leaves { D.told → self.failed ≡ false → (t : Listing) (image : ℕ → List ℕ)
-            → Leaves (D.size result) (self.label.extents * self.label.geometry.extent) (D.held result) (plate self.label) t image
+            → Leaves (D.size result) (D.held result) (plate self.label) t image
             → IsBefore (self.label.extents * self.label.geometry.extent) (listing self.table) (area_of (D.held result)) t image }
         ensures stands { D.told → (image : ℕ → List ℕ) → Allows (D.size result) (D.held result) image → IsStanding (D.size result) image (plate self.label) }
     {

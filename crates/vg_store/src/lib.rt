@@ -9,6 +9,10 @@
 //! stands. `IsStanding` says that on an image some group with this label stands: also after a commit that failed, a
 //! stop leaves nothing else. `area_of` is the device seen from the first extent on.
 //!
+//! A format ([`format`], `specs/Formats.antt`) takes the label away and syncs, writes free records and the new table
+//! and syncs, then writes the label and syncs. `IsFormatted` says what stands afterwards, `IsLeft` what a stop leaves:
+//! what was there, no repository, or the new group, whole.
+//!
 //! **What it promises.** The opening (`groups.rt`) syncs, so that what it reads lasts, and then makes five checks
 //! (`openings.rt`): they find the label, the header and the table that stand on the device, or answer the first
 //! fault. It writes nothing. A commit (`commits.rt`) changes the table by one turn. A turn to the next table
@@ -26,7 +30,8 @@
 //! **What it costs.** An opening takes the buffer of 524,288 bytes and what the table takes. A turn is two writes and
 //! two syncs and writes only the sectors that the text reaches. A commit writes the next text into the buffer and
 //! takes no memory. A read or a write finds the volume by a pass over the names, takes no memory, and is one call of
-//! the device for each run.
+//! the device for each run. A format is eight calls of the device, and takes 256 KiB and the table before the first of
+//! them.
 #![tactic(auto)]
 
 mod commits;
@@ -36,6 +41,8 @@ mod group_tests;
 mod groups;
 mod openings;
 mod stores;
+#[cfg(test)]
+mod tests;
 mod turns;
 #[cfg(test)]
 mod volume_tests;

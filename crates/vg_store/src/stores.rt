@@ -18,7 +18,7 @@ impl<D: Disk> Store for Group<D> {
 
     ghost told = { D.told };
 
-    ghost site = { λ g. record { geometry = g.label.geometry; count = g.label.extents; identity = g.label.repository } };
+    ghost site = { λ g. record { geometry = g.label.geometry; count = g.label.extents; identity = g.label.repository; sectors = D.size g.disk } };
 
     ghost kept = { λ g. g.table };
 
@@ -26,7 +26,7 @@ impl<D: Disk> Store for Group<D> {
 
     ghost failed = { λ g. g.failed };
 
-    ghost leaves = { λ g t image. Leaves (D.size g.disk) (g.label.extents * g.label.geometry.extent) (D.held g.disk) (plate g.label) t image };
+    ghost leaves = { λ g t image. Leaves (D.size g.disk) (D.held g.disk) (plate g.label) t image };
 
     ghost faults = { λ g. D.faults g.disk };
 
@@ -99,5 +99,5 @@ impl<D: Disk> Store for Group<D> {
 
     ghost leaves_now = { λ s told usable t image left. leaves_one (D.size s.disk) (s.label.extents * s.label.geometry.extent) (D.held s.disk) (plate s.label) (pointer s.header) (listing s.table) t (text (listing s.table)) image s.area (s.rests told usable) s.summed s.spelled left };
 
-    ghost leaves_read = { λ s told usable. leaves_reads (D.size s.disk) (s.label.extents * s.label.geometry.extent) (D.held s.disk) (plate s.label) (pointer s.header) (listing s.table) (text (listing s.table)) (s.rests told usable) s.summed s.spelled };
+    ghost leaves_read = { λ s told usable. leaves_reads (D.size s.disk) (D.held s.disk) (plate s.label) (pointer s.header) (listing s.table) (text (listing s.table)) (s.rests told usable) s.summed s.spelled };
 }

@@ -11,11 +11,12 @@ use Rattle.vg_meta.specs.declared.changes.Change.TheVariants.{Create, Remove, Re
 use Rattle.vg_meta.specs.Changes.{applied, spare_after, places_after}
 use Rattle.vg_volumes.specs.Volumes.{span, volume}
 
--- the sizes, the number of extents and the repository's UUID
+-- the sizes, the number of extents, the repository's UUID, and the sectors of the device that all stands on
 pub record Site : Type 0 where
   pub geometry : Geometry
   pub count : ℕ
   pub identity : List ℕ
+  pub sectors : ℕ
 
 -- the sectors of all extents
 abbrev pub area_size : Site → ℕ

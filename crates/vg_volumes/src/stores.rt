@@ -18,7 +18,7 @@ pub trait Store {
     /// Whether what the store holds is told: a fact that holds, or one that never does.
     ghost told: { Type 0 };
 
-    /// What never changes: the sizes, the number of extents, the repository's UUID.
+    /// What never changes: the sizes, the number of extents, the repository's UUID, and how large the device is.
     ghost site: { Self → Site };
 
     /// The table, and beside it the spare numbers.
