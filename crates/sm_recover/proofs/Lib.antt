@@ -2,6 +2,7 @@ pub mod PrunedLaws
 pub mod CheckLaws
 pub mod DiskLaws
 pub mod RemovalLaws
+pub mod CleanLaws
 pub mod FitLaws
 pub mod AreaLaws
 pub mod WipeLaws

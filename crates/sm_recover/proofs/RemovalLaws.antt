@@ -191,6 +191,9 @@ removed_shorter t u n new is = subst (λ x. length x.volumes < length t.volumes)
 pub new_at : {a b : Kept} (n : Name) → a ≡ b → IsNew (listing a) n → IsNew (listing b) n
 new_at n same new = subst (λ k. IsNew (listing k) n) same new
 
+pub none_at : {t u : Listing} → t ≡ u → ((r : Row) → In r t.volumes → r.fresh ≡ false) → (r : Row) → In r u.volumes → r.fresh ≡ false
+none_at same none = subst (λ x. (r : Row) → In r x.volumes → r.fresh ≡ false) same none
+
 -- where none is new any more, the table is in order
 pub orderly_from : {s now : Site} {t : Listing} (k : Kept) → IsChecked s t → now ≡ s → listing k ≡ t → ((r : Row) → In r (listing k).volumes → r.fresh ≡ false) → IsOrderly now t
 orderly_from {s} {now} {t} k c site is none = subst (λ z. IsOrderly z t) (sym site) (record {

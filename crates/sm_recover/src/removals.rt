@@ -6,6 +6,7 @@ ghost use Rattle.sm_disk.specs.Held.{IsSettled, Keeps, Rose};
 ghost use Rattle.sm_machine.specs.Lists.{In};
 ghost use Rattle.vg_meta.specs.Kept.{listing};
 ghost use Rattle.vg_meta.specs.Tables.{Listing, Row};
+ghost use Rattle.sm_recover.specs.Cleaned.{cleaned};
 ghost use Rattle.sm_recover.specs.Pruned.{IsPruned, IsWithoutNew};
 ghost use Rattle.sm_recover.specs.Repairs.{IsChecked, IsNew};
 ghost use Rattle.sm_recover.specs.Stores.{IsOrderly, content_in, content_now};
@@ -25,6 +26,7 @@ pub fn remove_new<S: Store>(store: &mut S) -> Result<(), Failed>
     ensures cause { OnErr result (Rose (S.faults store.old) (S.faults store.new)) }
     ensures usable_still { OnOk result (S.failed store.new ≡ false) }
     ensures orderly { OnOk result (IsOrderly (S.site store.new) (listing (S.kept store.new))) }
+    ensures cleaned { OnOk result (listing (S.kept store.new) ≡ cleaned (listing (S.kept store.old))) }
     ensures left { OnOk result (IsWithoutNew (listing (S.kept store.old)) (listing (S.kept store.new))) }
     ensures keeps { S.told → Keeps (S.area store.old) (S.area store.new) }
     ensures settled { OnOk result (S.told → IsSettled (S.area store.new)) }

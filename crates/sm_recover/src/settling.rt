@@ -7,8 +7,9 @@ ghost use Rattle.sm_standing.specs.Checks.{first_fault_today};
 ghost use Rattle.sm_standing.specs.Standing.{disks};
 ghost use Rattle.vg_meta.specs.Kept.{listing};
 ghost use Rattle.vg_meta.specs.Tables.{Listing};
+ghost use Rattle.sm_recover.specs.Cleaned.{cleaned};
 ghost use Rattle.sm_recover.specs.Pruned.{IsPruned};
-ghost use Rattle.sm_recover.specs.Repairs.{IsChecked, IsStopped, UnlessDevice, IsUntouched};
+ghost use Rattle.sm_recover.specs.Repairs.{IsChecked, IsStopped, IsUntouched, UnlessDevice};
 ghost use Rattle.sm_recover.specs.Stores.{IsOrderly, IsAtRest, IsRepairedFrom, HasNoStray, content_in, content_now};
 
 use crate::opening::checked;
@@ -21,7 +22,7 @@ use vg_volumes::Store;
 
 /// Checks what stands in a store, all checks before the first write, and then repairs what a stop has left: volumes
 /// that are new are removed, and records of no disk are wiped. Answers the places of the records. Memory is taken
-/// before the first write alone.
+/// before the first write, and none after it.
 ///
 /// # Errors
 /// `Damaged` with the first place at which the checks fail, and nothing was written; `Device` where a call of the
@@ -38,6 +39,7 @@ pub fn settle<S: Store>(alloc: Global, store: &mut S) -> Result<Mgt, OpenFault>
     ensures refused { IfErr result (λ e. UnlessDevice e (IsUntouched S.told S.kept S.failed S.area S.leaves store.old store.new)) }
     ensures usable_still { OnOk result (S.failed store.new ≡ false) }
     ensures orderly { OnOk result (IsOrderly (S.site store.new) (listing (S.kept store.new))) }
+    ensures cleaned { OnOk result (listing (S.kept store.new) ≡ cleaned (listing (S.kept store.old))) }
     ensures at_rest { IfOk result (λ mgt. S.told → IsAtRest (S.site store.new) (listing (S.kept store.new)) (S.area store.new) mgt) }
     ensures disks { OnOk result (S.told → disks (content_now (S.site store.new) (listing (S.kept store.new)) (S.area store.new))
         ≡ disks (content_now (S.site store.old) (listing (S.kept store.old)) (S.area store.old))) }
@@ -65,6 +67,7 @@ fn repair<S: Store>(store: &mut S, mgt: &mut Mgt) -> Result<(), Failed>
     ensures cause { OnErr result (Rose (S.faults store.old) (S.faults store.new)) }
     ensures usable_still { OnOk result (S.failed store.new ≡ false) }
     ensures orderly { OnOk result (IsOrderly (S.site store.new) (listing (S.kept store.new))) }
+    ensures cleaned { OnOk result (listing (S.kept store.new) ≡ cleaned (listing (S.kept store.old))) }
     ensures at_rest { OnOk result (S.told → IsAtRest (S.site store.new) (listing (S.kept store.new)) (S.area store.new) mgt.new) }
     ensures repaired { OnOk result (S.told → IsRepairedFrom
         (content_now (S.site store.old) (listing (S.kept store.old)) (S.area store.old))

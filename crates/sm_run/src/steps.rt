@@ -46,8 +46,12 @@ pub trait Steps {
     /// How many calls of the device have failed. It never falls.
     ghost faults: { Self → ℕ };
 
+    /// How large the device is, in sectors. It never changes.
+    ghost size: { Self → ℕ };
+
     /// One step. A refused command, one that found no memory among them, leaves the device as it was.
     fn step(&mut self, alloc: Global, command: &Command) -> Result<Reply, StepFault>
+        ensures size { size self.new ≡ size self.old }
         ensures counts { faults self.old ≤ faults self.new }
         ensures device { result ≡ Err Device → Rose (faults self.old) (faults self.new) × (broken self.new ≡ true) }
         ensures broken { (result ≡ Err Broken → broken self.old ≡ true) × (broken self.old ≡ true → result ≡ Err Broken) }

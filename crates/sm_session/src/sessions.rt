@@ -5,11 +5,14 @@ ghost use Rattle.std.proofs.Props.{props};
 ghost use Rattle.sm_disk.specs.Held.{IsSettled, Keeps, Rose};
 ghost use Rattle.vg_meta.specs.Kept.{listing};
 ghost use Rattle.vg_meta.specs.Tables.{Listing};
+ghost use Rattle.sm_machine.specs.Disks.{Disk};
 ghost use Rattle.sm_recover.specs.Repairs.{IsStopped, UnlessDevice, IsUntouched};
-ghost use Rattle.sm_recover.specs.Stores.{IsOrderly, IsAtRest, IsRepairedFrom, content_in, content_now};
+ghost use Rattle.sm_recover.specs.Stores.{IsOrderly, IsAtRest, IsRepairedFrom, content_in, content_now, state_now};
+ghost use Rattle.sm_run.specs.Runs.{BeginsSettled};
 ghost use Rattle.sm_standing.specs.Checks.{first_fault_today};
 ghost use Rattle.sm_standing.specs.Standing.{disks};
 ghost use Rattle.sm_session.specs.Proper.{IsOrderly-prop};
+ghost use Rattle.sm_session.specs.Sessions.{MayShow, KeepsAll};
 
 use crate::taking::take;
 use sm_base::{Failed, OpenFault};
@@ -46,6 +49,8 @@ impl<S: Store> Session<S> {
         ensures rest { IfOk result (λ s. S.told → IsAtRest (S.site s.store) (listing (S.kept s.store)) (S.area s.store) s.records) }
         ensures disks { IfOk result (λ s. S.told → disks (content_now (S.site s.store) (listing (S.kept s.store)) (S.area s.store))
             ≡ disks (content_now (S.site store) (listing (S.kept store)) (S.area store))) }
+        ensures kept { IfOk result (λ s. S.told → KeepsAll (S.site s.store) (S.leaves s.store)) }
+        ensures begins { IfOk result (λ s. S.told → BeginsSettled (state_now (S.site s.store) (listing (S.kept s.store)) (S.area s.store)) (MayShow (S.site s.store) (S.leaves s.store))) }
         ensures site_back { IfErr result (λ e. S.site e.1 ≡ S.site store) }
         ensures counts_back { IfErr result (λ e. S.faults store ≤ S.faults e.1) }
         ensures cause { IfErr result (λ e. IsStopped S.told (content_now (S.site store) (listing (S.kept store)) (S.area store)) (S.faults store) (S.faults e.1) e.0) }
@@ -75,6 +80,8 @@ impl<S: Store> Session<S> {
         ensures keeps { S.told → Keeps (S.area self.old.store) (S.area self.new.store) }
         ensures leaves { S.told → (t : Listing) (image : ℕ → List ℕ) → S.leaves self.new.store t image → S.leaves self.old.store t image }
         ensures settled { OnOk result (S.told → IsSettled (S.area self.new.store)) }
+        ensures shown { S.told → self.old.broken ≡ false → IsAtRest (S.site self.old.store) (listing (S.kept self.old.store)) (S.area self.old.store) self.old.records
+            → (ds : List Disk) → MayShow (S.site self.old.store) (S.leaves self.new.store) ds → ds ≡ disks (content_now (S.site self.old.store) (listing (S.kept self.old.store)) (S.area self.old.store)) }
     {
         self.store.sync()
     }
@@ -111,6 +118,8 @@ impl<S: Store> Steps for Session<S> {
     ghost broken = { λ s. s.broken };
 
     ghost faults = { λ s. S.faults s.store };
+
+    ghost size = { λ s. (S.site s.store).sectors };
 
     fn step(&mut self, alloc: Global, command: &Command) -> Result<Reply, StepFault> {
         if self.broken {

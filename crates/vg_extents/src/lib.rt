@@ -14,3 +14,6 @@ mod marks;
 
 pub use faults::FitFault;
 pub use fits::{first_fit, free};
+
+#[cfg(test)]
+mod tests;

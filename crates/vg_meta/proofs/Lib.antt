@@ -5,6 +5,7 @@ pub mod DecodeLaws
 pub mod EditLaws
 pub mod ExtentLaws
 pub mod FreeLaws
+pub mod GrowthLaws
 pub mod NameLaws
 pub mod Places
 pub mod PushLaws

@@ -1,5 +1,6 @@
 pub mod Changes
 pub mod Faults
+pub mod Growth
 pub mod Held
 pub mod Kept
 pub mod Proper

@@ -36,3 +36,6 @@ pub use changes::{Change, Extents, Tag};
 pub use faults::DecodeFault;
 pub use tables::Table;
 pub use volumes::Volume;
+
+#[cfg(test)]
+mod tests;

@@ -2,8 +2,9 @@ use Rattle.std.proofs.Common.{⊎_elim, ap, ◌∙◌, arith}
 use Rattle.sm_disk.proofs.HeldLaws.{Keeps-then}
 use Rattle.vg_meta.specs.Kept.{listing}
 use Rattle.sm_recover.proofs.AreaLaws.{pruned_between, pruned_after, pruned_now}
+use Rattle.sm_recover.proofs.CleanLaws.{cleaned_more, cleaned_all}
 use Rattle.sm_recover.proofs.FitLaws.{text_fits}
-use Rattle.sm_recover.proofs.RemovalLaws.{may_remove, checked_one, without_one, without_then, removed_more, removed_shorter, new_at, orderly_from}
+use Rattle.sm_recover.proofs.RemovalLaws.{may_remove, checked_one, without_one, without_then, removed_more, removed_shorter, new_at, none_at, orderly_from}
 use Rattle.sm_recover.proofs.removals.remove_new.Goals as goal
 
 pub commit-requires-clause-allowed : goal.commit-requires-clause-allowed
@@ -31,6 +32,8 @@ loop-name-preserved g c =
       usable = c.in_ok-commit.ensures.changed.1;
       checked = m.0;
       left = m.1;
+      cleaned = cleaned_more (listing (g.S.Store.kept c.args.store.now)) (listing (g.S.Store.kept c.loop-name.store)) (listing (g.S.Store.kept c.commit.new.self)) c.in-Some.name i.cleaned
+          (new_at c.in-Some.name c.table.ensures.table c.in-Some.ensures.some) c.in_ok-commit.ensures.changed.0;
       settled = c.in_ok-commit.ensures.settled;
       keeps = λ told. Keeps-then (i.keeps told) (c.commit.ensures.keeps told);
     }
@@ -49,6 +52,12 @@ pub returns-clause-orderly : goal.returns-clause-orderly
 returns-clause-orderly g c =
     let i = c.loop-name.invariant in
     orderly_from c.table.result.now i.checked i.site (ap listing c.table.ensures.table) c.in_default.ensures.none
+
+pub returns-clause-cleaned : goal.returns-clause-cleaned
+returns-clause-cleaned g c =
+    let i = c.loop-name.invariant in
+    cleaned_all _ (listing (g.S.Store.kept c.args.store.now)) (listing (g.S.Store.kept c.loop-name.store)) i.checked.table
+    (none_at (ap listing c.table.ensures.table) c.in_default.ensures.none) i.cleaned
 
 pub returns-clause-pruned : goal.returns-clause-pruned
 returns-clause-pruned g c = λ told.

@@ -1,6 +1,7 @@
 use Rattle.std.proofs.Common.{◌≡◌, ◌≤◌, false, length}
 use Rattle.sm_disk.specs.Held.{Keeps, IsSettled}
 use Rattle.vg_meta.specs.Kept.{listing}
+use Rattle.sm_recover.specs.Cleaned.{cleaned}
 use Rattle.sm_recover.specs.Pruned.{IsWithoutNew}
 use Rattle.sm_recover.specs.Repairs.{IsChecked}
 use Rattle.sm_recover.proofs.removals.remove_new.Given as goal
@@ -13,6 +14,7 @@ invariant-loop-name g l = record {
   usable : g.S.Store.failed l.store ≡ false;
   checked : IsChecked (g.S.Store.site l.fn.store) (listing (g.S.Store.kept l.store));
   left : IsWithoutNew (listing (g.S.Store.kept l.fn.store)) (listing (g.S.Store.kept l.store));
+  cleaned : cleaned (listing (g.S.Store.kept l.store)) ≡ cleaned (listing (g.S.Store.kept l.fn.store));
   settled : g.S.Store.told → IsSettled (g.S.Store.area l.store);
   keeps : g.S.Store.told → Keeps (g.S.Store.area l.fn.store) (g.S.Store.area l.store);
 }

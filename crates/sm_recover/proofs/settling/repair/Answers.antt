@@ -1,3 +1,4 @@
+use Rattle.std.proofs.Common.{◌∙◌}
 use Rattle.sm_recover.specs.Stores.{content_now}
 use Rattle.vg_meta.specs.Kept.{listing}
 use Rattle.sm_recover.proofs.RestLaws.{agrees_left, repaired_once, repaired_twice, pruned_at, rest_from}
@@ -34,3 +35,6 @@ returns-clause-crash g c = λ told t image leaves.
     repaired_twice _ (content_now (g.S.Store.site c.remove_new.new.store) (listing (g.S.Store.kept c.remove_new.new.store)) (g.S.Store.area c.remove_new.new.store)) _
     (c.requires.sound told) (c.in_ok-remove_new.ensures.pruned told)
     (pruned_at (g.S.Store.area c.remove_new.new.store) c.remove_new.ensures.site (c.tidy_records.ensures.crash told t image leaves))
+
+pub returns-clause-cleaned : goal.returns-clause-cleaned
+returns-clause-cleaned g c = c.tidy_records.ensures.table ∙ c.in_ok-remove_new.ensures.cleaned

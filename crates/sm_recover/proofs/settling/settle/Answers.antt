@@ -1,6 +1,7 @@
 use Rattle.std.proofs.Common.{inr, ap, ◌∙◌}
 use Rattle.sm_standing.specs.Checks.{first_fault_today}
 use Rattle.sm_standing.specs.Standing.{disks}
+use Rattle.sm_recover.specs.Cleaned.{cleaned}
 use Rattle.sm_recover.proofs.RestLaws.{content_as, agrees_as, settled_same, checked_as, repaired_as}
 use Rattle.sm_recover.proofs.settling.settle.Goals as goal
 
@@ -32,3 +33,6 @@ returns-clause-disks g c = λ told.
     let k = c.checked.ensures in
     (c.in-Ok.ensures.repaired told).same_disks
     ∙ ap disks (content_as (g.S.Store.area c.args.store.now) (g.S.Store.area c.checked.new.store) k.stays.same_site k.stays.same_table (k.same told))
+
+pub returns-clause-cleaned : goal.returns-clause-cleaned
+returns-clause-cleaned g c = c.in-Ok.ensures.cleaned ∙ ap cleaned c.checked.ensures.stays.same_table

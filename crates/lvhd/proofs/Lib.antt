@@ -1,0 +1,4 @@
+pub mod FormatLaws
+pub mod FormattedLaws
+pub mod OpenLaws
+pub mod RunLaws

@@ -1,0 +1,88 @@
+use Rattle.std.proofs.Common.{◌≡◌, sym, ap, ◌∙◌, subst}
+use Rattle.sm_base.specs.declared.faults.OpenFault.{OpenFault}
+use Rattle.sm_disk.specs.Held.{reads}
+use Rattle.sm_disk.proofs.HeldLaws.{Allows-keeps}
+use Rattle.vg_layout.specs.Fields.{plate, pointer}
+use Rattle.vg_layout.specs.Opening.{IsRefused}
+use Rattle.vg_meta.specs.Kept.{listing}
+use Rattle.vg_store.specs.Groups.{Leaves, area_of}
+use Rattle.vg_volumes.specs.Sites.{Site}
+use Rattle.sm_recover.specs.Repairs.{IsStopped}
+use Rattle.sm_recover.specs.Stores.{content_now}
+use Rattle.lvhd.specs.Devices.{IsRefusedOn, site_on}
+use Rattle.lvhd.specs.Devices.IsRefusedOn.{by_group}
+use Rattle.lvhd.proofs.OpenLaws.{sound_entry, shown_entry, answer_as, refused_content, kept_back, shown_back, repaired_sized, always_sized}
+use Rattle.lvhd.proofs.opening.open.Goals as goal
+
+pub returns-in-Err-clause-refused : goal.returns-in-Err-clause-refused
+returns-in-Err-clause-refused g c =
+    let told = g.D.Disk.told in
+    let size = g.D.Disk.size c.args.disk in
+    let image = reads (g.D.Disk.held c.args.disk) in
+    answer_as (λ (f : OpenFault). told → IsRefused size image f) (λ (f : OpenFault). told → IsRefusedOn size image f) _ _ c.in-Err.fault (λ f is it. by_group f (is it)) c.in-Err.ensures.err
+
+pub returns-in-Err-clause-kept_back : goal.returns-in-Err-clause-kept_back
+returns-in-Err-clause-kept_back g c = λ told kept image allowed. kept image (Allows-keeps _ image (c.in-Err.ensures.keeps_back told) allowed)
+
+pub returns-in-Err-clause-shown_back : goal.returns-in-Err-clause-shown_back
+returns-in-Err-clause-shown_back g c = λ told ds m. record { image = m.image; allowed = Allows-keeps _ m.image (c.in-Err.ensures.keeps_back told) m.allowed; shows = m.shows }
+
+pub returns-in-Ok-begin-clause-size : goal.returns-in-Ok-begin-clause-size
+returns-in-Ok-begin-clause-size g c = ap (λ (s : Site). s.sectors) c.in-Ok-begin.ensures.site ∙ c.in-Ok.ensures.size
+
+pub returns-in-Ok-begin-clause-sound : goal.returns-in-Ok-begin-clause-sound
+returns-in-Ok-begin-clause-sound g c = λ told.
+    let e = c.in-Ok.ensures in
+    let group = c.in-Ok.group in
+    sound_entry (g.D.Disk.size c.args.disk) (g.D.Disk.held c.args.disk) (g.D.Disk.held group.disk) (site_on group.label (g.D.Disk.size group.disk)) (pointer group.header) (listing group.table)
+    (e.area told) (e.stands told) (c.in-Ok-begin.ensures.sound told)
+
+pub returns-in-Ok-begin-clause-shown : goal.returns-in-Ok-begin-clause-shown
+returns-in-Ok-begin-clause-shown g c = λ told.
+    let e = c.in-Ok.ensures in
+    let group = c.in-Ok.group in
+    shown_entry (g.D.Disk.size c.args.disk) (g.D.Disk.held c.args.disk) (g.D.Disk.held group.disk) (site_on group.label (g.D.Disk.size group.disk)) (pointer group.header) (listing group.table) _
+    (e.area told) (e.stands told) (c.in-Ok-begin.ensures.disks told)
+
+pub returns-in-Err-begin-clause-size_back : goal.returns-in-Err-begin-clause-size_back
+returns-in-Err-begin-clause-size_back g c = ap g.D.Disk.size c.into_disk.ensures.disk ∙ ap (λ (s : Site). s.sectors) c.in-Err-begin.ensures.site_back ∙ c.in-Ok.ensures.size
+
+pub returns-in-Err-begin-clause-refused : goal.returns-in-Err-begin-clause-refused
+returns-in-Err-begin-clause-refused g c =
+    let e = c.in-Ok.ensures in
+    let group = c.in-Ok.group in
+    refused_content g.D.Disk.told (g.D.Disk.size c.args.disk) (g.D.Disk.held c.args.disk) (g.D.Disk.held group.disk) (site_on group.label (g.D.Disk.size group.disk)) (pointer group.header) (listing group.table)
+    (g.D.Disk.faults c.args.disk) (g.D.Disk.faults group.disk) _ c.in-Err-begin.fault e.counts e.area e.stands
+    (subst (λ d. IsStopped g.D.Disk.told (content_now (site_on group.label (g.D.Disk.size group.disk)) (listing group.table) (area_of (g.D.Disk.held group.disk))) (g.D.Disk.faults group.disk) (g.D.Disk.faults d) c.in-Err-begin.fault)
+    (sym c.into_disk.ensures.disk) c.in-Err-begin.ensures.cause)
+
+pub returns-in-Err-begin-clause-kept_back : goal.returns-in-Err-begin-clause-kept_back
+returns-in-Err-begin-clause-kept_back g c = λ told.
+    let e = c.in-Ok.ensures in
+    let group = c.in-Ok.group in
+    let back = c.in-Err-begin.group in
+    let d = c.into_disk.result in
+    let size = g.D.Disk.size c.args.disk in
+    let site : Site = site_on group.label (g.D.Disk.size group.disk) in
+    let now : Site = site_on back.label (g.D.Disk.size back.disk) in
+    let after : g.D.Disk.size d ≡ size = ap g.D.Disk.size c.into_disk.ensures.disk ∙ ap (λ (s : Site). s.sectors) c.in-Err-begin.ensures.site_back ∙ e.size in
+    let left = repaired_sized size (g.D.Disk.size group.disk) (g.D.Disk.size d) (g.D.Disk.held group.disk) (g.D.Disk.held d) site now (listing group.table) e.size after
+    (λ t image l. c.in-Err-begin.ensures.crash_back told t image (subst (λ x. Leaves (g.D.Disk.size x) (g.D.Disk.held x) (plate back.label) t image) c.into_disk.ensures.disk l)) in
+    let always = always_sized size (g.D.Disk.size d) (g.D.Disk.held d) now after (c.into_disk.ensures.stands told) in
+    kept_back size (g.D.Disk.held c.args.disk) (g.D.Disk.held group.disk) (g.D.Disk.held d) site now (listing group.table) c.in-Err-begin.ensures.site_back (e.keeps told) always left
+
+pub returns-in-Err-begin-clause-shown_back : goal.returns-in-Err-begin-clause-shown_back
+returns-in-Err-begin-clause-shown_back g c = λ told.
+    let e = c.in-Ok.ensures in
+    let group = c.in-Ok.group in
+    let back = c.in-Err-begin.group in
+    let d = c.into_disk.result in
+    let size = g.D.Disk.size c.args.disk in
+    let site : Site = site_on group.label (g.D.Disk.size group.disk) in
+    let now : Site = site_on back.label (g.D.Disk.size back.disk) in
+    let after : g.D.Disk.size d ≡ size = ap g.D.Disk.size c.into_disk.ensures.disk ∙ ap (λ (s : Site). s.sectors) c.in-Err-begin.ensures.site_back ∙ e.size in
+    let left = repaired_sized size (g.D.Disk.size group.disk) (g.D.Disk.size d) (g.D.Disk.held group.disk) (g.D.Disk.held d) site now (listing group.table) e.size after
+    (λ t image l. c.in-Err-begin.ensures.crash_back told t image (subst (λ x. Leaves (g.D.Disk.size x) (g.D.Disk.held x) (plate back.label) t image) c.into_disk.ensures.disk l)) in
+    let always = always_sized size (g.D.Disk.size d) (g.D.Disk.held d) now after (c.into_disk.ensures.stands told) in
+    shown_back size (g.D.Disk.held c.args.disk) (g.D.Disk.held group.disk) (g.D.Disk.held d) site now (pointer group.header) (listing group.table) c.in-Err-begin.ensures.site_back (e.keeps told) (e.area told)
+    (e.stands told) always left

@@ -1,0 +1,9 @@
+use Rattle.std.proofs.Common.{refl, sym, ap, ◌∙◌, Some}
+use Rattle.lvhd.specs.declared.words.Form.{Form}
+use Rattle.lvhd.proofs.FormatLaws.{same_request, did_as}
+use Rattle.lvhd.proofs.top.lvhd.Goals as goal
+
+pub returns-in-Some-Format-clause-format : goal.returns-in-Some-Format-clause-format
+returns-in-Some-Format-clause-format g c = λ request is.
+    let here = c.in-Some-Format.is ∙ ap (λ (f : Form). Some f) c.in-Some-Format.field-0-is in
+    (refl, did_as _ c.in-Some-Format.request request c.run_format-status.result (same_request c.in-Some-Format.request request (sym here ∙ c.read.ensures ∙ is)) c.run_format-status.ensures.did)

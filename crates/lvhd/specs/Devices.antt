@@ -1,0 +1,42 @@
+-- What a stop of a device may show, and when a device is kept: whatever it leaves opens again (this project's format).
+use Rattle.std.specs.Prelude.{◌≡◌, ℕ, List, None, Some}
+use Rattle.sm_base.specs.declared.faults.OpenFault.{OpenFault}
+use Rattle.sm_base.specs.declared.faults.OpenFault.TheVariants.{Damaged}
+use Rattle.sm_base.specs.declared.faults.Place.{Place}
+use Rattle.sm_disk.specs.Held.{Held, Allows}
+use Rattle.sm_machine.specs.Disks.{Disk}
+use Rattle.vg_layout.specs.Opening.{Standing, StandsOn, IsRefused}
+use Rattle.vg_layout.specs.Sectors.{Plate}
+use Rattle.vg_layout.specs.declared.labels.GroupLabel.{GroupLabel}
+use Rattle.vg_volumes.specs.Sites.{Site}
+use Rattle.sm_standing.specs.Checks.{first_fault_today}
+use Rattle.sm_standing.specs.Devices.{IsKeptOn, Shows, content_of}
+
+-- each image that the device allows is kept
+abbrev pub IsKeptDevice : ℕ → Held → Type 0
+IsKeptDevice size h = (image : ℕ → List ℕ) → Allows size h image → IsKeptOn size image
+
+-- a stop of the device may show these disks
+pub record MayShowOn (size : ℕ) (h : Held) (ds : List Disk) : Type 0 where
+  pub image : ℕ → List ℕ
+  pub allowed : Allows size h image
+  pub shows : Shows size image ds
+
+-- a group stands on the image, and today's checks of its content pass
+pub record IsSoundOn (size : ℕ) (image : ℕ → List ℕ) : Type 0 where
+  pub group : Standing
+  pub stands : StandsOn size image group
+  pub sound : first_fault_today (content_of group image) ≡ None
+
+-- the first check that fails, and its answer
+pub data IsRefusedOn (size : ℕ) (image : ℕ → List ℕ) : OpenFault → Type 0 where
+  by_group : (e : OpenFault) → IsRefused size image e → IsRefusedOn size image e
+  by_content : (g : Standing) (p : Place) → StandsOn size image g → first_fault_today (content_of g image) ≡ Some p → IsRefusedOn size image (Damaged p)
+
+-- what never changes of the group with this label on a device of so many sectors
+abbrev pub site_on : GroupLabel → ℕ → Site
+site_on l size = record { geometry = l.geometry; count = l.extents; identity = l.repository; sectors = size }
+
+-- what the label of such a group says
+abbrev pub plate_at : Site → Plate
+plate_at s = record { extent = s.geometry.extent; block = s.geometry.block; entries = s.geometry.entries; count = s.count; identity = s.identity }

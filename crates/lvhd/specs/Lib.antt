@@ -1,0 +1,6 @@
+pub mod Devices
+pub mod Formatting
+pub mod Running
+pub mod Statuses
+pub mod Texts
+pub mod Words

@@ -1,0 +1,118 @@
+-- What the program did where it was told to run a script, by its status (this project's format). The premise is a device
+-- that is kept: whatever a stop leaves of it opens again.
+use Rattle.std.specs.Prelude.{◌≡◌, ◌≤◌, ◌⊎◌, ℕ, List, [], ⊤, Option, Result, Ok, Err}
+use Rattle.sm_base.specs.declared.faults.OpenFault.{OpenFault}
+use Rattle.sm_base.specs.declared.faults.OpenFault.TheVariants as opening
+use Rattle.sm_disk.specs.Held.{Held, Allows, Keeps, Rose, reads}
+use Rattle.sm_disk.specs.Streams.{Adds, AddsFront}
+use Rattle.sm_machine.specs.Disks.{Disk}
+use Rattle.sm_machine.specs.Steps.{State}
+use Rattle.vg_layout.specs.Opening.{Standing, StandsOn}
+use Rattle.vg_meta.specs.Tables.{Listing}
+use Rattle.vg_store.specs.Groups.{IsStanding, Leaves, area_of}
+use Rattle.vg_volumes.specs.Sites.{Site}
+use Rattle.sm_run.specs.Runs.{HasRun}
+use Rattle.sm_run.specs.declared.runs.RunFault.{RunFault}
+use Rattle.sm_run.specs.declared.runs.RunFault.TheVariants as run
+use Rattle.sm_standing.specs.Devices.{Shows, content_of}
+use Rattle.sm_standing.specs.Shapes.{shape}
+use Rattle.sm_standing.specs.Standing.{disks}
+use Rattle.lvhd.specs.declared.statuses.Status.{Status}
+use Rattle.lvhd.specs.declared.statuses.Status.TheVariants.{Done, Words, Device, Source, Sink, Refused, Memory, TooLong}
+use Rattle.lvhd.specs.Devices.{IsKeptDevice, MayShowOn, IsSoundOn, IsRefusedOn, plate_at}
+use Rattle.lvhd.specs.Texts.{line_of, fault_words}
+
+-- the device's size, what it held before and holds now; what the source had left before and has left now; what the sink
+-- held and holds
+pub record RunSides : Type 0 where
+  pub size : ℕ
+  pub old : Held
+  pub new : Held
+  pub had_left : Option (List ℕ)
+  pub left : Option (List ℕ)
+  pub had_got : Option (List ℕ)
+  pub got : Option (List ℕ)
+
+-- the status of a run
+abbrev pub status_of : Result ⊤ RunFault → Status
+status_of (Ok _) = Done
+status_of (Err run.Device) = Device
+status_of (Err run.Source) = Source
+status_of (Err run.Sink) = Sink
+status_of (Err run.NoMemory) = Memory
+status_of (Err run.TooLong) = TooLong
+
+-- a read gives the machine's disks and shape
+pub record ReadsAs (size : ℕ) (h : Held) (σ : State) : Type 0 where
+  pub group : Standing
+  pub stands : StandsOn size (reads h) group
+  pub state : σ ≡ record { disks = disks (content_of group (reads h)); shape = shape (content_of group (reads h)) }
+
+-- a stop shows these disks and no others
+abbrev pub ShowsOnly : ℕ → Held → List Disk → Type 0
+ShowsOnly size h ds = (es : List Disk) → MayShowOn size h es → es ≡ ds
+
+-- the run's own status, where a stop shows the machine's disks alone once the script was read to its end; or the last
+-- sync failed once all was answered
+abbrev pub EndsAs : Result ⊤ RunFault → ℕ → Held → State → Status → Type 0
+EndsAs (Ok _) size new end status = ((status ≡ Done) × ShowsOnly size new end.disks) ⊎ (status ≡ Device)
+EndsAs (Err f) size new end status = status ≡ status_of (Err f)
+
+-- The repository was opened, with the disks that a read gave at the entry, and the script was run: what was read and
+-- answered, and what a stop may show now.
+pub record HasRunOn (s : RunSides) (status : Status) : Type 0 where
+  pub sound : IsSoundOn s.size (reads s.old)
+  pub start : State
+  pub end : State
+  pub result : Result ⊤ RunFault
+  pub shown : Shows s.size (reads s.old) start.disks
+  pub did : HasRun start end result s.had_left s.left s.had_got s.got (MayShowOn s.size s.new) (ReadsAs s.size s.new end) (IsKeptDevice s.size s.new)
+  pub ends : EndsAs result s.size s.new end status
+
+-- the line that says why a repository is not opened, or nothing
+abbrev pub HasSaid : RunSides → Status → Type 0
+HasSaid s Refused = (e : OpenFault) × IsRefusedOn s.size (reads s.old) e × Adds s.had_got (line_of (fault_words e)) s.got
+HasSaid s Sink = (e : OpenFault) × IsRefusedOn s.size (reads s.old) e × AddsFront s.had_got (line_of (fault_words e)) s.got
+HasSaid s Device = Adds s.had_got [] s.got
+HasSaid s Memory = Adds s.had_got [] s.got
+HasSaid s Done = ⊥
+HasSaid s Words = ⊥
+HasSaid s Source = ⊥
+HasSaid s TooLong = ⊥
+
+-- the repository was not opened: nothing was read of the source, and a stop may show no more than at the entry
+pub record HasNotOpened (s : RunSides) (status : Status) : Type 0 where
+  pub source : s.left ≡ s.had_left
+  pub said : HasSaid s status
+  pub kept : IsKeptDevice s.size s.new
+  pub shown : (ds : List Disk) → MayShowOn s.size s.new ds → MayShowOn s.size s.old ds
+
+-- what a run of the program did
+abbrev pub RunDid : RunSides → Status → Type 0
+RunDid s status = HasRunOn s status ⊎ HasNotOpened s status
+
+-- a device that a session gave back, beside what the session held last: a group stands on whatever a stop leaves, which the
+-- session might have left too, and the extents read as they did
+pub record IsGivenBack (size : ℕ) (site : Site) (held after : Held) : Type 0 where
+  pub stands : (image : ℕ → List ℕ) → Allows size after image → IsStanding size image (plate_at site)
+  pub fewer : (t : Listing) (image : ℕ → List ℕ) → Leaves size after (plate_at site) t image → Leaves size held (plate_at site) t image
+  pub extents : Keeps (area_of held) (area_of after)
+
+-- the line of a refusal went out, or the sink failed at it
+abbrev pub ToldOf : OpenFault → Option (List ℕ) → Option (List ℕ) → ℕ → ℕ → Status → Type 0
+ToldOf e had got before now Refused = Adds had (line_of (fault_words e)) got
+ToldOf e had got before now Sink = Rose before now × AddsFront had (line_of (fault_words e)) got
+ToldOf e had got before now Device = ⊥
+ToldOf e had got before now Memory = ⊥
+ToldOf e had got before now Done = ⊥
+ToldOf e had got before now Words = ⊥
+ToldOf e had got before now Source = ⊥
+ToldOf e had got before now TooLong = ⊥
+
+-- what was said of a refusal: nothing of a fault of the device and of want of memory
+abbrev pub HasTold : OpenFault → Option (List ℕ) → Option (List ℕ) → ℕ → ℕ → Status → Type 0
+HasTold opening.Device had got before now status = (status ≡ Device) × (got ≡ had) × (now ≡ before)
+HasTold opening.NoMemory had got before now status = (status ≡ Memory) × (got ≡ had) × (now ≡ before)
+HasTold opening.NotARepository had got before now status = (before ≤ now) × ToldOf opening.NotARepository had got before now status
+HasTold (opening.Unsupported version) had got before now status = (before ≤ now) × ToldOf (opening.Unsupported version) had got before now status
+HasTold (opening.Damaged place) had got before now status = (before ≤ now) × ToldOf (opening.Damaged place) had got before now status

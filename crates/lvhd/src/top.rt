@@ -1,0 +1,72 @@
+//! The whole program, over any device, source and sink.
+
+ghost use Rattle.std.specs.Prelude.{◌≡◌, ◌≤◌, map, None, Some};
+ghost use Rattle.sm_disk.specs.Held.{Rose};
+ghost use Rattle.lvhd.specs.declared.statuses.Status.TheVariants as status;
+ghost use Rattle.lvhd.specs.declared.words.Form.TheVariants.{Format, Run};
+ghost use Rattle.lvhd.specs.declared.words.Request.{Request};
+ghost use Rattle.lvhd.specs.Devices.{IsKeptDevice};
+ghost use Rattle.lvhd.specs.Formatting.{FormatDid, asked};
+ghost use Rattle.lvhd.specs.Running.{RunDid};
+ghost use Rattle.lvhd.specs.Words.{form_of};
+
+use crate::formatting::run_format;
+use crate::running::run_script;
+use crate::statuses::Status;
+use crate::words::Form;
+use sm_disk::{Disk, Sink, Source};
+use std::alloc::Global;
+
+/// Does what the words ask for, on a device: `format EXTENT BLOCK ENTRIES UUID` makes a repository of it, and `run` opens
+/// the repository on it and answers the script that the source gives, one line of the sink for each line. The device is
+/// handed back at every return.
+pub fn lvhd<D: Disk, S: Source, K: Sink>(
+    alloc: Global,
+    words: &[&str],
+    disk: D,
+    source: &mut S,
+    sink: &mut K,
+) -> (Status, D)
+    ensures size { D.size result.1 ≡ D.size disk }
+    ensures counts { D.faults disk ≤ D.faults result.1 }
+    ensures source_counts { S.faults source.old ≤ S.faults source.new }
+    ensures sink_counts { K.faults sink.old ≤ K.faults sink.new }
+    ensures words { form_of (map (λ w. w.now) words.now) ≡ None → (result.0 ≡ status.Words) × (result.1 ≡ disk) × (source.new ≡ source.old) × (sink.new ≡ sink.old) }
+    ensures words_only { result.0 ≡ status.Words → form_of (map (λ w. w.now) words.now) ≡ None }
+    ensures device { result.0 ≡ status.Device → Rose (D.faults disk) (D.faults result.1) }
+    ensures source { result.0 ≡ status.Source → Rose (S.faults source.old) (S.faults source.new) }
+    ensures sink { result.0 ≡ status.Sink → Rose (K.faults sink.old) (K.faults sink.new) }
+    ensures format { (request : Request) → form_of (map (λ w. w.now) words.now) ≡ Some (Format request)
+        → (source.new ≡ source.old) × FormatDid (record {
+          size = D.size disk;
+          told = D.told;
+          old = D.held disk;
+          new = D.held result.1;
+          Unchanged = result.1 ≡ disk;
+          faults = D.faults disk;
+          faults_now = D.faults result.1;
+          had = K.content sink.old;
+          got = K.content sink.new;
+          sink_faults = K.faults sink.old;
+          sink_faults_now = K.faults sink.new;
+        }) (asked request) result.0 }
+    ensures run { form_of (map (λ w. w.now) words.now) ≡ Some Run → D.told → IsKeptDevice (D.size disk) (D.held disk) → RunDid (record {
+      size = D.size disk;
+      old = D.held disk;
+      new = D.held result.1;
+      had_left = S.content source.old;
+      left = S.content source.new;
+      had_got = K.content sink.old;
+      got = K.content sink.new;
+    }) result.0 }
+{
+    match Form::read(words) {
+        None => (Status::Words, disk),
+        Some(Form::Format(request)) => {
+            let mut disk = disk;
+            let status = run_format(alloc, &mut disk, &request, sink);
+            (status, disk)
+        }
+        Some(Form::Run) => run_script(alloc, disk, source, sink),
+    }
+}

@@ -1,0 +1,69 @@
+//! The program: `lvhd PATH format EXTENT BLOCK ENTRIES UUID`, and `lvhd PATH run`.
+//!
+//! The file at PATH is the device; the script comes on standard input, and the replies go to standard output. What is
+//! asked for is done by the proved top call; here the file and the streams are opened, and the status is handed to the
+//! system. The program prints nothing of its own.
+#![tactic(auto)]
+
+use lvhd::lvhd;
+use sm_disk::MemDisk;
+use sm_host::{FileDisk, ReadSource, WriteSink};
+use std::env;
+use std::fs::File;
+use std::io;
+use std::io::{BufReader, BufWriter};
+use std::process::ExitCode;
+
+/// The words, the file or its length could not be read.
+const UNREADABLE: u8 = 9;
+
+/// The program found no memory for itself.
+const NO_MEMORY: u8 = 7;
+
+fn main(rt: HostRuntime) -> ExitCode {
+    match status(&rt) {
+        Ok(code) => ExitCode::from(code),
+        Err(code) => ExitCode::from(code),
+    }
+}
+
+/// The exit status, once all was done.
+fn status(rt: &HostRuntime) -> Result<u8, u8> {
+    let arguments = arguments(rt)?;
+    let mut words = Vec::new(rt.alloc());
+    for argument in &arguments {
+        words.push(argument.as_str()).map_err(|_| NO_MEMORY)?;
+    }
+    let reader = BufReader::new(rt.alloc(), rt.reader()).map_err(|_| NO_MEMORY)?;
+    let writer = BufWriter::new(rt.alloc(), io::writer(rt)).map_err(|_| NO_MEMORY)?;
+    let mut source = ReadSource::new(reader);
+    let mut sink = WriteSink::new(writer);
+    let Some((path, words)) = words.split_first() else {
+        let disk = MemDisk::new(rt.alloc(), 0).map_err(|_| NO_MEMORY)?;
+        let (status, _disk) = lvhd(rt.alloc(), &[], disk, &mut source, &mut sink);
+        return Ok(status.code());
+    };
+    let (status, _disk) = lvhd(rt.alloc(), words, device(rt, path)?, &mut source, &mut sink);
+    Ok(status.code())
+}
+
+/// The arguments behind the program's own name.
+fn arguments(rt: &HostRuntime) -> Result<Vec<String>, u8> {
+    let mut arguments = Vec::new(rt.alloc());
+    let all = env::args(rt).map_err(|_| UNREADABLE)?;
+    for argument in all.skip(1) {
+        arguments.push(argument).map_err(|_| NO_MEMORY)?;
+    }
+    Ok(arguments)
+}
+
+/// The device that the file at a path is.
+fn device(rt: &HostRuntime, path: &str) -> Result<FileDisk, u8> {
+    let file = File::options()
+        .read(true)
+        .write(true)
+        .open(rt, path)
+        .map_err(|_| UNREADABLE)?;
+    let bytes = file.metadata().map_err(|_| UNREADABLE)?.len();
+    Ok(FileDisk::new(file, bytes))
+}
