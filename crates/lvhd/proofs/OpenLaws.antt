@@ -21,9 +21,11 @@ use Rattle.sm_standing.specs.Checks.{first_fault_today}
 use Rattle.sm_standing.specs.Contents.{Content}
 use Rattle.sm_standing.specs.Devices.{IsKeptOn, Shows, content_of}
 use Rattle.sm_standing.specs.Keeping.{IsKept}
+use Rattle.sm_standing.specs.Opened.{opened}
+use Rattle.sm_machine.specs.Shapes.{Shape}
 use Rattle.sm_standing.specs.Standing.{disks}
 use Rattle.sm_standing.proofs.PlainKept.{plain_kept}
-use Rattle.lvhd.specs.Devices.{IsKeptDevice, MayShowOn, IsSoundOn, IsRefusedOn, plate_at}
+use Rattle.lvhd.specs.Devices.{IsKeptDevice, MayShowOn, IsSoundOn, IsRefusedOn, IsOpenedOn, plate_at}
 use Rattle.lvhd.specs.Devices.IsRefusedOn.{by_content}
 
 -- ---- a group on an image
@@ -92,6 +94,10 @@ sound_entry size h now site at t k stands sound = record {
 pub shown_entry : (size : ℕ) (h now : Held) (site : Site) (at : Pointer) (t : Listing) (ds : List Disk) → Keeps (area_of h) (area_of now) → StandsOn size (reads h) (standing site at t)
     → ds ≡ disks (content_now site t (area_of now)) → Shows size (reads h) ds
 shown_entry size h now site at t ds k stands shown = record { group = standing site at t; stands = stands; shown = shown ∙ ap disks (content_entry site t h now k) }
+
+pub opened_entry : (size : ℕ) (h now : Held) (site : Site) (at : Pointer) (t : Listing) (made : Shape) → Keeps (area_of h) (area_of now) → StandsOn size (reads h) (standing site at t)
+    → made ≡ opened (content_now site t (area_of now)) → IsOpenedOn size (reads h) made
+opened_entry size h now site at t made k stands is = record { group = standing site at t; stands = stands; shape_is = is ∙ ap opened (content_entry site t h now k) }
 
 -- ---- refusals
 

@@ -26,7 +26,7 @@ use Rattle.sm_standing.specs.Shapes.{shape}
 use Rattle.sm_standing.specs.Standing.{disks}
 use Rattle.lvhd.specs.declared.statuses.Status.{Status}
 use Rattle.lvhd.specs.declared.statuses.Status.TheVariants.{Done, Words, Device, Source, Sink, Refused, Memory, TooLong}
-use Rattle.lvhd.specs.Devices.{IsSoundOn, IsRefusedOn, plate_at}
+use Rattle.lvhd.specs.Devices.{IsOpenedOn, IsSoundOn, IsRefusedOn, plate_at}
 use Rattle.lvhd.specs.Running.{RunSides, HasRunOn, ReadsAs, EndsAs, ShowsOnly, IsGivenBack, ToldOf, HasTold, HasSaid, status_of}
 use Rattle.lvhd.specs.Texts.{line_of, fault_words}
 use Rattle.lvhd.proofs.OpenLaws.{standing, extents_in, StandsAlways, kept_device, shown_device}
@@ -70,10 +70,10 @@ reads_as size site held after t back one =
 -- ---- the whole
 
 pub has_run : (s : RunSides) (status : Status) (site : Site) (t : Listing) (held : Held) (start : State) (result : Result ⊤ RunFault) (Ready : Type 0)
-    → IsSoundOn s.size (reads s.old) → Shows s.size (reads s.old) start.disks
+    → IsSoundOn s.size (reads s.old) → Shows s.size (reads s.old) start.disks → IsOpenedOn s.size (reads s.old) start.shape
     → HasRun start (state_now site t (area_of held)) result s.had_left s.left s.had_got s.got (MayShow site (Leaves s.size held (plate_at site))) Ready (KeepsAll site (Leaves s.size held (plate_at site)))
     → IsGivenBack s.size site held s.new → (Ready → IsOneTable s.size site s.new t) → EndsAs result s.size s.new (state_now site t (area_of held)) status → HasRunOn s status
-has_run s status site t held start result Ready sound shown run back one ends =
+has_run s status site t held start result Ready sound shown opened run back one ends =
     let always = back.stands in
     record {
       sound = sound;
@@ -81,6 +81,7 @@ has_run s status site t held start result Ready sound shown run back one ends =
       end = state_now site t (area_of held);
       result = result;
       shown = shown;
+      opened = opened;
       did = run_as
           (λ ds m. let w = shown_device s.size s.new site ds always m in record { table = w.table; image = w.image; left = back.fewer w.table w.image w.left; shown = w.shown })
           (λ r. reads_as s.size site held s.new t back (one r))
@@ -125,11 +126,11 @@ shown_closed size other site same after ds is_size is_site always only = λ es m
 
 -- the same, where the session tells the size of its device
 pub has_run_sized : (s : RunSides) (status : Status) (other : ℕ) (site : Site) (t : Listing) (held : Held) (start : State) (result : Result ⊤ RunFault) (Ready : Type 0) → other ≡ s.size
-    → IsSoundOn s.size (reads s.old) → Shows s.size (reads s.old) start.disks
+    → IsSoundOn s.size (reads s.old) → Shows s.size (reads s.old) start.disks → IsOpenedOn s.size (reads s.old) start.shape
     → HasRun start (state_now site t (area_of held)) result s.had_left s.left s.had_got s.got (MayShow site (Leaves other held (plate_at site))) Ready (KeepsAll site (Leaves other held (plate_at site)))
     → IsGivenBack other site held s.new → (Ready → IsOneTable other site s.new t) → EndsAs result s.size s.new (state_now site t (area_of held)) status → HasRunOn s status
-has_run_sized s status other site t held start result Ready is_size sound shown run back one ends =
-    has_run s status site t held start result Ready sound shown
+has_run_sized s status other site t held start result Ready is_size sound shown opened run back one ends =
+    has_run s status site t held start result Ready sound shown opened
     (subst (λ n. HasRun start (state_now site t (area_of held)) result s.had_left s.left s.had_got s.got (MayShow site (Leaves n held (plate_at site))) Ready (KeepsAll site (Leaves n held (plate_at site)))) is_size run)
     (subst (λ n. IsGivenBack n site held s.new) is_size back) (λ r. subst (λ n. IsOneTable n site s.new t) is_size (one r)) ends
 

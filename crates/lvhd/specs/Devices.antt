@@ -10,7 +10,9 @@ use Rattle.vg_layout.specs.Sectors.{Plate}
 use Rattle.vg_layout.specs.declared.labels.GroupLabel.{GroupLabel}
 use Rattle.vg_volumes.specs.Sites.{Site}
 use Rattle.sm_standing.specs.Checks.{first_fault_today}
+use Rattle.sm_machine.specs.Shapes.{Shape}
 use Rattle.sm_standing.specs.Devices.{IsKeptOn, Shows, content_of}
+use Rattle.sm_standing.specs.Opened.{opened}
 
 -- each image that the device allows is kept
 abbrev pub IsKeptDevice : ℕ → Held → Type 0
@@ -27,6 +29,12 @@ pub record IsSoundOn (size : ℕ) (image : ℕ → List ℕ) : Type 0 where
   pub group : Standing
   pub stands : StandsOn size image group
   pub sound : first_fault_today (content_of group image) ≡ None
+
+-- this shape is what an opening makes of what stands on the image
+pub record IsOpenedOn (size : ℕ) (image : ℕ → List ℕ) (made : Shape) : Type 0 where
+  pub group : Standing
+  pub stands : StandsOn size image group
+  pub shape_is : made ≡ opened (content_of group image)
 
 -- the first check that fails, and its answer
 pub data IsRefusedOn (size : ℕ) (image : ℕ → List ℕ) : OpenFault → Type 0 where

@@ -19,7 +19,7 @@ use Rattle.sm_standing.specs.Shapes.{shape}
 use Rattle.sm_standing.specs.Standing.{disks}
 use Rattle.lvhd.specs.declared.statuses.Status.{Status}
 use Rattle.lvhd.specs.declared.statuses.Status.TheVariants.{Done, Words, Device, Source, Sink, Refused, Memory, TooLong}
-use Rattle.lvhd.specs.Devices.{IsKeptDevice, MayShowOn, IsSoundOn, IsRefusedOn, plate_at}
+use Rattle.lvhd.specs.Devices.{IsKeptDevice, MayShowOn, IsSoundOn, IsRefusedOn, IsOpenedOn, plate_at}
 use Rattle.lvhd.specs.Texts.{line_of, fault_words}
 
 -- the device's size, what it held before and holds now; what the source had left before and has left now; what the sink
@@ -58,7 +58,8 @@ abbrev pub EndsAs : Result ⊤ RunFault → ℕ → Held → State → Status �
 EndsAs (Ok _) size new end status = ((status ≡ Done) × ShowsOnly size new end.disks) ⊎ (status ≡ Device)
 EndsAs (Err f) size new end status = status ≡ status_of (Err f)
 
--- The repository was opened, with the disks that a read gave at the entry, and the script was run: what was read and
+-- The repository was opened, with the disks that a read gave at the entry and the shape that an opening makes of what stood
+-- there, and the script was run: what was read and
 -- answered, and what a stop may show now.
 pub record HasRunOn (s : RunSides) (status : Status) : Type 0 where
   pub sound : IsSoundOn s.size (reads s.old)
@@ -66,6 +67,7 @@ pub record HasRunOn (s : RunSides) (status : Status) : Type 0 where
   pub end : State
   pub result : Result ⊤ RunFault
   pub shown : Shows s.size (reads s.old) start.disks
+  pub opened : IsOpenedOn s.size (reads s.old) start.shape
   pub did : HasRun start end result s.had_left s.left s.had_got s.got (MayShowOn s.size s.new) (ReadsAs s.size s.new end) (IsKeptDevice s.size s.new)
   pub ends : EndsAs result s.size s.new end status
 

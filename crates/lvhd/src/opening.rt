@@ -4,6 +4,7 @@ ghost use Rattle.std.specs.Prelude.{◌≡◌, ◌≤◌, List, false, IfOk, IfE
 ghost use Rattle.sm_disk.specs.Held.{reads};
 ghost use Rattle.sm_machine.specs.Disks.{Disk};
 ghost use Rattle.sm_standing.specs.Devices.{Shows};
+ghost use Rattle.sm_standing.specs.Shapes.{shape};
 ghost use Rattle.sm_standing.specs.Standing.{disks};
 ghost use Rattle.vg_meta.specs.Kept.{listing};
 ghost use Rattle.vg_layout.specs.Fields.{plate};
@@ -12,7 +13,7 @@ ghost use Rattle.vg_store.specs.Openings.{IsAnswer};
 ghost use Rattle.sm_recover.specs.Stores.{IsAtRest, content_now, state_now};
 ghost use Rattle.sm_run.specs.Runs.{BeginsSettled};
 ghost use Rattle.sm_session.specs.Sessions.{MayShow, KeepsAll};
-ghost use Rattle.lvhd.specs.Devices.{IsKeptDevice, MayShowOn, IsSoundOn, IsRefusedOn, site_on};
+ghost use Rattle.lvhd.specs.Devices.{IsKeptDevice, MayShowOn, IsSoundOn, IsRefusedOn, IsOpenedOn, site_on};
 
 use sm_base::OpenFault;
 use sm_disk::Disk;
@@ -31,6 +32,7 @@ pub fn open<D: Disk>(alloc: Global, disk: D) -> Result<Session<Group<D>>, (OpenF
     ensures sound { IfOk result (λ s. D.told → IsSoundOn (D.size disk) (reads (D.held disk))) }
     ensures rest { IfOk result (λ s. D.told → IsAtRest (site_on s.store.label (D.size s.store.disk)) (listing s.store.table) (area_of (D.held s.store.disk)) s.records) }
     ensures shown { IfOk result (λ s. D.told → Shows (D.size disk) (reads (D.held disk)) (disks (content_now (site_on s.store.label (D.size s.store.disk)) (listing s.store.table) (area_of (D.held s.store.disk))))) }
+    ensures opened { IfOk result (λ s. D.told → IsOpenedOn (D.size disk) (reads (D.held disk)) (shape (content_now (site_on s.store.label (D.size s.store.disk)) (listing s.store.table) (area_of (D.held s.store.disk))))) }
     ensures kept { IfOk result (λ s. D.told → KeepsAll (site_on s.store.label (D.size s.store.disk)) (Leaves (D.size s.store.disk) (D.held s.store.disk) (plate s.store.label))) }
     ensures begins { IfOk result (λ s. D.told → BeginsSettled (state_now (site_on s.store.label (D.size s.store.disk)) (listing s.store.table) (area_of (D.held s.store.disk)))
         (MayShow (site_on s.store.label (D.size s.store.disk)) (Leaves (D.size s.store.disk) (D.held s.store.disk) (plate s.store.label)))) }

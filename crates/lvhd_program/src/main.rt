@@ -8,11 +8,10 @@
 use lvhd::lvhd;
 use sm_disk::MemDisk;
 use sm_host::{FileDisk, ReadSource, WriteSink};
-use std::env;
 use std::fs::File;
-use std::io;
 use std::io::{BufReader, BufWriter};
 use std::process::ExitCode;
+use std::{env, io};
 
 /// The words, the file or its length could not be read.
 const UNREADABLE: u8 = 9;

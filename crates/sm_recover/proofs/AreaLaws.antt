@@ -53,7 +53,7 @@ reading-zeros = reading_zeros 512
 
 -- ---- pruned
 
-was_there : (old new : Listing) (n : Name) (r : Row) → rows new n ≡ Some r → (rows new n ≡ rows old n) ⊎ IsGone old new n → rows old n ≡ Some r
+pub was_there : (old new : Listing) (n : Name) (r : Row) → rows new n ≡ Some r → (rows new n ≡ rows old n) ⊎ IsGone old new n → rows old n ≡ Some r
 was_there old new n r there (inl same) = sym same ∙ there
 was_there old new n r there (inr (none, w)) = absurd (let e : None ≡ Some r = sym none ∙ there in cc)
 

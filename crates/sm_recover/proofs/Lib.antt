@@ -3,8 +3,10 @@ pub mod CheckLaws
 pub mod DiskLaws
 pub mod RemovalLaws
 pub mod CleanLaws
+pub mod OpenedLaws
 pub mod FitLaws
 pub mod AreaLaws
 pub mod WipeLaws
+pub mod ReadLaws
 pub mod RestLaws
 pub mod OpeningLaws

@@ -25,7 +25,7 @@ use Rattle.sm_recover.proofs.PrunedLaws.{plain_left}
 
 -- ---- a volume of the list is the one of its name
 
-less_at : (n : Name) (rs : List Row) (r : Row) → AllByRecursion (λ (m : Name). name_cmp n m ≡ Less) (names_of rs) → In r rs → name_cmp n r.name ≡ Less
+pub less_at : (n : Name) (rs : List Row) (r : Row) → AllByRecursion (λ (m : Name). name_cmp n m ≡ Less) (names_of rs) → In r rs → name_cmp n r.name ≡ Less
 less_at n [] r all none = absurd none
 less_at n (s ∷ rs) r all (inl same) = subst (λ (x : Row). name_cmp n x.name ≡ Less) (sym same) all.0
 less_at n (s ∷ rs) r all (inr later) = less_at n rs r all.1 later
@@ -47,7 +47,7 @@ left_step true s r rs rest from h = inr h
 left_step false s r rs rest from (inl same) = inl same
 left_step false s r rs rest from (inr h) = inr (from h)
 
-left_there : (n : Name) (rs : List Row) (r : Row) → In r (without n rs) → In r rs
+pub left_there : (n : Name) (rs : List Row) (r : Row) → In r (without n rs) → In r rs
 unfolding without
 left_there n [] r none = none
 left_there n (s ∷ rs) r h = left_step (name_eq s.name n) s r rs (without n rs) (left_there n rs r) h

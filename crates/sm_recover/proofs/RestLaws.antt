@@ -18,6 +18,7 @@ use Rattle.sm_standing.specs.Checks.{first_fault_today}
 use Rattle.sm_standing.specs.PlainSound.{PlainSound}
 use Rattle.sm_standing.specs.Standing.{stands}
 use Rattle.sm_standing.proofs.PlainKept.{today_sound}
+use Rattle.sm_recover.specs.Cleaned.{ReadsAsBefore}
 use Rattle.sm_recover.specs.Stores.{IsOrderly, IsAtRest, IsRepairedFrom, HasNoStray, content_in, content_now}
 use Rattle.sm_recover.specs.Pruned.{IsWithoutNew, IsPruned}
 use Rattle.sm_recover.specs.Repairs.{IsChecked, IsRightAt, IsStrayAt, IsZeroedAt}
@@ -135,3 +136,7 @@ pub repaired_as : {s now : Site} {t u : Listing} (old new : Held) {left : Listin
     → IsRepairedFrom (content_now now u new) (content_in now left image) → IsRepairedFrom (content_now s t old) (content_in s left image)
 repaired_as {s} {now} {t} {u} old new {left} {image} site table same r =
     subst (λ c. IsRepairedFrom c (content_in s left image)) (content_as old new site table same) (subst (λ z. IsRepairedFrom (content_now now u new) (content_in z left image)) site r)
+
+pub reads_as : {s now : Site} {t u : Listing} (old new : Held) (c : Content) → now ≡ s → u ≡ t → SameHeld old new
+    → ReadsAsBefore (content_now now u new) c → ReadsAsBefore (content_now s t old) c
+reads_as {s} {now} {t} {u} old new c site table same r = subst (λ x. ReadsAsBefore x c) (content_as old new site table same) r

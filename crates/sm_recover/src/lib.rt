@@ -6,7 +6,8 @@
 //! **The model** (`specs/`). `Stores` has the content of a table and an area, what is known of a store between two
 //! steps (`IsOrderly`, `IsAtRest`), and what an opening may leave (`IsRepairedFrom`). `Pruned` has a content beside an
 //! earlier one: some volumes that were new are gone, and some records of no disk read as free. `Cleaned` has the table
-//! that an opening leaves. `Faults` says what each check looks at, and `Repairs` what the steps tell each other.
+//! that an opening leaves, and what it leaves of the sectors. `Faults` says what each check looks at, and `Repairs`
+//! what the steps tell each other.
 //!
 //! **What it promises.** All checks come before the first write, in their order, and the first that fails gives the
 //! place (`checks.rt` by the table, `disks.rt` by the records, `opening.rt` one after another). A repository that has
@@ -15,7 +16,8 @@
 //! At each moment a stop leaves what stood before, or a content that is sound and has the same disks: each is the
 //! earlier content, pruned (`laws.rt`). Where a check fails, or memory, nothing was written. At `Ok` nothing is
 //! pending, each record is that of a disk, and memory agrees with what a read gives; the table is the one from before
-//! without its new volumes, its sequence number raised by one for each of them.
+//! without its new volumes, its sequence number raised by one for each of them; each volume that is left reads as
+//! before, but that of the records; and the shape is the one that an opening is to make of what stood before.
 //!
 //! **What it costs.** `Mgt::load` takes memory for the records; nothing else takes any. The checks go over the volumes
 //! once each, and twice where a volume looks for another, and over the 512 places once for each disk. A repair is one
@@ -30,7 +32,7 @@ mod removals;
 mod settling;
 mod wiping;
 
-pub use laws::law_pruned;
+pub use laws::{law_opened, law_pruned};
 pub use settling::settle;
 
 #[cfg(test)]

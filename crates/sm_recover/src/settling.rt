@@ -4,10 +4,12 @@ ghost use Rattle.std.specs.Prelude.{◌≡◌, ◌⊎◌, ◌≤◌, ℕ, List, 
 ghost use Rattle.sm_disk.specs.Held.{IsSettled, Rose};
 ghost use Rattle.sm_mgt.specs.Places.{Agrees, records_held};
 ghost use Rattle.sm_standing.specs.Checks.{first_fault_today};
+ghost use Rattle.sm_standing.specs.Opened.{opened};
+ghost use Rattle.sm_standing.specs.Shapes.{shape};
 ghost use Rattle.sm_standing.specs.Standing.{disks};
 ghost use Rattle.vg_meta.specs.Kept.{listing};
 ghost use Rattle.vg_meta.specs.Tables.{Listing};
-ghost use Rattle.sm_recover.specs.Cleaned.{cleaned};
+ghost use Rattle.sm_recover.specs.Cleaned.{cleaned, ReadsAsBefore};
 ghost use Rattle.sm_recover.specs.Pruned.{IsPruned};
 ghost use Rattle.sm_recover.specs.Repairs.{IsChecked, IsStopped, IsUntouched, UnlessDevice};
 ghost use Rattle.sm_recover.specs.Stores.{IsOrderly, IsAtRest, IsRepairedFrom, HasNoStray, content_in, content_now};
@@ -43,6 +45,11 @@ pub fn settle<S: Store>(alloc: Global, store: &mut S) -> Result<Mgt, OpenFault>
     ensures at_rest { IfOk result (λ mgt. S.told → IsAtRest (S.site store.new) (listing (S.kept store.new)) (S.area store.new) mgt) }
     ensures disks { OnOk result (S.told → disks (content_now (S.site store.new) (listing (S.kept store.new)) (S.area store.new))
         ≡ disks (content_now (S.site store.old) (listing (S.kept store.old)) (S.area store.old))) }
+    ensures area { OnOk result (S.told → ReadsAsBefore
+        (content_now (S.site store.old) (listing (S.kept store.old)) (S.area store.old))
+        (content_now (S.site store.new) (listing (S.kept store.new)) (S.area store.new))) }
+    ensures opened { OnOk result (S.told → shape (content_now (S.site store.new) (listing (S.kept store.new)) (S.area store.new))
+        ≡ opened (content_now (S.site store.old) (listing (S.kept store.old)) (S.area store.old))) }
     ensures crash { S.told → (t : Listing) (image : ℕ → List ℕ) → S.leaves store.new t image
         → S.leaves store.old t image ⊎ IsRepairedFrom
         (content_now (S.site store.old) (listing (S.kept store.old)) (S.area store.old)) (content_in (S.site store.old) t image) }
@@ -70,6 +77,9 @@ fn repair<S: Store>(store: &mut S, mgt: &mut Mgt) -> Result<(), Failed>
     ensures cleaned { OnOk result (listing (S.kept store.new) ≡ cleaned (listing (S.kept store.old))) }
     ensures at_rest { OnOk result (S.told → IsAtRest (S.site store.new) (listing (S.kept store.new)) (S.area store.new) mgt.new) }
     ensures repaired { OnOk result (S.told → IsRepairedFrom
+        (content_now (S.site store.old) (listing (S.kept store.old)) (S.area store.old))
+        (content_now (S.site store.new) (listing (S.kept store.new)) (S.area store.new))) }
+    ensures area { OnOk result (S.told → ReadsAsBefore
         (content_now (S.site store.old) (listing (S.kept store.old)) (S.area store.old))
         (content_now (S.site store.new) (listing (S.kept store.new)) (S.area store.new))) }
     ensures crash { S.told → (t : Listing) (image : ℕ → List ℕ) → S.leaves store.new t image → IsRepairedFrom

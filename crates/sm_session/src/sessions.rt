@@ -10,6 +10,8 @@ ghost use Rattle.sm_recover.specs.Repairs.{IsStopped, UnlessDevice, IsUntouched}
 ghost use Rattle.sm_recover.specs.Stores.{IsOrderly, IsAtRest, IsRepairedFrom, content_in, content_now, state_now};
 ghost use Rattle.sm_run.specs.Runs.{BeginsSettled};
 ghost use Rattle.sm_standing.specs.Checks.{first_fault_today};
+ghost use Rattle.sm_standing.specs.Opened.{opened};
+ghost use Rattle.sm_standing.specs.Shapes.{shape};
 ghost use Rattle.sm_standing.specs.Standing.{disks};
 ghost use Rattle.sm_session.specs.Proper.{IsOrderly-prop};
 ghost use Rattle.sm_session.specs.Sessions.{MayShow, KeepsAll};
@@ -49,6 +51,8 @@ impl<S: Store> Session<S> {
         ensures rest { IfOk result (λ s. S.told → IsAtRest (S.site s.store) (listing (S.kept s.store)) (S.area s.store) s.records) }
         ensures disks { IfOk result (λ s. S.told → disks (content_now (S.site s.store) (listing (S.kept s.store)) (S.area s.store))
             ≡ disks (content_now (S.site store) (listing (S.kept store)) (S.area store))) }
+        ensures opened { IfOk result (λ s. S.told → shape (content_now (S.site s.store) (listing (S.kept s.store)) (S.area s.store))
+            ≡ opened (content_now (S.site store) (listing (S.kept store)) (S.area store))) }
         ensures kept { IfOk result (λ s. S.told → KeepsAll (S.site s.store) (S.leaves s.store)) }
         ensures begins { IfOk result (λ s. S.told → BeginsSettled (state_now (S.site s.store) (listing (S.kept s.store)) (S.area s.store)) (MayShow (S.site s.store) (S.leaves s.store))) }
         ensures site_back { IfErr result (λ e. S.site e.1 ≡ S.site store) }

@@ -11,7 +11,7 @@ use Rattle.sm_recover.specs.Repairs.{IsStopped}
 use Rattle.sm_recover.specs.Stores.{content_now}
 use Rattle.lvhd.specs.Devices.{IsRefusedOn, site_on}
 use Rattle.lvhd.specs.Devices.IsRefusedOn.{by_group}
-use Rattle.lvhd.proofs.OpenLaws.{sound_entry, shown_entry, answer_as, refused_content, kept_back, shown_back, repaired_sized, always_sized}
+use Rattle.lvhd.proofs.OpenLaws.{sound_entry, shown_entry, opened_entry, answer_as, refused_content, kept_back, shown_back, repaired_sized, always_sized}
 use Rattle.lvhd.proofs.opening.open.Goals as goal
 
 pub returns-in-Err-clause-refused : goal.returns-in-Err-clause-refused
@@ -43,6 +43,13 @@ returns-in-Ok-begin-clause-shown g c = λ told.
     let group = c.in-Ok.group in
     shown_entry (g.D.Disk.size c.args.disk) (g.D.Disk.held c.args.disk) (g.D.Disk.held group.disk) (site_on group.label (g.D.Disk.size group.disk)) (pointer group.header) (listing group.table) _
     (e.area told) (e.stands told) (c.in-Ok-begin.ensures.disks told)
+
+pub returns-in-Ok-begin-clause-opened : goal.returns-in-Ok-begin-clause-opened
+returns-in-Ok-begin-clause-opened g c = λ told.
+    let e = c.in-Ok.ensures in
+    let group = c.in-Ok.group in
+    opened_entry (g.D.Disk.size c.args.disk) (g.D.Disk.held c.args.disk) (g.D.Disk.held group.disk) (site_on group.label (g.D.Disk.size group.disk)) (pointer group.header) (listing group.table) _
+    (e.area told) (e.stands told) (c.in-Ok-begin.ensures.opened told)
 
 pub returns-in-Err-begin-clause-size_back : goal.returns-in-Err-begin-clause-size_back
 returns-in-Err-begin-clause-size_back g c = ap g.D.Disk.size c.into_disk.ensures.disk ∙ ap (λ (s : Site). s.sectors) c.in-Err-begin.ensures.site_back ∙ c.in-Ok.ensures.size

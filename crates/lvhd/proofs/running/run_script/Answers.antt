@@ -42,7 +42,7 @@ returns-in-Ok-run-clause-did g c = λ told kept.
     let is_size : n ≡ s.size = c.run.ensures.size ∙ e.size in
     let r = c.run.ensures.run told (e.whole, e.rest told) (e.kept told) (e.begins told) in
     let ready = r.ready (λ failed. let x = c.in-Ok-run.is in cc) in
-    inl (has_run_sized s c.close.result.0 n site (listing m.store.table) (g.D.Disk.held m.store.disk) _ c.run.result _ is_size (e.sound told) (e.shown told) r
+    inl (has_run_sized s c.close.result.0 n site (listing m.store.table) (g.D.Disk.held m.store.disk) _ c.run.result _ is_size (e.sound told) (e.shown told) (e.opened told) r
     (c.close.ensures.back told) (λ q. c.close.ensures.one told q.0)
     (ends_done s.size n s.new _ c.run.result _ c.close.result.0 c.in-Ok-run.is is_size c.close.ensures.status (c.close.ensures.shown told ready.0 ready.1)))
 
@@ -64,6 +64,6 @@ returns-in-Err-run-clause-did g c = λ told kept.
     let is_size : n ≡ s.size = c.run.ensures.size ∙ e.size in
     let r = c.run.ensures.run told (e.whole, e.rest told) (e.kept told) (e.begins told) in
     let back = subst (λ d. IsGivenBack n site (g.D.Disk.held m.store.disk) (g.D.Disk.held d)) (sym c.leave.ensures.disk) (back_itself n site (g.D.Disk.held m.store.disk) (c.leave.ensures.stands told)) in
-    inl (has_run_sized s c.status_of_fault.result n site (listing m.store.table) (g.D.Disk.held m.store.disk) _ c.run.result _ is_size (e.sound told) (e.shown told) r
+    inl (has_run_sized s c.status_of_fault.result n site (listing m.store.table) (g.D.Disk.held m.store.disk) _ c.run.result _ is_size (e.sound told) (e.shown told) (e.opened told) r
     back (λ q. subst (λ d. IsOneTable n site (g.D.Disk.held d) (listing m.store.table)) (sym c.leave.ensures.disk) (c.leave.ensures.one told q.0))
     (ends_early s.size s.new _ c.run.result c.in-Err-run.fault c.status_of_fault.result c.in-Err-run.is c.status_of_fault.ensures))

@@ -1,6 +1,7 @@
 use Rattle.std.proofs.Common.{◌∙◌}
 use Rattle.sm_recover.specs.Stores.{content_now}
 use Rattle.vg_meta.specs.Kept.{listing}
+use Rattle.sm_recover.proofs.ReadLaws.{reads_twice}
 use Rattle.sm_recover.proofs.RestLaws.{agrees_left, repaired_once, repaired_twice, pruned_at, rest_from}
 use Rattle.sm_recover.proofs.settling.repair.Goals as goal
 
@@ -38,3 +39,8 @@ returns-clause-crash g c = λ told t image leaves.
 
 pub returns-clause-cleaned : goal.returns-clause-cleaned
 returns-clause-cleaned g c = c.tidy_records.ensures.table ∙ c.in_ok-remove_new.ensures.cleaned
+
+pub returns-clause-area : goal.returns-clause-area
+returns-clause-area g c = λ told.
+    reads_twice _ (content_now (g.S.Store.site c.remove_new.new.store) (listing (g.S.Store.kept c.remove_new.new.store)) (g.S.Store.area c.remove_new.new.store)) _
+    c.requires.checked.plain (c.in_ok-remove_new.ensures.pruned told) (c.in_ok-tidy_records.ensures.pruned told)

@@ -2,7 +2,8 @@ use Rattle.std.proofs.Common.{inr, ap, ◌∙◌}
 use Rattle.sm_standing.specs.Checks.{first_fault_today}
 use Rattle.sm_standing.specs.Standing.{disks}
 use Rattle.sm_recover.specs.Cleaned.{cleaned}
-use Rattle.sm_recover.proofs.RestLaws.{content_as, agrees_as, settled_same, checked_as, repaired_as}
+use Rattle.sm_recover.proofs.OpenedLaws.{settled_shape}
+use Rattle.sm_recover.proofs.RestLaws.{reads_as, content_as, agrees_as, settled_same, checked_as, repaired_as}
 use Rattle.sm_recover.proofs.settling.settle.Goals as goal
 
 pub repair-requires : goal.repair-requires
@@ -36,3 +37,16 @@ returns-clause-disks g c = λ told.
 
 pub returns-clause-cleaned : goal.returns-clause-cleaned
 returns-clause-cleaned g c = c.in-Ok.ensures.cleaned ∙ ap cleaned c.checked.ensures.stays.same_table
+
+pub returns-clause-area : goal.returns-clause-area
+returns-clause-area g c = λ told.
+    let k = c.checked.ensures in
+    reads_as (g.S.Store.area c.args.store.now) (g.S.Store.area c.checked.new.store) _ k.stays.same_site k.stays.same_table (k.same told) (c.in-Ok.ensures.area told)
+
+pub returns-clause-opened : goal.returns-clause-opened
+returns-clause-opened g c = λ told.
+    let k = c.checked.ensures in
+    settled_shape (g.S.Store.area c.args.store.now) (g.S.Store.area c.repair.new.store) c.in_ok-mgt.ensures.checked (c.repair.ensures.site ∙ k.stays.same_site)
+    (c.in-Ok.ensures.cleaned ∙ ap cleaned k.stays.same_table)
+    ((c.in-Ok.ensures.repaired told).same_disks
+    ∙ ap disks (content_as (g.S.Store.area c.args.store.now) (g.S.Store.area c.checked.new.store) k.stays.same_site k.stays.same_table (k.same told)))

@@ -1,0 +1,4 @@
+pub mod SectorWrites
+pub mod SpotLaws
+pub mod StoreLaws
+pub mod TextLaws

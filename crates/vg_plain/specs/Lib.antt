@@ -1,0 +1,4 @@
+pub mod Accepting
+pub mod Laws
+pub mod Plain
+pub mod Spots
