@@ -1,18 +1,19 @@
 -- What a run of the program left on the device, from what its session left.
-use Rattle.std.proofs.Common.{◌≡◌, ◌⊎◌, inl, inr, ⊎_elim, ℕ, List, [], Option, Result, Ok, Err, is_err, cond, refl, sym, ap, ap₂, subst, ◌∙◌}
+use Rattle.std.proofs.Common.{◌≡◌, ◌⊎◌, inl, inr, ⊎_elim, ℕ, ◌+◌, List, [], Option, Result, Ok, Err, is_err, cond, refl, sym, ap, ap₂, subst}
 use Rattle.std.proofs.Math.Path.{fun_ext}
 use Rattle.std.specs.Prelude.{⊤}
 use Rattle.sm_base.specs.declared.faults.Failed.{Failed}
 use Rattle.sm_base.specs.declared.faults.OpenFault.{OpenFault}
 use Rattle.sm_base.specs.declared.faults.OpenFault.TheVariants as opening
-use Rattle.sm_disk.specs.Held.{Held, Keeps, reads}
-use Rattle.sm_disk.proofs.HeldLaws.{Allows-reads}
+use Rattle.sm_disk.specs.Held.{IsSettled, Held, Keeps, reads}
+use Rattle.sm_disk.proofs.HeldLaws.{Allows-keeps, Allows-reads}
 use Rattle.sm_disk.specs.Streams.{Adds}
 use Rattle.sm_disk.proofs.StreamLaws.{Adds-none}
 use Rattle.vg_store.specs.Openings.{IsAnswer}
 use Rattle.sm_script.specs.Pieces.{Writes}
 use Rattle.sm_machine.specs.Disks.{Disk}
 use Rattle.sm_machine.specs.Steps.{State}
+use Rattle.vg_layout.specs.Places.{area_place}
 use Rattle.vg_meta.specs.Tables.{Listing}
 use Rattle.vg_store.specs.Groups.{Leaves, area_of}
 use Rattle.vg_volumes.specs.Sites.{Site}
@@ -96,33 +97,29 @@ pub told_refusal : (e : OpenFault) (had got : Option (List ℕ)) (before now : �
 told_refusal e had got before now (Ok v) status w is = subst (λ (x : Status). ToldOf e had got before now x) (sym is) w.adds
 told_refusal e had got before now (Err f) status w is = subst (λ (x : Status). ToldOf e had got before now x) (sym is) (w.cause, w.front)
 
--- ---- the last sync: the site is the same, and so is the size
+-- ---- the last sync, failed or not: a stop leaves no more, and reads give the same
 
-leaves_sized : (size other : ℕ) (site same : Site) (h : Held) (t : Listing) (image : ℕ → List ℕ) → other ≡ size → same ≡ site
-    → Leaves size h (plate_at site) t image → Leaves other h (plate_at same) t image
-leaves_sized size other site same h t image is_size is_site l =
-    subst (λ n. Leaves n h (plate_at same) t image) (sym is_size) (subst (λ (s : Site). Leaves size h (plate_at s) t image) (sym is_site) l)
+-- what a stop leaves of the group after a sync it might have left before
+fewer_after : (size : ℕ) (site : Site) (held after : Held) (t : Listing) (image : ℕ → List ℕ) → Keeps held after → Leaves size after (plate_at site) t image → Leaves size held (plate_at site) t image
+fewer_after size site held after t image k l = record { whole = l.whole; allowed = Allows-keeps size l.whole k l.allowed; pointer = l.pointer; stands = l.stands; sectors = l.sectors }
 
-stands_sized : (size other : ℕ) (site same : Site) (h : Held) → other ≡ size → same ≡ site → StandsAlways other h same → StandsAlways size h site
-stands_sized size other site same h is_size is_site always = subst (λ n. StandsAlways n h site) is_size (subst (λ (s : Site). StandsAlways other h s) is_site always)
-
-pub given_back : (size other : ℕ) (site same : Site) (held after : Held) → other ≡ size → same ≡ site → StandsAlways other after same
-    → ((t : Listing) (image : ℕ → List ℕ) → Leaves other after (plate_at same) t image → Leaves size held (plate_at site) t image)
-    → Keeps (area_of held) (area_of after) → IsGivenBack size site held after
-given_back size other site same held after is_size is_site always fewer extents = record {
-  stands = stands_sized size other site same after is_size is_site always;
-  fewer = λ t image l. fewer t image (leaves_sized size other site same after t image is_size is_site l);
-  extents = extents;
+pub kept_back_after : (size : ℕ) (site : Site) (held after : Held) → Keeps held after → StandsAlways size held site → IsGivenBack size site held after
+kept_back_after size site held after k always = record {
+  stands = λ image allowed. always image (Allows-keeps size image k allowed);
+  fewer = λ t image l. fewer_after size site held after t image k l;
+  extents = record { reads = λ q. k.reads (area_place + q); may = λ q v m. k.may (area_place + q) v m };
 }
 
-pub one_table : (size other : ℕ) (site same : Site) (after : Held) (t u : Listing) → other ≡ size → same ≡ site → u ≡ t → IsOneTable other same after u → IsOneTable size site after t
-one_table size other site same after t u is_size is_site is one = λ v image l. one v image (leaves_sized size other site same after v image is_size is_site l) ∙ is
+pub one_after : (size : ℕ) (site : Site) (held after : Held) (t : Listing) → Keeps held after → IsOneTable size site held t → IsOneTable size site after t
+one_after size site held after t k one = λ u image l. one u image (fewer_after size site held after u image k l)
 
-pub shown_closed : (size other : ℕ) (site same : Site) (after : Held) (ds : List Disk) → other ≡ size → same ≡ site → StandsAlways other after same
-    → ((es : List Disk) → MayShow site (Leaves other after (plate_at same)) es → es ≡ ds) → ShowsOnly size after ds
-shown_closed size other site same after ds is_size is_site always only = λ es m.
-    let w = shown_device size after site es (stands_sized size other site same after is_size is_site always) m in
-    only es (record { table = w.table; image = w.image; left = leaves_sized size other site same after w.table w.image is_size is_site w.left; shown = w.shown })
+pub shown_after : (size : ℕ) (held after : Held) (ds : List Disk) → Keeps held after → ShowsOnly size held ds → ShowsOnly size after ds
+shown_after size held after ds k only = λ es m. only es (record { image = m.image; allowed = Allows-keeps size m.image k m.allowed; shows = m.shows })
+
+-- a stop of the device shows what a stop of the session shows
+pub shown_only : (size : ℕ) (site : Site) (held : Held) (ds : List Disk) → StandsAlways size held site
+    → ((es : List Disk) → MayShow site (Leaves size held (plate_at site)) es → es ≡ ds) → ShowsOnly size held ds
+shown_only size site held ds always only = λ es m. only es (shown_device size held site es always m)
 
 -- the same, where the session tells the size of its device
 pub has_run_sized : (s : RunSides) (status : Status) (other : ℕ) (site : Site) (t : Listing) (held : Held) (start : State) (result : Result ⊤ RunFault) (Ready : Type 0) → other ≡ s.size
@@ -143,11 +140,11 @@ back_itself size site held always = record {
 }
 
 -- the script was read to its end
-pub ends_done : (size other : ℕ) (new : Held) (end : State) (result : Result ⊤ RunFault) (u : ⊤) (status : Status) → result ≡ Ok u → other ≡ size → (status ≡ Done) ⊎ (status ≡ Device)
+pub ends_done : (size other : ℕ) (new : Held) (end : State) (result : Result ⊤ RunFault) (u : ⊤) (status : Status) (told : Type 0) → told → result ≡ Ok u → other ≡ size → ((status ≡ Done) × (told → IsSettled new)) ⊎ (status ≡ Device)
     → ShowsOnly other new end.disks → EndsAs result size new end status
-ends_done size other new end result u status is is_size ended only =
+ends_done size other new end result u status told it is is_size ended only =
     let only_here : ShowsOnly size new end.disks = subst (λ n. ShowsOnly n new end.disks) is_size only in
-    subst (λ (r : Result ⊤ RunFault). EndsAs r size new end status) (sym is) (⊎_elim (λ done. inl (done, only_here)) (λ failed. inr failed) ended)
+    subst (λ (r : Result ⊤ RunFault). EndsAs r size new end status) (sym is) (⊎_elim (λ done. inl (done.0, done.1 it, only_here)) (λ failed. inr failed) ended)
 
 pub ends_early : (size : ℕ) (new : Held) (end : State) (result : Result ⊤ RunFault) (f : RunFault) (status : Status) → result ≡ Err f → status ≡ status_of (Err f) → EndsAs result size new end status
 ends_early size new end result f status is status_is = subst (λ (r : Result ⊤ RunFault). EndsAs r size new end status) (sym is) status_is

@@ -3,7 +3,7 @@
 use Rattle.std.specs.Prelude.{◌≡◌, ◌≤◌, ◌⊎◌, ℕ, List, [], ⊤, Option, Result, Ok, Err}
 use Rattle.sm_base.specs.declared.faults.OpenFault.{OpenFault}
 use Rattle.sm_base.specs.declared.faults.OpenFault.TheVariants as opening
-use Rattle.sm_disk.specs.Held.{Held, Allows, Keeps, Rose, reads}
+use Rattle.sm_disk.specs.Held.{Held, Allows, IsSettled, Keeps, Rose, reads}
 use Rattle.sm_disk.specs.Streams.{Adds, AddsFront}
 use Rattle.sm_machine.specs.Disks.{Disk}
 use Rattle.sm_machine.specs.Steps.{State}
@@ -52,10 +52,10 @@ pub record ReadsAs (size : ℕ) (h : Held) (σ : State) : Type 0 where
 abbrev pub ShowsOnly : ℕ → Held → List Disk → Type 0
 ShowsOnly size h ds = (es : List Disk) → MayShowOn size h es → es ≡ ds
 
--- the run's own status, where a stop shows the machine's disks alone once the script was read to its end; or the last
--- sync failed once all was answered
+-- the run's own status, where nothing is pending and a stop shows the machine's disks alone once the script was read to its
+-- end; or the last sync failed once all was answered
 abbrev pub EndsAs : Result ⊤ RunFault → ℕ → Held → State → Status → Type 0
-EndsAs (Ok _) size new end status = ((status ≡ Done) × ShowsOnly size new end.disks) ⊎ (status ≡ Device)
+EndsAs (Ok _) size new end status = ((status ≡ Done) × IsSettled new × ShowsOnly size new end.disks) ⊎ (status ≡ Device)
 EndsAs (Err f) size new end status = status ≡ status_of (Err f)
 
 -- The repository was opened, with the disks that a read gave at the entry and the shape that an opening makes of what stood

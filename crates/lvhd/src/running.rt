@@ -1,7 +1,7 @@
 //! The word `run`.
 
 ghost use Rattle.std.specs.Prelude.{◌≡◌, ◌≢◌, ◌≤◌, ◌⊎◌, ℕ, List, false, Err};
-ghost use Rattle.sm_disk.specs.Held.{Allows, Rose};
+ghost use Rattle.sm_disk.specs.Held.{Allows, IsSettled, Rose};
 ghost use Rattle.sm_recover.specs.Stores.{IsAtRest, content_now};
 ghost use Rattle.sm_standing.specs.Standing.{disks};
 ghost use Rattle.vg_layout.specs.Fields.{plate};
@@ -89,6 +89,8 @@ fn leave<D: Disk>(session: Session<Group<D>>) -> D
     ensures disk { result ≡ session.store.disk }
     ensures stands { D.told → (image : ℕ → List ℕ) → Allows (D.size session.store.disk) (D.held session.store.disk) image → IsStanding (D.size session.store.disk) image (plate session.store.label) }
     ensures one { D.told → session.broken ≡ false → (t : Listing) (image : ℕ → List ℕ) → Leaves (D.size session.store.disk) (D.held session.store.disk) (plate session.store.label) t image → t ≡ listing session.store.table }
+    ensures shown { D.told → session.broken ≡ false → IsAtRest (site_on session.store.label (D.size session.store.disk)) (listing session.store.table) (area_of (D.held session.store.disk)) session.records
+        → ShowsOnly (D.size session.store.disk) (D.held session.store.disk) (disks (content_now (site_on session.store.label (D.size session.store.disk)) (listing session.store.table) (area_of (D.held session.store.disk)))) }
 {
     session.into_store().into_disk()
 }
@@ -97,17 +99,15 @@ fn leave<D: Disk>(session: Session<Group<D>>) -> D
 fn close<D: Disk>(session: Session<Group<D>>) -> (Status, D)
     ensures size { D.size result.1 ≡ D.size session.store.disk }
     ensures counts { D.faults session.store.disk ≤ D.faults result.1 }
-    ensures status { ((result.0 ≡ Done) ⊎ (result.0 ≡ Device)) }
+    ensures status { ((result.0 ≡ Done) × (D.told → IsSettled (D.held result.1))) ⊎ (result.0 ≡ Device) }
     ensures device { result.0 ≡ Device → Rose (D.faults session.store.disk) (D.faults result.1) }
     ensures back { D.told → IsGivenBack (D.size session.store.disk) (site_on session.store.label (D.size session.store.disk)) (D.held session.store.disk) (D.held result.1) }
     ensures one { D.told → session.broken ≡ false → (t : Listing) (image : ℕ → List ℕ) → Leaves (D.size session.store.disk) (D.held result.1) (plate session.store.label) t image → t ≡ listing session.store.table }
     ensures shown { D.told → session.broken ≡ false → IsAtRest (site_on session.store.label (D.size session.store.disk)) (listing session.store.table) (area_of (D.held session.store.disk)) session.records
         → ShowsOnly (D.size session.store.disk) (D.held result.1) (disks (content_now (site_on session.store.label (D.size session.store.disk)) (listing session.store.table) (area_of (D.held session.store.disk)))) }
 {
-    let mut session = session;
-    let synced = session.sync();
-    let disk = leave(session);
-    match synced {
+    let mut disk = leave(session);
+    match disk.sync() {
         Ok(()) => (Status::Done, disk),
         Err(_) => (Status::Device, disk),
     }

@@ -20,7 +20,6 @@
 
 mod creating;
 mod listing;
-mod listings;
 mod making;
 mod refusing;
 mod sessions;

@@ -4,22 +4,26 @@
 //! Sizes are in bytes. A call costs one pass over the volumes and for each a pass over the records, and takes
 //! memory for the rows.
 
-ghost use Rattle.std.specs.Prelude.{◌≡◌, ◌≤◌, ◌^◌, map, length, IfOk};
+ghost use Rattle.std.specs.Prelude.{◌≡◌, ◌≤◌, ◌⊎◌, ◌^◌, map, length, IfOk};
+ghost use Rattle.sm_base.specs.declared.refusals.Refusal.TheVariants.{NoMemory as NoMemoryRefusal};
 ghost use Rattle.std.specs.List.{filter_map};
 ghost use Rattle.sm_disk.specs.Held.{Held};
 ghost use Rattle.vg_meta.specs.Kept.{listing, rows_alone};
 ghost use Rattle.vg_meta.specs.Tables.{AreVolumes};
 ghost use Rattle.vg_volumes.specs.Sites.{Site};
-ghost use Rattle.sm_machine.specs.Steps.{disk_row as row_of_disk};
-ghost use Rattle.sm_recover.specs.Stores.{content_now, IsOrderly, IsAtRest};
+ghost use Rattle.sm_machine.specs.declared.commands.Command.TheVariants.{List as ListDisks};
+ghost use Rattle.sm_machine.specs.declared.replies.Reply.TheVariants.{No};
+ghost use Rattle.sm_machine.specs.Steps.{disk_row as row_of_disk, step};
+ghost use Rattle.sm_recover.specs.Stores.{content_now, state_now, IsOrderly, IsAtRest};
 ghost use Rattle.sm_standing.specs.Standing.{disks};
 ghost use Rattle.sm_session.specs.Listing.{listed_row};
 
-use sm_base::{Geometry, Name, NoMemory};
-use sm_machine::{DiskRow, DiskRows};
+use sm_base::{Geometry, Name, NoMemory, Refusal};
+use sm_machine::{DiskRow, DiskRows, Reply};
 use sm_mgt::Mgt;
 use std::alloc::Global;
 use vg_meta::{Table, Volume};
+use vg_volumes::Store;
 
 /// The bytes of a sector.
 const SECTOR: u64 = 512;
@@ -77,4 +81,16 @@ pub(crate) fn list_disks(
         → IsAtRest s (listing table.now) area mgt.now → rows ≡ map row_of_disk (disks (content_now s (listing table.now) area))) }
 {
     rows_in(alloc, table.volumes(), geometry, mgt)
+}
+
+/// The disks, in order of UUID.
+pub fn list<S: Store>(alloc: Global, store: &S, records: &Mgt) -> Reply
+    requires orderly { IsOrderly (S.site store.now) (listing (S.kept store.now)) }
+    ensures { S.told → IsAtRest (S.site store.now) (listing (S.kept store.now)) (S.area store.now) records.now
+        → (result ≡ No NoMemoryRefusal) ⊎ (result ≡ (step (state_now (S.site store.now) (listing (S.kept store.now)) (S.area store.now)) ListDisks).reply) }
+{
+    match list_disks(alloc, store.table(), &store.geometry(), records) {
+        Ok(rows) => Reply::List(rows),
+        Err(_) => Reply::No(Refusal::NoMemory),
+    }
 }

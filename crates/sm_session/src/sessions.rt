@@ -1,8 +1,8 @@
 //! A repository that is open, and its steps.
 
-ghost use Rattle.std.specs.Prelude.{◌≡◌, ◌≤◌, ◌⊎◌, ℕ, List, None, false, IfOk, IfErr, OnOk, OnErr};
+ghost use Rattle.std.specs.Prelude.{◌≡◌, ◌≤◌, ◌⊎◌, ℕ, List, None, false, IfOk, IfErr};
 ghost use Rattle.std.proofs.Props.{props};
-ghost use Rattle.sm_disk.specs.Held.{IsSettled, Keeps, Rose};
+ghost use Rattle.sm_disk.specs.Held.{IsSettled};
 ghost use Rattle.vg_meta.specs.Kept.{listing};
 ghost use Rattle.vg_meta.specs.Tables.{Listing};
 ghost use Rattle.sm_machine.specs.Disks.{Disk};
@@ -17,7 +17,7 @@ ghost use Rattle.sm_session.specs.Proper.{IsOrderly-prop};
 ghost use Rattle.sm_session.specs.Sessions.{MayShow, KeepsAll};
 
 use crate::taking::take;
-use sm_base::{Failed, OpenFault};
+use sm_base::OpenFault;
 use sm_machine::{Command, Reply};
 use sm_mgt::Mgt;
 use sm_recover::settle;
@@ -73,26 +73,11 @@ impl<S: Store> Session<S> {
         }
     }
 
-    /// Makes all that was written last.
-    pub fn sync(&mut self) -> Result<(), Failed>
-        ensures site { S.site self.new.store ≡ S.site self.old.store }
-        ensures counts { S.faults self.old.store ≤ S.faults self.new.store }
-        ensures cause { OnErr result (Rose (S.faults self.old.store) (S.faults self.new.store)) }
-        ensures records { self.new.records ≡ self.old.records }
-        ensures broken { self.new.broken ≡ self.old.broken }
-        ensures table { (listing (S.kept self.new.store) ≡ listing (S.kept self.old.store)) × (S.failed self.new.store ≡ S.failed self.old.store) }
-        ensures keeps { S.told → Keeps (S.area self.old.store) (S.area self.new.store) }
-        ensures leaves { S.told → (t : Listing) (image : ℕ → List ℕ) → S.leaves self.new.store t image → S.leaves self.old.store t image }
-        ensures settled { OnOk result (S.told → IsSettled (S.area self.new.store)) }
-        ensures shown { S.told → self.old.broken ≡ false → IsAtRest (S.site self.old.store) (listing (S.kept self.old.store)) (S.area self.old.store) self.old.records
-            → (ds : List Disk) → MayShow (S.site self.old.store) (S.leaves self.new.store) ds → ds ≡ disks (content_now (S.site self.old.store) (listing (S.kept self.old.store)) (S.area self.old.store)) }
-    {
-        self.store.sync()
-    }
-
-    /// The store, as it is. It is not called.
+    /// The store, as it is. It is not called. Between two steps a stop shows the machine's disks alone.
     pub fn into_store(self) -> S
-        ensures { result ≡ self.store }
+        ensures store { result ≡ self.store }
+        ensures shown { S.told → self.broken ≡ false → IsAtRest (S.site self.store) (listing (S.kept self.store)) (S.area self.store) self.records
+            → (ds : List Disk) → MayShow (S.site self.store) (S.leaves self.store) ds → ds ≡ disks (content_now (S.site self.store) (listing (S.kept self.store)) (S.area self.store)) }
     {
         let Session {
             store,

@@ -9,7 +9,7 @@ ghost use Rattle.sm_recover.specs.Stores.{IsOrderly, IsAtRest};
 ghost use Rattle.sm_session.specs.Sessions.{HasTaken};
 
 use crate::creating::create;
-use crate::listings::list;
+use crate::listing::list;
 use sm_base::{Failed, Refusal};
 use sm_machine::{Command, Reply};
 use sm_mgt::Mgt;

@@ -44,7 +44,7 @@ returns-in-Ok-run-clause-did g c = λ told kept.
     let ready = r.ready (λ failed. let x = c.in-Ok-run.is in cc) in
     inl (has_run_sized s c.close.result.0 n site (listing m.store.table) (g.D.Disk.held m.store.disk) _ c.run.result _ is_size (e.sound told) (e.shown told) (e.opened told) r
     (c.close.ensures.back told) (λ q. c.close.ensures.one told q.0)
-    (ends_done s.size n s.new _ c.run.result _ c.close.result.0 c.in-Ok-run.is is_size c.close.ensures.status (c.close.ensures.shown told ready.0 ready.1)))
+    (ends_done s.size n s.new _ c.run.result _ c.close.result.0 g.D.Disk.told told c.in-Ok-run.is is_size c.close.ensures.status (c.close.ensures.shown told ready.0 ready.1)))
 
 pub returns-in-Err-run-clause-did : goal.returns-in-Err-run-clause-did
 returns-in-Err-run-clause-did g c = λ told kept.

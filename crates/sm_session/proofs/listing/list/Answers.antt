@@ -3,7 +3,7 @@ use Rattle.sm_machine.specs.declared.replies.Reply.TheVariants as reply
 use Rattle.sm_machine.specs.Steps.{Outcome}
 use Rattle.vg_meta.specs.Kept.{listing}
 use Rattle.sm_session.proofs.ShapeLaws.{list_step}
-use Rattle.sm_session.proofs.listings.list.Goals as goal
+use Rattle.sm_session.proofs.listing.list.Goals as goal
 
 pub returns-in-Ok : goal.returns-in-Ok
 returns-in-Ok g c = λ told rest.
