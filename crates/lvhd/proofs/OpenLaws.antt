@@ -38,25 +38,24 @@ extents_in image q = image (area_place + q)
 abbrev pub standing : Site → Pointer → Listing → Standing
 standing site at t = record { plate = plate_at site; pointer = at; table = t }
 
-plate_once : (size : ℕ) (m : ℕ → List ℕ) (p q : Plate) → plate_of size m ≡ Ok p → plate_of size m ≡ Ok q → p ≡ q
+pub plate_once : (size : ℕ) (m : ℕ → List ℕ) (p q : Plate) → plate_of size m ≡ Ok p → plate_of size m ≡ Ok q → p ≡ q
 plate_once size m p q a b = (let e = sym a ∙ b in cc)
 
 -- on an image stands one group alone, so its content is one
-content_once : (size : ℕ) (m : ℕ → List ℕ) (site : Site) (at : Pointer) (t : Listing) (g : Standing) → StandsOn size m (standing site at t) → StandsOn size m g
-    → content_of g m ≡ content_of (standing site at t) m
-content_once size m site at t g a b =
-    let plates : plate_at site ≡ g.plate = plate_once size m (plate_at site) g.plate a.labelled b.labelled in
-    let here : StandsOn size m (record { plate = plate_at site; pointer = g.pointer; table = g.table }) = subst (λ (p : Plate). StandsOn size m (record { plate = p; pointer = g.pointer; table = g.table })) (sym plates) b in
-    let tables : t ≡ g.table = stands_once size m (plate_at site) at g.pointer t g.table (plate_few size m (plate_at site) a.labelled) a here in
-    ap₂ (λ (p : Plate) (u : Listing). content_of (record { plate = p; pointer = g.pointer; table = u }) m) (sym plates) (sym tables)
+pub content_once : (size : ℕ) (m : ℕ → List ℕ) (g h : Standing) → StandsOn size m g → StandsOn size m h → content_of h m ≡ content_of g m
+content_once size m g h a b =
+    let plates : g.plate ≡ h.plate = plate_once size m g.plate h.plate a.labelled b.labelled in
+    let here : StandsOn size m (record { plate = g.plate; pointer = h.pointer; table = h.table }) = subst (λ (p : Plate). StandsOn size m (record { plate = p; pointer = h.pointer; table = h.table })) (sym plates) b in
+    let tables : g.table ≡ h.table = stands_once size m g.plate g.pointer h.pointer g.table h.table (plate_few size m g.plate a.labelled) a here in
+    ap₂ (λ (p : Plate) (u : Listing). content_of (record { plate = p; pointer = h.pointer; table = u }) m) (sym plates) (sym tables)
 
 -- where it is kept, so is the content of any label and table that stand there
 kept_standing : (size : ℕ) (m : ℕ → List ℕ) (site : Site) (at : Pointer) (t : Listing) → StandsOn size m (standing site at t) → IsKeptOn size m → IsKept (content_of (standing site at t) m)
-kept_standing size m site at t stands k = subst IsKept (content_once size m site at t k.group stands k.stands) k.kept
+kept_standing size m site at t stands k = subst IsKept (content_once size m (standing site at t) k.group stands k.stands) k.kept
 
 shown_standing : (size : ℕ) (m : ℕ → List ℕ) (site : Site) (at : Pointer) (t : Listing) (ds : List Disk) → StandsOn size m (standing site at t) → Shows size m ds
     → ds ≡ disks (content_of (standing site at t) m)
-shown_standing size m site at t ds stands s = s.shown ∙ ap disks (content_once size m site at t s.group stands s.stands)
+shown_standing size m site at t ds stands s = s.shown ∙ ap disks (content_once size m (standing site at t) s.group stands s.stands)
 
 -- ---- what a stop of the device leaves, by what its group leaves
 

@@ -1,9 +1,13 @@
-//! A device that was formatted is kept, and a stop of it shows no disks.
+//! A device that was formatted is kept, and a stop of it shows no disks. The answers of an opening exclude each other.
 
 ghost use Rattle.std.specs.Prelude.{◌≡◌, ℕ, List, []};
-ghost use Rattle.lvhd.specs.Devices.{IsKeptDevice, MayShowOn};
+ghost use Rattle.lvhd.specs.declared.statuses.Status.{Status};
+ghost use Rattle.lvhd.specs.declared.statuses.Status.TheVariants.{Refused};
+ghost use Rattle.lvhd.specs.Devices.{IsKeptDevice, MayShowOn, IsSoundOn, IsRefusedOn};
+ghost use Rattle.lvhd.specs.Running.{RunSides, RunDid};
+ghost use Rattle.sm_base.specs.declared.faults.OpenFault.{OpenFault};
 ghost use Rattle.sm_base.specs.declared.sizes.Geometry.{Geometry};
-ghost use Rattle.sm_disk.specs.Held.{Held, IsSettled};
+ghost use Rattle.sm_disk.specs.Held.{Held, IsSettled, reads};
 ghost use Rattle.sm_machine.specs.Disks.{Disk};
 ghost use Rattle.sm_standing.specs.Devices.{IsKeptOn, Shows};
 ghost use Rattle.vg_store.specs.Formats.{IsFormatted};
@@ -16,4 +20,12 @@ pub fn law_formatted()
     ensures device { (size : ℕ) (h : Held) (g : Geometry) (repository : List ℕ) → IsFormatted size h.floor g repository → IsSettled h → IsKeptDevice size h }
     ensures device_empty { (size : ℕ) (h : Held) (g : Geometry) (repository : List ℕ) → IsFormatted size h.floor g repository → IsSettled h
         → (ds : List Disk) → MayShowOn size h ds → ds ≡ [] }
+{}
+
+/// A device on which all checks of an opening pass is never refused, and one that is refused passes not all of them: an
+/// opening succeeds exactly where what stands there is sound, but for a fault of the device and want of memory. So a run
+/// on such a device is not refused either.
+pub fn law_exact()
+    ensures answers { (size : ℕ) (image : ℕ → List ℕ) (e : OpenFault) → IsSoundOn size image → IsRefusedOn size image e → ⊥ }
+    ensures runs { (s : RunSides) (status : Status) → RunDid s status → IsSoundOn s.size (reads s.old) → status ≡ Refused → ⊥ }
 {}

@@ -31,7 +31,7 @@ mod top;
 mod words;
 
 pub use formatting::run_format;
-pub use laws::law_formatted;
+pub use laws::{law_exact, law_formatted};
 pub use opening::open;
 pub use running::run_script;
 pub use statuses::Status;
