@@ -1,11 +1,11 @@
 //! The whole program, over any device, source and sink.
 
-ghost use Rattle.std.specs.Prelude.{◌≡◌, ◌≤◌, map, None, Some};
-ghost use Rattle.sm_disk.specs.Held.{Rose};
+ghost use Rattle.std.specs.Prelude.{◌≡◌, ◌≤◌, ◌⊎◌, map, None, Some};
+ghost use Rattle.sm_disk.specs.Held.{Rose, reads};
 ghost use Rattle.lvhd.specs.declared.statuses.Status.TheVariants as status;
 ghost use Rattle.lvhd.specs.declared.words.Form.TheVariants.{Format, Run};
 ghost use Rattle.lvhd.specs.declared.words.Request.{Request};
-ghost use Rattle.lvhd.specs.Devices.{IsKeptDevice};
+ghost use Rattle.lvhd.specs.Devices.{IsKeptDevice, IsSoundOn};
 ghost use Rattle.lvhd.specs.Formatting.{FormatDid, asked};
 ghost use Rattle.lvhd.specs.Running.{RunDid};
 ghost use Rattle.lvhd.specs.Words.{form_of};
@@ -59,6 +59,9 @@ pub fn lvhd<D: Disk, S: Source, K: Sink>(
       had_got = K.content sink.old;
       got = K.content sink.new;
     }) result.0 }
+    ensures complete { form_of (map (λ w. w.now) words.now) ≡ Some Run → D.told → IsKeptDevice (D.size disk) (D.held disk) → IsSoundOn (D.size disk) (reads (D.held disk))
+        → (Rose (D.faults disk) (D.faults result.1) → ⊥) → (Rose (S.faults source.old) (S.faults source.new) → ⊥) → (Rose (K.faults sink.old) (K.faults sink.new) → ⊥)
+        → (result.0 ≡ status.Done) ⊎ ((result.0 ≡ status.Memory) ⊎ (result.0 ≡ status.TooLong)) }
 {
     match Form::read(words) {
         None => (Status::Words, disk),
