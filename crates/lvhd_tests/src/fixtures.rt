@@ -1,0 +1,71 @@
+//! The program is run on a device in memory, and its status and replies are compared.
+
+use crate::DEVICE_SECTORS;
+use lvhd::{Status, lvhd};
+use sm_disk::{Disk, MemDisk, MemSink, MemSource, write_sector};
+use std::alloc::Global;
+use std::test::Fail;
+
+const REPOSITORY: &str = "99999999-9999-4999-8999-999999999999";
+
+/// Runs the program with these words, on a script that comes three bytes at a time.
+pub fn run_words(
+    alloc: Global,
+    words: &[&str],
+    disk: MemDisk,
+    script: &[u8],
+    sink: &mut MemSink,
+) -> Result<(Status, MemDisk), Fail> {
+    let mut source = MemSource::new(alloc, script, 3, None)?;
+    Ok(lvhd(alloc, words, disk, &mut source, sink))
+}
+
+/// Makes a repository of a device: extents of 32 sectors, blocks of 8, and so 64 entries.
+pub fn format(alloc: Global, disk: MemDisk, sink: &mut MemSink) -> Result<(Status, MemDisk), Fail> {
+    let words = ["format", "16384", "4096", "64", REPOSITORY];
+    run_words(alloc, &words, disk, b"", sink)
+}
+
+/// A device of so many sectors with a new repository, on which no call was counted yet.
+pub fn formatted(alloc: Global, sectors: u64) -> Result<MemDisk, Fail> {
+    let mut sink = MemSink::new(alloc, None)?;
+    let (_status, disk) = format(alloc, MemDisk::new(alloc, sectors)?, &mut sink)?;
+    Ok(disk.left(alloc, &[])?)
+}
+
+/// A device with a new repository, whose free extents hold stale bytes.
+pub fn stale(alloc: Global) -> Result<MemDisk, Fail> {
+    let mut disk = formatted(alloc, DEVICE_SECTORS)?;
+    for at in 4608..DEVICE_SECTORS {
+        if at < disk.sectors() {
+            write_sector(&mut disk, at, &[0xab; 512])?;
+        }
+    }
+    disk.sync()?;
+    Ok(disk.left(alloc, &[])?)
+}
+
+/// Whether a script is answered so, to its end, with the device that is left.
+pub fn answers(
+    alloc: Global,
+    disk: MemDisk,
+    script: &[u8],
+    replies: &[u8],
+) -> Result<(bool, MemDisk), Fail> {
+    let mut sink = MemSink::new(alloc, None)?;
+    let (status, disk) = run_words(alloc, &["run"], disk, script, &mut sink)?;
+    Ok((status == Status::Done && sink.bytes() == replies, disk))
+}
+
+/// Whether a script on a device ends with this status, and what it printed is this.
+pub fn ends(
+    alloc: Global,
+    disk: MemDisk,
+    script: &[u8],
+    status: Status,
+    printed: &[u8],
+) -> Result<bool, Fail> {
+    let mut sink = MemSink::new(alloc, None)?;
+    let (got, _disk) = run_words(alloc, &["run"], disk, script, &mut sink)?;
+    Ok(got == status && sink.bytes() == printed)
+}
