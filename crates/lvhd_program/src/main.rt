@@ -1,4 +1,4 @@
-//! The program: `lvhd PATH format EXTENT BLOCK ENTRIES UUID`, and `lvhd PATH run`.
+//! The program: `lvhd_program PATH format EXTENT BLOCK ENTRIES UUID`, and `lvhd_program PATH run`.
 //!
 //! The file at PATH is the device; the script comes on standard input, and the replies go to standard output. What is
 //! asked for is done by the proved top call; here the file and the streams are opened, and the status is handed to the
