@@ -21,14 +21,16 @@ use sm_session::Session;
 use std::alloc::Global;
 use vg_store::Group;
 
-/// Opens the repository on a device: it is synced, all checks are made, and what a stop has left is repaired.
+/// Opens the repository on a device: it is synced, all checks are made, and what a stop has left is repaired. `now` is in
+/// seconds since 2000-01-01 00:00 UTC.
 ///
 /// # Errors
 /// The answer of the first check that fails, a fault of the device, or want of memory, with the device.
-pub fn open<D: Disk>(alloc: Global, disk: D) -> Result<Session<Group<D>>, (OpenFault, D)>
+pub fn open<D: Disk>(alloc: Global, disk: D, now: u32) -> Result<Session<Group<D>>, (OpenFault, D)>
     ensures size { IfOk result (λ s. D.size s.store.disk ≡ D.size disk) }
     ensures counts { IfOk result (λ s. D.faults disk ≤ D.faults s.store.disk) }
     ensures whole { IfOk result (λ s. s.broken ≡ false) }
+    ensures now { IfOk result (λ s. s.now ≡ now) }
     ensures sound { IfOk result (λ s. D.told → IsSoundOn (D.size disk) (reads (D.held disk))) }
     ensures rest { IfOk result (λ s. D.told → IsAtRest (site_on s.store.label (D.size s.store.disk)) (listing s.store.table) (area_of (D.held s.store.disk)) s.records) }
     ensures shown { IfOk result (λ s. D.told → Shows (D.size disk) (reads (D.held disk)) (disks (content_now (site_on s.store.label (D.size s.store.disk)) (listing s.store.table) (area_of (D.held s.store.disk))))) }
@@ -46,7 +48,7 @@ pub fn open<D: Disk>(alloc: Global, disk: D) -> Result<Session<Group<D>>, (OpenF
         Ok(group) => group,
         Err((fault, disk)) => return Err((fault, disk)),
     };
-    match Session::begin(alloc, group) {
+    match Session::begin(alloc, group, now) {
         Ok(session) => Ok(session),
         Err((fault, group)) => Err((fault, group.into_disk())),
     }

@@ -23,9 +23,10 @@ use sm_session::Session;
 use std::alloc::Global;
 use vg_store::Group;
 
-/// Opens the repository on a device and answers a script, line by line.
+/// Opens the repository on a device and answers a script, line by line. `now` is in seconds since 2000-01-01 00:00 UTC.
 pub fn run_script<D: Disk, S: Source, K: Sink>(
     alloc: Global,
+    now: u32,
     disk: D,
     source: &mut S,
     sink: &mut K,
@@ -48,7 +49,7 @@ pub fn run_script<D: Disk, S: Source, K: Sink>(
       got = K.content sink.new;
     }) result.0 }
 {
-    let mut session = match open(alloc, disk) {
+    let mut session = match open(alloc, disk, now) {
         Ok(session) => session,
         Err((fault, disk)) => return (refuse(&fault, sink), disk),
     };

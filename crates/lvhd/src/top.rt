@@ -19,10 +19,11 @@ use std::alloc::Global;
 
 /// Does what the words ask for, on a device: `format EXTENT BLOCK ENTRIES UUID` makes a repository of it, and `run` opens
 /// the repository on it and answers the script that the source gives, one line of the sink for each line. The device is
-/// handed back at every return.
+/// handed back at every return. `now` is in seconds since 2000-01-01 00:00 UTC.
 pub fn lvhd<D: Disk, S: Source, K: Sink>(
     alloc: Global,
     words: &[&str],
+    now: u32,
     disk: D,
     source: &mut S,
     sink: &mut K,
@@ -70,6 +71,6 @@ pub fn lvhd<D: Disk, S: Source, K: Sink>(
             let status = run_format(alloc, &mut disk, &request, sink);
             (status, disk)
         }
-        Some(Form::Run) => run_script(alloc, disk, source, sink),
+        Some(Form::Run) => run_script(alloc, now, disk, source, sink),
     }
 }

@@ -7,10 +7,11 @@
 
 use lvhd::lvhd;
 use sm_disk::MemDisk;
-use sm_host::{FileDisk, ReadSource, WriteSink};
+use sm_host::{FileDisk, ReadSource, WriteSink, seconds_since_2000};
 use std::fs::File;
 use std::io::{BufReader, BufWriter};
 use std::process::ExitCode;
+use std::time::{SystemTime, UNIX_EPOCH};
 use std::{env, io};
 
 /// The words, the file or its length could not be read.
@@ -35,15 +36,26 @@ fn status(rt: &HostRuntime) -> Result<u8, u8> {
     }
     let reader = BufReader::new(rt.alloc(), rt.reader()).map_err(|_| NO_MEMORY)?;
     let writer = BufWriter::new(rt.alloc(), io::writer(rt)).map_err(|_| NO_MEMORY)?;
+    let now = now(rt);
     let mut source = ReadSource::new(reader);
     let mut sink = WriteSink::new(writer);
     let Some((path, words)) = words.split_first() else {
         let disk = MemDisk::new(rt.alloc(), 0).map_err(|_| NO_MEMORY)?;
-        let (status, _disk) = lvhd(rt.alloc(), &[], disk, &mut source, &mut sink);
+        let (status, _disk) = lvhd(rt.alloc(), &[], now, disk, &mut source, &mut sink);
         return Ok(status.code());
     };
-    let (status, _disk) = lvhd(rt.alloc(), words, device(rt, path)?, &mut source, &mut sink);
+    let disk = device(rt, path)?;
+    let (status, _disk) = lvhd(rt.alloc(), words, now, disk, &mut source, &mut sink);
     Ok(status.code())
+}
+
+/// The seconds since 2000-01-01 00:00 UTC, and 0 where the clock can't be read.
+fn now(rt: &HostRuntime) -> u32 {
+    let unix = SystemTime::now(rt)
+        .ok()
+        .and_then(|time| time.duration_since(UNIX_EPOCH).ok())
+        .map_or(0, |time| time.as_secs());
+    seconds_since_2000(unix)
 }
 
 /// The arguments behind the program's own name.

@@ -16,7 +16,7 @@ fn a_sink_that_is_full(rt: HostRuntime) -> Result<(), Fail> {
     let disk = formatted(rt.alloc(), DEVICE_SECTORS)?;
     let mut source = MemSource::new(rt.alloc(), MAKE, 9, None)?;
     let mut sink = MemSink::new(rt.alloc(), Some(3))?;
-    let (status, disk) = lvhd(rt.alloc(), &["run"], disk, &mut source, &mut sink);
+    let (status, disk) = lvhd(rt.alloc(), &["run"], 0, disk, &mut source, &mut sink);
     assert_eq!(rt; status, Status::Sink);
     assert!(rt; sink.bytes() == b"ok ".as_slice());
     let left = disk.left(rt.alloc(), &[])?;
@@ -30,7 +30,7 @@ fn a_source_that_fails(rt: HostRuntime) -> Result<(), Fail> {
     let disk = formatted(rt.alloc(), DEVICE_SECTORS)?;
     let mut source = MemSource::new(rt.alloc(), b"list\nlist\n", 9, Some(5))?;
     let mut sink = MemSink::new(rt.alloc(), None)?;
-    let (status, _disk) = lvhd(rt.alloc(), &["run"], disk, &mut source, &mut sink);
+    let (status, _disk) = lvhd(rt.alloc(), &["run"], 0, disk, &mut source, &mut sink);
     assert_eq!(rt; status, Status::Source);
     assert!(rt; sink.bytes() == b"ok 0\n".as_slice());
     Ok(())

@@ -17,7 +17,7 @@ pub fn run_words(
     sink: &mut MemSink,
 ) -> Result<(Status, MemDisk), Fail> {
     let mut source = MemSource::new(alloc, script, 3, None)?;
-    Ok(lvhd(alloc, words, disk, &mut source, sink))
+    Ok(lvhd(alloc, words, 0, disk, &mut source, sink))
 }
 
 /// Makes a repository of a device: extents of 32 sectors, blocks of 8, and so 64 entries.

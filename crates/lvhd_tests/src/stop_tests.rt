@@ -1,10 +1,11 @@
 //! A device stops at each call of a run, and what may be left is opened again.
 
 use crate::DEVICE_SECTORS;
-use crate::fixtures::{formatted, run_words, stale};
+use crate::fixtures::{answers, formatted, run_words, stale};
 use lvhd::Status;
-use sm_disk::{MemDisk, MemSink};
+use sm_disk::{Disk, MemDisk, MemSink, read_sector, write_sector};
 use std::alloc::Global;
+use std::ops::Range;
 use std::test::Fail;
 
 const MAKE: &[u8] = b"create 11111111-1111-4111-8111-111111111111 65536 raw x\n";
@@ -105,5 +106,65 @@ fn each_call_stops_over_stale_bytes(rt: HostRuntime) -> Result<(), Fail> {
     let new = stale(rt.alloc())?;
     let calls = calls(rt.alloc(), &new)?;
     assert!(rt; calls.is_some());
+    Ok(())
+}
+
+const MAKE_FIRST: &[u8] = b"create 22222222-2222-4222-8222-222222222222 1 raw y\n";
+
+/// The first disk's one extent, in sectors of the device: behind the group's front and the sixteen extents of records.
+const FIRST_EXTENT: Range<u64> = 4608..4640;
+
+/// The byte that a sector is filled with.
+fn byte_of(at: u64) -> u8 {
+    (at % 251) as u8
+}
+
+/// A device with one raw disk, whose sectors were filled by hand, each with its own number.
+fn filled(alloc: Global) -> Result<MemDisk, Fail> {
+    let new = formatted(alloc, DEVICE_SECTORS)?;
+    let (_made, mut disk) = answers(alloc, new, MAKE_FIRST, b"ok 16384\n")?;
+    for at in FIRST_EXTENT {
+        if at < disk.sectors() {
+            write_sector(&mut disk, at, &[byte_of(at); 512])?;
+        }
+    }
+    disk.sync()?;
+    Ok(disk.left(alloc, &[])?)
+}
+
+/// Whether the filled sectors have their bytes in what a stop leaves by these choices.
+fn keeps_bytes(alloc: Global, disk: &MemDisk, choice: &[u32]) -> Result<bool, Fail> {
+    let mut left = disk.left(alloc, choice)?;
+    for at in FIRST_EXTENT {
+        if at >= left.sectors() || read_sector(&mut left, at)? != [byte_of(at); 512] {
+            return Ok(false);
+        }
+    }
+    Ok(true)
+}
+
+/// Whether the filled sectors have their bytes in each of five crash images of a create that stops at a call.
+fn keeps_at(alloc: Global, filled: &MemDisk, call: u64) -> Result<bool, Fail> {
+    let mut disk = filled.left(alloc, &[])?;
+    disk.stop(call);
+    let mut sink = MemSink::new(alloc, None)?;
+    let (_status, disk) = run_words(alloc, &["run"], disk, MAKE, &mut sink)?;
+    Ok(
+        keeps_bytes(alloc, &disk, &[])?
+            && keeps_bytes(alloc, &disk, &[1])?
+            && keeps_bytes(alloc, &disk, &[0, 1])?
+            && keeps_bytes(alloc, &disk, &[1, 0])?
+            && keeps_bytes(alloc, &disk, &[3])?,
+    )
+}
+
+#[test]
+fn a_filled_disk_keeps_its_bytes_at_each_stop(rt: HostRuntime) -> Result<(), Fail> {
+    let disk = filled(rt.alloc())?;
+    assert!(rt; keeps_bytes(rt.alloc(), &disk, &[])?);
+    for call in 0..20 {
+        let keeps = keeps_at(rt.alloc(), &disk, call)?;
+        assert!(rt; keeps);
+    }
     Ok(())
 }

@@ -1,3 +1,4 @@
+use crate::clocks::seconds_since_2000;
 use crate::files::FileDisk;
 use crate::streams::{ReadSource, WriteSink};
 use sm_disk::{Disk, Sink, Source};
@@ -42,4 +43,14 @@ fn bytes_are_a_source_and_a_sink(rt: HostRuntime) -> Result<(), Fail> {
     let mut sink = WriteSink::new(Vec::new(rt.alloc()));
     assert!(rt; sink.write(b"ok 0\n") == Ok(5));
     Ok(())
+}
+
+#[test]
+fn images_count_their_seconds_from_the_year_2000(rt: HostRuntime) {
+    assert_eq!(rt; seconds_since_2000(0), 0);
+    assert_eq!(rt; seconds_since_2000(946_684_799), 0);
+    assert_eq!(rt; seconds_since_2000(946_684_800), 0);
+    assert_eq!(rt; seconds_since_2000(946_684_801), 1);
+    assert_eq!(rt; seconds_since_2000(946_684_800 + 4_294_967_295), u32::MAX);
+    assert_eq!(rt; seconds_since_2000(u64::MAX), u32::MAX);
 }

@@ -25,11 +25,13 @@ use sm_run::{StepFault, Steps};
 use std::alloc::Global;
 use vg_volumes::Store;
 
-/// A repository that is open: its store, and the records of its disks in memory.
+/// A repository that is open: its store, the records of its disks in memory, whether a step has failed, and the time at
+/// which it was opened, in seconds since 2000-01-01 00:00 UTC: the stamp of the images that it makes.
 pub struct Session<S: Store> {
     store: S,
     records: Mgt,
     broken: bool,
+    now: u32,
     // While no step has failed, the table is as it is between two steps, and commits may be made.
     ghost orderly: { broken ≡ false → IsOrderly (S.site store) (listing (S.kept store)) } by { Prim.hlevel (props, IsOrderly-prop) },
     ghost usable: { broken ≡ false → S.failed store ≡ false },
@@ -41,12 +43,13 @@ impl<S: Store> Session<S> {
     /// # Errors
     /// Why there is no session, with the store: `Damaged` with the first place at which the checks fail; `Device` where
     /// a call of the store failed; `NoMemory`. Unless a call of the store failed, nothing was written.
-    pub fn begin(alloc: Global, store: S) -> Result<Session<S>, (OpenFault, S)>
+    pub fn begin(alloc: Global, store: S, now: u32) -> Result<Session<S>, (OpenFault, S)>
         requires usable { S.failed store ≡ false }
         requires settled { S.told → IsSettled (S.area store) }
         ensures site { IfOk result (λ s. S.site s.store ≡ S.site store) }
         ensures counts { IfOk result (λ s. S.faults store ≤ S.faults s.store) }
         ensures whole { IfOk result (λ s. s.broken ≡ false) }
+        ensures now { IfOk result (λ s. s.now ≡ now) }
         ensures sound { IfOk result (λ s. S.told → first_fault_today (content_now (S.site store) (listing (S.kept store)) (S.area store)) ≡ None) }
         ensures rest { IfOk result (λ s. S.told → IsAtRest (S.site s.store) (listing (S.kept s.store)) (S.area s.store) s.records) }
         ensures disks { IfOk result (λ s. S.told → disks (content_now (S.site s.store) (listing (S.kept s.store)) (S.area s.store))
@@ -68,6 +71,7 @@ impl<S: Store> Session<S> {
                 store,
                 records,
                 broken: false,
+                now,
             }),
             Err(fault) => Err((fault, store)),
         }
@@ -83,6 +87,7 @@ impl<S: Store> Session<S> {
             store,
             records: _,
             broken: _,
+            now: _,
         } = self;
         store
     }
