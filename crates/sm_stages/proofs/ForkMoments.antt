@@ -1,0 +1,115 @@
+-- The tables at the moments of the worked fork and the worked swap, written out.
+use Rattle.std.proofs.Common.{◌≡◌, ℕ, true, false, List, [], ◌∷◌, refl}
+use Rattle.sm_base.specs.Names.{name_cmp, spelling, uuid_text}
+use Rattle.sm_base.specs.declared.names.Name.{Name}
+use Rattle.sm_base.specs.declared.names.Name.TheVariants.{Vhd, Old, Clone, Leaf}
+use Rattle.sm_machine.specs.Lists.{numbers}
+use Rattle.uuid.specs.Text.{by_index}
+use Rattle.vg_meta.specs.Changes.{put, without, with_row}
+use Rattle.vg_meta.specs.Tables.{Row, Listing, row_of, name_eq}
+use Rattle.sm_standing.specs.Examples.{record_row}
+use Rattle.sm_stages.specs.Worked.{first, second, base, image_row, fork_after, swap_after}
+
+abbrev pub entry_row : Name → Row
+entry_row n = record { name = n; hidden = false; fresh = false; extents = [] }
+
+abbrev pub fresh_row : Name → ℕ → Row
+fresh_row n at = record { name = n; hidden = false; fresh = true; extents = numbers at 5 }
+
+abbrev pub listed : ℕ → List Row → Listing
+listed sequence volumes = record { sequence = sequence; volumes = record_row (numbers 0 16) ∷ volumes }
+
+-- ---- the fork
+
+abbrev pub fork_1 : Listing
+fork_1 = listed 5 (image_row false (Vhd first) 16 ∷ entry_row (Clone first base second) ∷ [])
+
+abbrev pub fork_2 : Listing
+fork_2 = listed 6 (image_row false (Vhd base) 16 ∷ entry_row (Clone first base second) ∷ [])
+
+abbrev pub fork_3 : Listing
+fork_3 = listed 7 (image_row true (Vhd base) 16 ∷ entry_row (Clone first base second) ∷ [])
+
+abbrev pub fork_4 : Listing
+fork_4 = listed 8 (fresh_row (Vhd first) 21 ∷ image_row true (Vhd base) 16 ∷ entry_row (Clone first base second) ∷ [])
+
+abbrev pub fork_5 : Listing
+fork_5 = listed 9 (fresh_row (Vhd first) 21 ∷ fresh_row (Vhd second) 26 ∷ image_row true (Vhd base) 16 ∷ entry_row (Clone first base second) ∷ [])
+
+abbrev pub fork_6 : Listing
+fork_6 = listed 10 (image_row false (Vhd first) 21 ∷ fresh_row (Vhd second) 26 ∷ image_row true (Vhd base) 16 ∷ entry_row (Clone first base second) ∷ [])
+
+abbrev pub fork_7 : Listing
+fork_7 = listed 11 (image_row false (Vhd first) 21 ∷ image_row false (Vhd second) 26 ∷ image_row true (Vhd base) 16 ∷ entry_row (Clone first base second) ∷ [])
+
+abbrev pub fork_8 : Listing
+fork_8 = listed 12 (image_row false (Vhd first) 21 ∷ image_row false (Vhd second) 26 ∷ image_row true (Vhd base) 16 ∷ [])
+
+pub is_fork_1 : fork_after 1 ≡ fork_1
+unfolding put without with_row row_of name_eq name_cmp spelling uuid_text by_index
+is_fork_1 = refl
+
+pub is_fork_2 : fork_after 2 ≡ fork_2
+unfolding put without with_row row_of name_eq name_cmp spelling uuid_text by_index
+is_fork_2 = refl
+
+pub is_fork_3 : fork_after 3 ≡ fork_3
+unfolding put without with_row row_of name_eq name_cmp spelling uuid_text by_index
+is_fork_3 = refl
+
+pub is_fork_4 : fork_after 4 ≡ fork_4
+unfolding put without with_row row_of name_eq name_cmp spelling uuid_text by_index
+is_fork_4 = refl
+
+pub is_fork_5 : fork_after 5 ≡ fork_5
+unfolding put without with_row row_of name_eq name_cmp spelling uuid_text by_index
+is_fork_5 = refl
+
+pub is_fork_6 : fork_after 6 ≡ fork_6
+unfolding put without with_row row_of name_eq name_cmp spelling uuid_text by_index
+is_fork_6 = refl
+
+pub is_fork_7 : fork_after 7 ≡ fork_7
+unfolding put without with_row row_of name_eq name_cmp spelling uuid_text by_index
+is_fork_7 = refl
+
+pub is_fork_8 : fork_after 8 ≡ fork_8
+unfolding put without with_row row_of name_eq name_cmp spelling uuid_text by_index
+is_fork_8 = refl
+
+-- ---- the swap
+
+abbrev pub swap_1 : Listing
+swap_1 = listed 5 (image_row false (Old first) 21 ∷ image_row true (Vhd base) 16 ∷ entry_row (Leaf first base) ∷ [])
+
+abbrev pub swap_2 : Listing
+swap_2 = listed 6 (image_row false (Old first) 21 ∷ image_row true (Vhd first) 16 ∷ entry_row (Leaf first base) ∷ [])
+
+abbrev pub swap_3 : Listing
+swap_3 = listed 7 (image_row false (Old first) 21 ∷ image_row false (Vhd first) 16 ∷ entry_row (Leaf first base) ∷ [])
+
+abbrev pub swap_4 : Listing
+swap_4 = listed 8 (image_row false (Vhd first) 16 ∷ entry_row (Leaf first base) ∷ [])
+
+abbrev pub swap_5 : Listing
+swap_5 = listed 9 (image_row false (Vhd first) 16 ∷ [])
+
+pub is_swap_1 : swap_after 1 ≡ swap_1
+unfolding put without with_row row_of name_eq name_cmp spelling uuid_text by_index
+is_swap_1 = refl
+
+pub is_swap_2 : swap_after 2 ≡ swap_2
+unfolding put without with_row row_of name_eq name_cmp spelling uuid_text by_index
+is_swap_2 = refl
+
+pub is_swap_3 : swap_after 3 ≡ swap_3
+unfolding put without with_row row_of name_eq name_cmp spelling uuid_text by_index
+is_swap_3 = refl
+
+pub is_swap_4 : swap_after 4 ≡ swap_4
+unfolding put without with_row row_of name_eq name_cmp spelling uuid_text by_index
+is_swap_4 = refl
+
+pub is_swap_5 : swap_after 5 ≡ swap_5
+unfolding put without with_row row_of name_eq name_cmp spelling uuid_text by_index
+is_swap_5 = refl

@@ -1,0 +1,16 @@
+pub mod ApartLaws
+pub mod ForkLaws
+pub mod SwapLaws
+pub mod PieceLaws
+pub mod WorkedLaws
+pub mod PlacedLaws
+pub mod TableLaws
+pub mod ForkMoments
+pub mod ForkExample
+pub mod SwapExample
+pub mod WorkedDisks
+pub mod WorkedSound
+pub mod OpenedLaws
+pub mod RelinkOpened
+pub mod ImageSectors
+pub mod VolumeExample

@@ -1,0 +1,5 @@
+use Rattle.sm_stages.proofs.RelinkOpened.{relink_opened}
+use Rattle.sm_stages.proofs.openings.example_relink_ended.Goals as goal
+
+pub returns : goal.returns
+returns c = relink_opened

@@ -1,0 +1,65 @@
+-- A fork of a disk, as the disks see it (this project's format): the disk's image becomes a hidden base, and two new
+-- images that hold nothing lie over it, the disk's own and that of its twin. Its commits are: the entry is made; the
+-- image gets the base's name; the base is marked hidden; the disk's new image is made, and the twin's; the disk's is
+-- no longer new, and the twin's; the entry is removed.
+use Rattle.std.specs.Prelude.{◌≡◌, ◌≢◌, ◌⊎◌, ℕ, ◌<◌, true, false, List, [], ◌∷◌, Some, None}
+use Rattle.std.specs.List.{list_any}
+use Rattle.sm_base.specs.declared.names.Name.{Name}
+use Rattle.sm_base.specs.declared.names.Name.TheVariants.{Vhd, Clone}
+use Rattle.vg_meta.specs.Tables.{Listing}
+use Rattle.sm_machine.specs.Shapes.{chain_limit}
+use Rattle.sm_record.specs.declared.records.Record.{Record}
+use Rattle.sm_standing.specs.Changes.{parent_of}
+use Rattle.sm_standing.specs.Checks.{depth}
+use Rattle.sm_standing.specs.Contents.{Content, record_of}
+use Rattle.sm_standing.specs.Entries.{making, folding, folding_uuids, head, image_with, is_among, is_visible}
+use Rattle.sm_standing.specs.Images.{Image, image_of}
+use Rattle.sm_standing.specs.Standing.{stands, stands_plainly}
+use Rattle.sm_stages.specs.Apart.{is_apart, IsSameApart, IsEmptyOver}
+
+-- the UUIDs that a fork speaks of
+abbrev pub forked : List ℕ → List ℕ → List ℕ → List (List ℕ)
+forked disk base twin = disk ∷ base ∷ twin ∷ []
+
+-- before a fork: the disk stands in the image n, and neither the base's UUID nor the twin's is a disk; no entry of a
+-- fork is there, and the other entry speaks of none of the three; no image has a parent of these UUIDs; and the chain
+-- of n has room for one image more
+pub record IsForkable (a : Content) (disk base twin : List ℕ) (n : Name) (i : Image) : Type 0 where
+  pub stood : stands a.table disk ≡ Some n
+  pub image : image_of a n ≡ Some i
+  pub no_base : stands a.table base ≡ None
+  pub no_twin : stands a.table twin ≡ None
+  pub none_making : making a.table ≡ []
+  pub beside : list_any (is_among (forked disk base twin)) (folding_uuids a.table) ≡ false
+  pub childless : (m p : Name) → parent_of a m ≡ Some p → is_apart (forked disk base twin) p ≡ true
+  pub room : depth a chain_limit n < chain_limit
+
+-- where the disk's image lies: before the rename the disk stands by itself in m, and no image has the base's UUID;
+-- afterwards m is the image that has it
+abbrev pub IsForkPlace : Listing → List ℕ → List ℕ → Name → Type 0
+IsForkPlace t disk base m = ((image_with t base ≡ None) × (stands_plainly t disk ≡ Some m)) ⊎ (image_with t base ≡ Some m)
+
+-- at any moment while the entry of a fork is there: the disk's image lies in m, whatever the new images are by then;
+-- each record but the twin's is as it was
+pub record IsForking (a b : Content) (disk base twin : List ℕ) (n m : Name) : Type 0 where
+  pub entry : head (making b.table) ≡ Some (Clone disk base twin)
+  pub folding : folding b.table ≡ folding a.table
+  pub apart : IsSameApart a b (forked disk base twin)
+  pub place : IsForkPlace b.table disk base m
+  pub image : image_of b m ≡ image_of a n
+  pub recorded : (u : List ℕ) → u ≢ twin → record_of b u ≡ record_of a u
+
+-- once the entry is removed: the two new images are visible, and hold nothing over the base m, which is the disk's
+-- image from before; the twin has a record
+pub record IsForked (a b : Content) (disk base twin : List ℕ) (n m : Name) (i j k : Image) (entry : Record) : Type 0 where
+  pub none_making : making b.table ≡ []
+  pub folding : folding b.table ≡ folding a.table
+  pub apart : IsSameApart a b (forked disk base twin)
+  pub disk_visible : is_visible b.table (Vhd disk) ≡ true
+  pub twin_visible : is_visible b.table (Vhd twin) ≡ true
+  pub no_base : stands_plainly b.table base ≡ None
+  pub image : image_of b m ≡ image_of a n
+  pub disk_image : IsEmptyOver b (Vhd disk) m j i
+  pub twin_image : IsEmptyOver b (Vhd twin) m k i
+  pub recorded : (u : List ℕ) → u ≢ twin → record_of b u ≡ record_of a u
+  pub twin_recorded : record_of b twin ≡ Some entry
