@@ -1,0 +1,258 @@
+//! The journal's entries, over both stores by the same calls.
+
+ghost use Rattle.std.specs.Prelude.{◌≡◌, false, IfOk, OnOk};
+
+use crate::changes::prepare;
+use crate::fixtures::{group, holds, opened, plain};
+use sm_base::{Failed, Name};
+use sm_journal::{Entries, drop_entry as drop_one, list, put as put_one, turn as turn_one};
+use std::alloc::Global;
+use std::test::Fail;
+use uuid::Uuid;
+use vg_meta::{Change, Extents};
+use vg_volumes::Store;
+
+fn uuid(byte: u8) -> Uuid {
+    Uuid::from_bytes([byte; 16])
+}
+
+/// The entries of a collector's operation. In order of name they follow one another.
+fn coalesce() -> Name {
+    Name::Coalesce {
+        child: uuid(1),
+        parent: uuid(2),
+    }
+}
+
+fn leaf() -> Name {
+    Name::Leaf {
+        leaf: uuid(1),
+        parent: uuid(2),
+    }
+}
+
+fn relink() -> Name {
+    Name::Relink {
+        child: uuid(1),
+        parent: uuid(2),
+    }
+}
+
+/// The entries of a call. In order of name they follow one another.
+fn fork() -> Name {
+    Name::Clone {
+        disk: uuid(3),
+        base: uuid(4),
+        twin: uuid(5),
+    }
+}
+
+fn inflate() -> Name {
+    Name::Inflate {
+        image: uuid(3),
+        extents: 17,
+    }
+}
+
+/// Makes an entry, where one may be made.
+fn put<S: Store>(alloc: Global, store: &mut S, entry: &Name) -> Result<Result<(), Failed>, Fail>
+    requires { S.failed store.old ≡ false }
+    ensures { IfOk result (λ done. OnOk done (S.failed store.new ≡ false)) }
+{
+    let change = Change::Create {
+        name: *entry,
+        fresh: false,
+        extents: Extents::new(Vec::new(alloc)),
+    };
+    prepare(store, &change)?;
+    Ok(put_one(alloc, store, *entry))
+}
+
+/// Turns an entry into another, where it may be turned.
+fn turn<S: Store>(store: &mut S, from: &Name, to: &Name) -> Result<Result<(), Failed>, Fail>
+    requires { S.failed store.old ≡ false }
+    ensures { IfOk result (λ done. OnOk done (S.failed store.new ≡ false)) }
+{
+    prepare(
+        store,
+        &Change::Rename {
+            from: *from,
+            to: *to,
+        },
+    )?;
+    Ok(turn_one(store, *from, *to))
+}
+
+/// Drops an entry, where it is there.
+fn drop_entry<S: Store>(store: &mut S, entry: &Name) -> Result<Result<(), Failed>, Fail>
+    requires { S.failed store.old ≡ false }
+    ensures { IfOk result (λ done. OnOk done (S.failed store.new ≡ false)) }
+{
+    prepare(store, &Change::Remove { name: *entry })?;
+    Ok(drop_one(store, entry))
+}
+
+/// Whether these entries stand in the table, which has had so many commits since its format.
+fn stand<S: Store>(
+    store: &S,
+    commits: u64,
+    first: Option<Name>,
+    second: Option<Name>,
+    more: bool,
+) -> bool {
+    let table = store.table();
+    let wanted = Entries {
+        first,
+        second,
+        more,
+    };
+    list(table) == wanted && table.seq() == commits.saturating_add(1)
+}
+
+/// One entry of each class stands beside the other.
+fn classes_stand<S: Store>(alloc: Global, store: &mut S) -> Result<(), Fail>
+    requires { S.failed store.old ≡ false }
+    ensures { OnOk result (S.failed store.new ≡ false) }
+{
+    holds(stand(store, 0, None, None, false), "no entry")?;
+    put(alloc, store, &coalesce())??;
+    holds(
+        stand(store, 1, Some(coalesce()), None, false),
+        "an operation",
+    )?;
+    put(alloc, store, &inflate())??;
+    let both = stand(store, 2, Some(coalesce()), Some(inflate()), false);
+    holds(both, "an operation and a call")?;
+    turn(store, &coalesce(), &relink())??;
+    let turned = stand(store, 3, Some(relink()), Some(inflate()), false);
+    holds(turned, "an entry is turned")
+}
+
+/// Of two entries of a class the first in order of name is listed, and that there are more.
+fn twins_are_told<S: Store>(alloc: Global, store: &mut S) -> Result<(), Fail>
+    requires { S.failed store.old ≡ false }
+    ensures { OnOk result (S.failed store.new ≡ false) }
+{
+    put(alloc, store, &leaf())??;
+    holds(
+        stand(store, 4, Some(leaf()), Some(inflate()), true),
+        "two operations",
+    )?;
+    drop_entry(store, &relink())??;
+    holds(
+        stand(store, 5, Some(leaf()), Some(inflate()), false),
+        "one is dropped",
+    )?;
+    put(alloc, store, &fork())??;
+    holds(
+        stand(store, 6, Some(leaf()), Some(fork()), true),
+        "two calls",
+    )?;
+    drop_entry(store, &fork())??;
+    drop_entry(store, &leaf())??;
+    holds(stand(store, 8, None, Some(inflate()), false), "a call")?;
+    drop_entry(store, &inflate())??;
+    holds(stand(store, 9, None, None, false), "no entry is left")
+}
+
+#[test]
+fn entries_stand_in_a_group(rt: HostRuntime) -> Result<(), Fail> {
+    let mut group = group(rt.alloc(), &[])?;
+    let stood = stand_over(rt.alloc(), &mut group);
+    let _disk = group.into_disk();
+    stood
+}
+
+/// Entries are put, turned and dropped.
+fn stand_over<S: Store>(alloc: Global, store: &mut S) -> Result<(), Fail>
+    requires { S.failed store.old ≡ false }
+{
+    classes_stand(alloc, store)?;
+    twins_are_told(alloc, store)?;
+    Ok(())
+}
+
+#[test]
+fn entries_stand_in_a_plain_store(rt: HostRuntime) -> Result<(), Fail> {
+    let mut store = plain(rt.alloc(), &[])?;
+    stand_over(rt.alloc(), &mut store)
+}
+
+#[test]
+fn entries_stand_once_the_group_is_opened_again(rt: HostRuntime) -> Result<(), Fail> {
+    let mut group = group(rt.alloc(), &[])?;
+    let stood = classes_stand(rt.alloc(), &mut group);
+    let disk = group.into_disk();
+    stood?;
+    let again = opened(rt.alloc(), disk.left(rt.alloc(), &[])?)?;
+    let stood = stand(&again, 3, Some(relink()), Some(inflate()), false);
+    let _disk = again.into_disk();
+    assert!(rt; stood);
+    Ok(())
+}
+
+/// A commit of the journal.
+#[derive(Clone, Copy)]
+enum Commit {
+    Put,
+    Turn,
+    Drop,
+}
+
+/// Makes an entry, and then a commit that fails: the table stays.
+fn commit_fails<S: Store>(alloc: Global, store: &mut S, commit: Commit) -> Result<(), Fail>
+    requires { S.failed store.old ≡ false }
+{
+    put(alloc, store, &coalesce())??;
+    let done = match commit {
+        Commit::Put => put(alloc, store, &inflate())?,
+        Commit::Turn => turn(store, &coalesce(), &relink())?,
+        Commit::Drop => drop_entry(store, &coalesce())?,
+    };
+    holds(done == Err(Failed), "a commit that fails")?;
+    holds(
+        stand(store, 1, Some(coalesce()), None, false),
+        "the table stays",
+    )
+}
+
+/// A commit of a group makes four calls of the device, so the second commit's are the calls 4 to 7.
+fn commit_fails_on_a_group(alloc: Global, call: u64, commit: Commit) -> Result<(), Fail> {
+    let mut group = group(alloc, &[call])?;
+    let told = commit_fails(alloc, &mut group, commit);
+    let _disk = group.into_disk();
+    told
+}
+
+/// Each kind of commit fails at this call.
+fn commits_fail_on_a_group(alloc: Global, call: u64) -> Result<(), Fail> {
+    for commit in [Commit::Put, Commit::Turn, Commit::Drop] {
+        commit_fails_on_a_group(alloc, call, commit)?;
+    }
+    Ok(())
+}
+
+#[test]
+fn faults_of_a_groups_commits_are_told(rt: HostRuntime) -> Result<(), Fail> {
+    for call in 4..8 {
+        commits_fail_on_a_group(rt.alloc(), call)?;
+    }
+    Ok(())
+}
+
+/// A commit of a store in memory makes two calls, so the second commit's are the calls 2 and 3.
+fn commits_fail_on_a_plain_store(alloc: Global, call: u64) -> Result<(), Fail> {
+    for commit in [Commit::Put, Commit::Turn, Commit::Drop] {
+        let mut store = plain(alloc, &[call])?;
+        commit_fails(alloc, &mut store, commit)?;
+    }
+    Ok(())
+}
+
+#[test]
+fn faults_of_a_plain_stores_commits_are_told(rt: HostRuntime) -> Result<(), Fail> {
+    for call in 2..4 {
+        commits_fail_on_a_plain_store(rt.alloc(), call)?;
+    }
+    Ok(())
+}

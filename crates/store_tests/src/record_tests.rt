@@ -1,0 +1,327 @@
+//! The records of the disks, over both stores by the same calls.
+
+ghost use Rattle.std.specs.Prelude.{◌≡◌, ◌≤◌, ◌<◌, length, IfOk};
+ghost use Rattle.sm_base.specs.Names.{IsUuid};
+ghost use Rattle.sm_record.specs.Records.{IsRecord};
+
+use crate::fixtures::{group, holds, plain, size};
+use sm_base::{Failed, Label, Name, OpenFault, Place};
+use sm_mgt::{Mgt, Record};
+use std::alloc::Global;
+use std::test::Fail;
+use uuid::Uuid;
+use vg_volumes::Store;
+
+/// Three disks. Their UUIDs differ in the last byte.
+const FIRST: u8 = 1;
+
+const SECOND: u8 = 2;
+
+const THIRD: u8 = 3;
+
+fn uuid(last: u8) -> Uuid {
+    Uuid::from_bytes([0, 0, 0, 0, 0, 0, 0x40, 0, 0x80, 0, 0, 0, 0, 0, 0, last])
+}
+
+/// The sector of the record of the first disk with the label `disk`. Its bytes add up to 1,225.
+fn first_sector() -> [u8; 512] {
+    let mut sector = [0; 512];
+    sector[..8].copy_from_slice(b"LVHDDISK");
+    sector[14] = 0x40;
+    sector[16] = 0x80;
+    sector[23] = FIRST;
+    sector[41] = 4;
+    sector[42..46].copy_from_slice(b"disk");
+    sector[510] = 0x04;
+    sector[511] = 0xc9;
+    sector
+}
+
+/// Sixteen bytes are those of a UUID. The call does nothing.
+fn law_uuid(bytes: &[u8])
+    requires { length bytes.now ≡ 16 }
+    ensures { IsUuid bytes.now }
+{
+    let _count = bytes.len();
+}
+
+/// The record of a disk.
+fn record(last: u8, label: &[u8]) -> Result<Record, Fail>
+    ensures proper { IfOk result IsRecord }
+{
+    let uuid = uuid(last);
+    let label = Label::of(label).ok_or("a label")?;
+    if uuid.is_nil() {
+        return Err(Fail::from("a UUID"));
+    }
+    law_uuid(uuid.as_bytes());
+    let _text = label.text();
+    Ok(Record {
+        uuid,
+        label,
+        origin: None,
+        read_only: false,
+    })
+}
+
+/// Reads the records, where they have their room.
+fn load<S: Store>(alloc: Global, store: &mut S) -> Result<Result<Mgt, OpenFault>, Fail> {
+    if size(store, &Name::Mgt) < 512 {
+        return Err(Fail::from("room for the records"));
+    }
+    Ok(Mgt::load(alloc, store))
+}
+
+/// Writes the record of a disk.
+fn put<S: Store>(
+    store: &mut S,
+    mgt: &mut Mgt,
+    last: u8,
+    label: &[u8],
+) -> Result<Result<(), Failed>, Fail> {
+    let row = record(last, label)?;
+    if size(store, &Name::Mgt) < 512 || !mgt.has_room(&row.uuid) {
+        return Err(Fail::from("room for a record"));
+    }
+    Ok(mgt.put(store, row))
+}
+
+/// Frees a place.
+fn wipe<S: Store>(store: &mut S, mgt: &mut Mgt, place: u32) -> Result<Result<(), Failed>, Fail> {
+    if size(store, &Name::Mgt) < 512 || place >= 512 {
+        return Err(Fail::from("a place"));
+    }
+    Ok(mgt.wipe(store, place))
+}
+
+/// Frees the places of a disk.
+fn clear<S: Store>(store: &mut S, mgt: &mut Mgt, last: u8) -> Result<Result<(), Failed>, Fail> {
+    if size(store, &Name::Mgt) < 512 {
+        return Err(Fail::from("room for the records"));
+    }
+    Ok(mgt.clear(store, &uuid(last)))
+}
+
+/// Writes a sector of the records by hand.
+fn write<S: Store>(store: &mut S, at: u64, sector: &[u8; 512]) -> Result<(), Fail> {
+    if at >= size(store, &Name::Mgt) {
+        return Err(Fail::from("a sector of the records"));
+    }
+    store.write(&Name::Mgt, at, sector)?;
+    Ok(())
+}
+
+/// Reads a sector of the records.
+fn read<S: Store>(store: &mut S, at: u64) -> Result<[u8; 512], Fail> {
+    if at >= size(store, &Name::Mgt) {
+        return Err(Fail::from("a sector of the records"));
+    }
+    let mut sector = [0xff; 512];
+    store.read(&Name::Mgt, at, &mut sector)?;
+    Ok(sector)
+}
+
+/// Whether a place has the record of this disk with this label.
+fn is_at(mgt: &Mgt, place: u32, last: u8, label: &[u8]) -> bool {
+    if place >= 512 {
+        return false;
+    }
+    match mgt.at(place) {
+        Some(record) => {
+            let plain = record.origin.is_none() && !record.read_only;
+            plain && record.uuid == uuid(last) && record.label.text() == label
+        }
+        None => false,
+    }
+}
+
+/// Whether a disk has the record with this label.
+fn is_found(mgt: &Mgt, last: u8, label: &[u8]) -> bool {
+    match mgt.find(&uuid(last)) {
+        Some(record) => record.uuid == uuid(last) && record.label.text() == label,
+        None => false,
+    }
+}
+
+/// How many places have records.
+fn taken(mgt: &Mgt) -> u32 {
+    let mut count = 0_u32;
+    for place in 0..512 {
+        if mgt.at(place).is_some() {
+            count = count.saturating_add(1);
+        }
+    }
+    count
+}
+
+/// A record goes into the least free place, and one of the same disk over it.
+fn are_put<S: Store>(store: &mut S, mgt: &mut Mgt) -> Result<(), Fail> {
+    put(store, mgt, FIRST, b"disk")??;
+    put(store, mgt, SECOND, b"b")??;
+    holds(is_at(mgt, 0, FIRST, b"disk"), "the first place")?;
+    holds(is_at(mgt, 1, SECOND, b"b"), "the second place")?;
+    holds(read(store, 0)? == first_sector(), "the first sector")?;
+    put(store, mgt, FIRST, b"a")??;
+    holds(is_at(mgt, 0, FIRST, b"a"), "over the same disk")?;
+    holds(is_found(mgt, FIRST, b"a"), "the first disk is found")?;
+    holds(
+        taken(mgt) == 2 && mgt.count(&uuid(FIRST)) == 1,
+        "two records",
+    )
+}
+
+/// A place that was freed is the least free one again.
+fn are_freed<S: Store>(store: &mut S, mgt: &mut Mgt) -> Result<(), Fail> {
+    put(store, mgt, THIRD, b"c")??;
+    wipe(store, mgt, 0)??;
+    holds(mgt.find(&uuid(FIRST)).is_none(), "a place is freed")?;
+    holds(read(store, 0)? == [0; 512], "its sector is zeros")?;
+    put(store, mgt, FIRST, b"again")??;
+    holds(is_at(mgt, 0, FIRST, b"again"), "the least free place")?;
+    clear(store, mgt, SECOND)??;
+    holds(mgt.count(&uuid(SECOND)) == 0, "a disk is cleared")?;
+    holds(read(store, 1)? == [0; 512], "its sector is zeros")?;
+    holds(taken(mgt) == 2, "two records")
+}
+
+/// What was written is read.
+fn are_read<S: Store>(alloc: Global, store: &mut S) -> Result<(), Fail> {
+    let again = load(alloc, store)??;
+    holds(is_at(&again, 0, FIRST, b"again"), "the first place is read")?;
+    holds(is_at(&again, 2, THIRD, b"c"), "the third place is read")?;
+    holds(taken(&again) == 2, "no other place is read")
+}
+
+/// Records are put, freed and read.
+fn records_keep<S: Store>(alloc: Global, store: &mut S) -> Result<(), Fail> {
+    let mut mgt = load(alloc, store)??;
+    holds(taken(&mgt) == 0, "no record")?;
+    are_put(store, &mut mgt)?;
+    are_freed(store, &mut mgt)?;
+    are_read(alloc, store)?;
+    store.sync()?;
+    are_read(alloc, store)
+}
+
+#[test]
+fn records_keep_over_a_group(rt: HostRuntime) -> Result<(), Fail> {
+    let mut group = group(rt.alloc(), &[])?;
+    let kept = records_keep(rt.alloc(), &mut group);
+    let _disk = group.into_disk();
+    kept
+}
+
+#[test]
+fn records_keep_over_a_plain_store(rt: HostRuntime) -> Result<(), Fail> {
+    let mut store = plain(rt.alloc(), &[])?;
+    records_keep(rt.alloc(), &mut store)
+}
+
+/// Two records of one disk are found in the least place, and cleared together.
+fn twins_are_cleared<S: Store>(alloc: Global, store: &mut S) -> Result<(), Fail> {
+    write(store, 2, &first_sector())?;
+    write(store, 511, &first_sector())?;
+    let mut mgt = load(alloc, store)??;
+    holds(mgt.count(&uuid(FIRST)) == 2, "two records of one disk")?;
+    holds(is_at(&mgt, 2, FIRST, b"disk"), "the least place")?;
+    holds(is_at(&mgt, 511, FIRST, b"disk"), "the last place")?;
+    clear(store, &mut mgt, FIRST)??;
+    holds(taken(&mgt) == 0, "both are cleared")?;
+    holds(read(store, 2)? == [0; 512], "the least sector is zeros")?;
+    holds(read(store, 511)? == [0; 512], "the last sector is zeros")
+}
+
+#[test]
+fn twins_are_cleared_on_a_group(rt: HostRuntime) -> Result<(), Fail> {
+    let mut group = group(rt.alloc(), &[])?;
+    let cleared = twins_are_cleared(rt.alloc(), &mut group);
+    let _disk = group.into_disk();
+    cleared
+}
+
+#[test]
+fn twins_are_cleared_on_a_plain_store(rt: HostRuntime) -> Result<(), Fail> {
+    let mut store = plain(rt.alloc(), &[])?;
+    twins_are_cleared(rt.alloc(), &mut store)
+}
+
+/// Whether the records are damaged first in this place.
+fn is_damaged_at(loaded: &Result<Mgt, OpenFault>, place: u32) -> bool {
+    match loaded {
+        Err(
+            OpenFault::Damaged {
+                place: Place::Record { index },
+            },
+        ) => *index == place,
+        _ => false,
+    }
+}
+
+/// The first damaged sector is told.
+fn damage_is_told<S: Store>(alloc: Global, store: &mut S) -> Result<(), Fail> {
+    let mut damaged = first_sector();
+    damaged[106] = 1;
+    write(store, 5, &first_sector())?;
+    write(store, 511, &damaged)?;
+    holds(is_damaged_at(&load(alloc, store)?, 511), "the last place")?;
+    write(store, 300, &[1; 512])?;
+    holds(
+        is_damaged_at(&load(alloc, store)?, 300),
+        "a place before it",
+    )?;
+    write(store, 0, &damaged)?;
+    holds(is_damaged_at(&load(alloc, store)?, 0), "the first place")
+}
+
+#[test]
+fn damage_is_told_of_a_group(rt: HostRuntime) -> Result<(), Fail> {
+    let mut group = group(rt.alloc(), &[])?;
+    let told = damage_is_told(rt.alloc(), &mut group);
+    let _disk = group.into_disk();
+    told
+}
+
+#[test]
+fn damage_is_told_of_a_plain_store(rt: HostRuntime) -> Result<(), Fail> {
+    let mut store = plain(rt.alloc(), &[])?;
+    damage_is_told(rt.alloc(), &mut store)
+}
+
+/// The calls of `faults_are_told` that fail.
+const FAULTS: [u64; 5] = [0, 2, 4, 5, 7];
+
+/// Each call fails once, and memory is as it was.
+fn faults_are_told<S: Store>(alloc: Global, store: &mut S) -> Result<(), Fail> {
+    let refused = load(alloc, store)?;
+    holds(matches!(refused, Err(OpenFault::Device)), "a load")?;
+    let mut mgt = load(alloc, store)??;
+    holds(put(store, &mut mgt, FIRST, b"a")? == Err(Failed), "a put")?;
+    holds(taken(&mgt) == 0, "nothing was put")?;
+    put(store, &mut mgt, FIRST, b"a")??;
+    holds(
+        put(store, &mut mgt, FIRST, b"b")? == Err(Failed),
+        "a put over one",
+    )?;
+    holds(is_at(&mgt, 0, FIRST, b"a"), "the record is the old one")?;
+    holds(wipe(store, &mut mgt, 0)? == Err(Failed), "a wipe")?;
+    holds(is_at(&mgt, 0, FIRST, b"a"), "the place is not free")?;
+    put(store, &mut mgt, SECOND, b"b")??;
+    holds(clear(store, &mut mgt, SECOND)? == Err(Failed), "a clear")?;
+    holds(is_at(&mgt, 1, SECOND, b"b"), "the disk is not cleared")?;
+    clear(store, &mut mgt, SECOND)??;
+    holds(taken(&mgt) == 1, "one record")
+}
+
+#[test]
+fn faults_are_told_of_a_group(rt: HostRuntime) -> Result<(), Fail> {
+    let mut group = group(rt.alloc(), &FAULTS)?;
+    let told = faults_are_told(rt.alloc(), &mut group);
+    let _disk = group.into_disk();
+    told
+}
+
+#[test]
+fn faults_are_told_of_a_plain_store(rt: HostRuntime) -> Result<(), Fail> {
+    let mut store = plain(rt.alloc(), &FAULTS)?;
+    faults_are_told(rt.alloc(), &mut store)
+}

@@ -1,0 +1,13 @@
+pub mod CallLaws
+pub mod ContentLaws
+pub mod OpeningLaws
+pub mod TableLaws
+pub mod MakingLaws
+pub mod KeptLaws
+pub mod FooterSteps
+pub mod FooterReads
+pub mod ChangeLaws
+pub mod EndLaws
+pub mod SectorsIn
+pub mod LinkLaws
+pub mod RelinkLaws

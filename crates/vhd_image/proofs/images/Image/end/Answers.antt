@@ -1,0 +1,47 @@
+use Rattle.std.proofs.Common.{◌≡◌, ◌+◌, ◌-◌, ◌*◌, ◌≤◌, ℕ, Ok, sym, ap, subst, ◌∙◌, arith}
+use Rattle.sm_base.specs.declared.sizes.Geometry.{Geometry}
+use Rattle.sm_disk.specs.Held.{reads}
+use Rattle.vhd_fields.specs.Footers.{footer_bytes, footer_read}
+use Rattle.vhd_map.specs.Slots.{top_of}
+use Rattle.vhd_volumes.specs.Steps.{held_in}
+use Rattle.vhd_volumes.specs.Truth.{HasRoomFor}
+use Rattle.vhd_image.specs.declared.images.Body.{Body}
+use Rattle.vhd_image.specs.declared.images.Body.TheVariants.{Vhd}
+use Rattle.vhd_image.specs.Bodies.{top_slot}
+use Rattle.vhd_image.specs.Opened.{ReadsAs}
+use Rattle.vhd_image.proofs.ContentLaws.{geometry-ok}
+use Rattle.vhd_image.proofs.EndLaws.{end-stays, end-reads}
+use Rattle.vhd_image.proofs.FooterReads.{proper-at}
+use Rattle.vhd_image.proofs.images.Image.end.Goals as goal
+
+pub returns-in_err-put_footer-in-Vhd-clause-stays : goal.returns-in_err-put_footer-in-Vhd-clause-stays
+returns-in_err-put_footer-in-Vhd-clause-stays g c = λ told.
+    let body : c.args.self.now ≡ Vhd c.in-Vhd.head c.in-Vhd.map = sym c.self.view_is ∙ c.in-Vhd.is in
+    let geometry = (g.S.Store.site c.args.store.now).geometry in
+    let e = c.geometry-extent.ensures in
+    let same : c.args.extents * c.geometry-extent.result.extent ≡ c.args.extents * geometry.extent = ap (λ (x : Geometry). c.args.extents * x.extent) e in
+    let room : HasRoomFor geometry (top_of c.in-Vhd.map) (c.args.extents * geometry.extent) = subst (λ (x : Body). HasRoomFor geometry (top_slot x) (c.args.extents * geometry.extent)) body c.requires.room in
+    rw body (λ part true_old. end-stays geometry part c.in-Vhd.head c.in-Vhd.map (c.args.extents * c.geometry-extent.result.extent - 1) (geometry-ok e c.geometry-extent.result.in_range) (omega (arith, room, same)) _ _ true_old
+    (footer_bytes c.in-Vhd.head.footer) (c.put_footer.ensures.reads_back (proper-at part _ c.in-Vhd.head.footer true_old.now.head.footer_reads)) (c.put_footer.ensures.may_put told))
+
+pub returns-clause-stays : goal.returns-clause-stays
+returns-clause-stays g c = λ told.
+    let body : c.args.self.now ≡ Vhd c.in-Vhd.head c.in-Vhd.map = sym c.self.view_is ∙ c.in-Vhd.is in
+    let geometry = (g.S.Store.site c.args.store.now).geometry in
+    let e = c.geometry-extent.ensures in
+    let same : c.args.extents * c.geometry-extent.result.extent ≡ c.args.extents * geometry.extent = ap (λ (x : Geometry). c.args.extents * x.extent) e in
+    let room : HasRoomFor geometry (top_of c.in-Vhd.map) (c.args.extents * geometry.extent) = subst (λ (x : Body). HasRoomFor geometry (top_slot x) (c.args.extents * geometry.extent)) body c.requires.room in
+    rw body (λ part true_old. end-stays geometry part c.in-Vhd.head c.in-Vhd.map (c.args.extents * c.geometry-extent.result.extent - 1) (geometry-ok e c.geometry-extent.result.in_range) (omega (arith, room, same)) _ _ true_old
+    (footer_bytes c.in-Vhd.head.footer) (c.put_footer.ensures.reads_back (proper-at part _ c.in-Vhd.head.footer true_old.now.head.footer_reads)) (c.put_footer.ensures.may_put told))
+
+pub returns-clause-ends : goal.returns-clause-ends
+returns-clause-ends g c = λ told.
+    let body : c.args.self.now ≡ Vhd c.in-Vhd.head c.in-Vhd.map = sym c.self.view_is ∙ c.in-Vhd.is in
+    let geometry = (g.S.Store.site c.args.store.now).geometry in
+    let e = c.geometry-extent.ensures in
+    let same : c.args.extents * c.geometry-extent.result.extent ≡ c.args.extents * geometry.extent = ap (λ (x : Geometry). c.args.extents * x.extent) e in
+    let room : HasRoomFor geometry (top_of c.in-Vhd.map) (c.args.extents * geometry.extent) = subst (λ (x : Body). HasRoomFor geometry (top_slot x) (c.args.extents * geometry.extent)) body c.requires.room in
+    let last : c.args.extents * c.geometry-extent.result.extent - 1 + 1 ≡ c.args.extents * geometry.extent = omega (arith, room, same) in
+    rw body (λ part true_old. subst (λ (k : ℕ). ReadsAs geometry k (held_in g.S.Store.site g.S.Store.kept g.S.Store.area c.put_footer.new.store c.in-Vhd.head.volume) c.in-Vhd.head c.in-Vhd.map) last
+    (end-reads geometry part c.in-Vhd.head c.in-Vhd.map (c.args.extents * c.geometry-extent.result.extent - 1) (geometry-ok e c.geometry-extent.result.in_range) (omega (arith, room, same)) _ _ true_old
+    (footer_bytes c.in-Vhd.head.footer) (c.put_footer.ensures.reads_back (proper-at part _ c.in-Vhd.head.footer true_old.now.head.footer_reads)) (c.put_footer.ensures.may_put told) (c.in_ok-put_footer-in-Vhd.ensures.put told)))

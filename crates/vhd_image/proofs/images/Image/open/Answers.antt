@@ -1,0 +1,60 @@
+use Rattle.std.proofs.Common.{◌≡◌, ◌*◌, ℕ, inl, inr, List, Option, Some, sym, ap, subst, ◌∙◌, rules, arith}
+use Rattle.sm_base.specs.declared.names.Name.{Name}
+use Rattle.sm_base.specs.declared.sizes.Geometry.{Geometry}
+use Rattle.sm_disk.specs.Held.{reads}
+use Rattle.vhd_map.specs.Slots.{slot_of}
+use Rattle.vhd_layout.specs.Layouts.{Sectors, entries_in_sectors}
+use Rattle.vhd_layout.specs.Images.{IsValid, IsImage}
+use Rattle.vhd_volumes.specs.Steps.{held_in}
+use Rattle.vhd_volumes.specs.Truth.{layout_in, IsStanding}
+use Rattle.vhd_image.specs.Opened.{HasImageOf, IsTableTo}
+use Rattle.vhd_image.proofs.CallLaws.{only-reads_all}
+use Rattle.vhd_image.proofs.OpeningLaws.{no-image, opened, stands-from}
+use Rattle.vhd_image.proofs.images.Image.open.Goals as goal
+
+pub returns-in_default-map_found-clause-cause : goal.returns-in_default-map_found-clause-cause
+returns-in_default-map_found-clause-cause g c =
+    let geometry = c.geometry-geometry.result in
+    let n = c.args.extents * geometry.extent in
+    let v = reads (held_in g.S.Store.site g.S.Store.kept g.S.Store.area c.args.store.now c.args.volume.now) in
+    let head = c.in-Some.head in
+    let name : head.volume ≡ c.args.volume.now = rw c.in-Some.is at c.in-Ok.ensures.volume in
+    inr (inr (
+      c.damaged-in_default-map_found.ensures,
+      λ told.
+          let same = only-reads_all name c.in-Ok.ensures.reads_only told in
+          let is = rw c.in-Some.is at (c.in-Ok.ensures.head told) in
+          let none = rw c.in_default-map_found.is at (c.in-Ok-map_in.ensures.table told) in
+          let here : ¬ HasImageOf (layout_in geometry head.footer n) v head = subst (λ (x : Sectors). ¬ HasImageOf (layout_in geometry head.footer n) x head) same none in
+          subst (λ (x : Geometry). ¬ IsValid x.block x.entries (c.args.extents * x.extent) v) c.geometry-geometry.ensures (no-image geometry n v head geometry.in_range.block_least is here),
+    ))
+
+pub returns-clause-stands : goal.returns-clause-stands
+returns-clause-stands g c =
+    let geometry = c.geometry-geometry.result in
+    let n = c.args.extents * geometry.extent in
+    let head = c.in-Some.head in
+    let m = c.in-Some-map_found.map in
+    let footer = rw c.in-Some.is at c.in-Ok.ensures.footer in
+    let header = rw c.in-Some.is at c.in-Ok.ensures.header in
+    let room = rw c.in-Some.is at c.in-Ok.ensures.room in
+    let long = rw c.in-Some-map_found.is at c.in-Ok-map_in.ensures.entries in
+    let fits = rw c.in-Some-map_found.is at c.in-Ok-map_in.ensures.fits in
+    subst (λ (x : Geometry). IsStanding x (c.args.extents * x.extent) head m) c.geometry-geometry.ensures (stands-from geometry n head m long footer header room fits)
+
+pub returns-clause-image : goal.returns-clause-image
+returns-clause-image g c = λ told.
+    let geometry = c.geometry-geometry.result in
+    let n = c.args.extents * geometry.extent in
+    let v = reads (held_in g.S.Store.site g.S.Store.kept g.S.Store.area c.args.store.now c.args.volume.now) in
+    let head = c.in-Some.head in
+    let m = c.in-Some-map_found.map in
+    let l = layout_in geometry head.footer n in
+    let name : head.volume ≡ c.args.volume.now = rw c.in-Some.is at c.in-Ok.ensures.volume in
+    let same = only-reads_all name c.in-Ok.ensures.reads_only told in
+    let is = rw c.in-Some.is at (c.in-Ok.ensures.head told) in
+    let table = rw c.in-Some-map_found.is at (c.in-Ok-map_in.ensures.table told) in
+    let here : IsTableTo (entries_in_sectors l) l v m = subst (λ (x : Sectors). IsTableTo (entries_in_sectors l) l x m) same table in
+    let fits = rw c.in-Some-map_found.is at c.in-Ok-map_in.ensures.fits in
+    let good = rw c.in-Some-map_found.is at c.in-Ok-map_in.ensures.map in
+    subst (λ (x : Geometry). IsImage (layout_in x head.footer (c.args.extents * x.extent)) v head.footer head.header (slot_of m)) c.geometry-geometry.ensures (opened l v head m is here fits good)

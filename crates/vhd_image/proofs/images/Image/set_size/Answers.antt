@@ -1,0 +1,52 @@
+use Rattle.std.proofs.Common.{◌≡◌, ◌≤◌, ℕ, sym, ap, subst, ◌∙◌, arith}
+use Rattle.sm_disk.specs.Held.{reads}
+use Rattle.vhd_fields.specs.Footers.{footer_bytes}
+use Rattle.vhd_map.specs.Slots.{slot_of}
+use Rattle.vhd_volumes.specs.Steps.{held_in, sectors_of}
+use Rattle.vhd_volumes.specs.Truth.{IsTrueIn, disk_sectors}
+use Rattle.vhd_image.specs.declared.images.Body.{Body}
+use Rattle.vhd_image.specs.declared.images.Body.TheVariants.{Vhd}
+use Rattle.vhd_image.specs.Bodies.{TrueIn, sector_count, volume_name}
+use Rattle.vhd_image.specs.Changes.{with_size}
+use Rattle.vhd_image.proofs.ContentLaws.{geometry-ok}
+use Rattle.vhd_image.proofs.ChangeLaws.{resize-changes, resize-true, resized-proper}
+use Rattle.vhd_image.proofs.images.Image.set_size.Goals as goal
+
+pub returns-in_err-put_footers-in-Vhd-clause-changes : goal.returns-in_err-put_footers-in-Vhd-clause-changes
+returns-in_err-put_footers-in-Vhd-clause-changes g c = λ told.
+    let body : c.args.self.now ≡ Vhd c.in-Vhd.head c.in-Vhd.map = sym c.self.view_is ∙ c.in-Vhd.is in
+    let geometry = (g.S.Store.site c.args.store.now).geometry in
+    let head = c.in-Vhd.head in
+    let n = sectors_of g.S.Store.site g.S.Store.kept c.args.store.now head.volume in
+    let a = held_in g.S.Store.site g.S.Store.kept g.S.Store.area c.args.store.now head.volume in
+    let ok = geometry-ok c.geometry-geometry.ensures c.geometry-geometry.result.in_range in
+    let true_old : IsTrueIn geometry n a head c.in-Vhd.map = subst (λ (x : Body). TrueIn geometry (sectors_of g.S.Store.site g.S.Store.kept c.args.store.now (volume_name x)) (held_in g.S.Store.site g.S.Store.kept g.S.Store.area c.args.store.now (volume_name x)) x) body (c.requires.true_now told) in
+    let grows : disk_sectors head.footer ≤ c.args.sectors = subst (λ (x : Body). sector_count x ≤ c.args.sectors) body c.requires.grows in
+    let proper = resized-proper geometry n head c.in-Vhd.map c.args.sectors a ok c.requires.size true_old in
+    rw body (resize-changes geometry n head c.in-Vhd.map c.args.sectors ok c.requires.size grows a _ true_old (footer_bytes (with_size head c.args.sectors).footer) (c.put_footers.ensures.reads_back proper) (c.put_footers.ensures.ends told))
+
+pub returns-clause-changes : goal.returns-clause-changes
+returns-clause-changes g c = λ told.
+    let body : c.args.self.now ≡ Vhd c.in-Vhd.head c.in-Vhd.map = sym c.self.view_is ∙ c.in-Vhd.is in
+    let geometry = (g.S.Store.site c.args.store.now).geometry in
+    let head = c.in-Vhd.head in
+    let n = sectors_of g.S.Store.site g.S.Store.kept c.args.store.now head.volume in
+    let a = held_in g.S.Store.site g.S.Store.kept g.S.Store.area c.args.store.now head.volume in
+    let ok = geometry-ok c.geometry-geometry.ensures c.geometry-geometry.result.in_range in
+    let true_old : IsTrueIn geometry n a head c.in-Vhd.map = subst (λ (x : Body). TrueIn geometry (sectors_of g.S.Store.site g.S.Store.kept c.args.store.now (volume_name x)) (held_in g.S.Store.site g.S.Store.kept g.S.Store.area c.args.store.now (volume_name x)) x) body (c.requires.true_now told) in
+    let grows : disk_sectors head.footer ≤ c.args.sectors = subst (λ (x : Body). sector_count x ≤ c.args.sectors) body c.requires.grows in
+    let proper = resized-proper geometry n head c.in-Vhd.map c.args.sectors a ok c.requires.size true_old in
+    rw body (resize-changes geometry n head c.in-Vhd.map c.args.sectors ok c.requires.size grows a _ true_old (footer_bytes (with_size head c.args.sectors).footer) (c.put_footers.ensures.reads_back proper) (c.put_footers.ensures.ends told))
+
+pub returns-clause-true_after : goal.returns-clause-true_after
+returns-clause-true_after g c = λ told.
+    let body : c.args.self.now ≡ Vhd c.in-Vhd.head c.in-Vhd.map = sym c.self.view_is ∙ c.in-Vhd.is in
+    let geometry = (g.S.Store.site c.args.store.now).geometry in
+    let head = c.in-Vhd.head in
+    let n = sectors_of g.S.Store.site g.S.Store.kept c.args.store.now head.volume in
+    let a = held_in g.S.Store.site g.S.Store.kept g.S.Store.area c.args.store.now head.volume in
+    let ok = geometry-ok c.geometry-geometry.ensures c.geometry-geometry.result.in_range in
+    let true_old : IsTrueIn geometry n a head c.in-Vhd.map = subst (λ (x : Body). TrueIn geometry (sectors_of g.S.Store.site g.S.Store.kept c.args.store.now (volume_name x)) (held_in g.S.Store.site g.S.Store.kept g.S.Store.area c.args.store.now (volume_name x)) x) body (c.requires.true_now told) in
+    let grows : disk_sectors head.footer ≤ c.args.sectors = subst (λ (x : Body). sector_count x ≤ c.args.sectors) body c.requires.grows in
+    let proper = resized-proper geometry n head c.in-Vhd.map c.args.sectors a ok c.requires.size true_old in
+    rw body (resize-true geometry n head c.in-Vhd.map c.args.sectors ok c.requires.size grows a _ true_old (footer_bytes (with_size head c.args.sectors).footer) (c.put_footers.ensures.reads_back proper) (c.put_footers.ensures.ends told) (c.in_ok-put_footers-in-Vhd.ensures.last told) (c.put_footers.ensures.others told))

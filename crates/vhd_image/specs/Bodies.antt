@@ -1,0 +1,67 @@
+-- An image as contracts see it: a raw one, which is all sectors of its volume, or a VHD image with its head and its map.
+use Rattle.std.specs.Prelude.{◌≡◌, ℕ, ◌≤◌, nat_lt, if◌then◌else◌, List, Option, None, Some}
+use Rattle.sm_base.specs.declared.names.Name.{Name}
+use Rattle.sm_base.specs.declared.sizes.Geometry.{Geometry}
+use Rattle.sm_disk.specs.Held.{Held}
+use Rattle.vhd_map.specs.Slots.{top_of}
+use Rattle.vhd_layout.specs.Layouts.{Sectors}
+use Rattle.vhd_volumes.specs.declared.heads.Head.{Head}
+use Rattle.vhd_volumes.specs.Truth.{IsStanding, IsTrueIn, disk_sectors, layout_in}
+use Rattle.vhd_volumes.specs.Writes.{own_in}
+use Rattle.vhd_image.specs.declared.images.Body.{Body}
+use Rattle.vhd_image.specs.declared.images.Body.TheVariants.{Raw, Vhd}
+
+-- the name of its volume
+abbrev pub volume_name : Body → Name
+volume_name (Raw volume sectors) = volume
+volume_name (Vhd head m) = head.volume
+
+-- its size in sectors
+abbrev pub sector_count : Body → ℕ
+sector_count (Raw volume sectors) = sectors
+sector_count (Vhd head m) = disk_sectors head.footer
+
+-- the volume of its parent, or none
+abbrev pub parent_name : Body → Option Name
+parent_name (Raw volume sectors) = None
+parent_name (Vhd head m) = head.header.parent
+
+-- its map, or none where it is raw
+abbrev pub map_of : Body → Option (List (Option ℕ))
+map_of (Raw volume sectors) = None
+map_of (Vhd head m) = Some m
+
+-- one more than its highest slot, else 0
+abbrev pub top_slot : Body → ℕ
+top_slot (Raw volume sectors) = 0
+top_slot (Vhd head m) = top_of m
+
+-- the same image in a volume of another name
+abbrev pub in_volume : Name → Body → Body
+in_volume to (Raw volume sectors) = Raw to sectors
+in_volume to (Vhd head m) = Vhd (record head { volume = to }) m
+
+-- a VHD image
+abbrev pub IsVhd : Body → Type 0
+IsVhd (Raw volume sectors) = ⊥
+IsVhd (Vhd head m) = Unit {0}
+
+-- a fact of head and map, where it is a VHD image
+abbrev pub IfVhd : Body → (Head → List (Option ℕ) → Type 0) → Type 0
+IfVhd (Raw volume sectors) P = Unit {0}
+IfVhd (Vhd head m) P = P head m
+
+-- the image stands in so many sectors: a raw one has room in them
+abbrev pub StandsIn : Geometry → ℕ → Body → Type 0
+StandsIn g sectors (Raw volume size) = size ≤ sectors
+StandsIn g sectors (Vhd head m) = IsStanding g sectors head m
+
+-- the image is true of what is held: of a raw one nothing is kept beside the name and the size
+abbrev pub TrueIn : Geometry → ℕ → Held → Body → Type 0
+TrueIn g sectors h (Raw volume size) = Unit {0}
+TrueIn g sectors h (Vhd head m) = IsTrueIn g sectors h head m
+
+-- the sector of the disk in so many sectors of a volume, where the image holds it
+abbrev pub own_of : Geometry → ℕ → Body → Sectors → ℕ → Option (List ℕ)
+own_of g sectors (Raw volume size) v s = if nat_lt s size then Some (v s) else None
+own_of g sectors (Vhd head m) v s = own_in (layout_in g head.footer sectors) v s

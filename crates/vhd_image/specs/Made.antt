@@ -1,0 +1,83 @@
+-- The head of a new image, and the link of an image to its parent (Virtual Hard Disk Image Format Specification 1.0, with
+-- this project's profile).
+use Rattle.std.specs.Prelude.{◌≡◌, ℕ, ◌*◌, ◌/◌, ◌≤◌, ◌<◌, List, codes, replicate, Option, None, Some}
+use Rattle.sm_base.specs.declared.names.Name.{Name}
+use Rattle.sm_base.specs.declared.sizes.Geometry.{Geometry}
+use Rattle.vhd_fields.specs.ParentNames.{IsParent}
+use Rattle.vhd_fields.specs.declared.footers.Footer.{Footer}
+use Rattle.vhd_fields.specs.declared.headers.Header.{Header}
+use Rattle.vhd_map.specs.Places.{blank, word}
+use Rattle.vhd_layout.specs.Layouts.{Sectors}
+use Rattle.vhd_image.specs.declared.images.Body.{Body}
+use Rattle.vhd_image.specs.declared.images.Body.TheVariants.{Raw, Vhd}
+use Rattle.vhd_image.specs.Bodies.{volume_name, sector_count}
+
+-- the size of a disk in sectors: a whole number of blocks, from 1 to the number of entries
+pub record IsDiskSize (g : Geometry) (sectors : ℕ) : Type 0 where
+  pub whole : sectors ≡ sectors / g.block * g.block
+  pub least : 1 ≤ sectors / g.block
+  pub most : sectors / g.block ≤ g.entries
+
+-- sixteen zeros
+abbrev pub no_uid : List ℕ
+no_uid = replicate 16 0
+
+-- the unique id and the time stamp that a child's header gives of its parent: zeros of a raw one
+abbrev pub uid_of : Body → List ℕ
+uid_of (Raw volume sectors) = no_uid
+uid_of (Vhd head m) = head.footer.uid
+
+abbrev pub stamp_of : Body → ℕ
+stamp_of (Raw volume sectors) = 0
+stamp_of (Vhd head m) = head.footer.stamp
+
+-- the header once it names this parent
+abbrev pub linked : Header → Body → Header
+linked header parent = record header { parent_uid = uid_of parent; parent_stamp = stamp_of parent; parent = Some (volume_name parent) }
+
+-- the header of an image without a parent
+abbrev pub alone : Geometry → Header
+alone g = record {
+  table_offset = 1536;
+  entries = g.entries;
+  block = 512 * g.block;
+  parent_uid = no_uid;
+  parent_stamp = 0;
+  parent = None;
+}
+
+-- the header of a new image
+abbrev pub new_header : Geometry → Option Body → Header
+new_header g None = alone g
+new_header g (Some parent) = linked (alone g) parent
+
+-- the disk type: dynamic, or differencing where it has a parent
+abbrev pub kind_of : Option Body → ℕ
+kind_of None = 3
+kind_of (Some parent) = 4
+
+-- the footer of a new image of so many sectors
+abbrev pub new_footer : ℕ → ℕ → List ℕ → Option Body → Footer
+new_footer now sectors uid parent = record {
+  stamp = now;
+  creator = codes "lvhd";
+  creator_version = 65536;
+  host = 0;
+  original = 512 * sectors;
+  current = 512 * sectors;
+  kind = kind_of parent;
+  data_offset = 512;
+  uid = uid;
+}
+
+-- an image may have this parent: a VHD image or a raw one
+abbrev pub IsParentImage : Body → Type 0
+IsParentImage parent = IsParent (Some (volume_name parent))
+
+-- an image of so many sectors may have this parent: its name is proper, and it is no larger
+abbrev pub MayHave : ℕ → Body → Type 0
+MayHave sectors parent = IsParentImage parent × (sector_count parent ≤ sectors)
+
+-- the sectors of the table up to this one have blank entries alone
+abbrev pub IsBlankTo : ℕ → Sectors → Type 0
+IsBlankTo end v = (p : ℕ) → 3 ≤ p → p < end → (j : ℕ) → j < 128 → word (v p) j ≡ blank

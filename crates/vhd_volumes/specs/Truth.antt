@@ -1,0 +1,56 @@
+-- An image in a volume of a store: when it stands there, and when it is true of what the store holds, whatever a stop
+-- may leave. `h` is what the volume holds; the image lies in its first so many sectors.
+use Rattle.std.specs.Prelude.{◌≡◌, ℕ, ◌+◌, ◌*◌, ◌/◌, ◌<◌, ◌≤◌, ◌⊎◌, List, length, Option}
+use Rattle.sm_base.specs.Numbers.{first}
+use Rattle.sm_base.specs.declared.sizes.Geometry.{Geometry}
+use Rattle.sm_disk.specs.Held.{Held, Allows, reads}
+use Rattle.vhd_fields.specs.declared.footers.Footer.{Footer}
+use Rattle.vhd_map.specs.Places.{blank}
+use Rattle.vhd_map.specs.Slots.{slot_of, top_of}
+use Rattle.vhd_layout.specs.Layouts.{Sectors, Layout, layout_of, entry, code, entries_in_sectors}
+use Rattle.vhd_layout.specs.Images.{IsImage, IsValid}
+use Rattle.vhd_volumes.specs.declared.heads.Head.{Head}
+
+-- the sectors of the disk, and its blocks
+abbrev pub disk_sectors : Footer → ℕ
+disk_sectors footer = footer.current / 512
+
+abbrev pub disk_blocks : Geometry → Footer → ℕ
+disk_blocks g footer = disk_sectors footer / g.block
+
+-- where the parts of the image stand that lies in the first so many sectors of its volume
+abbrev pub layout_in : Geometry → Footer → ℕ → Layout
+layout_in g footer sectors = layout_of g.block g.entries (disk_blocks g footer) sectors
+
+-- so many slots and the footer have room in so many sectors
+abbrev pub HasRoomFor : Geometry → ℕ → ℕ → Type 0
+HasRoomFor g slots sectors = first g.entries + slots * (1 + g.block) + 1 ≤ sectors
+
+-- The image stands in so many sectors: its map has the repository's number of entries, its header the repository's
+-- block, its size is a whole number of blocks from 1 to the number of entries, and its slots have room.
+pub record IsStanding (g : Geometry) (sectors : ℕ) (head : Head) (m : List (Option ℕ)) : Type 0 where
+  pub entries : length m ≡ g.entries
+  pub block : head.header.block ≡ 512 * g.block
+  pub size : head.footer.current ≡ 512 * (disk_blocks g head.footer * g.block)
+  pub least : 1 ≤ disk_blocks g head.footer
+  pub most : disk_blocks g head.footer ≤ g.entries
+  pub room : HasRoomFor g (top_of m) sectors
+
+-- whatever a stop may leave holds a valid image
+abbrev pub IsAlwaysValid : Layout → Held → Type 0
+IsAlwaysValid l h = (v : Sectors) → Allows l.sectors h v → IsValid l.block l.entries l.sectors v
+
+-- whatever a stop may leave names a slot for a block only where the map has it
+abbrev pub IsWithinMap : Layout → Held → (ℕ → Option ℕ) → Type 0
+IsWithinMap l h m = (v : Sectors) → Allows l.sectors h v → (b : ℕ) → b < entries_in_sectors l → (entry v b ≡ blank) ⊎ (entry v b ≡ code l (m b))
+
+-- The image with this footer, header and map is true of what is held: a read gives it, whatever a stop may leave is
+-- valid, and names no slot that the map has not.
+pub record IsTrueOf (l : Layout) (h : Held) (head : Head) (m : ℕ → Option ℕ) : Type 0 where
+  pub now : IsImage l (reads h) head.footer head.header m
+  pub valid : IsAlwaysValid l h
+  pub within : IsWithinMap l h m
+
+-- the same of a volume of so many sectors, by the repository's sizes
+abbrev pub IsTrueIn : Geometry → ℕ → Held → Head → List (Option ℕ) → Type 0
+IsTrueIn g sectors h head m = IsTrueOf (layout_in g head.footer sectors) h head (slot_of m)

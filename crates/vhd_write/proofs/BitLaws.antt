@@ -1,0 +1,161 @@
+-- The passes behind the sync: bitmaps and the table.
+use Rattle.std.proofs.Common.{◌≡◌, ◌≢◌, ℕ, ◌+◌, ◌-◌, ◌*◌, ◌<◌, ◌≤◌, ◌⊎◌, Bool, true, false, List, length, Option, Some, sym, ap, ◌∙◌, subst, inl, inr, ⊎_elim, arith}
+use Rattle.std.specs.Bool.{OnTrue}
+use Rattle.std.proofs.lemmas.Bool.{cases_lt, cases_eq}
+use Rattle.std.proofs.lemmas.Option.{same_Some}
+use Rattle.sm_base.specs.Numbers.{first as first_of, div_up}
+use Rattle.sm_disk.specs.Held.{Held, IsWhole, Puts, Torn, Wrote, SameHeld, Keeps, IsSettled, Reaches, reads}
+use Rattle.sm_disk.specs.Sectors.{sector}
+use Rattle.sm_disk.proofs.HeldLaws.{reads-wrote, in_one}
+use Rattle.sm_disk.proofs.ReachesLaws.{Reaches-then, Reaches-wider, Reaches-same, Reaches-torn, may_reached}
+use Rattle.sm_disk.proofs.SectorLaws.{sector-one}
+use Rattle.vhd_map.specs.Bitmaps.{is_set}
+use Rattle.vhd_map.specs.Slots.{slot_of, IsMap}
+use Rattle.vhd_layout.specs.Layouts.{Sectors, Layout, Slots, place, slot_count}
+use Rattle.vhd_layout.proofs.ImageLaws.{place-first, place-same, place-within}
+use Rattle.vhd_write.specs.Passes.{HasMoreBits, HasBits, PutsBitsOf, PutsBitsAll, AreSet, IsTableSector, PutsTable, PutsRest, Goes}
+use Rattle.vhd_write.specs.Spans.{IsPart}
+
+pub on_true : {P Q : Type 0} (b : Bool) → (P → Q) → OnTrue b P → OnTrue b Q
+on_true true f p = f p
+on_true false f p = tt
+
+pub place-low : (l : Layout) (k p size : ℕ) → k < slot_count l → p ≡ place l k 0 → size ≡ l.sectors → p < size
+place-low l k p size below is same = let low = place-within l k 0 below (omega arith) in omega (arith, low, is, same)
+
+pub sector-whole : (p len size : ℕ) → p < size → len ≡ 512 → IsWhole p len size
+sector-whole p len size low long = record { some = omega arith; whole = omega (arith, long); within = omega arith }
+
+-- a written value of one sector is that sector
+one-value : (p q : ℕ) (v w : List ℕ) → length v ≡ 512 → Puts p v q w → (q ≡ p) × (w ≡ v)
+one-value p q v w long h =
+    let same = in_one p (length v) q long h.0 in
+    let nth : q - p ≡ 0 = omega (arith, same) in
+    (same, h.1 ∙ (ap (sector v) nth ∙ sector-one v long))
+
+one-read : (p : ℕ) (v : List ℕ) {a c : Held} → length v ≡ 512 → Wrote p v a c → reads c p ≡ v
+one-read p v long w =
+    let nth : p - p ≡ 0 = omega arith in
+    reads-wrote w p (omega arith, omega (arith, long)) ∙ (ap (sector v) nth ∙ sector-one v long)
+
+-- ---- one bitmap
+
+module _ (l : Layout) (b at len first count skip : ℕ) (part : IsPart l.block b at len first count skip) where
+  pub bits-all : (bitmap : List ℕ) → ((i : ℕ) → first ≤ i → i < first + count → is_set bitmap i ≡ true) → HasBits l at len b bitmap
+  bits-all bitmap set = λ i within here. let h = part.all i within here in set i h.0 h.1
+
+  pub bits-more : (old new : List ℕ) → ((i : ℕ) → first ≤ i → i < first + count → is_set new i ≡ true) → ((i : ℕ) → (i < first) ⊎ (first + count ≤ i) → is_set new i ≡ is_set old i) → HasMoreBits l at len b old new
+  bits-more old new set others = λ i within. ⊎_elim
+      (λ low. inl (others i (inl low)))
+      (λ from_first. ⊎_elim
+      (λ high. inr (set i from_first high, (omega (arith, part.skipped), omega (arith, part.skipped, part.inside))))
+      (λ past. inl (others i (inr past)))
+      (cases_lt i (first + count)))
+      (cases_lt i first)
+
+pub bitmap-reaches : (l : Layout) (at len b k p : ℕ) (slot : Option ℕ) (old new : List ℕ) {a y z : Held} → slot ≡ Some k → p ≡ place l k 0 → length new ≡ 512 → old ≡ reads a p → HasMoreBits l at len b old new
+    → SameHeld a y → Torn p new y z → Reaches (PutsBitsOf l at len slot b (reads a)) a z
+bitmap-reaches l at len b k p slot old new {a} {y} {z} has is long gave more same t =
+    Reaches-then (Reaches-same (PutsBitsOf l at len slot b (reads a)) same) (Reaches-wider go (Reaches-torn t))
+  where
+    go : (q : ℕ) (v : List ℕ) → Puts p new q v → PutsBitsOf l at len slot b (reads a) q v
+    go q v h =
+        let one = one-value p q new v long h in
+        let was : old ≡ reads a q = gave ∙ ap (reads a) (sym one.0) in
+        let M : List ℕ → List ℕ → Type 0 = λ x w. HasMoreBits l at len b x w in
+        (k, has, record { here = one.0 ∙ is; more = subst (λ x. M x v) was (subst (M old) (sym one.1) more) })
+
+pub bitmap-done : (l : Layout) (at len b k p : ℕ) (slot : Option ℕ) (r : Sectors) (bitmap : List ℕ) → slot ≡ Some k → p ≡ place l k 0 → r p ≡ bitmap → HasBits l at len b bitmap → AreSet l at len slot b r
+bitmap-done l at len b k p slot r bitmap has is read set = λ j had i within here.
+    let same = same_Some k j (sym has ∙ had) in
+    ap (λ x. is_set (r (place l x 0)) i) (sym same) ∙ (ap (λ x. is_set (r x) i) (sym is) ∙ (ap (λ x. is_set x i) read ∙ set i within here))
+
+pub bitmap-wrote : (p : ℕ) (v : List ℕ) {a c : Held} → length v ≡ 512 → Wrote p v a c → reads c p ≡ v
+bitmap-wrote p v long w = one-read p v long w
+
+-- ---- all bitmaps
+
+module _ (l : Layout) (at len : ℕ) (n : List (Option ℕ)) (good : IsMap n) where
+  more-then : (b : ℕ) (x y z : List ℕ) → HasMoreBits l at len b x y → HasMoreBits l at len b y z → HasMoreBits l at len b x z
+  more-then b x y z f g = λ i within. ⊎_elim (λ same. ⊎_elim (λ old. inl (same ∙ old)) (λ h. inr (same ∙ h.0, h.1)) (f i within)) (λ h. inr h) (g i within)
+
+  pub bits-reaches : (c : ℕ) {a y z : Held} → Reaches (PutsBitsAll l at len (slot_of n) (reads a)) a y → Reaches (PutsBitsOf l at len (slot_of n c) c (reads y)) y z → Reaches (PutsBitsAll l at len (slot_of n) (reads a)) a z
+  bits-reaches c {a} {y} {z} r s = Reaches-then r (Reaches-wider go s)
+    where
+      M : ℕ → List ℕ → List ℕ → Type 0
+      M b x w = HasMoreBits l at len b x w
+
+      more : (p k : ℕ) (v : List ℕ) → slot_of n c ≡ Some k → p ≡ place l k 0 → HasMoreBits l at len c (reads y p) v → (reads y p ≡ reads a p) ⊎ PutsBitsAll l at len (slot_of n) (reads a) p (reads y p) → HasMoreBits l at len c (reads a p) v
+      more p k v has here h (inl same) = let P : List ℕ → Type 0 = λ x. HasMoreBits l at len c x v in subst P same h
+      more p k v has here h (inr (b, j, had, g)) =
+          let one = place-same l j k 0 0 (omega arith) (omega arith) (sym g.here ∙ here) in
+          let same : b ≡ c = good.once b c j had (has ∙ ap Some (sym one.0)) in
+          let P : ℕ → Type 0 = λ x. HasMoreBits l at len x (reads a p) (reads y p) in
+          more-then c (reads a p) (reads y p) v (subst P same g.more) h
+
+      go : (p : ℕ) (v : List ℕ) → PutsBitsOf l at len (slot_of n c) c (reads y) p v → PutsBitsAll l at len (slot_of n) (reads a) p v
+      go p v (k, has, h) = (c, k, has, record { here = h.here; more = more p k v has h.here h.more (r.gives p) })
+
+  pub bits-done : (first c : ℕ) {y z : Held} → Reaches (PutsBitsOf l at len (slot_of n c) c (reads y)) y z
+      → ((b : ℕ) → first ≤ b → b < c → AreSet l at len (slot_of n b) b (reads y)) → AreSet l at len (slot_of n c) c (reads z)
+      → (b : ℕ) → first ≤ b → b < c + 1 → AreSet l at len (slot_of n b) b (reads z)
+  bits-done first c {y} {z} s before here = λ b low high. ⊎_elim
+      (λ same. subst (λ x. AreSet l at len (slot_of n x) x (reads z)) (sym same) here)
+      (λ apart k has i within there.
+      ap (λ x. is_set x i) (kept b k apart has) ∙ before b low (omega arith) k has i within there)
+      (cases_eq b c)
+    where
+      kept : (b k : ℕ) → b ≢ c → slot_of n b ≡ Some k → reads z (place l k 0) ≡ reads y (place l k 0)
+      kept b k apart has = ⊎_elim (λ e. e)
+          (λ h. absurd (let one = place-same l k h.0 0 0 (omega arith) (omega arith) h.2.here in apart (good.once b c k has (h.1 ∙ ap Some (sym one.0)))))
+          (s.gives (place l k 0))
+
+-- ---- the table
+
+pub table-low : (l : Layout) (index : ℕ) → l.first ≡ first_of l.entries → 128 * index < l.entries → 3 + index < l.first
+unfolding first_of div_up
+table-low l index begins within = omega (arith, begins)
+
+pub table-reaches : (l : Layout) (m : Slots) (index p : ℕ) (v : List ℕ) {y z : Held} → 128 * index < l.entries → p ≡ 3 + index → length v ≡ 512 → IsTableSector l m index v → Torn p v y z → Reaches (PutsTable l m) y z
+table-reaches l m index p v {y} {z} within is long right t = Reaches-wider go (Reaches-torn t)
+  where
+    go : (q : ℕ) (w : List ℕ) → Puts p v q w → PutsTable l m q w
+    go q w h =
+        let one = one-value p q v w long h in
+        let P : List ℕ → Type 0 = λ x. IsTableSector l m index x in
+        record { index = index; within = within; here = one.0 ∙ is; sector = subst P (sym one.1) right }
+
+pub table-done : (l : Layout) (m : Slots) (index p : ℕ) (v : List ℕ) {y z : Held} → p ≡ 3 + index → length v ≡ 512 → IsTableSector l m index v → Wrote p v y z → IsTableSector l m index (reads z (3 + index))
+table-done l m index p v {y} {z} is long right w =
+    let read : reads z (3 + index) ≡ v = ap (reads z) (sym is) ∙ one-read p v long w in
+    let P : List ℕ → Type 0 = λ x. IsTableSector l m index x in
+    subst P (sym read) right
+
+-- ---- behind the sync
+
+module _ (l : Layout) (at len : ℕ) (m : Slots) where
+  rest-bits : {a b : Held} → Keeps a b → (p : ℕ) (v : List ℕ) → PutsBitsAll l at len m (reads b) p v → PutsRest l at len m (reads a) p v
+  rest-bits {a} {b} k p v (c, j, has, h) =
+      let P : List ℕ → Type 0 = λ x. HasMoreBits l at len c x v in
+      inl (c, j, has, record { here = h.here; more = subst P (k.reads p) h.more })
+
+  pub goes-bits : {a b c : Held} → Keeps a b → IsSettled b → Reaches (PutsBitsAll l at len m (reads b)) b c → Goes (PutsRest l at len m) a c
+  goes-bits {a} {b} {c} k settled r = record {
+    may = λ p v is. ⊎_elim (λ e. inl (e ∙ k.reads p)) (λ h. inr (rest-bits k p v h)) (may_reached settled r p v is);
+    gives = λ p. ⊎_elim (λ e. inl (e ∙ k.reads p)) (λ h. inr (rest-bits k p (reads c p) h)) (r.gives p);
+  }
+
+  pub goes-table : {a c d : Held} → Goes (PutsRest l at len m) a c → Reaches (PutsTable l m) c d → Goes (PutsRest l at len m) a d
+  goes-table {a} {c} {d} g r = record {
+    may = λ p v is. ⊎_elim (λ was. g.may p v was) (λ h. inr (inr h)) (r.may p v is);
+    gives = λ p. ⊎_elim (λ e. ⊎_elim (λ was. inl (e ∙ was)) (λ h. inr (moved p e h)) (g.gives p)) (λ h. inr (inr h)) (r.gives p);
+  }
+    where
+      moved : (p : ℕ) → reads d p ≡ reads c p → PutsRest l at len m (reads a) p (reads c p) → PutsRest l at len m (reads a) p (reads d p)
+      moved p e h = let P : List ℕ → Type 0 = λ x. PutsRest l at len m (reads a) p x in subst P (sym e) h
+
+  -- the table's pass leaves the bitmaps
+  pub bits-kept : (b : ℕ) (slot : Option ℕ) {c d : Held} → l.first ≡ first_of l.entries → Reaches (PutsTable l m) c d → AreSet l at len slot b (reads c) → AreSet l at len slot b (reads d)
+  bits-kept b slot {c} {d} begins r was = λ k has i within here.
+      let same : reads d (place l k 0) ≡ reads c (place l k 0) = ⊎_elim (λ e. e) (λ h. absurd (omega (arith, h.here, place-first l k 0, table-low l h.index begins h.within))) (r.gives (place l k 0)) in
+      ap (λ x. is_set x i) same ∙ was k has i within here

@@ -1,0 +1,12 @@
+pub mod BitLaws
+pub mod BufferLaws
+pub mod CallLaws
+pub mod ExitLaws
+pub mod FirstLaws
+pub mod ImageKept
+pub mod LoopLaws
+pub mod PartLaws
+pub mod MapLaws
+pub mod RestLaws
+pub mod TopLaws
+pub mod WorkLaws

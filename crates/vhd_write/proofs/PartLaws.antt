@@ -1,0 +1,169 @@
+-- One block's part of the first pass.
+use Rattle.std.proofs.Common.{◌≡◌, ℕ, ◌+◌, ◌-◌, ◌*◌, ◌<◌, ◌≤◌, ◌⊎◌, true, false, List, length, take, drop, set, Option, Some, None, sym, ap, ap₂, ◌∙◌, subst, subst₂, inl, inr, ⊎_elim, arith}
+use Rattle.std.proofs.lemmas.Bool.{cases_lt, true≢false}
+use Rattle.std.proofs.lemmas.Option.{none-some, same_Some}
+use Rattle.std.proofs.lemmas.List.{length-take, length-drop}
+use Rattle.sm_base.specs.Numbers.{first as first_of}
+use Rattle.sm_base.specs.declared.sizes.Geometry.{Geometry}
+use Rattle.sm_disk.specs.Held.{Held, IsIn, IsWhole, Puts, Torn, Wrote, Reaches, reads}
+use Rattle.sm_disk.specs.Sectors.{sector}
+use Rattle.sm_disk.proofs.HeldLaws.{reads-wrote}
+use Rattle.sm_disk.proofs.ReachesLaws.{Reaches-torn, Reaches-wider}
+use Rattle.sm_disk.proofs.SectorLaws.{sector-part, sector-take}
+use Rattle.vhd_map.specs.Bitmaps.{is_set}
+use Rattle.vhd_map.specs.Places.{spot}
+use Rattle.vhd_map.specs.Slots.{slot_of, top_of, least_free_slot}
+use Rattle.vhd_map.proofs.SlotLemmas.{top_of-past, slot_of-set_same}
+use Rattle.vhd_layout.specs.Layouts.{Sectors, Layout, place, slot_count}
+use Rattle.vhd_layout.proofs.ImageLaws.{place-part, place-within, slots-fit}
+use Rattle.vhd_volumes.specs.Writes.{with_block}
+use Rattle.vhd_write.specs.Passes.{PutsHeld, PutsSlot, HasData, IsNewSlot, IsFilled, IsPut}
+use Rattle.vhd_write.specs.Spans.{IsPart}
+use Rattle.vhd_write.proofs.MapLaws.{with_block-new, with_block-held}
+
+-- a place by equal sizes and slot
+pub place_is : (p : ℕ) (g g' : Geometry) (s k j : ℕ) → p ≡ spot (first_of g.entries) g.block s j → g ≡ g' → s ≡ k → p ≡ spot (first_of g'.entries) g'.block k j
+place_is p g g' s k j is e1 e2 = is ∙ ap₂ (λ (x : Geometry) (y : ℕ). spot (first_of x.entries) x.block y j) e1 e2
+
+-- a slot that the map has after all has room
+pub slot-in : (l : Layout) (n : List (Option ℕ)) (b k : ℕ) → slot_of n b ≡ Some k → l.first + top_of n * (1 + l.block) + 1 ≤ l.sectors → k < slot_count l
+slot-in l n b k has room = let fits = slots-fit l (top_of n) room in let low = top_of-past n b k has in omega (arith, fits, low)
+
+-- the slot that a block is given has room
+pub new-slot-in : (l : Layout) (m : List (Option ℕ)) (b : ℕ) → slot_of m b ≡ None → b < length m → l.first + top_of (with_block b m) * (1 + l.block) + 1 ≤ l.sectors → least_free_slot m < slot_count l
+new-slot-in l m b none within room =
+    slot-in l (with_block b m) b (least_free_slot m) (ap (λ n. slot_of n b) (with_block-new b m none) ∙ slot_of-set_same m b (least_free_slot m) within) room
+
+-- the slot that it has, too
+pub held-slot-in : (l : Layout) (m : List (Option ℕ)) (b k : ℕ) → slot_of m b ≡ Some k → l.first + top_of (with_block b m) * (1 + l.block) + 1 ≤ l.sectors → k < slot_count l
+held-slot-in l m b k has room =
+    slot-in l (with_block b m) b k (ap (λ n. slot_of n b) (with_block-held b m k has) ∙ has) room
+
+-- a part by equal sizes
+pub part_as : {size size' b at len len' first count skip : ℕ} → IsPart size b at len first count skip → size ≡ size' → len ≡ len' → IsPart size' b at len' first count skip
+part_as {size} {size'} {b} {at} {len} {len'} {first} {count} {skip} p e1 e2 = subst₂ (λ x y. IsPart x b at y first count skip) e1 e2 p
+
+-- so many sectors of a slot are whole sectors of the volume
+pub part-whole : (l : Layout) (k j count p len size : ℕ) → k < slot_count l → j + count ≤ 1 + l.block → 0 < count → len ≡ 512 * count → p ≡ place l k j → size ≡ l.sectors → IsWhole p len size
+part-whole l k j count p len size below fits some long is same =
+    let last = place-within l k (j + (count - 1)) below (omega arith) in
+    let a = place-part l k (j + (count - 1)) in
+    let b = place-part l k j in
+    record { some = omega arith; whole = omega arith; within = omega (arith, last, a, b, is, same, long) }
+
+-- ---- a whole slot
+
+pub slot-reaches : (l : Layout) (k p : ℕ) (bytes : List ℕ) {a c : Held} → p ≡ place l k 0 → length bytes ≤ 512 * (1 + l.block) → Torn p bytes a c → Reaches (λ q v. PutsSlot l k q) a c
+slot-reaches l k p bytes is long t = Reaches-wider (λ q v h. go q v h) (Reaches-torn t)
+  where
+    go : (q : ℕ) (v : List ℕ) → Puts p bytes q v → PutsSlot l k q
+    go q v h = record { j = q - place l k 0; within = omega (arith, h.0.0, h.0.1, is, long); here = omega (arith, h.0.0, is, place-part l k (q - place l k 0)) }
+
+slot-read : (l : Layout) (k p size : ℕ) (buffer : List ℕ) {a c : Held} → p ≡ place l k 0 → size ≡ 512 * (1 + l.block) → size ≤ length buffer → Wrote p (take size buffer) a c → (j : ℕ) → j < 1 + l.block → reads c (place l k j) ≡ sector buffer j
+slot-read l k p size buffer {a} {c} is whole long w j within =
+    let part = place-part l k j in
+    let len = length-take size buffer in
+    let here : IsIn p (length (take size buffer)) (place l k j) = (omega (arith, is, part), omega (arith, is, part, len)) in
+    let nth : place l k j - p ≡ j = omega (arith, is, part) in
+    reads-wrote w (place l k j) here ∙ (ap (sector (take size buffer)) nth ∙ sector-take buffer size j (omega arith))
+
+pub slot-filled : (l : Layout) (k p size first count : ℕ) (buffer bytes : List ℕ) {a c : Held} → p ≡ place l k 0 → size ≡ 512 * (1 + l.block) → size ≤ length buffer → first + count ≤ l.block
+    → ((i : ℕ) → first ≤ i → i < first + count → is_set (sector buffer 0) i ≡ true)
+    → ((i : ℕ) → (i < first) ⊎ (first + count ≤ i) → is_set (sector buffer 0) i ≡ false)
+    → ((j : ℕ) → j < count → sector buffer (1 + first + j) ≡ sector bytes j)
+    → Wrote p (take size buffer) a c → IsFilled l k first count bytes (reads c)
+slot-filled l k p size first count buffer bytes is whole long fits set others data_is w = record {
+  set = λ i low high. ap (λ x. is_set x i) (slot-read l k p size buffer is whole long w 0 (omega arith)) ∙ set i low high;
+  others = λ i within away. ap (λ x. is_set x i) (slot-read l k p size buffer is whole long w 0 (omega arith)) ∙ others i away;
+  bytes_are = λ j below. slot-read l k p size buffer is whole long w (1 + (first + j)) (omega arith) ∙ (ap (sector buffer) (let e : 1 + (first + j) ≡ 1 + first + j = omega arith in e) ∙ data_is j below);
+}
+
+-- ---- the bytes of one block
+
+module _ (l : Layout) (at : ℕ) (from : List ℕ) (b first count skip : ℕ) (part : IsPart l.block b at (length from) first count skip) where
+  abbrev pub part_bytes : List ℕ
+  part_bytes = take (512 * (skip + count) - 512 * skip) (drop (512 * skip) from)
+
+  pub part-long : length part_bytes ≡ 512 * count
+  part-long = omega (arith, part.inside, length-take (512 * (skip + count) - 512 * skip) (drop (512 * skip) from), length-drop (512 * skip) from)
+
+  -- the part's sector j is one of the written ones
+  pub part-in : (j : ℕ) → j < count → IsIn at (length from) (b * l.block + (first + j))
+  part-in j below = (omega (arith, part.skipped), omega (arith, part.skipped, part.inside))
+
+  part-sector : (j : ℕ) → j < count → sector part_bytes j ≡ sector from (b * l.block + (first + j) - at)
+  part-sector j below =
+      let nth : skip + j ≡ b * l.block + (first + j) - at = omega (arith, part.skipped) in
+      sector-part from skip (512 * (skip + count) - 512 * skip) j (omega arith) ∙ ap (sector from) nth
+
+  -- a sector that is written is the part's
+  written : (i : ℕ) (v : List ℕ) → i < l.block → Puts at from (b * l.block + i) v → (first ≤ i) × (i < first + count) × (v ≡ sector part_bytes (i - first))
+  written i v within puts =
+      let h = part.all i within puts.0 in
+      let nth : first + (i - first) ≡ i = omega (arith, h.0) in
+      (h.0, h.1, puts.1 ∙ (ap (λ x. sector from (b * l.block + x - at)) (sym nth) ∙ sym (part-sector (i - first) (omega (arith, h.0, h.1)))))
+
+  -- into a slot
+
+  pub held-puts : (k p : ℕ) {a c : Held} → p ≡ place l k (1 + first) → Torn p part_bytes a c → Reaches (PutsHeld l at from b k) a c
+  held-puts k p {a} {c} is t = Reaches-wider (λ q v h. go q v h) (Reaches-torn t)
+    where
+      go : (q : ℕ) (v : List ℕ) → Puts p part_bytes q v → PutsHeld l at from b k q v
+      go q v h =
+          let base = place-part l k (1 + first) in
+          let nth : q - p < count = omega (arith, h.0.0, h.0.1, part-long) in
+          let s = part-sector (q - p) nth in
+          record {
+            i = first + (q - p);
+            within = omega (arith, part.fits, nth);
+            here = omega (arith, h.0.0, is, base, place-part l k (1 + (first + (q - p))));
+            puts = (part-in (q - p) nth, h.1 ∙ s);
+          }
+
+  pub held-data : (k p : ℕ) {a c : Held} → p ≡ place l k (1 + first) → Wrote p part_bytes a c → HasData l at from b k (reads c)
+  held-data k p {a} {c} is w = λ i v within puts.
+      let h = written i v within puts in
+      let base = place-part l k (1 + first) in
+      let there = place-part l k (1 + i) in
+      let here : IsIn p (length part_bytes) (place l k (1 + i)) = (omega (arith, is, base, there, h.0), omega (arith, is, base, there, h.0, h.1, part-long)) in
+      let nth : place l k (1 + i) - p ≡ i - first = omega (arith, is, base, there, h.0) in
+      reads-wrote w (place l k (1 + i)) here ∙ (ap (sector part_bytes) nth ∙ sym h.2)
+
+  pub held-put : (k : ℕ) (m : List (Option ℕ)) {r : Sectors} → slot_of m b ≡ Some k → HasData l at from b k r → IsPut l at from (slot_of m b) (slot_of m b) b r
+  held-put k m {r} has is = record {
+    data_is = λ j had. subst (λ x. HasData l at from b x r) (same_Some k j (sym has ∙ had)) is;
+    fresh = λ j none had. absurd (none-some k (sym none ∙ has));
+  }
+
+  -- with a whole slot
+
+  pub new-put : (m n : List (Option ℕ)) {r : Sectors} → n ≡ set m b (Some (least_free_slot m)) → b < length m → IsFilled l (least_free_slot m) first count part_bytes r → IsPut l at from (slot_of m b) (slot_of n b) b r
+  new-put m n {r} is within filled = record {
+    data_is = λ j had. subst (λ x. HasData l at from b x r) (slot_is j had) bytes_there;
+    fresh = λ j none had. subst (λ x. IsNewSlot l at (length from) b x r) (slot_is j had) new_there;
+  }
+    where
+      k : ℕ
+      k = least_free_slot m
+
+      slot_is : (j : ℕ) → slot_of n b ≡ Some j → least_free_slot m ≡ j
+      slot_is j had = same_Some (least_free_slot m) j (sym (ap (λ x. slot_of x b) is ∙ slot_of-set_same m b (least_free_slot m) within) ∙ had)
+
+      bytes_there : HasData l at from b (least_free_slot m) r
+      bytes_there i v small puts =
+          let h = written i v small puts in
+          let nth : first + (i - first) ≡ i = omega (arith, h.0) in
+          ap (λ x. r (place l (least_free_slot m) (1 + x))) (sym nth) ∙ (filled.bytes_are (i - first) (omega (arith, h.0, h.1)) ∙ sym h.2)
+
+      new_there : IsNewSlot l at (length from) b (least_free_slot m) r
+      new_there = record {
+        only = λ i small is_on. ⊎_elim
+            (λ low. absurd (true≢false (sym is_on ∙ filled.others i small (inl low))))
+            (λ from_first. ⊎_elim
+            (λ high. let nth : first + (i - first) ≡ i = omega arith in subst (λ x. IsIn at (length from) (b * l.block + x)) nth (part-in (i - first) (omega arith)))
+            (λ past. absurd (true≢false (sym is_on ∙ filled.others i small (inr past))))
+            (cases_lt i (first + count)))
+            (cases_lt i first);
+        each = λ i small here. let h = part.all i small here in filled.set i h.0 h.1;
+        some = (first, omega (arith, part.fits, part.some), subst (λ x. IsIn at (length from) (b * l.block + x)) (let e : first + 0 ≡ first = omega arith in e) (part-in 0 part.some));
+      }

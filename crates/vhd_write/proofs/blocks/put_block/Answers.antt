@@ -1,0 +1,62 @@
+use Rattle.std.proofs.Common.{◌≡◌, ◌+◌, None, refl, sym, ◌∙◌, inl, inr, rules, arith}
+use Rattle.sm_disk.proofs.ReachesLaws.{Reaches-wider}
+use Rattle.vhd_map.specs.Slots.{slot_of}
+use Rattle.vhd_write.specs.Passes.{layout_now}
+use Rattle.vhd_write.proofs.MapLaws.{with_block-held, with_block-new}
+use Rattle.vhd_write.proofs.PartLaws.{place_is, part_as, held-slot-in, part-whole, part-long, held-puts, held-data, held-put, new-put}
+use Rattle.vhd_write.proofs.blocks.put_block.Goals as goal
+
+pub put-requires : goal.put-requires
+put-requires g c =
+    let l = layout_now g.S.Store.site g.S.Store.kept c.args.store.now c.args.head.now in
+    let p = c.part_of-part.result in
+    let part = part_as c.part_of-part.ensures c.requires.sizes (sym c.requires.bytes) in
+    let is = place_is c.place_of-at.result _ (g.S.Store.site c.args.store.now).geometry c.in-Some.slot c.in-Some.slot (1 + p.first) c.place_of-at.ensures c.geometry-geometry.ensures refl in
+    part-whole l c.in-Some.slot (1 + p.first) p.count c.place_of-at.result _ _ (held-slot-in l c.args.map.now c.args.block c.in-Some.slot (sym c.in-Some.ensures.slot) c.requires.room) (omega (arith, part.fits)) part.some
+    (part-long l c.args.span.now.sector c.args.from.now c.args.block p.first p.count p.skip part) is refl
+
+pub returns-in_err-put-clause-reaches : goal.returns-in_err-put-clause-reaches
+returns-in_err-put-clause-reaches g c = λ told.
+    let l = layout_now g.S.Store.site g.S.Store.kept c.args.store.now c.args.head.now in
+    let p = c.part_of-part.result in
+    let part = part_as c.part_of-part.ensures c.requires.sizes (sym c.requires.bytes) in
+    let is = place_is c.place_of-at.result _ (g.S.Store.site c.args.store.now).geometry c.in-Some.slot c.in-Some.slot (1 + p.first) c.place_of-at.ensures c.geometry-geometry.ensures refl in
+    Reaches-wider (λ q v h. inl (c.in-Some.slot, sym c.in-Some.ensures.slot, h)) (held-puts l c.args.span.now.sector c.args.from.now c.args.block p.first p.count p.skip part c.in-Some.slot c.place_of-at.result is (c.put.ensures.torn told))
+
+pub returns-in-Some-clause-put : goal.returns-in-Some-clause-put
+returns-in-Some-clause-put g c = sym (with_block-held c.args.block c.args.map.now c.in-Some.slot (sym c.in-Some.ensures.slot))
+
+pub returns-in-Some-clause-reaches : goal.returns-in-Some-clause-reaches
+returns-in-Some-clause-reaches g c = λ told.
+    let l = layout_now g.S.Store.site g.S.Store.kept c.args.store.now c.args.head.now in
+    let p = c.part_of-part.result in
+    let part = part_as c.part_of-part.ensures c.requires.sizes (sym c.requires.bytes) in
+    let is = place_is c.place_of-at.result _ (g.S.Store.site c.args.store.now).geometry c.in-Some.slot c.in-Some.slot (1 + p.first) c.place_of-at.ensures c.geometry-geometry.ensures refl in
+    Reaches-wider (λ q v h. inl (c.in-Some.slot, sym c.in-Some.ensures.slot, h)) (held-puts l c.args.span.now.sector c.args.from.now c.args.block p.first p.count p.skip part c.in-Some.slot c.place_of-at.result is (c.put.ensures.torn told))
+
+pub returns-in-Some-clause-done : goal.returns-in-Some-clause-done
+returns-in-Some-clause-done g c = λ told.
+    let l = layout_now g.S.Store.site g.S.Store.kept c.args.store.now c.args.head.now in
+    let p = c.part_of-part.result in
+    let part = part_as c.part_of-part.ensures c.requires.sizes (sym c.requires.bytes) in
+    let is = place_is c.place_of-at.result _ (g.S.Store.site c.args.store.now).geometry c.in-Some.slot c.in-Some.slot (1 + p.first) c.place_of-at.ensures c.geometry-geometry.ensures refl in
+    held-put l c.args.span.now.sector c.args.from.now c.args.block p.first p.count p.skip part c.in-Some.slot c.args.map.now (sym c.in-Some.ensures.slot)
+    (held-data l c.args.span.now.sector c.args.from.now c.args.block p.first p.count p.skip part c.in-Some.slot c.place_of-at.result is (c.in_ok-put.ensures.wrote told))
+
+pub returns-in_err-put_new-clause-reaches : goal.returns-in_err-put_new-clause-reaches
+returns-in_err-put_new-clause-reaches g c = λ told.
+    let none : slot_of c.args.map.now c.args.block ≡ None = search rules in Reaches-wider (λ q v h. inr (none, h)) (c.put_new.ensures.reaches told)
+
+pub returns-clause-put : goal.returns-clause-put
+returns-clause-put g c = let none : slot_of c.args.map.now c.args.block ≡ None = search rules in c.in_ok-put_new.ensures.put ∙ sym (with_block-new c.args.block c.args.map.now none)
+
+pub returns-clause-reaches : goal.returns-clause-reaches
+returns-clause-reaches g c = λ told.
+    let none : slot_of c.args.map.now c.args.block ≡ None = search rules in Reaches-wider (λ q v h. inr (none, h)) (c.put_new.ensures.reaches told)
+
+pub returns-clause-done : goal.returns-clause-done
+returns-clause-done g c = λ told.
+    let l = layout_now g.S.Store.site g.S.Store.kept c.args.store.now c.args.head.now in
+    let p = c.part_of-part.result in
+    let part = part_as c.part_of-part.ensures c.requires.sizes (sym c.requires.bytes) in
+    new-put l c.args.span.now.sector c.args.from.now c.args.block p.first p.count p.skip part c.args.map.now c.put_new.new.map c.in_ok-put_new.ensures.put (omega (arith, c.requires.within, c.requires.to_end)) (c.in_ok-put_new.ensures.done told)

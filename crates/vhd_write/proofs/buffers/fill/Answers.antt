@@ -1,0 +1,17 @@
+use Rattle.std.proofs.Common.{◌≡◌, length, ap, ◌∙◌, rules, arith}
+use Rattle.sm_disk.specs.Sectors.{sector}
+use Rattle.sm_disk.proofs.SectorLaws.{sector-one}
+use Rattle.vhd_map.specs.Bitmaps.{is_set}
+use Rattle.vhd_write.proofs.buffers.fill.Goals as goal
+
+pub returns-clause-set : goal.returns-clause-set
+returns-clause-set c = λ i low high.
+    let long : length c.bitmap_of.result ≡ 512 = search rules in
+    let same : sector c.put_sectors-2.new.buffer 0 ≡ c.bitmap_of.result = c.put_sectors-2.ensures.before 0 (omega arith) ∙ (c.put_sectors.ensures.inside 0 (omega arith) ∙ sector-one c.bitmap_of.result long) in
+    ap (λ x. is_set x i) same ∙ c.bitmap_of.ensures.set i low high
+
+pub returns-clause-others : goal.returns-clause-others
+returns-clause-others c = λ i away.
+    let long : length c.bitmap_of.result ≡ 512 = search rules in
+    let same : sector c.put_sectors-2.new.buffer 0 ≡ c.bitmap_of.result = c.put_sectors-2.ensures.before 0 (omega arith) ∙ (c.put_sectors.ensures.inside 0 (omega arith) ∙ sector-one c.bitmap_of.result long) in
+    ap (λ x. is_set x i) same ∙ c.bitmap_of.ensures.others i away

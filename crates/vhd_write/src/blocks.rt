@@ -1,0 +1,139 @@
+//! The first pass: the bytes of each block, into its slot or with a whole new one.
+
+ghost use Rattle.std.specs.Prelude.{◌≡◌, ◌≢◌, ◌⊎◌, ℕ, ◌+◌, ◌-◌, ◌*◌, ◌<◌, ◌≤◌, length, None, Some, slice_set, OnOk, OnErr, IfOk};
+ghost use Rattle.sm_disk.specs.Held.{Rose, Reaches, reads};
+ghost use Rattle.vhd_map.specs.Slots.{slot_of, top_of, least_free_slot, IsMap};
+ghost use Rattle.vhd_volumes.specs.Steps.{WorksOn, sectors_of};
+ghost use Rattle.vhd_volumes.specs.Truth.{HasRoomFor};
+ghost use Rattle.vhd_volumes.specs.Writes.{HasGrown, with_block, with_blocks};
+ghost use Rattle.vhd_write.specs.Passes.{layout_now, held_now, PutsSlot, PutsBlock, PutsData, IsFilled, IsPut, ArePut};
+ghost use Rattle.vhd_write.specs.Spans.{Given};
+
+use crate::buffers::fill;
+use crate::calls::{place_of, put};
+use crate::spans::{Part, Span, part_of};
+use sm_base::Failed;
+use vg_volumes::Store;
+use vhd_map::Map;
+use vhd_volumes::Head;
+
+/// Writes a whole slot for a block that has none: the least free one, which the map then has for the block.
+fn put_new<S: Store>(
+    store: &mut S,
+    buffer: &mut [u8],
+    head: &Head,
+    map: &mut Map,
+    block: u32,
+    part: &Part,
+    bytes: &[u8],
+) -> Result<(), Failed>
+    requires buffer { 512 * (1 + (S.site store.old).geometry.block) ≤ length buffer.old }
+    requires entries { length map.old ≡ (S.site store.old).geometry.entries }
+    requires good { IsMap map.old }
+    requires within { block < length map.old }
+    requires without { slot_of map.old block ≡ None }
+    requires room { HasRoomFor (S.site store.old).geometry (top_of (with_block block map.old))
+        (sectors_of S.site S.kept store.old head.now.volume) }
+    requires part { part.now.first + part.now.count ≤ (S.site store.old).geometry.block }
+    requires long { length bytes.now ≡ 512 * part.now.count }
+    ensures works { WorksOn S.told S.site S.kept S.area S.failed S.faults
+        head.now.volume store.old store.new }
+    ensures cause { OnErr result (Rose (S.faults store.old) (S.faults store.new)) }
+    ensures put { OnOk result (map.new ≡ slice_set map.old block (Some (least_free_slot map.old))) }
+    ensures kept { OnErr result (map.new ≡ map.old) }
+    ensures reaches { S.told → Reaches
+        (λ p v. PutsSlot (layout_now S.site S.kept store.old head.now) (least_free_slot map.old) p)
+        (held_now S.site S.kept S.area store.old head.now)
+        (held_now S.site S.kept S.area store.new head.now) }
+    ensures done { OnOk result (S.told → IsFilled (layout_now S.site S.kept store.old head.now)
+        (least_free_slot map.old) part.now.first part.now.count bytes.now
+        (reads (held_now S.site S.kept S.area store.new head.now))) }
+{
+    let geometry = store.geometry();
+    let slot = map.least_free();
+    fill(buffer, part, bytes);
+    let size = 512 * (1 + geometry.block as usize);
+    let at = place_of(&geometry, slot, 0);
+    put(store, &head.volume, at, &buffer[..size])?;
+    map.put(block, slot);
+    Ok(())
+}
+
+/// Writes the bytes of one block: into its slot, or with a whole slot where it has none.
+fn put_block<S: Store>(
+    store: &mut S,
+    buffer: &mut [u8],
+    head: &Head,
+    map: &mut Map,
+    span: &Span,
+    block: u32,
+    from: &[u8],
+) -> Result<(), Failed>
+    requires sizes { span.now.block ≡ (S.site store.old).geometry.block }
+    requires bytes { length from.now ≡ 512 * span.now.count }
+    requires buffer { 512 * (1 + span.now.block) ≤ length buffer.old }
+    requires entries { length map.old ≡ (S.site store.old).geometry.entries }
+    requires from_first { span.now.first ≤ block }
+    requires to_end { block < span.now.end }
+    requires within { span.now.end ≤ length map.old }
+    requires room { HasRoomFor (S.site store.old).geometry (top_of (with_block block map.old))
+        (sectors_of S.site S.kept store.old head.now.volume) }
+    ensures works { WorksOn S.told S.site S.kept S.area S.failed S.faults
+        head.now.volume store.old store.new }
+    ensures cause { OnErr result (Rose (S.faults store.old) (S.faults store.new)) }
+    ensures put { OnOk result (map.new ≡ with_block block map.old) }
+    ensures kept { OnErr result (map.new ≡ map.old) }
+    ensures reaches { S.told → Reaches (PutsBlock (layout_now S.site S.kept store.old head.now)
+        span.now.sector from.now map.old block) (held_now S.site S.kept S.area store.old head.now)
+        (held_now S.site S.kept S.area store.new head.now) }
+    ensures done { OnOk result (S.told → IsPut (layout_now S.site S.kept store.old head.now)
+        span.now.sector from.now (slot_of map.old block) (slot_of map.new block) block
+        (reads (held_now S.site S.kept S.area store.new head.now))) }
+{
+    let geometry = store.geometry();
+    let part = part_of(span, block);
+    let bytes = &from[512 * part.skip..512 * (part.skip + part.count as usize)];
+    if let Some(slot) = map.slot(block) {
+        let at = place_of(&geometry, slot, 1 + part.first);
+        put(store, &head.volume, at, bytes)?;
+        return Ok(());
+    }
+    put_new(store, buffer, head, map, block, &part, bytes)?;
+    Ok(())
+}
+
+/// Writes the bytes, block by block.
+pub(crate) fn put_blocks<S: Store>(
+    store: &mut S,
+    buffer: &mut [u8],
+    head: &Head,
+    map: &mut Map,
+    span: &Span,
+    from: &[u8],
+) -> Result<(), Failed>
+    requires sizes { span.now.block ≡ (S.site store.old).geometry.block }
+    requires bytes { length from.now ≡ 512 * span.now.count }
+    requires buffer { 512 * (1 + span.now.block) ≤ length buffer.old }
+    requires entries { length map.old ≡ (S.site store.old).geometry.entries }
+    requires good { IsMap map.old }
+    requires within { span.now.end ≤ length map.old }
+    requires room { HasRoomFor (S.site store.old).geometry
+        (top_of (with_blocks span.now.first (span.now.end - span.now.first) map.old))
+        (sectors_of S.site S.kept store.old head.now.volume) }
+    ensures works { WorksOn S.told S.site S.kept S.area S.failed S.faults
+        head.now.volume store.old store.new }
+    ensures cause { OnErr result (Rose (S.faults store.old) (S.faults store.new)) }
+    ensures grown { HasGrown map.old map.new }
+    ensures given { OnOk result (Given span.now.first span.now.end map.old map.new) }
+    ensures reaches { S.told → Reaches (PutsData (layout_now S.site S.kept store.old head.now)
+        span.now.sector from.now (slot_of map.old)) (held_now S.site S.kept S.area store.old head.now)
+        (held_now S.site S.kept S.area store.new head.now) }
+    ensures done { OnOk result (S.told → ArePut (layout_now S.site S.kept store.old head.now)
+        span.now.sector from.now (slot_of map.old) (slot_of map.new) span.now.end
+        (reads (held_now S.site S.kept S.area store.new head.now))) }
+{
+    for block in span.first..span.end {
+        put_block(store, buffer, head, map, span, block, from)?;
+    }
+    Ok(())
+}

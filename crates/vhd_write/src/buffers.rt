@@ -1,0 +1,61 @@
+//! A slot in a buffer.
+
+ghost use Rattle.std.specs.Prelude.{◌≡◌, ◌≢◌, ◌⊎◌, ℕ, ◌+◌, ◌*◌, ◌<◌, ◌≤◌, ◌%◌, length, true, false};
+ghost use Rattle.sm_disk.specs.Sectors.{sector};
+ghost use Rattle.vhd_map.specs.Bitmaps.{is_set};
+
+use crate::bitmaps::bitmap_of;
+use crate::spans::Part;
+
+/// Writes sectors into a buffer, from its sector `at` on.
+fn put_sectors(buffer: &mut [u8], at: usize, bytes: &[u8])
+    requires { 512 * at + length bytes.now ≤ length buffer.old }
+    ensures inside { (i : ℕ) → 512 * i + 512 ≤ length bytes.now → sector buffer.new (at + i) ≡ sector
+        bytes.now i }
+    ensures before { (i : ℕ) → i < at → sector buffer.new i ≡ sector buffer.old i }
+{
+    let start = 512 * at;
+    let end = start + bytes.len();
+    let place = &mut buffer[start..end];
+    place.copy_from_slice(bytes);
+}
+
+/// Makes a slot in a buffer: zeros, but for the bitmap of the part's sectors and their bytes.
+pub(crate) fn fill(buffer: &mut [u8], part: &Part, bytes: &[u8])
+    requires bits { part.now.first + part.now.count ≤ 4096 }
+    requires room { 512 * (1 + part.now.first + part.now.count) ≤ length buffer.old }
+    requires long { length bytes.now ≡ 512 * part.now.count }
+    ensures set { (i : ℕ) → part.now.first ≤ i → i < part.now.first + part.now.count → is_set
+        (sector buffer.new 0) i ≡ true }
+    ensures others { (i : ℕ) → (i < part.now.first) ⊎ (part.now.first + part.now.count ≤ i) → is_set
+        (sector buffer.new 0) i ≡ false }
+    ensures bytes { (i : ℕ) → i < part.now.count → sector buffer.new (1 + part.now.first + i) ≡ sector
+        bytes.now i }
+{
+    buffer.fill(0);
+    put_sectors(buffer, 0, &bitmap_of(part));
+    put_sectors(buffer, 1 + part.first as usize, bytes);
+}
+
+#[cfg(test)]
+mod tests {
+    use super::*;
+    use crate::spans::{part_of, span_of};
+
+    #[test]
+    fn a_slot_has_its_bits_and_bytes_and_zeros(rt: HostRuntime) {
+        // Sectors 13 to 22 of a disk with blocks of 8 sectors: three of block 1, then seven of block 2.
+        let span = span_of(8, 4, 13, 10);
+        assert_eq!(rt; (span.first, span.end), (1, 3));
+        assert!(rt; span.first <= 1 && 2 < span.end);
+        let one = part_of(&span, 1);
+        let two = part_of(&span, 2);
+        assert_eq!(rt; (one.first, one.count, one.skip), (5, 3, 0));
+        assert_eq!(rt; (two.first, two.count, two.skip), (0, 7, 3));
+        let mut buffer = [0xee; 4608];
+        fill(&mut buffer, &one, &[7; 1536]);
+        assert_eq!(rt; (buffer[0], buffer[1], buffer[511]), (0x07, 0, 0));
+        assert_eq!(rt; (buffer[512], buffer[3071]), (0, 0));
+        assert_eq!(rt; (buffer[3072], buffer[4607]), (7, 7));
+    }
+}

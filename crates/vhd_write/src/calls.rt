@@ -1,0 +1,69 @@
+//! Calls of a store on the sectors of one volume, and the place of a slot.
+
+ghost use Rattle.std.specs.Prelude.{◌≡◌, ℕ, ◌+◌, ◌*◌, ◌<◌, ◌≤◌, length, OnOk, OnErr, IfOk};
+ghost use Rattle.sm_base.specs.Numbers.{first};
+ghost use Rattle.sm_disk.specs.Held.{IsWhole, SameHeld, Torn, Wrote, Keeps, IsSettled, Rose, reads};
+ghost use Rattle.vhd_map.specs.Places.{spot};
+ghost use Rattle.vhd_volumes.specs.Steps.{WorksOn, sectors_of, held_in};
+
+use sm_base::{Failed, Geometry, Name};
+use vg_volumes::Store;
+
+/// The sector of a volume at which a part of a slot stands: its bitmap for 0, and sector i of its block for 1 + i.
+pub(crate) fn place_of(geometry: &Geometry, slot: u32, part: u32) -> u64
+    requires slot { slot < geometry.now.entries }
+    requires part { part ≤ geometry.now.block }
+    ensures { result ≡ spot (first geometry.now.entries) geometry.now.block slot part }
+{
+    let stride = 1 + u64::from(geometry.block);
+    geometry.first() + (u64::from(slot) * stride + u64::from(part))
+}
+
+/// Writes whole sectors of the volume.
+pub(crate) fn put<S: Store>(
+    store: &mut S,
+    volume: &Name,
+    at: u64,
+    from: &[u8],
+) -> Result<(), Failed>
+    requires { IsWhole at (length from.now) (sectors_of S.site S.kept store.old volume.now) }
+    ensures works { WorksOn S.told S.site S.kept S.area S.failed S.faults volume.now store.old store.new }
+    ensures cause { OnErr result (Rose (S.faults store.old) (S.faults store.new)) }
+    ensures torn { S.told → Torn at from.now (held_in S.site S.kept S.area store.old volume.now)
+        (held_in S.site S.kept S.area store.new volume.now) }
+    ensures wrote { OnOk result (S.told → Wrote at from.now
+        (held_in S.site S.kept S.area store.old volume.now)
+        (held_in S.site S.kept S.area store.new volume.now)) }
+{
+    store.write(volume, at, from)?;
+    Ok(())
+}
+
+/// Reads one sector of the volume.
+pub(crate) fn get<S: Store>(store: &mut S, volume: &Name, at: u64) -> Result<[u8; 512], Failed>
+    requires { at < sectors_of S.site S.kept store.old volume.now }
+    ensures works { WorksOn S.told S.site S.kept S.area S.failed S.faults volume.now store.old store.new }
+    ensures cause { OnErr result (Rose (S.faults store.old) (S.faults store.new)) }
+    ensures same { S.told → SameHeld (held_in S.site S.kept S.area store.old volume.now)
+        (held_in S.site S.kept S.area store.new volume.now) }
+    ensures gave { IfOk result
+        (λ sector. S.told → sector ≡ reads (held_in S.site S.kept S.area store.old volume.now) at) }
+    ensures long { IfOk result (λ sector. length sector ≡ 512) }
+{
+    let mut sector = [0; 512];
+    store.read(volume, at, &mut sector)?;
+    Ok(sector)
+}
+
+/// Makes all that was written last.
+pub(crate) fn settle<S: Store>(store: &mut S, volume: &Name) -> Result<(), Failed>
+    ensures works { WorksOn S.told S.site S.kept S.area S.failed S.faults volume.now store.old store.new }
+    ensures cause { OnErr result (Rose (S.faults store.old) (S.faults store.new)) }
+    ensures keeps { S.told → Keeps (held_in S.site S.kept S.area store.old volume.now)
+        (held_in S.site S.kept S.area store.new volume.now) }
+    ensures settled { OnOk result
+        (S.told → IsSettled (held_in S.site S.kept S.area store.new volume.now)) }
+{
+    store.sync()?;
+    Ok(())
+}

@@ -1,0 +1,42 @@
+//! The guest's write into the own image of a disk.
+//!
+//! **What is kept here.** Nothing: one call, [`write`], over any store of volumes. It puts whole sectors of a disk into
+//! the VHD image in a volume, whose head and map are in memory. Sectors of 512 bytes are counted from the disk's begin,
+//! and places from the volume's; blocks and slots are counted from 0.
+//!
+//! **In which order.** A write that only replaces sectors that the image holds writes the bytes and is done. Any other
+//! has three passes with a sync behind the first.
+//!
+//! 1. Block by block, in rising order: where the block has a slot the bytes go into it; where it has none the map's
+//!    least free slot is written whole, with a bitmap of the written sectors. No table names that slot yet, and no
+//!    bitmap has a new bit.
+//! 2. After the sync, the bits of the written sectors are set in the bitmaps of blocks that had a slot.
+//! 3. Where a block is new, the sectors of the block allocation table with the blocks' entries are written from the map
+//!    in memory, and not read.
+//!
+//! **What a stop may leave.** At every return, whatever a stop may leave of the volume is a valid image, and follows one
+//! that a stop could leave as the call began: each sector of the disk is as it was there, or held with the bytes of this
+//! write (`IsGuarded` of `vhd_volumes`). A write is not whole: of its sectors some may be new, and they last only once
+//! the store is synced, which is the caller's. After an `Err` the map has grown by some of the blocks, and what a read
+//! gives of the written sectors is open.
+//!
+//! **What it costs.** No memory: one buffer of the pool, of a slot's length, is taken and given back on each path. Of the
+//! store: one write for each block touched, one read for each bitmap up to the first that lacks a bit, and then, only
+//! where a bit or a slot was missing, one sync, one read for each block, one write for each bitmap that lacks a bit, and
+//! one write for each sector of the table that has a touched block's entry.
+//!
+//! What each pass puts where is in `specs/Passes`, the numbers of a write are in `specs/Spans`. The proofs go over plain
+//! volumes: `FirstLaws` and `RestLaws` say what the passes leave of an image, `ExitLaws` what a write leaves at each of
+//! its returns.
+#![tactic(auto)]
+
+mod bitmaps;
+mod blocks;
+mod buffers;
+mod calls;
+mod finish;
+mod spans;
+mod tables;
+mod writes;
+
+pub use writes::write;

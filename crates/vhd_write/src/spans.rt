@@ -1,0 +1,72 @@
+//! The sectors of a write, block by block.
+
+ghost use Rattle.std.specs.Prelude.{◌≡◌, ◌≢◌, ℕ, ◌+◌, ◌-◌, ◌*◌, ◌/◌, ◌<◌, ◌≤◌, ◌^◌, length};
+ghost use Rattle.vhd_write.specs.Spans.{IsSpan, IsPart};
+
+/// The sectors of a write, and the blocks that they lie in.
+#[derive(Clone, Copy, Debug)]
+pub(crate) struct Span {
+    /// The sectors of a block.
+    pub block: u32,
+    /// The first sector, counted from the disk's begin.
+    pub sector: u64,
+    /// How many sectors they are.
+    pub count: u64,
+    /// The first block that they lie in.
+    pub first: u32,
+    /// One more than the last.
+    pub end: u32,
+    pub ghost in_range: { IsSpan block sector count first end },
+}
+
+/// The sectors of one block among those of a write.
+#[derive(Clone, Copy, Debug)]
+pub(crate) struct Part {
+    /// The first of them, counted from the block's begin.
+    pub first: u32,
+    /// How many they are.
+    pub count: u32,
+    /// How many sectors of the bytes stand in front of theirs.
+    pub skip: usize,
+}
+
+/// The sectors of `count` from `sector` on, which lie in blocks below `blocks`.
+pub(crate) fn span_of(block: u32, blocks: u64, sector: u64, count: u64) -> Span
+    requires block_least { 8 ≤ block }
+    requires block_most { block ≤ 4096 }
+    requires some { 0 < count }
+    requires within { sector + count ≤ blocks * block }
+    requires few { blocks ≤ 1044480 }
+    ensures block { result.block ≡ block }
+    ensures sector { result.sector ≡ sector }
+    ensures count { result.count ≡ count }
+    ensures end { result.end ≤ blocks }
+{
+    let size = u64::from(block);
+    let first = sector / size;
+    let last = (sector + count - 1) / size;
+    Span {
+        block,
+        sector,
+        count,
+        first: first as u32,
+        end: last as u32 + 1,
+    }
+}
+
+/// The sectors of a block that the write touches.
+pub(crate) fn part_of(span: &Span, block: u32) -> Part
+    requires from_first { span.now.first ≤ block }
+    requires to_end { block < span.now.end }
+    ensures { IsPart span.now.block block span.now.sector (512 * span.now.count) result.first
+        result.count result.skip }
+{
+    let begin = u64::from(block) * u64::from(span.block);
+    let first = span.sector.max(begin);
+    let past = (span.sector + span.count).min(begin + u64::from(span.block));
+    Part {
+        first: (first - begin) as u32,
+        count: (past - first) as u32,
+        skip: (first - span.sector) as usize,
+    }
+}
