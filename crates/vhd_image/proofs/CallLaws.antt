@@ -1,11 +1,11 @@
 -- What calls of a store did, one after the other.
-use Rattle.std.proofs.Common.{◌≡◌, ◌≢◌, ℕ, ◌≤◌, ◌<◌, ◌-◌, ◌*◌, ◌+◌, cond, Bool, List, [], length, Result, Ok, Err, OnErr, refl, sym, ap, ◌∙◌, subst, subst₂, arith}
+use Rattle.std.proofs.Common.{◌≡◌, ℕ, ◌≤◌, ◌<◌, ◌-◌, ◌*◌, ◌+◌, cond, Bool, List, [], length, Result, Ok, Err, OnErr, refl, sym, ap, ◌∙◌, subst, subst₂, arith}
 use mathlib.Core.Path.{fun_ext}
 use Rattle.std.specs.Prelude.{nat_lt}
 use Rattle.sm_base.specs.declared.names.Name.{Name}
-use Rattle.sm_disk.specs.Held.{Held, May, SameHeld, Rose, Reaches, Torn, Wrote, IsIn, Puts, reads, newest}
+use Rattle.sm_disk.specs.Held.{Held, SameHeld, Rose, Torn, Wrote, Puts, reads}
 use Rattle.sm_disk.specs.Sectors.{sector}
-use Rattle.sm_disk.proofs.HeldLaws.{reads-at, may-at, Keeps-same, in_one, reads-elsewhere, reads-wrote, reads-same}
+use Rattle.sm_disk.proofs.HeldLaws.{reads-at, may-at, in_one, reads-elsewhere, reads-wrote, reads-same}
 use Rattle.sm_disk.proofs.ReachesLaws.{Reaches-same, Reaches-then, Reaches-torn, Reaches-wider}
 use Rattle.sm_disk.proofs.SectorLaws.{sector-one}
 use Rattle.vg_meta.specs.Kept.{Kept, listing}

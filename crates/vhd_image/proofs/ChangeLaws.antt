@@ -1,37 +1,31 @@
 -- What a stop may leave of an image while its footers are written.
-use Rattle.std.proofs.Common.{◌≡◌, ◌≢◌, ℕ, ◌+◌, ◌-◌, ◌*◌, ◌/◌, ◌<◌, ◌≤◌, ◌⊎◌, ◌==◌, List, Bool, true, false, Option, Some, None, Ok, is_some, refl, sym, ap, ◌∙◌, subst, inl, inr, ⊎_elim, eq-eqb, arith}
-use Rattle.std.proofs.lemmas.Bool.{cases_eq, ne_eqb}
+use Rattle.std.proofs.Common.{◌≡◌, ◌≢◌, ℕ, ◌+◌, ◌-◌, ◌*◌, ◌/◌, ◌<◌, ◌≤◌, ◌⊎◌, ◌==◌, List, Option, Some, Ok, is_some, refl, sym, ap, ◌∙◌, subst, inl, inr, ⊎_elim, arith}
 use Rattle.std.proofs.lemmas.Nat.{le-div, mul-le}
-use Rattle.std.proofs.lemmas.Option.{none-some, same_Some}
+use Rattle.std.proofs.lemmas.Option.{same_Some}
 use Rattle.std.specs.Result.{result_ok}
-use Rattle.sm_base.specs.Numbers.{first, IsGeometry}
+use Rattle.sm_base.specs.Numbers.{IsGeometry}
 use Rattle.sm_base.proofs.NumberLemmas.{first-ge}
 use Rattle.sm_base.specs.declared.sizes.Geometry.{Geometry}
-use Rattle.sm_disk.specs.Held.{Held, May, Allows, reads}
-use Rattle.sm_disk.proofs.HeldLaws.{Allows-reads}
+use Rattle.sm_disk.specs.Held.{Held, Allows, reads}
 use Rattle.vhd_fields.specs.declared.footers.Footer.{Footer}
 use Rattle.vhd_fields.specs.declared.headers.Header.{Header}
 use Rattle.vhd_fields.specs.Footers.{IsFooter, footer_read}
-use Rattle.vhd_map.specs.Places.{blank}
-use Rattle.vhd_map.specs.Slots.{slot_of, top_of}
-use Rattle.vhd_map.proofs.SlotLemmas.{top_of-past}
-use Rattle.vhd_map.proofs.Spots.{spot-within}
-use Rattle.vhd_layout.specs.Layouts.{Sectors, Layout, IsLayout, layout_of, place, slot_count, entry, code, entries_in_sectors, Slots, IsSlots}
+use Rattle.vhd_map.specs.Slots.{slot_of}
+use Rattle.vhd_layout.specs.Layouts.{Sectors, Layout, IsLayout, layout_of, place, entry, entries_in_sectors, Slots, IsSlots}
 use Rattle.vhd_layout.specs.Images.{IsImage, IsValid, IsFooterOf, IsHeaderOf, footer_at, header_at}
-use Rattle.vhd_layout.specs.Contents.{size_at, parent_at}
-use Rattle.vhd_layout.proofs.ImageLaws.{layout-of, place-first, place-within, place-small, code-one, content-of_head, slots-fit, table-first, in_entries}
+use Rattle.vhd_layout.specs.Contents.{size_at}
+use Rattle.vhd_layout.proofs.ImageLaws.{layout-of, place-first, place-within, content-of_head}
 use Rattle.vhd_volumes.specs.declared.heads.Head.{Head}
-use Rattle.vhd_volumes.specs.Truth.{IsTrueIn, IsTrueOf, layout_in, disk_sectors, disk_blocks, HasRoomFor, IsStanding}
-use Rattle.vhd_image.specs.Calls.{IsAt, IsEnds, MayPut}
-use Rattle.vhd_image.specs.Changes.{SaysSame, IsSameImage, IsResized, IsChanged, ChangesBy, StaysTrue, with_size}
+use Rattle.vhd_volumes.specs.Truth.{IsTrueIn, layout_in, disk_sectors, disk_blocks, IsStanding}
+use Rattle.vhd_image.specs.Calls.{IsEnds}
+use Rattle.vhd_image.specs.Changes.{SaysSame, IsResized, IsChanged, ChangesBy, with_size}
 use Rattle.vhd_image.specs.Made.{IsDiskSize}
-use Rattle.vhd_image.specs.Opened.{ReadsAs}
 use Rattle.vhd_image.proofs.ContentLaws.{is-layout}
 use Rattle.vhd_image.proofs.FooterReads.{proper-at}
 use Rattle.vhd_image.proofs.MakingLaws.{size-proper, some-sectors}
 use Rattle.vhd_image.proofs.OpeningLaws.{header-same, footer-own}
-use Rattle.vhd_image.proofs.KeptLaws.{SameBody, size-same, size-is, parent-same, entry-same, says-same, image-same}
-use Rattle.vhd_image.proofs.FooterSteps.{FooterStep, footers-step, mixed, mixed-read, mixed-own, mixed-allowed, footer-same, not_at}
+use Rattle.vhd_image.proofs.KeptLaws.{SameBody, size-same, size-is, parent-same, says-same, image-same}
+use Rattle.vhd_image.proofs.FooterSteps.{FooterStep, footers-step}
 
 -- the number of blocks is not in what two images say
 pub says-in : (block entries blocks blocks' n : ℕ) (v w : Sectors) → SaysSame (layout_of block entries blocks n) v w → SaysSame (layout_of block entries blocks' n) v w

@@ -1,5 +1,5 @@
 -- What an image says of one sector, by its map.
-use Rattle.std.proofs.Common.{◌≡◌, ℕ, ◌+◌, ◌-◌, ◌*◌, ◌/◌, ◌%◌, ◌<◌, ◌≤◌, cond, if◌then◌else◌, List, length, Option, Some, None, sym, ap, subst, ◌∙◌, arith}
+use Rattle.std.proofs.Common.{◌≡◌, ℕ, ◌+◌, ◌-◌, ◌*◌, ◌/◌, ◌%◌, ◌<◌, if◌then◌else◌, List, length, Option, Some, None, sym, ap, subst, ◌∙◌, arith}
 use Rattle.std.proofs.lemmas.Bool.{cond-true, lt-ltb}
 use Rattle.std.proofs.lemmas.Nat.{div_below}
 use Rattle.sm_base.specs.Numbers.{IsGeometry, first}
@@ -9,14 +9,14 @@ use Rattle.vhd_fields.specs.declared.headers.Header.{Header}
 use Rattle.vhd_map.specs.Bitmaps.{is_set}
 use Rattle.vhd_map.specs.Places.{spot, blank}
 use Rattle.vhd_map.specs.Slots.{slot_of, top_of}
-use Rattle.vhd_map.proofs.SlotLemmas.{top_of-past, slot_of-within}
-use Rattle.vhd_map.proofs.Spots.{spot-within, spot-part, spot-small, first-most}
-use Rattle.vhd_layout.specs.Layouts.{Sectors, Layout, IsLayout, layout_of, place, entry, code, entries_in_sectors, Slots, IsSlots}
-use Rattle.vhd_layout.specs.Images.{IsHead, IsImage}
+use Rattle.vhd_map.proofs.SlotLemmas.{top_of-past}
+use Rattle.vhd_map.proofs.Spots.{spot-within, spot-small, first-most}
+use Rattle.vhd_layout.specs.Layouts.{Sectors, Layout, IsLayout, place, entries_in_sectors, Slots}
+use Rattle.vhd_layout.specs.Images.{IsImage}
 use Rattle.vhd_layout.specs.Contents.{own, value, size_at}
 use Rattle.vhd_layout.proofs.ImageLaws.{layout-of, content-of_head, value-with_slot, value-without_slot, in_entries}
 use Rattle.vhd_volumes.specs.declared.heads.Head.{Head}
-use Rattle.vhd_volumes.specs.Truth.{IsStanding, HasRoomFor, disk_sectors, disk_blocks, layout_in}
+use Rattle.vhd_volumes.specs.Truth.{IsStanding, disk_sectors, disk_blocks, layout_in}
 use Rattle.vhd_volumes.specs.Writes.{own_in}
 
 -- the layout of an image of a repository

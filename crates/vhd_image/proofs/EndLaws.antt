@@ -1,32 +1,29 @@
 -- What a stop may leave of an image while its footer is written where the image will end.
-use Rattle.std.proofs.Common.{◌≡◌, ◌≢◌, ℕ, ◌+◌, ◌-◌, ◌*◌, ◌/◌, ◌<◌, ◌≤◌, ◌⊎◌, ◌==◌, List, Bool, true, false, Option, Some, None, Ok, is_some, refl, sym, ap, ◌∙◌, subst, inl, inr, ⊎_elim, eq-eqb, arith}
-use Rattle.std.proofs.lemmas.Bool.{cases_eq, ne_eqb, true≢false}
-use Rattle.std.proofs.lemmas.Option.{none-some, same_Some}
+use Rattle.std.proofs.Common.{◌≡◌, ◌≢◌, ℕ, ◌+◌, ◌-◌, ◌<◌, ◌≤◌, ◌==◌, List, Bool, Option, Some, Ok, sym, ap, ◌∙◌, subst, inl, inr, ⊎_elim, arith}
+use Rattle.std.proofs.lemmas.Bool.{cases_eq, ne_eqb}
 use Rattle.std.specs.Result.{result_ok}
 use Rattle.sm_base.specs.Numbers.{first, IsGeometry}
 use Rattle.sm_base.proofs.NumberLemmas.{first-ge}
 use Rattle.sm_base.specs.declared.sizes.Geometry.{Geometry}
-use Rattle.sm_disk.specs.Held.{Held, May, Allows, reads}
+use Rattle.sm_disk.specs.Held.{Held, Allows, reads}
 use Rattle.vhd_fields.specs.declared.footers.Footer.{Footer}
 use Rattle.vhd_fields.specs.declared.headers.Header.{Header}
 use Rattle.vhd_fields.specs.Footers.{footer_read}
-use Rattle.vhd_map.specs.Places.{blank}
 use Rattle.vhd_map.specs.Slots.{slot_of, top_of}
 use Rattle.vhd_map.proofs.SlotLemmas.{top_of-past}
 use Rattle.vhd_map.proofs.Spots.{spot-within}
-use Rattle.vhd_layout.specs.Layouts.{Sectors, Layout, IsLayout, layout_of, place, slot_count, entry, code, entries_in_sectors, Slots, IsSlots}
-use Rattle.vhd_layout.specs.Images.{IsImage, IsValid, footer_at, header_at}
-use Rattle.vhd_layout.specs.Contents.{size_at}
-use Rattle.vhd_layout.proofs.ImageLaws.{layout-of, place-small, code-one, slots-fit, table-first, in_entries, option_cases}
+use Rattle.vhd_layout.specs.Layouts.{Sectors, layout_of, place, slot_count, entry, code, entries_in_sectors, Slots}
+use Rattle.vhd_layout.specs.Images.{IsImage, footer_at, header_at}
+use Rattle.vhd_layout.proofs.ImageLaws.{layout-of, place-small, code-one, slots-fit, in_entries}
 use Rattle.vhd_volumes.specs.declared.heads.Head.{Head}
 use Rattle.vhd_volumes.specs.Truth.{IsTrueIn, layout_in, disk_blocks, HasRoomFor}
-use Rattle.vhd_image.specs.Calls.{IsAt, IsEnds, MayPut}
-use Rattle.vhd_image.specs.Changes.{SaysSame, IsSameImage, IsChanged, ChangesBy, StaysTrue}
+use Rattle.vhd_image.specs.Calls.{MayPut}
+use Rattle.vhd_image.specs.Changes.{IsSameImage, StaysTrue}
 use Rattle.vhd_image.specs.Opened.{ReadsAs}
 use Rattle.vhd_image.proofs.ContentLaws.{is-layout}
 use Rattle.vhd_image.proofs.OpeningLaws.{header-same, footer-own}
-use Rattle.vhd_image.proofs.KeptLaws.{SameBody, size-same, parent-same, entry-same, says-same, image-same}
-use Rattle.vhd_image.proofs.FooterSteps.{FooterStep, footers-step, ends-one, mixed, mixed-read, mixed-own, mixed-allowed, footer-same, not_at}
+use Rattle.vhd_image.proofs.KeptLaws.{SameBody, size-same, parent-same, says-same, image-same}
+use Rattle.vhd_image.proofs.FooterSteps.{footers-step, ends-one, mixed, mixed-own, mixed-allowed, footer-same, not_at}
 use Rattle.vhd_image.proofs.ChangeLaws.{says-in, body-inside, size-few}
 
 -- ---- the same head over the same table and slots

@@ -1,6 +1,6 @@
 -- What a stop may leave of the two footers of an image while they are written.
-use Rattle.std.proofs.Common.{◌≡◌, ◌≢◌, ℕ, ◌+◌, ◌-◌, ◌<◌, ◌≤◌, ◌⊎◌, ◌==◌, ◌||◌, cond, List, Bool, true, false, Option, Some, None, Ok, refl, sym, ap, ap₂, ◌∙◌, subst, inl, inr, ⊎_elim, eq-eqb, arith}
-use Rattle.std.proofs.lemmas.Bool.{cases_Bool, cases_eq, cond-true, cond-false, ne_eqb, eqb-true, true≢false}
+use Rattle.std.proofs.Common.{◌≡◌, ◌≢◌, ℕ, ◌-◌, ◌<◌, ◌≤◌, ◌⊎◌, ◌==◌, ◌||◌, cond, List, Bool, true, false, Some, None, Ok, refl, sym, ap, ap₂, ◌∙◌, subst, inl, inr, ⊎_elim, eq-eqb, arith}
+use Rattle.std.proofs.lemmas.Bool.{cases_Bool, cond-true, cond-false, ne_eqb, true≢false}
 use Rattle.std.specs.Option.{option_or}
 use Rattle.std.specs.Result.{result_ok}
 use Rattle.sm_disk.specs.Held.{Held, May, Allows, reads}
@@ -10,7 +10,7 @@ use Rattle.vhd_fields.specs.Footers.{footer_read}
 use Rattle.vhd_layout.specs.Layouts.{Sectors}
 use Rattle.vhd_layout.specs.Images.{footer_at}
 use Rattle.vhd_layout.proofs.ImageLaws.{option_cases}
-use Rattle.vhd_image.specs.Calls.{IsAt, IsEnds, MayPut}
+use Rattle.vhd_image.specs.Calls.{IsEnds, MayPut}
 use Rattle.vhd_image.proofs.OpeningLaws.{footer-own, footer-copy}
 
 -- ---- a mix of a crash image and what a read gives

@@ -1,5 +1,5 @@
 -- Two volumes whose tables and slots are the same hold the same image, but for the head.
-use Rattle.std.proofs.Common.{◌≡◌, ◌≢◌, ℕ, ◌+◌, ◌-◌, ◌*◌, ◌/◌, ◌%◌, ◌<◌, ◌≤◌, ◌⊎◌, ◌==◌, if◌then◌else◌, cond, List, Bool, true, false, Option, Some, None, is_some, refl, sym, ap, ◌∙◌, subst, inl, inr, ⊎_elim, arith}
+use Rattle.std.proofs.Common.{◌≡◌, ◌≢◌, ℕ, ◌+◌, ◌-◌, ◌*◌, ◌/◌, ◌%◌, ◌<◌, ◌≤◌, if◌then◌else◌, List, true, Option, Some, None, refl, sym, ap, ◌∙◌, ⊎_elim, arith}
 use Rattle.std.specs.Option.{option_map_or}
 use Rattle.std.proofs.lemmas.Bool.{cases_lt, lt-ltb, le-ltb, cond-true, cond-false}
 use Rattle.std.proofs.lemmas.Nat.{div_below, le-div}
@@ -7,7 +7,7 @@ use Rattle.vhd_fields.specs.declared.footers.Footer.{Footer}
 use Rattle.vhd_fields.specs.declared.headers.Header.{Header}
 use Rattle.vhd_map.specs.Bitmaps.{is_set}
 use Rattle.vhd_map.specs.Places.{blank, word}
-use Rattle.vhd_layout.specs.Layouts.{Sectors, Layout, IsLayout, layout_of, place, slot_count, entry, code, entries_in_sectors, Slots, IsSlots}
+use Rattle.vhd_layout.specs.Layouts.{Sectors, Layout, IsLayout, layout_of, place, slot_count, entry, code, entries_in_sectors, Slots}
 use Rattle.vhd_layout.specs.Images.{IsImage, IsFooterOf, IsHeaderOf, EachSlotHolds, footer_at, header_at}
 use Rattle.vhd_layout.specs.Contents.{own, value, size_at, parent_at}
 use Rattle.vhd_layout.proofs.ImageLaws.{option_cases, table-first, value-with_slot, value-without_slot, in_entries, content-of_head}

@@ -1,10 +1,9 @@
 -- A header whose first sector names another parent reads as it did, but for the parent.
-use Rattle.std.proofs.Common.{◌≡◌, ℕ, ◌+◌, ◌-◌, ◌*◌, ◌^◌, ◌<◌, ◌≤◌, ◌&&◌, List, [], ◌∷◌, ◌++◌, Bool, true, false, cond, length, take, drop, get_or, sum, replicate, All, Option, Some, None, Result, Ok, Err, is_some, refl, sym, ap, ap₂, ◌∙◌, subst, inl, inr, append_assoc, length-append, eq-eqb, eqb-true, arith}
+use Rattle.std.proofs.Common.{◌≡◌, ℕ, ◌+◌, ◌-◌, ◌*◌, ◌^◌, ◌<◌, ◌≤◌, List, [], ◌++◌, Bool, true, false, cond, length, take, drop, get_or, sum, replicate, All, Option, Some, None, Ok, is_some, refl, sym, ap, ap₂, ◌∙◌, subst, inl, inr, append_assoc, eq-eqb, eqb-true, arith}
 use Rattle.std.specs.Prelude.{◌==◌, codes, unwrap_or}
 use Rattle.std.specs.Str.{bytes_eq}
-use Rattle.std.specs.Result.{result_ok}
 use Rattle.std.proofs.lemmas.Bool.{cases_lt}
-use Rattle.std.proofs.lemmas.List.{take-take, take-append-le, take-append-drop, drop-append-le, drop-take, drop-drop, take_at, drop_at, length-take, length-take-le, length-drop, get_or_past, append-nil, take_all}
+use Rattle.std.proofs.lemmas.List.{take-take, take-append-le, take-append-drop, drop-append-le, drop-take, drop-drop, take_at, drop_at, length-take-le, length-drop, get_or_past, append-nil}
 use Rattle.std.proofs.lemmas.List.Elements.{All-get_or}
 use Rattle.std.proofs.lemmas.List.Sums.{sum_by-append}
 use Rattle.std.proofs.lemmas.Option.{none-some, same_Some}
@@ -15,7 +14,7 @@ use Rattle.vhd_fields.specs.declared.faults.FieldFault.{FieldFault}
 use Rattle.vhd_fields.specs.declared.faults.FieldFault.TheVariants.{Cookie, Checksum, Version, Field}
 use Rattle.vhd_fields.specs.declared.headers.Header.{Header}
 use Rattle.vhd_fields.specs.Checksums.{checksum, ones_complement, sealed}
-use Rattle.vhd_fields.specs.Fields.{bytes_at, number_at, version, first_fault, unless_fault}
+use Rattle.vhd_fields.specs.Fields.{bytes_at, number_at, version, unless_fault}
 use Rattle.vhd_fields.specs.Headers.{header_fault, header_fields, header_read, header_tests, is_block, is_entries, is_table_offset}
 use Rattle.vhd_fields.specs.ParentNames.{IsParent, parent_bytes, parent_read}
 use Rattle.vhd_fields.proofs.ParentLaws.{ends_in_zeros, length_parent, parent_again, parent_is}

@@ -1,5 +1,5 @@
 -- A new image: its fields are proper, and what is written of it reads as it.
-use Rattle.std.proofs.Common.{◌≡◌, ◌≢◌, ℕ, ◌+◌, ◌-◌, ◌*◌, ◌/◌, ◌%◌, ◌<◌, ◌≤◌, ◌==◌, ◌++◌, ◌&&◌, ◌⊎◌, min, if◌then◌else◌, List, [], ◌∷◌, length, take, drop, replicate, Bool, true, false, not, Option, Some, None, Ok, is_some, IsTrue, refl, sym, ap, ap₂, ◌∙◌, subst, inl, inr, ⊎_elim, eq-eqb, length-append, arith}
+use Rattle.std.proofs.Common.{◌≡◌, ◌≢◌, ℕ, ◌+◌, ◌-◌, ◌*◌, ◌/◌, ◌%◌, ◌<◌, ◌≤◌, ◌==◌, ◌++◌, ◌&&◌, ◌⊎◌, min, if◌then◌else◌, List, [], ◌∷◌, length, take, drop, replicate, Bool, true, false, not, Option, Some, None, Ok, IsTrue, refl, sym, ap, ap₂, ◌∙◌, subst, inl, inr, ⊎_elim, eq-eqb, length-append, arith}
 use Rattle.std.specs.Option.{ForSome}
 use Rattle.std.specs.Int.{is_power_of_two}
 use Rattle.std.specs.Int.RustNames.{count_ones}
@@ -9,28 +9,25 @@ use Rattle.std.specs.Result.{result_ok}
 use Rattle.std.proofs.lemmas.Bool.{cases_eq, ne_eqb, le-leb}
 use Rattle.std.proofs.lemmas.List.{length-replicate, take-append-drop}
 use Rattle.std.proofs.lemmas.Nat.{mul-le}
-use Rattle.std.proofs.lemmas.Option.{none-some, same_Some}
+use Rattle.std.proofs.lemmas.Option.{none-some}
 use Rattle.sm_base.specs.Numbers.{first, div_up, IsGeometry}
 use Rattle.sm_base.specs.declared.names.Name.{Name}
 use Rattle.sm_base.specs.declared.sizes.Geometry.{Geometry}
 use Rattle.vg_meta.specs.Tables.{Row, row_of, extents_of, extents_in, name_eq}
-use Rattle.vhd_fields.specs.declared.footers.Footer.{Footer}
 use Rattle.vhd_fields.specs.declared.headers.Header.{Header}
-use Rattle.vhd_fields.specs.Footers.{IsFooter, footer_read, is_size, is_data_offset}
+use Rattle.vhd_fields.specs.Footers.{IsFooter, footer_read, is_size}
 use Rattle.vhd_fields.specs.Headers.{IsHeader, header_read, is_block, is_entries}
 use Rattle.vhd_fields.specs.ParentNames.{IsParent}
 use Rattle.vhd_map.specs.Places.{blank, word}
-use Rattle.vhd_map.specs.Slots.{slot_of, top_of}
 use Rattle.vhd_map.proofs.SlotLemmas.{top_of-replicate}
-use Rattle.vhd_layout.specs.Layouts.{Sectors, Layout, entry, entries_in_sectors}
-use Rattle.vhd_layout.specs.Images.{IsImage, IsFooterOf, IsHeaderOf, footer_at, header_at}
+use Rattle.vhd_layout.specs.Layouts.{Sectors}
+use Rattle.vhd_layout.specs.Images.{IsImage, IsFooterOf, IsHeaderOf, header_at}
 use Rattle.vhd_layout.proofs.ImageLaws.{table-first}
-use Rattle.vhd_volumes.specs.declared.heads.Head.{Head}
 use Rattle.vhd_volumes.specs.Truth.{layout_in, HasRoomFor, IsStanding}
 use Rattle.vhd_image.specs.declared.images.Body.{Body}
 use Rattle.vhd_image.specs.Made.{IsDiskSize, MayHave, new_header, new_footer, IsBlankTo}
 use Rattle.vhd_image.proofs.ContentLaws.{is-layout}
-use Rattle.vhd_image.proofs.OpeningLaws.{header-same, footer-own}
+use Rattle.vhd_image.proofs.OpeningLaws.{footer-own}
 
 -- ---- the size of a volume
 

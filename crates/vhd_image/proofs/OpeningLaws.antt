@@ -1,7 +1,7 @@
 -- An image that is read off a volume is the one that the volume holds.
-use Rattle.std.proofs.Common.{◌≡◌, ℕ, ◌+◌, ◌-◌, ◌*◌, ◌/◌, ◌%◌, ◌<◌, ◌≤◌, ◌⊎◌, ◌++◌, min, List, [], ◌∷◌, length, zero, suc, Bool, true, false, Option, Some, None, Result, Ok, Err, is_ok, refl, sym, ap, ◌∙◌, subst, inl, inr, ⊎_elim, arith}
+use Rattle.std.proofs.Common.{◌≡◌, ℕ, ◌+◌, ◌-◌, ◌*◌, ◌/◌, ◌<◌, ◌≤◌, ◌++◌, List, [], ◌∷◌, length, suc, true, false, Option, Some, None, Result, Ok, Err, is_ok, refl, sym, ap, ◌∙◌, subst, arith}
 use Rattle.std.proofs.Math.Nat.{mul-div_cancel}
-use Rattle.std.proofs.lemmas.Option.{none-some, same_Some}
+use Rattle.std.proofs.lemmas.Option.{same_Some}
 use Rattle.std.specs.Option.{option_or}
 use Rattle.std.specs.Result.{result_ok}
 use Rattle.sm_base.specs.declared.sizes.Geometry.{Geometry}
@@ -12,7 +12,7 @@ use Rattle.vhd_fields.specs.Footers.{footer_read}
 use Rattle.vhd_fields.specs.Headers.{header_read}
 use Rattle.sm_base.specs.Numbers.{first}
 use Rattle.vhd_map.specs.Slots.{slot_of, top_of, IsMap}
-use Rattle.vhd_layout.specs.Layouts.{Sectors, Layout, layout_of, Slots, entries_in_sectors, slot_count}
+use Rattle.vhd_layout.specs.Layouts.{Sectors, Layout, layout_of, Slots, entries_in_sectors}
 use Rattle.vhd_layout.specs.Images.{IsImage, IsValid, IsHead, IsFooterOf, IsHeaderOf, footer_at, header_at}
 use Rattle.vhd_layout.proofs.ImageLaws.{slots-need}
 use Rattle.vhd_volumes.specs.declared.heads.Head.{Head}

@@ -1,6 +1,6 @@
 -- What a stop may leave of an image while its header's first sector is written with another parent.
-use Rattle.std.proofs.Common.{◌≡◌, ◌≢◌, ℕ, ◌+◌, ◌-◌, ◌*◌, ◌^◌, ◌<◌, ◌≤◌, ◌⊎◌, ◌==◌, ◌++◌, List, length, Bool, true, false, Option, Some, None, Ok, Err, Result, is_some, IsSome, refl, sym, ap, ap₂, ◌∙◌, subst, inl, inr, ⊎_elim, eq-eqb, arith}
-use Rattle.std.proofs.lemmas.Bool.{cases_eq, ne_eqb, true≢false}
+use Rattle.std.proofs.Common.{◌≡◌, ◌≢◌, ℕ, ◌+◌, ◌-◌, ◌^◌, ◌<◌, ◌≤◌, ◌==◌, ◌++◌, List, length, Bool, true, Option, Some, Ok, Err, Result, is_some, IsSome, refl, sym, ap, ap₂, ◌∙◌, subst, inl, inr, ⊎_elim, arith}
+use Rattle.std.proofs.lemmas.Bool.{ne_eqb}
 use Rattle.std.proofs.lemmas.Option.{none-some, same_Some}
 use Rattle.std.specs.Result.{result_ok}
 use Rattle.sm_base.specs.Numbers.{first, IsGeometry}
@@ -9,20 +9,18 @@ use Rattle.sm_base.specs.declared.sizes.Geometry.{Geometry}
 use Rattle.sm_disk.specs.Held.{Held, May, Allows, HasSectors, reads}
 use Rattle.sm_disk.specs.Sectors.{IsSector}
 use Rattle.sm_disk.proofs.HeldLaws.{IsSector-may, IsSector-reads}
-use Rattle.vhd_fields.specs.declared.footers.Footer.{Footer}
 use Rattle.vhd_fields.specs.declared.headers.Header.{Header}
 use Rattle.vhd_fields.specs.Headers.{header_read}
 use Rattle.vhd_map.specs.Slots.{slot_of}
-use Rattle.vhd_layout.specs.Layouts.{Sectors, Layout, IsLayout, layout_of, place, entry, entries_in_sectors, Slots}
-use Rattle.vhd_layout.specs.Images.{IsImage, IsValid, IsHeaderOf, footer_at, header_at}
-use Rattle.vhd_layout.specs.Contents.{size_at, parent_at}
+use Rattle.vhd_layout.specs.Layouts.{Sectors, Layout, layout_of, place, entry, entries_in_sectors, Slots}
+use Rattle.vhd_layout.specs.Images.{IsValid, IsHeaderOf, footer_at, header_at}
 use Rattle.vhd_layout.proofs.ImageLaws.{layout-of, place-first}
 use Rattle.vhd_volumes.specs.declared.heads.Head.{Head}
-use Rattle.vhd_volumes.specs.Truth.{IsTrueIn, layout_in, disk_blocks, IsStanding}
+use Rattle.vhd_volumes.specs.Truth.{IsTrueIn, layout_in, disk_blocks}
 use Rattle.vhd_image.specs.declared.images.Body.{Body}
 use Rattle.vhd_image.specs.Bodies.{volume_name}
-use Rattle.vhd_image.specs.Calls.{IsAt, MayPut}
-use Rattle.vhd_image.specs.Changes.{SaysSame, IsRelinked, IsChanged, ChangesBy, with_parent}
+use Rattle.vhd_image.specs.Calls.{MayPut}
+use Rattle.vhd_image.specs.Changes.{IsRelinked, IsChanged, ChangesBy, with_parent}
 use Rattle.vhd_image.specs.Links.{link_bytes}
 use Rattle.vhd_image.specs.Made.{IsParentImage, linked, uid_of, stamp_of}
 use Rattle.vhd_image.proofs.ContentLaws.{is-layout}

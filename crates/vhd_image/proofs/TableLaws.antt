@@ -1,14 +1,12 @@
 -- A table that is read into a map sector by sector.
-use Rattle.std.proofs.Common.{◌≡◌, ◌≢◌, ℕ, ◌+◌, ◌-◌, ◌*◌, ◌/◌, ◌%◌, ◌<◌, ◌≤◌, ◌⊎◌, min, List, [], length, replicate, Option, Some, None, zero, suc, refl, sym, ap, ap₂, ◌∙◌, subst, inl, inr, ⊎_elim, arith}
-use Rattle.std.proofs.lemmas.Bool.{cases_eq, cases_lt}
+use Rattle.std.proofs.Common.{◌≡◌, ◌≢◌, ℕ, ◌+◌, ◌*◌, ◌/◌, ◌%◌, ◌<◌, ◌≤◌, min, List, length, replicate, Option, Some, None, zero, suc, refl, sym, ap, ◌∙◌, subst, ⊎_elim, arith}
+use Rattle.std.proofs.lemmas.Bool.{cases_eq}
 use Rattle.std.proofs.lemmas.Option.{none-some}
-use Rattle.std.proofs.lemmas.List.{length-replicate}
 use Rattle.sm_base.specs.Numbers.{first, div_up}
-use Rattle.vhd_map.specs.Places.{blank, code as code_at, word, IsReadable, NamesFree}
+use Rattle.vhd_map.specs.Places.{blank, word, IsReadable, NamesFree}
 use Rattle.vhd_map.specs.Slots.{slot_of, IsMap}
 use Rattle.vhd_map.proofs.SectorLemmas.{code-same}
-use Rattle.vhd_layout.specs.Layouts.{Sectors, Layout, IsLayout, entry, code, entries_in_sectors, slot_count, Slots}
-use Rattle.vhd_layout.specs.Images.{IsHead, IsImage}
+use Rattle.vhd_layout.specs.Layouts.{Sectors, Layout, IsLayout, entry, code, entries_in_sectors}
 use Rattle.vhd_layout.proofs.ImageLaws.{place-small, code-one, in_entries, table-readable}
 use Rattle.vhd_volumes.specs.declared.heads.Head.{Head}
 use Rattle.vhd_image.specs.Opened.{HasImageOf, few_slots, FitsIn, IsTableTo}

@@ -1,7 +1,6 @@
 -- The head of a new image, and the link of an image to its parent (Virtual Hard Disk Image Format Specification 1.0, with
 -- this project's profile).
 use Rattle.std.specs.Prelude.{◌≡◌, ℕ, ◌*◌, ◌/◌, ◌≤◌, ◌<◌, List, codes, replicate, Option, None, Some}
-use Rattle.sm_base.specs.declared.names.Name.{Name}
 use Rattle.sm_base.specs.declared.sizes.Geometry.{Geometry}
 use Rattle.vhd_fields.specs.ParentNames.{IsParent}
 use Rattle.vhd_fields.specs.declared.footers.Footer.{Footer}

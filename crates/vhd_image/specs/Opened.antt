@@ -3,10 +3,10 @@ use Rattle.std.specs.Prelude.{◌≡◌, ℕ, ◌<◌, min, List, Option, Some}
 use Rattle.sm_base.specs.declared.sizes.Geometry.{Geometry}
 use Rattle.sm_disk.specs.Held.{Held, reads}
 use Rattle.vhd_map.specs.Slots.{slot_of}
-use Rattle.vhd_layout.specs.Layouts.{Sectors, Layout, entry, code, entries_in_sectors, slot_count}
-use Rattle.vhd_layout.specs.Images.{IsHead, IsImage}
+use Rattle.vhd_layout.specs.Layouts.{Sectors, Layout, entry, code, slot_count}
+use Rattle.vhd_layout.specs.Images.{IsImage}
 use Rattle.vhd_volumes.specs.declared.heads.Head.{Head}
-use Rattle.vhd_volumes.specs.Truth.{layout_in, disk_blocks}
+use Rattle.vhd_volumes.specs.Truth.{layout_in}
 
 -- the volume holds an image with this head, for some map
 abbrev pub HasImageOf : Layout → Sectors → Head → Type 0

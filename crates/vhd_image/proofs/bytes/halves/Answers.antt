@@ -1,4 +1,4 @@
-use Rattle.std.proofs.Common.{◌≡◌, ◌≤◌, ℕ, List, length, drop, take, rules, arith, ◌∙◌}
+use Rattle.std.proofs.Common.{◌≡◌, length, drop, rules, arith, ◌∙◌}
 use Rattle.std.proofs.lemmas.List.{take_all, length-drop}
 use Rattle.vhd_image.proofs.bytes.halves.Goals as goal
 

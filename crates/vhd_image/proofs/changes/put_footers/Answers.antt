@@ -1,5 +1,4 @@
-use Rattle.std.proofs.Common.{◌≡◌, ◌-◌, ℕ, ap, subst}
-use Rattle.sm_disk.specs.Held.{Held}
+use Rattle.std.proofs.Common.{◌-◌, ℕ, subst}
 use Rattle.vhd_fields.specs.Footers.{footer_bytes}
 use Rattle.vhd_volumes.specs.Steps.{held_in, sectors_of}
 use Rattle.vhd_image.specs.Calls.{MayPut}

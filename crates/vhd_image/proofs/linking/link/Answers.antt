@@ -1,4 +1,4 @@
-use Rattle.std.proofs.Common.{◌≡◌, ◌-◌, ◌≤◌, ℕ, List, [], ◌++◌, Some, length, take, drop, sum, refl, sym, ap, ◌∙◌, ◌+◌, arith, rules}
+use Rattle.std.proofs.Common.{◌≡◌, ◌-◌, ◌≤◌, [], ◌++◌, Some, length, take, drop, sum, refl, sym, ap, ◌∙◌, ◌+◌, arith, rules}
 use Rattle.std.proofs.lemmas.List.{take_all, length-take-le, length-drop}
 use Rattle.byteorder.specs.Endian.{big_bytes}
 use Rattle.vhd_fields.specs.declared.headers.Header.{Header}

@@ -1,11 +1,9 @@
-use Rattle.std.proofs.Common.{◌≡◌, ◌-◌, ◌≤◌, ℕ, List, Option, Some, drop, take, sym, ap, subst, ◌∙◌, arith, rules, refl}
+use Rattle.std.proofs.Common.{◌≡◌, Some, drop, take, sym, ap, subst, ◌∙◌, arith}
 use Rattle.std.proofs.lemmas.List.{take-take}
 use Rattle.vhd_fields.specs.declared.headers.Header.{Header}
 use Rattle.vhd_fields.specs.Headers.{IsHeader}
 use Rattle.vhd_fields.specs.ParentNames.{parent_bytes}
 use Rattle.vhd_image.specs.Bodies.{sector_count, volume_name}
-use Rattle.vhd_image.specs.declared.images.Body.{Body}
-use Rattle.vhd_image.specs.Made.{MayHave, new_header}
 use Rattle.vhd_image.proofs.MakingLaws.{header-proper}
 use Rattle.vhd_image.proofs.LinkLaws.{spelled, one-parent}
 use Rattle.vhd_image.proofs.linking.name_front.Goals as goal

@@ -1,5 +1,4 @@
-use Rattle.std.proofs.Common.{ℕ, ◌<◌, ap, subst, arith}
-use Rattle.sm_base.specs.declared.sizes.Geometry.{Geometry}
+use Rattle.std.proofs.Common.{arith}
 use Rattle.vg_meta.specs.Kept.{listing}
 use Rattle.vg_meta.specs.Tables.{rows, extents_of}
 use Rattle.vg_meta.proofs.ByName.{spread}

@@ -1,4 +1,4 @@
-use Rattle.std.proofs.Common.{◌≡◌, ◌≢◌, ap, sym, ◌∙◌, arith}
+use Rattle.std.proofs.Common.{◌∙◌, arith}
 use Rattle.sm_disk.specs.Held.{reads}
 use Rattle.vhd_volumes.specs.Steps.{held_in}
 use Rattle.vhd_image.proofs.CallLaws.{works-then}

@@ -1,4 +1,4 @@
-use Rattle.std.proofs.Common.{◌≡◌, ◌≢◌, ◌+◌, ◌*◌, ℕ, Option, ap, sym, ◌∙◌, arith}
+use Rattle.std.proofs.Common.{◌+◌, ◌*◌, ap, ◌∙◌, arith}
 use Rattle.sm_base.specs.Numbers.{first}
 use Rattle.sm_disk.specs.Held.{reads}
 use Rattle.vhd_map.specs.Places.{code}

@@ -1,8 +1,5 @@
-use Rattle.std.proofs.Common.{◌≡◌, ◌-◌, Option, None, sym, ap, ◌∙◌, rules}
-use Rattle.std.specs.Result.{result_ok}
+use Rattle.std.proofs.Common.{◌∙◌, rules}
 use Rattle.sm_disk.specs.Held.{reads}
-use Rattle.vhd_fields.specs.declared.footers.Footer.{Footer}
-use Rattle.vhd_fields.specs.Footers.{footer_read}
 use Rattle.vhd_volumes.specs.Steps.{held_in}
 use Rattle.vhd_image.proofs.CallLaws.{only-reads}
 use Rattle.vhd_image.proofs.OpeningLaws.{footer-first, footer-second}

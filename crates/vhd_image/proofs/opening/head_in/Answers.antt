@@ -1,10 +1,9 @@
-use Rattle.std.proofs.Common.{◌≡◌, ◌<◌, ◌≤◌, true, false, Some, None, sym, ◌∙◌, rules, arith}
+use Rattle.std.proofs.Common.{◌≡◌, true, false, Some, None, sym, ◌∙◌, rules, arith}
 use Rattle.std.proofs.lemmas.Bool.{true≢false}
 use Rattle.std.proofs.lemmas.Option.{none-some}
 use Rattle.sm_disk.specs.Held.{reads}
-use Rattle.vhd_layout.specs.Images.{IsFooterOf, IsHeaderOf, footer_at, header_at}
+use Rattle.vhd_layout.specs.Images.{footer_at, header_at}
 use Rattle.vhd_volumes.specs.Steps.{held_in}
-use Rattle.vhd_volumes.specs.Truth.{layout_in}
 use Rattle.vhd_image.proofs.CallLaws.{only-reads}
 use Rattle.vhd_image.proofs.OpeningLaws.{valid-image, valid-image_of, header-same}
 use Rattle.vhd_image.proofs.opening.head_in.Goals as goal

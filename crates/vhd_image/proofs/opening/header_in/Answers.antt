@@ -1,5 +1,4 @@
-use Rattle.std.proofs.Common.{◌≡◌, ap, sym, ◌∙◌}
-use Rattle.std.specs.Result.{result_ok}
+use Rattle.std.proofs.Common.{◌∙◌}
 use Rattle.sm_disk.specs.Held.{reads}
 use Rattle.vhd_volumes.specs.Steps.{held_in}
 use Rattle.vhd_image.proofs.CallLaws.{only-reads}

@@ -1,13 +1,11 @@
-use Rattle.std.proofs.Common.{◌≡◌, ◌*◌, ◌+◌, ◌≤◌, ◌<◌, ◌/◌, ◌⊎◌, ℕ, true, false, min, length, replicate, None, refl, sym, ap, subst, ◌∙◌, rules, arith}
+use Rattle.std.proofs.Common.{◌+◌, ℕ, length, None, refl, sym, ap, subst, ◌∙◌, arith}
 use Rattle.std.proofs.lemmas.Bool.{true≢false}
 use Rattle.std.proofs.lemmas.List.{length-replicate}
 use Rattle.sm_disk.specs.Held.{reads}
-use Rattle.vhd_map.specs.Slots.{slot_of}
 use Rattle.vhd_map.specs.Places.{IsReadable}
-use Rattle.vhd_layout.specs.Layouts.{IsLayout}
 use Rattle.vhd_volumes.specs.Steps.{held_in}
 use Rattle.vhd_volumes.specs.Truth.{layout_in}
-use Rattle.vhd_image.specs.Opened.{few_slots, IsTableTo}
+use Rattle.vhd_image.specs.Opened.{few_slots}
 use Rattle.vhd_image.proofs.CallLaws.{only-none, only-then, only-reads, only-size}
 use Rattle.vhd_image.proofs.ContentLaws.{is-layout}
 use Rattle.vhd_image.proofs.TableLaws.{FitsIn-blank, IsMap-blank, slot_of-blank_map, IsRead, FitsIn-more, rest-more, IsTableTo-more, unreadable-no_image, rows-within, rows-room, rows-all}

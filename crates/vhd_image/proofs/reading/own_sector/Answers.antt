@@ -1,17 +1,15 @@
-use Rattle.std.proofs.Common.{◌≡◌, ◌<◌, ◌+◌, ◌/◌, ◌%◌, ◌-◌, ℕ, Some, None, if◌then◌else◌, false, true, sym, ap, ◌∙◌, rules, arith, subst, List}
+use Rattle.std.proofs.Common.{◌≡◌, ◌<◌, ◌+◌, ◌/◌, ◌%◌, ℕ, Some, None, false, true, sym, ap, ◌∙◌, rules, arith, List}
 use Rattle.std.proofs.lemmas.Bool.{cond-true, cond-false}
 use Rattle.sm_base.specs.declared.sizes.Geometry.{Geometry}
-use Rattle.sm_base.specs.Numbers.{first, IsGeometry}
-use Rattle.sm_disk.specs.Held.{Held, reads}
+use Rattle.sm_disk.specs.Held.{reads}
 use Rattle.vhd_map.specs.Bitmaps.{is_set}
-use Rattle.vhd_map.specs.Places.{spot, blank}
 use Rattle.vhd_map.specs.Slots.{slot_of}
 use Rattle.vhd_layout.specs.Layouts.{place}
 use Rattle.vhd_layout.proofs.ImageLaws.{place-part}
 use Rattle.vhd_volumes.specs.Steps.{sectors_of, held_in}
 use Rattle.vhd_volumes.specs.Truth.{layout_in}
 use Rattle.vhd_image.proofs.CallLaws.{only-size, only-reads}
-use Rattle.vhd_image.proofs.ContentLaws.{is-layout, block-in, part-in, own-slot, own-no_slot, geometry-ok, place-read, block-read, part-small}
+use Rattle.vhd_image.proofs.ContentLaws.{is-layout, part-in, own-slot, own-no_slot, geometry-ok, place-read, block-read, part-small}
 use Rattle.vhd_image.proofs.reading.own_sector.Goals as goal
 
 pub returns-in_default-clause-own : goal.returns-in_default-clause-own

@@ -1,4 +1,4 @@
-use Rattle.std.proofs.Common.{◌≡◌, ◌*◌, ◌+◌, ◌≤◌, arith}
+use Rattle.std.proofs.Common.{◌*◌, ◌+◌, ◌≤◌, arith}
 use Rattle.std.proofs.lemmas.Nat.{mul-le}
 use Rattle.vhd_map.specs.Places.{spot}
 use Rattle.vhd_map.proofs.Spots.{first-most}

@@ -1,7 +1,7 @@
-use Rattle.std.proofs.Common.{◌≡◌, ◌*◌, ◌≤◌, List, Option, Some, ℕ, length, sym, ap, subst, ◌∙◌, arith}
+use Rattle.std.proofs.Common.{◌≡◌, ◌*◌, ◌≤◌, Some, length, sym, ap, ◌∙◌, arith}
 use Rattle.std.proofs.lemmas.Nat.{mul-le}
 use Rattle.vg_meta.specs.Kept.{Kept, listing, rows_alone}
-use Rattle.vg_meta.specs.Tables.{Row, row_of, extents_of, extents_in}
+use Rattle.vg_meta.specs.Tables.{row_of, extents_of}
 use Rattle.vg_meta.proofs.DecodeLaws.{used-le}
 use Rattle.vhd_image.proofs.MakingLaws.{extents-le}
 use Rattle.vhd_image.proofs.sizes.sectors_in.Goals as goal

@@ -1,7 +1,6 @@
-use Rattle.std.proofs.Common.{◌≡◌, ◌+◌, ◌-◌, ◌*◌, ◌≤◌, ℕ, Ok, sym, ap, subst, ◌∙◌, arith}
+use Rattle.std.proofs.Common.{◌≡◌, ◌+◌, ◌-◌, ◌*◌, ℕ, sym, ap, subst, ◌∙◌, arith}
 use Rattle.sm_base.specs.declared.sizes.Geometry.{Geometry}
-use Rattle.sm_disk.specs.Held.{reads}
-use Rattle.vhd_fields.specs.Footers.{footer_bytes, footer_read}
+use Rattle.vhd_fields.specs.Footers.{footer_bytes}
 use Rattle.vhd_map.specs.Slots.{top_of}
 use Rattle.vhd_volumes.specs.Steps.{held_in}
 use Rattle.vhd_volumes.specs.Truth.{HasRoomFor}

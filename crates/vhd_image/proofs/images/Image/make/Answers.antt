@@ -1,19 +1,19 @@
-use Rattle.std.proofs.Common.{◌≡◌, ◌≢◌, ◌+◌, ◌-◌, ◌<◌, ◌≤◌, ℕ, List, Option, Some, None, Ok, replicate, ap, sym, subst, ◌∙◌, rules, arith}
+use Rattle.std.proofs.Common.{◌≡◌, ◌-◌, ℕ, List, Option, Some, None, Ok, replicate, ap, sym, subst, ◌∙◌, arith}
 use Rattle.std.specs.Option.{option_copied}
-use Rattle.sm_base.specs.Numbers.{first, IsGeometry}
+use Rattle.sm_base.specs.Numbers.{first}
 use Rattle.sm_base.specs.declared.sizes.Geometry.{Geometry}
 use Rattle.sm_disk.specs.Held.{reads}
 use Rattle.sm_base.proofs.NumberLemmas.{first-ge}
 use Rattle.vhd_map.specs.Places.{word}
 use Rattle.vhd_volumes.specs.Truth.{IsStanding}
-use Rattle.vhd_fields.specs.Footers.{IsFooter, footer_read, footer_bytes}
+use Rattle.vhd_fields.specs.Footers.{IsFooter, footer_read}
 use Rattle.vhd_fields.specs.declared.footers.Footer.{Footer}
 use Rattle.vhd_fields.specs.declared.headers.Header.{Header}
 use Rattle.vhd_fields.specs.Headers.{IsHeader}
 use Rattle.vhd_layout.specs.Images.{header_at}
 use Rattle.vhd_volumes.specs.Steps.{held_in, sectors_of}
 use Rattle.vhd_image.specs.Made.{new_header, new_footer, IsBlankTo}
-use Rattle.vhd_image.proofs.CallLaws.{works-then, works-size}
+use Rattle.vhd_image.proofs.CallLaws.{works-then}
 use Rattle.vhd_image.proofs.ContentLaws.{geometry-ok}
 use Rattle.vhd_image.proofs.MakingLaws.{header-proper, footer-proper, made, made-stands, some-sectors}
 use Rattle.vhd_image.proofs.OpeningLaws.{header-same}

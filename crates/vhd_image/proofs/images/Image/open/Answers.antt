@@ -1,5 +1,4 @@
-use Rattle.std.proofs.Common.{◌≡◌, ◌*◌, ℕ, inl, inr, List, Option, Some, sym, ap, subst, ◌∙◌, rules, arith}
-use Rattle.sm_base.specs.declared.names.Name.{Name}
+use Rattle.std.proofs.Common.{◌≡◌, ◌*◌, inr, subst}
 use Rattle.sm_base.specs.declared.sizes.Geometry.{Geometry}
 use Rattle.sm_disk.specs.Held.{reads}
 use Rattle.vhd_map.specs.Slots.{slot_of}

@@ -1,12 +1,9 @@
-use Rattle.std.proofs.Common.{◌≡◌, ℕ, IsSome, sym, ap, subst, ◌∙◌, arith}
-use Rattle.sm_disk.specs.Held.{reads}
-use Rattle.vhd_map.specs.Slots.{slot_of}
+use Rattle.std.proofs.Common.{◌≡◌, IsSome, sym, subst, ◌∙◌}
 use Rattle.vhd_volumes.specs.Steps.{held_in, sectors_of}
 use Rattle.vhd_volumes.specs.Truth.{IsTrueIn}
 use Rattle.vhd_image.specs.declared.images.Body.{Body}
 use Rattle.vhd_image.specs.declared.images.Body.TheVariants.{Vhd}
 use Rattle.vhd_image.specs.Bodies.{TrueIn, parent_name, volume_name}
-use Rattle.vhd_image.specs.Changes.{with_parent}
 use Rattle.vhd_fields.specs.declared.headers.Header.{Header}
 use Rattle.vhd_image.proofs.ContentLaws.{geometry-ok}
 use Rattle.vhd_image.proofs.RelinkLaws.{relink-changes, relink-true}

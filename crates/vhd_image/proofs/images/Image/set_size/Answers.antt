@@ -1,7 +1,5 @@
-use Rattle.std.proofs.Common.{◌≡◌, ◌≤◌, ℕ, sym, ap, subst, ◌∙◌, arith}
-use Rattle.sm_disk.specs.Held.{reads}
+use Rattle.std.proofs.Common.{◌≡◌, ◌≤◌, sym, subst, ◌∙◌}
 use Rattle.vhd_fields.specs.Footers.{footer_bytes}
-use Rattle.vhd_map.specs.Slots.{slot_of}
 use Rattle.vhd_volumes.specs.Steps.{held_in, sectors_of}
 use Rattle.vhd_volumes.specs.Truth.{IsTrueIn, disk_sectors}
 use Rattle.vhd_image.specs.declared.images.Body.{Body}

@@ -1,6 +1,4 @@
-use Rattle.std.proofs.Common.{◌≡◌, sym, ap, subst, subst₂, ◌∙◌}
-use Rattle.sm_base.specs.declared.names.Name.{Name}
-use Rattle.vhd_volumes.specs.Steps.{WorksOn}
+use Rattle.std.proofs.Common.{sym, ap, ◌∙◌}
 use Rattle.vhd_image.specs.Bodies.{volume_name}
 use Rattle.vhd_image.proofs.images.Image.write.Goals as goal
 use Rattle.vhd_image.proofs.images.Image.write.Goals.{in-Raw+in_ok-put_sectors-in-Raw, in-Vhd+in_ok-write-in-Vhd}
