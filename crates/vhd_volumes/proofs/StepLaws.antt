@@ -109,4 +109,3 @@ size-after {s} {s'} {t} {t'} n site table = ap (λ x. size_of x t' n) site ∙ a
 
 pub held-after : {s s' : Site} {t t' : Listing} (area : Held) (n : Name) → s' ≡ s → t' ≡ t → volume_of s' t' area n ≡ volume_of s t area n
 held-after {s} {s'} {t} {t'} area n site table = ap (λ x. volume_of x t' area n) site ∙ ap (λ y. volume_of s y area n) table
-
