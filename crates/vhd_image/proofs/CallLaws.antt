@@ -1,40 +1,19 @@
 -- What calls of a store did, one after the other.
-use Rattle.std.proofs.Common.{◌≡◌, ℕ, ◌≤◌, ◌<◌, ◌-◌, ◌*◌, ◌+◌, cond, Bool, List, [], length, Result, Ok, Err, OnErr, refl, sym, ap, ◌∙◌, subst, subst₂, arith}
+use Rattle.std.proofs.Common.{◌≡◌, ℕ, ◌≤◌, ◌<◌, ◌-◌, ◌*◌, ◌+◌, Bool, List, length, refl, sym, ap, ◌∙◌, subst, arith}
 use mathlib.Core.Path.{fun_ext}
-use Rattle.std.specs.Prelude.{nat_lt}
 use Rattle.sm_base.specs.declared.names.Name.{Name}
-use Rattle.sm_disk.specs.Held.{Held, SameHeld, Rose, Torn, Wrote, Puts, reads}
+use Rattle.sm_disk.specs.Held.{Held, SameHeld, Torn, Wrote, Puts, reads}
 use Rattle.sm_disk.specs.Sectors.{sector}
-use Rattle.sm_disk.proofs.HeldLaws.{reads-at, may-at, in_one, reads-elsewhere, reads-wrote, reads-same}
+use Rattle.sm_disk.proofs.HeldLaws.{may-at, in_one, reads-elsewhere, reads-wrote, reads-same}
 use Rattle.sm_disk.proofs.ReachesLaws.{Reaches-same, Reaches-then, Reaches-torn, Reaches-wider}
 use Rattle.sm_disk.proofs.SectorLaws.{sector-one}
 use Rattle.vg_meta.specs.Kept.{Kept, listing}
 use Rattle.vg_meta.specs.Tables.{Listing, rows, extents_of}
 use Rattle.vg_volumes.specs.Sites.{Site, NoLessRoom, volume_of, size_of}
-use Rattle.vg_volumes.specs.Volumes.{SameElsewhere, span, spot, volume}
 use Rattle.vhd_volumes.specs.Steps.{KeepsElsewhere, WorksOn, sectors_of, held_in}
+use Rattle.vhd_volumes.proofs.StepLaws.{NoLessRoom-then}
+use Rattle.vhd_volumes.proofs.VolumeLaws.{SameHeld-volume}
 use Rattle.vhd_image.specs.Calls.{ReadsOnly, IsAt, MayPut}
-
-pub NoLessRoom-then : {a b c : Kept} → NoLessRoom a b → NoLessRoom b c → NoLessRoom a c
-NoLessRoom-then f g = record {
-  spare_rows = omega (arith, f.spare_rows, g.spare_rows);
-  spare_extents = λ n. omega (arith, f.spare_extents n, g.spare_extents n);
-}
-
-KeepsElsewhere-none : (x : ℕ) (es : List ℕ) (a : Held) → KeepsElsewhere x es a a
-KeepsElsewhere-none x es a = record { reads = λ p away. refl; may = λ p v away m. m }
-
-KeepsElsewhere-then : {x : ℕ} {es : List ℕ} {a b c : Held} → KeepsElsewhere x es a b → KeepsElsewhere x es b c → KeepsElsewhere x es a c
-KeepsElsewhere-then f g = record {
-  reads = λ p away. g.reads p away ∙ f.reads p away;
-  may = λ p v away m. f.may p v away (g.may p v away m);
-}
-
-KeepsElsewhere-wrote : {x : ℕ} {es : List ℕ} {a b : Held} → SameElsewhere x es a b → KeepsElsewhere x es a b
-KeepsElsewhere-wrote {x} {es} {a} {b} s = record {
-  reads = λ p away. reads-at a b p (s.floor p away) (s.pending p away);
-  may = λ p v away m. may-at a b p v (s.floor p away) (s.pending p away) m;
-}
 
 KeepsElsewhere-same : (x : ℕ) (es : List ℕ) {a b : Held} → SameHeld a b → KeepsElsewhere x es a b
 KeepsElsewhere-same x es {a} {b} s = record {
@@ -45,37 +24,6 @@ KeepsElsewhere-same x es {a} {b} s = record {
 -- ---- steps
 
 module _ {S : Type 0} {told : Type 0} {site : S → Site} {kept : S → Kept} {area : S → Held} {failed : S → Bool} {faults : S → ℕ} where
-  pub works-none : (n : Name) (s : S) → WorksOn told site kept area failed faults n s s
-  works-none n s = record {
-    same_site = refl;
-    same_table = refl;
-    same_flag = refl;
-    room = record { spare_rows = omega arith; spare_extents = λ m. omega arith };
-    counts = omega arith;
-    elsewhere = λ t. KeepsElsewhere-none (site s).geometry.extent (extents_of (rows (listing (kept s)) n)) (area s);
-  }
-
-  pub works-then : {n : Name} {a b c : S} → WorksOn told site kept area failed faults n a b → WorksOn told site kept area failed faults n b c → WorksOn told site kept area failed faults n a c
-  works-then {n} {a} {b} {c} f g = record {
-    same_site = g.same_site ∙ f.same_site;
-    same_table = g.same_table ∙ f.same_table;
-    same_flag = g.same_flag ∙ f.same_flag;
-    room = NoLessRoom-then f.room g.room;
-    counts = omega (arith, f.counts, g.counts);
-    elsewhere = λ t. KeepsElsewhere-then (f.elsewhere t) (subst₂ (λ s l. KeepsElsewhere s.geometry.extent (extents_of (rows l n)) (area b) (area c)) f.same_site f.same_table (g.elsewhere t));
-  }
-
-  pub works-write : {n : Name} {a b : S} → site b ≡ site a → (listing (kept b) ≡ listing (kept a)) × (failed b ≡ failed a) → NoLessRoom (kept a) (kept b) → faults a ≤ faults b
-      → (told → SameElsewhere (site a).geometry.extent (extents_of (rows (listing (kept a)) n)) (area a) (area b)) → WorksOn told site kept area failed faults n a b
-  works-write s t r c same = record {
-    same_site = s;
-    same_table = t.0;
-    same_flag = t.1;
-    room = r;
-    counts = c;
-    elsewhere = λ k. KeepsElsewhere-wrote (same k);
-  }
-
   -- a call that wrote nothing is a step on any volume
   pub works-only : {leaves : S → Listing → (ℕ → List ℕ) → Type 0} (n : Name) {a b : S} → ReadsOnly told site kept area failed faults leaves a b → WorksOn told site kept area failed faults n a b
   works-only n {a} {b} r = record {
@@ -87,21 +35,7 @@ module _ {S : Type 0} {told : Type 0} {site : S → Site} {kept : S → Kept} {a
     elsewhere = λ k. KeepsElsewhere-same (site a).geometry.extent (extents_of (rows (listing (kept a)) n)) (r.same k);
   }
 
-  -- a volume's size, where site and table are the same
-  pub works-size : {n : Name} {a b : S} → WorksOn told site kept area failed faults n a b → sectors_of site kept b n ≡ sectors_of site kept a n
-  works-size {n} {a} {b} w = ap (λ x. size_of x (listing (kept b)) n) w.same_site ∙ ap (λ y. size_of (site a) y n) w.same_table
-
-  pub works-geometry : {n : Name} {a b : S} → WorksOn told site kept area failed faults n a b → (site b).geometry ≡ (site a).geometry
-  works-geometry w = ap (λ (x : Site). x.geometry) w.same_site
-
 -- ---- calls that wrote nothing
-
-SameHeld-volume : (x : ℕ) (es : List ℕ) {a b : Held} → SameHeld a b → SameHeld (volume x es a) (volume x es b)
-unfolding volume
-SameHeld-volume x es {a} {b} s = record {
-  floor = λ p. ap (λ y. cond (nat_lt p (span x es)) y []) (s.floor (spot x es p));
-  pending = λ p. ap (λ y. cond (nat_lt p (span x es)) y []) (s.pending (spot x es p));
-}
 
 module _ {S : Type 0} {told : Type 0} {site : S → Site} {kept : S → Kept} {area : S → Held} {failed : S → Bool} {faults : S → ℕ} {leaves : S → Listing → (ℕ → List ℕ) → Type 0} where
   pub only-none : (s : S) → ReadsOnly told site kept area failed faults leaves s s
@@ -188,21 +122,6 @@ module _ {S : Type 0} (site : S → Site) (kept : S → Kept) (area : S → Held
   pub reads_put_in : (n : Name) (a b : S) (place : ℕ) (bytes : List ℕ) → site b ≡ site a → listing (kept b) ≡ listing (kept a) → length bytes ≡ 512
       → Wrote place bytes (held_in site kept area a n) (volume_of (site a) (listing (kept a)) (area b) n) → reads (held_in site kept area b n) place ≡ bytes
   reads_put_in n a b place bytes s t long wrote = reads-put long (subst (λ (h : Held). Wrote place bytes (held_in site kept area a n) h) (after n a b s t) wrote)
-
--- ---- answers
-
--- a count that rose later rose
-pub rose_later : {before mid now : ℕ} → before ≤ mid → Rose mid now → Rose before now
-rose_later h r = omega (arith, h, r)
-
--- and one that rose earlier did
-pub rose_before : (before : ℕ) {mid now : ℕ} → mid ≤ now → Rose before mid → Rose before now
-rose_before before h r = omega (arith, h, r)
-
--- what holds at every return holds at an Err
-pub on_err : {T E P : Type 0} (r : Result T E) → P → OnErr r P
-on_err (Ok x) p = tt
-on_err (Err e) p = p
 
 -- ---- reads around a write of one sector
 

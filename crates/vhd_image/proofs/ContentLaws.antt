@@ -1,5 +1,5 @@
 -- What an image says of one sector, by its map.
-use Rattle.std.proofs.Common.{◌≡◌, ℕ, ◌+◌, ◌-◌, ◌*◌, ◌/◌, ◌%◌, ◌<◌, if◌then◌else◌, List, length, Option, Some, None, sym, ap, subst, ◌∙◌, arith}
+use Rattle.std.proofs.Common.{◌≡◌, ℕ, ◌+◌, ◌-◌, ◌*◌, ◌/◌, ◌%◌, ◌<◌, if◌then◌else◌, List, Option, Some, None, sym, ap, subst, ◌∙◌, arith}
 use Rattle.std.proofs.lemmas.Bool.{cond-true, lt-ltb}
 use Rattle.std.proofs.lemmas.Nat.{div_below}
 use Rattle.sm_base.specs.Numbers.{IsGeometry, first}
@@ -32,12 +32,6 @@ module _ (g : Geometry) (n : ℕ) (head : Head) (m : List (Option ℕ)) (ok : Is
   -- a sector of the disk is one of a block that the map has
   pub block-below : (s : ℕ) → s < disk_sectors head.footer → s / g.block < disk_blocks g head.footer
   block-below s below = div_below s g.block (disk_blocks g head.footer) (omega (arith, sectors_are, below)) (omega (arith, ok.block_least))
-
-  pub block-in : (s : ℕ) → s < disk_sectors head.footer → s / g.block < length m
-  block-in s below = omega (arith, block-below s below, stands.most, stands.entries)
-
-  pub block-small : (s : ℕ) → s < disk_sectors head.footer → s / g.block < 4294967296
-  block-small s below = omega (arith, block-below s below, stands.most, ok.entries_most)
 
   -- each part of a slot stands in the volume, in front of the last sector
   pub part-in : (b k j : ℕ) → slot_of m b ≡ Some k → j < 1 + g.block → place (layout_in g head.footer n) k j < n - 1

@@ -19,10 +19,6 @@ step : (t : Bool) (e : FieldFault) (rest : Option FieldFault) → cond t rest (S
 step true e rest none = (refl, none)
 step false e rest none = absurd (none-some e (sym none))
 
-record Read (bytes : List ℕ) (f : Footer) : Type 0 where
-  none : footer_fault bytes ≡ None
-  fields : footer_fields bytes ≡ f
-
 read_of : (fault : Option FieldFault) (fields f : Footer) → result_ok (unless_fault fault fields) ≡ Some f → (fault ≡ None) × (fields ≡ f)
 read_of None fields f is = (refl, cc)
 read_of (Some e) fields f is = absurd (none-some f is)

@@ -61,9 +61,6 @@ ends n p = (p == 0) || (p == n - 1)
 or_none : (x y : Bool) → x ≡ false → y ≡ false → (x || y) ≡ false
 or_none x y a b = rw (a, b) refl
 
-or_left : (x y : Bool) → x ≡ true → (x || y) ≡ true
-or_left x y a = rw a refl
-
 or_right : (x y : Bool) → y ≡ true → (x || y) ≡ true
 or_right true y b = refl
 or_right false y b = b

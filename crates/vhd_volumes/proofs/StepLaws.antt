@@ -1,13 +1,13 @@
 -- What the calls of a step did to the rest of the store: each call of a store is such a step, and steps follow one another.
-use Rattle.std.proofs.Common.{◌≡◌, ℕ, ◌≤◌, Bool, List, refl, ap, ◌∙◌, subst₂, arith}
+use Rattle.std.proofs.Common.{◌≡◌, ℕ, ◌≤◌, Bool, List, Result, Ok, Err, OnErr, refl, ap, ◌∙◌, subst₂, arith}
 use Rattle.sm_base.specs.declared.names.Name.{Name}
-use Rattle.sm_disk.specs.Held.{Held, Keeps, SameHeld}
-use Rattle.sm_disk.proofs.HeldLaws.{may-at, reads-at, Keeps-same}
+use Rattle.sm_disk.specs.Held.{Held, Keeps, Rose}
+use Rattle.sm_disk.proofs.HeldLaws.{may-at, reads-at}
 use Rattle.vg_meta.specs.Kept.{Kept, listing}
 use Rattle.vg_meta.specs.Tables.{Listing, rows, extents_of}
 use Rattle.vg_volumes.specs.Sites.{Site, NoLessRoom, volume_of, size_of}
 use Rattle.vg_volumes.specs.Volumes.{SameElsewhere}
-use Rattle.vhd_volumes.specs.Steps.{KeepsElsewhere, WorksOn}
+use Rattle.vhd_volumes.specs.Steps.{KeepsElsewhere, WorksOn, sectors_of}
 
 -- ---- elsewhere
 
@@ -33,74 +33,61 @@ KeepsElsewhere-keeps x es k = record { reads = λ p away. k.reads p; may = λ p 
 
 -- ---- steps
 
-module _ {S : Type 0} (told : Type 0) (site : S → Site) (kept : S → Kept) (area : S → Held) (failed : S → Bool) (faults : S → ℕ) where
-  abbrev pub Works : Name → S → S → Type 0
-  Works n a b = WorksOn told site kept area failed faults n a b
+pub NoLessRoom-none : (k : Kept) → NoLessRoom k k
+NoLessRoom-none k = record { spare_rows = omega arith; spare_extents = λ n. omega arith }
 
-  pub NoLessRoom-none : (k : Kept) → NoLessRoom k k
-  NoLessRoom-none k = record { spare_rows = omega arith; spare_extents = λ n. omega arith }
+pub NoLessRoom-then : {a b c : Kept} → NoLessRoom a b → NoLessRoom b c → NoLessRoom a c
+NoLessRoom-then f g = record {
+  spare_rows = omega (arith, f.spare_rows, g.spare_rows);
+  spare_extents = λ n. omega (arith, f.spare_extents n, g.spare_extents n);
+}
 
-  pub NoLessRoom-then : {a b c : Kept} → NoLessRoom a b → NoLessRoom b c → NoLessRoom a c
-  NoLessRoom-then f g = record {
-    spare_rows = omega (arith, f.spare_rows, g.spare_rows);
-    spare_extents = λ n. omega (arith, f.spare_extents n, g.spare_extents n);
-  }
+pub works-none : {S : Type 0} (told : Type 0) (site : S → Site) (kept : S → Kept) (area : S → Held) (failed : S → Bool) (faults : S → ℕ) (n : Name) (s : S) → WorksOn told site kept area failed faults n s s
+works-none told site kept area failed faults n s = record {
+  same_site = refl;
+  same_table = refl;
+  same_flag = refl;
+  room = NoLessRoom-none (kept s);
+  counts = omega arith;
+  elsewhere = λ t. KeepsElsewhere-none (site s).geometry.extent (extents_of (rows (listing (kept s)) n)) (area s);
+}
 
-  pub works-none : (n : Name) (s : S) → Works n s s
-  works-none n s = record {
-    same_site = refl;
-    same_table = refl;
-    same_flag = refl;
-    room = NoLessRoom-none (kept s);
-    counts = omega arith;
-    elsewhere = λ t. KeepsElsewhere-none (site s).geometry.extent (extents_of (rows (listing (kept s)) n)) (area s);
-  }
+pub works-then : {S : Type 0} {told : Type 0} {site : S → Site} {kept : S → Kept} {area : S → Held} {failed : S → Bool} {faults : S → ℕ} {n : Name} {a b c : S}
+    → WorksOn told site kept area failed faults n a b → WorksOn told site kept area failed faults n b c → WorksOn told site kept area failed faults n a c
+works-then {S} {told} {site} {kept} {area} {failed} {faults} {n} {a} {b} {c} f g = record {
+  same_site = g.same_site ∙ f.same_site;
+  same_table = g.same_table ∙ f.same_table;
+  same_flag = g.same_flag ∙ f.same_flag;
+  room = NoLessRoom-then f.room g.room;
+  counts = omega (arith, f.counts, g.counts);
+  elsewhere = λ t. KeepsElsewhere-then (f.elsewhere t) (subst₂ (λ s l. KeepsElsewhere s.geometry.extent (extents_of (rows l n)) (area b) (area c)) f.same_site f.same_table (g.elsewhere t));
+}
 
-  pub works-then : {n : Name} {a b c : S} → Works n a b → Works n b c → Works n a c
-  works-then {n} {a} {b} {c} f g = record {
-    same_site = g.same_site ∙ f.same_site;
-    same_table = g.same_table ∙ f.same_table;
-    same_flag = g.same_flag ∙ f.same_flag;
-    room = NoLessRoom-then f.room g.room;
-    counts = omega (arith, f.counts, g.counts);
-    elsewhere = λ t. KeepsElsewhere-then (f.elsewhere t) (subst₂ (λ s l. KeepsElsewhere s.geometry.extent (extents_of (rows l n)) (area b) (area c)) f.same_site f.same_table (g.elsewhere t));
-  }
+-- a call that wrote into the volume
+pub works-write : {S : Type 0} {told : Type 0} {site : S → Site} {kept : S → Kept} {area : S → Held} {failed : S → Bool} {faults : S → ℕ} {n : Name} {a b : S}
+    → site b ≡ site a → (listing (kept b) ≡ listing (kept a)) × (failed b ≡ failed a) → NoLessRoom (kept a) (kept b) → faults a ≤ faults b
+    → (told → SameElsewhere (site a).geometry.extent (extents_of (rows (listing (kept a)) n)) (area a) (area b)) → WorksOn told site kept area failed faults n a b
+works-write s t r c same = record {
+  same_site = s;
+  same_table = t.0;
+  same_flag = t.1;
+  room = r;
+  counts = c;
+  elsewhere = λ k. KeepsElsewhere-wrote (same k);
+}
 
-  -- a call that read
-  pub works-read : (n : Name) {a b : S} → site b ≡ site a → (listing (kept b) ≡ listing (kept a)) × (failed b ≡ failed a) → NoLessRoom (kept a) (kept b) → faults a ≤ faults b
-      → (told → SameHeld (area a) (area b)) → Works n a b
-  works-read n {a} {b} s t r c same = record {
-    same_site = s;
-    same_table = t.0;
-    same_flag = t.1;
-    room = r;
-    counts = c;
-    elsewhere = λ k. KeepsElsewhere-keeps (site a).geometry.extent (extents_of (rows (listing (kept a)) n)) (Keeps-same (same k));
-  }
-
-  -- a call that wrote into the volume
-  pub works-write : {n : Name} {a b : S} → site b ≡ site a → (listing (kept b) ≡ listing (kept a)) × (failed b ≡ failed a) → NoLessRoom (kept a) (kept b) → faults a ≤ faults b
-      → (told → SameElsewhere (site a).geometry.extent (extents_of (rows (listing (kept a)) n)) (area a) (area b)) → Works n a b
-  works-write s t r c same = record {
-    same_site = s;
-    same_table = t.0;
-    same_flag = t.1;
-    room = r;
-    counts = c;
-    elsewhere = λ k. KeepsElsewhere-wrote (same k);
-  }
-
-  -- a sync
-  pub works-sync : (n : Name) {a b : S} → site b ≡ site a → (listing (kept b) ≡ listing (kept a)) × (failed b ≡ failed a) → NoLessRoom (kept a) (kept b) → faults a ≤ faults b
-      → (told → Keeps (area a) (area b)) → Works n a b
-  works-sync n {a} {b} s t r c keeps = record {
-    same_site = s;
-    same_table = t.0;
-    same_flag = t.1;
-    room = r;
-    counts = c;
-    elsewhere = λ k. KeepsElsewhere-keeps (site a).geometry.extent (extents_of (rows (listing (kept a)) n)) (keeps k);
-  }
+-- a sync
+pub works-sync : {S : Type 0} (told : Type 0) (site : S → Site) (kept : S → Kept) (area : S → Held) (failed : S → Bool) (faults : S → ℕ) (n : Name) (a b : S)
+    → site b ≡ site a → (listing (kept b) ≡ listing (kept a)) × (failed b ≡ failed a) → NoLessRoom (kept a) (kept b) → faults a ≤ faults b
+    → (told → Keeps (area a) (area b)) → WorksOn told site kept area failed faults n a b
+works-sync told site kept area failed faults n a b s t r c keeps = record {
+  same_site = s;
+  same_table = t.0;
+  same_flag = t.1;
+  room = r;
+  counts = c;
+  elsewhere = λ k. KeepsElsewhere-keeps (site a).geometry.extent (extents_of (rows (listing (kept a)) n)) (keeps k);
+}
 
 -- ---- the volume's view after a step, told in the site and the table of its beginning
 
@@ -109,3 +96,18 @@ size-after {s} {s'} {t} {t'} n site table = ap (λ x. size_of x t' n) site ∙ a
 
 pub held-after : {s s' : Site} {t t' : Listing} (area : Held) (n : Name) → s' ≡ s → t' ≡ t → volume_of s' t' area n ≡ volume_of s t area n
 held-after {s} {s'} {t} {t'} area n site table = ap (λ x. volume_of x t' area n) site ∙ ap (λ y. volume_of s y area n) table
+
+pub works-size : {S : Type 0} {told : Type 0} {site : S → Site} {kept : S → Kept} {area : S → Held} {failed : S → Bool} {faults : S → ℕ} {n : Name} {a b : S}
+    → WorksOn told site kept area failed faults n a b → sectors_of site kept b n ≡ sectors_of site kept a n
+works-size {S} {told} {site} {kept} {area} {failed} {faults} {n} {a} {b} w = size-after n w.same_site w.same_table
+
+-- ---- answers
+
+-- a count that rose later rose
+pub rose_later : {before mid now : ℕ} → before ≤ mid → Rose mid now → Rose before now
+rose_later h r = omega (arith, h, r)
+
+-- what holds at every return holds at an Err
+pub on_err : {T E P : Type 0} (r : Result T E) → P → OnErr r P
+on_err (Ok x) p = tt
+on_err (Err e) p = p

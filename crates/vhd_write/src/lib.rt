@@ -17,7 +17,7 @@
 //! **What a stop may leave.** At every return, whatever a stop may leave of the volume is a valid image, and follows one
 //! that a stop could leave as the call began: each sector of the disk is as it was there, or held with the bytes of this
 //! write (`IsGuarded` of `vhd_volumes`). A write is not whole: of its sectors some may be new, and they last only once
-//! the store is synced, which is the caller's. After an `Err` the map has grown by some of the blocks, and what a read
+//! the store is synced, which is the caller's. After an `Err` the map may have grown by some of the blocks, and what a read
 //! gives of the written sectors is open.
 //!
 //! **What it costs.** No memory: one buffer of the pool, of a slot's length, is taken and given back on each path. Of the

@@ -2,7 +2,7 @@ use Rattle.std.proofs.Common.{◌-◌, ℕ, subst}
 use Rattle.vhd_fields.specs.Footers.{footer_bytes}
 use Rattle.vhd_volumes.specs.Steps.{held_in, sectors_of}
 use Rattle.vhd_image.specs.Calls.{MayPut}
-use Rattle.vhd_image.proofs.CallLaws.{works-then}
+use Rattle.vhd_volumes.proofs.StepLaws.{works-then}
 use Rattle.vhd_image.proofs.FooterSteps.{ends-one, ends-two}
 use Rattle.vhd_image.proofs.changes.put_footers.Goals as goal
 

@@ -3,7 +3,8 @@ use Rattle.sm_disk.specs.Held.{reads}
 use Rattle.vhd_volumes.specs.Steps.{held_in}
 use Rattle.vhd_image.specs.Calls.{MayPut}
 use Rattle.vhd_image.specs.Links.{link_bytes}
-use Rattle.vhd_image.proofs.CallLaws.{works-then, works-only, only-then, only-held, only-reads, may_put_same, may_put_after}
+use Rattle.vhd_image.proofs.CallLaws.{works-only, only-then, only-held, only-reads, may_put_same, may_put_after}
+use Rattle.vhd_volumes.proofs.StepLaws.{works-then}
 use Rattle.vhd_image.proofs.linking.put_link.Goals as goal
 
 pub returns-in_err-front-clause-may_put : goal.returns-in_err-front-clause-may_put

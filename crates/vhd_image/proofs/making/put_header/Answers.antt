@@ -1,7 +1,7 @@
 use Rattle.std.proofs.Common.{◌∙◌, arith}
 use Rattle.sm_disk.specs.Held.{reads}
 use Rattle.vhd_volumes.specs.Steps.{held_in}
-use Rattle.vhd_image.proofs.CallLaws.{works-then}
+use Rattle.vhd_volumes.proofs.StepLaws.{works-then}
 use Rattle.vhd_image.proofs.MakingLaws.{header-wrote}
 use Rattle.vhd_image.proofs.making.put_header.Goals as goal
 

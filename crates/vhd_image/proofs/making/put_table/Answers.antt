@@ -3,7 +3,7 @@ use Rattle.sm_base.specs.Numbers.{first}
 use Rattle.sm_disk.specs.Held.{reads}
 use Rattle.vhd_map.specs.Places.{code}
 use Rattle.vhd_volumes.specs.Steps.{held_in}
-use Rattle.vhd_image.proofs.CallLaws.{works-then, works-size}
+use Rattle.vhd_volumes.proofs.StepLaws.{works-then, works-size}
 use Rattle.vhd_image.proofs.TableLaws.{slot_of-blank_map}
 use Rattle.vhd_image.proofs.MakingLaws.{rows-first, rows-end, blank-more}
 use Rattle.vhd_image.proofs.making.put_table.Goals as goal

@@ -8,7 +8,8 @@ use Rattle.vhd_write.specs.Spans.{IsSpan, Given}
 use Rattle.vhd_write.proofs.MapLaws.{given-none, given-more, given-to, top-grown, with_block-gives}
 use Rattle.vhd_write.proofs.PartLaws.{new-slot-in}
 use Rattle.vhd_write.proofs.LoopLaws.{span-order, put-none, put-reaches, put-more}
-use Rattle.vhd_write.proofs.WorkLaws.{works-none, works-then, works-layout, works-room, room-less}
+use Rattle.vhd_write.proofs.WorkLaws.{works-layout, works-room, room-less}
+use Rattle.vhd_volumes.proofs.StepLaws.{works-none, works-then}
 use Rattle.vhd_write.proofs.blocks.put_blocks.Goals as goal
 
 pub loop-block-init : goal.loop-block-init

@@ -1,6 +1,6 @@
 use Rattle.vg_meta.specs.Kept.{listing}
 use Rattle.vg_meta.specs.Tables.{rows, extents_of}
-use Rattle.vhd_write.proofs.WorkLaws.{works-sync}
+use Rattle.vhd_volumes.proofs.StepLaws.{works-sync}
 use Rattle.vhd_volumes.proofs.VolumeLaws.{IsSettled-volume}
 use Rattle.vhd_write.proofs.CallLaws.{keeps-view}
 use Rattle.vhd_write.proofs.calls.settle.Goals as goal

@@ -4,7 +4,8 @@ use Rattle.vhd_map.specs.Slots.{slot_of}
 use Rattle.std.proofs.lemmas.Bool.{true≢false}
 use Rattle.vhd_write.specs.Passes.{layout_now, held_now, PutsBitsAll, PutsTable, AreSet, IsTableSector}
 use Rattle.vhd_write.proofs.BitLaws.{goes-bits, goes-table, bits-kept}
-use Rattle.vhd_write.proofs.WorkLaws.{works-then, works-layout}
+use Rattle.vhd_write.proofs.WorkLaws.{works-layout}
+use Rattle.vhd_volumes.proofs.StepLaws.{works-then}
 use Rattle.vhd_write.proofs.finish.finish.Goals as goal
 
 pub returns-in_err-set_bitmaps-clause-works : goal.returns-in_err-set_bitmaps-clause-works

@@ -4,7 +4,8 @@ use Rattle.vhd_map.specs.Slots.{slot_of}
 use Rattle.sm_disk.proofs.HeldLaws.{SameHeld-then, reads-same}
 use Rattle.vhd_write.specs.Passes.{layout_now, held_now, IsFull}
 use Rattle.vhd_write.proofs.LoopLaws.{full-more, full-as, true_on}
-use Rattle.vhd_write.proofs.WorkLaws.{works-then, works-layout}
+use Rattle.vhd_write.proofs.WorkLaws.{works-layout}
+use Rattle.vhd_volumes.proofs.StepLaws.{works-then}
 use Rattle.vhd_write.proofs.finish.is_complete.Goals as goal
 
 pub returns-in_err-is_full-clause-works : goal.returns-in_err-is_full-clause-works

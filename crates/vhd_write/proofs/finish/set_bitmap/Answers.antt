@@ -6,7 +6,7 @@ use Rattle.vhd_map.specs.Bitmaps.{is_set}
 use Rattle.vhd_write.specs.Passes.{layout_now, held_now}
 use Rattle.vhd_write.proofs.PartLaws.{place_is, part_as, slot-in}
 use Rattle.vhd_write.proofs.BitLaws.{place-low, sector-whole, bits-all, bits-more, bitmap-reaches, bitmap-done, bitmap-wrote}
-use Rattle.vhd_write.proofs.WorkLaws.{works-then, works-size}
+use Rattle.vhd_volumes.proofs.StepLaws.{works-then, works-size}
 use Rattle.vhd_write.proofs.finish.set_bitmap.Goals as goal
 
 pub get-requires : goal.get-requires

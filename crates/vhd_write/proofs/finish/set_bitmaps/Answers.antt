@@ -3,7 +3,8 @@ use Rattle.sm_disk.specs.Held.{Reaches, reads}
 use Rattle.vhd_map.specs.Slots.{slot_of}
 use Rattle.vhd_write.specs.Passes.{layout_now, held_now, PutsBitsOf, AreSet}
 use Rattle.vhd_write.proofs.BitLaws.{bits-reaches, bits-done}
-use Rattle.vhd_write.proofs.WorkLaws.{works-then, works-layout}
+use Rattle.vhd_write.proofs.WorkLaws.{works-layout}
+use Rattle.vhd_volumes.proofs.StepLaws.{works-then}
 use Rattle.vhd_write.proofs.finish.set_bitmaps.Goals as goal
 
 pub returns-in_err-set_bitmap-clause-works : goal.returns-in_err-set_bitmap-clause-works

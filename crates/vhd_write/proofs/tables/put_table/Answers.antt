@@ -4,7 +4,8 @@ use Rattle.vhd_map.specs.Slots.{slot_of}
 use Rattle.sm_disk.proofs.ReachesLaws.{Reaches-then}
 use Rattle.vhd_write.specs.Passes.{layout_now, held_now, PutsTable, IsTableSector}
 use Rattle.vhd_write.proofs.LoopLaws.{full-more}
-use Rattle.vhd_write.proofs.WorkLaws.{works-then, works-layout}
+use Rattle.vhd_write.proofs.WorkLaws.{works-layout}
+use Rattle.vhd_volumes.proofs.StepLaws.{works-then}
 use Rattle.vhd_write.proofs.tables.put_table.Goals as goal
 
 pub returns-in_err-put_entries-clause-works : goal.returns-in_err-put_entries-clause-works

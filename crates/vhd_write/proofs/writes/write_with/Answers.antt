@@ -7,7 +7,8 @@ use Rattle.vhd_volumes.specs.Steps.{sectors_of}
 use Rattle.vhd_volumes.specs.Truth.{disk_blocks, layout_in}
 use Rattle.vhd_write.specs.Passes.{held_now, PutsData, ArePut, GoesOn, IsFinished}
 use Rattle.vhd_write.proofs.LoopLaws.{true_on}
-use Rattle.vhd_write.proofs.WorkLaws.{works-then, works-layout, works-room}
+use Rattle.vhd_write.proofs.WorkLaws.{works-layout, works-room}
+use Rattle.vhd_volumes.proofs.StepLaws.{works-then}
 use Rattle.vhd_write.proofs.TopLaws.{IsSpanOf, first-pass, room-all, new-map, new-room, new-stands, err-first, still-first, written-now, err-after, still-after, written-then}
 use Rattle.vhd_write.proofs.writes.write_with.Goals as goal
 

@@ -13,7 +13,7 @@ use Rattle.vhd_fields.specs.Headers.{IsHeader}
 use Rattle.vhd_layout.specs.Images.{header_at}
 use Rattle.vhd_volumes.specs.Steps.{held_in, sectors_of}
 use Rattle.vhd_image.specs.Made.{new_header, new_footer, IsBlankTo}
-use Rattle.vhd_image.proofs.CallLaws.{works-then}
+use Rattle.vhd_volumes.proofs.StepLaws.{works-then}
 use Rattle.vhd_image.proofs.ContentLaws.{geometry-ok}
 use Rattle.vhd_image.proofs.MakingLaws.{header-proper, footer-proper, made, made-stands, some-sectors}
 use Rattle.vhd_image.proofs.OpeningLaws.{header-same}
