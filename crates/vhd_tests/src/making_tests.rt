@@ -1,0 +1,72 @@
+//! A new image, byte for byte.
+
+ghost use Rattle.std.specs.Prelude.{◌≡◌, false, IfOk, OnOk};
+
+use crate::fixtures::{add, holds, new_device, opened, volume};
+use crate::images::make;
+use crate::sectors::{UID, footer, header, stale};
+use crate::volumes::{get, put, sectors_in};
+use sm_base::Name;
+use std::alloc::Global;
+use std::test::Fail;
+use vg_volumes::Store;
+
+/// What the sector of a new image of 65,536 bytes in 160 sectors holds.
+pub fn wanted(at: u64) -> [u8; 512] {
+    match at {
+        0 | 159 => footer(),
+        1 => header(),
+        2 => [0; 512],
+        3 => [0xff; 512],
+        _ => stale(at),
+    }
+}
+
+/// Writes stale bytes into each sector of a volume.
+pub fn spoil<S: Store>(store: &mut S, name: &Name) -> Result<(), Fail>
+    ensures { S.failed store.new ≡ S.failed store.old }
+{
+    for at in 0..sectors_in(store, name)? {
+        put(store, name, at, &stale(at))??;
+    }
+    Ok(())
+}
+
+/// Compares each sector with what it is to hold.
+fn compare<S: Store>(store: &mut S, name: &Name) -> Result<(), Fail> {
+    holds(sectors_in(store, name)? == 160, "160 sectors")?;
+    for at in 0..160 {
+        let bytes = get(store, name, at)?;
+        if bytes != wanted(at) {
+            return Err(Fail::new(format_args!("sector {at}")));
+        }
+    }
+    Ok(())
+}
+
+/// Makes the volume and the image, and compares.
+fn make_and_compare<S: Store>(alloc: Global, store: &mut S) -> Result<(), Fail>
+    requires { S.failed store.old ≡ false }
+{
+    let name = volume(1);
+    add(alloc, store, &name, &[31, 30, 20, 40, 17])?;
+    spoil(store, &name)?;
+    let image = make(alloc, store, &name, UID, 128)?;
+    holds(
+        image.sectors() == 128 && image.name() == name,
+        "the image in memory",
+    )?;
+    holds(
+        image.parent().is_none() && image.top() == 0,
+        "no parent and no slot",
+    )?;
+    compare(store, &name)
+}
+
+#[test]
+fn a_new_image_has_its_bytes_and_leaves_the_rest(rt: HostRuntime) -> Result<(), Fail> {
+    let mut group = opened(rt.alloc(), new_device(rt.alloc())?)?;
+    let done = make_and_compare(rt.alloc(), &mut group);
+    let _disk = group.into_disk();
+    done
+}
