@@ -72,10 +72,10 @@ first_child t rs name there whole =
     placed_image t (fork_area rs) first false 21 name (empty_child (Vhd base)) there whole
     (λ s below. area_second (top_image 17) (empty_child (Vhd base)) (empty_child (Vhd base)) rs (32 * 21 + s) s refl below) (empty_valid (Vhd base) base_named)
 
-pub second_child : (t : Listing) (rs : List Record) (name : Name) → rows t (Vhd second) ≡ Some (image_row false name 26)
+pub second_child : (t : Listing) (rs : List Record) (hidden : Bool) (name : Name) → rows t (Vhd second) ≡ Some (image_row hidden name 26)
     → image_extents (making t) (Vhd second) 5 ≡ 5 → image_of (content_with t (fork_area rs)) (Vhd second) ≡ Some child
-second_child t rs name there whole =
-    placed_image t (fork_area rs) second false 26 name (empty_child (Vhd base)) there whole
+second_child t rs hidden name there whole =
+    placed_image t (fork_area rs) second hidden 26 name (empty_child (Vhd base)) there whole
     (λ s below. area_third (top_image 17) (empty_child (Vhd base)) (empty_child (Vhd base)) rs (32 * 26 + s) s refl below) (empty_valid (Vhd base) base_named)
 
 pub child_empty : (s : ℕ) → child.own s ≡ None
@@ -141,7 +141,7 @@ pub unforked_records : records unforked ≡ first_record ∷ []
 unfolding row_of name_eq
 unforked_records = one_record one_disk (top_image 17) (empty_child (Vhd base)) (empty_child (Vhd base)) first_record refl first_right
 
-recorded_one : (t : Listing) → HasRecords t → (u : List ℕ) → record_of (content_with t (fork_area (first_record ∷ []))) u ≡ record_of unforked u
+pub recorded_one : (t : Listing) → HasRecords t → (u : List ℕ) → record_of (content_with t (fork_area (first_record ∷ []))) u ≡ record_of unforked u
 recorded_one t there u =
     ap (find (is_record_of u)) (one_record t (top_image 17) (empty_child (Vhd base)) (empty_child (Vhd base)) first_record there first_right ∙ sym unforked_records)
 
@@ -231,7 +231,7 @@ ended_8 =
       no_base = refl;
       image = below ∙ sym unforked_image;
       disk_image = over (forked_content fork_8) (Vhd first) (first_child fork_8 (first_record ∷ second_record ∷ []) (Vhd first) refl refl) below;
-      twin_image = over (forked_content fork_8) (Vhd second) (second_child fork_8 (first_record ∷ second_record ∷ []) (Vhd second) refl refl) below;
+      twin_image = over (forked_content fork_8) (Vhd second) (second_child fork_8 (first_record ∷ second_record ∷ []) false (Vhd second) refl refl) below;
       recorded = recorded_two fork_8 refl;
       twin_recorded = ap (find (is_record_of second)) (records_two fork_8 refl);
     }

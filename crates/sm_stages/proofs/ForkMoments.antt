@@ -1,4 +1,4 @@
--- The tables at the moments of the worked fork and the worked swap, written out.
+-- The tables at the moments of the worked fork, of the worked swap and of the worked relink, written out.
 use Rattle.std.proofs.Common.{◌≡◌, ℕ, true, false, List, [], ◌∷◌, refl}
 use Rattle.sm_base.specs.Names.{name_cmp, spelling, uuid_text}
 use Rattle.sm_base.specs.declared.names.Name.{Name}
@@ -8,7 +8,7 @@ use Rattle.uuid.specs.Text.{by_index}
 use Rattle.vg_meta.specs.Changes.{put, without, with_row}
 use Rattle.vg_meta.specs.Tables.{Row, Listing, row_of, name_eq}
 use Rattle.sm_standing.specs.Examples.{record_row}
-use Rattle.sm_stages.specs.Worked.{first, second, base, image_row, fork_after, swap_after}
+use Rattle.sm_stages.specs.Worked.{first, second, base, image_row, fork_after, swap_after, relink_after}
 
 abbrev pub entry_row : Name → Row
 entry_row n = record { name = n; hidden = false; fresh = false; extents = [] }
@@ -113,3 +113,19 @@ is_swap_4 = refl
 pub is_swap_5 : swap_after 5 ≡ swap_5
 unfolding put without with_row row_of name_eq name_cmp spelling uuid_text by_index
 is_swap_5 = refl
+
+-- ---- the end of the relink
+
+abbrev pub relink_1 : Listing
+relink_1 = listed 5 (image_row false (Vhd first) 21 ∷ image_row true (Vhd second) 26 ∷ image_row true (Vhd base) 16 ∷ [])
+
+abbrev pub relink_2 : Listing
+relink_2 = listed 6 (image_row false (Vhd first) 21 ∷ image_row true (Vhd base) 16 ∷ [])
+
+pub is_relink_1 : relink_after 1 ≡ relink_1
+unfolding without name_eq
+is_relink_1 = refl
+
+pub is_relink_2 : relink_after 2 ≡ relink_2
+unfolding without name_eq
+is_relink_2 = refl

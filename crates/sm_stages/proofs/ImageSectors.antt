@@ -201,7 +201,8 @@ raw_same a b u v was now h =
 
 -- ---- all of them
 
-gone : (a b : Content) (n : Name) → row a n ≡ None → row b n ≡ None → image_of b n ≡ image_of a n
+-- no image where there is no volume
+pub gone : (a b : Content) (n : Name) → row a n ≡ None → row b n ≡ None → image_of b n ≡ image_of a n
 unfolding image_of
 gone a b (Vhd u) was now =
     ap (λ o. o >>= (λ (r : Row). cond r.fresh None (vhd_image b (Vhd u) r))) now ∙ sym (ap (λ o. o >>= (λ (r : Row). cond r.fresh None (vhd_image a (Vhd u) r))) was)

@@ -14,3 +14,6 @@ pub mod OpenedLaws
 pub mod RelinkOpened
 pub mod ImageSectors
 pub mod VolumeExample
+pub mod RemovedExample
+pub mod BetweenFooters
+pub mod RaisedExample

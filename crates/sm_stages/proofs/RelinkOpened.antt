@@ -7,16 +7,16 @@ use Rattle.sm_base.specs.declared.names.Name.TheVariants.{Vhd, Relink}
 use Rattle.sm_machine.specs.Disks.{Disk}
 use Rattle.sm_machine.specs.Lists.{numbers, insert_by}
 use Rattle.sm_machine.specs.Shapes.{with_image, same_image}
-use Rattle.vg_meta.specs.Tables.{row_of, name_eq}
+use Rattle.vg_meta.specs.Tables.{Listing, rows, row_of, name_eq}
 use Rattle.vhd_fields.specs.ParentNames.{IsParent}
 use Rattle.vhd_layout.specs.Examples.{table_of, empty}
-use Rattle.sm_standing.specs.Entries.{image_with}
-use Rattle.sm_standing.specs.Images.{Image, image_of}
+use Rattle.sm_standing.specs.Entries.{making, image_with}
+use Rattle.sm_standing.specs.Images.{Image, image_of, image_extents}
 use Rattle.sm_standing.specs.Opened.{Work, begun, repaired, new_removed, opened}
 use Rattle.sm_standing.specs.Standing.{disks}
 use Rattle.sm_stages.specs.Moments.{top, empty_over}
 use Rattle.sm_stages.specs.Opened.{relinked_shape}
-use Rattle.sm_stages.specs.Worked.{first, second, base, first_record, relink_table, relinking}
+use Rattle.sm_stages.specs.Worked.{first, second, base, first_record, content_with, image_row, relink_table, relinking}
 use Rattle.sm_stages.specs.WorkedImages.{top_image, empty_child}
 use Rattle.sm_stages.proofs.ForkExample.{base_named, all_bytes}
 use Rattle.sm_stages.proofs.OpenedLaws.{made_from, opened_made, volume, entry_part, with_entry}
@@ -31,12 +31,20 @@ second_named = (record { long = refl; bytes = all_bytes second refl }, refl)
 abbrev under_parent : Option Name → Image → Image
 under_parent p i = record i { parent = p }
 
-first_image : image_of relinking (Vhd first) ≡ Some (empty_over second)
-unfolding row_of name_eq
-first_image =
-    placed_image relink_table relinking.area first false 21 (Vhd first) (empty_child (Vhd second)) refl refl
+-- the disk's image over the hidden one, in a table that has its row
+pub over_hidden : (t : Listing) → rows t (Vhd first) ≡ Some (image_row false (Vhd first) 21) → image_extents (making t) (Vhd first) 5 ≡ 5
+    → image_of (content_with t relinking.area) (Vhd first) ≡ Some (empty_over second)
+over_hidden t there whole =
+    placed_image t relinking.area first false 21 (Vhd first) (empty_child (Vhd second)) there whole
     (λ s below. area_second (top_image 17) (empty_child (Vhd second)) (empty_child (Vhd base)) (first_record ∷ []) (32 * 21 + s) s refl below)
     (empty_valid (Vhd second) second_named)
+
+pub over_second : (empty_over second).parent ≡ Some (Vhd second)
+over_second = child_parent (Vhd second) (table_of []) empty second_named refl
+
+first_image : image_of relinking (Vhd first) ≡ Some (empty_over second)
+unfolding row_of name_eq
+first_image = over_hidden relink_table refl refl
 
 second_image : image_of relinking (Vhd second) ≡ Some (empty_over base)
 unfolding row_of name_eq
@@ -53,7 +61,7 @@ base_image =
 
 -- each with its parent written out
 first_linked : image_of relinking (Vhd first) ≡ Some (under_parent (Some (Vhd second)) (empty_over second))
-first_linked = first_image ∙ ap (λ p. Some (under_parent p (empty_over second))) (child_parent (Vhd second) (table_of []) empty second_named refl)
+first_linked = first_image ∙ ap (λ p. Some (under_parent p (empty_over second))) over_second
 
 second_linked : image_of relinking (Vhd second) ≡ Some (under_parent (Some (Vhd base)) (empty_over base))
 second_linked = second_image ∙ ap (λ p. Some (under_parent p (empty_over base))) (child_parent (Vhd base) (table_of []) empty base_named refl)

@@ -1,5 +1,5 @@
 -- The worked swap meets the hypotheses of its law, commit by commit.
-use Rattle.std.proofs.Common.{◌≡◌, ◌≢◌, ◌⊎◌, inl, inr, ℕ, ◌+◌, ◌*◌, Bool, true, false, List, [], ◌∷◌, Option, Some, None, refl, sym, ap, ◌∙◌, subst, arith}
+use Rattle.std.proofs.Common.{◌≡◌, ◌≢◌, ◌⊎◌, inl, inr, ℕ, ◌+◌, ◌*◌, Bool, true, false, List, [], ◌∷◌, Option, Some, None, refl, sym, ap, ◌∙◌, subst, arith, lit≤}
 use Rattle.std.specs.List.{find}
 use Rattle.sm_base.specs.declared.names.Name.{Name}
 use Rattle.sm_base.specs.declared.names.Name.TheVariants.{Mgt, Vhd, Leaf}
@@ -34,7 +34,7 @@ filled_parent byte = child_parent (Vhd base) one_entry (one_slot byte) base_name
 pub held_alike : (byte : ℕ) → (top byte).own ≡ (filled byte).own
 held_alike byte =
     ap (λ n. own 8 n (top_image byte)) (top_size byte)
-    ∙ sym (filled_own (Vhd base) byte)
+    ∙ sym (filled_own (Vhd base) byte 128 (lit≤ tt))
     ∙ ap (λ n. own 8 n (filled_child (Vhd base) byte)) (sym (filled_size byte))
 
 pub parent_image : (t : Listing) (u : List ℕ) (hidden : Bool) (name : Name) → rows t (Vhd u) ≡ Some (image_row hidden name 16)

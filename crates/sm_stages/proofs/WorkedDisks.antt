@@ -1,5 +1,5 @@
 -- The disks of the worked contents.
-use Rattle.std.proofs.Common.{◌≡◌, ℕ, zero, suc, ◌+◌, ◌*◌, ◌<◌, ◌≤◌, true, false, List, [], ◌∷◌, map, replicate, Option, Some, None, refl, sym, ap, ap₂, ◌∙◌, arith}
+use Rattle.std.proofs.Common.{◌≡◌, ℕ, zero, suc, ◌+◌, ◌*◌, ◌<◌, ◌≤◌, true, false, List, [], ◌∷◌, map, replicate, Option, Some, None, refl, sym, ap, ap₂, ◌∙◌, arith, lit≤}
 use Rattle.std.specs.List.{find, filter_map, cons_option}
 use Rattle.sm_base.specs.declared.names.Name.{Name}
 use Rattle.sm_base.specs.declared.names.Name.TheVariants.{Vhd}
@@ -53,10 +53,10 @@ sectors_as c n i x z is size head rest =
 -- ---- one disk
 
 pub top_held : (byte : ℕ) → (top byte).own 0 ≡ Some (sector_of byte)
-top_held byte = ap (λ n. own 8 n (top_image byte) 0) (top_size byte) ∙ top_first byte
+top_held byte = ap (λ n. own 8 n (top_image byte) 0) (top_size byte) ∙ top_first byte 128 (lit≤ tt)
 
 pub top_behind : (byte s : ℕ) → 1 ≤ s → (top byte).own s ≡ None
-top_behind byte s from = ap (λ n. own 8 n (top_image byte) s) (top_size byte) ∙ top_rest byte s from
+top_behind byte s from = ap (λ n. own 8 n (top_image byte) s) (top_size byte) ∙ top_rest byte 128 s (lit≤ tt) from
 
 pub top_sectors : (c : Content) (n : Name) (byte : ℕ) → image_of c n ≡ Some (top byte) → sectors_read c n ≡ written byte
 top_sectors c n byte is =
@@ -104,6 +104,42 @@ written_there =
     placed_image one_disk (area_of written_image empty empty (first_record ∷ [])) first false 16 (Vhd first) written_image one_there refl
     (λ s below. area_first written_image empty empty (first_record ∷ []) (32 * 16 + s) s refl below) written_valid
 
+-- ---- an image over the base
+
+-- the base holds sector 0, filled with this byte
+abbrev pub HasBase : Content → ℕ → Type 0
+HasBase c byte = image_of c (Vhd base) ≡ Some (top byte)
+
+pub base_top : (c : Content) (byte : ℕ) → HasBase c byte → parent_of c (Vhd base) ≡ None
+base_top c byte below = ap (λ o. o >>= (λ (i : Image). i.parent)) below ∙ top_parent byte
+
+base_rest : (c : Content) (byte s : ℕ) → HasBase c byte → 1 ≤ s → reads c (Vhd base) s ≡ zeros
+base_rest c byte s below from = top_zeros c (Vhd base) (top byte) s below (top_behind byte s from) (top_parent byte)
+
+pub over_depth : (c : Content) (byte : ℕ) (x : Name) (i : Image) → HasBase c byte → image_of c x ≡ Some i → i.parent ≡ Some (Vhd base) → depth c 31 x ≡ 2
+over_depth c byte x i below is parent =
+    let e = depth_up c 30 x (Vhd base) (parent-is c x (Vhd base) i is parent) in let f = depth_top c 29 (Vhd base) (base_top c byte below) in omega (arith, e, f)
+
+over_short : (c : Content) (byte : ℕ) (x : Name) (i : Image) → HasBase c byte → image_of c x ≡ Some i → i.parent ≡ Some (Vhd base) → IsShort c x
+over_short c byte x i below is parent = let e = over_depth c byte x i below is parent in omega (arith, e)
+
+pub child_parent_is : child.parent ≡ Some (Vhd base)
+child_parent_is = child_parent (Vhd base) (table_of []) empty base_named refl
+
+pub child_size_is : child.size ≡ 128
+child_size_is = child_size (Vhd base) (table_of []) empty base_named refl
+
+child_reads : (c : Content) (byte : ℕ) (x : Name) (s : ℕ) → HasBase c byte → image_of c x ≡ Some child → s < 128 → reads c x s ≡ reads c (Vhd base) s
+child_reads c byte x s below is low =
+    parent_reads c x (Vhd base) child s is (omega (arith, child_size_is, low)) (child_empty s) child_parent_is (over_short c byte x child below is child_parent_is)
+
+-- a child that holds nothing reads as the base
+pub child_sectors : (c : Content) (byte : ℕ) (x : Name) → HasBase c byte → image_of c x ≡ Some child → sectors_read c x ≡ written byte
+child_sectors c byte x below is =
+    sectors_as c x child (sector_of byte) zeros is child_size_is
+    (child_reads c byte x 0 below is (omega arith) ∙ held_reads c (Vhd base) (top byte) 0 (sector_of byte) below (omega (arith, top_size byte)) (top_held byte))
+    (λ s from low. child_reads c byte x s below is low ∙ base_rest c byte s below from)
+
 -- ---- two disks over a base
 
 abbrev pub pair : Content
@@ -132,24 +168,6 @@ pair_second =
     (λ s below. area_third (top_image 17) (filled_child (Vhd base) 34) (empty_child (Vhd base)) (first_record ∷ second_record ∷ []) (32 * 26 + s) s refl below)
     (empty_valid (Vhd base) base_named)
 
-pub child_parent_is : child.parent ≡ Some (Vhd base)
-child_parent_is = child_parent (Vhd base) (table_of []) empty base_named refl
-
-pub child_size_is : child.size ≡ 128
-child_size_is = child_size (Vhd base) (table_of []) empty base_named refl
-
-pub base_top : parent_of pair (Vhd base) ≡ None
-base_top = ap (λ o. o >>= (λ (i : Image). i.parent)) pair_base ∙ top_parent 17
-
-pub pair_depth : (x : Name) (i : Image) → image_of pair x ≡ Some i → i.parent ≡ Some (Vhd base) → depth pair 31 x ≡ 2
-pair_depth x i is parent = let e = depth_up pair 30 x (Vhd base) (parent-is pair x (Vhd base) i is parent) in let f = depth_top pair 29 (Vhd base) base_top in omega (arith, e, f)
-
-pair_short : (x : Name) (i : Image) → image_of pair x ≡ Some i → i.parent ≡ Some (Vhd base) → IsShort pair x
-pair_short x i is parent = let e = pair_depth x i is parent in omega (arith, e)
-
-base_rest : (s : ℕ) → 1 ≤ s → reads pair (Vhd base) s ≡ zeros
-base_rest s from = top_zeros pair (Vhd base) (top 17) s pair_base (top_behind 17 s from) (top_parent 17)
-
 pub filled_held : (filled 34).own 0 ≡ Some (sector_of 34)
 filled_held = ap (λ (held : ℕ → Option (List ℕ)). held 0) (sym (held_alike 34)) ∙ top_held 34
 
@@ -161,18 +179,8 @@ first_sectors =
     sectors_as pair (Vhd first) (filled 34) (sector_of 34) zeros pair_first (filled_size 34)
     (held_reads pair (Vhd first) (filled 34) 0 (sector_of 34) pair_first (omega (arith, filled_size 34)) filled_held)
     (λ s from below.
-    parent_reads pair (Vhd first) (Vhd base) (filled 34) s pair_first (omega (arith, filled_size 34, below)) (filled_behind s from) (filled_parent 34) (pair_short (Vhd first) (filled 34) pair_first (filled_parent 34))
-    ∙ base_rest s from)
-
-second_reads : (s : ℕ) → s < 128 → reads pair (Vhd second) s ≡ reads pair (Vhd base) s
-second_reads s below =
-    parent_reads pair (Vhd second) (Vhd base) child s pair_second (omega (arith, child_size_is, below)) (child_empty s) child_parent_is (pair_short (Vhd second) child pair_second child_parent_is)
-
-second_sectors : sectors_read pair (Vhd second) ≡ written 17
-second_sectors =
-    sectors_as pair (Vhd second) child (sector_of 17) zeros pair_second child_size_is
-    (second_reads 0 (omega arith) ∙ held_reads pair (Vhd base) (top 17) 0 (sector_of 17) pair_base (omega (arith, top_size 17)) (top_held 17))
-    (λ s from below. second_reads s below ∙ base_rest s from)
+    parent_reads pair (Vhd first) (Vhd base) (filled 34) s pair_first (omega (arith, filled_size 34, below)) (filled_behind s from) (filled_parent 34) (over_short pair 17 (Vhd first) (filled 34) pair_base pair_first (filled_parent 34))
+    ∙ base_rest pair 17 s pair_base from)
 
 pair_there : HasRecords fork_8
 unfolding row_of name_eq
@@ -204,7 +212,7 @@ pair_disks =
     ∙ ap (λ o. cons_option o (cons_option (disk_at pair second) (cons_option (disk_at pair base) [])))
     (shown pair first (Vhd first) first_record (written 34) pair_stands_first (ap (find (is_record_of first)) pair_records) first_sectors refl)
     ∙ ap₂ (λ o q. disk_of first_record (written 34) ∷ cons_option o (cons_option q []))
-    (shown pair second (Vhd second) second_record (written 17) pair_stands_second (ap (find (is_record_of second)) pair_records) second_sectors refl)
+    (shown pair second (Vhd second) second_record (written 17) pair_stands_second (ap (find (is_record_of second)) pair_records) (child_sectors pair 17 (Vhd second) pair_base pair_second) refl)
     (none_disk pair base pair_stands_base)
 
 pub two_disks_shown : disks two_disks ≡ disk_of first_record (written 34) ∷ disk_of second_record (written 17) ∷ []

@@ -1,10 +1,11 @@
 -- The worked images are valid.
-use Rattle.std.proofs.Common.{◌≡◌, ◌⊎◌, inl, inr, ⊎_elim, ℕ, zero, suc, ◌+◌, ◌/◌, ◌%◌, ◌<◌, ◌≤◌, ◌==◌, ◌++◌, Bool, true, false, cond, nat_lt, List, [], ◌∷◌, take, replicate, Option, Some, None, refl, sym, ap, ◌∙◌, arith, lit≤, lit<}
+use Rattle.std.proofs.Common.{◌≡◌, ◌⊎◌, inl, inr, ⊎_elim, ℕ, zero, suc, ◌+◌, ◌/◌, ◌%◌, ◌^◌, ◌<◌, ◌≤◌, ◌==◌, ◌++◌, Bool, true, false, cond, nat_lt, List, [], ◌∷◌, take, replicate, Option, Some, None, refl, sym, ap, ◌∙◌, arith, lit≤, lit<}
 use Rattle.std.specs.Option.{option_or}
 use Rattle.std.specs.Result.{result_ok}
 use Rattle.std.proofs.lemmas.List.{take-append-drop}
 use lib.Count.{ones}
 use Rattle.sm_base.specs.declared.names.Name.{Name}
+use Rattle.vhd_fields.specs.declared.footers.Footer.{Footer}
 use Rattle.vhd_fields.specs.Footers.{footer_bytes, footer_read, IsFooter, HasRoom}
 use Rattle.vhd_fields.specs.Headers.{header_bytes, header_read, IsHeader, HasRoom as HasHeaderRoom}
 use Rattle.vhd_fields.specs.ParentNames.{IsParent}
@@ -12,7 +13,7 @@ use Rattle.vhd_fields.proofs.FooterLaws.{reads_back}
 use Rattle.vhd_fields.proofs.HeaderLaws.{reads_back as header_reads_back, second_sector}
 use Rattle.vhd_layout.specs.Contents.{size_at, parent_at, own, value}
 use Rattle.vhd_layout.specs.Examples.{footer_sector, header_sector, zeros, table_of, empty, volume}
-use Rattle.vhd_layout.specs.Images.{IsHead, IsValid, footer_at, header_at}
+use Rattle.vhd_layout.specs.Images.{IsFooterOf, IsHead, IsImage, IsValid, footer_at, header_at}
 use Rattle.vhd_layout.specs.Layouts.{Sectors, Slots, IsSlots, entry, code, layout_of}
 use Rattle.vhd_layout.proofs.ExampleLemmas.{first_64, slots-160, code-slot, in_sector, entry-volume, word-table_of, the_footer, the_header, head-from, size-from, parent-from, footer_reads, header_reads}
 use Rattle.vhd_layout.proofs.ImageLaws.{content-of_head}
@@ -21,13 +22,40 @@ use Rattle.vhd_map.specs.Places.{blank, word}
 use Rattle.std.proofs.lemmas.Option.{none-some}
 use Rattle.std.proofs.lemmas.Bool.{lt-ltb, le-ltb, cases_lt, ne_eqb}
 use Rattle.sm_stages.proofs.PieceLaws.{inside_own}
-use Rattle.sm_stages.specs.WorkedImages.{child_footer, child_header, child_image, one_entry, one_slot, top_image, filled_child, empty_child}
+use Rattle.sm_stages.specs.WorkedImages.{footer_of, child_footer, child_header, child_image, one_entry, one_slot, sector_of, top_image, filled_child, empty_child}
 
-footer_right : IsFooter child_footer
-footer_right = record { data_offset = refl; size = refl; kind = refl }
+pub footer_room : (kind original current : ℕ) → kind < 2 ^ 32 → original < 2 ^ 64 → current < 2 ^ 64 → HasRoom (footer_of kind original current)
+footer_room kind original current small few many = record {
+  stamp = lit< tt;
+  creator = refl;
+  creator_version = lit< tt;
+  host = lit< tt;
+  original = few;
+  current = many;
+  kind = small;
+  data_offset = lit< tt;
+  uid = refl;
+}
 
-footer_room : HasRoom child_footer
-footer_room = record { stamp = lit< tt; creator = refl; creator_version = lit< tt; host = lit< tt; original = lit< tt; current = lit< tt; kind = lit< tt; data_offset = lit< tt; uid = refl }
+-- a footer that reads as it was written, of a disk of so many blocks
+pub record IsRight (blocks : ℕ) (footer : Footer) : Type 0 where
+  pub right : IsFooter footer
+  pub room : HasRoom footer
+  pub fits : IsFooterOf (layout_of 8 64 blocks 160) footer
+
+child_right : IsRight 16 child_footer
+child_right = record {
+  right = record { data_offset = refl; size = refl; kind = refl };
+  room = footer_room 4 65536 65536 (lit< tt) (lit< tt) (lit< tt);
+  fits = record { kind = inr refl; size = refl; least = lit≤ tt; most = lit≤ tt };
+}
+
+-- the footer of a volume whose last sector it is
+pub last_footer : (blocks : ℕ) (footer : Footer) (v : Sectors) → IsRight blocks footer → v 159 ≡ footer_bytes footer → footer_at 160 v ≡ Some footer
+unfolding footer_at
+last_footer blocks footer v h last =
+    ap (λ bytes. option_or (result_ok (footer_read bytes)) (result_ok (footer_read (v 0)))) last
+    ∙ ap (λ r. option_or (result_ok r) (result_ok (footer_read (v 0)))) (reads_back footer h.right h.room)
 
 header_right : (parent : Name) → IsParent (Some parent) → IsHeader (child_header parent)
 unfolding ones
@@ -43,10 +71,10 @@ header_whole parent named =
 
 child_head : (parent : Name) (table : List ℕ) (slots : Sectors) → IsParent (Some parent) → slots 2 ≡ zeros
     → IsHead (layout_of 8 64 16 160) (child_image parent table slots) child_footer (child_header parent)
-unfolding child_image footer_at header_at
+unfolding child_image header_at
 child_head parent table slots named second = record {
-  footer_reads = ap (λ r. option_or (result_ok r) (result_ok (footer_read (footer_bytes child_footer)))) (reads_back child_footer footer_right footer_room);
-  footer_fits = record { kind = inr refl; size = refl; least = lit≤ tt; most = lit≤ tt };
+  footer_reads = last_footer 16 child_footer (child_image parent table slots) child_right refl;
+  footer_fits = child_right.fits;
   header_reads =
       ap (λ s. result_ok (header_read (take 512 (header_bytes (child_header parent)) ++ s))) second
       ∙ ap (λ bytes. result_ok (header_read bytes)) (header_whole parent named)
@@ -111,7 +139,7 @@ child_parent parent table slots named second =
 
 -- ---- images that hold sector 0 alone
 
-one_at : Slots
+pub one_at : Slots
 one_at b = cond (b == 0) (Some 0) None
 
 record Which (b : ℕ) : Type 0 where
@@ -122,7 +150,7 @@ unfolding one_at
 which zero = record { cases = inl (refl, refl) }
 which (suc b) = record { cases = inr (omega arith, ap (λ t. cond t (Some 0) None) (ne_eqb (suc b) 0 (λ e. omega (arith, e)))) }
 
-only_zero : (b k : ℕ) → one_at b ≡ Some k → (b ≡ 0) × (k ≡ 0)
+pub only_zero : (b k : ℕ) → one_at b ≡ Some k → (b ≡ 0) × (k ≡ 0)
 only_zero b k has = ⊎_elim (λ h. (h.0, let e = sym h.1 ∙ has in (let x = e in cc))) (λ h. absurd (none-some k (sym h.1 ∙ has))) (which b).cases
 
 one_lies : IsSlots (layout_of 8 64 16 160) one_at
@@ -141,34 +169,28 @@ one_word b near = ⊎_elim
     (λ h. ap (word one_entry) h.0 ∙ (first_word ∙ sym (ap (code (layout_of 8 64 16 160)) h.1 ∙ code-slot 16 0)))
     (λ h. word-table_of (0 ∷ 0 ∷ 0 ∷ 4 ∷ []) b (omega (arith, h.0)) near ∙ sym (ap (code (layout_of 8 64 16 160)) h.1)) (which b).cases
 
+pub top_laid : (byte : ℕ) → IsImage (layout_of 8 64 16 160) (top_image byte) the_footer the_header one_at
+top_laid byte = record {
+  head = head-from footer_sector one_entry footer_sector (one_slot byte) refl (footer_reads header_sector one_entry (one_slot byte));
+  table = λ b below. let near = in_sector 16 b below in
+      entry-volume footer_sector header_sector one_entry footer_sector (one_slot byte) b near ∙ one_word b near;
+  slots = one_lies;
+}
+
 pub top_valid : (byte : ℕ) → IsValid 8 64 160 (top_image byte)
-top_valid byte = (
-  16,
-  the_footer,
-  the_header,
-  one_at,
-  record {
-    head = head-from footer_sector one_entry footer_sector (one_slot byte) refl (footer_reads header_sector one_entry (one_slot byte));
-    table = λ b below. let near = in_sector 16 b below in
-        entry-volume footer_sector header_sector one_entry footer_sector (one_slot byte) b near ∙ one_word b near;
-    slots = one_lies;
-  },
-)
+top_valid byte = (16, the_footer, the_header, one_at, top_laid byte)
+
+pub filled_laid : (parent : Name) (byte : ℕ) → IsParent (Some parent) → IsImage (layout_of 8 64 16 160) (filled_child parent byte) child_footer (child_header parent) one_at
+unfolding child_image
+filled_laid parent byte named = record {
+  head = child_head parent one_entry (one_slot byte) named refl;
+  table = λ b below. let near = in_sector 16 b below in
+      entry-volume (footer_bytes child_footer) (take 512 (header_bytes (child_header parent))) one_entry (footer_bytes child_footer) (one_slot byte) b near ∙ one_word b near;
+  slots = one_lies;
+}
 
 pub filled_valid : (parent : Name) (byte : ℕ) → IsParent (Some parent) → IsValid 8 64 160 (filled_child parent byte)
-unfolding child_image
-filled_valid parent byte named = (
-  16,
-  child_footer,
-  child_header parent,
-  one_at,
-  record {
-    head = child_head parent one_entry (one_slot byte) named refl;
-    table = λ b below. let near = in_sector 16 b below in
-        entry-volume (footer_bytes child_footer) (take 512 (header_bytes (child_header parent))) one_entry (footer_bytes child_footer) (one_slot byte) b near ∙ one_word b near;
-    slots = one_lies;
-  },
-)
+filled_valid parent byte named = (16, child_footer, child_header parent, one_at, filled_laid parent byte named)
 
 pub top_size : (byte : ℕ) → size_at 160 (top_image byte) ≡ 128
 top_size byte = size-from (top_image byte) (footer_reads header_sector one_entry (one_slot byte))
@@ -184,17 +206,17 @@ volume_inside copy header table last slots s from below =
     ∙ ap (λ b. cond (s == 3) table (cond b last (slots s))) (ne_eqb s 159 (λ e. omega (arith, e)))
 
 -- the child holds what the image without a parent holds
-pub filled_own : (parent : Name) (byte : ℕ) → own 8 128 (filled_child parent byte) ≡ own 8 128 (top_image byte)
+pub filled_own : (parent : Name) (byte n : ℕ) → n ≤ 1024 → own 8 n (filled_child parent byte) ≡ own 8 n (top_image byte)
 unfolding child_image
-filled_own parent byte =
-    inside_own (filled_child parent byte) (top_image byte) 128 (lit≤ tt)
+filled_own parent byte n few =
+    inside_own (filled_child parent byte) (top_image byte) n few
     (λ s from below. volume_inside (footer_bytes child_footer) (take 512 (header_bytes (child_header parent))) one_entry (footer_bytes child_footer) (one_slot byte) s from below
     ∙ sym (volume_inside footer_sector header_sector one_entry footer_sector (one_slot byte) s from below)) (top_valid byte)
 
 -- which is sector 0
-pub top_first : (byte : ℕ) → own 8 128 (top_image byte) 0 ≡ Some (replicate 512 byte)
+pub top_first : (byte n : ℕ) → 1 ≤ n → own 8 n (top_image byte) 0 ≡ Some (sector_of byte)
 unfolding own value is_set word
-top_first byte = refl
+top_first byte n some = ap (λ b. cond b (Some (sector_of byte)) None) (lt-ltb 0 n some)
 
 other_bit : (i : ℕ) → i < 8 → 1 ≤ i → is_set (128 ∷ replicate 511 0) i ≡ false
 unfolding is_set
@@ -234,12 +256,12 @@ which_part s from = by (which_block (s / 8))
     by (inl none) = inr (omega (arith, none))
     by (inr some) = inl some
 
-top_rest-step : (byte s : ℕ) → 1 ≤ s → (s < 128) ⊎ (128 ≤ s) → own 8 128 (top_image byte) s ≡ None
+top_rest-step : (byte n s : ℕ) → n ≤ 1024 → 1 ≤ s → (s < n) ⊎ (n ≤ s) → own 8 n (top_image byte) s ≡ None
 unfolding own
-top_rest-step byte s from (inl below) =
-    ap (λ b. cond b (value (top_image byte) (s / 8) (s % 8)) None) (lt-ltb s 128 below)
+top_rest-step byte n s few from (inl below) =
+    ap (λ b. cond b (value (top_image byte) (s / 8) (s % 8)) None) (lt-ltb s n below)
     ∙ top_value byte (s / 8) (s % 8) (omega arith) (omega arith) (which_block (s / 8)) (which_part s from)
-top_rest-step byte s from (inr past) = ap (λ b. cond b (value (top_image byte) (s / 8) (s % 8)) None) (le-ltb s 128 past)
+top_rest-step byte n s few from (inr past) = ap (λ b. cond b (value (top_image byte) (s / 8) (s % 8)) None) (le-ltb s n past)
 
-pub top_rest : (byte s : ℕ) → 1 ≤ s → own 8 128 (top_image byte) s ≡ None
-top_rest byte s from = top_rest-step byte s from (cases_lt s 128)
+pub top_rest : (byte n s : ℕ) → n ≤ 1024 → 1 ≤ s → own 8 n (top_image byte) s ≡ None
+top_rest byte n s few from = top_rest-step byte n s few from (cases_lt s n)

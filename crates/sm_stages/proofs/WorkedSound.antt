@@ -25,7 +25,7 @@ use Rattle.sm_stages.proofs.ForkExample.{first_right, second_right, unforked_ima
 use Rattle.sm_stages.proofs.ForkMoments.{fork_8}
 use Rattle.sm_stages.proofs.PlacedLaws.{one_undamaged, two_undamaged}
 use Rattle.sm_stages.proofs.SwapExample.{filled_size, filled_parent}
-use Rattle.sm_stages.proofs.WorkedDisks.{pair, is_pair, pair_base, pair_first, pair_second, child_parent_is, child_size_is, base_top, pair_depth, pair_records, pair_uuids, unforked_uuids}
+use Rattle.sm_stages.proofs.WorkedDisks.{pair, is_pair, pair_base, pair_first, pair_second, child_parent_is, child_size_is, base_top, over_depth, pair_records, pair_uuids, unforked_uuids}
 use Rattle.sm_stages.proofs.WorkedLaws.{top_size, top_parent}
 use Rattle.sm_standing.proofs.WalkLaws.{depth_top}
 
@@ -73,20 +73,20 @@ passes true false d is_a is_b is_d = absurd (let e = is_b in cc)
 passes true true false is_a is_b is_d = absurd (let e = is_d in cc)
 
 -- an image with this parent, or with none, is no child of another
-other_parent : (c : Content) (x n p : Name) (i : Image) → image_of c n ≡ Some i → i.parent ≡ Some p → same_image p x ≡ false → parent_is x (image_of c n) ≡ false
+pub other_parent : (c : Content) (x n p : Name) (i : Image) → image_of c n ≡ Some i → i.parent ≡ Some p → same_image p x ≡ false → parent_is x (image_of c n) ≡ false
 other_parent c x n p i is parent other = ap (parent_is x) is ∙ ap (λ o. elim o [ None ↦ false | Some q ↦ same_image q x ]) parent ∙ other
 
-no_parent : (c : Content) (x n : Name) (i : Image) → image_of c n ≡ Some i → i.parent ≡ None → parent_is x (image_of c n) ≡ false
+pub no_parent : (c : Content) (x n : Name) (i : Image) → image_of c n ≡ Some i → i.parent ≡ None → parent_is x (image_of c n) ≡ false
 no_parent c x n i is none = ap (parent_is x) is ∙ ap (λ o. elim o [ None ↦ false | Some q ↦ same_image q x ]) none
 
-records_no_parent : (c : Content) (x : Name) → parent_is x (image_of c Mgt) ≡ false
+pub records_no_parent : (c : Content) (x : Name) → parent_is x (image_of c Mgt) ≡ false
 unfolding image_of
 records_no_parent c x = refl
 
 linked_top : (c : Content) (i : Image) → i.parent ≡ None → is_linked c i ≡ true
 linked_top c i none = ap (λ o. elim o [ None ↦ true | Some q ↦ is_parent_right c i.size q ]) none
 
-none_left : (test : Row → Bool) (rs : List Row) → ((r : Row) → In r rs → test r ≡ false) → filter test rs ≡ []
+pub none_left : (test : Row → Bool) (rs : List Row) → ((r : Row) → In r rs → test r ≡ false) → filter test rs ≡ []
 none_left test [] fails = refl
 none_left test (r ∷ rs) fails = ap (λ b. cond b (r ∷ filter test rs) (filter test rs)) (fails r (inl refl)) ∙ none_left test rs (λ q h. fails q (inr h))
 
@@ -173,13 +173,13 @@ child_placed : (x : List ℕ) (place : ℕ) (i : Image) → image_of pair (Vhd x
 child_placed x place i is parent size other =
     ap (is_misplaced pair (image_row false (Vhd x) place)) is
     ∙ passes (is_linked pair i) (nat_le (depth pair 31 (Vhd x)) 30) (length (children pair (Vhd x)) == 0)
-    (pair_linked i parent size) (ap (λ d. nat_le d 30) (pair_depth (Vhd x) i is parent)) (ap (λ (rs : List Row). length rs == 0) (pair_childless x other))
+    (pair_linked i parent size) (ap (λ d. nat_le d 30) (over_depth pair 17 (Vhd x) i pair_base is parent)) (ap (λ (rs : List Row). length rs == 0) (pair_childless x other))
 
 first_other : same_image (Vhd base) (Vhd first) ≡ false
 unfolding same_image
 first_other = refl
 
-second_other : same_image (Vhd base) (Vhd second) ≡ false
+pub second_other : same_image (Vhd base) (Vhd second) ≡ false
 unfolding same_image
 second_other = refl
 
@@ -195,7 +195,7 @@ pair_tree = ap (placed at.Tree) (none_named (is_tree_wrong pair) (fork_8).volume
         ap (is_tree_wrong pair) is
         ∙ ap (is_misplaced pair (image_row true (Vhd base) 16)) pair_base
         ∙ passes (is_linked pair (top 17)) (nat_le (depth pair 31 (Vhd base)) 30) true
-        (linked_top pair (top 17) (top_parent 17)) (ap (λ d. nat_le d 30) (depth_top pair 30 (Vhd base) base_top)) refl
+        (linked_top pair (top 17) (top_parent 17)) (ap (λ d. nat_le d 30) (depth_top pair 30 (Vhd base) (base_top pair 17 pair_base))) refl
     by r (inr (inr (inr (inr none)))) = elim none [ ]
 
 pair_valid : invalid_fault pair ≡ None

@@ -6,7 +6,7 @@ use Rattle.sm_disk.specs.Sectors.{zeros}
 use Rattle.sm_machine.specs.Disks.{Disk}
 use Rattle.sm_record.specs.declared.records.Record.{Record}
 use Rattle.sm_standing.specs.Images.{Image}
-use Rattle.sm_stages.specs.Worked.{base}
+use Rattle.sm_stages.specs.Worked.{base, small_base, small_child, grown_child}
 use Rattle.sm_stages.specs.WorkedImages.{top_image, filled_child, empty_child, sector_of}
 
 -- an image without a parent whose sector 0 is filled with a byte
@@ -24,6 +24,16 @@ child = content_at 8 64 160 (empty_child (Vhd base))
 -- one over an image of another UUID that holds nothing
 abbrev pub empty_over : List ℕ → Image
 empty_over parent = content_at 8 64 160 (empty_child (Vhd parent))
+
+-- the base of 32 KiB; and the image over it, of 32 KiB and when it has grown
+abbrev pub small_top : Image
+small_top = content_at 8 64 160 small_base
+
+abbrev pub small : Image
+small = content_at 8 64 160 small_child
+
+abbrev pub large : Image
+large = content_at 8 64 160 grown_child
 
 -- the sectors of a disk of 64 KiB whose sector 0 is filled with a byte
 abbrev pub written : ℕ → List (List ℕ)

@@ -1,5 +1,5 @@
 -- Worked contents: three images of 64 KiB lie on the extents from 16, 21 and 26 on, behind the records. A fork's commits
--- are applied one after the other, and so are a swap's.
+-- are applied one after the other, and so are a swap's, and those that end a relink. An image of 32 KiB grows to 64 KiB.
 use Rattle.std.specs.Prelude.{ℕ, ◌+◌, ◌-◌, ◌&&◌, nat_le, nat_lt, Bool, true, false, List, [], ◌∷◌, ◌++◌, map, take, replicate, codes, get_or, Some, None, if◌then◌else◌}
 use Rattle.sm_base.specs.declared.names.Name.{Name}
 use Rattle.sm_base.specs.declared.names.Name.TheVariants.{Vhd, Old, Clone, Leaf, Relink}
@@ -16,7 +16,7 @@ use Rattle.vhd_layout.specs.Examples.{empty, fresh_image, written_image}
 use Rattle.vhd_layout.specs.Layouts.{Sectors}
 use Rattle.sm_standing.specs.Contents.{Content}
 use Rattle.sm_standing.specs.Examples.{record_row, base_of}
-use Rattle.sm_stages.specs.WorkedImages.{top_image, filled_child, empty_child}
+use Rattle.sm_stages.specs.WorkedImages.{small_top_footer, small_child_footer, grown_child_footer, between_footers, top_image, filled_child, empty_child}
 
 -- ---- UUIDs and records
 
@@ -161,3 +161,51 @@ relink_table = table_with (image_row false (Vhd first) 21
 -- the base holds sector 0, the two images over it hold nothing
 abbrev pub relinking : Content
 relinking = content_with relink_table (area_of (top_image 17) (empty_child (Vhd second)) (empty_child (Vhd base)) (first_record ∷ []))
+
+-- once the disk lies over the base the entry is removed, and then the hidden image, which is nobody's parent any more
+abbrev pub relink_changes : List Change
+relink_changes = Remove (Relink second base) ∷ Remove (Vhd second) ∷ []
+
+-- the table after so many of them
+abbrev pub relink_after : ℕ → Listing
+relink_after k = after_all relink_table (take k relink_changes)
+
+-- after so many of these commits; the disk's image and the hidden one hold nothing over the base
+abbrev pub relinked_at : ℕ → Content
+relinked_at k = content_with (relink_after k) (fork_area (first_record ∷ []))
+
+-- the entry was removed while the disk still lies over the hidden image
+abbrev pub still_linked : Content
+still_linked = content_with (relink_after 1) relinking.area
+
+-- ---- an image that grows
+
+-- a base of 32 KiB
+abbrev pub small_base : Sectors
+small_base = between_footers small_top_footer (top_image 17)
+
+-- an image of 32 KiB over it, and the same when it has grown to 64 KiB: only its footers differ
+abbrev pub small_child : Sectors
+small_child = between_footers small_child_footer (filled_child (Vhd base) 34)
+
+abbrev pub grown_child : Sectors
+grown_child = between_footers grown_child_footer (filled_child (Vhd base) 34)
+
+-- a disk over a hidden base
+abbrev pub disk_and_base : Listing
+disk_and_base = table_with (image_row false (Vhd first) 21 ∷ image_row true (Vhd base) 16 ∷ [])
+
+-- the disk's image over a base
+abbrev pub disk_over : Sectors → Sectors → Content
+disk_over below image = content_with disk_and_base (area_of below image empty (first_record ∷ []))
+
+-- before the disk's image grows, and afterwards
+abbrev pub ungrown : Content
+ungrown = disk_over small_base small_child
+
+abbrev pub grown : Content
+grown = disk_over small_base grown_child
+
+-- over a base of 64 KiB
+abbrev pub over_larger : Content
+over_larger = disk_over (top_image 17) small_child

@@ -1,5 +1,5 @@
 -- Worked images, byte for byte: disks of 64 KiB in five extents of 16 KiB each, which are 160 sectors, with blocks of
--- 4 KiB and 64 entries. They hold nothing, or sector 0 alone.
+-- 4 KiB and 64 entries. They hold nothing, or sector 0 alone. Between other footers they are disks of another size.
 use Rattle.std.specs.Prelude.{ℕ, ◌==◌, List, [], ◌∷◌, take, replicate, codes, Some, if◌then◌else◌}
 use Rattle.sm_base.specs.declared.names.Name.{Name}
 use Rattle.vhd_fields.specs.declared.footers.Footer.{Footer}
@@ -9,19 +9,33 @@ use Rattle.vhd_fields.specs.Headers.{header_bytes}
 use Rattle.vhd_layout.specs.Examples.{zeros, table_of, empty, volume, footer_sector, header_sector}
 use Rattle.vhd_layout.specs.Layouts.{Sectors}
 
--- the footer of a differencing disk of 64 KiB
-abbrev pub child_footer : Footer
-child_footer = record {
+-- the footer of a disk of a type, dynamic (3) or differencing (4), which was made with one size in bytes and has another
+abbrev pub footer_of : ℕ → ℕ → ℕ → Footer
+footer_of kind original current = record {
   stamp = 0;
   creator = codes "lvhd";
   creator_version = 65536;
   host = 0;
-  original = 65536;
-  current = 65536;
-  kind = 4;
+  original = original;
+  current = current;
+  kind = kind;
   data_offset = 512;
   uid = replicate 16 7;
 }
+
+-- the footer of a differencing disk of 64 KiB
+abbrev pub child_footer : Footer
+child_footer = footer_of 4 65536 65536
+
+-- the footers of disks of 32 KiB, a dynamic one and a differencing one; and of the latter when it has grown to 64 KiB
+abbrev pub small_top_footer : Footer
+small_top_footer = footer_of 3 32768 32768
+
+abbrev pub small_child_footer : Footer
+small_child_footer = footer_of 4 32768 32768
+
+abbrev pub grown_child_footer : Footer
+grown_child_footer = footer_of 4 32768 65536
 
 -- a header that names this parent
 abbrev pub child_header : Name → Header
@@ -60,3 +74,7 @@ filled_child parent byte = child_image parent one_entry (one_slot byte)
 
 abbrev pub empty_child : Name → Sectors
 empty_child parent = child_image parent (table_of []) empty
+
+-- an image with another footer, in both of its places
+unfoldable pub between_footers : Footer → Sectors → Sectors
+between_footers footer image = λ s. if s == 0 then footer_bytes footer else if s == 159 then footer_bytes footer else image s

@@ -15,11 +15,13 @@
 //! (shapes).
 //!
 //! The laws are the contracts of functions that do nothing (`forks`, `swaps`, `volumes`); so are the examples. These
-//! meet the hypotheses of the laws commit by commit (`moments`, `volumes`), read images, disks and checks off worked bytes (`bytes`),
+//! meet the hypotheses of the laws commit by commit (`moments`, `volumes`), and of the laws of `sm_standing` on an image that
+//! is removed and on one that grows (`changes`); they read images, disks and checks off worked bytes (`bytes`),
 //! and compute what an opening makes of a fork, of a swap and of a relink that stopped (`openings`).
 #![tactic(auto)]
 
 mod bytes;
+mod changes;
 mod forks;
 mod moments;
 mod openings;
@@ -27,6 +29,7 @@ mod swaps;
 mod volumes;
 
 pub use bytes::{example_images, example_one_disk, example_saying, example_two_disks};
+pub use changes::{example_raised, example_removed};
 pub use forks::{law_fork_ended, law_forking};
 pub use moments::{example_fork, example_swap};
 pub use openings::{example_fork_undone, example_relink_ended, example_swap_done};
