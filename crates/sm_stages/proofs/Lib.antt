@@ -17,3 +17,4 @@ pub mod VolumeExample
 pub mod RemovedExample
 pub mod BetweenFooters
 pub mod RaisedExample
+pub mod ChainExample

@@ -23,7 +23,7 @@ use Rattle.sm_stages.proofs.OpenedLaws.{made_from, opened_made, volume, entry_pa
 use Rattle.sm_stages.proofs.PlacedLaws.{placed_image, area_first, area_second, area_third}
 use Rattle.sm_stages.proofs.WorkedLaws.{top_valid, top_parent, empty_valid, child_parent}
 
-second_named : IsParent (Some (Vhd second))
+pub second_named : IsParent (Some (Vhd second))
 unfolding IsParent IsName
 second_named = (record { long = refl; bytes = all_bytes second refl }, refl)
 
@@ -42,18 +42,18 @@ over_hidden t there whole =
 pub over_second : (empty_over second).parent ≡ Some (Vhd second)
 over_second = child_parent (Vhd second) (table_of []) empty second_named refl
 
-first_image : image_of relinking (Vhd first) ≡ Some (empty_over second)
+pub first_image : image_of relinking (Vhd first) ≡ Some (empty_over second)
 unfolding row_of name_eq
 first_image = over_hidden relink_table refl refl
 
-second_image : image_of relinking (Vhd second) ≡ Some (empty_over base)
+pub second_image : image_of relinking (Vhd second) ≡ Some (empty_over base)
 unfolding row_of name_eq
 second_image =
     placed_image relink_table relinking.area second true 26 (Vhd second) (empty_child (Vhd base)) refl refl
     (λ s below. area_third (top_image 17) (empty_child (Vhd second)) (empty_child (Vhd base)) (first_record ∷ []) (32 * 26 + s) s refl below)
     (empty_valid (Vhd base) base_named)
 
-base_image : image_of relinking (Vhd base) ≡ Some (top 17)
+pub base_image : image_of relinking (Vhd base) ≡ Some (top 17)
 unfolding row_of name_eq
 base_image =
     placed_image relink_table relinking.area base true 16 (Vhd base) (top_image 17) refl refl

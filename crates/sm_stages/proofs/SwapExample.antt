@@ -48,14 +48,14 @@ parent_image t u hidden name there whole =
 abbrev copied : Content
 copied = content_with leaf_copied swap_area
 
-leaf_image : image_of copied (Vhd first) ≡ Some (filled 34)
+pub leaf_image : image_of copied (Vhd first) ≡ Some (filled 34)
 unfolding row_of name_eq
 leaf_image =
     placed_image leaf_copied swap_area first false 21 (Vhd first) (filled_child (Vhd base) 34) refl refl
     (λ s below. area_second (top_image 34) (filled_child (Vhd base) 34) (empty_child (Vhd base)) (first_record ∷ []) (32 * 21 + s) s refl below)
     (filled_valid (Vhd base) 34 base_named)
 
-below_image : image_of copied (Vhd base) ≡ Some (top 34)
+pub below_image : image_of copied (Vhd base) ≡ Some (top 34)
 unfolding row_of name_eq
 below_image = parent_image leaf_copied base true (Vhd base) refl refl
 

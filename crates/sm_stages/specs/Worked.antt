@@ -8,7 +8,7 @@ use Rattle.sm_machine.specs.Lists.{numbers}
 use Rattle.sm_record.specs.declared.records.Record.{Record}
 use Rattle.sm_record.specs.Records.{record_sector}
 use Rattle.vg_meta.specs.Changes.{applied}
-use Rattle.vg_meta.specs.Tables.{Row, Listing}
+use Rattle.vg_meta.specs.Tables.{Row, Listing, name_eq}
 use Rattle.vg_meta.specs.declared.changes.Change.{Change}
 use Rattle.vg_meta.specs.declared.changes.Change.TheVariants.{Create, Remove, Rename, Mark}
 use Rattle.vg_meta.specs.declared.changes.Tag.TheVariants.{Hidden, Fresh}
@@ -140,13 +140,24 @@ swap_changes =
 abbrev pub swap_after : ℕ → Listing
 swap_after k = after_all leaf_copied (take k swap_changes)
 
--- leaf and parent both hold sector 0, of byte 34
+-- leaf and parent both hold sector 0: the leaf's is of byte 34, and the parent's of this one
+abbrev pub leaf_area : ℕ → ℕ → List ℕ
+leaf_area byte = area_of (top_image byte) (filled_child (Vhd base) 34) (empty_child (Vhd base)) (first_record ∷ [])
+
+-- before the leaf's sector is copied into the parent
+abbrev pub uncopied : Content
+uncopied = content_with leaf_copied (leaf_area 17)
+
 abbrev pub swap_area : ℕ → List ℕ
-swap_area = area_of (top_image 34) (filled_child (Vhd base) 34) (empty_child (Vhd base)) (first_record ∷ [])
+swap_area = leaf_area 34
 
 -- after so many commits of the swap
 abbrev pub swapping_at : ℕ → Content
 swapping_at k = content_with (swap_after k) swap_area
+
+-- the names that the swap's second commit exchanges: the parent's image gets the leaf's name
+unfoldable pub exchanged : Name → Name
+exchanged n = if name_eq n (Vhd base) then Vhd first else if name_eq n (Vhd first) then Vhd base else n
 
 -- ---- a relink
 

@@ -16,11 +16,12 @@
 //!
 //! The laws are the contracts of functions that do nothing (`forks`, `swaps`, `volumes`); so are the examples. These
 //! meet the hypotheses of the laws commit by commit (`moments`, `volumes`), and of the laws of `sm_standing` on an image that
-//! is removed and on one that grows (`changes`); they read images, disks and checks off worked bytes (`bytes`),
+//! is removed and on one that grows (`changes`), and on reads through chains (`chains`); they read images, disks and checks off worked bytes (`bytes`),
 //! and compute what an opening makes of a fork, of a swap and of a relink that stopped (`openings`).
 #![tactic(auto)]
 
 mod bytes;
+mod chains;
 mod changes;
 mod forks;
 mod moments;
@@ -29,6 +30,7 @@ mod swaps;
 mod volumes;
 
 pub use bytes::{example_images, example_one_disk, example_saying, example_two_disks};
+pub use chains::{example_copy_below, example_guest_write, example_relink, example_rename};
 pub use changes::{example_raised, example_removed};
 pub use forks::{law_fork_ended, law_forking};
 pub use moments::{example_fork, example_swap};
