@@ -1,12 +1,10 @@
 -- What the calls of a step did to the rest of the store: each call of a store is such a step, and steps follow one another.
-use Rattle.std.proofs.Common.{◌≡◌, ℕ, ◌≤◌, Bool, List, Result, Ok, Err, OnErr, refl, ap, ◌∙◌, subst₂, arith}
+use Rattle.std.proofs.Common.{◌≡◌, ℕ, ◌≤◌, Bool, List, refl, ap, ◌∙◌, subst₂, arith}
 use Rattle.sm_base.specs.declared.names.Name.{Name}
-use Rattle.sm_disk.specs.Held.{Held, Keeps, Rose}
-use Rattle.sm_disk.proofs.HeldLaws.{may-at, reads-at}
+use Rattle.sm_disk.specs.Held.{Held, Keeps}
 use Rattle.vg_meta.specs.Kept.{Kept, listing}
 use Rattle.vg_meta.specs.Tables.{Listing, rows, extents_of}
 use Rattle.vg_volumes.specs.Sites.{Site, NoLessRoom, volume_of, size_of}
-use Rattle.vg_volumes.specs.Volumes.{SameElsewhere}
 use Rattle.vhd_volumes.specs.Steps.{KeepsElsewhere, WorksOn, sectors_of}
 
 -- ---- elsewhere
@@ -18,13 +16,6 @@ pub KeepsElsewhere-then : {x : ℕ} {es : List ℕ} {a b c : Held} → KeepsElse
 KeepsElsewhere-then f g = record {
   reads = λ p away. g.reads p away ∙ f.reads p away;
   may = λ p v away m. f.may p v away (g.may p v away m);
-}
-
--- a write into the volume
-pub KeepsElsewhere-wrote : {x : ℕ} {es : List ℕ} {a b : Held} → SameElsewhere x es a b → KeepsElsewhere x es a b
-KeepsElsewhere-wrote {x} {es} {a} {b} s = record {
-  reads = λ p away. reads-at a b p (s.floor p away) (s.pending p away);
-  may = λ p v away m. may-at a b p v (s.floor p away) (s.pending p away) m;
 }
 
 -- a sync
@@ -63,19 +54,6 @@ works-then {S} {told} {site} {kept} {area} {failed} {faults} {n} {a} {b} {c} f g
   elsewhere = λ t. KeepsElsewhere-then (f.elsewhere t) (subst₂ (λ s l. KeepsElsewhere s.geometry.extent (extents_of (rows l n)) (area b) (area c)) f.same_site f.same_table (g.elsewhere t));
 }
 
--- a call that wrote into the volume
-pub works-write : {S : Type 0} {told : Type 0} {site : S → Site} {kept : S → Kept} {area : S → Held} {failed : S → Bool} {faults : S → ℕ} {n : Name} {a b : S}
-    → site b ≡ site a → (listing (kept b) ≡ listing (kept a)) × (failed b ≡ failed a) → NoLessRoom (kept a) (kept b) → faults a ≤ faults b
-    → (told → SameElsewhere (site a).geometry.extent (extents_of (rows (listing (kept a)) n)) (area a) (area b)) → WorksOn told site kept area failed faults n a b
-works-write s t r c same = record {
-  same_site = s;
-  same_table = t.0;
-  same_flag = t.1;
-  room = r;
-  counts = c;
-  elsewhere = λ k. KeepsElsewhere-wrote (same k);
-}
-
 -- a sync
 pub works-sync : {S : Type 0} (told : Type 0) (site : S → Site) (kept : S → Kept) (area : S → Held) (failed : S → Bool) (faults : S → ℕ) (n : Name) (a b : S)
     → site b ≡ site a → (listing (kept b) ≡ listing (kept a)) × (failed b ≡ failed a) → NoLessRoom (kept a) (kept b) → faults a ≤ faults b
@@ -100,14 +78,3 @@ held-after {s} {s'} {t} {t'} area n site table = ap (λ x. volume_of x t' area n
 pub works-size : {S : Type 0} {told : Type 0} {site : S → Site} {kept : S → Kept} {area : S → Held} {failed : S → Bool} {faults : S → ℕ} {n : Name} {a b : S}
     → WorksOn told site kept area failed faults n a b → sectors_of site kept b n ≡ sectors_of site kept a n
 works-size {S} {told} {site} {kept} {area} {failed} {faults} {n} {a} {b} w = size-after n w.same_site w.same_table
-
--- ---- answers
-
--- a count that rose later rose
-pub rose_later : {before mid now : ℕ} → before ≤ mid → Rose mid now → Rose before now
-rose_later h r = omega (arith, h, r)
-
--- what holds at every return holds at an Err
-pub on_err : {T E P : Type 0} (r : Result T E) → P → OnErr r P
-on_err (Ok x) p = tt
-on_err (Err e) p = p

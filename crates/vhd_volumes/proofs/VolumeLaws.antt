@@ -1,33 +1,8 @@
 -- What a volume holds follows what the area holds.
-use Rattle.std.proofs.Common.{◌≡◌, ℕ, ◌<◌, ◌≤◌, cond, ◌⊎◌, Bool, true, false, List, [], refl, ap, ap₂}
+use Rattle.std.proofs.Common.{◌≡◌, ℕ, cond, ◌⊎◌, Bool, true, false, List, [], refl, ap}
 use Rattle.std.specs.Prelude.{Contains, nat_lt}
-use Rattle.std.proofs.lemmas.Bool.{lt-ltb, le-ltb}
-use Rattle.sm_disk.specs.Held.{Held, IsSettled, Keeps, SameHeld, newest, reads}
-use Rattle.vg_volumes.specs.Volumes.{piece, span, spot, volume}
-
--- ---- at a place of the volume, and past its end
-
-pub volume_floor : (x : ℕ) (es : List ℕ) (a : Held) (p : ℕ) → p < span x es → (volume x es a).floor p ≡ a.floor (spot x es p)
-unfolding volume
-volume_floor x es a p below = ap (λ b. cond b (a.floor (spot x es p)) []) (lt-ltb p (span x es) below)
-
-pub volume_pending : (x : ℕ) (es : List ℕ) (a : Held) (p : ℕ) → p < span x es → (volume x es a).pending p ≡ a.pending (spot x es p)
-unfolding volume
-volume_pending x es a p below = ap (λ b. cond b (a.pending (spot x es p)) []) (lt-ltb p (span x es) below)
-
-pub volume_reads : (x : ℕ) (es : List ℕ) (a : Held) (p : ℕ) → p < span x es → reads (volume x es a) p ≡ piece x es (reads a) p
-unfolding piece
-volume_reads x es a p below = ap₂ newest (volume_floor x es a p below) (volume_pending x es a p below)
-
-pub past_pending : (x : ℕ) (es : List ℕ) (a : Held) (p : ℕ) → span x es ≤ p → (volume x es a).pending p ≡ []
-unfolding volume
-past_pending x es a p past = ap (λ b. cond b (a.pending (spot x es p)) []) (le-ltb p (span x es) past)
-
--- ---- the whole volume
-
--- a place of a volume, by whether it has it
-guarded : Bool → List ℕ → List (List ℕ) → Held
-guarded b floor pending = record { floor = λ p. cond b floor []; pending = λ p. cond b pending [] }
+use Rattle.sm_disk.specs.Held.{Held, IsSettled, Keeps, SameHeld, newest}
+use Rattle.vg_volumes.specs.Volumes.{span, spot, volume}
 
 pub Keeps-volume : (x : ℕ) (es : List ℕ) {a b : Held} → Keeps a b → Keeps (volume x es a) (volume x es b)
 unfolding volume

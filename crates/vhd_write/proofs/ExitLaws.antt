@@ -107,9 +107,6 @@ module _ (l : Layout) (ok : IsLayout l) (at : ℕ) (from : List ℕ) (head : Hea
 
   module _ (n : List (Option ℕ)) (slots : IsSlots l (slot_of n)) (mid : Held) (first_pass : Reaches (PutsData l at from (slot_of m)) old mid)
       (put : AllPut l at from (slot_of m) (slot_of n) (reads mid)) where
-    Rest : Held → Type 0
-    Rest new = Goes (PutsRest l at (length from) (slot_of n)) mid new
-
     pub guarded-after : {new : Held} → GoesOn l at (length from) (slot_of n) mid new → IsGuarded l (Puts at from) old new
     guarded-after (inl keeps) = guarded-first (Reaches-then first_pass (Reaches-keeps _ keeps))
     guarded-after {new} (inr goes) = record {

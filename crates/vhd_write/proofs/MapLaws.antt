@@ -128,9 +128,6 @@ with_blocks-add b n (suc j) m =
     grown-then (with_blocks-add b n j m) (subst (λ k. HasGrown (with_blocks b (n + j) m) (with_blocks b k m)) e
     (subst (HasGrown (with_blocks b (n + j) m)) (sym (with_blocks-more b (n + j) m)) (with_block-gives (b + (n + j)) (with_blocks b (n + j) m)).grown))
 
-pub with_blocks-grown : (b n : ℕ) (m : List (Option ℕ)) → HasGrown m (with_blocks b n m)
-with_blocks-grown b n m = subst (λ x. HasGrown x (with_blocks b n m)) (with_blocks-none b m) (subst (λ k. HasGrown (with_blocks b 0 m) (with_blocks b k m)) (let e : 0 + n ≡ n = omega arith in e) (with_blocks-add b 0 n m))
-
 pub given-none : (b : ℕ) (m : List (Option ℕ)) → IsMap m → Given b b m m
 given-none b m good = record {
   is = sym (with_blocks-none b m) ∙ ap (λ k. with_blocks b k m) (let e : 0 ≡ b - b = omega arith in e);

@@ -25,9 +25,9 @@
 //! where a bit or a slot was missing, one sync, one read for each block, one write for each bitmap that lacks a bit, and
 //! one write for each sector of the table that has a touched block's entry.
 //!
-//! What each pass puts where is in `specs/Passes`, the numbers of a write are in `specs/Spans`. The proofs go over plain
-//! volumes: `FirstLaws` and `RestLaws` say what the passes leave of an image, `ExitLaws` what a write leaves at each of
-//! its returns.
+//! What each pass puts where is in `specs/Passes`, the numbers of a write are in `specs/Spans`, and in `specs/WriteSpans`
+//! those of a write into a disk. The proofs go over plain volumes: `FirstLaws` and `RestLaws` say what the passes leave of
+//! an image, `ExitLaws` what a write leaves at each of its returns.
 #![tactic(auto)]
 
 mod bitmaps;

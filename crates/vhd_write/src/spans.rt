@@ -30,30 +30,6 @@ pub(crate) struct Part {
     pub skip: usize,
 }
 
-/// The sectors of `count` from `sector` on, which lie in blocks below `blocks`.
-pub(crate) fn span_of(block: u32, blocks: u64, sector: u64, count: u64) -> Span
-    requires block_least { 8 ≤ block }
-    requires block_most { block ≤ 4096 }
-    requires some { 0 < count }
-    requires within { sector + count ≤ blocks * block }
-    requires few { blocks ≤ 1044480 }
-    ensures block { result.block ≡ block }
-    ensures sector { result.sector ≡ sector }
-    ensures count { result.count ≡ count }
-    ensures end { result.end ≤ blocks }
-{
-    let size = u64::from(block);
-    let first = sector / size;
-    let last = (sector + count - 1) / size;
-    Span {
-        block,
-        sector,
-        count,
-        first: first as u32,
-        end: last as u32 + 1,
-    }
-}
-
 /// The sectors of a block that the write touches.
 pub(crate) fn part_of(span: &Span, block: u32) -> Part
     requires from_first { span.now.first ≤ block }

@@ -1,21 +1,45 @@
 //! The guest's write.
 
-ghost use Rattle.std.specs.Prelude.{◌≡◌, ◌≢◌, ℕ, ◌+◌, ◌-◌, ◌*◌, ◌/◌, ◌<◌, ◌≤◌, length, None, Some, true, false, OnOk, OnErr};
+ghost use Rattle.std.specs.Prelude.{◌≡◌, ◌≢◌, ℕ, ◌+◌, ◌-◌, ◌*◌, ◌/◌, ◌<◌, ◌≤◌, length, None, Some, true, false, OnOk, OnErr, IfOk};
 ghost use Rattle.std.specs.Bool.{OnTrue};
-ghost use Rattle.sm_disk.specs.Held.{IsWhole, Puts, Rose};
+ghost use Rattle.sm_disk.specs.Held.{IsWhole, Puts, Rose, Reaches, reads};
 ghost use Rattle.vhd_map.specs.Slots.{slot_of, top_of, IsMap};
 ghost use Rattle.vhd_volumes.specs.Steps.{WorksOn, sectors_of, held_in};
 ghost use Rattle.vhd_volumes.specs.Truth.{disk_sectors, disk_blocks, layout_in, HasRoomFor, IsStanding, IsTrueIn};
-ghost use Rattle.vhd_volumes.specs.Writes.{IsGuarded, HasWritten, HasGrown, written_map};
+ghost use Rattle.vhd_volumes.specs.Writes.{IsGuarded, HasWritten, HasGrown, with_blocks, written_map};
+ghost use Rattle.vhd_write.specs.Passes.{layout_now, held_now, PutsData, ArePut, IsFull};
+ghost use Rattle.vhd_write.specs.Spans.{Given};
+ghost use Rattle.vhd_write.specs.WriteSpans.{IsSpanOf};
 
 use crate::blocks::put_blocks;
 use crate::finish::{finish, is_complete};
-use crate::spans::{Span, span_of};
+use crate::spans::Span;
 use sm_base::Failed;
 use sm_pool::Pool;
 use vg_volumes::Store;
 use vhd_map::Map;
 use vhd_volumes::Head;
+
+/// The sectors of a write of these bytes, from the disk's sector `sector` on.
+fn span_of<S: Store>(store: &S, head: &Head, sector: u64, from: &[u8]) -> Span
+    requires whole { IsWhole sector (length from.now) (disk_sectors head.now.footer) }
+    requires size { head.now.footer.current ≡
+        512 * (disk_blocks (S.site store.now).geometry head.now.footer * (S.site store.now).geometry.block) }
+    requires most { disk_blocks (S.site store.now).geometry head.now.footer ≤ (S.site store.now).geometry.entries }
+    ensures { IsSpanOf (S.site store.now).geometry head.now.footer sector (length from.now) result }
+{
+    let block = store.geometry().block;
+    let size = u64::from(block);
+    let count = from.len() as u64 / 512;
+    let last = (sector + count - 1) / size;
+    Span {
+        block,
+        sector,
+        count,
+        first: (sector / size) as u32,
+        end: last as u32 + 1,
+    }
+}
 
 /// Whether each of the blocks has a slot.
 fn has_slots(map: &Map, span: &Span) -> bool
@@ -33,6 +57,47 @@ fn has_slots(map: &Map, span: &Span) -> bool
         }
     }
     true
+}
+
+/// The first pass, and whether it is the whole write: each block had a slot, with the bits of the written sectors all
+/// set.
+fn first_pass<S: Store>(
+    store: &mut S,
+    buffer: &mut [u8],
+    head: &Head,
+    map: &mut Map,
+    span: &Span,
+    from: &[u8],
+) -> Result<bool, Failed>
+    requires sizes { span.now.block ≡ (S.site store.old).geometry.block }
+    requires bytes { length from.now ≡ 512 * span.now.count }
+    requires buffer { 512 * (1 + span.now.block) ≤ length buffer.old }
+    requires entries { length map.old ≡ (S.site store.old).geometry.entries }
+    requires good { IsMap map.old }
+    requires within { span.now.end ≤ length map.old }
+    requires room { HasRoomFor (S.site store.old).geometry (top_of map.old)
+        (sectors_of S.site S.kept store.old head.now.volume) }
+    requires slots { HasRoomFor (S.site store.old).geometry
+        (top_of (with_blocks span.now.first (span.now.end - span.now.first) map.old))
+        (sectors_of S.site S.kept store.old head.now.volume) }
+    ensures works { WorksOn S.told S.site S.kept S.area S.failed S.faults
+        head.now.volume store.old store.new }
+    ensures cause { OnErr result (Rose (S.faults store.old) (S.faults store.new)) }
+    ensures grown { HasGrown map.old map.new }
+    ensures given { OnOk result (Given span.now.first span.now.end map.old map.new) }
+    ensures reaches { S.told → Reaches (PutsData (layout_now S.site S.kept store.old head.now)
+        span.now.sector from.now (slot_of map.old)) (held_now S.site S.kept S.area store.old head.now)
+        (held_now S.site S.kept S.area store.new head.now) }
+    ensures done { OnOk result (S.told → ArePut (layout_now S.site S.kept store.old head.now)
+        span.now.sector from.now (slot_of map.old) (slot_of map.new) span.now.end
+        (reads (held_now S.site S.kept S.area store.new head.now))) }
+    ensures full { IfOk result (λ full. OnTrue full ((b : ℕ) → span.now.first ≤ b → b < span.now.end →
+        IsFull S.told (layout_now S.site S.kept store.old head.now) span.now.sector (512 *
+        span.now.count) (slot_of map.old) b (reads (held_now S.site S.kept S.area store.old head.now)))) }
+{
+    let complete = is_complete(store, head, map, span)?;
+    put_blocks(store, buffer, head, map, span, from)?;
+    Ok(complete)
 }
 
 /// The write, with a buffer of a slot's length.
@@ -74,12 +139,9 @@ fn write_with<S: Store>(
     ensures stands { OnOk result (IsStanding (S.site store.old).geometry
         (sectors_of S.site S.kept store.old head.now.volume) head.now map.new) }
 {
-    let geometry = store.geometry();
-    let blocks = head.footer.current / 512 / u64::from(geometry.block);
-    let span = span_of(geometry.block, blocks, sector, from.len() as u64 / 512);
+    let span = span_of(store, head, sector, from);
     let held = has_slots(map, &span);
-    let complete = is_complete(store, head, map, &span)?;
-    put_blocks(store, buffer, head, map, &span, from)?;
+    let complete = first_pass(store, buffer, head, map, &span, from)?;
     if complete {
         return Ok(());
     }
