@@ -79,6 +79,12 @@ fn set_head(device: &mut [u8], at: usize, sector: &[u8; 512]) -> Result<(), Fail
     Ok(())
 }
 
+/// Makes the sum of a label or of a header right.
+fn seal(sector: &mut [u8; 512]) {
+    let sum = sum_between(sector, 0, 508);
+    put(sector, 508, sum);
+}
+
 /// Makes the sums of a device right.
 fn make_right(device: &mut [u8], sums: Sums) -> Result<(), Fail> {
     if sums == Sums::Left {
@@ -86,13 +92,12 @@ fn make_right(device: &mut [u8], sums: Sums) -> Result<(), Fail> {
     }
     let mut label = head(device, 0)?;
     let mut header = head(device, 512)?;
-    let text = text_of(device, &header);
-    if let (Sums::All, Some(text)) = (sums, text) {
+    seal(&mut label);
+    seal(&mut header);
+    if let (Sums::All, Some(text)) = (sums, text_of(device, &header)) {
         put(&mut header, 16, sum_between(text, 0, text.len()));
+        seal(&mut header);
     }
-    let (label_sum, header_sum) = (sum_between(&label, 0, 508), sum_between(&header, 0, 508));
-    put(&mut label, 508, label_sum);
-    put(&mut header, 508, header_sum);
     set_head(device, 0, &label)?;
     set_head(device, 512, &header)
 }

@@ -9,8 +9,10 @@
 //! (`plain_openings.rt`), and writes nothing. A device of stale bytes is formatted; a commit on it stops at each of its
 //! calls, and what is left has the earlier table or the next.
 //!
-//! **What the reader promises.** Its label and its header are those of `vg_layout`'s definitions: `label_fault` answers the
-//! first three checks exactly, `is_header_right` the fourth. Of the text a clause tells only the numbers and sums.
+//! **What the reader promises.** `opening_fault` answers by the definitions of an opening: the refusal of the first of the
+//! five checks that fails, and none only where a group stands on the device (`specs/Answers.antt`). `text_damage` answers
+//! the first place at which a text is damaged, and none only where it spells a table. Both take memory; what they answer
+//! where it runs out is free.
 //!
 //! The bytes and places that are wanted are worked out by hand from the tables of offsets.
 #![tactic(auto)]
@@ -27,6 +29,7 @@ mod plain_bytes;
 mod plain_heads;
 mod plain_openings;
 mod plain_texts;
+mod plain_volumes;
 #[cfg(test)]
 mod record_tests;
 #[cfg(test)]

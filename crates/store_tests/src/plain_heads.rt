@@ -147,7 +147,9 @@ fn is_header_spelled(header: &[u8; 512]) -> bool
 /// Whether each field of a table header is right.
 #[tactic(auto, unfolding(vg_layout::specs::Opening::is_header_right, vg_layout::specs::Sectors::pointer_in))]
 pub fn is_header_right(header: &[u8; 512]) -> bool
-    ensures { result ≡ is_header_right_of header.now }
+    ensures exact { result ≡ is_header_right_of header.now }
+    ensures slot { IsTrue result → number_at 8 header.now ≤ 1 }
+    ensures few { IsTrue result → number_at 12 header.now ≤ 524288 }
 {
     is_header_spelled(header) && number(header, 8) <= 1 && number(header, 12) <= TEXT_LIMIT
 }

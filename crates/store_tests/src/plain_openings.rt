@@ -1,7 +1,10 @@
 //! What an opening of a volume group answers, read off all bytes of the device.
 
-ghost use Rattle.std.specs.Prelude.{◌≡◌, ◌≤◌, ◌+◌, ◌*◌, length, IfSome};
+ghost use Rattle.std.specs.Prelude.{◌≡◌, ◌≤◌, ◌<◌, ◌/◌, ◌+◌, ◌*◌, ◌⊎◌, true, false, length, sum, IfSome, IfNone, IfOk};
 ghost use Rattle.sm_disk.specs.Sectors.{sector as sector_of};
+ghost use Rattle.store_tests.specs.Answers.{IsFault, IsTextFault};
+ghost use Rattle.vg_layout.specs.Opening.{is_header_right as is_header_right_of, text_in};
+ghost use Rattle.vg_layout.specs.Sectors.{pointer_in};
 
 use crate::plain_bytes::{number, sum_between};
 use crate::plain_heads::{is_header_right, label_fault};
@@ -9,23 +12,25 @@ use crate::plain_texts::text_damage;
 use sm_base::{OpenFault, Place};
 use std::alloc::{AllocError, Global};
 
+/// The bytes in front of slot 0.
+const FRONT: usize = 1024;
+
 /// The bytes of a slot.
 const SLOT: usize = 524_288;
 
-/// The text that a header names.
+/// The text that a header names; `None` where the header is not right, or the device ends in the slots.
 pub fn text_of<'a>(device: &'a [u8], header: &[u8; 512]) -> Option<&'a [u8]>
-    ensures { IfSome result (λ text. length text.now ≤ 524288) }
+    ensures right { IfSome result (λ text. is_header_right_of header.now ≡ true) }
+    ensures text { IfSome result (λ text. text.now ≡ text_in (sector_of device.now) (pointer_in header.now)) }
+    ensures few { IfSome result (λ text. length text.now ≤ 524288) }
+    ensures none { IfNone result ((is_header_right_of header.now ≡ false) ⊎ (length device.now < 1049600)) }
 {
-    let begin = match number(header, 8) {
-        0 => 1024,
-        1 => 1024 + SLOT,
-        _ => return None,
-    };
-    let length = number(header, 12) as usize;
-    if length > SLOT || device.len() < begin + length {
+    if !is_header_right(header) || device.len() < FRONT + 2 * SLOT {
         return None;
     }
-    Some(&device[begin..begin + length])
+    let begin = FRONT + number(header, 8) as usize * SLOT;
+    let end = begin + number(header, 12) as usize;
+    Some(&device[begin..end])
 }
 
 /// Why a table is refused whose text has this sum by its header, where extents are counted up to `count`.
@@ -36,6 +41,7 @@ fn text_fault(
     count: u32,
 ) -> Result<Option<OpenFault>, AllocError>
     requires { length text.now ≤ 524288 }
+    ensures { IfOk result (IsTextFault count sum text.now) }
 {
     if sum_between(text, 0, text.len()) != sum {
         return Ok(Some(OpenFault::Damaged {
@@ -46,9 +52,7 @@ fn text_fault(
         return Ok(None);
     };
     Ok(Some(OpenFault::Damaged {
-        place: Place::Table {
-            at: u32::try_from(at).unwrap_or(u32::MAX),
-        },
+        place: Place::Table { at: at as u32 },
     }))
 }
 
@@ -64,18 +68,19 @@ fn sector(device: &[u8], at: usize) -> [u8; 512]
 }
 
 /// Why an opening refuses the device with these bytes, or `None` where a group stands on it.
-pub fn opening_fault(alloc: Global, device: &[u8]) -> Result<Option<OpenFault>, AllocError> {
+pub fn opening_fault(alloc: Global, device: &[u8]) -> Result<Option<OpenFault>, AllocError>
+    ensures { IfOk result (IsFault (length device.now / 512) (sector_of device.now)) }
+{
     let sectors = (device.len() / 512) as u64;
     if sectors < 2 {
         return Ok(Some(OpenFault::NotARepository));
     }
     let label = sector(device, 0);
-    let header = sector(device, 1);
     if let Some(fault) = label_fault(sectors, &label) {
         return Ok(Some(fault));
     }
-    let text = text_of(device, &header);
-    let (true, Some(text)) = (is_header_right(&header), text) else {
+    let header = sector(device, 1);
+    let Some(text) = text_of(device, &header) else {
         return Ok(Some(OpenFault::Damaged {
             place: Place::Header,
         }));

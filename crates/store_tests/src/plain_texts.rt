@@ -1,132 +1,95 @@
-//! A table's text, read from its first byte on.
+//! A table's text: where it is damaged first.
 
-ghost use Rattle.std.specs.Prelude.{◌≡◌, ◌≤◌, ◌<◌, ◌+◌, ◌*◌, length, IfSome};
+ghost use Rattle.std.specs.Prelude.{◌≡◌, ◌≢◌, ◌<◌, ◌≤◌, ◌+◌, ◌^◌, ◌++◌, ◌∷◌, [], ℕ, List, length, option_map, IsTrue, IfSome, IfNone, IfOk};
+ghost use Rattle.sm_base.specs.Names.{spelling};
+ghost use Rattle.store_tests.specs.Answers.{IsDamage};
+ghost use Rattle.store_tests.specs.SoFar.{IsSoFar, row, rises as rises_of, seen};
+ghost use Rattle.vg_meta.specs.Tables.{Row, AreVolumes};
+ghost use Rattle.vg_meta.specs.Taken.{are_new as are_new_of};
+ghost use Rattle.vg_meta.specs.Text.{volume_text};
 
-use crate::plain_bytes::number;
-use sm_base::Name;
+use crate::plain_volumes::{Volume, long_number_at, number_at, volume_at};
 use std::alloc::{AllocError, Global};
 use std::cmp::Ordering;
 
-/// A volume of a text. Its parts stand at these offsets.
-#[derive(Clone, Copy)]
-struct Row {
-    name: Name,
-    /// The name's bytes.
-    begin: usize,
-    end: usize,
-    flags: u8,
-    /// The extents' bytes.
-    first: usize,
-    behind: usize,
-}
+/// The sequence numbers are below this.
+const SEQUENCES: u64 = 281_474_976_710_656;
 
-/// The volume at an offset, where its parts are there and its name is one.
-fn row_at(text: &[u8], at: usize) -> Option<Row>
-    ensures ahead { IfSome result (λ r. at < r.behind) }
-    ensures name { IfSome result (λ r. (r.begin ≤ r.end) × (r.end ≤ length text.now)) }
-    ensures extents { IfSome result (λ r. (r.first ≤ r.behind) × (r.behind ≤ length text.now)) }
+/// Whether the spelling of a name rises behind the one before.
+fn rises(before: Option<&[u8]>, spelled: &[u8]) -> bool
+    ensures { result ≡ rises_of (seen before.entry) spelled.now }
 {
-    if text.len() <= at || text.len() - at < usize::from(text[at]) + 6 {
-        return None;
-    }
-    let begin = at + 1;
-    let end = begin + usize::from(text[at]);
-    let name = Name::read(&text[begin..end])?;
-    let count = number(text, end + 1) as usize;
-    let first = end + 5;
-    if text.len() - first < 4 * count {
-        return None;
-    }
-    Some(Row {
-        name,
-        begin,
-        end,
-        flags: text[end],
-        first,
-        behind: first + 4 * count,
-    })
-}
-
-/// Whether flags and extents suit the kind of the name.
-fn suits(row: &Row) -> bool {
-    let no_extents = row.first >= row.behind;
-    match row.name {
-        Name::Mgt => row.flags == 0,
-        Name::Vhd(_) | Name::Raw(_) | Name::Old(_) => row.flags <= 3 && !no_extents,
-        _ => row.flags == 0 && no_extents,
-    }
-}
-
-/// The name of a volume, as it is spelled.
-fn name_of<'a>(text: &'a [u8], row: &Row) -> &'a [u8] {
-    if row.begin <= row.end && row.end <= text.len() {
-        &text[row.begin..row.end]
-    } else {
-        &[]
-    }
-}
-
-/// Whether the name of a volume rises behind that of the one before.
-fn rises(text: &[u8], before: &Option<Row>, row: &Row) -> bool {
     match before {
-        Some(before) => name_of(text, before).cmp(name_of(text, row)) == Ordering::Less,
+        Some(before) => before.cmp(spelled) == Ordering::Less,
         None => true,
     }
 }
 
-/// Whether each extent from one offset up to another is below the count and was not met before. All are met then.
-fn are_new(
-    text: &[u8],
-    from: usize,
-    to: usize,
-    count: u32,
-    met: &mut Vec<u32>,
-) -> Result<bool, AllocError>
-    requires order { from ≤ to }
-    requires within { to ≤ length text.now }
+/// Whether each extent is below the count and was not met before. All are met then.
+fn are_new(met: &mut Vec<u32>, extents: &[u32], count: u32) -> Result<bool, AllocError>
+    ensures new { IfOk result (λ new. new ≡ are_new_of count met.old.items extents.now) }
+    ensures met { IfOk result (λ new. IsTrue new → met.new.items ≡ met.old.items ++ extents.now) }
 {
-    for index in 0..(to - from) / 4 {
-        let extent = number(text, from + 4 * index);
-        if extent >= count || met.contains(&extent) {
+    for extent in extents {
+        if *extent >= count || met.contains(extent) {
             return Ok(false);
         }
-        met.push(extent)?;
+        met.push(*extent)?;
     }
     Ok(true)
 }
 
-/// The place at which the volumes of a text are damaged first, or that behind the last of so many.
-fn volumes_damage(
-    text: &[u8],
-    volumes: u32,
-    count: u32,
+/// The volume that goes on with those in front, the spelling of its name, and the bytes behind it; `None` where none
+/// stands there.
+fn next_volume<'a>(
+    alloc: Global,
+    before: Option<&'a [u8]>,
     met: &mut Vec<u32>,
-) -> Result<Option<usize>, AllocError> {
-    let mut at = 12;
-    let mut before = None;
-    for _volume in 0..volumes {
-        let Some(row) = row_at(text, at) else {
-            return Ok(Some(at));
-        };
-        let fits = suits(&row) && rises(text, &before, &row);
-        if !fits || !are_new(text, row.first, row.behind, count, met)? {
-            return Ok(Some(at));
-        }
-        at = row.behind;
-        before = Some(row);
+    count: u32,
+    bytes: &'a [u8],
+) -> Result<Option<(Volume, &'a [u8], &'a [u8])>, AllocError>
+    ensures text { IfOk result (λ found. IfSome found (λ x. bytes.now ≡ volume_text (row x.0) ++ x.2.now)) }
+    ensures next { IfOk result (λ found. IfSome found (λ x. (rs : List Row) → IsSoFar count rs (seen before.entry) met.old.items → IsSoFar count (rs ++ row x.0 ∷ []) (Some x.1.now) met.new.items)) }
+    ensures none { IfOk result (λ found. IfNone found ((rs : List Row) → IsSoFar count rs (seen before.entry) met.old.items
+        → (r : Row) (rest : List ℕ) → length r.extents < 2 ^ 32 → AreVolumes count (rs ++ r ∷ []) → bytes.now ≢ volume_text r ++ rest)) }
+{
+    let Some((volume, spelled, rest)) = volume_at(alloc, bytes)? else {
+        return Ok(None);
+    };
+    if rises(before, spelled) && are_new(met, &volume.extents, count)? {
+        Ok(Some((volume, spelled, rest)))
+    } else {
+        Ok(None)
     }
-    Ok(if at < text.len() { Some(at) } else { None })
 }
 
 /// The place at which a text is damaged first, where extents are counted up to `count`, or `None` where it spells a
 /// table.
-pub fn text_damage(alloc: Global, text: &[u8], count: u32) -> Result<Option<usize>, AllocError> {
-    if text.len() < 8 || text[0] != 0 || text[1] != 0 {
+pub fn text_damage(alloc: Global, text: &[u8], count: u32) -> Result<Option<usize>, AllocError>
+    ensures damage { IfOk result (IsDamage count text.now) }
+    ensures within { IfOk result (λ found. IfSome found (λ at. at ≤ 8 + length text.now)) }
+{
+    let Some((sequence, behind)) = long_number_at(text) else {
+        return Ok(Some(0));
+    };
+    if sequence >= SEQUENCES {
         return Ok(Some(0));
     }
-    if text.len() < 12 {
+    let Some((volumes, mut rest)) = number_at(behind) else {
         return Ok(Some(8));
-    }
+    };
+    let mut before = None;
     let mut met = Vec::new(alloc);
-    volumes_damage(text, number(text, 8), count, &mut met)
+    for _ in 0..volumes {
+        let Some((_volume, spelled, after)) = next_volume(alloc, before, &mut met, count, rest)?
+        else {
+            return Ok(Some(text.len() - rest.len()));
+        };
+        before = Some(spelled);
+        rest = after;
+    }
+    if rest.is_empty() {
+        return Ok(None);
+    }
+    Ok(Some(text.len() - rest.len()))
 }
