@@ -4,16 +4,16 @@ use Rattle.std.specs.Bool.{OnTrue}
 use Rattle.std.proofs.lemmas.Bool.{cases_lt, cases_eq}
 use Rattle.std.proofs.lemmas.Option.{same_Some}
 use Rattle.sm_base.specs.Numbers.{first as first_of, div_up}
-use Rattle.sm_disk.specs.Held.{Held, IsWhole, Puts, Torn, Wrote, SameHeld, Keeps, IsSettled, Reaches, reads}
+use Rattle.sm_disk.specs.Held.{Held, IsWhole, Puts, Torn, Wrote, SameHeld, Reaches, reads}
 use Rattle.sm_disk.specs.Sectors.{sector}
 use Rattle.sm_disk.proofs.HeldLaws.{reads-wrote, in_one}
-use Rattle.sm_disk.proofs.ReachesLaws.{Reaches-then, Reaches-wider, Reaches-same, Reaches-torn, may_reached}
+use Rattle.sm_disk.proofs.ReachesLaws.{Reaches-then, Reaches-wider, Reaches-same, Reaches-torn}
 use Rattle.sm_disk.proofs.SectorLaws.{sector-one}
 use Rattle.vhd_map.specs.Bitmaps.{is_set}
 use Rattle.vhd_map.specs.Slots.{slot_of, IsMap}
 use Rattle.vhd_layout.specs.Layouts.{Sectors, Layout, Slots, place, slot_count}
-use Rattle.vhd_layout.proofs.ImageLaws.{place-first, place-same, place-within}
-use Rattle.vhd_write.specs.Passes.{HasMoreBits, HasBits, PutsBitsOf, PutsBitsAll, AreSet, IsTableSector, PutsTable, PutsRest, Goes}
+use Rattle.vhd_layout.proofs.ImageLaws.{place-same, place-within}
+use Rattle.vhd_write.specs.Passes.{HasMoreBits, HasBits, PutsBitsOf, PutsBitsAll, AreSet, IsTableSector, PutsTable}
 use Rattle.vhd_write.specs.Spans.{IsPart}
 
 pub on_true : {P Q : Type 0} (b : Bool) → (P → Q) → OnTrue b P → OnTrue b Q
@@ -130,32 +130,3 @@ table-done l m index p v {y} {z} is long right w =
     let read : reads z (3 + index) ≡ v = ap (reads z) (sym is) ∙ one-read p v long w in
     let P : List ℕ → Type 0 = λ x. IsTableSector l m index x in
     subst P (sym read) right
-
--- ---- behind the sync
-
-module _ (l : Layout) (at len : ℕ) (m : Slots) where
-  rest-bits : {a b : Held} → Keeps a b → (p : ℕ) (v : List ℕ) → PutsBitsAll l at len m (reads b) p v → PutsRest l at len m (reads a) p v
-  rest-bits {a} {b} k p v (c, j, has, h) =
-      let P : List ℕ → Type 0 = λ x. HasMoreBits l at len c x v in
-      inl (c, j, has, record { here = h.here; more = subst P (k.reads p) h.more })
-
-  pub goes-bits : {a b c : Held} → Keeps a b → IsSettled b → Reaches (PutsBitsAll l at len m (reads b)) b c → Goes (PutsRest l at len m) a c
-  goes-bits {a} {b} {c} k settled r = record {
-    may = λ p v is. ⊎_elim (λ e. inl (e ∙ k.reads p)) (λ h. inr (rest-bits k p v h)) (may_reached settled r p v is);
-    gives = λ p. ⊎_elim (λ e. inl (e ∙ k.reads p)) (λ h. inr (rest-bits k p (reads c p) h)) (r.gives p);
-  }
-
-  pub goes-table : {a c d : Held} → Goes (PutsRest l at len m) a c → Reaches (PutsTable l m) c d → Goes (PutsRest l at len m) a d
-  goes-table {a} {c} {d} g r = record {
-    may = λ p v is. ⊎_elim (λ was. g.may p v was) (λ h. inr (inr h)) (r.may p v is);
-    gives = λ p. ⊎_elim (λ e. ⊎_elim (λ was. inl (e ∙ was)) (λ h. inr (moved p e h)) (g.gives p)) (λ h. inr (inr h)) (r.gives p);
-  }
-    where
-      moved : (p : ℕ) → reads d p ≡ reads c p → PutsRest l at len m (reads a) p (reads c p) → PutsRest l at len m (reads a) p (reads d p)
-      moved p e h = let P : List ℕ → Type 0 = λ x. PutsRest l at len m (reads a) p x in subst P (sym e) h
-
-  -- the table's pass leaves the bitmaps
-  pub bits-kept : (b : ℕ) (slot : Option ℕ) {c d : Held} → l.first ≡ first_of l.entries → Reaches (PutsTable l m) c d → AreSet l at len slot b (reads c) → AreSet l at len slot b (reads d)
-  bits-kept b slot {c} {d} begins r was = λ k has i within here.
-      let same : reads d (place l k 0) ≡ reads c (place l k 0) = ⊎_elim (λ e. e) (λ h. absurd (omega (arith, h.here, place-first l k 0, table-low l h.index begins h.within))) (r.gives (place l k 0)) in
-      ap (λ x. is_set x i) same ∙ was k has i within here

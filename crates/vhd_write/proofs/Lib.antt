@@ -2,6 +2,7 @@ pub mod BitLaws
 pub mod BufferLaws
 pub mod CallLaws
 pub mod ExitLaws
+pub mod FinishLaws
 pub mod FirstLaws
 pub mod ImageKept
 pub mod LoopLaws
