@@ -155,13 +155,13 @@ guest_after = ap (λ c. turns_of c 0 (Vhd first)) is_pair ∙ filled_turn pair (
 abbrev copied : Content
 copied = content_with leaf_copied (leaf_area 34)
 
-uncopied_base : image_of uncopied (Vhd base) ≡ Some (top 17)
+pub uncopied_base : image_of uncopied (Vhd base) ≡ Some (top 17)
 unfolding row_of name_eq
 uncopied_base =
     placed_image leaf_copied (leaf_area 17) base true 16 (Vhd base) (top_image 17) refl refl
     (λ s below. area_first (top_image 17) (filled_child (Vhd base) 34) (empty_child (Vhd base)) (first_record ∷ []) (32 * 16 + s) s refl below) (top_valid 17)
 
-uncopied_leaf : image_of uncopied (Vhd first) ≡ Some (filled 34)
+pub uncopied_leaf : image_of uncopied (Vhd first) ≡ Some (filled 34)
 unfolding row_of name_eq
 uncopied_leaf =
     placed_image leaf_copied (leaf_area 17) first false 21 (Vhd first) (filled_child (Vhd base) 34) refl refl
@@ -219,15 +219,15 @@ over_empty c n u proper is =
 abbrev linked : Content
 linked = content_with relink_table (fork_area (first_record ∷ []))
 
-linked_over_base : image_of linked (Vhd first) ≡ Some child
+pub linked_over_base : image_of linked (Vhd first) ≡ Some child
 unfolding row_of name_eq
 linked_over_base = first_child relink_table (first_record ∷ []) (Vhd first) refl refl
 
-linked_hidden : image_of linked (Vhd second) ≡ Some child
+pub linked_hidden : image_of linked (Vhd second) ≡ Some child
 unfolding row_of name_eq
 linked_hidden = second_child relink_table (first_record ∷ []) true (Vhd second) refl refl
 
-linked_below : image_of linked (Vhd base) ≡ Some (top 17)
+pub linked_below : image_of linked (Vhd base) ≡ Some (top 17)
 unfolding row_of name_eq
 linked_below = disk_image relink_table (first_record ∷ []) base true (Vhd base) refl refl
 

@@ -11,6 +11,7 @@ pub mod SwapExample
 pub mod WorkedDisks
 pub mod WorkedSound
 pub mod OpenedLaws
+pub mod EntrySound
 pub mod RelinkOpened
 pub mod ImageSectors
 pub mod VolumeExample

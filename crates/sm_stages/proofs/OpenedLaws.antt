@@ -7,6 +7,7 @@ use Rattle.sm_base.specs.declared.operations.Op.TheVariants.{Idle}
 use Rattle.sm_machine.specs.Disks.{Disk}
 use Rattle.sm_machine.specs.Lists.{numbers, insert_by}
 use Rattle.sm_machine.specs.Shapes.{Shape, ImageRow, with_image}
+use Rattle.sm_record.specs.declared.records.Record.{Record}
 use Rattle.vg_meta.specs.Tables.{Listing, row_of, name_eq}
 use Rattle.sm_standing.specs.Contents.{records, is_record_of}
 use Rattle.sm_standing.specs.Entries.{image_with}
@@ -15,12 +16,13 @@ use Rattle.sm_standing.specs.Images.{Image, image_of}
 use Rattle.sm_standing.specs.Opened.{Part, Work, begun, repaired, new_removed, extents_besides, in_name_order, row_of_part, opened}
 use Rattle.sm_standing.specs.Shapes.{disk_record, image_row, shape, row_of as shape_row}
 use Rattle.sm_standing.specs.Standing.{stands, disks, disk_at, uuids, with_uuid, in_order}
+use Rattle.sm_stages.specs.Forks.{IsForking}
 use Rattle.sm_stages.specs.Moments.{top, filled, written, disk_of}
 use Rattle.sm_stages.specs.Opened.{one_disk_shape}
-use Rattle.sm_stages.specs.Worked.{first, second, base, first_record, second_record, content_with, image_row as worked_row, fork_area, swap_area, unforked, forking_at, filled_at, swapping_at}
-use Rattle.sm_stages.proofs.ForkExample.{forkable, moment_1, moment_3, moment_7, unforked_image, disk_image, first_right}
+use Rattle.sm_stages.specs.Worked.{first, second, base, first_record, second_record, content_with, image_row as worked_row, fork_area, fork_after, swap_area, unforked, forking_at, filled_at, swapping_at}
+use Rattle.sm_stages.proofs.ForkExample.{forkable, moment_1, moment_2, moment_3, moment_4, moment_5, moment_6, moment_7, unforked_image, first_right}
 use Rattle.sm_stages.proofs.ForkLaws.{forking}
-use Rattle.sm_stages.proofs.ForkMoments.{fork_1, fork_3, fork_7, is_fork_1, is_fork_3, is_fork_7, swap_1, swap_2, swap_3, swap_4, swap_5, is_swap_1, is_swap_2, is_swap_3, is_swap_4, is_swap_5}
+use Rattle.sm_stages.proofs.ForkMoments.{fork_1, fork_2, fork_3, fork_4, fork_5, fork_6, fork_7, is_fork_1, is_fork_2, is_fork_3, is_fork_4, is_fork_5, is_fork_6, is_fork_7, swap_1, swap_2, swap_3, swap_4, swap_5, is_swap_1, is_swap_2, is_swap_3, is_swap_4, is_swap_5}
 use Rattle.sm_stages.proofs.PlacedLaws.{one_record}
 use Rattle.sm_stages.proofs.SwapExample.{parent_image, swappable, moment_1 as swap_moment_1, moment_2 as swap_moment_2, moment_3 as swap_moment_3, moment_4 as swap_moment_4, moment_5 as swap_moment_5}
 use Rattle.sm_stages.proofs.SwapLaws.{swapping}
@@ -122,83 +124,132 @@ with_entry sequence parts = record { sequence = sequence; parts = records_part �
 abbrev fork_entry : Part
 fork_entry = entry_part (Clone first base second)
 
-image_1 : image_of (content_with fork_1 early) (Vhd first) ≡ Some (top 17)
-unfolding row_of name_eq
-image_1 = disk_image fork_1 (first_record ∷ []) first false (Vhd first) refl refl
+-- a moment of the fork whose disk's image lies in m; its table is written out
+undone : (s t : Listing) (rs : List Record) (m : Name) (parts : Option Image → Work) (sequence : ℕ) → s ≡ t
+    → IsForking unforked (content_with s (fork_area rs)) first base second (Vhd first) m
+    → begun (content_with t (fork_area rs)) ≡ parts (image_of (content_with t (fork_area rs)) m)
+    → ((i : Image) → repaired t (parts (Some i)) ≡ one_left sequence i) → opened (content_with s (fork_area rs)) ≡ one_disk_shape sequence (top 17)
+undone s t rs m parts sequence is forks begins leaves =
+    ap (λ l. opened (content_with l (fork_area rs))) is
+    ∙ opened_one t (fork_area rs) (parts (Some (top 17))) sequence (top 17) (written 17)
+    (begins ∙ ap parts (sym (ap (λ l. image_of (content_with l (fork_area rs)) m) is) ∙ forks.image ∙ unforked_image)) (leaves (top 17))
+    (sym (ap (λ l. disks (content_with l (fork_area rs))) is)
+    ∙ forking unforked (content_with s (fork_area rs)) first base second (Vhd first) m (top 17) forkable forks
+    ∙ unforked_disks)
 
-begun_1 : begun (content_with fork_1 early) ≡ with_entry 5 (volume (Vhd first) false false (image_of (content_with fork_1 early) (Vhd first)) ∷ fork_entry ∷ [])
+-- the disk's image has its own name
+abbrev parts_1 : Option Image → Work
+parts_1 o = with_entry 5 (volume (Vhd first) false false o ∷ fork_entry ∷ [])
+
+begun_1 : begun (content_with fork_1 early) ≡ parts_1 (image_of (content_with fork_1 early) (Vhd first))
 unfolding image_of numbers
 begun_1 = refl
 
-repaired_1 : (i : Image) → repaired fork_1 (with_entry 5 (volume (Vhd first) false false (Some i) ∷ fork_entry ∷ [])) ≡ one_left 6 i
+-- one commit: the entry goes
+repaired_1 : (i : Image) → repaired fork_1 (parts_1 (Some i)) ≡ one_left 6 i
 unfolding new_removed row_of name_eq image_with
 repaired_1 i = refl
 
-disks_1 : disks (content_with fork_1 early) ≡ disk_of first_record (written 17) ∷ []
-disks_1 =
-    sym (ap (λ t. disks (content_with t early)) is_fork_1)
-    ∙ forking unforked (forking_at 1) first base second (Vhd first) (Vhd first) (top 17) forkable moment_1
-    ∙ unforked_disks
-
 pub opened_1 : opened (forking_at 1) ≡ one_disk_shape 6 (top 17)
-opened_1 =
-    ap (λ t. opened (content_with t early)) is_fork_1
-    ∙ opened_one fork_1 early (with_entry 5 (volume (Vhd first) false false (Some (top 17)) ∷ fork_entry ∷ [])) 6 (top 17) (written 17)
-    (begun_1 ∙ ap (λ o. with_entry 5 (volume (Vhd first) false false o ∷ fork_entry ∷ [])) image_1) (repaired_1 (top 17)) disks_1
+opened_1 = undone (fork_after 1) fork_1 (first_record ∷ []) (Vhd first) parts_1 6 is_fork_1 moment_1 begun_1 repaired_1
 
-image_3 : image_of (content_with fork_3 early) (Vhd base) ≡ Some (top 17)
-unfolding row_of name_eq
-image_3 = disk_image fork_3 (first_record ∷ []) base true (Vhd base) refl refl
+-- it is the base, hidden or not
+abbrev base_parts : ℕ → Bool → Option Image → Work
+base_parts sequence hidden o = with_entry sequence (volume (Vhd base) hidden false o ∷ fork_entry ∷ [])
 
-begun_3 : begun (content_with fork_3 early) ≡ with_entry 7 (volume (Vhd base) true false (image_of (content_with fork_3 early) (Vhd base)) ∷ fork_entry ∷ [])
+begun_2 : begun (content_with fork_2 early) ≡ base_parts 6 false (image_of (content_with fork_2 early) (Vhd base))
+unfolding image_of numbers
+begun_2 = refl
+
+-- two: the base is renamed, and the entry goes
+repaired_2 : (i : Image) → repaired fork_2 (base_parts 6 false (Some i)) ≡ one_left 8 i
+unfolding new_removed row_of name_eq image_with
+repaired_2 i = refl
+
+pub opened_2 : opened (forking_at 2) ≡ one_disk_shape 8 (top 17)
+opened_2 = undone (fork_after 2) fork_2 (first_record ∷ []) (Vhd base) (base_parts 6 false) 8 is_fork_2 moment_2 begun_2 repaired_2
+
+begun_3 : begun (content_with fork_3 early) ≡ base_parts 7 true (image_of (content_with fork_3 early) (Vhd base))
 unfolding image_of numbers
 begun_3 = refl
 
-repaired_3 : (i : Image) → repaired fork_3 (with_entry 7 (volume (Vhd base) true false (Some i) ∷ fork_entry ∷ [])) ≡ one_left 10 i
+-- three: the base is unmarked before
+repaired_3 : (i : Image) → repaired fork_3 (base_parts 7 true (Some i)) ≡ one_left 10 i
 unfolding new_removed row_of name_eq image_with
 repaired_3 i = refl
 
-disks_3 : disks (content_with fork_3 early) ≡ disk_of first_record (written 17) ∷ []
-disks_3 =
-    sym (ap (λ t. disks (content_with t early)) is_fork_3)
-    ∙ forking unforked (forking_at 3) first base second (Vhd first) (Vhd base) (top 17) forkable moment_3
-    ∙ unforked_disks
-
 pub opened_3 : opened (forking_at 3) ≡ one_disk_shape 10 (top 17)
-opened_3 =
-    ap (λ t. opened (content_with t early)) is_fork_3
-    ∙ opened_one fork_3 early (with_entry 7 (volume (Vhd base) true false (Some (top 17)) ∷ fork_entry ∷ [])) 10 (top 17) (written 17)
-    (begun_3 ∙ ap (λ o. with_entry 7 (volume (Vhd base) true false o ∷ fork_entry ∷ [])) image_3) (repaired_3 (top 17)) disks_3
+opened_3 = undone (fork_after 3) fork_3 (first_record ∷ []) (Vhd base) (base_parts 7 true) 10 is_fork_3 moment_3 begun_3 repaired_3
 
-image_7 : image_of (content_with fork_7 late) (Vhd base) ≡ Some (top 17)
-unfolding row_of name_eq
-image_7 = disk_image fork_7 (first_record ∷ second_record ∷ []) base true (Vhd base) refl refl
+-- the disk's new image is there
+abbrev parts_4 : Option Image → Option Image → Work
+parts_4 o q = with_entry 8 (volume (Vhd first) false true o ∷ volume (Vhd base) true false q ∷ fork_entry ∷ [])
 
--- both new images are there
-abbrev parts_7 : Option Image → Option Image → Option Image → Work
-parts_7 o p q = with_entry 11 (volume (Vhd first) false false o ∷ volume (Vhd second) false false p ∷ volume (Vhd base) true false q ∷ fork_entry ∷ [])
+begun_4 : begun (content_with fork_4 early) ≡ parts_4 (image_of (content_with fork_4 early) (Vhd first)) (image_of (content_with fork_4 early) (Vhd base))
+unfolding image_of numbers
+begun_4 = refl
+
+-- four: the disk's new image goes before
+repaired_4 : (o : Option Image) (i : Image) → repaired fork_4 (parts_4 o (Some i)) ≡ one_left 12 i
+unfolding new_removed row_of name_eq image_with
+repaired_4 o i = refl
+
+pub opened_4 : opened (forking_at 4) ≡ one_disk_shape 12 (top 17)
+opened_4 =
+    let o = image_of (content_with fork_4 early) (Vhd first) in
+    undone (fork_after 4) fork_4 (first_record ∷ []) (Vhd base) (parts_4 o) 12 is_fork_4 moment_4 begun_4 (repaired_4 o)
+
+-- both new images are there, each of them new or not
+abbrev both_parts : ℕ → Bool → Bool → Option Image → Option Image → Option Image → Work
+both_parts sequence disk_new twin_new o p q =
+    with_entry sequence (volume (Vhd first) false disk_new o ∷ volume (Vhd second) false twin_new p ∷ volume (Vhd base) true false q ∷ fork_entry ∷ [])
+
+begun_5 : begun (content_with fork_5 early)
+    ≡ both_parts 9 true true (image_of (content_with fork_5 early) (Vhd first)) (image_of (content_with fork_5 early) (Vhd second)) (image_of (content_with fork_5 early) (Vhd base))
+unfolding image_of numbers
+begun_5 = refl
+
+-- five: the twin goes first of all
+repaired_5 : (o p : Option Image) (i : Image) → repaired fork_5 (both_parts 9 true true o p (Some i)) ≡ one_left 14 i
+unfolding new_removed row_of name_eq image_with
+repaired_5 o p i = refl
+
+pub opened_5 : opened (forking_at 5) ≡ one_disk_shape 14 (top 17)
+opened_5 =
+    let o = image_of (content_with fork_5 early) (Vhd first) in
+    let p = image_of (content_with fork_5 early) (Vhd second) in
+    undone (fork_after 5) fork_5 (first_record ∷ []) (Vhd base) (both_parts 9 true true o p) 14 is_fork_5 moment_5 begun_5 (repaired_5 o p)
+
+begun_6 : begun (content_with fork_6 late)
+    ≡ both_parts 10 false true (image_of (content_with fork_6 late) (Vhd first)) (image_of (content_with fork_6 late) (Vhd second)) (image_of (content_with fork_6 late) (Vhd base))
+unfolding image_of numbers
+begun_6 = refl
+
+-- and five from here on
+repaired_6 : (o p : Option Image) (i : Image) → repaired fork_6 (both_parts 10 false true o p (Some i)) ≡ one_left 15 i
+unfolding new_removed row_of name_eq image_with
+repaired_6 o p i = refl
+
+pub opened_6 : opened (filled_at 6) ≡ one_disk_shape 15 (top 17)
+opened_6 =
+    let o = image_of (content_with fork_6 late) (Vhd first) in
+    let p = image_of (content_with fork_6 late) (Vhd second) in
+    undone (fork_after 6) fork_6 (first_record ∷ second_record ∷ []) (Vhd base) (both_parts 10 false true o p) 15 is_fork_6 moment_6 begun_6 (repaired_6 o p)
 
 begun_7 : begun (content_with fork_7 late)
-    ≡ parts_7 (image_of (content_with fork_7 late) (Vhd first)) (image_of (content_with fork_7 late) (Vhd second)) (image_of (content_with fork_7 late) (Vhd base))
+    ≡ both_parts 11 false false (image_of (content_with fork_7 late) (Vhd first)) (image_of (content_with fork_7 late) (Vhd second)) (image_of (content_with fork_7 late) (Vhd base))
 unfolding image_of numbers
 begun_7 = refl
 
-repaired_7 : (o p : Option Image) (i : Image) → repaired fork_7 (parts_7 o p (Some i)) ≡ one_left 16 i
+repaired_7 : (o p : Option Image) (i : Image) → repaired fork_7 (both_parts 11 false false o p (Some i)) ≡ one_left 16 i
 unfolding new_removed row_of name_eq image_with
 repaired_7 o p i = refl
 
-disks_7 : disks (content_with fork_7 late) ≡ disk_of first_record (written 17) ∷ []
-disks_7 =
-    sym (ap (λ t. disks (content_with t late)) is_fork_7)
-    ∙ forking unforked (filled_at 7) first base second (Vhd first) (Vhd base) (top 17) forkable moment_7
-    ∙ unforked_disks
-
 pub opened_7 : opened (filled_at 7) ≡ one_disk_shape 16 (top 17)
 opened_7 =
-    ap (λ t. opened (content_with t late)) is_fork_7
-    ∙ opened_one fork_7 late (parts_7 (image_of (content_with fork_7 late) (Vhd first)) (image_of (content_with fork_7 late) (Vhd second)) (Some (top 17))) 16 (top 17) (written 17)
-    (begun_7 ∙ ap (parts_7 (image_of (content_with fork_7 late) (Vhd first)) (image_of (content_with fork_7 late) (Vhd second))) image_7)
-    (repaired_7 (image_of (content_with fork_7 late) (Vhd first)) (image_of (content_with fork_7 late) (Vhd second)) (top 17)) disks_7
+    let o = image_of (content_with fork_7 late) (Vhd first) in
+    let p = image_of (content_with fork_7 late) (Vhd second) in
+    undone (fork_after 7) fork_7 (first_record ∷ second_record ∷ []) (Vhd base) (both_parts 11 false false o p) 16 is_fork_7 moment_7 begun_7 (repaired_7 o p)
 
 -- ---- a swap
 

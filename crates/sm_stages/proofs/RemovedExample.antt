@@ -1,9 +1,9 @@
 -- The end of the worked relink: the hidden image past which the disk was linked is removed.
-use Rattle.std.proofs.Common.{◌≡◌, ◌≢◌, inl, inr, ℕ, ◌*◌, true, false, cond, List, [], ◌∷◌, length, Some, None, refl, sym, ap, ap₂, ◌∙◌, subst}
+use Rattle.std.proofs.Common.{◌≡◌, ◌≢◌, ℕ, ◌*◌, true, cond, List, [], ◌∷◌, length, Some, None, refl, sym, ap, ap₂, ◌∙◌, subst}
 use Rattle.std.specs.List.{find, filter_map, cons_option}
 use Rattle.sm_base.specs.declared.names.Name.{Name}
 use Rattle.sm_base.specs.declared.names.Name.TheVariants.{Mgt, Vhd, Raw, Old, Clone, Inflate, Coalesce, Relink, Leaf}
-use Rattle.sm_machine.specs.Lists.{In, ◌>>=◌}
+use Rattle.sm_machine.specs.Lists.{◌>>=◌}
 use Rattle.sm_machine.specs.Shapes.{same_image}
 use Rattle.vg_meta.specs.Changes.{without}
 use Rattle.vg_meta.specs.Tables.{Row, Listing, rows, row_of, name_eq, extents_of}
@@ -12,7 +12,7 @@ use Rattle.vg_volumes.specs.Volumes.{piece, span}
 use Rattle.vhd_layout.specs.Contents.{raw_content}
 use Rattle.vhd_layout.specs.Readings.{image_at}
 use Rattle.sm_standing.specs.Changes.{IsRemoved}
-use Rattle.sm_standing.specs.Checks.{children, parent_is}
+use Rattle.sm_standing.specs.Checks.{children}
 use Rattle.sm_standing.specs.Contents.{Content, is_record_of, sectors_of}
 use Rattle.sm_standing.specs.Entries.{making}
 use Rattle.sm_standing.specs.Images.{image_of, image_extents, vhd_image, raw_image}
@@ -24,9 +24,8 @@ use Rattle.sm_stages.proofs.ApartLaws.{none_disk}
 use Rattle.sm_stages.proofs.ForkExample.{HasRecords, disk_image, first_child, second_child, recorded_one, unforked_records}
 use Rattle.sm_stages.proofs.ForkMoments.{relink_1, relink_2, is_relink_1, is_relink_2}
 use Rattle.sm_stages.proofs.RelinkOpened.{over_hidden, over_second}
-use Rattle.sm_stages.proofs.WorkedDisks.{child_parent_is, child_sectors, shown}
-use Rattle.sm_stages.proofs.WorkedLaws.{top_parent}
-use Rattle.sm_stages.proofs.WorkedSound.{other_parent, no_parent, records_no_parent, none_left, second_other}
+use Rattle.sm_stages.proofs.WorkedDisks.{child_sectors, shown}
+use Rattle.sm_stages.proofs.WorkedSound.{written_out, saying_top, saying_child, ap₃, images_of, children_are}
 
 abbrev at_table : Listing → Content
 at_table t = content_with t (fork_area (first_record ∷ []))
@@ -48,22 +47,16 @@ second_image = second_child relink_1 (first_record ∷ []) true (Vhd second) ref
 pub hidden_image : image_of (relinked_at 1) (Vhd second) ≡ Some child
 hidden_image = ap (λ t. image_of (at_table t) (Vhd second)) is_relink_1 ∙ second_image
 
-second_unseen : (r : Row) → In r (relink_1).volumes → parent_is (Vhd second) (image_of (at_table relink_1) r.name) ≡ false
-second_unseen r (inl is) = ap (λ (s : Row). parent_is (Vhd second) (image_of (at_table relink_1) s.name)) is ∙ records_no_parent (at_table relink_1) (Vhd second)
-second_unseen r (inr (inl is)) =
-    ap (λ (s : Row). parent_is (Vhd second) (image_of (at_table relink_1) s.name)) is
-    ∙ other_parent (at_table relink_1) (Vhd second) (Vhd first) (Vhd base) child first_image child_parent_is second_other
-second_unseen r (inr (inr (inl is))) =
-    ap (λ (s : Row). parent_is (Vhd second) (image_of (at_table relink_1) s.name)) is
-    ∙ other_parent (at_table relink_1) (Vhd second) (Vhd second) (Vhd base) child second_image child_parent_is second_other
-second_unseen r (inr (inr (inr (inl is)))) =
-    ap (λ (s : Row). parent_is (Vhd second) (image_of (at_table relink_1) s.name)) is
-    ∙ no_parent (at_table relink_1) (Vhd second) (Vhd base) (top 17) base_image (top_parent 17)
-second_unseen r (inr (inr (inr (inr none)))) = elim none [ ]
+images_are : images_of (at_table relink_1)
+    ≡ None ∷ Some (written_out (Some (Vhd base)) child) ∷ Some (written_out (Some (Vhd base)) child) ∷ Some (written_out None (top 17)) ∷ []
+unfolding image_of
+images_are = ap₃ (λ o p q. None ∷ o ∷ p ∷ q ∷ [])
+    (saying_child (at_table relink_1) (Vhd first) first_image) (saying_child (at_table relink_1) (Vhd second) second_image)
+    (saying_top (at_table relink_1) (Vhd base) 17 base_image)
 
 second_childless : children (at_table relink_1) (Vhd second) ≡ []
-unfolding children
-second_childless = none_left (λ r. parent_is (Vhd second) (image_of (at_table relink_1) r.name)) (relink_1).volumes second_unseen
+unfolding same_image
+second_childless = children_are (at_table relink_1) _ (Vhd second) images_are
 
 -- ---- all others are as they were
 

@@ -1,70 +1,123 @@
 -- The worked contents are sound: no check of an opening fails.
-use Rattle.std.proofs.Common.{◌≡◌, inl, inr, ℕ, ◌==◌, ◌&&◌, not, nat_le, Bool, true, false, cond, List, [], ◌∷◌, length, Option, Some, None, is_none, refl, ap, ◌∙◌, arith}
-use Rattle.std.proofs.lemmas.Bool.{le-leb}
+use Rattle.std.proofs.Common.{◌≡◌, ℕ, suc, ◌==◌, ◌&&◌, ◌||◌, not, nat_le, Bool, true, false, cond, List, [], ◌∷◌, ◌++◌, length, map, Option, Some, None, is_none, refl, ap, ap₂, ◌∙◌}
 use Rattle.std.specs.List.{find, filter}
 use Rattle.sm_base.specs.Names.{is_base}
 use Rattle.sm_base.specs.Numbers.{div_up}
 use Rattle.sm_base.specs.declared.faults.Place.{Place}
 use Rattle.sm_base.specs.declared.faults.Place.TheVariants as at
 use Rattle.sm_base.specs.declared.names.Name.{Name}
-use Rattle.sm_base.specs.declared.names.Name.TheVariants.{Mgt, Vhd}
+use Rattle.sm_base.specs.declared.names.Name.TheVariants.{Vhd}
 use Rattle.vg_layout.specs.Places.{record_extents}
 use Rattle.vg_meta.specs.Tables.{Row, row_of, name_eq}
-use Rattle.sm_machine.specs.Lists.{In, numbers, first_some}
+use Rattle.sm_machine.specs.Lists.{◌>>=◌, numbers, first_some}
 use Rattle.sm_machine.specs.Shapes.{same_image}
-use Rattle.sm_standing.specs.Checks.{first_fault, first_name, name_in, placed, record_volume_fault, too_many_fault, misnamed_fault, second_entry_fault, lost_entry_fault, old_leaf_fault, is_invalid, invalid_fault, children, parent_is, depth, is_linked, is_no_larger, is_parent_right, is_misplaced, is_tree_wrong, tree_fault, is_entry_linked, entry_link_fault, record_fault, disk_place, is_unrecorded, disk_fault}
-use Rattle.sm_standing.specs.Contents.{Content, is_record_of}
-use Rattle.sm_standing.specs.Entries.{is_at_stage}
+use Rattle.sm_record.specs.declared.records.Record.{Record}
+use Rattle.sm_standing.specs.Checks.{first_fault, first_name, name_in, placed, record_volume_fault, too_many_fault, misnamed_fault, second_entry_fault, lost_entry_fault, old_leaf_fault, is_invalid, invalid_fault, children, parent_is, depth, is_no_larger, is_misplaced, is_tree_wrong, tree_fault, is_entry_linked, entry_link_fault, record_fault, disk_place, disk_uuids, disk_fault}
+use Rattle.sm_standing.specs.Contents.{Content, records, is_record_of}
+use Rattle.sm_standing.specs.Entries.{is_hidden, is_at_stage}
 use Rattle.sm_standing.specs.Images.{Image, image_of}
-use Rattle.sm_standing.specs.Standing.{stands}
-use Rattle.sm_standing.proofs.Finding.{find_none}
+use Rattle.sm_standing.specs.Standing.{stands, uuids, with_uuid, in_order}
+use Rattle.sm_standing.proofs.WalkLaws.{depth_top, depth_up}
 use Rattle.sm_stages.specs.Moments.{top, filled, child}
 use Rattle.sm_stages.specs.Worked.{first, second, base, first_record, second_record, image_row, one_disk, unforked, two_disks}
 use Rattle.sm_stages.specs.WorkedImages.{top_image, filled_child, empty_child}
-use Rattle.sm_stages.proofs.ForkExample.{first_right, second_right, unforked_image, unforked_records, unforked_parent}
+use Rattle.sm_stages.proofs.ForkExample.{first_right, second_right, unforked_image, unforked_records}
 use Rattle.sm_stages.proofs.ForkMoments.{fork_8}
 use Rattle.sm_stages.proofs.PlacedLaws.{one_undamaged, two_undamaged}
 use Rattle.sm_stages.proofs.SwapExample.{filled_size, filled_parent}
-use Rattle.sm_stages.proofs.WorkedDisks.{pair, is_pair, pair_base, pair_first, pair_second, child_parent_is, child_size_is, base_top, over_depth, pair_records, pair_uuids, unforked_uuids}
+use Rattle.sm_stages.proofs.WorkedDisks.{pair, is_pair, pair_base, pair_first, pair_second, child_parent_is, child_size_is, pair_records}
 use Rattle.sm_stages.proofs.WorkedLaws.{top_size, top_parent}
-use Rattle.sm_standing.proofs.WalkLaws.{depth_top}
 
 -- ---- all checks
 
-record Passes (c : Content) : Type 0 where
-  record_volume : record_volume_fault c ≡ None
-  too_many : too_many_fault c ≡ None
-  misnamed : misnamed_fault c ≡ None
-  second_entry : second_entry_fault c ≡ None
-  lost_entry : lost_entry_fault c ≡ None
-  old_leaf : old_leaf_fault c ≡ None
-  invalid : invalid_fault c ≡ None
-  tree : tree_fault c ≡ None
-  entry_link : entry_link_fault c ≡ None
-  records : record_fault c ≡ None
-  disks : disk_fault c ≡ None
+-- a test that fails at each volume
+abbrev pub Fails : (Row → Bool) → List Row → Type 0
+Fails test [] = Unit {0}
+Fails test (r ∷ rs) = (test r ≡ false) × Fails test rs
+
+-- the checks that the table decides alone
+abbrev pub table_faults : Content → List (Option Place)
+table_faults c = record_volume_fault c ∷ too_many_fault c ∷ misnamed_fault c ∷ second_entry_fault c ∷ lost_entry_fault c ∷ old_leaf_fault c ∷ []
+
+pub record Passes (c : Content) : Type 0 where
+  pub table : first_some (table_faults c) ≡ None
+  pub invalid : Fails (is_invalid c) c.table.volumes
+  pub tree : Fails (is_tree_wrong c) c.table.volumes
+  pub entry_link : Fails (λ r. not (is_entry_linked c r.name)) c.table.volumes
+  pub records : record_fault c ≡ None
+  pub disks : disk_fault c ≡ None
+
+none_named : (test : Row → Bool) (rs : List Row) → Fails test rs → first_name test rs ≡ None
+unfolding first_name
+none_named test [] fails = refl
+none_named test (r ∷ rs) fails = ap (λ b. name_in (cond b (Some r) (find test rs))) fails.0 ∙ none_named test rs fails.1
+
+after_none : (os ps : List (Option Place)) → first_some os ≡ None → first_some (os ++ ps) ≡ first_some ps
+after_none [] ps none = refl
+after_none (None ∷ os) ps none = after_none os ps none
+after_none (Some x ∷ os) ps none = absurd (let e = none in cc)
 
 skip : (o : Option Place) (os : List (Option Place)) → o ≡ None → first_some (o ∷ os) ≡ first_some os
 skip o os is = ap (λ p. first_some (p ∷ os)) is
 
-sound : (c : Content) → Passes c → first_fault c ≡ None
-unfolding first_fault
+pub sound : (c : Content) → Passes c → first_fault c ≡ None
+unfolding first_fault invalid_fault tree_fault entry_link_fault
 sound c h =
-    skip (record_volume_fault c) _ h.record_volume
-    ∙ skip (too_many_fault c) _ h.too_many
-    ∙ skip (misnamed_fault c) _ h.misnamed
-    ∙ skip (second_entry_fault c) _ h.second_entry
-    ∙ skip (lost_entry_fault c) _ h.lost_entry
-    ∙ skip (old_leaf_fault c) _ h.old_leaf
-    ∙ skip (invalid_fault c) _ h.invalid
-    ∙ skip (tree_fault c) _ h.tree
-    ∙ skip (entry_link_fault c) _ h.entry_link
+    after_none (table_faults c) (invalid_fault c ∷ tree_fault c ∷ entry_link_fault c ∷ record_fault c ∷ disk_fault c ∷ []) h.table
+    ∙ skip (invalid_fault c) _ (ap (placed at.Image) (none_named (is_invalid c) c.table.volumes h.invalid))
+    ∙ skip (tree_fault c) _ (ap (placed at.Tree) (none_named (is_tree_wrong c) c.table.volumes h.tree))
+    ∙ skip (entry_link_fault c) _ (ap (placed at.Journal) (none_named (λ r. not (is_entry_linked c r.name)) c.table.volumes h.entry_link))
     ∙ skip (record_fault c) _ h.records
     ∙ skip (disk_fault c) [] h.disks
 
-none_named : (test : Row → Bool) (rs : List Row) → ((r : Row) → In r rs → test r ≡ false) → first_name test rs ≡ None
-unfolding first_name
-none_named test rs fails = ap name_in (find_none test rs fails)
+-- with these records
+pub recorded : (c : Content) (rs : List Record) → records c ≡ rs
+    → disk_place (find (λ u. not (length (filter (is_record_of u) rs) == 1)) (disk_uuids c)) ≡ None → disk_fault c ≡ None
+unfolding disk_fault
+recorded c rs are none = ap (λ qs. disk_place (find (λ u. not (length (filter (is_record_of u) qs) == 1)) (disk_uuids c))) are ∙ none
+
+-- ---- images, with what they say written out
+
+abbrev pub written_out : Option Name → Image → Image
+written_out p i = record i { parent = p; size = 128 }
+
+pub saying : (c : Content) (n : Name) (p : Option Name) (i : Image) → image_of c n ≡ Some i → i.parent ≡ p → i.size ≡ 128 → image_of c n ≡ Some (written_out p i)
+saying c n p i is parent size = is ∙ ap₂ (λ o s. Some (record i { parent = o; size = s })) parent size
+
+pub saying_top : (c : Content) (n : Name) (byte : ℕ) → image_of c n ≡ Some (top byte) → image_of c n ≡ Some (written_out None (top byte))
+saying_top c n byte is = saying c n None (top byte) is (top_parent byte) (top_size byte)
+
+pub saying_child : (c : Content) (n : Name) → image_of c n ≡ Some child → image_of c n ≡ Some (written_out (Some (Vhd base)) child)
+saying_child c n is = saying c n (Some (Vhd base)) child is child_parent_is child_size_is
+
+pub ap₃ : {A B : Type 0} (f : A → A → A → B) {a b c x y z : A} → a ≡ x → b ≡ y → c ≡ z → f a b c ≡ f x y z
+ap₃ f {a} {b} {c} {x} {y} {z} h k l = ap₂ (λ v w. f v w c) h k ∙ ap (f x y) l
+
+-- the images of all volumes
+abbrev pub images_of : Content → List (Option Image)
+images_of c = map (λ (r : Row). image_of c r.name) c.table.volumes
+
+-- the volumes whose images pass a test
+abbrev pub kept : (Option Image → Bool) → List Row → List (Option Image) → List Row
+kept test [] os = []
+kept test (r ∷ rs) [] = []
+kept test (r ∷ rs) (o ∷ os) = cond (test o) (r ∷ kept test rs os) (kept test rs os)
+
+kept_all : (c : Content) (test : Option Image → Bool) (rs : List Row) → filter (λ (r : Row). test (image_of c r.name)) rs ≡ kept test rs (map (λ (r : Row). image_of c r.name) rs)
+kept_all c test [] = refl
+kept_all c test (r ∷ rs) = ap (λ qs. cond (test (image_of c r.name)) (r ∷ qs) qs) (kept_all c test rs)
+
+pub children_are : (c : Content) (os : List (Option Image)) (x : Name) → images_of c ≡ os → children c x ≡ kept (parent_is x) c.table.volumes os
+unfolding children
+children_are c os x are = kept_all c (parent_is x) c.table.volumes ∙ ap (kept (parent_is x) c.table.volumes) are
+
+-- hidden, or without children
+abbrev pub is_free : Bool → List Row → Bool
+is_free hidden rs = hidden || (length rs == 0)
+
+pub free : (c : Content) (os : List (Option Image)) (u : List ℕ) (hidden : Bool) → images_of c ≡ os
+    → is_free hidden (kept (parent_is (Vhd u)) c.table.volumes os) ≡ true → is_free hidden (children c (Vhd u)) ≡ true
+free c os u hidden are is = ap (is_free hidden) (children_are c os (Vhd u) are) ∙ is
 
 passes : (a b d : Bool) → a ≡ true → b ≡ true → d ≡ true → not (a && (b && d)) ≡ false
 passes true true true is_a is_b is_d = refl
@@ -72,163 +125,82 @@ passes false b d is_a is_b is_d = absurd (let e = is_a in cc)
 passes true false d is_a is_b is_d = absurd (let e = is_b in cc)
 passes true true false is_a is_b is_d = absurd (let e = is_d in cc)
 
--- an image with this parent, or with none, is no child of another
-pub other_parent : (c : Content) (x n p : Name) (i : Image) → image_of c n ≡ Some i → i.parent ≡ Some p → same_image p x ≡ false → parent_is x (image_of c n) ≡ false
-other_parent c x n p i is parent other = ap (parent_is x) is ∙ ap (λ o. elim o [ None ↦ false | Some q ↦ same_image q x ]) parent ∙ other
+pub chain_top : (c : Content) (most : ℕ) (n : Name) (i : Image) → image_of c n ≡ Some (written_out None i) → depth c (suc most) n ≡ 1
+chain_top c most n i is = depth_top c most n (ap (λ o. o >>= (λ (j : Image). j.parent)) is)
 
-pub no_parent : (c : Content) (x n : Name) (i : Image) → image_of c n ≡ Some i → i.parent ≡ None → parent_is x (image_of c n) ≡ false
-no_parent c x n i is none = ap (parent_is x) is ∙ ap (λ o. elim o [ None ↦ false | Some q ↦ same_image q x ]) none
+pub chain_up : (c : Content) (most : ℕ) (n p : Name) (i : Image) → image_of c n ≡ Some (written_out (Some p) i) → depth c (suc most) n ≡ suc (depth c most p)
+chain_up c most n p i is = depth_up c most n p (ap (λ o. o >>= (λ (j : Image). j.parent)) is)
 
-pub records_no_parent : (c : Content) (x : Name) → parent_is x (image_of c Mgt) ≡ false
-unfolding image_of
-records_no_parent c x = refl
+-- an image without a parent, and one under a parent, lie rightly
+pub top_right : (c : Content) (u : List ℕ) (hidden : Bool) (place : ℕ) (i : Image) → image_of c (Vhd u) ≡ Some (written_out None i)
+    → is_free hidden (children c (Vhd u)) ≡ true → is_tree_wrong c (image_row hidden (Vhd u) place) ≡ false
+top_right c u hidden place i is childless =
+    ap (is_misplaced c (image_row hidden (Vhd u) place)) is
+    ∙ passes true (nat_le (depth c 31 (Vhd u)) 30) (is_free hidden (children c (Vhd u))) refl (ap (λ d. nat_le d 30) (chain_top c 30 (Vhd u) i is)) childless
 
-linked_top : (c : Content) (i : Image) → i.parent ≡ None → is_linked c i ≡ true
-linked_top c i none = ap (λ o. elim o [ None ↦ true | Some q ↦ is_parent_right c i.size q ]) none
+pub child_right : (c : Content) (u p : List ℕ) (hidden : Bool) (place : ℕ) (i q : Image) (above : Option Name) → image_of c (Vhd u) ≡ Some (written_out (Some (Vhd p)) i)
+    → is_hidden c.table (Vhd p) ≡ true → image_of c (Vhd p) ≡ Some (written_out above q) → nat_le (depth c 31 (Vhd u)) 30 ≡ true
+    → is_free hidden (children c (Vhd u)) ≡ true → is_tree_wrong c (image_row hidden (Vhd u) place) ≡ false
+child_right c u p hidden place i q above is there below short childless =
+    ap (is_misplaced c (image_row hidden (Vhd u) place)) is
+    ∙ passes (is_hidden c.table (Vhd p) && is_no_larger 128 (image_of c (Vhd p))) (nat_le (depth c 31 (Vhd u)) 30) (is_free hidden (children c (Vhd u)))
+    (ap₂ (λ b o. b && is_no_larger 128 o) there below) short childless
 
-pub none_left : (test : Row → Bool) (rs : List Row) → ((r : Row) → In r rs → test r ≡ false) → filter test rs ≡ []
-none_left test [] fails = refl
-none_left test (r ∷ rs) fails = ap (λ b. cond b (r ∷ filter test rs) (filter test rs)) (fails r (inl refl)) ∙ none_left test rs (λ q h. fails q (inr h))
+-- one right under the top of its chain
+pub over_right : (c : Content) (u p : List ℕ) (hidden : Bool) (place : ℕ) (i q : Image) → image_of c (Vhd u) ≡ Some (written_out (Some (Vhd p)) i)
+    → is_hidden c.table (Vhd p) ≡ true → image_of c (Vhd p) ≡ Some (written_out None q) → is_free hidden (children c (Vhd u)) ≡ true
+    → is_tree_wrong c (image_row hidden (Vhd u) place) ≡ false
+over_right c u p hidden place i q is there below childless =
+    child_right c u p hidden place i q None is there below
+    (ap (λ d. nat_le d 30) (chain_up c 30 (Vhd u) (Vhd p) i is ∙ ap (λ d. suc d) (chain_top c 29 (Vhd p) q below))) childless
 
 -- ---- one disk
 
-one_childless : children unforked (Vhd first) ≡ []
-unfolding children
-one_childless = none_left (λ r. parent_is (Vhd first) (image_of unforked r.name)) (one_disk).volumes by
-  where
-    by : (r : Row) → In r (one_disk).volumes → parent_is (Vhd first) (image_of unforked r.name) ≡ false
-    by r (inl is) = ap (λ (s : Row). parent_is (Vhd first) (image_of unforked s.name)) is ∙ records_no_parent unforked (Vhd first)
-    by r (inr (inl is)) = ap (λ (s : Row). parent_is (Vhd first) (image_of unforked s.name)) is ∙ no_parent unforked (Vhd first) (Vhd first) (top 17) unforked_image (top_parent 17)
-    by r (inr (inr none)) = elim none [ ]
+one_image : image_of unforked (Vhd first) ≡ Some (written_out None (top 17))
+one_image = saying_top unforked (Vhd first) 17 unforked_image
 
-one_tree : tree_fault unforked ≡ None
-unfolding tree_fault
-one_tree = ap (placed at.Tree) (none_named (is_tree_wrong unforked) (one_disk).volumes by)
-  where
-    by : (r : Row) → In r (one_disk).volumes → is_tree_wrong unforked r ≡ false
-    by r (inl is) = ap (is_tree_wrong unforked) is
-    by r (inr (inl is)) =
-        ap (is_tree_wrong unforked) is
-        ∙ ap (is_misplaced unforked (image_row false (Vhd first) 16)) unforked_image
-        ∙ passes (is_linked unforked (top 17)) (nat_le (depth unforked 31 (Vhd first)) 30) (length (children unforked (Vhd first)) == 0)
-        (linked_top unforked (top 17) (top_parent 17)) (ap (λ d. nat_le d 30) (depth_top unforked 30 (Vhd first) unforked_parent)) (ap (λ (rs : List Row). length rs == 0) one_childless)
-    by r (inr (inr none)) = elim none [ ]
-
-one_valid : invalid_fault unforked ≡ None
-unfolding invalid_fault
-one_valid = ap (placed at.Image) (none_named (is_invalid unforked) (one_disk).volumes by)
-  where
-    by : (r : Row) → In r (one_disk).volumes → is_invalid unforked r ≡ false
-    by r (inl is) = ap (is_invalid unforked) is
-    by r (inr (inl is)) = ap (is_invalid unforked) is ∙ ap (λ (o : Option Image). is_none o) unforked_image
-    by r (inr (inr none)) = elim none [ ]
-
-one_recorded : disk_fault unforked ≡ None
-unfolding disk_fault stands row_of name_eq
-one_recorded =
-    ap (λ us. disk_place (find (is_unrecorded unforked) (filter (λ u. elim (stands (one_disk) u) [ None ↦ false | Some n ↦ true ]) us))) unforked_uuids
-    ∙ ap (λ rs. disk_place (cond (not (length (filter (is_record_of first) rs) == 1)) (Some first) None)) unforked_records
+one_images : images_of unforked ≡ None ∷ Some (written_out None (top 17)) ∷ []
+unfolding image_of
+one_images = ap (λ o. None ∷ o ∷ []) one_image
 
 pub unforked_sound : first_fault unforked ≡ None
-unfolding record_volume_fault too_many_fault misnamed_fault second_entry_fault lost_entry_fault old_leaf_fault entry_link_fault first_name is_at_stage is_entry_linked row_of name_eq is_base numbers record_extents div_up
+unfolding record_volume_fault too_many_fault misnamed_fault second_entry_fault lost_entry_fault old_leaf_fault first_name is_at_stage is_entry_linked row_of name_eq is_base numbers record_extents div_up stands uuids with_uuid in_order
 unforked_sound = sound unforked (record {
-  record_volume = refl;
-  too_many = refl;
-  misnamed = refl;
-  second_entry = refl;
-  lost_entry = refl;
-  old_leaf = refl;
-  invalid = one_valid;
-  tree = one_tree;
-  entry_link = refl;
+  table = refl;
+  invalid = (refl, (ap is_none one_image, tt));
+  tree = (refl, (top_right unforked first false 16 (top 17) one_image (free unforked _ first false one_images refl), tt));
+  entry_link = (refl, (refl, tt));
   records = one_undamaged one_disk (top_image 17) (empty_child (Vhd base)) (empty_child (Vhd base)) first_record refl first_right;
-  disks = one_recorded;
+  disks = recorded unforked (first_record ∷ []) unforked_records refl;
 })
 
 -- ---- two disks over a base
 
-pair_unseen : (x : List ℕ) → same_image (Vhd base) (Vhd x) ≡ false → (r : Row) → In r (fork_8).volumes → parent_is (Vhd x) (image_of pair r.name) ≡ false
-pair_unseen x other r (inl is) = ap (λ (s : Row). parent_is (Vhd x) (image_of pair s.name)) is ∙ records_no_parent pair (Vhd x)
-pair_unseen x other r (inr (inl is)) =
-    ap (λ (s : Row). parent_is (Vhd x) (image_of pair s.name)) is ∙ other_parent pair (Vhd x) (Vhd first) (Vhd base) (filled 34) pair_first (filled_parent 34) other
-pair_unseen x other r (inr (inr (inl is))) =
-    ap (λ (s : Row). parent_is (Vhd x) (image_of pair s.name)) is ∙ other_parent pair (Vhd x) (Vhd second) (Vhd base) child pair_second child_parent_is other
-pair_unseen x other r (inr (inr (inr (inl is)))) =
-    ap (λ (s : Row). parent_is (Vhd x) (image_of pair s.name)) is ∙ no_parent pair (Vhd x) (Vhd base) (top 17) pair_base (top_parent 17)
-pair_unseen x other r (inr (inr (inr (inr none)))) = elim none [ ]
+base_written : image_of pair (Vhd base) ≡ Some (written_out None (top 17))
+base_written = saying_top pair (Vhd base) 17 pair_base
 
-pair_childless : (x : List ℕ) → same_image (Vhd base) (Vhd x) ≡ false → children pair (Vhd x) ≡ []
-unfolding children
-pair_childless x other = none_left (λ r. parent_is (Vhd x) (image_of pair r.name)) (fork_8).volumes (pair_unseen x other)
+first_written : image_of pair (Vhd first) ≡ Some (written_out (Some (Vhd base)) (filled 34))
+first_written = saying pair (Vhd first) (Some (Vhd base)) (filled 34) pair_first (filled_parent 34) (filled_size 34)
 
-pair_linked : (i : Image) → i.parent ≡ Some (Vhd base) → i.size ≡ 128 → is_linked pair i ≡ true
-unfolding row_of name_eq
-pair_linked i parent size =
-    ap (λ o. elim o [ None ↦ true | Some q ↦ is_parent_right pair i.size q ]) parent
-    ∙ ap (is_no_larger i.size) pair_base
-    ∙ le-leb (top 17).size i.size (omega (arith, size, top_size 17))
+second_written : image_of pair (Vhd second) ≡ Some (written_out (Some (Vhd base)) child)
+second_written = saying_child pair (Vhd second) pair_second
 
-child_placed : (x : List ℕ) (place : ℕ) (i : Image) → image_of pair (Vhd x) ≡ Some i → i.parent ≡ Some (Vhd base) → i.size ≡ 128 → same_image (Vhd base) (Vhd x) ≡ false
-    → is_tree_wrong pair (image_row false (Vhd x) place) ≡ false
-child_placed x place i is parent size other =
-    ap (is_misplaced pair (image_row false (Vhd x) place)) is
-    ∙ passes (is_linked pair i) (nat_le (depth pair 31 (Vhd x)) 30) (length (children pair (Vhd x)) == 0)
-    (pair_linked i parent size) (ap (λ d. nat_le d 30) (over_depth pair 17 (Vhd x) i pair_base is parent)) (ap (λ (rs : List Row). length rs == 0) (pair_childless x other))
-
-first_other : same_image (Vhd base) (Vhd first) ≡ false
-unfolding same_image
-first_other = refl
-
-pub second_other : same_image (Vhd base) (Vhd second) ≡ false
-unfolding same_image
-second_other = refl
-
-pair_tree : tree_fault pair ≡ None
-unfolding tree_fault
-pair_tree = ap (placed at.Tree) (none_named (is_tree_wrong pair) (fork_8).volumes by)
-  where
-    by : (r : Row) → In r (fork_8).volumes → is_tree_wrong pair r ≡ false
-    by r (inl is) = ap (is_tree_wrong pair) is
-    by r (inr (inl is)) = ap (is_tree_wrong pair) is ∙ child_placed first 21 (filled 34) pair_first (filled_parent 34) (filled_size 34) first_other
-    by r (inr (inr (inl is))) = ap (is_tree_wrong pair) is ∙ child_placed second 26 child pair_second child_parent_is child_size_is second_other
-    by r (inr (inr (inr (inl is)))) =
-        ap (is_tree_wrong pair) is
-        ∙ ap (is_misplaced pair (image_row true (Vhd base) 16)) pair_base
-        ∙ passes (is_linked pair (top 17)) (nat_le (depth pair 31 (Vhd base)) 30) true
-        (linked_top pair (top 17) (top_parent 17)) (ap (λ d. nat_le d 30) (depth_top pair 30 (Vhd base) (base_top pair 17 pair_base))) refl
-    by r (inr (inr (inr (inr none)))) = elim none [ ]
-
-pair_valid : invalid_fault pair ≡ None
-unfolding invalid_fault
-pair_valid = ap (placed at.Image) (none_named (is_invalid pair) (fork_8).volumes by)
-  where
-    by : (r : Row) → In r (fork_8).volumes → is_invalid pair r ≡ false
-    by r (inl is) = ap (is_invalid pair) is
-    by r (inr (inl is)) = ap (is_invalid pair) is ∙ ap (λ (o : Option Image). is_none o) pair_first
-    by r (inr (inr (inl is))) = ap (is_invalid pair) is ∙ ap (λ (o : Option Image). is_none o) pair_second
-    by r (inr (inr (inr (inl is)))) = ap (is_invalid pair) is ∙ ap (λ (o : Option Image). is_none o) pair_base
-    by r (inr (inr (inr (inr none)))) = elim none [ ]
-
-pair_recorded : disk_fault pair ≡ None
-unfolding disk_fault stands row_of name_eq
-pair_recorded =
-    ap (λ us. disk_place (find (is_unrecorded pair) (filter (λ u. elim (stands fork_8 u) [ None ↦ false | Some n ↦ true ]) us))) pair_uuids
-    ∙ ap (λ rs. disk_place (cond (not (length (filter (is_record_of first) rs) == 1)) (Some first) (cond (not (length (filter (is_record_of second) rs) == 1)) (Some second) None))) pair_records
+pair_images : images_of pair ≡ None ∷ Some (written_out (Some (Vhd base)) (filled 34)) ∷ Some (written_out (Some (Vhd base)) child) ∷ Some (written_out None (top 17)) ∷ []
+unfolding image_of
+pair_images = ap₃ (λ o p q. None ∷ o ∷ p ∷ q ∷ []) first_written second_written base_written
 
 pair_sound : first_fault pair ≡ None
-unfolding record_volume_fault too_many_fault misnamed_fault second_entry_fault lost_entry_fault old_leaf_fault entry_link_fault first_name is_at_stage is_entry_linked row_of name_eq is_base numbers record_extents div_up
+unfolding record_volume_fault too_many_fault misnamed_fault second_entry_fault lost_entry_fault old_leaf_fault first_name is_at_stage is_entry_linked row_of name_eq is_base numbers record_extents div_up same_image stands uuids with_uuid in_order
 pair_sound = sound pair (record {
-  record_volume = refl;
-  too_many = refl;
-  misnamed = refl;
-  second_entry = refl;
-  lost_entry = refl;
-  old_leaf = refl;
-  invalid = pair_valid;
-  tree = pair_tree;
-  entry_link = refl;
+  table = refl;
+  invalid = (refl, (ap is_none first_written, (ap is_none second_written, (ap is_none base_written, tt))));
+  tree =
+      let disk = over_right pair first base false 21 (filled 34) (top 17) first_written refl base_written (free pair _ first false pair_images refl) in
+      let twin = over_right pair second base false 26 child (top 17) second_written refl base_written (free pair _ second false pair_images refl) in
+      (refl, (disk, (twin, (top_right pair base true 16 (top 17) base_written refl, tt))));
+  entry_link = (refl, (refl, (refl, (refl, tt))));
   records = two_undamaged fork_8 (top_image 17) (filled_child (Vhd base) 34) (empty_child (Vhd base)) first_record second_record refl first_right second_right;
-  disks = pair_recorded;
+  disks = recorded pair (first_record ∷ second_record ∷ []) pair_records refl;
 })
 
 pub two_disks_sound : first_fault two_disks ≡ None

@@ -17,7 +17,7 @@
 //! The laws are the contracts of functions that do nothing (`forks`, `swaps`, `volumes`); so are the examples. These
 //! meet the hypotheses of the laws commit by commit (`moments`, `volumes`), and of the laws of `sm_standing` on an image that
 //! is removed and on one that grows (`changes`), and on reads through chains (`chains`); they read images, disks and checks off worked bytes (`bytes`),
-//! and compute what an opening makes of a fork, of a swap and of a relink that stopped (`openings`).
+//! and compute what an opening makes of a fork, of a swap and of a relink that stopped, and that its checks pass (`openings`).
 #![tactic(auto)]
 
 mod bytes;
@@ -34,6 +34,9 @@ pub use chains::{example_copy_below, example_guest_write, example_relink, exampl
 pub use changes::{example_raised, example_removed};
 pub use forks::{law_fork_ended, law_forking};
 pub use moments::{example_fork, example_swap};
-pub use openings::{example_fork_undone, example_relink_ended, example_swap_done};
+pub use openings::{
+    example_fork_sound, example_fork_undone, example_relink_ended, example_relink_sound,
+    example_swap_done, example_swap_sound,
+};
 pub use swaps::law_swapping;
 pub use volumes::{example_same_volume, law_same_apart, law_same_volume, law_whole};

@@ -1,5 +1,14 @@
-use Rattle.sm_stages.proofs.OpenedLaws.{unforked_shape, opened_1, opened_3, opened_7}
+use Rattle.sm_stages.proofs.OpenedLaws.{unforked_shape, opened_1, opened_2, opened_3, opened_4, opened_5, opened_6, opened_7}
 use Rattle.sm_stages.proofs.openings.example_fork_undone.Goals as goal
 
 pub returns : goal.returns
-returns c = record { before = unforked_shape; entry_made = opened_1; base_hidden = opened_3; twin_filled = opened_7 }
+returns c = record {
+  before = unforked_shape;
+  entry_made = opened_1;
+  renamed = opened_2;
+  base_hidden = opened_3;
+  disk_made = opened_4;
+  twin_made = opened_5;
+  disk_filled = opened_6;
+  twin_filled = opened_7;
+}
