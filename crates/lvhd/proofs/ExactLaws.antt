@@ -57,7 +57,7 @@ sound_or_refused size image _ s (by_content g p stands found) = none_found size 
 
 -- ---- a run
 
-never_so : (f : RunFault) → status_of (Err f) ≡ Refused → ⊥
+pub never_so : (f : RunFault) → status_of (Err f) ≡ Refused → ⊥
 never_so run.Device is = absurd cc
 never_so run.Source is = absurd cc
 never_so run.Sink is = absurd cc

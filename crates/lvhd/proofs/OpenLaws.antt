@@ -3,8 +3,8 @@ use Rattle.std.proofs.Common.{◌≡◌, ◌⊎◌, inl, inr, ⊎_elim, ℕ, ◌
 use Rattle.std.proofs.Math.Path.{fun_ext}
 use Rattle.sm_base.specs.declared.faults.OpenFault.{OpenFault}
 use Rattle.sm_base.specs.declared.faults.OpenFault.TheVariants as fault
-use Rattle.sm_disk.specs.Held.{Held, Allows, Keeps, reads}
-use Rattle.sm_disk.proofs.HeldLaws.{Allows-keeps, Allows-reads}
+use Rattle.sm_disk.specs.Held.{Held, Allows, Keeps, SameHeld, reads}
+use Rattle.sm_disk.proofs.HeldLaws.{Allows-keeps, Allows-reads, Keeps-then, Keeps-same}
 use Rattle.sm_machine.specs.Disks.{Disk}
 use Rattle.vg_layout.specs.Places.{area_place}
 use Rattle.vg_layout.specs.Sectors.{Plate, Pointer}
@@ -14,7 +14,7 @@ use Rattle.vg_meta.specs.Tables.{Listing}
 use Rattle.vg_store.specs.Groups.{IsStanding, Leaves, area_of}
 use Rattle.vg_store.specs.Openings.{IsAnswer}
 use Rattle.vg_volumes.specs.Sites.{Site}
-use Rattle.sm_recover.specs.Repairs.{IsStopped}
+use Rattle.sm_recover.specs.Repairs.{IsStopped, UnlessDevice}
 use Rattle.sm_recover.specs.Stores.{IsRepairedFrom, content_in, content_now}
 use Rattle.sm_session.specs.Sessions.{MayShow, KeepsAll}
 use Rattle.sm_standing.specs.Checks.{first_fault_today}
@@ -27,6 +27,7 @@ use Rattle.sm_standing.specs.Standing.{disks}
 use Rattle.sm_standing.proofs.PlainKept.{plain_kept}
 use Rattle.lvhd.specs.Devices.{IsKeptDevice, MayShowOn, IsSoundOn, IsRefusedOn, IsOpenedOn, plate_at}
 use Rattle.lvhd.specs.Devices.IsRefusedOn.{by_content}
+use Rattle.lvhd.specs.Running.{IsLeft}
 
 -- ---- a group on an image
 
@@ -178,3 +179,36 @@ repaired_sized size before after h last site now first is_before is_after left =
 
 pub always_sized : (size after : ℕ) (last : Held) (site : Site) → after ≡ size → StandsAlways after last site → StandsAlways size last site
 always_sized size after last site is_after always = subst (λ n. StandsAlways n last site) is_after always
+
+-- ---- a refusal leaves the device
+
+unless : {Fact : Type 0} (e : OpenFault) → Fact → UnlessDevice e Fact
+unless fault.Device is = tt
+unless (fault.Damaged p) is = is
+unless fault.NoMemory is = is
+unless fault.NotARepository is = is
+unless (fault.Unsupported v) is = is
+
+pub device_left : (size : ℕ) (entry h : Held) (e : OpenFault) → Keeps entry h → UnlessDevice e (IsLeft size entry h)
+device_left size entry h e k = unless e (inl k)
+
+pub unless_from : {P Q : Type 0} (e : OpenFault) → (P → Q) → UnlessDevice e P → UnlessDevice e Q
+unless_from fault.Device f is = tt
+unless_from (fault.Damaged p) f is = f is
+unless_from fault.NoMemory f is = f is
+unless_from fault.NotARepository f is = f is
+unless_from (fault.Unsupported v) f is = f is
+
+-- a group that was not written, on a device of which it was read
+pub group_left : (size : ℕ) (entry h last : Held) (site : Site) (at : Pointer) (first : Listing) → Keeps entry h → Keeps (area_of entry) (area_of h)
+    → StandsOn size (reads entry) (standing site at first) → StandsAlways size last site → SameHeld (area_of h) (area_of last)
+    → ((t : Listing) (image : ℕ → List ℕ) → Leaves size last (plate_at site) t image → Leaves size h (plate_at site) t image) → IsLeft size entry last
+group_left size entry h last site at first k ka stands always same fewer = inr (
+  site,
+  stands.labelled,
+  record {
+    stands = always;
+    fewer = λ t image l. let w = fewer t image l in record { whole = w.whole; allowed = Allows-keeps size w.whole k w.allowed; pointer = w.pointer; stands = w.stands; sectors = w.sectors };
+    extents = Keeps-then ka (Keeps-same same);
+  },
+)

@@ -1,5 +1,5 @@
 -- What a run of the program left on the device, from what its session left.
-use Rattle.std.proofs.Common.{◌≡◌, ◌⊎◌, inl, inr, ⊎_elim, ℕ, ◌+◌, List, [], Option, Result, Ok, Err, is_err, cond, refl, sym, ap, ap₂, subst}
+use Rattle.std.proofs.Common.{◌≡◌, ◌≢◌, ◌⊎◌, inl, inr, ⊎_elim, ℕ, ◌+◌, List, [], Option, Result, Ok, Err, is_err, cond, refl, sym, ap, ap₂, subst, ◌∙◌}
 use Rattle.std.proofs.Math.Path.{fun_ext}
 use Rattle.std.specs.Prelude.{⊤}
 use Rattle.sm_base.specs.declared.faults.Failed.{Failed}
@@ -19,7 +19,9 @@ use Rattle.vg_store.specs.Groups.{Leaves, area_of}
 use Rattle.vg_volumes.specs.Sites.{Site}
 use Rattle.sm_recover.specs.Stores.{content_in, content_now, state_now}
 use Rattle.sm_run.specs.Runs.{HasRun}
+use Rattle.sm_recover.specs.Repairs.{UnlessDevice}
 use Rattle.sm_run.specs.declared.runs.RunFault.{RunFault}
+use Rattle.sm_run.specs.declared.runs.RunFault.TheVariants as run
 use Rattle.sm_session.specs.Sessions.{MayShow, KeepsAll}
 use Rattle.sm_standing.specs.Contents.{Content}
 use Rattle.sm_standing.specs.Devices.{Shows, content_of}
@@ -28,7 +30,7 @@ use Rattle.sm_standing.specs.Standing.{disks}
 use Rattle.lvhd.specs.declared.statuses.Status.{Status}
 use Rattle.lvhd.specs.declared.statuses.Status.TheVariants.{Done, Words, Device, Source, Sink, Refused, Memory, TooLong}
 use Rattle.lvhd.specs.Devices.{IsOpenedOn, IsSoundOn, IsRefusedOn, plate_at}
-use Rattle.lvhd.specs.Running.{RunSides, HasRunOn, ReadsAs, EndsAs, ShowsOnly, IsGivenBack, ToldOf, HasTold, HasSaid, status_of}
+use Rattle.lvhd.specs.Running.{RunSides, HasRunOn, HasRefused, HasStayed, IsLeft, ReadsAs, EndsAs, ShowsOnly, IsGivenBack, ToldOf, HasTold, HasSaid, status_of}
 use Rattle.lvhd.specs.Texts.{line_of, fault_words}
 use Rattle.lvhd.proofs.OpenLaws.{standing, extents_in, StandsAlways, kept_device, shown_device}
 
@@ -172,3 +174,34 @@ said_refused s opening.NoMemory status told first last before now it a h = silen
 said_refused s opening.NotARepository status told first last before now it a h = told_said s opening.NotARepository before now status (a it) h.1
 said_refused s (opening.Unsupported v) status told first last before now it a h = told_said s (opening.Unsupported v) before now status (a it) h.1
 said_refused s (opening.Damaged p) status told first last before now it a h = told_said s (opening.Damaged p) before now status (a it) h.1
+
+-- ---- a device that is not opened
+
+-- unless the device failed nothing was written
+left_of : (P : Type 0) (e : OpenFault) (had got : Option (List ℕ)) (before now : ℕ) (status : Status) → HasTold e had got before now status → UnlessDevice e P → status ≢ Device → P
+left_of P opening.Device had got before now status h left other = absurd (other h.0)
+left_of P opening.NoMemory had got before now status h left other = left
+left_of P opening.NotARepository had got before now status h left other = left
+left_of P (opening.Unsupported v) had got before now status h left other = left
+left_of P (opening.Damaged p) had got before now status h left other = left
+
+pub has_stayed : (s : RunSides) (e : OpenFault) (status : Status) (told : Type 0) (first last before now : ℕ) → told → s.left ≡ s.had_left
+    → IsAnswer (λ f. told → IsRefusedOn s.size (reads s.old) f) first last e → HasTold e s.had_got s.got before now status → UnlessDevice e (IsLeft s.size s.old s.new)
+    → HasStayed s status
+has_stayed s e status told first last before now it source answer h left = record {
+  source = source;
+  said = said_refused s e status told first last before now it answer h;
+  left = left_of (IsLeft s.size s.old s.new) e s.had_got s.got before now status h left;
+}
+
+pub has_refused : (s : RunSides) (status : Status) → HasStayed s status → status ≡ Refused → HasRefused s
+has_refused s status h is = record {
+  source = h.source;
+  said = subst (HasSaid s) is h.said;
+  left = h.left (λ failed. let x = sym is ∙ failed in (let y = x in cc));
+}
+
+-- a run that was read to its end is not refused
+pub done_not_refused : (P : Type 0) (status : Status) → ((status ≡ Done) × P) ⊎ (status ≡ Device) → status ≢ Refused
+done_not_refused P status (inl done) e = let x = sym done.0 ∙ e in (let y = x in cc)
+done_not_refused P status (inr failed) e = let x = sym failed ∙ e in (let y = x in cc)

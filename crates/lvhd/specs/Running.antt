@@ -1,13 +1,13 @@
 -- What the program did where it was told to run a script, by its status (this project's format). The premise is a device
 -- that is kept: whatever a stop leaves of it opens again.
-use Rattle.std.specs.Prelude.{◌≡◌, ◌≤◌, ◌⊎◌, ℕ, List, [], ⊤, Option, Result, Ok, Err}
+use Rattle.std.specs.Prelude.{◌≡◌, ◌≢◌, ◌≤◌, ◌⊎◌, ℕ, List, [], ⊤, Option, Result, Ok, Err}
 use Rattle.sm_base.specs.declared.faults.OpenFault.{OpenFault}
 use Rattle.sm_base.specs.declared.faults.OpenFault.TheVariants as opening
 use Rattle.sm_disk.specs.Held.{Held, Allows, IsSettled, Keeps, Rose, reads}
 use Rattle.sm_disk.specs.Streams.{Adds, AddsFront}
 use Rattle.sm_machine.specs.Disks.{Disk}
 use Rattle.sm_machine.specs.Steps.{State}
-use Rattle.vg_layout.specs.Opening.{Standing, StandsOn}
+use Rattle.vg_layout.specs.Opening.{Standing, StandsOn, plate_of}
 use Rattle.vg_meta.specs.Tables.{Listing}
 use Rattle.vg_store.specs.Groups.{IsStanding, Leaves, area_of}
 use Rattle.vg_volumes.specs.Sites.{Site}
@@ -99,6 +99,24 @@ pub record IsGivenBack (size : ℕ) (site : Site) (held after : Held) : Type 0 w
   pub stands : (image : ℕ → List ℕ) → Allows size after image → IsStanding size image (plate_at site)
   pub fewer : (t : Listing) (image : ℕ → List ℕ) → Leaves size after (plate_at site) t image → Leaves size held (plate_at site) t image
   pub extents : Keeps (area_of held) (area_of after)
+
+-- nothing was written: a read gives the same, and a stop leaves nothing that it might not have left before; of the device of a
+-- group that stands, as far as its label, its table and its extents go
+abbrev pub IsLeft : ℕ → Held → Held → Type 0
+IsLeft size old new = Keeps old new ⊎ ((site : Site) × (plate_of size (reads old) ≡ Ok (plate_at site)) × IsGivenBack size site old new)
+
+-- the repository was refused: one line says why, nothing was read of the source, and nothing was written
+pub record HasRefused (s : RunSides) : Type 0 where
+  pub source : s.left ≡ s.had_left
+  pub said : HasSaid s Refused
+  pub left : IsLeft s.size s.old s.new
+
+-- a device on which a check of an opening fails was not opened: what was said of it, and unless a call of it failed nothing was
+-- written
+pub record HasStayed (s : RunSides) (status : Status) : Type 0 where
+  pub source : s.left ≡ s.had_left
+  pub said : HasSaid s status
+  pub left : status ≢ Device → IsLeft s.size s.old s.new
 
 -- the line of a refusal went out, or the sink failed at it
 abbrev pub ToldOf : OpenFault → Option (List ℕ) → Option (List ℕ) → ℕ → ℕ → Status → Type 0

@@ -10,10 +10,12 @@ ghost use Rattle.vg_meta.specs.Kept.{listing};
 ghost use Rattle.vg_layout.specs.Fields.{plate};
 ghost use Rattle.vg_store.specs.Groups.{Leaves, area_of};
 ghost use Rattle.vg_store.specs.Openings.{IsAnswer};
+ghost use Rattle.sm_recover.specs.Repairs.{UnlessDevice};
 ghost use Rattle.sm_recover.specs.Stores.{IsAtRest, content_now, state_now};
 ghost use Rattle.sm_run.specs.Runs.{BeginsSettled};
 ghost use Rattle.sm_session.specs.Sessions.{MayShow, KeepsAll};
 ghost use Rattle.lvhd.specs.Devices.{IsKeptDevice, MayShowOn, IsSoundOn, IsRefusedOn, IsOpenedOn, site_on};
+ghost use Rattle.lvhd.specs.Running.{IsLeft};
 
 use sm_base::OpenFault;
 use sm_disk::Disk;
@@ -41,6 +43,7 @@ pub fn open<D: Disk>(alloc: Global, disk: D, now: u32) -> Result<Session<Group<D
     ensures size_back { IfErr result (λ e. D.size e.1 ≡ D.size disk) }
     ensures counts_back { IfErr result (λ e. D.faults disk ≤ D.faults e.1) }
     ensures refused { IfErr result (λ e. IsAnswer (λ f. D.told → IsRefusedOn (D.size disk) (reads (D.held disk)) f) (D.faults disk) (D.faults e.1) e.0) }
+    ensures left { IfErr result (λ e. D.told → UnlessDevice e.0 (IsLeft (D.size disk) (D.held disk) (D.held e.1))) }
     ensures kept_back { IfErr result (λ e. D.told → IsKeptDevice (D.size disk) (D.held disk) → IsKeptDevice (D.size disk) (D.held e.1)) }
     ensures shown_back { IfErr result (λ e. D.told → (ds : List Disk) → MayShowOn (D.size disk) (D.held e.1) ds → MayShowOn (D.size disk) (D.held disk) ds) }
 {

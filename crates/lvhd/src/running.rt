@@ -1,16 +1,17 @@
 //! The word `run`.
 
 ghost use Rattle.std.specs.Prelude.{◌≡◌, ◌≢◌, ◌≤◌, ◌⊎◌, ℕ, List, false, Err};
-ghost use Rattle.sm_disk.specs.Held.{Allows, IsSettled, Rose};
+ghost use Rattle.sm_base.specs.declared.faults.OpenFault.{OpenFault};
+ghost use Rattle.sm_disk.specs.Held.{Allows, IsSettled, Rose, reads};
 ghost use Rattle.sm_recover.specs.Stores.{IsAtRest, content_now};
 ghost use Rattle.sm_standing.specs.Standing.{disks};
 ghost use Rattle.vg_layout.specs.Fields.{plate};
 ghost use Rattle.vg_meta.specs.Kept.{listing};
 ghost use Rattle.vg_meta.specs.Tables.{Listing};
 ghost use Rattle.vg_store.specs.Groups.{IsStanding, Leaves, area_of};
-ghost use Rattle.lvhd.specs.declared.statuses.Status.TheVariants.{Done, Device, Sink as SinkFailed, Source as SourceFailed, Words};
-ghost use Rattle.lvhd.specs.Devices.{IsKeptDevice, site_on};
-ghost use Rattle.lvhd.specs.Running.{RunDid, IsGivenBack, ShowsOnly, HasTold, status_of};
+ghost use Rattle.lvhd.specs.declared.statuses.Status.TheVariants.{Done, Device, Refused, Sink as SinkFailed, Source as SourceFailed, Words};
+ghost use Rattle.lvhd.specs.Devices.{IsKeptDevice, IsRefusedOn, site_on};
+ghost use Rattle.lvhd.specs.Running.{RunDid, HasRefused, HasStayed, IsGivenBack, ShowsOnly, HasTold, status_of};
 
 use crate::formatting::said;
 use crate::opening::open;
@@ -40,6 +41,24 @@ pub fn run_script<D: Disk, S: Source, K: Sink>(
     ensures source { result.0 ≡ SourceFailed → Rose (S.faults source.old) (S.faults source.new) }
     ensures sink { result.0 ≡ SinkFailed → Rose (K.faults sink.old) (K.faults sink.new) }
     ensures did { D.told → IsKeptDevice (D.size disk) (D.held disk) → RunDid (record {
+      size = D.size disk;
+      old = D.held disk;
+      new = D.held result.1;
+      had_left = S.content source.old;
+      left = S.content source.new;
+      had_got = K.content sink.old;
+      got = K.content sink.new;
+    }) result.0 }
+    ensures refused { D.told → result.0 ≡ Refused → HasRefused (record {
+      size = D.size disk;
+      old = D.held disk;
+      new = D.held result.1;
+      had_left = S.content source.old;
+      left = S.content source.new;
+      had_got = K.content sink.old;
+      got = K.content sink.new;
+    }) }
+    ensures unsound { D.told → (e : OpenFault) → IsRefusedOn (D.size disk) (reads (D.held disk)) e → HasStayed (record {
       size = D.size disk;
       old = D.held disk;
       new = D.held result.1;

@@ -1,13 +1,14 @@
 //! The whole program, over any device, source and sink.
 
 ghost use Rattle.std.specs.Prelude.{◌≡◌, ◌≤◌, ◌⊎◌, map, None, Some};
+ghost use Rattle.sm_base.specs.declared.faults.OpenFault.{OpenFault};
 ghost use Rattle.sm_disk.specs.Held.{Rose, reads};
 ghost use Rattle.lvhd.specs.declared.statuses.Status.TheVariants as status;
 ghost use Rattle.lvhd.specs.declared.words.Form.TheVariants.{Format, Run};
 ghost use Rattle.lvhd.specs.declared.words.Request.{Request};
-ghost use Rattle.lvhd.specs.Devices.{IsKeptDevice, IsSoundOn};
+ghost use Rattle.lvhd.specs.Devices.{IsKeptDevice, IsRefusedOn, IsSoundOn};
 ghost use Rattle.lvhd.specs.Formatting.{FormatDid, asked};
-ghost use Rattle.lvhd.specs.Running.{RunDid};
+ghost use Rattle.lvhd.specs.Running.{RunDid, HasRefused, HasStayed};
 ghost use Rattle.lvhd.specs.Words.{form_of};
 
 use crate::formatting::run_format;
@@ -20,6 +21,9 @@ use std::alloc::Global;
 /// Does what the words ask for, on a device: `format EXTENT BLOCK ENTRIES UUID` makes a repository of it, and `run` opens
 /// the repository on it and answers the script that the source gives, one line of the sink for each line. The device is
 /// handed back at every return. `now` is in seconds since 2000-01-01 00:00 UTC.
+///
+/// A device on which a check of an opening fails is not opened: one line says why, and unless a call of the device failed
+/// nothing is written.
 pub fn lvhd<D: Disk, S: Source, K: Sink>(
     alloc: Global,
     words: &[&str],
@@ -52,6 +56,24 @@ pub fn lvhd<D: Disk, S: Source, K: Sink>(
           sink_faults_now = K.faults sink.new;
         }) (asked request) result.0 }
     ensures run { form_of (map (λ w. w.now) words.now) ≡ Some Run → D.told → IsKeptDevice (D.size disk) (D.held disk) → RunDid (record {
+      size = D.size disk;
+      old = D.held disk;
+      new = D.held result.1;
+      had_left = S.content source.old;
+      left = S.content source.new;
+      had_got = K.content sink.old;
+      got = K.content sink.new;
+    }) result.0 }
+    ensures refused { form_of (map (λ w. w.now) words.now) ≡ Some Run → D.told → result.0 ≡ status.Refused → HasRefused (record {
+      size = D.size disk;
+      old = D.held disk;
+      new = D.held result.1;
+      had_left = S.content source.old;
+      left = S.content source.new;
+      had_got = K.content sink.old;
+      got = K.content sink.new;
+    }) }
+    ensures unsound { form_of (map (λ w. w.now) words.now) ≡ Some Run → D.told → (e : OpenFault) → IsRefusedOn (D.size disk) (reads (D.held disk)) e → HasStayed (record {
       size = D.size disk;
       old = D.held disk;
       new = D.held result.1;

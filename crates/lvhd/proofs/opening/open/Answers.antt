@@ -1,6 +1,6 @@
 use Rattle.std.proofs.Common.{◌≡◌, sym, ap, ◌∙◌, subst}
 use Rattle.sm_base.specs.declared.faults.OpenFault.{OpenFault}
-use Rattle.sm_disk.specs.Held.{reads}
+use Rattle.sm_disk.specs.Held.{SameHeld, reads}
 use Rattle.sm_disk.proofs.HeldLaws.{Allows-keeps}
 use Rattle.vg_layout.specs.Fields.{plate, pointer}
 use Rattle.vg_layout.specs.Opening.{IsRefused}
@@ -9,9 +9,9 @@ use Rattle.vg_store.specs.Groups.{Leaves, area_of}
 use Rattle.vg_volumes.specs.Sites.{Site}
 use Rattle.sm_recover.specs.Repairs.{IsStopped}
 use Rattle.sm_recover.specs.Stores.{content_now}
-use Rattle.lvhd.specs.Devices.{IsRefusedOn, site_on}
+use Rattle.lvhd.specs.Devices.{IsRefusedOn, site_on, plate_at}
 use Rattle.lvhd.specs.Devices.IsRefusedOn.{by_group}
-use Rattle.lvhd.proofs.OpenLaws.{sound_entry, shown_entry, opened_entry, answer_as, refused_content, kept_back, shown_back, repaired_sized, always_sized}
+use Rattle.lvhd.proofs.OpenLaws.{StandsAlways, sound_entry, shown_entry, opened_entry, answer_as, refused_content, kept_back, shown_back, repaired_sized, always_sized, device_left, group_left, unless_from}
 use Rattle.lvhd.proofs.opening.open.Goals as goal
 
 pub returns-in-Err-clause-refused : goal.returns-in-Err-clause-refused
@@ -93,3 +93,29 @@ returns-in-Err-begin-clause-shown_back g c = λ told.
     let always = always_sized size (g.D.Disk.size d) (g.D.Disk.held d) now after (c.into_disk.ensures.stands told) in
     shown_back size (g.D.Disk.held c.args.disk) (g.D.Disk.held group.disk) (g.D.Disk.held d) site now (pointer group.header) (listing group.table) c.in-Err-begin.ensures.site_back (e.keeps told) (e.area told)
     (e.stands told) always left
+
+pub returns-in-Err-clause-left : goal.returns-in-Err-clause-left
+returns-in-Err-clause-left g c = λ told.
+    device_left (g.D.Disk.size c.args.disk) (g.D.Disk.held c.args.disk) _ c.in-Err.fault (c.in-Err.ensures.keeps_back told)
+
+pub returns-in-Err-begin-clause-left : goal.returns-in-Err-begin-clause-left
+returns-in-Err-begin-clause-left g c = λ told.
+    let e = c.in-Ok.ensures in
+    let group = c.in-Ok.group in
+    let back = c.in-Err-begin.group in
+    let d = c.into_disk.result in
+    let size = g.D.Disk.size c.args.disk in
+    let site : Site = site_on group.label (g.D.Disk.size group.disk) in
+    let now : Site = site_on back.label (g.D.Disk.size back.disk) in
+    let same : now ≡ site = c.in-Err-begin.ensures.site_back in
+    let after : g.D.Disk.size d ≡ size = ap g.D.Disk.size c.into_disk.ensures.disk ∙ ap (λ (s : Site). s.sectors) same ∙ e.size in
+    let always : StandsAlways size (g.D.Disk.held d) site =
+    subst (StandsAlways size (g.D.Disk.held d)) same (always_sized size (g.D.Disk.size d) (g.D.Disk.held d) now after (c.into_disk.ensures.stands told)) in
+    unless_from c.in-Err-begin.fault
+    (λ is. group_left size (g.D.Disk.held c.args.disk) (g.D.Disk.held group.disk) (g.D.Disk.held d) site (pointer group.header) (listing group.table) (e.keeps told) (e.area told) (e.stands told) always
+    (subst (λ x. SameHeld (area_of (g.D.Disk.held group.disk)) (area_of (g.D.Disk.held x))) (sym c.into_disk.ensures.disk) (is.same_area told))
+    (λ t image l.
+    let here = subst (λ (x : Site). Leaves size (g.D.Disk.held d) (plate_at x) t image) (sym same) l in
+    let sized = subst (λ n. Leaves n (g.D.Disk.held d) (plate_at now) t image) (sym after) here in
+    let last = subst (λ x. Leaves (g.D.Disk.size x) (g.D.Disk.held x) (plate back.label) t image) c.into_disk.ensures.disk sized in
+    subst (λ n. Leaves n (g.D.Disk.held group.disk) (plate group.label) t image) e.size (is.same_leaves told t image last))) c.in-Err-begin.ensures.refused

@@ -3,7 +3,8 @@ use Rattle.vg_meta.specs.Kept.{listing}
 use Rattle.vg_volumes.specs.Sites.{Site}
 use Rattle.lvhd.specs.Devices.{site_on}
 use Rattle.lvhd.specs.Running.{RunSides, IsGivenBack}
-use Rattle.lvhd.proofs.RunLaws.{IsOneTable, has_run_sized, back_itself, ends_done, ends_early, said_refused}
+use Rattle.lvhd.proofs.RunLaws.{IsOneTable, has_run_sized, back_itself, ends_done, ends_early, said_refused, has_stayed, has_refused, done_not_refused}
+use Rattle.lvhd.proofs.ExactLaws.{never_so, sound_or_refused}
 use Rattle.lvhd.proofs.running.run_script.Goals as goal
 
 pub returns-in-Err-clause-did : goal.returns-in-Err-clause-did
@@ -67,3 +68,41 @@ returns-in-Err-run-clause-did g c = λ told kept.
     inl (has_run_sized s c.status_of_fault.result n site (listing m.store.table) (g.D.Disk.held m.store.disk) _ c.run.result _ is_size (e.sound told) (e.shown told) (e.opened told) r
     back (λ q. subst (λ d. IsOneTable n site (g.D.Disk.held d) (listing m.store.table)) (sym c.leave.ensures.disk) (c.leave.ensures.one told q.0))
     (ends_early s.size s.new _ c.run.result c.in-Err-run.fault c.status_of_fault.result c.in-Err-run.is c.status_of_fault.ensures))
+
+pub returns-in-Err-clause-unsound : goal.returns-in-Err-clause-unsound
+returns-in-Err-clause-unsound g c = λ told e on.
+    let s : RunSides = record {
+      size = g.D.Disk.size c.args.disk;
+      old = g.D.Disk.held c.args.disk;
+      new = g.D.Disk.held c.in-Err.disk;
+      had_left = g.S.Source.content c.args.source.now;
+      left = g.S.Source.content c.args.source.now;
+      had_got = g.K.Sink.content c.args.sink.now;
+      got = g.K.Sink.content c.refuse.new.sink;
+    } in
+    has_stayed s c.in-Err.fault c.refuse.result g.D.Disk.told _ _ _ _ told refl c.in-Err.ensures.refused c.refuse.ensures (c.in-Err.ensures.left told)
+
+pub returns-in-Err-clause-refused : goal.returns-in-Err-clause-refused
+returns-in-Err-clause-refused g c = λ told is.
+    let s : RunSides = record {
+      size = g.D.Disk.size c.args.disk;
+      old = g.D.Disk.held c.args.disk;
+      new = g.D.Disk.held c.in-Err.disk;
+      had_left = g.S.Source.content c.args.source.now;
+      left = g.S.Source.content c.args.source.now;
+      had_got = g.K.Sink.content c.args.sink.now;
+      got = g.K.Sink.content c.refuse.new.sink;
+    } in
+    has_refused s c.refuse.result (has_stayed s c.in-Err.fault c.refuse.result g.D.Disk.told _ _ _ _ told refl c.in-Err.ensures.refused c.refuse.ensures (c.in-Err.ensures.left told)) is
+
+pub returns-in-Ok-run-clause-refused : goal.returns-in-Ok-run-clause-refused
+returns-in-Ok-run-clause-refused g c = λ told is. absurd (done_not_refused _ c.close.result.0 c.close.ensures.status is)
+
+pub returns-in-Err-run-clause-refused : goal.returns-in-Err-run-clause-refused
+returns-in-Err-run-clause-refused g c = λ told is. absurd (never_so c.in-Err-run.fault (sym c.status_of_fault.ensures ∙ is))
+
+pub returns-in-Ok-run-clause-unsound : goal.returns-in-Ok-run-clause-unsound
+returns-in-Ok-run-clause-unsound g c = λ told e on. absurd (sound_or_refused _ _ e (c.in-Ok.ensures.sound told) on)
+
+pub returns-in-Err-run-clause-unsound : goal.returns-in-Err-run-clause-unsound
+returns-in-Err-run-clause-unsound g c = λ told e on. absurd (sound_or_refused _ _ e (c.in-Ok.ensures.sound told) on)
