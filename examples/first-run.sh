@@ -4,7 +4,12 @@ set -e
 root=$(cd "$(dirname "$0")/.." && pwd)
 program="$root/crates/lvhd_program/out/lvhd_program"
 if [ ! -x "$program" ]; then
-    (cd "$root/crates/lvhd_program" && rt run >/dev/null 2>&1) || true
+    # The program, run once after it is built, may well refuse what it is given.
+    (cd "$root/crates/lvhd_program" && rt run </dev/null >/dev/null 2>&1) || true
+fi
+if [ ! -x "$program" ]; then
+    echo 'the program was not built' >&2
+    exit 1
 fi
 work=$(mktemp -d)
 trap 'rm -rf "$work"' EXIT

@@ -2,20 +2,28 @@
 //!
 //! The file at PATH is the device; the script comes on standard input, and the replies go to standard output. What is
 //! asked for is done by the proved top call; here the file and the streams are opened, and the status is handed to the
-//! system. The program prints nothing of its own.
+//! system. The program prints nothing of its own. Where a standard stream is closed, or another run has the file, nothing
+//! is done. Standard input is read in pieces, so behind a fault more of it may have been taken than was answered.
 #![tactic(auto)]
 
 use lvhd::lvhd;
 use sm_disk::MemDisk;
 use sm_host::{FileDisk, ReadSource, WriteSink, seconds_since_2000};
-use std::fs::File;
-use std::io::{BufReader, BufWriter};
+use std::fs::{File, TryLockError};
+use std::io::{BufReader, BufWriter, Seek, SeekFrom};
+use std::os::fd::AsRawFd;
 use std::process::ExitCode;
 use std::time::{SystemTime, UNIX_EPOCH};
 use std::{env, io};
 
-/// The words, the file or its length could not be read.
+/// The words, the file or its length could not be read, or a standard stream is closed.
 const UNREADABLE: u8 = 9;
+
+/// Another run has the file.
+const IN_USE: u8 = 10;
+
+/// The descriptors of the standard streams are below this.
+const STREAMS: i32 = 3;
 
 /// The program found no memory for itself.
 const NO_MEMORY: u8 = 7;
@@ -68,13 +76,21 @@ fn arguments(rt: &HostRuntime) -> Result<Vec<String>, u8> {
     Ok(arguments)
 }
 
-/// The device that the file at a path is.
+/// The device that the file at a path is, which is this run's alone. A file that was opened in the place of a standard
+/// stream is refused: the replies would be written into it, or its bytes read as the script.
 fn device(rt: &HostRuntime, path: &str) -> Result<FileDisk, u8> {
-    let file = File::options()
+    let mut file = File::options()
         .read(true)
         .write(true)
         .open(rt, path)
         .map_err(|_| UNREADABLE)?;
-    let bytes = file.metadata().map_err(|_| UNREADABLE)?.len();
+    if file.as_raw_fd() < STREAMS {
+        return Err(UNREADABLE);
+    }
+    file.try_lock().map_err(|error| match error {
+        TryLockError::WouldBlock => IN_USE,
+        TryLockError::Error(_) => UNREADABLE,
+    })?;
+    let bytes = file.seek(SeekFrom::End(0)).map_err(|_| UNREADABLE)?;
     Ok(FileDisk::new(file, bytes))
 }
