@@ -13,6 +13,7 @@ use Rattle.vg_store.specs.Openings.{IsAnswer}
 use Rattle.sm_script.specs.Pieces.{Writes}
 use Rattle.sm_machine.specs.Disks.{Disk}
 use Rattle.sm_machine.specs.Steps.{State}
+use Rattle.vg_layout.specs.Opening.{plate_of}
 use Rattle.vg_layout.specs.Places.{area_place}
 use Rattle.vg_meta.specs.Tables.{Listing}
 use Rattle.vg_store.specs.Groups.{Leaves, area_of}
@@ -75,8 +76,9 @@ reads_as size site held after t back one =
 pub has_run : (s : RunSides) (status : Status) (site : Site) (t : Listing) (held : Held) (start : State) (result : Result ⊤ RunFault) (Ready : Type 0)
     → IsSoundOn s.size (reads s.old) → Shows s.size (reads s.old) start.disks → IsOpenedOn s.size (reads s.old) start.shape
     → HasRun start (state_now site t (area_of held)) result s.had_left s.left s.had_got s.got (MayShow site (Leaves s.size held (plate_at site))) Ready (KeepsAll site (Leaves s.size held (plate_at site)))
-    → IsGivenBack s.size site held s.new → (Ready → IsOneTable s.size site s.new t) → EndsAs result s.size s.new (state_now site t (area_of held)) status → HasRunOn s status
-has_run s status site t held start result Ready sound shown opened run back one ends =
+    → IsGivenBack s.size site held s.new → (Ready → IsOneTable s.size site s.new t) → EndsAs result s.size s.new (state_now site t (area_of held)) status
+    → plate_of s.size (reads s.old) ≡ Ok (plate_at site) → HasRunOn s status
+has_run s status site t held start result Ready sound shown opened run back one ends labelled =
     let always = back.stands in
     record {
       sound = sound;
@@ -90,6 +92,7 @@ has_run s status site t held start result Ready sound shown opened run back one 
           (λ r. reads_as s.size site held s.new t back (one r))
           (λ keeps. kept_device s.size s.new site always (λ u image l. keeps u image (back.fewer u image l))) run;
       ends = ends;
+      label = λ image allowed. (always image allowed).stands.labelled ∙ sym labelled;
     }
 
 -- ---- a refusal
@@ -127,11 +130,12 @@ shown_only size site held ds always only = λ es m. only es (shown_device size h
 pub has_run_sized : (s : RunSides) (status : Status) (other : ℕ) (site : Site) (t : Listing) (held : Held) (start : State) (result : Result ⊤ RunFault) (Ready : Type 0) → other ≡ s.size
     → IsSoundOn s.size (reads s.old) → Shows s.size (reads s.old) start.disks → IsOpenedOn s.size (reads s.old) start.shape
     → HasRun start (state_now site t (area_of held)) result s.had_left s.left s.had_got s.got (MayShow site (Leaves other held (plate_at site))) Ready (KeepsAll site (Leaves other held (plate_at site)))
-    → IsGivenBack other site held s.new → (Ready → IsOneTable other site s.new t) → EndsAs result s.size s.new (state_now site t (area_of held)) status → HasRunOn s status
-has_run_sized s status other site t held start result Ready is_size sound shown opened run back one ends =
+    → IsGivenBack other site held s.new → (Ready → IsOneTable other site s.new t) → EndsAs result s.size s.new (state_now site t (area_of held)) status
+    → plate_of s.size (reads s.old) ≡ Ok (plate_at site) → HasRunOn s status
+has_run_sized s status other site t held start result Ready is_size sound shown opened run back one ends labelled =
     has_run s status site t held start result Ready sound shown opened
     (subst (λ n. HasRun start (state_now site t (area_of held)) result s.had_left s.left s.had_got s.got (MayShow site (Leaves n held (plate_at site))) Ready (KeepsAll site (Leaves n held (plate_at site)))) is_size run)
-    (subst (λ n. IsGivenBack n site held s.new) is_size back) (λ r. subst (λ n. IsOneTable n site s.new t) is_size (one r)) ends
+    (subst (λ n. IsGivenBack n site held s.new) is_size back) (λ r. subst (λ n. IsOneTable n site s.new t) is_size (one r)) ends labelled
 
 -- a device that was handed back as it was
 pub back_itself : (size : ℕ) (site : Site) (held : Held) → StandsAlways size held site → IsGivenBack size site held held
@@ -140,6 +144,9 @@ back_itself size site held always = record {
   fewer = λ t image l. l;
   extents = record { reads = λ q. refl; may = λ q v m. m };
 }
+
+pub ok_not_err : (r : Result ⊤ RunFault) (u : ⊤) (f : RunFault) → r ≡ Ok u → r ≡ Err f → ⊥
+ok_not_err r u f is failed = let e = sym is ∙ failed in (let x = e in cc)
 
 -- the script was read to its end
 pub ends_done : (size other : ℕ) (new : Held) (end : State) (result : Result ⊤ RunFault) (u : ⊤) (status : Status) (told : Type 0) → told → result ≡ Ok u → other ≡ size → ((status ≡ Done) × (told → IsSettled new)) ⊎ (status ≡ Device)

@@ -58,9 +58,17 @@ abbrev pub EndsAs : Result ⊤ RunFault → ℕ → Held → State → Status �
 EndsAs (Ok _) size new end status = ((status ≡ Done) × IsSettled new × ShowsOnly size new end.disks) ⊎ (status ≡ Device)
 EndsAs (Err f) size new end status = status ≡ status_of (Err f)
 
+-- on each image that the device allows now stands the label that a read gave at the entry
+abbrev pub HasLabel : ℕ → Held → Held → Type 0
+HasLabel size old new = (image : ℕ → List ℕ) → Allows size new image → plate_of size image ≡ plate_of size (reads old)
+
+-- or it is an image that the device allowed before
+abbrev pub MayHaveLabel : ℕ → Held → Held → Type 0
+MayHaveLabel size old new = (image : ℕ → List ℕ) → Allows size new image → Allows size old image ⊎ (plate_of size image ≡ plate_of size (reads old))
+
 -- The repository was opened, with the disks that a read gave at the entry and the shape that an opening makes of what stood
--- there, and the script was run: what was read and
--- answered, and what a stop may show now.
+-- there, and the script was run: what was read and answered, and what a stop may show now. The label stays, with the
+-- repository's UUID, its sizes and the number of its extents.
 pub record HasRunOn (s : RunSides) (status : Status) : Type 0 where
   pub sound : IsSoundOn s.size (reads s.old)
   pub start : State
@@ -70,6 +78,7 @@ pub record HasRunOn (s : RunSides) (status : Status) : Type 0 where
   pub opened : IsOpenedOn s.size (reads s.old) start.shape
   pub did : HasRun start end result s.had_left s.left s.had_got s.got (MayShowOn s.size s.new) (ReadsAs s.size s.new end) (IsKeptDevice s.size s.new)
   pub ends : EndsAs result s.size s.new end status
+  pub label : HasLabel s.size s.old s.new
 
 -- the line that says why a repository is not opened, or nothing
 abbrev pub HasSaid : RunSides → Status → Type 0
@@ -88,6 +97,7 @@ pub record HasNotOpened (s : RunSides) (status : Status) : Type 0 where
   pub said : HasSaid s status
   pub kept : IsKeptDevice s.size s.new
   pub shown : (ds : List Disk) → MayShowOn s.size s.new ds → MayShowOn s.size s.old ds
+  pub label : MayHaveLabel s.size s.old s.new
 
 -- what a run of the program did
 abbrev pub RunDid : RunSides → Status → Type 0

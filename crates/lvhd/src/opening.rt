@@ -1,6 +1,6 @@
 //! A device is opened.
 
-ghost use Rattle.std.specs.Prelude.{◌≡◌, ◌≤◌, List, false, IfOk, IfErr};
+ghost use Rattle.std.specs.Prelude.{◌≡◌, ◌≤◌, List, false, Ok, IfOk, IfErr};
 ghost use Rattle.sm_disk.specs.Held.{reads};
 ghost use Rattle.sm_machine.specs.Disks.{Disk};
 ghost use Rattle.sm_standing.specs.Devices.{Shows};
@@ -8,14 +8,15 @@ ghost use Rattle.sm_standing.specs.Shapes.{shape};
 ghost use Rattle.sm_standing.specs.Standing.{disks};
 ghost use Rattle.vg_meta.specs.Kept.{listing};
 ghost use Rattle.vg_layout.specs.Fields.{plate};
+ghost use Rattle.vg_layout.specs.Opening.{plate_of};
 ghost use Rattle.vg_store.specs.Groups.{Leaves, area_of};
 ghost use Rattle.vg_store.specs.Openings.{IsAnswer};
 ghost use Rattle.sm_recover.specs.Repairs.{UnlessDevice};
 ghost use Rattle.sm_recover.specs.Stores.{IsAtRest, content_now, state_now};
 ghost use Rattle.sm_run.specs.Runs.{BeginsSettled};
 ghost use Rattle.sm_session.specs.Sessions.{MayShow, KeepsAll};
-ghost use Rattle.lvhd.specs.Devices.{IsKeptDevice, MayShowOn, IsSoundOn, IsRefusedOn, IsOpenedOn, site_on};
-ghost use Rattle.lvhd.specs.Running.{IsLeft};
+ghost use Rattle.lvhd.specs.Devices.{IsKeptDevice, MayShowOn, IsSoundOn, IsRefusedOn, IsOpenedOn, plate_at, site_on};
+ghost use Rattle.lvhd.specs.Running.{IsLeft, MayHaveLabel};
 
 use sm_base::OpenFault;
 use sm_disk::Disk;
@@ -37,6 +38,7 @@ pub fn open<D: Disk>(alloc: Global, disk: D, now: u32) -> Result<Session<Group<D
     ensures rest { IfOk result (λ s. D.told → IsAtRest (site_on s.store.label (D.size s.store.disk)) (listing s.store.table) (area_of (D.held s.store.disk)) s.records) }
     ensures shown { IfOk result (λ s. D.told → Shows (D.size disk) (reads (D.held disk)) (disks (content_now (site_on s.store.label (D.size s.store.disk)) (listing s.store.table) (area_of (D.held s.store.disk))))) }
     ensures opened { IfOk result (λ s. D.told → IsOpenedOn (D.size disk) (reads (D.held disk)) (shape (content_now (site_on s.store.label (D.size s.store.disk)) (listing s.store.table) (area_of (D.held s.store.disk))))) }
+    ensures label { IfOk result (λ s. D.told → plate_of (D.size disk) (reads (D.held disk)) ≡ Ok (plate_at (site_on s.store.label (D.size s.store.disk)))) }
     ensures kept { IfOk result (λ s. D.told → KeepsAll (site_on s.store.label (D.size s.store.disk)) (Leaves (D.size s.store.disk) (D.held s.store.disk) (plate s.store.label))) }
     ensures begins { IfOk result (λ s. D.told → BeginsSettled (state_now (site_on s.store.label (D.size s.store.disk)) (listing s.store.table) (area_of (D.held s.store.disk)))
         (MayShow (site_on s.store.label (D.size s.store.disk)) (Leaves (D.size s.store.disk) (D.held s.store.disk) (plate s.store.label)))) }
@@ -44,6 +46,7 @@ pub fn open<D: Disk>(alloc: Global, disk: D, now: u32) -> Result<Session<Group<D
     ensures counts_back { IfErr result (λ e. D.faults disk ≤ D.faults e.1) }
     ensures refused { IfErr result (λ e. IsAnswer (λ f. D.told → IsRefusedOn (D.size disk) (reads (D.held disk)) f) (D.faults disk) (D.faults e.1) e.0) }
     ensures left { IfErr result (λ e. D.told → UnlessDevice e.0 (IsLeft (D.size disk) (D.held disk) (D.held e.1))) }
+    ensures label_back { IfErr result (λ e. D.told → MayHaveLabel (D.size disk) (D.held disk) (D.held e.1)) }
     ensures kept_back { IfErr result (λ e. D.told → IsKeptDevice (D.size disk) (D.held disk) → IsKeptDevice (D.size disk) (D.held e.1)) }
     ensures shown_back { IfErr result (λ e. D.told → (ds : List Disk) → MayShowOn (D.size disk) (D.held e.1) ds → MayShowOn (D.size disk) (D.held disk) ds) }
 {

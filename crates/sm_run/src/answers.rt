@@ -21,7 +21,7 @@ pub fn take_step<M: Steps>(alloc: Global, machine: &mut M, line: &[u8]) -> Resul
         → (whole : List ℕ) → line.now ≡ front_of whole
         → HasStepped (M.state machine.old) (M.state machine.new) whole result
         (M.leaves machine.old) (M.leaves machine.new) (M.ready machine.new) (M.kept machine.new) }
-    ensures size { M.size machine.new ≡ M.size machine.old }
+    ensures site { M.site machine.new ≡ M.site machine.old }
     ensures counts { M.faults machine.old ≤ M.faults machine.new }
     ensures device { M.broken machine.old ≡ false → OnErr result (Rose (M.faults machine.old) (M.faults machine.new)) }
     ensures going_on { M.broken machine.old ≡ false → OnOk result (M.broken machine.new ≡ false) }
@@ -46,7 +46,7 @@ pub fn answer<M: Steps, K: Sink>(
         → HasAnswered (M.state machine.old) (M.state machine.new) whole result (K.content sink.old) (K.content sink.new)
         (M.leaves machine.old) (M.leaves machine.new) (M.ready machine.new) (M.kept machine.new) }
     ensures faults { IfErr result (λ fault. (fault ≡ Device) ⊎ (fault ≡ SinkFault)) }
-    ensures size { M.size machine.new ≡ M.size machine.old }
+    ensures site { M.site machine.new ≡ M.site machine.old }
     ensures counts { M.faults machine.old ≤ M.faults machine.new }
     ensures sink_counts { K.faults sink.old ≤ K.faults sink.new }
     ensures device { M.broken machine.old ≡ false → result ≡ Err Device → Rose (M.faults machine.old) (M.faults machine.new) }

@@ -49,7 +49,7 @@ pub fn run<M: Steps, S: Source, K: Sink>(
     ensures source { result ≡ Err fault.Source → Rose (S.faults source.old) (S.faults source.new) }
     ensures sink { result ≡ Err fault.Sink → Rose (K.faults sink.old) (K.faults sink.new) }
     ensures going_on { M.broken machine.old ≡ false → result ≢ Err fault.Device → M.broken machine.new ≡ false }
-    ensures size { M.size machine.new ≡ M.size machine.old }
+    ensures site { M.site machine.new ≡ M.site machine.old }
     ensures device_counts { M.faults machine.old ≤ M.faults machine.new }
     ensures source_counts { S.faults source.old ≤ S.faults source.new }
     ensures sink_counts { K.faults sink.old ≤ K.faults sink.new }

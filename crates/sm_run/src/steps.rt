@@ -46,12 +46,14 @@ pub trait Steps {
     /// How many calls of the device have failed. It never falls.
     ghost faults: { Self → ℕ };
 
-    /// How large the device is, in sectors. It never changes.
-    ghost size: { Self → ℕ };
+    /// What never changes: how large the device is, and what else is told of it.
+    ghost Site: { Type 0 };
 
-    /// One step. A refused command, one that found no memory among them, leaves the device as it was.
+    ghost site: { Self → Site };
+
+    /// One step. After a refused command, one that found no memory among them, a stop leaves nothing new.
     fn step(&mut self, alloc: Global, command: &Command) -> Result<Reply, StepFault>
-        ensures size { size self.new ≡ size self.old }
+        ensures site { site self.new ≡ site self.old }
         ensures counts { faults self.old ≤ faults self.new }
         ensures device { result ≡ Err Device → Rose (faults self.old) (faults self.new) × (broken self.new ≡ true) }
         ensures broken { (result ≡ Err Broken → broken self.old ≡ true) × (broken self.old ≡ true → result ≡ Err Broken) }

@@ -96,6 +96,7 @@ impl<S: Store> Session<S> {
 impl<S: Store> Steps for Session<S> {
     ghost use Rattle.std.specs.Prelude.{◌≡◌, false};
     ghost use Rattle.vg_meta.specs.Kept.{listing};
+    ghost use Rattle.vg_volumes.specs.Sites.{Site};
     ghost use Rattle.sm_recover.specs.Stores.{IsAtRest, state_now};
     ghost use Rattle.sm_session.specs.Sessions.{MayShow, KeepsAll};
 
@@ -113,7 +114,9 @@ impl<S: Store> Steps for Session<S> {
 
     ghost faults = { λ s. S.faults s.store };
 
-    ghost size = { λ s. (S.site s.store).sectors };
+    ghost Site = { Site };
+
+    ghost site = { λ s. S.site s.store };
 
     fn step(&mut self, alloc: Global, command: &Command) -> Result<Reply, StepFault> {
         if self.broken {

@@ -1,4 +1,4 @@
-use Rattle.std.proofs.Common.{◌≡◌, sym, ap, ◌∙◌, subst}
+use Rattle.std.proofs.Common.{◌≡◌, inl, inr, Ok, sym, ap, ◌∙◌, subst}
 use Rattle.sm_base.specs.declared.faults.OpenFault.{OpenFault}
 use Rattle.sm_disk.specs.Held.{SameHeld, reads}
 use Rattle.sm_disk.proofs.HeldLaws.{Allows-keeps}
@@ -119,3 +119,25 @@ returns-in-Err-begin-clause-left g c = λ told.
     let sized = subst (λ n. Leaves n (g.D.Disk.held d) (plate_at now) t image) (sym after) here in
     let last = subst (λ x. Leaves (g.D.Disk.size x) (g.D.Disk.held x) (plate back.label) t image) c.into_disk.ensures.disk sized in
     subst (λ n. Leaves n (g.D.Disk.held group.disk) (plate group.label) t image) e.size (is.same_leaves told t image last))) c.in-Err-begin.ensures.refused
+
+pub returns-in-Ok-begin-clause-label : goal.returns-in-Ok-begin-clause-label
+returns-in-Ok-begin-clause-label g c = λ told.
+    (c.in-Ok.ensures.stands told).labelled ∙ ap (λ (s : Site). Ok (plate_at s)) (sym c.in-Ok-begin.ensures.site)
+
+pub returns-in-Err-clause-label_back : goal.returns-in-Err-clause-label_back
+returns-in-Err-clause-label_back g c = λ told image allowed. inl (Allows-keeps _ image (c.in-Err.ensures.keeps_back told) allowed)
+
+pub returns-in-Err-begin-clause-label_back : goal.returns-in-Err-begin-clause-label_back
+returns-in-Err-begin-clause-label_back g c = λ told image allowed.
+    let e = c.in-Ok.ensures in
+    let group = c.in-Ok.group in
+    let back = c.in-Err-begin.group in
+    let d = c.into_disk.result in
+    let size = g.D.Disk.size c.args.disk in
+    let site : Site = site_on group.label (g.D.Disk.size group.disk) in
+    let now : Site = site_on back.label (g.D.Disk.size back.disk) in
+    let same : now ≡ site = c.in-Err-begin.ensures.site_back in
+    let after : g.D.Disk.size d ≡ size = ap g.D.Disk.size c.into_disk.ensures.disk ∙ ap (λ (s : Site). s.sectors) same ∙ e.size in
+    let always : StandsAlways size (g.D.Disk.held d) site =
+    subst (StandsAlways size (g.D.Disk.held d)) same (always_sized size (g.D.Disk.size d) (g.D.Disk.held d) now after (c.into_disk.ensures.stands told)) in
+    inr ((always image allowed).stands.labelled ∙ sym (e.stands told).labelled)

@@ -12,7 +12,7 @@ lines-init g c = record {
   run = λ told ready kept begins.
       so_far-begins _ (g.S.Source.content c.args.source.now) (g.K.Sink.content c.args.sink.now) _ (g.M.Steps.leaves c.args.machine.now) _ _ refl begins ready kept;
   going_on = λ h. h;
-  size = refl;
+  site = refl;
   device_counts = omega arith;
   source_counts = omega arith;
   sink_counts = omega arith;
@@ -51,7 +51,7 @@ lines-preserved g c = record {
       so_far-more _ _ _ _ _ _ _ _ _ _ _ (g.M.Steps.leaves c.lines.machine) (g.M.Steps.leaves c.answer-in-Ok-Newline.new.machine) _ _ _ _ r.bytes so r.in_line r.ends.0 r.ends.1
       (c.in_ok-answer-in-Ok-Newline.ensures.answered told so.ready so.kept (so_far-faces _ _ _ _ _ _ _ (g.M.Steps.leaves c.lines.machine) _ _ so) r.bytes front);
   going_on = λ h. c.answer-in-Ok-Newline.ensures.going_on (c.lines.invariant.going_on h) (ok-not_device _ _ c.in_ok-answer-in-Ok-Newline.was);
-  size = c.answer-in-Ok-Newline.ensures.size ∙ c.lines.invariant.size;
+  site = c.answer-in-Ok-Newline.ensures.site ∙ c.lines.invariant.site;
   device_counts = omega (arith, c.lines.invariant.device_counts, c.answer-in-Ok-Newline.ensures.counts);
   source_counts = omega (arith, c.lines.invariant.source_counts, c.read_line.ensures.counts);
   sink_counts = omega (arith, c.lines.invariant.sink_counts, c.answer-in-Ok-Newline.ensures.sink_counts);

@@ -10,7 +10,7 @@ invariant-lines g l = record {
       → SoFar (g.M.Steps.state l.fn.machine) (g.M.Steps.state l.machine) (g.S.Source.content l.fn.source) (g.S.Source.content l.source)
       (g.K.Sink.content l.fn.sink) (g.K.Sink.content l.sink) l.room (g.M.Steps.leaves l.machine) (g.M.Steps.ready l.machine) (g.M.Steps.kept l.machine);
   going_on : g.M.Steps.broken l.fn.machine ≡ false → g.M.Steps.broken l.machine ≡ false;
-  size : g.M.Steps.size l.machine ≡ g.M.Steps.size l.fn.machine;
+  site : g.M.Steps.site l.machine ≡ g.M.Steps.site l.fn.machine;
   device_counts : g.M.Steps.faults l.fn.machine ≤ g.M.Steps.faults l.machine;
   source_counts : g.S.Source.faults l.fn.source ≤ g.S.Source.faults l.source;
   sink_counts : g.K.Sink.faults l.fn.sink ≤ g.K.Sink.faults l.sink;
