@@ -29,6 +29,7 @@ fn put_footers<S: Store>(store: &mut S, volume: &Name, footer: &Footer) -> Resul
         → reads (held_in S.site S.kept S.area store.new volume.now) p
         ≡ reads (held_in S.site S.kept S.area store.old volume.now) p }
     ensures last { OnOk result (S.told → reads (held_in S.site S.kept S.area store.new volume.now) (sectors_of S.site S.kept store.old volume.now - 1) ≡ footer_bytes footer.now) }
+    ensures copy { OnOk result (S.told → reads (held_in S.site S.kept S.area store.new volume.now) 0 ≡ footer_bytes footer.now) }
     ensures reads_back { IsFooter footer.now → footer_read (footer_bytes footer.now) ≡ Ok footer.now }
 {
     let last = sectors_in(store, volume) - 1;
@@ -44,7 +45,8 @@ impl Image {
     ///
     /// # Errors
     ///
-    /// The store failed; the image in memory has its old size.
+    /// The store failed; the image in memory has its old size. Before it is used again the store is synced and the image
+    /// opened.
     pub fn set_size<S: Store>(&mut self, store: &mut S, sectors: u64) -> Result<(), Failed>
         requires vhd { IsVhd self.old }
         requires stands { StandsIn (S.site store.old).geometry (sectors_of S.site S.kept store.old (volume_name self.old)) self.old }
@@ -60,6 +62,9 @@ impl Image {
             (held_in S.site S.kept S.area store.new head.volume)) }
         ensures new_size { OnOk result (self.new ≡ resized sectors self.old) }
         ensures unchanged { OnErr result (self.new ≡ self.old) }
+        // Both footers are those of the image now, byte for byte.
+        ensures last { OnOk result (S.told → IfVhd self.new (λ head m. reads (held_in S.site S.kept S.area store.new head.volume) (sectors_of S.site S.kept store.old head.volume - 1) ≡ footer_bytes head.footer)) }
+        ensures copy { OnOk result (S.told → IfVhd self.new (λ head m. reads (held_in S.site S.kept S.area store.new head.volume) 0 ≡ footer_bytes head.footer)) }
         ensures stands_after { OnOk result (StandsIn (S.site store.old).geometry (sectors_of S.site S.kept store.old (volume_name self.old)) self.new) }
         ensures true_after { OnOk result (S.told → TrueIn (S.site store.old).geometry (sectors_of S.site S.kept store.old (volume_name self.old)) (held_in S.site S.kept S.area store.new (volume_name self.old)) self.new) }
     {

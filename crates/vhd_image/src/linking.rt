@@ -97,11 +97,13 @@ fn put_link<S: Store>(store: &mut S, volume: &Name, parent: &Image) -> Result<()
 impl Image {
     /// Gives a differencing image another parent: its unique id, its time stamp and the name of its volume in the
     /// header, zeros for id and stamp of a raw one. One sector is written, the header's first, and nothing is synced. A
-    /// stop leaves the old parent or this one.
+    /// stop leaves an image with the name of the old parent or of this one. Sectors that were copied into this one last
+    /// only once they are synced, which is the caller's, before the link; so is it that this one is not larger.
     ///
     /// # Errors
     ///
-    /// The store failed; the image in memory has its old parent.
+    /// The store failed; the image in memory has its old parent. Before it is used again the store is synced and the image
+    /// opened.
     pub fn set_parent<S: Store>(&mut self, store: &mut S, parent: &Image) -> Result<(), Failed>
         requires vhd { IsVhd self.old }
         requires child { IsSome (parent_name self.old) }
@@ -115,6 +117,9 @@ impl Image {
             (IsRelinked (layout_in (S.site store.old).geometry head.footer (sectors_of S.site S.kept store.old head.volume)) (volume_name parent.now))
             (held_in S.site S.kept S.area store.old head.volume)
             (held_in S.site S.kept S.area store.new head.volume)) }
+        // Of the header's first sector only the parent's fields and the sum change.
+        ensures put { OnOk result (S.told → reads (held_in S.site S.kept S.area store.new (volume_name self.old)) 1
+            ≡ link_bytes (reads (held_in S.site S.kept S.area store.old (volume_name self.old)) 1) (reads (held_in S.site S.kept S.area store.old (volume_name self.old)) 2) parent.now) }
         ensures new_parent { OnOk result (self.new ≡ relinked parent.now self.old) }
         ensures unchanged { OnErr result (self.new ≡ self.old) }
         ensures stands_after { OnOk result (StandsIn (S.site store.old).geometry (sectors_of S.site S.kept store.old (volume_name self.old)) self.new) }

@@ -1,11 +1,11 @@
 //! A new image.
 
-ghost use Rattle.std.specs.Prelude.{◌≡◌, ◌≢◌, ℕ, ◌+◌, ◌-◌, ◌*◌, ◌<◌, ◌≤◌, ◌⊎◌, Ok, Some, None, OnOk, OnErr, IfOk, length, replicate, ◌^◌};
+ghost use Rattle.std.specs.Prelude.{◌≡◌, ◌++◌, ◌≢◌, ℕ, ◌+◌, ◌-◌, ◌*◌, ◌<◌, ◌≤◌, ◌⊎◌, Ok, Some, None, OnOk, OnErr, IfOk, length, replicate, ◌^◌};
 ghost use Rattle.std.specs.Option.{ForSome, option_copied};
 ghost use Rattle.sm_base.specs.Numbers.{first};
 ghost use Rattle.sm_disk.specs.Held.{Rose, reads};
 ghost use Rattle.vhd_fields.specs.Footers.{IsFooter, footer_bytes, footer_read};
-ghost use Rattle.vhd_fields.specs.Headers.{IsHeader};
+ghost use Rattle.vhd_fields.specs.Headers.{IsHeader, header_bytes};
 ghost use Rattle.vhd_map.specs.Places.{blank};
 ghost use Rattle.vhd_layout.specs.Images.{IsImage, header_at};
 ghost use Rattle.vhd_layout.specs.Layouts.{entry, entries_in_sectors};
@@ -122,6 +122,7 @@ fn put_header<S: Store>(store: &mut S, volume: &Name, header: &Header) -> Result
     ensures works { WorksOn S.told S.site S.kept S.area S.failed S.faults volume.now store.old store.new }
     ensures cause { OnErr result (Rose (S.faults store.old) (S.faults store.new)) }
     ensures header { OnOk result (S.told → header_at (reads (held_in S.site S.kept S.area store.new volume.now)) ≡ Some header.now) }
+    ensures bytes { OnOk result (S.told → reads (held_in S.site S.kept S.area store.new volume.now) 1 ++ reads (held_in S.site S.kept S.area store.new volume.now) 2 ≡ header_bytes header.now) }
     ensures others { S.told → (p : ℕ) → p ≢ 1 → p ≢ 2 → reads (held_in S.site S.kept S.area store.new volume.now) p ≡ reads (held_in S.site S.kept S.area store.old volume.now) p }
 {
     let mut bytes = [0; 1024];
@@ -192,6 +193,10 @@ impl Image {
             (new_footer now sectors uid (option_copied parent.entry))
             (new_header (S.site store.old).geometry (option_copied parent.entry))
             (λ b. None)) }
+        // Its footers and its header, byte for byte.
+        ensures last { OnOk result (S.told → reads (held_in S.site S.kept S.area store.new volume.now) (sectors_of S.site S.kept store.old volume.now - 1) ≡ footer_bytes (new_footer now sectors uid (option_copied parent.entry))) }
+        ensures first { OnOk result (S.told → reads (held_in S.site S.kept S.area store.new volume.now) 0 ≡ footer_bytes (new_footer now sectors uid (option_copied parent.entry))) }
+        ensures header { OnOk result (S.told → reads (held_in S.site S.kept S.area store.new volume.now) 1 ++ reads (held_in S.site S.kept S.area store.new volume.now) 2 ≡ header_bytes (new_header (S.site store.old).geometry (option_copied parent.entry))) }
         ensures copy { OnOk result (S.told → footer_read (reads (held_in S.site S.kept S.area store.new volume.now) 0) ≡ Ok (new_footer now sectors uid (option_copied parent.entry))) }
     {
         let geometry = store.geometry();

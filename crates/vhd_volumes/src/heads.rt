@@ -8,7 +8,7 @@ use vhd_fields::{Footer, Header};
 pub struct Head {
     /// The volume's name.
     pub volume: Name,
-    /// The footer, as the volume's last sector has it.
+    /// The footer: that of the volume's last sector, or its copy where that sector has none.
     pub footer: Footer,
     /// The header.
     pub header: Header,

@@ -1,7 +1,7 @@
 //! A slot in a buffer.
 
 ghost use Rattle.std.specs.Prelude.{◌≡◌, ◌≢◌, ◌⊎◌, ℕ, ◌+◌, ◌*◌, ◌<◌, ◌≤◌, ◌%◌, length, true, false};
-ghost use Rattle.sm_disk.specs.Sectors.{sector};
+ghost use Rattle.sm_disk.specs.Sectors.{sector, zeros};
 ghost use Rattle.vhd_map.specs.Bitmaps.{is_set};
 
 use crate::bitmaps::bitmap_of;
@@ -13,6 +13,7 @@ fn put_sectors(buffer: &mut [u8], at: usize, bytes: &[u8])
     ensures inside { (i : ℕ) → 512 * i + 512 ≤ length bytes.now → sector buffer.new (at + i) ≡ sector
         bytes.now i }
     ensures before { (i : ℕ) → i < at → sector buffer.new i ≡ sector buffer.old i }
+    ensures behind { (i : ℕ) → 512 * at + length bytes.now ≤ 512 * i → sector buffer.new i ≡ sector buffer.old i }
 {
     let start = 512 * at;
     let end = start + bytes.len();
@@ -31,6 +32,8 @@ pub(crate) fn fill(buffer: &mut [u8], part: &Part, bytes: &[u8])
         (sector buffer.new 0) i ≡ false }
     ensures bytes { (i : ℕ) → i < part.now.count → sector buffer.new (1 + part.now.first + i) ≡ sector
         bytes.now i }
+    ensures zeros { (i : ℕ) → (i < part.now.first) ⊎ (part.now.first + part.now.count ≤ i) → 512 * (1 + i) + 512 ≤
+        length buffer.old → sector buffer.new (1 + i) ≡ zeros }
 {
     buffer.fill(0);
     put_sectors(buffer, 0, &bitmap_of(part));

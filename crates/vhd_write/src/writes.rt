@@ -153,8 +153,14 @@ fn write_with<S: Store>(
 /// the head's volume. Blocks without a slot are given the least free ones in rising order, for which the volume has
 /// room; a buffer of a slot's length is free.
 ///
-/// At `Ok` a read gives the bytes, and all other sectors as before. At `Failed`, and whenever a stop comes, each sector
-/// is as before or has its bytes of this write, and the image is valid. What was written lasts once the store is synced.
+/// At `Ok` a read gives the bytes, and all other sectors as before. At `Failed`, and whenever a stop comes, what a stop
+/// leaves is a valid image that follows one which a stop could leave before: each sector as it was there, or with its
+/// bytes of this write. What was written lasts once the store is synced.
+///
+/// # Errors
+///
+/// The store failed. The map may name slots then that the table has not: before the image is used again the store is
+/// synced and the image opened.
 pub fn write<S: Store>(
     store: &mut S,
     pool: &mut Pool,

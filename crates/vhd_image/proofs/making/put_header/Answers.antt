@@ -1,4 +1,5 @@
-use Rattle.std.proofs.Common.{◌∙◌, arith}
+use Rattle.std.proofs.Common.{◌++◌, ℕ, List, ap₂, ◌∙◌, arith}
+use Rattle.std.proofs.lemmas.List.{take-append-drop}
 use Rattle.sm_disk.specs.Held.{reads}
 use Rattle.vhd_volumes.specs.Steps.{held_in}
 use Rattle.vhd_volumes.proofs.StepLaws.{works-then}
@@ -17,3 +18,9 @@ returns-clause-header g c = λ told.
     header-wrote v c.write.new.to c.halves.result.0 c.halves.result.1 c.args.header.now
     ((c.put_sector-2.ensures.may_put told).others 1 (λ e. omega arith) ∙ c.in_ok-put_sector.ensures.put told)
     (c.in_ok-put_sector-2.ensures.put told) c.halves.ensures.front c.halves.ensures.back (c.write.ensures.reads_back c.requires.proper)
+
+pub returns-clause-bytes : goal.returns-clause-bytes
+returns-clause-bytes g c = λ told.
+    let one = (c.put_sector-2.ensures.may_put told).others 1 (λ e. omega arith) ∙ c.in_ok-put_sector.ensures.put told ∙ c.halves.ensures.front in
+    let two = c.in_ok-put_sector-2.ensures.put told ∙ c.halves.ensures.back in
+    ap₂ (λ (front back : List ℕ). front ++ back) one two ∙ take-append-drop 512 c.write.new.to ∙ c.write.ensures.bytes

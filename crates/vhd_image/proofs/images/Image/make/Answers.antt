@@ -1,4 +1,4 @@
-use Rattle.std.proofs.Common.{◌≡◌, ◌-◌, ℕ, List, Option, Some, None, Ok, replicate, ap, sym, subst, ◌∙◌, arith}
+use Rattle.std.proofs.Common.{◌≡◌, ◌-◌, ℕ, List, Option, Some, None, Ok, replicate, ◌++◌, ap, ap₂, sym, subst, ◌∙◌, arith}
 use Rattle.std.specs.Option.{option_copied}
 use Rattle.sm_base.specs.Numbers.{first}
 use Rattle.sm_base.specs.declared.sizes.Geometry.{Geometry}
@@ -9,7 +9,7 @@ use Rattle.vhd_volumes.specs.Truth.{IsStanding}
 use Rattle.vhd_fields.specs.Footers.{IsFooter, footer_read}
 use Rattle.vhd_fields.specs.declared.footers.Footer.{Footer}
 use Rattle.vhd_fields.specs.declared.headers.Header.{Header}
-use Rattle.vhd_fields.specs.Headers.{IsHeader}
+use Rattle.vhd_fields.specs.Headers.{IsHeader, header_bytes}
 use Rattle.vhd_layout.specs.Images.{header_at}
 use Rattle.vhd_volumes.specs.Steps.{held_in, sectors_of}
 use Rattle.vhd_image.specs.Made.{new_header, new_footer, IsBlankTo}
@@ -70,3 +70,18 @@ returns-clause-image g c = λ told.
     let table : IsBlankTo (first geometry.entries) v = λ p from below j small.
     ap (λ (x : List ℕ). word x j) (others p (λ at. omega (arith, at, size, below, c.requires.room))) ∙ c.in_ok-put_table.ensures.table told p from (omega (arith, below, begins)) j small in
     made geometry n c.args.now c.args.sectors c.args.uid c.requires.size v parent ok c.requires.room last header table
+
+pub returns-clause-header : goal.returns-clause-header
+returns-clause-header g c = λ told.
+    let geometry = (g.S.Store.site c.args.store.now).geometry in
+    let e = c.geometry-geometry.ensures in
+    let ok = geometry-ok e c.geometry-geometry.result.in_range in
+    let others = (c.put_footer-2.ensures.may_put told).others in
+    let front = c.put_table.ensures.front told in
+    let size = c.sectors_in-last.ensures in
+    let low = first-ge geometry.entries ok.entries_least in
+    let one = others 1 (λ at. omega (arith, at, size, low, c.requires.room)) ∙ front 1 (omega arith) in
+    let two = others 2 (λ at. omega (arith, at, size, low, c.requires.room)) ∙ front 2 (omega arith) in
+    ap₂ (λ (a b : List ℕ). a ++ b) one two
+    ∙ (c.in_ok-put_header.ensures.bytes told
+    ∙ ap header_bytes (c.new_header-header.ensures ∙ ap (λ (x : Geometry). new_header x (option_copied c.args.parent)) e))
