@@ -22,7 +22,6 @@ use Rattle.sm_recover.specs.Stores.{content_in, content_now, state_now}
 use Rattle.sm_run.specs.Runs.{HasRun}
 use Rattle.sm_recover.specs.Repairs.{UnlessDevice}
 use Rattle.sm_run.specs.declared.runs.RunFault.{RunFault}
-use Rattle.sm_run.specs.declared.runs.RunFault.TheVariants as run
 use Rattle.sm_session.specs.Sessions.{MayShow, KeepsAll}
 use Rattle.sm_standing.specs.Contents.{Content}
 use Rattle.sm_standing.specs.Devices.{Shows, content_of}
@@ -31,7 +30,7 @@ use Rattle.sm_standing.specs.Standing.{disks}
 use Rattle.lvhd.specs.declared.statuses.Status.{Status}
 use Rattle.lvhd.specs.declared.statuses.Status.TheVariants.{Done, Words, Device, Source, Sink, Refused, Memory, TooLong}
 use Rattle.lvhd.specs.Devices.{IsOpenedOn, IsSoundOn, IsRefusedOn, plate_at}
-use Rattle.lvhd.specs.Running.{RunSides, HasRunOn, HasRefused, HasStayed, IsLeft, ReadsAs, EndsAs, ShowsOnly, IsGivenBack, ToldOf, HasTold, HasSaid, status_of}
+use Rattle.lvhd.specs.Running.{RunSides, HasRunOn, HasStayed, IsLeft, ReadsAs, EndsAs, ShowsOnly, IsGivenBack, ToldOf, HasTold, HasSaid, status_of}
 use Rattle.lvhd.specs.Texts.{line_of, fault_words}
 use Rattle.lvhd.proofs.OpenLaws.{standing, extents_in, StandsAlways, kept_device, shown_device}
 
@@ -199,13 +198,6 @@ has_stayed s e status told first last before now it source answer h left = recor
   source = source;
   said = said_refused s e status told first last before now it answer h;
   left = left_of (IsLeft s.size s.old s.new) e s.had_got s.got before now status h left;
-}
-
-pub has_refused : (s : RunSides) (status : Status) → HasStayed s status → status ≡ Refused → HasRefused s
-has_refused s status h is = record {
-  source = h.source;
-  said = subst (HasSaid s) is h.said;
-  left = h.left (λ failed. let x = sym is ∙ failed in (let y = x in cc));
 }
 
 -- a run that was read to its end is not refused

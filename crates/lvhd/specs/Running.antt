@@ -115,14 +115,8 @@ pub record IsGivenBack (size : ℕ) (site : Site) (held after : Held) : Type 0 w
 abbrev pub IsLeft : ℕ → Held → Held → Type 0
 IsLeft size old new = Keeps old new ⊎ ((site : Site) × (plate_of size (reads old) ≡ Ok (plate_at site)) × IsGivenBack size site old new)
 
--- the repository was refused: one line says why, nothing was read of the source, and nothing was written
-pub record HasRefused (s : RunSides) : Type 0 where
-  pub source : s.left ≡ s.had_left
-  pub said : HasSaid s Refused
-  pub left : IsLeft s.size s.old s.new
-
--- a device on which a check of an opening fails was not opened: what was said of it, and unless a call of it failed nothing was
--- written
+-- a device that was not opened, for a check that fails: what was said of it, nothing was read of the source, and unless a call
+-- of the device failed nothing was written
 pub record HasStayed (s : RunSides) (status : Status) : Type 0 where
   pub source : s.left ≡ s.had_left
   pub said : HasSaid s status

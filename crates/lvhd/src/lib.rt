@@ -14,7 +14,7 @@
 //! as it was after some prefix that reaches the last acknowledged line that changed more than sectors (`RunDid`, which
 //! cites `HasRun` of `sm_run`). At status 0 the script was read to its end, every line was answered, and a stop shows the
 //! machine's disks alone. The label stays. On a device on which a check of an opening fails, kept or not: one line says why, nothing is read
-//! of the script, and unless a call of the device failed nothing is written (`HasStayed`). With the word `format`: exactly
+//! of the script, and unless a call of the device failed it is left (`HasStayed`). With the word `format`: exactly
 //! when it is refused, and that a stop leaves what was there, no repository, or the new one whole (`FormatDid`). The
 //! statuses of a fault have their cause; want of memory has none. What a format leaves is kept and has no disks
 //! ([`law_formatted`]), so the premise is met.

@@ -28,7 +28,8 @@ use vg_store::Group;
 /// seconds since 2000-01-01 00:00 UTC.
 ///
 /// # Errors
-/// The answer of the first check that fails, a fault of the device, or want of memory, with the device.
+/// The answer of the first check that fails, a fault of the device, or want of memory, with the device. Unless a call of
+/// the device failed it is left as it was (`IsLeft`).
 pub fn open<D: Disk>(alloc: Global, disk: D, now: u32) -> Result<Session<Group<D>>, (OpenFault, D)>
     ensures size { IfOk result (λ s. D.size s.store.disk ≡ D.size disk) }
     ensures counts { IfOk result (λ s. D.faults disk ≤ D.faults s.store.disk) }

@@ -11,7 +11,7 @@ ghost use Rattle.vg_meta.specs.Tables.{Listing};
 ghost use Rattle.vg_store.specs.Groups.{IsStanding, Leaves, area_of};
 ghost use Rattle.lvhd.specs.declared.statuses.Status.TheVariants.{Done, Device, Refused, Sink as SinkFailed, Source as SourceFailed, Words};
 ghost use Rattle.lvhd.specs.Devices.{IsKeptDevice, IsRefusedOn, site_on};
-ghost use Rattle.lvhd.specs.Running.{RunDid, HasRefused, HasStayed, IsGivenBack, ShowsOnly, HasTold, status_of};
+ghost use Rattle.lvhd.specs.Running.{RunDid, HasStayed, IsGivenBack, ShowsOnly, HasTold, status_of};
 
 use crate::formatting::said;
 use crate::opening::open;
@@ -49,7 +49,7 @@ pub fn run_script<D: Disk, S: Source, K: Sink>(
       had_got = K.content sink.old;
       got = K.content sink.new;
     }) result.0 }
-    ensures refused { D.told → result.0 ≡ Refused → HasRefused (record {
+    ensures refused { D.told → result.0 ≡ Refused → HasStayed (record {
       size = D.size disk;
       old = D.held disk;
       new = D.held result.1;
@@ -57,7 +57,7 @@ pub fn run_script<D: Disk, S: Source, K: Sink>(
       left = S.content source.new;
       had_got = K.content sink.old;
       got = K.content sink.new;
-    }) }
+    }) Refused }
     ensures unsound { D.told → (e : OpenFault) → IsRefusedOn (D.size disk) (reads (D.held disk)) e → HasStayed (record {
       size = D.size disk;
       old = D.held disk;

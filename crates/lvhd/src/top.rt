@@ -8,7 +8,7 @@ ghost use Rattle.lvhd.specs.declared.words.Form.TheVariants.{Format, Run};
 ghost use Rattle.lvhd.specs.declared.words.Request.{Request};
 ghost use Rattle.lvhd.specs.Devices.{IsKeptDevice, IsRefusedOn, IsSoundOn};
 ghost use Rattle.lvhd.specs.Formatting.{FormatDid, asked};
-ghost use Rattle.lvhd.specs.Running.{RunDid, HasRefused, HasStayed};
+ghost use Rattle.lvhd.specs.Running.{RunDid, HasStayed};
 ghost use Rattle.lvhd.specs.Words.{form_of};
 
 use crate::formatting::run_format;
@@ -23,7 +23,7 @@ use std::alloc::Global;
 /// handed back at every return. `now` is in seconds since 2000-01-01 00:00 UTC.
 ///
 /// A device on which a check of an opening fails is not opened: one line says why, and unless a call of the device failed
-/// nothing is written.
+/// it is left, as far as a read or a stop shows of it: all of it, or where a group stands its label, table and extents.
 pub fn lvhd<D: Disk, S: Source, K: Sink>(
     alloc: Global,
     words: &[&str],
@@ -64,7 +64,7 @@ pub fn lvhd<D: Disk, S: Source, K: Sink>(
       had_got = K.content sink.old;
       got = K.content sink.new;
     }) result.0 }
-    ensures refused { form_of (map (λ w. w.now) words.now) ≡ Some Run → D.told → result.0 ≡ status.Refused → HasRefused (record {
+    ensures refused { form_of (map (λ w. w.now) words.now) ≡ Some Run → D.told → result.0 ≡ status.Refused → HasStayed (record {
       size = D.size disk;
       old = D.held disk;
       new = D.held result.1;
@@ -72,7 +72,7 @@ pub fn lvhd<D: Disk, S: Source, K: Sink>(
       left = S.content source.new;
       had_got = K.content sink.old;
       got = K.content sink.new;
-    }) }
+    }) status.Refused }
     ensures unsound { form_of (map (λ w. w.now) words.now) ≡ Some Run → D.told → (e : OpenFault) → IsRefusedOn (D.size disk) (reads (D.held disk)) e → HasStayed (record {
       size = D.size disk;
       old = D.held disk;

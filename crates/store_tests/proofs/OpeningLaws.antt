@@ -9,7 +9,7 @@ use Rattle.sm_base.specs.declared.faults.Place.TheVariants.{Header, Table, Table
 use Rattle.sm_base.specs.Numbers.{div_up}
 use Rattle.sm_disk.specs.Sectors.{sector}
 use Rattle.sm_disk.proofs.SectorLaws.{sector-drop}
-use Rattle.store_tests.specs.Answers.{IsText, IsTextFault, IsStanding, IsFault}
+use Rattle.store_tests.specs.Answers.{IsText, IsTextFault, HasGroup, IsFault}
 use Rattle.vg_layout.specs.Opening.{IsRefused, by_label, by_header, by_sum, by_text, is_header_right, plate_of, pointer_of, text_in}
 use Rattle.vg_layout.specs.Places.{slot_place}
 use Rattle.vg_layout.specs.Sectors.{Plate, Pointer, number_at, plate_in, pointer_in}

@@ -22,11 +22,11 @@ IsTextFault count total bytes None = (sum bytes ≡ total) × IsText count bytes
 IsTextFault count total bytes (Some fault) = IsTextRefused count total bytes fault
 
 -- a group stands on a device of so many sectors
-pub record IsStanding (sectors : ℕ) (image : ℕ → List ℕ) : Type 0 where
+pub record HasGroup (sectors : ℕ) (image : ℕ → List ℕ) : Type 0 where
   pub group : Standing
   pub stands : StandsOn sectors image group
 
 -- all five checks pass, or the first that fails gives the answer
 abbrev pub IsFault : ℕ → (ℕ → List ℕ) → Option OpenFault → Type 0
-IsFault sectors image None = IsStanding sectors image
+IsFault sectors image None = HasGroup sectors image
 IsFault sectors image (Some fault) = IsRefused sectors image fault

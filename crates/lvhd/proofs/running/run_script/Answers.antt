@@ -2,8 +2,8 @@ use Rattle.std.proofs.Common.{◌≡◌, inl, inr, Ok, sym, refl, ap, ◌∙◌,
 use Rattle.vg_meta.specs.Kept.{listing}
 use Rattle.vg_volumes.specs.Sites.{Site}
 use Rattle.lvhd.specs.Devices.{plate_at, site_on}
-use Rattle.lvhd.specs.Running.{RunSides, IsGivenBack}
-use Rattle.lvhd.proofs.RunLaws.{IsOneTable, has_run_sized, back_itself, ok_not_err, ends_done, ends_early, said_refused, has_stayed, has_refused, done_not_refused}
+use Rattle.lvhd.specs.Running.{RunSides, HasStayed, IsGivenBack}
+use Rattle.lvhd.proofs.RunLaws.{IsOneTable, has_run_sized, back_itself, ok_not_err, ends_done, ends_early, said_refused, has_stayed, done_not_refused}
 use Rattle.lvhd.proofs.ExactLaws.{never_so, sound_or_refused}
 use Rattle.lvhd.proofs.running.run_script.Goals as goal
 
@@ -96,7 +96,7 @@ returns-in-Err-clause-refused g c = λ told is.
       had_got = g.K.Sink.content c.args.sink.now;
       got = g.K.Sink.content c.refuse.new.sink;
     } in
-    has_refused s c.refuse.result (has_stayed s c.in-Err.fault c.refuse.result g.D.Disk.told _ _ _ _ told refl c.in-Err.ensures.refused c.refuse.ensures (c.in-Err.ensures.left told)) is
+    subst (HasStayed s) is (has_stayed s c.in-Err.fault c.refuse.result g.D.Disk.told _ _ _ _ told refl c.in-Err.ensures.refused c.refuse.ensures (c.in-Err.ensures.left told))
 
 pub returns-in-Ok-run-clause-refused : goal.returns-in-Ok-run-clause-refused
 returns-in-Ok-run-clause-refused g c = λ told is. absurd (done_not_refused _ c.close.result.0 c.close.ensures.status is)
