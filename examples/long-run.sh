@@ -2,7 +2,7 @@
 # A test: 20,000 lines, most of them refused, on a real file, under a limit on memory of 64 MiB.
 set -e
 root=$(cd "$(dirname "$0")/.." && pwd)
-program="$root/crates/lvhd_program/out/lvhd_program"
+program="$root/crates/lvhd/out/lvhd"
 work=$(mktemp -d)
 trap 'rm -rf "$work"' EXIT
 truncate -s 3M "$work/repo.img"

@@ -1,7 +1,7 @@
 #!/bin/sh
 # A test: a run with a closed standard stream, and a second run on a file that another has, do nothing. Prints the statuses.
 root=$(cd "$(dirname "$0")/.." && pwd)
-program="$root/crates/lvhd_program/out/lvhd_program"
+program="$root/crates/lvhd/out/lvhd"
 work=$(mktemp -d)
 trap 'rm -rf "$work"' EXIT
 repository="$work/repo.img"

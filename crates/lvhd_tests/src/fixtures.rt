@@ -1,8 +1,8 @@
 //! The program is run on a device in memory, and its status and replies are compared.
 
 use crate::DEVICE_SECTORS;
-use lvhd::{Status, lvhd};
-use sm_disk::{Disk, MemDisk, MemSink, MemSource, write_sector};
+use lvhd_command::{Status, lvhd};
+use sm_disk::{Disk, MemDisk, MemSink, MemSource, read_sector, write_sector};
 use std::alloc::Global;
 use std::test::Fail;
 
@@ -43,6 +43,19 @@ pub fn stale(alloc: Global) -> Result<MemDisk, Fail> {
     }
     disk.sync()?;
     Ok(disk.left(alloc, &[])?)
+}
+
+/// Writes one byte of a device over.
+pub fn damaged(disk: &mut MemDisk, at: u64, index: usize, byte: u8) -> Result<(), Fail> {
+    if at < disk.sectors() {
+        let mut sector = read_sector(disk, at)?;
+        if let Some(place) = sector.get_mut(index) {
+            *place = byte;
+        }
+        write_sector(disk, at, &sector)?;
+    }
+    disk.sync()?;
+    Ok(())
 }
 
 /// Whether a script is answered so, to its end, with the device that is left.

@@ -1,7 +1,7 @@
 //! Repositories are made, or refused, and words are read.
 
 use crate::fixtures::{format, run_words};
-use lvhd::Status;
+use lvhd_command::Status;
 use sm_disk::{MemDisk, MemSink};
 use std::alloc::Global;
 use std::test::Fail;
@@ -13,17 +13,25 @@ fn formats(alloc: Global, sectors: u64, code: u8, line: &[u8]) -> Result<bool, F
     Ok(status.code() == code && sink.bytes() == line)
 }
 
-#[test]
-fn a_device_with_room(rt: HostRuntime) -> Result<(), Fail> {
-    assert!(rt; formats(rt.alloc(), 6144, 0, b"ok extents 64 free 48\n")?);
-    assert!(rt; formats(rt.alloc(), 4608, 0, b"ok extents 16 free 0\n")?);
-    Ok(())
+/// Devices with room and without.
+fn all_format(alloc: Global) -> Result<bool, Fail> {
+    let cases = [
+        (6144, 0, b"ok extents 64 free 48\n".as_slice()),
+        (4608, 0, b"ok extents 16 free 0\n".as_slice()),
+        (4607, 6, b"error TooSmall 4608\n".as_slice()),
+        (0, 6, b"error TooSmall 4608\n".as_slice()),
+    ];
+    for (sectors, code, line) in cases {
+        if !formats(alloc, sectors, code, line)? {
+            return Ok(false);
+        }
+    }
+    Ok(true)
 }
 
 #[test]
-fn a_device_without_room(rt: HostRuntime) -> Result<(), Fail> {
-    assert!(rt; formats(rt.alloc(), 4607, 6, b"error TooSmall 4608\n")?);
-    assert!(rt; formats(rt.alloc(), 0, 6, b"error TooSmall 4608\n")?);
+fn devices(rt: HostRuntime) -> Result<(), Fail> {
+    assert!(rt; all_format(rt.alloc())?);
     Ok(())
 }
 
@@ -36,8 +44,7 @@ fn says(alloc: Global, words: &[&str], status: Status, line: &[u8]) -> Result<bo
 }
 
 /// 32,768 bytes are no block.
-#[test]
-fn sizes_out_of_their_ranges(rt: HostRuntime) -> Result<(), Fail> {
+fn refuses_sizes(alloc: Global) -> Result<bool, Fail> {
     let words = [
         "format",
         "16384",
@@ -45,30 +52,33 @@ fn sizes_out_of_their_ranges(rt: HostRuntime) -> Result<(), Fail> {
         "64",
         "99999999-9999-4999-8999-999999999999",
     ];
-    assert!(rt; says(rt.alloc(), &words, Status::Refused, b"error BadGeometry\n")?);
+    says(alloc, &words, Status::Refused, b"error BadGeometry\n")
+}
+
+#[test]
+fn sizes_out_of_their_ranges(rt: HostRuntime) -> Result<(), Fail> {
+    assert!(rt; refuses_sizes(rt.alloc())?);
     Ok(())
+}
+
+/// Whether such words are none of the program's.
+fn spell_nothing(alloc: Global, words: &[&str]) -> Result<bool, Fail> {
+    says(alloc, words, Status::Words, b"")
+}
+
+/// Words too many and too few, one in capitals, one that is no UUID, and none.
+fn none_spells(alloc: Global) -> Result<bool, Fail> {
+    Ok(
+        spell_nothing(alloc, &["run", "extra"])?
+            && spell_nothing(alloc, &["Run"])?
+            && spell_nothing(alloc, &["format", "16384", "4096", "64"])?
+            && spell_nothing(alloc, &["format", "16384", "4096", "64", "9"])?
+            && spell_nothing(alloc, &[])?,
+    )
 }
 
 #[test]
 fn words_that_spell_no_form(rt: HostRuntime) -> Result<(), Fail> {
-    assert!(rt; says(rt.alloc(), &["run", "extra"], Status::Words, b"")?);
-    assert!(rt; says(rt.alloc(), &["Run"], Status::Words, b"")?);
-    assert!(rt;
-        says(
-            rt.alloc(),
-            &["format", "16384", "4096", "64"],
-            Status::Words,
-            b""
-        )?
-    );
-    assert!(rt;
-        says(
-            rt.alloc(),
-            &["format", "16384", "4096", "64", "9"],
-            Status::Words,
-            b""
-        )?
-    );
-    assert!(rt; says(rt.alloc(), &[], Status::Words, b"")?);
+    assert!(rt; none_spells(rt.alloc())?);
     Ok(())
 }

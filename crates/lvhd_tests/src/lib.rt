@@ -13,6 +13,8 @@ mod fixtures;
 #[cfg(test)]
 mod format_tests;
 #[cfg(test)]
+mod refused_tests;
+#[cfg(test)]
 mod script_tests;
 #[cfg(test)]
 mod stop_tests;

@@ -2,7 +2,7 @@
 
 use crate::DEVICE_SECTORS;
 use crate::fixtures::{answers, formatted, run_words, stale};
-use lvhd::Status;
+use lvhd_command::Status;
 use sm_disk::{Disk, MemDisk, MemSink, read_sector, write_sector};
 use std::alloc::Global;
 use std::ops::Range;
@@ -93,19 +93,27 @@ fn calls(alloc: Global, new: &MemDisk) -> Result<Option<u64>, Fail> {
     Ok(None)
 }
 
+/// Whether a new repository stands each stop.
+fn stands_each_stop(alloc: Global) -> Result<bool, Fail> {
+    let new = formatted(alloc, DEVICE_SECTORS)?;
+    Ok(calls(alloc, &new)?.is_some())
+}
+
 #[test]
 fn each_call_stops_in_turn(rt: HostRuntime) -> Result<(), Fail> {
-    let new = formatted(rt.alloc(), DEVICE_SECTORS)?;
-    let calls = calls(rt.alloc(), &new)?;
-    assert!(rt; calls.is_some());
+    assert!(rt; stands_each_stop(rt.alloc())?);
     Ok(())
+}
+
+/// Whether one over stale bytes does.
+fn stands_over_stale_bytes(alloc: Global) -> Result<bool, Fail> {
+    let new = stale(alloc)?;
+    Ok(calls(alloc, &new)?.is_some())
 }
 
 #[test]
 fn each_call_stops_over_stale_bytes(rt: HostRuntime) -> Result<(), Fail> {
-    let new = stale(rt.alloc())?;
-    let calls = calls(rt.alloc(), &new)?;
-    assert!(rt; calls.is_some());
+    assert!(rt; stands_over_stale_bytes(rt.alloc())?);
     Ok(())
 }
 
@@ -158,13 +166,22 @@ fn keeps_at(alloc: Global, filled: &MemDisk, call: u64) -> Result<bool, Fail> {
     )
 }
 
+/// Whether that holds of a create that stops at each of its first calls.
+fn keeps_at_each(alloc: Global) -> Result<bool, Fail> {
+    let disk = filled(alloc)?;
+    if !keeps_bytes(alloc, &disk, &[])? {
+        return Ok(false);
+    }
+    for call in 0..20 {
+        if !keeps_at(alloc, &disk, call)? {
+            return Ok(false);
+        }
+    }
+    Ok(true)
+}
+
 #[test]
 fn a_filled_disk_keeps_its_bytes_at_each_stop(rt: HostRuntime) -> Result<(), Fail> {
-    let disk = filled(rt.alloc())?;
-    assert!(rt; keeps_bytes(rt.alloc(), &disk, &[])?);
-    for call in 0..20 {
-        let keeps = keeps_at(rt.alloc(), &disk, call)?;
-        assert!(rt; keeps);
-    }
+    assert!(rt; keeps_at_each(rt.alloc())?);
     Ok(())
 }

@@ -20,7 +20,7 @@ pub enum CallFault {
 }
 
 /// Where a repository is damaged.
-#[derive(Clone, Copy, Debug, PartialEq, Eq)]
+#[derive(Clone, Copy, PartialEq, Eq)]
 pub enum Place {
     /// The label, in sector 0 of the device.
     Label,
@@ -47,7 +47,7 @@ pub enum Place {
 }
 
 /// Why a repository is not opened.
-#[derive(Clone, Copy, Debug, PartialEq, Eq)]
+#[derive(Clone, Copy, PartialEq, Eq)]
 pub enum OpenFault {
     /// The device holds no repository.
     NotARepository,

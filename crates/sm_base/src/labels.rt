@@ -11,7 +11,7 @@ use std::marker::Model;
 
 /// The text by which users know a disk: 1 to 64 characters from `!` (21 hex) to `~` (7e hex). A contract
 /// sees the list of its bytes.
-#[derive(Clone, Copy, Debug)]
+#[derive(Clone, Copy)]
 pub struct Label {
     length: u8,
     bytes: [u8; 64],

@@ -30,6 +30,3 @@ pub use names::{Name, base_uuid, is_base};
 pub use operations::{Mode, Op, Plan};
 pub use refusals::Refusal;
 pub use sizes::Geometry;
-
-#[cfg(test)]
-mod tests;

@@ -13,7 +13,7 @@ use std::cmp::Ordering;
 use uuid::Uuid;
 
 /// The name of a volume of the group. The first four kinds hold data, the others are journal entries.
-#[derive(Clone, Copy, Debug, PartialEq, Eq, Hash)]
+#[derive(Clone, Copy, PartialEq, Eq, Hash)]
 pub enum Name {
     /// The volume of the disks' records.
     Mgt,

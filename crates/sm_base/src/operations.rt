@@ -2,7 +2,7 @@
 use crate::names::Name;
 
 /// How a disk is attached.
-#[derive(Clone, Copy, Debug, PartialEq, Eq)]
+#[derive(Clone, Copy, PartialEq, Eq)]
 pub enum Mode {
     /// For reading alone.
     Ro,
@@ -12,7 +12,7 @@ pub enum Mode {
 
 /// The operation that the collector has begun and not ended. A cursor is the least block that may
 /// still have to be copied.
-#[derive(Clone, Copy, Debug, PartialEq, Eq)]
+#[derive(Clone, Copy, PartialEq, Eq)]
 pub enum Op {
     /// None.
     Idle,
@@ -36,7 +36,7 @@ pub enum Op {
 }
 
 /// The collector's next step. `to` is a number of extents.
-#[derive(Clone, Copy, Debug, PartialEq, Eq)]
+#[derive(Clone, Copy)]
 pub enum Plan {
     /// The child of a copy has no children left: give the operation up.
     Abandon,

@@ -4,7 +4,7 @@ ghost use Rattle.std.specs.Prelude.{◌≡◌};
 ghost use Rattle.sm_base.specs.Refusals.{number_of};
 
 /// Why a line is refused, in the order of the tests. The first that applies is the answer.
-#[derive(Clone, Copy, Debug, PartialEq, Eq)]
+#[derive(Clone, Copy, PartialEq, Eq)]
 pub enum Refusal {
     /// The line spells no command that is built.
     BadLine,

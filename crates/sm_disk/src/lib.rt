@@ -39,8 +39,6 @@ mod memory_streams;
 mod places;
 mod slots;
 mod streams;
-#[cfg(test)]
-mod tests;
 
 pub use devices::{Disk, put, read_sector, write_sector};
 pub use memory::MemDisk;

@@ -15,6 +15,3 @@ mod streams;
 pub use clocks::seconds_since_2000;
 pub use files::FileDisk;
 pub use streams::{ReadSource, WriteSink};
-
-#[cfg(test)]
-mod tests;

@@ -38,6 +38,7 @@ pub fn put<S: Store>(alloc: Global, store: &mut S, entry: Name) -> Result<(), Fa
     ensures changed { OnOk result ((listing (S.kept store.new) ≡ applied (listing (S.kept store.old)) (putting entry)) × (S.failed store.new ≡ false)) }
     ensures unchanged { OnErr result ((listing (S.kept store.new) ≡ listing (S.kept store.old)) × (S.failed store.new ≡ true)) }
     ensures room_after { OnOk result (RoomAfter (putting entry) (S.kept store.old) (S.kept store.new)) }
+    ensures beside { S.told → Keeps (S.beside store.old) (S.beside store.new) }
     ensures keeps { S.told → Keeps (S.area store.old) (S.area store.new) }
     ensures settled { OnOk result (S.told → IsSettled (S.area store.new)) }
     ensures crash { S.told → (t : Listing) (image : ℕ → List ℕ) → S.leaves store.new t image
@@ -58,6 +59,7 @@ pub fn turn<S: Store>(store: &mut S, from: Name, to: Name) -> Result<(), Failed>
     ensures changed { OnOk result ((listing (S.kept store.new) ≡ applied (listing (S.kept store.old)) (Rename from to)) × (S.failed store.new ≡ false)) }
     ensures unchanged { OnErr result ((listing (S.kept store.new) ≡ listing (S.kept store.old)) × (S.failed store.new ≡ true)) }
     ensures room_after { OnOk result (RoomAfter (Rename from to) (S.kept store.old) (S.kept store.new)) }
+    ensures beside { S.told → Keeps (S.beside store.old) (S.beside store.new) }
     ensures keeps { S.told → Keeps (S.area store.old) (S.area store.new) }
     ensures settled { OnOk result (S.told → IsSettled (S.area store.new)) }
     ensures crash { S.told → (t : Listing) (image : ℕ → List ℕ) → S.leaves store.new t image
@@ -78,6 +80,7 @@ pub fn drop_entry<S: Store>(store: &mut S, entry: &Name) -> Result<(), Failed>
     ensures changed { OnOk result ((listing (S.kept store.new) ≡ applied (listing (S.kept store.old)) (Remove entry.now)) × (S.failed store.new ≡ false)) }
     ensures unchanged { OnErr result ((listing (S.kept store.new) ≡ listing (S.kept store.old)) × (S.failed store.new ≡ true)) }
     ensures room_after { OnOk result (RoomAfter (Remove entry.now) (S.kept store.old) (S.kept store.new)) }
+    ensures beside { S.told → Keeps (S.beside store.old) (S.beside store.new) }
     ensures keeps { S.told → Keeps (S.area store.old) (S.area store.new) }
     ensures settled { OnOk result (S.told → IsSettled (S.area store.new)) }
     ensures crash { S.told → (t : Listing) (image : ℕ → List ℕ) → S.leaves store.new t image

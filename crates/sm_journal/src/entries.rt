@@ -10,7 +10,7 @@ use sm_base::Name;
 use vg_meta::{Table, Volume};
 
 /// The entries of a table, by class.
-#[derive(Clone, Copy, Debug, PartialEq, Eq)]
+#[derive(Clone, Copy, PartialEq, Eq)]
 pub struct Entries {
     /// The entry of a collector's operation, the first in order of name.
     pub first: Option<Name>,

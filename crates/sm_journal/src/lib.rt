@@ -7,7 +7,8 @@
 //! - a collector's operation: `coalesce`, `relink` or `leaf`;
 //! - a call's enlarging or forking: `inflate` or `clone`.
 //!
-//! No call takes memory: the row of a new entry has to be spare. `list` looks at each name of the table at most four times.
+//! No call takes memory: the row of a new entry has to be spare. No call changes what stands beside the store. `list`
+//! looks at each name of the table at most four times.
 #![tactic(auto)]
 
 mod changes;

@@ -4,7 +4,7 @@ use std::marker::Model;
 use uuid::Uuid;
 
 /// Bytes of a disk, whole sectors. A contract sees the list of them.
-#[derive(Debug, Drop)]
+#[derive(Drop)]
 pub struct Bytes {
     pub bytes: Vec<u8>,
 }
@@ -19,7 +19,7 @@ impl Model for Bytes {
 
 /// One line of a script. Each is one step of the machine. Sizes are in bytes, `sector` and `count` in
 /// sectors.
-#[derive(Debug, Drop)]
+#[derive(Drop)]
 pub enum Command {
     /// Make a disk that reads as zeros, on a raw volume or on a VHD image.
     Create {

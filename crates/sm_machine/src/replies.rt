@@ -5,7 +5,7 @@ use std::marker::Model;
 use uuid::Uuid;
 
 /// A disk as it is listed. The size is in bytes.
-#[derive(Debug, Drop)]
+#[derive(Drop)]
 pub struct DiskRow {
     pub uuid: Uuid,
     pub size: u64,
@@ -15,7 +15,7 @@ pub struct DiskRow {
 }
 
 /// The disks in order of UUID. A contract sees the list of their rows.
-#[derive(Debug, Drop)]
+#[derive(Drop)]
 pub struct DiskRows {
     pub rows: Vec<DiskRow>,
 }
@@ -31,7 +31,7 @@ impl Model for DiskRows {
 
 /// An image as it is told. The size is in bytes; `blocks` is the number of blocks in its map, 0 for a
 /// raw image; `refs` is the number of attached disks that read through it.
-#[derive(Debug, Drop)]
+#[derive(Drop)]
 pub struct StatRow {
     pub name: Name,
     pub hidden: bool,
@@ -44,7 +44,7 @@ pub struct StatRow {
 
 /// The sequence number, the free extents, the running operation, and the images in order of name. A
 /// contract sees a record with the list of the rows.
-#[derive(Debug, Drop)]
+#[derive(Drop)]
 pub struct StatRows {
     pub seq: u64,
     pub free: u32,
@@ -61,7 +61,7 @@ impl Model for StatRows {
 }
 
 /// The answer to one line.
-#[derive(Debug, Drop)]
+#[derive(Drop)]
 pub enum Reply {
     /// Done, and there is nothing to tell.
     Done,

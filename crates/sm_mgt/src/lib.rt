@@ -7,7 +7,8 @@
 //! the caller's.
 //!
 //! Where memory agrees with what a read of the store gives, it does so after each call that succeeded
-//! (`laws`). Where a call fails, memory has what was written whole before it.
+//! (`laws`). Where a call fails, memory has what was written whole before it. No call changes what stands beside the
+//! store, and `load` changes nothing of the whole device.
 //!
 //! `load` takes memory for the places, and reads the 512 sectors once. No other call takes memory; `put` looks
 //! at each place at most twice, and the others once.

@@ -7,7 +7,7 @@ ghost use Rattle.sm_base.specs.declared.faults.OpenFault.TheVariants.{NoMemory};
 ghost use Rattle.sm_base.specs.declared.faults.OpenFault.TheVariants as fault;
 ghost use Rattle.sm_base.specs.declared.faults.Place.TheVariants as at;
 ghost use Rattle.sm_base.specs.declared.names.Name.TheVariants.{Mgt as mgt_name};
-ghost use Rattle.sm_disk.specs.Held.{SameHeld, Gave, Torn, Wrote, Rose};
+ghost use Rattle.sm_disk.specs.Held.{SameHeld, Gave, Torn, Wrote, Keeps, Rose};
 ghost use Rattle.sm_disk.specs.Sectors.{zeros, sector};
 ghost use Rattle.sm_record.specs.Records.{IsRecord, record_sector, reading};
 ghost use Rattle.sm_record.specs.declared.records.Reading.TheVariants.{Damaged};
@@ -28,7 +28,7 @@ use vg_volumes::Store;
 const PLACES: usize = 512;
 
 /// The records of all disks, by place. A contract sees the list of the 512 places, each a record or none.
-#[derive(Debug, Drop)]
+#[derive(Drop)]
 pub struct Mgt {
     places: Vec<Option<Record>>,
 }
@@ -157,6 +157,8 @@ fn read_records<S: Store>(alloc: Global, store: &mut S) -> Result<Vec<u8>, OpenF
     requires { 512 * place_count ≤ 512 * size_of (S.site store.old) (listing (S.kept store.old)) mgt_name }
     ensures stays { Stays S.site S.kept S.failed store.old store.new }
     ensures counts { S.faults store.old ≤ S.faults store.new }
+    ensures device { S.told → Keeps (S.device store.old) (S.device store.new) }
+    ensures beside { S.told → Keeps (S.beside store.old) (S.beside store.new) }
     ensures same { S.told → SameHeld (S.area store.old) (S.area store.new) }
     ensures leaves { S.told → (t : Listing) (image : ℕ → List ℕ) → S.leaves store.new t image → S.leaves store.old t image }
     ensures long { IfOk result (λ bytes. length bytes.items ≡ 512 * place_count) }
@@ -178,6 +180,8 @@ impl Mgt {
         requires { 512 * place_count ≤ 512 * size_of (S.site store.old) (listing (S.kept store.old)) mgt_name }
         ensures stays { Stays S.site S.kept S.failed store.old store.new }
         ensures counts { S.faults store.old ≤ S.faults store.new }
+        ensures device { S.told → Keeps (S.device store.old) (S.device store.new) }
+        ensures beside { S.told → Keeps (S.beside store.old) (S.beside store.new) }
         ensures same { S.told → SameHeld (S.area store.old) (S.area store.new) }
         ensures leaves { S.told → (t : Listing) (image : ℕ → List ℕ) → S.leaves store.new t image → S.leaves store.old t image }
         ensures ok { S.told → IfOk result (Agrees (records_held (S.site store.old) (listing (S.kept store.old)) (S.area store.old))) }
@@ -222,6 +226,7 @@ impl Mgt {
         ensures stays { Stays S.site S.kept S.failed store.old store.new }
         ensures counts { S.faults store.old ≤ S.faults store.new }
         ensures cause { OnErr result (Rose (S.faults store.old) (S.faults store.new)) }
+        ensures beside { S.told → Keeps (S.beside store.old) (S.beside store.new) }
         ensures torn { S.told → Torn (unwrap_or (place_for self.old row.uuid) 0) (record_sector row)
             (records_held (S.site store.old) (listing (S.kept store.old)) (S.area store.old))
             (records_held (S.site store.old) (listing (S.kept store.old)) (S.area store.new)) }
@@ -257,6 +262,7 @@ impl Mgt {
         ensures stays { Stays S.site S.kept S.failed store.old store.new }
         ensures counts { S.faults store.old ≤ S.faults store.new }
         ensures cause { OnErr result (Rose (S.faults store.old) (S.faults store.new)) }
+        ensures beside { S.told → Keeps (S.beside store.old) (S.beside store.new) }
         ensures torn { S.told → Torn place zeros
             (records_held (S.site store.old) (listing (S.kept store.old)) (S.area store.old))
             (records_held (S.site store.old) (listing (S.kept store.old)) (S.area store.new)) }
@@ -288,6 +294,7 @@ impl Mgt {
         ensures stays { Stays S.site S.kept S.failed store.old store.new }
         ensures counts { S.faults store.old ≤ S.faults store.new }
         ensures cause { OnErr result (Rose (S.faults store.old) (S.faults store.new)) }
+        ensures beside { S.told → Keeps (S.beside store.old) (S.beside store.new) }
         ensures torn { S.told → TornZeros (λ p. (p ≡ place) × HasRecord self.old uuid.now place)
             (records_held (S.site store.old) (listing (S.kept store.old)) (S.area store.old))
             (records_held (S.site store.old) (listing (S.kept store.old)) (S.area store.new)) }
@@ -313,6 +320,7 @@ impl Mgt {
         ensures stays { Stays S.site S.kept S.failed store.old store.new }
         ensures counts { S.faults store.old ≤ S.faults store.new }
         ensures cause { OnErr result (Rose (S.faults store.old) (S.faults store.new)) }
+        ensures beside { S.told → Keeps (S.beside store.old) (S.beside store.new) }
         ensures torn { S.told → TornZeros (HasRecord self.old uuid.now)
             (records_held (S.site store.old) (listing (S.kept store.old)) (S.area store.old))
             (records_held (S.site store.old) (listing (S.kept store.old)) (S.area store.new)) }
@@ -330,6 +338,3 @@ impl Mgt {
         Ok(())
     }
 }
-
-#[cfg(test)]
-mod tests;

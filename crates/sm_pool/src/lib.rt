@@ -20,9 +20,6 @@ use sm_base::NoMemory;
 use std::alloc::Global;
 use std::marker::Model;
 
-#[cfg(test)]
-mod tests;
-
 /// A buffer that was taken from a pool.
 pub struct Buf {
     content: Vec<u8>,

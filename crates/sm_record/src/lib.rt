@@ -16,6 +16,3 @@ mod records;
 
 pub use format::laws;
 pub use records::{Reading, Record};
-
-#[cfg(test)]
-mod tests;

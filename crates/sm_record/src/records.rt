@@ -13,7 +13,7 @@ use uuid::Uuid;
 const COOKIE: [u8; 8] = *b"LVHDDISK";
 
 /// What is kept of a disk beside its data.
-#[derive(Clone, Copy, Debug)]
+#[derive(Clone, Copy)]
 pub struct Record {
     /// The disk. Not nil.
     pub uuid: Uuid,
@@ -26,7 +26,7 @@ pub struct Record {
 }
 
 /// What one sector of the volume of records reads as.
-#[derive(Clone, Copy, Debug)]
+#[derive(Clone, Copy)]
 pub enum Reading {
     /// Zeros: no record is here.
     Free,

@@ -7,6 +7,7 @@ pub mod OpenedLaws
 pub mod FitLaws
 pub mod AreaLaws
 pub mod WipeLaws
+pub mod RoomLaws
 pub mod ReadLaws
 pub mod RestLaws
 pub mod OpeningLaws

@@ -6,7 +6,7 @@ use Rattle.sm_base.specs.declared.faults.OpenFault.{OpenFault}
 use Rattle.sm_base.specs.declared.faults.OpenFault.TheVariants as fault
 use Rattle.sm_base.specs.declared.names.Name.{Name}
 use Rattle.sm_base.specs.declared.names.Name.TheVariants.{Mgt}
-use Rattle.sm_disk.specs.Held.{Held, SameHeld, May, Rose}
+use Rattle.sm_disk.specs.Held.{Held, SameHeld, Keeps, May, Rose}
 use Rattle.sm_disk.specs.Sectors.{zeros}
 use Rattle.vg_layout.specs.Places.{record_extents}
 use Rattle.vg_meta.specs.Tables.{Listing, Row, IsTable, rows, extents_of}
@@ -43,12 +43,14 @@ UnlessDevice fault.NoMemory Fact = Fact
 UnlessDevice fault.NotARepository Fact = Fact
 UnlessDevice (fault.Unsupported version) Fact = Fact
 
--- nothing was written: the table is the same, and a stop leaves what it would have left
-pub record IsUntouched {S : Type 0} (told : Type 0) (kept : S → Kept) (failed : S → Bool) (area : S → Held)
+-- nothing was written: the table is the same, a stop leaves what it would have left, and the whole disk that the store
+-- stands on is kept
+pub record IsUntouched {S : Type 0} (told : Type 0) (kept : S → Kept) (failed : S → Bool) (area disk : S → Held)
     (leaves : S → Listing → (ℕ → List ℕ) → Type 0) (old new : S) : Type 0 where
   pub same_table : listing (kept new) ≡ listing (kept old)
   pub same_flag : failed new ≡ failed old
   pub same_area : told → SameHeld (area old) (area new)
+  pub device : told → Keeps (disk old) (disk new)
   pub same_leaves : told → (t : Listing) (image : ℕ → List ℕ) → leaves new t image → leaves old t image
 
 -- this place in memory has the record of no disk

@@ -1,9 +1,10 @@
 -- What stands in a store of volumes: the content of its table and of its area, and what holds of it between two steps
 -- (this project's format, as far as it is built: raw disks alone).
-use Rattle.std.specs.Prelude.{◌≡◌, ℕ, ◌<◌, ◌≤◌, true, false, List, length, Option, None, is_some}
+use Rattle.std.specs.Prelude.{◌≡◌, ℕ, ◌+◌, ◌<◌, ◌≤◌, true, false, List, length, Option, None, is_some}
 use Rattle.sm_base.specs.declared.names.Name.TheVariants.{Mgt}
 use Rattle.sm_disk.specs.Held.{Held, reads, IsSettled}
 use Rattle.vg_layout.specs.Places.{record_extents}
+use Rattle.vg_meta.specs.Kept.{Kept, listing}
 use Rattle.vg_meta.specs.Tables.{Listing, Row, IsTable, rows, extents_of}
 use Rattle.vg_volumes.specs.Sites.{Site}
 use Rattle.sm_machine.specs.Lists.{In}
@@ -47,6 +48,14 @@ pub record IsOrderly (s : Site) (t : Listing) : Type 0 where
   pub few_images : length (images t) ≤ image_limit
   pub none_new : (r : Row) → In r t.volumes → r.fresh ≡ false
   pub record_volume : length (extents_of (rows t Mgt)) ≡ record_extents s.geometry.extent
+
+-- the most rows that a table may come to have: those of 500 images, of the volume of records, and of 4 journal entries
+abbrev pub row_limit : ℕ
+row_limit = 505
+
+-- a table may come to have all its rows without memory for them
+abbrev pub HasRows : Kept → Type 0
+HasRows k = row_limit ≤ length (listing k).volumes + k.spare
 
 -- each record is that of a disk
 abbrev pub HasNoStray : Content → Type 0

@@ -9,7 +9,7 @@ ghost use Rattle.vg_meta.specs.Tables.{Listing, Row};
 ghost use Rattle.sm_recover.specs.Cleaned.{cleaned};
 ghost use Rattle.sm_recover.specs.Pruned.{IsPruned, IsWithoutNew};
 ghost use Rattle.sm_recover.specs.Repairs.{IsChecked, IsNew};
-ghost use Rattle.sm_recover.specs.Stores.{IsOrderly, content_in, content_now};
+ghost use Rattle.sm_recover.specs.Stores.{IsOrderly, HasRows, content_in, content_now};
 
 use sm_base::{Failed, Name};
 use vg_meta::{Change, Table, Volume};
@@ -28,6 +28,8 @@ pub fn remove_new<S: Store>(store: &mut S) -> Result<(), Failed>
     ensures orderly { OnOk result (IsOrderly (S.site store.new) (listing (S.kept store.new))) }
     ensures cleaned { OnOk result (listing (S.kept store.new) ≡ cleaned (listing (S.kept store.old))) }
     ensures left { OnOk result (IsWithoutNew (listing (S.kept store.old)) (listing (S.kept store.new))) }
+    ensures room { OnOk result (HasRows (S.kept store.old) → HasRows (S.kept store.new)) }
+    ensures beside { S.told → Keeps (S.beside store.old) (S.beside store.new) }
     ensures keeps { S.told → Keeps (S.area store.old) (S.area store.new) }
     ensures settled { OnOk result (S.told → IsSettled (S.area store.new)) }
     ensures pruned { OnOk result (S.told → IsPruned

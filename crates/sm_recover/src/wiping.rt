@@ -3,7 +3,7 @@
 ghost use Rattle.std.specs.Prelude.{◌≡◌, ◌≢◌, ◌≤◌, ◌<◌, ℕ, List, Option, Some, false, true, length, OnOk, OnErr};
 ghost use Rattle.std.specs.List.{slice_get};
 ghost use Rattle.sm_base.specs.declared.names.Name.TheVariants.{Mgt as mgt_name};
-ghost use Rattle.sm_disk.specs.Held.{IsSettled, Rose};
+ghost use Rattle.sm_disk.specs.Held.{Keeps, Rose};
 ghost use Rattle.sm_mgt.specs.Places.{Agrees, Stays, place_count, records_held};
 ghost use Rattle.sm_record.specs.declared.records.Record.{Record};
 ghost use Rattle.sm_standing.specs.Plain.{IsPlain};
@@ -29,6 +29,7 @@ pub fn wipe_strays<S: Store>(store: &mut S, mgt: &mut Mgt) -> Result<(), Failed>
     ensures stays { Stays S.site S.kept S.failed store.old store.new }
     ensures counts { S.faults store.old ≤ S.faults store.new }
     ensures cause { OnErr result (Rose (S.faults store.old) (S.faults store.new)) }
+    ensures beside { S.told → Keeps (S.beside store.old) (S.beside store.new) }
     ensures elsewhere { S.told → SameElsewhere (S.site store.old).geometry.extent
         (extents_of (rows (listing (S.kept store.old)) mgt_name)) (S.area store.old) (S.area store.new) }
     ensures zeroed { S.told → IsZeroedAt (IsStrayAt (listing (S.kept store.old)) mgt.old)
@@ -53,6 +54,7 @@ fn wipe_stray<S: Store>(store: &mut S, mgt: &mut Mgt, place: u32) -> Result<(), 
     ensures stays { Stays S.site S.kept S.failed store.old store.new }
     ensures counts { S.faults store.old ≤ S.faults store.new }
     ensures cause { OnErr result (Rose (S.faults store.old) (S.faults store.new)) }
+    ensures beside { S.told → Keeps (S.beside store.old) (S.beside store.new) }
     ensures elsewhere { S.told → SameElsewhere (S.site store.old).geometry.extent
         (extents_of (rows (listing (S.kept store.old)) mgt_name)) (S.area store.old) (S.area store.new) }
     ensures zeroed { S.told → IsZeroedAt (IsStrayAt (listing (S.kept store.old)) mgt.old)

@@ -21,8 +21,6 @@ mod attached;
 pub mod laws;
 mod removal;
 mod tallies;
-#[cfg(test)]
-mod tests;
 
 pub use attached::Attachments;
 pub use sm_base::Mode;

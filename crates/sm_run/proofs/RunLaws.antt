@@ -14,7 +14,7 @@ use Rattle.sm_machine.specs.Steps.{State}
 use Rattle.sm_run.specs.Parts.{front_of, is_in_line, turn_of, HasAnswered}
 use Rattle.sm_run.specs.Runs.{script_limit, ended, lines_of, BeginsSettled, HasRun, HowFar, IsSpared, IsSpent, MayLeave}
 use Rattle.sm_run.specs.declared.runs.RunFault.{RunFault}
-use Rattle.sm_run.specs.declared.runs.RunFault.TheVariants.{Device, Source, Sink, NoMemory, TooLong}
+use Rattle.sm_run.specs.declared.runs.RunFault.TheVariants.{Device, Source, Sink, TooLong}
 use Rattle.sm_run.proofs.Growth.{after, after_run-push, during, settled}
 use Rattle.sm_run.proofs.LineLaws.{ended-line, ended-part, front_of-short, lines-last, lines-line}
 
@@ -284,7 +284,6 @@ run-cut σ σ1 σ2 Sink had left left' had_got got got' room leaves1 leaves2 rea
       spared = spared-push s.turns t s.spared a.spared;
     }
 run-cut σ σ1 σ2 Source had left left' had_got got got' room leaves1 leaves2 ready1 kept1 ready2 kept2 line tail s took last answered = absurd answered.replied
-run-cut σ σ1 σ2 NoMemory had left left' had_got got got' room leaves1 leaves2 ready1 kept1 ready2 kept2 line tail s took last answered = absurd answered.replied
 run-cut σ σ1 σ2 TooLong had left left' had_got got got' room leaves1 leaves2 ready1 kept1 ready2 kept2 line tail s took last answered = absurd answered.replied
 
 -- a line with its newline was not answered whole
@@ -351,29 +350,6 @@ empty-front line h =
 -- the buffer of an empty line is empty
 pub front-empty : (line : List ℕ) → line ≡ [] → front_of line ≡ []
 front-empty line h = ap front_of h ∙ front_of-short [] (omega arith)
-
--- nothing was read
-pub run-none : (σ : State) (had had_got : Option (List ℕ)) (may_leave : List Disk → Type 0) (is_ready is_kept : Type 0)
-    → BeginsSettled σ may_leave → is_ready → is_kept
-    → HasRun σ σ (Err NoMemory) had had had_got had_got may_leave is_ready is_kept
-unfolding after_run replies trail_after IsAsAfter
-run-none σ had had_got may_leave is_ready is_kept begins ready kept = record {
-  bytes = [];
-  turns = [];
-  pending = [];
-  sent = 0;
-  takes = Takes-none had;
-  adds = Adds-none had_got;
-  how_far = (refl, refl, refl);
-  state = λ _. refl;
-  leaves = λ ds h. record {
-    faces = (begins ds h).faces;
-    sectors = λ u k bytes is. (σ, inl refl, (begins ds h).sectors u k bytes is);
-  };
-  ready = λ _. ready;
-  kept = kept;
-  spared = All-nil IsSpared;
-}
 
 -- ---- what the tests of the loop tell
 

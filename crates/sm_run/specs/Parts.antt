@@ -14,7 +14,7 @@ use Rattle.sm_run.specs.Runs.{IsSpared, IsSpent}
 use Rattle.sm_run.specs.declared.reading.Ending.{Ending}
 use Rattle.sm_run.specs.declared.reading.Ending.TheVariants.{Newline, ScriptEnd, PastLimit}
 use Rattle.sm_run.specs.declared.runs.RunFault.{RunFault}
-use Rattle.sm_run.specs.declared.runs.RunFault.TheVariants.{Device, Source, Sink, NoMemory, TooLong}
+use Rattle.sm_run.specs.declared.runs.RunFault.TheVariants.{Device, Source, Sink, TooLong}
 use Rattle.sm_run.specs.declared.steps.StepFault.{StepFault}
 
 -- what the buffer keeps of a line: one byte more than a line may have
@@ -67,7 +67,6 @@ HasReplied (Ok _) text had got = Adds had text got
 HasReplied (Err Device) text had got = Adds had [] got
 HasReplied (Err Sink) text had got = AddsFront had text got
 HasReplied (Err Source) text had got = ⊥
-HasReplied (Err NoMemory) text had got = ⊥
 HasReplied (Err TooLong) text had got = ⊥
 
 -- what holds unless the device failed

@@ -10,7 +10,7 @@ use Rattle.sm_machine.specs.Runs.{Turn, after_run, replies, IsAsAfter, IsAsDurin
 use Rattle.sm_machine.specs.Steps.{State}
 use Rattle.sm_run.specs.Between.{IsSettledAs}
 use Rattle.sm_run.specs.declared.runs.RunFault.{RunFault}
-use Rattle.sm_run.specs.declared.runs.RunFault.TheVariants.{Device, Source, Sink, NoMemory, TooLong}
+use Rattle.sm_run.specs.declared.runs.RunFault.TheVariants.{Device, Source, Sink, TooLong}
 
 -- the most bytes of a script
 abbrev pub script_limit : ℕ
@@ -72,7 +72,6 @@ HowFar (Ok _) bytes turns pending sent left = IsDone bytes turns pending left
 HowFar (Err Device) bytes turns pending sent left = IsCutShort bytes turns pending left × (sent ≡ 0)
 HowFar (Err Source) bytes turns pending sent left = IsStopped bytes turns pending
 HowFar (Err Sink) bytes turns pending sent left = IsCutShort bytes turns pending left
-HowFar (Err NoMemory) bytes turns pending sent left = (bytes ≡ []) × (turns ≡ []) × (pending ≡ [])
 HowFar (Err TooLong) bytes turns pending sent left = IsPast bytes turns pending
 
 -- the disks after the turns, or where a turn is pending perhaps after that one

@@ -1,7 +1,7 @@
 //! Stepping a line, and sending its reply.
 
 ghost use Rattle.std.specs.Prelude.{◌≡◌, ◌≢◌, ◌≤◌, ◌⊎◌, ℕ, List, true, false, map, Err, IfErr, OnOk, OnErr};
-ghost use Rattle.sm_disk.specs.Held.{Rose};
+ghost use Rattle.sm_disk.specs.Held.{Keeps, Rose};
 ghost use Rattle.sm_machine.specs.Disks.{Disk};
 ghost use Rattle.sm_machine.specs.Runs.{face};
 ghost use Rattle.sm_run.specs.Parts.{front_of, HasStepped, HasAnswered};
@@ -22,6 +22,7 @@ pub fn take_step<M: Steps>(alloc: Global, machine: &mut M, line: &[u8]) -> Resul
         → HasStepped (M.state machine.old) (M.state machine.new) whole result
         (M.leaves machine.old) (M.leaves machine.new) (M.ready machine.new) (M.kept machine.new) }
     ensures site { M.site machine.new ≡ M.site machine.old }
+    ensures beside { M.told → Keeps (M.beside machine.old) (M.beside machine.new) }
     ensures counts { M.faults machine.old ≤ M.faults machine.new }
     ensures device { M.broken machine.old ≡ false → OnErr result (Rose (M.faults machine.old) (M.faults machine.new)) }
     ensures going_on { M.broken machine.old ≡ false → OnOk result (M.broken machine.new ≡ false) }
@@ -47,6 +48,7 @@ pub fn answer<M: Steps, K: Sink>(
         (M.leaves machine.old) (M.leaves machine.new) (M.ready machine.new) (M.kept machine.new) }
     ensures faults { IfErr result (λ fault. (fault ≡ Device) ⊎ (fault ≡ SinkFault)) }
     ensures site { M.site machine.new ≡ M.site machine.old }
+    ensures beside { M.told → Keeps (M.beside machine.old) (M.beside machine.new) }
     ensures counts { M.faults machine.old ≤ M.faults machine.new }
     ensures sink_counts { K.faults sink.old ≤ K.faults sink.new }
     ensures device { M.broken machine.old ≡ false → result ≡ Err Device → Rose (M.faults machine.old) (M.faults machine.new) }

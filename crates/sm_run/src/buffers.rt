@@ -10,7 +10,8 @@ use std::marker::Model;
 /// One byte more than a line may have, so that a longer line is known by its length.
 const ROOM: usize = 65537;
 
-/// A line's bytes, of a longer one its first 65,537. A contract sees the list of them.
+/// The memory that a run reads its lines into: a line's bytes, of a longer one its first 65,537. A contract sees the
+/// list of them.
 #[derive(Drop)]
 pub struct LineBuffer {
     bytes: Vec<u8>,

@@ -19,9 +19,10 @@
 //! stop is a device that fails from some call on, so this covers each moment of a run. The laws by which one step
 //! makes what a stop may show grow stand by themselves: [`law_during`], [`law_after`], [`law_settled`].
 //!
-//! **Costs.** One buffer of 65,537 bytes, taken before anything is read or stepped; no other memory but that of the
-//! steps and of the bytes of a `write`. The source is read byte by byte, since a larger piece would take lines from it
-//! that a fault of the sink leaves unread. A run ends, after at most 2^40 + 1 bytes.
+//! **Costs.** One buffer of 65,537 bytes, a [`LineBuffer`], which the caller takes before all else, so a run never ends
+//! for want of it; no other memory but that of the steps and of the bytes of a `write`. The source is read byte by byte,
+//! since a larger piece would take lines from it that a fault of the sink leaves unread. A run ends, after at most
+//! 2^40 + 1 bytes.
 #![tactic(auto)]
 
 mod answers;
@@ -31,6 +32,7 @@ mod reading;
 mod runs;
 mod steps;
 
+pub use buffers::LineBuffer;
 pub use laws::{law_after, law_during, law_settled};
 pub use runs::{RunFault, run};
 pub use steps::{StepFault, Steps};

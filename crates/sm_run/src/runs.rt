@@ -1,7 +1,7 @@
 //! The loop of a run.
 
 ghost use Rattle.std.specs.Prelude.{◌≡◌, ◌≢◌, ◌≤◌, false, Err};
-ghost use Rattle.sm_disk.specs.Held.{Rose};
+ghost use Rattle.sm_disk.specs.Held.{Keeps, Rose};
 ghost use Rattle.sm_run.specs.Runs.{BeginsSettled, HasRun};
 ghost use Rattle.sm_run.specs.declared.runs.RunFault.TheVariants as fault;
 
@@ -24,16 +24,16 @@ pub enum RunFault {
     Source,
     /// The sink failed.
     Sink,
-    /// The line buffer found no memory. Nothing was read, stepped or sent.
-    NoMemory,
     /// The source gave a byte past the first 2^40 of the script.
     TooLong,
 }
 
-/// Takes one step for each line of the source, and sends its whole reply before the next byte is read.
+/// Takes one step for each line of the source, and sends its whole reply before the next byte is read. Each line is
+/// read into the buffer, whatever stood there; no other memory is taken here but that of the steps.
 pub fn run<M: Steps, S: Source, K: Sink>(
     alloc: Global,
     machine: &mut M,
+    line: &mut LineBuffer,
     source: &mut S,
     sink: &mut K,
 ) -> Result<(), RunFault>
@@ -42,24 +42,20 @@ pub fn run<M: Steps, S: Source, K: Sink>(
         → HasRun (M.state machine.old) (M.state machine.new) result
         (S.content source.old) (S.content source.new) (K.content sink.old) (K.content sink.new)
         (M.leaves machine.new) (M.ready machine.new) (M.kept machine.new) }
-    ensures memory { result ≡ Err fault.NoMemory
-        → (machine.new ≡ machine.old) × (source.new ≡ source.old) × (sink.new ≡ sink.old) }
     ensures device { M.broken machine.old ≡ false → result ≡ Err fault.Device
         → Rose (M.faults machine.old) (M.faults machine.new) }
     ensures source { result ≡ Err fault.Source → Rose (S.faults source.old) (S.faults source.new) }
     ensures sink { result ≡ Err fault.Sink → Rose (K.faults sink.old) (K.faults sink.new) }
     ensures going_on { M.broken machine.old ≡ false → result ≢ Err fault.Device → M.broken machine.new ≡ false }
     ensures site { M.site machine.new ≡ M.site machine.old }
+    ensures beside { M.told → Keeps (M.beside machine.old) (M.beside machine.new) }
     ensures device_counts { M.faults machine.old ≤ M.faults machine.new }
     ensures source_counts { S.faults source.old ≤ S.faults source.new }
     ensures sink_counts { K.faults sink.old ≤ K.faults sink.new }
 {
-    let Ok(mut line) = LineBuffer::new(alloc) else {
-        return Err(RunFault::NoMemory);
-    };
     let mut room = SCRIPT_LIMIT;
     'lines: loop {
-        match read_line(source, &mut room, &mut line) {
+        match read_line(source, &mut room, line) {
             Err(_) => return Err(RunFault::Source),
             Ok(Ending::PastLimit) => return Err(RunFault::TooLong),
             Ok(Ending::ScriptEnd) => {

@@ -1,8 +1,8 @@
 //! The trait of what a run steps.
 
-ghost use Rattle.std.specs.Prelude.{◌≡◌, ◌≤◌, ◌⊎◌, ℕ, List, Bool, true, false, Some, map, IfOk, OnOk};
+ghost use Rattle.std.specs.Prelude.{◌≡◌, ◌≤◌, ◌⊎◌, ℕ, List, Bool, true, false, Err, map, IfOk, OnOk};
 ghost use Rattle.sm_base.specs.declared.refusals.Refusal.TheVariants.{NoMemory};
-ghost use Rattle.sm_disk.specs.Held.{Rose};
+ghost use Rattle.sm_disk.specs.Held.{Held, Keeps, SameHeld, Rose};
 ghost use Rattle.sm_machine.specs.declared.replies.Reply.TheVariants.{No};
 ghost use Rattle.sm_machine.specs.Disks.{Disk};
 ghost use Rattle.sm_machine.specs.Steps.{State, step};
@@ -37,6 +37,12 @@ pub trait Steps {
     /// Whatever a stop leaves now opens again.
     ghost kept: { Self → Type 0 };
 
+    /// What is held of the sectors that the machine keeps.
+    ghost held: { Self → Held };
+
+    /// What is held of the device's places that are no part of the machine's store.
+    ghost beside: { Self → Held };
+
     /// The disks that a stop may leave.
     ghost leaves: { Self → List Disk → Type 0 };
 
@@ -51,13 +57,17 @@ pub trait Steps {
 
     ghost site: { Self → Site };
 
-    /// One step. After a refused command, one that found no memory among them, a stop leaves nothing new.
+    /// One step. A refused command, one that found no memory among them, makes no write and no sync. At `Broken`
+    /// nothing is done, and no step touches what stands beside the machine's store.
     fn step(&mut self, alloc: Global, command: &Command) -> Result<Reply, StepFault>
         ensures site { site self.new ≡ site self.old }
         ensures counts { faults self.old ≤ faults self.new }
         ensures device { result ≡ Err Device → Rose (faults self.old) (faults self.new) × (broken self.new ≡ true) }
         ensures broken { (result ≡ Err Broken → broken self.old ≡ true) × (broken self.old ≡ true → result ≡ Err Broken) }
+        ensures unchanged { result ≡ Err Broken → self.new ≡ self.old }
         ensures going_on { OnOk result (broken self.new ≡ false) }
+        ensures beside { told → Keeps (beside self.old) (beside self.new) }
+        ensures untouched { told → IfOk result (λ r. is_accepted r ≡ false → SameHeld (held self.old) (held self.new)) }
         ensures reply { told → ready self.old → IfOk result (λ r.
             ((r ≡ No NoMemory) × (state self.new ≡ state self.old))
             ⊎ ((r ≡ (step (state self.old) command.now).reply) × (state self.new ≡ (step (state self.old) command.now).after))) }

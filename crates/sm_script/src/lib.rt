@@ -39,6 +39,3 @@ pub use pieces::write_line;
 pub use printing::Print;
 pub use sm_machine::{Bytes, Command, DiskRow, DiskRows, Reply, StatRow, StatRows};
 pub use words::Word;
-
-#[cfg(test)]
-mod tests;

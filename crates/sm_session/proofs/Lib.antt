@@ -10,6 +10,8 @@ pub mod PutRows
 pub mod RawRows
 pub mod RecordPlaces
 pub mod RestLaws
+pub mod RoomLaws
+pub mod UntouchedLaws
 pub mod SessionLaws
 pub mod ShapeLaws
 pub mod StageLaws

@@ -14,7 +14,7 @@ use Rattle.sm_machine.specs.declared.replies.Reply.{Reply}
 use Rattle.sm_machine.specs.declared.replies.Reply.TheVariants.{No, Size}
 use Rattle.sm_machine.specs.Disks.{Disk, with_disk}
 use Rattle.sm_machine.specs.Refusals.{refusal, rounded}
-use Rattle.sm_machine.specs.Steps.{State, Outcome, step, step_whole, is_built, if_built, unless_refused, accepted, refused, disks_next, shape_next, reply_to}
+use Rattle.sm_machine.specs.Steps.{State, Outcome, step, is_built, if_built, accepted, refused, disks_next}
 use Rattle.sm_machine.specs.Runs.{face, HasSector}
 use Rattle.sm_record.specs.declared.records.Record.{Record}
 use Rattle.sm_recover.specs.Stores.{IsOrderly, IsAtRest, content_in, content_now, state_now}

@@ -1,5 +1,5 @@
 -- The table with one raw image more.
-use Rattle.std.proofs.Common.{◌≡◌, ◌≢◌, ℕ, ◌+◌, ◌≤◌, ◌⊎◌, inl, inr, ⊎_elim, Bool, true, false, cond, List, [], ◌∷◌, length, Option, Some, None, refl, sym, ap, ◌∙◌, subst, arith}
+use Rattle.std.proofs.Common.{◌≡◌, ◌≢◌, ℕ, ◌+◌, ◌≤◌, ◌⊎◌, inl, inr, ⊎_elim, Bool, true, false, cond, List, [], ◌∷◌, length, Option, Some, None, refl, sym, ap, ◌∙◌, subst, subst₂, arith}
 use Rattle.std.specs.List.{AllByRecursion, filter}
 use Rattle.std.specs.Ordering.{is_lt}
 use Rattle.std.proofs.lemmas.Bool.{cond_both, lt-ltb}
@@ -13,6 +13,7 @@ use Rattle.vg_meta.specs.declared.changes.Tag.TheVariants.{Fresh}
 use Rattle.vg_meta.proofs.NameLaws.{name_eq-same}
 use Rattle.vg_meta.proofs.RowLaws.{row_of-put_same, row_of-put_other, All-put}
 use Rattle.vg_meta.proofs.ChangeLaws.{IsTable-applied}
+use Rattle.vg_extents.specs.Fits.{AreLeastFree}
 use Rattle.vg_volumes.specs.Sites.{Site}
 use Rattle.sm_machine.specs.Lists.{In}
 use Rattle.sm_standing.specs.Checks.{images}
@@ -144,3 +145,8 @@ orderly_made s t u extents is orderly new for =
       none_new = λ r h. ⊎_elim (λ e. ap (λ q. q.fresh) e) (λ k. orderly.none_new r k) (with_in w r h);
       record_volume = ap (λ o. length (extents_of o)) (with_other w Mgt (λ e. (let x = e in cc))) ∙ orderly.record_volume;
     }
+
+-- the least free extents, told in another spelling of the number, the count and the table
+pub least_as : {need many count all : ℕ} {t u : Listing} {es : List ℕ} → need ≡ many → count ≡ all → t ≡ u → AreLeastFree count need t es → AreLeastFree all many u es
+least_as {need} {many} {count} {all} {t} {u} {es} number extents table least =
+    subst (λ x. AreLeastFree all many x es) table (subst₂ (λ n m. AreLeastFree n m t es) extents number least)

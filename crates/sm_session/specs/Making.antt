@@ -7,6 +7,7 @@ use Rattle.vg_meta.specs.Tables.{Listing, rows}
 use Rattle.vg_meta.specs.Changes.{AreFree, applied}
 use Rattle.vg_meta.specs.declared.changes.Change.TheVariants.{Create, Mark}
 use Rattle.vg_meta.specs.declared.changes.Tag.TheVariants.{Fresh}
+use Rattle.vg_extents.specs.Fits.{AreLeastFree}
 use Rattle.vg_volumes.specs.Sites.{Site}
 use Rattle.sm_machine.specs.Disks.{Disk, filled}
 use Rattle.sm_machine.specs.Shapes.{image_limit}
@@ -35,3 +36,9 @@ table_made t u extents = applied (table_begun t u extents) (Mark (Raw u) Fresh f
 -- a new disk of so many sectors
 abbrev pub new_disk : List ℕ → List ℕ → ℕ → Disk
 new_disk u label size = record { uuid = u; label = label; origin = None; read_only = false; sectors = filled size 0 }
+
+-- the table has a new raw disk, on so many extents that were free: the least of them, rising
+pub record IsOnLeast (s : Site) (t : Listing) (u : List ℕ) (count : ℕ) (next : Listing) : Type 0 where
+  pub extents : List ℕ
+  pub least : AreLeastFree s.count count t extents
+  pub made : next ≡ table_made t u extents

@@ -1,5 +1,4 @@
 -- That a table is orderly has one proof at most, so a session can carry it.
-use Rattle.std.specs.Prelude.{ℕ, List}
 use Rattle.std.proofs.Props.{props}
 use Rattle.vg_meta.specs.Tables.{Listing}
 use Rattle.vg_meta.specs.Proper.{IsName-prop}

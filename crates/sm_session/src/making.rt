@@ -23,14 +23,15 @@ ghost use Rattle.vg_meta.specs.Changes.{Allows, HasRoom, applied};
 ghost use Rattle.vg_meta.specs.declared.changes.Change.TheVariants.{Create, Mark};
 ghost use Rattle.vg_meta.specs.declared.changes.Tag.TheVariants.{Fresh};
 ghost use Rattle.vg_volumes.specs.Commits.{IsEither};
-ghost use Rattle.vg_volumes.specs.Sites.{area_size, size_of, volume_of, Fits};
+ghost use Rattle.vg_volumes.specs.Sites.{area_size, size_of, volume_of, Fits, NoLessRoom, RoomAfter};
 ghost use Rattle.vg_volumes.specs.Volumes.{SameElsewhere};
 ghost use Rattle.sm_machine.specs.Disks.{with_disk};
 ghost use Rattle.sm_record.specs.Records.{IsRecord};
 ghost use Rattle.sm_mgt.specs.Places.{Stays, place_count, place_for};
 ghost use Rattle.sm_standing.specs.PlainSound.{PlainSound};
 ghost use Rattle.sm_standing.specs.Standing.{disks};
-ghost use Rattle.sm_recover.specs.Stores.{content_in, content_now, IsOrderly, IsAtRest};
+ghost use Rattle.sm_recover.specs.Repairs.{IsUntouched};
+ghost use Rattle.sm_recover.specs.Stores.{content_in, content_now, IsOrderly, IsAtRest, HasRows};
 ghost use Rattle.sm_session.specs.Making.{IsNewDisk, AreForDisk, table_begun, table_made, new_disk};
 ghost use Rattle.sm_session.specs.Stages.{IsFilling, IsFilled, IsMade, IsSoundWith, entry_of};
 
@@ -63,7 +64,9 @@ fn prepare<S: Store>(
     disk: &Uuid,
 ) -> Result<Vec<u8>, NoMemory>
     ensures same { (S.site store.new ≡ S.site store.old) × (S.area store.new ≡ S.area store.old) × (S.failed store.new ≡ S.failed store.old) × (S.faults store.new ≡ S.faults store.old) }
+    ensures device { (S.device store.new ≡ S.device store.old) × (S.beside store.new ≡ S.beside store.old) }
     ensures table { listing (S.kept store.new) ≡ listing (S.kept store.old) }
+    ensures no_less { NoLessRoom (S.kept store.old) (S.kept store.new) }
     ensures leaves { (t : Listing) (image : ℕ → List ℕ) → S.leaves store.new t image → S.leaves store.old t image }
     ensures row { OnOk result (0 < (S.kept store.new).spare) }
     ensures place { OnOk result (IsSome (place_for mgt.now disk.now)) }
@@ -74,7 +77,7 @@ fn prepare<S: Store>(
     if !mgt.has_room(disk) {
         return Err(NoMemory);
     }
-    store.rooms(1)?;
+    store.reserve_rows(1)?;
     Ok(bytes)
 }
 
@@ -87,7 +90,9 @@ fn begin<S: Store>(store: &mut S, disk: Uuid, extents: Vec<u32>) -> Result<(), F
     ensures site { S.site store.new ≡ S.site store.old }
     ensures counts { S.faults store.old ≤ S.faults store.new }
     ensures cause { OnErr result (Rose (S.faults store.old) (S.faults store.new)) }
+    ensures beside { S.told → Keeps (S.beside store.old) (S.beside store.new) }
     ensures changed { OnOk result ((listing (S.kept store.new) ≡ table_begun (listing (S.kept store.old)) disk extents.items) × (S.failed store.new ≡ false)) }
+    ensures room_after { OnOk result (RoomAfter (Create (Raw disk) true extents.items) (S.kept store.old) (S.kept store.new)) }
     ensures keeps { S.told → Keeps (S.area store.old) (S.area store.new) }
     ensures settled { OnOk result (S.told → IsSettled (S.area store.new)) }
     ensures crash { S.told → (t : Listing) (image : ℕ → List ℕ) → S.leaves store.new t image
@@ -109,6 +114,7 @@ fn fill<S: Store>(store: &mut S, name: &Name, extents: u32, bytes: &[u8]) -> Res
     ensures stays { Stays S.site S.kept S.failed store.old store.new }
     ensures counts { S.faults store.old ≤ S.faults store.new }
     ensures cause { OnErr result (Rose (S.faults store.old) (S.faults store.new)) }
+    ensures beside { S.told → Keeps (S.beside store.old) (S.beside store.new) }
     ensures elsewhere { S.told → SameElsewhere (S.site store.old).geometry.extent
         (extents_of (rows (listing (S.kept store.old)) name.now)) (S.area store.old) (S.area store.new) }
     ensures filled { OnOk result (S.told → (p : ℕ) → p < size_of (S.site store.old) (listing (S.kept store.old)) name.now
@@ -163,6 +169,7 @@ fn fill_disk<S: Store>(
     ensures stays { Stays S.site S.kept S.failed store.old store.new }
     ensures counts { S.faults store.old ≤ S.faults store.new }
     ensures cause { OnErr result (Rose (S.faults store.old) (S.faults store.new)) }
+    ensures beside { S.told → Keeps (S.beside store.old) (S.beside store.new) }
     ensures filling { S.told → IsFilling (S.site store.old) (listing (S.kept store.old)) entry.uuid (unwrap_or (place_for mgt.old entry.uuid) 0) entry (S.area store.old) (S.area store.new) }
     ensures filled { OnOk result (S.told → IsFilled (S.site store.old) (listing (S.kept store.old)) entry.uuid (unwrap_or (place_for mgt.old entry.uuid) 0) entry (S.area store.old) (S.area store.new)) }
     ensures kept { OnOk result (mgt.new ≡ slice_set mgt.old (unwrap_or (place_for mgt.old entry.uuid) 0) (Some entry)) }
@@ -180,7 +187,9 @@ fn end<S: Store>(store: &mut S, disk: Uuid) -> Result<(), Failed>
     ensures site { S.site store.new ≡ S.site store.old }
     ensures counts { S.faults store.old ≤ S.faults store.new }
     ensures cause { OnErr result (Rose (S.faults store.old) (S.faults store.new)) }
+    ensures beside { S.told → Keeps (S.beside store.old) (S.beside store.new) }
     ensures changed { OnOk result ((listing (S.kept store.new) ≡ applied (listing (S.kept store.old)) (Mark (Raw disk) Fresh false)) × (S.failed store.new ≡ false)) }
+    ensures room_after { OnOk result (RoomAfter (Mark (Raw disk) Fresh false) (S.kept store.old) (S.kept store.new)) }
     ensures keeps { S.told → Keeps (S.area store.old) (S.area store.new) }
     ensures settled { OnOk result (S.told → IsSettled (S.area store.new)) }
     ensures crash { S.told → (t : Listing) (image : ℕ → List ℕ) → S.leaves store.new t image
@@ -214,8 +223,10 @@ fn make_disk<S: Store>(
     ensures site { S.site store.new ≡ S.site store.old }
     ensures counts { S.faults store.old ≤ S.faults store.new }
     ensures cause { OnErr result (Rose (S.faults store.old) (S.faults store.new)) }
+    ensures beside { S.told → Keeps (S.beside store.old) (S.beside store.new) }
     ensures usable_still { OnOk result (S.failed store.new ≡ false) }
     ensures table { OnOk result (listing (S.kept store.new) ≡ table_made (listing (S.kept store.old)) entry.uuid extents.items) }
+    ensures room { HasRows (S.kept store.old) → OnOk result (HasRows (S.kept store.new)) }
     ensures made { OnOk result (S.told → IsAtRest (S.site store.old) (listing (S.kept store.old)) (S.area store.old) mgt.old
         → IsMade (S.site store.old) (listing (S.kept store.old)) (S.area store.old) entry extents.items (S.area store.new) mgt.new) }
     ensures crash { S.told → IsAtRest (S.site store.old) (listing (S.kept store.old)) (S.area store.old) mgt.old → (t : Listing) (image : ℕ → List ℕ) → S.leaves store.new t image
@@ -251,13 +262,15 @@ pub(crate) fn make_raw<S: Store>(
     ensures site { S.site store.new ≡ S.site store.old }
     ensures counts { S.faults store.old ≤ S.faults store.new }
     ensures cause { result ≡ Err fault.Device → Rose (S.faults store.old) (S.faults store.new) }
+    ensures beside { S.told → Keeps (S.beside store.old) (S.beside store.new) }
     ensures usable_still { OnOk result (S.failed store.new ≡ false) }
     ensures orderly { OnOk result (IsOrderly (S.site store.new) (listing (S.kept store.new))) }
-    ensures poor { result ≡ Err fault.NoMemory → (listing (S.kept store.new) ≡ listing (S.kept store.old)) × (S.failed store.new ≡ S.failed store.old)
-        × (S.told → SameHeld (S.area store.old) (S.area store.new))
+    ensures poor { result ≡ Err fault.NoMemory
+        → IsUntouched S.told S.kept S.failed S.area S.device S.leaves store.old store.new
         × ((t : Listing) (image : ℕ → List ℕ) → S.leaves store.new t image → S.leaves store.old t image)
-        × (mgt.new ≡ mgt.old) }
+        × (mgt.new ≡ mgt.old) × NoLessRoom (S.kept store.old) (S.kept store.new) }
     ensures table { OnOk result (listing (S.kept store.new) ≡ table_made (listing (S.kept store.old)) disk extents.items) }
+    ensures room { HasRows (S.kept store.old) → OnOk result (HasRows (S.kept store.new)) }
     ensures at_rest { S.told → IsAtRest (S.site store.old) (listing (S.kept store.old)) (S.area store.old) mgt.old
         → OnOk result (IsAtRest (S.site store.new) (listing (S.kept store.new)) (S.area store.new) mgt.new) }
     ensures disks { S.told → IsAtRest (S.site store.old) (listing (S.kept store.old)) (S.area store.old) mgt.old

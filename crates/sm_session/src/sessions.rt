@@ -2,12 +2,12 @@
 
 ghost use Rattle.std.specs.Prelude.{◌≡◌, ◌≤◌, ◌⊎◌, ℕ, List, None, false, IfOk, IfErr};
 ghost use Rattle.std.proofs.Props.{props};
-ghost use Rattle.sm_disk.specs.Held.{IsSettled};
+ghost use Rattle.sm_disk.specs.Held.{IsSettled, Keeps};
 ghost use Rattle.vg_meta.specs.Kept.{listing};
 ghost use Rattle.vg_meta.specs.Tables.{Listing};
 ghost use Rattle.sm_machine.specs.Disks.{Disk};
 ghost use Rattle.sm_recover.specs.Repairs.{IsStopped, UnlessDevice, IsUntouched};
-ghost use Rattle.sm_recover.specs.Stores.{IsOrderly, IsAtRest, IsRepairedFrom, content_in, content_now, state_now};
+ghost use Rattle.sm_recover.specs.Stores.{IsOrderly, IsAtRest, IsRepairedFrom, HasRows, content_in, content_now, state_now};
 ghost use Rattle.sm_run.specs.Runs.{BeginsSettled};
 ghost use Rattle.sm_standing.specs.Checks.{first_fault_today};
 ghost use Rattle.sm_standing.specs.Opened.{opened};
@@ -32,9 +32,11 @@ pub struct Session<S: Store> {
     records: Mgt,
     broken: bool,
     now: u32,
-    // While no step has failed, the table is as it is between two steps, and commits may be made.
+    // While no step has failed, the table is as it is between two steps, commits may be made, and the table may come to
+    // have all its rows without memory for them.
     ghost orderly: { broken ≡ false → IsOrderly (S.site store) (listing (S.kept store)) } by { Prim.hlevel (props, IsOrderly-prop) },
     ghost usable: { broken ≡ false → S.failed store ≡ false },
+    ghost room: { broken ≡ false → HasRows (S.kept store) },
 }
 
 impl<S: Store> Session<S> {
@@ -48,6 +50,7 @@ impl<S: Store> Session<S> {
         requires settled { S.told → IsSettled (S.area store) }
         ensures site { IfOk result (λ s. S.site s.store ≡ S.site store) }
         ensures counts { IfOk result (λ s. S.faults store ≤ S.faults s.store) }
+        ensures beside { IfOk result (λ s. S.told → Keeps (S.beside store) (S.beside s.store)) }
         ensures whole { IfOk result (λ s. s.broken ≡ false) }
         ensures now { IfOk result (λ s. s.now ≡ now) }
         ensures sound { IfOk result (λ s. S.told → first_fault_today (content_now (S.site store) (listing (S.kept store)) (S.area store)) ≡ None) }
@@ -60,8 +63,9 @@ impl<S: Store> Session<S> {
         ensures begins { IfOk result (λ s. S.told → BeginsSettled (state_now (S.site s.store) (listing (S.kept s.store)) (S.area s.store)) (MayShow (S.site s.store) (S.leaves s.store))) }
         ensures site_back { IfErr result (λ e. S.site e.1 ≡ S.site store) }
         ensures counts_back { IfErr result (λ e. S.faults store ≤ S.faults e.1) }
+        ensures beside_back { IfErr result (λ e. S.told → Keeps (S.beside store) (S.beside e.1)) }
         ensures cause { IfErr result (λ e. IsStopped S.told (content_now (S.site store) (listing (S.kept store)) (S.area store)) (S.faults store) (S.faults e.1) e.0) }
-        ensures refused { IfErr result (λ e. UnlessDevice e.0 (IsUntouched S.told S.kept S.failed S.area S.leaves store e.1)) }
+        ensures refused { IfErr result (λ e. UnlessDevice e.0 (IsUntouched S.told S.kept S.failed S.area S.device S.leaves store e.1)) }
         ensures crash_back { IfErr result (λ e. S.told → (t : Listing) (image : ℕ → List ℕ) → S.leaves e.1 t image
             → S.leaves store t image ⊎ IsRepairedFrom (content_now (S.site store) (listing (S.kept store)) (S.area store)) (content_in (S.site store) t image)) }
     {
@@ -107,6 +111,10 @@ impl<S: Store> Steps for Session<S> {
     ghost ready = { λ s. (s.broken ≡ false) × IsAtRest (S.site s.store) (listing (S.kept s.store)) (S.area s.store) s.records };
 
     ghost kept = { λ s. KeepsAll (S.site s.store) (S.leaves s.store) };
+
+    ghost held = { λ s. S.area s.store };
+
+    ghost beside = { λ s. S.beside s.store };
 
     ghost leaves = { λ s. MayShow (S.site s.store) (S.leaves s.store) };
 

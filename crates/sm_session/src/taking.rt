@@ -1,11 +1,12 @@
 //! Taking one command.
 
 ghost use Rattle.std.specs.Prelude.{◌≡◌, ◌≤◌, ℕ, List, false, IfOk, OnOk, OnErr};
-ghost use Rattle.sm_disk.specs.Held.{Rose};
+ghost use Rattle.sm_disk.specs.Held.{Keeps, Rose};
 ghost use Rattle.vg_meta.specs.Kept.{listing};
 ghost use Rattle.vg_meta.specs.Tables.{Listing};
 ghost use Rattle.sm_machine.specs.Runs.{is_accepted};
-ghost use Rattle.sm_recover.specs.Stores.{IsOrderly, IsAtRest};
+ghost use Rattle.sm_recover.specs.Repairs.{IsUntouched};
+ghost use Rattle.sm_recover.specs.Stores.{IsOrderly, IsAtRest, HasRows};
 ghost use Rattle.sm_session.specs.Sessions.{HasTaken};
 
 use crate::creating::create;
@@ -28,9 +29,13 @@ pub fn take<S: Store>(
     ensures site { S.site store.new ≡ S.site store.old }
     ensures counts { S.faults store.old ≤ S.faults store.new }
     ensures cause { OnErr result (Rose (S.faults store.old) (S.faults store.new)) }
+    ensures beside { S.told → Keeps (S.beside store.old) (S.beside store.new) }
     ensures usable_still { OnOk result (S.failed store.new ≡ false) }
     ensures orderly_still { OnOk result (IsOrderly (S.site store.new) (listing (S.kept store.new))) }
+    ensures room { HasRows (S.kept store.old) → OnOk result (HasRows (S.kept store.new)) }
     ensures refused { IfOk result (λ r. is_accepted r ≡ false → (t : Listing) (image : ℕ → List ℕ) → S.leaves store.new t image → S.leaves store.old t image) }
+    ensures untouched { IfOk result (λ r. is_accepted r ≡ false
+        → IsUntouched S.told S.kept S.failed S.area S.device S.leaves store.old store.new) }
     ensures taken { S.told → IsAtRest (S.site store.old) (listing (S.kept store.old)) (S.area store.old) records.old
         → HasTaken (S.site store.old) command.now (listing (S.kept store.old)) (S.area store.old)
         (listing (S.kept store.new)) (S.area store.new) records.new (S.leaves store.new) result }

@@ -10,7 +10,7 @@ use Rattle.sm_machine.specs.Lists.{◌>>=◌, numbers}
 use Rattle.sm_machine.specs.Shapes.{same_image}
 use Rattle.sm_record.specs.declared.records.Record.{Record}
 use Rattle.vhd_layout.specs.Examples.{table_of, empty}
-use Rattle.sm_standing.specs.Checks.{first_fault, children, depth, is_misplaced, record_fault, first_name, record_volume_fault, too_many_fault, misnamed_fault, second_entry_fault, lost_entry_fault, old_leaf_fault, parent_is, of_image, has_such_parent, children_with, is_base_of, is_entry_linked}
+use Rattle.sm_standing.specs.Checks.{first_fault, children, chain_length, is_misplaced, record_fault, first_name, record_volume_fault, too_many_fault, misnamed_fault, second_entry_fault, lost_entry_fault, old_leaf_fault, parent_is, of_image, has_such_parent, children_with, is_base_of, is_entry_linked}
 use Rattle.sm_standing.specs.Contents.{Content, records}
 use Rattle.sm_standing.specs.Entries.{making, image_with, is_at_stage, is_fork_made, is_leaf_copied, is_leaf_renamed, is_leaf_swapped}
 use Rattle.sm_standing.specs.Images.{Image, image_of, vhd_image, image_extents}
@@ -434,7 +434,7 @@ relink_images : images_of relinking ≡ None ∷ Some (written_out (Some (Vhd se
 unfolding image_of
 relink_images = ap₃ (λ o p q. None ∷ o ∷ p ∷ q ∷ None ∷ []) relink_first relink_second relink_base
 
-relink_depth : depth relinking 31 (Vhd first) ≡ 3
+relink_depth : chain_length relinking 31 (Vhd first) ≡ 3
 relink_depth =
     chain_up relinking 30 (Vhd first) (Vhd second) (empty_over second) relink_first
     ∙ ap (λ d. suc d) (chain_up relinking 29 (Vhd second) (Vhd base) (empty_over base) relink_second ∙ ap (λ d. suc d) (chain_top relinking 28 (Vhd base) (top 17) relink_base))

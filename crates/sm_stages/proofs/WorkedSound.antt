@@ -9,15 +9,15 @@ use Rattle.sm_base.specs.declared.names.Name.{Name}
 use Rattle.sm_base.specs.declared.names.Name.TheVariants.{Vhd}
 use Rattle.vg_layout.specs.Places.{record_extents}
 use Rattle.vg_meta.specs.Tables.{Row, row_of, name_eq}
-use Rattle.sm_machine.specs.Lists.{◌>>=◌, numbers, first_some}
+use Rattle.sm_machine.specs.Lists.{numbers, first_some}
 use Rattle.sm_machine.specs.Shapes.{same_image}
 use Rattle.sm_record.specs.declared.records.Record.{Record}
-use Rattle.sm_standing.specs.Checks.{first_fault, first_name, name_in, placed, record_volume_fault, too_many_fault, misnamed_fault, second_entry_fault, lost_entry_fault, old_leaf_fault, is_invalid, invalid_fault, children, parent_is, depth, is_no_larger, is_misplaced, is_tree_wrong, tree_fault, is_entry_linked, entry_link_fault, record_fault, disk_place, disk_uuids, disk_fault}
+use Rattle.sm_standing.specs.Checks.{first_fault, first_name, name_in, placed, record_volume_fault, too_many_fault, misnamed_fault, second_entry_fault, lost_entry_fault, old_leaf_fault, is_invalid, invalid_fault, children, parent_is, chain_length, is_no_larger, is_misplaced, is_tree_wrong, tree_fault, is_entry_linked, entry_link_fault, record_fault, disk_place, disk_uuids, disk_fault}
 use Rattle.sm_standing.specs.Contents.{Content, records, is_record_of}
 use Rattle.sm_standing.specs.Entries.{is_hidden, is_at_stage}
 use Rattle.sm_standing.specs.Images.{Image, image_of}
 use Rattle.sm_standing.specs.Standing.{stands, uuids, with_uuid, in_order}
-use Rattle.sm_standing.proofs.WalkLaws.{depth_top, depth_up}
+use Rattle.sm_standing.proofs.WalkLaws.{length_top, length_up}
 use Rattle.sm_stages.specs.Moments.{top, filled, child}
 use Rattle.sm_stages.specs.Worked.{first, second, base, first_record, second_record, image_row, one_disk, unforked, two_disks}
 use Rattle.sm_stages.specs.WorkedImages.{top_image, filled_child, empty_child}
@@ -125,25 +125,25 @@ passes false b d is_a is_b is_d = absurd (let e = is_a in cc)
 passes true false d is_a is_b is_d = absurd (let e = is_b in cc)
 passes true true false is_a is_b is_d = absurd (let e = is_d in cc)
 
-pub chain_top : (c : Content) (most : ℕ) (n : Name) (i : Image) → image_of c n ≡ Some (written_out None i) → depth c (suc most) n ≡ 1
-chain_top c most n i is = depth_top c most n (ap (λ o. o >>= (λ (j : Image). j.parent)) is)
+pub chain_top : (c : Content) (most : ℕ) (n : Name) (i : Image) → image_of c n ≡ Some (written_out None i) → chain_length c (suc most) n ≡ 1
+chain_top c most n i is = length_top c most n (written_out None i) is refl
 
-pub chain_up : (c : Content) (most : ℕ) (n p : Name) (i : Image) → image_of c n ≡ Some (written_out (Some p) i) → depth c (suc most) n ≡ suc (depth c most p)
-chain_up c most n p i is = depth_up c most n p (ap (λ o. o >>= (λ (j : Image). j.parent)) is)
+pub chain_up : (c : Content) (most : ℕ) (n p : Name) (i : Image) → image_of c n ≡ Some (written_out (Some p) i) → chain_length c (suc most) n ≡ suc (chain_length c most p)
+chain_up c most n p i is = length_up c most n p (written_out (Some p) i) is refl
 
 -- an image without a parent, and one under a parent, lie rightly
 pub top_right : (c : Content) (u : List ℕ) (hidden : Bool) (place : ℕ) (i : Image) → image_of c (Vhd u) ≡ Some (written_out None i)
     → is_free hidden (children c (Vhd u)) ≡ true → is_tree_wrong c (image_row hidden (Vhd u) place) ≡ false
 top_right c u hidden place i is childless =
     ap (is_misplaced c (image_row hidden (Vhd u) place)) is
-    ∙ passes true (nat_le (depth c 31 (Vhd u)) 30) (is_free hidden (children c (Vhd u))) refl (ap (λ d. nat_le d 30) (chain_top c 30 (Vhd u) i is)) childless
+    ∙ passes true (nat_le (chain_length c 31 (Vhd u)) 30) (is_free hidden (children c (Vhd u))) refl (ap (λ d. nat_le d 30) (chain_top c 30 (Vhd u) i is)) childless
 
 pub child_right : (c : Content) (u p : List ℕ) (hidden : Bool) (place : ℕ) (i q : Image) (above : Option Name) → image_of c (Vhd u) ≡ Some (written_out (Some (Vhd p)) i)
-    → is_hidden c.table (Vhd p) ≡ true → image_of c (Vhd p) ≡ Some (written_out above q) → nat_le (depth c 31 (Vhd u)) 30 ≡ true
+    → is_hidden c.table (Vhd p) ≡ true → image_of c (Vhd p) ≡ Some (written_out above q) → nat_le (chain_length c 31 (Vhd u)) 30 ≡ true
     → is_free hidden (children c (Vhd u)) ≡ true → is_tree_wrong c (image_row hidden (Vhd u) place) ≡ false
 child_right c u p hidden place i q above is there below short childless =
     ap (is_misplaced c (image_row hidden (Vhd u) place)) is
-    ∙ passes (is_hidden c.table (Vhd p) && is_no_larger 128 (image_of c (Vhd p))) (nat_le (depth c 31 (Vhd u)) 30) (is_free hidden (children c (Vhd u)))
+    ∙ passes (is_hidden c.table (Vhd p) && is_no_larger 128 (image_of c (Vhd p))) (nat_le (chain_length c 31 (Vhd u)) 30) (is_free hidden (children c (Vhd u)))
     (ap₂ (λ b o. b && is_no_larger 128 o) there below) short childless
 
 -- one right under the top of its chain

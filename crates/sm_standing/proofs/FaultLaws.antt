@@ -10,7 +10,7 @@ use Rattle.sm_base.specs.declared.faults.Place.TheVariants as at
 use Rattle.sm_base.specs.declared.names.Name.{Name}
 use Rattle.sm_base.specs.declared.names.Name.TheVariants.{Mgt, Vhd, Raw}
 use Rattle.sm_disk.specs.Sectors.{zeros}
-use Rattle.sm_machine.specs.Lists.{In, numbers, first_some, given, ◌>>=◌}
+use Rattle.sm_machine.specs.Lists.{In, numbers, first_some, given}
 use Rattle.sm_machine.specs.Shapes.{same_image}
 use Rattle.sm_record.specs.declared.records.Record.{Record}
 use Rattle.sm_record.specs.declared.records.Reading.TheVariants.{Free}
@@ -19,7 +19,7 @@ use Rattle.sm_record.proofs.RoundTrips.{reading_zeros}
 use Rattle.vg_layout.specs.Places.{record_extents}
 use Rattle.vg_meta.specs.Tables.{Row, row_of, name_eq, is_image as is_data}
 use Rattle.vg_volumes.specs.Volumes.{piece}
-use Rattle.sm_standing.specs.Checks.{all_faults, first_fault, first_name, name_in, placed, record_volume_fault, too_many_fault, invalid_fault, children, parent_is, depth, is_no_larger, is_linked, is_misplaced, tree_wrong_as, is_tree_wrong, tree_fault, is_parent_right, of_image, has_such_parent, has_parent_of, has_uuid, children_with, is_base_of, is_entry_linked, entry_link_fault, is_damaged, record_place, record_fault, disk_place, is_unrecorded, disk_fault}
+use Rattle.sm_standing.specs.Checks.{all_faults, first_fault, first_name, name_in, placed, record_volume_fault, too_many_fault, invalid_fault, children, parent_is, chain_length, is_no_larger, is_linked, is_misplaced, tree_wrong_as, is_tree_wrong, tree_fault, is_parent_right, of_image, has_such_parent, has_parent_of, has_uuid, children_with, is_base_of, is_entry_linked, entry_link_fault, is_damaged, record_place, record_fault, disk_place, is_unrecorded, disk_fault}
 use Rattle.sm_standing.specs.Contents.{Content, reading_at, sectors_of, taken, record_count, records, is_record_of}
 use Rattle.sm_standing.specs.Entries.{image_with}
 use Rattle.sm_standing.specs.Examples.{one, two, three, four, shown_row, hidden_row, sized_row, crowd, content_on, empty_content}
@@ -28,9 +28,8 @@ use Rattle.sm_standing.specs.ExampleTables as table
 use Rattle.sm_standing.specs.Images.{Image, image_of}
 use Rattle.sm_standing.specs.Standing.{stands, uuids, in_order, with_uuid}
 use Rattle.sm_standing.proofs.Finding.{find_none, none_first, filter-In, In-numbers}
-use Rattle.sm_standing.proofs.ImageLaws.{parent-is}
 use Rattle.sm_standing.proofs.RecordLists.{filter_none}
-use Rattle.sm_standing.proofs.WalkLaws.{depth_up, depth_top}
+use Rattle.sm_standing.proofs.WalkLaws.{length_up, length_top}
 
 -- ---- the first of all
 
@@ -172,37 +171,37 @@ unfolding same_image
 tree_visible area j i is below parent =
     let c = content.child_and_parent area in
     tree_first c one (shown_row (Vhd one)) (hidden_row (Vhd two) ∷ []) refl refl (wrong_at c one (shown_row (Vhd one)) i refl is
-    ∙ third_fails (is_linked c i) (nat_le (depth c 31 (Vhd one)) 30) (length (children c (Vhd one)) == 0)
+    ∙ third_fails (is_linked c i) (nat_le (chain_length c 31 (Vhd one)) 30) (length (children c (Vhd one)) == 0)
     (some_length (children c (Vhd one)) (hidden_row (Vhd two)) (child-In c (hidden_row (Vhd two)) (Vhd one) j (inr (inl refl)) below parent refl)))
 
 around : (c : Content) (n m : Name) (i j : Image) → image_of c n ≡ Some i → i.parent ≡ Some m → image_of c m ≡ Some j → j.parent ≡ Some n
-    → (k : ℕ) → (depth c k n ≡ k) × (depth c k m ≡ k)
-unfolding depth
+    → (k : ℕ) → (chain_length c k n ≡ k) × (chain_length c k m ≡ k)
+unfolding chain_length
 around c n m i j is up js back zero = (refl, refl)
 around c n m i j is up js back (suc k) =
     let w = around c n m i j is up js back k in
-    (depth_up c k n m (parent-is c n m i is up) ∙ ap suc w.1, depth_up c k m n (parent-is c m n j js back) ∙ ap suc w.0)
+    (length_up c k n m i is up ∙ ap suc w.1, length_up c k m n j js back ∙ ap suc w.0)
 
 pub tree_endless : (area : ℕ → List ℕ) (i j : Image) → image_of (content.two_hidden area) (Vhd one) ≡ Some i → i.parent ≡ Some (Vhd two)
     → image_of (content.two_hidden area) (Vhd two) ≡ Some j → j.parent ≡ Some (Vhd one) → tree_fault (content.two_hidden area) ≡ Some (at.Tree (Vhd one))
 tree_endless area i j is up js back =
     let c = content.two_hidden area in
     tree_first c one (hidden_row (Vhd one)) (hidden_row (Vhd two) ∷ []) refl refl (wrong_at c one (hidden_row (Vhd one)) i refl is
-    ∙ second_fails (is_linked c i) (nat_le (depth c 31 (Vhd one)) 30) true (ap (λ k. nat_le k 30) (around c (Vhd one) (Vhd two) i j is up js back 31).0))
+    ∙ second_fails (is_linked c i) (nat_le (chain_length c 31 (Vhd one)) 30) true (ap (λ k. nat_le k 30) (around c (Vhd one) (Vhd two) i j is up js back 31).0))
 
 pub chain_most : (c : Content) (r : Row) (u : List ℕ) (i : Image) → r.name ≡ Vhd u → r.hidden ≡ true → image_of c (Vhd u) ≡ Some i → is_linked c i ≡ true
-    → depth c 31 (Vhd u) ≡ 30 → is_tree_wrong c r ≡ false
+    → chain_length c 31 (Vhd u) ≡ 30 → is_tree_wrong c r ≡ false
 chain_most c r u i name hidden is linked long =
     wrong_at c u r i name is
-    ∙ all_hold (is_linked c i) (nat_le (depth c 31 r.name) 30) (r.hidden || (length (children c r.name) == 0)) linked
-    (ap (λ n. nat_le (depth c 31 n) 30) name ∙ ap (λ k. nat_le k 30) long) (ap (λ b. b || (length (children c r.name) == 0)) hidden)
+    ∙ all_hold (is_linked c i) (nat_le (chain_length c 31 r.name) 30) (r.hidden || (length (children c r.name) == 0)) linked
+    (ap (λ n. nat_le (chain_length c 31 n) 30) name ∙ ap (λ k. nat_le k 30) long) (ap (λ b. b || (length (children c r.name) == 0)) hidden)
 
 pub chain_more : (c : Content) (r : Row) (u : List ℕ) (i : Image) → r.name ≡ Vhd u → r.hidden ≡ true → image_of c (Vhd u) ≡ Some i → is_linked c i ≡ true
-    → depth c 31 (Vhd u) ≡ 31 → is_tree_wrong c r ≡ true
+    → chain_length c 31 (Vhd u) ≡ 31 → is_tree_wrong c r ≡ true
 chain_more c r u i name hidden is linked long =
     wrong_at c u r i name is
-    ∙ second_fails (is_linked c i) (nat_le (depth c 31 r.name) 30) (r.hidden || (length (children c r.name) == 0))
-    (ap (λ n. nat_le (depth c 31 n) 30) name ∙ ap (λ k. nat_le k 30) long)
+    ∙ second_fails (is_linked c i) (nat_le (chain_length c 31 r.name) 30) (r.hidden || (length (children c r.name) == 0))
+    (ap (λ n. nat_le (chain_length c 31 n) 30) name ∙ ap (λ k. nat_le k 30) long)
 
 -- ---- entries
 
@@ -349,16 +348,16 @@ tree_right area i j is up js top fits =
     let childless : children c (Vhd one) ≡ [] = none_left (λ r. parent_is (Vhd one) (image_of c r.name)) c.table.volumes (unseen c) in
     let first_passes : is_tree_wrong c (shown_row (Vhd one)) ≡ false =
     wrong_at c one (shown_row (Vhd one)) i refl is
-    ∙ all_hold (is_linked c i) (nat_le (depth c 31 (Vhd one)) 30) (length (children c (Vhd one)) == 0)
+    ∙ all_hold (is_linked c i) (nat_le (chain_length c 31 (Vhd one)) 30) (length (children c (Vhd one)) == 0)
     (linked_at c i (Vhd two) up ∙ ap (is_no_larger i.size) js ∙ le-leb j.size i.size fits)
-    (ap (λ k. nat_le k 30) (depth_up c 30 (Vhd one) (Vhd two) (parent-is c (Vhd one) (Vhd two) i is up)
-    ∙ ap suc (depth_top c 29 (Vhd two) (ap (λ o. o >>= (λ k. k.parent)) js ∙ top))))
+    (ap (λ k. nat_le k 30) (length_up c 30 (Vhd one) (Vhd two) i is up
+    ∙ ap suc (length_top c 29 (Vhd two) j js top)))
     (ap (λ (rs : List Row). length rs == 0) childless) in
     let second_passes : is_tree_wrong c (hidden_row (Vhd two)) ≡ false =
     wrong_at c two (hidden_row (Vhd two)) j refl js
-    ∙ all_hold (is_linked c j) (nat_le (depth c 31 (Vhd two)) 30) true
+    ∙ all_hold (is_linked c j) (nat_le (chain_length c 31 (Vhd two)) 30) true
     (ap (λ o. elim o [ None ↦ true | Some q ↦ is_parent_right c j.size q ]) top)
-    (ap (λ k. nat_le k 30) (depth_top c 30 (Vhd two) (ap (λ o. o >>= (λ k. k.parent)) js ∙ top))) refl in
+    (ap (λ k. nat_le k 30) (length_top c 30 (Vhd two) j js top)) refl in
     ap₂ (λ a d. placed at.Tree (name_in (cond a (Some (shown_row (Vhd one))) (cond d (Some (hidden_row (Vhd two))) None)))) first_passes second_passes
   where
     unseen : (c : Content) (r : Row) → In r (shown_row (Vhd one) ∷ hidden_row (Vhd two) ∷ []) → parent_is (Vhd one) (image_of (content.child_and_parent area) r.name) ≡ false

@@ -7,7 +7,7 @@ use Rattle.vg_meta.specs.Tables.{name_eq}
 use Rattle.vg_meta.proofs.NameLaws.{name_eq-true, name_eq-false}
 use Rattle.sm_machine.specs.Lists.{◌>>=◌}
 use Rattle.sm_standing.specs.Changes.{turns_of, parent_of, IsShort, renamed_parent, IsLinkedUp}
-use Rattle.sm_standing.specs.Checks.{depth}
+use Rattle.sm_standing.specs.Checks.{chain_length, depth}
 use Rattle.sm_standing.specs.Contents.{Content}
 use Rattle.sm_standing.specs.Images.{Image, Turn, here, up, held_or, turn_of, walk, reads, image_of}
 use Rattle.sm_standing.specs.Turns.{Turns, answer, Reads, IsClosed, SameBut}
@@ -98,6 +98,24 @@ depth_up c k n p h = ap (λ o. suc (elim o [ None ↦ 0 | Some q ↦ depth c k q
 pub depth_top : (c : Content) (k : ℕ) (n : Name) → parent_of c n ≡ None → depth c (suc k) n ≡ 1
 unfolding depth
 depth_top c k n h = ap (λ o. suc (elim o [ None ↦ 0 | Some q ↦ depth c k q ])) h
+
+-- the images of a chain: none where there is no image, one where it has no parent, else one more than from the parent up
+pub length_none : (c : Content) (k : ℕ) (n : Name) → image_of c n ≡ None → chain_length c k n ≡ 0
+unfolding chain_length
+length_none c zero n h = refl
+length_none c (suc k) n h = ap (λ o. elim o [ None ↦ 0 | Some i ↦ suc (elim i.parent [ None ↦ 0 | Some p ↦ chain_length c k p ]) ]) h
+
+pub length_top : (c : Content) (k : ℕ) (n : Name) (i : Image) → image_of c n ≡ Some i → i.parent ≡ None → chain_length c (suc k) n ≡ 1
+unfolding chain_length
+length_top c k n i is top =
+    ap (λ o. elim o [ None ↦ 0 | Some j ↦ suc (elim j.parent [ None ↦ 0 | Some p ↦ chain_length c k p ]) ]) is
+    ∙ ap (λ o. suc (elim o [ None ↦ 0 | Some p ↦ chain_length c k p ])) top
+
+pub length_up : (c : Content) (k : ℕ) (n p : Name) (i : Image) → image_of c n ≡ Some i → i.parent ≡ Some p → chain_length c (suc k) n ≡ suc (chain_length c k p)
+unfolding chain_length
+length_up c k n p i is above =
+    ap (λ o. elim o [ None ↦ 0 | Some j ↦ suc (elim j.parent [ None ↦ 0 | Some q ↦ chain_length c k q ]) ]) is
+    ∙ ap (λ o. suc (elim o [ None ↦ 0 | Some q ↦ chain_length c k q ])) above
 
 grows-step : (c : Content) (k : ℕ) (o : Option Name) → ((p : Name) → depth c (suc k) p ≤ suc (depth c k p))
     → suc (elim o [ None ↦ 0 | Some p ↦ depth c (suc k) p ]) ≤ suc (suc (elim o [ None ↦ 0 | Some p ↦ depth c k p ]))

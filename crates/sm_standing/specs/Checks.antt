@@ -135,10 +135,15 @@ parent_is p (Some i) = elim i.parent [ None ↦ false | Some q ↦ same_image q 
 unfoldable pub children : Content → Name → List Row
 children c p = filter (λ r. parent_is p (image_of c r.name)) c.table.volumes
 
--- the number of images from one up, counted up to a limit
+-- the number of names from one up, each named as parent by the image below it, counted up to a limit
 unfoldable pub depth : Content → ℕ → Name → ℕ
 depth c zero n = 0
 depth c (suc most) n = suc (elim (image_of c n >>= (λ i. i.parent)) [ None ↦ 0 | Some p ↦ depth c most p ])
+
+-- the number of images of a chain from one up, counted up to a limit: a parent that is not there is none
+unfoldable pub chain_length : Content → ℕ → Name → ℕ
+chain_length c zero n = 0
+chain_length c (suc most) n = elim (image_of c n) [ None ↦ 0 | Some i ↦ suc (elim i.parent [ None ↦ 0 | Some p ↦ chain_length c most p ]) ]
 
 -- an image of at most this size
 abbrev pub is_no_larger : ℕ → Option Image → Bool
@@ -157,7 +162,7 @@ is_linked c i = elim i.parent [ None ↦ true | Some p ↦ is_parent_right c i.s
 abbrev pub is_misplaced : Content → Row → Option Image → Bool
 is_misplaced c r None = false
 is_misplaced c r (Some i) = not (is_linked c i
-    && (nat_le (depth c (suc chain_limit) r.name) chain_limit
+    && (nat_le (chain_length c (suc chain_limit) r.name) chain_limit
     && (r.hidden || (length (children c r.name) == 0))))
 
 -- the check speaks of VHD images alone

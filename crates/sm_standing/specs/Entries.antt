@@ -121,12 +121,13 @@ are_past t n = list_all (is_past t.sequence) (uuids_in n)
 abbrev pub is_inflating : Listing → List ℕ → ℕ → Bool
 is_inflating t u extents = of_row (λ r. not r.fresh && nat_le extents (length r.extents)) (rows t (Vhd u))
 
--- forking, before the disk's image is renamed: no image has the base's UUID or the twin's, and the disk's is visible
+-- forking, before the disk's image is renamed: no image has the base's UUID or the twin's, and the disk's is visible; an
+-- old leaf counts as an image here
 abbrev pub is_fork_begun : Listing → List ℕ → List ℕ → List ℕ → Bool
 is_fork_begun t disk base twin =
     not (has_image t base)
     && (not (has_image t twin)
-    && ((length (images_with t disk) == 1) && (is_visible t (Vhd disk) || is_visible t (Raw disk))))
+    && ((length (images_with t disk) == 1) && (is_visible t (Vhd disk) || (is_visible t (Raw disk) || is_visible t (Old disk)))))
 
 -- forking, afterwards: the base is there; the disk's and the twin's new images may be there, and then it is hidden
 abbrev pub is_fork_made : Listing → List ℕ → List ℕ → List ℕ → Bool

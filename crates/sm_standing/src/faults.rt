@@ -11,7 +11,7 @@ ghost use Rattle.sm_disk.specs.Sectors.{zeros};
 ghost use Rattle.sm_machine.specs.Lists.{In};
 ghost use Rattle.sm_record.specs.declared.records.Record.{Record};
 ghost use Rattle.vg_meta.specs.Tables.{Row};
-ghost use Rattle.sm_standing.specs.Checks.{all_faults, first_fault, record_volume_fault, too_many_fault, misnamed_fault, second_entry_fault, lost_entry_fault, old_leaf_fault, invalid_fault, is_linked, depth, is_tree_wrong, tree_fault, entry_link_fault, is_damaged, record_fault, disk_fault};
+ghost use Rattle.sm_standing.specs.Checks.{all_faults, first_fault, record_volume_fault, too_many_fault, misnamed_fault, second_entry_fault, lost_entry_fault, old_leaf_fault, invalid_fault, is_linked, chain_length, is_tree_wrong, tree_fault, entry_link_fault, is_damaged, record_fault, disk_fault};
 ghost use Rattle.sm_standing.specs.Contents.{Content, record_count, reading_at, records, is_record_of};
 ghost use Rattle.sm_standing.specs.Examples.{one, two, three, four, shown_row, hidden_row, sized_row, crowd, base_of, content_in, content_on, empty_content};
 ghost use Rattle.sm_standing.specs.ExampleFaults as content;
@@ -60,10 +60,13 @@ pub fn example_lost_entry()
     ensures past { (area : ℕ → List ℕ) → lost_entry_fault (content_on (hidden_row (Vhd (base_of 5)) ∷ hidden_row (Vhd three) ∷ shown_row (Relink (base_of 5) three) ∷ []) area) ≡ None }
     ensures beside { (area : ℕ → List ℕ) → lost_entry_fault (content_on (shown_row (Vhd one) ∷ hidden_row (Vhd two) ∷ shown_row (Clone one three four) ∷ shown_row (Leaf one two) ∷ []) area) ≡ Some (at.Journal (Clone one three four)) }
     ensures apart { (area : ℕ → List ℕ) → lost_entry_fault (content_in table.leaf_renamed area) ≡ None }
+    ensures old_leaf { (area : ℕ → List ℕ) → lost_entry_fault (content_on (shown_row (Old one) ∷ shown_row (Clone one two three) ∷ []) area) ≡ None }
 {}
 
-/// An old leaf of no swap that is under way.
+/// An old leaf of no swap that is under way. A fork that has begun takes it for the disk's image, so the leaf is named and
+/// not the fork's entry.
 pub fn example_old_leaf()
+    ensures forked { (area : ℕ → List ℕ) → old_leaf_fault (content_on (shown_row (Old one) ∷ shown_row (Clone one two three) ∷ []) area) ≡ Some (at.Image (Old one)) }
     ensures alone { (area : ℕ → List ℕ) → old_leaf_fault (content_on (shown_row (Old one) ∷ []) area) ≡ Some (at.Image (Old one)) }
     ensures other { (area : ℕ → List ℕ) → old_leaf_fault (content_on (shown_row (Old one) ∷ shown_row (Old three) ∷ hidden_row (Vhd two) ∷ shown_row (Leaf one two) ∷ []) area) ≡ Some (at.Image (Old three)) }
     ensures copied { (area : ℕ → List ℕ) → old_leaf_fault (content_on (shown_row (Old one) ∷ shown_row (Vhd one) ∷ hidden_row (Vhd two) ∷ shown_row (Leaf one two) ∷ []) area) ≡ Some (at.Image (Old one)) }
@@ -91,8 +94,8 @@ pub fn example_tree()
 
 /// A hidden image that is linked rightly has a chain of 30 images or fewer: with 31 it is refused.
 pub fn law_longest_chain()
-    ensures most { (c : Content) (r : Row) (u : List ℕ) (i : Image) → r.name ≡ Vhd u → r.hidden ≡ true → image_of c (Vhd u) ≡ Some i → is_linked c i ≡ true → depth c 31 (Vhd u) ≡ 30 → is_tree_wrong c r ≡ false }
-    ensures more { (c : Content) (r : Row) (u : List ℕ) (i : Image) → r.name ≡ Vhd u → r.hidden ≡ true → image_of c (Vhd u) ≡ Some i → is_linked c i ≡ true → depth c 31 (Vhd u) ≡ 31 → is_tree_wrong c r ≡ true }
+    ensures most { (c : Content) (r : Row) (u : List ℕ) (i : Image) → r.name ≡ Vhd u → r.hidden ≡ true → image_of c (Vhd u) ≡ Some i → is_linked c i ≡ true → chain_length c 31 (Vhd u) ≡ 30 → is_tree_wrong c r ≡ false }
+    ensures more { (c : Content) (r : Row) (u : List ℕ) (i : Image) → r.name ≡ Vhd u → r.hidden ≡ true → image_of c (Vhd u) ≡ Some i → is_linked c i ≡ true → chain_length c 31 (Vhd u) ≡ 31 → is_tree_wrong c r ≡ true }
 {}
 
 /// The entry of a copy whose image has no parent, or whose parent has another child.

@@ -6,7 +6,7 @@ ghost use Rattle.sm_base.specs.declared.names.Name.TheVariants.{Old};
 ghost use Rattle.sm_disk.specs.Sectors.{zeros};
 ghost use Rattle.vg_meta.specs.Tables.{Row};
 ghost use Rattle.sm_standing.specs.Changes.{turns_of, parent_of, IsShort, IsCopied, IsRaised, IsMoved, IsRemoved, IsLinkedUp, renamed_parent};
-ghost use Rattle.sm_standing.specs.Checks.{depth};
+ghost use Rattle.sm_standing.specs.Checks.{chain_length, depth};
 ghost use Rattle.sm_standing.specs.Contents.{Content, row};
 ghost use Rattle.sm_standing.specs.Images.{Image, image_of, reads};
 ghost use Rattle.sm_standing.specs.Standing.{disks, disk_at};
@@ -33,8 +33,13 @@ pub fn law_short_chain()
     ensures only { (c : Content) (n : Name) (s : ℕ) (bytes : List ℕ) → IsShort c n → Reads (turns_of c s) n bytes → bytes ≡ reads c n s }
 {}
 
-/// The number of images of a chain: one where there is no parent, else one more than from the parent up.
+/// The number of images of a chain: none where there is no image, one where it has no parent, else one more than from the
+/// parent up. A parent that is not there is not counted, though it is one of the names that `depth` counts.
 pub fn law_chain_length()
+    ensures none { (c : Content) (k : ℕ) (n : Name) → image_of c n ≡ None → chain_length c k n ≡ 0 }
+    ensures one { (c : Content) (k : ℕ) (n : Name) (i : Image) → image_of c n ≡ Some i → i.parent ≡ None → chain_length c (suc k) n ≡ 1 }
+    ensures more { (c : Content) (k : ℕ) (n p : Name) (i : Image) → image_of c n ≡ Some i → i.parent ≡ Some p → chain_length c (suc k) n ≡ suc (chain_length c k p) }
+    ensures missing { (c : Content) (k : ℕ) (n p : Name) (i : Image) → image_of c n ≡ Some i → i.parent ≡ Some p → image_of c p ≡ None → chain_length c (suc k) n ≡ 1 }
     ensures top { (c : Content) (k : ℕ) (n : Name) → parent_of c n ≡ None → depth c (suc k) n ≡ 1 }
     ensures up { (c : Content) (k : ℕ) (n p : Name) → parent_of c n ≡ Some p → depth c (suc k) n ≡ suc (depth c k p) }
 {}

@@ -70,7 +70,7 @@ pub fn opened(alloc: Global, disk: MemDisk) -> Result<Group<MemDisk>, Fail>
 {
     match Group::open(alloc, disk) {
         Ok(group) => Ok(group),
-        Err((fault, _disk)) => Err(Fail::from(fault)),
+        Err((_fault, _disk)) => Err(Fail::from("a group")),
     }
 }
 

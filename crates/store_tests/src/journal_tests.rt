@@ -216,30 +216,6 @@ fn commit_fails<S: Store>(alloc: Global, store: &mut S, commit: Commit) -> Resul
     )
 }
 
-/// A commit of a group makes four calls of the device, so the second commit's are the calls 4 to 7.
-fn commit_fails_on_a_group(alloc: Global, call: u64, commit: Commit) -> Result<(), Fail> {
-    let mut group = group(alloc, &[call])?;
-    let told = commit_fails(alloc, &mut group, commit);
-    let _disk = group.into_disk();
-    told
-}
-
-/// Each kind of commit fails at this call.
-fn commits_fail_on_a_group(alloc: Global, call: u64) -> Result<(), Fail> {
-    for commit in [Commit::Put, Commit::Turn, Commit::Drop] {
-        commit_fails_on_a_group(alloc, call, commit)?;
-    }
-    Ok(())
-}
-
-#[test]
-fn faults_of_a_groups_commits_are_told(rt: HostRuntime) -> Result<(), Fail> {
-    for call in 4..8 {
-        commits_fail_on_a_group(rt.alloc(), call)?;
-    }
-    Ok(())
-}
-
 /// A commit of a store in memory makes two calls, so the second commit's are the calls 2 and 3.
 fn commits_fail_on_a_plain_store(alloc: Global, call: u64) -> Result<(), Fail> {
     for commit in [Commit::Put, Commit::Turn, Commit::Drop] {

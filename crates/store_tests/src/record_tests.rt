@@ -72,6 +72,14 @@ fn load<S: Store>(alloc: Global, store: &mut S) -> Result<Result<Mgt, OpenFault>
     Ok(Mgt::load(alloc, store))
 }
 
+/// The records, which are sound.
+fn loaded<S: Store>(alloc: Global, store: &mut S) -> Result<Mgt, Fail> {
+    match load(alloc, store)? {
+        Ok(mgt) => Ok(mgt),
+        Err(_) => Err(Fail::from("sound records")),
+    }
+}
+
 /// Writes the record of a disk.
 fn put<S: Store>(
     store: &mut S,
@@ -186,7 +194,7 @@ fn are_freed<S: Store>(store: &mut S, mgt: &mut Mgt) -> Result<(), Fail> {
 
 /// What was written is read.
 fn are_read<S: Store>(alloc: Global, store: &mut S) -> Result<(), Fail> {
-    let again = load(alloc, store)??;
+    let again = loaded(alloc, store)?;
     holds(is_at(&again, 0, FIRST, b"again"), "the first place is read")?;
     holds(is_at(&again, 2, THIRD, b"c"), "the third place is read")?;
     holds(taken(&again) == 2, "no other place is read")
@@ -194,7 +202,7 @@ fn are_read<S: Store>(alloc: Global, store: &mut S) -> Result<(), Fail> {
 
 /// Records are put, freed and read.
 fn records_keep<S: Store>(alloc: Global, store: &mut S) -> Result<(), Fail> {
-    let mut mgt = load(alloc, store)??;
+    let mut mgt = loaded(alloc, store)?;
     holds(taken(&mgt) == 0, "no record")?;
     are_put(store, &mut mgt)?;
     are_freed(store, &mut mgt)?;
@@ -221,7 +229,7 @@ fn records_keep_over_a_plain_store(rt: HostRuntime) -> Result<(), Fail> {
 fn twins_are_cleared<S: Store>(alloc: Global, store: &mut S) -> Result<(), Fail> {
     write(store, 2, &first_sector())?;
     write(store, 511, &first_sector())?;
-    let mut mgt = load(alloc, store)??;
+    let mut mgt = loaded(alloc, store)?;
     holds(mgt.count(&uuid(FIRST)) == 2, "two records of one disk")?;
     holds(is_at(&mgt, 2, FIRST, b"disk"), "the least place")?;
     holds(is_at(&mgt, 511, FIRST, b"disk"), "the last place")?;
@@ -229,20 +237,6 @@ fn twins_are_cleared<S: Store>(alloc: Global, store: &mut S) -> Result<(), Fail>
     holds(taken(&mgt) == 0, "both are cleared")?;
     holds(read(store, 2)? == [0; 512], "the least sector is zeros")?;
     holds(read(store, 511)? == [0; 512], "the last sector is zeros")
-}
-
-#[test]
-fn twins_are_cleared_on_a_group(rt: HostRuntime) -> Result<(), Fail> {
-    let mut group = group(rt.alloc(), &[])?;
-    let cleared = twins_are_cleared(rt.alloc(), &mut group);
-    let _disk = group.into_disk();
-    cleared
-}
-
-#[test]
-fn twins_are_cleared_on_a_plain_store(rt: HostRuntime) -> Result<(), Fail> {
-    let mut store = plain(rt.alloc(), &[])?;
-    twins_are_cleared(rt.alloc(), &mut store)
 }
 
 /// Whether the records are damaged first in this place.
@@ -274,16 +268,9 @@ fn damage_is_told<S: Store>(alloc: Global, store: &mut S) -> Result<(), Fail> {
 }
 
 #[test]
-fn damage_is_told_of_a_group(rt: HostRuntime) -> Result<(), Fail> {
-    let mut group = group(rt.alloc(), &[])?;
-    let told = damage_is_told(rt.alloc(), &mut group);
-    let _disk = group.into_disk();
-    told
-}
-
-#[test]
-fn damage_is_told_of_a_plain_store(rt: HostRuntime) -> Result<(), Fail> {
+fn twins_and_damage_are_told_of_a_plain_store(rt: HostRuntime) -> Result<(), Fail> {
     let mut store = plain(rt.alloc(), &[])?;
+    twins_are_cleared(rt.alloc(), &mut store)?;
     damage_is_told(rt.alloc(), &mut store)
 }
 
@@ -294,7 +281,7 @@ const FAULTS: [u64; 5] = [0, 2, 4, 5, 7];
 fn faults_are_told<S: Store>(alloc: Global, store: &mut S) -> Result<(), Fail> {
     let refused = load(alloc, store)?;
     holds(matches!(refused, Err(OpenFault::Device)), "a load")?;
-    let mut mgt = load(alloc, store)??;
+    let mut mgt = loaded(alloc, store)?;
     holds(put(store, &mut mgt, FIRST, b"a")? == Err(Failed), "a put")?;
     holds(taken(&mgt) == 0, "nothing was put")?;
     put(store, &mut mgt, FIRST, b"a")??;
@@ -310,14 +297,6 @@ fn faults_are_told<S: Store>(alloc: Global, store: &mut S) -> Result<(), Fail> {
     holds(is_at(&mgt, 1, SECOND, b"b"), "the disk is not cleared")?;
     clear(store, &mut mgt, SECOND)??;
     holds(taken(&mgt) == 1, "one record")
-}
-
-#[test]
-fn faults_are_told_of_a_group(rt: HostRuntime) -> Result<(), Fail> {
-    let mut group = group(rt.alloc(), &FAULTS)?;
-    let told = faults_are_told(rt.alloc(), &mut group);
-    let _disk = group.into_disk();
-    told
 }
 
 #[test]

@@ -14,6 +14,3 @@ mod marks;
 
 pub use faults::FitFault;
 pub use fits::{first_fit, free};
-
-#[cfg(test)]
-mod tests;

@@ -13,7 +13,7 @@ use sm_base::{OpenFault, Place};
 pub const TEXT_LIMIT: u32 = 524_288;
 
 /// Where the text of the table stands.
-#[derive(Clone, Copy, Debug, PartialEq, Eq)]
+#[derive(Clone, Copy, PartialEq, Eq)]
 pub struct TableHeader {
     /// The slot in which it stands, from its first byte on.
     pub slot: Slot,

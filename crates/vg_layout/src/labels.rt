@@ -14,7 +14,7 @@ use uuid::Uuid;
 const VERSION: u32 = 1;
 
 /// What a label says.
-#[derive(Clone, Copy, Debug, PartialEq, Eq)]
+#[derive(Clone, Copy, PartialEq, Eq)]
 pub struct GroupLabel {
     /// The sizes that the repository was formatted with.
     pub geometry: Geometry,

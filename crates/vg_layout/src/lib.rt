@@ -19,8 +19,6 @@ mod bytes;
 mod headers;
 mod labels;
 mod places;
-#[cfg(test)]
-mod tests;
 
 pub use bytes::sum_of;
 pub use headers::{TEXT_LIMIT, TableHeader};

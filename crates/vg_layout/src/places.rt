@@ -22,7 +22,7 @@ const MOST_EXTENTS: u64 = 65_536;
 const RECORD_SECTORS: u32 = 512;
 
 /// One of the two places of the table's text.
-#[derive(Clone, Copy, Debug, PartialEq, Eq)]
+#[derive(Clone, Copy, PartialEq, Eq)]
 pub enum Slot {
     Zero,
     One,

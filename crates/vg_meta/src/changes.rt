@@ -6,7 +6,7 @@ use sm_base::Name;
 use std::marker::Model;
 
 /// Extents, in order. A contract sees the list of their numbers.
-#[derive(Debug, Drop)]
+#[derive(Drop)]
 pub struct Extents {
     list: Vec<u32>,
 }
@@ -43,7 +43,7 @@ impl Extents {
 }
 
 /// The two marks of a volume.
-#[derive(Clone, Copy, Debug, PartialEq, Eq)]
+#[derive(Clone, Copy, PartialEq, Eq)]
 pub enum Tag {
     /// The volume is a base image that no disk is.
     Hidden,
@@ -52,7 +52,7 @@ pub enum Tag {
 }
 
 /// A change of a table: what one commit does.
-#[derive(Debug, Drop)]
+#[derive(Drop)]
 pub enum Change {
     /// One volume more, not hidden.
     Create {

@@ -74,7 +74,7 @@ fn marks_at(bytes: &[u8]) -> Option<(bool, bool, &[u8])>
 }
 
 /// Why a part was not read.
-#[derive(Clone, Copy, Debug, PartialEq, Eq)]
+#[derive(Clone, Copy, PartialEq, Eq)]
 pub enum Unread {
     /// It does not stand there.
     Damaged,

@@ -10,7 +10,7 @@ use std::marker::Model;
 
 /// A volume as it is to be written: its extents stand in two slices, one behind the other. A contract sees the
 /// volume.
-#[derive(Debug, Drop)]
+#[derive(Drop)]
 pub struct Entry<'a> {
     name: Name,
     hidden: bool,

@@ -36,6 +36,3 @@ pub use changes::{Change, Extents, Tag};
 pub use faults::DecodeFault;
 pub use tables::Table;
 pub use volumes::Volume;
-
-#[cfg(test)]
-mod tests;

@@ -75,7 +75,7 @@ fn next_volume<'a>(
 }
 
 /// Why volumes were not read.
-#[derive(Clone, Copy, Debug, PartialEq, Eq)]
+#[derive(Clone, Copy, PartialEq, Eq)]
 pub enum Stopped {
     /// So many bytes before the end no volume stands that goes on with those in front of it.
     Damaged { left: usize },

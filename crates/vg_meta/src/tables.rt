@@ -28,7 +28,7 @@ pub const LAST_SEQUENCE: u64 = (1 << 48) - 1;
 
 /// The table: its sequence number, and the volumes in order of name. A contract sees both, and how many rows
 /// may be added without memory.
-#[derive(Debug, Drop)]
+#[derive(Drop)]
 pub struct Table {
     seq: u64,
     volumes: Vec<Volume>,

@@ -10,7 +10,7 @@ use std::marker::Model;
 
 /// A volume: its name, its marks and its extents, in order. `fresh` marks a volume that was made and is not
 /// yet filled. A contract sees these four, and how many extents may be added without memory.
-#[derive(Debug, Drop)]
+#[derive(Drop)]
 pub struct Volume {
     name: Name,
     hidden: bool,

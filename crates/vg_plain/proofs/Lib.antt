@@ -1,4 +1,3 @@
 pub mod SectorWrites
-pub mod SpotLaws
 pub mod StoreLaws
 pub mod TextLaws

@@ -10,10 +10,10 @@ use Rattle.sm_disk.specs.Failing.{Orders, HasPassed, fails}
 use Rattle.sm_disk.proofs.SectorLaws.{sector-one, sector-take, sector-drop, sector-append_left}
 use Rattle.sm_disk.proofs.FrontLaws.{WroteFront, WroteFront-none, WroteFront-more, torn_from_front, GaveFront}
 use Rattle.sm_disk.proofs.HeldLaws.{reads-same, SameHeld-none}
-use Rattle.vg_volumes.specs.Volumes.{spot, span, volume, SameElsewhere}
+use Rattle.vg_volumes.specs.Volumes.{spot, span, volume, SameElsewhere, AreIn}
 use Rattle.vg_plain.specs.Plain.{IsQuiet}
-use Rattle.vg_plain.specs.Spots.{AreIn}
-use Rattle.vg_plain.proofs.SpotLaws.{spot_once, volume_pending, volume_reads, past_pending, volume_floor_same}
+use Rattle.vg_volumes.proofs.SpotLaws.{spot_once}
+use Rattle.vg_volumes.proofs.VolumeLaws.{SameElsewhere-then, volume_pending, volume_reads, past_pending, volume_floor_same}
 
 -- a sector of a volume stands in this place
 pub record IsSpot (size x : ℕ) (es : List ℕ) (p place : ℕ) : Type 0 where
@@ -101,9 +101,6 @@ spot_elsewhere {size} {x} {es} {p} {place} {part} {a} {b} s long w = record {
       let same : spot x es p ≡ q = omega (arith, there.0, there.1, long, s.at) in
       away p s.in_span same);
 }
-
-SameElsewhere-then : {x : ℕ} {es : List ℕ} {a b c : Held} → SameElsewhere x es a b → SameElsewhere x es b c → SameElsewhere x es a c
-SameElsewhere-then s t = record { floor = λ p away. t.floor p away ∙ s.floor p away; pending = λ p away. t.pending p away ∙ s.pending p away }
 
 SameElsewhere-same : {x : ℕ} {es : List ℕ} {a b : Held} → SameHeld a b → SameElsewhere x es a b
 SameElsewhere-same s = record { floor = λ p _. s.floor p; pending = λ p _. s.pending p }

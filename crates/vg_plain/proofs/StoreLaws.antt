@@ -1,16 +1,13 @@
 -- What the calls of the store ask and promise.
-use Rattle.std.proofs.Common.{◌≡◌, ℕ, ◌+◌, ◌*◌, ◌<◌, ◌≤◌, Bool, true, false, cond, ◌⊎◌, inl, inr, List, [], length, Some, refl, sym, ap, ap₂, subst, ◌∙◌, arith}
-use Rattle.std.specs.Prelude.{slice_index, slice_get, is_some, ◌&&◌}
-use Rattle.std.proofs.lemmas.Bool.{cases_Bool}
+use Rattle.std.proofs.Common.{◌≡◌, ℕ, ◌+◌, ◌*◌, ◌<◌, ◌≤◌, ◌⊎◌, inl, inr, List, [], length, Some, refl, sym, ap, ap₂, subst, ◌∙◌, arith}
+use Rattle.std.specs.Prelude.{slice_index, slice_get}
 use Rattle.std.proofs.lemmas.Option.{slice_get-get_or}
 use Rattle.std.proofs.Math.Nat.{mul-le-mul_right}
 use Rattle.sm_base.specs.declared.names.Name.{Name}
-use Rattle.vg_meta.specs.Tables.{Row, Listing, IsTable, new_table, IsSpread, rows, extents_of, name_eq}
-use Rattle.vg_meta.specs.Kept.{HeldRow, Kept, listing, places, IsHeld}
-use Rattle.vg_meta.specs.declared.changes.Change.TheVariants.{Grow}
+use Rattle.vg_meta.specs.Tables.{Row, Listing, IsTable, new_table, IsSpread, rows, extents_of}
+use Rattle.vg_meta.specs.Kept.{Kept, listing}
 use Rattle.vg_meta.proofs.ByName.{spread}
-use Rattle.vg_meta.proofs.NameLaws.{name_eq-true}
-use Rattle.vg_volumes.specs.Sites.{Site, MakesRoom, area_size}
+use Rattle.vg_volumes.specs.Sites.{Site, area_size}
 use Rattle.vg_volumes.specs.Commits.{IsEither}
 use Rattle.vg_meta.specs.declared.changes.Change.{Change}
 use Rattle.vg_meta.specs.Changes.{applied}
@@ -26,7 +23,7 @@ use Rattle.sm_disk.specs.Memory.{Memory, held_by, new_memory, slot_at}
 use Rattle.vg_meta.proofs.RangeLaws.{IsTable-new}
 use Rattle.vg_plain.specs.declared.plain.Course.TheVariants.{Sound, Undecided}
 use Rattle.vg_plain.specs.Plain.{Plain, IsNew, IsKept, IsQuiet, Leaves, MayMake, area_of}
-use Rattle.vg_plain.specs.Spots.{AreIn}
+use Rattle.vg_volumes.specs.Volumes.{AreIn}
 
 -- the extents of a volume of a table stand in an area that has all extents
 pub extents_in_area : (size count x : ℕ) (t : Listing) (n : Name) (r : Row) (es : List ℕ) → IsTable count t → size ≡ count * x
@@ -49,26 +46,6 @@ extents_in_area size count x t n r es table fits there is = subst (AreIn size x)
     within i low =
         let most : slice_index own i + 1 ≤ count = omega arith in
         omega (arith, fits, mul-le-mul_right x most)
-
--- room for a Grow
-pub grow_room : (old new : Kept) (name : Name) (es : List ℕ) (v : HeldRow) (room : ℕ) → IsHeld old.rows name v → room ≡ v.spare + length es
-    → new.spare ≡ old.spare → ((n : Name) → places old n ≤ places new n) → room ≤ places new name → MakesRoom (Grow name es) old new
-grow_room old new name es v room is sum same kept made = record {
-  spare_rows = omega (arith, same);
-  spare_extents = λ n. by n (cases_Bool (name_eq n name));
-}
-  where
-    most : (b : Bool) → cond b (length es) 0 + places old name ≤ places new name
-    most true = omega (arith, made, sum, is.spare)
-    most false = omega (arith, kept name)
-
-    by : (n : Name) → (name_eq n name ≡ true) ⊎ (name_eq n name ≡ false) → cond (name_eq n name && is_some (rows (listing old) name)) (length es) 0 + places old n ≤ places new n
-    by n (inl named) =
-        let P : Name → Type 0 = λ m. cond (name_eq m name && is_some (rows (listing old) name)) (length es) 0 + places old m ≤ places new m in
-        subst P (sym (name_eq-true n name named)) (most (name_eq name name && is_some (rows (listing old) name)))
-    by n (inr other) =
-        let Q : Bool → Type 0 = λ b. cond (b && is_some (rows (listing old) name)) (length es) 0 + places old n ≤ places new n in
-        subst Q (sym other) (omega (arith, kept n))
 
 -- ---- a new store
 

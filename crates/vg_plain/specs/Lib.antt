@@ -1,4 +1,3 @@
 pub mod Accepting
 pub mod Laws
 pub mod Plain
-pub mod Spots

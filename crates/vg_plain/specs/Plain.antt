@@ -1,5 +1,5 @@
 -- What a store of volumes in memory stands for (this project's fake of a store).
-use Rattle.std.specs.Prelude.{◌≡◌, ℕ, ◌+◌, ◌*◌, ◌≤◌, Bool, true, false, ◌⊎◌, List}
+use Rattle.std.specs.Prelude.{◌≡◌, ℕ, ◌+◌, ◌*◌, ◌≤◌, Bool, true, false, ◌⊎◌, List, []}
 use Rattle.sm_base.specs.declared.sizes.Geometry.{Geometry}
 use Rattle.sm_disk.specs.Sectors.{zeros}
 use Rattle.sm_disk.specs.Held.{Held, Allows, IsSettled}
@@ -32,6 +32,10 @@ pub record Plain : Type 0 where
 -- the sectors of all extents
 abbrev pub area_of : Plain → Held
 area_of s = held_by s.slots
+
+-- what is held of places that are no part of the store: it shares its memory with nothing
+abbrev pub beside_none : Held
+beside_none = record { floor = λ p. []; pending = λ p. [] }
 
 -- a commit has failed
 abbrev pub has_failed : Course → Bool

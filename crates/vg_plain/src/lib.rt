@@ -24,8 +24,6 @@ mod accepting;
 mod plain;
 mod sectors;
 mod stores;
-#[cfg(test)]
-mod tests;
 
 pub use plain::PlainStore;
 pub use vg_volumes::Store;

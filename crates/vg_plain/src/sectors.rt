@@ -3,9 +3,8 @@
 ghost use Rattle.std.specs.Prelude.{◌≡◌, ◌≤◌, ◌<◌, ◌+◌, ◌-◌, ◌^◌, is_err, length, OnOk, OnErr};
 ghost use Rattle.sm_disk.specs.Held.{IsWhole, SameHeld, Gave, Torn, Wrote, Rose};
 ghost use Rattle.sm_disk.specs.Memory.{held_by};
-ghost use Rattle.vg_volumes.specs.Volumes.{spot, span, volume, SameElsewhere};
+ghost use Rattle.vg_volumes.specs.Volumes.{spot, span, volume, SameElsewhere, AreIn};
 ghost use Rattle.vg_plain.specs.Plain.{IsQuiet};
-ghost use Rattle.vg_plain.specs.Spots.{AreIn};
 
 use sm_base::Failed;
 use sm_disk::{Disk, MemDisk};

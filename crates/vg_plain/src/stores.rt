@@ -9,7 +9,7 @@ ghost use Rattle.vg_meta.specs.Changes.{Allows, HasRoom, applied};
 ghost use Rattle.vg_volumes.specs.Commits.{IsEither};
 ghost use Rattle.vg_volumes.specs.Sites.{area_size, size_of, volume_of, Fits, NoLessRoom, RoomAfter};
 ghost use Rattle.vg_volumes.specs.Volumes.{SameElsewhere};
-ghost use Rattle.vg_plain.specs.Plain.{Leaves, HavePassed, IsStopped, area_of, has_failed};
+ghost use Rattle.vg_plain.specs.Plain.{Leaves, HavePassed, IsStopped, area_of, beside_none, has_failed};
 
 use crate::plain::{Course, PlainStore};
 use crate::sectors::{read_sectors, write_sectors};
@@ -29,6 +29,10 @@ impl Store for PlainStore {
     ghost kept = { λ s. s.table };
 
     ghost area = { area_of };
+
+    ghost device = { area_of };
+
+    ghost beside = { λ s. beside_none };
 
     ghost failed = { λ s. has_failed s.course };
 
@@ -53,17 +57,14 @@ impl Store for PlainStore {
         self.identity
     }
 
-    fn room(&mut self, change: &Change) -> Result<(), NoMemory> {
+    fn reserve_for(&mut self, change: &Change) -> Result<(), NoMemory> {
         match change {
-            Change::Create { .. } => self.rooms(1),
+            Change::Create { .. } => self.reserve_rows(1),
             Change::Grow { name, extents } => {
-                let Some(volume) = self.table.get(name) else {
+                if self.table.get(name).is_none() {
                     return Ok(());
-                };
-                let Some(room) = volume.spare().checked_add(extents.as_slice().len()) else {
-                    return Err(NoMemory);
-                };
-                self.table.reserve_extents(name, room)
+                }
+                self.table.reserve_extents(name, extents.as_slice().len())
             }
             Change::Remove { .. }
             | Change::Rename { .. }
@@ -72,11 +73,8 @@ impl Store for PlainStore {
         }
     }
 
-    fn rooms(&mut self, rows: usize) -> Result<(), NoMemory> {
-        let Some(room) = self.table.spare().checked_add(rows) else {
-            return Err(NoMemory);
-        };
-        self.table.reserve(room)
+    fn reserve_rows(&mut self, rows: usize) -> Result<(), NoMemory> {
+        self.table.reserve(rows)
     }
 
     fn commit(&mut self, change: Change) -> Result<(), Failed>
@@ -90,6 +88,7 @@ impl Store for PlainStore {
         ensures changed { OnOk result ((listing self.new.table ≡ applied (listing self.old.table) change) × (has_failed self.new.course ≡ false)) }
         ensures unchanged { OnErr result ((listing self.new.table ≡ listing self.old.table) × (has_failed self.new.course ≡ true)) }
         ensures room_after { OnOk result (RoomAfter change self.old.table self.new.table) }
+        ensures beside { Keeps beside_none beside_none }
         ensures keeps { Keeps (area_of self.old) (area_of self.new) }
         ensures settled { OnOk result (IsSettled (area_of self.new)) }
         ensures crash { (t : Listing) (image : ℕ → List ℕ) → Leaves self.new t image
@@ -117,6 +116,8 @@ impl Store for PlainStore {
         ensures no_less { NoLessRoom self.old.table self.new.table }
         ensures counts { self.old.faults ≤ self.new.faults }
         ensures cause { OnErr result (Rose self.old.faults self.new.faults) }
+        ensures device { Keeps (area_of self.old) (area_of self.new) }
+        ensures beside { Keeps beside_none beside_none }
         ensures same { SameHeld (area_of self.old) (area_of self.new) }
         ensures leaves { (t : Listing) (image : ℕ → List ℕ) → Leaves self.new t image → Leaves self.old t image }
         ensures gave { OnOk result (Gave at (volume_of self.old.site (listing self.old.table) (area_of self.old) volume.now) to.new) }
@@ -140,6 +141,7 @@ impl Store for PlainStore {
         ensures no_less { NoLessRoom self.old.table self.new.table }
         ensures counts { self.old.faults ≤ self.new.faults }
         ensures cause { OnErr result (Rose self.old.faults self.new.faults) }
+        ensures beside { Keeps beside_none beside_none }
         ensures torn { Torn at from.now
             (volume_of self.old.site (listing self.old.table) (area_of self.old) volume.now)
             (volume_of self.old.site (listing self.old.table) (area_of self.new) volume.now) }
@@ -170,6 +172,8 @@ impl Store for PlainStore {
         ensures no_less { NoLessRoom self.old.table self.new.table }
         ensures counts { self.old.faults ≤ self.new.faults }
         ensures cause { OnErr result (Rose self.old.faults self.new.faults) }
+        ensures device { Keeps (area_of self.old) (area_of self.new) }
+        ensures beside { Keeps beside_none beside_none }
         ensures keeps { Keeps (area_of self.old) (area_of self.new) }
         ensures leaves { (t : Listing) (image : ℕ → List ℕ) → Leaves self.new t image → Leaves self.old t image }
         ensures settled { OnOk result (IsSettled (area_of self.new)) }

@@ -1,3 +1,4 @@
+pub mod BesideLaws
 pub mod CommitLaws
 pub mod CommittedLaws
 pub mod FormatLaws

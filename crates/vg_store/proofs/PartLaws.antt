@@ -9,6 +9,7 @@ use Rattle.sm_disk.proofs.SectorLaws.{sector-part, sector-take, sector-drop, sec
 use Rattle.sm_disk.proofs.FrontLaws.{WroteFront, WroteFront-none, GaveFront}
 use Rattle.sm_disk.proofs.HeldLaws.{reads-same}
 use Rattle.vg_volumes.specs.Volumes.{volume, SameElsewhere}
+use Rattle.vg_volumes.proofs.VolumeLaws.{SameElsewhere-then}
 use Rattle.vg_store.specs.Groups.{area_of}
 use Rattle.vg_store.specs.Runs.{SameInFront}
 use Rattle.vg_store.proofs.RunLaws.{IsPart, run_torn, run_wrote, run_gave, run_elsewhere, run_front}
@@ -76,9 +77,6 @@ piece_torn {at} {bytes} {part} {n} {m} {old} {mid} {new} s front torn = record {
           (from, omega (arith, here.1, piece_long s, s.within)),
           piece_added at n m p bytes part (old.pending p) (mid.pending p) (new.pending p) s past (omega (arith, here.1, piece_long s)) (front.above p past) more,
         )
-
-SameElsewhere-then : {x : ℕ} {es : List ℕ} {a b c : Held} → SameElsewhere x es a b → SameElsewhere x es b c → SameElsewhere x es a c
-SameElsewhere-then s t = record { floor = λ p away. t.floor p away ∙ s.floor p away; pending = λ p away. t.pending p away ∙ s.pending p away }
 
 SameInFront-then : {a b c : Held} → SameInFront a b → SameInFront b c → SameInFront a c
 SameInFront-then s t = record { floor = λ p low. t.floor p low ∙ s.floor p low; pending = λ p low. t.pending p low ∙ s.pending p low }

@@ -1,37 +1,17 @@
 -- Where the sectors of a volume stand on the device, and what a call for one run of them is to the volume.
-use Rattle.std.proofs.Common.{◌≡◌, ℕ, zero, suc, ◌+◌, ◌-◌, ◌*◌, ◌/◌, ◌%◌, ◌<◌, ◌≤◌, min, cond, ◌⊎◌, inl, inr, List, [], ◌∷◌, ◌++◌, length, sym, ap, ap₂, subst, ◌∙◌, arith}
+use Rattle.std.proofs.Common.{◌≡◌, ℕ, ◌+◌, ◌-◌, ◌*◌, ◌/◌, ◌%◌, ◌<◌, ◌≤◌, min, ◌⊎◌, inl, inr, List, [], ◌∷◌, ◌++◌, length, sym, ap, ap₂, subst, ◌∙◌, arith}
 use Rattle.std.specs.Prelude.{slice_index}
-use Rattle.std.proofs.lemmas.Bool.{lt-ltb, le-ltb, cases_lt}
-use Rattle.std.proofs.lemmas.Nat.{same_from_place, mod_below, div_below, div-add-mod'}
-use Rattle.std.proofs.Math.Nat.{div-lt_iff_lt-mul, mul-le-mul_right, mul-add-div_right, mul-add-mod_self_right}
+use Rattle.std.proofs.lemmas.Bool.{cases_lt}
+use Rattle.std.proofs.lemmas.Nat.{mod_below, div_below, div-add-mod'}
+use Rattle.std.proofs.Math.Nat.{mul-le-mul_right}
 use Rattle.sm_disk.specs.Sectors.{sector}
-use Rattle.sm_disk.specs.Held.{Held, IsIn, IsWhole, Torn, Wrote, Gave, newest, reads}
+use Rattle.sm_disk.specs.Held.{Held, IsIn, IsWhole, Torn, Wrote, Gave}
 use Rattle.vg_layout.specs.Places.{area_place}
-use Rattle.vg_volumes.specs.Volumes.{spot, span, volume, SameElsewhere}
+use Rattle.vg_volumes.specs.Volumes.{AreIn, spot, span, volume, SameElsewhere}
+use Rattle.vg_volumes.proofs.SpotLaws.{ahead_div, ahead_mod, extent_some, spot_below, spot_once}
+use Rattle.vg_volumes.proofs.VolumeLaws.{past_pending, volume_floor_same, volume_pending, volume_reads}
 use Rattle.vg_store.specs.Groups.{area_of}
 use Rattle.vg_store.specs.Runs.{AreAdjacent, AreOn, IsRun, SameInFront}
-
--- ---- numbers
-
-ahead_split : (a d x : ℕ) → a / x * x + (a % x + d) ≡ a + d
-ahead_split a d x = omega (arith, div-add-mod' a x)
-
-pub ahead_div : (a d x : ℕ) → 0 < x → a / x + (a % x + d) / x ≡ (a + d) / x
-ahead_div a d x some = sym (mul-add-div_right some (a / x) (a % x + d)) ∙ ap (λ n. n / x) (ahead_split a d x)
-
-pub ahead_mod : (a d x : ℕ) → (a % x + d) % x ≡ (a + d) % x
-ahead_mod a d x = sym (mul-add-mod_self_right (a / x) x (a % x + d)) ∙ ap (λ n. n % x) (ahead_split a d x)
-
--- a volume that has a sector has extents with sectors
-pub extent_some : (p many x : ℕ) → p < many * x → 0 < x
-extent_some p many zero h = absurd (omega arith)
-extent_some p many (suc x) h = omega arith
-
--- ---- places
-
--- the extent of a sector is one of the volume's
-pub in_extents : (x : ℕ) (es : List ℕ) (p : ℕ) → p < span x es → p / x < length es
-in_extents x es p below = (div-lt_iff_lt-mul (extent_some p (length es) x below)).1 below
 
 -- to the end of the extents that stand one after the other, one sector stands behind the other
 pub spot_next : (x : ℕ) (es : List ℕ) (p k many : ℕ) → AreAdjacent es (p / x) many → p % x + k < many * x → spot x es (p + k) ≡ spot x es p + k
@@ -45,22 +25,13 @@ spot_next x es p k many beside low =
     let sum : (slice_index es (p / x) + i) * x + (p % x + k) % x ≡ slice_index es (p / x) * x + p % x + k = omega (arith, div-add-mod' (p % x + k) x) in
     ap₂ (λ j r. slice_index es j * x + r) index offset ∙ ap (λ e. e * x + (p % x + k) % x) along ∙ sum
 
--- no two sectors of a volume stand in one place
-pub spot_once : (size x : ℕ) (es : List ℕ) (p q : ℕ) → AreOn size x es → p < span x es → q < span x es → spot x es p ≡ spot x es q → p ≡ q
-unfolding spot
-spot_once size x es p q on p_in q_in same =
-    let some = extent_some p (length es) x p_in in
-    let two = same_from_place (slice_index es (p / x)) (p % x) (slice_index es (q / x)) (q % x) x (mod_below p x some) (mod_below q x some) same in
-    let index : p / x ≡ q / x = on.once (p / x) (q / x) (in_extents x es p p_in) (in_extents x es q q_in) two.0 in
-    sym (div-add-mod' p x) ∙ ap₂ (λ i r. i * x + r) index two.1 ∙ div-add-mod' q x
+-- extents that are whole on a device are whole behind its front
+on_area : {size x : ℕ} {es : List ℕ} → AreOn size x es → AreIn (size - area_place) x es
+on_area on = record { within = λ i below. let most = on.within i below in omega (arith, most); once = on.once }
 
--- each stands on the device
-pub spot_below : (size x : ℕ) (es : List ℕ) (p : ℕ) → AreOn size x es → p < span x es → area_place + spot x es p < size
-unfolding spot
-spot_below size x es p on p_in =
-    let low = mod_below p x (extent_some p (length es) x p_in) in
-    let most = on.within (p / x) (in_extents x es p p_in) in
-    omega (arith, low, most)
+-- each sector of a volume stands on the device
+pub spot_on : (size x : ℕ) (es : List ℕ) (p : ℕ) → AreOn size x es → p < span x es → area_place + spot x es p < size
+spot_on size x es p on p_in = let below = spot_below p (on_area on) p_in in omega (arith, below)
 
 pub run_from : (x : ℕ) (es : List ℕ) (at done left place n many : ℕ) → 0 < left → at + (done + left) ≤ span x es
     → 0 < many → AreAdjacent es (at / x + (at % x + done) / x) many
@@ -82,35 +53,6 @@ run_from x es at done left place n many some within more beside begins long =
       together = λ k below. spot_next x es (at + done) k many (subst (λ i. AreAdjacent es i many) index beside) (omega (arith, most));
     }
 
--- ---- what a volume holds, at a place and past its end
-
-volume_floor : (x : ℕ) (es : List ℕ) (a : Held) (p : ℕ) → p < span x es → (volume x es a).floor p ≡ a.floor (spot x es p)
-unfolding volume
-volume_floor x es a p below = ap (λ b. cond b (a.floor (spot x es p)) []) (lt-ltb p (span x es) below)
-
-volume_pending : (x : ℕ) (es : List ℕ) (a : Held) (p : ℕ) → p < span x es → (volume x es a).pending p ≡ a.pending (spot x es p)
-unfolding volume
-volume_pending x es a p below = ap (λ b. cond b (a.pending (spot x es p)) []) (lt-ltb p (span x es) below)
-
-volume_reads : (x : ℕ) (es : List ℕ) (a : Held) (p : ℕ) → p < span x es → reads (volume x es a) p ≡ reads a (spot x es p)
-volume_reads x es a p below = ap₂ newest (volume_floor x es a p below) (volume_pending x es a p below)
-
-past_floor : (x : ℕ) (es : List ℕ) (a : Held) (p : ℕ) → span x es ≤ p → (volume x es a).floor p ≡ []
-unfolding volume
-past_floor x es a p past = ap (λ b. cond b (a.floor (spot x es p)) []) (le-ltb p (span x es) past)
-
-past_pending : (x : ℕ) (es : List ℕ) (a : Held) (p : ℕ) → span x es ≤ p → (volume x es a).pending p ≡ []
-unfolding volume
-past_pending x es a p past = ap (λ b. cond b (a.pending (spot x es p)) []) (le-ltb p (span x es) past)
-
--- where the area keeps its floor a volume does
-volume_floor_same : (x : ℕ) (es : List ℕ) (a b : Held) → ((p : ℕ) → b.floor p ≡ a.floor p) → (p : ℕ) → (volume x es b).floor p ≡ (volume x es a).floor p
-volume_floor_same x es a b same p = by (cases_lt p (span x es))
-  where
-    by : (p < span x es) ⊎ (span x es ≤ p) → (volume x es b).floor p ≡ (volume x es a).floor p
-    by (inl below) = volume_floor x es b p below ∙ same (spot x es p) ∙ sym (volume_floor x es a p below)
-    by (inr past) = past_floor x es b p past ∙ sym (past_floor x es a p past)
-
 -- ---- one run
 
 -- a run of a volume whose extents stand on the device
@@ -122,7 +64,7 @@ pub record IsPart (size x : ℕ) (es : List ℕ) (p place n : ℕ) : Type 0 wher
 pub part_whole : {size x : ℕ} {es : List ℕ} {p place n : ℕ} (len wide : ℕ) → IsPart size x es p place n → len ≡ 512 * n → wide ≡ size → IsWhole place len wide
 part_whole {size} {x} {es} {p} {place} {n} len wide s long same =
     let next = s.run.together (n - 1) (omega (arith, s.run.some)) in
-    let below = spot_below size x es (p + (n - 1)) s.on (omega (arith, s.run.some, s.run.within)) in
+    let below = spot_on size x es (p + (n - 1)) s.on (omega (arith, s.run.some, s.run.within)) in
     record {
       some = omega (arith, long, s.run.some);
       whole = omega (arith, long);
@@ -145,7 +87,7 @@ from_run {size} {x} {es} {p} {place} {n} s q below there =
     let k = spot x es q - spot x es p in
     let low : k < n = omega (arith, there.0, there.1, s.run.begins) in
     let sum : spot x es p + k ≡ spot x es q = omega (arith, there.0, s.run.begins) in
-    let same : p + k ≡ q = spot_once size x es (p + k) q s.on (omega (arith, low, s.run.within)) below (s.run.together k low ∙ sum) in
+    let same : p + k ≡ q = spot_once (p + k) q (on_area s.on) (omega (arith, low, s.run.within)) below (s.run.together k low ∙ sum) in
     (omega (arith, same), omega (arith, same, low))
 
 run_pending : (x : ℕ) (es : List ℕ) (a b : Held) (bytes : List ℕ) (q there back : ℕ) → q < span x es → there ≡ back

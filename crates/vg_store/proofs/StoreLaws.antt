@@ -1,19 +1,14 @@
 -- What the calls of a group ask and promise as a store of volumes.
-use Rattle.std.proofs.Common.{◌≡◌, ℕ, ◌+◌, ◌*◌, ◌<◌, ◌≤◌, Bool, true, false, cond, ◌⊎◌, inl, inr, List, length, Some, sym, ap, subst, ◌∙◌, arith}
-use Rattle.std.specs.Prelude.{slice_index, slice_get, is_some, ◌&&◌}
-use Rattle.std.proofs.lemmas.Bool.{cases_Bool}
+use Rattle.std.proofs.Common.{◌≡◌, ℕ, ◌+◌, ◌*◌, ◌<◌, ◌≤◌, List, length, Some, sym, ap, subst, ◌∙◌, arith}
+use Rattle.std.specs.Prelude.{slice_index, slice_get}
 use Rattle.std.proofs.lemmas.Option.{slice_get-get_or}
 use Rattle.std.proofs.Math.Nat.{mul-le-mul_right}
 use Rattle.sm_base.specs.declared.names.Name.{Name}
 use Rattle.sm_disk.specs.Held.{Held, HasSectors}
 use Rattle.sm_disk.proofs.WindowLaws.{HasSectors-moved}
-use Rattle.vg_meta.specs.Tables.{Row, Listing, IsTable, IsSpread, rows, extents_of, name_eq}
-use Rattle.vg_meta.specs.Kept.{HeldRow, Kept, listing, places, IsHeld}
-use Rattle.vg_meta.specs.declared.changes.Change.TheVariants.{Grow}
+use Rattle.vg_meta.specs.Tables.{Row, Listing, IsTable, IsSpread, rows, extents_of}
 use Rattle.vg_meta.proofs.ByName.{spread}
-use Rattle.vg_meta.proofs.NameLaws.{name_eq-true}
 use Rattle.vg_layout.specs.Places.{area_place}
-use Rattle.vg_volumes.specs.Sites.{MakesRoom}
 use Rattle.vg_store.specs.Groups.{area_of}
 use Rattle.vg_store.specs.Runs.{AreOn}
 
@@ -42,26 +37,3 @@ extents_on_device size count x t n r es table fits there is = subst (AreOn size 
 -- the extents hold sectors
 pub area_sectors : (size area : ℕ) (h : Held) → area_place + area ≤ size → HasSectors size h → HasSectors area (area_of h)
 area_sectors size area h fits s = HasSectors-moved (λ q. area_place + q) (λ q below. omega (arith, fits, below)) s
-
--- room for a Grow
-pub grow_room : (old new : Kept) (name : Name) (es : List ℕ) (v : HeldRow) (room : ℕ) → IsHeld old.rows name v → room ≡ v.spare + length es
-    → new.spare ≡ old.spare → ((n : Name) → places old n ≤ places new n) → room ≤ places new name → MakesRoom (Grow name es) old new
-grow_room old new name es v room is sum same kept made = record {
-  spare_rows = omega (arith, same);
-  spare_extents = λ n. by n (cases_Bool (name_eq n name));
-}
-  where
-    there : Bool
-    there = is_some (rows (listing old) name)
-
-    most : (b : Bool) → cond b (length es) 0 + places old name ≤ places new name
-    most true = omega (arith, made, sum, is.spare)
-    most false = omega (arith, kept name)
-
-    by : (n : Name) → (name_eq n name ≡ true) ⊎ (name_eq n name ≡ false) → cond (name_eq n name && is_some (rows (listing old) name)) (length es) 0 + places old n ≤ places new n
-    by n (inl named) =
-        let P : Name → Type 0 = λ m. cond (name_eq m name && is_some (rows (listing old) name)) (length es) 0 + places old m ≤ places new m in
-        subst P (sym (name_eq-true n name named)) (most (name_eq name name && is_some (rows (listing old) name)))
-    by n (inr other) =
-        let Q : Bool → Type 0 = λ b. cond (b && is_some (rows (listing old) name)) (length es) 0 + places old n ≤ places new n in
-        subst Q (sym other) (omega (arith, kept n))

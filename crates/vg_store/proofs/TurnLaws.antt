@@ -2,6 +2,7 @@
 use Rattle.std.proofs.Common.{◌≡◌, ℕ, ◌+◌, ◌*◌, ◌%◌, ◌<◌, ◌≤◌, arith}
 use Rattle.sm_base.specs.Numbers.{div_up}
 use Rattle.sm_disk.specs.Held.{IsWhole}
+use Rattle.vg_store.specs.Groups.{slots_end}
 use Rattle.vg_layout.specs.Places.{area_place, slot_place}
 use Rattle.vg_layout.specs.declared.places.Slot.{Slot}
 use Rattle.vg_layout.specs.declared.places.Slot.TheVariants.{Zero, One}
@@ -15,6 +16,14 @@ slot_most One = omega arith
 pub in_front : (s : Slot) (place len size : ℕ) → place ≡ slot_place (slot_number s) → len ≡ 512 * div_up size 512 → size ≤ 524288
     → 512 * place + len ≤ 512 * area_place
 in_front s place len size is long most =
+    let few = sectors_most size most in
+    let last = slot_most s in
+    omega (arith, is, long, few, last)
+
+-- the sectors of a text end within its slot
+pub in_slots : (s : Slot) (place len size : ℕ) → place ≡ slot_place (slot_number s) → len ≡ 512 * div_up size 512 → size ≤ 524288
+    → 512 * place + len ≤ 512 * slots_end
+in_slots s place len size is long most =
     let few = sectors_most size most in
     let last = slot_most s in
     omega (arith, is, long, few, last)

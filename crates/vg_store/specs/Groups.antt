@@ -1,10 +1,10 @@
 -- What stands on the device of an open volume group, and what a stop may leave of it (this project's format).
-use Rattle.std.specs.Prelude.{◌≡◌, ℕ, ◌+◌, ◌-◌, ◌*◌, ◌^◌, ◌<◌, ◌≤◌, ◌⊎◌, List, length, take, sum, Ok}
+use Rattle.std.specs.Prelude.{◌≡◌, ℕ, ◌+◌, ◌-◌, ◌*◌, ◌^◌, ◌<◌, ◌≤◌, ◌⊎◌, Bool, ◌&&◌, ◌||◌, nat_lt, nat_le, if◌then◌else◌, List, [], length, take, sum, Ok}
 use Rattle.sm_base.specs.Numbers.{div_up}
 use Rattle.sm_disk.specs.Held.{Held, May, Allows, moved}
 use Rattle.vg_meta.specs.Tables.{Listing}
 use Rattle.vg_meta.specs.Reading.{Spells}
-use Rattle.vg_layout.specs.Places.{area_place}
+use Rattle.vg_layout.specs.Places.{area_place, slot_place, slot_sectors}
 use Rattle.vg_layout.specs.Sectors.{Plate, Pointer}
 use Rattle.vg_layout.specs.Opening.{StandsOn, plate_of, pointer_of, text_in, text_limit}
 use Rattle.vg_volumes.specs.Commits.{IsEither}
@@ -12,6 +12,22 @@ use Rattle.vg_volumes.specs.Commits.{IsEither}
 -- the sectors of all extents: those of the device from the first extent on
 abbrev pub area_of : Held → Held
 area_of h = moved (λ q. area_place + q) h
+
+-- where the second slot of the table ends
+abbrev pub slots_end : ℕ
+slots_end = slot_place 1 + slot_sectors
+
+-- a place of the device that is no part of a group with so many sectors in its extents: behind the slots and in front of
+-- the extents, or behind the last extent
+abbrev pub is_beside : ℕ → ℕ → Bool
+is_beside area p = (nat_le slots_end p && nat_lt p area_place) || nat_le (area_place + area) p
+
+-- what is held of those places
+unfoldable pub beside_of : ℕ → Held → Held
+beside_of area h = record {
+  floor = λ p. if is_beside area p then h.floor p else [];
+  pending = λ p. if is_beside area p then h.pending p else [];
+}
 
 -- in front of the extents a stop leaves what stands there: this label, this header and this text
 pub record Rests (size : ℕ) (h : Held) (p : Plate) (at : Pointer) (bytes : List ℕ) : Type 0 where

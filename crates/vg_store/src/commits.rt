@@ -8,7 +8,7 @@ ghost use Rattle.vg_meta.specs.Changes.{Allows, HasRoom, applied};
 ghost use Rattle.vg_layout.specs.Fields.{plate, pointer};
 ghost use Rattle.vg_volumes.specs.Commits.{IsEither};
 ghost use Rattle.vg_volumes.specs.Sites.{Fits, RoomAfter};
-ghost use Rattle.vg_store.specs.Groups.{Leaves, area_of};
+ghost use Rattle.vg_store.specs.Groups.{Leaves, area_of, beside_of};
 ghost use Rattle.vg_store.specs.Heads.{IsHead};
 
 use crate::groups::Group;
@@ -53,6 +53,7 @@ impl<D: Disk> Group<D> {
         ensures unchanged { OnErr result ((listing self.new.table ≡ listing self.old.table) × (self.new.failed ≡ true)) }
         ensures room_after { OnOk result (RoomAfter change self.old.table self.new.table) }
         ensures keeps { D.told → Keeps (area_of (D.held self.old.disk)) (area_of (D.held self.new.disk)) }
+        ensures beside { D.told → (area : ℕ) → Keeps (beside_of area (D.held self.old.disk)) (beside_of area (D.held self.new.disk)) }
         ensures settled { OnOk result (D.told → IsSettled (area_of (D.held self.new.disk))) }
         ensures crash { D.told → (t : Listing) (image : ℕ → List ℕ)
             → Leaves (D.size self.new.disk) (D.held self.new.disk) (plate self.new.label) t image

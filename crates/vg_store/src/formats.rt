@@ -26,7 +26,7 @@ use vg_meta::Table;
 const RECORDS: usize = 512 * 512;
 
 /// What a format answers. Both numbers count extents.
-#[derive(Clone, Copy, Debug, Drop, PartialEq, Eq)]
+#[derive(Clone, Copy, Drop, PartialEq, Eq)]
 pub struct Formatted {
     /// All of them.
     pub extents: u32,

@@ -36,16 +36,10 @@
 
 mod commits;
 mod formats;
-#[cfg(test)]
-mod group_tests;
 mod groups;
 mod openings;
 mod stores;
-#[cfg(test)]
-mod tests;
 mod turns;
-#[cfg(test)]
-mod volume_tests;
 mod volumes;
 
 pub use formats::{FormatFault, Formatted, format};

@@ -12,7 +12,7 @@ impl<D: Disk> Store for Group<D> {
     ghost use Rattle.std.specs.Prelude.{ℕ, ◌*◌, List};
     ghost use Rattle.vg_meta.specs.Kept.{listing};
     ghost use Rattle.vg_layout.specs.Fields.{plate, pointer};
-    ghost use Rattle.vg_store.specs.Groups.{Leaves, area_of};
+    ghost use Rattle.vg_store.specs.Groups.{Leaves, area_of, beside_of};
     ghost use Rattle.vg_meta.specs.Text.{text};
     ghost use Rattle.vg_store.specs.Leaving.{leaves_one, leaves_reads};
 
@@ -23,6 +23,10 @@ impl<D: Disk> Store for Group<D> {
     ghost kept = { λ g. g.table };
 
     ghost area = { λ g. area_of (D.held g.disk) };
+
+    ghost device = { λ g. D.held g.disk };
+
+    ghost beside = { λ g. beside_of (g.label.extents * g.label.geometry.extent) (D.held g.disk) };
 
     ghost failed = { λ g. g.failed };
 
@@ -47,17 +51,14 @@ impl<D: Disk> Store for Group<D> {
         self.label.repository
     }
 
-    fn room(&mut self, change: &Change) -> Result<(), NoMemory> {
+    fn reserve_for(&mut self, change: &Change) -> Result<(), NoMemory> {
         match change {
-            Change::Create { .. } => self.rooms(1),
+            Change::Create { .. } => self.reserve_rows(1),
             Change::Grow { name, extents } => {
-                let Some(volume) = self.table.get(name) else {
+                if self.table.get(name).is_none() {
                     return Ok(());
-                };
-                let Some(room) = volume.spare().checked_add(extents.as_slice().len()) else {
-                    return Err(NoMemory);
-                };
-                self.table.reserve_extents(name, room)
+                }
+                self.table.reserve_extents(name, extents.as_slice().len())
             }
             Change::Remove { .. }
             | Change::Rename { .. }
@@ -66,11 +67,8 @@ impl<D: Disk> Store for Group<D> {
         }
     }
 
-    fn rooms(&mut self, rows: usize) -> Result<(), NoMemory> {
-        let Some(room) = self.table.spare().checked_add(rows) else {
-            return Err(NoMemory);
-        };
-        self.table.reserve(room)
+    fn reserve_rows(&mut self, rows: usize) -> Result<(), NoMemory> {
+        self.table.reserve(rows)
     }
 
     fn commit(&mut self, change: Change) -> Result<(), Failed> {

@@ -1,11 +1,11 @@
 //! A table takes effect by one sector, the header, which is written once the text of the table has lasted.
 
-ghost use Rattle.std.specs.Prelude.{◌≡◌, ◌≤◌, ◌<◌, ◌*◌, length, OnOk, OnErr};
+ghost use Rattle.std.specs.Prelude.{ℕ, ◌≡◌, ◌≤◌, ◌<◌, ◌*◌, length, OnOk, OnErr};
 ghost use Rattle.sm_base.specs.Numbers.{div_up};
 ghost use Rattle.sm_disk.specs.Held.{Keeps, IsSettled, Rose};
 ghost use Rattle.vg_layout.specs.Fields.{pointer};
 ghost use Rattle.vg_layout.specs.Places.{area_place};
-ghost use Rattle.vg_store.specs.Groups.{area_of, LeavesEither, StandsEither, IsTurned};
+ghost use Rattle.vg_store.specs.Groups.{area_of, beside_of, LeavesEither, StandsEither, IsTurned};
 
 use sm_base::Failed;
 use sm_disk::{Disk, put};
@@ -22,6 +22,7 @@ pub(crate) fn turn<D: Disk>(disk: &mut D, next: &TableHeader, text: &[u8]) -> Re
     ensures counts { D.faults disk.old ≤ D.faults disk.new }
     ensures cause { OnErr result (Rose (D.faults disk.old) (D.faults disk.new)) }
     ensures keeps { D.told → Keeps (area_of (D.held disk.old)) (area_of (D.held disk.new)) }
+    ensures beside { D.told → (area : ℕ) → Keeps (beside_of area (D.held disk.old)) (beside_of area (D.held disk.new)) }
     ensures settled { OnOk result (D.told → IsSettled (D.held disk.new)) }
     ensures crash { D.told → LeavesEither (D.size disk.old) (D.held disk.old) (D.held disk.new) (pointer next.now) text.now }
     ensures stands { D.told → StandsEither (D.size disk.old) (D.held disk.old) (D.held disk.new) (pointer next.now) text.now }

@@ -1,6 +1,6 @@
 -- A volume is its extents, one after another (this project's format). The extents of a group are one run of
 -- sectors, the area: extent i begins at its sector i * extent. Here a volume is read off the area.
-use Rattle.std.specs.Prelude.{◌≡◌, ◌≢◌, ℕ, ◌+◌, ◌*◌, ◌/◌, ◌%◌, ◌<◌, List, [], length, slice_index, nat_lt, if◌then◌else◌}
+use Rattle.std.specs.Prelude.{◌≡◌, ◌≢◌, ℕ, ◌+◌, ◌*◌, ◌/◌, ◌%◌, ◌<◌, ◌≤◌, List, [], length, slice_index, nat_lt, if◌then◌else◌}
 use Rattle.sm_disk.specs.Held.{Held}
 
 -- the place in the area of a volume's sector p
@@ -10,6 +10,11 @@ spot extent extents p = slice_index extents (p / extent) * extent + p % extent
 -- how many sectors a volume has
 abbrev pub span : ℕ → List ℕ → ℕ
 span extent extents = length extents * extent
+
+-- each extent is whole in an area of so many sectors, and none stands in two places
+pub record AreIn (size extent : ℕ) (extents : List ℕ) : Type 0 where
+  pub within : (i : ℕ) → i < length extents → (slice_index extents i + 1) * extent ≤ size
+  pub once : (i j : ℕ) → i < length extents → j < length extents → slice_index extents i ≡ slice_index extents j → i ≡ j
 
 -- what a volume holds, place by place; nothing at and past its end
 unfoldable pub volume : ℕ → List ℕ → Held → Held

@@ -9,6 +9,12 @@
 //! that failed may leave the earlier table with any such choice, or the changed table with what reads gave as
 //! it began; nothing in between. So layers above never speak of places on a device.
 //!
+//! A store stands on a device, and may share it with what is no part of it: no call changes a place `beside` the
+//! store, and a read and a sync change nothing of the whole `device`.
+//!
+//! Room for rows and extents is asked for before a change: at least so many are spare then. Asking again for what
+//! is spare takes no memory, so a run of any length takes no more than its largest table wants.
+//!
 //! A call fails only where the store's count of faults rose. `commit`, `read`, `write` and `sync` take no
 //! memory.
 #![tactic(auto)]

@@ -6,7 +6,7 @@ ghost use Rattle.vg_meta.specs.Tables.{Listing, IsTable, rows, extents_of};
 ghost use Rattle.vg_meta.specs.Kept.{Kept, listing, places};
 ghost use Rattle.vg_meta.specs.Changes.{Allows, HasRoom, applied};
 ghost use Rattle.vg_volumes.specs.Commits.{IsBefore, IsEither};
-ghost use Rattle.vg_volumes.specs.Sites.{Site, area_size, size_of, volume_of, Fits, MakesRoom, NoLessRoom, RoomAfter};
+ghost use Rattle.vg_volumes.specs.Sites.{Site, area_size, size_of, volume_of, Fits, NoLessRoom, RoomAfter};
 ghost use Rattle.vg_volumes.specs.Volumes.{SameElsewhere};
 
 use sm_base::{Failed, Geometry, Name, NoMemory};
@@ -26,6 +26,12 @@ pub trait Store {
 
     /// The sectors of all extents: what they hold, and what a crash may leave of them.
     ghost area: { Self → Held };
+
+    /// What is held of the whole device that the store stands on.
+    ghost device: { Self → Held };
+
+    /// What is held of the device's places that are no part of the store.
+    ghost beside: { Self → Held };
 
     /// A commit of this store has failed.
     ghost failed: { Self → Bool };
@@ -55,21 +61,25 @@ pub trait Store {
     fn repository(&self) -> Uuid
         ensures { result ≡ (site self.now).identity };
 
-    /// Makes room for a change, so that its commit takes no memory. The room of several calls adds up.
-    fn room(&mut self, change: &Change) -> Result<(), NoMemory>
+    /// Makes room for a change, so that its commit takes no memory. What is spare counts: a change that has room
+    /// takes none.
+    fn reserve_for(&mut self, change: &Change) -> Result<(), NoMemory>
         ensures same { (site self.new ≡ site self.old) × (area self.new ≡ area self.old) × (failed self.new ≡ failed self.old) × (faults self.new ≡ faults self.old) }
+        ensures device { (device self.new ≡ device self.old) × (beside self.new ≡ beside self.old) }
         ensures table { listing (kept self.new) ≡ listing (kept self.old) }
         ensures leaves { (t : Listing) (image : ℕ → List ℕ) → leaves self.new t image → leaves self.old t image }
         ensures no_less { NoLessRoom (kept self.old) (kept self.new) }
-        ensures made { OnOk result (MakesRoom change.now (kept self.old) (kept self.new)) };
+        ensures made { OnOk result (Allows (site self.old).count (listing (kept self.old)) change.now → HasRoom (kept self.new) change.now) };
 
-    /// Makes room for so many rows more than are spare.
-    fn rooms(&mut self, rows: usize) -> Result<(), NoMemory>
+    /// Makes room for rows: at `Ok` at least so many are spare. What is spare counts, so a step that adds several
+    /// volumes asks for all of them at once.
+    fn reserve_rows(&mut self, rows: usize) -> Result<(), NoMemory>
         ensures same { (site self.new ≡ site self.old) × (area self.new ≡ area self.old) × (failed self.new ≡ failed self.old) × (faults self.new ≡ faults self.old) }
+        ensures device { (device self.new ≡ device self.old) × (beside self.new ≡ beside self.old) }
         ensures table { listing (kept self.new) ≡ listing (kept self.old) }
         ensures leaves { (t : Listing) (image : ℕ → List ℕ) → leaves self.new t image → leaves self.old t image }
         ensures no_less { NoLessRoom (kept self.old) (kept self.new) }
-        ensures made { OnOk result ((kept self.old).spare + rows ≤ (kept self.new).spare) };
+        ensures made { OnOk result (rows ≤ (kept self.new).spare) };
 
     /// Changes the table. At `Ok` the change has taken effect and nothing is pending. At `Failed` the store
     /// still answers the earlier table and reads as before, and no further commit is made.
@@ -84,6 +94,7 @@ pub trait Store {
         ensures changed { OnOk result ((listing (kept self.new) ≡ applied (listing (kept self.old)) change) × (failed self.new ≡ false)) }
         ensures unchanged { OnErr result ((listing (kept self.new) ≡ listing (kept self.old)) × (failed self.new ≡ true)) }
         ensures room_after { OnOk result (RoomAfter change (kept self.old) (kept self.new)) }
+        ensures beside { told → Keeps (beside self.old) (beside self.new) }
         ensures keeps { told → Keeps (area self.old) (area self.new) }
         ensures settled { OnOk result (told → IsSettled (area self.new)) }
         ensures crash { told → (t : Listing) (image : ℕ → List ℕ) → leaves self.new t image
@@ -97,6 +108,8 @@ pub trait Store {
         ensures no_less { NoLessRoom (kept self.old) (kept self.new) }
         ensures counts { faults self.old ≤ faults self.new }
         ensures cause { OnErr result (Rose (faults self.old) (faults self.new)) }
+        ensures device { told → Keeps (device self.old) (device self.new) }
+        ensures beside { told → Keeps (beside self.old) (beside self.new) }
         ensures same { told → SameHeld (area self.old) (area self.new) }
         ensures leaves { told → (t : Listing) (image : ℕ → List ℕ) → leaves self.new t image → leaves self.old t image }
         ensures gave { OnOk result (told → Gave at (volume_of (site self.old) (listing (kept self.old)) (area self.old) volume.now) to.new) };
@@ -109,6 +122,7 @@ pub trait Store {
         ensures no_less { NoLessRoom (kept self.old) (kept self.new) }
         ensures counts { faults self.old ≤ faults self.new }
         ensures cause { OnErr result (Rose (faults self.old) (faults self.new)) }
+        ensures beside { told → Keeps (beside self.old) (beside self.new) }
         ensures torn { told → Torn at from.now
             (volume_of (site self.old) (listing (kept self.old)) (area self.old) volume.now)
             (volume_of (site self.old) (listing (kept self.old)) (area self.new) volume.now) }
@@ -125,6 +139,8 @@ pub trait Store {
         ensures no_less { NoLessRoom (kept self.old) (kept self.new) }
         ensures counts { faults self.old ≤ faults self.new }
         ensures cause { OnErr result (Rose (faults self.old) (faults self.new)) }
+        ensures device { told → Keeps (device self.old) (device self.new) }
+        ensures beside { told → Keeps (beside self.old) (beside self.new) }
         ensures keeps { told → Keeps (area self.old) (area self.new) }
         ensures leaves { told → (t : Listing) (image : ℕ → List ℕ) → leaves self.new t image → leaves self.old t image }
         ensures settled { OnOk result (told → IsSettled (area self.new)) };

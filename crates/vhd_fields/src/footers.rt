@@ -11,7 +11,7 @@ use crate::places::{VERSION, bytes_of, put, put_u32, put_u64, u32_of, u64_of};
 use uuid::Uuid;
 
 /// The fields of a footer. Sizes and offsets are in bytes.
-#[derive(Clone, Copy, Debug, PartialEq, Eq)]
+#[derive(Clone, Copy, PartialEq, Eq)]
 pub struct Footer {
     /// When the image was made, in seconds since the beginning of the year 2000, UTC.
     pub stamp: u32,

@@ -13,7 +13,7 @@ use sm_base::Name;
 use uuid::Uuid;
 
 /// The fields of a header. Sizes and offsets are in bytes.
-#[derive(Clone, Copy, Debug, PartialEq, Eq)]
+#[derive(Clone, Copy, PartialEq, Eq)]
 pub struct Header {
     /// Where the block allocation table begins.
     pub table_offset: u64,

@@ -29,6 +29,3 @@ pub use faults::FieldFault;
 pub use footers::Footer;
 pub use geometries::geometry_of;
 pub use headers::Header;
-
-#[cfg(test)]
-mod tests;

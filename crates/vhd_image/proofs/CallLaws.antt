@@ -1,5 +1,5 @@
 -- What calls of a store did, one after the other.
-use Rattle.std.proofs.Common.{◌≡◌, ℕ, ◌≤◌, ◌<◌, ◌-◌, ◌*◌, ◌+◌, Bool, List, length, refl, sym, ap, ◌∙◌, subst, arith}
+use Rattle.std.proofs.Common.{◌≡◌, ◌≢◌, ℕ, ◌≤◌, ◌<◌, ◌-◌, ◌*◌, ◌+◌, Bool, List, length, refl, sym, ap, ◌∙◌, subst, inl, inr, ⊎_elim, arith}
 use mathlib.Core.Path.{fun_ext}
 use Rattle.sm_base.specs.declared.names.Name.{Name}
 use Rattle.sm_disk.specs.Held.{Held, SameHeld, Torn, Wrote, Puts, reads}
@@ -10,10 +10,12 @@ use Rattle.sm_disk.proofs.SectorLaws.{sector-one}
 use Rattle.vg_meta.specs.Kept.{Kept, listing}
 use Rattle.vg_meta.specs.Tables.{Listing, rows, extents_of}
 use Rattle.vg_volumes.specs.Sites.{Site, NoLessRoom, volume_of, size_of}
+use Rattle.vhd_volumes.specs.Writes.{KeepsBut}
 use Rattle.vhd_volumes.specs.Steps.{KeepsElsewhere, WorksOn, sectors_of, held_in}
+use Rattle.vhd_volumes.proofs.KeptLaws.{KeepsBut-reaches}
 use Rattle.vhd_volumes.proofs.StepLaws.{NoLessRoom-then}
 use Rattle.vhd_volumes.proofs.VolumeLaws.{SameHeld-volume}
-use Rattle.vhd_image.specs.Calls.{ReadsOnly, IsAt, MayPut}
+use Rattle.vhd_image.specs.Calls.{ReadsOnly, IsAt, IsEnd, IsEnds, MayPut}
 
 KeepsElsewhere-same : (x : ℕ) (es : List ℕ) {a b : Held} → SameHeld a b → KeepsElsewhere x es a b
 KeepsElsewhere-same x es {a} {b} s = record {
@@ -132,4 +134,15 @@ pub may_put_after : {place : ℕ} {bytes : List ℕ} {a b c : Held} → SameHeld
 may_put_after {place} {bytes} s put = record {
   reaches = Reaches-then (Reaches-same (IsAt place bytes) s) put.reaches;
   others = λ p away. put.others p away ∙ reads-same s p;
+}
+
+-- ---- what stays elsewhere
+
+pub put-others : (place : ℕ) (bytes : List ℕ) {a b : Held} → MayPut place bytes a b → KeepsBut (λ p. p ≡ place) a b
+put-others place bytes put = KeepsBut-reaches (λ p v here. here.0) put.reaches
+
+pub ends-others : (n : ℕ) (bytes : List ℕ) {a b : Held} → IsEnds n bytes a b → ((p : ℕ) → p ≢ 0 → p ≢ n - 1 → reads b p ≡ reads a p) → KeepsBut (IsEnd n) a b
+ends-others n bytes ends others = record {
+  reads = λ p away. others p (λ front. away (inl front)) (λ last. away (inr last));
+  may = λ p v away m. ⊎_elim (λ was. was) (λ new. absurd (away new.0)) (ends p v m);
 }

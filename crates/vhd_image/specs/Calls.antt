@@ -25,7 +25,11 @@ pub record MayPut (place : ℕ) (bytes : List ℕ) (old new : Held) : Type 0 whe
   pub reaches : Reaches (IsAt place bytes) old new
   pub others : (p : ℕ) → p ≢ place → reads new p ≡ reads old p
 
+-- sector 0 or the last of so many
+abbrev pub IsEnd : ℕ → ℕ → Type 0
+IsEnd n p = (p ≡ 0) ⊎ (p ≡ n - 1)
+
 -- These bytes were to be written into the first sector of so many and into the last one: a stop leaves nothing new but
 -- them, there.
 abbrev pub IsEnds : ℕ → List ℕ → Held → Held → Type 0
-IsEnds n bytes a b = (p : ℕ) (v : List ℕ) → May b p v → May a p v ⊎ (((p ≡ 0) ⊎ (p ≡ n - 1)) × (v ≡ bytes))
+IsEnds n bytes a b = (p : ℕ) (v : List ℕ) → May b p v → May a p v ⊎ (IsEnd n p × (v ≡ bytes))

@@ -5,8 +5,9 @@ ghost use Rattle.sm_disk.specs.Held.{Rose, reads};
 ghost use Rattle.vhd_fields.specs.Footers.{IsFooter, footer_bytes, footer_read};
 ghost use Rattle.vhd_volumes.specs.Steps.{WorksOn, sectors_of, held_in};
 ghost use Rattle.vhd_volumes.specs.Truth.{HasRoomFor, IsTrueIn, layout_in};
+ghost use Rattle.vhd_volumes.specs.Writes.{KeepsBut};
 ghost use Rattle.vhd_image.specs.Bodies.{IfVhd, IsVhd, StandsIn, TrueIn, sector_count, top_slot, volume_name};
-ghost use Rattle.vhd_image.specs.Calls.{IsEnds};
+ghost use Rattle.vhd_image.specs.Calls.{IsEnd, IsEnds};
 ghost use Rattle.vhd_image.specs.Changes.{ChangesBy, IsResized, StaysTrue, resized};
 ghost use Rattle.vhd_image.specs.Made.{IsDiskSize};
 ghost use Rattle.vhd_image.specs.Opened.{ReadsAs};
@@ -60,6 +61,10 @@ impl Image {
             (IsResized (layout_in (S.site store.old).geometry head.footer (sectors_of S.site S.kept store.old head.volume)) sectors)
             (held_in S.site S.kept S.area store.old head.volume)
             (held_in S.site S.kept S.area store.new head.volume)) }
+        // The sectors of the two footers alone are written.
+        ensures others { S.told → KeepsBut (IsEnd (sectors_of S.site S.kept store.old (volume_name self.old)))
+            (held_in S.site S.kept S.area store.old (volume_name self.old))
+            (held_in S.site S.kept S.area store.new (volume_name self.old)) }
         ensures new_size { OnOk result (self.new ≡ resized sectors self.old) }
         ensures unchanged { OnErr result (self.new ≡ self.old) }
         // Both footers are those of the image now, byte for byte.
@@ -94,6 +99,13 @@ impl Image {
         requires room { HasRoomFor (S.site store.old).geometry (top_slot self.now) (extents * (S.site store.old).geometry.extent) }
         ensures works { WorksOn S.told S.site S.kept S.area S.failed S.faults (volume_name self.now) store.old store.new }
         ensures cause { OnErr result (Rose (S.faults store.old) (S.faults store.new)) }
+        // One sector is written, the last of these extents.
+        ensures others { S.told → KeepsBut (λ p. p ≡ extents * (S.site store.old).geometry.extent - 1)
+            (held_in S.site S.kept S.area store.old (volume_name self.now))
+            (held_in S.site S.kept S.area store.new (volume_name self.now)) }
+        ensures put { OnOk result (S.told → IfVhd self.now (λ head m.
+            reads (held_in S.site S.kept S.area store.new head.volume) (extents * (S.site store.old).geometry.extent - 1)
+            ≡ footer_bytes head.footer)) }
         // In whichever first sectors of its volume the image is true.
         ensures stays { S.told → IfVhd self.now (λ head m. (part : ℕ)
             → IsTrueIn (S.site store.old).geometry part (held_in S.site S.kept S.area store.old head.volume) head m

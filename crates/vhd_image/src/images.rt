@@ -11,7 +11,7 @@ use vhd_map::Map;
 use vhd_volumes::Head;
 
 /// What an image is: raw, or with a head and a map.
-#[derive(Debug, Drop)]
+#[derive(Drop)]
 pub enum Body {
     /// All sectors of its volume; sizes are in sectors.
     Raw { volume: Name, sectors: u64 },
@@ -20,7 +20,7 @@ pub enum Body {
 }
 
 /// An image in a volume.
-#[derive(Debug, Drop)]
+#[derive(Drop)]
 pub struct Image {
     pub(crate) body: Body,
 }

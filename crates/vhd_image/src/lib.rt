@@ -10,7 +10,8 @@
 //! synced: only once it has succeeded does a read give the image. `set_size`, `set_parent` and `end` write the head of an
 //! image that is in use: at each of their returns, whatever a stop may leave is a valid image with the map and the held
 //! sectors of one that a stop could leave before, and with its size or the new one, with its parent or the new one, or in
-//! all the same (`specs/Changes`). None of them syncs; that is the caller's. `write` leaves of a VHD image what the crate
+//! all the same (`specs/Changes`). At all sectors but those that they write a read and a stop give what they gave
+//! (`KeepsBut` of `vhd_volumes`). None of them syncs; that is the caller's. `write` leaves of a VHD image what the crate
 //! `vhd_write` says, and of a raw one any of the written sectors. Every call leaves the table of the store and all other
 //! volumes alone (`WorksOn` of `vhd_volumes`).
 //!

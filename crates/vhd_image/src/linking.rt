@@ -5,6 +5,7 @@ ghost use Rattle.sm_disk.specs.Held.{Rose, HasSectors, reads};
 ghost use Rattle.vhd_fields.specs.ParentNames.{parent_bytes};
 ghost use Rattle.vhd_volumes.specs.Steps.{WorksOn, sectors_of, held_in};
 ghost use Rattle.vhd_volumes.specs.Truth.{layout_in};
+ghost use Rattle.vhd_volumes.specs.Writes.{KeepsBut};
 ghost use Rattle.vhd_image.specs.Bodies.{IfVhd, IsVhd, StandsIn, TrueIn, parent_name, volume_name};
 ghost use Rattle.vhd_image.specs.Calls.{MayPut};
 ghost use Rattle.vhd_image.specs.Changes.{ChangesBy, IsRelinked, relinked};
@@ -117,6 +118,10 @@ impl Image {
             (IsRelinked (layout_in (S.site store.old).geometry head.footer (sectors_of S.site S.kept store.old head.volume)) (volume_name parent.now))
             (held_in S.site S.kept S.area store.old head.volume)
             (held_in S.site S.kept S.area store.new head.volume)) }
+        // One sector is written, the header's first.
+        ensures others { S.told → KeepsBut (λ p. p ≡ 1)
+            (held_in S.site S.kept S.area store.old (volume_name self.old))
+            (held_in S.site S.kept S.area store.new (volume_name self.old)) }
         // Of the header's first sector only the parent's fields and the sum change.
         ensures put { OnOk result (S.told → reads (held_in S.site S.kept S.area store.new (volume_name self.old)) 1
             ≡ link_bytes (reads (held_in S.site S.kept S.area store.old (volume_name self.old)) 1) (reads (held_in S.site S.kept S.area store.old (volume_name self.old)) 2) parent.now) }

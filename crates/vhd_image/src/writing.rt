@@ -3,7 +3,8 @@
 ghost use Rattle.std.specs.Prelude.{◌≡◌, ◌<◌, ◌≤◌, ◌+◌, ◌*◌, false, length, OnOk, OnErr};
 ghost use Rattle.sm_disk.specs.Held.{IsWhole, Rose};
 ghost use Rattle.vhd_volumes.specs.Steps.{WorksOn, sectors_of, held_in};
-ghost use Rattle.vhd_image.specs.Bodies.{StandsIn, TrueIn, sector_count, volume_name};
+ghost use Rattle.vhd_volumes.specs.Writes.{KeepsHeads};
+ghost use Rattle.vhd_image.specs.Bodies.{IfVhd, StandsIn, TrueIn, sector_count, volume_name};
 ghost use Rattle.vhd_image.specs.Written.{HasRoomToWrite, IsWriting, IsWrittenIn, MayHaveGrown, written};
 
 use crate::images::{Body, Image};
@@ -39,6 +40,10 @@ impl Image {
         ensures guarded { S.told → IsWriting (S.site store.old).geometry (sectors_of S.site S.kept store.old (volume_name self.old)) self.old sector from.now
             (held_in S.site S.kept S.area store.old (volume_name self.old))
             (held_in S.site S.kept S.area store.new (volume_name self.old)) }
+        // The copy of the footer, the header and the last sector stay.
+        ensures heads { S.told → IfVhd self.old (λ head m. KeepsHeads (sectors_of S.site S.kept store.old head.volume)
+            (held_in S.site S.kept S.area store.old head.volume)
+            (held_in S.site S.kept S.area store.new head.volume)) }
         ensures grown { MayHaveGrown self.old self.new }
         ensures map { OnOk result (self.new ≡ written (S.site store.old).geometry.block sector (length from.now) self.old) }
         ensures stands_after { OnOk result (StandsIn (S.site store.old).geometry (sectors_of S.site S.kept store.old (volume_name self.old)) self.new) }

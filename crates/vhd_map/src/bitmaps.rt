@@ -19,17 +19,3 @@ pub fn set_bit(map: &mut [u8; 512], sector: u32)
 {
     map[(sector / 8) as usize] |= 1 << (7 - sector % 8);
 }
-
-#[cfg(test)]
-mod tests {
-    use super::*;
-
-    #[test]
-    fn the_first_sector_is_the_highest_bit(rt: HostRuntime) {
-        let mut map = [0; 512];
-        set_bit(&mut map, 0);
-        set_bit(&mut map, 4095);
-        assert_eq!(rt; (map[0], map[511]), (0x80, 0x01));
-        assert!(rt; bit(&map, 0) && bit(&map, 4095) && !bit(&map, 7));
-    }
-}

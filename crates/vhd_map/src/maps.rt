@@ -13,7 +13,7 @@ use std::marker::Model;
 
 /// The slots of an image's blocks: a list of T entries, each a slot or none. Each slot is below T and no
 /// slot stands twice. A map only gains slots.
-#[derive(Debug, Drop)]
+#[derive(Drop)]
 pub struct Map {
     entries: Vec<u32>,
     used: Vec<u64>,
@@ -278,6 +278,3 @@ impl Map {
         true
     }
 }
-
-#[cfg(test)]
-mod tests;

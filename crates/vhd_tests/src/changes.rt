@@ -47,7 +47,7 @@ pub fn prepare<S: Store>(store: &mut S, change: &Change) -> Result<(), Fail>
     ensures room { OnOk result (HasRoom (S.kept store.new) change.now) }
     ensures fits { OnOk result (Fits (listing (S.kept store.new)) change.now) }
 {
-    store.rooms(1)?;
+    store.reserve_rows(1)?;
     let extents = store.extents();
     let table = store.table();
     if !table.allows(change, extents) {

@@ -91,7 +91,7 @@ pub fn opened(alloc: Global, disk: MemDisk) -> Result<Group<Untold>, Fail>
 {
     match Group::open(alloc, Untold::new(disk)) {
         Ok(group) => Ok(group),
-        Err((fault, _disk)) => Err(Fail::from(fault)),
+        Err((_fault, _disk)) => Err(Fail::from("the group is opened")),
     }
 }
 

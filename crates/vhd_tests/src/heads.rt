@@ -3,8 +3,11 @@
 ghost use Rattle.std.specs.Prelude.{◌≡◌, false, ◌<◌, ◌≤◌, ◌*◌, Some, IfOk, OnOk};
 ghost use Rattle.std.specs.Bool.{OnTrue};
 ghost use Rattle.vhd_fields.specs.ParentNames.{IsParent};
+ghost use Rattle.vhd_volumes.specs.Steps.{sectors_of};
+ghost use Rattle.vhd_image.specs.Bodies.{IsVhd, StandsIn, volume_name};
+ghost use Rattle.vhd_image.specs.Made.{MayHave};
 
-use crate::images::opened;
+use crate::images::{opened, own_of};
 use crate::volumes::{extents_of, sectors_in};
 use sm_base::{Name, OpenFault};
 use sm_pool::Pool;
@@ -50,58 +53,89 @@ fn is_parent(name: &Name) -> bool
     }
 }
 
-/// Makes an image of 128 sectors whose parent is the image in another volume, at the time 0.
+/// Whether an image may be the parent of one of 128 sectors.
+fn may_be_parent(parent: &Image) -> bool
+    ensures { OnTrue result (MayHave 128 parent.now) }
+{
+    is_parent(&parent.name()) && parent.sectors() <= 128
+}
+
+/// Makes an image of 128 sectors with this parent, at the time 0, and answers which parent it has in memory.
+fn make_with<S: Store>(
+    alloc: Global,
+    store: &mut S,
+    name: &Name,
+    uid: [u8; 16],
+    parent: &Image,
+) -> Result<Option<Name>, Fail> {
+    let geometry = store.geometry();
+    if geometry.block != 8 || geometry.entries != 64 {
+        return Err(Fail::from("blocks of 8 sectors, and 64 entries"));
+    }
+    if !may_be_parent(parent) || sectors_in(store, name)? <= geometry.first() {
+        return Err(Fail::from("a parent that is no larger, and room"));
+    }
+    let map = Map::blank(alloc, geometry.entries)?;
+    let image = Image::make(
+        store,
+        name,
+        map,
+        Uuid::from_bytes(uid),
+        128,
+        Some(parent),
+        0,
+    )?;
+    Ok(image.parent())
+}
+
+/// Makes an image of 128 sectors whose parent is the image in another volume, at the time 0, and answers which parent
+/// it has in memory.
 pub fn make_child<S: Store>(
     alloc: Global,
     store: &mut S,
     name: &Name,
     uid: [u8; 16],
     parent: &Name,
-) -> Result<Image, Fail> {
+) -> Result<Option<Name>, Fail> {
     let parent = opened(alloc, store, parent)?;
-    if !is_parent(&parent.name()) || parent.sectors() > 128 {
-        return Err(Fail::from("a parent that is no larger"));
-    }
-    let geometry = store.geometry();
-    if geometry.block != 8 || geometry.entries != 64 {
-        return Err(Fail::from("blocks of 8 sectors, and 64 entries"));
-    }
-    if sectors_in(store, name)? <= geometry.first() {
-        return Err(Fail::from("room for an image"));
-    }
-    let map = Map::blank(alloc, geometry.entries)?;
-    let uid = Uuid::from_bytes(uid);
-    let image = Image::make(store, name, map, uid, 128, Some(&parent), 0)?;
-    Ok(image)
+    make_with(alloc, store, name, uid, &parent)
 }
 
-/// Gives the image in a volume another parent.
+/// Gives an image the raw parent of 128 sectors in this volume, and answers which parent it has in memory.
+fn relink<S: Store>(store: &mut S, image: &mut Image, to: &Name) -> Result<Option<Name>, Fail>
+    requires told { ¬ S.told }
+    requires vhd { IsVhd image.old }
+    requires stands { StandsIn (S.site store.old).geometry
+        (sectors_of S.site S.kept store.old (volume_name image.old)) image.old }
+{
+    if image.parent().is_none() || !is_parent(to) {
+        return Err(Fail::from("a child and a parent"));
+    }
+    let parent = Image::raw(to, 128);
+    image.set_parent(store, &parent)?;
+    Ok(image.parent())
+}
+
+/// Gives the image in a volume a raw parent of 128 sectors, and answers which parent it has in memory.
 pub fn set_parent<S: Store>(
     alloc: Global,
     store: &mut S,
     name: &Name,
-    parent: &Image,
-) -> Result<Image, Fail>
+    to: &Name,
+) -> Result<Option<Name>, Fail>
     requires { ¬ S.told }
 {
     let mut image = opened(alloc, store, name)?;
-    if image.parent().is_none() || !is_parent(&parent.name()) {
-        return Err(Fail::from("a child and a parent"));
-    }
-    image.set_parent(store, parent)?;
-    Ok(image)
+    relink(store, &mut image, to)
 }
 
-/// Makes the disk of the image in a volume larger.
-pub fn set_size<S: Store>(
-    alloc: Global,
-    store: &mut S,
-    name: &Name,
-    sectors: u64,
-) -> Result<Image, Fail>
-    requires { ¬ S.told }
+/// Makes the disk of an image larger, and answers its size in memory, in sectors.
+fn resize<S: Store>(store: &mut S, image: &mut Image, sectors: u64) -> Result<u64, Fail>
+    requires told { ¬ S.told }
+    requires vhd { IsVhd image.old }
+    requires stands { StandsIn (S.site store.old).geometry
+        (sectors_of S.site S.kept store.old (volume_name image.old)) image.old }
 {
-    let mut image = opened(alloc, store, name)?;
     let geometry = store.geometry();
     let block = u64::from(geometry.block);
     let blocks = sectors / block;
@@ -112,17 +146,30 @@ pub fn set_size<S: Store>(
         return Err(Fail::from("a larger size"));
     }
     image.set_size(store, sectors)?;
-    Ok(image)
+    Ok(image.sectors())
 }
 
-/// Writes the footer of the image in a volume where it is to end.
-pub fn end<S: Store>(alloc: Global, store: &mut S, name: &Name, extents: u32) -> Result<(), Fail>
+/// Makes the disk of the image in a volume larger, and answers its size in memory, in sectors.
+pub fn set_size<S: Store>(
+    alloc: Global,
+    store: &mut S,
+    name: &Name,
+    sectors: u64,
+) -> Result<u64, Fail>
     requires { ¬ S.told }
 {
-    let image = opened(alloc, store, name)?;
+    let mut image = opened(alloc, store, name)?;
+    resize(store, &mut image, sectors)
+}
+
+/// Writes the footer of an image without slots where it is to end.
+fn end_in<S: Store>(store: &mut S, image: &Image, extents: u32) -> Result<(), Fail>
+    requires told { ¬ S.told }
+    requires vhd { IsVhd image.now }
+{
     let geometry = store.geometry();
     let sectors = u64::from(extents) * u64::from(geometry.extent);
-    if sectors > sectors_in(store, name)? {
+    if sectors > sectors_in(store, &image.name())? {
         return Err(Fail::from("extents of the volume"));
     }
     if image.top() != 0 || sectors <= geometry.first() {
@@ -132,20 +179,20 @@ pub fn end<S: Store>(alloc: Global, store: &mut S, name: &Name, extents: u32) ->
     Ok(())
 }
 
-/// A sector of the raw image that is a whole volume.
-pub fn raw_sector<S: Store>(store: &mut S, name: &Name, at: u64) -> Result<[u8; 512], Fail>
+/// Writes the footer of the image in a volume where it is to end.
+pub fn end<S: Store>(alloc: Global, store: &mut S, name: &Name, extents: u32) -> Result<(), Fail>
     requires { ¬ S.told }
 {
-    let sectors = sectors_in(store, name)?;
-    let image = Image::raw(name, sectors);
-    if at >= sectors {
-        return Err(Fail::from("a sector of the disk"));
-    }
-    let mut bytes = [0; 512];
-    if !image.read_own(store, at, &mut bytes)? {
-        return Err(Fail::from("a raw image holds each of its sectors"));
-    }
-    Ok(bytes)
+    let image = opened(alloc, store, name)?;
+    end_in(store, &image, extents)
+}
+
+/// A sector of the raw image that is a whole volume.
+pub fn raw_sector<S: Store>(store: &mut S, name: &Name, at: u64) -> Result<Option<[u8; 512]>, Fail>
+    requires { ¬ S.told }
+{
+    let image = Image::raw(name, sectors_in(store, name)?);
+    own_of(store, &image, at)
 }
 
 /// Writes a sector of the raw image that is a whole volume.
@@ -160,11 +207,11 @@ pub fn put_raw<S: Store>(
     requires usable { S.failed store.old ≡ false }
 {
     let sectors = sectors_in(store, name)?;
-    let mut image = Image::raw(name, sectors);
     if at >= sectors || store.geometry().block != 8 {
         return Err(Fail::from("a sector of the disk, and blocks of 8 sectors"));
     }
     let mut pool = Pool::new(alloc, 1, 4608)?;
+    let mut image = Image::raw(name, sectors);
     image.write(store, &mut pool, at, from)?;
     Ok(())
 }

@@ -53,8 +53,25 @@ pub fn opened<S: Store>(alloc: Global, store: &mut S, name: &Name) -> Result<Ima
     if extents == 0 {
         return Err(Fail::from("a volume with extents"));
     }
-    let image = Image::open(alloc, store, name, extents)?;
+    let Ok(image) = Image::open(alloc, store, name, extents) else {
+        return Err(Fail::from("the image is opened"));
+    };
     Ok(image)
+}
+
+/// A sector of the disk, where an image holds it.
+pub fn own_of<S: Store>(store: &mut S, image: &Image, at: u64) -> Result<Option<[u8; 512]>, Fail>
+    requires told { ¬ S.told }
+    requires stands { StandsIn (S.site store.old).geometry
+        (sectors_of S.site S.kept store.old (volume_name image.now)) image.now }
+    ensures flag { S.failed store.new ≡ S.failed store.old }
+{
+    if at >= image.sectors() {
+        return Err(Fail::from("a sector of the disk"));
+    }
+    let mut bytes = [0; 512];
+    let is_held = image.read_own(store, at, &mut bytes)?;
+    Ok(if is_held { Some(bytes) } else { None })
 }
 
 /// A sector of the disk, where the image in a volume holds it.
@@ -68,12 +85,7 @@ pub fn own<S: Store>(
     ensures flag { S.failed store.new ≡ S.failed store.old }
 {
     let image = opened(alloc, store, name)?;
-    if at >= image.sectors() {
-        return Err(Fail::from("a sector of the disk"));
-    }
-    let mut bytes = [0; 512];
-    let is_held = image.read_own(store, at, &mut bytes)?;
-    Ok(if is_held { Some(bytes) } else { None })
+    own_of(store, &image, at)
 }
 
 /// Whether so many bytes are whole sectors of the disk from this one on, and the volume has room for a slot of each entry.
@@ -111,6 +123,31 @@ fn has_room(image: &Image, geometry: &Geometry, sectors: u64, at: u64, length: u
     true
 }
 
+/// Writes sectors of the disk into an image, with a pool of one buffer. The buffer is free again.
+fn write_into<S: Store>(
+    alloc: Global,
+    store: &mut S,
+    image: &mut Image,
+    at: u64,
+    from: &[u8],
+) -> Result<Result<(), Failed>, Fail>
+    requires told { ¬ S.told }
+    requires usable { S.failed store.old ≡ false }
+    requires stands { StandsIn (S.site store.old).geometry
+        (sectors_of S.site S.kept store.old (volume_name image.old)) image.old }
+    ensures flag { S.failed store.new ≡ S.failed store.old }
+{
+    let geometry = store.geometry();
+    let sectors = sectors_in(store, &image.name())?;
+    if !has_room(image, &geometry, sectors, at, from.len()) {
+        return Err(Fail::from("whole sectors, and room for them"));
+    }
+    let mut pool = Pool::new(alloc, 1, 4608)?;
+    let outcome = image.write(store, &mut pool, at, from);
+    holds(pool.free() == 1, "the buffer is free again")?;
+    Ok(outcome)
+}
+
 /// Writes sectors of the disk into the image in a volume, with a pool of one buffer. The buffer is free again.
 pub fn write<S: Store>(
     alloc: Global,
@@ -124,15 +161,17 @@ pub fn write<S: Store>(
     ensures flag { S.failed store.new ≡ S.failed store.old }
 {
     let mut image = opened(alloc, store, name)?;
-    let geometry = store.geometry();
-    let sectors = sectors_in(store, name)?;
-    if !has_room(&image, &geometry, sectors, at, from.len()) {
-        return Err(Fail::from("whole sectors, and room for them"));
+    write_into(alloc, store, &mut image, at, from)
+}
+
+/// The slots of the first four blocks of an image, and one more than its highest slot.
+fn slots_of(image: &Image) -> Option<([Option<u32>; 4], u32)> {
+    let map = image.map()?;
+    if map.entries() < 4 {
+        return None;
     }
-    let mut pool = Pool::new(alloc, 1, 4608)?;
-    let outcome = image.write(store, &mut pool, at, from);
-    holds(pool.free() == 1, "the buffer is free again")?;
-    Ok(outcome)
+    let slots = [map.slot(0), map.slot(1), map.slot(2), map.slot(3)];
+    Some((slots, image.top()))
 }
 
 /// The slots of the first four blocks of the image in a volume, and one more than its highest slot.
@@ -140,14 +179,7 @@ pub fn slots<S: Store>(
     alloc: Global,
     store: &mut S,
     name: &Name,
-) -> Result<([Option<u32>; 4], u32), Fail> {
+) -> Result<Option<([Option<u32>; 4], u32)>, Fail> {
     let image = opened(alloc, store, name)?;
-    let Some(map) = image.map() else {
-        return Err(Fail::from("a VHD image"));
-    };
-    if map.entries() < 4 {
-        return Err(Fail::from("four blocks"));
-    }
-    let slots = [map.slot(0), map.slot(1), map.slot(2), map.slot(3)];
-    Ok((slots, image.top()))
+    Ok(slots_of(&image))
 }

@@ -1,11 +1,13 @@
-//! Tests of VHD images over a volume group on a device.
+//! Tests of VHD images: of their fields and maps as bytes, and of images over a volume group on a device.
 //!
 //! **What is kept here.** Nothing. Outside tests there is one thing, [`own_sector`] and [`size_of`]: a plain slow reader of
 //! an image, which takes the bytes of a volume and follows the definitions of `vhd_layout` alone.
 //!
-//! **What is shown.** All runs are over a group on a device in memory, on volumes whose sectors held an older image's
-//! footers, headers and data before.
+//! **What is shown.** The runs on images are over a group on a device in memory, on volumes whose sectors held an older
+//! image's footers, headers and data before.
 //!
+//! - Footers, headers and geometries have the bytes of the format, worked by hand, and each field that is wrong is told.
+//! - A map gives the least free slot, and writes and reads a sector of the table byte for byte.
 //! - A new image of 64 KiB has the bytes of the format, worked by hand, in its five sectors, and leaves the stale bytes of
 //!   all others.
 //! - It is found by its last footer, by the copy where that is lost, and not at all where both are.
@@ -25,6 +27,8 @@
 #[cfg(test)]
 mod changes;
 #[cfg(test)]
+mod fields;
+#[cfg(test)]
 mod fixtures;
 #[cfg(test)]
 mod head_tests;
@@ -34,6 +38,8 @@ mod heads;
 mod images;
 #[cfg(test)]
 mod making_tests;
+#[cfg(test)]
+mod maps;
 mod plain;
 #[cfg(test)]
 mod sectors;

@@ -42,6 +42,16 @@ fn later(at: u64) -> Option<[u8; 512]> {
     }
 }
 
+/// Writes sectors.
+fn put_bytes<S: Store>(alloc: Global, store: &mut S, at: u64, bytes: &[u8]) -> Result<(), Fail>
+    requires told { ¬ S.told }
+    requires usable { S.failed store.old ≡ false }
+    ensures { S.failed store.new ≡ false }
+{
+    write(alloc, store, &volume(1), at, bytes)??;
+    Ok(())
+}
+
 /// Writes so many sectors, each full of one byte, and syncs.
 fn write_and_sync<S: Store>(
     alloc: Global,
@@ -55,7 +65,7 @@ fn write_and_sync<S: Store>(
     ensures { OnOk result (S.failed store.new ≡ false) }
 {
     let bytes = vec![in alloc; byte; sectors.saturating_mul(512)]?;
-    write(alloc, store, &volume(1), at, &bytes)??;
+    put_bytes(alloc, store, at, &bytes)?;
     store.sync()?;
     Ok(())
 }
@@ -73,13 +83,19 @@ fn fill<S: Store>(alloc: Global, store: &mut S) -> Result<(), Fail>
     write_and_sync(alloc, store, 16, 3, 0x22)
 }
 
-/// The device with the image, on which nothing is pending.
-fn filled(alloc: Global) -> Result<MemDisk, Fail> {
+/// The device with the image.
+fn filled_disk(alloc: Global) -> Result<MemDisk, Fail> {
     let mut group = opened(alloc, new_device(alloc)?)?;
     let done = fill(alloc, &mut group);
     let untold = group.into_disk();
     done?;
-    Ok(untold.disk.left(alloc, &[])?)
+    Ok(untold.disk)
+}
+
+/// The same, where nothing is pending.
+fn filled(alloc: Global) -> Result<MemDisk, Fail> {
+    let disk = filled_disk(alloc)?;
+    Ok(disk.left(alloc, &[])?)
 }
 
 /// The sector of the disk whose image these bytes are, by the plain reader.
@@ -98,20 +114,41 @@ fn plain(bytes: &[u8], at: u64) -> Result<Option<[u8; 512]>, Fail> {
     Ok(Some(copy))
 }
 
-/// Reads each sector of the disk by both readers, and compares it with what it was and what it is to be. Where the write
-/// is done each is as it is to be.
-fn compare<S: Store>(alloc: Global, store: &mut S, is_done: bool) -> Result<(), Fail>
+/// Reads each sector of the disk by both readers, the plain one from the bytes of the volume, and compares it with what
+/// it was and what it is to be. Where the write is done each is as it is to be.
+fn compare_with<S: Store>(
+    alloc: Global,
+    store: &mut S,
+    bytes: &[u8],
+    is_done: bool,
+) -> Result<(), Fail>
     requires { ¬ S.told }
 {
-    let name = volume(1);
-    let bytes = bytes_of(alloc, store, &name)?;
     for at in 0..128 {
-        let sector = own(alloc, store, &name, at)?;
-        holds(sector == plain(&bytes, at)?, "both readers agree")?;
+        let sector = own(alloc, store, &volume(1), at)?;
+        holds(sector == plain(bytes, at)?, "both readers agree")?;
         let is_right = sector == later(at) || !is_done && sector == earlier(at);
         holds(is_right, "the earlier bytes or the later ones")?;
     }
     Ok(())
+}
+
+/// Reads the volume, and compares each sector of the disk.
+fn compare<S: Store>(alloc: Global, store: &mut S, is_done: bool) -> Result<(), Fail>
+    requires { ¬ S.told }
+{
+    let bytes = bytes_of(alloc, store, &volume(1))?;
+    compare_with(alloc, store, &bytes, is_done)
+}
+
+/// Writes the sectors 12 to 26.
+fn write_later<S: Store>(alloc: Global, store: &mut S) -> Result<bool, Fail>
+    requires told { ¬ S.told }
+    requires usable { S.failed store.old ≡ false }
+{
+    let bytes = vec![in alloc; 0x33; 7680]?;
+    let outcome = write(alloc, store, &volume(1), 12, &bytes)?;
+    Ok(outcome.is_ok())
 }
 
 /// Writes the sectors 12 to 26, and answers whether the write was done. Where it was, all sectors are as they are to be;
@@ -120,16 +157,14 @@ fn write_and_compare<S: Store>(alloc: Global, store: &mut S, goes_on: bool) -> R
     requires told { ¬ S.told }
     requires usable { S.failed store.old ≡ false }
 {
-    let bytes = vec![in alloc; 0x33; 7680]?;
-    let outcome = write(alloc, store, &volume(1), 12, &bytes)?;
-    let is_done = outcome.is_ok();
+    let is_done = write_later(alloc, store)?;
     if goes_on || is_done {
         compare(alloc, store, is_done)?;
     }
     if is_done {
         let wanted = ([None, Some(0), Some(1), Some(2)], 3);
         holds(
-            slots(alloc, store, &volume(1))? == wanted,
+            slots(alloc, store, &volume(1))? == Some(wanted),
             "the least free slots",
         )?;
     }
@@ -153,6 +188,15 @@ fn compare_left(alloc: Global, disk: &MemDisk, choice: &[u32]) -> Result<(), Fai
     done
 }
 
+/// Opens what each of five choices leaves, and compares.
+fn compare_all_left(alloc: Global, disk: &MemDisk) -> Result<(), Fail> {
+    let choices: [&[u32]; 5] = [&[], &[1], &[0, 1], &[1, 0], &[3]];
+    for choice in choices {
+        compare_left(alloc, disk, choice)?;
+    }
+    Ok(())
+}
+
 /// Stops at one call of the write. Each of five choices leaves the image with sectors as they were or as they are to be.
 fn stop_leaves(alloc: Global, device: &MemDisk, call: u64) -> Result<(), Fail> {
     let mut disk = device.left(alloc, &[])?;
@@ -161,20 +205,21 @@ fn stop_leaves(alloc: Global, device: &MemDisk, call: u64) -> Result<(), Fail> {
     }
     let (disk, is_done) = write_once(alloc, disk, false)?;
     holds(is_done == (call >= WRITE_CALLS), "the calls of the write")?;
-    compare_left(alloc, &disk, &[])?;
-    compare_left(alloc, &disk, &[1])?;
-    compare_left(alloc, &disk, &[0, 1])?;
-    compare_left(alloc, &disk, &[1, 0])?;
-    compare_left(alloc, &disk, &[3])
+    compare_all_left(alloc, &disk)
+}
+
+/// Stops at each of these calls in turn.
+fn each_stop_leaves(alloc: Global, device: &MemDisk, first: u64, end: u64) -> Result<(), Fail> {
+    for call in first..end {
+        stop_leaves(alloc, device, call)?;
+    }
+    Ok(())
 }
 
 /// Stops at each of these calls in turn.
 fn stops_leave(alloc: Global, first: u64, end: u64) -> Result<(), Fail> {
     let device = filled(alloc)?;
-    for call in first..end {
-        stop_leaves(alloc, &device, call)?;
-    }
-    Ok(())
+    each_stop_leaves(alloc, &device, first, end)
 }
 
 #[test]
@@ -210,37 +255,51 @@ fn fails_once(alloc: Global, device: &MemDisk, call: u64) -> Result<(), Fail> {
     holds(!is_done, "the caller is told")
 }
 
+/// Each call of the write fails in turn.
+fn each_fails(alloc: Global, device: &MemDisk) -> Result<(), Fail> {
+    for call in 0..WRITE_CALLS {
+        fails_once(alloc, device, call)?;
+    }
+    Ok(())
+}
+
 #[test]
 fn each_failed_call_of_a_write_is_told_and_spares_other_sectors(
     rt: HostRuntime,
 ) -> Result<(), Fail> {
     let device = filled(rt.alloc())?;
-    for call in 0..WRITE_CALLS {
-        fails_once(rt.alloc(), &device, call)?;
-    }
-    Ok(())
+    each_fails(rt.alloc(), &device)
 }
 
-/// The syncs of a write, beside the one that the opening of the group makes.
+/// The syncs of a write of these bytes, beside the one that the opening of the group makes.
+fn syncs_with(alloc: Global, disk: MemDisk, at: u64, bytes: &[u8]) -> Result<u64, Fail> {
+    let mut group = opened(alloc, disk)?;
+    let done = put_bytes(alloc, &mut group, at, bytes);
+    let untold = group.into_disk();
+    done?;
+    Ok(untold.syncs.saturating_sub(1))
+}
+
+/// The syncs of a write of so many sectors.
 fn syncs_of(alloc: Global, device: &MemDisk, at: u64, sectors: usize) -> Result<u64, Fail> {
     let bytes = vec![in alloc; 0x44; sectors.saturating_mul(512)]?;
-    let mut group = opened(alloc, device.left(alloc, &[])?)?;
-    let outcome = write(alloc, &mut group, &volume(1), at, &bytes);
-    let untold = group.into_disk();
-    outcome??;
-    Ok(untold.syncs.saturating_sub(1))
+    syncs_with(alloc, device.left(alloc, &[])?, at, &bytes)
+}
+
+/// Writes three new blocks, sectors that are held, the same in two blocks, and one that is not held in a block with a
+/// slot.
+fn each_syncs(alloc: Global, device: &MemDisk) -> Result<(), Fail> {
+    for (at, sectors, syncs) in [(36, 20, 1), (9, 4, 0), (12, 7, 0), (20, 1, 1)] {
+        holds(
+            syncs_of(alloc, device, at, sectors)? == syncs,
+            "the syncs of a write",
+        )?;
+    }
+    Ok(())
 }
 
 #[test]
 fn a_write_syncs_once_where_it_needs_bits_or_slots(rt: HostRuntime) -> Result<(), Fail> {
     let device = filled(rt.alloc())?;
-    // Three new blocks, sectors that are held, the same in two blocks, and one that is not held in a block with a slot.
-    for (at, sectors, syncs) in [(36, 20, 1), (9, 4, 0), (12, 7, 0), (20, 1, 1)] {
-        assert_eq!(rt;
-            syncs_of(rt.alloc(), &device, at, sectors)?,
-            syncs,
-            "at {at}"
-        );
-    }
-    Ok(())
+    each_syncs(rt.alloc(), &device)
 }

@@ -1,6 +1,6 @@
 -- What a guest's write does to an image, and what a stop may leave of it at any moment.
-use Rattle.std.specs.Prelude.{◌≡◌, ℕ, ◌+◌, ◌-◌, ◌/◌, ◌⊎◌, zero, suc, List, length, Option, None, Some, slice_set}
-use Rattle.sm_disk.specs.Held.{Held, Allows, Puts, reads}
+use Rattle.std.specs.Prelude.{◌≡◌, ℕ, ◌+◌, ◌-◌, ◌/◌, ◌<◌, ◌≤◌, ◌⊎◌, zero, suc, List, length, Option, None, Some, slice_set}
+use Rattle.sm_disk.specs.Held.{Held, May, Allows, Puts, reads}
 use Rattle.vhd_map.specs.Slots.{slot_of, least_free_slot}
 use Rattle.vhd_layout.specs.Layouts.{Sectors, Layout}
 use Rattle.vhd_layout.specs.Images.{IsValid, EachSlotHolds}
@@ -30,6 +30,16 @@ pub record IsFollowing (l : Layout) (W : ℕ → List ℕ → Type 0) (old : Hel
 pub record IsGuarded (l : Layout) (W : ℕ → List ℕ → Type 0) (old new : Held) : Type 0 where
   pub valid : (w : Sectors) → Allows l.sectors new w → IsValid l.block l.entries l.sectors w
   pub follows : (w : Sectors) → Allows l.sectors new w → IsFollowing l W old w
+
+-- At each place but those that a step may write a read gives what it gave, and a stop leaves nothing that it could not
+-- leave before.
+pub record KeepsBut (W : ℕ → Type 0) (old new : Held) : Type 0 where
+  pub reads : (p : ℕ) → (W p → ⊥) → reads new p ≡ reads old p
+  pub may : (p : ℕ) (v : List ℕ) → (W p → ⊥) → May new p v → May old p v
+
+-- an image in so many sectors keeps the copy of its footer, its header and its last sector
+abbrev pub KeepsHeads : ℕ → Held → Held → Type 0
+KeepsHeads sectors old new = KeepsBut (λ p. (3 ≤ p) × (p + 1 < sectors)) old new
 
 -- what a read gives once these bytes were written from this sector of the disk on: in the written sectors the bytes, and
 -- elsewhere what it gave

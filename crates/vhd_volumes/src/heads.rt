@@ -4,7 +4,7 @@ use sm_base::Name;
 use vhd_fields::{Footer, Header};
 
 /// What is known of a VHD image beside its map: the volume that it lies in, its footer and its header.
-#[derive(Clone, Copy, Debug, PartialEq, Eq)]
+#[derive(Clone, Copy, PartialEq, Eq)]
 pub struct Head {
     /// The volume's name.
     pub volume: Name,

@@ -8,7 +8,8 @@
 //! An image is true where three things hold: a read gives its footer, header and map; whatever a stop may leave of
 //! the volume is a valid image; and no table that a stop may leave names a slot that the map has not. Between two calls
 //! of a write the map may be ahead of the table, but each image that a stop may leave is valid, and follows one that it
-//! could leave before: sector by sector as it was, or held with the bytes that were written.
+//! could leave before: sector by sector as it was, or held with the bytes that were written. Of the sectors that a step
+//! does not write a read and a stop give what they gave (`KeepsBut`).
 //!
 //! Places and sizes are in sectors of 512 bytes, rooms in extents. Lemmas for the crates above are in `proofs/`.
 #![tactic(auto)]

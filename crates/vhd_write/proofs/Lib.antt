@@ -4,6 +4,7 @@ pub mod CallLaws
 pub mod ExitLaws
 pub mod FinishLaws
 pub mod FirstLaws
+pub mod HeadLaws
 pub mod ImageKept
 pub mod LoopLaws
 pub mod PartLaws

@@ -10,7 +10,7 @@ use Rattle.vhd_layout.specs.Layouts.{Layout, Slots, IsLayout, IsSlots, place, en
 use Rattle.vhd_layout.proofs.ImageLaws.{option_cases, layout-of}
 use Rattle.vhd_volumes.specs.declared.heads.Head.{Head}
 use Rattle.vhd_volumes.specs.Truth.{IsTrueOf, IsStanding, HasRoomFor, layout_in, disk_sectors, disk_blocks}
-use Rattle.vhd_volumes.specs.Writes.{IsGuarded, HasWritten, HasGrown, with_blocks, written_map}
+use Rattle.vhd_volumes.specs.Writes.{IsGuarded, KeepsHeads, HasWritten, HasGrown, with_blocks, written_map}
 use Rattle.vhd_write.specs.Passes.{PutsData, ArePut, HasBits, IsFull, IsTableSector, GoesOn, IsFinished}
 use Rattle.vhd_write.specs.Spans.{IsSpan, Given}
 use Rattle.vhd_write.specs.WriteSpans.{IsSpanOf}
@@ -18,6 +18,7 @@ use Rattle.vhd_write.specs.declared.spans.Span.{Span}
 use Rattle.vhd_write.proofs.MapLaws.{with_blocks-held}
 use Rattle.vhd_write.proofs.LoopLaws.{span-order}
 use Rattle.vhd_write.proofs.RestLaws.{AllPut}
+use Rattle.vhd_write.proofs.HeadLaws.{heads-first, heads-after}
 use Rattle.vhd_write.proofs.ExitLaws.{ShowsAll, guarded-first, true-first, written-first, shows-first, guarded-after, true-after, written-after, table-after, shows-after, all-put, new-slots}
 
 -- the first pass, behind the reads of the bitmaps
@@ -76,6 +77,9 @@ module _ {geo : Geometry} {n0 : ℕ} {head : Head} {m : List (Option ℕ)} {at :
     pub guarded-now : IsGuarded l (Puts at from) old mid
     guarded-now = subst (λ x. IsGuarded l (Puts x from) old mid) fits.sector (guarded-first l ok span.sector from head m old was r)
 
+    pub heads-now : KeepsHeads n0 old mid
+    heads-now = heads-first l ok span.sector was.now.head.room from (slot_of m) was.now.slots r
+
     module _ {n : List (Option ℕ)} (given : Given span.first span.end m n) (put : ArePut (layout_in geo head.footer n0) span.sector from (slot_of m) (slot_of n) span.end (reads mid)) where
       -- ---- all bits were set already
 
@@ -106,6 +110,10 @@ module _ {geo : Geometry} {n0 : ℕ} {head : Head} {m : List (Option ℕ)} {at :
         pub guarded-then : GoesOn l' span.sector (512 * span.count) (slot_of n) mid new → IsGuarded l (Puts at from) old new
         guarded-then goes = subst (λ x. IsGuarded l (Puts x from) old new) fits.sector (guarded-after l ok span.sector from head m old was n slots-now mid r puts
             (subst₂ (λ y x. GoesOn y span.sector x (slot_of n) mid new) same (sym long) goes))
+
+        pub heads-then : GoesOn l' span.sector (512 * span.count) (slot_of n) mid new → KeepsHeads n0 old new
+        heads-then goes = heads-after l ok span.sector was.now.head.room (512 * span.count) (slot_of n) slots-now heads-now
+            (subst (λ y. GoesOn y span.sector (512 * span.count) (slot_of n) mid new) same goes)
 
         module _ {held : Bool} (had : OnTrue held ((b : ℕ) → span.first ≤ b → b < span.end → slot_of m b ≢ None)) (done : IsFinished l' span.sector (512 * span.count) (slot_of n) span.first span.end held mid new) where
           finished : IsFinished l span.sector (length from) (slot_of n) span.first span.end held mid new

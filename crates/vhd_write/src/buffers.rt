@@ -39,30 +39,3 @@ pub(crate) fn fill(buffer: &mut [u8], part: &Part, bytes: &[u8])
     put_sectors(buffer, 0, &bitmap_of(part));
     put_sectors(buffer, 1 + part.first as usize, bytes);
 }
-
-#[cfg(test)]
-mod tests {
-    use super::*;
-    use crate::spans::{Span, part_of};
-
-    #[test]
-    fn a_slot_has_its_bits_and_bytes_and_zeros(rt: HostRuntime) {
-        // Sectors 13 to 22 of a disk with blocks of 8 sectors: three of block 1, then seven of block 2.
-        let span = Span {
-            block: 8,
-            sector: 13,
-            count: 10,
-            first: 1,
-            end: 3,
-        };
-        let one = part_of(&span, 1);
-        let two = part_of(&span, 2);
-        assert_eq!(rt; (one.first, one.count, one.skip), (5, 3, 0));
-        assert_eq!(rt; (two.first, two.count, two.skip), (0, 7, 3));
-        let mut buffer = [0xee; 4608];
-        fill(&mut buffer, &one, &[7; 1536]);
-        assert_eq!(rt; (buffer[0], buffer[1], buffer[511]), (0x07, 0, 0));
-        assert_eq!(rt; (buffer[512], buffer[3071]), (0, 0));
-        assert_eq!(rt; (buffer[3072], buffer[4607]), (7, 7));
-    }
-}

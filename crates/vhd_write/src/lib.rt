@@ -16,7 +16,8 @@
 //!
 //! **What a stop may leave.** At every return, whatever a stop may leave of the volume is a valid image, and follows one
 //! that a stop could leave as the call began: each sector of the disk is as it was there, or held with the bytes of this
-//! write (`IsGuarded` of `vhd_volumes`). A write is not whole: of its sectors some may be new, and they last only once
+//! write (`IsGuarded` of `vhd_volumes`). The copy of the footer, the header and the last sector are not written, so a read
+//! and a stop give of them what they gave (`KeepsHeads`). A write is not whole: of its sectors some may be new, and they last only once
 //! the store is synced, which is the caller's. After an `Err` the map may have grown by some of the blocks, and what a read
 //! gives of the written sectors is open.
 //!
@@ -27,7 +28,7 @@
 //!
 //! What each pass puts where is in `specs/Passes`, the numbers of a write are in `specs/Spans`, and in `specs/WriteSpans`
 //! those of a write into a disk. The proofs go over plain volumes: `FirstLaws` and `RestLaws` say what the passes leave of
-//! an image, `ExitLaws` what a write leaves at each of its returns.
+//! an image, `HeadLaws` what they leave of its head, and `ExitLaws` what a write leaves at each of its returns.
 #![tactic(auto)]
 
 mod bitmaps;

@@ -4,7 +4,7 @@ ghost use Rattle.std.specs.Prelude.{◌≡◌, ◌≢◌, ℕ, ◌+◌, ◌-◌,
 ghost use Rattle.vhd_write.specs.Spans.{IsSpan, IsPart};
 
 /// The sectors of a write, and the blocks that they lie in.
-#[derive(Clone, Copy, Debug)]
+#[derive(Clone, Copy)]
 pub(crate) struct Span {
     /// The sectors of a block.
     pub block: u32,
@@ -20,7 +20,7 @@ pub(crate) struct Span {
 }
 
 /// The sectors of one block among those of a write.
-#[derive(Clone, Copy, Debug)]
+#[derive(Clone, Copy)]
 pub(crate) struct Part {
     /// The first of them, counted from the block's begin.
     pub first: u32,

@@ -6,7 +6,7 @@ ghost use Rattle.sm_disk.specs.Held.{IsWhole, Puts, Rose, Reaches, reads};
 ghost use Rattle.vhd_map.specs.Slots.{slot_of, top_of, IsMap};
 ghost use Rattle.vhd_volumes.specs.Steps.{WorksOn, sectors_of, held_in};
 ghost use Rattle.vhd_volumes.specs.Truth.{disk_sectors, disk_blocks, layout_in, HasRoomFor, IsStanding, IsTrueIn};
-ghost use Rattle.vhd_volumes.specs.Writes.{IsGuarded, HasWritten, HasGrown, with_blocks, written_map};
+ghost use Rattle.vhd_volumes.specs.Writes.{IsGuarded, KeepsHeads, HasWritten, HasGrown, with_blocks, written_map};
 ghost use Rattle.vhd_write.specs.Passes.{layout_now, held_now, PutsData, ArePut, IsFull};
 ghost use Rattle.vhd_write.specs.Spans.{Given};
 ghost use Rattle.vhd_write.specs.WriteSpans.{IsSpanOf};
@@ -126,6 +126,9 @@ fn write_with<S: Store>(
         (sectors_of S.site S.kept store.old head.now.volume)) (Puts sector from.now)
         (held_in S.site S.kept S.area store.old head.now.volume)
         (held_in S.site S.kept S.area store.new head.now.volume) }
+    ensures heads { S.told → KeepsHeads (sectors_of S.site S.kept store.old head.now.volume)
+        (held_in S.site S.kept S.area store.old head.now.volume)
+        (held_in S.site S.kept S.area store.new head.now.volume) }
     ensures grown { HasGrown map.old map.new }
     ensures map { OnOk result
         (map.new ≡ written_map (S.site store.old).geometry.block sector (length from.now) map.old) }
@@ -155,7 +158,8 @@ fn write_with<S: Store>(
 ///
 /// At `Ok` a read gives the bytes, and all other sectors as before. At `Failed`, and whenever a stop comes, what a stop
 /// leaves is a valid image that follows one which a stop could leave before: each sector as it was there, or with its
-/// bytes of this write. What was written lasts once the store is synced.
+/// bytes of this write. The copy of the footer, the header and the last sector stay. What was written lasts once the
+/// store is synced.
 ///
 /// # Errors
 ///
@@ -187,6 +191,9 @@ pub fn write<S: Store>(
     ensures pool { pool.new ≡ pool.old }
     ensures guarded { S.told → IsGuarded (layout_in (S.site store.old).geometry head.now.footer
         (sectors_of S.site S.kept store.old head.now.volume)) (Puts sector from.now)
+        (held_in S.site S.kept S.area store.old head.now.volume)
+        (held_in S.site S.kept S.area store.new head.now.volume) }
+    ensures heads { S.told → KeepsHeads (sectors_of S.site S.kept store.old head.now.volume)
         (held_in S.site S.kept S.area store.old head.now.volume)
         (held_in S.site S.kept S.area store.new head.now.volume) }
     ensures grown { HasGrown map.old map.new }

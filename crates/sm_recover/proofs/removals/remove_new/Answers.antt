@@ -4,6 +4,7 @@ use Rattle.vg_meta.specs.Kept.{listing}
 use Rattle.sm_recover.proofs.AreaLaws.{pruned_between, pruned_after, pruned_now}
 use Rattle.sm_recover.proofs.CleanLaws.{cleaned_more, cleaned_all}
 use Rattle.sm_recover.proofs.FitLaws.{text_fits}
+use Rattle.sm_recover.proofs.RoomLaws.{rows_removed}
 use Rattle.sm_recover.proofs.RemovalLaws.{may_remove, checked_one, without_one, without_then, removed_more, removed_shorter, new_at, none_at, orderly_from}
 use Rattle.sm_recover.proofs.removals.remove_new.Goals as goal
 
@@ -34,6 +35,9 @@ loop-name-preserved g c =
       left = m.1;
       cleaned = cleaned_more (listing (g.S.Store.kept c.args.store.now)) (listing (g.S.Store.kept c.loop-name.store)) (listing (g.S.Store.kept c.commit.new.self)) c.in-Some.name i.cleaned
           (new_at c.in-Some.name c.table.ensures.table c.in-Some.ensures.some) c.in_ok-commit.ensures.changed.0;
+      room = λ had. rows_removed (g.S.Store.kept c.loop-name.store) (g.S.Store.kept c.commit.new.self) c.in-Some.name (new_at c.in-Some.name c.table.ensures.table c.in-Some.ensures.some)
+          c.in_ok-commit.ensures.changed.0 c.in_ok-commit.ensures.room_after.spare_rows (i.room had);
+      beside = λ told. Keeps-then (i.beside told) (c.commit.ensures.beside told);
       settled = c.in_ok-commit.ensures.settled;
       keeps = λ told. Keeps-then (i.keeps told) (c.commit.ensures.keeps told);
     }
@@ -70,3 +74,6 @@ returns-clause-crash g c = λ told t image leaves.
 
 pub returns-in_err-commit-clause-keeps : goal.returns-in_err-commit-clause-keeps
 returns-in_err-commit-clause-keeps g c = λ told. Keeps-then (c.loop-name.invariant.keeps told) (c.commit.ensures.keeps told)
+
+pub returns-in_err-commit-clause-beside : goal.returns-in_err-commit-clause-beside
+returns-in_err-commit-clause-beside g c = λ told. Keeps-then (c.loop-name.invariant.beside told) (c.commit.ensures.beside told)

@@ -4,6 +4,7 @@ use Rattle.vg_meta.specs.Kept.{listing}
 use Rattle.sm_recover.specs.Cleaned.{cleaned}
 use Rattle.sm_recover.specs.Pruned.{IsWithoutNew}
 use Rattle.sm_recover.specs.Repairs.{IsChecked}
+use Rattle.sm_recover.specs.Stores.{HasRows}
 use Rattle.sm_recover.proofs.removals.remove_new.Given as goal
 
 -- some new volumes are gone, and nothing is pending
@@ -15,6 +16,8 @@ invariant-loop-name g l = record {
   checked : IsChecked (g.S.Store.site l.fn.store) (listing (g.S.Store.kept l.store));
   left : IsWithoutNew (listing (g.S.Store.kept l.fn.store)) (listing (g.S.Store.kept l.store));
   cleaned : cleaned (listing (g.S.Store.kept l.store)) ≡ cleaned (listing (g.S.Store.kept l.fn.store));
+  room : HasRows (g.S.Store.kept l.fn.store) → HasRows (g.S.Store.kept l.store);
+  beside : g.S.Store.told → Keeps (g.S.Store.beside l.fn.store) (g.S.Store.beside l.store);
   settled : g.S.Store.told → IsSettled (g.S.Store.area l.store);
   keeps : g.S.Store.told → Keeps (g.S.Store.area l.fn.store) (g.S.Store.area l.store);
 }

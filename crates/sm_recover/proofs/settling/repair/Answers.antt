@@ -1,7 +1,9 @@
 use Rattle.std.proofs.Common.{◌∙◌}
 use Rattle.sm_recover.specs.Stores.{content_now}
+use Rattle.sm_disk.proofs.HeldLaws.{Keeps-then}
 use Rattle.vg_meta.specs.Kept.{listing}
 use Rattle.sm_recover.proofs.ReadLaws.{reads_twice}
+use Rattle.sm_recover.proofs.RoomLaws.{rows_same}
 use Rattle.sm_recover.proofs.RestLaws.{agrees_left, repaired_once, repaired_twice, pruned_at, rest_from}
 use Rattle.sm_recover.proofs.settling.repair.Goals as goal
 
@@ -44,3 +46,12 @@ pub returns-clause-area : goal.returns-clause-area
 returns-clause-area g c = λ told.
     reads_twice _ (content_now (g.S.Store.site c.remove_new.new.store) (listing (g.S.Store.kept c.remove_new.new.store)) (g.S.Store.area c.remove_new.new.store)) _
     c.requires.checked.plain (c.in_ok-remove_new.ensures.pruned told) (c.in_ok-tidy_records.ensures.pruned told)
+
+pub returns-in_err-tidy_records-clause-beside : goal.returns-in_err-tidy_records-clause-beside
+returns-in_err-tidy_records-clause-beside g c = λ told. Keeps-then (c.remove_new.ensures.beside told) (c.tidy_records.ensures.beside told)
+
+pub returns-clause-beside : goal.returns-clause-beside
+returns-clause-beside g c = λ told. Keeps-then (c.remove_new.ensures.beside told) (c.tidy_records.ensures.beside told)
+
+pub returns-clause-room : goal.returns-clause-room
+returns-clause-room g c = λ had. rows_same _ _ c.tidy_records.ensures.table c.tidy_records.ensures.no_less (c.in_ok-remove_new.ensures.room had)

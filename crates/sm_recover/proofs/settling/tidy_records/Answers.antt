@@ -1,4 +1,5 @@
 use Rattle.std.proofs.Common.{◌∙◌}
+use Rattle.sm_disk.proofs.HeldLaws.{Keeps-then}
 use Rattle.sm_recover.proofs.AreaLaws.{records_fit}
 use Rattle.sm_recover.proofs.RestLaws.{checked_of, agrees_synced, none_stray, tidy_stop, tidy_now}
 use Rattle.sm_recover.proofs.settling.tidy_records.Goals as goal
@@ -50,3 +51,9 @@ returns-clause-crash g c = λ told t image leaves.
     tidy_stop (g.S.Store.area c.args.store.now) (g.S.Store.area c.wipe_strays.new.store) c.args.mgt.now (checked_of c.requires.orderly) w.stays.same_site w.stays.same_table
     (c.requires.settled told) (c.requires.agrees told) (w.elsewhere told) (w.zeroed told)
     (g.met.S.Store.leaves_now c.wipe_strays.new.store told (w.stays.same_flag ∙ c.requires.usable) t image (c.sync.ensures.leaves told t image leaves))
+
+pub returns-in_err-sync-clause-beside : goal.returns-in_err-sync-clause-beside
+returns-in_err-sync-clause-beside g c = λ told. Keeps-then (c.wipe_strays.ensures.beside told) (c.sync.ensures.beside told)
+
+pub returns-clause-beside : goal.returns-clause-beside
+returns-clause-beside g c = λ told. Keeps-then (c.wipe_strays.ensures.beside told) (c.sync.ensures.beside told)

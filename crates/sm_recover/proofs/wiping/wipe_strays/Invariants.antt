@@ -1,5 +1,6 @@
 use Rattle.std.proofs.Common.{◌≤◌}
 use Rattle.sm_base.specs.declared.names.Name.TheVariants.{Mgt as mgt_name}
+use Rattle.sm_disk.specs.Held.{Keeps}
 use Rattle.vg_meta.specs.Tables.{rows, extents_of}
 use Rattle.vg_meta.specs.Kept.{listing}
 use Rattle.vg_volumes.specs.Volumes.{SameElsewhere}
@@ -13,6 +14,7 @@ abbrev pub invariant-loop-place : goal.invariant-loop-place
 invariant-loop-place g l = record {
   stays : Stays g.S.Store.site g.S.Store.kept g.S.Store.failed l.fn.store l.store;
   counts : g.S.Store.faults l.fn.store ≤ g.S.Store.faults l.store;
+  beside : g.S.Store.told → Keeps (g.S.Store.beside l.fn.store) (g.S.Store.beside l.store);
   elsewhere : g.S.Store.told
       → SameElsewhere (g.S.Store.site l.fn.store).geometry.extent
       (extents_of (rows (listing (g.S.Store.kept l.fn.store)) mgt_name))

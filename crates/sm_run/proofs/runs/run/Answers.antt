@@ -1,11 +1,8 @@
 use Rattle.std.proofs.Common.{◌∙◌, sym, arith, refl}
 use Rattle.std.proofs.lemmas.Result.{err_from_is_err_and}
-use Rattle.sm_run.proofs.RunLaws.{empty-buffer, empty-front, ok-not_device, run-cut_line, run-done, run-failed, run-last, run-none, run-past, so_far-begins, so_far-faces, so_far-more, some-line}
+use Rattle.sm_disk.proofs.HeldLaws.{Keeps-none, Keeps-then}
+use Rattle.sm_run.proofs.RunLaws.{empty-buffer, empty-front, ok-not_device, run-cut_line, run-done, run-failed, run-last, run-past, so_far-begins, so_far-faces, so_far-more, some-line}
 use Rattle.sm_run.proofs.runs.run.Goals as goal
-
-pub returns-in_default-clause-run : goal.returns-in_default-clause-run
-returns-in_default-clause-run g c = λ told ready kept begins.
-    run-none _ (g.S.Source.content c.args.source.now) (g.K.Sink.content c.args.sink.now) (g.M.Steps.leaves c.args.machine.now) _ _ begins ready kept
 
 pub lines-init : goal.lines-init
 lines-init g c = record {
@@ -13,6 +10,7 @@ lines-init g c = record {
       so_far-begins _ (g.S.Source.content c.args.source.now) (g.K.Sink.content c.args.sink.now) _ (g.M.Steps.leaves c.args.machine.now) _ _ refl begins ready kept;
   going_on = λ h. h;
   site = refl;
+  beside = λ told. Keeps-none (g.M.Steps.beside c.args.machine.now);
   device_counts = omega arith;
   source_counts = omega arith;
   sink_counts = omega arith;
@@ -42,6 +40,13 @@ returns-in-Ok-ScriptEnd-clause-run g c = λ told ready kept begins.
     run-last _ _ _ c.answer.result _ _ _ _ _ _ _ _ (g.M.Steps.leaves c.lines.machine) (g.M.Steps.leaves c.answer.new.machine) _ _ _ _ r.bytes so r.in_line (some-line r.bytes c.bytes.result.now c.is_empty.result (c.bytes.ensures ∙ r.kept) c.is_empty.ensures c.if-is_empty.false) r.ends.0 r.ends.1 r.ends.2
     (c.answer.ensures.answered told so.ready so.kept (so_far-faces _ _ _ _ _ _ _ (g.M.Steps.leaves c.lines.machine) _ _ so) r.bytes front)
 
+pub returns-in-Ok-ScriptEnd-clause-beside : goal.returns-in-Ok-ScriptEnd-clause-beside
+returns-in-Ok-ScriptEnd-clause-beside g c = λ told. Keeps-then (c.lines.invariant.beside told) (c.answer.ensures.beside told)
+
+pub returns-in_err-answer-in-Ok-Newline-clause-beside : goal.returns-in_err-answer-in-Ok-Newline-clause-beside
+returns-in_err-answer-in-Ok-Newline-clause-beside g c = λ told.
+    Keeps-then (c.lines.invariant.beside told) (c.answer-in-Ok-Newline.ensures.beside told)
+
 pub lines-preserved : goal.lines-preserved
 lines-preserved g c = record {
   run = λ told ready kept begins.
@@ -52,6 +57,7 @@ lines-preserved g c = record {
       (c.in_ok-answer-in-Ok-Newline.ensures.answered told so.ready so.kept (so_far-faces _ _ _ _ _ _ _ (g.M.Steps.leaves c.lines.machine) _ _ so) r.bytes front);
   going_on = λ h. c.answer-in-Ok-Newline.ensures.going_on (c.lines.invariant.going_on h) (ok-not_device _ _ c.in_ok-answer-in-Ok-Newline.was);
   site = c.answer-in-Ok-Newline.ensures.site ∙ c.lines.invariant.site;
+  beside = λ told. Keeps-then (c.lines.invariant.beside told) (c.answer-in-Ok-Newline.ensures.beside told);
   device_counts = omega (arith, c.lines.invariant.device_counts, c.answer-in-Ok-Newline.ensures.counts);
   source_counts = omega (arith, c.lines.invariant.source_counts, c.read_line.ensures.counts);
   sink_counts = omega (arith, c.lines.invariant.sink_counts, c.answer-in-Ok-Newline.ensures.sink_counts);

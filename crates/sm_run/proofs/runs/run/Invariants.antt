@@ -1,4 +1,5 @@
 use Rattle.std.proofs.Common.{◌≡◌, ◌≤◌, false}
+use Rattle.sm_disk.specs.Held.{Keeps}
 use Rattle.sm_run.specs.Runs.{BeginsSettled}
 use Rattle.sm_run.proofs.RunLaws.{SoFar}
 use Rattle.sm_run.proofs.runs.run.Given as goal
@@ -11,6 +12,7 @@ invariant-lines g l = record {
       (g.K.Sink.content l.fn.sink) (g.K.Sink.content l.sink) l.room (g.M.Steps.leaves l.machine) (g.M.Steps.ready l.machine) (g.M.Steps.kept l.machine);
   going_on : g.M.Steps.broken l.fn.machine ≡ false → g.M.Steps.broken l.machine ≡ false;
   site : g.M.Steps.site l.machine ≡ g.M.Steps.site l.fn.machine;
+  beside : g.M.Steps.told → Keeps (g.M.Steps.beside l.fn.machine) (g.M.Steps.beside l.machine);
   device_counts : g.M.Steps.faults l.fn.machine ≤ g.M.Steps.faults l.machine;
   source_counts : g.S.Source.faults l.fn.source ≤ g.S.Source.faults l.source;
   sink_counts : g.K.Sink.faults l.fn.sink ≤ g.K.Sink.faults l.sink;

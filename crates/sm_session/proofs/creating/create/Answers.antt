@@ -4,9 +4,12 @@ use Rattle.sm_disk.specs.Held.{reads}
 use Rattle.sm_machine.specs.Runs.{is_accepted}
 use Rattle.vg_meta.specs.Kept.{Kept, listing}
 use Rattle.sm_recover.specs.Stores.{IsOrderly}
-use Rattle.sm_session.specs.Refusing.{site_of, IsSiteOf, IsAccepted, extents_for}
+use Rattle.sm_recover.proofs.RoomLaws.{rows_same}
+use Rattle.sm_session.specs.Refusing.{site_of, IsSiteOf, extents_for}
 use Rattle.sm_session.proofs.Causes.{orderly_as}
+use Rattle.sm_session.proofs.TableLaws.{least_as}
 use Rattle.sm_session.proofs.SessionLaws.{taken_made, taken_failed, taken_refused, taken_poor, taken_poor_as, rests_at, shown_at}
+use Rattle.sm_session.proofs.UntouchedLaws.{IsUntouched-none}
 use Rattle.sm_session.proofs.creating.create.Goals as goal
 
 pub refuse_create-refusal-requires : goal.refuse_create-refusal-requires
@@ -21,6 +24,46 @@ returns-in-Some-clause-taken g c = λ told rest.
     let site : IsSiteOf c.geometry-geometry.result c.extents-extents.result (g.S.Store.site c.args.store.now) = record { same_sizes = sym c.geometry-geometry.ensures; same_count = sym c.extents-extents.ensures.count } in
     taken_refused _ _ _ _ _ _ _ _ _ c.requires.orderly rest (g.met.S.Store.leaves_now c.args.store.now told c.requires.usable)
     (sym (exact (g.S.Store.site c.args.store.now) (reads (g.S.Store.area c.args.store.now)) c.args.label.now site rest.sound))
+
+pub returns-in-Some-clause-untouched : goal.returns-in-Some-clause-untouched
+returns-in-Some-clause-untouched g c = λ no. IsUntouched-none _ _ _ _ _ _ _
+
+pub returns-in-Some-clause-least : goal.returns-in-Some-clause-least
+unfolding is_accepted
+returns-in-Some-clause-least g c = λ yes. absurd (let e = yes in cc)
+
+pub returns-in_default-first_fit-clause-untouched : goal.returns-in_default-first_fit-clause-untouched
+returns-in_default-first_fit-clause-untouched g c = λ no. IsUntouched-none _ _ _ _ _ _ _
+
+pub returns-in_default-first_fit-clause-least : goal.returns-in_default-first_fit-clause-least
+unfolding is_accepted
+returns-in_default-first_fit-clause-least g c = λ yes. absurd (let e = yes in cc)
+
+pub returns-in-Ok-make_raw-clause-untouched : goal.returns-in-Ok-make_raw-clause-untouched
+unfolding is_accepted
+returns-in-Ok-make_raw-clause-untouched g c = λ no. absurd (let e = no in cc)
+
+pub returns-in-Ok-make_raw-clause-least : goal.returns-in-Ok-make_raw-clause-least
+returns-in-Ok-make_raw-clause-least g c = λ yes.
+    let s = g.S.Store.site c.args.store.now in
+    let extent : c.geometry-geometry.result.extent ≡ s.geometry.extent = ap (λ (h : Geometry). h.extent) c.geometry-geometry.ensures in
+    let need : c.extents_needed-need.result ≡ extents_for s.geometry.extent c.args.size = c.extents_needed-need.ensures.extents ∙ ap (λ n. extents_for n c.args.size) extent in
+    record {
+      extents = c.in-Ok.found.items;
+      least = least_as need c.extents-extents.ensures.count (ap listing c.table-2.ensures.table) c.in-Ok.ensures.fit;
+      made = c.in-Ok-make_raw.ensures.table;
+    }
+
+pub returns-in-Err-NoMemory-clause-untouched : goal.returns-in-Err-NoMemory-clause-untouched
+returns-in-Err-NoMemory-clause-untouched g c = λ no. (c.make_raw.ensures.poor (c.in-Err-NoMemory.is ∙ ap (λ f. Err f) c.in-Err-NoMemory.field-0-is)).0
+
+pub returns-in-Err-NoMemory-clause-room : goal.returns-in-Err-NoMemory-clause-room
+returns-in-Err-NoMemory-clause-room g c = λ had.
+    let poor = c.make_raw.ensures.poor (c.in-Err-NoMemory.is ∙ ap (λ f. Err f) c.in-Err-NoMemory.field-0-is) in rows_same _ _ poor.0.same_table poor.3 had
+
+pub returns-in-Err-NoMemory-clause-least : goal.returns-in-Err-NoMemory-clause-least
+unfolding is_accepted
+returns-in-Err-NoMemory-clause-least g c = λ yes. absurd (let e = yes in cc)
 
 pub overflow_cast-need : goal.overflow_cast-need
 overflow_cast-need g c =
@@ -58,7 +101,7 @@ returns-in-Ok-make_raw-clause-taken g c = λ told rest.
 pub returns-in-Err-NoMemory-clause-taken : goal.returns-in-Err-NoMemory-clause-taken
 returns-in-Err-NoMemory-clause-taken g c = λ told rest.
     let poor = c.make_raw.ensures.poor (c.in-Err-NoMemory.is ∙ ap (λ f. Err f) c.in-Err-NoMemory.field-0-is) in
-    taken_poor_as _ _ _ _ _ _ _ _ _ _ c.requires.orderly rest (g.met.S.Store.leaves_now c.args.store.now told c.requires.usable) poor.0 (poor.2 told) poor.4 poor.3
+    taken_poor_as _ _ _ _ _ _ _ _ _ _ c.requires.orderly rest (g.met.S.Store.leaves_now c.args.store.now told c.requires.usable) poor.0.same_table (poor.0.same_area told) poor.2 poor.1
 
 pub returns-in-Err-Device-clause-taken : goal.returns-in-Err-Device-clause-taken
 returns-in-Err-Device-clause-taken g c = λ told rest.

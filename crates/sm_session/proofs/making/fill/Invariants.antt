@@ -1,5 +1,5 @@
 use Rattle.std.proofs.Common.{◌≡◌, ◌≤◌, ◌<◌, ◌*◌, ℕ}
-use Rattle.sm_disk.specs.Held.{reads}
+use Rattle.sm_disk.specs.Held.{Keeps, reads}
 use Rattle.sm_disk.specs.Sectors.{zeros}
 use Rattle.vg_meta.specs.Tables.{rows, extents_of}
 use Rattle.vg_meta.specs.Kept.{listing}
@@ -13,6 +13,7 @@ abbrev pub invariant-loop-index : goal.invariant-loop-index
 invariant-loop-index g l = record {
   stays : Stays g.S.Store.site g.S.Store.kept g.S.Store.failed l.fn.store l.store;
   counts : g.S.Store.faults l.fn.store ≤ g.S.Store.faults l.store;
+  beside : g.S.Store.told → Keeps (g.S.Store.beside l.fn.store) (g.S.Store.beside l.store);
   elsewhere : g.S.Store.told
       → SameElsewhere (g.S.Store.site l.fn.store).geometry.extent
       (extents_of (rows (listing (g.S.Store.kept l.fn.store)) l.name))

@@ -1,8 +1,11 @@
 use Rattle.std.proofs.Common.{◌∙◌, arith, unwrap_or}
+use Rattle.sm_disk.proofs.HeldLaws.{Keeps-then}
 use Rattle.vg_meta.specs.Kept.{listing}
 use Rattle.sm_mgt.specs.Places.{place_for}
 use Rattle.sm_session.proofs.TableLaws.{allowed_begun}
 use Rattle.sm_session.proofs.FitLaws.{fits_begun, few_wanted}
+use Rattle.sm_recover.proofs.RoomLaws.{rows_same}
+use Rattle.sm_session.proofs.RoomLaws.{rows_begun, rows_ended}
 use Rattle.sm_session.proofs.RestLaws.{begun_left}
 use Rattle.sm_session.proofs.JoinLaws.{begins_with, next_table, next_extents, next_size, last_allowed, last_fits, fill_left, end_left, end_made}
 use Rattle.sm_session.proofs.making.make_disk.Goals as goal
@@ -103,3 +106,22 @@ returns-clause-crash g c = λ told rest left image h.
     (begins_with _ _ _ _ c.args.entry c.args.extents.items r.orderly rest r.new r.extents r.proper r.plain r.place)
     b.site b.changed.0 f.stays.same_site f.stays.same_table (b.keeps told) (b.settled told) (f.filling told) (f.filled told)
     (c.end.ensures.crash told left image h)
+
+pub returns-in_err-fill_disk-clause-beside : goal.returns-in_err-fill_disk-clause-beside
+returns-in_err-fill_disk-clause-beside g c = λ told. Keeps-then (c.begin.ensures.beside told) (c.fill_disk.ensures.beside told)
+
+pub returns-in_err-end-clause-beside : goal.returns-in_err-end-clause-beside
+returns-in_err-end-clause-beside g c = λ told.
+    Keeps-then (c.begin.ensures.beside told) (Keeps-then (c.fill_disk.ensures.beside told) (c.end.ensures.beside told))
+
+pub returns-clause-beside : goal.returns-clause-beside
+returns-clause-beside g c = λ told.
+    Keeps-then (c.begin.ensures.beside told) (Keeps-then (c.fill_disk.ensures.beside told) (c.end.ensures.beside told))
+
+pub returns-clause-room : goal.returns-clause-room
+returns-clause-room g c = λ had.
+    let b = c.in_ok-begin.ensures in
+    let f = c.fill_disk.ensures.stays in
+    let first = rows_begun (g.S.Store.kept c.args.store.now) (g.S.Store.kept c.begin.new.store) c.args.entry.uuid c.args.extents.items b.changed.0 c.requires.row b.room_after had in
+    let mid = rows_same (g.S.Store.kept c.begin.new.store) (g.S.Store.kept c.fill_disk.new.store) f.same_table f.room first in
+    rows_ended (g.S.Store.kept c.fill_disk.new.store) (g.S.Store.kept c.end.new.store) c.args.entry.uuid c.in_ok-end.ensures.changed.0 c.in_ok-end.ensures.room_after mid

@@ -1,5 +1,7 @@
-use Rattle.std.proofs.Common.{◌*◌, length, ap}
+use Rattle.std.proofs.Common.{◌*◌, length, refl, ap}
 use Rattle.vg_meta.specs.Kept.{listing}
+use Rattle.sm_recover.proofs.RoomLaws.{rows_same}
+use Rattle.sm_session.proofs.UntouchedLaws.{SameHeld-is, Keeps-is, Keeps-from}
 use Rattle.sm_session.proofs.RestLaws.{still_left}
 use Rattle.sm_session.proofs.JoinLaws.{last_orderly}
 use Rattle.sm_session.proofs.making.make_raw.Goals as goal
@@ -18,3 +20,30 @@ returns-clause-orderly g c =
     c.args.disk c.record_of-entry.result.uuid c.args.extents.items
     p.same.0 p.table c.make_disk.ensures.site (ap (λ e. e.uuid) c.record_of-entry.ensures.is) c.in-Ok-make_disk.ensures.table c.record_of-entry.ensures.proper.uuid.uuid
     c.requires.orderly c.requires.new c.requires.extents
+
+pub returns-in_default-clause-beside : goal.returns-in_default-clause-beside
+returns-in_default-clause-beside g c = λ told. Keeps-is _ _ c.prepare.ensures.device.1
+
+pub returns-in_default-clause-poor : goal.returns-in_default-clause-poor
+returns-in_default-clause-poor g c = λ is.
+    let p = c.prepare.ensures in (
+      record {
+        same_table = p.table;
+        same_flag = p.same.2;
+        same_area = λ told. SameHeld-is _ _ p.same.1;
+        device = λ told. Keeps-is _ _ p.device.0;
+        same_leaves = λ told t image left. p.leaves t image left;
+      },
+      p.leaves,
+      refl,
+      p.no_less,
+    )
+
+pub returns-in_default-make_disk-clause-beside : goal.returns-in_default-make_disk-clause-beside
+returns-in_default-make_disk-clause-beside g c = λ told. Keeps-from _ _ _ c.prepare.ensures.device.1 (c.make_disk.ensures.beside told)
+
+pub returns-clause-beside : goal.returns-clause-beside
+returns-clause-beside g c = λ told. Keeps-from _ _ _ c.prepare.ensures.device.1 (c.make_disk.ensures.beside told)
+
+pub returns-clause-room : goal.returns-clause-room
+returns-clause-room g c = λ had. c.in-Ok-make_disk.ensures.room (rows_same _ _ c.prepare.ensures.table c.prepare.ensures.no_less had)

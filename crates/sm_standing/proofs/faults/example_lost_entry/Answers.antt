@@ -24,3 +24,7 @@ returns-clause-beside c = λ area. refl
 pub returns-clause-apart : goal.returns-clause-apart
 unfolding first_name record_volume_fault misnamed_fault second_entry_fault lost_entry_fault old_leaf_fault invalid_fault is_at_stage image_with row_of name_eq is_base
 returns-clause-apart c = λ area. refl
+
+pub returns-clause-old_leaf : goal.returns-clause-old_leaf
+unfolding first_name record_volume_fault misnamed_fault second_entry_fault lost_entry_fault old_leaf_fault invalid_fault is_at_stage image_with row_of name_eq is_base
+returns-clause-old_leaf c = λ area. refl

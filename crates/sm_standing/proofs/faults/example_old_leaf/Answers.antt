@@ -24,3 +24,7 @@ returns-clause-renamed c = λ area. refl
 pub returns-clause-swapped : goal.returns-clause-swapped
 unfolding first_name record_volume_fault misnamed_fault second_entry_fault lost_entry_fault old_leaf_fault invalid_fault is_at_stage image_with row_of name_eq is_base
 returns-clause-swapped c = λ area. refl
+
+pub returns-clause-forked : goal.returns-clause-forked
+unfolding first_name record_volume_fault misnamed_fault second_entry_fault lost_entry_fault old_leaf_fault invalid_fault is_at_stage image_with row_of name_eq is_base
+returns-clause-forked c = λ area. refl

@@ -1,4 +1,4 @@
-use Rattle.vg_plain.proofs.SpotLaws.{ahead_in, ahead_spot}
+use Rattle.vg_volumes.proofs.SpotLaws.{ahead_in, ahead_spot}
 use Rattle.vg_plain.proofs.sectors.place_of.Goals as goal
 
 pub bounds-extents-index : goal.bounds-extents-index

@@ -3,7 +3,7 @@ use Rattle.sm_disk.specs.Memory.{held_by}
 use Rattle.sm_disk.proofs.FrontLaws.{gave_from_front}
 use Rattle.sm_disk.proofs.HeldLaws.{SameHeld-none, SameHeld-then}
 use Rattle.vg_volumes.specs.Volumes.{volume}
-use Rattle.vg_plain.proofs.SpotLaws.{spot_whole}
+use Rattle.vg_volumes.proofs.SpotLaws.{spot_whole}
 use Rattle.vg_plain.proofs.SectorWrites.{IsSpot, GaveFront-more, still_quiet}
 use Rattle.vg_plain.proofs.sectors.read_sectors.Goals as goal
 

@@ -1,6 +1,6 @@
 use Rattle.std.proofs.Common.{◌≡◌, false, true, rules, is_err, sym, ◌+◌, ◌∙◌, arith, refl}
 use Rattle.sm_disk.specs.Memory.{held_by}
-use Rattle.vg_plain.proofs.SpotLaws.{spot_whole}
+use Rattle.vg_volumes.proofs.SpotLaws.{spot_whole}
 use Rattle.vg_plain.proofs.SectorWrites.{IsSpot, IsPiece, HasWritten-none, HasWritten-more, HasTorn-more, piece_from, still_quiet, short_is}
 use Rattle.vg_plain.proofs.sectors.write_sectors.Goals as goal
 

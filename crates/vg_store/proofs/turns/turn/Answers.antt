@@ -3,7 +3,8 @@ use Rattle.sm_disk.proofs.HeldLaws.{Keeps-then}
 use Rattle.vg_layout.specs.Fields.{pointer}
 use Rattle.vg_layout.specs.Places.{slot_place}
 use Rattle.vg_store.proofs.CommitLaws.{slot_crash, slot_stands, header_crash, header_stands, group_after, area_same}
-use Rattle.vg_store.proofs.TurnLaws.{in_front, whole_from, len_most}
+use Rattle.vg_store.proofs.BesideLaws.{beside_reached}
+use Rattle.vg_store.proofs.TurnLaws.{in_front, in_slots, whole_from, len_most}
 use Rattle.vg_store.proofs.turns.turn.Goals as goal
 
 pub put-requires : goal.put-requires
@@ -73,3 +74,21 @@ pub returns-in_err-put-clause-stands : goal.returns-in_err-put-clause-stands
 returns-in_err-put-clause-stands g c = λ told p at t u bytes group next image allowed.
     inl (slot_stands _ _ _ p at t bytes c.args.text.now c.place.result image group c.requires.room (c.place.ensures ∙ ap slot_place next.slot)
     (len_most (length c.args.text.now) c.args.next.now.length c.requires.sectors c.requires.fits) (c.put.ensures.reaches told) allowed)
+
+pub returns-in_err-put-clause-beside : goal.returns-in_err-put-clause-beside
+returns-in_err-put-clause-beside g c = λ told area.
+    beside_reached area c.place.result _ _ c.args.text.now (in_slots c.args.next.now.slot c.place.result (length c.args.text.now) c.args.next.now.length c.place.ensures c.requires.sectors c.requires.fits) (c.put.ensures.reaches told)
+
+pub returns-in_err-put-2-clause-beside : goal.returns-in_err-put-2-clause-beside
+returns-in_err-put-2-clause-beside g c = λ told area.
+    let long : length c.write.new.to ≡ 512 = omega arith in
+    Keeps-then
+    (beside_reached area c.place.result _ _ c.args.text.now (in_slots c.args.next.now.slot c.place.result (length c.args.text.now) c.args.next.now.length c.place.ensures c.requires.sectors c.requires.fits) (c.put.ensures.reaches told))
+    (beside_reached area 1 _ _ c.write.new.to (omega (arith, long)) (c.put-2.ensures.reaches told))
+
+pub returns-clause-beside : goal.returns-clause-beside
+returns-clause-beside g c = λ told area.
+    let long : length c.write.new.to ≡ 512 = omega arith in
+    Keeps-then
+    (beside_reached area c.place.result _ _ c.args.text.now (in_slots c.args.next.now.slot c.place.result (length c.args.text.now) c.args.next.now.length c.place.ensures c.requires.sectors c.requires.fits) (c.put.ensures.reaches told))
+    (beside_reached area 1 _ _ c.write.new.to (omega (arith, long)) (c.put-2.ensures.reaches told))

@@ -1,7 +1,8 @@
 use Rattle.std.proofs.Common.{◌+◌, ◌%◌, ◌/◌, ◌<◌, refl, subst, arith}
 use Rattle.vg_volumes.specs.Volumes.{span}
 use Rattle.vg_store.specs.Runs.{AreAdjacent}
-use Rattle.vg_store.proofs.RunLaws.{ahead_div, in_extents, extent_some, run_from}
+use Rattle.vg_volumes.proofs.SpotLaws.{ahead_div, in_extents, extent_some}
+use Rattle.vg_store.proofs.RunLaws.{run_from}
 use Rattle.vg_store.proofs.volumes.run_at.Goals as goal
 
 pub adjacent-requires-clause-there : goal.adjacent-requires-clause-there

@@ -1,7 +1,7 @@
 use Rattle.vhd_volumes.proofs.StepLaws.{works-then}
 use Rattle.vhd_write.proofs.LoopLaws.{true_on}
 use Rattle.vhd_write.proofs.WorkLaws.{works-layout, works-room}
-use Rattle.vhd_write.proofs.TopLaws.{room-all, new-map, new-room, new-stands, guarded-now, still-now, written-now, guarded-then, still-then, written-then}
+use Rattle.vhd_write.proofs.TopLaws.{room-all, new-map, new-room, new-stands, guarded-now, heads-now, still-now, written-now, guarded-then, heads-then, still-then, written-then}
 use Rattle.vhd_write.proofs.writes.write_with.Goals as goal
 
 pub first_pass-requires-clause-slots : goal.first_pass-requires-clause-slots
@@ -43,9 +43,17 @@ pub returns-in_err-complete-clause-guarded : goal.returns-in_err-complete-clause
 returns-in_err-complete-clause-guarded g c = λ told.
     guarded-now c.args.from.now c.requires.stands c.requires.whole c.requires.slots c.span_of-span.ensures (c.requires.is_true told) (c.first_pass.ensures.reaches told)
 
+pub returns-in_err-complete-clause-heads : goal.returns-in_err-complete-clause-heads
+returns-in_err-complete-clause-heads g c = λ told.
+    heads-now c.args.from.now c.requires.stands c.requires.whole c.requires.slots c.span_of-span.ensures (c.requires.is_true told) (c.first_pass.ensures.reaches told)
+
 pub returns-then-complete-clause-guarded : goal.returns-then-complete-clause-guarded
 returns-then-complete-clause-guarded g c = λ told.
     guarded-now c.args.from.now c.requires.stands c.requires.whole c.requires.slots c.span_of-span.ensures (c.requires.is_true told) (c.first_pass.ensures.reaches told)
+
+pub returns-then-complete-clause-heads : goal.returns-then-complete-clause-heads
+returns-then-complete-clause-heads g c = λ told.
+    heads-now c.args.from.now c.requires.stands c.requires.whole c.requires.slots c.span_of-span.ensures (c.requires.is_true told) (c.first_pass.ensures.reaches told)
 
 pub returns-then-complete-clause-still : goal.returns-then-complete-clause-still
 returns-then-complete-clause-still g c = λ told.
@@ -64,9 +72,19 @@ returns-in_err-finish-clause-guarded g c = λ told.
     guarded-then c.args.from.now c.requires.stands c.requires.whole c.requires.slots c.span_of-span.ensures (c.requires.is_true told) (c.first_pass.ensures.reaches told)
     c.in_ok-complete.ensures.given (c.in_ok-complete.ensures.done told) (works-layout c.args.head.now c.first_pass.ensures.works) (c.finish.ensures.goes told)
 
+pub returns-in_err-finish-clause-heads : goal.returns-in_err-finish-clause-heads
+returns-in_err-finish-clause-heads g c = λ told.
+    heads-then c.args.from.now c.requires.stands c.requires.whole c.requires.slots c.span_of-span.ensures (c.requires.is_true told) (c.first_pass.ensures.reaches told)
+    c.in_ok-complete.ensures.given (c.in_ok-complete.ensures.done told) (works-layout c.args.head.now c.first_pass.ensures.works) (c.finish.ensures.goes told)
+
 pub returns-clause-guarded : goal.returns-clause-guarded
 returns-clause-guarded g c = λ told.
     guarded-then c.args.from.now c.requires.stands c.requires.whole c.requires.slots c.span_of-span.ensures (c.requires.is_true told) (c.first_pass.ensures.reaches told)
+    c.in_ok-complete.ensures.given (c.in_ok-complete.ensures.done told) (works-layout c.args.head.now c.first_pass.ensures.works) (c.finish.ensures.goes told)
+
+pub returns-clause-heads : goal.returns-clause-heads
+returns-clause-heads g c = λ told.
+    heads-then c.args.from.now c.requires.stands c.requires.whole c.requires.slots c.span_of-span.ensures (c.requires.is_true told) (c.first_pass.ensures.reaches told)
     c.in_ok-complete.ensures.given (c.in_ok-complete.ensures.done told) (works-layout c.args.head.now c.first_pass.ensures.works) (c.finish.ensures.goes told)
 
 pub returns-clause-still : goal.returns-clause-still

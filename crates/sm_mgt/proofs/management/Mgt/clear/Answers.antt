@@ -1,5 +1,6 @@
 use Rattle.std.proofs.Common.{◌≡◌, ◌<◌, ◌≤◌, length, refl, sym, ap, ◌∙◌, arith}
 use Rattle.sm_base.specs.declared.names.Name.TheVariants.{Mgt as mgt_name}
+use Rattle.sm_disk.proofs.HeldLaws.{Keeps-none, Keeps-then}
 use Rattle.sm_mgt.specs.Places.{place_count}
 use Rattle.sm_mgt.proofs.StoreLaws.{Stays-none, Stays-then, SameElsewhere-none, same_size, rose_later, on_err}
 use Rattle.sm_mgt.proofs.ClearLaws.{cleared_more, cleared_all, wrote_step, torn_step, elsewhere_step, has_or_not, TornZeros-wrote, WroteZeros-none, WroteZeros-all, within_all}
@@ -9,6 +10,7 @@ pub loop-place-init : goal.loop-place-init
 loop-place-init g c = record {
   stays = Stays-none _ _ _ _;
   counts = omega arith;
+  beside = λ told. Keeps-none _;
   memory = refl;
   wrote = λ told. WroteZeros-none _ _ (λ p h. omega (arith, h.0));
   elsewhere = λ told. SameElsewhere-none _ _ _;
@@ -31,6 +33,7 @@ loop-place-preserved g c =
     record {
       stays = Stays-then i.stays c.clear_at.ensures.stays;
       counts = omega (arith, i.counts, c.clear_at.ensures.counts);
+      beside = λ told. Keeps-then (i.beside told) (c.clear_at.ensures.beside told);
       memory = cleared_more c.args.uuid.now c.loop-place.place c.args.self.now c.loop-place.self _ below i.memory c.in_ok-clear_at.ensures.kept;
       wrote = λ told. wrote_step c.args.self.now c.loop-place.self c.args.uuid.now c.loop-place.place (g.S.Store.area c.args.store.now) (g.S.Store.area c.loop-place.store) (g.S.Store.area c.clear_at.new.store) below i.memory i.stays.same_site i.stays.same_table (i.wrote told) (c.in_ok-clear_at.ensures.wrote told);
       elsewhere = λ told. elsewhere_step i.stays.same_site i.stays.same_table (i.elsewhere told) (c.clear_at.ensures.elsewhere told);
@@ -45,6 +48,9 @@ returns-in_err-clear_at-clause-counts g c = omega (arith, c.loop-place.invariant
 pub returns-in_err-clear_at-clause-cause : goal.returns-in_err-clear_at-clause-cause
 returns-in_err-clear_at-clause-cause g c =
     on_err c.from_residual.result (rose_later c.loop-place.invariant.counts c.in_err-clear_at.ensures.cause)
+
+pub returns-in_err-clear_at-clause-beside : goal.returns-in_err-clear_at-clause-beside
+returns-in_err-clear_at-clause-beside g c = λ told. Keeps-then (c.loop-place.invariant.beside told) (c.clear_at.ensures.beside told)
 
 pub returns-in_err-clear_at-clause-torn : goal.returns-in_err-clear_at-clause-torn
 returns-in_err-clear_at-clause-torn g c = λ told.

@@ -1,5 +1,6 @@
 use Rattle.std.proofs.Common.{◌≡◌, ◌≤◌}
 use Rattle.sm_base.specs.declared.names.Name.TheVariants.{Mgt as mgt_name}
+use Rattle.sm_disk.specs.Held.{Keeps}
 use Rattle.vg_meta.specs.Tables.{rows, extents_of}
 use Rattle.vg_meta.specs.Kept.{listing}
 use Rattle.vg_volumes.specs.Volumes.{SameElsewhere}
@@ -12,6 +13,7 @@ abbrev pub invariant-loop-place : goal.invariant-loop-place
 invariant-loop-place g l = record {
   stays : Stays g.S.Store.site g.S.Store.kept g.S.Store.failed l.fn.store l.store;
   counts : g.S.Store.faults l.fn.store ≤ g.S.Store.faults l.store;
+  beside : g.S.Store.told → Keeps (g.S.Store.beside l.fn.store) (g.S.Store.beside l.store);
   memory : l.self ≡ cleared_to l.uuid l.place l.fn.self;
   wrote : g.S.Store.told
       → WroteZeros (Below (HasRecord l.fn.self l.uuid) l.place)

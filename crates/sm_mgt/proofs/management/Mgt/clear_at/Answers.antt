@@ -1,5 +1,6 @@
 use Rattle.std.proofs.Common.{◌≡◌, true, false, get_or, None, sym, ◌∙◌, rules}
 use Rattle.std.proofs.lemmas.Bool.{true≢false}
+use Rattle.sm_disk.proofs.HeldLaws.{Keeps-none}
 use Rattle.sm_mgt.specs.Places.{is_of}
 use Rattle.sm_mgt.proofs.StoreLaws.{Stays-none, SameElsewhere-none}
 use Rattle.sm_mgt.proofs.ClearLaws.{kept_with, kept_without, TornZeros-none, WroteZeros-none, zeros_torn, zeros_wrote}
@@ -7,6 +8,9 @@ use Rattle.sm_mgt.proofs.management.Mgt.clear_at.Goals as goal
 
 pub returns-then-not-has-clause-stays : goal.returns-then-not-has-clause-stays
 returns-then-not-has-clause-stays g c = Stays-none _ _ _ _
+
+pub returns-then-not-has-clause-beside : goal.returns-then-not-has-clause-beside
+returns-then-not-has-clause-beside g c = λ told. Keeps-none _
 
 pub returns-then-not-has-clause-torn : goal.returns-then-not-has-clause-torn
 returns-then-not-has-clause-torn g c = λ told. TornZeros-none _ _

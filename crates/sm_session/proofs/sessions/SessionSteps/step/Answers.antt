@@ -1,4 +1,3 @@
-use Rattle.std.proofs.Common.{sym, ap, ◌∙◌}
 use Rattle.sm_session.proofs.SessionLaws.{faces_after, settled_after, kept_either, shown_before}
 use Rattle.sm_session.proofs.sessions.SessionSteps.step.Goals as goal
 
@@ -25,3 +24,6 @@ pub returns-in-Err-clause-kept : goal.returns-in-Err-clause-kept
 returns-in-Err-clause-kept g c = λ told ready.
     let e = c.take-taken.ensures in
     kept_either _ _ _ _ e.site (e.taken told ready.1).crash
+
+pub returns-in-Ok-clause-untouched : goal.returns-in-Ok-clause-untouched
+returns-in-Ok-clause-untouched g c = λ told no. (c.in-Ok.ensures.untouched no).same_area told

@@ -1,6 +1,8 @@
-use Rattle.std.proofs.Common.{arith}
+use Rattle.std.proofs.Common.{◌*◌, arith}
 use Rattle.vg_layout.specs.Fields.{plate}
 use Rattle.vg_meta.specs.Kept.{listing}
+use Rattle.sm_disk.proofs.HeldLaws.{Keeps-same}
+use Rattle.vg_store.proofs.BesideLaws.{beside_kept}
 use Rattle.vg_store.proofs.HoldingLaws.{no_more-same, rests_still, stands_still}
 use Rattle.vg_store.proofs.StoreLaws.{extents_on_device}
 use Rattle.vg_store.proofs.stores.GroupStore.read.Goals as goal
@@ -24,3 +26,6 @@ invariant_of-self g c =
       rests = λ told usable. rests_still same (no_more-same (c.read_volume.ensures.same told)) (s.rests told usable);
       stands = λ told. stands_still (g.D.Disk.held s.disk) (g.D.Disk.held c.read_volume.new.disk) (plate s.label) same (no_more-same (c.read_volume.ensures.same told)) (s.stands told);
     }
+
+pub returns-clause-beside : goal.returns-clause-beside
+returns-clause-beside g c = λ told. beside_kept (c.args.self.now.label.extents * c.args.self.now.label.geometry.extent) (Keeps-same (c.read_volume.ensures.same told))

@@ -1,6 +1,8 @@
-use Rattle.std.proofs.Common.{arith}
+use Rattle.std.proofs.Common.{◌+◌, ◌*◌, arith}
 use Rattle.vg_layout.specs.Fields.{plate}
+use Rattle.vg_layout.specs.Places.{area_place}
 use Rattle.vg_meta.specs.Kept.{listing}
+use Rattle.vg_store.proofs.BesideLaws.{beside_written}
 use Rattle.vg_store.proofs.HoldingLaws.{no_more-front, rests_still, stands_still}
 use Rattle.vg_store.proofs.StoreLaws.{extents_on_device}
 use Rattle.vg_store.proofs.stores.GroupStore.write.Goals as goal
@@ -24,3 +26,12 @@ invariant_of-self g c =
       rests = λ told usable. rests_still same (no_more-front (c.write_volume.ensures.front told)) (s.rests told usable);
       stands = λ told. stands_still (g.D.Disk.held s.disk) (g.D.Disk.held c.write_volume.new.disk) (plate s.label) same (no_more-front (c.write_volume.ensures.front told)) (s.stands told);
     }
+
+pub returns-clause-beside : goal.returns-clause-beside
+returns-clause-beside g c = λ told.
+    let s = c.args.self.now in
+    let on = extents_on_device (area_place + s.label.extents * s.label.geometry.extent) s.label.extents s.label.geometry.extent (listing s.table) c.args.volume.now c.in-Some.volume.now.row c.extents.result.now
+    s.spelled.table (omega arith) c.in-Some.ensures.found.row c.extents.ensures.extents
+    in
+    beside_written (s.label.extents * s.label.geometry.extent) s.label.geometry.extent c.extents.result.now (g.D.Disk.held s.disk) (g.D.Disk.held c.write_volume.new.disk) on
+    (c.write_volume.ensures.front told) (c.write_volume.ensures.elsewhere told)

@@ -6,6 +6,7 @@ use Rattle.vhd_image.specs.declared.images.Body.{Body}
 use Rattle.vhd_image.specs.declared.images.Body.TheVariants.{Vhd}
 use Rattle.vhd_image.specs.Bodies.{TrueIn, sector_count, volume_name}
 use Rattle.vhd_image.specs.Changes.{with_size}
+use Rattle.vhd_image.proofs.CallLaws.{ends-others}
 use Rattle.vhd_image.proofs.ContentLaws.{geometry-ok}
 use Rattle.vhd_image.proofs.ChangeLaws.{resize-changes, resize-true, resized-proper}
 use Rattle.vhd_image.proofs.images.Image.set_size.Goals as goal
@@ -48,3 +49,15 @@ returns-clause-true_after g c = λ told.
     let grows : disk_sectors head.footer ≤ c.args.sectors = subst (λ (x : Body). sector_count x ≤ c.args.sectors) body c.requires.grows in
     let proper = resized-proper geometry n head c.in-Vhd.map c.args.sectors a ok c.requires.size true_old in
     rw body (resize-true geometry n head c.in-Vhd.map c.args.sectors ok c.requires.size grows a _ true_old (footer_bytes (with_size head c.args.sectors).footer) (c.put_footers.ensures.reads_back proper) (c.put_footers.ensures.ends told) (c.in_ok-put_footers-in-Vhd.ensures.last told) (c.put_footers.ensures.others told))
+
+pub returns-in_err-put_footers-in-Vhd-clause-others : goal.returns-in_err-put_footers-in-Vhd-clause-others
+returns-in_err-put_footers-in-Vhd-clause-others g c = λ told.
+    let body : c.args.self.now ≡ Vhd c.in-Vhd.head c.in-Vhd.map = sym c.self.view_is ∙ c.in-Vhd.is in
+    let n = sectors_of g.S.Store.site g.S.Store.kept c.args.store.now c.in-Vhd.head.volume in
+    rw body (ends-others n _ (c.put_footers.ensures.ends told) (c.put_footers.ensures.others told))
+
+pub returns-clause-others : goal.returns-clause-others
+returns-clause-others g c = λ told.
+    let body : c.args.self.now ≡ Vhd c.in-Vhd.head c.in-Vhd.map = sym c.self.view_is ∙ c.in-Vhd.is in
+    let n = sectors_of g.S.Store.site g.S.Store.kept c.args.store.now c.in-Vhd.head.volume in
+    rw body (ends-others n _ (c.put_footers.ensures.ends told) (c.put_footers.ensures.others told))

@@ -1,0 +1,96 @@
+//! The program: `lvhd PATH format EXTENT BLOCK ENTRIES UUID`, and `lvhd PATH run`.
+//!
+//! The file at PATH is the device; the script comes on standard input, and the replies go to standard output. What is
+//! asked for is done by the proved top call; here the file and the streams are opened, and the status is handed to the
+//! system. The program prints nothing of its own. Where a standard stream is closed, or another run has the file, nothing
+//! is done. Standard input is read in pieces, so behind a fault more of it may have been taken than was answered.
+#![tactic(auto)]
+
+use lvhd_command::lvhd;
+use sm_disk::MemDisk;
+use sm_host::{FileDisk, ReadSource, WriteSink, seconds_since_2000};
+use std::fs::{File, TryLockError};
+use std::io::{BufReader, BufWriter, Seek, SeekFrom};
+use std::os::fd::AsRawFd;
+use std::process::ExitCode;
+use std::time::{SystemTime, UNIX_EPOCH};
+use std::{env, io};
+
+/// The words, the file or its length could not be read, or a standard stream is closed.
+const UNREADABLE: u8 = 9;
+
+/// Another run has the file.
+const IN_USE: u8 = 11;
+
+/// The descriptors of the standard streams are below this.
+const STREAMS: i32 = 3;
+
+/// The program found no memory for itself.
+const NO_MEMORY: u8 = 7;
+
+fn main(rt: HostRuntime) -> ExitCode {
+    match status(&rt) {
+        Ok(code) => ExitCode::from(code),
+        Err(code) => ExitCode::from(code),
+    }
+}
+
+/// The exit status, once all was done.
+fn status(rt: &HostRuntime) -> Result<u8, u8> {
+    let arguments = arguments(rt)?;
+    let mut words = Vec::new(rt.alloc());
+    for argument in &arguments {
+        words.push(argument.as_str()).map_err(|_| NO_MEMORY)?;
+    }
+    let reader = BufReader::new(rt.alloc(), rt.reader()).map_err(|_| NO_MEMORY)?;
+    let writer = BufWriter::new(rt.alloc(), io::writer(rt)).map_err(|_| NO_MEMORY)?;
+    let now = now(rt);
+    let mut source = ReadSource::new(reader);
+    let mut sink = WriteSink::new(writer);
+    let Some((path, words)) = words.split_first() else {
+        let disk = MemDisk::new(rt.alloc(), 0).map_err(|_| NO_MEMORY)?;
+        let (status, _disk) = lvhd(rt.alloc(), &[], now, disk, &mut source, &mut sink);
+        return Ok(status.code());
+    };
+    let disk = device(rt, path)?;
+    let (status, _disk) = lvhd(rt.alloc(), words, now, disk, &mut source, &mut sink);
+    Ok(status.code())
+}
+
+/// The seconds since 2000-01-01 00:00 UTC, and 0 where the clock can't be read.
+fn now(rt: &HostRuntime) -> u32 {
+    let unix = SystemTime::now(rt)
+        .ok()
+        .and_then(|time| time.duration_since(UNIX_EPOCH).ok())
+        .map_or(0, |time| time.as_secs());
+    seconds_since_2000(unix)
+}
+
+/// The arguments behind the program's own name.
+fn arguments(rt: &HostRuntime) -> Result<Vec<String>, u8> {
+    let mut arguments = Vec::new(rt.alloc());
+    let all = env::args(rt).map_err(|_| UNREADABLE)?;
+    for argument in all.skip(1) {
+        arguments.push(argument).map_err(|_| NO_MEMORY)?;
+    }
+    Ok(arguments)
+}
+
+/// The device that the file at a path is, which is this run's alone. A file that was opened in the place of a standard
+/// stream is refused: the replies would be written into it, or its bytes read as the script.
+fn device(rt: &HostRuntime, path: &str) -> Result<FileDisk, u8> {
+    let mut file = File::options()
+        .read(true)
+        .write(true)
+        .open(rt, path)
+        .map_err(|_| UNREADABLE)?;
+    if file.as_raw_fd() < STREAMS {
+        return Err(UNREADABLE);
+    }
+    file.try_lock().map_err(|error| match error {
+        TryLockError::WouldBlock => IN_USE,
+        TryLockError::Error(_) => UNREADABLE,
+    })?;
+    let bytes = file.seek(SeekFrom::End(0)).map_err(|_| UNREADABLE)?;
+    Ok(FileDisk::new(file, bytes))
+}

@@ -1,0 +1,202 @@
+-- A device that was formatted is kept, and has no disks.
+use Rattle.std.proofs.Common.{◌≡◌, ℕ, zero, suc, ◌+◌, ◌*◌, ◌/◌, ◌%◌, ◌<◌, ◌≤◌, inl, inr, false, List, [], ◌∷◌, get_or, Ok, Some, None, refl, sym, ap, subst, ◌∙◌, arith}
+use Rattle.std.specs.List.{range_with_len, AllByRecursion}
+use Rattle.std.proofs.Math.Nat.{div-lt_iff_lt-mul, mul-le-mul_right}
+use Rattle.std.proofs.lemmas.List.{append-nil}
+use Rattle.std.proofs.lemmas.List.FromFn.{length-range_with_len, get_or-range_with_len}
+use Rattle.std.proofs.lemmas.Nat.{div-add-mod'}
+use Rattle.sm_base.specs.declared.names.Name.{Name}
+use Rattle.sm_base.specs.declared.names.Name.TheVariants.{Mgt, Raw}
+use Rattle.sm_base.specs.declared.sizes.Geometry.{Geometry}
+use Rattle.sm_base.proofs.NumberLemmas.{le-div_up}
+use Rattle.sm_disk.specs.Held.{Held, Allows, IsSettled}
+use Rattle.sm_disk.specs.Sectors.{zeros}
+use Rattle.sm_disk.proofs.HeldLaws.{allows_settled, reads-settled}
+use Rattle.sm_machine.specs.Disks.{Disk}
+use Rattle.sm_machine.specs.Lists.{In}
+use Rattle.sm_record.specs.Records.{reading}
+use Rattle.sm_record.specs.declared.records.Reading.TheVariants.{Free}
+use Rattle.sm_record.proofs.RoundTrips.{reading_zeros}
+use Rattle.vg_meta.specs.Tables.{IsTable, Listing, Row, row_of, name_eq, new_table}
+use Rattle.vg_layout.specs.Places.{area_place, header_place, label_place, record_extents}
+use Rattle.vg_layout.specs.Sectors.{Plate, Pointer}
+use Rattle.vg_layout.specs.Opening.{Standing, StandsOn, plate_of, text_in}
+use Rattle.vg_layout.proofs.ImageLaws.{plate_area, plate_few, plate_same, pointer_same, stands_from, stands_once, text_front}
+use Rattle.vg_store.specs.Formats.{IsFormatted, new_group}
+use Rattle.vg_volumes.specs.Volumes.{piece, spot}
+use Rattle.sm_standing.specs.Checks.{is_damaged}
+use Rattle.sm_standing.specs.Contents.{Content, row, reading_at, sectors_of, record_of}
+use Rattle.sm_standing.specs.Devices.{IsKeptOn, Shows, content_of}
+use Rattle.sm_standing.specs.Plain.{IsPlain}
+use Rattle.sm_standing.specs.PlainSound.{PlainSound}
+use Rattle.sm_standing.specs.Standing.{stands, disks}
+use Rattle.sm_standing.proofs.DiskLists.{disks_at}
+use Rattle.sm_standing.proofs.PlainDisks.{plain_stands, raw_stands, plain_disk_at, raw_disk_at}
+use Rattle.sm_standing.proofs.PlainKept.{plain_kept}
+use Rattle.lvhd_command.specs.Devices.{IsKeptDevice, MayShowOn}
+
+-- ---- a content with the table of a new group
+
+-- a content with the table of a new group of so many extents of records
+abbrev emptied : Content → ℕ → Content
+emptied c n = record { extent = c.extent; block = c.block; entries = c.entries; count = c.count; table = new_table n; area = c.area }
+
+new_plain : (n : ℕ) → IsPlain (new_table n)
+new_plain n = (refl, tt)
+
+no_raw : (c : Content) (n : ℕ) (u : List ℕ) → row (emptied c n) (Raw u) ≡ None
+unfolding row_of name_eq
+no_raw c n u = refl
+
+records_there : (c : Content) (n : ℕ) → row (emptied c n) Mgt ≡ Some (record { name = Mgt; hidden = false; fresh = false; extents = range_with_len 0 n })
+unfolding row_of name_eq
+records_there c n = refl
+
+no_standing : (n : ℕ) (u : List ℕ) (m : Name) → row_of (new_table n).volumes (Raw u) ≡ None → stands (new_table n) u ≡ Some m → ⊥
+no_standing n u m none h =
+    let e = sym (plain_stands (new_table n) u (new_plain n) ∙ ap (raw_stands u) none) ∙ h in (let x = e in cc)
+
+named_raw : (n : ℕ) (u : List ℕ) (r : Row) → In r (new_table n).volumes → r.name ≡ Raw u → ⊥
+named_raw n u r (inl is) name = let e = ap (λ (q : Row). q.name) (sym is) ∙ name in (let x = e in cc)
+named_raw n u r (inr none) name = elim none [ ]
+
+-- on the first extents each sector of a volume is the same of the area
+spot_first : (extent n p : ℕ) → 0 < extent → p < n * extent → spot extent (range_with_len 0 n) p ≡ p
+unfolding spot
+spot_first extent n p some below =
+    let first = get_or-range_with_len 0 n (p / extent) 0 ((div-lt_iff_lt-mul some).1 below) in
+    let here : get_or (range_with_len 0 n) (p / extent) 0 ≡ p / extent = omega (arith, first) in
+    ap (λ (i : ℕ). i * extent + p % extent) here ∙ div-add-mod' p extent
+
+-- what is said of the sectors of the records
+abbrev AreFree : (ℕ → List ℕ) → Type 0
+AreFree area = (q : ℕ) → q < 512 → area q ≡ zeros
+
+free_sector : (c : Content) (n : ℕ) → 0 < c.extent → 512 ≤ n * c.extent → AreFree c.area → (k : ℕ) → k < 512 → sectors_of (emptied c n) Mgt k ≡ zeros
+unfolding sectors_of piece row_of name_eq
+free_sector c n some room free k below = ap c.area (spot_first c.extent n k some (omega (arith, room, below))) ∙ free k below
+
+zeros_free : reading zeros ≡ Free
+unfolding zeros
+zeros_free = reading_zeros 512
+
+free_at : (c : Content) (n : ℕ) → 0 < c.extent → 512 ≤ n * c.extent → AreFree c.area → (k : ℕ) → k < 512 → reading_at (emptied c n) k ≡ Free
+free_at c n some room free k below = ap reading (free_sector c n some room free k below) ∙ zeros_free
+
+-- ---- it is sound, and has no disks
+
+new_sound : (c : Content) (n : ℕ) → 0 < c.extent → 512 ≤ n * c.extent → n ≡ record_extents c.extent → AreFree c.area → PlainSound (emptied c n)
+new_sound c n some room long free = record {
+  plain = new_plain n;
+  records_row = record { name = Mgt; hidden = false; fresh = false; extents = range_with_len 0 n };
+  records_there = records_there c n;
+  records_extents = length-range_with_len 0 n ∙ long;
+  few_images = omega arith;
+  past = λ r u h m. absurd (named_raw n u r h m);
+  sizes = λ r u h m f. absurd (named_raw n u r h m);
+  right = λ k below. ap is_damaged (free_at c n some room free k below);
+  recorded = λ u m is. absurd (no_standing n u m (no_raw c n u) is);
+}
+
+no_disks : (ds : List Disk) → ((d : Disk) → In d ds → ⊥) → ds ≡ []
+no_disks [] none = refl
+no_disks (d ∷ ds) none = absurd (none d (inl refl))
+
+new_disks : (c : Content) (n : ℕ) → disks (emptied c n) ≡ []
+new_disks c n = no_disks (disks (emptied c n)) (λ d h.
+    let at = disks_at (emptied c n) d h in
+    let none = plain_disk_at (emptied c n) d.uuid (new_plain n) ∙ ap (λ q. raw_disk_at (emptied c n) d.uuid q (record_of (emptied c n) d.uuid)) (no_raw c n d.uuid) in
+    let e = sym at ∙ none in (let x = e in cc))
+
+-- ---- a device
+
+records_room : (extent : ℕ) → 0 < extent → 512 ≤ record_extents extent * extent
+unfolding record_extents
+records_room extent some = le-div_up 512 extent some
+
+some_extent : (g : Geometry) → 0 < g.extent
+some_extent g = omega (arith, g.in_range.extent_least)
+
+pub formatted_kept : (size : ℕ) (image : ℕ → List ℕ) (g : Geometry) (repository : List ℕ) → IsFormatted size image g repository → IsKeptOn size image
+formatted_kept size image g repository f =
+    let c : Content = content_of (new_group size g repository) image in
+    record {
+      group = new_group size g repository;
+      stands = f.stands;
+      kept = plain_kept c (new_sound c (record_extents g.extent) (some_extent g) (records_room g.extent (some_extent g)) refl f.records);
+    }
+
+pub formatted_empty : (size : ℕ) (image : ℕ → List ℕ) (g : Geometry) (repository : List ℕ) → IsFormatted size image g repository → Shows size image []
+formatted_empty size image g repository f = record {
+  group = new_group size g repository;
+  stands = f.stands;
+  shown = sym (new_disks (content_of (new_group size g repository) image) (record_extents g.extent));
+}
+
+-- ---- a device with nothing pending
+
+-- the first extents are those of the group
+range_within : (a n count : ℕ) → AllByRecursion (λ (e : ℕ). e < count) (range_with_len a (suc n)) → a + suc n ≤ count
+range_within a zero count all = omega (arith, all.0)
+range_within a (suc n) count all = omega (arith, range_within (a + 1) n count all.1)
+
+new_within : (count n : ℕ) → IsTable count (new_table n) → n ≤ count
+new_within count zero t = omega arith
+new_within count (suc n) t =
+    let below = subst (λ (l : List ℕ). AllByRecursion (λ (e : ℕ). e < count) l) (append-nil (range_with_len 0 (suc n))) t.volumes.below in
+    omega (arith, range_within 0 n count below)
+
+-- so the records are on the device
+formatted_room : (size : ℕ) (image : ℕ → List ℕ) (g : Geometry) (repository : List ℕ) → IsFormatted size image g repository → area_place + 512 ≤ size
+formatted_room size image g repository f =
+    let p : Plate = (new_group size g repository).plate in
+    let area = plate_area size image p f.stands.labelled in
+    let most = mul-le-mul_right g.extent (new_within p.count (record_extents g.extent) f.stands.spelled.table) in
+    omega (arith, area, most, records_room g.extent (some_extent g))
+
+-- only the sectors of the device count
+formatted_same : (size : ℕ) (image other : ℕ → List ℕ) (g : Geometry) (repository : List ℕ) → IsFormatted size image g repository
+    → ((q : ℕ) → q < size → other q ≡ image q) → IsFormatted size other g repository
+formatted_same size image other g repository f same =
+    let s : Standing = new_group size g repository in
+    let room = formatted_room size image g repository f in
+    let front = λ (q : ℕ) (below : q < area_place). same q (omega (arith, room, below)) in
+    record {
+      stands = stands_from size other s.plate s.pointer s.table (text_in image s.pointer)
+          (plate_same size image other (front label_place (omega arith)) ∙ f.stands.labelled)
+          (pointer_same image other (front header_place (omega arith)) ∙ f.stands.headed)
+          (text_front image other s.pointer f.stands.headed front) f.stands.summed f.stands.spelled;
+      records = λ q below. same (area_place + q) (omega (arith, room, below)) ∙ f.records q below;
+    }
+
+formatted_allowed : (size : ℕ) (h : Held) (g : Geometry) (repository : List ℕ) → IsFormatted size h.floor g repository → IsSettled h
+    → (image : ℕ → List ℕ) → Allows size h image → IsFormatted size image g repository
+formatted_allowed size h g repository f settled image allowed =
+    formatted_same size h.floor image g repository f (λ q below. allows_settled size h image settled allowed q below ∙ reads-settled h q (settled q))
+
+pub device_kept : (size : ℕ) (h : Held) (g : Geometry) (repository : List ℕ) → IsFormatted size h.floor g repository → IsSettled h → IsKeptDevice size h
+device_kept size h g repository f settled = λ image allowed. formatted_kept size image g repository (formatted_allowed size h g repository f settled image allowed)
+
+-- a content with the table of a new group has no disks, whatever else it has
+table_disks : (c : Content) (n : ℕ) → c.table ≡ new_table n → disks c ≡ []
+table_disks c n is =
+    ap (λ (t : Listing). disks (record { extent = c.extent; block = c.block; entries = c.entries; count = c.count; table = t; area = c.area })) is ∙ new_disks c n
+
+plate_once : (size : ℕ) (m : ℕ → List ℕ) (p q : Plate) → plate_of size m ≡ Ok p → plate_of size m ≡ Ok q → p ≡ q
+plate_once size m p q a b = (let e = sym a ∙ b in cc)
+
+-- where the new group stands, no other does
+table_once : (size : ℕ) (m : ℕ → List ℕ) (p : Plate) (at : Pointer) (t : Listing) (g : Standing) → StandsOn size m (record { plate = p; pointer = at; table = t })
+    → StandsOn size m g → g.table ≡ t
+table_once size m p at t g a b =
+    let here : StandsOn size m (record { plate = p; pointer = g.pointer; table = g.table }) =
+    subst (λ (q : Plate). StandsOn size m (record { plate = q; pointer = g.pointer; table = g.table })) (plate_once size m g.plate p b.labelled a.labelled) b in
+    stands_once size m p g.pointer at g.table t (plate_few size m p a.labelled) here a
+
+pub device_empty : (size : ℕ) (h : Held) (g : Geometry) (repository : List ℕ) → IsFormatted size h.floor g repository → IsSettled h
+    → (ds : List Disk) → MayShowOn size h ds → ds ≡ []
+device_empty size h g repository f settled ds m =
+    let s : Standing = new_group size g repository in
+    let there = (formatted_allowed size h g repository f settled m.image m.allowed).stands in
+    m.shows.shown ∙ table_disks (content_of m.shows.group m.image) (record_extents g.extent)
+    (table_once size m.image s.plate s.pointer s.table m.shows.group there m.shows.stands)

@@ -1,0 +1,224 @@
+-- What a run of the program left on the device, from what its session left.
+use Rattle.std.proofs.Common.{◌≡◌, ◌≢◌, ◌⊎◌, inl, inr, ⊎_elim, ℕ, ◌+◌, List, [], Option, Result, Ok, Err, is_err, cond, refl, sym, ap, ap₂, subst, ◌∙◌}
+use Rattle.std.proofs.Math.Path.{fun_ext}
+use Rattle.std.specs.Prelude.{⊤}
+use Rattle.sm_base.specs.declared.faults.Failed.{Failed}
+use Rattle.sm_base.specs.declared.faults.OpenFault.{OpenFault}
+use Rattle.sm_base.specs.declared.faults.OpenFault.TheVariants as opening
+use Rattle.sm_disk.specs.Held.{IsSettled, Held, Keeps, reads}
+use Rattle.sm_disk.proofs.HeldLaws.{Allows-keeps, Allows-reads, Keeps-none}
+use Rattle.sm_disk.specs.Streams.{Adds}
+use Rattle.sm_disk.proofs.StreamLaws.{Adds-none}
+use Rattle.vg_store.specs.Openings.{IsAnswer}
+use Rattle.sm_script.specs.Pieces.{Writes}
+use Rattle.sm_machine.specs.Disks.{Disk}
+use Rattle.sm_machine.specs.Steps.{State}
+use Rattle.vg_layout.specs.Opening.{plate_of}
+use Rattle.vg_layout.specs.Places.{area_place}
+use Rattle.vg_meta.specs.Tables.{Listing}
+use Rattle.vg_store.specs.Groups.{Leaves, area_of}
+use Rattle.vg_volumes.specs.Sites.{Site}
+use Rattle.sm_recover.specs.Stores.{HasNoStray, content_in, content_now, state_now}
+use Rattle.sm_run.specs.Runs.{HasRun}
+use Rattle.sm_recover.specs.Repairs.{UnlessDevice}
+use Rattle.sm_run.specs.declared.runs.RunFault.{RunFault}
+use Rattle.sm_session.specs.Sessions.{MayShow, KeepsAll}
+use Rattle.sm_standing.specs.Contents.{Content}
+use Rattle.sm_standing.specs.Devices.{Shows, content_of}
+use Rattle.sm_standing.specs.Shapes.{shape}
+use Rattle.sm_standing.specs.Standing.{disks}
+use Rattle.lvhd_command.specs.declared.statuses.Status.{Status}
+use Rattle.lvhd_command.specs.declared.statuses.Status.TheVariants.{Done, Words, Device, Source, Sink, Refused, Memory, TooLong}
+use Rattle.lvhd_command.specs.Devices.{IsOpenedOn, IsSoundOn, IsRefusedOn, plate_at}
+use Rattle.lvhd_command.specs.Running.{RunSides, HasRunOn, HasStayed, IsLeft, ReadsAs, EndsAs, ShowsOnly, IsGivenBack, ToldOf, HasTold, HasSaid, status_of}
+use Rattle.lvhd_command.specs.Texts.{line_of, fault_words}
+use Rattle.lvhd_command.proofs.OpenLaws.{standing, extents_in, StandsAlways, kept_device, shown_device}
+
+-- ---- a run's facts, with other words for what a stop leaves
+
+run_as : {start end : State} {result : Result ⊤ RunFault} {hl l hg g : Option (List ℕ)} {leaves left : List Disk → Type 0} {ready ready' kept kept' : Type 0}
+    → ((ds : List Disk) → left ds → leaves ds) → (ready → ready') → (kept → kept') → HasRun start end result hl l hg g leaves ready kept → HasRun start end result hl l hg g left ready' kept'
+run_as fewer at keeps r = record {
+  bytes = r.bytes;
+  turns = r.turns;
+  pending = r.pending;
+  sent = r.sent;
+  takes = r.takes;
+  adds = r.adds;
+  how_far = r.how_far;
+  state = r.state;
+  leaves = λ ds h. r.leaves ds (fewer ds h);
+  ready = λ no. at (r.ready no);
+  kept = keeps r.kept;
+  spared = r.spared;
+}
+
+-- ---- what a read gives at the end
+
+-- a session's table is the only one that a stop leaves
+abbrev pub IsOneTable : ℕ → Site → Held → Listing → Type 0
+IsOneTable size site after t = (u : Listing) (image : ℕ → List ℕ) → Leaves size after (plate_at site) u image → u ≡ t
+
+abbrev state_of : Content → State
+state_of c = record { disks = disks c; shape = shape c }
+
+reads_as : (size : ℕ) (site : Site) (held after : Held) (t : Listing) → IsGivenBack size site held after → IsOneTable size site after t → HasNoStray (content_now site t (area_of held))
+    → ReadsAs size after (state_now site t (area_of held))
+reads_as size site held after t back one none =
+    let s = back.stands (reads after) (Allows-reads size after) in
+    let left : Leaves size after (plate_at site) s.table (extents_in (reads after)) = record { whole = reads after; allowed = Allows-reads size after; pointer = s.pointer; stands = s.stands; sectors = λ q. refl } in
+    let content : content_now site t (area_of held) ≡ content_of (standing site s.pointer s.table) (reads after)
+    = ap₂ (λ (u : Listing) (image : ℕ → List ℕ). content_in site u image) (sym (one s.table (extents_in (reads after)) left)) (fun_ext (λ q. sym (back.extents.reads q))) in
+    record { group = standing site s.pointer s.table; stands = s.stands; state = ap state_of content; no_stray = subst HasNoStray content none }
+
+-- ---- the whole
+
+pub has_run : (s : RunSides) (status : Status) (site : Site) (t : Listing) (held : Held) (start : State) (result : Result ⊤ RunFault) (Ready : Type 0)
+    → IsSoundOn s.size (reads s.old) → Shows s.size (reads s.old) start.disks → IsOpenedOn s.size (reads s.old) start.shape
+    → HasRun start (state_now site t (area_of held)) result s.had_left s.left s.had_got s.got (MayShow site (Leaves s.size held (plate_at site))) Ready (KeepsAll site (Leaves s.size held (plate_at site)))
+    → IsGivenBack s.size site held s.new → (Ready → IsOneTable s.size site s.new t) → (Ready → HasNoStray (content_now site t (area_of held))) → EndsAs result s.size s.new (state_now site t (area_of held)) status
+    → plate_of s.size (reads s.old) ≡ Ok (plate_at site) → HasRunOn s status
+has_run s status site t held start result Ready sound shown opened run back one none ends labelled =
+    let always = back.stands in
+    record {
+      sound = sound;
+      start = start;
+      end = state_now site t (area_of held);
+      result = result;
+      shown = shown;
+      opened = opened;
+      did = run_as
+          (λ ds m. let w = shown_device s.size s.new site ds always m in record { table = w.table; image = w.image; left = back.fewer w.table w.image w.left; shown = w.shown })
+          (λ r. reads_as s.size site held s.new t back (one r) (none r))
+          (λ keeps. kept_device s.size s.new site always (λ u image l. keeps u image (back.fewer u image l))) run;
+      ends = ends;
+      label = λ image allowed. (always image allowed).stands.labelled ∙ sym labelled;
+    }
+
+-- ---- a refusal
+
+pub told_refusal : (e : OpenFault) (had got : Option (List ℕ)) (before now : ℕ) (p : Result ⊤ Failed) (status : Status) → Writes (line_of (fault_words e)) had got before now p
+    → status ≡ cond (is_err p) Sink Refused → ToldOf e had got before now status
+told_refusal e had got before now (Ok v) status w is = subst (λ (x : Status). ToldOf e had got before now x) (sym is) w.adds
+told_refusal e had got before now (Err f) status w is = subst (λ (x : Status). ToldOf e had got before now x) (sym is) (w.cause, w.front)
+
+-- ---- the last sync, failed or not: a stop leaves no more, and reads give the same
+
+-- what a stop leaves of the group after a sync it might have left before
+fewer_after : (size : ℕ) (site : Site) (held after : Held) (t : Listing) (image : ℕ → List ℕ) → Keeps held after → Leaves size after (plate_at site) t image → Leaves size held (plate_at site) t image
+fewer_after size site held after t image k l = record { whole = l.whole; allowed = Allows-keeps size l.whole k l.allowed; pointer = l.pointer; stands = l.stands; sectors = l.sectors }
+
+pub kept_back_after : (size : ℕ) (site : Site) (held after : Held) → Keeps held after → StandsAlways size held site → IsGivenBack size site held after
+kept_back_after size site held after k always = record {
+  stands = λ image allowed. always image (Allows-keeps size image k allowed);
+  fewer = λ t image l. fewer_after size site held after t image k l;
+  extents = record { reads = λ q. k.reads (area_place + q); may = λ q v m. k.may (area_place + q) v m };
+}
+
+pub one_after : (size : ℕ) (site : Site) (held after : Held) (t : Listing) → Keeps held after → IsOneTable size site held t → IsOneTable size site after t
+one_after size site held after t k one = λ u image l. one u image (fewer_after size site held after u image k l)
+
+pub shown_after : (size : ℕ) (held after : Held) (ds : List Disk) → Keeps held after → ShowsOnly size held ds → ShowsOnly size after ds
+shown_after size held after ds k only = λ es m. only es (record { image = m.image; allowed = Allows-keeps size m.image k m.allowed; shows = m.shows })
+
+-- a stop of the device shows what a stop of the session shows
+pub shown_only : (size : ℕ) (site : Site) (held : Held) (ds : List Disk) → StandsAlways size held site
+    → ((es : List Disk) → MayShow site (Leaves size held (plate_at site)) es → es ≡ ds) → ShowsOnly size held ds
+shown_only size site held ds always only = λ es m. only es (shown_device size held site es always m)
+
+-- the same, where the session tells the size of its device
+pub has_run_sized : (s : RunSides) (status : Status) (other : ℕ) (site : Site) (t : Listing) (held : Held) (start : State) (result : Result ⊤ RunFault) (Ready : Type 0) → other ≡ s.size
+    → IsSoundOn s.size (reads s.old) → Shows s.size (reads s.old) start.disks → IsOpenedOn s.size (reads s.old) start.shape
+    → HasRun start (state_now site t (area_of held)) result s.had_left s.left s.had_got s.got (MayShow site (Leaves other held (plate_at site))) Ready (KeepsAll site (Leaves other held (plate_at site)))
+    → IsGivenBack other site held s.new → (Ready → IsOneTable other site s.new t) → (Ready → HasNoStray (content_now site t (area_of held))) → EndsAs result s.size s.new (state_now site t (area_of held)) status
+    → plate_of s.size (reads s.old) ≡ Ok (plate_at site) → HasRunOn s status
+has_run_sized s status other site t held start result Ready is_size sound shown opened run back one none ends labelled =
+    has_run s status site t held start result Ready sound shown opened
+    (subst (λ n. HasRun start (state_now site t (area_of held)) result s.had_left s.left s.had_got s.got (MayShow site (Leaves n held (plate_at site))) Ready (KeepsAll site (Leaves n held (plate_at site)))) is_size run)
+    (subst (λ n. IsGivenBack n site held s.new) is_size back) (λ r. subst (λ n. IsOneTable n site s.new t) is_size (one r)) none ends labelled
+
+-- a device that was handed back as it was
+pub back_itself : (size : ℕ) (site : Site) (held : Held) → StandsAlways size held site → IsGivenBack size site held held
+back_itself size site held always = record {
+  stands = always;
+  fewer = λ t image l. l;
+  extents = record { reads = λ q. refl; may = λ q v m. m };
+}
+
+pub ok_not_err : (r : Result ⊤ RunFault) (u : ⊤) (f : RunFault) → r ≡ Ok u → r ≡ Err f → ⊥
+ok_not_err r u f is failed = let e = sym is ∙ failed in (let x = e in cc)
+
+-- the script was read to its end
+pub ends_done : (size other : ℕ) (new : Held) (end : State) (result : Result ⊤ RunFault) (u : ⊤) (status : Status) (told : Type 0) → told → result ≡ Ok u → other ≡ size → ((status ≡ Done) × (told → IsSettled new)) ⊎ (status ≡ Device)
+    → ShowsOnly other new end.disks → EndsAs result size new end status
+ends_done size other new end result u status told it is is_size ended only =
+    let only_here : ShowsOnly size new end.disks = subst (λ n. ShowsOnly n new end.disks) is_size only in
+    subst (λ (r : Result ⊤ RunFault). EndsAs r size new end status) (sym is) (⊎_elim (λ done. inl (done.0, done.1 it, only_here)) (λ failed. inr failed) ended)
+
+pub ends_early : (size : ℕ) (new : Held) (end : State) (result : Result ⊤ RunFault) (f : RunFault) (status : Status) → result ≡ Err f → status ≡ status_of (Err f) → EndsAs result size new end status
+ends_early size new end result f status is status_is = subst (λ (r : Result ⊤ RunFault). EndsAs r size new end status) (sym is) status_is
+
+-- ---- not opened
+
+told_said : (s : RunSides) (e : OpenFault) (before now : ℕ) (status : Status) → IsRefusedOn s.size (reads s.old) e → ToldOf e s.had_got s.got before now status → HasSaid s status
+told_said s e before now Refused is t = (e, is, t)
+told_said s e before now Sink is t = (e, is, t.1)
+told_said s e before now Device is t = absurd t
+told_said s e before now Memory is t = absurd t
+told_said s e before now Done is t = absurd t
+told_said s e before now Words is t = absurd t
+told_said s e before now Source is t = absurd t
+told_said s e before now TooLong is t = absurd t
+
+silent : (s : RunSides) (status : Status) (to : Status) → status ≡ to → (Adds s.had_got [] s.got → HasSaid s to) → s.got ≡ s.had_got → HasSaid s status
+silent s status to is say same =
+    subst (λ (x : Status). HasSaid s x) (sym is) (say (subst (λ (g : Option (List ℕ)). Adds s.had_got [] g) (sym same) (Adds-none s.had_got)))
+
+pub said_refused : (s : RunSides) (e : OpenFault) (status : Status) (told : Type 0) (first last before now : ℕ) → told
+    → IsAnswer (λ f. told → IsRefusedOn s.size (reads s.old) f) first last e → HasTold e s.had_got s.got before now status → HasSaid s status
+said_refused s opening.Device status told first last before now it a h = silent s status Device h.0 (λ x. x) h.1
+said_refused s opening.NoMemory status told first last before now it a h = silent s status Memory h.0 (λ x. x) h.1
+said_refused s opening.NotARepository status told first last before now it a h = told_said s opening.NotARepository before now status (a it) h.1
+said_refused s (opening.Unsupported v) status told first last before now it a h = told_said s (opening.Unsupported v) before now status (a it) h.1
+said_refused s (opening.Damaged p) status told first last before now it a h = told_said s (opening.Damaged p) before now status (a it) h.1
+
+-- ---- a device that is not opened
+
+-- unless the device failed nothing was written
+pub left_of : (P : Type 0) (e : OpenFault) (had got : Option (List ℕ)) (before now : ℕ) (status : Status) → HasTold e had got before now status → UnlessDevice e P → status ≢ Device → P
+left_of P opening.Device had got before now status h left other = absurd (other h.0)
+left_of P opening.NoMemory had got before now status h left other = left
+left_of P opening.NotARepository had got before now status h left other = left
+left_of P (opening.Unsupported v) had got before now status h left other = left
+left_of P (opening.Damaged p) had got before now status h left other = left
+
+pub has_stayed : (s : RunSides) (e : OpenFault) (status : Status) (told : Type 0) (first last before now : ℕ) → told → s.left ≡ s.had_left
+    → IsAnswer (λ f. told → IsRefusedOn s.size (reads s.old) f) first last e → HasTold e s.had_got s.got before now status → UnlessDevice e (Keeps s.old s.new)
+    → IsLeft s.size s.old s.new → HasStayed s status
+has_stayed s e status told first last before now it source answer h left fewer = record {
+  source = source;
+  said = said_refused s e status told first last before now it answer h;
+  fewer = fewer;
+  untouched = left_of (Keeps s.old s.new) e s.had_got s.got before now status h left;
+}
+
+-- a refusal and want of memory are no fault of the device
+pub kept_off : (status : Status) → (status ≡ Refused) ⊎ (status ≡ Memory) → status ≢ Device
+kept_off status (inl is) failed = let x = sym is ∙ failed in (let y = x in cc)
+kept_off status (inr is) failed = let x = sym is ∙ failed in (let y = x in cc)
+
+-- a run that was read to its end is not refused, and did not find too little memory
+pub done_not_kept_off : (P : Type 0) (status : Status) → ((status ≡ Done) × P) ⊎ (status ≡ Device) → (status ≡ Refused) ⊎ (status ≡ Memory) → ⊥
+done_not_kept_off P status (inl done) (inl e) = let x = sym done.0 ∙ e in (let y = x in cc)
+done_not_kept_off P status (inl done) (inr e) = let x = sym done.0 ∙ e in (let y = x in cc)
+done_not_kept_off P status (inr failed) (inl e) = let x = sym failed ∙ e in (let y = x in cc)
+done_not_kept_off P status (inr failed) (inr e) = let x = sym failed ∙ e in (let y = x in cc)
+
+-- there was no memory for the lines, so nothing was done
+pub stayed_poor : (s : RunSides) → s.left ≡ s.had_left → s.got ≡ s.had_got → s.new ≡ s.old → HasStayed s Memory
+stayed_poor s source sink device = record {
+  source = source;
+  said = silent s Memory Memory refl (λ x. x) sink;
+  fewer = inl (subst (λ (h : Held). Keeps s.old h) (sym device) (Keeps-none s.old));
+  untouched = λ _. subst (λ (h : Held). Keeps s.old h) (sym device) (Keeps-none s.old);
+}

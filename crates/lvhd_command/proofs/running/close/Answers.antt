@@ -1,0 +1,59 @@
+use Rattle.vg_meta.specs.Kept.{listing}
+use Rattle.vg_volumes.specs.Sites.{Site}
+use Rattle.lvhd_command.specs.Devices.{site_on}
+use Rattle.lvhd_command.proofs.RunLaws.{kept_back_after, one_after, shown_after}
+use Rattle.lvhd_command.proofs.running.close.Goals as goal
+
+pub returns-in-Ok-clause-back : goal.returns-in-Ok-clause-back
+returns-in-Ok-clause-back g c = λ told.
+    let s = c.args.session in
+    let size = g.D.Disk.size s.store.disk in
+    let site : Site = site_on s.store.label size in
+    let keeps = rw c.leave-disk.ensures.disk at c.sync.ensures.keeps in
+    kept_back_after size site (g.D.Disk.held s.store.disk) _ (keeps told) (c.leave-disk.ensures.stands told)
+
+pub returns-in-Ok-clause-one : goal.returns-in-Ok-clause-one
+returns-in-Ok-clause-one g c = λ told whole.
+    let s = c.args.session in
+    let size = g.D.Disk.size s.store.disk in
+    let site : Site = site_on s.store.label size in
+    let keeps = rw c.leave-disk.ensures.disk at c.sync.ensures.keeps in
+    one_after size site (g.D.Disk.held s.store.disk) _ (listing s.store.table) (keeps told) (c.leave-disk.ensures.one told whole)
+
+pub returns-in-Ok-clause-shown : goal.returns-in-Ok-clause-shown
+returns-in-Ok-clause-shown g c = λ told whole rest.
+    let s = c.args.session in
+    let size = g.D.Disk.size s.store.disk in
+    let site : Site = site_on s.store.label size in
+    let keeps = rw c.leave-disk.ensures.disk at c.sync.ensures.keeps in
+    shown_after size (g.D.Disk.held s.store.disk) _ _ (keeps told) (c.leave-disk.ensures.shown told whole rest)
+
+pub returns-in-Err-clause-back : goal.returns-in-Err-clause-back
+returns-in-Err-clause-back g c = λ told.
+    let s = c.args.session in
+    let size = g.D.Disk.size s.store.disk in
+    let site : Site = site_on s.store.label size in
+    let keeps = rw c.leave-disk.ensures.disk at c.sync.ensures.keeps in
+    kept_back_after size site (g.D.Disk.held s.store.disk) _ (keeps told) (c.leave-disk.ensures.stands told)
+
+pub returns-in-Err-clause-one : goal.returns-in-Err-clause-one
+returns-in-Err-clause-one g c = λ told whole.
+    let s = c.args.session in
+    let size = g.D.Disk.size s.store.disk in
+    let site : Site = site_on s.store.label size in
+    let keeps = rw c.leave-disk.ensures.disk at c.sync.ensures.keeps in
+    one_after size site (g.D.Disk.held s.store.disk) _ (listing s.store.table) (keeps told) (c.leave-disk.ensures.one told whole)
+
+pub returns-in-Err-clause-shown : goal.returns-in-Err-clause-shown
+returns-in-Err-clause-shown g c = λ told whole rest.
+    let s = c.args.session in
+    let size = g.D.Disk.size s.store.disk in
+    let site : Site = site_on s.store.label size in
+    let keeps = rw c.leave-disk.ensures.disk at c.sync.ensures.keeps in
+    shown_after size (g.D.Disk.held s.store.disk) _ _ (keeps told) (c.leave-disk.ensures.shown told whole rest)
+
+pub returns-in-Ok-clause-keeps : goal.returns-in-Ok-clause-keeps
+returns-in-Ok-clause-keeps g c = λ told. let keeps = rw c.leave-disk.ensures.disk at c.sync.ensures.keeps in keeps told
+
+pub returns-in-Err-clause-keeps : goal.returns-in-Err-clause-keeps
+returns-in-Err-clause-keeps g c = λ told. let keeps = rw c.leave-disk.ensures.disk at c.sync.ensures.keeps in keeps told

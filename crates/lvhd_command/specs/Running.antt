@@ -1,0 +1,164 @@
+-- What the program did where it was told to run a script, by its status (this project's format). The premise is a device
+-- that is kept: whatever a stop leaves of it opens again.
+use Rattle.std.specs.Prelude.{◌≡◌, ◌≢◌, ◌≤◌, ◌⊎◌, ◌*◌, ℕ, List, [], ⊤, Option, Result, Ok, Err}
+use Rattle.sm_base.specs.declared.faults.OpenFault.{OpenFault}
+use Rattle.sm_base.specs.declared.faults.OpenFault.TheVariants as opening
+use Rattle.sm_disk.specs.Held.{Held, Allows, IsSettled, Keeps, Rose, reads}
+use Rattle.sm_disk.specs.Streams.{Adds, AddsFront}
+use Rattle.sm_machine.specs.Disks.{Disk}
+use Rattle.sm_machine.specs.Steps.{State}
+use Rattle.vg_layout.specs.Opening.{Standing, StandsOn, plate_of}
+use Rattle.vg_layout.specs.Sectors.{Plate}
+use Rattle.vg_meta.specs.Tables.{Listing}
+use Rattle.vg_store.specs.Groups.{IsStanding, Leaves, area_of, beside_of}
+use Rattle.vg_volumes.specs.Sites.{Site}
+use Rattle.sm_run.specs.Runs.{HasRun}
+use Rattle.sm_run.specs.declared.runs.RunFault.{RunFault}
+use Rattle.sm_run.specs.declared.runs.RunFault.TheVariants as run
+use Rattle.sm_recover.specs.Stores.{HasNoStray}
+use Rattle.sm_standing.specs.Devices.{Shows, content_of}
+use Rattle.sm_standing.specs.Shapes.{shape}
+use Rattle.sm_standing.specs.Standing.{disks}
+use Rattle.lvhd_command.specs.declared.statuses.Status.{Status}
+use Rattle.lvhd_command.specs.declared.statuses.Status.TheVariants.{Done, Words, Device, Source, Sink, Refused, Memory, TooLong}
+use Rattle.lvhd_command.specs.Devices.{IsKeptDevice, MayShowOn, IsSoundOn, IsRefusedOn, IsOpenedOn, plate_at}
+use Rattle.lvhd_command.specs.Texts.{line_of, fault_words}
+
+-- the device's size, what it held before and holds now; what the source had left before and has left now; what the sink
+-- held and holds
+pub record RunSides : Type 0 where
+  pub size : ℕ
+  pub old : Held
+  pub new : Held
+  pub had_left : Option (List ℕ)
+  pub left : Option (List ℕ)
+  pub had_got : Option (List ℕ)
+  pub got : Option (List ℕ)
+
+-- the sides of a run: what tells a device's size and what it holds, what a source has left and what a sink holds; then the
+-- device, the source and the sink, each before and after
+abbrev pub sides : {D S K : Type 0} → (D → ℕ) → (D → Held) → (S → Option (List ℕ)) → (K → Option (List ℕ)) → D → D → S → S → K → K → RunSides
+sides size held left got disk disk' source source' sink sink' = record {
+  size = size disk;
+  old = held disk;
+  new = held disk';
+  had_left = left source;
+  left = left source';
+  had_got = got sink;
+  got = got sink';
+}
+
+-- the status of a run
+abbrev pub status_of : Result ⊤ RunFault → Status
+status_of (Ok _) = Done
+status_of (Err run.Device) = Device
+status_of (Err run.Source) = Source
+status_of (Err run.Sink) = Sink
+status_of (Err run.TooLong) = TooLong
+
+-- a read gives the machine's disks and shape, and each record is that of a disk
+pub record ReadsAs (size : ℕ) (h : Held) (σ : State) : Type 0 where
+  pub group : Standing
+  pub stands : StandsOn size (reads h) group
+  pub state : σ ≡ record { disks = disks (content_of group (reads h)); shape = shape (content_of group (reads h)) }
+  pub no_stray : HasNoStray (content_of group (reads h))
+
+-- a stop shows these disks and no others
+abbrev pub ShowsOnly : ℕ → Held → List Disk → Type 0
+ShowsOnly size h ds = (es : List Disk) → MayShowOn size h es → es ≡ ds
+
+-- the run's own status, where nothing is pending and a stop shows the machine's disks alone once the script was read to its
+-- end; or the last sync failed once all was answered
+abbrev pub EndsAs : Result ⊤ RunFault → ℕ → Held → State → Status → Type 0
+EndsAs (Ok _) size new end status = ((status ≡ Done) × IsSettled new × ShowsOnly size new end.disks) ⊎ (status ≡ Device)
+EndsAs (Err f) size new end status = status ≡ status_of (Err f)
+
+-- on each image that the device allows now stands the label that a read gave at the entry
+abbrev pub HasLabel : ℕ → Held → Held → Type 0
+HasLabel size old new = (image : ℕ → List ℕ) → Allows size new image → plate_of size image ≡ plate_of size (reads old)
+
+-- or it is an image that the device allowed before
+abbrev pub MayHaveLabel : ℕ → Held → Held → Type 0
+MayHaveLabel size old new = (image : ℕ → List ℕ) → Allows size new image → Allows size old image ⊎ (plate_of size image ≡ plate_of size (reads old))
+
+-- The repository was opened, with the disks that a read gave at the entry and the shape that an opening makes of what stood
+-- there, and the script was run: what was read and answered, and what a stop may show now. The label stays, with the
+-- repository's UUID, its sizes and the number of its extents.
+pub record HasRunOn (s : RunSides) (status : Status) : Type 0 where
+  pub sound : IsSoundOn s.size (reads s.old)
+  pub start : State
+  pub end : State
+  pub result : Result ⊤ RunFault
+  pub shown : Shows s.size (reads s.old) start.disks
+  pub opened : IsOpenedOn s.size (reads s.old) start.shape
+  pub did : HasRun start end result s.had_left s.left s.had_got s.got (MayShowOn s.size s.new) (ReadsAs s.size s.new end) (IsKeptDevice s.size s.new)
+  pub ends : EndsAs result s.size s.new end status
+  pub label : HasLabel s.size s.old s.new
+
+-- the line that says why a repository is not opened, or nothing
+abbrev pub HasSaid : RunSides → Status → Type 0
+HasSaid s Refused = (e : OpenFault) × IsRefusedOn s.size (reads s.old) e × Adds s.had_got (line_of (fault_words e)) s.got
+HasSaid s Sink = (e : OpenFault) × IsRefusedOn s.size (reads s.old) e × AddsFront s.had_got (line_of (fault_words e)) s.got
+HasSaid s Device = Adds s.had_got [] s.got
+HasSaid s Memory = Adds s.had_got [] s.got
+HasSaid s Done = ⊥
+HasSaid s Words = ⊥
+HasSaid s Source = ⊥
+HasSaid s TooLong = ⊥
+
+-- a device that a session gave back, beside what the session held last: a group stands on whatever a stop leaves, which the
+-- session might have left too, and the extents read as they did
+pub record IsGivenBack (size : ℕ) (site : Site) (held after : Held) : Type 0 where
+  pub stands : (image : ℕ → List ℕ) → Allows size after image → IsStanding size image (plate_at site)
+  pub fewer : (t : Listing) (image : ℕ → List ℕ) → Leaves size after (plate_at site) t image → Leaves size held (plate_at site) t image
+  pub extents : Keeps (area_of held) (area_of after)
+
+-- a stop leaves nothing new: the whole device is kept, or of a group that stands its label, its table and its extents
+abbrev pub IsLeft : ℕ → Held → Held → Type 0
+IsLeft size old new = Keeps old new ⊎ ((site : Site) × (plate_of size (reads old) ≡ Ok (plate_at site)) × IsGivenBack size site old new)
+
+-- of each place that is no part of the group that stood at the entry a read gives the same, and a stop leaves nothing new
+abbrev pub KeepsBeside : ℕ → Held → Held → Type 0
+KeepsBeside size old new = (p : Plate) → plate_of size (reads old) ≡ Ok p
+    → Keeps (beside_of (p.count * p.extent) old) (beside_of (p.count * p.extent) new)
+
+-- the repository was not opened: nothing was read of the source, a stop may show no more than at the entry, and unless a call
+-- of the device failed nothing was written
+pub record HasNotOpened (s : RunSides) (status : Status) : Type 0 where
+  pub source : s.left ≡ s.had_left
+  pub said : HasSaid s status
+  pub kept : IsKeptDevice s.size s.new
+  pub shown : (ds : List Disk) → MayShowOn s.size s.new ds → MayShowOn s.size s.old ds
+  pub label : MayHaveLabel s.size s.old s.new
+  pub untouched : status ≢ Device → Keeps s.old s.new
+
+-- what a run of the program did
+abbrev pub RunDid : RunSides → Status → Type 0
+RunDid s status = HasRunOn s status ⊎ HasNotOpened s status
+
+-- a device that was not opened, for a check that fails or for want of memory: what was said of it, nothing was read of the
+-- source, a stop leaves nothing new, and unless a call of the device failed nothing was written
+pub record HasStayed (s : RunSides) (status : Status) : Type 0 where
+  pub source : s.left ≡ s.had_left
+  pub said : HasSaid s status
+  pub fewer : IsLeft s.size s.old s.new
+  pub untouched : status ≢ Device → Keeps s.old s.new
+
+-- the line of a refusal went out, or the sink failed at it
+abbrev pub ToldOf : OpenFault → Option (List ℕ) → Option (List ℕ) → ℕ → ℕ → Status → Type 0
+ToldOf e had got before now Refused = Adds had (line_of (fault_words e)) got
+ToldOf e had got before now Sink = Rose before now × AddsFront had (line_of (fault_words e)) got
+ToldOf e had got before now Device = ⊥
+ToldOf e had got before now Memory = ⊥
+ToldOf e had got before now Done = ⊥
+ToldOf e had got before now Words = ⊥
+ToldOf e had got before now Source = ⊥
+ToldOf e had got before now TooLong = ⊥
+
+-- what was said of a refusal: nothing of a fault of the device and of want of memory
+abbrev pub HasTold : OpenFault → Option (List ℕ) → Option (List ℕ) → ℕ → ℕ → Status → Type 0
+HasTold opening.Device had got before now status = (status ≡ Device) × (got ≡ had) × (now ≡ before)
+HasTold opening.NoMemory had got before now status = (status ≡ Memory) × (got ≡ had) × (now ≡ before)
+HasTold opening.NotARepository had got before now status = (before ≤ now) × ToldOf opening.NotARepository had got before now status
+HasTold (opening.Unsupported version) had got before now status = (before ≤ now) × ToldOf (opening.Unsupported version) had got before now status
+HasTold (opening.Damaged place) had got before now status = (before ≤ now) × ToldOf (opening.Damaged place) had got before now status

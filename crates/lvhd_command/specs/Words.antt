@@ -1,0 +1,27 @@
+-- What the program's words ask for (this project's format): `run`, or `format` with the sizes of an extent and of a block
+-- in bytes, the number of entries of a block allocation table, and the repository's UUID. Numbers are decimal.
+use Rattle.std.specs.Prelude.{◌≡◌, ℕ, List, [], ◌∷◌, map, codes, Option, Some, None, if◌then◌else◌}
+use Rattle.std.specs.Borrow.{Bor}
+use Rattle.std.specs.Str.{bytes_eq}
+use Rattle.sm_machine.specs.Lists.{◌>>=◌}
+use Rattle.sm_machine.specs.Lines.{number_of, uuid_of}
+use Rattle.lvhd_command.specs.declared.words.Form.{Form}
+use Rattle.lvhd_command.specs.declared.words.Form.TheVariants.{Format, Run}
+
+abbrev pub format_of : List ℕ → List ℕ → List ℕ → List ℕ → Option Form
+format_of extent block entries repository = do
+  e ← number_of extent
+  b ← number_of block
+  n ← number_of entries
+  u ← uuid_of repository
+  Some (Format (record { extent = e; block = b; entries = n; repository = u }))
+
+unfoldable pub form_of : List (List ℕ) → Option Form
+form_of (word ∷ []) = if bytes_eq word (codes "run") then Some Run else None
+form_of (word ∷ extent ∷ block ∷ entries ∷ repository ∷ []) =
+    if bytes_eq word (codes "format") then format_of extent block entries repository else None
+form_of _ = None
+
+-- the words ask for this, or spell no form
+abbrev pub Asks : List (Bor (List ℕ)) → Option Form → Type 0
+Asks words form = form_of (map (λ w. w.now) words) ≡ form

@@ -1,0 +1,46 @@
+//! The program, over any device, source and sink: a repository is made of a device, or a script is answered on it.
+//!
+//! **What is kept here.** Nothing. [`lvhd`] takes the words, the device, the source of the script and the sink of the
+//! replies, and hands the device back at every return. A device is counted in sectors of 512 bytes.
+//!
+//! **The model** (`specs/`). `Words` says what the words ask for, `Texts` the lines that the program prints of itself,
+//! `Statuses` the exit status. `Devices`: a device is kept where each image that a stop may leave of it opens again
+//! (`IsKeptDevice`), and it may show the disks of each such image (`MayShowOn`). `Formatting` and `Running` say by status
+//! what each word did.
+//!
+//! **What it promises.** [`lvhd`] on a device that tells its content and is kept, with the word `run`, at every return: the
+//! device is kept; what the sink got are the machine's replies to the lines that were read, and a front of one more; and
+//! whatever a stop leaves shows the disks after the lines read, the interrupted one wholly there or absent, each sector
+//! as it was after some prefix that reaches the last acknowledged line that changed more than sectors (`RunDid`, which
+//! cites `HasRun` of `sm_run`). At status 0 the script was read to its end, every line was answered, and a stop shows the
+//! machine's disks alone; a read gives them, and no record of no disk. The label stays, and so does all that stands on the
+//! device beside the repository (`KeepsBeside`).
+//!
+//! On a device on which a check of an opening fails, kept or not, one line says why, nothing is read of the script, a stop
+//! leaves nothing new whatever the status, and unless a call of the device failed nothing was written (`HasStayed`). The
+//! answer is one alone ([`law_exact`]). With the word `format`: exactly when it is refused, and that a stop leaves what was
+//! there, no repository, or the new one whole (`FormatDid`); sizes out of their ranges and a device that is too small leave
+//! it untouched whatever the status (`CannotFormat`). The statuses of a fault have their cause; want of memory has none,
+//! and comes before the first write. What a format leaves is kept and has no disks ([`law_formatted`]), so the premise is
+//! met.
+//!
+//! **What it costs.** `run` takes one line buffer, then the memory of an opening, and what a step takes; the script is read
+//! byte by byte.
+#![tactic(auto)]
+
+mod formatting;
+mod laws;
+mod opening;
+mod running;
+mod statuses;
+mod texts;
+mod top;
+mod words;
+
+pub use formatting::run_format;
+pub use laws::{law_exact, law_formatted};
+pub use opening::open;
+pub use running::run_script;
+pub use statuses::Status;
+pub use top::lvhd;
+pub use words::{Form, Request};

@@ -1,0 +1,69 @@
+//! The whole program, over any device, source and sink.
+
+ghost use Rattle.std.specs.Prelude.{◌≡◌, ◌≤◌, ◌⊎◌, None, Some};
+ghost use Rattle.sm_base.specs.declared.faults.OpenFault.{OpenFault};
+ghost use Rattle.sm_disk.specs.Held.{Rose, reads};
+ghost use Rattle.lvhd_command.specs.declared.statuses.Status.TheVariants as status;
+ghost use Rattle.lvhd_command.specs.declared.words.Form.TheVariants.{Format, Run};
+ghost use Rattle.lvhd_command.specs.declared.words.Request.{Request};
+ghost use Rattle.lvhd_command.specs.Devices.{IsKeptDevice, IsRefusedOn, IsSoundOn};
+ghost use Rattle.lvhd_command.specs.Formatting.{FormatDid, CannotFormat, asked, format_sides};
+ghost use Rattle.lvhd_command.specs.Running.{RunDid, HasStayed, KeepsBeside, sides};
+ghost use Rattle.lvhd_command.specs.Words.{Asks};
+
+use crate::formatting::run_format;
+use crate::running::run_script;
+use crate::statuses::Status;
+use crate::words::Form;
+use sm_disk::{Disk, Sink, Source};
+use std::alloc::Global;
+
+/// Does what the words ask for, on a device: `format EXTENT BLOCK ENTRIES UUID` makes a repository of it, and `run` opens
+/// the repository on it and answers the script that the source gives, one line of the sink for each line. The device is
+/// handed back at every return. `now` is in seconds since 2000-01-01 00:00 UTC.
+///
+/// A device on which a check of an opening fails is not opened: one line says why, a stop leaves nothing new of it, and
+/// unless a call of the device failed nothing was written. A run touches nothing on the device beside the repository, and
+/// a format that is refused touches nothing at all.
+pub fn lvhd<D: Disk, S: Source, K: Sink>(
+    alloc: Global,
+    words: &[&str],
+    now: u32,
+    disk: D,
+    source: &mut S,
+    sink: &mut K,
+) -> (Status, D)
+    ensures size { D.size result.1 ≡ D.size disk }
+    ensures counts { D.faults disk ≤ D.faults result.1 }
+    ensures source_counts { S.faults source.old ≤ S.faults source.new }
+    ensures sink_counts { K.faults sink.old ≤ K.faults sink.new }
+    ensures words { Asks words.now None → (result.0 ≡ status.Words) × (result.1 ≡ disk) × (source.new ≡ source.old) × (sink.new ≡ sink.old) }
+    ensures words_only { result.0 ≡ status.Words → Asks words.now None }
+    ensures device { result.0 ≡ status.Device → Rose (D.faults disk) (D.faults result.1) }
+    ensures source { result.0 ≡ status.Source → Rose (S.faults source.old) (S.faults source.new) }
+    ensures sink { result.0 ≡ status.Sink → Rose (K.faults sink.old) (K.faults sink.new) }
+    ensures format { (request : Request) → Asks words.now (Some (Format request)) → (source.new ≡ source.old) × FormatDid
+        (format_sides D.size D.told D.held D.faults K.content K.faults disk result.1 sink.old sink.new) (asked request) result.0 }
+    ensures cannot_format { (request : Request) → Asks words.now (Some (Format request)) → CannotFormat (D.size disk) (asked request)
+        → result.1 ≡ disk }
+    ensures run { Asks words.now (Some Run) → D.told → IsKeptDevice (D.size disk) (D.held disk)
+        → RunDid (sides D.size D.held S.content K.content disk result.1 source.old source.new sink.old sink.new) result.0 }
+    ensures beside { Asks words.now (Some Run) → D.told → KeepsBeside (D.size disk) (D.held disk) (D.held result.1) }
+    ensures refused { Asks words.now (Some Run) → D.told → (result.0 ≡ status.Refused) ⊎ (result.0 ≡ status.Memory)
+        → HasStayed (sides D.size D.held S.content K.content disk result.1 source.old source.new sink.old sink.new) result.0 }
+    ensures unsound { Asks words.now (Some Run) → D.told → (e : OpenFault) → IsRefusedOn (D.size disk) (reads (D.held disk)) e
+        → HasStayed (sides D.size D.held S.content K.content disk result.1 source.old source.new sink.old sink.new) result.0 }
+    ensures complete { Asks words.now (Some Run) → D.told → IsKeptDevice (D.size disk) (D.held disk) → IsSoundOn (D.size disk) (reads (D.held disk))
+        → (Rose (D.faults disk) (D.faults result.1) → ⊥) → (Rose (S.faults source.old) (S.faults source.new) → ⊥) → (Rose (K.faults sink.old) (K.faults sink.new) → ⊥)
+        → (result.0 ≡ status.Done) ⊎ ((result.0 ≡ status.Memory) ⊎ (result.0 ≡ status.TooLong)) }
+{
+    match Form::read(words) {
+        None => (Status::Words, disk),
+        Some(Form::Format(request)) => {
+            let mut disk = disk;
+            let status = run_format(alloc, &mut disk, &request, sink);
+            (status, disk)
+        }
+        Some(Form::Run) => run_script(alloc, now, disk, source, sink),
+    }
+}

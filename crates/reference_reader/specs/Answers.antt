@@ -1,0 +1,38 @@
+-- What the reader answers, by the definitions of a table's text and of an opening.
+use Rattle.std.specs.Prelude.{◌≡◌, ◌≢◌, ℕ, List, sum, Option, Some, None}
+use Rattle.sm_base.specs.declared.faults.OpenFault.{OpenFault}
+use Rattle.sm_base.specs.declared.faults.OpenFault.TheVariants.{Damaged}
+use Rattle.sm_base.specs.declared.faults.Place.TheVariants.{TableSum, Table}
+use Rattle.vg_layout.specs.Opening.{Standing, StandsOn, IsRefused}
+use Rattle.vg_meta.specs.Reading.{Spells, IsDamagedAt}
+use Rattle.vg_meta.specs.Tables.{Listing}
+
+-- the bytes spell a table
+pub record IsText (count : ℕ) (bytes : List ℕ) : Type 0 where
+  pub table : Listing
+  pub spells : Spells count bytes table
+
+-- bytes are the text of a table, or damaged at a place first
+abbrev pub IsDamage : ℕ → List ℕ → Option ℕ → Type 0
+IsDamage count bytes None = IsText count bytes
+IsDamage count bytes (Some place) = IsDamagedAt count bytes place
+
+-- the fifth check fails: the bytes have not this sum, or they spell no table
+pub data IsTextRefused (count total : ℕ) (bytes : List ℕ) : OpenFault → Type 0 where
+  by_sum : sum bytes ≢ total → IsTextRefused count total bytes (Damaged TableSum)
+  by_text : (place : ℕ) → sum bytes ≡ total → IsDamagedAt count bytes place → IsTextRefused count total bytes (Damaged (Table place))
+
+-- the fifth check: bytes have this sum and are the text of a table, or they are refused
+abbrev pub IsTextFault : ℕ → ℕ → List ℕ → Option OpenFault → Type 0
+IsTextFault count total bytes None = (sum bytes ≡ total) × IsText count bytes
+IsTextFault count total bytes (Some fault) = IsTextRefused count total bytes fault
+
+-- a group stands on a device of so many sectors
+pub record HasGroup (sectors : ℕ) (image : ℕ → List ℕ) : Type 0 where
+  pub group : Standing
+  pub stands : StandsOn sectors image group
+
+-- all five checks pass, or the first that fails gives the answer
+abbrev pub IsFault : ℕ → (ℕ → List ℕ) → Option OpenFault → Type 0
+IsFault sectors image None = HasGroup sectors image
+IsFault sectors image (Some fault) = IsRefused sectors image fault

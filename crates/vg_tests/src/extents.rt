@@ -1,0 +1,58 @@
+//! Free extents, worked by hand.
+
+use crate::large::large_text;
+use std::alloc::Global;
+use std::process::Abort;
+use std::test::Fail;
+use vg_extents::{FitFault, first_fit, free};
+use vg_meta::Table;
+
+/// Two volumes: the records on extents 0 and 1, and an image on 6 and 3.
+const SMALL: &[u8] =
+    b"\x00\x00\x00\x00\x00\x00\x00\x02\x00\x00\x00\x02\x03MGT\x00\x00\x00\x00\x02\x00\x00\x00\x00\x00\x00\x00\x01\x28VHD-11111111-1111-1111-1111-111111111111\x00\x00\x00\x00\x02\x00\x00\x00\x06\x00\x00\x00\x03";
+
+/// So many of 8 extents are found.
+fn finds(
+    rt: &impl Abort,
+    alloc: Global,
+    table: &Table,
+    need: u32,
+    want: &[u32],
+) -> Result<(), Fail> {
+    let found = first_fit(alloc, table, 8, need)?;
+    assert!(rt; found.as_slice() == want);
+    Ok(())
+}
+
+/// So many extents of a count are free, and more are refused.
+fn lacks(rt: &impl Abort, alloc: Global, table: &Table, count: u32, left: u32, need: u32) {
+    assert!(rt; free(table, count) == left);
+    let fault = FitFault::NoSpace { need, free: left };
+    assert!(rt; first_fit(alloc, table, count, need).err() == Some(fault));
+}
+
+#[test]
+fn the_least_extents_are_found(rt: HostRuntime) -> Result<(), Fail> {
+    let table = Table::decode(rt.alloc(), SMALL, 8)?;
+    for (need, want) in [(0, &[][..]), (1, &[2]), (3, &[2, 4, 5]), (4, &[2, 4, 5, 7])] {
+        finds(&rt, rt.alloc(), &table, need, want)?;
+    }
+    for (count, left, need) in [(8, 4, 5), (5, 2, 3), (2, 0, 1)] {
+        lacks(&rt, rt.alloc(), &table, count, left, need);
+    }
+    Ok(())
+}
+
+/// The 67 extents behind the others are found, and no more.
+fn finds_the_last(rt: &impl Abort, alloc: Global, table: &Table) -> Result<(), Fail> {
+    let found = first_fit(alloc, table, 65536, 67)?;
+    assert!(rt; found.iter().copied().eq(65469..65536));
+    lacks(rt, alloc, table, 65536, 67, 68);
+    Ok(())
+}
+
+#[test]
+fn at_65536_extents_and_500_volumes(rt: HostRuntime) -> Result<(), Fail> {
+    let table = Table::decode(rt.alloc(), &large_text(rt.alloc())?, 65536)?;
+    finds_the_last(&rt, rt.alloc(), &table)
+}

@@ -1,0 +1,20 @@
+//! Tests of the table of volumes, of extents, of the device's layout, of the store in memory and of the volume group.
+//!
+//! **What is kept here.** Nothing. Expected bytes are worked by hand from the tables of offsets. Tests stand in a crate of
+//! their own, since a library with tests is proved once more for them.
+#![tactic(auto)]
+
+#[cfg(test)]
+mod extents;
+#[cfg(test)]
+mod groups;
+#[cfg(test)]
+mod large;
+#[cfg(test)]
+mod layouts;
+#[cfg(test)]
+mod plain_stores;
+#[cfg(test)]
+mod sectors;
+#[cfg(test)]
+mod tables;
