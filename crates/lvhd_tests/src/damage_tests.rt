@@ -39,10 +39,14 @@ fn is_none(alloc: Global, sectors: u64) -> Result<bool, Fail> {
     ends(alloc, disk, b"list\n", Status::Refused, line)
 }
 
+/// A device with room for a repository, and one of no sectors.
+fn none_are(alloc: Global) -> Result<bool, Fail> {
+    Ok(is_none(alloc, DEVICE_SECTORS)? && is_none(alloc, 0)?)
+}
+
 #[test]
 fn no_repository(rt: HostRuntime) -> Result<(), Fail> {
-    assert!(rt; is_none(rt.alloc(), DEVICE_SECTORS)?);
-    assert!(rt; is_none(rt.alloc(), 0)?);
+    assert!(rt; none_are(rt.alloc())?);
     Ok(())
 }
 

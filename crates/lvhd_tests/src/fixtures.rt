@@ -6,7 +6,14 @@ use sm_disk::{Disk, MemDisk, MemSink, MemSource, read_sector, write_sector};
 use std::alloc::Global;
 use std::test::Fail;
 
-const REPOSITORY: &str = "99999999-9999-4999-8999-999999999999";
+/// The words that make a repository: extents of 32 sectors, blocks of 8, and so 64 entries.
+pub const FORMAT: [&str; 5] = [
+    "format",
+    "16384",
+    "4096",
+    "64",
+    "99999999-9999-4999-8999-999999999999",
+];
 
 /// Runs the program with these words, on a script that comes three bytes at a time.
 pub fn run_words(
@@ -20,29 +27,48 @@ pub fn run_words(
     Ok(lvhd(alloc, words, 0, disk, &mut source, sink))
 }
 
-/// Makes a repository of a device: extents of 32 sectors, blocks of 8, and so 64 entries.
-pub fn format(alloc: Global, disk: MemDisk, sink: &mut MemSink) -> Result<(Status, MemDisk), Fail> {
-    let words = ["format", "16384", "4096", "64", REPOSITORY];
-    run_words(alloc, &words, disk, b"", sink)
+/// Runs the program into a sink with so much room.
+pub fn ran(
+    alloc: Global,
+    words: &[&str],
+    disk: MemDisk,
+    script: &[u8],
+    room: Option<usize>,
+) -> Result<(Status, MemDisk), Fail> {
+    let mut sink = MemSink::new(alloc, room)?;
+    run_words(alloc, words, disk, script, &mut sink)
 }
 
 /// A device of so many sectors with a new repository, on which no call was counted yet.
 pub fn formatted(alloc: Global, sectors: u64) -> Result<MemDisk, Fail> {
-    let mut sink = MemSink::new(alloc, None)?;
-    let (_status, disk) = format(alloc, MemDisk::new(alloc, sectors)?, &mut sink)?;
+    let disk = MemDisk::new(alloc, sectors)?;
+    let (_status, disk) = ran(alloc, &FORMAT, disk, b"", None)?;
     Ok(disk.left(alloc, &[])?)
+}
+
+/// Writes the sectors of a device from this one on, all with the same byte.
+pub fn fill(disk: &mut MemDisk, from: u64) -> Result<(), Fail> {
+    for at in from..disk.sectors() {
+        if at < disk.sectors() {
+            write_sector(disk, at, &[0xab; 512])?;
+        }
+    }
+    disk.sync()?;
+    Ok(())
 }
 
 /// A device with a new repository, whose free extents hold stale bytes.
 pub fn stale(alloc: Global) -> Result<MemDisk, Fail> {
     let mut disk = formatted(alloc, DEVICE_SECTORS)?;
-    for at in 4608..DEVICE_SECTORS {
-        if at < disk.sectors() {
-            write_sector(&mut disk, at, &[0xab; 512])?;
-        }
-    }
-    disk.sync()?;
-    Ok(disk.left(alloc, &[])?)
+    fill(&mut disk, 4608)?;
+    Ok(disk)
+}
+
+/// A copy of a device, of which one call fails.
+pub fn failing(alloc: Global, disk: &MemDisk, call: u64) -> Result<MemDisk, Fail> {
+    let mut copy = disk.left(alloc, &[])?;
+    copy.fail(alloc, &[call])?;
+    Ok(copy)
 }
 
 /// Writes one byte of a device over.
@@ -58,6 +84,11 @@ pub fn damaged(disk: &mut MemDisk, at: u64, index: usize, byte: u8) -> Result<()
     Ok(())
 }
 
+/// Whether a run ended with this status, and what it printed is this.
+pub fn is_so(got: Status, sink: &MemSink, status: Status, printed: &[u8]) -> bool {
+    got == status && sink.bytes() == printed
+}
+
 /// Whether a script is answered so, to its end, with the device that is left.
 pub fn answers(
     alloc: Global,
@@ -67,7 +98,21 @@ pub fn answers(
 ) -> Result<(bool, MemDisk), Fail> {
     let mut sink = MemSink::new(alloc, None)?;
     let (status, disk) = run_words(alloc, &["run"], disk, script, &mut sink)?;
-    Ok((status == Status::Done && sink.bytes() == replies, disk))
+    Ok((is_so(status, &sink, Status::Done, replies), disk))
+}
+
+/// Whether a run with these words ends with this status, and what it printed is this.
+pub fn says(
+    alloc: Global,
+    words: &[&str],
+    disk: MemDisk,
+    script: &[u8],
+    status: Status,
+    printed: &[u8],
+) -> Result<bool, Fail> {
+    let mut sink = MemSink::new(alloc, None)?;
+    let (got, _disk) = run_words(alloc, words, disk, script, &mut sink)?;
+    Ok(is_so(got, &sink, status, printed))
 }
 
 /// Whether a script on a device ends with this status, and what it printed is this.
@@ -78,7 +123,5 @@ pub fn ends(
     status: Status,
     printed: &[u8],
 ) -> Result<bool, Fail> {
-    let mut sink = MemSink::new(alloc, None)?;
-    let (got, _disk) = run_words(alloc, &["run"], disk, script, &mut sink)?;
-    Ok(got == status && sink.bytes() == printed)
+    says(alloc, &["run"], disk, script, status, printed)
 }

@@ -1,28 +1,37 @@
 //! Repositories are made, or refused, and words are read.
 
-use crate::fixtures::{format, run_words};
+use crate::fixtures::{FORMAT, says};
 use lvhd_command::Status;
-use sm_disk::{MemDisk, MemSink};
+use sm_disk::MemDisk;
 use std::alloc::Global;
 use std::test::Fail;
 
-/// Whether a format of so many sectors ends with this exit status, and prints this.
-fn formats(alloc: Global, sectors: u64, code: u8, line: &[u8]) -> Result<bool, Fail> {
-    let mut sink = MemSink::new(alloc, None)?;
-    let (status, _disk) = format(alloc, MemDisk::new(alloc, sectors)?, &mut sink)?;
-    Ok(status.code() == code && sink.bytes() == line)
+/// Whether a format of so many sectors ends with this status, and prints this.
+fn formats(alloc: Global, sectors: u64, status: Status, line: &[u8]) -> Result<bool, Fail> {
+    let disk = MemDisk::new(alloc, sectors)?;
+    says(alloc, &FORMAT, disk, b"", status, line)
+}
+
+/// Whether it does with this exit status of the program.
+fn exits(alloc: Global, sectors: u64, status: Status, code: u8, line: &[u8]) -> Result<bool, Fail> {
+    Ok(status.code() == code && formats(alloc, sectors, status, line)?)
 }
 
 /// Devices with room and without.
 fn all_format(alloc: Global) -> Result<bool, Fail> {
     let cases = [
-        (6144, 0, b"ok extents 64 free 48\n".as_slice()),
-        (4608, 0, b"ok extents 16 free 0\n".as_slice()),
-        (4607, 6, b"error TooSmall 4608\n".as_slice()),
-        (0, 6, b"error TooSmall 4608\n".as_slice()),
+        (6144, Status::Done, 0, b"ok extents 64 free 48\n".as_slice()),
+        (4608, Status::Done, 0, b"ok extents 16 free 0\n".as_slice()),
+        (
+            4607,
+            Status::Refused,
+            6,
+            b"error TooSmall 4608\n".as_slice(),
+        ),
+        (0, Status::Refused, 6, b"error TooSmall 4608\n".as_slice()),
     ];
-    for (sectors, code, line) in cases {
-        if !formats(alloc, sectors, code, line)? {
+    for (sectors, status, code, line) in cases {
+        if !exits(alloc, sectors, status, code, line)? {
             return Ok(false);
         }
     }
@@ -36,11 +45,9 @@ fn devices(rt: HostRuntime) -> Result<(), Fail> {
 }
 
 /// Whether these words, on a device of 4,608 sectors, end with this status, and print this.
-fn says(alloc: Global, words: &[&str], status: Status, line: &[u8]) -> Result<bool, Fail> {
-    let mut sink = MemSink::new(alloc, None)?;
+fn replies(alloc: Global, words: &[&str], status: Status, line: &[u8]) -> Result<bool, Fail> {
     let disk = MemDisk::new(alloc, 4608)?;
-    let (got, _disk) = run_words(alloc, words, disk, b"list\n", &mut sink)?;
-    Ok(got == status && sink.bytes() == line)
+    says(alloc, words, disk, b"list\n", status, line)
 }
 
 /// 32,768 bytes are no block.
@@ -52,7 +59,7 @@ fn refuses_sizes(alloc: Global) -> Result<bool, Fail> {
         "64",
         "99999999-9999-4999-8999-999999999999",
     ];
-    says(alloc, &words, Status::Refused, b"error BadGeometry\n")
+    replies(alloc, &words, Status::Refused, b"error BadGeometry\n")
 }
 
 #[test]
@@ -63,7 +70,7 @@ fn sizes_out_of_their_ranges(rt: HostRuntime) -> Result<(), Fail> {
 
 /// Whether such words are none of the program's.
 fn spell_nothing(alloc: Global, words: &[&str]) -> Result<bool, Fail> {
-    says(alloc, words, Status::Words, b"")
+    replies(alloc, words, Status::Words, b"")
 }
 
 /// Words too many and too few, one in capitals, one that is no UUID, and none.

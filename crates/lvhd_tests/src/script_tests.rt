@@ -29,15 +29,17 @@ fn answers_alone(
     Ok(answered)
 }
 
-/// Whether two disks are made, and are there in a further run and after a stop.
+/// Whether a copy of a device answers with the two disks.
+fn lists_two(alloc: Global, disk: &MemDisk) -> Result<bool, Fail> {
+    answers_alone(alloc, disk.left(alloc, &[])?, b"list\n", TWO)
+}
+
+/// Whether two disks are made, and are there after a stop and in a further run.
 fn two_stay(alloc: Global) -> Result<bool, Fail> {
     let disk = formatted(alloc, DEVICE_SECTORS)?;
     let (made, disk) = answers(alloc, disk, MAKE_TWO, MADE_TWO)?;
-    let left = disk.left(alloc, &[])?;
-    Ok(
-        made && answers_alone(alloc, disk, b"list", TWO)?
-            && answers_alone(alloc, left, b"list\n", TWO)?,
-    )
+    let listed = lists_two(alloc, &disk)?;
+    Ok(made & listed & answers_alone(alloc, disk, b"list", TWO)?)
 }
 
 #[test]
@@ -141,7 +143,7 @@ fn reads_four_times(alloc: Global) -> Result<bool, Fail> {
         return Ok(false);
     }
     let (answered, disk) = answers(alloc, disk, b"", b"")?;
-    Ok(answered && disk.reads() == 4 && disk.sectors() == 6144)
+    Ok(answered & (disk.reads() == 4) & (disk.sectors() == 6144))
 }
 
 #[test]

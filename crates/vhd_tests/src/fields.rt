@@ -144,18 +144,22 @@ const FOOTER_FAULTS: [(usize, u8, FieldFault); 8] = [
     (63, 1, FieldFault::Field { offset: 60 }),
 ];
 
+/// Whether a footer with another byte is refused so. The checksum, which no longer fits, is tested behind the cookie and in
+/// front of all else.
+fn is_footer_fault(mut bytes: [u8; 512], at: usize, byte: u8, fault: FieldFault) -> bool {
+    set(&mut bytes, at, byte);
+    let first = if at == 0 { fault } else { FieldFault::Checksum };
+    let is_first = Footer::read(&bytes) == Err(first);
+    reseal(&mut bytes, 64);
+    is_first && Footer::read(&bytes) == Err(fault)
+}
+
 #[test]
 fn footer_faults(rt: HostRuntime) {
     let mut whole = [0; 512];
     footer().write(&mut whole);
     for (at, byte, fault) in FOOTER_FAULTS {
-        let mut bytes = whole;
-        set(&mut bytes, at, byte);
-        // The checksum, which no longer fits, is tested behind the cookie and in front of all else.
-        let first = if at == 0 { fault } else { FieldFault::Checksum };
-        assert!(rt; Footer::read(&bytes) == Err(first), "at {at}");
-        reseal(&mut bytes, 64);
-        assert!(rt; Footer::read(&bytes) == Err(fault), "at {at}");
+        assert!(rt; is_footer_fault(whole, at, byte, fault), "at {at}");
     }
 }
 
@@ -173,17 +177,21 @@ const HEADER_FAULTS: [(usize, u8, FieldFault); 10] = [
     (65, b'V', FieldFault::Field { offset: 64 }),
 ];
 
+/// The same of a header.
+fn is_header_fault(mut bytes: [u8; 1024], at: usize, byte: u8, fault: FieldFault) -> bool {
+    set(&mut bytes, at, byte);
+    let first = if at == 7 { fault } else { FieldFault::Checksum };
+    let is_first = Header::read(&bytes) == Err(first);
+    reseal(&mut bytes, 36);
+    is_first && Header::read(&bytes) == Err(fault)
+}
+
 #[test]
 fn header_faults(rt: HostRuntime) {
     let mut whole = [0; 1024];
     header(None).write(&mut whole);
     for (at, byte, fault) in HEADER_FAULTS {
-        let mut bytes = whole;
-        set(&mut bytes, at, byte);
-        let first = if at == 7 { fault } else { FieldFault::Checksum };
-        assert!(rt; Header::read(&bytes) == Err(first), "at {at}");
-        reseal(&mut bytes, 36);
-        assert!(rt; Header::read(&bytes) == Err(fault), "at {at}");
+        assert!(rt; is_header_fault(whole, at, byte, fault), "at {at}");
     }
 }
 

@@ -2,10 +2,11 @@
 
 ghost use Rattle.std.specs.Prelude.{◌≡◌, false, IfOk, OnOk};
 
-use crate::fixtures::{add, holds, new_device, opened, volume};
+use crate::fixtures::{add, holds, new_device, volume};
 use crate::heads::{end, make_child, opening_fault, put_raw, raw_sector, set_parent, set_size};
 use crate::images::{make, opened as image_in, own};
 use crate::making_tests::{compare_but, spoil};
+use crate::runs::{Work, run};
 use crate::sectors::{
     CHILD_UID, UID, child_footer, child_header, footer, relinked_header, sized_footer, stale,
 };
@@ -53,7 +54,7 @@ fn zero<S: Store>(store: &mut S, name: &Name, at: u64) -> Result<(), Fail>
 }
 
 /// Zeros the footer and then its copy, and opens each time.
-fn lose_footers<S: Store>(alloc: Global, store: &mut S) -> Result<(), Fail>
+pub fn lose_footers<S: Store>(alloc: Global, store: &mut S) -> Result<(), Fail>
     requires { S.failed store.old ≡ false }
 {
     prepare(alloc, store)?;
@@ -72,7 +73,7 @@ fn lose_footers<S: Store>(alloc: Global, store: &mut S) -> Result<(), Fail>
 }
 
 /// Makes a child, and gives it another parent.
-fn link<S: Store>(alloc: Global, store: &mut S) -> Result<(), Fail>
+pub fn link<S: Store>(alloc: Global, store: &mut S) -> Result<(), Fail>
     requires told { ¬ S.told }
     requires usable { S.failed store.old ≡ false }
 {
@@ -92,7 +93,7 @@ fn link<S: Store>(alloc: Global, store: &mut S) -> Result<(), Fail>
 }
 
 /// Makes a disk larger by a block.
-fn enlarge<S: Store>(alloc: Global, store: &mut S) -> Result<(), Fail>
+pub fn enlarge<S: Store>(alloc: Global, store: &mut S) -> Result<(), Fail>
     requires told { ¬ S.told }
     requires usable { S.failed store.old ≡ false }
 {
@@ -113,7 +114,7 @@ fn enlarge<S: Store>(alloc: Global, store: &mut S) -> Result<(), Fail>
 }
 
 /// Ends an image in three of five extents.
-fn end_sooner<S: Store>(alloc: Global, store: &mut S) -> Result<(), Fail>
+pub fn end_sooner<S: Store>(alloc: Global, store: &mut S) -> Result<(), Fail>
     requires told { ¬ S.told }
     requires usable { S.failed store.old ≡ false }
 {
@@ -124,7 +125,7 @@ fn end_sooner<S: Store>(alloc: Global, store: &mut S) -> Result<(), Fail>
 }
 
 /// Takes a volume as a raw image.
-fn use_raw<S: Store>(alloc: Global, store: &mut S) -> Result<(), Fail>
+pub fn use_raw<S: Store>(alloc: Global, store: &mut S) -> Result<(), Fail>
     requires told { ¬ S.told }
     requires usable { S.failed store.old ≡ false }
 {
@@ -141,53 +142,19 @@ fn use_raw<S: Store>(alloc: Global, store: &mut S) -> Result<(), Fail>
     )
 }
 
-/// What is done to an image.
-#[derive(Clone, Copy)]
-enum Change {
-    LoseFooters,
-    Link,
-    Enlarge,
-    EndSooner,
-    UseRaw,
-}
-
-/// Does it in a new group.
-fn run(alloc: Global, change: Change) -> Result<(), Fail> {
-    let mut group = opened(alloc, new_device(alloc)?)?;
-    let done = match change {
-        Change::LoseFooters => lose_footers(alloc, &mut group),
-        Change::Link => link(alloc, &mut group),
-        Change::Enlarge => enlarge(alloc, &mut group),
-        Change::EndSooner => end_sooner(alloc, &mut group),
-        Change::UseRaw => use_raw(alloc, &mut group),
-    };
-    let _disk = group.into_disk();
-    done
-}
-
 #[test]
-fn an_image_is_read_by_its_footer_or_the_copy(rt: HostRuntime) -> Result<(), Fail> {
-    run(rt.alloc(), Change::LoseFooters)
-}
-
-#[test]
-fn a_child_names_its_parent_and_then_another(rt: HostRuntime) -> Result<(), Fail> {
-    run(rt.alloc(), Change::Link)
-}
-
-#[test]
-fn a_larger_disk_has_both_footers_and_holds_no_new_sector(rt: HostRuntime) -> Result<(), Fail> {
-    run(rt.alloc(), Change::Enlarge)
-}
-
-#[test]
-fn an_image_ends_sooner_by_one_more_footer(rt: HostRuntime) -> Result<(), Fail> {
-    run(rt.alloc(), Change::EndSooner)
-}
-
-#[test]
-fn a_raw_image_is_all_sectors_of_its_volume(rt: HostRuntime) -> Result<(), Fail> {
-    run(rt.alloc(), Change::UseRaw)
+fn an_image_is_found_linked_enlarged_ended_and_raw(rt: HostRuntime) -> Result<(), Fail> {
+    for work in [
+        Work::LoseFooters,
+        Work::Link,
+        Work::Enlarge,
+        Work::EndSooner,
+        Work::UseRaw,
+        Work::Make,
+    ] {
+        run(rt.alloc(), new_device(rt.alloc())?, work)?;
+    }
+    Ok(())
 }
 
 /// Whether an image is the raw one of 160 sectors in this volume.

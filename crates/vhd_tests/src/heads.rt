@@ -2,15 +2,15 @@
 
 ghost use Rattle.std.specs.Prelude.{◌≡◌, false, ◌<◌, ◌≤◌, ◌*◌, Some, IfOk, OnOk};
 ghost use Rattle.std.specs.Bool.{OnTrue};
+ghost use Rattle.sm_base.specs.Names.{IsName};
 ghost use Rattle.vhd_fields.specs.ParentNames.{IsParent};
 ghost use Rattle.vhd_volumes.specs.Steps.{sectors_of};
 ghost use Rattle.vhd_image.specs.Bodies.{IsVhd, StandsIn, volume_name};
 ghost use Rattle.vhd_image.specs.Made.{MayHave};
 
-use crate::images::{opened, own_of};
+use crate::images::{is_size, opened, own_of, write_with_pool};
 use crate::volumes::{extents_of, sectors_in};
 use sm_base::{Name, OpenFault};
-use sm_pool::Pool;
 use std::alloc::Global;
 use std::test::Fail;
 use uuid::Uuid;
@@ -34,21 +34,22 @@ pub fn opening_fault<S: Store>(
     }
 }
 
+/// Whether a name is spelled as names are.
+fn is_name(name: &Name) -> bool
+    ensures { OnTrue result (IsName name.now) }
+{
+    let mut text = [0; 128];
+    let length = name.spell(&mut text);
+    Name::read(&text[..length]) == Some(*name)
+}
+
 /// Whether a name is that of a VHD image or a raw one, spelled as names are.
 #[tactic(auto, unfolding(vhd_fields::specs::ParentNames::IsParent))]
 fn is_parent(name: &Name) -> bool
     ensures { OnTrue result (IsParent (Some name.now)) }
 {
-    let mut text = [0; 128];
-    let length = name.spell(&mut text);
-    let Some(read) = Name::read(&text[..length]) else {
-        return false;
-    };
-    if read != *name {
-        return false;
-    }
     match name {
-        Name::Vhd(_) | Name::Raw(_) => true,
+        Name::Vhd(_) | Name::Raw(_) => is_name(name),
         _ => false,
     }
 }
@@ -69,10 +70,10 @@ fn make_with<S: Store>(
     parent: &Image,
 ) -> Result<Option<Name>, Fail> {
     let geometry = store.geometry();
-    if geometry.block != 8 || geometry.entries != 64 {
-        return Err(Fail::from("blocks of 8 sectors, and 64 entries"));
-    }
-    if !may_be_parent(parent) || sectors_in(store, name)? <= geometry.first() {
+    if sectors_in(store, name)? <= geometry.first()
+        || !may_be_parent(parent)
+        || !is_size(&geometry, 128)
+    {
         return Err(Fail::from("a parent that is no larger, and room"));
     }
     let map = Map::blank(alloc, geometry.entries)?;
@@ -136,14 +137,8 @@ fn resize<S: Store>(store: &mut S, image: &mut Image, sectors: u64) -> Result<u6
     requires stands { StandsIn (S.site store.old).geometry
         (sectors_of S.site S.kept store.old (volume_name image.old)) image.old }
 {
-    let geometry = store.geometry();
-    let block = u64::from(geometry.block);
-    let blocks = sectors / block;
-    if sectors % block != 0 || blocks < 1 || blocks > u64::from(geometry.entries) {
-        return Err(Fail::from("a size of whole blocks"));
-    }
-    if image.sectors() > sectors {
-        return Err(Fail::from("a larger size"));
+    if image.sectors() > sectors || !is_size(&store.geometry(), sectors) {
+        return Err(Fail::from("a larger size of whole blocks"));
     }
     image.set_size(store, sectors)?;
     Ok(image.sectors())
@@ -169,11 +164,11 @@ fn end_in<S: Store>(store: &mut S, image: &Image, extents: u32) -> Result<(), Fa
 {
     let geometry = store.geometry();
     let sectors = u64::from(extents) * u64::from(geometry.extent);
-    if sectors > sectors_in(store, &image.name())? {
-        return Err(Fail::from("extents of the volume"));
-    }
-    if image.top() != 0 || sectors <= geometry.first() {
-        return Err(Fail::from("room for an image without slots"));
+    if sectors > sectors_in(store, &image.name())?
+        || image.top() != 0
+        || sectors <= geometry.first()
+    {
+        return Err(Fail::from("extents with room for an image without slots"));
     }
     image.end(store, extents)?;
     Ok(())
@@ -210,8 +205,7 @@ pub fn put_raw<S: Store>(
     if at >= sectors || store.geometry().block != 8 {
         return Err(Fail::from("a sector of the disk, and blocks of 8 sectors"));
     }
-    let mut pool = Pool::new(alloc, 1, 4608)?;
     let mut image = Image::raw(name, sectors);
-    image.write(store, &mut pool, at, from)?;
+    write_with_pool(alloc, store, &mut image, at, from)??;
     Ok(())
 }

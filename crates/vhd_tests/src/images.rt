@@ -1,13 +1,13 @@
 //! An image in a volume of a store whose content no clause tells, and what is asked before a call of it.
 
-ghost use Rattle.std.specs.Prelude.{◌≡◌, ◌≤◌, ◌<◌, ◌*◌, false, IfOk, OnOk};
+ghost use Rattle.std.specs.Prelude.{◌≡◌, ◌≤◌, ◌<◌, ◌*◌, length, false, IfOk, OnOk};
 ghost use Rattle.std.specs.Bool.{OnTrue};
 ghost use Rattle.sm_disk.specs.Held.{IsWhole};
 ghost use Rattle.vhd_volumes.specs.Steps.{sectors_of};
 ghost use Rattle.vhd_image.specs.Bodies.{StandsIn, IsVhd, sector_count, volume_name};
+ghost use Rattle.vhd_image.specs.Made.{IsDiskSize};
 ghost use Rattle.vhd_image.specs.Written.{HasRoomToWrite};
 
-use crate::fixtures::holds;
 use crate::volumes::{extents_of, sectors_in};
 use sm_base::{Failed, Geometry, Name};
 use sm_pool::Pool;
@@ -17,6 +17,14 @@ use uuid::Uuid;
 use vg_volumes::Store;
 use vhd_image::Image;
 use vhd_map::Map;
+
+/// Whether so many sectors are whole blocks of a disk. The blocks have 8 sectors, and the images 64 entries.
+pub fn is_size(geometry: &Geometry, sectors: u64) -> bool
+    ensures { OnTrue result (IsDiskSize geometry.now sectors) }
+{
+    let is_small = geometry.block == 8 && geometry.entries == 64;
+    is_small && sectors % 8 == 0 && 8 <= sectors && sectors <= 512
+}
 
 /// Makes an image of so many sectors, without a parent and at the time 0.
 pub fn make<S: Store>(
@@ -29,13 +37,8 @@ pub fn make<S: Store>(
     ensures flag { S.failed store.new ≡ S.failed store.old }
 {
     let geometry = store.geometry();
-    let block = u64::from(geometry.block);
-    let blocks = sectors / block;
-    if sectors % block != 0 || blocks < 1 || blocks > u64::from(geometry.entries) {
-        return Err(Fail::from("a size of whole blocks"));
-    }
-    if sectors_in(store, name)? <= geometry.first() {
-        return Err(Fail::from("room for an image"));
+    if sectors_in(store, name)? <= geometry.first() || !is_size(&geometry, sectors) {
+        return Err(Fail::from("a size of whole blocks, and room for an image"));
     }
     let map = Map::blank(alloc, geometry.entries)?;
     let image = Image::make(store, name, map, Uuid::from_bytes(uid), sectors, None, 0)?;
@@ -124,6 +127,33 @@ fn has_room(image: &Image, geometry: &Geometry, sectors: u64, at: u64, length: u
 }
 
 /// Writes sectors of the disk into an image, with a pool of one buffer. The buffer is free again.
+pub fn write_with_pool<S: Store>(
+    alloc: Global,
+    store: &mut S,
+    image: &mut Image,
+    at: u64,
+    from: &[u8],
+) -> Result<Result<(), Failed>, Fail>
+    requires told { ¬ S.told }
+    requires usable { S.failed store.old ≡ false }
+    requires stands { StandsIn (S.site store.old).geometry
+        (sectors_of S.site S.kept store.old (volume_name image.old)) image.old }
+    requires whole { IsWhole at (length from.now) (sector_count image.old) }
+    requires room { HasRoomToWrite (S.site store.old).geometry
+        (sectors_of S.site S.kept store.old (volume_name image.old)) at (length from.now) image.old }
+    requires block { (S.site store.old).geometry.block ≡ 8 }
+    ensures flag { S.failed store.new ≡ S.failed store.old }
+{
+    let mut pool = Pool::new(alloc, 1, 4608)?;
+    let outcome = image.write(store, &mut pool, at, from);
+    if pool.free() == 1 {
+        Ok(outcome)
+    } else {
+        Err(Fail::from("the buffer is free again"))
+    }
+}
+
+/// Writes sectors of the disk into an image, where they are whole and have room.
 fn write_into<S: Store>(
     alloc: Global,
     store: &mut S,
@@ -142,10 +172,7 @@ fn write_into<S: Store>(
     if !has_room(image, &geometry, sectors, at, from.len()) {
         return Err(Fail::from("whole sectors, and room for them"));
     }
-    let mut pool = Pool::new(alloc, 1, 4608)?;
-    let outcome = image.write(store, &mut pool, at, from);
-    holds(pool.free() == 1, "the buffer is free again")?;
-    Ok(outcome)
+    write_with_pool(alloc, store, image, at, from)
 }
 
 /// Writes sectors of the disk into the image in a volume, with a pool of one buffer. The buffer is free again.

@@ -42,6 +42,8 @@ mod making_tests;
 mod maps;
 mod plain;
 #[cfg(test)]
+mod runs;
+#[cfg(test)]
 mod sectors;
 #[cfg(test)]
 mod stop_tests;

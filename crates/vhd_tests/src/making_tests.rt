@@ -2,7 +2,7 @@
 
 ghost use Rattle.std.specs.Prelude.{◌≡◌, false, IfOk, OnOk};
 
-use crate::fixtures::{add, holds, new_device, opened, volume};
+use crate::fixtures::{add, holds, volume};
 use crate::images::make;
 use crate::sectors::{UID, footer, header, stale};
 use crate::volumes::{get, put, sectors_in};
@@ -64,7 +64,7 @@ fn is_new(image: &Image, name: &Name) -> bool {
 }
 
 /// Makes the volume and the image, and compares.
-fn make_and_compare<S: Store>(alloc: Global, store: &mut S) -> Result<(), Fail>
+pub fn make_and_compare<S: Store>(alloc: Global, store: &mut S) -> Result<(), Fail>
     requires { S.failed store.old ≡ false }
 {
     let name = volume(1);
@@ -75,12 +75,4 @@ fn make_and_compare<S: Store>(alloc: Global, store: &mut S) -> Result<(), Fail>
         "the image in memory",
     )?;
     compare_but(store, &name, 0, &footer(), &footer())
-}
-
-#[test]
-fn a_new_image_has_its_bytes_and_leaves_the_rest(rt: HostRuntime) -> Result<(), Fail> {
-    let mut group = opened(rt.alloc(), new_device(rt.alloc())?)?;
-    let done = make_and_compare(rt.alloc(), &mut group);
-    let _disk = group.into_disk();
-    done
 }

@@ -2,10 +2,11 @@
 
 ghost use Rattle.std.specs.Prelude.{◌≡◌, ◌<◌, false, IfOk, OnOk};
 
-use crate::fixtures::{OPENING_CALLS, add, holds, new_device, opened, volume};
+use crate::fixtures::{OPENING_CALLS, Untold, add, holds, new_device, volume};
 use crate::images::{make, own, slots, write};
 use crate::making_tests::spoil;
 use crate::plain::own_sector;
+use crate::runs::{Work, run};
 use crate::sectors::UID;
 use crate::volumes::bytes_of;
 use sm_disk::MemDisk;
@@ -42,14 +43,21 @@ fn later(at: u64) -> Option<[u8; 512]> {
     }
 }
 
-/// Writes sectors.
-fn put_bytes<S: Store>(alloc: Global, store: &mut S, at: u64, bytes: &[u8]) -> Result<(), Fail>
+/// Writes so many sectors, each full of one byte, and answers whether that was done.
+pub fn put_sectors<S: Store>(
+    alloc: Global,
+    store: &mut S,
+    at: u64,
+    sectors: usize,
+    byte: u8,
+) -> Result<bool, Fail>
     requires told { ¬ S.told }
     requires usable { S.failed store.old ≡ false }
     ensures { S.failed store.new ≡ false }
 {
-    write(alloc, store, &volume(1), at, bytes)??;
-    Ok(())
+    let bytes = vec![in alloc; byte; sectors.saturating_mul(512)]?;
+    let outcome = write(alloc, store, &volume(1), at, &bytes)?;
+    Ok(outcome.is_ok())
 }
 
 /// Writes so many sectors, each full of one byte, and syncs.
@@ -64,14 +72,13 @@ fn write_and_sync<S: Store>(
     requires usable { S.failed store.old ≡ false }
     ensures { OnOk result (S.failed store.new ≡ false) }
 {
-    let bytes = vec![in alloc; byte; sectors.saturating_mul(512)]?;
-    put_bytes(alloc, store, at, &bytes)?;
+    holds(put_sectors(alloc, store, at, sectors, byte)?, "a write")?;
     store.sync()?;
     Ok(())
 }
 
 /// Makes the image in a volume of stale bytes, and writes its first sectors.
-fn fill<S: Store>(alloc: Global, store: &mut S) -> Result<(), Fail>
+pub fn fill<S: Store>(alloc: Global, store: &mut S) -> Result<(), Fail>
     requires told { ¬ S.told }
     requires usable { S.failed store.old ≡ false }
 {
@@ -83,19 +90,10 @@ fn fill<S: Store>(alloc: Global, store: &mut S) -> Result<(), Fail>
     write_and_sync(alloc, store, 16, 3, 0x22)
 }
 
-/// The device with the image.
-fn filled_disk(alloc: Global) -> Result<MemDisk, Fail> {
-    let mut group = opened(alloc, new_device(alloc)?)?;
-    let done = fill(alloc, &mut group);
-    let untold = group.into_disk();
-    done?;
-    Ok(untold.disk)
-}
-
-/// The same, where nothing is pending.
+/// The device with the image, where nothing is pending.
 fn filled(alloc: Global) -> Result<MemDisk, Fail> {
-    let disk = filled_disk(alloc)?;
-    Ok(disk.left(alloc, &[])?)
+    let (untold, _) = run(alloc, new_device(alloc)?, Work::Fill)?;
+    Ok(untold.disk.left(alloc, &[])?)
 }
 
 /// The sector of the disk whose image these bytes are, by the plain reader.
@@ -134,30 +132,24 @@ fn compare_with<S: Store>(
 }
 
 /// Reads the volume, and compares each sector of the disk.
-fn compare<S: Store>(alloc: Global, store: &mut S, is_done: bool) -> Result<(), Fail>
+pub fn compare<S: Store>(alloc: Global, store: &mut S, is_done: bool) -> Result<(), Fail>
     requires { ¬ S.told }
 {
     let bytes = bytes_of(alloc, store, &volume(1))?;
     compare_with(alloc, store, &bytes, is_done)
 }
 
-/// Writes the sectors 12 to 26.
-fn write_later<S: Store>(alloc: Global, store: &mut S) -> Result<bool, Fail>
-    requires told { ¬ S.told }
-    requires usable { S.failed store.old ≡ false }
-{
-    let bytes = vec![in alloc; 0x33; 7680]?;
-    let outcome = write(alloc, store, &volume(1), 12, &bytes)?;
-    Ok(outcome.is_ok())
-}
-
 /// Writes the sectors 12 to 26, and answers whether the write was done. Where it was, all sectors are as they are to be;
 /// where a call failed and the device goes on, each is as it was or as it is to be.
-fn write_and_compare<S: Store>(alloc: Global, store: &mut S, goes_on: bool) -> Result<bool, Fail>
+pub fn write_and_compare<S: Store>(
+    alloc: Global,
+    store: &mut S,
+    goes_on: bool,
+) -> Result<bool, Fail>
     requires told { ¬ S.told }
     requires usable { S.failed store.old ≡ false }
 {
-    let is_done = write_later(alloc, store)?;
+    let is_done = put_sectors(alloc, store, 12, 15, 0x33)?;
     if goes_on || is_done {
         compare(alloc, store, is_done)?;
     }
@@ -171,125 +163,79 @@ fn write_and_compare<S: Store>(alloc: Global, store: &mut S, goes_on: bool) -> R
     Ok(is_done)
 }
 
-/// Does the same on a device, which is handed back.
-fn write_once(alloc: Global, disk: MemDisk, goes_on: bool) -> Result<(MemDisk, bool), Fail> {
-    let mut group = opened(alloc, disk)?;
-    let done = write_and_compare(alloc, &mut group, goes_on);
-    let untold = group.into_disk();
-    let is_done = done?;
-    Ok((untold.disk, is_done))
-}
-
-/// Opens what one choice leaves, and compares.
-fn compare_left(alloc: Global, disk: &MemDisk, choice: &[u32]) -> Result<(), Fail> {
-    let mut group = opened(alloc, disk.left(alloc, choice)?)?;
-    let done = compare(alloc, &mut group, false);
-    let _disk = group.into_disk();
-    done
-}
-
 /// Opens what each of five choices leaves, and compares.
 fn compare_all_left(alloc: Global, disk: &MemDisk) -> Result<(), Fail> {
     let choices: [&[u32]; 5] = [&[], &[1], &[0, 1], &[1, 0], &[3]];
     for choice in choices {
-        compare_left(alloc, disk, choice)?;
+        run(alloc, disk.left(alloc, choice)?, Work::Compare)?;
     }
     Ok(())
 }
 
-/// Stops at one call of the write. Each of five choices leaves the image with sectors as they were or as they are to be.
-fn stop_leaves(alloc: Global, device: &MemDisk, call: u64) -> Result<(), Fail> {
-    let mut disk = device.left(alloc, &[])?;
+/// Lets the device fail at one call of the write, and go on or stop there.
+fn disturb(alloc: Global, disk: &mut MemDisk, call: u64, goes_on: bool) -> Result<(), Fail> {
+    let call = call.saturating_add(OPENING_CALLS + IMAGE_CALLS);
+    if goes_on {
+        disk.fail(alloc, &[call])?;
+    } else {
+        disk.stop(call);
+    }
+    Ok(())
+}
+
+/// Writes on a device that fails at one call of the write, or at none, and answers whether the write was done.
+fn write_disturbed(
+    alloc: Global,
+    mut disk: MemDisk,
+    call: u64,
+    goes_on: bool,
+) -> Result<(Untold, bool), Fail> {
     if call < WRITE_CALLS {
-        disk.stop(OPENING_CALLS + IMAGE_CALLS + call);
+        disturb(alloc, &mut disk, call, goes_on)?;
     }
-    let (disk, is_done) = write_once(alloc, disk, false)?;
-    holds(is_done == (call >= WRITE_CALLS), "the calls of the write")?;
-    compare_all_left(alloc, &disk)
+    run(alloc, disk, Work::Write { goes_on })
 }
 
-/// Stops at each of these calls in turn.
-fn each_stop_leaves(alloc: Global, device: &MemDisk, first: u64, end: u64) -> Result<(), Fail> {
-    for call in first..end {
-        stop_leaves(alloc, device, call)?;
+/// Writes on a device that fails at one call of the write, or at none. The caller is told, and where the device stops there
+/// each of five choices leaves the image with sectors as they were or as they are to be.
+fn write_and_open(alloc: Global, device: &MemDisk, call: u64, goes_on: bool) -> Result<(), Fail> {
+    let (untold, is_done) = write_disturbed(alloc, device.left(alloc, &[])?, call, goes_on)?;
+    if is_done != (call >= WRITE_CALLS) {
+        return Err(Fail::from("the caller is told"));
+    }
+    if !goes_on {
+        compare_all_left(alloc, &untold.disk)?;
     }
     Ok(())
 }
 
-/// Stops at each of these calls in turn.
-fn stops_leave(alloc: Global, first: u64, end: u64) -> Result<(), Fail> {
-    let device = filled(alloc)?;
-    each_stop_leaves(alloc, &device, first, end)
-}
-
-#[test]
-fn stops_among_the_first_reads_leave_old_sectors_or_new(rt: HostRuntime) -> Result<(), Fail> {
-    stops_leave(rt.alloc(), 0, 3)
-}
-
-#[test]
-fn stops_up_to_the_sync_leave_old_sectors_or_new(rt: HostRuntime) -> Result<(), Fail> {
-    stops_leave(rt.alloc(), 3, 6)
-}
-
-#[test]
-fn stops_among_the_reads_behind_the_sync_leave_old_sectors_or_new(
-    rt: HostRuntime,
-) -> Result<(), Fail> {
-    stops_leave(rt.alloc(), 6, 9)
-}
-
-#[test]
-fn stops_among_the_last_writes_and_none_leave_old_sectors_or_new(
-    rt: HostRuntime,
-) -> Result<(), Fail> {
-    stops_leave(rt.alloc(), 9, WRITE_CALLS + 1)
-}
-
-/// One call of the write fails, and the device goes on.
-fn fails_once(alloc: Global, device: &MemDisk, call: u64) -> Result<(), Fail> {
-    let mut disk = device.left(alloc, &[])?;
-    let failing = call.saturating_add(OPENING_CALLS + IMAGE_CALLS);
-    disk.fail(alloc, &[failing])?;
-    let (_disk, is_done) = write_once(alloc, disk, true)?;
-    holds(!is_done, "the caller is told")
-}
-
-/// Each call of the write fails in turn.
-fn each_fails(alloc: Global, device: &MemDisk) -> Result<(), Fail> {
-    for call in 0..WRITE_CALLS {
-        fails_once(alloc, device, call)?;
+/// Stops at each call of the write in turn, and at none.
+fn each_stop_leaves(alloc: Global, device: &MemDisk) -> Result<(), Fail> {
+    for call in 0..WRITE_CALLS + 1 {
+        write_and_open(alloc, device, call, false)?;
     }
     Ok(())
 }
 
 #[test]
-fn each_failed_call_of_a_write_is_told_and_spares_other_sectors(
-    rt: HostRuntime,
-) -> Result<(), Fail> {
+fn stops_of_a_write_leave_old_sectors_or_new(rt: HostRuntime) -> Result<(), Fail> {
     let device = filled(rt.alloc())?;
-    each_fails(rt.alloc(), &device)
+    each_stop_leaves(rt.alloc(), &device)
 }
 
-/// The syncs of a write of these bytes, beside the one that the opening of the group makes.
-fn syncs_with(alloc: Global, disk: MemDisk, at: u64, bytes: &[u8]) -> Result<u64, Fail> {
-    let mut group = opened(alloc, disk)?;
-    let done = put_bytes(alloc, &mut group, at, bytes);
-    let untold = group.into_disk();
-    done?;
-    Ok(untold.syncs.saturating_sub(1))
-}
-
-/// The syncs of a write of so many sectors.
+/// The syncs of a write of so many sectors, beside the one that the opening of the group makes.
 fn syncs_of(alloc: Global, device: &MemDisk, at: u64, sectors: usize) -> Result<u64, Fail> {
-    let bytes = vec![in alloc; 0x44; sectors.saturating_mul(512)]?;
-    syncs_with(alloc, device.left(alloc, &[])?, at, &bytes)
+    let (untold, is_done) = run(alloc, device.left(alloc, &[])?, Work::Put { at, sectors })?;
+    Ok(if is_done { untold.syncs } else { 0 })
 }
 
-/// Writes three new blocks, sectors that are held, the same in two blocks, and one that is not held in a block with a
-/// slot.
-fn each_syncs(alloc: Global, device: &MemDisk) -> Result<(), Fail> {
-    for (at, sectors, syncs) in [(36, 20, 1), (9, 4, 0), (12, 7, 0), (20, 1, 1)] {
+/// Each call of the write fails in turn, and the device goes on. Then writes three new blocks, sectors that are held, the
+/// same in two blocks, and one that is not held in a block with a slot, and counts the syncs with that of the opening.
+fn each_fails_or_syncs(alloc: Global, device: &MemDisk) -> Result<(), Fail> {
+    for call in 0..WRITE_CALLS {
+        write_and_open(alloc, device, call, true)?;
+    }
+    for (at, sectors, syncs) in [(36, 20, 2), (9, 4, 1), (12, 7, 1), (20, 1, 2)] {
         holds(
             syncs_of(alloc, device, at, sectors)? == syncs,
             "the syncs of a write",
@@ -299,7 +245,9 @@ fn each_syncs(alloc: Global, device: &MemDisk) -> Result<(), Fail> {
 }
 
 #[test]
-fn a_write_syncs_once_where_it_needs_bits_or_slots(rt: HostRuntime) -> Result<(), Fail> {
+fn failed_calls_of_a_write_are_told_and_a_write_syncs_once_for_bits_or_slots(
+    rt: HostRuntime,
+) -> Result<(), Fail> {
     let device = filled(rt.alloc())?;
-    each_syncs(rt.alloc(), &device)
+    each_fails_or_syncs(rt.alloc(), &device)
 }
