@@ -151,6 +151,11 @@ fn geometries(rt: HostRuntime) -> Result<(), Fail> {
     Ok(())
 }
 
+/// Whether a text is a label, and then the label's text.
+fn is_label(text: &[u8]) -> bool {
+    Label::of(text).is_some_and(|label| label.text() == text)
+}
+
 #[test]
 fn labels(rt: HostRuntime) {
     let longest = [b'~'; 64];
@@ -166,11 +171,7 @@ fn labels(rt: HostRuntime) {
         (too_long.as_slice(), false),
     ];
     for (text, is_one) in rows {
-        let label = Label::of(text);
-        assert!(rt; label.is_some() == is_one);
-        if let Some(label) = label {
-            assert!(rt; label.text() == text);
-        }
+        assert!(rt; is_label(text) == is_one);
     }
 }
 

@@ -4,28 +4,25 @@ use sm_disk::{Disk, Sink, Source};
 use sm_host::{FileDisk, ReadSource, WriteSink, seconds_since_2000};
 use std::fs;
 use std::fs::File;
-use std::process::Abort;
 use std::test::Fail;
 
 /// A file of three whole sectors and some bytes more.
 const BYTES: usize = 1600;
 
-/// Three sectors, the second of which is written and synced.
-fn has_three_sectors(rt: &impl Abort, disk: &mut FileDisk) {
-    assert!(rt; disk.sectors() == 3);
-    assert!(rt; disk.write(1, &[9; 512]).is_ok());
-    assert!(rt; disk.sync().is_ok());
+/// Whether there are three sectors, the second of which is written and synced.
+fn has_three_sectors(disk: &mut FileDisk) -> bool {
+    if disk.sectors() != 3 {
+        return false;
+    }
+    let done = disk.write(1, &[9; 512]).is_ok() && disk.sync().is_ok();
     let mut two = [0; 1024];
-    assert!(rt; disk.read(0, &mut two).is_ok());
-    assert!(rt; [two[511], two[512], two[1023]] == [7, 9, 9]);
+    done && disk.read(0, &mut two).is_ok() && [two[511], two[512], two[1023]] == [7, 9, 9]
 }
 
-/// The file is cut behind the device's back: its last sector is no longer there.
-fn has_lost_its_last(rt: &impl Abort, disk: &mut FileDisk) {
+/// Whether the file was cut behind the device's back: its last sector is no longer there.
+fn has_lost_its_last(disk: &mut FileDisk) -> bool {
     let mut one = [0; 512];
-    assert!(rt; disk.sectors() == 3);
-    assert!(rt; disk.read(0, &mut one).is_ok());
-    assert!(rt; disk.read(2, &mut one).is_err());
+    disk.sectors() == 3 && disk.read(0, &mut one).is_ok() && disk.read(2, &mut one).is_err()
 }
 
 #[test]
@@ -34,23 +31,28 @@ fn a_file_is_a_device(rt: HostRuntime) -> Result<(), Fail> {
     fs::write(&rt, path, [7u8; BYTES].as_slice())?;
     let file = File::options().read(true).write(true).open(&rt, path)?;
     let mut disk = FileDisk::new(file, BYTES as u64);
-    has_three_sectors(&rt, &mut disk);
-    fs::write(&rt, path, [7u8; 600].as_slice())?;
-    has_lost_its_last(&rt, &mut disk);
+    let is_whole = has_three_sectors(&mut disk);
+    let is_cut = fs::write(&rt, path, [7u8; 600].as_slice()).is_ok()
+        && has_lost_its_last(&mut disk);
     fs::remove_file(&rt, path)?;
+    assert!(rt; is_whole && is_cut);
     Ok(())
+}
+
+/// Whether a source gives five bytes.
+fn gives_five(source: &mut impl Source) -> bool {
+    let mut four = [0; 4];
+    let first = source.read(&mut four) == Ok(4) && four == *b"list";
+    first && source.read(&mut four) == Ok(1) && source.read(&mut four) == Ok(0)
 }
 
 #[test]
 fn bytes_are_a_source_and_a_sink(rt: HostRuntime) {
     let mut source = ReadSource::new(b"list\n".as_slice());
-    let mut four = [0; 4];
-    assert!(rt; source.read(&mut four) == Ok(4));
-    assert!(rt; four == *b"list");
-    assert!(rt; source.read(&mut four) == Ok(1));
-    assert!(rt; source.read(&mut four) == Ok(0));
+    let gives = gives_five(&mut source);
     let mut sink = WriteSink::new(Vec::new(rt.alloc()));
-    assert!(rt; sink.write(b"ok 0\n") == Ok(5));
+    let takes = sink.write(b"ok 0\n") == Ok(5);
+    assert!(rt; gives && takes);
 }
 
 #[test]

@@ -2,7 +2,6 @@
 
 use sm_base::Label;
 use sm_record::{Reading, Record};
-use std::process::Abort;
 use std::test::Fail;
 use uuid::Uuid;
 
@@ -64,22 +63,23 @@ fn writes(rt: HostRuntime) -> Result<(), Fail> {
     Ok(())
 }
 
-/// The record that the sector of these bytes has.
-fn is_record(rt: &impl Abort, parts: &[Part], origin: Option<Uuid>, label: &[u8], read_only: bool) {
-    let reading = Record::read(&sector(parts));
-    assert!(rt; matches!(reading, Reading::Taken(_)));
-    if let Reading::Taken(record) = reading {
-        assert!(rt; record.uuid == Uuid::from_bytes(FIRST));
-        assert!(rt; record.origin == origin);
-        assert!(rt; record.label.text() == label);
-        assert!(rt; record.read_only == read_only);
+/// Whether the sector of these bytes has this record.
+fn is_record(parts: &[Part], origin: Option<Uuid>, label: &[u8], read_only: bool) -> bool {
+    match Record::read(&sector(parts)) {
+        Reading::Taken(record) => {
+            record.uuid == Uuid::from_bytes(FIRST)
+                && record.origin == origin
+                && record.label.text() == label
+                && record.read_only == read_only
+        }
+        _ => false,
     }
 }
 
 #[test]
 fn reads(rt: HostRuntime) {
-    is_record(&rt, &SNAPSHOT, Some(Uuid::from_bytes(SECOND)), b"a", true);
-    is_record(&rt, &DISK, None, b"disk", false);
+    assert!(rt; is_record(&SNAPSHOT, Some(Uuid::from_bytes(SECOND)), b"a", true));
+    assert!(rt; is_record(&DISK, None, b"disk", false));
     assert!(rt; matches!(Record::read(&[0; 512]), Reading::Free));
 }
 

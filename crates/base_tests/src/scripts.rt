@@ -89,6 +89,11 @@ fn line_of(alloc: Global, word: &str, rest: &str) -> Result<Vec<u8>, AllocError>
     Ok(line)
 }
 
+/// Whether a command is of this word, this disk, these numbers and this text.
+fn says(command: &Command, word: &str, disk: Uuid, numbers: [u64; 3], text: &[u8]) -> bool {
+    said(command) == (word, numbers, text) && disk_of(command) == disk
+}
+
 /// A line is read as a command of this word, this disk, these numbers and this text.
 fn is_read(
     rt: &impl Abort,
@@ -99,11 +104,8 @@ fn is_read(
     text: &[u8],
 ) -> Result<(), Fail> {
     let command = line?;
-    let (found, own, bytes) = said(&command);
-    assert!(rt; found == word, "{word}");
-    assert!(rt; own == numbers, "{word}");
-    assert!(rt; bytes == text, "{word}");
-    assert!(rt; disk_of(&command) == disk, "{word}");
+    let is_right = says(&command, word, disk, numbers, text);
+    assert!(rt; is_right, "{word}");
     Ok(())
 }
 
@@ -476,33 +478,39 @@ fn disks(alloc: Global) -> Result<Reply, Fail> {
 const DISKS: &str =
     "ok 2 11111111-1111-1111-1111-111111111111,4194304,rw,-,one abababab-abab-abab-abab-abababababab,4194304,ro,11111111-1111-1111-1111-111111111111,2,3\n";
 
+/// A reply of three bytes.
+fn bytes(alloc: Global) -> Result<Reply, Fail> {
+    let bytes = Vec::from_slice(alloc, &[0x00, 0x5e, 0xff])?;
+    Ok(Reply::Bytes(Bytes { bytes }))
+}
+
+/// A list of no disk.
+fn no_disks(alloc: Global) -> Reply {
+    let rows = Vec::new(alloc);
+    Reply::List(DiskRows { rows })
+}
+
 #[test]
 fn plain_replies_and_lists(rt: HostRuntime) -> Result<(), Fail> {
-    prints(&rt, rt.alloc(), Reply::Done, "ok\n")?;
+    let alloc = rt.alloc();
+    prints(&rt, alloc, Reply::Done, "ok\n")?;
     prints(
         &rt,
-        rt.alloc(),
+        alloc,
         Reply::Size(u64::MAX),
         "ok 18446744073709551615\n",
     )?;
-    let bytes = Vec::from_slice(rt.alloc(), &[0x00, 0x5e, 0xff])?;
-    prints(
-        &rt,
-        rt.alloc(),
-        Reply::Bytes(Bytes { bytes }),
-        "ok 005eff\n",
-    )?;
-    let rows = Vec::new(rt.alloc());
-    prints(&rt, rt.alloc(), Reply::List(DiskRows { rows }), "ok 0\n")?;
-    prints(&rt, rt.alloc(), disks(rt.alloc())?, DISKS)
+    prints(&rt, alloc, bytes(alloc)?, "ok 005eff\n")?;
+    prints(&rt, alloc, no_disks(alloc), "ok 0\n")?;
+    prints(&rt, alloc, disks(alloc)?, DISKS)
 }
 
 /// A sink with room for so many bytes of the list takes those, and fails.
 fn takes_a_front(rt: &impl Abort, alloc: Global, reply: &Reply, room: usize) -> Result<(), Fail> {
     let mut sink = MemSink::new(alloc, Some(room))?;
-    assert!(rt; reply.print(&mut sink) == Err(Failed));
-    assert!(rt; sink.bytes().len() == room);
-    assert!(rt; DISKS.as_bytes().starts_with(sink.bytes()));
+    let failed = reply.print(&mut sink) == Err(Failed);
+    let has_front = sink.bytes().len() == room && DISKS.as_bytes().starts_with(sink.bytes());
+    assert!(rt; failed && has_front, "{room}");
     Ok(())
 }
 

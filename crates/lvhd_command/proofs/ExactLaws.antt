@@ -11,7 +11,7 @@ use Rattle.sm_run.specs.declared.runs.RunFault.{RunFault}
 use Rattle.sm_run.specs.declared.runs.RunFault.TheVariants as run
 use Rattle.sm_standing.specs.Checks.{first_fault_today}
 use Rattle.sm_standing.specs.Devices.{content_of}
-use Rattle.vg_layout.specs.Opening.{Standing, StandsOn, IsRefused, by_label, by_header, by_sum, by_text, plate_of, pointer_of, text_in}
+use Rattle.vg_layout.specs.Opening.{GroupFound, StandsOn, IsRefused, by_label, by_header, by_sum, by_text, plate_of, pointer_of, text_in}
 use Rattle.vg_layout.specs.Sectors.{Plate, Pointer}
 use Rattle.vg_layout.proofs.StandingLaws.{plate_few}
 use Rattle.vg_meta.specs.Reading.{IsDamagedAt}
@@ -34,7 +34,7 @@ no_pointer m h e a b = (let x = sym a ∙ b in absurd cc)
 one_pointer : (m : ℕ → List ℕ) (h k : Pointer) → pointer_of m ≡ Ok h → pointer_of m ≡ Ok k → h ≡ k
 one_pointer m h k a b = (let x = sym a ∙ b in cc)
 
-stands_or_refused : (size : ℕ) (image : ℕ → List ℕ) (g : Standing) (e : OpenFault) → StandsOn size image g → IsRefused size image e → ⊥
+stands_or_refused : (size : ℕ) (image : ℕ → List ℕ) (g : GroupFound) (e : OpenFault) → StandsOn size image g → IsRefused size image e → ⊥
 stands_or_refused size image g _ s (by_label e wrong) = no_plate size image g.plate e s.labelled wrong
 stands_or_refused size image g _ s (by_header p e labelled wrong) = no_pointer image g.pointer e s.headed wrong
 stands_or_refused size image g _ s (by_sum p h labelled headed wrong) =
@@ -47,7 +47,7 @@ stands_or_refused size image g _ s (by_text p h place labelled headed summed dam
     not_damaged g.plate.count (text_in image g.pointer) g.table place (omega (arith, few)) s.spelled
     (subst₂ (λ (q : Plate) (k : Pointer). IsDamagedAt q.count (text_in image k) place) plates pointers damaged)
 
-none_found : (size : ℕ) (image : ℕ → List ℕ) (g h : Standing) (p : Place) → StandsOn size image g → StandsOn size image h
+none_found : (size : ℕ) (image : ℕ → List ℕ) (g h : GroupFound) (p : Place) → StandsOn size image g → StandsOn size image h
     → first_fault_today (content_of g image) ≡ None → first_fault_today (content_of h image) ≡ Some p → ⊥
 none_found size image g h p a b sound found =
     let both : None ≡ Some p = sym sound ∙ ap first_fault_today (sym (content_once size image g h a b)) ∙ found in
@@ -94,7 +94,7 @@ group_once size image _ _ (by_sum p h a x wrong) (by_text q k place b y right da
 group_once size image _ _ (by_text p h place a x right damaged) (by_sum q k b y wrong) = absurd (summed_or_not image k h y x wrong right)
 group_once size image _ _ (by_text p h place a x right damaged) (by_text q k other b y right' damaged') = ap (λ n. Damaged (Table n)) (one_text size image p q h k place other a b x y damaged damaged')
 
-one_place : (size : ℕ) (image : ℕ → List ℕ) (g h : Standing) (p q : Place) → StandsOn size image g → StandsOn size image h
+one_place : (size : ℕ) (image : ℕ → List ℕ) (g h : GroupFound) (p q : Place) → StandsOn size image g → StandsOn size image h
     → first_fault_today (content_of g image) ≡ Some p → first_fault_today (content_of h image) ≡ Some q → p ≡ q
 one_place size image g h p q a b found other =
     let both : Some p ≡ Some q = sym found ∙ ap first_fault_today (content_once size image h g b a) ∙ other in

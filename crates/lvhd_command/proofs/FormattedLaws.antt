@@ -13,14 +13,14 @@ use Rattle.sm_disk.specs.Held.{Held, Allows, IsSettled}
 use Rattle.sm_disk.specs.Sectors.{zeros}
 use Rattle.sm_disk.proofs.HeldLaws.{allows_settled, reads-settled}
 use Rattle.sm_machine.specs.Disks.{Disk}
-use Rattle.sm_machine.specs.Lists.{In}
+use Rattle.common_laws.specs.Lists.{In}
 use Rattle.sm_record.specs.Records.{reading}
 use Rattle.sm_record.specs.declared.records.Reading.TheVariants.{Free}
 use Rattle.sm_record.proofs.RoundTrips.{reading_zeros}
-use Rattle.vg_meta.specs.Tables.{IsTable, Listing, Row, row_of, name_eq, new_table}
+use Rattle.vg_meta.specs.Tables.{IsTable, VolumeTable, Row, row_of, name_eq, new_table}
 use Rattle.vg_layout.specs.Places.{area_place, header_place, label_place, record_extents}
 use Rattle.vg_layout.specs.Sectors.{Plate, Pointer}
-use Rattle.vg_layout.specs.Opening.{Standing, StandsOn, plate_of, text_in}
+use Rattle.vg_layout.specs.Opening.{GroupFound, StandsOn, plate_of, text_in}
 use Rattle.vg_layout.proofs.ImageLaws.{plate_area, plate_few, plate_same, pointer_same, stands_from, stands_once, text_front}
 use Rattle.vg_store.specs.Formats.{IsFormatted, new_group}
 use Rattle.vg_volumes.specs.Volumes.{piece, spot}
@@ -29,7 +29,7 @@ use Rattle.sm_standing.specs.Contents.{Content, row, reading_at, sectors_of, rec
 use Rattle.sm_standing.specs.Devices.{IsKeptOn, Shows, content_of}
 use Rattle.sm_standing.specs.Plain.{IsPlain}
 use Rattle.sm_standing.specs.PlainSound.{PlainSound}
-use Rattle.sm_standing.specs.Standing.{stands, disks}
+use Rattle.sm_standing.specs.Standing.{standing_volume, disks}
 use Rattle.sm_standing.proofs.DiskLists.{disks_at}
 use Rattle.sm_standing.proofs.PlainDisks.{plain_stands, raw_stands, plain_disk_at, raw_disk_at}
 use Rattle.sm_standing.proofs.PlainKept.{plain_kept}
@@ -52,7 +52,7 @@ records_there : (c : Content) (n : ℕ) → row (emptied c n) Mgt ≡ Some (reco
 unfolding row_of name_eq
 records_there c n = refl
 
-no_standing : (n : ℕ) (u : List ℕ) (m : Name) → row_of (new_table n).volumes (Raw u) ≡ None → stands (new_table n) u ≡ Some m → ⊥
+no_standing : (n : ℕ) (u : List ℕ) (m : Name) → row_of (new_table n).volumes (Raw u) ≡ None → standing_volume (new_table n) u ≡ Some m → ⊥
 no_standing n u m none h =
     let e = sym (plain_stands (new_table n) u (new_plain n) ∙ ap (raw_stands u) none) ∙ h in (let x = e in cc)
 
@@ -158,7 +158,7 @@ formatted_room size image g repository f =
 formatted_same : (size : ℕ) (image other : ℕ → List ℕ) (g : Geometry) (repository : List ℕ) → IsFormatted size image g repository
     → ((q : ℕ) → q < size → other q ≡ image q) → IsFormatted size other g repository
 formatted_same size image other g repository f same =
-    let s : Standing = new_group size g repository in
+    let s : GroupFound = new_group size g repository in
     let room = formatted_room size image g repository f in
     let front = λ (q : ℕ) (below : q < area_place). same q (omega (arith, room, below)) in
     record {
@@ -180,13 +180,13 @@ device_kept size h g repository f settled = λ image allowed. formatted_kept siz
 -- a content with the table of a new group has no disks, whatever else it has
 table_disks : (c : Content) (n : ℕ) → c.table ≡ new_table n → disks c ≡ []
 table_disks c n is =
-    ap (λ (t : Listing). disks (record { extent = c.extent; block = c.block; entries = c.entries; count = c.count; table = t; area = c.area })) is ∙ new_disks c n
+    ap (λ (t : VolumeTable). disks (record { extent = c.extent; block = c.block; entries = c.entries; count = c.count; table = t; area = c.area })) is ∙ new_disks c n
 
 plate_once : (size : ℕ) (m : ℕ → List ℕ) (p q : Plate) → plate_of size m ≡ Ok p → plate_of size m ≡ Ok q → p ≡ q
 plate_once size m p q a b = (let e = sym a ∙ b in cc)
 
 -- where the new group stands, no other does
-table_once : (size : ℕ) (m : ℕ → List ℕ) (p : Plate) (at : Pointer) (t : Listing) (g : Standing) → StandsOn size m (record { plate = p; pointer = at; table = t })
+table_once : (size : ℕ) (m : ℕ → List ℕ) (p : Plate) (at : Pointer) (t : VolumeTable) (g : GroupFound) → StandsOn size m (record { plate = p; pointer = at; table = t })
     → StandsOn size m g → g.table ≡ t
 table_once size m p at t g a b =
     let here : StandsOn size m (record { plate = p; pointer = g.pointer; table = g.table }) =
@@ -196,7 +196,7 @@ table_once size m p at t g a b =
 pub device_empty : (size : ℕ) (h : Held) (g : Geometry) (repository : List ℕ) → IsFormatted size h.floor g repository → IsSettled h
     → (ds : List Disk) → MayShowOn size h ds → ds ≡ []
 device_empty size h g repository f settled ds m =
-    let s : Standing = new_group size g repository in
+    let s : GroupFound = new_group size g repository in
     let there = (formatted_allowed size h g repository f settled m.image m.allowed).stands in
     m.shows.shown ∙ table_disks (content_of m.shows.group m.image) (record_extents g.extent)
     (table_once size m.image s.plate s.pointer s.table m.shows.group there m.shows.stands)

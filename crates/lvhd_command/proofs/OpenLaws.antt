@@ -4,17 +4,17 @@ use Rattle.std.proofs.Math.Path.{fun_ext}
 use Rattle.sm_base.specs.declared.faults.OpenFault.{OpenFault}
 use Rattle.sm_base.specs.declared.faults.OpenFault.TheVariants as fault
 use Rattle.sm_disk.specs.Held.{Held, Allows, Keeps, reads}
-use Rattle.sm_disk.proofs.HeldLaws.{Allows-keeps, Allows-reads}
+use Rattle.sm_disk.proofs.HeldLaws.{Allows-keeps}
 use Rattle.sm_machine.specs.Disks.{Disk}
 use Rattle.vg_layout.specs.Places.{area_place}
 use Rattle.vg_layout.specs.Sectors.{Plate, Pointer}
-use Rattle.vg_layout.specs.Opening.{Standing, StandsOn, plate_of}
+use Rattle.vg_layout.specs.Opening.{GroupFound, StandsOn, plate_of}
 use Rattle.vg_layout.proofs.StandingLaws.{stands_once, plate_few}
-use Rattle.vg_meta.specs.Tables.{Listing}
-use Rattle.vg_store.specs.Groups.{IsStanding, Leaves, area_of}
+use Rattle.vg_meta.specs.Tables.{VolumeTable}
+use Rattle.vg_store.specs.Groups.{GroupStands, LeavesGroup, area_of}
 use Rattle.vg_store.specs.Openings.{IsAnswer}
 use Rattle.vg_volumes.specs.Sites.{Site}
-use Rattle.sm_recover.specs.Repairs.{IsStopped, UnlessDevice}
+use Rattle.sm_recover.specs.Repairs.{IsOpeningStopped, UnlessDeviceFailed}
 use Rattle.sm_recover.specs.Stores.{IsRepairedFrom, content_in, content_now}
 use Rattle.sm_session.specs.Sessions.{MayShow, KeepsAll}
 use Rattle.sm_standing.specs.Checks.{first_fault_today}
@@ -27,6 +27,7 @@ use Rattle.sm_standing.specs.Standing.{disks}
 use Rattle.sm_standing.proofs.PlainKept.{plain_kept}
 use Rattle.lvhd_command.specs.Devices.{IsKeptDevice, MayShowOn, IsSoundOn, IsRefusedOn, IsOpenedOn, plate_at}
 use Rattle.lvhd_command.specs.Devices.IsRefusedOn.{by_content}
+use Rattle.lvhd_command.specs.Running.{IsLeftBefore, ShowsNothingNew}
 
 -- ---- a group on an image
 
@@ -35,25 +36,25 @@ abbrev pub extents_in : (ℕ → List ℕ) → ℕ → List ℕ
 extents_in image q = image (area_place + q)
 
 -- the sizes and the number of a site, with this pointer and table
-abbrev pub standing : Site → Pointer → Listing → Standing
+abbrev pub standing : Site → Pointer → VolumeTable → GroupFound
 standing site at t = record { plate = plate_at site; pointer = at; table = t }
 
 pub plate_once : (size : ℕ) (m : ℕ → List ℕ) (p q : Plate) → plate_of size m ≡ Ok p → plate_of size m ≡ Ok q → p ≡ q
 plate_once size m p q a b = (let e = sym a ∙ b in cc)
 
 -- on an image stands one group alone, so its content is one
-pub content_once : (size : ℕ) (m : ℕ → List ℕ) (g h : Standing) → StandsOn size m g → StandsOn size m h → content_of h m ≡ content_of g m
+pub content_once : (size : ℕ) (m : ℕ → List ℕ) (g h : GroupFound) → StandsOn size m g → StandsOn size m h → content_of h m ≡ content_of g m
 content_once size m g h a b =
     let plates : g.plate ≡ h.plate = plate_once size m g.plate h.plate a.labelled b.labelled in
     let here : StandsOn size m (record { plate = g.plate; pointer = h.pointer; table = h.table }) = subst (λ (p : Plate). StandsOn size m (record { plate = p; pointer = h.pointer; table = h.table })) (sym plates) b in
     let tables : g.table ≡ h.table = stands_once size m g.plate g.pointer h.pointer g.table h.table (plate_few size m g.plate a.labelled) a here in
-    ap₂ (λ (p : Plate) (u : Listing). content_of (record { plate = p; pointer = h.pointer; table = u }) m) (sym plates) (sym tables)
+    ap₂ (λ (p : Plate) (u : VolumeTable). content_of (record { plate = p; pointer = h.pointer; table = u }) m) (sym plates) (sym tables)
 
 -- where it is kept, so is the content of any label and table that stand there
-kept_standing : (size : ℕ) (m : ℕ → List ℕ) (site : Site) (at : Pointer) (t : Listing) → StandsOn size m (standing site at t) → IsKeptOn size m → IsKept (content_of (standing site at t) m)
+kept_standing : (size : ℕ) (m : ℕ → List ℕ) (site : Site) (at : Pointer) (t : VolumeTable) → StandsOn size m (standing site at t) → IsKeptOn size m → IsKept (content_of (standing site at t) m)
 kept_standing size m site at t stands k = subst IsKept (content_once size m (standing site at t) k.group stands k.stands) k.kept
 
-shown_standing : (size : ℕ) (m : ℕ → List ℕ) (site : Site) (at : Pointer) (t : Listing) (ds : List Disk) → StandsOn size m (standing site at t) → Shows size m ds
+shown_standing : (size : ℕ) (m : ℕ → List ℕ) (site : Site) (at : Pointer) (t : VolumeTable) (ds : List Disk) → StandsOn size m (standing site at t) → Shows size m ds
     → ds ≡ disks (content_of (standing site at t) m)
 shown_standing size m site at t ds stands s = s.shown ∙ ap disks (content_once size m (standing site at t) s.group stands s.stands)
 
@@ -61,17 +62,17 @@ shown_standing size m site at t ds stands s = s.shown ∙ ap disks (content_once
 
 -- a group stands on each image that the device allows
 abbrev pub StandsAlways : ℕ → Held → Site → Type 0
-StandsAlways size h site = (image : ℕ → List ℕ) → Allows size h image → IsStanding size image (plate_at site)
+StandsAlways size h site = (image : ℕ → List ℕ) → Allows size h image → GroupStands size image (plate_at site)
 
-pub left_of : (size : ℕ) (h : Held) (site : Site) (image : ℕ → List ℕ) → Allows size h image → (s : IsStanding size image (plate_at site)) → Leaves size h (plate_at site) s.table (extents_in image)
+pub left_of : (size : ℕ) (h : Held) (site : Site) (image : ℕ → List ℕ) → Allows size h image → (s : GroupStands size image (plate_at site)) → LeavesGroup size h (plate_at site) s.table (extents_in image)
 left_of size h site image allowed s = record { whole = image; allowed = allowed; pointer = s.pointer; stands = s.stands; sectors = λ q. refl }
 
-pub kept_device : (size : ℕ) (h : Held) (site : Site) → StandsAlways size h site → KeepsAll site (Leaves size h (plate_at site)) → IsKeptDevice size h
+pub kept_device : (size : ℕ) (h : Held) (site : Site) → StandsAlways size h site → KeepsAll site (LeavesGroup size h (plate_at site)) → IsKeptDevice size h
 kept_device size h site always keeps = λ image allowed.
     let s = always image allowed in
     record { group = standing site s.pointer s.table; stands = s.stands; kept = keeps s.table (extents_in image) (left_of size h site image allowed s) }
 
-pub shown_device : (size : ℕ) (h : Held) (site : Site) (ds : List Disk) → StandsAlways size h site → MayShowOn size h ds → MayShow site (Leaves size h (plate_at site)) ds
+pub shown_device : (size : ℕ) (h : Held) (site : Site) (ds : List Disk) → StandsAlways size h site → MayShowOn size h ds → MayShow site (LeavesGroup size h (plate_at site)) ds
 shown_device size h site ds always m =
     let s = always m.image m.allowed in
     record { table = s.table; image = extents_in m.image; left = left_of size h site m.image m.allowed s; shown = shown_standing size m.image site s.pointer s.table ds s.stands m.shows }
@@ -79,10 +80,10 @@ shown_device size h site ds always m =
 -- ---- what stands as a read gives it at the entry
 
 -- the extents read as they did
-content_entry : (s : Site) (t : Listing) (h now : Held) → Keeps (area_of h) (area_of now) → content_now s t (area_of now) ≡ content_in s t (extents_in (reads h))
+content_entry : (s : Site) (t : VolumeTable) (h now : Held) → Keeps (area_of h) (area_of now) → content_now s t (area_of now) ≡ content_in s t (extents_in (reads h))
 content_entry s t h now k = ap (content_in s t) (fun_ext (λ q. k.reads q))
 
-pub sound_entry : (size : ℕ) (h now : Held) (site : Site) (at : Pointer) (t : Listing) → Keeps (area_of h) (area_of now) → StandsOn size (reads h) (standing site at t)
+pub sound_entry : (size : ℕ) (h now : Held) (site : Site) (at : Pointer) (t : VolumeTable) → Keeps (area_of h) (area_of now) → StandsOn size (reads h) (standing site at t)
     → first_fault_today (content_now site t (area_of now)) ≡ None → IsSoundOn size (reads h)
 sound_entry size h now site at t k stands sound = record {
   group = standing site at t;
@@ -90,11 +91,11 @@ sound_entry size h now site at t k stands sound = record {
   sound = sym (ap first_fault_today (content_entry site t h now k)) ∙ sound;
 }
 
-pub shown_entry : (size : ℕ) (h now : Held) (site : Site) (at : Pointer) (t : Listing) (ds : List Disk) → Keeps (area_of h) (area_of now) → StandsOn size (reads h) (standing site at t)
+pub shown_entry : (size : ℕ) (h now : Held) (site : Site) (at : Pointer) (t : VolumeTable) (ds : List Disk) → Keeps (area_of h) (area_of now) → StandsOn size (reads h) (standing site at t)
     → ds ≡ disks (content_now site t (area_of now)) → Shows size (reads h) ds
 shown_entry size h now site at t ds k stands shown = record { group = standing site at t; stands = stands; shown = shown ∙ ap disks (content_entry site t h now k) }
 
-pub opened_entry : (size : ℕ) (h now : Held) (site : Site) (at : Pointer) (t : Listing) (made : Shape) → Keeps (area_of h) (area_of now) → StandsOn size (reads h) (standing site at t)
+pub opened_entry : (size : ℕ) (h now : Held) (site : Site) (at : Pointer) (t : VolumeTable) (made : Shape) → Keeps (area_of h) (area_of now) → StandsOn size (reads h) (standing site at t)
     → made ≡ opened (content_now site t (area_of now)) → IsOpenedOn size (reads h) made
 opened_entry size h now site at t made k stands is = record { group = standing site at t; stands = stands; shape_is = is ∙ ap opened (content_entry site t h now k) }
 
@@ -107,9 +108,9 @@ answer_as P Q before now (fault.Damaged p) h a = h (fault.Damaged p) a
 answer_as P Q before now fault.Device h a = a
 answer_as P Q before now fault.NoMemory h a = a
 
-pub refused_content : (told : Type 0) (size : ℕ) (h now : Held) (site : Site) (at : Pointer) (t : Listing) (first before after : ℕ) (e : OpenFault) → first ≤ before
+pub refused_content : (told : Type 0) (size : ℕ) (h now : Held) (site : Site) (at : Pointer) (t : VolumeTable) (first before after : ℕ) (e : OpenFault) → first ≤ before
     → (told → Keeps (area_of h) (area_of now)) → (told → StandsOn size (reads h) (standing site at t))
-    → IsStopped told (content_now site t (area_of now)) before after e → IsAnswer (λ f. told → IsRefusedOn size (reads h) f) first after e
+    → IsOpeningStopped told (content_now site t (area_of now)) before after e → IsAnswer (λ f. told → IsRefusedOn size (reads h) f) first after e
 refused_content told size h now site at t first before after (fault.Damaged p) counts k stands is = λ it.
     by_content (standing site at t) p (stands it) (sym (ap first_fault_today (content_entry site t h now (k it))) ∙ is it)
 refused_content told size h now site at t first before after fault.Device counts k stands is = omega (arith, counts, is)
@@ -120,75 +121,78 @@ refused_content told size h now site at t first before after (fault.Unsupported 
 -- ---- an opening that failed
 
 -- what is left of the group is kept, and shows no other disks
-abbrev LeavesAsBefore : Site → (Listing → (ℕ → List ℕ) → Type 0) → (Listing → (ℕ → List ℕ) → Type 0) → Content → Type 0
-LeavesAsBefore s was is old = (t : Listing) (image : ℕ → List ℕ) → is t image → was t image ⊎ IsRepairedFrom old (content_in s t image)
+abbrev LeavesAsBefore : Site → (VolumeTable → (ℕ → List ℕ) → Type 0) → (VolumeTable → (ℕ → List ℕ) → Type 0) → Content → Type 0
+LeavesAsBefore s was is old = (t : VolumeTable) (image : ℕ → List ℕ) → is t image → was t image ⊎ IsRepairedFrom old (content_in s t image)
 
 -- an image whose extents are those of another
-same_extents : (size : ℕ) (h : Held) (site : Site) (t : Listing) (image : ℕ → List ℕ) (was : Leaves size h (plate_at site) t image)
+same_extents : (size : ℕ) (h : Held) (site : Site) (t : VolumeTable) (image : ℕ → List ℕ) (was : LeavesGroup size h (plate_at site) t image)
     → content_in site t image ≡ content_of (standing site was.pointer t) was.whole
 same_extents size h site t image was = ap (content_in site t) (fun_ext (λ q. was.sectors q))
 
-failed_kept : (size : ℕ) (entry h : Held) (site : Site) (old : Content) (t : Listing) (image : ℕ → List ℕ) → Keeps entry h → IsKeptDevice size entry
-    → Leaves size h (plate_at site) t image ⊎ IsRepairedFrom old (content_in site t image) → IsKept (content_in site t image)
+failed_kept : (size : ℕ) (entry h : Held) (site : Site) (old : Content) (t : VolumeTable) (image : ℕ → List ℕ) → Keeps entry h → IsKeptDevice size entry
+    → LeavesGroup size h (plate_at site) t image ⊎ IsRepairedFrom old (content_in site t image) → IsKept (content_in site t image)
 failed_kept size entry h site old t image k kept (inl was) =
     subst IsKept (sym (same_extents size h site t image was)) (kept_standing size was.whole site was.pointer t was.stands (kept was.whole (Allows-keeps size was.whole k was.allowed)))
 failed_kept size entry h site old t image k kept (inr new) = plain_kept (content_in site t image) new.sound
 
-failed_shown : (size : ℕ) (entry h : Held) (site : Site) (at : Pointer) (first t : Listing) (image : ℕ → List ℕ) (ds : List Disk) → Keeps entry h → Keeps (area_of entry) (area_of h)
-    → StandsOn size (reads entry) (standing site at first)
-    → Leaves size h (plate_at site) t image ⊎ IsRepairedFrom (content_now site first (area_of h)) (content_in site t image)
-    → ds ≡ disks (content_in site t image) → MayShowOn size entry ds
-failed_shown size entry h site at first t image ds k ka stands (inl was) shown = record {
-  image = was.whole;
+-- an image on which the group is as what it leaves says was left before, or shows the disks of the entry
+failed_shown : (size : ℕ) (entry h : Held) (site : Site) (at now : Pointer) (first t : VolumeTable) (image : ℕ → List ℕ) → Keeps entry h → Keeps (area_of entry) (area_of h)
+    → StandsOn size (reads entry) (standing site at first) → StandsOn size image (standing site now t)
+    → LeavesGroup size h (plate_at site) t (extents_in image) ⊎ IsRepairedFrom (content_now site first (area_of h)) (content_in site t (extents_in image))
+    → IsLeftBefore size entry image ⊎ ((ds : List Disk) → Shows size image ds → Shows size (reads entry) ds)
+failed_shown size entry h site at now first t image k ka stands here (inl was) = inl (record {
+  before = was.whole;
   allowed = Allows-keeps size was.whole k was.allowed;
-  shows = record { group = standing site was.pointer t; stands = was.stands; shown = shown ∙ ap disks (same_extents size h site t image was) };
-}
-failed_shown size entry h site at first t image ds k ka stands (inr new) shown = record {
-  image = reads entry;
-  allowed = Allows-reads size entry;
-  shows = shown_entry size entry h site at first ds ka stands (shown ∙ new.same_disks);
-}
+  same = λ g on. (
+    standing site was.pointer t,
+    was.stands,
+    sym (same_extents size h site t (extents_in image) was) ∙ content_once size image g (standing site now t) on here,
+  );
+})
+failed_shown size entry h site at now first t image k ka stands here (inr new) = inr (λ ds s.
+    shown_entry size entry h site at first ds ka stands (shown_standing size image site now t ds here s ∙ new.same_disks))
 
 -- whatever a stop leaves of the group is what it might have left at the entry, or the repository under repair
-abbrev pub LeavesRepaired : ℕ → Held → Held → Site → Site → Listing → Type 0
-LeavesRepaired size h last site now first = (t : Listing) (image : ℕ → List ℕ) → Leaves size last (plate_at now) t image
-    → Leaves size h (plate_at site) t image ⊎ IsRepairedFrom (content_now site first (area_of h)) (content_in site t image)
+abbrev pub LeavesRepaired : ℕ → Held → Held → Site → Site → VolumeTable → Type 0
+LeavesRepaired size h last site now first = (t : VolumeTable) (image : ℕ → List ℕ) → LeavesGroup size last (plate_at now) t image
+    → LeavesGroup size h (plate_at site) t image ⊎ IsRepairedFrom (content_now site first (area_of h)) (content_in site t image)
 
-pub kept_back : (size : ℕ) (entry h last : Held) (site now : Site) (first : Listing) → now ≡ site → Keeps entry h → StandsAlways size last now
+pub kept_back : (size : ℕ) (entry h last : Held) (site now : Site) (first : VolumeTable) → now ≡ site → Keeps entry h → StandsAlways size last now
     → LeavesRepaired size h last site now first → IsKeptDevice size entry → IsKeptDevice size last
 kept_back size entry h last site now first same k always left kept =
     kept_device size last now always (λ t image l. subst (λ (x : Site). IsKept (content_in x t image)) (sym same)
     (failed_kept size entry h site (content_now site first (area_of h)) t image k kept (left t image l)))
 
-pub shown_back : (size : ℕ) (entry h last : Held) (site now : Site) (at : Pointer) (first : Listing) → now ≡ site → Keeps entry h → Keeps (area_of entry) (area_of h)
+pub shown_back : (size : ℕ) (entry h last : Held) (site now : Site) (at : Pointer) (first : VolumeTable) → now ≡ site → Keeps entry h → Keeps (area_of entry) (area_of h)
     → StandsOn size (reads entry) (standing site at first) → StandsAlways size last now → LeavesRepaired size h last site now first
-    → (ds : List Disk) → MayShowOn size last ds → MayShowOn size entry ds
-shown_back size entry h last site now at first same k ka stands always left ds m =
-    let shown = shown_device size last now ds always m in
-    failed_shown size entry h site at first shown.table shown.image ds k ka stands (left shown.table shown.image shown.left)
-    (shown.shown ∙ ap (λ (x : Site). disks (content_in x shown.table shown.image)) same)
+    → ShowsNothingNew size entry last
+shown_back size entry h last site now at first same k ka stands always left = λ image allowed.
+    let s = always image allowed in
+    failed_shown size entry h site at s.pointer first s.table image k ka stands
+    (subst (λ (x : Site). StandsOn size image (standing x s.pointer s.table)) same s.stands)
+    (left s.table (extents_in image) (left_of size last now image allowed s))
 
 -- the same, where each side tells the size of its device
-pub repaired_sized : (size before after : ℕ) (h last : Held) (site now : Site) (first : Listing) → before ≡ size → after ≡ size
-    → ((t : Listing) (image : ℕ → List ℕ) → Leaves after last (plate_at now) t image → Leaves before h (plate_at site) t image ⊎ IsRepairedFrom (content_now site first (area_of h)) (content_in site t image))
+pub repaired_sized : (size before after : ℕ) (h last : Held) (site now : Site) (first : VolumeTable) → before ≡ size → after ≡ size
+    → ((t : VolumeTable) (image : ℕ → List ℕ) → LeavesGroup after last (plate_at now) t image → LeavesGroup before h (plate_at site) t image ⊎ IsRepairedFrom (content_now site first (area_of h)) (content_in site t image))
     → LeavesRepaired size h last site now first
 repaired_sized size before after h last site now first is_before is_after left = λ t image l.
-    ⊎_elim (λ was. inl (subst (λ n. Leaves n h (plate_at site) t image) is_before was)) (λ new. inr new)
-    (left t image (subst (λ n. Leaves n last (plate_at now) t image) (sym is_after) l))
+    ⊎_elim (λ was. inl (subst (λ n. LeavesGroup n h (plate_at site) t image) is_before was)) (λ new. inr new)
+    (left t image (subst (λ n. LeavesGroup n last (plate_at now) t image) (sym is_after) l))
 
 pub always_sized : (size after : ℕ) (last : Held) (site : Site) → after ≡ size → StandsAlways after last site → StandsAlways size last site
 always_sized size after last site is_after always = subst (λ n. StandsAlways n last site) is_after always
 
 -- ---- unless the device failed
 
-pub unless : {Fact : Type 0} (e : OpenFault) → Fact → UnlessDevice e Fact
+pub unless : {Fact : Type 0} (e : OpenFault) → Fact → UnlessDeviceFailed e Fact
 unless fault.Device is = tt
 unless (fault.Damaged p) is = is
 unless fault.NoMemory is = is
 unless fault.NotARepository is = is
 unless (fault.Unsupported v) is = is
 
-pub unless_from : {P Q : Type 0} (e : OpenFault) → (P → Q) → UnlessDevice e P → UnlessDevice e Q
+pub unless_from : {P Q : Type 0} (e : OpenFault) → (P → Q) → UnlessDeviceFailed e P → UnlessDeviceFailed e Q
 unless_from fault.Device f is = tt
 unless_from (fault.Damaged p) f is = f is
 unless_from fault.NoMemory f is = f is

@@ -15,12 +15,12 @@ use Rattle.sm_machine.specs.Disks.{Disk}
 use Rattle.sm_machine.specs.Steps.{State}
 use Rattle.vg_layout.specs.Opening.{plate_of}
 use Rattle.vg_layout.specs.Places.{area_place}
-use Rattle.vg_meta.specs.Tables.{Listing}
-use Rattle.vg_store.specs.Groups.{Leaves, area_of}
+use Rattle.vg_meta.specs.Tables.{VolumeTable}
+use Rattle.vg_store.specs.Groups.{LeavesGroup, area_of}
 use Rattle.vg_volumes.specs.Sites.{Site}
 use Rattle.sm_recover.specs.Stores.{HasNoStray, content_in, content_now, state_now}
 use Rattle.sm_run.specs.Runs.{HasRun}
-use Rattle.sm_recover.specs.Repairs.{UnlessDevice}
+use Rattle.sm_recover.specs.Repairs.{UnlessDeviceFailed}
 use Rattle.sm_run.specs.declared.runs.RunFault.{RunFault}
 use Rattle.sm_session.specs.Sessions.{MayShow, KeepsAll}
 use Rattle.sm_standing.specs.Contents.{Content}
@@ -30,7 +30,7 @@ use Rattle.sm_standing.specs.Standing.{disks}
 use Rattle.lvhd_command.specs.declared.statuses.Status.{Status}
 use Rattle.lvhd_command.specs.declared.statuses.Status.TheVariants.{Done, Words, Device, Source, Sink, Refused, Memory, TooLong}
 use Rattle.lvhd_command.specs.Devices.{IsOpenedOn, IsSoundOn, IsRefusedOn, plate_at}
-use Rattle.lvhd_command.specs.Running.{RunSides, HasRunOn, HasStayed, IsLeft, ReadsAs, EndsAs, ShowsOnly, IsGivenBack, ToldOf, HasTold, HasSaid, status_of}
+use Rattle.lvhd_command.specs.Running.{RunSides, HasRunOn, HasStayed, ReadsAsState, EndsAs, ShowsOnly, IsGivenBack, ToldOf, HasTold, HasSaid, status_of}
 use Rattle.lvhd_command.specs.Texts.{line_of, fault_words}
 use Rattle.lvhd_command.proofs.OpenLaws.{standing, extents_in, StandsAlways, kept_device, shown_device}
 
@@ -56,26 +56,26 @@ run_as fewer at keeps r = record {
 -- ---- what a read gives at the end
 
 -- a session's table is the only one that a stop leaves
-abbrev pub IsOneTable : ℕ → Site → Held → Listing → Type 0
-IsOneTable size site after t = (u : Listing) (image : ℕ → List ℕ) → Leaves size after (plate_at site) u image → u ≡ t
+abbrev pub IsOneTable : ℕ → Site → Held → VolumeTable → Type 0
+IsOneTable size site after t = (u : VolumeTable) (image : ℕ → List ℕ) → LeavesGroup size after (plate_at site) u image → u ≡ t
 
 abbrev state_of : Content → State
 state_of c = record { disks = disks c; shape = shape c }
 
-reads_as : (size : ℕ) (site : Site) (held after : Held) (t : Listing) → IsGivenBack size site held after → IsOneTable size site after t → HasNoStray (content_now site t (area_of held))
-    → ReadsAs size after (state_now site t (area_of held))
+reads_as : (size : ℕ) (site : Site) (held after : Held) (t : VolumeTable) → IsGivenBack size site held after → IsOneTable size site after t → HasNoStray (content_now site t (area_of held))
+    → ReadsAsState size after (state_now site t (area_of held))
 reads_as size site held after t back one none =
     let s = back.stands (reads after) (Allows-reads size after) in
-    let left : Leaves size after (plate_at site) s.table (extents_in (reads after)) = record { whole = reads after; allowed = Allows-reads size after; pointer = s.pointer; stands = s.stands; sectors = λ q. refl } in
+    let left : LeavesGroup size after (plate_at site) s.table (extents_in (reads after)) = record { whole = reads after; allowed = Allows-reads size after; pointer = s.pointer; stands = s.stands; sectors = λ q. refl } in
     let content : content_now site t (area_of held) ≡ content_of (standing site s.pointer s.table) (reads after)
-    = ap₂ (λ (u : Listing) (image : ℕ → List ℕ). content_in site u image) (sym (one s.table (extents_in (reads after)) left)) (fun_ext (λ q. sym (back.extents.reads q))) in
+    = ap₂ (λ (u : VolumeTable) (image : ℕ → List ℕ). content_in site u image) (sym (one s.table (extents_in (reads after)) left)) (fun_ext (λ q. sym (back.extents.reads q))) in
     record { group = standing site s.pointer s.table; stands = s.stands; state = ap state_of content; no_stray = subst HasNoStray content none }
 
 -- ---- the whole
 
-pub has_run : (s : RunSides) (status : Status) (site : Site) (t : Listing) (held : Held) (start : State) (result : Result ⊤ RunFault) (Ready : Type 0)
+pub has_run : (s : RunSides) (status : Status) (site : Site) (t : VolumeTable) (held : Held) (start : State) (result : Result ⊤ RunFault) (Ready : Type 0)
     → IsSoundOn s.size (reads s.old) → Shows s.size (reads s.old) start.disks → IsOpenedOn s.size (reads s.old) start.shape
-    → HasRun start (state_now site t (area_of held)) result s.had_left s.left s.had_got s.got (MayShow site (Leaves s.size held (plate_at site))) Ready (KeepsAll site (Leaves s.size held (plate_at site)))
+    → HasRun start (state_now site t (area_of held)) result s.had_left s.left s.had_got s.got (MayShow site (LeavesGroup s.size held (plate_at site))) Ready (KeepsAll site (LeavesGroup s.size held (plate_at site)))
     → IsGivenBack s.size site held s.new → (Ready → IsOneTable s.size site s.new t) → (Ready → HasNoStray (content_now site t (area_of held))) → EndsAs result s.size s.new (state_now site t (area_of held)) status
     → plate_of s.size (reads s.old) ≡ Ok (plate_at site) → HasRunOn s status
 has_run s status site t held start result Ready sound shown opened run back one none ends labelled =
@@ -105,7 +105,7 @@ told_refusal e had got before now (Err f) status w is = subst (λ (x : Status). 
 -- ---- the last sync, failed or not: a stop leaves no more, and reads give the same
 
 -- what a stop leaves of the group after a sync it might have left before
-fewer_after : (size : ℕ) (site : Site) (held after : Held) (t : Listing) (image : ℕ → List ℕ) → Keeps held after → Leaves size after (plate_at site) t image → Leaves size held (plate_at site) t image
+fewer_after : (size : ℕ) (site : Site) (held after : Held) (t : VolumeTable) (image : ℕ → List ℕ) → Keeps held after → LeavesGroup size after (plate_at site) t image → LeavesGroup size held (plate_at site) t image
 fewer_after size site held after t image k l = record { whole = l.whole; allowed = Allows-keeps size l.whole k l.allowed; pointer = l.pointer; stands = l.stands; sectors = l.sectors }
 
 pub kept_back_after : (size : ℕ) (site : Site) (held after : Held) → Keeps held after → StandsAlways size held site → IsGivenBack size site held after
@@ -115,7 +115,7 @@ kept_back_after size site held after k always = record {
   extents = record { reads = λ q. k.reads (area_place + q); may = λ q v m. k.may (area_place + q) v m };
 }
 
-pub one_after : (size : ℕ) (site : Site) (held after : Held) (t : Listing) → Keeps held after → IsOneTable size site held t → IsOneTable size site after t
+pub one_after : (size : ℕ) (site : Site) (held after : Held) (t : VolumeTable) → Keeps held after → IsOneTable size site held t → IsOneTable size site after t
 one_after size site held after t k one = λ u image l. one u image (fewer_after size site held after u image k l)
 
 pub shown_after : (size : ℕ) (held after : Held) (ds : List Disk) → Keeps held after → ShowsOnly size held ds → ShowsOnly size after ds
@@ -123,18 +123,18 @@ shown_after size held after ds k only = λ es m. only es (record { image = m.ima
 
 -- a stop of the device shows what a stop of the session shows
 pub shown_only : (size : ℕ) (site : Site) (held : Held) (ds : List Disk) → StandsAlways size held site
-    → ((es : List Disk) → MayShow site (Leaves size held (plate_at site)) es → es ≡ ds) → ShowsOnly size held ds
+    → ((es : List Disk) → MayShow site (LeavesGroup size held (plate_at site)) es → es ≡ ds) → ShowsOnly size held ds
 shown_only size site held ds always only = λ es m. only es (shown_device size held site es always m)
 
 -- the same, where the session tells the size of its device
-pub has_run_sized : (s : RunSides) (status : Status) (other : ℕ) (site : Site) (t : Listing) (held : Held) (start : State) (result : Result ⊤ RunFault) (Ready : Type 0) → other ≡ s.size
+pub has_run_sized : (s : RunSides) (status : Status) (other : ℕ) (site : Site) (t : VolumeTable) (held : Held) (start : State) (result : Result ⊤ RunFault) (Ready : Type 0) → other ≡ s.size
     → IsSoundOn s.size (reads s.old) → Shows s.size (reads s.old) start.disks → IsOpenedOn s.size (reads s.old) start.shape
-    → HasRun start (state_now site t (area_of held)) result s.had_left s.left s.had_got s.got (MayShow site (Leaves other held (plate_at site))) Ready (KeepsAll site (Leaves other held (plate_at site)))
+    → HasRun start (state_now site t (area_of held)) result s.had_left s.left s.had_got s.got (MayShow site (LeavesGroup other held (plate_at site))) Ready (KeepsAll site (LeavesGroup other held (plate_at site)))
     → IsGivenBack other site held s.new → (Ready → IsOneTable other site s.new t) → (Ready → HasNoStray (content_now site t (area_of held))) → EndsAs result s.size s.new (state_now site t (area_of held)) status
     → plate_of s.size (reads s.old) ≡ Ok (plate_at site) → HasRunOn s status
 has_run_sized s status other site t held start result Ready is_size sound shown opened run back one none ends labelled =
     has_run s status site t held start result Ready sound shown opened
-    (subst (λ n. HasRun start (state_now site t (area_of held)) result s.had_left s.left s.had_got s.got (MayShow site (Leaves n held (plate_at site))) Ready (KeepsAll site (Leaves n held (plate_at site)))) is_size run)
+    (subst (λ n. HasRun start (state_now site t (area_of held)) result s.had_left s.left s.had_got s.got (MayShow site (LeavesGroup n held (plate_at site))) Ready (KeepsAll site (LeavesGroup n held (plate_at site)))) is_size run)
     (subst (λ n. IsGivenBack n site held s.new) is_size back) (λ r. subst (λ n. IsOneTable n site s.new t) is_size (one r)) none ends labelled
 
 -- a device that was handed back as it was
@@ -185,7 +185,7 @@ said_refused s (opening.Damaged p) status told first last before now it a h = to
 -- ---- a device that is not opened
 
 -- unless the device failed nothing was written
-pub left_of : (P : Type 0) (e : OpenFault) (had got : Option (List ℕ)) (before now : ℕ) (status : Status) → HasTold e had got before now status → UnlessDevice e P → status ≢ Device → P
+pub left_of : (P : Type 0) (e : OpenFault) (had got : Option (List ℕ)) (before now : ℕ) (status : Status) → HasTold e had got before now status → UnlessDeviceFailed e P → status ≢ Device → P
 left_of P opening.Device had got before now status h left other = absurd (other h.0)
 left_of P opening.NoMemory had got before now status h left other = left
 left_of P opening.NotARepository had got before now status h left other = left
@@ -193,13 +193,12 @@ left_of P (opening.Unsupported v) had got before now status h left other = left
 left_of P (opening.Damaged p) had got before now status h left other = left
 
 pub has_stayed : (s : RunSides) (e : OpenFault) (status : Status) (told : Type 0) (first last before now : ℕ) → told → s.left ≡ s.had_left
-    → IsAnswer (λ f. told → IsRefusedOn s.size (reads s.old) f) first last e → HasTold e s.had_got s.got before now status → UnlessDevice e (Keeps s.old s.new)
-    → IsLeft s.size s.old s.new → HasStayed s status
-has_stayed s e status told first last before now it source answer h left fewer = record {
+    → IsAnswer (λ f. told → IsRefusedOn s.size (reads s.old) f) first last e → HasTold e s.had_got s.got before now status → Keeps s.old s.new
+    → HasStayed s status
+has_stayed s e status told first last before now it source answer h left = record {
   source = source;
   said = said_refused s e status told first last before now it answer h;
-  fewer = fewer;
-  untouched = left_of (Keeps s.old s.new) e s.had_got s.got before now status h left;
+  untouched = left;
 }
 
 -- a refusal and want of memory are no fault of the device
@@ -219,6 +218,5 @@ pub stayed_poor : (s : RunSides) → s.left ≡ s.had_left → s.got ≡ s.had_g
 stayed_poor s source sink device = record {
   source = source;
   said = silent s Memory Memory refl (λ x. x) sink;
-  fewer = inl (subst (λ (h : Held). Keeps s.old h) (sym device) (Keeps-none s.old));
-  untouched = λ _. subst (λ (h : Held). Keeps s.old h) (sym device) (Keeps-none s.old);
+  untouched = subst (λ (h : Held). Keeps s.old h) (sym device) (Keeps-none s.old);
 }

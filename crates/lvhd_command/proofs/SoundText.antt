@@ -8,7 +8,7 @@ use Rattle.std.proofs.lemmas.List.{map-append, append-nil}
 use Rattle.byteorder.specs.Endian.{big_bytes}
 use Rattle.sm_base.specs.declared.names.Name.{Name}
 use Rattle.sm_base.specs.Names.{name_cmp}
-use Rattle.vg_meta.specs.Tables.{Row, Listing, IsVolume, AreVolumes, extents_in, names_of}
+use Rattle.vg_meta.specs.Tables.{Row, VolumeTable, IsVolume, AreVolumes, extents_in, names_of}
 use Rattle.vg_meta.specs.Text.{text, volume_text}
 use Rattle.vg_meta.specs.Reading.{Spells, Begins, IsDamagedAt, no_sequence, no_number, no_volume, bytes_follow}
 use Rattle.vg_meta.proofs.DecodeLaws.{used-le}
@@ -96,16 +96,16 @@ goes_on (r ∷ front) (s ∷ vs) rest tail most h k e =
     let ih = goes_on front vs rest tail (omega arith) (rest_has r front h) (rest_has s vs k) after in
     record { more = ih.more; whole = ap (λ (x : Row). x ∷ vs) (sym first) ∙ ap (λ (l : List Row). r ∷ l) ih.whole; spelled = ih.spelled }
 
-text_parts : (t : Listing) → text t ≡ big_bytes 8 t.sequence ++ (big_bytes 4 (length t.volumes) ++ flat_map volume_text t.volumes)
+text_parts : (t : VolumeTable) → text t ≡ big_bytes 8 t.sequence ++ (big_bytes 4 (length t.volumes) ++ flat_map volume_text t.volumes)
 unfolding text
 text_parts t = refl
 
 -- the numbers that were read are those of the table, and behind them stand its volumes
-record Reads (t : Listing) (number : ℕ) (front : List Row) (rest : List ℕ) : Type 0 where
+record Reads (t : VolumeTable) (number : ℕ) (front : List Row) (rest : List ℕ) : Type 0 where
   many : number ≡ length t.volumes
   on : length front ≤ number → GoesOn front t.volumes rest []
 
-begun : (count : ℕ) (bytes : List ℕ) (t : Listing) (sequence number : ℕ) (front : List Row) (rest : List ℕ) → count < 2 ^ 32
+begun : (count : ℕ) (bytes : List ℕ) (t : VolumeTable) (sequence number : ℕ) (front : List Row) (rest : List ℕ) → count < 2 ^ 32
     → Spells count bytes t → Begins count bytes sequence number front rest → Reads t number front rest
 begun count bytes t sequence number front rest low s b =
     let behind = flat_map volume_text front ++ rest in
@@ -120,7 +120,7 @@ begun count bytes t sequence number front rest low s b =
 
 -- ---- no fault
 
-next_there : (count : ℕ) (t : Listing) (front : List Row) (rest : List ℕ) → count < 2 ^ 32 → AreVolumes count t.volumes → length front < length t.volumes → GoesOn front t.volumes rest []
+next_there : (count : ℕ) (t : VolumeTable) (front : List Row) (rest : List ℕ) → count < 2 ^ 32 → AreVolumes count t.volumes → length front < length t.volumes → GoesOn front t.volumes rest []
     → ((r : Row) (more : List ℕ) → length r.extents < 2 ^ 32 → AreVolumes count (front ++ r ∷ []) → rest ≡ volume_text r ++ more → ⊥) → ⊥
 next_there count t front rest low v fewer g none = go g.more g.whole (g.spelled ∙ append-nil (flat_map volume_text g.more))
   where
@@ -133,7 +133,7 @@ next_there count t front rest low v fewer g none = go g.more g.whole (g.spelled 
         let long : extents_in (front ++ r ∷ []) ≡ extents_in front ++ extents_in (r ∷ []) = flat_map-append (λ (x : Row). x.extents) front (r ∷ []) in
         none r (flat_map volume_text more) (omega (arith, few.few, ap length long, length-append (extents_in front) (extents_in (r ∷ [])), length-append r.extents [])) there spelled
 
-nothing_left : (t : Listing) (front : List Row) (rest : List ℕ) → length front ≡ length t.volumes → GoesOn front t.volumes rest [] → rest ≡ []
+nothing_left : (t : VolumeTable) (front : List Row) (rest : List ℕ) → length front ≡ length t.volumes → GoesOn front t.volumes rest [] → rest ≡ []
 nothing_left t front rest all g = go g.more g.whole (g.spelled ∙ append-nil (flat_map volume_text g.more))
   where
     go : (more : List Row) → t.volumes ≡ front ++ more → rest ≡ flat_map volume_text more → rest ≡ []
@@ -141,7 +141,7 @@ nothing_left t front rest all g = go g.more g.whole (g.spelled ∙ append-nil (f
     go (r ∷ more) whole spelled = absurd (omega (arith, ap length whole, length-append front (r ∷ more)))
 
 -- a text that spells a table has no fault
-pub not_damaged : (count : ℕ) (bytes : List ℕ) (t : Listing) (place : ℕ) → count < 2 ^ 32 → Spells count bytes t → IsDamagedAt count bytes place → ⊥
+pub not_damaged : (count : ℕ) (bytes : List ℕ) (t : VolumeTable) (place : ℕ) → count < 2 ^ 32 → Spells count bytes t → IsDamagedAt count bytes place → ⊥
 not_damaged count bytes t _ low s (no_sequence none) =
     none t.sequence (big_bytes 4 (length t.volumes) ++ flat_map volume_text t.volumes) s.table.sequence (s.spelled ∙ text_parts t)
 not_damaged count bytes t _ low s (no_number sequence rest fits spelled short) =

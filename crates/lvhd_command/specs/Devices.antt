@@ -5,7 +5,7 @@ use Rattle.sm_base.specs.declared.faults.OpenFault.TheVariants.{Damaged}
 use Rattle.sm_base.specs.declared.faults.Place.{Place}
 use Rattle.sm_disk.specs.Held.{Held, Allows}
 use Rattle.sm_machine.specs.Disks.{Disk}
-use Rattle.vg_layout.specs.Opening.{Standing, StandsOn, IsRefused}
+use Rattle.vg_layout.specs.Opening.{GroupFound, StandsOn, IsRefused}
 use Rattle.vg_layout.specs.Sectors.{Plate}
 use Rattle.vg_layout.specs.declared.labels.GroupLabel.{GroupLabel}
 use Rattle.vg_volumes.specs.Sites.{Site}
@@ -26,20 +26,20 @@ pub record MayShowOn (size : ℕ) (h : Held) (ds : List Disk) : Type 0 where
 
 -- a group stands on the image, and today's checks of its content pass
 pub record IsSoundOn (size : ℕ) (image : ℕ → List ℕ) : Type 0 where
-  pub group : Standing
+  pub group : GroupFound
   pub stands : StandsOn size image group
   pub sound : first_fault_today (content_of group image) ≡ None
 
 -- this shape is what an opening makes of what stands on the image
 pub record IsOpenedOn (size : ℕ) (image : ℕ → List ℕ) (made : Shape) : Type 0 where
-  pub group : Standing
+  pub group : GroupFound
   pub stands : StandsOn size image group
   pub shape_is : made ≡ opened (content_of group image)
 
 -- the first check that fails, and its answer
 pub data IsRefusedOn (size : ℕ) (image : ℕ → List ℕ) : OpenFault → Type 0 where
   by_group : (e : OpenFault) → IsRefused size image e → IsRefusedOn size image e
-  by_content : (g : Standing) (p : Place) → StandsOn size image g → first_fault_today (content_of g image) ≡ Some p → IsRefusedOn size image (Damaged p)
+  by_content : (g : GroupFound) (p : Place) → StandsOn size image g → first_fault_today (content_of g image) ≡ Some p → IsRefusedOn size image (Damaged p)
 
 -- what never changes of the group with this label on a device of so many sectors
 abbrev pub site_on : GroupLabel → ℕ → Site

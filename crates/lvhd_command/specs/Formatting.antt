@@ -5,7 +5,7 @@ use Rattle.sm_base.specs.declared.sizes.Geometry.{Geometry}
 use Rattle.sm_disk.specs.Held.{Held, Allows, IsSettled, Rose}
 use Rattle.sm_disk.specs.Streams.{Adds, AddsFront}
 use Rattle.vg_layout.specs.Places.{extents_on, record_extents}
-use Rattle.vg_store.specs.Formats.{IsFormatted, IsLeft, least_size}
+use Rattle.vg_store.specs.Formats.{IsFormatted, IsLeftByFormat, least_size}
 use Rattle.lvhd_command.specs.declared.words.Request.{Request}
 use Rattle.lvhd_command.specs.declared.statuses.Status.{Status}
 use Rattle.lvhd_command.specs.declared.statuses.Status.TheVariants.{Done, Words, Device, Source, Sink, Refused, Memory, TooLong}
@@ -93,7 +93,7 @@ pub record HasFailed (s : Sides) (a : Asked) : Type 0 where
   pub large : (s.size < least_size geometry.extent) → ⊥
   pub rose : Rose s.faults s.faults_now
   pub nothing : Adds s.had [] s.got
-  pub crash : s.told → (image : ℕ → List ℕ) → Allows s.size s.new image → IsLeft s.size s.old geometry a.repository image
+  pub crash : s.told → (image : ℕ → List ℕ) → Allows s.size s.new image → IsLeftByFormat s.size s.old geometry a.repository image
 
 -- at a fault of the sink the line was a front of what was to be said: the refusal, with nothing written, or the new
 -- repository's

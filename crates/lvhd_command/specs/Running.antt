@@ -7,10 +7,10 @@ use Rattle.sm_disk.specs.Held.{Held, Allows, IsSettled, Keeps, Rose, reads}
 use Rattle.sm_disk.specs.Streams.{Adds, AddsFront}
 use Rattle.sm_machine.specs.Disks.{Disk}
 use Rattle.sm_machine.specs.Steps.{State}
-use Rattle.vg_layout.specs.Opening.{Standing, StandsOn, plate_of}
+use Rattle.vg_layout.specs.Opening.{GroupFound, StandsOn, plate_of}
 use Rattle.vg_layout.specs.Sectors.{Plate}
-use Rattle.vg_meta.specs.Tables.{Listing}
-use Rattle.vg_store.specs.Groups.{IsStanding, Leaves, area_of, beside_of}
+use Rattle.vg_meta.specs.Tables.{VolumeTable}
+use Rattle.vg_store.specs.Groups.{GroupStands, LeavesGroup, area_of, beside_of}
 use Rattle.vg_volumes.specs.Sites.{Site}
 use Rattle.sm_run.specs.Runs.{HasRun}
 use Rattle.sm_run.specs.declared.runs.RunFault.{RunFault}
@@ -57,8 +57,8 @@ status_of (Err run.Sink) = Sink
 status_of (Err run.TooLong) = TooLong
 
 -- a read gives the machine's disks and shape, and each record is that of a disk
-pub record ReadsAs (size : ℕ) (h : Held) (σ : State) : Type 0 where
-  pub group : Standing
+pub record ReadsAsState (size : ℕ) (h : Held) (σ : State) : Type 0 where
+  pub group : GroupFound
   pub stands : StandsOn size (reads h) group
   pub state : σ ≡ record { disks = disks (content_of group (reads h)); shape = shape (content_of group (reads h)) }
   pub no_stray : HasNoStray (content_of group (reads h))
@@ -91,7 +91,7 @@ pub record HasRunOn (s : RunSides) (status : Status) : Type 0 where
   pub result : Result ⊤ RunFault
   pub shown : Shows s.size (reads s.old) start.disks
   pub opened : IsOpenedOn s.size (reads s.old) start.shape
-  pub did : HasRun start end result s.had_left s.left s.had_got s.got (MayShowOn s.size s.new) (ReadsAs s.size s.new end) (IsKeptDevice s.size s.new)
+  pub did : HasRun start end result s.had_left s.left s.had_got s.got (MayShowOn s.size s.new) (ReadsAsState s.size s.new end) (IsKeptDevice s.size s.new)
   pub ends : EndsAs result s.size s.new end status
   pub label : HasLabel s.size s.old s.new
 
@@ -109,26 +109,33 @@ HasSaid s TooLong = ⊥
 -- a device that a session gave back, beside what the session held last: a group stands on whatever a stop leaves, which the
 -- session might have left too, and the extents read as they did
 pub record IsGivenBack (size : ℕ) (site : Site) (held after : Held) : Type 0 where
-  pub stands : (image : ℕ → List ℕ) → Allows size after image → IsStanding size image (plate_at site)
-  pub fewer : (t : Listing) (image : ℕ → List ℕ) → Leaves size after (plate_at site) t image → Leaves size held (plate_at site) t image
+  pub stands : (image : ℕ → List ℕ) → Allows size after image → GroupStands size image (plate_at site)
+  pub fewer : (t : VolumeTable) (image : ℕ → List ℕ) → LeavesGroup size after (plate_at site) t image → LeavesGroup size held (plate_at site) t image
   pub extents : Keeps (area_of held) (area_of after)
 
--- a stop leaves nothing new: the whole device is kept, or of a group that stands its label, its table and its extents
-abbrev pub IsLeft : ℕ → Held → Held → Type 0
-IsLeft size old new = Keeps old new ⊎ ((site : Site) × (plate_of size (reads old) ≡ Ok (plate_at site)) × IsGivenBack size site old new)
+-- A stop could have left, at the entry, an image on which the group has the same table and the same extents.
+pub record IsLeftBefore (size : ℕ) (old : Held) (image : ℕ → List ℕ) : Type 0 where
+  pub before : ℕ → List ℕ
+  pub allowed : Allows size old before
+  pub same : (g : GroupFound) → StandsOn size image g → (h : GroupFound) × StandsOn size before h × (content_of h before ≡ content_of g image)
+
+-- each image that a stop may leave now it could leave at the entry, or it shows the disks that a read gave then
+abbrev pub ShowsNothingNew : ℕ → Held → Held → Type 0
+ShowsNothingNew size old new = (image : ℕ → List ℕ) → Allows size new image
+    → IsLeftBefore size old image ⊎ ((ds : List Disk) → Shows size image ds → Shows size (reads old) ds)
 
 -- of each place that is no part of the group that stood at the entry a read gives the same, and a stop leaves nothing new
 abbrev pub KeepsBeside : ℕ → Held → Held → Type 0
 KeepsBeside size old new = (p : Plate) → plate_of size (reads old) ≡ Ok p
     → Keeps (beside_of (p.count * p.extent) old) (beside_of (p.count * p.extent) new)
 
--- the repository was not opened: nothing was read of the source, a stop may show no more than at the entry, and unless a call
--- of the device failed nothing was written
+-- the repository was not opened: nothing was read of the source, a stop shows nothing new, and unless a call of the device
+-- failed nothing was written
 pub record HasNotOpened (s : RunSides) (status : Status) : Type 0 where
   pub source : s.left ≡ s.had_left
   pub said : HasSaid s status
   pub kept : IsKeptDevice s.size s.new
-  pub shown : (ds : List Disk) → MayShowOn s.size s.new ds → MayShowOn s.size s.old ds
+  pub shown : ShowsNothingNew s.size s.old s.new
   pub label : MayHaveLabel s.size s.old s.new
   pub untouched : status ≢ Device → Keeps s.old s.new
 
@@ -137,12 +144,11 @@ abbrev pub RunDid : RunSides → Status → Type 0
 RunDid s status = HasRunOn s status ⊎ HasNotOpened s status
 
 -- a device that was not opened, for a check that fails or for want of memory: what was said of it, nothing was read of the
--- source, a stop leaves nothing new, and unless a call of the device failed nothing was written
+-- source, and nothing was written, whatever the status
 pub record HasStayed (s : RunSides) (status : Status) : Type 0 where
   pub source : s.left ≡ s.had_left
   pub said : HasSaid s status
-  pub fewer : IsLeft s.size s.old s.new
-  pub untouched : status ≢ Device → Keeps s.old s.new
+  pub untouched : Keeps s.old s.new
 
 -- the line of a refusal went out, or the sink failed at it
 abbrev pub ToldOf : OpenFault → Option (List ℕ) → Option (List ℕ) → ℕ → ℕ → Status → Type 0

@@ -3,7 +3,7 @@
 use Rattle.std.specs.Prelude.{◌≡◌, ℕ, List, [], ◌∷◌, map, codes, Option, Some, None, if◌then◌else◌}
 use Rattle.std.specs.Borrow.{Bor}
 use Rattle.std.specs.Str.{bytes_eq}
-use Rattle.sm_machine.specs.Lists.{◌>>=◌}
+use Rattle.common_laws.specs.Lists.{◌>>=◌}
 use Rattle.sm_machine.specs.Lines.{number_of, uuid_of}
 use Rattle.lvhd_command.specs.declared.words.Form.{Form}
 use Rattle.lvhd_command.specs.declared.words.Form.TheVariants.{Format, Run}

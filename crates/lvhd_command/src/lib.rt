@@ -16,9 +16,9 @@
 //! machine's disks alone; a read gives them, and no record of no disk. The label stays, and so does all that stands on the
 //! device beside the repository (`KeepsBeside`).
 //!
-//! On a device on which a check of an opening fails, kept or not, one line says why, nothing is read of the script, a stop
-//! leaves nothing new whatever the status, and unless a call of the device failed nothing was written (`HasStayed`). The
-//! answer is one alone ([`law_exact`]). With the word `format`: exactly when it is refused, and that a stop leaves what was
+//! On a device on which a check of an opening fails, kept or not, one line says why, nothing is read of the script, and
+//! nothing is written, whatever the status (`HasStayed`). A kept device that was not opened for another cause shows nothing
+//! new, image by image (`ShowsNothingNew`). The answer is one alone ([`law_exact`]). With the word `format`: exactly when it is refused, and that a stop leaves what was
 //! there, no repository, or the new one whole (`FormatDid`); sizes out of their ranges and a device that is too small leave
 //! it untouched whatever the status (`CannotFormat`). The statuses of a fault have their cause; want of memory has none,
 //! and comes before the first write. What a format leaves is kept and has no disks ([`law_formatted`]), so the premise is

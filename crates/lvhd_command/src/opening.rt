@@ -7,17 +7,17 @@ ghost use Rattle.sm_machine.specs.Disks.{Disk};
 ghost use Rattle.sm_standing.specs.Devices.{Shows};
 ghost use Rattle.sm_standing.specs.Shapes.{shape};
 ghost use Rattle.sm_standing.specs.Standing.{disks};
-ghost use Rattle.vg_meta.specs.Kept.{listing};
+ghost use Rattle.vg_meta.specs.Roomy.{table_alone};
 ghost use Rattle.vg_layout.specs.Fields.{plate};
 ghost use Rattle.vg_layout.specs.Opening.{plate_of};
-ghost use Rattle.vg_store.specs.Groups.{Leaves, area_of};
+ghost use Rattle.vg_store.specs.Groups.{LeavesGroup, area_of};
 ghost use Rattle.vg_store.specs.Openings.{IsAnswer};
-ghost use Rattle.sm_recover.specs.Repairs.{UnlessDevice};
+ghost use Rattle.sm_recover.specs.Repairs.{UnlessDeviceFailed};
 ghost use Rattle.sm_recover.specs.Stores.{IsAtRest, content_now, state_now};
 ghost use Rattle.sm_run.specs.Runs.{BeginsSettled};
 ghost use Rattle.sm_session.specs.Sessions.{MayShow, KeepsAll};
-ghost use Rattle.lvhd_command.specs.Devices.{IsKeptDevice, MayShowOn, IsSoundOn, IsRefusedOn, IsOpenedOn, plate_at, site_on};
-ghost use Rattle.lvhd_command.specs.Running.{IsLeft, KeepsBeside, MayHaveLabel};
+ghost use Rattle.lvhd_command.specs.Devices.{IsKeptDevice, IsSoundOn, IsRefusedOn, IsOpenedOn, plate_at, site_on};
+ghost use Rattle.lvhd_command.specs.Running.{ShowsNothingNew, KeepsBeside, MayHaveLabel};
 
 use sm_base::OpenFault;
 use sm_disk::Disk;
@@ -30,31 +30,31 @@ use vg_store::Group;
 ///
 /// # Errors
 /// The answer of the first check that fails, a fault of the device, or want of memory, with the device. Unless a call of
-/// the device failed it is as it was; and where a check fails a stop leaves nothing new whatever the answer.
+/// the device failed nothing was written, and where a check fails nothing was written whatever the answer.
 pub fn open<D: Disk>(alloc: Global, disk: D, now: u32) -> Result<Session<Group<D>>, (OpenFault, D)>
     ensures size { IfOk result (λ s. D.size s.store.disk ≡ D.size disk) }
     ensures counts { IfOk result (λ s. D.faults disk ≤ D.faults s.store.disk) }
     ensures whole { IfOk result (λ s. s.broken ≡ false) }
     ensures now { IfOk result (λ s. s.now ≡ now) }
     ensures sound { IfOk result (λ s. D.told → IsSoundOn (D.size disk) (reads (D.held disk))) }
-    ensures rest { IfOk result (λ s. D.told → IsAtRest (site_on s.store.label (D.size s.store.disk)) (listing s.store.table) (area_of (D.held s.store.disk)) s.records) }
-    ensures shown { IfOk result (λ s. D.told → Shows (D.size disk) (reads (D.held disk)) (disks (content_now (site_on s.store.label (D.size s.store.disk)) (listing s.store.table) (area_of (D.held s.store.disk))))) }
-    ensures opened { IfOk result (λ s. D.told → IsOpenedOn (D.size disk) (reads (D.held disk)) (shape (content_now (site_on s.store.label (D.size s.store.disk)) (listing s.store.table) (area_of (D.held s.store.disk))))) }
+    ensures rest { IfOk result (λ s. D.told → IsAtRest (site_on s.store.label (D.size s.store.disk)) (table_alone s.store.table) (area_of (D.held s.store.disk)) s.records) }
+    ensures shown { IfOk result (λ s. D.told → Shows (D.size disk) (reads (D.held disk)) (disks (content_now (site_on s.store.label (D.size s.store.disk)) (table_alone s.store.table) (area_of (D.held s.store.disk))))) }
+    ensures opened { IfOk result (λ s. D.told → IsOpenedOn (D.size disk) (reads (D.held disk)) (shape (content_now (site_on s.store.label (D.size s.store.disk)) (table_alone s.store.table) (area_of (D.held s.store.disk))))) }
     ensures label { IfOk result (λ s. D.told → plate_of (D.size disk) (reads (D.held disk)) ≡ Ok (plate_at (site_on s.store.label (D.size s.store.disk)))) }
-    ensures kept { IfOk result (λ s. D.told → KeepsAll (site_on s.store.label (D.size s.store.disk)) (Leaves (D.size s.store.disk) (D.held s.store.disk) (plate s.store.label))) }
-    ensures begins { IfOk result (λ s. D.told → BeginsSettled (state_now (site_on s.store.label (D.size s.store.disk)) (listing s.store.table) (area_of (D.held s.store.disk)))
-        (MayShow (site_on s.store.label (D.size s.store.disk)) (Leaves (D.size s.store.disk) (D.held s.store.disk) (plate s.store.label)))) }
+    ensures kept { IfOk result (λ s. D.told → KeepsAll (site_on s.store.label (D.size s.store.disk)) (LeavesGroup (D.size s.store.disk) (D.held s.store.disk) (plate s.store.label))) }
+    ensures begins { IfOk result (λ s. D.told → BeginsSettled (state_now (site_on s.store.label (D.size s.store.disk)) (table_alone s.store.table) (area_of (D.held s.store.disk)))
+        (MayShow (site_on s.store.label (D.size s.store.disk)) (LeavesGroup (D.size s.store.disk) (D.held s.store.disk) (plate s.store.label)))) }
     ensures beside { IfOk result (λ s. D.told → KeepsBeside (D.size disk) (D.held disk) (D.held s.store.disk)) }
     ensures size_back { IfErr result (λ e. D.size e.1 ≡ D.size disk) }
     ensures counts_back { IfErr result (λ e. D.faults disk ≤ D.faults e.1) }
     ensures refused { IfErr result (λ e. IsAnswer (λ f. D.told → IsRefusedOn (D.size disk) (reads (D.held disk)) f) (D.faults disk) (D.faults e.1) e.0) }
-    ensures untouched { IfErr result (λ e. D.told → UnlessDevice e.0 (Keeps (D.held disk) (D.held e.1))) }
+    ensures untouched { IfErr result (λ e. D.told → UnlessDeviceFailed e.0 (Keeps (D.held disk) (D.held e.1))) }
     ensures unsound { IfErr result (λ e. D.told → (f : OpenFault) → IsRefusedOn (D.size disk) (reads (D.held disk)) f
-        → IsLeft (D.size disk) (D.held disk) (D.held e.1)) }
+        → Keeps (D.held disk) (D.held e.1)) }
     ensures beside_back { IfErr result (λ e. D.told → KeepsBeside (D.size disk) (D.held disk) (D.held e.1)) }
     ensures label_back { IfErr result (λ e. D.told → MayHaveLabel (D.size disk) (D.held disk) (D.held e.1)) }
     ensures kept_back { IfErr result (λ e. D.told → IsKeptDevice (D.size disk) (D.held disk) → IsKeptDevice (D.size disk) (D.held e.1)) }
-    ensures shown_back { IfErr result (λ e. D.told → (ds : List Disk) → MayShowOn (D.size disk) (D.held e.1) ds → MayShowOn (D.size disk) (D.held disk) ds) }
+    ensures shown_back { IfErr result (λ e. D.told → ShowsNothingNew (D.size disk) (D.held disk) (D.held e.1)) }
 {
     let group = match Group::open(alloc, disk) {
         Ok(group) => group,

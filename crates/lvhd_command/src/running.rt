@@ -6,9 +6,9 @@ ghost use Rattle.sm_disk.specs.Held.{Allows, IsSettled, Keeps, Rose, reads};
 ghost use Rattle.sm_recover.specs.Stores.{IsAtRest, content_now};
 ghost use Rattle.sm_standing.specs.Standing.{disks};
 ghost use Rattle.vg_layout.specs.Fields.{plate};
-ghost use Rattle.vg_meta.specs.Kept.{listing};
-ghost use Rattle.vg_meta.specs.Tables.{Listing};
-ghost use Rattle.vg_store.specs.Groups.{IsStanding, Leaves, area_of};
+ghost use Rattle.vg_meta.specs.Roomy.{table_alone};
+ghost use Rattle.vg_meta.specs.Tables.{VolumeTable};
+ghost use Rattle.vg_store.specs.Groups.{GroupStands, LeavesGroup, area_of};
 ghost use Rattle.lvhd_command.specs.declared.statuses.Status.TheVariants.{Done, Device, Memory, Refused, Sink as SinkFailed, Source as SourceFailed, Words};
 ghost use Rattle.lvhd_command.specs.Devices.{IsKeptDevice, IsRefusedOn, site_on};
 ghost use Rattle.lvhd_command.specs.Running.{RunDid, HasStayed, IsGivenBack, KeepsBeside, ShowsOnly, HasTold, sides, status_of};
@@ -88,13 +88,13 @@ fn status_of_fault(fault: RunFault) -> Status
     }
 }
 
-/// The device of a session, as it is. It is not called.
+/// The device of a session, as it is. No call is made on it.
 fn leave<D: Disk>(session: Session<Group<D>>) -> D
     ensures disk { result ≡ session.store.disk }
-    ensures stands { D.told → (image : ℕ → List ℕ) → Allows (D.size session.store.disk) (D.held session.store.disk) image → IsStanding (D.size session.store.disk) image (plate session.store.label) }
-    ensures one { D.told → session.broken ≡ false → (t : Listing) (image : ℕ → List ℕ) → Leaves (D.size session.store.disk) (D.held session.store.disk) (plate session.store.label) t image → t ≡ listing session.store.table }
-    ensures shown { D.told → session.broken ≡ false → IsAtRest (site_on session.store.label (D.size session.store.disk)) (listing session.store.table) (area_of (D.held session.store.disk)) session.records
-        → ShowsOnly (D.size session.store.disk) (D.held session.store.disk) (disks (content_now (site_on session.store.label (D.size session.store.disk)) (listing session.store.table) (area_of (D.held session.store.disk)))) }
+    ensures stands { D.told → (image : ℕ → List ℕ) → Allows (D.size session.store.disk) (D.held session.store.disk) image → GroupStands (D.size session.store.disk) image (plate session.store.label) }
+    ensures one { D.told → session.broken ≡ false → (t : VolumeTable) (image : ℕ → List ℕ) → LeavesGroup (D.size session.store.disk) (D.held session.store.disk) (plate session.store.label) t image → t ≡ table_alone session.store.table }
+    ensures shown { D.told → session.broken ≡ false → IsAtRest (site_on session.store.label (D.size session.store.disk)) (table_alone session.store.table) (area_of (D.held session.store.disk)) session.records
+        → ShowsOnly (D.size session.store.disk) (D.held session.store.disk) (disks (content_now (site_on session.store.label (D.size session.store.disk)) (table_alone session.store.table) (area_of (D.held session.store.disk)))) }
 {
     session.into_store().into_disk()
 }
@@ -107,9 +107,9 @@ fn close<D: Disk>(session: Session<Group<D>>) -> (Status, D)
     ensures device { result.0 ≡ Device → Rose (D.faults session.store.disk) (D.faults result.1) }
     ensures keeps { D.told → Keeps (D.held session.store.disk) (D.held result.1) }
     ensures back { D.told → IsGivenBack (D.size session.store.disk) (site_on session.store.label (D.size session.store.disk)) (D.held session.store.disk) (D.held result.1) }
-    ensures one { D.told → session.broken ≡ false → (t : Listing) (image : ℕ → List ℕ) → Leaves (D.size session.store.disk) (D.held result.1) (plate session.store.label) t image → t ≡ listing session.store.table }
-    ensures shown { D.told → session.broken ≡ false → IsAtRest (site_on session.store.label (D.size session.store.disk)) (listing session.store.table) (area_of (D.held session.store.disk)) session.records
-        → ShowsOnly (D.size session.store.disk) (D.held result.1) (disks (content_now (site_on session.store.label (D.size session.store.disk)) (listing session.store.table) (area_of (D.held session.store.disk)))) }
+    ensures one { D.told → session.broken ≡ false → (t : VolumeTable) (image : ℕ → List ℕ) → LeavesGroup (D.size session.store.disk) (D.held result.1) (plate session.store.label) t image → t ≡ table_alone session.store.table }
+    ensures shown { D.told → session.broken ≡ false → IsAtRest (site_on session.store.label (D.size session.store.disk)) (table_alone session.store.table) (area_of (D.held session.store.disk)) session.records
+        → ShowsOnly (D.size session.store.disk) (D.held result.1) (disks (content_now (site_on session.store.label (D.size session.store.disk)) (table_alone session.store.table) (area_of (D.held session.store.disk)))) }
 {
     let mut disk = leave(session);
     match disk.sync() {

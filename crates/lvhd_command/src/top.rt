@@ -22,8 +22,8 @@ use std::alloc::Global;
 /// the repository on it and answers the script that the source gives, one line of the sink for each line. The device is
 /// handed back at every return. `now` is in seconds since 2000-01-01 00:00 UTC.
 ///
-/// A device on which a check of an opening fails is not opened: one line says why, a stop leaves nothing new of it, and
-/// unless a call of the device failed nothing was written. A run touches nothing on the device beside the repository, and
+/// A device on which a check of an opening fails is not opened: one line says why, and nothing is written, whatever the
+/// status. A run touches nothing on the device beside the repository, and
 /// a format that is refused touches nothing at all.
 pub fn lvhd<D: Disk, S: Source, K: Sink>(
     alloc: Global,

@@ -5,19 +5,10 @@
 #![tactic(auto)]
 
 #[cfg(test)]
-mod damage_tests;
-#[cfg(test)]
-mod fault_tests;
-#[cfg(test)]
 mod fixtures;
-#[cfg(test)]
-mod format_tests;
 #[cfg(test)]
 mod refused_tests;
 #[cfg(test)]
-mod script_tests;
+mod run_tests;
 #[cfg(test)]
 mod stop_tests;
-
-/// The sectors of a device with 64 extents of 32 sectors behind the group's front of 4,096.
-pub const DEVICE_SECTORS: u64 = 6144;

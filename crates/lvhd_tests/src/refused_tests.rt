@@ -1,13 +1,109 @@
 //! A device that is refused is byte for byte as it was, at every status, with each call of the opening failing in turn.
 
-use crate::fixtures::{FORMAT, damaged, failing, fill, ran, stale};
+use crate::fixtures::{Device, FORMAT, Fault, RUN, Run, damaged, make_device, ran};
 use lvhd_command::Status;
 use sm_disk::{Disk, MemDisk, read_sector};
 use std::alloc::Global;
 use std::test::Fail;
 
-/// A number past every call of an opening.
-const NEVER: u64 = 1000;
+/// A device and bytes that are written over, the words of the program, the line that it prints, and how many calls of the
+/// device it makes before.
+type Row<'a> = (Device, &'a [(u64, usize, u8)], &'a [&'a str], &'a [u8], u64);
+
+/// Bytes 8 to 11 of the label are the version, and 100 is one of its zeros. Byte 15 of the header is the last of the text's
+/// length. Two bytes of the text, and of the record's UUID, change so that the sum stays. An opening syncs, and reads the
+/// label, the header, the text and the records, up to the first that is damaged.
+const REFUSED: [Row<'static>; 12] = [
+    (Device::Blank(6144), &[], RUN, b"error NotARepository\n", 2),
+    (Device::Blank(0), &[], RUN, b"error NotARepository\n", 1),
+    (
+        Device::Over,
+        &[(0, 7, b'P')],
+        RUN,
+        b"error NotARepository\n",
+        2,
+    ),
+    (
+        Device::Over,
+        &[(0, 11, 9)],
+        RUN,
+        b"error Unsupported 9\n",
+        2,
+    ),
+    (
+        Device::Over,
+        &[(0, 100, 1)],
+        RUN,
+        b"error Damaged label\n",
+        2,
+    ),
+    (
+        Device::Over,
+        &[(1, 15, 86)],
+        RUN,
+        b"error Damaged header\n",
+        3,
+    ),
+    (
+        Device::Over,
+        &[(2, 20, 17)],
+        RUN,
+        b"error Damaged table sum\n",
+        4,
+    ),
+    (
+        Device::Over,
+        &[(2, 16, 1), (2, 28, 0)],
+        RUN,
+        b"error Damaged table 12\n",
+        4,
+    ),
+    (
+        Device::Over,
+        &[(4096, 9, 1)],
+        RUN,
+        b"error Damaged record 0\n",
+        5,
+    ),
+    (
+        Device::Made,
+        &[(4096, 22, 0x21), (4096, 23, 0x23)],
+        RUN,
+        b"error Damaged disk 22222222-2222-4222-8222-222222222222\n",
+        5,
+    ),
+    (
+        Device::Stale(4607),
+        &[],
+        FORMAT,
+        b"error TooSmall 4608\n",
+        0,
+    ),
+    (
+        Device::Over,
+        &[],
+        &[
+            "format",
+            "16384",
+            "32768",
+            "64",
+            "99999999-9999-4999-8999-999999999999",
+        ],
+        b"error BadGeometry\n",
+        0,
+    ),
+];
+
+/// A run of `list` that ends so.
+fn run<'a>(words: &'a [&'a str], fault: Fault, status: Status, printed: &'a [u8]) -> Run<'a> {
+    Run {
+        words,
+        script: b"list\n",
+        fault,
+        status,
+        printed,
+    }
+}
 
 /// Whether two devices have the same sector at one place.
 fn same_at(one: &mut MemDisk, other: &mut MemDisk, at: u64) -> Result<bool, Fail> {
@@ -34,112 +130,55 @@ fn leaves(alloc: Global, was: &mut MemDisk, after: &MemDisk, choice: &[u32]) -> 
     same_sectors(was, &mut left)
 }
 
-/// Whether a run ended so, and what a stop leaves of the device, by the oldest and by the next choices, is as it was.
-fn left_it(
-    alloc: Global,
-    was: &mut MemDisk,
-    after: &MemDisk,
-    got: Status,
-    status: Status,
-) -> Result<bool, Fail> {
-    Ok(got == status && leaves(alloc, was, after, &[])? && leaves(alloc, was, after, &[1])?)
+/// Whether a run ends as it is to end, and what a stop leaves of the device, by the oldest and by the next choices, is as it
+/// was.
+fn stays(alloc: Global, before: &mut MemDisk, run: &Run) -> Result<bool, Fail> {
+    let (is_right, after) = ran(alloc, before, run)?;
+    Ok(is_right && leaves(alloc, before, &after, &[])? && leaves(alloc, before, &after, &[1])?)
 }
 
-/// Whether a run with these words, of which this call fails, ends so, into a sink with so much room, and leaves the device
-/// as it was.
-fn stays(
+/// Whether that holds of runs of which one of the first calls fails, which are all that are made.
+fn stays_at_each(
     alloc: Global,
+    before: &mut MemDisk,
     words: &[&str],
-    before: &mut MemDisk,
-    call: u64,
-    room: Option<usize>,
-    status: Status,
-) -> Result<bool, Fail> {
-    let disk = failing(alloc, before, call)?;
-    let (got, after) = ran(alloc, words, disk, b"list\n", room)?;
-    left_it(alloc, before, &after, got, status)
-}
-
-/// Whether that holds of each of the first calls, so many of which an opening makes.
-fn stays_at_each(alloc: Global, before: &mut MemDisk, calls: u64) -> Result<bool, Fail> {
-    for call in 0..calls {
-        if !stays(alloc, &["run"], before, call, None, Status::Device)? {
-            return Ok(false);
-        }
-    }
-    Ok(
-        stays(alloc, &["run"], before, calls, None, Status::Refused)?
-            && stays(alloc, &["run"], before, NEVER, Some(3), Status::Sink)?,
-    )
-}
-
-/// Whether that holds of a repository over stale bytes of which one byte was written over.
-fn stays_damaged(alloc: Global, at: u64, index: usize, byte: u8, calls: u64) -> Result<bool, Fail> {
-    let mut before = stale(alloc)?;
-    damaged_stays(alloc, &mut before, at, index, byte, calls)
-}
-
-/// Whether that holds of a device once one byte of it was written over.
-fn damaged_stays(
-    alloc: Global,
-    before: &mut MemDisk,
-    at: u64,
-    index: usize,
-    byte: u8,
     calls: u64,
 ) -> Result<bool, Fail> {
-    damaged(before, at, index, byte)?;
-    stays_at_each(alloc, before, calls)
-}
-
-/// An opening syncs, and reads the label, the header, the text and the records, up to the first that is damaged.
-#[test]
-fn a_refused_device_is_left(rt: HostRuntime) -> Result<(), Fail> {
-    assert!(rt; all_stay(rt.alloc())?);
-    Ok(())
-}
-
-/// Each damaged place, by its sector, the byte in it and the byte that it gets, and how many calls find it.
-fn all_stay(alloc: Global) -> Result<bool, Fail> {
-    let cases = [
-        (0, 7, b'P', 2),
-        (0, 11, 9, 2),
-        (0, 100, 1, 2),
-        (1, 15, 86, 3),
-        (2, 20, 17, 4),
-        (4096, 9, 1, 5),
-    ];
-    for (at, index, byte, calls) in cases {
-        if !stays_damaged(alloc, at, index, byte, calls)? {
+    for call in 0..calls {
+        let fault = Fault::Call(call);
+        if !stays(alloc, before, &run(words, fault, Status::Device, b""))? {
             return Ok(false);
         }
     }
     Ok(true)
 }
 
-/// A device of so many sectors, which were all written.
-fn written(alloc: Global, sectors: u64) -> Result<MemDisk, Fail> {
-    let mut disk = MemDisk::new(alloc, sectors)?;
-    fill(&mut disk, 0)?;
-    Ok(disk)
-}
-
-/// Whether a format of a device that is too small is refused, and leaves it as it was, without and with a full sink.
-fn neither_formats(alloc: Global, small: &mut MemDisk) -> Result<bool, Fail> {
+/// Whether a row's device is refused so: with each call before failing in turn, with the next one failing, and with a sink
+/// that is full.
+fn is_refused(alloc: Global, before: &mut MemDisk, row: &Row) -> Result<bool, Fail> {
+    let (_, bytes, words, line, calls) = *row;
+    damaged(before, bytes)?;
+    let next = Fault::Call(calls);
+    let full = Fault::Sink(3);
     Ok(
-        stays(alloc, &FORMAT, small, 0, None, Status::Refused)?
-            && stays(alloc, &FORMAT, small, 0, Some(3), Status::Sink)?,
+        stays_at_each(alloc, before, words, calls)?
+            && stays(alloc, before, &run(words, next, Status::Refused, line))?
+            && stays(alloc, before, &run(words, full, Status::Sink, b"err"))?,
     )
 }
 
-/// A device one sector too small.
-fn small_stays(alloc: Global) -> Result<bool, Fail> {
-    let mut small = written(alloc, 4607)?;
-    neither_formats(alloc, &mut small)
+/// Each row's device is refused so.
+fn all_are_refused(alloc: Global, rows: &[Row]) -> Result<(), Fail> {
+    for (index, row) in rows.iter().enumerate() {
+        let mut before = make_device(alloc, row.0)?;
+        if !is_refused(alloc, &mut before, row)? {
+            return Err(Fail::new(format_args!("row {index}")));
+        }
+    }
+    Ok(())
 }
 
 #[test]
-fn a_device_that_is_too_small_is_left(rt: HostRuntime) -> Result<(), Fail> {
-    assert!(rt; small_stays(rt.alloc())?);
-    Ok(())
+fn a_refused_device_is_left(rt: HostRuntime) -> Result<(), Fail> {
+    all_are_refused(rt.alloc(), &REFUSED)
 }

@@ -1,110 +1,104 @@
 //! A device stops at each call of a run, and what may be left is opened again.
 
-use crate::DEVICE_SECTORS;
-use crate::fixtures::{answers, formatted, is_so, ran, run_words, stale};
+use crate::fixtures::{Device, Fault, RUN, Run, failing, make_device, ran, run_into};
 use lvhd_command::Status;
 use sm_disk::{Disk, MemDisk, MemSink, read_sector, write_sector};
 use std::alloc::Global;
 use std::ops::Range;
 use std::test::Fail;
+use test_support::{CHOICES, DEVICE_SECTORS, holds};
 
-const MAKE: &[u8] = b"create 11111111-1111-4111-8111-111111111111 65536 raw x\n";
-
-const LISTED: &[u8] = b"ok 1 11111111-1111-4111-8111-111111111111,65536,rw,-,x\n";
-
-/// What a run of `list` may show: the disk, or nothing where the disk was not yet acknowledged.
-fn shows(got: Status, sink: &MemSink, made: bool) -> bool {
-    is_so(got, sink, Status::Done, LISTED) || !made && is_so(got, sink, Status::Done, b"ok 0\n")
-}
-
-/// Whether what a stop leaves by these choices shows what it may.
-fn may_show(alloc: Global, disk: &MemDisk, choice: &[u32], made: bool) -> Result<bool, Fail> {
-    let left = disk.left(alloc, choice)?;
-    let mut sink = MemSink::new(alloc, None)?;
-    let (got, _disk) = run_words(alloc, &["run"], left, b"list\n", &mut sink)?;
-    Ok(shows(got, &sink, made))
-}
-
-/// Whether each of five choices leaves what may be shown.
-fn all_may_show(alloc: Global, disk: &MemDisk, made: bool) -> Result<bool, Fail> {
-    Ok(
-        may_show(alloc, disk, &[], made)?
-            && may_show(alloc, disk, &[1], made)?
-            && may_show(alloc, disk, &[0, 1], made)?
-            && may_show(alloc, disk, &[1, 0], made)?
-            && may_show(alloc, disk, &[3], made)?,
-    )
-}
-
-/// How a run ended whose device stopped at a call.
-enum Stopped {
-    /// The device failed, and what is left is right.
-    Right,
-    /// No call failed, and what is left is right.
-    Never,
-    /// Something is wrong.
-    Wrong,
-}
-
-/// How a run ended with this status and these replies, which left this device.
-fn judged(alloc: Global, got: Status, replies: &[u8], disk: &MemDisk) -> Result<Stopped, Fail> {
-    let made = replies == b"ok 65536\n".as_slice();
-    if !made && !replies.is_empty() || !all_may_show(alloc, disk, made)? {
-        return Ok(Stopped::Wrong);
+/// Makes a disk on a device that stops at a call.
+fn make(call: u64) -> Run<'static> {
+    Run {
+        words: RUN,
+        script: b"create 11111111-1111-4111-8111-111111111111 65536 raw x\n",
+        fault: Fault::Stop(call),
+        status: Status::Done,
+        printed: b"ok 65536\n",
     }
-    Ok(match got {
-        Status::Device => Stopped::Right,
-        Status::Done if made => Stopped::Never,
-        _ => Stopped::Wrong,
-    })
 }
 
-/// Makes a disk on a copy of a device that stops at a call.
-fn make_and_stop(alloc: Global, new: &MemDisk, call: u64) -> Result<Stopped, Fail> {
-    let mut disk = new.left(alloc, &[])?;
-    disk.stop(call);
+/// Lists the disks.
+fn list(printed: &[u8]) -> Run<'_> {
+    Run {
+        words: RUN,
+        script: b"list\n",
+        fault: Fault::Nothing,
+        status: Status::Done,
+        printed,
+    }
+}
+
+const MADE: &[u8] = b"ok 1 11111111-1111-4111-8111-111111111111,65536,rw,-,x\n";
+
+/// Whether a device lists the disk, or nothing where the disk was not yet acknowledged.
+fn shows(alloc: Global, left: &MemDisk, made: bool) -> Result<bool, Fail> {
+    let (is_made, _disk) = ran(alloc, left, &list(MADE))?;
+    if is_made || made {
+        return Ok(is_made);
+    }
+    let (is_new, _disk) = ran(alloc, left, &list(b"ok 0\n"))?;
+    Ok(is_new)
+}
+
+/// Each of five choices leaves what may be shown.
+fn all_show(alloc: Global, disk: &MemDisk, made: bool) -> Result<(), Fail> {
+    for choice in CHOICES {
+        let left = disk.left(alloc, choice)?;
+        holds(shows(alloc, &left, made)?, "what a stop leaves")?;
+    }
+    Ok(())
+}
+
+/// Whether a run that stopped was done, where it ended with this status and these replies and left this device.
+fn judged(alloc: Global, status: Status, replies: &[u8], disk: &MemDisk) -> Result<bool, Fail> {
+    let made = replies == make(0).printed;
+    holds(made || replies.is_empty(), "the reply")?;
+    all_show(alloc, disk, made)?;
+    let done = status == Status::Done;
+    holds(done && made || status == Status::Device, "the status")?;
+    Ok(done)
+}
+
+/// Makes a disk on a copy of a device that stops at a call, and answers whether that was done.
+fn make_and_stop(alloc: Global, new: &MemDisk, call: u64) -> Result<bool, Fail> {
+    let run = make(call);
+    let disk = failing(alloc, new, run.fault)?;
     let mut sink = MemSink::new(alloc, None)?;
-    let (got, disk) = run_words(alloc, &["run"], disk, MAKE, &mut sink)?;
-    judged(alloc, got, sink.bytes(), &disk)
+    let (status, after) = run_into(alloc, disk, &run, &mut sink)?;
+    judged(alloc, status, sink.bytes(), &after)
 }
 
-/// The first call at which a stop is no longer met, where each call before ended right.
-fn calls(alloc: Global, new: &MemDisk) -> Result<Option<u64>, Fail> {
+/// Stops at each call, up to the first at which a stop is no longer met.
+fn stands_each_stop(alloc: Global, new: &MemDisk) -> Result<(), Fail> {
     for call in 0..1000 {
-        match make_and_stop(alloc, new, call)? {
-            Stopped::Right => {}
-            Stopped::Never => return Ok(Some(call)),
-            Stopped::Wrong => return Ok(None),
+        if make_and_stop(alloc, new, call)? {
+            return Ok(());
         }
     }
-    Ok(None)
-}
-
-/// Whether a new repository stands each stop.
-fn stands_each_stop(alloc: Global) -> Result<bool, Fail> {
-    let new = formatted(alloc, DEVICE_SECTORS)?;
-    Ok(calls(alloc, &new)?.is_some())
+    Err(Fail::from("a run that ends"))
 }
 
 #[test]
 fn each_call_stops_in_turn(rt: HostRuntime) -> Result<(), Fail> {
-    assert!(rt; stands_each_stop(rt.alloc())?);
-    Ok(())
+    let new = make_device(rt.alloc(), Device::New(DEVICE_SECTORS))?;
+    stands_each_stop(rt.alloc(), &new)
 }
 
-/// Whether one over stale bytes does.
-fn stands_over_stale_bytes(alloc: Global) -> Result<bool, Fail> {
-    let new = stale(alloc)?;
-    Ok(calls(alloc, &new)?.is_some())
+/// Each call stops over stale bytes, and then over a disk whose sectors were filled.
+fn over_bytes(alloc: Global, over: &MemDisk, made: &mut MemDisk) -> Result<(), Fail> {
+    stands_each_stop(alloc, over)?;
+    number(made)?;
+    keeps_at_each(alloc, made)
 }
 
 #[test]
-fn each_call_stops_over_stale_bytes(rt: HostRuntime) -> Result<(), Fail> {
-    assert!(rt; stands_over_stale_bytes(rt.alloc())?);
-    Ok(())
+fn each_call_stops_over_bytes(rt: HostRuntime) -> Result<(), Fail> {
+    let over = make_device(rt.alloc(), Device::Over)?;
+    let mut made = make_device(rt.alloc(), Device::Made)?;
+    over_bytes(rt.alloc(), &over, &mut made)
 }
-
-const MAKE_FIRST: &[u8] = b"create 22222222-2222-4222-8222-222222222222 1 raw y\n";
 
 /// The first disk's one extent, in sectors of the device: behind the group's front and the sixteen extents of records.
 const FIRST_EXTENT: Range<u64> = 4608..4640;
@@ -125,75 +119,32 @@ fn number(disk: &mut MemDisk) -> Result<(), Fail> {
     Ok(())
 }
 
-/// A device with one raw disk, whose sectors were filled by hand.
-fn filled(alloc: Global) -> Result<MemDisk, Fail> {
-    let new = formatted(alloc, DEVICE_SECTORS)?;
-    let (_made, mut disk) = answers(alloc, new, MAKE_FIRST, b"ok 16384\n")?;
-    number(&mut disk)?;
-    Ok(disk)
-}
-
-/// Whether a sector has its number in each byte.
-fn has_number(disk: &mut MemDisk, at: u64) -> Result<bool, Fail> {
-    if at >= disk.sectors() {
-        return Ok(false);
-    }
-    Ok(read_sector(disk, at)? == [byte_of(at); 512])
-}
-
-/// Whether each of the filled sectors has.
-fn has_numbers(disk: &mut MemDisk) -> Result<bool, Fail> {
+/// The filled sectors have their numbers in each byte.
+fn has_numbers(disk: &mut MemDisk) -> Result<(), Fail> {
     for at in FIRST_EXTENT {
-        if !has_number(disk, at)? {
-            return Ok(false);
+        if at >= disk.sectors() {
+            return Err(Fail::from("a sector of the device"));
         }
+        let sector = read_sector(disk, at)?;
+        holds(sector == [byte_of(at); 512], "a sector of the first disk")?;
     }
-    Ok(true)
-}
-
-/// Whether the filled sectors have their bytes in what a stop leaves by these choices.
-fn keeps_bytes(alloc: Global, disk: &MemDisk, choice: &[u32]) -> Result<bool, Fail> {
-    let mut left = disk.left(alloc, choice)?;
-    has_numbers(&mut left)
-}
-
-/// Whether they have in each of five crash images.
-fn keeps_in_each(alloc: Global, disk: &MemDisk) -> Result<bool, Fail> {
-    Ok(
-        keeps_bytes(alloc, disk, &[])?
-            && keeps_bytes(alloc, disk, &[1])?
-            && keeps_bytes(alloc, disk, &[0, 1])?
-            && keeps_bytes(alloc, disk, &[1, 0])?
-            && keeps_bytes(alloc, disk, &[3])?,
-    )
-}
-
-/// Whether the filled sectors have their bytes in each of five crash images of a create that stops at a call.
-fn keeps_at(alloc: Global, filled: &MemDisk, call: u64) -> Result<bool, Fail> {
-    let mut disk = filled.left(alloc, &[])?;
-    disk.stop(call);
-    let (_status, disk) = ran(alloc, &["run"], disk, MAKE, None)?;
-    keeps_in_each(alloc, &disk)
-}
-
-/// Whether that holds of a create that stops at each of its first calls, and of the filled device itself.
-fn keeps_at_each(alloc: Global, filled: &MemDisk) -> Result<bool, Fail> {
-    for call in 0..20 {
-        if !keeps_at(alloc, filled, call)? {
-            return Ok(false);
-        }
-    }
-    keeps_bytes(alloc, filled, &[])
-}
-
-/// Whether a raw disk keeps its bytes.
-fn filled_keeps(alloc: Global) -> Result<bool, Fail> {
-    let disk = filled(alloc)?;
-    keeps_at_each(alloc, &disk)
-}
-
-#[test]
-fn a_filled_disk_keeps_its_bytes_at_each_stop(rt: HostRuntime) -> Result<(), Fail> {
-    assert!(rt; filled_keeps(rt.alloc())?);
     Ok(())
+}
+
+/// The filled sectors have their bytes in each of five crash images.
+fn keeps_in_each(alloc: Global, disk: &MemDisk) -> Result<(), Fail> {
+    for choice in CHOICES {
+        let mut left = disk.left(alloc, choice)?;
+        has_numbers(&mut left)?;
+    }
+    Ok(())
+}
+
+/// The same of a create that stops at each of its first calls, and of the filled device itself.
+fn keeps_at_each(alloc: Global, filled: &MemDisk) -> Result<(), Fail> {
+    for call in 0..20 {
+        let (_right, after) = ran(alloc, filled, &make(call))?;
+        keeps_in_each(alloc, &after)?;
+    }
+    keeps_in_each(alloc, filled)
 }

@@ -3,13 +3,13 @@ use Rattle.std.specs.Prelude.{◌≡◌, ◌≢◌, ℕ, List, sum, Option, Some
 use Rattle.sm_base.specs.declared.faults.OpenFault.{OpenFault}
 use Rattle.sm_base.specs.declared.faults.OpenFault.TheVariants.{Damaged}
 use Rattle.sm_base.specs.declared.faults.Place.TheVariants.{TableSum, Table}
-use Rattle.vg_layout.specs.Opening.{Standing, StandsOn, IsRefused}
+use Rattle.vg_layout.specs.Opening.{GroupFound, StandsOn, IsRefused}
 use Rattle.vg_meta.specs.Reading.{Spells, IsDamagedAt}
-use Rattle.vg_meta.specs.Tables.{Listing}
+use Rattle.vg_meta.specs.Tables.{VolumeTable}
 
 -- the bytes spell a table
 pub record IsText (count : ℕ) (bytes : List ℕ) : Type 0 where
-  pub table : Listing
+  pub table : VolumeTable
   pub spells : Spells count bytes table
 
 -- bytes are the text of a table, or damaged at a place first
@@ -29,7 +29,7 @@ IsTextFault count total bytes (Some fault) = IsTextRefused count total bytes fau
 
 -- a group stands on a device of so many sectors
 pub record HasGroup (sectors : ℕ) (image : ℕ → List ℕ) : Type 0 where
-  pub group : Standing
+  pub group : GroupFound
   pub stands : StandsOn sectors image group
 
 -- all five checks pass, or the first that fails gives the answer

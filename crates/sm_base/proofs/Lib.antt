@@ -1,4 +1,5 @@
 pub mod BaseLemmas
+pub mod KindLaws
 pub mod NameLemmas
 pub mod NumberLemmas
 pub mod OrderLemmas

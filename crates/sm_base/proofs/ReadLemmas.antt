@@ -2,11 +2,12 @@
 use Rattle.std.proofs.Common.{◌≡◌, ℕ, ◌+◌, ◌<◌, ◌^◌, List, ◌++◌, true, false, true≢false, IsTrue, ◌≢◌, length, length-append, append_assoc, take, drop, nat_eq, codes, decimal, arith, refl, sym, ap, ◌∙◌}
 use Rattle.std.proofs.lemmas.List.{take_at, drop_at, take_all}
 use Rattle.std.specs.List.{starts_with}
-use Rattle.std.proofs.Common.{ap₂, Option, Some, None, IfSome, IfNone}
+use Rattle.std.proofs.Common.{ap₂}
 use Rattle.std.proofs.lemmas.Fmt.{decimal_injective}
 use Rattle.sm_base.specs.declared.names.Name.{Name}
 use Rattle.sm_base.specs.declared.names.Name.TheVariants.{Mgt, Vhd, Raw, Old, Clone, Inflate, Coalesce, Relink, Leaf}
-use Rattle.sm_base.specs.Names.{IsUuid, uuid_text, spelling, IsName, is_entry}
+use Rattle.sm_base.specs.Kinds.{is_entry}
+use Rattle.sm_base.specs.Names.{IsUuid, uuid_text, spelling, IsName}
 use Rattle.sm_base.proofs.TextLemmas.{length-uuid_text, uuid_text-injective}
 
 -- a UUID behind a text
@@ -291,9 +292,3 @@ spelling-injective (Relink a b) m is_n is_m e =
 spelling-injective (Leaf a b) m is_n is_m e =
     let text = spelling (Leaf a b) in
     Two-same Leaf 5 42 text (Leaf a b) m (leaf_parts text refl (Leaf a b) is_n refl) (leaf_parts text refl m is_m (sym e))
-
--- what a read answers where a proper name is spelled
-pub read_gives : (bytes : List ℕ) (r : Option Name) (n : Name) → IsName n → spelling n ≡ bytes
-    → IfSome r (λ m. IsName m × (spelling m ≡ bytes)) → IfNone r ((m : Name) → IsName m → spelling m ≢ bytes) → r ≡ Some n
-read_gives bytes (Some m) n is e named none = ap Some (spelling-injective m n named.0 is (named.1 ∙ sym e))
-read_gives bytes None n is e named none = absurd (none n is e)

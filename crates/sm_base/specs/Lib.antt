@@ -1,3 +1,4 @@
+pub mod Kinds
 pub mod LabelBytes
 pub mod Labels
 pub mod Names

@@ -1,5 +1,5 @@
 -- How the name of a volume is spelled, and the order of names (this project's format).
-use Rattle.std.specs.Prelude.{◌≡◌, ℕ, ◌<◌, ◌^◌, List, [], ◌∷◌, ◌++◌, drop, take, length, codes, All, Bool, true, false}
+use Rattle.std.specs.Prelude.{◌≡◌, ℕ, ◌<◌, ◌^◌, List, [], ◌∷◌, ◌++◌, drop, take, length, codes, All, Bool}
 use Rattle.std.specs.Cmp.Lexicographic.{slice_cmp}
 use Rattle.std.specs.Ordering.{nat_cmp}
 use Rattle.std.specs.declared.cmp.Ordering.{Ordering}
@@ -31,18 +31,6 @@ spelling (Inflate image extents) = codes "inflate_" ++ (uuid_text image ++ (code
 spelling (Coalesce child parent) = codes "coalesce_" ++ (uuid_text child ++ (codes "_" ++ uuid_text parent))
 spelling (Relink child parent) = codes "relink_" ++ (uuid_text child ++ (codes "_" ++ uuid_text parent))
 spelling (Leaf leaf parent) = codes "leaf_" ++ (uuid_text leaf ++ (codes "_" ++ uuid_text parent))
-
--- whether a name is that of a journal entry
-abbrev pub is_entry : Name → Bool
-is_entry Mgt = false
-is_entry (Vhd u) = false
-is_entry (Raw u) = false
-is_entry (Old u) = false
-is_entry (Clone disk base twin) = true
-is_entry (Inflate image extents) = true
-is_entry (Coalesce child parent) = true
-is_entry (Relink child parent) = true
-is_entry (Leaf leaf parent) = true
 
 -- the UUIDs of a name are UUIDs, and an image is enlarged from 1 to 4,294,967,295 extents
 unfoldable pub IsName : Name → Type 0

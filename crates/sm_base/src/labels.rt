@@ -19,17 +19,17 @@ pub struct Label {
 
 impl Model for Label {
     ghost use Rattle.std.specs.Prelude.{ℕ, List, take, length, IsTrue, replicate, ◌-◌, ◌++◌};
-    ghost use Rattle.sm_base.specs.LabelBytes.{text_of, IsKept, kept, kept_text};
+    ghost use Rattle.sm_base.specs.LabelBytes.{text_of, IsPadded, padded, padded_text};
 
     ghost Value = { List ℕ };
 
     ghost view = { text_of };
 
-    ghost invariant = { IsKept };
+    ghost invariant = { IsPadded };
 
-    ghost inverse = { kept };
+    ghost inverse = { padded };
 
-    ghost inverse_ok = { kept_text };
+    ghost inverse_ok = { padded_text };
 }
 
 impl Label {

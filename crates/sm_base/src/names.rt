@@ -6,7 +6,8 @@
 //! read as a name rests on this comparison.
 
 ghost use Rattle.std.specs.Prelude.{◌≡◌, ◌≢◌, ℕ, ◌+◌, ◌<◌, ◌≤◌, ◌^◌, Some, ◌++◌, drop, length, IfSome, IfNone, IsTrue};
-ghost use Rattle.sm_base.specs.Names.{IsName, is_entry, spelling, name_cmp, base_uuid as base_uuid_of, is_base as is_base_of};
+ghost use Rattle.sm_base.specs.Kinds.{is_entry};
+ghost use Rattle.sm_base.specs.Names.{IsName, spelling, name_cmp, base_uuid as base_uuid_of, is_base as is_base_of};
 
 use crate::texts::{decimal_at, put, put_decimal, put_uuid, uuid_at};
 use std::cmp::Ordering;

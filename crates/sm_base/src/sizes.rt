@@ -3,8 +3,7 @@
 ghost use Rattle.std.specs.Prelude.{◌≡◌, ℕ, ◌*◌, ◌≤◌, IfSome, IfNone};
 ghost use Rattle.sm_base.specs.Numbers.{IsGeometry, first, thin, thick};
 
-/// The bytes of a sector.
-const SECTOR: u64 = 512;
+use crate::limits::SECTOR;
 
 /// The sizes that a repository is formatted with. Extent and block are in sectors, powers of two: an
 /// extent of 16 KiB to 4 MiB, a block of 4 KiB to 2 MiB and no larger than the extent. `entries` is T, the

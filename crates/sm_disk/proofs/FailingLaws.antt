@@ -101,10 +101,6 @@ passes o = record {
     by_lt k false None = refl
     by_lt k false (Some s) = grind (arith, nat_tests)
 
-pub fails_first : (o : Orders) (k : ℕ) → k ≡ 0 → fails o 0 ≡ (o.stopped || option_map_or (λ s. leb s 0) o.stop false || is_named o.named 0)
-unfolding fails
-fails_first o k h = refl
-
 pub late_first : (o : Orders) → comes_late o 0 ≡ o.stopped
 unfolding comes_late
 late_first o = by o.stopped o.stop

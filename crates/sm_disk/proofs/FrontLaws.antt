@@ -61,19 +61,6 @@ torn_from_front {at} {bytes} {n} {old} {mid} {new} within front same = record {
     by p (inr from) (inl below) = inr ((from, omega arith), same.pending p ∙ front.inside p from below)
     by p (inr from) (inr past) = inl (same.pending p ∙ front.above p past)
 
-pub wrote_from_front : {at : ℕ} {bytes : List ℕ} {n : ℕ} {old new : Held} → length bytes ≡ 512 * n
-    → WroteFront at bytes n old new → Wrote at bytes old new
-wrote_from_front {at} {bytes} {n} {old} {new} whole front = record {
-  floor = front.floor;
-  inside = λ p here. front.inside p here.0 (omega (arith, here.1));
-  outside = λ p not_here. by p not_here (cases_lt p at) (cases_lt p (at + n));
-}
-  where
-    by : (p : ℕ) → (IsIn at (length bytes) p → ⊥) → (p < at) ⊎ (at ≤ p) → (p < at + n) ⊎ (at + n ≤ p) → new.pending p ≡ old.pending p
-    by p not_here (inl before) _ = front.below p before
-    by p not_here (inr from) (inl below) = absurd (not_here (from, omega arith))
-    by p not_here (inr from) (inr past) = front.above p past
-
 -- the first n sectors were read
 abbrev pub GaveFront : ℕ → Held → List ℕ → ℕ → Type 0
 GaveFront at h bytes n = (j : ℕ) → j < n → sector bytes j ≡ reads h (at + j)

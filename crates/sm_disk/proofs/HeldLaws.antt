@@ -1,10 +1,10 @@
 -- Laws of what a device holds.
-use Rattle.std.proofs.Common.{◌≡◌, ℕ, ◌+◌, ◌-◌, ◌*◌, ◌%◌, ◌<◌, ◌≤◌, ◌⊎◌, inl, inr, List, [], ◌∷◌, ◌++◌, length, get_or, suc, Contains, All, sym, refl, ap, ◌∙◌, subst, add-one, arith}
+use Rattle.std.proofs.Common.{◌≡◌, ℕ, ◌+◌, ◌-◌, ◌*◌, ◌<◌, ◌≤◌, ◌⊎◌, inl, inr, List, [], ◌∷◌, ◌++◌, length, get_or, suc, Contains, sym, refl, ap, ◌∙◌, subst, add-one, arith}
 use Rattle.std.proofs.lemmas.Bool.{cases_lt}
-use Rattle.std.proofs.lemmas.List.Elements.{Contains-push_cases, Contains-append_left}
+use Rattle.std.proofs.lemmas.List.Elements.{Contains-push_cases}
 use Rattle.sm_disk.specs.Sectors.{IsSector, sector}
 use Rattle.sm_disk.specs.Held.{Held, newest, reads, May, Allows, IsIn, IsWhole, Torn, Wrote, Gave, SameHeld, Keeps, IsSettled, HasSectors, Puts}
-use Rattle.sm_disk.proofs.SectorLaws.{IsSector-sector, sector-one}
+use Rattle.sm_disk.proofs.SectorLaws.{sector-one}
 
 -- places
 
@@ -15,14 +15,6 @@ in_or_not at len p = in_by (cases_lt p at) (cases_lt (512 * p) (512 * at + len))
     in_by (inl before) _ = inr (λ h. omega (arith, h.0))
     in_by (inr from) (inl below) = inl (from, below)
     in_by (inr from) (inr past) = inr (λ h. omega (arith, h.1))
-
--- a place of whole sectors is a place of the device
-pub in_within : {at len size p : ℕ} → IsWhole at len size → IsIn at len p → p < size
-in_within {at} {len} {size} {p} w h = omega (arith, w.within, h.1)
-
--- and the sector there is whole
-pub in_long : (at len p : ℕ) → len % 512 ≡ 0 → IsIn at len p → 512 * (p - at) + 512 ≤ len
-in_long at len p whole h = omega (arith, h.0, h.1)
 
 -- the place of one sector
 pub in_one : (at len p : ℕ) → len ≡ 512 → IsIn at len p → p ≡ at
@@ -81,9 +73,6 @@ may-at old new p v floor pending m =
 pub SameHeld-none : (h : Held) → SameHeld h h
 SameHeld-none h = record { floor = λ p. refl; pending = λ p. refl }
 
-pub SameHeld-flip : {a b : Held} → SameHeld a b → SameHeld b a
-SameHeld-flip s = record { floor = λ p. sym (s.floor p); pending = λ p. sym (s.pending p) }
-
 pub SameHeld-then : {a b c : Held} → SameHeld a b → SameHeld b c → SameHeld a c
 SameHeld-then s t = record { floor = λ p. t.floor p ∙ s.floor p; pending = λ p. t.pending p ∙ s.pending p }
 
@@ -103,17 +92,6 @@ Keeps-none h = record { reads = λ p. refl; may = λ p v m. m }
 
 pub Keeps-then : {a b c : Held} → Keeps a b → Keeps b c → Keeps a c
 Keeps-then s t = record { reads = λ p. t.reads p ∙ s.reads p; may = λ p v m. s.may p v (t.may p v m) }
-
--- after a sync that succeeded the floor is what a read gave
-pub floor_settled : {old new : Held} → Keeps old new → IsSettled new → (p : ℕ) → new.floor p ≡ reads old p
-floor_settled {old} {new} k s p = sym (reads-settled new p (s p)) ∙ k.reads p
-
--- where nothing was pending, a sync changes nothing
-pub SameHeld-settled : {old new : Held} → IsSettled old → IsSettled new → Keeps old new → SameHeld old new
-SameHeld-settled {old} {new} before after k = record {
-  floor = λ p. floor_settled k after p ∙ reads-settled old p (before p);
-  pending = λ p. after p ∙ sym (before p);
-}
 
 -- writes
 
@@ -163,19 +141,6 @@ may-torn {at} {bytes} {old} {new} t p v m = by (t.pending p) m
         let P : List (List ℕ) → Type 0 = λ xs. Contains xs v in
         pushed here (Contains-push_cases (old.pending p) (sector bytes (p - at)) v (subst P more among))
 
--- what might be left before a write may still be
-pub may_still : {at : ℕ} {bytes : List ℕ} {old new : Held} → Torn at bytes old new
-    → (p : ℕ) (v : List ℕ) → May old p v → May new p v
-may_still {at} {bytes} {old} {new} t p v m = by (t.pending p) m
-  where
-    by : (new.pending p ≡ old.pending p) ⊎ (IsIn at (length bytes) p × (new.pending p ≡ old.pending p ++ sector bytes (p - at) ∷ [])) → May old p v → May new p v
-    by _ (inl is) = inl (is ∙ sym (t.floor p))
-    by (inl same) (inr among) =
-        let P : List (List ℕ) → Type 0 = λ xs. Contains xs v in inr (subst P (sym same) among)
-    by (inr (here, more)) (inr among) =
-        let P : List (List ℕ) → Type 0 = λ xs. Contains xs v in
-        inr (subst P (sym more) (Contains-append_left (old.pending p) (sector bytes (p - at) ∷ []) v among))
-
 -- sectors
 
 pub IsSector-may : {size : ℕ} {h : Held} → HasSectors size h → (p : ℕ) (v : List ℕ) → p < size → May h p v → IsSector v
@@ -185,30 +150,6 @@ IsSector-may {size} {h} s p v within (inr among) = s.pending p v within among
 
 pub IsSector-reads : {size : ℕ} {h : Held} → HasSectors size h → (p : ℕ) → p < size → IsSector (reads h p)
 IsSector-reads {size} {h} s p within = IsSector-may s p (reads h p) within (May-reads h p)
-
--- what holds sectors still does, where each value that may be left might have been left before
-HasSectors-from_may : {size : ℕ} {new : Held} → ((p : ℕ) (v : List ℕ) → p < size → May new p v → IsSector v) → HasSectors size new
-HasSectors-from_may {size} {new} each = record {
-  floor = λ p within. each p (new.floor p) within (inl refl);
-  pending = λ p v within among. each p v within (inr among);
-}
-
-pub HasSectors-keeps : {size : ℕ} {old new : Held} → Keeps old new → HasSectors size old → HasSectors size new
-HasSectors-keeps k s = HasSectors-from_may (λ p v within m. IsSector-may s p v within (k.may p v m))
-
-pub HasSectors-same : {size : ℕ} {old new : Held} → SameHeld old new → HasSectors size old → HasSectors size new
-HasSectors-same same s = HasSectors-keeps (Keeps-same same) s
-
-pub HasSectors-torn : {size at : ℕ} {bytes : List ℕ} {old new : Held} → Torn at bytes old new
-    → length bytes % 512 ≡ 0 → All (λ b. b < 256) bytes → HasSectors size old → HasSectors size new
-HasSectors-torn {size} {at} {bytes} {old} {new} t whole all s =
-    HasSectors-from_may (λ p v within m. by p v within (may-torn t p v m))
-  where
-    by : (p : ℕ) (v : List ℕ) → p < size → May old p v ⊎ Puts at bytes p v → IsSector v
-    by p v within (inl was) = IsSector-may s p v within was
-    by p v within (inr (here, is)) =
-        let P : List ℕ → Type 0 = λ x. IsSector x in
-        subst P (sym is) (IsSector-sector bytes (p - at) all (in_long at (length bytes) p whole here))
 
 -- crash images
 

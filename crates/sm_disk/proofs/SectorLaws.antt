@@ -1,21 +1,14 @@
 -- Laws of sectors in a run of bytes.
-use Rattle.std.proofs.Common.{◌≡◌, ℕ, ◌+◌, ◌-◌, ◌*◌, ◌/◌, ◌%◌, ◌<◌, ◌≤◌, List, ◌++◌, length, take, drop, get_or, All, sym, refl, ap, ◌∙◌, arith}
-use Rattle.std.proofs.lemmas.List.{length-take, length-drop, length-replicate, take_all, take-append-le, drop-append-le, drop-drop, drop-take, take-take, get_or-take, get_or-drop, ext_get_or}
+use Rattle.std.proofs.Common.{◌≡◌, ℕ, ◌+◌, ◌-◌, ◌*◌, ◌<◌, ◌≤◌, List, ◌++◌, length, take, drop, sym, refl, ap, ◌∙◌, arith}
+use Rattle.std.proofs.lemmas.List.{length-take, length-drop, length-replicate, take_all, take-append-le, drop-append-le, drop-drop, drop-take, take-take}
 use Rattle.std.proofs.lemmas.Slice.{take-put_mid_below, between-put_mid}
 use borrow.Rule.Slice.PartMut.{put_mid}
-use Rattle.std.proofs.lemmas.List.Elements.{All-take, All-drop, All-replicate}
+use Rattle.std.proofs.lemmas.List.Elements.{All-replicate}
 use Rattle.sm_disk.specs.Sectors.{IsSector, sector, zeros}
 
 pub length-sector : (bytes : List ℕ) (i : ℕ) → 512 * i + 512 ≤ length bytes → length (sector bytes i) ≡ 512
 unfolding sector
 length-sector bytes i h = omega (arith, length-take 512 (drop (512 * i) bytes), length-drop (512 * i) bytes)
-
-pub IsSector-sector : (bytes : List ℕ) (i : ℕ) → All (λ b. b < 256) bytes → 512 * i + 512 ≤ length bytes → IsSector (sector bytes i)
-unfolding sector
-IsSector-sector bytes i all h = record {
-  long = omega (arith, length-take 512 (drop (512 * i) bytes), length-drop (512 * i) bytes);
-  bytes = All-take (λ b. b < 256) 512 (drop (512 * i) bytes) (All-drop (λ b. b < 256) (512 * i) bytes all);
-}
 
 pub IsSector-zeros : IsSector zeros
 unfolding zeros
@@ -28,10 +21,6 @@ IsSector-zeros = record {
 pub sector-one : (bytes : List ℕ) → length bytes ≡ 512 → sector bytes 0 ≡ bytes
 unfolding sector
 sector-one bytes long = take_all 512 bytes (omega arith)
-
-pub get_or-sector : (bytes : List ℕ) (i k d : ℕ) → k < 512 → get_or (sector bytes i) k d ≡ get_or bytes (512 * i + k) d
-unfolding sector
-get_or-sector bytes i k d h = get_or-take 512 (drop (512 * i) bytes) k d h ∙ get_or-drop (512 * i) bytes k d
 
 pub sector-append_left : (xs ys : List ℕ) (i : ℕ) → 512 * i + 512 ≤ length xs → sector (xs ++ ys) i ≡ sector xs i
 unfolding sector
@@ -76,16 +65,3 @@ sector-put_mid_below xs ys a k i j from within below =
     sym (sector-take (put_mid a k xs ys) a j (omega arith))
     ∙ ap (λ l. sector l j) (take-put_mid_below a k xs ys a (omega arith) (omega arith))
     ∙ sector-take xs a j (omega arith)
-
--- whole sectors that are equal one by one are equal
-pub same_from_sectors : (xs ys : List ℕ) → length xs ≡ length ys → length xs % 512 ≡ 0
-    → ((i : ℕ) → 512 * i < length xs → sector xs i ≡ sector ys i) → xs ≡ ys
-same_from_sectors xs ys long whole same = ext_get_or 0 xs ys long (λ k h.
-    let place : k ≡ 512 * (k / 512) + k % 512 = omega arith in
-    let small : k % 512 < 512 = omega arith in
-    let front : 512 * (k / 512) < length xs = omega arith in
-    ap (λ n. get_or xs n 0) place
-    ∙ sym (get_or-sector xs (k / 512) (k % 512) 0 small)
-    ∙ ap (λ s. get_or s (k % 512) 0) (same (k / 512) front)
-    ∙ get_or-sector ys (k / 512) (k % 512) 0 small
-    ∙ ap (λ n. get_or ys n 0) (sym place))

@@ -33,9 +33,6 @@ Adds-more a b c bytes done n s t =
     let P : List ℕ → Type 0 = λ l. Adds a l c in
     subst P (sym (take-add done n bytes)) (Adds-then a b c (take done bytes) (take n (drop done bytes)) s t)
 
-pub Adds-kept : (a b c : Option (List ℕ)) (xs : List ℕ) → Adds a xs b → c ≡ b → Adds a xs c
-Adds-kept a b c xs s same = let P : Option (List ℕ) → Type 0 = λ o. Adds a xs o in subst P (sym same) s
-
 -- so many of the bytes were added, and the count of faults has not fallen
 pub record HasAdded (had has : Option (List ℕ)) (bytes : List ℕ) (done before now : ℕ) : Type 0 where
   pub within : done ≤ length bytes

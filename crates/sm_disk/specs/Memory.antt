@@ -8,51 +8,51 @@ use Rattle.sm_disk.specs.Held.{Held, newest, IsSettled}
 use Rattle.sm_disk.specs.Failing.{Orders, no_orders}
 
 -- one place that was written
-pub record Kept : Type 0 where
+pub record HeldPlace : Type 0 where
   pub floor : List ℕ
   pub pending : List (List ℕ)
 
 -- a place that was never written holds zeros
-abbrev pub blank : Kept
+abbrev pub blank : HeldPlace
 blank = record { floor = zeros; pending = [] }
 
 -- the place after a sync
-abbrev pub settled : Kept → Kept
+abbrev pub settled : HeldPlace → HeldPlace
 settled k = record { floor = newest k.floor k.pending; pending = [] }
 
 -- the value with this number: 0 is the floor, k the k-th pending one, and so round
-abbrev pub value_of : Kept → ℕ → List ℕ
+abbrev pub value_of : HeldPlace → ℕ → List ℕ
 value_of k number = slice_index_or (k.floor ∷ k.pending) (number % (length k.pending + 1)) k.floor
 
 -- the places that were written, in rising order
-abbrev pub Slots : Type 0
-Slots = List (ℕ × Kept)
+abbrev pub WrittenPlaces : Type 0
+WrittenPlaces = List (ℕ × HeldPlace)
 
-unfoldable pub slot_at : Slots → ℕ → Kept
+unfoldable pub slot_at : WrittenPlaces → ℕ → HeldPlace
 slot_at slots p = unwrap_or (lookup (is_at (nat_cmp p)) slots) blank
 
 -- what the places hold together
-abbrev pub held_by : Slots → Held
+abbrev pub held_by : WrittenPlaces → Held
 held_by slots = record { floor = λ p. (slot_at slots p).floor; pending = λ p. (slot_at slots p).pending }
 
 -- a sync settles each place
-abbrev pub all_settled : Slots → Slots
+abbrev pub all_settled : WrittenPlaces → WrittenPlaces
 all_settled slots = map (λ e. (e.0, settled e.1)) slots
 
 -- a place holds sectors
-pub record IsKept (k : Kept) : Type 0 where
+pub record HoldsSectors (k : HeldPlace) : Type 0 where
   pub floor : IsSector k.floor
   pub pending : All (λ v. IsSector v) k.pending
 
 -- all that the places hold is sectors
-abbrev pub AllSectors : Slots → Type 0
-AllSectors slots = All (λ k. IsKept k) (values_of slots)
+abbrev pub AllSectors : WrittenPlaces → Type 0
+AllSectors slots = All (λ k. HoldsSectors k) (values_of slots)
 
 -- a device in memory
 pub record Memory : Type 0 where
   -- its size, in sectors
   pub sectors : ℕ
-  pub slots : Slots
+  pub slots : WrittenPlaces
   -- which calls to come fail
   pub orders : Orders
   -- how many calls have failed

@@ -8,7 +8,7 @@ use sm_base::Failed;
 /// The answer of a call, which is counted where it fails.
 pub fn answer(faults: &mut u64, fails: bool) -> Result<(), Failed>
     ensures answer { is_err result ≡ fails }
-    ensures kept { OnOk result (faults.new ≡ faults.old) }
+    ensures unchanged { OnOk result (faults.new ≡ faults.old) }
     ensures counts { faults.old ≤ faults.new }
     ensures cause { OnErr result (Rose faults.old faults.new) }
 {

@@ -51,7 +51,7 @@ impl Failing {
     /// These calls fail too.
     pub fn name(&mut self, calls: &[u64]) -> Result<(), NoMemory>
         ensures named { OnOk result (Names calls.now self.old self.new) }
-        ensures kept { OnErr result (self.new ≡ self.old) }
+        ensures unchanged { OnErr result (self.new ≡ self.old) }
     {
         match self.named.extend_from_slice(calls) {
             Ok(()) => Ok(()),

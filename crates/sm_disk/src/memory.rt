@@ -63,7 +63,7 @@ impl MemDisk {
     pub fn fail(&mut self, _alloc: Global, calls: &[u64]) -> Result<(), NoMemory>
         ensures named { OnOk result (Names calls.now self.old.orders self.new.orders) }
         ensures rest { self.new ≡ record self.old { orders = self.new.orders } }
-        ensures kept { OnErr result (self.new ≡ self.old) }
+        ensures unchanged { OnErr result (self.new ≡ self.old) }
     {
         self.failing.name(calls)?;
         Ok(())
@@ -163,7 +163,7 @@ impl Disk for MemDisk {
         ensures cause { OnErr result (Rose self.old.faults self.new.faults) }
         ensures keeps { Keeps (held_by self.old.slots) (held_by self.new.slots) }
         ensures settled { OnOk result (IsSettled (held_by self.new.slots)) }
-        ensures kept { OnErr result (SameHeld (held_by self.old.slots) (held_by self.new.slots)) }
+        ensures unchanged { OnErr result (SameHeld (held_by self.old.slots) (held_by self.new.slots)) }
         ensures counted { OnOk result (self.new.faults ≡ self.old.faults) }
         ensures exact { is_err result ≡ fails self.old.orders 0 }
         ensures passed { HasPassed self.old.orders self.new.orders }

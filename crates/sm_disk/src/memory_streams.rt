@@ -136,7 +136,7 @@ impl Source for MemSource {
         ensures within { IfOk result (λ n. n ≤ length to.new) }
         ensures takes { IfOk result (λ n. Takes (Some self.old.left) (take n to.new) (Some self.new.left)) }
         ensures end { IfOk result (λ n. n ≡ 0 → 0 < length to.old → self.old.left ≡ []) }
-        ensures kept { OnErr result (Some self.new.left ≡ Some self.old.left) }
+        ensures unchanged { OnErr result (Some self.new.left ≡ Some self.old.left) }
         ensures counts { self.old.faults ≤ self.new.faults }
         ensures cause { OnErr result (Rose self.old.faults self.new.faults) }
         ensures exact { is_err result ≡ is_over self.old.until }
@@ -165,7 +165,7 @@ impl Sink for MemSink {
         ensures within { IfOk result (λ n. n ≤ length from.now) }
         ensures some { IfOk result (λ n. 0 < length from.now → 0 < n) }
         ensures adds { IfOk result (λ n. Adds (Some self.old.bytes) (take n from.now) (Some self.new.bytes)) }
-        ensures kept { OnErr result (Some self.new.bytes ≡ Some self.old.bytes) }
+        ensures unchanged { OnErr result (Some self.new.bytes ≡ Some self.old.bytes) }
         ensures counts { self.old.faults ≤ self.new.faults }
         ensures cause { OnErr result (Rose self.old.faults self.new.faults) }
         ensures exact { is_err result ≡ (is_over self.old.until || self.new.short) }

@@ -21,9 +21,9 @@ pub struct Places {
 }
 
 impl Model for Places {
-    ghost use Rattle.sm_disk.specs.Memory.{Slots, AllSectors};
+    ghost use Rattle.sm_disk.specs.Memory.{WrittenPlaces, AllSectors};
 
-    ghost Value = { Slots };
+    ghost Value = { WrittenPlaces };
 
     ghost view = { λ p. p.slots.entries };
 
@@ -53,7 +53,7 @@ impl Places {
     pub fn add(&mut self, place: u64, value: &[u8]) -> Result<(), NoMemory>
         requires { IsSector value.now }
         ensures added { OnOk result (Wrote place value.now (held_by self.old) (held_by self.new)) }
-        ensures kept { OnErr result (SameHeld (held_by self.old) (held_by self.new)) }
+        ensures unchanged { OnErr result (SameHeld (held_by self.old) (held_by self.new)) }
     {
         if let Some(slot) = self.slots.get_mut(&place) {
             return slot.add(value);
@@ -69,7 +69,7 @@ impl Places {
     pub fn sync(&mut self, fails: bool)
         ensures keeps { Keeps (held_by self.old) (held_by self.new) }
         ensures settled { fails ≡ false → IsSettled (held_by self.new) }
-        ensures kept { fails ≡ true → SameHeld (held_by self.old) (held_by self.new) }
+        ensures unchanged { fails ≡ true → SameHeld (held_by self.old) (held_by self.new) }
     {
         if !fails {
             self.settle();

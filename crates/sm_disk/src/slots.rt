@@ -17,9 +17,9 @@ pub struct Slot {
 }
 
 impl Model for Slot {
-    ghost use Rattle.sm_disk.specs.Memory.{Kept};
+    ghost use Rattle.sm_disk.specs.Memory.{HeldPlace};
 
-    ghost Value = { Kept };
+    ghost Value = { HeldPlace };
 
     ghost view = { λ s. record { floor = s.floor; pending = s.pending.items } };
 }
@@ -53,7 +53,7 @@ impl Slot {
         requires { length value.now ≡ 512 }
         ensures added { OnOk result (self.new
             ≡ record { floor = self.old.floor; pending = self.old.pending ++ value.now ∷ [] }) }
-        ensures kept { OnErr result (self.new ≡ self.old) }
+        ensures unchanged { OnErr result (self.new ≡ self.old) }
     {
         let mut sector = [0; 512];
         sector.copy_from_slice(value);

@@ -21,7 +21,7 @@ pub trait Source {
         ensures takes { IfOk result (λ n. Takes (content self.old) (take n to.new) (content self.new)) }
         ensures end { IfOk result (λ n. n ≡ 0 → 0 < length to.old
             → IfSome (content self.old) (λ left. left ≡ [])) }
-        ensures kept { OnErr result (content self.new ≡ content self.old) }
+        ensures unchanged { OnErr result (content self.new ≡ content self.old) }
         ensures counts { faults self.old ≤ faults self.new }
         ensures cause { OnErr result (Rose (faults self.old) (faults self.new)) };
 }
@@ -40,7 +40,7 @@ pub trait Sink {
         ensures within { IfOk result (λ n. n ≤ length from.now) }
         ensures some { IfOk result (λ n. 0 < length from.now → 0 < n) }
         ensures adds { IfOk result (λ n. Adds (content self.old) (take n from.now) (content self.new)) }
-        ensures kept { OnErr result (content self.new ≡ content self.old) }
+        ensures unchanged { OnErr result (content self.new ≡ content self.old) }
         ensures counts { faults self.old ≤ faults self.new }
         ensures cause { OnErr result (Rose (faults self.old) (faults self.new)) };
 }

@@ -3,7 +3,7 @@
 ghost use Rattle.std.specs.Prelude.{◌≡◌, find, count_by};
 ghost use Rattle.std.specs.Option.{option_copied, option_map};
 ghost use Rattle.vg_meta.specs.Tables.{names_of};
-ghost use Rattle.vg_meta.specs.Kept.{listing, rows_alone};
+ghost use Rattle.vg_meta.specs.Roomy.{table_alone, rows_alone};
 ghost use Rattle.sm_journal.specs.Entries.{is_operation, is_call, has_more};
 
 use sm_base::Name;
@@ -89,9 +89,9 @@ fn has_two(volumes: &[Volume]) -> bool
 
 /// The entries of a table.
 pub fn list(table: &Table) -> Entries
-    ensures first { result.first ≡ find is_operation (names_of (listing table.now).volumes) }
-    ensures second { result.second ≡ find is_call (names_of (listing table.now).volumes) }
-    ensures more { result.more ≡ has_more (names_of (listing table.now).volumes) }
+    ensures first { result.first ≡ find is_operation (names_of (table_alone table.now).volumes) }
+    ensures second { result.second ≡ find is_call (names_of (table_alone table.now).volumes) }
+    ensures more { result.more ≡ has_more (names_of (table_alone table.now).volumes) }
 {
     let volumes = table.volumes();
     Entries {

@@ -1,7 +1,7 @@
 //! The journal: entries that say, across a stop, what was under way.
 //!
 //! Kept here: nothing. An entry is a volume without extents that says all in its name, so it stands in the table of
-//! volumes. Making an entry, turning it into another and dropping it are one commit each: a stop leaves the table with
+//! volumes. Making an entry, replacing it by another and dropping it are one commit each: a stop leaves the table with
 //! the old entries or with the new ones. Two entries may stand beside one another, at most one of each class:
 //!
 //! - a collector's operation: `coalesce`, `relink` or `leaf`;
@@ -14,5 +14,5 @@
 mod changes;
 mod entries;
 
-pub use changes::{drop_entry, put, turn};
+pub use changes::{drop_entry, put, replace};
 pub use entries::{Entries, list};

@@ -3,24 +3,25 @@ use Rattle.std.proofs.Common.{◌≡◌, ℕ, ◌+◌, ◌-◌, ◌*◌, ◌<◌
 use Rattle.std.specs.Prelude.{is_none, nat_lt}
 use Rattle.std.specs.Str.{bytes_eq}
 use Rattle.std.proofs.lemmas.Bool.{ltb-false, and_from}
+use Rattle.common_laws.proofs.Bytes.{bytes_eq-same, bytes_eq-refl}
+use Rattle.common_laws.proofs.Options.{none_of_some}
 use Rattle.sm_base.specs.declared.names.Name.{Name}
 use Rattle.sm_base.specs.declared.operations.Mode.{Mode}
 use Rattle.sm_base.specs.declared.operations.Mode.TheVariants.{Ro, Rw}
 use Rattle.sm_base.specs.declared.operations.Op.{Op}
 use Rattle.sm_base.specs.declared.operations.Op.TheVariants as op
 use Rattle.sm_machine.specs.declared.commands.Command.TheVariants.{Attach}
-use Rattle.sm_machine.specs.Lists.{In, Distinct, when}
+use Rattle.common_laws.specs.Lists.{In, Distinct, when}
 use Rattle.sm_machine.specs.Shapes.{Shape, ImageRow, DiskRecord, Attachment, image_uuid, is_vhd, is_image_of, disk_record, attached_as, mode_in, image_extents, free, thick_in}
 use Rattle.sm_machine.specs.Refusals.{of_some, named, lacking, with_image_of, need, is_unknown, is_in_use, is_read_only, is_snapshot, lacks_space}
 use Rattle.sm_machine.specs.Commits.{folds}
 use Rattle.sm_machine.specs.Steps.{attach_shape}
-use Rattle.sm_machine.specs.WellFormed.{IsWellFormed, IsImage, HasImage, HasRecord, IsOperation}
-use Rattle.sm_machine.proofs.InLists.{In-map, In-map_at, In-append, Distinct-key, find-only, find-some}
+use Rattle.sm_machine.specs.WellFormed.{IsWellFormed, IsImageRow, HasImage, HasRecord, IsOperation}
+use Rattle.common_laws.proofs.Lists.{In-map, In-map_at, In-append, Distinct-key, find-only, find-some}
 use Rattle.sm_machine.proofs.Changes.{when-key}
-use Rattle.sm_machine.proofs.ImageNames.{same_bytes, bytes_same}
 use Rattle.sm_machine.proofs.Passed.{IsPassed}
 use Rattle.sm_machine.proofs.Mapped.{keeps_images, keeps_mapped, extents-change_one, only_mapped, link_mapped}
-use Rattle.sm_machine.proofs.Guests.{disks_own, disk_image_is, mode_none, none_mode, none_of_some, link_same, only_same}
+use Rattle.sm_machine.proofs.Guests.{disks_own, disk_image_is, mode_none, none_mode, link_same, only_same}
 
 -- one more element, which is new
 Distinct-push : {A B : Type 0} (k : A → B) (xs : List A) (x : A) → Distinct (map k xs) → ((y : A) → In y xs → k y ≡ k x → ⊥) → Distinct (map k (xs ++ x ∷ []))
@@ -36,7 +37,7 @@ Distinct-push {A} {B} k (y ∷ ys) x d h = (
 )
 
 pub is_its_image : (i : ImageRow) (u : List ℕ) → i.hidden ≡ false → image_uuid i.name ≡ u → is_image_of u i ≡ true
-is_its_image i u h e = and_from (not i.hidden) (bytes_eq (image_uuid i.name) u) (ap not h) (subst (λ (v : List ℕ). bytes_eq v u ≡ true) (sym e) (bytes_same u))
+is_its_image i u h e = and_from (not i.hidden) (bytes_eq (image_uuid i.name) u) (ap not h) (subst (λ (v : List ℕ). bytes_eq v u ≡ true) (sym e) (bytes_eq-refl u))
 
 module _ (s : Shape) (w : IsWellFormed s) (u : List ℕ) (mode : Mode) (p : IsPassed s (Attach u mode)) where
   abbrev added : Attachment
@@ -51,7 +52,7 @@ module _ (s : Shape) (w : IsWellFormed s) (u : List ℕ) (mode : Mode) (p : IsPa
 
   some_record : (o : Option DiskRecord) → disk_record u s ≡ o → is_none o ≡ false → HasRecord s u
   some_record None e h = cc
-  some_record (Some r) e h = let f : In r s.records × (bytes_eq r.uuid u ≡ true) = find-some (λ (q : DiskRecord). bytes_eq q.uuid u) s.records r e in (r, f.0, same_bytes r.uuid u f.1)
+  some_record (Some r) e h = let f : In r s.records × (bytes_eq r.uuid u ≡ true) = find-some (λ (q : DiskRecord). bytes_eq q.uuid u) s.records r e in (r, f.0, bytes_eq-same r.uuid u f.1)
 
   recorded : HasRecord s u
   unfolding is_unknown named
@@ -71,8 +72,8 @@ module _ (s : Shape) (w : IsWellFormed s) (u : List ℕ) (mode : Mode) (p : IsPa
 
   not_snapshot : (r : DiskRecord) → In r s.records → r.uuid ≡ u → is_snapshot u s ≡ false → r.read_only ≡ false
   not_snapshot r h e q =
-      let f : disk_record u s ≡ Some r = find-only (λ (x : DiskRecord). bytes_eq x.uuid u) s.records r h (subst (λ (v : List ℕ). bytes_eq v u ≡ true) (sym e) (bytes_same u))
-      (λ x k m. Distinct-key (λ (y : DiskRecord). y.uuid) s.records x r w.one_record k h (same_bytes x.uuid u m ∙ sym e)) in
+      let f : disk_record u s ≡ Some r = find-only (λ (x : DiskRecord). bytes_eq x.uuid u) s.records r h (subst (λ (v : List ℕ). bytes_eq v u ≡ true) (sym e) (bytes_eq-refl u))
+      (λ x k m. Distinct-key (λ (y : DiskRecord). y.uuid) s.records x r w.one_record k h (bytes_eq-same x.uuid u m ∙ sym e)) in
       subst (λ (o : Option DiskRecord). of_some (λ (x : DiskRecord). x.read_only) o ≡ false) f q
 
   by_mode : (m : Mode) → mode ≡ m → m ≡ Rw → is_snapshot u s ≡ false
@@ -90,7 +91,7 @@ module _ (s : Shape) (w : IsWellFormed s) (u : List ℕ) (mode : Mode) (p : IsPa
   other_leaf : (l : Name) → bytes_eq (image_uuid l) u ≡ false → mode_in (image_uuid l) s.attached ≡ None → mode_in (image_uuid l) attached' ≡ None
   other_leaf l e h = none_mode (image_uuid l) attached' (λ a k q. elim (in_attached a k) as (λ _. ⊥) [
     | inl g ↦ mode_none (image_uuid l) s.attached h a g q
-    | inr r ↦ (let t : bytes_eq (image_uuid l) u ≡ true = subst (λ (v : List ℕ). bytes_eq v u ≡ true) (sym (ap (λ (b : Attachment). b.disk) r) ∙ q) (bytes_same u) in cc)
+    | inr r ↦ (let t : bytes_eq (image_uuid l) u ≡ true = subst (λ (v : List ℕ). bytes_eq v u ≡ true) (sym (ap (λ (b : Attachment). b.disk) r) ∙ q) (bytes_eq-refl u) in cc)
   ])
 
   operation_ro : (o : Op) → folds o u ≡ false → IsOperation s o → IsOperation (record s { records = s.records; attached = attached'; op = o }) o
@@ -162,9 +163,9 @@ module _ (s : Shape) (w : IsWellFormed s) (u : List ℕ) (p : IsPassed s (Attach
   lacking_vhd : (y : ImageRow) → is_vhd y.name ≡ true → lacking s y ≡ thick_in s y.size - y.extents
   lacking_vhd y e = ap (λ (c : Bool). lack_by c (thick_in s y.size - y.extents)) e
 
-  good_by : (y : ImageRow) (c : Bool) → is_image_of u y ≡ c → In y s.images → IsImage s (when c to_thick y)
+  good_by : (y : ImageRow) (c : Bool) → is_image_of u y ≡ c → In y s.images → IsImageRow s (when c to_thick y)
   good_by y true e h =
-      let g : IsImage s y = w.images y h in
+      let g : IsImageRow s y = w.images y h in
       record {
         named = g.named;
         whole = g.whole;

@@ -3,18 +3,19 @@ use Rattle.std.proofs.Common.{◌≡◌, ℕ, suc, ◌+◌, ◌-◌, ◌*◌, �
 use Rattle.std.specs.Prelude.{◌==◌, is_some}
 use Rattle.std.specs.List.{filter_map, cons_option}
 use Rattle.std.proofs.lemmas.Bool.{and_parts, eqb-true, leb-true}
+use Rattle.common_laws.proofs.Options.{none_of_some}
+use Rattle.common_laws.proofs.Booleans.{not_true, or_cases}
 use Rattle.sm_base.specs.declared.names.Name.{Name}
 use Rattle.sm_base.specs.declared.operations.Op.{Op}
-use Rattle.sm_machine.specs.Lists.{◌>>=◌, In, when, given}
+use Rattle.common_laws.specs.Lists.{◌>>=◌, In, when, given}
 use Rattle.sm_machine.specs.Shapes.{Shape, ImageRow, same_image, is_image, find_image, image_uuid, is_vhd, on_image, is_parent, children, attached_as, top, image_extents, free, thin_in, thick_in}
 use Rattle.sm_machine.specs.Collector.{Pair, is_childless, has_one_child, with_parent, pair_of, leaf_of, pairs, leaves, target, fits, count_either, size_of}
-use Rattle.sm_machine.specs.WellFormed.{IsWellFormed, IsImage, IsSize, HasParent, IsOnlyChild, IsOperation}
+use Rattle.sm_machine.specs.WellFormed.{IsWellFormed, IsImageRow, IsSize, HasParent, IsOnlyChild, IsOperation}
 use Rattle.sm_machine.proofs.Faces.{AreSeen, seen_map}
-use Rattle.sm_machine.proofs.InLists.{In-map, In-map_at, In-filter_kept, Distinct-key, find-some}
+use Rattle.common_laws.proofs.Lists.{In-map, In-map_at, filter-In, Distinct-key, find-some}
 use Rattle.sm_machine.proofs.Changes.{when-key}
 use Rattle.sm_machine.proofs.ImageNames.{same_image-sound, same_image-refl, other_image}
 use Rattle.sm_machine.proofs.Mapped.{keeps_mapped, extents-change_one, attachments_mapped}
-use Rattle.sm_machine.proofs.Guests.{none_of_some}
 use Rattle.sm_machine.proofs.Debts.{parent_apart, found_row, is_itself}
 use Rattle.sm_machine.proofs.Collects.{same_row}
 
@@ -84,10 +85,6 @@ foldable_from s hidden v pair h hid vhd l kind =
       kind = kind;
     }
 
-or_kind : (a b : Bool) → a || b ≡ true → (a ≡ true) ⊎ (b ≡ true)
-or_kind true b e = inl refl
-or_kind false b e = inr e
-
 last_step : (s : Shape) (v : ImageRow) (pair : Pair) (t : Pair → Bool) → (with_parent s v >>= (λ p. given (t p) p)) ≡ Some pair → (with_parent s v ≡ Some pair) × (t pair ≡ true)
 last_step s v pair t e = by_pair (with_parent s v) e
   where
@@ -105,11 +102,7 @@ chosen_pair s pair h =
     let marks : (v.hidden ≡ true) × (is_vhd v.name ≡ true) = and_parts v.hidden (is_vhd v.name) a.0 in
     let c : (with_parent s v ≡ Some pair) × (is_vhd pair.parent.name || (pair.parent.size == pair.child.size) ≡ true) = last_step s v pair (λ (p : Pair). is_vhd p.parent.name || (p.parent.size == p.child.size)) b.1 in
     foldable_from s true v pair r.1 marks.0 marks.1 (linked_pair s v pair c.0)
-    (elim (or_kind (is_vhd pair.parent.name) (pair.parent.size == pair.child.size) c.1) [ inl e ↦ inl e | inr e ↦ inr (eqb-true pair.parent.size pair.child.size e) ])
-
-not_false : (b : Bool) → not b ≡ true → b ≡ false
-not_false true e = cc
-not_false false e = refl
+    (elim (or_cases (is_vhd pair.parent.name) (pair.parent.size == pair.child.size) c.1) [ inl e ↦ inl e | inr e ↦ inr (eqb-true pair.parent.size pair.child.size e) ])
 
 -- a leaf is not attached, and its parent is a VHD image
 pub record IsLeaf (s : Shape) (pair : Pair) : Type 0 where
@@ -128,8 +121,8 @@ chosen_leaf s pair h =
     let c : (with_parent s v ≡ Some pair) × (is_vhd pair.parent.name ≡ true) = last_step s v pair (λ (p : Pair). is_vhd p.parent.name) b.1 in
     let l : IsLinked s v pair = linked_pair s v pair c.0 in
     record {
-      foldable = foldable_from s false v pair r.1 (not_false v.hidden marks.0) marks.1 l (inl c.1);
-      free_leaf = subst (λ (x : ImageRow). attached_as (image_uuid x.name) s ≡ None) l.is_child (none_of_some (attached_as (image_uuid v.name) s) (not_false (is_some (attached_as (image_uuid v.name) s)) b.0));
+      foldable = foldable_from s false v pair r.1 (not_true v.hidden marks.0) marks.1 l (inl c.1);
+      free_leaf = subst (λ (x : ImageRow). attached_as (image_uuid x.name) s ≡ None) l.is_child (none_of_some (attached_as (image_uuid v.name) s) (not_true (is_some (attached_as (image_uuid v.name) s)) b.0));
       parent_vhd = c.1;
     }
 
@@ -185,8 +178,8 @@ module _ (s : Shape) (w : IsWellFormed s) (hidden : Bool) (pair : Pair) (f : IsF
       let one : length (children parent.name s.images) ≡ 1 = eqb-true _ _ f.one in
       let is : (j : ImageRow) → j.parent ≡ Some parent.name → is_parent parent.name j.parent ≡ true = λ (j : ImageRow) (q : j.parent ≡ Some parent.name). ap (is_parent parent.name) q ∙ same_image-refl parent.name (w.images parent f.parent_there).named in
       only_one (children parent.name s.images) i child one
-      (In-filter_kept (λ (x : ImageRow). is_parent parent.name x.parent) s.images i h (is i e))
-      (In-filter_kept (λ (x : ImageRow). is_parent parent.name x.parent) s.images child f.child_there (is child f.link))
+      (filter-In (λ (x : ImageRow). is_parent parent.name x.parent) s.images i h (is i e))
+      (filter-In (λ (x : ImageRow). is_parent parent.name x.parent) s.images child f.child_there (is child f.link))
 
   parent_row : HasParent s.images child parent.name
   parent_row = w.parents child parent.name f.child_there f.link
@@ -231,11 +224,11 @@ module _ (s : Shape) (w : IsWellFormed s) (hidden : Bool) (pair : Pair) (f : IsF
   raw_same : is_vhd parent.name ≡ false → (child.size ≡ parent.size) × (to ≡ parent.extents)
   raw_same v = (elim f.kind [ inl e ↦ (let r : true ≡ false = sym e ∙ v in cc) | inr e ↦ sym e ], (target_by (is_vhd parent.name) refl).1 v)
 
-  good_by : (y : ImageRow) (c : Bool) → is_image parent.name y ≡ c → In y s.images → IsImage s (when c grow y)
+  good_by : (y : ImageRow) (c : Bool) → is_image parent.name y ≡ c → In y s.images → IsImageRow s (when c grow y)
   good_by y true e h =
       let same : y ≡ parent = same_row s w parent y f.parent_there h e in
-      let g : IsImage s y = w.images y h in
-      let k : IsImage s parent = w.images parent f.parent_there in
+      let g : IsImageRow s y = w.images y h in
+      let k : IsImageRow s parent = w.images parent f.parent_there in
       let z : size_of child.name s ≡ child.size = child_size in
       let a : parent.extents ≤ to = at_least in
       let positive : 0 < parent.extents = k.volume in

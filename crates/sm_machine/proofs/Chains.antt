@@ -3,10 +3,10 @@ use Rattle.std.proofs.Common.{◌≡◌, ℕ, zero, suc, Bool, true, false, cond
 use Rattle.std.specs.List.{find}
 use Rattle.std.specs.Prelude.{IsTrue}
 use Rattle.sm_base.specs.declared.names.Name.{Name}
-use Rattle.sm_machine.specs.Lists.{◌>>=◌, In, Distinct, insert_by}
+use Rattle.common_laws.specs.Lists.{◌>>=◌, In, Distinct, insert_by}
 use Rattle.sm_machine.specs.Shapes.{ImageRow, is_image, find_image, image_uuid, parent_of}
 use Rattle.sm_machine.specs.WellFormed.{EndsWithin, HasParent, is_image_name}
-use Rattle.sm_machine.proofs.InLists.{Distinct-key, find-only, find-some}
+use Rattle.common_laws.proofs.Lists.{Distinct-key, find-only, find-some}
 use Rattle.sm_machine.proofs.ImageNames.{same_image-sound, same_image-refl}
 
 -- looking for what is not the new element

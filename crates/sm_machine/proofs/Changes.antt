@@ -2,7 +2,7 @@
 use Rattle.std.proofs.Common.{◌≡◌, ℕ, zero, suc, ◌+◌, ◌<◌, ◌≤◌, Bool, true, false, cond, ◌||◌, ◌⊎◌, List, [], ◌∷◌, map, length, Some, refl, sym, ap, ◌∙◌, inl, inr, arith}
 use Rattle.std.specs.List.{filter, find, list_any}
 use Rattle.std.specs.Option.{option_map}
-use Rattle.sm_machine.specs.Lists.{In, when, numbers}
+use Rattle.common_laws.specs.Lists.{In, when, numbers}
 
 -- a key that f keeps is kept
 pub when-key : {A B : Type 0} (k : A → B) (f : A → A) → ((y : A) → k (f y) ≡ k y) → (c : Bool) (y : A) → k (when c f y) ≡ k y

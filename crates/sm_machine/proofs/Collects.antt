@@ -3,17 +3,19 @@ use Rattle.std.proofs.Common.{◌≡◌, ℕ, ◌+◌, ◌<◌, ◌≤◌, Bool,
 use Rattle.std.specs.Prelude.{nat_lt}
 use Rattle.std.specs.Str.{bytes_eq}
 use Rattle.std.proofs.lemmas.Bool.{and_parts, ltb-true}
+use Rattle.common_laws.proofs.Bytes.{bytes_eq-same, bytes_eq-refl}
+use Rattle.common_laws.proofs.Booleans.{not_true}
 use Rattle.sm_base.specs.declared.names.Name.{Name}
 use Rattle.sm_base.specs.declared.operations.Mode.TheVariants.{Rw}
 use Rattle.sm_base.specs.declared.operations.Op.{Op}
 use Rattle.sm_base.specs.declared.operations.Op.TheVariants as op
-use Rattle.sm_machine.specs.Lists.{◌>>=◌, In, when}
+use Rattle.common_laws.specs.Lists.{◌>>=◌, In, when}
 use Rattle.sm_machine.specs.Shapes.{Shape, ImageRow, Attachment, is_image, image_uuid, is_vhd, on_image, attached_as, is_rw, top, image_extents, thin_in, thick_in}
 use Rattle.sm_machine.specs.Collector.{is_loose, is_written, given_block, with_block}
-use Rattle.sm_machine.specs.WellFormed.{IsWellFormed, IsImage, IsOnlyChild, IsOperation}
-use Rattle.sm_machine.proofs.InLists.{Distinct-key, find-only}
+use Rattle.sm_machine.specs.WellFormed.{IsWellFormed, IsImageRow, IsOnlyChild, IsOperation}
+use Rattle.common_laws.proofs.Lists.{Distinct-key, find-only}
 use Rattle.sm_machine.proofs.Changes.{when-key}
-use Rattle.sm_machine.proofs.ImageNames.{same_bytes, bytes_same, same_image-sound}
+use Rattle.sm_machine.proofs.ImageNames.{same_image-sound}
 use Rattle.sm_machine.proofs.Numbers.{thin-positive}
 use Rattle.sm_machine.proofs.Mapped.{keeps_images, keeps_mapped, image_like, extents-map_same, attachments_mapped, only_mapped}
 use Rattle.sm_machine.proofs.Guests.{length-block}
@@ -22,8 +24,8 @@ use Rattle.sm_machine.proofs.Debts.{extents_le}
 -- the mode of an attached disk
 pub attached_mode : (s : Shape) → IsWellFormed s → (a : Attachment) (u : List ℕ) → In a s.attached → a.disk ≡ u → attached_as u s ≡ Some a.mode
 attached_mode s w a u h e = ap (λ (o : Option Attachment). o >>= (λ b. Some b.mode))
-    (find-only (λ (b : Attachment). bytes_eq b.disk u) s.attached a h (subst (λ (v : List ℕ). bytes_eq v u ≡ true) (sym e) (bytes_same u))
-    (λ b k q. Distinct-key (λ (c : Attachment). c.disk) s.attached b a w.attachments.once k h (same_bytes b.disk u q ∙ sym e)))
+    (find-only (λ (b : Attachment). bytes_eq b.disk u) s.attached a h (subst (λ (v : List ℕ). bytes_eq v u ≡ true) (sym e) (bytes_eq-refl u))
+    (λ b k q. Distinct-key (λ (c : Attachment). c.disk) s.attached b a w.attachments.once k h (bytes_eq-same b.disk u q ∙ sym e)))
 
 -- ---- the operation alone changes
 
@@ -32,10 +34,6 @@ operation_changes s w o h = keeps_images s w s.records s.attached o w.records_in
     (record { once = w.attachments.once; disks = w.attachments.disks; writable = w.attachments.writable; thick = w.attachments.thick }) h
 
 -- ---- a volume is cut
-
-not_false : (b : Bool) → not b ≡ true → b ≡ false
-not_false true e = cc
-not_false false e = refl
 
 pub same_row : (s : Shape) → IsWellFormed s → (i y : ImageRow) → In i s.images → In y s.images → is_image i.name y ≡ true → y ≡ i
 same_row s w i y h k e = Distinct-key (λ (x : ImageRow). image_uuid x.name) s.images y i w.one_image k h (ap image_uuid (same_image-sound y.name i.name e))
@@ -60,11 +58,11 @@ module _ (s : Shape) (w : IsWellFormed s) (i : ImageRow) (there : In i s.images)
   is_vhd_image = (and_parts (is_vhd i.name) (not (is_written s i)) parts.0).0
 
   not_written : is_written s i ≡ false
-  not_written = not_false (is_written s i) (and_parts (is_vhd i.name) (not (is_written s i)) parts.0).1
+  not_written = not_true (is_written s i) (and_parts (is_vhd i.name) (not (is_written s i)) parts.0).1
 
-  good_by : (y : ImageRow) (c : Bool) → is_image i.name y ≡ c → In y s.images → IsImage s (when c to_least y)
+  good_by : (y : ImageRow) (c : Bool) → is_image i.name y ≡ c → In y s.images → IsImageRow s (when c to_least y)
   good_by y true e h =
-      let g : IsImage s y = w.images y h in
+      let g : IsImageRow s y = w.images y h in
       let v : is_vhd y.name ≡ true = ap is_vhd (same_image-sound y.name i.name e) ∙ is_vhd_image in
       let x : 32 ≤ s.extent = w.geometry.extent_least in
       record { named = g.named; whole = g.whole; volume = thin-positive s.extent s.block s.entries (top i.slots) (omega arith); table = g.table; raw = λ r. cc }

@@ -4,7 +4,7 @@ use Rattle.sm_base.specs.declared.names.Name.{Name}
 use Rattle.sm_base.specs.declared.operations.Op.{Op}
 use Rattle.sm_base.specs.declared.operations.Op.TheVariants as op
 use Rattle.sm_machine.specs.Shapes.{Shape, ImageRow, last_sequence}
-use Rattle.sm_machine.specs.WellFormed.{IsImage, IsChild, IsOnlyChild, IsOperation, IsWellFormed, table_length}
+use Rattle.sm_machine.specs.WellFormed.{IsImageRow, IsChild, IsOnlyChild, IsOperation, IsWellFormed, table_length}
 
 module _ (s : Shape) (n : ℕ) where
   abbrev counted : Shape
@@ -23,7 +23,7 @@ module _ (s : Shape) (n : ℕ) where
   operation_counted (op.Relink v p) h = link_counted true v p h
   operation_counted (op.Leaf l p cursor) h = (only_counted false l p h.0, h.1, h.2)
 
-  image_counted : (i : ImageRow) → IsImage s i → IsImage counted i
+  image_counted : (i : ImageRow) → IsImageRow s i → IsImageRow counted i
   unfolding table_length
   image_counted i g = record { named = g.named; whole = g.whole; volume = g.volume; table = g.table; raw = g.raw }
 

@@ -4,7 +4,7 @@ use Rattle.std.specs.Prelude.{is_some, ◌==◌, ◌⊎◌}
 use Rattle.std.specs.List.{list_any}
 use Rattle.std.specs.Str.{bytes_eq}
 use Rattle.std.proofs.Math.Nat.{zero-mul, mul_assoc, le_of_mul-le-mul_right, le-mul_of_pos_right}
-use Rattle.std.proofs.lemmas.Bool.{ltb-false}
+use Rattle.std.proofs.lemmas.Bool.{ltb-false, or_parts}
 use Rattle.std.proofs.lemmas.List.{length-replicate}
 use Rattle.sm_base.specs.Names.{is_base, base_uuid}
 use Rattle.sm_base.specs.Numbers.{div_up}
@@ -13,17 +13,17 @@ use Rattle.sm_base.specs.declared.operations.Mode.TheVariants.{Rw}
 use Rattle.sm_base.specs.declared.operations.Op.{Op}
 use Rattle.sm_base.specs.declared.operations.Op.TheVariants as op
 use Rattle.sm_machine.specs.declared.commands.Command.TheVariants.{Create}
-use Rattle.sm_machine.specs.Lists.{◌>>=◌, In, Distinct}
+use Rattle.common_laws.specs.Lists.{◌>>=◌, In, Distinct}
 use Rattle.sm_machine.specs.Disks.{sector_bytes}
 use Rattle.sm_machine.specs.Shapes.{Shape, ImageRow, DiskRecord, Attachment, is_image, image_uuid, is_vhd, parent_of, disk_record, with_image, image_extents, attached_as, free, risen, thick_in}
 use Rattle.sm_machine.specs.Refusals.{new_uuid, is_reserved, nil, is_taken, is_bad_size, is_bad, is_too_many, images_needed, lacks_space, need, new_extents, rounded}
 use Rattle.sm_machine.specs.Steps.{with_record, new_image, shape_after, shape_next}
 use Rattle.sm_machine.specs.Commits.{is_given_up, gives_up, commits, own_commits}
-use Rattle.sm_machine.specs.WellFormed.{IsImage, HasParent, HasImage, HasRecord, IsChild, IsOnlyChild, IsOperation, IsSize, IsWellFormed, EndsWithin, is_image_name, table_length}
-use Rattle.sm_machine.proofs.InLists.{In-map, In-insert, In-insert_new, In-insert_old, Distinct-insert, length-insert_by}
+use Rattle.sm_machine.specs.WellFormed.{IsImageRow, HasParent, HasImage, HasRecord, IsChild, IsOnlyChild, IsOperation, IsSize, IsWellFormed, EndsWithin, is_image_name, table_length}
+use Rattle.common_laws.proofs.Lists.{In-map, In-insert, In-insert_new, In-insert_old, Distinct-insert, length-insert_by}
 use Rattle.sm_machine.proofs.ImageNames.{images_sorted, records_sorted, other_image}
 use Rattle.sm_machine.proofs.Numbers.{extents-with_image, risen-up, risen-last, div_up-positive, thin-positive}
-use Rattle.sm_machine.proofs.Passed.{IsPassed, neither}
+use Rattle.sm_machine.proofs.Passed.{IsPassed}
 use Rattle.sm_machine.proofs.Fresh
 use Rattle.sm_machine.proofs.Chains.{find-insert_other, parent_of-in, ends_alike, parents_there, IsThere}
 
@@ -79,8 +79,8 @@ module _ (s : Shape) (w : IsWellFormed s) (bytes : ℕ) where
   pub new_size : (raw : Bool) → is_bad s raw bytes ≡ false → IsSize s (rounded s raw bytes)
   unfolding rounded
   new_size true e =
-      let t = neither _ _ e in
-      let z = neither (bytes == 0) _ t.0 in
+      let t = or_parts _ _ e in
+      let z = or_parts (bytes == 0) _ t.0 in
       let m : ℕ = w.blocks.0 in
       let q : s.extent ≡ m * s.block = w.blocks.1 in
       let d : ℕ = div_up bytes (sector_bytes * s.extent) in
@@ -90,20 +90,20 @@ module _ (s : Shape) (w : IsWellFormed s) (bytes : ℕ) where
       let r : IsSize s (d * (m * s.block)) = size_of_units s d m most' (units_positive some) (positive_factor s.extent m s.block q extent_positive) block_positive in
       subst (λ (x : ℕ). IsSize s (d * x)) (sym q) r
   new_size false e =
-      let t = neither _ _ e in
-      let z = neither (bytes == 0) _ t.0 in
+      let t = or_parts _ _ e in
+      let z = or_parts (bytes == 0) _ t.0 in
       let d : ℕ = div_up bytes (sector_bytes * s.block) in
       let some : 0 < bytes = positive_of bytes z.0 in
       let b : 0 < s.block = block_positive in
       let most : d * s.block ≤ s.entries * s.block = ltb-false _ _ z.1 in
       (d, refl, div_up-positive bytes (sector_bytes * s.block) some (omega arith), le_of_mul-le-mul_right most b)
 
-  new_is_image : (u : List ℕ) (raw : Bool) → is_bad s raw bytes ≡ false → IsImage s (new_image s u bytes raw)
+  new_is_image : (u : List ℕ) (raw : Bool) → is_bad s raw bytes ≡ false → IsImageRow s (new_image s u bytes raw)
   unfolding is_image_name table_length is_vhd rounded
   new_is_image u true e = record {
     named = refl;
     whole = new_size true e;
-    volume = units_positive (positive_of bytes ((neither (bytes == 0) _ ((neither _ _ e).0)).0));
+    volume = units_positive (positive_of bytes ((or_parts (bytes == 0) _ ((or_parts _ _ e).0)).0));
     table = refl;
     raw = λ h. (refl, refl);
   }
@@ -181,7 +181,7 @@ module _ (s : Shape) (w : IsWellFormed s) (u : List ℕ) (bytes : ℕ) (raw : Bo
 
   not_base : is_base u ≡ false
   unfolding is_reserved new_uuid
-  not_base = (neither (bytes_eq u nil) (is_base u) p.reserved).1
+  not_base = (or_parts (bytes_eq u nil) (is_base u) p.reserved).1
 
   all_distinct : Distinct (map (λ (i : ImageRow). image_uuid i.name) images')
   unfolding with_image
@@ -197,9 +197,9 @@ module _ (s : Shape) (w : IsWellFormed s) (u : List ℕ) (bytes : ℕ) (raw : Bo
   records_distinct = Distinct-insert (λ (r : DiskRecord). r.uuid) _ record' s.records w.one_record (λ h.
       let r : (x : DiskRecord) × In x s.records × (u ≡ x.uuid) = In-map (λ (q : DiskRecord). q.uuid) s.records u h in no_record r.0 r.1 (sym r.2))
 
-  images_good : (x : ImageRow) → In x images' → IsImage s x
+  images_good : (x : ImageRow) → In x images' → IsImageRow s x
   images_good x h = elim (in_images x h) [
-    | inl e ↦ subst (λ (y : ImageRow). IsImage s y) (sym e) (new_is_image s w bytes u raw not_bad)
+    | inl e ↦ subst (λ (y : ImageRow). IsImageRow s y) (sym e) (new_is_image s w bytes u raw not_bad)
     | inr g ↦ w.images x g
   ]
 
@@ -340,5 +340,5 @@ module _ (s : Shape) (w : IsWellFormed s) (u : List ℕ) (bytes : ℕ) (raw : Bo
     operation = operation_good s.op w.operation;
   }
     where
-      images_same : (x : ImageRow) → In x images' → IsImage s' x
-      images_same x h = let g : IsImage s x = images_good x h in record { named = g.named; whole = g.whole; volume = g.volume; table = g.table; raw = g.raw }
+      images_same : (x : ImageRow) → In x images' → IsImageRow s' x
+      images_same x h = let g : IsImageRow s x = images_good x h in record { named = g.named; whole = g.whole; volume = g.volume; table = g.table; raw = g.raw }

@@ -10,7 +10,7 @@ use Rattle.sm_base.specs.declared.operations.Op.{Op}
 use Rattle.sm_base.specs.declared.operations.Op.TheVariants as op
 use Rattle.sm_base.specs.declared.operations.Plan.{Plan}
 use Rattle.sm_base.specs.declared.operations.Plan.TheVariants as plan
-use Rattle.sm_machine.specs.Lists.{In, when, change}
+use Rattle.common_laws.specs.Lists.{In, when, change}
 use Rattle.sm_machine.specs.Shapes.{Shape, ImageRow, same_image, is_image, find_image, image_uuid, is_vhd, with_image, without_image, on_image, is_parent, children, parent_of, count_blocks, top, thin_in, image_extents}
 use Rattle.sm_machine.specs.Collector.{Pair, Debt, IsLess, debt, phase, items_left, next_step, plan_idle, plan_running, plan_copy, copy_or, relink_or, blocked, table_of, next_block, pairs, leaves, fits, target, is_garbage, is_loose, is_written, collected, copied, turned, linked, swapped, given_block, with_found, as_leaf, with_block}
 use Rattle.sm_machine.specs.WellFormed.{IsWellFormed, IsChild, HasParent, EndsWithin}
@@ -18,7 +18,7 @@ use Rattle.sm_machine.specs.declared.commands.Command.TheVariants.{Gc}
 use Rattle.sm_machine.specs.Commits.{is_given_up, gives_up}
 use Rattle.sm_machine.specs.Steps.{shape_after, shape_next}
 use Rattle.sm_machine.specs.Laws.{is_working}
-use Rattle.sm_machine.proofs.InLists.{find-some, In-filter, In-filter_kept, length-insert_by, Distinct-key, list_any-find}
+use Rattle.common_laws.proofs.Lists.{find-some, In-filter, filter-In, length-insert_by, Distinct-key, list_any-find}
 use Rattle.sm_machine.proofs.Changes.{when-key, find-map, filter-map_less, filter_less, list_any-some}
 use Rattle.sm_machine.proofs.Chains.{find_image-in, parent_of-in}
 use Rattle.sm_machine.proofs.ImageNames.{same_image-sound, same_image-refl, other_image}
@@ -82,15 +82,6 @@ extents_less t f (y ∷ ys) x (inr k) p l h =
 -- fewer images; as many, and a lower phase; the same phase, and less left
 fewer : (a b : Debt) → a.images < b.images → IsLess a b
 fewer a b h = inl h
-
-lower_phase : (a b : Debt) → a.images ≡ b.images → a.phase < b.phase → IsLess a b
-lower_phase a b e h = inr (e, inl h)
-
-less_left : (a b : Debt) → a.images ≡ b.images → a.phase ≡ b.phase → a.left < b.left → IsLess a b
-less_left a b e q h = inr (e, inr (q, inl h))
-
-less_used : (a b : Debt) → a.images ≡ b.images → a.phase ≡ b.phase → a.left ≡ b.left → a.used < b.used → IsLess a b
-less_used a b e q l h = inr (e, inr (q, inr (l, h)))
 
 -- ---- no operation runs
 
@@ -331,7 +322,7 @@ module _ (s : Shape) (l p : Name) (cursor : ℕ) (w : IsWellFormed (record s { o
       (ap not (subst (λ (n : Name). is_image n c ≡ true) leaf_link.is_named (is_itself folding w c leaf_link.there))) in
       let q : ImageRow = the_parent.parent in
       let apart : q.name ≡ l → ⊥ = λ (e : q.name ≡ l). parent_apart folding w c p leaf_link.there leaf_link.linked (leaf_link.is_named ∙ (sym e ∙ the_parent.is_named)) in
-      let stays : In q (without_image l s.images) = In-filter_kept (λ (j : ImageRow). not (is_image l j)) s.images q the_parent.there (ap not (other_image q.name l apart)) in
+      let stays : In q (without_image l s.images) = filter-In (λ (j : ImageRow). not (is_image l j)) s.images q the_parent.there (ap not (other_image q.name l apart)) in
       let b : length (without_image p (without_image l s.images)) < length (without_image l s.images) = filter_less (λ (j : ImageRow). not (is_image p j)) (without_image l s.images) q stays
       (ap not (subst (λ (n : Name). is_image n q ≡ true) the_parent.is_named (is_itself folding w q the_parent.there))) in
       omega arith

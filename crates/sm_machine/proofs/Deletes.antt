@@ -3,23 +3,25 @@ use Rattle.std.proofs.Common.{◌≡◌, ℕ, suc, ◌+◌, ◌≤◌, Bool, tru
 use Rattle.std.specs.List.{filter}
 use Rattle.std.specs.Str.{bytes_eq}
 use Rattle.std.proofs.lemmas.Bool.{and_parts, eqb-true}
+use Rattle.common_laws.proofs.Bytes.{bytes_eq-apart, bytes_eq-refl}
+use Rattle.common_laws.proofs.Options.{none_of_some}
 use Rattle.sm_base.specs.declared.names.Name.{Name}
 use Rattle.sm_base.specs.declared.operations.Op.{Op}
 use Rattle.sm_base.specs.declared.operations.Op.TheVariants as op
 use Rattle.sm_machine.specs.declared.commands.Command.TheVariants.{Delete}
-use Rattle.sm_machine.specs.Lists.{In, Distinct, Sorted}
+use Rattle.common_laws.specs.Lists.{In, Distinct, Sorted}
 use Rattle.sm_machine.specs.Shapes.{Shape, ImageRow, DiskRecord, Attachment, same_image, is_image, image_uuid, is_image_of, is_parent, children, parent_of, attached_as, image_extents, without_image}
 use Rattle.sm_machine.specs.Refusals.{is_in_use}
 use Rattle.sm_machine.specs.Collector.{is_garbage, is_childless}
 use Rattle.sm_machine.specs.Commits.{folds}
 use Rattle.sm_machine.specs.Steps.{is_record, delete_shape}
-use Rattle.sm_machine.specs.WellFormed.{IsWellFormed, IsImage, HasParent, HasImage, HasRecord, IsChild, IsOnlyChild, IsOperation, is_image_name, table_length, uuid_le}
-use Rattle.sm_machine.proofs.InLists.{In-filter, In-filter_kept, Distinct-key, Distinct-filter, Sorted-filter}
+use Rattle.sm_machine.specs.WellFormed.{IsWellFormed, IsImageRow, HasParent, HasImage, HasRecord, IsChild, IsOnlyChild, IsOperation, is_image_name, table_length, uuid_le}
+use Rattle.common_laws.proofs.Lists.{In-filter, filter-In, Distinct-key, Distinct-filter, Sorted-filter}
 use Rattle.sm_machine.proofs.Changes.{filter_le}
-use Rattle.sm_machine.proofs.ImageNames.{bytes_same, bytes_apart, same_image-sound, same_image-refl}
+use Rattle.sm_machine.proofs.ImageNames.{same_image-sound, same_image-refl}
 use Rattle.sm_machine.proofs.Chains.{parent_of-in, ends_alike, parents_there, IsThere}
 use Rattle.sm_machine.proofs.Passed.{IsPassed}
-use Rattle.sm_machine.proofs.Guests.{mode_none, none_of_some}
+use Rattle.sm_machine.proofs.Guests.{mode_none}
 use Rattle.sm_machine.proofs.Resizes.{not_its_leaf, hidden_is_no_disk}
 
 pub extents-filter : (t : ImageRow → Bool) (xs : List ImageRow) → image_extents (filter t xs) ≤ image_extents xs
@@ -46,7 +48,7 @@ module _ (s : Shape) (w : IsWellFormed s) (t : ImageRow → Bool) (parents_stay 
       let k : HasParent s.images i n = w.parents i n (was_there i h) e in
       record {
         parent = k.parent;
-        there = In-filter_kept t s.images k.parent k.there (parents_stay i k.parent (was_there i h) k.there k.is_hidden (e ∙ ap Some (sym k.is_named)));
+        there = filter-In t s.images k.parent k.there (parents_stay i k.parent (was_there i h) k.there k.is_hidden (e ∙ ap Some (sym k.is_named)));
         is_named = k.is_named;
         is_hidden = k.is_hidden;
         not_larger = k.not_larger;
@@ -63,7 +65,7 @@ module _ (s : Shape) (w : IsWellFormed s) (t : ImageRow → Bool) (parents_stay 
     abbrev pub less : Shape
     less = record s { records = records; images = images_left; op = o }
 
-    image_left : (i : ImageRow) → IsImage s i → IsImage less i
+    image_left : (i : ImageRow) → IsImageRow s i → IsImageRow less i
     unfolding table_length
     image_left i h = record { named = h.named; whole = h.whole; volume = h.volume; table = h.table; raw = h.raw }
 
@@ -97,7 +99,7 @@ module _ (s : Shape) (w : IsWellFormed s) (t : ImageRow → Bool) (parents_stay 
     }
 
     link_left : (hidden : Bool) (v p : Name) → (h : IsChild s hidden v p) → t h.child ≡ true → IsChild less hidden v p
-    link_left hidden v p h e = record { child = h.child; there = In-filter_kept t s.images h.child h.there e; is_named = h.is_named; is_shown = h.is_shown; vhd = h.vhd; linked = h.linked }
+    link_left hidden v p h e = record { child = h.child; there = filter-In t s.images h.child h.there e; is_named = h.is_named; is_shown = h.is_shown; vhd = h.vhd; linked = h.linked }
 
     only_left : (hidden : Bool) (v p : Name) → (h : IsOnlyChild s hidden v p) → t h.link.child ≡ true → IsOnlyChild less hidden v p
     unfolding link_left
@@ -106,7 +108,7 @@ module _ (s : Shape) (w : IsWellFormed s) (t : ImageRow → Bool) (parents_stay 
 -- ---- a deleted disk
 
 not_record : (r : DiskRecord) (u : List ℕ) → (r.uuid ≡ u → ⊥) → not (is_record u r) ≡ true
-not_record r u h = ap not (bytes_apart r.uuid u h)
+not_record r u h = ap not (bytes_eq-apart r.uuid u h)
 
 module _ (s : Shape) (w : IsWellFormed s) (u : List ℕ) (p : IsPassed s (Delete u)) where
   abbrev stays : ImageRow → Bool
@@ -123,7 +125,7 @@ module _ (s : Shape) (w : IsWellFormed s) (u : List ℕ) (p : IsPassed s (Delete
   not_in_use = none_of_some (attached_as u s) p.in_use
 
   other_stays : (i : ImageRow) → (image_uuid i.name ≡ u → ⊥) → stays i ≡ true
-  other_stays i h = ap not (apart (not i.hidden) (bytes_eq (image_uuid i.name) u) (bytes_apart (image_uuid i.name) u h))
+  other_stays i h = ap not (apart (not i.hidden) (bytes_eq (image_uuid i.name) u) (bytes_eq-apart (image_uuid i.name) u h))
     where
       apart : (a b : Bool) → b ≡ false → a && b ≡ false
       apart true b e = e
@@ -131,7 +133,7 @@ module _ (s : Shape) (w : IsWellFormed s) (u : List ℕ) (p : IsPassed s (Delete
 
   -- a visible image that stays is another disk's
   is_other : (i : ImageRow) → stays i ≡ true → i.hidden ≡ false → image_uuid i.name ≡ u → ⊥
-  is_other i e hid q = let t : is_image_of u i ≡ true = both (not i.hidden) (bytes_eq (image_uuid i.name) u) (ap not hid) (subst (λ (v : List ℕ). bytes_eq v u ≡ true) (sym q) (bytes_same u)) in
+  is_other i e hid q = let t : is_image_of u i ≡ true = both (not i.hidden) (bytes_eq (image_uuid i.name) u) (ap not hid) (subst (λ (v : List ℕ). bytes_eq v u ≡ true) (sym q) (bytes_eq-refl u)) in
       let f : not (is_image_of u i) ≡ false = ap not t in cc
     where
       both : (a b : Bool) → a ≡ true → b ≡ true → a && b ≡ true
@@ -139,13 +141,13 @@ module _ (s : Shape) (w : IsWellFormed s) (u : List ℕ) (p : IsPassed s (Delete
       both false b x y = cc
 
   record_is_other : (r : DiskRecord) → record_stays r ≡ true → r.uuid ≡ u → ⊥
-  record_is_other r e q = let t : is_record u r ≡ true = subst (λ (v : List ℕ). bytes_eq v u ≡ true) (sym q) (bytes_same u) in let f : not (is_record u r) ≡ false = ap not t in cc
+  record_is_other r e q = let t : is_record u r ≡ true = subst (λ (v : List ℕ). bytes_eq v u ≡ true) (sym q) (bytes_eq-refl u) in let f : not (is_record u r) ≡ false = ap not t in cc
 
   abbrev left_records : List DiskRecord
   left_records = filter record_stays s.records
 
   kept_record : (v : List ℕ) → (v ≡ u → ⊥) → HasRecord s v → (r : DiskRecord) × In r left_records × (r.uuid ≡ v)
-  kept_record v h r = (r.0, In-filter_kept record_stays s.records r.0 r.1 (not_record r.0 u (λ e. h (sym r.2 ∙ e))), r.2)
+  kept_record v h r = (r.0, filter-In record_stays s.records r.0 r.1 (not_record r.0 u (λ e. h (sym r.2 ∙ e))), r.2)
 
   abbrev pub deleted : Op → Shape
   deleted o = record s { records = left_records; images = filter stays s.images; op = o }
@@ -156,7 +158,7 @@ module _ (s : Shape) (w : IsWellFormed s) (u : List ℕ) (p : IsPassed s (Delete
       (Distinct-filter (λ (r : DiskRecord). r.uuid) record_stays s.records w.one_record)
       (λ r h. (let f : In r s.records × (record_stays r ≡ true) = In-filter record_stays s.records r h in
       let k : HasImage s r.uuid = w.disks r f.0 in
-      (k.0, In-filter_kept stays s.images k.0 k.1 (other_stays k.0 (λ e. record_is_other r f.1 (sym k.3 ∙ e))), k.2, k.3)))
+      (k.0, filter-In stays s.images k.0 k.1 (other_stays k.0 (λ e. record_is_other r f.1 (sym k.3 ∙ e))), k.2, k.3)))
       (λ i h hid. (let f : In i s.images × (stays i ≡ true) = In-filter stays s.images i h in kept_record (image_uuid i.name) (λ e. is_other i f.1 hid e) (w.visible i f.0 hid)))
       (λ a h. kept_record a.disk (λ e. mode_none u s.attached not_in_use a h e) (w.attachments.disks a h))
       (λ r h. (In-filter record_stays s.records r h).0)
@@ -196,7 +198,7 @@ module _ (s : Shape) (w : IsWellFormed s) (i : ImageRow) (there : In i s.images)
   unfolding children
   parents_remain j q h k hid e = remain q (λ n.
       let t : is_parent i.name j.parent ≡ true = ap (is_parent i.name) (e ∙ ap Some n) ∙ same_image-refl i.name (w.images i there).named in
-      empty_in j (children i.name s.images) (In-filter_kept (λ (x : ImageRow). is_parent i.name x.parent) s.images j h t) no_children)
+      empty_in j (children i.name s.images) (filter-In (λ (x : ImageRow). is_parent i.name x.parent) s.images j h t) no_children)
 
   shown_remains : (j : ImageRow) → In j s.images → j.hidden ≡ false → remains j ≡ true
   shown_remains j h hid = remain j (λ n.
@@ -205,7 +207,7 @@ module _ (s : Shape) (w : IsWellFormed s) (i : ImageRow) (there : In i s.images)
 
   pub remove_keeps : IsWellFormed (record s { images = without_image i.name s.images; op = op.Idle })
   remove_keeps = keeps_left s w remains parents_remain s.records op.Idle w.records_in_order w.one_record
-      (λ r h. (let k : HasImage s r.uuid = w.disks r h in (k.0, In-filter_kept remains s.images k.0 k.1 (shown_remains k.0 k.1 k.2), k.2, k.3)))
+      (λ r h. (let k : HasImage s r.uuid = w.disks r h in (k.0, filter-In remains s.images k.0 k.1 (shown_remains k.0 k.1 k.2), k.2, k.3)))
       (λ j h hid. w.visible j (In-filter remains s.images j h).0 hid)
       (λ a h. w.attachments.disks a h)
       (λ r h. h)

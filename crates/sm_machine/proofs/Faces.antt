@@ -1,9 +1,9 @@
 -- Images that users see, before and after a change.
 use Rattle.std.proofs.Common.{◌≡◌, Bool, false, List, map, refl, sym, ap, ◌∙◌}
 use Rattle.std.specs.List.{filter}
-use Rattle.sm_machine.specs.Lists.{In}
+use Rattle.common_laws.specs.Lists.{In}
 use Rattle.sm_machine.specs.Shapes.{ImageRow, image_uuid}
-use Rattle.sm_machine.proofs.InLists.{In-map, In-filter}
+use Rattle.common_laws.proofs.Lists.{In-map, In-filter}
 
 -- an image that users saw, with this UUID and size
 abbrev pub WasSeen : List ImageRow → ImageRow → Type 0

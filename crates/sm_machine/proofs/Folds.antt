@@ -3,10 +3,10 @@ use Rattle.std.proofs.Common.{◌≡◌, ℕ, zero, suc, ◌+◌, ◌≤◌, Boo
 use Rattle.std.proofs.lemmas.List.{length-map}
 use Rattle.sm_base.specs.declared.names.Name.{Name}
 use Rattle.sm_base.specs.declared.operations.Op.TheVariants as op
-use Rattle.sm_machine.specs.Lists.{In, Distinct, Sorted, when}
+use Rattle.common_laws.specs.Lists.{In, Distinct, Sorted, when}
 use Rattle.sm_machine.specs.Shapes.{Shape, ImageRow, same_image, is_image, image_uuid, is_vhd, parent_of, thick_in}
-use Rattle.sm_machine.specs.WellFormed.{IsWellFormed, IsImage, HasParent, HasImage, HasRecord, IsChild, EndsWithin, is_image_name, table_length, name_le}
-use Rattle.sm_machine.proofs.InLists.{In-map, In-map_at, Distinct-key}
+use Rattle.sm_machine.specs.WellFormed.{IsWellFormed, IsImageRow, HasParent, HasImage, HasRecord, IsChild, EndsWithin, is_image_name, table_length, name_le}
+use Rattle.common_laws.proofs.Lists.{In-map, In-map_at, Distinct-key}
 use Rattle.sm_machine.proofs.Changes.{when-key}
 use Rattle.sm_machine.proofs.Chains.{parent_of-in, parents_there, OfName, IsThere}
 use Rattle.sm_machine.proofs.ImageNames.{same_image-sound, same_image-refl, other_image}
@@ -129,13 +129,13 @@ module _ (s : Shape) (v p : Name) (w : IsWellFormed (record s { op = op.Relink v
       by_kind true e = e
       by_kind false e = let r : None ≡ Some v = sym ((w.images c there).raw e).0 ∙ linked_to in cc
 
-  image_linked : (y : ImageRow) (b : Bool) → is_image c.name y ≡ b → In y s.images → IsImage s (when b link_to y)
+  image_linked : (y : ImageRow) (b : Bool) → is_image c.name y ≡ b → In y s.images → IsImageRow s (when b link_to y)
   unfolding table_length
   image_linked y true e h =
-      let g : IsImage linking y = w.images y h in
+      let g : IsImageRow linking y = w.images y h in
       let same : y.name ≡ c.name = same_image-sound y.name c.name e in
       record { named = g.named; whole = g.whole; volume = g.volume; table = g.table; raw = λ r. (let q : is_vhd y.name ≡ true = ap is_vhd same ∙ vhd_child in cc) }
-  image_linked y false e h = let g : IsImage linking y = w.images y h in record { named = g.named; whole = g.whole; volume = g.volume; table = g.table; raw = g.raw }
+  image_linked y false e h = let g : IsImageRow linking y = w.images y h in record { named = g.named; whole = g.whole; volume = g.volume; table = g.table; raw = g.raw }
 
   -- a parent that was there is there
   lift_parent : (y : ImageRow) (n : Name) → HasParent s.images y n → HasParent linked_images (on_link y) n
@@ -174,8 +174,8 @@ module _ (s : Shape) (v p : Name) (w : IsWellFormed (record s { op = op.Relink v
     images_in_order = subst (Sorted name_le) (sym (map-key (λ i. i.name) on_link link_names s.images)) w.images_in_order;
     one_image = distinct_linked;
     images = λ x h. (let r : (y : ImageRow) × In y s.images × (x ≡ on_link y) = In-map on_link s.images x h in
-        let g : IsImage s (on_link r.0) = image_linked r.0 (is_image c.name r.0) refl r.1 in
-        let k : IsImage s x = subst (IsImage s) (sym r.2) g in
+        let g : IsImageRow s (on_link r.0) = image_linked r.0 (is_image c.name r.0) refl r.1 in
+        let k : IsImageRow s x = subst (IsImageRow s) (sym r.2) g in
         record { named = k.named; whole = k.whole; volume = k.volume; table = k.table; raw = k.raw });
     parents = λ x n h e. (let r : (y : ImageRow) × In y s.images × (x ≡ on_link y) = In-map on_link s.images x h in
         subst (λ (z : ImageRow). HasParent linked_images z n) (sym r.2) (lift_parent r.0 n (parents_linked r.0 n (is_image c.name r.0) refl r.1 (sym (ap (λ (z : ImageRow). z.parent) r.2) ∙ e))));

@@ -5,6 +5,7 @@ use Rattle.std.specs.List.{list_any}
 use Rattle.std.specs.Str.{bytes_eq}
 use Rattle.std.proofs.lemmas.Bool.{ltb-false, leb-false}
 use Rattle.std.proofs.lemmas.List.{length-replicate}
+use Rattle.common_laws.proofs.Bytes.{bytes_eq-same, bytes_eq-refl}
 use Rattle.sm_base.specs.Names.{is_base, base_uuid}
 use Rattle.sm_base.specs.Numbers.{thick}
 use Rattle.sm_base.specs.declared.names.Name.{Name}
@@ -12,18 +13,18 @@ use Rattle.sm_base.specs.declared.names.Name.TheVariants.{Vhd, Raw}
 use Rattle.sm_base.specs.declared.operations.Mode.TheVariants.{Rw}
 use Rattle.sm_base.specs.declared.operations.Op.{Op}
 use Rattle.sm_base.specs.declared.operations.Op.TheVariants as op
-use Rattle.sm_machine.specs.Lists.{In, Distinct, Sorted}
+use Rattle.common_laws.specs.Lists.{In, Distinct, Sorted}
 use Rattle.sm_machine.specs.Shapes.{Shape, ImageRow, DiskRecord, Attachment, last_sequence, same_image, is_image, image_uuid, is_vhd, renamed, disk_image, disk_record, parent_of, chain, with_image, without_image, attached_as, is_rw, image_extents, free, thick_in}
 use Rattle.sm_machine.specs.Refusals.{depth, with_image_of, fork_need, wanted}
 use Rattle.sm_machine.specs.Commits.{folds}
 use Rattle.sm_machine.specs.Steps.{with_record, child_image, fork_images, fork_records, fork_shape}
-use Rattle.sm_machine.specs.WellFormed.{IsWellFormed, IsImage, HasParent, HasImage, HasRecord, IsChild, IsOnlyChild, IsOperation, EndsWithin, is_image_name, table_length, name_le}
-use Rattle.sm_machine.proofs.InLists.{In-map, In-map_at, In-insert, In-insert_new, In-insert_old, Distinct-key, Distinct-filter, Distinct-insert, Sorted-filter, length-insert_by, find-some, find-only}
+use Rattle.sm_machine.specs.WellFormed.{IsWellFormed, IsImageRow, HasParent, HasImage, HasRecord, IsChild, IsOnlyChild, IsOperation, EndsWithin, is_image_name, table_length, name_le}
+use Rattle.common_laws.proofs.Lists.{In-map, In-map_at, In-insert, In-insert_new, In-insert_old, Distinct-key, Distinct-filter, Distinct-insert, Sorted-filter, length-insert_by, find-some, find-only}
 use Rattle.sm_machine.proofs.Changes.{filter_less}
 use Rattle.sm_machine.proofs.Chains.{parent_of-in, ends_alike, OfName, IsThere}
-use Rattle.sm_machine.proofs.ImageNames.{same_bytes, bytes_same, same_image-sound, images_sorted, records_sorted}
+use Rattle.sm_machine.proofs.ImageNames.{same_image-sound, images_sorted, records_sorted}
 use Rattle.sm_machine.proofs.Numbers.{extents-with_image, thin-positive}
-use Rattle.sm_machine.proofs.BaseForms.{base_number}
+use Rattle.sm_base.proofs.BaseLemmas.{base_uuid-injective}
 use Rattle.sm_machine.proofs.Create.{base_form}
 use Rattle.sm_machine.proofs.Fresh
 use Rattle.sm_machine.proofs.Guests.{disk_image_is}
@@ -95,7 +96,7 @@ module _ (s : Shape) (w : IsWellFormed s) (u twin : List ℕ) (f : IsForkable s 
     where
       some_record : (o : Option DiskRecord) → disk_record u s ≡ o → is_none o ≡ false → HasRecord s u
       some_record None e h = cc
-      some_record (Some r) e h = let k : In r s.records × (bytes_eq r.uuid u ≡ true) = find-some (λ (q : DiskRecord). bytes_eq q.uuid u) s.records r e in (r, k.0, same_bytes r.uuid u k.1)
+      some_record (Some r) e h = let k : In r s.records × (bytes_eq r.uuid u ≡ true) = find-some (λ (q : DiskRecord). bytes_eq q.uuid u) s.records r e in (r, k.0, bytes_eq-same r.uuid u k.1)
 
   abbrev its_record : DiskRecord
   its_record = recorded.0
@@ -119,10 +120,10 @@ module _ (s : Shape) (w : IsWellFormed s) (u twin : List ℕ) (f : IsForkable s 
   found_own = disk_image_is s w u own own_there (is_its_image own u own_shown own_uuid)
 
   found_record : disk_record u s ≡ Some its_record
-  found_record = find-only (λ (x : DiskRecord). bytes_eq x.uuid u) s.records its_record recorded.1 (subst (λ (v : List ℕ). bytes_eq v u ≡ true) (sym recorded.2) (bytes_same u))
-      (λ x k m. Distinct-key (λ (y : DiskRecord). y.uuid) s.records x its_record w.one_record k recorded.1 (same_bytes x.uuid u m ∙ sym recorded.2))
+  found_record = find-only (λ (x : DiskRecord). bytes_eq x.uuid u) s.records its_record recorded.1 (subst (λ (v : List ℕ). bytes_eq v u ≡ true) (sym recorded.2) (bytes_eq-refl u))
+      (λ x k m. Distinct-key (λ (y : DiskRecord). y.uuid) s.records x its_record w.one_record k recorded.1 (bytes_eq-same x.uuid u m ∙ sym recorded.2))
 
-  own_good : IsImage s own
+  own_good : IsImageRow s own
   own_good = w.images own own_there
 
   sequence_small : s.sequence < 2 ^ 48 - 16
@@ -258,7 +259,7 @@ module _ (s : Shape) (w : IsWellFormed s) (u twin : List ℕ) (f : IsForkable s 
 
   -- ---- each image is good
 
-  vhd_child : (v : List ℕ) (extents : ℕ) → 0 < extents → IsImage s (child_image s v base_name own.size extents)
+  vhd_child : (v : List ℕ) (extents : ℕ) → 0 < extents → IsImageRow s (child_image s v base_name own.size extents)
   unfolding is_image_name table_length is_vhd
   vhd_child v extents h = record { named = refl; whole = own_good.whole; volume = h; table = length-replicate s.entries None; raw = λ e. cc }
 
@@ -267,7 +268,7 @@ module _ (s : Shape) (w : IsWellFormed s) (u twin : List ℕ) (f : IsForkable s 
   wanted_positive true = let x : 32 ≤ s.extent = w.geometry.extent_least in thin-positive s.extent s.block s.entries _ (omega arith)
   wanted_positive false = let x : 32 ≤ s.extent = w.geometry.extent_least in thin-positive s.extent s.block s.entries 0 (omega arith)
 
-  base_good : IsImage s base
+  base_good : IsImageRow s base
   base_good = record {
     named = renamed_name own.name number ∙ own_good.named;
     whole = own_good.whole;
@@ -276,8 +277,8 @@ module _ (s : Shape) (w : IsWellFormed s) (u twin : List ℕ) (f : IsForkable s 
     raw = λ e. own_good.raw (sym (renamed_kind own.name number) ∙ e);
   }
 
-  images_good : (x : ImageRow) → In x forked → IsImage s x
-  images_good = by_rows (IsImage s) (vhd_child twin _ (wanted_positive false)) (vhd_child u _ (wanted_positive (is_rw (attached_as u s)))) base_good (λ x h. w.images x (was x h))
+  images_good : (x : ImageRow) → In x forked → IsImageRow s x
+  images_good = by_rows (IsImageRow s) (vhd_child twin _ (wanted_positive false)) (vhd_child u _ (wanted_positive (is_rw (attached_as u s)))) base_good (λ x h. w.images x (was x h))
 
   -- ---- parents and chains
 
@@ -383,7 +384,7 @@ module _ (s : Shape) (w : IsWellFormed s) (u twin : List ℕ) (f : IsForkable s 
   bases_good n above = by_rows (λ (x : ImageRow). (m : ℕ) → m < 2 ^ 48 → image_uuid x.name ≡ base_uuid m → m < n)
       (λ m h e. absurd (twin_no_base m (sym other_uuid ∙ e)))
       (λ m h e. (let a : m < s.sequence = w.bases own m own_there h (own_uuid ∙ (sym mine_uuid ∙ e)) in omega arith))
-      (λ m h e. (let small : s.sequence < 2 ^ 48 - 16 = sequence_small in let a : s.sequence ≡ m = base_number s.sequence m (omega arith) h (sym base_name_uuid ∙ e) in omega arith))
+      (λ m h e. (let small : s.sequence < 2 ^ 48 - 16 = sequence_small in let a : s.sequence ≡ m = base_uuid-injective s.sequence m (omega arith) h (sym base_name_uuid ∙ e) in omega arith))
       (λ x k m h e. (let a : m < s.sequence = w.bases x m (was x k) h e in omega arith))
 
   forked_in_order : Sorted name_le (map (λ (i : ImageRow). i.name) forked)
@@ -465,7 +466,7 @@ module _ (s : Shape) (w : IsWellFormed s) (u twin : List ℕ) (f : IsForkable s 
         few = few_good;
         images_in_order = forked_in_order;
         one_image = forked_distinct;
-        images = λ x h. (let g : IsImage s x = images_good x h in record { named = g.named; whole = g.whole; volume = g.volume; table = g.table; raw = g.raw });
+        images = λ x h. (let g : IsImageRow s x = images_good x h in record { named = g.named; whole = g.whole; volume = g.volume; table = g.table; raw = g.raw });
         parents = λ x m h e. parents_good x h m e;
         chains = chains_good;
         bases = λ x m h k e. bases_good n above x h m k e;
@@ -512,7 +513,7 @@ module _ (s : Shape) (w : IsWellFormed s) (u twin : List ℕ) (f : IsForkable s 
 
     leaf_other : (c : ImageRow) (l : Name) → c.name ≡ l → bytes_eq (image_uuid l) u ≡ false → c.name ≡ own.name → ⊥
     leaf_other c l n e q =
-        let t : bytes_eq (image_uuid l) u ≡ true = subst (λ (v : List ℕ). bytes_eq v u ≡ true) (sym (ap image_uuid (sym n ∙ q) ∙ own_uuid)) (bytes_same u) in cc
+        let t : bytes_eq (image_uuid l) u ≡ true = subst (λ (v : List ℕ). bytes_eq v u ≡ true) (sym (ap image_uuid (sym n ∙ q) ∙ own_uuid)) (bytes_eq-refl u) in cc
 
     module _ (n : ℕ) (above : s.sequence < n) (most : n ≤ last_sequence) where
       pub fork_operation : (o : Op) → folds o u ≡ false → IsOperation s o → IsOperation (fork n above most o) o

@@ -6,11 +6,11 @@ use Rattle.sm_base.specs.declared.operations.Op.{Op}
 use Rattle.sm_base.specs.declared.operations.Op.TheVariants as op
 use Rattle.sm_base.specs.declared.operations.Plan.{Plan}
 use Rattle.sm_base.specs.declared.operations.Plan.TheVariants as plan
-use Rattle.sm_machine.specs.Lists.{In}
+use Rattle.common_laws.specs.Lists.{In}
 use Rattle.sm_machine.specs.Shapes.{Shape, ImageRow, is_parent, children, top, thin_in}
 use Rattle.sm_machine.specs.Collector.{Pair, next_step, plan_idle, plan_running, plan_copy, copy_or, relink_or, blocked, table_of, next_block, pairs, leaves, fits, target, is_garbage, is_loose, collected, copied, turned, linked, swapped}
 use Rattle.sm_machine.specs.WellFormed.{IsWellFormed, IsChild}
-use Rattle.sm_machine.proofs.InLists.{find-some, In-filter}
+use Rattle.common_laws.proofs.Lists.{find-some, In-filter}
 use Rattle.sm_machine.proofs.ImageNames.{same_image-sound}
 use Rattle.sm_machine.proofs.Deletes.{remove_keeps}
 use Rattle.sm_machine.proofs.Collects.{operation_changes, cut_keeps, copy_keeps, copy_only}

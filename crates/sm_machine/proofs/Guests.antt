@@ -1,33 +1,29 @@
 -- Commands that change a disk or its attachment keep a shape well-formed.
 use Rattle.std.proofs.Common.{◌≡◌, ℕ, ◌+◌, ◌≤◌, Bool, true, false, cond, not, List, [], ◌∷◌, map, length, Option, Some, None, refl, sym, ap, ◌∙◌, subst, inl, inr}
-use Rattle.std.specs.Prelude.{is_some}
 use Rattle.std.specs.List.{find, filter, slice_set}
 use Rattle.std.specs.Str.{bytes_eq}
-use Rattle.std.proofs.lemmas.Bool.{and_parts}
+use Rattle.std.proofs.lemmas.Bool.{and_parts, false_from_ne_true}
 use Rattle.std.proofs.Math.ListN.{length-set}
+use Rattle.common_laws.proofs.Bytes.{bytes_eq-same, bytes_eq-refl}
+use Rattle.common_laws.proofs.Booleans.{not_true}
 use Rattle.sm_base.specs.declared.names.Name.{Name}
 use Rattle.sm_base.specs.declared.operations.Op.{Op}
 use Rattle.sm_base.specs.declared.operations.Op.TheVariants as op
-use Rattle.sm_machine.specs.Lists.{◌>>=◌, In, Distinct, Sorted, when, change}
+use Rattle.common_laws.specs.Lists.{◌>>=◌, In, Distinct, Sorted, when, change}
 use Rattle.sm_machine.specs.Shapes.{Shape, ImageRow, DiskRecord, Attachment, image_uuid, is_vhd, is_there, slot_at, is_image_of, disk_image, attached_as, mode_in, thick_in}
 use Rattle.sm_machine.specs.Collector.{with_block, least_free}
 use Rattle.sm_machine.specs.Steps.{with_blocks, written_image, blocks_touched, is_record, is_attached, write_shape, detach_shape, label_shape}
 use Rattle.sm_machine.specs.WellFormed.{IsWellFormed, HasImage, HasRecord, IsChild, IsOnlyChild, IsOperation, uuid_le}
-use Rattle.sm_machine.proofs.InLists.{In-map, In-map_at, In-filter, Distinct-key, Distinct-filter, find-only, find-none}
+use Rattle.common_laws.proofs.Lists.{In-map, In-map_at, In-filter, Distinct-key, Distinct-filter, find-only, find-none}
 use Rattle.sm_machine.proofs.Changes.{when-key}
-use Rattle.sm_machine.proofs.ImageNames.{same_bytes, bytes_same}
 use Rattle.sm_machine.proofs.Mapped.{keeps_images, keeps_mapped, image_like, extents-map_same, attachments_mapped, operation_mapped}
 
 -- ---- the image of a disk
 
-pub not_of : (b : Bool) → not b ≡ true → b ≡ false
-not_of true e = cc
-not_of false e = refl
-
 module _ (s : Shape) (w : IsWellFormed s) (u : List ℕ) where
   -- an image that is the disk's has its UUID and is not hidden
   pub disks_own : (y : ImageRow) → is_image_of u y ≡ true → (y.hidden ≡ false) × (image_uuid y.name ≡ u)
-  disks_own y e = let r = and_parts (not y.hidden) (bytes_eq (image_uuid y.name) u) e in (not_of y.hidden r.0, same_bytes (image_uuid y.name) u r.1)
+  disks_own y e = let r = and_parts (not y.hidden) (bytes_eq (image_uuid y.name) u) e in (not_true y.hidden r.0, bytes_eq-same (image_uuid y.name) u r.1)
 
   pub disk_image_is : (y : ImageRow) → In y s.images → is_image_of u y ≡ true → disk_image u s ≡ Some y
   disk_image_is y h e = find-only (is_image_of u) s.images y h e (λ z k q. Distinct-key (λ (i : ImageRow). image_uuid i.name) s.images z y w.one_image k h ((disks_own z q).1 ∙ sym (disks_own y e).1))
@@ -129,20 +125,12 @@ pub mode_none : (u : List ℕ) (attached : List Attachment) → mode_in u attach
 mode_none u attached e a h q =
     let f : find (λ (b : Attachment). bytes_eq b.disk u) attached ≡ None = find_of_mode (find (λ (b : Attachment). bytes_eq b.disk u) attached) e in
     let n : bytes_eq a.disk u ≡ false = find-none (λ (b : Attachment). bytes_eq b.disk u) attached a f h in
-    let t : bytes_eq a.disk u ≡ true = subst (λ (v : List ℕ). bytes_eq v u ≡ true) (sym q) (bytes_same u) in
+    let t : bytes_eq a.disk u ≡ true = subst (λ (v : List ℕ). bytes_eq v u ≡ true) (sym q) (bytes_eq-refl u) in
     cc
-
-apart_bytes : (b : Bool) → (b ≡ true → ⊥) → b ≡ false
-apart_bytes true h = absurd (h refl)
-apart_bytes false h = refl
 
 pub none_mode : (u : List ℕ) (attached : List Attachment) → ((a : Attachment) → In a attached → a.disk ≡ u → ⊥) → mode_in u attached ≡ None
 none_mode u attached h = ap (λ (o : Option Attachment). o >>= (λ a. Some a.mode))
-    (none-found (λ (b : Attachment). bytes_eq b.disk u) attached (λ a k. apart_bytes (bytes_eq a.disk u) (λ e. h a k (same_bytes a.disk u e))))
-
-pub none_of_some : {A : Type 0} (o : Option A) → is_some o ≡ false → o ≡ None
-none_of_some None e = refl
-none_of_some (Some x) e = cc
+    (none-found (λ (b : Attachment). bytes_eq b.disk u) attached (λ a k. false_from_ne_true (bytes_eq a.disk u) (λ e. h a k (bytes_eq-same a.disk u e))))
 
 module _ (s : Shape) (w : IsWellFormed s) (u : List ℕ) where
   -- ---- a label

@@ -8,7 +8,7 @@ use Rattle.sm_base.specs.declared.operations.Plan.TheVariants as plan
 use Rattle.sm_machine.specs.Shapes.{Shape, ImageRow, top, thin_in}
 use Rattle.sm_machine.specs.Collector.{Pair, next_step, plan_running, plan_idle, plan_copy, copy_or, relink_or, blocked, is_garbage, is_loose, pairs, leaves, fits, target}
 use Rattle.sm_machine.specs.Laws.{IsDone}
-use Rattle.sm_machine.proofs.InLists.{list_any-find}
+use Rattle.common_laws.proofs.Lists.{list_any-find}
 
 blocked_idle : (s : Shape) (ps : List Pair) → blocked s ps ≡ plan.Idle → ps ≡ []
 blocked_idle s [] e = refl

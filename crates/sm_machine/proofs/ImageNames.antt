@@ -1,51 +1,38 @@
 -- Names of images: when they are the same, and their order.
-use Rattle.std.proofs.Common.{◌≡◌, ℕ, Bool, true, false, not, List, map, refl, ap, ◌∙◌}
+use Rattle.std.proofs.Common.{◌≡◌, Bool, true, false, not, List, map, refl, ap, ◌∙◌}
 use Rattle.std.specs.Ordering.{is_lt, nat_cmp, ordering_reverse}
 use Rattle.std.specs.declared.cmp.Ordering.{Ordering}
 use Rattle.std.specs.declared.cmp.Ordering.TheVariants.{Less, Equal, Greater}
 use Rattle.std.specs.Cmp.{IsTotalOrder}
 use Rattle.std.specs.Cmp.Lexicographic.{slice_cmp}
-use Rattle.std.specs.Str.{bytes_eq}
 use Rattle.std.proofs.lemmas.Cmp.{nat_list_cmp_total}
-use Rattle.std.proofs.lemmas.Slice.Eq.{bytes_eq-Decides}
+use Rattle.std.proofs.lemmas.Bool.{false_from_ne_true}
+use Rattle.common_laws.proofs.Bytes.{bytes_eq-same, bytes_eq-refl}
 use Rattle.sm_base.specs.Names.{name_cmp, spelling}
 use Rattle.sm_base.specs.declared.names.Name.{Name}
 use Rattle.sm_base.specs.declared.names.Name.TheVariants.{Vhd, Raw}
-use Rattle.sm_machine.specs.Lists.{Sorted}
+use Rattle.common_laws.specs.Lists.{Sorted}
 use Rattle.sm_machine.specs.Disks.{uuid_before}
 use Rattle.sm_machine.specs.Shapes.{ImageRow, DiskRecord, same_image, with_image}
 use Rattle.sm_machine.specs.Steps.{with_record}
 use Rattle.sm_machine.specs.WellFormed.{is_image_name, name_le, uuid_le}
-use Rattle.sm_machine.proofs.InLists.{Sorted-insert}
-
-pub same_bytes : (u v : List ℕ) → bytes_eq u v ≡ true → u ≡ v
-same_bytes u v e = (bytes_eq-Decides u v).0 e
-
-pub bytes_same : (u : List ℕ) → bytes_eq u u ≡ true
-bytes_same u = (bytes_eq-Decides u u).1 refl
-
-false_of : (b : Bool) → (b ≡ true → ⊥) → b ≡ false
-false_of true h = absurd (h refl)
-false_of false h = refl
-
-pub bytes_apart : (u v : List ℕ) → (u ≡ v → ⊥) → bytes_eq u v ≡ false
-bytes_apart u v h = false_of (bytes_eq u v) (λ e. h (same_bytes u v e))
+use Rattle.common_laws.proofs.Lists.{Sorted-insert}
 
 -- two names of one image are equal
 pub same_image-sound : (a b : Name) → same_image a b ≡ true → a ≡ b
 unfolding same_image
-same_image-sound (Vhd u) (Vhd v) e = ap Vhd (same_bytes u v e)
-same_image-sound (Raw u) (Raw v) e = ap Raw (same_bytes u v e)
+same_image-sound (Vhd u) (Vhd v) e = ap Vhd (bytes_eq-same u v e)
+same_image-sound (Raw u) (Raw v) e = ap Raw (bytes_eq-same u v e)
 same_image-sound _ _ e = cc
 
 pub same_image-refl : (a : Name) → is_image_name a ≡ true → same_image a a ≡ true
 unfolding same_image is_image_name
-same_image-refl (Vhd u) e = bytes_same u
-same_image-refl (Raw u) e = bytes_same u
+same_image-refl (Vhd u) e = bytes_eq-refl u
+same_image-refl (Raw u) e = bytes_eq-refl u
 same_image-refl _ e = cc
 
 pub other_image : (a b : Name) → (a ≡ b → ⊥) → same_image a b ≡ false
-other_image a b h = false_of (same_image a b) (λ e. h (same_image-sound a b e))
+other_image a b h = false_from_ne_true (same_image a b) (λ e. h (same_image-sound a b e))
 
 -- ---- order
 
@@ -73,7 +60,7 @@ module _ {K : Type 0} (R : K → K → Ordering) (t : IsTotalOrder R) where
   not_true false e = refl
 
   pub le_chain : (v w x : K) → not (is_lt (R w v)) ≡ true → not (is_lt (R x w)) ≡ true → not (is_lt (R x v)) ≡ true
-  le_chain v w x a b = ap not (false_of (is_lt (R x v)) (λ h. middle v w x (R w x) refl (less_of (R x v) h) (not_true _ a) (not_true _ b)))
+  le_chain v w x a b = ap not (false_from_ne_true (is_lt (R x v)) (λ h. middle v w x (R w x) refl (less_of (R x v) h) (not_true _ a) (not_true _ b)))
 
 pub names_total : IsTotalOrder name_cmp
 unfolding name_cmp

@@ -1,5 +1,4 @@
 pub mod Attaches
-pub mod BaseForms
 pub mod Begins
 pub mod Chains
 pub mod Changes
@@ -16,7 +15,6 @@ pub mod GcSteps
 pub mod Guests
 pub mod Idle
 pub mod ImageNames
-pub mod InLists
 pub mod Listed
 pub mod Mapped
 pub mod New

@@ -2,7 +2,7 @@
 use Rattle.std.proofs.Common.{◌≡◌, Bool, true, false, cond, List, [], ◌∷◌, map, Some, refl, ap}
 use Rattle.std.specs.List.{filter, find}
 use Rattle.std.specs.Option.{option_map}
-use Rattle.sm_machine.specs.Lists.{insert_by, change, when}
+use Rattle.common_laws.specs.Lists.{insert_by, change, when}
 
 -- a map over an insertion, where the order is by what the map keeps
 insert_case : {A B : Type 0} (k : A → B) (b : A → A → Bool) (b' : B → B → Bool) (x y : A) (ys : List A) (c d : Bool) → c ≡ d → map k (insert_by b x ys) ≡ insert_by b' (k x) (map k ys)

@@ -6,10 +6,10 @@ use Rattle.sm_base.specs.declared.names.Name.{Name}
 use Rattle.sm_base.specs.declared.operations.Op.{Op}
 use Rattle.sm_base.specs.declared.operations.Op.TheVariants as op
 use Rattle.sm_base.specs.declared.operations.Mode.TheVariants.{Rw}
-use Rattle.sm_machine.specs.Lists.{◌>>=◌, In, Distinct, Sorted, when, change}
+use Rattle.common_laws.specs.Lists.{◌>>=◌, In, Distinct, Sorted, when, change}
 use Rattle.sm_machine.specs.Shapes.{Shape, ImageRow, DiskRecord, Attachment, same_image, is_image, find_image, image_uuid, is_vhd, parent_of, mode_in, image_extents, thick_in}
-use Rattle.sm_machine.specs.WellFormed.{IsWellFormed, IsImage, IsSize, HasParent, HasImage, HasRecord, AreAttachments, IsChild, IsOnlyChild, IsOperation, EndsWithin, is_image_name, table_length, name_le, uuid_le}
-use Rattle.sm_machine.proofs.InLists.{In-map, In-map_at}
+use Rattle.sm_machine.specs.WellFormed.{IsWellFormed, IsImageRow, IsSize, HasParent, HasImage, HasRecord, AreAttachments, IsChild, IsOnlyChild, IsOperation, EndsWithin, is_image_name, table_length, name_le, uuid_le}
+use Rattle.common_laws.proofs.Lists.{In-map, In-map_at}
 use Rattle.sm_machine.proofs.Changes.{find-map}
 use Rattle.sm_machine.proofs.Chains.{ends_alike}
 
@@ -19,7 +19,7 @@ module _ (s : Shape) (w : IsWellFormed s) (records : List DiskRecord) (attached 
   abbrev pub recorded : Shape
   recorded = record s { records = records; attached = attached; op = o }
 
-  image_same : (i : ImageRow) → IsImage s i → IsImage recorded i
+  image_same : (i : ImageRow) → IsImageRow s i → IsImageRow recorded i
   unfolding table_length
   image_same i g = record { named = g.named; whole = g.whole; volume = g.volume; table = g.table; raw = g.raw }
 
@@ -80,12 +80,12 @@ module _ (s : Shape) (w : IsWellFormed s) (g : ImageRow → ImageRow)
     abbrev pub after : Shape
     after = record s { images = images_after; attached = attached; op = o }
 
-    image_after : (y : ImageRow) → IsImage s (g y) → IsImage after (g y)
+    image_after : (y : ImageRow) → IsImageRow s (g y) → IsImageRow after (g y)
     unfolding table_length
     image_after y h = record { named = h.named; whole = h.whole; volume = h.volume; table = h.table; raw = h.raw }
 
     pub keeps_mapped : s.others + image_extents images_after ≤ s.extents
-        → ((y : ImageRow) → In y s.images → IsImage s (g y))
+        → ((y : ImageRow) → In y s.images → IsImageRow s (g y))
         → ((y q : ImageRow) → In y s.images → In q s.images → q.hidden ≡ true → y.parent ≡ Some q.name → q.size ≤ y.size → (g q).size ≤ (g y).size)
         → AreAttachments after → IsOperation after o → IsWellFormed after
     keeps_mapped room goods sizes attachments operation = record {
@@ -97,7 +97,7 @@ module _ (s : Shape) (w : IsWellFormed s) (g : ImageRow → ImageRow)
       images_in_order = subst (Sorted name_le) (sym (map-key (λ i. i.name) g name_kept s.images)) w.images_in_order;
       one_image = subst Distinct (sym (map-key (λ i. image_uuid i.name) g (λ y. ap image_uuid (name_kept y)) s.images)) w.one_image;
       images = λ x h. (let r : (y : ImageRow) × In y s.images × (x ≡ g y) = In-map g s.images x h in
-          subst (λ (z : ImageRow). IsImage after z) (sym r.2) (image_after r.0 (goods r.0 r.1)));
+          subst (λ (z : ImageRow). IsImageRow after z) (sym r.2) (image_after r.0 (goods r.0 r.1)));
       parents = λ x p h e. (let r : (y : ImageRow) × In y s.images × (x ≡ g y) = In-map g s.images x h in
           let q : r.0.parent ≡ Some p = sym (ap (λ (z : ImageRow). z.parent) r.2 ∙ parent_kept r.0) ∙ e in
           let k : HasParent s.images r.0 p = w.parents r.0 p r.1 q in
@@ -170,7 +170,7 @@ module _ (s : Shape) (w : IsWellFormed s) (g : ImageRow → ImageRow)
         by_operation (op.Leaf l p cursor) e same h = (only_mapped false l p h.0 (same h.0.link.child h.0.link.there) (λ q k m. same q k), h.1, subst (λ (xs : List Attachment). mode_in (image_uuid l) xs ≡ None) (sym e) h.2)
 
 -- an image with the same name, size, extents and parent, and a table as long
-pub image_like : (s : Shape) (x y : ImageRow) → y.name ≡ x.name → y.size ≡ x.size → y.extents ≡ x.extents → y.parent ≡ x.parent → length y.slots ≡ length x.slots → IsImage s x → IsImage s y
+pub image_like : (s : Shape) (x y : ImageRow) → y.name ≡ x.name → y.size ≡ x.size → y.extents ≡ x.extents → y.parent ≡ x.parent → length y.slots ≡ length x.slots → IsImageRow s x → IsImageRow s y
 image_like s x y n z e p t h = record {
   named = ap is_image_name n ∙ h.named;
   whole = subst (IsSize s) (sym z) h.whole;

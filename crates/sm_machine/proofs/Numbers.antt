@@ -5,7 +5,7 @@ use Rattle.std.specs.Prelude.{◌||◌}
 use Rattle.std.proofs.Common.{inl, inr}
 use Rattle.std.proofs.lemmas.Nat.{le-div}
 use Rattle.sm_base.specs.Numbers.{div_up, first, thin}
-use Rattle.sm_machine.specs.Lists.{In, insert_by}
+use Rattle.common_laws.specs.Lists.{In, insert_by}
 use Rattle.sm_machine.specs.Shapes.{ImageRow, image_extents, with_image, risen, last_sequence}
 
 extents_case : (before : ImageRow → ImageRow → Bool) (y z : ImageRow) (zs : List ImageRow) (b : Bool) → image_extents (insert_by before y zs) ≡ y.extents + image_extents zs → image_extents (cond b (y ∷ z ∷ zs) (z ∷ insert_by before y zs)) ≡ y.extents + (z.extents + image_extents zs)

@@ -1,7 +1,7 @@
 -- What is known of a command that is not refused.
-use Rattle.std.proofs.Common.{◌≡◌, Bool, true, false, ◌||◌, List, ◌∷◌, Option, None, refl}
+use Rattle.std.proofs.Common.{◌≡◌, Bool, true, false, List, ◌∷◌, Option, None, refl}
 use Rattle.sm_machine.specs.declared.commands.Command.{Command}
-use Rattle.sm_machine.specs.Lists.{first_some, given}
+use Rattle.common_laws.specs.Lists.{first_some, given}
 use Rattle.sm_machine.specs.Shapes.{Shape}
 use Rattle.sm_machine.specs.Refusals.{refusal, is_reserved, is_unknown, is_taken, is_in_use, is_not_attached, is_read_only, is_raw_disk, is_out_of_range, is_bad_size, is_shrink, is_deep, is_too_many, is_spent, lacks_space}
 
@@ -44,8 +44,3 @@ passed s c e0 =
     let h13 = first_none (is_spent s c) _ _ h12.1 in
     let h14 = first_none (lacks_space s c) _ _ h13.1 in
     record { reserved = h1.0; unknown = h2.0; taken = h3.0; in_use = h4.0; not_attached = h5.0; read_only = h6.0; raw_disk = h7.0; out_of_range = h8.0; bad_size = h9.0; shrink = h10.0; deep = h11.0; too_many = h12.0; spent = h13.0; space = h14.0 }
-
--- both tests of an `or` fail
-pub neither : (a b : Bool) → a || b ≡ false → (a ≡ false) × (b ≡ false)
-neither true b e = cc
-neither false b e = (refl, e)

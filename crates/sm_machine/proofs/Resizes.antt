@@ -3,22 +3,23 @@ use Rattle.std.proofs.Common.{◌≡◌, ℕ, ◌+◌, ◌≤◌, Bool, true, fa
 use Rattle.std.specs.Prelude.{nat_lt}
 use Rattle.std.specs.Str.{bytes_eq}
 use Rattle.std.proofs.lemmas.Bool.{ltb-false}
+use Rattle.common_laws.proofs.Options.{none_of_some}
 use Rattle.sm_base.specs.declared.names.Name.{Name}
 use Rattle.sm_base.specs.declared.operations.Op.{Op}
 use Rattle.sm_base.specs.declared.operations.Op.TheVariants as op
 use Rattle.sm_machine.specs.declared.commands.Command.TheVariants.{Resize}
-use Rattle.sm_machine.specs.Lists.{In, when}
+use Rattle.common_laws.specs.Lists.{In, when}
 use Rattle.sm_machine.specs.Shapes.{Shape, ImageRow, Attachment, image_uuid, is_vhd, is_image_of, attached_as, thick_in}
 use Rattle.sm_machine.specs.Refusals.{of_some, rounded, is_in_use, is_raw_disk, is_bad_size, is_shrink}
 use Rattle.sm_machine.specs.Commits.{folds}
 use Rattle.sm_machine.specs.Steps.{resize_shape}
-use Rattle.sm_machine.specs.WellFormed.{IsWellFormed, IsImage, IsSize, HasParent, IsOnlyChild, IsOperation}
-use Rattle.sm_machine.proofs.InLists.{Distinct-key}
+use Rattle.sm_machine.specs.WellFormed.{IsWellFormed, IsImageRow, IsSize, HasParent, IsOnlyChild, IsOperation}
+use Rattle.common_laws.proofs.Lists.{Distinct-key}
 use Rattle.sm_machine.proofs.Changes.{when-key}
 use Rattle.sm_machine.proofs.Create.{new_size}
 use Rattle.sm_machine.proofs.Passed.{IsPassed}
 use Rattle.sm_machine.proofs.Mapped.{keeps_mapped, extents-map_same, attachments_mapped, only_mapped, link_mapped}
-use Rattle.sm_machine.proofs.Guests.{disks_own, disk_image_is, mode_none, none_of_some}
+use Rattle.sm_machine.proofs.Guests.{disks_own, disk_image_is, mode_none}
 
 -- the image of a leaf that is not the disk's
 pub not_its_leaf : (u : List ℕ) (y : ImageRow) (l : Name) → y.name ≡ l → bytes_eq (image_uuid l) u ≡ false → is_image_of u y ≡ false
@@ -73,8 +74,8 @@ module _ (s : Shape) (w : IsWellFormed s) (u : List ℕ) (bytes : ℕ) (p : IsPa
   unfolding is_shrink
   not_smaller y h e = ltb-false size' y.size (subst (λ (o : Option ImageRow). of_some (λ (i : ImageRow). nat_lt size' i.size) o ≡ false) (disk_image_is s w u y h e) p.shrink)
 
-  good_by : (y : ImageRow) (c : Bool) → is_image_of u y ≡ c → In y s.images → IsImage s (when c to_size y)
-  good_by y true e h = let g : IsImage s y = w.images y h in
+  good_by : (y : ImageRow) (c : Bool) → is_image_of u y ≡ c → In y s.images → IsImageRow s (when c to_size y)
+  good_by y true e h = let g : IsImageRow s y = w.images y h in
       record { named = g.named; whole = is_good; volume = g.volume; table = g.table; raw = λ v. (let q : is_vhd y.name ≡ true = is_no_raw y h e in cc) }
   good_by y false e h = w.images y h
 

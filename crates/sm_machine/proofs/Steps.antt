@@ -1,7 +1,7 @@
 -- Every step keeps a shape well-formed.
 use Rattle.std.proofs.Common.{◌≡◌, ℕ, ◌+◌, ◌-◌, ◌^◌, ◌<◌, ◌≤◌, ◌/◌, Bool, true, false, Option, Some, None, refl, sym, subst, arith}
 use Rattle.std.specs.Prelude.{length}
-use Rattle.std.proofs.lemmas.Bool.{leb-false}
+use Rattle.std.proofs.lemmas.Bool.{leb-false, or_parts}
 use Rattle.sm_base.specs.declared.operations.Mode.TheVariants.{Ro, Rw}
 use Rattle.sm_base.specs.declared.operations.Op.TheVariants as op
 use Rattle.sm_base.specs.declared.refusals.Refusal.{Refusal}
@@ -14,7 +14,7 @@ use Rattle.sm_machine.specs.Collector.{next_step, collected}
 use Rattle.sm_machine.specs.Commits.{folds, gives_up, is_given_up, commits, own_commits, one_if}
 use Rattle.sm_machine.specs.Steps.{State, accepted, unless_refused, step_whole, is_built, if_built, step, given_up, shape_after, shape_next, delete_shape, attach_shape, resize_shape, fork_shape}
 use Rattle.sm_machine.specs.WellFormed.{IsWellFormed}
-use Rattle.sm_machine.proofs.Passed.{IsPassed, passed, neither}
+use Rattle.sm_machine.proofs.Passed.{IsPassed, passed}
 use Rattle.sm_machine.proofs.Numbers.{risen-up, risen-last}
 use Rattle.sm_machine.proofs.Counted.{keeps_counted}
 use Rattle.sm_machine.proofs.Create.{created}
@@ -55,11 +55,11 @@ rw_given s w u p false e = attach_rw_keeps s w u p s.op (attach_rw_operation s w
 
 pub snapshot_facts : (s : Shape) (u twin : _) → IsPassed s (Snapshot u twin) → IsForkable s u twin
 unfolding is_reserved is_unknown is_taken is_deep is_too_many is_spent lacks_space named new_uuid forked images_needed need
-snapshot_facts s u twin p = record { not_base = (neither _ _ p.reserved).1; not_taken = p.taken; is_known = p.unknown; not_deep = p.deep; not_many = p.too_many; not_spent = p.spent; has_space = p.space }
+snapshot_facts s u twin p = record { not_base = (or_parts _ _ p.reserved).1; not_taken = p.taken; is_known = p.unknown; not_deep = p.deep; not_many = p.too_many; not_spent = p.spent; has_space = p.space }
 
 pub clone_facts : (s : Shape) (u twin : _) → IsPassed s (Clone u twin) → IsForkable s u twin
 unfolding is_reserved is_unknown is_taken is_deep is_too_many is_spent lacks_space named new_uuid forked images_needed need
-clone_facts s u twin p = record { not_base = (neither _ _ p.reserved).1; not_taken = p.taken; is_known = p.unknown; not_deep = p.deep; not_many = p.too_many; not_spent = p.spent; has_space = p.space }
+clone_facts s u twin p = record { not_base = (or_parts _ _ p.reserved).1; not_taken = p.taken; is_known = p.unknown; not_deep = p.deep; not_many = p.too_many; not_spent = p.spent; has_space = p.space }
 
 risen-above : (n k : ℕ) → n < 2 ^ 48 - 16 → 8 ≤ k → n < risen n k
 risen-above n k h g = omega arith

@@ -4,12 +4,12 @@ use Rattle.std.specs.List.{filter}
 use Rattle.sm_base.specs.declared.names.Name.{Name}
 use Rattle.sm_base.specs.declared.names.Name.TheVariants.{Vhd}
 use Rattle.sm_base.specs.declared.operations.Op.TheVariants as op
-use Rattle.sm_machine.specs.Lists.{In, Distinct}
+use Rattle.common_laws.specs.Lists.{In, Distinct}
 use Rattle.sm_machine.specs.Shapes.{Shape, ImageRow, DiskRecord, Attachment, same_image, is_image, find_image, image_uuid, is_vhd, parent_of, with_image, without_image, image_extents}
 use Rattle.sm_machine.specs.Collector.{as_leaf, with_found, swapped}
-use Rattle.sm_machine.specs.WellFormed.{IsWellFormed, IsImage, HasParent, HasImage, HasRecord, IsChild, EndsWithin, is_image_name, table_length}
+use Rattle.sm_machine.specs.WellFormed.{IsWellFormed, IsImageRow, HasParent, HasImage, HasRecord, IsChild, EndsWithin, is_image_name, table_length}
 use Rattle.sm_machine.proofs.Faces.{AreSeen}
-use Rattle.sm_machine.proofs.InLists.{In-map, In-filter, In-filter_kept, In-insert, In-insert_new, In-insert_old, Distinct-key, Distinct-filter, Distinct-insert, Sorted-filter, length-insert_by}
+use Rattle.common_laws.proofs.Lists.{In-map, In-filter, filter-In, In-insert, In-insert_new, In-insert_old, Distinct-key, Distinct-filter, Distinct-insert, Sorted-filter, length-insert_by}
 use Rattle.sm_machine.proofs.Changes.{filter_less}
 use Rattle.sm_machine.proofs.Chains.{parent_of-in, ends_alike, OfName, IsThere}
 use Rattle.sm_machine.proofs.ImageNames.{same_image-sound, other_image, images_sorted}
@@ -42,7 +42,7 @@ In-without n xs x h = let r : In x xs × (not (is_image n x) ≡ true) = In-filt
     not_true false e = refl
 
 pub In-without_kept : (n : Name) (xs : List ImageRow) (x : ImageRow) → In x xs → (x.name ≡ n → ⊥) → In x (without_image n xs)
-In-without_kept n xs x h apart = In-filter_kept (λ (i : ImageRow). not (is_image n i)) xs x h (ap not (other_image x.name n apart))
+In-without_kept n xs x h apart = filter-In (λ (i : ImageRow). not (is_image n i)) xs x h (ap not (other_image x.name n apart))
 
 module _ (s : Shape) (l p : Name) (cursor : ℕ) (w : IsWellFormed (record s { op = op.Leaf l p cursor })) where
   abbrev folding : Shape
@@ -119,10 +119,10 @@ module _ (s : Shape) (l p : Name) (cursor : ℕ) (w : IsWellFormed (record s { o
   vhd_name (Vhd u) e = (refl, refl)
   vhd_name _ e = cc
 
-  moved_image : IsImage s moved
+  moved_image : IsImageRow s moved
   unfolding table_length
   moved_image =
-      let g : IsImage folding base = w.images base over.there in
+      let g : IsImageRow folding base = w.images base over.there in
       let b : table_length s base.name ≡ s.entries = ap (table_length s) over.is_named ∙ (vhd_name p w.operation.1).1 in
       record { named = (vhd_name l link.vhd).0; whole = g.whole; volume = g.volume; table = g.table ∙ (b ∙ sym (vhd_name l link.vhd).1); raw = λ e. (let q : is_vhd l ≡ true = link.vhd in cc) }
 
@@ -221,11 +221,11 @@ module _ (s : Shape) (l p : Name) (cursor : ℕ) (w : IsWellFormed (record s { o
   not_attached : (a : Attachment) (x : ImageRow) → In a s.attached → x ≡ moved → image_uuid x.name ≡ a.disk → ⊥
   not_attached a x h q e = mode_none (image_uuid l) s.attached w.operation.2 a h (sym e ∙ ap (λ (i : ImageRow). image_uuid i.name) q)
 
-  images_good : (x : ImageRow) → In x swapped_images → IsImage s x
+  images_good : (x : ImageRow) → In x swapped_images → IsImageRow s x
   unfolding table_length
   images_good x h = elim (in_swapped x h) [
-    | inl q ↦ subst (IsImage s) (sym q) moved_image
-    | inr k ↦ (let g : IsImage folding x = w.images x (was x k) in record { named = g.named; whole = g.whole; volume = g.volume; table = g.table; raw = g.raw })
+    | inl q ↦ subst (IsImageRow s) (sym q) moved_image
+    | inr k ↦ (let g : IsImageRow folding x = w.images x (was x k) in record { named = g.named; whole = g.whole; volume = g.volume; table = g.table; raw = g.raw })
   ]
 
   swap_good : IsWellFormed (record s { images = swapped_images; op = op.Idle })
@@ -238,7 +238,7 @@ module _ (s : Shape) (l p : Name) (cursor : ℕ) (w : IsWellFormed (record s { o
     few = few_good;
     images_in_order = images_sorted moved rest (Sorted-filter (λ (i : ImageRow). i.name) _ _ (without_image l s.images) (Sorted-filter (λ (i : ImageRow). i.name) _ _ s.images w.images_in_order));
     one_image = distinct_swapped;
-    images = λ x h. (let g : IsImage s x = images_good x h in record { named = g.named; whole = g.whole; volume = g.volume; table = g.table; raw = g.raw });
+    images = λ x h. (let g : IsImageRow s x = images_good x h in record { named = g.named; whole = g.whole; volume = g.volume; table = g.table; raw = g.raw });
     parents = parents_good;
     chains = chains_good;
     bases = λ x n h m e. elim (in_swapped x h) [

@@ -1,9 +1,9 @@
 -- Blocks of a table: how many are left from one on, and the next one.
 use Rattle.std.proofs.Common.{◌≡◌, ℕ, zero, suc, ◌+◌, ◌-◌, ◌<◌, ◌≤◌, true, List, [], ◌∷◌, length, drop, Option, Some, None, sym, subst, arith}
-use Rattle.sm_machine.specs.Lists.{In, numbers}
+use Rattle.common_laws.specs.Lists.{In, numbers}
 use Rattle.sm_machine.specs.Shapes.{slot_at, is_there, count_blocks}
 use Rattle.sm_machine.specs.Collector.{next_block}
-use Rattle.sm_machine.proofs.InLists.{find-some}
+use Rattle.common_laws.proofs.Lists.{find-some}
 use Rattle.sm_machine.proofs.Changes.{in_numbers}
 
 count-tail : (x : Option ℕ) (xs : List (Option ℕ)) → count_blocks xs ≤ count_blocks (x ∷ xs)

@@ -4,8 +4,9 @@ use Rattle.std.specs.Prelude.{is_some, nat_lt, ◌==◌}
 use Rattle.std.specs.List.{filter, find, list_any}
 use Rattle.std.specs.Option.{option_map}
 use Rattle.std.specs.Str.{bytes_eq}
-use Rattle.std.proofs.lemmas.Bool.{ltb-false}
+use Rattle.std.proofs.lemmas.Bool.{ltb-false, or_parts}
 use Rattle.std.proofs.lemmas.List.{length-replicate}
+use Rattle.common_laws.proofs.Bytes.{bytes_eq-same, bytes_eq-refl}
 use Rattle.sm_base.specs.declared.names.Name.{Name}
 use Rattle.sm_base.specs.declared.operations.Mode.TheVariants.{Ro, Rw}
 use Rattle.sm_base.specs.declared.operations.Op.{Op}
@@ -13,7 +14,7 @@ use Rattle.sm_base.specs.declared.operations.Op.TheVariants as op
 use Rattle.sm_base.specs.declared.refusals.Refusal.{Refusal}
 use Rattle.sm_machine.specs.declared.commands.Command.{Command}
 use Rattle.sm_machine.specs.declared.commands.Command.TheVariants.{Create, Delete, Attach, Detach, Snapshot, Clone, Resize, Label, Write, Fill, Read, Flush, Gc, List as Listing, Stat}
-use Rattle.sm_machine.specs.Lists.{In, insert_by, change, when}
+use Rattle.common_laws.specs.Lists.{In, insert_by, change, when}
 use Rattle.sm_machine.specs.Disks.{Disk, sector_bytes, filled, cut_sectors, sectors_of_bytes, overwritten, is_disk, with_disk, on_disk}
 use Rattle.sm_machine.specs.Shapes.{Shape, ImageRow, DiskRecord, image_uuid, is_image, on_image, children, top, thin_in, with_image, is_image_of, disk_image, disk_record}
 use Rattle.sm_machine.specs.Refusals.{of_some, refusal, rounded, lacking, new_uuid, is_taken, is_shrink, is_outside, is_out_of_range}
@@ -23,12 +24,11 @@ use Rattle.sm_machine.specs.Collector.{Pair, next_step, plan_idle, plan_running,
 use Rattle.sm_machine.specs.Commits.{is_given_up}
 use Rattle.sm_machine.specs.Steps.{State, accepted, unless_refused, step_whole, is_built, if_built, step, given_up, shape_after, shape_next, disks_next, is_record, with_record, fork_disks, fork_records, fork_images, fork_shape, new_image, write_shape, written_image, attach_images, written_disk, grown_disk}
 use Rattle.sm_machine.specs.WellFormed.{IsWellFormed, HasImage, AreDisksOf, record_of}
-use Rattle.sm_machine.proofs.InLists.{In-map, In-map_at, In-filter, In-insert, find-some}
+use Rattle.common_laws.proofs.Lists.{In-map, In-map_at, In-filter, In-insert, find-some}
 use Rattle.sm_machine.proofs.Changes.{when-key}
-use Rattle.sm_machine.proofs.ImageNames.{same_bytes, bytes_same}
 use Rattle.sm_machine.proofs.Faces.{AreSeen, WasSeen, seen_same, seen_filter, seen_map}
 use Rattle.sm_machine.proofs.Listed.{map-insert_by, map-filter, map-change, change-same, find-key}
-use Rattle.sm_machine.proofs.Passed.{IsPassed, passed, neither}
+use Rattle.sm_machine.proofs.Passed.{IsPassed, passed}
 use Rattle.sm_machine.proofs.Create.{new_name}
 use Rattle.sm_machine.proofs.Fresh
 use Rattle.sm_machine.proofs.Forks
@@ -111,7 +111,7 @@ module _ (disks : List Disk) (s : Shape) (w : IsWellFormed s) (a : AreDisksOf di
     same_lengths h t e seen = record { recorded = changed_records ∙ sym e; sizes = faithful_after disks (on_disk u f disks) s.images t.images a.sizes back seen }
       where
         by_test : (d : Disk) (c : Bool) → is_disk u d ≡ c → In d disks → (d.uuid ≡ (when c f d).uuid) × (length d.sectors ≡ length (when c f d).sectors)
-        by_test d true q k = (sym (ap (λ (r : DiskRecord). r.uuid) (keeps d)), sym (h d k (same_bytes d.uuid u q)))
+        by_test d true q k = (sym (ap (λ (r : DiskRecord). r.uuid) (keeps d)), sym (h d k (bytes_eq-same d.uuid u q)))
         by_test d false q k = (refl, refl)
 
         back : (d : Disk) → In d (on_disk u f disks) → WasDisk disks d
@@ -124,7 +124,7 @@ module _ (disks : List Disk) (s : Shape) (w : IsWellFormed s) (a : AreDisksOf di
   within : (u : List ℕ) (sector count : ℕ) → is_outside s u sector count ≡ false → (d : Disk) → In d disks → d.uuid ≡ u → sector + count ≤ length d.sectors
   within u sector count e d h q =
       let k : (i : ImageRow) × In i s.images × (is_image_of u i ≡ true) × (disk_image u s ≡ Some i) × (length d.sectors ≡ i.size) = its_size d u h q in
-      let t : of_some (λ (i : ImageRow). nat_lt i.size (sector + count)) (disk_image u s) ≡ false = (neither (count == 0) _ e).1 in
+      let t : of_some (λ (i : ImageRow). nat_lt i.size (sector + count)) (disk_image u s) ≡ false = (or_parts (count == 0) _ e).1 in
       let l : sector + count ≤ k.0.size = ltb-false k.0.size (sector + count) (subst (λ (o : Option ImageRow). of_some (λ (i : ImageRow). nat_lt i.size (sector + count)) o ≡ false) k.3 t) in
       let z : length d.sectors ≡ k.0.size = k.4 in
       omega arith
@@ -297,12 +297,12 @@ module _ (disks : List Disk) (s : Shape) (w : IsWellFormed s) (a : AreDisksOf di
 
     sizes_by : (b : Disk) (y : ImageRow) (c e : Bool) → is_disk u b ≡ c → is_image_of u y ≡ e → In b disks → In y s.images → y.hidden ≡ false → image_uuid y.name ≡ b.uuid → length (when c (grown_disk larger) b).sectors ≡ (when e to_larger y).size
     sizes_by b y true true q m h k hid v =
-        let own : (i : ImageRow) × In i s.images × (is_image_of u i ≡ true) × (disk_image u s ≡ Some i) × (length b.sectors ≡ i.size) = its_size disks s w a b u h (same_bytes b.uuid u q) in
+        let own : (i : ImageRow) × In i s.images × (is_image_of u i ≡ true) × (disk_image u s ≡ Some i) × (length b.sectors ≡ i.size) = its_size disks s w a b u h (bytes_eq-same b.uuid u q) in
         let l : own.0.size ≤ larger = not_smaller own.0 own.3 in
         let z : length b.sectors ≡ own.0.size = own.4 in
         grown_length b.sectors (omega arith)
-    sizes_by b y true false q m h k hid v = let t : is_image_of u y ≡ true = is_its_image y u hid (v ∙ same_bytes b.uuid u q) in cc
-    sizes_by b y false true q m h k hid v = let n : image_uuid y.name ≡ u = (disks_own s w u y m).1 in let t : is_disk u b ≡ true = subst (λ (x : List ℕ). bytes_eq x u ≡ true) (sym (sym v ∙ n)) (bytes_same u) in cc
+    sizes_by b y true false q m h k hid v = let t : is_image_of u y ≡ true = is_its_image y u hid (v ∙ bytes_eq-same b.uuid u q) in cc
+    sizes_by b y false true q m h k hid v = let n : image_uuid y.name ≡ u = (disks_own s w u y m).1 in let t : is_disk u b ≡ true = subst (λ (x : List ℕ). bytes_eq x u ≡ true) (sym (sym v ∙ n)) (bytes_eq-refl u) in cc
     sizes_by b y false false q m h k hid v = a.sizes b y h k hid v
 
     resize_together : AreDisksOf (disks_next disks s (Resize u bytes)) (shape_after s (Resize u bytes))
@@ -346,7 +346,7 @@ module _ (disks : List Disk) (s : Shape) (w : IsWellFormed s) (a : AreDisksOf di
 
     -- the twin is as large as the disk
     twin_size : (b : Disk) → find (is_disk u) disks ≡ Some b → length b.sectors ≡ own.size
-    twin_size b e = let k : In b disks × (is_disk u b ≡ true) = find-some (is_disk u) disks b e in own_size b k.0 (same_bytes b.uuid u k.1)
+    twin_size b e = let k : In b disks × (is_disk u b ≡ true) = find-some (is_disk u) disks b e in own_size b k.0 (bytes_eq-same b.uuid u k.1)
 
     forked_sizes : (i : ImageRow) → In i (fork_images s u twin (disk_image u s)) → (d : Disk) → In d forked_disks → i.hidden ≡ false → image_uuid i.name ≡ d.uuid → length d.sectors ≡ i.size
     forked_sizes i k = fork_seen s w u twin f (λ (j : ImageRow). (d : Disk) → In d forked_disks → j.hidden ≡ false → image_uuid j.name ≡ d.uuid → length d.sectors ≡ j.size)
@@ -389,7 +389,7 @@ after_together disks s (Snapshot u twin) w a p = fork_together disks s w a u twi
 after_together disks s (Clone u twin) w a p = fork_together disks s w a u twin (clone_facts s u twin p) false
 after_together disks s (Resize u size) w a p = resize_together disks s w a u size p
 after_together disks s (Label u text) w a p = label_together disks s w a u text
-after_together disks s (Write u sector bytes) w a p = write_together disks s w a u sector (sectors_of_bytes bytes) (length bytes / sector_bytes) (length-cut (length bytes / sector_bytes) bytes) (neither (is_outside s u sector (length bytes / sector_bytes)) _ p.out_of_range).0
+after_together disks s (Write u sector bytes) w a p = write_together disks s w a u sector (sectors_of_bytes bytes) (length bytes / sector_bytes) (length-cut (length bytes / sector_bytes) bytes) (or_parts (is_outside s u sector (length bytes / sector_bytes)) _ p.out_of_range).0
 after_together disks s (Fill u sector count byte) w a p = write_together disks s w a u sector (filled count byte) count (length-replicate count _) p.out_of_range
 after_together disks s (Read u sector count) w a p = a
 after_together disks s (Flush u) w a p = a

@@ -9,7 +9,7 @@ use Rattle.sm_base.specs.declared.operations.Op.{Op}
 use Rattle.sm_base.specs.declared.operations.Op.TheVariants as op
 use Rattle.sm_base.specs.declared.operations.Plan.{Plan}
 use Rattle.sm_base.specs.declared.operations.Plan.TheVariants as plan
-use Rattle.sm_machine.specs.Lists.{◌>>=◌, given, numbers}
+use Rattle.common_laws.specs.Lists.{given, numbers, ◌>>=◌}
 use Rattle.sm_machine.specs.Shapes.{Shape, ImageRow, image_uuid, is_vhd, slot_at, is_there, count_blocks, top, has_slot, find_image, with_image, without_image, on_image, children, attached_as, is_rw, image_extents, free, thin_in}
 
 -- ---- tables

@@ -6,7 +6,7 @@ use Rattle.std.specs.List.{concat}
 use Rattle.std.specs.Ordering.{is_lt, nat_cmp}
 use Rattle.std.specs.Cmp.Lexicographic.{slice_cmp}
 use Rattle.std.specs.Str.{bytes_eq}
-use Rattle.sm_machine.specs.Lists.{change, insert_by}
+use Rattle.common_laws.specs.Lists.{change, insert_by}
 
 -- the bytes of a sector
 abbrev pub sector_bytes : ℕ

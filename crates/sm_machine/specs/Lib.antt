@@ -3,7 +3,6 @@ pub mod Commits
 pub mod Disks
 pub mod Laws
 pub mod Lines
-pub mod Lists
 pub mod Refusals
 pub mod Replies
 pub mod Runs

@@ -10,7 +10,7 @@ use Rattle.sm_base.specs.declared.refusals.Refusal.{Refusal}
 use Rattle.sm_base.specs.declared.refusals.Refusal.TheVariants.{ReservedName, UnknownDisk, NameTaken, InUse, NotAttached, ReadOnly, RawDisk, OutOfRange, BadSize, Shrink, ChainTooLong, TooMany, SequenceSpent, NoSpace}
 use Rattle.sm_machine.specs.declared.commands.Command.{Command}
 use Rattle.sm_machine.specs.declared.commands.Command.TheVariants.{Create, Delete, Attach, Detach, Snapshot, Clone, Resize, Label, Write, Fill, Read, Flush, Gc, List as Listing, Stat}
-use Rattle.sm_machine.specs.Lists.{first_some, given}
+use Rattle.common_laws.specs.Lists.{first_some, given}
 use Rattle.sm_machine.specs.Disks.{sector_bytes}
 use Rattle.sm_machine.specs.Shapes.{Shape, ImageRow, image_uuid, is_vhd, disk_image, disk_record, attached_as, is_ro, is_rw, chain, chain_limit, image_limit, read_limit, thin_in, thick_in, free}
 

@@ -9,7 +9,7 @@ use Rattle.sm_machine.specs.declared.commands.Command.TheVariants.{Create, Delet
 use Rattle.sm_machine.specs.declared.replies.Reply.{Reply}
 use Rattle.sm_machine.specs.declared.replies.Reply.TheVariants as reply
 use Rattle.sm_machine.specs.Lines.{spelled}
-use Rattle.sm_machine.specs.Lists.{In}
+use Rattle.common_laws.specs.Lists.{In}
 use Rattle.sm_machine.specs.Replies.{printed}
 use Rattle.sm_machine.specs.Disks.{Disk}
 use Rattle.sm_machine.specs.Steps.{State, Outcome, refused, step_line}

@@ -14,7 +14,7 @@ use Rattle.sm_base.specs.declared.operations.Mode.{Mode}
 use Rattle.sm_base.specs.declared.operations.Mode.TheVariants.{Ro, Rw}
 use Rattle.sm_base.specs.declared.operations.Op.{Op}
 use Rattle.sm_base.specs.declared.operations.Op.TheVariants.{Idle}
-use Rattle.sm_machine.specs.Lists.{◌>>=◌, change, insert_by}
+use Rattle.common_laws.specs.Lists.{change, insert_by, ◌>>=◌}
 
 -- an image: its volume's name and number of extents, whether it is hidden from users, the image that it reads through
 -- where it has no sector of its own, its size in sectors, and its table

@@ -20,7 +20,7 @@ use Rattle.sm_machine.specs.declared.replies.Reply.{Reply}
 use Rattle.sm_machine.specs.declared.replies.Reply.TheVariants as reply
 use Rattle.sm_machine.specs.Stats.{Stats}
 use Rattle.sm_machine.specs.Lines.{spelled}
-use Rattle.sm_machine.specs.Lists.{change, insert_by, numbers}
+use Rattle.common_laws.specs.Lists.{change, insert_by, numbers}
 use Rattle.sm_machine.specs.Disks.{Disk, sector_bytes, uuid_before, filled, sectors_of_bytes, overwritten, bytes_at, is_disk, with_disk, on_disk}
 use Rattle.sm_machine.specs.Shapes.{Shape, ImageRow, DiskRecord, Attachment, risen, is_vhd, renamed, count_blocks, is_image_of, disk_image, attached_as, is_rw, refs, free, with_image, without_image}
 use Rattle.sm_machine.specs.Refusals.{refusal, rounded, new_extents, wanted, lacking}

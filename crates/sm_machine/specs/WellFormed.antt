@@ -9,7 +9,7 @@ use Rattle.sm_base.specs.declared.operations.Mode.TheVariants.{Rw}
 use Rattle.sm_base.specs.declared.operations.Op.{Op}
 use Rattle.sm_base.specs.declared.operations.Op.TheVariants as op
 use Rattle.sm_machine.specs.Disks.{Disk, uuid_before}
-use Rattle.sm_machine.specs.Lists.{In, Distinct, Sorted}
+use Rattle.common_laws.specs.Lists.{In, Distinct, Sorted}
 use Rattle.sm_machine.specs.Shapes.{Shape, ImageRow, DiskRecord, Attachment, image_limit, chain_limit, last_sequence, image_uuid, is_vhd, parent_of, attached_as, image_extents, thick_in}
 
 -- ---- one image
@@ -30,7 +30,7 @@ abbrev pub IsSize : Shape → ℕ → Type 0
 IsSize s size = (blocks : ℕ) × (size ≡ blocks * s.block) × (0 < blocks) × (blocks ≤ s.entries)
 
 -- an image has a volume and a table; a raw image has no parent and fills its volume
-pub record IsImage (s : Shape) (i : ImageRow) : Type 0 where
+pub record IsImageRow (s : Shape) (i : ImageRow) : Type 0 where
   pub named : IsTrue (is_image_name i.name)
   pub whole : IsSize s i.size
   pub volume : 0 < i.extents
@@ -114,7 +114,7 @@ pub record IsWellFormed (s : Shape) : Type 0 where
   pub few : length s.images ≤ image_limit
   pub images_in_order : Sorted name_le (map (λ i. i.name) s.images)
   pub one_image : Distinct (map (λ i. image_uuid i.name) s.images)
-  pub images : (i : ImageRow) → In i s.images → IsImage s i
+  pub images : (i : ImageRow) → In i s.images → IsImageRow s i
   pub parents : (i : ImageRow) (p : Name) → In i s.images → i.parent ≡ Some p → HasParent s.images i p
   pub chains : (i : ImageRow) → In i s.images → EndsWithin chain_limit (Some i.name) s.images
   -- a UUID of the form of base images has a number that was used

@@ -12,7 +12,7 @@ use Rattle.sm_record.specs.declared.records.Record.{Record}
 use Rattle.sm_record.specs.declared.records.Reading.TheVariants.{Free}
 use Rattle.sm_record.specs.Records.{IsRecord, reading, record_sector}
 use Rattle.sm_record.proofs.RoundTrips.{reading_again, reading_zeros, sector_fits}
-use Rattle.sm_mgt.specs.Places.{is_of, as_reading, reading_of, Agrees, place_for, HasRecord, cleared, WroteZeros}
+use Rattle.sm_mgt.specs.Places.{is_of, as_reading, reading_of, Agrees, place_for, HasRecordAt, cleared, WroteZeros}
 use Rattle.sm_mgt.proofs.PlaceLaws.{place_below}
 
 reading-zeros : reading zeros ≡ Free
@@ -51,7 +51,7 @@ pub reads-zeroed : {At : ℕ → Type 0} {old new : Held} → WroteZeros At old 
 reads-zeroed {At} {old} {new} w p here =
     ap (λ l. newest (new.floor p) l) (w.inside p here) ∙ newest-push (new.floor p) (old.pending p) zeros
 
-pub agrees_clear : (places : List (Option Record)) (u : List ℕ) (old new : Held) → WroteZeros (HasRecord places u) old new → Agrees old places → Agrees new (map (cleared u) places)
+pub agrees_clear : (places : List (Option Record)) (u : List ℕ) (old new : Held) → WroteZeros (HasRecordAt places u) old new → Agrees old places → Agrees new (map (cleared u) places)
 agrees_clear places u old new w was = record {
   long = length-map places (cleared u) ∙ was.long;
   each = λ j x at. each j x at (cases_Bool (is_of u (get_or places j None)));
@@ -62,7 +62,7 @@ agrees_clear places u old new w was = record {
     by j x value there (inl has) =
         ap reading (reads-zeroed w j has) ∙ reading-zeros ∙ ap as_reading (sym (value ∙ cond-true (is_of u (get_or places j None)) None (get_or places j None) has))
     by j x value there (inr hasnt) =
-        let away : HasRecord places u j → ⊥ = λ h. true≢false (sym h ∙ hasnt) in
+        let away : HasRecordAt places u j → ⊥ = λ h. true≢false (sym h ∙ hasnt) in
         ap reading (reads-at old new j (w.floor j) (w.outside j away))
         ∙ was.each j (get_or places j None) there
         ∙ ap as_reading (sym (value ∙ cond-false (is_of u (get_or places j None)) None (get_or places j None) hasnt))

@@ -1,5 +1,5 @@
 -- Laws of clearing the records of a UUID, place by place.
-use Rattle.std.proofs.Common.{◌≡◌, ℕ, ◌+◌, ◌-◌, ◌<◌, ◌≤◌, ◌⊎◌, inl, inr, Bool, true, false, List, [], ◌∷◌, ◌++◌, length, map, take, drop, get_or, set, Option, None, refl, sym, ap, ◌∙◌, subst, subst₂, arith, append_assoc}
+use Rattle.std.proofs.Common.{◌≡◌, ℕ, ◌+◌, ◌-◌, ◌<◌, ◌≤◌, ◌⊎◌, inl, inr, Bool, true, false, List, [], ◌∷◌, ◌++◌, length, map, take, drop, get_or, set, Option, None, Result, Ok, Err, OnErr, refl, sym, ap, ◌∙◌, subst, arith, append_assoc}
 use Rattle.std.proofs.lemmas.Bool.{cases_lt, cond-true, cond-false, true≢false}
 use Rattle.std.proofs.lemmas.List.{length-map, length-take-le, map-append, take_more, drop_more, set_at, get_or_at, set-get_or, take_all, drop_all, append-nil, get_or_past}
 use Rattle.sm_disk.specs.Held.{Held, IsIn, Torn, Wrote}
@@ -7,12 +7,7 @@ use Rattle.sm_disk.specs.Sectors.{sector, zeros}
 use Rattle.sm_disk.proofs.HeldLaws.{in_one}
 use Rattle.sm_disk.proofs.SectorLaws.{sector-one, IsSector-zeros}
 use Rattle.sm_record.specs.declared.records.Record.{Record}
-use Rattle.sm_base.specs.declared.names.Name.TheVariants.{Mgt as mgt_name}
-use Rattle.vg_meta.specs.Tables.{Listing, rows, extents_of}
-use Rattle.vg_volumes.specs.Sites.{Site}
-use Rattle.vg_volumes.specs.Volumes.{SameElsewhere}
-use Rattle.sm_mgt.proofs.StoreLaws.{SameElsewhere-then}
-use Rattle.sm_mgt.specs.Places.{is_of, HasRecord, cleared, records_held, TornZeros, WroteZeros}
+use Rattle.sm_mgt.specs.Places.{is_of, HasRecordAt, cleared, TornZeros, WroteZeros}
 
 -- ---- what is in memory
 
@@ -165,48 +160,36 @@ is_true_or_not : (b : Bool) → (b ≡ true) ⊎ (b ≡ true → ⊥)
 is_true_or_not true = inl refl
 is_true_or_not false = inr (λ e. (let x = e in cc))
 
-pub has_or_not : (places : List (Option Record)) (u : List ℕ) (p : ℕ) → HasRecord places u p ⊎ (HasRecord places u p → ⊥)
+pub has_or_not : (places : List (Option Record)) (u : List ℕ) (p : ℕ) → HasRecordAt places u p ⊎ (HasRecordAt places u p → ⊥)
 has_or_not places u p = is_true_or_not (is_of u (get_or places p None))
 
 -- a record of the UUID stands in one of the places
-pub has_within : (places : List (Option Record)) (u : List ℕ) (p : ℕ) → HasRecord places u p → p < length places
+pub has_within : (places : List (Option Record)) (u : List ℕ) (p : ℕ) → HasRecordAt places u p → p < length places
 has_within places u p has = by (cases_lt p (length places))
   where
     by : (p < length places) ⊎ (length places ≤ p) → p < length places
     by (inl below) = below
     by (inr past) = absurd (true≢false (sym has ∙ ap (is_of u) (get_or_past places p None past)))
 
-pub within_all : (places : List (Option Record)) (u : List ℕ) (n : ℕ) → length places ≤ n → (p : ℕ) → HasRecord places u p → p < n
+pub within_all : (places : List (Option Record)) (u : List ℕ) (n : ℕ) → length places ≤ n → (p : ℕ) → HasRecordAt places u p → p < n
 within_all places u n past p has = omega (arith, past, has_within places u p has)
 
 -- where memory is cleared so far, the next place has the record where it had it at first
 abbrev pub AtNext : (List ℕ) → ℕ → Option Record → ℕ → Type 0
 AtNext u n o p = (p ≡ n) × (is_of u o ≡ true)
 
--- one step of the clearing, told in the site and the table of its beginning
-pub wrote_step : (places now : List (Option Record)) (u : List ℕ) (n : ℕ) {s0 s : Site} {t0 t : Listing} (first old new : Held) → n < length places → now ≡ cleared_to u n places
-    → s ≡ s0 → t ≡ t0
-    → WroteZeros (Below (HasRecord places u) n) (records_held s0 t0 first) (records_held s0 t0 old)
-    → WroteZeros (AtNext u n (get_or now n None)) (records_held s t old) (records_held s t new)
-    → WroteZeros (Below (HasRecord places u) (n + 1)) (records_held s0 t0 first) (records_held s0 t0 new)
-wrote_step places now u n {s0} {s} {t0} {t} first old new below is site table before w =
-    let same = next_same u n places now below is in
-    let here : WroteZeros (AtNext u n (get_or places n None)) (records_held s t old) (records_held s t new) = subst (λ o. WroteZeros (AtNext u n o) (records_held s t old) (records_held s t new)) same w in
-    WroteZeros-more (HasRecord places u) n before (subst₂ (λ x y. WroteZeros (AtNext u n (get_or places n None)) (records_held x y old) (records_held x y new)) site table here)
+-- one step of the clearing
+pub wrote_step : (places now : List (Option Record)) (u : List ℕ) (n : ℕ) → n < length places → now ≡ cleared_to u n places → (a b c : Held)
+    → WroteZeros (Below (HasRecordAt places u) n) a b → WroteZeros (AtNext u n (get_or now n None)) b c → WroteZeros (Below (HasRecordAt places u) (n + 1)) a c
+wrote_step places now u n below is a b c before w =
+    WroteZeros-more (HasRecordAt places u) n before (subst (λ o. WroteZeros (AtNext u n o) b c) (next_same u n places now below is) w)
 
-pub torn_step : (places now : List (Option Record)) (u : List ℕ) (n : ℕ) {s0 s : Site} {t0 t : Listing} (first old new : Held) → n < length places → now ≡ cleared_to u n places
-    → s ≡ s0 → t ≡ t0
-    → WroteZeros (Below (HasRecord places u) n) (records_held s0 t0 first) (records_held s0 t0 old)
-    → TornZeros (AtNext u n (get_or now n None)) (records_held s t old) (records_held s t new)
-    → TornZeros (HasRecord places u) (records_held s0 t0 first) (records_held s0 t0 new)
-torn_step places now u n {s0} {s} {t0} {t} first old new below is site table before w =
-    let same = next_same u n places now below is in
-    let here : TornZeros (AtNext u n (get_or places n None)) (records_held s t old) (records_held s t new) = subst (λ o. TornZeros (AtNext u n o) (records_held s t old) (records_held s t new)) same w in
-    TornZeros-more (HasRecord places u) n (has_or_not places u) before (subst₂ (λ x y. TornZeros (AtNext u n (get_or places n None)) (records_held x y old) (records_held x y new)) site table here)
+pub torn_step : (places now : List (Option Record)) (u : List ℕ) (n : ℕ) → n < length places → now ≡ cleared_to u n places → (a b c : Held)
+    → WroteZeros (Below (HasRecordAt places u) n) a b → TornZeros (AtNext u n (get_or now n None)) b c → TornZeros (HasRecordAt places u) a c
+torn_step places now u n below is a b c before w =
+    TornZeros-more (HasRecordAt places u) n (has_or_not places u) before (subst (λ o. TornZeros (AtNext u n o) b c) (next_same u n places now below is) w)
 
-pub elsewhere_step : {s0 s : Site} {t0 t : Listing} {first old new : Held} → s ≡ s0 → t ≡ t0
-    → SameElsewhere s0.geometry.extent (extents_of (rows t0 mgt_name)) first old
-    → SameElsewhere s.geometry.extent (extents_of (rows t mgt_name)) old new
-    → SameElsewhere s0.geometry.extent (extents_of (rows t0 mgt_name)) first new
-elsewhere_step {s0} {s} {t0} {t} {first} {old} {new} site table before after =
-    SameElsewhere-then before (subst₂ (λ x y. SameElsewhere x.geometry.extent (extents_of (rows y mgt_name)) old new) site table after)
+-- what holds at every return holds at an Err
+pub on_err : {T E P : Type 0} (r : Result T E) → P → OnErr r P
+on_err (Ok x) p = tt
+on_err (Err e) p = p

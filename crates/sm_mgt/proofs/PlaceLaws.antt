@@ -7,7 +7,7 @@ use Rattle.sm_record.specs.declared.records.Reading.TheVariants.{Damaged}
 use Rattle.sm_record.specs.Records.{reading}
 use Rattle.std.proofs.lemmas.List.Quantifiers.{position-Some}
 use Rattle.std.specs.Option.{option_or}
-use Rattle.sm_mgt.specs.Places.{is_of, place_for, place_count, as_reading, ReadsAs, IsDamagedFirst}
+use Rattle.sm_mgt.specs.Places.{is_of, place_for, place_count, as_reading, ReadsAsPlaces, IsDamagedFirst}
 
 got_push : (ps : List (Option Record)) (x o : Option Record) (k : ℕ) → slice_get (ps ++ x ∷ []) k ≡ Some o → ((k ≡ length ps) × (o ≡ x)) ⊎ (slice_get ps k ≡ Some o)
 got_push [] x o zero h = inl (refl, (let e = h in cc))
@@ -16,8 +16,8 @@ got_push (p ∷ ps) x o zero h = inr h
 got_push (p ∷ ps) x o (suc k) h = ⊎_elim (λ w. inl (ap suc w.0, w.1)) (λ g. inr g) (got_push ps x o k h)
 
 -- one more sector reads as one more place
-pub ReadsAs-push : (bytes : List ℕ) (n : ℕ) (ps : List (Option Record)) (x : Option Record) → ReadsAs bytes n ps → reading (sector bytes n) ≡ as_reading x → ReadsAs bytes (n + 1) (ps ++ x ∷ [])
-ReadsAs-push bytes n ps x r is = record {
+pub ReadsAsPlaces-push : (bytes : List ℕ) (n : ℕ) (ps : List (Option Record)) (x : Option Record) → ReadsAsPlaces bytes n ps → reading (sector bytes n) ≡ as_reading x → ReadsAsPlaces bytes (n + 1) (ps ++ x ∷ [])
+ReadsAsPlaces-push bytes n ps x r is = record {
   long = omega (arith, length-append ps (x ∷ []), r.long);
   each = λ k o h. of_cases k o (got_push ps x o k h);
 }
@@ -31,7 +31,7 @@ not_damaged None e = (let x = e in cc)
 not_damaged (Some r) e = (let x = e in cc)
 
 -- a damaged sector behind those that read as places is the first
-pub first_damaged : (bytes : List ℕ) (n : ℕ) (ps : List (Option Record)) → ReadsAs bytes n ps → n < place_count → reading (sector bytes n) ≡ Damaged → IsDamagedFirst bytes n
+pub first_damaged : (bytes : List ℕ) (n : ℕ) (ps : List (Option Record)) → ReadsAsPlaces bytes n ps → n < place_count → reading (sector bytes n) ≡ Damaged → IsDamagedFirst bytes n
 first_damaged bytes n ps r below is = record {
   within = below;
   damaged = is;

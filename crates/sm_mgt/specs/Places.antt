@@ -1,5 +1,5 @@
 -- The places of the volume of records: 512 sectors, each free or with the record of a disk (this project's format).
-use Rattle.std.specs.Prelude.{◌≡◌, ◌≢◌, ℕ, ◌<◌, ◌⊎◌, Bool, true, false, if◌then◌else◌, List, [], ◌∷◌, ◌++◌, length, find, position, is_none, Option, Some, None, unwrap_or, slice_index_or}
+use Rattle.std.specs.Prelude.{◌≡◌, ◌≢◌, ℕ, ◌<◌, ◌≤◌, ◌⊎◌, Bool, true, false, if◌then◌else◌, List, [], ◌∷◌, ◌++◌, length, find, position, is_none, Option, Some, None, unwrap_or, slice_index_or}
 use Rattle.std.specs.List.{slice_get}
 use Rattle.std.specs.Option.{option_or}
 use Rattle.std.specs.Str.{bytes_eq}
@@ -10,9 +10,10 @@ use Rattle.sm_record.specs.declared.records.Record.{Record}
 use Rattle.sm_record.specs.declared.records.Reading.{Reading}
 use Rattle.sm_record.specs.declared.records.Reading.TheVariants.{Free, Taken, Damaged}
 use Rattle.sm_record.specs.Records.{reading}
-use Rattle.vg_meta.specs.Tables.{Listing}
-use Rattle.vg_meta.specs.Kept.{Kept, listing}
-use Rattle.vg_volumes.specs.Sites.{Site, volume_of, NoLessRoom}
+use Rattle.vg_meta.specs.Tables.{VolumeTable}
+use Rattle.vg_volumes.specs.Sites.{Site, volume_of}
+use Rattle.vg_volumes.specs.Stored.{stored, sectors_in, held_in}
+use Rattle.vg_volumes.specs.declared.stores.Store.{Ghosts}
 
 -- the number of places
 abbrev pub place_count : ℕ
@@ -23,8 +24,16 @@ abbrev pub reading_of : Held → ℕ → Reading
 reading_of held k = reading (reads held k)
 
 -- the volume of records
-abbrev pub records_held : Site → Listing → Held → Held
+abbrev pub records_held : Site → VolumeTable → Held → Held
 records_held site t area = volume_of site t area Mgt
+
+-- that of a store
+abbrev pub records_of : {S : Type 0} → Ghosts S → S → Held
+records_of g s = held_in (stored g s) Mgt
+
+-- the volume of records of a store has all places
+abbrev pub HasAllPlaces : {S : Type 0} → Ghosts S → S → Type 0
+HasAllPlaces g s = place_count ≤ sectors_in (stored g s) Mgt
 
 -- free for none
 abbrev pub as_reading : Option Record → Reading
@@ -46,8 +55,8 @@ abbrev pub record_in : List (Option Record) → List ℕ → Option Record
 record_in places u = unwrap_or (find (is_of u) places) None
 
 -- the place of this number has a record of the UUID
-abbrev pub HasRecord : List (Option Record) → List ℕ → ℕ → Type 0
-HasRecord places u p = is_of u (slice_index_or places p None) ≡ true
+abbrev pub HasRecordAt : List (Option Record) → List ℕ → ℕ → Type 0
+HasRecordAt places u p = is_of u (slice_index_or places p None) ≡ true
 
 -- a place, free where it had a record of the UUID
 abbrev pub cleared : List ℕ → Option Record → Option Record
@@ -76,7 +85,7 @@ pub record WroteZeros (At : ℕ → Type 0) (old new : Held) : Type 0 where
   pub outside : (p : ℕ) → (At p → ⊥) → new.pending p ≡ old.pending p
 
 -- so many sectors of these bytes read as these places
-pub record ReadsAs (bytes : List ℕ) (count : ℕ) (places : List (Option Record)) : Type 0 where
+pub record ReadsAsPlaces (bytes : List ℕ) (count : ℕ) (places : List (Option Record)) : Type 0 where
   pub long : length places ≡ count
   pub each : (k : ℕ) (o : Option Record) → slice_get places k ≡ Some o → reading (sector bytes k) ≡ as_reading o
 
@@ -85,10 +94,3 @@ pub record IsDamagedFirst (bytes : List ℕ) (place : ℕ) : Type 0 where
   pub within : place < place_count
   pub damaged : reading (sector bytes place) ≡ Damaged
   pub before : (k : ℕ) → k < place → reading (sector bytes k) ≢ Damaged
-
--- a store has the same sizes and the same table, and no spare number is lower
-pub record Stays {S : Type 0} (site : S → Site) (kept : S → Kept) (failed : S → Bool) (old new : S) : Type 0 where
-  pub same_site : site new ≡ site old
-  pub same_table : listing (kept new) ≡ listing (kept old)
-  pub same_flag : failed new ≡ failed old
-  pub room : NoLessRoom (kept old) (kept new)

@@ -7,15 +7,12 @@ ghost use Rattle.sm_base.specs.declared.faults.OpenFault.TheVariants.{NoMemory};
 ghost use Rattle.sm_base.specs.declared.faults.OpenFault.TheVariants as fault;
 ghost use Rattle.sm_base.specs.declared.faults.Place.TheVariants as at;
 ghost use Rattle.sm_base.specs.declared.names.Name.TheVariants.{Mgt as mgt_name};
-ghost use Rattle.sm_disk.specs.Held.{SameHeld, Gave, Torn, Wrote, Keeps, Rose};
+ghost use Rattle.sm_disk.specs.Held.{Gave, Torn, Wrote};
 ghost use Rattle.sm_disk.specs.Sectors.{zeros, sector};
 ghost use Rattle.sm_record.specs.Records.{IsRecord, record_sector, reading};
 ghost use Rattle.sm_record.specs.declared.records.Reading.TheVariants.{Damaged};
-ghost use Rattle.vg_meta.specs.Tables.{Listing, rows, extents_of};
-ghost use Rattle.vg_meta.specs.Kept.{listing};
-ghost use Rattle.vg_volumes.specs.Sites.{size_of, NoLessRoom};
-ghost use Rattle.vg_volumes.specs.Volumes.{SameElsewhere};
-ghost use Rattle.sm_mgt.specs.Places.{Stays, ReadsAs, IsDamagedFirst, as_reading, place_count, records_held, Agrees, IsFirstDamaged, is_of, place_for, record_in, HasRecord, cleared, TornZeros, WroteZeros};
+ghost use Rattle.vg_volumes.specs.Stored.{OnlyReads, Writes, Counts, Faults};
+ghost use Rattle.sm_mgt.specs.Places.{HasAllPlaces, records_of, ReadsAsPlaces, IsDamagedFirst, as_reading, place_count, Agrees, IsFirstDamaged, is_of, place_for, record_in, HasRecordAt, cleared, TornZeros, WroteZeros};
 
 use sm_base::{Failed, Name, OpenFault, Place};
 use sm_record::{Reading, Record};
@@ -133,7 +130,7 @@ fn place_at(bytes: &[u8], index: usize) -> Option<Option<Record>>
 /// What the sectors read as, in order: the places, or the number of the first that is damaged.
 fn places_in(alloc: Global, bytes: &[u8]) -> Result<Vec<Option<Record>>, OpenFault>
     requires { length bytes.now ≡ 512 * place_count }
-    ensures ok { IfOk result (λ places. ReadsAs bytes.now place_count places.items) }
+    ensures ok { IfOk result (λ places. ReadsAsPlaces bytes.now place_count places.items) }
     ensures damaged { IfErr result (λ e. (e ≡ NoMemory) ⊎ ((k : ℕ) × IsDamagedFirst bytes.now k × (e ≡ fault.Damaged (at.Record k)))) }
 {
     let mut places = Vec::new(alloc);
@@ -154,16 +151,11 @@ fn places_in(alloc: Global, bytes: &[u8]) -> Result<Vec<Option<Record>>, OpenFau
 
 /// The bytes of all record sectors.
 fn read_records<S: Store>(alloc: Global, store: &mut S) -> Result<Vec<u8>, OpenFault>
-    requires { 512 * place_count ≤ 512 * size_of (S.site store.old) (listing (S.kept store.old)) mgt_name }
-    ensures stays { Stays S.site S.kept S.failed store.old store.new }
-    ensures counts { S.faults store.old ≤ S.faults store.new }
-    ensures device { S.told → Keeps (S.device store.old) (S.device store.new) }
-    ensures beside { S.told → Keeps (S.beside store.old) (S.beside store.new) }
-    ensures same { S.told → SameHeld (S.area store.old) (S.area store.new) }
-    ensures leaves { S.told → (t : Listing) (image : ℕ → List ℕ) → S.leaves store.new t image → S.leaves store.old t image }
+    requires { HasAllPlaces S.Store store.old }
+    ensures reads { OnlyReads S.Store store.old store.new }
     ensures long { IfOk result (λ bytes. length bytes.items ≡ 512 * place_count) }
-    ensures gave { S.told → IfOk result (λ bytes. Gave 0 (records_held (S.site store.old) (listing (S.kept store.old)) (S.area store.old)) bytes.items) }
-    ensures memory_or_device { IfErr result (λ e. (e ≡ NoMemory) ⊎ ((e ≡ fault.Device) × Rose (S.faults store.old) (S.faults store.new))) }
+    ensures gave { S.told → IfOk result (λ bytes. Gave 0 (records_of S.Store store.old) bytes.items) }
+    ensures memory_or_device { IfErr result (λ e. (e ≡ NoMemory) ⊎ ((e ≡ fault.Device) × Faults S.Store store.old store.new)) }
 {
     let Ok(mut bytes) = vec![in alloc; 0; 262144] else {
         return Err(OpenFault::NoMemory);
@@ -177,18 +169,13 @@ fn read_records<S: Store>(alloc: Global, store: &mut S) -> Result<Vec<u8>, OpenF
 impl Mgt {
     /// Reads the records of a store. The first sector that is neither free nor a record is damaged.
     pub fn load<S: Store>(alloc: Global, store: &mut S) -> Result<Mgt, OpenFault>
-        requires { 512 * place_count ≤ 512 * size_of (S.site store.old) (listing (S.kept store.old)) mgt_name }
-        ensures stays { Stays S.site S.kept S.failed store.old store.new }
-        ensures counts { S.faults store.old ≤ S.faults store.new }
-        ensures device { S.told → Keeps (S.device store.old) (S.device store.new) }
-        ensures beside { S.told → Keeps (S.beside store.old) (S.beside store.new) }
-        ensures same { S.told → SameHeld (S.area store.old) (S.area store.new) }
-        ensures leaves { S.told → (t : Listing) (image : ℕ → List ℕ) → S.leaves store.new t image → S.leaves store.old t image }
-        ensures ok { S.told → IfOk result (Agrees (records_held (S.site store.old) (listing (S.kept store.old)) (S.area store.old))) }
+        requires { HasAllPlaces S.Store store.old }
+        ensures reads { OnlyReads S.Store store.old store.new }
+        ensures ok { S.told → IfOk result (Agrees (records_of S.Store store.old)) }
         ensures cause { IfErr result (λ e. (e ≡ NoMemory)
-            ⊎ ((e ≡ fault.Device) × Rose (S.faults store.old) (S.faults store.new))
+            ⊎ ((e ≡ fault.Device) × Faults S.Store store.old store.new)
             ⊎ ((k : ℕ) × (e ≡ fault.Damaged (at.Record k))
-            × (S.told → IsFirstDamaged (records_held (S.site store.old) (listing (S.kept store.old)) (S.area store.old)) k))) }
+            × (S.told → IsFirstDamaged (records_of S.Store store.old) k))) }
     {
         let bytes = read_records(alloc, store)?;
         let places = places_in(alloc, &bytes)?;
@@ -220,22 +207,13 @@ impl Mgt {
     /// Writes a record over the one of the same UUID, else into the least free place. One sector is written,
     /// and a sync is the caller's.
     pub fn put<S: Store>(&mut self, store: &mut S, row: Record) -> Result<(), Failed>
-        requires size { place_count ≤ size_of (S.site store.old) (listing (S.kept store.old)) mgt_name }
+        requires size { HasAllPlaces S.Store store.old }
         requires room { IsSome (place_for self.old row.uuid) }
         requires proper { IsRecord row }
-        ensures stays { Stays S.site S.kept S.failed store.old store.new }
-        ensures counts { S.faults store.old ≤ S.faults store.new }
-        ensures cause { OnErr result (Rose (S.faults store.old) (S.faults store.new)) }
-        ensures beside { S.told → Keeps (S.beside store.old) (S.beside store.new) }
-        ensures torn { S.told → Torn (unwrap_or (place_for self.old row.uuid) 0) (record_sector row)
-            (records_held (S.site store.old) (listing (S.kept store.old)) (S.area store.old))
-            (records_held (S.site store.old) (listing (S.kept store.old)) (S.area store.new)) }
-        ensures wrote { OnOk result (S.told → Wrote (unwrap_or (place_for self.old row.uuid) 0) (record_sector row)
-            (records_held (S.site store.old) (listing (S.kept store.old)) (S.area store.old))
-            (records_held (S.site store.old) (listing (S.kept store.old)) (S.area store.new))) }
-        ensures elsewhere { S.told → SameElsewhere (S.site store.old).geometry.extent
-            (extents_of (rows (listing (S.kept store.old)) mgt_name)) (S.area store.old) (S.area store.new) }
-        ensures kept { OnOk result (self.new ≡ slice_set self.old (unwrap_or (place_for self.old row.uuid) 0) (Some row)) }
+        ensures writes { Writes S.Store mgt_name (Torn (unwrap_or (place_for self.old row.uuid) 0) (record_sector row)) store.old store.new }
+        ensures wrote { OnOk result (Writes S.Store mgt_name (Wrote (unwrap_or (place_for self.old row.uuid) 0) (record_sector row)) store.old store.new) }
+        ensures cause { Counts S.Store result store.old store.new }
+        ensures places { OnOk result (self.new ≡ slice_set self.old (unwrap_or (place_for self.old row.uuid) 0) (Some row)) }
         ensures unchanged { OnErr result (self.new ≡ self.old) }
     {
         let Some(place) = place_of(&self.places, &row.uuid) else {
@@ -257,21 +235,12 @@ impl Mgt {
 
     /// Frees one place. One sector is written, and a sync is the caller's.
     pub fn wipe<S: Store>(&mut self, store: &mut S, place: u32) -> Result<(), Failed>
-        requires size { place_count ≤ size_of (S.site store.old) (listing (S.kept store.old)) mgt_name }
+        requires size { HasAllPlaces S.Store store.old }
         requires within { place < place_count }
-        ensures stays { Stays S.site S.kept S.failed store.old store.new }
-        ensures counts { S.faults store.old ≤ S.faults store.new }
-        ensures cause { OnErr result (Rose (S.faults store.old) (S.faults store.new)) }
-        ensures beside { S.told → Keeps (S.beside store.old) (S.beside store.new) }
-        ensures torn { S.told → Torn place zeros
-            (records_held (S.site store.old) (listing (S.kept store.old)) (S.area store.old))
-            (records_held (S.site store.old) (listing (S.kept store.old)) (S.area store.new)) }
-        ensures wrote { OnOk result (S.told → Wrote place zeros
-            (records_held (S.site store.old) (listing (S.kept store.old)) (S.area store.old))
-            (records_held (S.site store.old) (listing (S.kept store.old)) (S.area store.new))) }
-        ensures elsewhere { S.told → SameElsewhere (S.site store.old).geometry.extent
-            (extents_of (rows (listing (S.kept store.old)) mgt_name)) (S.area store.old) (S.area store.new) }
-        ensures kept { OnOk result (self.new ≡ slice_set self.old place None) }
+        ensures writes { Writes S.Store mgt_name (Torn place zeros) store.old store.new }
+        ensures wrote { OnOk result (Writes S.Store mgt_name (Wrote place zeros) store.old store.new) }
+        ensures cause { Counts S.Store result store.old store.new }
+        ensures places { OnOk result (self.new ≡ slice_set self.old place None) }
         ensures unchanged { OnErr result (self.new ≡ self.old) }
     {
         store.write(&Name::Mgt, place as u64, &zero_sector())?;
@@ -289,21 +258,12 @@ impl Mgt {
 
     /// Frees this place, where it has the record of this UUID.
     fn clear_at<S: Store>(&mut self, store: &mut S, place: u32, uuid: &Uuid) -> Result<(), Failed>
-        requires size { place_count ≤ size_of (S.site store.old) (listing (S.kept store.old)) mgt_name }
+        requires size { HasAllPlaces S.Store store.old }
         requires within { place < place_count }
-        ensures stays { Stays S.site S.kept S.failed store.old store.new }
-        ensures counts { S.faults store.old ≤ S.faults store.new }
-        ensures cause { OnErr result (Rose (S.faults store.old) (S.faults store.new)) }
-        ensures beside { S.told → Keeps (S.beside store.old) (S.beside store.new) }
-        ensures torn { S.told → TornZeros (λ p. (p ≡ place) × HasRecord self.old uuid.now place)
-            (records_held (S.site store.old) (listing (S.kept store.old)) (S.area store.old))
-            (records_held (S.site store.old) (listing (S.kept store.old)) (S.area store.new)) }
-        ensures wrote { OnOk result (S.told → WroteZeros (λ p. (p ≡ place) × HasRecord self.old uuid.now place)
-            (records_held (S.site store.old) (listing (S.kept store.old)) (S.area store.old))
-            (records_held (S.site store.old) (listing (S.kept store.old)) (S.area store.new))) }
-        ensures elsewhere { S.told → SameElsewhere (S.site store.old).geometry.extent
-            (extents_of (rows (listing (S.kept store.old)) mgt_name)) (S.area store.old) (S.area store.new) }
-        ensures kept { OnOk result (self.new ≡ slice_set self.old place (cleared uuid.now (slice_index_or self.old place None))) }
+        ensures writes { Writes S.Store mgt_name (TornZeros (λ p. (p ≡ place) × HasRecordAt self.old uuid.now place)) store.old store.new }
+        ensures wrote { OnOk result (Writes S.Store mgt_name (WroteZeros (λ p. (p ≡ place) × HasRecordAt self.old uuid.now place)) store.old store.new) }
+        ensures cause { Counts S.Store result store.old store.new }
+        ensures places { OnOk result (self.new ≡ slice_set self.old place (cleared uuid.now (slice_index_or self.old place None))) }
         ensures unchanged { OnErr result (self.new ≡ self.old) }
     {
         if !self.has(place, uuid) {
@@ -316,20 +276,11 @@ impl Mgt {
     /// Frees each place that has the record of this UUID, in order. Each is one sector that is written, and a sync
     /// is the caller's. Where it fails, the places of the first records may be free already.
     pub fn clear<S: Store>(&mut self, store: &mut S, uuid: &Uuid) -> Result<(), Failed>
-        requires size { place_count ≤ size_of (S.site store.old) (listing (S.kept store.old)) mgt_name }
-        ensures stays { Stays S.site S.kept S.failed store.old store.new }
-        ensures counts { S.faults store.old ≤ S.faults store.new }
-        ensures cause { OnErr result (Rose (S.faults store.old) (S.faults store.new)) }
-        ensures beside { S.told → Keeps (S.beside store.old) (S.beside store.new) }
-        ensures torn { S.told → TornZeros (HasRecord self.old uuid.now)
-            (records_held (S.site store.old) (listing (S.kept store.old)) (S.area store.old))
-            (records_held (S.site store.old) (listing (S.kept store.old)) (S.area store.new)) }
-        ensures wrote { OnOk result (S.told → WroteZeros (HasRecord self.old uuid.now)
-            (records_held (S.site store.old) (listing (S.kept store.old)) (S.area store.old))
-            (records_held (S.site store.old) (listing (S.kept store.old)) (S.area store.new))) }
-        ensures elsewhere { S.told → SameElsewhere (S.site store.old).geometry.extent
-            (extents_of (rows (listing (S.kept store.old)) mgt_name)) (S.area store.old) (S.area store.new) }
-        ensures kept { OnOk result (self.new ≡ map (cleared uuid.now) self.old) }
+        requires size { HasAllPlaces S.Store store.old }
+        ensures writes { Writes S.Store mgt_name (TornZeros (HasRecordAt self.old uuid.now)) store.old store.new }
+        ensures wrote { OnOk result (Writes S.Store mgt_name (WroteZeros (HasRecordAt self.old uuid.now)) store.old store.new) }
+        ensures cause { Counts S.Store result store.old store.new }
+        ensures places { OnOk result (self.new ≡ map (cleared uuid.now) self.old) }
         ensures front { OnErr result ((n : ℕ) × (self.new ≡ map (cleared uuid.now) (take n self.old) ++ drop n self.old)) }
     {
         for place in 0..self.places.len() {

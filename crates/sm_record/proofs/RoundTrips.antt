@@ -1,14 +1,15 @@
 -- The laws of the format.
-use Rattle.std.proofs.Common.{◌≡◌, ℕ, ◌+◌, ◌-◌, ◌<◌, ◌≤◌, Bool, true, false, cond, eqb, List, [], ◌∷◌, ◌++◌, length, get_or, take, drop, All, Option, Some, None, refl, sym, ap, ap₂, subst, ◌∙◌, arith, append_assoc, inl, inr}
+use Rattle.std.proofs.Common.{◌≡◌, ℕ, ◌+◌, ◌-◌, ◌<◌, ◌≤◌, Bool, true, false, cond, eqb, List, [], ◌∷◌, ◌++◌, length, get_or, take, drop, All, Option, Some, None, refl, sym, ap, ap₂, subst, ◌∙◌, arith, append_assoc}
 use Rattle.std.specs.Prelude.{sum, slice_index, IfSome}
 use Rattle.std.specs.Str.{bytes_eq}
 use Rattle.std.specs.Int.{w32, to_be_bytes, from_be_bytes}
-use Rattle.std.proofs.lemmas.Bool.{and_parts, eqb-true, eq-eqb, cases_lt}
+use Rattle.std.proofs.lemmas.Bool.{and_parts, eqb-true, eq-eqb}
 use Rattle.std.proofs.lemmas.Nat.{be_bytes_4, from_be_bytes-to_be_bytes_4}
-use Rattle.std.proofs.lemmas.List.{take-append-drop, take_at, drop_at, take_all, drop_more, get_or_at, get_or_past, length-take, length-drop, length-append, length-replicate, replicate-append-replicate}
+use Rattle.std.proofs.lemmas.List.{take-append-drop, take_at, drop_at, take_all, drop_more, get_or_at, length-take, length-drop, length-append, length-replicate, replicate-append-replicate}
 use Rattle.std.proofs.lemmas.List.Elements.{All-append, All-cons, All-replicate, All-take, All-drop, All-get_or, All-from_recursion}
 use Rattle.std.proofs.lemmas.Slice.Eq.{bytes_eq-Decides}
 use Rattle.uuid.specs.Parts.{is_nil_bytes}
+use Rattle.common_laws.proofs.Bytes.{byte_below}
 use Rattle.sm_base.specs.Labels.{is_label}
 use Rattle.sm_record.specs.declared.records.Record.{Record}
 use Rattle.sm_record.specs.declared.records.Reading.{Reading}
@@ -32,13 +33,6 @@ label_rest : (text : List ℕ) → length text ≤ 64 → label_bytes text ++ ze
 label_rest text le =
     let e : (64 - length text) + 402 ≡ 466 - length text = omega arith in
     append_assoc text (zeros (64 - length text)) (zeros 402) ∙ ap (λ (x : List ℕ). text ++ x) (replicate-append-replicate (64 - length text) 402 0 ∙ ap zeros e)
-
-byte_below : (bytes : List ℕ) → All (λ b. b < 256) bytes → (i : ℕ) → get_or bytes i 0 < 256
-byte_below bytes h i =
-    elim (cases_lt i (length bytes)) [
-      | inl lt ↦ All-get_or (λ b. b < 256) bytes i 0 lt h
-      | inr le ↦ rw (get_or_past bytes i 0 le) (omega arith)
-    ]
 
 -- the sum that stands at the end is the bytes that are written for it
 sum_bytes : (s : List ℕ) → IsSector s → from_be_bytes w32 (at 508 4 s) ≡ sum (take 508 s) → drop 508 s ≡ to_be_bytes w32 (sum (take 508 s))

@@ -1,7 +1,6 @@
 -- What images of the area make of a content while new volumes are removed and stray records are wiped.
-use Rattle.std.proofs.Common.{◌≡◌, ℕ, ◌*◌, ◌<◌, ◌≤◌, ◌⊎◌, inl, inr, ⊎_elim, cond, List, [], Option, Some, None, refl, sym, ap, ◌∙◌, subst, arith}
+use Rattle.std.proofs.Common.{◌≡◌, ℕ, ◌*◌, ◌<◌, ◌≤◌, ◌⊎◌, inl, inr, ⊎_elim, List, Option, Some, None, refl, sym, ap, ◌∙◌, subst, arith}
 use Rattle.std.specs.List.{slice_get}
-use Rattle.std.proofs.lemmas.Bool.{lt-ltb}
 use Rattle.sm_base.specs.declared.names.Name.{Name}
 use Rattle.sm_base.specs.declared.names.Name.TheVariants.{Mgt, Raw}
 use Rattle.sm_base.proofs.NumberLemmas.{le-div_up}
@@ -9,11 +8,12 @@ use Rattle.sm_disk.specs.Held.{Held, reads, May, Keeps, IsSettled}
 use Rattle.sm_disk.specs.Sectors.{zeros}
 use Rattle.sm_disk.proofs.HeldLaws.{may_settled, may-at}
 use Rattle.vg_layout.specs.Places.{record_extents}
-use Rattle.vg_meta.specs.Tables.{Listing, Row, IsTable, rows, extents_of}
+use Rattle.vg_meta.specs.Tables.{VolumeTable, Row, IsTable, rows, extents_of}
 use Rattle.vg_meta.proofs.ByName.{spread}
 use Rattle.vg_volumes.specs.Commits.{IsBefore, IsAfter}
 use Rattle.vg_volumes.specs.Sites.{Site, area_size, size_of}
-use Rattle.vg_volumes.specs.Volumes.{spot, span, volume, piece, IsElsewhere, SameElsewhere}
+use Rattle.vg_volumes.specs.Volumes.{spot, span, piece, IsElsewhere, SameElsewhere}
+use Rattle.vg_volumes.proofs.VolumeLaws.{volume_reads, volume_may, may_volume}
 use Rattle.sm_record.specs.declared.records.Record.{Record}
 use Rattle.sm_record.specs.declared.records.Reading.TheVariants.{Free}
 use Rattle.sm_record.specs.Records.{reading}
@@ -26,11 +26,11 @@ use Rattle.sm_recover.specs.Pruned.{IsWithoutNew, IsGone, IsStray, IsPruned}
 use Rattle.sm_recover.specs.Repairs.{IsChecked, IsStrayAt, IsZeroedAt}
 
 -- the extents of the volume of records
-abbrev pub record_places : Listing → List ℕ
+abbrev pub record_places : VolumeTable → List ℕ
 record_places t = extents_of (rows t Mgt)
 
 -- an image of the area in which records of no disk may be zeros, and all else is what was read
-pub record IsWiped (s : Site) (t : Listing) (area : Held) (image : ℕ → List ℕ) : Type 0 where
+pub record IsWiped (s : Site) (t : VolumeTable) (area : Held) (image : ℕ → List ℕ) : Type 0 where
   pub elsewhere : (p : ℕ) → p < area_size s → IsElsewhere s.geometry.extent (record_places t) p → image p ≡ reads area p
   pub places : (k : ℕ) → k < record_count → (piece s.geometry.extent (record_places t) image k ≡ piece s.geometry.extent (record_places t) (reads area) k)
       ⊎ ((piece s.geometry.extent (record_places t) image k ≡ zeros) × IsStray (content_now s t area) k)
@@ -39,7 +39,7 @@ positive : (s : Site) → 0 < s.geometry.extent
 positive s = omega (arith, s.geometry.in_range.extent_least)
 
 -- the volume of records has all its sectors
-pub records_fit : {s : Site} {t : Listing} → IsChecked s t → record_count ≤ size_of s t Mgt
+pub records_fit : {s : Site} {t : VolumeTable} → IsChecked s t → record_count ≤ size_of s t Mgt
 unfolding record_extents
 records_fit {s} {t} c =
     subst (λ n. 512 ≤ n * s.geometry.extent) (sym c.record_volume) (fits s.geometry.extent (positive s))
@@ -53,11 +53,11 @@ reading-zeros = reading_zeros 512
 
 -- ---- pruned
 
-pub was_there : (old new : Listing) (n : Name) (r : Row) → rows new n ≡ Some r → (rows new n ≡ rows old n) ⊎ IsGone old new n → rows old n ≡ Some r
+pub was_there : (old new : VolumeTable) (n : Name) (r : Row) → rows new n ≡ Some r → (rows new n ≡ rows old n) ⊎ IsGone old new n → rows old n ≡ Some r
 was_there old new n r there (inl same) = sym same ∙ there
 was_there old new n r there (inr (none, w)) = absurd (let e : None ≡ Some r = sym none ∙ there in cc)
 
-raw_same : (s : Site) (t : Listing) (area : Held) (image : ℕ → List ℕ) (u : List ℕ) (es : List ℕ) → IsTable s.count t → IsWiped s t area image → extents_of (rows t (Raw u)) ≡ es
+raw_same : (s : Site) (t : VolumeTable) (area : Held) (image : ℕ → List ℕ) (u : List ℕ) (es : List ℕ) → IsTable s.count t → IsWiped s t area image → extents_of (rows t (Raw u)) ≡ es
     → (p : ℕ) → p < span s.geometry.extent es → piece s.geometry.extent es image p ≡ piece s.geometry.extent es (reads area) p
 unfolding piece
 raw_same s t area image u es table w is p =
@@ -66,7 +66,7 @@ raw_same s t area image u es table w is p =
     (spot_below s.count s.geometry.extent (rows t) (Raw u) p (spread s.count t table) (positive s) below)
     (elsewhere s.count s.geometry.extent (rows t) Mgt (Raw u) p (spread s.count t table) (positive s) (λ e. (let k = e in cc)) below))
 
-place_read : (s : Site) (old new : Listing) (area : Held) (image : ℕ → List ℕ) (k : ℕ) → rows new Mgt ≡ rows old Mgt
+place_read : (s : Site) (old new : VolumeTable) (area : Held) (image : ℕ → List ℕ) (k : ℕ) → rows new Mgt ≡ rows old Mgt
     → (piece s.geometry.extent (record_places old) image k ≡ piece s.geometry.extent (record_places old) (reads area) k)
     ⊎ ((piece s.geometry.extent (record_places old) image k ≡ zeros) × IsStray (content_now s old area) k)
     → (reading_at (content_in s new image) k ≡ reading_at (content_now s old area) k)
@@ -77,7 +77,7 @@ place_read s old new area image k stays (inl same) =
 place_read s old new area image k stays (inr w) =
     inr (ap (λ o. reading (piece s.geometry.extent (extents_of o) image k)) stays ∙ ap reading w.0 ∙ reading-zeros, w.1)
 
-pub pruned : {s : Site} {old new : Listing} {area : Held} {image : ℕ → List ℕ} → IsTable s.count old → IsWithoutNew old new → IsWiped s old area image
+pub pruned : {s : Site} {old new : VolumeTable} {area : Held} {image : ℕ → List ℕ} → IsTable s.count old → IsWithoutNew old new → IsWiped s old area image
     → IsPruned (content_now s old area) (content_in s new image)
 pruned {s} {old} {new} {area} {image} table left w = record {
   extent = refl;
@@ -92,7 +92,7 @@ pruned {s} {old} {new} {area} {image} table left w = record {
 -- ---- images while new volumes are removed
 
 -- what reads as before
-pub wiped_same : {s : Site} {t : Listing} {image : ℕ → List ℕ} (area : Held) → IsChecked s t → ((p : ℕ) → p < area_size s → image p ≡ reads area p) → IsWiped s t area image
+pub wiped_same : {s : Site} {t : VolumeTable} {image : ℕ → List ℕ} (area : Held) → IsChecked s t → ((p : ℕ) → p < area_size s → image p ≡ reads area p) → IsWiped s t area image
 unfolding piece
 wiped_same {s} {t} {image} area c same = record {
   elsewhere = λ p below away. same p below;
@@ -103,7 +103,7 @@ wiped_same {s} {t} {image} area c same = record {
     piece_same k below = same (spot s.geometry.extent (record_places t) k) (spot_below s.count s.geometry.extent (rows t) Mgt k (spread s.count t c.table) (positive s) below)
 
 -- a stop between two commits
-pub pruned_between : {s now : Site} {old mid left : Listing} {before area : Held} {image : ℕ → List ℕ} → IsChecked s old → now ≡ s → IsWithoutNew old mid → Keeps before area → IsSettled area
+pub pruned_between : {s now : Site} {old mid left : VolumeTable} {before area : Held} {image : ℕ → List ℕ} → IsChecked s old → now ≡ s → IsWithoutNew old mid → Keeps before area → IsSettled area
     → IsBefore (area_size now) mid area left image → IsPruned (content_now s old before) (content_in s left image)
 pruned_between {s} {now} {old} {mid} {left} {before} {area} {image} c site w keeps settled b =
     subst (λ t. IsPruned (content_now s old before) (content_in s t image)) (sym b.table_is)
@@ -111,14 +111,14 @@ pruned_between {s} {now} {old} {mid} {left} {before} {area} {image} c site w kee
     may_settled area p (image p) (settled p) (b.sectors p (subst (λ z. p < area_size z) (sym site) below)) ∙ keeps.reads p)))
 
 -- a stop after a commit that may have failed
-pub pruned_after : {s now : Site} {old next left : Listing} {before area : Held} {image : ℕ → List ℕ} → IsChecked s old → now ≡ s → IsWithoutNew old next → Keeps before area
+pub pruned_after : {s now : Site} {old next left : VolumeTable} {before area : Held} {image : ℕ → List ℕ} → IsChecked s old → now ≡ s → IsWithoutNew old next → Keeps before area
     → IsAfter (area_size now) next area left image → IsPruned (content_now s old before) (content_in s left image)
 pruned_after {s} {now} {old} {next} {left} {before} {area} {image} c site w keeps a =
     subst (λ t. IsPruned (content_now s old before) (content_in s t image)) (sym a.table_is)
     (pruned c.table w (wiped_same before c (λ p below. a.sectors p (subst (λ z. p < area_size z) (sym site) below) ∙ keeps.reads p)))
 
 -- what is read afterwards
-pub pruned_now : {s now : Site} {old new : Listing} {before area : Held} → IsChecked s old → now ≡ s → IsWithoutNew old new → Keeps before area
+pub pruned_now : {s now : Site} {old new : VolumeTable} {before area : Held} → IsChecked s old → now ≡ s → IsWithoutNew old new → Keeps before area
     → IsPruned (content_now s old before) (content_now now new area)
 pruned_now {s} {now} {old} {new} {before} {area} c site w keeps =
     subst (λ z. IsPruned (content_now s old before) (content_now z new area)) (sym site)
@@ -126,34 +126,19 @@ pruned_now {s} {now} {old} {new} {before} {area} c site w keeps =
 
 -- ---- images while records are wiped
 
-volume_may : (extent : ℕ) (es : List ℕ) (area : Held) (p : ℕ) (v : List ℕ) → p < span extent es → May area (spot extent es p) v → May (volume extent es area) p v
-unfolding volume
-volume_may extent es area p v below may =
-    subst (λ b. May (record { floor = λ q. cond b (area.floor (spot extent es p)) []; pending = λ q. cond b (area.pending (spot extent es p)) [] }) p v) (sym (lt-ltb p (span extent es) below)) may
-
-area_may : (extent : ℕ) (es : List ℕ) (area : Held) (p : ℕ) (v : List ℕ) → p < span extent es → May (volume extent es area) p v → May area (spot extent es p) v
-unfolding volume
-area_may extent es area p v below may =
-    subst (λ b. May (record { floor = λ q. cond b (area.floor (spot extent es p)) []; pending = λ q. cond b (area.pending (spot extent es p)) [] }) p v) (lt-ltb p (span extent es) below) may
-
-pub volume_reads : (extent : ℕ) (es : List ℕ) (area : Held) (p : ℕ) → p < span extent es → reads (volume extent es area) p ≡ piece extent es (reads area) p
-unfolding volume piece
-volume_reads extent es area p below =
-    ap (λ b. reads (record { floor = λ q. cond b (area.floor (spot extent es p)) []; pending = λ q. cond b (area.pending (spot extent es p)) [] }) p) (lt-ltb p (span extent es) below)
-
 -- where memory agrees with the store, a reading is that of the place in memory
-pub reading_is : {s : Site} {t : Listing} {places : List (Option Record)} (area : Held) → IsChecked s t → Agrees (records_held s t area) places
+pub reading_is : {s : Site} {t : VolumeTable} {places : List (Option Record)} (area : Held) → IsChecked s t → Agrees (records_held s t area) places
     → (k : ℕ) (o : Option Record) → k < record_count → slice_get places k ≡ Some o → reading_at (content_now s t area) k ≡ as_reading o
-unfolding sectors_of
+unfolding sectors_of piece
 reading_is {s} {t} {places} area c agrees k o below at =
     ap reading (sym (volume_reads s.geometry.extent (record_places t) area k (omega (arith, below, records_fit c)))) ∙ agrees.each k o at
 
-stray_is : {s : Site} {t : Listing} {places : List (Option Record)} (area : Held) → IsChecked s t → Agrees (records_held s t area) places
+stray_is : {s : Site} {t : VolumeTable} {places : List (Option Record)} (area : Held) → IsChecked s t → Agrees (records_held s t area) places
     → (k : ℕ) → k < record_count → IsStrayAt t places k → IsStray (content_now s t area) k
 stray_is area c agrees k below (r, at, stray) = (r, reading_is area c agrees k (Some r) below at, stray)
 
 -- what a stop may leave while records are wiped
-pub wiped_by : {s : Site} {t : Listing} {old new : Held} {places : List (Option Record)} {image : ℕ → List ℕ} → IsChecked s t → IsSettled old → Agrees (records_held s t old) places
+pub wiped_by : {s : Site} {t : VolumeTable} {old new : Held} {places : List (Option Record)} {image : ℕ → List ℕ} → IsChecked s t → IsSettled old → Agrees (records_held s t old) places
     → SameElsewhere s.geometry.extent (record_places t) old new → IsZeroedAt (IsStrayAt t places) (records_held s t old) (records_held s t new)
     → ((p : ℕ) → p < area_size s → May new p (image p)) → IsWiped s t old image
 unfolding piece
@@ -169,7 +154,7 @@ wiped_by {s} {t} {old} {new} {places} {image} c settled agrees other zeroed may 
     at k below within =
         let place = spot s.geometry.extent (record_places t) k in
         ⊎_elim
-        (λ was. inl (may_settled old place (image place) (settled place) (area_may s.geometry.extent (record_places t) old k (image place) within was)))
+        (λ was. inl (may_settled old place (image place) (settled place) (may_volume s.geometry.extent (record_places t) old k (image place) within was)))
         (λ w. inr (w.0, stray_is old c agrees k below w.1))
         (zeroed k (image place) (volume_may s.geometry.extent (record_places t) new k (image place) within
         (may place (spot_below s.count s.geometry.extent (rows t) Mgt k (spread s.count t c.table) (positive s) within))))

@@ -9,47 +9,48 @@ use Rattle.sm_base.specs.declared.names.Name.{Name}
 use Rattle.sm_base.specs.declared.names.Name.TheVariants.{Mgt, Vhd, Raw, Old, Clone, Inflate, Coalesce, Relink, Leaf}
 use Rattle.sm_base.specs.declared.sizes.Geometry.{Geometry}
 use Rattle.vg_layout.specs.Places.{record_extents}
-use Rattle.vg_meta.specs.Tables.{Listing, Row, rows, is_image as is_data, is_journal}
-use Rattle.vg_meta.specs.Kept.{Kept, HeldRow, listing, rows_alone}
-use Rattle.sm_machine.specs.Lists.{In, given, first_some}
+use Rattle.vg_meta.specs.Tables.{VolumeTable, Row, rows}
+use Rattle.sm_base.specs.Kinds.{is_image as is_data, is_entry}
+use Rattle.vg_meta.specs.Roomy.{RoomyTable, RoomyRow, table_alone, rows_alone}
+use Rattle.common_laws.specs.Lists.{In, given, first_some}
 use Rattle.sm_machine.specs.Shapes.{image_limit}
 use Rattle.sm_standing.specs.Contents.{Content}
 use Rattle.sm_standing.specs.Plain.{is_plain, is_plain_name, IsPlain}
 use Rattle.sm_standing.specs.Checks.{first_name, name_in, placed, has_records, record_volume_fault, images, too_many_fault, is_misnamed, misnamed_fault, is_ahead, is_image_ahead, entry_ahead_fault, image_ahead_fault, is_invalid, is_image_wrong, is_oversize, invalid_fault}
 use Rattle.sm_standing.proofs.PlainDisks.{all-In}
-use Rattle.sm_standing.proofs.Finding.{none_find}
+use Rattle.common_laws.proofs.Lists.{none_find}
 use Rattle.sm_recover.specs.Faults.{HasTable, is_raw, is_sized_wrong}
 use Rattle.sm_recover.proofs.PrunedLaws.{all-each}
 
 -- ---- the first of the volumes in memory
 
-abbrev held_name : Option HeldRow → Option Name
+abbrev held_name : Option RoomyRow → Option Name
 held_name None = None
 held_name (Some h) = Some h.row.name
 
-name_step : (b : Bool) (h : HeldRow) (o : Option Row) (q : Option HeldRow) → name_in o ≡ held_name q → name_in (cond b (Some h.row) o) ≡ held_name (cond b (Some h) q)
+name_step : (b : Bool) (h : RoomyRow) (o : Option Row) (q : Option RoomyRow) → name_in o ≡ held_name q → name_in (cond b (Some h.row) o) ≡ held_name (cond b (Some h) q)
 name_step true h o q is = refl
 name_step false h o q is = is
 
-held_first : (test : Row → Bool) (hs : List HeldRow) → first_name test (rows_alone hs) ≡ held_name (find (λ h. test h.row) hs)
+held_first : (test : Row → Bool) (hs : List RoomyRow) → first_name test (rows_alone hs) ≡ held_name (find (λ h. test h.row) hs)
 unfolding first_name
 held_first test [] = refl
 held_first test (h ∷ hs) = name_step (test h.row) h (find test (rows_alone hs)) (find (λ h. test h.row) hs) (held_first test hs)
 
-held_at : (test : Row → Bool) (hs : List HeldRow) (o : Option HeldRow) → o ≡ find (λ h. test h.row) hs → first_name test (rows_alone hs) ≡ held_name o
+held_at : (test : Row → Bool) (hs : List RoomyRow) (o : Option RoomyRow) → o ≡ find (λ h. test h.row) hs → first_name test (rows_alone hs) ≡ held_name o
 held_at test hs o is = held_first test hs ∙ ap held_name (sym is)
 
-pub entry_at : (c : Content) (k : Kept) (o : Option HeldRow) → c.table ≡ listing k → o ≡ find (λ h. is_journal h.row.name) k.rows → entry_ahead_fault c ≡ placed at.Journal (held_name o)
+pub entry_at : (c : Content) (k : RoomyTable) (o : Option RoomyRow) → c.table ≡ table_alone k → o ≡ find (λ h. is_entry h.row.name) k.rows → entry_ahead_fault c ≡ placed at.Journal (held_name o)
 unfolding entry_ahead_fault
-entry_at c k o is found = ap (λ t. placed at.Journal (first_name (λ r. is_journal r.name) t.volumes)) is ∙ ap (placed at.Journal) (held_at (λ r. is_journal r.name) k.rows o found)
+entry_at c k o is found = ap (λ t. placed at.Journal (first_name (λ r. is_entry r.name) t.volumes)) is ∙ ap (placed at.Journal) (held_at (λ r. is_entry r.name) k.rows o found)
 
-pub ahead_at : (c : Content) (k : Kept) (o : Option HeldRow) → c.table ≡ listing k → o ≡ find (λ h. is_image_ahead h.row) k.rows → image_ahead_fault c ≡ placed at.Image (held_name o)
+pub ahead_at : (c : Content) (k : RoomyTable) (o : Option RoomyRow) → c.table ≡ table_alone k → o ≡ find (λ h. is_image_ahead h.row) k.rows → image_ahead_fault c ≡ placed at.Image (held_name o)
 unfolding image_ahead_fault
 ahead_at c k o is found = ap (λ t. placed at.Image (first_name is_image_ahead t.volumes)) is ∙ ap (placed at.Image) (held_at is_image_ahead k.rows o found)
 
-pub misnamed_at : (c : Content) (k : Kept) (o : Option HeldRow) → c.table ≡ listing k → o ≡ find (λ h. is_misnamed (listing k) h.row) k.rows → misnamed_fault c ≡ placed at.Image (held_name o)
+pub misnamed_at : (c : Content) (k : RoomyTable) (o : Option RoomyRow) → c.table ≡ table_alone k → o ≡ find (λ h. is_misnamed (table_alone k) h.row) k.rows → misnamed_fault c ≡ placed at.Image (held_name o)
 unfolding misnamed_fault
-misnamed_at c k o is found = ap (λ t. placed at.Image (first_name (is_misnamed t) t.volumes)) is ∙ ap (placed at.Image) (held_at (is_misnamed (listing k)) k.rows o found)
+misnamed_at c k o is found = ap (λ t. placed at.Image (first_name (is_misnamed t) t.volumes)) is ∙ ap (placed at.Image) (held_at (is_misnamed (table_alone k)) k.rows o found)
 
 -- ---- sizes
 
@@ -74,32 +75,32 @@ wrong_at c r hidden fresh (Coalesce a p) h = absurd (let e = h in cc)
 wrong_at c r hidden fresh (Relink a p) h = absurd (let e = h in cc)
 wrong_at c r hidden fresh (Leaf l p) h = absurd (let e = h in cc)
 
-sized_as : (c : Content) (g : Geometry) (t : Listing) (r : Row) → HasTable g t c → is_plain r ≡ true → is_invalid c r ≡ is_sized_wrong g r
+sized_as : (c : Content) (g : Geometry) (t : VolumeTable) (r : Row) → HasTable g t c → is_plain r ≡ true → is_invalid c r ≡ is_sized_wrong g r
 sized_as c g t r is plain =
     wrong_at c r r.hidden r.fresh r.name plain
     ∙ ap (λ x. is_raw r.name && (not r.fresh && is_oversize x c.block c.entries r)) is.extent
     ∙ ap (λ x. is_raw r.name && (not r.fresh && is_oversize g.extent x c.entries r)) is.block
     ∙ ap (λ x. is_raw r.name && (not r.fresh && is_oversize g.extent g.block x r)) is.entries
 
-pub sized_at : (c : Content) (g : Geometry) (k : Kept) (o : Option HeldRow) → HasTable g (listing k) c → IsPlain (listing k) → o ≡ find (λ h. is_sized_wrong g h.row) k.rows
+pub sized_at : (c : Content) (g : Geometry) (k : RoomyTable) (o : Option RoomyRow) → HasTable g (table_alone k) c → IsPlain (table_alone k) → o ≡ find (λ h. is_sized_wrong g h.row) k.rows
     → invalid_fault c ≡ placed at.Image (held_name o)
 unfolding invalid_fault first_name
 sized_at c g k o is plain found =
     ap (λ t. placed at.Image (name_in (find (is_invalid c) t.volumes))) is.table
     ∙ ap (λ q. placed at.Image (name_in q)) (find_same (is_invalid c) (is_sized_wrong g) (rows_alone k.rows)
-    (λ r h. sized_as c g (listing k) r is (all-In (λ r. is_plain r ≡ true) (rows_alone k.rows) r plain h)))
+    (λ r h. sized_as c g (table_alone k) r is (all-In (λ r. is_plain r ≡ true) (rows_alone k.rows) r plain h)))
     ∙ ap (placed at.Image) (held_at (is_sized_wrong g) k.rows o found)
 
 -- ---- the volume of records, and how many images there are
 
-pub record_volume_right : (c : Content) (g : Geometry) (t : Listing) (r : Row) → HasTable g t c → rows t Mgt ≡ Some r → length r.extents ≡ record_extents g.extent → record_volume_fault c ≡ None
+pub record_volume_right : (c : Content) (g : Geometry) (t : VolumeTable) (r : Row) → HasTable g t c → rows t Mgt ≡ Some r → length r.extents ≡ record_extents g.extent → record_volume_fault c ≡ None
 unfolding record_volume_fault
 record_volume_right c g t r is there long =
     ap (λ u. given (not (has_records c (rows u Mgt))) at.Mgt) is.table
     ∙ ap (λ o. given (not (has_records c o)) at.Mgt) there
     ∙ ap (λ b. given (not b) at.Mgt) (eq-eqb (length r.extents) (record_extents c.extent) (long ∙ ap record_extents (sym is.extent)))
 
-pub record_volume_none : (c : Content) (g : Geometry) (t : Listing) → HasTable g t c → rows t Mgt ≡ None → record_volume_fault c ≡ Some at.Mgt
+pub record_volume_none : (c : Content) (g : Geometry) (t : VolumeTable) → HasTable g t c → rows t Mgt ≡ None → record_volume_fault c ≡ Some at.Mgt
 unfolding record_volume_fault
 record_volume_none c g t is none = ap (λ u. given (not (has_records c (rows u Mgt))) at.Mgt) is.table ∙ ap (λ o. given (not (has_records c o)) at.Mgt) none
 
@@ -107,7 +108,7 @@ differs : (a b : ℕ) → (a ≡ b → ⊥) → (v : Bool) → (a == b) ≡ v �
 differs a b other false is = refl
 differs a b other true is = absurd (other (let h = is in grind (arith, nat_tests)))
 
-pub record_volume_wrong : (c : Content) (g : Geometry) (t : Listing) (r : Row) → HasTable g t c → rows t Mgt ≡ Some r → (length r.extents ≡ record_extents g.extent → ⊥)
+pub record_volume_wrong : (c : Content) (g : Geometry) (t : VolumeTable) (r : Row) → HasTable g t c → rows t Mgt ≡ Some r → (length r.extents ≡ record_extents g.extent → ⊥)
     → record_volume_fault c ≡ Some at.Mgt
 unfolding record_volume_fault
 record_volume_wrong c g t r is there other =
@@ -115,22 +116,22 @@ record_volume_wrong c g t r is there other =
     ∙ ap (λ o. given (not (has_records c o)) at.Mgt) there
     ∙ ap (λ b. given (not b) at.Mgt) (differs (length r.extents) (record_extents c.extent) (λ e. other (e ∙ ap record_extents is.extent)) (length r.extents == record_extents c.extent) refl)
 
-count_step : (b : Bool) (h : HeldRow) (rs : List Row) (hs : List HeldRow) → length rs ≡ length hs → length (cond b (h.row ∷ rs) rs) ≡ length (cond b (h ∷ hs) hs)
+count_step : (b : Bool) (h : RoomyRow) (rs : List Row) (hs : List RoomyRow) → length rs ≡ length hs → length (cond b (h.row ∷ rs) rs) ≡ length (cond b (h ∷ hs) hs)
 count_step true h rs hs same = omega (arith, same)
 count_step false h rs hs same = same
 
-images_counted : (hs : List HeldRow) → length (filter (λ r. is_data r.name) (rows_alone hs)) ≡ length (filter (λ h. is_data h.row.name) hs)
+images_counted : (hs : List RoomyRow) → length (filter (λ r. is_data r.name) (rows_alone hs)) ≡ length (filter (λ h. is_data h.row.name) hs)
 images_counted [] = refl
 images_counted (h ∷ hs) = count_step (is_data h.row.name) h (filter (λ r. is_data r.name) (rows_alone hs)) (filter (λ h. is_data h.row.name) hs) (images_counted hs)
 
-pub too_many : (c : Content) (k : Kept) (n : ℕ) → c.table ≡ listing k → n ≡ length (filter (λ h. is_data h.row.name) k.rows) → 500 < n → too_many_fault c ≡ Some at.Images
+pub too_many : (c : Content) (k : RoomyTable) (n : ℕ) → c.table ≡ table_alone k → n ≡ length (filter (λ h. is_data h.row.name) k.rows) → 500 < n → too_many_fault c ≡ Some at.Images
 unfolding too_many_fault
 too_many c k n is count over =
     ap (λ t. given (nat_lt image_limit (length (images t))) at.Images) is
     ∙ ap (λ m. given (nat_lt image_limit m) at.Images) (images_counted k.rows ∙ sym count)
     ∙ ap (λ b. given b at.Images) (lt-ltb 500 n over)
 
-pub not_too_many : (c : Content) (k : Kept) (n : ℕ) → c.table ≡ listing k → n ≡ length (filter (λ h. is_data h.row.name) k.rows) → n ≤ 500 → too_many_fault c ≡ None
+pub not_too_many : (c : Content) (k : RoomyTable) (n : ℕ) → c.table ≡ table_alone k → n ≡ length (filter (λ h. is_data h.row.name) k.rows) → n ≤ 500 → too_many_fault c ≡ None
 unfolding too_many_fault
 not_too_many c k n is count within =
     ap (λ t. given (nat_lt image_limit (length (images t))) at.Images) is
@@ -147,7 +148,7 @@ named_none : (place : Name → Place) (test : Row → Bool) (rs : List Row) → 
 unfolding first_name
 named_none place test rs h = none_find test rs (named_step place (find test rs) h)
 
-plain_at : (hidden : Bool) (n : Name) → is_journal n ≡ false → is_ahead hidden n ≡ false → is_plain_name hidden n ≡ true
+plain_at : (hidden : Bool) (n : Name) → is_entry n ≡ false → is_ahead hidden n ≡ false → is_plain_name hidden n ≡ true
 plain_at hidden Mgt j h = refl
 plain_at hidden (Raw u) j h = ap not h
 plain_at hidden (Vhd u) j h = absurd (let e = h in cc)
@@ -162,7 +163,7 @@ plain_at hidden (Leaf l p) j h = absurd (let e = j in cc)
 pub plain_from : (c : Content) → entry_ahead_fault c ≡ None → image_ahead_fault c ≡ None → IsPlain c.table
 unfolding entry_ahead_fault image_ahead_fault
 plain_from c no_entry none_ahead = all-each (λ r. is_plain r ≡ true) c.table.volumes (λ r k.
-    plain_at r.hidden r.name (named_none at.Journal (λ r. is_journal r.name) c.table.volumes no_entry r k) (named_none at.Image is_image_ahead c.table.volumes none_ahead r k))
+    plain_at r.hidden r.name (named_none at.Journal (λ r. is_entry r.name) c.table.volumes no_entry r k) (named_none at.Image is_image_ahead c.table.volumes none_ahead r k))
 
 only : (g : Option Place) → first_some (g ∷ []) ≡ g
 only None = refl

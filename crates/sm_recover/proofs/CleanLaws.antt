@@ -2,13 +2,13 @@
 use Rattle.std.proofs.Common.{◌≡◌, ℕ, suc, ◌+◌, ◌≤◌, min, inl, inr, Bool, true, false, cond, not, List, [], ◌∷◌, length, Option, Some, refl, sym, ap, ap₂, ◌∙◌, arith}
 use Rattle.std.specs.List.{filter}
 use Rattle.sm_base.specs.declared.names.Name.{Name}
-use Rattle.vg_meta.specs.Tables.{Listing, Row, IsTable, row_of, name_eq}
+use Rattle.vg_meta.specs.Tables.{VolumeTable, Row, IsTable, row_of, name_eq}
 use Rattle.vg_meta.specs.declared.changes.Change.TheVariants.{Remove}
 use Rattle.vg_meta.specs.Changes.{applied, without, raised}
-use Rattle.sm_machine.specs.Lists.{In}
+use Rattle.common_laws.specs.Lists.{In}
 use Rattle.sm_machine.specs.Shapes.{risen, last_sequence}
-use Rattle.sm_recover.specs.Cleaned.{cleaned, filled, new_count}
-use Rattle.sm_recover.specs.Repairs.{IsNew}
+use Rattle.sm_recover.specs.Cleaned.{cleaned, filled, new_count, HasFewRemovals}
+use Rattle.sm_recover.specs.Repairs.{IsNewVolume}
 
 -- ---- one new volume less
 
@@ -49,16 +49,16 @@ min_twice q k last = omega arith
 pub risen_once : (q k : ℕ) → risen (raised q) k ≡ risen q (suc k)
 risen_once q k = min_twice q k last_sequence
 
-pub cleaned_one : (t : Listing) (n : Name) → IsNew t n → cleaned (applied t (Remove n)) ≡ cleaned t
+pub cleaned_one : (t : VolumeTable) (n : Name) → IsNewVolume t n → cleaned (applied t (Remove n)) ≡ cleaned t
 unfolding cleaned
 cleaned_one t n new =
     let count = count_without n t.volumes new.0 new.1 new.2 in
     let same = filled_without n t.volumes new.0 new.1 new.2 in
-    ap₂ (λ q v. let x : Listing = record { sequence = q; volumes = v } in x)
+    ap₂ (λ q v. let x : VolumeTable = record { sequence = q; volumes = v } in x)
     (risen_once t.sequence (new_count (without n t.volumes)) ∙ ap (risen t.sequence) (sym count)) same
 
 -- one commit more
-pub cleaned_more : (a t u : Listing) (n : Name) → cleaned t ≡ cleaned a → IsNew t n → u ≡ applied t (Remove n) → cleaned u ≡ cleaned a
+pub cleaned_more : (a t u : VolumeTable) (n : Name) → cleaned t ≡ cleaned a → IsNewVolume t n → u ≡ applied t (Remove n) → cleaned u ≡ cleaned a
 cleaned_more a t u n so new is = ap cleaned is ∙ cleaned_one t n new ∙ so
 
 -- ---- none of them left
@@ -76,12 +76,23 @@ count_none (r ∷ rs) old =
 min_same : (q last : ℕ) → q ≤ last → min (q + 0) last ≡ q
 min_same q last h = omega (arith, h)
 
-pub cleaned_same : (count : ℕ) (t : Listing) → IsTable count t → ((r : Row) → In r t.volumes → r.fresh ≡ false) → cleaned t ≡ t
+pub cleaned_same : (count : ℕ) (t : VolumeTable) → IsTable count t → ((r : Row) → In r t.volumes → r.fresh ≡ false) → cleaned t ≡ t
 unfolding cleaned
 cleaned_same count t table old =
-    ap₂ (λ q v. let x : Listing = record { sequence = q; volumes = v } in x)
+    ap₂ (λ q v. let x : VolumeTable = record { sequence = q; volumes = v } in x)
     (ap (risen t.sequence) (count_none t.volumes old) ∙ min_same t.sequence last_sequence (omega (arith, table.sequence))) (filled_all t.volumes old)
 
 -- where none is new any more, the table is the one from before without its new volumes
-pub cleaned_all : (count : ℕ) (a t : Listing) → IsTable count t → ((r : Row) → In r t.volumes → r.fresh ≡ false) → cleaned t ≡ cleaned a → t ≡ cleaned a
+pub cleaned_all : (count : ℕ) (a t : VolumeTable) → IsTable count t → ((r : Row) → In r t.volumes → r.fresh ≡ false) → cleaned t ≡ cleaned a → t ≡ cleaned a
 cleaned_all count a t table old so = sym (cleaned_same count t table old) ∙ so
+
+-- ---- how many commits that is
+
+pub few_removals : {count : ℕ} (a t : VolumeTable) → IsTable count t → cleaned t ≡ cleaned a → HasFewRemovals a t
+unfolding cleaned
+few_removals {count} a t table so =
+    let same : risen t.sequence (new_count t.volumes) ≡ risen a.sequence (new_count a.volumes) = ap (λ (x : VolumeTable). x.sequence) so in
+    omega (arith, same, table.sequence)
+
+pub few_same : {a t : VolumeTable} → t ≡ a → HasFewRemovals a t
+few_same same = let e = ap (λ (x : VolumeTable). x.sequence) same in omega (arith, e)

@@ -12,32 +12,32 @@ use Rattle.std.proofs.lemmas.List.Sums.{length-filter}
 use Rattle.std.proofs.lemmas.Map.Lookups.{exact_bytes}
 use Rattle.sm_base.specs.declared.names.Name.{Name}
 use Rattle.sm_base.specs.declared.names.Name.TheVariants.{Mgt, Vhd, Raw, Old, Clone, Inflate, Coalesce, Relink, Leaf}
-use Rattle.vg_meta.specs.Tables.{Listing, Row, rows}
-use Rattle.vg_meta.specs.Kept.{Kept, HeldRow, listing, rows_alone}
-use Rattle.sm_machine.specs.Lists.{In, given, numbers}
+use Rattle.vg_meta.specs.Tables.{VolumeTable, Row, rows}
+use Rattle.vg_meta.specs.Roomy.{RoomyTable, RoomyRow, table_alone, rows_alone}
+use Rattle.common_laws.specs.Lists.{In, given, numbers}
 use Rattle.sm_record.specs.declared.records.Record.{Record}
 use Rattle.sm_mgt.specs.Places.{is_of, as_reading}
 use Rattle.sm_standing.specs.Contents.{Content, reading_at, records, taken, is_record_of}
 use Rattle.sm_standing.specs.Checks.{is_unrecorded, disk_place, disk_fault}
 use Rattle.sm_standing.specs.Ordered.{Rising, uuid_cmp}
 use Rattle.sm_standing.specs.Plain.{IsPlain}
-use Rattle.sm_standing.specs.Standing.{stands, uuids}
+use Rattle.sm_standing.specs.Standing.{standing_volume, uuids}
 use Rattle.sm_standing.proofs.DisksShown.{row_of-In, is_raw, rising-in_order, stands_listed}
 use Rattle.sm_standing.proofs.PlainDisks.{plain_stands, raw_stands}
 use Rattle.sm_recover.specs.Faults.{HasPlaces, IsLeast, is_unrecorded_in, unrecorded, lesser}
 
 -- ---- whether a UUID is a disk
 
-pub shown : (k : Kept) (u : List ℕ) (h : HeldRow) → IsPlain (listing k) → rows (listing k) (Raw u) ≡ Some h.row
-    → is_some (stands (listing k) u) ≡ (not h.row.hidden && not h.row.fresh)
-shown k u h plain there = ap is_some (plain_stands (listing k) u plain ∙ ap (raw_stands u) there) ∙ of_test (not h.row.hidden && not h.row.fresh)
+pub shown : (k : RoomyTable) (u : List ℕ) (h : RoomyRow) → IsPlain (table_alone k) → rows (table_alone k) (Raw u) ≡ Some h.row
+    → is_some (standing_volume (table_alone k) u) ≡ (not h.row.hidden && not h.row.fresh)
+shown k u h plain there = ap is_some (plain_stands (table_alone k) u plain ∙ ap (raw_stands u) there) ∙ of_test (not h.row.hidden && not h.row.fresh)
   where
     of_test : (b : Bool) → is_some (cond b (Some (Raw u)) None) ≡ b
     of_test true = refl
     of_test false = refl
 
-pub gone : (k : Kept) (u : List ℕ) → IsPlain (listing k) → rows (listing k) (Raw u) ≡ None → is_some (stands (listing k) u) ≡ false
-gone k u plain none = ap is_some (plain_stands (listing k) u plain ∙ ap (raw_stands u) none)
+pub gone : (k : RoomyTable) (u : List ℕ) → IsPlain (table_alone k) → rows (table_alone k) (Raw u) ≡ None → is_some (standing_volume (table_alone k) u) ≡ false
+gone k u plain none = ap is_some (plain_stands (table_alone k) u plain ∙ ap (raw_stands u) none)
 
 -- ---- the least of some UUIDs
 
@@ -65,11 +65,11 @@ least_lesser Q (Some y) None least = (inl least.0, λ v. ⊎_elim (λ q. least.1
 least_lesser Q (Some y) (Some x) least = one_more Q x y (uuid_cmp x y) refl least
 
 -- one of the volumes has it
-abbrev Given : (HeldRow → Option (List ℕ)) → List HeldRow → List ℕ → Type 0
+abbrev Given : (RoomyRow → Option (List ℕ)) → List RoomyRow → List ℕ → Type 0
 Given f [] u = ⊥
 Given f (h ∷ hs) u = (f h ≡ Some u) ⊎ Given f hs u
 
-least_fold : (f : HeldRow → Option (List ℕ)) (hs : List HeldRow) (Q : List ℕ → Type 0) (a : Option (List ℕ)) → IsLeast Q a
+least_fold : (f : RoomyRow → Option (List ℕ)) (hs : List RoomyRow) (Q : List ℕ → Type 0) (a : Option (List ℕ)) → IsLeast Q a
     → IsLeast (λ u. Q u ⊎ Given f hs u) (fold (λ o h. lesser o (f h)) a hs)
 least_fold f [] Q a least = least_as Q (λ u. Q u ⊎ ⊥) a (λ u q. inl q) (λ u. ⊎_elim (λ q. q) (λ none. absurd none)) least
 least_fold f (h ∷ hs) Q a least =
@@ -157,7 +157,7 @@ given_parts : (b : Bool) (v u : List ℕ) → given b v ≡ Some u → (b ≡ tr
 given_parts true v u h = (refl, (let k = h in cc))
 given_parts false v u h = absurd (let k = h in cc)
 
-from_name : (t : Listing) (places : List (Option Record)) (n : Name) (u : List ℕ) → unrecorded t places n ≡ Some u → is_unrecorded_in t places u ≡ true
+from_name : (t : VolumeTable) (places : List (Option Record)) (n : Name) (u : List ℕ) → unrecorded t places n ≡ Some u → is_unrecorded_in t places u ≡ true
 unfolding unrecorded
 from_name t places (Raw v) u h = let w = given_parts (is_unrecorded_in t places v) v u h in subst (λ x. is_unrecorded_in t places x ≡ true) w.1 w.0
 from_name t places Mgt u h = absurd (let k = h in cc)
@@ -173,11 +173,11 @@ some_of : (o : Option Name) → is_some o ≡ true → (n : Name) × (o ≡ Some
 some_of None h = absurd (let k = h in cc)
 some_of (Some n) h = (n, refl)
 
-wrong_listed : (t : Listing) (places : List (Option Record)) (u : List ℕ) → is_unrecorded_in t places u ≡ true → In u (uuids t)
+wrong_listed : (t : VolumeTable) (places : List (Option Record)) (u : List ℕ) → is_unrecorded_in t places u ≡ true → In u (uuids t)
 wrong_listed t places u wrong =
-    let n = some_of (stands t u) (and_parts (is_some (stands t u)) (not (count_by (is_of u) places == 1)) wrong).0 in stands_listed t u n.0 n.1
+    let n = some_of (standing_volume t u) (and_parts (is_some (standing_volume t u)) (not (count_by (is_of u) places == 1)) wrong).0 in stands_listed t u n.0 n.1
 
-given_wrong : (t : Listing) (places : List (Option Record)) (hs : List HeldRow) (u : List ℕ) → Given (λ h. unrecorded t places h.row.name) hs u → is_unrecorded_in t places u ≡ true
+given_wrong : (t : VolumeTable) (places : List (Option Record)) (hs : List RoomyRow) (u : List ℕ) → Given (λ h. unrecorded t places h.row.name) hs u → is_unrecorded_in t places u ≡ true
 given_wrong t places [] u none = absurd none
 given_wrong t places (h ∷ hs) u (inl is) = from_name t places h.row.name u is
 given_wrong t places (h ∷ hs) u (inr later) = given_wrong t places hs u later
@@ -186,38 +186,38 @@ raw_row : (u : List ℕ) (o : Option Row) → is_some (raw_stands u o) ≡ true 
 raw_row u None h = absurd (let k = h in cc)
 raw_row u (Some r) h = (r, refl)
 
-at_raw : (t : Listing) (places : List (Option Record)) (u : List ℕ) → is_unrecorded_in t places u ≡ true → unrecorded t places (Raw u) ≡ Some u
+at_raw : (t : VolumeTable) (places : List (Option Record)) (u : List ℕ) → is_unrecorded_in t places u ≡ true → unrecorded t places (Raw u) ≡ Some u
 unfolding unrecorded
 at_raw t places u wrong = ap (λ b. given b u) wrong
 
-held_given : (f : Name → Option (List ℕ)) (hs : List HeldRow) (r : Row) (u : List ℕ) → In r (rows_alone hs) → f r.name ≡ Some u → Given (λ h. f h.row.name) hs u
+held_given : (f : Name → Option (List ℕ)) (hs : List RoomyRow) (r : Row) (u : List ℕ) → In r (rows_alone hs) → f r.name ≡ Some u → Given (λ h. f h.row.name) hs u
 held_given f [] r u none is = absurd none
 held_given f (h ∷ hs) r u (inl same) is = inl (subst (λ (x : Row). f x.name ≡ Some u) same is)
 held_given f (h ∷ hs) r u (inr later) is = inr (held_given f hs r u later is)
 
-wrong_given : (k : Kept) (places : List (Option Record)) (u : List ℕ) → IsPlain (listing k) → is_unrecorded_in (listing k) places u ≡ true → Given (λ h. unrecorded (listing k) places h.row.name) k.rows u
+wrong_given : (k : RoomyTable) (places : List (Option Record)) (u : List ℕ) → IsPlain (table_alone k) → is_unrecorded_in (table_alone k) places u ≡ true → Given (λ h. unrecorded (table_alone k) places h.row.name) k.rows u
 wrong_given k places u plain wrong =
-    let t = listing k in
+    let t = table_alone k in
     let stands_raw : is_some (raw_stands u (rows t (Raw u))) ≡ true =
-    sym (ap is_some (plain_stands t u plain)) ∙ (and_parts (is_some (stands t u)) (not (count_by (is_of u) places == 1)) wrong).0 in
+    sym (ap is_some (plain_stands t u plain)) ∙ (and_parts (is_some (standing_volume t u)) (not (count_by (is_of u) places == 1)) wrong).0 in
     let w = raw_row u (rows t (Raw u)) stands_raw in
     let at = row_of-In (rows_alone k.rows) (Raw u) w.0 w.1 in
     held_given (unrecorded t places) k.rows w.0 u at.0 (ap (unrecorded t places) (is_raw w.0.name u at.1) ∙ at_raw t places u wrong)
 
 -- the least among the volumes so far
-abbrev pub with_unrecorded : Listing → List (Option Record) → Option (List ℕ) → HeldRow → Option (List ℕ)
+abbrev pub with_unrecorded : VolumeTable → List (Option Record) → Option (List ℕ) → RoomyRow → Option (List ℕ)
 with_unrecorded t places least h = lesser least (unrecorded t places h.row.name)
 
-pub least_unrecorded : (k : Kept) (places : List (Option Record)) → IsPlain (listing k)
-    → IsLeast (λ u. is_unrecorded_in (listing k) places u ≡ true) (fold (with_unrecorded (listing k) places) None k.rows)
+pub least_unrecorded : (k : RoomyTable) (places : List (Option Record)) → IsPlain (table_alone k)
+    → IsLeast (λ u. is_unrecorded_in (table_alone k) places u ≡ true) (fold (with_unrecorded (table_alone k) places) None k.rows)
 least_unrecorded k places plain =
-    least_as (λ u. ⊥ ⊎ Given (λ h. unrecorded (listing k) places h.row.name) k.rows u) (λ u. is_unrecorded_in (listing k) places u ≡ true)
-    (fold (with_unrecorded (listing k) places) None k.rows)
-    (λ u. ⊎_elim (λ none. absurd none) (λ g. given_wrong (listing k) places k.rows u g))
+    least_as (λ u. ⊥ ⊎ Given (λ h. unrecorded (table_alone k) places h.row.name) k.rows u) (λ u. is_unrecorded_in (table_alone k) places u ≡ true)
+    (fold (with_unrecorded (table_alone k) places) None k.rows)
+    (λ u. ⊎_elim (λ none. absurd none) (λ g. given_wrong (table_alone k) places k.rows u g))
     (λ u wrong. inr (wrong_given k places u plain wrong))
-    (least_fold (λ h. unrecorded (listing k) places h.row.name) k.rows (λ u. ⊥) None (λ u none. none))
+    (least_fold (λ h. unrecorded (table_alone k) places h.row.name) k.rows (λ u. ⊥) None (λ u none. none))
 
-rising_uuids : (t : Listing) → Rising uuid_cmp (uuids t)
+rising_uuids : (t : VolumeTable) → Rising uuid_cmp (uuids t)
 unfolding uuids
 rising_uuids t = rising-in_order _
 
@@ -226,15 +226,15 @@ find_alike p q [] same = refl
 find_alike p q (u ∷ us) same = ap (λ b. cond b (Some u) (find p us)) (same u) ∙ ap (cond (q u) (Some u)) (find_alike p q us same)
 
 -- the check of the records, by the least of these UUIDs
-pub disk_fault_is : (c : Content) (k : Kept) (places : List (Option Record)) (o : Option (List ℕ)) → c.table ≡ listing k → HasPlaces places c
-    → IsLeast (λ u. is_unrecorded_in (listing k) places u ≡ true) o → disk_fault c ≡ disk_place o
+pub disk_fault_is : (c : Content) (k : RoomyTable) (places : List (Option Record)) (o : Option (List ℕ)) → c.table ≡ table_alone k → HasPlaces places c
+    → IsLeast (λ u. is_unrecorded_in (table_alone k) places u ≡ true) o → disk_fault c ≡ disk_place o
 unfolding disk_fault
 disk_fault_is c k places o is has least =
     ap disk_place
-    (find_filtered (λ u. is_some (stands c.table u)) (is_unrecorded c) (uuids c.table)
-    ∙ ap (λ t. find (λ u. is_some (stands t u) && is_unrecorded c u) (uuids t)) is
-    ∙ find_alike (λ u. is_some (stands (listing k) u) && is_unrecorded c u) (is_unrecorded_in (listing k) places) (uuids (listing k))
-    (λ u. ap (λ n. is_some (stands (listing k) u) && not (n == 1)) (records_counted c places u has))
-    ∙ first_is_least (is_unrecorded_in (listing k) places) (uuids (listing k)) (rising_uuids (listing k)) o
-    (least_as (λ u. is_unrecorded_in (listing k) places u ≡ true) (Passes (is_unrecorded_in (listing k) places) (uuids (listing k))) o
-    (λ u wrong. (wrong_listed (listing k) places u wrong, wrong)) (λ u p. p.1) least))
+    (find_filtered (λ u. is_some (standing_volume c.table u)) (is_unrecorded c) (uuids c.table)
+    ∙ ap (λ t. find (λ u. is_some (standing_volume t u) && is_unrecorded c u) (uuids t)) is
+    ∙ find_alike (λ u. is_some (standing_volume (table_alone k) u) && is_unrecorded c u) (is_unrecorded_in (table_alone k) places) (uuids (table_alone k))
+    (λ u. ap (λ n. is_some (standing_volume (table_alone k) u) && not (n == 1)) (records_counted c places u has))
+    ∙ first_is_least (is_unrecorded_in (table_alone k) places) (uuids (table_alone k)) (rising_uuids (table_alone k)) o
+    (least_as (λ u. is_unrecorded_in (table_alone k) places u ≡ true) (Passes (is_unrecorded_in (table_alone k) places) (uuids (table_alone k))) o
+    (λ u wrong. (wrong_listed (table_alone k) places u wrong, wrong)) (λ u p. p.1) least))

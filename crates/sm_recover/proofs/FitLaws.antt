@@ -1,5 +1,5 @@
 -- The text of a table of visible raw images alone fits its slot.
-use Rattle.std.proofs.Common.{◌≡◌, ◌≢◌, suc, ◌+◌, ◌*◌, ◌≤◌, Bool, true, false, cond, List, [], ◌∷◌, length, filter, refl, sym, ◌∙◌, arith, length-append}
+use Rattle.std.proofs.Common.{◌≡◌, ◌≢◌, suc, ℕ, ◌+◌, ◌*◌, ◌≤◌, Bool, true, false, cond, List, [], ◌∷◌, length, filter, refl, sym, ◌∙◌, arith, length-append}
 use Rattle.std.specs.List.{AllByRecursion, flat_map}
 use Rattle.std.specs.List.Sorted.{IsStrictlySortedBy}
 use Rattle.std.specs.declared.cmp.Ordering.TheVariants.{Less}
@@ -7,14 +7,17 @@ use Rattle.sm_base.specs.declared.names.Name.{Name}
 use Rattle.sm_base.specs.declared.names.Name.TheVariants.{Mgt, Vhd, Raw, Old, Clone, Inflate, Coalesce, Relink, Leaf}
 use Rattle.sm_base.specs.Names.{name_cmp}
 use Rattle.sm_base.proofs.NameLemmas.{length-spelling-le}
-use Rattle.vg_meta.specs.Tables.{Listing, Row, IsVolume, names_of, is_image as is_data, extents_in}
+use Rattle.vg_meta.specs.Tables.{VolumeTable, Row, IsTable, IsVolume, names_of, extents_in}
+use Rattle.sm_base.specs.Kinds.{is_image as is_data}
 use Rattle.vg_meta.specs.Text.{text, volume_text}
 use Rattle.vg_meta.proofs.DecodeLaws.{used-le}
 use Rattle.vg_meta.proofs.NameLaws.{less_other}
 use Rattle.vg_meta.proofs.RowLaws.{IsRising}
 use Rattle.vg_meta.proofs.WriteLaws.{length-text, length-volume_text, length-extents_text}
 use Rattle.vg_volumes.specs.Sites.{Site, text_limit}
-use Rattle.sm_standing.specs.Plain.{is_plain, is_plain_name}
+use Rattle.sm_machine.specs.Shapes.{image_limit}
+use Rattle.sm_standing.specs.Checks.{images}
+use Rattle.sm_standing.specs.Plain.{IsPlain, is_plain, is_plain_name}
 use Rattle.sm_recover.specs.Repairs.{IsChecked}
 
 long_volumes : (rs : List Row) → AllByRecursion IsVolume rs → length (flat_map volume_text rs) ≤ 122 * length rs + 4 * length (extents_in rs)
@@ -78,14 +81,17 @@ one_other [] plain rising = omega arith
 one_other (r ∷ rs) plain rising =
     name_step (is_data r.name) r rs refl plain.0 (λ is. all_images r.name rs is plain.1 rising.0) (one_other rs plain.1 rising.1)
 
-pub text_fits : {s : Site} {t : Listing} → IsChecked s t → length (text t) ≤ text_limit
-text_fits {s} {t} c =
+pub fits_plain : (count : ℕ) (t : VolumeTable) → IsTable count t → count ≤ 65536 → IsPlain t → length (images t) ≤ image_limit → length (text t) ≤ text_limit
+fits_plain count t table few plain limit =
     omega (
       arith,
       length-text t,
-      long_volumes t.volumes c.table.volumes.each,
-      one_other t.volumes c.plain c.table.volumes.rising,
-      c.few_images,
-      used-le s.count t.volumes c.table.volumes,
-      c.few_extents,
+      long_volumes t.volumes table.volumes.each,
+      one_other t.volumes plain table.volumes.rising,
+      limit,
+      used-le count t.volumes table.volumes,
+      few,
     )
+
+pub text_fits : {s : Site} {t : VolumeTable} → IsChecked s t → length (text t) ≤ text_limit
+text_fits {s} {t} c = fits_plain s.count t c.table c.few_extents c.plain c.few_images

@@ -8,7 +8,7 @@ use Rattle.sm_base.specs.Names.{name_cmp}
 use Rattle.sm_base.specs.declared.names.Name.{Name}
 use Rattle.sm_base.specs.declared.names.Name.TheVariants.{Mgt, Vhd, Raw, Old, Clone, Inflate, Coalesce, Relink, Leaf}
 use Rattle.sm_base.specs.declared.operations.Op.TheVariants.{Idle}
-use Rattle.vg_meta.specs.Tables.{Listing, Row, IsTable, row_of, rows, name_eq, names_of, extents_of}
+use Rattle.vg_meta.specs.Tables.{VolumeTable, Row, IsTable, row_of, rows, name_eq, names_of, extents_of}
 use Rattle.vg_meta.specs.declared.changes.Change.TheVariants.{Remove}
 use Rattle.vg_meta.specs.Changes.{applied, without}
 use Rattle.vg_meta.proofs.ChangeLaws.{IsTable-applied}
@@ -17,7 +17,7 @@ use Rattle.vg_meta.proofs.RowLaws.{IsRising, row_of-without_same, row_of-without
 use Rattle.vg_volumes.specs.Sites.{Site}
 use Rattle.vg_volumes.specs.Volumes.{span}
 use Rattle.sm_disk.specs.Held.{Held}
-use Rattle.sm_machine.specs.Lists.{In, ◌>>=◌, when, insert_by}
+use Rattle.common_laws.specs.Lists.{In, ◌>>=◌, when, insert_by}
 use Rattle.sm_machine.specs.Shapes.{Shape, ImageRow, DiskRecord, risen, with_image}
 use Rattle.sm_standing.specs.Contents.{Content, row}
 use Rattle.sm_standing.specs.Entries.{folding, head}
@@ -27,7 +27,7 @@ use Rattle.sm_standing.specs.Plain.{is_plain_name, is_plain, IsPlain}
 use Rattle.sm_standing.specs.Shapes.{image_row, row_of as shape_row, other_extents, disk_record, shape}
 use Rattle.sm_standing.specs.Standing.{disks}
 use Rattle.sm_standing.proofs.DisksShown.{row_of-In}
-use Rattle.sm_standing.proofs.Finding.{In-filter}
+use Rattle.common_laws.proofs.Lists.{In-filter}
 use Rattle.sm_standing.proofs.PlainDisks.{all-In, no_making, no_folding}
 use Rattle.sm_recover.specs.Cleaned.{cleaned, IsCleanedFrom}
 use Rattle.sm_recover.specs.Repairs.{IsChecked}
@@ -37,7 +37,7 @@ use Rattle.sm_recover.proofs.RemovalLaws.{row_of-here, less_at, left_there, may_
 
 -- ---- a working copy of a table, and one volume less
 
-abbrev pub work_of : Content → Listing → Work
+abbrev pub work_of : Content → VolumeTable → Work
 work_of c t = record { sequence = t.sequence; parts = map (part_of c) t.volumes }
 
 has_step : (b x : Bool) (s r : Row) (o : Option Row) → cond b (Some s) o ≡ Some r → (o ≡ Some r → x ≡ true) → (b || x) ≡ true
@@ -73,7 +73,7 @@ rest_is c n (s ∷ rs) rising =
     (λ is. others_stay c n rs (subst (λ m. AllByRecursion (λ (k : Name). name_cmp m k ≡ Less) (names_of rs)) (name_eq-true s.name n is) rising.0))
     (rest_is c n rs rising.1)
 
-removed_is : (c : Content) (t : Listing) (n : Name) (r : Row) → IsRising t.volumes → rows t n ≡ Some r → removed n (work_of c t) ≡ work_of c (applied t (Remove n))
+removed_is : (c : Content) (t : VolumeTable) (n : Name) (r : Row) → IsRising t.volumes → rows t n ≡ Some r → removed n (work_of c t) ≡ work_of c (applied t (Remove n))
 removed_is c t n r rising there =
     ap (λ b. when b (λ (v : Work). committed v (rest_of n v.parts)) (work_of c t)) (has_there c n t.volumes r there)
     ∙ ap (λ ps. let w : Work = record { sequence = risen t.sequence 1; parts = ps } in w) (rest_is c n t.volumes rising)
@@ -81,7 +81,7 @@ removed_is c t n r rising there =
 -- ---- one after another
 
 -- of these volumes the new ones are those of the table
-record IsLeft (ps : List Row) (t : Listing) : Type 0 where
+record IsLeft (ps : List Row) (t : VolumeTable) : Type 0 where
   each : (r : Row) → In r t.volumes → r.fresh ≡ true → In r ps
   there : (r : Row) → In r ps → r.fresh ≡ true → In r t.volumes
 
@@ -90,7 +90,7 @@ not_new true never = absurd (never refl)
 not_new false never = refl
 
 -- a volume that is gone is none of those left
-gone : (t : Listing) (p r : Row) → IsRising t.volumes → IsRising (without p.name t.volumes) → r ≡ p → In r (without p.name t.volumes) → ⊥
+gone : (t : VolumeTable) (p r : Row) → IsRising t.volumes → IsRising (without p.name t.volumes) → r ≡ p → In r (without p.name t.volumes) → ⊥
 gone t p r rising less same h =
     let here : row_of (without p.name t.volumes) p.name ≡ Some p =
     row_of-here (without p.name t.volumes) p less (subst (λ (x : Row). In x (without p.name t.volumes)) same h) in
@@ -98,12 +98,12 @@ gone t p r rising less same h =
     let e : None ≡ Some p = sym none ∙ here in
     cc
 
-after_each : (t : Listing) (p : Row) (ps : List Row) → IsRising t.volumes → IsRising (without p.name t.volumes) → (r : Row) → In r (without p.name t.volumes)
+after_each : (t : VolumeTable) (p : Row) (ps : List Row) → IsRising t.volumes → IsRising (without p.name t.volumes) → (r : Row) → In r (without p.name t.volumes)
     → In r (p ∷ ps) → In r ps
 after_each t p ps rising less r h (inl same) = absurd (gone t p r rising less same h)
 after_each t p ps rising less r h (inr later) = later
 
-after_there : (t : Listing) (p : Row) (ps : List Row) (r : Row) → IsRising t.volumes → AllByRecursion (λ (m : Name). name_cmp p.name m ≡ Less) (names_of ps)
+after_there : (t : VolumeTable) (p : Row) (ps : List Row) (r : Row) → IsRising t.volumes → AllByRecursion (λ (m : Name). name_cmp p.name m ≡ Less) (names_of ps)
     → In r ps → In r t.volumes → In r (without p.name t.volumes)
 after_there t p ps r rising above later h =
     (row_of-In (without p.name t.volumes) r.name r
@@ -114,11 +114,11 @@ old_each p ps r old new (inl same) = absurd (let e : false ≡ true = sym old �
 old_each p ps r old new (inr later) = later
 
 -- what is made of the working copy, and the table that is left
-abbrev IsSwept : Content → ℕ → Work → Listing → Type 0
+abbrev IsSwept : Content → ℕ → Work → VolumeTable → Type 0
 IsSwept c count w t = (w ≡ work_of c (cleaned t)) × IsTable count (cleaned t)
 
-swept_step : (c : Content) (count : ℕ) (p : Row) (ps : List Row) (t : Listing) → IsTable count t → AllByRecursion (λ (m : Name). name_cmp p.name m ≡ Less) (names_of ps)
-    → IsLeft (p ∷ ps) t → ((u : Listing) → IsTable count u → IsLeft ps u → IsSwept c count (new_removed (map (part_of c) ps) (work_of c u)) u)
+swept_step : (c : Content) (count : ℕ) (p : Row) (ps : List Row) (t : VolumeTable) → IsTable count t → AllByRecursion (λ (m : Name). name_cmp p.name m ≡ Less) (names_of ps)
+    → IsLeft (p ∷ ps) t → ((u : VolumeTable) → IsTable count u → IsLeft ps u → IsSwept c count (new_removed (map (part_of c) ps) (work_of c u)) u)
     → (b : Bool) → p.fresh ≡ b → IsSwept c count (new_removed (map (part_of c) ps) (when b (removed p.name) (work_of c t))) t
 swept_step c count p ps t table above left then true is =
     let there = row_of-here t.volumes p table.volumes.rising (left.there p (inl refl) is) in
@@ -132,7 +132,7 @@ swept_step c count p ps t table above left then true is =
 swept_step c count p ps t table above left then false is =
     then t table (record { each = λ r h e. old_each p ps r is e (left.each r h e); there = λ r h e. left.there r (inr h) e })
 
-swept : (c : Content) (count : ℕ) (ps : List Row) (t : Listing) → IsTable count t → IsRising ps → IsLeft ps t → IsSwept c count (new_removed (map (part_of c) ps) (work_of c t)) t
+swept : (c : Content) (count : ℕ) (ps : List Row) (t : VolumeTable) → IsTable count t → IsRising ps → IsLeft ps t → IsSwept c count (new_removed (map (part_of c) ps) (work_of c t)) t
 unfolding new_removed IsStrictlySortedBy
 swept c count [] t table rising left =
     let same = cleaned_same count t table (λ r h. not_new r.fresh (λ e. left.each r h e)) in
@@ -328,7 +328,7 @@ opened_shape c d table plain w =
     left_shape c d table s.1 plain w ∙ ap (shape_of c) (sym s.0)
 
 -- what stands in a store afterwards
-pub settled_shape : {s now : Site} {t u : Listing} (old new : Held) → IsChecked s t → now ≡ s → u ≡ cleaned t → disks (content_now now u new) ≡ disks (content_now s t old)
+pub settled_shape : {s now : Site} {t u : VolumeTable} (old new : Held) → IsChecked s t → now ≡ s → u ≡ cleaned t → disks (content_now now u new) ≡ disks (content_now s t old)
     → shape (content_now now u new) ≡ opened (content_now s t old)
 settled_shape {s} {now} {t} {u} old new c site table same =
     opened_shape (content_now s t old) (content_now now u new) c.table c.plain (record {

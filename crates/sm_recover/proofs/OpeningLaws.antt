@@ -1,5 +1,5 @@
 -- The checks one after another: which place is the first, and what is known where none is.
-use Rattle.std.proofs.Common.{◌≡◌, ◌≢◌, ℕ, zero, suc, ◌+◌, ◌*◌, ◌<◌, ◌≤◌, ◌⊎◌, inl, inr, Bool, true, false, cond, not, ◌==◌, List, [], ◌∷◌, ◌++◌, length, get_or, Option, Some, None, refl, sym, ap, ◌∙◌, subst, arith, nat_lt}
+use Rattle.std.proofs.Common.{◌≡◌, ◌≢◌, ℕ, zero, suc, ◌+◌, ◌<◌, ◌≤◌, ◌⊎◌, inl, inr, Bool, true, false, cond, not, ◌==◌, List, [], ◌∷◌, ◌++◌, length, get_or, Option, Some, None, refl, sym, ap, ◌∙◌, subst, arith, nat_lt}
 use Rattle.std.specs.List.{find, slice_get}
 use Rattle.std.specs.Prelude.{Result, Err, IfErr}
 use Rattle.std.proofs.lemmas.Bool.{ltb-false}
@@ -13,10 +13,12 @@ use Rattle.sm_base.specs.declared.names.Name.TheVariants.{Mgt}
 use Rattle.sm_base.specs.declared.sizes.Geometry.{Geometry}
 use Rattle.sm_disk.specs.Held.{Held, reads, Rose}
 use Rattle.vg_layout.specs.Places.{record_extents}
-use Rattle.vg_meta.specs.Tables.{Listing, Row, IsTable, extents_of}
-use Rattle.vg_meta.specs.Kept.{Kept, listing}
-use Rattle.vg_volumes.specs.Sites.{Site, size_of}
-use Rattle.sm_machine.specs.Lists.{first_some, numbers, given}
+use Rattle.vg_meta.specs.Tables.{VolumeTable, Row, IsTable, extents_of}
+use Rattle.vg_meta.specs.Roomy.{RoomyTable, table_alone}
+use Rattle.vg_volumes.specs.Sites.{Site}
+use Rattle.vg_volumes.specs.Volumes.{piece}
+use Rattle.vg_volumes.proofs.VolumeLaws.{volume_reads}
+use Rattle.common_laws.specs.Lists.{first_some, numbers, given}
 use Rattle.sm_machine.specs.Shapes.{image_limit}
 use Rattle.sm_record.specs.declared.records.Record.{Record}
 use Rattle.sm_record.specs.declared.records.Reading.{Reading}
@@ -26,12 +28,12 @@ use Rattle.sm_mgt.specs.Places.{Agrees, as_reading, records_held, IsFirstDamaged
 use Rattle.sm_standing.specs.Contents.{Content, row, reading_at, record_count, sectors_of}
 use Rattle.sm_standing.specs.Checks.{has_records, record_volume_fault, images, too_many_fault, entry_ahead_fault, image_ahead_fault, record_fault, record_place, is_damaged, disk_fault, first_fault_today}
 use Rattle.sm_standing.specs.Plain.{IsPlain}
-use Rattle.sm_standing.proofs.Finding.{none_first, find_none, In-numbers}
+use Rattle.common_laws.proofs.Lists.{none_first, find_none, In-numbers}
 use Rattle.sm_recover.specs.Stores.{content_in, content_now}
 use Rattle.sm_recover.specs.Faults.{HasTable, HasPlaces, table_faults}
-use Rattle.sm_recover.specs.Repairs.{IsChecked, IsStopped}
+use Rattle.sm_recover.specs.Repairs.{IsChecked, IsOpeningStopped}
 use Rattle.sm_recover.proofs.CheckLaws.{plain_from}
-use Rattle.sm_recover.proofs.AreaLaws.{record_places, records_fit, volume_reads, reading_is}
+use Rattle.sm_recover.proofs.AreaLaws.{record_places, records_fit, reading_is}
 
 -- ---- the first of all
 
@@ -67,7 +69,7 @@ today_disks c o none right h =
 
 -- ---- where the checks by the table pass
 
-pub has_table : (s : Site) (g : Geometry) (t : Listing) (image : ℕ → List ℕ) → g ≡ s.geometry → HasTable g t (content_in s t image)
+pub has_table : (s : Site) (g : Geometry) (t : VolumeTable) (image : ℕ → List ℕ) → g ≡ s.geometry → HasTable g t (content_in s t image)
 has_table s g t image is = record {
   extent = ap (λ (x : Geometry). x.extent) (sym is);
   block = ap (λ (x : Geometry). x.block) (sym is);
@@ -98,7 +100,7 @@ few : (c : Content) → too_many_fault c ≡ None → length (images c.table) �
 unfolding too_many_fault
 few c h = ltb-false 500 (length (images c.table)) (none_given (nat_lt image_limit (length (images c.table))) at.Images h)
 
-pub checked_from : (s : Site) (t : Listing) → IsTable s.count t → s.count ≤ 65536 → ((image : ℕ → List ℕ) → first_some (table_faults (content_in s t image)) ≡ None) → IsChecked s t
+pub checked_from : (s : Site) (t : VolumeTable) → IsTable s.count t → s.count ≤ 65536 → ((image : ℕ → List ℕ) → first_some (table_faults (content_in s t image)) ≡ None) → IsChecked s t
 checked_from s t table extents none =
     let c : Content = content_in s t (λ p. []) in
     let each = none_first (table_faults c) (none (λ p. [])) in
@@ -112,7 +114,7 @@ checked_from s t table extents none =
 
 -- ---- the records
 
-pub has_places : {s : Site} {t : Listing} (area : Held) (places : List (Option Record)) → IsChecked s t → Agrees (records_held s t area) places → HasPlaces places (content_now s t area)
+pub has_places : {s : Site} {t : VolumeTable} (area : Held) (places : List (Option Record)) → IsChecked s t → Agrees (records_held s t area) places → HasPlaces places (content_now s t area)
 has_places area places c agrees = record {
   long = agrees.long;
   each = λ k o at. reading_is area c agrees k o (omega (arith, slice_get_within places k o at, agrees.long)) at;
@@ -154,48 +156,45 @@ damaged_test Free h = refl
 damaged_test (Taken x) h = refl
 damaged_test Damaged h = absurd (h refl)
 
-reading_place : {s : Site} {t : Listing} (area : Held) (k : ℕ) → IsChecked s t → k < record_count → reading_at (content_now s t area) k ≡ reading_of (records_held s t area) k
-unfolding sectors_of
+reading_place : {s : Site} {t : VolumeTable} (area : Held) (k : ℕ) → IsChecked s t → k < record_count → reading_at (content_now s t area) k ≡ reading_of (records_held s t area) k
+unfolding sectors_of piece
 reading_place {s} {t} area k c below = ap reading (sym (volume_reads s.geometry.extent (record_places t) area k (omega (arith, below, records_fit c))))
 
 -- the first sector that is damaged
-pub records_wrong : {s : Site} {t : Listing} (area : Held) (k : ℕ) → IsChecked s t → IsFirstDamaged (records_held s t area) k → record_fault (content_now s t area) ≡ Some (at.Record k)
+pub records_wrong : {s : Site} {t : VolumeTable} (area : Held) (k : ℕ) → IsChecked s t → IsFirstDamaged (records_held s t area) k → record_fault (content_now s t area) ≡ Some (at.Record k)
 unfolding record_fault
 records_wrong {s} {t} area k c first =
     ap record_place (first_number (λ j. is_damaged (reading_at (content_now s t area) j)) 0 record_count k (omega arith) (omega (arith, first.within))
     (ap is_damaged (reading_place area k c first.within ∙ first.damaged))
     (λ j lo hi. damaged_test (reading_at (content_now s t area) j) (λ e. first.before j hi (sym (reading_place area j c (omega (arith, first.within))) ∙ e))))
 
-pub load_fits : {s : Site} {t : Listing} → IsChecked s t → 512 * 512 ≤ 512 * size_of s t Mgt
-load_fits c = omega (arith, records_fit c)
-
 -- ---- as the checks are called
 
-pub tables_say : (s : Site) (g : Geometry) (k kept : Kept) (o : Option Place) → k ≡ kept → g ≡ s.geometry → ((c : Content) → HasTable g (listing k) c → o ≡ first_some (table_faults c))
-    → (image : ℕ → List ℕ) → first_some (table_faults (content_in s (listing kept) image)) ≡ o
+pub tables_say : (s : Site) (g : Geometry) (k kept : RoomyTable) (o : Option Place) → k ≡ kept → g ≡ s.geometry → ((c : Content) → HasTable g (table_alone k) c → o ≡ first_some (table_faults c))
+    → (image : ℕ → List ℕ) → first_some (table_faults (content_in s (table_alone kept) image)) ≡ o
 tables_say s g k kept o same geometry says image =
-    sym (says (content_in s (listing kept) image)
-    (subst (λ x. HasTable g (listing x) (content_in s (listing kept) image)) (sym same) (has_table s g (listing kept) image geometry)))
+    sym (says (content_in s (table_alone kept) image)
+    (subst (λ x. HasTable g (table_alone x) (content_in s (table_alone kept) image)) (sym same) (has_table s g (table_alone kept) image geometry)))
 
-pub all_say : {s : Site} {t u : Listing} (area : Held) (places : List (Option Record)) (o : Option Place) → IsChecked s t → u ≡ t → Agrees (records_held s t area) places
+pub all_say : {s : Site} {t u : VolumeTable} (area : Held) (places : List (Option Record)) (o : Option Place) → IsChecked s t → u ≡ t → Agrees (records_held s t area) places
     → ((image : ℕ → List ℕ) → first_some (table_faults (content_in s t image)) ≡ None)
     → ((c : Content) → c.table ≡ u → HasPlaces places c → o ≡ disk_fault c) → first_fault_today (content_now s t area) ≡ o
 all_say {s} {t} {u} area places o c same agrees none says =
     let has = has_places area places c agrees in
     today_disks (content_now s t area) o (none (reads area)) (records_right (content_now s t area) places has) (sym (says (content_now s t area) (sym same) has))
 
-pub plain_later : {s : Site} {t u : Listing} → IsChecked s t → u ≡ t → IsPlain u
+pub plain_later : {s : Site} {t u : VolumeTable} → IsChecked s t → u ≡ t → IsPlain u
 plain_later c same = subst IsPlain (sym same) c.plain
 
 -- why the records were not read
-pub stopped_by : {s : Site} {t : Listing} (told : Type 0) (area : Held) (before now : ℕ) (e : OpenFault) → IsChecked s t
+pub stopped_by : {s : Site} {t : VolumeTable} (told : Type 0) (area : Held) (before now : ℕ) (e : OpenFault) → IsChecked s t
     → ((image : ℕ → List ℕ) → first_some (table_faults (content_in s t image)) ≡ None)
     → (e ≡ fault.NoMemory) ⊎ ((e ≡ fault.Device) × Rose before now) ⊎ ((k : ℕ) × (e ≡ fault.Damaged (at.Record k)) × (told → IsFirstDamaged (records_held s t area) k))
-    → IsStopped told (content_now s t area) before now e
-stopped_by {s} {t} told area before now e c none (inl is) = subst (IsStopped told (content_now s t area) before now) (sym is) tt
-stopped_by {s} {t} told area before now e c none (inr (inl (is, rose))) = subst (IsStopped told (content_now s t area) before now) (sym is) rose
+    → IsOpeningStopped told (content_now s t area) before now e
+stopped_by {s} {t} told area before now e c none (inl is) = subst (IsOpeningStopped told (content_now s t area) before now) (sym is) tt
+stopped_by {s} {t} told area before now e c none (inr (inl (is, rose))) = subst (IsOpeningStopped told (content_now s t area) before now) (sym is) rose
 stopped_by {s} {t} told area before now e c none (inr (inr (k, is, first))) =
-    subst (IsStopped told (content_now s t area) before now) (sym is)
+    subst (IsOpeningStopped told (content_now s t area) before now) (sym is)
     (λ known. today_records (content_now s t area) (at.Record k) (none (reads area)) (records_wrong area k c (first known)))
 
 pub if_err : {T E : Type 0} (P : E → Type 0) (r : Result T E) (e : E) → r ≡ Err e → P e → IfErr r P

@@ -6,9 +6,9 @@ use Rattle.std.proofs.lemmas.Slice.Eq.{bytes_eq-Decides}
 use Rattle.sm_base.specs.Names.{is_base}
 use Rattle.sm_base.specs.declared.names.Name.TheVariants.{Raw}
 use Rattle.vg_layout.specs.Places.{record_extents}
-use Rattle.vg_meta.specs.Tables.{Listing, Row, rows}
+use Rattle.vg_meta.specs.Tables.{VolumeTable, Row, rows}
 use Rattle.vg_volumes.specs.Volumes.{piece, span}
-use Rattle.sm_machine.specs.Lists.{In, numbers, ◌>>=◌}
+use Rattle.common_laws.specs.Lists.{In, numbers, ◌>>=◌}
 use Rattle.sm_machine.specs.Disks.{Disk}
 use Rattle.sm_record.specs.declared.records.Record.{Record}
 use Rattle.sm_record.specs.declared.records.Reading.{Reading}
@@ -18,10 +18,10 @@ use Rattle.sm_standing.specs.PlainSound.{PlainSound}
 use Rattle.sm_standing.specs.Contents.{Content, row, records, reading_at, record_count, taken, is_record_of, record_of}
 use Rattle.sm_standing.specs.Entries.{is_past, base_number}
 use Rattle.sm_standing.specs.Checks.{is_oversize, is_damaged}
-use Rattle.sm_standing.specs.Standing.{stands, disks}
+use Rattle.sm_standing.specs.Standing.{standing_volume, disks}
 use Rattle.sm_standing.specs.RawDisks.{raw_disk}
 use Rattle.sm_standing.proofs.DiskLists.{disks_same}
-use Rattle.sm_standing.proofs.Finding.{In-numbers}
+use Rattle.common_laws.proofs.Lists.{In-numbers}
 use Rattle.sm_standing.proofs.PlainDisks.{all-In, raw_disk_at, raw_stands, plain_disk_at, plain_stands, map_numbers}
 use Rattle.sm_standing.proofs.RecordLists.{first_of, record_of_first}
 use Rattle.sm_recover.specs.Pruned.{IsWithoutNew, IsGone, IsStray, IsPruned}
@@ -33,7 +33,7 @@ all-each P [] each = tt
 all-each P (r ∷ rs) each = (each r (inl refl), all-each P rs (λ s h. each s (inr h)))
 
 -- what is left is plain
-pub plain_left : (old new : Listing) → IsPlain old → IsWithoutNew old new → IsPlain new
+pub plain_left : (old new : VolumeTable) → IsPlain old → IsWithoutNew old new → IsPlain new
 plain_left old new plain w = all-each (λ r. is_plain r ≡ true) new.volumes (λ r h. all-In (λ r. is_plain r ≡ true) old.volumes r plain (w.volumes r h))
 
 new_stands_not : (u : List ℕ) (hidden fresh : Bool) → fresh ≡ true → cond (not hidden && not fresh) (Some (Raw u)) None ≡ None
@@ -46,7 +46,7 @@ stands_by u a b (inl same) = ap (raw_stands u) same
 stands_by u a b (inr (none, (r, was, fresh))) = ap (raw_stands u) none ∙ sym (ap (raw_stands u) was ∙ new_stands_not u r.hidden r.fresh fresh)
 
 -- each UUID stands where it stood
-pub stands_left : (old new : Listing) (u : List ℕ) → IsPlain old → IsWithoutNew old new → stands new u ≡ stands old u
+pub stands_left : (old new : VolumeTable) (u : List ℕ) → IsPlain old → IsWithoutNew old new → standing_volume new u ≡ standing_volume old u
 stands_left old new u plain w =
     plain_stands new u (plain_left old new plain w)
     ∙ stands_by u (rows old (Raw u)) (rows new (Raw u)) (w.each (Raw u))
@@ -82,13 +82,13 @@ filter_fewer test f g (k ∷ ks) each =
     left_out test (f k) (g k) (filter_map f ks) (filter_map g ks) (each k (inl refl)) (filter_fewer test f g ks (λ j h. each j (inr h)))
 
 -- a record of no disk is not that of one
-not_of : (t : Listing) (u : List ℕ) (r : Record) → is_some (stands t u) ≡ true → is_some (stands t r.uuid) ≡ false → (b : Bool) → is_record_of u r ≡ b → is_record_of u r ≡ false
+not_of : (t : VolumeTable) (u : List ℕ) (r : Record) → is_some (standing_volume t u) ≡ true → is_some (standing_volume t r.uuid) ≡ false → (b : Bool) → is_record_of u r ≡ b → is_record_of u r ≡ false
 not_of t u r disk stray false is = is
 not_of t u r disk stray true is =
     let same = (bytes_eq-Decides r.uuid u).0 is in
-    absurd (let e : is_some (stands t u) ≡ false = subst (λ v. is_some (stands t v) ≡ false) same stray in cc)
+    absurd (let e : is_some (standing_volume t u) ≡ false = subst (λ v. is_some (standing_volume t v) ≡ false) same stray in cc)
 
-stray_left_out : (a b : Content) (u : List ℕ) → is_some (stands a.table u) ≡ true → (k : ℕ)
+stray_left_out : (a b : Content) (u : List ℕ) → is_some (standing_volume a.table u) ≡ true → (k : ℕ)
     → (reading_at b k ≡ reading_at a k) ⊎ ((reading_at b k ≡ Free) × IsStray a k)
     → (taken (reading_at b k) ≡ taken (reading_at a k)) ⊎ ((taken (reading_at b k) ≡ None) × ((r : Record) × (taken (reading_at a k) ≡ Some r) × (is_record_of u r ≡ false)))
 stray_left_out a b u disk k (inl same) = inl (ap taken same)
@@ -96,7 +96,7 @@ stray_left_out a b u disk k (inr (free, (r, was, stray))) =
     inr (ap taken free, (r, ap taken was, not_of a.table u r disk stray (is_record_of u r) refl))
 
 -- the records of a disk are those from before
-pub records_left : (a b : Content) (u : List ℕ) → IsPruned a b → is_some (stands a.table u) ≡ true
+pub records_left : (a b : Content) (u : List ℕ) → IsPruned a b → is_some (standing_volume a.table u) ≡ true
     → filter (is_record_of u) (records b) ≡ filter (is_record_of u) (records a)
 unfolding records
 records_left a b u p disk =
@@ -140,7 +140,7 @@ sectors_alike a b u r p there entry =
     ∙ map_numbers (piece a.extent r.extents b.area) (piece a.extent r.extents a.area) 0 (span a.extent r.extents)
     (λ k lo hi. p.sectors u r there k (omega arith)))
 
-recorded_left : (a b : Content) (u : List ℕ) → IsPruned a b → is_some (stands a.table u) ≡ true → record_of b u ≡ record_of a u
+recorded_left : (a b : Content) (u : List ℕ) → IsPruned a b → is_some (standing_volume a.table u) ≡ true → record_of b u ≡ record_of a u
 recorded_left a b u p disk = record_of_first b u ∙ ap first_of (records_left a b u p disk) ∙ sym (record_of_first a u)
 
 made_alike : (a b : Content) (u : List ℕ) (r : Row) → IsPruned a b → row b (Raw u) ≡ Some r → (o : Option Record)
@@ -153,7 +153,7 @@ marked_alike : (a b : Content) (u : List ℕ) (r : Row) → IsPruned a b → row
 marked_alike a b u r p there false same = refl
 marked_alike a b u r p there true same = made_alike a b u r p there (record_of b u) ∙ ap (λ o. o >>= (λ entry. Some (raw_disk a u entry r.extents))) (same refl)
 
-stands_of : (a : Content) (u : List ℕ) (r : Row) → PlainSound a → row a (Raw u) ≡ Some r → (not r.hidden && not r.fresh) ≡ true → is_some (stands a.table u) ≡ true
+stands_of : (a : Content) (u : List ℕ) (r : Row) → PlainSound a → row a (Raw u) ≡ Some r → (not r.hidden && not r.fresh) ≡ true → is_some (standing_volume a.table u) ≡ true
 stands_of a u r s was shown = ap is_some (plain_stands a.table u s.plain ∙ ap (raw_stands u) was ∙ ap (λ v. cond v (Some (Raw u)) None) shown)
 
 row_alike : (a b : Content) (u : List ℕ) → PlainSound a → IsPruned a b → row b (Raw u) ≡ row a (Raw u) → (q : Option Row) → row a (Raw u) ≡ q

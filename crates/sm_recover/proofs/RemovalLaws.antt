@@ -7,19 +7,20 @@ use Rattle.std.specs.declared.cmp.Ordering.TheVariants.{Less}
 use Rattle.sm_base.specs.declared.names.Name.{Name}
 use Rattle.sm_base.specs.declared.names.Name.TheVariants.{Mgt}
 use Rattle.sm_base.specs.Names.{name_cmp}
-use Rattle.vg_meta.specs.Tables.{Listing, Row, IsTable, IsVolume, rows, row_of, name_eq, names_of, suits, is_image as is_data, extents_of}
+use Rattle.vg_meta.specs.Tables.{VolumeTable, Row, IsTable, IsVolume, rows, row_of, name_eq, names_of, suits, extents_of}
+use Rattle.sm_base.specs.Kinds.{is_image as is_data}
 use Rattle.vg_meta.specs.declared.changes.Change.TheVariants.{Remove}
-use Rattle.vg_meta.specs.Changes.{applied, without, Allows}
-use Rattle.vg_meta.specs.Kept.{Kept, HeldRow, listing, rows_alone}
-use Rattle.sm_standing.proofs.Finding.{none_find}
+use Rattle.vg_meta.specs.Changes.{applied, without, Permits}
+use Rattle.vg_meta.specs.Roomy.{RoomyTable, RoomyRow, table_alone, rows_alone}
+use Rattle.common_laws.proofs.Lists.{none_find}
 use Rattle.vg_meta.proofs.ByName.{mgt_stays}
 use Rattle.vg_meta.proofs.ChangeLaws.{IsTable-applied}
 use Rattle.vg_meta.proofs.NameLaws.{name_eq-true, name_eq-false, name_eq-other, name_eq-refl, less_other}
 use Rattle.vg_meta.proofs.RowLaws.{IsRising, row_of-name, All-row_of, row_of-without_same, row_of-without_other}
 use Rattle.vg_volumes.specs.Sites.{Site}
-use Rattle.sm_machine.specs.Lists.{In}
+use Rattle.common_laws.specs.Lists.{In}
 use Rattle.sm_recover.specs.Pruned.{IsWithoutNew, IsGone}
-use Rattle.sm_recover.specs.Repairs.{IsChecked, IsNew}
+use Rattle.sm_recover.specs.Repairs.{IsChecked, IsNewVolume}
 use Rattle.sm_recover.specs.Stores.{IsOrderly}
 use Rattle.sm_recover.proofs.PrunedLaws.{plain_left}
 
@@ -89,23 +90,23 @@ mgt_not_new r right name fresh =
     of_hidden false e = (let k = e in cc)
 
 -- a new volume is not that of the records
-pub not_records : (count : ℕ) (t : Listing) (n : Name) (r : Row) → IsTable count t → rows t n ≡ Some r → r.fresh ≡ true → n ≢ Mgt
+pub not_records : (count : ℕ) (t : VolumeTable) (n : Name) (r : Row) → IsTable count t → rows t n ≡ Some r → r.fresh ≡ true → n ≢ Mgt
 not_records count t n r table there fresh same =
     let v = All-row_of IsVolume t.volumes n r table.volumes.each there in
     mgt_not_new r v.kind (row_of-name t.volumes n r there ∙ same) fresh
 
 -- and may be removed
-pub may_remove : (count : ℕ) (t : Listing) (n : Name) (r : Row) → IsTable count t → rows t n ≡ Some r → r.fresh ≡ true → Allows count t (Remove n)
+pub may_remove : (count : ℕ) (t : VolumeTable) (n : Name) (r : Row) → IsTable count t → rows t n ≡ Some r → r.fresh ≡ true → Permits count t (Remove n)
 may_remove count t n r table there fresh = record { row = r; there = there; not_mgt = not_records count t n r table there fresh }
 
-each_left : (count : ℕ) (t : Listing) (n m : Name) (r : Row) → IsTable count t → rows t n ≡ Some r → r.fresh ≡ true → (b : Bool) → name_eq n m ≡ b
+each_left : (count : ℕ) (t : VolumeTable) (n m : Name) (r : Row) → IsTable count t → rows t n ≡ Some r → r.fresh ≡ true → (b : Bool) → name_eq n m ≡ b
     → (rows (applied t (Remove n)) m ≡ rows t m) ⊎ IsGone t (applied t (Remove n)) m
 each_left count t n m r table there fresh true is =
     let same : n ≡ m = name_eq-true n m is in
     inr (subst (λ x. row_of (without n t.volumes) x ≡ None) same (row_of-without_same t.volumes n table.volumes.rising), (r, subst (λ x. rows t x ≡ Some r) same there, fresh))
 each_left count t n m r table there fresh false is = inl (row_of-without_other t.volumes n m (name_eq-false n m is))
 
-pub without_one : (count : ℕ) (t : Listing) (n : Name) (r : Row) → IsTable count t → rows t n ≡ Some r → r.fresh ≡ true → IsWithoutNew t (applied t (Remove n))
+pub without_one : (count : ℕ) (t : VolumeTable) (n : Name) (r : Row) → IsTable count t → rows t n ≡ Some r → r.fresh ≡ true → IsWithoutNew t (applied t (Remove n))
 without_one count t n r table there fresh = record {
   later = omega (arith, table.sequence);
   volumes = left_there n t.volumes;
@@ -116,16 +117,16 @@ without_one count t n r table there fresh = record {
 
 -- ---- one after another
 
-pub without_none : (t : Listing) → IsWithoutNew t t
+pub without_none : (t : VolumeTable) → IsWithoutNew t t
 without_none t = record { later = omega arith; volumes = λ r h. h; each = λ n. inl refl; records_stay = refl; no_more = omega arith }
 
-each_then : (a b c : Listing) (n : Name) → (rows b n ≡ rows a n) ⊎ IsGone a b n → (rows c n ≡ rows b n) ⊎ IsGone b c n → (rows c n ≡ rows a n) ⊎ IsGone a c n
+each_then : (a b c : VolumeTable) (n : Name) → (rows b n ≡ rows a n) ⊎ IsGone a b n → (rows c n ≡ rows b n) ⊎ IsGone b c n → (rows c n ≡ rows a n) ⊎ IsGone a c n
 each_then a b c n (inl first) (inl second) = inl (second ∙ first)
 each_then a b c n (inl first) (inr (none, (r, was, fresh))) = inr (none, (r, sym first ∙ was, fresh))
 each_then a b c n (inr (none, w)) (inl second) = inr (second ∙ none, w)
 each_then a b c n (inr (none, w)) (inr (gone, v)) = inr (gone, w)
 
-pub without_then : {a b c : Listing} → IsWithoutNew a b → IsWithoutNew b c → IsWithoutNew a c
+pub without_then : {a b c : VolumeTable} → IsWithoutNew a b → IsWithoutNew b c → IsWithoutNew a c
 without_then {a} {b} {c} first second = record {
   later = omega (arith, first.later, second.later);
   volumes = λ r h. first.volumes r (second.volumes r h);
@@ -134,7 +135,7 @@ without_then {a} {b} {c} first second = record {
   no_more = omega (arith, first.no_more, second.no_more);
 }
 
-pub checked_left : {s : Site} {t u : Listing} → IsChecked s t → IsWithoutNew t u → IsTable s.count u → IsChecked s u
+pub checked_left : {s : Site} {t u : VolumeTable} → IsChecked s t → IsWithoutNew t u → IsTable s.count u → IsChecked s u
 checked_left {s} {t} {u} c w table = record {
   table = table;
   few_extents = c.few_extents;
@@ -143,59 +144,59 @@ checked_left {s} {t} {u} c w table = record {
   record_volume = ap (λ o. length (extents_of o)) w.records_stay ∙ c.record_volume;
 }
 
-pub checked_one : {s : Site} {t : Listing} (n : Name) (r : Row) → IsChecked s t → rows t n ≡ Some r → r.fresh ≡ true → IsChecked s (applied t (Remove n))
+pub checked_one : {s : Site} {t : VolumeTable} (n : Name) (r : Row) → IsChecked s t → rows t n ≡ Some r → r.fresh ≡ true → IsChecked s (applied t (Remove n))
 checked_one {s} {t} n r c there fresh =
     checked_left c (without_one s.count t n r c.table there fresh) (IsTable-applied s.count t (Remove n) c.table (may_remove s.count t n r c.table there fresh))
 
 -- ---- the first that is new
 
-In-rows : (hs : List HeldRow) (h : HeldRow) → In h hs → In h.row (rows_alone hs)
+In-rows : (hs : List RoomyRow) (h : RoomyRow) → In h hs → In h.row (rows_alone hs)
 In-rows [] h none = none
-In-rows (g ∷ hs) h (inl same) = inl (ap (λ (x : HeldRow). x.row) same)
+In-rows (g ∷ hs) h (inl same) = inl (ap (λ (x : RoomyRow). x.row) same)
 In-rows (g ∷ hs) h (inr later) = inr (In-rows hs h later)
 
-rows-In : (hs : List HeldRow) (r : Row) → In r (rows_alone hs) → (h : HeldRow) × In h hs × (h.row ≡ r)
+rows-In : (hs : List RoomyRow) (r : Row) → In r (rows_alone hs) → (h : RoomyRow) × In h hs × (h.row ≡ r)
 rows-In [] r none = absurd none
 rows-In (g ∷ hs) r (inl same) = (g, inl refl, sym same)
 rows-In (g ∷ hs) r (inr later) = let w = rows-In hs r later in (w.0, inr w.1, w.2)
 
-found_step : (b : Bool) (g h : HeldRow) (hs : List HeldRow) (rest : Option HeldRow) → g.row.fresh ≡ b → (rest ≡ Some h → In h hs × (h.row.fresh ≡ true))
+found_step : (b : Bool) (g h : RoomyRow) (hs : List RoomyRow) (rest : Option RoomyRow) → g.row.fresh ≡ b → (rest ≡ Some h → In h hs × (h.row.fresh ≡ true))
     → cond b (Some g) rest ≡ Some h → In h (g ∷ hs) × (h.row.fresh ≡ true)
-found_step true g h hs rest is from e = let same : h ≡ g = (let k = e in cc) in (inl same, ap (λ (x : HeldRow). x.row.fresh) same ∙ is)
+found_step true g h hs rest is from e = let same : h ≡ g = (let k = e in cc) in (inl same, ap (λ (x : RoomyRow). x.row.fresh) same ∙ is)
 found_step false g h hs rest is from e = let w = from e in (inr w.0, w.1)
 
-found_new : (hs : List HeldRow) (h : HeldRow) → find (λ (x : HeldRow). x.row.fresh) hs ≡ Some h → In h hs × (h.row.fresh ≡ true)
+found_new : (hs : List RoomyRow) (h : RoomyRow) → find (λ (x : RoomyRow). x.row.fresh) hs ≡ Some h → In h hs × (h.row.fresh ≡ true)
 found_new [] h e = absurd (let k = e in cc)
-found_new (g ∷ hs) h e = found_step g.row.fresh g h hs (find (λ (x : HeldRow). x.row.fresh) hs) refl (found_new hs h) e
+found_new (g ∷ hs) h e = found_step g.row.fresh g h hs (find (λ (x : RoomyRow). x.row.fresh) hs) refl (found_new hs h) e
 
-pub new_first : (count : ℕ) (k : Kept) (h : HeldRow) → IsTable count (listing k) → Some h ≡ find (λ (x : HeldRow). x.row.fresh) k.rows → IsNew (listing k) h.row.name
+pub new_first : (count : ℕ) (k : RoomyTable) (h : RoomyRow) → IsTable count (table_alone k) → Some h ≡ find (λ (x : RoomyRow). x.row.fresh) k.rows → IsNewVolume (table_alone k) h.row.name
 new_first count k h table found =
     let w = found_new k.rows h (sym found) in (h.row, row_of-here (rows_alone k.rows) h.row table.volumes.rising (In-rows k.rows h w.0), w.1)
 
-pub new_none : (k : Kept) → None ≡ find (λ (x : HeldRow). x.row.fresh) k.rows → (r : Row) → In r (rows_alone k.rows) → r.fresh ≡ false
+pub new_none : (k : RoomyTable) → None ≡ find (λ (x : RoomyRow). x.row.fresh) k.rows → (r : Row) → In r (rows_alone k.rows) → r.fresh ≡ false
 new_none k found r there =
     let w = rows-In k.rows r there in
-    ap (λ (x : Row). x.fresh) (sym w.2) ∙ none_find (λ (x : HeldRow). x.row.fresh) k.rows (sym found) w.0 w.1
+    ap (λ (x : Row). x.fresh) (sym w.2) ∙ none_find (λ (x : RoomyRow). x.row.fresh) k.rows (sym found) w.0 w.1
 
 -- ---- while they are removed
 
 -- one commit more
-pub removed_more : {s : Site} {a t u : Listing} (n : Name) → IsChecked s t → IsWithoutNew a t → IsNew t n → u ≡ applied t (Remove n) → IsChecked s u × IsWithoutNew a u
+pub removed_more : {s : Site} {a t u : VolumeTable} (n : Name) → IsChecked s t → IsWithoutNew a t → IsNewVolume t n → u ≡ applied t (Remove n) → IsChecked s u × IsWithoutNew a u
 removed_more {s} {a} {t} {u} n c w new is =
     subst (λ x. IsChecked s x × IsWithoutNew a x) (sym is)
     (checked_one n new.0 c new.1 new.2, without_then w (without_one s.count t n new.0 c.table new.1 new.2))
 
-pub removed_shorter : (t u : Listing) (n : Name) → IsNew t n → u ≡ applied t (Remove n) → length u.volumes < length t.volumes
+pub removed_shorter : (t u : VolumeTable) (n : Name) → IsNewVolume t n → u ≡ applied t (Remove n) → length u.volumes < length t.volumes
 removed_shorter t u n new is = subst (λ x. length x.volumes < length t.volumes) (sym is) (shorter n t.volumes new.0 new.1)
 
-pub new_at : {a b : Kept} (n : Name) → a ≡ b → IsNew (listing a) n → IsNew (listing b) n
-new_at n same new = subst (λ k. IsNew (listing k) n) same new
+pub new_at : {a b : RoomyTable} (n : Name) → a ≡ b → IsNewVolume (table_alone a) n → IsNewVolume (table_alone b) n
+new_at n same new = subst (λ k. IsNewVolume (table_alone k) n) same new
 
-pub none_at : {t u : Listing} → t ≡ u → ((r : Row) → In r t.volumes → r.fresh ≡ false) → (r : Row) → In r u.volumes → r.fresh ≡ false
+pub none_at : {t u : VolumeTable} → t ≡ u → ((r : Row) → In r t.volumes → r.fresh ≡ false) → (r : Row) → In r u.volumes → r.fresh ≡ false
 none_at same none = subst (λ x. (r : Row) → In r x.volumes → r.fresh ≡ false) same none
 
 -- where none is new any more, the table is in order
-pub orderly_from : {s now : Site} {t : Listing} (k : Kept) → IsChecked s t → now ≡ s → listing k ≡ t → ((r : Row) → In r (listing k).volumes → r.fresh ≡ false) → IsOrderly now t
+pub orderly_from : {s now : Site} {t : VolumeTable} (k : RoomyTable) → IsChecked s t → now ≡ s → table_alone k ≡ t → ((r : Row) → In r (table_alone k).volumes → r.fresh ≡ false) → IsOrderly now t
 orderly_from {s} {now} {t} k c site is none = subst (λ z. IsOrderly z t) (sym site) (record {
   table = c.table;
   few_extents = c.few_extents;

@@ -1,95 +1,68 @@
 -- What the repair leaves once it is made last, and what a stop leaves before.
-use Rattle.std.proofs.Common.{◌≡◌, ℕ, ◌<◌, ◌≤◌, true, List, get_or, Option, Some, None, is_some, sym, ap, ◌∙◌, subst, subst₂, arith}
+use Rattle.std.proofs.Common.{◌≡◌, ℕ, ◌<◌, true, List, get_or, Option, Some, None, is_some, sym, ap, ◌∙◌, subst, subst₂, arith}
 use Rattle.std.specs.List.{slice_get}
-use Rattle.std.proofs.lemmas.Option.{slice_get-get_or, slice_get_within}
+use Rattle.std.proofs.lemmas.Option.{slice_get-get_or}
 use Rattle.std.proofs.Math.Path.{fun_ext}
-use Rattle.sm_disk.specs.Held.{Held, reads, May, Keeps, IsSettled, SameHeld}
+use Rattle.sm_disk.specs.Held.{Held, May, Keeps, IsSettled}
 use Rattle.sm_disk.proofs.HeldLaws.{May-reads, reads-same, Keeps-same}
-use Rattle.vg_meta.specs.Tables.{Listing, extents_of}
-use Rattle.vg_volumes.specs.Commits.{IsBefore}
+use Rattle.sm_base.specs.declared.names.Name.TheVariants.{Mgt}
+use Rattle.vg_meta.specs.Roomy.{table_alone}
+use Rattle.vg_meta.specs.Tables.{VolumeTable, extents_of}
 use Rattle.vg_volumes.specs.Sites.{Site, area_size}
-use Rattle.vg_volumes.specs.Volumes.{spot, span, volume, piece, SameElsewhere}
+use Rattle.vg_volumes.specs.Stored.{stored, Stays, OnlyReads, Writes, IsChoiceOf}
+use Rattle.vg_volumes.specs.Volumes.{volume}
+use Rattle.vg_volumes.specs.declared.stores.Store.{Ghosts}
+use Rattle.vg_volumes.proofs.StoredLaws.{stays_none, did_in}
+use Rattle.vg_volumes.proofs.VolumeLaws.{Keeps-volume}
 use Rattle.sm_record.specs.declared.records.Record.{Record}
 use Rattle.sm_record.specs.declared.records.Reading.TheVariants.{Taken}
 use Rattle.sm_record.specs.Records.{reading}
-use Rattle.sm_mgt.specs.Places.{Agrees, as_reading, records_held, place_count}
-use Rattle.sm_standing.specs.Contents.{Content, reading_at, record_count}
+use Rattle.sm_mgt.specs.Places.{Agrees, as_reading, records_held, records_of, place_count}
+use Rattle.sm_standing.specs.Contents.{Content}
 use Rattle.sm_standing.specs.Checks.{first_fault_today}
 use Rattle.sm_standing.specs.PlainSound.{PlainSound}
-use Rattle.sm_standing.specs.Standing.{stands}
+use Rattle.sm_standing.specs.Standing.{standing_volume}
 use Rattle.sm_standing.proofs.PlainKept.{today_sound}
 use Rattle.sm_recover.specs.Cleaned.{ReadsAsBefore}
-use Rattle.sm_recover.specs.Stores.{IsOrderly, IsAtRest, IsRepairedFrom, HasNoStray, content_in, content_now}
+use Rattle.sm_recover.specs.Stores.{IsOrderly, IsAtRest, IsRepairedFrom, HasNoStray, content_in, content_now, store_content}
 use Rattle.sm_recover.specs.Pruned.{IsWithoutNew, IsPruned}
-use Rattle.sm_recover.specs.Repairs.{IsChecked, IsRightAt, IsStrayAt, IsZeroedAt}
+use Rattle.sm_recover.specs.Repairs.{IsChecked, IsCheckedStore, IsRightAt, IsStrayAt, IsZeroedAt}
 use Rattle.sm_recover.proofs.PrunedLaws.{sound_left, disks_left}
 use Rattle.sm_recover.proofs.RemovalLaws.{without_none}
-use Rattle.sm_recover.proofs.AreaLaws.{record_places, records_fit, pruned, wiped_by, volume_reads, reading_is}
+use Rattle.sm_recover.proofs.AreaLaws.{record_places, pruned, wiped_by, reading_is}
 
-pub checked_of : {s : Site} {t : Listing} → IsOrderly s t → IsChecked s t
+pub checked_of : {s : Site} {t : VolumeTable} → IsOrderly s t → IsChecked s t
 checked_of o = record { table = o.table; few_extents = o.few_extents; plain = o.plain; few_images = o.few_images; record_volume = o.record_volume }
 
 -- ---- memory agrees with the store
 
-agrees_by : (s : Site) (t : Listing) (es : List ℕ) (old new : Held) (places : List (Option Record)) → record_count ≤ span s.geometry.extent es
-    → ((p : ℕ) → reads new p ≡ reads old p) → Agrees (volume s.geometry.extent es old) places → Agrees (volume s.geometry.extent es new) places
-unfolding piece
-agrees_by s t es old new places fits same agrees = record {
-  long = agrees.long;
-  each = λ k o at.
-      let below : k < span s.geometry.extent es = omega (arith, slice_get_within places k o at, agrees.long, fits) in
-      ap reading (volume_reads s.geometry.extent es new k below ∙ same (spot s.geometry.extent es k) ∙ sym (volume_reads s.geometry.extent es old k below)) ∙ agrees.each k o at;
-}
+agrees_keeps : {old new : Held} {places : List (Option Record)} → Keeps old new → Agrees old places → Agrees new places
+agrees_keeps keeps agrees = record { long = agrees.long; each = λ k o at. ap reading (keeps.reads k) ∙ agrees.each k o at }
 
 -- after new volumes were removed
-pub agrees_left : {s now : Site} {old new : Listing} (before after : Held) (places : List (Option Record)) → IsChecked s old → now ≡ s → IsWithoutNew old new → Keeps before after
+pub agrees_left : {s now : Site} {old new : VolumeTable} (before after : Held) (places : List (Option Record)) → now ≡ s → IsWithoutNew old new → Keeps before after
     → Agrees (records_held s old before) places → Agrees (records_held now new after) places
-agrees_left {s} {now} {old} {new} before after places c site w keeps agrees =
+agrees_left {s} {now} {old} {new} before after places site w keeps agrees =
     subst (λ z. Agrees (records_held z new after) places) (sym site)
     (subst (λ o. Agrees (volume s.geometry.extent (extents_of o) after) places) (sym w.records_stay)
-    (agrees_by s old (record_places old) before after places (records_fit c) keeps.reads agrees))
-
--- after a sync
-pub agrees_synced : {s now : Site} {t u : Listing} (before after : Held) (places : List (Option Record)) → IsChecked s t → now ≡ s → u ≡ t → Keeps before after
-    → Agrees (records_held s t before) places → Agrees (records_held now u after) places
-agrees_synced {s} {now} {t} {u} before after places c site table keeps agrees =
-    subst₂ (λ x y. Agrees (records_held x y after) places) (sym site) (sym table) (agrees_by s t (record_places t) before after places (records_fit c) keeps.reads agrees)
+    (agrees_keeps (Keeps-volume s.geometry.extent (record_places old) keeps) agrees))
 
 read_some : (o : Option Record) (r : Record) → as_reading o ≡ Taken r → o ≡ Some r
 read_some None r h = absurd (let e = h in cc)
 read_some (Some q) r h = (let e = h in cc)
 
 -- where no place in memory has a stray record, no sector has one
-pub none_stray : {s now : Site} {t u : Listing} (area : Held) (places : List (Option Record)) → IsChecked s t → now ≡ s → u ≡ t → Agrees (records_held now u area) places
-    → ((k : ℕ) → k < place_count → IsRightAt t places k) → HasNoStray (content_now now u area)
-none_stray {s} {now} {t} {u} area places c site table agrees right =
-    subst₂ (λ x y. HasNoStray (content_now x y area)) (sym site) (sym table) (λ k r below is. at k r below is (slice_get-get_or places k None (omega (arith, below, agrees.long))))
+pub none_stray : {s : Site} {t : VolumeTable} (area : Held) (places : List (Option Record)) → IsChecked s t → Agrees (records_held s t area) places
+    → ((k : ℕ) → k < place_count → IsRightAt t places k) → HasNoStray (content_now s t area)
+none_stray {s} {t} area places c agrees right k r below is = at (slice_get-get_or places k None (omega (arith, below, agrees.long)))
   where
-    here : Agrees (records_held s t area) places
-    here = subst₂ (λ x y. Agrees (records_held x y area) places) site table agrees
-
-    at : (k : ℕ) (r : Record) → k < record_count → reading_at (content_now s t area) k ≡ Taken r → slice_get places k ≡ Some (get_or places k None) → is_some (stands t r.uuid) ≡ true
-    at k r below is found =
-        let same : get_or places k None ≡ Some r = read_some (get_or places k None) r (sym (reading_is area c here k (get_or places k None) below found) ∙ is) in
+    at : slice_get places k ≡ Some (get_or places k None) → is_some (standing_volume t r.uuid) ≡ true
+    at found =
+        let same : get_or places k None ≡ Some r = read_some (get_or places k None) r (sym (reading_is area c agrees k (get_or places k None) below found) ∙ is) in
         right k below r (found ∙ ap Some same)
 
--- ---- while records are wiped
-
--- a stop before the sync
-pub tidy_stop : {s now : Site} {t u left : Listing} (old mid : Held) (places : List (Option Record)) {image : ℕ → List ℕ} → IsChecked s t → now ≡ s → u ≡ t → IsSettled old
-    → Agrees (records_held s t old) places → SameElsewhere s.geometry.extent (record_places t) old mid → IsZeroedAt (IsStrayAt t places) (records_held s t old) (records_held s t mid)
-    → IsBefore (area_size now) u mid left image → IsPruned (content_now s t old) (content_in s left image)
-tidy_stop {s} {now} {t} {u} {left} old mid places {image} c site table settled agrees other zeroed b =
-    subst (λ x. IsPruned (content_now s t old) (content_in s x image)) (sym (b.table_is ∙ table))
-    (pruned c.table (without_none t) (wiped_by c settled agrees other zeroed (λ p below. b.sectors p (subst (λ z. p < area_size z) (sym site) below))))
-
--- what is read after it
-pub tidy_now : {s now : Site} {t u : Listing} (old mid end : Held) (places : List (Option Record)) → IsChecked s t → now ≡ s → u ≡ t → IsSettled old
-    → Agrees (records_held s t old) places → SameElsewhere s.geometry.extent (record_places t) old mid → IsZeroedAt (IsStrayAt t places) (records_held s t old) (records_held s t mid)
-    → Keeps mid end → IsPruned (content_now s t old) (content_now now u end)
-tidy_now {s} {now} {t} {u} old mid end places c site table settled agrees other zeroed keeps =
-    subst₂ (λ x y. IsPruned (content_now s t old) (content_now x y end)) (sym site) (sym table)
-    (pruned c.table (without_none t) (wiped_by c settled agrees other zeroed (λ p below. subst (May mid p) (sym (keeps.reads p)) (May-reads mid p))))
+pub right_as : {t u : VolumeTable} (places : List (Option Record)) → u ≡ t → ((k : ℕ) → k < place_count → IsRightAt t places k) → (k : ℕ) → k < place_count → IsRightAt u places k
+right_as {t} {u} places same right k below = subst (λ x. IsRightAt x places k) (sym same) (right k below)
 
 -- ---- both repairs
 
@@ -105,38 +78,66 @@ repaired_twice old mid new sound p q =
     record { was_sound = sound; sound = sound_left mid new m q; same_disks = disks_left mid new m q ∙ disks_left old mid s p }
 
 -- content_in has the site of before
-pub pruned_at : {s now : Site} {t : Listing} (area : Held) {left : Listing} {image : ℕ → List ℕ} → now ≡ s
+pub pruned_at : {s now : Site} {t : VolumeTable} (area : Held) {left : VolumeTable} {image : ℕ → List ℕ} → now ≡ s
     → IsPruned (content_now now t area) (content_in now left image) → IsPruned (content_now now t area) (content_in s left image)
 pruned_at {s} {now} {t} area {left} {image} site p = subst (λ z. IsPruned (content_now now t area) (content_in z left image)) site p
 
-pub rest_from : {s : Site} {t : Listing} (area : Held) (places : List (Option Record)) → PlainSound (content_now s t area) → IsSettled area → HasNoStray (content_now s t area)
+pub rest_from : {s : Site} {t : VolumeTable} (area : Held) (places : List (Option Record)) → PlainSound (content_now s t area) → IsSettled area → HasNoStray (content_now s t area)
     → Agrees (records_held s t area) places → IsAtRest s t area places
 rest_from area places sound settled no_stray agrees = record { sound = sound; settled = settled; no_stray = no_stray; agrees = agrees }
 
--- ---- where nothing was written
+-- ---- over a store
 
-pub same_content : (s : Site) (t : Listing) (old new : Held) → SameHeld old new → content_now s t new ≡ content_now s t old
-same_content s t old new same = ap (content_in s t) (fun_ext (λ p. reads-same same p))
+-- the records are wiped
+abbrev pub Wipes : {S : Type 0} → Ghosts S → List (Option Record) → S → S → Type 0
+Wipes g places a b = Writes g Mgt (IsZeroedAt (IsStrayAt (table_alone (g.table a)) places)) a b
 
-pub settled_same : {old new : Held} → SameHeld old new → IsSettled old → IsSettled new
-settled_same same settled p = same.pending p ∙ settled p
+module _ {S : Type 0} {g : Ghosts S} where
+  pub checked_as : {a b : S} → Stays g a b → IsCheckedStore g a → IsCheckedStore g b
+  checked_as stays c = subst₂ IsChecked (sym stays.site) (sym stays.table) c
 
-pub content_as : {s now : Site} {t u : Listing} (old new : Held) → now ≡ s → u ≡ t → SameHeld old new → content_now now u new ≡ content_now s t old
-content_as {s} {now} {t} {u} old new site table same =
-    ap (λ z. content_now z u new) site ∙ ap (λ x. content_now s x new) table ∙ same_content s t old new same
+  -- after a sync
+  pub agrees_synced : {a b : S} {places : List (Option Record)} → Stays g a b → Keeps (g.area a) (g.area b) → Agrees (records_of g a) places → Agrees (records_of g b) places
+  agrees_synced {a} {b} {places} stays keeps agrees =
+      subst₂ (λ x y. Agrees (records_held x y (g.area b)) places) (sym stays.site) (sym stays.table) (agrees_keeps (Keeps-volume _ _ keeps) agrees)
 
-pub agrees_as : {s now : Site} {t u : Listing} (old new : Held) (places : List (Option Record)) → IsChecked s t → now ≡ s → u ≡ t → SameHeld old new
-    → Agrees (records_held s t old) places → Agrees (records_held now u new) places
-agrees_as old new places c site table same agrees = agrees_synced old new places c site table (Keeps-same same) agrees
+  wiped : {a b : S} (places : List (Option Record)) {image : ℕ → List ℕ} → IsCheckedStore g a → Wipes g places a b → g.told → IsSettled (g.area a) → Agrees (records_of g a) places
+      → ((p : ℕ) → p < area_size (g.site a) → May (g.area b) p (image p)) → IsPruned (store_content g a) (content_in (g.site a) (table_alone (g.table a)) image)
+  wiped {a} {b} places c w told settled agrees may =
+      pruned c.table (without_none (table_alone (g.table a))) (wiped_by c settled agrees (w.beside told) (did_in (stays_none a) w told) may)
 
-pub checked_as : {s now : Site} {t u : Listing} → now ≡ s → u ≡ t → IsChecked s t → IsChecked now u
-checked_as {s} {now} {t} {u} site table c = subst₂ (λ x y. IsChecked x y) (sym site) (sym table) c
+  -- a stop before the sync
+  pub tidy_stop : {a b : S} (places : List (Option Record)) {left : VolumeTable} {image : ℕ → List ℕ} → IsCheckedStore g a → Wipes g places a b → g.told → IsSettled (g.area a)
+      → Agrees (records_of g a) places → IsChoiceOf (stored g b) left image → IsPruned (store_content g a) (content_in (g.site a) left image)
+  tidy_stop {a} {b} places {left} {image} c w told settled agrees stop =
+      subst (λ x. IsPruned (store_content g a) (content_in (g.site a) x image)) (sym (stop.table_is ∙ w.stays.table))
+      (wiped places c w told settled agrees (λ p below. stop.sectors p (subst (λ z. p < area_size z) (sym w.stays.site) below)))
 
-pub repaired_as : {s now : Site} {t u : Listing} (old new : Held) {left : Listing} {image : ℕ → List ℕ} → now ≡ s → u ≡ t → SameHeld old new
-    → IsRepairedFrom (content_now now u new) (content_in now left image) → IsRepairedFrom (content_now s t old) (content_in s left image)
-repaired_as {s} {now} {t} {u} old new {left} {image} site table same r =
-    subst (λ c. IsRepairedFrom c (content_in s left image)) (content_as old new site table same) (subst (λ z. IsRepairedFrom (content_now now u new) (content_in z left image)) site r)
+  -- what is read after it
+  pub tidy_now : {a b d : S} (places : List (Option Record)) → IsCheckedStore g a → Wipes g places a b → g.told → IsSettled (g.area a) → Agrees (records_of g a) places
+      → Stays g a d → Keeps (g.area b) (g.area d) → IsPruned (store_content g a) (store_content g d)
+  tidy_now {a} {b} {d} places c w told settled agrees stays keeps =
+      subst₂ (λ x y. IsPruned (store_content g a) (content_now x y (g.area d))) (sym stays.site) (sym stays.table)
+      (wiped places c w told settled agrees (λ p below. subst (May (g.area b) p) (sym (keeps.reads p)) (May-reads (g.area b) p)))
 
-pub reads_as : {s now : Site} {t u : Listing} (old new : Held) (c : Content) → now ≡ s → u ≡ t → SameHeld old new
-    → ReadsAsBefore (content_now now u new) c → ReadsAsBefore (content_now s t old) c
-reads_as {s} {now} {t} {u} old new c site table same r = subst (λ x. ReadsAsBefore x c) (content_as old new site table same) r
+  -- ---- where nothing was written
+
+  pub content_as : {a b : S} → OnlyReads g a b → g.told → store_content g b ≡ store_content g a
+  content_as {a} {b} r told =
+      ap (λ z. content_now z (table_alone (g.table b)) (g.area b)) r.stays.site
+      ∙ ap (λ x. content_now (g.site a) x (g.area b)) r.stays.table
+      ∙ ap (content_in (g.site a) (table_alone (g.table a))) (fun_ext (λ p. reads-same (r.held told) p))
+
+  pub settled_same : {a b : S} → OnlyReads g a b → g.told → IsSettled (g.area a) → IsSettled (g.area b)
+  settled_same r told settled p = (r.held told).pending p ∙ settled p
+
+  pub agrees_as : {a b : S} {places : List (Option Record)} → OnlyReads g a b → g.told → Agrees (records_of g a) places → Agrees (records_of g b) places
+  agrees_as r told agrees = agrees_synced r.stays (Keeps-same (r.held told)) agrees
+
+  pub repaired_as : {a b : S} {left : VolumeTable} {image : ℕ → List ℕ} → OnlyReads g a b → g.told
+      → IsRepairedFrom (store_content g b) (content_in (g.site b) left image) → IsRepairedFrom (store_content g a) (content_in (g.site a) left image)
+  repaired_as {a} {b} {left} {image} r told p =
+      subst₂ (λ c z. IsRepairedFrom c (content_in z left image)) (content_as r told) r.stays.site p
+
+  pub reads_as : {a b : S} (c : Content) → OnlyReads g a b → g.told → ReadsAsBefore (store_content g b) c → ReadsAsBefore (store_content g a) c
+  reads_as {a} {b} c r told p = subst (λ x. ReadsAsBefore x c) (content_as r told) p

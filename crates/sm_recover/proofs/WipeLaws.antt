@@ -1,5 +1,5 @@
 -- Records of no disk are wiped, place by place.
-use Rattle.std.proofs.Common.{◌≡◌, ◌≢◌, ℕ, zero, suc, ◌+◌, ◌-◌, ◌<◌, ◌≤◌, ◌⊎◌, inl, inr, ⊎_elim, List, [], ◌∷◌, length, set, Option, Some, None, refl, sym, ap, ◌∙◌, subst, subst₂, arith}
+use Rattle.std.proofs.Common.{◌≡◌, ◌≢◌, ℕ, zero, suc, ◌+◌, ◌-◌, ◌<◌, ◌≤◌, ◌⊎◌, inl, inr, ⊎_elim, List, [], ◌∷◌, length, set, Option, Some, None, refl, sym, ap, ◌∙◌, subst, arith}
 use Rattle.std.specs.List.{slice_get}
 use Rattle.std.proofs.lemmas.Bool.{cases_lt}
 use Rattle.std.proofs.lemmas.Grind.{get_or-set_at}
@@ -9,31 +9,30 @@ use Rattle.sm_disk.specs.Held.{Held, Torn, Wrote, Puts}
 use Rattle.sm_disk.specs.Sectors.{sector, zeros}
 use Rattle.sm_disk.proofs.HeldLaws.{in_one, may-torn}
 use Rattle.sm_disk.proofs.SectorLaws.{sector-one, IsSector-zeros}
-use Rattle.vg_meta.specs.Tables.{Listing}
-use Rattle.vg_volumes.specs.Sites.{Site}
+use Rattle.vg_meta.specs.Tables.{VolumeTable}
 use Rattle.sm_record.specs.declared.records.Record.{Record}
-use Rattle.sm_mgt.specs.Places.{Agrees, place_count, records_held}
+use Rattle.sm_mgt.specs.Places.{Agrees, place_count}
 use Rattle.sm_mgt.proofs.AgreeLaws.{agrees_wipe}
 use Rattle.sm_recover.specs.Repairs.{IsRightAt, IsStrayAt, IsZeroedAt}
 
 -- ---- one place
 
-put_at : (t : Listing) (places : List (Option Record)) (place : ℕ) → IsStrayAt t places place → (p : ℕ) (v : List ℕ) → Puts place zeros p v → (v ≡ zeros) × IsStrayAt t places p
+put_at : (t : VolumeTable) (places : List (Option Record)) (place : ℕ) → IsStrayAt t places place → (p : ℕ) (v : List ℕ) → Puts place zeros p v → (v ≡ zeros) × IsStrayAt t places p
 put_at t places place stray p v (here, is) =
     let at : p ≡ place = in_one place (length zeros) p IsSector-zeros.long here in
     let first : p - place ≡ 0 = omega arith in
     (is ∙ ap (sector zeros) first ∙ sector-one zeros IsSector-zeros.long, subst (IsStrayAt t places) (sym at) stray)
 
 -- zeros were to be written over a stray record
-pub zeroed_one : (t : Listing) (places : List (Option Record)) (place : ℕ) (old new : Held) → IsStrayAt t places place → Torn place zeros old new → IsZeroedAt (IsStrayAt t places) old new
-zeroed_one t places place old new stray torn p v may = ⊎_elim (λ was. inl was) (λ puts. inr (put_at t places place stray p v puts)) (may-torn torn p v may)
+pub zeroed_one : (t : VolumeTable) (places : List (Option Record)) (place : ℕ) → IsStrayAt t places place → (old new : Held) → Torn place zeros old new → IsZeroedAt (IsStrayAt t places) old new
+zeroed_one t places place stray old new torn p v may = ⊎_elim (λ was. inl was) (λ puts. inr (put_at t places place stray p v puts)) (may-torn torn p v may)
 
 pub agrees_after : (places after : List (Option Record)) (place : ℕ) (old new : Held) → place < place_count → after ≡ set places place None → Wrote place zeros old new
     → Agrees old places → Agrees new after
 agrees_after places after place old new below is wrote was = subst (Agrees new) (sym is) (agrees_wipe places place old new (omega (arith, below, was.long)) wrote was)
 
 -- a place that was freed has no record
-pub freed_right : (t : Listing) (places after : List (Option Record)) (place : ℕ) → after ≡ set places place None → IsRightAt t after place
+pub freed_right : (t : VolumeTable) (places after : List (Option Record)) (place : ℕ) → after ≡ set places place None → IsRightAt t after place
 freed_right t places after place is r at =
     let there : slice_get (set places place None) place ≡ Some (Some r) = subst (λ (xs : List (Option Record)). slice_get xs place ≡ Some (Some r)) is at in
     let within : place < length places = omega (arith, slice_get_within (set places place None) place (Some r) there, length-set places place None) in
@@ -54,38 +53,30 @@ freed_others places after place is k other = ap (λ (xs : List (Option Record)).
 -- ---- one place after another
 
 -- what is known of memory so far: no stray record below, and what was there from here on
-pub record IsSoFar (t : Listing) (first now : List (Option Record)) (place : ℕ) : Type 0 where
+pub record IsSoFar (t : VolumeTable) (first now : List (Option Record)) (place : ℕ) : Type 0 where
   pub right : (k : ℕ) → k < place → IsRightAt t now k
   pub others : (k : ℕ) → place ≤ k → slice_get now k ≡ slice_get first k
 
-was_stray : (t : Listing) (first now : List (Option Record)) (place p : ℕ) → IsSoFar t first now place → (p < place) ⊎ (place ≤ p) → IsStrayAt t now p → IsStrayAt t first p
+was_stray : (t : VolumeTable) (first now : List (Option Record)) (place p : ℕ) → IsSoFar t first now place → (p < place) ⊎ (place ≤ p) → IsStrayAt t now p → IsStrayAt t first p
 was_stray t first now place p far (inl before) (r, at, stray) = absurd (let e = far.right p before r at in cc)
 was_stray t first now place p far (inr behind) (r, at, stray) = (r, sym (far.others p behind) ∙ at, stray)
 
-pub zeroed_step : {s0 s : Site} {t0 t : Listing} (first now : List (Option Record)) (place : ℕ) (a b d : Held) → s ≡ s0 → t ≡ t0 → IsSoFar t0 first now place
-    → IsZeroedAt (IsStrayAt t0 first) (records_held s0 t0 a) (records_held s0 t0 b)
-    → IsZeroedAt (IsStrayAt t now) (records_held s t b) (records_held s t d)
-    → IsZeroedAt (IsStrayAt t0 first) (records_held s0 t0 a) (records_held s0 t0 d)
-zeroed_step {s0} {s} {t0} {t} first now place a b d site table far before after p v may =
-    ⊎_elim (λ mid. before p v mid) (λ w. inr (w.0, was_stray t0 first now place p far (cases_lt p place) w.1))
-    (subst₂ (λ x y. IsZeroedAt (IsStrayAt y now) (records_held x y b) (records_held x y d)) site table after p v may)
+pub zeroed_step : {t0 t : VolumeTable} (first now : List (Option Record)) (place : ℕ) → t ≡ t0 → IsSoFar t0 first now place → (a b d : Held)
+    → IsZeroedAt (IsStrayAt t0 first) a b → IsZeroedAt (IsStrayAt t now) b d → IsZeroedAt (IsStrayAt t0 first) a d
+zeroed_step {t0} {t} first now place table far a b d before after p v may =
+    ⊎_elim (λ mid. before p v mid) (λ w. inr (w.0, was_stray t0 first now place p far (cases_lt p place) (subst (λ x. IsStrayAt x now p) table w.1))) (after p v may)
 
-pub agrees_step : {s0 s : Site} {t0 t : Listing} (now after : List (Option Record)) (b d : Held) → s ≡ s0 → t ≡ t0
-    → (Agrees (records_held s t b) now → Agrees (records_held s t d) after) → Agrees (records_held s0 t0 b) now → Agrees (records_held s0 t0 d) after
-agrees_step {s0} {s} {t0} {t} now after b d site table step =
-    subst₂ (λ x y. Agrees (records_held x y b) now → Agrees (records_held x y d) after) site table step
-
-right_more : (t : Listing) (first now after : List (Option Record)) (place : ℕ) → IsSoFar t first now place → IsRightAt t after place
+right_more : (t : VolumeTable) (first now after : List (Option Record)) (place : ℕ) → IsSoFar t first now place → IsRightAt t after place
     → ((k : ℕ) → k ≢ place → slice_get after k ≡ slice_get now k) → (k : ℕ) → (k < place) ⊎ (place ≤ k) → k < place + 1 → IsRightAt t after k
 right_more t first now after place far here same k (inl before) below = λ r at. far.right k before r (sym (same k (λ e. omega (arith, e))) ∙ at)
 right_more t first now after place far here same k (inr behind) below = let e : place ≡ k = omega arith in subst (IsRightAt t after) e here
 
-pub so_far_more : {t0 t : Listing} (first now after : List (Option Record)) (place : ℕ) → t ≡ t0 → IsSoFar t0 first now place → IsRightAt t after place
+pub so_far_more : {t0 t : VolumeTable} (first now after : List (Option Record)) (place : ℕ) → t ≡ t0 → IsSoFar t0 first now place → IsRightAt t after place
     → ((k : ℕ) → k ≢ place → slice_get after k ≡ slice_get now k) → IsSoFar t0 first after (place + 1)
 so_far_more {t0} {t} first now after place table far here same = record {
   right = λ k below. right_more t0 first now after place far (subst (λ x. IsRightAt x after place) table here) same k (cases_lt k place) below;
   others = λ k behind. same k (λ e. omega (arith, e)) ∙ far.others k (omega arith);
 }
 
-pub so_far_none : (t : Listing) (places : List (Option Record)) → IsSoFar t places places 0
+pub so_far_none : (t : VolumeTable) (places : List (Option Record)) → IsSoFar t places places 0
 so_far_none t places = record { right = λ k below. absurd (omega arith); others = λ k behind. refl }

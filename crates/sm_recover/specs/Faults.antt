@@ -7,18 +7,18 @@ use Rattle.sm_base.specs.declared.names.Name.{Name}
 use Rattle.sm_base.specs.declared.names.Name.TheVariants.{Mgt, Vhd, Raw, Old, Clone, Inflate, Coalesce, Relink, Leaf}
 use Rattle.sm_base.specs.declared.sizes.Geometry.{Geometry}
 use Rattle.std.specs.declared.cmp.Ordering.TheVariants.{Less}
-use Rattle.vg_meta.specs.Tables.{Listing, Row}
+use Rattle.vg_meta.specs.Tables.{VolumeTable, Row}
 use Rattle.sm_machine.specs.Disks.{uuid_before}
-use Rattle.sm_machine.specs.Lists.{given}
+use Rattle.common_laws.specs.Lists.{given}
 use Rattle.sm_record.specs.declared.records.Record.{Record}
 use Rattle.sm_mgt.specs.Places.{place_count, is_of, as_reading}
 use Rattle.sm_standing.specs.Contents.{Content, reading_at}
 use Rattle.sm_standing.specs.Checks.{record_volume_fault, too_many_fault, misnamed_fault, entry_ahead_fault, image_ahead_fault, invalid_fault, is_oversize}
 use Rattle.sm_standing.specs.Ordered.{uuid_cmp}
-use Rattle.sm_standing.specs.Standing.{stands}
+use Rattle.sm_standing.specs.Standing.{standing_volume}
 
 -- a content with these sizes and this table
-pub record HasTable (geometry : Geometry) (t : Listing) (c : Content) : Type 0 where
+pub record HasTable (geometry : Geometry) (t : VolumeTable) (c : Content) : Type 0 where
   pub extent : c.extent ≡ geometry.extent
   pub block : c.block ≡ geometry.block
   pub entries : c.entries ≡ geometry.entries
@@ -40,11 +40,11 @@ pub record HasPlaces (places : List (Option Record)) (c : Content) : Type 0 wher
   pub each : (k : ℕ) (o : Option Record) → slice_get places k ≡ Some o → reading_at c k ≡ as_reading o
 
 -- whether a UUID is a disk that has no record or several
-abbrev pub is_unrecorded_in : Listing → List (Option Record) → List ℕ → Bool
-is_unrecorded_in t places u = is_some (stands t u) && not (count_by (is_of u) places == 1)
+abbrev pub is_unrecorded_in : VolumeTable → List (Option Record) → List ℕ → Bool
+is_unrecorded_in t places u = is_some (standing_volume t u) && not (count_by (is_of u) places == 1)
 
 -- the UUID of a raw image, where it is such a disk
-unfoldable pub unrecorded : Listing → List (Option Record) → Name → Option (List ℕ)
+unfoldable pub unrecorded : VolumeTable → List (Option Record) → Name → Option (List ℕ)
 unrecorded t places (Raw u) = given (is_unrecorded_in t places u) u
 unrecorded t places Mgt = None
 unrecorded t places (Vhd u) = None

@@ -2,28 +2,25 @@
 
 ghost use Rattle.std.specs.Prelude.{◌≡◌, ℕ, ◌*◌, ◌<◌, ◌&&◌, not, nat_lt, length, filter, find, is_some};
 ghost use Rattle.std.specs.Option.{option_copied};
+ghost use Rattle.sm_base.specs.Kinds.{is_image, is_entry};
 ghost use Rattle.sm_base.specs.Numbers.{IsGeometry};
-ghost use Rattle.sm_machine.specs.Lists.{first_some};
+ghost use Rattle.common_laws.specs.Lists.{first_some};
 ghost use Rattle.sm_machine.specs.Shapes.{image_limit};
 ghost use Rattle.sm_standing.specs.Checks.{record_volume_fault, too_many_fault, misnamed_fault, entry_ahead_fault, image_ahead_fault, invalid_fault, is_misnamed as is_misnamed_row, is_image_ahead, is_oversize};
 ghost use Rattle.sm_standing.specs.Contents.{Content};
 ghost use Rattle.sm_standing.specs.Entries.{is_there, is_past, base_number};
 ghost use Rattle.sm_standing.specs.Plain.{IsPlain};
-ghost use Rattle.vg_meta.specs.Kept.{listing};
-ghost use Rattle.vg_meta.specs.Tables.{is_image, is_journal};
+ghost use Rattle.vg_meta.specs.Roomy.{table_alone};
 ghost use Rattle.sm_recover.specs.Faults.{HasTable, is_sized_wrong, table_faults};
 
-use sm_base::{Geometry, Name, Place, is_base};
+use sm_base::{Geometry, IMAGE_LIMIT, Name, Place, is_base};
 use uuid::Uuid;
 use vg_layout::record_extents;
 use vg_meta::{Table, Volume};
 
-/// The most images that a repository may have.
-const MOST_IMAGES: usize = 500;
-
 /// The place of the first check by the table that fails.
 pub fn table_fault(table: &Table, geometry: &Geometry) -> Option<Place>
-    ensures { (c : Content) → HasTable geometry.now (listing table.now) c → result ≡ first_some (table_faults c) }
+    ensures { (c : Content) → HasTable geometry.now (table_alone table.now) c → result ≡ first_some (table_faults c) }
 {
     if let Some(place) = record_volume_fault(table, geometry) {
         return Some(place);
@@ -45,7 +42,7 @@ pub fn table_fault(table: &Table, geometry: &Geometry) -> Option<Place>
 
 /// The volume of records is there, with exactly its extents.
 fn record_volume_fault(table: &Table, geometry: &Geometry) -> Option<Place>
-    ensures { (c : Content) → HasTable geometry.now (listing table.now) c → result ≡ record_volume_fault c }
+    ensures { (c : Content) → HasTable geometry.now (table_alone table.now) c → result ≡ record_volume_fault c }
 {
     match table.get(&Name::Mgt) {
         Some(volume) if volume.extents().len() == record_extents(geometry) as usize => None,
@@ -55,9 +52,9 @@ fn record_volume_fault(table: &Table, geometry: &Geometry) -> Option<Place>
 
 /// There are at most 500 images.
 fn too_many_fault(table: &Table) -> Option<Place>
-    ensures { (c : Content) → c.table ≡ listing table.now → result ≡ too_many_fault c }
+    ensures { (c : Content) → c.table ≡ table_alone table.now → result ≡ too_many_fault c }
 {
-    if count_images(table.volumes()) > MOST_IMAGES {
+    if count_images(table.volumes()) > IMAGE_LIMIT {
         Some(Place::Images)
     } else {
         None
@@ -66,7 +63,7 @@ fn too_many_fault(table: &Table) -> Option<Place>
 
 /// No image has another's UUID, nor the UUID of a base image that is still to come.
 fn misnamed_fault(table: &Table) -> Option<Place>
-    ensures { (c : Content) → c.table ≡ listing table.now → result ≡ misnamed_fault c }
+    ensures { (c : Content) → c.table ≡ table_alone table.now → result ≡ misnamed_fault c }
 {
     let volume = first_misnamed(table.volumes(), table)?;
     Some(Place::Image {
@@ -76,7 +73,7 @@ fn misnamed_fault(table: &Table) -> Option<Place>
 
 /// There is no journal entry.
 fn entry_fault(table: &Table) -> Option<Place>
-    ensures { (c : Content) → c.table ≡ listing table.now → result ≡ entry_ahead_fault c }
+    ensures { (c : Content) → c.table ≡ table_alone table.now → result ≡ entry_ahead_fault c }
 {
     let volume = first_entry(table.volumes())?;
     Some(Place::Journal {
@@ -86,7 +83,7 @@ fn entry_fault(table: &Table) -> Option<Place>
 
 /// Each image is a raw one, and visible.
 fn image_fault(table: &Table) -> Option<Place>
-    ensures { (c : Content) → c.table ≡ listing table.now → result ≡ image_ahead_fault c }
+    ensures { (c : Content) → c.table ≡ table_alone table.now → result ≡ image_ahead_fault c }
 {
     let volume = first_ahead(table.volumes())?;
     Some(Place::Image {
@@ -96,7 +93,7 @@ fn image_fault(table: &Table) -> Option<Place>
 
 /// Each raw image that is not new has at most as many blocks as a block allocation table has entries.
 fn size_fault(table: &Table, geometry: &Geometry) -> Option<Place>
-    ensures { (c : Content) → HasTable geometry.now (listing table.now) c → IsPlain (listing table.now) → result ≡ invalid_fault c }
+    ensures { (c : Content) → HasTable geometry.now (table_alone table.now) c → IsPlain (table_alone table.now) → result ≡ invalid_fault c }
 {
     let volume = first_oversize(table.volumes(), geometry)?;
     Some(Place::Image {
@@ -104,37 +101,25 @@ fn size_fault(table: &Table, geometry: &Geometry) -> Option<Place>
     })
 }
 
-fn holds_data(name: &Name) -> bool
-    ensures { result ≡ is_image name.now }
-{
-    matches!(name, Name::Vhd(_) | Name::Raw(_) | Name::Old(_))
-}
-
-fn is_entry(name: &Name) -> bool
-    ensures { result ≡ is_journal name.now }
-{
-    !matches!(name, Name::Mgt) && !holds_data(name)
-}
-
 fn count_images(volumes: &[Volume]) -> usize
     ensures { result ≡ length (filter (λ v. is_image v.row.name) volumes.now) }
 {
     volumes
         .iter()
-        .filter(|volume| holds_data(&volume.name()))
+        .filter(|volume| volume.name().is_image())
         .count()
 }
 
 fn first_misnamed<'a>(volumes: &'a [Volume], table: &Table) -> Option<&'a Volume>
-    ensures { option_copied result ≡ find (λ v. is_misnamed_row (listing table.now) v.row) volumes.now }
+    ensures { option_copied result ≡ find (λ v. is_misnamed_row (table_alone table.now) v.row) volumes.now }
 {
     volumes.iter().find(|volume| is_misnamed(volume, table))
 }
 
 fn first_entry(volumes: &[Volume]) -> Option<&Volume>
-    ensures { option_copied result ≡ find (λ v. is_journal v.row.name) volumes.now }
+    ensures { option_copied result ≡ find (λ v. is_entry v.row.name) volumes.now }
 {
-    volumes.iter().find(|volume| is_entry(&volume.name()))
+    volumes.iter().find(|volume| volume.name().is_entry())
 }
 
 fn first_ahead(volumes: &[Volume]) -> Option<&Volume>
@@ -151,7 +136,7 @@ fn first_oversize<'a>(volumes: &'a [Volume], geometry: &Geometry) -> Option<&'a 
 
 /// Whether a name of an image is not free for it.
 fn is_misnamed(volume: &Volume, table: &Table) -> bool
-    ensures { result ≡ is_misnamed_row (listing table.now) volume.now.row }
+    ensures { result ≡ is_misnamed_row (table_alone table.now) volume.now.row }
 {
     match volume.name() {
         Name::Vhd(uuid) => has(table, Name::Raw(uuid)) || !is_past(table.seq(), &uuid),
@@ -162,7 +147,7 @@ fn is_misnamed(volume: &Volume, table: &Table) -> bool
 }
 
 fn has(table: &Table, name: Name) -> bool
-    ensures { result ≡ is_there (listing table.now) name }
+    ensures { result ≡ is_there (table_alone table.now) name }
 {
     table.get(&name).is_some()
 }

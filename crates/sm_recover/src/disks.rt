@@ -5,8 +5,8 @@ ghost use Rattle.sm_machine.specs.Disks.{uuid_before};
 ghost use Rattle.sm_standing.specs.Checks.{disk_fault};
 ghost use Rattle.sm_standing.specs.Contents.{Content};
 ghost use Rattle.sm_standing.specs.Plain.{IsPlain};
-ghost use Rattle.sm_standing.specs.Standing.{stands};
-ghost use Rattle.vg_meta.specs.Kept.{listing};
+ghost use Rattle.sm_standing.specs.Standing.{standing_volume};
+ghost use Rattle.vg_meta.specs.Roomy.{table_alone};
 ghost use Rattle.sm_recover.specs.Faults.{HasPlaces, IsLeast, is_unrecorded_in, lesser, unrecorded};
 
 use sm_base::{Name, Place};
@@ -16,8 +16,8 @@ use vg_meta::{Table, Volume};
 
 /// The disk with the least UUID that has no record or several.
 pub fn disk_fault(table: &Table, mgt: &Mgt) -> Option<Place>
-    requires { IsPlain (listing table.now) }
-    ensures { (c : Content) → c.table ≡ listing table.now → HasPlaces mgt.now c → result ≡ disk_fault c }
+    requires { IsPlain (table_alone table.now) }
+    ensures { (c : Content) → c.table ≡ table_alone table.now → HasPlaces mgt.now c → result ≡ disk_fault c }
 {
     let uuid = least_unrecorded(table, mgt)?;
     Some(Place::Disk { uuid })
@@ -25,8 +25,8 @@ pub fn disk_fault(table: &Table, mgt: &Mgt) -> Option<Place>
 
 /// Whether a UUID is a disk, in a table of visible raw images alone.
 pub fn is_disk(table: &Table, uuid: &Uuid) -> bool
-    requires { IsPlain (listing table.now) }
-    ensures { result ≡ is_some (stands (listing table.now) uuid.now) }
+    requires { IsPlain (table_alone table.now) }
+    ensures { result ≡ is_some (standing_volume (table_alone table.now) uuid.now) }
 {
     match table.get(&Name::Raw(*uuid)) {
         Some(volume) => !volume.is_hidden() && !volume.is_fresh(),
@@ -35,8 +35,8 @@ pub fn is_disk(table: &Table, uuid: &Uuid) -> bool
 }
 
 fn least_unrecorded(table: &Table, mgt: &Mgt) -> Option<Uuid>
-    requires { IsPlain (listing table.now) }
-    ensures { IsLeast (λ u. is_unrecorded_in (listing table.now) mgt.now u ≡ true) result }
+    requires { IsPlain (table_alone table.now) }
+    ensures { IsLeast (λ u. is_unrecorded_in (table_alone table.now) mgt.now u ≡ true) result }
 {
     let mut least = None;
     for volume in table.volumes() {
@@ -48,8 +48,8 @@ fn least_unrecorded(table: &Table, mgt: &Mgt) -> Option<Uuid>
 /// The UUID of a raw image, where it is a disk that has no record or several.
 #[tactic(auto, unfolding(crate::specs::Faults::unrecorded))]
 fn unrecorded(volume: &Volume, table: &Table, mgt: &Mgt) -> Option<Uuid>
-    requires { IsPlain (listing table.now) }
-    ensures { result ≡ unrecorded (listing table.now) mgt.now volume.now.row.name }
+    requires { IsPlain (table_alone table.now) }
+    ensures { result ≡ unrecorded (table_alone table.now) mgt.now volume.now.row.name }
 {
     let Name::Raw(uuid) = volume.name() else {
         return None;

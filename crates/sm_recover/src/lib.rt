@@ -16,10 +16,11 @@
 //! its own (`removals.rt`), each record of no disk is wiped (`wiping.rt`), and one sync makes this last
 //! (`settling.rt`). At each moment a stop leaves what stood before, or a content that is sound and has the same disks:
 //! each is the earlier content, pruned (`laws.rt`). Where a check fails, or memory, nothing was written: the whole
-//! device is kept (`IsUntouched`). No opening changes what stands beside the store. At `Ok` nothing is pending, each
-//! record is that of a disk, and memory agrees with what a read gives; the table is the one from before without its new
-//! volumes, its sequence number raised by one for each of them; each volume that is left reads as before, but that of
-//! the records; and the shape is the one that an opening is to make of what stood before.
+//! device is kept (`OnlyReads`). No opening changes what stands beside the store, and at each moment the sequence number
+//! has risen at most by one for each volume that was new (`HasFewRemovals`). At `Ok` nothing is pending, each record is
+//! that of a disk, and memory agrees with what a read gives; the table is the one from before without its new volumes,
+//! its sequence number raised by one for each of them; each volume that is left reads as before, but that of the
+//! records; and the shape is the one that an opening is to make of what stood before.
 //!
 //! **What it costs.** `Mgt::load` takes memory for the records, and behind the checks an opening takes once the memory
 //! for the 505 rows that a table may come to have, less those that stand; nothing else takes any. The checks go over

@@ -1,13 +1,11 @@
 //! All checks, one after another, and then the memory for the rows of the table. Nothing is written.
 
-ghost use Rattle.std.specs.Prelude.{◌≡◌, ◌≤◌, ℕ, List, None, OnOk, IfOk, IfErr};
-ghost use Rattle.sm_disk.specs.Held.{Keeps, SameHeld};
-ghost use Rattle.sm_mgt.specs.Places.{Agrees, Stays, records_held};
+ghost use Rattle.std.specs.Prelude.{◌≡◌, None, OnOk, IfOk, IfErr};
+ghost use Rattle.sm_mgt.specs.Places.{Agrees, records_of};
 ghost use Rattle.sm_standing.specs.Checks.{first_fault_today};
-ghost use Rattle.vg_meta.specs.Kept.{listing};
-ghost use Rattle.vg_meta.specs.Tables.{Listing};
-ghost use Rattle.sm_recover.specs.Repairs.{IsChecked, IsStopped};
-ghost use Rattle.sm_recover.specs.Stores.{HasRows, content_now};
+ghost use Rattle.vg_volumes.specs.Stored.{OnlyReads};
+ghost use Rattle.sm_recover.specs.Repairs.{IsCheckedStore, IsOpeningStopped};
+ghost use Rattle.sm_recover.specs.Stores.{HasRows, store_content};
 
 use crate::checks::table_fault;
 use crate::disks::disk_fault;
@@ -22,19 +20,12 @@ const MOST_ROWS: usize = 505;
 /// Checks what stands in a store, takes the memory for all rows that its table may come to have, and answers the places
 /// of the records.
 pub fn checked_with_room<S: Store>(alloc: Global, store: &mut S) -> Result<Mgt, OpenFault>
-    ensures stays { Stays S.site S.kept S.failed store.old store.new }
-    ensures counts { S.faults store.old ≤ S.faults store.new }
-    ensures device { S.told → Keeps (S.device store.old) (S.device store.new) }
-    ensures beside { S.told → Keeps (S.beside store.old) (S.beside store.new) }
-    ensures same { S.told → SameHeld (S.area store.old) (S.area store.new) }
-    ensures leaves { S.told → (t : Listing) (image : ℕ → List ℕ) → S.leaves store.new t image → S.leaves store.old t image }
-    ensures checked { OnOk result (IsChecked (S.site store.old) (listing (S.kept store.old))) }
-    ensures sound { OnOk result (S.told → first_fault_today
-        (content_now (S.site store.old) (listing (S.kept store.old)) (S.area store.old)) ≡ None) }
-    ensures agrees { S.told → IfOk result (Agrees (records_held (S.site store.old) (listing (S.kept store.old)) (S.area store.old))) }
-    ensures cause { IfErr result (IsStopped S.told
-        (content_now (S.site store.old) (listing (S.kept store.old)) (S.area store.old)) (S.faults store.old) (S.faults store.new)) }
-    ensures room { OnOk result (HasRows (S.kept store.new)) }
+    ensures reads { OnlyReads S.Store store.old store.new }
+    ensures checked { OnOk result (IsCheckedStore S.Store store.old) }
+    ensures sound { OnOk result (S.told → first_fault_today (store_content S.Store store.old) ≡ None) }
+    ensures agrees { S.told → IfOk result (Agrees (records_of S.Store store.old)) }
+    ensures cause { IfErr result (IsOpeningStopped S.told (store_content S.Store store.old) (S.faults store.old) (S.faults store.new)) }
+    ensures room { OnOk result (HasRows (S.table store.new)) }
 {
     let mgt = checked(alloc, store)?;
     let Ok(()) = make_room(store) else {
@@ -45,18 +36,11 @@ pub fn checked_with_room<S: Store>(alloc: Global, store: &mut S) -> Result<Mgt, 
 
 /// Checks what stands in a store, and answers the places of the records.
 fn checked<S: Store>(alloc: Global, store: &mut S) -> Result<Mgt, OpenFault>
-    ensures stays { Stays S.site S.kept S.failed store.old store.new }
-    ensures counts { S.faults store.old ≤ S.faults store.new }
-    ensures device { S.told → Keeps (S.device store.old) (S.device store.new) }
-    ensures beside { S.told → Keeps (S.beside store.old) (S.beside store.new) }
-    ensures same { S.told → SameHeld (S.area store.old) (S.area store.new) }
-    ensures leaves { S.told → (t : Listing) (image : ℕ → List ℕ) → S.leaves store.new t image → S.leaves store.old t image }
-    ensures checked { OnOk result (IsChecked (S.site store.old) (listing (S.kept store.old))) }
-    ensures sound { OnOk result (S.told → first_fault_today
-        (content_now (S.site store.old) (listing (S.kept store.old)) (S.area store.old)) ≡ None) }
-    ensures agrees { S.told → IfOk result (Agrees (records_held (S.site store.old) (listing (S.kept store.old)) (S.area store.old))) }
-    ensures cause { IfErr result (IsStopped S.told
-        (content_now (S.site store.old) (listing (S.kept store.old)) (S.area store.old)) (S.faults store.old) (S.faults store.new)) }
+    ensures reads { OnlyReads S.Store store.old store.new }
+    ensures checked { OnOk result (IsCheckedStore S.Store store.old) }
+    ensures sound { OnOk result (S.told → first_fault_today (store_content S.Store store.old) ≡ None) }
+    ensures agrees { S.told → IfOk result (Agrees (records_of S.Store store.old)) }
+    ensures cause { IfErr result (IsOpeningStopped S.told (store_content S.Store store.old) (S.faults store.old) (S.faults store.new)) }
 {
     let geometry = store.geometry();
     let _extents = store.extents();
@@ -72,11 +56,8 @@ fn checked<S: Store>(alloc: Global, store: &mut S) -> Result<Mgt, OpenFault>
 
 /// Makes room for all rows that the table may come to have. What stands counts, so that no later row takes memory.
 fn make_room<S: Store>(store: &mut S) -> Result<(), NoMemory>
-    ensures stays { Stays S.site S.kept S.failed store.old store.new }
-    ensures same { (S.area store.new ≡ S.area store.old) × (S.faults store.new ≡ S.faults store.old) }
-    ensures device { (S.device store.new ≡ S.device store.old) × (S.beside store.new ≡ S.beside store.old) }
-    ensures leaves { (t : Listing) (image : ℕ → List ℕ) → S.leaves store.new t image → S.leaves store.old t image }
-    ensures room { OnOk result (HasRows (S.kept store.new)) }
+    ensures reads { OnlyReads S.Store store.old store.new }
+    ensures room { OnOk result (HasRows (S.table store.new)) }
 {
     let rows = store.table().volumes().len();
     store.reserve_rows(MOST_ROWS.saturating_sub(rows))?;

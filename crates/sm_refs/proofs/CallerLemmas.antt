@@ -3,7 +3,7 @@ use Rattle.std.proofs.Common.{◌≡◌, ◌≢◌, ℕ, ◌+◌, ◌<◌, ◌�
 use Rattle.std.proofs.lemmas.List.Elements.{All-head, All-tail}
 use Rattle.std.proofs.lemmas.List.Sums.{count_by-le-length}
 use Rattle.sm_base.specs.declared.names.Name.{Name}
-use Rattle.sm_refs.specs.Attached.{Attached, same_name, count_of, tally, has, CountsMore, CountsLess, HasRoomFor}
+use Rattle.sm_refs.specs.Attached.{Attached, same_name, count_of, tally, has, CountsMore, CountsLess, HoldsChain}
 use Rattle.sm_refs.specs.FromScratch.{Use, refs_from_scratch, IsFromScratch}
 use Rattle.sm_refs.proofs.NameLemmas.{name_from_same, apart_from_other}
 use Rattle.sm_refs.proofs.FromScratchLemmas.{append_count, one_more}
@@ -17,7 +17,7 @@ abbrev pub IsPartOf : List Name → List Name → Type 0
 IsPartOf chain names = (volume : Name) → has chain volume ≡ true → has names volume ≡ true
 
 -- what fits: any chain within a list that is short enough
-pub has_room : (names : List Name) (a : Attached) (chain : List Name) → length names ≤ a.room → AreCountedIn names a → IsPartOf chain names → HasRoomFor a.counts chain a.room
+pub has_room : (names : List Name) (a : Attached) (chain : List Name) → length names ≤ a.room → AreCountedIn names a → IsPartOf chain names → HoldsChain a.counts chain a.room
 has_room names a chain few counted added = record { names = names; few = few; counted = counted; added = added }
 
 pub counted_at_first : (names : List Name) (a : Attached) → a.counts ≡ [] → AreCountedIn names a

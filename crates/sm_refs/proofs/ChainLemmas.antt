@@ -5,7 +5,7 @@ use Rattle.std.proofs.lemmas.List.{take_more, take-append-drop}
 use Rattle.std.proofs.lemmas.List.Elements.{All-from_get_or, All-get_or}
 use Rattle.std.proofs.lemmas.List.Folds.{list_any-append, list_any_none}
 use Rattle.sm_base.specs.declared.names.Name.{Name}
-use Rattle.sm_refs.specs.Attached.{same_name, tally, has, one_in, HasRoomFor}
+use Rattle.sm_refs.specs.Attached.{same_name, tally, has, one_in, HoldsChain}
 use Rattle.sm_refs.proofs.NameLemmas.{name_from_same, same_name_laws, same_name-refl, other_name, apart_from_other}
 
 abbrev one_if : Bool → ℕ
@@ -91,7 +91,7 @@ module _ (f g h : Name → ℕ) (chain : List Name) (k : ℕ) (x : Name) (within
   same_yet_less so_far = omega (arith, was, so_far x, one_in-before chain k x differ within at)
 
 -- the room for the whole chain is room for one more volume of it
-pub one_fits : (old now : List (Name × ℕ)) (chain : List Name) (k : ℕ) (x : Name) (room more : ℕ) → k < length chain → x ≡ get_or chain k x → ((n : Name) → tally now n ≡ tally old n + one_in (take k chain) n) → HasRoomFor old chain room → room ≤ more → HasRoomFor now (x ∷ []) more
+pub one_fits : (old now : List (Name × ℕ)) (chain : List Name) (k : ℕ) (x : Name) (room more : ℕ) → k < length chain → x ≡ get_or chain k x → ((n : Name) → tally now n ≡ tally old n + one_in (take k chain) n) → HoldsChain old chain room → room ≤ more → HoldsChain now (x ∷ []) more
 one_fits old now chain k x room more within at so_far fit grown = record {
   names = fit.names;
   few = omega (arith, fit.few);
@@ -108,5 +108,5 @@ pub at_volume : (P : Name → Type 0) (chain : List Name) (k : ℕ) (x : Name) �
 at_volume P chain k x within at all = subst P (sym at) (All-get_or P chain k x within all)
 
 -- more room is room too
-pub fits_more : (counts : List (Name × ℕ)) (chain : List Name) (room more : ℕ) → room ≤ more → HasRoomFor counts chain room → HasRoomFor counts chain more
+pub fits_more : (counts : List (Name × ℕ)) (chain : List Name) (room more : ℕ) → room ≤ more → HoldsChain counts chain room → HoldsChain counts chain more
 fits_more counts chain room more grown fit = record { names = fit.names; few = omega (arith, fit.few); counted = fit.counted; added = fit.added }

@@ -8,7 +8,7 @@ use Rattle.std.proofs.lemmas.List.Sums.{sum_by-append}
 use Rattle.sm_base.specs.declared.names.Name.{Name}
 use Rattle.sm_base.specs.declared.operations.Mode.{Mode}
 use Rattle.sm_refs.specs.Attached.{Attached, same_name, same_uuid, without, count_of, tally, has, one_in}
-use Rattle.sm_refs.specs.FromScratch.{Use, refs_from_scratch, IsFromScratch, Call, Enters, Leaves, Forks, Relinks, Does, Goes, GetsBase, LosesOut, Changes, Runs}
+use Rattle.sm_refs.specs.FromScratch.{Use, refs_from_scratch, IsFromScratch, Call, Enters, LeavesChain, Forks, Relinks, DoesCall, GoesAway, GetsBase, LosesOut, ChangesUses, Runs}
 use Rattle.sm_refs.specs.FromScratch.Call.{Enter, Leave, Forked, Relinked}
 use Rattle.sm_refs.proofs.NameLemmas.{uuid_from_same, name_from_same, apart_from_other, same_uuid-refl}
 
@@ -75,7 +75,7 @@ gone_disk disk front gone back same others =
 -- ---- each call
 
 module _ (old new : Attached) (uses now : List Use) (is : IsFromScratch old uses) where
-  entered : (disk : List ℕ) (mode : Mode) (chain : List Name) → Enters disk mode chain old new → Changes (Enter disk mode chain) uses now → IsFromScratch new now
+  entered : (disk : List ℕ) (mode : Mode) (chain : List Name) → Enters disk mode chain old new → ChangesUses (Enter disk mode chain) uses now → IsFromScratch new now
   entered disk mode chain does changed =
       let use' : Use = record { disk = disk; mode = mode; chain = chain } in
       subst (IsFromScratch new) (sym changed) (record {
@@ -83,7 +83,7 @@ module _ (old new : Attached) (uses now : List Use) (is : IsFromScratch old uses
         counts = λ v. omega (arith, does.counts v, is.counts v, append_count (λ (u : Use). has u.chain v) uses (use' ∷ []), one_count (λ (u : Use). has u.chain v) use');
       })
 
-  left : (disk : List ℕ) (chain : List Name) → Leaves disk chain old new → Goes disk chain uses now → IsFromScratch new now
+  left : (disk : List ℕ) (chain : List Name) → LeavesChain disk chain old new → GoesAway disk chain uses now → IsFromScratch new now
   left disk chain does changed =
       subst (IsFromScratch new) (sym changed.now) (record {
         disks = does.disks ∙ ap (without disk) (is.disks ∙ ap (map shown) changed.was) ∙ gone_disk disk changed.front changed.gone changed.back changed.same_disk changed.others;
@@ -128,7 +128,7 @@ module _ (old new : Attached) (uses now : List Use) (is : IsFromScratch old uses
           let other : v ≢ out = apart_from_other out v e in
           does.others v other ∙ is.counts v ∙ sym (alike (LosesOut child out) (λ (u : Use). has u.chain v) (λ (u : Use). has u.chain v) (λ x y loses. loses.others v other) uses now changed)
 
-pub kept_right : (call : Call) (old new : Attached) (uses now : List Use) → IsFromScratch old uses → Does call old new → Changes call uses now → IsFromScratch new now
+pub kept_right : (call : Call) (old new : Attached) (uses now : List Use) → IsFromScratch old uses → DoesCall call old new → ChangesUses call uses now → IsFromScratch new now
 kept_right (Enter disk mode chain) old new uses now is does changed = entered old new uses now is disk mode chain does changed
 kept_right (Leave disk chain) old new uses now is does changed = left old new uses now is disk chain does changed
 kept_right (Forked leaf base) old new uses now is does changed = forked old new uses now is leaf base does changed

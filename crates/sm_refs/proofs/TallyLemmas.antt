@@ -11,7 +11,7 @@ use Rattle.std.proofs.lemmas.Map.Keys.{IsDistinct-push}
 use Rattle.std.proofs.lemmas.Map.Made.{is_some-lookup, length-le_from_is_member}
 use Rattle.indexmap.specs.IndexMap.{insert_entry}
 use Rattle.sm_base.specs.declared.names.Name.{Name}
-use Rattle.sm_refs.specs.Attached.{same_name, tally, HasRoomFor}
+use Rattle.sm_refs.specs.Attached.{same_name, tally, HoldsChain}
 use Rattle.sm_refs.specs.Tallies.{AreAbove}
 use Rattle.sm_refs.proofs.NameLemmas.{name_from_same, same_name_laws, same_name-refl, other_name}
 
@@ -48,14 +48,14 @@ counted_key es n above there =
     by (Some v) above there = above
 
 -- one more volume fits
-pub fits_one : (es : List (Name × ℕ)) (v : Name) (room : ℕ) → IsDistinct same_name (keys_of es) → AreAbove es → lookup (same_name v) es ≡ None → HasRoomFor es (v ∷ []) room → length es + 1 ≤ room
+pub fits_one : (es : List (Name × ℕ)) (v : Name) (room : ℕ) → IsDistinct same_name (keys_of es) → AreAbove es → lookup (same_name v) es ≡ None → HoldsChain es (v ∷ []) room → length es + 1 ≤ room
 fits_one es v room apart above none fit =
     let absent : list_any (same_name v) (keys_of es) ≡ false = sym (is_some-lookup (same_name v) es) ∙ ap is_some none in
     let longer = length-le_from_is_member same_name_laws (keys_of es ++ v ∷ []) fit.names (IsDistinct-push same_name_laws (keys_of es) v apart absent)
     (λ q inside. ⊎_elim (λ old. fit.counted q (counted_key es q above old)) (fit.added q) (or_cases (list_any (same_name q) (keys_of es)) (list_any (same_name q) (v ∷ [])) (sym (list_any-append (same_name q) (keys_of es) (v ∷ [])) ∙ inside))) in
     omega (arith, longer, fit.few, length-append (keys_of es) (v ∷ []), length-map es (λ (e : Name × ℕ). e.0))
 
-pub left_for_one : (es : List (Name × ℕ)) (v : Name) (count spare : ℕ) → IsDistinct same_name (keys_of es) → AreAbove es → lookup (same_name v) es ≡ None → count ≢ 0 → (tally es v ≡ 0 → 0 < count → HasRoomFor es (v ∷ []) (length es + spare)) → 0 < spare
+pub left_for_one : (es : List (Name × ℕ)) (v : Name) (count spare : ℕ) → IsDistinct same_name (keys_of es) → AreAbove es → lookup (same_name v) es ≡ None → count ≢ 0 → (tally es v ≡ 0 → 0 < count → HoldsChain es (v ∷ []) (length es + spare)) → 0 < spare
 left_for_one es v count spare apart above none some fit =
     let positive : 0 < count = omega arith in
     let most = fits_one es v (length es + spare) apart above none (fit (ap (λ o. unwrap_or o 0) none) positive) in

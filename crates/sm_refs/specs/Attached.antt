@@ -54,7 +54,7 @@ abbrev pub CountsLess : List Name → Attached → Attached → Type 0
 CountsLess chain old new = (volume : Name) → count_of old volume ≡ count_of new volume + one_in chain volume
 
 -- the volumes that have a count and those of the chain fit: a list of at most `room` names has them all
-pub record HasRoomFor (counts : List (Name × ℕ)) (chain : List Name) (room : ℕ) : Type 0 where
+pub record HoldsChain (counts : List (Name × ℕ)) (chain : List Name) (room : ℕ) : Type 0 where
   pub names : List Name
   pub few : length names ≤ room
   pub counted : (volume : Name) → 0 < tally counts volume → IsTrue (has names volume)

@@ -34,7 +34,7 @@ pub record Enters (disk : List ℕ) (mode : Mode) (chain : List Name) (old new :
   pub disks : new.disks ≡ old.disks ++ (disk, mode) ∷ []
   pub counts : CountsMore chain old new
 
-pub record Leaves (disk : List ℕ) (chain : List Name) (old new : Attached) : Type 0 where
+pub record LeavesChain (disk : List ℕ) (chain : List Name) (old new : Attached) : Type 0 where
   pub disks : new.disks ≡ without disk old.disks
   pub counts : CountsLess chain old new
 
@@ -48,16 +48,16 @@ pub record Relinks (child out : Name) (old new : Attached) : Type 0 where
   pub counted : count_of new out + count_of old child ≡ count_of old out
   pub others : (volume : Name) → volume ≢ out → count_of new volume ≡ count_of old volume
 
-abbrev pub Does : Call → Attached → Attached → Type 0
-Does (Enter disk mode chain) = Enters disk mode chain
-Does (Leave disk chain) = Leaves disk chain
-Does (Forked leaf base) = Forks leaf base
-Does (Relinked child out) = Relinks child out
+abbrev pub DoesCall : Call → Attached → Attached → Type 0
+DoesCall (Enter disk mode chain) = Enters disk mode chain
+DoesCall (Leave disk chain) = LeavesChain disk chain
+DoesCall (Forked leaf base) = Forks leaf base
+DoesCall (Relinked child out) = Relinks child out
 
 -- ---- what has happened to the disks and their chains
 
 -- a disk goes, wherever it stood, with the chain that is handed in
-pub record Goes (disk : List ℕ) (chain : List Name) (old new : List Use) : Type 0 where
+pub record GoesAway (disk : List ℕ) (chain : List Name) (old new : List Use) : Type 0 where
   pub front : List Use
   pub gone : Use
   pub back : List Use
@@ -82,23 +82,23 @@ pub record LosesOut (child out : Name) (old new : Use) : Type 0 where
   pub loses : has new.chain out ≡ (has old.chain out && not (has old.chain child))
   pub others : (volume : Name) → volume ≢ out → has new.chain volume ≡ has old.chain volume
 
-abbrev pub Changes : Call → List Use → List Use → Type 0
-Changes (Enter disk mode chain) old new = new ≡ old ++ (record { disk = disk; mode = mode; chain = chain }) ∷ []
-Changes (Leave disk chain) old new = Goes disk chain old new
-Changes (Forked leaf base) old new = AllZip (GetsBase leaf base) old new
-Changes (Relinked child out) old new = AllZip (LosesOut child out) old new
+abbrev pub ChangesUses : Call → List Use → List Use → Type 0
+ChangesUses (Enter disk mode chain) old new = new ≡ old ++ (record { disk = disk; mode = mode; chain = chain }) ∷ []
+ChangesUses (Leave disk chain) old new = GoesAway disk chain old new
+ChangesUses (Forked leaf base) old new = AllZip (GetsBase leaf base) old new
+ChangesUses (Relinked child out) old new = AllZip (LosesOut child out) old new
 
 -- ---- the laws
 
 -- each call keeps what is kept right
 abbrev pub CallsKeepCounts : Type 0
-CallsKeepCounts = (call : Call) (old new : Attached) (uses now : List Use) → IsFromScratch old uses → Does call old new → Changes call uses now → IsFromScratch new now
+CallsKeepCounts = (call : Call) (old new : Attached) (uses now : List Use) → IsFromScratch old uses → DoesCall call old new → ChangesUses call uses now → IsFromScratch new now
 
 -- one call after the other, from what is kept and the disks at first to both at last
 abbrev pub Runs : List Call → Attached → List Use → Attached → List Use → Type 0
 Runs [] old uses new now = (new ≡ old) × (now ≡ uses)
 Runs (call ∷ calls) old uses new now =
-    (next : Attached) × (then : List Use) × Does call old next × Changes call uses then × Runs calls next then new now
+    (next : Attached) × (then : List Use) × DoesCall call old next × ChangesUses call uses then × Runs calls next then new now
 
 -- where nothing was attached at first, after any calls each count is the one from scratch
 abbrev pub CountsAreFromScratch : Type 0

@@ -10,5 +10,5 @@ abbrev pub attached_of : Inside → Attached
 attached_of a = record { disks = a.disks.entries; counts = a.counts.entries; room = min (room_of a.disks) (room_of a.counts) }
 
 -- each count is above 0
-abbrev pub IsKept : Inside → Type 0
-IsKept a = AreAbove a.counts.entries
+abbrev pub AreCounted : Inside → Type 0
+AreCounted a = AreAbove a.counts.entries

@@ -2,7 +2,7 @@
 
 ghost use Rattle.std.specs.Prelude.{◌≡◌, ◌≢◌, ◌+◌, ◌<◌, ◌≤◌, [], ◌∷◌, ◌++◌, length, All, AllPairs, IsNone, IsSome, IfOk};
 ghost use Rattle.sm_base.specs.declared.names.Name.{Name};
-ghost use Rattle.sm_refs.specs.Attached.{mode_of, without, count_of, CountsMore, CountsLess, HasRoomFor};
+ghost use Rattle.sm_refs.specs.Attached.{mode_of, without, count_of, CountsMore, CountsLess, HoldsChain};
 
 use crate::removal::remove;
 use crate::tallies;
@@ -25,11 +25,11 @@ impl Model for Attachments {
 
     ghost Value = { Attached };
 
-    ghost use Rattle.sm_refs.specs.Kept.{attached_of, IsKept};
+    ghost use Rattle.sm_refs.specs.Kept.{attached_of, AreCounted};
 
     ghost view = { attached_of };
 
-    ghost invariant = { IsKept };
+    ghost invariant = { AreCounted };
 }
 
 impl Attachments {
@@ -70,7 +70,7 @@ impl Attachments {
         requires differ { AllPairs (λ a b. a ≢ b) chain.now }
         requires below_most { All (λ volume. count_of self.old volume < u32.MAX) chain.now }
         requires room_for_disk { length self.old.disks < self.old.room }
-        requires room_for_chain { HasRoomFor self.old.counts chain.now self.old.room }
+        requires room_for_chain { HoldsChain self.old.counts chain.now self.old.room }
         ensures disks { self.new.disks ≡ self.old.disks ++ (disk, mode) ∷ [] }
         ensures counts { CountsMore chain.now self.old self.new }
         ensures room { self.old.room ≤ self.new.room }
@@ -99,7 +99,7 @@ impl Attachments {
     /// count.
     pub fn forked(&mut self, leaf: &Name, base: Name)
         requires none_yet { count_of self.old base ≡ 0 }
-        requires room { HasRoomFor self.old.counts (base ∷ []) self.old.room }
+        requires room { HoldsChain self.old.counts (base ∷ []) self.old.room }
         ensures base { count_of self.new base ≡ count_of self.old leaf.now }
         ensures others { (volume : Name) → volume ≢ base → count_of self.new volume ≡ count_of self.old volume }
         ensures disks { self.new.disks ≡ self.old.disks }

@@ -2,7 +2,7 @@
 
 ghost use Rattle.std.specs.Prelude.{◌≡◌, ◌≢◌, ◌+◌, ◌<◌, ◌≤◌, [], ◌∷◌, All, AllPairs};
 ghost use Rattle.sm_base.specs.declared.names.Name.{Name};
-ghost use Rattle.sm_refs.specs.Attached.{tally, one_in, HasRoomFor};
+ghost use Rattle.sm_refs.specs.Attached.{tally, one_in, HoldsChain};
 ghost use Rattle.sm_refs.specs.Rooms.{room_of};
 ghost use Rattle.sm_refs.specs.Tallies.{AreAbove};
 
@@ -22,7 +22,7 @@ pub(crate) fn count(counts: &IndexMap<Name, u32>, volume: &Name) -> u32
 #[tactic(auto, unfolding(crate::specs::Attached::same_name))]
 pub(crate) fn set_count(counts: &mut IndexMap<Name, u32>, volume: &Name, count: u32)
     requires above { AreAbove counts.old.entries }
-    requires room { tally counts.old.entries volume.now ≡ 0 → 0 < count → HasRoomFor counts.old.entries (volume.now ∷ []) (room_of counts.old) }
+    requires room { tally counts.old.entries volume.now ≡ 0 → 0 < count → HoldsChain counts.old.entries (volume.now ∷ []) (room_of counts.old) }
     ensures given { tally counts.new.entries volume.now ≡ count }
     ensures others { (other : Name) → other ≢ volume.now → tally counts.new.entries other ≡ tally counts.old.entries other }
     ensures above { AreAbove counts.new.entries }
@@ -48,7 +48,7 @@ pub(crate) fn count_more(counts: &mut IndexMap<Name, u32>, chain: &[Name])
     requires above { AreAbove counts.old.entries }
     requires differ { AllPairs (λ a b. a ≢ b) chain.now }
     requires below_most { All (λ volume. tally counts.old.entries volume < u32.MAX) chain.now }
-    requires room { HasRoomFor counts.old.entries chain.now (room_of counts.old) }
+    requires room { HoldsChain counts.old.entries chain.now (room_of counts.old) }
     ensures counts { (volume : Name) → tally counts.new.entries volume ≡ tally counts.old.entries volume + one_in chain.now volume }
     ensures above { AreAbove counts.new.entries }
     ensures room { room_of counts.old ≤ room_of counts.new }

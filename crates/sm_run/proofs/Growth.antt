@@ -1,7 +1,7 @@
 -- How the trail of a run grows by one turn.
 use Rattle.std.proofs.Common.{◌≡◌, ◌⊎◌, inl, inr, ℕ, true, false, List, [], ◌∷◌, ◌++◌, map, refl, sym, ap, ◌∙◌, subst}
 use Rattle.sm_machine.specs.Disks.{Disk}
-use Rattle.sm_machine.specs.Lists.{In}
+use Rattle.common_laws.specs.Lists.{In}
 use Rattle.sm_machine.specs.Runs.{Turn, taken, after_run, trail_after, trail_more, trail_of, settles, face, HasSector, IsFrom, IsAsAfter, IsAsDuring}
 use Rattle.sm_machine.specs.Steps.{State}
 use Rattle.sm_run.specs.Between.{HadSector, IsBetween, IsSettledAs}

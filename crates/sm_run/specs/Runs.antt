@@ -40,14 +40,14 @@ abbrev pub IsSpared : Turn → Type 0
 IsSpared t = t.poor ≡ true → spelled t.line ≡ None → starts_with nat_eq t.line (codes "write ") ≡ true
 
 -- the script was read to its end, and every line of it was answered
-pub record IsDone (bytes : List ℕ) (turns pending : List Turn) (left : Option (List ℕ)) : Type 0 where
+pub record IsReadToEnd (bytes : List ℕ) (turns pending : List Turn) (left : Option (List ℕ)) : Type 0 where
   pub within : length bytes ≤ script_limit
   pub answered : lines bytes ≡ lines_of turns
   pub none_pending : pending ≡ []
   pub at_end : IsSpent left
 
 -- reading was given up, and every line that a newline had ended was answered
-pub record IsStopped (bytes : List ℕ) (turns pending : List Turn) : Type 0 where
+pub record IsGivenUp (bytes : List ℕ) (turns pending : List Turn) : Type 0 where
   pub within : length bytes ≤ script_limit
   pub answered : ended bytes ≡ lines_of turns
   pub none_pending : pending ≡ []
@@ -68,9 +68,9 @@ pub record IsCutShort (bytes : List ℕ) (turns pending : List Turn) (left : Opt
 
 -- how far a run came, by its result
 abbrev pub HowFar : Result ⊤ RunFault → List ℕ → List Turn → List Turn → ℕ → Option (List ℕ) → Type 0
-HowFar (Ok _) bytes turns pending sent left = IsDone bytes turns pending left
+HowFar (Ok _) bytes turns pending sent left = IsReadToEnd bytes turns pending left
 HowFar (Err Device) bytes turns pending sent left = IsCutShort bytes turns pending left × (sent ≡ 0)
-HowFar (Err Source) bytes turns pending sent left = IsStopped bytes turns pending
+HowFar (Err Source) bytes turns pending sent left = IsGivenUp bytes turns pending
 HowFar (Err Sink) bytes turns pending sent left = IsCutShort bytes turns pending left
 HowFar (Err TooLong) bytes turns pending sent left = IsPast bytes turns pending
 

@@ -22,7 +22,7 @@ pub enum Ending {
 /// One byte, or `None` at the end.
 pub fn next_byte<S: Source>(source: &mut S) -> Result<Option<u8>, Failed>
     ensures gives { IfOk result (λ byte. Gives byte (S.content source.old) (S.content source.new)) }
-    ensures kept { OnErr result (S.content source.new ≡ S.content source.old) }
+    ensures unchanged { OnErr result (S.content source.new ≡ S.content source.old) }
     ensures counts { S.faults source.old ≤ S.faults source.new }
     ensures cause { OnErr result (Rose (S.faults source.old) (S.faults source.new)) }
 {

@@ -15,7 +15,7 @@ use Rattle.uuid.specs.Text.{parsed, hex_digit_value}
 use Rattle.hex.specs.Hex.{hex_digit_value as table_value, decode_of, decode_pairs, decode_sized}
 use Rattle.hex.specs.declared.error.FromHexError.{FromHexError}
 use Rattle.sm_machine.specs.Lines.{byte_of, hex_bytes, is_number, number_of, sectors_of, uuid_of}
-use Rattle.sm_machine.specs.Lists.{◌>>=◌}
+use Rattle.common_laws.specs.Lists.{◌>>=◌}
 use Rattle.sm_script.proofs.HexPairs.{with_pair, decode_pairs-pair, decode_pairs-none, decode_pairs-one, decode_of-pairs, decode_sized-none, decode_sized-one, decode_sized-two, decode_sized-long}
 
 -- UUIDs

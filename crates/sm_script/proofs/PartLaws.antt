@@ -2,7 +2,7 @@
 use Rattle.std.proofs.Common.{◌≡◌, ◌≢◌, ℕ, ◌<◌, Bool, true, false, List, [], ◌∷◌, length, Option, Some, None, Bor, arith, refl}
 use Rattle.std.specs.Prelude.{option_copied, is_some}
 use Rattle.sm_base.specs.declared.operations.Mode.{Mode}
-use Rattle.sm_machine.specs.Lists.{◌>>=◌}
+use Rattle.common_laws.specs.Lists.{◌>>=◌}
 use Rattle.sm_machine.specs.Lines.{after_attach, after_create, after_disk, after_fill, after_label, after_read, after_resize, after_twin, after_write, alone, byte_of, is_raw_of, label_of, mode_of, number_of, sectors_of, uuid_of}
 use Rattle.sm_machine.specs.declared.commands.Command.{Command}
 use Rattle.sm_machine.specs.declared.commands.Command.TheVariants.{Create, Attach, Resize, Label, Write, Fill, Read}

@@ -14,15 +14,16 @@ use Rattle.sm_base.specs.declared.names.Name.TheVariants.{Raw}
 use Rattle.sm_base.specs.declared.sizes.Geometry.{Geometry}
 use Rattle.sm_base.specs.declared.refusals.Refusal.{Refusal}
 use Rattle.sm_base.specs.declared.refusals.Refusal.TheVariants.{ReservedName, UnknownDisk, NameTaken, InUse, NotAttached, ReadOnly, RawDisk, OutOfRange, BadSize, Shrink, ChainTooLong, TooMany, SequenceSpent, NoSpace}
-use Rattle.vg_meta.specs.Tables.{Listing, Row, rows, used, free as free_of, IsTable, is_image as is_data}
+use Rattle.vg_meta.specs.Tables.{VolumeTable, Row, rows, used, free as free_of, IsTable}
+use Rattle.sm_base.specs.Kinds.{is_image as is_data}
 use Rattle.vg_meta.specs.Changes.{AreFree}
-use Rattle.vg_meta.specs.Kept.{HeldRow, rows_alone}
+use Rattle.vg_meta.specs.Roomy.{RoomyRow, rows_alone}
 use Rattle.vg_layout.specs.Places.{record_extents}
 use Rattle.std.proofs.lemmas.List.{length-map}
 use Rattle.vg_extents.proofs.CountLaws.{low, length-free}
 use Rattle.vg_volumes.specs.Sites.{Site}
 use Rattle.sm_machine.specs.declared.commands.Command.TheVariants.{Create}
-use Rattle.sm_machine.specs.Lists.{In, first_some, given}
+use Rattle.common_laws.specs.Lists.{In, first_some, given}
 use Rattle.sm_machine.specs.Disks.{Disk}
 use Rattle.sm_machine.specs.Shapes.{Shape, DiskRecord, free, image_limit}
 use Rattle.sm_machine.specs.Refusals.{refusal, rounded, is_reserved, is_unknown, is_taken, is_in_use, is_not_attached, is_read_only, is_raw_disk, is_out_of_range, is_bad_size, is_shrink, is_deep, is_too_many, is_spent, lacks_space, need, images_needed, named, new_uuid, forked}
@@ -38,7 +39,7 @@ use Rattle.sm_standing.specs.Shapes.{shape, disk_record, image_rows}
 use Rattle.sm_standing.specs.Standing.{disks, disk_at}
 use Rattle.sm_standing.proofs.DiskLists.{at_disks, disks_at}
 use Rattle.sm_standing.proofs.DisksShown.{row_of-In}
-use Rattle.sm_standing.proofs.Finding.{find_none, none_find}
+use Rattle.common_laws.proofs.Lists.{find_none, none_find}
 
 -- ---- the first cause of six
 
@@ -103,7 +104,7 @@ no_disk c u sound none d h true is =
     let w = disk_row_there c u d sound.plain at in
     let there = w.1 in absurd (let x : None ≡ Some w.0 = sym none ∙ there in cc)
 
-one_disk : (s : Site) (t : Listing) (image : ℕ → List ℕ) (u : List ℕ) (r : Row) → IsOrderly s t → PlainSound (content_in s t image) → rows t (Raw u) ≡ Some r
+one_disk : (s : Site) (t : VolumeTable) (image : ℕ → List ℕ) (u : List ℕ) (r : Row) → IsOrderly s t → PlainSound (content_in s t image) → rows t (Raw u) ≡ Some r
     → is_some (find (λ (d : Disk). bytes_eq d.uuid u) (disks (content_in s t image))) ≡ true
 one_disk s t image u r o sound there =
     let c = content_in s t image in
@@ -111,7 +112,7 @@ one_disk s t image u r o sound there =
     let named : bytes_eq u u ≡ true = (bytes_eq-Decides u u).1 refl in
     found_some (λ (d : Disk). bytes_eq d.uuid u) (disks c) _ (at_disks c u _ w.disk) named
 
-by_row : (s : Site) (t : Listing) (image : ℕ → List ℕ) (u : List ℕ) (q : Option Row) → IsOrderly s t → PlainSound (content_in s t image) → rows t (Raw u) ≡ q
+by_row : (s : Site) (t : VolumeTable) (image : ℕ → List ℕ) (u : List ℕ) (q : Option Row) → IsOrderly s t → PlainSound (content_in s t image) → rows t (Raw u) ≡ q
     → is_some (find (λ (d : Disk). bytes_eq d.uuid u) (disks (content_in s t image))) ≡ is_some q
 by_row s t image u None o sound is =
     let c = content_in s t image in
@@ -122,11 +123,11 @@ or_none : (b : Bool) → b || false ≡ b
 or_none true = refl
 or_none false = refl
 
-hidden_none : (s : Site) (t : Listing) (image : ℕ → List ℕ) (u : List ℕ) → IsOrderly s t → list_any (is_hidden_of u) (image_rows (content_in s t image)) ≡ false
+hidden_none : (s : Site) (t : VolumeTable) (image : ℕ → List ℕ) (u : List ℕ) → IsOrderly s t → list_any (is_hidden_of u) (image_rows (content_in s t image)) ≡ false
 hidden_none s t image u o =
     ap (list_any (is_hidden_of u)) (image_rows_are (content_in s t image) o.plain (found_table s.count t o.table)) ∙ none_hidden s.geometry.extent u t.volumes o.plain
 
-taken_is : (s : Site) (t : Listing) (image : ℕ → List ℕ) (u label : List ℕ) (size : ℕ) → IsOrderly s t → PlainSound (content_in s t image)
+taken_is : (s : Site) (t : VolumeTable) (image : ℕ → List ℕ) (u label : List ℕ) (size : ℕ) → IsOrderly s t → PlainSound (content_in s t image)
     → is_taken (shape (content_in s t image)) (Create u size true label) ≡ is_some (rows t (Raw u))
 unfolding is_taken shape new_uuid
 taken_is s t image u label size o sound =
@@ -137,7 +138,7 @@ taken_is s t image u label size o sound =
 
 -- ---- the numbers
 
-images_long : (s : Site) (t : Listing) (image : ℕ → List ℕ) → IsOrderly s t → length (image_rows (content_in s t image)) ≡ length (images t)
+images_long : (s : Site) (t : VolumeTable) (image : ℕ → List ℕ) → IsOrderly s t → length (image_rows (content_in s t image)) ≡ length (images t)
 images_long s t image o =
     ap length (image_rows_are (content_in s t image) o.plain (found_table s.count t o.table)) ∙ plain_long s.geometry.extent t.volumes o.plain o.none_new
 
@@ -148,7 +149,7 @@ all_low count (e ∷ es) all =
     let one : cond {A = ℕ} (nat_lt e count) 1 0 ≡ 1 = ap (λ b. cond b 1 0) (lt-ltb e count all.0) in
     omega (arith, sum_by-cons (λ (x : ℕ). cond (nat_lt x count) 1 0) e es, one, all_low count es all.1)
 
-left_is : (s : Site) (t : Listing) (image : ℕ → List ℕ) → IsOrderly s t → free (shape (content_in s t image)) ≡ length (free_of s.count t)
+left_is : (s : Site) (t : VolumeTable) (image : ℕ → List ℕ) → IsOrderly s t → free (shape (content_in s t image)) ≡ length (free_of s.count t)
 unfolding free shape
 left_is s t image o =
     omega (arith, shape_sums (content_in s t image), length-free s.count t o.table.volumes.distinct, all_low s.count (used t) o.table.volumes.below)
@@ -156,14 +157,14 @@ left_is s t image o =
 -- ---- all of it
 
 -- the first cause, by the table and the sizes
-abbrev pub cause : Geometry → ℕ → Listing → List ℕ → ℕ → Option Refusal
+abbrev pub cause : Geometry → ℕ → VolumeTable → List ℕ → ℕ → Option Refusal
 cause g count t u size =
     first_cause (is_nil_bytes u || is_base u) (is_some (rows t (Raw u)))
     (is_bad_sum size (g.entries * g.block) (count * g.extent) (extents_for g.extent size * g.extent))
     (nat_lt image_limit (length (images t) + 1)) (nat_le (2 ^ 48 - 16) t.sequence)
     (nat_lt (length (free_of count t)) (extents_for g.extent size)) (length (images t)) (extents_for g.extent size) (length (free_of count t))
 
-cause_is : (s : Site) (t : Listing) (image : ℕ → List ℕ) (u label : List ℕ) (size : ℕ) → IsOrderly s t → PlainSound (content_in s t image)
+cause_is : (s : Site) (t : VolumeTable) (image : ℕ → List ℕ) (u label : List ℕ) (size : ℕ) → IsOrderly s t → PlainSound (content_in s t image)
     → refusal (shape (content_in s t image)) (Create u size true label) ≡ cause s.geometry s.count t u size
 unfolding shape
 cause_is s t image u label size o sound =
@@ -176,7 +177,7 @@ cause_is s t image u label size o sound =
     (left_is s t image o)
 
 -- what is known of a table with some sizes is known of it at a site with these
-pub orderly_as : (a b : Site) (t : Listing) → b.geometry ≡ a.geometry → b.count ≡ a.count → IsOrderly a t → IsOrderly b t
+pub orderly_as : (a b : Site) (t : VolumeTable) → b.geometry ≡ a.geometry → b.count ≡ a.count → IsOrderly a t → IsOrderly b t
 orderly_as a b t sizes count o = record {
   table = subst (λ n. IsTable n t) (sym count) o.table;
   few_extents = subst (λ n. n ≤ 65536) (sym count) o.few_extents;
@@ -187,7 +188,7 @@ orderly_as a b t sizes count o = record {
 }
 
 -- an answer that is the first cause is the machine's
-pub exact_is : (g : Geometry) (count : ℕ) (t : Listing) (u : List ℕ) (size : ℕ) (answer : Option Refusal) → IsOrderly (site_of g count) t → answer ≡ cause g count t u size
+pub exact_is : (g : Geometry) (count : ℕ) (t : VolumeTable) (u : List ℕ) (size : ℕ) (answer : Option Refusal) → IsOrderly (site_of g count) t → answer ≡ cause g count t u size
     → (s : Site) (image : ℕ → List ℕ) (label : List ℕ) → IsSiteOf g count s → PlainSound (content_in s t image)
     → answer ≡ refusal (shape (content_in s t image)) (Create u size true label)
 exact_is g count t u size answer o is s image label same sound =
@@ -200,52 +201,52 @@ exact_is g count t u size answer o is s image label same sound =
 pub record IsUnreserved (u : List ℕ) : Type 0 where
   pub plain : is_nil_bytes u || is_base u ≡ false
 
-pub record IsFree (t : Listing) (u : List ℕ) : Type 0 where
+pub record IsFree (t : VolumeTable) (u : List ℕ) : Type 0 where
   pub before : IsUnreserved u
   pub gone : is_some (rows t (Raw u)) ≡ false
 
-pub record IsFine (g : Geometry) (count : ℕ) (t : Listing) (u : List ℕ) (size : ℕ) : Type 0 where
+pub record IsFine (g : Geometry) (count : ℕ) (t : VolumeTable) (u : List ℕ) (size : ℕ) : Type 0 where
   pub before : IsFree t u
   pub fine : is_bad_sum size (g.entries * g.block) (count * g.extent) (extents_for g.extent size * g.extent) ≡ false
 
-pub record HasPlace (g : Geometry) (count : ℕ) (t : Listing) (u : List ℕ) (size : ℕ) : Type 0 where
+pub record HasPlace (g : Geometry) (count : ℕ) (t : VolumeTable) (u : List ℕ) (size : ℕ) : Type 0 where
   pub before : IsFine g count t u size
   pub few : length (images t) < image_limit
 
-pub record IsUnspent (g : Geometry) (count : ℕ) (t : Listing) (u : List ℕ) (size : ℕ) : Type 0 where
+pub record IsUnspent (g : Geometry) (count : ℕ) (t : VolumeTable) (u : List ℕ) (size : ℕ) : Type 0 where
   pub before : HasPlace g count t u size
   pub unspent : t.sequence < 2 ^ 48 - 16
 
-pub cause_reserved : (g : Geometry) (count : ℕ) (t : Listing) (u : List ℕ) (size : ℕ) → is_nil_bytes u || is_base u ≡ true → Some ReservedName ≡ cause g count t u size
+pub cause_reserved : (g : Geometry) (count : ℕ) (t : VolumeTable) (u : List ℕ) (size : ℕ) → is_nil_bytes u || is_base u ≡ true → Some ReservedName ≡ cause g count t u size
 cause_reserved g count t u size h = rw h refl
 
-pub cause_taken : (g : Geometry) (count : ℕ) (t : Listing) (u : List ℕ) (size : ℕ) → IsUnreserved u → is_some (rows t (Raw u)) ≡ true → Some NameTaken ≡ cause g count t u size
+pub cause_taken : (g : Geometry) (count : ℕ) (t : VolumeTable) (u : List ℕ) (size : ℕ) → IsUnreserved u → is_some (rows t (Raw u)) ≡ true → Some NameTaken ≡ cause g count t u size
 cause_taken g count t u size b h = rw (b.plain, h) refl
 
-pub cause_bad : (g : Geometry) (count : ℕ) (t : Listing) (u : List ℕ) (size : ℕ) → IsFree t u
+pub cause_bad : (g : Geometry) (count : ℕ) (t : VolumeTable) (u : List ℕ) (size : ℕ) → IsFree t u
     → is_bad_sum size (g.entries * g.block) (count * g.extent) (extents_for g.extent size * g.extent) ≡ true → Some BadSize ≡ cause g count t u size
 cause_bad g count t u size b h = rw (b.before.plain, b.gone, h) refl
 
-pub cause_many : (g : Geometry) (count : ℕ) (t : Listing) (u : List ℕ) (size have : ℕ) → IsFine g count t u size
+pub cause_many : (g : Geometry) (count : ℕ) (t : VolumeTable) (u : List ℕ) (size have : ℕ) → IsFine g count t u size
     → have ≡ length (images t) → image_limit ≤ have → Some (TooMany have 1) ≡ cause g count t u size
 cause_many g count t u size have b is h =
     let many : nat_lt image_limit (length (images t) + 1) ≡ true = lt-ltb image_limit (length (images t) + 1) (omega (arith, is, h)) in
     rw (b.before.before.plain, b.before.gone, b.fine, many) (ap (λ n. Some (TooMany n 1)) is)
 
-few_test : (g : Geometry) (count : ℕ) (t : Listing) (u : List ℕ) (size : ℕ) → HasPlace g count t u size → nat_lt image_limit (length (images t) + 1) ≡ false
+few_test : (g : Geometry) (count : ℕ) (t : VolumeTable) (u : List ℕ) (size : ℕ) → HasPlace g count t u size → nat_lt image_limit (length (images t) + 1) ≡ false
 few_test g count t u size b = le-ltb image_limit (length (images t) + 1) (omega (arith, b.few))
 
-pub cause_spent : (g : Geometry) (count : ℕ) (t : Listing) (u : List ℕ) (size : ℕ) → HasPlace g count t u size → 2 ^ 48 - 16 ≤ t.sequence
+pub cause_spent : (g : Geometry) (count : ℕ) (t : VolumeTable) (u : List ℕ) (size : ℕ) → HasPlace g count t u size → 2 ^ 48 - 16 ≤ t.sequence
     → Some SequenceSpent ≡ cause g count t u size
 cause_spent g count t u size b h =
     let few = few_test g count t u size b in
     let spent : nat_le (2 ^ 48 - 16) t.sequence ≡ true = le-leb (2 ^ 48 - 16) t.sequence h in
     rw (b.before.before.before.plain, b.before.before.gone, b.before.fine, few, spent) refl
 
-spent_test : (g : Geometry) (count : ℕ) (t : Listing) (u : List ℕ) (size : ℕ) → IsUnspent g count t u size → nat_le (2 ^ 48 - 16) t.sequence ≡ false
+spent_test : (g : Geometry) (count : ℕ) (t : VolumeTable) (u : List ℕ) (size : ℕ) → IsUnspent g count t u size → nat_le (2 ^ 48 - 16) t.sequence ≡ false
 spent_test g count t u size b = lt-leb (2 ^ 48 - 16) t.sequence b.unspent
 
-pub cause_short : (g : Geometry) (count : ℕ) (t : Listing) (u : List ℕ) (size needed left : ℕ) → IsUnspent g count t u size
+pub cause_short : (g : Geometry) (count : ℕ) (t : VolumeTable) (u : List ℕ) (size needed left : ℕ) → IsUnspent g count t u size
     → needed ≡ extents_for g.extent size → left ≡ length (free_of count t) → left < needed → Some (NoSpace needed left) ≡ cause g count t u size
 cause_short g count t u size needed left b is_needed is_left h =
     let few = few_test g count t u size b.before in
@@ -253,7 +254,7 @@ cause_short g count t u size needed left b is_needed is_left h =
     let short : nat_lt (length (free_of count t)) (extents_for g.extent size) ≡ true = lt-ltb (length (free_of count t)) (extents_for g.extent size) (omega (arith, is_needed, is_left, h)) in
     rw (b.before.before.before.before.plain, b.before.before.before.gone, b.before.before.fine, few, spent, short) (ap₂ (λ n m. Some (NoSpace n m)) is_needed is_left)
 
-pub cause_none : (g : Geometry) (count : ℕ) (t : Listing) (u : List ℕ) (size needed left : ℕ) → IsUnspent g count t u size
+pub cause_none : (g : Geometry) (count : ℕ) (t : VolumeTable) (u : List ℕ) (size needed left : ℕ) → IsUnspent g count t u size
     → needed ≡ extents_for g.extent size → left ≡ length (free_of count t) → needed ≤ left → None ≡ cause g count t u size
 cause_none g count t u size needed left b is_needed is_left h =
     let few = few_test g count t u size b.before in
@@ -267,7 +268,7 @@ either_none : (a b : Bool) → a || b ≡ false → (a ≡ false) × (b ≡ fals
 either_none true b h = absurd (let x = h in cc)
 either_none false b h = (refl, h)
 
-accepted_is : (s : Site) (t : Listing) (u : List ℕ) (size : ℕ) → is_nil_bytes u || is_base u ≡ false → rows t (Raw u) ≡ None
+accepted_is : (s : Site) (t : VolumeTable) (u : List ℕ) (size : ℕ) → is_nil_bytes u || is_base u ≡ false → rows t (Raw u) ≡ None
     → is_bad_sum size (s.geometry.entries * s.geometry.block) (s.count * s.geometry.extent) (extents_for s.geometry.extent size * s.geometry.extent) ≡ false
     → length (images t) < image_limit → t.sequence < 2 ^ 48 - 16 → extents_for s.geometry.extent size ≤ length (free_of s.count t)
     → extents_for s.geometry.extent size ≤ s.count → IsAccepted s t u size
@@ -294,7 +295,7 @@ none_there : (q : Option Row) → is_some q ≡ false → q ≡ None
 none_there None h = refl
 none_there (Some r) h = absurd (let x = h in cc)
 
-accepted_as : (a b : Site) (t : Listing) (u : List ℕ) (size : ℕ) → b.geometry ≡ a.geometry → b.count ≡ a.count → IsAccepted a t u size → IsAccepted b t u size
+accepted_as : (a b : Site) (t : VolumeTable) (u : List ℕ) (size : ℕ) → b.geometry ≡ a.geometry → b.count ≡ a.count → IsAccepted a t u size → IsAccepted b t u size
 accepted_as a b t u size sizes count is = record {
   disk_new = is.disk_new;
   unspent = is.unspent;
@@ -310,7 +311,7 @@ accepted_as a b t u size sizes count is = record {
       };
 }
 
-pub accepted_at : (g : Geometry) (count : ℕ) (t : Listing) (u : List ℕ) (size needed left : ℕ) → IsOrderly (site_of g count) t → IsUnspent g count t u size
+pub accepted_at : (g : Geometry) (count : ℕ) (t : VolumeTable) (u : List ℕ) (size needed left : ℕ) → IsOrderly (site_of g count) t → IsUnspent g count t u size
     → needed ≡ extents_for g.extent size → left ≡ length (free_of count t) → needed ≤ left
     → (s : Site) → IsSiteOf g count s → IsAccepted s t u size
 accepted_at g count t u size needed left o b is_needed is_left h s same =
@@ -321,8 +322,8 @@ accepted_at g count t u size needed left o b is_needed is_left h s same =
 
 -- ---- how many images there are
 
-pub count_images : (hs : List HeldRow) → count_by (λ (h : HeldRow). is_data h.row.name) hs ≡ length (filter (λ (r : Row). is_data r.name) (rows_alone hs))
+pub count_images : (hs : List RoomyRow) → count_by (λ (h : RoomyRow). is_data h.row.name) hs ≡ length (filter (λ (r : Row). is_data r.name) (rows_alone hs))
 count_images hs =
-    sym (length-filter (λ (h : HeldRow). is_data h.row.name) hs)
-    ∙ sym (length-map (filter (λ (h : HeldRow). is_data h.row.name) hs) (λ (h : HeldRow). h.row))
-    ∙ ap length (map-filter (λ (h : HeldRow). h.row) (λ (h : HeldRow). is_data h.row.name) (λ (r : Row). is_data r.name) (λ h. refl) hs)
+    sym (length-filter (λ (h : RoomyRow). is_data h.row.name) hs)
+    ∙ sym (length-map (filter (λ (h : RoomyRow). is_data h.row.name) hs) (λ (h : RoomyRow). h.row))
+    ∙ ap length (map-filter (λ (h : RoomyRow). h.row) (λ (h : RoomyRow). is_data h.row.name) (λ (r : Row). is_data r.name) (λ h. refl) hs)

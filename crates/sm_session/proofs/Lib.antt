@@ -11,7 +11,6 @@ pub mod RawRows
 pub mod RecordPlaces
 pub mod RestLaws
 pub mod RoomLaws
-pub mod UntouchedLaws
 pub mod SessionLaws
 pub mod ShapeLaws
 pub mod StageLaws

@@ -10,13 +10,13 @@ use Rattle.sm_base.specs.declared.names.Name.{Name}
 use Rattle.sm_base.specs.declared.names.Name.TheVariants.{Mgt, Vhd, Raw, Old, Clone, Inflate, Coalesce, Relink, Leaf}
 use Rattle.sm_disk.specs.Held.{Held}
 use Rattle.vg_extents.proofs.CountLaws.{low-so_far}
-use Rattle.vg_meta.specs.Kept.{HeldRow, rows_alone}
-use Rattle.vg_meta.specs.Tables.{Listing, Row, rows, extents_in, AreVolumes}
+use Rattle.vg_meta.specs.Roomy.{RoomyRow, rows_alone}
+use Rattle.vg_meta.specs.Tables.{VolumeTable, Row, rows, extents_in, AreVolumes}
 use Rattle.vg_volumes.specs.Sites.{Site}
 use Rattle.vg_volumes.specs.Volumes.{piece}
 use Rattle.sm_record.specs.declared.records.Record.{Record}
 use Rattle.sm_machine.specs.declared.replies.DiskRow.{DiskRow}
-use Rattle.sm_machine.specs.Lists.{In, numbers}
+use Rattle.common_laws.specs.Lists.{In, numbers}
 use Rattle.sm_machine.specs.Disks.{Disk}
 use Rattle.sm_machine.specs.Steps.{disk_row}
 use Rattle.sm_mgt.specs.Places.{record_in}
@@ -49,7 +49,7 @@ raw_listed c u entry es =
     ap (λ n. let r : DiskRow = record { uuid = u; size = n * 512; read_only = entry.read_only; origin = entry.origin; label = entry.label } in Some r)
     (length-map (numbers 0 (length es * c.extent)) (piece c.extent es c.area) ∙ long_numbers 0 (length es * c.extent))
 
-named_listed : (s : Site) (t : Listing) (area : Held) (places : List (Option Record)) (r : Row) (n : Name) → IsOrderly s t → IsAtRest s t area places
+named_listed : (s : Site) (t : VolumeTable) (area : Held) (places : List (Option Record)) (r : Row) (n : Name) → IsOrderly s t → IsAtRest s t area places
     → In r t.volumes → rows t n ≡ Some r
     → option_map disk_row (named_disk (content_now s t area) n) ≡ row_of_name (length r.extents * s.geometry.extent) places n
 named_listed s t area places r (Raw u) o rest h there =
@@ -67,7 +67,7 @@ named_listed s t area places r (Coalesce x p) o rest h there = refl
 named_listed s t area places r (Relink x p) o rest h there = refl
 named_listed s t area places r (Leaf l p) o rest h there = refl
 
-listed_here : (s : Site) (t : Listing) (area : Held) (places : List (Option Record)) → IsOrderly s t → IsAtRest s t area places
+listed_here : (s : Site) (t : VolumeTable) (area : Held) (places : List (Option Record)) → IsOrderly s t → IsAtRest s t area places
     → filter_map (listed_row s.geometry.extent places) t.volumes ≡ map disk_row (disks (content_now s t area))
 unfolding listed_row
 listed_here s t area places o rest =
@@ -78,7 +78,7 @@ listed_here s t area places o rest =
     (λ r h. named_listed s t area places r r.name o rest h (found_table s.count t o.table r h)))
 
 -- the rows of the raw volumes with records are those of the disks
-pub listed_is : (extent : ℕ) (s : Site) (t : Listing) (area : Held) (places : List (Option Record)) → s.geometry.extent ≡ extent → IsOrderly s t → IsAtRest s t area places
+pub listed_is : (extent : ℕ) (s : Site) (t : VolumeTable) (area : Held) (places : List (Option Record)) → s.geometry.extent ≡ extent → IsOrderly s t → IsAtRest s t area places
     → filter_map (listed_row extent places) t.volumes ≡ map disk_row (disks (content_now s t area))
 listed_is extent s t area places same o rest = ap (λ n. filter_map (listed_row n places) t.volumes) (sym same) ∙ listed_here s t area places o rest
 
@@ -88,35 +88,35 @@ All-parts : (P : ℕ → Type 0) (xs ys : List ℕ) → AllByRecursion P (xs ++ 
 All-parts P [] ys all = (tt, all)
 All-parts P (x ∷ xs) ys all = let w = All-parts P xs ys all.1 in ((all.0, w.0), w.1)
 
-all_of : (P : ℕ → Type 0) (hs : List HeldRow) (i : ℕ) (h : HeldRow) → i < length hs → h ≡ get_or hs i h → AllByRecursion P (extents_in (rows_alone hs)) → AllByRecursion P h.row.extents
+all_of : (P : ℕ → Type 0) (hs : List RoomyRow) (i : ℕ) (h : RoomyRow) → i < length hs → h ≡ get_or hs i h → AllByRecursion P (extents_in (rows_alone hs)) → AllByRecursion P h.row.extents
 all_of P [] i h lt is all = absurd (omega arith)
-all_of P (x ∷ hs) zero h lt is all = subst (λ (q : HeldRow). AllByRecursion P q.row.extents) (sym is) (All-parts P x.row.extents (extents_in (rows_alone hs)) all).0
+all_of P (x ∷ hs) zero h lt is all = subst (λ (q : RoomyRow). AllByRecursion P q.row.extents) (sym is) (All-parts P x.row.extents (extents_in (rows_alone hs)) all).0
 all_of P (x ∷ hs) (suc i) h lt is all = all_of P hs i h (omega arith) is (All-parts P x.row.extents (extents_in (rows_alone hs)) all).1
 
-pub few_extents : (count : ℕ) (hs : List HeldRow) (i : ℕ) (h : HeldRow) → i < length hs → h ≡ get_or hs i h → AreVolumes count (rows_alone hs) → length h.row.extents ≤ count
+pub few_extents : (count : ℕ) (hs : List RoomyRow) (i : ℕ) (h : RoomyRow) → i < length hs → h ≡ get_or hs i h → AreVolumes count (rows_alone hs) → length h.row.extents ≤ count
 few_extents count hs i h lt is volumes =
     omega (arith, low-so_far count hs i h lt is volumes.distinct, all_low count h.row.extents (all_of (λ (e : ℕ). e < count) hs i h lt is volumes.below))
 
 -- ---- one volume after another
 
-abbrev pub rows_to : ℕ → List (Option Record) → List HeldRow → ℕ → List DiskRow
+abbrev pub rows_to : ℕ → List (Option Record) → List RoomyRow → ℕ → List DiskRow
 rows_to extent places hs i = filter_map (listed_row extent places) (rows_alone (take i hs))
 
-next : (extent : ℕ) (places : List (Option Record)) (hs : List HeldRow) (i : ℕ) (h : HeldRow) → i < length hs → h ≡ get_or hs i h
+next : (extent : ℕ) (places : List (Option Record)) (hs : List RoomyRow) (i : ℕ) (h : RoomyRow) → i < length hs → h ≡ get_or hs i h
     → rows_to extent places hs (i + 1) ≡ rows_to extent places hs i ++ cons_option (listed_row extent places h.row) []
 next extent places hs i h lt is =
-    ap (λ (l : List HeldRow). filter_map (listed_row extent places) (rows_alone l)) (taken hs i h lt is)
+    ap (λ (l : List RoomyRow). filter_map (listed_row extent places) (rows_alone l)) (taken hs i h lt is)
     ∙ ap (filter_map (listed_row extent places)) (rows-push (take i hs) h)
     ∙ filter_map-append (listed_row extent places) (rows_alone (take i hs)) (h.row ∷ [])
 
 -- a volume without a row
-pub next_none : (extent : ℕ) (places : List (Option Record)) (hs : List HeldRow) (i : ℕ) (h : HeldRow) (so_far : List DiskRow) (o : Option DiskRow)
+pub next_none : (extent : ℕ) (places : List (Option Record)) (hs : List RoomyRow) (i : ℕ) (h : RoomyRow) (so_far : List DiskRow) (o : Option DiskRow)
     → i < length hs → h ≡ get_or hs i h → o ≡ listed_row extent places h.row → o ≡ None → so_far ≡ rows_to extent places hs i → so_far ≡ rows_to extent places hs (i + 1)
 next_none extent places hs i h so_far o lt is row none done =
     done ∙ sym (next extent places hs i h lt is ∙ ap (λ x. rows_to extent places hs i ++ cons_option x []) (sym row ∙ none) ∙ append-nil (rows_to extent places hs i))
 
 -- and one with a row
-pub next_some : (extent : ℕ) (places : List (Option Record)) (hs : List HeldRow) (i : ℕ) (h : HeldRow) (so_far now : List DiskRow) (o : Option DiskRow) (r : DiskRow)
+pub next_some : (extent : ℕ) (places : List (Option Record)) (hs : List RoomyRow) (i : ℕ) (h : RoomyRow) (so_far now : List DiskRow) (o : Option DiskRow) (r : DiskRow)
     → i < length hs → h ≡ get_or hs i h → o ≡ listed_row extent places h.row → o ≡ Some r → so_far ≡ rows_to extent places hs i → now ≡ so_far ++ r ∷ []
     → now ≡ rows_to extent places hs (i + 1)
 next_some extent places hs i h so_far now o r lt is row some done pushed =

@@ -7,12 +7,12 @@ use Rattle.std.proofs.lemmas.Slice.Eq.{bytes_eq-Decides}
 use Rattle.sm_base.specs.declared.names.Name.{Name}
 use Rattle.sm_base.specs.declared.names.Name.TheVariants.{Mgt, Raw}
 use Rattle.sm_disk.specs.Sectors.{zeros}
-use Rattle.vg_meta.specs.Tables.{Listing, Row, rows}
+use Rattle.vg_meta.specs.Tables.{VolumeTable, Row, rows}
 use Rattle.vg_meta.specs.Changes.{made}
 use Rattle.vg_volumes.specs.Sites.{Site}
 use Rattle.vg_volumes.specs.Volumes.{span, piece}
 use Rattle.sm_machine.specs.Disks.{Disk, with_disk}
-use Rattle.sm_machine.specs.Lists.{◌>>=◌}
+use Rattle.common_laws.specs.Lists.{◌>>=◌}
 use Rattle.sm_record.specs.declared.records.Record.{Record}
 use Rattle.sm_record.specs.declared.records.Reading.TheVariants.{Free, Taken}
 use Rattle.sm_standing.specs.Additions.{HasMore, SameReadings, OneReading, RecordsFit}
@@ -30,7 +30,7 @@ use Rattle.sm_session.specs.Stages.{entry_of}
 use Rattle.sm_session.proofs.TableLaws.{IsWith, with_here, with_other, with_in, with_few}
 
 -- each other volume's sectors are as they were, and each record, but the one in the place may be there
-pub record IsBeside (s : Site) (t next : Listing) (old image : ℕ → List ℕ) (place : ℕ) (entry : Record) : Type 0 where
+pub record IsBeside (s : Site) (t next : VolumeTable) (old image : ℕ → List ℕ) (place : ℕ) (entry : Record) : Type 0 where
   pub others : (n : Name) (r : Row) → rows t n ≡ Some r → n ≢ Mgt → (p : ℕ) → p < span s.geometry.extent r.extents
       → piece s.geometry.extent r.extents image p ≡ piece s.geometry.extent r.extents old p
   pub records : (k : ℕ) → k < record_count → (reading_at (content_in s next image) k ≡ reading_at (content_in s t old) k)
@@ -44,7 +44,7 @@ pub record IsFreeFor (a : Content) (u : List ℕ) (place : ℕ) : Type 0 where
 
 -- ---- the table and the sectors
 
-has_more : (s : Site) (t next : Listing) (u extents : List ℕ) (fresh : Bool) (old image : ℕ → List ℕ) (place : ℕ) (entry : Record)
+has_more : (s : Site) (t next : VolumeTable) (u extents : List ℕ) (fresh : Bool) (old image : ℕ → List ℕ) (place : ℕ) (entry : Record)
     → IsNewDisk t u → AreForDisk s t extents → IsWith t u fresh extents next → IsBeside s t next old image place entry
     → HasMore (content_in s t old) (content_in s next image) u (made (Raw u) fresh extents)
 has_more s t next u extents fresh old image place entry new for w beside = record {
@@ -76,24 +76,24 @@ of_other u v label other = by (bytes_eq u v) refl
     by true is = absurd (other (sym ((bytes_eq-Decides u v).0 is)))
     by false is = is
 
-right_all : (s : Site) (t next : Listing) (old image : ℕ → List ℕ) (place : ℕ) (entry : Record) → PlainSound (content_in s t old) → IsBeside s t next old image place entry
+right_all : (s : Site) (t next : VolumeTable) (old image : ℕ → List ℕ) (place : ℕ) (entry : Record) → PlainSound (content_in s t old) → IsBeside s t next old image place entry
     → (k : ℕ) → k < record_count → is_damaged (reading_at (content_in s next image) k) ≡ false
 right_all s t next old image place entry sound beside k below =
     ⊎_elim (λ same. ap is_damaged same ∙ sound.right k below) (λ w. ap is_damaged w.1) (beside.records k below)
 
 -- at each other place
-other_place : (s : Site) (t next : Listing) (old image : ℕ → List ℕ) (place : ℕ) (entry : Record) → IsBeside s t next old image place entry
+other_place : (s : Site) (t next : VolumeTable) (old image : ℕ → List ℕ) (place : ℕ) (entry : Record) → IsBeside s t next old image place entry
     → (k : ℕ) → k < record_count → k ≢ place → reading_at (content_in s next image) k ≡ reading_at (content_in s t old) k
 other_place s t next old image place entry beside k below other =
     ⊎_elim (λ same. same) (λ w. absurd (other w.0)) (beside.records k below)
 
-same_readings : (s : Site) (t next : Listing) (old image : ℕ → List ℕ) (place : ℕ) (entry : Record) → IsBeside s t next old image place entry
+same_readings : (s : Site) (t next : VolumeTable) (old image : ℕ → List ℕ) (place : ℕ) (entry : Record) → IsBeside s t next old image place entry
     → reading_at (content_in s next image) place ≡ reading_at (content_in s t old) place → SameReadings (content_in s t old) (content_in s next image)
 same_readings s t next old image place entry beside same k below =
     ⊎_elim (λ at. subst (λ j. reading_at (content_in s next image) j ≡ reading_at (content_in s t old) j) (sym at) same)
     (λ other. other_place s t next old image place entry beside k below other) (cases_eq k place)
 
-one_reading : (s : Site) (t next : Listing) (old image : ℕ → List ℕ) (u : List ℕ) (place : ℕ) (entry : Record) → IsFreeFor (content_in s t old) u place → IsBeside s t next old image place entry
+one_reading : (s : Site) (t next : VolumeTable) (old image : ℕ → List ℕ) (u : List ℕ) (place : ℕ) (entry : Record) → IsFreeFor (content_in s t old) u place → IsBeside s t next old image place entry
     → reading_at (content_in s next image) place ≡ Taken entry → OneReading (content_in s t old) (content_in s next image) place entry
 one_reading s t next old image u place entry free beside taken = record {
   within = free.within;
@@ -102,7 +102,7 @@ one_reading s t next old image u place entry free beside taken = record {
   others = λ k below other. other_place s t next old image place entry beside k below other;
 }
 
-others_alike : (s : Site) (t next : Listing) (old image : ℕ → List ℕ) (u label : List ℕ) (place : ℕ) → IsFreeFor (content_in s t old) u place → IsBeside s t next old image place (entry_of u label)
+others_alike : (s : Site) (t next : VolumeTable) (old image : ℕ → List ℕ) (u label : List ℕ) (place : ℕ) → IsFreeFor (content_in s t old) u place → IsBeside s t next old image place (entry_of u label)
     → (v : List ℕ) → v ≢ u → filter (is_record_of v) (records (content_in s next image)) ≡ filter (is_record_of v) (records (content_in s t old))
 others_alike s t next old image u label place free beside v other =
     ⊎_elim
@@ -113,7 +113,7 @@ others_alike s t next old image u label place free beside v other =
 -- ---- the three moments
 
 -- while the image is new the disks are those from before
-pub fresh_moment : (s : Site) (t next : Listing) (u label extents : List ℕ) (old image : ℕ → List ℕ) (place : ℕ)
+pub fresh_moment : (s : Site) (t next : VolumeTable) (u label extents : List ℕ) (old image : ℕ → List ℕ) (place : ℕ)
     → IsNewDisk t u → AreForDisk s t extents → IsWith t u true extents next → PlainSound (content_in s t old) → IsFreeFor (content_in s t old) u place
     → IsBeside s t next old image place (entry_of u label)
     → PlainSound (content_in s next image) × (disks (content_in s next image) ≡ disks (content_in s t old))
@@ -129,7 +129,7 @@ fresh_moment s t next u label extents old image place new for w sound free besid
     )
 
 -- once it is not, they are one more
-pub filled_moment : (s : Site) (t next : Listing) (u label extents : List ℕ) (old image : ℕ → List ℕ) (place : ℕ)
+pub filled_moment : (s : Site) (t next : VolumeTable) (u label extents : List ℕ) (old image : ℕ → List ℕ) (place : ℕ)
     → IsNewDisk t u → AreForDisk s t extents → IsWith t u false extents next → PlainSound (content_in s t old) → IsFreeFor (content_in s t old) u place
     → IsBeside s t next old image place (entry_of u label)
     → reading_at (content_in s next image) place ≡ Taken (entry_of u label)
@@ -152,7 +152,7 @@ filled_moment s t next u label extents old image place new for w sound free besi
     )
 
 -- where nothing that counts differs, all is as it was
-pub same_moment : (s : Site) (t : Listing) (old image : ℕ → List ℕ) → PlainSound (content_in s t old)
+pub same_moment : (s : Site) (t : VolumeTable) (old image : ℕ → List ℕ) → PlainSound (content_in s t old)
     → ((n : Name) (r : Row) → rows t n ≡ Some r → (p : ℕ) → p < span s.geometry.extent r.extents → piece s.geometry.extent r.extents image p ≡ piece s.geometry.extent r.extents old p)
     → SameReadings (content_in s t old) (content_in s t image)
     → PlainSound (content_in s t image) × (disks (content_in s t image) ≡ disks (content_in s t old))

@@ -8,11 +8,12 @@ use Rattle.std.proofs.lemmas.List.Sums.{sum-map, sum_by-cons}
 use Rattle.sm_base.specs.Names.{name_cmp}
 use Rattle.sm_base.specs.declared.names.Name.{Name}
 use Rattle.sm_base.specs.declared.names.Name.TheVariants.{Mgt, Vhd, Raw, Old, Clone, Inflate, Coalesce, Relink, Leaf}
-use Rattle.vg_meta.specs.Tables.{Listing, Row, row_of, rows, name_eq, names_of, extents_in, extents_of, IsTable, is_image as is_data}
+use Rattle.vg_meta.specs.Tables.{VolumeTable, Row, row_of, rows, name_eq, names_of, extents_in, extents_of, IsTable}
+use Rattle.sm_base.specs.Kinds.{is_image as is_data}
 use Rattle.vg_meta.proofs.NameLaws.{name_eq-same, name_eq-other, less_other}
 use Rattle.vg_meta.proofs.RowLaws.{IsRising}
 use Rattle.vg_volumes.specs.Volumes.{span}
-use Rattle.sm_machine.specs.Lists.{In, ◌>>=◌}
+use Rattle.common_laws.specs.Lists.{In, ◌>>=◌}
 use Rattle.sm_machine.specs.Shapes.{ImageRow, image_extents, image_uuid}
 use Rattle.sm_standing.specs.Contents.{Content, row}
 use Rattle.sm_standing.specs.Images.{Image, image_of, raw_image}
@@ -22,7 +23,7 @@ use Rattle.sm_standing.proofs.PlainDisks.{all-In}
 
 -- ---- each row is the one of its name
 
-abbrev pub IsFound : Listing → Type 0
+abbrev pub IsFound : VolumeTable → Type 0
 IsFound t = (r : Row) → In r t.volumes → rows t r.name ≡ Some r
 
 at_head : (s : Row) (x : Option Row) → cond (name_eq s.name s.name) (Some s) x ≡ Some s
@@ -45,7 +46,7 @@ found_in (s ∷ rs) rising r (inr h) =
     past_head s (row_of rs r.name) r.name (less_other s.name r.name (name-In (λ (m : Name). name_cmp s.name m ≡ Less) rs r rising.0 h))
     ∙ found_in rs rising.1 r h
 
-pub found_table : (count : ℕ) (t : Listing) → IsTable count t → IsFound t
+pub found_table : (count : ℕ) (t : VolumeTable) → IsTable count t → IsFound t
 found_table count t is = found_in t.volumes is.volumes.rising
 
 -- ---- the image of a row

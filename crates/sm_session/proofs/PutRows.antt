@@ -12,7 +12,7 @@ use Rattle.vg_meta.specs.Changes.{made, tagged, put, with_row}
 use Rattle.vg_meta.specs.declared.changes.Tag.TheVariants.{Fresh}
 use Rattle.vg_meta.proofs.NameLaws.{name_eq-same, less_from}
 use Rattle.vg_meta.proofs.RowLaws.{IsRising, front_of}
-use Rattle.sm_machine.specs.Lists.{In, insert_by}
+use Rattle.common_laws.specs.Lists.{In, insert_by}
 use Rattle.sm_machine.specs.Shapes.{ImageRow}
 
 -- ---- the volumes with the new one

@@ -10,14 +10,14 @@ use Rattle.sm_base.specs.declared.names.Name.TheVariants.{Mgt, Vhd, Raw, Old, Cl
 use Rattle.vg_meta.specs.Tables.{Row, IsTable, IsVolume}
 use Rattle.vg_meta.proofs.RowLaws.{IsRising, All-row_of, row_of-name}
 use Rattle.sm_record.specs.declared.records.Record.{Record}
-use Rattle.sm_machine.specs.Lists.{In}
+use Rattle.common_laws.specs.Lists.{In}
 use Rattle.sm_machine.specs.Disks.{Disk}
 use Rattle.sm_standing.specs.Contents.{Content, row, records, record_of, is_record_of}
 use Rattle.sm_standing.specs.Ordered.{Rising, uuid_cmp, disk_cmp}
 use Rattle.sm_standing.specs.Plain.{is_plain, is_plain_name, IsPlain}
 use Rattle.sm_standing.specs.PlainSound.{PlainSound}
 use Rattle.sm_standing.specs.RawDisks.{raw_disk}
-use Rattle.sm_standing.specs.Standing.{disks, disk_at, stands}
+use Rattle.sm_standing.specs.Standing.{disks, disk_at, standing_volume}
 use Rattle.sm_standing.proofs.DiskLists.{at_disks, disks_at, uuid-disk_at, rising-disks}
 use Rattle.sm_standing.proofs.DisksShown.{disk_cmp_total, row_of-In}
 use Rattle.sm_standing.proofs.Orders.{rising_ext, rising-filter_map, In-filter_map, filter_map-In}
@@ -49,7 +49,7 @@ pub shown : (c : Content) (u : List ℕ) (r : Row) → PlainSound c → row c (R
 shown c u r sound there old =
     let named = row_of-name c.table.volumes (Raw u) r there in
     let seen = visible r u named (all-In (λ (q : Row). is_plain q ≡ true) c.table.volumes r sound.plain (row_of-In c.table.volumes (Raw u) r there).0) in
-    let stands_raw : stands c.table u ≡ Some (Raw u) =
+    let stands_raw : standing_volume c.table u ≡ Some (Raw u) =
     plain_stands c.table u sound.plain ∙ ap (raw_stands u) there ∙ ap₂ (λ h f. cond (not h && not f) (Some (Raw u)) None) seen old in
     let first = one_first (filter (is_record_of u) (records c)) (sound.recorded u (Raw u) stands_raw) in
     let entry_is : record_of c u ≡ Some first.0 = record_of_first c u ∙ first.1 in

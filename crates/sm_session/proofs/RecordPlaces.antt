@@ -1,37 +1,32 @@
 -- The record of a disk in memory is that of the content, where memory agrees with the store.
 use Rattle.std.proofs.Common.{◌≡◌, ℕ, suc, ◌+◌, ◌*◌, ◌<◌, Bool, true, false, cond, List, [], ◌∷◌, length, slice_get, find, unwrap_or, Option, Some, None, refl, sym, ap, ◌∙◌, arith}
 use Rattle.std.specs.List.{filter_map, cons_option}
-use Rattle.std.proofs.lemmas.Bool.{lt-ltb}
 use Rattle.std.proofs.lemmas.Option.{slice_get_within}
 use Rattle.sm_base.proofs.NumberLemmas.{le-div_up}
 use Rattle.sm_base.specs.declared.names.Name.TheVariants.{Mgt}
-use Rattle.sm_disk.specs.Held.{Held, reads, newest}
+use Rattle.sm_disk.specs.Held.{Held}
 use Rattle.vg_layout.specs.Places.{record_extents}
-use Rattle.vg_meta.specs.Tables.{Listing, rows, extents_of}
+use Rattle.vg_meta.specs.Tables.{VolumeTable, rows, extents_of}
 use Rattle.vg_volumes.specs.Sites.{Site}
-use Rattle.vg_volumes.specs.Volumes.{volume, span, spot, piece}
+use Rattle.vg_volumes.specs.Volumes.{span, piece}
+use Rattle.vg_volumes.proofs.VolumeLaws.{volume_reads}
 use Rattle.sm_record.specs.declared.records.Record.{Record}
 use Rattle.sm_record.specs.Records.{reading}
-use Rattle.sm_machine.specs.Lists.{numbers}
+use Rattle.common_laws.specs.Lists.{numbers}
 use Rattle.sm_mgt.specs.Places.{Agrees, as_reading, is_of, reading_of, record_in, records_held}
 use Rattle.sm_recover.specs.Stores.{content_now, IsOrderly}
 use Rattle.sm_standing.specs.Contents.{sectors_of, reading_at, record_count, taken, records, record_of, is_record_of}
 
 -- ---- a record sector is read as it stands in the volume
 
-volume_reads : (extent : ℕ) (es : List ℕ) (area : Held) (k : ℕ) → k < span extent es → reads (volume extent es area) k ≡ piece extent es (reads area) k
-unfolding volume piece
-volume_reads extent es area k within =
-    ap (λ b. newest (cond b (area.floor (spot extent es k)) []) (cond b (area.pending (spot extent es k)) [])) (lt-ltb k (span extent es) within)
-
-enough : (s : Site) (t : Listing) (k : ℕ) → IsOrderly s t → k < 512 → k < span s.geometry.extent (extents_of (rows t Mgt))
+enough : (s : Site) (t : VolumeTable) (k : ℕ) → IsOrderly s t → k < 512 → k < span s.geometry.extent (extents_of (rows t Mgt))
 unfolding record_extents
 enough s t k o below =
     let least = s.geometry.in_range.extent_least in
     omega (arith, below, le-div_up 512 s.geometry.extent (omega (arith, least)), ap (λ n. n * s.geometry.extent) o.record_volume)
 
-pub same_reading : (s : Site) (t : Listing) (area : Held) (k : ℕ) → IsOrderly s t → k < record_count → reading_of (records_held s t area) k ≡ reading_at (content_now s t area) k
-unfolding sectors_of
+pub same_reading : (s : Site) (t : VolumeTable) (area : Held) (k : ℕ) → IsOrderly s t → k < record_count → reading_of (records_held s t area) k ≡ reading_at (content_now s t area) k
+unfolding sectors_of piece
 same_reading s t area k o below = ap reading (volume_reads s.geometry.extent (extents_of (rows t Mgt)) area k (enough s t k o below))
 
 -- ---- the record that is found
@@ -60,7 +55,7 @@ found_from f u (o ∷ ps) a each =
     (found_from f u ps (a + 1) (λ k p h. ap f (let e : a + 1 + k ≡ a + suc k = omega arith in e) ∙ each (suc k) p h))
 
 -- the record of a UUID in memory is that of the content
-pub record_found : (s : Site) (t : Listing) (area : Held) (places : List (Option Record)) (u : List ℕ) → IsOrderly s t → Agrees (records_held s t area) places
+pub record_found : (s : Site) (t : VolumeTable) (area : Held) (places : List (Option Record)) (u : List ℕ) → IsOrderly s t → Agrees (records_held s t area) places
     → record_of (content_now s t area) u ≡ record_in places u
 unfolding records
 record_found s t area places u o agrees =

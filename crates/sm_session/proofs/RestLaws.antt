@@ -13,12 +13,13 @@ use Rattle.sm_base.proofs.NumberLemmas.{le-div_up}
 use Rattle.sm_disk.specs.Held.{Held, reads, May, Keeps, IsSettled}
 use Rattle.sm_disk.proofs.HeldLaws.{Allows-from_reads}
 use Rattle.vg_layout.specs.Places.{record_extents}
-use Rattle.vg_meta.specs.Tables.{Listing, Row, rows, extents_of}
+use Rattle.vg_meta.specs.Tables.{VolumeTable, Row, rows, extents_of}
 use Rattle.vg_volumes.specs.Commits.{IsBefore, IsAfter, IsEither}
 use Rattle.vg_volumes.specs.Sites.{Site, area_size}
 use Rattle.vg_volumes.specs.Volumes.{span, piece, volume}
+use Rattle.vg_volumes.proofs.VolumeLaws.{volume_reads}
 use Rattle.sm_machine.specs.Disks.{with_disk}
-use Rattle.sm_machine.specs.Lists.{numbers}
+use Rattle.common_laws.specs.Lists.{numbers}
 use Rattle.sm_record.specs.declared.records.Record.{Record}
 use Rattle.sm_record.specs.declared.records.Reading.{Reading}
 use Rattle.sm_record.specs.declared.records.Reading.TheVariants.{Free, Taken, Damaged}
@@ -29,21 +30,21 @@ use Rattle.sm_mgt.proofs.PlaceLaws.{place_below}
 use Rattle.sm_standing.specs.Contents.{Content, record_count, reading_at, records, is_record_of, taken}
 use Rattle.sm_standing.specs.Plain.{IsPlain}
 use Rattle.sm_standing.specs.PlainSound.{PlainSound}
-use Rattle.sm_standing.specs.Standing.{stands, disks}
+use Rattle.sm_standing.specs.Standing.{standing_volume, disks}
 use Rattle.sm_standing.proofs.DiskLists.{same_or_not}
-use Rattle.sm_standing.proofs.Finding.{In-numbers}
+use Rattle.common_laws.proofs.Lists.{In-numbers}
 use Rattle.sm_standing.proofs.PlainDisks.{plain_stands, raw_stands}
 use Rattle.sm_standing.proofs.RecordLists.{filter_none}
 use Rattle.sm_recover.specs.Stores.{content_in, content_now, IsOrderly, IsAtRest, HasNoStray}
 use Rattle.sm_session.specs.Making.{IsNewDisk, AreForDisk, table_begun, table_made, new_disk}
-use Rattle.sm_session.specs.Stages.{IsFilling, IsFilled, IsMade, IsSoundWith, entry_of}
+use Rattle.sm_session.specs.Stages.{IsFilling, IsDiskFilled, IsMade, IsSoundWith, entry_of}
 use Rattle.sm_session.proofs.TableLaws.{IsWith, begun_table, made_table, begun_with, made_with, with_here, with_other, orderly_made}
-use Rattle.sm_session.proofs.VolumeLaws.{extent_some, volume_reads, volume_keeps, settled_may}
+use Rattle.sm_session.proofs.VolumeLaws.{extent_some, volume_keeps, settled_may}
 use Rattle.sm_session.proofs.MomentLaws.{IsBeside, IsFreeFor, fresh_moment, filled_moment, same_moment}
 use Rattle.sm_session.proofs.StageLaws.{IsStart, IsEnd, left_by_filling, sectors_piece, beside_filling, beside_filled, taken_there, zeros_there}
 
 -- what the making begins with
-pub record Begins (s : Site) (t : Listing) (area : Held) (places : List (Option Record)) (entry : Record) (extents : List ℕ) (place : ℕ) : Type 0 where
+pub record Begins (s : Site) (t : VolumeTable) (area : Held) (places : List (Option Record)) (entry : Record) (extents : List ℕ) (place : ℕ) : Type 0 where
   pub orderly : IsOrderly s t
   pub rest : IsAtRest s t area places
   pub new : IsNewDisk t entry.uuid
@@ -54,24 +55,24 @@ pub record Begins (s : Site) (t : Listing) (area : Held) (places : List (Option 
 
 -- ---- the UUID is no disk's, and no record's
 
-stands_none : (t : Listing) (u : List ℕ) (s : Site) → IsOrderly s t → rows t (Raw u) ≡ None → stands t u ≡ None
+stands_none : (t : VolumeTable) (u : List ℕ) (s : Site) → IsOrderly s t → rows t (Raw u) ≡ None → standing_volume t u ≡ None
 stands_none t u s orderly gone = plain_stands t u orderly.plain ∙ ap (raw_stands u) gone
 
-no_record : (a : Content) (u : List ℕ) → HasNoStray a → stands a.table u ≡ None → (k : ℕ) (r : Record) → k < record_count → reading_at a k ≡ Taken r → is_record_of u r ≡ false
+no_record : (a : Content) (u : List ℕ) → HasNoStray a → standing_volume a.table u ≡ None → (k : ℕ) (r : Record) → k < record_count → reading_at a k ≡ Taken r → is_record_of u r ≡ false
 no_record a u no_stray none k r below is = by (bytes_eq r.uuid u) refl
   where
     by : (b : Bool) → bytes_eq r.uuid u ≡ b → bytes_eq r.uuid u ≡ false
     by false e = e
     by true e =
         let same : r.uuid ≡ u = (bytes_eq-Decides r.uuid u).0 e in
-        absurd (true≢false (sym (no_stray k r below is) ∙ ap (λ v. is_some (stands a.table v)) same ∙ ap is_some none))
+        absurd (true≢false (sym (no_stray k r below is) ∙ ap (λ v. is_some (standing_volume a.table v)) same ∙ ap is_some none))
 
 taken_is : (x : Reading) (r : Record) → taken x ≡ Some r → x ≡ Taken r
 taken_is Free r e = absurd (let h = e in cc)
 taken_is (Taken q) r e = (let h = e in cc)
 taken_is Damaged r e = absurd (let h = e in cc)
 
-no_records : (a : Content) (u : List ℕ) → HasNoStray a → stands a.table u ≡ None → filter (is_record_of u) (records a) ≡ []
+no_records : (a : Content) (u : List ℕ) → HasNoStray a → standing_volume a.table u ≡ None → filter (is_record_of u) (records a) ≡ []
 unfolding records
 no_records a u no_stray none =
     filter_none (is_record_of u) (λ k. taken (reading_at a k)) (numbers 0 record_count)
@@ -80,8 +81,9 @@ no_records a u no_stray none =
 -- ---- the place is free
 
 -- the reading of a place, in memory and in the content
-place_reads : (s : Site) (t : Listing) (area : Held) (mgt : Row) → rows t Mgt ≡ Some mgt → (k : ℕ) → k < span s.geometry.extent mgt.extents
+place_reads : (s : Site) (t : VolumeTable) (area : Held) (mgt : Row) → rows t Mgt ≡ Some mgt → (k : ℕ) → k < span s.geometry.extent mgt.extents
     → reading_of (records_held s t area) k ≡ reading_at (content_now s t area) k
+unfolding piece
 place_reads s t area mgt there k below =
     ap (λ o. reading (reads (volume s.geometry.extent (extents_of o) area) k)) there
     ∙ ap reading (volume_reads s.geometry.extent mgt.extents area k below ∙ sym (sectors_piece s t (reads area) Mgt mgt there k))
@@ -90,7 +92,7 @@ mgt_long : (s : Site) (mgt : Row) → length mgt.extents ≡ record_extents s.ge
 unfolding record_extents
 mgt_long s mgt is = subst (λ n. record_count ≤ n * s.geometry.extent) (sym is) (le-div_up 512 s.geometry.extent (extent_some s))
 
-free_place : (s : Site) (t : Listing) (area : Held) (places : List (Option Record)) (u : List ℕ) (place : ℕ) → IsOrderly s t → IsAtRest s t area places → rows t (Raw u) ≡ None
+free_place : (s : Site) (t : VolumeTable) (area : Held) (places : List (Option Record)) (u : List ℕ) (place : ℕ) → IsOrderly s t → IsAtRest s t area places → rows t (Raw u) ≡ None
     → place_for places u ≡ Some place → IsFreeFor (content_now s t area) u place
 unfolding place_for
 free_place s t area places u place orderly rest gone placed = record {
@@ -129,11 +131,11 @@ free_place s t area places u place orderly rest gone placed = record {
 abbrev pub size_for : Site → List ℕ → ℕ
 size_for s extents = length extents * s.geometry.extent
 
-begins_free : (s : Site) (t : Listing) (area : Held) (places : List (Option Record)) (entry : Record) (extents : List ℕ) (place : ℕ) → Begins s t area places entry extents place
+begins_free : (s : Site) (t : VolumeTable) (area : Held) (places : List (Option Record)) (entry : Record) (extents : List ℕ) (place : ℕ) → Begins s t area places entry extents place
     → IsFreeFor (content_now s t area) entry.uuid place
 begins_free s t area places entry extents place b = free_place s t area places entry.uuid place b.orderly b.rest b.new.gone b.placed
 
-begins_start : (s : Site) (t : Listing) (area : Held) (places : List (Option Record)) (entry : Record) (extents : List ℕ) (place : ℕ) → Begins s t area places entry extents place
+begins_start : (s : Site) (t : VolumeTable) (area : Held) (places : List (Option Record)) (entry : Record) (extents : List ℕ) (place : ℕ) → Begins s t area places entry extents place
     → IsStart s t (table_begun t entry.uuid extents) entry.uuid extents true
 begins_start s t area places entry extents place b = record {
   table = b.orderly.table;
@@ -146,7 +148,7 @@ begins_start s t area places entry extents place b = record {
   mgt_long = mgt_long s b.rest.sound.records_row b.rest.sound.records_extents;
 }
 
-begins_end : (s : Site) (t : Listing) (area : Held) (places : List (Option Record)) (entry : Record) (extents : List ℕ) (place : ℕ) → Begins s t area places entry extents place
+begins_end : (s : Site) (t : VolumeTable) (area : Held) (places : List (Option Record)) (entry : Record) (extents : List ℕ) (place : ℕ) → Begins s t area places entry extents place
     → IsEnd s t (table_begun t entry.uuid extents) (table_made t entry.uuid extents) entry.uuid extents
 begins_end s t area places entry extents place b = record {
   start = begins_start s t area places entry extents place b;
@@ -163,7 +165,7 @@ begins_end s t area places entry extents place b = record {
 }
 
 -- where nothing is pending a stop leaves what reads give
-pub rest_left : (s : Site) (t : Listing) (area : Held) (places : List (Option Record)) (left : Listing) (image : ℕ → List ℕ) → IsOrderly s t → IsAtRest s t area places
+pub rest_left : (s : Site) (t : VolumeTable) (area : Held) (places : List (Option Record)) (left : VolumeTable) (image : ℕ → List ℕ) → IsOrderly s t → IsAtRest s t area places
     → IsBefore (area_size s) t area left image → PlainSound (content_in s left image) × (disks (content_in s left image) ≡ disks (content_now s t area))
 rest_left s t area places left image orderly rest before =
     subst (λ l. PlainSound (content_in s l image) × (disks (content_in s l image) ≡ disks (content_now s t area))) (sym before.table_is)
@@ -185,13 +187,13 @@ rest_left s t area places left image orderly rest before =
         )
 
 -- before anything was written
-pub still_left : (s : Site) (t : Listing) (area : Held) (places : List (Option Record)) (u label : List ℕ) (size : ℕ) (left : Listing) (image : ℕ → List ℕ) → IsOrderly s t → IsAtRest s t area places
+pub still_left : (s : Site) (t : VolumeTable) (area : Held) (places : List (Option Record)) (u label : List ℕ) (size : ℕ) (left : VolumeTable) (image : ℕ → List ℕ) → IsOrderly s t → IsAtRest s t area places
     → IsBefore (area_size s) t area left image → IsSoundWith s t area u label size left image
 still_left s t area places u label size left image orderly rest before =
     let m = rest_left s t area places left image orderly rest before in (m.0, inl m.1)
 
 -- while the volume is new
-pub fresh_left : (s : Site) (t : Listing) (area : Held) (places : List (Option Record)) (entry : Record) (extents : List ℕ) (place : ℕ) (settled now : Held) (left : Listing) (image : ℕ → List ℕ)
+pub fresh_left : (s : Site) (t : VolumeTable) (area : Held) (places : List (Option Record)) (entry : Record) (extents : List ℕ) (place : ℕ) (settled now : Held) (left : VolumeTable) (image : ℕ → List ℕ)
     → Begins s t area places entry extents place → ((p : ℕ) → reads settled p ≡ reads area p) → IsSettled settled
     → IsFilling s (table_begun t entry.uuid extents) entry.uuid place entry settled now → IsBefore (area_size s) (table_begun t entry.uuid extents) now left image
     → IsSoundWith s t area entry.uuid entry.label (size_for s extents) left image
@@ -204,9 +206,9 @@ fresh_left s t area places entry extents place settled now left image b same non
     subst (λ l. IsSoundWith s t area entry.uuid entry.label (size_for s extents) l image) (sym before.table_is) (m.0, inl m.1)
 
 -- the image that the last commit leaves
-pub filled_left : (s : Site) (t : Listing) (area : Held) (places : List (Option Record)) (entry : Record) (extents : List ℕ) (place : ℕ) (settled now : Held) (left : Listing) (image : ℕ → List ℕ)
+pub filled_left : (s : Site) (t : VolumeTable) (area : Held) (places : List (Option Record)) (entry : Record) (extents : List ℕ) (place : ℕ) (settled now : Held) (left : VolumeTable) (image : ℕ → List ℕ)
     → Begins s t area places entry extents place → ((p : ℕ) → reads settled p ≡ reads area p)
-    → IsFilled s (table_begun t entry.uuid extents) entry.uuid place entry settled now → IsAfter (area_size s) (table_made t entry.uuid extents) now left image
+    → IsDiskFilled s (table_begun t entry.uuid extents) entry.uuid place entry settled now → IsAfter (area_size s) (table_made t entry.uuid extents) now left image
     → PlainSound (content_in s (table_made t entry.uuid extents) image)
     × (disks (content_in s (table_made t entry.uuid extents) image) ≡ with_disk (new_disk entry.uuid entry.label (size_for s extents)) (disks (content_now s t area)))
     × IsBeside s t (table_made t entry.uuid extents) (reads area) image place (entry_of entry.uuid entry.label)
@@ -224,7 +226,7 @@ filled_left s t area places entry extents place settled now left image b same fi
 
 -- ---- what a stop leaves after each call
 
-pub begun_left : (s : Site) (t : Listing) (area : Held) (places : List (Option Record)) (entry : Record) (extents : List ℕ) (place : ℕ) (left : Listing) (image : ℕ → List ℕ)
+pub begun_left : (s : Site) (t : VolumeTable) (area : Held) (places : List (Option Record)) (entry : Record) (extents : List ℕ) (place : ℕ) (left : VolumeTable) (image : ℕ → List ℕ)
     → Begins s t area places entry extents place → IsEither (area_size s) t (table_begun t entry.uuid extents) area left image
     → IsSoundWith s t area entry.uuid entry.label (size_for s extents) left image
 begun_left s t area places entry extents place left image b (inl before) =
@@ -234,9 +236,9 @@ begun_left s t area places entry extents place left image b (inr after) =
     (record { others = λ n p v other_raw other_mgt m. m; records = λ p v m. inl m })
     (record { table_is = after.table_is; sectors = Allows-from_reads (area_size s) area image after.sectors })
 
-pub ended_left : (s : Site) (t : Listing) (area : Held) (places : List (Option Record)) (entry : Record) (extents : List ℕ) (place : ℕ) (settled now : Held) (left : Listing) (image : ℕ → List ℕ)
+pub ended_left : (s : Site) (t : VolumeTable) (area : Held) (places : List (Option Record)) (entry : Record) (extents : List ℕ) (place : ℕ) (settled now : Held) (left : VolumeTable) (image : ℕ → List ℕ)
     → Begins s t area places entry extents place → ((p : ℕ) → reads settled p ≡ reads area p) → IsSettled settled
-    → IsFilling s (table_begun t entry.uuid extents) entry.uuid place entry settled now → IsFilled s (table_begun t entry.uuid extents) entry.uuid place entry settled now
+    → IsFilling s (table_begun t entry.uuid extents) entry.uuid place entry settled now → IsDiskFilled s (table_begun t entry.uuid extents) entry.uuid place entry settled now
     → IsEither (area_size s) (table_begun t entry.uuid extents) (table_made t entry.uuid extents) now left image
     → IsSoundWith s t area entry.uuid entry.label (size_for s extents) left image
 ended_left s t area places entry extents place settled now left image b same none filling filled (inl before) =
@@ -250,7 +252,7 @@ ended_left s t area places entry extents place settled now left image b same non
 agrees_same : (old new : Held) (places : List (Option Record)) → ((k : ℕ) → reads new k ≡ reads old k) → Agrees old places → Agrees new places
 agrees_same old new places same a = record { long = a.long; each = λ k o at. ap reading (same k) ∙ a.each k o at }
 
-records_alike : (s : Site) (t next : Listing) (old new : Held) → rows next Mgt ≡ rows t Mgt → ((p : ℕ) → reads new p ≡ reads old p) → (k : ℕ) → reads (records_held s next new) k ≡ reads (records_held s t old) k
+records_alike : (s : Site) (t next : VolumeTable) (old new : Held) → rows next Mgt ≡ rows t Mgt → ((p : ℕ) → reads new p ≡ reads old p) → (k : ℕ) → reads (records_held s next new) k ≡ reads (records_held s t old) k
 records_alike s t next old new there same k =
     ap (λ o. reads (volume s.geometry.extent (extents_of o) new) k) there ∙ volume_keeps s.geometry.extent (extents_of (rows t Mgt)) old new same k
 
@@ -263,9 +265,9 @@ not_raw u e = (let x = e in cc)
 raw_other : (u v : List ℕ) → v ≢ u → Raw v ≢ Raw u
 raw_other u v other e = other (let x = e in cc)
 
-pub made_last : (s : Site) (t : Listing) (area : Held) (places now_places : List (Option Record)) (entry : Record) (extents : List ℕ) (place : ℕ) (settled now last : Held)
+pub made_last : (s : Site) (t : VolumeTable) (area : Held) (places now_places : List (Option Record)) (entry : Record) (extents : List ℕ) (place : ℕ) (settled now last : Held)
     → Begins s t area places entry extents place → ((p : ℕ) → reads settled p ≡ reads area p)
-    → IsFilled s (table_begun t entry.uuid extents) entry.uuid place entry settled now → Keeps now last → IsSettled last → now_places ≡ set places place (Some entry)
+    → IsDiskFilled s (table_begun t entry.uuid extents) entry.uuid place entry settled now → Keeps now last → IsSettled last → now_places ≡ set places place (Some entry)
     → IsMade s t area entry extents last now_places
 made_last s t area places now_places entry extents place settled now last b same filled keeps none memory = record {
   rest = record {
@@ -280,10 +282,10 @@ made_last s t area places now_places entry extents place settled now last b same
   shown = m.1;
 }
   where
-    begun : Listing
+    begun : VolumeTable
     begun = table_begun t entry.uuid extents
 
-    made_table_of : Listing
+    made_table_of : VolumeTable
     made_table_of = table_made t entry.uuid extents
 
     begun_is_with : IsWith t entry.uuid true extents (table_begun t entry.uuid extents)
@@ -300,10 +302,10 @@ made_last s t area places now_places entry extents place settled now last b same
     plain : IsPlain (table_made t entry.uuid extents)
     plain = (orderly_made s t entry.uuid extents b.proper.uuid.uuid b.orderly b.new b.for).plain
 
-    stands_new : is_some (stands (table_made t entry.uuid extents) entry.uuid) ≡ true
+    stands_new : is_some (standing_volume (table_made t entry.uuid extents) entry.uuid) ≡ true
     stands_new = ap is_some (plain_stands (table_made t entry.uuid extents) entry.uuid plain ∙ ap (raw_stands entry.uuid) (with_here b.new.gone made_is_with))
 
-    stands_old : (v : List ℕ) → v ≢ entry.uuid → stands (table_made t entry.uuid extents) v ≡ stands t v
+    stands_old : (v : List ℕ) → v ≢ entry.uuid → standing_volume (table_made t entry.uuid extents) v ≡ standing_volume t v
     stands_old v other =
         plain_stands (table_made t entry.uuid extents) v plain ∙ ap (raw_stands v) (with_other made_is_with (Raw v) (raw_other entry.uuid v other)) ∙ sym (plain_stands t v b.orderly.plain)
 
@@ -311,8 +313,8 @@ made_last s t area places now_places entry extents place settled now last b same
     stray k r below is =
         ⊎_elim
         (λ was. ⊎_elim
-        (λ e. ap (λ v. is_some (stands (table_made t entry.uuid extents) v)) e ∙ stands_new)
+        (λ e. ap (λ v. is_some (standing_volume (table_made t entry.uuid extents) v)) e ∙ stands_new)
         (λ other. ap is_some (stands_old r.uuid other) ∙ b.rest.no_stray k r below (sym was ∙ is))
         (same_or_not r.uuid entry.uuid))
-        (λ w. ap (λ v. is_some (stands (table_made t entry.uuid extents) v)) (ap (λ q. q.uuid) (taken_one r (entry_of entry.uuid entry.label) (sym is ∙ w.1))) ∙ stands_new)
+        (λ w. ap (λ v. is_some (standing_volume (table_made t entry.uuid extents) v)) (ap (λ q. q.uuid) (taken_one r (entry_of entry.uuid entry.label) (sym is ∙ w.1))) ∙ stands_new)
         (m.2.records k below)

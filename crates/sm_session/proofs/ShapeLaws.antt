@@ -13,7 +13,7 @@ use Rattle.sm_base.specs.declared.refusals.Refusal.{Refusal}
 use Rattle.sm_base.specs.declared.refusals.Refusal.TheVariants.{NoSpace}
 use Rattle.std.proofs.lemmas.Bool.{le-ltb}
 use Rattle.sm_disk.specs.Held.{Held, reads}
-use Rattle.vg_meta.specs.Tables.{Listing, Row, row_of, rows, IsTable}
+use Rattle.vg_meta.specs.Tables.{VolumeTable, Row, row_of, rows, IsTable}
 use Rattle.vg_meta.specs.Changes.{made, put, raised}
 use Rattle.vg_meta.proofs.RowLaws.{row_of-put_same, row_of-put_other}
 use Rattle.vg_volumes.specs.Sites.{Site}
@@ -21,7 +21,7 @@ use Rattle.vg_volumes.specs.Volumes.{span}
 use Rattle.sm_machine.specs.declared.commands.Command.{Command}
 use Rattle.sm_machine.specs.declared.commands.Command.TheVariants.{Create, List as ListDisks}
 use Rattle.sm_machine.specs.declared.replies.Reply.TheVariants as reply
-use Rattle.sm_machine.specs.Lists.{In, first_some, given}
+use Rattle.common_laws.specs.Lists.{In, first_some, given}
 use Rattle.sm_machine.specs.Disks.{Disk, with_disk, uuid_before}
 use Rattle.sm_machine.specs.Shapes.{Shape, ImageRow, DiskRecord, with_image, free}
 use Rattle.sm_machine.specs.Refusals.{refusal, rounded, is_reserved, is_unknown, is_taken, is_in_use, is_not_attached, is_read_only, is_raw_disk, is_out_of_range, is_bad_size, is_shrink, is_deep, is_too_many, is_spent, lacks_space, need, named, new_uuid, forked}
@@ -41,23 +41,23 @@ use Rattle.sm_standing.proofs.PlainDisks.{all-In}
 -- ---- the table with a disk more
 
 -- the volumes with the new one, not new
-abbrev pub with_made : Listing → List ℕ → List ℕ → List Row
+abbrev pub with_made : VolumeTable → List ℕ → List ℕ → List Row
 with_made t u es = put (made (Raw u) false es) t.volumes
 
-pub made_is : (t : Listing) (u es : List ℕ) → rows t (Raw u) ≡ None → (table_made t u es).volumes ≡ with_made t u es
+pub made_is : (t : VolumeTable) (u es : List ℕ) → rows t (Raw u) ≡ None → (table_made t u es).volumes ≡ with_made t u es
 made_is t u es gone = marked u es t.volumes gone
 
-abbrev listed_as : ℕ → List Row → Listing
+abbrev listed_as : ℕ → List Row → VolumeTable
 listed_as n rs = record { sequence = n; volumes = rs }
 
-table_is : (t : Listing) (u es : List ℕ) → rows t (Raw u) ≡ None → table_made t u es ≡ listed_as (raised (raised t.sequence)) (with_made t u es)
+table_is : (t : VolumeTable) (u es : List ℕ) → rows t (Raw u) ≡ None → table_made t u es ≡ listed_as (raised (raised t.sequence)) (with_made t u es)
 table_is t u es gone = ap (listed_as (raised (raised t.sequence))) (made_is t u es gone)
 
-plain_with : (t : Listing) (u es : List ℕ) → IsPlain t → (r : Row) → In r (with_made t u es) → is_plain r ≡ true
+plain_with : (t : VolumeTable) (u es : List ℕ) → IsPlain t → (r : Row) → In r (with_made t u es) → is_plain r ≡ true
 plain_with t u es plain r h =
     ⊎_elim (λ is. ap (λ (q : Row). is_plain q) is) (λ k. all-In (λ (q : Row). is_plain q ≡ true) t.volumes r plain k) (In-put r (made (Raw u) false es) t.volumes h)
 
-found_with : (t : Listing) (u es : List ℕ) → rows t (Raw u) ≡ None → IsFound t → (r : Row) → In r (with_made t u es) → row_of (with_made t u es) r.name ≡ Some r
+found_with : (t : VolumeTable) (u es : List ℕ) → rows t (Raw u) ≡ None → IsFound t → (r : Row) → In r (with_made t u es) → row_of (with_made t u es) r.name ≡ Some r
 found_with t u es gone found r h = of_row (In-put r (made (Raw u) false es) t.volumes h)
   where
     of_row : (r ≡ made (Raw u) false es) ⊎ In r t.volumes → row_of (with_made t u es) r.name ≡ Some r
@@ -67,10 +67,10 @@ found_with t u es gone found r h = of_row (In-put r (made (Raw u) false es) t.vo
         ∙ found r k
 
 -- it is still one of raw disks alone, and each row is the one of its name
-pub plain_made : (t : Listing) (u es : List ℕ) → rows t (Raw u) ≡ None → IsPlain t → IsPlain (table_made t u es)
+pub plain_made : (t : VolumeTable) (u es : List ℕ) → rows t (Raw u) ≡ None → IsPlain t → IsPlain (table_made t u es)
 plain_made t u es gone plain = subst IsPlain (sym (table_is t u es gone)) (all-each (λ (q : Row). is_plain q ≡ true) (with_made t u es) (plain_with t u es plain))
 
-pub found_made : (t : Listing) (u es : List ℕ) → rows t (Raw u) ≡ None → IsFound t → IsFound (table_made t u es)
+pub found_made : (t : VolumeTable) (u es : List ℕ) → rows t (Raw u) ≡ None → IsFound t → IsFound (table_made t u es)
 found_made t u es gone found = subst IsFound (sym (table_is t u es gone)) (λ r h. found_with t u es gone found r h)
 
 -- ---- its images
@@ -94,13 +94,13 @@ keeps_named extent r i (Leaf l p) h = absurd (let x = h in cc)
 abbrev new_row : ℕ → List ℕ → List ℕ → ImageRow
 new_row extent u es = record { name = Raw u; hidden = false; parent = None; size = span extent es; slots = []; extents = length es }
 
-images_with : (extent : ℕ) (t : Listing) (u es : List ℕ) (count : ℕ) → IsTable count t
+images_with : (extent : ℕ) (t : VolumeTable) (u es : List ℕ) (count : ℕ) → IsTable count t
     → filter_map (plain_row extent) (with_made t u es) ≡ with_image (new_row extent u es) (filter_map (plain_row extent) t.volumes)
 unfolding with_image
 images_with extent t u es count is =
     put_images (plain_row extent) (λ r i h. keeps_named extent r i r.name h) (made (Raw u) false es) (new_row extent u es) t.volumes refl is.volumes.rising
 
-images_made : (s : Site) (t : Listing) (image next : ℕ → List ℕ) (u es : List ℕ) → IsOrderly s t → rows t (Raw u) ≡ None
+images_made : (s : Site) (t : VolumeTable) (image next : ℕ → List ℕ) (u es : List ℕ) → IsOrderly s t → rows t (Raw u) ≡ None
     → image_rows (content_in s (table_made t u es) next) ≡ with_image (new_row s.geometry.extent u es) (image_rows (content_in s t image))
 images_made s t image next u es o gone =
     image_rows_are (content_in s (table_made t u es) next) (plain_made t u es gone o.plain) (found_made t u es gone (found_table s.count t o.table))
@@ -135,7 +135,7 @@ others_are c plain found =
 none_more : (n : ℕ) → 0 + n ≡ n
 none_more n = omega arith
 
-others_made : (s : Site) (t : Listing) (image next : ℕ → List ℕ) (u es : List ℕ) → IsOrderly s t → rows t (Raw u) ≡ None
+others_made : (s : Site) (t : VolumeTable) (image next : ℕ → List ℕ) (u es : List ℕ) → IsOrderly s t → rows t (Raw u) ≡ None
     → sum (map (other_extents (content_in s (table_made t u es) next)) (table_made t u es).volumes) ≡ sum (map (other_extents (content_in s t image)) t.volumes)
 others_made s t image next u es o gone =
     others_are (content_in s (table_made t u es) next) (plain_made t u es gone o.plain) (found_made t u es gone (found_table s.count t o.table))
@@ -180,7 +180,7 @@ image_sizes s u es size long =
     ap (λ n. let i : ImageRow = record { name = Raw u; hidden = false; parent = None; size = n * s.geometry.extent; slots = []; extents = n } in i) long
 
 -- the shape after a raw disk is created is that of the machine
-pub shape_made : (s : Site) (t : Listing) (area next : Held) (u label es : List ℕ) (size : ℕ) → IsOrderly s t → IsNewDisk t u
+pub shape_made : (s : Site) (t : VolumeTable) (area next : Held) (u label es : List ℕ) (size : ℕ) → IsOrderly s t → IsNewDisk t u
     → length es ≡ div_up size (512 * s.geometry.extent)
     → disks (content_now s (table_made t u es) next) ≡ with_disk (new_disk u label (length es * s.geometry.extent)) (disks (content_now s t area))
     → shape (content_now s (table_made t u es) next) ≡ shape_next (shape (content_now s t area)) (Create u size true label)
@@ -217,7 +217,7 @@ abbrev outcome : ℕ → List Disk → Shape → Outcome
 outcome bytes ds sh = record { reply = reply.Size bytes; after = record { disks = ds; shape = sh } }
 
 -- a raw disk is created: the reply is its size in bytes, and the state is that of the new table
-pub create_accepted : (s : Site) (t : Listing) (area next : Held) (u label es : List ℕ) (size : ℕ) → IsOrderly s t → IsNewDisk t u
+pub create_accepted : (s : Site) (t : VolumeTable) (area next : Held) (u label es : List ℕ) (size : ℕ) → IsOrderly s t → IsNewDisk t u
     → length es ≡ div_up size (512 * s.geometry.extent)
     → disks (content_now s (table_made t u es) next) ≡ with_disk (new_disk u label (length es * s.geometry.extent)) (disks (content_now s t area))
     → refusal (shape (content_now s t area)) (Create u size true label) ≡ None
@@ -231,16 +231,16 @@ create_accepted s t area next u label es size o new long ds none =
     ∙ ap₂ (outcome (length es * s.geometry.extent * 512)) (sym ds) (sym (shape_made s t area next u label es size o new long ds))
 
 -- the same where the site and the table afterwards are told by equations
-pub create_done : (s after : Site) (t made : Listing) (area next : Held) (u label es : List ℕ) (size : ℕ) → IsOrderly s t → IsNewDisk t u
+pub create_done : (s after : Site) (t made : VolumeTable) (area next : Held) (u label es : List ℕ) (size : ℕ) → IsOrderly s t → IsNewDisk t u
     → length es ≡ div_up size (512 * s.geometry.extent) → after ≡ s → made ≡ table_made t u es
     → disks (content_now after made next) ≡ with_disk (new_disk u label (length es * s.geometry.extent)) (disks (content_now s t area))
     → refusal (shape (content_now s t area)) (Create u size true label) ≡ None
     → step (state_now s t area) (Create u size true label) ≡ record { reply = reply.Size (length es * s.geometry.extent * 512); after = state_now after made next }
 create_done s after t made area next u label es size o new long same_site same_table ds none =
     let here : disks (content_now s (table_made t u es) next) ≡ with_disk (new_disk u label (length es * s.geometry.extent)) (disks (content_now s t area)) =
-    ap₂ (λ (x : Site) (y : Listing). disks (content_now x y next)) (sym same_site) (sym same_table) ∙ ds in
+    ap₂ (λ (x : Site) (y : VolumeTable). disks (content_now x y next)) (sym same_site) (sym same_table) ∙ ds in
     create_accepted s t area next u label es size o new long here none
-    ∙ ap₂ (λ (x : Site) (y : Listing). let w : Outcome = record { reply = reply.Size (length es * s.geometry.extent * 512); after = state_now x y next } in w)
+    ∙ ap₂ (λ (x : Site) (y : VolumeTable). let w : Outcome = record { reply = reply.Size (length es * s.geometry.extent * 512); after = state_now x y next } in w)
     (sym same_site) (sym same_table)
 
 never : (s : Shape) → refusal s ListDisks ≡ None
@@ -251,7 +251,7 @@ same_number : (n : ℕ) → n < 2 ^ 48 → min (n + 0) (2 ^ 48 - 1) ≡ n
 same_number n h = omega arith
 
 -- a listing is answered with the row of each disk, and changes nothing
-pub list_step : (s : Site) (t : Listing) (area : Held) → IsTable s.count t
+pub list_step : (s : Site) (t : VolumeTable) (area : Held) → IsTable s.count t
     → step (state_now s t area) ListDisks ≡ record { reply = reply.List (map disk_row (disks (content_now s t area))); after = state_now s t area }
 unfolding is_built accepted reply_to disks_next shape_next shape_after commits own_commits is_given_up gives_up shape
 list_step s t area is =

@@ -6,8 +6,9 @@ use Rattle.std.proofs.lemmas.Bool.{cond_both, lt-ltb}
 use Rattle.sm_base.specs.declared.names.Name.{Name}
 use Rattle.sm_base.specs.declared.names.Name.TheVariants.{Mgt, Raw}
 use Rattle.sm_base.specs.Names.{IsName, IsUuid, name_cmp}
-use Rattle.vg_meta.specs.Tables.{Listing, Row, IsTable, rows, row_of, name_eq, extents_of, is_image}
-use Rattle.vg_meta.specs.Changes.{Allows, put, with_row, made, tagged}
+use Rattle.vg_meta.specs.Tables.{VolumeTable, Row, IsTable, rows, row_of, name_eq, extents_of}
+use Rattle.sm_base.specs.Kinds.{is_image}
+use Rattle.vg_meta.specs.Changes.{Permits, put, with_row, made, tagged}
 use Rattle.vg_meta.specs.declared.changes.Change.TheVariants.{Create, Mark}
 use Rattle.vg_meta.specs.declared.changes.Tag.TheVariants.{Fresh}
 use Rattle.vg_meta.proofs.NameLaws.{name_eq-same}
@@ -15,11 +16,11 @@ use Rattle.vg_meta.proofs.RowLaws.{row_of-put_same, row_of-put_other, All-put}
 use Rattle.vg_meta.proofs.ChangeLaws.{IsTable-applied}
 use Rattle.vg_extents.specs.Fits.{AreLeastFree}
 use Rattle.vg_volumes.specs.Sites.{Site}
-use Rattle.sm_machine.specs.Lists.{In}
+use Rattle.common_laws.specs.Lists.{In}
 use Rattle.sm_standing.specs.Checks.{images}
 use Rattle.sm_standing.specs.Plain.{IsPlain, is_plain}
 use Rattle.sm_recover.specs.Stores.{IsOrderly}
-use Rattle.sm_session.specs.Making.{IsNewDisk, AreForDisk, table_begun, table_made}
+use Rattle.sm_session.specs.Making.{IsNewDisk, AreForDisk, HasFewCommits, table_begun, table_made}
 
 -- ---- a row more
 
@@ -75,10 +76,10 @@ with_row-put n f r (s ∷ rs) named keeps none =
 
 -- ---- the tables of a new raw disk
 
-pub made_is : (t : Listing) (u extents : List ℕ) → rows t (Raw u) ≡ None → (table_made t u extents).volumes ≡ put (made (Raw u) false extents) t.volumes
+pub made_is : (t : VolumeTable) (u extents : List ℕ) → rows t (Raw u) ≡ None → (table_made t u extents).volumes ≡ put (made (Raw u) false extents) t.volumes
 made_is t u extents gone = with_row-put (Raw u) (tagged Fresh false) (made (Raw u) true extents) t.volumes refl refl gone
 
-pub allowed_begun : (s : Site) (t : Listing) (u extents : List ℕ) → IsUuid u → IsNewDisk t u → AreForDisk s t extents → Allows s.count t (Create (Raw u) true extents)
+pub allowed_begun : (s : Site) (t : VolumeTable) (u extents : List ℕ) → IsUuid u → IsNewDisk t u → AreForDisk s t extents → Permits s.count t (Create (Raw u) true extents)
 unfolding IsName
 allowed_begun s t u extents is new for = record {
   name_proper = is;
@@ -88,7 +89,7 @@ allowed_begun s t u extents is new for = record {
   extents_free = for.extents_free;
 }
 
-pub allowed_made : (s : Site) (t : Listing) (u extents : List ℕ) → IsNewDisk t u → Allows s.count (table_begun t u extents) (Mark (Raw u) Fresh false)
+pub allowed_made : (s : Site) (t : VolumeTable) (u extents : List ℕ) → IsNewDisk t u → Permits s.count (table_begun t u extents) (Mark (Raw u) Fresh false)
 allowed_made s t u extents new = record {
   row = made (Raw u) true extents;
   there = row_of-put_same t.volumes (made (Raw u) true extents) new.gone;
@@ -96,45 +97,45 @@ allowed_made s t u extents new = record {
   otherwise = refl;
 }
 
-pub begun_table : (s : Site) (t : Listing) (u extents : List ℕ) → IsUuid u → IsTable s.count t → IsNewDisk t u → AreForDisk s t extents → IsTable s.count (table_begun t u extents)
+pub begun_table : (s : Site) (t : VolumeTable) (u extents : List ℕ) → IsUuid u → IsTable s.count t → IsNewDisk t u → AreForDisk s t extents → IsTable s.count (table_begun t u extents)
 begun_table s t u extents is table new for = IsTable-applied s.count t (Create (Raw u) true extents) table (allowed_begun s t u extents is new for)
 
-pub made_table : (s : Site) (t : Listing) (u extents : List ℕ) → IsUuid u → IsTable s.count t → IsNewDisk t u → AreForDisk s t extents → IsTable s.count (table_made t u extents)
+pub made_table : (s : Site) (t : VolumeTable) (u extents : List ℕ) → IsUuid u → IsTable s.count t → IsNewDisk t u → AreForDisk s t extents → IsTable s.count (table_made t u extents)
 made_table s t u extents is table new for =
     IsTable-applied s.count (table_begun t u extents) (Mark (Raw u) Fresh false) (begun_table s t u extents is table new for) (allowed_made s t u extents new)
 
 -- a table of which these are the volumes: t with the raw image more
-pub record IsWith (t : Listing) (u : List ℕ) (fresh : Bool) (extents : List ℕ) (next : Listing) : Type 0 where
+pub record IsWith (t : VolumeTable) (u : List ℕ) (fresh : Bool) (extents : List ℕ) (next : VolumeTable) : Type 0 where
   pub volumes : next.volumes ≡ put (made (Raw u) fresh extents) t.volumes
   pub later : t.sequence ≤ next.sequence
 
-pub begun_with : (count : ℕ) (t : Listing) (u extents : List ℕ) → IsTable count t → IsWith t u true extents (table_begun t u extents)
+pub begun_with : (count : ℕ) (t : VolumeTable) (u extents : List ℕ) → IsTable count t → IsWith t u true extents (table_begun t u extents)
 begun_with count t u extents table = record { volumes = refl; later = omega (arith, table.sequence) }
 
-pub made_with : (count : ℕ) (t : Listing) (u extents : List ℕ) → IsTable count t → rows t (Raw u) ≡ None → IsWith t u false extents (table_made t u extents)
+pub made_with : (count : ℕ) (t : VolumeTable) (u extents : List ℕ) → IsTable count t → rows t (Raw u) ≡ None → IsWith t u false extents (table_made t u extents)
 made_with count t u extents table gone = record { volumes = made_is t u extents gone; later = omega (arith, table.sequence) }
 
-pub with_here : {t next : Listing} {u extents : List ℕ} {fresh : Bool} → rows t (Raw u) ≡ None → IsWith t u fresh extents next → rows next (Raw u) ≡ Some (made (Raw u) fresh extents)
+pub with_here : {t next : VolumeTable} {u extents : List ℕ} {fresh : Bool} → rows t (Raw u) ≡ None → IsWith t u fresh extents next → rows next (Raw u) ≡ Some (made (Raw u) fresh extents)
 with_here {t} {next} {u} {extents} {fresh} gone w =
     ap (λ rs. row_of rs (Raw u)) w.volumes ∙ row_of-put_same t.volumes (made (Raw u) fresh extents) gone
 
-pub with_other : {t next : Listing} {u extents : List ℕ} {fresh : Bool} → IsWith t u fresh extents next → (n : Name) → n ≢ Raw u → rows next n ≡ rows t n
+pub with_other : {t next : VolumeTable} {u extents : List ℕ} {fresh : Bool} → IsWith t u fresh extents next → (n : Name) → n ≢ Raw u → rows next n ≡ rows t n
 with_other {t} {next} {u} {extents} {fresh} w n other =
     ap (λ rs. row_of rs n) w.volumes ∙ row_of-put_other t.volumes (made (Raw u) fresh extents) n (λ e. other (sym e))
 
-pub with_in : {t next : Listing} {u extents : List ℕ} {fresh : Bool} → IsWith t u fresh extents next → (r : Row) → In r next.volumes → (r ≡ made (Raw u) fresh extents) ⊎ In r t.volumes
+pub with_in : {t next : VolumeTable} {u extents : List ℕ} {fresh : Bool} → IsWith t u fresh extents next → (r : Row) → In r next.volumes → (r ≡ made (Raw u) fresh extents) ⊎ In r t.volumes
 with_in {t} {next} {u} {extents} {fresh} w r h = In-put r (made (Raw u) fresh extents) t.volumes (subst (In r) w.volumes h)
 
-pub with_few : {t next : Listing} {u extents : List ℕ} {fresh : Bool} → IsWith t u fresh extents next → length (images next) ≡ length (images t) + 1
+pub with_few : {t next : VolumeTable} {u extents : List ℕ} {fresh : Bool} → IsWith t u fresh extents next → length (images next) ≡ length (images t) + 1
 with_few {t} {next} {u} {extents} {fresh} w =
     ap (λ rs. length (filter (λ r. is_image r.name) rs)) w.volumes ∙ filter-put (λ r. is_image r.name) (made (Raw u) fresh extents) t.volumes refl
 
-pub with_plain : {t next : Listing} {u extents : List ℕ} {fresh : Bool} → IsWith t u fresh extents next → IsPlain t → IsPlain next
+pub with_plain : {t next : VolumeTable} {u extents : List ℕ} {fresh : Bool} → IsWith t u fresh extents next → IsPlain t → IsPlain next
 with_plain {t} {next} {u} {extents} {fresh} w plain =
     subst (λ rs. AllByRecursion (λ r. is_plain r ≡ true) rs) (sym w.volumes) (All-put (λ r. is_plain r ≡ true) t.volumes (made (Raw u) fresh extents) refl plain)
 
 -- the table with the disk is in order
-pub orderly_made : (s : Site) (t : Listing) (u extents : List ℕ) → IsUuid u → IsOrderly s t → IsNewDisk t u → AreForDisk s t extents → IsOrderly s (table_made t u extents)
+pub orderly_made : (s : Site) (t : VolumeTable) (u extents : List ℕ) → IsUuid u → IsOrderly s t → IsNewDisk t u → AreForDisk s t extents → IsOrderly s (table_made t u extents)
 orderly_made s t u extents is orderly new for =
     let w = made_with s.count t u extents orderly.table new.gone in
     record {
@@ -147,6 +148,17 @@ orderly_made s t u extents is orderly new for =
     }
 
 -- the least free extents, told in another spelling of the number, the count and the table
-pub least_as : {need many count all : ℕ} {t u : Listing} {es : List ℕ} → need ≡ many → count ≡ all → t ≡ u → AreLeastFree count need t es → AreLeastFree all many u es
+pub least_as : {need many count all : ℕ} {t u : VolumeTable} {es : List ℕ} → need ≡ many → count ≡ all → t ≡ u → AreLeastFree count need t es → AreLeastFree all many u es
 least_as {need} {many} {count} {all} {t} {u} {es} number extents table least =
     subst (λ x. AreLeastFree all many x es) table (subst₂ (λ n m. AreLeastFree n m t es) extents number least)
+
+-- ---- how many commits that is
+
+pub few_same : (t next : VolumeTable) → next ≡ t → HasFewCommits t next
+few_same t next is = let e = ap (λ (x : VolumeTable). x.sequence) is in omega (arith, e)
+
+pub few_begun : (t next : VolumeTable) (u extents : List ℕ) → next ≡ table_begun t u extents → HasFewCommits t next
+few_begun t next u extents is = let e = ap (λ (x : VolumeTable). x.sequence) is in omega (arith, e)
+
+pub few_made : (t next : VolumeTable) (u extents : List ℕ) → next ≡ table_made t u extents → HasFewCommits t next
+few_made t next u extents is = let e = ap (λ (x : VolumeTable). x.sequence) is in omega (arith, e)

@@ -1,28 +1,25 @@
 -- What a volume holds, read off the area, and what two writes leave of the volumes.
-use Rattle.std.proofs.Common.{◌≡◌, ◌≢◌, ℕ, ◌-◌, ◌<◌, ◌⊎◌, inl, inr, Bool, true, false, cond, List, [], ◌∷◌, ◌++◌, length, refl, ap, ◌∙◌, subst₂, arith, nat_lt}
-use Rattle.std.proofs.lemmas.Bool.{lt-ltb}
+use Rattle.std.proofs.Common.{◌≡◌, ◌≢◌, ℕ, ◌-◌, ◌<◌, ◌⊎◌, inl, inr, Bool, true, false, cond, List, [], ◌∷◌, ◌++◌, length, refl, ap, ◌∙◌, arith, nat_lt}
 use Rattle.sm_base.specs.declared.names.Name.{Name}
 use Rattle.sm_base.specs.declared.names.Name.TheVariants.{Mgt, Raw}
 use Rattle.sm_disk.specs.Held.{Held, newest, reads, May, IsIn, Torn, Wrote, IsSettled, SameHeld}
 use Rattle.sm_disk.specs.Sectors.{sector, zeros}
 use Rattle.sm_disk.proofs.HeldLaws.{in_one, may_settled, may-torn, reads-same, may-same, torn_from_same, SameHeld-none}
 use Rattle.sm_disk.proofs.SectorLaws.{sector-one}
-use Rattle.vg_meta.specs.Tables.{Listing, IsTable, rows, extents_of}
+use Rattle.vg_meta.specs.Roomy.{table_alone}
+use Rattle.vg_meta.specs.Tables.{VolumeTable, IsTable, rows, extents_of}
 use Rattle.vg_volumes.specs.Sites.{Site, size_of, volume_of}
+use Rattle.vg_volumes.specs.Stored.{stored, sectors_in, Writes}
 use Rattle.vg_volumes.specs.Volumes.{spot, span, volume, piece, SameElsewhere}
+use Rattle.vg_volumes.specs.declared.stores.Store.{Ghosts}
+use Rattle.vg_volumes.proofs.StoredLaws.{stays_none, did_in, beside_in}
+use Rattle.vg_volumes.proofs.VolumeLaws.{volume_reads, IsSettled-volume, SameElsewhere-none}
 use Rattle.sm_record.specs.declared.records.Record.{Record}
 use Rattle.sm_record.specs.Records.{IsRecord, record_sector}
 use Rattle.sm_record.proofs.RoundTrips.{sector_fits}
 use Rattle.sm_mgt.specs.Places.{records_held}
-use Rattle.sm_mgt.proofs.StoreLaws.{SameElsewhere-none}
 use Rattle.sm_standing.proofs.WorldLaws.{other_floor, other_pending}
-use Rattle.sm_session.specs.Stages.{IsFilling, IsFilled}
-
--- a read of a volume is a read of the area
-pub volume_reads : (extent : ℕ) (es : List ℕ) (area : Held) (p : ℕ) → p < span extent es → reads (volume extent es area) p ≡ piece extent es (reads area) p
-unfolding volume piece
-volume_reads extent es area p below =
-    ap (λ b. newest (cond b (area.floor (spot extent es p)) []) (cond b (area.pending (spot extent es p)) [])) (lt-ltb p (span extent es) below)
+use Rattle.sm_session.specs.Stages.{Anything, HasZeros, IsFilling, IsDiskFilled}
 
 -- a read that is as it was
 pub volume_keeps : (extent : ℕ) (es : List ℕ) (a b : Held) → ((p : ℕ) → reads b p ≡ reads a p) → (p : ℕ) → reads (volume extent es b) p ≡ reads (volume extent es a) p
@@ -33,19 +30,11 @@ volume_keeps extent es a b same p = by (nat_lt p (span extent es))
     by true = same (spot extent es p)
     by false = refl
 
--- where nothing is pending, nothing is pending in a volume
-pub volume_settled : (extent : ℕ) (es : List ℕ) (area : Held) → IsSettled area → IsSettled (volume extent es area)
-unfolding volume
-volume_settled extent es area settled p = by (nat_lt p (span extent es))
-  where
-    by : (x : Bool) → cond x (area.pending (spot extent es p)) [] ≡ []
-    by true = settled (spot extent es p)
-    by false = refl
-
--- so what may be left is what a read of the area gives
+-- where nothing is pending, what may be left is what a read of the area gives
 pub settled_may : (extent : ℕ) (es : List ℕ) (area : Held) (p : ℕ) (v : List ℕ) → IsSettled area → p < span extent es → May (volume extent es area) p v → v ≡ piece extent es (reads area) p
+unfolding piece
 settled_may extent es area p v settled below may =
-    may_settled (volume extent es area) p v (volume_settled extent es area settled p) may ∙ volume_reads extent es area p below
+    may_settled (volume extent es area) p v (IsSettled-volume extent es area settled p) may ∙ volume_reads extent es area p below
 
 pub piece_keeps : (extent : ℕ) (es : List ℕ) (a b : Held) → ((p : ℕ) → reads b p ≡ reads a p) → (p : ℕ) → piece extent es (reads b) p ≡ piece extent es (reads a) p
 unfolding piece
@@ -54,7 +43,7 @@ piece_keeps extent es a b same p = same (spot extent es p)
 -- ---- zeros into one volume, and then a record
 
 -- what one volume's writes leave of another
-pub other_volume : (s : Site) (t : Listing) (old new : Held) (n m : Name) → IsTable s.count t → 0 < s.geometry.extent
+pub other_volume : (s : Site) (t : VolumeTable) (old new : Held) (n m : Name) → IsTable s.count t → 0 < s.geometry.extent
     → SameElsewhere s.geometry.extent (extents_of (rows t n)) old new → m ≢ n → SameHeld (volume_of s t old m) (volume_of s t new m)
 other_volume s t old new n m table pos same other = record {
   floor = other_floor s.geometry.extent s.count t old new n m table pos same other;
@@ -69,7 +58,7 @@ record_put place p entry proper here =
     let first : p - place ≡ 0 = omega (arith, at) in
     (at, ap (sector (record_sector entry)) first ∙ sector-one (record_sector entry) long)
 
-pub filling : (s : Site) (t : Listing) (u : List ℕ) (place : ℕ) (entry : Record) (old mid new : Held) → IsTable s.count t → 0 < s.geometry.extent → IsRecord entry
+pub filling : (s : Site) (t : VolumeTable) (u : List ℕ) (place : ℕ) (entry : Record) (old mid new : Held) → IsTable s.count t → 0 < s.geometry.extent → IsRecord entry
     → SameElsewhere s.geometry.extent (extents_of (rows t (Raw u))) old mid
     → SameElsewhere s.geometry.extent (extents_of (rows t Mgt)) mid new
     → Torn place (record_sector entry) (records_held s t mid) (records_held s t new)
@@ -88,12 +77,12 @@ filling s t u place entry old mid new table pos proper first second torn = recor
     by p v (inl was) = inl (may-same mgt_mid p v was)
     by p v (inr (here, is)) = let one = record_put place p entry proper here in inr (one.0, is ∙ one.1)
 
-pub filled_up : (s : Site) (t : Listing) (u : List ℕ) (place : ℕ) (entry : Record) (old mid new : Held) → IsTable s.count t → 0 < s.geometry.extent
+pub filled_up : (s : Site) (t : VolumeTable) (u : List ℕ) (place : ℕ) (entry : Record) (old mid new : Held) → IsTable s.count t → 0 < s.geometry.extent
     → SameElsewhere s.geometry.extent (extents_of (rows t (Raw u))) old mid
     → ((p : ℕ) → p < size_of s t (Raw u) → reads (volume_of s t mid (Raw u)) p ≡ zeros)
     → SameElsewhere s.geometry.extent (extents_of (rows t Mgt)) mid new
     → Wrote place (record_sector entry) (records_held s t mid) (records_held s t new)
-    → IsFilled s t u place entry old new
+    → IsDiskFilled s t u place entry old new
 filled_up s t u place entry old mid new table pos first done second wrote = record {
   others = λ n p not_raw not_mgt.
       reads-same (other_volume s t mid new Mgt n table pos second not_mgt) p ∙ reads-same (other_volume s t old mid (Raw u) n table pos first not_raw) p;
@@ -108,34 +97,27 @@ filled_up s t u place entry old mid new table pos first done second wrote = reco
     mgt_mid : SameHeld (records_held s t old) (records_held s t mid)
     mgt_mid = other_volume s t old mid (Raw u) Mgt table pos first (λ e. (let x = e in cc))
 
--- ---- the same told in the site and the table of the second write
+-- ---- the same of a store
 
 pub extent_some : (s : Site) → 0 < s.geometry.extent
 extent_some s = omega (arith, s.geometry.in_range.extent_least)
 
-pub filling_first : (s : Site) (t : Listing) (u : List ℕ) (place : ℕ) (entry : Record) (old mid : Held) → IsTable s.count t → IsRecord entry
-    → SameElsewhere s.geometry.extent (extents_of (rows t (Raw u))) old mid → IsFilling s t u place entry old mid
-filling_first s t u place entry old mid table proper first =
-    filling s t u place entry old mid mid table (extent_some s) proper first (SameElsewhere-none s.geometry.extent (extents_of (rows t Mgt)) mid)
-    (torn_from_same place (record_sector entry) (SameHeld-none (records_held s t mid)))
+module _ {S : Type 0} {g : Ghosts S} where
+  pub filling_first : {a b : S} (u : List ℕ) (place : ℕ) (entry : Record) → IsTable (g.site a).count (table_alone (g.table a)) → IsRecord entry → Writes g (Raw u) Anything a b → g.told
+      → IsFilling (g.site a) (table_alone (g.table a)) u place entry (g.area a) (g.area b)
+  filling_first {a} {b} u place entry table proper first told =
+      filling (g.site a) (table_alone (g.table a)) u place entry (g.area a) (g.area b) (g.area b) table (extent_some (g.site a)) proper (first.beside told) (SameElsewhere-none _ _ (g.area b))
+      (torn_from_same place (record_sector entry) (SameHeld-none (records_held (g.site a) (table_alone (g.table a)) (g.area b))))
 
-pub filling_then : (s s1 : Site) (t t1 : Listing) (u : List ℕ) (place : ℕ) (entry : Record) (old mid new : Held) → s1 ≡ s → t1 ≡ t → IsTable s.count t → IsRecord entry
-    → SameElsewhere s.geometry.extent (extents_of (rows t (Raw u))) old mid
-    → SameElsewhere s1.geometry.extent (extents_of (rows t1 Mgt)) mid new
-    → Torn place (record_sector entry) (records_held s1 t1 mid) (records_held s1 t1 new)
-    → IsFilling s t u place entry old new
-filling_then s s1 t t1 u place entry old mid new site table_is table proper first second torn =
-    filling s t u place entry old mid new table (extent_some s) proper first
-    (subst₂ (λ x y. SameElsewhere x.geometry.extent (extents_of (rows y Mgt)) mid new) site table_is second)
-    (subst₂ (λ x y. Torn place (record_sector entry) (records_held x y mid) (records_held x y new)) site table_is torn)
+  pub filling_then : {a b d : S} (u : List ℕ) (place : ℕ) (entry : Record) → IsTable (g.site a).count (table_alone (g.table a)) → IsRecord entry → Writes g (Raw u) Anything a b
+      → Writes g Mgt (Torn place (record_sector entry)) b d → g.told → IsFilling (g.site a) (table_alone (g.table a)) u place entry (g.area a) (g.area d)
+  filling_then {a} {b} {d} u place entry table proper first second told =
+      filling (g.site a) (table_alone (g.table a)) u place entry (g.area a) (g.area b) (g.area d) table (extent_some (g.site a)) proper (first.beside told)
+      (beside_in first.stays second told) (did_in first.stays second told)
 
-pub filled_then : (s s1 : Site) (t t1 : Listing) (u : List ℕ) (place : ℕ) (entry : Record) (old mid new : Held) → s1 ≡ s → t1 ≡ t → IsTable s.count t
-    → SameElsewhere s.geometry.extent (extents_of (rows t (Raw u))) old mid
-    → ((p : ℕ) → p < size_of s t (Raw u) → reads (volume_of s t mid (Raw u)) p ≡ zeros)
-    → SameElsewhere s1.geometry.extent (extents_of (rows t1 Mgt)) mid new
-    → Wrote place (record_sector entry) (records_held s1 t1 mid) (records_held s1 t1 new)
-    → IsFilled s t u place entry old new
-filled_then s s1 t t1 u place entry old mid new site table_is table first done second wrote =
-    filled_up s t u place entry old mid new table (extent_some s) first done
-    (subst₂ (λ x y. SameElsewhere x.geometry.extent (extents_of (rows y Mgt)) mid new) site table_is second)
-    (subst₂ (λ x y. Wrote place (record_sector entry) (records_held x y mid) (records_held x y new)) site table_is wrote)
+  pub filled_then : {a b d : S} (u : List ℕ) (place : ℕ) (entry : Record) → IsTable (g.site a).count (table_alone (g.table a))
+      → Writes g (Raw u) (HasZeros (sectors_in (stored g a) (Raw u))) a b → Writes g Mgt (Wrote place (record_sector entry)) b d → g.told
+      → IsDiskFilled (g.site a) (table_alone (g.table a)) u place entry (g.area a) (g.area d)
+  filled_then {a} {b} {d} u place entry table first second told =
+      filled_up (g.site a) (table_alone (g.table a)) u place entry (g.area a) (g.area b) (g.area d) table (extent_some (g.site a)) (first.beside told)
+      (did_in (stays_none a) first told) (beside_in first.stays second told) (did_in first.stays second told)

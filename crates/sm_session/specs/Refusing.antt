@@ -2,7 +2,7 @@
 use Rattle.std.specs.Prelude.{◌≡◌, ℕ, ◌-◌, ◌*◌, ◌^◌, ◌<◌, ◌≤◌, List, [], length}
 use Rattle.sm_base.specs.Numbers.{div_up}
 use Rattle.sm_base.specs.declared.sizes.Geometry.{Geometry}
-use Rattle.vg_meta.specs.Tables.{Listing, free}
+use Rattle.vg_meta.specs.Tables.{VolumeTable, free}
 use Rattle.vg_meta.specs.Changes.{AreFree}
 use Rattle.vg_volumes.specs.Sites.{Site}
 use Rattle.sm_session.specs.Making.{IsNewDisk, AreForDisk}
@@ -22,7 +22,7 @@ extents_for extent size = div_up size (512 * extent)
 
 -- where a raw disk of so many bytes may be made: its UUID is new, the sequence number is not spent, there is room, and
 -- as many free extents will do
-pub record IsAccepted (s : Site) (t : Listing) (u : List ℕ) (size : ℕ) : Type 0 where
+pub record IsAccepted (s : Site) (t : VolumeTable) (u : List ℕ) (size : ℕ) : Type 0 where
   pub disk_new : IsNewDisk t u
   pub unspent : t.sequence < 2 ^ 48 - 16
   pub enough : extents_for s.geometry.extent size ≤ length (free s.count t)

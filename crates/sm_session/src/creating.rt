@@ -1,29 +1,26 @@
 //! Making a raw disk, by a command.
 
-ghost use Rattle.std.specs.Prelude.{◌≡◌, ◌≤◌, ℕ, List, true, false, IfOk, OnOk, OnErr};
-ghost use Rattle.sm_disk.specs.Held.{Keeps, Rose};
-ghost use Rattle.vg_meta.specs.Kept.{listing};
-ghost use Rattle.vg_meta.specs.Tables.{Listing};
+ghost use Rattle.std.specs.Prelude.{◌≡◌, ◌≤◌, ℕ, List, true, false, IfOk, OnOk};
+ghost use Rattle.sm_disk.specs.Held.{Keeps};
+ghost use Rattle.vg_meta.specs.Roomy.{table_alone};
+ghost use Rattle.vg_meta.specs.Tables.{VolumeTable};
 ghost use Rattle.sm_machine.specs.declared.commands.Command.TheVariants.{Create};
 ghost use Rattle.sm_machine.specs.Runs.{is_accepted};
-ghost use Rattle.sm_recover.specs.Repairs.{IsUntouched};
-ghost use Rattle.sm_recover.specs.Stores.{IsOrderly, IsAtRest, HasRows};
-ghost use Rattle.sm_session.specs.Making.{IsOnLeast};
+ghost use Rattle.vg_volumes.specs.Stored.{OnlyReads, Counts, Leaves};
+ghost use Rattle.sm_recover.specs.Stores.{IsOrderlyStore, IsStoreAtRest, HasRows};
+ghost use Rattle.sm_session.specs.Making.{IsOnLeast, HasFewCommits};
 ghost use Rattle.sm_session.specs.Refusing.{extents_for};
 ghost use Rattle.sm_session.specs.Sessions.{HasTaken};
 
 use crate::making::make_raw;
 use crate::refusing::{extents_needed, refuse_create};
-use sm_base::{CallFault, Failed, Label, Refusal};
+use sm_base::{CallFault, Failed, Label, Refusal, SECTOR};
 use sm_machine::Reply;
 use sm_mgt::Mgt;
 use std::alloc::Global;
 use uuid::Uuid;
 use vg_extents::first_fit;
 use vg_volumes::Store;
-
-/// The bytes of a sector.
-const SECTOR: u64 = 512;
 
 /// Makes a raw disk of at least so many bytes, or refuses to.
 pub fn create<S: Store>(
@@ -35,22 +32,23 @@ pub fn create<S: Store>(
     label: &Label,
 ) -> Result<Reply, Failed>
     requires usable { S.failed store.old ≡ false }
-    requires orderly { IsOrderly (S.site store.old) (listing (S.kept store.old)) }
+    requires orderly { IsOrderlyStore S.Store store.old }
     ensures site { S.site store.new ≡ S.site store.old }
     ensures counts { S.faults store.old ≤ S.faults store.new }
-    ensures cause { OnErr result (Rose (S.faults store.old) (S.faults store.new)) }
+    ensures cause { Counts S.Store result store.old store.new }
     ensures beside { S.told → Keeps (S.beside store.old) (S.beside store.new) }
+    ensures few { HasFewCommits (table_alone (S.table store.old)) (table_alone (S.table store.new)) }
+    ensures few_left { Leaves S.Store store.new (λ t image. HasFewCommits (table_alone (S.table store.old)) t) }
     ensures usable_still { OnOk result (S.failed store.new ≡ false) }
-    ensures orderly_still { OnOk result (IsOrderly (S.site store.new) (listing (S.kept store.new))) }
-    ensures room { HasRows (S.kept store.old) → OnOk result (HasRows (S.kept store.new)) }
-    ensures refused { IfOk result (λ r. is_accepted r ≡ false → (t : Listing) (image : ℕ → List ℕ) → S.leaves store.new t image → S.leaves store.old t image) }
-    ensures untouched { IfOk result (λ r. is_accepted r ≡ false
-        → IsUntouched S.told S.kept S.failed S.area S.device S.leaves store.old store.new) }
+    ensures orderly_still { OnOk result (IsOrderlyStore S.Store store.new) }
+    ensures room { HasRows (S.table store.old) → OnOk result (HasRows (S.table store.new)) }
+    ensures refused { IfOk result (λ r. is_accepted r ≡ false → (t : VolumeTable) (image : ℕ → List ℕ) → S.leaves store.new t image → S.leaves store.old t image) }
+    ensures untouched { IfOk result (λ r. is_accepted r ≡ false → OnlyReads S.Store store.old store.new) }
     ensures least { IfOk result (λ r. is_accepted r ≡ true
-        → IsOnLeast (S.site store.old) (listing (S.kept store.old)) disk.now (extents_for (S.site store.old).geometry.extent size) (listing (S.kept store.new))) }
-    ensures taken { S.told → IsAtRest (S.site store.old) (listing (S.kept store.old)) (S.area store.old) records.old
-        → HasTaken (S.site store.old) (Create disk.now size true label.now) (listing (S.kept store.old)) (S.area store.old)
-        (listing (S.kept store.new)) (S.area store.new) records.new (S.leaves store.new) result }
+        → IsOnLeast (S.site store.old) (table_alone (S.table store.old)) disk.now (extents_for (S.site store.old).geometry.extent size) (table_alone (S.table store.new))) }
+    ensures taken { S.told → IsStoreAtRest S.Store store.old records.old
+        → HasTaken (S.site store.old) (Create disk.now size true label.now) (table_alone (S.table store.old)) (S.area store.old)
+        (table_alone (S.table store.new)) (S.area store.new) records.new (S.leaves store.new) result }
 {
     let geometry = store.geometry();
     let extents = store.extents();

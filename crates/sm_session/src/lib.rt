@@ -12,7 +12,8 @@
 //! **What it promises.** [`Session`] steps as a run asks (`Steps` of `sm_run`): each reply is the machine's, or want of
 //! memory; at every return, success and failure alike, whatever a stop leaves is kept and shows the disks from before
 //! the step or those from after it; a refused step makes no write and no sync; after an accepted one nothing is
-//! pending. A new disk takes the least free extents, in rising order. No call changes what stands beside the store.
+//! pending. A new disk takes the least free extents, in rising order, and raises the sequence number at most by two,
+//! whether it is made or not (`HasFewCommits`). No call changes what stands beside the store.
 //! Today's commands are `create` of a raw disk and `list`; any other is answered as a line that spells none.
 //! [`Session::begin`] checks what stands in a store and repairs it first. After a step that failed no further one is
 //! taken.

@@ -8,7 +8,7 @@ ghost use Rattle.std.specs.Prelude.{◌≡◌, ◌≤◌, ◌⊎◌, ◌^◌, ma
 ghost use Rattle.sm_base.specs.declared.refusals.Refusal.TheVariants.{NoMemory as NoMemoryRefusal};
 ghost use Rattle.std.specs.List.{filter_map};
 ghost use Rattle.sm_disk.specs.Held.{Held};
-ghost use Rattle.vg_meta.specs.Kept.{listing, rows_alone};
+ghost use Rattle.vg_meta.specs.Roomy.{table_alone, rows_alone};
 ghost use Rattle.vg_meta.specs.Tables.{AreVolumes};
 ghost use Rattle.vg_volumes.specs.Sites.{Site};
 ghost use Rattle.sm_machine.specs.declared.commands.Command.TheVariants.{List as ListDisks};
@@ -18,15 +18,12 @@ ghost use Rattle.sm_recover.specs.Stores.{content_now, state_now, IsOrderly, IsA
 ghost use Rattle.sm_standing.specs.Standing.{disks};
 ghost use Rattle.sm_session.specs.Listing.{listed_row};
 
-use sm_base::{Geometry, Name, NoMemory, Refusal};
+use sm_base::{Geometry, Name, NoMemory, Refusal, SECTOR};
 use sm_machine::{DiskRow, DiskRows, Reply};
 use sm_mgt::Mgt;
 use std::alloc::Global;
 use vg_meta::{Table, Volume};
 use vg_volumes::Store;
-
-/// The bytes of a sector.
-const SECTOR: u64 = 512;
 
 /// The row of a volume's disk, or `None` where the volume is not raw or has no record.
 #[tactic(auto, unfolding(crate::specs::Listing::listed_row))]
@@ -77,17 +74,17 @@ pub(crate) fn list_disks(
     geometry: &Geometry,
     mgt: &Mgt,
 ) -> Result<DiskRows, NoMemory>
-    ensures rows { IfOk result (λ rows. (s : Site) (area : Held) → s.geometry ≡ geometry.now → IsOrderly s (listing table.now)
-        → IsAtRest s (listing table.now) area mgt.now → rows ≡ map row_of_disk (disks (content_now s (listing table.now) area))) }
+    ensures rows { IfOk result (λ rows. (s : Site) (area : Held) → s.geometry ≡ geometry.now → IsOrderly s (table_alone table.now)
+        → IsAtRest s (table_alone table.now) area mgt.now → rows ≡ map row_of_disk (disks (content_now s (table_alone table.now) area))) }
 {
     rows_in(alloc, table.volumes(), geometry, mgt)
 }
 
 /// The disks, in order of UUID.
 pub fn list<S: Store>(alloc: Global, store: &S, records: &Mgt) -> Reply
-    requires orderly { IsOrderly (S.site store.now) (listing (S.kept store.now)) }
-    ensures { S.told → IsAtRest (S.site store.now) (listing (S.kept store.now)) (S.area store.now) records.now
-        → (result ≡ No NoMemoryRefusal) ⊎ (result ≡ (step (state_now (S.site store.now) (listing (S.kept store.now)) (S.area store.now)) ListDisks).reply) }
+    requires orderly { IsOrderly (S.site store.now) (table_alone (S.table store.now)) }
+    ensures { S.told → IsAtRest (S.site store.now) (table_alone (S.table store.now)) (S.area store.now) records.now
+        → (result ≡ No NoMemoryRefusal) ⊎ (result ≡ (step (state_now (S.site store.now) (table_alone (S.table store.now)) (S.area store.now)) ListDisks).reply) }
 {
     match list_disks(alloc, store.table(), &store.geometry(), records) {
         Ok(rows) => Reply::List(rows),

@@ -5,11 +5,12 @@
 //! extents of the table for the free ones.
 
 ghost use Rattle.std.specs.Prelude.{◌≡◌, ◌<◌, true, ◌*◌, ◌^◌, ◌==◌, ◌||◌, ℕ, List, None, length, count_by, nat_lt, is_some};
+ghost use Rattle.sm_base.specs.Kinds.{is_image};
 ghost use Rattle.sm_base.specs.Names.{is_base as has_base_form};
 ghost use Rattle.sm_base.specs.declared.names.Name.TheVariants.{Raw};
 ghost use Rattle.uuid.specs.Parts.{is_nil_bytes};
-ghost use Rattle.vg_meta.specs.Kept.{listing};
-ghost use Rattle.vg_meta.specs.Tables.{rows, is_image as is_data};
+ghost use Rattle.vg_meta.specs.Roomy.{table_alone};
+ghost use Rattle.vg_meta.specs.Tables.{rows};
 ghost use Rattle.vg_volumes.specs.Sites.{Site};
 ghost use Rattle.sm_machine.specs.Refusals.{refusal};
 ghost use Rattle.sm_machine.specs.declared.commands.Command.TheVariants.{Create};
@@ -19,19 +20,10 @@ ghost use Rattle.sm_standing.specs.PlainSound.{PlainSound};
 ghost use Rattle.sm_standing.specs.Shapes.{shape};
 ghost use Rattle.sm_session.specs.Refusing.{site_of, IsSiteOf, extents_for, IsAccepted};
 
-use sm_base::{Geometry, Name, Refusal, is_base};
+use sm_base::{Geometry, IMAGE_LIMIT, Name, Refusal, SECTOR, SPENT_SEQUENCE, is_base};
 use uuid::Uuid;
 use vg_extents::free;
 use vg_meta::{Table, Volume};
-
-/// The bytes of a sector.
-const SECTOR: u64 = 512;
-
-/// The most images of a repository.
-const IMAGE_LIMIT: usize = 500;
-
-/// The least sequence number at which no disk is made any more.
-const SPENT_SEQUENCE: u64 = (1 << 48) - 16;
 
 /// The extents that a raw disk of so many bytes takes.
 pub(crate) fn extents_needed(geometry: &Geometry, size: u64) -> u64
@@ -50,7 +42,7 @@ fn is_reserved(disk: &Uuid) -> bool
 
 /// Whether a raw volume has the UUID.
 fn is_taken(table: &Table, disk: &Uuid) -> bool
-    ensures { result ≡ is_some (rows (listing table.now) (Raw disk.now)) }
+    ensures { result ≡ is_some (rows (table_alone table.now) (Raw disk.now)) }
 {
     table.find(&Name::Raw(*disk)).is_some()
 }
@@ -67,23 +59,19 @@ fn is_bad_size(geometry: &Geometry, extents: u32, size: u64) -> bool
     size == 0 || sectors > most || sectors > all
 }
 
-/// Whether a volume holds the data of a disk.
-fn is_image(volume: &Volume) -> bool
-    ensures { result ≡ is_data volume.now.row.name }
-{
-    matches!(volume.name(), Name::Vhd(_) | Name::Raw(_) | Name::Old(_))
-}
-
 /// How many of the volumes are images.
 fn images_in(volumes: &[Volume]) -> usize
-    ensures { result ≡ count_by (λ v. is_data v.row.name) volumes.now }
+    ensures { result ≡ count_by (λ v. is_image v.row.name) volumes.now }
 {
-    volumes.iter().filter(|volume| is_image(volume)).count()
+    volumes
+        .iter()
+        .filter(|volume| volume.name().is_image())
+        .count()
 }
 
 /// How many images there are.
 fn image_count(table: &Table) -> usize
-    ensures { result ≡ length (images (listing table.now)) }
+    ensures { result ≡ length (images (table_alone table.now)) }
 {
     images_in(table.volumes())
 }
@@ -97,10 +85,10 @@ pub(crate) fn refuse_create(
     disk: &Uuid,
     size: u64,
 ) -> Option<Refusal>
-    requires orderly { IsOrderly (site_of geometry.now extents) (listing table.now) }
-    ensures exact { (s : Site) (image : ℕ → List ℕ) (label : List ℕ) → IsSiteOf geometry.now extents s → PlainSound (content_in s (listing table.now) image)
-        → result ≡ refusal (shape (content_in s (listing table.now) image)) (Create disk.now size true label) }
-    ensures accepted { result ≡ None → (s : Site) → IsSiteOf geometry.now extents s → IsAccepted s (listing table.now) disk.now size }
+    requires orderly { IsOrderly (site_of geometry.now extents) (table_alone table.now) }
+    ensures exact { (s : Site) (image : ℕ → List ℕ) (label : List ℕ) → IsSiteOf geometry.now extents s → PlainSound (content_in s (table_alone table.now) image)
+        → result ≡ refusal (shape (content_in s (table_alone table.now) image)) (Create disk.now size true label) }
+    ensures accepted { result ≡ None → (s : Site) → IsSiteOf geometry.now extents s → IsAccepted s (table_alone table.now) disk.now size }
 {
     if is_reserved(disk) {
         return Some(Refusal::ReservedName);

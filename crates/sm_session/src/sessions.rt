@@ -1,13 +1,14 @@
 //! A repository that is open, and its steps.
 
-ghost use Rattle.std.specs.Prelude.{◌≡◌, ◌≤◌, ◌⊎◌, ℕ, List, None, false, IfOk, IfErr};
+ghost use Rattle.std.specs.Prelude.{◌≡◌, ◌≤◌, ◌⊎◌, List, None, false, IfOk, IfErr};
 ghost use Rattle.std.proofs.Props.{props};
 ghost use Rattle.sm_disk.specs.Held.{IsSettled, Keeps};
-ghost use Rattle.vg_meta.specs.Kept.{listing};
-ghost use Rattle.vg_meta.specs.Tables.{Listing};
+ghost use Rattle.vg_meta.specs.Roomy.{table_alone};
 ghost use Rattle.sm_machine.specs.Disks.{Disk};
-ghost use Rattle.sm_recover.specs.Repairs.{IsStopped, UnlessDevice, IsUntouched};
-ghost use Rattle.sm_recover.specs.Stores.{IsOrderly, IsAtRest, IsRepairedFrom, HasRows, content_in, content_now, state_now};
+ghost use Rattle.sm_recover.specs.Repairs.{IsOpeningStopped, UnlessDeviceFailed};
+ghost use Rattle.vg_volumes.specs.Stored.{OnlyReads, Leaves};
+ghost use Rattle.sm_recover.specs.Cleaned.{HasFewRemovals};
+ghost use Rattle.sm_recover.specs.Stores.{IsOrderly, IsStoreAtRest, IsRepairedFrom, HasRows, content_in, store_content, state_now};
 ghost use Rattle.sm_run.specs.Runs.{BeginsSettled};
 ghost use Rattle.sm_standing.specs.Checks.{first_fault_today};
 ghost use Rattle.sm_standing.specs.Opened.{opened};
@@ -34,9 +35,9 @@ pub struct Session<S: Store> {
     now: u32,
     // While no step has failed, the table is as it is between two steps, commits may be made, and the table may come to
     // have all its rows without memory for them.
-    ghost orderly: { broken ≡ false → IsOrderly (S.site store) (listing (S.kept store)) } by { Prim.hlevel (props, IsOrderly-prop) },
+    ghost orderly: { broken ≡ false → IsOrderly (S.site store) (table_alone (S.table store)) } by { Prim.hlevel (props, IsOrderly-prop) },
     ghost usable: { broken ≡ false → S.failed store ≡ false },
-    ghost room: { broken ≡ false → HasRows (S.kept store) },
+    ghost room: { broken ≡ false → HasRows (S.table store) },
 }
 
 impl<S: Store> Session<S> {
@@ -51,23 +52,27 @@ impl<S: Store> Session<S> {
         ensures site { IfOk result (λ s. S.site s.store ≡ S.site store) }
         ensures counts { IfOk result (λ s. S.faults store ≤ S.faults s.store) }
         ensures beside { IfOk result (λ s. S.told → Keeps (S.beside store) (S.beside s.store)) }
+        ensures few { IfOk result (λ s. HasFewRemovals (table_alone (S.table store)) (table_alone (S.table s.store))) }
         ensures whole { IfOk result (λ s. s.broken ≡ false) }
         ensures now { IfOk result (λ s. s.now ≡ now) }
-        ensures sound { IfOk result (λ s. S.told → first_fault_today (content_now (S.site store) (listing (S.kept store)) (S.area store)) ≡ None) }
-        ensures rest { IfOk result (λ s. S.told → IsAtRest (S.site s.store) (listing (S.kept s.store)) (S.area s.store) s.records) }
-        ensures disks { IfOk result (λ s. S.told → disks (content_now (S.site s.store) (listing (S.kept s.store)) (S.area s.store))
-            ≡ disks (content_now (S.site store) (listing (S.kept store)) (S.area store))) }
-        ensures opened { IfOk result (λ s. S.told → shape (content_now (S.site s.store) (listing (S.kept s.store)) (S.area s.store))
-            ≡ opened (content_now (S.site store) (listing (S.kept store)) (S.area store))) }
+        ensures sound { IfOk result (λ s. S.told → first_fault_today (store_content S.Store store) ≡ None) }
+        ensures rest { IfOk result (λ s. S.told → IsStoreAtRest S.Store s.store s.records) }
+        ensures disks { IfOk result (λ s. S.told → disks (store_content S.Store s.store)
+            ≡ disks (store_content S.Store store)) }
+        ensures opened { IfOk result (λ s. S.told → shape (store_content S.Store s.store)
+            ≡ opened (store_content S.Store store)) }
         ensures kept { IfOk result (λ s. S.told → KeepsAll (S.site s.store) (S.leaves s.store)) }
-        ensures begins { IfOk result (λ s. S.told → BeginsSettled (state_now (S.site s.store) (listing (S.kept s.store)) (S.area s.store)) (MayShow (S.site s.store) (S.leaves s.store))) }
+        ensures begins { IfOk result (λ s. S.told → BeginsSettled (state_now (S.site s.store) (table_alone (S.table s.store)) (S.area s.store)) (MayShow (S.site s.store) (S.leaves s.store))) }
         ensures site_back { IfErr result (λ e. S.site e.1 ≡ S.site store) }
         ensures counts_back { IfErr result (λ e. S.faults store ≤ S.faults e.1) }
         ensures beside_back { IfErr result (λ e. S.told → Keeps (S.beside store) (S.beside e.1)) }
-        ensures cause { IfErr result (λ e. IsStopped S.told (content_now (S.site store) (listing (S.kept store)) (S.area store)) (S.faults store) (S.faults e.1) e.0) }
-        ensures refused { IfErr result (λ e. UnlessDevice e.0 (IsUntouched S.told S.kept S.failed S.area S.device S.leaves store e.1)) }
-        ensures crash_back { IfErr result (λ e. S.told → (t : Listing) (image : ℕ → List ℕ) → S.leaves e.1 t image
-            → S.leaves store t image ⊎ IsRepairedFrom (content_now (S.site store) (listing (S.kept store)) (S.area store)) (content_in (S.site store) t image)) }
+        ensures few_back { IfErr result (λ e. HasFewRemovals (table_alone (S.table store)) (table_alone (S.table e.1))) }
+        ensures few_left { IfErr result (λ e. Leaves S.Store e.1 (λ t image. HasFewRemovals (table_alone (S.table store)) t)) }
+        ensures cause { IfErr result (λ e. IsOpeningStopped S.told (store_content S.Store store) (S.faults store) (S.faults e.1) e.0) }
+        ensures refused { IfErr result (λ e. UnlessDeviceFailed e.0 (OnlyReads S.Store store e.1)) }
+        ensures unsound_back { IfErr result (λ e. S.told → (first_fault_today (store_content S.Store store) ≡ None → ⊥) → Keeps (S.device store) (S.device e.1)) }
+        ensures crash_back { IfErr result (λ e. Leaves S.Store e.1 (λ t image. S.leaves store t image
+            ⊎ IsRepairedFrom (store_content S.Store store) (content_in (S.site store) t image))) }
     {
         let mut store = store;
         match settle(alloc, &mut store) {
@@ -81,11 +86,11 @@ impl<S: Store> Session<S> {
         }
     }
 
-    /// The store, as it is. It is not called. Between two steps a stop shows the machine's disks alone.
+    /// The store, as it is. No call is made on it. Between two steps a stop shows the machine's disks alone.
     pub fn into_store(self) -> S
         ensures store { result ≡ self.store }
-        ensures shown { S.told → self.broken ≡ false → IsAtRest (S.site self.store) (listing (S.kept self.store)) (S.area self.store) self.records
-            → (ds : List Disk) → MayShow (S.site self.store) (S.leaves self.store) ds → ds ≡ disks (content_now (S.site self.store) (listing (S.kept self.store)) (S.area self.store)) }
+        ensures shown { S.told → self.broken ≡ false → IsStoreAtRest S.Store self.store self.records
+            → (ds : List Disk) → MayShow (S.site self.store) (S.leaves self.store) ds → ds ≡ disks (store_content S.Store self.store) }
     {
         let Session {
             store,
@@ -99,16 +104,16 @@ impl<S: Store> Session<S> {
 
 impl<S: Store> Steps for Session<S> {
     ghost use Rattle.std.specs.Prelude.{◌≡◌, false};
-    ghost use Rattle.vg_meta.specs.Kept.{listing};
+    ghost use Rattle.vg_meta.specs.Roomy.{table_alone};
     ghost use Rattle.vg_volumes.specs.Sites.{Site};
-    ghost use Rattle.sm_recover.specs.Stores.{IsAtRest, state_now};
+    ghost use Rattle.sm_recover.specs.Stores.{IsStoreAtRest, state_now};
     ghost use Rattle.sm_session.specs.Sessions.{MayShow, KeepsAll};
 
     ghost told = { S.told };
 
-    ghost state = { λ s. state_now (S.site s.store) (listing (S.kept s.store)) (S.area s.store) };
+    ghost state = { λ s. state_now (S.site s.store) (table_alone (S.table s.store)) (S.area s.store) };
 
-    ghost ready = { λ s. (s.broken ≡ false) × IsAtRest (S.site s.store) (listing (S.kept s.store)) (S.area s.store) s.records };
+    ghost ready = { λ s. (s.broken ≡ false) × IsStoreAtRest S.Store s.store s.records };
 
     ghost kept = { λ s. KeepsAll (S.site s.store) (S.leaves s.store) };
 

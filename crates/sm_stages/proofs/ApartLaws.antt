@@ -4,14 +4,14 @@ use Rattle.std.specs.List.{list_any}
 use Rattle.std.proofs.lemmas.Slice.Eq.{bytes_eq-Decides}
 use Rattle.sm_base.specs.declared.names.Name.{Name}
 use Rattle.sm_base.specs.declared.names.Name.TheVariants.{Mgt, Vhd, Raw, Old, Clone, Inflate, Coalesce, Relink, Leaf}
-use Rattle.vg_meta.specs.Tables.{Row, Listing}
-use Rattle.sm_machine.specs.Lists.{numbers, ◌>>=◌}
+use Rattle.vg_meta.specs.Tables.{Row, VolumeTable}
+use Rattle.common_laws.specs.Lists.{numbers, ◌>>=◌}
 use Rattle.sm_standing.specs.Changes.{turns_of, parent_of, IsCopied}
 use Rattle.sm_standing.specs.Checks.{depth}
 use Rattle.sm_standing.specs.Contents.{Content, row, record_of}
 use Rattle.sm_standing.specs.Entries.{of_row, is_visible, is_among, uuids_in, folding, making, head, is_leaf_renamed, is_leaf_swapped}
-use Rattle.sm_standing.specs.Images.{Image, Turn, here, up, turn_of, walk, reads, image_of, sectors_read}
-use Rattle.sm_standing.specs.Standing.{stands, stands_plainly, stands_forked, stands_folded, under, disk_at, disk_in}
+use Rattle.sm_standing.specs.Images.{Image, ImageAnswer, here, up, answer_of, walk, image_reads, image_of, sectors_read}
+use Rattle.sm_standing.specs.Standing.{standing_volume, stands_plainly, stands_forked, stands_folded, under, disk_at, disk_in}
 use Rattle.sm_standing.proofs.ImageLaws.{moved_disk}
 use Rattle.sm_standing.proofs.PlainDisks.{map_numbers}
 use Rattle.sm_standing.proofs.WalkLaws.{walk_same, turn-up}
@@ -26,10 +26,6 @@ or-left false b h = refl
 or-right : (a b : Bool) → (a || b) ≡ false → b ≡ false
 or-right true b h = absurd (let e = h in cc)
 or-right false b h = h
-
-not-true : (a : Bool) → not a ≡ true → a ≡ false
-not-true true h = absurd (let e = h in cc)
-not-true false h = refl
 
 pub vhd_apart : (us : List (List ℕ)) (u : List ℕ) → is_among us u ≡ false → is_apart us (Vhd u) ≡ true
 vhd_apart us u h = ap (λ b. not (b || false)) h
@@ -56,21 +52,17 @@ other_among us u v none is = by (bytes_eq u v) refl
     by true same = let at = (bytes_eq-Decides u v).0 same in let e : true ≡ false = sym is ∙ ap (is_among us) (sym at) ∙ none in absurd (let x = e in cc)
     by false same = refl
 
--- a UUID is itself
-pub self : (u : List ℕ) → bytes_eq u u ≡ true
-self u = (bytes_eq-Decides u u).1 refl
-
 -- ---- where a UUID stands
 
-abbrev pub beside : Listing → List ℕ → Option Name
+abbrev pub beside : VolumeTable → List ℕ → Option Name
 beside t u = under (λ e. stands_folded t e u) (head (folding t)) (stands_plainly t u)
 
-pub stands_making : (t : Listing) (u : List ℕ) (e : Name) → head (making t) ≡ Some e → stands t u ≡ stands_forked t e u (beside t u)
-unfolding stands
+pub stands_making : (t : VolumeTable) (u : List ℕ) (e : Name) → head (making t) ≡ Some e → standing_volume t u ≡ stands_forked t e u (beside t u)
+unfolding standing_volume
 stands_making t u e h = ap (λ o. under (λ e. stands_forked t e u) o (beside t u)) h
 
-pub stands_beside : (t : Listing) (u : List ℕ) → making t ≡ [] → stands t u ≡ beside t u
-unfolding stands
+pub stands_beside : (t : VolumeTable) (u : List ℕ) → making t ≡ [] → standing_volume t u ≡ beside t u
+unfolding standing_volume
 stands_beside t u h = ap (λ ns. under (λ e. stands_forked t e u) (head ns) (beside t u)) h
 
 abbrev pub plainly_by : List ℕ → Option Row → Option Row → Option Name
@@ -93,14 +85,7 @@ folded_same a b us (Leaf leaf parent) u plainly same apart =
     let vhd_leaf : row b (Vhd leaf) ≡ row a (Vhd leaf) = same.rows (Vhd leaf) (vhd_apart us leaf l) in
     let raw_leaf : row b (Raw leaf) ≡ row a (Raw leaf) = same.rows (Raw leaf) (raw_apart us leaf l) in
     rw (old_leaf, vhd_parent, vhd_leaf, raw_leaf) refl
-folded_same a b us Mgt u plainly same apart = refl
-folded_same a b us (Vhd v) u plainly same apart = refl
-folded_same a b us (Raw v) u plainly same apart = refl
-folded_same a b us (Old v) u plainly same apart = refl
-folded_same a b us (Clone d c w) u plainly same apart = refl
-folded_same a b us (Inflate v m) u plainly same apart = refl
-folded_same a b us (Coalesce v p) u plainly same apart = refl
-folded_same a b us (Relink v p) u plainly same apart = refl
+folded_same a b us _ u plainly same apart = refl
 
 under_same : (a b : Content) (us : List (List ℕ)) (o : Option Name) (u : List ℕ) (plainly : Option Name) → IsSameApart a b us
     → IsEntryApart us o → under (λ e. stands_folded b.table e u) o plainly ≡ under (λ e. stands_folded a.table e u) o plainly
@@ -113,23 +98,16 @@ beside_same a b us u same folding_same apart other =
     ap₂ (λ ns plainly. under (λ e. stands_folded b.table e u) (head ns) plainly) folding_same (plainly_same a b us u same other)
     ∙ under_same a b us (head (folding a.table)) u (stands_plainly a.table u) same apart
 
-folded_plain : (t : Listing) (us : List (List ℕ)) (e : Name) (u : List ℕ) (plainly : Option Name) → list_any (is_among us) (uuids_in e) ≡ false
+folded_plain : (t : VolumeTable) (us : List (List ℕ)) (e : Name) (u : List ℕ) (plainly : Option Name) → list_any (is_among us) (uuids_in e) ≡ false
     → is_among us u ≡ true → stands_folded t e u plainly ≡ plainly
 folded_plain t us (Leaf leaf parent) u plainly apart is =
     let l = or-left (is_among us leaf) (is_among us parent || false) apart in
     ap (λ b. cond (b && is_leaf_renamed t leaf parent) (Some (Vhd parent)) (cond (b && is_leaf_swapped t leaf parent) (Some (Vhd leaf)) plainly))
     (among_other us u leaf is l)
-folded_plain t us Mgt u plainly apart is = refl
-folded_plain t us (Vhd v) u plainly apart is = refl
-folded_plain t us (Raw v) u plainly apart is = refl
-folded_plain t us (Old v) u plainly apart is = refl
-folded_plain t us (Clone d c w) u plainly apart is = refl
-folded_plain t us (Inflate v m) u plainly apart is = refl
-folded_plain t us (Coalesce v p) u plainly apart is = refl
-folded_plain t us (Relink v p) u plainly apart is = refl
+folded_plain t us _ u plainly apart is = refl
 
 -- a UUID of which the entry does not speak stands by itself under it
-pub under_plain : (t : Listing) (us : List (List ℕ)) (o : Option Name) (u : List ℕ) (plainly : Option Name) → IsEntryApart us o
+pub under_plain : (t : VolumeTable) (us : List (List ℕ)) (o : Option Name) (u : List ℕ) (plainly : Option Name) → IsEntryApart us o
     → is_among us u ≡ true → under (λ e. stands_folded t e u) o plainly ≡ plainly
 under_plain t us None u plainly apart is = refl
 under_plain t us (Some e) u plainly apart is = folded_plain t us e u plainly apart is
@@ -142,7 +120,7 @@ plainly_apart us u true r x other h = let at : Vhd u ≡ x = (let e = h in cc) i
 plainly_apart us u false true x other h = let at : Raw u ≡ x = (let e = h in cc) in subst (λ m. is_apart us m ≡ true) at (raw_apart us u other)
 plainly_apart us u false false x other h = absurd (let e = h in cc)
 
-pub plain_apart : (t : Listing) (us : List (List ℕ)) (u : List ℕ) (x : Name) → is_among us u ≡ false → stands_plainly t u ≡ Some x → is_apart us x ≡ true
+pub plain_apart : (t : VolumeTable) (us : List (List ℕ)) (u : List ℕ) (x : Name) → is_among us u ≡ false → stands_plainly t u ≡ Some x → is_apart us x ≡ true
 plain_apart t us u x other h = plainly_apart us u (is_visible t (Vhd u)) (is_visible t (Raw u)) x other h
 
 leaf_apart : (us : List (List ℕ)) (leaf parent : List ℕ) (s w : Bool) (x : Name) (plainly : Option Name) → is_among us leaf ≡ false → is_among us parent ≡ false
@@ -151,22 +129,15 @@ leaf_apart us leaf parent true w x plainly l p from h = let at : Vhd parent ≡ 
 leaf_apart us leaf parent false true x plainly l p from h = let at : Vhd leaf ≡ x = (let e = h in cc) in subst (λ m. is_apart us m ≡ true) at (vhd_apart us leaf l)
 leaf_apart us leaf parent false false x plainly l p from h = from h
 
-folded_apart : (t : Listing) (us : List (List ℕ)) (e : Name) (u : List ℕ) (x : Name) (plainly : Option Name) → list_any (is_among us) (uuids_in e) ≡ false
+folded_apart : (t : VolumeTable) (us : List (List ℕ)) (e : Name) (u : List ℕ) (x : Name) (plainly : Option Name) → list_any (is_among us) (uuids_in e) ≡ false
     → (plainly ≡ Some x → is_apart us x ≡ true) → stands_folded t e u plainly ≡ Some x → is_apart us x ≡ true
 folded_apart t us (Leaf leaf parent) u x plainly apart from h =
     let l = or-left (is_among us leaf) (is_among us parent || false) apart in
     let p = or-left (is_among us parent) false (or-right (is_among us leaf) (is_among us parent || false) apart) in
     leaf_apart us leaf parent (bytes_eq u leaf && is_leaf_renamed t leaf parent) (bytes_eq u leaf && is_leaf_swapped t leaf parent) x plainly l p from h
-folded_apart t us Mgt u x plainly apart from h = from h
-folded_apart t us (Vhd v) u x plainly apart from h = from h
-folded_apart t us (Raw v) u x plainly apart from h = from h
-folded_apart t us (Old v) u x plainly apart from h = from h
-folded_apart t us (Clone d c w) u x plainly apart from h = from h
-folded_apart t us (Inflate v m) u x plainly apart from h = from h
-folded_apart t us (Coalesce v p) u x plainly apart from h = from h
-folded_apart t us (Relink v p) u x plainly apart from h = from h
+folded_apart t us _ u x plainly apart from h = from h
 
-pub under_apart : (t : Listing) (us : List (List ℕ)) (o : Option Name) (u : List ℕ) (x : Name) (plainly : Option Name) → IsEntryApart us o
+pub under_apart : (t : VolumeTable) (us : List (List ℕ)) (o : Option Name) (u : List ℕ) (x : Name) (plainly : Option Name) → IsEntryApart us o
     → (plainly ≡ Some x → is_apart us x ≡ true) → under (λ e. stands_folded t e u) o plainly ≡ Some x → is_apart us x ≡ true
 under_apart t us None u x plainly apart from h = from h
 under_apart t us (Some e) u x plainly apart from h = folded_apart t us e u x plainly apart from h
@@ -177,34 +148,34 @@ under_apart t us (Some e) u x plainly apart from h = folded_apart t us e u x pla
 abbrev pub IsClosedApart : Content → List (List ℕ) → Type 0
 IsClosedApart a us = (m p : Name) → is_apart us m ≡ true → parent_of a m ≡ Some p → is_apart us p ≡ true
 
-sends_parent : (a : Content) (s : ℕ) (n p : Name) → turn_of s (image_of a n) ≡ up p → parent_of a n ≡ Some p
+sends_parent : (a : Content) (s : ℕ) (n p : Name) → answer_of s (image_of a n) ≡ up p → parent_of a n ≡ Some p
 sends_parent a s n p sent = let w = turn-up s (image_of a n) p sent in ap (λ o. o >>= (λ i. i.parent)) w.there ∙ w.parent
 
 walk_apart : (a b : Content) (us : List (List ℕ)) → IsSameApart a b us → IsClosedApart a us → (k : ℕ) (n : Name) → is_apart us n ≡ true → (s : ℕ)
     → walk k (turns_of b s) n ≡ walk k (turns_of a s) n
 walk_apart a b us same closed k n is s =
     walk_same (λ m. is_apart us m ≡ true) (turns_of a s) (turns_of b s) (record { closed = λ m p at sent. closed m p at (sends_parent a s m p sent) })
-    (λ m at. ap (turn_of s) (same.images m at)) k n is
+    (λ m at. ap (answer_of s) (same.images m at)) k n is
 
-pub reads_apart : (a b : Content) (us : List (List ℕ)) → IsSameApart a b us → IsClosedApart a us → (n : Name) → is_apart us n ≡ true → (s : ℕ) → reads b n s ≡ reads a n s
-unfolding reads
+pub reads_apart : (a b : Content) (us : List (List ℕ)) → IsSameApart a b us → IsClosedApart a us → (n : Name) → is_apart us n ≡ true → (s : ℕ) → image_reads b n s ≡ image_reads a n s
+unfolding image_reads
 reads_apart a b us same closed n is s = walk_apart a b us same closed 30 n is s
 
 -- what a turn gives, with so many images to walk behind it
-abbrev turned : ℕ → (Name → Turn) → Turn → List ℕ
+abbrev turned : ℕ → (Name → ImageAnswer) → ImageAnswer → List ℕ
 turned k f t = elim t [ here b ↦ b | up p ↦ walk k f p ]
 
-turned_same : (f g : Name → Turn) (k : ℕ) (t : Turn) → ((p : Name) → t ≡ up p → walk k g p ≡ walk k f p) → turned k g t ≡ turned k f t
+turned_same : (f g : Name → ImageAnswer) (k : ℕ) (t : ImageAnswer) → ((p : Name) → t ≡ up p → walk k g p ≡ walk k f p) → turned k g t ≡ turned k f t
 turned_same f g k (here b) rest = refl
 turned_same f g k (up p) rest = rest p refl
 
 -- the same image in another volume, whose parent is none of them
 pub reads_moved : (a b : Content) (us : List (List ℕ)) (n m : Name) → IsSameApart a b us → IsClosedApart a us → image_of b m ≡ image_of a n
-    → ((p : Name) → parent_of a n ≡ Some p → is_apart us p ≡ true) → (s : ℕ) → reads b m s ≡ reads a n s
-unfolding reads walk
+    → ((p : Name) → parent_of a n ≡ Some p → is_apart us p ≡ true) → (s : ℕ) → image_reads b m s ≡ image_reads a n s
+unfolding image_reads walk
 reads_moved a b us n m same closed image above s =
-    ap (λ t. elim t [ here x ↦ x | up p ↦ walk 29 (turns_of b s) p ]) (ap (turn_of s) image)
-    ∙ turned_same (turns_of a s) (turns_of b s) 29 (turn_of s (image_of a n)) (λ p sent. walk_apart a b us same closed 29 p (above p (sends_parent a s n p sent)) s)
+    ap (λ t. elim t [ here x ↦ x | up p ↦ walk 29 (turns_of b s) p ]) (ap (answer_of s) image)
+    ∙ turned_same (turns_of a s) (turns_of b s) 29 (answer_of s (image_of a n)) (λ p sent. walk_apart a b us same closed 29 p (above p (sends_parent a s n p sent)) s)
 
 counted_same : (a b : Content) (k : ℕ) (o : Option Name) → ((p : Name) → o ≡ Some p → depth b k p ≡ depth a k p)
     → suc (elim o [ None ↦ 0 | Some p ↦ depth b k p ]) ≡ suc (elim o [ None ↦ 0 | Some p ↦ depth a k p ])
@@ -228,37 +199,37 @@ depth_moved a b us n m same closed image above (suc k) =
 
 -- ---- sectors and disks
 
-sectors_by : (a b : Content) (n m : Name) (o : Option Image) → image_of a n ≡ o → image_of b m ≡ o → ((s : ℕ) → reads b m s ≡ reads a n s) → sectors_read b m ≡ sectors_read a n
+sectors_by : (a b : Content) (n m : Name) (o : Option Image) → image_of a n ≡ o → image_of b m ≡ o → ((s : ℕ) → image_reads b m s ≡ image_reads a n s) → sectors_read b m ≡ sectors_read a n
 unfolding sectors_read
 sectors_by a b n m None was now same =
-    ap (λ o. elim o [ None ↦ [] | Some k ↦ map (reads b m) (numbers 0 k.size) ]) now
-    ∙ sym (ap (λ o. elim o [ None ↦ [] | Some k ↦ map (reads a n) (numbers 0 k.size) ]) was)
+    ap (λ o. elim o [ None ↦ [] | Some k ↦ map (image_reads b m) (numbers 0 k.size) ]) now
+    ∙ sym (ap (λ o. elim o [ None ↦ [] | Some k ↦ map (image_reads a n) (numbers 0 k.size) ]) was)
 sectors_by a b n m (Some i) was now same =
-    ap (λ o. elim o [ None ↦ [] | Some k ↦ map (reads b m) (numbers 0 k.size) ]) now
-    ∙ map_numbers (reads b m) (reads a n) 0 i.size (λ k from below. same k)
-    ∙ sym (ap (λ o. elim o [ None ↦ [] | Some k ↦ map (reads a n) (numbers 0 k.size) ]) was)
+    ap (λ o. elim o [ None ↦ [] | Some k ↦ map (image_reads b m) (numbers 0 k.size) ]) now
+    ∙ map_numbers (image_reads b m) (image_reads a n) 0 i.size (λ k from below. same k)
+    ∙ sym (ap (λ o. elim o [ None ↦ [] | Some k ↦ map (image_reads a n) (numbers 0 k.size) ]) was)
 
 -- an image under another name that reads the same has the same sectors
-pub sectors_moved : (a b : Content) (n m : Name) → image_of b m ≡ image_of a n → ((s : ℕ) → reads b m s ≡ reads a n s) → sectors_read b m ≡ sectors_read a n
+pub sectors_moved : (a b : Content) (n m : Name) → image_of b m ≡ image_of a n → ((s : ℕ) → image_reads b m s ≡ image_reads a n s) → sectors_read b m ≡ sectors_read a n
 sectors_moved a b n m image same = sectors_by a b n m (image_of a n) refl image same
 
 -- so has one of the same size that reads the same below it
 pub sectors_sized : (a b : Content) (n m : Name) (i j : Image) → image_of a n ≡ Some i → image_of b m ≡ Some j → j.size ≡ i.size
-    → ((s : ℕ) → s < i.size → reads b m s ≡ reads a n s) → sectors_read b m ≡ sectors_read a n
+    → ((s : ℕ) → s < i.size → image_reads b m s ≡ image_reads a n s) → sectors_read b m ≡ sectors_read a n
 unfolding sectors_read
 sectors_sized a b n m i j was now size same =
-    ap (λ o. elim o [ None ↦ [] | Some k ↦ map (reads b m) (numbers 0 k.size) ]) now
-    ∙ ap (λ k. map (reads b m) (numbers 0 k)) size
-    ∙ map_numbers (reads b m) (reads a n) 0 i.size (λ k from below. same k (omega (arith, below)))
-    ∙ sym (ap (λ o. elim o [ None ↦ [] | Some k ↦ map (reads a n) (numbers 0 k.size) ]) was)
+    ap (λ o. elim o [ None ↦ [] | Some k ↦ map (image_reads b m) (numbers 0 k.size) ]) now
+    ∙ ap (λ k. map (image_reads b m) (numbers 0 k)) size
+    ∙ map_numbers (image_reads b m) (image_reads a n) 0 i.size (λ k from below. same k (omega (arith, below)))
+    ∙ sym (ap (λ o. elim o [ None ↦ [] | Some k ↦ map (image_reads a n) (numbers 0 k.size) ]) was)
 
-pub no_disk : (a b : Content) (u : List ℕ) → stands a.table u ≡ None → stands b.table u ≡ None → disk_at b u ≡ disk_at a u
+pub no_disk : (a b : Content) (u : List ℕ) → standing_volume a.table u ≡ None → standing_volume b.table u ≡ None → disk_at b u ≡ disk_at a u
 unfolding disk_at
 no_disk a b u stood now =
     ap (λ o. o >>= (λ k. record_of b u >>= (λ r. Some (disk_in b u r k)))) now
     ∙ sym (ap (λ o. o >>= (λ k. record_of a u >>= (λ r. Some (disk_in a u r k)))) stood)
 
-pub none_disk : (a : Content) (u : List ℕ) → stands a.table u ≡ None → disk_at a u ≡ None
+pub none_disk : (a : Content) (u : List ℕ) → standing_volume a.table u ≡ None → disk_at a u ≡ None
 unfolding disk_at
 none_disk a u stood = ap (λ o. o >>= (λ k. record_of a u >>= (λ r. Some (disk_in a u r k)))) stood
 
@@ -274,14 +245,14 @@ empty_copied c n p i q h = record {
 
 -- ---- a disk of none of these UUIDs
 
-other_by : (a b : Content) (us : List (List ℕ)) (u : List ℕ) → IsSameApart a b us → IsClosedApart a us → stands b.table u ≡ stands a.table u
-    → ((x : Name) → stands a.table u ≡ Some x → is_apart us x ≡ true) → record_of b u ≡ record_of a u → (o : Option Name) → stands a.table u ≡ o
+other_by : (a b : Content) (us : List (List ℕ)) (u : List ℕ) → IsSameApart a b us → IsClosedApart a us → standing_volume b.table u ≡ standing_volume a.table u
+    → ((x : Name) → standing_volume a.table u ≡ Some x → is_apart us x ≡ true) → record_of b u ≡ record_of a u → (o : Option Name) → standing_volume a.table u ≡ o
     → disk_at b u ≡ disk_at a u
 other_by a b us u same closed stand apart recorded None is = no_disk a b u is (stand ∙ is)
 other_by a b us u same closed stand apart recorded (Some x) is =
     let at = apart x is in
     moved_disk a b u x x is (stand ∙ is) recorded (sectors_moved a b x x (same.images x at) (reads_apart a b us same closed x at))
 
-pub other_disk : (a b : Content) (us : List (List ℕ)) (u : List ℕ) → IsSameApart a b us → IsClosedApart a us → stands b.table u ≡ stands a.table u
-    → ((x : Name) → stands a.table u ≡ Some x → is_apart us x ≡ true) → record_of b u ≡ record_of a u → disk_at b u ≡ disk_at a u
-other_disk a b us u same closed stand apart recorded = other_by a b us u same closed stand apart recorded (stands a.table u) refl
+pub other_disk : (a b : Content) (us : List (List ℕ)) (u : List ℕ) → IsSameApart a b us → IsClosedApart a us → standing_volume b.table u ≡ standing_volume a.table u
+    → ((x : Name) → standing_volume a.table u ≡ Some x → is_apart us x ≡ true) → record_of b u ≡ record_of a u → disk_at b u ≡ disk_at a u
+other_disk a b us u same closed stand apart recorded = other_by a b us u same closed stand apart recorded (standing_volume a.table u) refl

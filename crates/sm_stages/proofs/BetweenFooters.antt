@@ -7,7 +7,7 @@ use Rattle.vhd_fields.specs.Footers.{footer_bytes}
 use Rattle.vhd_layout.specs.Contents.{size_at, parent_at, own}
 use Rattle.vhd_layout.specs.Images.{IsHead, IsImage, IsValid, header_at}
 use Rattle.vhd_layout.specs.Layouts.{Sectors, IsSlots, layout_of, entry, slot_count}
-use Rattle.vhd_layout.proofs.ExampleLemmas.{in_sector, sector_in}
+use Rattle.layout_examples.proofs.SmallImageLaws.{in_sector, sector_in}
 use Rattle.vhd_layout.proofs.ImageLaws.{content-of_head}
 use Rattle.vhd_map.specs.Places.{word}
 use Rattle.sm_stages.specs.WorkedImages.{between_footers}

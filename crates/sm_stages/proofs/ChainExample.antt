@@ -4,18 +4,18 @@ use Rattle.std.proofs.lemmas.Bool.{lt-ltb}
 use Rattle.sm_base.specs.declared.names.Name.{Name}
 use Rattle.sm_base.specs.declared.names.Name.TheVariants.{Mgt, Vhd, Old, Leaf, Relink}
 use Rattle.sm_disk.specs.Sectors.{zeros}
-use Rattle.sm_machine.specs.Lists.{In, numbers}
-use Rattle.vg_meta.specs.Tables.{Row, Listing, rows, row_of, name_eq}
+use Rattle.common_laws.specs.Lists.{In, numbers}
+use Rattle.vg_meta.specs.Tables.{Row, VolumeTable, rows, row_of, name_eq}
 use Rattle.vg_meta.proofs.NameLaws.{name_eq-true, name_eq-false}
 use Rattle.sm_standing.specs.Changes.{turns_of}
 use Rattle.sm_standing.specs.Contents.{Content, row}
-use Rattle.sm_standing.specs.Examples.{record_row}
-use Rattle.sm_standing.specs.Images.{Image, here, up, held_or, turn_of, image_of}
+use Rattle.standing_examples.specs.SmallContents.{record_row}
+use Rattle.sm_standing.specs.Images.{Image, here, up, held_or, answer_of, image_of}
 use Rattle.sm_standing.proofs.ImageLaws.{image_there}
-use Rattle.sm_standing.specs.Turns.{IsNoParent, IsOnlyChild, SameBut, renamed_turn}
+use Rattle.sm_standing.specs.Answering.{IsNoParent, SendsUpAlone, SameBut, renamed_answer}
 use Rattle.vhd_fields.specs.ParentNames.{IsParent}
 use Rattle.vhd_layout.specs.Contents.{size_at}
-use Rattle.vhd_layout.specs.Examples.{table_of, empty}
+use Rattle.layout_examples.specs.SmallImages.{table_of, empty}
 use Rattle.sm_stages.specs.Moments.{top, filled, child, empty_over}
 use Rattle.sm_stages.specs.Worked.{first, second, base, first_record, second_record, content_with, image_row, leaf_copied, leaf_area, fork_area, exchanged, filled_at, two_disks, uncopied, swapping_at, relink_table, relinking, relinked_at}
 use Rattle.sm_stages.specs.WorkedImages.{sector_of, top_image, filled_child, empty_child}
@@ -31,12 +31,12 @@ use Rattle.sm_stages.proofs.WorkedLaws.{top_valid, top_size, filled_valid, empty
 -- ---- turns
 
 turn_is : (c : Content) (n : Name) (s : ℕ) (i : Image) → image_of c n ≡ Some i → s < i.size → turns_of c s n ≡ held_or (i.own s) i.parent
-unfolding turn_of
-turn_is c n s i is below = ap (turn_of s) is ∙ ap (λ b. cond b (held_or (i.own s) i.parent) (here zeros)) (lt-ltb s i.size below)
+unfolding answer_of
+turn_is c n s i is below = ap (answer_of s) is ∙ ap (λ b. cond b (held_or (i.own s) i.parent) (here zeros)) (lt-ltb s i.size below)
 
 no_turn : (c : Content) (n : Name) (s : ℕ) → image_of c n ≡ None → turns_of c s n ≡ here zeros
-unfolding turn_of
-no_turn c n s is = ap (turn_of s) is
+unfolding answer_of
+no_turn c n s is = ap (answer_of s) is
 
 top_turn : (c : Content) (n : Name) (byte : ℕ) → image_of c n ≡ Some (top byte) → turns_of c 0 n ≡ here (sector_of byte)
 top_turn c n byte is = turn_is c n 0 (top byte) is (omega (arith, top_size byte)) ∙ ap (λ o. held_or o (top byte).parent) (top_held byte)
@@ -53,7 +53,7 @@ same_images : (a b : Content) (x : Name) → b.table ≡ a.table → ((r : Row) 
 same_images a b x table each n other = by (row a n) refl
   where
     by : (o : Option Row) → row a n ≡ o → image_of b n ≡ image_of a n
-    by None none = gone a b n none (ap (λ (t : Listing). rows t n) table ∙ none)
+    by None none = gone a b n none (ap (λ (t : VolumeTable). rows t n) table ∙ none)
     by (Some r) some =
         let w = named a.table.volumes n r some in
         ap (image_of b) w.1 ∙ each r w.0 (λ e. other (w.1 ∙ e)) ∙ ap (image_of a) (sym w.1)
@@ -142,7 +142,7 @@ is_unwritten = ap (λ t. content_with t (fork_area (first_record ∷ second_reco
 
 pub guest_others : SameBut (turns_of (filled_at 8) 0) (turns_of two_disks 0) (Vhd first)
 guest_others n other =
-    ap (λ c. turns_of c 0 n) is_pair ∙ ap (turn_of 0) (unwritten_others n other) ∙ ap (λ c. turns_of c 0 n) (sym is_unwritten)
+    ap (λ c. turns_of c 0 n) is_pair ∙ ap (answer_of 0) (unwritten_others n other) ∙ ap (λ c. turns_of c 0 n) (sym is_unwritten)
 
 pub guest_before : turns_of (filled_at 8) 0 (Vhd first) ≡ up (Vhd base)
 guest_before = ap (λ c. turns_of c 0 (Vhd first)) is_unwritten ∙ child_turn unwritten (Vhd first) unwritten_first
@@ -173,7 +173,7 @@ unfolding image_of
 entry_none c = refl
 
 -- at sector 0 the leaf answers, so nobody sends up
-pub copy_only : IsOnlyChild (turns_of uncopied 0) (Vhd first) (Vhd base)
+pub copy_only : SendsUpAlone (turns_of uncopied 0) (Vhd first) (Vhd base)
 copy_only n e = let w = sends uncopied 0 n (Vhd base) e in at w.0 w.1 w.2
   where
     at : (r : Row) → In r (leaf_copied).volumes → n ≡ r.name → n ≡ Vhd first
@@ -200,7 +200,7 @@ copied_others = same_images uncopied copied (Vhd base) refl each
     each r (inr (inr (inr (inr none)))) other = elim none [ ]
 
 pub copy_others : SameBut (turns_of uncopied 0) (turns_of (swapping_at 0) 0) (Vhd base)
-copy_others n other = ap (turn_of 0) (copied_others n other)
+copy_others n other = ap (answer_of 0) (copied_others n other)
 
 pub copy_before : turns_of uncopied 0 (Vhd base) ≡ here (sector_of 17)
 copy_before = top_turn uncopied (Vhd base) 17 uncopied_base
@@ -253,7 +253,7 @@ pub relink_after : turns_of (relinked_at 0) 0 (Vhd first) ≡ up (Vhd base)
 relink_after = child_turn linked (Vhd first) linked_over_base
 
 pub relink_others : SameBut (turns_of relinking 0) (turns_of (relinked_at 0) 0) (Vhd first)
-relink_others n other = ap (turn_of 0) (linked_others n other)
+relink_others n other = ap (answer_of 0) (linked_others n other)
 
 pub relink_past : turns_of relinking 0 (Vhd second) ≡ up (Vhd base)
 relink_past = over_empty relinking (Vhd second) base base_named hidden_before
@@ -306,19 +306,19 @@ renamed_none n other = by (image_of renamed n) refl
     by None none = none
     by (Some i) some = let w = image_there renamed n i some in let v = named (swap_2).volumes n w.0 w.1 in at w.0 v.0 v.1
 
-both_zeros : (n m : Name) → n ≢ Vhd base → m ≢ Vhd first → turns_of renamed 0 m ≡ renamed_turn exchanged (turns_of unnamed 0 n)
+both_zeros : (n m : Name) → n ≢ Vhd base → m ≢ Vhd first → turns_of renamed 0 m ≡ renamed_answer exchanged (turns_of unnamed 0 n)
 both_zeros n m other away =
-    no_turn renamed m 0 (renamed_none m away) ∙ ap (renamed_turn exchanged) (sym (no_turn unnamed n 0 (unnamed_none n other)))
+    no_turn renamed m 0 (renamed_none m away) ∙ ap (renamed_answer exchanged) (sym (no_turn unnamed n 0 (unnamed_none n other)))
 
 exchange : (n : Name) (b f : Bool) → name_eq n (Vhd base) ≡ b → name_eq n (Vhd first) ≡ f
-    → turns_of renamed 0 (cond b (Vhd first) (cond f (Vhd base) n)) ≡ renamed_turn exchanged (turns_of unnamed 0 n)
+    → turns_of renamed 0 (cond b (Vhd first) (cond f (Vhd base) n)) ≡ renamed_answer exchanged (turns_of unnamed 0 n)
 exchange n true f is at =
     let here_n = ap (turns_of unnamed 0) (name_eq-true n (Vhd base) is) ∙ top_turn unnamed (Vhd base) 34 unnamed_parent in
-    top_turn renamed (Vhd first) 34 renamed_parent ∙ ap (renamed_turn exchanged) (sym here_n)
+    top_turn renamed (Vhd first) 34 renamed_parent ∙ ap (renamed_answer exchanged) (sym here_n)
 exchange n false true is at = both_zeros n (Vhd base) (name_eq-false n (Vhd base) is) base_not_first
 exchange n false false is at = both_zeros n n (name_eq-false n (Vhd base) is) (name_eq-false n (Vhd first) at)
 
-exchanged_turns : (n : Name) → turns_of renamed 0 (exchanged n) ≡ renamed_turn exchanged (turns_of unnamed 0 n)
+exchanged_turns : (n : Name) → turns_of renamed 0 (exchanged n) ≡ renamed_answer exchanged (turns_of unnamed 0 n)
 unfolding exchanged
 exchanged_turns n = exchange n (name_eq n (Vhd base)) (name_eq n (Vhd first)) refl refl
 
@@ -328,9 +328,9 @@ is_unnamed = ap (λ t. content_with t (leaf_area 34)) is_swap_1
 is_renamed : swapping_at 2 ≡ renamed
 is_renamed = ap (λ t. content_with t (leaf_area 34)) is_swap_2
 
-pub rename_turns : (n : Name) → turns_of (swapping_at 2) 0 (exchanged n) ≡ renamed_turn exchanged (turns_of (swapping_at 1) 0 n)
+pub rename_turns : (n : Name) → turns_of (swapping_at 2) 0 (exchanged n) ≡ renamed_answer exchanged (turns_of (swapping_at 1) 0 n)
 rename_turns n =
-    ap (λ c. turns_of c 0 (exchanged n)) is_renamed ∙ exchanged_turns n ∙ ap (λ c. renamed_turn exchanged (turns_of c 0 n)) (sym is_unnamed)
+    ap (λ c. turns_of c 0 (exchanged n)) is_renamed ∙ exchanged_turns n ∙ ap (λ c. renamed_answer exchanged (turns_of c 0 n)) (sym is_unnamed)
 
 pub rename_before : turns_of (swapping_at 1) 0 (Vhd base) ≡ here (sector_of 34)
 rename_before = ap (λ c. turns_of c 0 (Vhd base)) is_unnamed ∙ top_turn unnamed (Vhd base) 34 unnamed_parent

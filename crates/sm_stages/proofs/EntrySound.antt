@@ -5,16 +5,16 @@ use Rattle.sm_base.specs.Names.{is_base}
 use Rattle.sm_base.specs.Numbers.{div_up}
 use Rattle.sm_base.specs.declared.names.Name.TheVariants.{Vhd, Raw, Clone, Relink, Leaf}
 use Rattle.vg_layout.specs.Places.{record_extents}
-use Rattle.vg_meta.specs.Tables.{Row, Listing, rows, row_of, name_eq}
-use Rattle.sm_machine.specs.Lists.{◌>>=◌, numbers}
+use Rattle.vg_meta.specs.Tables.{Row, VolumeTable, rows, row_of, name_eq}
+use Rattle.common_laws.specs.Lists.{◌>>=◌, numbers}
 use Rattle.sm_machine.specs.Shapes.{same_image}
 use Rattle.sm_record.specs.declared.records.Record.{Record}
-use Rattle.vhd_layout.specs.Examples.{table_of, empty}
+use Rattle.layout_examples.specs.SmallImages.{table_of, empty}
 use Rattle.sm_standing.specs.Checks.{first_fault, children, chain_length, is_misplaced, record_fault, first_name, record_volume_fault, too_many_fault, misnamed_fault, second_entry_fault, lost_entry_fault, old_leaf_fault, parent_is, of_image, has_such_parent, children_with, is_base_of, is_entry_linked}
 use Rattle.sm_standing.specs.Contents.{Content, records}
 use Rattle.sm_standing.specs.Entries.{making, image_with, is_at_stage, is_fork_made, is_leaf_copied, is_leaf_renamed, is_leaf_swapped}
 use Rattle.sm_standing.specs.Images.{Image, image_of, vhd_image, image_extents}
-use Rattle.sm_standing.specs.Standing.{stands, uuids, with_uuid, in_order}
+use Rattle.sm_standing.specs.Standing.{standing_volume, uuids, with_uuid, in_order}
 use Rattle.sm_stages.specs.Moments.{top, filled, child, empty_over}
 use Rattle.sm_stages.specs.Worked.{first, second, base, first_record, second_record, content_with, image_row, fork_area, leaf_copied, leaf_area, uncopied, swap_area, relink_table, relinking, relinked_at, forking_at, filled_at, swapping_at}
 use Rattle.sm_stages.specs.WorkedImages.{top_image, filled_child, empty_child}
@@ -39,7 +39,7 @@ unfolding image_of
 unfilled c u place is = ap (λ (o : Option Row). o >>= (λ r. if r.fresh then None else vhd_image c (Vhd u) r)) is
 
 -- the new images of a fork, and the children of its base
-abbrev fork_right : Listing → Option Image → Option Image → List Row → Bool
+abbrev fork_right : VolumeTable → Option Image → Option Image → List Row → Bool
 fork_right t o p rs =
     not (is_fork_made t first base second)
     || (is_base_of base o && (is_base_of base p && (length (filter (λ (r : Row). not (same_image r.name (Vhd first) || same_image r.name (Vhd second))) rs) == 0)))
@@ -54,7 +54,7 @@ fork_linked c o p os are is_first is_second right =
     ∙ ap not right
 
 -- the image of a leaf, and the children of its parent and of the leaf
-abbrev leaf_right : Listing → Option Image → List Row → List Row → Bool
+abbrev leaf_right : VolumeTable → Option Image → List Row → List Row → Bool
 leaf_right t o below above =
     if is_leaf_copied t first base then parent_is (Vhd base) o && (length below == 1)
     else if is_leaf_renamed t first base then length below == 0
@@ -72,24 +72,24 @@ leaf_linked c o os are is_first right =
 
 -- ---- the fork
 
-abbrev early : Listing → Content
+abbrev early : VolumeTable → Content
 early t = content_with t (fork_area (first_record ∷ []))
 
-abbrev late : Listing → Content
+abbrev late : VolumeTable → Content
 late t = content_with t (fork_area (first_record ∷ second_record ∷ []))
 
 -- without a parent
-written_top : (t : Listing) (rs : List Record) (u : List ℕ) (hidden : Bool) → rows t (Vhd u) ≡ Some (image_row hidden (Vhd u) 16) → image_extents (making t) (Vhd u) 5 ≡ 5
+written_top : (t : VolumeTable) (rs : List Record) (u : List ℕ) (hidden : Bool) → rows t (Vhd u) ≡ Some (image_row hidden (Vhd u) 16) → image_extents (making t) (Vhd u) 5 ≡ 5
     → image_of (content_with t (fork_area rs)) (Vhd u) ≡ Some (written_out None (top 17))
 written_top t rs u hidden there whole = saying_top (content_with t (fork_area rs)) (Vhd u) 17 (disk_image t rs u hidden (Vhd u) there whole)
 
-early_undamaged : (t : Listing) → HasRecords t → record_fault (early t) ≡ None
+early_undamaged : (t : VolumeTable) → HasRecords t → record_fault (early t) ≡ None
 early_undamaged t there = one_undamaged t (top_image 17) (empty_child (Vhd base)) (empty_child (Vhd base)) first_record there first_right
 
-late_undamaged : (t : Listing) → HasRecords t → record_fault (late t) ≡ None
+late_undamaged : (t : VolumeTable) → HasRecords t → record_fault (late t) ≡ None
 late_undamaged t there = two_undamaged t (top_image 17) (empty_child (Vhd base)) (empty_child (Vhd base)) first_record second_record there first_right second_right
 
-early_records : (t : Listing) → HasRecords t → records (early t) ≡ first_record ∷ []
+early_records : (t : VolumeTable) → HasRecords t → records (early t) ≡ first_record ∷ []
 early_records t there = one_record t (top_image 17) (empty_child (Vhd base)) (empty_child (Vhd base)) first_record there first_right
 
 -- the entry was made
@@ -102,7 +102,7 @@ unfolding image_of
 images_1 = ap (λ o. None ∷ o ∷ None ∷ []) first_1
 
 sound_1 : first_fault (early fork_1) ≡ None
-unfolding record_volume_fault too_many_fault misnamed_fault second_entry_fault lost_entry_fault old_leaf_fault first_name is_at_stage is_entry_linked row_of name_eq is_base numbers record_extents div_up same_image stands uuids with_uuid in_order image_with
+unfolding record_volume_fault too_many_fault misnamed_fault second_entry_fault lost_entry_fault old_leaf_fault first_name is_at_stage is_entry_linked row_of name_eq is_base numbers record_extents div_up same_image standing_volume uuids with_uuid in_order image_with
 sound_1 = sound (early fork_1) (record {
   table = refl;
   invalid = (refl, (ap is_none first_1, (refl, tt)));
@@ -125,7 +125,7 @@ unfolding image_of
 images_2 = ap (λ o. None ∷ o ∷ None ∷ []) base_2
 
 sound_2 : first_fault (early fork_2) ≡ None
-unfolding record_volume_fault too_many_fault misnamed_fault second_entry_fault lost_entry_fault old_leaf_fault first_name is_at_stage is_entry_linked row_of name_eq is_base numbers record_extents div_up same_image stands uuids with_uuid in_order image_with
+unfolding record_volume_fault too_many_fault misnamed_fault second_entry_fault lost_entry_fault old_leaf_fault first_name is_at_stage is_entry_linked row_of name_eq is_base numbers record_extents div_up same_image standing_volume uuids with_uuid in_order image_with
 sound_2 = sound (early fork_2) (record {
   table = refl;
   invalid = (refl, (ap is_none base_2, (refl, tt)));
@@ -148,7 +148,7 @@ unfolding image_of
 images_3 = ap (λ o. None ∷ o ∷ None ∷ []) base_3
 
 sound_3 : first_fault (early fork_3) ≡ None
-unfolding record_volume_fault too_many_fault misnamed_fault second_entry_fault lost_entry_fault old_leaf_fault first_name is_at_stage is_entry_linked row_of name_eq is_base numbers record_extents div_up same_image stands uuids with_uuid in_order image_with
+unfolding record_volume_fault too_many_fault misnamed_fault second_entry_fault lost_entry_fault old_leaf_fault first_name is_at_stage is_entry_linked row_of name_eq is_base numbers record_extents div_up same_image standing_volume uuids with_uuid in_order image_with
 sound_3 = sound (early fork_3) (record {
   table = refl;
   invalid = (refl, (ap is_none base_3, (refl, tt)));
@@ -175,7 +175,7 @@ unfolding image_of
 images_4 = ap₂ (λ o q. None ∷ o ∷ q ∷ None ∷ []) first_4 base_4
 
 sound_4 : first_fault (early fork_4) ≡ None
-unfolding record_volume_fault too_many_fault misnamed_fault second_entry_fault lost_entry_fault old_leaf_fault first_name is_at_stage is_entry_linked row_of name_eq is_base numbers record_extents div_up same_image stands uuids with_uuid in_order image_with
+unfolding record_volume_fault too_many_fault misnamed_fault second_entry_fault lost_entry_fault old_leaf_fault first_name is_at_stage is_entry_linked row_of name_eq is_base numbers record_extents div_up same_image standing_volume uuids with_uuid in_order image_with
 sound_4 = sound (early fork_4) (record {
   table = refl;
   invalid = (refl, (refl, (ap is_none base_4, (refl, tt))));
@@ -206,7 +206,7 @@ unfolding image_of
 images_5 = ap₃ (λ o p q. None ∷ o ∷ p ∷ q ∷ None ∷ []) first_5 second_5 base_5
 
 sound_5 : first_fault (early fork_5) ≡ None
-unfolding record_volume_fault too_many_fault misnamed_fault second_entry_fault lost_entry_fault old_leaf_fault first_name is_at_stage is_entry_linked row_of name_eq is_base numbers record_extents div_up same_image stands uuids with_uuid in_order image_with
+unfolding record_volume_fault too_many_fault misnamed_fault second_entry_fault lost_entry_fault old_leaf_fault first_name is_at_stage is_entry_linked row_of name_eq is_base numbers record_extents div_up same_image standing_volume uuids with_uuid in_order image_with
 sound_5 = sound (early fork_5) (record {
   table = refl;
   invalid = (refl, (refl, (refl, (ap is_none base_5, (refl, tt)))));
@@ -237,7 +237,7 @@ unfolding image_of
 images_6 = ap₃ (λ o p q. None ∷ o ∷ p ∷ q ∷ None ∷ []) first_6 second_6 base_6
 
 sound_6 : first_fault (late fork_6) ≡ None
-unfolding record_volume_fault too_many_fault misnamed_fault second_entry_fault lost_entry_fault old_leaf_fault first_name is_at_stage is_entry_linked row_of name_eq is_base numbers record_extents div_up same_image stands uuids with_uuid in_order image_with
+unfolding record_volume_fault too_many_fault misnamed_fault second_entry_fault lost_entry_fault old_leaf_fault first_name is_at_stage is_entry_linked row_of name_eq is_base numbers record_extents div_up same_image standing_volume uuids with_uuid in_order image_with
 sound_6 = sound (late fork_6) (record {
   table = refl;
   invalid = (refl, (ap is_none first_6, (refl, (ap is_none base_6, (refl, tt)))));
@@ -268,7 +268,7 @@ unfolding image_of
 images_7 = ap₃ (λ o p q. None ∷ o ∷ p ∷ q ∷ None ∷ []) first_7 second_7 base_7
 
 sound_7 : first_fault (late fork_7) ≡ None
-unfolding record_volume_fault too_many_fault misnamed_fault second_entry_fault lost_entry_fault old_leaf_fault first_name is_at_stage is_entry_linked row_of name_eq is_base numbers record_extents div_up same_image stands uuids with_uuid in_order image_with
+unfolding record_volume_fault too_many_fault misnamed_fault second_entry_fault lost_entry_fault old_leaf_fault first_name is_at_stage is_entry_linked row_of name_eq is_base numbers record_extents div_up same_image standing_volume uuids with_uuid in_order image_with
 sound_7 = sound (late fork_7) (record {
   table = refl;
   invalid = (refl, (ap is_none first_7, (ap is_none second_7, (ap is_none base_7, (refl, tt)))));
@@ -283,18 +283,18 @@ twin_filled_sound = ap (λ t. first_fault (late t)) is_fork_7 ∙ sound_7
 
 -- ---- the swap
 
-abbrev swap_at : Listing → Content
+abbrev swap_at : VolumeTable → Content
 swap_at t = content_with t swap_area
 
 -- the parent, under whatever name
-written_parent : (t : Listing) (u : List ℕ) (hidden : Bool) → rows t (Vhd u) ≡ Some (image_row hidden (Vhd u) 16) → image_extents (making t) (Vhd u) 5 ≡ 5
+written_parent : (t : VolumeTable) (u : List ℕ) (hidden : Bool) → rows t (Vhd u) ≡ Some (image_row hidden (Vhd u) 16) → image_extents (making t) (Vhd u) 5 ≡ 5
     → image_of (swap_at t) (Vhd u) ≡ Some (written_out None (top 34))
 written_parent t u hidden there whole = saying_top (swap_at t) (Vhd u) 34 (parent_image t u hidden (Vhd u) there whole)
 
-leaf_undamaged : (t : Listing) (byte : ℕ) → HasRecords t → record_fault (content_with t (leaf_area byte)) ≡ None
+leaf_undamaged : (t : VolumeTable) (byte : ℕ) → HasRecords t → record_fault (content_with t (leaf_area byte)) ≡ None
 leaf_undamaged t byte there = one_undamaged t (top_image byte) (filled_child (Vhd base) 34) (empty_child (Vhd base)) first_record there first_right
 
-leaf_records : (t : Listing) (byte : ℕ) → HasRecords t → records (content_with t (leaf_area byte)) ≡ first_record ∷ []
+leaf_records : (t : VolumeTable) (byte : ℕ) → HasRecords t → records (content_with t (leaf_area byte)) ≡ first_record ∷ []
 leaf_records t byte there = one_record t (top_image byte) (filled_child (Vhd base) 34) (empty_child (Vhd base)) first_record there first_right
 
 -- before the swap, whatever byte the parent's sector is of
@@ -308,7 +308,7 @@ leaf_images byte leaf parent = ap₂ (λ o p. None ∷ o ∷ p ∷ None ∷ []) 
 
 leaf_sound : (byte : ℕ) → image_of (leaf_at byte) (Vhd first) ≡ Some (written_out (Some (Vhd base)) (filled 34)) → image_of (leaf_at byte) (Vhd base) ≡ Some (written_out None (top byte))
     → first_fault (leaf_at byte) ≡ None
-unfolding record_volume_fault too_many_fault misnamed_fault second_entry_fault lost_entry_fault old_leaf_fault first_name is_at_stage is_entry_linked row_of name_eq is_base numbers record_extents div_up same_image stands uuids with_uuid in_order image_with
+unfolding record_volume_fault too_many_fault misnamed_fault second_entry_fault lost_entry_fault old_leaf_fault first_name is_at_stage is_entry_linked row_of name_eq is_base numbers record_extents div_up same_image standing_volume uuids with_uuid in_order image_with
 leaf_sound byte leaf parent = sound (leaf_at byte) (record {
   table = refl;
   invalid = (refl, (ap is_none leaf, (ap is_none parent, (refl, tt))));
@@ -337,7 +337,7 @@ unfolding image_of
 swap_images_1 = ap (λ o. None ∷ None ∷ o ∷ None ∷ []) parent_1
 
 swap_sound_1 : first_fault (swap_at swap_1) ≡ None
-unfolding record_volume_fault too_many_fault misnamed_fault second_entry_fault lost_entry_fault old_leaf_fault first_name is_at_stage is_entry_linked row_of name_eq is_base numbers record_extents div_up same_image stands uuids with_uuid in_order image_with
+unfolding record_volume_fault too_many_fault misnamed_fault second_entry_fault lost_entry_fault old_leaf_fault first_name is_at_stage is_entry_linked row_of name_eq is_base numbers record_extents div_up same_image standing_volume uuids with_uuid in_order image_with
 swap_sound_1 = sound (swap_at swap_1) (record {
   table = refl;
   invalid = (refl, (refl, (ap is_none parent_1, (refl, tt))));
@@ -360,7 +360,7 @@ unfolding image_of
 swap_images_2 = ap (λ o. None ∷ None ∷ o ∷ None ∷ []) parent_2
 
 swap_sound_2 : first_fault (swap_at swap_2) ≡ None
-unfolding record_volume_fault too_many_fault misnamed_fault second_entry_fault lost_entry_fault old_leaf_fault first_name is_at_stage is_entry_linked row_of name_eq is_base numbers record_extents div_up same_image stands uuids with_uuid in_order image_with
+unfolding record_volume_fault too_many_fault misnamed_fault second_entry_fault lost_entry_fault old_leaf_fault first_name is_at_stage is_entry_linked row_of name_eq is_base numbers record_extents div_up same_image standing_volume uuids with_uuid in_order image_with
 swap_sound_2 = sound (swap_at swap_2) (record {
   table = refl;
   invalid = (refl, (refl, (ap is_none parent_2, (refl, tt))));
@@ -383,7 +383,7 @@ unfolding image_of
 swap_images_3 = ap (λ o. None ∷ None ∷ o ∷ None ∷ []) parent_3
 
 swap_sound_3 : first_fault (swap_at swap_3) ≡ None
-unfolding record_volume_fault too_many_fault misnamed_fault second_entry_fault lost_entry_fault old_leaf_fault first_name is_at_stage is_entry_linked row_of name_eq is_base numbers record_extents div_up same_image stands uuids with_uuid in_order image_with
+unfolding record_volume_fault too_many_fault misnamed_fault second_entry_fault lost_entry_fault old_leaf_fault first_name is_at_stage is_entry_linked row_of name_eq is_base numbers record_extents div_up same_image standing_volume uuids with_uuid in_order image_with
 swap_sound_3 = sound (swap_at swap_3) (record {
   table = refl;
   invalid = (refl, (refl, (ap is_none parent_3, (refl, tt))));
@@ -406,7 +406,7 @@ unfolding image_of
 swap_images_4 = ap (λ o. None ∷ o ∷ None ∷ []) parent_4
 
 swap_sound_4 : first_fault (swap_at swap_4) ≡ None
-unfolding record_volume_fault too_many_fault misnamed_fault second_entry_fault lost_entry_fault old_leaf_fault first_name is_at_stage is_entry_linked row_of name_eq is_base numbers record_extents div_up same_image stands uuids with_uuid in_order image_with
+unfolding record_volume_fault too_many_fault misnamed_fault second_entry_fault lost_entry_fault old_leaf_fault first_name is_at_stage is_entry_linked row_of name_eq is_base numbers record_extents div_up same_image standing_volume uuids with_uuid in_order image_with
 swap_sound_4 = sound (swap_at swap_4) (record {
   table = refl;
   invalid = (refl, (ap is_none parent_4, (refl, tt)));
@@ -447,7 +447,7 @@ relink_linked c hidden below =
     ∙ ap (λ o. not (of_image (λ (p : Image). nat_le 128 p.size) o)) below
 
 pub relink_sound : first_fault relinking ≡ None
-unfolding record_volume_fault too_many_fault misnamed_fault second_entry_fault lost_entry_fault old_leaf_fault first_name is_at_stage is_entry_linked row_of name_eq is_base numbers record_extents div_up same_image stands uuids with_uuid in_order image_with
+unfolding record_volume_fault too_many_fault misnamed_fault second_entry_fault lost_entry_fault old_leaf_fault first_name is_at_stage is_entry_linked row_of name_eq is_base numbers record_extents div_up same_image standing_volume uuids with_uuid in_order image_with
 relink_sound = sound relinking (record {
   table = refl;
   invalid = (refl, (ap is_none relink_first, (ap is_none relink_second, (ap is_none relink_base, (refl, tt)))));
@@ -475,7 +475,7 @@ unfolding image_of
 linked_images = ap₃ (λ o p q. None ∷ o ∷ p ∷ q ∷ None ∷ []) linked_first linked_second linked_base
 
 pub linked_sound : first_fault (relinked_at 0) ≡ None
-unfolding record_volume_fault too_many_fault misnamed_fault second_entry_fault lost_entry_fault old_leaf_fault first_name is_at_stage is_entry_linked row_of name_eq is_base numbers record_extents div_up same_image stands uuids with_uuid in_order image_with
+unfolding record_volume_fault too_many_fault misnamed_fault second_entry_fault lost_entry_fault old_leaf_fault first_name is_at_stage is_entry_linked row_of name_eq is_base numbers record_extents div_up same_image standing_volume uuids with_uuid in_order image_with
 linked_sound = sound (early relink_table) (record {
   table = refl;
   invalid = (refl, (ap is_none linked_first, (ap is_none linked_second, (ap is_none linked_base, (refl, tt)))));

@@ -3,23 +3,24 @@ use Rattle.std.proofs.Common.{◌≡◌, ◌≢◌, inl, inr, All, ℕ, ◌+◌,
 use Rattle.std.proofs.lemmas.Bool.{ltb-true}
 use Rattle.std.proofs.lemmas.List.Elements.{All-nil, All-cons}
 use Rattle.std.specs.List.{find, list_all}
+use Rattle.common_laws.proofs.Bytes.{bytes_eq-same}
 use Rattle.sm_base.specs.Names.{IsName}
 use Rattle.sm_base.specs.declared.names.Name.{Name}
 use Rattle.sm_base.specs.declared.names.Name.TheVariants.{Mgt, Vhd, Clone}
-use Rattle.sm_machine.specs.Lists.{In, numbers, ◌>>=◌}
+use Rattle.common_laws.specs.Lists.{In, numbers, ◌>>=◌}
 use Rattle.sm_record.specs.declared.records.Record.{Record}
 use Rattle.sm_record.specs.Records.{IsRecord}
-use Rattle.vg_meta.specs.Tables.{Row, Listing, rows, row_of, name_eq}
-use Rattle.vg_meta.proofs.NameLaws.{name_eq-true, same}
+use Rattle.vg_meta.specs.Tables.{Row, VolumeTable, rows, row_of, name_eq}
+use Rattle.vg_meta.proofs.NameLaws.{name_eq-true}
 use Rattle.vhd_fields.specs.ParentNames.{IsParent}
 use Rattle.vhd_layout.specs.Contents.{size_at}
-use Rattle.vhd_layout.specs.Examples.{table_of, empty}
+use Rattle.layout_examples.specs.SmallImages.{table_of, empty}
 use Rattle.sm_standing.specs.Changes.{parent_of}
 use Rattle.sm_standing.specs.Contents.{Content, records, record_of, is_record_of}
 use Rattle.sm_standing.specs.Entries.{making, folding, head, image_with}
-use Rattle.sm_standing.specs.Examples.{record_row}
+use Rattle.standing_examples.specs.SmallContents.{record_row}
 use Rattle.sm_standing.specs.Images.{Image, image_of, image_extents}
-use Rattle.sm_standing.specs.Standing.{stands}
+use Rattle.sm_standing.specs.Standing.{standing_volume}
 use Rattle.sm_standing.proofs.DisksShown.{row_of-In}
 use Rattle.sm_standing.proofs.ImageLaws.{image_there}
 use Rattle.sm_standing.proofs.WalkLaws.{depth_top}
@@ -60,19 +61,19 @@ second_right = record {
 
 -- ---- images
 
-pub disk_image : (t : Listing) (rs : List Record) (u : List ℕ) (hidden : Bool) (name : Name) → rows t (Vhd u) ≡ Some (image_row hidden name 16)
+pub disk_image : (t : VolumeTable) (rs : List Record) (u : List ℕ) (hidden : Bool) (name : Name) → rows t (Vhd u) ≡ Some (image_row hidden name 16)
     → image_extents (making t) (Vhd u) 5 ≡ 5 → image_of (content_with t (fork_area rs)) (Vhd u) ≡ Some (top 17)
 disk_image t rs u hidden name there whole =
     placed_image t (fork_area rs) u hidden 16 name (top_image 17) there whole
     (λ s below. area_first (top_image 17) (empty_child (Vhd base)) (empty_child (Vhd base)) rs (32 * 16 + s) s refl below) (top_valid 17)
 
-pub first_child : (t : Listing) (rs : List Record) (name : Name) → rows t (Vhd first) ≡ Some (image_row false name 21)
+pub first_child : (t : VolumeTable) (rs : List Record) (name : Name) → rows t (Vhd first) ≡ Some (image_row false name 21)
     → image_extents (making t) (Vhd first) 5 ≡ 5 → image_of (content_with t (fork_area rs)) (Vhd first) ≡ Some child
 first_child t rs name there whole =
     placed_image t (fork_area rs) first false 21 name (empty_child (Vhd base)) there whole
     (λ s below. area_second (top_image 17) (empty_child (Vhd base)) (empty_child (Vhd base)) rs (32 * 21 + s) s refl below) (empty_valid (Vhd base) base_named)
 
-pub second_child : (t : Listing) (rs : List Record) (hidden : Bool) (name : Name) → rows t (Vhd second) ≡ Some (image_row hidden name 26)
+pub second_child : (t : VolumeTable) (rs : List Record) (hidden : Bool) (name : Name) → rows t (Vhd second) ≡ Some (image_row hidden name 26)
     → image_extents (making t) (Vhd second) 5 ≡ 5 → image_of (content_with t (fork_area rs)) (Vhd second) ≡ Some child
 second_child t rs hidden name there whole =
     placed_image t (fork_area rs) second hidden 26 name (empty_child (Vhd base)) there whole
@@ -120,7 +121,7 @@ no_parents m p is = by (image_of unforked m) refl
     by (Some i) some = let w = image_there unforked m i some in at w.0 (named (one_disk).volumes m w.0 w.1)
 
 pub forkable : IsForkable unforked first base second (Vhd first) (top 17)
-unfolding stands row_of name_eq
+unfolding standing_volume row_of name_eq
 forkable = record {
   stood = refl;
   image = unforked_image;
@@ -134,14 +135,14 @@ forkable = record {
 
 -- ---- its records
 
-abbrev pub HasRecords : Listing → Type 0
+abbrev pub HasRecords : VolumeTable → Type 0
 HasRecords t = rows t Mgt ≡ Some (record_row (numbers 0 16))
 
 pub unforked_records : records unforked ≡ first_record ∷ []
 unfolding row_of name_eq
 unforked_records = one_record one_disk (top_image 17) (empty_child (Vhd base)) (empty_child (Vhd base)) first_record refl first_right
 
-pub recorded_one : (t : Listing) → HasRecords t → (u : List ℕ) → record_of (content_with t (fork_area (first_record ∷ []))) u ≡ record_of unforked u
+pub recorded_one : (t : VolumeTable) → HasRecords t → (u : List ℕ) → record_of (content_with t (fork_area (first_record ∷ []))) u ≡ record_of unforked u
 recorded_one t there u =
     ap (find (is_record_of u)) (one_record t (top_image 17) (empty_child (Vhd base)) (empty_child (Vhd base)) first_record there first_right ∙ sym unforked_records)
 
@@ -149,14 +150,14 @@ differs : (u v : List ℕ) → u ≢ v → bytes_eq v u ≡ false
 differs u v other = by (bytes_eq v u) refl
   where
     by : (b : Bool) → bytes_eq v u ≡ b → b ≡ false
-    by true is = absurd (other (sym (same v u is)))
-    by false same = refl
+    by true is = absurd (other (sym (bytes_eq-same v u is)))
+    by false _ = refl
 
-pub records_two : (t : Listing) → HasRecords t → records (content_with t (fork_area (first_record ∷ second_record ∷ []))) ≡ first_record ∷ second_record ∷ []
+pub records_two : (t : VolumeTable) → HasRecords t → records (content_with t (fork_area (first_record ∷ second_record ∷ []))) ≡ first_record ∷ second_record ∷ []
 records_two t there =
     two_records t (top_image 17) (empty_child (Vhd base)) (empty_child (Vhd base)) first_record second_record there first_right second_right
 
-recorded_two : (t : Listing) → HasRecords t → (u : List ℕ) → u ≢ second → record_of (content_with t (fork_area (first_record ∷ second_record ∷ []))) u ≡ record_of unforked u
+recorded_two : (t : VolumeTable) → HasRecords t → (u : List ℕ) → u ≢ second → record_of (content_with t (fork_area (first_record ∷ second_record ∷ []))) u ≡ record_of unforked u
 recorded_two t there u other =
     ap (find (is_record_of u)) (records_two t there)
     ∙ ap (λ b. cond (bytes_eq first u) (Some first_record) (cond b (Some second_record) None)) (differs u second other)
@@ -167,7 +168,7 @@ recorded_two t there u other =
 abbrev us : List (List ℕ)
 us = forked first base second
 
-moment : (t : Listing) (rs : List Record) (u : List ℕ) → head (making t) ≡ Some (Clone first base second) → folding t ≡ []
+moment : (t : VolumeTable) (rs : List Record) (u : List ℕ) → head (making t) ≡ Some (Clone first base second) → folding t ≡ []
     → apart_rows us t.volumes ≡ record_row (numbers 0 16) ∷ [] → IsForkPlace t first base (Vhd u)
     → image_of (content_with t (fork_area rs)) (Vhd u) ≡ Some (top 17)
     → ((v : List ℕ) → v ≢ second → record_of (content_with t (fork_area rs)) v ≡ record_of unforked v)
@@ -216,7 +217,7 @@ unfolding row_of name_eq image_with
 moment_7 = subst (λ t. IsForking unforked (content_with t (fork_area (first_record ∷ second_record ∷ []))) first base second (Vhd first) (Vhd base)) (sym is_fork_7)
     (moment fork_7 (first_record ∷ second_record ∷ []) base refl refl refl (inr refl) (disk_image fork_7 (first_record ∷ second_record ∷ []) base true (Vhd base) refl refl) (recorded_two fork_7 refl))
 
-abbrev forked_content : Listing → Content
+abbrev forked_content : VolumeTable → Content
 forked_content t = content_with t (fork_area (first_record ∷ second_record ∷ []))
 
 ended_8 : IsForked unforked (forked_content fork_8) first base second (Vhd first) (Vhd base) (top 17) child child second_record

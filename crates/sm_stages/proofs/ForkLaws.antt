@@ -1,24 +1,26 @@
 -- A fork: the disk of each UUID while the entry is there, and afterwards.
 use Rattle.std.proofs.Common.{◌≡◌, ◌≢◌, ◌⊎◌, inl, inr, ℕ, ◌<◌, ◌||◌, Bool, true, false, cond, List, Option, Some, None, refl, sym, ap, ap₂, ◌∙◌, subst, arith, bytes_eq}
 use Rattle.std.proofs.lemmas.Slice.Eq.{bytes_eq-Decides}
+use Rattle.std.proofs.lemmas.Bool.{or_right}
+use Rattle.common_laws.proofs.Bytes.{bytes_eq-refl, bytes_eq-apart}
 use Rattle.sm_base.specs.declared.names.Name.{Name}
 use Rattle.sm_base.specs.declared.names.Name.TheVariants.{Vhd, Raw, Clone}
 use Rattle.sm_record.specs.declared.records.Record.{Record}
-use Rattle.vg_meta.specs.Tables.{Listing}
+use Rattle.vg_meta.specs.Tables.{VolumeTable}
 use Rattle.sm_machine.specs.Disks.{Disk, with_disk}
-use Rattle.sm_machine.specs.Lists.{◌>>=◌}
-use Rattle.sm_standing.specs.Changes.{parent_of, IsShort}
+use Rattle.common_laws.specs.Lists.{◌>>=◌}
+use Rattle.sm_standing.specs.Changes.{parent_of, IsShortChain}
 use Rattle.sm_standing.specs.Checks.{depth}
 use Rattle.sm_standing.specs.Contents.{Content, record_of}
 use Rattle.sm_standing.specs.Entries.{folding, head, image_with, is_among, is_visible}
 use Rattle.sm_standing.specs.Images.{Image, sectors_read}
-use Rattle.sm_standing.specs.Standing.{stands, stands_plainly, stands_forked, disks, disk_at, disk_in}
+use Rattle.sm_standing.specs.Standing.{standing_volume, stands_plainly, stands_forked, disks, disk_at, disk_in}
 use Rattle.sm_standing.proofs.DiskLists.{disks_same, disks_more}
 use Rattle.sm_standing.proofs.ImageLaws.{moved_disk, copied, parent-is}
 use Rattle.sm_standing.proofs.WalkLaws.{depth_up}
 use Rattle.sm_stages.specs.Apart.{is_apart, IsEmptyOver}
 use Rattle.sm_stages.specs.Forks.{forked, IsForkable, IsForkPlace, IsForking, IsForked}
-use Rattle.sm_stages.proofs.ApartLaws.{beside, stands_making, stands_beside, beside_same, under_plain, under_apart, plain_apart, IsEntryApart, IsClosedApart, reads_moved, depth_moved, sectors_moved, sectors_sized, no_disk, none_disk, empty_copied, other_among, self, other_disk}
+use Rattle.sm_stages.proofs.ApartLaws.{beside, stands_making, stands_beside, beside_same, under_plain, under_apart, plain_apart, IsEntryApart, IsClosedApart, reads_moved, depth_moved, sectors_moved, sectors_sized, no_disk, none_disk, empty_copied, other_among, other_disk}
 
 -- ---- which UUID
 
@@ -36,28 +38,24 @@ pub which : (disk base twin u : List ℕ) → Which disk base twin u
 which disk base twin u = which-by disk base twin u (bytes_eq disk u) (bytes_eq base u) (bytes_eq twin u) refl refl refl
 
 disk_among : (disk base twin : List ℕ) → is_among (forked disk base twin) disk ≡ true
-disk_among disk base twin = ap (λ d. d || (bytes_eq base disk || (bytes_eq twin disk || false))) (self disk)
-
-or_true : (d r : Bool) → r ≡ true → (d || r) ≡ true
-or_true true r is = refl
-or_true false r is = is
+disk_among disk base twin = ap (λ d. d || (bytes_eq base disk || (bytes_eq twin disk || false))) (bytes_eq-refl disk)
 
 base_among : (disk base twin : List ℕ) → is_among (forked disk base twin) base ≡ true
-base_among disk base twin = or_true (bytes_eq disk base) (bytes_eq base base || (bytes_eq twin base || false)) (ap (λ b. b || (bytes_eq twin base || false)) (self base))
+base_among disk base twin = or_right (bytes_eq disk base) (bytes_eq base base || (bytes_eq twin base || false)) (ap (λ b. b || (bytes_eq twin base || false)) (bytes_eq-refl base))
 
 twin_among : (disk base twin : List ℕ) → is_among (forked disk base twin) twin ≡ true
 twin_among disk base twin =
-    or_true (bytes_eq disk twin) (bytes_eq base twin || (bytes_eq twin twin || false))
-    (or_true (bytes_eq base twin) (bytes_eq twin twin || false) (ap (λ t. t || false) (self twin)))
+    or_right (bytes_eq disk twin) (bytes_eq base twin || (bytes_eq twin twin || false))
+    (or_right (bytes_eq base twin) (bytes_eq twin twin || false) (ap (λ t. t || false) (bytes_eq-refl twin)))
 
 -- ---- where it stands under the entry
 
-fork_disk : (t : Listing) (disk base twin : List ℕ) (plainly : Option Name)
+fork_disk : (t : VolumeTable) (disk base twin : List ℕ) (plainly : Option Name)
     → stands_forked t (Clone disk base twin) disk plainly ≡ elim (image_with t base) [ None ↦ plainly | Some b ↦ Some b ]
 fork_disk t disk base twin plainly =
-    ap (λ s. cond s (elim (image_with t base) [ None ↦ plainly | Some b ↦ Some b ]) (cond (bytes_eq disk base || bytes_eq disk twin) None plainly)) (self disk)
+    ap (λ s. cond s (elim (image_with t base) [ None ↦ plainly | Some b ↦ Some b ]) (cond (bytes_eq disk base || bytes_eq disk twin) None plainly)) (bytes_eq-refl disk)
 
-fork_other : (t : Listing) (disk base twin u : List ℕ) (plainly : Option Name) → is_among (forked disk base twin) u ≡ false
+fork_other : (t : VolumeTable) (disk base twin u : List ℕ) (plainly : Option Name) → is_among (forked disk base twin) u ≡ false
     → stands_forked t (Clone disk base twin) u plainly ≡ plainly
 fork_other t disk base twin u plainly other =
     ap (λ s. cond s (elim (image_with t base) [ None ↦ plainly | Some b ↦ Some b ]) (cond (bytes_eq u base || bytes_eq u twin) None plainly))
@@ -70,22 +68,15 @@ new_by true w there plainly off on = absurd (let e = off in cc)
 new_by false true there plainly off on = refl
 new_by false false there plainly off on = absurd (let e = on in cc)
 
-fork_new : (t : Listing) (disk base twin u : List ℕ) (plainly : Option Name) → bytes_eq u disk ≡ false → (bytes_eq u base || bytes_eq u twin) ≡ true
+fork_new : (t : VolumeTable) (disk base twin u : List ℕ) (plainly : Option Name) → bytes_eq u disk ≡ false → (bytes_eq u base || bytes_eq u twin) ≡ true
     → stands_forked t (Clone disk base twin) u plainly ≡ None
 fork_new t disk base twin u plainly off on =
     new_by (bytes_eq u disk) (bytes_eq u base || bytes_eq u twin) (elim (image_with t base) [ None ↦ plainly | Some b ↦ Some b ]) plainly off on
 
-differs : (u v : List ℕ) → u ≢ v → bytes_eq u v ≡ false
-differs u v other = by (bytes_eq u v) refl
-  where
-    by : (b : Bool) → bytes_eq u v ≡ b → b ≡ false
-    by true same = absurd (other ((bytes_eq-Decides u v).0 same))
-    by false same = refl
-
 -- ---- what follows before the fork
 
-no_standing : (t : Listing) (u v : List ℕ) (n : Name) → stands t u ≡ Some n → stands t v ≡ None → u ≢ v
-no_standing t u v n is none at = let e : None ≡ Some n = sym none ∙ ap (stands t) (sym at) ∙ is in (let x = e in cc)
+no_standing : (t : VolumeTable) (u v : List ℕ) (n : Name) → standing_volume t u ≡ Some n → standing_volume t v ≡ None → u ≢ v
+no_standing t u v n is none at = let e : None ≡ Some n = sym none ∙ ap (standing_volume t) (sym at) ∙ is in (let x = e in cc)
 
 closed_apart : (a : Content) (disk base twin : List ℕ) (n : Name) (i : Image) → IsForkable a disk base twin n i → IsClosedApart a (forked disk base twin)
 closed_apart a disk base twin n i h m p is at = h.childless m p at
@@ -94,7 +85,7 @@ not_twin : (disk base twin u : List ℕ) → is_among (forked disk base twin) u 
 not_twin disk base twin u other at = let e : true ≡ false = sym (twin_among disk base twin) ∙ ap (is_among (forked disk base twin)) (sym at) ∙ other in (let x = e in cc)
 
 stood_apart : (a : Content) (disk base twin : List ℕ) (n : Name) (i : Image) → IsForkable a disk base twin n i → (u : List ℕ) → is_among (forked disk base twin) u ≡ false
-    → (x : Name) → stands a.table u ≡ Some x → is_apart (forked disk base twin) x ≡ true
+    → (x : Name) → standing_volume a.table u ≡ Some x → is_apart (forked disk base twin) x ≡ true
 stood_apart a disk base twin n i h u other x is =
     under_apart a.table (forked disk base twin) (head (folding a.table)) u x (stands_plainly a.table u) h.beside
     (plain_apart a.table (forked disk base twin) u x other) (sym (stands_beside a.table u h.none_making) ∙ is)
@@ -104,13 +95,13 @@ still_apart a b us same apart = subst (λ ns. IsEntryApart us (head ns)) (sym sa
 
 -- ---- while the entry is there
 
-place_now : (t : Listing) (disk base : List ℕ) (m : Name) (plainly : Option Name) → IsForkPlace t disk base m → (stands_plainly t disk ≡ Some m → plainly ≡ Some m)
+place_now : (t : VolumeTable) (disk base : List ℕ) (m : Name) (plainly : Option Name) → IsForkPlace t disk base m → (stands_plainly t disk ≡ Some m → plainly ≡ Some m)
     → elim (image_with t base) [ None ↦ plainly | Some b ↦ Some b ] ≡ Some m
 place_now t disk base m plainly (inl place) from = ap (λ o. elim o [ None ↦ plainly | Some b ↦ Some b ]) place.0 ∙ from place.1
 place_now t disk base m plainly (inr place) from = ap (λ o. elim o [ None ↦ plainly | Some b ↦ Some b ]) place
 
 forking_stands : (a b : Content) (disk base twin : List ℕ) (n m : Name) (i : Image) → IsForkable a disk base twin n i → IsForking a b disk base twin n m
-    → stands b.table disk ≡ Some m
+    → standing_volume b.table disk ≡ Some m
 forking_stands a b disk base twin n m i h k =
     stands_making b.table disk (Clone disk base twin) k.entry
     ∙ fork_disk b.table disk base twin (beside b.table disk)
@@ -126,11 +117,11 @@ forking_disk a b disk base twin n m i h k =
     (reads_moved a b (forked disk base twin) n m k.apart (closed_apart a disk base twin n i h) k.image (λ p at. h.childless n p at)))
 
 forking_new : (a b : Content) (disk base twin : List ℕ) (n m : Name) (i : Image) → IsForkable a disk base twin n i → IsForking a b disk base twin n m
-    → (u : List ℕ) → stands a.table u ≡ None → (bytes_eq u base || bytes_eq u twin) ≡ true → disk_at b u ≡ disk_at a u
+    → (u : List ℕ) → standing_volume a.table u ≡ None → (bytes_eq u base || bytes_eq u twin) ≡ true → disk_at b u ≡ disk_at a u
 forking_new a b disk base twin n m i h k u none new =
     no_disk a b u none
     (stands_making b.table u (Clone disk base twin) k.entry
-    ∙ fork_new b.table disk base twin u (beside b.table u) (differs u disk (λ at. no_standing a.table disk u n h.stood none (sym at))) new)
+    ∙ fork_new b.table disk base twin u (beside b.table u) (bytes_eq-apart u disk (λ at. no_standing a.table disk u n h.stood none (sym at))) new)
 
 forking_other : (a b : Content) (disk base twin : List ℕ) (n m : Name) (i : Image) → IsForkable a disk base twin n i → IsForking a b disk base twin n m
     → (u : List ℕ) → is_among (forked disk base twin) u ≡ false → disk_at b u ≡ disk_at a u
@@ -143,10 +134,10 @@ forking_other a b disk base twin n m i h k u other =
     (stood_apart a disk base twin n i h u other) (k.recorded u (not_twin disk base twin u other))
 
 is_base_new : (base twin : List ℕ) → (bytes_eq base base || bytes_eq base twin) ≡ true
-is_base_new base twin = ap (λ s. s || bytes_eq base twin) (self base)
+is_base_new base twin = ap (λ s. s || bytes_eq base twin) (bytes_eq-refl base)
 
 is_twin_new : (base twin : List ℕ) → (bytes_eq twin base || bytes_eq twin twin) ≡ true
-is_twin_new base twin = or_true (bytes_eq twin base) (bytes_eq twin twin) (self twin)
+is_twin_new base twin = or_right (bytes_eq twin base) (bytes_eq twin twin) (bytes_eq-refl twin)
 
 forking_each : (a b : Content) (disk base twin : List ℕ) (n m : Name) (i : Image) → IsForkable a disk base twin n i → IsForking a b disk base twin n m
     → (u : List ℕ) → (u ≡ disk) ⊎ ((u ≡ base) ⊎ ((u ≡ twin) ⊎ (is_among (forked disk base twin) u ≡ false))) → disk_at b u ≡ disk_at a u
@@ -162,12 +153,12 @@ forking a b disk base twin n m i h k = disks_same a b (λ u. forking_each a b di
 
 -- ---- once the entry is removed
 
-visible_stands : (t : Listing) (u : List ℕ) → is_visible t (Vhd u) ≡ true → stands_plainly t u ≡ Some (Vhd u)
+visible_stands : (t : VolumeTable) (u : List ℕ) → is_visible t (Vhd u) ≡ true → stands_plainly t u ≡ Some (Vhd u)
 visible_stands t u is = ap (λ v. cond v (Some (Vhd u)) (cond (is_visible t (Raw u)) (Some (Raw u)) None)) is
 
 -- where one of the three stands by itself
 forked_stands : (a b : Content) (disk base twin : List ℕ) (n m : Name) (i j l : Image) (entry : Record) → IsForkable a disk base twin n i
-    → IsForked a b disk base twin n m i j l entry → (u : List ℕ) → is_among (forked disk base twin) u ≡ true → stands b.table u ≡ stands_plainly b.table u
+    → IsForked a b disk base twin n m i j l entry → (u : List ℕ) → is_among (forked disk base twin) u ≡ true → standing_volume b.table u ≡ stands_plainly b.table u
 forked_stands a b disk base twin n m i j l entry h k u is =
     stands_beside b.table u k.none_making
     ∙ under_plain b.table (forked disk base twin) (head (folding b.table)) u (stands_plainly b.table u) (still_apart a b (forked disk base twin) k.folding h.beside) is
@@ -181,7 +172,7 @@ child_sectors a b disk base twin n m i j l entry h k x child c =
     let counted = depth_moved a b (forked disk base twin) n m k.apart closed k.image above 30 in
     let up_to = depth_up b 30 x m (parent-is b x m child c.image c.parent) in
     let room : depth a 30 n < 30 = h.room in
-    let short : IsShort b x = omega (arith, counted, up_to, room) in
+    let short : IsShortChain b x = omega (arith, counted, up_to, room) in
     sectors_sized a b n x i child h.image c.image (sym c.size) (λ s below.
     copied b x m child i (empty_copied b x m child i c) short s (omega (arith, below, c.size))
     ∙ reads_moved a b (forked disk base twin) n m k.apart closed k.image above s)
@@ -208,7 +199,7 @@ forked_other a b disk base twin n m i j l entry h k u other =
     ∙ sym (stands_beside a.table u h.none_making))
     (stood_apart a disk base twin n i h u other) (k.recorded u (not_twin disk base twin u other))
 
-pub made_disk : (b : Content) (u : List ℕ) (x : Name) (entry : Record) → stands b.table u ≡ Some x → record_of b u ≡ Some entry → disk_at b u ≡ Some (disk_in b u entry x)
+pub made_disk : (b : Content) (u : List ℕ) (x : Name) (entry : Record) → standing_volume b.table u ≡ Some x → record_of b u ≡ Some entry → disk_at b u ≡ Some (disk_in b u entry x)
 unfolding disk_at
 made_disk b u x entry stand recorded =
     ap (λ o. o >>= (λ k. record_of b u >>= (λ r. Some (disk_in b u r k)))) stand ∙ ap (λ o. o >>= (λ (r : Record). Some (disk_in b u r x))) recorded

@@ -4,26 +4,27 @@ use Rattle.std.proofs.Math.Nat.{div-lt_iff_lt-mul, mod-lt}
 use Rattle.std.proofs.Math.Path.{fun_ext}
 use Rattle.std.proofs.lemmas.Bool.{cond-true, le-ltb, cases_lt, false_from_ne_true}
 use Rattle.std.specs.List.{range_with_len}
+use Rattle.common_laws.proofs.Options.{option_cases}
 use Rattle.sm_base.specs.Numbers.{IsGeometry, first}
 use Rattle.sm_base.specs.declared.names.Name.{Name}
 use Rattle.sm_base.specs.declared.names.Name.TheVariants.{Mgt, Vhd, Raw, Old, Clone, Inflate, Coalesce, Relink, Leaf}
-use Rattle.vg_meta.specs.Tables.{Row, Listing, extents_of}
+use Rattle.vg_meta.specs.Tables.{Row, VolumeTable, extents_of}
 use Rattle.vhd_fields.specs.declared.footers.Footer.{Footer}
 use Rattle.vhd_fields.specs.declared.headers.Header.{Header}
 use Rattle.vhd_map.specs.Bitmaps.{is_set}
 use Rattle.vhd_map.specs.Places.{word, blank}
-use Rattle.vhd_layout.specs.Contents.{Content as Said, content_at, raw_content, own, value, size_at, parent_at, slot_at, slot_number, slots_at}
+use Rattle.vhd_layout.specs.Contents.{ImageContent as Said, content_at, raw_content, own, value, size_at, parent_at, slot_at, slot_number, slots_at}
 use Rattle.vhd_layout.specs.Images.{IsHead, IsImage, IsValid}
 use Rattle.vhd_layout.specs.Layouts.{Sectors, Slots, Layout, IsLayout, layout_of, entry, code, place, entries_in_sectors}
 use Rattle.vhd_layout.specs.Readings.{is_valid, image_at}
-use Rattle.vhd_layout.proofs.ImageLaws.{option_cases, head-kept, content-of_head, table-first, layout-of, place-within, value-with_slot, value-without_slot, in_entries}
+use Rattle.vhd_layout.proofs.ImageLaws.{head-kept, content-of_head, table-first, layout-of, place-within, value-with_slot, value-without_slot, in_entries}
 use Rattle.vhd_layout.proofs.ReadingLaws.{valid-decided, layout-at}
-use Rattle.sm_machine.specs.Lists.{◌>>=◌}
+use Rattle.common_laws.specs.Lists.{◌>>=◌}
 use Rattle.sm_standing.specs.Contents.{Content, row, sectors_of, size_of}
 use Rattle.sm_standing.specs.Entries.{making, head}
 use Rattle.sm_standing.specs.Images.{image_of, vhd_image, raw_image, image_extents}
 use Rattle.sm_stages.specs.Apart.{is_apart, IsSameApart}
-use Rattle.sm_stages.specs.Volumes.{IsWhole, IsSameVolume, AreSameApart}
+use Rattle.sm_stages.specs.Volumes.{IsAtSize, IsSameVolume, AreSameApart}
 
 div_below : (s d n : ℕ) → 0 < d → s < n * d → s / d < n
 div_below s d n some below = (div-lt_iff_lt-mul some).1 below
@@ -157,7 +158,7 @@ image_same extent block entries sectors v w geometry same = valid_test extent bl
 size_is : (a : Content) (n : Name) (was : Row) → row a n ≡ Some was → size_of a n ≡ length was.extents * a.extent
 size_is a n was there = ap (λ o. length (extents_of o) * a.extent) there
 
-vhd_by : (a b : Content) (u v : List ℕ) (was now : Row) → IsGeometry a.extent a.block a.entries → IsSameVolume a b (Vhd u) (Vhd v) was now → IsWhole a.table (Vhd u) → IsWhole b.table (Vhd v)
+vhd_by : (a b : Content) (u v : List ℕ) (was now : Row) → IsGeometry a.extent a.block a.entries → IsSameVolume a b (Vhd u) (Vhd v) was now → IsAtSize a.table (Vhd u) → IsAtSize b.table (Vhd v)
     → vhd_image b (Vhd v) now ≡ vhd_image a (Vhd u) was
 unfolding vhd_image
 vhd_by a b u v was now geometry h whole whole_now =
@@ -170,7 +171,7 @@ vhd_by a b u v was now geometry h whole whole_now =
     ∙ sym (ap (λ k. image_at a.block a.entries (k * a.extent) (sectors_of a (Vhd u))) (whole (length was.extents)))
 
 -- a VHD image in a volume with the same sectors
-pub vhd_same : (a b : Content) (u v : List ℕ) (was now : Row) → IsGeometry a.extent a.block a.entries → IsSameVolume a b (Vhd u) (Vhd v) was now → IsWhole a.table (Vhd u) → IsWhole b.table (Vhd v)
+pub vhd_same : (a b : Content) (u v : List ℕ) (was now : Row) → IsGeometry a.extent a.block a.entries → IsSameVolume a b (Vhd u) (Vhd v) was now → IsAtSize a.table (Vhd u) → IsAtSize b.table (Vhd v)
     → image_of b (Vhd v) ≡ image_of a (Vhd u)
 unfolding image_of
 vhd_same a b u v was now geometry h whole whole_now =
@@ -208,13 +209,7 @@ gone a b (Vhd u) was now =
     ap (λ o. o >>= (λ (r : Row). cond r.fresh None (vhd_image b (Vhd u) r))) now ∙ sym (ap (λ o. o >>= (λ (r : Row). cond r.fresh None (vhd_image a (Vhd u) r))) was)
 gone a b (Raw u) was now =
     ap (λ o. o >>= (λ (r : Row). cond r.fresh None (Some (raw_image b (Raw u))))) now ∙ sym (ap (λ o. o >>= (λ (r : Row). cond r.fresh None (Some (raw_image a (Raw u))))) was)
-gone a b Mgt was now = refl
-gone a b (Old u) was now = refl
-gone a b (Clone d c w) was now = refl
-gone a b (Inflate u k) was now = refl
-gone a b (Coalesce v p) was now = refl
-gone a b (Relink v p) was now = refl
-gone a b (Leaf l p) was now = refl
+gone a b _ was now = refl
 
 same_volume : (a b : Content) (us : List (List ℕ)) (n : Name) (r : Row) → AreSameApart a b us → is_apart us n ≡ true → row a n ≡ Some r → IsSameVolume a b n n r r
 same_volume a b us n r h apart is = record {
@@ -233,13 +228,7 @@ there : (a b : Content) (us : List (List ℕ)) → IsGeometry a.extent a.block a
 unfolding image_of
 there a b us geometry h (Vhd u) r apart is = vhd_same a b u u r r geometry (same_volume a b us (Vhd u) r h apart is) (h.whole (Vhd u) apart) (h.still_whole (Vhd u) apart)
 there a b us geometry h (Raw u) r apart is = raw_same a b u u r r (same_volume a b us (Raw u) r h apart is)
-there a b us geometry h Mgt r apart is = refl
-there a b us geometry h (Old u) r apart is = refl
-there a b us geometry h (Clone d c w) r apart is = refl
-there a b us geometry h (Inflate u k) r apart is = refl
-there a b us geometry h (Coalesce v p) r apart is = refl
-there a b us geometry h (Relink v p) r apart is = refl
-there a b us geometry h (Leaf l p) r apart is = refl
+there a b us geometry h _ r apart is = refl
 
 image_by : (a b : Content) (us : List (List ℕ)) → IsGeometry a.extent a.block a.entries → AreSameApart a b us → (n : Name) → is_apart us n ≡ true → (o : Option Row) → row a n ≡ o
     → image_of b n ≡ image_of a n
@@ -249,7 +238,7 @@ image_by a b us geometry h n apart (Some r) is = there a b us geometry h n r apa
 pub same_images : (a b : Content) (us : List (List ℕ)) → IsGeometry a.extent a.block a.entries → AreSameApart a b us → IsSameApart a b us
 same_images a b us geometry h = record { rows = h.rows; images = λ n apart. image_by a b us geometry h n apart (row a n) refl }
 
-pub whole_none : (t : Listing) (n : Name) → making t ≡ [] → IsWhole t n
+pub whole_none : (t : VolumeTable) (n : Name) → making t ≡ [] → IsAtSize t n
 whole_none t n none all = ap (λ es. image_extents es n all) none
 
 head_extents : (es : List Name) (n : Name) (disk base twin : List ℕ) (all : ℕ) → head es ≡ Some (Clone disk base twin) → image_extents es n all ≡ all
@@ -257,5 +246,5 @@ head_extents [] n disk base twin all h = absurd (let e = h in cc)
 head_extents (e ∷ es) n disk base twin all h =
     let at : e ≡ Clone disk base twin = (let y = h in cc) in ap (λ x. image_extents (x ∷ es) n all) at
 
-pub whole_fork : (t : Listing) (n : Name) (disk base twin : List ℕ) → head (making t) ≡ Some (Clone disk base twin) → IsWhole t n
+pub whole_fork : (t : VolumeTable) (n : Name) (disk base twin : List ℕ) → head (making t) ≡ Some (Clone disk base twin) → IsAtSize t n
 whole_fork t n disk base twin h all = head_extents (making t) n disk base twin all h

@@ -5,17 +5,17 @@ use Rattle.sm_base.specs.declared.names.Name.{Name}
 use Rattle.sm_base.specs.declared.names.Name.TheVariants.{Mgt, Vhd, Old, Clone, Leaf}
 use Rattle.sm_base.specs.declared.operations.Op.TheVariants.{Idle}
 use Rattle.sm_machine.specs.Disks.{Disk}
-use Rattle.sm_machine.specs.Lists.{numbers, insert_by}
+use Rattle.common_laws.specs.Lists.{numbers, insert_by}
 use Rattle.sm_machine.specs.Shapes.{Shape, ImageRow, with_image}
 use Rattle.sm_record.specs.declared.records.Record.{Record}
-use Rattle.vg_meta.specs.Tables.{Listing, row_of, name_eq}
+use Rattle.vg_meta.specs.Tables.{VolumeTable, row_of, name_eq}
 use Rattle.sm_standing.specs.Contents.{records, is_record_of}
 use Rattle.sm_standing.specs.Entries.{image_with}
-use Rattle.sm_standing.specs.Examples.{record_row}
+use Rattle.standing_examples.specs.SmallContents.{record_row}
 use Rattle.sm_standing.specs.Images.{Image, image_of}
 use Rattle.sm_standing.specs.Opened.{Part, Work, begun, repaired, new_removed, extents_besides, in_name_order, row_of_part, opened}
 use Rattle.sm_standing.specs.Shapes.{disk_record, image_row, shape, row_of as shape_row}
-use Rattle.sm_standing.specs.Standing.{stands, disks, disk_at, uuids, with_uuid, in_order}
+use Rattle.sm_standing.specs.Standing.{standing_volume, disks, disk_at, uuids, with_uuid, in_order}
 use Rattle.sm_stages.specs.Forks.{IsForking}
 use Rattle.sm_stages.specs.Moments.{top, filled, written, disk_of}
 use Rattle.sm_stages.specs.Opened.{one_disk_shape}
@@ -44,7 +44,7 @@ made_from w ds = record {
   op = Idle;
 }
 
-pub opened_made : (t : Listing) (area : ℕ → List ℕ) → opened (content_with t area) ≡ made_from (repaired t (begun (content_with t area))) (disks (content_with t area))
+pub opened_made : (t : VolumeTable) (area : ℕ → List ℕ) → opened (content_with t area) ≡ made_from (repaired t (begun (content_with t area))) (disks (content_with t area))
 unfolding opened made_from
 opened_made t area = refl
 
@@ -104,7 +104,7 @@ abbrev one_left : ℕ → Image → Work
 one_left sequence i = record { sequence = sequence; parts = records_part ∷ volume (Vhd first) false false (Some i) ∷ [] }
 
 -- an opening of a table on an area whose parts these are, which leaves one image
-opened_one : (t : Listing) (area : ℕ → List ℕ) (w : Work) (sequence : ℕ) (i : Image) (sectors : List (List ℕ)) → begun (content_with t area) ≡ w → repaired t w ≡ one_left sequence i
+opened_one : (t : VolumeTable) (area : ℕ → List ℕ) (w : Work) (sequence : ℕ) (i : Image) (sectors : List (List ℕ)) → begun (content_with t area) ≡ w → repaired t w ≡ one_left sequence i
     → disks (content_with t area) ≡ disk_of first_record sectors ∷ [] → opened (content_with t area) ≡ one_disk_shape sequence i
 opened_one t area w sequence i sectors begins leaves shows =
     opened_made t area
@@ -125,7 +125,7 @@ abbrev fork_entry : Part
 fork_entry = entry_part (Clone first base second)
 
 -- a moment of the fork whose disk's image lies in m; its table is written out
-undone : (s t : Listing) (rs : List Record) (m : Name) (parts : Option Image → Work) (sequence : ℕ) → s ≡ t
+undone : (s t : VolumeTable) (rs : List Record) (m : Name) (parts : Option Image → Work) (sequence : ℕ) → s ≡ t
     → IsForking unforked (content_with s (fork_area rs)) first base second (Vhd first) m
     → begun (content_with t (fork_area rs)) ≡ parts (image_of (content_with t (fork_area rs)) m)
     → ((i : Image) → repaired t (parts (Some i)) ≡ one_left sequence i) → opened (content_with s (fork_area rs)) ≡ one_disk_shape sequence (top 17)
@@ -260,8 +260,8 @@ swapped_uuids : uuids swap_5 ≡ first ∷ []
 unfolding uuids with_uuid in_order
 swapped_uuids = refl
 
-swapped_stands : stands swap_5 first ≡ Some (Vhd first)
-unfolding stands row_of name_eq
+swapped_stands : standing_volume swap_5 first ≡ Some (Vhd first)
+unfolding standing_volume row_of name_eq
 swapped_stands = refl
 
 swapped_records : records (content_with swap_5 swap_area) ≡ first_record ∷ []

@@ -4,6 +4,7 @@ use Rattle.std.proofs.Common.{◌≡◌, ◌⊎◌, inl, inr, ⊎_elim, ℕ, ◌
 use Rattle.std.proofs.Math.Path.{fun_ext}
 use Rattle.std.proofs.lemmas.Bool.{cond-true, le-ltb, cases_lt}
 use lib.Count.{ones}
+use Rattle.common_laws.proofs.Options.{option_cases}
 use Rattle.sm_base.specs.Numbers.{IsGeometry}
 use Rattle.vhd_map.specs.Bitmaps.{is_set}
 use Rattle.vhd_map.specs.Places.{word, blank}
@@ -11,8 +12,7 @@ use Rattle.vhd_layout.specs.Contents.{content_at, own, value}
 use Rattle.vhd_layout.specs.Images.{IsValid}
 use Rattle.vhd_layout.specs.Layouts.{Sectors, layout_of, entry, code}
 use Rattle.vhd_layout.specs.Readings.{is_valid, image_at}
-use Rattle.vhd_layout.proofs.ImageLaws.{option_cases}
-use Rattle.vhd_layout.proofs.ExampleLemmas.{sector_in, code-slot, slots-160}
+use Rattle.layout_examples.proofs.SmallImageLaws.{sector_in, code-slot, slots-160}
 use Rattle.vhd_layout.proofs.ReadingLaws.{valid-decided}
 use Rattle.sm_stages.proofs.ImageSectors.{image_same}
 

@@ -1,26 +1,26 @@
 -- Where the images and records of a worked content lie.
-use Rattle.std.proofs.Common.{◌≡◌, ℕ, zero, suc, ◌+◌, ◌-◌, ◌*◌, ◌/◌, ◌<◌, ◌≤◌, ◌&&◌, Bool, true, false, cond, nat_le, nat_lt, slice_index, List, [], ◌∷◌, Option, Some, None, refl, ap, ◌∙◌, arith}
-use Rattle.std.proofs.lemmas.Bool.{lt-ltb, le-ltb, le-leb, lt-leb}
+use Rattle.std.proofs.Common.{◌≡◌, ℕ, zero, suc, ◌+◌, ◌-◌, ◌*◌, ◌/◌, ◌<◌, ◌≤◌, ◌&&◌, Bool, false, cond, nat_le, nat_lt, slice_index, List, [], ◌∷◌, Option, Some, None, refl, ap, ◌∙◌, arith}
+use Rattle.std.proofs.lemmas.Bool.{lt-ltb, le-ltb, le-leb, lt-leb, and_from, and_right}
 use Rattle.std.specs.List.{filter_map, cons_option}
 use Rattle.sm_base.specs.declared.names.Name.{Name}
 use Rattle.sm_base.specs.declared.names.Name.TheVariants.{Mgt, Vhd}
 use Rattle.sm_disk.specs.Sectors.{zeros}
-use Rattle.sm_machine.specs.Lists.{numbers, ◌>>=◌}
+use Rattle.common_laws.specs.Lists.{numbers, ◌>>=◌}
 use Rattle.sm_record.specs.declared.records.Record.{Record}
 use Rattle.sm_record.specs.declared.records.Reading.TheVariants.{Free}
 use Rattle.sm_record.specs.Records.{IsRecord, record_sector, reading}
 use Rattle.sm_record.proofs.RoundTrips.{reading_again, reading_zeros}
-use Rattle.vg_meta.specs.Tables.{Row, Listing, rows, extents_of}
+use Rattle.vg_meta.specs.Tables.{Row, VolumeTable, rows, extents_of}
 use Rattle.vg_volumes.specs.Volumes.{piece, spot}
 use Rattle.vhd_layout.specs.Contents.{content_at}
 use Rattle.vhd_layout.specs.Images.{IsValid}
 use Rattle.vhd_layout.specs.Layouts.{Sectors}
 use Rattle.sm_standing.specs.Contents.{sectors_of, records, reading_at, taken}
 use Rattle.sm_standing.specs.Entries.{making}
-use Rattle.sm_standing.specs.Examples.{record_row}
+use Rattle.standing_examples.specs.SmallContents.{record_row}
 use Rattle.sm_standing.specs.Images.{image_of, vhd_image, image_extents}
 use Rattle.sm_standing.specs.Checks.{is_damaged, record_place, record_fault}
-use Rattle.sm_standing.proofs.Finding.{find_none, In-numbers}
+use Rattle.common_laws.proofs.Lists.{find_none, In-numbers}
 use Rattle.sm_stages.specs.Worked.{laid, record_area, area_of, content_with}
 use Rattle.sm_stages.proofs.PieceLaws.{same_image_at}
 
@@ -36,21 +36,13 @@ spot_numbers : (a n s : ℕ) → s < 32 * n → spot 32 (numbers a n) s ≡ 32 *
 unfolding spot
 spot_numbers a n s below = let e = index_numbers a n (s / 32) (omega arith) in omega (arith, e)
 
-both : (a b : Bool) → a ≡ true → b ≡ true → (a && b) ≡ true
-both true b is_a is_b = is_b
-both false b is_a is_b = absurd (let e = is_a in cc)
-
-neither : (a b : Bool) → b ≡ false → (a && b) ≡ false
-neither true b is = is
-neither false b is = refl
-
 laid_here : (at : ℕ) (image : Sectors) (rest : ℕ → List ℕ) (p s : ℕ) → p ≡ at + s → s < 160 → laid at image rest p ≡ image s
 laid_here at image rest p s is below =
-    ap (λ b. cond b (image (p - at)) (rest p)) (both (nat_le at p) (nat_lt p (at + 160)) (le-leb at p (omega (arith, is))) (lt-ltb p (at + 160) (omega (arith, is))))
+    ap (λ b. cond b (image (p - at)) (rest p)) (and_from (nat_le at p) (nat_lt p (at + 160)) (le-leb at p (omega (arith, is))) (lt-ltb p (at + 160) (omega (arith, is))))
     ∙ ap image (omega (arith, is))
 
 laid_past : (at : ℕ) (image : Sectors) (rest : ℕ → List ℕ) (p : ℕ) → at + 160 ≤ p → laid at image rest p ≡ rest p
-laid_past at image rest p past = ap (λ b. cond b (image (p - at)) (rest p)) (neither (nat_le at p) (nat_lt p (at + 160)) (le-ltb p (at + 160) past))
+laid_past at image rest p past = ap (λ b. cond b (image (p - at)) (rest p)) (and_right (nat_le at p) (nat_lt p (at + 160)) (le-ltb p (at + 160) past))
 
 not_yet : (at p : ℕ) → p < at → nat_le at p ≡ false
 not_yet at p before = lt-leb at p before
@@ -79,14 +71,14 @@ area_records x y z rs p below =
 
 -- ---- images
 
-sectors_by : (t : Listing) (area : ℕ → List ℕ) (n : Name) (r : Row) (at k : ℕ) → rows t n ≡ Some r → r.extents ≡ numbers at k → (s : ℕ) → s < 32 * k
+sectors_by : (t : VolumeTable) (area : ℕ → List ℕ) (n : Name) (r : Row) (at k : ℕ) → rows t n ≡ Some r → r.extents ≡ numbers at k → (s : ℕ) → s < 32 * k
     → sectors_of (content_with t area) n s ≡ area (32 * at + s)
 unfolding sectors_of piece
 sectors_by t area n r at k there extents s below =
     ap (λ o. area (spot 32 (extents_of o) s)) there ∙ ap (λ es. area (spot 32 es s)) extents ∙ ap area (spot_numbers at k s below)
 
 -- the image of a row is what lies in its extents
-pub placed_image : (t : Listing) (area : ℕ → List ℕ) (u : List ℕ) (hidden : Bool) (at : ℕ) (name : Name) (v : Sectors)
+pub placed_image : (t : VolumeTable) (area : ℕ → List ℕ) (u : List ℕ) (hidden : Bool) (at : ℕ) (name : Name) (v : Sectors)
     → rows t (Vhd u) ≡ Some (record { name = name; hidden = hidden; fresh = false; extents = numbers at 5 })
     → image_extents (making t) (Vhd u) 5 ≡ 5 → ((s : ℕ) → s < 160 → area (32 * at + s) ≡ v s) → IsValid 8 64 160 v
     → image_of (content_with t area) (Vhd u) ≡ Some (content_at 8 64 160 v)
@@ -110,7 +102,7 @@ taken_none f a (suc n) none =
     ap (λ o. cons_option o (filter_map f (numbers (a + 1) n))) (none a (omega arith) (omega arith))
     ∙ taken_none f (a + 1) n (λ k from below. none k (omega arith) (omega arith))
 
-pub reading_placed : (t : Listing) (x y z : Sectors) (rs : List Record) (k : ℕ) → rows t Mgt ≡ Some (record_row (numbers 0 16)) → k < 512
+pub reading_placed : (t : VolumeTable) (x y z : Sectors) (rs : List Record) (k : ℕ) → rows t Mgt ≡ Some (record_row (numbers 0 16)) → k < 512
     → reading_at (content_with t (area_of x y z rs)) k ≡ reading (record_area rs k)
 reading_placed t x y z rs k there below =
     let place : 32 * 0 + k ≡ k = omega arith in
@@ -130,7 +122,7 @@ behind_two r s (suc zero) from = absurd (omega arith)
 behind_two r s (suc (suc k)) from = refl
 
 -- one record, and two
-pub one_record : (t : Listing) (x y z : Sectors) (r : Record) → rows t Mgt ≡ Some (record_row (numbers 0 16)) → IsRecord r
+pub one_record : (t : VolumeTable) (x y z : Sectors) (r : Record) → rows t Mgt ≡ Some (record_row (numbers 0 16)) → IsRecord r
     → records (content_with t (area_of x y z (r ∷ []))) ≡ r ∷ []
 unfolding records
 one_record t x y z r there right =
@@ -139,7 +131,7 @@ one_record t x y z r there right =
     ∙ ap (λ rs. r ∷ rs) (taken_none (λ k. taken (reading_at (content_with t (area_of x y z (r ∷ []))) k)) 1 511 (λ k from below.
     ap taken (reading_placed t x y z (r ∷ []) k there (omega arith) ∙ ap reading (behind_one r k from) ∙ zeros_free)))
 
-pub two_records : (t : Listing) (x y z : Sectors) (r s : Record) → rows t Mgt ≡ Some (record_row (numbers 0 16)) → IsRecord r → IsRecord s
+pub two_records : (t : VolumeTable) (x y z : Sectors) (r s : Record) → rows t Mgt ≡ Some (record_row (numbers 0 16)) → IsRecord r → IsRecord s
     → records (content_with t (area_of x y z (r ∷ s ∷ []))) ≡ r ∷ s ∷ []
 unfolding records
 two_records t x y z r s there right right' =
@@ -165,16 +157,16 @@ two_right r s right right' zero = taken_right r right
 two_right r s right right' (suc zero) = taken_right s right'
 two_right r s right right' (suc (suc k)) = free_right (r ∷ s ∷ []) (suc (suc k)) refl
 
-by_sector : (t : Listing) (x y z : Sectors) (rs : List Record) → rows t Mgt ≡ Some (record_row (numbers 0 16)) → ((k : ℕ) → is_damaged (reading (record_area rs k)) ≡ false)
+by_sector : (t : VolumeTable) (x y z : Sectors) (rs : List Record) → rows t Mgt ≡ Some (record_row (numbers 0 16)) → ((k : ℕ) → is_damaged (reading (record_area rs k)) ≡ false)
     → record_fault (content_with t (area_of x y z rs)) ≡ None
 unfolding record_fault
 by_sector t x y z rs there right =
     ap record_place (find_none (λ k. is_damaged (reading_at (content_with t (area_of x y z rs)) k)) (numbers 0 512) (λ k h.
     let within = (In-numbers 0 512 k h).1 in ap is_damaged (reading_placed t x y z rs k there (omega (arith, within))) ∙ right k))
 
-pub one_undamaged : (t : Listing) (x y z : Sectors) (r : Record) → rows t Mgt ≡ Some (record_row (numbers 0 16)) → IsRecord r → record_fault (content_with t (area_of x y z (r ∷ []))) ≡ None
+pub one_undamaged : (t : VolumeTable) (x y z : Sectors) (r : Record) → rows t Mgt ≡ Some (record_row (numbers 0 16)) → IsRecord r → record_fault (content_with t (area_of x y z (r ∷ []))) ≡ None
 one_undamaged t x y z r there right = by_sector t x y z (r ∷ []) there (one_right r right)
 
-pub two_undamaged : (t : Listing) (x y z : Sectors) (r s : Record) → rows t Mgt ≡ Some (record_row (numbers 0 16)) → IsRecord r → IsRecord s
+pub two_undamaged : (t : VolumeTable) (x y z : Sectors) (r s : Record) → rows t Mgt ≡ Some (record_row (numbers 0 16)) → IsRecord r → IsRecord s
     → record_fault (content_with t (area_of x y z (r ∷ s ∷ []))) ≡ None
 two_undamaged t x y z r s there right right' = by_sector t x y z (r ∷ s ∷ []) there (two_right r s right right')

@@ -4,18 +4,18 @@ use Rattle.std.proofs.lemmas.Option.{same_Some}
 use Rattle.sm_base.specs.declared.names.Name.{Name}
 use Rattle.sm_base.specs.declared.names.Name.TheVariants.{Mgt, Vhd}
 use Rattle.sm_disk.specs.Sectors.{zeros}
-use Rattle.sm_machine.specs.Lists.{In}
+use Rattle.common_laws.specs.Lists.{In}
 use Rattle.vg_meta.specs.Tables.{Row, row_of, name_eq}
 use Rattle.vg_meta.proofs.NameLaws.{name_eq-false}
 use Rattle.vhd_fields.specs.declared.footers.Footer.{Footer}
 use Rattle.vhd_layout.specs.Contents.{content_at, own}
-use Rattle.vhd_layout.specs.Examples.{empty}
+use Rattle.layout_examples.specs.SmallImages.{empty}
 use Rattle.vhd_layout.specs.Images.{IsImage, IsValid}
 use Rattle.vhd_layout.specs.Layouts.{Sectors, layout_of}
-use Rattle.vhd_layout.proofs.ExampleLemmas.{the_footer, the_header, without_parent}
+use Rattle.layout_examples.proofs.SmallImageLaws.{the_footer, the_header, without_parent}
 use Rattle.sm_standing.specs.Changes.{IsRaised}
 use Rattle.sm_standing.specs.Contents.{Content, row}
-use Rattle.sm_standing.specs.Images.{Image, image_of, reads}
+use Rattle.sm_standing.specs.Images.{Image, image_of, image_reads}
 use Rattle.sm_standing.proofs.ImageLaws.{held_reads, raised_zeros}
 use Rattle.sm_stages.specs.Moments.{top, small, small_top, large}
 use Rattle.sm_stages.specs.Worked.{first, base, first_record, area_of, small_base, small_child, grown_child, disk_and_base, disk_over, ungrown, grown, over_larger}
@@ -170,10 +170,10 @@ raised = record {
 
 -- ---- what is read
 
-pub kept : reads grown (Vhd first) 0 ≡ sector_of 34
+pub kept : image_reads grown (Vhd first) 0 ≡ sector_of 34
 kept = held_reads grown (Vhd first) large 0 (sector_of 34) large_image (omega (arith, large_size)) large_held
 
-pub zeros_behind : (s : ℕ) → 64 ≤ s → reads grown (Vhd first) s ≡ zeros
+pub zeros_behind : (s : ℕ) → 64 ≤ s → image_reads grown (Vhd first) s ≡ zeros
 zeros_behind s past = raised_zeros ungrown grown (Vhd first) small large raised s (omega (arith, past, small_size))
 
 -- ---- over a larger base

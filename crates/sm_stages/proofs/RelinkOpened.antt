@@ -5,11 +5,11 @@ use Rattle.uuid.specs.Text.{by_index}
 use Rattle.sm_base.specs.declared.names.Name.{Name}
 use Rattle.sm_base.specs.declared.names.Name.TheVariants.{Vhd, Relink}
 use Rattle.sm_machine.specs.Disks.{Disk}
-use Rattle.sm_machine.specs.Lists.{numbers, insert_by}
+use Rattle.common_laws.specs.Lists.{numbers, insert_by}
 use Rattle.sm_machine.specs.Shapes.{with_image, same_image}
-use Rattle.vg_meta.specs.Tables.{Listing, rows, row_of, name_eq}
+use Rattle.vg_meta.specs.Tables.{VolumeTable, rows, row_of, name_eq}
 use Rattle.vhd_fields.specs.ParentNames.{IsParent}
-use Rattle.vhd_layout.specs.Examples.{table_of, empty}
+use Rattle.layout_examples.specs.SmallImages.{table_of, empty}
 use Rattle.sm_standing.specs.Entries.{making, image_with}
 use Rattle.sm_standing.specs.Images.{Image, image_of, image_extents}
 use Rattle.sm_standing.specs.Opened.{Work, begun, repaired, new_removed, opened}
@@ -32,7 +32,7 @@ abbrev under_parent : Option Name → Image → Image
 under_parent p i = record i { parent = p }
 
 -- the disk's image over the hidden one, in a table that has its row
-pub over_hidden : (t : Listing) → rows t (Vhd first) ≡ Some (image_row false (Vhd first) 21) → image_extents (making t) (Vhd first) 5 ≡ 5
+pub over_hidden : (t : VolumeTable) → rows t (Vhd first) ≡ Some (image_row false (Vhd first) 21) → image_extents (making t) (Vhd first) 5 ≡ 5
     → image_of (content_with t relinking.area) (Vhd first) ≡ Some (empty_over second)
 over_hidden t there whole =
     placed_image t relinking.area first false 21 (Vhd first) (empty_child (Vhd second)) there whole

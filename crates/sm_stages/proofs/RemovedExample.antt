@@ -3,10 +3,10 @@ use Rattle.std.proofs.Common.{◌≡◌, ◌≢◌, ℕ, ◌*◌, true, cond, Li
 use Rattle.std.specs.List.{find, filter_map, cons_option}
 use Rattle.sm_base.specs.declared.names.Name.{Name}
 use Rattle.sm_base.specs.declared.names.Name.TheVariants.{Mgt, Vhd, Raw, Old, Clone, Inflate, Coalesce, Relink, Leaf}
-use Rattle.sm_machine.specs.Lists.{◌>>=◌}
+use Rattle.common_laws.specs.Lists.{◌>>=◌}
 use Rattle.sm_machine.specs.Shapes.{same_image}
 use Rattle.vg_meta.specs.Changes.{without}
-use Rattle.vg_meta.specs.Tables.{Row, Listing, rows, row_of, name_eq, extents_of}
+use Rattle.vg_meta.specs.Tables.{Row, VolumeTable, rows, row_of, name_eq, extents_of}
 use Rattle.vg_meta.proofs.RowLaws.{row_of-without_other}
 use Rattle.vg_volumes.specs.Volumes.{piece, span}
 use Rattle.vhd_layout.specs.Contents.{raw_content}
@@ -16,7 +16,7 @@ use Rattle.sm_standing.specs.Checks.{children}
 use Rattle.sm_standing.specs.Contents.{Content, is_record_of, sectors_of}
 use Rattle.sm_standing.specs.Entries.{making}
 use Rattle.sm_standing.specs.Images.{image_of, image_extents, vhd_image, raw_image}
-use Rattle.sm_standing.specs.Standing.{stands, disks, disk_at, uuids, with_uuid, in_order}
+use Rattle.sm_standing.specs.Standing.{standing_volume, disks, disk_at, uuids, with_uuid, in_order}
 use Rattle.sm_standing.proofs.ImageLaws.{removed_disks, childless_parent}
 use Rattle.sm_stages.specs.Moments.{top, child, empty_over, written, disk_of}
 use Rattle.sm_stages.specs.Worked.{first, second, base, first_record, content_with, image_row, fork_area, relinking, relinked_at, still_linked}
@@ -27,7 +27,7 @@ use Rattle.sm_stages.proofs.RelinkOpened.{over_hidden, over_second}
 use Rattle.sm_stages.proofs.WorkedDisks.{child_sectors, shown}
 use Rattle.sm_stages.proofs.WorkedSound.{written_out, saying_top, saying_child, ap₃, images_of, children_are}
 
-abbrev at_table : Listing → Content
+abbrev at_table : VolumeTable → Content
 at_table t = content_with t (fork_area (first_record ∷ []))
 
 -- ---- its images
@@ -68,19 +68,13 @@ other_rows : (n : Name) → n ≢ Vhd second → rows relink_2 n ≡ rows relink
 other_rows n other = ap (λ rs. row_of rs n) volumes_left ∙ row_of-without_other (relink_1).volumes (Vhd second) n (λ e. other (sym e))
 
 -- where the area is the same, an image depends on the row of its volume
-image_by_row : (t u : Listing) (area : ℕ → List ℕ) (n : Name) → making u ≡ making t → rows u n ≡ rows t n → image_of (content_with u area) n ≡ image_of (content_with t area) n
+image_by_row : (t u : VolumeTable) (area : ℕ → List ℕ) (n : Name) → making u ≡ making t → rows u n ≡ rows t n → image_of (content_with u area) n ≡ image_of (content_with t area) n
 unfolding image_of vhd_image raw_image sectors_of
 image_by_row t u area (Vhd v) entries row =
     ap₂ (λ es o. o >>= (λ (r : Row). cond r.fresh None (image_at 8 64 (image_extents es (Vhd v) (length r.extents) * 32) (piece 32 (extents_of o) area)))) entries row
 image_by_row t u area (Raw v) entries row =
     ap (λ o. o >>= (λ (r : Row). cond r.fresh None (Some (raw_content (span 32 (extents_of o)) (piece 32 (extents_of o) area))))) row
-image_by_row t u area Mgt entries row = refl
-image_by_row t u area (Old v) entries row = refl
-image_by_row t u area (Clone d c w) entries row = refl
-image_by_row t u area (Inflate v k) entries row = refl
-image_by_row t u area (Coalesce v p) entries row = refl
-image_by_row t u area (Relink v p) entries row = refl
-image_by_row t u area (Leaf l p) entries row = refl
+image_by_row t u area _ entries row = refl
 
 has_records_1 : HasRecords relink_1
 unfolding row_of name_eq
@@ -118,16 +112,16 @@ uuids_1 : uuids relink_1 ≡ first ∷ second ∷ base ∷ []
 unfolding uuids with_uuid in_order
 uuids_1 = refl
 
-first_stands : stands relink_1 first ≡ Some (Vhd first)
-unfolding stands row_of name_eq
+first_stands : standing_volume relink_1 first ≡ Some (Vhd first)
+unfolding standing_volume row_of name_eq
 first_stands = refl
 
-second_stands : stands relink_1 second ≡ None
-unfolding stands row_of name_eq
+second_stands : standing_volume relink_1 second ≡ None
+unfolding standing_volume row_of name_eq
 second_stands = refl
 
-base_stands : stands relink_1 base ≡ None
-unfolding stands row_of name_eq
+base_stands : standing_volume relink_1 base ≡ None
+unfolding standing_volume row_of name_eq
 base_stands = refl
 
 disk_1 : disk_at (at_table relink_1) first ≡ Some (disk_of first_record (written 17))

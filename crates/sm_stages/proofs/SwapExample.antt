@@ -3,15 +3,15 @@ use Rattle.std.proofs.Common.{◌≡◌, ◌≢◌, ◌⊎◌, inl, inr, ℕ, �
 use Rattle.std.specs.List.{find}
 use Rattle.sm_base.specs.declared.names.Name.{Name}
 use Rattle.sm_base.specs.declared.names.Name.TheVariants.{Mgt, Vhd, Leaf}
-use Rattle.sm_machine.specs.Lists.{In, numbers, ◌>>=◌}
-use Rattle.vg_meta.specs.Tables.{Row, Listing, rows, row_of, name_eq}
+use Rattle.common_laws.specs.Lists.{In, numbers, ◌>>=◌}
+use Rattle.vg_meta.specs.Tables.{Row, VolumeTable, rows, row_of, name_eq}
 use Rattle.vhd_layout.specs.Contents.{size_at, parent_at, own}
 use Rattle.sm_standing.specs.Changes.{parent_of}
 use Rattle.sm_standing.specs.Contents.{Content, record_of, is_record_of}
 use Rattle.sm_standing.specs.Entries.{making}
-use Rattle.sm_standing.specs.Examples.{record_row}
+use Rattle.standing_examples.specs.SmallContents.{record_row}
 use Rattle.sm_standing.specs.Images.{Image, image_of, image_extents}
-use Rattle.sm_standing.specs.Standing.{stands, stands_plainly}
+use Rattle.sm_standing.specs.Standing.{standing_volume, stands_plainly}
 use Rattle.sm_standing.proofs.ImageLaws.{image_there, parent-is}
 use Rattle.sm_standing.proofs.WalkLaws.{depth_top, depth_up}
 use Rattle.sm_stages.specs.Swaps.{swapped, IsSwappable, IsSwapping, IsLeafAway, IsParentNamed, IsLeafGone}
@@ -37,7 +37,7 @@ held_alike byte =
     ∙ sym (filled_own (Vhd base) byte 128 (lit≤ tt))
     ∙ ap (λ n. own 8 n (filled_child (Vhd base) byte)) (sym (filled_size byte))
 
-pub parent_image : (t : Listing) (u : List ℕ) (hidden : Bool) (name : Name) → rows t (Vhd u) ≡ Some (image_row hidden name 16)
+pub parent_image : (t : VolumeTable) (u : List ℕ) (hidden : Bool) (name : Name) → rows t (Vhd u) ≡ Some (image_row hidden name 16)
     → image_extents (making t) (Vhd u) 5 ≡ 5 → image_of (content_with t swap_area) (Vhd u) ≡ Some (top 34)
 parent_image t u hidden name there whole =
     placed_image t swap_area u hidden 16 name (top_image 34) there whole
@@ -91,7 +91,7 @@ leaf_parent : parent_of copied (Vhd first) ≡ Some (Vhd base)
 leaf_parent = parent-is copied (Vhd first) (Vhd base) (filled 34) leaf_image (filled_parent 34)
 
 pub swappable : IsSwappable (swapping_at 0) first base (filled 34) (top 34)
-unfolding stands row_of name_eq
+unfolding standing_volume row_of name_eq
 swappable = record {
   entry = refl;
   stood = refl;
@@ -110,17 +110,17 @@ swappable = record {
 
 -- ---- its moments
 
-recorded_alike : (t : Listing) → rows t Mgt ≡ Some (record_row (numbers 0 16)) → (u : List ℕ) → record_of (content_with t swap_area) u ≡ record_of copied u
+recorded_alike : (t : VolumeTable) → rows t Mgt ≡ Some (record_row (numbers 0 16)) → (u : List ℕ) → record_of (content_with t swap_area) u ≡ record_of copied u
 unfolding row_of name_eq
 recorded_alike t there u =
     ap (find (is_record_of u))
     (one_record t (top_image 34) (filled_child (Vhd base) 34) (empty_child (Vhd base)) first_record there first_right
     ∙ sym (one_record leaf_copied (top_image 34) (filled_child (Vhd base) 34) (empty_child (Vhd base)) first_record refl first_right))
 
-abbrev Stage : Listing → Name → Type 0
+abbrev Stage : VolumeTable → Name → Type 0
 Stage t m = IsLeafAway t first base m ⊎ (IsParentNamed t first base m ⊎ IsLeafGone t first base m)
 
-moment : (t : Listing) (u : List ℕ) → Stage t (Vhd u) → making t ≡ [] → apart_rows (swapped first base) t.volumes ≡ record_row (numbers 0 16) ∷ []
+moment : (t : VolumeTable) (u : List ℕ) → Stage t (Vhd u) → making t ≡ [] → apart_rows (swapped first base) t.volumes ≡ record_row (numbers 0 16) ∷ []
     → stands_plainly t base ≡ None → image_of (content_with t swap_area) (Vhd u) ≡ Some (top 34) → rows t Mgt ≡ Some (record_row (numbers 0 16))
     → IsSwapping copied (content_with t swap_area) first base (Vhd u)
 moment t u stage none lone away image there = record {

@@ -3,11 +3,11 @@ use Rattle.std.proofs.Common.{◌≡◌, inl, inr, ℕ, Bool, true, false, cond,
 use Rattle.std.specs.List.{filter}
 use Rattle.sm_base.specs.declared.names.Name.{Name}
 use Rattle.sm_base.specs.declared.names.Name.TheVariants.{Mgt}
-use Rattle.sm_machine.specs.Lists.{In}
+use Rattle.common_laws.specs.Lists.{In}
 use Rattle.vg_meta.specs.Tables.{Row, row_of, name_eq}
 use Rattle.vg_meta.proofs.NameLaws.{name_eq-true}
 use Rattle.sm_standing.specs.Contents.{Content}
-use Rattle.sm_standing.specs.Examples.{record_row}
+use Rattle.standing_examples.specs.SmallContents.{record_row}
 use Rattle.sm_standing.specs.Images.{Image, image_of}
 use Rattle.sm_standing.proofs.DisksShown.{row_of-In}
 use Rattle.sm_standing.proofs.ImageLaws.{image_there}

@@ -1,8 +1,8 @@
 -- The worked fork's second commit, the rename, leaves each volume as it is.
 use Rattle.std.proofs.Common.{false, [], ◌∷◌, Option, refl, sym, ap, subst}
 use Rattle.sm_base.specs.declared.names.Name.TheVariants.{Vhd}
-use Rattle.sm_machine.specs.Lists.{numbers}
-use Rattle.vg_meta.specs.Tables.{Row, Listing, row_of, name_eq, extents_of}
+use Rattle.common_laws.specs.Lists.{numbers}
+use Rattle.vg_meta.specs.Tables.{Row, VolumeTable, row_of, name_eq, extents_of}
 use Rattle.vg_volumes.specs.Volumes.{piece}
 use Rattle.sm_standing.specs.Contents.{Content, sectors_of}
 use Rattle.sm_stages.specs.Forks.{forked}
@@ -12,7 +12,7 @@ use Rattle.sm_stages.proofs.ForkMoments.{fork_2, is_fork_2}
 use Rattle.sm_stages.proofs.ImageSectors.{whole_none, whole_fork}
 use Rattle.sm_stages.proofs.TableLaws.{same_apart}
 
-abbrev renamed : Listing → Content
+abbrev renamed : VolumeTable → Content
 renamed t = content_with t (fork_area (first_record ∷ []))
 
 same_2 : IsSameVolume unforked (renamed fork_2) (Vhd first) (Vhd base) (image_row false (Vhd first) 16) (image_row false (Vhd base) 16)

@@ -5,17 +5,17 @@ use Rattle.sm_base.specs.declared.names.Name.{Name}
 use Rattle.sm_base.specs.declared.names.Name.TheVariants.{Vhd}
 use Rattle.sm_disk.specs.Sectors.{zeros}
 use Rattle.sm_machine.specs.Disks.{Disk}
-use Rattle.sm_machine.specs.Lists.{numbers, ◌>>=◌}
+use Rattle.common_laws.specs.Lists.{numbers, ◌>>=◌}
 use Rattle.sm_record.specs.declared.records.Record.{Record}
 use Rattle.vg_meta.specs.Tables.{rows, row_of, name_eq}
 use Rattle.vhd_layout.specs.Contents.{content_at, own}
-use Rattle.vhd_layout.specs.Examples.{footer_sector, header_sector, table_of, empty, fresh_image, written_image}
-use Rattle.vhd_layout.proofs.ExampleLemmas.{footer_reads, without_slots, written_valid}
-use Rattle.sm_standing.specs.Changes.{parent_of, IsShort}
+use Rattle.layout_examples.specs.SmallImages.{footer_sector, header_sector, table_of, empty, fresh_image, written_image}
+use Rattle.layout_examples.proofs.SmallImageLaws.{footer_reads, without_slots, written_valid}
+use Rattle.sm_standing.specs.Changes.{parent_of, IsShortChain}
 use Rattle.sm_standing.specs.Checks.{depth}
 use Rattle.sm_standing.specs.Contents.{Content, records, record_of, is_record_of}
-use Rattle.sm_standing.specs.Images.{Image, image_of, reads, sectors_read}
-use Rattle.sm_standing.specs.Standing.{stands, disks, disk_at, uuids, with_uuid, in_order}
+use Rattle.sm_standing.specs.Images.{Image, image_of, image_reads, sectors_read}
+use Rattle.sm_standing.specs.Standing.{standing_volume, disks, disk_at, uuids, with_uuid, in_order}
 use Rattle.sm_standing.proofs.ImageLaws.{held_reads, top_zeros, parent_reads, parent-is}
 use Rattle.sm_standing.proofs.WalkLaws.{depth_top, depth_up}
 use Rattle.sm_stages.specs.Moments.{top, filled, child, written, disk_of}
@@ -41,14 +41,14 @@ unfolding numbers
 map_first f n = refl
 
 -- the sectors of an image of 128 sectors, of which 0 has one content and the others another
-sectors_as : (c : Content) (n : Name) (i : Image) (x z : List ℕ) → image_of c n ≡ Some i → i.size ≡ 128 → reads c n 0 ≡ x → ((s : ℕ) → 1 ≤ s → s < 128 → reads c n s ≡ z)
+sectors_as : (c : Content) (n : Name) (i : Image) (x z : List ℕ) → image_of c n ≡ Some i → i.size ≡ 128 → image_reads c n 0 ≡ x → ((s : ℕ) → 1 ≤ s → s < 128 → image_reads c n s ≡ z)
     → sectors_read c n ≡ x ∷ replicate 127 z
 unfolding sectors_read
 sectors_as c n i x z is size head rest =
-    ap (λ o. elim o [ None ↦ [] | Some k ↦ map (reads c n) (numbers 0 k.size) ]) is
-    ∙ ap (λ k. map (reads c n) (numbers 0 k)) size
-    ∙ map_first (reads c n) 127
-    ∙ ap₂ (λ y ys. y ∷ ys) head (map_constant (reads c n) 1 127 z (λ k from below. rest k from (omega (arith, below))))
+    ap (λ o. elim o [ None ↦ [] | Some k ↦ map (image_reads c n) (numbers 0 k.size) ]) is
+    ∙ ap (λ k. map (image_reads c n) (numbers 0 k)) size
+    ∙ map_first (image_reads c n) 127
+    ∙ ap₂ (λ y ys. y ∷ ys) head (map_constant (image_reads c n) 1 127 z (λ k from below. rest k from (omega (arith, below))))
 
 -- ---- one disk
 
@@ -65,7 +65,7 @@ top_sectors c n byte is =
     (λ s from below. top_zeros c n (top byte) s is (top_behind byte s from) (top_parent byte))
 
 -- the disk of a UUID, made of its record and the sectors
-pub shown : (c : Content) (u : List ℕ) (x : Name) (entry : Record) (sectors : List (List ℕ)) → stands c.table u ≡ Some x → record_of c u ≡ Some entry → sectors_read c x ≡ sectors
+pub shown : (c : Content) (u : List ℕ) (x : Name) (entry : Record) (sectors : List (List ℕ)) → standing_volume c.table u ≡ Some x → record_of c u ≡ Some entry → sectors_read c x ≡ sectors
     → entry.uuid ≡ u → disk_at c u ≡ Some (disk_of entry sectors)
 shown c u x entry sectors stand recorded are at = made_disk c u x entry stand recorded ∙ ap₂ as_disk (sym at) are
   where
@@ -76,8 +76,8 @@ pub unforked_uuids : uuids (one_disk) ≡ first ∷ []
 unfolding uuids with_uuid in_order
 unforked_uuids = refl
 
-unforked_stands : stands (one_disk) first ≡ Some (Vhd first)
-unfolding stands row_of name_eq
+unforked_stands : standing_volume (one_disk) first ≡ Some (Vhd first)
+unfolding standing_volume row_of name_eq
 unforked_stands = refl
 
 pub unforked_disks : disks unforked ≡ disk_of first_record (written 17) ∷ []
@@ -113,14 +113,14 @@ HasBase c byte = image_of c (Vhd base) ≡ Some (top byte)
 pub base_top : (c : Content) (byte : ℕ) → HasBase c byte → parent_of c (Vhd base) ≡ None
 base_top c byte below = ap (λ o. o >>= (λ (i : Image). i.parent)) below ∙ top_parent byte
 
-base_rest : (c : Content) (byte s : ℕ) → HasBase c byte → 1 ≤ s → reads c (Vhd base) s ≡ zeros
+base_rest : (c : Content) (byte s : ℕ) → HasBase c byte → 1 ≤ s → image_reads c (Vhd base) s ≡ zeros
 base_rest c byte s below from = top_zeros c (Vhd base) (top byte) s below (top_behind byte s from) (top_parent byte)
 
 pub over_depth : (c : Content) (byte : ℕ) (x : Name) (i : Image) → HasBase c byte → image_of c x ≡ Some i → i.parent ≡ Some (Vhd base) → depth c 31 x ≡ 2
 over_depth c byte x i below is parent =
     let e = depth_up c 30 x (Vhd base) (parent-is c x (Vhd base) i is parent) in let f = depth_top c 29 (Vhd base) (base_top c byte below) in omega (arith, e, f)
 
-over_short : (c : Content) (byte : ℕ) (x : Name) (i : Image) → HasBase c byte → image_of c x ≡ Some i → i.parent ≡ Some (Vhd base) → IsShort c x
+over_short : (c : Content) (byte : ℕ) (x : Name) (i : Image) → HasBase c byte → image_of c x ≡ Some i → i.parent ≡ Some (Vhd base) → IsShortChain c x
 over_short c byte x i below is parent = let e = over_depth c byte x i below is parent in omega (arith, e)
 
 pub child_parent_is : child.parent ≡ Some (Vhd base)
@@ -129,7 +129,7 @@ child_parent_is = child_parent (Vhd base) (table_of []) empty base_named refl
 pub child_size_is : child.size ≡ 128
 child_size_is = child_size (Vhd base) (table_of []) empty base_named refl
 
-child_reads : (c : Content) (byte : ℕ) (x : Name) (s : ℕ) → HasBase c byte → image_of c x ≡ Some child → s < 128 → reads c x s ≡ reads c (Vhd base) s
+child_reads : (c : Content) (byte : ℕ) (x : Name) (s : ℕ) → HasBase c byte → image_of c x ≡ Some child → s < 128 → image_reads c x s ≡ image_reads c (Vhd base) s
 child_reads c byte x s below is low =
     parent_reads c x (Vhd base) child s is (omega (arith, child_size_is, low)) (child_empty s) child_parent_is (over_short c byte x child below is child_parent_is)
 
@@ -193,16 +193,16 @@ pub pair_uuids : uuids fork_8 ≡ first ∷ second ∷ base ∷ []
 unfolding uuids with_uuid in_order
 pair_uuids = refl
 
-pair_stands_first : stands fork_8 first ≡ Some (Vhd first)
-unfolding stands row_of name_eq
+pair_stands_first : standing_volume fork_8 first ≡ Some (Vhd first)
+unfolding standing_volume row_of name_eq
 pair_stands_first = refl
 
-pair_stands_second : stands fork_8 second ≡ Some (Vhd second)
-unfolding stands row_of name_eq
+pair_stands_second : standing_volume fork_8 second ≡ Some (Vhd second)
+unfolding standing_volume row_of name_eq
 pair_stands_second = refl
 
-pair_stands_base : stands fork_8 base ≡ None
-unfolding stands row_of name_eq
+pair_stands_base : standing_volume fork_8 base ≡ None
+unfolding standing_volume row_of name_eq
 pair_stands_base = refl
 
 pair_disks : disks pair ≡ disk_of first_record (written 34) ∷ disk_of second_record (written 17) ∷ []

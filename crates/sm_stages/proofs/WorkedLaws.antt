@@ -6,16 +6,16 @@ use Rattle.std.proofs.lemmas.List.{take-append-drop}
 use lib.Count.{ones}
 use Rattle.sm_base.specs.declared.names.Name.{Name}
 use Rattle.vhd_fields.specs.declared.footers.Footer.{Footer}
-use Rattle.vhd_fields.specs.Footers.{footer_bytes, footer_read, IsFooter, HasRoom}
-use Rattle.vhd_fields.specs.Headers.{header_bytes, header_read, IsHeader, HasRoom as HasHeaderRoom}
+use Rattle.vhd_fields.specs.Footers.{footer_bytes, footer_read, IsFooter, FooterFits}
+use Rattle.vhd_fields.specs.Headers.{header_bytes, header_read, IsHeader, HeaderFits}
 use Rattle.vhd_fields.specs.ParentNames.{IsParent}
 use Rattle.vhd_fields.proofs.FooterLaws.{reads_back}
 use Rattle.vhd_fields.proofs.HeaderLaws.{reads_back as header_reads_back, second_sector}
 use Rattle.vhd_layout.specs.Contents.{size_at, parent_at, own, value}
-use Rattle.vhd_layout.specs.Examples.{footer_sector, header_sector, zeros, table_of, empty, volume}
+use Rattle.layout_examples.specs.SmallImages.{footer_sector, header_sector, zeros, table_of, empty, volume}
 use Rattle.vhd_layout.specs.Images.{IsFooterOf, IsHead, IsImage, IsValid, footer_at, header_at}
 use Rattle.vhd_layout.specs.Layouts.{Sectors, Slots, IsSlots, entry, code, layout_of}
-use Rattle.vhd_layout.proofs.ExampleLemmas.{first_64, slots-160, code-slot, in_sector, entry-volume, word-table_of, the_footer, the_header, head-from, size-from, parent-from, footer_reads, header_reads}
+use Rattle.layout_examples.proofs.SmallImageLaws.{first_64, slots-160, code-slot, in_sector, entry-volume, word-table_of, the_footer, the_header, head-from, size-from, parent-from, footer_reads, header_reads}
 use Rattle.vhd_layout.proofs.ImageLaws.{content-of_head}
 use Rattle.vhd_map.specs.Bitmaps.{is_set}
 use Rattle.vhd_map.specs.Places.{blank, word}
@@ -24,7 +24,7 @@ use Rattle.std.proofs.lemmas.Bool.{lt-ltb, le-ltb, cases_lt, ne_eqb}
 use Rattle.sm_stages.proofs.PieceLaws.{inside_own}
 use Rattle.sm_stages.specs.WorkedImages.{footer_of, child_footer, child_header, child_image, one_entry, one_slot, sector_of, top_image, filled_child, empty_child}
 
-pub footer_room : (kind original current : ℕ) → kind < 2 ^ 32 → original < 2 ^ 64 → current < 2 ^ 64 → HasRoom (footer_of kind original current)
+pub footer_room : (kind original current : ℕ) → kind < 2 ^ 32 → original < 2 ^ 64 → current < 2 ^ 64 → FooterFits (footer_of kind original current)
 footer_room kind original current small few many = record {
   stamp = lit< tt;
   creator = refl;
@@ -40,7 +40,7 @@ footer_room kind original current small few many = record {
 -- a footer that reads as it was written, of a disk of so many blocks
 pub record IsRight (blocks : ℕ) (footer : Footer) : Type 0 where
   pub right : IsFooter footer
-  pub room : HasRoom footer
+  pub room : FooterFits footer
   pub fits : IsFooterOf (layout_of 8 64 blocks 160) footer
 
 child_right : IsRight 16 child_footer
@@ -61,7 +61,7 @@ header_right : (parent : Name) → IsParent (Some parent) → IsHeader (child_he
 unfolding ones
 header_right parent named = record { table_offset = refl; entries = refl; block = refl; parent = named }
 
-header_room : (parent : Name) → HasHeaderRoom (child_header parent)
+header_room : (parent : Name) → HeaderFits (child_header parent)
 header_room parent = record { table_offset = lit< tt; entries = lit< tt; block = lit< tt; parent_uid = refl; parent_stamp = lit< tt }
 
 header_whole : (parent : Name) → IsParent (Some parent) → take 512 (header_bytes (child_header parent)) ++ replicate 512 0 ≡ header_bytes (child_header parent)

@@ -1,6 +1,7 @@
 -- The worked contents are sound: no check of an opening fails.
 use Rattle.std.proofs.Common.{◌≡◌, ℕ, suc, ◌==◌, ◌&&◌, ◌||◌, not, nat_le, Bool, true, false, cond, List, [], ◌∷◌, ◌++◌, length, map, Option, Some, None, is_none, refl, ap, ap₂, ◌∙◌}
 use Rattle.std.specs.List.{find, filter}
+use Rattle.common_laws.proofs.Booleans.{all_hold}
 use Rattle.sm_base.specs.Names.{is_base}
 use Rattle.sm_base.specs.Numbers.{div_up}
 use Rattle.sm_base.specs.declared.faults.Place.{Place}
@@ -9,14 +10,14 @@ use Rattle.sm_base.specs.declared.names.Name.{Name}
 use Rattle.sm_base.specs.declared.names.Name.TheVariants.{Vhd}
 use Rattle.vg_layout.specs.Places.{record_extents}
 use Rattle.vg_meta.specs.Tables.{Row, row_of, name_eq}
-use Rattle.sm_machine.specs.Lists.{numbers, first_some}
+use Rattle.common_laws.specs.Lists.{numbers, first_some}
 use Rattle.sm_machine.specs.Shapes.{same_image}
 use Rattle.sm_record.specs.declared.records.Record.{Record}
 use Rattle.sm_standing.specs.Checks.{first_fault, first_name, name_in, placed, record_volume_fault, too_many_fault, misnamed_fault, second_entry_fault, lost_entry_fault, old_leaf_fault, is_invalid, invalid_fault, children, parent_is, chain_length, is_no_larger, is_misplaced, is_tree_wrong, tree_fault, is_entry_linked, entry_link_fault, record_fault, disk_place, disk_uuids, disk_fault}
 use Rattle.sm_standing.specs.Contents.{Content, records, is_record_of}
 use Rattle.sm_standing.specs.Entries.{is_hidden, is_at_stage}
 use Rattle.sm_standing.specs.Images.{Image, image_of}
-use Rattle.sm_standing.specs.Standing.{stands, uuids, with_uuid, in_order}
+use Rattle.sm_standing.specs.Standing.{standing_volume, uuids, with_uuid, in_order}
 use Rattle.sm_standing.proofs.WalkLaws.{length_top, length_up}
 use Rattle.sm_stages.specs.Moments.{top, filled, child}
 use Rattle.sm_stages.specs.Worked.{first, second, base, first_record, second_record, image_row, one_disk, unforked, two_disks}
@@ -119,12 +120,6 @@ pub free : (c : Content) (os : List (Option Image)) (u : List ℕ) (hidden : Boo
     → is_free hidden (kept (parent_is (Vhd u)) c.table.volumes os) ≡ true → is_free hidden (children c (Vhd u)) ≡ true
 free c os u hidden are is = ap (is_free hidden) (children_are c os (Vhd u) are) ∙ is
 
-passes : (a b d : Bool) → a ≡ true → b ≡ true → d ≡ true → not (a && (b && d)) ≡ false
-passes true true true is_a is_b is_d = refl
-passes false b d is_a is_b is_d = absurd (let e = is_a in cc)
-passes true false d is_a is_b is_d = absurd (let e = is_b in cc)
-passes true true false is_a is_b is_d = absurd (let e = is_d in cc)
-
 pub chain_top : (c : Content) (most : ℕ) (n : Name) (i : Image) → image_of c n ≡ Some (written_out None i) → chain_length c (suc most) n ≡ 1
 chain_top c most n i is = length_top c most n (written_out None i) is refl
 
@@ -136,14 +131,14 @@ pub top_right : (c : Content) (u : List ℕ) (hidden : Bool) (place : ℕ) (i : 
     → is_free hidden (children c (Vhd u)) ≡ true → is_tree_wrong c (image_row hidden (Vhd u) place) ≡ false
 top_right c u hidden place i is childless =
     ap (is_misplaced c (image_row hidden (Vhd u) place)) is
-    ∙ passes true (nat_le (chain_length c 31 (Vhd u)) 30) (is_free hidden (children c (Vhd u))) refl (ap (λ d. nat_le d 30) (chain_top c 30 (Vhd u) i is)) childless
+    ∙ all_hold true (nat_le (chain_length c 31 (Vhd u)) 30) (is_free hidden (children c (Vhd u))) refl (ap (λ d. nat_le d 30) (chain_top c 30 (Vhd u) i is)) childless
 
 pub child_right : (c : Content) (u p : List ℕ) (hidden : Bool) (place : ℕ) (i q : Image) (above : Option Name) → image_of c (Vhd u) ≡ Some (written_out (Some (Vhd p)) i)
     → is_hidden c.table (Vhd p) ≡ true → image_of c (Vhd p) ≡ Some (written_out above q) → nat_le (chain_length c 31 (Vhd u)) 30 ≡ true
     → is_free hidden (children c (Vhd u)) ≡ true → is_tree_wrong c (image_row hidden (Vhd u) place) ≡ false
 child_right c u p hidden place i q above is there below short childless =
     ap (is_misplaced c (image_row hidden (Vhd u) place)) is
-    ∙ passes (is_hidden c.table (Vhd p) && is_no_larger 128 (image_of c (Vhd p))) (nat_le (chain_length c 31 (Vhd u)) 30) (is_free hidden (children c (Vhd u)))
+    ∙ all_hold (is_hidden c.table (Vhd p) && is_no_larger 128 (image_of c (Vhd p))) (nat_le (chain_length c 31 (Vhd u)) 30) (is_free hidden (children c (Vhd u)))
     (ap₂ (λ b o. b && is_no_larger 128 o) there below) short childless
 
 -- one right under the top of its chain
@@ -164,7 +159,7 @@ unfolding image_of
 one_images = ap (λ o. None ∷ o ∷ []) one_image
 
 pub unforked_sound : first_fault unforked ≡ None
-unfolding record_volume_fault too_many_fault misnamed_fault second_entry_fault lost_entry_fault old_leaf_fault first_name is_at_stage is_entry_linked row_of name_eq is_base numbers record_extents div_up stands uuids with_uuid in_order
+unfolding record_volume_fault too_many_fault misnamed_fault second_entry_fault lost_entry_fault old_leaf_fault first_name is_at_stage is_entry_linked row_of name_eq is_base numbers record_extents div_up standing_volume uuids with_uuid in_order
 unforked_sound = sound unforked (record {
   table = refl;
   invalid = (refl, (ap is_none one_image, tt));
@@ -190,7 +185,7 @@ unfolding image_of
 pair_images = ap₃ (λ o p q. None ∷ o ∷ p ∷ q ∷ []) first_written second_written base_written
 
 pair_sound : first_fault pair ≡ None
-unfolding record_volume_fault too_many_fault misnamed_fault second_entry_fault lost_entry_fault old_leaf_fault first_name is_at_stage is_entry_linked row_of name_eq is_base numbers record_extents div_up same_image stands uuids with_uuid in_order
+unfolding record_volume_fault too_many_fault misnamed_fault second_entry_fault lost_entry_fault old_leaf_fault first_name is_at_stage is_entry_linked row_of name_eq is_base numbers record_extents div_up same_image standing_volume uuids with_uuid in_order
 pair_sound = sound pair (record {
   table = refl;
   invalid = (refl, (ap is_none first_written, (ap is_none second_written, (ap is_none base_written, tt))));

@@ -6,7 +6,7 @@ use Rattle.std.specs.Prelude.{◌≡◌, ◌≢◌, ◌⊎◌, ℕ, ◌<◌, tru
 use Rattle.std.specs.List.{list_any}
 use Rattle.sm_base.specs.declared.names.Name.{Name}
 use Rattle.sm_base.specs.declared.names.Name.TheVariants.{Vhd, Clone}
-use Rattle.vg_meta.specs.Tables.{Listing}
+use Rattle.vg_meta.specs.Tables.{VolumeTable}
 use Rattle.sm_machine.specs.Shapes.{chain_limit}
 use Rattle.sm_record.specs.declared.records.Record.{Record}
 use Rattle.sm_standing.specs.Changes.{parent_of}
@@ -14,7 +14,7 @@ use Rattle.sm_standing.specs.Checks.{depth}
 use Rattle.sm_standing.specs.Contents.{Content, record_of}
 use Rattle.sm_standing.specs.Entries.{making, folding, folding_uuids, head, image_with, is_among, is_visible}
 use Rattle.sm_standing.specs.Images.{Image, image_of}
-use Rattle.sm_standing.specs.Standing.{stands, stands_plainly}
+use Rattle.sm_standing.specs.Standing.{standing_volume, stands_plainly}
 use Rattle.sm_stages.specs.Apart.{is_apart, IsSameApart, IsEmptyOver}
 
 -- the UUIDs that a fork speaks of
@@ -25,10 +25,10 @@ forked disk base twin = disk ∷ base ∷ twin ∷ []
 -- fork is there, and the other entry speaks of none of the three; no image has a parent of these UUIDs; and the chain
 -- of n has room for one image more
 pub record IsForkable (a : Content) (disk base twin : List ℕ) (n : Name) (i : Image) : Type 0 where
-  pub stood : stands a.table disk ≡ Some n
+  pub stood : standing_volume a.table disk ≡ Some n
   pub image : image_of a n ≡ Some i
-  pub no_base : stands a.table base ≡ None
-  pub no_twin : stands a.table twin ≡ None
+  pub no_base : standing_volume a.table base ≡ None
+  pub no_twin : standing_volume a.table twin ≡ None
   pub none_making : making a.table ≡ []
   pub beside : list_any (is_among (forked disk base twin)) (folding_uuids a.table) ≡ false
   pub childless : (m p : Name) → parent_of a m ≡ Some p → is_apart (forked disk base twin) p ≡ true
@@ -36,7 +36,7 @@ pub record IsForkable (a : Content) (disk base twin : List ℕ) (n : Name) (i : 
 
 -- where the disk's image lies: before the rename the disk stands by itself in m, and no image has the base's UUID;
 -- afterwards m is the image that has it
-abbrev pub IsForkPlace : Listing → List ℕ → List ℕ → Name → Type 0
+abbrev pub IsForkPlace : VolumeTable → List ℕ → List ℕ → Name → Type 0
 IsForkPlace t disk base m = ((image_with t base ≡ None) × (stands_plainly t disk ≡ Some m)) ⊎ (image_with t base ≡ Some m)
 
 -- at any moment while the entry of a fork is there: the disk's image lies in m, whatever the new images are by then;

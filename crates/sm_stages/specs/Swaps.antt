@@ -4,12 +4,12 @@
 use Rattle.std.specs.Prelude.{◌≡◌, ◌≢◌, ◌⊎◌, ℕ, true, List, [], ◌∷◌, Some, None}
 use Rattle.sm_base.specs.declared.names.Name.{Name}
 use Rattle.sm_base.specs.declared.names.Name.TheVariants.{Vhd, Leaf}
-use Rattle.vg_meta.specs.Tables.{Listing}
-use Rattle.sm_standing.specs.Changes.{parent_of, IsCopied, IsShort}
+use Rattle.vg_meta.specs.Tables.{VolumeTable}
+use Rattle.sm_standing.specs.Changes.{parent_of, IsCopied, IsShortChain}
 use Rattle.sm_standing.specs.Contents.{Content, record_of}
 use Rattle.sm_standing.specs.Entries.{making, folding, head, is_leaf_renamed, is_leaf_swapped, is_leaf_folded}
 use Rattle.sm_standing.specs.Images.{Image, image_of}
-use Rattle.sm_standing.specs.Standing.{stands, stands_plainly}
+use Rattle.sm_standing.specs.Standing.{standing_volume, stands_plainly}
 use Rattle.sm_stages.specs.Apart.{is_apart, IsSameApart}
 
 -- the UUIDs that a swap speaks of
@@ -17,30 +17,30 @@ abbrev pub swapped : List ℕ → List ℕ → List (List ℕ)
 swapped leaf parent = leaf ∷ parent ∷ []
 
 -- the entry of the leaf is the first of its group
-abbrev pub HasLeafEntry : Listing → List ℕ → List ℕ → Type 0
+abbrev pub HasLeafEntry : VolumeTable → List ℕ → List ℕ → Type 0
 HasLeafEntry t leaf parent = head (folding t) ≡ Some (Leaf leaf parent)
 
 -- before a swap, under the entry of the leaf: the leaf stands in its own image, whose parent is no disk and holds alike
 -- whatever the leaf holds; no fork is under way, and nothing but the leaf has a parent of these UUIDs
 pub record IsSwappable (a : Content) (leaf parent : List ℕ) (i q : Image) : Type 0 where
   pub entry : HasLeafEntry a.table leaf parent
-  pub stood : stands a.table leaf ≡ Some (Vhd leaf)
-  pub no_parent : stands a.table parent ≡ None
+  pub stood : standing_volume a.table leaf ≡ Some (Vhd leaf)
+  pub no_parent : standing_volume a.table parent ≡ None
   pub none_making : making a.table ≡ []
   pub copied : IsCopied a (Vhd leaf) (Vhd parent) i q
-  pub short : IsShort a (Vhd leaf)
+  pub short : IsShortChain a (Vhd leaf)
   pub childless : (m p : Name) → m ≢ Vhd leaf → parent_of a m ≡ Some p → is_apart (swapped leaf parent) p ≡ true
 
 -- the leaf was renamed, and the parent lies in m
-abbrev pub IsLeafAway : Listing → List ℕ → List ℕ → Name → Type 0
+abbrev pub IsLeafAway : VolumeTable → List ℕ → List ℕ → Name → Type 0
 IsLeafAway t leaf parent m = HasLeafEntry t leaf parent × (is_leaf_renamed t leaf parent ≡ true) × (m ≡ Vhd parent)
 
 -- the parent has the leaf's name, hidden or not
-abbrev pub IsParentNamed : Listing → List ℕ → List ℕ → Name → Type 0
+abbrev pub IsParentNamed : VolumeTable → List ℕ → List ℕ → Name → Type 0
 IsParentNamed t leaf parent m = HasLeafEntry t leaf parent × (is_leaf_swapped t leaf parent ≡ true) × (m ≡ Vhd leaf)
 
 -- the old leaf is gone, and the entry may be
-abbrev pub IsLeafGone : Listing → List ℕ → List ℕ → Name → Type 0
+abbrev pub IsLeafGone : VolumeTable → List ℕ → List ℕ → Name → Type 0
 IsLeafGone t leaf parent m =
     (HasLeafEntry t leaf parent ⊎ (folding t ≡ [])) × (is_leaf_folded t leaf parent ≡ true) × (m ≡ Vhd leaf)
 

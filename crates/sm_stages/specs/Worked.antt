@@ -4,18 +4,18 @@ use Rattle.std.specs.Prelude.{ℕ, ◌+◌, ◌-◌, ◌&&◌, nat_le, nat_lt, B
 use Rattle.sm_base.specs.declared.names.Name.{Name}
 use Rattle.sm_base.specs.declared.names.Name.TheVariants.{Vhd, Old, Clone, Leaf, Relink}
 use Rattle.sm_disk.specs.Sectors.{zeros}
-use Rattle.sm_machine.specs.Lists.{numbers}
+use Rattle.common_laws.specs.Lists.{numbers}
 use Rattle.sm_record.specs.declared.records.Record.{Record}
 use Rattle.sm_record.specs.Records.{record_sector}
 use Rattle.vg_meta.specs.Changes.{applied}
-use Rattle.vg_meta.specs.Tables.{Row, Listing, name_eq}
+use Rattle.vg_meta.specs.Tables.{Row, VolumeTable, name_eq}
 use Rattle.vg_meta.specs.declared.changes.Change.{Change}
 use Rattle.vg_meta.specs.declared.changes.Change.TheVariants.{Create, Remove, Rename, Mark}
 use Rattle.vg_meta.specs.declared.changes.Tag.TheVariants.{Hidden, Fresh}
-use Rattle.vhd_layout.specs.Examples.{empty, fresh_image, written_image}
+use Rattle.layout_examples.specs.SmallImages.{empty, fresh_image, written_image}
 use Rattle.vhd_layout.specs.Layouts.{Sectors}
 use Rattle.sm_standing.specs.Contents.{Content}
-use Rattle.sm_standing.specs.Examples.{record_row, base_of}
+use Rattle.standing_examples.specs.SmallContents.{record_row, base_of}
 use Rattle.sm_stages.specs.WorkedImages.{small_top_footer, small_child_footer, grown_child_footer, between_footers, top_image, filled_child, empty_child}
 
 -- ---- UUIDs and records
@@ -58,22 +58,22 @@ abbrev pub image_row : Bool → Name → ℕ → Row
 image_row hidden n at = record { name = n; hidden = hidden; fresh = false; extents = numbers at 5 }
 
 -- these volumes behind the volume of records, at sequence number 4
-abbrev pub table_with : List Row → Listing
+abbrev pub table_with : List Row → VolumeTable
 table_with volumes = record { sequence = 4; volumes = record_row (numbers 0 16) ∷ volumes }
 
-abbrev pub content_with : Listing → (ℕ → List ℕ) → Content
+abbrev pub content_with : VolumeTable → (ℕ → List ℕ) → Content
 content_with t area = record { extent = 32; block = 8; entries = 64; count = 64; table = t; area = area }
 
 -- ---- commits
 
 -- the table that some changes leave, one after the other
-abbrev pub after_all : Listing → List Change → Listing
+abbrev pub after_all : VolumeTable → List Change → VolumeTable
 after_all t [] = t
 after_all t (change ∷ changes) = after_all (applied t change) changes
 
 -- ---- one disk, which is forked
 
-abbrev pub one_disk : Listing
+abbrev pub one_disk : VolumeTable
 one_disk = table_with (image_row false (Vhd first) 16 ∷ [])
 
 -- the disk as it was made, and with two of its sectors written
@@ -97,7 +97,7 @@ fork_changes =
     ∷ []
 
 -- the table after so many of them
-abbrev pub fork_after : ℕ → Listing
+abbrev pub fork_after : ℕ → VolumeTable
 fork_after k = after_all one_disk (take k fork_changes)
 
 -- the disk's sector 0 was written with byte 17 before the fork; the new images hold nothing
@@ -123,7 +123,7 @@ two_disks = content_with (fork_after 8) (area_of (top_image 17) (filled_child (V
 -- ---- a leaf, which is folded into its parent
 
 -- the leaf and its hidden parent, under the entry
-abbrev pub leaf_copied : Listing
+abbrev pub leaf_copied : VolumeTable
 leaf_copied = table_with (image_row false (Vhd first) 21 ∷ image_row true (Vhd base) 16 ∷ record { name = Leaf first base; hidden = false; fresh = false; extents = [] } ∷ [])
 
 -- the commits of a swap
@@ -137,7 +137,7 @@ swap_changes =
     ∷ []
 
 -- the table after so many of them
-abbrev pub swap_after : ℕ → Listing
+abbrev pub swap_after : ℕ → VolumeTable
 swap_after k = after_all leaf_copied (take k swap_changes)
 
 -- leaf and parent both hold sector 0: the leaf's is of byte 34, and the parent's of this one
@@ -162,7 +162,7 @@ exchanged n = if name_eq n (Vhd base) then Vhd first else if name_eq n (Vhd firs
 -- ---- a relink
 
 -- a disk over a hidden image over a base; the entry links the disk past the hidden image
-abbrev pub relink_table : Listing
+abbrev pub relink_table : VolumeTable
 relink_table = table_with (image_row false (Vhd first) 21
     ∷ image_row true (Vhd second) 26
     ∷ image_row true (Vhd base) 16
@@ -178,7 +178,7 @@ abbrev pub relink_changes : List Change
 relink_changes = Remove (Relink second base) ∷ Remove (Vhd second) ∷ []
 
 -- the table after so many of them
-abbrev pub relink_after : ℕ → Listing
+abbrev pub relink_after : ℕ → VolumeTable
 relink_after k = after_all relink_table (take k relink_changes)
 
 -- after so many of these commits; the disk's image and the hidden one hold nothing over the base
@@ -203,7 +203,7 @@ abbrev pub grown_child : Sectors
 grown_child = between_footers grown_child_footer (filled_child (Vhd base) 34)
 
 -- a disk over a hidden base
-abbrev pub disk_and_base : Listing
+abbrev pub disk_and_base : VolumeTable
 disk_and_base = table_with (image_row false (Vhd first) 21 ∷ image_row true (Vhd base) 16 ∷ [])
 
 -- the disk's image over a base

@@ -6,7 +6,7 @@ use Rattle.vhd_fields.specs.declared.footers.Footer.{Footer}
 use Rattle.vhd_fields.specs.declared.headers.Header.{Header}
 use Rattle.vhd_fields.specs.Footers.{footer_bytes}
 use Rattle.vhd_fields.specs.Headers.{header_bytes}
-use Rattle.vhd_layout.specs.Examples.{zeros, table_of, empty, volume, footer_sector, header_sector}
+use Rattle.layout_examples.specs.SmallImages.{zeros, table_of, empty, volume, footer_sector, header_sector}
 use Rattle.vhd_layout.specs.Layouts.{Sectors}
 
 -- the footer of a disk of a type, dynamic (3) or differencing (4), which was made with one size in bytes and has another

@@ -3,7 +3,7 @@
 ghost use Rattle.std.specs.Prelude.{◌≡◌, ◌∷◌, [], ℕ, ◌≤◌, None, Some};
 ghost use Rattle.sm_base.specs.declared.names.Name.TheVariants.{Vhd};
 ghost use Rattle.vhd_layout.specs.Contents.{content_at};
-ghost use Rattle.vhd_layout.specs.Examples.{fresh_image, written_image};
+ghost use Rattle.layout_examples.specs.SmallImages.{fresh_image, written_image};
 ghost use Rattle.sm_standing.specs.Checks.{first_fault};
 ghost use Rattle.sm_standing.specs.Images.{image_of};
 ghost use Rattle.sm_standing.specs.Standing.{disks};

@@ -5,7 +5,7 @@ ghost use Rattle.sm_base.specs.declared.names.Name.{Name};
 ghost use Rattle.sm_base.specs.declared.names.Name.TheVariants.{Vhd};
 ghost use Rattle.sm_standing.specs.Changes.{turns_of};
 ghost use Rattle.sm_standing.specs.Images.{here, up};
-ghost use Rattle.sm_standing.specs.Turns.{IsNoParent, IsOnlyChild, SameBut, renamed_turn};
+ghost use Rattle.sm_standing.specs.Answering.{IsNoParent, SendsUpAlone, SameBut, renamed_answer};
 ghost use Rattle.sm_stages.specs.Worked.{first, second, base, exchanged, filled_at, two_disks, uncopied, swapping_at, relinking, relinked_at};
 ghost use Rattle.sm_stages.specs.WorkedImages.{sector_of};
 
@@ -21,7 +21,7 @@ pub fn example_guest_write()
 /// Sector 0 of a leaf is copied into its parent, which held other bytes there: the leaf is the only child, and answers
 /// itself (`law_copy_below`).
 pub fn example_copy_below()
-    ensures only { IsOnlyChild (turns_of uncopied 0) (Vhd first) (Vhd base) }
+    ensures only { SendsUpAlone (turns_of uncopied 0) (Vhd first) (Vhd base) }
     ensures held { turns_of uncopied 0 (Vhd first) ≡ here (sector_of 34) }
     ensures others { SameBut (turns_of uncopied 0) (turns_of (swapping_at 0) 0) (Vhd base) }
     ensures before { turns_of uncopied 0 (Vhd base) ≡ here (sector_of 17) }
@@ -39,7 +39,7 @@ pub fn example_relink()
 
 /// The parent of a folded leaf gets the leaf's name: each image does under its new name what it did (`law_rename`).
 pub fn example_rename()
-    ensures renamed { (n : Name) → turns_of (swapping_at 2) 0 (exchanged n) ≡ renamed_turn exchanged (turns_of (swapping_at 1) 0 n) }
+    ensures renamed { (n : Name) → turns_of (swapping_at 2) 0 (exchanged n) ≡ renamed_answer exchanged (turns_of (swapping_at 1) 0 n) }
     ensures before { turns_of (swapping_at 1) 0 (Vhd base) ≡ here (sector_of 34) }
     ensures after { turns_of (swapping_at 2) 0 (Vhd first) ≡ here (sector_of 34) }
 {}

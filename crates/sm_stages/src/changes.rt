@@ -6,7 +6,7 @@ ghost use Rattle.sm_disk.specs.Sectors.{zeros};
 ghost use Rattle.vg_meta.specs.Tables.{Row};
 ghost use Rattle.sm_standing.specs.Changes.{IsRaised, IsRemoved};
 ghost use Rattle.sm_standing.specs.Contents.{Content};
-ghost use Rattle.sm_standing.specs.Images.{Image, image_of, reads};
+ghost use Rattle.sm_standing.specs.Images.{Image, image_of, image_reads};
 ghost use Rattle.sm_standing.specs.Standing.{disks};
 ghost use Rattle.sm_stages.specs.Moments.{child, small, small_top, large, written, disk_of};
 ghost use Rattle.sm_stages.specs.Worked.{first, second, base, first_record, image_row, relinked_at, still_linked, ungrown, grown, over_larger};
@@ -33,7 +33,7 @@ pub fn example_raised()
     ensures parent { small.parent ≡ Some (Vhd base) }
     ensures below { image_of ungrown (Vhd base) ≡ Some small_top }
     ensures below_size { small_top.size ≡ 64 }
-    ensures kept { reads grown (Vhd first) 0 ≡ sector_of 34 }
-    ensures zeros { (s : ℕ) → 64 ≤ s → reads grown (Vhd first) s ≡ zeros }
+    ensures kept { image_reads grown (Vhd first) 0 ≡ sector_of 34 }
+    ensures zeros { (s : ℕ) → 64 ≤ s → image_reads grown (Vhd first) s ≡ zeros }
     ensures not_over_a_larger { (b : Content) (i j : Image) → ¬ IsRaised over_larger b (Vhd first) i j }
 {}

@@ -14,10 +14,12 @@
 //! byte for byte), `Worked` (contents and commits), `Moments` (what those images say, and the disks), `Opened`
 //! (shapes).
 //!
-//! The laws are the contracts of functions that do nothing (`forks`, `swaps`, `volumes`); so are the examples. These
-//! meet the hypotheses of the laws commit by commit (`moments`, `volumes`), and of the laws of `sm_standing` on an image that
-//! is removed and on one that grows (`changes`), and on reads through chains (`chains`); they read images, disks and checks off worked bytes (`bytes`),
-//! and compute what an opening makes of a fork, of a swap and of a relink that stopped, and that its checks pass (`openings`).
+//! The laws are the contracts of functions that do nothing: modules `forks` and `swaps`, and of `volumes` those named
+//! `law_`. They have the smaller half of the proofs. All else are examples, and with them the definitions `WorkedImages`,
+//! `Worked` and `Opened`. The examples meet the hypotheses of the laws commit by commit (`moments`, `volumes`), and of the
+//! laws of `sm_standing` on an image that is removed and on one that grows (`changes`), and on reads through chains
+//! (`chains`); they read images, disks and checks off worked bytes (`bytes`), and compute what an opening makes of a fork, of
+//! a swap and of a relink that stopped, and that its checks pass (`openings`). No crate stands on this one.
 #![tactic(auto)]
 
 mod bytes;

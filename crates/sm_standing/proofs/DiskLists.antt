@@ -1,17 +1,19 @@
 -- The list of disks is determined by the disk of each UUID.
+pub use Rattle.common_laws.proofs.Bytes.{same_or_not}
 use Rattle.std.proofs.Common.{◌≡◌, ◌≢◌, ℕ, ◌⊎◌, inl, inr, Bool, true, false, cond, List, [], ◌∷◌, Option, Some, None, refl, sym, ap, ◌∙◌, subst, bytes_eq}
 use Rattle.std.specs.declared.cmp.Ordering.TheVariants.{Less, Equal}
 use Rattle.std.specs.Ordering.{is_lt}
 use Rattle.std.proofs.lemmas.Map.Lookups.{exact_bytes}
 use Rattle.std.proofs.lemmas.Slice.Eq.{bytes_eq-Decides}
+use Rattle.common_laws.proofs.Bytes.{same_or_not}
 use Rattle.sm_base.specs.declared.names.Name.{Name}
 use Rattle.sm_record.specs.declared.records.Record.{Record}
-use Rattle.sm_machine.specs.Lists.{In, insert_by, ◌>>=◌}
+use Rattle.common_laws.specs.Lists.{In, insert_by, ◌>>=◌}
 use Rattle.sm_machine.specs.Disks.{Disk, with_disk}
 use Rattle.std.specs.List.{find}
 use Rattle.sm_standing.specs.Contents.{Content, record_of, records, is_record_of}
 use Rattle.sm_standing.specs.Images.{sectors_read}
-use Rattle.sm_standing.specs.Standing.{disks, disk_at, disk_in, uuids, stands}
+use Rattle.sm_standing.specs.Standing.{disks, disk_at, disk_in, uuids, standing_volume}
 use Rattle.sm_standing.specs.Ordered.{Rising, uuid_cmp, disk_cmp}
 use Rattle.sm_standing.proofs.Orders.{rising_ext, In-filter_map, filter_map-In, rising-filter_map, In-insert, new-insert, old-insert, rising-insert}
 use Rattle.sm_standing.proofs.DisksShown.{disk_cmp_total, stands_listed, rising-in_order}
@@ -19,25 +21,25 @@ use Rattle.sm_standing.proofs.DisksShown.{disk_cmp_total, stands_listed, rising-
 -- what the disk of a UUID is made of
 pub record DiskParts (c : Content) (u : List ℕ) (d : Disk) : Type 0 where
   pub name : Name
-  pub standing : stands c.table u ≡ Some name
+  pub standing : standing_volume c.table u ≡ Some name
   pub entry : Record
   pub recorded : record_of c u ≡ Some entry
   pub made : d ≡ disk_in c u entry name
 
-recorded-parts : (c : Content) (u : List ℕ) (d : Disk) (n : Name) → stands c.table u ≡ Some n → (o : Option Record) → record_of c u ≡ o
+recorded-parts : (c : Content) (u : List ℕ) (d : Disk) (n : Name) → standing_volume c.table u ≡ Some n → (o : Option Record) → record_of c u ≡ o
     → (o >>= (λ r. Some (disk_in c u r n))) ≡ Some d → DiskParts c u d
 recorded-parts c u d n standing None recorded h = absurd (let x = h in cc)
 recorded-parts c u d n standing (Some r) recorded h =
     record { name = n; standing = standing; entry = r; recorded = recorded; made = (let x = h in cc) }
 
-standing-parts : (c : Content) (u : List ℕ) (d : Disk) (o : Option Name) → stands c.table u ≡ o
+standing-parts : (c : Content) (u : List ℕ) (d : Disk) (o : Option Name) → standing_volume c.table u ≡ o
     → (o >>= (λ n. record_of c u >>= (λ r. Some (disk_in c u r n)))) ≡ Some d → DiskParts c u d
 standing-parts c u d None standing h = absurd (let x = h in cc)
 standing-parts c u d (Some n) standing h = recorded-parts c u d n standing (record_of c u) refl h
 
 pub disk_parts : (c : Content) (u : List ℕ) (d : Disk) → disk_at c u ≡ Some d → DiskParts c u d
 unfolding disk_at
-disk_parts c u d h = standing-parts c u d (stands c.table u) refl h
+disk_parts c u d h = standing-parts c u d (standing_volume c.table u) refl h
 
 -- the disk of a UUID has that UUID
 pub uuid-disk_at : (c : Content) (u : List ℕ) (d : Disk) → disk_at c u ≡ Some d → d.uuid ≡ u
@@ -75,10 +77,6 @@ disks_same a b same = rising_ext disk_cmp disk_cmp_total (disks b) (disks a) (ri
 decided : (u v : List ℕ) (b : Bool) → bytes_eq u v ≡ b → (u ≡ v) ⊎ (u ≢ v)
 decided u v true is = inl ((bytes_eq-Decides u v).0 is)
 decided u v false is = inr (λ at. let e = (bytes_eq-Decides u v).1 at in cc)
-
--- two UUIDs are the same, or not
-pub same_or_not : (u v : List ℕ) → (u ≡ v) ⊎ (u ≢ v)
-same_or_not u v = decided u v (bytes_eq u v) refl
 
 -- where one UUID that was no disk is this disk, and each other is the same, the disks are one more
 pub disks_more : (a b : Content) (d : Disk) → disk_at a d.uuid ≡ None → disk_at b d.uuid ≡ Some d
@@ -132,7 +130,7 @@ disk_record c u d h =
     )
 
 -- and the sectors that are read of the volume in which it stands
-pub disk_sectors : (c : Content) (u : List ℕ) (d : Disk) → disk_at c u ≡ Some d → (n : Name) × (stands c.table u ≡ Some n) × (d.sectors ≡ sectors_read c n)
+pub disk_sectors : (c : Content) (u : List ℕ) (d : Disk) → disk_at c u ≡ Some d → (n : Name) × (standing_volume c.table u ≡ Some n) × (d.sectors ≡ sectors_read c n)
 disk_sectors c u d h =
     let parts = disk_parts c u d h in
     (parts.name, parts.standing, ap (λ (e : Disk). e.sectors) parts.made)

@@ -8,12 +8,12 @@ use Rattle.std.specs.List.{filter, flat_map}
 use Rattle.std.proofs.lemmas.Cmp.{nat_list_cmp_total}
 use Rattle.std.proofs.lemmas.Map.Lookups.{exact_bytes}
 use Rattle.std.proofs.lemmas.Slice.Eq.{bytes_eq-Decides}
-use Rattle.sm_machine.specs.Lists.{In}
+use Rattle.common_laws.specs.Lists.{In}
 use Rattle.sm_base.specs.declared.names.Name.{Name}
 use Rattle.sm_base.specs.declared.names.Name.TheVariants.{Mgt, Vhd, Raw, Old, Clone, Inflate, Coalesce, Relink, Leaf}
-use Rattle.vg_meta.specs.Tables.{Listing, Row, rows, row_of, name_eq, names_of}
+use Rattle.vg_meta.specs.Tables.{VolumeTable, Row, rows, row_of, name_eq, names_of}
 use Rattle.sm_standing.specs.Entries.{names_in, head, making, folding, is_making, is_folding, is_visible, of_row, is_leaf_renamed, is_leaf_swapped, image_with}
-use Rattle.sm_standing.specs.Standing.{uuids, with_uuid, in_order, candidates, stands, stands_plainly, stands_forked, stands_folded, under}
+use Rattle.sm_standing.specs.Standing.{uuids, with_uuid, in_order, candidates, standing_volume, stands_plainly, stands_forked, stands_folded, under}
 use Rattle.sm_standing.specs.Ordered.{Rising, uuid_cmp, disk_cmp}
 
 pub disk_cmp_total : IsTotalOrder disk_cmp
@@ -107,11 +107,6 @@ old-in_order [] x h = elim h [ ]
 old-in_order (u ∷ us) x (inl is) = subst (λ y. In y (with_uuid u (in_order us))) (sym is) (new-with_uuid u (in_order us))
 old-in_order (u ∷ us) x (inr h) = old-with_uuid u x (in_order us) (old-in_order us x h)
 
-pub In-in_order : (us : List (List ℕ)) (x : List ℕ) → In x (in_order us) → In x us
-unfolding in_order
-In-in_order [] x h = elim h [ ]
-In-in_order (u ∷ us) x h = ⊎_elim (λ is. inl is) (λ k. inr (In-in_order us x k)) (In-with_uuid u x (in_order us) h)
-
 -- ---- where a UUID stands, it is listed
 
 In-append_left : (xs ys : List (List ℕ)) (u : List ℕ) → In u xs → In u (xs ++ ys)
@@ -141,27 +136,13 @@ In-head test (n ∷ ns) e h = first-filter test (test n) n e ns (filter test ns)
 -- a name that is tested equal to an image's is that name
 pub is_vhd : (a : Name) (u : List ℕ) → name_eq a (Vhd u) ≡ true → a ≡ Vhd u
 unfolding name_eq
-is_vhd Mgt u h = absurd (let x = h in cc)
 is_vhd (Vhd v) u h = ap Vhd ((bytes_eq-Decides v u).0 h)
-is_vhd (Raw v) u h = absurd (let x = h in cc)
-is_vhd (Old v) u h = absurd (let x = h in cc)
-is_vhd (Clone d b t) u h = absurd (let x = h in cc)
-is_vhd (Inflate i n) u h = absurd (let x = h in cc)
-is_vhd (Coalesce c p) u h = absurd (let x = h in cc)
-is_vhd (Relink c p) u h = absurd (let x = h in cc)
-is_vhd (Leaf l p) u h = absurd (let x = h in cc)
+is_vhd _ u h = absurd (let x = h in cc)
 
 pub is_raw : (a : Name) (u : List ℕ) → name_eq a (Raw u) ≡ true → a ≡ Raw u
 unfolding name_eq
-is_raw Mgt u h = absurd (let x = h in cc)
-is_raw (Vhd v) u h = absurd (let x = h in cc)
 is_raw (Raw v) u h = ap Raw ((bytes_eq-Decides v u).0 h)
-is_raw (Old v) u h = absurd (let x = h in cc)
-is_raw (Clone d b t) u h = absurd (let x = h in cc)
-is_raw (Inflate i n) u h = absurd (let x = h in cc)
-is_raw (Coalesce c p) u h = absurd (let x = h in cc)
-is_raw (Relink c p) u h = absurd (let x = h in cc)
-is_raw (Leaf l p) u h = absurd (let x = h in cc)
+is_raw _ u h = absurd (let x = h in cc)
 
 -- the row that is found stands among the volumes, and its name is tested equal
 found-step : (b : Bool) (r s : Row) (rs : List Row) (n : Name) → name_eq r.name n ≡ b → (found : Option Row)
@@ -181,17 +162,17 @@ In-flat_map f (s ∷ rs) r u (inl is) k = In-append_left (f s) (flat_map f rs) u
 In-flat_map f (s ∷ rs) r u (inr h) k = In-append_right (f s) (flat_map f rs) u (In-flat_map f rs r u h k)
 
 -- a row of this name lists the UUIDs that the name speaks of
-listed_by : (t : Listing) (r : Row) (n : Name) (u : List ℕ) → In r t.volumes → r.name ≡ n → In u (candidates n) → In u (flat_map (λ r. candidates r.name) t.volumes)
+listed_by : (t : VolumeTable) (r : Row) (n : Name) (u : List ℕ) → In r t.volumes → r.name ≡ n → In u (candidates n) → In u (flat_map (λ r. candidates r.name) t.volumes)
 listed_by t r n u h is k = In-flat_map (λ r. candidates r.name) t.volumes r u h (subst (λ m. In u (candidates m)) (sym is) k)
 
-abbrev Listed : Listing → List ℕ → Type 0
+abbrev Listed : VolumeTable → List ℕ → Type 0
 Listed t u = In u (flat_map (λ r. candidates r.name) t.volumes)
 
 visible_there : (o : Option Row) → of_row (λ r. not r.hidden && not r.fresh) o ≡ true → (r : Row) × (o ≡ Some r)
 visible_there None h = absurd (let x = h in cc)
 visible_there (Some r) h = (r, refl)
 
-plainly-step : (t : Listing) (u : List ℕ) (a b : Bool) → is_visible t (Vhd u) ≡ a → is_visible t (Raw u) ≡ b → (n : Name)
+plainly-step : (t : VolumeTable) (u : List ℕ) (a b : Bool) → is_visible t (Vhd u) ≡ a → is_visible t (Raw u) ≡ b → (n : Name)
     → cond a (Some (Vhd u)) (cond b (Some (Raw u)) None) ≡ Some n → Listed t u
 plainly-step t u true b is_a is_b n h =
     let w = visible_there (rows t (Vhd u)) is_a in
@@ -203,10 +184,10 @@ plainly-step t u false true is_a is_b n h =
     listed_by t w.0 (Raw u) u f.0 (is_raw w.0.name u f.1) (inl refl)
 plainly-step t u false false is_a is_b n h = absurd (let x = h in cc)
 
-plainly_listed : (t : Listing) (u : List ℕ) (n : Name) → stands_plainly t u ≡ Some n → Listed t u
+plainly_listed : (t : VolumeTable) (u : List ℕ) (n : Name) → stands_plainly t u ≡ Some n → Listed t u
 plainly_listed t u n h = plainly-step t u (is_visible t (Vhd u)) (is_visible t (Raw u)) refl refl n h
 
-folded-step : (t : Listing) (e : Name) (u : List ℕ) (n : Name) (plainly : Option Name) → (r : Row) → In r t.volumes → r.name ≡ e → (plainly ≡ Some n → Listed t u)
+folded-step : (t : VolumeTable) (e : Name) (u : List ℕ) (n : Name) (plainly : Option Name) → (r : Row) → In r t.volumes → r.name ≡ e → (plainly ≡ Some n → Listed t u)
     → stands_folded t e u plainly ≡ Some n → Listed t u
 folded-step t (Leaf leaf parent) u n plainly r h is from k = of_same (bytes_eq u leaf) refl k
   where
@@ -226,7 +207,7 @@ folded-step t (Inflate i m) u n plainly r h is from k = from k
 folded-step t (Coalesce c p) u n plainly r h is from k = from k
 folded-step t (Relink c p) u n plainly r h is from k = from k
 
-forked-step : (t : Listing) (e : Name) (u : List ℕ) (n : Name) (plainly : Option Name) → (r : Row) → In r t.volumes → r.name ≡ e → (plainly ≡ Some n → Listed t u)
+forked-step : (t : VolumeTable) (e : Name) (u : List ℕ) (n : Name) (plainly : Option Name) → (r : Row) → In r t.volumes → r.name ≡ e → (plainly ≡ Some n → Listed t u)
     → stands_forked t e u plainly ≡ Some n → Listed t u
 forked-step t (Clone d b w) u n plainly r h is from k = of_same (bytes_eq u d) (bytes_eq u b || bytes_eq u w) refl k
   where
@@ -235,24 +216,17 @@ forked-step t (Clone d b w) u n plainly r h is from k = of_same (bytes_eq u d) (
     of_same true other same k = listed_by t r (Clone d b w) u h is (inl ((bytes_eq-Decides u d).0 same))
     of_same false true same k = absurd (let x = k in cc)
     of_same false false same k = from k
-forked-step t (Leaf l p) u n plainly r h is from k = from k
-forked-step t Mgt u n plainly r h is from k = from k
-forked-step t (Vhd v) u n plainly r h is from k = from k
-forked-step t (Raw v) u n plainly r h is from k = from k
-forked-step t (Old v) u n plainly r h is from k = from k
-forked-step t (Inflate i m) u n plainly r h is from k = from k
-forked-step t (Coalesce c p) u n plainly r h is from k = from k
-forked-step t (Relink c p) u n plainly r h is from k = from k
+forked-step t _ u n plainly r h is from k = from k
 
-entry_row : (t : Listing) (test : Name → Bool) (e : Name) → head (names_in t test) ≡ Some e → (r : Row) × In r t.volumes × (r.name ≡ e)
+entry_row : (t : VolumeTable) (test : Name → Bool) (e : Name) → head (names_in t test) ≡ Some e → (r : Row) × In r t.volumes × (r.name ≡ e)
 entry_row t test e h = In-names t.volumes e (In-head test (names_of t.volumes) e h)
 
-under_folded : (t : Listing) (u : List ℕ) (n : Name) (o : Option Name) → head (folding t) ≡ o
+under_folded : (t : VolumeTable) (u : List ℕ) (n : Name) (o : Option Name) → head (folding t) ≡ o
     → under (λ e. stands_folded t e u) o (stands_plainly t u) ≡ Some n → Listed t u
 under_folded t u n None is h = plainly_listed t u n h
 under_folded t u n (Some e) is h = let w = entry_row t is_folding e is in folded-step t e u n (stands_plainly t u) w.0 w.1 w.2 (plainly_listed t u n) h
 
-under_forked : (t : Listing) (u : List ℕ) (n : Name) (o : Option Name) → head (making t) ≡ o
+under_forked : (t : VolumeTable) (u : List ℕ) (n : Name) (o : Option Name) → head (making t) ≡ o
     → under (λ e. stands_forked t e u) o (under (λ e. stands_folded t e u) (head (folding t)) (stands_plainly t u)) ≡ Some n → Listed t u
 under_forked t u n None is h = under_folded t u n (head (folding t)) refl h
 under_forked t u n (Some e) is h =
@@ -260,6 +234,6 @@ under_forked t u n (Some e) is h =
     forked-step t e u n (under (λ e. stands_folded t e u) (head (folding t)) (stands_plainly t u)) w.0 w.1 w.2 (λ k. under_folded t u n (head (folding t)) refl k) h
 
 -- a UUID that stands anywhere is listed
-pub stands_listed : (t : Listing) (u : List ℕ) (n : Name) → stands t u ≡ Some n → In u (uuids t)
-unfolding stands uuids
+pub stands_listed : (t : VolumeTable) (u : List ℕ) (n : Name) → standing_volume t u ≡ Some n → In u (uuids t)
+unfolding standing_volume uuids
 stands_listed t u n h = old-in_order (flat_map (λ r. candidates r.name) t.volumes) u (under_forked t u n (head (making t)) refl h)

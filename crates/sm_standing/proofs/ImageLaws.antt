@@ -1,24 +1,25 @@
 -- A change of one image, and the disks.
 use Rattle.std.proofs.Common.{◌≡◌, ◌≢◌, ◌⊎◌, inl, inr, ℕ, ◌<◌, ◌≤◌, ◌&&◌, not, Bool, true, false, cond, List, [], map, Option, Some, None, refl, sym, ap, ap₂, ◌∙◌, subst, arith}
 use Rattle.std.proofs.lemmas.Bool.{cases_lt}
+use Rattle.common_laws.proofs.Options.{bind-some}
 use Rattle.sm_base.specs.declared.names.Name.{Name}
 use Rattle.sm_base.specs.declared.names.Name.TheVariants.{Mgt, Vhd, Raw, Old, Clone, Inflate, Coalesce, Relink, Leaf}
 use Rattle.sm_disk.specs.Sectors.{zeros}
 use Rattle.sm_record.specs.declared.records.Record.{Record}
-use Rattle.vg_meta.specs.Tables.{Row, Listing, name_eq}
+use Rattle.vg_meta.specs.Tables.{Row, VolumeTable, name_eq}
 use Rattle.vg_meta.proofs.NameLaws.{name_eq-true, name_eq-false}
 use Rattle.sm_machine.specs.Disks.{Disk}
-use Rattle.sm_machine.specs.Lists.{In, numbers, ◌>>=◌}
+use Rattle.common_laws.specs.Lists.{In, numbers, ◌>>=◌}
 use Rattle.sm_machine.specs.Shapes.{same_image}
-use Rattle.sm_standing.specs.Changes.{turns_of, parent_of, IsShort, IsCopied, IsRaised, IsMoved, IsRemoved, SameImagesBut}
+use Rattle.sm_standing.specs.Changes.{turns_of, parent_of, IsShortChain, IsCopied, IsRaised, IsMoved, IsRemoved, SameImagesBut}
 use Rattle.sm_standing.specs.Checks.{children, parent_is}
 use Rattle.sm_standing.specs.Contents.{Content, row, record_of}
 use Rattle.sm_standing.specs.Entries.{is_visible, of_row, folding, making, head}
-use Rattle.sm_standing.specs.Images.{Image, here, up, held_or, turn_of, walk, reads, image_of, sectors_read, raw_image, vhd_image}
-use Rattle.sm_standing.specs.Standing.{stands, stands_plainly, stands_forked, stands_folded, under, disks, disk_at, disk_in}
+use Rattle.sm_standing.specs.Images.{Image, here, up, held_or, answer_of, walk, image_reads, image_of, sectors_read, raw_image, vhd_image}
+use Rattle.sm_standing.specs.Standing.{standing_volume, stands_plainly, stands_forked, stands_folded, under, disks, disk_at, disk_in}
 use Rattle.sm_standing.proofs.DiskLists.{disks_same}
 use Rattle.sm_standing.proofs.DisksShown.{row_of-In}
-use Rattle.sm_standing.proofs.Finding.{filter-In}
+use Rattle.common_laws.proofs.Lists.{filter-In}
 use Rattle.sm_standing.proofs.PlainDisks.{map_numbers}
 use Rattle.sm_standing.proofs.TurnLaws.{reads_here, up_reads}
 use Rattle.sm_standing.proofs.WalkLaws.{walk_same, walk_zeros, IsZerosStill, turn-up, turn-within, turn-past, depth_up, depth_grows, short_reads, reads_short}
@@ -28,41 +29,41 @@ use Rattle.sm_standing.proofs.WalkLaws.{walk_same, walk_zeros, IsZerosStill, tur
 pub parent-is : (c : Content) (n p : Name) (i : Image) → image_of c n ≡ Some i → i.parent ≡ Some p → parent_of c n ≡ Some p
 parent-is c n p i is parent = ap (λ o. o >>= (λ j. j.parent)) is ∙ parent
 
-short_above : (c : Content) (n p : Name) → parent_of c n ≡ Some p → IsShort c n → IsShort c p
+short_above : (c : Content) (n p : Name) → parent_of c n ≡ Some p → IsShortChain c n → IsShortChain c p
 short_above c n p at short = omega (arith, depth_up c 30 n p at, depth_grows c 30 p, short)
 
-copied-step : (c : Content) (n p : Name) (i q : Image) → IsCopied c n p i q → IsShort c n → (s : ℕ) → s < i.size → (o : Option (List ℕ)) → i.own s ≡ o
-    → reads c n s ≡ reads c p s
+copied-step : (c : Content) (n p : Name) (i q : Image) → IsCopied c n p i q → IsShortChain c n → (s : ℕ) → s < i.size → (o : Option (List ℕ)) → i.own s ≡ o
+    → image_reads c n s ≡ image_reads c p s
 copied-step c n p i q h short s below (Some bytes) is =
     let above = short_above c n p (parent-is c n p i h.image h.parent) short in
-    let here_n : turn_of s (image_of c n) ≡ here bytes = turn-within s (image_of c n) i h.image below ∙ ap (λ o. held_or o i.parent) is in
-    let here_p : turn_of s (image_of c p) ≡ here bytes =
+    let here_n : answer_of s (image_of c n) ≡ here bytes = turn-within s (image_of c n) i h.image below ∙ ap (λ o. held_or o i.parent) is in
+    let here_p : answer_of s (image_of c p) ≡ here bytes =
     turn-within s (image_of c p) q h.below (omega (arith, h.size)) ∙ ap (λ o. held_or o q.parent) (h.held s bytes is) in
     sym (reads_short c n s bytes short (reads_here (turns_of c s) n bytes here_n)) ∙ reads_short c p s bytes above (reads_here (turns_of c s) p bytes here_p)
 copied-step c n p i q h short s below None is =
     let above = short_above c n p (parent-is c n p i h.image h.parent) short in
-    let sent : turn_of s (image_of c n) ≡ up p = turn-within s (image_of c n) i h.image below ∙ ap (λ o. held_or o i.parent) is ∙ ap (λ o. held_or None o) h.parent in
-    reads_short c p s (reads c n s) above (up_reads (turns_of c s) n p (reads c n s) sent (short_reads c n s short))
+    let sent : answer_of s (image_of c n) ≡ up p = turn-within s (image_of c n) i h.image below ∙ ap (λ o. held_or o i.parent) is ∙ ap (λ o. held_or None o) h.parent in
+    reads_short c p s (image_reads c n s) above (up_reads (turns_of c s) n p (image_reads c n s) sent (short_reads c n s short))
 
-pub copied : (c : Content) (n p : Name) (i q : Image) → IsCopied c n p i q → IsShort c n → (s : ℕ) → s < i.size → reads c n s ≡ reads c p s
+pub copied : (c : Content) (n p : Name) (i q : Image) → IsCopied c n p i q → IsShortChain c n → (s : ℕ) → s < i.size → image_reads c n s ≡ image_reads c p s
 copied c n p i q h short s below = copied-step c n p i q h short s below (i.own s) refl
 
 -- ---- an image that grows
 
-same_turns : (a b : Content) (x : Name) (s : ℕ) → SameImagesBut a b x → turn_of s (image_of b x) ≡ turn_of s (image_of a x)
-    → (n : Name) (t : Bool) → name_eq n x ≡ t → turn_of s (image_of b n) ≡ turn_of s (image_of a n)
+same_turns : (a b : Content) (x : Name) (s : ℕ) → SameImagesBut a b x → answer_of s (image_of b x) ≡ answer_of s (image_of a x)
+    → (n : Name) (t : Bool) → name_eq n x ≡ t → answer_of s (image_of b n) ≡ answer_of s (image_of a n)
 same_turns a b x s others same n true is =
     let at = name_eq-true n x is in
-    ap (λ m. turn_of s (image_of b m)) at ∙ same ∙ ap (λ m. turn_of s (image_of a m)) (sym at)
-same_turns a b x s others same n false is = ap (turn_of s) (others n (name_eq-false n x is))
+    ap (λ m. answer_of s (image_of b m)) at ∙ same ∙ ap (λ m. answer_of s (image_of a m)) (sym at)
+same_turns a b x s others same n false is = ap (answer_of s) (others n (name_eq-false n x is))
 
-raised-within : (a b : Content) (x : Name) (i j : Image) → IsRaised a b x i j → (s : ℕ) → s < i.size → turn_of s (image_of b x) ≡ turn_of s (image_of a x)
+raised-within : (a b : Content) (x : Name) (i j : Image) → IsRaised a b x i j → (s : ℕ) → s < i.size → answer_of s (image_of b x) ≡ answer_of s (image_of a x)
 raised-within a b x i j h s below =
     turn-within s (image_of b x) j h.after (omega (arith, h.larger)) ∙ ap₂ held_or (h.own s) h.parent ∙ sym (turn-within s (image_of a x) i h.before below)
 
-parent-zeros : (a : Content) (s : ℕ) (p : Name) (o : Option Image) → image_of a p ≡ o → ((q : Image) → o ≡ Some q → q.size ≤ s) → turn_of s (image_of a p) ≡ here zeros
-unfolding turn_of
-parent-zeros a s p None is low = ap (turn_of s) is
+parent-zeros : (a : Content) (s : ℕ) (p : Name) (o : Option Image) → image_of a p ≡ o → ((q : Image) → o ≡ Some q → q.size ≤ s) → answer_of s (image_of a p) ≡ here zeros
+unfolding answer_of
+parent-zeros a s p None is low = ap (answer_of s) is
 parent-zeros a s p (Some q) is low = turn-past s (image_of a p) q is (low q refl)
 
 raised-turn : (a b : Content) (x : Name) (i j : Image) → IsRaised a b x i j → (s : ℕ) → i.size ≤ s → (s < j.size) ⊎ (j.size ≤ s) → (o : Option Name) → i.parent ≡ o
@@ -78,61 +79,61 @@ raised-turn a b x i j h s past (inl below) (Some p) is =
       λ e. h.no_loop (is ∙ ap Some e),
     )
 
-raised-case : (a b : Content) (x : Name) (i j : Image) → IsRaised a b x i j → (n : Name) (s : ℕ) → (s < i.size) ⊎ (i.size ≤ s) → reads b n s ≡ reads a n s
-unfolding reads
+raised-case : (a b : Content) (x : Name) (i j : Image) → IsRaised a b x i j → (n : Name) (s : ℕ) → (s < i.size) ⊎ (i.size ≤ s) → image_reads b n s ≡ image_reads a n s
+unfolding image_reads
 raised-case a b x i j h n s (inl below) =
     walk_same (λ m. ℕ) (turns_of a s) (turns_of b s) (record { closed = λ m p is sent. is })
     (λ m is. same_turns a b x s h.others (raised-within a b x i j h s below) m (name_eq m x) refl) 30 n 0
 raised-case a b x i j h n s (inr past) =
-    walk_zeros (turns_of a s) (turns_of b s) x (λ m other. ap (turn_of s) (h.others m other)) (turn-past s (image_of a x) i h.before past)
+    walk_zeros (turns_of a s) (turns_of b s) x (λ m other. ap (answer_of s) (h.others m other)) (turn-past s (image_of a x) i h.before past)
     (raised-turn a b x i j h s past (cases_lt s j.size) i.parent refl) 30 n (name_eq n x) refl
 
-pub raised_same : (a b : Content) (x : Name) (i j : Image) → IsRaised a b x i j → (n : Name) (s : ℕ) → reads b n s ≡ reads a n s
+pub raised_same : (a b : Content) (x : Name) (i j : Image) → IsRaised a b x i j → (n : Name) (s : ℕ) → image_reads b n s ≡ image_reads a n s
 raised_same a b x i j h n s = raised-case a b x i j h n s (cases_lt s i.size)
 
-pub past_zeros : (a : Content) (x : Name) (i : Image) (s : ℕ) → image_of a x ≡ Some i → i.size ≤ s → reads a x s ≡ zeros
-unfolding reads walk
+pub past_zeros : (a : Content) (x : Name) (i : Image) (s : ℕ) → image_of a x ≡ Some i → i.size ≤ s → image_reads a x s ≡ zeros
+unfolding image_reads walk
 past_zeros a x i s is past = ap (λ t. elim t [ here b ↦ b | up p ↦ walk 29 (turns_of a s) p ]) (turn-past s (image_of a x) i is past)
 
-pub raised_zeros : (a b : Content) (x : Name) (i j : Image) → IsRaised a b x i j → (s : ℕ) → i.size ≤ s → reads b x s ≡ zeros
+pub raised_zeros : (a b : Content) (x : Name) (i j : Image) → IsRaised a b x i j → (s : ℕ) → i.size ≤ s → image_reads b x s ≡ zeros
 raised_zeros a b x i j h s past = raised_same a b x i j h x s ∙ past_zeros a x i s h.before past
 
 -- ---- what is read of an image
 
-reads_turn : (c : Content) (n : Name) (s : ℕ) (bytes : List ℕ) → turn_of s (image_of c n) ≡ here bytes → reads c n s ≡ bytes
-unfolding reads walk
+reads_turn : (c : Content) (n : Name) (s : ℕ) (bytes : List ℕ) → answer_of s (image_of c n) ≡ here bytes → image_reads c n s ≡ bytes
+unfolding image_reads walk
 reads_turn c n s bytes is = ap (λ t. elim t [ here b ↦ b | up p ↦ walk 29 (turns_of c s) p ]) is
 
 -- what it holds
-pub held_reads : (c : Content) (n : Name) (i : Image) (s : ℕ) (bytes : List ℕ) → image_of c n ≡ Some i → s < i.size → i.own s ≡ Some bytes → reads c n s ≡ bytes
+pub held_reads : (c : Content) (n : Name) (i : Image) (s : ℕ) (bytes : List ℕ) → image_of c n ≡ Some i → s < i.size → i.own s ≡ Some bytes → image_reads c n s ≡ bytes
 held_reads c n i s bytes is below held = reads_turn c n s bytes (turn-within s (image_of c n) i is below ∙ ap (λ o. held_or o i.parent) held)
 
 -- zeros where it holds nothing and has no parent
-pub top_reads : (c : Content) (n : Name) (i : Image) (s : ℕ) → image_of c n ≡ Some i → i.own s ≡ None → i.parent ≡ None → (s < i.size) ⊎ (i.size ≤ s) → reads c n s ≡ zeros
+pub top_reads : (c : Content) (n : Name) (i : Image) (s : ℕ) → image_of c n ≡ Some i → i.own s ≡ None → i.parent ≡ None → (s < i.size) ⊎ (i.size ≤ s) → image_reads c n s ≡ zeros
 top_reads c n i s is none top (inl below) = reads_turn c n s zeros (turn-within s (image_of c n) i is below ∙ ap₂ held_or none top)
 top_reads c n i s is none top (inr past) = past_zeros c n i s is past
 
-pub top_zeros : (c : Content) (n : Name) (i : Image) (s : ℕ) → image_of c n ≡ Some i → i.own s ≡ None → i.parent ≡ None → reads c n s ≡ zeros
+pub top_zeros : (c : Content) (n : Name) (i : Image) (s : ℕ) → image_of c n ≡ Some i → i.own s ≡ None → i.parent ≡ None → image_reads c n s ≡ zeros
 top_zeros c n i s is none top = top_reads c n i s is none top (cases_lt s i.size)
 
 -- else what its parent reads
-pub parent_reads : (c : Content) (n p : Name) (i : Image) (s : ℕ) → image_of c n ≡ Some i → s < i.size → i.own s ≡ None → i.parent ≡ Some p → IsShort c n → reads c n s ≡ reads c p s
+pub parent_reads : (c : Content) (n p : Name) (i : Image) (s : ℕ) → image_of c n ≡ Some i → s < i.size → i.own s ≡ None → i.parent ≡ Some p → IsShortChain c n → image_reads c n s ≡ image_reads c p s
 parent_reads c n p i s is below none up_to short =
-    let sent : turn_of s (image_of c n) ≡ up p = turn-within s (image_of c n) i is below ∙ ap₂ held_or none up_to in
-    reads_short c p s (reads c n s) (short_above c n p (parent-is c n p i is up_to) short) (up_reads (turns_of c s) n p (reads c n s) sent (short_reads c n s short))
+    let sent : answer_of s (image_of c n) ≡ up p = turn-within s (image_of c n) i is below ∙ ap₂ held_or none up_to in
+    reads_short c p s (image_reads c n s) (short_above c n p (parent-is c n p i is up_to) short) (up_reads (turns_of c s) n p (image_reads c n s) sent (short_reads c n s short))
 
 -- ---- a disk that moves
 
 moved_sectors : (a b : Content) (n m : Name) (i j : Image) → image_of a n ≡ Some i → image_of b m ≡ Some j → j.size ≡ i.size
-    → ((s : ℕ) → s < i.size → reads b m s ≡ reads a n s) → sectors_read b m ≡ sectors_read a n
+    → ((s : ℕ) → s < i.size → image_reads b m s ≡ image_reads a n s) → sectors_read b m ≡ sectors_read a n
 unfolding sectors_read
 moved_sectors a b n m i j before after size same =
-    ap (λ o. elim o [ None ↦ [] | Some k ↦ map (reads b m) (numbers 0 k.size) ]) after
-    ∙ ap (λ k. map (reads b m) (numbers 0 k)) size
-    ∙ map_numbers (reads b m) (reads a n) 0 i.size (λ k from below. same k (omega (arith, below)))
-    ∙ sym (ap (λ o. elim o [ None ↦ [] | Some k ↦ map (reads a n) (numbers 0 k.size) ]) before)
+    ap (λ o. elim o [ None ↦ [] | Some k ↦ map (image_reads b m) (numbers 0 k.size) ]) after
+    ∙ ap (λ k. map (image_reads b m) (numbers 0 k)) size
+    ∙ map_numbers (image_reads b m) (image_reads a n) 0 i.size (λ k from below. same k (omega (arith, below)))
+    ∙ sym (ap (λ o. elim o [ None ↦ [] | Some k ↦ map (image_reads a n) (numbers 0 k.size) ]) before)
 
-pub moved_disk : (a b : Content) (u : List ℕ) (n m : Name) → stands a.table u ≡ Some n → stands b.table u ≡ Some m → record_of b u ≡ record_of a u
+pub moved_disk : (a b : Content) (u : List ℕ) (n m : Name) → standing_volume a.table u ≡ Some n → standing_volume b.table u ≡ Some m → record_of b u ≡ record_of a u
     → sectors_read b m ≡ sectors_read a n → disk_at b u ≡ disk_at a u
 unfolding disk_at
 moved_disk a b u n m stood now recorded same =
@@ -148,22 +149,12 @@ moved a b u n m i j h = moved_disk a b u n m h.stood h.stands_now h.recorded (mo
 
 -- ---- an image that goes
 
-bind-some : {A B : Type 0} (o : Option A) (f : A → Option B) (y : B) → (o >>= f) ≡ Some y → (x : A) × (o ≡ Some x)
-bind-some None f y h = absurd (let x = h in cc)
-bind-some (Some x) f y h = (x, refl)
-
 -- an image lies in a volume
 pub image_there : (c : Content) (n : Name) (i : Image) → image_of c n ≡ Some i → (r : Row) × (row c n ≡ Some r)
 unfolding image_of
 image_there c (Raw u) i h = bind-some (row c (Raw u)) (λ r. cond r.fresh None (Some (raw_image c (Raw u)))) i h
 image_there c (Vhd u) i h = bind-some (row c (Vhd u)) (λ r. cond r.fresh None (vhd_image c (Vhd u) r)) i h
-image_there c Mgt i h = absurd (let x = h in cc)
-image_there c (Old u) i h = absurd (let x = h in cc)
-image_there c (Clone d b t) i h = absurd (let x = h in cc)
-image_there c (Inflate v m) i h = absurd (let x = h in cc)
-image_there c (Coalesce v p) i h = absurd (let x = h in cc)
-image_there c (Relink v p) i h = absurd (let x = h in cc)
-image_there c (Leaf l p) i h = absurd (let x = h in cc)
+image_there c _ i h = absurd (let x = h in cc)
 
 -- an image without children is nobody's parent
 pub childless_parent : (c : Content) (x n : Name) (i : Image) → same_image x x ≡ true → children c x ≡ [] → image_of c n ≡ Some i → i.parent ≢ Some x
@@ -187,16 +178,10 @@ pub new_image : (c : Content) (n : Name) (r : Row) → row c n ≡ Some r → r.
 unfolding image_of
 new_image c (Raw u) r there fresh = ap (λ o. o >>= (λ s. cond s.fresh None (Some (raw_image c (Raw u))))) there ∙ ap (λ b. cond b None (Some (raw_image c (Raw u)))) fresh
 new_image c (Vhd u) r there fresh = ap (λ o. o >>= (λ s. cond s.fresh None (vhd_image c (Vhd u) s))) there ∙ ap (λ b. cond b None (vhd_image c (Vhd u) r)) fresh
-new_image c Mgt r there fresh = refl
-new_image c (Old u) r there fresh = refl
-new_image c (Clone d b t) r there fresh = refl
-new_image c (Inflate v m) r there fresh = refl
-new_image c (Coalesce v p) r there fresh = refl
-new_image c (Relink v p) r there fresh = refl
-new_image c (Leaf l p) r there fresh = refl
+new_image c _ r there fresh = refl
 
-quiet : (t : Listing) (u : List ℕ) → making t ≡ [] → folding t ≡ [] → stands t u ≡ stands_plainly t u
-unfolding stands
+quiet : (t : VolumeTable) (u : List ℕ) → making t ≡ [] → folding t ≡ [] → standing_volume t u ≡ stands_plainly t u
+unfolding standing_volume
 quiet t u no_making no_folding =
     ap (λ ns. under (λ e. stands_forked t e u) (head ns) (under (λ e. stands_folded t e u) (head (folding t)) (stands_plainly t u))) no_making
     ∙ ap (λ ns. under (λ e. stands_folded t e u) (head ns) (stands_plainly t u)) no_folding
@@ -215,32 +200,32 @@ removed_visible a b x was h n false is = ap (of_row (λ r. not r.hidden && not r
 abbrev plainly_by : Bool → Bool → List ℕ → Option Name
 plainly_by v r u = cond v (Some (Vhd u)) (cond r (Some (Raw u)) None)
 
-removed_stands : (a b : Content) (x : Name) (was : Row) → IsRemoved a b x was → (u : List ℕ) → stands b.table u ≡ stands a.table u
+removed_stands : (a b : Content) (x : Name) (was : Row) → IsRemoved a b x was → (u : List ℕ) → standing_volume b.table u ≡ standing_volume a.table u
 removed_stands a b x was h u =
     quiet b.table u h.still_none_making h.still_none_folding
     ∙ ap₂ (λ v r. plainly_by v r u) (removed_visible a b x was h (Vhd u) (name_eq (Vhd u) x) refl) (removed_visible a b x was h (Raw u) (name_eq (Raw u) x) refl)
     ∙ sym (quiet a.table u h.none_making h.none_folding)
 
-plainly-visible : (t : Listing) (u : List ℕ) (v r : Bool) → is_visible t (Vhd u) ≡ v → is_visible t (Raw u) ≡ r → (n : Name) → plainly_by v r u ≡ Some n → is_visible t n ≡ true
+plainly-visible : (t : VolumeTable) (u : List ℕ) (v r : Bool) → is_visible t (Vhd u) ≡ v → is_visible t (Raw u) ≡ r → (n : Name) → plainly_by v r u ≡ Some n → is_visible t n ≡ true
 plainly-visible t u true r is_v is_r n h = let at : Vhd u ≡ n = (let x = h in cc) in subst (λ m. is_visible t m ≡ true) at is_v
 plainly-visible t u false true is_v is_r n h = let at : Raw u ≡ n = (let x = h in cc) in subst (λ m. is_visible t m ≡ true) at is_r
 plainly-visible t u false false is_v is_r n h = absurd (let x = h in cc)
 
 -- no disk stands in what is removed
-removed_other : (a b : Content) (x : Name) (was : Row) → IsRemoved a b x was → (u : List ℕ) (n : Name) → stands a.table u ≡ Some n → n ≢ x
+removed_other : (a b : Content) (x : Name) (was : Row) → IsRemoved a b x was → (u : List ℕ) (n : Name) → standing_volume a.table u ≡ Some n → n ≢ x
 removed_other a b x was h u n standing at =
     let seen = plainly-visible a.table u (is_visible a.table (Vhd u)) (is_visible a.table (Raw u)) refl refl n (sym (quiet a.table u h.none_making h.none_folding) ∙ standing) in
     let unseen : is_visible a.table x ≡ false = ap (of_row (λ r. not r.hidden && not r.fresh)) h.there ∙ hidden_test was.hidden was.fresh h.hidden in
     let e : true ≡ false = sym seen ∙ ap (is_visible a.table) at ∙ unseen in
     (let y = e in cc)
 
-removed_reads : (a b : Content) (x : Name) (was : Row) → IsRemoved a b x was → (n : Name) → n ≢ x → (s : ℕ) → reads b n s ≡ reads a n s
-unfolding reads
+removed_reads : (a b : Content) (x : Name) (was : Row) → IsRemoved a b x was → (n : Name) → n ≢ x → (s : ℕ) → image_reads b n s ≡ image_reads a n s
+unfolding image_reads
 removed_reads a b x was h n other s =
     walk_same (λ m. m ≢ x) (turns_of a s) (turns_of b s) (record { closed = closed })
-    (λ m away. ap (turn_of s) (h.images m away)) 30 n other
+    (λ m away. ap (answer_of s) (h.images m away)) 30 n other
   where
-    closed : (m p : Name) → m ≢ x → turn_of s (image_of a m) ≡ up p → p ≢ x
+    closed : (m p : Name) → m ≢ x → answer_of s (image_of a m) ≡ up p → p ≢ x
     closed m p away sent at =
         let w = turn-up s (image_of a m) p sent in
         childless_parent a x m w.image h.name h.childless w.there (w.parent ∙ ap Some at)
@@ -248,22 +233,22 @@ removed_reads a b x was h n other s =
 removed_sectors : (a b : Content) (x : Name) (was : Row) → IsRemoved a b x was → (n : Name) → n ≢ x → (o : Option Image) → image_of a n ≡ o → sectors_read b n ≡ sectors_read a n
 unfolding sectors_read
 removed_sectors a b x was h n other None is =
-    ap (λ o. elim o [ None ↦ [] | Some k ↦ map (reads b n) (numbers 0 k.size) ]) (h.images n other ∙ is)
-    ∙ sym (ap (λ o. elim o [ None ↦ [] | Some k ↦ map (reads a n) (numbers 0 k.size) ]) is)
+    ap (λ o. elim o [ None ↦ [] | Some k ↦ map (image_reads b n) (numbers 0 k.size) ]) (h.images n other ∙ is)
+    ∙ sym (ap (λ o. elim o [ None ↦ [] | Some k ↦ map (image_reads a n) (numbers 0 k.size) ]) is)
 removed_sectors a b x was h n other (Some i) is =
     moved_sectors a b n n i i is (h.images n other ∙ is) refl (λ s below. removed_reads a b x was h n other s)
 
-none_disk : (a b : Content) (u : List ℕ) → stands a.table u ≡ None → stands b.table u ≡ None → disk_at b u ≡ disk_at a u
+none_disk : (a b : Content) (u : List ℕ) → standing_volume a.table u ≡ None → standing_volume b.table u ≡ None → disk_at b u ≡ disk_at a u
 unfolding disk_at
 none_disk a b u stood now =
     ap (λ o. o >>= (λ k. record_of b u >>= (λ r. Some (disk_in b u r k)))) now
     ∙ sym (ap (λ o. o >>= (λ k. record_of a u >>= (λ r. Some (disk_in a u r k)))) stood)
 
-removed_disk : (a b : Content) (x : Name) (was : Row) → IsRemoved a b x was → (u : List ℕ) (o : Option Name) → stands a.table u ≡ o → disk_at b u ≡ disk_at a u
+removed_disk : (a b : Content) (x : Name) (was : Row) → IsRemoved a b x was → (u : List ℕ) (o : Option Name) → standing_volume a.table u ≡ o → disk_at b u ≡ disk_at a u
 removed_disk a b x was h u None is = none_disk a b u is (removed_stands a b x was h u ∙ is)
 removed_disk a b x was h u (Some n) is =
     moved_disk a b u n n is (removed_stands a b x was h u ∙ is) (h.recorded u)
     (removed_sectors a b x was h n (removed_other a b x was h u n is) (image_of a n) refl)
 
 pub removed_disks : (a b : Content) (x : Name) (was : Row) → IsRemoved a b x was → disks b ≡ disks a
-removed_disks a b x was h = disks_same a b (λ u. removed_disk a b x was h u (stands a.table u) refl)
+removed_disks a b x was h = disks_same a b (λ u. removed_disk a b x was h u (standing_volume a.table u) refl)

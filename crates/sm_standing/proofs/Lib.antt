@@ -2,12 +2,10 @@ pub mod Orders
 pub mod DisksShown
 pub mod DiskLists
 pub mod PlainDisks
-pub mod Finding
 pub mod PlainKept
 pub mod RecordLists
 pub mod RawAdded
 pub mod TurnLaws
-pub mod EmptyContent
 pub mod WalkLaws
 pub mod ImageLaws
 pub mod WorldLaws

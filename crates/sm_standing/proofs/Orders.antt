@@ -5,7 +5,7 @@ use Rattle.std.specs.declared.cmp.Ordering.TheVariants.{Less, Equal, Greater}
 use Rattle.std.specs.Cmp.{IsTotalOrder}
 use Rattle.std.specs.Ordering.{is_lt}
 use Rattle.std.specs.List.{filter_map, cons_option}
-use Rattle.sm_machine.specs.Lists.{In, insert_by}
+use Rattle.common_laws.specs.Lists.{In, insert_by}
 use Rattle.sm_standing.specs.Ordered.{Rising}
 
 -- the elements of the one are elements of the other

@@ -3,18 +3,18 @@ use Rattle.std.proofs.Common.{◌≡◌, ℕ, zero, suc, ◌+◌, ◌<◌, ◌�
 use Rattle.std.specs.List.{AllByRecursion, filter}
 use Rattle.sm_base.specs.declared.names.Name.{Name}
 use Rattle.sm_base.specs.declared.names.Name.TheVariants.{Mgt, Vhd, Raw, Old, Clone, Inflate, Coalesce, Relink, Leaf}
-use Rattle.vg_meta.specs.Tables.{Listing, Row, rows, names_of, extents_of}
+use Rattle.vg_meta.specs.Tables.{VolumeTable, Row, rows, names_of, extents_of}
 use Rattle.vg_volumes.specs.Volumes.{span, piece}
 use Rattle.std.proofs.lemmas.Bool.{lt-ltb}
 use Rattle.sm_disk.specs.Sectors.{zeros}
 use Rattle.sm_record.specs.declared.records.Record.{Record}
-use Rattle.sm_machine.specs.Lists.{In, numbers, ◌>>=◌}
+use Rattle.common_laws.specs.Lists.{In, numbers, ◌>>=◌}
 use Rattle.sm_machine.specs.Disks.{Disk}
 use Rattle.sm_standing.specs.Plain.{is_plain, is_plain_name, IsPlain}
 use Rattle.sm_standing.specs.Contents.{Content, row, sectors_of, size_of, record_of}
 use Rattle.sm_standing.specs.Entries.{is_making, is_folding, folding, head, is_visible, of_row}
-use Rattle.sm_standing.specs.Images.{image_of, raw_image, turn_of, here, up, walk, reads, sectors_read, held_or}
-use Rattle.sm_standing.specs.Standing.{stands, stands_plainly, stands_forked, stands_folded, under, disk_at, disk_in}
+use Rattle.sm_standing.specs.Images.{image_of, raw_image, answer_of, here, up, walk, image_reads, sectors_read, held_or}
+use Rattle.sm_standing.specs.Standing.{standing_volume, stands_plainly, stands_forked, stands_folded, under, disk_at, disk_in}
 use Rattle.sm_standing.specs.RawDisks.{raw_disk}
 use Rattle.sm_standing.proofs.DisksShown.{row_of-In, is_vhd}
 
@@ -26,10 +26,10 @@ all-In P [] r all h = elim h [ ]
 all-In P (s ∷ rs) r all (inl is) = subst P (sym is) all.0
 all-In P (s ∷ rs) r all (inr h) = all-In P rs r all.1 h
 
-plain_of : (t : Listing) (n : Name) (r : Row) → IsPlain t → rows t n ≡ Some r → is_plain r ≡ true
+plain_of : (t : VolumeTable) (n : Name) (r : Row) → IsPlain t → rows t n ≡ Some r → is_plain r ≡ true
 plain_of t n r plain there = all-In (λ r. is_plain r ≡ true) t.volumes r plain (row_of-In t.volumes n r there).0
 
-no_vhd_at : (t : Listing) (u : List ℕ) → IsPlain t → (o : Option Row) → rows t (Vhd u) ≡ o → o ≡ None
+no_vhd_at : (t : VolumeTable) (u : List ℕ) → IsPlain t → (o : Option Row) → rows t (Vhd u) ≡ o → o ≡ None
 no_vhd_at t u plain None is = refl
 no_vhd_at t u plain (Some r) is =
     let name = is_vhd r.name u (row_of-In t.volumes (Vhd u) r is).1 in
@@ -37,7 +37,7 @@ no_vhd_at t u plain (Some r) is =
     absurd (let x = bad in cc)
 
 -- there is no VHD image
-pub no_vhd : (t : Listing) (u : List ℕ) → IsPlain t → rows t (Vhd u) ≡ None
+pub no_vhd : (t : VolumeTable) (u : List ℕ) → IsPlain t → rows t (Vhd u) ≡ None
 no_vhd t u plain = no_vhd_at t u plain (rows t (Vhd u)) refl
 
 plain_is_no_entry : (hidden : Bool) (n : Name) → is_plain_name hidden n ≡ true → (is_making n ≡ false) × (is_folding n ≡ false)
@@ -45,11 +45,7 @@ plain_is_no_entry hidden Mgt h = (refl, refl)
 plain_is_no_entry hidden (Raw u) h = (refl, refl)
 plain_is_no_entry hidden (Vhd u) h = (refl, refl)
 plain_is_no_entry hidden (Old u) h = (refl, refl)
-plain_is_no_entry hidden (Clone d b t) h = absurd (let x = h in cc)
-plain_is_no_entry hidden (Inflate i e) h = absurd (let x = h in cc)
-plain_is_no_entry hidden (Coalesce c p) h = absurd (let x = h in cc)
-plain_is_no_entry hidden (Relink c p) h = absurd (let x = h in cc)
-plain_is_no_entry hidden (Leaf l p) h = absurd (let x = h in cc)
+plain_is_no_entry hidden _ h = absurd (let x = h in cc)
 
 pub no_making : (rs : List Row) → AllByRecursion (λ r. is_plain r ≡ true) rs → filter is_making (names_of rs) ≡ []
 no_making [] all = refl
@@ -66,12 +62,12 @@ abbrev pub raw_stands : List ℕ → Option Row → Option Name
 raw_stands u None = None
 raw_stands u (Some r) = cond (not r.hidden && not r.fresh) (Some (Raw u)) None
 
-stands_row : (t : Listing) (u : List ℕ) (o : Option Row) → cond (of_row (λ r. not r.hidden && not r.fresh) o) (Some (Raw u)) None ≡ raw_stands u o
+stands_row : (t : VolumeTable) (u : List ℕ) (o : Option Row) → cond (of_row (λ r. not r.hidden && not r.fresh) o) (Some (Raw u)) None ≡ raw_stands u o
 stands_row t u None = refl
 stands_row t u (Some r) = refl
 
-pub plain_stands : (t : Listing) (u : List ℕ) → IsPlain t → stands t u ≡ raw_stands u (rows t (Raw u))
-unfolding stands
+pub plain_stands : (t : VolumeTable) (u : List ℕ) → IsPlain t → standing_volume t u ≡ raw_stands u (rows t (Raw u))
+unfolding standing_volume
 plain_stands t u plain =
     ap (λ ns. under (λ e. stands_forked t e u) (head ns) (under (λ e. stands_folded t e u) (head (folding t)) (stands_plainly t u))) (no_making t.volumes plain)
     ∙ ap (λ ns. under (λ e. stands_folded t e u) (head ns) (stands_plainly t u)) (no_folding t.volumes plain)
@@ -98,19 +94,19 @@ below_true a b h = lt-ltb a b h
 
 -- a sector of a raw image is read as it stands in the volume
 pub raw_reads : (c : Content) (u : List ℕ) (r : Row) → row c (Raw u) ≡ Some r → r.fresh ≡ false
-    → (s : ℕ) → s < size_of c (Raw u) → reads c (Raw u) s ≡ sectors_of c (Raw u) s
-unfolding reads walk turn_of raw_image
+    → (s : ℕ) → s < size_of c (Raw u) → image_reads c (Raw u) s ≡ sectors_of c (Raw u) s
+unfolding image_reads walk answer_of raw_image
 raw_reads c u r there filled s within =
-    ap (λ o. elim (turn_of s o) [ here bytes ↦ bytes | up p ↦ walk 29 (λ m. turn_of s (image_of c m)) p ]) (filled_image c u r there filled)
-    ∙ ap (λ b. elim (cond b (held_or (cond b (Some (sectors_of c (Raw u) s)) None) None) (here zeros)) [ here bytes ↦ bytes | up p ↦ walk 29 (λ m. turn_of s (image_of c m)) p ])
+    ap (λ o. elim (answer_of s o) [ here bytes ↦ bytes | up p ↦ walk 29 (λ m. answer_of s (image_of c m)) p ]) (filled_image c u r there filled)
+    ∙ ap (λ b. elim (cond b (held_or (cond b (Some (sectors_of c (Raw u) s)) None) None) (here zeros)) [ here bytes ↦ bytes | up p ↦ walk 29 (λ m. answer_of s (image_of c m)) p ])
     (below_true s (size_of c (Raw u)) within)
 
 pub raw_sectors_read : (c : Content) (u : List ℕ) (r : Row) → row c (Raw u) ≡ Some r → r.fresh ≡ false
     → sectors_read c (Raw u) ≡ map (sectors_of c (Raw u)) (numbers 0 (size_of c (Raw u)))
 unfolding sectors_read raw_image
 raw_sectors_read c u r there filled =
-    ap (λ o. elim o [ None ↦ [] | Some i ↦ map (reads c (Raw u)) (numbers 0 i.size) ]) (filled_image c u r there filled)
-    ∙ map_numbers (reads c (Raw u)) (sectors_of c (Raw u)) 0 (size_of c (Raw u)) (λ k from below. raw_reads c u r there filled k (omega arith))
+    ap (λ o. elim o [ None ↦ [] | Some i ↦ map (image_reads c (Raw u)) (numbers 0 i.size) ]) (filled_image c u r there filled)
+    ∙ map_numbers (image_reads c (Raw u)) (sectors_of c (Raw u)) 0 (size_of c (Raw u)) (λ k from below. raw_reads c u r there filled k (omega arith))
 
 -- ---- the disk of a UUID
 

@@ -1,24 +1,26 @@
 -- A repository of raw disks alone is kept exactly where it is sound fact by fact, and then today's checks pass.
 use Rattle.std.proofs.Common.{eq-eqb, ◌≡◌, ℕ, ◌≤◌, inl, inr, Bool, true, false, cond, not, ◌&&◌, ◌||◌, ◌==◌, List, [], ◌∷◌, length, Option, Some, None, is_some, refl, sym, ap, ◌∙◌, subst, arith, nat_lt}
 use Rattle.std.specs.List.{AllByRecursion, filter, find}
-use Rattle.std.proofs.lemmas.Bool.Decides.{nat_tests}
-use Rattle.std.proofs.lemmas.Bool.{le-ltb, ltb-false}
+use Rattle.std.proofs.lemmas.Bool.{le-ltb, ltb-false, eqb-true}
+use Rattle.common_laws.proofs.Options.{is_some-parts}
+use Rattle.common_laws.proofs.Booleans.{not_false}
 use Rattle.sm_base.specs.declared.faults.Place.{Place}
 use Rattle.sm_base.specs.declared.faults.Place.TheVariants as at
 use Rattle.sm_base.specs.declared.names.Name.{Name}
 use Rattle.sm_base.specs.declared.names.Name.TheVariants.{Mgt, Vhd, Raw, Old, Clone, Inflate, Coalesce, Relink, Leaf}
 use Rattle.vg_layout.specs.Places.{record_extents}
-use Rattle.vg_meta.specs.Tables.{Listing, Row, is_image as is_data, is_journal}
-use Rattle.sm_machine.specs.Lists.{In, given, numbers, ◌>>=◌}
+use Rattle.sm_base.specs.Kinds.{is_image as is_data, is_entry}
+use Rattle.vg_meta.specs.Tables.{VolumeTable, Row}
+use Rattle.common_laws.specs.Lists.{In, given, numbers, ◌>>=◌}
 use Rattle.sm_standing.specs.Plain.{is_plain, is_plain_name, IsPlain}
 use Rattle.sm_standing.specs.PlainSound.{PlainSound}
 use Rattle.sm_standing.specs.Contents.{Content, row, record_count, records, is_record_of}
 use Rattle.sm_standing.specs.Entries.{is_there, is_past, are_past, is_at_stage, making, second}
 use Rattle.sm_standing.specs.Images.{image_of, vhd_image}
-use Rattle.sm_standing.specs.Standing.{stands, uuids}
+use Rattle.sm_standing.specs.Standing.{standing_volume, uuids}
 use Rattle.sm_standing.specs.Checks.{first_name, name_in, placed, has_records, record_volume_fault, images, too_many_fault, has_twin, misnamed_fault, lesser, second_entry_fault, lost_entry_fault, is_orphaned, old_leaf_fault, is_image_wrong, is_oversize, invalid_fault, is_tree_wrong, tree_wrong_as, tree_fault, is_entry_linked, entry_link_fault, record_place, record_fault, disk_place, disk_uuids, is_unrecorded, disk_fault, all_faults, faults_today, first_fault, is_ahead, entry_ahead_fault, image_ahead_fault, first_fault_today}
 use Rattle.sm_standing.specs.Keeping.{IsKept}
-use Rattle.sm_standing.proofs.Finding.{find_none, none_find, none_first, first_none, numbers-In, In-numbers, In-filter, filter-In}
+use Rattle.common_laws.proofs.Lists.{find_none, none_find, none_first, first_none, numbers-In, In-numbers, In-filter, filter-In}
 use Rattle.sm_standing.proofs.DisksShown.{stands_listed}
 use Rattle.sm_standing.proofs.PlainDisks.{all-In, no_vhd, no_making, no_folding}
 
@@ -41,37 +43,25 @@ plain_image : (c : Content) (u : List ℕ) → IsPlain c.table → image_of c (V
 unfolding image_of
 plain_image c u plain = ap (λ o. o >>= (λ r. cond r.fresh None (vhd_image c (Vhd u) r))) (no_vhd c.table u plain)
 
-misnamed_at : (t : Listing) (hidden : Bool) (n : Name) → IsPlain t → is_plain_name hidden n ≡ true → ((u : List ℕ) → n ≡ Raw u → is_past t.sequence u ≡ true)
+misnamed_at : (t : VolumeTable) (hidden : Bool) (n : Name) → IsPlain t → is_plain_name hidden n ≡ true → ((u : List ℕ) → n ≡ Raw u → is_past t.sequence u ≡ true)
     → (is_data n && (has_twin t n || not (are_past t n))) ≡ false
 misnamed_at t hidden Mgt plain h past = refl
 misnamed_at t hidden (Raw u) plain h past =
     ap (λ o. is_some o || not (is_past t.sequence u && true)) (no_vhd t u plain) ∙ ap (λ b. not (b && true)) (past u refl)
-misnamed_at t hidden (Vhd u) plain h past = absurd (let e = h in cc)
-misnamed_at t hidden (Old u) plain h past = absurd (let e = h in cc)
-misnamed_at t hidden (Clone d b w) plain h past = absurd (let e = h in cc)
-misnamed_at t hidden (Inflate i m) plain h past = absurd (let e = h in cc)
-misnamed_at t hidden (Coalesce a p) plain h past = absurd (let e = h in cc)
-misnamed_at t hidden (Relink a p) plain h past = absurd (let e = h in cc)
-misnamed_at t hidden (Leaf l p) plain h past = absurd (let e = h in cc)
+misnamed_at t hidden _ plain h past = absurd (let e = h in cc)
 
 -- what a plain name is not
 pub record NotSpecial (n : Name) : Type 0 where
-  pub no_journal : is_journal n ≡ false
+  pub no_journal : is_entry n ≡ false
   pub no_vhd_name : (u : List ℕ) → n ≡ Vhd u → ⊥
-  pub no_old_name : (t : Listing) → is_orphaned t n ≡ false
+  pub no_old_name : (t : VolumeTable) → is_orphaned t n ≡ false
   pub linked : (c : Content) → is_entry_linked c n ≡ true
 
 pub not_special : (hidden : Bool) (n : Name) → is_plain_name hidden n ≡ true → NotSpecial n
 unfolding is_entry_linked
 not_special hidden Mgt h = record { no_journal = refl; no_vhd_name = λ u e. (let x = e in cc); no_old_name = λ t. refl; linked = λ c. refl }
 not_special hidden (Raw u) h = record { no_journal = refl; no_vhd_name = λ v e. (let x = e in cc); no_old_name = λ t. refl; linked = λ c. refl }
-not_special hidden (Vhd u) h = absurd (let e = h in cc)
-not_special hidden (Old u) h = absurd (let e = h in cc)
-not_special hidden (Clone d b w) h = absurd (let e = h in cc)
-not_special hidden (Inflate i m) h = absurd (let e = h in cc)
-not_special hidden (Coalesce a p) h = absurd (let e = h in cc)
-not_special hidden (Relink a p) h = absurd (let e = h in cc)
-not_special hidden (Leaf l p) h = absurd (let e = h in cc)
+not_special hidden _ h = absurd (let e = h in cc)
 
 given_none : (b : Bool) (p : Place) → b ≡ false → given b p ≡ None
 given_none true p h = absurd (let e = h in cc)
@@ -83,15 +73,9 @@ none_given false p h = refl
 
 -- a volume of no VHD name passes the check of trees
 tree_at : (c : Content) (r : Row) (n : Name) → ((u : List ℕ) → n ≡ Vhd u → ⊥) → r.name ≡ n → is_tree_wrong c r ≡ false
-tree_at c r Mgt no_vhd_name is = ap (λ m. tree_wrong_as c r m) is
-tree_at c r (Raw u) no_vhd_name is = ap (λ m. tree_wrong_as c r m) is
 tree_at c r (Vhd u) no_vhd_name is = absurd (no_vhd_name u refl)
-tree_at c r (Old u) no_vhd_name is = ap (λ m. tree_wrong_as c r m) is
-tree_at c r (Clone d b w) no_vhd_name is = ap (λ m. tree_wrong_as c r m) is
 tree_at c r (Inflate i m) no_vhd_name is = ap (λ m. tree_wrong_as c r m) is
-tree_at c r (Coalesce a p) no_vhd_name is = ap (λ m. tree_wrong_as c r m) is
-tree_at c r (Relink a p) no_vhd_name is = ap (λ m. tree_wrong_as c r m) is
-tree_at c r (Leaf l p) no_vhd_name is = ap (λ m. tree_wrong_as c r m) is
+tree_at c r _ no_vhd_name is = ap (λ m. tree_wrong_as c r m) is
 
 invalid_at : (c : Content) (r : Row) (hidden fresh : Bool) (n : Name) → is_plain_name hidden n ≡ true
     → ((u : List ℕ) → n ≡ Raw u → fresh ≡ false → is_oversize c.extent c.block c.entries r ≡ false)
@@ -117,13 +101,9 @@ plain_row c s r h = all-In (λ r. is_plain r ≡ true) c.table.volumes r s.plain
 not_below : (n : ℕ) → n ≤ 500 → nat_lt 500 n ≡ false
 not_below n h = le-ltb 500 n h
 
-is_some-parts : {A : Type 0} (o : Option A) → is_some o ≡ true → (x : A) × (o ≡ Some x)
-is_some-parts None h = absurd (let e = h in cc)
-is_some-parts (Some x) h = (x, refl)
-
 recorded_once : (c : Content) → PlainSound c → (u : List ℕ) → In u (disk_uuids c) → is_unrecorded c u ≡ false
 recorded_once c s u h =
-    let w = is_some-parts (stands c.table u) (In-filter (λ v. is_some (stands c.table v)) (uuids c.table) u h).1 in
+    let w = is_some-parts (standing_volume c.table u) (In-filter (λ v. is_some (standing_volume c.table v)) (uuids c.table) u h).1 in
     ap not (eq-eqb (length (filter (is_record_of u) (records c))) 1 (s.recorded u w.0 w.1))
 
 -- each check passes
@@ -162,23 +142,12 @@ plain_kept c s = record {
 
 -- ---- from today's checks to the facts
 
-eq_of : (a b : ℕ) → (a == b) ≡ true → a ≡ b
-eq_of a b h = grind (arith, nat_tests)
-
-not_not : (b : Bool) → not b ≡ false → b ≡ true
-not_not true h = refl
-not_not false h = absurd (let e = h in cc)
-
-journal_or_image : (hidden : Bool) (n : Name) → is_journal n ≡ false → is_ahead hidden n ≡ false → is_plain_name hidden n ≡ true
+journal_or_image : (hidden : Bool) (n : Name) → is_entry n ≡ false → is_ahead hidden n ≡ false → is_plain_name hidden n ≡ true
 journal_or_image hidden Mgt j h = refl
 journal_or_image hidden (Raw u) j h = ap not h
 journal_or_image hidden (Vhd u) j h = absurd (let e = h in cc)
 journal_or_image hidden (Old u) j h = absurd (let e = h in cc)
-journal_or_image hidden (Clone d b w) j h = absurd (let e = j in cc)
-journal_or_image hidden (Inflate i m) j h = absurd (let e = j in cc)
-journal_or_image hidden (Coalesce a p) j h = absurd (let e = j in cc)
-journal_or_image hidden (Relink a p) j h = absurd (let e = j in cc)
-journal_or_image hidden (Leaf l p) j h = absurd (let e = j in cc)
+journal_or_image hidden _ j h = absurd (let e = j in cc)
 
 all-of : (P : Row → Type 0) (rs : List Row) → ((r : Row) → In r rs → P r) → AllByRecursion P rs
 all-of P [] each = tt
@@ -186,9 +155,9 @@ all-of P (r ∷ rs) each = (each r (inl refl), all-of P rs (λ s h. each s (inr 
 
 records_right : (c : Content) (o : Option Row) → row c Mgt ≡ o → not (has_records c o) ≡ false → (r : Row) × (row c Mgt ≡ Some r) × (length r.extents ≡ record_extents c.extent)
 records_right c None is h = absurd (let e = h in cc)
-records_right c (Some r) is h = (r, is, eq_of (length r.extents) (record_extents c.extent) (not_not (length r.extents == record_extents c.extent) h))
+records_right c (Some r) is h = (r, is, eqb-true (length r.extents) (record_extents c.extent) (not_false (length r.extents == record_extents c.extent) h))
 
-past_at : (t : Listing) (n : Name) (u : List ℕ) → n ≡ Raw u → (is_data n && (has_twin t n || not (are_past t n))) ≡ false → is_past t.sequence u ≡ true
+past_at : (t : VolumeTable) (n : Name) (u : List ℕ) → n ≡ Raw u → (is_data n && (has_twin t n || not (are_past t n))) ≡ false → is_past t.sequence u ≡ true
 past_at t n u is h = past_of (is_there t (Vhd u)) (is_past t.sequence u) (subst (λ m. (is_data m && (has_twin t m || not (are_past t m))) ≡ false) is h)
   where
     past_of : (twin past : Bool) → (twin || not (past && true)) ≡ false → past ≡ true
@@ -210,8 +179,8 @@ disk_none (Some k) h = absurd (let e = h in cc)
 not_above : (n : ℕ) → nat_lt 500 n ≡ false → n ≤ 500
 not_above n h = ltb-false 500 n h
 
-listed_disk : (c : Content) (u : List ℕ) (n : Name) → stands c.table u ≡ Some n → In u (disk_uuids c)
-listed_disk c u n is = filter-In (λ v. is_some (stands c.table v)) (uuids c.table) u (stands_listed c.table u n is) (ap is_some is)
+listed_disk : (c : Content) (u : List ℕ) (n : Name) → standing_volume c.table u ≡ Some n → In u (disk_uuids c)
+listed_disk c u n is = filter-In (λ v. is_some (standing_volume c.table v)) (uuids c.table) u (stands_listed c.table u n is) (ap is_some is)
 
 -- where today's checks pass, the repository is one of raw disks alone, and sound fact by fact
 pub today_sound : (c : Content) → first_fault_today c ≡ None → PlainSound c
@@ -230,7 +199,7 @@ today_sound c h =
       past = λ r u k n. past_at c.table r.name u n (named_none at.Image _ c.table.volumes (each (misnamed_fault c) (inr (inr (inl refl)))) r k);
       sizes = λ r u k n f. size_at c r r.name r.fresh u n f (named_none at.Image _ c.table.volumes (each (invalid_fault c) (inr (inr (inr (inr (inr (inl refl))))))) r k);
       right = λ k below. none_find _ (numbers 0 record_count) (record_none _ (each (record_fault c) (inr (inr (inr (inr (inr (inr (inl refl))))))))) k (numbers-In 0 record_count k (omega arith) (omega arith));
-      recorded = λ u n is. eq_of _ 1 (not_not _ (none_find _ (disk_uuids c) (disk_none _ (each (disk_fault c) (inr (inr (inr (inr (inr (inr (inr (inl refl)))))))))) u (listed_disk c u n is)));
+      recorded = λ u n is. eqb-true _ 1 (not_false _ (none_find _ (disk_uuids c) (disk_none _ (each (disk_fault c) (inr (inr (inr (inr (inr (inr (inr (inl refl)))))))))) u (listed_disk c u n is)));
     }
 
 -- ---- and back

@@ -2,6 +2,7 @@
 use Rattle.std.proofs.Common.{◌≡◌, ◌≢◌, ℕ, zero, suc, ◌+◌, ◌<◌, ◌≤◌, ◌⊎◌, inl, inr, ⊎_elim, Bool, true, false, cond, not, ◌&&◌, ◌||◌, List, [], ◌∷◌, length, map, replicate, Option, Some, None, refl, sym, ap, ◌∙◌, subst, arith, nat_lt}
 use Rattle.std.specs.List.{AllByRecursion, filter}
 use Rattle.std.proofs.lemmas.Bool.{lt-ltb, ltb-true}
+use Rattle.common_laws.proofs.Bytes.{same_or_not}
 use Rattle.sm_base.specs.Names.{is_base}
 use Rattle.sm_base.specs.declared.names.Name.{Name}
 use Rattle.sm_base.specs.declared.names.Name.TheVariants.{Mgt, Raw}
@@ -9,7 +10,7 @@ use Rattle.sm_disk.specs.Sectors.{zeros}
 use Rattle.vg_layout.specs.Places.{record_extents}
 use Rattle.vg_meta.specs.Tables.{Row}
 use Rattle.vg_volumes.specs.Volumes.{piece, span}
-use Rattle.sm_machine.specs.Lists.{In, numbers, ◌>>=◌}
+use Rattle.common_laws.specs.Lists.{In, numbers, ◌>>=◌}
 use Rattle.sm_machine.specs.Disks.{Disk, with_disk, filled}
 use Rattle.sm_record.specs.declared.records.Record.{Record}
 use Rattle.sm_standing.specs.Plain.{is_plain, is_plain_name, IsPlain}
@@ -17,10 +18,10 @@ use Rattle.sm_standing.specs.PlainSound.{PlainSound}
 use Rattle.sm_standing.specs.Contents.{Content, row, records, is_record_of, record_of}
 use Rattle.sm_standing.specs.Entries.{is_past, base_number}
 use Rattle.sm_standing.specs.Checks.{is_oversize}
-use Rattle.sm_standing.specs.Standing.{stands, disk_at, disks}
+use Rattle.sm_standing.specs.Standing.{standing_volume, disk_at, disks}
 use Rattle.sm_standing.specs.Additions.{HasMore, RecordsFit}
 use Rattle.sm_standing.specs.RawDisks.{raw_disk}
-use Rattle.sm_standing.proofs.DiskLists.{disks_same, disks_more, same_or_not}
+use Rattle.sm_standing.proofs.DiskLists.{disks_same, disks_more}
 use Rattle.sm_standing.proofs.PlainDisks.{all-In, raw_disk_at, raw_stands, plain_disk_at, plain_stands, map_numbers}
 use Rattle.sm_standing.proofs.RecordLists.{first_of, record_of_first}
 
@@ -46,7 +47,7 @@ past_added u s h = ap (λ b. not b || nat_lt (base_number u) s) h
 same_raw : (u v : List ℕ) → Raw u ≡ Raw v → u ≡ v
 same_raw u v e = (let x = e in cc)
 
-stands_alike : (a b : Content) (u v : List ℕ) (added : Row) → PlainSound a → HasMore a b u added → IsPlain b.table → v ≢ u → stands b.table v ≡ stands a.table v
+stands_alike : (a b : Content) (u v : List ℕ) (added : Row) → PlainSound a → HasMore a b u added → IsPlain b.table → v ≢ u → standing_volume b.table v ≡ standing_volume a.table v
 stands_alike a b u v added s m plain other =
     plain_stands b.table v plain ∙ ap (raw_stands v) (m.others (Raw v) (λ e. other (same_raw v u e))) ∙ sym (plain_stands a.table v s.plain)
 
@@ -89,9 +90,9 @@ sound_more a b u added s m fit =
     added_once n true is h = absurd (fresh_stands u added n true is refl h)
     added_once n false is h = fit.own is
 
-    once : (v : List ℕ) (n : Name) → stands b.table v ≡ Some n → (v ≡ u) ⊎ (v ≢ u) → length (filter (is_record_of v) (records b)) ≡ 1
+    once : (v : List ℕ) (n : Name) → standing_volume b.table v ≡ Some n → (v ≡ u) ⊎ (v ≢ u) → length (filter (is_record_of v) (records b)) ≡ 1
     once v n is (inl same) =
-        let at_u : raw_stands u (Some added) ≡ Some n = sym (plain_stands b.table u (plain_more a b u added s m) ∙ ap (raw_stands u) m.here) ∙ subst (λ w. stands b.table w ≡ Some n) same is in
+        let at_u : raw_stands u (Some added) ≡ Some n = sym (plain_stands b.table u (plain_more a b u added s m) ∙ ap (raw_stands u) m.here) ∙ subst (λ w. standing_volume b.table w ≡ Some n) same is in
         subst (λ w. length (filter (is_record_of w) (records b)) ≡ 1) (sym same) (added_once n added.fresh refl at_u)
     once v n is (inr other) = ap length (fit.others v other) ∙ s.recorded v n (sym (stands_alike a b u v added s m (plain_more a b u added s m) other) ∙ is)
 

@@ -2,8 +2,8 @@
 use Rattle.std.proofs.Common.{◌≡◌, ◌≢◌, ℕ, zero, suc, ◌+◌, ◌<◌, ◌≤◌, ◌⊎◌, inl, inr, Bool, true, false, cond, List, [], ◌∷◌, Option, Some, None, refl, sym, ap, ◌∙◌, subst, arith}
 use Rattle.std.specs.List.{filter, find, filter_map, cons_option}
 use Rattle.std.proofs.lemmas.Bool.{cases_lt}
-use Rattle.sm_machine.specs.Lists.{In, numbers}
-use Rattle.sm_standing.proofs.Finding.{In-numbers, numbers-In, filter-In}
+use Rattle.common_laws.specs.Lists.{In, numbers}
+use Rattle.common_laws.proofs.Lists.{In-numbers, numbers-In, filter-In}
 use Rattle.sm_standing.proofs.Orders.{filter_map-In}
 use Rattle.sm_record.specs.declared.records.Record.{Record}
 use Rattle.sm_standing.specs.Contents.{Content, reading_at, record_count, records, taken, is_record_of, record_of}

@@ -5,52 +5,52 @@ use Rattle.sm_base.specs.declared.names.Name.{Name}
 use Rattle.sm_disk.specs.Sectors.{zeros}
 use Rattle.vg_meta.specs.Tables.{name_eq}
 use Rattle.vg_meta.proofs.NameLaws.{name_eq-true, name_eq-false}
-use Rattle.sm_machine.specs.Lists.{◌>>=◌}
-use Rattle.sm_standing.specs.Changes.{turns_of, parent_of, IsShort, renamed_parent, IsLinkedUp}
+use Rattle.common_laws.specs.Lists.{◌>>=◌}
+use Rattle.sm_standing.specs.Changes.{turns_of, parent_of, IsShortChain, renamed_parent, IsLinkedUp}
 use Rattle.sm_standing.specs.Checks.{chain_length, depth}
 use Rattle.sm_standing.specs.Contents.{Content}
-use Rattle.sm_standing.specs.Images.{Image, Turn, here, up, held_or, turn_of, walk, reads, image_of}
-use Rattle.sm_standing.specs.Turns.{Turns, answer, Reads, IsClosed, SameBut}
+use Rattle.sm_standing.specs.Images.{Image, ImageAnswer, here, up, held_or, answer_of, walk, image_reads, image_of}
+use Rattle.sm_standing.specs.Answering.{ImageAnswers, answer, Reads, IsClosed, SameBut}
 use Rattle.sm_standing.proofs.TurnLaws.{up_reads, here_reads, walked}
 
 -- ---- walks
 
 -- what a turn gives, with so many images to walk behind it
-abbrev turned : ℕ → Turns → Turn → List ℕ
+abbrev turned : ℕ → ImageAnswers → ImageAnswer → List ℕ
 turned k f t = elim t [ here b ↦ b | up p ↦ walk k f p ]
 
-step_same : (f g : Turns) (k : ℕ) (t : Turn) → ((p : Name) → t ≡ up p → walk k g p ≡ walk k f p)
+step_same : (f g : ImageAnswers) (k : ℕ) (t : ImageAnswer) → ((p : Name) → t ≡ up p → walk k g p ≡ walk k f p)
     → turned k g t ≡ turned k f t
 step_same f g k (here b) rest = refl
 step_same f g k (up p) rest = rest p refl
 
 -- equal turns on a set that parents do not leave: the same walks there
-pub walk_same : (P : Name → Type 0) (f g : Turns) → IsClosed P f → ((n : Name) → P n → g n ≡ f n) → (k : ℕ) (n : Name) → P n → walk k g n ≡ walk k f n
+pub walk_same : (P : Name → Type 0) (f g : ImageAnswers) → IsClosed P f → ((n : Name) → P n → g n ≡ f n) → (k : ℕ) (n : Name) → P n → walk k g n ≡ walk k f n
 unfolding walk
 walk_same P f g inside same zero n is = refl
 walk_same P f g inside same (suc k) n is =
     ap (λ t. elim t [ here b ↦ b | up p ↦ walk k g p ]) (same n is)
     ∙ step_same f g k (f n) (λ p sent. walk_same P f g inside same k p (inside.closed n p is sent))
 
-walk_here : (f : Turns) (k : ℕ) (n : Name) → f n ≡ here zeros → walk k f n ≡ zeros
+walk_here : (f : ImageAnswers) (k : ℕ) (n : Name) → f n ≡ here zeros → walk k f n ≡ zeros
 unfolding walk
 walk_here f zero n h = refl
 walk_here f (suc k) n h = ap (λ t. elim t [ here b ↦ b | up p ↦ walk k f p ]) h
 
-walk_up : (f : Turns) (k : ℕ) (n p : Name) → f n ≡ up p → f p ≡ here zeros → walk k f n ≡ zeros
+walk_up : (f : ImageAnswers) (k : ℕ) (n p : Name) → f n ≡ up p → f p ≡ here zeros → walk k f n ≡ zeros
 unfolding walk
 walk_up f zero n p sent h = refl
 walk_up f (suc k) n p sent h = ap (λ t. elim t [ here b ↦ b | up q ↦ walk k f q ]) sent ∙ walk_here f k p h
 
 -- one name that answered with zeros answers so, or sends up to another that does
-abbrev pub IsZerosStill : Turns → Turns → Name → Type 0
+abbrev pub IsZerosStill : ImageAnswers → ImageAnswers → Name → Type 0
 IsZerosStill f g x = (g x ≡ here zeros) ⊎ ((p : Name) × (g x ≡ up p) × (f p ≡ here zeros) × (p ≢ x))
 
-zeros_still : (f g : Turns) (x : Name) → SameBut f g x → IsZerosStill f g x → (k : ℕ) → walk k g x ≡ zeros
+zeros_still : (f g : ImageAnswers) (x : Name) → SameBut f g x → IsZerosStill f g x → (k : ℕ) → walk k g x ≡ zeros
 zeros_still f g x same (inl h) k = walk_here g k x h
 zeros_still f g x same (inr w) k = walk_up g k x w.0 w.1 (same w.0 w.3 ∙ w.2)
 
-pub walk_zeros : (f g : Turns) (x : Name) → SameBut f g x → f x ≡ here zeros → IsZerosStill f g x → (k : ℕ) (n : Name) (b : Bool) → name_eq n x ≡ b → walk k g n ≡ walk k f n
+pub walk_zeros : (f g : ImageAnswers) (x : Name) → SameBut f g x → f x ≡ here zeros → IsZerosStill f g x → (k : ℕ) (n : Name) (b : Bool) → name_eq n x ≡ b → walk k g n ≡ walk k f n
 unfolding walk
 walk_zeros f g x same was still k n true is =
     let at = name_eq-true n x is in
@@ -74,19 +74,19 @@ held-up true None (Some r) p h = (let x = h in cc)
 held-up true None None p h = absurd (let x = h in cc)
 held-up false o q p h = absurd (let x = h in cc)
 
-pub turn-up : (s : ℕ) (o : Option Image) (p : Name) → turn_of s o ≡ up p → SendsUp o s p
-unfolding turn_of
+pub turn-up : (s : ℕ) (o : Option Image) (p : Name) → answer_of s o ≡ up p → SendsUp o s p
+unfolding answer_of
 turn-up s None p h = absurd (let x = h in cc)
 turn-up s (Some i) p h = record { image = i; there = refl; parent = held-up (nat_lt s i.size) (i.own s) i.parent p h }
 
 -- the turn of an image within its size, and past it
-pub turn-within : (s : ℕ) (o : Option Image) (i : Image) → o ≡ Some i → s < i.size → turn_of s o ≡ held_or (i.own s) i.parent
-unfolding turn_of
-turn-within s o i is below = ap (turn_of s) is ∙ ap (λ b. cond b (held_or (i.own s) i.parent) (here zeros)) (lt-ltb s i.size below)
+pub turn-within : (s : ℕ) (o : Option Image) (i : Image) → o ≡ Some i → s < i.size → answer_of s o ≡ held_or (i.own s) i.parent
+unfolding answer_of
+turn-within s o i is below = ap (answer_of s) is ∙ ap (λ b. cond b (held_or (i.own s) i.parent) (here zeros)) (lt-ltb s i.size below)
 
-pub turn-past : (s : ℕ) (o : Option Image) (i : Image) → o ≡ Some i → i.size ≤ s → turn_of s o ≡ here zeros
-unfolding turn_of
-turn-past s o i is past = ap (turn_of s) is ∙ ap (λ b. cond b (held_or (i.own s) i.parent) (here zeros)) (le-ltb s i.size past)
+pub turn-past : (s : ℕ) (o : Option Image) (i : Image) → o ≡ Some i → i.size ≤ s → answer_of s o ≡ here zeros
+unfolding answer_of
+turn-past s o i is past = ap (answer_of s) is ∙ ap (λ b. cond b (held_or (i.own s) i.parent) (here zeros)) (le-ltb s i.size past)
 
 -- ---- chains
 
@@ -150,10 +150,6 @@ kept-step : (a b : Content) (k : ℕ) (o : Option Name) → ((p : Name) → dept
 kept-step a b k None rest = omega arith
 kept-step a b k (Some p) rest = omega (arith, rest p)
 
--- two images up in k + 1 steps count at least as many as one in k + 1
-past-step : (a : Content) (k : ℕ) (v p : Name) → parent_of a v ≡ Some p → depth a k p ≤ depth a (suc k) v
-past-step a k v p h = omega (arith, depth_up a k v p h)
-
 linked-step : (a b : Content) (k : ℕ) (n : Name) → (parent_of b n ≡ parent_of a n)
     ⊎ ((v : Name) × (p : Name) × (parent_of a n ≡ Some v) × (parent_of a v ≡ Some p) × (parent_of b n ≡ Some p))
     → ((p : Name) → depth b k p ≤ depth a k p) → depth b (suc k) n ≤ depth a (suc k) n
@@ -173,7 +169,7 @@ depth_linked a b linked (suc k) n = linked-step a b k n (linked n) (λ p. depth_
 
 ended-step : (c : Content) (s k : ℕ) (n : Name) → suc (elim (parent_of c n) [ None ↦ 0 | Some p ↦ depth c (suc k) p ]) ≤ suc k
     → ((p : Name) → depth c (suc k) p ≤ k → (bytes : List ℕ) × (answer k (turns_of c s) p ≡ Some bytes))
-    → (t : Turn) → turn_of s (image_of c n) ≡ t → (bytes : List ℕ) × (elim t [ here b ↦ Some b | up p ↦ answer k (turns_of c s) p ] ≡ Some bytes)
+    → (t : ImageAnswer) → answer_of s (image_of c n) ≡ t → (bytes : List ℕ) × (elim t [ here b ↦ Some b | up p ↦ answer k (turns_of c s) p ] ≡ Some bytes)
 ended-step c s k n low rest (here b) is = (b, refl)
 ended-step c s k n low rest (up p) is =
     let w = turn-up s (image_of c n) p is in
@@ -185,27 +181,27 @@ ended-step c s k n low rest (up p) is =
 pub ended : (c : Content) (s k : ℕ) (n : Name) → depth c (suc k) n ≤ k → (bytes : List ℕ) × (answer k (turns_of c s) n ≡ Some bytes)
 unfolding depth answer
 ended c s zero n low = absurd (omega (arith, low))
-ended c s (suc k) n low = ended-step c s k n low (λ p h. ended c s k p h) (turn_of s (image_of c n)) refl
+ended c s (suc k) n low = ended-step c s k n low (λ p h. ended c s k p h) (answer_of s (image_of c n)) refl
 
-once-step : (f : Turns) (k : ℕ) (n : Name) (b d : List ℕ) → ((p : Name) → answer k f p ≡ Some b → Reads f p d → d ≡ b) → Reads f n d
-    → (t : Turn) → f n ≡ t → elim t [ here x ↦ Some x | up p ↦ answer k f p ] ≡ Some b → d ≡ b
-once-step f k n b d rest reads (here x) is h = here_reads f n x d is reads ∙ (let e = h in cc)
-once-step f k n b d rest reads (up p) is h = rest p h (up_reads f n p d is reads)
+once-step : (f : ImageAnswers) (k : ℕ) (n : Name) (b d : List ℕ) → ((p : Name) → answer k f p ≡ Some b → Reads f p d → d ≡ b) → Reads f n d
+    → (t : ImageAnswer) → f n ≡ t → elim t [ here x ↦ Some x | up p ↦ answer k f p ] ≡ Some b → d ≡ b
+once-step f k n b d rest image_reads (here x) is h = here_reads f n x d is image_reads ∙ (let e = h in cc)
+once-step f k n b d rest image_reads (up p) is h = rest p h (up_reads f n p d is image_reads)
 
 -- what is read is one value
-pub reads_once : (f : Turns) (k : ℕ) (n : Name) (b d : List ℕ) → answer k f n ≡ Some b → Reads f n d → d ≡ b
+pub reads_once : (f : ImageAnswers) (k : ℕ) (n : Name) (b d : List ℕ) → answer k f n ≡ Some b → Reads f n d → d ≡ b
 unfolding answer
-reads_once f zero n b d h reads = absurd (let e = h in cc)
-reads_once f (suc k) n b d h reads = once-step f k n b d (λ p i r. reads_once f k p b d i r) reads (f n) refl h
+reads_once f zero n b d h image_reads = absurd (let e = h in cc)
+reads_once f (suc k) n b d h image_reads = once-step f k n b d (λ p i r. reads_once f k p b d i r) image_reads (f n) refl h
 
 -- where the chain is short, the walk reads what turns without a bound read, and nothing else is read so
-pub short_reads : (c : Content) (n : Name) (s : ℕ) → IsShort c n → Reads (turns_of c s) n (reads c n s)
-unfolding reads
+pub short_reads : (c : Content) (n : Name) (s : ℕ) → IsShortChain c n → Reads (turns_of c s) n (image_reads c n s)
+unfolding image_reads
 short_reads c n s short =
     let w = ended c s 30 n short in
     (30, w.1 ∙ ap Some (sym (walked (turns_of c s) 30 n w.0 w.1)))
 
-pub reads_short : (c : Content) (n : Name) (s : ℕ) (bytes : List ℕ) → IsShort c n → Reads (turns_of c s) n bytes → bytes ≡ reads c n s
+pub reads_short : (c : Content) (n : Name) (s : ℕ) (bytes : List ℕ) → IsShortChain c n → Reads (turns_of c s) n bytes → bytes ≡ image_reads c n s
 reads_short c n s bytes short is =
     let w = short_reads c n s short in
-    reads_once (turns_of c s) w.0 n (reads c n s) bytes w.1 is
+    reads_once (turns_of c s) w.0 n (image_reads c n s) bytes w.1 is

@@ -7,7 +7,7 @@ use Rattle.std.proofs.lemmas.Option.{slice_get-get_or}
 use Rattle.std.proofs.Math.Nat.{div-lt_iff_lt-mul, mul_comm}
 use Rattle.sm_base.specs.declared.names.Name.{Name}
 use Rattle.sm_disk.specs.Held.{Held, reads, May}
-use Rattle.vg_meta.specs.Tables.{Listing, IsTable, IsSpread, Rows, rows, extents_of}
+use Rattle.vg_meta.specs.Tables.{VolumeTable, IsTable, IsSpread, Rows, rows, extents_of}
 use Rattle.vg_meta.proofs.ByName.{spread}
 use Rattle.vg_volumes.specs.Commits.{IsBefore, IsAfter}
 use Rattle.vg_volumes.specs.Volumes.{spot, span, volume, piece, IsElsewhere, SameElsewhere}
@@ -57,7 +57,7 @@ held-step : {A : Type 0} (size p : ℕ) (x y z : A) → (p < size) ⊎ (size ≤
 held-step size p x y z (inl below) same = ap (λ v. cond (nat_lt p size) v z) (same below)
 held-step size p x y z (inr past) same = ap (λ b. cond b x z) (le-ltb p size past) ∙ sym (ap (λ b. cond b y z) (le-ltb p size past))
 
-pub other_floor : (extent count : ℕ) (t : Listing) (old new : Held) (n m : Name) → IsTable count t → 0 < extent
+pub other_floor : (extent count : ℕ) (t : VolumeTable) (old new : Held) (n m : Name) → IsTable count t → 0 < extent
     → SameElsewhere extent (extents_of (rows t n)) old new → m ≢ n
     → (p : ℕ) → (volume extent (extents_of (rows t m)) new).floor p ≡ (volume extent (extents_of (rows t m)) old).floor p
 unfolding volume
@@ -66,7 +66,7 @@ other_floor extent count t old new n m table pos h other p =
     held-step (span extent es) p (new.floor (spot extent es p)) (old.floor (spot extent es p)) [] (cases_lt p (span extent es))
     (λ below. h.floor (spot extent es p) (elsewhere count extent (rows t) n m p (spread count t table) pos other below))
 
-pub other_pending : (extent count : ℕ) (t : Listing) (old new : Held) (n m : Name) → IsTable count t → 0 < extent
+pub other_pending : (extent count : ℕ) (t : VolumeTable) (old new : Held) (n m : Name) → IsTable count t → 0 < extent
     → SameElsewhere extent (extents_of (rows t n)) old new → m ≢ n
     → (p : ℕ) → (volume extent (extents_of (rows t m)) new).pending p ≡ (volume extent (extents_of (rows t m)) old).pending p
 unfolding volume
@@ -83,7 +83,7 @@ unfolding volume
 volume_may extent es area p v below may =
     subst (λ b. May (record { floor = λ q. cond b (area.floor (spot extent es p)) []; pending = λ q. cond b (area.pending (spot extent es p)) [] }) p v) (sym (lt-ltb p (span extent es) below)) may
 
-pub commit_before : (c : Content) (held : Held) (left : Listing) (image : ℕ → List ℕ) → IsTable c.count c.table → 0 < c.extent
+pub commit_before : (c : Content) (held : Held) (left : VolumeTable) (image : ℕ → List ℕ) → IsTable c.count c.table → 0 < c.extent
     → IsBefore (c.count * c.extent) c.table held left image → (m : Name) (p : ℕ) → p < size_of c m
     → May (volume c.extent (extents_of (row c m)) held) p (sectors_of (with_table c left image) m p)
 unfolding sectors_of piece
@@ -93,7 +93,7 @@ commit_before c held left image table pos h m p below =
     (volume_may c.extent es held p (image (spot c.extent es p)) below
     (h.sectors (spot c.extent es p) (spot_below c.count c.extent (rows c.table) m p (spread c.count c.table table) pos below)))
 
-pub commit_after : (c : Content) (held : Held) (next left : Listing) (image : ℕ → List ℕ) → IsTable c.count next → 0 < c.extent
+pub commit_after : (c : Content) (held : Held) (next left : VolumeTable) (image : ℕ → List ℕ) → IsTable c.count next → 0 < c.extent
     → IsAfter (c.count * c.extent) next held left image → (m : Name) (p : ℕ) → p < size_of (with_table c next image) m
     → sectors_of (with_table c left image) m p ≡ sectors_of (with_table c next (reads held)) m p
 unfolding sectors_of piece

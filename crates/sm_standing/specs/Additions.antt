@@ -5,7 +5,7 @@ use Rattle.sm_base.specs.declared.names.Name.{Name}
 use Rattle.sm_base.specs.declared.names.Name.TheVariants.{Mgt, Raw}
 use Rattle.vg_meta.specs.Tables.{Row}
 use Rattle.vg_volumes.specs.Volumes.{piece, span}
-use Rattle.sm_machine.specs.Lists.{In}
+use Rattle.common_laws.specs.Lists.{In}
 use Rattle.sm_machine.specs.Shapes.{image_limit}
 use Rattle.sm_record.specs.declared.records.Record.{Record}
 use Rattle.sm_record.specs.declared.records.Reading.TheVariants.{Free, Taken}

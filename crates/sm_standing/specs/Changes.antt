@@ -3,26 +3,26 @@
 use Rattle.std.specs.Prelude.{◌≡◌, ◌≢◌, ◌⊎◌, ℕ, suc, ◌<◌, ◌≤◌, true, List, [], Option, Some, None}
 use Rattle.sm_base.specs.declared.names.Name.{Name}
 use Rattle.vg_meta.specs.Tables.{Row}
-use Rattle.sm_machine.specs.Lists.{◌>>=◌}
+use Rattle.common_laws.specs.Lists.{◌>>=◌}
 use Rattle.sm_machine.specs.Shapes.{same_image, chain_limit}
 use Rattle.sm_standing.specs.Checks.{children, depth}
 use Rattle.sm_standing.specs.Contents.{Content, row, record_of}
 use Rattle.sm_standing.specs.Entries.{folding, making}
-use Rattle.sm_standing.specs.Images.{Image, image_of, turn_of, reads}
-use Rattle.sm_standing.specs.Standing.{stands}
-use Rattle.sm_standing.specs.Turns.{Turns}
+use Rattle.sm_standing.specs.Images.{Image, image_of, answer_of, image_reads}
+use Rattle.sm_standing.specs.Standing.{standing_volume}
+use Rattle.sm_standing.specs.Answering.{ImageAnswers}
 
 -- the turns of a content at one sector
-abbrev pub turns_of : Content → ℕ → Turns
-turns_of c s = λ n. turn_of s (image_of c n)
+abbrev pub turns_of : Content → ℕ → ImageAnswers
+turns_of c s = λ n. answer_of s (image_of c n)
 
 -- the parent of the image of a name
 abbrev pub parent_of : Content → Name → Option Name
 parent_of c n = image_of c n >>= (λ i. i.parent)
 
 -- a chain of at most so many images as are walked
-abbrev pub IsShort : Content → Name → Type 0
-IsShort c n = depth c (suc chain_limit) n ≤ chain_limit
+abbrev pub IsShortChain : Content → Name → Type 0
+IsShortChain c n = depth c (suc chain_limit) n ≤ chain_limit
 
 -- all images but one are the same
 abbrev pub SameImagesBut : Content → Content → Name → Type 0
@@ -52,12 +52,12 @@ pub record IsRaised (a b : Content) (x : Name) (i j : Image) : Type 0 where
 -- the disk of a UUID stands in n before and in m afterwards, in images of the same size that read the same; its record
 -- is the same
 pub record IsMoved (a b : Content) (u : List ℕ) (n m : Name) (i j : Image) : Type 0 where
-  pub stood : stands a.table u ≡ Some n
-  pub stands_now : stands b.table u ≡ Some m
+  pub stood : standing_volume a.table u ≡ Some n
+  pub stands_now : standing_volume b.table u ≡ Some m
   pub before : image_of a n ≡ Some i
   pub after : image_of b m ≡ Some j
   pub size : j.size ≡ i.size
-  pub same : (s : ℕ) → s < i.size → reads b m s ≡ reads a n s
+  pub same : (s : ℕ) → s < i.size → image_reads b m s ≡ image_reads a n s
   pub recorded : record_of b u ≡ record_of a u
 
 -- b is a without the image x, which was hidden and nobody's parent; no entry is there

@@ -22,16 +22,17 @@ use Rattle.sm_base.specs.declared.faults.Place.TheVariants as at
 use Rattle.sm_base.specs.declared.names.Name.{Name}
 use Rattle.sm_base.specs.declared.names.Name.TheVariants.{Mgt, Vhd, Raw, Old, Clone, Inflate, Coalesce, Relink, Leaf}
 use Rattle.vg_layout.specs.Places.{record_extents}
-use Rattle.vg_meta.specs.Tables.{Listing, Row, is_image as is_data, is_journal}
+use Rattle.sm_base.specs.Kinds.{is_image as is_data, is_entry}
+use Rattle.vg_meta.specs.Tables.{VolumeTable, Row}
 use Rattle.vg_volumes.specs.Volumes.{span}
-use Rattle.sm_machine.specs.Lists.{◌>>=◌, given, first_some, numbers}
+use Rattle.common_laws.specs.Lists.{◌>>=◌, given, first_some, numbers}
 use Rattle.sm_machine.specs.Shapes.{same_image, image_limit, chain_limit}
 use Rattle.sm_record.specs.declared.records.Reading.{Reading}
 use Rattle.sm_record.specs.declared.records.Reading.TheVariants.{Free, Taken, Damaged}
 use Rattle.sm_standing.specs.Contents.{Content, row, record_count, reading_at, records, is_record_of}
 use Rattle.sm_standing.specs.Entries.{is_there, is_hidden, are_past, is_at_stage, is_old_of, is_fork_made, is_leaf_copied, is_leaf_renamed, is_leaf_swapped, folding, making, second}
 use Rattle.sm_standing.specs.Images.{Image, image_of}
-use Rattle.sm_standing.specs.Standing.{stands, uuids}
+use Rattle.sm_standing.specs.Standing.{standing_volume, uuids}
 
 -- the name of the first volume that passes a test, in order of name
 abbrev pub name_in : Option Row → Option Name
@@ -57,19 +58,19 @@ record_volume_fault c = given (not (has_records c (row c Mgt))) at.Mgt
 
 -- ---- 7: the images
 
-abbrev pub images : Listing → List Row
+abbrev pub images : VolumeTable → List Row
 images t = filter (λ r. is_data r.name) t.volumes
 
 unfoldable pub too_many_fault : Content → Option Place
 too_many_fault c = given (nat_lt image_limit (length (images c.table))) at.Images
 
 -- a VHD and a raw image have one UUID
-abbrev pub has_twin : Listing → Name → Bool
+abbrev pub has_twin : VolumeTable → Name → Bool
 has_twin t (Vhd u) = is_there t (Raw u)
 has_twin t (Raw u) = is_there t (Vhd u)
 has_twin t _ = false
 
-abbrev pub is_misnamed : Listing → Row → Bool
+abbrev pub is_misnamed : VolumeTable → Row → Bool
 is_misnamed t r = is_data r.name && (has_twin t r.name || not (are_past t r.name))
 
 unfoldable pub misnamed_fault : Content → Option Place
@@ -86,15 +87,15 @@ lesser (Some a) (Some b) = if is_lt (name_cmp a b) then Some a else Some b
 unfoldable pub second_entry_fault : Content → Option Place
 second_entry_fault c = placed at.Journal (lesser (second (folding c.table)) (second (making c.table)))
 
-abbrev pub is_lost : Listing → Row → Bool
-is_lost t r = is_journal r.name && not (is_at_stage t r.name && are_past t r.name)
+abbrev pub is_lost : VolumeTable → Row → Bool
+is_lost t r = is_entry r.name && not (is_at_stage t r.name && are_past t r.name)
 
 unfoldable pub lost_entry_fault : Content → Option Place
 lost_entry_fault c = placed at.Journal (first_name (is_lost c.table) c.table.volumes)
 
 -- ---- 9: old leaves
 
-abbrev pub is_orphaned : Listing → Name → Bool
+abbrev pub is_orphaned : VolumeTable → Name → Bool
 is_orphaned t (Old u) = not (list_any (is_old_of t u) (folding t))
 is_orphaned t _ = false
 
@@ -110,13 +111,7 @@ is_oversize extent block entries r = nat_lt (entries * block) (span extent r.ext
 abbrev pub is_image_wrong : Content → Row → Name → Bool
 is_image_wrong c r (Vhd u) = is_none (image_of c (Vhd u))
 is_image_wrong c r (Raw u) = is_oversize c.extent c.block c.entries r
-is_image_wrong c r Mgt = false
-is_image_wrong c r (Old u) = false
-is_image_wrong c r (Clone disk base twin) = false
-is_image_wrong c r (Inflate image extents) = false
-is_image_wrong c r (Coalesce child parent) = false
-is_image_wrong c r (Relink child parent) = false
-is_image_wrong c r (Leaf leaf parent) = false
+is_image_wrong c r _ = false
 
 abbrev pub is_invalid : Content → Row → Bool
 is_invalid c r = not r.fresh && is_image_wrong c r r.name
@@ -168,14 +163,7 @@ is_misplaced c r (Some i) = not (is_linked c i
 -- the check speaks of VHD images alone
 abbrev pub tree_wrong_as : Content → Row → Name → Bool
 tree_wrong_as c r (Vhd u) = is_misplaced c r (image_of c (Vhd u))
-tree_wrong_as c r Mgt = false
-tree_wrong_as c r (Raw u) = false
-tree_wrong_as c r (Old u) = false
-tree_wrong_as c r (Clone disk base twin) = false
-tree_wrong_as c r (Inflate image extents) = false
-tree_wrong_as c r (Coalesce child parent) = false
-tree_wrong_as c r (Relink child parent) = false
-tree_wrong_as c r (Leaf leaf parent) = false
+tree_wrong_as c r _ = false
 
 abbrev pub is_tree_wrong : Content → Row → Bool
 is_tree_wrong c r = tree_wrong_as c r r.name
@@ -258,7 +246,7 @@ record_fault c = record_place (find (λ k. is_damaged (reading_at c k)) (numbers
 
 -- the UUIDs that are disks, in order
 abbrev pub disk_uuids : Content → List (List ℕ)
-disk_uuids c = filter (λ u. is_some (stands c.table u)) (uuids c.table)
+disk_uuids c = filter (λ u. is_some (standing_volume c.table u)) (uuids c.table)
 
 abbrev pub is_unrecorded : Content → List ℕ → Bool
 is_unrecorded c u = not (length (filter (is_record_of u) (records c)) == 1)
@@ -297,12 +285,7 @@ abbrev pub is_ahead : Bool → Name → Bool
 is_ahead hidden (Raw u) = hidden
 is_ahead hidden (Vhd u) = true
 is_ahead hidden (Old u) = true
-is_ahead hidden Mgt = false
-is_ahead hidden (Clone disk base twin) = false
-is_ahead hidden (Inflate image extents) = false
-is_ahead hidden (Coalesce child parent) = false
-is_ahead hidden (Relink child parent) = false
-is_ahead hidden (Leaf leaf parent) = false
+is_ahead hidden _ = false
 
 abbrev pub is_image_ahead : Row → Bool
 is_image_ahead r = is_ahead r.hidden r.name
@@ -310,7 +293,7 @@ is_image_ahead r = is_ahead r.hidden r.name
 -- the checks of the program as it is built today: the first entry is refused with the eighth check, and the first image
 -- that is no visible raw one with the tenth
 unfoldable pub entry_ahead_fault : Content → Option Place
-entry_ahead_fault c = placed at.Journal (first_name (λ r. is_journal r.name) c.table.volumes)
+entry_ahead_fault c = placed at.Journal (first_name (λ r. is_entry r.name) c.table.volumes)
 
 unfoldable pub image_ahead_fault : Content → Option Place
 image_ahead_fault c = placed at.Image (first_name is_image_ahead c.table.volumes)

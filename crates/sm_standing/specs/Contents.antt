@@ -6,9 +6,9 @@ use Rattle.std.specs.List.{filter_map, find}
 use Rattle.std.specs.Str.{bytes_eq}
 use Rattle.sm_base.specs.declared.names.Name.{Name}
 use Rattle.sm_base.specs.declared.names.Name.TheVariants.{Mgt}
-use Rattle.vg_meta.specs.Tables.{Listing, Row, rows, extents_of}
+use Rattle.vg_meta.specs.Tables.{VolumeTable, Row, rows, extents_of}
 use Rattle.vg_volumes.specs.Volumes.{piece, span}
-use Rattle.sm_machine.specs.Lists.{numbers}
+use Rattle.common_laws.specs.Lists.{numbers}
 use Rattle.sm_record.specs.declared.records.Record.{Record}
 use Rattle.sm_record.specs.declared.records.Reading.{Reading}
 use Rattle.sm_record.specs.declared.records.Reading.TheVariants.{Free, Taken, Damaged}
@@ -20,7 +20,7 @@ pub record Content : Type 0 where
   pub block : ℕ
   pub entries : ℕ
   pub count : ℕ
-  pub table : Listing
+  pub table : VolumeTable
   pub area : ℕ → List ℕ
 
 -- the volume of this name

@@ -3,13 +3,13 @@
 use Rattle.std.specs.Prelude.{◌≡◌, ℕ, ◌+◌, List}
 use Rattle.sm_machine.specs.Disks.{Disk}
 use Rattle.vg_layout.specs.Places.{area_place}
-use Rattle.vg_layout.specs.Opening.{Standing, StandsOn}
+use Rattle.vg_layout.specs.Opening.{GroupFound, StandsOn}
 use Rattle.sm_standing.specs.Contents.{Content}
 use Rattle.sm_standing.specs.Standing.{disks}
 use Rattle.sm_standing.specs.Keeping.{IsKept}
 
 -- what stands on the extents of a group
-abbrev pub content_of : Standing → (ℕ → List ℕ) → Content
+abbrev pub content_of : GroupFound → (ℕ → List ℕ) → Content
 content_of g image = record {
   extent = g.plate.extent;
   block = g.plate.block;
@@ -21,12 +21,12 @@ content_of g image = record {
 
 -- a repository stands on the device, and it is kept
 pub record IsKeptOn (sectors : ℕ) (image : ℕ → List ℕ) : Type 0 where
-  pub group : Standing
+  pub group : GroupFound
   pub stands : StandsOn sectors image group
   pub kept : IsKept (content_of group image)
 
 -- a repository stands on the device, and these are its disks
 pub record Shows (sectors : ℕ) (image : ℕ → List ℕ) (ds : List Disk) : Type 0 where
-  pub group : Standing
+  pub group : GroupFound
   pub stands : StandsOn sectors image group
   pub shown : ds ≡ disks (content_of group image)

@@ -6,9 +6,9 @@ use Rattle.sm_base.specs.declared.names.Name.{Name}
 use Rattle.sm_base.specs.declared.names.Name.TheVariants.{Vhd, Raw, Inflate}
 use Rattle.sm_disk.specs.Sectors.{zeros}
 use Rattle.vg_meta.specs.Tables.{Row}
-use Rattle.sm_machine.specs.Lists.{◌>>=◌, numbers}
+use Rattle.common_laws.specs.Lists.{numbers, ◌>>=◌}
 use Rattle.sm_machine.specs.Shapes.{same_image, chain_limit}
-use Rattle.vhd_layout.specs.Contents.{Content as LaidOut, raw_content}
+use Rattle.vhd_layout.specs.Contents.{ImageContent as LaidOut, raw_content}
 use Rattle.vhd_layout.specs.Readings.{image_at}
 use Rattle.sm_standing.specs.Contents.{Content, row, sectors_of, size_of}
 use Rattle.sm_standing.specs.Entries.{making, head}
@@ -44,29 +44,29 @@ image_of c (Vhd u) = do
 image_of c _ = None
 
 -- what an image does with a sector: it answers, or sends up
-pub data Turn : Type 0 where
-  here : List ℕ → Turn
-  up : Name → Turn
+pub data ImageAnswer : Type 0 where
+  here : List ℕ → ImageAnswer
+  up : Name → ImageAnswer
 
 -- what it holds, else its parent, else zeros
-abbrev pub held_or : Option (List ℕ) → Option Name → Turn
+abbrev pub held_or : Option (List ℕ) → Option Name → ImageAnswer
 held_or (Some bytes) parent = here bytes
 held_or None (Some p) = up p
 held_or None None = here zeros
 
-unfoldable pub turn_of : ℕ → Option Image → Turn
-turn_of s None = here zeros
-turn_of s (Some i) = if nat_lt s i.size then held_or (i.own s) i.parent else here zeros
+unfoldable pub answer_of : ℕ → Option Image → ImageAnswer
+answer_of s None = here zeros
+answer_of s (Some i) = if nat_lt s i.size then held_or (i.own s) i.parent else here zeros
 
 -- at most so many images are walked; past them it is zeros
-unfoldable pub walk : ℕ → (Name → Turn) → Name → List ℕ
+unfoldable pub walk : ℕ → (Name → ImageAnswer) → Name → List ℕ
 walk zero f n = zeros
 walk (suc most) f n = elim (f n) [ here bytes ↦ bytes | up p ↦ walk most f p ]
 
 -- a sector as it is read through the chain of an image
-unfoldable pub reads : Content → Name → ℕ → List ℕ
-reads c n s = walk chain_limit (λ m. turn_of s (image_of c m)) n
+unfoldable pub image_reads : Content → Name → ℕ → List ℕ
+image_reads c n s = walk chain_limit (λ m. answer_of s (image_of c m)) n
 
 -- all sectors of an image, read so
 unfoldable pub sectors_read : Content → Name → List (List ℕ)
-sectors_read c n = elim (image_of c n) [ None ↦ [] | Some i ↦ map (reads c n) (numbers 0 i.size) ]
+sectors_read c n = elim (image_of c n) [ None ↦ [] | Some i ↦ map (image_reads c n) (numbers 0 i.size) ]

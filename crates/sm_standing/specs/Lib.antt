@@ -2,7 +2,7 @@ pub mod Contents
 pub mod Entries
 pub mod Images
 pub mod Standing
-pub mod Turns
+pub mod Answering
 pub mod Checks
 pub mod Keeping
 pub mod Devices
@@ -13,8 +13,5 @@ pub mod Ordered
 pub mod RawDisks
 pub mod PlainSound
 pub mod Additions
-pub mod Examples
-pub mod ExampleTables
-pub mod ExampleFaults
 pub mod Changes
 pub mod Worlds

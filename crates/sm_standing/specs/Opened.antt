@@ -14,8 +14,8 @@ use Rattle.std.specs.List.{filter, filter_map, list_any, sum}
 use Rattle.sm_base.specs.declared.names.Name.{Name}
 use Rattle.sm_base.specs.declared.names.Name.TheVariants.{Vhd, Raw, Old, Clone, Inflate, Coalesce, Relink, Leaf}
 use Rattle.sm_base.specs.declared.operations.Op.TheVariants.{Idle}
-use Rattle.vg_meta.specs.Tables.{Row, Listing, name_eq}
-use Rattle.sm_machine.specs.Lists.{when}
+use Rattle.vg_meta.specs.Tables.{Row, VolumeTable, name_eq}
+use Rattle.common_laws.specs.Lists.{when}
 use Rattle.sm_machine.specs.Shapes.{Shape, ImageRow, risen, same_image, with_image}
 use Rattle.sm_standing.specs.Contents.{Content}
 use Rattle.sm_standing.specs.Entries.{folding, making, head, image_with, is_leaf_renamed, is_leaf_swapped}
@@ -101,20 +101,20 @@ abbrev pub base_back : List ℕ → Option Name → Work → Work
 base_back disk None w = w
 base_back disk (Some base) w = renamed base (under_name base disk) (shown base (removed (Vhd disk) w))
 
-abbrev pub forking_undone : Listing → Name → Work → Work
+abbrev pub forking_undone : VolumeTable → Name → Work → Work
 forking_undone t (Clone disk base twin) w = removed (Clone disk base twin) (base_back disk (image_with t base) (removed (Vhd twin) w))
 forking_undone t _ w = w
 
-abbrev pub parent_name : Listing → List ℕ → Name
+abbrev pub parent_name : VolumeTable → List ℕ → Name
 parent_name t u = elim (image_with t u) [ None ↦ Vhd u | Some n ↦ n ]
 
-abbrev pub leaf_done : Listing → List ℕ → List ℕ → Work → Work
+abbrev pub leaf_done : VolumeTable → List ℕ → List ℕ → Work → Work
 leaf_done t leaf parent w =
     if is_leaf_renamed t leaf parent then removed (Old leaf) (shown (Vhd leaf) (renamed (Vhd parent) (Vhd leaf) w))
     else if is_leaf_swapped t leaf parent then removed (Old leaf) (shown (Vhd leaf) w)
     else w
 
-abbrev pub folding_ended : Listing → Name → Work → Work
+abbrev pub folding_ended : VolumeTable → Name → Work → Work
 folding_ended t (Relink child parent) w = removed (Relink child parent) (linked (Vhd child) (parent_name t parent) w)
 folding_ended t (Coalesce child parent) w = removed (Coalesce child parent) w
 folding_ended t (Leaf leaf parent) w = removed (Leaf leaf parent) (leaf_done t leaf parent w)
@@ -129,7 +129,7 @@ unfoldable pub new_removed : List Part → Work → Work
 new_removed [] w = w
 new_removed (p ∷ parts) w = new_removed parts (when p.fresh (removed p.name) w)
 
-abbrev pub repaired : Listing → Work → Work
+abbrev pub repaired : VolumeTable → Work → Work
 repaired t w =
     let made = by_entry (forking_undone t) (head (making t)) (by_entry enlarging_undone (head (making t)) w) in
     let folded = by_entry (folding_ended t) (head (folding t)) made in

@@ -3,21 +3,15 @@ use Rattle.std.specs.Prelude.{◌≡◌, Bool, true, false, not}
 use Rattle.std.specs.List.{AllByRecursion}
 use Rattle.sm_base.specs.declared.names.Name.{Name}
 use Rattle.sm_base.specs.declared.names.Name.TheVariants.{Mgt, Vhd, Raw, Old, Clone, Inflate, Coalesce, Relink, Leaf}
-use Rattle.vg_meta.specs.Tables.{Row, Listing}
+use Rattle.vg_meta.specs.Tables.{Row, VolumeTable}
 
 abbrev pub is_plain_name : Bool → Name → Bool
 is_plain_name hidden Mgt = true
 is_plain_name hidden (Raw u) = not hidden
-is_plain_name hidden (Vhd u) = false
-is_plain_name hidden (Old u) = false
-is_plain_name hidden (Clone disk base twin) = false
-is_plain_name hidden (Inflate image extents) = false
-is_plain_name hidden (Coalesce child parent) = false
-is_plain_name hidden (Relink child parent) = false
-is_plain_name hidden (Leaf leaf parent) = false
+is_plain_name hidden _ = false
 
 abbrev pub is_plain : Row → Bool
 is_plain r = is_plain_name r.hidden r.name
 
-abbrev pub IsPlain : Listing → Type 0
+abbrev pub IsPlain : VolumeTable → Type 0
 IsPlain t = AllByRecursion (λ r. is_plain r ≡ true) t.volumes

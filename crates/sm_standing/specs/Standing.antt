@@ -6,10 +6,10 @@
 use Rattle.std.specs.Prelude.{ℕ, ◌&&◌, ◌||◌, List, [], ◌∷◌, Option, Some, None, if◌then◌else◌}
 use Rattle.std.specs.List.{filter_map, find, flat_map}
 use Rattle.std.specs.Str.{bytes_eq}
+use Rattle.common_laws.specs.Lists.{◌>>=◌}
 use Rattle.sm_base.specs.declared.names.Name.{Name}
 use Rattle.sm_base.specs.declared.names.Name.TheVariants.{Mgt, Vhd, Raw, Old, Clone, Inflate, Coalesce, Relink, Leaf}
-use Rattle.vg_meta.specs.Tables.{Listing}
-use Rattle.sm_machine.specs.Lists.{◌>>=◌}
+use Rattle.vg_meta.specs.Tables.{VolumeTable}
 use Rattle.sm_machine.specs.Disks.{Disk, uuid_before}
 use Rattle.sm_record.specs.declared.records.Record.{Record}
 use Rattle.sm_standing.specs.Contents.{Content, record_of}
@@ -17,11 +17,11 @@ use Rattle.sm_standing.specs.Entries.{is_visible, image_with, is_leaf_renamed, i
 use Rattle.sm_standing.specs.Images.{sectors_read}
 
 -- where a UUID stands by itself
-abbrev pub stands_plainly : Listing → List ℕ → Option Name
+abbrev pub stands_plainly : VolumeTable → List ℕ → Option Name
 stands_plainly t u = find (is_visible t) (Vhd u ∷ Raw u ∷ [])
 
 -- under the entry of a fork
-abbrev pub stands_forked : Listing → Name → List ℕ → Option Name → Option Name
+abbrev pub stands_forked : VolumeTable → Name → List ℕ → Option Name → Option Name
 stands_forked t (Clone disk base twin) u plainly =
     if bytes_eq u disk then elim (image_with t base) [ None ↦ plainly | Some b ↦ Some b ]
     else if bytes_eq u base || bytes_eq u twin then None
@@ -29,7 +29,7 @@ stands_forked t (Clone disk base twin) u plainly =
 stands_forked t _ u plainly = plainly
 
 -- under the entry of a leaf
-abbrev pub stands_folded : Listing → Name → List ℕ → Option Name → Option Name
+abbrev pub stands_folded : VolumeTable → Name → List ℕ → Option Name → Option Name
 stands_folded t (Leaf leaf parent) u plainly =
     if bytes_eq u leaf && is_leaf_renamed t leaf parent then Some (Vhd parent)
     else if bytes_eq u leaf && is_leaf_swapped t leaf parent then Some (Vhd leaf)
@@ -41,8 +41,8 @@ under f None plainly = plainly
 under f (Some e) plainly = f e plainly
 
 -- the standing volume of a UUID, where it has one
-unfoldable pub stands : Listing → List ℕ → Option Name
-stands t u =
+unfoldable pub standing_volume : VolumeTable → List ℕ → Option Name
+standing_volume t u =
     under (λ e. stands_forked t e u) (head (making t))
     (under (λ e. stands_folded t e u) (head (folding t))
     (stands_plainly t u))
@@ -53,11 +53,7 @@ candidates (Vhd u) = u ∷ []
 candidates (Raw u) = u ∷ []
 candidates (Clone disk base twin) = disk ∷ []
 candidates (Leaf leaf parent) = leaf ∷ []
-candidates Mgt = []
-candidates (Old u) = []
-candidates (Inflate image extents) = []
-candidates (Coalesce child parent) = []
-candidates (Relink child parent) = []
+candidates _ = []
 
 -- a UUID put in its place, once
 unfoldable pub with_uuid : List ℕ → List (List ℕ) → List (List ℕ)
@@ -69,7 +65,7 @@ in_order [] = []
 in_order (u ∷ us) = with_uuid u (in_order us)
 
 -- all of them, in order
-unfoldable pub uuids : Listing → List (List ℕ)
+unfoldable pub uuids : VolumeTable → List (List ℕ)
 uuids t = in_order (flat_map (λ r. candidates r.name) t.volumes)
 
 -- the disk of a UUID
@@ -78,7 +74,7 @@ disk_in c u r n = record { uuid = u; label = r.label; origin = r.origin; read_on
 
 unfoldable pub disk_at : Content → List ℕ → Option Disk
 disk_at c u = do
-  n ← stands c.table u
+  n ← standing_volume c.table u
   r ← record_of c u
   Some (disk_in c u r n)
 

@@ -2,7 +2,7 @@
 -- format). Sectors are those of the area, one extent after another.
 use Rattle.std.specs.Prelude.{◌≡◌, ℕ, List}
 use Rattle.sm_base.specs.declared.names.Name.{Name}
-use Rattle.vg_meta.specs.Tables.{Listing, extents_of}
+use Rattle.vg_meta.specs.Tables.{VolumeTable, extents_of}
 use Rattle.vg_volumes.specs.Volumes.{IsElsewhere}
 use Rattle.sm_standing.specs.Contents.{Content, row}
 
@@ -13,5 +13,5 @@ pub record IsWrittenIn (a b : Content) (n : Name) : Type 0 where
   pub elsewhere : (p : ℕ) → IsElsewhere a.extent (extents_of (row a n)) p → b.area p ≡ a.area p
 
 -- what a table and an area make of a content with these sizes
-abbrev pub with_table : Content → Listing → (ℕ → List ℕ) → Content
+abbrev pub with_table : Content → VolumeTable → (ℕ → List ℕ) → Content
 with_table c t area = record { extent = c.extent; block = c.block; entries = c.entries; count = c.count; table = t; area = area }

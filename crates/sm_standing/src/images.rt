@@ -5,12 +5,12 @@ ghost use Rattle.sm_base.specs.declared.names.Name.{Name};
 ghost use Rattle.sm_base.specs.declared.names.Name.TheVariants.{Old};
 ghost use Rattle.sm_disk.specs.Sectors.{zeros};
 ghost use Rattle.vg_meta.specs.Tables.{Row};
-ghost use Rattle.sm_standing.specs.Changes.{turns_of, parent_of, IsShort, IsCopied, IsRaised, IsMoved, IsRemoved, IsLinkedUp, renamed_parent};
+ghost use Rattle.sm_standing.specs.Changes.{turns_of, parent_of, IsShortChain, IsCopied, IsRaised, IsMoved, IsRemoved, IsLinkedUp, renamed_parent};
 ghost use Rattle.sm_standing.specs.Checks.{chain_length, depth};
 ghost use Rattle.sm_standing.specs.Contents.{Content, row};
-ghost use Rattle.sm_standing.specs.Images.{Image, image_of, reads};
+ghost use Rattle.sm_standing.specs.Images.{Image, image_of, image_reads};
 ghost use Rattle.sm_standing.specs.Standing.{disks, disk_at};
-ghost use Rattle.sm_standing.specs.Turns.{Reads};
+ghost use Rattle.sm_standing.specs.Answering.{Reads};
 
 /// An old leaf holds no image, nor does a volume that is new.
 pub fn law_no_image()
@@ -21,16 +21,16 @@ pub fn law_no_image()
 /// What is read of an image at a sector: what it holds; else what its parent reads, zeros without one; and
 /// zeros past its own size.
 pub fn law_read()
-    ensures held { (c : Content) (n : Name) (i : Image) (s : ℕ) (bytes : List ℕ) → image_of c n ≡ Some i → s < i.size → i.own s ≡ Some bytes → reads c n s ≡ bytes }
-    ensures parent { (c : Content) (n p : Name) (i : Image) (s : ℕ) → image_of c n ≡ Some i → s < i.size → i.own s ≡ None → i.parent ≡ Some p → IsShort c n → reads c n s ≡ reads c p s }
-    ensures top { (c : Content) (n : Name) (i : Image) (s : ℕ) → image_of c n ≡ Some i → i.own s ≡ None → i.parent ≡ None → reads c n s ≡ zeros }
-    ensures past { (c : Content) (n : Name) (i : Image) (s : ℕ) → image_of c n ≡ Some i → i.size ≤ s → reads c n s ≡ zeros }
+    ensures held { (c : Content) (n : Name) (i : Image) (s : ℕ) (bytes : List ℕ) → image_of c n ≡ Some i → s < i.size → i.own s ≡ Some bytes → image_reads c n s ≡ bytes }
+    ensures parent { (c : Content) (n p : Name) (i : Image) (s : ℕ) → image_of c n ≡ Some i → s < i.size → i.own s ≡ None → i.parent ≡ Some p → IsShortChain c n → image_reads c n s ≡ image_reads c p s }
+    ensures top { (c : Content) (n : Name) (i : Image) (s : ℕ) → image_of c n ≡ Some i → i.own s ≡ None → i.parent ≡ None → image_reads c n s ≡ zeros }
+    ensures past { (c : Content) (n : Name) (i : Image) (s : ℕ) → image_of c n ≡ Some i → i.size ≤ s → image_reads c n s ≡ zeros }
 {}
 
 /// Where a chain has at most 30 images, the walk of 30 and the reading by turns without a bound agree.
 pub fn law_short_chain()
-    ensures some { (c : Content) (n : Name) (s : ℕ) → IsShort c n → Reads (turns_of c s) n (reads c n s) }
-    ensures only { (c : Content) (n : Name) (s : ℕ) (bytes : List ℕ) → IsShort c n → Reads (turns_of c s) n bytes → bytes ≡ reads c n s }
+    ensures some { (c : Content) (n : Name) (s : ℕ) → IsShortChain c n → Reads (turns_of c s) n (image_reads c n s) }
+    ensures only { (c : Content) (n : Name) (s : ℕ) (bytes : List ℕ) → IsShortChain c n → Reads (turns_of c s) n bytes → bytes ≡ image_reads c n s }
 {}
 
 /// The number of images of a chain: none where there is no image, one where it has no parent, else one more than from the
@@ -55,14 +55,14 @@ pub fn law_chain_kept()
 /// Where a parent of the same size holds alike whatever its child holds, both read alike. An empty image over a
 /// base is such a child, and so is an image that was copied into its parent.
 pub fn law_copied()
-    ensures { (c : Content) (n p : Name) (i q : Image) → IsCopied c n p i q → IsShort c n → (s : ℕ) → s < i.size → reads c n s ≡ reads c p s }
+    ensures { (c : Content) (n p : Name) (i q : Image) → IsCopied c n p i q → IsShortChain c n → (s : ℕ) → s < i.size → image_reads c n s ≡ image_reads c p s }
 {}
 
 /// An image grows that holds nothing past its old size, over a parent that is not larger: each image reads as before,
 /// and the new sectors are zeros.
 pub fn law_raised()
-    ensures same { (a b : Content) (x : Name) (i j : Image) → IsRaised a b x i j → (n : Name) (s : ℕ) → reads b n s ≡ reads a n s }
-    ensures zeros { (a b : Content) (x : Name) (i j : Image) → IsRaised a b x i j → (s : ℕ) → i.size ≤ s → reads b x s ≡ zeros }
+    ensures same { (a b : Content) (x : Name) (i j : Image) → IsRaised a b x i j → (n : Name) (s : ℕ) → image_reads b n s ≡ image_reads a n s }
+    ensures zeros { (a b : Content) (x : Name) (i j : Image) → IsRaised a b x i j → (s : ℕ) → i.size ≤ s → image_reads b x s ≡ zeros }
 {}
 
 /// A disk that stands in another image of the same size that reads the same is the same disk.

@@ -12,40 +12,27 @@
 //! a content spells), `Plain` and `PlainSound` (a repository of raw disks alone), `Additions` (a raw image
 //! more), `Changes` (an image that comes, goes, grows or moves), `Worlds` (what a change of the area leaves).
 //!
-//! The laws and the worked examples are the contracts of functions that do nothing: of what is read through a
-//! chain (`chains`), of images in a content (`images`), of what a commit or a write leaves of each volume
-//! (`worlds`), of the list of disks (`listing`), of raw disks alone (`raw`); worked tables at each moment of a
-//! fork, a copy and a fold (`tables`), and contents that fail each check of an opening (`faults`).
+//! The laws are the contracts of functions that do nothing: of what is read through a chain (`chains`), of images in a
+//! content (`images`), of what a commit or a write leaves of each volume (`worlds`), of the list of disks (`listing`), of
+//! raw disks alone (`raw`), and of the first check of an opening that fails (`faults`). That their hypotheses can be met is
+//! shown in the crate standing_examples.
 #![tactic(auto)]
 
 mod chains;
-mod examples;
 mod faults;
 mod images;
 mod listing;
 mod raw;
-mod tables;
 mod worlds;
 
 pub use chains::{
     law_copy_below, law_guest_write, law_no_parent, law_relink, law_rename, law_walk,
 };
-pub use examples::example_empty;
-pub use faults::{
-    example_disk, example_entry_link, example_fork_link, example_invalid, example_leaf_link,
-    example_lost_entry, example_misnamed, example_old_leaf, example_record, example_record_volume,
-    example_relink_link, example_second_entry, example_too_many, example_tree, law_first_fault,
-    law_longest_chain,
-};
+pub use faults::{law_first_fault, law_longest_chain};
 pub use images::{
     law_chain_kept, law_chain_length, law_copied, law_moved, law_no_image, law_raised, law_read,
     law_removed, law_short_chain,
 };
 pub use listing::{law_disk, law_disks_follow, law_disks_in_order, law_one_disk_more};
 pub use raw::{law_new_image, law_new_image_filled, law_plain_kept, law_today};
-pub use tables::{
-    example_coalesce, example_fork_begun, example_fork_ended, example_fork_made,
-    example_fork_renamed, example_inflate, example_leaf_copied, example_leaf_folded,
-    example_leaf_renamed, example_leaf_swapped, example_pair, example_raw, example_relink,
-};
 pub use worlds::{law_commit, law_other_choices, law_other_volumes};

@@ -3,11 +3,11 @@
 ghost use Rattle.std.specs.Prelude.{◌≡◌, ◌≢◌, List, ℕ, None, Some};
 ghost use Rattle.sm_base.specs.declared.names.Name.{Name};
 ghost use Rattle.sm_record.specs.declared.records.Record.{Record};
-ghost use Rattle.sm_machine.specs.Lists.{In};
+ghost use Rattle.common_laws.specs.Lists.{In};
 ghost use Rattle.sm_machine.specs.Disks.{Disk, with_disk};
 ghost use Rattle.sm_standing.specs.Contents.{Content, records};
 ghost use Rattle.sm_standing.specs.Images.{sectors_read};
-ghost use Rattle.sm_standing.specs.Standing.{disks, disk_at, stands};
+ghost use Rattle.sm_standing.specs.Standing.{disks, disk_at, standing_volume};
 ghost use Rattle.sm_standing.specs.Ordered.{Rising, disk_cmp};
 
 /// The disks stand in order of UUID, each once.
@@ -30,5 +30,5 @@ pub fn law_one_disk_more()
 pub fn law_disk()
     ensures record { (c : Content) (u : List ℕ) (d : Disk) → disk_at c u ≡ Some d
         → (r : Record) × In r (records c) × (r.uuid ≡ u) × (d.uuid ≡ u) × (d.label ≡ r.label) × (d.origin ≡ r.origin) × (d.read_only ≡ r.read_only) }
-    ensures sectors { (c : Content) (u : List ℕ) (d : Disk) → disk_at c u ≡ Some d → (n : Name) × (stands c.table u ≡ Some n) × (d.sectors ≡ sectors_read c n) }
+    ensures sectors { (c : Content) (u : List ℕ) (d : Disk) → disk_at c u ≡ Some d → (n : Name) × (standing_volume c.table u ≡ Some n) × (d.sectors ≡ sectors_read c n) }
 {}

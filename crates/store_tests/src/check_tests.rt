@@ -3,18 +3,18 @@
 
 ghost use Rattle.std.specs.Prelude.{◌≡◌, false, IfOk, OnOk};
 ghost use Rattle.sm_disk.specs.Held.{IsSettled};
-ghost use Rattle.vg_plain.specs.Plain.{area_of, has_failed};
+ghost use Rattle.vg_memory.specs.Stores.{area_of, has_failed};
 
-use crate::changes::prepare;
 use sm_base::{Geometry, Name, OpenFault, Place};
 use sm_recover::settle;
 use std::alloc::Global;
 use std::process::Abort;
 use std::test::Fail;
+use test_support::prepare;
 use uuid::Uuid;
 use vg_layout::record_extents;
+use vg_memory::MemoryStore;
 use vg_meta::{Change, Extents, Tag};
-use vg_plain::PlainStore;
 use vg_volumes::Store;
 
 /// A change of a table.
@@ -97,7 +97,7 @@ fn answer<S: Store>(
 }
 
 /// A new store of 24 extents, with block allocation tables of so many entries.
-fn new(alloc: Global, entries: u64) -> Result<PlainStore, Fail>
+fn new(alloc: Global, entries: u64) -> Result<MemoryStore, Fail>
     ensures usable { IfOk result (λ s. has_failed s.course ≡ false) }
     ensures settled { IfOk result (λ s. IsSettled (area_of s)) }
 {
@@ -105,7 +105,7 @@ fn new(alloc: Global, entries: u64) -> Result<PlainStore, Fail>
     if record_extents(&geometry) > 24 {
         return Err(Fail::from("room for the records"));
     }
-    Ok(PlainStore::new(alloc, geometry, 24)?)
+    Ok(MemoryStore::new(alloc, geometry, 24)?)
 }
 
 /// Three changes of a new store are answered so.

@@ -1,13 +1,12 @@
 //! Each byte of a new group's label, header and text is changed, and an opening answers what the reference reader
 //! finds.
 
-use crate::fixtures::formatted;
 use reference_reader::{number, opening_fault, sum_between, text_of};
 use sm_base::{OpenFault, Place};
 use sm_disk::{Disk, MemDisk, write_sector};
 use std::alloc::Global;
-use std::process::Abort;
 use std::test::Fail;
+use test_support::formatted;
 use vg_store::Group;
 
 /// The sectors of the device: extents for the records alone.
@@ -119,11 +118,14 @@ fn set(device: &mut [u8], at: usize, change: Change) -> Result<(), Fail> {
     Ok(())
 }
 
-/// What an opening answers, and the device afterwards.
-fn opened(alloc: Global, disk: MemDisk) -> (Option<OpenFault>, MemDisk) {
+/// What an opening answers.
+fn fault(alloc: Global, disk: MemDisk) -> Option<OpenFault> {
     match Group::open(alloc, disk) {
-        Ok(group) => (None, group.into_disk()),
-        Err((fault, disk)) => (Some(fault), disk),
+        Ok(group) => {
+            let _disk = group.into_disk();
+            None
+        }
+        Err((fault, _disk)) => Some(fault),
     }
 }
 
@@ -138,14 +140,17 @@ fn write_front(disk: &mut MemDisk, device: &[u8]) -> Result<(), Fail> {
     Ok(())
 }
 
-/// A device with a new group, and all of its bytes. Of the device only the front was ever written: all else is zeros,
-/// as the records of a new group are.
-fn new_device(alloc: Global) -> Result<(MemDisk, Vec<u8>), Fail> {
-    let mut formatted = formatted(alloc, SECTORS as u64)?;
-    let bytes = bytes_of(alloc, &mut formatted)?;
+/// All bytes of a device with a new group.
+fn new_bytes(alloc: Global) -> Result<Vec<u8>, Fail> {
+    let mut disk = formatted(alloc, SECTORS as u64)?;
+    bytes_of(alloc, &mut disk)
+}
+
+/// A device with these bytes. Only the front is written: all else is zeros, as the records of a new group are.
+fn device_of(alloc: Global, bytes: &[u8]) -> Result<MemDisk, Fail> {
     let mut disk = MemDisk::new(alloc, SECTORS as u64)?;
-    write_front(&mut disk, &bytes)?;
-    Ok((disk, bytes))
+    write_front(&mut disk, bytes)?;
+    Ok(disk)
 }
 
 /// What an opening answers a changed byte where no sum was made right, by the offset of the byte.
@@ -164,99 +169,76 @@ fn by_offset(device: &[u8], at: usize) -> Result<OpenFault, Fail> {
 /// Changes a byte, makes the sums right, and opens: whether it is answered as by the reference reader.
 fn open_changed(
     alloc: Global,
-    disk: MemDisk,
+    disk: &mut MemDisk,
     bytes: &mut [u8],
     at: usize,
     change: Change,
     sums: Sums,
-) -> Result<(bool, MemDisk), Fail> {
-    let mut disk = disk;
+) -> Result<bool, Fail> {
     set(bytes, at, change)?;
     make_right(bytes, sums)?;
-    write_front(&mut disk, bytes)?;
-    let (fault, disk) = opened(alloc, disk);
+    write_front(disk, bytes)?;
+    let fault = fault(alloc, disk.left(alloc, &[])?);
     let wanted = opening_fault(alloc, bytes)?;
     let plain = sums != Sums::Left || fault == Some(by_offset(bytes, at)?);
-    Ok((fault == wanted && plain, disk))
+    Ok(fault == wanted && plain)
 }
 
-/// The same, with the front put back afterwards.
+/// The three sectors of the front of a device.
+fn front(device: &[u8]) -> Result<[[u8; 512]; 3], Fail> {
+    Ok([head(device, 0)?, head(device, 512)?, head(device, 1024)?])
+}
+
+/// Puts a front on a device.
+fn set_front(device: &mut [u8], front: &[[u8; 512]; 3]) -> Result<(), Fail> {
+    let [label, header, text] = front;
+    set_head(device, 0, label)?;
+    set_head(device, 512, header)?;
+    set_head(device, 1024, text)
+}
+
+/// Whether both changes of a byte are answered right. The front is put back.
 fn is_answered(
     alloc: Global,
-    disk: MemDisk,
+    disk: &mut MemDisk,
     bytes: &mut [u8],
     at: usize,
-    change: Change,
     sums: Sums,
-) -> Result<(bool, MemDisk), Fail> {
-    let label = head(bytes, 0)?;
-    let header = head(bytes, 512)?;
-    let text = head(bytes, 1024)?;
-    let (right, disk) = open_changed(alloc, disk, bytes, at, change, sums)?;
-    set_head(bytes, 0, &label)?;
-    set_head(bytes, 512, &header)?;
-    set_head(bytes, 1024, &text)?;
-    Ok((right, disk))
+) -> Result<bool, Fail> {
+    let whole = front(bytes)?;
+    let flipped = open_changed(alloc, disk, bytes, at, Change::Flip, sums)?;
+    set_front(bytes, &whole)?;
+    let raised = open_changed(alloc, disk, bytes, at, Change::Raise, sums)?;
+    set_front(bytes, &whole)?;
+    Ok(flipped && raised)
 }
 
-/// The first byte from an offset up to another of which a change is not answered right.
-fn wrong(alloc: Global, from: usize, to: usize, sums: Sums) -> Result<Option<usize>, Fail> {
-    let (mut disk, mut bytes) = new_device(alloc)?;
-    for at in from..to {
-        let (flipped, after) = is_answered(alloc, disk, &mut bytes, at, Change::Flip, sums)?;
-        let (raised, after) = is_answered(alloc, after, &mut bytes, at, Change::Raise, sums)?;
-        if !flipped || !raised {
-            return Ok(Some(at));
+/// Bytes from an offset up to another, and which sums are made right.
+const ROWS: [(usize, usize, Sums); 7] = [
+    (0, LABEL, Sums::Left),
+    (0, LABEL, Sums::Own),
+    (LABEL, HEADER, Sums::Left),
+    (LABEL, HEADER, Sums::Own),
+    (LABEL, HEADER, Sums::All),
+    (HEADER, TEXT, Sums::Left),
+    (HEADER, TEXT, Sums::All),
+];
+
+/// No change of a byte is answered wrong.
+fn are_answered(alloc: Global, disk: &mut MemDisk, bytes: &mut [u8]) -> Result<(), Fail> {
+    for (from, to, sums) in ROWS {
+        for at in from..to {
+            if !is_answered(alloc, disk, bytes, at, sums)? {
+                return Err(Fail::new(format_args!("byte {at}")));
+            }
         }
-        disk = after;
     }
-    Ok(None)
-}
-
-/// No change of a byte from an offset up to another is answered wrong.
-fn are_answered(
-    rt: &impl Abort,
-    alloc: Global,
-    from: usize,
-    to: usize,
-    sums: Sums,
-) -> Result<(), Fail> {
-    let at = wrong(alloc, from, to, sums)?;
-    assert!(rt; at.is_none(), "{at:?}");
     Ok(())
 }
 
 #[test]
-fn each_byte_of_the_label(rt: HostRuntime) -> Result<(), Fail> {
-    are_answered(&rt, rt.alloc(), 0, LABEL, Sums::Left)
-}
-
-#[test]
-fn each_byte_of_the_label_with_its_sum(rt: HostRuntime) -> Result<(), Fail> {
-    are_answered(&rt, rt.alloc(), 0, LABEL, Sums::Own)
-}
-
-#[test]
-fn each_byte_of_the_header(rt: HostRuntime) -> Result<(), Fail> {
-    are_answered(&rt, rt.alloc(), LABEL, HEADER, Sums::Left)
-}
-
-#[test]
-fn each_byte_of_the_header_with_its_sum(rt: HostRuntime) -> Result<(), Fail> {
-    are_answered(&rt, rt.alloc(), LABEL, HEADER, Sums::Own)
-}
-
-#[test]
-fn each_byte_of_the_header_with_all_sums(rt: HostRuntime) -> Result<(), Fail> {
-    are_answered(&rt, rt.alloc(), LABEL, HEADER, Sums::All)
-}
-
-#[test]
-fn each_byte_of_the_text(rt: HostRuntime) -> Result<(), Fail> {
-    are_answered(&rt, rt.alloc(), HEADER, TEXT, Sums::Left)
-}
-
-#[test]
-fn each_byte_of_the_text_with_all_sums(rt: HostRuntime) -> Result<(), Fail> {
-    are_answered(&rt, rt.alloc(), HEADER, TEXT, Sums::All)
+fn each_byte_of_the_label_the_header_and_the_text(rt: HostRuntime) -> Result<(), Fail> {
+    let mut bytes = new_bytes(rt.alloc())?;
+    let mut disk = device_of(rt.alloc(), &bytes)?;
+    are_answered(rt.alloc(), &mut disk, &mut bytes)
 }

@@ -2,12 +2,11 @@
 
 ghost use Rattle.std.specs.Prelude.{◌≡◌, false, IfOk, OnOk};
 
-use crate::changes::prepare;
-use crate::fixtures::{group, holds, opened, plain};
 use sm_base::{Failed, Name};
-use sm_journal::{Entries, drop_entry as drop_one, list, put as put_one, turn as turn_one};
+use sm_journal::{Entries, drop_entry as drop_one, list, put as put_one, replace as replace_one};
 use std::alloc::Global;
 use std::test::Fail;
+use test_support::{holds, prepare};
 use uuid::Uuid;
 use vg_meta::{Change, Extents};
 use vg_volumes::Store;
@@ -65,7 +64,7 @@ fn put<S: Store>(alloc: Global, store: &mut S, entry: &Name) -> Result<Result<()
         extents: Extents::new(Vec::new(alloc)),
     };
     prepare(store, &change)?;
-    Ok(put_one(alloc, store, *entry))
+    Ok(put_one(store, *entry))
 }
 
 /// Turns an entry into another, where it may be turned.
@@ -80,7 +79,7 @@ fn turn<S: Store>(store: &mut S, from: &Name, to: &Name) -> Result<Result<(), Fa
             to: *to,
         },
     )?;
-    Ok(turn_one(store, *from, *to))
+    Ok(replace_one(store, *from, *to))
 }
 
 /// Drops an entry, where it is there.
@@ -110,7 +109,7 @@ fn stand<S: Store>(
 }
 
 /// One entry of each class stands beside the other.
-fn classes_stand<S: Store>(alloc: Global, store: &mut S) -> Result<(), Fail>
+pub fn classes_stand<S: Store>(alloc: Global, store: &mut S) -> Result<(), Fail>
     requires { S.failed store.old ≡ false }
     ensures { OnOk result (S.failed store.new ≡ false) }
 {
@@ -155,16 +154,8 @@ fn twins_are_told<S: Store>(alloc: Global, store: &mut S) -> Result<(), Fail>
     holds(stand(store, 9, None, None, false), "no entry is left")
 }
 
-#[test]
-fn entries_stand_in_a_group(rt: HostRuntime) -> Result<(), Fail> {
-    let mut group = group(rt.alloc(), &[])?;
-    let stood = stand_over(rt.alloc(), &mut group);
-    let _disk = group.into_disk();
-    stood
-}
-
 /// Entries are put, turned and dropped.
-fn stand_over<S: Store>(alloc: Global, store: &mut S) -> Result<(), Fail>
+pub fn entries_stand<S: Store>(alloc: Global, store: &mut S) -> Result<(), Fail>
     requires { S.failed store.old ≡ false }
 {
     classes_stand(alloc, store)?;
@@ -172,35 +163,22 @@ fn stand_over<S: Store>(alloc: Global, store: &mut S) -> Result<(), Fail>
     Ok(())
 }
 
-#[test]
-fn entries_stand_in_a_plain_store(rt: HostRuntime) -> Result<(), Fail> {
-    let mut store = plain(rt.alloc(), &[])?;
-    stand_over(rt.alloc(), &mut store)
-}
-
-#[test]
-fn entries_stand_once_the_group_is_opened_again(rt: HostRuntime) -> Result<(), Fail> {
-    let mut group = group(rt.alloc(), &[])?;
-    let stood = classes_stand(rt.alloc(), &mut group);
-    let disk = group.into_disk();
-    stood?;
-    let again = opened(rt.alloc(), disk.left(rt.alloc(), &[])?)?;
-    let stood = stand(&again, 3, Some(relink()), Some(inflate()), false);
-    let _disk = again.into_disk();
-    assert!(rt; stood);
-    Ok(())
+/// What `classes_stand` makes stands in a group that is opened again.
+pub fn still_stand<S: Store>(store: &S) -> Result<(), Fail> {
+    let stood = stand(store, 3, Some(relink()), Some(inflate()), false);
+    holds(stood, "the entries that were made")
 }
 
 /// A commit of the journal.
 #[derive(Clone, Copy)]
-enum Commit {
+pub enum Commit {
     Put,
     Turn,
     Drop,
 }
 
 /// Makes an entry, and then a commit that fails: the table stays.
-fn commit_fails<S: Store>(alloc: Global, store: &mut S, commit: Commit) -> Result<(), Fail>
+pub fn commit_fails<S: Store>(alloc: Global, store: &mut S, commit: Commit) -> Result<(), Fail>
     requires { S.failed store.old ≡ false }
 {
     put(alloc, store, &coalesce())??;
@@ -214,21 +192,4 @@ fn commit_fails<S: Store>(alloc: Global, store: &mut S, commit: Commit) -> Resul
         stand(store, 1, Some(coalesce()), None, false),
         "the table stays",
     )
-}
-
-/// A commit of a store in memory makes two calls, so the second commit's are the calls 2 and 3.
-fn commits_fail_on_a_plain_store(alloc: Global, call: u64) -> Result<(), Fail> {
-    for commit in [Commit::Put, Commit::Turn, Commit::Drop] {
-        let mut store = plain(alloc, &[call])?;
-        commit_fails(alloc, &mut store, commit)?;
-    }
-    Ok(())
-}
-
-#[test]
-fn faults_of_a_plain_stores_commits_are_told(rt: HostRuntime) -> Result<(), Fail> {
-    for call in 2..4 {
-        commits_fail_on_a_plain_store(rt.alloc(), call)?;
-    }
-    Ok(())
 }

@@ -13,8 +13,6 @@
 #![tactic(auto)]
 
 #[cfg(test)]
-mod changes;
-#[cfg(test)]
 mod check_tests;
 #[cfg(test)]
 mod damage_tests;
@@ -27,6 +25,6 @@ mod place_tests;
 #[cfg(test)]
 mod record_tests;
 #[cfg(test)]
-mod stale_tests;
-#[cfg(test)]
 mod stop_tests;
+#[cfg(test)]
+mod works;

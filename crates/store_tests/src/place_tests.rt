@@ -2,13 +2,12 @@
 
 ghost use Rattle.std.specs.Prelude.{◌≡◌, false};
 
-use crate::changes::prepare;
-use crate::fixtures::{group, holds, size};
+use crate::fixtures::size;
 use sm_base::{Failed, Name};
 use sm_disk::{Disk, MemDisk, read_sector};
 use std::alloc::Global;
-use std::process::Abort;
 use std::test::Fail;
+use test_support::{holds, prepare};
 use uuid::Uuid;
 use vg_meta::{Change, Extents};
 use vg_volumes::Store;
@@ -65,33 +64,24 @@ fn write_and_read<S: Store>(alloc: Global, store: &mut S) -> Result<(), Fail> {
 }
 
 /// Makes the image, and writes and reads it.
-fn keeps_sectors<S: Store>(alloc: Global, store: &mut S) -> Result<(), Fail>
+pub fn keeps_sectors<S: Store>(alloc: Global, store: &mut S) -> Result<(), Fail>
     requires { S.failed store.old ≡ false }
 {
     make_image(alloc, store)?;
     write_and_read(alloc, store)
 }
 
-/// Sectors of a device begin with these bytes.
-fn stand(rt: &impl Abort, disk: &mut MemDisk, rows: &[(u64, u8)]) -> Result<(), Fail> {
-    for (at, byte) in rows {
-        assert!(rt; *at < disk.sectors());
-        let sector = read_sector(disk, *at)?;
-        assert!(rt; sector[0] == *byte, "at {at}");
+/// Sectors of the device begin with these bytes.
+const ROWS: [(u64, u8); 4] = [(4735, 1), (4608, 2), (4639, 33), (4640, 34)];
+
+/// The sectors of the image stand in its extents.
+pub fn sectors_stand(disk: &mut MemDisk) -> Result<(), Fail> {
+    for (at, byte) in ROWS {
+        if at >= disk.sectors() {
+            return Err(Fail::from("a sector of the device"));
+        }
+        let sector = read_sector(disk, at)?;
+        holds(sector[0] == byte, "a sector of the image")?;
     }
     Ok(())
-}
-
-/// A commit makes four calls of the device, and a write two, since extents that adjoin are one call: the seventh fails.
-#[test]
-fn sectors_stand_in_their_extents(rt: HostRuntime) -> Result<(), Fail> {
-    let mut group = group(rt.alloc(), &[6])?;
-    let kept = keeps_sectors(rt.alloc(), &mut group);
-    let mut disk = group.into_disk();
-    kept?;
-    stand(
-        &rt,
-        &mut disk,
-        &[(4735, 1), (4608, 2), (4639, 33), (4640, 34)],
-    )
 }

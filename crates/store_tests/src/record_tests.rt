@@ -4,11 +4,12 @@ ghost use Rattle.std.specs.Prelude.{◌≡◌, ◌≤◌, ◌<◌, length, IfOk}
 ghost use Rattle.sm_base.specs.Names.{IsUuid};
 ghost use Rattle.sm_record.specs.Records.{IsRecord};
 
-use crate::fixtures::{group, holds, plain, size};
+use crate::fixtures::size;
 use sm_base::{Failed, Label, Name, OpenFault, Place};
 use sm_mgt::{Mgt, Record};
 use std::alloc::Global;
 use std::test::Fail;
+use test_support::holds;
 use uuid::Uuid;
 use vg_volumes::Store;
 
@@ -195,112 +196,129 @@ fn are_freed<S: Store>(store: &mut S, mgt: &mut Mgt) -> Result<(), Fail> {
 /// What was written is read.
 fn are_read<S: Store>(alloc: Global, store: &mut S) -> Result<(), Fail> {
     let again = loaded(alloc, store)?;
-    holds(is_at(&again, 0, FIRST, b"again"), "the first place is read")?;
-    holds(is_at(&again, 2, THIRD, b"c"), "the third place is read")?;
-    holds(taken(&again) == 2, "no other place is read")
+    let is_first = is_at(&again, 0, FIRST, b"again");
+    let is_third = is_at(&again, 2, THIRD, b"c");
+    let is_read = is_first && is_third && taken(&again) == 2;
+    holds(is_read, "the first place and the third are read")
+}
+
+/// Records are put and freed.
+fn are_put_and_freed<S: Store>(store: &mut S, mgt: &mut Mgt) -> Result<(), Fail> {
+    holds(taken(mgt) == 0, "no record")?;
+    are_put(store, mgt)?;
+    are_freed(store, mgt)
+}
+
+/// The same, of the records of a store.
+fn change_records<S: Store>(alloc: Global, store: &mut S) -> Result<(), Fail> {
+    let mut mgt = loaded(alloc, store)?;
+    are_put_and_freed(store, &mut mgt)
 }
 
 /// Records are put, freed and read.
-fn records_keep<S: Store>(alloc: Global, store: &mut S) -> Result<(), Fail> {
-    let mut mgt = loaded(alloc, store)?;
-    holds(taken(&mgt) == 0, "no record")?;
-    are_put(store, &mut mgt)?;
-    are_freed(store, &mut mgt)?;
+pub fn records_keep<S: Store>(alloc: Global, store: &mut S) -> Result<(), Fail> {
+    change_records(alloc, store)?;
     are_read(alloc, store)?;
     store.sync()?;
     are_read(alloc, store)
 }
 
-#[test]
-fn records_keep_over_a_group(rt: HostRuntime) -> Result<(), Fail> {
-    let mut group = group(rt.alloc(), &[])?;
-    let kept = records_keep(rt.alloc(), &mut group);
-    let _disk = group.into_disk();
-    kept
-}
-
-#[test]
-fn records_keep_over_a_plain_store(rt: HostRuntime) -> Result<(), Fail> {
-    let mut store = plain(rt.alloc(), &[])?;
-    records_keep(rt.alloc(), &mut store)
-}
-
 /// Two records of one disk are found in the least place, and cleared together.
-fn twins_are_cleared<S: Store>(alloc: Global, store: &mut S) -> Result<(), Fail> {
-    write(store, 2, &first_sector())?;
-    write(store, 511, &first_sector())?;
-    let mut mgt = loaded(alloc, store)?;
+fn are_cleared<S: Store>(store: &mut S, mgt: &mut Mgt) -> Result<(), Fail> {
     holds(mgt.count(&uuid(FIRST)) == 2, "two records of one disk")?;
-    holds(is_at(&mgt, 2, FIRST, b"disk"), "the least place")?;
-    holds(is_at(&mgt, 511, FIRST, b"disk"), "the last place")?;
-    clear(store, &mut mgt, FIRST)??;
-    holds(taken(&mgt) == 0, "both are cleared")?;
+    holds(is_at(mgt, 2, FIRST, b"disk"), "the least place")?;
+    holds(is_at(mgt, 511, FIRST, b"disk"), "the last place")?;
+    clear(store, mgt, FIRST)??;
+    holds(taken(mgt) == 0, "both are cleared")?;
     holds(read(store, 2)? == [0; 512], "the least sector is zeros")?;
     holds(read(store, 511)? == [0; 512], "the last sector is zeros")
 }
 
-/// Whether the records are damaged first in this place.
-fn is_damaged_at(loaded: &Result<Mgt, OpenFault>, place: u32) -> bool {
-    match loaded {
-        Err(
-            OpenFault::Damaged {
-                place: Place::Record { index },
-            },
-        ) => *index == place,
-        _ => false,
-    }
+/// Two records of one disk are written by hand, found and cleared.
+pub fn twins_are_cleared<S: Store>(alloc: Global, store: &mut S) -> Result<(), Fail> {
+    write(store, 2, &first_sector())?;
+    write(store, 511, &first_sector())?;
+    let mut mgt = loaded(alloc, store)?;
+    are_cleared(store, &mut mgt)
+}
+
+/// The records are refused so.
+fn is_refused<S: Store>(
+    alloc: Global,
+    store: &mut S,
+    fault: OpenFault,
+    what: &'static str,
+) -> Result<(), Fail> {
+    let found = load(alloc, store)?.err();
+    holds(found == Some(fault), what)
+}
+
+/// The records are damaged first in this place.
+fn is_damaged_at<S: Store>(alloc: Global, store: &mut S, index: u32) -> Result<(), Fail> {
+    let place = Place::Record { index };
+    is_refused(
+        alloc,
+        store,
+        OpenFault::Damaged { place },
+        "the first damage",
+    )
 }
 
 /// The first damaged sector is told.
-fn damage_is_told<S: Store>(alloc: Global, store: &mut S) -> Result<(), Fail> {
+pub fn damage_is_told<S: Store>(alloc: Global, store: &mut S) -> Result<(), Fail> {
     let mut damaged = first_sector();
     damaged[106] = 1;
     write(store, 5, &first_sector())?;
     write(store, 511, &damaged)?;
-    holds(is_damaged_at(&load(alloc, store)?, 511), "the last place")?;
+    is_damaged_at(alloc, store, 511)?;
     write(store, 300, &[1; 512])?;
-    holds(
-        is_damaged_at(&load(alloc, store)?, 300),
-        "a place before it",
-    )?;
+    is_damaged_at(alloc, store, 300)?;
     write(store, 0, &damaged)?;
-    holds(is_damaged_at(&load(alloc, store)?, 0), "the first place")
-}
-
-#[test]
-fn twins_and_damage_are_told_of_a_plain_store(rt: HostRuntime) -> Result<(), Fail> {
-    let mut store = plain(rt.alloc(), &[])?;
-    twins_are_cleared(rt.alloc(), &mut store)?;
-    damage_is_told(rt.alloc(), &mut store)
+    is_damaged_at(alloc, store, 0)
 }
 
 /// The calls of `faults_are_told` that fail.
-const FAULTS: [u64; 5] = [0, 2, 4, 5, 7];
+pub const FAULTS: [u64; 5] = [0, 2, 4, 5, 7];
 
-/// Each call fails once, and memory is as it was.
-fn faults_are_told<S: Store>(alloc: Global, store: &mut S) -> Result<(), Fail> {
-    let refused = load(alloc, store)?;
-    holds(matches!(refused, Err(OpenFault::Device)), "a load")?;
-    let mut mgt = loaded(alloc, store)?;
-    holds(put(store, &mut mgt, FIRST, b"a")? == Err(Failed), "a put")?;
-    holds(taken(&mgt) == 0, "nothing was put")?;
-    put(store, &mut mgt, FIRST, b"a")??;
-    holds(
-        put(store, &mut mgt, FIRST, b"b")? == Err(Failed),
-        "a put over one",
-    )?;
-    holds(is_at(&mgt, 0, FIRST, b"a"), "the record is the old one")?;
-    holds(wipe(store, &mut mgt, 0)? == Err(Failed), "a wipe")?;
-    holds(is_at(&mgt, 0, FIRST, b"a"), "the place is not free")?;
-    put(store, &mut mgt, SECOND, b"b")??;
-    holds(clear(store, &mut mgt, SECOND)? == Err(Failed), "a clear")?;
-    holds(is_at(&mgt, 1, SECOND, b"b"), "the disk is not cleared")?;
-    clear(store, &mut mgt, SECOND)??;
-    holds(taken(&mgt) == 1, "one record")
+/// A put fails, and memory is as it was, over a free place and over one that is taken.
+fn puts_fail<S: Store>(store: &mut S, mgt: &mut Mgt) -> Result<(), Fail> {
+    holds(put(store, mgt, FIRST, b"a")? == Err(Failed), "a put")?;
+    holds(taken(mgt) == 0, "nothing was put")?;
+    put(store, mgt, FIRST, b"a")??;
+    let over = put(store, mgt, FIRST, b"b")?;
+    holds(over == Err(Failed), "a put over one")?;
+    holds(is_at(mgt, 0, FIRST, b"a"), "the record is the old one")
 }
 
-#[test]
-fn faults_are_told_of_a_plain_store(rt: HostRuntime) -> Result<(), Fail> {
-    let mut store = plain(rt.alloc(), &FAULTS)?;
-    faults_are_told(rt.alloc(), &mut store)
+/// A wipe and a clear fail, and memory is as it was.
+fn wipes_fail<S: Store>(store: &mut S, mgt: &mut Mgt) -> Result<(), Fail> {
+    holds(wipe(store, mgt, 0)? == Err(Failed), "a wipe")?;
+    holds(is_at(mgt, 0, FIRST, b"a"), "the place is not free")?;
+    put(store, mgt, SECOND, b"b")??;
+    holds(clear(store, mgt, SECOND)? == Err(Failed), "a clear")?;
+    holds(is_at(mgt, 1, SECOND, b"b"), "the disk is not cleared")?;
+    clear(store, mgt, SECOND)??;
+    holds(taken(mgt) == 1, "one record")
+}
+
+/// Both.
+fn changes_fail<S: Store>(store: &mut S, mgt: &mut Mgt) -> Result<(), Fail> {
+    puts_fail(store, mgt)?;
+    wipes_fail(store, mgt)
+}
+
+/// Each call fails once, and memory is as it was.
+pub fn faults_are_told<S: Store>(alloc: Global, store: &mut S) -> Result<(), Fail> {
+    is_refused(alloc, store, OpenFault::Device, "a load")?;
+    let mut mgt = loaded(alloc, store)?;
+    changes_fail(store, &mut mgt)
+}
+
+/// A group has the records alone, on all of its 16 extents, and none of its records is taken.
+pub fn is_new<S: Store>(alloc: Global, store: &mut S) -> Result<(), Fail> {
+    let is_alone = store.extents() == 16
+        && store.table().volumes().len() == 1
+        && size(store, &Name::Mgt) == 512;
+    holds(is_alone, "512 sectors of records on 16 extents")?;
+    holds(taken(&loaded(alloc, store)?) == 0, "free places")
 }

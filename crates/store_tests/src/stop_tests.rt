@@ -2,22 +2,23 @@
 
 ghost use Rattle.std.specs.Prelude.{◌≡◌, false};
 
-use crate::changes::prepare;
-use crate::fixtures::{DEVICE_SECTORS, OPENING_CALLS, holds, new_group, opened, size, stale};
-use sm_base::{Failed, Name};
+use crate::fixtures::size;
+use crate::works::{Work, in_group};
+use sm_base::Name;
 use sm_disk::MemDisk;
 use std::alloc::Global;
 use std::test::Fail;
+use test_support::{CHOICES, OPENING_CALLS, holds, prepare};
 use uuid::Uuid;
 use vg_meta::{Change, Extents, Table};
-use vg_store::{Group, Store};
+use vg_volumes::Store;
 
 /// The byte that fills a sector of the records before the commit.
 const WRITTEN: u8 = 0x77;
 
 /// Which table stands, and what the sector of the records begins with.
-#[derive(Clone, Copy, Debug, PartialEq, Eq)]
-enum Left {
+#[derive(Clone, Copy)]
+pub enum Left {
     Earlier(u8),
     Next(u8),
 }
@@ -38,8 +39,8 @@ fn change(alloc: Global) -> Result<Change, Fail> {
     })
 }
 
-/// Writes a sector of the records and commits the change.
-fn write_and_commit<S: Store>(alloc: Global, store: &mut S) -> Result<Result<(), Failed>, Fail>
+/// Writes a sector of the records and commits the change. The table of memory changes where the commit is done.
+pub fn write_and_commit<S: Store>(alloc: Global, store: &mut S, done: bool) -> Result<(), Fail>
     requires { S.failed store.old ≡ false }
 {
     if size(store, &Name::Mgt) <= 3 {
@@ -48,23 +49,9 @@ fn write_and_commit<S: Store>(alloc: Global, store: &mut S) -> Result<Result<(),
     store.write(&Name::Mgt, 3, &[WRITTEN; 512])?;
     let change = change(alloc)?;
     prepare(store, &change)?;
-    Ok(store.commit(change))
-}
-
-/// The device after a commit that stopped at this one of its calls. Both calls before are the opening's and the write's.
-fn stopped(alloc: Global, new: &MemDisk, call: u64) -> Result<(MemDisk, bool), Fail> {
-    let mut disk = new.left(alloc, &[])?;
-    disk.stop(OPENING_CALLS.saturating_add(1).saturating_add(call));
-    let mut group = opened(alloc, disk)?;
-    let done = write_and_commit(alloc, &mut group);
-    let next = group.table().get(&image()).is_some();
-    let disk = group.into_disk();
-    let done = done? == Ok(());
-    holds(
-        done == next,
-        "the table of memory changes where the commit is done",
-    )?;
-    Ok((disk, done))
+    let is_done = store.commit(change).is_ok();
+    holds(is_done == done, "a commit makes four calls")?;
+    holds(is_next(store.table())? == done, "the table of memory")
 }
 
 /// Which table this is: that of a new group, or the one that the change makes of it.
@@ -88,67 +75,55 @@ fn is_next(table: &Table) -> Result<bool, Fail> {
     }
 }
 
-/// What a group shows.
-fn shown(group: &mut Group<MemDisk>) -> Result<Left, Fail> {
-    let next = is_next(group.table())?;
-    if size(group, &Name::Mgt) <= 3 {
+/// A group has the table that is to stand, and its sector of the records begins with the byte.
+pub fn shows<S: Store>(store: &mut S, left: Left) -> Result<(), Fail> {
+    let (next, byte) = match left {
+        Left::Earlier(byte) => (false, byte),
+        Left::Next(byte) => (true, byte),
+    };
+    holds(is_next(store.table())? == next, "the table that stands")?;
+    if size(store, &Name::Mgt) <= 3 {
         return Err(Fail::from("a sector of the records"));
     }
     let mut sector = [0xff; 512];
-    group.read(&Name::Mgt, 3, &mut sector)?;
-    Ok(if next {
-        Left::Next(sector[0])
-    } else {
-        Left::Earlier(sector[0])
-    })
+    store.read(&Name::Mgt, 3, &mut sector)?;
+    holds(sector[0] == byte, "the sector of the records")
 }
 
-/// What is left by these choices.
-fn found(alloc: Global, disk: &MemDisk, choice: &[u32]) -> Result<Left, Fail> {
-    let mut group = opened(alloc, disk.left(alloc, choice)?)?;
-    let left = shown(&mut group);
-    let _disk = group.into_disk();
-    left
-}
-
-/// What each of five choices leaves: [], [1], [0, 1], [1, 0] and [3].
-fn all_left(alloc: Global, disk: &MemDisk) -> Result<[Left; 5], Fail> {
-    Ok([
-        found(alloc, disk, &[])?,
-        found(alloc, disk, &[1])?,
-        found(alloc, disk, &[0, 1])?,
-        found(alloc, disk, &[1, 0])?,
-        found(alloc, disk, &[3])?,
-    ])
-}
-
-/// What they are to leave. Until the first sync the sectors of the text and of the records are pending, in this order;
-/// after it that of the header alone; and after the second sync none.
+/// What the five choices leave of a commit that stopped at this one of its calls. Until the first sync the sectors of the
+/// text and of the records are pending, in this order; after it that of the header alone; and after the second sync none.
 fn wanted(call: u64) -> [Left; 5] {
     let old = Left::Earlier(0);
     let new = Left::Earlier(WRITTEN);
-    let synced = Left::Earlier(WRITTEN);
     let next = Left::Next(WRITTEN);
     match call {
         0 | 1 => [old, new, new, old, new],
-        2 | 3 => [synced, next, synced, next, next],
+        2 | 3 => [new, next, new, next, next],
         _ => [next; 5],
     }
 }
 
-/// Stops at one call of a commit.
-fn stop_leaves(alloc: Global, new: &MemDisk, call: u64) -> Result<(), Fail> {
-    let (disk, done) = stopped(alloc, new, call)?;
-    holds(done == (call >= 4), "a commit makes four calls")?;
-    holds(all_left(alloc, &disk)? == wanted(call), "what is left")
+/// What each choice leaves of a device shows what it is to show.
+fn all_show(alloc: Global, disk: &MemDisk, lefts: &[Left; 5]) -> Result<(), Fail> {
+    for (choice, left) in CHOICES.iter().zip(lefts) {
+        in_group(alloc, disk.left(alloc, choice)?, Work::Shows(*left))?;
+    }
+    Ok(())
 }
 
-#[test]
-fn each_call_of_a_commit_stops_in_turn(rt: HostRuntime) -> Result<(), Fail> {
-    let mut disk = stale(rt.alloc(), DEVICE_SECTORS)?;
-    new_group(rt.alloc(), &mut disk)??;
+/// Stops at one call of a commit. Both calls before are the opening's and the write's.
+fn stop_leaves(alloc: Global, new: &MemDisk, call: u64) -> Result<(), Fail> {
+    let mut disk = new.left(alloc, &[])?;
+    disk.stop(OPENING_CALLS.saturating_add(1).saturating_add(call));
+    let done = call >= 4;
+    let after = in_group(alloc, disk, Work::Write { done })?;
+    all_show(alloc, &after, &wanted(call))
+}
+
+/// Stops at each call of a commit in turn.
+pub fn each_stop_leaves(alloc: Global, new: &MemDisk) -> Result<(), Fail> {
     for call in 0..5 {
-        stop_leaves(rt.alloc(), &disk, call)?;
+        stop_leaves(alloc, new, call)?;
     }
     Ok(())
 }

@@ -7,14 +7,15 @@ use Rattle.std.proofs.lemmas.Bool.{cond_both, not-true, cond-false, cases_Bool, 
 use Rattle.std.proofs.lemmas.List.{append-nil, length-append, length-take-le, take-append-le, take_all, length-take}
 use Rattle.std.proofs.lemmas.List.Elements.{filter-append}
 use Rattle.std.specs.Prelude.{Result, Ok, Err, IfOk}
+use Rattle.common_laws.proofs.Lists.{take_next}
 use Rattle.vg_meta.specs.Taken.{IsMarked}
 use Rattle.vg_extents.specs.Fits.{AreLeastFree}
-use Rattle.vg_meta.specs.Tables.{Row, Listing, used, free, extents_in, is_one_of}
-use Rattle.vg_meta.specs.Kept.{HeldRow, rows_alone}
+use Rattle.vg_meta.specs.Tables.{Row, VolumeTable, used, free, extents_in, is_one_of}
+use Rattle.vg_meta.specs.Roomy.{RoomyRow, rows_alone}
 use Rattle.vg_meta.specs.Changes.{AreFree}
 use Rattle.vg_meta.proofs.ExtentLaws.{All-weaken, times, unused-times, used-times, distinct-times, one_if}
 use Rattle.vg_meta.proofs.RangeLaws.{first-push, range-below, range-distinct}
-use Rattle.vg_meta.proofs.WriteLaws.{flat_map-push, taken}
+use Rattle.vg_meta.proofs.WriteLaws.{flat_map-push}
 use Rattle.vg_meta.proofs.ReadSteps.{rows-push}
 
 -- how many extents of a list are below a count
@@ -78,9 +79,9 @@ found_full marks need n found full is =
     is ∙ sym (ap (take need) (push marks n) ∙ take-append-le need (without_mark marks n) (cond (not (get_or marks n false)) (n ∷ []) []) enough)
 
 pub found_marked : (marks : List Bool) (need n : ℕ) (found : List ℕ) → get_or marks n false ≡ true → found ≡ take need (without_mark marks n) → found ≡ take need (without_mark marks (n + 1))
-found_marked marks need n found taken is =
+found_marked marks need n found take_next is =
     let same : without_mark marks (n + 1) ≡ without_mark marks n =
-    push marks n ∙ ap (λ (b : Bool). without_mark marks n ++ cond (not b) (n ∷ []) []) taken ∙ append-nil (without_mark marks n) in
+    push marks n ∙ ap (λ (b : Bool). without_mark marks n ++ cond (not b) (n ∷ []) []) take_next ∙ append-nil (without_mark marks n) in
     is ∙ ap (take need) (sym same)
 
 pub found_more : (marks : List Bool) (need n : ℕ) (found now : List ℕ) → length found < need → get_or marks n false ≡ false → found ≡ take need (without_mark marks n)
@@ -95,21 +96,21 @@ found_more marks need n found now few fresh is added =
 
 -- ---- volumes
 
-pub rows-taken : (vs : List HeldRow) (i : ℕ) (v : HeldRow) → i < length vs → v ≡ get_or vs i v
+pub rows-taken : (vs : List RoomyRow) (i : ℕ) (v : RoomyRow) → i < length vs → v ≡ get_or vs i v
     → extents_in (rows_alone (take (i + 1) vs)) ≡ extents_in (rows_alone (take i vs)) ++ v.row.extents
 rows-taken vs i v lt is =
-    ap (λ (l : List HeldRow). extents_in (rows_alone l)) (taken vs i v lt is)
+    ap (λ (l : List RoomyRow). extents_in (rows_alone l)) (take_next vs i v lt is)
     ∙ ap extents_in (rows-push (take i vs) v) ∙ flat_map-push (λ (r : Row). r.extents) (rows_alone (take i vs)) v.row
 
 -- what was counted so far is no more than all
 pub low-le : (n : ℕ) (us : List ℕ) → IsDistinct eqb us → low n us ≤ n
 low-le n us distinct = omega (arith, others_and_low us n distinct)
 
-pub low-so_far : (n : ℕ) (vs : List HeldRow) (i : ℕ) (v : HeldRow) → i < length vs → v ≡ get_or vs i v → IsDistinct eqb (extents_in (rows_alone vs))
+pub low-so_far : (n : ℕ) (vs : List RoomyRow) (i : ℕ) (v : RoomyRow) → i < length vs → v ≡ get_or vs i v → IsDistinct eqb (extents_in (rows_alone vs))
     → low n (extents_in (rows_alone (take i vs))) + low n v.row.extents ≤ n
 low-so_far n vs i v lt is distinct = omega (arith, part vs i v lt is, low-le n (extents_in (rows_alone vs)) distinct)
   where
-    part : (vs : List HeldRow) (i : ℕ) (v : HeldRow) → i < length vs → v ≡ get_or vs i v
+    part : (vs : List RoomyRow) (i : ℕ) (v : RoomyRow) → i < length vs → v ≡ get_or vs i v
         → low n (extents_in (rows_alone (take i vs))) + low n v.row.extents ≤ low n (extents_in (rows_alone vs))
     part [] i v lt is = absurd (omega arith)
     part (x ∷ vs) zero v lt is = rw is (omega (arith, low-append n x.row.extents (extents_in (rows_alone vs))))
@@ -132,11 +133,11 @@ ok_from (Ok v) P Q f h = f v h
 ok_from (Err e) P Q f h = tt
 
 -- what is told of a table
-pub length-free : (count : ℕ) (t : Listing) → IsDistinct eqb (used t) → length (free count t) + low count (used t) ≡ count
+pub length-free : (count : ℕ) (t : VolumeTable) → IsDistinct eqb (used t) → length (free count t) + low count (used t) ≡ count
 unfolding free
 length-free count t distinct = others_and_low (used t) count distinct
 
-pub least_free : (count need : ℕ) (t : Listing) (es : List ℕ) → es ≡ take need (others (used t) count) → need ≤ length (free count t) → AreLeastFree count need t es
+pub least_free : (count need : ℕ) (t : VolumeTable) (es : List ℕ) → es ≡ take need (others (used t) count) → need ≤ length (free count t) → AreLeastFree count need t es
 unfolding free
 least_free count need t es is enough = record { least = is; many = ap length is ∙ length-take-le need (others (used t) count) enough }
 
@@ -170,7 +171,7 @@ distinct-take zero xs h = tt
 distinct-take (suc n) [] h = tt
 distinct-take (suc n) (x ∷ xs) h = (All-take (λ (y : ℕ). eqb x y ≡ false) n xs h.0, distinct-take n xs h.1)
 
-pub AreFree-least : (count need : ℕ) (t : Listing) (es : List ℕ) → es ≡ take need (others (used t) count) → AreFree count t.volumes es
+pub AreFree-least : (count need : ℕ) (t : VolumeTable) (es : List ℕ) → es ≡ take need (others (used t) count) → AreFree count t.volumes es
 AreFree-least count need t es is =
     let all = range_with_len 0 count in
     let p : ℕ → Bool = λ e. not (is_one_of (used t) e) in

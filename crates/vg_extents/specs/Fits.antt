@@ -1,15 +1,15 @@
 -- Which extents are given out (this project's format): always the least free ones, rising.
 use Rattle.std.specs.Prelude.{◌≡◌, ℕ, ◌<◌, List, length, take}
-use Rattle.vg_meta.specs.Tables.{Listing, free}
+use Rattle.vg_meta.specs.Tables.{VolumeTable, free}
 use Rattle.vg_extents.specs.declared.faults.FitFault.{FitFault}
 use Rattle.vg_extents.specs.declared.faults.FitFault.TheVariants.{NoSpace, NoMemory}
 
 -- these are the least free extents, so many
-pub record AreLeastFree (count need : ℕ) (t : Listing) (es : List ℕ) : Type 0 where
+pub record AreLeastFree (count need : ℕ) (t : VolumeTable) (es : List ℕ) : Type 0 where
   pub least : es ≡ take need (free count t)
   pub many : length es ≡ need
 
 -- fewer are free than are needed; want of memory is free
-abbrev pub IsShort : ℕ → ℕ → Listing → FitFault → Type 0
+abbrev pub IsShort : ℕ → ℕ → VolumeTable → FitFault → Type 0
 IsShort count need t (NoSpace needed left) = (needed ≡ need) × (left ≡ length (free count t)) × (left < need)
 IsShort count need t NoMemory = Unit {0}

@@ -4,7 +4,7 @@ ghost use Rattle.std.specs.Prelude.{◌≡◌, length, count_by, nat_lt, nat_eq,
 ghost use Rattle.std.specs.List.{IsDistinct, range_with_len};
 ghost use Rattle.vg_meta.specs.Tables.{extents_in, is_one_of, free as free_of};
 ghost use Rattle.vg_meta.specs.Changes.{AreFree};
-ghost use Rattle.vg_meta.specs.Kept.{listing, rows_alone};
+ghost use Rattle.vg_meta.specs.Roomy.{table_alone, rows_alone};
 ghost use Rattle.vg_extents.specs.Fits.{AreLeastFree, IsShort};
 
 use crate::faults::FitFault;
@@ -15,7 +15,7 @@ use vg_meta::{Table, Volume};
 
 /// The number of extents below `extents` that no volume has. It takes no memory.
 pub fn free(table: &Table, extents: u32) -> u32
-    ensures free { result ≡ length (free_of extents (listing table.now)) }
+    ensures free { result ≡ length (free_of extents (table_alone table.now)) }
 {
     extents - used_below(table.volumes(), extents)
 }
@@ -27,9 +27,9 @@ pub fn first_fit(
     extents: u32,
     need: u32,
 ) -> Result<Vec<u32>, FitFault>
-    ensures fit { IfOk result (λ v. AreLeastFree extents need (listing table.now) v.items) }
-    ensures free { IfOk result (λ v. AreFree extents (listing table.now).volumes v.items) }
-    ensures short { IfErr result (IsShort extents need (listing table.now)) }
+    ensures fit { IfOk result (λ v. AreLeastFree extents need (table_alone table.now) v.items) }
+    ensures free { IfOk result (λ v. AreFree extents (table_alone table.now).volumes v.items) }
+    ensures short { IfErr result (IsShort extents need (table_alone table.now)) }
 {
     let free = free(table, extents);
     if need > free {

@@ -3,7 +3,7 @@
 ghost use Rattle.std.specs.Prelude.{◌≡◌, ◌++◌, ℕ, List, not, filter, take, length, ◌<◌, ◌^◌, IfOk, slice_index_or, false};
 ghost use Rattle.std.specs.List.{range_with_len};
 ghost use Rattle.vg_meta.specs.Tables.{extents_in};
-ghost use Rattle.vg_meta.specs.Kept.{rows_alone};
+ghost use Rattle.vg_meta.specs.Roomy.{rows_alone};
 ghost use Rattle.vg_meta.specs.Taken.{IsMarked};
 
 use sm_base::NoMemory;

@@ -5,7 +5,7 @@ use Rattle.std.proofs.lemmas.List.{take-take, length-drop}
 use Rattle.sm_disk.proofs.SectorLaws.{sector-drop}
 use Rattle.sm_base.specs.Numbers.{div_up}
 use Rattle.sm_disk.specs.Sectors.{sector}
-use Rattle.vg_meta.specs.Tables.{Listing}
+use Rattle.vg_meta.specs.Tables.{VolumeTable}
 use Rattle.vg_meta.specs.Reading.{Spells}
 use Rattle.vg_layout.specs.Places.{area_place, label_place, header_place, slot_place, run_of, slot_text}
 use Rattle.vg_layout.specs.Sectors.{Plate, Pointer}
@@ -31,7 +31,7 @@ pub text_same : (f m : ℕ → List ℕ) (h : Pointer)
 unfolding slot_text
 text_same f m h same = ap (take h.size) (run_same f m (slot_place h.slot) (div_up h.size 512) same)
 
-pub stands_from : (size : ℕ) (m : ℕ → List ℕ) (p : Plate) (h : Pointer) (t : Listing) (bytes : List ℕ)
+pub stands_from : (size : ℕ) (m : ℕ → List ℕ) (p : Plate) (h : Pointer) (t : VolumeTable) (bytes : List ℕ)
     → plate_of size m ≡ Ok p → pointer_of m ≡ Ok h → text_in m h ≡ bytes → sum bytes ≡ h.total → Spells p.count bytes t
     → StandsOn size m (record { plate = p; pointer = h; table = t })
 stands_from size m p h t bytes labelled headed is total spells = record {

@@ -1,7 +1,7 @@
 -- Bytes spell one table alone.
 use Rattle.std.proofs.Common.{◌≡◌, ℕ, ◌<◌, ◌≤◌, ◌^◌, List, [], ◌∷◌, ◌++◌, length, length-append, refl, sym, ap, ap₂, ◌∙◌, arith}
 use Rattle.std.specs.List.{flat_map, AllByRecursion}
-use Rattle.vg_meta.specs.Tables.{Row, Listing, IsVolume, extents_in}
+use Rattle.vg_meta.specs.Tables.{Row, VolumeTable, IsVolume, extents_in}
 use Rattle.vg_meta.specs.Text.{text, volume_text}
 use Rattle.vg_meta.specs.Reading.{Spells}
 use Rattle.vg_meta.proofs.ReadLaws.{number_same, volume_same, parts_same}
@@ -42,14 +42,14 @@ volumes_same (r ∷ rs) (s ∷ ss) long h k e =
     let rest : flat_map volume_text rs ≡ flat_map volume_text ss = (parts_same (volume_text r) (flat_map volume_text rs) (volume_text s) (flat_map volume_text ss) (ap length same_first) e).1 in
     ap₂ (λ (x : Row) (xs : List Row). x ∷ xs) first (volumes_same rs ss (omega arith) (rest_has r rs h) (rest_has s ss k) rest)
 
-has_places : (count : ℕ) (bytes : List ℕ) (t : Listing) → count ≤ 2 ^ 32 → Spells count bytes t → HasPlaces t.volumes
+has_places : (count : ℕ) (bytes : List ℕ) (t : VolumeTable) → count ≤ 2 ^ 32 → Spells count bytes t → HasPlaces t.volumes
 has_places count bytes t few s = record {
   each = s.table.volumes.each;
   few = s.fits.extents;
   fit = all_weaker (λ e. e < count) (λ e. e < 2 ^ 32) (λ e h. omega arith) (extents_in t.volumes) s.table.volumes.below;
 }
 
-pub spells_once : (count : ℕ) (bytes : List ℕ) (t u : Listing) → count ≤ 2 ^ 32 → Spells count bytes t → Spells count bytes u → t ≡ u
+pub spells_once : (count : ℕ) (bytes : List ℕ) (t u : VolumeTable) → count ≤ 2 ^ 32 → Spells count bytes t → Spells count bytes u → t ≡ u
 unfolding text
 spells_once count bytes t u few s r =
     let small : t.sequence < 256 ^ 8 = omega (arith, s.table.sequence) in
@@ -57,4 +57,4 @@ spells_once count bytes t u few s r =
     let first = number_same 8 t.sequence u.sequence _ _ small low (sym s.spelled ∙ r.spelled) in
     let numbers = number_same 4 (length t.volumes) (length u.volumes) _ _ (omega (arith, s.fits.volumes)) (omega (arith, r.fits.volumes)) first.1 in
     let volumes : t.volumes ≡ u.volumes = volumes_same t.volumes u.volumes numbers.0 (has_places count bytes t few s) (has_places count bytes u few r) numbers.1 in
-    ap₂ (λ (q : ℕ) (rs : List Row). let l : Listing = record { sequence = q; volumes = rs } in l) first.0 volumes
+    ap₂ (λ (q : ℕ) (rs : List Row). let l : VolumeTable = record { sequence = q; volumes = rs } in l) first.0 volumes

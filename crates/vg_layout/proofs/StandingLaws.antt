@@ -10,7 +10,7 @@ use Rattle.sm_base.specs.Numbers.{div_up}
 use Rattle.sm_base.specs.declared.faults.OpenFault.{OpenFault}
 use Rattle.sm_base.specs.declared.faults.OpenFault.TheVariants.{Damaged, NotARepository, Unsupported}
 use Rattle.sm_base.specs.declared.faults.Place.TheVariants.{Header, Label}
-use Rattle.vg_meta.specs.Tables.{Listing}
+use Rattle.vg_meta.specs.Tables.{VolumeTable}
 use Rattle.vg_meta.specs.Reading.{Spells}
 use Rattle.vg_layout.specs.Places.{area_place, record_extents, label_place, header_place, extents_on}
 use Rattle.vg_layout.specs.Sectors.{Plate, Pointer, number_at, label_cookie, label_sector, is_geometry, plate_in, pointer_in}
@@ -86,12 +86,12 @@ ok_same : (r : Result Pointer OpenFault) (h k : Pointer) → r ≡ Ok h → r �
 ok_same r h k e f = cc
 
 -- a device shows one pointer
-pub pointer_once : (size : ℕ) (m : ℕ → List ℕ) (p : Plate) (h k : Pointer) (t u : Listing)
+pub pointer_once : (size : ℕ) (m : ℕ → List ℕ) (p : Plate) (h k : Pointer) (t u : VolumeTable)
     → StandsOn size m (record { plate = p; pointer = h; table = t }) → StandsOn size m (record { plate = p; pointer = k; table = u }) → h ≡ k
 pointer_once size m p h k t u a b = ok_same (pointer_of m) h k a.headed b.headed
 
 -- a device shows one table
-pub stands_once : (size : ℕ) (m : ℕ → List ℕ) (p : Plate) (h k : Pointer) (t u : Listing) → p.count ≤ 65536
+pub stands_once : (size : ℕ) (m : ℕ → List ℕ) (p : Plate) (h k : Pointer) (t u : VolumeTable) → p.count ≤ 65536
     → StandsOn size m (record { plate = p; pointer = h; table = t }) → StandsOn size m (record { plate = p; pointer = k; table = u }) → t ≡ u
 stands_once size m p h k t u few a b =
     let same : h ≡ k = ok_same (pointer_of m) h k a.headed b.headed in

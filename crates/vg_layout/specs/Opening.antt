@@ -12,7 +12,7 @@ use Rattle.std.specs.Str.{bytes_eq}
 use Rattle.sm_base.specs.declared.faults.OpenFault.{OpenFault}
 use Rattle.sm_base.specs.declared.faults.OpenFault.TheVariants.{NotARepository, Unsupported, Damaged}
 use Rattle.sm_base.specs.declared.faults.Place.TheVariants.{Label, Header, TableSum, Table}
-use Rattle.vg_meta.specs.Tables.{Listing}
+use Rattle.vg_meta.specs.Tables.{VolumeTable}
 use Rattle.vg_meta.specs.Reading.{Spells, IsDamagedAt}
 use Rattle.vg_layout.specs.Places.{label_place, header_place, slot_text, extents_on, record_extents}
 use Rattle.vg_layout.specs.Sectors.{Plate, Pointer, number_at, label_cookie, label_sector, header_sector, plate_in, pointer_in, is_geometry}
@@ -55,13 +55,13 @@ abbrev pub text_in : (ℕ → List ℕ) → Pointer → List ℕ
 text_in image h = slot_text image h.slot h.size
 
 -- what an opening learns of a volume group
-pub record Standing : Type 0 where
+pub record GroupFound : Type 0 where
   pub plate : Plate
   pub pointer : Pointer
-  pub table : Listing
+  pub table : VolumeTable
 
 -- this group stands on a device of so many sectors: all five checks pass
-pub record StandsOn (sectors : ℕ) (image : ℕ → List ℕ) (g : Standing) : Type 0 where
+pub record StandsOn (sectors : ℕ) (image : ℕ → List ℕ) (g : GroupFound) : Type 0 where
   pub labelled : plate_of sectors image ≡ Ok g.plate
   pub headed : pointer_of image ≡ Ok g.pointer
   pub summed : sum (text_in image g.pointer) ≡ g.pointer.total

@@ -7,10 +7,7 @@ ghost use Rattle.vg_layout.specs.Sectors.{header_sector, pointer_in, number_at};
 
 use crate::bytes::{number_at, put, put_number, seal};
 use crate::places::Slot;
-use sm_base::{OpenFault, Place};
-
-/// The most bytes of the text of a table.
-pub const TEXT_LIMIT: u32 = 524_288;
+use sm_base::{OpenFault, Place, TEXT_LIMIT};
 
 /// Where the text of the table stands.
 #[derive(Clone, Copy, PartialEq, Eq)]

@@ -21,6 +21,7 @@ mod labels;
 mod places;
 
 pub use bytes::sum_of;
-pub use headers::{TEXT_LIMIT, TableHeader};
+pub use headers::TableHeader;
 pub use labels::GroupLabel;
 pub use places::{AREA, HEADER, LABEL, Slot, extents_on, record_extents};
+pub use sm_base::TEXT_LIMIT;

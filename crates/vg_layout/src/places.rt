@@ -4,7 +4,7 @@ ghost use Rattle.std.specs.Prelude.{◌≡◌, ◌-◌};
 ghost use Rattle.vg_layout.specs.Places.{slot_place, extents_on, record_extents};
 ghost use Rattle.vg_layout.specs.Fields.{slot_number};
 
-use sm_base::Geometry;
+use sm_base::{EXTENT_LIMIT, Geometry, RECORD_LIMIT};
 
 /// The place of the label.
 pub const LABEL: u64 = 0;
@@ -14,12 +14,6 @@ pub const HEADER: u64 = 1;
 
 /// The place of the first extent.
 pub const AREA: u64 = 4096;
-
-/// The most extents of a volume group.
-const MOST_EXTENTS: u64 = 65_536;
-
-/// The sectors of the volume of records.
-const RECORD_SECTORS: u32 = 512;
 
 /// One of the two places of the table's text.
 #[derive(Clone, Copy, PartialEq, Eq)]
@@ -66,7 +60,7 @@ pub fn extents_on(sectors: u64, geometry: &Geometry) -> u32
     ensures { result ≡ extents_on sectors geometry.now.extent }
 {
     let whole = sectors.saturating_sub(AREA) / u64::from(geometry.extent);
-    whole.min(MOST_EXTENTS) as u32
+    whole.min(EXTENT_LIMIT) as u32
 }
 
 /// The extents of the volume of records, which has 512 sectors' worth of them.
@@ -74,5 +68,5 @@ pub fn extents_on(sectors: u64, geometry: &Geometry) -> u32
 pub fn record_extents(geometry: &Geometry) -> u32
     ensures { result ≡ record_extents geometry.now.extent }
 {
-    RECORD_SECTORS.div_ceil(geometry.extent)
+    RECORD_LIMIT.div_ceil(geometry.extent)
 }

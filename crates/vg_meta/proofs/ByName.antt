@@ -7,8 +7,9 @@ use Rattle.sm_base.specs.declared.names.Name.{Name}
 use Rattle.sm_base.specs.declared.names.Name.TheVariants.{Mgt}
 use Rattle.vg_meta.specs.declared.changes.Change.{Change}
 use Rattle.vg_meta.specs.declared.changes.Change.TheVariants.{Create, Remove, Rename, Grow, Cut, Mark}
-use Rattle.vg_meta.specs.Tables.{Row, Listing, rows, row_of, used, name_eq, is_image, is_journal, is_one_of, extents_of, extents_in, AreVolumes, IsTable, IsSpread}
-use Rattle.vg_meta.specs.Changes.{without, put_some, applied, made, grown, cut_to, renamed, tagged, AreFree, AreUnused, Allows, AllowsRename, Changes, Names}
+use Rattle.sm_base.specs.Kinds.{is_image, is_entry}
+use Rattle.vg_meta.specs.Tables.{Row, VolumeTable, rows, row_of, used, name_eq, is_one_of, extents_of, extents_in, AreVolumes, IsTable, IsSpread}
+use Rattle.vg_meta.specs.Changes.{without, put_some, applied, made, grown, cut_to, renamed, tagged, AreFree, AreUnused, Permits, AllowsRename, Changes, SpeaksOf}
 use Rattle.vg_meta.proofs.NameLaws.{name_eq-true, name_eq-false}
 use Rattle.vg_meta.proofs.RowLaws.{row_of-put_same, row_of-put_other, row_of-without_other, row_of-with_row_same, row_of-with_row_other, row_of-without_same}
 use Rattle.vg_meta.proofs.ExtentLaws.{times, unused-times, times-unused, times-row, times-two_rows, slice_get-times, one_place, All-weaken, Once}
@@ -16,7 +17,7 @@ use Rattle.vg_meta.proofs.ChangeLaws.{once_from, tagged_name}
 
 -- ---- what a change does
 
-unused_by_name : (count : ℕ) (t : Listing) (es : List ℕ) → AreFree count t.volumes es → AreUnused count (rows t) es
+unused_by_name : (count : ℕ) (t : VolumeTable) (es : List ℕ) → AreFree count t.volumes es → AreUnused count (rows t) es
 unused_by_name count t es f = record {
   below = f.below;
   unused = λ n. All-weaken (λ (e : ℕ). is_one_of (used t) e ≡ false) (λ (e : ℕ). is_one_of (extents_of (rows t n)) e ≡ false) es
@@ -24,7 +25,7 @@ unused_by_name count t es f = record {
   distinct = f.distinct;
 }
 
-renames : (count : ℕ) (t : Listing) (from to : Name) → AreVolumes count t.volumes → AllowsRename t.volumes from to
+renames : (count : ℕ) (t : VolumeTable) (from to : Name) → AreVolumes count t.volumes → AllowsRename t.volumes from to
     → Changes count (Rename from to) (rows t) (row_of (put_some (rows t from) (renamed to) (without from t.volumes)))
 renames count t from to v a =
     let rs = t.volumes in
@@ -44,7 +45,7 @@ renames count t from to v a =
     })
 
 -- a change of the list is that change by name
-pub changes_by_name : (count : ℕ) (t : Listing) (change : Change) → IsTable count t → Allows count t change
+pub changes_by_name : (count : ℕ) (t : VolumeTable) (change : Change) → IsTable count t → Permits count t change
     → Changes count change (rows t) (rows (applied t change))
 changes_by_name count t (Create name fresh es) h a = record {
   does = (a.new_name, row_of-put_same t.volumes (made name fresh es) a.new_name, unused_by_name count t es a.extents_free);
@@ -69,30 +70,30 @@ changes_by_name count t (Mark name tag on) h a = record {
 }
 
 -- no change speaks of the volume of the records
-pub mgt_not_named : (count : ℕ) (t : Listing) (change : Change) → Allows count t change → Names change Mgt → ⊥
+pub mgt_not_named : (count : ℕ) (t : VolumeTable) (change : Change) → Permits count t change → SpeaksOf change Mgt → ⊥
 mgt_not_named count t (Create name fresh es) a e = a.not_mgt (sym e)
 mgt_not_named count t (Remove name) a e = a.not_mgt (sym e)
 mgt_not_named count t (Rename from to) a (inl e) = kind_of_mgt from a.same_kind e
   where
-    kind_of_mgt : (n : Name) → ((is_image n ≡ true) × (is_image to ≡ true)) ⊎ ((is_journal n ≡ true) × (is_journal to ≡ true)) → Mgt ≡ n → ⊥
+    kind_of_mgt : (n : Name) → ((is_image n ≡ true) × (is_image to ≡ true)) ⊎ ((is_entry n ≡ true) × (is_entry to ≡ true)) → Mgt ≡ n → ⊥
     kind_of_mgt n (inl p) e = true≢false (sym p.0 ∙ ap is_image (sym e))
-    kind_of_mgt n (inr p) e = true≢false (sym p.0 ∙ ap is_journal (sym e))
+    kind_of_mgt n (inr p) e = true≢false (sym p.0 ∙ ap is_entry (sym e))
 mgt_not_named count t (Rename from to) a (inr e) = kind_of_mgt to a.same_kind e
   where
-    kind_of_mgt : (n : Name) → ((is_image from ≡ true) × (is_image n ≡ true)) ⊎ ((is_journal from ≡ true) × (is_journal n ≡ true)) → Mgt ≡ n → ⊥
+    kind_of_mgt : (n : Name) → ((is_image from ≡ true) × (is_image n ≡ true)) ⊎ ((is_entry from ≡ true) × (is_entry n ≡ true)) → Mgt ≡ n → ⊥
     kind_of_mgt n (inl p) e = true≢false (sym p.1 ∙ ap is_image (sym e))
-    kind_of_mgt n (inr p) e = true≢false (sym p.1 ∙ ap is_journal (sym e))
+    kind_of_mgt n (inr p) e = true≢false (sym p.1 ∙ ap is_entry (sym e))
 mgt_not_named count t (Grow name es) a e = true≢false (sym a.image ∙ ap is_image (sym e))
 mgt_not_named count t (Cut name keep) a e = true≢false (sym a.image ∙ ap is_image (sym e))
 mgt_not_named count t (Mark name tag on) a e = true≢false (sym a.image ∙ ap is_image (sym e))
 
 -- each change leaves it
-pub mgt_stays : (count : ℕ) (t : Listing) (change : Change) → IsTable count t → Allows count t change → rows (applied t change) Mgt ≡ rows t Mgt
+pub mgt_stays : (count : ℕ) (t : VolumeTable) (change : Change) → IsTable count t → Permits count t change → rows (applied t change) Mgt ≡ rows t Mgt
 mgt_stays count t change h a = (changes_by_name count t change h a).others Mgt (mgt_not_named count t change a)
 
 -- ---- extents are spread
 
-pub spread : (count : ℕ) (t : Listing) → IsTable count t → IsSpread count (rows t)
+pub spread : (count : ℕ) (t : VolumeTable) → IsTable count t → IsSpread count (rows t)
 spread count t h =
     let o = once_from count t.volumes h.volumes in
     record {
@@ -114,28 +115,28 @@ wider_all count c es wide all = All-weaken (λ (e : ℕ). e < count) (λ (e : �
 pub AreVolumes-wider : (count c : ℕ) (rs : List Row) → count ≤ c → AreVolumes count rs → AreVolumes c rs
 AreVolumes-wider count c rs wide v = record { each = v.each; rising = v.rising; below = wider_all count c (extents_in rs) wide v.below; distinct = v.distinct }
 
-pub IsTable-wider : (count c : ℕ) (t : Listing) → count ≤ c → IsTable count t → IsTable c t
+pub IsTable-wider : (count c : ℕ) (t : VolumeTable) → count ≤ c → IsTable count t → IsTable c t
 IsTable-wider count c t wide h = record { sequence = h.sequence; volumes = AreVolumes-wider count c t.volumes wide h.volumes }
 
 pub AreFree-wider : (count c : ℕ) (rs : List Row) (es : List ℕ) → count ≤ c → AreFree count rs es → AreFree c rs es
 AreFree-wider count c rs es wide f = record { below = wider_all count c es wide f.below; unused = f.unused; distinct = f.distinct }
 
-pub Allows-wider : (count c : ℕ) (t : Listing) (change : Change) → count ≤ c → Allows count t change → Allows c t change
-Allows-wider count c t (Create name fresh es) wide a = record {
+pub Permits-wider : (count c : ℕ) (t : VolumeTable) (change : Change) → count ≤ c → Permits count t change → Permits c t change
+Permits-wider count c t (Create name fresh es) wide a = record {
   name_proper = a.name_proper;
   new_name = a.new_name;
   not_mgt = a.not_mgt;
   kind = a.kind;
   extents_free = AreFree-wider count c t.volumes es wide a.extents_free;
 }
-Allows-wider count c t (Remove name) wide a = a
-Allows-wider count c t (Rename from to) wide a = a
-Allows-wider count c t (Grow name es) wide a = record {
+Permits-wider count c t (Remove name) wide a = a
+Permits-wider count c t (Rename from to) wide a = a
+Permits-wider count c t (Grow name es) wide a = record {
   row = a.row;
   there = a.there;
   image = a.image;
   some_extents = a.some_extents;
   extents_free = AreFree-wider count c t.volumes es wide a.extents_free;
 }
-Allows-wider count c t (Cut name keep) wide a = a
-Allows-wider count c t (Mark name tag on) wide a = a
+Permits-wider count c t (Cut name keep) wide a = a
+Permits-wider count c t (Mark name tag on) wide a = a

@@ -1,18 +1,19 @@
 -- What changes keep: a table stays a table, and by name a change does what its case says.
-use Rattle.std.proofs.Common.{◌≡◌, ◌≢◌, ℕ, zero, suc, ◌+◌, ◌<◌, ◌≤◌, Bool, true, false, List, length, Some, None, refl, sym, ap, subst, ◌∙◌, arith, inl, inr, ⊎_elim, length-append, length-take}
+use Rattle.std.proofs.Common.{◌≡◌, ◌≢◌, ℕ, zero, suc, ◌+◌, ◌<◌, ◌≤◌, Bool, true, List, length, Some, None, refl, sym, ap, subst, ◌∙◌, arith, inl, inr, ⊎_elim, length-append, length-take}
 use Rattle.std.specs.Prelude.{◌⊎◌, nat_lt}
 use Rattle.std.specs.List.{AllByRecursion}
 use Rattle.std.specs.List.Sorted.{IsStrictlySortedBy}
 use Rattle.std.proofs.lemmas.Bool.{lt-ltb, ltb-true}
 use Rattle.sm_base.specs.declared.names.Name.{Name}
-use Rattle.sm_base.specs.declared.names.Name.TheVariants.{Mgt, Vhd, Raw, Old, Clone, Inflate, Coalesce, Relink, Leaf}
 use Rattle.sm_base.specs.Names.{IsName, name_cmp}
 use Rattle.vg_meta.specs.declared.changes.Tag.{Tag}
 use Rattle.vg_meta.specs.declared.changes.Tag.TheVariants.{Hidden, Fresh}
 use Rattle.vg_meta.specs.declared.changes.Change.{Change}
 use Rattle.vg_meta.specs.declared.changes.Change.TheVariants.{Create, Remove, Rename, Grow, Cut, Mark}
-use Rattle.vg_meta.specs.Tables.{Row, Listing, rows, row_of, used, is_image, is_journal, suits, extents_in, IsVolume, AreVolumes, IsTable}
-use Rattle.vg_meta.specs.Changes.{put, without, with_row, put_some, changed, applied, made, grown, cut_to, renamed, tagged, Allows, AllowsCreate, AllowsRename, AllowsGrow, AllowsCut, AllowsMark}
+use Rattle.sm_base.proofs.KindLaws.{entry-no_image}
+use Rattle.sm_base.specs.Kinds.{is_image, is_entry}
+use Rattle.vg_meta.specs.Tables.{Row, VolumeTable, rows, row_of, used, suits, extents_in, IsVolume, AreVolumes, IsTable}
+use Rattle.vg_meta.specs.Changes.{put, without, with_row, put_some, changed, applied, made, grown, cut_to, renamed, tagged, Permits, AllowsCreate, AllowsRename, AllowsGrow, AllowsCut, AllowsMark}
 use Rattle.vg_meta.proofs.RowLaws.{row_of-name, All-row_of, All-put, row_of-without_other, All-without, All-with_row, names_of-with_row, IsRising, rising-put, rising-without}
 use Rattle.vg_meta.proofs.ExtentLaws.{times, times-append, times-take, below_times, times_below, distinct-times, times-distinct, times-put, times-without, times-with_row, All-weaken, Once, free_once}
 
@@ -40,21 +41,10 @@ named rs each = All-weaken IsVolume (λ (r : Row). IsName r.name) rs (λ r v. v.
 image_suits : (r : Row) → is_image r.name ≡ true → suits r ≡ nat_lt 0 (length r.extents)
 image_suits r h = rw h refl
 
-pub journal-no_image : (n : Name) → is_journal n ≡ true → is_image n ≡ false
-journal-no_image Mgt h = refl
-journal-no_image (Vhd u) h = absurd cc
-journal-no_image (Raw u) h = absurd cc
-journal-no_image (Old u) h = absurd cc
-journal-no_image (Clone d b t) h = refl
-journal-no_image (Inflate i n) h = refl
-journal-no_image (Coalesce c p) h = refl
-journal-no_image (Relink c p) h = refl
-journal-no_image (Leaf l p) h = refl
-
-kind_renamed : (r : Row) (to : Name) → ((is_image r.name ≡ true) × (is_image to ≡ true)) ⊎ ((is_journal r.name ≡ true) × (is_journal to ≡ true))
+kind_renamed : (r : Row) (to : Name) → ((is_image r.name ≡ true) × (is_image to ≡ true)) ⊎ ((is_entry r.name ≡ true) × (is_entry to ≡ true))
     → suits (renamed to r) ≡ suits r
 kind_renamed r to (inl p) = rw (p.0, p.1) refl
-kind_renamed r to (inr p) = rw (journal-no_image r.name p.0, journal-no_image to p.1, p.0, p.1) refl
+kind_renamed r to (inr p) = rw (entry-no_image r.name p.0, entry-no_image to p.1, p.0, p.1) refl
 
 pub tagged_name : (tag : Tag) (on : Bool) (r : Row) → (tagged tag on r).name ≡ r.name
 tagged_name Hidden on r = refl
@@ -73,7 +63,7 @@ image_extents r v image = ltb-true 0 (length r.extents) (sym (image_suits r imag
 
 -- ---- a table stays a table
 
-created : (count : ℕ) (t : Listing) (name : Name) (fresh : Bool) (es : List ℕ) → AreVolumes count t.volumes → AllowsCreate count t.volumes name fresh es
+created : (count : ℕ) (t : VolumeTable) (name : Name) (fresh : Bool) (es : List ℕ) → AreVolumes count t.volumes → AllowsCreate count t.volumes name fresh es
     → AreVolumes count (put (made name fresh es) t.volumes)
 created count t name fresh es v a =
     let r = made name fresh es in
@@ -104,12 +94,12 @@ from_other : (rs : List Row) (from to : Name) (r : Row) → row_of rs from ≡ S
 from_other rs from to r there none e = let k : row_of rs from ≡ row_of rs to = ap (row_of rs) e in absurd cc
 
 kind_of_found : (rs : List Row) (from to : Name) (r : Row) → row_of rs from ≡ Some r
-    → ((is_image from ≡ true) × (is_image to ≡ true)) ⊎ ((is_journal from ≡ true) × (is_journal to ≡ true))
-    → ((is_image r.name ≡ true) × (is_image to ≡ true)) ⊎ ((is_journal r.name ≡ true) × (is_journal to ≡ true))
+    → ((is_image from ≡ true) × (is_image to ≡ true)) ⊎ ((is_entry from ≡ true) × (is_entry to ≡ true))
+    → ((is_image r.name ≡ true) × (is_image to ≡ true)) ⊎ ((is_entry r.name ≡ true) × (is_entry to ≡ true))
 kind_of_found rs from to r there h =
-    subst (λ (n : Name). ((is_image n ≡ true) × (is_image to ≡ true)) ⊎ ((is_journal n ≡ true) × (is_journal to ≡ true))) (sym (row_of-name rs from r there)) h
+    subst (λ (n : Name). ((is_image n ≡ true) × (is_image to ≡ true)) ⊎ ((is_entry n ≡ true) × (is_entry to ≡ true))) (sym (row_of-name rs from r there)) h
 
-moved : (count : ℕ) (t : Listing) (from to : Name) → AreVolumes count t.volumes → AllowsRename t.volumes from to
+moved : (count : ℕ) (t : VolumeTable) (from to : Name) → AreVolumes count t.volumes → AllowsRename t.volumes from to
     → AreVolumes count (put_some (rows t from) (renamed to) (without from t.volumes))
 moved count t from to v a =
     let rs = t.volumes in
@@ -152,7 +142,7 @@ edited count rs name f r v there keeps is once below =
 found_image : (rs : List Row) (name : Name) (r : Row) → row_of rs name ≡ Some r → is_image name ≡ true → is_image r.name ≡ true
 found_image rs name r there image = ap is_image (row_of-name rs name r there) ∙ image
 
-grew : (count : ℕ) (t : Listing) (name : Name) (es : List ℕ) → AreVolumes count t.volumes → AllowsGrow count t.volumes name es
+grew : (count : ℕ) (t : VolumeTable) (name : Name) (es : List ℕ) → AreVolumes count t.volumes → AllowsGrow count t.volumes name es
     → AreVolumes count (with_row name (grown es) t.volumes)
 grew count t name es v a =
     let rs = t.volumes in
@@ -164,7 +154,7 @@ grew count t name es v a =
     (λ e. omega (arith, times-append e r.extents es, free_once e (used t) es a.extents_free.unused (distinct-times e es a.extents_free.distinct) (o.once e)))
     (λ e h. below_times count e es a.extents_free.below (omega (arith, times-append e r.extents es)))
 
-cut : (count : ℕ) (t : Listing) (name : Name) (keep : ℕ) → AreVolumes count t.volumes → AllowsCut t.volumes name keep
+cut : (count : ℕ) (t : VolumeTable) (name : Name) (keep : ℕ) → AreVolumes count t.volumes → AllowsCut t.volumes name keep
     → AreVolumes count (with_row name (cut_to keep) t.volumes)
 cut count t name keep v a =
     let rs = t.volumes in
@@ -176,7 +166,7 @@ cut count t name keep v a =
     (λ e. omega (arith, times-take e keep r.extents, o.once e))
     (λ e h. absurd (omega (arith, times-take e keep r.extents)))
 
-marked : (count : ℕ) (t : Listing) (name : Name) (tag : Tag) (on : Bool) → AreVolumes count t.volumes → AllowsMark t.volumes name tag on
+marked : (count : ℕ) (t : VolumeTable) (name : Name) (tag : Tag) (on : Bool) → AreVolumes count t.volumes → AllowsMark t.volumes name tag on
     → AreVolumes count (with_row name (tagged tag on) t.volumes)
 marked count t name tag on v a =
     let rs = t.volumes in
@@ -191,7 +181,7 @@ marked count t name tag on v a =
     (λ e. rw same (omega (arith, o.once e)))
     (λ e h. absurd (let k : times e r.extents < times e r.extents = rw same at h in omega arith))
 
-pub changed-volumes : (count : ℕ) (t : Listing) (change : Change) → AreVolumes count t.volumes → Allows count t change
+pub changed-volumes : (count : ℕ) (t : VolumeTable) (change : Change) → AreVolumes count t.volumes → Permits count t change
     → AreVolumes count (changed t.volumes change)
 changed-volumes count t (Create name fresh es) v a = created count t name fresh es v a
 changed-volumes count t (Remove name) v a = removed count t.volumes name a.row v a.there
@@ -201,7 +191,7 @@ changed-volumes count t (Cut name keep) v a = cut count t name keep v a
 changed-volumes count t (Mark name tag on) v a = marked count t name tag on v a
 
 -- an allowed change leaves a table
-pub IsTable-applied : (count : ℕ) (t : Listing) (change : Change) → IsTable count t → Allows count t change → IsTable count (applied t change)
+pub IsTable-applied : (count : ℕ) (t : VolumeTable) (change : Change) → IsTable count t → Permits count t change → IsTable count (applied t change)
 IsTable-applied count t change h a = record {
   sequence = omega arith;
   volumes = changed-volumes count t change h.volumes a;

@@ -2,10 +2,10 @@
 use Rattle.std.proofs.Common.{ℕ, ◌<◌, ◌≤◌, ◌^◌, List, [], ◌∷◌, length, arith, length-append}
 use Rattle.vg_meta.specs.declared.changes.Change.{Change}
 use Rattle.vg_meta.specs.declared.changes.Change.TheVariants.{Create, Remove, Rename, Grow, Cut, Mark}
-use Rattle.vg_meta.specs.Tables.{Row, Listing, extents_in}
+use Rattle.vg_meta.specs.Tables.{Row, VolumeTable, extents_in}
 use Rattle.vg_meta.specs.Text.{text, volume_text, HasText}
 use Rattle.vg_meta.specs.Writing.{volumes_text}
-use Rattle.vg_meta.specs.Changes.{AreFree, AllowsIn, Allows}
+use Rattle.vg_meta.specs.Changes.{AreFree, AllowsIn, Permits}
 use Rattle.vg_meta.proofs.ExtentLaws.{All-weaken}
 use Rattle.vg_meta.proofs.WriteLaws.{length-text, length-volume_text, length-extents_text}
 
@@ -27,7 +27,7 @@ extents_most (r ∷ rs) =
       extents_most rs,
     )
 
-pub HasText-short : (t : Listing) → length (text t) < 2 ^ 32 → HasText t
+pub HasText-short : (t : VolumeTable) → length (text t) < 2 ^ 32 → HasText t
 HasText-short t short = record {
   volumes = omega (arith, length-text t, volumes_most t.volumes, short);
   extents = omega (arith, length-text t, extents_most t.volumes, short);
@@ -62,5 +62,5 @@ AllowsIn-wider count wide rs (Grow name es) le a = record {
 AllowsIn-wider count wide rs (Cut name keep) le a = a
 AllowsIn-wider count wide rs (Mark name tag on) le a = a
 
-pub Allows-wider : (count wide : ℕ) (t : Listing) (change : Change) → count ≤ wide → Allows count t change → Allows wide t change
-Allows-wider count wide t change le a = AllowsIn-wider count wide t.volumes change le a
+pub Permits-wider : (count wide : ℕ) (t : VolumeTable) (change : Change) → count ≤ wide → Permits count t change → Permits wide t change
+Permits-wider count wide t change le a = AllowsIn-wider count wide t.volumes change le a

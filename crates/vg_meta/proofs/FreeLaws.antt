@@ -9,7 +9,7 @@ use Rattle.std.proofs.lemmas.Bool.{true≢false, eqb-false, ne_eqb, eq-eqb, case
 use Rattle.std.proofs.lemmas.List.{get_or_default}
 use Rattle.std.proofs.lemmas.List.Elements.{recursion_from_All}
 use Rattle.vg_meta.specs.Tables.{extents_in, is_one_of}
-use Rattle.vg_meta.specs.Kept.{HeldRow, rows_alone}
+use Rattle.vg_meta.specs.Roomy.{RoomyRow, rows_alone}
 use Rattle.vg_meta.specs.Changes.{AreFree}
 use Rattle.vg_meta.proofs.ExtentLaws.{times, times-append, unused-times, times-unused, one_of_other, one_if}
 
@@ -115,10 +115,10 @@ rising_distinct (x ∷ xs) h = (weaken xs (rising_front x xs h), rising_distinct
 
 -- ---- extents that no volume has
 
-abbrev pub shares_none_of : List ℕ → List HeldRow → Bool
-shares_none_of es hs = list_all (λ (v : HeldRow). list_all (λ (e : ℕ). not (is_one_of es e)) v.row.extents) hs
+abbrev pub shares_none_of : List ℕ → List RoomyRow → Bool
+shares_none_of es hs = list_all (λ (v : RoomyRow). list_all (λ (e : ℕ). not (is_one_of es e)) v.row.extents) hs
 
-none_shared : (es : List ℕ) (hs : List HeldRow) → shares_none_of es hs ≡ true → (e : ℕ) → 0 < times e (extents_in (rows_alone hs)) → is_one_of es e ≡ false
+none_shared : (es : List ℕ) (hs : List RoomyRow) → shares_none_of es hs ≡ true → (e : ℕ) → 0 < times e (extents_in (rows_alone hs)) → is_one_of es e ≡ false
 unfolding times
 none_shared es [] h e k = absurd (omega arith)
 none_shared es (v ∷ hs) h e k =
@@ -129,7 +129,7 @@ none_shared es (v ∷ hs) h e k =
     (list_all-All (λ (e : ℕ). not (is_one_of es e)) v.row.extents p.0) (omega arith)))
     (cases_eq (times e v.row.extents) 0)
 
-shared_none : (es : List ℕ) (hs : List HeldRow) → ((e : ℕ) → 0 < times e (extents_in (rows_alone hs)) → is_one_of es e ≡ false) → shares_none_of es hs ≡ true
+shared_none : (es : List ℕ) (hs : List RoomyRow) → ((e : ℕ) → 0 < times e (extents_in (rows_alone hs)) → is_one_of es e ≡ false) → shares_none_of es hs ≡ true
 shared_none es [] h = refl
 shared_none es (v ∷ hs) h =
     and_from (list_all (λ (e : ℕ). not (is_one_of es e)) v.row.extents) (shares_none_of es hs)
@@ -139,7 +139,7 @@ shared_none es (v ∷ hs) h =
     (shared_none es hs (λ e k. h e (omega (arith, times-append e v.row.extents (extents_in (rows_alone hs))))))
 
 -- both ways round
-pub unused_from_none : (es : List ℕ) (hs : List HeldRow) → shares_none_of es hs ≡ true
+pub unused_from_none : (es : List ℕ) (hs : List RoomyRow) → shares_none_of es hs ≡ true
     → AllByRecursion (λ (e : ℕ). is_one_of (extents_in (rows_alone hs)) e ≡ false) es
 unused_from_none es hs h =
     all_from (λ (e : ℕ). is_one_of (extents_in (rows_alone hs)) e ≡ false) es
@@ -147,7 +147,7 @@ unused_from_none es hs h =
     (λ some. let gone : times e es ≡ 0 = unused-times e es (none_shared es hs h e (omega arith)) in absurd (omega arith))
     (cases_eq (times e (extents_in (rows_alone hs))) 0))
 
-pub none_from_unused : (es : List ℕ) (hs : List HeldRow) → AllByRecursion (λ (e : ℕ). is_one_of (extents_in (rows_alone hs)) e ≡ false) es
+pub none_from_unused : (es : List ℕ) (hs : List RoomyRow) → AllByRecursion (λ (e : ℕ). is_one_of (extents_in (rows_alone hs)) e ≡ false) es
     → shares_none_of es hs ≡ true
 none_from_unused es hs all =
     shared_none es hs
@@ -158,7 +158,7 @@ none_from_unused es hs all =
 
 -- ---- all three
 
-pub free_from : (count : ℕ) (hs : List HeldRow) (es : List ℕ) → list_all (λ (e : ℕ). nat_lt e count) es ≡ true → IsDistinct eqb es
+pub free_from : (count : ℕ) (hs : List RoomyRow) (es : List ℕ) → list_all (λ (e : ℕ). nat_lt e count) es ≡ true → IsDistinct eqb es
     → shares_none_of es hs ≡ true → AreFree count (rows_alone hs) es
 free_from count hs es below distinct none = record {
   below = all_from (λ (e : ℕ). e < count) es (λ e k. ltb-true e count (all_at (λ (e : ℕ). nat_lt e count ≡ true) e es (list_all-All (λ (e : ℕ). nat_lt e count) es below) k));
@@ -196,7 +196,7 @@ found_by_halves xs x r b h found is = is ∙ same_test r (searched xs x r found 
         (λ k within. ⊎_elim (λ low. let lt : get_or xs k 0 < x = m.1 k low in (λ e. absurd (omega arith)))
         (λ high. let gt : x < get_or xs k 0 = m.2 k high within in (λ e. absurd (omega arith))) (cases_lt k i))
 
-pub free_ways : (count : ℕ) (hs : List HeldRow) (es : List ℕ) (b : Bool) → list_all (λ (e : ℕ). nat_lt e count) es ≡ true → IsDistinct eqb es
+pub free_ways : (count : ℕ) (hs : List RoomyRow) (es : List ℕ) (b : Bool) → list_all (λ (e : ℕ). nat_lt e count) es ≡ true → IsDistinct eqb es
     → b ≡ shares_none_of es hs → (IsTrue b → AreFree count (rows_alone hs) es) × (AreFree count (rows_alone hs) es → IsTrue b)
 free_ways count hs es b below distinct is =
     (λ h. free_from count hs es below distinct (sym is ∙ h), λ f. is ∙ none_from_unused es hs f.unused)

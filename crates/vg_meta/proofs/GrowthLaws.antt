@@ -10,7 +10,7 @@ use Rattle.vg_meta.specs.declared.changes.Tag.{Tag}
 use Rattle.vg_meta.specs.declared.changes.Tag.TheVariants.{Hidden, Fresh}
 use Rattle.vg_meta.specs.declared.changes.Change.{Change}
 use Rattle.vg_meta.specs.declared.changes.Change.TheVariants.{Create, Remove, Rename, Grow, Cut, Mark}
-use Rattle.vg_meta.specs.Tables.{Row, Listing, row_of, name_eq}
+use Rattle.vg_meta.specs.Tables.{Row, VolumeTable, row_of, name_eq}
 use Rattle.vg_meta.specs.Text.{volume_text, text}
 use Rattle.vg_meta.specs.Changes.{put, without, with_row, put_some, applied, made, renamed, grown, cut_to, tagged}
 use Rattle.vg_meta.specs.Growth.{growth}
@@ -21,7 +21,7 @@ use Rattle.vg_meta.proofs.WriteLaws.{length-volume_text, length-extents_text, le
 row_length : (r : Row) → length (volume_text r) ≡ 6 + length (spelling r.name) + 4 * length r.extents
 row_length r = omega (arith, length-volume_text r, length-extents_text r.extents)
 
-volumes-put : (r : Row) (rs : List Row) → length (volumes_text (put r rs)) ≡ length (volume_text r) + length (volumes_text rs)
+pub volumes-put : (r : Row) (rs : List Row) → length (volumes_text (put r rs)) ≡ length (volume_text r) + length (volumes_text rs)
 unfolding put
 volumes-put r [] = omega (arith, length-append (volume_text r) [])
 volumes-put r (s ∷ rs) =
@@ -31,11 +31,11 @@ volumes-put r (s ∷ rs) =
     (λ e. omega (arith, length-append (volume_text s) (volumes_text (put r rs)), length-append (volume_text s) (volumes_text rs), volumes-put r rs))
 
 -- the text of the volume of this name, where there is one
-abbrev found_length : Option Row → ℕ
+abbrev pub found_length : Option Row → ℕ
 found_length None = 0
 found_length (Some r) = length (volume_text r)
 
-volumes-without : (n : Name) (rs : List Row) → length (volumes_text (without n rs)) + found_length (row_of rs n) ≡ length (volumes_text rs)
+pub volumes-without : (n : Name) (rs : List Row) → length (volumes_text (without n rs)) + found_length (row_of rs n) ≡ length (volumes_text rs)
 unfolding row_of without
 volumes-without n [] = refl
 volumes-without n (s ∷ rs) =
@@ -63,7 +63,7 @@ tagged-length : (tag : Tag) (on : Bool) (r : Row) → length (volume_text (tagge
 tagged-length Hidden on r = omega (arith, row_length r, row_length (tagged Hidden on r))
 tagged-length Fresh on r = omega (arith, row_length r, row_length (tagged Fresh on r))
 
-pub length-applied : (t : Listing) (change : Change) → length (text (applied t change)) ≤ length (text t) + growth change
+pub length-applied : (t : VolumeTable) (change : Change) → length (text (applied t change)) ≤ length (text t) + growth change
 length-applied t (Create name fresh es) =
     let c = Create name fresh es in
     omega (arith, length-text t, length-text (applied t c), volumes-put (made name fresh es) t.volumes, row_length (made name fresh es))

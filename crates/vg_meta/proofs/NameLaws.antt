@@ -1,62 +1,56 @@
 -- Names are told apart by `name_eq`, and are totally ordered.
-use Rattle.std.proofs.Common.{◌≡◌, ◌≢◌, ℕ, Bool, true, false, ◌&&◌, ◌==◌, List, refl, sym, ap, ap₂, subst, ◌∙◌}
+use Rattle.std.proofs.Common.{◌≡◌, ◌≢◌, Bool, true, false, ◌&&◌, ◌==◌, refl, sym, ap, ap₂, subst, ◌∙◌}
 use Rattle.std.specs.Prelude.{bytes_eq}
 use Rattle.std.proofs.Common.{Ordering}
 use Rattle.std.specs.Ordering.{is_lt, ordering_reverse}
 use Rattle.std.specs.declared.cmp.Ordering.TheVariants.{Less, Equal, Greater}
-use Rattle.std.proofs.lemmas.Slice.Eq.{bytes_eq-Decides}
 use Rattle.std.proofs.lemmas.Bool.{true≢false, eqb-true, eq-eqb, and_parts, and_from}
+use Rattle.common_laws.proofs.Bytes.{bytes_eq-same, bytes_eq-refl}
 use Rattle.sm_base.specs.declared.names.Name.{Name}
 use Rattle.sm_base.specs.declared.names.Name.TheVariants.{Mgt, Vhd, Raw, Old, Clone, Inflate, Coalesce, Relink, Leaf}
 use Rattle.sm_base.specs.Names.{IsName, name_cmp}
 use Rattle.sm_base.proofs.OrderLemmas.{name_cmp_total, name_cmp-itself, name_cmp-same}
 use Rattle.vg_meta.specs.Tables.{name_eq}
 
-pub same : (u v : List ℕ) → bytes_eq u v ≡ true → u ≡ v
-same u v h = (bytes_eq-Decides u v).0 h
-
-same_back : (u : List ℕ) → bytes_eq u u ≡ true
-same_back u = (bytes_eq-Decides u u).1 refl
-
 -- the test is true of one name alone
 pub name_eq-true : (a b : Name) → name_eq a b ≡ true → a ≡ b
 unfolding name_eq
 name_eq-true Mgt Mgt h = refl
-name_eq-true (Vhd u) (Vhd v) h = ap Vhd (same u v h)
-name_eq-true (Raw u) (Raw v) h = ap Raw (same u v h)
-name_eq-true (Old u) (Old v) h = ap Old (same u v h)
+name_eq-true (Vhd u) (Vhd v) h = ap Vhd (bytes_eq-same u v h)
+name_eq-true (Raw u) (Raw v) h = ap Raw (bytes_eq-same u v h)
+name_eq-true (Old u) (Old v) h = ap Old (bytes_eq-same u v h)
 name_eq-true (Clone d b t) (Clone e c u) h =
     let p = and_parts (bytes_eq d e && bytes_eq b c) (bytes_eq t u) h in
     let q = and_parts (bytes_eq d e) (bytes_eq b c) p.0 in
-    let d_is : d ≡ e = same d e q.0 in
-    let b_is : b ≡ c = same b c q.1 in
-    let t_is : t ≡ u = same t u p.1 in
+    let d_is : d ≡ e = bytes_eq-same d e q.0 in
+    let b_is : b ≡ c = bytes_eq-same b c q.1 in
+    let t_is : t ≡ u = bytes_eq-same t u p.1 in
     cc
 name_eq-true (Inflate i m) (Inflate j n) h =
     let p = and_parts (bytes_eq i j) (m == n) h in
-    ap₂ Inflate (same i j p.0) (eqb-true m n p.1)
+    ap₂ Inflate (bytes_eq-same i j p.0) (eqb-true m n p.1)
 name_eq-true (Coalesce c p) (Coalesce d q) h =
     let r = and_parts (bytes_eq c d) (bytes_eq p q) h in
-    ap₂ Coalesce (same c d r.0) (same p q r.1)
+    ap₂ Coalesce (bytes_eq-same c d r.0) (bytes_eq-same p q r.1)
 name_eq-true (Relink c p) (Relink d q) h =
     let r = and_parts (bytes_eq c d) (bytes_eq p q) h in
-    ap₂ Relink (same c d r.0) (same p q r.1)
+    ap₂ Relink (bytes_eq-same c d r.0) (bytes_eq-same p q r.1)
 name_eq-true (Leaf c p) (Leaf d q) h =
     let r = and_parts (bytes_eq c d) (bytes_eq p q) h in
-    ap₂ Leaf (same c d r.0) (same p q r.1)
+    ap₂ Leaf (bytes_eq-same c d r.0) (bytes_eq-same p q r.1)
 name_eq-true _ _ h = absurd cc
 
 pub name_eq-refl : (a : Name) → name_eq a a ≡ true
 unfolding name_eq
 name_eq-refl Mgt = refl
-name_eq-refl (Vhd u) = same_back u
-name_eq-refl (Raw u) = same_back u
-name_eq-refl (Old u) = same_back u
-name_eq-refl (Clone d b t) = and_from _ _ (and_from _ _ (same_back d) (same_back b)) (same_back t)
-name_eq-refl (Inflate i m) = and_from _ _ (same_back i) (eq-eqb m m refl)
-name_eq-refl (Coalesce c p) = and_from _ _ (same_back c) (same_back p)
-name_eq-refl (Relink c p) = and_from _ _ (same_back c) (same_back p)
-name_eq-refl (Leaf l p) = and_from _ _ (same_back l) (same_back p)
+name_eq-refl (Vhd u) = bytes_eq-refl u
+name_eq-refl (Raw u) = bytes_eq-refl u
+name_eq-refl (Old u) = bytes_eq-refl u
+name_eq-refl (Clone d b t) = and_from _ _ (and_from _ _ (bytes_eq-refl d) (bytes_eq-refl b)) (bytes_eq-refl t)
+name_eq-refl (Inflate i m) = and_from _ _ (bytes_eq-refl i) (eq-eqb m m refl)
+name_eq-refl (Coalesce c p) = and_from _ _ (bytes_eq-refl c) (bytes_eq-refl p)
+name_eq-refl (Relink c p) = and_from _ _ (bytes_eq-refl c) (bytes_eq-refl p)
+name_eq-refl (Leaf l p) = and_from _ _ (bytes_eq-refl l) (bytes_eq-refl p)
 
 -- what is true of the test's two answers
 pub name_eq-same : (a b : Name) → a ≡ b → name_eq a b ≡ true

@@ -7,11 +7,12 @@ use Rattle.std.specs.Ordering.{is_lt}
 use Rattle.std.specs.declared.cmp.Ordering.TheVariants.{Less}
 use Rattle.std.proofs.lemmas.Option.{slice_get_within, get_or_from_slice_get}
 use Rattle.std.proofs.lemmas.List.{take_all}
+use Rattle.common_laws.proofs.Lists.{take_next}
 use Rattle.sm_base.specs.declared.names.Name.{Name}
 use Rattle.sm_base.specs.Names.{name_cmp}
 use Rattle.sm_base.proofs.OrderLemmas.{name_cmp_total}
 use Rattle.vg_meta.specs.Tables.{Row, extents_in, IsVolume, AreVolumes}
-use Rattle.vg_meta.specs.Kept.{HeldRow, rows_alone}
+use Rattle.vg_meta.specs.Roomy.{RoomyRow, rows_alone}
 use Rattle.vg_meta.proofs.NameLaws.{less_from}
 use Rattle.vg_meta.proofs.RowLaws.{IsRising, All-names, All-rows}
 use Rattle.vg_meta.specs.Text.{volume_text}
@@ -20,11 +21,11 @@ use Rattle.vg_meta.proofs.ReadLaws.{volume_same}
 use Rattle.vg_meta.proofs.ExtentLaws.{All-weaken, Once, times-append}
 use Rattle.vg_meta.proofs.ChangeLaws.{once_from, volumes_from}
 use Rattle.vg_meta.proofs.Places.{All-push}
-use Rattle.vg_meta.proofs.WriteLaws.{flat_map-push, taken}
+use Rattle.vg_meta.proofs.WriteLaws.{flat_map-push}
 
 -- ---- behind the last name
 
-pub All-held : (Q : Row → Type 0) (hs : List HeldRow) → AllByRecursion (λ (v : HeldRow). Q v.row) hs → AllByRecursion Q (rows_alone hs)
+pub All-held : (Q : Row → Type 0) (hs : List RoomyRow) → AllByRecursion (λ (v : RoomyRow). Q v.row) hs → AllByRecursion Q (rows_alone hs)
 All-held Q [] all = tt
 All-held Q (h ∷ hs) all = (all.0, All-held Q hs all.1)
 
@@ -33,42 +34,42 @@ All-at P [] i x all at = absurd cc
 All-at P (y ∷ xs) zero x all at = let same : y ≡ x = cc in subst P same all.0
 All-at P (y ∷ xs) (suc i) x all at = All-at P xs i x all.1 at
 
-pub All-held_back : (Q : Row → Type 0) (hs : List HeldRow) → AllByRecursion Q (rows_alone hs) → AllByRecursion (λ (v : HeldRow). Q v.row) hs
+pub All-held_back : (Q : Row → Type 0) (hs : List RoomyRow) → AllByRecursion Q (rows_alone hs) → AllByRecursion (λ (v : RoomyRow). Q v.row) hs
 All-held_back Q [] all = tt
 All-held_back Q (h ∷ hs) all = (all.0, All-held_back Q hs all.1)
 
-before_place : (hs : List HeldRow) (i : ℕ) (h : HeldRow) → IsRising (rows_alone hs) → slice_get hs i ≡ Some h
-    → AllByRecursion (λ (v : HeldRow). name_cmp v.row.name h.row.name ≡ Less) (take i hs)
+before_place : (hs : List RoomyRow) (i : ℕ) (h : RoomyRow) → IsRising (rows_alone hs) → slice_get hs i ≡ Some h
+    → AllByRecursion (λ (v : RoomyRow). name_cmp v.row.name h.row.name ≡ Less) (take i hs)
 unfolding IsStrictlySortedBy
 before_place [] i h rising at = absurd cc
 before_place (x ∷ hs) zero h rising at = tt
 before_place (x ∷ hs) (suc i) h rising at = (
-  All-at (λ (v : HeldRow). name_cmp x.row.name v.row.name ≡ Less) hs i h
+  All-at (λ (v : RoomyRow). name_cmp x.row.name v.row.name ≡ Less) hs i h
       (All-held_back (λ (r : Row). name_cmp x.row.name r.name ≡ Less) hs (All-rows (λ (m : Name). name_cmp x.row.name m ≡ Less) (rows_alone hs) rising.0)) at,
   before_place hs i h rising.1 at,
 )
 
-split_last : (hs : List HeldRow) (h : HeldRow) → slice_get hs (length hs - 1) ≡ Some h → hs ≡ take (length hs - 1) hs ++ h ∷ []
+split_last : (hs : List RoomyRow) (h : RoomyRow) → slice_get hs (length hs - 1) ≡ Some h → hs ≡ take (length hs - 1) hs ++ h ∷ []
 split_last hs h at =
     let i = length hs - 1 in
     let within : i < length hs = slice_get_within hs i h at in
     let all : take (i + 1) hs ≡ hs = take_all (i + 1) hs (omega arith) in
-    sym all ∙ taken hs i h within (sym (get_or_from_slice_get hs i h h at))
+    sym all ∙ take_next hs i h within (sym (get_or_from_slice_get hs i h h at))
 
-pub last_first : (hs : List HeldRow) (h : HeldRow) (n : Name) → IsRising (rows_alone hs) → slice_get hs (length hs - 1) ≡ Some h
-    → name_cmp h.row.name n ≡ Less → AllByRecursion (λ (v : HeldRow). name_cmp v.row.name n ≡ Less) hs
+pub last_first : (hs : List RoomyRow) (h : RoomyRow) (n : Name) → IsRising (rows_alone hs) → slice_get hs (length hs - 1) ≡ Some h
+    → name_cmp h.row.name n ≡ Less → AllByRecursion (λ (v : RoomyRow). name_cmp v.row.name n ≡ Less) hs
 last_first hs h n rising at less =
-    subst (λ (l : List HeldRow). AllByRecursion (λ (v : HeldRow). name_cmp v.row.name n ≡ Less) l) (sym (split_last hs h at))
-    (All-push (λ (v : HeldRow). name_cmp v.row.name n ≡ Less) (take (length hs - 1) hs) h
-    (All-weaken (λ (v : HeldRow). name_cmp v.row.name h.row.name ≡ Less) (λ (v : HeldRow). name_cmp v.row.name n ≡ Less) (take (length hs - 1) hs)
+    subst (λ (l : List RoomyRow). AllByRecursion (λ (v : RoomyRow). name_cmp v.row.name n ≡ Less) l) (sym (split_last hs h at))
+    (All-push (λ (v : RoomyRow). name_cmp v.row.name n ≡ Less) (take (length hs - 1) hs) h
+    (All-weaken (λ (v : RoomyRow). name_cmp v.row.name h.row.name ≡ Less) (λ (v : RoomyRow). name_cmp v.row.name n ≡ Less) (take (length hs - 1) hs)
     (λ v first. name_cmp_total.trans v.row.name h.row.name n first less) (before_place hs (length hs - 1) h rising at)) less)
 
-pub follows_last : (hs : List HeldRow) (h : HeldRow) (n : Name) (b : Bool) → IsRising (rows_alone hs) → slice_get hs (length hs - 1) ≡ Some h
+pub follows_last : (hs : List RoomyRow) (h : RoomyRow) (n : Name) (b : Bool) → IsRising (rows_alone hs) → slice_get hs (length hs - 1) ≡ Some h
     → b ≡ is_lt (name_cmp h.row.name n)
-    → IsTrue b ↔ AllByRecursion (λ (v : HeldRow). name_cmp v.row.name n ≡ Less) hs
+    → IsTrue b ↔ AllByRecursion (λ (v : RoomyRow). name_cmp v.row.name n ≡ Less) hs
 follows_last hs h n b rising at is = (
   λ yes. last_first hs h n rising at (less_from h.row.name n (sym is ∙ yes)),
-  λ all. is ∙ ap is_lt (All-at (λ (v : HeldRow). name_cmp v.row.name n ≡ Less) hs (length hs - 1) h all at),
+  λ all. is ∙ ap is_lt (All-at (λ (v : RoomyRow). name_cmp v.row.name n ≡ Less) hs (length hs - 1) h all at),
 )
 
 -- ---- one more volume

@@ -4,33 +4,27 @@ use Rattle.std.specs.Prelude.{insert, slice_get}
 use Rattle.std.specs.List.{AllByRecursion}
 use Rattle.std.proofs.lemmas.Option.{get_or_from_slice_get, slice_get_within}
 use Rattle.std.specs.Ordering.{is_lt}
+use Rattle.common_laws.proofs.Lists.{take_next}
 use Rattle.sm_base.specs.declared.names.Name.{Name}
 use Rattle.sm_base.specs.Names.{name_cmp}
 use Rattle.vg_meta.specs.Tables.{Row, row_of, name_eq}
-use Rattle.vg_meta.specs.Kept.{HeldRow, rows_alone, places_in, IsSlot}
+use Rattle.vg_meta.specs.Roomy.{RoomyRow, rows_alone, places_in, IsSlot}
 use Rattle.vg_meta.specs.Changes.{put}
 use Rattle.vg_meta.proofs.NameLaws.{name_eq-same, name_eq-other}
 use Rattle.vg_meta.proofs.Places.{All-push}
 
 -- a volume of this name is put in at or behind this place
-pub record Passed (hs : List HeldRow) (n : Name) (i : ℕ) : Type 0 where
+pub record Passed (hs : List RoomyRow) (n : Name) (i : ℕ) : Type 0 where
   pub before : AllByRecursion (λ h. is_lt (name_cmp n h.row.name) ≡ false) (take i hs)
   pub so_far : (r : Row) → r.name ≡ n → rows_alone (take i hs) ++ put r (rows_alone (drop i hs)) ≡ put r (rows_alone hs)
 
-pub passed_first : (hs : List HeldRow) (n : Name) → Passed hs n 0
+pub passed_first : (hs : List RoomyRow) (n : Name) → Passed hs n 0
 passed_first hs n = record { before = tt; so_far = λ r named. refl }
 
-opened : (hs : List HeldRow) (i : ℕ) (h : HeldRow) → i < length hs → h ≡ get_or hs i h → drop i hs ≡ h ∷ drop (i + 1) hs
-opened hs i h lt is = rw (add-one) (drop-cons hs i h lt ∙ ap (λ (x : HeldRow). x ∷ drop (suc i) hs) (sym is))
+opened : (hs : List RoomyRow) (i : ℕ) (h : RoomyRow) → i < length hs → h ≡ get_or hs i h → drop i hs ≡ h ∷ drop (i + 1) hs
+opened hs i h lt is = rw (add-one) (drop-cons hs i h lt ∙ ap (λ (x : RoomyRow). x ∷ drop (suc i) hs) (sym is))
 
-taken : (hs : List HeldRow) (i : ℕ) (h : HeldRow) → i < length hs → h ≡ get_or hs i h → take (i + 1) hs ≡ take i hs ++ h ∷ []
-taken [] i h lt is = absurd (omega arith)
-taken (x ∷ hs) zero h lt is = ap (λ (y : HeldRow). y ∷ []) (sym is)
-taken (x ∷ hs) (suc i) h lt is =
-    let next : suc i + 1 ≡ suc (i + 1) = omega arith in
-    rw next (ap (λ (l : List HeldRow). x ∷ l) (taken hs i h (omega arith) is))
-
-rows-append : (xs ys : List HeldRow) → rows_alone (xs ++ ys) ≡ rows_alone xs ++ rows_alone ys
+rows-append : (xs ys : List RoomyRow) → rows_alone (xs ++ ys) ≡ rows_alone xs ++ rows_alone ys
 rows-append [] ys = refl
 rows-append (x ∷ xs) ys = ap (λ (l : List Row). x.row ∷ l) (rows-append xs ys)
 
@@ -46,22 +40,22 @@ put_last : (r : Row) → put r [] ≡ r ∷ []
 unfolding put
 put_last r = refl
 
-pub passed_more : (hs : List HeldRow) (n : Name) (i : ℕ) (h : HeldRow) → i < length hs → h ≡ get_or hs i h
+pub passed_more : (hs : List RoomyRow) (n : Name) (i : ℕ) (h : RoomyRow) → i < length hs → h ≡ get_or hs i h
     → is_lt (name_cmp n h.row.name) ≡ false → Passed hs n i → Passed hs n (i + 1)
 passed_more hs n i h lt is behind p = record {
-  before = rw (taken hs i h lt is) (All-push (λ (x : HeldRow). is_lt (name_cmp n x.row.name) ≡ false) (take i hs) h p.before behind);
+  before = rw (take_next hs i h lt is) (All-push (λ (x : RoomyRow). is_lt (name_cmp n x.row.name) ≡ false) (take i hs) h p.before behind);
   so_far = λ r named.
       let test : is_lt (name_cmp r.name h.row.name) ≡ false = rw named behind in
       let rest = rows_alone (drop (i + 1) hs) in
       let front : rows_alone (take (i + 1) hs) ≡ rows_alone (take i hs) ++ h.row ∷ [] =
-      ap rows_alone (taken hs i h lt is) ∙ rows-append (take i hs) (h ∷ []) in
+      ap rows_alone (take_next hs i h lt is) ∙ rows-append (take i hs) (h ∷ []) in
       let back : put r (rows_alone (drop i hs)) ≡ h.row ∷ put r rest =
-      ap (λ (l : List HeldRow). put r (rows_alone l)) (opened hs i h lt is) ∙ put_behind r h.row rest test in
+      ap (λ (l : List RoomyRow). put r (rows_alone l)) (opened hs i h lt is) ∙ put_behind r h.row rest test in
       ap (λ (l : List Row). l ++ put r rest) front ∙ append_assoc (rows_alone (take i hs)) (h.row ∷ []) (put r rest)
       ∙ ap (λ (l : List Row). rows_alone (take i hs) ++ l) (sym back) ∙ p.so_far r named;
 }
 
-pub put_here : (hs : List HeldRow) (n : Name) (i : ℕ) (h : HeldRow) → i < length hs → h ≡ get_or hs i h
+pub put_here : (hs : List RoomyRow) (n : Name) (i : ℕ) (h : RoomyRow) → i < length hs → h ≡ get_or hs i h
     → is_lt (name_cmp n h.row.name) ≡ true → Passed hs n i
     → (r : Row) → r.name ≡ n → rows_alone (take i hs) ++ r ∷ rows_alone (drop i hs) ≡ put r (rows_alone hs)
 put_here hs n i h lt is before p r named =
@@ -84,26 +78,26 @@ whole [] (suc i) h = refl
 whole (x ∷ xs) zero h = absurd (omega arith)
 whole (x ∷ xs) (suc i) h = ap (λ (l : _). x ∷ l) (whole xs i (omega arith))
 
-pub put_at_end : (hs : List HeldRow) (n : Name) (i : ℕ) → length hs ≤ i → Passed hs n i
+pub put_at_end : (hs : List RoomyRow) (n : Name) (i : ℕ) → length hs ≤ i → Passed hs n i
     → (r : Row) → r.name ≡ n → rows_alone (take (length hs) hs) ++ r ∷ rows_alone (drop (length hs) hs) ≡ put r (rows_alone hs)
 put_at_end hs n i le p r named =
     let now = p.so_far r named in
     let front : rows_alone (take (length hs) hs) ≡ rows_alone (take i hs) =
     ap rows_alone (whole hs (length hs) (omega arith) ∙ sym (whole hs i le)) in
     let none : rows_alone (drop (length hs) hs) ≡ [] = ap rows_alone (gone hs (length hs) (omega arith)) in
-    let back : put r (rows_alone (drop i hs)) ≡ r ∷ [] = ap (λ (l : List HeldRow). put r (rows_alone l)) (gone hs i le) ∙ put_last r in
+    let back : put r (rows_alone (drop i hs)) ≡ r ∷ [] = ap (λ (l : List RoomyRow). put r (rows_alone l)) (gone hs i le) ∙ put_last r in
     rw (front, none) (ap (λ (l : List Row). rows_alone (take i hs) ++ l) (sym back) ∙ now)
 
-pub slot_here : (hs : List HeldRow) (n : Name) (i : ℕ) (h : HeldRow) → i < length hs → h ≡ get_or hs i h
+pub slot_here : (hs : List RoomyRow) (n : Name) (i : ℕ) (h : RoomyRow) → i < length hs → h ≡ get_or hs i h
     → is_lt (name_cmp n h.row.name) ≡ true → Passed hs n i → IsSlot hs n i
 slot_here hs n i h lt is before p = record {
   before = p.before;
   here = λ g at.
       let same : h ≡ g = is ∙ get_or_from_slice_get hs i g h at in
-      subst (λ (x : HeldRow). is_lt (name_cmp n x.row.name) ≡ true) same before;
+      subst (λ (x : RoomyRow). is_lt (name_cmp n x.row.name) ≡ true) same before;
 }
 
-pub slot_at_end : (hs : List HeldRow) (n : Name) (i : ℕ) → length hs ≤ i → Passed hs n i → IsSlot hs n (length hs)
+pub slot_at_end : (hs : List RoomyRow) (n : Name) (i : ℕ) → length hs ≤ i → Passed hs n i → IsSlot hs n (length hs)
 slot_at_end hs n i le p = record {
   before = rw (whole hs (length hs) (omega arith) ∙ sym (whole hs i le)) p.before;
   here = λ g at. let lt = slice_get_within hs (length hs) g at in absurd (omega arith);
@@ -111,8 +105,8 @@ slot_at_end hs n i le p = record {
 
 -- ---- a volume put in where a list goes on
 
-put_left : (r : Row) (xs : List HeldRow) (ys : List Row) (i : ℕ) → AllByRecursion (λ h. is_lt (name_cmp r.name h.row.name) ≡ false) (take i xs)
-    → ((h : HeldRow) → slice_get xs i ≡ Some h → is_lt (name_cmp r.name h.row.name) ≡ true) → i < length xs
+put_left : (r : Row) (xs : List RoomyRow) (ys : List Row) (i : ℕ) → AllByRecursion (λ h. is_lt (name_cmp r.name h.row.name) ≡ false) (take i xs)
+    → ((h : RoomyRow) → slice_get xs i ≡ Some h → is_lt (name_cmp r.name h.row.name) ≡ true) → i < length xs
     → put r (rows_alone xs ++ ys) ≡ put r (rows_alone xs) ++ ys
 put_left r [] ys i before here lt = absurd (omega arith)
 put_left r (x ∷ xs) ys zero before here lt =
@@ -123,7 +117,7 @@ put_left r (x ∷ xs) ys (suc i) before here lt =
     ∙ ap (λ (l : List Row). x.row ∷ l) (put_left r xs ys i before.1 here (omega arith))
     ∙ sym (ap (λ (l : List Row). l ++ ys) (put_behind r x.row (rows_alone xs) before.0))
 
-put_right : (r : Row) (xs : List HeldRow) (ys : List Row) (i : ℕ) → AllByRecursion (λ h. is_lt (name_cmp r.name h.row.name) ≡ false) (take i xs)
+put_right : (r : Row) (xs : List RoomyRow) (ys : List Row) (i : ℕ) → AllByRecursion (λ h. is_lt (name_cmp r.name h.row.name) ≡ false) (take i xs)
     → length xs ≤ i → put r (rows_alone xs ++ ys) ≡ rows_alone xs ++ put r ys
 put_right r [] ys i before le = refl
 put_right r (x ∷ xs) ys zero before le = absurd (omega arith)
@@ -131,23 +125,20 @@ put_right r (x ∷ xs) ys (suc i) before le =
     put_behind r x.row (rows_alone xs ++ ys) before.0 ∙ ap (λ (l : List Row). x.row ∷ l) (put_right r xs ys i before.1 (omega arith))
 
 -- the volume belongs in front, where its place there is not the end
-pub put_in_front : (r : Row) (n : Name) (xs : List HeldRow) (ys : List Row) (i : ℕ) → r.name ≡ n → IsSlot xs n i → i < length xs
+pub put_in_front : (r : Row) (n : Name) (xs : List RoomyRow) (ys : List Row) (i : ℕ) → r.name ≡ n → IsSlot xs n i → i < length xs
     → put r (rows_alone xs ++ ys) ≡ put r (rows_alone xs) ++ ys
 put_in_front r n xs ys i named s lt =
     put_left r xs ys i (rw named s.before) (rw named s.here) lt
 
 -- else behind it
-pub put_in_back : (r : Row) (n : Name) (xs : List HeldRow) (ys : List Row) (i : ℕ) → r.name ≡ n → IsSlot xs n i → length xs ≤ i
+pub put_in_back : (r : Row) (n : Name) (xs : List RoomyRow) (ys : List Row) (i : ℕ) → r.name ≡ n → IsSlot xs n i → length xs ≤ i
     → put r (rows_alone xs ++ ys) ≡ rows_alone xs ++ put r ys
 put_in_back r n xs ys i named s le =
     put_right r xs ys i (rw named s.before) le
 
 -- ---- a volume put in at a place
 
-pub rows-insert : (hs : List HeldRow) (i : ℕ) (h : HeldRow) → rows_alone (insert hs i h) ≡ rows_alone (take i hs) ++ h.row ∷ rows_alone (drop i hs)
-rows-insert hs i h = rows-append (take i hs) (h ∷ drop i hs)
-
-absent_head : (x : HeldRow) (hs : List HeldRow) (n : Name) → row_of (rows_alone (x ∷ hs)) n ≡ None → (x.row.name ≢ n) × (row_of (rows_alone hs) n ≡ None)
+absent_head : (x : RoomyRow) (hs : List RoomyRow) (n : Name) → row_of (rows_alone (x ∷ hs)) n ≡ None → (x.row.name ≢ n) × (row_of (rows_alone hs) n ≡ None)
 unfolding row_of
 absent_head x hs n h = parts (name_eq x.row.name n) refl h
   where
@@ -155,7 +146,7 @@ absent_head x hs n h = parts (name_eq x.row.name n) refl h
     parts true e h = absurd cc
     parts false e h = ((λ same. let t = name_eq-same x.row.name n same in absurd cc), h)
 
-pub places-insert_same : (hs : List HeldRow) (i : ℕ) (h : HeldRow) → row_of (rows_alone hs) h.row.name ≡ None → places_in (insert hs i h) h.row.name ≡ h.spare
+pub places-insert_same : (hs : List RoomyRow) (i : ℕ) (h : RoomyRow) → row_of (rows_alone hs) h.row.name ≡ None → places_in (insert hs i h) h.row.name ≡ h.spare
 unfolding places_in
 places-insert_same hs zero h none = rw (name_eq-same h.row.name h.row.name refl) refl
 places-insert_same [] (suc i) h none = rw (name_eq-same h.row.name h.row.name refl) refl
@@ -163,7 +154,7 @@ places-insert_same (x ∷ hs) (suc i) h none =
     let p = absent_head x hs h.row.name none in
     rw (name_eq-other x.row.name h.row.name p.0) (places-insert_same hs i h p.1)
 
-pub places-insert_other : (hs : List HeldRow) (i : ℕ) (h : HeldRow) (n : Name) → h.row.name ≢ n → places_in (insert hs i h) n ≡ places_in hs n
+pub places-insert_other : (hs : List RoomyRow) (i : ℕ) (h : RoomyRow) (n : Name) → h.row.name ≢ n → places_in (insert hs i h) n ≡ places_in hs n
 unfolding places_in
 places-insert_other hs zero h n other = rw (name_eq-other h.row.name n other) refl
 places-insert_other [] (suc i) h n other = rw (name_eq-other h.row.name n other) refl

@@ -4,13 +4,13 @@ use Rattle.std.specs.List.{flat_map, IsDistinct}
 use Rattle.std.specs.List.Sorted.{IsStrictlySortedBy}
 use Rattle.std.proofs.lemmas.List.{take_at, length-replicate}
 use Rattle.vg_meta.specs.Tables.{Row, AreVolumes, extents_in}
-use Rattle.vg_meta.specs.Kept.{HeldRow, rows_alone}
+use Rattle.vg_meta.specs.Roomy.{RoomyRow, rows_alone}
 use Rattle.vg_meta.specs.Text.{volume_text}
 use Rattle.vg_meta.specs.Taken.{IsMarked}
 use Rattle.vg_meta.proofs.WriteLaws.{flat_map-push}
 
 -- so many volumes were read
-pub record Read (count : ℕ) (bytes rest : List ℕ) (vs : List HeldRow) (marks : List Bool) (number : ℕ) : Type 0 where
+pub record Read (count : ℕ) (bytes rest : List ℕ) (vs : List RoomyRow) (marks : List Bool) (number : ℕ) : Type 0 where
   pub read : bytes ≡ flat_map volume_text (rows_alone vs) ++ rest
   pub many : length vs ≡ number
   pub volumes : AreVolumes count (rows_alone vs)
@@ -26,15 +26,15 @@ pub no_volumes : (count : ℕ) → AreVolumes count []
 unfolding IsStrictlySortedBy IsDistinct
 no_volumes count = record { each = tt; rising = tt; below = tt; distinct = tt }
 
-pub read_first : (count : ℕ) (bytes : List ℕ) (vs : List HeldRow) (marks : List Bool) → vs ≡ [] → marks ≡ replicate count false → Read count bytes bytes vs marks 0
+pub read_first : (count : ℕ) (bytes : List ℕ) (vs : List RoomyRow) (marks : List Bool) → vs ≡ [] → marks ≡ replicate count false → Read count bytes bytes vs marks 0
 read_first count bytes vs marks none fresh =
     rw (none, fresh) (record { read = refl; many = refl; volumes = no_volumes count; long = length-replicate count false; marked = λ e _. no_marks count e })
 
-pub rows-push : (vs : List HeldRow) (v : HeldRow) → rows_alone (vs ++ v ∷ []) ≡ rows_alone vs ++ v.row ∷ []
+pub rows-push : (vs : List RoomyRow) (v : RoomyRow) → rows_alone (vs ++ v ∷ []) ≡ rows_alone vs ++ v.row ∷ []
 rows-push [] v = refl
 rows-push (x ∷ vs) v = ap (λ (l : List Row). x.row ∷ l) (rows-push vs v)
 
-pub read_more : (count : ℕ) (bytes rest after : List ℕ) (vs now : List HeldRow) (v : HeldRow) (marks new : List Bool) (i : ℕ) → Read count bytes rest vs marks i
+pub read_more : (count : ℕ) (bytes rest after : List ℕ) (vs now : List RoomyRow) (v : RoomyRow) (marks new : List Bool) (i : ℕ) → Read count bytes rest vs marks i
     → now ≡ vs ++ v ∷ [] → rest ≡ volume_text v.row ++ after → AreVolumes count (rows_alone vs ++ v.row ∷ []) → length new ≡ count
     → IsMarked (extents_in (rows_alone vs) ++ v.row.extents) new → Read count bytes after now new (i + 1)
 read_more count bytes rest after vs now v marks new i r is text volumes long marked =

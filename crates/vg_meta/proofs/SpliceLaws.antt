@@ -8,14 +8,14 @@ use Rattle.std.proofs.lemmas.Grind.{flat_map-append}
 use Rattle.std.proofs.lemmas.Option.{get_or_from_slice_get}
 use Rattle.sm_base.specs.declared.names.Name.{Name}
 use Rattle.sm_base.specs.Names.{name_cmp}
-use Rattle.vg_meta.specs.Tables.{Row, Listing, row_of, name_eq, extents_in}
-use Rattle.vg_meta.specs.Kept.{HeldRow, rows_alone, IsPlace, IsSlot}
+use Rattle.vg_meta.specs.Tables.{Row, VolumeTable, row_of, name_eq, extents_in}
+use Rattle.vg_meta.specs.Roomy.{RoomyRow, rows_alone, IsPlace, IsSlot}
 use Rattle.vg_meta.specs.Text.{volume_text, text, HasText}
 use Rattle.vg_meta.specs.declared.changes.Tag.{Tag}
 use Rattle.vg_meta.specs.declared.changes.Change.{Change}
 use Rattle.vg_meta.specs.declared.changes.Change.TheVariants.{Create, Remove, Rename, Grow, Cut, Mark}
 use Rattle.vg_meta.specs.Changes.{put, without, with_row, put_some, changed, made, renamed, grown, cut_to, tagged, AllowsIn, AllowsRemove, AllowsRename}
-use Rattle.vg_meta.specs.Writing.{Puts, HaveRoom, volumes_text}
+use Rattle.vg_meta.specs.Writing.{WritesText, HaveRoom, volumes_text}
 use Rattle.vg_meta.proofs.NameLaws.{name_eq-same}
 use Rattle.vg_meta.proofs.EditLaws.{held_name}
 use Rattle.vg_meta.proofs.PutLaws.{put_in_front, put_in_back}
@@ -46,100 +46,100 @@ room_back xs ys at end size h is = record {
 pub room_as : (xs ys : List Row) (at size : ℕ) → xs ≡ ys → HaveRoom ys at size → HaveRoom xs at size
 room_as xs ys at size e h = subst (λ (l : List Row). HaveRoom l at size) (sym e) h
 
-pub few_all : (hs : List HeldRow) (at size : ℕ) → HaveRoom (rows_alone hs) at size → AllByRecursion (λ (v : HeldRow). length v.row.extents < 2 ^ 32) hs
+pub few_all : (hs : List RoomyRow) (at size : ℕ) → HaveRoom (rows_alone hs) at size → AllByRecursion (λ (v : RoomyRow). length v.row.extents < 2 ^ 32) hs
 few_all hs at size h = few_each hs h.few
 
 -- ---- pieces one behind the other
 
-pub puts_as : (xs ys : List Row) (at end : ℕ) (old new : List ℕ) → xs ≡ ys → Puts at (volumes_text xs) old new end → Puts at (volumes_text ys) old new end
-puts_as xs ys at end old new e p = subst (λ (l : List Row). Puts at (volumes_text l) old new end) e p
+pub puts_as : (xs ys : List Row) (at end : ℕ) (old new : List ℕ) → xs ≡ ys → WritesText at (volumes_text xs) old new end → WritesText at (volumes_text ys) old new end
+puts_as xs ys at end old new e p = subst (λ (l : List Row). WritesText at (volumes_text l) old new end) e p
 
-pub rows_then : (xs ys : List Row) (at middle end : ℕ) (old half new : List ℕ) → at ≤ length old → Puts at (volumes_text xs) old half middle
-    → Puts middle (volumes_text ys) half new end → Puts at (volumes_text (xs ++ ys)) old new end
+pub rows_then : (xs ys : List Row) (at middle end : ℕ) (old half new : List ℕ) → at ≤ length old → WritesText at (volumes_text xs) old half middle
+    → WritesText middle (volumes_text ys) half new end → WritesText at (volumes_text (xs ++ ys)) old new end
 rows_then xs ys at middle end old half new within p q =
-    subst (λ (t : List ℕ). Puts at t old new end) (sym (flat_map-append volume_text xs ys))
+    subst (λ (t : List ℕ). WritesText at t old new end) (sym (flat_map-append volume_text xs ys))
     (puts_then at middle end (volumes_text xs) (volumes_text ys) old half new within p q)
 
 pub rows_between : (xs ys : List Row) (r : Row) (at first second end : ℕ) (old one two new : List ℕ) → at ≤ length old
-    → Puts at (volumes_text xs) old one first → Puts first (volume_text r) one two second → Puts second (volumes_text ys) two new end
-    → Puts at (volumes_text (xs ++ r ∷ ys)) old new end
+    → WritesText at (volumes_text xs) old one first → WritesText first (volume_text r) one two second → WritesText second (volumes_text ys) two new end
+    → WritesText at (volumes_text (xs ++ r ∷ ys)) old new end
 rows_between xs ys r at first second end old one two new within a b c =
     let ab = puts_then at first second (volumes_text xs) (volume_text r) old one two within a b in
     let abc = puts_then at second end (volumes_text xs ++ volume_text r) (volumes_text ys) old two new within ab c in
-    subst (λ (t : List ℕ). Puts at t old new end)
+    subst (λ (t : List ℕ). WritesText at t old new end)
     (append_assoc (volumes_text xs) (volume_text r) (volumes_text ys) ∙ sym (flat_map-append volume_text xs (r ∷ ys))) abc
 
 -- few extents behind the front and one more
-pub few_behind : (xs : List Row) (r : Row) (ys : List HeldRow) (at size : ℕ) → HaveRoom (xs ++ r ∷ rows_alone ys) at size
-    → AllByRecursion (λ (v : HeldRow). length v.row.extents < 2 ^ 32) ys
+pub few_behind : (xs : List Row) (r : Row) (ys : List RoomyRow) (at size : ℕ) → HaveRoom (xs ++ r ∷ rows_alone ys) at size
+    → AllByRecursion (λ (v : RoomyRow). length v.row.extents < 2 ^ 32) ys
 few_behind xs r ys at size h =
     few_each ys (omega (arith, extents-both xs (r ∷ rows_alone ys), length-append r.extents (extents_in (rows_alone ys)), h.few))
 
 -- ---- the volumes as pieces
 
-without-pieces : (hs : List HeldRow) (n : Name) (i : ℕ) (h : HeldRow) → slice_get hs i ≡ Some h → h.row.name ≡ n
-    → AllByRecursion (λ (h : HeldRow). name_eq h.row.name n ≡ false) (take i hs)
+without-pieces : (hs : List RoomyRow) (n : Name) (i : ℕ) (h : RoomyRow) → slice_get hs i ≡ Some h → h.row.name ≡ n
+    → AllByRecursion (λ (h : RoomyRow). name_eq h.row.name n ≡ false) (take i hs)
     → rows_alone (take i hs) ++ rows_alone (drop (i + 1) hs) ≡ without n (rows_alone hs)
 unfolding without
 without-pieces [] n i h at named before = absurd cc
 without-pieces (x ∷ hs) n zero h at named before =
     let same : x ≡ h = cc in
-    rw (name_eq-same x.row.name n (ap (λ (y : HeldRow). y.row.name) same ∙ named)) refl
+    rw (name_eq-same x.row.name n (ap (λ (y : RoomyRow). y.row.name) same ∙ named)) refl
 without-pieces (x ∷ hs) n (suc i) h at named before =
     let next : suc i + 1 ≡ suc (i + 1) = omega arith in
     rw (next, before.0) (ap (λ (l : List Row). x.row ∷ l) (without-pieces hs n i h at named before.1))
 
-with-pieces : (hs : List HeldRow) (n : Name) (f : Row → Row) (i : ℕ) (h : HeldRow) → slice_get hs i ≡ Some h → h.row.name ≡ n
-    → AllByRecursion (λ (h : HeldRow). name_eq h.row.name n ≡ false) (take i hs)
+with-pieces : (hs : List RoomyRow) (n : Name) (f : Row → Row) (i : ℕ) (h : RoomyRow) → slice_get hs i ≡ Some h → h.row.name ≡ n
+    → AllByRecursion (λ (h : RoomyRow). name_eq h.row.name n ≡ false) (take i hs)
     → rows_alone (take i hs) ++ f h.row ∷ rows_alone (drop (i + 1) hs) ≡ with_row n f (rows_alone hs)
 unfolding with_row
 with-pieces [] n f i h at named before = absurd cc
 with-pieces (x ∷ hs) n f zero h at named before =
     let same : x ≡ h = cc in
-    rw (name_eq-same x.row.name n (ap (λ (y : HeldRow). y.row.name) same ∙ named))
-    (ap (λ (y : HeldRow). f y.row ∷ rows_alone hs) (sym same))
+    rw (name_eq-same x.row.name n (ap (λ (y : RoomyRow). y.row.name) same ∙ named))
+    (ap (λ (y : RoomyRow). f y.row ∷ rows_alone hs) (sym same))
 with-pieces (x ∷ hs) n f (suc i) h at named before =
     let next : suc i + 1 ≡ suc (i + 1) = omega arith in
     rw (next, before.0) (ap (λ (l : List Row). x.row ∷ l) (with-pieces hs n f i h at named before.1))
 
 -- the pieces by the slices that they stand in
-pub pieces : (us vs front back : List HeldRow) (r : Row) → us ≡ front → vs ≡ back → rows_alone us ++ r ∷ rows_alone vs ≡ rows_alone front ++ r ∷ rows_alone back
+pub pieces : (us vs front back : List RoomyRow) (r : Row) → us ≡ front → vs ≡ back → rows_alone us ++ r ∷ rows_alone vs ≡ rows_alone front ++ r ∷ rows_alone back
 pieces us vs front back r e f = rw (e, f) refl
 
-pub two_pieces : (us vs front back : List HeldRow) → us ≡ front → vs ≡ back → rows_alone us ++ rows_alone vs ≡ rows_alone front ++ rows_alone back
+pub two_pieces : (us vs front back : List RoomyRow) → us ≡ front → vs ≡ back → rows_alone us ++ rows_alone vs ≡ rows_alone front ++ rows_alone back
 two_pieces us vs front back e f = rw (e, f) refl
 
 -- without the volume at its place
-pub without_place : (hs : List HeldRow) (n : Name) (i : ℕ) → IsPlace hs n i
+pub without_place : (hs : List RoomyRow) (n : Name) (i : ℕ) → IsPlace hs n i
     → rows_alone (take i hs) ++ rows_alone (drop (i + 1) hs) ≡ without n (rows_alone hs)
 without_place hs n i p = without-pieces hs n i p.held p.at (held_name hs n i p) p.before
 
 -- with the volume at its place as f makes it
-pub with_place : (hs : List HeldRow) (n : Name) (f : Row → Row) (i : ℕ) (v : HeldRow) (r : Row) → IsPlace hs n i → v ≡ get_or hs i v → r ≡ f v.row
+pub with_place : (hs : List RoomyRow) (n : Name) (f : Row → Row) (i : ℕ) (v : RoomyRow) (r : Row) → IsPlace hs n i → v ≡ get_or hs i v → r ≡ f v.row
     → rows_alone (take i hs) ++ r ∷ rows_alone (drop (i + 1) hs) ≡ with_row n f (rows_alone hs)
 with_place hs n f i v r p is made =
     let same : v ≡ p.held = is ∙ get_or_from_slice_get hs i p.held v p.at in
-    let row : r ≡ f p.held.row = made ∙ ap (λ (h : HeldRow). f h.row) same in
+    let row : r ≡ f p.held.row = made ∙ ap (λ (h : RoomyRow). f h.row) same in
     ap (λ (x : Row). rows_alone (take i hs) ++ x ∷ rows_alone (drop (i + 1) hs)) row
     ∙ with-pieces hs n f i p.held p.at (held_name hs n i p) p.before
 
-moved : (hs : List HeldRow) (n m : Name) (i : ℕ) (v : HeldRow) (r : Row) → IsPlace hs n i → v ≡ get_or hs i v → r ≡ renamed m v.row
+moved : (hs : List RoomyRow) (n m : Name) (i : ℕ) (v : RoomyRow) (r : Row) → IsPlace hs n i → v ≡ get_or hs i v → r ≡ renamed m v.row
     → put r (rows_alone (take i hs) ++ rows_alone (drop (i + 1) hs))
     ≡ put_some (row_of (rows_alone hs) n) (renamed m) (without n (rows_alone hs))
 moved hs n m i v r p is made =
     let same : v ≡ p.held = is ∙ get_or_from_slice_get hs i p.held v p.at in
-    let row : r ≡ renamed m p.held.row = made ∙ ap (λ (h : HeldRow). renamed m h.row) same in
+    let row : r ≡ renamed m p.held.row = made ∙ ap (λ (h : RoomyRow). renamed m h.row) same in
     rw (p.is.row, without_place hs n i p, row) refl
 
 -- under another name, in front of the place it had, and behind it
-pub moved_front : (hs : List HeldRow) (n m : Name) (i k : ℕ) (v : HeldRow) (r : Row) (front back : List HeldRow) → front ≡ take i hs → back ≡ drop (i + 1) hs
+pub moved_front : (hs : List RoomyRow) (n m : Name) (i k : ℕ) (v : RoomyRow) (r : Row) (front back : List RoomyRow) → front ≡ take i hs → back ≡ drop (i + 1) hs
     → IsPlace hs n i → v ≡ get_or hs i v → r ≡ renamed m v.row → IsSlot front m k → k < length front
     → put r (rows_alone front) ++ rows_alone back ≡ put_some (row_of (rows_alone hs) n) (renamed m) (without n (rows_alone hs))
 moved_front hs n m i k v r front back e f p is made s lt =
     sym (put_in_front r m front (rows_alone back) k (ap (λ (x : Row). x.name) made) s lt)
     ∙ ap (put r) (two_pieces front back (take i hs) (drop (i + 1) hs) e f) ∙ moved hs n m i v r p is made
 
-pub moved_back : (hs : List HeldRow) (n m : Name) (i k : ℕ) (v : HeldRow) (r : Row) (front back : List HeldRow) → front ≡ take i hs → back ≡ drop (i + 1) hs
+pub moved_back : (hs : List RoomyRow) (n m : Name) (i k : ℕ) (v : RoomyRow) (r : Row) (front back : List RoomyRow) → front ≡ take i hs → back ≡ drop (i + 1) hs
     → IsPlace hs n i → v ≡ get_or hs i v → r ≡ renamed m v.row → IsSlot front m k → length front ≤ k
     → rows_alone front ++ put r (rows_alone back) ≡ put_some (row_of (rows_alone hs) n) (renamed m) (without n (rows_alone hs))
 moved_back hs n m i k v r front back e f p is made s le =
@@ -202,7 +202,7 @@ count_same count rs change (inr (inr (inl (name, keep, is)))) a = rw is (sym (le
 count_same count rs change (inr (inr (inr (name, tag, on, is)))) a = rw is (sym (length-with_row rs name (tagged tag on)))
 
 -- a text that has room has room for its volumes behind the two numbers in front
-pub room_behind : (t : Listing) (at size : ℕ) → HasText t → length (text t) ≤ size → at ≡ 12 → HaveRoom t.volumes at size
+pub room_behind : (t : VolumeTable) (at size : ℕ) → HasText t → length (text t) ≤ size → at ≡ 12 → HaveRoom t.volumes at size
 room_behind t at size h fits is = record {
   few = h.extents;
   room = omega (arith, length-text t, fits, is);

@@ -10,8 +10,9 @@ use Rattle.vg_meta.specs.declared.changes.Tag.{Tag}
 use Rattle.vg_meta.specs.declared.changes.Tag.TheVariants.{Hidden, Fresh}
 use Rattle.vg_meta.specs.declared.changes.Change.{Change}
 use Rattle.vg_meta.specs.declared.changes.Change.TheVariants.{Create, Remove, Rename, Grow, Cut, Mark}
-use Rattle.vg_meta.specs.Tables.{Row, Listing, Rows, row_of, extents_in, name_eq, is_image, is_journal, is_one_of, suits, extents_of}
-use Rattle.vg_meta.specs.Kept.{Kept, places}
+use Rattle.sm_base.specs.Kinds.{is_image, is_entry}
+use Rattle.vg_meta.specs.Tables.{Row, VolumeTable, Rows, row_of, extents_in, name_eq, is_one_of, suits, extents_of}
+use Rattle.vg_meta.specs.Roomy.{RoomyTable, places}
 
 -- extents below the count that no volume has, none of them twice
 pub record AreFree (count : ℕ) (rs : List Row) (es : List ℕ) : Type 0 where
@@ -63,7 +64,7 @@ pub record AllowsRename (rs : List Row) (from to : Name) : Type 0 where
   pub there : row_of rs from ≡ Some row
   pub name_proper : IsName to
   pub new_name : row_of rs to ≡ None
-  pub same_kind : ((is_image from ≡ true) × (is_image to ≡ true)) ⊎ ((is_journal from ≡ true) × (is_journal to ≡ true))
+  pub same_kind : ((is_image from ≡ true) × (is_image to ≡ true)) ⊎ ((is_entry from ≡ true) × (is_entry to ≡ true))
 
 -- an image gets at least one free extent
 pub record AllowsGrow (count : ℕ) (rs : List Row) (name : Name) (extents : List ℕ) : Type 0 where
@@ -98,8 +99,8 @@ AllowsIn count rs (Cut name keep) = AllowsCut rs name keep
 AllowsIn count rs (Mark name tag on) = AllowsMark rs name tag on
 
 -- when a change of a table is allowed
-abbrev pub Allows : ℕ → Listing → Change → Type 0
-Allows count t change = AllowsIn count t.volumes change
+abbrev pub Permits : ℕ → VolumeTable → Change → Type 0
+Permits count t change = AllowsIn count t.volumes change
 
 -- the volumes with one more, in order of name
 unfoldable pub put : Row → List Row → List Row
@@ -135,17 +136,17 @@ abbrev pub raised : ℕ → ℕ
 raised sequence = min (sequence + 1) (2 ^ 48 - 1)
 
 -- the table that a change leaves
-abbrev pub applied : Listing → Change → Listing
+abbrev pub applied : VolumeTable → Change → VolumeTable
 applied t change = record { sequence = raised t.sequence; volumes = changed t.volumes change }
 
 -- the same by name: the names that a change speaks of
-abbrev pub Names : Change → Name → Type 0
-Names (Create name fresh extents) n = n ≡ name
-Names (Remove name) n = n ≡ name
-Names (Rename from to) n = (n ≡ from) ⊎ (n ≡ to)
-Names (Grow name extents) n = n ≡ name
-Names (Cut name keep) n = n ≡ name
-Names (Mark name tag on) n = n ≡ name
+abbrev pub SpeaksOf : Change → Name → Type 0
+SpeaksOf (Create name fresh extents) n = n ≡ name
+SpeaksOf (Remove name) n = n ≡ name
+SpeaksOf (Rename from to) n = (n ≡ from) ⊎ (n ≡ to)
+SpeaksOf (Grow name extents) n = n ≡ name
+SpeaksOf (Cut name keep) n = n ≡ name
+SpeaksOf (Mark name tag on) n = n ≡ name
 
 -- extents below the count that no volume has, by name
 pub record AreUnused (count : ℕ) (vs : Rows) (es : List ℕ) : Type 0 where
@@ -165,10 +166,10 @@ Does count (Mark name tag on) old new = (r : Row) × (old name ≡ Some r) × (n
 -- a change of the volumes by name
 pub record Changes (count : ℕ) (change : Change) (old new : Rows) : Type 0 where
   pub does : Does count change old new
-  pub others : (n : Name) → (Names change n → ⊥) → new n ≡ old n
+  pub others : (n : Name) → (SpeaksOf change n → ⊥) → new n ≡ old n
 
 -- a Create wants a spare row, and a Grow spare places of its volume
-abbrev pub HasRoom : Kept → Change → Type 0
+abbrev pub HasRoom : RoomyTable → Change → Type 0
 HasRoom k (Create name fresh extents) = 0 < k.spare
 HasRoom k (Remove name) = Unit {0}
 HasRoom k (Rename from to) = Unit {0}

@@ -5,6 +5,6 @@ use Rattle.vg_meta.specs.declared.faults.DecodeFault.TheVariants.{Damaged, NoMem
 use Rattle.vg_meta.specs.Reading.{IsDamagedAt, told}
 
 -- the bytes are damaged, first at a place, which is told; want of memory is free
-abbrev pub IsFault : ℕ → List ℕ → DecodeFault → Type 0
-IsFault count bytes (Damaged at) = (place : ℕ) × IsDamagedAt count bytes place × (at ≡ told place)
-IsFault count bytes NoMemory = Unit {0}
+abbrev pub IsDecodeFault : ℕ → List ℕ → DecodeFault → Type 0
+IsDecodeFault count bytes (Damaged at) = (place : ℕ) × IsDamagedAt count bytes place × (at ≡ told place)
+IsDecodeFault count bytes NoMemory = Unit {0}

@@ -2,7 +2,7 @@ pub mod Changes
 pub mod Faults
 pub mod Growth
 pub mod Held
-pub mod Kept
+pub mod Roomy
 pub mod Proper
 pub mod Reading
 pub mod Stopped

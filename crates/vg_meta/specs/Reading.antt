@@ -5,11 +5,11 @@
 use Rattle.std.specs.Prelude.{◌≡◌, ◌≢◌, ℕ, ◌-◌, ◌<◌, ◌^◌, min, List, [], ◌∷◌, ◌++◌, length}
 use Rattle.std.specs.List.{flat_map}
 use Rattle.byteorder.specs.Endian.{big_bytes}
-use Rattle.vg_meta.specs.Tables.{Row, Listing, IsTable, AreVolumes}
+use Rattle.vg_meta.specs.Tables.{Row, VolumeTable, IsTable, AreVolumes}
 use Rattle.vg_meta.specs.Text.{text, volume_text, HasText}
 
 -- the bytes are the text of the table
-pub record Spells (count : ℕ) (bytes : List ℕ) (t : Listing) : Type 0 where
+pub record Spells (count : ℕ) (bytes : List ℕ) (t : VolumeTable) : Type 0 where
   pub spelled : bytes ≡ text t
   pub table : IsTable count t
   pub fits : HasText t

@@ -8,6 +8,7 @@ use Rattle.std.specs.List.Sorted.{IsStrictlySortedBy}
 use Rattle.sm_base.specs.declared.names.Name.{Name}
 use Rattle.sm_base.specs.declared.names.Name.TheVariants.{Mgt, Vhd, Raw, Old, Clone, Inflate, Coalesce, Relink, Leaf}
 use Rattle.sm_base.specs.Names.{IsName, name_cmp}
+use Rattle.sm_base.specs.Kinds.{is_image, is_entry}
 
 -- a volume
 pub record Row : Type 0 where
@@ -17,33 +18,9 @@ pub record Row : Type 0 where
   pub extents : List ℕ
 
 -- a table
-pub record Listing : Type 0 where
+pub record VolumeTable : Type 0 where
   pub sequence : ℕ
   pub volumes : List Row
-
--- an image holds the data of a disk
-abbrev pub is_image : Name → Bool
-is_image Mgt = false
-is_image (Vhd u) = true
-is_image (Raw u) = true
-is_image (Old u) = true
-is_image (Clone disk base twin) = false
-is_image (Inflate image extents) = false
-is_image (Coalesce child parent) = false
-is_image (Relink child parent) = false
-is_image (Leaf leaf parent) = false
-
--- a journal entry says all in its name
-abbrev pub is_journal : Name → Bool
-is_journal Mgt = false
-is_journal (Vhd u) = false
-is_journal (Raw u) = false
-is_journal (Old u) = false
-is_journal (Clone disk base twin) = true
-is_journal (Inflate image extents) = true
-is_journal (Coalesce child parent) = true
-is_journal (Relink child parent) = true
-is_journal (Leaf leaf parent) = true
 
 -- whether two names are the same
 unfoldable pub name_eq : Name → Name → Bool
@@ -62,7 +39,7 @@ name_eq _ _ = false
 abbrev pub suits : Row → Bool
 suits r =
     if is_image r.name then nat_lt 0 (length r.extents)
-    else not r.hidden && (not r.fresh && (not (is_journal r.name) || (length r.extents == 0)))
+    else not r.hidden && (not r.fresh && (not (is_entry r.name) || (length r.extents == 0)))
 
 -- what a volume of a table is
 pub record IsVolume (r : Row) : Type 0 where
@@ -77,7 +54,7 @@ names_of rs = map (λ r. r.name) rs
 abbrev pub extents_in : List Row → List ℕ
 extents_in rs = flat_map (λ r. r.extents) rs
 
-abbrev pub used : Listing → List ℕ
+abbrev pub used : VolumeTable → List ℕ
 used t = extents_in t.volumes
 
 -- volumes in strictly rising order of name; each extent is below the count, and no extent stands twice
@@ -88,7 +65,7 @@ pub record AreVolumes (count : ℕ) (rs : List Row) : Type 0 where
   pub distinct : IsDistinct nat_eq (extents_in rs)
 
 -- what each table is, where extents are counted up to a count
-pub record IsTable (count : ℕ) (t : Listing) : Type 0 where
+pub record IsTable (count : ℕ) (t : VolumeTable) : Type 0 where
   pub sequence : t.sequence < 2 ^ 48
   pub volumes : AreVolumes count t.volumes
 
@@ -101,7 +78,7 @@ unfoldable pub row_of : List Row → Rows
 row_of [] n = None
 row_of (r ∷ rs) n = if name_eq r.name n then Some r else row_of rs n
 
-abbrev pub rows : Listing → Rows
+abbrev pub rows : VolumeTable → Rows
 rows t = row_of t.volumes
 
 -- the extents of a volume, where it is there
@@ -120,11 +97,11 @@ abbrev pub is_one_of : List ℕ → ℕ → Bool
 is_one_of es e = list_any (λ x. x == e) es
 
 -- the extents below the count that no volume has, rising
-unfoldable pub free : ℕ → Listing → List ℕ
+unfoldable pub free : ℕ → VolumeTable → List ℕ
 free count t = filter (λ e. not (is_one_of (used t) e)) (range_with_len 0 count)
 
 -- the table of a new group: the volume of the records alone, on the first extents
-abbrev pub new_table : ℕ → Listing
+abbrev pub new_table : ℕ → VolumeTable
 new_table extents = record {
   sequence = 1;
   volumes = record { name = Mgt; hidden = false; fresh = false; extents = range_with_len 0 extents } ∷ [];

@@ -6,7 +6,7 @@ use Rattle.std.specs.Prelude.{ℕ, ◌<◌, ◌^◌, List, ◌∷◌, ◌++◌, 
 use Rattle.std.specs.List.{flat_map}
 use Rattle.byteorder.specs.Endian.{big_bytes}
 use Rattle.sm_base.specs.Names.{spelling}
-use Rattle.vg_meta.specs.Tables.{Row, Listing, used}
+use Rattle.vg_meta.specs.Tables.{Row, VolumeTable, used}
 
 -- the flags
 abbrev pub flags_of : Bool → Bool → ℕ
@@ -24,10 +24,10 @@ unfoldable pub volume_text : Row → List ℕ
 volume_text r = length (spelling r.name) ∷ spelling r.name ++ (flags_of r.hidden r.fresh ∷ extents_text r.extents)
 
 -- a table
-unfoldable pub text : Listing → List ℕ
+unfoldable pub text : VolumeTable → List ℕ
 text t = big_bytes 8 t.sequence ++ (big_bytes 4 (length t.volumes) ++ flat_map volume_text t.volumes)
 
 -- the numbers of volumes and of extents have room in their bytes
-pub record HasText (t : Listing) : Type 0 where
+pub record HasText (t : VolumeTable) : Type 0 where
   pub volumes : length t.volumes < 2 ^ 32
   pub extents : length (used t) < 2 ^ 32

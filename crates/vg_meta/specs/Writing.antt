@@ -6,7 +6,7 @@ use Rattle.vg_meta.specs.Tables.{Row, extents_in}
 use Rattle.vg_meta.specs.Text.{volume_text}
 
 -- the text was written at a place: all else is as it was, and the end is the place behind the text
-pub record Puts (at : ℕ) (text old new : List ℕ) (end : ℕ) : Type 0 where
+pub record WritesText (at : ℕ) (text old new : List ℕ) (end : ℕ) : Type 0 where
   pub written : new ≡ placed at text old
   pub behind : end ≡ at + length text
 

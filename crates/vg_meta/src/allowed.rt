@@ -2,12 +2,12 @@
 
 ghost use Rattle.std.specs.Prelude.{◌≡◌, ◌↔◌, IsTrue, is_some, nat_lt, length};
 ghost use Rattle.vg_meta.specs.Tables.{Row, row_of, suits};
-ghost use Rattle.vg_meta.specs.Kept.{rows_alone};
+ghost use Rattle.vg_meta.specs.Roomy.{rows_alone};
 ghost use Rattle.vg_meta.specs.Changes.{AllowsIn, AllowsCreate, AllowsRemove, AllowsRename, AllowsGrow, AllowsCut, AllowsMark};
 
 use crate::changes::{Change, Tag};
 use crate::free::are_free;
-use crate::kinds::{holds_data, is_entry, is_proper};
+use crate::names::is_proper;
 use crate::volumes::{Volume, named};
 use sm_base::Name;
 
@@ -33,10 +33,10 @@ pub fn is_allowed(volumes: &[Volume], change: &Change, count: u32) -> bool
 pub fn suits_kind(name: &Name, hidden: bool, fresh: bool, extents: &[u32]) -> bool
     ensures { let r : Row = record { name = name.now; hidden = hidden; fresh = fresh; extents = extents.now } in result ≡ suits r }
 {
-    if holds_data(name) {
+    if name.is_image() {
         !extents.is_empty()
     } else {
-        !hidden && !fresh && (!is_entry(name) || extents.is_empty())
+        !hidden && !fresh && (!name.is_entry() || extents.is_empty())
     }
 }
 
@@ -65,8 +65,8 @@ fn may_remove(volumes: &[Volume], name: &Name) -> bool
 fn may_rename(volumes: &[Volume], from: &Name, to: &Name) -> bool
     ensures { IsTrue result ↔ AllowsRename (rows_alone volumes.now) from.now to.now }
 {
-    let both_images = holds_data(from) && holds_data(to);
-    let both_entries = is_entry(from) && is_entry(to);
+    let both_images = from.is_image() && to.is_image();
+    let both_entries = from.is_entry() && to.is_entry();
     is_there(volumes, from)
         && is_proper(to)
         && !is_there(volumes, to)
@@ -77,7 +77,7 @@ fn may_grow(volumes: &[Volume], name: &Name, extents: &[u32], count: u32) -> boo
     ensures { IsTrue result ↔ AllowsGrow count (rows_alone volumes.now) name.now extents.now }
 {
     is_there(volumes, name)
-        && holds_data(name)
+        && name.is_image()
         && !extents.is_empty()
         && are_free(volumes, extents, count)
 }
@@ -88,7 +88,7 @@ fn may_cut(volumes: &[Volume], name: &Name, keep: u32) -> bool
     let Some(volume) = named(volumes, name) else {
         return false;
     };
-    holds_data(name) && keep > 0 && (keep as usize) < volume.extents().len()
+    name.is_image() && keep > 0 && (keep as usize) < volume.extents().len()
 }
 
 fn may_mark(volumes: &[Volume], name: &Name, tag: Tag, on: bool) -> bool
@@ -97,5 +97,5 @@ fn may_mark(volumes: &[Volume], name: &Name, tag: Tag, on: bool) -> bool
     let Some(volume) = named(volumes, name) else {
         return false;
     };
-    holds_data(name) && volume.has(tag) != on
+    name.is_image() && volume.has(tag) != on
 }

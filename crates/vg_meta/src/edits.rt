@@ -3,7 +3,7 @@
 ghost use Rattle.std.specs.Prelude.{◌≡◌, ◌≢◌, ◌≤◌, ◌<◌, ◌+◌, ◌-◌, ◌^◌, ◌++◌, ◌∷◌, take, drop, None, Some, IsSome, OnOk, OnErr, length, vec_len, vec_capacity};
 ghost use Rattle.sm_base.specs.declared.names.Name.{Name};
 ghost use Rattle.vg_meta.specs.Tables.{Row, row_of, names_of};
-ghost use Rattle.vg_meta.specs.Kept.{rows_alone, places_in, IsSlot};
+ghost use Rattle.vg_meta.specs.Roomy.{rows_alone, places_in, IsSlot};
 ghost use Rattle.vg_meta.specs.Changes.{put, without, with_row, grown, cut_to, tagged, AllowsIn, HasRoom, changed, spare_after, places_after};
 ghost use Rattle.vg_meta.specs.Held.{held};
 ghost use Rattle.std.specs.List.Sorted.{IsStrictlySortedBy};
@@ -110,7 +110,7 @@ pub fn put_in(volumes: &mut Vec<Volume>, volume: Volume)
 pub fn reserve_for(volumes: &mut Vec<Volume>, name: &Name, more: usize) -> Result<(), NoMemory>
     requires { IsSome (row_of (rows_alone volumes.old.items) name.now) }
     ensures rows { rows_alone volumes.new.items ≡ rows_alone volumes.old.items }
-    ensures kept { places_in volumes.old.items name.now ≤ places_in volumes.new.items name.now }
+    ensures no_fewer { places_in volumes.old.items name.now ≤ places_in volumes.new.items name.now }
     ensures others { (n : Name) → name.now ≢ n → places_in volumes.new.items n ≡ places_in volumes.old.items n }
     ensures ok { OnOk result (more ≤ places_in volumes.new.items name.now) }
     ensures err { OnErr result (volumes.new.items ≡ volumes.old.items) }

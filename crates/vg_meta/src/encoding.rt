@@ -3,9 +3,9 @@
 ghost use Rattle.std.specs.Prelude.{◌≡◌, ◌≤◌, ◌<◌, ◌+◌, ◌-◌, ◌^◌, ◌++◌, min, length};
 ghost use Rattle.std.specs.List.{flat_map, AllByRecursion};
 ghost use Rattle.byteorder.specs.Endian.{big_bytes};
-ghost use Rattle.vg_meta.specs.Kept.{rows_alone};
+ghost use Rattle.vg_meta.specs.Roomy.{rows_alone};
 ghost use Rattle.vg_meta.specs.Text.{flags_of, extents_text, volume_text};
-ghost use Rattle.vg_meta.specs.Writing.{Puts};
+ghost use Rattle.vg_meta.specs.Writing.{WritesText};
 
 use crate::entries::Entry;
 use crate::volumes::Volume;
@@ -13,7 +13,7 @@ use byteorder::{BigEndian, ByteOrder};
 
 fn put_bytes(to: &mut [u8], at: usize, bytes: &[u8]) -> usize
     requires { at + length bytes.now ≤ length to.old }
-    ensures { Puts at bytes.now to.old to.new result }
+    ensures { WritesText at bytes.now to.old to.new result }
 {
     let end = at + bytes.len();
     to[at..end].copy_from_slice(bytes);
@@ -23,7 +23,7 @@ fn put_bytes(to: &mut [u8], at: usize, bytes: &[u8]) -> usize
 /// Writes a number of 4 bytes at a place, and answers the place behind it.
 pub fn put_number(to: &mut [u8], at: usize, number: u32) -> usize
     requires { at + 4 ≤ length to.old }
-    ensures { Puts at (big_bytes 4 number) to.old to.new result }
+    ensures { WritesText at (big_bytes 4 number) to.old to.new result }
 {
     let mut bytes = [0; 4];
     BigEndian::write_u32(&mut bytes, number);
@@ -33,7 +33,7 @@ pub fn put_number(to: &mut [u8], at: usize, number: u32) -> usize
 /// Writes a sequence number at a place, and answers the place behind it.
 pub fn put_sequence(to: &mut [u8], at: usize, sequence: u64) -> usize
     requires { at + 8 ≤ length to.old }
-    ensures { Puts at (big_bytes 8 sequence) to.old to.new result }
+    ensures { WritesText at (big_bytes 8 sequence) to.old to.new result }
 {
     let mut bytes = [0; 8];
     BigEndian::write_u64(&mut bytes, sequence);
@@ -54,7 +54,7 @@ fn flags(hidden: bool, fresh: bool) -> u8
 // Writes numbers of 4 bytes each at a place, and answers the place behind them.
 fn put_numbers(to: &mut [u8], at: usize, numbers: &[u32]) -> usize
     requires { at + length (flat_map (big_bytes 4) numbers.now) ≤ length to.old }
-    ensures { Puts at (flat_map (big_bytes 4) numbers.now) to.old to.new result }
+    ensures { WritesText at (flat_map (big_bytes 4) numbers.now) to.old to.new result }
 {
     let mut end = at;
     for number in numbers {
@@ -67,7 +67,7 @@ fn put_numbers(to: &mut [u8], at: usize, numbers: &[u32]) -> usize
 fn put_extents(to: &mut [u8], at: usize, extents: &[u32], more: &[u32]) -> usize
     requires few { length (extents.now ++ more.now) < 2 ^ 32 }
     requires room { at + length (extents_text (extents.now ++ more.now)) ≤ length to.old }
-    ensures { Puts at (extents_text (extents.now ++ more.now)) to.old to.new result }
+    ensures { WritesText at (extents_text (extents.now ++ more.now)) to.old to.new result }
 {
     let count = extents.len() + more.len();
     let extents_at = put_number(to, at, count as u32);
@@ -79,7 +79,7 @@ fn put_extents(to: &mut [u8], at: usize, extents: &[u32], more: &[u32]) -> usize
 pub fn put_entry(to: &mut [u8], at: usize, entry: &Entry) -> usize
     requires few { length entry.now.extents < 2 ^ 32 }
     requires room { at + length (volume_text entry.now) ≤ length to.old }
-    ensures { Puts at (volume_text entry.now) to.old to.new result }
+    ensures { WritesText at (volume_text entry.now) to.old to.new result }
 {
     let mut name = [0; 128];
     let size = entry.name().spell(&mut name);
@@ -95,7 +95,7 @@ pub fn put_entry(to: &mut [u8], at: usize, entry: &Entry) -> usize
 fn put_volume(to: &mut [u8], at: usize, volume: &Volume) -> usize
     requires few { length volume.now.row.extents < 2 ^ 32 }
     requires room { at + length (volume_text volume.now.row) ≤ length to.old }
-    ensures { Puts at (volume_text volume.now.row) to.old to.new result }
+    ensures { WritesText at (volume_text volume.now.row) to.old to.new result }
 {
     put_entry(to, at, &Entry::of(volume))
 }
@@ -104,7 +104,7 @@ fn put_volume(to: &mut [u8], at: usize, volume: &Volume) -> usize
 pub fn put_volumes(to: &mut [u8], at: usize, volumes: &[Volume]) -> usize
     requires few { AllByRecursion (λ v. length v.row.extents < 2 ^ 32) volumes.now }
     requires room { at + length (flat_map volume_text (rows_alone volumes.now)) ≤ length to.old }
-    ensures { Puts at (flat_map volume_text (rows_alone volumes.now)) to.old to.new result }
+    ensures { WritesText at (flat_map volume_text (rows_alone volumes.now)) to.old to.new result }
 {
     let mut end = at;
     for volume in volumes {

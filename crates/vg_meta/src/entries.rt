@@ -1,6 +1,7 @@
 //! A volume as it is to be written.
 
-ghost use Rattle.std.specs.Prelude.{◌≡◌, ◌++◌};
+ghost use Rattle.std.specs.Prelude.{◌≡◌, ◌-◌, ◌^◌, ◌++◌, min, length};
+ghost use Rattle.vg_meta.specs.Text.{volume_text};
 ghost use Rattle.vg_meta.specs.Changes.{made, grown, cut_to, renamed, tagged};
 
 use crate::changes::Tag;
@@ -120,6 +121,16 @@ impl<'a> Entry<'a> {
         ensures { result ≡ self.now.fresh }
     {
         self.fresh
+    }
+
+    /// The length of the volume's text in bytes, or the greatest `usize` where it passes that.
+    pub fn text_length(&self) -> usize
+        ensures { result ≡ min (length (volume_text self.now)) (2 ^ 64 - 1) }
+    {
+        let mut name = [0; 128];
+        let size = self.name.spell(&mut name);
+        let extents = self.extents.len().saturating_add(self.more.len());
+        extents.saturating_mul(4).saturating_add(size + 6)
     }
 
     /// The extents, in two slices.

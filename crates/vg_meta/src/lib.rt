@@ -6,12 +6,12 @@
 //!
 //! **The model** (`specs/`). `Tables` says what a table is, `Changes` which changes are allowed and what table each
 //! leaves, `Text` how a table is spelled, number by number, and `Reading` where a text that spells none goes
-//! wrong first. `Kept` has beside the table the rows, and the extents of each volume, that may still be added
+//! wrong first. `Roomy` has beside the table the rows, and the extents of each volume, that may still be added
 //! without memory.
 //!
 //! **What it promises.** A table is at all times a table: names rise, and no extent belongs to two volumes.
-//! [`Table::allows`] answers exactly whether a change is allowed, and [`Table::apply`] leaves exactly the changed
-//! table, without memory where room was made before. [`Table::encode_changed`] writes the text of the table that a
+//! [`Table::allows`] answers exactly whether a change is allowed, [`Table::fits`] whether the text is then short
+//! enough, and [`Table::apply`] leaves exactly the changed table, without memory where room was made before. [`Table::encode_changed`] writes the text of the table that a
 //! change would leave, and leaves the table as it is. [`Table::decode`] reads exactly the texts that
 //! [`Table::encode`] writes; of other bytes it says where the first part stands that does not fit. Lengths and
 //! places are in bytes, extents are counted. Finding a volume costs a pass over the names, and writing or reading
@@ -26,7 +26,8 @@ mod encoding;
 mod entries;
 mod faults;
 mod free;
-mod kinds;
+mod lengths;
+mod names;
 mod reading;
 mod splices;
 mod tables;

@@ -6,11 +6,11 @@ ghost use Rattle.std.specs.List.Sorted.{IsStrictlySortedBy};
 ghost use Rattle.std.specs.declared.cmp.Ordering.TheVariants.{Less};
 ghost use Rattle.sm_base.specs.Names.{name_cmp};
 ghost use Rattle.vg_meta.specs.Tables.{Row, AreVolumes, names_of, extents_in};
-ghost use Rattle.vg_meta.specs.Kept.{rows_alone};
+ghost use Rattle.vg_meta.specs.Roomy.{rows_alone};
 ghost use Rattle.vg_meta.specs.Text.{volume_text};
 ghost use Rattle.vg_meta.specs.Taken.{IsMarked, are_new};
 ghost use Rattle.vg_meta.specs.Unread.{IsUnread};
-ghost use Rattle.vg_meta.specs.Stopped.{IsStopped};
+ghost use Rattle.vg_meta.specs.Stopped.{StopsReading};
 
 use crate::decoding::{Unread, volume_at};
 use crate::volumes::Volume;
@@ -93,7 +93,7 @@ pub fn volumes_at(
     ensures text { IfOk result (λ x. bytes.now ≡ flat_map volume_text (rows_alone x.0.items) ++ x.1.now) }
     ensures number { IfOk result (λ x. length x.0.items ≡ number) }
     ensures volumes { IfOk result (λ x. AreVolumes count (rows_alone x.0.items)) }
-    ensures damaged { IfErr result (λ e. IsStopped count number bytes.now e) }
+    ensures damaged { IfErr result (λ e. StopsReading count number bytes.now e) }
 {
     let Ok(mut met) = vec![in alloc; false; count as usize] else {
         return Err(Stopped::NoMemory);

@@ -6,17 +6,16 @@
 
 ghost use Rattle.std.specs.Prelude.{◌≡◌, ◌<◌, ◌+◌, ◌^◌, ◌++◌, ◌∷◌, take, drop, IsSome, length};
 ghost use Rattle.vg_meta.specs.Tables.{row_of};
-ghost use Rattle.vg_meta.specs.Kept.{rows_alone};
+ghost use Rattle.vg_meta.specs.Roomy.{rows_alone};
 ghost use Rattle.vg_meta.specs.Changes.{put, without, with_row, put_some, renamed, grown, cut_to, tagged, changed, AllowsIn, raised as raised_of};
-ghost use Rattle.vg_meta.specs.Writing.{Puts, HaveRoom, volumes_text};
+ghost use Rattle.vg_meta.specs.Writing.{WritesText, HaveRoom, volumes_text};
 
 use crate::changes::{Change, Tag};
 use crate::edits::slot;
 use crate::encoding::{put_entry, put_volumes};
 use crate::entries::Entry;
-use crate::tables::LAST_SEQUENCE;
 use crate::volumes::{Volume, place};
-use sm_base::Name;
+use sm_base::{LAST_SEQUENCE, Name};
 
 /// The sequence number that a change leaves.
 pub fn raised(sequence: u64) -> u64
@@ -48,7 +47,7 @@ pub fn changed_count(volumes: &[Volume], change: &Change) -> usize
 pub fn put_changed(to: &mut [u8], at: usize, volumes: &[Volume], change: &Change) -> usize
     requires allowed { AllowsIn (2 ^ 32) (rows_alone volumes.now) change.now }
     requires room { HaveRoom (changed (rows_alone volumes.now) change.now) at (length to.old) }
-    ensures { Puts at (volumes_text (changed (rows_alone volumes.now) change.now)) to.old to.new result }
+    ensures { WritesText at (volumes_text (changed (rows_alone volumes.now) change.now)) to.old to.new result }
 {
     match change {
         Change::Create {
@@ -70,7 +69,7 @@ pub fn put_changed(to: &mut [u8], at: usize, volumes: &[Volume], change: &Change
 // Writes a volume between others.
 fn put_between(to: &mut [u8], at: usize, front: &[Volume], entry: &Entry, back: &[Volume]) -> usize
     requires { HaveRoom (rows_alone front.now ++ entry.now ∷ rows_alone back.now) at (length to.old) }
-    ensures { Puts at (volumes_text (rows_alone front.now ++ entry.now ∷ rows_alone back.now)) to.old to.new result }
+    ensures { WritesText at (volumes_text (rows_alone front.now ++ entry.now ∷ rows_alone back.now)) to.old to.new result }
 {
     let entry_at = put_volumes(to, at, front);
     let back_at = put_entry(to, entry_at, entry);
@@ -81,7 +80,7 @@ fn put_between(to: &mut [u8], at: usize, front: &[Volume], entry: &Entry, back: 
 fn put_in_stead(to: &mut [u8], at: usize, volumes: &[Volume], index: usize, entry: &Entry) -> usize
     requires within { index < length volumes.now }
     requires room { HaveRoom (rows_alone (take index volumes.now) ++ entry.now ∷ rows_alone (drop (index + 1) volumes.now)) at (length to.old) }
-    ensures { Puts at (volumes_text (rows_alone (take index volumes.now) ++ entry.now ∷ rows_alone (drop (index + 1) volumes.now))) to.old to.new result }
+    ensures { WritesText at (volumes_text (rows_alone (take index volumes.now) ++ entry.now ∷ rows_alone (drop (index + 1) volumes.now))) to.old to.new result }
 {
     let (front, _) = volumes.split_at(index);
     let (_, back) = volumes.split_at(index + 1);
@@ -91,7 +90,7 @@ fn put_in_stead(to: &mut [u8], at: usize, volumes: &[Volume], index: usize, entr
 // Writes the volumes with one more, in order of name.
 fn put_created(to: &mut [u8], at: usize, volumes: &[Volume], entry: &Entry) -> usize
     requires { HaveRoom (put entry.now (rows_alone volumes.now)) at (length to.old) }
-    ensures { Puts at (volumes_text (put entry.now (rows_alone volumes.now))) to.old to.new result }
+    ensures { WritesText at (volumes_text (put entry.now (rows_alone volumes.now))) to.old to.new result }
 {
     let (front, back) = volumes.split_at(slot(volumes, &entry.name()));
     put_between(to, at, front, entry, back)
@@ -101,7 +100,7 @@ fn put_created(to: &mut [u8], at: usize, volumes: &[Volume], entry: &Entry) -> u
 fn put_removed(to: &mut [u8], at: usize, volumes: &[Volume], name: &Name) -> usize
     requires there { IsSome (row_of (rows_alone volumes.now) name.now) }
     requires room { HaveRoom (without name.now (rows_alone volumes.now)) at (length to.old) }
-    ensures { Puts at (volumes_text (without name.now (rows_alone volumes.now))) to.old to.new result }
+    ensures { WritesText at (volumes_text (without name.now (rows_alone volumes.now))) to.old to.new result }
 {
     let Some(index) = place(volumes, name) else {
         unreachable!()
@@ -116,7 +115,7 @@ fn put_removed(to: &mut [u8], at: usize, volumes: &[Volume], name: &Name) -> usi
 fn put_renamed(to: &mut [u8], at: usize, volumes: &[Volume], from: &Name, other: &Name) -> usize
     requires there { IsSome (row_of (rows_alone volumes.now) from.now) }
     requires room { HaveRoom (put_some (row_of (rows_alone volumes.now) from.now) (renamed other.now) (without from.now (rows_alone volumes.now))) at (length to.old) }
-    ensures { Puts at (volumes_text (put_some (row_of (rows_alone volumes.now) from.now) (renamed other.now) (without from.now (rows_alone volumes.now)))) to.old to.new result }
+    ensures { WritesText at (volumes_text (put_some (row_of (rows_alone volumes.now) from.now) (renamed other.now) (without from.now (rows_alone volumes.now)))) to.old to.new result }
 {
     let Some(index) = place(volumes, from) else {
         unreachable!()
@@ -138,7 +137,7 @@ fn put_renamed(to: &mut [u8], at: usize, volumes: &[Volume], from: &Name, other:
 fn put_grown(to: &mut [u8], at: usize, volumes: &[Volume], name: &Name, extents: &[u32]) -> usize
     requires there { IsSome (row_of (rows_alone volumes.now) name.now) }
     requires room { HaveRoom (with_row name.now (grown extents.now) (rows_alone volumes.now)) at (length to.old) }
-    ensures { Puts at (volumes_text (with_row name.now (grown extents.now) (rows_alone volumes.now))) to.old to.new result }
+    ensures { WritesText at (volumes_text (with_row name.now (grown extents.now) (rows_alone volumes.now))) to.old to.new result }
 {
     let Some(index) = place(volumes, name) else {
         unreachable!()
@@ -151,7 +150,7 @@ fn put_grown(to: &mut [u8], at: usize, volumes: &[Volume], name: &Name, extents:
 fn put_cut(to: &mut [u8], at: usize, volumes: &[Volume], name: &Name, keep: usize) -> usize
     requires there { IsSome (row_of (rows_alone volumes.now) name.now) }
     requires room { HaveRoom (with_row name.now (cut_to keep) (rows_alone volumes.now)) at (length to.old) }
-    ensures { Puts at (volumes_text (with_row name.now (cut_to keep) (rows_alone volumes.now))) to.old to.new result }
+    ensures { WritesText at (volumes_text (with_row name.now (cut_to keep) (rows_alone volumes.now))) to.old to.new result }
 {
     let Some(index) = place(volumes, name) else {
         unreachable!()
@@ -171,7 +170,7 @@ fn put_marked(
 ) -> usize
     requires there { IsSome (row_of (rows_alone volumes.now) name.now) }
     requires room { HaveRoom (with_row name.now (tagged tag on) (rows_alone volumes.now)) at (length to.old) }
-    ensures { Puts at (volumes_text (with_row name.now (tagged tag on) (rows_alone volumes.now))) to.old to.new result }
+    ensures { WritesText at (volumes_text (with_row name.now (tagged tag on) (rows_alone volumes.now))) to.old to.new result }
 {
     let Some(index) = place(volumes, name) else {
         unreachable!()

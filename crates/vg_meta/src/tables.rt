@@ -1,30 +1,28 @@
 //! The table of the group.
 
-ghost use Rattle.std.specs.Prelude.{◌≡◌, ◌≤◌, ◌+◌, ◌<◌, ◌^◌, ◌-◌, ◌++◌, ◌↔◌, min, length, drop, IsTrue, None, IsSome, IfSome, IfNone, IfOk, IfErr, OnOk, OnErr};
+ghost use Rattle.std.specs.Prelude.{◌≡◌, ◌≤◌, ◌+◌, ◌<◌, ◌^◌, ◌-◌, ◌++◌, ◌↔◌, min, length, drop, IsTrue, [], None, IsSome, IfSome, IfNone, IfOk, IfErr, OnOk, OnErr};
 ghost use Rattle.sm_base.specs.declared.names.Name.{Name};
 ghost use Rattle.std.specs.List.{range_with_len};
 ghost use Rattle.vg_meta.specs.Tables.{IsTable, rows, new_table};
-ghost use Rattle.vg_meta.specs.Kept.{listing, places, IsHeld, IsPlace};
+ghost use Rattle.vg_meta.specs.Roomy.{table_alone, places, IsHeld, IsPlace};
 ghost use Rattle.vg_meta.specs.Text.{text, HasText};
 ghost use Rattle.vg_meta.specs.Reading.{Spells, told as told_of};
-ghost use Rattle.vg_meta.specs.Faults.{IsFault};
-ghost use Rattle.vg_meta.specs.Changes.{Allows, HasRoom, applied, spare_after, places_after};
+ghost use Rattle.vg_meta.specs.Faults.{IsDecodeFault};
+ghost use Rattle.vg_meta.specs.Changes.{Permits, HasRoom, applied, spare_after, places_after};
 
 use crate::allowed::is_allowed;
-use crate::changes::Change;
+use crate::changes::{Change, Extents};
 use crate::decoding::{long_number_at, number_at};
 use crate::edits::{apply_to, reserve_for};
 use crate::encoding::{put_number, put_sequence, put_volumes, volumes_length};
 use crate::faults::DecodeFault;
+use crate::lengths::changed_length;
 use crate::reading::{Stopped, volumes_at};
 use crate::splices::{changed_count, put_changed, raised};
 use crate::volumes::{Volume, named, place};
-use sm_base::{Name, NoMemory};
+use sm_base::{LAST_SEQUENCE, Name, NoMemory, TEXT_LIMIT};
 use std::alloc::Global;
 use std::marker::Model;
-
-/// The last sequence number, which a change leaves.
-pub const LAST_SEQUENCE: u64 = (1 << 48) - 1;
 
 /// The table: its sequence number, and the volumes in order of name. A contract sees both, and how many rows
 /// may be added without memory.
@@ -36,21 +34,21 @@ pub struct Table {
 
 impl Model for Table {
     ghost use Rattle.std.specs.Prelude.{ℕ, ◌^◌, ◌-◌, vec_capacity, vec_len};
-    ghost use Rattle.vg_meta.specs.Kept.{Kept, listing};
+    ghost use Rattle.vg_meta.specs.Roomy.{RoomyTable, table_alone};
     ghost use Rattle.vg_meta.specs.Tables.{IsTable};
 
-    ghost Value = { Kept };
+    ghost Value = { RoomyTable };
 
     ghost view = { λ t. record { sequence = t.seq; rows = t.volumes.items; spare = vec_capacity t.volumes - vec_len t.volumes } };
 
-    ghost invariant = { λ t. IsTable (2 ^ 32) (listing (record { sequence = t.seq; rows = t.volumes.items; spare = vec_capacity t.volumes - vec_len t.volumes })) };
+    ghost invariant = { λ t. IsTable (2 ^ 32) (table_alone (record { sequence = t.seq; rows = t.volumes.items; spare = vec_capacity t.volumes - vec_len t.volumes })) };
 }
 
 impl Table {
     /// The table of a new group: its sequence number is 1, and the volume of the records has so many extents,
     /// the first ones.
     pub fn formatted(alloc: Global, extents_of_mgt: u32) -> Result<Table, NoMemory>
-        ensures table { IfOk result (λ t. listing t ≡ new_table extents_of_mgt) }
+        ensures table { IfOk result (λ t. table_alone t ≡ new_table extents_of_mgt) }
     {
         let extents = first_extents(alloc, extents_of_mgt)?;
         let mut volumes = Vec::new(alloc);
@@ -73,15 +71,22 @@ impl Table {
     /// The volumes, in order of name. A table is always what it should be, with extents below 2^32.
     pub fn volumes(&self) -> &[Volume]
         ensures volumes { result.now ≡ self.now.rows }
-        ensures table { IsTable (2 ^ 32) (listing self.now) }
+        ensures table { IsTable (2 ^ 32) (table_alone self.now) }
     {
         &self.volumes
+    }
+
+    /// No extents, for a volume that has none. It takes no memory.
+    pub fn no_extents(&self) -> Extents
+        ensures { result ≡ [] }
+    {
+        Extents::new(Vec::new(*self.volumes.allocator()))
     }
 
     /// The place of a volume in `volumes`, or `None` exactly where no volume has the name.
     pub fn find(&self, name: &Name) -> Option<usize>
         ensures found { IfSome result (IsPlace self.now.rows name.now) }
-        ensures none { IfNone result (rows (listing self.now) name.now ≡ None) }
+        ensures none { IfNone result (rows (table_alone self.now) name.now ≡ None) }
     {
         place(&self.volumes, name)
     }
@@ -89,7 +94,7 @@ impl Table {
     /// A volume, or `None` exactly where no volume has the name.
     pub fn get(&self, name: &Name) -> Option<&Volume>
         ensures found { IfSome result (λ v. IsHeld self.now.rows name.now v.now) }
-        ensures none { IfNone result (rows (listing self.now) name.now ≡ None) }
+        ensures none { IfNone result (rows (table_alone self.now) name.now ≡ None) }
     {
         named(&self.volumes, name)
     }
@@ -101,11 +106,35 @@ impl Table {
         self.volumes.capacity() - self.volumes.len()
     }
 
+    /// How many extents of a volume may be added without memory, and 0 where no volume has the name.
+    pub fn places(&self, name: &Name) -> usize
+        ensures places { result ≡ places self.now name.now }
+    {
+        match self.get(name) {
+            Some(volume) => volume.spare(),
+            None => 0,
+        }
+    }
+
+    /// Whether there is room for a change, so that it takes no memory.
+    pub fn has_room(&self, change: &Change) -> bool
+        ensures room { IsTrue result ↔ HasRoom self.now change.now }
+    {
+        match change {
+            Change::Create { .. } => self.spare() > 0,
+            Change::Grow { name, extents } => extents.as_slice().len() <= self.places(name),
+            Change::Remove { .. }
+            | Change::Rename { .. }
+            | Change::Cut { .. }
+            | Change::Mark { .. } => true,
+        }
+    }
+
     /// Makes room for rows: at `Ok` at least so many may be added without memory.
     pub fn reserve(&mut self, rows: usize) -> Result<(), NoMemory>
         ensures sequence { self.new.sequence ≡ self.old.sequence }
         ensures rows { self.new.rows ≡ self.old.rows }
-        ensures kept { self.old.spare ≤ self.new.spare }
+        ensures no_fewer { self.old.spare ≤ self.new.spare }
         ensures ok { OnOk result (rows ≤ self.new.spare) }
         ensures err { OnErr result (self.new ≡ self.old) }
     {
@@ -117,10 +146,10 @@ impl Table {
 
     /// Makes room for extents of a volume: at `Ok` at least so many may be added without memory.
     pub fn reserve_extents(&mut self, name: &Name, more: usize) -> Result<(), NoMemory>
-        requires { IsSome (rows (listing self.old) name.now) }
-        ensures table { listing self.new ≡ listing self.old }
+        requires { IsSome (rows (table_alone self.old) name.now) }
+        ensures table { table_alone self.new ≡ table_alone self.old }
         ensures spare { self.new.spare ≡ self.old.spare }
-        ensures kept { (n : Name) → places self.old n ≤ places self.new n }
+        ensures no_fewer { (n : Name) → places self.old n ≤ places self.new n }
         ensures ok { OnOk result (more ≤ places self.new name.now) }
         ensures err { OnErr result (self.new ≡ self.old) }
     {
@@ -131,16 +160,16 @@ impl Table {
     /// and a Grow cost one look-up by halving for each extent of the table; for others each is compared with
     /// all. The other changes cost one pass over the names.
     pub fn allows(&self, change: &Change, extents: u32) -> bool
-        ensures allowed { IsTrue result ↔ Allows extents (listing self.now) change.now }
+        ensures allowed { IsTrue result ↔ Permits extents (table_alone self.now) change.now }
     {
         is_allowed(&self.volumes, change, extents)
     }
 
     /// Does a change. It takes no memory.
     pub fn apply(&mut self, change: Change)
-        requires allowed { Allows (2 ^ 32) (listing self.old) change }
+        requires allowed { Permits (2 ^ 32) (table_alone self.old) change }
         requires room { HasRoom self.old change }
-        ensures table { listing self.new ≡ applied (listing self.old) change }
+        ensures table { table_alone self.new ≡ applied (table_alone self.old) change }
         ensures spare { self.new.spare ≡ spare_after self.old.spare change }
         ensures places { (n : Name) → places_after (places self.old) change n ≤ places self.new n }
     {
@@ -152,17 +181,25 @@ impl Table {
 
     /// The length of the text in bytes, or the greatest `usize` where it passes that.
     pub fn length(&self) -> usize
-        ensures length { result ≡ min (length (text (listing self.now))) (2 ^ 64 - 1) }
+        ensures length { result ≡ min (length (text (table_alone self.now))) (2 ^ 64 - 1) }
     {
         volumes_length(&self.volumes).saturating_add(12)
     }
 
+    /// Whether the text of the table that a change leaves has at most 524,288 bytes. It writes nothing, and takes no
+    /// memory.
+    pub fn fits(&self, change: &Change) -> bool
+        ensures fits { IsTrue result ↔ (length (text (applied (table_alone self.now) change.now)) ≤ 524288) }
+    {
+        changed_length(&self.volumes, change) <= TEXT_LIMIT as usize - 12
+    }
+
     /// Writes the text to the buffer's beginning, and answers its length in bytes. The bytes past it stay.
     pub fn encode(&self, to: &mut [u8]) -> usize
-        requires fits { length (text (listing self.now)) ≤ length to.old }
-        requires numbers { HasText (listing self.now) }
-        ensures text { to.new ≡ text (listing self.now) ++ drop (length (text (listing self.now))) to.old }
-        ensures length { result ≡ length (text (listing self.now)) }
+        requires fits { length (text (table_alone self.now)) ≤ length to.old }
+        requires numbers { HasText (table_alone self.now) }
+        ensures text { to.new ≡ text (table_alone self.now) ++ drop (length (text (table_alone self.now))) to.old }
+        ensures length { result ≡ length (text (table_alone self.now)) }
     {
         let number_at = put_sequence(to, 0, self.seq);
         let volumes_at = put_number(to, number_at, self.volumes.len() as u32);
@@ -172,11 +209,11 @@ impl Table {
     /// Writes the text of the table that a change leaves to the buffer's beginning, and answers its length in bytes.
     /// The bytes past it stay, and so does this table. It takes no memory.
     pub fn encode_changed(&self, change: &Change, to: &mut [u8]) -> usize
-        requires allowed { Allows (2 ^ 32) (listing self.now) change.now }
-        requires fits { length (text (applied (listing self.now) change.now)) ≤ length to.old }
-        requires numbers { HasText (applied (listing self.now) change.now) }
-        ensures text { to.new ≡ text (applied (listing self.now) change.now) ++ drop (length (text (applied (listing self.now) change.now))) to.old }
-        ensures length { result ≡ length (text (applied (listing self.now) change.now)) }
+        requires allowed { Permits (2 ^ 32) (table_alone self.now) change.now }
+        requires fits { length (text (applied (table_alone self.now) change.now)) ≤ length to.old }
+        requires numbers { HasText (applied (table_alone self.now) change.now) }
+        ensures text { to.new ≡ text (applied (table_alone self.now) change.now) ++ drop (length (text (applied (table_alone self.now) change.now))) to.old }
+        ensures length { result ≡ length (text (applied (table_alone self.now) change.now)) }
     {
         let count_at = put_sequence(to, 0, raised(self.seq));
         let count = changed_count(&self.volumes, change);
@@ -187,8 +224,8 @@ impl Table {
     /// The table that the bytes spell, where extents are counted up to `extents`. The cost is that of going over
     /// the bytes once, with one mark in memory for each of the `extents`.
     pub fn decode(alloc: Global, bytes: &[u8], extents: u32) -> Result<Table, DecodeFault>
-        ensures spells { IfOk result (λ t. Spells extents bytes.now (listing t)) }
-        ensures fault { IfErr result (IsFault extents bytes.now) }
+        ensures spells { IfOk result (λ t. Spells extents bytes.now (table_alone t)) }
+        ensures fault { IfErr result (IsDecodeFault extents bytes.now) }
     {
         let Some((seq, rest)) = long_number_at(bytes) else {
             return Err(DecodeFault::Damaged { at: 0 });

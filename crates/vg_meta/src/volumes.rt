@@ -2,7 +2,7 @@
 
 ghost use Rattle.std.specs.Prelude.{◌≡◌, ◌≤◌, ◌+◌, ◌-◌, ◌^◌, min, ◌↔◌, IsTrue, None, IfSome, IfNone, OnOk, OnErr, length, Bool, List};
 ghost use Rattle.vg_meta.specs.Tables.{Row, row_of};
-ghost use Rattle.vg_meta.specs.Kept.{rows_alone, IsHeld, IsPlace};
+ghost use Rattle.vg_meta.specs.Roomy.{rows_alone, IsHeld, IsPlace};
 
 use crate::changes::{Extents, Tag};
 use sm_base::{Name, NoMemory};
@@ -20,9 +20,9 @@ pub struct Volume {
 
 impl Model for Volume {
     ghost use Rattle.std.specs.Prelude.{◌-◌, vec_capacity, vec_len};
-    ghost use Rattle.vg_meta.specs.Kept.{HeldRow};
+    ghost use Rattle.vg_meta.specs.Roomy.{RoomyRow};
 
-    ghost Value = { HeldRow };
+    ghost Value = { RoomyRow };
 
     ghost view = { λ v. record { row = record { name = v.name; hidden = v.hidden; fresh = v.fresh; extents = v.extents.items }; spare = vec_capacity v.extents - vec_len v.extents } };
 }
@@ -95,7 +95,7 @@ impl Volume {
     // Makes room for more extents.
     pub(crate) fn reserve(&mut self, more: usize) -> Result<(), NoMemory>
         ensures row { self.new.row ≡ self.old.row }
-        ensures kept { self.old.spare ≤ self.new.spare }
+        ensures no_fewer { self.old.spare ≤ self.new.spare }
         ensures ok { OnOk result (more ≤ self.new.spare) }
         ensures err { OnErr result (self.new ≡ self.old) }
     {

@@ -8,12 +8,12 @@ use Rattle.sm_disk.proofs.ReachesLaws.{may_reached}
 use Rattle.sm_disk.proofs.SectorLaws.{sector-one}
 use Rattle.sm_disk.specs.Sectors.{sector}
 use Rattle.vg_layout.proofs.RoundTrips.{header_again}
-use Rattle.vg_meta.specs.Tables.{Listing}
+use Rattle.vg_meta.specs.Tables.{VolumeTable}
 use Rattle.vg_layout.specs.Places.{area_place, header_place, slot_place, label_place}
 use Rattle.vg_layout.specs.Sectors.{Plate, Pointer, header_sector}
 use Rattle.vg_layout.specs.Opening.{StandsOn, plate_of, pointer_of, text_in}
 use Rattle.vg_volumes.specs.Commits.{IsBefore, IsEither}
-use Rattle.vg_store.specs.Groups.{Leaves, area_of, IsGroup, IsNext}
+use Rattle.vg_store.specs.Groups.{LeavesGroup, area_of, IsGroup, IsNext}
 use Rattle.vg_store.proofs.ImageLaws.{plate_same, pointer_same, text_same, text_written, stands_from, stands_once, slots_apart, sectors_most, pointer_right, IsRightPointer}
 
 -- an image that shows in front of the extents what a read gives, but perhaps in some sectors
@@ -21,7 +21,7 @@ abbrev pub ShowsElsewhere : ℕ → ℕ → Held → (ℕ → List ℕ) → Type
 ShowsElsewhere at len h m = (q : ℕ) → q < area_place → (IsIn at len q → ⊥) → m q ≡ h.floor q
 
 -- an image that shows all but the slot that is not in use stands as before
-pub stands_before : (size : ℕ) (h : Held) (p : Plate) (at : Pointer) (t : Listing) (bytes : List ℕ) (m : ℕ → List ℕ) (place len : ℕ)
+pub stands_before : (size : ℕ) (h : Held) (p : Plate) (at : Pointer) (t : VolumeTable) (bytes : List ℕ) (m : ℕ → List ℕ) (place len : ℕ)
     → IsGroup size h p at t bytes → place ≡ slot_place (1 - at.slot) → len ≤ 524288
     → ShowsElsewhere place len h m → StandsOn size m (record { plate = p; pointer = at; table = t })
 stands_before size h p at t bytes m place len g is most shows = go (slots_apart at.slot right.slot)
@@ -48,7 +48,7 @@ stands_before size h p at t bytes m place len g is most shows = go (slots_apart 
 
 -- ---- the first stage: the sectors of the text, and the sync behind them
 
-pub shows_torn : (size wide : ℕ) (a b : Held) (p : Plate) (at : Pointer) (t : Listing) (bytes written : List ℕ) (place : ℕ) (m : ℕ → List ℕ)
+pub shows_torn : (size wide : ℕ) (a b : Held) (p : Plate) (at : Pointer) (t : VolumeTable) (bytes written : List ℕ) (place : ℕ) (m : ℕ → List ℕ)
     → IsGroup size a p at t bytes → area_place ≤ wide → Reaches (Puts place written) a b → Allows wide b m → ShowsElsewhere place (length written) a m
 shows_torn size wide a b p at t bytes written place m g all r allowed = λ q below apart. by q below apart (r.may q (m q) (allowed q (omega arith)))
   where
@@ -66,8 +66,8 @@ area_kept wide area place a b written m fits front r allowed = λ q below. by q 
     by q (inr (here, is)) = absurd (omega (arith, here.1))
 
 -- what a stop leaves, where each image that is allowed stands as before
-pub before_from : (size area : ℕ) (a b : Held) (p : Plate) (at : Pointer) (t u : Listing) (image : ℕ → List ℕ) → p.count ≤ 65536
-    → (l : Leaves size b p u image) → StandsOn size l.whole (record { plate = p; pointer = at; table = t })
+pub before_from : (size area : ℕ) (a b : Held) (p : Plate) (at : Pointer) (t u : VolumeTable) (image : ℕ → List ℕ) → p.count ≤ 65536
+    → (l : LeavesGroup size b p u image) → StandsOn size l.whole (record { plate = p; pointer = at; table = t })
     → Allows area (area_of a) (λ q. l.whole (area_place + q)) → IsBefore area t (area_of a) u image
 before_from size area a b p at t u image few l stands choices = record {
   table_is = sym (stands_once size l.whole p at l.pointer t u few stands l.stands);
@@ -75,15 +75,15 @@ before_from size area a b p at t u image few l stands choices = record {
 }
 
 -- each image that may be left while the text is written stands as before
-pub slot_stands : (size : ℕ) (a b : Held) (p : Plate) (at : Pointer) (t : Listing) (bytes written : List ℕ) (place : ℕ) (m : ℕ → List ℕ)
+pub slot_stands : (size : ℕ) (a b : Held) (p : Plate) (at : Pointer) (t : VolumeTable) (bytes written : List ℕ) (place : ℕ) (m : ℕ → List ℕ)
     → IsGroup size a p at t bytes → area_place ≤ size → place ≡ slot_place (1 - at.slot) → length written ≤ 524288
     → Reaches (Puts place written) a b → Allows size b m → StandsOn size m (record { plate = p; pointer = at; table = t })
 slot_stands size a b p at t bytes written place m g room is most r allowed =
     stands_before size a p at t bytes m place (length written) g is most (shows_torn size size a b p at t bytes written place m g room r allowed)
 
-pub slot_crash : (size area : ℕ) (a b : Held) (p : Plate) (at : Pointer) (t next u : Listing) (bytes written : List ℕ) (place : ℕ) (image : ℕ → List ℕ)
+pub slot_crash : (size area : ℕ) (a b : Held) (p : Plate) (at : Pointer) (t next u : VolumeTable) (bytes written : List ℕ) (place : ℕ) (image : ℕ → List ℕ)
     → IsGroup size a p at t bytes → area_place + area ≤ size → place ≡ slot_place (1 - at.slot) → length written ≤ 524288
-    → Reaches (Puts place written) a b → Leaves size b p u image → IsEither area t next (area_of a) u image
+    → Reaches (Puts place written) a b → LeavesGroup size b p u image → IsEither area t next (area_of a) u image
 slot_crash size area a b p at t next u bytes written place image g fits is most r l =
     let stands = slot_stands size a b p at t bytes written place l.whole g (omega arith) is most r l.allowed in
     inl (before_from size area a b p at t u image g.few l stands (area_kept size area place a b written l.whole fits (ends (slots_apart at.slot (pointer_right a.floor at g.rests.headed).slot)) r l.allowed))
@@ -112,7 +112,7 @@ pub record IsStaged (a b : Held) (place : ℕ) (written : List ℕ) : Type 0 whe
   pub elsewhere : ReadsElsewhere place (length written) a b
 
 -- what stands in front of the extents once the text lasted, at each place that the text has not
-pub staged_reads : (size : ℕ) (a b : Held) (p : Plate) (at : Pointer) (t : Listing) (bytes written : List ℕ) (place q : ℕ) → IsGroup size a p at t bytes → IsStaged a b place written
+pub staged_reads : (size : ℕ) (a b : Held) (p : Plate) (at : Pointer) (t : VolumeTable) (bytes written : List ℕ) (place q : ℕ) → IsGroup size a p at t bytes → IsStaged a b place written
     → q < area_place → (IsIn place (length written) q → ⊥) → reads b q ≡ a.floor q
 staged_reads size a b p at t bytes written place q g s below apart = s.elsewhere q apart ∙ g.rests.still q (reads a q) below (May-reads a q)
 
@@ -122,7 +122,7 @@ record ShowsNext (size : ℕ) (p : Plate) (next : Pointer) (written : List ℕ) 
   headed : pointer_of m ≡ Ok next
   text : text_in m next ≡ take next.size written
 
-next_shown : (size : ℕ) (a b : Held) (p : Plate) (at next : Pointer) (t u : Listing) (bytes written : List ℕ) (place : ℕ) (m : ℕ → List ℕ)
+next_shown : (size : ℕ) (a b : Held) (p : Plate) (at next : Pointer) (t u : VolumeTable) (bytes written : List ℕ) (place : ℕ) (m : ℕ → List ℕ)
     → IsGroup size a p at t bytes → IsStaged a b place written → IsNext p at next u written → place ≡ slot_place next.slot
     → m header_place ≡ header_sector next → ((q : ℕ) → q < area_place → (q ≡ header_place → ⊥) → m q ≡ reads b q)
     → ShowsNext size p next written m
@@ -153,7 +153,7 @@ next_shown size a b p at next t u bytes written place m g s n is header shows = 
         let inside : IsIn place (length written) q = (omega arith, omega (arith, n.long, below)) in
         ap m same ∙ shows q (omega (arith, places.1, few, below)) (λ e. omega (arith, e, places.0)) ∙ sym (s.within q inside) ∙ ap (λ k. sector written k) back
 
-next_stands : (size : ℕ) (p : Plate) (at next : Pointer) (u : Listing) (written : List ℕ) (m : ℕ → List ℕ)
+next_stands : (size : ℕ) (p : Plate) (at next : Pointer) (u : VolumeTable) (written : List ℕ) (m : ℕ → List ℕ)
     → IsNext p at next u written → ShowsNext size p next written m → StandsOn size m (record { plate = p; pointer = next; table = u })
 next_stands size p at next u written m n s = stands_from size m p next u (take next.size written) s.labelled s.headed s.text n.total n.spelled
 
@@ -167,7 +167,7 @@ header_shown size b c head m settled long r allowed q below apart = at_place (ma
     at_place (inr (here, there)) = absurd (apart (in_one header_place (length head) q long here))
 
 -- each image that may be left while the header is written stands as before, or with the next table
-pub header_stands : (size : ℕ) (a b c : Held) (p : Plate) (at next : Pointer) (t u : Listing) (bytes written head : List ℕ) (place : ℕ) (m : ℕ → List ℕ)
+pub header_stands : (size : ℕ) (a b c : Held) (p : Plate) (at next : Pointer) (t u : VolumeTable) (bytes written head : List ℕ) (place : ℕ) (m : ℕ → List ℕ)
     → IsGroup size a p at t bytes → area_place ≤ size → IsStaged a b place written → IsNext p at next u written → place ≡ slot_place next.slot
     → head ≡ header_sector next → length head ≡ 512
     → Reaches (Puts header_place head) b c → Allows size c m
@@ -201,10 +201,10 @@ header_stands size a b c p at next t u bytes written head place m g room s n is 
         let header : m header_place ≡ header_sector next = there ∙ sector-one head long ∙ head_is in
         inr (next_stands size p at next u written m n (next_shown size a b p at next t u bytes written place m g s n is header (λ q below other. shown q (omega arith) other)))
 
-pub header_crash : (size area : ℕ) (a b c : Held) (p : Plate) (at next : Pointer) (t u v : Listing) (bytes written head : List ℕ) (place : ℕ) (image : ℕ → List ℕ)
+pub header_crash : (size area : ℕ) (a b c : Held) (p : Plate) (at next : Pointer) (t u v : VolumeTable) (bytes written head : List ℕ) (place : ℕ) (image : ℕ → List ℕ)
     → IsGroup size a p at t bytes → area_place + area ≤ size → IsStaged a b place written → IsNext p at next u written → place ≡ slot_place next.slot
     → head ≡ header_sector next → length head ≡ 512
-    → Reaches (Puts header_place head) b c → Leaves size c p v image → IsEither area t u (area_of a) v image
+    → Reaches (Puts header_place head) b c → LeavesGroup size c p v image → IsEither area t u (area_of a) v image
 header_crash size area a b c p at next t u v bytes written head place image g fits s n is head_is long r l =
     by (header_stands size a b c p at next t u bytes written head place m g (omega arith) s n is head_is long r l.allowed)
   where
@@ -233,7 +233,7 @@ header_crash size area a b c p at next t u v bytes written head place image g fi
 
 -- ---- the end
 
-pub group_after : (size : ℕ) (a b c : Held) (p : Plate) (at next : Pointer) (t u : Listing) (bytes written head : List ℕ) (place : ℕ)
+pub group_after : (size : ℕ) (a b c : Held) (p : Plate) (at next : Pointer) (t u : VolumeTable) (bytes written head : List ℕ) (place : ℕ)
     → IsGroup size a p at t bytes → IsStaged a b place written → IsNext p at next u written → place ≡ slot_place next.slot
     → head ≡ header_sector next → length head ≡ 512 → IsStaged b c header_place head → IsGroup size c p next u (take next.size written)
 group_after size a b c p at next t u bytes written head place g s n is head_is long e =
@@ -270,14 +270,14 @@ area_same place a b written front r = record {
     left q v (inr (here, is)) = absurd (omega (arith, here.1))
 
 -- while a group rests, each image that may be left stands as the group does
-pub stands_now : (size : ℕ) (h : Held) (p : Plate) (at : Pointer) (t : Listing) (bytes : List ℕ) (m : ℕ → List ℕ) → area_place ≤ size
+pub stands_now : (size : ℕ) (h : Held) (p : Plate) (at : Pointer) (t : VolumeTable) (bytes : List ℕ) (m : ℕ → List ℕ) → area_place ≤ size
     → IsGroup size h p at t bytes → Allows size h m → StandsOn size m (record { plate = p; pointer = at; table = t })
 stands_now size h p at t bytes m room g allowed =
     stands_before size h p at t bytes m (slot_place (1 - at.slot)) 0 g refl (omega arith)
     (λ q below apart. g.rests.still q (m q) below (allowed q (omega arith)))
 
 -- while nothing failed, a stop leaves the one table and any choice of the extents' sectors
-pub leaves_before : (size area : ℕ) (h : Held) (p : Plate) (at : Pointer) (t u : Listing) (bytes : List ℕ) (image : ℕ → List ℕ) → area_place + area ≤ size
-    → IsGroup size h p at t bytes → Leaves size h p u image → IsBefore area t (area_of h) u image
+pub leaves_before : (size area : ℕ) (h : Held) (p : Plate) (at : Pointer) (t u : VolumeTable) (bytes : List ℕ) (image : ℕ → List ℕ) → area_place + area ≤ size
+    → IsGroup size h p at t bytes → LeavesGroup size h p u image → IsBefore area t (area_of h) u image
 leaves_before size area h p at t u bytes image fits g l =
     before_from size area h h p at t u image g.few l (stands_now size h p at t bytes l.whole (omega arith) g l.allowed) (λ q below. l.allowed (area_place + q) (omega arith))

@@ -5,8 +5,8 @@ use Rattle.std.specs.Int.{div_ceil}
 use Rattle.sm_base.proofs.NumberLemmas.{div_up-div_ceil}
 use Rattle.sm_base.specs.Numbers.{div_up}
 use Rattle.sm_disk.specs.Held.{Held}
-use Rattle.vg_meta.specs.Tables.{Listing}
-use Rattle.vg_meta.specs.Kept.{Kept, places}
+use Rattle.vg_meta.specs.Tables.{VolumeTable}
+use Rattle.vg_meta.specs.Roomy.{RoomyTable, places}
 use Rattle.vg_meta.specs.Text.{text}
 use Rattle.vg_meta.specs.Reading.{Spells}
 use Rattle.vg_meta.specs.declared.changes.Change.{Change}
@@ -18,19 +18,19 @@ use Rattle.vg_meta.proofs.WriteLaws.{length-text}
 use Rattle.vg_layout.specs.Sectors.{Plate, Pointer}
 use Rattle.vg_layout.specs.Opening.{StandsOn}
 use Rattle.vg_volumes.specs.Sites.{Fits, RoomAfter}
-use Rattle.vg_store.specs.Groups.{Rests, IsGroup, IsNext, IsStanding}
-use Rattle.vg_store.specs.Heads.{IsHead}
+use Rattle.vg_store.specs.Groups.{Rests, IsGroup, IsNext, GroupStands}
+use Rattle.vg_store.specs.Heads.{IsPointerOf}
 use Rattle.vg_store.proofs.ImageLaws.{plate_few, sectors_most, sectors_hold}
 
 -- ---- the text of the next table
 
 -- a text is never empty
-pub some_text : (t : Listing) → 0 < length (text t)
+pub some_text : (t : VolumeTable) → 0 < length (text t)
 some_text t = omega (arith, length-text t)
 
 -- a text was written to the beginning of a buffer
-pub head_from : (u : Listing) (at : Pointer) (rest buffer : List ℕ) → buffer ≡ text u ++ rest → at.size ≡ length (text u)
-    → at.total ≡ sum (take at.size buffer) → at.total < 2 ^ 32 → IsHead u at buffer
+pub head_from : (u : VolumeTable) (at : Pointer) (rest buffer : List ℕ) → buffer ≡ text u ++ rest → at.size ≡ length (text u)
+    → at.total ≡ sum (take at.size buffer) → at.total < 2 ^ 32 → IsPointerOf u at buffer
 head_from u at rest buffer is size total fits =
     let begins : take at.size buffer ≡ text u = ap (take at.size) is ∙ take_at (text u) rest at.size (sym size) in
     record { size = size; total = total ∙ ap sum begins; total_fits = fits; begins = begins }
@@ -39,9 +39,9 @@ head_from u at rest buffer is size total fits =
 pub long_as_before : (bytes old new : List ℕ) → length bytes ≤ length old → new ≡ bytes ++ drop (length bytes) old → length new ≡ length old
 long_as_before bytes old new fits is = ap length is ∙ omega (arith, length-append bytes (drop (length bytes) old), length-drop (length bytes) old)
 
--- ---- the turn
+-- ---- the flip
 
-pub group_from : (size : ℕ) (h : Held) (p : Plate) (at : Pointer) (t : Listing) → Rests size h p at (text t) → sum (text t) ≡ at.total → Spells p.count (text t) t
+pub group_from : (size : ℕ) (h : Held) (p : Plate) (at : Pointer) (t : VolumeTable) → Rests size h p at (text t) → sum (text t) ≡ at.total → Spells p.count (text t) t
     → IsGroup size h p at t (text t)
 group_from size h p at t rests summed spelled = record { rests = rests; summed = summed; spelled = spelled; few = plate_few size h.floor p rests.labelled }
 
@@ -66,8 +66,8 @@ front_long size sectors buffer written short f =
     ap length f.front ∙ omega (arith, length-take (512 * sectors) buffer, f.long, reach.0, reach.1)
 
 -- the sectors that the text of the changed table reaches are those of a next table
-pub next_from : (p : Plate) (at next : Pointer) (t : Listing) (change : Change) (bytes buffer written : List ℕ) (sectors : ℕ)
-    → Spells p.count bytes t → changes.Allows p.count t change → Fits t change → next.slot ≡ 1 - at.slot → IsHead (applied t change) next buffer
+pub next_from : (p : Plate) (at next : Pointer) (t : VolumeTable) (change : Change) (bytes buffer written : List ℕ) (sectors : ℕ)
+    → Spells p.count bytes t → changes.Permits p.count t change → Fits t change → next.slot ≡ 1 - at.slot → IsPointerOf (applied t change) next buffer
     → IsFront sectors next.size buffer written → IsNext p at next (applied t change) written
 next_from p at next t change bytes buffer written sectors spells allowed fits slot head f = record {
   slot = slot;
@@ -90,28 +90,28 @@ next_from p at next t change bytes buffer written sectors spells allowed fits sl
     spelled : Spells p.count (text (applied t change)) (applied t change)
     spelled = record { spelled = refl; table = IsTable-applied p.count t change spells.table allowed; fits = HasText-short (applied t change) (omega (arith, fits)) }
 
--- after a turn that failed a group with the label stands wherever a stop leaves an image
-pub either_stands : (size : ℕ) (image : ℕ → List ℕ) (p : Plate) (at next : Pointer) (t u : Listing)
+-- after a flip that failed a group with the label stands wherever a stop leaves an image
+pub either_stands : (size : ℕ) (image : ℕ → List ℕ) (p : Plate) (at next : Pointer) (t u : VolumeTable)
     → StandsOn size image (record { plate = p; pointer = at; table = t }) ⊎ StandsOn size image (record { plate = p; pointer = next; table = u })
-    → IsStanding size image p
+    → GroupStands size image p
 either_stands size image p at next t u (inl stands) = record { pointer = at; table = t; stands = stands }
 either_stands size image p at next t u (inr stands) = record { pointer = next; table = u; stands = stands }
 
 -- after one that succeeded the group stands with the changed table, which stands in memory too
-pub spelled_again : (count : ℕ) (bytes : List ℕ) (u v : Listing) → v ≡ u → Spells count bytes u → Spells count (text v) v
+pub spelled_again : (count : ℕ) (bytes : List ℕ) (u v : VolumeTable) → v ≡ u → Spells count bytes u → Spells count (text v) v
 spelled_again count bytes u v same s =
-    let P : Listing → Type 0 = λ w. Spells count (text w) w in
+    let P : VolumeTable → Type 0 = λ w. Spells count (text w) w in
     let Q : List ℕ → Type 0 = λ b. Spells count b u in
     subst P (sym same) (subst Q s.spelled s)
 
-pub group_turned : (size now : ℕ) (h : Held) (p : Plate) (next : Pointer) (u v : Listing) (bytes : List ℕ) → now ≡ size → v ≡ u
+pub group_flipped : (size now : ℕ) (h : Held) (p : Plate) (next : Pointer) (u v : VolumeTable) (bytes : List ℕ) → now ≡ size → v ≡ u
     → IsGroup size h p next u bytes → IsGroup now h p next v (text v)
-group_turned size now h p next u v bytes same table g =
+group_flipped size now h p next u v bytes same table g =
     let P : ℕ → Type 0 = λ n. IsGroup n h p next v (text v) in
-    let Q : Listing → Type 0 = λ w. IsGroup size h p next w (text w) in
+    let Q : VolumeTable → Type 0 = λ w. IsGroup size h p next w (text w) in
     let R : List ℕ → Type 0 = λ b. IsGroup size h p next u b in
     subst P (sym same) (subst Q (sym table) (subst R g.spelled.spelled g))
 
-pub room_after : (change : Change) (old new : Kept) → new.spare ≡ spare_after old.spare change
+pub room_after : (change : Change) (old new : RoomyTable) → new.spare ≡ spare_after old.spare change
     → ((n : _) → places_after (places old) change n ≤ places new n) → RoomAfter change old new
 room_after change old new spare each = record { spare_rows = omega (arith, spare); spare_extents = each }

@@ -15,7 +15,7 @@ use Rattle.vg_layout.specs.declared.places.Slot.TheVariants.{Zero, One}
 use Rattle.vg_layout.specs.Fields.{slot_number}
 use Rattle.vg_layout.specs.Sectors.{Plate, Pointer, header_sector, label_sector}
 use Rattle.vg_layout.specs.Opening.{plate_of}
-use Rattle.vg_store.specs.Formats.{IsBehindLabel, IsBlank, IsFilled, IsLaidOut, IsLeftOf}
+use Rattle.vg_store.specs.Formats.{IsBehindLabel, IsBlank, StandsBehindLabel, IsLaidOut, IsLeftOf}
 
 -- ---- zeros
 
@@ -64,7 +64,7 @@ put_behind at bytes a b behind r = Reaches-wider (λ q v p. omega (arith, p.0.0)
 pub filled_after : (a b c d : Held) (h : Pointer) (blank written head : List ℕ) (place : ℕ) → place ≡ slot_place h.slot → 2 ≤ place → place ≤ 1026
     → length blank ≡ 262144 → IsBlank blank → length written ≡ 512 → head ≡ header_sector h → length head ≡ 512
     → Wrote area_place blank a b → Wrote place written b c → Gave header_place d head → ReadsElsewhere header_place (length head) c d
-    → IsFilled h written (reads d)
+    → StandsBehindLabel h written (reads d)
 filled_after a b c d h blank written head place is from to long each short head_is head_long first second gave elsewhere = record {
   header = sym (gave_one header_place d head head_long gave) ∙ head_is;
   text = ap (reads d) (sym is) ∙ elsewhere place (λ i. omega (arith, in_one header_place (length head) place head_long i)) ∙ text;
@@ -126,7 +126,7 @@ still_none b c none r = by (r.gives label_place)
 
 -- what shows all but the label as read shows what was filled
 filled_shown : (c : Held) (h : Pointer) (written : List ℕ) (m : ℕ → List ℕ) (size : ℕ) → area_place + 512 ≤ size → slot_place h.slot ≤ 1026 → 2 ≤ slot_place h.slot
-    → ((q : ℕ) → 0 < q → q < size → m q ≡ reads c q) → IsFilled h written (reads c) → IsFilled h written m
+    → ((q : ℕ) → 0 < q → q < size → m q ≡ reads c q) → StandsBehindLabel h written (reads c) → StandsBehindLabel h written m
 filled_shown c h written m size room low high same f = record {
   header = same header_place (omega arith) (omega arith) ∙ f.header;
   text = same (slot_place h.slot) (omega arith) (omega arith) ∙ f.text;
@@ -135,7 +135,7 @@ filled_shown c h written m size room low high same f = record {
 
 -- while the new label is being written
 pub label_crash : (size : ℕ) (a c d : Held) (p : Plate) (h : Pointer) (written head : List ℕ) (image : ℕ → List ℕ) → area_place + 512 ≤ size
-    → slot_place h.slot ≤ 1026 → 2 ≤ slot_place h.slot → IsSettled c → reads c label_place ≡ zeros → IsFilled h written (reads c)
+    → slot_place h.slot ≤ 1026 → 2 ≤ slot_place h.slot → IsSettled c → reads c label_place ≡ zeros → StandsBehindLabel h written (reads c)
     → head ≡ label_sector p → length head ≡ 512 → Reaches (Puts label_place head) c d → Allows size d image → IsLeftOf size a p h written image
 label_crash size a c d p h written head image room low high settled none f is long r allowed =
     by (may_reached settled r label_place (image label_place) (allowed label_place (omega arith)))
@@ -155,7 +155,7 @@ label_crash size a c d p h written head image room low high settled none f is lo
 -- ---- the end
 
 pub laid_after : (size : ℕ) (c d : Held) (p : Plate) (h : Pointer) (written head : List ℕ) → area_place + 512 ≤ size
-    → slot_place h.slot ≤ 1026 → 2 ≤ slot_place h.slot → IsFilled h written (reads c) → head ≡ label_sector p → length head ≡ 512
+    → slot_place h.slot ≤ 1026 → 2 ≤ slot_place h.slot → StandsBehindLabel h written (reads c) → head ≡ label_sector p → length head ≡ 512
     → IsSettled d → Gave label_place d head → ReadsElsewhere label_place (length head) c d → IsLaidOut p h written d.floor
 laid_after size c d p h written head room low high f is long settled gave elsewhere = record {
   label = floor_reads label_place ∙ sym (gave_one label_place d head long gave) ∙ is;

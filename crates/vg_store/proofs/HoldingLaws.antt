@@ -3,12 +3,12 @@ use Rattle.std.proofs.Common.{◌≡◌, ℕ, ◌<◌, ◌≤◌, cond, ltb, ◌
 use Rattle.std.proofs.lemmas.Bool.{lt-ltb, le-ltb, cases_lt}
 use Rattle.sm_disk.specs.Held.{Held, May, Allows, Keeps, SameHeld, reads}
 use Rattle.sm_disk.proofs.HeldLaws.{May-reads, may-at, Keeps-same, Allows-keeps}
-use Rattle.vg_meta.specs.Tables.{Listing}
+use Rattle.vg_meta.specs.Tables.{VolumeTable}
 use Rattle.vg_meta.specs.Reading.{Spells}
 use Rattle.vg_layout.specs.Places.{area_place, label_place, header_place}
 use Rattle.vg_layout.specs.Sectors.{Plate, Pointer}
 use Rattle.vg_layout.specs.Opening.{text_in}
-use Rattle.vg_store.specs.Groups.{Rests, IsStanding, Leaves}
+use Rattle.vg_store.specs.Groups.{Rests, GroupStands, LeavesGroup}
 use Rattle.vg_store.specs.Runs.{SameInFront}
 use Rattle.vg_store.proofs.ImageLaws.{plate_same, pointer_same, text_front}
 
@@ -39,7 +39,7 @@ rests_still {size} {wide} {old} {new} {p} {at} {bytes} same no_more r =
     floor q low = r.still q (new.floor q) low (no_more q (new.floor q) low (inl refl))
 
 -- an image stands where another stands that is the same in front of the extents
-standing_from : (size : ℕ) (f m : ℕ → List ℕ) (p : Plate) → ((q : ℕ) → q < area_place → m q ≡ f q) → IsStanding size f p → IsStanding size m p
+standing_from : (size : ℕ) (f m : ℕ → List ℕ) (p : Plate) → ((q : ℕ) → q < area_place → m q ≡ f q) → GroupStands size f p → GroupStands size m p
 standing_from size f m p same s =
     let text : text_in m s.pointer ≡ text_in f s.pointer = text_front f m s.pointer s.stands.headed same in
     let P : List ℕ → Type 0 = λ b. Spells p.count b s.table in
@@ -78,17 +78,17 @@ front_allowed size old new image no_more allowed = λ q below. by q below (cases
         subst P (sym (front_past old image q past)) (May-reads old q)
 
 pub stands_still : {size wide : ℕ} (old new : Held) (p : Plate) → wide ≡ size → LeavesNoMore old new
-    → ((image : ℕ → List ℕ) → Allows size old image → IsStanding size image p) → (image : ℕ → List ℕ) → Allows wide new image → IsStanding wide image p
+    → ((image : ℕ → List ℕ) → Allows size old image → GroupStands size image p) → (image : ℕ → List ℕ) → Allows wide new image → GroupStands wide image p
 stands_still {size} {wide} old new p same no_more stands =
-    let P : ℕ → Type 0 = λ n. (image : ℕ → List ℕ) → Allows n new image → IsStanding n image p in
+    let P : ℕ → Type 0 = λ n. (image : ℕ → List ℕ) → Allows n new image → GroupStands n image p in
     subst P (sym same) (λ image allowed. standing_from size (front_of old image) image p (λ q low. sym (front_in old image q low))
     (stands (front_of old image) (front_allowed size old new image no_more allowed)))
 
 -- a sync, failed or not, leaves no more
-pub Leaves-keeps : {size wide : ℕ} {old new : Held} {p : Plate} {t : Listing} {image : ℕ → List ℕ} → wide ≡ size → Keeps old new
-    → Leaves wide new p t image → Leaves size old p t image
-Leaves-keeps {size} {wide} {old} {new} {p} {t} {image} same k l =
-    let P : ℕ → Type 0 = λ n. Leaves n old p t image in
+pub LeavesGroup-keeps : {size wide : ℕ} {old new : Held} {p : Plate} {t : VolumeTable} {image : ℕ → List ℕ} → wide ≡ size → Keeps old new
+    → LeavesGroup wide new p t image → LeavesGroup size old p t image
+LeavesGroup-keeps {size} {wide} {old} {new} {p} {t} {image} same k l =
+    let P : ℕ → Type 0 = λ n. LeavesGroup n old p t image in
     subst P same (record {
       whole = l.whole;
       allowed = Allows-keeps wide l.whole k l.allowed;

@@ -10,4 +10,4 @@ pub mod OpeningLaws
 pub mod PartLaws
 pub mod RunLaws
 pub mod StoreLaws
-pub mod TurnLaws
+pub mod FlipLaws

@@ -19,7 +19,7 @@ use Rattle.sm_base.proofs.NumberLemmas.{div_up-div_ceil}
 use Rattle.sm_disk.specs.Sectors.{sector}
 use Rattle.sm_disk.specs.Held.{Held}
 use Rattle.sm_disk.proofs.SectorLaws.{sector-one}
-use Rattle.vg_meta.specs.Tables.{Row, Listing, used, new_table}
+use Rattle.vg_meta.specs.Tables.{Row, VolumeTable, used, new_table}
 use Rattle.vg_meta.specs.Text.{text, volume_text, HasText}
 use Rattle.vg_meta.specs.Reading.{Spells}
 use Rattle.vg_meta.proofs.RangeLaws.{IsTable-new}
@@ -29,7 +29,7 @@ use Rattle.vg_layout.specs.Sectors.{Plate, Pointer, number, number_at, label_coo
 use Rattle.vg_layout.specs.Opening.{plate_of, pointer_of, text_in}
 use Rattle.vg_layout.proofs.RoundTrips.{header_again}
 use Rattle.vg_layout.proofs.SectorLaws.{label_right}
-use Rattle.vg_store.specs.Formats.{IsFormatted, IsLaidOut, IsLeft, IsLeftOf, least_size, new_group}
+use Rattle.vg_store.specs.Formats.{IsFormatted, IsLaidOut, IsLeftByFormat, IsLeftOf, least_size, new_group}
 use Rattle.vg_store.proofs.ImageLaws.{stands_from, text_written}
 
 -- ---- a label is read again
@@ -195,7 +195,7 @@ formatted_new size g repository written m enough new laid = record {
     n : ℕ
     n = record_extents g.extent
 
-    t : Listing
+    t : VolumeTable
     t = new_table n
 
     p : Plate
@@ -229,7 +229,7 @@ formatted_from size g repository written p h enough low sixteen long plate_is po
     formatted_new size g repository written m enough new (subst Q pointer_is (subst P plate_is laid))
 
 pub left_from : (size : ℕ) (old : Held) (g : Geometry) (repository written : List ℕ) (p : Plate) (h : Pointer) (image : ℕ → List ℕ)
-    → (IsLaidOut p h written image → IsFormatted size image g repository) → IsLeftOf size old p h written image → IsLeft size old g repository image
+    → (IsLaidOut p h written image → IsFormatted size image g repository) → IsLeftOf size old p h written image → IsLeftByFormat size old g repository image
 left_from size old g repository written p h image finished (inl was) = inl was
 left_from size old g repository written p h image finished (inr (inl none)) = inr (inl none)
 left_from size old g repository written p h image finished (inr (inr laid)) = inr (inr (finished laid))

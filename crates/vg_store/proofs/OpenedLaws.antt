@@ -3,19 +3,19 @@ use Rattle.std.proofs.Common.{◌≡◌, ℕ, ◌+◌, ◌≤◌, List, sum, Ok,
 use Rattle.sm_base.specs.declared.faults.OpenFault.{OpenFault}
 use Rattle.sm_disk.specs.Held.{Held, Allows, IsSettled, Keeps, SameHeld, reads}
 use Rattle.sm_disk.proofs.HeldLaws.{may_settled, Keeps-same, Keeps-then, reads-settled}
-use Rattle.vg_meta.specs.Tables.{Listing}
+use Rattle.vg_meta.specs.Tables.{VolumeTable}
 use Rattle.vg_meta.specs.Reading.{Spells}
 use Rattle.vg_layout.specs.Places.{area_place}
 use Rattle.vg_layout.specs.Sectors.{Plate, Pointer}
 use Rattle.vg_layout.specs.Opening.{StandsOn, IsRefused, plate_of, pointer_of, text_in}
-use Rattle.vg_store.specs.Groups.{Rests, IsGroup, IsStanding, area_of}
+use Rattle.vg_store.specs.Groups.{Rests, IsGroup, GroupStands, area_of}
 use Rattle.vg_store.specs.Openings.{IsAnswer}
 use Rattle.vg_store.proofs.ImageLaws.{stands_from, plate_few}
 use Rattle.vg_store.proofs.CommitLaws.{stands_now}
 use Rattle.vg_store.proofs.OpeningLaws.{answer_from}
 
 -- what the checks found on a device where nothing is pending
-pub record IsFound (size : ℕ) (h : Held) (p : Plate) (at : Pointer) (t : Listing) (bytes : List ℕ) : Type 0 where
+pub record IsFound (size : ℕ) (h : Held) (p : Plate) (at : Pointer) (t : VolumeTable) (bytes : List ℕ) : Type 0 where
   pub labelled : plate_of size (reads h) ≡ Ok p
   pub headed : pointer_of (reads h) ≡ Ok at
   pub text : text_in (reads h) at ≡ bytes
@@ -33,7 +33,7 @@ still_settled s same q = same.pending q ∙ s q
 floor_is : {b c : Held} → IsSettled b → SameHeld b c → reads b ≡ c.floor
 floor_is {b} {c} s same = same_image (reads b) c.floor (λ q. reads-settled b q (s q) ∙ sym (same.floor q))
 
-opened_rests : (size : ℕ) (b c : Held) (p : Plate) (at : Pointer) (t : Listing) (bytes : List ℕ) → IsSettled b → SameHeld b c
+opened_rests : (size : ℕ) (b c : Held) (p : Plate) (at : Pointer) (t : VolumeTable) (bytes : List ℕ) → IsSettled b → SameHeld b c
     → IsFound size b p at t bytes → Rests size c p at bytes
 opened_rests size b c p at t bytes s same f =
     let floor = floor_is s same in
@@ -47,7 +47,7 @@ opened_rests size b c p at t bytes s same f =
       text = subst R floor f.text;
     }
 
-pub opened_group : (size now : ℕ) (b c : Held) (p : Plate) (at : Pointer) (t : Listing) (bytes : List ℕ) → now ≡ size → IsSettled b → SameHeld b c
+pub opened_group : (size now : ℕ) (b c : Held) (p : Plate) (at : Pointer) (t : VolumeTable) (bytes : List ℕ) → now ≡ size → IsSettled b → SameHeld b c
     → IsFound size b p at t bytes → IsGroup now c p at t bytes
 opened_group size now b c p at t bytes is s same f =
     let G : ℕ → Type 0 = λ n. IsGroup n c p at t bytes in
@@ -59,8 +59,8 @@ opened_group size now b c p at t bytes is s same f =
     })
 
 -- on each image that may be left, a group that stands does
-pub group_stands : (size area : ℕ) (c : Held) (p : Plate) (at : Pointer) (t : Listing) (bytes : List ℕ) (image : ℕ → List ℕ) → area_place + area ≤ size
-    → IsGroup size c p at t bytes → Allows size c image → IsStanding size image p
+pub group_stands : (size area : ℕ) (c : Held) (p : Plate) (at : Pointer) (t : VolumeTable) (bytes : List ℕ) (image : ℕ → List ℕ) → area_place + area ≤ size
+    → IsGroup size c p at t bytes → Allows size c image → GroupStands size image p
 group_stands size area c p at t bytes image fits g allowed = record {
   pointer = at;
   table = t;
@@ -68,7 +68,7 @@ group_stands size area c p at t bytes image fits g allowed = record {
 }
 
 -- a read before the sync gave the same
-pub opened_before : (size : ℕ) (a b : Held) (p : Plate) (at : Pointer) (t : Listing) (bytes : List ℕ) → Keeps a b → IsFound size b p at t bytes
+pub opened_before : (size : ℕ) (a b : Held) (p : Plate) (at : Pointer) (t : VolumeTable) (bytes : List ℕ) → Keeps a b → IsFound size b p at t bytes
     → StandsOn size (reads a) (record { plate = p; pointer = at; table = t })
 opened_before size a b p at t bytes k f =
     let P : (ℕ → List ℕ) → Type 0 = λ m. StandsOn size m (record { plate = p; pointer = at; table = t }) in

@@ -6,14 +6,14 @@ use Rattle.std.proofs.Math.Nat.{mul-le-mul_right}
 use Rattle.sm_base.specs.declared.names.Name.{Name}
 use Rattle.sm_disk.specs.Held.{Held, HasSectors}
 use Rattle.sm_disk.proofs.WindowLaws.{HasSectors-moved}
-use Rattle.vg_meta.specs.Tables.{Row, Listing, IsTable, IsSpread, rows, extents_of}
+use Rattle.vg_meta.specs.Tables.{Row, VolumeTable, IsTable, IsSpread, rows, extents_of}
 use Rattle.vg_meta.proofs.ByName.{spread}
 use Rattle.vg_layout.specs.Places.{area_place}
 use Rattle.vg_store.specs.Groups.{area_of}
 use Rattle.vg_store.specs.Runs.{AreOn}
 
 -- the extents of a volume of a table stand on a device that has all extents
-pub extents_on_device : (size count x : ℕ) (t : Listing) (n : Name) (r : Row) (es : List ℕ) → IsTable count t → area_place + count * x ≤ size
+pub extents_on_device : (size count x : ℕ) (t : VolumeTable) (n : Name) (r : Row) (es : List ℕ) → IsTable count t → area_place + count * x ≤ size
     → rows t n ≡ Some r → es ≡ r.extents → AreOn size x es
 extents_on_device size count x t n r es table fits there is = subst (AreOn size x) (ap extents_of there ∙ sym is) (record {
   within = λ i below. within i (s.below n i (slice_index own i) (found i below));

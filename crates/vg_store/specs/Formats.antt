@@ -9,7 +9,7 @@ use Rattle.vg_meta.specs.Tables.{new_table}
 use Rattle.vg_meta.specs.Text.{text}
 use Rattle.vg_layout.specs.Places.{area_place, extents_on, header_place, label_place, record_extents, slot_place}
 use Rattle.vg_layout.specs.Sectors.{Plate, Pointer, header_sector, label_sector}
-use Rattle.vg_layout.specs.Opening.{Standing, StandsOn, plate_of}
+use Rattle.vg_layout.specs.Opening.{GroupFound, StandsOn, plate_of}
 use Rattle.vg_store.specs.declared.formats.FormatFault.{FormatFault}
 use Rattle.vg_store.specs.declared.formats.FormatFault.TheVariants.{TooSmall, Device, NoMemory}
 
@@ -19,7 +19,7 @@ least_size extent = area_place + record_extents extent * extent
 
 -- the group of a device of so many sectors that was formatted: its label says these sizes and this repository, and
 -- its table, that of a new group, stands in slot 0
-abbrev pub new_group : ℕ → Geometry → List ℕ → Standing
+abbrev pub new_group : ℕ → Geometry → List ℕ → GroupFound
 new_group size g repository =
     let t = new_table (record_extents g.extent) in
     record {
@@ -34,8 +34,8 @@ pub record IsFormatted (size : ℕ) (image : ℕ → List ℕ) (g : Geometry) (r
   pub records : (q : ℕ) → q < 512 → image (area_place + q) ≡ zeros
 
 -- a stop leaves what it might have left before the format, or no repository, or what a finished format leaves
-abbrev pub IsLeft : ℕ → Held → Geometry → List ℕ → (ℕ → List ℕ) → Type 0
-IsLeft size old g repository image =
+abbrev pub IsLeftByFormat : ℕ → Held → Geometry → List ℕ → (ℕ → List ℕ) → Type 0
+IsLeftByFormat size old g repository image =
     Allows size old image ⊎ ((plate_of size image ≡ Err NotARepository) ⊎ IsFormatted size image g repository)
 
 -- why nothing was formatted: the device is smaller than the size that is told; or a fault of the device raised the
@@ -54,7 +54,7 @@ abbrev pub IsBehindLabel : ℕ → List ℕ → Type 0
 IsBehindLabel q v = label_place < q
 
 -- behind the label stand this header, this text and free records
-pub record IsFilled (h : Pointer) (written : List ℕ) (image : ℕ → List ℕ) : Type 0 where
+pub record StandsBehindLabel (h : Pointer) (written : List ℕ) (image : ℕ → List ℕ) : Type 0 where
   pub header : image header_place ≡ header_sector h
   pub text : image (slot_place h.slot) ≡ written
   pub records : (q : ℕ) → q < 512 → image (area_place + q) ≡ zeros
@@ -62,7 +62,7 @@ pub record IsFilled (h : Pointer) (written : List ℕ) (image : ℕ → List ℕ
 -- and this label in front of them
 pub record IsLaidOut (p : Plate) (h : Pointer) (written : List ℕ) (image : ℕ → List ℕ) : Type 0 where
   pub label : image label_place ≡ label_sector p
-  pub filled : IsFilled h written image
+  pub filled : StandsBehindLabel h written image
 
 -- a stop leaves what it might have left before, or no repository, or all of that
 abbrev pub IsLeftOf : ℕ → Held → Plate → Pointer → List ℕ → (ℕ → List ℕ) → Type 0

@@ -2,7 +2,7 @@
 use Rattle.std.specs.Prelude.{◌≡◌, ℕ, ◌+◌, ◌-◌, ◌*◌, ◌^◌, ◌<◌, ◌≤◌, ◌⊎◌, Bool, ◌&&◌, ◌||◌, nat_lt, nat_le, if◌then◌else◌, List, [], length, take, sum, Ok}
 use Rattle.sm_base.specs.Numbers.{div_up}
 use Rattle.sm_disk.specs.Held.{Held, May, Allows, moved}
-use Rattle.vg_meta.specs.Tables.{Listing}
+use Rattle.vg_meta.specs.Tables.{VolumeTable}
 use Rattle.vg_meta.specs.Reading.{Spells}
 use Rattle.vg_layout.specs.Places.{area_place, slot_place, slot_sectors}
 use Rattle.vg_layout.specs.Sectors.{Plate, Pointer}
@@ -37,14 +37,14 @@ pub record Rests (size : ℕ) (h : Held) (p : Plate) (at : Pointer) (bytes : Lis
   pub text : text_in h.floor at ≡ bytes
 
 -- a group with this label stands on an image
-pub record IsStanding (size : ℕ) (image : ℕ → List ℕ) (p : Plate) : Type 0 where
+pub record GroupStands (size : ℕ) (image : ℕ → List ℕ) (p : Plate) : Type 0 where
   pub pointer : Pointer
-  pub table : Listing
+  pub table : VolumeTable
   pub stands : StandsOn size image (record { plate = p; pointer = pointer; table = table })
 
 -- a stop may leave this table and these sectors of the extents: they are those of one image that the device
 -- allows, on which a group stands with this plate and this table
-pub record Leaves (size : ℕ) (h : Held) (p : Plate) (t : Listing) (image : ℕ → List ℕ) : Type 0 where
+pub record LeavesGroup (size : ℕ) (h : Held) (p : Plate) (t : VolumeTable) (image : ℕ → List ℕ) : Type 0 where
   pub whole : ℕ → List ℕ
   pub allowed : Allows size h whole
   pub pointer : Pointer
@@ -52,14 +52,14 @@ pub record Leaves (size : ℕ) (h : Held) (p : Plate) (t : Listing) (image : ℕ
   pub sectors : (q : ℕ) → image q ≡ whole (area_place + q)
 
 -- a group that stands, with the table that its text spells
-pub record IsGroup (size : ℕ) (h : Held) (p : Plate) (at : Pointer) (t : Listing) (bytes : List ℕ) : Type 0 where
+pub record IsGroup (size : ℕ) (h : Held) (p : Plate) (at : Pointer) (t : VolumeTable) (bytes : List ℕ) : Type 0 where
   pub rests : Rests size h p at bytes
   pub summed : sum bytes ≡ at.total
   pub spelled : Spells p.count bytes t
   pub few : p.count ≤ 65536
 
 -- a header of the other slot, and sectors that begin with its text, which spells the next table
-pub record IsNext (p : Plate) (at next : Pointer) (u : Listing) (written : List ℕ) : Type 0 where
+pub record IsNext (p : Plate) (at next : Pointer) (u : VolumeTable) (written : List ℕ) : Type 0 where
   pub slot : next.slot ≡ 1 - at.slot
   pub size : next.size ≤ text_limit
   pub total_fits : next.total < 2 ^ 32
@@ -67,21 +67,21 @@ pub record IsNext (p : Plate) (at next : Pointer) (u : Listing) (written : List 
   pub total : sum (take next.size written) ≡ next.total
   pub spelled : Spells p.count (take next.size written) u
 
--- after a turn of a group to its next table, which may have failed, a stop leaves one of the two
+-- after a flip of a group to its next table, which may have failed, a stop leaves one of the two
 abbrev pub LeavesEither : ℕ → Held → Held → Pointer → List ℕ → Type 0
 LeavesEither size old new next written =
-    (area : ℕ) (p : Plate) (at : Pointer) (t u : Listing) (bytes : List ℕ) → IsGroup size old p at t bytes → IsNext p at next u written → area_place + area ≤ size
-    → (v : Listing) (image : ℕ → List ℕ) → Leaves size new p v image → IsEither area t u (area_of old) v image
+    (area : ℕ) (p : Plate) (at : Pointer) (t u : VolumeTable) (bytes : List ℕ) → IsGroup size old p at t bytes → IsNext p at next u written → area_place + area ≤ size
+    → (v : VolumeTable) (image : ℕ → List ℕ) → LeavesGroup size new p v image → IsEither area t u (area_of old) v image
 
 -- and on each image that a stop leaves the group stands with one of the two
 abbrev pub StandsEither : ℕ → Held → Held → Pointer → List ℕ → Type 0
 StandsEither size old new next written =
-    (p : Plate) (at : Pointer) (t u : Listing) (bytes : List ℕ) → IsGroup size old p at t bytes → IsNext p at next u written
+    (p : Plate) (at : Pointer) (t u : VolumeTable) (bytes : List ℕ) → IsGroup size old p at t bytes → IsNext p at next u written
     → (image : ℕ → List ℕ) → Allows size new image
     → StandsOn size image (record { plate = p; pointer = at; table = t }) ⊎ StandsOn size image (record { plate = p; pointer = next; table = u })
 
 -- and after one that succeeded the group stands with the next table
-abbrev pub IsTurned : ℕ → Held → Held → Pointer → List ℕ → Type 0
-IsTurned size old new next written =
-    (p : Plate) (at : Pointer) (t u : Listing) (bytes : List ℕ) → IsGroup size old p at t bytes → IsNext p at next u written
+abbrev pub IsFlipped : ℕ → Held → Held → Pointer → List ℕ → Type 0
+IsFlipped size old new next written =
+    (p : Plate) (at : Pointer) (t u : VolumeTable) (bytes : List ℕ) → IsGroup size old p at t bytes → IsNext p at next u written
     → IsGroup size new p next u (take next.size written)

@@ -1,18 +1,18 @@
-//! The commit: a change of the table, and the turn to the table that it leaves.
+//! The commit: a change of the table, and the flip to the table that it leaves.
 
 ghost use Rattle.std.specs.Prelude.{◌≡◌, ◌≤◌, ◌<◌, ◌+◌, ◌*◌, ◌^◌, ℕ, List, true, false, OnOk, OnErr, length};
 ghost use Rattle.sm_disk.specs.Held.{Keeps, IsSettled, Rose};
-ghost use Rattle.vg_meta.specs.Tables.{Listing};
-ghost use Rattle.vg_meta.specs.Kept.{listing};
-ghost use Rattle.vg_meta.specs.Changes.{Allows, HasRoom, applied};
+ghost use Rattle.vg_meta.specs.Tables.{VolumeTable};
+ghost use Rattle.vg_meta.specs.Roomy.{table_alone};
+ghost use Rattle.vg_meta.specs.Changes.{Permits, HasRoom, applied};
 ghost use Rattle.vg_layout.specs.Fields.{plate, pointer};
 ghost use Rattle.vg_volumes.specs.Commits.{IsEither};
 ghost use Rattle.vg_volumes.specs.Sites.{Fits, RoomAfter};
-ghost use Rattle.vg_store.specs.Groups.{Leaves, area_of, beside_of};
-ghost use Rattle.vg_store.specs.Heads.{IsHead};
+ghost use Rattle.vg_store.specs.Groups.{LeavesGroup, area_of, beside_of};
+ghost use Rattle.vg_store.specs.Heads.{IsPointerOf};
 
+use crate::flips::flip;
 use crate::groups::Group;
-use crate::turns::turn;
 use sm_base::Failed;
 use sm_disk::Disk;
 use vg_layout::{Slot, TableHeader, sum_of};
@@ -20,11 +20,11 @@ use vg_meta::{Change, Table};
 
 /// Writes the text of the table that a change leaves to the buffer's beginning, and answers its header in a slot.
 fn next_header(table: &Table, change: &Change, slot: Slot, buffer: &mut [u8]) -> TableHeader
-    requires allowed { Allows (2 ^ 32) (listing table.now) change.now }
-    requires fits { Fits (listing table.now) change.now }
+    requires allowed { Permits (2 ^ 32) (table_alone table.now) change.now }
+    requires fits { Fits (table_alone table.now) change.now }
     requires room { length buffer.old ≡ 524288 }
     ensures slot { result.slot ≡ slot }
-    ensures head { IsHead (applied (listing table.now) change.now) (pointer result) buffer.new }
+    ensures head { IsPointerOf (applied (table_alone table.now) change.now) (pointer result) buffer.new }
     ensures long { length buffer.new ≡ length buffer.old }
 {
     let length = table.encode_changed(change, buffer);
@@ -42,22 +42,22 @@ impl<D: Disk> Group<D> {
     /// It takes no memory.
     pub(crate) fn commit_change(&mut self, change: Change) -> Result<(), Failed>
         requires usable { self.old.failed ≡ false }
-        requires allowed { Allows self.old.label.extents (listing self.old.table) change }
+        requires allowed { Permits self.old.label.extents (table_alone self.old.table) change }
         requires room { HasRoom self.old.table change }
-        requires fits { Fits (listing self.old.table) change }
+        requires fits { Fits (table_alone self.old.table) change }
         ensures label { self.new.label ≡ self.old.label }
         ensures size { D.size self.new.disk ≡ D.size self.old.disk }
         ensures counts { D.faults self.old.disk ≤ D.faults self.new.disk }
         ensures cause { OnErr result (Rose (D.faults self.old.disk) (D.faults self.new.disk)) }
-        ensures changed { OnOk result ((listing self.new.table ≡ applied (listing self.old.table) change) × (self.new.failed ≡ false)) }
-        ensures unchanged { OnErr result ((listing self.new.table ≡ listing self.old.table) × (self.new.failed ≡ true)) }
+        ensures changed { OnOk result ((table_alone self.new.table ≡ applied (table_alone self.old.table) change) × (self.new.failed ≡ false)) }
+        ensures unchanged { OnErr result ((table_alone self.new.table ≡ table_alone self.old.table) × (self.new.failed ≡ true)) }
         ensures room_after { OnOk result (RoomAfter change self.old.table self.new.table) }
         ensures keeps { D.told → Keeps (area_of (D.held self.old.disk)) (area_of (D.held self.new.disk)) }
         ensures beside { D.told → (area : ℕ) → Keeps (beside_of area (D.held self.old.disk)) (beside_of area (D.held self.new.disk)) }
         ensures settled { OnOk result (D.told → IsSettled (area_of (D.held self.new.disk))) }
-        ensures crash { D.told → (t : Listing) (image : ℕ → List ℕ)
-            → Leaves (D.size self.new.disk) (D.held self.new.disk) (plate self.new.label) t image
-            → IsEither (self.old.label.extents * self.old.label.geometry.extent) (listing self.old.table) (applied (listing self.old.table) change) (area_of (D.held self.old.disk)) t image }
+        ensures crash { D.told → (t : VolumeTable) (image : ℕ → List ℕ)
+            → LeavesGroup (D.size self.new.disk) (D.held self.new.disk) (plate self.new.label) t image
+            → IsEither (self.old.label.extents * self.old.label.geometry.extent) (table_alone self.old.table) (applied (table_alone self.old.table) change) (area_of (D.held self.old.disk)) t image }
     {
         let next = next_header(
             &self.table,
@@ -67,7 +67,7 @@ impl<D: Disk> Group<D> {
         );
         let sectors = next.length.div_ceil(512) as usize;
         let (text, _) = self.buffer.split_at(512 * sectors);
-        let Ok(()) = turn(&mut self.disk, &next, text) else {
+        let Ok(()) = flip(&mut self.disk, &next, text) else {
             self.failed = true;
             return Err(Failed);
         };

@@ -10,7 +10,7 @@ ghost use Rattle.vg_meta.specs.Text.{text};
 ghost use Rattle.vg_layout.specs.Places.{area_place, extents_on, record_extents};
 ghost use Rattle.vg_layout.specs.Fields.{plate, pointer};
 ghost use Rattle.vg_store.specs.declared.formats.FormatFault.TheVariants.{TooSmall};
-ghost use Rattle.vg_store.specs.Formats.{IsBehindLabel, IsBlank, IsFilled, IsFormatFault, IsFormatted, IsLaidOut, IsLeft, IsLeftOf, least_size, new_group};
+ghost use Rattle.vg_store.specs.Formats.{IsBehindLabel, IsBlank, StandsBehindLabel, IsFormatFault, IsFormatted, IsLaidOut, IsLeftByFormat, IsLeftOf, least_size, new_group};
 
 use sm_base::{Failed, Geometry, NoMemory};
 use sm_disk::{Disk, put, write_sector};
@@ -69,7 +69,7 @@ pub fn format<D: Disk>(
     ensures free { IfOk result (λ f. f.free + record_extents geometry.extent ≡ f.extents) }
     ensures settled { OnOk result (D.told → IsSettled (D.held disk.new)) }
     ensures formatted { OnOk result (D.told → IsFormatted (D.size disk.old) (D.held disk.new).floor geometry repository) }
-    ensures crash { D.told → (image : ℕ → List ℕ) → Allows (D.size disk.old) (D.held disk.new) image → IsLeft (D.size disk.old) (D.held disk.old) geometry repository image }
+    ensures crash { D.told → (image : ℕ → List ℕ) → Allows (D.size disk.old) (D.held disk.new) image → IsLeftByFormat (D.size disk.old) (D.held disk.old) geometry repository image }
 {
     let sectors = disk.sectors();
     let records = record_extents(&geometry);
@@ -175,7 +175,7 @@ fn fill<D: Disk>(disk: &mut D, draft: &Draft) -> Result<(), Failed>
     ensures cause { OnErr result (Rose (D.faults disk.old) (D.faults disk.new)) }
     ensures reaches { D.told → Reaches IsBehindLabel (D.held disk.old) (D.held disk.new) }
     ensures settled { OnOk result (D.told → IsSettled (D.held disk.new)) }
-    ensures filled { OnOk result (D.told → IsFilled (pointer draft.now.header) draft.now.text (reads (D.held disk.new))) }
+    ensures filled { OnOk result (D.told → StandsBehindLabel (pointer draft.now.header) draft.now.text (reads (D.held disk.new))) }
 {
     disk.write(AREA, &draft.records)?;
     write_sector(disk, draft.header.slot.place(), &draft.text)?;

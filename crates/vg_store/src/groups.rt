@@ -3,18 +3,18 @@
 ghost use Rattle.std.specs.Prelude.{◌≡◌, ◌≤◌, ◌+◌, ◌*◌, ℕ, List, false, IfOk, IfErr, sum, vec_len};
 ghost use Rattle.std.proofs.Props.{props};
 ghost use Rattle.sm_disk.specs.Held.{Allows, Keeps, IsSettled, reads};
-ghost use Rattle.vg_meta.specs.Kept.{listing};
-ghost use Rattle.vg_meta.specs.Tables.{Listing};
+ghost use Rattle.vg_meta.specs.Roomy.{table_alone};
+ghost use Rattle.vg_meta.specs.Tables.{VolumeTable};
 ghost use Rattle.vg_meta.specs.Text.{text};
 ghost use Rattle.vg_meta.specs.Reading.{Spells};
 ghost use Rattle.vg_layout.specs.Fields.{plate, pointer};
 ghost use Rattle.vg_layout.specs.Opening.{StandsOn, IsRefused};
 ghost use Rattle.vg_layout.specs.Places.{area_place};
 ghost use Rattle.vg_volumes.specs.Commits.{IsBefore};
-ghost use Rattle.vg_store.specs.Groups.{Rests, IsStanding, Leaves, area_of};
+ghost use Rattle.vg_store.specs.Groups.{Rests, GroupStands, LeavesGroup, area_of};
 ghost use Rattle.vg_store.specs.Openings.{IsAnswer};
 ghost use Rattle.vg_meta.specs.Proper.{IsName-prop};
-ghost use Rattle.vg_store.specs.Proper.{IsStanding-prop};
+ghost use Rattle.vg_store.specs.Proper.{GroupStands-prop};
 
 use crate::openings::{Found, find};
 use sm_base::{Geometry, OpenFault};
@@ -39,12 +39,12 @@ pub struct Group<D: Disk> {
     // A text of any table fits.
     ghost room: { vec_len buffer ≡ 524288 },
     // The table has a text, with the header's sum.
-    ghost spelled: { Spells label.extents (text (listing table)) (listing table) } by { Prim.hlevel (props, IsName-prop) },
-    ghost summed: { sum (text (listing table)) ≡ header.sum },
+    ghost spelled: { Spells label.extents (text (table_alone table)) (table_alone table) } by { Prim.hlevel (props, IsName-prop) },
+    ghost summed: { sum (text (table_alone table)) ≡ header.sum },
     // It stands on the device, and while no commit has failed a stop leaves nothing else in front of the extents.
-    ghost rests: { D.told → failed ≡ false → Rests (D.size disk) (D.held disk) (plate label) (pointer header) (text (listing table)) } by { Prim.hlevel props },
+    ghost rests: { D.told → failed ≡ false → Rests (D.size disk) (D.held disk) (plate label) (pointer header) (text (table_alone table)) } by { Prim.hlevel props },
     // Whatever a stop leaves, also after a commit that failed, a group with this label stands there.
-    ghost stands: { D.told → (image : ℕ → List ℕ) → Allows (D.size disk) (D.held disk) image → IsStanding (D.size disk) image (plate label) } by { Prim.hlevel (props, IsStanding-prop) },
+    ghost stands: { D.told → (image : ℕ → List ℕ) → Allows (D.size disk) (D.held disk) image → GroupStands (D.size disk) image (plate label) } by { Prim.hlevel (props, GroupStands-prop) },
 }
 
 impl<D: Disk> Group<D> {
@@ -62,7 +62,7 @@ impl<D: Disk> Group<D> {
         ensures area { IfOk result (λ g. D.told → Keeps (area_of (D.held disk)) (area_of (D.held g.disk))) }
         ensures settled { IfOk result (λ g. D.told → IsSettled (D.held g.disk)) }
         ensures usable { IfOk result (λ g. g.failed ≡ false) }
-        ensures stands { IfOk result (λ g. D.told → StandsOn (D.size disk) (reads (D.held disk)) (record { plate = plate g.label; pointer = pointer g.header; table = listing g.table })) }
+        ensures stands { IfOk result (λ g. D.told → StandsOn (D.size disk) (reads (D.held disk)) (record { plate = plate g.label; pointer = pointer g.header; table = table_alone g.table })) }
         ensures size_back { IfErr result (λ e. D.size e.1 ≡ D.size disk) }
         ensures counts_back { IfErr result (λ e. D.faults disk ≤ D.faults e.1) }
         ensures keeps_back { IfErr result (λ e. D.told → Keeps (D.held disk) (D.held e.1)) }
@@ -122,13 +122,13 @@ impl<D: Disk> Group<D> {
         &self.table
     }
 
-    /// The device, as it is. It is not called.
+    /// The device, as it is. No call is made on it.
     pub fn into_disk(self) -> D
         ensures disk { result ≡ self.disk }
-        ensures leaves { D.told → self.failed ≡ false → (t : Listing) (image : ℕ → List ℕ)
-            → Leaves (D.size result) (D.held result) (plate self.label) t image
-            → IsBefore (self.label.extents * self.label.geometry.extent) (listing self.table) (area_of (D.held result)) t image }
-        ensures stands { D.told → (image : ℕ → List ℕ) → Allows (D.size result) (D.held result) image → IsStanding (D.size result) image (plate self.label) }
+        ensures leaves { D.told → self.failed ≡ false → (t : VolumeTable) (image : ℕ → List ℕ)
+            → LeavesGroup (D.size result) (D.held result) (plate self.label) t image
+            → IsBefore (self.label.extents * self.label.geometry.extent) (table_alone self.table) (area_of (D.held result)) t image }
+        ensures stands { D.told → (image : ℕ → List ℕ) → Allows (D.size result) (D.held result) image → GroupStands (D.size result) image (plate self.label) }
     {
         let Group {
             disk,

@@ -15,11 +15,11 @@
 //!
 //! **What it promises.** The opening (`groups.rt`) syncs, so that what it reads lasts, and then makes five checks
 //! (`openings.rt`): they find the label, the header and the table that stand on the device, or answer the first
-//! fault. It writes nothing. A commit (`commits.rt`) changes the table by one turn. A turn to the next table
-//! (`turns.rt`) writes the text into the slot that is not in use and syncs, then writes the header and syncs. At
+//! fault. It writes nothing. A commit (`commits.rt`) changes the table by one flip. A flip to the next table
+//! (`flips.rt`) writes the text into the slot that is not in use and syncs, then writes the header and syncs. At
 //! every return a stop leaves the table that stood, with what might have been left of the extents before, or the
-//! next table, with what reads gave; nothing in between (`LeavesEither`). After a turn that succeeded the group stands
-//! with the next table and nothing is pending (`IsTurned`). Bytes spell one table alone, so a stop never leaves a
+//! next table, with what reads gave; nothing in between (`LeavesEither`). After a flip that succeeded the group stands
+//! with the next table and nothing is pending (`IsFlipped`). Bytes spell one table alone, so a stop never leaves a
 //! third. Only at `Ok` does the table in memory change; after a commit that failed no further one is made.
 //!
 //! As a [`Store`] (`stores.rt`) it answers a volume's sectors by runs (`volumes.rt`): extents that stand one after the
@@ -27,7 +27,7 @@
 //! write of these bytes may change them on a device; in front of the extents nothing has. A sync, failed or not,
 //! leaves nothing that a stop could not leave before. Room for several changes adds up.
 //!
-//! **What it costs.** An opening takes the buffer of 524,288 bytes and what the table takes. A turn is two writes and
+//! **What it costs.** An opening takes the buffer of 524,288 bytes and what the table takes. A flip is two writes and
 //! two syncs and writes only the sectors that the text reaches. A commit writes the next text into the buffer and
 //! takes no memory. A read or a write finds the volume by a pass over the names, takes no memory, and is one call of
 //! the device for each run. A format is eight calls of the device, and takes 256 KiB and the table before the first of
@@ -35,11 +35,11 @@
 #![tactic(auto)]
 
 mod commits;
+mod flips;
 mod formats;
 mod groups;
 mod openings;
 mod stores;
-mod turns;
 mod volumes;
 
 pub use formats::{FormatFault, Formatted, format};

@@ -2,7 +2,7 @@
 
 ghost use Rattle.std.specs.Prelude.{◌≡◌, ◌≤◌, ◌+◌, ◌*◌, Ok, Err, IfOk, IfErr, OnOk, OnErr, length, take, sum};
 ghost use Rattle.sm_disk.specs.Held.{Rose, SameHeld, reads};
-ghost use Rattle.vg_meta.specs.Kept.{listing};
+ghost use Rattle.vg_meta.specs.Roomy.{table_alone};
 ghost use Rattle.vg_meta.specs.Reading.{Spells};
 ghost use Rattle.vg_meta.specs.Text.{text};
 ghost use Rattle.vg_layout.specs.Fields.{plate, pointer};
@@ -92,9 +92,9 @@ pub(crate) fn table_on<D: Disk>(
     ensures size { D.size disk.new ≡ D.size disk.old }
     ensures counts { D.faults disk.old ≤ D.faults disk.new }
     ensures same { D.told → SameHeld (D.held disk.old) (D.held disk.new) }
-    ensures spelled { IfOk result (λ t. Spells extents (text (listing t)) (listing t)) }
-    ensures summed { IfOk result (λ t. sum (text (listing t)) ≡ header.now.sum) }
-    ensures stands { IfOk result (λ t. D.told → text_in (reads (D.held disk.old)) (pointer header.now) ≡ text (listing t)) }
+    ensures spelled { IfOk result (λ t. Spells extents (text (table_alone t)) (table_alone t)) }
+    ensures summed { IfOk result (λ t. sum (text (table_alone t)) ≡ header.now.sum) }
+    ensures stands { IfOk result (λ t. D.told → text_in (reads (D.held disk.old)) (pointer header.now) ≡ text (table_alone t)) }
     ensures err { IfErr result (IsAnswer (λ e. D.told → IsTextRefused extents header.now.sum (text_in (reads (D.held disk.old)) (pointer header.now)) e) (D.faults disk.old) (D.faults disk.new)) }
 {
     let Ok(()) = read_text(disk, header, buffer) else {
@@ -136,9 +136,9 @@ pub(crate) fn find<D: Disk>(
     ensures header { IfOk result (λ f. D.told → pointer_of (reads (D.held disk.old)) ≡ Ok (pointer f.header)) }
     ensures few { IfOk result (λ f. f.label.extents ≤ 65536) }
     ensures area { IfOk result (λ f. area_place + f.label.extents * f.label.geometry.extent ≤ D.size disk.old) }
-    ensures spelled { IfOk result (λ f. Spells f.label.extents (text (listing f.table)) (listing f.table)) }
-    ensures summed { IfOk result (λ f. sum (text (listing f.table)) ≡ f.header.sum) }
-    ensures stands { IfOk result (λ f. D.told → text_in (reads (D.held disk.old)) (pointer f.header) ≡ text (listing f.table)) }
+    ensures spelled { IfOk result (λ f. Spells f.label.extents (text (table_alone f.table)) (table_alone f.table)) }
+    ensures summed { IfOk result (λ f. sum (text (table_alone f.table)) ≡ f.header.sum) }
+    ensures stands { IfOk result (λ f. D.told → text_in (reads (D.held disk.old)) (pointer f.header) ≡ text (table_alone f.table)) }
     ensures err { IfErr result (IsAnswer (λ e. D.told → IsRefused (D.size disk.old) (reads (D.held disk.old)) e) (D.faults disk.old) (D.faults disk.new)) }
 {
     let label = match label_on(disk) {

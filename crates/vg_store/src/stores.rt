@@ -10,9 +10,9 @@ use vg_volumes::Store;
 
 impl<D: Disk> Store for Group<D> {
     ghost use Rattle.std.specs.Prelude.{ℕ, ◌*◌, List};
-    ghost use Rattle.vg_meta.specs.Kept.{listing};
+    ghost use Rattle.vg_meta.specs.Roomy.{table_alone};
     ghost use Rattle.vg_layout.specs.Fields.{plate, pointer};
-    ghost use Rattle.vg_store.specs.Groups.{Leaves, area_of, beside_of};
+    ghost use Rattle.vg_store.specs.Groups.{LeavesGroup, area_of, beside_of};
     ghost use Rattle.vg_meta.specs.Text.{text};
     ghost use Rattle.vg_store.specs.Leaving.{leaves_one, leaves_reads};
 
@@ -20,7 +20,7 @@ impl<D: Disk> Store for Group<D> {
 
     ghost site = { λ g. record { geometry = g.label.geometry; count = g.label.extents; identity = g.label.repository; sectors = D.size g.disk } };
 
-    ghost kept = { λ g. g.table };
+    ghost table = { λ g. g.table };
 
     ghost area = { λ g. area_of (D.held g.disk) };
 
@@ -30,7 +30,7 @@ impl<D: Disk> Store for Group<D> {
 
     ghost failed = { λ g. g.failed };
 
-    ghost leaves = { λ g t image. Leaves (D.size g.disk) (D.held g.disk) (plate g.label) t image };
+    ghost leaves = { λ g t image. LeavesGroup (D.size g.disk) (D.held g.disk) (plate g.label) t image };
 
     ghost faults = { λ g. D.faults g.disk };
 
@@ -71,6 +71,12 @@ impl<D: Disk> Store for Group<D> {
         self.table.reserve(rows)
     }
 
+    fn is_ready(&self, change: &Change) -> bool {
+        self.table.allows(change, self.extents())
+            && self.table.has_room(change)
+            && self.table.fits(change)
+    }
+
     fn commit(&mut self, change: Change) -> Result<(), Failed> {
         self.commit_change(change)
     }
@@ -95,7 +101,7 @@ impl<D: Disk> Store for Group<D> {
         self.disk.sync()
     }
 
-    ghost leaves_now = { λ s told usable t image left. leaves_one (D.size s.disk) (s.label.extents * s.label.geometry.extent) (D.held s.disk) (plate s.label) (pointer s.header) (listing s.table) t (text (listing s.table)) image s.area (s.rests told usable) s.summed s.spelled left };
+    ghost leaves_now = { λ s told usable t image left. leaves_one (D.size s.disk) (s.label.extents * s.label.geometry.extent) (D.held s.disk) (plate s.label) (pointer s.header) (table_alone s.table) t (text (table_alone s.table)) image s.area (s.rests told usable) s.summed s.spelled left };
 
-    ghost leaves_read = { λ s told usable. leaves_reads (D.size s.disk) (D.held s.disk) (plate s.label) (pointer s.header) (listing s.table) (text (listing s.table)) (s.rests told usable) s.summed s.spelled };
+    ghost leaves_read = { λ s told usable. leaves_reads (D.size s.disk) (D.held s.disk) (plate s.label) (pointer s.header) (table_alone s.table) (text (table_alone s.table)) (s.rests told usable) s.summed s.spelled };
 }

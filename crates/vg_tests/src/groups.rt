@@ -1,13 +1,13 @@
 //! A group on a device in memory: its formatting and its opening.
 
 use crate::sectors::{HEADER, LABEL, Part, REPOSITORY, sector};
-use sm_base::{Geometry, OpenFault};
-use sm_disk::{Disk, MemDisk, read_sector, write_sector};
+use sm_base::OpenFault;
+use sm_disk::{Disk, MemDisk, read_sector};
 use std::alloc::Global;
-use std::process::Abort;
 use std::test::Fail;
+use test_support::{DEVICE_SECTORS, STALE, formatted, holds, new_group, stale};
 use uuid::Uuid;
-use vg_store::{FormatFault, Formatted, Group, Store, format};
+use vg_store::{FormatFault, Formatted, Group, Store};
 
 /// The first sector of slot 0: sequence number 1 and one volume, `MGT`, with 16 extents, 0 to 15.
 const TEXT: [Part<'static>; 5] = [
@@ -25,57 +25,44 @@ const TEXT: [Part<'static>; 5] = [
     ),
 ];
 
-/// A device of so many sectors, each full of stale bytes.
-fn stale(alloc: Global, sectors: u64) -> Result<MemDisk, Fail> {
-    let mut disk = MemDisk::new(alloc, sectors)?;
-    for at in 0..sectors {
-        if at < disk.sectors() {
-            write_sector(&mut disk, at, &[0xee; 512])?;
-        }
-    }
-    Ok(disk)
-}
-
-/// Formats a device for the repository of the worked bytes.
-fn formatted(alloc: Global, disk: &mut MemDisk) -> Result<Formatted, FormatFault> {
-    let Some(geometry) = Geometry::of(16384, 4096, 64) else {
-        return Err(FormatFault::NoMemory);
-    };
-    format(alloc, disk, geometry, Uuid::from_bytes(REPOSITORY))
-}
-
 /// The sectors from one place to before another are this one.
-fn stands(
-    rt: &impl Abort,
-    disk: &mut MemDisk,
-    from: u64,
-    end: u64,
-    want: &[u8; 512],
-) -> Result<(), Fail> {
+fn stands(disk: &mut MemDisk, from: u64, end: u64, want: &[u8; 512]) -> Result<(), Fail> {
     for at in from..end {
-        assert!(rt; at < disk.sectors());
-        let found = read_sector(disk, at)?;
-        assert!(rt; found == *want, "at {at}");
+        if at >= disk.sectors() || read_sector(disk, at)? != *want {
+            return Err(Fail::new(format_args!("sector {at}")));
+        }
     }
     Ok(())
 }
 
 /// The worked bytes stand on a device, all records are free, and what is beside them is stale.
-fn is_new(rt: &impl Abort, disk: &mut MemDisk) -> Result<(), Fail> {
-    stands(rt, disk, 0, 1, &sector(&LABEL))?;
-    stands(rt, disk, 1, 2, &sector(&HEADER))?;
-    stands(rt, disk, 2, 3, &sector(&TEXT))?;
-    stands(rt, disk, 3, 4096, &[0xee; 512])?;
-    stands(rt, disk, 4096, 4608, &[0; 512])?;
-    stands(rt, disk, 4608, 6144, &[0xee; 512])
+fn is_new(disk: &mut MemDisk) -> Result<(), Fail> {
+    stands(disk, 0, 1, &sector(&LABEL))?;
+    stands(disk, 1, 2, &sector(&HEADER))?;
+    stands(disk, 2, 3, &sector(&TEXT))?;
+    stands(disk, 3, 4096, &[STALE; 512])?;
+    stands(disk, 4096, 4608, &[0; 512])?;
+    stands(disk, 4608, 6144, &[STALE; 512])
+}
+
+/// A format of a device gives these extents, or is refused.
+fn is_formatted(
+    alloc: Global,
+    disk: &mut MemDisk,
+    want: Result<Formatted, FormatFault>,
+) -> Result<(), Fail> {
+    holds(new_group(alloc, disk)? == want, "a format")
 }
 
 #[test]
 fn a_stale_device_is_formatted(rt: HostRuntime) -> Result<(), Fail> {
-    let mut disk = stale(rt.alloc(), 6144)?;
-    let new = formatted(rt.alloc(), &mut disk)?;
-    assert!(rt; new.extents == 64 && new.free == 48);
-    is_new(&rt, &mut disk.left(rt.alloc(), &[])?)
+    let mut disk = stale(rt.alloc(), DEVICE_SECTORS)?;
+    let new = Formatted {
+        extents: 64,
+        free: 48,
+    };
+    is_formatted(rt.alloc(), &mut disk, Ok(new))?;
+    is_new(&mut disk.left(rt.alloc(), &[])?)
 }
 
 #[test]
@@ -87,55 +74,61 @@ fn a_device_without_room(rt: HostRuntime) -> Result<(), Fail> {
     };
     for (sectors, want) in [(0, Err(small)), (4607, Err(small)), (4608, Ok(just))] {
         let mut disk = MemDisk::new(rt.alloc(), sectors)?;
-        assert!(rt; formatted(rt.alloc(), &mut disk) == want);
+        is_formatted(rt.alloc(), &mut disk, want)?;
     }
     Ok(())
 }
 
-/// What an opening answers in place of a group.
-fn fault(alloc: Global, disk: MemDisk) -> Option<OpenFault> {
+/// An opening answers this in place of a group.
+fn is_refused(alloc: Global, disk: MemDisk, want: OpenFault) -> Result<(), Fail> {
     match Group::open(alloc, disk) {
         Ok(group) => {
             let _disk = group.into_disk();
-            None
+            Err(Fail::from("a device that is refused"))
         }
-        Err((fault, _disk)) => Some(fault),
+        Err((fault, _disk)) => holds(fault == want, "why a device is refused"),
     }
 }
 
 #[test]
 fn a_fault_of_the_device(rt: HostRuntime) -> Result<(), Fail> {
     let blank = MemDisk::new(rt.alloc(), 8)?;
-    assert!(rt; fault(rt.alloc(), blank) == Some(OpenFault::NotARepository));
-    let mut disk = MemDisk::new(rt.alloc(), 4672)?;
-    formatted(rt.alloc(), &mut disk)?;
+    is_refused(rt.alloc(), blank, OpenFault::NotARepository)?;
+    let mut disk = formatted(rt.alloc(), 4672)?;
     disk.stop(1);
-    assert!(rt; fault(rt.alloc(), disk) == Some(OpenFault::Device));
-    Ok(())
+    is_refused(rt.alloc(), disk, OpenFault::Device)
 }
 
-/// The sizes of a new group of 18 extents, and that room that was asked for and not used is not asked for again.
-fn shows(rt: &impl Abort, group: &mut Group<MemDisk>) -> Result<(), Fail> {
-    assert!(rt; group.extents() == 18);
-    assert!(rt; group.geometry().extent == 32);
-    assert!(rt; group.repository() == Uuid::from_bytes(REPOSITORY));
-    assert!(rt; group.table().seq() == 1);
-    assert!(rt; group.table().volumes().len() == 1);
+/// The sizes of a new group of 18 extents.
+fn shows<S: Store>(store: &mut S) -> Result<(), Fail> {
+    let is_right = store.extents() == 18
+        && store.geometry().extent == 32
+        && store.repository() == Uuid::from_bytes(REPOSITORY)
+        && store.table().seq() == 1
+        && store.table().volumes().len() == 1;
+    holds(is_right, "a new group")
+}
+
+/// Room that was asked for and not used is not asked for again.
+pub fn asks_often<S: Store>(store: &mut S) -> Result<(), Fail> {
     for _ in 0..500 {
-        group.reserve_rows(1)?;
+        store.reserve_rows(1)?;
     }
-    assert!(rt; group.table().spare() <= 16);
-    Ok(())
+    holds(store.table().spare() <= 16, "few rows to spare")
+}
+
+/// Both, of a group.
+fn shows_and_asks<S: Store>(store: &mut S) -> Result<(), Fail> {
+    shows(store)?;
+    asks_often(store)
 }
 
 #[test]
 fn a_new_group_is_opened(rt: HostRuntime) -> Result<(), Fail> {
-    let mut disk = MemDisk::new(rt.alloc(), 4672)?;
-    formatted(rt.alloc(), &mut disk)?;
+    let disk = formatted(rt.alloc(), 4672)?;
     let mut group = Group::open(rt.alloc(), disk).map_err(|_| "a group")?;
-    let shown = shows(&rt, &mut group);
+    let shown = shows_and_asks(&mut group);
     let disk = group.into_disk();
     shown?;
-    assert!(rt; disk.sectors() == 4672);
-    Ok(())
+    holds(disk.sectors() == 4672, "the device")
 }

@@ -13,7 +13,7 @@ mod large;
 #[cfg(test)]
 mod layouts;
 #[cfg(test)]
-mod plain_stores;
+mod memory_stores;
 #[cfg(test)]
 mod sectors;
 #[cfg(test)]

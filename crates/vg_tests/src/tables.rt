@@ -1,8 +1,8 @@
 //! Texts, places and changes, worked by hand.
 
 ghost use Rattle.std.specs.Prelude.{◌≡◌, ◌^◌, ◌<◌, ◌≤◌, length, OnOk, IfOk};
-ghost use Rattle.vg_meta.specs.Kept.{listing};
-ghost use Rattle.vg_meta.specs.Changes.{Allows, HasRoom};
+ghost use Rattle.vg_meta.specs.Roomy.{table_alone};
+ghost use Rattle.vg_meta.specs.Changes.{Permits, HasRoom};
 ghost use Rattle.vg_meta.specs.Text.{text, HasText};
 ghost use Rattle.vg_meta.specs.Growth.{growth as growth_of};
 
@@ -11,6 +11,7 @@ use sm_base::Name;
 use std::alloc::{AllocError, Global};
 use std::process::Abort;
 use std::test::Fail;
+use test_support::holds;
 use uuid::Uuid;
 use vg_meta::{Change, DecodeFault, Extents, Table, Tag};
 
@@ -98,31 +99,33 @@ fn joined(
 }
 
 /// A new table's text is the worked one.
-fn is_written(rt: &impl Abort, alloc: Global, table: &Table) -> Result<(), Fail> {
+fn is_written(alloc: Global, table: &Table) -> Result<(), Fail> {
     let mut text = buffer(alloc, table)?;
-    assert!(rt; table.length() == 85);
-    assert!(rt; table.encode(&mut text) == 85);
-    assert!(rt; text.starts_with(&NEW));
-    assert!(rt; text.ends_with(&[0xff; 3]));
-    Ok(())
+    let length = table.encode(&mut text);
+    let is_right = length == 85
+        && table.length() == 85
+        && text.starts_with(&NEW)
+        && text.ends_with(&[0xff; 3]);
+    holds(is_right, "the text of a new table")
 }
 
 /// A table of the worked text has the records alone.
-fn is_read(rt: &impl Abort, table: &Table) -> Result<(), Fail> {
-    assert!(rt; table.seq() == 1);
-    assert!(rt; table.volumes().len() == 1);
+fn is_read(table: &Table) -> Result<(), Fail> {
     let records = table.get(&Name::Mgt).ok_or("no records")?;
-    assert!(rt; !records.is_hidden() && !records.is_fresh());
     let all = [0, 1, 2, 3, 4, 5, 6, 7, 8, 9, 10, 11, 12, 13, 14, 15];
-    assert!(rt; records.extents() == all.as_slice());
-    Ok(())
+    let is_right = table.seq() == 1
+        && table.volumes().len() == 1
+        && !records.is_hidden()
+        && !records.is_fresh()
+        && records.extents() == all.as_slice();
+    holds(is_right, "the table of the worked text")
 }
 
 #[test]
 fn a_new_group_in_85_bytes(rt: HostRuntime) -> Result<(), Fail> {
     assert!(rt; NEW.iter().map(|byte| u32::from(*byte)).sum::<u32>() == 373);
-    is_written(&rt, rt.alloc(), &Table::formatted(rt.alloc(), 16)?)?;
-    is_read(&rt, &Table::decode(rt.alloc(), &NEW, 16)?)
+    is_written(rt.alloc(), &Table::formatted(rt.alloc(), 16)?)?;
+    is_read(&Table::decode(rt.alloc(), &NEW, 16)?)
 }
 
 // Where bytes are damaged, or `None` where they spell a table.
@@ -198,16 +201,17 @@ fn a_second_volume_is_judged_by_the_first(rt: HostRuntime) -> Result<(), Fail> {
 }
 
 /// The image of a table has both marks and two extents.
-fn is_found(rt: &impl Abort, table: &Table) -> Result<(), Fail> {
-    assert!(rt; table.seq() == 65545);
-    assert!(rt; table.find(&Name::Mgt) == Some(0));
-    assert!(rt; table.find(&image()) == Some(1));
-    assert!(rt; table.get(&entry()).is_none());
+fn is_found(table: &Table) -> Result<(), Fail> {
     let found = table.get(&image()).ok_or("no image")?;
-    assert!(rt; found.name() == image());
-    assert!(rt; found.is_hidden() && found.is_fresh());
-    assert!(rt; found.extents() == [3, 2].as_slice());
-    Ok(())
+    let is_right = table.seq() == 65545
+        && table.find(&Name::Mgt) == Some(0)
+        && table.find(&image()) == Some(1)
+        && table.get(&entry()).is_none()
+        && found.name() == image()
+        && found.is_hidden()
+        && found.is_fresh()
+        && found.extents() == [3, 2].as_slice();
+    holds(is_right, "the image of the table")
 }
 
 #[test]
@@ -215,7 +219,7 @@ fn volumes_are_found_by_name(rt: HostRuntime) -> Result<(), Fail> {
     let front = [0, 0, 0, 0, 0, 1, 0, 9, 0, 0, 0, 2];
     let marks = [3, 0, 0, 0, 2, 0, 0, 0, 3, 0, 0, 0, 2];
     let bytes = joined(rt.alloc(), &front, RECORDS, IMAGE, &marks)?;
-    is_found(&rt, &Table::decode(rt.alloc(), &bytes, 4)?)
+    is_found(&Table::decode(rt.alloc(), &bytes, 4)?)
 }
 
 // So many bytes, each of them ff.
@@ -231,8 +235,8 @@ fn filled(alloc: Global, size: usize) -> Result<Vec<u8>, Fail>
 
 // A buffer for the table's text with 3 bytes to spare, full of ff.
 fn buffer(alloc: Global, table: &Table) -> Result<Vec<u8>, Fail>
-    ensures fits { IfOk result (λ v. length (text (listing table.now)) ≤ length v.items) }
-    ensures numbers { IfOk result (λ v. HasText (listing table.now)) }
+    ensures fits { IfOk result (λ v. length (text (table_alone table.now)) ≤ length v.items) }
+    ensures numbers { IfOk result (λ v. HasText (table_alone table.now)) }
 {
     let size = table.length().saturating_add(3);
     let bytes = filled(alloc, size)?;
@@ -256,7 +260,7 @@ fn growth(change: &Change) -> usize
 
 // The text that the table foretells of a change.
 fn foretold(alloc: Global, table: &Table, change: &Change) -> Result<Vec<u8>, Fail>
-    requires { Allows (2 ^ 32) (listing table.now) change.now }
+    requires { Permits (2 ^ 32) (table_alone table.now) change.now }
 {
     let size = table.length().saturating_add(growth(change));
     let mut bytes = filled(alloc, size)?;
@@ -267,7 +271,7 @@ fn foretold(alloc: Global, table: &Table, change: &Change) -> Result<Vec<u8>, Fa
 
 // Makes the room that a change wants.
 fn make_room(table: &mut Table, change: &Change) -> Result<(), Fail>
-    ensures table { listing table.new ≡ listing table.old }
+    ensures table { table_alone table.new ≡ table_alone table.old }
     ensures room { OnOk result (HasRoom table.new change.now) }
 {
     match change {
@@ -299,7 +303,7 @@ fn is_foretold(
     change: &Change,
     bytes: &[u8],
 ) -> Result<(), Fail>
-    requires { Allows (2 ^ 32) (listing table.now) change.now }
+    requires { Permits (2 ^ 32) (table_alone table.now) change.now }
 {
     let told = foretold(alloc, table, change)?;
     assert!(rt; told.as_slice() == bytes);
@@ -472,27 +476,37 @@ fn allows(alloc: Global, table: &Table, list: &[u32]) -> Result<bool, Fail> {
     Ok(table.allows(&grow(alloc, list)?, 65536))
 }
 
-/// The largest table takes all extents that are left in either order, and none that it has.
-fn is_full(rt: &impl Abort, alloc: Global, table: &Table) -> Result<(), Fail> {
-    assert!(rt; table.volumes().len() == 500);
-    assert!(rt; table.length() == 284_851);
+// The extents that are left, in rising order.
+fn free_extents(alloc: Global) -> Result<Vec<u32>, AllocError> {
     let mut list = Vec::new(alloc);
     for extent in 65469..65536 {
         list.push(extent)?;
     }
-    let rising = allows(alloc, table, &list)?;
+    Ok(list)
+}
+
+// The table takes these extents in either order, and not one more that it has.
+fn takes(alloc: Global, table: &Table, list: &mut Vec<u32>) -> Result<bool, Fail> {
+    let rising = allows(alloc, table, list)?;
     list.reverse();
-    let falling = allows(alloc, table, &list)?;
+    let falling = allows(alloc, table, list)?;
     list.push(65468)?;
-    let more = allows(alloc, table, &list)?;
-    assert!(rt; rising && falling && !more);
-    Ok(())
+    let more = allows(alloc, table, list)?;
+    Ok(rising && falling && !more)
+}
+
+/// The largest table takes all extents that are left in either order, and none that it has.
+fn is_full(alloc: Global, table: &Table) -> Result<(), Fail> {
+    let is_large = table.volumes().len() == 500 && table.length() == 284_851;
+    let mut list = free_extents(alloc)?;
+    let is_taken = takes(alloc, table, &mut list)?;
+    holds(is_large && is_taken, "the largest table")
 }
 
 #[test]
 fn at_65536_extents_and_500_volumes(rt: HostRuntime) -> Result<(), Fail> {
     let bytes = large_text(rt.alloc())?;
     let table = Table::decode(rt.alloc(), &bytes, 65536)?;
-    is_full(&rt, rt.alloc(), &table)?;
+    is_full(rt.alloc(), &table)?;
     has_text(&rt, rt.alloc(), &table, &bytes)
 }

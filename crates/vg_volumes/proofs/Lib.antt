@@ -1,2 +1,4 @@
+pub mod CallLaws
 pub mod SpotLaws
+pub mod StoredLaws
 pub mod VolumeLaws

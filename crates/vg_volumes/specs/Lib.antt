@@ -1,3 +1,4 @@
 pub mod Commits
 pub mod Sites
+pub mod Stored
 pub mod Volumes

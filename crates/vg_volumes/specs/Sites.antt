@@ -3,8 +3,8 @@ use Rattle.std.specs.Prelude.{ℕ, ◌*◌, ◌≤◌, List, length}
 use Rattle.sm_base.specs.declared.names.Name.{Name}
 use Rattle.sm_base.specs.declared.sizes.Geometry.{Geometry}
 use Rattle.sm_disk.specs.Held.{Held}
-use Rattle.vg_meta.specs.Tables.{Listing, rows, extents_of}
-use Rattle.vg_meta.specs.Kept.{Kept, places}
+use Rattle.vg_meta.specs.Tables.{VolumeTable, rows, extents_of}
+use Rattle.vg_meta.specs.Roomy.{RoomyTable, places}
 use Rattle.vg_meta.specs.Text.{text}
 use Rattle.vg_meta.specs.declared.changes.Change.{Change}
 use Rattle.vg_meta.specs.Changes.{applied, spare_after, places_after}
@@ -22,11 +22,11 @@ abbrev pub area_size : Site → ℕ
 area_size s = s.count * s.geometry.extent
 
 -- the sectors of the volume of this name, 0 where there is none
-abbrev pub size_of : Site → Listing → Name → ℕ
+abbrev pub size_of : Site → VolumeTable → Name → ℕ
 size_of s t n = span s.geometry.extent (extents_of (rows t n))
 
 -- what the volume of this name holds
-abbrev pub volume_of : Site → Listing → Held → Name → Held
+abbrev pub volume_of : Site → VolumeTable → Held → Name → Held
 volume_of s t area n = volume s.geometry.extent (extents_of (rows t n)) area
 
 -- the most bytes that the table's text may have
@@ -34,15 +34,15 @@ abbrev pub text_limit : ℕ
 text_limit = 524288
 
 -- the text of the table after a change fits its slot
-abbrev pub Fits : Listing → Change → Type 0
+abbrev pub Fits : VolumeTable → Change → Type 0
 Fits t change = length (text (applied t change)) ≤ text_limit
 
 -- no spare number is lower than before
-pub record NoLessRoom (old new : Kept) : Type 0 where
+pub record NoLessRoom (old new : RoomyTable) : Type 0 where
   pub spare_rows : old.spare ≤ new.spare
   pub spare_extents : (n : Name) → places old n ≤ places new n
 
 -- after a change the spare numbers are at least those that it leaves
-pub record RoomAfter (change : Change) (old new : Kept) : Type 0 where
+pub record RoomAfter (change : Change) (old new : RoomyTable) : Type 0 where
   pub spare_rows : spare_after old.spare change ≤ new.spare
   pub spare_extents : (n : Name) → places_after (places old) change n ≤ places new n

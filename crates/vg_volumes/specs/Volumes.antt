@@ -1,7 +1,7 @@
 -- A volume is its extents, one after another (this project's format). The extents of a group are one run of
 -- sectors, the area: extent i begins at its sector i * extent. Here a volume is read off the area.
 use Rattle.std.specs.Prelude.{◌≡◌, ◌≢◌, ℕ, ◌+◌, ◌*◌, ◌/◌, ◌%◌, ◌<◌, ◌≤◌, List, [], length, slice_index, nat_lt, if◌then◌else◌}
-use Rattle.sm_disk.specs.Held.{Held}
+use Rattle.sm_disk.specs.Held.{Held, May, reads}
 
 -- the place in the area of a volume's sector p
 unfoldable pub spot : ℕ → List ℕ → ℕ → ℕ
@@ -35,3 +35,12 @@ IsElsewhere extent extents p = (q : ℕ) → q < span extent extents → spot ex
 pub record SameElsewhere (extent : ℕ) (extents : List ℕ) (old new : Held) : Type 0 where
   pub floor : (p : ℕ) → IsElsewhere extent extents p → new.floor p ≡ old.floor p
   pub pending : (p : ℕ) → IsElsewhere extent extents p → new.pending p ≡ old.pending p
+
+-- at each of these places a read gives what it gave, and a stop leaves nothing that it could not leave before
+pub record KeepsAt (P : ℕ → Type 0) (old new : Held) : Type 0 where
+  pub reads : (p : ℕ) → P p → reads new p ≡ reads old p
+  pub may : (p : ℕ) (v : List ℕ) → P p → May new p v → May old p v
+
+-- so at each place that the volume has not
+abbrev pub KeepsElsewhere : ℕ → List ℕ → Held → Held → Type 0
+KeepsElsewhere extent extents old new = KeepsAt (λ p. IsElsewhere extent extents p) old new

@@ -1,10 +1,10 @@
 //! The trait of a store of volumes.
 
-ghost use Rattle.std.specs.Prelude.{◌≡◌, ◌≤◌, ◌<◌, ◌+◌, ℕ, List, Bool, true, false, length, OnOk, OnErr};
+ghost use Rattle.std.specs.Prelude.{◌↔◌, ◌≡◌, ◌≤◌, ◌<◌, ◌+◌, ℕ, List, Bool, true, false, length, OnOk, OnErr, IsTrue};
 ghost use Rattle.sm_disk.specs.Held.{Held, IsWhole, SameHeld, Gave, Torn, Wrote, Keeps, IsSettled, HasSectors, Rose, reads};
-ghost use Rattle.vg_meta.specs.Tables.{Listing, IsTable, rows, extents_of};
-ghost use Rattle.vg_meta.specs.Kept.{Kept, listing, places};
-ghost use Rattle.vg_meta.specs.Changes.{Allows, HasRoom, applied};
+ghost use Rattle.vg_meta.specs.Tables.{VolumeTable, IsTable, rows, extents_of};
+ghost use Rattle.vg_meta.specs.Roomy.{RoomyTable, table_alone, places};
+ghost use Rattle.vg_meta.specs.Changes.{Permits, HasRoom, applied};
 ghost use Rattle.vg_volumes.specs.Commits.{IsBefore, IsEither};
 ghost use Rattle.vg_volumes.specs.Sites.{Site, area_size, size_of, volume_of, Fits, NoLessRoom, RoomAfter};
 ghost use Rattle.vg_volumes.specs.Volumes.{SameElsewhere};
@@ -22,7 +22,7 @@ pub trait Store {
     ghost site: { Self → Site };
 
     /// The table, and beside it the spare numbers.
-    ghost kept: { Self → Kept };
+    ghost table: { Self → RoomyTable };
 
     /// The sectors of all extents: what they hold, and what a crash may leave of them.
     ghost area: { Self → Held };
@@ -37,7 +37,7 @@ pub trait Store {
     ghost failed: { Self → Bool };
 
     /// What a stop may leave: a table, and the sectors of the area.
-    ghost leaves: { Self → Listing → (ℕ → List ℕ) → Type 0 };
+    ghost leaves: { Self → VolumeTable → (ℕ → List ℕ) → Type 0 };
 
     /// How many calls have failed. It never falls.
     ghost faults: { Self → ℕ };
@@ -54,8 +54,8 @@ pub trait Store {
 
     /// The table of volumes.
     fn table(&self) -> &Table
-        ensures table { result.now ≡ kept self.now }
-        ensures spread { IsTable (site self.now).count (listing (kept self.now)) };
+        ensures table { result.now ≡ table self.now }
+        ensures spread { IsTable (site self.now).count (table_alone (table self.now)) };
 
     /// The repository's UUID.
     fn repository(&self) -> Uuid
@@ -66,89 +66,95 @@ pub trait Store {
     fn reserve_for(&mut self, change: &Change) -> Result<(), NoMemory>
         ensures same { (site self.new ≡ site self.old) × (area self.new ≡ area self.old) × (failed self.new ≡ failed self.old) × (faults self.new ≡ faults self.old) }
         ensures device { (device self.new ≡ device self.old) × (beside self.new ≡ beside self.old) }
-        ensures table { listing (kept self.new) ≡ listing (kept self.old) }
-        ensures leaves { (t : Listing) (image : ℕ → List ℕ) → leaves self.new t image → leaves self.old t image }
-        ensures no_less { NoLessRoom (kept self.old) (kept self.new) }
-        ensures made { OnOk result (Allows (site self.old).count (listing (kept self.old)) change.now → HasRoom (kept self.new) change.now) };
+        ensures table { table_alone (table self.new) ≡ table_alone (table self.old) }
+        ensures leaves { (t : VolumeTable) (image : ℕ → List ℕ) → leaves self.new t image → leaves self.old t image }
+        ensures no_less { NoLessRoom (table self.old) (table self.new) }
+        ensures made { OnOk result (Permits (site self.old).count (table_alone (table self.old)) change.now → HasRoom (table self.new) change.now) };
 
     /// Makes room for rows: at `Ok` at least so many are spare. What is spare counts, so a step that adds several
     /// volumes asks for all of them at once.
     fn reserve_rows(&mut self, rows: usize) -> Result<(), NoMemory>
         ensures same { (site self.new ≡ site self.old) × (area self.new ≡ area self.old) × (failed self.new ≡ failed self.old) × (faults self.new ≡ faults self.old) }
         ensures device { (device self.new ≡ device self.old) × (beside self.new ≡ beside self.old) }
-        ensures table { listing (kept self.new) ≡ listing (kept self.old) }
-        ensures leaves { (t : Listing) (image : ℕ → List ℕ) → leaves self.new t image → leaves self.old t image }
-        ensures no_less { NoLessRoom (kept self.old) (kept self.new) }
-        ensures made { OnOk result (rows ≤ (kept self.new).spare) };
+        ensures table { table_alone (table self.new) ≡ table_alone (table self.old) }
+        ensures leaves { (t : VolumeTable) (image : ℕ → List ℕ) → leaves self.new t image → leaves self.old t image }
+        ensures no_less { NoLessRoom (table self.old) (table self.new) }
+        ensures made { OnOk result (rows ≤ (table self.new).spare) };
+
+    /// Whether a commit may make a change: it is allowed, there is room for it, and the text of the table after it fits
+    /// its slot. No call is made on the device.
+    fn is_ready(&self, change: &Change) -> bool
+        ensures ready { IsTrue result ↔ (Permits (site self.now).count (table_alone (table self.now)) change.now
+            × HasRoom (table self.now) change.now × Fits (table_alone (table self.now)) change.now) };
 
     /// Changes the table. At `Ok` the change has taken effect and nothing is pending. At `Failed` the store
     /// still answers the earlier table and reads as before, and no further commit is made.
     fn commit(&mut self, change: Change) -> Result<(), Failed>
         requires usable { failed self.old ≡ false }
-        requires allowed { Allows (site self.old).count (listing (kept self.old)) change }
-        requires room { HasRoom (kept self.old) change }
-        requires fits { Fits (listing (kept self.old)) change }
+        requires allowed { Permits (site self.old).count (table_alone (table self.old)) change }
+        requires room { HasRoom (table self.old) change }
+        requires fits { Fits (table_alone (table self.old)) change }
         ensures site { site self.new ≡ site self.old }
         ensures counts { faults self.old ≤ faults self.new }
         ensures cause { OnErr result (Rose (faults self.old) (faults self.new)) }
-        ensures changed { OnOk result ((listing (kept self.new) ≡ applied (listing (kept self.old)) change) × (failed self.new ≡ false)) }
-        ensures unchanged { OnErr result ((listing (kept self.new) ≡ listing (kept self.old)) × (failed self.new ≡ true)) }
-        ensures room_after { OnOk result (RoomAfter change (kept self.old) (kept self.new)) }
+        ensures changed { OnOk result ((table_alone (table self.new) ≡ applied (table_alone (table self.old)) change) × (failed self.new ≡ false)) }
+        ensures unchanged { OnErr result ((table_alone (table self.new) ≡ table_alone (table self.old)) × (failed self.new ≡ true)) }
+        ensures room_after { OnOk result (RoomAfter change (table self.old) (table self.new)) }
         ensures beside { told → Keeps (beside self.old) (beside self.new) }
         ensures keeps { told → Keeps (area self.old) (area self.new) }
         ensures settled { OnOk result (told → IsSettled (area self.new)) }
-        ensures crash { told → (t : Listing) (image : ℕ → List ℕ) → leaves self.new t image
-            → IsEither (area_size (site self.old)) (listing (kept self.old)) (applied (listing (kept self.old)) change) (area self.old) t image };
+        ensures crash { told → (t : VolumeTable) (image : ℕ → List ℕ) → leaves self.new t image
+            → IsEither (area_size (site self.old)) (table_alone (table self.old)) (applied (table_alone (table self.old)) change) (area self.old) t image };
 
     /// Reads whole sectors of a volume, at least one, from its sector `at` on.
     fn read(&mut self, volume: &Name, at: u64, to: &mut [u8]) -> Result<(), Failed>
-        requires { IsWhole at (length to.old) (size_of (site self.old) (listing (kept self.old)) volume.now) }
+        requires { IsWhole at (length to.old) (size_of (site self.old) (table_alone (table self.old)) volume.now) }
         ensures site { site self.new ≡ site self.old }
-        ensures table { (listing (kept self.new) ≡ listing (kept self.old)) × (failed self.new ≡ failed self.old) }
-        ensures no_less { NoLessRoom (kept self.old) (kept self.new) }
+        ensures table { (table_alone (table self.new) ≡ table_alone (table self.old)) × (failed self.new ≡ failed self.old) }
+        ensures no_less { NoLessRoom (table self.old) (table self.new) }
         ensures counts { faults self.old ≤ faults self.new }
         ensures cause { OnErr result (Rose (faults self.old) (faults self.new)) }
         ensures device { told → Keeps (device self.old) (device self.new) }
         ensures beside { told → Keeps (beside self.old) (beside self.new) }
         ensures same { told → SameHeld (area self.old) (area self.new) }
-        ensures leaves { told → (t : Listing) (image : ℕ → List ℕ) → leaves self.new t image → leaves self.old t image }
-        ensures gave { OnOk result (told → Gave at (volume_of (site self.old) (listing (kept self.old)) (area self.old) volume.now) to.new) };
+        ensures leaves { told → (t : VolumeTable) (image : ℕ → List ℕ) → leaves self.new t image → leaves self.old t image }
+        ensures gave { OnOk result (told → Gave at (volume_of (site self.old) (table_alone (table self.old)) (area self.old) volume.now) to.new) };
 
     /// Writes whole sectors of a volume, at least one, from its sector `at` on. No other volume is touched.
     fn write(&mut self, volume: &Name, at: u64, from: &[u8]) -> Result<(), Failed>
-        requires { IsWhole at (length from.now) (size_of (site self.old) (listing (kept self.old)) volume.now) }
+        requires { IsWhole at (length from.now) (size_of (site self.old) (table_alone (table self.old)) volume.now) }
         ensures site { site self.new ≡ site self.old }
-        ensures table { (listing (kept self.new) ≡ listing (kept self.old)) × (failed self.new ≡ failed self.old) }
-        ensures no_less { NoLessRoom (kept self.old) (kept self.new) }
+        ensures table { (table_alone (table self.new) ≡ table_alone (table self.old)) × (failed self.new ≡ failed self.old) }
+        ensures no_less { NoLessRoom (table self.old) (table self.new) }
         ensures counts { faults self.old ≤ faults self.new }
         ensures cause { OnErr result (Rose (faults self.old) (faults self.new)) }
         ensures beside { told → Keeps (beside self.old) (beside self.new) }
         ensures torn { told → Torn at from.now
-            (volume_of (site self.old) (listing (kept self.old)) (area self.old) volume.now)
-            (volume_of (site self.old) (listing (kept self.old)) (area self.new) volume.now) }
+            (volume_of (site self.old) (table_alone (table self.old)) (area self.old) volume.now)
+            (volume_of (site self.old) (table_alone (table self.old)) (area self.new) volume.now) }
         ensures wrote { OnOk result (told → Wrote at from.now
-            (volume_of (site self.old) (listing (kept self.old)) (area self.old) volume.now)
-            (volume_of (site self.old) (listing (kept self.old)) (area self.new) volume.now)) }
+            (volume_of (site self.old) (table_alone (table self.old)) (area self.old) volume.now)
+            (volume_of (site self.old) (table_alone (table self.old)) (area self.new) volume.now)) }
         ensures elsewhere { told → SameElsewhere (site self.old).geometry.extent
-            (extents_of (rows (listing (kept self.old)) volume.now)) (area self.old) (area self.new) };
+            (extents_of (rows (table_alone (table self.old)) volume.now)) (area self.old) (area self.new) };
 
     /// Makes all that was written last.
     fn sync(&mut self) -> Result<(), Failed>
         ensures site { site self.new ≡ site self.old }
-        ensures table { (listing (kept self.new) ≡ listing (kept self.old)) × (failed self.new ≡ failed self.old) }
-        ensures no_less { NoLessRoom (kept self.old) (kept self.new) }
+        ensures table { (table_alone (table self.new) ≡ table_alone (table self.old)) × (failed self.new ≡ failed self.old) }
+        ensures no_less { NoLessRoom (table self.old) (table self.new) }
         ensures counts { faults self.old ≤ faults self.new }
         ensures cause { OnErr result (Rose (faults self.old) (faults self.new)) }
         ensures device { told → Keeps (device self.old) (device self.new) }
         ensures beside { told → Keeps (beside self.old) (beside self.new) }
         ensures keeps { told → Keeps (area self.old) (area self.new) }
-        ensures leaves { told → (t : Listing) (image : ℕ → List ℕ) → leaves self.new t image → leaves self.old t image }
+        ensures leaves { told → (t : VolumeTable) (image : ℕ → List ℕ) → leaves self.new t image → leaves self.old t image }
         ensures settled { OnOk result (told → IsSettled (area self.new)) };
 
     /// While no commit has failed, a stop leaves the one table, and of the area a choice sector by sector.
-    ghost leaves_now: { (s : Self) → told → failed s ≡ false → (t : Listing) (image : ℕ → List ℕ) → leaves s t image
-        → IsBefore (area_size (site s)) (listing (kept s)) (area s) t image };
+    ghost leaves_now: { (s : Self) → told → failed s ≡ false → (t : VolumeTable) (image : ℕ → List ℕ) → leaves s t image
+        → IsBefore (area_size (site s)) (table_alone (table s)) (area s) t image };
 
     /// And it may leave what reads give.
-    ghost leaves_read: { (s : Self) → told → failed s ≡ false → leaves s (listing (kept s)) (reads (area s)) };
+    ghost leaves_read: { (s : Self) → told → failed s ≡ false → leaves s (table_alone (table s)) (reads (area s)) };
 }

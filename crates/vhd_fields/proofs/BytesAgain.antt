@@ -1,24 +1,17 @@
 -- Bytes that read as a number are the bytes of that number, and a run of fields is its fields.
-use Rattle.std.proofs.Common.{◌≡◌, ℕ, ◌+◌, ◌<◌, ◌≤◌, List, ◌++◌, All, length, get_or, take, drop, ap, ◌∙◌, inl, inr, arith}
+use Rattle.std.proofs.Common.{◌≡◌, ℕ, ◌+◌, ◌<◌, ◌≤◌, List, ◌++◌, All, length, get_or, take, drop, ap, ◌∙◌, arith}
 use Rattle.std.specs.Int.{w32, w64, from_be_bytes}
-use Rattle.std.proofs.lemmas.Bool.{cases_lt}
-use Rattle.std.proofs.lemmas.List.{drop-drop, length-take, length-drop, get_or-take, get_or_past}
-use Rattle.std.proofs.lemmas.List.Elements.{All-get_or, All-take, All-drop}
+use Rattle.std.proofs.lemmas.List.{drop-drop, length-take, length-drop, get_or-take}
+use Rattle.std.proofs.lemmas.List.Elements.{All-take, All-drop}
 use Rattle.std.proofs.lemmas.Nat.{be_bytes_4, be_bytes_8}
 use Rattle.std.proofs.Math.Seq.{take-add}
 use Rattle.byteorder.specs.Endian.{big_bytes}
+use Rattle.common_laws.proofs.Bytes.{byte_below}
 use Rattle.vhd_fields.specs.Fields.{bytes_at, number_at}
-
-each_fits : (xs : List ℕ) → All (λ byte. byte < 256) xs → (i : ℕ) → get_or xs i 0 < 256
-each_fits xs fits i =
-    elim (cases_lt i (length xs)) [
-      | inl within ↦ All-get_or (λ byte. byte < 256) xs i 0 within fits
-      | inr past ↦ rw (get_or_past xs i 0 past) (omega arith)
-    ]
 
 fits_at : (at many : ℕ) (bytes : List ℕ) → All (λ byte. byte < 256) bytes → (i : ℕ) → get_or (bytes_at at many bytes) i 0 < 256
 fits_at at many bytes fits =
-    each_fits (bytes_at at many bytes) (All-take (λ byte. byte < 256) many (drop at bytes) (All-drop (λ byte. byte < 256) at bytes fits))
+    byte_below (bytes_at at many bytes) (All-take (λ byte. byte < 256) many (drop at bytes) (All-drop (λ byte. byte < 256) at bytes fits))
 
 length_at : (at many : ℕ) (bytes : List ℕ) → at + many ≤ length bytes → length (bytes_at at many bytes) ≡ many
 length_at at many bytes within = omega (arith, length-take many (drop at bytes), length-drop at bytes)

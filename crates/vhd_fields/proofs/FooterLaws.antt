@@ -11,7 +11,7 @@ use Rattle.vhd_fields.specs.declared.footers.Footer.{Footer}
 use Rattle.vhd_fields.specs.Checksums.{checksum, ones_complement, sealed}
 use Rattle.vhd_fields.specs.DiskGeometry.{chs, heads_for, reach, geometry, geometry_within}
 use Rattle.vhd_fields.specs.Fields.{bytes_at, number_at, version}
-use Rattle.vhd_fields.specs.Footers.{FooterOf, IsFooter, HasRoom, KeepsFields, footer_front, footer_back, footer_bytes, footer_fields, footer_tests, footer_fault, footer_read, is_data_offset, is_size, is_disk_type}
+use Rattle.vhd_fields.specs.Footers.{FooterOf, IsFooter, FooterFits, KeepsFields, footer_front, footer_back, footer_bytes, footer_fields, footer_tests, footer_fault, footer_read, is_data_offset, is_size, is_disk_type}
 use Rattle.vhd_fields.proofs.BytesAgain.{bytes_again_4, bytes_again_8, five}
 use Rattle.vhd_fields.proofs.Sealing.{behind_checksum, checks}
 
@@ -56,7 +56,7 @@ unfolding geometry
 length_geometry n = within_four (min n (65535 * 16 * 255))
 
 -- the front's fields, whatever stands behind the front
-reads_front : (f : Footer) (tail : List ℕ) → HasRoom f → Fields f (concat (footer_front f) ++ tail)
+reads_front : (f : Footer) (tail : List ℕ) → FooterFits f → Fields f (concat (footer_front f) ++ tail)
 unfolding footer_front from_version from_kind
 reads_front f tail room =
     let all = concat (footer_front f) ++ tail in
@@ -80,23 +80,23 @@ reads_front f tail room =
           ap (big_number 4) (skip f.creator (from_version f) tail 28 32 room.creator refl ∙ skip shape (from_kind f) tail 0 4 (length_geometry (f.current / 512)) refl) ∙ big_number-reads_back 4 f.kind tail room.kind;
     }
 
-pub length_front : (f : Footer) → HasRoom f → length (concat (footer_front f)) ≡ 64
+pub length_front : (f : Footer) → FooterFits f → length (concat (footer_front f)) ≡ 64
 unfolding footer_front from_version from_kind
 length_front f room =
     let shape = geometry (f.current / 512) in
     omega (arith, room.creator, length_geometry (f.current / 512), length-append f.creator (from_version f), length-append shape (from_kind f))
 
-reads_all : (f : Footer) → HasRoom f → Fields f (footer_bytes f)
+reads_all : (f : Footer) → FooterFits f → Fields f (footer_bytes f)
 unfolding footer_bytes sealed
 reads_all f room =
     reads_front f (big_bytes 4 (ones_complement (sum (concat (footer_front f)) + sum (concat (footer_back f)))) ++ concat (footer_back f)) room
 
-reads_uid : (f : Footer) → HasRoom f → bytes_at 68 16 (footer_bytes f) ≡ f.uid
+reads_uid : (f : Footer) → FooterFits f → bytes_at 68 16 (footer_bytes f) ≡ f.uid
 unfolding footer_bytes footer_back
 reads_uid f room =
     ap (take 16) (behind_checksum 64 (concat (footer_front f)) (concat (footer_back f)) (length_front f room)) ∙ take_at f.uid (concat (replicate 428 0 ∷ [])) 16 room.uid
 
-is_checked : (f : Footer) → HasRoom f → number_at 64 4 (footer_bytes f) ≡ checksum 64 (footer_bytes f)
+is_checked : (f : Footer) → FooterFits f → number_at 64 4 (footer_bytes f) ≡ checksum 64 (footer_bytes f)
 unfolding footer_bytes
 is_checked f room = checks 64 (concat (footer_front f)) (concat (footer_back f)) (length_front f room)
 
@@ -117,7 +117,7 @@ same_fields f bytes fields uid =
     rw (fields.stamp, fields.creator, fields.creator_version, fields.host, fields.original, fields.current, fields.kind, fields.data_offset, uid) refl
 
 -- what is written of fields that pass the tests is read as they are
-pub reads_back : (f : Footer) → IsFooter f → HasRoom f → footer_read (footer_bytes f) ≡ Ok f
+pub reads_back : (f : Footer) → IsFooter f → FooterFits f → footer_read (footer_bytes f) ≡ Ok f
 reads_back f good room =
     let fields = reads_all f room in
     rw (passes f (footer_bytes f) good fields (is_checked f room)) (ap Ok (same_fields f (footer_bytes f) fields (reads_uid f room)))
@@ -130,7 +130,7 @@ record Kept (f : Footer) (bytes : List ℕ) : Type 0 where
   host : bytes_at 36 4 bytes ≡ big_bytes 4 f.host
   original : bytes_at 40 8 bytes ≡ big_bytes 8 f.original
 
-kept_front : (f : Footer) (tail : List ℕ) → HasRoom f → Kept f (concat (footer_front f) ++ tail)
+kept_front : (f : Footer) (tail : List ℕ) → FooterFits f → Kept f (concat (footer_front f) ++ tail)
 unfolding footer_front from_version
 kept_front f tail room = record {
   stamp = refl;
@@ -140,7 +140,7 @@ kept_front f tail room = record {
   original = ap (take 8) (skip f.creator (from_version f) tail 8 12 room.creator refl);
 }
 
-kept_all : (f : Footer) → HasRoom f → Kept f (footer_bytes f)
+kept_all : (f : Footer) → FooterFits f → Kept f (footer_bytes f)
 unfolding footer_bytes sealed
 kept_all f room =
     kept_front f (big_bytes 4 (ones_complement (sum (concat (footer_front f)) + sum (concat (footer_back f)))) ++ concat (footer_back f)) room
@@ -160,16 +160,9 @@ kept_is f bytes kept =
     five bytes ∙ rw (kept.stamp, kept.creator, kept.creator_version, kept.host, kept.original) refl
 
 -- a footer that is read and written again keeps these fields
-pub keeps : (f : Footer) (old : List ℕ) → HasRoom f → length old ≡ 512 → All (λ byte. byte < 256) old → FooterOf old f → KeepsFields old (footer_bytes f)
+pub keeps : (f : Footer) (old : List ℕ) → FooterFits f → length old ≡ 512 → All (λ byte. byte < 256) old → FooterOf old f → KeepsFields old (footer_bytes f)
 unfolding footer_fields
 keeps f old room long fits is = record {
   stamp_to_original = kept_is f (footer_bytes f) (kept_all f room) ∙ sym (kept_is f old (kept_old f old long fits is.fields));
   uid = reads_uid f room ∙ ap (λ (g : Footer). g.uid) is.fields;
 }
-
--- a footer takes 512 bytes
-pub length_footer : (f : Footer) → HasRoom f → length (footer_bytes f) ≡ 512
-unfolding footer_bytes sealed footer_back
-length_footer f room =
-    let n = ones_complement (sum (concat (footer_front f)) + sum (concat (footer_back f))) in
-    omega (arith, room.uid, length_front f room, length-append (concat (footer_front f)) (big_bytes 4 n ++ concat (footer_back f)), length-append f.uid (concat (replicate 428 0 ∷ [])))

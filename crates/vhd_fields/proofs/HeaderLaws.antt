@@ -1,5 +1,5 @@
 -- What is written of a header is read as it was.
-use Rattle.std.proofs.Common.{◌≡◌, ℕ, ◌+◌, true, List, [], ◌∷◌, ◌++◌, length, take, drop, codes, sum, replicate, Some, None, Ok, refl, sym, ap, ◌∙◌, eq-eqb, ◌≤◌, length-append, arith}
+use Rattle.std.proofs.Common.{◌≡◌, ℕ, ◌+◌, true, List, [], ◌∷◌, ◌++◌, length, take, drop, codes, sum, replicate, Some, None, Ok, refl, sym, ap, ◌∙◌, eq-eqb, ◌≤◌, arith}
 use Rattle.std.specs.Prelude.{◌==◌}
 use Rattle.std.specs.List.{concat}
 use Rattle.std.specs.Str.{bytes_eq}
@@ -9,7 +9,7 @@ use Rattle.byteorder.specs.Numbers.{big_number-reads_back}
 use Rattle.vhd_fields.specs.declared.headers.Header.{Header}
 use Rattle.vhd_fields.specs.Checksums.{checksum, ones_complement, sealed}
 use Rattle.vhd_fields.specs.Fields.{bytes_at, number_at, version}
-use Rattle.vhd_fields.specs.Headers.{IsHeader, HasRoom, header_front, header_back, header_bytes, header_fields, header_tests, header_fault, header_read, is_table_offset, is_entries, is_block}
+use Rattle.vhd_fields.specs.Headers.{IsHeader, HeaderFits, header_front, header_back, header_bytes, header_fields, header_tests, header_fault, header_read, is_table_offset, is_entries, is_block}
 use Rattle.vhd_fields.specs.ParentNames.{IsParent, parent_bytes, parent_read}
 use Rattle.vhd_fields.proofs.ParentLaws.{ends_in_zeros, length_parent, parent_again}
 use Rattle.vhd_fields.proofs.Sealing.{behind_checksum, checks}
@@ -23,7 +23,7 @@ record Fields (h : Header) (bytes : List ℕ) : Type 0 where
   block : number_at 32 4 bytes ≡ h.block
 
 -- the front's fields, whatever stands behind the front
-reads_front : (h : Header) (tail : List ℕ) → HasRoom h → Fields h (concat (header_front h) ++ tail)
+reads_front : (h : Header) (tail : List ℕ) → HeaderFits h → Fields h (concat (header_front h) ++ tail)
 unfolding header_front
 reads_front h tail room =
     let all = concat (header_front h) ++ tail in
@@ -39,7 +39,7 @@ pub length_front : (h : Header) → length (concat (header_front h)) ≡ 36
 unfolding header_front
 length_front h = refl
 
-reads_all : (h : Header) → HasRoom h → Fields h (header_bytes h)
+reads_all : (h : Header) → HeaderFits h → Fields h (header_bytes h)
 unfolding header_bytes sealed
 reads_all h room =
     reads_front h (big_bytes 4 (ones_complement (sum (concat (header_front h)) + sum (concat (header_back h)))) ++ concat (header_back h)) room
@@ -52,21 +52,21 @@ behind_header h = behind_checksum 36 (concat (header_front h)) (concat (header_b
 from_stamp : Header → List ℕ
 from_stamp h = concat (big_bytes 4 h.parent_stamp ∷ big_bytes 4 0 ∷ parent_bytes h.parent ∷ replicate 448 0 ∷ [])
 
-behind_uid : (h : Header) → HasRoom h → drop 56 (header_bytes h) ≡ from_stamp h
+behind_uid : (h : Header) → HeaderFits h → drop 56 (header_bytes h) ≡ from_stamp h
 unfolding header_back from_stamp
 behind_uid h room =
     sym (drop-drop 16 40 (header_bytes h)) ∙ ap (drop 16) (behind_header h) ∙ drop_at h.parent_uid (from_stamp h) 16 room.parent_uid
 
-reads_uid : (h : Header) → HasRoom h → bytes_at 40 16 (header_bytes h) ≡ h.parent_uid
+reads_uid : (h : Header) → HeaderFits h → bytes_at 40 16 (header_bytes h) ≡ h.parent_uid
 unfolding header_back from_stamp
 reads_uid h room = ap (take 16) (behind_header h) ∙ take_at h.parent_uid (from_stamp h) 16 room.parent_uid
 
-reads_stamp : (h : Header) → HasRoom h → number_at 56 4 (header_bytes h) ≡ h.parent_stamp
+reads_stamp : (h : Header) → HeaderFits h → number_at 56 4 (header_bytes h) ≡ h.parent_stamp
 unfolding from_stamp
 reads_stamp h room =
     ap (big_number 4) (behind_uid h room) ∙ big_number-reads_back 4 h.parent_stamp (drop 4 (from_stamp h)) room.parent_stamp
 
-reads_parent : (h : Header) → HasRoom h → IsParent h.parent → bytes_at 64 512 (header_bytes h) ≡ parent_bytes h.parent
+reads_parent : (h : Header) → HeaderFits h → IsParent h.parent → bytes_at 64 512 (header_bytes h) ≡ parent_bytes h.parent
 unfolding from_stamp
 reads_parent h room image =
     let behind : drop 64 (header_bytes h) ≡ drop 8 (from_stamp h) = sym (drop-drop 8 56 (header_bytes h)) ∙ ap (drop 8) (behind_uid h room) in
@@ -76,7 +76,7 @@ is_checked : (h : Header) → number_at 36 4 (header_bytes h) ≡ checksum 36 (h
 unfolding header_bytes
 is_checked h = checks 36 (concat (header_front h)) (concat (header_back h)) (length_front h)
 
-reads_name : (h : Header) → HasRoom h → IsParent h.parent → parent_read (bytes_at 64 512 (header_bytes h)) ≡ Some h.parent
+reads_name : (h : Header) → HeaderFits h → IsParent h.parent → parent_read (bytes_at 64 512 (header_bytes h)) ≡ Some h.parent
 reads_name h room image = ap parent_read (reads_parent h room image) ∙ parent_again h.parent image
 
 passes : (h : Header) (bytes : List ℕ) → IsHeader h → Fields h bytes → number_at 36 4 bytes ≡ checksum 36 bytes → parent_read (bytes_at 64 512 bytes) ≡ Some h.parent → header_fault bytes ≡ None
@@ -96,26 +96,17 @@ same_fields h bytes fields uid stamp parent =
     rw (fields.table_offset, fields.entries, fields.block, uid, stamp, parent) refl
 
 -- what is written of fields that pass the tests is read as they are
-pub reads_back : (h : Header) → IsHeader h → HasRoom h → header_read (header_bytes h) ≡ Ok h
+pub reads_back : (h : Header) → IsHeader h → HeaderFits h → header_read (header_bytes h) ≡ Ok h
 reads_back h good room =
     let fields = reads_all h room in
     let parent = reads_name h room good.parent in
     rw (passes h (header_bytes h) good fields (is_checked h) parent) (ap Ok (same_fields h (header_bytes h) fields (reads_uid h room) (reads_stamp h room) parent))
 
 -- the second sector of a header is zeros
-pub second_sector : (h : Header) → HasRoom h → IsParent h.parent → drop 512 (header_bytes h) ≡ replicate 512 0
+pub second_sector : (h : Header) → HeaderFits h → IsParent h.parent → drop 512 (header_bytes h) ≡ replicate 512 0
 unfolding from_stamp
 second_sector h room image =
     let field = parent_bytes h.parent in
     let locators : List ℕ = concat (replicate 448 0 ∷ []) in
     let long : 448 ≤ length field = omega (arith, length_parent h.parent image) in
     sym (drop-drop 456 56 (header_bytes h)) ∙ ap (drop 456) (behind_uid h room) ∙ drop-append-le 448 field locators long ∙ ap (λ (zeros : List ℕ). zeros ++ locators) (ends_in_zeros h.parent image)
-
--- a header takes 1,024 bytes
-pub length_header : (h : Header) → HasRoom h → IsParent h.parent → length (header_bytes h) ≡ 1024
-unfolding header_bytes sealed header_back
-length_header h room image =
-    let field = parent_bytes h.parent in
-    let locators : List ℕ = concat (replicate 448 0 ∷ []) in
-    let n = ones_complement (sum (concat (header_front h)) + sum (concat (header_back h))) in
-    omega (arith, room.parent_uid, length_front h, length_parent h.parent image, length-append (concat (header_front h)) (big_bytes 4 n ++ concat (header_back h)), length-append h.parent_uid (concat (big_bytes 4 h.parent_stamp ∷ big_bytes 4 0 ∷ field ∷ replicate 448 0 ∷ [])), length-append field locators)

@@ -8,6 +8,7 @@ use Rattle.std.proofs.Math.Seq.{drop-append-add}
 use Rattle.std.proofs.lemmas.Grind.{same_number_lists}
 use Rattle.std.proofs.lemmas.Slice.Eq.{bytes_eq-Decides}
 use Rattle.uuid.specs.Text.{parsed}
+use Rattle.common_laws.proofs.Bytes.{bytes_eq-same, bytes_eq-refl}
 use Rattle.sm_base.specs.declared.names.Name.{Name}
 use Rattle.sm_base.specs.declared.names.Name.TheVariants.{Mgt, Vhd, Raw, Old, Clone, Inflate, Coalesce, Relink, Leaf}
 use Rattle.sm_base.specs.Names.{IsUuid, IsName, spelling, uuid_text}
@@ -18,19 +19,13 @@ use Rattle.vhd_fields.proofs.Utf16.{length-utf16, low_bytes-utf16, character_at}
 
 -- ---- bytes that are compared
 
-same : (xs ys : List ℕ) → bytes_eq xs ys ≡ true → xs ≡ ys
-same xs ys e = (bytes_eq-Decides xs ys).0 e
-
-itself : (xs : List ℕ) → bytes_eq xs xs ≡ true
-itself xs = (bytes_eq-Decides xs xs).1 refl
-
 differ : (b : Bool) (P : Type 0) → (b ≡ true → P) → (P → ⊥) → b ≡ false
 differ true P f h = absurd (h (f refl))
 differ false P f h = refl
 
 differ_at : (xs ys : List ℕ) (k : ℕ) → (get_or xs k 0 ≡ get_or ys k 0 → ⊥) → bytes_eq xs ys ≡ false
 differ_at xs ys k h =
-    differ (bytes_eq xs ys) (get_or xs k 0 ≡ get_or ys k 0) (λ e. ap (λ (l : List ℕ). get_or l k 0) (same xs ys e)) h
+    differ (bytes_eq xs ys) (get_or xs k 0 ≡ get_or ys k 0) (λ e. ap (λ (l : List ℕ). get_or l k 0) (bytes_eq-same xs ys e)) h
 
 -- ---- a parent that is given is read
 
@@ -42,7 +37,7 @@ named_again kind at front u spelled rest gone is behind =
     let field = utf16 (spelling (kind u)) ++ zeros in
     let lows : low_bytes field ≡ (front ++ uuid_text u) ++ low_bytes zeros = low_bytes-utf16 (spelling (kind u)) zeros ∙ ap (λ (l : List ℕ). l ++ low_bytes zeros) spelled in
     let text : take 36 (drop at (low_bytes field)) ≡ uuid_text u = ap (λ (l : List ℕ). take 36 (drop at l)) lows ∙ ap (take 36) (behind (low_bytes zeros)) ∙ take_at (uuid_text u) (low_bytes zeros) 36 (length-uuid_text u) in
-    rw (text, ← parsed-uuid_text u is, itself field) refl
+    rw (text, ← parsed-uuid_text u is, bytes_eq-refl field) refl
 
 -- another name of that kind does not stand there
 named_not : (kind : List ℕ → Name) (field : List ℕ) (o : Option (List ℕ)) → ((u : List ℕ) → bytes_eq (parent_bytes (Some (kind u))) field ≡ false) → option_and_then (λ u. if bytes_eq (parent_bytes (Some (kind u))) field then Some (kind u) else None) o ≡ None
@@ -71,7 +66,7 @@ raw_again u is = named_again Raw 3 (codes "LV-") u refl [] refl is (λ rest. ref
 
 pub parent_again : (p : Option Name) → IsParent p → parent_read (parent_bytes p) ≡ Some p
 unfolding parent_read IsParent IsName
-parent_again None is = rw (itself (parent_bytes None)) refl
+parent_again None is = rw (bytes_eq-refl (parent_bytes None)) refl
 parent_again (Some (Vhd u)) is =
     let field = parent_bytes (Some (Vhd u)) in
     let some : bytes_eq (parent_bytes None) field ≡ false = differ_at (parent_bytes None) field 1 (λ e. absurd (omega (arith, e, second_none, second_vhd u))) in
@@ -105,7 +100,7 @@ named_found_by : (kind : List ℕ → Name) (text field : List ℕ) (n : Name) (
 named_found_by kind text field n None is e = absurd cc
 named_found_by kind text field n (Some u) is e =
     let t = tested (bytes_eq (parent_bytes (Some (kind u))) field) (kind u) n e in
-    record { u = u; uuid = IsUuid-from_parsed text u is; name = sym t.1; spelled = same (parent_bytes (Some (kind u))) field t.0 }
+    record { u = u; uuid = IsUuid-from_parsed text u is; name = sym t.1; spelled = bytes_eq-same (parent_bytes (Some (kind u))) field t.0 }
 
 named_found : (kind : List ℕ → Name) (at : ℕ) (field : List ℕ) (n : Name) → named kind at field ≡ Some n → Found kind field n
 named_found kind at field n e =
@@ -124,7 +119,7 @@ pub parent_is : (field : List ℕ) (p : Option Name) → parent_read field ≡ S
 unfolding parent_read IsParent IsName
 parent_is field p e =
     elim (zeros_or (bytes_eq (parent_bytes None) field) (option_map Some (option_or (named Vhd 4 field) (named Raw 3 field))) p e) [
-      | inl none ↦ rw none.1 (record { image = tt; spelled = sym (same (parent_bytes None) field none.0) })
+      | inl none ↦ rw none.1 (record { image = tt; spelled = sym (bytes_eq-same (parent_bytes None) field none.0) })
       | inr some ↦
           let n = either (named Vhd 4 field) (named Raw 3 field) p some in
           rw n.1 (elim n.2 [
@@ -166,13 +161,7 @@ starts : (n : Name) → IsParent (Some n) → first_is_image (spelling n) ≡ tr
 unfolding first_is_image spelling IsParent
 starts (Vhd u) is = refl
 starts (Raw u) is = refl
-starts Mgt is = absurd cc
-starts (Old u) is = absurd cc
-starts (Clone disk base twin) is = absurd cc
-starts (Inflate image extents) is = absurd cc
-starts (Coalesce child parent) is = absurd cc
-starts (Relink child parent) is = absurd cc
-starts (Leaf leaf parent) is = absurd cc
+starts _ is = absurd cc
 
 never : (P : Type 0) → false ≡ true → P
 never P e = absurd cc
@@ -182,13 +171,7 @@ pub also_image : (m n : Name) → IsParent (Some n) → spelling m ≡ spelling 
 unfolding first_is_image spelling
 also_image (Vhd u) n is e = refl
 also_image (Raw u) n is e = refl
-also_image Mgt n is e = never _ (ap first_is_image e ∙ starts n is)
-also_image (Old u) n is e = never _ (ap first_is_image e ∙ starts n is)
-also_image (Clone disk base twin) n is e = never _ (ap first_is_image e ∙ starts n is)
-also_image (Inflate image extents) n is e = never _ (ap first_is_image e ∙ starts n is)
-also_image (Coalesce child parent) n is e = never _ (ap first_is_image e ∙ starts n is)
-also_image (Relink child parent) n is e = never _ (ap first_is_image e ∙ starts n is)
-also_image (Leaf leaf parent) n is e = never _ (ap first_is_image e ∙ starts n is)
+also_image _ n is e = never _ (ap first_is_image e ∙ starts n is)
 
 pub is_parent : (n : Name) → IsName n → is_image n ≡ true → IsParent (Some n)
 unfolding IsParent
@@ -229,13 +212,7 @@ characters (Raw u) field text n image is long each cut =
     let all : Characters field text = record { long = long; each = each } in
     let whole : n ≡ 39 = (cut_at (get_or text 0 0) n cut).1 (first_of (Raw u) field text is all ∙ second_raw u) in
     spelled_by (Raw u) field text n is all (omega (arith, length-spelling (Raw u))) (omega arith)
-characters Mgt field text n image is long each cut = absurd cc
-characters (Old u) field text n image is long each cut = absurd cc
-characters (Clone disk base twin) field text n image is long each cut = absurd cc
-characters (Inflate image' extents) field text n image is long each cut = absurd cc
-characters (Coalesce child parent) field text n image is long each cut = absurd cc
-characters (Relink child parent) field text n image is long each cut = absurd cc
-characters (Leaf leaf parent) field text n image is long each cut = absurd cc
+characters _ field text n image is long each cut = absurd cc
 
 -- ---- the answers of the reader
 
@@ -244,11 +221,11 @@ no_bytes xs ys e is = never ⊥ (sym e ∙ (bytes_eq-Decides xs ys).1 is)
 
 pub zeros_read : (field : List ℕ) → bytes_eq field (replicate 512 0) ≡ true → Some None ≡ parent_read field
 unfolding parent_bytes IsParent
-zeros_read field e = sym (ap parent_read (same field (replicate 512 0) e) ∙ parent_again None tt)
+zeros_read field e = sym (ap parent_read (bytes_eq-same field (replicate 512 0) e) ∙ parent_again None tt)
 
 pub name_read : (name : Name) (field : List ℕ) → IsParent (Some name) → bytes_eq (parent_bytes (Some name)) field ≡ true → Some (Some name) ≡ parent_read field
 name_read name field image e =
-    sym (ap parent_read (sym (same (parent_bytes (Some name)) field e)) ∙ parent_again (Some name) image)
+    sym (ap parent_read (sym (bytes_eq-same (parent_bytes (Some name)) field e)) ∙ parent_again (Some name) image)
 
 pub none_read : (field : List ℕ) → bytes_eq field (replicate 512 0) ≡ false → ((name : Name) → IsParent (Some name) → field ≡ parent_bytes (Some name) → ⊥) → None ≡ parent_read field
 unfolding parent_bytes

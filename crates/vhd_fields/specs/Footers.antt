@@ -97,7 +97,7 @@ pub record IsFooter (footer : Footer) : Type 0 where
   pub kind : IsTrue (is_disk_type footer.kind)
 
 -- fields that have room in their bytes
-pub record HasRoom (footer : Footer) : Type 0 where
+pub record FooterFits (footer : Footer) : Type 0 where
   pub stamp : footer.stamp < 2 ^ 32
   pub creator : length footer.creator ≡ 4
   pub creator_version : footer.creator_version < 2 ^ 32

@@ -93,7 +93,7 @@ pub record IsHeader (header : Header) : Type 0 where
   pub parent : IsParent header.parent
 
 -- fields that have room in their bytes
-pub record HasRoom (header : Header) : Type 0 where
+pub record HeaderFits (header : Header) : Type 0 where
   pub table_offset : header.table_offset < 2 ^ 64
   pub entries : header.entries < 2 ^ 32
   pub block : header.block < 2 ^ 32

@@ -2,7 +2,7 @@
 
 ghost use Rattle.std.specs.Prelude.{◌≡◌, ◌<◌, ℕ, List, length, take, All, IfOk, IfErr};
 ghost use Rattle.std.specs.List.{concat};
-ghost use Rattle.vhd_fields.specs.Footers.{FooterOf, HasRoom, IsFooter, KeepsFields, footer_bytes, footer_fault, footer_fields, footer_front, footer_read, is_data_offset, is_disk_type, is_size};
+ghost use Rattle.vhd_fields.specs.Footers.{FooterOf, FooterFits, IsFooter, KeepsFields, footer_bytes, footer_fault, footer_fields, footer_front, footer_read, is_data_offset, is_disk_type, is_size};
 
 use crate::checksums::{checksum_of, seal};
 use crate::faults::FieldFault;
@@ -142,7 +142,7 @@ impl Footer {
     fn put_front(self, to: &mut [u8; 512]) -> usize
         ensures next { result ≡ 64 }
         ensures written { take 64 to.new ≡ concat (footer_front self) }
-        ensures room { HasRoom self }
+        ensures room { FooterFits self }
     {
         let at = put(to, 0, b"conectix");
         let at = put_u32(to, at, 2);

@@ -2,7 +2,7 @@
 
 ghost use Rattle.std.specs.Prelude.{◌≡◌, ◌++◌, take, drop, replicate, IfOk, IfErr};
 ghost use Rattle.std.specs.List.{concat};
-ghost use Rattle.vhd_fields.specs.Headers.{HasRoom, HeaderOf, IsHeader, header_back, header_bytes, header_fault, header_fields, header_front, header_read, is_block, is_entries, is_table_offset};
+ghost use Rattle.vhd_fields.specs.Headers.{HeaderFits, HeaderOf, IsHeader, header_back, header_bytes, header_fault, header_fields, header_front, header_read, is_block, is_entries, is_table_offset};
 ghost use Rattle.vhd_fields.specs.ParentNames.{IsParent};
 
 use crate::checksums::{checksum_of, seal};
@@ -136,7 +136,7 @@ impl Header {
     fn put_front(self, to: &mut [u8; 1024]) -> usize
         ensures next { result ≡ 36 }
         ensures written { take 36 to.new ≡ concat (header_front self) }
-        ensures room { HasRoom self }
+        ensures room { HeaderFits self }
     {
         let at = put(to, 0, b"cxsparse");
         let at = put_u64(to, at, u64::MAX);

@@ -19,7 +19,7 @@ use Rattle.vhd_volumes.specs.declared.heads.Head.{Head}
 use Rattle.vhd_volumes.specs.Truth.{IsTrueIn, layout_in, disk_blocks, HasRoomFor}
 use Rattle.vhd_image.specs.Calls.{MayPut}
 use Rattle.vhd_image.specs.Changes.{IsSameImage, StaysTrue}
-use Rattle.vhd_image.specs.Opened.{ReadsAs}
+use Rattle.vhd_image.specs.Opened.{ReadsAsImage}
 use Rattle.vhd_image.proofs.ContentLaws.{is-layout}
 use Rattle.vhd_image.proofs.OpeningLaws.{header-same, footer-own}
 use Rattle.vhd_image.proofs.KeptLaws.{SameBody, size-same, parent-same, says-same, image-same}
@@ -163,7 +163,7 @@ module _ (g : Geometry) (n : ℕ) (head : Head) (m : List (Option ℕ)) (q : ℕ
   end-stays = ⊎_elim at-end away-from-end (cases_eq q (n - 1))
 
   -- once it is written, the image ends there
-  pub end-reads : reads b q ≡ bytes → ReadsAs g (q + 1) b head m
+  pub end-reads : reads b q ≡ bytes → ReadsAsImage g (q + 1) b head m
   unfolding entries_in_sectors slot_count
   end-reads here =
       let kept = end-stays.true_now.now in

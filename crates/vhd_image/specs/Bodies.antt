@@ -3,6 +3,8 @@ use Rattle.std.specs.Prelude.{ℕ, ◌≤◌, nat_lt, if◌then◌else◌, List,
 use Rattle.sm_base.specs.declared.names.Name.{Name}
 use Rattle.sm_base.specs.declared.sizes.Geometry.{Geometry}
 use Rattle.sm_disk.specs.Held.{Held}
+use Rattle.vg_volumes.specs.Stored.{Stored, stored, sectors_in, held_in}
+use Rattle.vg_volumes.specs.declared.stores.Store.{Ghosts}
 use Rattle.vhd_map.specs.Slots.{top_of}
 use Rattle.vhd_layout.specs.Layouts.{Sectors}
 use Rattle.vhd_volumes.specs.declared.heads.Head.{Head}
@@ -65,3 +67,25 @@ TrueIn g sectors h (Vhd head m) = IsTrueIn g sectors h head m
 abbrev pub own_of : Geometry → ℕ → Body → Sectors → ℕ → Option (List ℕ)
 own_of g sectors (Raw volume size) v s = if nat_lt s size then Some (v s) else None
 own_of g sectors (Vhd head m) v s = own_in (layout_in g head.footer sectors) v s
+
+-- ---- the same in its volume of a store
+
+-- the image stands there
+abbrev pub ImageStands : Stored → Body → Type 0
+ImageStands x body = StandsIn x.site.geometry (sectors_in x (volume_name body)) body
+
+-- and is true of what the volume holds
+abbrev pub ImageIsTrue : Stored → Body → Type 0
+ImageIsTrue x body = TrueIn x.site.geometry (sectors_in x (volume_name body)) (held_in x (volume_name body)) body
+
+-- the sector of the disk, where the image there holds it
+abbrev pub own_now : Stored → Body → Sectors → ℕ → Option (List ℕ)
+own_now x body v s = own_of x.site.geometry (sectors_in x (volume_name body)) body v s
+
+-- where it is a VHD image and the store tells its content: this is so of what its volume holds
+abbrev pub IfVhdHolds : {S : Type 0} → Ghosts S → Body → (Head → List (Option ℕ) → Held → Type 0) → S → Type 0
+IfVhdHolds g body P s = g.told → IfVhd body (λ head m. P head m (held_in (stored g s) head.volume))
+
+-- and this happened to it
+abbrev pub IfVhdDoes : {S : Type 0} → Ghosts S → Body → (Head → List (Option ℕ) → Held → Held → Type 0) → S → S → Type 0
+IfVhdDoes g body P old new = g.told → IfVhd body (λ head m. P head m (held_in (stored g old) head.volume) (held_in (stored g new) head.volume))

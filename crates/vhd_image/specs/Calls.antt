@@ -1,19 +1,6 @@
--- What one call did to the sectors of a store.
-use Rattle.std.specs.Prelude.{◌≡◌, ◌≢◌, ℕ, ◌-◌, ◌≤◌, ◌⊎◌, Bool, List}
-use Rattle.sm_disk.specs.Held.{Held, May, SameHeld, Reaches, reads}
-use Rattle.vg_meta.specs.Kept.{Kept, listing}
-use Rattle.vg_meta.specs.Tables.{Listing}
-use Rattle.vg_volumes.specs.Sites.{Site, NoLessRoom}
-
--- nothing was written: the store holds what it held, and a stop leaves nothing that it could not leave before
-pub record ReadsOnly {S : Type 0} (told : Type 0) (site : S → Site) (kept : S → Kept) (area : S → Held) (failed : S → Bool) (faults : S → ℕ) (leaves : S → Listing → (ℕ → List ℕ) → Type 0) (old new : S) : Type 0 where
-  pub same_site : site new ≡ site old
-  pub same_table : listing (kept new) ≡ listing (kept old)
-  pub same_flag : failed new ≡ failed old
-  pub room : NoLessRoom (kept old) (kept new)
-  pub counts : faults old ≤ faults new
-  pub same : told → SameHeld (area old) (area new)
-  pub left : told → (t : Listing) (image : ℕ → List ℕ) → leaves new t image → leaves old t image
+-- What one call did to the sectors of a volume.
+use Rattle.std.specs.Prelude.{◌≡◌, ◌≢◌, ℕ, ◌-◌, ◌⊎◌, List}
+use Rattle.sm_disk.specs.Held.{Held, May, Reaches, reads}
 
 -- the bytes at their place
 abbrev pub IsAt : ℕ → List ℕ → ℕ → List ℕ → Type 0

@@ -10,6 +10,7 @@ use Rattle.vhd_volumes.specs.declared.heads.Head.{Head}
 use Rattle.vhd_volumes.specs.Truth.{IsTrueIn, layout_in}
 use Rattle.vhd_volumes.specs.Writes.{own_in}
 use Rattle.vhd_image.specs.Made.{linked}
+use Rattle.vhd_image.specs.Opened.{ReadsAsImage}
 use Rattle.vhd_image.specs.declared.images.Body.{Body}
 use Rattle.vhd_image.specs.declared.images.Body.TheVariants.{Raw, Vhd}
 
@@ -52,6 +53,14 @@ pub record ChangesBy (l : Layout) (R : Sectors → Sectors → Type 0) (old new 
 pub record StaysTrue (g : Geometry) (sectors : ℕ) (head : Head) (m : List (Option ℕ)) (old new : Held) : Type 0 where
   pub same : ChangesBy (layout_in g head.footer sectors) (IsSameImage (layout_in g head.footer sectors)) old new
   pub true_now : IsTrueIn g sectors new head m
+
+-- so in whichever first sectors of its volume it was true
+abbrev pub StaysTrueIn : Geometry → Head → List (Option ℕ) → Held → Held → Type 0
+StaysTrueIn g head m old new = (part : ℕ) → IsTrueIn g part old head m → StaysTrue g part head m old new
+
+-- and there it ends now after so many sectors
+abbrev pub EndsAt : Geometry → ℕ → Head → List (Option ℕ) → Held → Held → Type 0
+EndsAt g sectors head m old new = (part : ℕ) → IsTrueIn g part old head m → ReadsAsImage g sectors new head m
 
 -- the head with this size, in sectors
 abbrev pub with_size : Head → ℕ → Head

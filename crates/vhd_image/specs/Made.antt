@@ -1,12 +1,18 @@
 -- The head of a new image, and the link of an image to its parent (Virtual Hard Disk Image Format Specification 1.0, with
 -- this project's profile).
 use Rattle.std.specs.Prelude.{◌≡◌, ℕ, ◌*◌, ◌/◌, ◌≤◌, ◌<◌, List, codes, replicate, Option, None, Some}
+use Rattle.sm_base.specs.declared.names.Name.{Name}
 use Rattle.sm_base.specs.declared.sizes.Geometry.{Geometry}
+use Rattle.sm_disk.specs.Held.{Held, reads}
+use Rattle.vg_volumes.specs.Stored.{Stored}
 use Rattle.vhd_fields.specs.ParentNames.{IsParent}
 use Rattle.vhd_fields.specs.declared.footers.Footer.{Footer}
 use Rattle.vhd_fields.specs.declared.headers.Header.{Header}
 use Rattle.vhd_map.specs.Places.{blank, word}
 use Rattle.vhd_layout.specs.Layouts.{Sectors}
+use Rattle.vhd_layout.specs.Images.{IsImage}
+use Rattle.vhd_volumes.specs.declared.heads.Head.{Head}
+use Rattle.vhd_volumes.specs.Truth.{layout_now}
 use Rattle.vhd_image.specs.declared.images.Body.{Body}
 use Rattle.vhd_image.specs.declared.images.Body.TheVariants.{Raw, Vhd}
 use Rattle.vhd_image.specs.Bodies.{volume_name, sector_count}
@@ -68,6 +74,14 @@ new_footer now sectors uid parent = record {
   data_offset = 512;
   uid = uid;
 }
+
+-- its head
+abbrev pub new_head : Geometry → Name → ℕ → ℕ → List ℕ → Option Body → Head
+new_head g volume now sectors uid parent = record { volume = volume; footer = new_footer now sectors uid parent; header = new_header g parent }
+
+-- a read of its volume gives the image with this head and no slots
+abbrev pub IsNewImage : Stored → Head → Held → Type 0
+IsNewImage x head h = IsImage (layout_now x head) (reads h) head.footer head.header (λ b. None)
 
 -- an image may have this parent: a VHD image or a raw one
 abbrev pub IsParentImage : Body → Type 0

@@ -30,6 +30,6 @@ IsWriting g sectors (Raw volume size) at bytes old new = Torn at bytes old new
 IsWriting g sectors (Vhd head m) at bytes old new = IsGuarded (layout_in g head.footer sectors) (Puts at bytes) old new
 
 -- once it is done
-abbrev pub IsWrittenIn : Geometry → ℕ → Body → ℕ → List ℕ → Held → Held → Type 0
-IsWrittenIn g sectors (Raw volume size) at bytes old new = Wrote at bytes old new
-IsWrittenIn g sectors (Vhd head m) at bytes old new = HasWritten (layout_in g head.footer sectors) at bytes old new
+abbrev pub IsBodyWritten : Geometry → ℕ → Body → ℕ → List ℕ → Held → Held → Type 0
+IsBodyWritten g sectors (Raw volume size) at bytes old new = Wrote at bytes old new
+IsBodyWritten g sectors (Vhd head m) at bytes old new = HasWritten (layout_in g head.footer sectors) at bytes old new

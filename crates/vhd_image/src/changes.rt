@@ -1,16 +1,16 @@
 //! Changes of an image's head.
 
 ghost use Rattle.std.specs.Prelude.{◌≡◌, ◌≢◌, ℕ, ◌*◌, ◌-◌, ◌≤◌, Ok, OnOk, OnErr};
-ghost use Rattle.sm_disk.specs.Held.{Rose, reads};
+ghost use Rattle.sm_disk.specs.Held.{reads};
 ghost use Rattle.vhd_fields.specs.Footers.{IsFooter, footer_bytes, footer_read};
-ghost use Rattle.vhd_volumes.specs.Steps.{WorksOn, sectors_of, held_in};
-ghost use Rattle.vhd_volumes.specs.Truth.{HasRoomFor, IsTrueIn, layout_in};
+ghost use Rattle.vg_volumes.specs.Stored.{stored, sectors_in, WorksOn, Counts};
+ghost use Rattle.vhd_volumes.specs.Steps.{Holds, Does, Gives};
+ghost use Rattle.vhd_volumes.specs.Truth.{HasRoomFor, layout_now};
 ghost use Rattle.vhd_volumes.specs.Writes.{KeepsBut};
-ghost use Rattle.vhd_image.specs.Bodies.{IfVhd, IsVhd, StandsIn, TrueIn, sector_count, top_slot, volume_name};
+ghost use Rattle.vhd_image.specs.Bodies.{IsVhd, StandsIn, TrueIn, sector_count, top_slot, volume_name, ImageStands, ImageIsTrue, IfVhdHolds, IfVhdDoes};
 ghost use Rattle.vhd_image.specs.Calls.{IsEnd, IsEnds};
-ghost use Rattle.vhd_image.specs.Changes.{ChangesBy, IsResized, StaysTrue, resized};
+ghost use Rattle.vhd_image.specs.Changes.{ChangesBy, IsResized, resized, StaysTrueIn, EndsAt};
 ghost use Rattle.vhd_image.specs.Made.{IsDiskSize};
-ghost use Rattle.vhd_image.specs.Opened.{ReadsAs};
 
 use crate::images::{Body, Image};
 use crate::making::put_footer;
@@ -21,16 +21,16 @@ use vhd_fields::Footer;
 
 /// Writes a footer into the last sector of a volume, and then into the first.
 fn put_footers<S: Store>(store: &mut S, volume: &Name, footer: &Footer) -> Result<(), Failed>
-    requires { 2 ≤ sectors_of S.site S.kept store.old volume.now }
-    ensures works { WorksOn S.told S.site S.kept S.area S.failed S.faults volume.now store.old store.new }
-    ensures cause { OnErr result (Rose (S.faults store.old) (S.faults store.new)) }
-    ensures ends { S.told → IsEnds (sectors_of S.site S.kept store.old volume.now) (footer_bytes footer.now) (held_in S.site S.kept S.area store.old volume.now) (held_in S.site S.kept S.area store.new volume.now) }
-    ensures others { S.told → (p : ℕ) → p ≢ 0
-        → p ≢ sectors_of S.site S.kept store.old volume.now - 1
-        → reads (held_in S.site S.kept S.area store.new volume.now) p
-        ≡ reads (held_in S.site S.kept S.area store.old volume.now) p }
-    ensures last { OnOk result (S.told → reads (held_in S.site S.kept S.area store.new volume.now) (sectors_of S.site S.kept store.old volume.now - 1) ≡ footer_bytes footer.now) }
-    ensures copy { OnOk result (S.told → reads (held_in S.site S.kept S.area store.new volume.now) 0 ≡ footer_bytes footer.now) }
+    requires { 2 ≤ sectors_in (stored S.Store store.old) volume.now }
+    ensures works { WorksOn S.Store volume.now store.old store.new }
+    ensures cause { Counts S.Store result store.old store.new }
+    ensures ends { Does S.Store volume.now
+        (IsEnds (sectors_in (stored S.Store store.old) volume.now) (footer_bytes footer.now)) store.old store.new }
+    ensures others { Does S.Store volume.now (λ old new. (p : ℕ) → p ≢ 0 → p ≢ sectors_in
+        (stored S.Store store.old) volume.now - 1 → reads new p ≡ reads old p) store.old store.new }
+    ensures last { OnOk result (Gives S.Store volume.now
+        (λ r. r (sectors_in (stored S.Store store.old) volume.now - 1) ≡ footer_bytes footer.now) store.new) }
+    ensures copy { OnOk result (Gives S.Store volume.now (λ r. r 0 ≡ footer_bytes footer.now) store.new) }
     ensures reads_back { IsFooter footer.now → footer_read (footer_bytes footer.now) ≡ Ok footer.now }
 {
     let last = sectors_in(store, volume) - 1;
@@ -50,28 +50,30 @@ impl Image {
     /// opened.
     pub fn set_size<S: Store>(&mut self, store: &mut S, sectors: u64) -> Result<(), Failed>
         requires vhd { IsVhd self.old }
-        requires stands { StandsIn (S.site store.old).geometry (sectors_of S.site S.kept store.old (volume_name self.old)) self.old }
-        requires true_now { S.told → TrueIn (S.site store.old).geometry (sectors_of S.site S.kept store.old (volume_name self.old)) (held_in S.site S.kept S.area store.old (volume_name self.old)) self.old }
+        requires stands { ImageStands (stored S.Store store.old) self.old }
+        requires true_now { S.told → ImageIsTrue (stored S.Store store.old) self.old }
         requires size { IsDiskSize (S.site store.old).geometry sectors }
         requires grows { sector_count self.old ≤ sectors }
-        ensures works { WorksOn S.told S.site S.kept S.area S.failed S.faults (volume_name self.old) store.old store.new }
-        ensures cause { OnErr result (Rose (S.faults store.old) (S.faults store.new)) }
-        ensures changes { S.told → IfVhd self.old (λ head m. ChangesBy
-            (layout_in (S.site store.old).geometry head.footer (sectors_of S.site S.kept store.old head.volume))
-            (IsResized (layout_in (S.site store.old).geometry head.footer (sectors_of S.site S.kept store.old head.volume)) sectors)
-            (held_in S.site S.kept S.area store.old head.volume)
-            (held_in S.site S.kept S.area store.new head.volume)) }
+        ensures works { WorksOn S.Store (volume_name self.old) store.old store.new }
+        ensures cause { Counts S.Store result store.old store.new }
+        ensures changes { IfVhdDoes S.Store self.old (λ head m. ChangesBy (layout_now (stored S.Store store.old) head)
+            (IsResized (layout_now (stored S.Store store.old) head) sectors)) store.old store.new }
         // The sectors of the two footers alone are written.
-        ensures others { S.told → KeepsBut (IsEnd (sectors_of S.site S.kept store.old (volume_name self.old)))
-            (held_in S.site S.kept S.area store.old (volume_name self.old))
-            (held_in S.site S.kept S.area store.new (volume_name self.old)) }
+        ensures others { Does S.Store (volume_name self.old)
+            (KeepsBut (IsEnd (sectors_in (stored S.Store store.old) (volume_name self.old)))) store.old store.new }
         ensures new_size { OnOk result (self.new ≡ resized sectors self.old) }
         ensures unchanged { OnErr result (self.new ≡ self.old) }
         // Both footers are those of the image now, byte for byte.
-        ensures last { OnOk result (S.told → IfVhd self.new (λ head m. reads (held_in S.site S.kept S.area store.new head.volume) (sectors_of S.site S.kept store.old head.volume - 1) ≡ footer_bytes head.footer)) }
-        ensures copy { OnOk result (S.told → IfVhd self.new (λ head m. reads (held_in S.site S.kept S.area store.new head.volume) 0 ≡ footer_bytes head.footer)) }
-        ensures stands_after { OnOk result (StandsIn (S.site store.old).geometry (sectors_of S.site S.kept store.old (volume_name self.old)) self.new) }
-        ensures true_after { OnOk result (S.told → TrueIn (S.site store.old).geometry (sectors_of S.site S.kept store.old (volume_name self.old)) (held_in S.site S.kept S.area store.new (volume_name self.old)) self.new) }
+        ensures last { OnOk result (IfVhdHolds S.Store self.new
+            (λ head m h. reads h (sectors_in (stored S.Store store.old) head.volume - 1)
+            ≡ footer_bytes head.footer) store.new) }
+        ensures copy { OnOk result (IfVhdHolds S.Store self.new
+            (λ head m h. reads h 0 ≡ footer_bytes head.footer) store.new) }
+        ensures stands_after { OnOk result (StandsIn (S.site store.old).geometry
+            (sectors_in (stored S.Store store.old) (volume_name self.old)) self.new) }
+        ensures true_after { OnOk result (Holds S.Store (volume_name self.old)
+            (λ h. TrueIn (S.site store.old).geometry
+            (sectors_in (stored S.Store store.old) (volume_name self.old)) h self.new) store.new) }
     {
         let _geometry = store.geometry();
         match &mut self.body {
@@ -95,24 +97,21 @@ impl Image {
     /// The store failed.
     pub fn end<S: Store>(&self, store: &mut S, extents: u32) -> Result<(), Failed>
         requires vhd { IsVhd self.now }
-        requires within { extents * (S.site store.old).geometry.extent ≤ sectors_of S.site S.kept store.old (volume_name self.now) }
+        requires within { extents * (S.site store.old).geometry.extent ≤ sectors_in (stored S.Store store.old)
+            (volume_name self.now) }
         requires room { HasRoomFor (S.site store.old).geometry (top_slot self.now) (extents * (S.site store.old).geometry.extent) }
-        ensures works { WorksOn S.told S.site S.kept S.area S.failed S.faults (volume_name self.now) store.old store.new }
-        ensures cause { OnErr result (Rose (S.faults store.old) (S.faults store.new)) }
+        ensures works { WorksOn S.Store (volume_name self.now) store.old store.new }
+        ensures cause { Counts S.Store result store.old store.new }
         // One sector is written, the last of these extents.
-        ensures others { S.told → KeepsBut (λ p. p ≡ extents * (S.site store.old).geometry.extent - 1)
-            (held_in S.site S.kept S.area store.old (volume_name self.now))
-            (held_in S.site S.kept S.area store.new (volume_name self.now)) }
-        ensures put { OnOk result (S.told → IfVhd self.now (λ head m.
-            reads (held_in S.site S.kept S.area store.new head.volume) (extents * (S.site store.old).geometry.extent - 1)
-            ≡ footer_bytes head.footer)) }
+        ensures others { Does S.Store (volume_name self.now)
+            (KeepsBut (λ p. p ≡ extents * (S.site store.old).geometry.extent - 1)) store.old store.new }
+        ensures put { OnOk result (IfVhdHolds S.Store self.now
+            (λ head m h. reads h (extents * (S.site store.old).geometry.extent - 1)
+            ≡ footer_bytes head.footer) store.new) }
         // In whichever first sectors of its volume the image is true.
-        ensures stays { S.told → IfVhd self.now (λ head m. (part : ℕ)
-            → IsTrueIn (S.site store.old).geometry part (held_in S.site S.kept S.area store.old head.volume) head m
-            → StaysTrue (S.site store.old).geometry part head m (held_in S.site S.kept S.area store.old head.volume) (held_in S.site S.kept S.area store.new head.volume)) }
-        ensures ends { OnOk result (S.told → IfVhd self.now (λ head m. (part : ℕ)
-            → IsTrueIn (S.site store.old).geometry part (held_in S.site S.kept S.area store.old head.volume) head m
-            → ReadsAs (S.site store.old).geometry (extents * (S.site store.old).geometry.extent) (held_in S.site S.kept S.area store.new head.volume) head m)) }
+        ensures stays { IfVhdDoes S.Store self.now (StaysTrueIn (S.site store.old).geometry) store.old store.new }
+        ensures ends { OnOk result (IfVhdDoes S.Store self.now
+            (EndsAt (S.site store.old).geometry (extents * (S.site store.old).geometry.extent)) store.old store.new) }
     {
         match &self.body {
             Body::Raw { .. } => unreachable!(),

@@ -13,7 +13,7 @@
 //! all the same (`specs/Changes`). At all sectors but those that they write a read and a stop give what they gave
 //! (`KeepsBut` of `vhd_volumes`). None of them syncs; that is the caller's. `write` leaves of a VHD image what the crate
 //! `vhd_write` says, and of a raw one any of the written sectors. Every call leaves the table of the store and all other
-//! volumes alone (`WorksOn` of `vhd_volumes`).
+//! volumes alone (`WorksOn` of `vg_volumes`).
 //!
 //! **What it costs.** `open` reads two footers at most, the header and each sector of the table once, and takes the map's
 //! memory; no other call takes memory. `read_own` reads two sectors at most. `make` writes four sectors and those of the

@@ -1,12 +1,13 @@
 //! A header that names another parent.
 
 ghost use Rattle.std.specs.Prelude.{◌≡◌, ◌≤◌, ◌<◌, ◌+◌, ◌*◌, ◌^◌, ℕ, Some, IsSome, OnOk, OnErr, length, take, sum};
-ghost use Rattle.sm_disk.specs.Held.{Rose, HasSectors, reads};
+ghost use Rattle.sm_disk.specs.Held.{HasSectors, reads};
 ghost use Rattle.vhd_fields.specs.ParentNames.{parent_bytes};
-ghost use Rattle.vhd_volumes.specs.Steps.{WorksOn, sectors_of, held_in};
-ghost use Rattle.vhd_volumes.specs.Truth.{layout_in};
+ghost use Rattle.vg_volumes.specs.Stored.{stored, sectors_in, WorksOn, Counts};
+ghost use Rattle.vhd_volumes.specs.Steps.{Holds, Does, Gives};
+ghost use Rattle.vhd_volumes.specs.Truth.{layout_now};
 ghost use Rattle.vhd_volumes.specs.Writes.{KeepsBut};
-ghost use Rattle.vhd_image.specs.Bodies.{IfVhd, IsVhd, StandsIn, TrueIn, parent_name, volume_name};
+ghost use Rattle.vhd_image.specs.Bodies.{IsVhd, StandsIn, TrueIn, parent_name, volume_name, ImageStands, ImageIsTrue, IfVhdDoes};
 ghost use Rattle.vhd_image.specs.Calls.{MayPut};
 ghost use Rattle.vhd_image.specs.Changes.{ChangesBy, IsRelinked, relinked};
 ghost use Rattle.vhd_image.specs.Links.{link_bytes};
@@ -30,7 +31,7 @@ fn sum_of(bytes: &[u8]) -> u32
 
 /// What a volume holds is sectors.
 fn see_sectors<S: Store>(store: &S, volume: &Name)
-    ensures { S.told → HasSectors (sectors_of S.site S.kept store.now volume.now) (held_in S.site S.kept S.area store.now volume.now) }
+    ensures { Holds S.Store volume.now (HasSectors (sectors_in (stored S.Store store.now) volume.now)) store.now }
 {
     let _geometry = store.geometry();
     let _extents = store.extents();
@@ -74,17 +75,15 @@ fn link(geometry: &Geometry, front: &[u8; 512], back: &[u8; 512], parent: &Image
 
 /// Writes the first sector of a header once it names this parent.
 fn put_link<S: Store>(store: &mut S, volume: &Name, parent: &Image) -> Result<(), Failed>
-    requires within { 3 ≤ sectors_of S.site S.kept store.old volume.now }
+    requires within { 3 ≤ sectors_in (stored S.Store store.old) volume.now }
     requires proper { IsParentImage parent.now }
-    ensures works { WorksOn S.told S.site S.kept S.area S.failed S.faults volume.now store.old store.new }
-    ensures cause { OnErr result (Rose (S.faults store.old) (S.faults store.new)) }
-    ensures sectors { S.told → HasSectors (sectors_of S.site S.kept store.old volume.now) (held_in S.site S.kept S.area store.old volume.now) }
-    ensures may_put { S.told → MayPut 1
-        (link_bytes (reads (held_in S.site S.kept S.area store.old volume.now) 1) (reads (held_in S.site S.kept S.area store.old volume.now) 2) parent.now)
-        (held_in S.site S.kept S.area store.old volume.now)
-        (held_in S.site S.kept S.area store.new volume.now) }
-    ensures put { OnOk result (S.told → reads (held_in S.site S.kept S.area store.new volume.now) 1
-        ≡ link_bytes (reads (held_in S.site S.kept S.area store.old volume.now) 1) (reads (held_in S.site S.kept S.area store.old volume.now) 2) parent.now) }
+    ensures works { WorksOn S.Store volume.now store.old store.new }
+    ensures cause { Counts S.Store result store.old store.new }
+    ensures sectors { Holds S.Store volume.now (HasSectors (sectors_in (stored S.Store store.old) volume.now)) store.old }
+    ensures may_put { Does S.Store volume.now (λ old new. MayPut 1
+        (link_bytes (reads old 1) (reads old 2) parent.now) old new) store.old store.new }
+    ensures put { OnOk result (Does S.Store volume.now (λ old new. reads new 1 ≡ link_bytes (reads old 1)
+        (reads old 2) parent.now) store.old store.new) }
 {
     see_sectors(store, volume);
     let geometry = store.geometry();
@@ -109,26 +108,24 @@ impl Image {
         requires vhd { IsVhd self.old }
         requires child { IsSome (parent_name self.old) }
         requires proper { IsParentImage parent.now }
-        requires stands { StandsIn (S.site store.old).geometry (sectors_of S.site S.kept store.old (volume_name self.old)) self.old }
-        requires true_now { S.told → TrueIn (S.site store.old).geometry (sectors_of S.site S.kept store.old (volume_name self.old)) (held_in S.site S.kept S.area store.old (volume_name self.old)) self.old }
-        ensures works { WorksOn S.told S.site S.kept S.area S.failed S.faults (volume_name self.old) store.old store.new }
-        ensures cause { OnErr result (Rose (S.faults store.old) (S.faults store.new)) }
-        ensures changes { S.told → IfVhd self.old (λ head m. ChangesBy
-            (layout_in (S.site store.old).geometry head.footer (sectors_of S.site S.kept store.old head.volume))
-            (IsRelinked (layout_in (S.site store.old).geometry head.footer (sectors_of S.site S.kept store.old head.volume)) (volume_name parent.now))
-            (held_in S.site S.kept S.area store.old head.volume)
-            (held_in S.site S.kept S.area store.new head.volume)) }
+        requires stands { ImageStands (stored S.Store store.old) self.old }
+        requires true_now { S.told → ImageIsTrue (stored S.Store store.old) self.old }
+        ensures works { WorksOn S.Store (volume_name self.old) store.old store.new }
+        ensures cause { Counts S.Store result store.old store.new }
+        ensures changes { IfVhdDoes S.Store self.old (λ head m. ChangesBy (layout_now (stored S.Store store.old) head)
+            (IsRelinked (layout_now (stored S.Store store.old) head) (volume_name parent.now))) store.old store.new }
         // One sector is written, the header's first.
-        ensures others { S.told → KeepsBut (λ p. p ≡ 1)
-            (held_in S.site S.kept S.area store.old (volume_name self.old))
-            (held_in S.site S.kept S.area store.new (volume_name self.old)) }
+        ensures others { Does S.Store (volume_name self.old) (KeepsBut (λ p. p ≡ 1)) store.old store.new }
         // Of the header's first sector only the parent's fields and the sum change.
-        ensures put { OnOk result (S.told → reads (held_in S.site S.kept S.area store.new (volume_name self.old)) 1
-            ≡ link_bytes (reads (held_in S.site S.kept S.area store.old (volume_name self.old)) 1) (reads (held_in S.site S.kept S.area store.old (volume_name self.old)) 2) parent.now) }
+        ensures put { OnOk result (Does S.Store (volume_name self.old)
+            (λ old new. reads new 1 ≡ link_bytes (reads old 1) (reads old 2) parent.now) store.old store.new) }
         ensures new_parent { OnOk result (self.new ≡ relinked parent.now self.old) }
         ensures unchanged { OnErr result (self.new ≡ self.old) }
-        ensures stands_after { OnOk result (StandsIn (S.site store.old).geometry (sectors_of S.site S.kept store.old (volume_name self.old)) self.new) }
-        ensures true_after { OnOk result (S.told → TrueIn (S.site store.old).geometry (sectors_of S.site S.kept store.old (volume_name self.old)) (held_in S.site S.kept S.area store.new (volume_name self.old)) self.new) }
+        ensures stands_after { OnOk result (StandsIn (S.site store.old).geometry
+            (sectors_in (stored S.Store store.old) (volume_name self.old)) self.new) }
+        ensures true_after { OnOk result (Holds S.Store (volume_name self.old)
+            (λ h. TrueIn (S.site store.old).geometry
+            (sectors_in (stored S.Store store.old) (volume_name self.old)) h self.new) store.new) }
     {
         let _geometry = store.geometry();
         match &mut self.body {

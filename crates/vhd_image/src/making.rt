@@ -3,17 +3,18 @@
 ghost use Rattle.std.specs.Prelude.{◌≡◌, ◌++◌, ◌≢◌, ℕ, ◌+◌, ◌-◌, ◌*◌, ◌<◌, ◌≤◌, ◌⊎◌, Ok, Some, None, OnOk, OnErr, IfOk, length, replicate, ◌^◌};
 ghost use Rattle.std.specs.Option.{ForSome, option_copied};
 ghost use Rattle.sm_base.specs.Numbers.{first};
-ghost use Rattle.sm_disk.specs.Held.{Rose, reads};
+ghost use Rattle.sm_disk.specs.Held.{reads};
 ghost use Rattle.vhd_fields.specs.Footers.{IsFooter, footer_bytes, footer_read};
 ghost use Rattle.vhd_fields.specs.Headers.{IsHeader, header_bytes};
 ghost use Rattle.vhd_map.specs.Places.{blank};
-ghost use Rattle.vhd_layout.specs.Images.{IsImage, header_at};
-ghost use Rattle.vhd_layout.specs.Layouts.{entry, entries_in_sectors};
-ghost use Rattle.vhd_volumes.specs.Steps.{WorksOn, sectors_of, held_in};
-ghost use Rattle.vhd_volumes.specs.Truth.{HasRoomFor, layout_in};
+ghost use Rattle.vhd_layout.specs.Images.{header_at};
+ghost use Rattle.vhd_layout.specs.Layouts.{entry};
+ghost use Rattle.vg_volumes.specs.Stored.{stored, sectors_in, WorksOn, Counts};
+ghost use Rattle.vhd_volumes.specs.Steps.{Holds, Does, Gives};
+ghost use Rattle.vhd_volumes.specs.Truth.{HasRoomIn};
 ghost use Rattle.vhd_image.specs.Bodies.{StandsIn};
 ghost use Rattle.vhd_image.specs.Calls.{MayPut};
-ghost use Rattle.vhd_image.specs.Made.{IsBlankTo, IsDiskSize, MayHave, linked, new_footer, new_header, stamp_of, uid_of};
+ghost use Rattle.vhd_image.specs.Made.{IsBlankTo, IsDiskSize, MayHave, linked, new_footer, new_header, stamp_of, uid_of, new_head, IsNewImage};
 ghost use Rattle.vhd_image.specs.declared.images.Body.TheVariants.{Vhd};
 
 use crate::bytes::halves;
@@ -34,11 +35,11 @@ pub(crate) fn put_footer<S: Store>(
     footer: &Footer,
     at: u64,
 ) -> Result<(), Failed>
-    requires { at < sectors_of S.site S.kept store.old volume.now }
-    ensures works { WorksOn S.told S.site S.kept S.area S.failed S.faults volume.now store.old store.new }
-    ensures cause { OnErr result (Rose (S.faults store.old) (S.faults store.new)) }
-    ensures may_put { S.told → MayPut at (footer_bytes footer.now) (held_in S.site S.kept S.area store.old volume.now) (held_in S.site S.kept S.area store.new volume.now) }
-    ensures put { OnOk result (S.told → reads (held_in S.site S.kept S.area store.new volume.now) at ≡ footer_bytes footer.now) }
+    requires { at < sectors_in (stored S.Store store.old) volume.now }
+    ensures works { WorksOn S.Store volume.now store.old store.new }
+    ensures cause { Counts S.Store result store.old store.new }
+    ensures may_put { Does S.Store volume.now (MayPut at (footer_bytes footer.now)) store.old store.new }
+    ensures put { OnOk result (Gives S.Store volume.now (λ r. r at ≡ footer_bytes footer.now) store.new) }
     ensures reads_back { IsFooter footer.now → footer_read (footer_bytes footer.now) ≡ Ok footer.now }
 {
     let mut bytes = [0; 512];
@@ -117,13 +118,14 @@ fn new_footer(now: u32, sectors: u64, uid: Uuid, parent: Option<&Image>) -> Foot
 
 /// Writes the header into sectors 1 and 2 of a volume.
 fn put_header<S: Store>(store: &mut S, volume: &Name, header: &Header) -> Result<(), Failed>
-    requires within { 3 ≤ sectors_of S.site S.kept store.old volume.now }
+    requires within { 3 ≤ sectors_in (stored S.Store store.old) volume.now }
     requires proper { IsHeader header.now }
-    ensures works { WorksOn S.told S.site S.kept S.area S.failed S.faults volume.now store.old store.new }
-    ensures cause { OnErr result (Rose (S.faults store.old) (S.faults store.new)) }
-    ensures header { OnOk result (S.told → header_at (reads (held_in S.site S.kept S.area store.new volume.now)) ≡ Some header.now) }
-    ensures bytes { OnOk result (S.told → reads (held_in S.site S.kept S.area store.new volume.now) 1 ++ reads (held_in S.site S.kept S.area store.new volume.now) 2 ≡ header_bytes header.now) }
-    ensures others { S.told → (p : ℕ) → p ≢ 1 → p ≢ 2 → reads (held_in S.site S.kept S.area store.new volume.now) p ≡ reads (held_in S.site S.kept S.area store.old volume.now) p }
+    ensures works { WorksOn S.Store volume.now store.old store.new }
+    ensures cause { Counts S.Store result store.old store.new }
+    ensures header { OnOk result (Gives S.Store volume.now (λ r. header_at r ≡ Some header.now) store.new) }
+    ensures bytes { OnOk result (Gives S.Store volume.now (λ r. r 1 ++ r 2 ≡ header_bytes header.now) store.new) }
+    ensures others { Does S.Store volume.now (λ old new. (p : ℕ) → p ≢ 1 → p ≢ 2 → reads new p
+        ≡ reads old p) store.old store.new }
 {
     let mut bytes = [0; 1024];
     header.write(&mut bytes);
@@ -141,11 +143,12 @@ fn put_table<S: Store>(
     map: &Map,
 ) -> Result<(), Failed>
     requires blank { map.now ≡ replicate geometry.now.entries None }
-    requires room { first geometry.now.entries ≤ sectors_of S.site S.kept store.old volume.now }
-    ensures works { WorksOn S.told S.site S.kept S.area S.failed S.faults volume.now store.old store.new }
-    ensures cause { OnErr result (Rose (S.faults store.old) (S.faults store.new)) }
-    ensures table { OnOk result (S.told → IsBlankTo (first geometry.now.entries) (reads (held_in S.site S.kept S.area store.new volume.now))) }
-    ensures front { S.told → (p : ℕ) → p < 3 → reads (held_in S.site S.kept S.area store.new volume.now) p ≡ reads (held_in S.site S.kept S.area store.old volume.now) p }
+    requires room { first geometry.now.entries ≤ sectors_in (stored S.Store store.old) volume.now }
+    ensures works { WorksOn S.Store volume.now store.old store.new }
+    ensures cause { Counts S.Store result store.old store.new }
+    ensures table { OnOk result (Gives S.Store volume.now (IsBlankTo (first geometry.now.entries)) store.new) }
+    ensures front { Does S.Store volume.now (λ old new. (p : ℕ) → p < 3 → reads new p
+        ≡ reads old p) store.old store.new }
 {
     for index in 0..geometry.entries.div_ceil(128) {
         let mut bytes = [0; 512];
@@ -173,31 +176,32 @@ impl Image {
         now: u32,
     ) -> Result<Image, Failed>
         requires blank { map ≡ replicate (S.site store.old).geometry.entries None }
-        requires room { HasRoomFor (S.site store.old).geometry 0 (sectors_of S.site S.kept store.old volume.now) }
+        requires room { HasRoomIn (stored S.Store store.old) volume.now 0 }
         requires size { IsDiskSize (S.site store.old).geometry sectors }
         requires parent { ForSome (option_copied parent) (MayHave sectors) }
-        ensures works { WorksOn S.told S.site S.kept S.area S.failed S.faults volume.now store.old store.new }
-        ensures cause { OnErr result (Rose (S.faults store.old) (S.faults store.new)) }
-        ensures fields { IfOk result (λ image. image
-            ≡ Vhd (record {
-              volume = volume.now;
-              footer = new_footer now sectors uid (option_copied parent.entry);
-              header = new_header (S.site store.old).geometry (option_copied parent.entry);
-            })
+        ensures works { WorksOn S.Store volume.now store.old store.new }
+        ensures cause { Counts S.Store result store.old store.new }
+        ensures fields { IfOk result (λ image. image ≡ Vhd
+            (new_head (S.site store.old).geometry volume.now now sectors uid (option_copied parent.entry))
             (replicate (S.site store.old).geometry.entries None)) }
-        ensures stands { IfOk result (StandsIn (S.site store.old).geometry (sectors_of S.site S.kept store.old volume.now)) }
+        ensures stands { IfOk result (StandsIn (S.site store.old).geometry
+            (sectors_in (stored S.Store store.old) volume.now)) }
         // A read of the volume gives this image, without slots.
-        ensures image { OnOk result (S.told → IsImage
-            (layout_in (S.site store.old).geometry (new_footer now sectors uid (option_copied parent.entry)) (sectors_of S.site S.kept store.old volume.now))
-            (reads (held_in S.site S.kept S.area store.new volume.now))
-            (new_footer now sectors uid (option_copied parent.entry))
-            (new_header (S.site store.old).geometry (option_copied parent.entry))
-            (λ b. None)) }
+        ensures image { OnOk result (Holds S.Store volume.now
+            (IsNewImage (stored S.Store store.old)
+            (new_head (S.site store.old).geometry volume.now now sectors uid
+            (option_copied parent.entry))) store.new) }
         // Its footers and its header, byte for byte.
-        ensures last { OnOk result (S.told → reads (held_in S.site S.kept S.area store.new volume.now) (sectors_of S.site S.kept store.old volume.now - 1) ≡ footer_bytes (new_footer now sectors uid (option_copied parent.entry))) }
-        ensures first { OnOk result (S.told → reads (held_in S.site S.kept S.area store.new volume.now) 0 ≡ footer_bytes (new_footer now sectors uid (option_copied parent.entry))) }
-        ensures header { OnOk result (S.told → reads (held_in S.site S.kept S.area store.new volume.now) 1 ++ reads (held_in S.site S.kept S.area store.new volume.now) 2 ≡ header_bytes (new_header (S.site store.old).geometry (option_copied parent.entry))) }
-        ensures copy { OnOk result (S.told → footer_read (reads (held_in S.site S.kept S.area store.new volume.now) 0) ≡ Ok (new_footer now sectors uid (option_copied parent.entry))) }
+        ensures last { OnOk result (Gives S.Store volume.now
+            (λ r. r (sectors_in (stored S.Store store.old) volume.now - 1) ≡ footer_bytes
+            (new_footer now sectors uid (option_copied parent.entry))) store.new) }
+        ensures first { OnOk result (Gives S.Store volume.now
+            (λ r. r 0 ≡ footer_bytes (new_footer now sectors uid (option_copied parent.entry))) store.new) }
+        ensures header { OnOk result (Gives S.Store volume.now
+            (λ r. r 1 ++ r 2 ≡ header_bytes
+            (new_header (S.site store.old).geometry (option_copied parent.entry))) store.new) }
+        ensures copy { OnOk result (Gives S.Store volume.now
+            (λ r. footer_read (r 0) ≡ Ok (new_footer now sectors uid (option_copied parent.entry))) store.new) }
     {
         let geometry = store.geometry();
         let last = sectors_in(store, volume) - 1;

@@ -4,15 +4,14 @@ ghost use Rattle.std.specs.Prelude.{◌≡◌, ◌<◌, ◌≤◌, ◌⊎◌, �
 ghost use Rattle.sm_base.specs.Numbers.{first};
 ghost use Rattle.sm_base.specs.declared.faults.OpenFault.TheVariants as fault;
 ghost use Rattle.sm_base.specs.declared.faults.Place.TheVariants as at;
-ghost use Rattle.sm_disk.specs.Held.{Rose, reads};
+ghost use Rattle.sm_disk.specs.Held.{reads};
 ghost use Rattle.vhd_map.specs.Slots.{IsMap};
-ghost use Rattle.vhd_layout.specs.Images.{IsFooterOf, IsHeaderOf, IsHead, IsValid, footer_at, header_at};
-ghost use Rattle.vhd_layout.specs.Layouts.{entries_in_sectors};
-ghost use Rattle.vhd_volumes.specs.Steps.{WorksOn, sectors_of, held_in};
+ghost use Rattle.vhd_layout.specs.Images.{IsFooterOf, IsHeaderOf, footer_at, header_at};
+ghost use Rattle.vg_volumes.specs.Stored.{stored, sectors_in, OnlyReads, WorksOn, Counts};
+ghost use Rattle.vhd_volumes.specs.Steps.{Holds, Gives};
 ghost use Rattle.vhd_volumes.specs.Truth.{disk_blocks, layout_in};
 ghost use Rattle.vhd_image.specs.Bodies.{volume_name, StandsIn, IsVhd, IfVhd};
-ghost use Rattle.vhd_image.specs.Calls.{ReadsOnly};
-ghost use Rattle.vhd_image.specs.Opened.{FitsIn, HasImageOf, IsTableTo, ReadsAs, few_slots};
+ghost use Rattle.vhd_image.specs.Opened.{FitsIn, ReadsAsImage, few_slots, IsHeadFound, IsMapFound, FailsToOpen};
 
 use crate::bytes::joined;
 use crate::images::{Body, Image};
@@ -28,10 +27,10 @@ use vhd_volumes::Head;
 /// that reads.
 fn footer_in<S: Store>(store: &mut S, volume: &Name, sectors: u64) -> Result<Option<Footer>, Failed>
     requires some { 0 < sectors }
-    requires within { sectors ≤ sectors_of S.site S.kept store.old volume.now }
-    ensures reads_only { ReadsOnly S.told S.site S.kept S.area S.failed S.faults S.leaves store.old store.new }
-    ensures cause { OnErr result (Rose (S.faults store.old) (S.faults store.new)) }
-    ensures footer { S.told → IfOk result (λ found. found ≡ footer_at sectors (reads (held_in S.site S.kept S.area store.old volume.now))) }
+    requires within { sectors ≤ sectors_in (stored S.Store store.old) volume.now }
+    ensures reads_only { OnlyReads S.Store store.old store.new }
+    ensures cause { Counts S.Store result store.old store.new }
+    ensures footer { Gives S.Store volume.now (λ r. IfOk result (λ found. found ≡ footer_at sectors r)) store.old }
 {
     let last = sector_of(store, volume, sectors - 1)?;
     let own = Footer::read(&last);
@@ -45,10 +44,10 @@ fn footer_in<S: Store>(store: &mut S, volume: &Name, sectors: u64) -> Result<Opt
 
 /// The header in sectors 1 and 2, where it reads.
 fn header_in<S: Store>(store: &mut S, volume: &Name) -> Result<Option<Header>, Failed>
-    requires { 3 ≤ sectors_of S.site S.kept store.old volume.now }
-    ensures reads_only { ReadsOnly S.told S.site S.kept S.area S.failed S.faults S.leaves store.old store.new }
-    ensures cause { OnErr result (Rose (S.faults store.old) (S.faults store.new)) }
-    ensures header { S.told → IfOk result (λ found. found ≡ header_at (reads (held_in S.site S.kept S.area store.old volume.now))) }
+    requires { 3 ≤ sectors_in (stored S.Store store.old) volume.now }
+    ensures reads_only { OnlyReads S.Store store.old store.new }
+    ensures cause { Counts S.Store result store.old store.new }
+    ensures header { Gives S.Store volume.now (λ r. IfOk result (λ found. found ≡ header_at r)) store.old }
 {
     let front = sector_of(store, volume, 1)?;
     let back = sector_of(store, volume, 2)?;
@@ -86,16 +85,14 @@ fn head_in<S: Store>(
     sectors: u64,
 ) -> Result<Option<Head>, Failed>
     requires least { 3 ≤ sectors }
-    requires within { sectors ≤ sectors_of S.site S.kept store.old volume.now }
-    ensures reads_only { ReadsOnly S.told S.site S.kept S.area S.failed S.faults S.leaves store.old store.new }
-    ensures cause { OnErr result (Rose (S.faults store.old) (S.faults store.new)) }
+    requires within { sectors ≤ sectors_in (stored S.Store store.old) volume.now }
+    ensures reads_only { OnlyReads S.Store store.old store.new }
+    ensures cause { Counts S.Store result store.old store.new }
     ensures volume { IfOk result (λ found. IfSome found (λ head. head.volume ≡ volume.now)) }
     ensures footer { IfOk result (λ found. IfSome found (λ head. IsFooterOf (layout_in geometry.now head.footer sectors) head.footer)) }
     ensures header { IfOk result (λ found. IfSome found (λ head. IsHeaderOf (layout_in geometry.now head.footer sectors) head.footer head.header)) }
     ensures room { IfOk result (λ found. IfSome found (λ head. first geometry.now.entries + 1 ≤ sectors)) }
-    ensures head { S.told → IfOk result (λ found. MatchOption found
-        (¬ IsValid geometry.now.block geometry.now.entries sectors (reads (held_in S.site S.kept S.area store.old volume.now)))
-        (λ head. IsHead (layout_in geometry.now head.footer sectors) (reads (held_in S.site S.kept S.area store.old volume.now)) head.footer head.header)) }
+    ensures head { Holds S.Store volume.now (λ h. IfOk result (IsHeadFound geometry.now sectors h)) store.old }
 {
     let footer_found = footer_in(store, volume, sectors)?;
     let Some(footer) = footer_found else {
@@ -151,15 +148,14 @@ fn map_in<S: Store>(
     requires blank { map ≡ replicate geometry.now.entries None }
     requires footer { IsFooterOf (layout_in geometry.now head.now.footer sectors) head.now.footer }
     requires room { first geometry.now.entries + 1 ≤ sectors }
-    requires within { sectors ≤ sectors_of S.site S.kept store.old head.now.volume }
-    ensures reads_only { ReadsOnly S.told S.site S.kept S.area S.failed S.faults S.leaves store.old store.new }
-    ensures cause { OnErr result (Rose (S.faults store.old) (S.faults store.new)) }
+    requires within { sectors ≤ sectors_in (stored S.Store store.old) head.now.volume }
+    ensures reads_only { OnlyReads S.Store store.old store.new }
+    ensures cause { Counts S.Store result store.old store.new }
     ensures entries { IfOk result (λ found. IfSome found (λ m. length m ≡ geometry.now.entries)) }
     ensures fits { IfOk result (λ found. IfSome found (FitsIn (layout_in geometry.now head.now.footer sectors))) }
     ensures map { IfOk result (λ found. IfSome found IsMap) }
-    ensures table { S.told → IfOk result (λ found. MatchOption found
-        (¬ HasImageOf (layout_in geometry.now head.now.footer sectors) (reads (held_in S.site S.kept S.area store.old head.now.volume)) head.now)
-        (IsTableTo (entries_in_sectors (layout_in geometry.now head.now.footer sectors)) (layout_in geometry.now head.now.footer sectors) (reads (held_in S.site S.kept S.area store.old head.now.volume)))) }
+    ensures table { Holds S.Store head.now.volume (λ h. IfOk result
+        (IsMapFound geometry.now sectors h head.now)) store.old }
 {
     let blocks = (head.footer.current / 512 / geometry.block as u64) as u32;
     let slots = slots_in(geometry, &head.footer, sectors);
@@ -197,18 +193,18 @@ impl Image {
         extents: u32,
     ) -> Result<Image, OpenFault>
         requires some { 1 ≤ extents }
-        requires within { extents * (S.site store.old).geometry.extent ≤ sectors_of S.site S.kept store.old volume.now }
-        ensures works { WorksOn S.told S.site S.kept S.area S.failed S.faults volume.now store.old store.new }
-        ensures reads_only { ReadsOnly S.told S.site S.kept S.area S.failed S.faults S.leaves store.old store.new }
+        requires within { extents * (S.site store.old).geometry.extent ≤ sectors_in
+            (stored S.Store store.old) volume.now }
+        ensures works { WorksOn S.Store volume.now store.old store.new }
+        ensures reads_only { OnlyReads S.Store store.old store.new }
         ensures vhd { IfOk result IsVhd }
         ensures name { IfOk result (λ image. volume_name image ≡ volume.now) }
         ensures stands { IfOk result (StandsIn (S.site store.old).geometry (extents * (S.site store.old).geometry.extent)) }
-        ensures image { S.told → IfOk result (λ image. IfVhd image
-            (ReadsAs (S.site store.old).geometry (extents * (S.site store.old).geometry.extent) (held_in S.site S.kept S.area store.old volume.now))) }
-        ensures cause { IfErr result (λ e. (e ≡ fault.NoMemory)
-            ⊎ ((e ≡ fault.Device) × Rose (S.faults store.old) (S.faults store.new))
-            ⊎ ((e ≡ fault.Damaged (at.Image volume.now)) × (S.told
-            → ¬ IsValid (S.site store.old).geometry.block (S.site store.old).geometry.entries (extents * (S.site store.old).geometry.extent) (reads (held_in S.site S.kept S.area store.old volume.now))))) }
+        ensures image { Holds S.Store volume.now (λ h. IfOk result
+            (λ image. IfVhd image
+            (ReadsAsImage (S.site store.old).geometry (extents * (S.site store.old).geometry.extent) h))) store.old }
+        ensures cause { IfErr result (λ e. FailsToOpen S.Store volume.now
+            (extents * (S.site store.old).geometry.extent) e store.old store.new) }
     {
         let geometry = store.geometry();
         let sectors = extents as u64 * geometry.extent as u64;

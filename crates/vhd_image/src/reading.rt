@@ -3,13 +3,12 @@
 ghost use Rattle.std.specs.Prelude.{◌≡◌, ◌<◌, ◌*◌, ◌+◌, ◌/◌, Some, None, if◌then◌else◌, OnErr, IfOk};
 ghost use Rattle.std.specs.Bool.{OnFalse};
 ghost use Rattle.sm_base.specs.Numbers.{first};
-ghost use Rattle.sm_disk.specs.Held.{Rose, reads};
 ghost use Rattle.vhd_map.specs.Places.{spot};
-ghost use Rattle.vhd_volumes.specs.Steps.{WorksOn, sectors_of, held_in};
-ghost use Rattle.vhd_volumes.specs.Truth.{IsStanding, IsTrueIn, disk_sectors, layout_in};
+ghost use Rattle.vg_volumes.specs.Stored.{stored, OnlyReads, WorksOn, Counts};
+ghost use Rattle.vhd_volumes.specs.Steps.{Gives};
+ghost use Rattle.vhd_volumes.specs.Truth.{disk_sectors, layout_now, StandsNow, IsTrueNow};
 ghost use Rattle.vhd_volumes.specs.Writes.{own_in};
-ghost use Rattle.vhd_image.specs.Bodies.{volume_name, sector_count, StandsIn, TrueIn, own_of};
-ghost use Rattle.vhd_image.specs.Calls.{ReadsOnly};
+ghost use Rattle.vhd_image.specs.Bodies.{volume_name, sector_count, ImageStands, ImageIsTrue, own_now};
 
 use crate::images::{Body, Image};
 use crate::steps::sector_of;
@@ -34,14 +33,14 @@ fn own_sector<S: Store>(
     sector: u64,
     to: &mut [u8; 512],
 ) -> Result<bool, Failed>
-    requires stands { IsStanding (S.site store.old).geometry (sectors_of S.site S.kept store.old head.now.volume) head.now map.now }
-    requires true_now { S.told → IsTrueIn (S.site store.old).geometry (sectors_of S.site S.kept store.old head.now.volume) (held_in S.site S.kept S.area store.old head.now.volume) head.now map.now }
+    requires stands { StandsNow (stored S.Store store.old) head.now map.now }
+    requires true_now { S.told → IsTrueNow (stored S.Store store.old) head.now map.now }
     requires within { sector < disk_sectors head.now.footer }
-    ensures reads_only { ReadsOnly S.told S.site S.kept S.area S.failed S.faults S.leaves store.old store.new }
-    ensures cause { OnErr result (Rose (S.faults store.old) (S.faults store.new)) }
-    ensures own { S.told → IfOk result (λ found.
-        own_in (layout_in (S.site store.old).geometry head.now.footer (sectors_of S.site S.kept store.old head.now.volume)) (reads (held_in S.site S.kept S.area store.old head.now.volume)) sector
-        ≡ (if found then Some to.new else None)) }
+    ensures reads_only { OnlyReads S.Store store.old store.new }
+    ensures cause { Counts S.Store result store.old store.new }
+    ensures own { Gives S.Store head.now.volume (λ r. IfOk result
+        (λ found. own_in (layout_now (stored S.Store store.old) head.now) r sector ≡
+        (if found then Some to.new else None))) store.old }
     ensures unchanged { IfOk result (λ found. OnFalse found (to.new ≡ to.old)) }
 {
     let geometry = store.geometry();
@@ -73,15 +72,15 @@ impl Image {
         sector: u64,
         to: &mut [u8; 512],
     ) -> Result<bool, Failed>
-        requires stands { StandsIn (S.site store.old).geometry (sectors_of S.site S.kept store.old (volume_name self.now)) self.now }
-        requires true_now { S.told → TrueIn (S.site store.old).geometry (sectors_of S.site S.kept store.old (volume_name self.now)) (held_in S.site S.kept S.area store.old (volume_name self.now)) self.now }
+        requires stands { ImageStands (stored S.Store store.old) self.now }
+        requires true_now { S.told → ImageIsTrue (stored S.Store store.old) self.now }
         requires within { sector < sector_count self.now }
-        ensures works { WorksOn S.told S.site S.kept S.area S.failed S.faults (volume_name self.now) store.old store.new }
-        ensures reads_only { ReadsOnly S.told S.site S.kept S.area S.failed S.faults S.leaves store.old store.new }
-        ensures cause { OnErr result (Rose (S.faults store.old) (S.faults store.new)) }
-        ensures own { S.told → IfOk result (λ found.
-            own_of (S.site store.old).geometry (sectors_of S.site S.kept store.old (volume_name self.now)) self.now (reads (held_in S.site S.kept S.area store.old (volume_name self.now))) sector
-            ≡ (if found then Some to.new else None)) }
+        ensures works { WorksOn S.Store (volume_name self.now) store.old store.new }
+        ensures reads_only { OnlyReads S.Store store.old store.new }
+        ensures cause { Counts S.Store result store.old store.new }
+        ensures own { Gives S.Store (volume_name self.now)
+            (λ r. IfOk result (λ found. own_now (stored S.Store store.old) self.now r sector ≡
+            (if found then Some to.new else None))) store.old }
         ensures unchanged { IfOk result (λ found. OnFalse found (to.new ≡ to.old)) }
     {
         match &self.body {

@@ -1,14 +1,14 @@
 //! The size of a volume.
 
 ghost use Rattle.std.specs.Prelude.{◌≡◌, ◌<◌, ◌^◌};
-ghost use Rattle.vhd_volumes.specs.Steps.{sectors_of};
+ghost use Rattle.vg_volumes.specs.Stored.{stored, sectors_in};
 
 use sm_base::Name;
 use vg_volumes::Store;
 
 /// The sectors of a volume, 0 where there is none.
 pub(crate) fn sectors_in<S: Store>(store: &S, volume: &Name) -> u64
-    ensures { result ≡ sectors_of S.site S.kept store.now volume.now }
+    ensures { result ≡ sectors_in (stored S.Store store.now) volume.now }
 {
     let extent = store.geometry().extent as u64;
     let _extents = store.extents();

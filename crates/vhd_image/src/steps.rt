@@ -1,9 +1,10 @@
 //! One sector of a volume, read or written.
 
 ghost use Rattle.std.specs.Prelude.{◌≡◌, ◌<◌, length, OnOk, OnErr, IfOk};
-ghost use Rattle.sm_disk.specs.Held.{IsWhole, Rose, Torn, Wrote, reads};
-ghost use Rattle.vhd_volumes.specs.Steps.{WorksOn, sectors_of, held_in};
-ghost use Rattle.vhd_image.specs.Calls.{ReadsOnly, MayPut};
+ghost use Rattle.sm_disk.specs.Held.{IsWhole, Torn, Wrote};
+ghost use Rattle.vg_volumes.specs.Stored.{stored, sectors_in, OnlyReads, WorksOn, Counts};
+ghost use Rattle.vhd_volumes.specs.Steps.{Does, Gives};
+ghost use Rattle.vhd_image.specs.Calls.{MayPut};
 
 use sm_base::{Failed, Name};
 use vg_volumes::Store;
@@ -14,11 +15,11 @@ pub(crate) fn sector_of<S: Store>(
     volume: &Name,
     at: u64,
 ) -> Result<[u8; 512], Failed>
-    requires { at < sectors_of S.site S.kept store.old volume.now }
-    ensures reads_only { ReadsOnly S.told S.site S.kept S.area S.failed S.faults S.leaves store.old store.new }
-    ensures cause { OnErr result (Rose (S.faults store.old) (S.faults store.new)) }
+    requires { at < sectors_in (stored S.Store store.old) volume.now }
+    ensures reads_only { OnlyReads S.Store store.old store.new }
+    ensures cause { Counts S.Store result store.old store.new }
     ensures long { IfOk result (λ bytes. length bytes ≡ 512) }
-    ensures gave { S.told → IfOk result (λ bytes. bytes ≡ reads (held_in S.site S.kept S.area store.old volume.now) at) }
+    ensures gave { Gives S.Store volume.now (λ r. IfOk result (λ bytes. bytes ≡ r at)) store.old }
 {
     let mut bytes = [0; 512];
     store.read(volume, at, &mut bytes)?;
@@ -32,11 +33,11 @@ pub(crate) fn put_sector<S: Store>(
     at: u64,
     from: &[u8; 512],
 ) -> Result<(), Failed>
-    requires { at < sectors_of S.site S.kept store.old volume.now }
-    ensures works { WorksOn S.told S.site S.kept S.area S.failed S.faults volume.now store.old store.new }
-    ensures cause { OnErr result (Rose (S.faults store.old) (S.faults store.new)) }
-    ensures may_put { S.told → MayPut at from.now (held_in S.site S.kept S.area store.old volume.now) (held_in S.site S.kept S.area store.new volume.now) }
-    ensures put { OnOk result (S.told → reads (held_in S.site S.kept S.area store.new volume.now) at ≡ from.now) }
+    requires { at < sectors_in (stored S.Store store.old) volume.now }
+    ensures works { WorksOn S.Store volume.now store.old store.new }
+    ensures cause { Counts S.Store result store.old store.new }
+    ensures may_put { Does S.Store volume.now (MayPut at from.now) store.old store.new }
+    ensures put { OnOk result (Gives S.Store volume.now (λ r. r at ≡ from.now) store.new) }
 {
     store.write(volume, at, from)?;
     Ok(())
@@ -49,11 +50,11 @@ pub(crate) fn put_sectors<S: Store>(
     at: u64,
     from: &[u8],
 ) -> Result<(), Failed>
-    requires { IsWhole at (length from.now) (sectors_of S.site S.kept store.old volume.now) }
-    ensures works { WorksOn S.told S.site S.kept S.area S.failed S.faults volume.now store.old store.new }
-    ensures cause { OnErr result (Rose (S.faults store.old) (S.faults store.new)) }
-    ensures torn { S.told → Torn at from.now (held_in S.site S.kept S.area store.old volume.now) (held_in S.site S.kept S.area store.new volume.now) }
-    ensures wrote { OnOk result (S.told → Wrote at from.now (held_in S.site S.kept S.area store.old volume.now) (held_in S.site S.kept S.area store.new volume.now)) }
+    requires { IsWhole at (length from.now) (sectors_in (stored S.Store store.old) volume.now) }
+    ensures works { WorksOn S.Store volume.now store.old store.new }
+    ensures cause { Counts S.Store result store.old store.new }
+    ensures torn { Does S.Store volume.now (Torn at from.now) store.old store.new }
+    ensures wrote { OnOk result (Does S.Store volume.now (Wrote at from.now) store.old store.new) }
 {
     store.write(volume, at, from)?;
     Ok(())

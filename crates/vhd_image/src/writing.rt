@@ -1,11 +1,12 @@
 //! A guest's write.
 
 ghost use Rattle.std.specs.Prelude.{◌≡◌, ◌<◌, ◌≤◌, ◌+◌, ◌*◌, false, length, OnOk, OnErr};
-ghost use Rattle.sm_disk.specs.Held.{IsWhole, Rose};
-ghost use Rattle.vhd_volumes.specs.Steps.{WorksOn, sectors_of, held_in};
+ghost use Rattle.sm_disk.specs.Held.{IsWhole};
+ghost use Rattle.vg_volumes.specs.Stored.{stored, sectors_in, WorksOn, Counts};
+ghost use Rattle.vhd_volumes.specs.Steps.{Holds, Does};
 ghost use Rattle.vhd_volumes.specs.Writes.{KeepsHeads};
-ghost use Rattle.vhd_image.specs.Bodies.{IfVhd, StandsIn, TrueIn, sector_count, volume_name};
-ghost use Rattle.vhd_image.specs.Written.{HasRoomToWrite, IsWriting, IsWrittenIn, MayHaveGrown, written};
+ghost use Rattle.vhd_image.specs.Bodies.{StandsIn, TrueIn, sector_count, volume_name, ImageStands, ImageIsTrue, IfVhdDoes};
+ghost use Rattle.vhd_image.specs.Written.{HasRoomToWrite, IsWriting, IsBodyWritten, MayHaveGrown, written};
 
 use crate::images::{Body, Image};
 use crate::steps::put_sectors;
@@ -29,28 +30,33 @@ impl Image {
         from: &[u8],
     ) -> Result<(), Failed>
         requires usable { S.failed store.old ≡ false }
-        requires stands { StandsIn (S.site store.old).geometry (sectors_of S.site S.kept store.old (volume_name self.old)) self.old }
-        requires true_now { S.told → TrueIn (S.site store.old).geometry (sectors_of S.site S.kept store.old (volume_name self.old)) (held_in S.site S.kept S.area store.old (volume_name self.old)) self.old }
+        requires stands { ImageStands (stored S.Store store.old) self.old }
+        requires true_now { S.told → ImageIsTrue (stored S.Store store.old) self.old }
         requires whole { IsWhole sector (length from.now) (sector_count self.old) }
         requires buffer { (0 < pool.old.free) × (512 * (1 + (S.site store.old).geometry.block) ≤ pool.old.bytes) }
-        requires room { HasRoomToWrite (S.site store.old).geometry (sectors_of S.site S.kept store.old (volume_name self.old)) sector (length from.now) self.old }
-        ensures works { WorksOn S.told S.site S.kept S.area S.failed S.faults (volume_name self.old) store.old store.new }
-        ensures cause { OnErr result (Rose (S.faults store.old) (S.faults store.new)) }
+        requires room { HasRoomToWrite (S.site store.old).geometry
+            (sectors_in (stored S.Store store.old) (volume_name self.old)) sector (length from.now) self.old }
+        ensures works { WorksOn S.Store (volume_name self.old) store.old store.new }
+        ensures cause { Counts S.Store result store.old store.new }
         ensures pool { pool.new ≡ pool.old }
-        ensures guarded { S.told → IsWriting (S.site store.old).geometry (sectors_of S.site S.kept store.old (volume_name self.old)) self.old sector from.now
-            (held_in S.site S.kept S.area store.old (volume_name self.old))
-            (held_in S.site S.kept S.area store.new (volume_name self.old)) }
+        ensures guarded { Does S.Store (volume_name self.old)
+            (IsWriting (S.site store.old).geometry
+            (sectors_in (stored S.Store store.old)
+            (volume_name self.old)) self.old sector from.now) store.old store.new }
         // The copy of the footer, the header and the last sector stay.
-        ensures heads { S.told → IfVhd self.old (λ head m. KeepsHeads (sectors_of S.site S.kept store.old head.volume)
-            (held_in S.site S.kept S.area store.old head.volume)
-            (held_in S.site S.kept S.area store.new head.volume)) }
+        ensures heads { IfVhdDoes S.Store self.old (λ head m. KeepsHeads
+            (sectors_in (stored S.Store store.old) head.volume)) store.old store.new }
         ensures grown { MayHaveGrown self.old self.new }
         ensures map { OnOk result (self.new ≡ written (S.site store.old).geometry.block sector (length from.now) self.old) }
-        ensures stands_after { OnOk result (StandsIn (S.site store.old).geometry (sectors_of S.site S.kept store.old (volume_name self.old)) self.new) }
-        ensures true_after { OnOk result (S.told → TrueIn (S.site store.old).geometry (sectors_of S.site S.kept store.old (volume_name self.old)) (held_in S.site S.kept S.area store.new (volume_name self.old)) self.new) }
-        ensures written { OnOk result (S.told → IsWrittenIn (S.site store.old).geometry (sectors_of S.site S.kept store.old (volume_name self.old)) self.old sector from.now
-            (held_in S.site S.kept S.area store.old (volume_name self.old))
-            (held_in S.site S.kept S.area store.new (volume_name self.old))) }
+        ensures stands_after { OnOk result (StandsIn (S.site store.old).geometry
+            (sectors_in (stored S.Store store.old) (volume_name self.old)) self.new) }
+        ensures true_after { OnOk result (Holds S.Store (volume_name self.old)
+            (λ h. TrueIn (S.site store.old).geometry
+            (sectors_in (stored S.Store store.old) (volume_name self.old)) h self.new) store.new) }
+        ensures written { OnOk result (Does S.Store (volume_name self.old)
+            (IsBodyWritten (S.site store.old).geometry
+            (sectors_in (stored S.Store store.old)
+            (volume_name self.old)) self.old sector from.now) store.old store.new) }
     {
         match &mut self.body {
             Body::Raw { volume, .. } => {

@@ -1,10 +1,12 @@
 -- The laws of places and images.
+pub use Rattle.common_laws.proofs.Options.{option_cases}
 use Rattle.std.proofs.Common.{◌≡◌, ◌≢◌, ℕ, ◌+◌, ◌-◌, ◌*◌, ◌/◌, ◌%◌, ◌<◌, ◌≤◌, ◌⊎◌, ◌==◌, ◌++◌, if◌then◌else◌, false, List, Option, Some, None, refl, sym, ap, ap₂, ◌∙◌, inl, inr, ⊎_elim, arith}
 use Rattle.std.proofs.Math.Nat.{div-mul-le_self}
 use Rattle.std.proofs.lemmas.Bool.{cases_lt, ne_eqb, cond-false}
 use Rattle.std.proofs.lemmas.Nat.{div_below, same_from_place, le-div, mul-le}
 use Rattle.std.specs.Option.{option_or}
 use Rattle.std.specs.Result.{result_ok}
+use Rattle.common_laws.proofs.Options.{option_cases}
 use Rattle.vhd_fields.specs.Footers.{footer_read}
 use Rattle.vhd_fields.specs.Headers.{header_read}
 use Rattle.std.proofs.lemmas.Option.{none-some, same_Some}
@@ -20,10 +22,6 @@ use Rattle.vhd_layout.specs.Layouts.{Sectors, Layout, IsLayout, place, slot_coun
 use Rattle.vhd_layout.specs.Images.{footer_at, header_at}
 use Rattle.vhd_layout.specs.Contents.{value, size_at, parent_at}
 use Rattle.vhd_layout.specs.Laws.{PlaceFirst, PlaceWithin, PlaceSame, PlacePart, PlaceSmall, TableFirst, LayoutOf, SlotsFit, SlotsNeed, CodeSame, OneHead, OneMap, HeadKept, ValueWithSlot, ValueWithoutSlot, ContentOfHead, TableReadable}
-
-pub option_cases : {A : Type 0} (o : Option A) → (o ≡ None) ⊎ ((x : A) × (o ≡ Some x))
-option_cases None = inl refl
-option_cases (Some x) = inr (x, refl)
 
 -- ---- places
 

@@ -1,3 +1,2 @@
-pub mod ExampleLemmas
 pub mod ImageLaws
 pub mod ReadingLaws

@@ -5,6 +5,7 @@ use Rattle.std.proofs.lemmas.Bool.Decides.{Decides-and, Decides-or, Decides-not,
 use Rattle.std.proofs.lemmas.Nat.{div-mul-add}
 use Rattle.std.proofs.lemmas.List.FromFn.{get_or-map-range_with_len}
 use Rattle.std.proofs.lemmas.Option.{none-some, same_Some}
+use Rattle.common_laws.proofs.Options.{option_cases}
 use Rattle.vhd_fields.specs.declared.footers.Footer.{Footer}
 use Rattle.vhd_fields.specs.declared.headers.Header.{Header}
 use Rattle.vhd_map.specs.Places.{spot, blank}
@@ -13,7 +14,7 @@ use Rattle.vhd_layout.specs.Images.{footer_at, header_at, IsFooterOf, IsHeaderOf
 use Rattle.vhd_layout.specs.Contents.{size_at, layout_at, slot_number, slot_at}
 use Rattle.vhd_layout.specs.Readings.{each_below, some_below, is_footer_of, same_answer, is_header_of, is_head_of, is_entry_of, is_entry_right, is_image_of}
 use Rattle.vhd_layout.specs.Laws.{ValidDecided, SlotsOfTable, LayoutAt}
-use Rattle.vhd_layout.proofs.ImageLaws.{option_cases, place-small, layout-of, code-one, content-of_head, in_entries}
+use Rattle.vhd_layout.proofs.ImageLaws.{place-small, layout-of, code-one, content-of_head, in_entries}
 
 -- ---- tests below a number
 

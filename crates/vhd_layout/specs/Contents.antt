@@ -11,7 +11,7 @@ use Rattle.vhd_layout.specs.Images.{footer_at, header_at}
 
 -- its size in sectors, its parent's name or none, the slot of each block that the table has an entry for, or none,
 -- and the bytes of each sector that it holds
-pub record Content : Type 0 where
+pub record ImageContent : Type 0 where
   pub size : ℕ
   pub parent : Option Name
   pub slots : List (Option ℕ)
@@ -54,7 +54,7 @@ slots_at l v = map (slot_at l v) (range_with_len 0 l.entries)
 
 -- what the image says in the first so many sectors of a volume, in a repository with so many sectors a block and
 -- so many entries a table
-abbrev pub content_at : ℕ → ℕ → ℕ → Sectors → Content
+abbrev pub content_at : ℕ → ℕ → ℕ → Sectors → ImageContent
 content_at block entries sectors v = record {
   size = size_at sectors v;
   parent = parent_at v;
@@ -63,7 +63,7 @@ content_at block entries sectors v = record {
 }
 
 -- a raw image is all sectors of its volume; it has no parent and no slots, and holds each of its sectors
-abbrev pub raw_content : ℕ → Sectors → Content
+abbrev pub raw_content : ℕ → Sectors → ImageContent
 raw_content sectors v = record {
   size = sectors;
   parent = None;

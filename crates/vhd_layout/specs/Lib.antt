@@ -1,5 +1,4 @@
 pub mod Contents
-pub mod Examples
 pub mod Images
 pub mod Laws
 pub mod Layouts

@@ -4,7 +4,7 @@ use Rattle.std.specs.Prelude.{ℕ, ◌+◌, ◌*◌, ◌==◌, ◌&&◌, ◌||�
 use Rattle.vhd_fields.specs.declared.footers.Footer.{Footer}
 use Rattle.vhd_fields.specs.declared.headers.Header.{Header}
 use Rattle.vhd_map.specs.Places.{blank}
-use Rattle.vhd_layout.specs.Contents.{Content, content_at, layout_at, slot_number}
+use Rattle.vhd_layout.specs.Contents.{ImageContent, content_at, layout_at, slot_number}
 use Rattle.vhd_layout.specs.Images.{footer_at, header_at}
 use Rattle.vhd_layout.specs.Layouts.{Sectors, Layout, entry, code, slot_count, entries_in_sectors}
 
@@ -63,5 +63,5 @@ abbrev pub is_valid : ℕ → ℕ → ℕ → Sectors → Bool
 is_valid block entries sectors v = is_image_of (layout_at block entries sectors v) v
 
 -- what the image says, where the volume holds a valid one
-abbrev pub image_at : ℕ → ℕ → ℕ → Sectors → Option Content
+abbrev pub image_at : ℕ → ℕ → ℕ → Sectors → Option ImageContent
 image_at block entries sectors v = if is_valid block entries sectors v then Some (content_at block entries sectors v) else None

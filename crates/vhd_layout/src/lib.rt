@@ -6,9 +6,8 @@
 //! (`specs/Readings`). A volume is a function from a place, in sectors of 512 bytes, to the bytes there. What a
 //! stop may leave is said above, of each volume that it may leave: it holds a valid image.
 //!
-//! A public function has an empty body; its contract is a law of the definitions ([`laws`]) or an example that
-//! they accept or refuse ([`examples`]). None of them costs anything.
+//! A public function has an empty body; its contract is a law of the definitions ([`laws`]). None of them costs
+//! anything. Images that the definitions accept and refuse are in the crate layout_examples.
 #![tactic(auto)]
 
-pub mod examples;
 pub mod laws;

@@ -6,7 +6,7 @@ use Rattle.std.proofs.lemmas.Bool.{cases_eq, cases_lt, true≢false, ne_eqb}
 use Rattle.std.proofs.lemmas.List.{get_or_read, map-set, length-map, length-replicate}
 use Rattle.vhd_map.specs.Slots.{slot_of, is_used, used_count, top_of, least_free_slot, IsMap}
 use Rattle.vhd_map.specs.Words.{is_marked}
-use Rattle.vhd_map.specs.Kept.{slot_or_none, kept_map, IsKept}
+use Rattle.vhd_map.specs.Kept.{slot_or_none, kept_map, AgreesWithEntries}
 use Rattle.vhd_map.proofs.Bits.{is_marked-set_same, is_marked-set_other, is_marked-replicate, not_full, is_marked-lowest, is_marked-below_lowest, is_marked-full}
 use Rattle.vhd_map.proofs.SlotLemmas.{is_used-past, is_used-set_same, is_used-set_other, used_count-set, used_count-le, used_count-replicate, top_of-set, top_of-replicate, is_used-replicate, IsMap-replicate, IsMap-set, least_free_slot-is}
 
@@ -22,8 +22,8 @@ pub kept_map-replicate : (n : ℕ) → kept_map (replicate n 4294967295) ≡ rep
 kept_map-replicate zero = refl
 kept_map-replicate (suc n) = ap (λ (m : List (Option ℕ)). None ∷ m) (kept_map-replicate n)
 
-pub IsKept-blank : (n : ℕ) → n < 2 ^ 32 → IsKept (replicate n 4294967295) (replicate (n / 64 + 1) 0) 0 0 0
-IsKept-blank n fits =
+pub AgreesWithEntries-blank : (n : ℕ) → n < 2 ^ 32 → AgreesWithEntries (replicate n 4294967295) (replicate (n / 64 + 1) 0) 0 0 0
+AgreesWithEntries-blank n fits =
     let blank = kept_map-replicate n in
     let long : length (replicate {A = ℕ} n 4294967295) ≡ n = length-replicate n 4294967295 in
     let words : length (replicate {A = ℕ} (n / 64 + 1) 0) ≡ n / 64 + 1 = length-replicate (n / 64 + 1) 0 in
@@ -65,7 +65,7 @@ pub marks_read : (ws : List ℕ) (slot word : ℕ) → slot / 64 < length ws →
 marks_read ws slot word within read =
     ap (λ (x : ℕ). set ws (slot / 64) (bit_or x (1 * 2 ^ (slot % 64) % 2 ^ 64))) (get_or_read ws (slot / 64) word within read 0)
 
-module _ (es ws : List ℕ) (count top least : ℕ) (kept : IsKept es ws count top least) (block slot : ℕ) (may : MayPut es block slot) where
+module _ (es ws : List ℕ) (count top least : ℕ) (kept : AgreesWithEntries es ws count top least) (block slot : ℕ) (may : MayPut es block slot) where
   long : length (kept_map es) ≡ length es
   long = length-map es slot_or_none
 
@@ -117,8 +117,8 @@ module _ (es ws : List ℕ) (count top least : ℕ) (kept : IsKept es ws count t
       (λ other. get_or-set_other ws (slot / 64) w _ 0 other ∙ kept.full w below)
       (cases_eq w (slot / 64))
 
-  pub IsKept-put : (later : ℕ) → later < length (marks ws slot) → get_or (marks ws slot) later 0 ≢ 2 ^ 64 - 1 → ((w : ℕ) → least ≤ w → w < later → get_or (marks ws slot) w 0 ≡ 2 ^ 64 - 1) → IsKept (set es block slot) (marks ws slot) (count + 1) (max top (slot + 1)) later
-  IsKept-put later within room full = record {
+  pub AgreesWithEntries-put : (later : ℕ) → later < length (marks ws slot) → get_or (marks ws slot) later 0 ≢ 2 ^ 64 - 1 → ((w : ℕ) → least ≤ w → w < later → get_or (marks ws slot) w 0 ≡ 2 ^ 64 - 1) → AgreesWithEntries (set es block slot) (marks ws slot) (count + 1) (max top (slot + 1)) later
+  AgreesWithEntries-put later within room full = record {
     fits = omega (arith, kept.fits, length-set es block slot);
     good = put-good;
     room = omega (arith, kept.room, length-set es block slot, length-set ws (slot / 64) (bit_or (get_or ws (slot / 64) 0) (1 * 2 ^ (slot % 64) % 2 ^ 64)));
@@ -132,7 +132,7 @@ module _ (es ws : List ℕ) (count top least : ℕ) (kept : IsKept es ws count t
 
 -- ---- the least free slot
 
-pub least_free_slot-read : (es ws : List ℕ) (count top least : ℕ) → IsKept es ws count top least → get_or ws least 0 < 2 ^ 64 → (least * 64 + trailing_ones w64 (get_or ws least 0) ≡ least_free_slot (kept_map es)) × (least * 64 + trailing_ones w64 (get_or ws least 0) ≤ length es)
+pub least_free_slot-read : (es ws : List ℕ) (count top least : ℕ) → AgreesWithEntries es ws count top least → get_or ws least 0 < 2 ^ 64 → (least * 64 + trailing_ones w64 (get_or ws least 0) ≡ least_free_slot (kept_map es)) × (least * 64 + trailing_ones w64 (get_or ws least 0) ≤ length es)
 least_free_slot-read es ws count top least kept fits =
     let m = kept_map es in
     let s = least * 64 + trailing_ones w64 (get_or ws least 0) in

@@ -1,13 +1,13 @@
 -- The map after a slot is given, and what a map's numbers mean.
-use Rattle.std.proofs.Common.{◌≡◌, ◌≢◌, ℕ, ◌+◌, ◌-◌, ◌*◌, ◌<◌, ◌≤◌, ◌⊎◌, Bool, true, false, cond, eqb, ◌||◌, max, List, [], ◌∷◌, length, get_or, set, take, replicate, Option, Some, None, zero, suc, is_some, unwrap_or, count_by, refl, sym, ap, ◌∙◌, subst, inl, inr, ⊎_elim, eq-eqb, arith, add-zero, get_or-set_same, get_or-set_other, length-set}
-use Rattle.std.specs.List.{position_from, zip}
+use Rattle.std.proofs.Common.{◌≡◌, ◌≢◌, ℕ, ◌+◌, ◌-◌, ◌*◌, ◌<◌, ◌≤◌, ◌⊎◌, Bool, true, false, cond, eqb, ◌||◌, max, List, [], ◌∷◌, length, get_or, set, take, replicate, Option, Some, None, zero, suc, is_some, count_by, refl, sym, ap, ◌∙◌, subst, inl, inr, ⊎_elim, eq-eqb, arith, add-zero, get_or-set_same, get_or-set_other, length-set}
+use Rattle.std.specs.List.{zip}
 use Rattle.std.proofs.lemmas.Bool.{cases_Bool, cases_eq, cases_lt, eqb-true, true≢false, ne_eqb, or_cases, false_from_ne_true}
-use Rattle.std.proofs.lemmas.List.{take_all, at_drop_more, at_drop_all, get_or_past, get_or-replicate, length-replicate}
+use Rattle.std.proofs.lemmas.List.{take_all, get_or_past, get_or-replicate, length-replicate}
 use Rattle.std.proofs.lemmas.List.Folds.{list_any_at, sum_by-replicate}
 use Rattle.std.proofs.lemmas.List.Sums.{sum_by-set, count_by-le-length, count_by_more_yes, count_by_more_no}
 use Rattle.std.proofs.lemmas.Slice.Zip.{get_or-zip, length-zip}
 use Rattle.std.proofs.lemmas.Option.{none-some, same_Some}
-use Rattle.vhd_map.specs.Slots.{slot_of, names_slot, is_used, used_count, past, top_of, free_from, least_free_slot, next_block, union_size, IsMap}
+use Rattle.vhd_map.specs.Slots.{slot_of, names_slot, is_used, used_count, past, top_of, free_from, least_free_slot, union_size, IsMap}
 
 -- a block that has a slot is below T
 pub slot_of-within : (m : List (Option ℕ)) (block slot : ℕ) → slot_of m block ≡ Some slot → block < length m
@@ -173,19 +173,6 @@ pub least_free_slot-used : (m : List (Option ℕ)) (k : ℕ) → k < least_free_
 unfolding least_free_slot
 least_free_slot-used m k below = free_from-used m (length m) 0 k (omega arith) below
 
--- ---- the next block
-
-pub next_block-here : (m : List (Option ℕ)) (block slot : ℕ) → slot_of m block ≡ Some slot → next_block m block ≡ Some block
-next_block-here m block slot has =
-    at_drop_more (position_from is_some block) m block None (slot_of-within m block slot has) ∙ ap (λ (o : Option ℕ). cond (is_some o) (Some block) (next_block m (block + 1))) has
-
-pub next_block-on : (m : List (Option ℕ)) (block : ℕ) → block < length m → slot_of m block ≡ None → next_block m block ≡ next_block m (block + 1)
-next_block-on m block within without =
-    at_drop_more (position_from is_some block) m block None within ∙ ap (λ (o : Option ℕ). cond (is_some o) (Some block) (next_block m (block + 1))) without
-
-pub next_block-end : (m : List (Option ℕ)) (block : ℕ) → length m ≤ block → next_block m block ≡ None
-next_block-end m block past = at_drop_all (position_from is_some block) m block past
-
 -- ---- the blocks of two maps
 
 -- block i has a slot in either map
@@ -210,42 +197,3 @@ union_size-more_no m n i within same neither =
 pub union_size-all : (m n : List (Option ℕ)) (i : ℕ) → length m ≡ length n → length m ≤ i → either_below m n i ≡ union_size m n
 union_size-all m n i same past =
     ap (count_by (λ (p : Option ℕ × Option ℕ). is_some p.0 || is_some p.1)) (take_all i (zip m n) (omega (arith, length-zip m n)))
-
-some_there : (o : Option ℕ) → is_some o ≡ true → o ≡ Some (unwrap_or o 0)
-some_there None here = absurd (true≢false (sym here))
-some_there (Some k) here = refl
-
-none_there : (o : Option ℕ) → is_some o ≡ false → o ≡ None
-none_there None gone = refl
-none_there (Some k) gone = absurd (true≢false gone)
-
--- the next block has a slot, and no block between has one
-pub next_block-Some : (m : List (Option ℕ)) (from block : ℕ) → next_block m from ≡ Some block → (from ≤ block) × (is_some (slot_of m block) ≡ true) × ((b : ℕ) → from ≤ b → b < block → slot_of m b ≡ None)
-next_block-Some m from block found = walk (length m - from) from refl found
-  where
-    walk : (n from : ℕ) → n ≡ length m - from → next_block m from ≡ Some block → (from ≤ block) × (is_some (slot_of m block) ≡ true) × ((b : ℕ) → from ≤ b → b < block → slot_of m b ≡ None)
-    walk zero from n found = absurd (none-some block (sym (next_block-end m from (omega arith)) ∙ found))
-    walk (suc n) from e found = ⊎_elim
-        (λ (here : is_some (slot_of m from) ≡ true).
-        let at : slot_of m from ≡ Some (unwrap_or (slot_of m from) 0) = some_there (slot_of m from) here in
-        let same = same_Some from block (sym (next_block-here m from (unwrap_or (slot_of m from) 0) at) ∙ found) in
-        (omega arith, ap (λ (b : ℕ). is_some (slot_of m b)) (sym same) ∙ here, λ b low high. absurd (omega arith)))
-        (λ (gone : is_some (slot_of m from) ≡ false).
-        let none = none_there (slot_of m from) gone in
-        let rest = walk n (from + 1) (omega arith) (sym (next_block-on m from (omega arith) none) ∙ found) in
-        (omega (arith, rest.0), rest.1, λ b low high. ⊎_elim (λ same. ap (slot_of m) same ∙ none) (λ apart. rest.2 b (omega arith) high) (cases_eq b from)))
-        (cases_Bool (is_some (slot_of m from)))
-
--- no block from there on has a slot
-pub next_block-None : (m : List (Option ℕ)) (from : ℕ) → next_block m from ≡ None → (b : ℕ) → from ≤ b → slot_of m b ≡ None
-next_block-None m from none b low = ⊎_elim (λ near. walk (length m - from) from refl none b low near) (λ far. get_or_past m b None far) (cases_lt b (length m))
-  where
-    walk : (n from : ℕ) → n ≡ length m - from → next_block m from ≡ None → (b : ℕ) → from ≤ b → b < length m → slot_of m b ≡ None
-    walk zero from e none b low near = absurd (omega arith)
-    walk (suc n) from e none b low near =
-        let here : slot_of m from ≡ None = unset (slot_of m from) refl in
-        ⊎_elim (λ same. ap (slot_of m) same ∙ here) (λ apart. walk n (from + 1) (omega arith) (sym (next_block-on m from (omega arith) here) ∙ none) b (omega arith) near) (cases_eq b from)
-      where
-        unset : (o : Option ℕ) → slot_of m from ≡ o → slot_of m from ≡ None
-        unset None is = is
-        unset (Some k) is = absurd (none-some from (sym none ∙ next_block-here m from k is))

@@ -13,7 +13,7 @@ abbrev pub kept_map : List ℕ → List (Option ℕ)
 kept_map entries = map slot_or_none entries
 
 -- what is kept beside the entries agrees with them
-pub record IsKept (entries words : List ℕ) (count top least : ℕ) : Type 0 where
+pub record AgreesWithEntries (entries words : List ℕ) (count top least : ℕ) : Type 0 where
   pub fits : length entries < 2 ^ 32
   pub good : IsMap (kept_map entries)
   pub room : length words ≡ length entries / 64 + 1

@@ -27,11 +27,11 @@ impl Model for Map {
 
     ghost Value = { List (Option ℕ) };
 
-    ghost use Rattle.vhd_map.specs.Kept.{kept_map, IsKept};
+    ghost use Rattle.vhd_map.specs.Kept.{kept_map, AgreesWithEntries};
 
     ghost view = { λ a. kept_map a.entries.items };
 
-    ghost invariant = { λ a. IsKept a.entries.items a.used.items a.count a.top a.least };
+    ghost invariant = { λ a. AgreesWithEntries a.entries.items a.used.items a.count a.top a.least };
 }
 
 impl Map {

@@ -2,21 +2,15 @@
 
 ghost use Rattle.std.specs.Prelude.{◌≡◌, false, IfOk, OnOk};
 
-use crate::changes::prepare;
-use sm_base::{Failed, Geometry, Name};
+use sm_base::{Failed, Name};
 use sm_disk::{Disk, MemDisk};
 use std::alloc::Global;
 use std::test::Fail;
+use test_support::prepare;
 use uuid::Uuid;
 use vg_meta::{Change, Extents};
-use vg_store::{Group, format};
+use vg_store::Group;
 use vg_volumes::Store;
-
-/// The sectors of a device with 64 extents of 32 sectors behind the group's front of 4,096.
-const DEVICE_SECTORS: u64 = 6144;
-
-/// An opening of a group makes four calls of the device: a sync, and a read of the label, the header and the text each.
-pub const OPENING_CALLS: u64 = 4;
 
 /// A device in memory of which no clause tells the content. It counts its syncs.
 #[derive(Drop)]
@@ -61,28 +55,11 @@ impl Disk for Untold {
     }
 }
 
-/// Whether something is so; where it is not, the test that asks has failed.
-pub fn holds(is: bool, what: &'static str) -> Result<(), Fail> {
-    if is { Ok(()) } else { Err(Fail::from(what)) }
-}
-
-/// Extents of 32 sectors, blocks of 8, and 64 entries.
-pub fn geometry() -> Result<Geometry, Fail> {
-    Ok(Geometry::of(16_384, 4096, 64).ok_or("a geometry")?)
-}
-
 /// The volume with this last byte of its UUID.
 pub fn volume(byte: u8) -> Name {
     let mut bytes = [0x11; 16];
     bytes[15] = byte;
     Name::Vhd(Uuid::from_bytes(bytes))
-}
-
-/// A device with a new group.
-pub fn new_device(alloc: Global) -> Result<MemDisk, Fail> {
-    let mut disk = MemDisk::new(alloc, DEVICE_SECTORS)?;
-    format(alloc, &mut disk, geometry()?, Uuid::from_bytes([0x99; 16]))?;
-    Ok(disk.left(alloc, &[])?)
 }
 
 /// The group on a device.

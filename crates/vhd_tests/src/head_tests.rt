@@ -2,7 +2,7 @@
 
 ghost use Rattle.std.specs.Prelude.{◌≡◌, false, IfOk, OnOk};
 
-use crate::fixtures::{add, holds, new_device, volume};
+use crate::fixtures::{add, volume};
 use crate::heads::{end, make_child, opening_fault, put_raw, raw_sector, set_parent, set_size};
 use crate::images::{make, opened as image_in, own};
 use crate::making_tests::{compare_but, spoil};
@@ -14,6 +14,7 @@ use crate::volumes::put;
 use sm_base::{Name, OpenFault, Place};
 use std::alloc::Global;
 use std::test::Fail;
+use test_support::{DEVICE_SECTORS, formatted, holds};
 use uuid::Uuid;
 use vg_volumes::Store;
 use vhd_image::Image;
@@ -152,7 +153,7 @@ fn an_image_is_found_linked_enlarged_ended_and_raw(rt: HostRuntime) -> Result<()
         Work::UseRaw,
         Work::Make,
     ] {
-        run(rt.alloc(), new_device(rt.alloc())?, work)?;
+        run(rt.alloc(), formatted(rt.alloc(), DEVICE_SECTORS)?, work)?;
     }
     Ok(())
 }

@@ -4,7 +4,7 @@ ghost use Rattle.std.specs.Prelude.{◌≡◌, false, ◌<◌, ◌≤◌, ◌*�
 ghost use Rattle.std.specs.Bool.{OnTrue};
 ghost use Rattle.sm_base.specs.Names.{IsName};
 ghost use Rattle.vhd_fields.specs.ParentNames.{IsParent};
-ghost use Rattle.vhd_volumes.specs.Steps.{sectors_of};
+ghost use Rattle.vg_volumes.specs.Stored.{stored, sectors_in};
 ghost use Rattle.vhd_image.specs.Bodies.{IsVhd, StandsIn, volume_name};
 ghost use Rattle.vhd_image.specs.Made.{MayHave};
 
@@ -107,7 +107,7 @@ fn relink<S: Store>(store: &mut S, image: &mut Image, to: &Name) -> Result<Optio
     requires told { ¬ S.told }
     requires vhd { IsVhd image.old }
     requires stands { StandsIn (S.site store.old).geometry
-        (sectors_of S.site S.kept store.old (volume_name image.old)) image.old }
+        (sectors_in (stored S.Store store.old) (volume_name image.old)) image.old }
 {
     if image.parent().is_none() || !is_parent(to) {
         return Err(Fail::from("a child and a parent"));
@@ -135,7 +135,7 @@ fn resize<S: Store>(store: &mut S, image: &mut Image, sectors: u64) -> Result<u6
     requires told { ¬ S.told }
     requires vhd { IsVhd image.old }
     requires stands { StandsIn (S.site store.old).geometry
-        (sectors_of S.site S.kept store.old (volume_name image.old)) image.old }
+        (sectors_in (stored S.Store store.old) (volume_name image.old)) image.old }
 {
     if image.sectors() > sectors || !is_size(&store.geometry(), sectors) {
         return Err(Fail::from("a larger size of whole blocks"));

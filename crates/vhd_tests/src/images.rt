@@ -3,7 +3,7 @@
 ghost use Rattle.std.specs.Prelude.{◌≡◌, ◌≤◌, ◌<◌, ◌*◌, length, false, IfOk, OnOk};
 ghost use Rattle.std.specs.Bool.{OnTrue};
 ghost use Rattle.sm_disk.specs.Held.{IsWhole};
-ghost use Rattle.vhd_volumes.specs.Steps.{sectors_of};
+ghost use Rattle.vg_volumes.specs.Stored.{stored, sectors_in};
 ghost use Rattle.vhd_image.specs.Bodies.{StandsIn, IsVhd, sector_count, volume_name};
 ghost use Rattle.vhd_image.specs.Made.{IsDiskSize};
 ghost use Rattle.vhd_image.specs.Written.{HasRoomToWrite};
@@ -49,7 +49,7 @@ pub fn make<S: Store>(
 pub fn opened<S: Store>(alloc: Global, store: &mut S, name: &Name) -> Result<Image, Fail>
     ensures vhd { IfOk result IsVhd }
     ensures name { IfOk result (λ image. volume_name image ≡ name.now) }
-    ensures stands { IfOk result (StandsIn (S.site store.new).geometry (sectors_of S.site S.kept store.new name.now)) }
+    ensures stands { IfOk result (StandsIn (S.site store.new).geometry (sectors_in (stored S.Store store.new) name.now)) }
     ensures flag { S.failed store.new ≡ S.failed store.old }
 {
     let extents = extents_of(store, name)?;
@@ -66,7 +66,7 @@ pub fn opened<S: Store>(alloc: Global, store: &mut S, name: &Name) -> Result<Ima
 pub fn own_of<S: Store>(store: &mut S, image: &Image, at: u64) -> Result<Option<[u8; 512]>, Fail>
     requires told { ¬ S.told }
     requires stands { StandsIn (S.site store.old).geometry
-        (sectors_of S.site S.kept store.old (volume_name image.now)) image.now }
+        (sectors_in (stored S.Store store.old) (volume_name image.now)) image.now }
     ensures flag { S.failed store.new ≡ S.failed store.old }
 {
     if at >= image.sectors() {
@@ -137,10 +137,10 @@ pub fn write_with_pool<S: Store>(
     requires told { ¬ S.told }
     requires usable { S.failed store.old ≡ false }
     requires stands { StandsIn (S.site store.old).geometry
-        (sectors_of S.site S.kept store.old (volume_name image.old)) image.old }
+        (sectors_in (stored S.Store store.old) (volume_name image.old)) image.old }
     requires whole { IsWhole at (length from.now) (sector_count image.old) }
     requires room { HasRoomToWrite (S.site store.old).geometry
-        (sectors_of S.site S.kept store.old (volume_name image.old)) at (length from.now) image.old }
+        (sectors_in (stored S.Store store.old) (volume_name image.old)) at (length from.now) image.old }
     requires block { (S.site store.old).geometry.block ≡ 8 }
     ensures flag { S.failed store.new ≡ S.failed store.old }
 {
@@ -164,7 +164,7 @@ fn write_into<S: Store>(
     requires told { ¬ S.told }
     requires usable { S.failed store.old ≡ false }
     requires stands { StandsIn (S.site store.old).geometry
-        (sectors_of S.site S.kept store.old (volume_name image.old)) image.old }
+        (sectors_in (stored S.Store store.old) (volume_name image.old)) image.old }
     ensures flag { S.failed store.new ≡ S.failed store.old }
 {
     let geometry = store.geometry();

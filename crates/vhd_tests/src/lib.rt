@@ -25,8 +25,6 @@
 #![tactic(auto)]
 
 #[cfg(test)]
-mod changes;
-#[cfg(test)]
 mod fields;
 #[cfg(test)]
 mod fixtures;

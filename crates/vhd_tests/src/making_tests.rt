@@ -2,13 +2,14 @@
 
 ghost use Rattle.std.specs.Prelude.{◌≡◌, false, IfOk, OnOk};
 
-use crate::fixtures::{add, holds, volume};
+use crate::fixtures::{add, volume};
 use crate::images::make;
 use crate::sectors::{UID, footer, header, stale};
 use crate::volumes::{get, put, sectors_in};
 use sm_base::Name;
 use std::alloc::Global;
 use std::test::Fail;
+use test_support::holds;
 use vg_volumes::Store;
 use vhd_image::Image;
 

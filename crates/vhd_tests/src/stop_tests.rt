@@ -2,7 +2,7 @@
 
 ghost use Rattle.std.specs.Prelude.{◌≡◌, ◌<◌, false, IfOk, OnOk};
 
-use crate::fixtures::{OPENING_CALLS, Untold, add, holds, new_device, volume};
+use crate::fixtures::{Untold, add, volume};
 use crate::images::{make, own, slots, write};
 use crate::making_tests::spoil;
 use crate::plain::own_sector;
@@ -12,6 +12,7 @@ use crate::volumes::bytes_of;
 use sm_disk::MemDisk;
 use std::alloc::Global;
 use std::test::Fail;
+use test_support::{CHOICES, DEVICE_SECTORS, OPENING_CALLS, formatted, holds};
 use vg_volumes::Store;
 
 /// The extents of the volume, 608 sectors: 64 slots of 9 sectors have room.
@@ -92,7 +93,7 @@ pub fn fill<S: Store>(alloc: Global, store: &mut S) -> Result<(), Fail>
 
 /// The device with the image, where nothing is pending.
 fn filled(alloc: Global) -> Result<MemDisk, Fail> {
-    let (untold, _) = run(alloc, new_device(alloc)?, Work::Fill)?;
+    let (untold, _) = run(alloc, formatted(alloc, DEVICE_SECTORS)?, Work::Fill)?;
     Ok(untold.disk.left(alloc, &[])?)
 }
 
@@ -165,8 +166,7 @@ pub fn write_and_compare<S: Store>(
 
 /// Opens what each of five choices leaves, and compares.
 fn compare_all_left(alloc: Global, disk: &MemDisk) -> Result<(), Fail> {
-    let choices: [&[u32]; 5] = [&[], &[1], &[0, 1], &[1, 0], &[3]];
-    for choice in choices {
+    for choice in CHOICES {
         run(alloc, disk.left(alloc, choice)?, Work::Compare)?;
     }
     Ok(())

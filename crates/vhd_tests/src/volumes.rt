@@ -1,8 +1,8 @@
 //! The sectors of a volume, and what is asked before a call on them.
 
 ghost use Rattle.std.specs.Prelude.{◌≡◌, ◌≤◌, ◌<◌, ◌*◌, length, IfOk, OnOk};
-ghost use Rattle.vg_meta.specs.Kept.{listing};
-ghost use Rattle.vhd_volumes.specs.Steps.{sectors_of};
+ghost use Rattle.vg_meta.specs.Roomy.{table_alone};
+ghost use Rattle.vg_volumes.specs.Stored.{stored, sectors_in};
 
 use sm_base::{Failed, Name};
 use std::alloc::Global;
@@ -11,7 +11,7 @@ use vg_volumes::Store;
 
 /// The extents of a volume.
 pub fn extents_of<S: Store>(store: &S, name: &Name) -> Result<u32, Fail>
-    ensures { IfOk result (λ n. n * (S.site store.now).geometry.extent ≡ sectors_of S.site S.kept store.now name.now) }
+    ensures { IfOk result (λ n. n * (S.site store.now).geometry.extent ≡ sectors_in (stored S.Store store.now) name.now) }
 {
     let _geometry = store.geometry();
     let Some(volume) = store.table().get(name) else {
@@ -25,7 +25,7 @@ pub fn extents_of<S: Store>(store: &S, name: &Name) -> Result<u32, Fail>
 
 /// The sectors of a volume.
 pub fn sectors_in<S: Store>(store: &S, name: &Name) -> Result<u64, Fail>
-    ensures { IfOk result (λ n. n ≡ sectors_of S.site S.kept store.now name.now) }
+    ensures { IfOk result (λ n. n ≡ sectors_in (stored S.Store store.now) name.now) }
 {
     let extents = extents_of(store, name)?;
     Ok(u64::from(extents) * u64::from(store.geometry().extent))

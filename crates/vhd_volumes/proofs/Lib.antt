@@ -1,3 +1,1 @@
 pub mod KeptLaws
-pub mod StepLaws
-pub mod VolumeLaws

@@ -1,31 +1,18 @@
--- What the calls of one step did to a store beside the volume that they write: the same sizes and table, no spare number
--- lower, and each other sector of the area as it was, or settled.
-use Rattle.std.specs.Prelude.{◌≡◌, ℕ, ◌≤◌, Bool, List}
+-- What a store holds in one volume, and what a step did to it, where the store tells its content.
+use Rattle.std.specs.Prelude.{ℕ, List}
 use Rattle.sm_base.specs.declared.names.Name.{Name}
-use Rattle.sm_disk.specs.Held.{Held, May, reads}
-use Rattle.vg_meta.specs.Kept.{Kept, listing}
-use Rattle.vg_meta.specs.Tables.{rows, extents_of}
-use Rattle.vg_volumes.specs.Sites.{Site, NoLessRoom, size_of, volume_of}
-use Rattle.vg_volumes.specs.Volumes.{IsElsewhere}
+use Rattle.sm_disk.specs.Held.{Held, reads}
+use Rattle.vg_volumes.specs.Stored.{stored, held_in}
+use Rattle.vg_volumes.specs.declared.stores.Store.{Ghosts}
 
--- at each place of the area that the volume with these extents has not, a read gives what it gave, and a stop leaves
--- nothing that it could not leave before
-pub record KeepsElsewhere (extent : ℕ) (extents : List ℕ) (old new : Held) : Type 0 where
-  pub reads : (p : ℕ) → IsElsewhere extent extents p → reads new p ≡ reads old p
-  pub may : (p : ℕ) (v : List ℕ) → IsElsewhere extent extents p → May new p v → May old p v
+-- this is so of what the volume holds
+abbrev pub Holds : {S : Type 0} → Ghosts S → Name → (Held → Type 0) → S → Type 0
+Holds g name P s = g.told → P (held_in (stored g s) name)
 
--- the calls of a step wrote no volume but this one, and made no commit
-pub record WorksOn {S : Type 0} (told : Type 0) (site : S → Site) (kept : S → Kept) (area : S → Held) (failed : S → Bool) (faults : S → ℕ) (volume : Name) (old new : S) : Type 0 where
-  pub same_site : site new ≡ site old
-  pub same_table : listing (kept new) ≡ listing (kept old)
-  pub same_flag : failed new ≡ failed old
-  pub room : NoLessRoom (kept old) (kept new)
-  pub counts : faults old ≤ faults new
-  pub elsewhere : told → KeepsElsewhere (site old).geometry.extent (extents_of (rows (listing (kept old)) volume)) (area old) (area new)
+-- this is so of what a read of the volume gives
+abbrev pub Gives : {S : Type 0} → Ghosts S → Name → ((ℕ → List ℕ) → Type 0) → S → Type 0
+Gives g name P s = g.told → P (reads (held_in (stored g s) name))
 
--- the sectors of a volume of a store, and what the volume holds
-abbrev pub sectors_of : {S : Type 0} → (S → Site) → (S → Kept) → S → Name → ℕ
-sectors_of site kept s volume = size_of (site s) (listing (kept s)) volume
-
-abbrev pub held_in : {S : Type 0} → (S → Site) → (S → Kept) → (S → Held) → S → Name → Held
-held_in site kept area s volume = volume_of (site s) (listing (kept s)) (area s) volume
+-- this happened to what the volume holds
+abbrev pub Does : {S : Type 0} → Ghosts S → Name → (Held → Held → Type 0) → S → S → Type 0
+Does g name P old new = g.told → P (held_in (stored g old) name) (held_in (stored g new) name)

@@ -2,8 +2,10 @@
 -- may leave. `h` is what the volume holds; the image lies in its first so many sectors.
 use Rattle.std.specs.Prelude.{◌≡◌, ℕ, ◌+◌, ◌*◌, ◌/◌, ◌<◌, ◌≤◌, ◌⊎◌, List, length, Option}
 use Rattle.sm_base.specs.Numbers.{first}
+use Rattle.sm_base.specs.declared.names.Name.{Name}
 use Rattle.sm_base.specs.declared.sizes.Geometry.{Geometry}
 use Rattle.sm_disk.specs.Held.{Held, Allows, reads}
+use Rattle.vg_volumes.specs.Stored.{Stored, sectors_in, held_in}
 use Rattle.vhd_fields.specs.declared.footers.Footer.{Footer}
 use Rattle.vhd_map.specs.Places.{blank}
 use Rattle.vhd_map.specs.Slots.{slot_of, top_of}
@@ -54,3 +56,21 @@ pub record IsTrueOf (l : Layout) (h : Held) (head : Head) (m : ℕ → Option �
 -- the same of a volume of so many sectors, by the repository's sizes
 abbrev pub IsTrueIn : Geometry → ℕ → Held → Head → List (Option ℕ) → Type 0
 IsTrueIn g sectors h head m = IsTrueOf (layout_in g head.footer sectors) h head (slot_of m)
+
+-- ---- the same in its volume of a store
+
+-- where the parts of the image stand
+abbrev pub layout_now : Stored → Head → Layout
+layout_now x head = layout_in x.site.geometry head.footer (sectors_in x head.volume)
+
+-- so many slots and the footer have room in the volume
+abbrev pub HasRoomIn : Stored → Name → ℕ → Type 0
+HasRoomIn x volume slots = HasRoomFor x.site.geometry slots (sectors_in x volume)
+
+-- the image stands there
+abbrev pub StandsNow : Stored → Head → List (Option ℕ) → Type 0
+StandsNow x head m = IsStanding x.site.geometry (sectors_in x head.volume) head m
+
+-- and is true of what the volume holds
+abbrev pub IsTrueNow : Stored → Head → List (Option ℕ) → Type 0
+IsTrueNow x head m = IsTrueIn x.site.geometry (sectors_in x head.volume) (held_in x head.volume) head m

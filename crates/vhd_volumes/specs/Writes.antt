@@ -1,6 +1,7 @@
 -- What a guest's write does to an image, and what a stop may leave of it at any moment.
 use Rattle.std.specs.Prelude.{◌≡◌, ℕ, ◌+◌, ◌-◌, ◌/◌, ◌<◌, ◌≤◌, ◌⊎◌, zero, suc, List, length, Option, None, Some, slice_set}
-use Rattle.sm_disk.specs.Held.{Held, May, Allows, Puts, reads}
+use Rattle.sm_disk.specs.Held.{Held, Allows, Puts, reads}
+use Rattle.vg_volumes.specs.Volumes.{KeepsAt}
 use Rattle.vhd_map.specs.Slots.{slot_of, least_free_slot}
 use Rattle.vhd_layout.specs.Layouts.{Sectors, Layout}
 use Rattle.vhd_layout.specs.Images.{IsValid, EachSlotHolds}
@@ -33,9 +34,8 @@ pub record IsGuarded (l : Layout) (W : ℕ → List ℕ → Type 0) (old new : H
 
 -- At each place but those that a step may write a read gives what it gave, and a stop leaves nothing that it could not
 -- leave before.
-pub record KeepsBut (W : ℕ → Type 0) (old new : Held) : Type 0 where
-  pub reads : (p : ℕ) → (W p → ⊥) → reads new p ≡ reads old p
-  pub may : (p : ℕ) (v : List ℕ) → (W p → ⊥) → May new p v → May old p v
+abbrev pub KeepsBut : (ℕ → Type 0) → Held → Held → Type 0
+KeepsBut W old new = KeepsAt (λ p. W p → ⊥) old new
 
 -- an image in so many sectors keeps the copy of its footer, its header and its last sector
 abbrev pub KeepsHeads : ℕ → Held → Held → Type 0

@@ -4,8 +4,9 @@ use Rattle.sm_disk.specs.Held.{Held, May, Reaches, reads}
 use Rattle.sm_disk.proofs.HeldLaws.{May-reads}
 use Rattle.vhd_layout.specs.Layouts.{Sectors, Layout, IsLayout, Slots, IsSlots}
 use Rattle.vhd_layout.proofs.ImageLaws.{place-first, place-within, in_entries, table-first}
+use Rattle.vg_volumes.proofs.VolumeLaws.{KeepsAt-then, KeepsAt-keeps}
 use Rattle.vhd_volumes.specs.Writes.{KeepsHeads}
-use Rattle.vhd_volumes.proofs.KeptLaws.{KeepsBut-then, KeepsBut-keeps, KeepsBut-reaches}
+use Rattle.vhd_volumes.proofs.KeptLaws.{KeepsBut-reaches}
 use Rattle.vhd_write.specs.Passes.{PutsData, PutsRest, GoesOn}
 use Rattle.vhd_write.proofs.ImageKept.{head_in_front}
 
@@ -36,7 +37,7 @@ module _ (l : Layout) (ok : IsLayout l) (at : ℕ) (room : l.first + 1 ≤ l.sec
   heads-first from m slots r = KeepsBut-reaches (first-inside from m slots) r
 
   pub heads-after : (len : ℕ) (n : Slots) → IsSlots l n → {old mid new : Held} → KeepsHeads l.sectors old mid → GoesOn l at len n mid new → KeepsHeads l.sectors old new
-  heads-after len n slots k (inl keeps) = KeepsBut-then k (KeepsBut-keeps _ keeps)
+  heads-after len n slots k (inl keeps) = KeepsAt-then k (KeepsAt-keeps _ keeps)
   heads-after len n slots {old} {mid} {new} k (inr goes) = record {
     reads = λ p away. ⊎_elim (λ same. same) (λ puts. absurd (away (rest-inside len n slots (reads mid) p (reads new p) puts))) (goes.gives p) ∙ k.reads p away;
     may = λ p v away m. ⊎_elim

@@ -1,6 +1,5 @@
 pub mod BitLaws
 pub mod BufferLaws
-pub mod CallLaws
 pub mod ExitLaws
 pub mod FinishLaws
 pub mod FirstLaws

@@ -17,7 +17,7 @@ use Rattle.vhd_map.proofs.SlotLemmas.{top_of-past, slot_of-set_same}
 use Rattle.vhd_layout.specs.Layouts.{Sectors, Layout, place, slot_count}
 use Rattle.vhd_layout.proofs.ImageLaws.{place-part, place-within, slots-fit}
 use Rattle.vhd_volumes.specs.Writes.{with_block}
-use Rattle.vhd_write.specs.Passes.{PutsHeld, PutsSlot, HasData, IsNewSlot, IsFilled, IsPut}
+use Rattle.vhd_write.specs.Passes.{PutsHeld, PutsSlot, HasData, IsNewSlot, IsSlotFilled, IsPut}
 use Rattle.vhd_write.specs.Spans.{IsPart}
 use Rattle.vhd_write.proofs.MapLaws.{with_block-new, with_block-held}
 
@@ -71,7 +71,7 @@ pub slot-filled : (l : Layout) (k p size first count : ℕ) (buffer bytes : List
     → ((i : ℕ) → first ≤ i → i < first + count → is_set (sector buffer 0) i ≡ true)
     → ((i : ℕ) → (i < first) ⊎ (first + count ≤ i) → is_set (sector buffer 0) i ≡ false)
     → ((j : ℕ) → j < count → sector buffer (1 + first + j) ≡ sector bytes j)
-    → Wrote p (take size buffer) a c → IsFilled l k first count bytes (reads c)
+    → Wrote p (take size buffer) a c → IsSlotFilled l k first count bytes (reads c)
 slot-filled l k p size first count buffer bytes is whole long fits set others data_is w = record {
   set = λ i low high. ap (λ x. is_set x i) (slot-read l k p size buffer is whole long w 0 (omega arith)) ∙ set i low high;
   others = λ i within away. ap (λ x. is_set x i) (slot-read l k p size buffer is whole long w 0 (omega arith)) ∙ others i away;
@@ -137,7 +137,7 @@ module _ (l : Layout) (at : ℕ) (from : List ℕ) (b first count skip : ℕ) (p
 
   -- with a whole slot
 
-  pub new-put : (m n : List (Option ℕ)) {r : Sectors} → n ≡ set m b (Some (least_free_slot m)) → b < length m → IsFilled l (least_free_slot m) first count part_bytes r → IsPut l at from (slot_of m b) (slot_of n b) b r
+  pub new-put : (m n : List (Option ℕ)) {r : Sectors} → n ≡ set m b (Some (least_free_slot m)) → b < length m → IsSlotFilled l (least_free_slot m) first count part_bytes r → IsPut l at from (slot_of m b) (slot_of n b) b r
   new-put m n {r} is within filled = record {
     data_is = λ j had. subst (λ x. HasData l at from b x r) (slot_is j had) bytes_there;
     fresh = λ j none had. subst (λ x. IsNewSlot l at (length from) b x r) (slot_is j had) new_there;

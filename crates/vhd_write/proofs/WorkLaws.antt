@@ -1,27 +1,23 @@
--- What the calls of a step did to the store, one after another.
-use Rattle.std.proofs.Common.{◌≡◌, ℕ, ◌≤◌, Bool, sym, ap₂, subst₂, ◌+◌, arith}
-use Rattle.sm_base.specs.declared.names.Name.{Name}
-use Rattle.sm_disk.specs.Held.{Held}
-use Rattle.vg_meta.specs.Kept.{Kept}
-use Rattle.vg_volumes.specs.Sites.{Site}
-use Rattle.sm_base.specs.declared.sizes.Geometry.{Geometry}
+-- What the calls of a step leave of the image's place in its volume.
+use Rattle.std.proofs.Common.{◌≡◌, ℕ, ◌≤◌, sym, ap₂, subst₂, ◌+◌, arith}
 use Rattle.std.proofs.lemmas.Nat.{mul-le}
+use Rattle.sm_base.specs.declared.names.Name.{Name}
+use Rattle.sm_base.specs.declared.sizes.Geometry.{Geometry}
+use Rattle.vg_volumes.specs.Sites.{Site}
+use Rattle.vg_volumes.specs.Stored.{stored, WorksOn}
+use Rattle.vg_volumes.specs.declared.stores.Store.{Ghosts}
+use Rattle.vg_volumes.proofs.StoredLaws.{size_stays}
 use Rattle.vhd_volumes.specs.declared.heads.Head.{Head}
-use Rattle.vhd_volumes.specs.Truth.{HasRoomFor, layout_in}
-use Rattle.vhd_volumes.specs.Steps.{WorksOn, sectors_of}
-use Rattle.vhd_write.specs.Passes.{layout_now}
-use Rattle.vhd_volumes.proofs.StepLaws.{works-size}
+use Rattle.vhd_volumes.specs.Truth.{HasRoomFor, HasRoomIn, layout_in, layout_now}
 
--- and the image the same layout
-pub works-layout : {S : Type 0} {told : Type 0} {site : S → Site} {kept : S → Kept} {area : S → Held} {failed : S → Bool} {faults : S → ℕ} {a b : S} (head : Head)
-    → WorksOn told site kept area failed faults head.volume a b → layout_now site kept b head ≡ layout_now site kept a head
-works-layout {S} {told} {site} {kept} {area} {failed} {faults} {a} {b} head w =
-    ap₂ (λ (x : Site) (n : ℕ). layout_in x.geometry head.footer n) w.same_site (works-size w)
+module _ {S : Type 0} {g : Ghosts S} where
+  -- the image has the same layout
+  pub works_layout : (head : Head) {a b : S} → WorksOn g head.volume a b → layout_now (stored g b) head ≡ layout_now (stored g a) head
+  works_layout head w = ap₂ (λ (x : Site) (n : ℕ). layout_in x.geometry head.footer n) w.stays.site (size_stays head.volume w.stays)
 
--- and the same room
-pub works-room : {S : Type 0} {told : Type 0} {site : S → Site} {kept : S → Kept} {area : S → Held} {failed : S → Bool} {faults : S → ℕ} {n : Name} {a b : S} (top : ℕ)
-    → WorksOn told site kept area failed faults n a b → HasRoomFor (site a).geometry top (sectors_of site kept a n) → HasRoomFor (site b).geometry top (sectors_of site kept b n)
-works-room top w h = subst₂ (λ (x : Site) (k : ℕ). HasRoomFor x.geometry top k) (sym w.same_site) (sym (works-size w)) h
+  -- and the same room
+  pub works_room : {n : Name} {a b : S} (top : ℕ) → WorksOn g n a b → HasRoomIn (stored g a) n top → HasRoomIn (stored g b) n top
+  works_room {n} top w h = subst₂ (λ (x : Site) (k : ℕ). HasRoomFor x.geometry top k) (sym w.stays.site) (sym (size_stays n w.stays)) h
 
 -- fewer slots have room where more have
 pub room-less : (g : Geometry) (few many n : ℕ) → few ≤ many → HasRoomFor g many n → HasRoomFor g few n

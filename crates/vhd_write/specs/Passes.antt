@@ -1,23 +1,11 @@
 -- What the passes of a write put where. The bytes go to the disk's sectors from `at` on; `r` is what a read gives.
 use Rattle.std.specs.Prelude.{◌≡◌, ◌≢◌, ℕ, ◌+◌, ◌-◌, ◌*◌, ◌/◌, ◌<◌, ◌≤◌, ◌⊎◌, Bool, true, false, List, length, Option, None, Some}
-use Rattle.sm_disk.specs.Held.{Held, IsIn, Puts, Keeps, May, reads}
+use Rattle.sm_disk.specs.Held.{Held, IsIn, Puts, Keeps, May, Reaches, reads}
 use Rattle.sm_disk.specs.Sectors.{sector}
 use Rattle.vhd_map.specs.Bitmaps.{is_set}
 use Rattle.vhd_map.specs.Places.{word}
 use Rattle.vhd_map.specs.Slots.{slot_of, least_free_slot}
 use Rattle.vhd_layout.specs.Layouts.{Sectors, Layout, Slots, place, code, slot_count}
-use Rattle.vg_meta.specs.Kept.{Kept}
-use Rattle.vg_volumes.specs.Sites.{Site}
-use Rattle.vhd_volumes.specs.declared.heads.Head.{Head}
-use Rattle.vhd_volumes.specs.Steps.{sectors_of, held_in}
-use Rattle.vhd_volumes.specs.Truth.{layout_in}
-
--- the layout of the image in its volume of a store, and what that volume holds
-abbrev pub layout_now : {S : Type 0} → (S → Site) → (S → Kept) → S → Head → Layout
-layout_now site kept s head = layout_in (site s).geometry head.footer (sectors_of site kept s head.volume)
-
-abbrev pub held_now : {S : Type 0} → (S → Site) → (S → Kept) → (S → Held) → S → Head → Held
-held_now site kept area s head = held_in site kept area s head.volume
 
 -- ---- the first pass: data, and whole new slots
 
@@ -61,7 +49,7 @@ pub record IsNewSlot (l : Layout) (at len b k : ℕ) (r : Sectors) : Type 0 wher
   pub some : (i : ℕ) × (i < l.block) × IsIn at len (b * l.block + i)
 
 -- slot k holds these bytes in its sectors from `first` on, and the bits of just these
-pub record IsFilled (l : Layout) (k first count : ℕ) (bytes : List ℕ) (r : Sectors) : Type 0 where
+pub record IsSlotFilled (l : Layout) (k first count : ℕ) (bytes : List ℕ) (r : Sectors) : Type 0 where
   pub set : (i : ℕ) → first ≤ i → i < first + count → is_set (r (place l k 0)) i ≡ true
   pub others : (i : ℕ) → i < l.block → (i < first) ⊎ (first + count ≤ i) → is_set (r (place l k 0)) i ≡ false
   pub bytes_are : (j : ℕ) → j < count → r (place l k (1 + (first + j))) ≡ sector bytes j
@@ -97,9 +85,20 @@ PutsBitsOf l at len slot b r p v = (k : ℕ) × (slot ≡ Some k) × PutsBits l 
 abbrev pub PutsBitsAll : Layout → ℕ → ℕ → Slots → Sectors → ℕ → List ℕ → Type 0
 PutsBitsAll l at len m r p v = (b k : ℕ) × (m b ≡ Some k) × PutsBits l at len b k r p v
 
+-- no more than that was put, for one block and for all
+abbrev pub SetsBits : Layout → ℕ → ℕ → Option ℕ → ℕ → Held → Held → Type 0
+SetsBits l at len slot b old new = Reaches (PutsBitsOf l at len slot b (reads old)) old new
+
+abbrev pub SetsAllBits : Layout → ℕ → ℕ → Slots → Held → Held → Type 0
+SetsAllBits l at len m old new = Reaches (PutsBitsAll l at len m (reads old)) old new
+
 -- where block b has a slot, the bits of the written sectors are set there
 abbrev pub AreSet : Layout → ℕ → ℕ → Option ℕ → ℕ → Sectors → Type 0
 AreSet l at len slot b r = (k : ℕ) → slot ≡ Some k → HasBits l at len b (r (place l k 0))
+
+-- so in each block from `first` to one before `end`
+abbrev pub AreAllSet : Layout → ℕ → ℕ → Slots → ℕ → ℕ → Sectors → Type 0
+AreAllSet l at len m first end r = (b : ℕ) → first ≤ b → b < end → AreSet l at len (m b) b r
 
 -- block b has a slot, and the bits of the written sectors are set there
 abbrev pub IsFull : Type 0 → Layout → ℕ → ℕ → Slots → ℕ → Sectors → Type 0
@@ -111,6 +110,12 @@ IsFull told l at len m b r = (k : ℕ) × (m b ≡ Some k) × (told → HasBits 
 abbrev pub IsTableSector : Layout → Slots → ℕ → List ℕ → Type 0
 IsTableSector l m index v = (j : ℕ) → j < 128 → word v j ≡ code l (m (128 * index + j))
 
+-- the table's sectors with the entries of the blocks from `first` to one before `end`
+abbrev pub AreTableSectors : Layout → Slots → ℕ → ℕ → Sectors → Type 0
+AreTableSectors l m first end r =
+    (index : ℕ) → first / 128 ≤ index → index ≤ (end - 1) / 128 → IsTableSector l m index (r (3 + index))
+
+-- one of these at its place
 pub record PutsTable (l : Layout) (m : Slots) (p : ℕ) (v : List ℕ) : Type 0 where
   pub index : ℕ
   pub within : 128 * index < l.entries
@@ -133,5 +138,5 @@ GoesOn l at len m old new = Keeps old new ⊎ Goes (PutsRest l at len m) old new
 -- and at their end: the bits are set, and where not all blocks had slots, their entries stand in the table
 pub record IsFinished (l : Layout) (at len : ℕ) (m : Slots) (first end : ℕ) (held : Bool) (old new : Held) : Type 0 where
   pub goes : Goes (PutsRest l at len m) old new
-  pub bits : (b : ℕ) → first ≤ b → b < end → AreSet l at len (m b) b (reads new)
-  pub table : held ≡ false → (index : ℕ) → first / 128 ≤ index → index ≤ (end - 1) / 128 → IsTableSector l m index (reads new (3 + index))
+  pub bits : AreAllSet l at len m first end (reads new)
+  pub table : held ≡ false → AreTableSectors l m first end (reads new)

@@ -1,12 +1,13 @@
 //! The first pass: the bytes of each block, into its slot or with a whole new one.
 
 ghost use Rattle.std.specs.Prelude.{◌≡◌, ◌≢◌, ◌⊎◌, ℕ, ◌+◌, ◌-◌, ◌*◌, ◌<◌, ◌≤◌, length, None, Some, slice_set, OnOk, OnErr, IfOk};
-ghost use Rattle.sm_disk.specs.Held.{Rose, Reaches, reads};
+ghost use Rattle.sm_disk.specs.Held.{Reaches};
 ghost use Rattle.vhd_map.specs.Slots.{slot_of, top_of, least_free_slot, IsMap};
-ghost use Rattle.vhd_volumes.specs.Steps.{WorksOn, sectors_of};
-ghost use Rattle.vhd_volumes.specs.Truth.{HasRoomFor};
+ghost use Rattle.vg_volumes.specs.Stored.{stored, WorksOn, Counts};
+ghost use Rattle.vhd_volumes.specs.Steps.{Does, Gives};
+ghost use Rattle.vhd_volumes.specs.Truth.{layout_now, HasRoomIn};
 ghost use Rattle.vhd_volumes.specs.Writes.{HasGrown, with_block, with_blocks};
-ghost use Rattle.vhd_write.specs.Passes.{layout_now, held_now, PutsSlot, PutsBlock, PutsData, IsFilled, IsPut, ArePut};
+ghost use Rattle.vhd_write.specs.Passes.{PutsSlot, PutsBlock, PutsData, IsSlotFilled, IsPut, ArePut};
 ghost use Rattle.vhd_write.specs.Spans.{Given};
 
 use crate::buffers::fill;
@@ -32,22 +33,19 @@ fn put_new<S: Store>(
     requires good { IsMap map.old }
     requires within { block < length map.old }
     requires without { slot_of map.old block ≡ None }
-    requires room { HasRoomFor (S.site store.old).geometry (top_of (with_block block map.old))
-        (sectors_of S.site S.kept store.old head.now.volume) }
+    requires room { HasRoomIn (stored S.Store store.old) head.now.volume (top_of (with_block block map.old)) }
     requires part { part.now.first + part.now.count ≤ (S.site store.old).geometry.block }
     requires long { length bytes.now ≡ 512 * part.now.count }
-    ensures works { WorksOn S.told S.site S.kept S.area S.failed S.faults
-        head.now.volume store.old store.new }
-    ensures cause { OnErr result (Rose (S.faults store.old) (S.faults store.new)) }
+    ensures works { WorksOn S.Store head.now.volume store.old store.new }
+    ensures cause { Counts S.Store result store.old store.new }
     ensures put { OnOk result (map.new ≡ slice_set map.old block (Some (least_free_slot map.old))) }
     ensures kept { OnErr result (map.new ≡ map.old) }
-    ensures reaches { S.told → Reaches
-        (λ p v. PutsSlot (layout_now S.site S.kept store.old head.now) (least_free_slot map.old) p)
-        (held_now S.site S.kept S.area store.old head.now)
-        (held_now S.site S.kept S.area store.new head.now) }
-    ensures done { OnOk result (S.told → IsFilled (layout_now S.site S.kept store.old head.now)
-        (least_free_slot map.old) part.now.first part.now.count bytes.now
-        (reads (held_now S.site S.kept S.area store.new head.now))) }
+    ensures reaches { Does S.Store head.now.volume (Reaches
+        (λ p v. PutsSlot (layout_now (stored S.Store store.old) head.now)
+        (least_free_slot map.old) p)) store.old store.new }
+    ensures done { OnOk result (Gives S.Store head.now.volume
+        (IsSlotFilled (layout_now (stored S.Store store.old) head.now)
+        (least_free_slot map.old) part.now.first part.now.count bytes.now) store.new) }
 {
     let geometry = store.geometry();
     let slot = map.least_free();
@@ -76,19 +74,17 @@ fn put_block<S: Store>(
     requires from_first { span.now.first ≤ block }
     requires to_end { block < span.now.end }
     requires within { span.now.end ≤ length map.old }
-    requires room { HasRoomFor (S.site store.old).geometry (top_of (with_block block map.old))
-        (sectors_of S.site S.kept store.old head.now.volume) }
-    ensures works { WorksOn S.told S.site S.kept S.area S.failed S.faults
-        head.now.volume store.old store.new }
-    ensures cause { OnErr result (Rose (S.faults store.old) (S.faults store.new)) }
+    requires room { HasRoomIn (stored S.Store store.old) head.now.volume (top_of (with_block block map.old)) }
+    ensures works { WorksOn S.Store head.now.volume store.old store.new }
+    ensures cause { Counts S.Store result store.old store.new }
     ensures put { OnOk result (map.new ≡ with_block block map.old) }
     ensures kept { OnErr result (map.new ≡ map.old) }
-    ensures reaches { S.told → Reaches (PutsBlock (layout_now S.site S.kept store.old head.now)
-        span.now.sector from.now map.old block) (held_now S.site S.kept S.area store.old head.now)
-        (held_now S.site S.kept S.area store.new head.now) }
-    ensures done { OnOk result (S.told → IsPut (layout_now S.site S.kept store.old head.now)
-        span.now.sector from.now (slot_of map.old block) (slot_of map.new block) block
-        (reads (held_now S.site S.kept S.area store.new head.now))) }
+    ensures reaches { Does S.Store head.now.volume
+        (Reaches (PutsBlock (layout_now (stored S.Store store.old) head.now) span.now.sector from.now map.old block))
+        store.old store.new }
+    ensures done { OnOk result (Gives S.Store head.now.volume
+        (IsPut (layout_now (stored S.Store store.old) head.now) span.now.sector from.now (slot_of map.old block)
+        (slot_of map.new block) block) store.new) }
 {
     let geometry = store.geometry();
     let part = part_of(span, block);
@@ -117,20 +113,18 @@ pub(crate) fn put_blocks<S: Store>(
     requires entries { length map.old ≡ (S.site store.old).geometry.entries }
     requires good { IsMap map.old }
     requires within { span.now.end ≤ length map.old }
-    requires room { HasRoomFor (S.site store.old).geometry
-        (top_of (with_blocks span.now.first (span.now.end - span.now.first) map.old))
-        (sectors_of S.site S.kept store.old head.now.volume) }
-    ensures works { WorksOn S.told S.site S.kept S.area S.failed S.faults
-        head.now.volume store.old store.new }
-    ensures cause { OnErr result (Rose (S.faults store.old) (S.faults store.new)) }
+    requires room { HasRoomIn (stored S.Store store.old) head.now.volume
+        (top_of (with_blocks span.now.first (span.now.end - span.now.first) map.old)) }
+    ensures works { WorksOn S.Store head.now.volume store.old store.new }
+    ensures cause { Counts S.Store result store.old store.new }
     ensures grown { HasGrown map.old map.new }
     ensures given { OnOk result (Given span.now.first span.now.end map.old map.new) }
-    ensures reaches { S.told → Reaches (PutsData (layout_now S.site S.kept store.old head.now)
-        span.now.sector from.now (slot_of map.old)) (held_now S.site S.kept S.area store.old head.now)
-        (held_now S.site S.kept S.area store.new head.now) }
-    ensures done { OnOk result (S.told → ArePut (layout_now S.site S.kept store.old head.now)
-        span.now.sector from.now (slot_of map.old) (slot_of map.new) span.now.end
-        (reads (held_now S.site S.kept S.area store.new head.now))) }
+    ensures reaches { Does S.Store head.now.volume
+        (Reaches (PutsData (layout_now (stored S.Store store.old) head.now) span.now.sector from.now
+        (slot_of map.old))) store.old store.new }
+    ensures done { OnOk result (Gives S.Store head.now.volume
+        (ArePut (layout_now (stored S.Store store.old) head.now) span.now.sector from.now (slot_of map.old)
+        (slot_of map.new) span.now.end) store.new) }
 {
     for block in span.first..span.end {
         put_block(store, buffer, head, map, span, block, from)?;

@@ -2,9 +2,10 @@
 
 ghost use Rattle.std.specs.Prelude.{◌≡◌, ℕ, ◌+◌, ◌*◌, ◌<◌, ◌≤◌, length, OnOk, OnErr, IfOk};
 ghost use Rattle.sm_base.specs.Numbers.{first};
-ghost use Rattle.sm_disk.specs.Held.{IsWhole, SameHeld, Torn, Wrote, Keeps, IsSettled, Rose, reads};
+ghost use Rattle.sm_disk.specs.Held.{IsWhole, SameHeld, Torn, Wrote, Keeps, IsSettled};
 ghost use Rattle.vhd_map.specs.Places.{spot};
-ghost use Rattle.vhd_volumes.specs.Steps.{WorksOn, sectors_of, held_in};
+ghost use Rattle.vg_volumes.specs.Stored.{stored, sectors_in, WorksOn, Counts};
+ghost use Rattle.vhd_volumes.specs.Steps.{Holds, Does, Gives};
 
 use sm_base::{Failed, Geometry, Name};
 use vg_volumes::Store;
@@ -26,14 +27,11 @@ pub(crate) fn put<S: Store>(
     at: u64,
     from: &[u8],
 ) -> Result<(), Failed>
-    requires { IsWhole at (length from.now) (sectors_of S.site S.kept store.old volume.now) }
-    ensures works { WorksOn S.told S.site S.kept S.area S.failed S.faults volume.now store.old store.new }
-    ensures cause { OnErr result (Rose (S.faults store.old) (S.faults store.new)) }
-    ensures torn { S.told → Torn at from.now (held_in S.site S.kept S.area store.old volume.now)
-        (held_in S.site S.kept S.area store.new volume.now) }
-    ensures wrote { OnOk result (S.told → Wrote at from.now
-        (held_in S.site S.kept S.area store.old volume.now)
-        (held_in S.site S.kept S.area store.new volume.now)) }
+    requires { IsWhole at (length from.now) (sectors_in (stored S.Store store.old) volume.now) }
+    ensures works { WorksOn S.Store volume.now store.old store.new }
+    ensures cause { Counts S.Store result store.old store.new }
+    ensures torn { Does S.Store volume.now (Torn at from.now) store.old store.new }
+    ensures wrote { OnOk result (Does S.Store volume.now (Wrote at from.now) store.old store.new) }
 {
     store.write(volume, at, from)?;
     Ok(())
@@ -41,13 +39,11 @@ pub(crate) fn put<S: Store>(
 
 /// Reads one sector of the volume.
 pub(crate) fn get<S: Store>(store: &mut S, volume: &Name, at: u64) -> Result<[u8; 512], Failed>
-    requires { at < sectors_of S.site S.kept store.old volume.now }
-    ensures works { WorksOn S.told S.site S.kept S.area S.failed S.faults volume.now store.old store.new }
-    ensures cause { OnErr result (Rose (S.faults store.old) (S.faults store.new)) }
-    ensures same { S.told → SameHeld (held_in S.site S.kept S.area store.old volume.now)
-        (held_in S.site S.kept S.area store.new volume.now) }
-    ensures gave { IfOk result
-        (λ sector. S.told → sector ≡ reads (held_in S.site S.kept S.area store.old volume.now) at) }
+    requires { at < sectors_in (stored S.Store store.old) volume.now }
+    ensures works { WorksOn S.Store volume.now store.old store.new }
+    ensures cause { Counts S.Store result store.old store.new }
+    ensures same { Does S.Store volume.now SameHeld store.old store.new }
+    ensures gave { IfOk result (λ sector. Gives S.Store volume.now (λ r. sector ≡ r at) store.old) }
     ensures long { IfOk result (λ sector. length sector ≡ 512) }
 {
     let mut sector = [0; 512];
@@ -57,12 +53,10 @@ pub(crate) fn get<S: Store>(store: &mut S, volume: &Name, at: u64) -> Result<[u8
 
 /// Makes all that was written last.
 pub(crate) fn settle<S: Store>(store: &mut S, volume: &Name) -> Result<(), Failed>
-    ensures works { WorksOn S.told S.site S.kept S.area S.failed S.faults volume.now store.old store.new }
-    ensures cause { OnErr result (Rose (S.faults store.old) (S.faults store.new)) }
-    ensures keeps { S.told → Keeps (held_in S.site S.kept S.area store.old volume.now)
-        (held_in S.site S.kept S.area store.new volume.now) }
-    ensures settled { OnOk result
-        (S.told → IsSettled (held_in S.site S.kept S.area store.new volume.now)) }
+    ensures works { WorksOn S.Store volume.now store.old store.new }
+    ensures cause { Counts S.Store result store.old store.new }
+    ensures keeps { Does S.Store volume.now Keeps store.old store.new }
+    ensures settled { OnOk result (Holds S.Store volume.now IsSettled store.new) }
 {
     store.sync()?;
     Ok(())

@@ -2,11 +2,13 @@
 
 ghost use Rattle.std.specs.Prelude.{◌≡◌, ◌≢◌, ℕ, ◌+◌, ◌-◌, ◌*◌, ◌/◌, ◌<◌, ◌≤◌, length, None, Some, false, OnOk, OnErr, IfOk};
 ghost use Rattle.std.specs.Bool.{OnTrue, OnFalse};
-ghost use Rattle.sm_disk.specs.Held.{Rose, Reaches, SameHeld, reads};
+ghost use Rattle.sm_disk.specs.Held.{SameHeld};
 ghost use Rattle.vhd_map.specs.Slots.{slot_of, top_of, IsMap};
-ghost use Rattle.vhd_volumes.specs.Steps.{WorksOn, sectors_of};
-ghost use Rattle.vhd_volumes.specs.Truth.{HasRoomFor};
-ghost use Rattle.vhd_write.specs.Passes.{layout_now, held_now, HasBits, IsFull, PutsBitsOf, PutsBitsAll, AreSet, GoesOn, IsFinished};
+ghost use Rattle.vg_volumes.specs.Stored.{stored, WorksOn, Counts};
+ghost use Rattle.vhd_write.specs.WriteSpans.{IsFullNow, AreFullNow, AreSetIn, IsFinishedIn};
+ghost use Rattle.vhd_volumes.specs.Steps.{Does, Gives};
+ghost use Rattle.vhd_volumes.specs.Truth.{layout_now, HasRoomIn};
+ghost use Rattle.vhd_write.specs.Passes.{AreSet, GoesOn, SetsBits, SetsAllBits};
 
 use crate::bitmaps::{has_bits, set_bits};
 use crate::calls::{get, place_of, put, settle};
@@ -30,16 +32,11 @@ fn is_full<S: Store>(
     requires from_first { span.now.first ≤ block }
     requires to_end { block < span.now.end }
     requires within { span.now.end ≤ length map.now }
-    requires room { HasRoomFor (S.site store.old).geometry (top_of map.now)
-        (sectors_of S.site S.kept store.old head.now.volume) }
-    ensures works { WorksOn S.told S.site S.kept S.area S.failed S.faults
-        head.now.volume store.old store.new }
-    ensures cause { OnErr result (Rose (S.faults store.old) (S.faults store.new)) }
-    ensures same { S.told → SameHeld (held_now S.site S.kept S.area store.old head.now)
-        (held_now S.site S.kept S.area store.new head.now) }
-    ensures full { IfOk result (λ full. OnTrue full (IsFull S.told (layout_now S.site S.kept store.old
-        head.now) span.now.sector (512 * span.now.count) (slot_of map.now) block (reads
-        (held_now S.site S.kept S.area store.old head.now)))) }
+    requires room { HasRoomIn (stored S.Store store.old) head.now.volume (top_of map.now) }
+    ensures works { WorksOn S.Store head.now.volume store.old store.new }
+    ensures cause { Counts S.Store result store.old store.new }
+    ensures same { Does S.Store head.now.volume SameHeld store.old store.new }
+    ensures full { IfOk result (λ full. OnTrue full (IsFullNow S.Store store.old head.now span.now map.now block)) }
 {
     let Some(slot) = map.slot(block) else {
         return Ok(false);
@@ -60,16 +57,11 @@ pub(crate) fn is_complete<S: Store>(
     requires sizes { span.now.block ≡ (S.site store.old).geometry.block }
     requires entries { length map.now ≡ (S.site store.old).geometry.entries }
     requires within { span.now.end ≤ length map.now }
-    requires room { HasRoomFor (S.site store.old).geometry (top_of map.now)
-        (sectors_of S.site S.kept store.old head.now.volume) }
-    ensures works { WorksOn S.told S.site S.kept S.area S.failed S.faults
-        head.now.volume store.old store.new }
-    ensures cause { OnErr result (Rose (S.faults store.old) (S.faults store.new)) }
-    ensures same { S.told → SameHeld (held_now S.site S.kept S.area store.old head.now)
-        (held_now S.site S.kept S.area store.new head.now) }
-    ensures full { IfOk result (λ full. OnTrue full ((b : ℕ) → span.now.first ≤ b → b < span.now.end →
-        IsFull S.told (layout_now S.site S.kept store.old head.now) span.now.sector (512 *
-        span.now.count) (slot_of map.now) b (reads (held_now S.site S.kept S.area store.old head.now)))) }
+    requires room { HasRoomIn (stored S.Store store.old) head.now.volume (top_of map.now) }
+    ensures works { WorksOn S.Store head.now.volume store.old store.new }
+    ensures cause { Counts S.Store result store.old store.new }
+    ensures same { Does S.Store head.now.volume SameHeld store.old store.new }
+    ensures full { IfOk result (λ full. OnTrue full (AreFullNow S.Store store.old head.now span.now map.now)) }
 {
     for block in span.first..span.end {
         if !is_full(store, head, map, span, block)? {
@@ -92,19 +84,15 @@ fn set_bitmap<S: Store>(
     requires from_first { span.now.first ≤ block }
     requires to_end { block < span.now.end }
     requires within { span.now.end ≤ length map.now }
-    requires room { HasRoomFor (S.site store.old).geometry (top_of map.now)
-        (sectors_of S.site S.kept store.old head.now.volume) }
-    ensures works { WorksOn S.told S.site S.kept S.area S.failed S.faults
-        head.now.volume store.old store.new }
-    ensures cause { OnErr result (Rose (S.faults store.old) (S.faults store.new)) }
-    ensures reaches { S.told → Reaches (PutsBitsOf (layout_now S.site S.kept store.old head.now)
-        span.now.sector (512 * span.now.count) (slot_of map.now block) block
-        (reads (held_now S.site S.kept S.area store.old head.now)))
-        (held_now S.site S.kept S.area store.old head.now)
-        (held_now S.site S.kept S.area store.new head.now) }
-    ensures done { OnOk result (S.told → AreSet (layout_now S.site S.kept store.old head.now)
-        span.now.sector (512 * span.now.count) (slot_of map.now block) block
-        (reads (held_now S.site S.kept S.area store.new head.now))) }
+    requires room { HasRoomIn (stored S.Store store.old) head.now.volume (top_of map.now) }
+    ensures works { WorksOn S.Store head.now.volume store.old store.new }
+    ensures cause { Counts S.Store result store.old store.new }
+    ensures reaches { Does S.Store head.now.volume
+        (SetsBits (layout_now (stored S.Store store.old) head.now) span.now.sector (512 * span.now.count)
+        (slot_of map.now block) block) store.old store.new }
+    ensures done { OnOk result (Gives S.Store head.now.volume
+        (AreSet (layout_now (stored S.Store store.old) head.now) span.now.sector (512 * span.now.count)
+        (slot_of map.now block) block) store.new) }
 {
     let Some(slot) = map.slot(block) else {
         return Ok(());
@@ -126,19 +114,14 @@ fn set_bitmaps<S: Store>(store: &mut S, head: &Head, map: &Map, span: &Span) -> 
     requires entries { length map.now ≡ (S.site store.old).geometry.entries }
     requires good { IsMap map.now }
     requires within { span.now.end ≤ length map.now }
-    requires room { HasRoomFor (S.site store.old).geometry (top_of map.now)
-        (sectors_of S.site S.kept store.old head.now.volume) }
-    ensures works { WorksOn S.told S.site S.kept S.area S.failed S.faults
-        head.now.volume store.old store.new }
-    ensures cause { OnErr result (Rose (S.faults store.old) (S.faults store.new)) }
-    ensures reaches { S.told → Reaches (PutsBitsAll (layout_now S.site S.kept store.old head.now)
-        span.now.sector (512 * span.now.count) (slot_of map.now)
-        (reads (held_now S.site S.kept S.area store.old head.now)))
-        (held_now S.site S.kept S.area store.old head.now)
-        (held_now S.site S.kept S.area store.new head.now) }
-    ensures done { OnOk result (S.told → (b : ℕ) → span.now.first ≤ b → b < span.now.end → AreSet
-        (layout_now S.site S.kept store.old head.now) span.now.sector (512 * span.now.count)
-        (slot_of map.now b) b (reads (held_now S.site S.kept S.area store.new head.now))) }
+    requires room { HasRoomIn (stored S.Store store.old) head.now.volume (top_of map.now) }
+    ensures works { WorksOn S.Store head.now.volume store.old store.new }
+    ensures cause { Counts S.Store result store.old store.new }
+    ensures reaches { Does S.Store head.now.volume
+        (SetsAllBits (layout_now (stored S.Store store.old) head.now) span.now.sector (512 * span.now.count)
+        (slot_of map.now)) store.old store.new }
+    ensures done { OnOk result (Gives S.Store head.now.volume
+        (AreSetIn (layout_now (stored S.Store store.old) head.now) span.now (slot_of map.now)) store.new) }
 {
     for block in span.first..span.end {
         set_bitmap(store, head, map, span, block)?;
@@ -158,18 +141,15 @@ pub(crate) fn finish<S: Store>(
     requires entries { length map.now ≡ (S.site store.old).geometry.entries }
     requires good { IsMap map.now }
     requires within { span.now.end ≤ length map.now }
-    requires room { HasRoomFor (S.site store.old).geometry (top_of map.now)
-        (sectors_of S.site S.kept store.old head.now.volume) }
-    ensures works { WorksOn S.told S.site S.kept S.area S.failed S.faults
-        head.now.volume store.old store.new }
-    ensures cause { OnErr result (Rose (S.faults store.old) (S.faults store.new)) }
-    ensures goes { S.told → GoesOn (layout_now S.site S.kept store.old head.now) span.now.sector
-        (512 * span.now.count) (slot_of map.now) (held_now S.site S.kept S.area store.old head.now)
-        (held_now S.site S.kept S.area store.new head.now) }
-    ensures done { OnOk result (S.told → IsFinished (layout_now S.site S.kept store.old head.now)
-        span.now.sector (512 * span.now.count) (slot_of map.now) span.now.first span.now.end held
-        (held_now S.site S.kept S.area store.old head.now)
-        (held_now S.site S.kept S.area store.new head.now)) }
+    requires room { HasRoomIn (stored S.Store store.old) head.now.volume (top_of map.now) }
+    ensures works { WorksOn S.Store head.now.volume store.old store.new }
+    ensures cause { Counts S.Store result store.old store.new }
+    ensures goes { Does S.Store head.now.volume
+        (GoesOn (layout_now (stored S.Store store.old) head.now) span.now.sector (512 * span.now.count)
+        (slot_of map.now)) store.old store.new }
+    ensures done { OnOk result (Does S.Store head.now.volume
+        (IsFinishedIn (layout_now (stored S.Store store.old) head.now) span.now
+        (slot_of map.now) held) store.old store.new) }
 {
     settle(store, &head.volume)?;
     set_bitmaps(store, head, map, span)?;

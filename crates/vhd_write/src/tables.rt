@@ -1,11 +1,12 @@
 //! The third pass: the table, from the map in memory.
 
 ghost use Rattle.std.specs.Prelude.{◌≡◌, ◌≢◌, ℕ, ◌+◌, ◌-◌, ◌*◌, ◌/◌, ◌<◌, ◌≤◌, length, OnOk, OnErr, IfOk};
-ghost use Rattle.sm_disk.specs.Held.{Rose, Reaches, reads};
+ghost use Rattle.sm_disk.specs.Held.{Reaches, reads};
 ghost use Rattle.vhd_map.specs.Slots.{slot_of, top_of};
-ghost use Rattle.vhd_volumes.specs.Steps.{WorksOn, sectors_of};
-ghost use Rattle.vhd_volumes.specs.Truth.{HasRoomFor};
-ghost use Rattle.vhd_write.specs.Passes.{layout_now, held_now, IsTableSector, PutsTable};
+ghost use Rattle.vg_volumes.specs.Stored.{stored, WorksOn, Counts};
+ghost use Rattle.vhd_volumes.specs.Steps.{Does, Gives};
+ghost use Rattle.vhd_volumes.specs.Truth.{layout_now, HasRoomIn};
+ghost use Rattle.vhd_write.specs.Passes.{IsTableSector, PutsTable, AreTableSectors};
 
 use crate::calls::put;
 use crate::spans::Span;
@@ -21,20 +22,16 @@ const PER_SECTOR: u32 = 128;
 fn put_entries<S: Store>(store: &mut S, head: &Head, map: &Map, index: u32) -> Result<(), Failed>
     requires entries { length map.now ≡ (S.site store.old).geometry.entries }
     requires within { 128 * index < length map.now }
-    requires room { HasRoomFor (S.site store.old).geometry (top_of map.now)
-        (sectors_of S.site S.kept store.old head.now.volume) }
-    ensures works { WorksOn S.told S.site S.kept S.area S.failed S.faults
-        head.now.volume store.old store.new }
-    ensures cause { OnErr result (Rose (S.faults store.old) (S.faults store.new)) }
-    ensures reaches { S.told → Reaches
-        (PutsTable (layout_now S.site S.kept store.old head.now) (slot_of map.now))
-        (held_now S.site S.kept S.area store.old head.now)
-        (held_now S.site S.kept S.area store.new head.now) }
-    ensures done { OnOk result (S.told → IsTableSector (layout_now S.site S.kept store.old head.now)
-        (slot_of map.now) index (reads (held_now S.site S.kept S.area store.new head.now) (3 + index))) }
-    ensures others { S.told → (p : ℕ) → p ≢ 3 + index → reads
-        (held_now S.site S.kept S.area store.new head.now) p ≡ reads
-        (held_now S.site S.kept S.area store.old head.now) p }
+    requires room { HasRoomIn (stored S.Store store.old) head.now.volume (top_of map.now) }
+    ensures works { WorksOn S.Store head.now.volume store.old store.new }
+    ensures cause { Counts S.Store result store.old store.new }
+    ensures reaches { Does S.Store head.now.volume
+        (Reaches (PutsTable (layout_now (stored S.Store store.old) head.now) (slot_of map.now))) store.old store.new }
+    ensures done { OnOk result (Gives S.Store head.now.volume
+        (λ r. IsTableSector (layout_now (stored S.Store store.old) head.now) (slot_of map.now) index
+        (r (3 + index))) store.new) }
+    ensures others { Does S.Store head.now.volume (λ old new. (p : ℕ) → p ≢ 3 + index → reads new p
+        ≡ reads old p) store.old store.new }
 {
     let mut sector = [0; 512];
     map.write_sector(index, &store.geometry(), &mut sector);
@@ -51,18 +48,14 @@ pub(crate) fn put_table<S: Store>(
 ) -> Result<(), Failed>
     requires entries { length map.now ≡ (S.site store.old).geometry.entries }
     requires within { span.now.end ≤ length map.now }
-    requires room { HasRoomFor (S.site store.old).geometry (top_of map.now)
-        (sectors_of S.site S.kept store.old head.now.volume) }
-    ensures works { WorksOn S.told S.site S.kept S.area S.failed S.faults
-        head.now.volume store.old store.new }
-    ensures cause { OnErr result (Rose (S.faults store.old) (S.faults store.new)) }
-    ensures reaches { S.told → Reaches
-        (PutsTable (layout_now S.site S.kept store.old head.now) (slot_of map.now))
-        (held_now S.site S.kept S.area store.old head.now)
-        (held_now S.site S.kept S.area store.new head.now) }
-    ensures done { OnOk result (S.told → (index : ℕ) → span.now.first / 128 ≤ index → index ≤
-        (span.now.end - 1) / 128 → IsTableSector (layout_now S.site S.kept store.old head.now)
-        (slot_of map.now) index (reads (held_now S.site S.kept S.area store.new head.now) (3 + index))) }
+    requires room { HasRoomIn (stored S.Store store.old) head.now.volume (top_of map.now) }
+    ensures works { WorksOn S.Store head.now.volume store.old store.new }
+    ensures cause { Counts S.Store result store.old store.new }
+    ensures reaches { Does S.Store head.now.volume
+        (Reaches (PutsTable (layout_now (stored S.Store store.old) head.now) (slot_of map.now))) store.old store.new }
+    ensures done { OnOk result (Gives S.Store head.now.volume
+        (AreTableSectors (layout_now (stored S.Store store.old) head.now)
+        (slot_of map.now) span.now.first span.now.end) store.new) }
 {
     for index in span.first / PER_SECTOR..(span.end - 1) / PER_SECTOR + 1 {
         put_entries(store, head, map, index)?;

@@ -2,14 +2,15 @@
 
 ghost use Rattle.std.specs.Prelude.{◌≡◌, ◌≢◌, ℕ, ◌+◌, ◌-◌, ◌*◌, ◌/◌, ◌<◌, ◌≤◌, length, None, Some, true, false, OnOk, OnErr, IfOk};
 ghost use Rattle.std.specs.Bool.{OnTrue};
-ghost use Rattle.sm_disk.specs.Held.{IsWhole, Puts, Rose, Reaches, reads};
+ghost use Rattle.sm_disk.specs.Held.{IsWhole, Puts, Reaches};
 ghost use Rattle.vhd_map.specs.Slots.{slot_of, top_of, IsMap};
-ghost use Rattle.vhd_volumes.specs.Steps.{WorksOn, sectors_of, held_in};
-ghost use Rattle.vhd_volumes.specs.Truth.{disk_sectors, disk_blocks, layout_in, HasRoomFor, IsStanding, IsTrueIn};
+ghost use Rattle.vg_volumes.specs.Stored.{stored, sectors_in, WorksOn, Counts};
+ghost use Rattle.vhd_volumes.specs.Steps.{Holds, Does, Gives};
+ghost use Rattle.vhd_volumes.specs.Truth.{disk_sectors, disk_blocks, layout_now, HasRoomIn, StandsNow, IsTrueNow, IsTrueOf};
 ghost use Rattle.vhd_volumes.specs.Writes.{IsGuarded, KeepsHeads, HasWritten, HasGrown, with_blocks, written_map};
-ghost use Rattle.vhd_write.specs.Passes.{layout_now, held_now, PutsData, ArePut, IsFull};
+ghost use Rattle.vhd_write.specs.Passes.{PutsData, ArePut};
 ghost use Rattle.vhd_write.specs.Spans.{Given};
-ghost use Rattle.vhd_write.specs.WriteSpans.{IsSpanOf};
+ghost use Rattle.vhd_write.specs.WriteSpans.{IsSpanOf, AreFullNow};
 
 use crate::blocks::put_blocks;
 use crate::finish::{finish, is_complete};
@@ -75,25 +76,20 @@ fn first_pass<S: Store>(
     requires entries { length map.old ≡ (S.site store.old).geometry.entries }
     requires good { IsMap map.old }
     requires within { span.now.end ≤ length map.old }
-    requires room { HasRoomFor (S.site store.old).geometry (top_of map.old)
-        (sectors_of S.site S.kept store.old head.now.volume) }
-    requires slots { HasRoomFor (S.site store.old).geometry
-        (top_of (with_blocks span.now.first (span.now.end - span.now.first) map.old))
-        (sectors_of S.site S.kept store.old head.now.volume) }
-    ensures works { WorksOn S.told S.site S.kept S.area S.failed S.faults
-        head.now.volume store.old store.new }
-    ensures cause { OnErr result (Rose (S.faults store.old) (S.faults store.new)) }
+    requires room { HasRoomIn (stored S.Store store.old) head.now.volume (top_of map.old) }
+    requires slots { HasRoomIn (stored S.Store store.old) head.now.volume
+        (top_of (with_blocks span.now.first (span.now.end - span.now.first) map.old)) }
+    ensures works { WorksOn S.Store head.now.volume store.old store.new }
+    ensures cause { Counts S.Store result store.old store.new }
     ensures grown { HasGrown map.old map.new }
     ensures given { OnOk result (Given span.now.first span.now.end map.old map.new) }
-    ensures reaches { S.told → Reaches (PutsData (layout_now S.site S.kept store.old head.now)
-        span.now.sector from.now (slot_of map.old)) (held_now S.site S.kept S.area store.old head.now)
-        (held_now S.site S.kept S.area store.new head.now) }
-    ensures done { OnOk result (S.told → ArePut (layout_now S.site S.kept store.old head.now)
-        span.now.sector from.now (slot_of map.old) (slot_of map.new) span.now.end
-        (reads (held_now S.site S.kept S.area store.new head.now))) }
-    ensures full { IfOk result (λ full. OnTrue full ((b : ℕ) → span.now.first ≤ b → b < span.now.end →
-        IsFull S.told (layout_now S.site S.kept store.old head.now) span.now.sector (512 *
-        span.now.count) (slot_of map.old) b (reads (held_now S.site S.kept S.area store.old head.now)))) }
+    ensures reaches { Does S.Store head.now.volume
+        (Reaches (PutsData (layout_now (stored S.Store store.old) head.now) span.now.sector from.now
+        (slot_of map.old))) store.old store.new }
+    ensures done { OnOk result (Gives S.Store head.now.volume
+        (ArePut (layout_now (stored S.Store store.old) head.now) span.now.sector from.now (slot_of map.old)
+        (slot_of map.new) span.now.end) store.new) }
+    ensures full { IfOk result (λ full. OnTrue full (AreFullNow S.Store store.old head.now span.now map.old)) }
 {
     let complete = is_complete(store, head, map, span)?;
     put_blocks(store, buffer, head, map, span, from)?;
@@ -109,38 +105,26 @@ fn write_with<S: Store>(
     sector: u64,
     from: &[u8],
 ) -> Result<(), Failed>
-    requires stands { IsStanding (S.site store.old).geometry
-        (sectors_of S.site S.kept store.old head.now.volume) head.now map.old }
-    requires is_true { S.told → IsTrueIn (S.site store.old).geometry
-        (sectors_of S.site S.kept store.old head.now.volume)
-        (held_in S.site S.kept S.area store.old head.now.volume) head.now map.old }
+    requires stands { StandsNow (stored S.Store store.old) head.now map.old }
+    requires is_true { S.told → IsTrueNow (stored S.Store store.old) head.now map.old }
     requires whole { IsWhole sector (length from.now) (disk_sectors head.now.footer) }
     requires buffer { 512 * (1 + (S.site store.old).geometry.block) ≤ length buffer.old }
-    requires slots { HasRoomFor (S.site store.old).geometry
-        (top_of (written_map (S.site store.old).geometry.block sector (length from.now) map.old))
-        (sectors_of S.site S.kept store.old head.now.volume) }
-    ensures works { WorksOn S.told S.site S.kept S.area S.failed S.faults
-        head.now.volume store.old store.new }
-    ensures cause { OnErr result (Rose (S.faults store.old) (S.faults store.new)) }
-    ensures guarded { S.told → IsGuarded (layout_in (S.site store.old).geometry head.now.footer
-        (sectors_of S.site S.kept store.old head.now.volume)) (Puts sector from.now)
-        (held_in S.site S.kept S.area store.old head.now.volume)
-        (held_in S.site S.kept S.area store.new head.now.volume) }
-    ensures heads { S.told → KeepsHeads (sectors_of S.site S.kept store.old head.now.volume)
-        (held_in S.site S.kept S.area store.old head.now.volume)
-        (held_in S.site S.kept S.area store.new head.now.volume) }
+    requires slots { HasRoomIn (stored S.Store store.old) head.now.volume
+        (top_of (written_map (S.site store.old).geometry.block sector (length from.now) map.old)) }
+    ensures works { WorksOn S.Store head.now.volume store.old store.new }
+    ensures cause { Counts S.Store result store.old store.new }
+    ensures guarded { Does S.Store head.now.volume
+        (IsGuarded (layout_now (stored S.Store store.old) head.now) (Puts sector from.now)) store.old store.new }
+    ensures heads { Does S.Store head.now.volume
+        (KeepsHeads (sectors_in (stored S.Store store.old) head.now.volume)) store.old store.new }
     ensures grown { HasGrown map.old map.new }
     ensures map { OnOk result
         (map.new ≡ written_map (S.site store.old).geometry.block sector (length from.now) map.old) }
-    ensures still { OnOk result (S.told → IsTrueIn (S.site store.old).geometry
-        (sectors_of S.site S.kept store.old head.now.volume)
-        (held_in S.site S.kept S.area store.new head.now.volume) head.now map.new) }
-    ensures written { OnOk result (S.told → HasWritten (layout_in (S.site store.old).geometry
-        head.now.footer (sectors_of S.site S.kept store.old head.now.volume)) sector from.now
-        (held_in S.site S.kept S.area store.old head.now.volume)
-        (held_in S.site S.kept S.area store.new head.now.volume)) }
-    ensures stands { OnOk result (IsStanding (S.site store.old).geometry
-        (sectors_of S.site S.kept store.old head.now.volume) head.now map.new) }
+    ensures still { OnOk result (Holds S.Store head.now.volume
+        (λ h. IsTrueOf (layout_now (stored S.Store store.old) head.now) h head.now (slot_of map.new)) store.new) }
+    ensures written { OnOk result (Does S.Store head.now.volume
+        (HasWritten (layout_now (stored S.Store store.old) head.now) sector from.now) store.old store.new) }
+    ensures stands { OnOk result (StandsNow (stored S.Store store.old) head.now map.new) }
 {
     let span = span_of(store, head, sector, from);
     let held = has_slots(map, &span);
@@ -174,40 +158,28 @@ pub fn write<S: Store>(
     from: &[u8],
 ) -> Result<(), Failed>
     requires usable { S.failed store.old ≡ false }
-    requires stands { IsStanding (S.site store.old).geometry
-        (sectors_of S.site S.kept store.old head.now.volume) head.now map.old }
-    requires is_true { S.told → IsTrueIn (S.site store.old).geometry
-        (sectors_of S.site S.kept store.old head.now.volume)
-        (held_in S.site S.kept S.area store.old head.now.volume) head.now map.old }
+    requires stands { StandsNow (stored S.Store store.old) head.now map.old }
+    requires is_true { S.told → IsTrueNow (stored S.Store store.old) head.now map.old }
     requires whole { IsWhole sector (length from.now) (disk_sectors head.now.footer) }
     requires buffer { (0 < pool.old.free) ×
         (512 * (1 + (S.site store.old).geometry.block) ≤ pool.old.bytes) }
-    requires slots { HasRoomFor (S.site store.old).geometry
-        (top_of (written_map (S.site store.old).geometry.block sector (length from.now) map.old))
-        (sectors_of S.site S.kept store.old head.now.volume) }
-    ensures works { WorksOn S.told S.site S.kept S.area S.failed S.faults
-        head.now.volume store.old store.new }
-    ensures cause { OnErr result (Rose (S.faults store.old) (S.faults store.new)) }
+    requires slots { HasRoomIn (stored S.Store store.old) head.now.volume
+        (top_of (written_map (S.site store.old).geometry.block sector (length from.now) map.old)) }
+    ensures works { WorksOn S.Store head.now.volume store.old store.new }
+    ensures cause { Counts S.Store result store.old store.new }
     ensures pool { pool.new ≡ pool.old }
-    ensures guarded { S.told → IsGuarded (layout_in (S.site store.old).geometry head.now.footer
-        (sectors_of S.site S.kept store.old head.now.volume)) (Puts sector from.now)
-        (held_in S.site S.kept S.area store.old head.now.volume)
-        (held_in S.site S.kept S.area store.new head.now.volume) }
-    ensures heads { S.told → KeepsHeads (sectors_of S.site S.kept store.old head.now.volume)
-        (held_in S.site S.kept S.area store.old head.now.volume)
-        (held_in S.site S.kept S.area store.new head.now.volume) }
+    ensures guarded { Does S.Store head.now.volume
+        (IsGuarded (layout_now (stored S.Store store.old) head.now) (Puts sector from.now)) store.old store.new }
+    ensures heads { Does S.Store head.now.volume
+        (KeepsHeads (sectors_in (stored S.Store store.old) head.now.volume)) store.old store.new }
     ensures grown { HasGrown map.old map.new }
     ensures map { OnOk result
         (map.new ≡ written_map (S.site store.old).geometry.block sector (length from.now) map.old) }
-    ensures still { OnOk result (S.told → IsTrueIn (S.site store.old).geometry
-        (sectors_of S.site S.kept store.old head.now.volume)
-        (held_in S.site S.kept S.area store.new head.now.volume) head.now map.new) }
-    ensures written { OnOk result (S.told → HasWritten (layout_in (S.site store.old).geometry
-        head.now.footer (sectors_of S.site S.kept store.old head.now.volume)) sector from.now
-        (held_in S.site S.kept S.area store.old head.now.volume)
-        (held_in S.site S.kept S.area store.new head.now.volume)) }
-    ensures stands { OnOk result (IsStanding (S.site store.old).geometry
-        (sectors_of S.site S.kept store.old head.now.volume) head.now map.new) }
+    ensures still { OnOk result (Holds S.Store head.now.volume
+        (λ h. IsTrueOf (layout_now (stored S.Store store.old) head.now) h head.now (slot_of map.new)) store.new) }
+    ensures written { OnOk result (Does S.Store head.now.volume
+        (HasWritten (layout_now (stored S.Store store.old) head.now) sector from.now) store.old store.new) }
+    ensures stands { OnOk result (StandsNow (stored S.Store store.old) head.now map.new) }
 {
     // No more buffers are free than the pool has.
     let _free = pool.free();

@@ -1,19 +1,18 @@
-use Rattle.std.proofs.Common.{◌≡◌, ◌+◌, inl, inr, Ok, sym, ap, ◌∙◌, subst}
+use Rattle.std.proofs.Common.{◌≡◌, inl, inr, Ok, refl, sym, ap, ◌∙◌, subst}
 use Rattle.sm_base.specs.declared.faults.OpenFault.{OpenFault}
 use Rattle.sm_disk.specs.Held.{Keeps, reads}
 use Rattle.sm_disk.proofs.HeldLaws.{Allows-keeps, Keeps-then}
 use Rattle.vg_layout.specs.Fields.{plate, pointer}
 use Rattle.vg_layout.specs.Opening.{IsRefused}
-use Rattle.vg_layout.specs.Places.{area_place}
-use Rattle.vg_meta.specs.Kept.{listing}
-use Rattle.vg_store.specs.Groups.{Leaves, area_of, beside_of}
+use Rattle.vg_meta.specs.Roomy.{table_alone}
+use Rattle.vg_store.specs.Groups.{LeavesGroup, area_of, beside_of}
 use Rattle.vg_volumes.specs.Sites.{Site, area_size}
-use Rattle.sm_recover.specs.Repairs.{IsStopped}
+use Rattle.sm_recover.specs.Repairs.{IsOpeningStopped}
 use Rattle.sm_recover.specs.Stores.{content_now}
 use Rattle.lvhd_command.specs.Devices.{IsRefusedOn, site_on, plate_at}
 use Rattle.lvhd_command.specs.Devices.IsRefusedOn.{by_group}
 use Rattle.lvhd_command.proofs.OpenLaws.{StandsAlways, sound_entry, shown_entry, opened_entry, answer_as, refused_content, kept_back, shown_back, repaired_sized, always_sized, unless, unless_from}
-use Rattle.lvhd_command.proofs.UnsoundLaws.{beside_whole, beside_then, unsound_left}
+use Rattle.lvhd_command.proofs.UnsoundLaws.{beside_whole, beside_then, never_sound}
 use Rattle.lvhd_command.proofs.opening.open.Goals as goal
 
 pub returns-in-Err-clause-refused : goal.returns-in-Err-clause-refused
@@ -27,7 +26,7 @@ pub returns-in-Err-clause-kept_back : goal.returns-in-Err-clause-kept_back
 returns-in-Err-clause-kept_back g c = λ told kept image allowed. kept image (Allows-keeps _ image (c.in-Err.ensures.keeps_back told) allowed)
 
 pub returns-in-Err-clause-shown_back : goal.returns-in-Err-clause-shown_back
-returns-in-Err-clause-shown_back g c = λ told ds m. record { image = m.image; allowed = Allows-keeps _ m.image (c.in-Err.ensures.keeps_back told) m.allowed; shows = m.shows }
+returns-in-Err-clause-shown_back g c = λ told image allowed. inl (record { before = image; allowed = Allows-keeps _ image (c.in-Err.ensures.keeps_back told) allowed; same = λ g on. (g, on, refl) })
 
 pub returns-in-Ok-begin-clause-size : goal.returns-in-Ok-begin-clause-size
 returns-in-Ok-begin-clause-size g c = ap (λ (s : Site). s.sectors) c.in-Ok-begin.ensures.site ∙ c.in-Ok.ensures.size
@@ -36,21 +35,21 @@ pub returns-in-Ok-begin-clause-sound : goal.returns-in-Ok-begin-clause-sound
 returns-in-Ok-begin-clause-sound g c = λ told.
     let e = c.in-Ok.ensures in
     let group = c.in-Ok.group in
-    sound_entry (g.D.Disk.size c.args.disk) (g.D.Disk.held c.args.disk) (g.D.Disk.held group.disk) (site_on group.label (g.D.Disk.size group.disk)) (pointer group.header) (listing group.table)
+    sound_entry (g.D.Disk.size c.args.disk) (g.D.Disk.held c.args.disk) (g.D.Disk.held group.disk) (site_on group.label (g.D.Disk.size group.disk)) (pointer group.header) (table_alone group.table)
     (e.area told) (e.stands told) (c.in-Ok-begin.ensures.sound told)
 
 pub returns-in-Ok-begin-clause-shown : goal.returns-in-Ok-begin-clause-shown
 returns-in-Ok-begin-clause-shown g c = λ told.
     let e = c.in-Ok.ensures in
     let group = c.in-Ok.group in
-    shown_entry (g.D.Disk.size c.args.disk) (g.D.Disk.held c.args.disk) (g.D.Disk.held group.disk) (site_on group.label (g.D.Disk.size group.disk)) (pointer group.header) (listing group.table) _
+    shown_entry (g.D.Disk.size c.args.disk) (g.D.Disk.held c.args.disk) (g.D.Disk.held group.disk) (site_on group.label (g.D.Disk.size group.disk)) (pointer group.header) (table_alone group.table) _
     (e.area told) (e.stands told) (c.in-Ok-begin.ensures.disks told)
 
 pub returns-in-Ok-begin-clause-opened : goal.returns-in-Ok-begin-clause-opened
 returns-in-Ok-begin-clause-opened g c = λ told.
     let e = c.in-Ok.ensures in
     let group = c.in-Ok.group in
-    opened_entry (g.D.Disk.size c.args.disk) (g.D.Disk.held c.args.disk) (g.D.Disk.held group.disk) (site_on group.label (g.D.Disk.size group.disk)) (pointer group.header) (listing group.table) _
+    opened_entry (g.D.Disk.size c.args.disk) (g.D.Disk.held c.args.disk) (g.D.Disk.held group.disk) (site_on group.label (g.D.Disk.size group.disk)) (pointer group.header) (table_alone group.table) _
     (e.area told) (e.stands told) (c.in-Ok-begin.ensures.opened told)
 
 pub returns-in-Err-begin-clause-size_back : goal.returns-in-Err-begin-clause-size_back
@@ -60,9 +59,9 @@ pub returns-in-Err-begin-clause-refused : goal.returns-in-Err-begin-clause-refus
 returns-in-Err-begin-clause-refused g c =
     let e = c.in-Ok.ensures in
     let group = c.in-Ok.group in
-    refused_content g.D.Disk.told (g.D.Disk.size c.args.disk) (g.D.Disk.held c.args.disk) (g.D.Disk.held group.disk) (site_on group.label (g.D.Disk.size group.disk)) (pointer group.header) (listing group.table)
+    refused_content g.D.Disk.told (g.D.Disk.size c.args.disk) (g.D.Disk.held c.args.disk) (g.D.Disk.held group.disk) (site_on group.label (g.D.Disk.size group.disk)) (pointer group.header) (table_alone group.table)
     (g.D.Disk.faults c.args.disk) (g.D.Disk.faults group.disk) _ c.in-Err-begin.fault e.counts e.area e.stands
-    (subst (λ d. IsStopped g.D.Disk.told (content_now (site_on group.label (g.D.Disk.size group.disk)) (listing group.table) (area_of (g.D.Disk.held group.disk))) (g.D.Disk.faults group.disk) (g.D.Disk.faults d) c.in-Err-begin.fault)
+    (subst (λ d. IsOpeningStopped g.D.Disk.told (content_now (site_on group.label (g.D.Disk.size group.disk)) (table_alone group.table) (area_of (g.D.Disk.held group.disk))) (g.D.Disk.faults group.disk) (g.D.Disk.faults d) c.in-Err-begin.fault)
     (sym c.into_disk.ensures.disk) c.in-Err-begin.ensures.cause)
 
 pub returns-in-Err-begin-clause-kept_back : goal.returns-in-Err-begin-clause-kept_back
@@ -75,10 +74,10 @@ returns-in-Err-begin-clause-kept_back g c = λ told.
     let site : Site = site_on group.label (g.D.Disk.size group.disk) in
     let now : Site = site_on back.label (g.D.Disk.size back.disk) in
     let after : g.D.Disk.size d ≡ size = ap g.D.Disk.size c.into_disk.ensures.disk ∙ ap (λ (s : Site). s.sectors) c.in-Err-begin.ensures.site_back ∙ e.size in
-    let left = repaired_sized size (g.D.Disk.size group.disk) (g.D.Disk.size d) (g.D.Disk.held group.disk) (g.D.Disk.held d) site now (listing group.table) e.size after
-    (λ t image l. c.in-Err-begin.ensures.crash_back told t image (subst (λ x. Leaves (g.D.Disk.size x) (g.D.Disk.held x) (plate back.label) t image) c.into_disk.ensures.disk l)) in
+    let left = repaired_sized size (g.D.Disk.size group.disk) (g.D.Disk.size d) (g.D.Disk.held group.disk) (g.D.Disk.held d) site now (table_alone group.table) e.size after
+    (λ t image l. c.in-Err-begin.ensures.crash_back told t image (subst (λ x. LeavesGroup (g.D.Disk.size x) (g.D.Disk.held x) (plate back.label) t image) c.into_disk.ensures.disk l)) in
     let always = always_sized size (g.D.Disk.size d) (g.D.Disk.held d) now after (c.into_disk.ensures.stands told) in
-    kept_back size (g.D.Disk.held c.args.disk) (g.D.Disk.held group.disk) (g.D.Disk.held d) site now (listing group.table) c.in-Err-begin.ensures.site_back (e.keeps told) always left
+    kept_back size (g.D.Disk.held c.args.disk) (g.D.Disk.held group.disk) (g.D.Disk.held d) site now (table_alone group.table) c.in-Err-begin.ensures.site_back (e.keeps told) always left
 
 pub returns-in-Err-begin-clause-shown_back : goal.returns-in-Err-begin-clause-shown_back
 returns-in-Err-begin-clause-shown_back g c = λ told.
@@ -90,17 +89,17 @@ returns-in-Err-begin-clause-shown_back g c = λ told.
     let site : Site = site_on group.label (g.D.Disk.size group.disk) in
     let now : Site = site_on back.label (g.D.Disk.size back.disk) in
     let after : g.D.Disk.size d ≡ size = ap g.D.Disk.size c.into_disk.ensures.disk ∙ ap (λ (s : Site). s.sectors) c.in-Err-begin.ensures.site_back ∙ e.size in
-    let left = repaired_sized size (g.D.Disk.size group.disk) (g.D.Disk.size d) (g.D.Disk.held group.disk) (g.D.Disk.held d) site now (listing group.table) e.size after
-    (λ t image l. c.in-Err-begin.ensures.crash_back told t image (subst (λ x. Leaves (g.D.Disk.size x) (g.D.Disk.held x) (plate back.label) t image) c.into_disk.ensures.disk l)) in
+    let left = repaired_sized size (g.D.Disk.size group.disk) (g.D.Disk.size d) (g.D.Disk.held group.disk) (g.D.Disk.held d) site now (table_alone group.table) e.size after
+    (λ t image l. c.in-Err-begin.ensures.crash_back told t image (subst (λ x. LeavesGroup (g.D.Disk.size x) (g.D.Disk.held x) (plate back.label) t image) c.into_disk.ensures.disk l)) in
     let always = always_sized size (g.D.Disk.size d) (g.D.Disk.held d) now after (c.into_disk.ensures.stands told) in
-    shown_back size (g.D.Disk.held c.args.disk) (g.D.Disk.held group.disk) (g.D.Disk.held d) site now (pointer group.header) (listing group.table) c.in-Err-begin.ensures.site_back (e.keeps told) (e.area told)
+    shown_back size (g.D.Disk.held c.args.disk) (g.D.Disk.held group.disk) (g.D.Disk.held d) site now (pointer group.header) (table_alone group.table) c.in-Err-begin.ensures.site_back (e.keeps told) (e.area told)
     (e.stands told) always left
 
 pub returns-in-Err-clause-untouched : goal.returns-in-Err-clause-untouched
 returns-in-Err-clause-untouched g c = λ told. unless c.in-Err.fault (c.in-Err.ensures.keeps_back told)
 
 pub returns-in-Err-clause-unsound : goal.returns-in-Err-clause-unsound
-returns-in-Err-clause-unsound g c = λ told f refused. inl (c.in-Err.ensures.keeps_back told)
+returns-in-Err-clause-unsound g c = λ told f refused. c.in-Err.ensures.keeps_back told
 
 pub returns-in-Err-clause-beside_back : goal.returns-in-Err-clause-beside_back
 returns-in-Err-clause-beside_back g c = λ told. beside_whole (g.D.Disk.size c.args.disk) (g.D.Disk.held c.args.disk) _ (c.in-Err.ensures.keeps_back told)
@@ -137,19 +136,9 @@ pub returns-in-Err-begin-clause-unsound : goal.returns-in-Err-begin-clause-unsou
 returns-in-Err-begin-clause-unsound g c = λ told f refused.
     let e = c.in-Ok.ensures in
     let group = c.in-Ok.group in
-    let back = c.in-Err-begin.group in
-    let d = c.into_disk.result in
-    let size = g.D.Disk.size c.args.disk in
-    let site : Site = site_on group.label (g.D.Disk.size group.disk) in
-    let now : Site = site_on back.label (g.D.Disk.size back.disk) in
-    let after : g.D.Disk.size d ≡ size = ap g.D.Disk.size c.into_disk.ensures.disk ∙ ap (λ (s : Site). s.sectors) c.in-Err-begin.ensures.site_back ∙ e.size in
-    let left = repaired_sized size (g.D.Disk.size group.disk) (g.D.Disk.size d) (g.D.Disk.held group.disk) (g.D.Disk.held d) site now (listing group.table) e.size after
-    (λ t image l. c.in-Err-begin.ensures.crash_back told t image (subst (λ x. Leaves (g.D.Disk.size x) (g.D.Disk.held x) (plate back.label) t image) c.into_disk.ensures.disk l)) in
-    let always = always_sized size (g.D.Disk.size d) (g.D.Disk.held d) now after (c.into_disk.ensures.stands told) in
-    let beside = subst (λ x. Keeps (beside_of (area_size site) (g.D.Disk.held group.disk)) (beside_of (area_size site) (g.D.Disk.held x))) (sym c.into_disk.ensures.disk)
-    (subst (λ n. Keeps (beside_of (area_size site) (g.D.Disk.held group.disk)) (beside_of n (g.D.Disk.held c.in-Err-begin.group.disk))) (ap area_size c.in-Err-begin.ensures.site_back) (c.in-Err-begin.ensures.beside_back told)) in
-    unsound_left size (g.D.Disk.held c.args.disk) (g.D.Disk.held group.disk) (g.D.Disk.held d) site now (pointer group.header) (listing group.table) f c.in-Err-begin.ensures.site_back (e.keeps told) (e.area told)
-    (e.stands told) refused (λ q. e.settled told (area_place + q)) always left beside
+    let never = never_sound (g.D.Disk.size c.args.disk) (g.D.Disk.held c.args.disk) (g.D.Disk.held group.disk) (site_on group.label (g.D.Disk.size group.disk)) (pointer group.header) (table_alone group.table) f
+    (e.area told) (e.stands told) refused in
+    subst (λ x. Keeps (g.D.Disk.held c.args.disk) (g.D.Disk.held x)) (sym c.into_disk.ensures.disk) (Keeps-then (e.keeps told) (c.in-Err-begin.ensures.unsound_back told never))
 
 pub returns-in-Ok-begin-clause-label : goal.returns-in-Ok-begin-clause-label
 returns-in-Ok-begin-clause-label g c = λ told.

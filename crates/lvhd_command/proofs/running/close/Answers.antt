@@ -1,4 +1,4 @@
-use Rattle.vg_meta.specs.Kept.{listing}
+use Rattle.vg_meta.specs.Roomy.{table_alone}
 use Rattle.vg_volumes.specs.Sites.{Site}
 use Rattle.lvhd_command.specs.Devices.{site_on}
 use Rattle.lvhd_command.proofs.RunLaws.{kept_back_after, one_after, shown_after}
@@ -18,7 +18,7 @@ returns-in-Ok-clause-one g c = λ told whole.
     let size = g.D.Disk.size s.store.disk in
     let site : Site = site_on s.store.label size in
     let keeps = rw c.leave-disk.ensures.disk at c.sync.ensures.keeps in
-    one_after size site (g.D.Disk.held s.store.disk) _ (listing s.store.table) (keeps told) (c.leave-disk.ensures.one told whole)
+    one_after size site (g.D.Disk.held s.store.disk) _ (table_alone s.store.table) (keeps told) (c.leave-disk.ensures.one told whole)
 
 pub returns-in-Ok-clause-shown : goal.returns-in-Ok-clause-shown
 returns-in-Ok-clause-shown g c = λ told whole rest.
@@ -42,7 +42,7 @@ returns-in-Err-clause-one g c = λ told whole.
     let size = g.D.Disk.size s.store.disk in
     let site : Site = site_on s.store.label size in
     let keeps = rw c.leave-disk.ensures.disk at c.sync.ensures.keeps in
-    one_after size site (g.D.Disk.held s.store.disk) _ (listing s.store.table) (keeps told) (c.leave-disk.ensures.one told whole)
+    one_after size site (g.D.Disk.held s.store.disk) _ (table_alone s.store.table) (keeps told) (c.leave-disk.ensures.one told whole)
 
 pub returns-in-Err-clause-shown : goal.returns-in-Err-clause-shown
 returns-in-Err-clause-shown g c = λ told whole rest.

@@ -1,6 +1,6 @@
 use Rattle.std.proofs.Common.{sym, ap, ◌∙◌, subst}
 use Rattle.vg_layout.specs.Fields.{plate}
-use Rattle.vg_store.specs.Groups.{Leaves}
+use Rattle.vg_store.specs.Groups.{LeavesGroup}
 use Rattle.lvhd_command.specs.Devices.{site_on}
 use Rattle.lvhd_command.proofs.RunLaws.{shown_only}
 use Rattle.lvhd_command.proofs.running.leave.Goals as goal
@@ -9,7 +9,7 @@ pub returns-clause-one : goal.returns-clause-one
 returns-clause-one g c = λ told whole t image left.
     let leaves = rw c.into_store.ensures.store at c.into_disk.ensures.leaves in
     let disk = c.into_disk.ensures.disk ∙ ap (λ group. group.disk) c.into_store.ensures.store in
-    (leaves told (c.args.session.usable whole) t image (subst (λ d. Leaves (g.D.Disk.size d) (g.D.Disk.held d) (plate c.args.session.store.label) t image) (sym disk) left)).table_is
+    (leaves told (c.args.session.usable whole) t image (subst (λ d. LeavesGroup (g.D.Disk.size d) (g.D.Disk.held d) (plate c.args.session.store.label) t image) (sym disk) left)).table_is
 
 pub returns-clause-shown : goal.returns-clause-shown
 returns-clause-shown g c = λ told whole rest.

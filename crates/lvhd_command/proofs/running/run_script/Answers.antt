@@ -1,7 +1,7 @@
 use Rattle.std.proofs.Common.{◌≡◌, inl, inr, ⊎_elim, Ok, sym, refl, ap, ◌∙◌, subst}
 use Rattle.sm_disk.specs.Held.{Keeps}
 use Rattle.sm_disk.proofs.HeldLaws.{Keeps-none}
-use Rattle.vg_meta.specs.Kept.{listing}
+use Rattle.vg_meta.specs.Roomy.{table_alone}
 use Rattle.vg_store.specs.Groups.{beside_of}
 use Rattle.vg_volumes.specs.Sites.{Site, area_size}
 use Rattle.lvhd_command.specs.Devices.{plate_at, site_on}
@@ -50,7 +50,7 @@ returns-in-Ok-run-clause-did g c = λ told kept.
     let labelled = e.label told ∙ ap (λ (x : Site). Ok (plate_at x)) (sym c.run.ensures.site) in
     let r = c.run.ensures.run told (e.whole, e.rest told) (e.kept told) (e.begins told) in
     let ready = r.ready (λ failed. ok_not_err c.run.result _ _ c.in-Ok-run.is failed) in
-    inl (has_run_sized s c.close.result.0 n site (listing m.store.table) (g.D.Disk.held m.store.disk) _ c.run.result _ is_size (e.sound told) (e.shown told) (e.opened told) r
+    inl (has_run_sized s c.close.result.0 n site (table_alone m.store.table) (g.D.Disk.held m.store.disk) _ c.run.result _ is_size (e.sound told) (e.shown told) (e.opened told) r
     (c.close.ensures.back told) (λ q. c.close.ensures.one told q.0) (λ q. q.1.no_stray)
     (ends_done s.size n s.new _ c.run.result _ c.close.result.0 g.D.Disk.told told c.in-Ok-run.is is_size c.close.ensures.status (c.close.ensures.shown told ready.0 ready.1)) labelled)
 
@@ -73,8 +73,8 @@ returns-clause-did g c = λ told kept.
     let labelled = e.label told ∙ ap (λ (x : Site). Ok (plate_at x)) (sym c.run.ensures.site) in
     let r = c.run.ensures.run told (e.whole, e.rest told) (e.kept told) (e.begins told) in
     let back = subst (λ d. IsGivenBack n site (g.D.Disk.held m.store.disk) (g.D.Disk.held d)) (sym c.leave.ensures.disk) (back_itself n site (g.D.Disk.held m.store.disk) (c.leave.ensures.stands told)) in
-    inl (has_run_sized s c.status_of_fault.result n site (listing m.store.table) (g.D.Disk.held m.store.disk) _ c.run.result _ is_size (e.sound told) (e.shown told) (e.opened told) r
-    back (λ q. subst (λ d. IsOneTable n site (g.D.Disk.held d) (listing m.store.table)) (sym c.leave.ensures.disk) (c.leave.ensures.one told q.0)) (λ q. q.1.no_stray)
+    inl (has_run_sized s c.status_of_fault.result n site (table_alone m.store.table) (g.D.Disk.held m.store.disk) _ c.run.result _ is_size (e.sound told) (e.shown told) (e.opened told) r
+    back (λ q. subst (λ d. IsOneTable n site (g.D.Disk.held d) (table_alone m.store.table)) (sym c.leave.ensures.disk) (c.leave.ensures.one told q.0)) (λ q. q.1.no_stray)
     (ends_early s.size s.new _ c.run.result c.in-Err-run.fault c.status_of_fault.result c.in-Err-run.is c.status_of_fault.ensures) labelled)
 
 pub returns-in-Err-clause-unsound : goal.returns-in-Err-clause-unsound
@@ -88,7 +88,7 @@ returns-in-Err-clause-unsound g c = λ told e on.
       had_got = g.K.Sink.content c.args.sink.now;
       got = g.K.Sink.content c.refuse.new.sink;
     } in
-    has_stayed s c.in-Err.fault c.refuse.result g.D.Disk.told _ _ _ _ told refl c.in-Err.ensures.refused c.refuse.ensures (c.in-Err.ensures.untouched told) (c.in-Err.ensures.unsound told e on)
+    has_stayed s c.in-Err.fault c.refuse.result g.D.Disk.told _ _ _ _ told refl c.in-Err.ensures.refused c.refuse.ensures (c.in-Err.ensures.unsound told e on)
 
 pub returns-in-Err-clause-refused : goal.returns-in-Err-clause-refused
 returns-in-Err-clause-refused g c = λ told is.
@@ -102,7 +102,7 @@ returns-in-Err-clause-refused g c = λ told is.
       got = g.K.Sink.content c.refuse.new.sink;
     } in
     let k = left_of (Keeps s.old s.new) c.in-Err.fault _ _ _ _ c.refuse.result c.refuse.ensures (c.in-Err.ensures.untouched told) (kept_off c.refuse.result is) in
-    has_stayed s c.in-Err.fault c.refuse.result g.D.Disk.told _ _ _ _ told refl c.in-Err.ensures.refused c.refuse.ensures (c.in-Err.ensures.untouched told) (inl k)
+    has_stayed s c.in-Err.fault c.refuse.result g.D.Disk.told _ _ _ _ told refl c.in-Err.ensures.refused c.refuse.ensures k
 
 pub returns-in-Ok-run-clause-refused : goal.returns-in-Ok-run-clause-refused
 returns-in-Ok-run-clause-refused g c = λ told is. absurd (done_not_kept_off _ c.close.result.0 c.close.ensures.status is)
@@ -133,9 +133,9 @@ returns-in_default-clause-did g c = λ told kept.
       source = stayed.source;
       said = stayed.said;
       kept = kept;
-      shown = λ ds m. m;
+      shown = λ image allowed. inl (record { before = image; allowed = allowed; same = λ g on. (g, on, refl) });
       label = λ image allowed. inl allowed;
-      untouched = stayed.untouched;
+      untouched = λ _. stayed.untouched;
     })
 
 pub returns-in_default-clause-refused : goal.returns-in_default-clause-refused

@@ -1,6 +1,6 @@
 use Rattle.std.proofs.Common.{count_by, sym, ◌∙◌}
 use Rattle.vg_meta.specs.Tables.{names_of}
-use Rattle.vg_meta.specs.Kept.{rows_alone}
+use Rattle.vg_meta.specs.Roomy.{rows_alone}
 use Rattle.sm_journal.specs.Entries.{is_operation, is_call}
 use Rattle.sm_journal.proofs.EntryLaws.{counted_names, more_first, more_second}
 use Rattle.sm_journal.proofs.entries.has_two.Goals as goal

@@ -1,29 +1,41 @@
-use Rattle.std.proofs.Common.{arith}
-use Rattle.sm_disk.proofs.HeldLaws.{Keeps-then}
-use Rattle.sm_mgt.proofs.ClearLaws.{elsewhere_step}
-use Rattle.sm_mgt.proofs.StoreLaws.{Stays-then}
-use Rattle.sm_recover.proofs.WipeLaws.{zeroed_step, agrees_step, so_far_more}
+use Rattle.std.proofs.Common.{◌≤◌, inl, sym, subst}
+use Rattle.sm_base.specs.declared.names.Name.TheVariants.{Mgt as mgt_name}
+use Rattle.vg_volumes.proofs.StoredLaws.{writes_none, writes_then, size_stays, rose_later}
+use Rattle.sm_mgt.specs.Places.{place_count}
+use Rattle.sm_mgt.proofs.ClearLaws.{on_err}
+use Rattle.sm_standing.specs.Plain.{IsPlain}
+use Rattle.sm_recover.proofs.WipeLaws.{zeroed_step, so_far_none, so_far_more}
 use Rattle.sm_recover.proofs.wiping.wipe_strays.Goals as goal
 
-pub returns-in_err-wipe_stray-clause-zeroed : goal.returns-in_err-wipe_stray-clause-zeroed
-returns-in_err-wipe_stray-clause-zeroed g c = λ told.
-    let i = c.loop-place.invariant in
-    zeroed_step c.args.mgt.now c.loop-place.mgt c.loop-place.place _ _ _ i.stays.same_site i.stays.same_table i.far (i.zeroed told) (c.wipe_stray.ensures.zeroed told)
+pub loop-place-init : goal.loop-place-init
+loop-place-init g c = record {
+  wrote = writes_none _ _ _ (λ h p v may. inl may);
+  agrees = λ told was. was;
+  far = so_far_none _ _;
+}
 
-pub returns-in_err-wipe_stray-clause-beside : goal.returns-in_err-wipe_stray-clause-beside
-returns-in_err-wipe_stray-clause-beside g c = λ told. Keeps-then (c.loop-place.invariant.beside told) (c.wipe_stray.ensures.beside told)
+pub wipe_stray-requires-clause-size : goal.wipe_stray-requires-clause-size
+wipe_stray-requires-clause-size g c =
+    subst (λ n. place_count ≤ n) (sym (size_stays mgt_name c.loop-place.invariant.wrote.stays)) c.requires.size
+
+pub wipe_stray-requires-clause-plain : goal.wipe_stray-requires-clause-plain
+wipe_stray-requires-clause-plain g c = subst IsPlain (sym c.loop-place.invariant.wrote.stays.table) c.requires.plain
 
 pub loop-place-preserved : goal.loop-place-preserved
 loop-place-preserved g c =
     let i = c.loop-place.invariant in
+    let table = i.wrote.stays.table in
     record {
-      stays = Stays-then i.stays c.wipe_stray.ensures.stays;
-      counts = omega (arith, i.counts, c.wipe_stray.ensures.counts);
-      beside = λ told. Keeps-then (i.beside told) (c.wipe_stray.ensures.beside told);
-      elsewhere = λ told. elsewhere_step i.stays.same_site i.stays.same_table (i.elsewhere told) (c.wipe_stray.ensures.elsewhere told);
-      zeroed = λ told.
-          zeroed_step c.args.mgt.now c.loop-place.mgt c.loop-place.place _ _ _ i.stays.same_site i.stays.same_table i.far (i.zeroed told) (c.wipe_stray.ensures.zeroed told);
-      agrees = λ told was.
-          agrees_step c.loop-place.mgt c.wipe_stray.new.mgt _ _ i.stays.same_site i.stays.same_table (c.in_ok-wipe_stray.ensures.agrees told) (i.agrees told was);
-      far = so_far_more c.args.mgt.now c.loop-place.mgt c.wipe_stray.new.mgt c.loop-place.place i.stays.same_table i.far c.in_ok-wipe_stray.ensures.right c.in_ok-wipe_stray.ensures.others;
+      wrote = writes_then (zeroed_step c.args.mgt.now c.loop-place.mgt c.loop-place.place table i.far) i.wrote c.wipe_stray.ensures.writes;
+      agrees = λ told was. c.in_ok-wipe_stray.ensures.agrees told (i.agrees told was);
+      far = so_far_more c.args.mgt.now c.loop-place.mgt c.wipe_stray.new.mgt c.loop-place.place table i.far c.in_ok-wipe_stray.ensures.right c.in_ok-wipe_stray.ensures.others;
     }
+
+pub returns-in_err-wipe_stray-clause-writes : goal.returns-in_err-wipe_stray-clause-writes
+returns-in_err-wipe_stray-clause-writes g c =
+    let i = c.loop-place.invariant in
+    writes_then (zeroed_step c.args.mgt.now c.loop-place.mgt c.loop-place.place i.wrote.stays.table i.far) i.wrote c.wipe_stray.ensures.writes
+
+pub returns-in_err-wipe_stray-clause-cause : goal.returns-in_err-wipe_stray-clause-cause
+returns-in_err-wipe_stray-clause-cause g c =
+    on_err c.from_residual.result (rose_later c.loop-place.invariant.wrote.stays c.in_err-wipe_stray.ensures.cause)

@@ -2,20 +2,20 @@ use Rattle.std.proofs.Common.{◌≡◌, ℕ, ◌*◌, length, sym, ap, ap₂, r
 use Rattle.sm_base.specs.declared.sizes.Geometry.{Geometry}
 use Rattle.sm_disk.specs.Held.{reads}
 use Rattle.sm_machine.specs.Runs.{is_accepted}
-use Rattle.vg_meta.specs.Kept.{Kept, listing}
+use Rattle.vg_meta.specs.Roomy.{RoomyTable, table_alone}
+use Rattle.vg_volumes.proofs.StoredLaws.{reads_none}
 use Rattle.sm_recover.specs.Stores.{IsOrderly}
 use Rattle.sm_recover.proofs.RoomLaws.{rows_same}
 use Rattle.sm_session.specs.Refusing.{site_of, IsSiteOf, extents_for}
 use Rattle.sm_session.proofs.Causes.{orderly_as}
-use Rattle.sm_session.proofs.TableLaws.{least_as}
+use Rattle.sm_session.proofs.TableLaws.{least_as, few_same}
 use Rattle.sm_session.proofs.SessionLaws.{taken_made, taken_failed, taken_refused, taken_poor, taken_poor_as, rests_at, shown_at}
-use Rattle.sm_session.proofs.UntouchedLaws.{IsUntouched-none}
 use Rattle.sm_session.proofs.creating.create.Goals as goal
 
 pub refuse_create-refusal-requires : goal.refuse_create-refusal-requires
 refuse_create-refusal-requires g c = record {
-  orderly = subst (λ (k : Kept). IsOrderly (site_of c.geometry-geometry.result c.extents-extents.result) (listing k)) (sym c.table.ensures.table)
-      (orderly_as (g.S.Store.site c.args.store.now) (site_of c.geometry-geometry.result c.extents-extents.result) (listing (g.S.Store.kept c.args.store.now)) c.geometry-geometry.ensures c.extents-extents.ensures.count c.requires.orderly);
+  orderly = subst (λ (k : RoomyTable). IsOrderly (site_of c.geometry-geometry.result c.extents-extents.result) (table_alone k)) (sym c.table.ensures.table)
+      (orderly_as (g.S.Store.site c.args.store.now) (site_of c.geometry-geometry.result c.extents-extents.result) (table_alone (g.S.Store.table c.args.store.now)) c.geometry-geometry.ensures c.extents-extents.ensures.count c.requires.orderly);
 }
 
 pub returns-in-Some-clause-taken : goal.returns-in-Some-clause-taken
@@ -26,14 +26,14 @@ returns-in-Some-clause-taken g c = λ told rest.
     (sym (exact (g.S.Store.site c.args.store.now) (reads (g.S.Store.area c.args.store.now)) c.args.label.now site rest.sound))
 
 pub returns-in-Some-clause-untouched : goal.returns-in-Some-clause-untouched
-returns-in-Some-clause-untouched g c = λ no. IsUntouched-none _ _ _ _ _ _ _
+returns-in-Some-clause-untouched g c = λ no. reads_none _
 
 pub returns-in-Some-clause-least : goal.returns-in-Some-clause-least
 unfolding is_accepted
 returns-in-Some-clause-least g c = λ yes. absurd (let e = yes in cc)
 
 pub returns-in_default-first_fit-clause-untouched : goal.returns-in_default-first_fit-clause-untouched
-returns-in_default-first_fit-clause-untouched g c = λ no. IsUntouched-none _ _ _ _ _ _ _
+returns-in_default-first_fit-clause-untouched g c = λ no. reads_none _
 
 pub returns-in_default-first_fit-clause-least : goal.returns-in_default-first_fit-clause-least
 unfolding is_accepted
@@ -50,7 +50,7 @@ returns-in-Ok-make_raw-clause-least g c = λ yes.
     let need : c.extents_needed-need.result ≡ extents_for s.geometry.extent c.args.size = c.extents_needed-need.ensures.extents ∙ ap (λ n. extents_for n c.args.size) extent in
     record {
       extents = c.in-Ok.found.items;
-      least = least_as need c.extents-extents.ensures.count (ap listing c.table-2.ensures.table) c.in-Ok.ensures.fit;
+      least = least_as need c.extents-extents.ensures.count (ap table_alone c.table-2.ensures.table) c.in-Ok.ensures.fit;
       made = c.in-Ok-make_raw.ensures.table;
     }
 
@@ -59,7 +59,7 @@ returns-in-Err-NoMemory-clause-untouched g c = λ no. (c.make_raw.ensures.poor (
 
 pub returns-in-Err-NoMemory-clause-room : goal.returns-in-Err-NoMemory-clause-room
 returns-in-Err-NoMemory-clause-room g c = λ had.
-    let poor = c.make_raw.ensures.poor (c.in-Err-NoMemory.is ∙ ap (λ f. Err f) c.in-Err-NoMemory.field-0-is) in rows_same _ _ poor.0.same_table poor.3 had
+    let poor = c.make_raw.ensures.poor (c.in-Err-NoMemory.is ∙ ap (λ f. Err f) c.in-Err-NoMemory.field-0-is) in rows_same _ _ poor.0.stays.table poor.0.stays.room had
 
 pub returns-in-Err-NoMemory-clause-least : goal.returns-in-Err-NoMemory-clause-least
 unfolding is_accepted
@@ -94,14 +94,14 @@ returns-in-Ok-make_raw-clause-taken g c = λ told rest.
     let long : length c.in-Ok.found.items ≡ extents_for s.geometry.extent c.args.size = c.in-Ok.ensures.fit.many ∙ need in
     let bytes : c.extents_needed-need.result * c.from.result * 512 ≡ length c.in-Ok.found.items * s.geometry.extent * 512
     = ap₂ (λ (n m : ℕ). n * m * 512) (sym c.in-Ok.ensures.fit.many) (c.from.ensures ∙ extent) in
-    taken_made s (listing (g.S.Store.kept c.args.store.now)) (g.S.Store.area c.args.store.now) c.args.disk.now c.args.label.now c.args.size c.in-Ok.found.items _ _ _ _ _
+    taken_made s (table_alone (g.S.Store.table c.args.store.now)) (g.S.Store.area c.args.store.now) c.args.disk.now c.args.label.now c.args.size c.in-Ok.found.items _ _ _ _ _
     c.requires.orderly (accepted refl s site).disk_new long none e.table (rests_at _ _ _ e.site (e.at_rest told rest))
-    (shown_at (listing (g.S.Store.kept c.make_raw.new.store)) (g.S.Store.area c.make_raw.new.store) e.site (e.disks told rest)) (e.crash told rest) bytes
+    (shown_at (table_alone (g.S.Store.table c.make_raw.new.store)) (g.S.Store.area c.make_raw.new.store) e.site (e.disks told rest)) (e.crash told rest) bytes
 
 pub returns-in-Err-NoMemory-clause-taken : goal.returns-in-Err-NoMemory-clause-taken
 returns-in-Err-NoMemory-clause-taken g c = λ told rest.
     let poor = c.make_raw.ensures.poor (c.in-Err-NoMemory.is ∙ ap (λ f. Err f) c.in-Err-NoMemory.field-0-is) in
-    taken_poor_as _ _ _ _ _ _ _ _ _ _ c.requires.orderly rest (g.met.S.Store.leaves_now c.args.store.now told c.requires.usable) poor.0.same_table (poor.0.same_area told) poor.2 poor.1
+    taken_poor_as _ _ _ _ _ _ _ _ _ _ c.requires.orderly rest (g.met.S.Store.leaves_now c.args.store.now told c.requires.usable) poor.0.stays.table (poor.0.held told) poor.2 poor.1
 
 pub returns-in-Err-Device-clause-taken : goal.returns-in-Err-Device-clause-taken
 returns-in-Err-Device-clause-taken g c = λ told rest.
@@ -112,3 +112,9 @@ returns-in-Err-Device-clause-taken g c = λ told rest.
     let extent : c.geometry-geometry.result.extent ≡ s.geometry.extent = ap (λ (h : Geometry). h.extent) c.geometry-geometry.ensures in
     let need : c.extents_needed-need.result ≡ extents_for s.geometry.extent c.args.size = c.extents_needed-need.ensures.extents ∙ ap (λ n. extents_for n c.args.size) extent in
     taken_failed s _ _ _ _ _ c.in-Ok.found.items _ _ _ _ _ (c.in-Ok.ensures.fit.many ∙ need) none (c.make_raw.ensures.crash told rest)
+
+pub returns-in-Some-clause-few_left : goal.returns-in-Some-clause-few_left
+returns-in-Some-clause-few_left g c = λ told t image h. few_same (table_alone (g.S.Store.table c.args.store.now)) t (g.met.S.Store.leaves_now c.args.store.now told c.requires.usable t image h).table_is
+
+pub returns-in_default-first_fit-clause-few_left : goal.returns-in_default-first_fit-clause-few_left
+returns-in_default-first_fit-clause-few_left g c = λ told t image h. few_same (table_alone (g.S.Store.table c.args.store.now)) t (g.met.S.Store.leaves_now c.args.store.now told c.requires.usable t image h).table_is

@@ -1,7 +1,7 @@
 use Rattle.std.proofs.Common.{◌≡◌, [], false, length, get_or, replicate, take, Bool, List, ℕ, sym, ap, subst, ◌∙◌, rules, arith}
 use Rattle.std.proofs.lemmas.List.{length-replicate}
 use Rattle.vg_meta.specs.Tables.{extents_in}
-use Rattle.vg_meta.specs.Kept.{rows_alone}
+use Rattle.vg_meta.specs.Roomy.{rows_alone}
 use Rattle.vg_meta.specs.Taken.{IsMarked}
 use Rattle.vg_meta.proofs.ReadSteps.{refilled, no_marks}
 use Rattle.vg_extents.proofs.CountLaws.{without_mark, ok_from, unmarked_others}

@@ -1,7 +1,7 @@
 use Rattle.std.proofs.Common.{◌≡◌, ◌+◌, ◌++◌, take, List, ℕ, sym, ap, ◌∙◌, subst, append_assoc}
 use Rattle.std.proofs.lemmas.List.{take_all}
 use Rattle.vg_meta.specs.Tables.{extents_in}
-use Rattle.vg_meta.specs.Kept.{HeldRow, rows_alone}
+use Rattle.vg_meta.specs.Roomy.{RoomyRow, rows_alone}
 use Rattle.vg_meta.specs.Taken.{IsMarked}
 use Rattle.vg_extents.proofs.CountLaws.{rows-taken}
 use Rattle.vg_extents.proofs.marks.mark_all.Goals as goal
@@ -19,5 +19,5 @@ loop-volume-preserved c = λ us m.
 
 pub returns : goal.returns
 returns c = λ us m.
-    subst (λ (l : List HeldRow). IsMarked (us ++ extents_in (rows_alone l)) c.loop-volume.marks) (take_all c.loop-volume.volume-index c.args.volumes.now c.loop-volume-test.false)
+    subst (λ (l : List RoomyRow). IsMarked (us ++ extents_in (rows_alone l)) c.loop-volume.marks) (take_all c.loop-volume.volume-index c.args.volumes.now c.loop-volume-test.false)
     (c.loop-volume.invariant us m)

@@ -1,6 +1,6 @@
 use Rattle.std.proofs.Common.{◌++◌, List, ℕ, take}
 use Rattle.vg_meta.specs.Tables.{extents_in}
-use Rattle.vg_meta.specs.Kept.{rows_alone}
+use Rattle.vg_meta.specs.Roomy.{rows_alone}
 use Rattle.vg_meta.specs.Taken.{IsMarked}
 use Rattle.vg_extents.proofs.marks.mark_all.Given as goal
 

@@ -1,7 +1,7 @@
 use Rattle.std.proofs.Common.{◌≡◌, ◌-◌, ◌^◌, length, sym, ap, subst, ◌∙◌, arith}
 use Rattle.vg_meta.specs.declared.changes.Change.{Change}
 use Rattle.vg_meta.specs.Tables.{Row}
-use Rattle.vg_meta.specs.Kept.{rows_alone, places_in}
+use Rattle.vg_meta.specs.Roomy.{rows_alone, places_in}
 use Rattle.vg_meta.specs.Changes.{AllowsIn, AllowsRename}
 use Rattle.vg_meta.proofs.RoomLaws.{at_name, at_names, absent_then}
 use Rattle.vg_meta.proofs.edits.apply_to.Goals as goal

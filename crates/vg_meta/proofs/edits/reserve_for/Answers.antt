@@ -1,6 +1,6 @@
 use Rattle.std.proofs.Common.{refl, ◌∙◌, arith}
 use Rattle.vg_meta.specs.Tables.{Row}
-use Rattle.vg_meta.specs.Kept.{rows_alone}
+use Rattle.vg_meta.specs.Roomy.{rows_alone}
 use Rattle.vg_meta.proofs.EditLaws.{Edited, edited, with_row-same}
 use Rattle.vg_meta.proofs.edits.reserve_for.Goals as goal
 
@@ -11,8 +11,8 @@ done c = edited c.deref.result.now c.args.volumes.now.items c.args.name.now (λ 
 pub returns-clause-rows : goal.returns-clause-rows
 returns-clause-rows c = (done c).rows ∙ with_row-same (rows_alone c.args.volumes.now.items) c.args.name.now
 
-pub returns-clause-kept : goal.returns-clause-kept
-returns-clause-kept c = omega (arith, (done c).was, (done c).now, c.reserve.ensures.kept)
+pub returns-clause-no_fewer : goal.returns-clause-no_fewer
+returns-clause-no_fewer c = omega (arith, (done c).was, (done c).now, c.reserve.ensures.no_fewer)
 
 pub returns-clause-others : goal.returns-clause-others
 returns-clause-others c = (done c).others

@@ -1,7 +1,7 @@
 use Rattle.std.proofs.Common.{get_or, subst, List, ℕ, arith}
 use Rattle.std.proofs.lemmas.List.{get_or_default}
 use Rattle.byteorder.specs.Endian.{big_bytes}
-use Rattle.vg_meta.specs.Writing.{Puts}
+use Rattle.vg_meta.specs.Writing.{WritesText}
 use Rattle.vg_meta.proofs.WriteLaws.{puts_none, puts_more, room_more, whole_text}
 use Rattle.vg_meta.proofs.encoding.put_numbers.Goals as goal
 
@@ -30,6 +30,6 @@ loop-number-preserved c =
 
 pub returns : goal.returns
 returns c =
-    subst (λ (t : List ℕ). Puts c.args.at t c.args.to.now c.loop-number.to c.loop-number.end)
+    subst (λ (t : List ℕ). WritesText c.args.at t c.args.to.now c.loop-number.to c.loop-number.end)
     (whole_text (big_bytes 4) c.args.numbers.now c.loop-number.number-index c.loop-number-test.false)
     c.loop-number.invariant

@@ -5,7 +5,7 @@ use Rattle.std.specs.declared.cmp.Ordering.TheVariants.{Less}
 use Rattle.sm_base.specs.declared.names.Name.{Name}
 use Rattle.sm_base.specs.Names.{name_cmp}
 use Rattle.vg_meta.specs.Tables.{Row, extents_in}
-use Rattle.vg_meta.specs.Kept.{HeldRow, rows_alone}
+use Rattle.vg_meta.specs.Roomy.{RoomyRow, rows_alone}
 use Rattle.vg_meta.specs.Taken.{are_new}
 use Rattle.vg_meta.proofs.ChangeLaws.{once_from}
 use Rattle.vg_meta.proofs.TakenLaws.{new_once, once_new}
@@ -20,7 +20,7 @@ returns-then-not-follows-clause-damaged c = λ r rest few vs e.
     c.in-Ok.ensures.text r rest few vs e in
     let behind = All-held_back (λ (s : Row). name_cmp s.name v.name ≡ Less) c.args.volumes.now next.behind in
     iff_false c.follows.ensures c.if-not-follows.true
-    (subst (λ (m : Name). AllByRecursion (λ (x : HeldRow). name_cmp x.row.name m ≡ Less) c.args.volumes.now) (sym c.name.ensures.name) behind)
+    (subst (λ (m : Name). AllByRecursion (λ (x : RoomyRow). name_cmp x.row.name m ≡ Less) c.args.volumes.now) (sym c.name.ensures.name) behind)
 
 pub returns-then-not-meet-clause-damaged : goal.returns-then-not-meet-clause-damaged
 returns-then-not-meet-clause-damaged c = λ r rest few vs e.
@@ -35,8 +35,8 @@ pub returns-clause-volumes : goal.returns-clause-volumes
 returns-clause-volumes c =
     let rs = rows_alone c.args.volumes.now in
     let v = c.in-Ok.read.0.row in
-    let behind : AllByRecursion (λ (x : HeldRow). name_cmp x.row.name v.name ≡ Less) c.args.volumes.now =
-    subst (λ (m : Name). AllByRecursion (λ (x : HeldRow). name_cmp x.row.name m ≡ Less) c.args.volumes.now) c.name.ensures.name (c.follows.ensures.0 c.if-not-follows.false) in
+    let behind : AllByRecursion (λ (x : RoomyRow). name_cmp x.row.name v.name ≡ Less) c.args.volumes.now =
+    subst (λ (m : Name). AllByRecursion (λ (x : RoomyRow). name_cmp x.row.name m ≡ Less) c.args.volumes.now) c.name.ensures.name (c.follows.ensures.0 c.if-not-follows.false) in
     let new : are_new (length c.args.met.now) (extents_in rs) v.extents ≡ true =
     ap (are_new (length c.args.met.now) (extents_in rs)) (sym c.extents.ensures.extents) ∙ sym (c.meet.ensures.new (extents_in rs) c.requires.marked) ∙ c.if-not-meet.false in
     volumes_push (length c.args.met.now) rs v c.requires.so_far c.in-Ok.ensures.volume

@@ -1,6 +1,6 @@
 use Rattle.std.proofs.Common.{◌≡◌, ◌+◌, ◌++◌, ◌∷◌, [], false, length, replicate, sym, ap, subst, ◌∙◌, ℕ, List, Bool, rules, arith}
 use Rattle.vg_meta.specs.Tables.{AreVolumes, extents_in}
-use Rattle.vg_meta.specs.Kept.{HeldRow, rows_alone}
+use Rattle.vg_meta.specs.Roomy.{RoomyRow, rows_alone}
 use Rattle.vg_meta.specs.Taken.{IsMarked}
 use Rattle.vg_meta.proofs.ReadSteps.{Read, read_first, read_more, refilled}
 use Rattle.vg_meta.proofs.reading.volumes_at.Goals as goal
@@ -22,9 +22,9 @@ loop-preserved c =
     let pushed : c.push.new.self.items ≡ vs ++ v ∷ [] = search rules in
     let volumes : AreVolumes c.args.count (rows_alone vs ++ v.row ∷ []) =
     subst (λ (n : ℕ). AreVolumes n (rows_alone vs ++ v.row ∷ [])) count
-    (subst (λ (hs : List HeldRow). AreVolumes (length c.deref_mut.result.now) (rows_alone hs ++ v.row ∷ [])) c.deref.ensures.value c.in-Ok-next_volume.ensures.volumes) in
+    (subst (λ (hs : List RoomyRow). AreVolumes (length c.deref_mut.result.now) (rows_alone hs ++ v.row ∷ [])) c.deref.ensures.value c.in-Ok-next_volume.ensures.volumes) in
     let marked : IsMarked (extents_in (rows_alone vs) ++ v.row.extents) ws =
-    subst (λ (hs : List HeldRow). IsMarked (extents_in (rows_alone hs) ++ v.row.extents) ws) c.deref.ensures.value c.in-Ok-next_volume.ensures.marks in
+    subst (λ (hs : List RoomyRow). IsMarked (extents_in (rows_alone hs) ++ v.row.extents) ws) c.deref.ensures.value c.in-Ok-next_volume.ensures.marks in
     subst (λ (marks : List Bool). Read c.args.count c.args.bytes.now c.in-Ok-next_volume.read.1.now c.push.new.self.items marks (c.loop.counter + 1)) (sym kept)
     (read_more c.args.count c.args.bytes.now c.loop.rest.now c.in-Ok-next_volume.read.1.now vs c.push.new.self.items v c.loop.met.items ws c.loop.counter
     c.loop.invariant pushed c.in-Ok-next_volume.ensures.text volumes (same ∙ count) marked)

@@ -1,5 +1,5 @@
 use Rattle.std.proofs.Common.{◌^◌, arith}
-use Rattle.vg_meta.specs.Kept.{rows_alone}
+use Rattle.vg_meta.specs.Roomy.{rows_alone}
 use Rattle.vg_meta.proofs.WriteLaws.{length-rows}
 use Rattle.vg_meta.proofs.SpliceLaws.{count_created, count_removed, count_same}
 use Rattle.vg_meta.proofs.splices.changed_count.Goals as goal

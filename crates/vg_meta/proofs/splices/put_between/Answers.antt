@@ -1,5 +1,5 @@
 use Rattle.std.proofs.Common.{◌∷◌, arith}
-use Rattle.vg_meta.specs.Kept.{rows_alone}
+use Rattle.vg_meta.specs.Roomy.{rows_alone}
 use Rattle.vg_meta.proofs.WriteLaws.{few_each}
 use Rattle.vg_meta.proofs.SpliceLaws.{room_front, few_behind, rows_between}
 use Rattle.vg_meta.proofs.splices.put_between.Goals as goal

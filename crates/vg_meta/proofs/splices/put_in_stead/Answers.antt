@@ -1,5 +1,5 @@
 use Rattle.std.proofs.Common.{◌+◌, ◌∷◌, ◌++◌, take, drop}
-use Rattle.vg_meta.specs.Kept.{rows_alone}
+use Rattle.vg_meta.specs.Roomy.{rows_alone}
 use Rattle.vg_meta.proofs.SpliceLaws.{room_as, puts_as, pieces}
 use Rattle.vg_meta.proofs.splices.put_in_stead.Goals as goal
 

@@ -1,4 +1,4 @@
-use Rattle.vg_meta.specs.Kept.{rows_alone}
+use Rattle.vg_meta.specs.Roomy.{rows_alone}
 use Rattle.vg_meta.specs.Changes.{with_row, tagged}
 use Rattle.vg_meta.proofs.SpliceLaws.{room_as, puts_as, with_place}
 use Rattle.vg_meta.proofs.splices.put_marked.Goals as goal

@@ -1,5 +1,5 @@
 use Rattle.std.proofs.Common.{◌+◌, take, drop, ◌∙◌, arith}
-use Rattle.vg_meta.specs.Kept.{rows_alone}
+use Rattle.vg_meta.specs.Roomy.{rows_alone}
 use Rattle.vg_meta.specs.Changes.{without}
 use Rattle.vg_meta.proofs.SpliceLaws.{room_as, room_front, room_back, few_all, puts_as, rows_then, two_pieces, without_place}
 use Rattle.vg_meta.proofs.splices.put_removed.Goals as goal

@@ -1,6 +1,6 @@
 use Rattle.std.proofs.Common.{◌≡◌, ◌++◌, arith}
 use Rattle.vg_meta.specs.Tables.{row_of}
-use Rattle.vg_meta.specs.Kept.{rows_alone}
+use Rattle.vg_meta.specs.Roomy.{rows_alone}
 use Rattle.vg_meta.specs.Changes.{put, put_some, renamed, without}
 use Rattle.vg_meta.proofs.SpliceLaws.{room_as, room_front, room_back, few_all, puts_as, rows_then, moved_front, moved_back}
 use Rattle.vg_meta.proofs.splices.put_renamed.Goals as goal

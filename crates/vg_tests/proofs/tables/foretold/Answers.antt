@@ -1,5 +1,5 @@
 use Rattle.std.proofs.Common.{ap, length, arith}
-use Rattle.vg_meta.specs.Kept.{listing}
+use Rattle.vg_meta.specs.Roomy.{table_alone}
 use Rattle.vg_meta.specs.Changes.{applied}
 use Rattle.vg_meta.proofs.CommitLaws.{HasText-short}
 use Rattle.vg_meta.proofs.GrowthLaws.{length-applied}
@@ -9,7 +9,7 @@ pub encode_changed-length-requires-clause-fits : goal.encode_changed-length-requ
 encode_changed-length-requires-clause-fits c =
     omega (
       arith,
-      length-applied (listing c.args.table.now) c.args.change.now,
+      length-applied (table_alone c.args.table.now) c.args.change.now,
       c.length.ensures.length,
       c.growth.ensures,
       c.saturating_add-size.ensures,
@@ -20,10 +20,10 @@ encode_changed-length-requires-clause-fits c =
 
 pub encode_changed-length-requires-clause-numbers : goal.encode_changed-length-requires-clause-numbers
 encode_changed-length-requires-clause-numbers c =
-    HasText-short (applied (listing c.args.table.now) c.args.change.now)
+    HasText-short (applied (table_alone c.args.table.now) c.args.change.now)
     (omega (
       arith,
-      length-applied (listing c.args.table.now) c.args.change.now,
+      length-applied (table_alone c.args.table.now) c.args.change.now,
       c.length.ensures.length,
       c.growth.ensures,
       c.saturating_add-size.ensures,

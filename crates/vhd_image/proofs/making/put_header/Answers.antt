@@ -1,20 +1,20 @@
 use Rattle.std.proofs.Common.{◌++◌, ℕ, List, ap₂, ◌∙◌, arith}
 use Rattle.std.proofs.lemmas.List.{take-append-drop}
 use Rattle.sm_disk.specs.Held.{reads}
-use Rattle.vhd_volumes.specs.Steps.{held_in}
-use Rattle.vhd_volumes.proofs.StepLaws.{works-then}
+use Rattle.vg_volumes.specs.Stored.{stored, held_in}
+use Rattle.vg_volumes.proofs.StoredLaws.{works_then}
 use Rattle.vhd_image.proofs.MakingLaws.{header-wrote}
 use Rattle.vhd_image.proofs.making.put_header.Goals as goal
 
 pub returns-in_err-put_sector-2-clause-works : goal.returns-in_err-put_sector-2-clause-works
-returns-in_err-put_sector-2-clause-works g c = works-then c.put_sector.ensures.works c.put_sector-2.ensures.works
+returns-in_err-put_sector-2-clause-works g c = works_then c.put_sector.ensures.works c.put_sector-2.ensures.works
 
 pub returns-clause-works : goal.returns-clause-works
-returns-clause-works g c = works-then c.put_sector.ensures.works c.put_sector-2.ensures.works
+returns-clause-works g c = works_then c.put_sector.ensures.works c.put_sector-2.ensures.works
 
 pub returns-clause-header : goal.returns-clause-header
 returns-clause-header g c = λ told.
-    let v = reads (held_in g.S.Store.site g.S.Store.kept g.S.Store.area c.put_sector-2.new.store c.args.volume.now) in
+    let v = reads (held_in (stored g.S.Store c.put_sector-2.new.store) c.args.volume.now) in
     header-wrote v c.write.new.to c.halves.result.0 c.halves.result.1 c.args.header.now
     ((c.put_sector-2.ensures.may_put told).others 1 (λ e. omega arith) ∙ c.in_ok-put_sector.ensures.put told)
     (c.in_ok-put_sector-2.ensures.put told) c.halves.ensures.front c.halves.ensures.back (c.write.ensures.reads_back c.requires.proper)

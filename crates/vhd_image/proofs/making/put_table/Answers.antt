@@ -2,8 +2,8 @@ use Rattle.std.proofs.Common.{◌+◌, ◌*◌, ap, ◌∙◌, arith}
 use Rattle.sm_base.specs.Numbers.{first}
 use Rattle.sm_disk.specs.Held.{reads}
 use Rattle.vhd_map.specs.Places.{code}
-use Rattle.vhd_volumes.specs.Steps.{held_in}
-use Rattle.vhd_volumes.proofs.StepLaws.{works-then, works-size}
+use Rattle.vg_volumes.specs.Stored.{stored, held_in}
+use Rattle.vg_volumes.proofs.StoredLaws.{works_then, size_stays}
 use Rattle.vhd_image.proofs.TableLaws.{slot_of-blank_map}
 use Rattle.vhd_image.proofs.MakingLaws.{rows-first, rows-end, blank-more}
 use Rattle.vhd_image.proofs.making.put_table.Goals as goal
@@ -11,10 +11,10 @@ use Rattle.vhd_image.proofs.making.put_table.Goals as goal
 pub put_sector-requires : goal.put_sector-requires
 put_sector-requires g c =
     let below = rows-first c.args.geometry.now.entries c.loop-index.index c.div_ceil-index-end.result c.div_ceil-index-end.ensures c.loop-index-test.true in
-    omega (arith, below, works-size c.loop-index.invariant.works, c.requires.room)
+    omega (arith, below, size_stays c.args.volume.now c.loop-index.invariant.works.stays, c.requires.room)
 
 pub returns-in_err-put_sector-clause-works : goal.returns-in_err-put_sector-clause-works
-returns-in_err-put_sector-clause-works g c = works-then c.loop-index.invariant.works c.put_sector.ensures.works
+returns-in_err-put_sector-clause-works g c = works_then c.loop-index.invariant.works c.put_sector.ensures.works
 
 pub loop-index-preserved : goal.loop-index-preserved
 loop-index-preserved g c =
@@ -22,8 +22,8 @@ loop-index-preserved g c =
     let index = c.loop-index.index in
     let geometry = c.args.geometry.now in
     record {
-      works = works-then i.works c.put_sector.ensures.works;
-      table = λ told. blank-more index (reads (held_in g.S.Store.site g.S.Store.kept g.S.Store.area c.loop-index.store c.args.volume.now)) (reads (held_in g.S.Store.site g.S.Store.kept g.S.Store.area c.put_sector.new.store c.args.volume.now)) c.write_sector.new.to (i.table told) (c.put_sector.ensures.may_put told).others (c.in_ok-put_sector.ensures.put told)
+      works = works_then i.works c.put_sector.ensures.works;
+      table = λ told. blank-more index (reads (held_in (stored g.S.Store c.loop-index.store) c.args.volume.now)) (reads (held_in (stored g.S.Store c.put_sector.new.store) c.args.volume.now)) c.write_sector.new.to (i.table told) (c.put_sector.ensures.may_put told).others (c.in_ok-put_sector.ensures.put told)
           (λ j small. c.write_sector.ensures j small ∙ ap (code (first geometry.entries) geometry.block) (slot_of-blank_map geometry.entries (128 * index + j) c.args.map.now c.requires.blank));
       front = λ told p low. (c.put_sector.ensures.may_put told).others p (λ e. omega arith) ∙ i.front told p low;
     }

@@ -6,9 +6,10 @@ use Rattle.vhd_map.specs.Bitmaps.{is_set}
 use Rattle.vhd_map.specs.Slots.{slot_of}
 use Rattle.vhd_layout.specs.Layouts.{place}
 use Rattle.vhd_layout.proofs.ImageLaws.{place-part}
-use Rattle.vhd_volumes.specs.Steps.{sectors_of, held_in}
+use Rattle.vg_volumes.specs.Stored.{stored, sectors_in, held_in}
+use Rattle.vg_volumes.proofs.StoredLaws.{size_stays, reads_then}
 use Rattle.vhd_volumes.specs.Truth.{layout_in}
-use Rattle.vhd_image.proofs.CallLaws.{only-size, only-reads}
+use Rattle.vhd_image.proofs.CallLaws.{only-reads}
 use Rattle.vhd_image.proofs.ContentLaws.{is-layout, part-in, own-slot, own-no_slot, geometry-ok, place-read, block-read, part-small}
 use Rattle.vhd_image.proofs.reading.own_sector.Goals as goal
 
@@ -17,7 +18,7 @@ returns-in_default-clause-own g c = λ told.
     let e = c.geometry-geometry.ensures in
     let ok = geometry-ok e c.geometry-geometry.result.in_range in
     let geometry = (g.S.Store.site c.args.store.now).geometry in
-    let n = sectors_of g.S.Store.site g.S.Store.kept c.args.store.now c.args.head.now.volume in
+    let n = sectors_in (stored g.S.Store c.args.store.now) c.args.head.now.volume in
     let none : slot_of c.args.map.now (c.args.sector / geometry.block) ≡ None = block-read c.args.map.now c.args.sector None e (search rules) in
     own-no_slot (layout_in geometry c.args.head.now.footer n) _ c.args.head.now.footer c.args.head.now.header _ c.args.sector (is-layout geometry c.args.head.now.footer n ok) (c.requires.true_now told).now c.requires.within none
 
@@ -26,7 +27,7 @@ sector_of-requires g c =
     let e = c.geometry-geometry.ensures in
     let ok = geometry-ok e c.geometry-geometry.result.in_range in
     let geometry = (g.S.Store.site c.args.store.now).geometry in
-    let n = sectors_of g.S.Store.site g.S.Store.kept c.args.store.now c.args.head.now.volume in
+    let n = sectors_in (stored g.S.Store c.args.store.now) c.args.head.now.volume in
     let has = block-read c.args.map.now c.args.sector (Some c.in-Some.slot) e c.in-Some.ensures.slot in
     let inside = part-in geometry n c.args.head.now c.args.map.now ok c.requires.stands (c.args.sector / geometry.block) c.in-Some.slot 0 has (omega arith) in
     omega (arith, inside, c.slot_place-place.ensures.place, place-read c.in-Some.slot e)
@@ -36,8 +37,8 @@ returns-then-not-bit-clause-own g c = λ told.
     let e = c.geometry-geometry.ensures in
     let ok = geometry-ok e c.geometry-geometry.result.in_range in
     let geometry = (g.S.Store.site c.args.store.now).geometry in
-    let n = sectors_of g.S.Store.site g.S.Store.kept c.args.store.now c.args.head.now.volume in
-    let h = held_in g.S.Store.site g.S.Store.kept g.S.Store.area c.args.store.now c.args.head.now.volume in
+    let n = sectors_in (stored g.S.Store c.args.store.now) c.args.head.now.volume in
+    let h = held_in (stored g.S.Store c.args.store.now) c.args.head.now.volume in
     let l = layout_in geometry c.args.head.now.footer n in
     let k = c.in-Some.slot in
     let s = c.args.sector in
@@ -73,7 +74,7 @@ sector_of-requires-2 g c =
     let e = c.geometry-geometry.ensures in
     let ok = geometry-ok e c.geometry-geometry.result.in_range in
     let geometry = (g.S.Store.site c.args.store.now).geometry in
-    let n = sectors_of g.S.Store.site g.S.Store.kept c.args.store.now c.args.head.now.volume in
+    let n = sectors_in (stored g.S.Store c.args.store.now) c.args.head.now.volume in
     let l = layout_in geometry c.args.head.now.footer n in
     let k = c.in-Some.slot in
     let s = c.args.sector in
@@ -81,15 +82,15 @@ sector_of-requires-2 g c =
     let small : s % geometry.block < geometry.block = omega (arith, ok.block_least) in
     let part : s % geometry.block ≡ s % c.geometry-geometry.result.block = ap (λ (x : Geometry). s % x.block) (sym e) in
     let inside = part-in geometry n c.args.head.now c.args.map.now ok c.requires.stands (s / geometry.block) k (1 + s % geometry.block) has (omega arith) in
-    omega (arith, inside, part, c.slot_place-place.ensures.place, place-read k e, place-part l k (1 + s % geometry.block), only-size c.args.head.now.volume c.in_ok-bits.ensures.reads_only)
+    omega (arith, inside, part, c.slot_place-place.ensures.place, place-read k e, place-part l k (1 + s % geometry.block), size_stays c.args.head.now.volume c.in_ok-bits.ensures.reads_only.stays)
 
 pub returns-clause-own : goal.returns-clause-own
 returns-clause-own g c = λ told.
     let e = c.geometry-geometry.ensures in
     let ok = geometry-ok e c.geometry-geometry.result.in_range in
     let geometry = (g.S.Store.site c.args.store.now).geometry in
-    let n = sectors_of g.S.Store.site g.S.Store.kept c.args.store.now c.args.head.now.volume in
-    let h = held_in g.S.Store.site g.S.Store.kept g.S.Store.area c.args.store.now c.args.head.now.volume in
+    let n = sectors_in (stored g.S.Store c.args.store.now) c.args.head.now.volume in
+    let h = held_in (stored g.S.Store c.args.store.now) c.args.head.now.volume in
     let l = layout_in geometry c.args.head.now.footer n in
     let k = c.in-Some.slot in
     let s = c.args.sector in
@@ -102,3 +103,9 @@ returns-clause-own g c = λ told.
     let at : c.slot_place-place.result + 1 + s % c.geometry-geometry.result.block ≡ place l k (1 + s % geometry.block) = omega (arith, part, c.slot_place-place.ensures.place, place-read k e, place-part l k (1 + s % geometry.block)) in
     let given : c.in_ok-to.field-0 ≡ reads h (place l k (1 + s % geometry.block)) = c.in_ok-to.ensures.gave told ∙ (only-reads c.args.head.now.volume c.in_ok-bits.ensures.reads_only told _ ∙ ap (reads h) at) in
     whole ∙ (cond-true (is_set (reads h (place l k 0)) (s % geometry.block)) (Some (reads h (place l k (1 + s % geometry.block)))) None here ∙ ap Some (sym given))
+
+pub returns-in_err-to-clause-reads_only : goal.returns-in_err-to-clause-reads_only
+returns-in_err-to-clause-reads_only g c = reads_then c.sector_of.ensures.reads_only c.sector_of-2.ensures.reads_only
+
+pub returns-clause-reads_only : goal.returns-clause-reads_only
+returns-clause-reads_only g c = reads_then c.sector_of.ensures.reads_only c.sector_of-2.ensures.reads_only

@@ -1,14 +1,15 @@
 use Rattle.std.proofs.Common.{◌≡◌, ◌+◌, None, refl, sym, ◌∙◌, inl, inr, rules, arith}
 use Rattle.sm_disk.proofs.ReachesLaws.{Reaches-wider}
 use Rattle.vhd_map.specs.Slots.{slot_of}
-use Rattle.vhd_write.specs.Passes.{layout_now}
+use Rattle.vg_volumes.specs.Stored.{stored}
+use Rattle.vhd_volumes.specs.Truth.{layout_now}
 use Rattle.vhd_write.proofs.MapLaws.{with_block-held, with_block-new}
 use Rattle.vhd_write.proofs.PartLaws.{place_is, part_as, held-slot-in, part-whole, part-long, held-puts, held-data, held-put, new-put}
 use Rattle.vhd_write.proofs.blocks.put_block.Goals as goal
 
 pub put-requires : goal.put-requires
 put-requires g c =
-    let l = layout_now g.S.Store.site g.S.Store.kept c.args.store.now c.args.head.now in
+    let l = layout_now (stored g.S.Store c.args.store.now) c.args.head.now in
     let p = c.part_of-part.result in
     let part = part_as c.part_of-part.ensures c.requires.sizes (sym c.requires.bytes) in
     let is = place_is c.place_of-at.result _ (g.S.Store.site c.args.store.now).geometry c.in-Some.slot c.in-Some.slot (1 + p.first) c.place_of-at.ensures c.geometry-geometry.ensures refl in
@@ -17,7 +18,7 @@ put-requires g c =
 
 pub returns-in_err-put-clause-reaches : goal.returns-in_err-put-clause-reaches
 returns-in_err-put-clause-reaches g c = λ told.
-    let l = layout_now g.S.Store.site g.S.Store.kept c.args.store.now c.args.head.now in
+    let l = layout_now (stored g.S.Store c.args.store.now) c.args.head.now in
     let p = c.part_of-part.result in
     let part = part_as c.part_of-part.ensures c.requires.sizes (sym c.requires.bytes) in
     let is = place_is c.place_of-at.result _ (g.S.Store.site c.args.store.now).geometry c.in-Some.slot c.in-Some.slot (1 + p.first) c.place_of-at.ensures c.geometry-geometry.ensures refl in
@@ -28,7 +29,7 @@ returns-in-Some-clause-put g c = sym (with_block-held c.args.block c.args.map.no
 
 pub returns-in-Some-clause-reaches : goal.returns-in-Some-clause-reaches
 returns-in-Some-clause-reaches g c = λ told.
-    let l = layout_now g.S.Store.site g.S.Store.kept c.args.store.now c.args.head.now in
+    let l = layout_now (stored g.S.Store c.args.store.now) c.args.head.now in
     let p = c.part_of-part.result in
     let part = part_as c.part_of-part.ensures c.requires.sizes (sym c.requires.bytes) in
     let is = place_is c.place_of-at.result _ (g.S.Store.site c.args.store.now).geometry c.in-Some.slot c.in-Some.slot (1 + p.first) c.place_of-at.ensures c.geometry-geometry.ensures refl in
@@ -36,7 +37,7 @@ returns-in-Some-clause-reaches g c = λ told.
 
 pub returns-in-Some-clause-done : goal.returns-in-Some-clause-done
 returns-in-Some-clause-done g c = λ told.
-    let l = layout_now g.S.Store.site g.S.Store.kept c.args.store.now c.args.head.now in
+    let l = layout_now (stored g.S.Store c.args.store.now) c.args.head.now in
     let p = c.part_of-part.result in
     let part = part_as c.part_of-part.ensures c.requires.sizes (sym c.requires.bytes) in
     let is = place_is c.place_of-at.result _ (g.S.Store.site c.args.store.now).geometry c.in-Some.slot c.in-Some.slot (1 + p.first) c.place_of-at.ensures c.geometry-geometry.ensures refl in
@@ -56,7 +57,7 @@ returns-clause-reaches g c = λ told.
 
 pub returns-clause-done : goal.returns-clause-done
 returns-clause-done g c = λ told.
-    let l = layout_now g.S.Store.site g.S.Store.kept c.args.store.now c.args.head.now in
+    let l = layout_now (stored g.S.Store c.args.store.now) c.args.head.now in
     let p = c.part_of-part.result in
     let part = part_as c.part_of-part.ensures c.requires.sizes (sym c.requires.bytes) in
     new-put l c.args.span.now.sector c.args.from.now c.args.block p.first p.count p.skip part c.args.map.now c.put_new.new.map c.in_ok-put_new.ensures.put (omega (arith, c.requires.within, c.requires.to_end)) (c.in_ok-put_new.ensures.done told)

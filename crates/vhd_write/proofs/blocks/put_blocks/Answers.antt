@@ -2,22 +2,24 @@ use Rattle.std.proofs.Common.{◌≡◌, ◌≢◌, ℕ, ◌+◌, ◌<◌, lengt
 use Rattle.sm_disk.specs.Held.{Reaches, reads}
 use Rattle.sm_disk.proofs.ReachesLaws.{Reaches-none}
 use Rattle.vhd_map.specs.Slots.{slot_of, top_of}
+use Rattle.vg_volumes.specs.Stored.{stored, held_in}
+use Rattle.vg_volumes.proofs.StoredLaws.{works_then, works_none}
+use Rattle.vhd_volumes.specs.Truth.{layout_now}
 use Rattle.vhd_volumes.specs.Writes.{with_block}
-use Rattle.vhd_write.specs.Passes.{layout_now, held_now, PutsBlock, IsPut}
+use Rattle.vhd_write.specs.Passes.{PutsBlock, IsPut}
 use Rattle.vhd_write.specs.Spans.{IsSpan, Given}
 use Rattle.vhd_write.proofs.MapLaws.{given-none, given-more, given-to, top-grown, with_block-gives}
 use Rattle.vhd_write.proofs.PartLaws.{new-slot-in}
 use Rattle.vhd_write.proofs.LoopLaws.{span-order, put-none, put-reaches, put-more}
-use Rattle.vhd_write.proofs.WorkLaws.{works-layout, works-room, room-less}
-use Rattle.vhd_volumes.proofs.StepLaws.{works-none, works-then}
+use Rattle.vhd_write.proofs.WorkLaws.{works_layout, works_room, room-less}
 use Rattle.vhd_write.proofs.blocks.put_blocks.Goals as goal
 
 pub loop-block-init : goal.loop-block-init
 loop-block-init g c =
     let s = c.args.span.now in
-    let l = layout_now g.S.Store.site g.S.Store.kept c.args.store.now c.args.head.now in
+    let l = layout_now (stored g.S.Store c.args.store.now) c.args.head.now in
     record {
-      works = works-none _ _ _ _ _ _ c.args.head.now.volume c.args.store.now;
+      works = works_none c.args.head.now.volume c.args.store.now;
       given = given-none s.first c.args.map.now c.requires.good;
       buffer = refl;
       reaches = λ told. Reaches-none _ _;
@@ -33,10 +35,10 @@ put_block-requires-clause-room g c =
     let next = given-more first block c.args.map.now c.loop-block.map c.loop-block.auto.block in_map i.given in
     let top = top-grown (given-to first (block + 1) c.args.span.now.end c.args.map.now (with_block block c.loop-block.map) (omega (arith, c.loop-block.auto.block)) (omega (arith, c.loop-block-test.true)) next) in
     let room = room-less (g.S.Store.site c.args.store.now).geometry (top_of (with_block block c.loop-block.map)) _ _ top c.requires.room in
-    works-room (top_of (with_block block c.loop-block.map)) i.works room
+    works_room (top_of (with_block block c.loop-block.map)) i.works room
 
 pub returns-in_err-put_block-clause-works : goal.returns-in_err-put_block-clause-works
-returns-in_err-put_block-clause-works g c = works-then c.loop-block.invariant.works c.put_block.ensures.works
+returns-in_err-put_block-clause-works g c = works_then c.loop-block.invariant.works c.put_block.ensures.works
 
 pub returns-in_err-put_block-clause-reaches : goal.returns-in_err-put_block-clause-reaches
 returns-in_err-put_block-clause-reaches g c = λ told.
@@ -47,9 +49,9 @@ returns-in_err-put_block-clause-reaches g c = λ told.
     let next = given-more first block c.args.map.now c.loop-block.map c.loop-block.auto.block in_map i.given in
     let top = top-grown (given-to first (block + 1) c.args.span.now.end c.args.map.now (with_block block c.loop-block.map) (omega (arith, c.loop-block.auto.block)) (omega (arith, c.loop-block-test.true)) next) in
     let room = room-less (g.S.Store.site c.args.store.now).geometry (top_of (with_block block c.loop-block.map)) _ _ top c.requires.room in
-    let l = layout_now g.S.Store.site g.S.Store.kept c.args.store.now c.args.head.now in
+    let l = layout_now (stored g.S.Store c.args.store.now) c.args.head.now in
     let new_in = λ (none : slot_of c.loop-block.map block ≡ None). new-slot-in l c.loop-block.map block none (omega (arith, in_map, i.given.grown.long)) room in
-    let step = λ (told : g.S.Store.told). subst (λ x. Reaches (PutsBlock x c.args.span.now.sector c.args.from.now c.loop-block.map block) (held_now g.S.Store.site g.S.Store.kept g.S.Store.area c.loop-block.store c.args.head.now) (held_now g.S.Store.site g.S.Store.kept g.S.Store.area c.put_block.new.store c.args.head.now)) (works-layout c.args.head.now i.works) (c.put_block.ensures.reaches told) in
+    let step = λ (told : g.S.Store.told). subst (λ x. Reaches (PutsBlock x c.args.span.now.sector c.args.from.now c.loop-block.map block) (held_in (stored g.S.Store c.loop-block.store) c.args.head.now.volume) (held_in (stored g.S.Store c.put_block.new.store) c.args.head.now.volume)) (works_layout c.args.head.now i.works) (c.put_block.ensures.reaches told) in
     put-reaches l c.args.span.now.sector c.args.from.now first block c.args.map.now c.loop-block.map i.given c.loop-block.auto.block new_in (i.reaches told) (step told)
 
 pub loop-block-preserved : goal.loop-block-preserved
@@ -61,18 +63,18 @@ loop-block-preserved g c =
     let next = given-more first block c.args.map.now c.loop-block.map c.loop-block.auto.block in_map i.given in
     let top = top-grown (given-to first (block + 1) c.args.span.now.end c.args.map.now (with_block block c.loop-block.map) (omega (arith, c.loop-block.auto.block)) (omega (arith, c.loop-block-test.true)) next) in
     let room = room-less (g.S.Store.site c.args.store.now).geometry (top_of (with_block block c.loop-block.map)) _ _ top c.requires.room in
-    let l = layout_now g.S.Store.site g.S.Store.kept c.args.store.now c.args.head.now in
+    let l = layout_now (stored g.S.Store c.args.store.now) c.args.head.now in
     let new_in = λ (none : slot_of c.loop-block.map block ≡ None). new-slot-in l c.loop-block.map block none (omega (arith, in_map, i.given.grown.long)) room in
-    let step = λ (told : g.S.Store.told). subst (λ x. Reaches (PutsBlock x c.args.span.now.sector c.args.from.now c.loop-block.map block) (held_now g.S.Store.site g.S.Store.kept g.S.Store.area c.loop-block.store c.args.head.now) (held_now g.S.Store.site g.S.Store.kept g.S.Store.area c.put_block.new.store c.args.head.now)) (works-layout c.args.head.now i.works) (c.put_block.ensures.reaches told) in
+    let step = λ (told : g.S.Store.told). subst (λ x. Reaches (PutsBlock x c.args.span.now.sector c.args.from.now c.loop-block.map block) (held_in (stored g.S.Store c.loop-block.store) c.args.head.now.volume) (held_in (stored g.S.Store c.put_block.new.store) c.args.head.now.volume)) (works_layout c.args.head.now i.works) (c.put_block.ensures.reaches told) in
     let is = c.in_ok-put_block.ensures.put in
     let others = λ (b : ℕ) (apart : b ≢ block). ap (λ n. slot_of n b) is ∙ (with_block-gives block c.loop-block.map).others b apart in
     record {
-      works = works-then i.works c.put_block.ensures.works;
+      works = works_then i.works c.put_block.ensures.works;
       given = subst (Given first (block + 1) c.args.map.now) (sym is) next;
       buffer = c.put_block.auto.buffer ∙ i.buffer;
       reaches = λ told. put-reaches l c.args.span.now.sector c.args.from.now first block c.args.map.now c.loop-block.map i.given c.loop-block.auto.block new_in (i.reaches told) (step told);
       done = λ told. put-more l c.args.span.now.sector c.args.from.now first block c.args.map.now c.loop-block.map i.given c.loop-block.auto.block new_in is others (step told) (i.done told)
-          (subst (λ x. IsPut x c.args.span.now.sector c.args.from.now (slot_of c.loop-block.map block) (slot_of c.put_block.new.map block) block (reads (held_now g.S.Store.site g.S.Store.kept g.S.Store.area c.put_block.new.store c.args.head.now))) (works-layout c.args.head.now i.works) (c.in_ok-put_block.ensures.done told));
+          (subst (λ x. IsPut x c.args.span.now.sector c.args.from.now (slot_of c.loop-block.map block) (slot_of c.put_block.new.map block) block (reads (held_in (stored g.S.Store c.put_block.new.store) c.args.head.now.volume))) (works_layout c.args.head.now i.works) (c.in_ok-put_block.ensures.done told));
     }
 
 pub returns-clause-given : goal.returns-clause-given

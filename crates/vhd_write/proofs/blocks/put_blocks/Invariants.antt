@@ -1,22 +1,23 @@
 use Rattle.std.proofs.Common.{◌≡◌, length}
 use Rattle.sm_disk.specs.Held.{Reaches, reads}
 use Rattle.vhd_map.specs.Slots.{slot_of}
-use Rattle.vhd_volumes.specs.Steps.{WorksOn}
-use Rattle.vhd_write.specs.Passes.{layout_now, held_now, PutsData, ArePut}
+use Rattle.vg_volumes.specs.Stored.{stored, held_in, WorksOn}
+use Rattle.vhd_volumes.specs.Truth.{layout_now}
+use Rattle.vhd_write.specs.Passes.{PutsData, ArePut}
 use Rattle.vhd_write.specs.Spans.{Given}
 use Rattle.vhd_write.proofs.blocks.put_blocks.Given as goal
 
 -- the blocks below the counter are put
 abbrev pub invariant-loop-block : goal.invariant-loop-block
 invariant-loop-block g l = record {
-  works : WorksOn g.S.Store.told g.S.Store.site g.S.Store.kept g.S.Store.area g.S.Store.failed g.S.Store.faults l.head.volume l.fn.store l.store;
+  works : WorksOn g.S.Store l.head.volume l.fn.store l.store;
   given : Given l.span.first l.block l.fn.map l.map;
   buffer : length l.buffer ≡ length l.fn.buffer;
   reaches : g.S.Store.told
-      → Reaches (PutsData (layout_now g.S.Store.site g.S.Store.kept l.fn.store l.head) l.span.sector l.from (slot_of l.fn.map))
-      (held_now g.S.Store.site g.S.Store.kept g.S.Store.area l.fn.store l.head)
-      (held_now g.S.Store.site g.S.Store.kept g.S.Store.area l.store l.head);
+      → Reaches (PutsData (layout_now (stored g.S.Store l.fn.store) l.head) l.span.sector l.from (slot_of l.fn.map))
+      (held_in (stored g.S.Store l.fn.store) l.head.volume)
+      (held_in (stored g.S.Store l.store) l.head.volume);
   done : g.S.Store.told
-      → ArePut (layout_now g.S.Store.site g.S.Store.kept l.fn.store l.head) l.span.sector l.from (slot_of l.fn.map) (slot_of l.map) l.block
-      (reads (held_now g.S.Store.site g.S.Store.kept g.S.Store.area l.store l.head));
+      → ArePut (layout_now (stored g.S.Store l.fn.store) l.head) l.span.sector l.from (slot_of l.fn.map) (slot_of l.map) l.block
+      (reads (held_in (stored g.S.Store l.store) l.head.volume));
 }

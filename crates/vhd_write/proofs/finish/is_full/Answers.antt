@@ -1,13 +1,15 @@
 use Rattle.std.proofs.Common.{◌*◌, refl, sym, ap, ◌∙◌, subst}
 use Rattle.sm_disk.specs.Held.{reads}
-use Rattle.vhd_write.specs.Passes.{layout_now, held_now, HasBits}
+use Rattle.vg_volumes.specs.Stored.{stored, held_in}
+use Rattle.vhd_volumes.specs.Truth.{layout_now}
+use Rattle.vhd_write.specs.Passes.{HasBits}
 use Rattle.vhd_write.proofs.PartLaws.{place_is, part_as, slot-in}
 use Rattle.vhd_write.proofs.BitLaws.{on_true, place-low, bits-all}
 use Rattle.vhd_write.proofs.finish.is_full.Goals as goal
 
 pub get-requires : goal.get-requires
 get-requires g c =
-    let l = layout_now g.S.Store.site g.S.Store.kept c.args.store.now c.args.head.now in
+    let l = layout_now (stored g.S.Store c.args.store.now) c.args.head.now in
     let s = c.args.span.now in
     let p = c.part_of-part.result in
     let slot = c.in-Some.slot in
@@ -19,7 +21,7 @@ get-requires g c =
 
 pub returns-clause-full : goal.returns-clause-full
 returns-clause-full g c =
-    let l = layout_now g.S.Store.site g.S.Store.kept c.args.store.now c.args.head.now in
+    let l = layout_now (stored g.S.Store c.args.store.now) c.args.head.now in
     let s = c.args.span.now in
     let p = c.part_of-part.result in
     let slot = c.in-Some.slot in
@@ -31,6 +33,6 @@ returns-clause-full g c =
       slot,
       has,
       λ told. subst (λ x. HasBits l s.sector (512 * s.count) c.args.block x)
-          (c.in_ok-bitmap.ensures.gave told ∙ ap (reads (held_now g.S.Store.site g.S.Store.kept g.S.Store.area c.args.store.now c.args.head.now)) is)
+          (c.in_ok-bitmap.ensures.gave told ∙ ap (reads (held_in (stored g.S.Store c.args.store.now) c.args.head.now.volume)) is)
           (bits-all l c.args.block s.sector (512 * s.count) p.first p.count p.skip part c.in_ok-bitmap.bitmap set),
     )) c.has_bits.ensures.all

@@ -1,40 +1,42 @@
 use Rattle.std.proofs.Common.{◌*◌, subst}
 use Rattle.sm_disk.specs.Held.{Reaches, reads}
 use Rattle.vhd_map.specs.Slots.{slot_of}
-use Rattle.vhd_write.specs.Passes.{layout_now, held_now, PutsBitsOf, AreSet}
+use Rattle.vg_volumes.specs.Stored.{stored, held_in}
+use Rattle.vg_volumes.proofs.StoredLaws.{works_then}
+use Rattle.vhd_volumes.specs.Truth.{layout_now}
+use Rattle.vhd_write.specs.Passes.{PutsBitsOf, AreSet}
 use Rattle.vhd_write.proofs.BitLaws.{bits-reaches, bits-done}
-use Rattle.vhd_write.proofs.WorkLaws.{works-layout}
-use Rattle.vhd_volumes.proofs.StepLaws.{works-then}
+use Rattle.vhd_write.proofs.WorkLaws.{works_layout}
 use Rattle.vhd_write.proofs.finish.set_bitmaps.Goals as goal
 
 pub returns-in_err-set_bitmap-clause-works : goal.returns-in_err-set_bitmap-clause-works
-returns-in_err-set_bitmap-clause-works g c = works-then c.loop-block.invariant.works c.set_bitmap.ensures.works
+returns-in_err-set_bitmap-clause-works g c = works_then c.loop-block.invariant.works c.set_bitmap.ensures.works
 
 pub returns-in_err-set_bitmap-clause-reaches : goal.returns-in_err-set_bitmap-clause-reaches
 returns-in_err-set_bitmap-clause-reaches g c = λ told.
     let i = c.loop-block.invariant in
     let s = c.args.span.now in
-    let l = layout_now g.S.Store.site g.S.Store.kept c.args.store.now c.args.head.now in
+    let l = layout_now (stored g.S.Store c.args.store.now) c.args.head.now in
     let block = c.loop-block.block in
     let n = c.args.map.now in
-    let before = held_now g.S.Store.site g.S.Store.kept g.S.Store.area c.loop-block.store c.args.head.now in
-    let after = held_now g.S.Store.site g.S.Store.kept g.S.Store.area c.set_bitmap.new.store c.args.head.now in
-    let step = subst (λ x. Reaches (PutsBitsOf x s.sector (512 * s.count) (slot_of n block) block (reads before)) before after) (works-layout c.args.head.now i.works) (c.set_bitmap.ensures.reaches told) in
+    let before = held_in (stored g.S.Store c.loop-block.store) c.args.head.now.volume in
+    let after = held_in (stored g.S.Store c.set_bitmap.new.store) c.args.head.now.volume in
+    let step = subst (λ x. Reaches (PutsBitsOf x s.sector (512 * s.count) (slot_of n block) block (reads before)) before after) (works_layout c.args.head.now i.works) (c.set_bitmap.ensures.reaches told) in
     bits-reaches l s.sector (512 * s.count) n c.requires.good block (i.reaches told) step
 
 pub loop-block-preserved : goal.loop-block-preserved
 loop-block-preserved g c =
     let i = c.loop-block.invariant in
     let s = c.args.span.now in
-    let l = layout_now g.S.Store.site g.S.Store.kept c.args.store.now c.args.head.now in
+    let l = layout_now (stored g.S.Store c.args.store.now) c.args.head.now in
     let block = c.loop-block.block in
     let n = c.args.map.now in
-    let before = held_now g.S.Store.site g.S.Store.kept g.S.Store.area c.loop-block.store c.args.head.now in
-    let after = held_now g.S.Store.site g.S.Store.kept g.S.Store.area c.set_bitmap.new.store c.args.head.now in
-    let same = works-layout c.args.head.now i.works in
+    let before = held_in (stored g.S.Store c.loop-block.store) c.args.head.now.volume in
+    let after = held_in (stored g.S.Store c.set_bitmap.new.store) c.args.head.now.volume in
+    let same = works_layout c.args.head.now i.works in
     let step = λ (told : g.S.Store.told). subst (λ x. Reaches (PutsBitsOf x s.sector (512 * s.count) (slot_of n block) block (reads before)) before after) same (c.set_bitmap.ensures.reaches told) in
     record {
-      works = works-then i.works c.set_bitmap.ensures.works;
+      works = works_then i.works c.set_bitmap.ensures.works;
       reaches = λ told. bits-reaches l s.sector (512 * s.count) n c.requires.good block (i.reaches told) (step told);
       done = λ told. bits-done l s.sector (512 * s.count) n c.requires.good s.first block (step told) (i.done told)
           (subst (λ x. AreSet x s.sector (512 * s.count) (slot_of n block) block (reads after)) same (c.in_ok-set_bitmap.ensures.done told));

@@ -3,13 +3,15 @@ use Rattle.sm_base.specs.declared.sizes.Geometry.{Geometry}
 use Rattle.vhd_map.specs.Slots.{slot_of}
 use Rattle.sm_base.specs.Numbers.{first}
 use Rattle.vhd_map.specs.Places.{code, word}
-use Rattle.vhd_write.specs.Passes.{layout_now, IsTableSector}
+use Rattle.vg_volumes.specs.Stored.{stored}
+use Rattle.vhd_volumes.specs.Truth.{layout_now}
+use Rattle.vhd_write.specs.Passes.{IsTableSector}
 use Rattle.vhd_write.proofs.BitLaws.{table-low, table-reaches, table-done, sector-whole}
 use Rattle.vhd_write.proofs.tables.put_entries.Goals as goal
 
 pub put-requires : goal.put-requires
 put-requires g c =
-    let l = layout_now g.S.Store.site g.S.Store.kept c.args.store.now c.args.head.now in
+    let l = layout_now (stored g.S.Store c.args.store.now) c.args.head.now in
     let m = slot_of c.args.map.now in
     let within : 128 * c.args.index < l.entries = omega (arith, c.requires.within, c.requires.entries) in
     let low = table-low l c.args.index refl within in
@@ -17,7 +19,7 @@ put-requires g c =
 
 pub returns-in_err-put-clause-reaches : goal.returns-in_err-put-clause-reaches
 returns-in_err-put-clause-reaches g c = λ told.
-    let l = layout_now g.S.Store.site g.S.Store.kept c.args.store.now c.args.head.now in
+    let l = layout_now (stored g.S.Store c.args.store.now) c.args.head.now in
     let m = slot_of c.args.map.now in
     let within : 128 * c.args.index < l.entries = omega (arith, c.requires.within, c.requires.entries) in
     let low = table-low l c.args.index refl within in
@@ -28,7 +30,7 @@ returns-in_err-put-clause-reaches g c = λ told.
 
 pub returns-clause-reaches : goal.returns-clause-reaches
 returns-clause-reaches g c = λ told.
-    let l = layout_now g.S.Store.site g.S.Store.kept c.args.store.now c.args.head.now in
+    let l = layout_now (stored g.S.Store c.args.store.now) c.args.head.now in
     let m = slot_of c.args.map.now in
     let within : 128 * c.args.index < l.entries = omega (arith, c.requires.within, c.requires.entries) in
     let low = table-low l c.args.index refl within in
@@ -39,7 +41,7 @@ returns-clause-reaches g c = λ told.
 
 pub returns-clause-done : goal.returns-clause-done
 returns-clause-done g c = λ told.
-    let l = layout_now g.S.Store.site g.S.Store.kept c.args.store.now c.args.head.now in
+    let l = layout_now (stored g.S.Store c.args.store.now) c.args.head.now in
     let m = slot_of c.args.map.now in
     let within : 128 * c.args.index < l.entries = omega (arith, c.requires.within, c.requires.entries) in
     let low = table-low l c.args.index refl within in

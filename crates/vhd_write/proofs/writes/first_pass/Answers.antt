@@ -2,35 +2,36 @@ use Rattle.std.proofs.Common.{subst}
 use Rattle.sm_disk.specs.Held.{reads}
 use Rattle.sm_disk.proofs.ReachesLaws.{Reaches-same}
 use Rattle.vhd_map.specs.Slots.{slot_of}
-use Rattle.vhd_write.specs.Passes.{held_now, ArePut}
-use Rattle.vhd_write.proofs.WorkLaws.{works-layout, works-room}
-use Rattle.vhd_volumes.proofs.StepLaws.{works-then}
+use Rattle.vg_volumes.specs.Stored.{stored, held_in}
+use Rattle.vg_volumes.proofs.StoredLaws.{works_then}
+use Rattle.vhd_write.specs.Passes.{ArePut}
+use Rattle.vhd_write.proofs.WorkLaws.{works_layout, works_room}
 use Rattle.vhd_write.proofs.TopLaws.{first-puts}
 use Rattle.vhd_write.proofs.writes.first_pass.Goals as goal
 
 pub put_blocks-requires-clause-room : goal.put_blocks-requires-clause-room
-put_blocks-requires-clause-room g c = works-room _ c.is_complete.ensures.works c.requires.slots
+put_blocks-requires-clause-room g c = works_room _ c.is_complete.ensures.works c.requires.slots
 
 pub returns-in_err-put_blocks-clause-works : goal.returns-in_err-put_blocks-clause-works
-returns-in_err-put_blocks-clause-works g c = works-then c.is_complete.ensures.works c.put_blocks.ensures.works
+returns-in_err-put_blocks-clause-works g c = works_then c.is_complete.ensures.works c.put_blocks.ensures.works
 
 pub returns-clause-works : goal.returns-clause-works
-returns-clause-works g c = works-then c.is_complete.ensures.works c.put_blocks.ensures.works
+returns-clause-works g c = works_then c.is_complete.ensures.works c.put_blocks.ensures.works
 
 pub returns-in_err-complete-clause-reaches : goal.returns-in_err-complete-clause-reaches
 returns-in_err-complete-clause-reaches g c = λ told. Reaches-same _ (c.is_complete.ensures.same told)
 
 pub returns-in_err-put_blocks-clause-reaches : goal.returns-in_err-put_blocks-clause-reaches
 returns-in_err-put_blocks-clause-reaches g c = λ told.
-    first-puts c.args.from.now (slot_of c.args.map.now) (works-layout c.args.head.now c.is_complete.ensures.works) (c.is_complete.ensures.same told) (c.put_blocks.ensures.reaches told)
+    first-puts c.args.from.now (slot_of c.args.map.now) (works_layout c.args.head.now c.is_complete.ensures.works) (c.is_complete.ensures.same told) (c.put_blocks.ensures.reaches told)
 
 pub returns-clause-reaches : goal.returns-clause-reaches
 returns-clause-reaches g c = λ told.
-    first-puts c.args.from.now (slot_of c.args.map.now) (works-layout c.args.head.now c.is_complete.ensures.works) (c.is_complete.ensures.same told) (c.put_blocks.ensures.reaches told)
+    first-puts c.args.from.now (slot_of c.args.map.now) (works_layout c.args.head.now c.is_complete.ensures.works) (c.is_complete.ensures.same told) (c.put_blocks.ensures.reaches told)
 
 pub returns-clause-done : goal.returns-clause-done
 returns-clause-done g c = λ told.
     let s = c.args.span.now in
-    let mid = held_now g.S.Store.site g.S.Store.kept g.S.Store.area c.put_blocks.new.store c.args.head.now in
+    let mid = held_in (stored g.S.Store c.put_blocks.new.store) c.args.head.now.volume in
     subst (λ l. ArePut l s.sector c.args.from.now (slot_of c.args.map.now) (slot_of c.put_blocks.new.map) s.end (reads mid))
-    (works-layout c.args.head.now c.is_complete.ensures.works) (c.in_ok-put_blocks.ensures.done told)
+    (works_layout c.args.head.now c.is_complete.ensures.works) (c.in_ok-put_blocks.ensures.done told)

@@ -1,6 +1,6 @@
-use Rattle.vhd_volumes.proofs.StepLaws.{works-then}
+use Rattle.vg_volumes.proofs.StoredLaws.{works_then}
 use Rattle.vhd_write.proofs.LoopLaws.{true_on}
-use Rattle.vhd_write.proofs.WorkLaws.{works-layout, works-room}
+use Rattle.vhd_write.proofs.WorkLaws.{works_layout, works_room}
 use Rattle.vhd_write.proofs.TopLaws.{room-all, new-map, new-room, new-stands, guarded-now, heads-now, still-now, written-now, guarded-then, heads-then, still-then, written-then}
 use Rattle.vhd_write.proofs.writes.write_with.Goals as goal
 
@@ -8,16 +8,16 @@ pub first_pass-requires-clause-slots : goal.first_pass-requires-clause-slots
 first_pass-requires-clause-slots g c = room-all c.args.from.now c.requires.stands c.requires.whole c.requires.slots c.span_of-span.ensures
 
 pub finish-requires-clause-room : goal.finish-requires-clause-room
-finish-requires-clause-room g c = works-room _ c.first_pass.ensures.works
+finish-requires-clause-room g c = works_room _ c.first_pass.ensures.works
     (new-room c.args.from.now c.requires.stands c.requires.whole c.requires.slots c.span_of-span.ensures c.in_ok-complete.ensures.given)
 
 -- ---- the store
 
 pub returns-in_err-finish-clause-works : goal.returns-in_err-finish-clause-works
-returns-in_err-finish-clause-works g c = works-then c.first_pass.ensures.works c.finish.ensures.works
+returns-in_err-finish-clause-works g c = works_then c.first_pass.ensures.works c.finish.ensures.works
 
 pub returns-clause-works : goal.returns-clause-works
-returns-clause-works g c = works-then c.first_pass.ensures.works c.finish.ensures.works
+returns-clause-works g c = works_then c.first_pass.ensures.works c.finish.ensures.works
 
 -- ---- the map
 
@@ -70,29 +70,29 @@ returns-then-complete-clause-written g c = λ told.
 pub returns-in_err-finish-clause-guarded : goal.returns-in_err-finish-clause-guarded
 returns-in_err-finish-clause-guarded g c = λ told.
     guarded-then c.args.from.now c.requires.stands c.requires.whole c.requires.slots c.span_of-span.ensures (c.requires.is_true told) (c.first_pass.ensures.reaches told)
-    c.in_ok-complete.ensures.given (c.in_ok-complete.ensures.done told) (works-layout c.args.head.now c.first_pass.ensures.works) (c.finish.ensures.goes told)
+    c.in_ok-complete.ensures.given (c.in_ok-complete.ensures.done told) (works_layout c.args.head.now c.first_pass.ensures.works) (c.finish.ensures.goes told)
 
 pub returns-in_err-finish-clause-heads : goal.returns-in_err-finish-clause-heads
 returns-in_err-finish-clause-heads g c = λ told.
     heads-then c.args.from.now c.requires.stands c.requires.whole c.requires.slots c.span_of-span.ensures (c.requires.is_true told) (c.first_pass.ensures.reaches told)
-    c.in_ok-complete.ensures.given (c.in_ok-complete.ensures.done told) (works-layout c.args.head.now c.first_pass.ensures.works) (c.finish.ensures.goes told)
+    c.in_ok-complete.ensures.given (c.in_ok-complete.ensures.done told) (works_layout c.args.head.now c.first_pass.ensures.works) (c.finish.ensures.goes told)
 
 pub returns-clause-guarded : goal.returns-clause-guarded
 returns-clause-guarded g c = λ told.
     guarded-then c.args.from.now c.requires.stands c.requires.whole c.requires.slots c.span_of-span.ensures (c.requires.is_true told) (c.first_pass.ensures.reaches told)
-    c.in_ok-complete.ensures.given (c.in_ok-complete.ensures.done told) (works-layout c.args.head.now c.first_pass.ensures.works) (c.finish.ensures.goes told)
+    c.in_ok-complete.ensures.given (c.in_ok-complete.ensures.done told) (works_layout c.args.head.now c.first_pass.ensures.works) (c.finish.ensures.goes told)
 
 pub returns-clause-heads : goal.returns-clause-heads
 returns-clause-heads g c = λ told.
     heads-then c.args.from.now c.requires.stands c.requires.whole c.requires.slots c.span_of-span.ensures (c.requires.is_true told) (c.first_pass.ensures.reaches told)
-    c.in_ok-complete.ensures.given (c.in_ok-complete.ensures.done told) (works-layout c.args.head.now c.first_pass.ensures.works) (c.finish.ensures.goes told)
+    c.in_ok-complete.ensures.given (c.in_ok-complete.ensures.done told) (works_layout c.args.head.now c.first_pass.ensures.works) (c.finish.ensures.goes told)
 
 pub returns-clause-still : goal.returns-clause-still
 returns-clause-still g c = λ told.
     still-then c.args.from.now c.requires.stands c.requires.whole c.requires.slots c.span_of-span.ensures (c.requires.is_true told) (c.first_pass.ensures.reaches told)
-    c.in_ok-complete.ensures.given (c.in_ok-complete.ensures.done told) (works-layout c.args.head.now c.first_pass.ensures.works) c.has_slots-held.ensures.all (c.in_ok-finish.ensures.done told)
+    c.in_ok-complete.ensures.given (c.in_ok-complete.ensures.done told) (works_layout c.args.head.now c.first_pass.ensures.works) c.has_slots-held.ensures.all (c.in_ok-finish.ensures.done told)
 
 pub returns-clause-written : goal.returns-clause-written
 returns-clause-written g c = λ told.
     written-then c.args.from.now c.requires.stands c.requires.whole c.requires.slots c.span_of-span.ensures (c.requires.is_true told) (c.first_pass.ensures.reaches told)
-    c.in_ok-complete.ensures.given (c.in_ok-complete.ensures.done told) (works-layout c.args.head.now c.first_pass.ensures.works) c.has_slots-held.ensures.all (c.in_ok-finish.ensures.done told)
+    c.in_ok-complete.ensures.given (c.in_ok-complete.ensures.done told) (works_layout c.args.head.now c.first_pass.ensures.works) c.has_slots-held.ensures.all (c.in_ok-finish.ensures.done told)

@@ -5,7 +5,7 @@ use Rattle.std.specs.Ordering.{nat_cmp}
 use Rattle.std.specs.List.Sorted.{IsStrictlySortedBy}
 use Rattle.std.proofs.lemmas.List.{map_push, length-map}
 use Rattle.std.proofs.lemmas.Map.Iter.{rest_so_far, rest_more, iter_turn, iter_end}
-use Rattle.sm_disk.specs.Memory.{Slots, pick}
+use Rattle.sm_disk.specs.Memory.{WrittenPlaces, pick}
 use Rattle.sm_disk.proofs.LeftLaws.{left_of, rested, left_of-turn, weights, weights-push, weights-le, AllSectors-left_of, IsLeft-left_of}
 use Rattle.sm_disk.proofs.places.Places.left.Goals as goal
 
@@ -26,7 +26,7 @@ loop-place-preserved c =
     let next = rest_more deref_pair _ _ _ (c.in-Some.place, c.in-Some.slot) c.in-Some.is c.next.ensures.steps in
     let split : c.self.inside.slots.entries ≡ xs ++ (place, slot) ∷ c.next.new.self =
     sym given.0 ∙ rest_so_far deref_pair c.loop-place.yielded _ _ c.loop-place.yielded_by ∙ ap (λ l. xs ++ l) next in
-    let P : Slots → Type 0 = λ l. IsStrictlySortedBy nat_cmp (keys_of l) in
+    let P : WrittenPlaces → Type 0 = λ l. IsStrictlySortedBy nat_cmp (keys_of l) in
     let rests : c.at_rest-slot_left.result ≡ rested slot (pick choice before) =
     rw (c.at_rest-slot_left.ensures, c.value.ensures, c.pick.ensures) in
     let pushed = map_push deref_pair c.loop-place.yielded (c.in-Some.place, c.in-Some.slot) in

@@ -26,4 +26,4 @@ returns-in-Err-clause-kept g c = λ told ready.
     kept_either _ _ _ _ e.site (e.taken told ready.1).crash
 
 pub returns-in-Ok-clause-untouched : goal.returns-in-Ok-clause-untouched
-returns-in-Ok-clause-untouched g c = λ told no. (c.in-Ok.ensures.untouched no).same_area told
+returns-in-Ok-clause-untouched g c = λ told no. (c.in-Ok.ensures.untouched no).held told

@@ -1,13 +1,13 @@
 use Rattle.std.proofs.Common.{◌-◌, ◌^◌, ◌<◌, length, refl, sym, ◌∙◌, ⊎_elim, arith}
 use Rattle.std.proofs.lemmas.List.{nil_from_length}
 use Rattle.std.proofs.lemmas.Bool.{true≢false, eqb-true, eq-eqb, cases_eq}
-use Rattle.vg_meta.specs.Kept.{rows_alone}
+use Rattle.vg_meta.specs.Roomy.{rows_alone}
 use Rattle.vg_meta.specs.Stopped.{IsCut}
 use Rattle.vg_meta.proofs.WriteLaws.{length-rows}
 use Rattle.vg_meta.proofs.ByName.{IsTable-wider}
 use Rattle.vg_meta.proofs.DecodeLaws.{damaged_first, damaged_sequence, damaged_volume, damaged_end, spells_whole}
 use Rattle.vg_meta.specs.Reading.{no_number, Spells}
-use Rattle.vg_meta.specs.Tables.{Listing}
+use Rattle.vg_meta.specs.Tables.{VolumeTable}
 use Rattle.vg_meta.proofs.tables.Table.decode.Goals as goal
 
 pub returns-in_default-clause-fault : goal.returns-in_default-clause-fault
@@ -41,7 +41,7 @@ returns-then-not-is_empty-clause-fault c =
       c.told-at-then-not-is_empty.ensures,
     )
 
-whole : (c : goal.Else-not-is_empty) → (let t : Listing = record { sequence = c.in-Some.seq; volumes = rows_alone c.in-Ok.read.0.items } in Spells c.args.extents c.args.bytes.now t)
+whole : (c : goal.Else-not-is_empty) → (let t : VolumeTable = record { sequence = c.in-Some.seq; volumes = rows_alone c.in-Ok.read.0.items } in Spells c.args.extents c.args.bytes.now t)
 whole c =
     spells_whole c.args.extents c.in-Some.seq c.in-Some-number_at.number c.args.bytes.now c.in-Some.rest.now c.in-Some-number_at.rest.now c.in-Ok.read.1.now (rows_alone c.in-Ok.read.0.items)
     c.in-Some.ensures.number c.in-Some-number_at.ensures.number (omega arith) c.in-Some-number_at.ensures.fits (omega arith) c.in-Ok.ensures.text c.in-Ok.ensures.volumes

@@ -1,5 +1,5 @@
 use Rattle.std.proofs.Common.{◌*◌}
-use Rattle.vg_meta.specs.Kept.{listing}
+use Rattle.vg_meta.specs.Roomy.{table_alone}
 use Rattle.vg_meta.specs.Text.{text}
 use Rattle.vg_layout.specs.Fields.{plate, pointer}
 use Rattle.vg_store.proofs.ImageLaws.{plate_few}
@@ -10,5 +10,5 @@ pub returns-clause-leaves : goal.returns-clause-leaves
 returns-clause-leaves g c = λ told usable u image left.
     let s = c.args.self in
     let rests = s.rests told usable in
-    leaves_before (g.D.Disk.size s.disk) (s.label.extents * s.label.geometry.extent) (g.D.Disk.held s.disk) (plate s.label) (pointer s.header) (listing s.table) u (text (listing s.table)) image s.area
+    leaves_before (g.D.Disk.size s.disk) (s.label.extents * s.label.geometry.extent) (g.D.Disk.held s.disk) (plate s.label) (pointer s.header) (table_alone s.table) u (text (table_alone s.table)) image s.area
     (record { rests = rests; summed = s.summed; spelled = s.spelled; few = plate_few _ _ (plate s.label) rests.labelled }) left

@@ -1,5 +1,5 @@
 use Rattle.std.proofs.Common.{◌≤◌, ◌+◌, ◌*◌, refl}
-use Rattle.vg_meta.specs.Kept.{listing}
+use Rattle.vg_meta.specs.Roomy.{table_alone}
 use Rattle.vg_meta.specs.Text.{text}
 use Rattle.vg_layout.specs.Fields.{plate, pointer}
 use Rattle.vg_layout.specs.Places.{area_place}
@@ -12,7 +12,7 @@ invariant_of-result g c =
     let d = g.D.Disk in
     let l = c.in-Ok-find.field-0.label in
     let h = c.in-Ok-find.field-0.header in
-    let t = listing c.in-Ok-find.field-0.table in
+    let t = table_alone c.in-Ok-find.field-0.table in
     let size = d.size c.find.new.disk in
     let fits : area_place + l.extents * l.geometry.extent ≤ size = rw c.find.ensures.size c.in-Ok-find.ensures.area in
     let group : d.told → IsGroup size (d.held c.find.new.disk) (plate l) (pointer h) t (text t) =
@@ -39,7 +39,7 @@ returns-in-Ok-find-clause-settled g c = λ told. opened_settled (c.in-Ok-sync.en
 pub returns-in-Ok-find-clause-stands : goal.returns-in-Ok-find-clause-stands
 returns-in-Ok-find-clause-stands g c = λ told.
     let d = g.D.Disk in
-    let t = listing c.in-Ok-find.field-0.table in
+    let t = table_alone c.in-Ok-find.field-0.table in
     let found : IsFound (d.size c.sync.new.self) (d.held c.sync.new.self) (plate c.in-Ok-find.field-0.label) (pointer c.in-Ok-find.field-0.header) t (text t) =
     record { labelled = c.in-Ok-find.ensures.label told; headed = c.in-Ok-find.ensures.header told; text = c.in-Ok-find.ensures.stands told; summed = c.in-Ok-find.ensures.summed; spelled = c.in-Ok-find.ensures.spelled } in
     rw (← c.sync.ensures.size)

@@ -1,6 +1,6 @@
 use Rattle.std.proofs.Common.{◌*◌, arith}
 use Rattle.vg_layout.specs.Fields.{plate}
-use Rattle.vg_meta.specs.Kept.{listing}
+use Rattle.vg_meta.specs.Roomy.{table_alone}
 use Rattle.sm_disk.proofs.HeldLaws.{Keeps-same}
 use Rattle.vg_store.proofs.BesideLaws.{beside_kept}
 use Rattle.vg_store.proofs.HoldingLaws.{no_more-same, rests_still, stands_still}
@@ -10,7 +10,7 @@ use Rattle.vg_store.proofs.stores.GroupStore.read.Goals as goal
 pub read_volume-requires-clause-on : goal.read_volume-requires-clause-on
 read_volume-requires-clause-on g c =
     let s = c.args.self.now in
-    extents_on_device (g.D.Disk.size s.disk) s.label.extents s.label.geometry.extent (listing s.table) c.args.volume.now c.in-Some.volume.now.row c.extents.result.now
+    extents_on_device (g.D.Disk.size s.disk) s.label.extents s.label.geometry.extent (table_alone s.table) c.args.volume.now c.in-Some.volume.now.row c.extents.result.now
     s.spelled.table s.area c.in-Some.ensures.found.row c.extents.ensures.extents
 
 pub invariant_of-self : goal.invariant_of-self

@@ -3,7 +3,7 @@ use Rattle.sm_disk.proofs.WindowLaws.{Keeps-moved}
 use Rattle.vg_layout.specs.Places.{area_place}
 use Rattle.vg_layout.specs.Fields.{plate}
 use Rattle.vg_store.proofs.BesideLaws.{beside_kept}
-use Rattle.vg_store.proofs.HoldingLaws.{no_more-keeps, rests_still, stands_still, Leaves-keeps}
+use Rattle.vg_store.proofs.HoldingLaws.{no_more-keeps, rests_still, stands_still, LeavesGroup-keeps}
 use Rattle.vg_store.proofs.stores.GroupStore.sync.Goals as goal
 
 pub invariant_of-self : goal.invariant_of-self
@@ -24,7 +24,7 @@ pub returns-clause-keeps : goal.returns-clause-keeps
 returns-clause-keeps g c = λ told. Keeps-moved (λ q. area_place + q) (c.sync.ensures.keeps told)
 
 pub returns-clause-leaves : goal.returns-clause-leaves
-returns-clause-leaves g c = λ told t image left. Leaves-keeps c.sync.ensures.size (c.sync.ensures.keeps told) left
+returns-clause-leaves g c = λ told t image left. LeavesGroup-keeps c.sync.ensures.size (c.sync.ensures.keeps told) left
 
 pub returns-clause-beside : goal.returns-clause-beside
 returns-clause-beside g c = λ told. beside_kept (c.args.self.now.label.extents * c.args.self.now.label.geometry.extent) (c.sync.ensures.keeps told)

@@ -2,12 +2,12 @@ use Rattle.std.proofs.Common.{◌≡◌, ◌≤◌, ◌++◌, ℕ, List, length,
 use Rattle.std.specs.List.{concat}
 use Rattle.std.proofs.lemmas.List.{take_all}
 use Rattle.byteorder.specs.Endian.{big_bytes}
-use Rattle.vhd_fields.specs.Footers.{HasRoom, footer_bytes, footer_back, footer_front}
+use Rattle.vhd_fields.specs.Footers.{FooterFits, footer_bytes, footer_back, footer_front}
 use Rattle.vhd_fields.proofs.FooterLaws.{length_front, keeps, reads_back}
 use Rattle.vhd_fields.proofs.Sealing.{two_behind}
 use Rattle.vhd_fields.proofs.footers.Footer.write.Goals as goal
 
-room_of : (c : goal.After-seal) → HasRoom c.args.self.now
+room_of : (c : goal.After-seal) → FooterFits c.args.self.now
 room_of c = c.put_front-at.ensures.room
 
 bytes_are : (c : goal.After-seal) → c.seal.new.to ≡ footer_bytes c.args.self.now

@@ -5,15 +5,15 @@ use Rattle.sm_base.specs.declared.sizes.Geometry.{Geometry}
 use Rattle.sm_disk.specs.Held.{reads}
 use Rattle.sm_base.proofs.NumberLemmas.{first-ge}
 use Rattle.vhd_map.specs.Places.{word}
+use Rattle.vg_volumes.specs.Stored.{stored, sectors_in, held_in}
+use Rattle.vg_volumes.proofs.StoredLaws.{works_then}
 use Rattle.vhd_volumes.specs.Truth.{IsStanding}
 use Rattle.vhd_fields.specs.Footers.{IsFooter, footer_read}
 use Rattle.vhd_fields.specs.declared.footers.Footer.{Footer}
 use Rattle.vhd_fields.specs.declared.headers.Header.{Header}
 use Rattle.vhd_fields.specs.Headers.{IsHeader, header_bytes}
 use Rattle.vhd_layout.specs.Images.{header_at}
-use Rattle.vhd_volumes.specs.Steps.{held_in, sectors_of}
 use Rattle.vhd_image.specs.Made.{new_header, new_footer, IsBlankTo}
-use Rattle.vhd_volumes.proofs.StepLaws.{works-then}
 use Rattle.vhd_image.proofs.ContentLaws.{geometry-ok}
 use Rattle.vhd_image.proofs.MakingLaws.{header-proper, footer-proper, made, made-stands, some-sectors}
 use Rattle.vhd_image.proofs.OpeningLaws.{header-same}
@@ -24,21 +24,21 @@ put_header-requires-clause-proper g c =
     subst (λ (h : Header). IsHeader h) (sym c.new_header-header.ensures) (header-proper c.geometry-geometry.result c.args.sectors _ c.geometry-geometry.result.in_range c.requires.parent)
 
 pub returns-in_err-put_header-clause-works : goal.returns-in_err-put_header-clause-works
-returns-in_err-put_header-clause-works g c = works-then c.put_footer.ensures.works c.put_header.ensures.works
+returns-in_err-put_header-clause-works g c = works_then c.put_footer.ensures.works c.put_header.ensures.works
 
 pub returns-in_err-put_table-clause-works : goal.returns-in_err-put_table-clause-works
-returns-in_err-put_table-clause-works g c = works-then (works-then c.put_footer.ensures.works c.put_header.ensures.works) c.put_table.ensures.works
+returns-in_err-put_table-clause-works g c = works_then (works_then c.put_footer.ensures.works c.put_header.ensures.works) c.put_table.ensures.works
 
 pub returns-in_err-put_footer-2-clause-works : goal.returns-in_err-put_footer-2-clause-works
-returns-in_err-put_footer-2-clause-works g c = works-then (works-then (works-then c.put_footer.ensures.works c.put_header.ensures.works) c.put_table.ensures.works) c.put_footer-2.ensures.works
+returns-in_err-put_footer-2-clause-works g c = works_then (works_then (works_then c.put_footer.ensures.works c.put_header.ensures.works) c.put_table.ensures.works) c.put_footer-2.ensures.works
 
 pub returns-clause-works : goal.returns-clause-works
-returns-clause-works g c = works-then (works-then (works-then c.put_footer.ensures.works c.put_header.ensures.works) c.put_table.ensures.works) c.put_footer-2.ensures.works
+returns-clause-works g c = works_then (works_then (works_then c.put_footer.ensures.works c.put_header.ensures.works) c.put_table.ensures.works) c.put_footer-2.ensures.works
 
 pub returns-clause-stands : goal.returns-clause-stands
 returns-clause-stands g c =
     let geometry = (g.S.Store.site c.args.store.now).geometry in
-    let n = sectors_of g.S.Store.site g.S.Store.kept c.args.store.now c.args.volume.now in
+    let n = sectors_in (stored g.S.Store c.args.store.now) c.args.volume.now in
     let parent = option_copied c.args.parent in
     let is : Footer → Header → List (Option ℕ) → Type 0 = λ f h m. IsStanding geometry n (record { volume = c.args.volume.now; footer = f; header = h }) m in
     let headers : new_header geometry parent ≡ c.new_header-header.result = sym (c.new_header-header.ensures ∙ ap (λ (x : Geometry). new_header x parent) c.geometry-geometry.ensures) in
@@ -52,9 +52,9 @@ returns-clause-image g c = λ told.
     let geometry = (g.S.Store.site c.args.store.now).geometry in
     let e = c.geometry-geometry.ensures in
     let ok = geometry-ok e c.geometry-geometry.result.in_range in
-    let n = sectors_of g.S.Store.site g.S.Store.kept c.args.store.now c.args.volume.now in
+    let n = sectors_in (stored g.S.Store c.args.store.now) c.args.volume.now in
     let parent = option_copied c.args.parent in
-    let v = reads (held_in g.S.Store.site g.S.Store.kept g.S.Store.area c.put_footer-2.new.store c.args.volume.now) in
+    let v = reads (held_in (stored g.S.Store c.put_footer-2.new.store) c.args.volume.now) in
     let others = (c.put_footer-2.ensures.may_put told).others in
     let front = c.put_table.ensures.front told in
     let size = c.sectors_in-last.ensures in

@@ -4,8 +4,9 @@ use Rattle.sm_disk.specs.Held.{reads}
 use Rattle.vhd_map.specs.Slots.{slot_of}
 use Rattle.vhd_layout.specs.Layouts.{Sectors, entries_in_sectors}
 use Rattle.vhd_layout.specs.Images.{IsValid, IsImage}
-use Rattle.vhd_volumes.specs.Steps.{held_in}
+use Rattle.vg_volumes.specs.Stored.{stored, held_in}
 use Rattle.vhd_volumes.specs.Truth.{layout_in, IsStanding}
+use Rattle.vg_volumes.proofs.StoredLaws.{reads_then, works_reads}
 use Rattle.vhd_image.specs.Opened.{HasImageOf, IsTableTo}
 use Rattle.vhd_image.proofs.CallLaws.{only-reads_all}
 use Rattle.vhd_image.proofs.OpeningLaws.{no-image, opened, stands-from}
@@ -15,7 +16,7 @@ pub returns-in_default-map_found-clause-cause : goal.returns-in_default-map_foun
 returns-in_default-map_found-clause-cause g c =
     let geometry = c.geometry-geometry.result in
     let n = c.args.extents * geometry.extent in
-    let v = reads (held_in g.S.Store.site g.S.Store.kept g.S.Store.area c.args.store.now c.args.volume.now) in
+    let v = reads (held_in (stored g.S.Store c.args.store.now) c.args.volume.now) in
     let head = c.in-Some.head in
     let name : head.volume ≡ c.args.volume.now = rw c.in-Some.is at c.in-Ok.ensures.volume in
     inr (inr (
@@ -45,7 +46,7 @@ pub returns-clause-image : goal.returns-clause-image
 returns-clause-image g c = λ told.
     let geometry = c.geometry-geometry.result in
     let n = c.args.extents * geometry.extent in
-    let v = reads (held_in g.S.Store.site g.S.Store.kept g.S.Store.area c.args.store.now c.args.volume.now) in
+    let v = reads (held_in (stored g.S.Store c.args.store.now) c.args.volume.now) in
     let head = c.in-Some.head in
     let m = c.in-Some-map_found.map in
     let l = layout_in geometry head.footer n in
@@ -57,3 +58,21 @@ returns-clause-image g c = λ told.
     let fits = rw c.in-Some-map_found.is at c.in-Ok-map_in.ensures.fits in
     let good = rw c.in-Some-map_found.is at c.in-Ok-map_in.ensures.map in
     subst (λ (x : Geometry). IsImage (layout_in x head.footer (c.args.extents * x.extent)) v head.footer head.header (slot_of m)) c.geometry-geometry.ensures (opened l v head m is here fits good)
+
+pub returns-in_default-map_in-clause-reads_only : goal.returns-in_default-map_in-clause-reads_only
+returns-in_default-map_in-clause-reads_only g c = reads_then c.head_in.ensures.reads_only c.map_in.ensures.reads_only
+
+pub returns-in_default-map_in-clause-works : goal.returns-in_default-map_in-clause-works
+returns-in_default-map_in-clause-works g c = works_reads c.args.volume.now (reads_then c.head_in.ensures.reads_only c.map_in.ensures.reads_only)
+
+pub returns-in_default-map_found-clause-reads_only : goal.returns-in_default-map_found-clause-reads_only
+returns-in_default-map_found-clause-reads_only g c = reads_then c.head_in.ensures.reads_only c.map_in.ensures.reads_only
+
+pub returns-in_default-map_found-clause-works : goal.returns-in_default-map_found-clause-works
+returns-in_default-map_found-clause-works g c = works_reads c.args.volume.now (reads_then c.head_in.ensures.reads_only c.map_in.ensures.reads_only)
+
+pub returns-clause-reads_only : goal.returns-clause-reads_only
+returns-clause-reads_only g c = reads_then c.head_in.ensures.reads_only c.map_in.ensures.reads_only
+
+pub returns-clause-works : goal.returns-clause-works
+returns-clause-works g c = works_reads c.args.volume.now (reads_then c.head_in.ensures.reads_only c.map_in.ensures.reads_only)

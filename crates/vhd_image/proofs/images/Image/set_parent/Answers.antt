@@ -1,5 +1,5 @@
 use Rattle.std.proofs.Common.{◌≡◌, IsSome, sym, subst, ◌∙◌}
-use Rattle.vhd_volumes.specs.Steps.{held_in, sectors_of}
+use Rattle.vg_volumes.specs.Stored.{stored, sectors_in, held_in}
 use Rattle.vhd_volumes.specs.Truth.{IsTrueIn}
 use Rattle.vhd_image.specs.declared.images.Body.{Body}
 use Rattle.vhd_image.specs.declared.images.Body.TheVariants.{Vhd}
@@ -15,10 +15,10 @@ returns-in_err-put_link-in-Vhd-clause-changes g c = λ told.
     let body : c.args.self.now ≡ Vhd c.in-Vhd.head c.in-Vhd.map = sym c.self.view_is ∙ c.in-Vhd.is in
     let geometry = (g.S.Store.site c.args.store.now).geometry in
     let head = c.in-Vhd.head in
-    let n = sectors_of g.S.Store.site g.S.Store.kept c.args.store.now head.volume in
-    let a = held_in g.S.Store.site g.S.Store.kept g.S.Store.area c.args.store.now head.volume in
+    let n = sectors_in (stored g.S.Store c.args.store.now) head.volume in
+    let a = held_in (stored g.S.Store c.args.store.now) head.volume in
     let ok = geometry-ok c.geometry-geometry.ensures c.geometry-geometry.result.in_range in
-    let true_old : IsTrueIn geometry n a head c.in-Vhd.map = subst (λ (x : Body). TrueIn geometry (sectors_of g.S.Store.site g.S.Store.kept c.args.store.now (volume_name x)) (held_in g.S.Store.site g.S.Store.kept g.S.Store.area c.args.store.now (volume_name x)) x) body (c.requires.true_now told) in
+    let true_old : IsTrueIn geometry n a head c.in-Vhd.map = subst (λ (x : Body). TrueIn geometry (sectors_in (stored g.S.Store c.args.store.now) (volume_name x)) (held_in (stored g.S.Store c.args.store.now) (volume_name x)) x) body (c.requires.true_now told) in
     let child : IsSome head.header.parent = subst (λ (x : Body). IsSome (parent_name x)) body c.requires.child in
     rw body (relink-changes geometry n head c.in-Vhd.map c.args.parent.now ok c.requires.proper child c.linked-header.ensures.uid c.linked-header.ensures.stamp a _ (c.put_link.ensures.sectors told) true_old (c.put_link.ensures.may_put told))
 
@@ -27,10 +27,10 @@ returns-clause-changes g c = λ told.
     let body : c.args.self.now ≡ Vhd c.in-Vhd.head c.in-Vhd.map = sym c.self.view_is ∙ c.in-Vhd.is in
     let geometry = (g.S.Store.site c.args.store.now).geometry in
     let head = c.in-Vhd.head in
-    let n = sectors_of g.S.Store.site g.S.Store.kept c.args.store.now head.volume in
-    let a = held_in g.S.Store.site g.S.Store.kept g.S.Store.area c.args.store.now head.volume in
+    let n = sectors_in (stored g.S.Store c.args.store.now) head.volume in
+    let a = held_in (stored g.S.Store c.args.store.now) head.volume in
     let ok = geometry-ok c.geometry-geometry.ensures c.geometry-geometry.result.in_range in
-    let true_old : IsTrueIn geometry n a head c.in-Vhd.map = subst (λ (x : Body). TrueIn geometry (sectors_of g.S.Store.site g.S.Store.kept c.args.store.now (volume_name x)) (held_in g.S.Store.site g.S.Store.kept g.S.Store.area c.args.store.now (volume_name x)) x) body (c.requires.true_now told) in
+    let true_old : IsTrueIn geometry n a head c.in-Vhd.map = subst (λ (x : Body). TrueIn geometry (sectors_in (stored g.S.Store c.args.store.now) (volume_name x)) (held_in (stored g.S.Store c.args.store.now) (volume_name x)) x) body (c.requires.true_now told) in
     let child : IsSome head.header.parent = subst (λ (x : Body). IsSome (parent_name x)) body c.requires.child in
     rw body (relink-changes geometry n head c.in-Vhd.map c.args.parent.now ok c.requires.proper child c.linked-header.ensures.uid c.linked-header.ensures.stamp a _ (c.put_link.ensures.sectors told) true_old (c.put_link.ensures.may_put told))
 
@@ -39,13 +39,13 @@ returns-clause-true_after g c = λ told.
     let body : c.args.self.now ≡ Vhd c.in-Vhd.head c.in-Vhd.map = sym c.self.view_is ∙ c.in-Vhd.is in
     let geometry = (g.S.Store.site c.args.store.now).geometry in
     let head = c.in-Vhd.head in
-    let n = sectors_of g.S.Store.site g.S.Store.kept c.args.store.now head.volume in
-    let a = held_in g.S.Store.site g.S.Store.kept g.S.Store.area c.args.store.now head.volume in
+    let n = sectors_in (stored g.S.Store c.args.store.now) head.volume in
+    let a = held_in (stored g.S.Store c.args.store.now) head.volume in
     let ok = geometry-ok c.geometry-geometry.ensures c.geometry-geometry.result.in_range in
-    let true_old : IsTrueIn geometry n a head c.in-Vhd.map = subst (λ (x : Body). TrueIn geometry (sectors_of g.S.Store.site g.S.Store.kept c.args.store.now (volume_name x)) (held_in g.S.Store.site g.S.Store.kept g.S.Store.area c.args.store.now (volume_name x)) x) body (c.requires.true_now told) in
+    let true_old : IsTrueIn geometry n a head c.in-Vhd.map = subst (λ (x : Body). TrueIn geometry (sectors_in (stored g.S.Store c.args.store.now) (volume_name x)) (held_in (stored g.S.Store c.args.store.now) (volume_name x)) x) body (c.requires.true_now told) in
     let child : IsSome head.header.parent = subst (λ (x : Body). IsSome (parent_name x)) body c.requires.child in
     let is = relink-true geometry n head c.in-Vhd.map c.args.parent.now ok c.requires.proper child c.linked-header.ensures.uid c.linked-header.ensures.stamp a _ (c.put_link.ensures.sectors told) true_old (c.put_link.ensures.may_put told) (c.in_ok-put_link-in-Vhd.ensures.put told) in
-    rw body (subst (λ (h : Header). IsTrueIn geometry n (held_in g.S.Store.site g.S.Store.kept g.S.Store.area c.put_link.new.store head.volume) (record head { header = h }) c.in-Vhd.map) (sym c.linked-header.ensures.header) is)
+    rw body (subst (λ (h : Header). IsTrueIn geometry n (held_in (stored g.S.Store c.put_link.new.store) head.volume) (record head { header = h }) c.in-Vhd.map) (sym c.linked-header.ensures.header) is)
 
 pub returns-in_err-put_link-in-Vhd-clause-others : goal.returns-in_err-put_link-in-Vhd-clause-others
 returns-in_err-put_link-in-Vhd-clause-others g c = λ told.

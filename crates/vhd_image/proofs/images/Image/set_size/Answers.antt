@@ -1,6 +1,6 @@
 use Rattle.std.proofs.Common.{◌≡◌, ◌≤◌, sym, subst, ◌∙◌}
 use Rattle.vhd_fields.specs.Footers.{footer_bytes}
-use Rattle.vhd_volumes.specs.Steps.{held_in, sectors_of}
+use Rattle.vg_volumes.specs.Stored.{stored, sectors_in, held_in}
 use Rattle.vhd_volumes.specs.Truth.{IsTrueIn, disk_sectors}
 use Rattle.vhd_image.specs.declared.images.Body.{Body}
 use Rattle.vhd_image.specs.declared.images.Body.TheVariants.{Vhd}
@@ -16,10 +16,10 @@ returns-in_err-put_footers-in-Vhd-clause-changes g c = λ told.
     let body : c.args.self.now ≡ Vhd c.in-Vhd.head c.in-Vhd.map = sym c.self.view_is ∙ c.in-Vhd.is in
     let geometry = (g.S.Store.site c.args.store.now).geometry in
     let head = c.in-Vhd.head in
-    let n = sectors_of g.S.Store.site g.S.Store.kept c.args.store.now head.volume in
-    let a = held_in g.S.Store.site g.S.Store.kept g.S.Store.area c.args.store.now head.volume in
+    let n = sectors_in (stored g.S.Store c.args.store.now) head.volume in
+    let a = held_in (stored g.S.Store c.args.store.now) head.volume in
     let ok = geometry-ok c.geometry-geometry.ensures c.geometry-geometry.result.in_range in
-    let true_old : IsTrueIn geometry n a head c.in-Vhd.map = subst (λ (x : Body). TrueIn geometry (sectors_of g.S.Store.site g.S.Store.kept c.args.store.now (volume_name x)) (held_in g.S.Store.site g.S.Store.kept g.S.Store.area c.args.store.now (volume_name x)) x) body (c.requires.true_now told) in
+    let true_old : IsTrueIn geometry n a head c.in-Vhd.map = subst (λ (x : Body). TrueIn geometry (sectors_in (stored g.S.Store c.args.store.now) (volume_name x)) (held_in (stored g.S.Store c.args.store.now) (volume_name x)) x) body (c.requires.true_now told) in
     let grows : disk_sectors head.footer ≤ c.args.sectors = subst (λ (x : Body). sector_count x ≤ c.args.sectors) body c.requires.grows in
     let proper = resized-proper geometry n head c.in-Vhd.map c.args.sectors a ok c.requires.size true_old in
     rw body (resize-changes geometry n head c.in-Vhd.map c.args.sectors ok c.requires.size grows a _ true_old (footer_bytes (with_size head c.args.sectors).footer) (c.put_footers.ensures.reads_back proper) (c.put_footers.ensures.ends told))
@@ -29,10 +29,10 @@ returns-clause-changes g c = λ told.
     let body : c.args.self.now ≡ Vhd c.in-Vhd.head c.in-Vhd.map = sym c.self.view_is ∙ c.in-Vhd.is in
     let geometry = (g.S.Store.site c.args.store.now).geometry in
     let head = c.in-Vhd.head in
-    let n = sectors_of g.S.Store.site g.S.Store.kept c.args.store.now head.volume in
-    let a = held_in g.S.Store.site g.S.Store.kept g.S.Store.area c.args.store.now head.volume in
+    let n = sectors_in (stored g.S.Store c.args.store.now) head.volume in
+    let a = held_in (stored g.S.Store c.args.store.now) head.volume in
     let ok = geometry-ok c.geometry-geometry.ensures c.geometry-geometry.result.in_range in
-    let true_old : IsTrueIn geometry n a head c.in-Vhd.map = subst (λ (x : Body). TrueIn geometry (sectors_of g.S.Store.site g.S.Store.kept c.args.store.now (volume_name x)) (held_in g.S.Store.site g.S.Store.kept g.S.Store.area c.args.store.now (volume_name x)) x) body (c.requires.true_now told) in
+    let true_old : IsTrueIn geometry n a head c.in-Vhd.map = subst (λ (x : Body). TrueIn geometry (sectors_in (stored g.S.Store c.args.store.now) (volume_name x)) (held_in (stored g.S.Store c.args.store.now) (volume_name x)) x) body (c.requires.true_now told) in
     let grows : disk_sectors head.footer ≤ c.args.sectors = subst (λ (x : Body). sector_count x ≤ c.args.sectors) body c.requires.grows in
     let proper = resized-proper geometry n head c.in-Vhd.map c.args.sectors a ok c.requires.size true_old in
     rw body (resize-changes geometry n head c.in-Vhd.map c.args.sectors ok c.requires.size grows a _ true_old (footer_bytes (with_size head c.args.sectors).footer) (c.put_footers.ensures.reads_back proper) (c.put_footers.ensures.ends told))
@@ -42,10 +42,10 @@ returns-clause-true_after g c = λ told.
     let body : c.args.self.now ≡ Vhd c.in-Vhd.head c.in-Vhd.map = sym c.self.view_is ∙ c.in-Vhd.is in
     let geometry = (g.S.Store.site c.args.store.now).geometry in
     let head = c.in-Vhd.head in
-    let n = sectors_of g.S.Store.site g.S.Store.kept c.args.store.now head.volume in
-    let a = held_in g.S.Store.site g.S.Store.kept g.S.Store.area c.args.store.now head.volume in
+    let n = sectors_in (stored g.S.Store c.args.store.now) head.volume in
+    let a = held_in (stored g.S.Store c.args.store.now) head.volume in
     let ok = geometry-ok c.geometry-geometry.ensures c.geometry-geometry.result.in_range in
-    let true_old : IsTrueIn geometry n a head c.in-Vhd.map = subst (λ (x : Body). TrueIn geometry (sectors_of g.S.Store.site g.S.Store.kept c.args.store.now (volume_name x)) (held_in g.S.Store.site g.S.Store.kept g.S.Store.area c.args.store.now (volume_name x)) x) body (c.requires.true_now told) in
+    let true_old : IsTrueIn geometry n a head c.in-Vhd.map = subst (λ (x : Body). TrueIn geometry (sectors_in (stored g.S.Store c.args.store.now) (volume_name x)) (held_in (stored g.S.Store c.args.store.now) (volume_name x)) x) body (c.requires.true_now told) in
     let grows : disk_sectors head.footer ≤ c.args.sectors = subst (λ (x : Body). sector_count x ≤ c.args.sectors) body c.requires.grows in
     let proper = resized-proper geometry n head c.in-Vhd.map c.args.sectors a ok c.requires.size true_old in
     rw body (resize-true geometry n head c.in-Vhd.map c.args.sectors ok c.requires.size grows a _ true_old (footer_bytes (with_size head c.args.sectors).footer) (c.put_footers.ensures.reads_back proper) (c.put_footers.ensures.ends told) (c.in_ok-put_footers-in-Vhd.ensures.last told) (c.put_footers.ensures.others told))
@@ -53,11 +53,11 @@ returns-clause-true_after g c = λ told.
 pub returns-in_err-put_footers-in-Vhd-clause-others : goal.returns-in_err-put_footers-in-Vhd-clause-others
 returns-in_err-put_footers-in-Vhd-clause-others g c = λ told.
     let body : c.args.self.now ≡ Vhd c.in-Vhd.head c.in-Vhd.map = sym c.self.view_is ∙ c.in-Vhd.is in
-    let n = sectors_of g.S.Store.site g.S.Store.kept c.args.store.now c.in-Vhd.head.volume in
+    let n = sectors_in (stored g.S.Store c.args.store.now) c.in-Vhd.head.volume in
     rw body (ends-others n _ (c.put_footers.ensures.ends told) (c.put_footers.ensures.others told))
 
 pub returns-clause-others : goal.returns-clause-others
 returns-clause-others g c = λ told.
     let body : c.args.self.now ≡ Vhd c.in-Vhd.head c.in-Vhd.map = sym c.self.view_is ∙ c.in-Vhd.is in
-    let n = sectors_of g.S.Store.site g.S.Store.kept c.args.store.now c.in-Vhd.head.volume in
+    let n = sectors_in (stored g.S.Store c.args.store.now) c.in-Vhd.head.volume in
     rw body (ends-others n _ (c.put_footers.ensures.ends told) (c.put_footers.ensures.others told))

@@ -1,5 +1,5 @@
 use Rattle.std.proofs.Common.{◌≡◌, ℕ, ◌-◌, ◌^◌, ◌<◌, ◌≤◌, List, get_or, set, arith, ap, ◌∙◌, subst, Option, Some}
-use Rattle.vhd_map.proofs.KeptLemmas.{may_put, marks_read, word_in, differs, IsKept-put, put-fits, put-last, kept_map-set}
+use Rattle.vhd_map.proofs.KeptLemmas.{may_put, marks_read, word_in, differs, AgreesWithEntries-put, put-fits, put-last, kept_map-set}
 use Rattle.vhd_map.proofs.maps.Map.put.Goals as goal
 
 pub overflow_add-self : goal.overflow_add-self
@@ -28,7 +28,7 @@ invariant_of-self c =
     let found = c.first_with_room-self-inside.ensures in
     let Full : List ℕ → Type 0 = λ v. (w : ℕ) → a.least ≤ w → w < later → get_or v w 0 ≡ 2 ^ 64 - 1 in
     rw (marked, c.max-self-inside.ensures)
-    (IsKept-put a.entries.items a.used.items a.count a.top a.least c.self.invariant c.args.block c.args.slot may later (rw words at found.within) (rw words at found.room) (subst Full words found.full))
+    (AgreesWithEntries-put a.entries.items a.used.items a.count a.top a.least c.self.invariant c.args.block c.args.slot may later (rw words at found.within) (rw words at found.room) (subst Full words found.full))
 
 pub returns : goal.returns
 returns c =

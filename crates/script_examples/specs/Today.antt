@@ -1,0 +1,17 @@
+-- Scripts of the commands that are built today.
+use Rattle.std.specs.Prelude.{[], ◌∷◌, codes}
+use Rattle.script_examples.specs.Scripts.{Script, line}
+
+-- raw disks, and refusals by name, room and size
+abbrev pub raw_disks : Script
+raw_disks =
+    line (codes "list") (codes "ok 0") ∷
+    line (codes "create 22222222-2222-4222-8222-222222222222 1 raw y") (codes "ok 16384") ∷
+    line (codes "list") (codes "ok 1 22222222-2222-4222-8222-222222222222,16384,rw,-,y") ∷
+    line (codes "create 22222222-2222-4222-8222-222222222222 1 raw y") (codes "no NameTaken") ∷
+    line (codes "create 33333333-3333-4333-8333-333333333333 262144 raw z") (codes "ok 262144") ∷
+    line (codes "create 44444444-4444-4444-8444-444444444444 262144 raw z") (codes "ok 262144") ∷
+    line (codes "create 55555555-5555-4555-8555-555555555555 262144 raw z") (codes "no NoSpace need 16 free 15") ∷
+    line (codes "create 55555555-5555-4555-8555-555555555555 262145 raw z") (codes "no BadSize") ∷
+    line (codes "create 11111111-1111-4111-8111-111111111111 1 vhd x") (codes "no BadLine") ∷
+    []

@@ -1,0 +1,29 @@
+-- The three cases of a name: the records, an image, or a journal entry.
+use Rattle.std.proofs.Common.{◌≡◌, ◌⊎◌, inl, inr, true, false, refl}
+use Rattle.sm_base.specs.declared.names.Name.{Name}
+use Rattle.sm_base.specs.declared.names.Name.TheVariants.{Mgt, Vhd, Raw, Old}
+use Rattle.sm_base.specs.Kinds.{is_image, is_entry}
+
+-- what is neither an image nor an entry has the records
+pub kind_cases : (n : Name) → (n ≡ Mgt) ⊎ ((is_image n ≡ true) ⊎ (is_entry n ≡ true))
+kind_cases Mgt = inl refl
+kind_cases (Vhd u) = inr (inl refl)
+kind_cases (Raw u) = inr (inl refl)
+kind_cases (Old u) = inr (inl refl)
+kind_cases _ = inr (inr refl)
+
+-- an image is no entry
+pub image-no_entry : (n : Name) → is_image n ≡ true → is_entry n ≡ false
+image-no_entry Mgt h = refl
+image-no_entry (Vhd u) h = refl
+image-no_entry (Raw u) h = refl
+image-no_entry (Old u) h = refl
+image-no_entry _ h = absurd (let e = h in cc)
+
+-- and an entry is no image
+pub entry-no_image : (n : Name) → is_entry n ≡ true → is_image n ≡ false
+entry-no_image Mgt h = absurd (let e = h in cc)
+entry-no_image (Vhd u) h = absurd (let e = h in cc)
+entry-no_image (Raw u) h = absurd (let e = h in cc)
+entry-no_image (Old u) h = absurd (let e = h in cc)
+entry-no_image _ h = refl

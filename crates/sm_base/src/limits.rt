@@ -1,0 +1,22 @@
+//! The limits of a repository (this project's format).
+
+/// The bytes of a sector.
+pub const SECTOR: u64 = 512;
+
+/// The most images.
+pub const IMAGE_LIMIT: usize = 500;
+
+/// The places of disks' records, one sector each.
+pub const RECORD_LIMIT: u32 = 512;
+
+/// The most extents of a volume group.
+pub const EXTENT_LIMIT: u64 = 65_536;
+
+/// The most bytes of the text of a table.
+pub const TEXT_LIMIT: u32 = 524_288;
+
+/// The last sequence number of a table, which a change leaves.
+pub const LAST_SEQUENCE: u64 = (1 << 48) - 1;
+
+/// The sequence number from which on no new disk is taken.
+pub const SPENT_SEQUENCE: u64 = (1 << 48) - 16;

@@ -1,0 +1,2 @@
+pub mod EmptyContent
+pub mod FaultExamples

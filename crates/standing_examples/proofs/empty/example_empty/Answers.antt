@@ -1,0 +1,16 @@
+use Rattle.standing_examples.specs.SmallContents.{empty_content}
+use Rattle.sm_standing.proofs.PlainKept.{plain_kept}
+use Rattle.standing_examples.proofs.EmptyContent.{empty_sound, empty_disks}
+use Rattle.standing_examples.proofs.empty.example_empty.Goals as goal
+
+pub returns-clause-sound : goal.returns-clause-sound
+returns-clause-sound c = empty_sound
+
+pub returns-clause-kept : goal.returns-clause-kept
+returns-clause-kept c = λ extents long. plain_kept (empty_content extents) (empty_sound extents long)
+
+pub returns-clause-no_fault : goal.returns-clause-no_fault
+returns-clause-no_fault c = λ extents long. (plain_kept (empty_content extents) (empty_sound extents long)).sound
+
+pub returns-clause-disks : goal.returns-clause-disks
+returns-clause-disks c = empty_disks

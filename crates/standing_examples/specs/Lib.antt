@@ -1,0 +1,3 @@
+pub mod SmallContents
+pub mod SmallTables
+pub mod FaultyContents

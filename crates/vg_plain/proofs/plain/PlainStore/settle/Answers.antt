@@ -1,6 +1,0 @@
-use Rattle.vg_plain.proofs.SectorWrites.{still_quiet}
-use Rattle.vg_plain.proofs.StoreLaws.{kept_area}
-use Rattle.vg_plain.proofs.plain.PlainStore.settle.Goals as goal
-
-pub invariant_of-self : goal.invariant_of-self
-invariant_of-self c = kept_area c.self.invariant c.sync.ensures.size (still_quiet c.self.invariant.quiet c.sync.ensures.passed)
