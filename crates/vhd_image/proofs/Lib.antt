@@ -11,3 +11,5 @@ pub mod EndLaws
 pub mod SectorsIn
 pub mod LinkLaws
 pub mod RelinkLaws
+pub mod SteadyLaws
+pub mod SteadyStores

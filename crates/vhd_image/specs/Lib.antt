@@ -4,4 +4,5 @@ pub mod Changes
 pub mod Links
 pub mod Made
 pub mod Opened
+pub mod Steady
 pub mod Written

@@ -10,6 +10,7 @@ use crate::runs::{Work, run};
 use crate::sectors::{
     CHILD_UID, UID, child_footer, child_header, footer, relinked_header, sized_footer, stale,
 };
+use crate::trees::plant;
 use crate::volumes::put;
 use sm_base::{Name, OpenFault, Place};
 use std::alloc::Global;
@@ -83,6 +84,7 @@ pub fn link<S: Store>(alloc: Global, store: &mut S) -> Result<(), Fail>
     let named = make_child(alloc, store, &child, CHILD_UID, &parent)?;
     holds(named == Some(parent), "the parent in memory")?;
     compare_but(store, &child, 1, &child_header(), &child_footer())?;
+    plant(alloc, store, &parent, &child)?;
     let other = Name::Raw(Uuid::from_bytes([0x22; 16]));
     let named = set_parent(alloc, store, &child, &other)?;
     holds(named == Some(other), "the other parent in memory")?;

@@ -35,7 +35,7 @@ pub fn opening_fault<S: Store>(
 }
 
 /// Whether a name is spelled as names are.
-fn is_name(name: &Name) -> bool
+pub fn is_name(name: &Name) -> bool
     ensures { OnTrue result (IsName name.now) }
 {
     let mut text = [0; 128];

@@ -13,6 +13,7 @@
 //! - It is found by its last footer, by the copy where that is lost, and not at all where both are.
 //! - A child names its parent, and another after a change that writes one sector; a larger disk has two new footers and
 //!   holds none of its new sectors; an image ends sooner by one more footer; a raw image is all sectors of its volume.
+//! - A disk's image and the one under it stand in a tree in memory, in order of name, and one is taken out again.
 //! - A write over three blocks, one held, one held in part and one new, stops at each of its calls, and five choices of what
 //!   the device kept are opened each time: each sector of the disk has its old bytes or its new ones, and the plain reader
 //!   finds what the image's own call finds. Where no call stops it all sectors are new.
@@ -45,6 +46,8 @@ mod runs;
 mod sectors;
 #[cfg(test)]
 mod stop_tests;
+#[cfg(test)]
+mod trees;
 #[cfg(test)]
 mod volumes;
 

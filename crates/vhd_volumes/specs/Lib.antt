@@ -1,3 +1,4 @@
+pub mod Steady
 pub mod Steps
 pub mod Truth
 pub mod Writes

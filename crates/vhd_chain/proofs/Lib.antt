@@ -1,0 +1,4 @@
+pub mod ByName
+pub mod LinkLaws
+pub mod OrderLaws
+pub mod PlaceLaws
