@@ -22,7 +22,8 @@
 //!
 //! The definitions are in `specs/`: `Bodies` (an image as contracts see it), `Made` (the fields of a new image), `Opened`
 //! (what reading a volume tells), `Changes` and `Links` (what a change of the head leaves), `Written` (what a write
-//! did), and `Calls` (what one call did to a store's sectors).
+//! did), `Calls` (what one call did to a store's sectors), and `Steady` (an image that stays true whatever a stop may
+//! leave). Which calls keep an image steady is in `proofs/SteadyStores`, one law a call.
 #![tactic(auto)]
 
 mod bytes;
