@@ -17,6 +17,7 @@ use Rattle.sm_machine.specs.Shapes.{image_limit}
 use Rattle.sm_standing.specs.Contents.{Content}
 use Rattle.sm_standing.specs.Plain.{is_plain, is_plain_name, IsPlain}
 use Rattle.sm_standing.specs.Checks.{first_name, name_in, placed, has_records, record_volume_fault, images, too_many_fault, is_misnamed, misnamed_fault, is_ahead, is_image_ahead, entry_ahead_fault, image_ahead_fault, is_invalid, is_image_wrong, is_oversize, invalid_fault}
+use Rattle.sm_standing.specs.Outlines.{outline}
 use Rattle.sm_standing.proofs.PlainDisks.{all-In}
 use Rattle.common_laws.proofs.Lists.{none_find}
 use Rattle.sm_recover.specs.Faults.{HasTable, is_raw, is_sized_wrong}
@@ -40,15 +41,15 @@ held_first test (h ∷ hs) = name_step (test h.row) h (find test (rows_alone hs)
 held_at : (test : Row → Bool) (hs : List RoomyRow) (o : Option RoomyRow) → o ≡ find (λ h. test h.row) hs → first_name test (rows_alone hs) ≡ held_name o
 held_at test hs o is = held_first test hs ∙ ap held_name (sym is)
 
-pub entry_at : (c : Content) (k : RoomyTable) (o : Option RoomyRow) → c.table ≡ table_alone k → o ≡ find (λ h. is_entry h.row.name) k.rows → entry_ahead_fault c ≡ placed at.Journal (held_name o)
+pub entry_at : (c : Content) (k : RoomyTable) (o : Option RoomyRow) → c.table ≡ table_alone k → o ≡ find (λ h. is_entry h.row.name) k.rows → entry_ahead_fault (outline c) ≡ placed at.Journal (held_name o)
 unfolding entry_ahead_fault
 entry_at c k o is found = ap (λ t. placed at.Journal (first_name (λ r. is_entry r.name) t.volumes)) is ∙ ap (placed at.Journal) (held_at (λ r. is_entry r.name) k.rows o found)
 
-pub ahead_at : (c : Content) (k : RoomyTable) (o : Option RoomyRow) → c.table ≡ table_alone k → o ≡ find (λ h. is_image_ahead h.row) k.rows → image_ahead_fault c ≡ placed at.Image (held_name o)
+pub ahead_at : (c : Content) (k : RoomyTable) (o : Option RoomyRow) → c.table ≡ table_alone k → o ≡ find (λ h. is_image_ahead h.row) k.rows → image_ahead_fault (outline c) ≡ placed at.Image (held_name o)
 unfolding image_ahead_fault
 ahead_at c k o is found = ap (λ t. placed at.Image (first_name is_image_ahead t.volumes)) is ∙ ap (placed at.Image) (held_at is_image_ahead k.rows o found)
 
-pub misnamed_at : (c : Content) (k : RoomyTable) (o : Option RoomyRow) → c.table ≡ table_alone k → o ≡ find (λ h. is_misnamed (table_alone k) h.row) k.rows → misnamed_fault c ≡ placed at.Image (held_name o)
+pub misnamed_at : (c : Content) (k : RoomyTable) (o : Option RoomyRow) → c.table ≡ table_alone k → o ≡ find (λ h. is_misnamed (table_alone k) h.row) k.rows → misnamed_fault (outline c) ≡ placed at.Image (held_name o)
 unfolding misnamed_fault
 misnamed_at c k o is found = ap (λ t. placed at.Image (first_name (is_misnamed t) t.volumes)) is ∙ ap (placed at.Image) (held_at (is_misnamed (table_alone k)) k.rows o found)
 
@@ -63,7 +64,7 @@ find_same p q (r ∷ rs) same = same_step (p r) (q r) r (find p rs) (find q rs) 
 
 -- a plain volume is wrong where it is a raw image that is too large
 wrong_at : (c : Content) (r : Row) (hidden fresh : Bool) (n : Name) → is_plain_name hidden n ≡ true
-    → (not fresh && is_image_wrong c r n) ≡ (is_raw n && (not fresh && is_oversize c.extent c.block c.entries r))
+    → (not fresh && is_image_wrong (outline c) r n) ≡ (is_raw n && (not fresh && is_oversize c.extent c.block c.entries r))
 wrong_at c r hidden true Mgt h = refl
 wrong_at c r hidden false Mgt h = refl
 wrong_at c r hidden fresh (Raw u) h = refl
@@ -75,7 +76,7 @@ wrong_at c r hidden fresh (Coalesce a p) h = absurd (let e = h in cc)
 wrong_at c r hidden fresh (Relink a p) h = absurd (let e = h in cc)
 wrong_at c r hidden fresh (Leaf l p) h = absurd (let e = h in cc)
 
-sized_as : (c : Content) (g : Geometry) (t : VolumeTable) (r : Row) → HasTable g t c → is_plain r ≡ true → is_invalid c r ≡ is_sized_wrong g r
+sized_as : (c : Content) (g : Geometry) (t : VolumeTable) (r : Row) → HasTable g t c → is_plain r ≡ true → is_invalid (outline c) r ≡ is_sized_wrong g r
 sized_as c g t r is plain =
     wrong_at c r r.hidden r.fresh r.name plain
     ∙ ap (λ x. is_raw r.name && (not r.fresh && is_oversize x c.block c.entries r)) is.extent
@@ -83,37 +84,37 @@ sized_as c g t r is plain =
     ∙ ap (λ x. is_raw r.name && (not r.fresh && is_oversize g.extent g.block x r)) is.entries
 
 pub sized_at : (c : Content) (g : Geometry) (k : RoomyTable) (o : Option RoomyRow) → HasTable g (table_alone k) c → IsPlain (table_alone k) → o ≡ find (λ h. is_sized_wrong g h.row) k.rows
-    → invalid_fault c ≡ placed at.Image (held_name o)
+    → invalid_fault (outline c) ≡ placed at.Image (held_name o)
 unfolding invalid_fault first_name
 sized_at c g k o is plain found =
-    ap (λ t. placed at.Image (name_in (find (is_invalid c) t.volumes))) is.table
-    ∙ ap (λ q. placed at.Image (name_in q)) (find_same (is_invalid c) (is_sized_wrong g) (rows_alone k.rows)
+    ap (λ t. placed at.Image (name_in (find (is_invalid (outline c)) t.volumes))) is.table
+    ∙ ap (λ q. placed at.Image (name_in q)) (find_same (is_invalid (outline c)) (is_sized_wrong g) (rows_alone k.rows)
     (λ r h. sized_as c g (table_alone k) r is (all-In (λ r. is_plain r ≡ true) (rows_alone k.rows) r plain h)))
     ∙ ap (placed at.Image) (held_at (is_sized_wrong g) k.rows o found)
 
 -- ---- the volume of records, and how many images there are
 
-pub record_volume_right : (c : Content) (g : Geometry) (t : VolumeTable) (r : Row) → HasTable g t c → rows t Mgt ≡ Some r → length r.extents ≡ record_extents g.extent → record_volume_fault c ≡ None
+pub record_volume_right : (c : Content) (g : Geometry) (t : VolumeTable) (r : Row) → HasTable g t c → rows t Mgt ≡ Some r → length r.extents ≡ record_extents g.extent → record_volume_fault (outline c) ≡ None
 unfolding record_volume_fault
 record_volume_right c g t r is there long =
-    ap (λ u. given (not (has_records c (rows u Mgt))) at.Mgt) is.table
-    ∙ ap (λ o. given (not (has_records c o)) at.Mgt) there
+    ap (λ u. given (not (has_records (outline c) (rows u Mgt))) at.Mgt) is.table
+    ∙ ap (λ o. given (not (has_records (outline c) o)) at.Mgt) there
     ∙ ap (λ b. given (not b) at.Mgt) (eq-eqb (length r.extents) (record_extents c.extent) (long ∙ ap record_extents (sym is.extent)))
 
-pub record_volume_none : (c : Content) (g : Geometry) (t : VolumeTable) → HasTable g t c → rows t Mgt ≡ None → record_volume_fault c ≡ Some at.Mgt
+pub record_volume_none : (c : Content) (g : Geometry) (t : VolumeTable) → HasTable g t c → rows t Mgt ≡ None → record_volume_fault (outline c) ≡ Some at.Mgt
 unfolding record_volume_fault
-record_volume_none c g t is none = ap (λ u. given (not (has_records c (rows u Mgt))) at.Mgt) is.table ∙ ap (λ o. given (not (has_records c o)) at.Mgt) none
+record_volume_none c g t is none = ap (λ u. given (not (has_records (outline c) (rows u Mgt))) at.Mgt) is.table ∙ ap (λ o. given (not (has_records (outline c) o)) at.Mgt) none
 
 differs : (a b : ℕ) → (a ≡ b → ⊥) → (v : Bool) → (a == b) ≡ v → v ≡ false
 differs a b other false is = refl
 differs a b other true is = absurd (other (let h = is in grind (arith, nat_tests)))
 
 pub record_volume_wrong : (c : Content) (g : Geometry) (t : VolumeTable) (r : Row) → HasTable g t c → rows t Mgt ≡ Some r → (length r.extents ≡ record_extents g.extent → ⊥)
-    → record_volume_fault c ≡ Some at.Mgt
+    → record_volume_fault (outline c) ≡ Some at.Mgt
 unfolding record_volume_fault
 record_volume_wrong c g t r is there other =
-    ap (λ u. given (not (has_records c (rows u Mgt))) at.Mgt) is.table
-    ∙ ap (λ o. given (not (has_records c o)) at.Mgt) there
+    ap (λ u. given (not (has_records (outline c) (rows u Mgt))) at.Mgt) is.table
+    ∙ ap (λ o. given (not (has_records (outline c) o)) at.Mgt) there
     ∙ ap (λ b. given (not b) at.Mgt) (differs (length r.extents) (record_extents c.extent) (λ e. other (e ∙ ap record_extents is.extent)) (length r.extents == record_extents c.extent) refl)
 
 count_step : (b : Bool) (h : RoomyRow) (rs : List Row) (hs : List RoomyRow) → length rs ≡ length hs → length (cond b (h.row ∷ rs) rs) ≡ length (cond b (h ∷ hs) hs)
@@ -124,14 +125,14 @@ images_counted : (hs : List RoomyRow) → length (filter (λ r. is_data r.name) 
 images_counted [] = refl
 images_counted (h ∷ hs) = count_step (is_data h.row.name) h (filter (λ r. is_data r.name) (rows_alone hs)) (filter (λ h. is_data h.row.name) hs) (images_counted hs)
 
-pub too_many : (c : Content) (k : RoomyTable) (n : ℕ) → c.table ≡ table_alone k → n ≡ length (filter (λ h. is_data h.row.name) k.rows) → 500 < n → too_many_fault c ≡ Some at.Images
+pub too_many : (c : Content) (k : RoomyTable) (n : ℕ) → c.table ≡ table_alone k → n ≡ length (filter (λ h. is_data h.row.name) k.rows) → 500 < n → too_many_fault (outline c) ≡ Some at.Images
 unfolding too_many_fault
 too_many c k n is count over =
     ap (λ t. given (nat_lt image_limit (length (images t))) at.Images) is
     ∙ ap (λ m. given (nat_lt image_limit m) at.Images) (images_counted k.rows ∙ sym count)
     ∙ ap (λ b. given b at.Images) (lt-ltb 500 n over)
 
-pub not_too_many : (c : Content) (k : RoomyTable) (n : ℕ) → c.table ≡ table_alone k → n ≡ length (filter (λ h. is_data h.row.name) k.rows) → n ≤ 500 → too_many_fault c ≡ None
+pub not_too_many : (c : Content) (k : RoomyTable) (n : ℕ) → c.table ≡ table_alone k → n ≡ length (filter (λ h. is_data h.row.name) k.rows) → n ≤ 500 → too_many_fault (outline c) ≡ None
 unfolding too_many_fault
 not_too_many c k n is count within =
     ap (λ t. given (nat_lt image_limit (length (images t))) at.Images) is
@@ -160,7 +161,7 @@ plain_at hidden (Relink a p) j h = absurd (let e = j in cc)
 plain_at hidden (Leaf l p) j h = absurd (let e = j in cc)
 
 -- without entries, and with visible raw images alone, the table is plain
-pub plain_from : (c : Content) → entry_ahead_fault c ≡ None → image_ahead_fault c ≡ None → IsPlain c.table
+pub plain_from : (c : Content) → entry_ahead_fault (outline c) ≡ None → image_ahead_fault (outline c) ≡ None → IsPlain c.table
 unfolding entry_ahead_fault image_ahead_fault
 plain_from c no_entry none_ahead = all-each (λ r. is_plain r ≡ true) c.table.volumes (λ r k.
     plain_at r.hidden r.name (named_none at.Journal (λ r. is_entry r.name) c.table.volumes no_entry r k) (named_none at.Image is_image_ahead c.table.volumes none_ahead r k))

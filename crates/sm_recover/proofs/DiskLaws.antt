@@ -19,6 +19,8 @@ use Rattle.sm_record.specs.declared.records.Record.{Record}
 use Rattle.sm_mgt.specs.Places.{is_of, as_reading}
 use Rattle.sm_standing.specs.Contents.{Content, reading_at, records, taken, is_record_of}
 use Rattle.sm_standing.specs.Checks.{is_unrecorded, disk_place, disk_fault}
+use Rattle.sm_standing.specs.Outlines.{outline}
+use Rattle.sm_standing.proofs.OutlineLaws.{outline_records_same}
 use Rattle.sm_standing.specs.Ordered.{Rising, uuid_cmp}
 use Rattle.sm_standing.specs.Plain.{IsPlain}
 use Rattle.sm_standing.specs.Standing.{standing_volume, uuids}
@@ -227,14 +229,15 @@ find_alike p q (u ∷ us) same = ap (λ b. cond b (Some u) (find p us)) (same u)
 
 -- the check of the records, by the least of these UUIDs
 pub disk_fault_is : (c : Content) (k : RoomyTable) (places : List (Option Record)) (o : Option (List ℕ)) → c.table ≡ table_alone k → HasPlaces places c
-    → IsLeast (λ u. is_unrecorded_in (table_alone k) places u ≡ true) o → disk_fault c ≡ disk_place o
+    → IsLeast (λ u. is_unrecorded_in (table_alone k) places u ≡ true) o → disk_fault (outline c) ≡ disk_place o
 unfolding disk_fault
 disk_fault_is c k places o is has least =
     ap disk_place
-    (find_filtered (λ u. is_some (standing_volume c.table u)) (is_unrecorded c) (uuids c.table)
-    ∙ ap (λ t. find (λ u. is_some (standing_volume t u) && is_unrecorded c u) (uuids t)) is
-    ∙ find_alike (λ u. is_some (standing_volume (table_alone k) u) && is_unrecorded c u) (is_unrecorded_in (table_alone k) places) (uuids (table_alone k))
-    (λ u. ap (λ n. is_some (standing_volume (table_alone k) u) && not (n == 1)) (records_counted c places u has))
+    (find_filtered (λ u. is_some (standing_volume c.table u)) (is_unrecorded (outline c)) (uuids c.table)
+    ∙ ap (λ t. find (λ u. is_some (standing_volume t u) && is_unrecorded (outline c) u) (uuids t)) is
+    ∙ find_alike (λ u. is_some (standing_volume (table_alone k) u) && is_unrecorded (outline c) u) (is_unrecorded_in (table_alone k) places) (uuids (table_alone k))
+    (λ u. ap (λ n. is_some (standing_volume (table_alone k) u) && not (n == 1))
+    (ap (λ rs. length (filter (is_record_of u) rs)) (outline_records_same c) ∙ records_counted c places u has))
     ∙ first_is_least (is_unrecorded_in (table_alone k) places) (uuids (table_alone k)) (rising_uuids (table_alone k)) o
     (least_as (λ u. is_unrecorded_in (table_alone k) places u ≡ true) (Passes (is_unrecorded_in (table_alone k) places) (uuids (table_alone k))) o
     (λ u wrong. (wrong_listed (table_alone k) places u wrong, wrong)) (λ u p. p.1) least))

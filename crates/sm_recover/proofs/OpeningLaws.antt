@@ -25,8 +25,10 @@ use Rattle.sm_record.specs.declared.records.Reading.{Reading}
 use Rattle.sm_record.specs.declared.records.Reading.TheVariants.{Free, Taken, Damaged}
 use Rattle.sm_record.specs.Records.{reading}
 use Rattle.sm_mgt.specs.Places.{Agrees, as_reading, records_held, IsFirstDamaged, reading_of}
-use Rattle.sm_standing.specs.Contents.{Content, row, reading_at, record_count, sectors_of}
-use Rattle.sm_standing.specs.Checks.{has_records, record_volume_fault, images, too_many_fault, entry_ahead_fault, image_ahead_fault, record_fault, record_place, is_damaged, disk_fault, first_fault_today}
+use Rattle.sm_standing.specs.Contents.{Content, row, record_count, sectors_of}
+use Rattle.sm_standing.specs.Checks.{has_records, record_volume_fault, images, too_many_fault, entry_ahead_fault, image_ahead_fault, record_fault, record_place, is_damaged, disk_fault, fault_today_of, first_fault_today}
+use Rattle.sm_standing.specs.Outlines.{reading_in, outline}
+use Rattle.sm_standing.proofs.OutlineLaws.{reading_within}
 use Rattle.sm_standing.specs.Plain.{IsPlain}
 use Rattle.common_laws.proofs.Lists.{none_first, find_none, In-numbers}
 use Rattle.sm_recover.specs.Stores.{content_in, content_now}
@@ -49,23 +51,23 @@ first_behind (None ∷ xs) ys h = first_behind xs ys h
 
 -- a check by the table is the first that fails
 pub today_table : (c : Content) (place : Place) → first_some (table_faults c) ≡ Some place → first_fault_today c ≡ Some place
-unfolding first_fault_today
-today_table c place h = first_front (table_faults c) (record_fault c ∷ disk_fault c ∷ []) place h
+unfolding fault_today_of
+today_table c place h = first_front (table_faults c) (record_fault (outline c) ∷ disk_fault (outline c) ∷ []) place h
 
 -- or one of the records
-pub today_records : (c : Content) (place : Place) → first_some (table_faults c) ≡ None → record_fault c ≡ Some place → first_fault_today c ≡ Some place
-unfolding first_fault_today
-today_records c place none h = first_behind (table_faults c) (record_fault c ∷ disk_fault c ∷ []) none ∙ ap (λ o. first_some (o ∷ disk_fault c ∷ [])) h
+pub today_records : (c : Content) (place : Place) → first_some (table_faults c) ≡ None → record_fault (outline c) ≡ Some place → first_fault_today c ≡ Some place
+unfolding fault_today_of
+today_records c place none h = first_behind (table_faults c) (record_fault (outline c) ∷ disk_fault (outline c) ∷ []) none ∙ ap (λ o. first_some (o ∷ disk_fault (outline c) ∷ [])) h
 
 only : {A : Type 0} (o : Option A) → first_some (o ∷ []) ≡ o
 only None = refl
 only (Some x) = refl
 
 -- or that of the disks, or none
-pub today_disks : (c : Content) (o : Option Place) → first_some (table_faults c) ≡ None → record_fault c ≡ None → disk_fault c ≡ o → first_fault_today c ≡ o
-unfolding first_fault_today
+pub today_disks : (c : Content) (o : Option Place) → first_some (table_faults c) ≡ None → record_fault (outline c) ≡ None → disk_fault (outline c) ≡ o → first_fault_today c ≡ o
+unfolding fault_today_of
 today_disks c o none right h =
-    first_behind (table_faults c) (record_fault c ∷ disk_fault c ∷ []) none ∙ ap (λ q. first_some (q ∷ disk_fault c ∷ [])) right ∙ only (disk_fault c) ∙ h
+    first_behind (table_faults c) (record_fault (outline c) ∷ disk_fault (outline c) ∷ []) none ∙ ap (λ q. first_some (q ∷ disk_fault (outline c) ∷ [])) right ∙ only (disk_fault (outline c)) ∙ h
 
 -- ---- where the checks by the table pass
 
@@ -88,15 +90,15 @@ not_not : (b : Bool) → not b ≡ false → b ≡ true
 not_not true h = refl
 not_not false h = absurd (let e = h in cc)
 
-records_long : (c : Content) (o : Option Row) → not (has_records c o) ≡ false → length (extents_of o) ≡ record_extents c.extent
+records_long : (c : Content) (o : Option Row) → not (has_records (outline c) o) ≡ false → length (extents_of o) ≡ record_extents c.extent
 records_long c None h = absurd (let e = h in cc)
 records_long c (Some r) h = eq_of (length r.extents) (record_extents c.extent) (not_not (length r.extents == record_extents c.extent) h)
 
-volume_long : (c : Content) → record_volume_fault c ≡ None → length (extents_of (row c Mgt)) ≡ record_extents c.extent
+volume_long : (c : Content) → record_volume_fault (outline c) ≡ None → length (extents_of (row c Mgt)) ≡ record_extents c.extent
 unfolding record_volume_fault
-volume_long c h = records_long c (row c Mgt) (none_given (not (has_records c (row c Mgt))) at.Mgt h)
+volume_long c h = records_long c (row c Mgt) (none_given (not (has_records (outline c) (row c Mgt))) at.Mgt h)
 
-few : (c : Content) → too_many_fault c ≡ None → length (images c.table) ≤ 500
+few : (c : Content) → too_many_fault (outline c) ≡ None → length (images c.table) ≤ 500
 unfolding too_many_fault
 few c h = ltb-false 500 (length (images c.table)) (none_given (nat_lt image_limit (length (images c.table))) at.Images h)
 
@@ -107,9 +109,9 @@ checked_from s t table extents none =
     record {
       table = table;
       few_extents = extents;
-      plain = plain_from c (each (entry_ahead_fault c) (inr (inr (inr (inl refl))))) (each (image_ahead_fault c) (inr (inr (inr (inr (inl refl))))));
-      few_images = few c (each (too_many_fault c) (inr (inl refl)));
-      record_volume = volume_long c (each (record_volume_fault c) (inl refl));
+      plain = plain_from c (each (entry_ahead_fault (outline c)) (inr (inr (inr (inl refl))))) (each (image_ahead_fault (outline c)) (inr (inr (inr (inr (inl refl))))));
+      few_images = few c (each (too_many_fault (outline c)) (inr (inl refl)));
+      record_volume = volume_long c (each (record_volume_fault (outline c)) (inl refl));
     }
 
 -- ---- the records
@@ -124,13 +126,13 @@ as_right : (o : Option Record) → is_damaged (as_reading o) ≡ false
 as_right None = refl
 as_right (Some r) = refl
 
-pub records_right : (c : Content) (places : List (Option Record)) → HasPlaces places c → record_fault c ≡ None
+pub records_right : (c : Content) (places : List (Option Record)) → HasPlaces places c → record_fault (outline c) ≡ None
 unfolding record_fault
 records_right c places has =
-    ap record_place (find_none (λ k. is_damaged (reading_at c k)) (numbers 0 record_count)
+    ap record_place (find_none (λ k. is_damaged (reading_in c k)) (numbers 0 record_count)
     (λ k h. let w = In-numbers 0 record_count k h in
     let found : slice_get places k ≡ Some (get_or places k None) = slice_get-get_or places k None (omega (arith, w.1, has.long)) in
-    ap is_damaged (has.each k (get_or places k None) found) ∙ as_right (get_or places k None)))
+    ap is_damaged (reading_within c k w.1 ∙ has.each k (get_or places k None) found) ∙ as_right (get_or places k None)))
 
 first_step : (test : ℕ → Bool) (a : ℕ) (b : Bool) (rest : Option ℕ) (k : ℕ) → test a ≡ b → (a ≡ k → test k ≡ true → b ≡ true) → (a ≢ k → b ≡ false) → (a ≢ k → rest ≡ Some k) → (a ≡ k) ⊎ (a ≢ k)
     → test k ≡ true → cond b (Some a) rest ≡ Some k
@@ -156,17 +158,17 @@ damaged_test Free h = refl
 damaged_test (Taken x) h = refl
 damaged_test Damaged h = absurd (h refl)
 
-reading_place : {s : Site} {t : VolumeTable} (area : Held) (k : ℕ) → IsChecked s t → k < record_count → reading_at (content_now s t area) k ≡ reading_of (records_held s t area) k
+reading_held : {s : Site} {t : VolumeTable} (area : Held) (k : ℕ) → IsChecked s t → k < record_count → reading_in (content_now s t area) k ≡ reading_of (records_held s t area) k
 unfolding sectors_of piece
-reading_place {s} {t} area k c below = ap reading (sym (volume_reads s.geometry.extent (record_places t) area k (omega (arith, below, records_fit c))))
+reading_held {s} {t} area k c below = reading_within (content_now s t area) k below ∙ ap reading (sym (volume_reads s.geometry.extent (record_places t) area k (omega (arith, below, records_fit c))))
 
 -- the first sector that is damaged
-pub records_wrong : {s : Site} {t : VolumeTable} (area : Held) (k : ℕ) → IsChecked s t → IsFirstDamaged (records_held s t area) k → record_fault (content_now s t area) ≡ Some (at.Record k)
+pub records_wrong : {s : Site} {t : VolumeTable} (area : Held) (k : ℕ) → IsChecked s t → IsFirstDamaged (records_held s t area) k → record_fault (outline (content_now s t area)) ≡ Some (at.Record k)
 unfolding record_fault
 records_wrong {s} {t} area k c first =
-    ap record_place (first_number (λ j. is_damaged (reading_at (content_now s t area) j)) 0 record_count k (omega arith) (omega (arith, first.within))
-    (ap is_damaged (reading_place area k c first.within ∙ first.damaged))
-    (λ j lo hi. damaged_test (reading_at (content_now s t area) j) (λ e. first.before j hi (sym (reading_place area j c (omega (arith, first.within))) ∙ e))))
+    ap record_place (first_number (λ j. is_damaged (reading_in (content_now s t area) j)) 0 record_count k (omega arith) (omega (arith, first.within))
+    (ap is_damaged (reading_held area k c first.within ∙ first.damaged))
+    (λ j lo hi. damaged_test (reading_in (content_now s t area) j) (λ e. first.before j hi (sym (reading_held area j c (omega (arith, first.within))) ∙ e))))
 
 -- ---- as the checks are called
 
@@ -178,7 +180,7 @@ tables_say s g k kept o same geometry says image =
 
 pub all_say : {s : Site} {t u : VolumeTable} (area : Held) (places : List (Option Record)) (o : Option Place) → IsChecked s t → u ≡ t → Agrees (records_held s t area) places
     → ((image : ℕ → List ℕ) → first_some (table_faults (content_in s t image)) ≡ None)
-    → ((c : Content) → c.table ≡ u → HasPlaces places c → o ≡ disk_fault c) → first_fault_today (content_now s t area) ≡ o
+    → ((c : Content) → c.table ≡ u → HasPlaces places c → o ≡ disk_fault (outline c)) → first_fault_today (content_now s t area) ≡ o
 all_say {s} {t} {u} area places o c same agrees none says =
     let has = has_places area places c agrees in
     today_disks (content_now s t area) o (none (reads area)) (records_right (content_now s t area) places has) (sym (says (content_now s t area) (sym same) has))

@@ -14,6 +14,7 @@ use Rattle.sm_record.specs.declared.records.Record.{Record}
 use Rattle.sm_mgt.specs.Places.{place_count, is_of, as_reading}
 use Rattle.sm_standing.specs.Contents.{Content, reading_at}
 use Rattle.sm_standing.specs.Checks.{record_volume_fault, too_many_fault, misnamed_fault, entry_ahead_fault, image_ahead_fault, invalid_fault, is_oversize}
+use Rattle.sm_standing.specs.Outlines.{outline}
 use Rattle.sm_standing.specs.Ordered.{uuid_cmp}
 use Rattle.sm_standing.specs.Standing.{standing_volume}
 
@@ -26,12 +27,12 @@ pub record HasTable (geometry : Geometry) (t : VolumeTable) (c : Content) : Type
 
 -- the checks that look at these alone, in their order
 abbrev pub table_faults : Content → List (Option Place)
-table_faults c = record_volume_fault c
-    ∷ too_many_fault c
-    ∷ misnamed_fault c
-    ∷ entry_ahead_fault c
-    ∷ image_ahead_fault c
-    ∷ invalid_fault c
+table_faults c = record_volume_fault (outline c)
+    ∷ too_many_fault (outline c)
+    ∷ misnamed_fault (outline c)
+    ∷ entry_ahead_fault (outline c)
+    ∷ image_ahead_fault (outline c)
+    ∷ invalid_fault (outline c)
     ∷ []
 
 -- a content with these places of records

@@ -3,11 +3,12 @@ use Rattle.std.proofs.Common.{◌≡◌, ℕ, zero, suc, ◌<◌, ◌&&◌, ◌|
 use Rattle.std.specs.List.{list_any}
 use Rattle.std.proofs.lemmas.Slice.Eq.{bytes_eq-Decides}
 use Rattle.sm_base.specs.declared.names.Name.{Name}
-use Rattle.sm_base.specs.declared.names.Name.TheVariants.{Mgt, Vhd, Raw, Old, Clone, Inflate, Coalesce, Relink, Leaf}
+use Rattle.sm_base.specs.declared.names.Name.TheVariants.{Vhd, Raw, Old, Leaf}
 use Rattle.vg_meta.specs.Tables.{Row, VolumeTable}
 use Rattle.common_laws.specs.Lists.{numbers, ◌>>=◌}
 use Rattle.sm_standing.specs.Changes.{turns_of, parent_of, IsCopied}
 use Rattle.sm_standing.specs.Checks.{depth}
+use Rattle.sm_standing.specs.Outlines.{link_of, outline}
 use Rattle.sm_standing.specs.Contents.{Content, row, record_of}
 use Rattle.sm_standing.specs.Entries.{of_row, is_visible, is_among, uuids_in, folding, making, head, is_leaf_renamed, is_leaf_swapped}
 use Rattle.sm_standing.specs.Images.{Image, ImageAnswer, here, up, answer_of, walk, image_reads, image_of, sectors_read}
@@ -149,7 +150,7 @@ abbrev pub IsClosedApart : Content → List (List ℕ) → Type 0
 IsClosedApart a us = (m p : Name) → is_apart us m ≡ true → parent_of a m ≡ Some p → is_apart us p ≡ true
 
 sends_parent : (a : Content) (s : ℕ) (n p : Name) → answer_of s (image_of a n) ≡ up p → parent_of a n ≡ Some p
-sends_parent a s n p sent = let w = turn-up s (image_of a n) p sent in ap (λ o. o >>= (λ i. i.parent)) w.there ∙ w.parent
+sends_parent a s n p sent = let w = turn-up s (image_of a n) p sent in ap (λ o. link_of o >>= (λ i. i.parent)) w.there ∙ w.parent
 
 walk_apart : (a b : Content) (us : List (List ℕ)) → IsSameApart a b us → IsClosedApart a us → (k : ℕ) (n : Name) → is_apart us n ≡ true → (s : ℕ)
     → walk k (turns_of b s) n ≡ walk k (turns_of a s) n
@@ -177,24 +178,24 @@ reads_moved a b us n m same closed image above s =
     ap (λ t. elim t [ here x ↦ x | up p ↦ walk 29 (turns_of b s) p ]) (ap (answer_of s) image)
     ∙ turned_same (turns_of a s) (turns_of b s) 29 (answer_of s (image_of a n)) (λ p sent. walk_apart a b us same closed 29 p (above p (sends_parent a s n p sent)) s)
 
-counted_same : (a b : Content) (k : ℕ) (o : Option Name) → ((p : Name) → o ≡ Some p → depth b k p ≡ depth a k p)
-    → suc (elim o [ None ↦ 0 | Some p ↦ depth b k p ]) ≡ suc (elim o [ None ↦ 0 | Some p ↦ depth a k p ])
+counted_same : (a b : Content) (k : ℕ) (o : Option Name) → ((p : Name) → o ≡ Some p → depth (outline b) k p ≡ depth (outline a) k p)
+    → suc (elim o [ None ↦ 0 | Some p ↦ depth (outline b) k p ]) ≡ suc (elim o [ None ↦ 0 | Some p ↦ depth (outline a) k p ])
 counted_same a b k None rest = refl
 counted_same a b k (Some p) rest = ap suc (rest p refl)
 
-depth_apart : (a b : Content) (us : List (List ℕ)) → IsSameApart a b us → IsClosedApart a us → (k : ℕ) (n : Name) → is_apart us n ≡ true → depth b k n ≡ depth a k n
+depth_apart : (a b : Content) (us : List (List ℕ)) → IsSameApart a b us → IsClosedApart a us → (k : ℕ) (n : Name) → is_apart us n ≡ true → depth (outline b) k n ≡ depth (outline a) k n
 unfolding depth
 depth_apart a b us same closed zero n is = refl
 depth_apart a b us same closed (suc k) n is =
-    ap (λ o. suc (elim (o >>= (λ (i : Image). i.parent)) [ None ↦ 0 | Some p ↦ depth b k p ])) (same.images n is)
+    ap (λ o. suc (elim (link_of o >>= (λ i. i.parent)) [ None ↦ 0 | Some p ↦ depth (outline b) k p ])) (same.images n is)
     ∙ counted_same a b k (parent_of a n) (λ p at. depth_apart a b us same closed k p (closed n p is at))
 
 pub depth_moved : (a b : Content) (us : List (List ℕ)) (n m : Name) → IsSameApart a b us → IsClosedApart a us → image_of b m ≡ image_of a n
-    → ((p : Name) → parent_of a n ≡ Some p → is_apart us p ≡ true) → (k : ℕ) → depth b k m ≡ depth a k n
+    → ((p : Name) → parent_of a n ≡ Some p → is_apart us p ≡ true) → (k : ℕ) → depth (outline b) k m ≡ depth (outline a) k n
 unfolding depth
 depth_moved a b us n m same closed image above zero = refl
 depth_moved a b us n m same closed image above (suc k) =
-    ap (λ o. suc (elim (o >>= (λ (i : Image). i.parent)) [ None ↦ 0 | Some p ↦ depth b k p ])) image
+    ap (λ o. suc (elim (link_of o >>= (λ i. i.parent)) [ None ↦ 0 | Some p ↦ depth (outline b) k p ])) image
     ∙ counted_same a b k (parent_of a n) (λ p at. depth_apart a b us same closed k p (above p at))
 
 -- ---- sectors and disks

@@ -1,5 +1,5 @@
 -- No check of an opening fails at a moment of the worked fork, of the worked swap or of the worked relink.
-use Rattle.std.proofs.Common.{◌≡◌, ℕ, ◌==◌, ◌&&◌, ◌||◌, not, nat_le, Bool, true, false, suc, List, [], ◌∷◌, ◌++◌, length, Option, Some, None, is_none, refl, ap, ap₂, ◌∙◌, if◌then◌else◌}
+use Rattle.std.proofs.Common.{◌≡◌, ℕ, ◌==◌, ◌&&◌, ◌||◌, not, nat_le, Bool, true, false, suc, List, [], ◌∷◌, ◌++◌, length, Option, Some, None, refl, ap, ap₂, ◌∙◌, if◌then◌else◌}
 use Rattle.std.specs.List.{filter}
 use Rattle.sm_base.specs.Names.{is_base}
 use Rattle.sm_base.specs.Numbers.{div_up}
@@ -10,7 +10,8 @@ use Rattle.common_laws.specs.Lists.{◌>>=◌, numbers}
 use Rattle.sm_machine.specs.Shapes.{same_image}
 use Rattle.sm_record.specs.declared.records.Record.{Record}
 use Rattle.layout_examples.specs.SmallImages.{table_of, empty}
-use Rattle.sm_standing.specs.Checks.{first_fault, children, chain_length, is_misplaced, record_fault, first_name, record_volume_fault, too_many_fault, misnamed_fault, second_entry_fault, lost_entry_fault, old_leaf_fault, parent_is, of_image, has_such_parent, children_with, is_base_of, is_entry_linked}
+use Rattle.sm_standing.specs.Checks.{first_fault, children, chain_length, is_misplaced, record_fault, first_name, record_volume_fault, too_many_fault, misnamed_fault, second_entry_fault, lost_entry_fault, old_leaf_fault, of_image, has_such_parent, children_with, is_base_of, is_entry_linked}
+use Rattle.sm_standing.specs.Outlines.{link_of, outline}
 use Rattle.sm_standing.specs.Contents.{Content, records}
 use Rattle.sm_standing.specs.Entries.{making, image_with, is_at_stage, is_fork_made, is_leaf_copied, is_leaf_renamed, is_leaf_swapped}
 use Rattle.sm_standing.specs.Images.{Image, image_of, vhd_image, image_extents}
@@ -25,7 +26,7 @@ use Rattle.sm_stages.proofs.PlacedLaws.{one_record, one_undamaged, two_undamaged
 use Rattle.sm_stages.proofs.RelinkOpened.{second_named, over_second, first_image, second_image, base_image}
 use Rattle.sm_stages.proofs.SwapExample.{filled_size, filled_parent, parent_image, leaf_image, below_image}
 use Rattle.sm_stages.proofs.WorkedLaws.{child_size}
-use Rattle.sm_stages.proofs.WorkedSound.{sound, recorded, written_out, saying, saying_top, saying_child, ap₃, images_of, kept, children_are, free, chain_top, chain_up, top_right, child_right, over_right}
+use Rattle.sm_stages.proofs.WorkedSound.{sound, recorded, written_out, saying, saying_top, saying_child, ap₃, valid, images_of, kept, is_under, children_are, free, chain_top, chain_up, top_right, child_right, over_right}
 
 -- ---- the entries' conditions, where it is known what the images say
 
@@ -42,31 +43,31 @@ unfilled c u place is = ap (λ (o : Option Row). o >>= (λ r. if r.fresh then No
 abbrev fork_right : VolumeTable → Option Image → Option Image → List Row → Bool
 fork_right t o p rs =
     not (is_fork_made t first base second)
-    || (is_base_of base o && (is_base_of base p && (length (filter (λ (r : Row). not (same_image r.name (Vhd first) || same_image r.name (Vhd second))) rs) == 0)))
+    || (is_base_of base (link_of o) && (is_base_of base (link_of p) && (length (filter (λ (r : Row). not (same_image r.name (Vhd first) || same_image r.name (Vhd second))) rs) == 0)))
 
 fork_linked : (c : Content) (o p : Option Image) (os : List (Option Image)) → images_of c ≡ os → image_of c (Vhd first) ≡ o → image_of c (Vhd second) ≡ p
-    → fork_right c.table o p (kept (parent_is (Vhd base)) c.table.volumes os ++ kept (parent_is (Raw base)) c.table.volumes os) ≡ true
-    → not (is_entry_linked c (Clone first base second)) ≡ false
+    → fork_right c.table o p (kept (is_under (Vhd base)) c.table.volumes os ++ kept (is_under (Raw base)) c.table.volumes os) ≡ true
+    → not (is_entry_linked (outline c) (Clone first base second)) ≡ false
 unfolding is_entry_linked
 fork_linked c o p os are is_first is_second right =
-    ap₂ (λ v w. not (fork_right c.table v w (children_with c base))) is_first is_second
+    ap₂ (λ v w. not (fork_right c.table v w (children_with (outline c) base))) is_first is_second
     ∙ ap₂ (λ xs ys. not (fork_right c.table o p (xs ++ ys))) (children_are c os (Vhd base) are) (children_are c os (Raw base) are)
     ∙ ap not right
 
 -- the image of a leaf, and the children of its parent and of the leaf
 abbrev leaf_right : VolumeTable → Option Image → List Row → List Row → Bool
 leaf_right t o below above =
-    if is_leaf_copied t first base then parent_is (Vhd base) o && (length below == 1)
+    if is_leaf_copied t first base then is_under (Vhd base) o && (length below == 1)
     else if is_leaf_renamed t first base then length below == 0
     else if is_leaf_swapped t first base then length above == 0
     else true
 
 leaf_linked : (c : Content) (o : Option Image) (os : List (Option Image)) → images_of c ≡ os → image_of c (Vhd first) ≡ o
-    → leaf_right c.table o (kept (parent_is (Vhd base)) c.table.volumes os) (kept (parent_is (Vhd first)) c.table.volumes os) ≡ true
-    → not (is_entry_linked c (Leaf first base)) ≡ false
+    → leaf_right c.table o (kept (is_under (Vhd base)) c.table.volumes os) (kept (is_under (Vhd first)) c.table.volumes os) ≡ true
+    → not (is_entry_linked (outline c) (Leaf first base)) ≡ false
 unfolding is_entry_linked
 leaf_linked c o os are is_first right =
-    ap (λ v. not (leaf_right c.table v (children c (Vhd base)) (children c (Vhd first)))) is_first
+    ap (λ v. not (leaf_right c.table v (children (outline c) (Vhd base)) (children (outline c) (Vhd first)))) is_first
     ∙ ap₂ (λ xs ys. not (leaf_right c.table o xs ys)) (children_are c os (Vhd base) are) (children_are c os (Vhd first) are)
     ∙ ap not right
 
@@ -83,10 +84,10 @@ written_top : (t : VolumeTable) (rs : List Record) (u : List ℕ) (hidden : Bool
     → image_of (content_with t (fork_area rs)) (Vhd u) ≡ Some (written_out None (top 17))
 written_top t rs u hidden there whole = saying_top (content_with t (fork_area rs)) (Vhd u) 17 (disk_image t rs u hidden (Vhd u) there whole)
 
-early_undamaged : (t : VolumeTable) → HasRecords t → record_fault (early t) ≡ None
+early_undamaged : (t : VolumeTable) → HasRecords t → record_fault (outline (early t)) ≡ None
 early_undamaged t there = one_undamaged t (top_image 17) (empty_child (Vhd base)) (empty_child (Vhd base)) first_record there first_right
 
-late_undamaged : (t : VolumeTable) → HasRecords t → record_fault (late t) ≡ None
+late_undamaged : (t : VolumeTable) → HasRecords t → record_fault (outline (late t)) ≡ None
 late_undamaged t there = two_undamaged t (top_image 17) (empty_child (Vhd base)) (empty_child (Vhd base)) first_record second_record there first_right second_right
 
 early_records : (t : VolumeTable) → HasRecords t → records (early t) ≡ first_record ∷ []
@@ -105,7 +106,7 @@ sound_1 : first_fault (early fork_1) ≡ None
 unfolding record_volume_fault too_many_fault misnamed_fault second_entry_fault lost_entry_fault old_leaf_fault first_name is_at_stage is_entry_linked row_of name_eq is_base numbers record_extents div_up same_image standing_volume uuids with_uuid in_order image_with
 sound_1 = sound (early fork_1) (record {
   table = refl;
-  invalid = (refl, (ap is_none first_1, (refl, tt)));
+  invalid = (refl, (valid first_1, (refl, tt)));
   tree = (refl, (top_right (early fork_1) first false 16 (top 17) first_1 (free (early fork_1) _ first false images_1 refl), (refl, tt)));
   entry_link = (refl, (refl, (refl, tt)));
   records = early_undamaged fork_1 refl;
@@ -128,7 +129,7 @@ sound_2 : first_fault (early fork_2) ≡ None
 unfolding record_volume_fault too_many_fault misnamed_fault second_entry_fault lost_entry_fault old_leaf_fault first_name is_at_stage is_entry_linked row_of name_eq is_base numbers record_extents div_up same_image standing_volume uuids with_uuid in_order image_with
 sound_2 = sound (early fork_2) (record {
   table = refl;
-  invalid = (refl, (ap is_none base_2, (refl, tt)));
+  invalid = (refl, (valid base_2, (refl, tt)));
   tree = (refl, (top_right (early fork_2) base false 16 (top 17) base_2 (free (early fork_2) _ base false images_2 refl), (refl, tt)));
   entry_link = (refl, (refl, (fork_linked (early fork_2) _ _ _ images_2 (absent (early fork_2) first refl) (absent (early fork_2) second refl) refl, tt)));
   records = early_undamaged fork_2 refl;
@@ -151,7 +152,7 @@ sound_3 : first_fault (early fork_3) ≡ None
 unfolding record_volume_fault too_many_fault misnamed_fault second_entry_fault lost_entry_fault old_leaf_fault first_name is_at_stage is_entry_linked row_of name_eq is_base numbers record_extents div_up same_image standing_volume uuids with_uuid in_order image_with
 sound_3 = sound (early fork_3) (record {
   table = refl;
-  invalid = (refl, (ap is_none base_3, (refl, tt)));
+  invalid = (refl, (valid base_3, (refl, tt)));
   tree = (refl, (top_right (early fork_3) base true 16 (top 17) base_3 refl, (refl, tt)));
   entry_link = (refl, (refl, (fork_linked (early fork_3) _ _ _ images_3 (absent (early fork_3) first refl) (absent (early fork_3) second refl) refl, tt)));
   records = early_undamaged fork_3 refl;
@@ -178,8 +179,8 @@ sound_4 : first_fault (early fork_4) ≡ None
 unfolding record_volume_fault too_many_fault misnamed_fault second_entry_fault lost_entry_fault old_leaf_fault first_name is_at_stage is_entry_linked row_of name_eq is_base numbers record_extents div_up same_image standing_volume uuids with_uuid in_order image_with
 sound_4 = sound (early fork_4) (record {
   table = refl;
-  invalid = (refl, (refl, (ap is_none base_4, (refl, tt))));
-  tree = (refl, (ap (is_misplaced (early fork_4) (fresh_row (Vhd first) 21)) first_4, (top_right (early fork_4) base true 16 (top 17) base_4 refl, (refl, tt))));
+  invalid = (refl, (refl, (valid base_4, (refl, tt))));
+  tree = (refl, (ap (λ o. is_misplaced (outline (early fork_4)) (fresh_row (Vhd first) 21) (link_of o)) first_4, (top_right (early fork_4) base true 16 (top 17) base_4 refl, (refl, tt))));
   entry_link = (refl, (refl, (refl, (fork_linked (early fork_4) _ _ _ images_4 first_4 (absent (early fork_4) second refl) refl, tt))));
   records = early_undamaged fork_4 refl;
   disks = recorded (early fork_4) (first_record ∷ []) (early_records fork_4 refl) refl;
@@ -209,8 +210,8 @@ sound_5 : first_fault (early fork_5) ≡ None
 unfolding record_volume_fault too_many_fault misnamed_fault second_entry_fault lost_entry_fault old_leaf_fault first_name is_at_stage is_entry_linked row_of name_eq is_base numbers record_extents div_up same_image standing_volume uuids with_uuid in_order image_with
 sound_5 = sound (early fork_5) (record {
   table = refl;
-  invalid = (refl, (refl, (refl, (ap is_none base_5, (refl, tt)))));
-  tree = (refl, (ap (is_misplaced (early fork_5) (fresh_row (Vhd first) 21)) first_5, (ap (is_misplaced (early fork_5) (fresh_row (Vhd second) 26)) second_5, (top_right (early fork_5) base true 16 (top 17) base_5 refl, (refl, tt)))));
+  invalid = (refl, (refl, (refl, (valid base_5, (refl, tt)))));
+  tree = (refl, (ap (λ o. is_misplaced (outline (early fork_5)) (fresh_row (Vhd first) 21) (link_of o)) first_5, (ap (λ o. is_misplaced (outline (early fork_5)) (fresh_row (Vhd second) 26) (link_of o)) second_5, (top_right (early fork_5) base true 16 (top 17) base_5 refl, (refl, tt)))));
   entry_link = (refl, (refl, (refl, (refl, (fork_linked (early fork_5) _ _ _ images_5 first_5 second_5 refl, tt)))));
   records = early_undamaged fork_5 refl;
   disks = recorded (early fork_5) (first_record ∷ []) (early_records fork_5 refl) refl;
@@ -240,8 +241,8 @@ sound_6 : first_fault (late fork_6) ≡ None
 unfolding record_volume_fault too_many_fault misnamed_fault second_entry_fault lost_entry_fault old_leaf_fault first_name is_at_stage is_entry_linked row_of name_eq is_base numbers record_extents div_up same_image standing_volume uuids with_uuid in_order image_with
 sound_6 = sound (late fork_6) (record {
   table = refl;
-  invalid = (refl, (ap is_none first_6, (refl, (ap is_none base_6, (refl, tt)))));
-  tree = (refl, (over_right (late fork_6) first base false 21 child (top 17) first_6 refl base_6 (free (late fork_6) _ first false images_6 refl), (ap (is_misplaced (late fork_6) (fresh_row (Vhd second) 26)) second_6, (top_right (late fork_6) base true 16 (top 17) base_6 refl, (refl, tt)))));
+  invalid = (refl, (valid first_6, (refl, (valid base_6, (refl, tt)))));
+  tree = (refl, (over_right (late fork_6) first base false 21 child (top 17) first_6 refl base_6 (free (late fork_6) _ first false images_6 refl), (ap (λ o. is_misplaced (outline (late fork_6)) (fresh_row (Vhd second) 26) (link_of o)) second_6, (top_right (late fork_6) base true 16 (top 17) base_6 refl, (refl, tt)))));
   entry_link = (refl, (refl, (refl, (refl, (fork_linked (late fork_6) _ _ _ images_6 first_6 second_6 refl, tt)))));
   records = late_undamaged fork_6 refl;
   disks = recorded (late fork_6) (first_record ∷ second_record ∷ []) (records_two fork_6 refl) refl;
@@ -271,7 +272,7 @@ sound_7 : first_fault (late fork_7) ≡ None
 unfolding record_volume_fault too_many_fault misnamed_fault second_entry_fault lost_entry_fault old_leaf_fault first_name is_at_stage is_entry_linked row_of name_eq is_base numbers record_extents div_up same_image standing_volume uuids with_uuid in_order image_with
 sound_7 = sound (late fork_7) (record {
   table = refl;
-  invalid = (refl, (ap is_none first_7, (ap is_none second_7, (ap is_none base_7, (refl, tt)))));
+  invalid = (refl, (valid first_7, (valid second_7, (valid base_7, (refl, tt)))));
   tree = (refl, (over_right (late fork_7) first base false 21 child (top 17) first_7 refl base_7 (free (late fork_7) _ first false images_7 refl), (over_right (late fork_7) second base false 26 child (top 17) second_7 refl base_7 (free (late fork_7) _ second false images_7 refl), (top_right (late fork_7) base true 16 (top 17) base_7 refl, (refl, tt)))));
   entry_link = (refl, (refl, (refl, (refl, (fork_linked (late fork_7) _ _ _ images_7 first_7 second_7 refl, tt)))));
   records = late_undamaged fork_7 refl;
@@ -291,7 +292,7 @@ written_parent : (t : VolumeTable) (u : List ℕ) (hidden : Bool) → rows t (Vh
     → image_of (swap_at t) (Vhd u) ≡ Some (written_out None (top 34))
 written_parent t u hidden there whole = saying_top (swap_at t) (Vhd u) 34 (parent_image t u hidden (Vhd u) there whole)
 
-leaf_undamaged : (t : VolumeTable) (byte : ℕ) → HasRecords t → record_fault (content_with t (leaf_area byte)) ≡ None
+leaf_undamaged : (t : VolumeTable) (byte : ℕ) → HasRecords t → record_fault (outline (content_with t (leaf_area byte))) ≡ None
 leaf_undamaged t byte there = one_undamaged t (top_image byte) (filled_child (Vhd base) 34) (empty_child (Vhd base)) first_record there first_right
 
 leaf_records : (t : VolumeTable) (byte : ℕ) → HasRecords t → records (content_with t (leaf_area byte)) ≡ first_record ∷ []
@@ -311,7 +312,7 @@ leaf_sound : (byte : ℕ) → image_of (leaf_at byte) (Vhd first) ≡ Some (writ
 unfolding record_volume_fault too_many_fault misnamed_fault second_entry_fault lost_entry_fault old_leaf_fault first_name is_at_stage is_entry_linked row_of name_eq is_base numbers record_extents div_up same_image standing_volume uuids with_uuid in_order image_with
 leaf_sound byte leaf parent = sound (leaf_at byte) (record {
   table = refl;
-  invalid = (refl, (ap is_none leaf, (ap is_none parent, (refl, tt))));
+  invalid = (refl, (valid leaf, (valid parent, (refl, tt))));
   tree = (refl, (over_right (leaf_at byte) first base false 21 (filled 34) (top byte) leaf refl parent (free (leaf_at byte) _ first false (leaf_images byte leaf parent) refl), (top_right (leaf_at byte) base true 16 (top byte) parent refl, (refl, tt))));
   entry_link = (refl, (refl, (refl, (leaf_linked (leaf_at byte) _ _ (leaf_images byte leaf parent) leaf refl, tt))));
   records = leaf_undamaged leaf_copied byte refl;
@@ -340,7 +341,7 @@ swap_sound_1 : first_fault (swap_at swap_1) ≡ None
 unfolding record_volume_fault too_many_fault misnamed_fault second_entry_fault lost_entry_fault old_leaf_fault first_name is_at_stage is_entry_linked row_of name_eq is_base numbers record_extents div_up same_image standing_volume uuids with_uuid in_order image_with
 swap_sound_1 = sound (swap_at swap_1) (record {
   table = refl;
-  invalid = (refl, (refl, (ap is_none parent_1, (refl, tt))));
+  invalid = (refl, (refl, (valid parent_1, (refl, tt))));
   tree = (refl, (refl, (top_right (swap_at swap_1) base true 16 (top 34) parent_1 refl, (refl, tt))));
   entry_link = (refl, (refl, (refl, (leaf_linked (swap_at swap_1) _ _ swap_images_1 (absent (swap_at swap_1) first refl) refl, tt))));
   records = leaf_undamaged swap_1 34 refl;
@@ -363,7 +364,7 @@ swap_sound_2 : first_fault (swap_at swap_2) ≡ None
 unfolding record_volume_fault too_many_fault misnamed_fault second_entry_fault lost_entry_fault old_leaf_fault first_name is_at_stage is_entry_linked row_of name_eq is_base numbers record_extents div_up same_image standing_volume uuids with_uuid in_order image_with
 swap_sound_2 = sound (swap_at swap_2) (record {
   table = refl;
-  invalid = (refl, (refl, (ap is_none parent_2, (refl, tt))));
+  invalid = (refl, (refl, (valid parent_2, (refl, tt))));
   tree = (refl, (refl, (top_right (swap_at swap_2) first true 16 (top 34) parent_2 refl, (refl, tt))));
   entry_link = (refl, (refl, (refl, (leaf_linked (swap_at swap_2) _ _ swap_images_2 parent_2 refl, tt))));
   records = leaf_undamaged swap_2 34 refl;
@@ -386,7 +387,7 @@ swap_sound_3 : first_fault (swap_at swap_3) ≡ None
 unfolding record_volume_fault too_many_fault misnamed_fault second_entry_fault lost_entry_fault old_leaf_fault first_name is_at_stage is_entry_linked row_of name_eq is_base numbers record_extents div_up same_image standing_volume uuids with_uuid in_order image_with
 swap_sound_3 = sound (swap_at swap_3) (record {
   table = refl;
-  invalid = (refl, (refl, (ap is_none parent_3, (refl, tt))));
+  invalid = (refl, (refl, (valid parent_3, (refl, tt))));
   tree = (refl, (refl, (top_right (swap_at swap_3) first false 16 (top 34) parent_3 (free (swap_at swap_3) _ first false swap_images_3 refl), (refl, tt))));
   entry_link = (refl, (refl, (refl, (leaf_linked (swap_at swap_3) _ _ swap_images_3 parent_3 refl, tt))));
   records = leaf_undamaged swap_3 34 refl;
@@ -409,7 +410,7 @@ swap_sound_4 : first_fault (swap_at swap_4) ≡ None
 unfolding record_volume_fault too_many_fault misnamed_fault second_entry_fault lost_entry_fault old_leaf_fault first_name is_at_stage is_entry_linked row_of name_eq is_base numbers record_extents div_up same_image standing_volume uuids with_uuid in_order image_with
 swap_sound_4 = sound (swap_at swap_4) (record {
   table = refl;
-  invalid = (refl, (ap is_none parent_4, (refl, tt)));
+  invalid = (refl, (valid parent_4, (refl, tt)));
   tree = (refl, (top_right (swap_at swap_4) first false 16 (top 34) parent_4 (free (swap_at swap_4) _ first false swap_images_4 refl), (refl, tt)));
   entry_link = (refl, (refl, (leaf_linked (swap_at swap_4) _ _ swap_images_4 parent_4 refl, tt)));
   records = leaf_undamaged swap_4 34 refl;
@@ -434,23 +435,23 @@ relink_images : images_of relinking ≡ None ∷ Some (written_out (Some (Vhd se
 unfolding image_of
 relink_images = ap₃ (λ o p q. None ∷ o ∷ p ∷ q ∷ None ∷ []) relink_first relink_second relink_base
 
-relink_depth : chain_length relinking 31 (Vhd first) ≡ 3
+relink_depth : chain_length (outline relinking) 31 (Vhd first) ≡ 3
 relink_depth =
     chain_up relinking 30 (Vhd first) (Vhd second) (empty_over second) relink_first
     ∙ ap (λ d. suc d) (chain_up relinking 29 (Vhd second) (Vhd base) (empty_over base) relink_second ∙ ap (λ d. suc d) (chain_top relinking 28 (Vhd base) (top 17) relink_base))
 
 relink_linked : (c : Content) → image_of c (Vhd second) ≡ Some (written_out (Some (Vhd base)) (empty_over base)) → image_of c (Vhd base) ≡ Some (written_out None (top 17))
-    → not (is_entry_linked c (Relink second base)) ≡ false
+    → not (is_entry_linked (outline c) (Relink second base)) ≡ false
 unfolding is_entry_linked same_image
 relink_linked c hidden below =
-    ap (λ o. not (of_image (λ v. has_such_parent c base (λ p. nat_le v.size p.size) v.parent) o)) hidden
-    ∙ ap (λ o. not (of_image (λ (p : Image). nat_le 128 p.size) o)) below
+    ap (λ o. not (of_image (λ v. has_such_parent (outline c) base (λ p. nat_le v.size p.size) v.parent) (link_of o))) hidden
+    ∙ ap (λ o. not (of_image (λ p. nat_le 128 p.size) (link_of o))) below
 
 pub relink_sound : first_fault relinking ≡ None
 unfolding record_volume_fault too_many_fault misnamed_fault second_entry_fault lost_entry_fault old_leaf_fault first_name is_at_stage is_entry_linked row_of name_eq is_base numbers record_extents div_up same_image standing_volume uuids with_uuid in_order image_with
 relink_sound = sound relinking (record {
   table = refl;
-  invalid = (refl, (ap is_none relink_first, (ap is_none relink_second, (ap is_none relink_base, (refl, tt)))));
+  invalid = (refl, (valid relink_first, (valid relink_second, (valid relink_base, (refl, tt)))));
   tree =
       let disk = child_right relinking first second false 21 (empty_over second) (empty_over base) (Some (Vhd base)) relink_first refl relink_second (ap (λ d. nat_le d 30) relink_depth) (free relinking _ first false relink_images refl) in
       let middle = over_right relinking second base true 26 (empty_over base) (top 17) relink_second refl relink_base refl in
@@ -478,7 +479,7 @@ pub linked_sound : first_fault (relinked_at 0) ≡ None
 unfolding record_volume_fault too_many_fault misnamed_fault second_entry_fault lost_entry_fault old_leaf_fault first_name is_at_stage is_entry_linked row_of name_eq is_base numbers record_extents div_up same_image standing_volume uuids with_uuid in_order image_with
 linked_sound = sound (early relink_table) (record {
   table = refl;
-  invalid = (refl, (ap is_none linked_first, (ap is_none linked_second, (ap is_none linked_base, (refl, tt)))));
+  invalid = (refl, (valid linked_first, (valid linked_second, (valid linked_base, (refl, tt)))));
   tree =
       let disk = over_right (early relink_table) first base false 21 child (top 17) linked_first refl linked_base (free (early relink_table) _ first false linked_images refl) in
       let hidden = over_right (early relink_table) second base true 26 child (top 17) linked_second refl linked_base refl in

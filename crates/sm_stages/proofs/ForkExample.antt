@@ -19,6 +19,7 @@ use Rattle.sm_standing.specs.Changes.{parent_of}
 use Rattle.sm_standing.specs.Contents.{Content, records, record_of, is_record_of}
 use Rattle.sm_standing.specs.Entries.{making, folding, head, image_with}
 use Rattle.standing_examples.specs.SmallContents.{record_row}
+use Rattle.sm_standing.specs.Outlines.{link_of, outline}
 use Rattle.sm_standing.specs.Images.{Image, image_of, image_extents}
 use Rattle.sm_standing.specs.Standing.{standing_volume}
 use Rattle.sm_standing.proofs.DisksShown.{row_of-In}
@@ -102,7 +103,7 @@ pub named : (rs : List Row) (n : Name) (r : Row) → row_of rs n ≡ Some r → 
 named rs n r there = let w = row_of-In rs n r there in (w.0, sym (name_eq-true r.name n w.1))
 
 pub unforked_parent : parent_of unforked (Vhd first) ≡ None
-unforked_parent = ap (λ o. o >>= (λ (i : Image). i.parent)) unforked_image ∙ top_parent 17
+unforked_parent = ap (λ o. link_of o >>= (λ i. i.parent)) unforked_image ∙ top_parent 17
 
 records_none : (c : Content) → parent_of c Mgt ≡ None
 unfolding image_of
@@ -117,7 +118,7 @@ no_parents m p is = by (image_of unforked m) refl
     at r (inr (inr none), name) = elim none [ ]
 
     by : (o : Option Image) → image_of unforked m ≡ o → ⊥
-    by None none = let e = sym is ∙ ap (λ o. o >>= (λ (i : Image). i.parent)) none in (let x = e in cc)
+    by None none = let e = sym is ∙ ap (λ o. link_of o >>= (λ i. i.parent)) none in (let x = e in cc)
     by (Some i) some = let w = image_there unforked m i some in at w.0 (named (one_disk).volumes m w.0 w.1)
 
 pub forkable : IsForkable unforked first base second (Vhd first) (top 17)
@@ -130,7 +131,7 @@ forkable = record {
   none_making = refl;
   beside = refl;
   childless = λ m p is. absurd (no_parents m p is);
-  room = let e = depth_top unforked 29 (Vhd first) unforked_parent in omega (arith, e);
+  room = let e = depth_top (outline unforked) 29 (Vhd first) unforked_parent in omega (arith, e);
 }
 
 -- ---- its records

@@ -11,6 +11,7 @@ use Rattle.sm_machine.specs.Disks.{Disk, with_disk}
 use Rattle.common_laws.specs.Lists.{◌>>=◌}
 use Rattle.sm_standing.specs.Changes.{parent_of, IsShortChain}
 use Rattle.sm_standing.specs.Checks.{depth}
+use Rattle.sm_standing.specs.Outlines.{outline}
 use Rattle.sm_standing.specs.Contents.{Content, record_of}
 use Rattle.sm_standing.specs.Entries.{folding, head, image_with, is_among, is_visible}
 use Rattle.sm_standing.specs.Images.{Image, sectors_read}
@@ -170,8 +171,8 @@ child_sectors a b disk base twin n m i j l entry h k x child c =
     let closed = closed_apart a disk base twin n i h in
     let above : (p : Name) → parent_of a n ≡ Some p → is_apart (forked disk base twin) p ≡ true = λ p at. h.childless n p at in
     let counted = depth_moved a b (forked disk base twin) n m k.apart closed k.image above 30 in
-    let up_to = depth_up b 30 x m (parent-is b x m child c.image c.parent) in
-    let room : depth a 30 n < 30 = h.room in
+    let up_to = depth_up (outline b) 30 x m (parent-is b x m child c.image c.parent) in
+    let room : depth (outline a) 30 n < 30 = h.room in
     let short : IsShortChain b x = omega (arith, counted, up_to, room) in
     sectors_sized a b n x i child h.image c.image (sym c.size) (λ s below.
     copied b x m child i (empty_copied b x m child i c) short s (omega (arith, below, c.size))

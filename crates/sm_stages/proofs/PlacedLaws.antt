@@ -20,6 +20,8 @@ use Rattle.sm_standing.specs.Entries.{making}
 use Rattle.standing_examples.specs.SmallContents.{record_row}
 use Rattle.sm_standing.specs.Images.{image_of, vhd_image, image_extents}
 use Rattle.sm_standing.specs.Checks.{is_damaged, record_place, record_fault}
+use Rattle.sm_standing.specs.Outlines.{reading_in, outline}
+use Rattle.sm_standing.proofs.OutlineLaws.{reading_within}
 use Rattle.common_laws.proofs.Lists.{find_none, In-numbers}
 use Rattle.sm_stages.specs.Worked.{laid, record_area, area_of, content_with}
 use Rattle.sm_stages.proofs.PieceLaws.{same_image_at}
@@ -158,15 +160,15 @@ two_right r s right right' (suc zero) = taken_right s right'
 two_right r s right right' (suc (suc k)) = free_right (r ∷ s ∷ []) (suc (suc k)) refl
 
 by_sector : (t : VolumeTable) (x y z : Sectors) (rs : List Record) → rows t Mgt ≡ Some (record_row (numbers 0 16)) → ((k : ℕ) → is_damaged (reading (record_area rs k)) ≡ false)
-    → record_fault (content_with t (area_of x y z rs)) ≡ None
+    → record_fault (outline (content_with t (area_of x y z rs))) ≡ None
 unfolding record_fault
 by_sector t x y z rs there right =
-    ap record_place (find_none (λ k. is_damaged (reading_at (content_with t (area_of x y z rs)) k)) (numbers 0 512) (λ k h.
-    let within = (In-numbers 0 512 k h).1 in ap is_damaged (reading_placed t x y z rs k there (omega (arith, within))) ∙ right k))
+    ap record_place (find_none (λ k. is_damaged (reading_in (content_with t (area_of x y z rs)) k)) (numbers 0 512) (λ k h.
+    let within = (In-numbers 0 512 k h).1 in ap is_damaged (reading_within (content_with t (area_of x y z rs)) k within ∙ reading_placed t x y z rs k there (omega (arith, within))) ∙ right k))
 
-pub one_undamaged : (t : VolumeTable) (x y z : Sectors) (r : Record) → rows t Mgt ≡ Some (record_row (numbers 0 16)) → IsRecord r → record_fault (content_with t (area_of x y z (r ∷ []))) ≡ None
+pub one_undamaged : (t : VolumeTable) (x y z : Sectors) (r : Record) → rows t Mgt ≡ Some (record_row (numbers 0 16)) → IsRecord r → record_fault (outline (content_with t (area_of x y z (r ∷ [])))) ≡ None
 one_undamaged t x y z r there right = by_sector t x y z (r ∷ []) there (one_right r right)
 
 pub two_undamaged : (t : VolumeTable) (x y z : Sectors) (r s : Record) → rows t Mgt ≡ Some (record_row (numbers 0 16)) → IsRecord r → IsRecord s
-    → record_fault (content_with t (area_of x y z (r ∷ s ∷ []))) ≡ None
+    → record_fault (outline (content_with t (area_of x y z (r ∷ s ∷ [])))) ≡ None
 two_undamaged t x y z r s there right right' = by_sector t x y z (r ∷ s ∷ []) there (two_right r s right right')

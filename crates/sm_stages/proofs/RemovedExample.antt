@@ -2,7 +2,7 @@
 use Rattle.std.proofs.Common.{◌≡◌, ◌≢◌, ℕ, ◌*◌, true, cond, List, [], ◌∷◌, length, Some, None, refl, sym, ap, ap₂, ◌∙◌, subst}
 use Rattle.std.specs.List.{find, filter_map, cons_option}
 use Rattle.sm_base.specs.declared.names.Name.{Name}
-use Rattle.sm_base.specs.declared.names.Name.TheVariants.{Mgt, Vhd, Raw, Old, Clone, Inflate, Coalesce, Relink, Leaf}
+use Rattle.sm_base.specs.declared.names.Name.TheVariants.{Vhd, Raw}
 use Rattle.common_laws.specs.Lists.{◌>>=◌}
 use Rattle.sm_machine.specs.Shapes.{same_image}
 use Rattle.vg_meta.specs.Changes.{without}
@@ -13,6 +13,7 @@ use Rattle.vhd_layout.specs.Contents.{raw_content}
 use Rattle.vhd_layout.specs.Readings.{image_at}
 use Rattle.sm_standing.specs.Changes.{IsRemoved}
 use Rattle.sm_standing.specs.Checks.{children}
+use Rattle.sm_standing.specs.Outlines.{outline}
 use Rattle.sm_standing.specs.Contents.{Content, is_record_of, sectors_of}
 use Rattle.sm_standing.specs.Entries.{making}
 use Rattle.sm_standing.specs.Images.{image_of, image_extents, vhd_image, raw_image}
@@ -54,7 +55,7 @@ images_are = ap₃ (λ o p q. None ∷ o ∷ p ∷ q ∷ [])
     (saying_child (at_table relink_1) (Vhd first) first_image) (saying_child (at_table relink_1) (Vhd second) second_image)
     (saying_top (at_table relink_1) (Vhd base) 17 base_image)
 
-second_childless : children (at_table relink_1) (Vhd second) ≡ []
+second_childless : children (outline (at_table relink_1)) (Vhd second) ≡ []
 unfolding same_image
 second_childless = children_are (at_table relink_1) _ (Vhd second) images_are
 

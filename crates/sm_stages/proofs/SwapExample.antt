@@ -10,6 +10,7 @@ use Rattle.sm_standing.specs.Changes.{parent_of}
 use Rattle.sm_standing.specs.Contents.{Content, record_of, is_record_of}
 use Rattle.sm_standing.specs.Entries.{making}
 use Rattle.standing_examples.specs.SmallContents.{record_row}
+use Rattle.sm_standing.specs.Outlines.{link_of, outline}
 use Rattle.sm_standing.specs.Images.{Image, image_of, image_extents}
 use Rattle.sm_standing.specs.Standing.{standing_volume, stands_plainly}
 use Rattle.sm_standing.proofs.ImageLaws.{image_there, parent-is}
@@ -60,7 +61,7 @@ unfolding row_of name_eq
 below_image = parent_image leaf_copied base true (Vhd base) refl refl
 
 base_parent : parent_of copied (Vhd base) ≡ None
-base_parent = ap (λ o. o >>= (λ (i : Image). i.parent)) below_image ∙ top_parent 34
+base_parent = ap (λ o. link_of o >>= (λ i. i.parent)) below_image ∙ top_parent 34
 
 no_image : (c : Content) → parent_of c Mgt ≡ None
 unfolding image_of
@@ -84,7 +85,7 @@ only_leaf m p other is = by (image_of copied m) refl
     at r (inr (inr (inr (inr none))), name) = elim none [ ]
 
     by : (o : Option Image) → image_of copied m ≡ o → ⊥
-    by None none = let e = sym is ∙ ap (λ o. o >>= (λ (i : Image). i.parent)) none in (let x = e in cc)
+    by None none = let e = sym is ∙ ap (λ o. link_of o >>= (λ i. i.parent)) none in (let x = e in cc)
     by (Some i) some = let w = image_there copied m i some in at w.0 (named (leaf_copied).volumes m w.0 w.1)
 
 leaf_parent : parent_of copied (Vhd first) ≡ Some (Vhd base)
@@ -104,7 +105,7 @@ swappable = record {
     size = top_size 34 ∙ sym (filled_size 34);
     held = λ s bytes is. ap (λ (held : ℕ → Option (List ℕ)). held s) (held_alike 34) ∙ is;
   };
-  short = let e = depth_up copied 30 (Vhd first) (Vhd base) leaf_parent in let f = depth_top copied 29 (Vhd base) base_parent in omega (arith, e, f);
+  short = let e = depth_up (outline copied) 30 (Vhd first) (Vhd base) leaf_parent in let f = depth_top (outline copied) 29 (Vhd base) base_parent in omega (arith, e, f);
   childless = λ m p other is. absurd (only_leaf m p other is);
 }
 

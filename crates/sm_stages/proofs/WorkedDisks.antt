@@ -13,6 +13,7 @@ use Rattle.layout_examples.specs.SmallImages.{footer_sector, header_sector, tabl
 use Rattle.layout_examples.proofs.SmallImageLaws.{footer_reads, without_slots, written_valid}
 use Rattle.sm_standing.specs.Changes.{parent_of, IsShortChain}
 use Rattle.sm_standing.specs.Checks.{depth}
+use Rattle.sm_standing.specs.Outlines.{link_of, outline}
 use Rattle.sm_standing.specs.Contents.{Content, records, record_of, is_record_of}
 use Rattle.sm_standing.specs.Images.{Image, image_of, image_reads, sectors_read}
 use Rattle.sm_standing.specs.Standing.{standing_volume, disks, disk_at, uuids, with_uuid, in_order}
@@ -111,14 +112,14 @@ abbrev pub HasBase : Content → ℕ → Type 0
 HasBase c byte = image_of c (Vhd base) ≡ Some (top byte)
 
 pub base_top : (c : Content) (byte : ℕ) → HasBase c byte → parent_of c (Vhd base) ≡ None
-base_top c byte below = ap (λ o. o >>= (λ (i : Image). i.parent)) below ∙ top_parent byte
+base_top c byte below = ap (λ o. link_of o >>= (λ i. i.parent)) below ∙ top_parent byte
 
 base_rest : (c : Content) (byte s : ℕ) → HasBase c byte → 1 ≤ s → image_reads c (Vhd base) s ≡ zeros
 base_rest c byte s below from = top_zeros c (Vhd base) (top byte) s below (top_behind byte s from) (top_parent byte)
 
-pub over_depth : (c : Content) (byte : ℕ) (x : Name) (i : Image) → HasBase c byte → image_of c x ≡ Some i → i.parent ≡ Some (Vhd base) → depth c 31 x ≡ 2
+pub over_depth : (c : Content) (byte : ℕ) (x : Name) (i : Image) → HasBase c byte → image_of c x ≡ Some i → i.parent ≡ Some (Vhd base) → depth (outline c) 31 x ≡ 2
 over_depth c byte x i below is parent =
-    let e = depth_up c 30 x (Vhd base) (parent-is c x (Vhd base) i is parent) in let f = depth_top c 29 (Vhd base) (base_top c byte below) in omega (arith, e, f)
+    let e = depth_up (outline c) 30 x (Vhd base) (parent-is c x (Vhd base) i is parent) in let f = depth_top (outline c) 29 (Vhd base) (base_top c byte below) in omega (arith, e, f)
 
 over_short : (c : Content) (byte : ℕ) (x : Name) (i : Image) → HasBase c byte → image_of c x ≡ Some i → i.parent ≡ Some (Vhd base) → IsShortChain c x
 over_short c byte x i below is parent = let e = over_depth c byte x i below is parent in omega (arith, e)

@@ -13,7 +13,9 @@ use Rattle.vg_meta.specs.Tables.{Row, row_of, name_eq}
 use Rattle.common_laws.specs.Lists.{numbers, first_some}
 use Rattle.sm_machine.specs.Shapes.{same_image}
 use Rattle.sm_record.specs.declared.records.Record.{Record}
-use Rattle.sm_standing.specs.Checks.{first_fault, first_name, name_in, placed, record_volume_fault, too_many_fault, misnamed_fault, second_entry_fault, lost_entry_fault, old_leaf_fault, is_invalid, invalid_fault, children, parent_is, chain_length, is_no_larger, is_misplaced, is_tree_wrong, tree_fault, is_entry_linked, entry_link_fault, record_fault, disk_place, disk_uuids, disk_fault}
+use Rattle.sm_standing.specs.Checks.{fault_of, first_fault, first_name, name_in, placed, record_volume_fault, too_many_fault, misnamed_fault, second_entry_fault, lost_entry_fault, old_leaf_fault, is_invalid, invalid_fault, children, parent_is, chain_length, is_no_larger, is_misplaced, is_tree_wrong, tree_fault, is_entry_linked, entry_link_fault, record_fault, disk_place, disk_uuids, disk_fault}
+use Rattle.sm_standing.specs.Outlines.{link_of, outline}
+use Rattle.sm_standing.proofs.OutlineLaws.{outline_records_same}
 use Rattle.sm_standing.specs.Contents.{Content, records, is_record_of}
 use Rattle.sm_standing.specs.Entries.{is_hidden, is_at_stage}
 use Rattle.sm_standing.specs.Images.{Image, image_of}
@@ -38,15 +40,15 @@ Fails test (r ∷ rs) = (test r ≡ false) × Fails test rs
 
 -- the checks that the table decides alone
 abbrev pub table_faults : Content → List (Option Place)
-table_faults c = record_volume_fault c ∷ too_many_fault c ∷ misnamed_fault c ∷ second_entry_fault c ∷ lost_entry_fault c ∷ old_leaf_fault c ∷ []
+table_faults c = record_volume_fault (outline c) ∷ too_many_fault (outline c) ∷ misnamed_fault (outline c) ∷ second_entry_fault (outline c) ∷ lost_entry_fault (outline c) ∷ old_leaf_fault (outline c) ∷ []
 
 pub record Passes (c : Content) : Type 0 where
   pub table : first_some (table_faults c) ≡ None
-  pub invalid : Fails (is_invalid c) c.table.volumes
-  pub tree : Fails (is_tree_wrong c) c.table.volumes
-  pub entry_link : Fails (λ r. not (is_entry_linked c r.name)) c.table.volumes
-  pub records : record_fault c ≡ None
-  pub disks : disk_fault c ≡ None
+  pub invalid : Fails (is_invalid (outline c)) c.table.volumes
+  pub tree : Fails (is_tree_wrong (outline c)) c.table.volumes
+  pub entry_link : Fails (λ r. not (is_entry_linked (outline c) r.name)) c.table.volumes
+  pub records : record_fault (outline c) ≡ None
+  pub disks : disk_fault (outline c) ≡ None
 
 none_named : (test : Row → Bool) (rs : List Row) → Fails test rs → first_name test rs ≡ None
 unfolding first_name
@@ -62,20 +64,20 @@ skip : (o : Option Place) (os : List (Option Place)) → o ≡ None → first_so
 skip o os is = ap (λ p. first_some (p ∷ os)) is
 
 pub sound : (c : Content) → Passes c → first_fault c ≡ None
-unfolding first_fault invalid_fault tree_fault entry_link_fault
+unfolding fault_of invalid_fault tree_fault entry_link_fault
 sound c h =
-    after_none (table_faults c) (invalid_fault c ∷ tree_fault c ∷ entry_link_fault c ∷ record_fault c ∷ disk_fault c ∷ []) h.table
-    ∙ skip (invalid_fault c) _ (ap (placed at.Image) (none_named (is_invalid c) c.table.volumes h.invalid))
-    ∙ skip (tree_fault c) _ (ap (placed at.Tree) (none_named (is_tree_wrong c) c.table.volumes h.tree))
-    ∙ skip (entry_link_fault c) _ (ap (placed at.Journal) (none_named (λ r. not (is_entry_linked c r.name)) c.table.volumes h.entry_link))
-    ∙ skip (record_fault c) _ h.records
-    ∙ skip (disk_fault c) [] h.disks
+    after_none (table_faults c) (invalid_fault (outline c) ∷ tree_fault (outline c) ∷ entry_link_fault (outline c) ∷ record_fault (outline c) ∷ disk_fault (outline c) ∷ []) h.table
+    ∙ skip (invalid_fault (outline c)) _ (ap (placed at.Image) (none_named (is_invalid (outline c)) c.table.volumes h.invalid))
+    ∙ skip (tree_fault (outline c)) _ (ap (placed at.Tree) (none_named (is_tree_wrong (outline c)) c.table.volumes h.tree))
+    ∙ skip (entry_link_fault (outline c)) _ (ap (placed at.Journal) (none_named (λ r. not (is_entry_linked (outline c) r.name)) c.table.volumes h.entry_link))
+    ∙ skip (record_fault (outline c)) _ h.records
+    ∙ skip (disk_fault (outline c)) [] h.disks
 
 -- with these records
 pub recorded : (c : Content) (rs : List Record) → records c ≡ rs
-    → disk_place (find (λ u. not (length (filter (is_record_of u) rs) == 1)) (disk_uuids c)) ≡ None → disk_fault c ≡ None
+    → disk_place (find (λ u. not (length (filter (is_record_of u) rs) == 1)) (disk_uuids (outline c))) ≡ None → disk_fault (outline c) ≡ None
 unfolding disk_fault
-recorded c rs are none = ap (λ qs. disk_place (find (λ u. not (length (filter (is_record_of u) qs) == 1)) (disk_uuids c))) are ∙ none
+recorded c rs are none = ap (λ qs. disk_place (find (λ u. not (length (filter (is_record_of u) qs) == 1)) (disk_uuids (outline c)))) (outline_records_same c ∙ are) ∙ none
 
 -- ---- images, with what they say written out
 
@@ -94,6 +96,10 @@ saying_child c n is = saying c n (Some (Vhd base)) child is child_parent_is chil
 pub ap₃ : {A B : Type 0} (f : A → A → A → B) {a b c x y z : A} → a ≡ x → b ≡ y → c ≡ z → f a b c ≡ f x y z
 ap₃ f {a} {b} {c} {x} {y} {z} h k l = ap₂ (λ v w. f v w c) h k ∙ ap (f x y) l
 
+-- an image that is there is valid
+pub valid : {o : Option Image} {i : Image} → o ≡ Some i → is_none (link_of o) ≡ false
+valid is = ap (λ o. is_none (link_of o)) is
+
 -- the images of all volumes
 abbrev pub images_of : Content → List (Option Image)
 images_of c = map (λ (r : Row). image_of c r.name) c.table.volumes
@@ -108,43 +114,47 @@ kept_all : (c : Content) (test : Option Image → Bool) (rs : List Row) → filt
 kept_all c test [] = refl
 kept_all c test (r ∷ rs) = ap (λ qs. cond (test (image_of c r.name)) (r ∷ qs) qs) (kept_all c test rs)
 
-pub children_are : (c : Content) (os : List (Option Image)) (x : Name) → images_of c ≡ os → children c x ≡ kept (parent_is x) c.table.volumes os
+-- whether an image has this parent
+abbrev pub is_under : Name → Option Image → Bool
+is_under p o = parent_is p (link_of o)
+
+pub children_are : (c : Content) (os : List (Option Image)) (x : Name) → images_of c ≡ os → children (outline c) x ≡ kept (is_under x) c.table.volumes os
 unfolding children
-children_are c os x are = kept_all c (parent_is x) c.table.volumes ∙ ap (kept (parent_is x) c.table.volumes) are
+children_are c os x are = kept_all c (is_under x) c.table.volumes ∙ ap (kept (is_under x) c.table.volumes) are
 
 -- hidden, or without children
 abbrev pub is_free : Bool → List Row → Bool
 is_free hidden rs = hidden || (length rs == 0)
 
 pub free : (c : Content) (os : List (Option Image)) (u : List ℕ) (hidden : Bool) → images_of c ≡ os
-    → is_free hidden (kept (parent_is (Vhd u)) c.table.volumes os) ≡ true → is_free hidden (children c (Vhd u)) ≡ true
+    → is_free hidden (kept (is_under (Vhd u)) c.table.volumes os) ≡ true → is_free hidden (children (outline c) (Vhd u)) ≡ true
 free c os u hidden are is = ap (is_free hidden) (children_are c os (Vhd u) are) ∙ is
 
-pub chain_top : (c : Content) (most : ℕ) (n : Name) (i : Image) → image_of c n ≡ Some (written_out None i) → chain_length c (suc most) n ≡ 1
-chain_top c most n i is = length_top c most n (written_out None i) is refl
+pub chain_top : (c : Content) (most : ℕ) (n : Name) (i : Image) → image_of c n ≡ Some (written_out None i) → chain_length (outline c) (suc most) n ≡ 1
+chain_top c most n i is = length_top (outline c) most n _ (ap link_of is) refl
 
-pub chain_up : (c : Content) (most : ℕ) (n p : Name) (i : Image) → image_of c n ≡ Some (written_out (Some p) i) → chain_length c (suc most) n ≡ suc (chain_length c most p)
-chain_up c most n p i is = length_up c most n p (written_out (Some p) i) is refl
+pub chain_up : (c : Content) (most : ℕ) (n p : Name) (i : Image) → image_of c n ≡ Some (written_out (Some p) i) → chain_length (outline c) (suc most) n ≡ suc (chain_length (outline c) most p)
+chain_up c most n p i is = length_up (outline c) most n p _ (ap link_of is) refl
 
 -- an image without a parent, and one under a parent, lie rightly
 pub top_right : (c : Content) (u : List ℕ) (hidden : Bool) (place : ℕ) (i : Image) → image_of c (Vhd u) ≡ Some (written_out None i)
-    → is_free hidden (children c (Vhd u)) ≡ true → is_tree_wrong c (image_row hidden (Vhd u) place) ≡ false
+    → is_free hidden (children (outline c) (Vhd u)) ≡ true → is_tree_wrong (outline c) (image_row hidden (Vhd u) place) ≡ false
 top_right c u hidden place i is childless =
-    ap (is_misplaced c (image_row hidden (Vhd u) place)) is
-    ∙ all_hold true (nat_le (chain_length c 31 (Vhd u)) 30) (is_free hidden (children c (Vhd u))) refl (ap (λ d. nat_le d 30) (chain_top c 30 (Vhd u) i is)) childless
+    ap (λ o. is_misplaced (outline c) (image_row hidden (Vhd u) place) (link_of o)) is
+    ∙ all_hold true (nat_le (chain_length (outline c) 31 (Vhd u)) 30) (is_free hidden (children (outline c) (Vhd u))) refl (ap (λ d. nat_le d 30) (chain_top c 30 (Vhd u) i is)) childless
 
 pub child_right : (c : Content) (u p : List ℕ) (hidden : Bool) (place : ℕ) (i q : Image) (above : Option Name) → image_of c (Vhd u) ≡ Some (written_out (Some (Vhd p)) i)
-    → is_hidden c.table (Vhd p) ≡ true → image_of c (Vhd p) ≡ Some (written_out above q) → nat_le (chain_length c 31 (Vhd u)) 30 ≡ true
-    → is_free hidden (children c (Vhd u)) ≡ true → is_tree_wrong c (image_row hidden (Vhd u) place) ≡ false
+    → is_hidden c.table (Vhd p) ≡ true → image_of c (Vhd p) ≡ Some (written_out above q) → nat_le (chain_length (outline c) 31 (Vhd u)) 30 ≡ true
+    → is_free hidden (children (outline c) (Vhd u)) ≡ true → is_tree_wrong (outline c) (image_row hidden (Vhd u) place) ≡ false
 child_right c u p hidden place i q above is there below short childless =
-    ap (is_misplaced c (image_row hidden (Vhd u) place)) is
-    ∙ all_hold (is_hidden c.table (Vhd p) && is_no_larger 128 (image_of c (Vhd p))) (nat_le (chain_length c 31 (Vhd u)) 30) (is_free hidden (children c (Vhd u)))
-    (ap₂ (λ b o. b && is_no_larger 128 o) there below) short childless
+    ap (λ o. is_misplaced (outline c) (image_row hidden (Vhd u) place) (link_of o)) is
+    ∙ all_hold (is_hidden c.table (Vhd p) && is_no_larger 128 (link_of (image_of c (Vhd p)))) (nat_le (chain_length (outline c) 31 (Vhd u)) 30) (is_free hidden (children (outline c) (Vhd u)))
+    (ap₂ (λ b o. b && is_no_larger 128 (link_of o)) there below) short childless
 
 -- one right under the top of its chain
 pub over_right : (c : Content) (u p : List ℕ) (hidden : Bool) (place : ℕ) (i q : Image) → image_of c (Vhd u) ≡ Some (written_out (Some (Vhd p)) i)
-    → is_hidden c.table (Vhd p) ≡ true → image_of c (Vhd p) ≡ Some (written_out None q) → is_free hidden (children c (Vhd u)) ≡ true
-    → is_tree_wrong c (image_row hidden (Vhd u) place) ≡ false
+    → is_hidden c.table (Vhd p) ≡ true → image_of c (Vhd p) ≡ Some (written_out None q) → is_free hidden (children (outline c) (Vhd u)) ≡ true
+    → is_tree_wrong (outline c) (image_row hidden (Vhd u) place) ≡ false
 over_right c u p hidden place i q is there below childless =
     child_right c u p hidden place i q None is there below
     (ap (λ d. nat_le d 30) (chain_up c 30 (Vhd u) (Vhd p) i is ∙ ap (λ d. suc d) (chain_top c 29 (Vhd p) q below))) childless
@@ -162,7 +172,7 @@ pub unforked_sound : first_fault unforked ≡ None
 unfolding record_volume_fault too_many_fault misnamed_fault second_entry_fault lost_entry_fault old_leaf_fault first_name is_at_stage is_entry_linked row_of name_eq is_base numbers record_extents div_up standing_volume uuids with_uuid in_order
 unforked_sound = sound unforked (record {
   table = refl;
-  invalid = (refl, (ap is_none one_image, tt));
+  invalid = (refl, (valid one_image, tt));
   tree = (refl, (top_right unforked first false 16 (top 17) one_image (free unforked _ first false one_images refl), tt));
   entry_link = (refl, (refl, tt));
   records = one_undamaged one_disk (top_image 17) (empty_child (Vhd base)) (empty_child (Vhd base)) first_record refl first_right;
@@ -188,7 +198,7 @@ pair_sound : first_fault pair ≡ None
 unfolding record_volume_fault too_many_fault misnamed_fault second_entry_fault lost_entry_fault old_leaf_fault first_name is_at_stage is_entry_linked row_of name_eq is_base numbers record_extents div_up same_image standing_volume uuids with_uuid in_order
 pair_sound = sound pair (record {
   table = refl;
-  invalid = (refl, (ap is_none first_written, (ap is_none second_written, (ap is_none base_written, tt))));
+  invalid = (refl, (valid first_written, (valid second_written, (valid base_written, tt))));
   tree =
       let disk = over_right pair first base false 21 (filled 34) (top 17) first_written refl base_written (free pair _ first false pair_images refl) in
       let twin = over_right pair second base false 26 child (top 17) second_written refl base_written (free pair _ second false pair_images refl) in

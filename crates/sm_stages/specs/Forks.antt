@@ -11,6 +11,7 @@ use Rattle.sm_machine.specs.Shapes.{chain_limit}
 use Rattle.sm_record.specs.declared.records.Record.{Record}
 use Rattle.sm_standing.specs.Changes.{parent_of}
 use Rattle.sm_standing.specs.Checks.{depth}
+use Rattle.sm_standing.specs.Outlines.{outline}
 use Rattle.sm_standing.specs.Contents.{Content, record_of}
 use Rattle.sm_standing.specs.Entries.{making, folding, folding_uuids, head, image_with, is_among, is_visible}
 use Rattle.sm_standing.specs.Images.{Image, image_of}
@@ -32,7 +33,7 @@ pub record IsForkable (a : Content) (disk base twin : List ℕ) (n : Name) (i : 
   pub none_making : making a.table ≡ []
   pub beside : list_any (is_among (forked disk base twin)) (folding_uuids a.table) ≡ false
   pub childless : (m p : Name) → parent_of a m ≡ Some p → is_apart (forked disk base twin) p ≡ true
-  pub room : depth a chain_limit n < chain_limit
+  pub room : depth (outline a) chain_limit n < chain_limit
 
 -- where the disk's image lies: before the rename the disk stands by itself in m, and no image has the base's UUID;
 -- afterwards m is the image that has it

@@ -1,14 +1,13 @@
 -- The first of all faults, and the longest chain.
-use Rattle.std.proofs.Common.{◌≡◌, ℕ, ◌+◌, inl, inr, true, false, ◌||◌, ◌==◌, List, [], ◌∷◌, ◌++◌, length, Option, Some, None, refl, sym, ap, ◌∙◌}
+use Rattle.std.proofs.Common.{◌≡◌, ℕ, inl, inr, true, false, ◌||◌, ◌==◌, List, [], ◌∷◌, ◌++◌, length, Option, Some, None, refl, sym, ap, ◌∙◌}
 use Rattle.std.specs.Prelude.{nat_le}
 use Rattle.common_laws.proofs.Booleans.{second_fails, all_hold}
 use Rattle.sm_base.specs.declared.faults.Place.{Place}
 use Rattle.sm_base.specs.declared.names.Name.TheVariants.{Vhd}
 use Rattle.common_laws.specs.Lists.{In, first_some}
 use Rattle.vg_meta.specs.Tables.{Row}
-use Rattle.sm_standing.specs.Checks.{all_faults, first_fault, children, chain_length, is_linked, is_misplaced, tree_wrong_as, is_tree_wrong}
-use Rattle.sm_standing.specs.Contents.{Content}
-use Rattle.sm_standing.specs.Images.{Image, image_of}
+use Rattle.sm_standing.specs.Checks.{all_faults, fault_of, children, chain_length, is_linked, is_misplaced, tree_wrong_as, is_tree_wrong}
+use Rattle.sm_standing.specs.Outlines.{Outline, Link}
 use Rattle.common_laws.proofs.Lists.{none_first}
 
 -- ---- the first of all
@@ -23,34 +22,34 @@ first-In [] x h = absurd (let e = h in cc)
 first-In (None ∷ os) x h = inr (first-In os x h)
 first-In (Some y ∷ os) x h = inl (sym h)
 
-pub first_of_all : (c : Content) (before after : List (Option Place)) (p : Place) → all_faults c ≡ before ++ (Some p ∷ after)
-    → ((o : Option Place) → In o before → o ≡ None) → first_fault c ≡ Some p
-unfolding first_fault
-first_of_all c before after p is none = ap first_some is ∙ first_at before after p none
+pub first_of_all : (o : Outline) (before after : List (Option Place)) (p : Place) → all_faults o ≡ before ++ (Some p ∷ after)
+    → ((f : Option Place) → In f before → f ≡ None) → fault_of o ≡ Some p
+unfolding fault_of
+first_of_all o before after p is none = ap first_some is ∙ first_at before after p none
 
-pub one_of_all : (c : Content) (p : Place) → first_fault c ≡ Some p → In (Some p) (all_faults c)
-unfolding first_fault
-one_of_all c p h = first-In (all_faults c) p h
+pub one_of_all : (o : Outline) (p : Place) → fault_of o ≡ Some p → In (Some p) (all_faults o)
+unfolding fault_of
+one_of_all o p h = first-In (all_faults o) p h
 
-pub all_none : (c : Content) → first_fault c ≡ None → (o : Option Place) → In o (all_faults c) → o ≡ None
-unfolding first_fault
-all_none c h o k = none_first (all_faults c) h o k
+pub all_none : (o : Outline) → fault_of o ≡ None → (f : Option Place) → In f (all_faults o) → f ≡ None
+unfolding fault_of
+all_none o h f k = none_first (all_faults o) h f k
 
 -- ---- the longest chain
 
-pub wrong_at : (c : Content) (u : List ℕ) (r : Row) (i : Image) → r.name ≡ Vhd u → image_of c (Vhd u) ≡ Some i → is_tree_wrong c r ≡ is_misplaced c r (Some i)
-wrong_at c u r i name is = ap (tree_wrong_as c r) name ∙ ap (is_misplaced c r) is
+pub wrong_at : (o : Outline) (u : List ℕ) (r : Row) (i : Link) → r.name ≡ Vhd u → o.links (Vhd u) ≡ Some i → is_tree_wrong o r ≡ is_misplaced o r (Some i)
+wrong_at o u r i name is = ap (tree_wrong_as o r) name ∙ ap (is_misplaced o r) is
 
-pub chain_most : (c : Content) (r : Row) (u : List ℕ) (i : Image) → r.name ≡ Vhd u → r.hidden ≡ true → image_of c (Vhd u) ≡ Some i → is_linked c i ≡ true
-    → chain_length c 31 (Vhd u) ≡ 30 → is_tree_wrong c r ≡ false
-chain_most c r u i name hidden is linked long =
-    wrong_at c u r i name is
-    ∙ all_hold (is_linked c i) (nat_le (chain_length c 31 r.name) 30) (r.hidden || (length (children c r.name) == 0)) linked
-    (ap (λ n. nat_le (chain_length c 31 n) 30) name ∙ ap (λ k. nat_le k 30) long) (ap (λ b. b || (length (children c r.name) == 0)) hidden)
+pub chain_most : (o : Outline) (r : Row) (u : List ℕ) (i : Link) → r.name ≡ Vhd u → r.hidden ≡ true → o.links (Vhd u) ≡ Some i → is_linked o i ≡ true
+    → chain_length o 31 (Vhd u) ≡ 30 → is_tree_wrong o r ≡ false
+chain_most o r u i name hidden is linked long =
+    wrong_at o u r i name is
+    ∙ all_hold (is_linked o i) (nat_le (chain_length o 31 r.name) 30) (r.hidden || (length (children o r.name) == 0)) linked
+    (ap (λ n. nat_le (chain_length o 31 n) 30) name ∙ ap (λ k. nat_le k 30) long) (ap (λ b. b || (length (children o r.name) == 0)) hidden)
 
-pub chain_more : (c : Content) (r : Row) (u : List ℕ) (i : Image) → r.name ≡ Vhd u → r.hidden ≡ true → image_of c (Vhd u) ≡ Some i → is_linked c i ≡ true
-    → chain_length c 31 (Vhd u) ≡ 31 → is_tree_wrong c r ≡ true
-chain_more c r u i name hidden is linked long =
-    wrong_at c u r i name is
-    ∙ second_fails (is_linked c i) (nat_le (chain_length c 31 r.name) 30) (r.hidden || (length (children c r.name) == 0))
-    (ap (λ n. nat_le (chain_length c 31 n) 30) name ∙ ap (λ k. nat_le k 30) long)
+pub chain_more : (o : Outline) (r : Row) (u : List ℕ) (i : Link) → r.name ≡ Vhd u → r.hidden ≡ true → o.links (Vhd u) ≡ Some i → is_linked o i ≡ true
+    → chain_length o 31 (Vhd u) ≡ 31 → is_tree_wrong o r ≡ true
+chain_more o r u i name hidden is linked long =
+    wrong_at o u r i name is
+    ∙ second_fails (is_linked o i) (nat_le (chain_length o 31 r.name) 30) (r.hidden || (length (children o r.name) == 0))
+    (ap (λ n. nat_le (chain_length o 31 n) 30) name ∙ ap (λ k. nat_le k 30) long)

@@ -3,7 +3,7 @@ use Rattle.std.proofs.Common.{◌≡◌, ◌≢◌, ◌⊎◌, inl, inr, ℕ, �
 use Rattle.std.proofs.lemmas.Bool.{cases_lt}
 use Rattle.common_laws.proofs.Options.{bind-some}
 use Rattle.sm_base.specs.declared.names.Name.{Name}
-use Rattle.sm_base.specs.declared.names.Name.TheVariants.{Mgt, Vhd, Raw, Old, Clone, Inflate, Coalesce, Relink, Leaf}
+use Rattle.sm_base.specs.declared.names.Name.TheVariants.{Vhd, Raw, Old}
 use Rattle.sm_disk.specs.Sectors.{zeros}
 use Rattle.sm_record.specs.declared.records.Record.{Record}
 use Rattle.vg_meta.specs.Tables.{Row, VolumeTable, name_eq}
@@ -13,6 +13,7 @@ use Rattle.common_laws.specs.Lists.{In, numbers, ◌>>=◌}
 use Rattle.sm_machine.specs.Shapes.{same_image}
 use Rattle.sm_standing.specs.Changes.{turns_of, parent_of, IsShortChain, IsCopied, IsRaised, IsMoved, IsRemoved, SameImagesBut}
 use Rattle.sm_standing.specs.Checks.{children, parent_is}
+use Rattle.sm_standing.specs.Outlines.{link_of, outline}
 use Rattle.sm_standing.specs.Contents.{Content, row, record_of}
 use Rattle.sm_standing.specs.Entries.{is_visible, of_row, folding, making, head}
 use Rattle.sm_standing.specs.Images.{Image, here, up, held_or, answer_of, walk, image_reads, image_of, sectors_read, raw_image, vhd_image}
@@ -27,10 +28,10 @@ use Rattle.sm_standing.proofs.WalkLaws.{walk_same, walk_zeros, IsZerosStill, tur
 -- ---- an image over a parent that holds alike
 
 pub parent-is : (c : Content) (n p : Name) (i : Image) → image_of c n ≡ Some i → i.parent ≡ Some p → parent_of c n ≡ Some p
-parent-is c n p i is parent = ap (λ o. o >>= (λ j. j.parent)) is ∙ parent
+parent-is c n p i is parent = ap (λ o. link_of o >>= (λ j. j.parent)) is ∙ parent
 
 short_above : (c : Content) (n p : Name) → parent_of c n ≡ Some p → IsShortChain c n → IsShortChain c p
-short_above c n p at short = omega (arith, depth_up c 30 n p at, depth_grows c 30 p, short)
+short_above c n p at short = omega (arith, depth_up (outline c) 30 n p at, depth_grows (outline c) 30 p, short)
 
 copied-step : (c : Content) (n p : Name) (i q : Image) → IsCopied c n p i q → IsShortChain c n → (s : ℕ) → s < i.size → (o : Option (List ℕ)) → i.own s ≡ o
     → image_reads c n s ≡ image_reads c p s
@@ -157,15 +158,15 @@ image_there c (Vhd u) i h = bind-some (row c (Vhd u)) (λ r. cond r.fresh None (
 image_there c _ i h = absurd (let x = h in cc)
 
 -- an image without children is nobody's parent
-pub childless_parent : (c : Content) (x n : Name) (i : Image) → same_image x x ≡ true → children c x ≡ [] → image_of c n ≡ Some i → i.parent ≢ Some x
+pub childless_parent : (c : Content) (x n : Name) (i : Image) → same_image x x ≡ true → children (outline c) x ≡ [] → image_of c n ≡ Some i → i.parent ≢ Some x
 unfolding children
 childless_parent c x n i named none is parent =
     let w = image_there c n i is in
     let f = row_of-In c.table.volumes n w.0 w.1 in
     let at = name_eq-true w.0.name n f.1 in
-    let passes : parent_is x (image_of c w.0.name) ≡ true =
-    ap (λ m. parent_is x (image_of c m)) at ∙ ap (parent_is x) is ∙ ap (λ o. elim o [ None ↦ false | Some q ↦ same_image q x ]) parent ∙ named in
-    let kept = subst (In w.0) none (filter-In (λ r. parent_is x (image_of c r.name)) c.table.volumes w.0 f.0 passes) in
+    let passes : parent_is x (link_of (image_of c w.0.name)) ≡ true =
+    ap (λ m. parent_is x (link_of (image_of c m))) at ∙ ap (λ o. parent_is x (link_of o)) is ∙ ap (λ o. elim o [ None ↦ false | Some q ↦ same_image q x ]) parent ∙ named in
+    let kept = subst (In w.0) none (filter-In (λ r. parent_is x (link_of (image_of c r.name))) c.table.volumes w.0 f.0 passes) in
     elim kept [ ]
 
 -- an old leaf holds no image

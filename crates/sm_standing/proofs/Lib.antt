@@ -10,3 +10,4 @@ pub mod WalkLaws
 pub mod ImageLaws
 pub mod WorldLaws
 pub mod FaultLaws
+pub mod OutlineLaws

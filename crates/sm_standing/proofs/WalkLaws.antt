@@ -8,6 +8,7 @@ use Rattle.vg_meta.proofs.NameLaws.{name_eq-true, name_eq-false}
 use Rattle.common_laws.specs.Lists.{◌>>=◌}
 use Rattle.sm_standing.specs.Changes.{turns_of, parent_of, IsShortChain, renamed_parent, IsLinkedUp}
 use Rattle.sm_standing.specs.Checks.{chain_length, depth}
+use Rattle.sm_standing.specs.Outlines.{Outline, Link, parent_in, link_of, outline}
 use Rattle.sm_standing.specs.Contents.{Content}
 use Rattle.sm_standing.specs.Images.{Image, ImageAnswer, here, up, held_or, answer_of, walk, image_reads, image_of}
 use Rattle.sm_standing.specs.Answering.{ImageAnswers, answer, Reads, IsClosed, SameBut}
@@ -91,94 +92,94 @@ turn-past s o i is past = ap (answer_of s) is ∙ ap (λ b. cond b (held_or (i.o
 -- ---- chains
 
 -- one image more than from the parent up
-pub depth_up : (c : Content) (k : ℕ) (n p : Name) → parent_of c n ≡ Some p → depth c (suc k) n ≡ suc (depth c k p)
+pub depth_up : (o : Outline) (k : ℕ) (n p : Name) → parent_in o n ≡ Some p → depth o (suc k) n ≡ suc (depth o k p)
 unfolding depth
-depth_up c k n p h = ap (λ o. suc (elim o [ None ↦ 0 | Some q ↦ depth c k q ])) h
+depth_up o k n p h = ap (λ up. suc (elim up [ None ↦ 0 | Some q ↦ depth o k q ])) h
 
-pub depth_top : (c : Content) (k : ℕ) (n : Name) → parent_of c n ≡ None → depth c (suc k) n ≡ 1
+pub depth_top : (o : Outline) (k : ℕ) (n : Name) → parent_in o n ≡ None → depth o (suc k) n ≡ 1
 unfolding depth
-depth_top c k n h = ap (λ o. suc (elim o [ None ↦ 0 | Some q ↦ depth c k q ])) h
+depth_top o k n h = ap (λ up. suc (elim up [ None ↦ 0 | Some q ↦ depth o k q ])) h
 
 -- the images of a chain: none where there is no image, one where it has no parent, else one more than from the parent up
-pub length_none : (c : Content) (k : ℕ) (n : Name) → image_of c n ≡ None → chain_length c k n ≡ 0
+pub length_none : (o : Outline) (k : ℕ) (n : Name) → o.links n ≡ None → chain_length o k n ≡ 0
 unfolding chain_length
-length_none c zero n h = refl
-length_none c (suc k) n h = ap (λ o. elim o [ None ↦ 0 | Some i ↦ suc (elim i.parent [ None ↦ 0 | Some p ↦ chain_length c k p ]) ]) h
+length_none o zero n h = refl
+length_none o (suc k) n h = ap (λ l. elim l [ None ↦ 0 | Some i ↦ suc (elim i.parent [ None ↦ 0 | Some p ↦ chain_length o k p ]) ]) h
 
-pub length_top : (c : Content) (k : ℕ) (n : Name) (i : Image) → image_of c n ≡ Some i → i.parent ≡ None → chain_length c (suc k) n ≡ 1
+pub length_top : (o : Outline) (k : ℕ) (n : Name) (i : Link) → o.links n ≡ Some i → i.parent ≡ None → chain_length o (suc k) n ≡ 1
 unfolding chain_length
-length_top c k n i is top =
-    ap (λ o. elim o [ None ↦ 0 | Some j ↦ suc (elim j.parent [ None ↦ 0 | Some p ↦ chain_length c k p ]) ]) is
-    ∙ ap (λ o. suc (elim o [ None ↦ 0 | Some p ↦ chain_length c k p ])) top
+length_top o k n i is top =
+    ap (λ l. elim l [ None ↦ 0 | Some j ↦ suc (elim j.parent [ None ↦ 0 | Some p ↦ chain_length o k p ]) ]) is
+    ∙ ap (λ up. suc (elim up [ None ↦ 0 | Some p ↦ chain_length o k p ])) top
 
-pub length_up : (c : Content) (k : ℕ) (n p : Name) (i : Image) → image_of c n ≡ Some i → i.parent ≡ Some p → chain_length c (suc k) n ≡ suc (chain_length c k p)
+pub length_up : (o : Outline) (k : ℕ) (n p : Name) (i : Link) → o.links n ≡ Some i → i.parent ≡ Some p → chain_length o (suc k) n ≡ suc (chain_length o k p)
 unfolding chain_length
-length_up c k n p i is above =
-    ap (λ o. elim o [ None ↦ 0 | Some j ↦ suc (elim j.parent [ None ↦ 0 | Some q ↦ chain_length c k q ]) ]) is
-    ∙ ap (λ o. suc (elim o [ None ↦ 0 | Some q ↦ chain_length c k q ])) above
+length_up o k n p i is above =
+    ap (λ l. elim l [ None ↦ 0 | Some j ↦ suc (elim j.parent [ None ↦ 0 | Some q ↦ chain_length o k q ]) ]) is
+    ∙ ap (λ up. suc (elim up [ None ↦ 0 | Some q ↦ chain_length o k q ])) above
 
-grows-step : (c : Content) (k : ℕ) (o : Option Name) → ((p : Name) → depth c (suc k) p ≤ suc (depth c k p))
-    → suc (elim o [ None ↦ 0 | Some p ↦ depth c (suc k) p ]) ≤ suc (suc (elim o [ None ↦ 0 | Some p ↦ depth c k p ]))
-grows-step c k None rest = omega arith
-grows-step c k (Some p) rest = omega (arith, rest p)
+grows-step : (o : Outline) (k : ℕ) (up : Option Name) → ((p : Name) → depth o (suc k) p ≤ suc (depth o k p))
+    → suc (elim up [ None ↦ 0 | Some p ↦ depth o (suc k) p ]) ≤ suc (suc (elim up [ None ↦ 0 | Some p ↦ depth o k p ]))
+grows-step o k None rest = omega arith
+grows-step o k (Some p) rest = omega (arith, rest p)
 
 -- one step more counts at most one image more
-pub depth_grows : (c : Content) (k : ℕ) (n : Name) → depth c (suc k) n ≤ suc (depth c k n)
+pub depth_grows : (o : Outline) (k : ℕ) (n : Name) → depth o (suc k) n ≤ suc (depth o k n)
 unfolding depth
-depth_grows c zero n = first (parent_of c n)
+depth_grows o zero n = first (parent_in o n)
   where
-    first : (o : Option Name) → suc (elim o [ None ↦ 0 | Some p ↦ 0 ]) ≤ 1
+    first : (up : Option Name) → suc (elim up [ None ↦ 0 | Some p ↦ 0 ]) ≤ 1
     first None = omega arith
     first (Some p) = omega arith
-depth_grows c (suc k) n = grows-step c k (parent_of c n) (λ p. depth_grows c k p)
+depth_grows o (suc k) n = grows-step o k (parent_in o n) (λ p. depth_grows o k p)
 
-renamed-step : (rename : Name → Name) (a b : Content) (k : ℕ) (o : Option Name) → ((p : Name) → depth b k (rename p) ≡ depth a k p)
-    → suc (elim (renamed_parent rename o) [ None ↦ 0 | Some p ↦ depth b k p ]) ≡ suc (elim o [ None ↦ 0 | Some p ↦ depth a k p ])
+renamed-step : (rename : Name → Name) (a b : Outline) (k : ℕ) (up : Option Name) → ((p : Name) → depth b k (rename p) ≡ depth a k p)
+    → suc (elim (renamed_parent rename up) [ None ↦ 0 | Some p ↦ depth b k p ]) ≡ suc (elim up [ None ↦ 0 | Some p ↦ depth a k p ])
 renamed-step rename a b k None rest = refl
 renamed-step rename a b k (Some p) rest = ap suc (rest p)
 
 -- a chain under other names is as long
-pub depth_renamed : (rename : Name → Name) (a b : Content) → ((n : Name) → parent_of b (rename n) ≡ renamed_parent rename (parent_of a n))
+pub depth_renamed : (rename : Name → Name) (a b : Outline) → ((n : Name) → parent_in b (rename n) ≡ renamed_parent rename (parent_in a n))
     → (k : ℕ) (n : Name) → depth b k (rename n) ≡ depth a k n
 unfolding depth
 depth_renamed rename a b same zero n = refl
 depth_renamed rename a b same (suc k) n =
-    ap (λ o. suc (elim o [ None ↦ 0 | Some p ↦ depth b k p ])) (same n) ∙ renamed-step rename a b k (parent_of a n) (λ p. depth_renamed rename a b same k p)
+    ap (λ up. suc (elim up [ None ↦ 0 | Some p ↦ depth b k p ])) (same n) ∙ renamed-step rename a b k (parent_in a n) (λ p. depth_renamed rename a b same k p)
 
-kept-step : (a b : Content) (k : ℕ) (o : Option Name) → ((p : Name) → depth b k p ≤ depth a k p)
-    → suc (elim o [ None ↦ 0 | Some p ↦ depth b k p ]) ≤ suc (elim o [ None ↦ 0 | Some p ↦ depth a k p ])
+kept-step : (a b : Outline) (k : ℕ) (up : Option Name) → ((p : Name) → depth b k p ≤ depth a k p)
+    → suc (elim up [ None ↦ 0 | Some p ↦ depth b k p ]) ≤ suc (elim up [ None ↦ 0 | Some p ↦ depth a k p ])
 kept-step a b k None rest = omega arith
 kept-step a b k (Some p) rest = omega (arith, rest p)
 
-linked-step : (a b : Content) (k : ℕ) (n : Name) → (parent_of b n ≡ parent_of a n)
-    ⊎ ((v : Name) × (p : Name) × (parent_of a n ≡ Some v) × (parent_of a v ≡ Some p) × (parent_of b n ≡ Some p))
+linked-step : (a b : Outline) (k : ℕ) (n : Name) → (parent_in b n ≡ parent_in a n)
+    ⊎ ((v : Name) × (p : Name) × (parent_in a n ≡ Some v) × (parent_in a v ≡ Some p) × (parent_in b n ≡ Some p))
     → ((p : Name) → depth b k p ≤ depth a k p) → depth b (suc k) n ≤ depth a (suc k) n
 unfolding depth
-linked-step a b k n (inl same) rest = subst (λ o. suc (elim o [ None ↦ 0 | Some p ↦ depth b k p ]) ≤ depth a (suc k) n) (sym same) (kept-step a b k (parent_of a n) rest)
+linked-step a b k n (inl same) rest = subst (λ up. suc (elim up [ None ↦ 0 | Some p ↦ depth b k p ]) ≤ depth a (suc k) n) (sym same) (kept-step a b k (parent_in a n) rest)
 linked-step a b zero n (inr (v, p, at, above, now)) rest = omega (arith, depth_up a 0 n v at, depth_up b 0 n p now, rest p)
 linked-step a b (suc k) n (inr (v, p, at, above, now)) rest =
     omega (arith, depth_up a (suc k) n v at, depth_up b (suc k) n p now, rest p, depth_up a k v p above, depth_grows a k p)
 
 -- a chain past one image is no longer
-pub depth_linked : (a b : Content) → IsLinkedUp a b → (k : ℕ) (n : Name) → depth b k n ≤ depth a k n
+pub depth_linked : (a b : Outline) → IsLinkedUp a b → (k : ℕ) (n : Name) → depth b k n ≤ depth a k n
 unfolding depth
 depth_linked a b linked zero n = omega arith
 depth_linked a b linked (suc k) n = linked-step a b k n (linked n) (λ p. depth_linked a b linked k p)
 
 -- ---- reading without a bound, and the walk
 
-ended-step : (c : Content) (s k : ℕ) (n : Name) → suc (elim (parent_of c n) [ None ↦ 0 | Some p ↦ depth c (suc k) p ]) ≤ suc k
-    → ((p : Name) → depth c (suc k) p ≤ k → (bytes : List ℕ) × (answer k (turns_of c s) p ≡ Some bytes))
+ended-step : (c : Content) (s k : ℕ) (n : Name) → suc (elim (parent_of c n) [ None ↦ 0 | Some p ↦ depth (outline c) (suc k) p ]) ≤ suc k
+    → ((p : Name) → depth (outline c) (suc k) p ≤ k → (bytes : List ℕ) × (answer k (turns_of c s) p ≡ Some bytes))
     → (t : ImageAnswer) → answer_of s (image_of c n) ≡ t → (bytes : List ℕ) × (elim t [ here b ↦ Some b | up p ↦ answer k (turns_of c s) p ] ≡ Some bytes)
 ended-step c s k n low rest (here b) is = (b, refl)
 ended-step c s k n low rest (up p) is =
     let w = turn-up s (image_of c n) p is in
-    let at : parent_of c n ≡ Some p = ap (λ o. o >>= (λ i. i.parent)) w.there ∙ w.parent in
-    let counted = subst (λ o. suc (elim o [ None ↦ 0 | Some q ↦ depth c (suc k) q ]) ≤ suc k) at low in
+    let at : parent_of c n ≡ Some p = ap (λ o. link_of o >>= (λ i. i.parent)) w.there ∙ w.parent in
+    let counted = subst (λ o. suc (elim o [ None ↦ 0 | Some q ↦ depth (outline c) (suc k) q ]) ≤ suc k) at low in
     rest p (omega (arith, counted))
 
 -- a chain of at most k images answers within k turns
-pub ended : (c : Content) (s k : ℕ) (n : Name) → depth c (suc k) n ≤ k → (bytes : List ℕ) × (answer k (turns_of c s) n ≡ Some bytes)
+pub ended : (c : Content) (s k : ℕ) (n : Name) → depth (outline c) (suc k) n ≤ k → (bytes : List ℕ) × (answer k (turns_of c s) n ≡ Some bytes)
 unfolding depth answer
 ended c s zero n low = absurd (omega (arith, low))
 ended c s (suc k) n low = ended-step c s k n low (λ p h. ended c s k p h) (answer_of s (image_of c n)) refl

@@ -3,9 +3,9 @@
 use Rattle.std.specs.Prelude.{◌≡◌, ◌≢◌, ◌⊎◌, ℕ, suc, ◌<◌, ◌≤◌, true, List, [], Option, Some, None}
 use Rattle.sm_base.specs.declared.names.Name.{Name}
 use Rattle.vg_meta.specs.Tables.{Row}
-use Rattle.common_laws.specs.Lists.{◌>>=◌}
 use Rattle.sm_machine.specs.Shapes.{same_image, chain_limit}
 use Rattle.sm_standing.specs.Checks.{children, depth}
+use Rattle.sm_standing.specs.Outlines.{Outline, parent_in, outline}
 use Rattle.sm_standing.specs.Contents.{Content, row, record_of}
 use Rattle.sm_standing.specs.Entries.{folding, making}
 use Rattle.sm_standing.specs.Images.{Image, image_of, answer_of, image_reads}
@@ -18,11 +18,11 @@ turns_of c s = λ n. answer_of s (image_of c n)
 
 -- the parent of the image of a name
 abbrev pub parent_of : Content → Name → Option Name
-parent_of c n = image_of c n >>= (λ i. i.parent)
+parent_of c n = parent_in (outline c) n
 
 -- a chain of at most so many images as are walked
 abbrev pub IsShortChain : Content → Name → Type 0
-IsShortChain c n = depth c (suc chain_limit) n ≤ chain_limit
+IsShortChain c n = depth (outline c) (suc chain_limit) n ≤ chain_limit
 
 -- all images but one are the same
 abbrev pub SameImagesBut : Content → Content → Name → Type 0
@@ -65,7 +65,7 @@ pub record IsRemoved (a b : Content) (x : Name) (was : Row) : Type 0 where
   pub name : same_image x x ≡ true
   pub there : row a x ≡ Some was
   pub hidden : was.hidden ≡ true
-  pub childless : children a x ≡ []
+  pub childless : children (outline a) x ≡ []
   pub gone : row b x ≡ None
   pub others : (n : Name) → n ≢ x → row b n ≡ row a n
   pub images : SameImagesBut a b x
@@ -81,6 +81,6 @@ renamed_parent rename None = None
 renamed_parent rename (Some p) = Some (rename p)
 
 -- each image is linked as it was, or past one image to that image's parent
-abbrev pub IsLinkedUp : Content → Content → Type 0
-IsLinkedUp a b = (n : Name) → (parent_of b n ≡ parent_of a n)
-    ⊎ ((v : Name) × (p : Name) × (parent_of a n ≡ Some v) × (parent_of a v ≡ Some p) × (parent_of b n ≡ Some p))
+abbrev pub IsLinkedUp : Outline → Outline → Type 0
+IsLinkedUp a b = (n : Name) → (parent_in b n ≡ parent_in a n)
+    ⊎ ((v : Name) × (p : Name) × (parent_in a n ≡ Some v) × (parent_in a v ≡ Some p) × (parent_in b n ≡ Some p))

@@ -23,15 +23,15 @@ use Rattle.sm_base.specs.declared.names.Name.{Name}
 use Rattle.sm_base.specs.declared.names.Name.TheVariants.{Mgt, Vhd, Raw, Old, Clone, Inflate, Coalesce, Relink, Leaf}
 use Rattle.vg_layout.specs.Places.{record_extents}
 use Rattle.sm_base.specs.Kinds.{is_image as is_data, is_entry}
-use Rattle.vg_meta.specs.Tables.{VolumeTable, Row}
+use Rattle.vg_meta.specs.Tables.{VolumeTable, Row, rows}
 use Rattle.vg_volumes.specs.Volumes.{span}
-use Rattle.common_laws.specs.Lists.{◌>>=◌, given, first_some, numbers}
+use Rattle.common_laws.specs.Lists.{given, first_some, numbers}
 use Rattle.sm_machine.specs.Shapes.{same_image, image_limit, chain_limit}
 use Rattle.sm_record.specs.declared.records.Reading.{Reading}
 use Rattle.sm_record.specs.declared.records.Reading.TheVariants.{Free, Taken, Damaged}
-use Rattle.sm_standing.specs.Contents.{Content, row, record_count, reading_at, records, is_record_of}
+use Rattle.sm_standing.specs.Contents.{Content, record_count, is_record_of}
 use Rattle.sm_standing.specs.Entries.{is_there, is_hidden, are_past, is_at_stage, is_old_of, is_fork_made, is_leaf_copied, is_leaf_renamed, is_leaf_swapped, folding, making, second}
-use Rattle.sm_standing.specs.Images.{Image, image_of}
+use Rattle.sm_standing.specs.Outlines.{Outline, Link, parent_in, outline, outline_records}
 use Rattle.sm_standing.specs.Standing.{standing_volume, uuids}
 
 -- the name of the first volume that passes a test, in order of name
@@ -49,20 +49,20 @@ placed place (Some n) = Some (place n)
 
 -- ---- 6: the volume of records
 
-abbrev pub has_records : Content → Option Row → Bool
-has_records c None = false
-has_records c (Some r) = length r.extents == record_extents c.extent
+abbrev pub has_records : Outline → Option Row → Bool
+has_records o None = false
+has_records o (Some r) = length r.extents == record_extents o.extent
 
-unfoldable pub record_volume_fault : Content → Option Place
-record_volume_fault c = given (not (has_records c (row c Mgt))) at.Mgt
+unfoldable pub record_volume_fault : Outline → Option Place
+record_volume_fault o = given (not (has_records o (rows o.table Mgt))) at.Mgt
 
 -- ---- 7: the images
 
 abbrev pub images : VolumeTable → List Row
 images t = filter (λ r. is_data r.name) t.volumes
 
-unfoldable pub too_many_fault : Content → Option Place
-too_many_fault c = given (nat_lt image_limit (length (images c.table))) at.Images
+unfoldable pub too_many_fault : Outline → Option Place
+too_many_fault o = given (nat_lt image_limit (length (images o.table))) at.Images
 
 -- a VHD and a raw image have one UUID
 abbrev pub has_twin : VolumeTable → Name → Bool
@@ -73,8 +73,8 @@ has_twin t _ = false
 abbrev pub is_misnamed : VolumeTable → Row → Bool
 is_misnamed t r = is_data r.name && (has_twin t r.name || not (are_past t r.name))
 
-unfoldable pub misnamed_fault : Content → Option Place
-misnamed_fault c = placed at.Image (first_name (is_misnamed c.table) c.table.volumes)
+unfoldable pub misnamed_fault : Outline → Option Place
+misnamed_fault o = placed at.Image (first_name (is_misnamed o.table) o.table.volumes)
 
 -- ---- 8: the entries, by the table
 
@@ -84,14 +84,14 @@ lesser None b = b
 lesser (Some a) None = Some a
 lesser (Some a) (Some b) = if is_lt (name_cmp a b) then Some a else Some b
 
-unfoldable pub second_entry_fault : Content → Option Place
-second_entry_fault c = placed at.Journal (lesser (second (folding c.table)) (second (making c.table)))
+unfoldable pub second_entry_fault : Outline → Option Place
+second_entry_fault o = placed at.Journal (lesser (second (folding o.table)) (second (making o.table)))
 
 abbrev pub is_lost : VolumeTable → Row → Bool
 is_lost t r = is_entry r.name && not (is_at_stage t r.name && are_past t r.name)
 
-unfoldable pub lost_entry_fault : Content → Option Place
-lost_entry_fault c = placed at.Journal (first_name (is_lost c.table) c.table.volumes)
+unfoldable pub lost_entry_fault : Outline → Option Place
+lost_entry_fault o = placed at.Journal (first_name (is_lost o.table) o.table.volumes)
 
 -- ---- 9: old leaves
 
@@ -99,8 +99,8 @@ abbrev pub is_orphaned : VolumeTable → Name → Bool
 is_orphaned t (Old u) = not (list_any (is_old_of t u) (folding t))
 is_orphaned t _ = false
 
-unfoldable pub old_leaf_fault : Content → Option Place
-old_leaf_fault c = placed at.Image (first_name (λ r. is_orphaned c.table r.name) c.table.volumes)
+unfoldable pub old_leaf_fault : Outline → Option Place
+old_leaf_fault o = placed at.Image (first_name (λ r. is_orphaned o.table r.name) o.table.volumes)
 
 -- ---- 10: each image by itself
 
@@ -108,68 +108,68 @@ old_leaf_fault c = placed at.Image (first_name (λ r. is_orphaned c.table r.name
 abbrev pub is_oversize : ℕ → ℕ → ℕ → Row → Bool
 is_oversize extent block entries r = nat_lt (entries * block) (span extent r.extents)
 
-abbrev pub is_image_wrong : Content → Row → Name → Bool
-is_image_wrong c r (Vhd u) = is_none (image_of c (Vhd u))
-is_image_wrong c r (Raw u) = is_oversize c.extent c.block c.entries r
-is_image_wrong c r _ = false
+abbrev pub is_image_wrong : Outline → Row → Name → Bool
+is_image_wrong o r (Vhd u) = is_none (o.links (Vhd u))
+is_image_wrong o r (Raw u) = is_oversize o.extent o.block o.entries r
+is_image_wrong o r _ = false
 
-abbrev pub is_invalid : Content → Row → Bool
-is_invalid c r = not r.fresh && is_image_wrong c r r.name
+abbrev pub is_invalid : Outline → Row → Bool
+is_invalid o r = not r.fresh && is_image_wrong o r r.name
 
-unfoldable pub invalid_fault : Content → Option Place
-invalid_fault c = placed at.Image (first_name (is_invalid c) c.table.volumes)
+unfoldable pub invalid_fault : Outline → Option Place
+invalid_fault o = placed at.Image (first_name (is_invalid o) o.table.volumes)
 
 -- ---- 11: parents and chains
 
--- the images that are not new, with their names
-abbrev pub parent_is : Name → Option Image → Bool
+-- whether a link names this parent
+abbrev pub parent_is : Name → Option Link → Bool
 parent_is p None = false
 parent_is p (Some i) = elim i.parent [ None ↦ false | Some q ↦ same_image q p ]
 
 -- the volumes whose images have this parent
-unfoldable pub children : Content → Name → List Row
-children c p = filter (λ r. parent_is p (image_of c r.name)) c.table.volumes
+unfoldable pub children : Outline → Name → List Row
+children o p = filter (λ r. parent_is p (o.links r.name)) o.table.volumes
 
 -- the number of names from one up, each named as parent by the image below it, counted up to a limit
-unfoldable pub depth : Content → ℕ → Name → ℕ
-depth c zero n = 0
-depth c (suc most) n = suc (elim (image_of c n >>= (λ i. i.parent)) [ None ↦ 0 | Some p ↦ depth c most p ])
+unfoldable pub depth : Outline → ℕ → Name → ℕ
+depth o zero n = 0
+depth o (suc most) n = suc (elim (parent_in o n) [ None ↦ 0 | Some p ↦ depth o most p ])
 
 -- the number of images of a chain from one up, counted up to a limit: a parent that is not there is none
-unfoldable pub chain_length : Content → ℕ → Name → ℕ
-chain_length c zero n = 0
-chain_length c (suc most) n = elim (image_of c n) [ None ↦ 0 | Some i ↦ suc (elim i.parent [ None ↦ 0 | Some p ↦ chain_length c most p ]) ]
+unfoldable pub chain_length : Outline → ℕ → Name → ℕ
+chain_length o zero n = 0
+chain_length o (suc most) n = elim (o.links n) [ None ↦ 0 | Some i ↦ suc (elim i.parent [ None ↦ 0 | Some p ↦ chain_length o most p ]) ]
 
 -- an image of at most this size
-abbrev pub is_no_larger : ℕ → Option Image → Bool
+abbrev pub is_no_larger : ℕ → Option Link → Bool
 is_no_larger size None = false
 is_no_larger size (Some i) = nat_le i.size size
 
 -- a parent that is there, not new, hidden and not larger
-abbrev pub is_parent_right : Content → ℕ → Name → Bool
-is_parent_right c size p = is_hidden c.table p && is_no_larger size (image_of c p)
+abbrev pub is_parent_right : Outline → ℕ → Name → Bool
+is_parent_right o size p = is_hidden o.table p && is_no_larger size (o.links p)
 
 -- an image's parent is right where it has one
-abbrev pub is_linked : Content → Image → Bool
-is_linked c i = elim i.parent [ None ↦ true | Some p ↦ is_parent_right c i.size p ]
+abbrev pub is_linked : Outline → Link → Bool
+is_linked o i = elim i.parent [ None ↦ true | Some p ↦ is_parent_right o i.size p ]
 
 -- an image that is linked wrongly, whose chain is too long, or that is visible and has children
-abbrev pub is_misplaced : Content → Row → Option Image → Bool
-is_misplaced c r None = false
-is_misplaced c r (Some i) = not (is_linked c i
-    && (nat_le (chain_length c (suc chain_limit) r.name) chain_limit
-    && (r.hidden || (length (children c r.name) == 0))))
+abbrev pub is_misplaced : Outline → Row → Option Link → Bool
+is_misplaced o r None = false
+is_misplaced o r (Some i) = not (is_linked o i
+    && (nat_le (chain_length o (suc chain_limit) r.name) chain_limit
+    && (r.hidden || (length (children o r.name) == 0))))
 
 -- the check speaks of VHD images alone
-abbrev pub tree_wrong_as : Content → Row → Name → Bool
-tree_wrong_as c r (Vhd u) = is_misplaced c r (image_of c (Vhd u))
-tree_wrong_as c r _ = false
+abbrev pub tree_wrong_as : Outline → Row → Name → Bool
+tree_wrong_as o r (Vhd u) = is_misplaced o r (o.links (Vhd u))
+tree_wrong_as o r _ = false
 
-abbrev pub is_tree_wrong : Content → Row → Bool
-is_tree_wrong c r = tree_wrong_as c r r.name
+abbrev pub is_tree_wrong : Outline → Row → Bool
+is_tree_wrong o r = tree_wrong_as o r r.name
 
-unfoldable pub tree_fault : Content → Option Place
-tree_fault c = placed at.Tree (first_name (is_tree_wrong c) c.table.volumes)
+unfoldable pub tree_fault : Outline → Option Place
+tree_fault o = placed at.Tree (first_name (is_tree_wrong o) o.table.volumes)
 
 -- ---- 12: the entries, by parents and children
 
@@ -178,57 +178,57 @@ abbrev pub has_uuid : List ℕ → Name → Bool
 has_uuid u n = same_image n (Vhd u) || same_image n (Raw u)
 
 -- a test of an image; false where there is none
-abbrev pub of_image : (Image → Bool) → Option Image → Bool
+abbrev pub of_image : (Link → Bool) → Option Link → Bool
 of_image test None = false
 of_image test (Some i) = test i
 
 -- a parent of this UUID, which passes a test
-abbrev pub has_such_parent : Content → List ℕ → (Image → Bool) → Option Name → Bool
-has_such_parent c parent test None = false
-has_such_parent c parent test (Some q) = has_uuid parent q && of_image test (image_of c q)
+abbrev pub has_such_parent : Outline → List ℕ → (Link → Bool) → Option Name → Bool
+has_such_parent o parent test None = false
+has_such_parent o parent test (Some q) = has_uuid parent q && of_image test (o.links q)
 
 -- child and parent pass a test
-abbrev pub has_parent_of : Content → List ℕ → List ℕ → (Image → Image → Bool) → Bool
-has_parent_of c child parent test = of_image (λ v. has_such_parent c parent (test v) v.parent) (image_of c (Vhd child))
+abbrev pub has_parent_of : Outline → List ℕ → List ℕ → (Link → Link → Bool) → Bool
+has_parent_of o child parent test = of_image (λ v. has_such_parent o parent (test v) v.parent) (o.links (Vhd child))
 
 -- all children of either image with this UUID
-abbrev pub children_with : Content → List ℕ → List Row
-children_with c u = children c (Vhd u) ++ children c (Raw u)
+abbrev pub children_with : Outline → List ℕ → List Row
+children_with o u = children o (Vhd u) ++ children o (Raw u)
 
 -- a new image of a fork that is filled has the base as parent, and nothing else has
-abbrev pub is_base_of : List ℕ → Option Image → Bool
+abbrev pub is_base_of : List ℕ → Option Link → Bool
 is_base_of base None = true
 is_base_of base (Some i) = elim i.parent [ None ↦ false | Some q ↦ has_uuid base q ]
 
-abbrev pub is_fork_linked : Content → List ℕ → List ℕ → List ℕ → Bool
-is_fork_linked c disk base twin =
-    not (is_fork_made c.table disk base twin)
-    || (is_base_of base (image_of c (Vhd disk))
-    && (is_base_of base (image_of c (Vhd twin))
-    && (length (filter (λ r. not (same_image r.name (Vhd disk) || same_image r.name (Vhd twin))) (children_with c base)) == 0)))
+abbrev pub is_fork_linked : Outline → List ℕ → List ℕ → List ℕ → Bool
+is_fork_linked o disk base twin =
+    not (is_fork_made o.table disk base twin)
+    || (is_base_of base (o.links (Vhd disk))
+    && (is_base_of base (o.links (Vhd twin))
+    && (length (filter (λ r. not (same_image r.name (Vhd disk) || same_image r.name (Vhd twin))) (children_with o base)) == 0)))
 
-abbrev pub is_leaf_linked : Content → List ℕ → List ℕ → Bool
-is_leaf_linked c leaf parent =
-    if is_leaf_copied c.table leaf parent
-    then parent_is (Vhd parent) (image_of c (Vhd leaf)) && (length (children c (Vhd parent)) == 1)
-    else if is_leaf_renamed c.table leaf parent then length (children c (Vhd parent)) == 0
-    else if is_leaf_swapped c.table leaf parent then length (children c (Vhd leaf)) == 0
+abbrev pub is_leaf_linked : Outline → List ℕ → List ℕ → Bool
+is_leaf_linked o leaf parent =
+    if is_leaf_copied o.table leaf parent
+    then parent_is (Vhd parent) (o.links (Vhd leaf)) && (length (children o (Vhd parent)) == 1)
+    else if is_leaf_renamed o.table leaf parent then length (children o (Vhd parent)) == 0
+    else if is_leaf_swapped o.table leaf parent then length (children o (Vhd leaf)) == 0
     else true
 
-unfoldable pub is_entry_linked : Content → Name → Bool
-is_entry_linked c (Clone disk base twin) = is_fork_linked c disk base twin
-is_entry_linked c (Coalesce child parent) =
-    has_parent_of c child parent (λ v p. true) && (length (children_with c parent) == 1)
-is_entry_linked c (Relink child parent) = has_parent_of c child parent (λ v p. nat_le v.size p.size)
-is_entry_linked c (Leaf leaf parent) = is_leaf_linked c leaf parent
-is_entry_linked c Mgt = true
-is_entry_linked c (Vhd u) = true
-is_entry_linked c (Raw u) = true
-is_entry_linked c (Old u) = true
-is_entry_linked c (Inflate image extents) = true
+unfoldable pub is_entry_linked : Outline → Name → Bool
+is_entry_linked o (Clone disk base twin) = is_fork_linked o disk base twin
+is_entry_linked o (Coalesce child parent) =
+    has_parent_of o child parent (λ v p. true) && (length (children_with o parent) == 1)
+is_entry_linked o (Relink child parent) = has_parent_of o child parent (λ v p. nat_le v.size p.size)
+is_entry_linked o (Leaf leaf parent) = is_leaf_linked o leaf parent
+is_entry_linked o Mgt = true
+is_entry_linked o (Vhd u) = true
+is_entry_linked o (Raw u) = true
+is_entry_linked o (Old u) = true
+is_entry_linked o (Inflate image extents) = true
 
-unfoldable pub entry_link_fault : Content → Option Place
-entry_link_fault c = placed at.Journal (first_name (λ r. not (is_entry_linked c r.name)) c.table.volumes)
+unfoldable pub entry_link_fault : Outline → Option Place
+entry_link_fault o = placed at.Journal (first_name (λ r. not (is_entry_linked o r.name)) o.table.volumes)
 
 -- ---- 13: the records
 
@@ -241,42 +241,47 @@ abbrev pub record_place : Option ℕ → Option Place
 record_place None = None
 record_place (Some k) = Some (at.Record k)
 
-unfoldable pub record_fault : Content → Option Place
-record_fault c = record_place (find (λ k. is_damaged (reading_at c k)) (numbers 0 record_count))
+unfoldable pub record_fault : Outline → Option Place
+record_fault o = record_place (find (λ k. is_damaged (o.readings k)) (numbers 0 record_count))
 
 -- the UUIDs that are disks, in order
-abbrev pub disk_uuids : Content → List (List ℕ)
-disk_uuids c = filter (λ u. is_some (standing_volume c.table u)) (uuids c.table)
+abbrev pub disk_uuids : Outline → List (List ℕ)
+disk_uuids o = filter (λ u. is_some (standing_volume o.table u)) (uuids o.table)
 
-abbrev pub is_unrecorded : Content → List ℕ → Bool
-is_unrecorded c u = not (length (filter (is_record_of u) (records c)) == 1)
+abbrev pub is_unrecorded : Outline → List ℕ → Bool
+is_unrecorded o u = not (length (filter (is_record_of u) (outline_records o)) == 1)
 
 abbrev pub disk_place : Option (List ℕ) → Option Place
 disk_place None = None
 disk_place (Some u) = Some (at.Disk u)
 
-unfoldable pub disk_fault : Content → Option Place
-disk_fault c = disk_place (find (is_unrecorded c) (disk_uuids c))
+unfoldable pub disk_fault : Outline → Option Place
+disk_fault o = disk_place (find (is_unrecorded o) (disk_uuids o))
 
 -- ---- all of them
 
-abbrev pub all_faults : Content → List (Option Place)
-all_faults c = record_volume_fault c
-    ∷ too_many_fault c
-    ∷ misnamed_fault c
-    ∷ second_entry_fault c
-    ∷ lost_entry_fault c
-    ∷ old_leaf_fault c
-    ∷ invalid_fault c
-    ∷ tree_fault c
-    ∷ entry_link_fault c
-    ∷ record_fault c
-    ∷ disk_fault c
+-- the place that each check names, in their order
+abbrev pub all_faults : Outline → List (Option Place)
+all_faults o = record_volume_fault o
+    ∷ too_many_fault o
+    ∷ misnamed_fault o
+    ∷ second_entry_fault o
+    ∷ lost_entry_fault o
+    ∷ old_leaf_fault o
+    ∷ invalid_fault o
+    ∷ tree_fault o
+    ∷ entry_link_fault o
+    ∷ record_fault o
+    ∷ disk_fault o
     ∷ []
 
--- the place of the first check that fails
-unfoldable pub first_fault : Content → Option Place
-first_fault c = first_some (all_faults c)
+-- the place of the first check that fails on an outline
+unfoldable pub fault_of : Outline → Option Place
+fault_of o = first_some (all_faults o)
+
+-- the place of the first check that fails on a content
+abbrev pub first_fault : Content → Option Place
+first_fault c = fault_of (outline c)
 
 -- ---- what can't be repaired yet
 
@@ -292,22 +297,27 @@ is_image_ahead r = is_ahead r.hidden r.name
 
 -- the checks of the program as it is built today: the first entry is refused with the eighth check, and the first image
 -- that is no visible raw one with the tenth
-unfoldable pub entry_ahead_fault : Content → Option Place
-entry_ahead_fault c = placed at.Journal (first_name (λ r. is_entry r.name) c.table.volumes)
+unfoldable pub entry_ahead_fault : Outline → Option Place
+entry_ahead_fault o = placed at.Journal (first_name (λ r. is_entry r.name) o.table.volumes)
 
-unfoldable pub image_ahead_fault : Content → Option Place
-image_ahead_fault c = placed at.Image (first_name is_image_ahead c.table.volumes)
+unfoldable pub image_ahead_fault : Outline → Option Place
+image_ahead_fault o = placed at.Image (first_name is_image_ahead o.table.volumes)
 
-abbrev pub faults_today : Content → List (Option Place)
-faults_today c = record_volume_fault c
-    ∷ too_many_fault c
-    ∷ misnamed_fault c
-    ∷ entry_ahead_fault c
-    ∷ image_ahead_fault c
-    ∷ invalid_fault c
-    ∷ record_fault c
-    ∷ disk_fault c
+abbrev pub faults_today : Outline → List (Option Place)
+faults_today o = record_volume_fault o
+    ∷ too_many_fault o
+    ∷ misnamed_fault o
+    ∷ entry_ahead_fault o
+    ∷ image_ahead_fault o
+    ∷ invalid_fault o
+    ∷ record_fault o
+    ∷ disk_fault o
     ∷ []
 
-unfoldable pub first_fault_today : Content → Option Place
-first_fault_today c = first_some (faults_today c)
+-- the place of the first of today's checks that fails on an outline
+unfoldable pub fault_today_of : Outline → Option Place
+fault_today_of o = first_some (faults_today o)
+
+-- the place of the first of today's checks that fails on a content
+abbrev pub first_fault_today : Content → Option Place
+first_fault_today c = fault_today_of (outline c)

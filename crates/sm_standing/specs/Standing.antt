@@ -8,7 +8,7 @@ use Rattle.std.specs.List.{filter_map, find, flat_map}
 use Rattle.std.specs.Str.{bytes_eq}
 use Rattle.common_laws.specs.Lists.{◌>>=◌}
 use Rattle.sm_base.specs.declared.names.Name.{Name}
-use Rattle.sm_base.specs.declared.names.Name.TheVariants.{Mgt, Vhd, Raw, Old, Clone, Inflate, Coalesce, Relink, Leaf}
+use Rattle.sm_base.specs.declared.names.Name.TheVariants.{Vhd, Raw, Clone, Leaf}
 use Rattle.vg_meta.specs.Tables.{VolumeTable}
 use Rattle.sm_machine.specs.Disks.{Disk, uuid_before}
 use Rattle.sm_record.specs.declared.records.Record.{Record}

@@ -5,8 +5,9 @@ ghost use Rattle.sm_base.specs.declared.names.Name.{Name};
 ghost use Rattle.sm_base.specs.declared.names.Name.TheVariants.{Old};
 ghost use Rattle.sm_disk.specs.Sectors.{zeros};
 ghost use Rattle.vg_meta.specs.Tables.{Row};
-ghost use Rattle.sm_standing.specs.Changes.{turns_of, parent_of, IsShortChain, IsCopied, IsRaised, IsMoved, IsRemoved, IsLinkedUp, renamed_parent};
+ghost use Rattle.sm_standing.specs.Changes.{turns_of, IsShortChain, IsCopied, IsRaised, IsMoved, IsRemoved, IsLinkedUp, renamed_parent};
 ghost use Rattle.sm_standing.specs.Checks.{chain_length, depth};
+ghost use Rattle.sm_standing.specs.Outlines.{Outline, Link, parent_in};
 ghost use Rattle.sm_standing.specs.Contents.{Content, row};
 ghost use Rattle.sm_standing.specs.Images.{Image, image_of, image_reads};
 ghost use Rattle.sm_standing.specs.Standing.{disks, disk_at};
@@ -36,20 +37,20 @@ pub fn law_short_chain()
 /// The number of images of a chain: none where there is no image, one where it has no parent, else one more than from the
 /// parent up. A parent that is not there is not counted, though it is one of the names that `depth` counts.
 pub fn law_chain_length()
-    ensures none { (c : Content) (k : ℕ) (n : Name) → image_of c n ≡ None → chain_length c k n ≡ 0 }
-    ensures one { (c : Content) (k : ℕ) (n : Name) (i : Image) → image_of c n ≡ Some i → i.parent ≡ None → chain_length c (suc k) n ≡ 1 }
-    ensures more { (c : Content) (k : ℕ) (n p : Name) (i : Image) → image_of c n ≡ Some i → i.parent ≡ Some p → chain_length c (suc k) n ≡ suc (chain_length c k p) }
-    ensures missing { (c : Content) (k : ℕ) (n p : Name) (i : Image) → image_of c n ≡ Some i → i.parent ≡ Some p → image_of c p ≡ None → chain_length c (suc k) n ≡ 1 }
-    ensures top { (c : Content) (k : ℕ) (n : Name) → parent_of c n ≡ None → depth c (suc k) n ≡ 1 }
-    ensures up { (c : Content) (k : ℕ) (n p : Name) → parent_of c n ≡ Some p → depth c (suc k) n ≡ suc (depth c k p) }
+    ensures none { (o : Outline) (k : ℕ) (n : Name) → o.links n ≡ None → chain_length o k n ≡ 0 }
+    ensures one { (o : Outline) (k : ℕ) (n : Name) (i : Link) → o.links n ≡ Some i → i.parent ≡ None → chain_length o (suc k) n ≡ 1 }
+    ensures more { (o : Outline) (k : ℕ) (n p : Name) (i : Link) → o.links n ≡ Some i → i.parent ≡ Some p → chain_length o (suc k) n ≡ suc (chain_length o k p) }
+    ensures missing { (o : Outline) (k : ℕ) (n p : Name) (i : Link) → o.links n ≡ Some i → i.parent ≡ Some p → o.links p ≡ None → chain_length o (suc k) n ≡ 1 }
+    ensures top { (o : Outline) (k : ℕ) (n : Name) → parent_in o n ≡ None → depth o (suc k) n ≡ 1 }
+    ensures up { (o : Outline) (k : ℕ) (n p : Name) → parent_in o n ≡ Some p → depth o (suc k) n ≡ suc (depth o k p) }
 {}
 
 /// Under other names a chain is as long, and where images are linked past one to its parent it is no longer:
 /// chains stay short.
 pub fn law_chain_kept()
-    ensures renamed { (rename : Name → Name) (a b : Content) → ((n : Name) → parent_of b (rename n) ≡ renamed_parent rename (parent_of a n))
+    ensures renamed { (rename : Name → Name) (a b : Outline) → ((n : Name) → parent_in b (rename n) ≡ renamed_parent rename (parent_in a n))
         → (k : ℕ) (n : Name) → depth b k (rename n) ≡ depth a k n }
-    ensures relinked { (a b : Content) → IsLinkedUp a b → (k : ℕ) (n : Name) → depth b k n ≤ depth a k n }
+    ensures relinked { (a b : Outline) → IsLinkedUp a b → (k : ℕ) (n : Name) → depth b k n ≤ depth a k n }
 {}
 
 /// Where a parent of the same size holds alike whatever its child holds, both read alike. An empty image over a

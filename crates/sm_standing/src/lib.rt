@@ -3,18 +3,20 @@
 //! Kept here: nothing; no call touches a device or takes memory. A content is the table of a volume group
 //! with the sectors of all extents. From it are read the images, what is read through a chain of them, the
 //! standing volume of each disk, the disks in order of UUID, the checks of an opening with the place of the
-//! first that fails, and what is kept whenever a device stops. Sizes are in sectors of 512 bytes, room in
-//! extents.
+//! first that fails, and what is kept whenever a device stops. The checks look at an outline of a content: its
+//! sizes and its table, of each image the size and the parent, and what each record sector reads as. Sizes are in
+//! sectors of 512 bytes, room in extents.
 //!
 //! The definitions are in `specs/`: `Contents`, `Entries` (journal entries and their stages), `Images`
-//! (an image, a turn, what is read), `Turns` (the same without a bound), `Standing` (the disks), `Checks` (the
-//! checks in their order), `Keeping` (kept), `Devices` (the same of a whole device), `Shapes` (the shape that
-//! a content spells), `Plain` and `PlainSound` (a repository of raw disks alone), `Additions` (a raw image
-//! more), `Changes` (an image that comes, goes, grows or moves), `Worlds` (what a change of the area leaves).
+//! (an image, a turn, what is read), `Answering` (the same without a bound), `Standing` (the disks), `Outlines`
+//! (what the checks look at), `Checks` (the checks in their order), `Keeping` (kept), `Devices` (the same of a
+//! whole device), `Shapes` (the shape that a content spells), `Opened` (the shape that an opening makes),
+//! `Plain` and `PlainSound` (a repository of raw disks alone), `Additions` (a raw image more), `Changes` (an image
+//! that comes, goes, grows or moves), `Worlds` (what a change of the area leaves).
 //!
 //! The laws are the contracts of functions that do nothing: of what is read through a chain (`chains`), of images in a
 //! content (`images`), of what a commit or a write leaves of each volume (`worlds`), of the list of disks (`listing`), of
-//! raw disks alone (`raw`), and of the first check of an opening that fails (`faults`). That their hypotheses can be met is
+//! raw disks alone (`raw`), and of outlines and the first check that fails (`faults`). That their hypotheses can be met is
 //! shown in the crate standing_examples.
 #![tactic(auto)]
 
@@ -28,7 +30,7 @@ mod worlds;
 pub use chains::{
     law_copy_below, law_guest_write, law_no_parent, law_relink, law_rename, law_walk,
 };
-pub use faults::{law_first_fault, law_longest_chain};
+pub use faults::{law_first_fault, law_longest_chain, law_outline};
 pub use images::{
     law_chain_kept, law_chain_length, law_copied, law_moved, law_no_image, law_raised, law_read,
     law_removed, law_short_chain,

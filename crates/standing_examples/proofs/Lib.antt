@@ -1,2 +1,3 @@
 pub mod EmptyContent
 pub mod FaultExamples
+pub mod OutlineExample

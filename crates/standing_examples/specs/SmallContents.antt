@@ -67,3 +67,7 @@ crowd n = map (λ k. shown_row (Raw (k ∷ []))) (numbers 0 n)
 -- the UUID of a base image with this number
 abbrev pub base_of : ℕ → List ℕ
 base_of k = 108 ∷ 118 ∷ 104 ∷ 100 ∷ 0 ∷ 0 ∷ 128 ∷ 0 ∷ 128 ∷ 0 ∷ 0 ∷ 0 ∷ 0 ∷ 0 ∷ 0 ∷ k ∷ []
+
+-- a raw disk beside records that have one extent, the first
+abbrev pub lone_raw : (ℕ → List ℕ) → Content
+lone_raw area = content_on (sized_row false Mgt (0 ∷ []) ∷ sized_row false (Raw one) (1 ∷ []) ∷ []) area

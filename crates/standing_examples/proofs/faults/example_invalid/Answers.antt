@@ -1,8 +1,9 @@
-use Rattle.std.proofs.Common.{refl}
+use Rattle.std.proofs.Common.{refl, ap}
 use Rattle.sm_base.specs.Names.{is_base}
 use Rattle.vg_meta.specs.Tables.{row_of, name_eq}
 use Rattle.sm_standing.specs.Entries.{is_at_stage, image_with}
 use Rattle.sm_standing.specs.Checks.{first_name, record_volume_fault, misnamed_fault, second_entry_fault, lost_entry_fault, old_leaf_fault, invalid_fault}
+use Rattle.sm_standing.specs.Outlines.{link_of}
 use Rattle.standing_examples.proofs.FaultExamples.{invalid_image, valid_image}
 use Rattle.standing_examples.proofs.faults.example_invalid.Goals as goal
 
@@ -19,7 +20,7 @@ unfolding first_name record_volume_fault misnamed_fault second_entry_fault lost_
 returns-clause-fresh c = λ area. refl
 
 pub returns-clause-unreadable : goal.returns-clause-unreadable
-returns-clause-unreadable c = invalid_image
+returns-clause-unreadable c = λ area is. invalid_image area (ap link_of is)
 
 pub returns-clause-readable : goal.returns-clause-readable
-returns-clause-readable c = valid_image
+returns-clause-readable c = λ area i is. valid_image area _ (ap link_of is)
