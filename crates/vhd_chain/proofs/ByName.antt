@@ -4,12 +4,12 @@ use Rattle.std.specs.List.{find}
 use Rattle.std.proofs.lemmas.Bool.{cond_both}
 use Rattle.std.specs.declared.cmp.Ordering.TheVariants.{Less}
 use Rattle.std.specs.List.Sorted.{IsStrictlySortedBy}
-use Rattle.common_laws.specs.Lists.{In, insert_by}
+use Rattle.common_laws.specs.Lists.{In, insert_by, when}
 use Rattle.common_laws.proofs.Lists.{find-some}
 use Rattle.sm_base.specs.declared.names.Name.{Name}
 use Rattle.sm_base.specs.Names.{name_cmp}
 use Rattle.vg_meta.proofs.NameLaws.{less_other, name_eq-true, name_eq-same, name_eq-other, name_eq-false}
-use Rattle.vhd_chain.specs.Trees.{AreOrdered, row_name, has_name, tree_row, is_before, with_row, without}
+use Rattle.vhd_chain.specs.Trees.{AreOrdered, row_name, has_name, tree_row, is_before, with_row, without, with_replaced}
 use Rattle.vhd_chain.specs.declared.rows.TreeRow.{TreeRow}
 use Rattle.vhd_chain.proofs.OrderLaws.{IsLeast, IsRising, none_head}
 
@@ -69,6 +69,26 @@ tree_row-without_other (s ∷ rs) m n other = go (has_name m s) refl (tree_row-w
         → tree_row (cond (not b) (s ∷ without m rs) (without m rs)) n ≡ tree_row (s ∷ rs) n
     go true e rest = rest ∙ sym (past_head s rs n (λ k. other (sym (name_eq-true (row_name s) m e) ∙ k)))
     go false e rest = same_head s (without m rs) rs n rest
+
+pub tree_row-replaced_other : (rs : List TreeRow) (r : TreeRow) (n : Name) → row_name r ≢ n → tree_row (with_replaced r rs) n ≡ tree_row rs n
+tree_row-replaced_other [] r n other = refl
+tree_row-replaced_other (s ∷ rs) r n other = go (has_name (row_name r) s) refl (tree_row-replaced_other rs r n other)
+  where
+    go : (b : Bool) → has_name (row_name r) s ≡ b → tree_row (with_replaced r rs) n ≡ tree_row rs n → tree_row (when b (λ t. r) s ∷ with_replaced r rs) n ≡ tree_row (s ∷ rs) n
+    go true e rest =
+        let named : row_name s ≡ row_name r = name_eq-true (row_name s) (row_name r) e in
+        past_head r (with_replaced r rs) n other ∙ rest ∙ sym (past_head s rs n (λ k. other (sym named ∙ k)))
+    go false e rest = same_head s (with_replaced r rs) rs n rest
+
+pub tree_row-replaced_same : (rs : List TreeRow) (r s : TreeRow) → tree_row rs (row_name r) ≡ Some s → tree_row (with_replaced r rs) (row_name r) ≡ Some r
+unfolding tree_row
+tree_row-replaced_same [] r s h = absurd cc
+tree_row-replaced_same (x ∷ rs) r s h = go (has_name (row_name r) x) refl (λ k. tree_row-replaced_same rs r s k) h
+  where
+    go : (b : Bool) → has_name (row_name r) x ≡ b → (find (has_name (row_name r)) rs ≡ Some s → tree_row (with_replaced r rs) (row_name r) ≡ Some r)
+        → cond b (Some x) (find (has_name (row_name r)) rs) ≡ Some s → tree_row (when b (λ t. r) x ∷ with_replaced r rs) (row_name r) ≡ Some r
+    go true e rest h = at_head r (with_replaced r rs) (row_name r) refl
+    go false e rest h = past_head x (with_replaced r rs) (row_name r) (name_eq-false (row_name x) (row_name r) e) ∙ rest h
 
 -- ---- a row that is found is among the rows, and each of these is found
 

@@ -95,7 +95,7 @@ pub ordered_without : (rs : List TreeRow) (n : Name) → AreOrdered rs → AreOr
 ordered_without rs n o = ordered_filter (λ r. not (has_name n r)) rs o
 
 -- a row behind one of a name has another name
-others_behind : (rs : List TreeRow) (n : Name) → IsLeast n rs → AreOthers n rs
+pub others_behind : (rs : List TreeRow) (n : Name) → IsLeast n rs → AreOthers n rs
 others_behind [] n all = tt
 others_behind (s ∷ rs) n all = (name_eq-other (row_name s) n (λ e. less_other n (row_name s) all.0 (sym e)), others_behind rs n all.1)
 

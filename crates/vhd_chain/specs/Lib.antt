@@ -1,2 +1,4 @@
 pub mod Trees
 pub mod Places
+pub mod Reading
+pub mod Pieces

@@ -3,7 +3,7 @@ use Rattle.std.specs.Prelude.{◌≡◌, ℕ, zero, suc, Bool, false, not, List,
 use Rattle.std.specs.List.{find, filter, AllByRecursion}
 use Rattle.std.specs.List.Sorted.{IsStrictlySortedBy}
 use Rattle.std.specs.Ordering.{is_lt}
-use Rattle.common_laws.specs.Lists.{◌>>=◌, insert_by}
+use Rattle.common_laws.specs.Lists.{◌>>=◌, insert_by, change}
 use Rattle.sm_base.specs.declared.names.Name.{Name}
 use Rattle.sm_base.specs.Names.{IsName, name_cmp}
 use Rattle.vg_meta.specs.Tables.{name_eq}
@@ -43,6 +43,10 @@ with_row r rows = insert_by is_before r rows
 -- the rows without that of this name
 abbrev pub without : Name → List TreeRow → List TreeRow
 without n rows = filter (λ r. not (has_name n r)) rows
+
+-- the rows with this one in place of that of its name
+abbrev pub with_replaced : TreeRow → List TreeRow → List TreeRow
+with_replaced r rows = change (has_name (row_name r)) (λ s. r) rows
 
 -- the parent of the image of this name
 abbrev pub parent_of : List TreeRow → Name → Option Name

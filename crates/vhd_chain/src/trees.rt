@@ -1,9 +1,9 @@
 //! The tree of the images.
 
-ghost use Rattle.std.specs.Prelude.{◌≡◌, ◌≤◌, ◌<◌, ◌+◌, [], None, IfSome, IfNone, OnOk, OnErr, length};
+ghost use Rattle.std.specs.Prelude.{◌≡◌, ◌≤◌, ◌<◌, ◌+◌, [], None, Some, IsSome, IfSome, IfNone, OnOk, OnErr, length};
 ghost use Rattle.std.specs.Option.{option_copied};
 ghost use Rattle.sm_base.specs.Names.{IsName};
-ghost use Rattle.vhd_chain.specs.Trees.{AreOrdered, tree_row, row_name, with_row, without, parent_of, children, first_name, IsLeastName, chain_length};
+ghost use Rattle.vhd_chain.specs.Trees.{AreOrdered, tree_row, row_name, with_row, without, with_replaced, parent_of, children, first_name, IsLeastName, chain_length};
 
 use crate::links::{chain, count_children, first_child, named};
 use crate::rows::{TreeRow, place, slot};
@@ -96,6 +96,20 @@ impl Tree {
     {
         let at = place(&self.rows, name)?;
         Some(self.rows.remove(at))
+    }
+
+    /// Puts a row in the place of that of its name, which it answers: so an image that was changed is put back. It takes
+    /// no memory.
+    pub fn replace(&mut self, row: TreeRow) -> TreeRow
+        requires there { IsSome (tree_row self.old.rows (row_name row)) }
+        ensures was { tree_row self.old.rows (row_name row) ≡ Some result }
+        ensures rows { self.new.rows ≡ with_replaced row self.old.rows }
+        ensures spare { self.new.spare ≡ self.old.spare }
+    {
+        let Some(at) = place(&self.rows, &row.image.name()) else {
+            unreachable!()
+        };
+        std::mem::replace(&mut self.rows[at], row)
     }
 
     /// The volume of the parent of the image of this name; `None` where it has none, and where it is not there.

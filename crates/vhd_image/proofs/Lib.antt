@@ -13,3 +13,5 @@ pub mod LinkLaws
 pub mod RelinkLaws
 pub mod SteadyLaws
 pub mod SteadyStores
+pub mod RunLaws
+pub mod ReadLaws

@@ -4,5 +4,6 @@ pub mod Changes
 pub mod Links
 pub mod Made
 pub mod Opened
+pub mod Runs
 pub mod Steady
 pub mod Written

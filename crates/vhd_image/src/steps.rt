@@ -1,9 +1,9 @@
 //! One sector of a volume, read or written.
 
 ghost use Rattle.std.specs.Prelude.{◌≡◌, ◌<◌, length, OnOk, OnErr, IfOk};
-ghost use Rattle.sm_disk.specs.Held.{IsWhole, Torn, Wrote};
+ghost use Rattle.sm_disk.specs.Held.{IsWhole, Gave, Torn, Wrote};
 ghost use Rattle.vg_volumes.specs.Stored.{stored, sectors_in, OnlyReads, WorksOn, Counts};
-ghost use Rattle.vhd_volumes.specs.Steps.{Does, Gives};
+ghost use Rattle.vhd_volumes.specs.Steps.{Does, Gives, Holds};
 ghost use Rattle.vhd_image.specs.Calls.{MayPut};
 
 use sm_base::{Failed, Name};
@@ -24,6 +24,22 @@ pub(crate) fn sector_of<S: Store>(
     let mut bytes = [0; 512];
     store.read(volume, at, &mut bytes)?;
     Ok(bytes)
+}
+
+/// Reads whole sectors of a volume.
+pub(crate) fn get_sectors<S: Store>(
+    store: &mut S,
+    volume: &Name,
+    at: u64,
+    to: &mut [u8],
+) -> Result<(), Failed>
+    requires { IsWhole at (length to.old) (sectors_in (stored S.Store store.old) volume.now) }
+    ensures reads_only { OnlyReads S.Store store.old store.new }
+    ensures cause { Counts S.Store result store.old store.new }
+    ensures gave { OnOk result (Holds S.Store volume.now (λ h. Gave at h to.new) store.old) }
+{
+    store.read(volume, at, to)?;
+    Ok(())
 }
 
 /// Writes one sector of a volume.

@@ -12,17 +12,22 @@ use vg_meta::{Change, Extents};
 use vg_store::Group;
 use vg_volumes::Store;
 
-/// A device in memory of which no clause tells the content. It counts its syncs.
+/// A device in memory of which no clause tells the content. It counts its syncs and its reads.
 #[derive(Drop)]
 pub struct Untold {
     pub disk: MemDisk,
     pub syncs: u64,
+    pub reads: u64,
 }
 
 impl Untold {
-    /// The device, which has made no sync.
+    /// The device, which has made no sync and no read.
     pub fn new(disk: MemDisk) -> Untold {
-        Untold { disk, syncs: 0 }
+        Untold {
+            disk,
+            syncs: 0,
+            reads: 0,
+        }
     }
 }
 
@@ -42,6 +47,7 @@ impl Disk for Untold {
     }
 
     fn read(&mut self, at: u64, to: &mut [u8]) -> Result<(), Failed> {
+        self.reads = self.reads.saturating_add(1);
         self.disk.read(at, to)
     }
 

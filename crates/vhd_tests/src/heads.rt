@@ -68,7 +68,9 @@ fn make_with<S: Store>(
     name: &Name,
     uid: [u8; 16],
     parent: &Image,
-) -> Result<Option<Name>, Fail> {
+) -> Result<Option<Name>, Fail>
+    ensures flag { S.failed store.new ≡ S.failed store.old }
+{
     let geometry = store.geometry();
     if sectors_in(store, name)? <= geometry.first()
         || !may_be_parent(parent)
@@ -97,7 +99,9 @@ pub fn make_child<S: Store>(
     name: &Name,
     uid: [u8; 16],
     parent: &Name,
-) -> Result<Option<Name>, Fail> {
+) -> Result<Option<Name>, Fail>
+    ensures flag { S.failed store.new ≡ S.failed store.old }
+{
     let parent = opened(alloc, store, parent)?;
     make_with(alloc, store, name, uid, &parent)
 }

@@ -3,7 +3,7 @@
 ghost use Rattle.std.specs.Prelude.{◌≡◌, ◌≤◌, ◌<◌, ◌*◌, length, false, IfOk, OnOk};
 ghost use Rattle.std.specs.Bool.{OnTrue};
 ghost use Rattle.sm_disk.specs.Held.{IsWhole};
-ghost use Rattle.vg_volumes.specs.Stored.{stored, sectors_in};
+ghost use Rattle.vg_volumes.specs.Stored.{stored, sectors_in, OnlyReads};
 ghost use Rattle.vhd_image.specs.Bodies.{StandsIn, IsVhd, sector_count, volume_name};
 ghost use Rattle.vhd_image.specs.Made.{IsDiskSize};
 ghost use Rattle.vhd_image.specs.Written.{HasRoomToWrite};
@@ -50,6 +50,7 @@ pub fn opened<S: Store>(alloc: Global, store: &mut S, name: &Name) -> Result<Ima
     ensures vhd { IfOk result IsVhd }
     ensures name { IfOk result (λ image. volume_name image ≡ name.now) }
     ensures stands { IfOk result (StandsIn (S.site store.new).geometry (sectors_in (stored S.Store store.new) name.now)) }
+    ensures reads_only { OnlyReads S.Store store.old store.new }
     ensures flag { S.failed store.new ≡ S.failed store.old }
 {
     let extents = extents_of(store, name)?;

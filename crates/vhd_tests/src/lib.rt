@@ -14,6 +14,8 @@
 //! - A child names its parent, and another after a change that writes one sector; a larger disk has two new footers and
 //!   holds none of its new sectors; an image ends sooner by one more footer; a raw image is all sectors of its volume.
 //! - A disk's image and the one under it stand in a tree in memory, in order of name, and one is taken out again.
+//! - A disk is read through a chain of three images, each run from the image that holds it, with so many reads of the
+//!   device as runs and bitmaps; past the end of a shorter parent it is zeros.
 //! - A write over three blocks, one held, one held in part and one new, stops at each of its calls, and five choices of what
 //!   the device kept are opened each time: each sector of the disk has its old bytes or its new ones, and the plain reader
 //!   finds what the image's own call finds. Where no call stops it all sectors are new.
@@ -25,6 +27,8 @@
 //! sizes and room is tested before it, or follows from what an earlier call ensures.
 #![tactic(auto)]
 
+#[cfg(test)]
+mod chains;
 #[cfg(test)]
 mod fields;
 #[cfg(test)]

@@ -2,6 +2,7 @@
 
 ghost use Rattle.std.specs.Prelude.{◌≡◌, false};
 
+use crate::chains::{make_chain, read_chain};
 use crate::fixtures::{Untold, opened};
 use crate::head_tests::{end_sooner, enlarge, link, lose_footers, use_raw};
 use crate::making_tests::make_and_compare;
@@ -11,7 +12,7 @@ use std::alloc::Global;
 use std::test::Fail;
 use vg_volumes::Store;
 
-/// What is done to a group, in which an image is there for the last three alone.
+/// What is done to a group, in which an image is there for the four that write, put, compare or read.
 #[derive(Clone, Copy)]
 pub enum Work {
     Make,
@@ -24,6 +25,8 @@ pub enum Work {
     Write { goes_on: bool },
     Put { at: u64, sectors: usize },
     Compare,
+    Chain,
+    Read { at: u64, sectors: usize },
 }
 
 /// Does what ends well or not at all.
@@ -39,6 +42,8 @@ fn show<S: Store>(alloc: Global, store: &mut S, work: Work) -> Result<(), Fail>
         Work::EndSooner => end_sooner(alloc, store),
         Work::UseRaw => use_raw(alloc, store),
         Work::Fill => fill(alloc, store),
+        Work::Chain => make_chain(alloc, store),
+        Work::Read { at, sectors } => read_chain(alloc, store, at, sectors),
         _ => compare(alloc, store, false),
     }
 }
