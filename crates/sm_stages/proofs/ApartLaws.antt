@@ -16,7 +16,7 @@ use Rattle.sm_standing.specs.Standing.{standing_volume, stands_plainly, stands_f
 use Rattle.sm_standing.proofs.ImageLaws.{moved_disk}
 use Rattle.sm_standing.proofs.PlainDisks.{map_numbers}
 use Rattle.sm_standing.proofs.WalkLaws.{walk_same, turn-up}
-use Rattle.sm_stages.specs.Apart.{is_apart, IsSameApart, IsEmptyOver}
+use Rattle.sm_standing.specs.Apart.{is_apart, IsSameApart, IsEmptyOver}
 
 -- ---- names that speak of none of some UUIDs
 

@@ -21,7 +21,7 @@ use Rattle.sm_stages.specs.Worked.{first, second, base, first_record, second_rec
 use Rattle.sm_stages.specs.WorkedImages.{sector_of, top_image, filled_child, empty_child}
 use Rattle.sm_stages.proofs.ForkExample.{named, base_named, disk_image, first_child, second_child, child_empty}
 use Rattle.sm_stages.proofs.ForkMoments.{entry_row, fork_8, is_fork_8, swap_1, swap_2, is_swap_1, is_swap_2}
-use Rattle.sm_stages.proofs.ImageSectors.{gone}
+use Rattle.sm_standing.proofs.ImageSectors.{gone}
 use Rattle.sm_stages.proofs.PlacedLaws.{placed_image, area_first, area_second}
 use Rattle.sm_stages.proofs.RelinkOpened.{second_named, first_image as first_before, second_image as hidden_before, base_image as base_before}
 use Rattle.sm_stages.proofs.SwapExample.{leaf_image, below_image, parent_image, filled_size}

@@ -25,7 +25,7 @@ use Rattle.sm_standing.specs.Standing.{standing_volume}
 use Rattle.sm_standing.proofs.DisksShown.{row_of-In}
 use Rattle.sm_standing.proofs.ImageLaws.{image_there}
 use Rattle.sm_standing.proofs.WalkLaws.{depth_top}
-use Rattle.sm_stages.specs.Apart.{IsEmptyOver}
+use Rattle.sm_standing.specs.Apart.{IsEmptyOver}
 use Rattle.sm_stages.specs.Forks.{forked, IsForkable, IsForkPlace, IsForking, IsForked}
 use Rattle.sm_stages.specs.Moments.{top, child}
 use Rattle.sm_stages.specs.Worked.{first, second, base, first_record, second_record, content_with, image_row, one_disk, fork_area, unforked, forking_at, filled_at}

@@ -19,7 +19,7 @@ use Rattle.sm_standing.specs.Standing.{standing_volume, stands_plainly, stands_f
 use Rattle.sm_standing.proofs.DiskLists.{disks_same, disks_more}
 use Rattle.sm_standing.proofs.ImageLaws.{moved_disk, copied, parent-is}
 use Rattle.sm_standing.proofs.WalkLaws.{depth_up}
-use Rattle.sm_stages.specs.Apart.{is_apart, IsEmptyOver}
+use Rattle.sm_standing.specs.Apart.{is_apart, IsEmptyOver}
 use Rattle.sm_stages.specs.Forks.{forked, IsForkable, IsForkPlace, IsForking, IsForked}
 use Rattle.sm_stages.proofs.ApartLaws.{beside, stands_making, stands_beside, beside_same, under_plain, under_apart, plain_apart, IsEntryApart, IsClosedApart, reads_moved, depth_moved, sectors_moved, sectors_sized, no_disk, none_disk, empty_copied, other_among, other_disk}
 

@@ -13,7 +13,6 @@ pub mod WorkedSound
 pub mod OpenedLaws
 pub mod EntrySound
 pub mod RelinkOpened
-pub mod ImageSectors
 pub mod VolumeExample
 pub mod RemovedExample
 pub mod BetweenFooters

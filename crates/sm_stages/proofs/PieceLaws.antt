@@ -14,7 +14,7 @@ use Rattle.vhd_layout.specs.Layouts.{Sectors, layout_of, entry, code}
 use Rattle.vhd_layout.specs.Readings.{is_valid, image_at}
 use Rattle.layout_examples.proofs.SmallImageLaws.{sector_in, code-slot, slots-160}
 use Rattle.vhd_layout.proofs.ReadingLaws.{valid-decided}
-use Rattle.sm_stages.proofs.ImageSectors.{image_same}
+use Rattle.sm_standing.proofs.ImageSectors.{image_same}
 
 geometry : IsGeometry 32 8 64
 unfolding ones

@@ -22,7 +22,7 @@ use Rattle.sm_stages.specs.Worked.{first, base, first_record, area_of, small_bas
 use Rattle.sm_stages.specs.WorkedImages.{child_footer, small_top_footer, small_child_footer, grown_child_footer, child_header, between_footers, sector_of, top_image, filled_child}
 use Rattle.sm_stages.proofs.BetweenFooters.{laid_between, size_between, parent_between, own_between}
 use Rattle.sm_stages.proofs.ForkExample.{base_named, named}
-use Rattle.sm_stages.proofs.ImageSectors.{gone}
+use Rattle.sm_standing.proofs.ImageSectors.{gone}
 use Rattle.sm_stages.proofs.PlacedLaws.{placed_image, area_first, area_second}
 use Rattle.sm_stages.proofs.WorkedLaws.{IsRight, footer_room, one_at, top_laid, top_valid, top_size, top_first, top_rest, filled_laid, filled_valid, filled_own}
 

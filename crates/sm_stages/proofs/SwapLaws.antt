@@ -11,7 +11,7 @@ use Rattle.sm_standing.specs.Images.{Image}
 use Rattle.sm_standing.specs.Standing.{standing_volume, stands_plainly, stands_folded, under, disks, disk_at}
 use Rattle.sm_standing.proofs.DiskLists.{disks_same}
 use Rattle.sm_standing.proofs.ImageLaws.{moved_disk, copied}
-use Rattle.sm_stages.specs.Apart.{is_apart}
+use Rattle.sm_standing.specs.Apart.{is_apart}
 use Rattle.sm_stages.specs.Swaps.{swapped, HasLeafEntry, IsSwappable, IsLeafAway, IsParentNamed, IsLeafGone, IsSwapping}
 use Rattle.sm_stages.proofs.ApartLaws.{beside, stands_beside, plainly_same, plain_apart, IsClosedApart, reads_moved, sectors_sized, no_disk, other_among, other_disk}
 

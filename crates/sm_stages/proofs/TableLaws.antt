@@ -11,7 +11,7 @@ use Rattle.standing_examples.specs.SmallContents.{record_row}
 use Rattle.sm_standing.specs.Images.{Image, image_of}
 use Rattle.sm_standing.proofs.DisksShown.{row_of-In}
 use Rattle.sm_standing.proofs.ImageLaws.{image_there}
-use Rattle.sm_stages.specs.Apart.{is_apart, IsSameApart}
+use Rattle.sm_standing.specs.Apart.{is_apart, IsSameApart}
 
 -- the volumes whose names speak of none of these UUIDs
 abbrev pub apart_rows : List (List ℕ) → List Row → List Row

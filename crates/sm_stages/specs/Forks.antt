@@ -16,7 +16,7 @@ use Rattle.sm_standing.specs.Contents.{Content, record_of}
 use Rattle.sm_standing.specs.Entries.{making, folding, folding_uuids, head, image_with, is_among, is_visible}
 use Rattle.sm_standing.specs.Images.{Image, image_of}
 use Rattle.sm_standing.specs.Standing.{standing_volume, stands_plainly}
-use Rattle.sm_stages.specs.Apart.{is_apart, IsSameApart, IsEmptyOver}
+use Rattle.sm_standing.specs.Apart.{is_apart, IsSameApart, IsEmptyOver}
 
 -- the UUIDs that a fork speaks of
 abbrev pub forked : List ℕ → List ℕ → List ℕ → List (List ℕ)

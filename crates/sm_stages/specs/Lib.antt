@@ -1,8 +1,6 @@
-pub mod Apart
 pub mod Forks
 pub mod Swaps
 pub mod WorkedImages
 pub mod Worked
 pub mod Moments
 pub mod Opened
-pub mod Volumes

@@ -10,7 +10,7 @@ use Rattle.sm_standing.specs.Contents.{Content, record_of}
 use Rattle.sm_standing.specs.Entries.{making, folding, head, is_leaf_renamed, is_leaf_swapped, is_leaf_folded}
 use Rattle.sm_standing.specs.Images.{Image, image_of}
 use Rattle.sm_standing.specs.Standing.{standing_volume, stands_plainly}
-use Rattle.sm_stages.specs.Apart.{is_apart, IsSameApart}
+use Rattle.sm_standing.specs.Apart.{is_apart, IsSameApart}
 
 -- the UUIDs that a swap speaks of
 abbrev pub swapped : List ℕ → List ℕ → List (List ℕ)

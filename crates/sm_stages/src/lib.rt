@@ -9,10 +9,8 @@
 //! Promised: at each moment between the commits of a fork the disks are those from before, and after the last one
 //! there is one disk more, with the sectors of the disk; at each moment of a swap the disks are those from before.
 //!
-//! The definitions are in `specs/`: `Apart` (one content beside another, where names speak of none of some UUIDs),
-//! `Forks` and `Swaps` (the records), `Volumes` (a volume that holds what another held), `WorkedImages` (images
-//! byte for byte), `Worked` (contents and commits), `Moments` (what those images say, and the disks), `Opened`
-//! (shapes).
+//! The definitions are in `specs/`: `Forks` and `Swaps` (the records), `WorkedImages` (images byte for byte), `Worked`
+//! (contents and commits), `Moments` (what those images say, and the disks), `Opened` (shapes).
 //!
 //! The laws are the contracts of functions that do nothing: modules `forks` and `swaps`, and of `volumes` those named
 //! `law_`. They have the smaller half of the proofs. All else are examples, and with them the definitions `WorkedImages`,

@@ -8,9 +8,9 @@ ghost use Rattle.vg_meta.specs.Tables.{VolumeTable, Row};
 ghost use Rattle.sm_standing.specs.Contents.{Content};
 ghost use Rattle.sm_standing.specs.Entries.{making, head};
 ghost use Rattle.sm_standing.specs.Images.{image_of};
-ghost use Rattle.sm_stages.specs.Apart.{IsSameApart};
+ghost use Rattle.sm_standing.specs.Apart.{IsSameApart};
 ghost use Rattle.sm_stages.specs.Forks.{forked};
-ghost use Rattle.sm_stages.specs.Volumes.{IsAtSize, IsSameVolume, AreSameApart};
+ghost use Rattle.sm_standing.specs.Volumes.{IsAtSize, IsSameVolume, AreSameApart};
 ghost use Rattle.sm_stages.specs.Worked.{first, second, base, image_row, unforked, forking_at};
 
 /// A volume with the extents, the mark and the sectors of another holds the same image, or like it none, under

@@ -11,3 +11,4 @@ pub mod ImageLaws
 pub mod WorldLaws
 pub mod FaultLaws
 pub mod OutlineLaws
+pub mod ImageSectors

@@ -16,3 +16,5 @@ pub mod PlainSound
 pub mod Additions
 pub mod Changes
 pub mod Worlds
+pub mod Apart
+pub mod Volumes

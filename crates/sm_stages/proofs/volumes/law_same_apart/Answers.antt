@@ -1,4 +1,4 @@
-use Rattle.sm_stages.proofs.ImageSectors.{same_images}
+use Rattle.sm_standing.proofs.ImageSectors.{same_images}
 use Rattle.sm_stages.proofs.volumes.law_same_apart.Goals as goal
 
 pub returns : goal.returns

@@ -1,4 +1,4 @@
-use Rattle.sm_stages.proofs.ImageSectors.{vhd_same, raw_same}
+use Rattle.sm_standing.proofs.ImageSectors.{vhd_same, raw_same}
 use Rattle.sm_stages.proofs.volumes.law_same_volume.Goals as goal
 
 pub returns : goal.returns

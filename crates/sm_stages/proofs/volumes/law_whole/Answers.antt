@@ -1,4 +1,4 @@
-use Rattle.sm_stages.proofs.ImageSectors.{whole_none, whole_fork}
+use Rattle.sm_standing.proofs.ImageSectors.{whole_none, whole_fork}
 use Rattle.sm_stages.proofs.volumes.law_whole.Goals as goal
 
 pub returns : goal.returns

@@ -7,7 +7,7 @@ use Rattle.std.specs.List.{range_with_len}
 use Rattle.common_laws.proofs.Options.{option_cases}
 use Rattle.sm_base.specs.Numbers.{IsGeometry, first}
 use Rattle.sm_base.specs.declared.names.Name.{Name}
-use Rattle.sm_base.specs.declared.names.Name.TheVariants.{Vhd, Raw, Clone}
+use Rattle.sm_base.specs.declared.names.Name.TheVariants.{Mgt, Vhd, Raw, Old, Clone, Inflate, Coalesce, Relink, Leaf}
 use Rattle.vg_meta.specs.Tables.{Row, VolumeTable, extents_of}
 use Rattle.vhd_fields.specs.declared.footers.Footer.{Footer}
 use Rattle.vhd_fields.specs.declared.headers.Header.{Header}
@@ -23,8 +23,8 @@ use Rattle.common_laws.specs.Lists.{◌>>=◌}
 use Rattle.sm_standing.specs.Contents.{Content, row, sectors_of, size_of}
 use Rattle.sm_standing.specs.Entries.{making, head}
 use Rattle.sm_standing.specs.Images.{image_of, vhd_image, raw_image, image_extents}
-use Rattle.sm_stages.specs.Apart.{is_apart, IsSameApart}
-use Rattle.sm_stages.specs.Volumes.{IsAtSize, IsSameVolume, AreSameApart}
+use Rattle.sm_standing.specs.Apart.{is_apart, IsSameApart}
+use Rattle.sm_standing.specs.Volumes.{IsAtSize, IsSameVolume, AreSameApart}
 
 div_below : (s d n : ℕ) → 0 < d → s < n * d → s / d < n
 div_below s d n some below = (div-lt_iff_lt-mul some).1 below

@@ -5,7 +5,7 @@ use Rattle.vg_meta.specs.Tables.{VolumeTable, Row}
 use Rattle.sm_standing.specs.Contents.{Content, row, sectors_of, size_of}
 use Rattle.sm_standing.specs.Entries.{making}
 use Rattle.sm_standing.specs.Images.{image_extents}
-use Rattle.sm_stages.specs.Apart.{is_apart}
+use Rattle.sm_standing.specs.Apart.{is_apart}
 
 -- no entry says that the image of this name is being enlarged
 abbrev pub IsAtSize : VolumeTable → Name → Type 0

@@ -1,0 +1,95 @@
+-- The text of a table of which memory is orderly fits its slot.
+use Rattle.std.proofs.Common.{◌≡◌, ◌≢◌, suc, ℕ, ◌+◌, ◌*◌, ◌≤◌, Bool, true, false, cond, List, [], ◌∷◌, length, filter, refl, sym, ap, ◌∙◌, subst, arith, length-append}
+use Rattle.std.specs.List.{AllByRecursion, flat_map}
+use Rattle.std.specs.List.Sorted.{IsStrictlySortedBy}
+use Rattle.std.specs.declared.cmp.Ordering.TheVariants.{Less}
+use Rattle.std.proofs.lemmas.Bool.{true≢false}
+use Rattle.sm_base.specs.declared.names.Name.{Name}
+use Rattle.sm_base.specs.declared.names.Name.TheVariants.{Mgt, Vhd, Raw, Old, Clone, Inflate, Coalesce, Relink, Leaf}
+use Rattle.sm_base.specs.declared.operations.Op.{Op}
+use Rattle.sm_base.specs.declared.operations.Op.TheVariants as op
+use Rattle.sm_base.specs.Kinds.{is_image, is_entry}
+use Rattle.sm_base.specs.Names.{name_cmp}
+use Rattle.sm_base.proofs.NameLemmas.{length-spelling-le}
+use Rattle.vg_meta.specs.Tables.{VolumeTable, Row, IsTable, IsVolume, names_of, extents_in}
+use Rattle.vg_meta.specs.Text.{text, volume_text}
+use Rattle.vg_meta.proofs.DecodeLaws.{used-le}
+use Rattle.vg_meta.proofs.NameLaws.{less_other}
+use Rattle.vg_meta.proofs.RowLaws.{IsRising}
+use Rattle.vg_meta.proofs.WriteLaws.{length-text, length-volume_text, length-extents_text}
+use Rattle.vg_volumes.specs.Sites.{Site, text_limit}
+use Rattle.sm_machine.specs.Shapes.{image_limit}
+use Rattle.sm_standing.specs.Checks.{images}
+use Rattle.sm_standing.specs.Entries.{names_in}
+use Rattle.sm_ready.specs.Known.{Known, entry_of}
+use Rattle.sm_ready.specs.Orderly.{IsOrderly}
+
+long_volumes : (rs : List Row) → AllByRecursion IsVolume rs → length (flat_map volume_text rs) ≤ 122 * length rs + 4 * length (extents_in rs)
+long_volumes [] all = omega arith
+long_volumes (r ∷ rs) all =
+    omega (
+      arith,
+      long_volumes rs all.1,
+      length-append (volume_text r) (flat_map volume_text rs),
+      length-volume_text r,
+      length-extents_text r.extents,
+      length-spelling-le r.name all.0.name,
+      length-append r.extents (extents_in rs),
+    )
+
+-- ---- how many volumes there are
+
+abbrev image_rows : List Row → List Row
+image_rows rs = filter (λ r. is_image r.name) rs
+
+abbrev entries : List Row → List Name
+entries rs = filter is_entry (names_of rs)
+
+-- a name that is none of an image's and no entry's is that of the records
+step : (b c : Bool) (r : Row) (rs : List Row) (most : ℕ) → (b ≡ false → c ≡ false → suc (length rs) ≤ length (image_rows rs) + length (entries rs) + most)
+    → length rs ≤ length (image_rows rs) + length (entries rs) + most
+    → suc (length rs) ≤ length (cond b (r ∷ image_rows rs) (image_rows rs)) + length (cond c (r.name ∷ entries rs) (entries rs)) + most
+step true true r rs most none rest = omega (arith, rest)
+step true false r rs most none rest = omega (arith, rest)
+step false true r rs most none rest = omega (arith, rest)
+step false false r rs most none rest = none refl refl
+
+the_records : (n : Name) → is_image n ≡ false → is_entry n ≡ false → n ≡ Mgt
+the_records Mgt e f = refl
+the_records (Vhd u) e f = absurd (true≢false e)
+the_records (Raw u) e f = absurd (true≢false e)
+the_records (Old u) e f = absurd (true≢false e)
+the_records _ e f = absurd (true≢false f)
+
+-- behind the volume of records all are images or entries
+behind : (rs : List Row) → AllByRecursion (λ (m : Name). name_cmp Mgt m ≡ Less) (names_of rs) → length rs ≤ length (image_rows rs) + length (entries rs) + 0
+behind [] all = omega arith
+behind (r ∷ rs) all = step (is_image r.name) (is_entry r.name) r rs 0 (λ e f. absurd (less_other Mgt r.name all.0 (sym (the_records r.name e f)))) (behind rs all.1)
+
+one_other : (rs : List Row) → IsRising rs → length rs ≤ length (image_rows rs) + length (entries rs) + 1
+unfolding IsStrictlySortedBy
+one_other [] rising = omega arith
+one_other (r ∷ rs) rising = step (is_image r.name) (is_entry r.name) r rs 1 (λ e f. first (the_records r.name e f)) (one_other rs rising.1)
+  where
+    first : r.name ≡ Mgt → suc (length rs) ≤ length (image_rows rs) + length (entries rs) + 1
+    first is = let rest = behind rs (subst (λ (n : Name). AllByRecursion (λ (m : Name). name_cmp n m ≡ Less) (names_of rs)) is rising.0) in omega (arith, rest)
+
+one_entry : (o : Op) → length (entry_of o) ≤ 1
+one_entry op.Idle = omega arith
+one_entry (op.Copy v p cursor) = omega arith
+one_entry (op.Relink v p) = omega arith
+one_entry (op.Leaf l p cursor) = omega arith
+
+pub fits_orderly : (s : Site) (t : VolumeTable) (m : Known) → IsOrderly s t m → length (text t) ≤ text_limit
+fits_orderly s t m o =
+    omega (
+      arith,
+      length-text t,
+      long_volumes t.volumes o.table.volumes.each,
+      one_other t.volumes o.table.volumes.rising,
+      ap (λ (ns : List Name). length ns) o.entries,
+      one_entry m.op,
+      o.few,
+      used-le s.count t.volumes o.table.volumes,
+      o.few_extents,
+    )

@@ -1,0 +1,12 @@
+pub mod Stores
+pub mod Known
+pub mod Outlined
+pub mod Orderly
+pub mod Ready
+pub mod Alike
+pub mod Sessions
+pub mod Middle
+pub mod Done
+pub mod Taken
+pub mod Written
+pub mod Proper

@@ -1,0 +1,26 @@
+//! The ground of a session: what holds between two steps of the table, of what is in memory and of the sectors, and what
+//! each kind of change makes of it.
+//!
+//! **What is kept here.** [`Memory`] is what a session keeps in memory beside its store: the tree of the images, the records
+//! of the disks, the attachments, and what the collector is doing.
+//!
+//! **What it is.** `Known` is what a contract sees of it. `shape_in` is the machine's shape, read off the table and memory
+//! alone; `outline_in` is what the checks of an opening look at, read off the same. `IsOrderly` and `IsAtRest` say what
+//! holds of table and memory, whatever a device holds; `IsReady` says what holds of the sectors: each image is steady, only
+//! own images of disks attached for writing have sectors that a stop may leave otherwise than a read gives them, and the
+//! records in memory are those that a read gives.
+//!
+//! **What it promises.** Of a store that is ready, whatever a stop leaves is kept: the checks of an opening pass, each block
+//! with a slot holds a sector (`KeptLaws`); it has the outline of memory (`LeftLaws`) and the machine's shape (`ShapeLaws`),
+//! and shows the disks that a read gives, but for what guests wrote (`AlikeLaws`). The laws by kind of change say what a stop
+//! may leave while it is made, and that the store is ready behind it: a single commit (`CommitLaws`), a new volume beside the
+//! images (`FirstLaws`), its record (`MiddleLaws`), its mark taken away (`LastLaws`), an image that nobody uses (`RemoveLaws`),
+//! a guest's write (`GuestLaws`, `AfterLaws`).
+//!
+//! The definitions are in `specs/`: `Known` (what is in memory, and its shape), `Outlined` (its outline), `Orderly` and `Ready`
+//! (the two invariants), `Stores` (the content of a store), `Done` (what a call of a step did).
+#![tactic(auto)]
+
+mod memory;
+
+pub use memory::Memory;

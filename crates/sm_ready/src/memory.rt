@@ -1,0 +1,19 @@
+//! What is in memory.
+
+use sm_base::Op;
+use sm_mgt::Mgt;
+use sm_refs::Attachments;
+use vhd_chain::Tree;
+
+/// What a session keeps in memory beside its store.
+#[derive(Drop)]
+pub struct Memory {
+    /// The images that are not new.
+    pub tree: Tree,
+    /// The places of the disks' records.
+    pub records: Mgt,
+    /// The attached disks, and how many of them use each volume.
+    pub attached: Attachments,
+    /// What the collector is doing.
+    pub operation: Op,
+}
