@@ -1,15 +1,14 @@
 -- A guest's write that succeeded leaves the store ready.
 use Rattle.vhd_image.specs.declared.images.Body.{Body}
-use Rattle.std.proofs.Common.{◌≡◌, ◌≢◌, ◌⊎◌, inl, inr, ⊎_elim, ℕ, ◌+◌, ◌*◌, ◌<◌, ◌≤◌, nat_lt, Bool, true, false, cond, List, [], length, Option, Some, None, refl, sym, ap, ap₂, ◌∙◌, subst, arith}
-use Rattle.std.proofs.lemmas.Bool.{true≢false, lt-ltb, le-ltb, cases_lt}
+use Rattle.std.proofs.Common.{◌≡◌, ◌≢◌, ◌⊎◌, inl, inr, ℕ, ◌*◌, ◌<◌, ◌≤◌, nat_lt, Bool, true, false, cond, List, [], length, Option, refl, sym, ap, ◌∙◌, subst}
+use Rattle.std.proofs.lemmas.Bool.{lt-ltb, le-ltb, cases_lt}
 use Rattle.sm_base.specs.declared.names.Name.{Name}
 use Rattle.sm_base.specs.declared.names.Name.TheVariants.{Mgt, Vhd}
-use Rattle.sm_disk.specs.Held.{Held, Allows, Keeps, May, newest, reads}
+use Rattle.sm_disk.specs.Held.{Held, Keeps, May, newest, reads}
 use Rattle.vg_meta.specs.Tables.{VolumeTable, Row, IsTable, rows, extents_of}
 use Rattle.vg_meta.proofs.ByName.{spread}
-use Rattle.vg_volumes.specs.Sites.{Site, size_of, volume_of}
+use Rattle.vg_volumes.specs.Sites.{Site, volume_of}
 use Rattle.vg_volumes.specs.Volumes.{span, spot, volume, KeepsElsewhere}
-use Rattle.vhd_layout.specs.Layouts.{Sectors}
 use Rattle.vhd_volumes.specs.Truth.{IsTrueIn}
 use Rattle.common_laws.specs.Lists.{In}
 use Rattle.sm_standing.proofs.WorldLaws.{elsewhere}
@@ -22,7 +21,7 @@ use Rattle.vhd_volumes.specs.Steady.{IsHeadSector, IsQuiet, IsSteadyIn}
 use Rattle.vhd_image.specs.Steady.{IsSteady}
 use Rattle.sm_ready.specs.Stores.{content_now}
 use Rattle.sm_ready.proofs.GuestLaws.{Writes}
-use Rattle.sm_ready.proofs.LeftLaws.{extent_some, size_there}
+use Rattle.sm_ready.proofs.LeftLaws.{extent_some}
 use Rattle.sm_ready.proofs.RestLaws.{agrees_keeps, steady_keeps}
 use Rattle.vhd_image.specs.declared.images.Body.TheVariants as body
 

@@ -1,19 +1,18 @@
 -- Causes of refusals, by the machine's shape and by what is in memory.
-use Rattle.std.proofs.Common.{◌≡◌, ◌⊎◌, inl, inr, ⊎_elim, ℕ, Bool, true, false, ◌&&◌, ◌||◌, List, map, Option, Some, None, refl, sym, ap, ap₂, ◌∙◌, subst}
+use Rattle.std.proofs.Common.{◌≡◌, ◌⊎◌, inl, inr, ℕ, Bool, true, false, ◌&&◌, ◌||◌, List, map, Option, Some, None, refl, sym, ap, ap₂, ◌∙◌}
 use Rattle.std.proofs.Math.Logic.{∥∥₁_elim}
 use Rattle.std.proofs.Props.{props}
 use Rattle.std.specs.Prelude.{is_some}
 use Rattle.std.specs.List.{find, list_any}
 use Rattle.std.specs.Str.{bytes_eq}
 use Rattle.std.proofs.lemmas.Bool.{true≢false}
-use Rattle.std.proofs.lemmas.Option.{none-some}
 use Rattle.std.proofs.lemmas.Slice.Eq.{bytes_eq-Decides}
 use Rattle.sm_base.specs.declared.names.Name.{Name}
 use Rattle.sm_base.specs.declared.names.Name.TheVariants.{Vhd, Raw}
 use Rattle.vg_meta.specs.Tables.{VolumeTable}
 use Rattle.vg_volumes.specs.Sites.{Site}
 use Rattle.common_laws.specs.Lists.{In}
-use Rattle.common_laws.proofs.Lists.{In-map, In-map_at, find-some, find_none, none_find, list_any-find}
+use Rattle.common_laws.proofs.Lists.{In-map, In-map_at, find_none, none_find, list_any-find}
 use Rattle.sm_machine.specs.declared.commands.Command.{Command}
 use Rattle.sm_machine.specs.Refusals.{is_taken, new_uuid}
 use Rattle.sm_machine.specs.Shapes.{Shape, ImageRow, DiskRecord, image_uuid, disk_record}

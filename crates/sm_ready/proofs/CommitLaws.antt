@@ -1,28 +1,25 @@
 -- A commit of one change, from a ready store to a ready one.
-use Rattle.std.proofs.Common.{◌≡◌, ◌⊎◌, inl, inr, ⊎_elim, ℕ, ◌+◌, ◌*◌, ◌<◌, ◌≤◌, nat_lt, Bool, true, false, cond, List, [], ◌∷◌, length, map, Option, Some, None, refl, sym, ap, ap₂, ◌∙◌, subst, arith}
+use Rattle.std.proofs.Common.{◌≡◌, inl, inr, ℕ, nat_lt, Bool, true, false, cond, List, [], map, refl, sym, ap, ap₂, ◌∙◌, subst}
 use Rattle.std.proofs.Math.Path.{fun_ext}
 use Rattle.sm_base.specs.declared.names.Name.{Name}
-use Rattle.sm_disk.specs.Held.{Held, Allows, Keeps, IsSettled, SameHeld, reads}
+use Rattle.sm_disk.specs.Held.{Held, Keeps, IsSettled, reads}
 use Rattle.sm_disk.proofs.HeldLaws.{reads-settled, may_settled}
 use Rattle.vg_meta.specs.Tables.{VolumeTable, rows, extents_of}
-use Rattle.vg_volumes.specs.Commits.{IsBefore, IsAfter, IsEither}
+use Rattle.vg_volumes.specs.Commits.{IsBefore, IsEither}
 use Rattle.vg_volumes.specs.Sites.{Site, area_size, volume_of}
-use Rattle.vg_volumes.specs.Volumes.{span, volume, spot}
+use Rattle.vg_volumes.specs.Volumes.{span, volume}
 use Rattle.sm_machine.specs.Disks.{Disk}
 use Rattle.sm_machine.specs.Runs.{face, HasSector}
-use Rattle.sm_standing.specs.Contents.{Content}
 use Rattle.sm_standing.specs.Keeping.{IsKept}
 use Rattle.sm_standing.specs.Standing.{disks}
-use Rattle.sm_ready.specs.Alike.{IsAlike}
 use Rattle.sm_run.specs.Between.{IsBetween, IsStill, IsAlready}
 use Rattle.sm_ready.specs.Done.{HasDone, IsCommit, at_rest}
-use Rattle.sm_ready.specs.Known.{Known, shape_in}
+use Rattle.sm_ready.specs.Known.{Known}
 use Rattle.sm_ready.specs.Orderly.{IsOrderly}
-use Rattle.sm_standing.specs.Outlines.{Outline, outline}
 use Rattle.sm_ready.specs.Ready.{IsReady}
 use Rattle.vhd_volumes.specs.Steady.{IsQuiet}
 use Rattle.sm_ready.specs.Stores.{Leaving, MayShow, content_in, content_now}
-use Rattle.sm_ready.proofs.AlikeLaws.{disks_alike, faces_alike, table_same}
+use Rattle.sm_ready.proofs.AlikeLaws.{disks_alike, faces_alike}
 use Rattle.sm_ready.proofs.KeptLaws.{law_kept}
 use Rattle.sm_ready.proofs.LeftLaws.{IsLeft, left_in, law_left_now, image_quiet, ready_places}
 

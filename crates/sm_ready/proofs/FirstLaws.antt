@@ -1,5 +1,5 @@
 -- The first commit of a command that makes a disk: a new volume stands beside the images, and nothing else changes.
-use Rattle.std.proofs.Common.{◌≡◌, ◌≢◌, ◌⊎◌, inl, inr, ⊎_elim, ℕ, ◌<◌, ◌≤◌, ◌&&◌, not, Bool, true, false, cond, List, length, Option, Some, None, refl, sym, ap, ap₂, ◌∙◌, subst}
+use Rattle.std.proofs.Common.{◌≡◌, ◌≢◌, ◌⊎◌, inl, inr, ⊎_elim, ℕ, ◌≤◌, Bool, true, false, cond, List, length, Option, Some, None, refl, sym, ap, ap₂, ◌∙◌, subst}
 use Rattle.std.proofs.Math.Path.{fun_ext}
 use Rattle.std.proofs.Math.Logic.{∥∥₁_elim}
 use Rattle.std.proofs.Props.{props}
@@ -17,18 +17,18 @@ use Rattle.vg_volumes.specs.Sites.{Site, area_size}
 use Rattle.vg_volumes.specs.Volumes.{piece}
 use Rattle.common_laws.specs.Lists.{In, ◌>>=◌}
 use Rattle.sm_machine.specs.Shapes.{image_limit}
-use Rattle.sm_machine.specs.WellFormed.{IsWellFormed, is_image_name}
+use Rattle.sm_machine.specs.WellFormed.{is_image_name}
 use Rattle.sm_record.specs.Records.{reading}
 use Rattle.sm_record.specs.declared.records.Record.{Record}
 use Rattle.sm_standing.specs.Checks.{images as table_images, is_misnamed}
 use Rattle.sm_standing.specs.Contents.{Content, sectors_of, record_of}
-use Rattle.sm_standing.specs.Images.{Image, image_of, sectors_read}
-use Rattle.sm_standing.specs.Standing.{standing_volume, stands_plainly, disk_at, disk_in, disks}
+use Rattle.sm_standing.specs.Images.{image_of}
+use Rattle.sm_standing.specs.Standing.{standing_volume, disk_at, disk_in, disks}
 use Rattle.sm_standing.proofs.DiskLists.{disks_same}
 use Rattle.sm_standing.proofs.ImageLaws.{new_image}
 use Rattle.sm_standing.proofs.RecordLists.{records_same, record_of_first, first_of}
 use Rattle.sm_ready.specs.Done.{HasDone, IsCommit, at_rest}
-use Rattle.sm_ready.specs.Known.{Known, machine_row, shape_in}
+use Rattle.sm_ready.specs.Known.{Known, shape_in}
 use Rattle.vhd_chain.specs.declared.rows.TreeRow.{TreeRow}
 use Rattle.vhd_chain.specs.Trees.{row_name, tree_row}
 use Rattle.sm_ready.specs.Orderly.{IsOrderly}

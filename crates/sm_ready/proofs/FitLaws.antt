@@ -1,26 +1,23 @@
 -- The text of a table of which memory is orderly fits its slot.
-use Rattle.std.proofs.Common.{◌≡◌, ◌≢◌, suc, ℕ, ◌+◌, ◌*◌, ◌≤◌, Bool, true, false, cond, List, [], ◌∷◌, length, filter, refl, sym, ap, ◌∙◌, subst, arith, length-append}
+use Rattle.std.proofs.Common.{◌≡◌, suc, ℕ, ◌+◌, ◌*◌, ◌≤◌, Bool, true, false, cond, List, [], ◌∷◌, length, filter, refl, sym, ap, subst, arith, length-append}
 use Rattle.std.specs.List.{AllByRecursion, flat_map}
 use Rattle.std.specs.List.Sorted.{IsStrictlySortedBy}
 use Rattle.std.specs.declared.cmp.Ordering.TheVariants.{Less}
 use Rattle.std.proofs.lemmas.Bool.{true≢false}
 use Rattle.sm_base.specs.declared.names.Name.{Name}
-use Rattle.sm_base.specs.declared.names.Name.TheVariants.{Mgt, Vhd, Raw, Old, Clone, Inflate, Coalesce, Relink, Leaf}
+use Rattle.sm_base.specs.declared.names.Name.TheVariants.{Mgt, Vhd, Raw, Old}
 use Rattle.sm_base.specs.declared.operations.Op.{Op}
 use Rattle.sm_base.specs.declared.operations.Op.TheVariants as op
 use Rattle.sm_base.specs.Kinds.{is_image, is_entry}
 use Rattle.sm_base.specs.Names.{name_cmp}
 use Rattle.sm_base.proofs.NameLemmas.{length-spelling-le}
-use Rattle.vg_meta.specs.Tables.{VolumeTable, Row, IsTable, IsVolume, names_of, extents_in}
+use Rattle.vg_meta.specs.Tables.{VolumeTable, Row, IsVolume, names_of, extents_in}
 use Rattle.vg_meta.specs.Text.{text, volume_text}
 use Rattle.vg_meta.proofs.DecodeLaws.{used-le}
 use Rattle.vg_meta.proofs.NameLaws.{less_other}
 use Rattle.vg_meta.proofs.RowLaws.{IsRising}
 use Rattle.vg_meta.proofs.WriteLaws.{length-text, length-volume_text, length-extents_text}
 use Rattle.vg_volumes.specs.Sites.{Site, text_limit}
-use Rattle.sm_machine.specs.Shapes.{image_limit}
-use Rattle.sm_standing.specs.Checks.{images}
-use Rattle.sm_standing.specs.Entries.{names_in}
 use Rattle.sm_ready.specs.Known.{Known, entry_of}
 use Rattle.sm_ready.specs.Orderly.{IsOrderly}
 

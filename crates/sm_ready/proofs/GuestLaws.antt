@@ -1,39 +1,38 @@
 -- A guest's write into the VHD image of a disk, at every stop.
 use Rattle.vhd_image.specs.Bodies.{sector_count, parent_name}
-use Rattle.std.proofs.Common.{◌≡◌, ◌≢◌, ◌⊎◌, inl, inr, ⊎_elim, ℕ, ◌+◌, ◌*◌, ◌<◌, ◌≤◌, nat_lt, Bool, true, false, cond, List, [], ◌∷◌, length, map, Option, Some, None, refl, sym, ap, ap₂, ◌∙◌, subst, arith}
+use Rattle.std.proofs.Common.{◌≡◌, ◌≢◌, ◌⊎◌, inl, inr, ⊎_elim, ℕ, ◌*◌, ◌<◌, nat_lt, Bool, true, false, cond, List, length, Option, Some, None, refl, sym, ap, ap₂, ◌∙◌, subst, arith}
 use Rattle.std.proofs.Math.Path.{fun_ext}
 use Rattle.std.proofs.Math.Logic.{∥∥₁_elim}
 use Rattle.std.proofs.Props.{props}
-use Rattle.std.proofs.lemmas.Bool.{true≢false, cond-true, lt-ltb, le-ltb, cases_lt}
+use Rattle.std.proofs.lemmas.Bool.{true≢false, cond-true, le-ltb, cases_lt}
 use Rattle.std.proofs.lemmas.Option.{none-some, same_Some}
 use Rattle.sm_base.specs.declared.names.Name.{Name}
 use Rattle.sm_base.specs.declared.names.Name.TheVariants.{Mgt, Vhd, Raw, Old, Clone, Inflate, Coalesce, Relink, Leaf}
-use Rattle.sm_disk.specs.Held.{Held, Allows, reads}
+use Rattle.sm_disk.specs.Held.{Held, Allows}
 use Rattle.vg_meta.specs.Tables.{VolumeTable, Row, rows, extents_of, name_eq}
 use Rattle.vg_meta.proofs.NameLaws.{name_eq-true, name_eq-false}
-use Rattle.vg_volumes.specs.Sites.{Site, area_size, size_of, volume_of}
+use Rattle.vg_volumes.specs.Sites.{Site, size_of, volume_of}
 use Rattle.vhd_layout.specs.Contents.{content_at}
 use Rattle.vhd_layout.specs.Layouts.{Sectors}
-use Rattle.vhd_layout.specs.Readings.{is_valid, image_at}
+use Rattle.vhd_layout.specs.Readings.{is_valid}
 use Rattle.vhd_layout.proofs.ReadingLaws.{valid-decided}
 use Rattle.vg_volumes.specs.Volumes.{KeepsElsewhere}
 use Rattle.vhd_volumes.specs.Truth.{layout_in}
-use Rattle.vhd_volumes.specs.Writes.{IsGuarded, IsFollowing, Follows}
+use Rattle.vhd_volumes.specs.Writes.{IsGuarded, IsFollowing}
 use Rattle.sm_machine.specs.Disks.{Disk}
-use Rattle.common_laws.specs.Lists.{In, ◌>>=◌}
-use Rattle.sm_machine.specs.Runs.{face}
+use Rattle.common_laws.specs.Lists.{In}
 use Rattle.sm_machine.specs.Shapes.{ImageRow}
-use Rattle.sm_machine.specs.WellFormed.{IsWellFormed, IsOperation}
+use Rattle.sm_machine.specs.WellFormed.{IsOperation}
 use Rattle.common_laws.proofs.Lists.{In-map, In-map_at}
 use Rattle.sm_record.specs.Records.{reading}
 use Rattle.sm_record.specs.declared.records.Reading.{Reading}
 use Rattle.sm_record.specs.declared.records.Reading.TheVariants.{Free}
 use Rattle.sm_standing.specs.Additions.{SameReadings}
-use Rattle.sm_standing.specs.Contents.{Content, sectors_of, reading_at, record_count, record_of}
+use Rattle.sm_standing.specs.Contents.{sectors_of, reading_at, record_count, record_of}
 use Rattle.sm_standing.specs.Entries.{is_visible}
 use Rattle.sm_standing.specs.Images.{Image, image_of}
 use Rattle.sm_standing.specs.Keeping.{IsKept, IsHolding}
-use Rattle.sm_standing.specs.Standing.{standing_volume, stands_plainly, disks}
+use Rattle.sm_standing.specs.Standing.{standing_volume, disks}
 use Rattle.sm_standing.proofs.RecordLists.{records_same, record_of_first, first_of}
 use Rattle.sm_run.specs.Between.{IsBetween}
 use Rattle.sm_ready.specs.Outlined.{link_in}
@@ -48,16 +47,14 @@ use Rattle.sm_ready.specs.Written.{HasBytes}
 use Rattle.sm_ready.proofs.AlikeLaws.{faces_alike}
 use Rattle.sm_standing.proofs.ImageSectors.{image_same, raw_same}
 use Rattle.sm_standing.specs.Checks.{fault_of}
-use Rattle.sm_ready.proofs.KeptLaws.{law_kept, holding_at, entry_relink, IsRelink, vhd_named}
-use Rattle.sm_ready.proofs.LeftLaws.{left_in, ready_places, new_vhd, IsLeft, extent_some, vhd_of, none_of_vhd, none_of_raw, vhd_allowed, vhd_in, IsVhdIn, links_left, law_left_now, size_there, mgt_long}
-use Rattle.sm_ready.proofs.Orders.{geometry_of, rowed, whole, In-tree_row}
+use Rattle.sm_ready.proofs.KeptLaws.{law_kept, holding_at, entry_relink, vhd_named}
+use Rattle.sm_ready.proofs.LeftLaws.{left_in, ready_places, new_vhd, IsLeft, extent_some, vhd_of, none_of_vhd, none_of_raw, vhd_allowed, IsVhdIn, links_left, law_left_now, size_there, mgt_long}
+use Rattle.sm_ready.proofs.Orders.{geometry_of, whole, In-tree_row}
 use Rattle.sm_ready.proofs.ShapeLaws.{plainly_stands}
 use Rattle.sm_ready.proofs.RowLaws.{tree_found}
 use Rattle.sm_ready.proofs.SpliceLaws.{with_volume, splice_here, splice_other, splice_left}
 use Rattle.sm_ready.proofs.Steadies.{steady_valid}
 use Rattle.sm_ready.proofs.WrittenLaws.{IsWrittenOver, written_already}
-use Rattle.sm_standing.specs.Contents as content
-use Rattle.vhd_image.specs.declared.images.Body.TheVariants as body
 
 by_fresh : (s : Site) (t : VolumeTable) (m : Known) (a b : Sectors) (u : List ℕ) (r : Row) (f : Bool) → r.fresh ≡ f → IsOrderly s t m → rows t (Vhd u) ≡ Some r
     → ((p : ℕ) → p < size_of s t (Vhd u) → sectors_of (content_in s t b) (Vhd u) p ≡ sectors_of (content_in s t a) (Vhd u) p) → image_of (content_in s t b) (Vhd u) ≡ image_of (content_in s t a) (Vhd u)

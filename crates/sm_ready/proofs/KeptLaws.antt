@@ -1,6 +1,6 @@
 -- What a stop leaves of a ready store is kept.
 use Rattle.vhd_image.specs.Bodies.{sector_count, parent_name}
-use Rattle.std.proofs.Common.{◌≡◌, ◌≢◌, ◌⊎◌, inl, inr, ⊎_elim, ℕ, ◌+◌, ◌*◌, ◌/◌, ◌%◌, ◌<◌, ◌≤◌, ◌==◌, nat_lt, Bool, true, false, cond, List, [], ◌∷◌, length, map, Option, Some, None, refl, sym, ap, ap₂, ◌∙◌, subst, arith, not, ◌&&◌}
+use Rattle.std.proofs.Common.{◌≡◌, ◌≢◌, inl, inr, ⊎_elim, ℕ, ◌+◌, ◌*◌, ◌/◌, ◌%◌, ◌<◌, ◌≤◌, ◌==◌, nat_lt, Bool, true, false, cond, List, length, Option, Some, None, refl, sym, ap, ap₂, ◌∙◌, subst, arith, not, ◌&&◌}
 use Rattle.std.specs.List.{slice_get, range_with_len}
 use Rattle.std.proofs.Math.Logic.{∥∥₁_elim}
 use Rattle.std.proofs.Props.{props}
@@ -10,14 +10,13 @@ use Rattle.std.proofs.lemmas.List.{length-map}
 use Rattle.std.proofs.lemmas.List.FromFn.{length-range_with_len, get_or-range_with_len}
 use Rattle.std.proofs.lemmas.Option.{none-some, same_Some, slice_get-map, slice_get_within, slice_get-get_or}
 use Rattle.std.proofs.Math.Nat.{mul_comm, mul-le-mul_right}
-use Rattle.sm_base.specs.Numbers.{IsGeometry}
 use Rattle.sm_base.specs.declared.names.Name.{Name}
 use Rattle.sm_base.specs.declared.names.Name.TheVariants.{Mgt, Vhd, Raw, Old, Clone, Inflate, Coalesce, Relink, Leaf}
 use Rattle.sm_base.specs.declared.operations.Op.{Op}
 use Rattle.sm_disk.specs.Held.{Held, reads}
 use Rattle.vg_meta.specs.Tables.{VolumeTable, Row, rows, names_of}
 use Rattle.sm_base.specs.Kinds.{is_entry}
-use Rattle.vg_volumes.specs.Sites.{Site, volume_of}
+use Rattle.vg_volumes.specs.Sites.{Site}
 use Rattle.vhd_map.specs.Bitmaps.{is_set}
 use Rattle.vhd_map.specs.Places.{blank}
 use Rattle.vhd_layout.specs.Contents.{content_at, layout_at, slot_at, slot_number, slots_at, size_at, own, value}
@@ -25,8 +24,8 @@ use Rattle.vhd_layout.specs.Images.{IsValid, EachSlotHolds}
 use Rattle.vhd_layout.specs.Layouts.{Sectors, Layout, layout_of, entry, code}
 use Rattle.vhd_layout.proofs.ImageLaws.{content-of_head, in_entries}
 use Rattle.common_laws.specs.Lists.{In}
-use Rattle.sm_standing.specs.Checks.{first_fault, fault_of}
-use Rattle.sm_standing.specs.Contents.{Content, sectors_of, row}
+use Rattle.sm_standing.specs.Checks.{fault_of}
+use Rattle.sm_standing.specs.Contents.{sectors_of, row}
 use Rattle.sm_standing.specs.Images.{Image, image_of}
 use Rattle.sm_standing.specs.Keeping.{IsKept, IsHolding, IsHeldAlike}
 use Rattle.vg_meta.proofs.RowLaws.{row_of-name}
@@ -38,16 +37,14 @@ use Rattle.sm_standing.proofs.DisksShown.{row_of-In}
 use Rattle.sm_ready.specs.Outlined.{link_in, outline_in}
 use Rattle.vhd_chain.specs.Trees.{row_name, tree_row}
 use Rattle.sm_ready.specs.Known.{machine_row, entry_of, Known, shape_in}
-use Rattle.sm_standing.specs.Outlines.{Link, link_of, outline}
+use Rattle.sm_standing.specs.Outlines.{Link, link_of}
 use Rattle.sm_ready.specs.Ready.{is_written_in, is_written_as, IsFirm, HoldsPlaces, IsBelow, IsHeldBelow}
-use Rattle.sm_ready.proofs.LeftLaws.{image_still, links_left, left_now, new_vhd, IsLeft, IsLeftIn, left_in, vhd_in, vhd_left, vhd_allowed, none_of_vhd, outline_left}
+use Rattle.sm_ready.proofs.LeftLaws.{image_still, links_left, left_now, new_vhd, IsLeftIn, left_in, vhd_in, vhd_left, vhd_allowed, none_of_vhd, outline_left}
 use Rattle.sm_ready.proofs.RowLaws.{tree_found}
 use Rattle.sm_ready.proofs.SoundLaws.{sound}
 use Rattle.sm_ready.specs.Orderly.{IsOrderly}
 use Rattle.sm_ready.specs.Stores.{content_in, content_now}
-use Rattle.sm_ready.proofs.Orders.{geometry_of}
 use Rattle.sm_base.specs.declared.operations.Op.TheVariants as op
-use Rattle.vhd_image.specs.declared.images.Body.TheVariants as body
 
 -- the size of an image of the machine, in what a read gives
 size_now : (s : Site) (t : VolumeTable) (area : Held) (m : Known) (n : Name) (i : Image) (c : ImageRow) → IsOrderly s t m → IsFirm s t area m → IsWellFormed (shape_in s t m) → In c (shape_in s t m).images → c.name ≡ n

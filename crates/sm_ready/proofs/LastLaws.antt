@@ -1,5 +1,5 @@
 -- The last commit of raw create: the new volume is marked as filled, and memory has a row and a record more.
-use Rattle.std.proofs.Common.{◌≡◌, ◌≢◌, ◌⊎◌, inl, inr, ⊎_elim, ℕ, zero, suc, ◌+◌, ◌*◌, ◌<◌, ◌≤◌, ◌&&◌, ◌||◌, not, Bool, true, false, cond, List, [], ◌∷◌, length, map, get_or, Option, Some, None, refl, sym, ap, ap₂, ◌∙◌, subst, arith}
+use Rattle.std.proofs.Common.{◌≡◌, ◌≢◌, ◌⊎◌, inl, inr, ⊎_elim, ℕ, zero, suc, ◌*◌, ◌<◌, ◌≤◌, ◌&&◌, ◌||◌, not, Bool, true, false, cond, List, [], ◌∷◌, length, map, get_or, Option, Some, None, refl, sym, ap, ap₂, ◌∙◌, subst, arith}
 use Rattle.std.proofs.Math.Path.{fun_ext}
 use Rattle.std.proofs.Math.ListN.{set}
 use Rattle.std.proofs.Math.Logic.{∥∥₁_elim, ∥∥₁_map}
@@ -16,7 +16,7 @@ use Rattle.std.specs.declared.cmp.Ordering.TheVariants.{Less, Equal, Greater}
 use Rattle.std.proofs.lemmas.Cmp.{nat_list_cmp_total}
 use Rattle.sm_standing.specs.Ordered.{uuid_cmp}
 use Rattle.sm_refs.specs.Attached.{count_of}
-use Rattle.sm_ready.proofs.ShapeLaws.{uuid_less, standing_shown, visible_shown, plainly_stands, content_records}
+use Rattle.sm_ready.proofs.ShapeLaws.{uuid_less, standing_shown, plainly_stands, content_records}
 use Rattle.sm_base.specs.Names.{name_cmp}
 use Rattle.sm_base.specs.declared.names.Name.{Name}
 use Rattle.sm_base.specs.declared.names.Name.TheVariants.{Mgt, Vhd, Raw, Old, Clone, Inflate, Coalesce, Relink, Leaf}
@@ -28,27 +28,27 @@ use Rattle.vg_meta.proofs.NameLaws.{name_eq-true, name_eq-false, name_eq-same, n
 use Rattle.vg_meta.specs.Changes.{Permits, applied, tagged}
 use Rattle.vg_meta.specs.declared.changes.Change.TheVariants.{Mark}
 use Rattle.vg_meta.specs.declared.changes.Tag.TheVariants.{Fresh}
-use Rattle.vg_meta.proofs.ByName.{changes_by_name, mgt_stays}
-use Rattle.vg_volumes.specs.Sites.{Site, volume_of, size_of}
+use Rattle.vg_meta.proofs.ByName.{changes_by_name}
+use Rattle.vg_volumes.specs.Sites.{Site, volume_of}
 use Rattle.vg_volumes.specs.Volumes.{volume, piece}
 use Rattle.vg_volumes.proofs.VolumeLaws.{Keeps-volume}
 use Rattle.sm_machine.specs.Disks.{Disk, with_disk, uuid_before}
 use Rattle.common_laws.specs.Lists.{In, insert_by, numbers, ◌>>=◌}
-use Rattle.sm_machine.specs.Shapes.{Shape, ImageRow, DiskRecord, is_image_of, image_uuid, with_image, refs, image_limit, chain_limit}
+use Rattle.sm_machine.specs.Shapes.{ImageRow, DiskRecord, is_image_of, image_uuid, with_image, refs, image_limit, chain_limit}
 use Rattle.sm_machine.specs.Steps.{with_record}
 use Rattle.sm_machine.specs.WellFormed.{IsWellFormed}
-use Rattle.common_laws.proofs.Lists.{In-insert, In-insert_new, In-map, In-map_at}
+use Rattle.common_laws.proofs.Lists.{In-insert, In-map, In-map_at}
 use Rattle.sm_record.specs.declared.records.Record.{Record}
 use Rattle.sm_standing.specs.Contents.{Content, sectors_of, reading_at, record_count, records, record_of, is_record_of}
 use Rattle.sm_standing.specs.Entries.{is_visible, of_row}
-use Rattle.sm_standing.specs.Standing.{standing_volume, stands_plainly, disk_at, disk_in, disks}
-use Rattle.sm_standing.specs.Images.{Image, image_of, sectors_read, image_reads, walk, answer_of}
+use Rattle.sm_standing.specs.Standing.{standing_volume, disk_at, disk_in, disks}
+use Rattle.sm_standing.specs.Images.{Image, image_of, sectors_read, image_reads, answer_of}
 use Rattle.sm_standing.specs.Additions.{OneReading}
 use Rattle.sm_standing.proofs.RecordLists.{records_alike, records_one, record_of_first, first_of}
 use Rattle.sm_standing.proofs.WalkLaws.{walk_same, turn-up}
 use Rattle.sm_standing.proofs.DiskLists.{disks_more}
 use Rattle.sm_ready.specs.Done.{at_rest, HasDoneFrom, IsCommit}
-use Rattle.sm_ready.specs.Known.{Known, machine_row, machine_record, shape_in, records_in, shown_places, is_shown, is_shown_place, row_face, tree_face}
+use Rattle.sm_ready.specs.Known.{Known, machine_row, machine_record, shape_in, records_in, shown_places, is_shown, row_face, tree_face}
 use Rattle.vhd_chain.specs.declared.rows.TreeRow.{TreeRow}
 use Rattle.vhd_chain.specs.Trees.{row_name, tree_row}
 use Rattle.sm_ready.specs.Orderly.{IsOrderly, IsRoomyIn}
@@ -60,7 +60,7 @@ use Rattle.vg_meta.proofs.RowLaws.{names_of-with_row}
 use Rattle.sm_standing.proofs.DisksShown.{row_of-In}
 use Rattle.sm_standing.specs.Checks.{images as table_images}
 use Rattle.sm_mgt.specs.Places.{Agrees, records_held, as_reading}
-use Rattle.sm_ready.specs.Ready.{IsFirm, IsReady, IsBelow, HasNoStray}
+use Rattle.sm_ready.specs.Ready.{IsReady, IsBelow, HasNoStray}
 use Rattle.vhd_volumes.specs.Steady.{IsQuiet}
 use Rattle.vhd_image.specs.Steady.{IsSteady}
 use Rattle.sm_ready.specs.Stores.{Leaving, MayShow, content_in, content_now}
@@ -315,7 +315,7 @@ pub record IsStepped (s : Site) (t : VolumeTable) (m : Known) (k : ℕ) (r : Rec
   pub counts : (n : Name) → count_of m.attached n ≡ refs n (shape_in s (after t r) (made_memory s k r row m))
 
 module _ (s : Site) (t : VolumeTable) (m : Known) (k : ℕ) (r : Record) (row : Row) (h : IsMade s t m k r row) (g : IsStepped s t m k r row) where
-  now_there : rows (after t r) (Raw r.uuid) ≡ Some (tagged Fresh false row)
+  pub now_there : rows (after t r) (Raw r.uuid) ≡ Some (tagged Fresh false row)
   now_there =
       let by_name = changes_by_name s.count t (Mark (Raw r.uuid) Fresh false) h.orderly.table h.allows in
       by_name.does.2 ∙ ap (λ (x : Row). Some (tagged Fresh false x)) (same_Some by_name.does.0 row (sym by_name.does.1 ∙ h.there))

@@ -1,11 +1,10 @@
 -- What a stop may leave of a store: what the store says, or any choice of its sectors while no commit has failed.
-use Rattle.std.proofs.Common.{◌≡◌, ◌⊎◌, inl, inr, ⊎_elim, ℕ, ◌<◌, Bool, true, false, List, refl, sym, ap, ◌∙◌, subst}
+use Rattle.std.proofs.Common.{◌≡◌, inr, ⊎_elim, ℕ, Bool, false, List, ◌∙◌}
 use Rattle.sm_disk.specs.Held.{Held, Keeps, IsSettled}
 use Rattle.sm_disk.proofs.HeldLaws.{may_settled}
 use Rattle.vg_meta.specs.Tables.{VolumeTable}
 use Rattle.vg_volumes.specs.Commits.{IsBefore, IsEither}
 use Rattle.vg_volumes.specs.Sites.{Site, area_size}
-use Rattle.sm_machine.specs.Disks.{Disk}
 use Rattle.sm_ready.specs.Done.{IsCommit}
 use Rattle.sm_ready.specs.Stores.{Leaving, Left}
 

@@ -1,31 +1,26 @@
 -- What a stop leaves of a ready store has the outline that memory tells, and the images and records of a read but for
 -- own images of disks attached for writing.
-use Rattle.std.proofs.Common.{◌≡◌, ◌≢◌, ◌⊎◌, inl, inr, ⊎_elim, ℕ, ◌+◌, ◌*◌, ◌<◌, ◌≤◌, Bool, true, false, cond, nat_lt, List, [], ◌∷◌, length, map, filter, get_or, Option, Some, None, refl, sym, ap, ap₂, ◌∙◌, subst, arith}
+use Rattle.std.proofs.Common.{◌≡◌, ◌⊎◌, inl, inr, ℕ, ◌*◌, ◌<◌, ◌≤◌, Bool, true, false, cond, nat_lt, List, [], length, get_or, Option, Some, None, refl, sym, ap, ap₂, ◌∙◌, subst, arith}
 use Rattle.std.proofs.Math.Path.{fun_ext}
-use Rattle.std.proofs.Math.Logic.{∥∥₁_elim}
-use Rattle.std.proofs.Props.{props}
-use Rattle.std.proofs.lemmas.Bool.{lt-ltb, le-ltb, cases_lt, cond-true, true≢false}
+use Rattle.std.proofs.lemmas.Bool.{lt-ltb, le-ltb, cases_lt, cond-true}
 use Rattle.std.proofs.lemmas.List.{get_or_past}
 use Rattle.std.proofs.lemmas.Option.{none-some, slice_get-get_or}
-use Rattle.std.specs.List.{find}
-use Rattle.sm_base.specs.Numbers.{IsGeometry}
 use Rattle.sm_base.proofs.NumberLemmas.{le-div_up}
 use Rattle.sm_base.specs.declared.names.Name.{Name}
 use Rattle.sm_base.specs.declared.names.Name.TheVariants.{Mgt, Vhd, Raw, Old, Clone, Inflate, Coalesce, Relink, Leaf}
-use Rattle.sm_disk.specs.Held.{Held, Allows, May, reads, newest, IsSettled}
-use Rattle.sm_disk.proofs.HeldLaws.{Allows-reads, may_settled}
+use Rattle.sm_disk.specs.Held.{Held, Allows, reads, newest}
+use Rattle.sm_disk.proofs.HeldLaws.{Allows-reads}
 use Rattle.vg_layout.specs.Places.{record_extents}
-use Rattle.vg_meta.specs.Tables.{VolumeTable, Row, IsTable, rows, extents_of}
+use Rattle.vg_meta.specs.Tables.{VolumeTable, Row, rows, extents_of}
 use Rattle.sm_base.specs.Kinds.{is_image}
 use Rattle.vg_volumes.specs.Commits.{IsBefore}
 use Rattle.vg_volumes.specs.Sites.{Site, area_size, size_of, volume_of}
 use Rattle.vg_volumes.specs.Volumes.{span, spot, piece, volume}
-use Rattle.vhd_layout.specs.Contents.{content_at, raw_content, size_at, parent_at}
+use Rattle.vhd_layout.specs.Contents.{content_at}
 use Rattle.vhd_layout.specs.Readings.{image_at}
 use Rattle.vhd_volumes.specs.declared.heads.Head.{Head}
 use Rattle.vhd_volumes.specs.Truth.{IsStanding}
-use Rattle.common_laws.specs.Lists.{In, ◌>>=◌, numbers}
-use Rattle.sm_machine.specs.Shapes.{Shape, ImageRow, find_image, same_image}
+use Rattle.common_laws.specs.Lists.{In, ◌>>=◌}
 use Rattle.sm_machine.specs.WellFormed.{is_image_name}
 use Rattle.sm_record.specs.Records.{reading}
 use Rattle.sm_record.specs.declared.records.Reading.{Reading}
@@ -33,11 +28,9 @@ use Rattle.sm_record.specs.declared.records.Reading.TheVariants.{Free}
 use Rattle.sm_standing.specs.Additions.{SameReadings}
 use Rattle.sm_standing.specs.Contents.{Content, sectors_of, reading_at, record_count, record_of, is_record_of, records}
 use Rattle.sm_standing.specs.Images.{Image, image_of, vhd_image, raw_image}
-use Rattle.common_laws.proofs.Lists.{find_none}
 use Rattle.sm_standing.proofs.RecordLists.{records_same, record_of_first, first_of}
 use Rattle.sm_standing.proofs.WorldLaws.{commit_before}
 use Rattle.sm_ready.specs.Alike.{IsAlike}
-use Rattle.vhd_image.specs.declared.images.Body.{Body}
 use Rattle.vhd_image.specs.Bodies.{StandsIn, sector_count, parent_name}
 use Rattle.sm_ready.specs.Outlined.{outline_in, link_in}
 use Rattle.sm_ready.specs.Known.{Known, shape_in}
@@ -45,14 +38,14 @@ use Rattle.vhd_chain.specs.declared.rows.TreeRow.{TreeRow}
 use Rattle.vhd_chain.specs.Trees.{row_name, tree_row}
 use Rattle.sm_ready.specs.Orderly.{IsOrderly}
 use Rattle.sm_standing.specs.Outlines.{Outline, Link, outline, link_of, reading_in}
-use Rattle.sm_mgt.specs.Places.{as_reading, records_held}
-use Rattle.sm_ready.specs.Ready.{IsFirm, IsReady, HoldsPlaces, is_written_in, is_written_as}
+use Rattle.sm_mgt.specs.Places.{as_reading}
+use Rattle.sm_ready.specs.Ready.{IsFirm, IsReady, HoldsPlaces, is_written_in}
 use Rattle.vhd_image.specs.Steady.{IsSteady}
 use Rattle.vhd_volumes.specs.Steady.{IsSteadyIn, IsQuiet}
 use Rattle.sm_ready.specs.Stores.{content_in, content_now}
 use Rattle.sm_standing.specs.Volumes.{IsAtSize}
-use Rattle.sm_standing.proofs.ImageSectors.{image_same, gone, raw_same}
-use Rattle.sm_ready.proofs.Orders.{geometry_of, IsRowed, rowed, unrowed, new_unrowed, HasHead, In-tree_row, vhd_row, raw_row, other_row, whole}
+use Rattle.sm_standing.proofs.ImageSectors.{image_same, raw_same}
+use Rattle.sm_ready.proofs.Orders.{geometry_of, IsRowed, rowed, unrowed, new_unrowed, In-tree_row, vhd_row, raw_row, other_row, whole}
 use Rattle.sm_ready.proofs.Steadies.{steady_valid, steady_size, steady_parent}
 use Rattle.sm_standing.specs.Contents as content
 use Rattle.vhd_image.specs.declared.images.Body.TheVariants as body

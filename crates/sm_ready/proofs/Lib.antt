@@ -25,3 +25,8 @@ pub mod OnceLaws
 pub mod StepLaws
 pub mod ReachLaws
 pub mod FitLaws
+pub mod TakenLaws
+pub mod GoneLaws
+pub mod StrayLaws
+pub mod RepairLaws
+pub mod SizeLaws

@@ -1,36 +1,33 @@
 -- The middle moment of a command that makes a disk: its volume is new, and its record is being put.
-use Rattle.std.proofs.Common.{◌≡◌, ◌≢◌, ◌⊎◌, inl, inr, ⊎_elim, ℕ, zero, suc, ◌+◌, ◌*◌, ◌<◌, ◌≤◌, ◌==◌, Bool, true, false, cond, List, [], ◌∷◌, length, map, get_or, Option, Some, None, refl, sym, ap, ap₂, ◌∙◌, subst, arith}
+use Rattle.std.proofs.Common.{◌≡◌, ◌≢◌, ◌⊎◌, inl, inr, ⊎_elim, ℕ, zero, suc, ◌<◌, Bool, true, false, cond, List, [], ◌∷◌, map, get_or, Option, Some, None, refl, sym, ap, ◌∙◌, subst, arith}
 use Rattle.std.proofs.Math.Path.{fun_ext}
 use Rattle.std.proofs.Math.ListN.{set}
 use Rattle.std.proofs.Math.Logic.{∥∥₁_map}
 use Rattle.std.proofs.lemmas.Bool.{true≢false, cases_lt}
 use Rattle.std.proofs.lemmas.List.{get_or-set_same, get_or-set_other, length-set}
-use Rattle.std.proofs.lemmas.Option.{none-some, same_Some, slice_get-get_or}
+use Rattle.std.proofs.lemmas.Option.{slice_get-get_or}
 use Rattle.std.proofs.lemmas.Slice.Eq.{bytes_eq-Decides}
-use Rattle.std.specs.List.{filter}
 use Rattle.sm_base.specs.declared.names.Name.{Name}
-use Rattle.sm_base.specs.declared.names.Name.TheVariants.{Mgt, Vhd, Raw}
-use Rattle.sm_disk.specs.Held.{Held, Allows, Keeps, May, reads}
+use Rattle.sm_base.specs.declared.names.Name.TheVariants.{Mgt}
+use Rattle.sm_disk.specs.Held.{Held, May, reads}
 use Rattle.sm_disk.proofs.HeldLaws.{Allows-keeps}
-use Rattle.vg_meta.specs.Tables.{VolumeTable, rows}
-use Rattle.vg_volumes.specs.Commits.{IsBefore}
-use Rattle.vg_volumes.specs.Sites.{Site, area_size, volume_of, size_of}
+use Rattle.vg_meta.specs.Tables.{VolumeTable}
+use Rattle.vg_volumes.specs.Sites.{Site, volume_of, size_of}
 use Rattle.sm_machine.specs.Disks.{Disk}
-use Rattle.common_laws.specs.Lists.{In, ◌>>=◌}
+use Rattle.common_laws.specs.Lists.{◌>>=◌}
 use Rattle.sm_machine.specs.Runs.{face, HasSector}
-use Rattle.sm_machine.specs.Shapes.{Shape, DiskRecord, refs}
+use Rattle.sm_machine.specs.Shapes.{Shape, refs}
 use Rattle.sm_machine.specs.WellFormed.{IsWellFormed}
 use Rattle.sm_record.specs.Records.{reading}
 use Rattle.sm_record.specs.declared.records.Record.{Record}
-use Rattle.sm_record.specs.declared.records.Reading.TheVariants.{Free, Taken}
-use Rattle.sm_standing.specs.Additions.{SameReadings, OneReading}
+use Rattle.sm_record.specs.declared.records.Reading.TheVariants.{Taken}
+use Rattle.sm_standing.specs.Additions.{SameReadings}
 use Rattle.sm_standing.specs.Contents.{Content, sectors_of, reading_at, record_count, record_of, is_record_of}
-use Rattle.sm_standing.specs.Images.{Image, image_of}
+use Rattle.sm_standing.specs.Images.{image_of}
 use Rattle.sm_standing.specs.Keeping.{IsKept}
 use Rattle.sm_standing.specs.Standing.{standing_volume, disk_at, disk_in, disks}
 use Rattle.sm_standing.proofs.DiskLists.{disks_same}
 use Rattle.sm_standing.proofs.RecordLists.{records_same, records_alike, record_of_first, first_of}
-use Rattle.sm_run.specs.Between.{IsStill}
 use Rattle.sm_ready.specs.Middle.{with_place, IsStray, IsMiddle}
 use Rattle.sm_ready.specs.Known.{Known, shape_in, records_in, shown_places, is_shown, is_shown_place}
 use Rattle.vhd_chain.specs.declared.rows.TreeRow.{TreeRow}

@@ -1,26 +1,24 @@
 -- What orderly memory says of the table, volume by volume.
-use Rattle.std.proofs.Common.{◌≡◌, ◌≢◌, ◌⊎◌, inl, inr, ⊎_elim, ℕ, ◌+◌, ◌*◌, ◌<◌, ◌≤◌, Bool, true, false, cond, List, [], ◌∷◌, length, map, filter, Option, Some, None, refl, sym, ap, ap₂, ◌∙◌, subst, arith}
+use Rattle.std.proofs.Common.{◌≡◌, inl, inr, ℕ, ◌*◌, ◌≤◌, Bool, true, false, cond, List, [], ◌∷◌, length, Option, Some, None, refl, sym, ap, ◌∙◌, subst, arith}
 use Rattle.std.proofs.Math.Logic.{∥∥₁_elim}
 use Rattle.std.proofs.Props.{props}
 use Rattle.std.proofs.lemmas.Bool.{true≢false}
 use Rattle.std.proofs.lemmas.Option.{none-some, same_Some}
-use Rattle.std.specs.List.{list_any, find}
 use Rattle.sm_base.specs.Numbers.{IsGeometry}
 use Rattle.sm_base.specs.declared.names.Name.{Name}
 use Rattle.sm_base.specs.declared.names.Name.TheVariants.{Mgt, Vhd, Raw, Old, Clone, Inflate, Coalesce, Relink, Leaf}
 use Rattle.sm_base.specs.declared.operations.Op.{Op}
-use Rattle.vg_meta.specs.Tables.{VolumeTable, Row, IsTable, rows, name_eq, names_of}
+use Rattle.vg_meta.specs.Tables.{VolumeTable, Row, rows, name_eq, names_of}
 use Rattle.sm_base.specs.Kinds.{is_image, is_entry}
-use Rattle.vg_meta.proofs.NameLaws.{name_eq-true, name_eq-refl}
+use Rattle.vg_meta.proofs.NameLaws.{name_eq-true}
 use Rattle.vg_volumes.specs.Sites.{Site}
 use Rattle.vhd_volumes.specs.declared.heads.Head.{Head}
 use Rattle.common_laws.specs.Lists.{In}
-use Rattle.sm_machine.specs.Shapes.{Shape, ImageRow, find_image, same_image, is_vhd}
 use Rattle.sm_machine.specs.WellFormed.{IsWellFormed, IsImageRow, is_image_name, table_length}
-use Rattle.common_laws.proofs.Lists.{In-map_at, In-filter, filter-In, find_none}
-use Rattle.sm_standing.specs.Entries.{making, folding, names_in, is_making, is_folding}
+use Rattle.common_laws.proofs.Lists.{In-map_at, In-filter, filter-In}
+use Rattle.sm_standing.specs.Entries.{making, is_making}
 use Rattle.vhd_image.specs.declared.images.Body.{Body}
-use Rattle.vhd_image.specs.Bodies.{volume_name, StandsIn}
+use Rattle.vhd_image.specs.Bodies.{StandsIn}
 use Rattle.vhd_chain.specs.Reading.{slots_of}
 use Rattle.sm_ready.specs.Known.{Known, Face, machine_row, shape_in, entry_of, row_face, tree_face}
 use Rattle.vhd_chain.specs.declared.rows.TreeRow.{TreeRow}

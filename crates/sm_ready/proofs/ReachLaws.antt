@@ -1,19 +1,19 @@
 -- The middle moment is reached by the contracts: writes at the new volume, then one write at the records, which may have failed.
-use Rattle.std.proofs.Common.{◌≡◌, ◌≢◌, ◌⊎◌, inl, inr, ⊎_elim, ℕ, ◌-◌, ◌<◌, true, List, length, Option, Some, None, refl, sym, ap, ◌∙◌, subst, arith}
+use Rattle.std.proofs.Common.{◌≡◌, ◌≢◌, inl, inr, ⊎_elim, ℕ, ◌-◌, true, List, length, Some, sym, ap, ◌∙◌, arith}
 use Rattle.std.proofs.Math.Logic.{∥∥₁_elim}
 use Rattle.std.proofs.Props.{props}
 use Rattle.std.proofs.lemmas.Option.{none-some}
 use Rattle.std.proofs.lemmas.Bool.{true≢false}
 use Rattle.sm_base.specs.declared.names.Name.{Name}
 use Rattle.sm_base.specs.declared.names.Name.TheVariants.{Mgt}
-use Rattle.sm_disk.specs.Held.{Held, Keeps, May, Torn, IsIn}
+use Rattle.sm_disk.specs.Held.{Held, Torn}
 use Rattle.sm_disk.specs.Sectors.{sector}
 use Rattle.sm_disk.proofs.HeldLaws.{Keeps-then, may-torn, in_one}
 use Rattle.vg_meta.specs.Tables.{VolumeTable, Row, rows, extents_of}
-use Rattle.vg_volumes.specs.Sites.{Site, volume_of}
+use Rattle.vg_volumes.specs.Sites.{Site}
 use Rattle.vg_volumes.specs.Volumes.{KeepsElsewhere}
 use Rattle.common_laws.specs.Lists.{In}
-use Rattle.sm_machine.specs.WellFormed.{IsWellFormed, is_image_name}
+use Rattle.sm_machine.specs.WellFormed.{is_image_name}
 use Rattle.sm_record.specs.Records.{reading}
 use Rattle.sm_record.specs.declared.records.Record.{Record}
 use Rattle.sm_record.specs.declared.records.Reading.TheVariants.{Taken}
@@ -21,7 +21,7 @@ use Rattle.sm_ready.specs.Known.{Known, shape_in}
 use Rattle.vhd_chain.specs.declared.rows.TreeRow.{TreeRow}
 use Rattle.vhd_chain.specs.Trees.{row_name, tree_row}
 use Rattle.sm_ready.specs.Orderly.{IsOrderly}
-use Rattle.sm_mgt.specs.Places.{place_count, records_held}
+use Rattle.sm_mgt.specs.Places.{records_held}
 use Rattle.sm_ready.proofs.AfterLaws.{other_keeps}
 use Rattle.sm_ready.proofs.LeftLaws.{extent_some}
 use Rattle.sm_ready.specs.Middle.{IsMiddle}

@@ -1,32 +1,30 @@
 -- An image that nobody uses goes: the collector removes a hidden image without children.
 use Rattle.vhd_image.specs.Bodies.{parent_name}
-use Rattle.std.proofs.Common.{◌≡◌, ◌≢◌, ◌⊎◌, inl, inr, ⊎_elim, ℕ, zero, suc, ◌+◌, ◌*◌, ◌^◌, ◌<◌, ◌≤◌, ◌==◌, ◌&&◌, min, not, nat_lt, Bool, true, false, cond, List, [], ◌∷◌, length, map, Option, Some, None, refl, sym, ap, ap₂, ◌∙◌, subst, arith}
+use Rattle.std.proofs.Common.{◌≡◌, ◌≢◌, ◌⊎◌, inl, inr, ⊎_elim, ℕ, zero, suc, ◌+◌, ◌≤◌, ◌&&◌, not, Bool, true, false, cond, List, [], ◌∷◌, length, map, Option, Some, None, refl, sym, ap, ap₂, ◌∙◌, subst}
 use Rattle.std.proofs.Math.Path.{fun_ext}
 use Rattle.std.proofs.Math.Logic.{∥∥₁_elim, ∥∥₁_map}
 use Rattle.std.proofs.Props.{props}
-use Rattle.std.proofs.lemmas.Bool.{true≢false, eqb-true}
-use Rattle.std.proofs.lemmas.Option.{none-some, same_Some}
-use Rattle.std.proofs.lemmas.Slice.Eq.{bytes_eq-Decides}
+use Rattle.std.proofs.lemmas.Bool.{true≢false}
+use Rattle.std.proofs.lemmas.Option.{same_Some}
 use Rattle.std.specs.List.{filter, find, list_any}
 use Rattle.std.specs.Str.{bytes_eq}
 use Rattle.sm_base.specs.declared.names.Name.{Name}
 use Rattle.sm_base.specs.declared.names.Name.TheVariants.{Mgt, Vhd, Raw, Old, Clone, Inflate, Coalesce, Relink, Leaf}
 use Rattle.sm_disk.specs.Held.{Held, reads}
-use Rattle.vg_meta.specs.Tables.{VolumeTable, Row, IsTable, rows, row_of, extents_of, names_of, name_eq}
-use Rattle.sm_base.specs.Kinds.{is_image, is_entry}
+use Rattle.vg_meta.specs.Tables.{VolumeTable, Row, rows, extents_of, names_of, name_eq}
+use Rattle.sm_base.specs.Kinds.{is_entry}
 use Rattle.vg_meta.specs.Changes.{Permits, applied, raised, without}
 use Rattle.vg_meta.specs.declared.changes.Change.TheVariants.{Remove}
 use Rattle.vg_meta.proofs.ByName.{changes_by_name, mgt_stays}
 use Rattle.vg_meta.proofs.ChangeLaws.{IsTable-applied}
-use Rattle.vg_meta.proofs.NameLaws.{name_eq-same, name_eq-other, name_eq-true, name_eq-false}
+use Rattle.vg_meta.proofs.NameLaws.{name_eq-other, name_eq-true, name_eq-false}
 use Rattle.vg_volumes.specs.Commits.{IsBefore}
-use Rattle.vg_volumes.specs.Sites.{Site, area_size, volume_of, size_of}
-use Rattle.sm_machine.specs.Collector.{collected, next_step, is_garbage, is_childless}
-use Rattle.sm_machine.specs.Commits.{commits, own_commits, plan_commits, is_given_up, gives_up, one_if}
-use Rattle.sm_machine.specs.Disks.{Disk}
+use Rattle.vg_volumes.specs.Sites.{Site, area_size}
+use Rattle.sm_machine.specs.Collector.{collected, next_step}
+use Rattle.sm_machine.specs.Commits.{commits, own_commits, plan_commits, is_given_up, gives_up}
 use Rattle.common_laws.specs.Lists.{In, ◌>>=◌}
-use Rattle.sm_machine.specs.Shapes.{Shape, ImageRow, DiskRecord, Attachment, same_image, is_image as is_image_in, find_image, children, is_parent, chain, chain_limit, parent_of, disk_image, is_image_of, reads_through, refs, risen, without_image, image_uuid, image_limit}
-use Rattle.sm_machine.specs.Steps.{State, step_whole, shape_next, shape_after, given_up, unless_refused, accepted}
+use Rattle.sm_machine.specs.Shapes.{Shape, ImageRow, DiskRecord, same_image, is_image as is_image_in, find_image, is_parent, chain, chain_limit, parent_of, disk_image, is_image_of, refs, risen, without_image, image_uuid, image_limit}
+use Rattle.sm_machine.specs.Steps.{State, step_whole, shape_next, shape_after, unless_refused, accepted}
 use Rattle.sm_machine.specs.WellFormed.{IsWellFormed, is_image_name}
 use Rattle.sm_machine.specs.declared.commands.Command.TheVariants.{Gc}
 use Rattle.common_laws.proofs.Lists.{In-filter, filter-In, In-map_at, In-map, find-some}
@@ -43,30 +41,29 @@ use Rattle.vg_volumes.specs.Volumes.{piece}
 use Rattle.sm_record.specs.Records.{reading}
 use Rattle.sm_standing.specs.Checks.{parent_is, children as children_of, images as table_images}
 use Rattle.sm_standing.specs.Contents.{Content, sectors_of}
-use Rattle.sm_standing.specs.Entries.{folding, is_folding, names_in}
-use Rattle.sm_standing.specs.Images.{Image, image_of}
+use Rattle.sm_standing.specs.Entries.{folding, is_folding}
+use Rattle.sm_standing.specs.Images.{image_of}
 use Rattle.sm_standing.proofs.ImageLaws.{removed_disks}
 use Rattle.sm_standing.proofs.RecordLists.{records_same, record_of_first, first_of}
 use Rattle.sm_ready.specs.Outlined.{link_in}
-use Rattle.sm_standing.specs.Outlines.{Link, link_of}
+use Rattle.sm_standing.specs.Outlines.{link_of}
 use Rattle.sm_ready.specs.Ready.{IsBelow, IsReady}
 use Rattle.sm_standing.proofs.ImageSectors.{vhd_same, raw_same}
-use Rattle.sm_ready.proofs.LeftLaws.{left_in, links_left, left_now, none_of_vhd, none_of_raw, new_vhd}
+use Rattle.sm_ready.proofs.LeftLaws.{left_in, links_left, left_now, none_of_vhd, none_of_raw}
 use Rattle.sm_ready.proofs.Orders.{geometry_of, rowed, whole, none_making, none_of, In-tree_row}
 use Rattle.sm_ready.proofs.ShapeLaws.{HasNoNew, any_filter, shown_same}
 use Rattle.sm_standing.proofs.DisksShown.{row_of-In}
-use Rattle.sm_ready.specs.Known.{Known, Face, machine_row, shape_in, entry_of, row_face, tree_face, records_in, shown_places}
+use Rattle.sm_ready.specs.Known.{Known, machine_row, shape_in, entry_of, row_face, tree_face, records_in, shown_places}
 use Rattle.vhd_chain.specs.declared.rows.TreeRow.{TreeRow}
 use Rattle.vhd_chain.specs.Trees.{row_name, tree_row}
 use Rattle.sm_ready.specs.Done.{HasDone, IsCommit, at_rest}
-use Rattle.sm_ready.specs.Stores.{Leaving, MayShow, content_in, content_now}
+use Rattle.sm_ready.specs.Stores.{Leaving, content_now}
 use Rattle.sm_standing.specs.Standing.{disks}
 use Rattle.sm_ready.proofs.CommitLaws.{law_single_commit, volume_rested}
 use Rattle.sm_ready.proofs.RestLaws.{IsOfRow, ready_rest}
 use Rattle.sm_base.specs.declared.operations.Op.TheVariants as op
 use Rattle.sm_base.specs.declared.operations.Plan.TheVariants as plan
 use Rattle.sm_base.specs.declared.operations.Plan as plan_type
-use Rattle.vhd_image.specs.declared.images.Body.TheVariants as body
 
 -- memory without an image
 abbrev pub without_row : Name → Known → Known
@@ -126,7 +123,7 @@ tree_gone rs x image = by (tree_row (filter (λ r. not (same_image (row_name r) 
         let k = (In-filter (λ r. not (same_image (row_name r) x)) rs r w.0).1 in
         absurd (true≢false (sym k ∙ ap not (ap (λ n. same_image n x) w.1 ∙ same_image-refl x image)))
 
-names_without : (rs : List Row) (x : Name) → is_entry x ≡ false → filter is_entry (names_of (without x rs)) ≡ filter is_entry (names_of rs)
+pub names_without : (rs : List Row) (x : Name) → is_entry x ≡ false → filter is_entry (names_of (without x rs)) ≡ filter is_entry (names_of rs)
 unfolding without
 names_without [] x none = refl
 names_without (r ∷ rs) x none = by (name_eq r.name x) refl (names_without rs x none)
@@ -136,7 +133,7 @@ names_without (r ∷ rs) x none = by (name_eq r.name x) refl (names_without rs x
     by true is rest = sym (ap (λ b. cond b (r.name ∷ filter is_entry (names_of rs)) (filter is_entry (names_of rs))) (ap is_entry (name_eq-true r.name x is) ∙ none))
     by false is rest = ap (λ ns. cond (is_entry r.name) (r.name ∷ ns) ns) rest
 
-In-without : (x : Name) (r : Row) (rs : List Row) → In r (without x rs) → In r rs
+pub In-without : (x : Name) (r : Row) (rs : List Row) → In r (without x rs) → In r rs
 unfolding without
 In-without x r [] i = i
 In-without x r (y ∷ rs) i = by (name_eq y.name x) (λ j. In-without x r rs j) i
@@ -222,7 +219,7 @@ unread_in s t m x r o g = record {
       ap (λ (y : ImageRow). y.hidden) w.2 ∙ ap (λ (q : TreeRow). q.hidden) (same_Some w.0 r (sym (ap (tree_row m.rows) (sym named) ∙ found) ∙ g.there)) ∙ g.hidden);
 }
 
-no_journal : (n : Name) → is_image_name n ≡ true → is_entry n ≡ false
+pub no_journal : (n : Name) → is_image_name n ≡ true → is_entry n ≡ false
 unfolding is_image_name
 no_journal (Vhd u) e = refl
 no_journal (Raw u) e = refl

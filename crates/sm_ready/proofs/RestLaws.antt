@@ -1,14 +1,14 @@
 -- What is ready stays so once all is settled, also under another table that keeps the extents of each row.
-use Rattle.std.proofs.Common.{◌≡◌, ◌≢◌, ◌⊎◌, inl, inr, ℕ, ◌*◌, ◌<◌, nat_lt, Bool, true, false, cond, List, [], length, map, Option, Some, None, refl, sym, ap, ap₂, ◌∙◌, subst, arith}
+use Rattle.std.proofs.Common.{◌≡◌, ℕ, ◌*◌, List, Option, refl, sym, ap, ◌∙◌, subst}
 use Rattle.std.proofs.Math.Path.{fun_ext}
 use Rattle.sm_base.specs.declared.sizes.Geometry.{Geometry}
 use Rattle.sm_base.specs.declared.names.Name.{Name}
 use Rattle.sm_base.specs.declared.names.Name.TheVariants.{Mgt}
-use Rattle.sm_disk.specs.Held.{Held, Keeps, May, reads, IsSettled}
+use Rattle.sm_disk.specs.Held.{Held, Keeps, May, reads}
 use Rattle.sm_disk.proofs.HeldLaws.{May-reads, may_settled, Allows-keeps}
 use Rattle.vg_meta.specs.Tables.{VolumeTable, rows, extents_of}
 use Rattle.vg_volumes.specs.Sites.{Site, volume_of}
-use Rattle.vg_volumes.specs.Volumes.{volume, span}
+use Rattle.vg_volumes.specs.Volumes.{volume}
 use Rattle.vhd_layout.specs.Images.{IsImage}
 use Rattle.vhd_layout.specs.Layouts.{Sectors}
 use Rattle.vhd_map.specs.Slots.{slot_of}

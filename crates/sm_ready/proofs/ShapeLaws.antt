@@ -1,6 +1,6 @@
 -- The shape of what a read gives is the shape of what is in memory, but for attachments and the operation.
 use Rattle.vhd_image.specs.Bodies.{sector_count, parent_name}
-use Rattle.std.proofs.Common.{◌≡◌, ◌≢◌, ◌⊎◌, inl, inr, ⊎_elim, ℕ, zero, suc, ◌+◌, ◌*◌, ◌<◌, ◌≤◌, not, nat_lt, Bool, true, false, cond, List, [], ◌∷◌, length, map, get_or, Option, Some, None, refl, sym, ap, ap₂, ◌∙◌, subst, arith, ◌&&◌, ◌||◌, ◌==◌}
+use Rattle.std.proofs.Common.{◌≡◌, ◌≢◌, ◌⊎◌, inl, inr, ℕ, zero, suc, ◌+◌, ◌*◌, ◌<◌, not, nat_lt, Bool, true, false, cond, List, [], ◌∷◌, length, map, get_or, Option, Some, None, refl, sym, ap, ap₂, ◌∙◌, subst, arith, ◌&&◌, ◌||◌, ◌==◌}
 use Rattle.std.proofs.Math.Logic.{∥∥₁_elim}
 use Rattle.std.proofs.Math.Path.{fun_ext}
 use Rattle.std.proofs.Props.{props}
@@ -9,7 +9,7 @@ use Rattle.std.proofs.lemmas.List.{ext_get_or, length-map}
 use Rattle.std.proofs.lemmas.List.FromFn.{length-range_with_len}
 use Rattle.std.proofs.lemmas.Option.{none-some, same_Some}
 use Rattle.std.specs.Cmp.{IsTotalOrder}
-use Rattle.std.specs.List.{filter, list_any, filter_map, AllByRecursion, range_with_len, sum}
+use Rattle.std.specs.List.{filter, list_any, range_with_len, sum}
 use Rattle.std.specs.List.Sorted.{IsStrictlySortedBy}
 use Rattle.std.specs.Ordering.{is_lt, is_eq, ordering_reverse}
 use Rattle.std.specs.declared.cmp.Ordering.{Ordering}
@@ -28,14 +28,14 @@ use Rattle.sm_base.specs.declared.operations.Op.TheVariants.{Idle}
 use Rattle.sm_disk.specs.Held.{Held, reads}
 use Rattle.sm_disk.proofs.HeldLaws.{Allows-reads}
 use Rattle.vg_layout.specs.Places.{record_extents}
-use Rattle.vg_meta.specs.Tables.{VolumeTable, Row, IsTable, IsVolume, rows, row_of, extents_of, names_of, name_eq, suits}
+use Rattle.vg_meta.specs.Tables.{VolumeTable, Row, IsVolume, rows, row_of, extents_of, names_of, name_eq}
 use Rattle.sm_base.specs.Kinds.{is_image, is_entry}
 use Rattle.vg_meta.proofs.NameLaws.{name_eq-same, name_eq-other, name_eq-true, less_other, before_from, name_eq-false}
 use Rattle.vg_meta.proofs.RowLaws.{row_of-name, All-row_of}
-use Rattle.vg_volumes.specs.Sites.{Site, volume_of, size_of}
+use Rattle.vg_volumes.specs.Sites.{Site, volume_of}
 use Rattle.vhd_map.specs.Slots.{slot_of}
-use Rattle.vhd_layout.specs.Contents.{content_at, layout_at, slots_at, slot_at}
-use Rattle.vhd_layout.specs.Layouts.{Sectors, layout_of}
+use Rattle.vhd_layout.specs.Contents.{content_at, slots_at, slot_at}
+use Rattle.vhd_layout.specs.Layouts.{Sectors}
 use Rattle.vhd_layout.proofs.ImageLaws.{layout-of}
 use Rattle.vhd_layout.proofs.ReadingLaws.{layout-at, slots-of_table}
 use Rattle.vhd_volumes.specs.Truth.{layout_in, disk_blocks}
@@ -53,15 +53,14 @@ use Rattle.sm_standing.proofs.DisksShown.{row_of-In}
 use Rattle.sm_standing.proofs.Orders.{rising_ext, In-filter_map, filter_map-In, rising-filter_map}
 use Rattle.sm_machine.specs.Steps.{with_record}
 use Rattle.sm_record.specs.declared.records.Record.{Record}
-use Rattle.sm_standing.specs.Entries.{is_there, is_hidden, is_filled, is_visible, of_row, head, folding, making}
-use Rattle.sm_ready.proofs.Orders.{none_making, geometry_of, IsRowed, rowed, raw_row, other_row, named_row, In-tree_row, whole}
+use Rattle.sm_standing.specs.Entries.{is_there, is_hidden, is_filled, is_visible, of_row, head, folding}
+use Rattle.sm_ready.proofs.Orders.{none_making, geometry_of, IsRowed, rowed, raw_row, other_row, named_row, whole}
 use Rattle.sm_standing.proofs.DiskLists.{disk_parts, rising-disks, disks_at, at_disks}
 use Rattle.vhd_chain.specs.Reading.{slots_of}
-use Rattle.sm_ready.specs.Known.{machine_record, Known, shape_in, machine_row, records_in, shown_places, is_shown, is_shown_place, row_face, tree_face}
+use Rattle.sm_ready.specs.Known.{machine_record, Known, shape_in, machine_row, records_in, shown_places, is_shown, is_shown_place}
 use Rattle.sm_mgt.specs.Places.{as_reading}
-use Rattle.sm_ready.proofs.LeftLaws.{place_reads, vhd_of, raw_of, IsVhdIn, vhd_in, now_sector}
+use Rattle.sm_ready.proofs.LeftLaws.{place_reads, vhd_of, raw_of, vhd_in, now_sector}
 use Rattle.sm_ready.proofs.RowLaws.{All-In, In-names, found_in, tree_found, image_named, HasVolume, volume_there}
-use Rattle.vhd_image.specs.declared.images.Body.{Body}
 use Rattle.vhd_chain.specs.declared.rows.TreeRow.{TreeRow}
 use Rattle.vhd_chain.specs.Trees.{row_name, tree_row}
 use Rattle.sm_ready.specs.Orderly.{IsOrderly}
@@ -71,7 +70,6 @@ use Rattle.sm_ready.specs.Stores.{content_now}
 use Rattle.sm_standing.proofs.ImageSectors.{image_same}
 use Rattle.sm_ready.proofs.Steadies.{steady_valid, steady_size, steady_parent}
 use Rattle.sm_standing.specs.Contents as content
-use Rattle.vhd_image.specs.declared.images.Body.TheVariants as body
 
 -- ---- the rows of a table
 
@@ -225,7 +223,7 @@ rising_images (x ∷ xs) proper sorted apart = (
   rising_images xs (λ z i. proper z (inr i)) sorted.1 apart.1,
 )
 
-row_named : (c : Content) (r : Row) (d : ImageRow) → shape_row c r ≡ Some d → d.name ≡ r.name
+pub row_named : (c : Content) (r : Row) (d : ImageRow) → shape_row c r ≡ Some d → d.name ≡ r.name
 unfolding shape_row
 row_named c r d e = by (image_of c r.name) e
   where
@@ -537,7 +535,7 @@ stands_visible t (Coalesce c p) u image same visible = absurd (true≢false (sym
 stands_visible t (Relink c p) u image same visible = absurd (true≢false (sym image))
 stands_visible t (Leaf l p) u image same visible = absurd (true≢false (sym image))
 
-stands_now : (s : Site) (t : VolumeTable) (m : Known) (u : List ℕ) (r : TreeRow) → IsOrderly s t m → IsWellFormed (shape_in s t m) → In r m.rows → r.hidden ≡ false → image_uuid (row_name r) ≡ u
+pub stands_now : (s : Site) (t : VolumeTable) (m : Known) (u : List ℕ) (r : TreeRow) → IsOrderly s t m → IsWellFormed (shape_in s t m) → In r m.rows → r.hidden ≡ false → image_uuid (row_name r) ≡ u
     → (n : Name) × (standing_volume t u ≡ Some n)
 stands_now s t m u r o w i shown named =
     let x = stands_visible t (row_name r) u (named_row s t m r o i) named (visible_row s t m r o w i shown) in

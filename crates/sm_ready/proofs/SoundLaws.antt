@@ -1,37 +1,32 @@
 -- None fails of what orderly memory tells.
 use Rattle.vhd_image.specs.Bodies.{sector_count, parent_name}
-use Rattle.std.proofs.Common.{◌≡◌, IsTrue, ◌≢◌, ◌⊎◌, inl, inr, ⊎_elim, ℕ, zero, suc, ◌+◌, ◌*◌, ◌^◌, ◌<◌, ◌≤◌, ◌==◌, ◌&&◌, ◌||◌, not, nat_lt, nat_le, Bool, true, false, cond, List, [], ◌∷◌, ◌++◌, length, map, get_or, Option, Some, None, is_some, refl, sym, ap, ap₂, ◌∙◌, subst, arith, eq-eqb, append-nil}
-use Rattle.std.proofs.Math.Logic.{∥∥₁_elim}
-use Rattle.std.proofs.Props.{props}
+use Rattle.std.proofs.Common.{◌≡◌, IsTrue, ◌≢◌, inl, inr, ℕ, zero, suc, ◌*◌, ◌≤◌, ◌==◌, ◌&&◌, ◌||◌, not, nat_lt, nat_le, Bool, true, false, cond, List, [], ◌∷◌, ◌++◌, length, get_or, Option, Some, None, is_some, refl, sym, ap, ap₂, ◌∙◌, subst, arith, eq-eqb, append-nil}
 use Rattle.std.specs.Prelude.{is_none, is_some}
-use Rattle.std.specs.List.{filter, filter_map, find, list_all}
-use Rattle.std.specs.Str.{bytes_eq}
-use Rattle.std.proofs.lemmas.Bool.{true≢false, eqb-true, lt-ltb, le-ltb, cases_lt, le-leb}
+use Rattle.std.specs.List.{filter}
+use Rattle.std.proofs.lemmas.Bool.{true≢false, lt-ltb, le-ltb, le-leb}
 use Rattle.std.proofs.lemmas.Option.{none-some, same_Some}
-use Rattle.std.proofs.lemmas.Slice.Eq.{bytes_eq-Decides}
 use Rattle.std.specs.List.Sorted.{IsStrictlySortedBy}
 use Rattle.std.specs.declared.cmp.Ordering.TheVariants.{Less}
 use Rattle.std.proofs.Math.Nat.{mul-le-mul_right}
-use Rattle.sm_base.specs.Names.{IsName, IsUuid, base_uuid, is_base, name_cmp}
+use Rattle.sm_base.specs.Names.{IsName, IsUuid, is_base, name_cmp}
 use Rattle.sm_base.specs.declared.faults.Place.{Place}
 use Rattle.sm_base.specs.declared.names.Name.{Name}
 use Rattle.sm_base.specs.declared.names.Name.TheVariants.{Mgt, Vhd, Raw, Old, Clone, Inflate, Coalesce, Relink, Leaf}
 use Rattle.sm_base.specs.declared.operations.Op.{Op}
 use Rattle.vg_layout.specs.Places.{record_extents}
-use Rattle.vg_meta.specs.Tables.{VolumeTable, Row, IsVolume, rows, row_of, extents_of, names_of, name_eq}
+use Rattle.vg_meta.specs.Tables.{VolumeTable, Row, IsVolume, rows, extents_of, names_of}
 use Rattle.sm_base.specs.Kinds.{is_image as is_data, is_entry}
 use Rattle.vg_meta.proofs.RowLaws.{row_of-name}
 use Rattle.vg_volumes.specs.Sites.{Site}
-use Rattle.common_laws.specs.Lists.{In, Distinct, given, first_some, numbers, ◌>>=◌}
-use Rattle.sm_machine.specs.Shapes.{Shape, ImageRow, image_uuid, is_vhd, same_image, image_limit, chain_limit, parent_of}
+use Rattle.common_laws.specs.Lists.{In, given, numbers}
+use Rattle.sm_machine.specs.Shapes.{ImageRow, image_uuid, is_vhd, same_image, image_limit, chain_limit, parent_of}
 use Rattle.sm_machine.specs.WellFormed.{IsWellFormed, HasParent, IsOperation, IsOnlyChild, IsChild, EndsWithin, is_image_name, IsImageRow}
 use Rattle.common_laws.proofs.Lists.{In-map, In-map_at, Distinct-key, find_none, first_none, In-filter, filter-In}
-use Rattle.sm_machine.proofs.ImageNames.{same_image-refl, same_image-sound, other_image}
+use Rattle.sm_machine.proofs.ImageNames.{same_image-refl, same_image-sound}
 use Rattle.sm_record.specs.declared.records.Record.{Record}
-use Rattle.sm_record.specs.declared.records.Reading.TheVariants.{Free, Taken, Damaged}
 use Rattle.sm_standing.specs.Checks.{first_name, placed, images, is_misnamed, lesser, is_lost, is_orphaned, is_oversize, has_uuid, is_damaged, record_place, disk_place, has_twin, is_unrecorded, disk_uuids, record_volume_fault, too_many_fault, misnamed_fault, second_entry_fault, lost_entry_fault, old_leaf_fault, invalid_fault, tree_fault, entry_link_fault, record_fault, disk_fault, fault_of, all_faults, is_invalid, is_image_wrong, is_tree_wrong, tree_wrong_as, is_misplaced, is_linked, is_parent_right, is_no_larger, chain_length, children, parent_is, is_entry_linked, has_parent_of, has_such_parent, of_image, children_with}
 use Rattle.sm_standing.specs.Contents.{record_count}
-use Rattle.sm_standing.specs.Entries.{base_number, is_folding, is_there, is_hidden, is_visible, is_past, are_past, is_at_stage, is_coalescing, is_folding_leaf, is_leaf_copied, is_leaf_renamed, is_leaf_swapped, is_leaf_folded, of_row, folding, making, second, uuids_in}
+use Rattle.sm_standing.specs.Entries.{base_number, is_folding, is_there, is_hidden, is_visible, is_past, are_past, is_at_stage, is_coalescing, is_leaf_copied, is_leaf_renamed, is_leaf_swapped, is_leaf_folded, of_row, folding, second}
 use Rattle.sm_standing.proofs.DisksShown.{row_of-In}
 use Rattle.vg_meta.proofs.NameLaws.{less_other}
 use Rattle.sm_machine.proofs.Chains.{parent_of-in}
@@ -39,8 +34,7 @@ use Rattle.sm_base.proofs.NumberLemmas.{le-div_up}
 use Rattle.sm_ready.proofs.BaseLaws.{base_of_number, base_number_fits}
 use Rattle.sm_ready.proofs.OnceLaws.{recorded_once}
 use Rattle.sm_standing.specs.Standing.{standing_volume, uuids}
-use Rattle.sm_ready.proofs.Orders.{geometry_of, new_unrowed, IsRowed, rowed, vhd_row, raw_row, other_row, named_row, In-tree_row, none_making, none_of}
-use Rattle.sm_ready.proofs.LeftLaws.{extent_some}
+use Rattle.sm_ready.proofs.Orders.{geometry_of, new_unrowed, rowed, other_row, named_row, In-tree_row, none_making}
 use Rattle.sm_ready.specs.Outlined.{outline_in, link_in}
 use Rattle.sm_ready.specs.Known.{Known, machine_row, shape_in, entry_of}
 use Rattle.vhd_chain.specs.declared.rows.TreeRow.{TreeRow}
@@ -48,11 +42,9 @@ use Rattle.vhd_chain.specs.Trees.{row_name, tree_row}
 use Rattle.sm_ready.specs.Orderly.{IsOrderly}
 use Rattle.sm_standing.specs.Outlines.{Outline, Link}
 use Rattle.sm_mgt.specs.Places.{as_reading}
-use Rattle.sm_ready.specs.Ready.{IsReady, IsBelow, IsHeldBelow}
 use Rattle.sm_ready.proofs.RowLaws.{tree_found, found_in, volume_there, image_named, All-In}
 use Rattle.sm_base.specs.declared.faults.Place.TheVariants as at
 use Rattle.sm_base.specs.declared.operations.Op.TheVariants as op
-use Rattle.vhd_image.specs.declared.images.Body.TheVariants as body
 
 given_none : {A : Type 0} (b : Bool) (x : A) → b ≡ false → given b x ≡ None
 given_none true x e = absurd (true≢false e)

@@ -1,5 +1,5 @@
 -- An image of the area with other sectors in one volume.
-use Rattle.std.proofs.Common.{◌≡◌, ◌≢◌, ◌⊎◌, inl, inr, ℕ, ◌+◌, ◌*◌, ◌/◌, ◌%◌, ◌<◌, ◌≤◌, ◌==◌, nat_lt, Bool, true, false, cond, List, [], ◌∷◌, length, Option, Some, None, refl, sym, ap, ap₂, ◌∙◌, subst, arith, eq-eqb}
+use Rattle.std.proofs.Common.{◌≡◌, ◌≢◌, ℕ, ◌+◌, ◌*◌, ◌/◌, ◌%◌, ◌<◌, ◌==◌, cond, List, [], Option, Some, None, refl, sym, ap, ap₂, ◌∙◌, subst, arith, eq-eqb}
 use Rattle.std.specs.Prelude.{slice_get, slice_index}
 use Rattle.std.specs.List.{find}
 use Rattle.std.proofs.lemmas.Bool.{lt-ltb, true≢false, eqb-true}
@@ -13,7 +13,7 @@ use Rattle.vg_meta.proofs.ByName.{spread}
 use Rattle.vg_volumes.specs.Sites.{Site, area_size, size_of, volume_of}
 use Rattle.vg_volumes.specs.Volumes.{spot, span, volume, piece, IsElsewhere, KeepsElsewhere}
 use Rattle.vhd_layout.specs.Layouts.{Sectors}
-use Rattle.common_laws.specs.Lists.{In, numbers}
+use Rattle.common_laws.specs.Lists.{numbers}
 use Rattle.common_laws.proofs.Lists.{find-some, In-numbers, numbers-In, none_find}
 use Rattle.sm_standing.specs.Contents.{sectors_of}
 use Rattle.sm_standing.proofs.WorldLaws.{elsewhere}

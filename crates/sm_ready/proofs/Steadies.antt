@@ -1,24 +1,22 @@
 -- What an image that is steady says, whatever a stop may leave of its volume.
-use Rattle.std.proofs.Common.{◌≡◌, ◌⊎◌, inl, inr, ℕ, ◌+◌, ◌-◌, ◌*◌, ◌/◌, ◌<◌, ◌≤◌, Bool, true, false, cond, List, [], ◌∷◌, ◌++◌, length, map, Option, Some, None, refl, sym, ap, ap₂, ◌∙◌, subst, arith}
+use Rattle.std.proofs.Common.{◌≡◌, inl, inr, ℕ, ◌-◌, ◌/◌, ◌<◌, ◌≤◌, List, ◌++◌, Option, Some, None, ap₂, ◌∙◌, arith}
 use Rattle.std.proofs.lemmas.Bool.{cond-true}
 use Rattle.std.specs.Option.{option_or, option_map_or}
 use Rattle.std.specs.Result.{result_ok}
 use Rattle.std.specs.Prelude.{option_and_then}
 use Rattle.sm_base.specs.Numbers.{IsGeometry, first}
 use Rattle.sm_base.specs.declared.sizes.Geometry.{Geometry}
-use Rattle.sm_disk.specs.Held.{Held, Allows, May, reads}
-use Rattle.sm_disk.proofs.HeldLaws.{Allows-reads}
+use Rattle.sm_disk.specs.Held.{Held, Allows, reads}
 use Rattle.vhd_fields.specs.Footers.{footer_read}
 use Rattle.vhd_fields.specs.Headers.{header_read}
-use Rattle.vhd_map.specs.Slots.{slot_of}
 use Rattle.vhd_layout.specs.Contents.{content_at, size_at, parent_at}
-use Rattle.vhd_layout.specs.Images.{footer_at, header_at, IsValid, IsImage}
-use Rattle.vhd_layout.specs.Layouts.{Sectors, layout_of}
+use Rattle.vhd_layout.specs.Images.{footer_at, header_at}
+use Rattle.vhd_layout.specs.Layouts.{Sectors}
 use Rattle.vhd_layout.specs.Readings.{image_at, is_valid}
 use Rattle.vhd_layout.proofs.ImageLaws.{content-of_head}
 use Rattle.vhd_layout.proofs.ReadingLaws.{valid-decided}
 use Rattle.vhd_volumes.specs.declared.heads.Head.{Head}
-use Rattle.vhd_volumes.specs.Truth.{IsStanding, IsTrueIn, disk_sectors, disk_blocks, layout_in}
+use Rattle.vhd_volumes.specs.Truth.{IsStanding, disk_sectors, layout_in}
 use Rattle.vhd_volumes.specs.Steady.{IsHeadSector, IsSteadyIn}
 
 -- it is valid

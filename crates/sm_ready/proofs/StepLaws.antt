@@ -1,5 +1,5 @@
 -- What raw create leaves to the machine's law of a step, and that no record is a stray after it.
-use Rattle.std.proofs.Common.{◌≡◌, ◌⊎◌, inl, inr, ⊎_elim, ℕ, zero, suc, ◌+◌, ◌-◌, ◌*◌, ◌≤◌, ◌<◌, ◌^◌, ◌||◌, min, Bool, true, false, List, [], ◌∷◌, length, Option, Some, None, refl, sym, ap, ap₂, ◌∙◌, subst, arith}
+use Rattle.std.proofs.Common.{◌≡◌, ◌⊎◌, inl, inr, ⊎_elim, ℕ, zero, suc, ◌+◌, ◌-◌, ◌*◌, ◌^◌, ◌||◌, min, Bool, true, false, List, [], ◌∷◌, length, Option, Some, None, refl, sym, ap, ap₂, ◌∙◌, subst, arith}
 use Rattle.std.proofs.Math.ListN.{set}
 use Rattle.std.proofs.Math.Logic.{∥∥₁_map}
 use Rattle.std.proofs.lemmas.Option.{same_Some}
@@ -20,11 +20,9 @@ use Rattle.sm_machine.specs.declared.commands.Command.TheVariants.{Create}
 use Rattle.sm_machine.proofs.Steps.{whole_keeps_shape}
 use Rattle.sm_record.specs.declared.records.Record.{Record}
 use Rattle.sm_ready.specs.Known.{Known, machine_row, machine_record, shape_in, is_shown}
-use Rattle.vhd_chain.specs.declared.rows.TreeRow.{TreeRow}
 use Rattle.sm_ready.specs.Orderly.{IsOrderly}
 use Rattle.sm_ready.specs.Ready.{HasNoStray}
 use Rattle.sm_ready.proofs.LastLaws.{made_row, made_memory, after, shown_with}
-use Rattle.sm_ready.specs.Middle.{with_place}
 use Rattle.vg_meta.specs.declared.changes.Change.TheVariants as change
 
 created_shape : (σ : State) (u : List ℕ) (bytes : ℕ) (label : List ℕ) → refusal σ.shape (Create u bytes true label) ≡ None

@@ -1,10 +1,8 @@
 -- How many images there are, and how many extents they have, by the table and by memory.
-use Rattle.std.proofs.Common.{◌≡◌, ◌≢◌, ◌⊎◌, inl, inr, suc, ℕ, ◌+◌, ◌-◌, ◌≤◌, ◌<◌, Bool, true, false, cond, nat_lt, List, [], ◌∷◌, ◌++◌, length, map, filter, Option, Some, None, refl, sym, ap, ap₂, ◌∙◌, subst, arith, length-append}
+use Rattle.std.proofs.Common.{◌≡◌, ◌≢◌, suc, ℕ, ◌+◌, ◌<◌, Bool, true, false, cond, nat_lt, List, [], ◌∷◌, length, map, filter, Option, Some, None, refl, sym, ap, ap₂, ◌∙◌, subst, arith, length-append}
 use Rattle.std.proofs.Math.Logic.{∥∥₁_elim}
 use Rattle.std.proofs.Props.{props}
-use Rattle.std.specs.List.{AllByRecursion, filter_map, cons_option, flat_map, sum}
-use Rattle.std.specs.Cmp.{IsTotalOrder}
-use Rattle.std.specs.declared.cmp.Ordering.{Ordering}
+use Rattle.std.specs.List.{AllByRecursion, filter_map, cons_option, sum}
 use Rattle.std.specs.declared.cmp.Ordering.TheVariants.{Less}
 use Rattle.std.proofs.lemmas.Bool.{true≢false, lt-ltb}
 use Rattle.std.proofs.lemmas.List.Sums.{sum-map, sum_by-cons}
@@ -12,9 +10,9 @@ use Rattle.std.proofs.lemmas.Option.{none-some, same_Some}
 use Rattle.sm_base.specs.Kinds.{is_image}
 use Rattle.sm_base.specs.Names.{IsName, name_cmp}
 use Rattle.sm_base.specs.declared.names.Name.{Name}
-use Rattle.sm_base.specs.declared.names.Name.TheVariants.{Mgt, Vhd, Raw, Old}
+use Rattle.sm_base.specs.declared.names.Name.TheVariants.{Mgt, Vhd, Raw}
 use Rattle.vg_layout.specs.Places.{record_extents}
-use Rattle.vg_meta.specs.Tables.{VolumeTable, Row, IsVolume, rows, used, extents_in, extents_of, free as free_of}
+use Rattle.vg_meta.specs.Tables.{VolumeTable, Row, IsVolume, used, extents_in, free as free_of}
 use Rattle.vg_meta.proofs.RowLaws.{row_of-name}
 use Rattle.vg_extents.proofs.CountLaws.{low, length-free}
 use Rattle.vg_volumes.specs.Sites.{Site}
@@ -31,7 +29,7 @@ use Rattle.vhd_chain.specs.declared.rows.TreeRow.{TreeRow}
 use Rattle.sm_ready.specs.Known.{Known, machine_row, shape_in}
 use Rattle.sm_ready.specs.Orderly.{IsOrderly}
 use Rattle.sm_ready.proofs.Orders.{rowed, named_row}
-use Rattle.sm_ready.proofs.ShapeLaws.{HasNoNew, row_cmp, image_cmp, rising_rows, image_total, rising_images, sum_mgt, no_extents, mgt_image, no_old}
+use Rattle.sm_ready.proofs.ShapeLaws.{HasNoNew, row_cmp, image_cmp, rising_rows, image_total, rising_images, sum_mgt, no_extents}
 use Rattle.sm_ready.proofs.RowLaws.{tree_found, found_in, volume_there, image_named, All-In}
 
 -- an image's row with nothing but its name and its number of extents

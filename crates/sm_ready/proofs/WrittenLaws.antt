@@ -1,17 +1,10 @@
 -- A guest's write, at every moment: the disks are those from after it, but sectors that they might have had before.
-use Rattle.std.proofs.Common.{◌≡◌, ◌≢◌, ◌⊎◌, inl, inr, ⊎_elim, ℕ, zero, suc, ◌+◌, ◌*◌, ◌<◌, ◌≤◌, nat_lt, Bool, true, false, cond, List, [], ◌∷◌, length, map, option_map, Option, Some, None, refl, sym, ap, ap₂, ◌∙◌, subst, arith}
+use Rattle.std.proofs.Common.{◌≡◌, ◌≢◌, ◌⊎◌, inl, inr, ⊎_elim, ℕ, zero, suc, ◌+◌, ◌<◌, nat_lt, cond, List, [], length, map, option_map, Option, Some, None, refl, sym, ap, ap₂, ◌∙◌, subst, arith}
 use Rattle.std.specs.Prelude.{slice_get}
-use Rattle.std.proofs.Math.Path.{fun_ext}
-use Rattle.std.proofs.Math.Logic.{∥∥₁_elim}
-use Rattle.std.proofs.Props.{props}
-use Rattle.std.proofs.lemmas.Bool.{true≢false, cond-true, lt-ltb}
 use Rattle.std.proofs.lemmas.Option.{none-some, same_Some, slice_get-map, slice_get_within}
 use Rattle.std.proofs.lemmas.List.{length-map}
 use Rattle.sm_base.specs.declared.names.Name.{Name}
-use Rattle.sm_base.specs.declared.names.Name.TheVariants.{Mgt, Vhd, Raw, Old, Clone, Inflate, Coalesce, Relink, Leaf}
-use Rattle.sm_disk.specs.Held.{Held, Allows}
 use Rattle.sm_disk.specs.Sectors.{zeros}
-use Rattle.vg_meta.specs.Tables.{VolumeTable}
 use Rattle.sm_machine.specs.Disks.{Disk}
 use Rattle.common_laws.specs.Lists.{In, numbers, ◌>>=◌}
 use Rattle.sm_machine.specs.Runs.{face, HasSector}
@@ -21,12 +14,10 @@ use Rattle.sm_standing.specs.Contents.{Content, record_of}
 use Rattle.sm_standing.specs.Images.{Image, ImageAnswer, here, up, held_or, image_of, answer_of, walk, image_reads, sectors_read}
 use Rattle.sm_standing.specs.Standing.{standing_volume, disk_at, disk_in, disks}
 use Rattle.sm_standing.specs.Answering.{IsClosed}
-use Rattle.sm_standing.proofs.DiskLists.{DiskParts, disk_parts, disks_at, at_disks}
-use Rattle.sm_standing.proofs.WalkLaws.{walk_same, SendsUp, turn-up, turn-within}
+use Rattle.sm_standing.proofs.DiskLists.{disk_parts, disks_at, at_disks}
+use Rattle.sm_standing.proofs.WalkLaws.{walk_same, turn-up, turn-within}
 use Rattle.sm_run.specs.Between.{IsAlready, HadSector}
-use Rattle.sm_standing.specs.Outlines.{Outline, Link, outline, link_of}
 use Rattle.sm_ready.specs.Written.{HasBytes}
-use Rattle.sm_ready.proofs.AlikeLaws.{faces_alike}
 
 -- ---- one sector of a disk
 

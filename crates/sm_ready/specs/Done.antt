@@ -1,8 +1,8 @@
 -- What a call of a step did, and what a commit leaves.
-use Rattle.std.specs.Prelude.{◌≡◌, ◌⊎◌, ℕ, Bool, true, false, List, [], map, IsTrue}
-use Rattle.sm_disk.specs.Held.{Held, IsSettled, Keeps, reads}
+use Rattle.std.specs.Prelude.{◌≡◌, ℕ, List, []}
+use Rattle.sm_disk.specs.Held.{Held, IsSettled, Keeps}
 use Rattle.vg_meta.specs.Tables.{VolumeTable}
-use Rattle.vg_volumes.specs.Commits.{IsBefore, IsEither}
+use Rattle.vg_volumes.specs.Commits.{IsEither}
 use Rattle.vg_volumes.specs.Sites.{Site, area_size}
 use Rattle.sm_machine.specs.Disks.{Disk}
 use Rattle.sm_standing.specs.Keeping.{IsKept}

@@ -1,5 +1,5 @@
 -- Between two commits: a volume is new, and a record was put for it.
-use Rattle.std.specs.Prelude.{◌≡◌, ◌⊎◌, ℕ, ◌<◌, false, List, Option, Some, None, slice_index_or}
+use Rattle.std.specs.Prelude.{◌≡◌, ◌⊎◌, ℕ, ◌<◌, false, List, Some, None, slice_index_or}
 use Rattle.std.specs.List.{slice_set}
 use Rattle.sm_disk.specs.Held.{Held, Keeps, May}
 use Rattle.vg_meta.specs.Tables.{VolumeTable}

@@ -1,5 +1,5 @@
 -- What holds of the table and of memory between two steps, told or not.
-use Rattle.std.specs.Prelude.{◌≡◌, ℕ, ◌*◌, ◌≤◌, max, Bool, true, false, List, length, Option, None, Some}
+use Rattle.std.specs.Prelude.{◌≡◌, ◌*◌, ◌≤◌, max, true, false, length}
 use Rattle.sm_base.specs.declared.names.Name.{Name}
 use Rattle.sm_base.specs.declared.names.Name.TheVariants.{Mgt}
 use Rattle.sm_base.specs.declared.operations.Op.{Op}

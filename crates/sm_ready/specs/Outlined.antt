@@ -1,9 +1,7 @@
 -- The outline of what stands in a store, read off memory alone.
-use Rattle.std.specs.Prelude.{ℕ, List, Option, None, Some, slice_index_or}
-use Rattle.sm_base.specs.declared.names.Name.{Name}
+use Rattle.std.specs.Prelude.{Option, None, Some, slice_index_or}
 use Rattle.vg_meta.specs.Tables.{VolumeTable}
 use Rattle.vg_volumes.specs.Sites.{Site}
-use Rattle.vhd_image.specs.declared.images.Body.{Body}
 use Rattle.vhd_image.specs.Bodies.{sector_count, parent_name}
 use Rattle.sm_ready.specs.Known.{Known}
 use Rattle.vhd_chain.specs.declared.rows.TreeRow.{TreeRow}

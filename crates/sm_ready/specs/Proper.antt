@@ -1,5 +1,5 @@
 -- That memory is orderly has one proof at most, so a session can carry it.
-use Rattle.std.specs.Prelude.{ℕ, List, Option}
+use Rattle.std.specs.Prelude.{ℕ}
 use Rattle.std.proofs.Props.{props}
 use Rattle.sm_base.specs.declared.sizes.Geometry.{Geometry}
 use Rattle.sm_base.specs.declared.operations.Op.{Op}

@@ -1,5 +1,6 @@
 -- What holds of a store and of what is in memory beside it, between two steps, and what a stop may show.
-use Rattle.std.specs.Prelude.{ℕ, ◌+◌, ◌≤◌, List, length}
+use Rattle.std.specs.Prelude.{◌≡◌, ℕ, ◌+◌, ◌≤◌, List, [], length}
+use Rattle.sm_base.specs.declared.operations.Op.TheVariants.{Idle}
 use Rattle.sm_disk.specs.Held.{Held}
 use Rattle.vg_meta.specs.Roomy.{RoomyTable, table_alone}
 use Rattle.vg_meta.specs.Tables.{VolumeTable}
@@ -49,3 +50,8 @@ HasRows k = row_limit ≤ length (table_alone k).volumes + k.spare
 -- the tree may come to have all images without memory for them
 abbrev pub HasTreeRoom : Memory → Type 0
 HasTreeRoom m = image_limit ≤ length m.tree.rows + m.tree.spare
+
+-- the collector does nothing, and nothing is attached
+pub record IsAtEase (m : Memory) : Type 0 where
+  pub idle : m.operation ≡ Idle
+  pub unattached : m.attached.disks ≡ []

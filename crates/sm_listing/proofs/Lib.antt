@@ -1,0 +1,3 @@
+mod PutLaws
+mod ShownLaws
+mod ListLaws

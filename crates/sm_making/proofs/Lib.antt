@@ -1,0 +1,9 @@
+mod FillLaws
+mod WriteLaws
+mod AcceptLaws
+mod CauseSteps
+mod MakeLaws
+mod EndLaws
+mod JoinLaws
+mod PrepareLaws
+mod CommandLaws

@@ -1,0 +1,77 @@
+//! Making a raw disk, by a command.
+
+ghost use Rattle.std.specs.Prelude.{◌≡◌, ◌≤◌, ℕ, List, true, false, IfOk, OnOk};
+ghost use Rattle.sm_disk.specs.Held.{Keeps};
+ghost use Rattle.vg_meta.specs.Roomy.{table_alone};
+ghost use Rattle.vg_meta.specs.Tables.{VolumeTable};
+ghost use Rattle.sm_machine.specs.declared.commands.Command.TheVariants.{Create};
+ghost use Rattle.sm_machine.specs.Runs.{is_accepted};
+ghost use Rattle.vg_volumes.specs.Stored.{OnlyReads, Counts, Leaves};
+ghost use Rattle.sm_ready.specs.Sessions.{IsAtEase, IsOrderlyStore, IsTidyStore, IsReadyStore, HasRows, HasTreeRoom};
+ghost use Rattle.sm_ready.specs.Taken.{StoreTakes};
+ghost use Rattle.sm_making.specs.Making.{IsOnLeast, HasFewCommits};
+ghost use Rattle.sm_making.specs.Refusing.{extents_for};
+
+use crate::making::make_raw;
+use crate::refusing::{extents_needed, refuse_create};
+use sm_base::{CallFault, Failed, Label, Refusal, SECTOR};
+use sm_machine::Reply;
+use sm_ready::Memory;
+use std::alloc::Global;
+use uuid::Uuid;
+use vg_extents::first_fit;
+use vg_volumes::Store;
+
+/// Makes a raw disk of at least so many bytes, or refuses to. A disk that is refused, or for which memory is wanting,
+/// writes nothing.
+///
+/// # Errors
+/// A call of the store failed; a stop leaves the disks from before, or these and the new one.
+pub fn create<S: Store>(
+    alloc: Global,
+    store: &mut S,
+    memory: &mut Memory,
+    disk: &Uuid,
+    size: u64,
+    label: &Label,
+) -> Result<Reply, Failed>
+    requires usable { S.failed store.old ≡ false }
+    requires orderly { IsOrderlyStore S.Store store.old memory.old }
+    requires tidy { IsTidyStore S.Store store.old memory.old }
+    requires at_ease { IsAtEase memory.old }
+    requires tree_room { HasTreeRoom memory.old }
+    ensures site { S.site store.new ≡ S.site store.old }
+    ensures counts { S.faults store.old ≤ S.faults store.new }
+    ensures cause { Counts S.Store result store.old store.new }
+    ensures beside { S.told → Keeps (S.beside store.old) (S.beside store.new) }
+    ensures few { HasFewCommits (table_alone (S.table store.old)) (table_alone (S.table store.new)) }
+    ensures few_left { Leaves S.Store store.new (λ t image. HasFewCommits (table_alone (S.table store.old)) t) }
+    ensures usable_still { OnOk result (S.failed store.new ≡ false) }
+    ensures orderly_still { OnOk result (IsOrderlyStore S.Store store.new memory.new) }
+    ensures tidy_still { OnOk result (IsTidyStore S.Store store.new memory.new) }
+    ensures at_ease_still { OnOk result (IsAtEase memory.new) }
+    ensures tree_room_still { OnOk result (HasTreeRoom memory.new) }
+    ensures room { HasRows (S.table store.old) → OnOk result (HasRows (S.table store.new)) }
+    ensures refused { IfOk result (λ r. is_accepted r ≡ false → (t : VolumeTable) (image : ℕ → List ℕ) → S.leaves store.new t image → S.leaves store.old t image) }
+    ensures untouched { IfOk result (λ r. is_accepted r ≡ false → OnlyReads S.Store store.old store.new × (memory.new ≡ memory.old)) }
+    ensures least { IfOk result (λ r. is_accepted r ≡ true
+        → IsOnLeast (S.site store.old) (table_alone (S.table store.old)) disk.now (extents_for (S.site store.old).geometry.extent size) (table_alone (S.table store.new))) }
+    ensures taken { S.told → IsReadyStore S.Store store.old memory.old
+        → StoreTakes S.Store (Create disk.now size true label.now) store.old memory.old store.new memory.new result }
+{
+    let geometry = store.geometry();
+    let extents = store.extents();
+    let refusal = refuse_create(store.table(), memory, &geometry, extents, disk, size);
+    if let Some(refusal) = refusal {
+        return Ok(Reply::No(refusal));
+    }
+    let need = extents_needed(&geometry, size);
+    let Ok(found) = first_fit(alloc, store.table(), extents, need as u32) else {
+        return Ok(Reply::No(Refusal::NoMemory));
+    };
+    match make_raw(alloc, store, memory, *disk, *label, found) {
+        Ok(()) => Ok(Reply::Size(need * u64::from(geometry.extent) * SECTOR)),
+        Err(CallFault::NoMemory) => Ok(Reply::No(Refusal::NoMemory)),
+        Err(CallFault::Device) => Err(Failed),
+    }
+}

@@ -1,0 +1,13 @@
+pub mod CheckLaws
+pub mod DiskLaws
+pub mod RemovalLaws
+pub mod CleanLaws
+pub mod OpenedLaws
+pub mod FitLaws
+pub mod WipeLaws
+pub mod RoomLaws
+pub mod RestLaws
+pub mod OpeningLaws
+pub mod NumberLaws
+pub mod LoadedLaws
+pub mod OpenedWell

@@ -1,0 +1,116 @@
+-- Records of no disk are wiped, place by place.
+use Rattle.std.proofs.Common.{◌≡◌, ◌≢◌, ℕ, zero, suc, ◌+◌, ◌-◌, ◌<◌, ◌≤◌, ◌⊎◌, inl, inr, ⊎_elim, List, [], ◌∷◌, length, set, Option, Some, None, refl, sym, ap, ◌∙◌, subst, arith}
+use Rattle.std.specs.List.{slice_get}
+use Rattle.std.proofs.lemmas.Bool.{cases_lt}
+use Rattle.std.proofs.lemmas.Grind.{get_or-set_at}
+use Rattle.std.proofs.lemmas.List.{length-set}
+use Rattle.std.proofs.lemmas.Option.{slice_get_within, get_or_from_slice_get}
+use Rattle.sm_disk.specs.Held.{Held, Torn, Wrote, Puts}
+use Rattle.sm_disk.specs.Sectors.{sector, zeros}
+use Rattle.sm_disk.proofs.HeldLaws.{in_one, may-torn}
+use Rattle.sm_disk.proofs.SectorLaws.{sector-one, IsSector-zeros}
+use Rattle.vg_meta.specs.Tables.{VolumeTable}
+use Rattle.sm_record.specs.declared.records.Record.{Record}
+use Rattle.sm_mgt.specs.Places.{Agrees, place_count}
+use Rattle.sm_mgt.proofs.AgreeLaws.{agrees_wipe}
+use Rattle.sm_opening.specs.Repairs.{IsRightAt, IsStrayAt, IsWithoutStrays, IsZeroedAt}
+
+-- ---- one place
+
+put_at : (t : VolumeTable) (places : List (Option Record)) (place : ℕ) → IsStrayAt t places place → (p : ℕ) (v : List ℕ) → Puts place zeros p v → (v ≡ zeros) × IsStrayAt t places p
+put_at t places place stray p v (here, is) =
+    let at : p ≡ place = in_one place (length zeros) p IsSector-zeros.long here in
+    let first : p - place ≡ 0 = omega arith in
+    (is ∙ ap (sector zeros) first ∙ sector-one zeros IsSector-zeros.long, subst (IsStrayAt t places) (sym at) stray)
+
+-- zeros were to be written over a stray record
+pub zeroed_one : (t : VolumeTable) (places : List (Option Record)) (place : ℕ) → IsStrayAt t places place → (old new : Held) → Torn place zeros old new → IsZeroedAt (IsStrayAt t places) old new
+zeroed_one t places place stray old new torn p v may = ⊎_elim (λ was. inl was) (λ puts. inr (put_at t places place stray p v puts)) (may-torn torn p v may)
+
+pub agrees_after : (places after : List (Option Record)) (place : ℕ) (old new : Held) → place < place_count → after ≡ set places place None → Wrote place zeros old new
+    → Agrees old places → Agrees new after
+agrees_after places after place old new below is wrote was = subst (Agrees new) (sym is) (agrees_wipe places place old new (omega (arith, below, was.long)) wrote was)
+
+-- a place that was freed has no record
+pub freed_right : (t : VolumeTable) (places after : List (Option Record)) (place : ℕ) → after ≡ set places place None → IsRightAt t after place
+freed_right t places after place is r at =
+    let there : slice_get (set places place None) place ≡ Some (Some r) = subst (λ (xs : List (Option Record)). slice_get xs place ≡ Some (Some r)) is at in
+    let within : place < length places = omega (arith, slice_get_within (set places place None) place (Some r) there, length-set places place None) in
+    let none : None ≡ Some r = sym (get_or-set_at places place place None None refl within) ∙ get_or_from_slice_get (set places place None) place (Some r) None there in
+    absurd (let e = none in cc)
+
+set_other : {A : Type 0} (xs : List A) (k j : ℕ) (x : A) → j ≢ k → slice_get (set xs k x) j ≡ slice_get xs j
+set_other [] zero j x other = refl
+set_other [] (suc k) j x other = refl
+set_other (y ∷ xs) zero zero x other = absurd (other refl)
+set_other (y ∷ xs) zero (suc j) x other = refl
+set_other (y ∷ xs) (suc k) zero x other = refl
+set_other (y ∷ xs) (suc k) (suc j) x other = set_other xs k j x (λ e. other (ap suc e))
+
+pub freed_others : (places after : List (Option Record)) (place : ℕ) → after ≡ set places place None → (k : ℕ) → k ≢ place → slice_get after k ≡ slice_get places k
+freed_others places after place is k other = ap (λ (xs : List (Option Record)). slice_get xs k) is ∙ set_other places place k None other
+
+-- ---- each place is as it was, or was freed
+
+set_here : {A : Type 0} (xs : List A) (k : ℕ) (x : A) → k < length xs → slice_get (set xs k x) k ≡ Some x
+set_here [] k x below = absurd (omega (arith, below))
+set_here (y ∷ xs) zero x below = refl
+set_here (y ∷ xs) (suc k) x below = set_here xs k x (omega (arith, below))
+
+same_or_not : (k place : ℕ) → (k ≡ place) ⊎ (k ≢ place)
+same_or_not k place = ⊎_elim (λ below. inr (λ e. omega (arith, below, e))) (λ up. ⊎_elim (λ past. inr (λ e. omega (arith, past, e))) (λ at. inl (omega (arith, up, at))) (cases_lt place k)) (cases_lt k place)
+
+pub freed_none : (t : VolumeTable) (places : List (Option Record)) → IsWithoutStrays t places places
+freed_none t places = record { long = refl; each = λ k. inl refl }
+
+pub freed_one : (t : VolumeTable) (places after : List (Option Record)) (place : ℕ) → after ≡ set places place None → IsStrayAt t places place → IsWithoutStrays t places after
+freed_one t places after place is stray = record {
+  long = ap length is ∙ length-set places place None;
+  each = λ k. ⊎_elim
+      (λ same. inr (subst (λ j. (slice_get after j ≡ Some None) × IsStrayAt t places j) (sym same)
+      (ap (λ (xs : List (Option Record)). slice_get xs place) is ∙ set_here places place None (slice_get_within places place (Some stray.0) stray.1), stray)))
+      (λ other. inl (freed_others places after place is k other)) (same_or_not k place);
+}
+
+freed_twice : (t : VolumeTable) (a b d : List (Option Record)) (k : ℕ) → (slice_get b k ≡ slice_get a k) ⊎ ((slice_get b k ≡ Some None) × IsStrayAt t a k)
+    → (slice_get d k ≡ slice_get b k) ⊎ ((slice_get d k ≡ Some None) × IsStrayAt t b k) → (slice_get d k ≡ slice_get a k) ⊎ ((slice_get d k ≡ Some None) × IsStrayAt t a k)
+freed_twice t a b d k (inl same) (inl also) = inl (also ∙ same)
+freed_twice t a b d k (inr w) (inl also) = inr (also ∙ w.0, w.1)
+freed_twice t a b d k (inl same) (inr (free, (r, at, stray))) = inr (free, (r, sym same ∙ at, stray))
+freed_twice t a b d k (inr w) (inr (free, v)) = inr (free, w.1)
+
+pub freed_then : {t u : VolumeTable} (a b d : List (Option Record)) → u ≡ t → IsWithoutStrays t a b → IsWithoutStrays u b d → IsWithoutStrays t a d
+freed_then {t} {u} a b d table first second =
+    let also = subst (λ x. IsWithoutStrays x b d) table second in
+    record { long = also.long ∙ first.long; each = λ k. freed_twice t a b d k (first.each k) (also.each k) }
+
+-- ---- one place after another
+
+-- what is known of memory so far: no stray record below, and what was there from here on
+pub record IsSoFar (t : VolumeTable) (first now : List (Option Record)) (place : ℕ) : Type 0 where
+  pub right : (k : ℕ) → k < place → IsRightAt t now k
+  pub others : (k : ℕ) → place ≤ k → slice_get now k ≡ slice_get first k
+
+was_stray : (t : VolumeTable) (first now : List (Option Record)) (place p : ℕ) → IsSoFar t first now place → (p < place) ⊎ (place ≤ p) → IsStrayAt t now p → IsStrayAt t first p
+was_stray t first now place p far (inl before) (r, at, stray) = absurd (let e = far.right p before r at in cc)
+was_stray t first now place p far (inr behind) (r, at, stray) = (r, sym (far.others p behind) ∙ at, stray)
+
+pub zeroed_step : {t0 t : VolumeTable} (first now : List (Option Record)) (place : ℕ) → t ≡ t0 → IsSoFar t0 first now place → (a b d : Held)
+    → IsZeroedAt (IsStrayAt t0 first) a b → IsZeroedAt (IsStrayAt t now) b d → IsZeroedAt (IsStrayAt t0 first) a d
+zeroed_step {t0} {t} first now place table far a b d before after p v may =
+    ⊎_elim (λ mid. before p v mid) (λ w. inr (w.0, was_stray t0 first now place p far (cases_lt p place) (subst (λ x. IsStrayAt x now p) table w.1))) (after p v may)
+
+right_more : (t : VolumeTable) (first now after : List (Option Record)) (place : ℕ) → IsSoFar t first now place → IsRightAt t after place
+    → ((k : ℕ) → k ≢ place → slice_get after k ≡ slice_get now k) → (k : ℕ) → (k < place) ⊎ (place ≤ k) → k < place + 1 → IsRightAt t after k
+right_more t first now after place far here same k (inl before) below = λ r at. far.right k before r (sym (same k (λ e. omega (arith, e))) ∙ at)
+right_more t first now after place far here same k (inr behind) below = let e : place ≡ k = omega arith in subst (IsRightAt t after) e here
+
+pub so_far_more : {t0 t : VolumeTable} (first now after : List (Option Record)) (place : ℕ) → t ≡ t0 → IsSoFar t0 first now place → IsRightAt t after place
+    → ((k : ℕ) → k ≢ place → slice_get after k ≡ slice_get now k) → IsSoFar t0 first after (place + 1)
+so_far_more {t0} {t} first now after place table far here same = record {
+  right = λ k below. right_more t0 first now after place far (subst (λ x. IsRightAt x after place) table here) same k (cases_lt k place) below;
+  others = λ k behind. same k (λ e. omega (arith, e)) ∙ far.others k (omega arith);
+}
+
+pub so_far_none : (t : VolumeTable) (places : List (Option Record)) → IsSoFar t places places 0
+so_far_none t places = record { right = λ k below. absurd (omega arith); others = λ k behind. refl }

@@ -1,0 +1,19 @@
+use Rattle.std.proofs.Common.{◌≡◌, None, Some, sym, ◌∙◌, ap, rules}
+use Rattle.std.specs.List.{find}
+use Rattle.sm_base.specs.declared.faults.Place.TheVariants as at
+use Rattle.vg_meta.specs.Roomy.{RoomyRow}
+use Rattle.sm_opening.specs.Faults.{is_sized_wrong}
+use Rattle.sm_opening.proofs.CheckLaws.{sized_at}
+use Rattle.sm_opening.proofs.checks.size_fault.Goals as goal
+
+pub returns-in_err-volume : goal.returns-in_err-volume
+returns-in_err-volume c = λ seen is plain.
+    let none : c.from_residual.result ≡ None = search rules in
+    none ∙ sym (sized_at seen c.args.geometry.now c.args.table.now None is plain
+    (c.in_err-volume.ensures ∙ ap (find (λ (h : RoomyRow). is_sized_wrong c.args.geometry.now h.row)) c.volumes.ensures.volumes))
+
+pub returns : goal.returns
+returns c = λ seen is plain.
+    sym (sized_at seen c.args.geometry.now c.args.table.now (Some c.in_ok-volume.volume.now) is plain
+    (c.in_ok-volume.ensures ∙ ap (find (λ (h : RoomyRow). is_sized_wrong c.args.geometry.now h.row)) c.volumes.ensures.volumes)
+    ∙ ap (λ n. Some (at.Image n)) (sym c.name.ensures.name))

@@ -1,0 +1,75 @@
+use Rattle.std.proofs.Common.{sym, ◌∙◌, subst, subst₂}
+use Rattle.sm_disk.proofs.HeldLaws.{Keeps-then}
+use Rattle.vg_meta.specs.Roomy.{table_alone}
+use Rattle.sm_ready.specs.Known.{known}
+use Rattle.sm_ready.specs.Orderly.{IsOrderly}
+use Rattle.sm_ready.specs.Stores.{content_in, store_content}
+use Rattle.sm_ready.proofs.StrayLaws.{orderly_freed, with_places}
+use Rattle.sm_opening.specs.Cleaned.{HasFewRemovals}
+use Rattle.sm_opening.specs.Repairs.{IsSame}
+use Rattle.sm_opening.proofs.RemovalLaws.{none_at}
+use Rattle.sm_opening.proofs.RestLaws.{again_then, freed_from, right_as, stop_then, tidy_freed}
+use Rattle.sm_opening.proofs.RoomLaws.{rows_same}
+use Rattle.sm_opening.proofs.settling.repair.Goals as goal
+
+pub returns-in_err-remove_new-clause-crash : goal.returns-in_err-remove_new-clause-crash
+returns-in_err-remove_new-clause-crash g c = λ told t image leaves r. c.remove_new.ensures.crash (known c.args.memory.now) told t image leaves r
+
+pub returns-in_err-tidy_records-clause-beside : goal.returns-in_err-tidy_records-clause-beside
+returns-in_err-tidy_records-clause-beside g c = λ told. Keeps-then (c.remove_new.ensures.beside told) (c.tidy_records.ensures.stays.beside told)
+
+pub returns-in_err-tidy_records-clause-few : goal.returns-in_err-tidy_records-clause-few
+returns-in_err-tidy_records-clause-few g c = subst (HasFewRemovals (table_alone (g.S.Store.table c.args.store.now))) (sym c.tidy_records.ensures.stays.table) c.remove_new.ensures.few
+
+pub returns-in_err-tidy_records-clause-few_left : goal.returns-in_err-tidy_records-clause-few_left
+returns-in_err-tidy_records-clause-few_left g c = λ told t image leaves.
+    let stays = c.tidy_records.ensures.stays in
+    let stop = g.met.S.Store.leaves_now c.tidy_records.new.store told (stays.failed ∙ c.in_ok-remove_new.ensures.usable_still) t image leaves in
+    subst (HasFewRemovals (table_alone (g.S.Store.table c.args.store.now))) (sym (stop.table_is ∙ stays.table)) c.remove_new.ensures.few
+
+pub returns-in_err-tidy_records-clause-crash : goal.returns-in_err-tidy_records-clause-crash
+returns-in_err-tidy_records-clause-crash g c = λ told t image leaves r.
+    let m = known c.args.memory.now in
+    subst (λ s. IsSame (store_content g.S.Store c.args.store.now) (content_in s t image)) c.remove_new.ensures.site
+    (stop_then (c.in_ok-remove_new.ensures.rest told m) r (c.tidy_records.ensures.crash m told t image leaves))
+
+pub returns-clause-beside : goal.returns-clause-beside
+returns-clause-beside g c = λ told. Keeps-then (c.remove_new.ensures.beside told) (c.tidy_records.ensures.stays.beside told)
+
+pub returns-clause-room : goal.returns-clause-room
+returns-clause-room g c = λ had. rows_same _ _ c.tidy_records.ensures.stays.table c.tidy_records.ensures.stays.room (c.in_ok-remove_new.ensures.room had)
+
+pub returns-clause-cleaned : goal.returns-clause-cleaned
+returns-clause-cleaned g c = c.tidy_records.ensures.stays.table ∙ c.in_ok-remove_new.ensures.cleaned
+
+pub returns-clause-few : goal.returns-clause-few
+returns-clause-few g c = subst (HasFewRemovals (table_alone (g.S.Store.table c.args.store.now))) (sym c.tidy_records.ensures.stays.table) c.remove_new.ensures.few
+
+pub returns-clause-few_left : goal.returns-clause-few_left
+returns-clause-few_left g c = λ told t image leaves.
+    let stays = c.tidy_records.ensures.stays in
+    let stop = g.met.S.Store.leaves_now c.tidy_records.new.store told (stays.failed ∙ c.in_ok-remove_new.ensures.usable_still) t image leaves in
+    subst (HasFewRemovals (table_alone (g.S.Store.table c.args.store.now))) (sym (stop.table_is ∙ stays.table)) c.remove_new.ensures.few
+
+pub returns-clause-orderly : goal.returns-clause-orderly
+returns-clause-orderly g c =
+    let stays = c.tidy_records.ensures.stays in
+    let o = c.in_ok-remove_new.ensures.orderly (known c.args.memory.now) c.requires.orderly in
+    subst₂ (λ s t. IsOrderly s t (with_places c.tidy_records.new.mgt (known c.args.memory.now))) (sym stays.site) (sym stays.table)
+    (orderly_freed _ _ (known c.args.memory.now) c.tidy_records.new.mgt o (freed_from c.tidy_records.new.mgt o c.in_ok-tidy_records.ensures.freed))
+
+pub returns-clause-tidy : goal.returns-clause-tidy
+returns-clause-tidy g c =
+    let table = c.tidy_records.ensures.stays.table in
+    tidy_freed _ _ _ (returns-clause-orderly g c) (none_at (sym table) c.in_ok-remove_new.ensures.none_new) (right_as c.tidy_records.new.mgt table c.in_ok-tidy_records.ensures.right)
+
+pub returns-clause-rest : goal.returns-clause-rest
+returns-clause-rest g c = λ told.
+    let m = known c.args.memory.now in
+    again_then (c.in_ok-remove_new.ensures.rest told m) (c.in_ok-tidy_records.ensures.rest told m)
+
+pub returns-clause-crash : goal.returns-clause-crash
+returns-clause-crash g c = λ told t image leaves r.
+    let m = known c.args.memory.now in
+    subst (λ s. IsSame (store_content g.S.Store c.args.store.now) (content_in s t image)) c.remove_new.ensures.site
+    (stop_then (c.in_ok-remove_new.ensures.rest told m) r (c.tidy_records.ensures.crash m told t image leaves))

@@ -1,0 +1,41 @@
+use Rattle.std.proofs.Common.{◌∙◌}
+use Rattle.vg_volumes.proofs.StoredLaws.{stays_from, stays_then}
+use Rattle.sm_opening.proofs.OpeningLaws.{records_fit}
+use Rattle.sm_opening.proofs.RestLaws.{again_wiped, stop_wiped}
+use Rattle.sm_opening.proofs.settling.tidy_records.Goals as goal
+
+pub wipe_strays-requires-clause-size : goal.wipe_strays-requires-clause-size
+wipe_strays-requires-clause-size g c = records_fit c.requires.checked
+
+pub returns-in_err-wipe_strays-clause-crash : goal.returns-in_err-wipe_strays-clause-crash
+returns-in_err-wipe_strays-clause-crash g c = λ m told t image leaves.
+    let w = c.wipe_strays.ensures.writes in
+    stop_wiped (record m { places = c.args.mgt.now }) w told (g.met.S.Store.leaves_now c.wipe_strays.new.store told (w.stays.failed ∙ c.requires.usable) t image leaves)
+
+pub returns-in_err-sync-clause-stays : goal.returns-in_err-sync-clause-stays
+returns-in_err-sync-clause-stays g c =
+    let e = c.sync.ensures in
+    stays_then c.wipe_strays.ensures.writes.stays (stays_from {g = g.S.Store} e.site e.table e.no_less e.counts e.beside)
+
+pub returns-in_err-sync-clause-crash : goal.returns-in_err-sync-clause-crash
+returns-in_err-sync-clause-crash g c = λ m told t image leaves.
+    let w = c.wipe_strays.ensures.writes in
+    stop_wiped (record m { places = c.args.mgt.now }) w told
+    (g.met.S.Store.leaves_now c.wipe_strays.new.store told (w.stays.failed ∙ c.requires.usable) t image (c.sync.ensures.leaves told t image leaves))
+
+pub returns-clause-stays : goal.returns-clause-stays
+returns-clause-stays g c =
+    let e = c.sync.ensures in
+    stays_then c.wipe_strays.ensures.writes.stays (stays_from {g = g.S.Store} e.site e.table e.no_less e.counts e.beside)
+
+pub returns-clause-rest : goal.returns-clause-rest
+returns-clause-rest g c = λ told m.
+    let e = c.sync.ensures in
+    again_wiped (record m { places = c.args.mgt.now }) c.wipe_strays.new.mgt c.wipe_strays.ensures.writes (stays_from {g = g.S.Store} e.site e.table e.no_less e.counts e.beside) told (e.keeps told)
+    (c.in_ok-sync.ensures.settled told) c.in_ok-wipe_strays.ensures.freed (c.in_ok-wipe_strays.ensures.agrees told)
+
+pub returns-clause-crash : goal.returns-clause-crash
+returns-clause-crash g c = λ m told t image leaves.
+    let w = c.wipe_strays.ensures.writes in
+    stop_wiped (record m { places = c.args.mgt.now }) w told
+    (g.met.S.Store.leaves_now c.wipe_strays.new.store told (w.stays.failed ∙ c.requires.usable) t image (c.sync.ensures.leaves told t image leaves))

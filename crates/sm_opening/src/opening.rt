@@ -1,0 +1,91 @@
+//! All checks, one after another, and then the memory of a session: the images that stand, and room for all that may come.
+//! Nothing is written.
+
+ghost use Rattle.std.specs.Prelude.{◌≡◌, None, OnOk, IfOk, IfErr, length};
+ghost use Rattle.sm_disk.specs.Held.{IsSettled};
+ghost use Rattle.sm_mgt.specs.Places.{Agrees, place_count, records_of};
+ghost use Rattle.sm_standing.specs.Checks.{first_fault_today};
+ghost use Rattle.vg_volumes.specs.Stored.{OnlyReads};
+ghost use Rattle.sm_opening.specs.Repairs.{IsCheckedStore, IsOpeningStopped};
+ghost use Rattle.sm_ready.specs.Sessions.{IsAtEase, HasRows, HasTreeRoom, IsOrderlyStore, IsReadyStore};
+ghost use Rattle.sm_ready.specs.Stores.{store_content};
+ghost use Rattle.sm_standing.specs.Checks.{fault_today_of};
+ghost use Rattle.sm_standing.specs.Outlines.{Outline};
+ghost use Rattle.sm_opening.specs.Faults.{HasPlaces, HasTable};
+ghost use Rattle.vg_meta.specs.Roomy.{table_alone};
+
+use crate::checks::table_fault;
+use crate::disks::disk_fault;
+use crate::loading::load;
+use sm_base::{IMAGE_LIMIT, NoMemory, Op, OpenFault};
+use sm_mgt::Mgt;
+use sm_ready::Memory;
+use sm_refs::Attachments;
+use std::alloc::Global;
+use vg_volumes::Store;
+
+/// The most rows that a table may come to have: those of 500 images, of the volume of records, and of 4 journal entries.
+const MOST_ROWS: usize = 505;
+
+/// Checks what stands in a store, takes the memory for all rows that its table and its tree may come to have, and answers
+/// what a session keeps in memory. New volumes are no rows of the tree, and records of no disk are in their places.
+pub fn checked_with_room<S: Store>(alloc: Global, store: &mut S) -> Result<Memory, OpenFault>
+    ensures reads { OnlyReads S.Store store.old store.new }
+    ensures checked { OnOk result (IsCheckedStore S.Store store.old) }
+    ensures sound { OnOk result (S.told → first_fault_today (store_content S.Store store.old) ≡ None) }
+    ensures orderly { IfOk result (λ m. IsOrderlyStore S.Store store.old m) }
+    ensures ready { IfOk result (λ m. S.told → IsSettled (S.area store.old) → IsReadyStore S.Store store.old m) }
+    ensures at_ease { IfOk result IsAtEase }
+    ensures tree_room { IfOk result HasTreeRoom }
+    ensures cause { IfErr result (IsOpeningStopped S.told (store_content S.Store store.old) (S.faults store.old) (S.faults store.new)) }
+    ensures room { OnOk result (HasRows (S.table store.new)) }
+{
+    let records = checked(alloc, store)?;
+    let Ok(()) = make_room(store) else {
+        return Err(OpenFault::NoMemory);
+    };
+    let Ok(tree) = load(alloc, store) else {
+        return Err(OpenFault::NoMemory);
+    };
+    let Ok(attached) = Attachments::new(alloc, IMAGE_LIMIT) else {
+        return Err(OpenFault::NoMemory);
+    };
+    Ok(Memory {
+        tree,
+        records,
+        attached,
+        operation: Op::Idle,
+    })
+}
+
+/// Checks what stands in a store, and answers the places of the records.
+fn checked<S: Store>(alloc: Global, store: &mut S) -> Result<Mgt, OpenFault>
+    ensures reads { OnlyReads S.Store store.old store.new }
+    ensures checked { OnOk result (IsCheckedStore S.Store store.old) }
+    ensures sound { OnOk result (S.told → first_fault_today (store_content S.Store store.old) ≡ None) }
+    ensures agrees { S.told → IfOk result (Agrees (records_of S.Store store.old)) }
+    ensures passed { IfOk result (λ places. (x : Outline) → HasTable (S.site store.old).geometry (table_alone (S.table store.old)) x → HasPlaces places x → fault_today_of x ≡ None) }
+    ensures long { IfOk result (λ places. length places ≡ place_count) }
+    ensures cause { IfErr result (IsOpeningStopped S.told (store_content S.Store store.old) (S.faults store.old) (S.faults store.new)) }
+{
+    let geometry = store.geometry();
+    let _extents = store.extents();
+    if let Some(place) = table_fault(store.table(), &geometry) {
+        return Err(OpenFault::Damaged { place });
+    }
+    let mgt = Mgt::load(alloc, store)?;
+    if let Some(place) = disk_fault(store.table(), &mgt) {
+        return Err(OpenFault::Damaged { place });
+    }
+    Ok(mgt)
+}
+
+/// Makes room for all rows that the table may come to have. What stands counts, so that no later row takes memory.
+fn make_room<S: Store>(store: &mut S) -> Result<(), NoMemory>
+    ensures reads { OnlyReads S.Store store.old store.new }
+    ensures room { OnOk result (HasRows (S.table store.new)) }
+{
+    let rows = store.table().volumes().len();
+    store.reserve_rows(MOST_ROWS.saturating_sub(rows))?;
+    Ok(())
+}

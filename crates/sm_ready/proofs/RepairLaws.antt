@@ -1,0 +1,94 @@
+-- The repairs of an opening, step by step, for images of any kind: whatever a stop leaves is kept and shows the disks from
+-- before, and memory is ready again behind each step.
+use Rattle.std.proofs.Common.{◌≡◌, inl, ℕ, ◌*◌, nat_lt, Bool, true, false, cond, List, [], Option, refl, sym, ap, ◌∙◌, subst}
+use Rattle.std.proofs.Math.Path.{fun_ext}
+use Rattle.sm_base.specs.declared.names.Name.{Name}
+use Rattle.sm_base.specs.declared.names.Name.TheVariants.{Mgt}
+use Rattle.sm_base.specs.declared.operations.Op.TheVariants as op
+use Rattle.sm_disk.specs.Held.{Held, IsSettled, Keeps, reads}
+use Rattle.sm_disk.proofs.HeldLaws.{Keeps-then}
+use Rattle.vg_meta.specs.Changes.{applied}
+use Rattle.vg_meta.specs.Tables.{VolumeTable, Row, rows, extents_of}
+use Rattle.vg_meta.specs.declared.changes.Change.TheVariants.{Remove}
+use Rattle.vg_volumes.specs.Commits.{IsAfter}
+use Rattle.vg_volumes.specs.Sites.{Site, area_size, volume_of}
+use Rattle.vg_volumes.specs.Volumes.{span, spot, volume}
+use Rattle.vg_volumes.proofs.VolumeLaws.{Keeps-volume}
+use Rattle.sm_record.specs.declared.records.Record.{Record}
+use Rattle.sm_mgt.specs.Places.{Agrees, records_held}
+use Rattle.sm_standing.specs.Contents.{Content}
+use Rattle.sm_standing.specs.Keeping.{IsKept}
+use Rattle.sm_standing.specs.Standing.{disks}
+use Rattle.vhd_chain.specs.Trees.{row_name}
+use Rattle.vhd_volumes.specs.Steady.{IsQuiet}
+use Rattle.vhd_volumes.proofs.SteadyLaws.{quiet_settled}
+use Rattle.sm_ready.specs.Done.{at_rest}
+use Rattle.sm_ready.specs.Known.{Known}
+use Rattle.sm_ready.specs.Orderly.{IsOrderly}
+use Rattle.sm_ready.specs.Ready.{IsReady, IsBelow}
+use Rattle.sm_ready.specs.Stores.{content_in, content_now}
+use Rattle.sm_ready.proofs.CommitLaws.{law_settled, rested}
+use Rattle.sm_ready.proofs.GoneLaws.{IsBeside, orderly_gone, ready_gone, disks_gone}
+use Rattle.sm_ready.proofs.KeptLaws.{law_kept}
+use Rattle.sm_ready.proofs.LeftLaws.{IsLeft, left_in, left_now, ready_places}
+use Rattle.sm_ready.proofs.RestLaws.{steady_keeps}
+use Rattle.sm_ready.proofs.StrayLaws.{IsSwept, swept_disks, with_places}
+
+volume_settled : (extent : ℕ) (es : List ℕ) (area : Held) → IsSettled area → IsSettled (volume extent es area)
+unfolding volume
+volume_settled extent es area settled p = by (nat_lt p (span extent es))
+  where
+    by : (b : Bool) → cond b (area.pending (spot extent es p)) [] ≡ []
+    by true = settled (spot extent es p)
+    by false = refl
+
+-- where nothing is pending, nothing is in any volume
+pub all_quiet : (s : Site) (t : VolumeTable) (area : Held) → IsSettled area → (n : Name) → IsQuiet (volume_of s t area n)
+all_quiet s t area settled n = quiet_settled (volume_of s t area n) (volume_settled s.geometry.extent (extents_of (rows t n)) area settled)
+
+-- it is kept, and shows these disks
+abbrev pub IsSame : Content → Content → Type 0
+IsSame was c = IsKept c × (disks c ≡ disks was)
+
+-- what a stop leaves of a ready store in which nothing is pending
+pub same_left : (s : Site) (t : VolumeTable) (area : Held) (m : Known) (image : ℕ → List ℕ) → IsOrderly s t m → IsReady s t area m → IsSettled area → IsLeft s area image → IsSame (content_now s t area) (content_in s t image)
+same_left s t area m image o ready settled left = (
+  law_kept s t area m image o ready.firm (left_in s t m area image o left) (ready_places s t area m image o ready left),
+  law_settled s t area m image o ready (all_quiet s t area settled) left,
+)
+
+-- ---- a new volume goes
+
+module _ (s : Site) (t : VolumeTable) (old : Held) (m : Known) (x : Name) (r : Row) (o : IsOrderly s t m) (ready : IsReady s t old m) (h : IsBeside s t x r) (idle : m.op ≡ op.Idle) where
+  -- after its commit
+  pub gone_ready : (new : Held) → Keeps old new → IsSettled new → IsReady s (applied t (Remove x)) new m
+  gone_ready new keeps settled = subst (λ a. IsReady s (applied t (Remove x)) a m) (sym (rested old new keeps settled)) (ready_gone s t old m x r o ready h idle)
+
+  pub gone_disks : (new : Held) → Keeps old new → IsSettled new → disks (content_now s (applied t (Remove x)) new) ≡ disks (content_now s t old)
+  gone_disks new keeps settled = ap (λ a. disks (content_now s (applied t (Remove x)) a)) (rested old new keeps settled) ∙ disks_gone s t old m x r o ready h idle
+
+  -- a stop behind it
+  pub gone_stop : (v : VolumeTable) (image : ℕ → List ℕ) → IsAfter (area_size s) (applied t (Remove x)) old v image → IsSame (content_now s t old) (content_in s v image)
+  gone_stop v image after =
+      let w = same_left s (applied t (Remove x)) (at_rest (reads old)) m image (orderly_gone s t m x r o h) (ready_gone s t old m x r o ready h idle) (λ p. refl) (λ p below. inl (after.sectors p below)) in
+      subst (λ l. IsSame (content_now s t old) (content_in s l image)) (sym after.table_is) (w.0, w.1 ∙ disks_gone s t old m x r o ready h idle)
+
+-- ---- records of no disk are wiped, and a sync makes it last
+
+module _ (s : Site) (t : VolumeTable) (m : Known) (old mid new : Held) (o : IsOrderly s t m) (ready : IsReady s t old m) (swept : IsSwept s t m old mid) (keeps : Keeps mid new) where
+  pub swept_ready : (ps : List (Option Record)) → IsSettled new → Agrees (records_held s t new) ps → m.op ≡ op.Idle → IsReady s t new (with_places ps m)
+  swept_ready ps settled agrees idle = record {
+    firm = record {
+      images = λ q i. steady_keeps s.geometry (q.extents * s.geometry.extent) (volume_of s t old (row_name q)) (volume_of s t new (row_name q)) q.image
+          (Keeps-then (swept.images q i) (Keeps-volume s.geometry.extent (extents_of (rows t (row_name q))) keeps)) (ready.firm.images q i);
+      quiet = λ q i still. all_quiet s t new settled (row_name q);
+      below = subst (IsBelow (content_now s t new)) (sym idle) tt;
+    };
+    records = agrees;
+    recorded = all_quiet s t new settled Mgt;
+  }
+
+  pub swept_now : IsSettled old → disks (content_now s t new) ≡ disks (content_now s t old)
+  swept_now settled =
+      ap (λ image. disks (content_in s t image)) (fun_ext keeps.reads)
+      ∙ swept_disks s t m old mid o ready swept (reads mid) (left_now s mid) (all_quiet s t old settled)
