@@ -1,10 +1,10 @@
 -- The text of a table of visible raw images alone fits its slot.
-use Rattle.std.proofs.Common.{◌≡◌, ◌≢◌, suc, ℕ, ◌+◌, ◌*◌, ◌≤◌, Bool, true, false, cond, List, [], ◌∷◌, length, filter, refl, sym, ◌∙◌, arith, length-append}
+use Rattle.std.proofs.Common.{◌≡◌, suc, ℕ, ◌+◌, ◌*◌, ◌≤◌, Bool, true, cond, List, [], ◌∷◌, length, filter, ◌⊎◌, inl, inr, ⊎_elim, refl, sym, ap, subst, ◌∙◌, arith, length-append}
 use Rattle.std.specs.List.{AllByRecursion, flat_map}
 use Rattle.std.specs.List.Sorted.{IsStrictlySortedBy}
 use Rattle.std.specs.declared.cmp.Ordering.TheVariants.{Less}
 use Rattle.sm_base.specs.declared.names.Name.{Name}
-use Rattle.sm_base.specs.declared.names.Name.TheVariants.{Mgt, Vhd, Raw, Old}
+use Rattle.sm_base.specs.declared.names.Name.TheVariants.{Mgt, Raw}
 use Rattle.sm_base.specs.Names.{name_cmp}
 use Rattle.sm_base.proofs.NameLemmas.{length-spelling-le}
 use Rattle.vg_meta.specs.Tables.{VolumeTable, Row, IsTable, IsVolume, names_of, extents_in}
@@ -33,43 +33,31 @@ long_volumes (r ∷ rs) all =
       length-append r.extents (extents_in rs),
     )
 
-plain_kind : (hidden : Bool) (n : Name) → is_plain_name hidden n ≡ true → n ≢ Mgt → is_data n ≡ true
-plain_kind hidden Mgt h other = absurd (other refl)
-plain_kind hidden (Raw u) h other = refl
-plain_kind hidden _ h other = absurd (let e = h in cc)
+plain_kind : (hidden : Bool) (n : Name) → is_plain_name hidden n ≡ true → (is_data n ≡ true) ⊎ (n ≡ Mgt)
+plain_kind hidden Mgt h = inr refl
+plain_kind hidden (Raw u) h = inl refl
+plain_kind hidden _ h = absurd (let e = h in cc)
 
-image_step : (b : Bool) (r : Row) (rs : List Row) → b ≡ true → length rs ≤ length (filter (λ s. is_data s.name) rs)
-    → suc (length rs) ≤ length (cond b (r ∷ filter (λ s. is_data s.name) rs) (filter (λ s. is_data s.name) rs))
-image_step true r rs is h = omega (arith, h)
-image_step false r rs is h = absurd (let e = is in cc)
+-- one more of them is an image
+image_more : (k : ℕ) (r : Row) (rs : List Row) → is_data r.name ≡ true → length rs ≤ length (filter (λ s. is_data s.name) rs) + k → suc (length rs) ≤ length (filter (λ s. is_data s.name) (r ∷ rs)) + k
+image_more k r rs is h =
+    subst (λ b. suc (length rs) ≤ length (cond b (r ∷ filter (λ s. is_data s.name) rs) (filter (λ s. is_data s.name) rs)) + k) (sym is) (omega (arith, h))
 
 -- behind the volume of records all are images
 all_images : (n : Name) (rs : List Row) → n ≡ Mgt → AllByRecursion (λ r. is_plain r ≡ true) rs → AllByRecursion (λ (m : Name). name_cmp n m ≡ Less) (names_of rs)
-    → length rs ≤ length (filter (λ r. is_data r.name) rs)
+    → length rs ≤ length (filter (λ r. is_data r.name) rs) + 0
 all_images n [] is plain behind = omega arith
 all_images n (r ∷ rs) is plain behind =
-    image_step (is_data r.name) r rs (plain_kind r.hidden r.name plain.0 (λ e. less_other n r.name behind.0 (is ∙ sym e))) (all_images n rs is plain.1 behind.1)
-
-name_step : (b : Bool) (r : Row) (rs : List Row) → is_data r.name ≡ b → is_plain r ≡ true → (r.name ≡ Mgt → length rs ≤ length (filter (λ s. is_data s.name) rs))
-    → length rs ≤ length (filter (λ s. is_data s.name) rs) + 1
-    → suc (length rs) ≤ length (cond b (r ∷ filter (λ s. is_data s.name) rs) (filter (λ s. is_data s.name) rs)) + 1
-name_step true r rs is plain first rest = omega (arith, rest)
-name_step false r rs is plain first rest = of_name r.name is plain first
-  where
-    of_name : (n : Name) → is_data n ≡ false → is_plain_name r.hidden n ≡ true → (n ≡ Mgt → length rs ≤ length (filter (λ s. is_data s.name) rs))
-        → suc (length rs) ≤ length (filter (λ s. is_data s.name) rs) + 1
-    of_name Mgt d h all = let k = all refl in omega (arith, k)
-    of_name (Raw u) d h all = absurd (let e = d in cc)
-    of_name (Vhd u) d h all = absurd (let e = d in cc)
-    of_name (Old u) d h all = absurd (let e = d in cc)
-    of_name _ d h all = absurd (let e = h in cc)
+    image_more 0 r rs (⊎_elim (λ image. image) (λ e. absurd (less_other n r.name behind.0 (is ∙ sym e))) (plain_kind r.hidden r.name plain.0)) (all_images n rs is plain.1 behind.1)
 
 -- there is one volume more than images
 one_other : (rs : List Row) → AllByRecursion (λ r. is_plain r ≡ true) rs → IsRising rs → length rs ≤ length (filter (λ r. is_data r.name) rs) + 1
 unfolding IsStrictlySortedBy
 one_other [] plain rising = omega arith
-one_other (r ∷ rs) plain rising =
-    name_step (is_data r.name) r rs refl plain.0 (λ is. all_images r.name rs is plain.1 rising.0) (one_other rs plain.1 rising.1)
+one_other (r ∷ rs) plain rising = ⊎_elim
+    (λ image. image_more 1 r rs image (one_other rs plain.1 rising.1))
+    (λ mgt. subst (λ b. suc (length rs) ≤ length (cond b (r ∷ filter (λ s. is_data s.name) rs) (filter (λ s. is_data s.name) rs)) + 1) (sym (ap is_data mgt))
+    (omega (arith, all_images r.name rs mgt plain.1 rising.0))) (plain_kind r.hidden r.name plain.0)
 
 pub fits_plain : (count : ℕ) (t : VolumeTable) → IsTable count t → count ≤ 65536 → IsPlain t → length (images t) ≤ image_limit → length (text t) ≤ text_limit
 fits_plain count t table few plain limit =

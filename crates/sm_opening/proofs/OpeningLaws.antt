@@ -1,8 +1,8 @@
 -- The checks one after another: which place is the first, and what is known where none is.
-use Rattle.std.proofs.Common.{◌≡◌, ◌≢◌, ℕ, zero, suc, ◌+◌, ◌*◌, ◌<◌, ◌≤◌, ◌⊎◌, inl, inr, Bool, true, false, cond, not, ◌==◌, List, [], ◌∷◌, ◌++◌, length, get_or, Option, Some, None, refl, sym, ap, ◌∙◌, subst, arith, nat_lt}
+use Rattle.std.proofs.Common.{◌≡◌, ℕ, zero, suc, ◌+◌, ◌*◌, ◌<◌, ◌≤◌, ◌⊎◌, inl, inr, Bool, true, false, cond, not, ◌==◌, List, [], ◌∷◌, ◌++◌, length, get_or, Option, Some, None, refl, sym, ap, ◌∙◌, subst, arith, nat_lt}
 use Rattle.std.specs.List.{find, slice_get}
-use Rattle.std.specs.Prelude.{Result, Err, IfErr}
-use Rattle.std.proofs.lemmas.Bool.{ltb-false}
+use Rattle.std.specs.Prelude.{Result, Err, IfErr, IfNone}
+use Rattle.std.proofs.lemmas.Bool.{cases_lt, ltb-false}
 use Rattle.std.proofs.lemmas.Bool.Decides.{nat_tests}
 use Rattle.std.proofs.lemmas.Option.{slice_get-get_or, slice_get_within}
 use Rattle.sm_base.specs.declared.faults.OpenFault.{OpenFault}
@@ -156,24 +156,17 @@ records_right x places has =
     let found : slice_get places k ≡ Some (get_or places k None) = slice_get-get_or places k None (omega (arith, w.1, has.long)) in
     ap is_damaged (has.each k (get_or places k None) found) ∙ as_right (get_or places k None)))
 
-first_step : (test : ℕ → Bool) (a : ℕ) (b : Bool) (rest : Option ℕ) (k : ℕ) → test a ≡ b → (a ≡ k → test k ≡ true → b ≡ true) → (a ≢ k → b ≡ false) → (a ≢ k → rest ≡ Some k) → (a ≡ k) ⊎ (a ≢ k)
-    → test k ≡ true → cond b (Some a) rest ≡ Some k
-first_step test a b rest k is same other behind (inl at) passes = ap (λ v. cond v (Some a) rest) (same at passes) ∙ ap Some at
-first_step test a b rest k is same other behind (inr away) passes = ap (λ v. cond v (Some a) rest) (other away) ∙ behind away
-
-eq_or_not : (a k : ℕ) → (a ≡ k) ⊎ (a ≢ k)
-eq_or_not a k = of_test (a == k) refl
-  where
-    of_test : (b : Bool) → (a == k) ≡ b → (a ≡ k) ⊎ (a ≢ k)
-    of_test true is = inl (eq_of a k is)
-    of_test false is = inr (λ e. (let h = is in grind (arith, nat_tests, e)))
-
 first_number : (test : ℕ → Bool) (a n k : ℕ) → a ≤ k → k < a + n → test k ≡ true → ((j : ℕ) → a ≤ j → j < k → test j ≡ false) → find test (numbers a n) ≡ Some k
 unfolding numbers
 first_number test a zero k from below passes before = absurd (omega arith)
 first_number test a (suc n) k from below passes before =
-    first_step test a (test a) (find test (numbers (a + 1) n)) k refl (λ e p. ap test e ∙ p) (λ away. before a (omega arith) (omega (arith, away)))
-    (λ away. first_number test (a + 1) n k (omega (arith, away)) (omega arith) passes (λ j lo hi. before j (omega arith) hi)) (eq_or_not a k) passes
+    step (cases_lt a k) (λ less. first_number test (a + 1) n k (omega (arith, less)) (omega arith) passes (λ j lo hi. before j (omega arith) hi))
+  where
+    step : (a < k) ⊎ (k ≤ a) → (a < k → find test (numbers (a + 1) n) ≡ Some k) → cond (test a) (Some a) (find test (numbers (a + 1) n)) ≡ Some k
+    step (inl less) rest = ap (λ v. cond v (Some a) (find test (numbers (a + 1) n))) (before a (omega arith) less) ∙ rest less
+    step (inr least) rest =
+        let e : a ≡ k = omega (arith, least, from) in
+        ap (λ v. cond v (Some a) (find test (numbers (a + 1) n))) (ap test e ∙ passes) ∙ ap Some e
 
 damaged_test : (r : Reading) → (r ≡ Damaged → ⊥) → is_damaged r ≡ false
 damaged_test Free h = refl
@@ -225,3 +218,7 @@ stopped_by {s} {t} told area before now e c none (inr (inr (k, is, first))) =
 
 pub if_err : {T E : Type 0} (P : E → Type 0) (r : Result T E) (e : E) → r ≡ Err e → P e → IfErr r P
 if_err P r e is p = subst (λ x. IfErr x P) (sym is) p
+
+pub none_only : {A P : Type 0} (o : Option A) → (o ≡ None → P) → IfNone o P
+none_only None p = p refl
+none_only (Some x) p = tt

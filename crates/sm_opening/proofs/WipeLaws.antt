@@ -39,18 +39,14 @@ freed_right t places after place is r at =
     let none : None ≡ Some r = sym (get_or-set_at places place place None None refl within) ∙ get_or_from_slice_get (set places place None) place (Some r) None there in
     absurd (let e = none in cc)
 
+-- ---- each place is as it was, or was freed
+
 set_other : {A : Type 0} (xs : List A) (k j : ℕ) (x : A) → j ≢ k → slice_get (set xs k x) j ≡ slice_get xs j
-set_other [] zero j x other = refl
-set_other [] (suc k) j x other = refl
+set_other [] k j x other = refl
 set_other (y ∷ xs) zero zero x other = absurd (other refl)
 set_other (y ∷ xs) zero (suc j) x other = refl
 set_other (y ∷ xs) (suc k) zero x other = refl
 set_other (y ∷ xs) (suc k) (suc j) x other = set_other xs k j x (λ e. other (ap suc e))
-
-pub freed_others : (places after : List (Option Record)) (place : ℕ) → after ≡ set places place None → (k : ℕ) → k ≢ place → slice_get after k ≡ slice_get places k
-freed_others places after place is k other = ap (λ (xs : List (Option Record)). slice_get xs k) is ∙ set_other places place k None other
-
--- ---- each place is as it was, or was freed
 
 set_here : {A : Type 0} (xs : List A) (k : ℕ) (x : A) → k < length xs → slice_get (set xs k x) k ≡ Some x
 set_here [] k x below = absurd (omega (arith, below))
@@ -69,7 +65,7 @@ freed_one t places after place is stray = record {
   each = λ k. ⊎_elim
       (λ same. inr (subst (λ j. (slice_get after j ≡ Some None) × IsStrayAt t places j) (sym same)
       (ap (λ (xs : List (Option Record)). slice_get xs place) is ∙ set_here places place None (slice_get_within places place (Some stray.0) stray.1), stray)))
-      (λ other. inl (freed_others places after place is k other)) (same_or_not k place);
+      (λ other. inl (ap (λ (xs : List (Option Record)). slice_get xs k) is ∙ set_other places place k None other)) (same_or_not k place);
 }
 
 freed_twice : (t : VolumeTable) (a b d : List (Option Record)) (k : ℕ) → (slice_get b k ≡ slice_get a k) ⊎ ((slice_get b k ≡ Some None) × IsStrayAt t a k)
@@ -86,31 +82,26 @@ freed_then {t} {u} a b d table first second =
 
 -- ---- one place after another
 
--- what is known of memory so far: no stray record below, and what was there from here on
-pub record IsSoFar (t : VolumeTable) (first now : List (Option Record)) (place : ℕ) : Type 0 where
-  pub right : (k : ℕ) → k < place → IsRightAt t now k
-  pub others : (k : ℕ) → place ≤ k → slice_get now k ≡ slice_get first k
+-- a record that is there now was there
+was_there : {t : VolumeTable} {first now : List (Option Record)} (k : ℕ) {r : Record} → IsWithoutStrays t first now → slice_get now k ≡ Some (Some r) → slice_get first k ≡ Some (Some r)
+was_there {t} {first} {now} k {r} w at = of (w.each k)
+  where
+    of : (slice_get now k ≡ slice_get first k) ⊎ ((slice_get now k ≡ Some None) × IsStrayAt t first k) → slice_get first k ≡ Some (Some r)
+    of (inl same) = sym same ∙ at
+    of (inr (free, stray)) = absurd (let e : Some None ≡ Some (Some r) = sym free ∙ at in cc)
 
-was_stray : (t : VolumeTable) (first now : List (Option Record)) (place p : ℕ) → IsSoFar t first now place → (p < place) ⊎ (place ≤ p) → IsStrayAt t now p → IsStrayAt t first p
-was_stray t first now place p far (inl before) (r, at, stray) = absurd (let e = far.right p before r at in cc)
-was_stray t first now place p far (inr behind) (r, at, stray) = (r, sym (far.others p behind) ∙ at, stray)
-
-pub zeroed_step : {t0 t : VolumeTable} (first now : List (Option Record)) (place : ℕ) → t ≡ t0 → IsSoFar t0 first now place → (a b d : Held)
+pub zeroed_step : {t0 t : VolumeTable} (first now : List (Option Record)) → t ≡ t0 → IsWithoutStrays t0 first now → (a b d : Held)
     → IsZeroedAt (IsStrayAt t0 first) a b → IsZeroedAt (IsStrayAt t now) b d → IsZeroedAt (IsStrayAt t0 first) a d
-zeroed_step {t0} {t} first now place table far a b d before after p v may =
-    ⊎_elim (λ mid. before p v mid) (λ w. inr (w.0, was_stray t0 first now place p far (cases_lt p place) (subst (λ x. IsStrayAt x now p) table w.1))) (after p v may)
+zeroed_step {t0} {t} first now table freed a b d before after p v may =
+    ⊎_elim (λ mid. before p v mid) (λ w. let z = subst (λ x. IsStrayAt x now p) table w.1 in inr (w.0, (z.0, was_there p freed z.1, z.2))) (after p v may)
 
-right_more : (t : VolumeTable) (first now after : List (Option Record)) (place : ℕ) → IsSoFar t first now place → IsRightAt t after place
-    → ((k : ℕ) → k ≢ place → slice_get after k ≡ slice_get now k) → (k : ℕ) → (k < place) ⊎ (place ≤ k) → k < place + 1 → IsRightAt t after k
-right_more t first now after place far here same k (inl before) below = λ r at. far.right k before r (sym (same k (λ e. omega (arith, e))) ∙ at)
-right_more t first now after place far here same k (inr behind) below = let e : place ≡ k = omega arith in subst (IsRightAt t after) e here
+-- no stray record stands below this place
+abbrev pub AreRightBelow : VolumeTable → List (Option Record) → ℕ → Type 0
+AreRightBelow t now place = (k : ℕ) → k < place → IsRightAt t now k
 
-pub so_far_more : {t0 t : VolumeTable} (first now after : List (Option Record)) (place : ℕ) → t ≡ t0 → IsSoFar t0 first now place → IsRightAt t after place
-    → ((k : ℕ) → k ≢ place → slice_get after k ≡ slice_get now k) → IsSoFar t0 first after (place + 1)
-so_far_more {t0} {t} first now after place table far here same = record {
-  right = λ k below. right_more t0 first now after place far (subst (λ x. IsRightAt x after place) table here) same k (cases_lt k place) below;
-  others = λ k behind. same k (λ e. omega (arith, e)) ∙ far.others k (omega arith);
-}
-
-pub so_far_none : (t : VolumeTable) (places : List (Option Record)) → IsSoFar t places places 0
-so_far_none t places = record { right = λ k below. absurd (omega arith); others = λ k behind. refl }
+pub right_more : {t0 t : VolumeTable} (now after : List (Option Record)) (place : ℕ) → t ≡ t0 → AreRightBelow t0 now place → IsRightAt t after place → IsWithoutStrays t now after → AreRightBelow t0 after (place + 1)
+right_more {t0} {t} now after place table far here freed k below = subst (λ x. IsRightAt x after k) table (of (cases_lt k place))
+  where
+    of : (k < place) ⊎ (place ≤ k) → IsRightAt t after k
+    of (inl before) r at = subst (λ x. IsRightAt x now k) (sym table) (far k before) r (was_there k freed at)
+    of (inr behind) r at = let e : place ≡ k = omega (arith, behind, below) in subst (IsRightAt t after) e here r at

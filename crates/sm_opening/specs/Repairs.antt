@@ -36,6 +36,7 @@ pub record IsChecked (s : Site) (t : VolumeTable) : Type 0 where
   pub few_images : length (images t) ≤ image_limit
   pub record_volume : length (extents_of (rows t Mgt)) ≡ record_extents s.geometry.extent
 
+-- of a store: what is known of its table once the checks passed
 abbrev pub IsCheckedStore : {S : Type 0} → Ghosts S → S → Type 0
 IsCheckedStore g s = IsChecked (g.site s) (table_alone (g.table s))
 

@@ -1,8 +1,9 @@
 //! All checks, one after another, and then the memory of a session: the images that stand, and room for all that may come.
 //! Nothing is written.
 
-ghost use Rattle.std.specs.Prelude.{◌≡◌, None, OnOk, IfOk, IfErr, length};
+ghost use Rattle.std.specs.Prelude.{◌≡◌, None, OnOk, IfOk, IfErr, IfNone, length};
 ghost use Rattle.sm_disk.specs.Held.{IsSettled};
+ghost use Rattle.common_laws.specs.Lists.{first_some};
 ghost use Rattle.sm_mgt.specs.Places.{Agrees, place_count, records_of};
 ghost use Rattle.sm_standing.specs.Checks.{first_fault_today};
 ghost use Rattle.vg_volumes.specs.Stored.{OnlyReads};
@@ -11,13 +12,13 @@ ghost use Rattle.sm_ready.specs.Sessions.{IsAtEase, HasRows, HasTreeRoom, IsOrde
 ghost use Rattle.sm_ready.specs.Stores.{store_content};
 ghost use Rattle.sm_standing.specs.Checks.{fault_today_of};
 ghost use Rattle.sm_standing.specs.Outlines.{Outline};
-ghost use Rattle.sm_opening.specs.Faults.{HasPlaces, HasTable};
+ghost use Rattle.sm_opening.specs.Faults.{HasPlaces, HasTable, table_faults};
 ghost use Rattle.vg_meta.specs.Roomy.{table_alone};
 
 use crate::checks::table_fault;
 use crate::disks::disk_fault;
 use crate::loading::load;
-use sm_base::{IMAGE_LIMIT, NoMemory, Op, OpenFault};
+use sm_base::{IMAGE_LIMIT, NoMemory, Op, OpenFault, Place};
 use sm_mgt::Mgt;
 use sm_ready::Memory;
 use sm_refs::Attachments;
@@ -68,9 +69,7 @@ fn checked<S: Store>(alloc: Global, store: &mut S) -> Result<Mgt, OpenFault>
     ensures long { IfOk result (λ places. length places ≡ place_count) }
     ensures cause { IfErr result (IsOpeningStopped S.told (store_content S.Store store.old) (S.faults store.old) (S.faults store.new)) }
 {
-    let geometry = store.geometry();
-    let _extents = store.extents();
-    if let Some(place) = table_fault(store.table(), &geometry) {
+    if let Some(place) = first_by_table(store) {
         return Err(OpenFault::Damaged { place });
     }
     let mgt = Mgt::load(alloc, store)?;
@@ -78,6 +77,16 @@ fn checked<S: Store>(alloc: Global, store: &mut S) -> Result<Mgt, OpenFault>
         return Err(OpenFault::Damaged { place });
     }
     Ok(mgt)
+}
+
+/// The place of the first check by the table that fails. Where none does, what the repairs rest on is known.
+fn first_by_table<S: Store>(store: &S) -> Option<Place>
+    ensures says { (x : Outline) → HasTable (S.site store.now).geometry (table_alone (S.table store.now)) x → first_some (table_faults x) ≡ result }
+    ensures checked { IfNone result (IsCheckedStore S.Store store.now) }
+{
+    let geometry = store.geometry();
+    let _extents = store.extents();
+    table_fault(store.table(), &geometry)
 }
 
 /// Makes room for all rows that the table may come to have. What stands counts, so that no later row takes memory.

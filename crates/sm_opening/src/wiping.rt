@@ -1,7 +1,6 @@
 //! The records of no disk are wiped. They are what a stop has left of disks that were being made or taken away.
 
-ghost use Rattle.std.specs.Prelude.{◌≡◌, ◌≢◌, ◌<◌, ℕ, false, true, OnOk};
-ghost use Rattle.std.specs.List.{slice_get};
+ghost use Rattle.std.specs.Prelude.{◌≡◌, ◌<◌, ℕ, false, true, OnOk};
 ghost use Rattle.sm_base.specs.declared.names.Name.TheVariants.{Mgt as mgt_name};
 ghost use Rattle.sm_mgt.specs.Places.{Agrees, HasAllPlaces, place_count, records_of};
 ghost use Rattle.sm_standing.specs.Plain.{IsPlain};
@@ -44,7 +43,6 @@ fn wipe_stray<S: Store>(store: &mut S, mgt: &mut Mgt, place: u32) -> Result<(), 
     ensures agrees { OnOk result (S.told → Agrees (records_of S.Store store.old) mgt.old → Agrees (records_of S.Store store.new) mgt.new) }
     ensures right { OnOk result (IsRightAt (table_alone (S.table store.old)) mgt.new place) }
     ensures freed { OnOk result (IsWithoutStrays (table_alone (S.table store.old)) mgt.old mgt.new) }
-    ensures others { OnOk result ((k : ℕ) → k ≢ place → slice_get mgt.new k ≡ slice_get mgt.old k) }
 {
     if !is_stray(store.table(), mgt, place) {
         return Ok(());

@@ -35,6 +35,8 @@ IsRoomyIn s (op.Leaf l p cursor) = IsRoomyFor s l p
 abbrev pub IsRoomy : Shape → Type 0
 IsRoomy s = IsRoomyIn s s.op
 
+-- the table has its form, memory has an image for each of its images and no other, that image's size fits its extents, the
+-- shape is well formed, and each image is counted as often as something uses it
 pub record IsOrderly (s : Site) (t : VolumeTable) (m : Known) : Type 0 where
   pub table : IsTable s.count t
   pub few_extents : s.count ≤ 65536

@@ -53,7 +53,7 @@ pub record HoldsPlaces (s : Site) (t : VolumeTable) (image : ℕ → List ℕ) (
   pub long : length places ≡ place_count
   pub each : (k : ℕ) → k < place_count → reading_at (content_in s t image) k ≡ as_reading (slice_index_or places k None)
 
--- and the records
+-- what a read gives of images and records is what memory says, and of no record anything is pending
 pub record IsReady (s : Site) (t : VolumeTable) (area : Held) (m : Known) : Type 0 where
   pub firm : IsFirm s t area m
   pub records : Agrees (records_held s t area) m.places

@@ -20,11 +20,11 @@ use Rattle.sm_ready.specs.declared.memory.Memory.{Memory}
 abbrev pub IsOrderlyStore : {S : Type 0} → Ghosts S → S → Memory → Type 0
 IsOrderlyStore g s m = IsOrderly (g.site s) (table_alone (g.table s)) (known m)
 
--- and tidy
+-- of a store: between two commands no volume is new and no record is stray
 abbrev pub IsTidyStore : {S : Type 0} → Ghosts S → S → Memory → Type 0
 IsTidyStore g s m = IsTidy (table_alone (g.table s)) (known m)
 
--- and the sectors are as memory says
+-- of a store: what a read gives of images and records is what memory says
 abbrev pub IsReadyStore : {S : Type 0} → Ghosts S → S → Memory → Type 0
 IsReadyStore g s m = IsReady (g.site s) (table_alone (g.table s)) (g.area s) (known m)
 

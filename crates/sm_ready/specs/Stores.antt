@@ -26,7 +26,7 @@ content_in s t image = record {
 abbrev pub content_now : Site → VolumeTable → Held → Content
 content_now s t area = content_in s t (reads area)
 
--- that of a store
+-- the content that a read of a store gives now
 abbrev pub store_content : {S : Type 0} → Ghosts S → S → Content
 store_content g s = content_now (g.site s) (table_alone (g.table s)) (g.area s)
 

@@ -32,7 +32,9 @@ pub record HasTaken (s : Site) (command : Command) (t : VolumeTable) (area : Hel
   pub crash : (v : VolumeTable) (image : ℕ → List ℕ) → leaves v image → IsKept (content_in s v image)
       × IsBetween (MayShow s before) (state_in s t area m).disks ((step (state_in s t area m) command).after).disks (disks (content_in s v image))
 
--- of a store with its memory
+-- of a store with its memory: a call takes this command, with the reply and the state that the machine gives, or answers that
+-- memory is wanting and leaves the state; whatever a stop leaves is kept, with disks between those from before and those
+-- from after
 abbrev pub StoreTakes : {S : Type 0} → Ghosts S → Command → S → Memory → S → Memory → Result Reply Failed → Type 0
 StoreTakes g command old m new n result =
     HasTaken (g.site old) command (table_alone (g.table old)) (g.area old) (known m) (table_alone (g.table new)) (g.area new) (known n) (StoreLeaves g old) (StoreLeaves g new) result

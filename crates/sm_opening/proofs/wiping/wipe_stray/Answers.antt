@@ -2,7 +2,7 @@ use Rattle.std.proofs.Common.{inl, subst}
 use Rattle.vg_meta.specs.Roomy.{table_alone}
 use Rattle.vg_volumes.proofs.StoredLaws.{writes_none, writes_as}
 use Rattle.sm_opening.specs.Repairs.{IsStrayAt}
-use Rattle.sm_opening.proofs.WipeLaws.{zeroed_one, agrees_after, freed_right, freed_others, freed_none, freed_one}
+use Rattle.sm_opening.proofs.WipeLaws.{zeroed_one, agrees_after, freed_right, freed_none, freed_one}
 use Rattle.sm_opening.proofs.wiping.wipe_stray.Goals as goal
 
 pub returns-then-not-is_stray-clause-writes : goal.returns-then-not-is_stray-clause-writes
@@ -24,9 +24,6 @@ returns-clause-agrees g c = λ told.
 
 pub returns-clause-right : goal.returns-clause-right
 returns-clause-right g c = freed_right _ c.args.mgt.now c.wipe.new.self c.args.place c.in_ok-wipe.ensures.places
-
-pub returns-clause-others : goal.returns-clause-others
-returns-clause-others g c = freed_others c.args.mgt.now c.wipe.new.self c.args.place c.in_ok-wipe.ensures.places
 
 pub returns-then-not-is_stray-clause-freed : goal.returns-then-not-is_stray-clause-freed
 returns-then-not-is_stray-clause-freed g c = freed_none _ c.args.mgt.now
