@@ -1,3 +1,3 @@
 mod PutLaws
 mod ShownLaws
-mod ListLaws
+pub mod ListLaws

@@ -1,5 +1,5 @@
 -- The rows of the records are those of the disks.
-use Rattle.std.proofs.Common.{◌≡◌, ℕ, zero, suc, ◌-◌, ◌*◌, ◌<◌, ◌≤◌, inl, inr, Bool, true, false, cond, List, [], ◌∷◌, length, map, drop, Option, Some, None, unwrap_or, refl, sym, ap, ap₂, ◌∙◌, subst, arith}
+use Rattle.std.proofs.Common.{◌≡◌, ℕ, zero, suc, ◌+◌, ◌-◌, ◌*◌, ◌^◌, ◌<◌, ◌≤◌, min, inl, inr, Bool, true, false, cond, List, [], ◌∷◌, length, map, drop, Option, Some, None, unwrap_or, refl, sym, ap, ap₂, ◌∙◌, subst, arith}
 use Rattle.std.proofs.Math.Logic.{∥∥₁_elim}
 use Rattle.std.proofs.Math.Nat.{min-eq_left}
 use Rattle.std.proofs.Props.{props}
@@ -16,7 +16,8 @@ use Rattle.vhd_chain.specs.declared.rows.TreeRow.{TreeRow}
 use Rattle.sm_record.specs.declared.records.Record.{Record}
 use Rattle.sm_machine.specs.Disks.{Disk}
 use Rattle.sm_machine.specs.Shapes.{Shape, DiskRecord, free}
-use Rattle.sm_machine.specs.Steps.{State, disk_row, step, step_whole, is_built, with_record, accepted, reply_to, unless_refused}
+use Rattle.sm_machine.specs.Commits.{commits, is_given_up, own_commits, gives_up}
+use Rattle.sm_machine.specs.Steps.{State, disk_row, step, step_whole, is_built, with_record, accepted, disks_next, shape_next, shape_after, reply_to, unless_refused}
 use Rattle.sm_machine.specs.Refusals.{refusal, is_reserved, is_unknown, is_taken, is_in_use, is_not_attached, is_read_only, is_raw_disk, is_out_of_range, is_bad_size, is_shrink, is_deep, is_too_many, is_spent, lacks_space, need, named, new_uuid, forked}
 use Rattle.sm_machine.specs.WellFormed.{IsWellFormed}
 use Rattle.sm_machine.specs.declared.commands.Command.TheVariants.{List as ListDisks}
@@ -99,6 +100,16 @@ never s = ap (λ b. first_some (given b (NoSpace 0 (free s)) ∷ [])) (le-ltb (f
 step_reply : (σ : State) → (step σ ListDisks).reply ≡ reply.List (map disk_row σ.disks)
 unfolding step is_built step_whole accepted reply_to
 step_reply σ = ap (λ o. (unless_refused o σ ListDisks).reply) (never σ.shape)
+
+same_number : (n : ℕ) → n < 2 ^ 48 → min (n + 0) (2 ^ 48 - 1) ≡ n
+same_number n h = omega arith
+
+-- and leaves the state
+pub step_after : (σ : State) → σ.shape.sequence < 2 ^ 48 → (step σ ListDisks).after ≡ σ
+unfolding step is_built step_whole accepted disks_next shape_next shape_after commits own_commits is_given_up gives_up
+step_after σ few =
+    ap (λ o. (unless_refused o σ ListDisks).after) (never σ.shape)
+    ∙ ap (λ n. let sh : Shape = record σ.shape { sequence = n } in let w : State = record σ { shape = sh } in w) (same_number σ.shape.sequence few)
 
 pub law_list : (s : Site) (t : VolumeTable) (area : Held) (m : Known) (rows : List DiskRow) → rows ≡ listed m.rows m.places → IsOrderly s t m → IsReady s t area m → reply.List rows ≡ (step (state_in s t area m) ListDisks).reply
 law_list s t area m rows is o ready =

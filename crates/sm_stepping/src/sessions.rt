@@ -1,0 +1,152 @@
+//! A repository that is open, and its steps.
+
+ghost use Rattle.std.specs.Prelude.{◌≡◌, ◌≤◌, ◌⊎◌, List, None, false, IfOk, IfErr};
+ghost use Rattle.std.proofs.Props.{props};
+ghost use Rattle.sm_disk.specs.Held.{IsSettled, Keeps};
+ghost use Rattle.vg_meta.specs.Roomy.{table_alone};
+ghost use Rattle.sm_machine.specs.Disks.{Disk};
+ghost use Rattle.sm_opening.specs.Cleaned.{HasFewRemovals};
+ghost use Rattle.sm_opening.specs.Repairs.{IsOpeningStopped, UnlessDeviceFailed};
+ghost use Rattle.sm_opening.specs.Stores.{IsRepairedFrom};
+ghost use Rattle.vg_volumes.specs.Stored.{OnlyReads, Leaves};
+ghost use Rattle.sm_ready.specs.Known.{known, shape_in};
+ghost use Rattle.sm_ready.specs.Orderly.{IsOrderly};
+ghost use Rattle.sm_ready.specs.Proper.{IsOrderly-prop, IsTidy-prop};
+ghost use Rattle.sm_ready.specs.Ready.{IsTidy};
+ghost use Rattle.sm_ready.specs.Sessions.{HasRows, HasTreeRoom, IsAtEase, IsReadyStore, KeepsAll, store_state};
+ghost use Rattle.sm_ready.specs.Stores.{MayShow, StoreLeaves, content_in, store_content};
+ghost use Rattle.sm_run.specs.Runs.{BeginsSettled};
+ghost use Rattle.sm_standing.specs.Checks.{first_fault_today};
+ghost use Rattle.sm_standing.specs.Opened.{opened};
+ghost use Rattle.sm_standing.specs.Standing.{disks};
+
+use crate::taking::take;
+use sm_base::OpenFault;
+use sm_machine::{Command, Reply};
+use sm_opening::settle;
+use sm_ready::Memory;
+use sm_run::{StepFault, Steps};
+use std::alloc::Global;
+use vg_volumes::Store;
+
+/// A repository that is open: its store, what is in memory of it, whether a step has failed, and the time at which it was
+/// opened, in seconds since 2000-01-01 00:00 UTC: the stamp of the images that it makes.
+pub struct Session<S: Store> {
+    store: S,
+    memory: Memory,
+    broken: bool,
+    now: u32,
+    // While no step has failed, table and memory are as they are between two steps, nothing is attached and the collector
+    // does nothing, commits may be made, and table and tree may come to have all their rows without memory for them.
+    ghost orderly: { broken ≡ false → IsOrderly (S.site store) (table_alone (S.table store)) (known memory) } by { Prim.hlevel (props, IsOrderly-prop) },
+    ghost tidy: { broken ≡ false → IsTidy (table_alone (S.table store)) (known memory) } by { Prim.hlevel (props, IsTidy-prop) },
+    ghost at_ease: { broken ≡ false → IsAtEase memory } by { Prim.hlevel props },
+    ghost tree_room: { broken ≡ false → HasTreeRoom memory },
+    ghost usable: { broken ≡ false → S.failed store ≡ false },
+    ghost room: { broken ≡ false → HasRows (S.table store) },
+}
+
+impl<S: Store> Session<S> {
+    /// Checks what stands in a store, all checks before the first write, and repairs what a stop has left.
+    ///
+    /// # Errors
+    /// Why there is no session, with the store: `Damaged` with the first place at which the checks fail; `Device` where
+    /// a call of the store failed; `NoMemory`. Unless a call of the store failed, nothing was written.
+    pub fn begin(alloc: Global, store: S, now: u32) -> Result<Session<S>, (OpenFault, S)>
+        requires usable { S.failed store ≡ false }
+        requires settled { S.told → IsSettled (S.area store) }
+        ensures site { IfOk result (λ s. S.site s.store ≡ S.site store) }
+        ensures counts { IfOk result (λ s. S.faults store ≤ S.faults s.store) }
+        ensures beside { IfOk result (λ s. S.told → Keeps (S.beside store) (S.beside s.store)) }
+        ensures few { IfOk result (λ s. HasFewRemovals (table_alone (S.table store)) (table_alone (S.table s.store))) }
+        ensures whole { IfOk result (λ s. s.broken ≡ false) }
+        ensures now { IfOk result (λ s. s.now ≡ now) }
+        ensures sound { IfOk result (λ s. S.told → first_fault_today (store_content S.Store store) ≡ None) }
+        ensures ready { IfOk result (λ s. S.told → IsReadyStore S.Store s.store s.memory) }
+        ensures settled { IfOk result (λ s. S.told → IsSettled (S.area s.store)) }
+        ensures disks { IfOk result (λ s. S.told → disks (store_content S.Store s.store)
+            ≡ disks (store_content S.Store store)) }
+        ensures opened { IfOk result (λ s. S.told → shape_in (S.site s.store) (table_alone (S.table s.store)) (known s.memory) ≡ opened (store_content S.Store store)) }
+        ensures kept { IfOk result (λ s. S.told → KeepsAll (S.site s.store) (StoreLeaves S.Store s.store)) }
+        ensures begins { IfOk result (λ s. S.told → BeginsSettled (store_state S.Store s.store s.memory) (MayShow (S.site s.store) (StoreLeaves S.Store s.store))) }
+        ensures site_back { IfErr result (λ e. S.site e.1 ≡ S.site store) }
+        ensures counts_back { IfErr result (λ e. S.faults store ≤ S.faults e.1) }
+        ensures beside_back { IfErr result (λ e. S.told → Keeps (S.beside store) (S.beside e.1)) }
+        ensures few_back { IfErr result (λ e. HasFewRemovals (table_alone (S.table store)) (table_alone (S.table e.1))) }
+        ensures few_left { IfErr result (λ e. Leaves S.Store e.1 (λ t image. HasFewRemovals (table_alone (S.table store)) t)) }
+        ensures cause { IfErr result (λ e. IsOpeningStopped S.told (store_content S.Store store) (S.faults store) (S.faults e.1) e.0) }
+        ensures refused { IfErr result (λ e. UnlessDeviceFailed e.0 (OnlyReads S.Store store e.1)) }
+        ensures unsound_back { IfErr result (λ e. S.told → (first_fault_today (store_content S.Store store) ≡ None → ⊥) → Keeps (S.device store) (S.device e.1)) }
+        ensures crash_back { IfErr result (λ e. Leaves S.Store e.1 (λ t image. S.leaves store t image
+            ⊎ IsRepairedFrom (store_content S.Store store) (content_in (S.site store) t image))) }
+    {
+        let mut store = store;
+        match settle(alloc, &mut store) {
+            Ok(memory) => Ok(Session {
+                store,
+                memory,
+                broken: false,
+                now,
+            }),
+            Err(fault) => Err((fault, store)),
+        }
+    }
+
+    /// The store, as it is. No call is made on it. Where nothing is pending, a stop shows the machine's disks alone.
+    pub fn into_store(self) -> S
+        ensures store { result ≡ self.store }
+        ensures shown { S.told → self.broken ≡ false → IsReadyStore S.Store self.store self.memory → IsSettled (S.area self.store)
+            → (ds : List Disk) → MayShow (S.site self.store) (StoreLeaves S.Store self.store) ds → ds ≡ disks (store_content S.Store self.store) }
+    {
+        let Session {
+            store,
+            memory: _,
+            broken: _,
+            now: _,
+        } = self;
+        store
+    }
+}
+
+impl<S: Store> Steps for Session<S> {
+    ghost use Rattle.std.specs.Prelude.{◌≡◌, false};
+    ghost use Rattle.vg_volumes.specs.Sites.{Site};
+    ghost use Rattle.sm_ready.specs.Sessions.{IsReadyStore, KeepsAll, store_state};
+    ghost use Rattle.sm_ready.specs.Stores.{MayShow, StoreLeaves};
+
+    ghost told = { S.told };
+
+    ghost state = { λ s. store_state S.Store s.store s.memory };
+
+    ghost ready = { λ s. (s.broken ≡ false) × IsReadyStore S.Store s.store s.memory };
+
+    ghost kept = { λ s. KeepsAll (S.site s.store) (StoreLeaves S.Store s.store) };
+
+    ghost held = { λ s. S.area s.store };
+
+    ghost beside = { λ s. S.beside s.store };
+
+    ghost leaves = { λ s. MayShow (S.site s.store) (StoreLeaves S.Store s.store) };
+
+    ghost broken = { λ s. s.broken };
+
+    ghost faults = { λ s. S.faults s.store };
+
+    ghost Site = { Site };
+
+    ghost site = { λ s. S.site s.store };
+
+    fn step(&mut self, alloc: Global, command: &Command) -> Result<Reply, StepFault> {
+        if self.broken {
+            return Err(StepFault::Broken);
+        }
+        let taken = take(alloc, &mut self.store, &mut self.memory, command);
+        match taken {
+            Ok(reply) => Ok(reply),
+            Err(_) => {
+                self.broken = true;
+                Err(StepFault::Device)
+            }
+        }
+    }
+}
