@@ -15,8 +15,9 @@ use Rattle.vg_store.specs.Groups.{GroupStands, LeavesGroup, area_of}
 use Rattle.vg_store.specs.Openings.{IsAnswer}
 use Rattle.vg_volumes.specs.Sites.{Site}
 use Rattle.sm_recover.specs.Repairs.{IsOpeningStopped, UnlessDeviceFailed}
-use Rattle.sm_recover.specs.Stores.{IsRepairedFrom, content_in, content_now}
-use Rattle.sm_session.specs.Sessions.{MayShow, KeepsAll}
+use Rattle.sm_recover.specs.Stores.{IsRepairedFrom}
+use Rattle.sm_ready.specs.Sessions.{KeepsAll}
+use Rattle.sm_ready.specs.Stores.{MayShow, content_in, content_now}
 use Rattle.sm_standing.specs.Checks.{first_fault_today}
 use Rattle.sm_standing.specs.Contents.{Content}
 use Rattle.sm_standing.specs.Devices.{IsKeptOn, Shows, content_of}
@@ -24,7 +25,6 @@ use Rattle.sm_standing.specs.Keeping.{IsKept}
 use Rattle.sm_standing.specs.Opened.{opened}
 use Rattle.sm_machine.specs.Shapes.{Shape}
 use Rattle.sm_standing.specs.Standing.{disks}
-use Rattle.sm_standing.proofs.PlainKept.{plain_kept}
 use Rattle.lvhd_command.specs.Devices.{IsKeptDevice, MayShowOn, IsSoundOn, IsRefusedOn, IsOpenedOn, plate_at}
 use Rattle.lvhd_command.specs.Devices.IsRefusedOn.{by_content}
 use Rattle.lvhd_command.specs.Running.{IsLeftBefore, ShowsNothingNew}
@@ -54,7 +54,7 @@ content_once size m g h a b =
 kept_standing : (size : ℕ) (m : ℕ → List ℕ) (site : Site) (at : Pointer) (t : VolumeTable) → StandsOn size m (standing site at t) → IsKeptOn size m → IsKept (content_of (standing site at t) m)
 kept_standing size m site at t stands k = subst IsKept (content_once size m (standing site at t) k.group stands k.stands) k.kept
 
-shown_standing : (size : ℕ) (m : ℕ → List ℕ) (site : Site) (at : Pointer) (t : VolumeTable) (ds : List Disk) → StandsOn size m (standing site at t) → Shows size m ds
+pub shown_standing : (size : ℕ) (m : ℕ → List ℕ) (site : Site) (at : Pointer) (t : VolumeTable) (ds : List Disk) → StandsOn size m (standing site at t) → Shows size m ds
     → ds ≡ disks (content_of (standing site at t) m)
 shown_standing size m site at t ds stands s = s.shown ∙ ap disks (content_once size m (standing site at t) s.group stands s.stands)
 
@@ -133,7 +133,7 @@ failed_kept : (size : ℕ) (entry h : Held) (site : Site) (old : Content) (t : V
     → LeavesGroup size h (plate_at site) t image ⊎ IsRepairedFrom old (content_in site t image) → IsKept (content_in site t image)
 failed_kept size entry h site old t image k kept (inl was) =
     subst IsKept (sym (same_extents size h site t image was)) (kept_standing size was.whole site was.pointer t was.stands (kept was.whole (Allows-keeps size was.whole k was.allowed)))
-failed_kept size entry h site old t image k kept (inr new) = plain_kept (content_in site t image) new.sound
+failed_kept size entry h site old t image k kept (inr new) = new.sound
 
 -- an image on which the group is as what it leaves says was left before, or shows the disks of the entry
 failed_shown : (size : ℕ) (entry h : Held) (site : Site) (at now : Pointer) (first t : VolumeTable) (image : ℕ → List ℕ) → Keeps entry h → Keeps (area_of entry) (area_of h)

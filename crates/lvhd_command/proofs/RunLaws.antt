@@ -1,5 +1,5 @@
 -- What a run of the program left on the device, from what its session left.
-use Rattle.std.proofs.Common.{◌≡◌, ◌≢◌, ◌⊎◌, inl, inr, ⊎_elim, ℕ, ◌+◌, List, [], Option, Result, Ok, Err, is_err, cond, refl, sym, ap, ap₂, subst, ◌∙◌}
+use Rattle.std.proofs.Common.{◌≡◌, ◌≢◌, ◌⊎◌, inl, inr, ⊎_elim, ℕ, ◌+◌, ◌≤◌, Bool, List, [], Option, Result, Ok, Err, is_err, cond, refl, sym, ap, ap₂, subst, ◌∙◌, arith}
 use Rattle.std.proofs.Math.Path.{fun_ext}
 use Rattle.std.specs.Prelude.{⊤}
 use Rattle.sm_base.specs.declared.faults.Failed.{Failed}
@@ -17,22 +17,25 @@ use Rattle.vg_layout.specs.Opening.{plate_of}
 use Rattle.vg_layout.specs.Places.{area_place}
 use Rattle.vg_meta.specs.Tables.{VolumeTable}
 use Rattle.vg_store.specs.Groups.{LeavesGroup, area_of}
-use Rattle.vg_volumes.specs.Sites.{Site}
-use Rattle.sm_recover.specs.Stores.{HasNoStray, content_in, content_now, state_now}
+use Rattle.vg_volumes.specs.Sites.{Site, area_size}
+use Rattle.sm_ready.specs.Known.{Known}
+use Rattle.sm_ready.specs.Orderly.{IsOrderly}
+use Rattle.sm_ready.specs.Ready.{IsReady}
+use Rattle.sm_ready.specs.Sessions.{KeepsAll}
+use Rattle.sm_ready.specs.Stores.{Left, MayShow, content_in, content_now}
+use Rattle.sm_ready.proofs.RepairLaws.{ready_synced, same_left}
 use Rattle.sm_run.specs.Runs.{HasRun}
 use Rattle.sm_recover.specs.Repairs.{UnlessDeviceFailed}
 use Rattle.sm_run.specs.declared.runs.RunFault.{RunFault}
-use Rattle.sm_session.specs.Sessions.{MayShow, KeepsAll}
-use Rattle.sm_standing.specs.Contents.{Content}
 use Rattle.sm_standing.specs.Devices.{Shows, content_of}
-use Rattle.sm_standing.specs.Shapes.{shape}
+use Rattle.sm_standing.specs.Shapes.{IsStateOf}
 use Rattle.sm_standing.specs.Standing.{disks}
 use Rattle.lvhd_command.specs.declared.statuses.Status.{Status}
 use Rattle.lvhd_command.specs.declared.statuses.Status.TheVariants.{Done, Words, Device, Source, Sink, Refused, Memory, TooLong}
 use Rattle.lvhd_command.specs.Devices.{IsOpenedOn, IsSoundOn, IsRefusedOn, plate_at}
 use Rattle.lvhd_command.specs.Running.{RunSides, HasRunOn, HasStayed, ReadsAsState, EndsAs, ShowsOnly, IsGivenBack, ToldOf, HasTold, HasSaid, status_of}
 use Rattle.lvhd_command.specs.Texts.{line_of, fault_words}
-use Rattle.lvhd_command.proofs.OpenLaws.{standing, extents_in, StandsAlways, kept_device, shown_device}
+use Rattle.lvhd_command.proofs.OpenLaws.{standing, extents_in, StandsAlways, kept_device, shown_device, shown_standing}
 
 -- ---- a run's facts, with other words for what a stop leaves
 
@@ -59,37 +62,34 @@ run_as fewer at keeps r = record {
 abbrev pub IsOneTable : ℕ → Site → Held → VolumeTable → Type 0
 IsOneTable size site after t = (u : VolumeTable) (image : ℕ → List ℕ) → LeavesGroup size after (plate_at site) u image → u ≡ t
 
-abbrev state_of : Content → State
-state_of c = record { disks = disks c; shape = shape c }
-
-reads_as : (size : ℕ) (site : Site) (held after : Held) (t : VolumeTable) → IsGivenBack size site held after → IsOneTable size site after t → HasNoStray (content_now site t (area_of held))
-    → ReadsAsState size after (state_now site t (area_of held))
-reads_as size site held after t back one none =
+reads_as : (size : ℕ) (site : Site) (held after : Held) (t : VolumeTable) (σ : State) → IsGivenBack size site held after → IsOneTable size site after t → IsStateOf (content_now site t (area_of held)) σ
+    → ReadsAsState size after σ
+reads_as size site held after t σ back one state =
     let s = back.stands (reads after) (Allows-reads size after) in
     let left : LeavesGroup size after (plate_at site) s.table (extents_in (reads after)) = record { whole = reads after; allowed = Allows-reads size after; pointer = s.pointer; stands = s.stands; sectors = λ q. refl } in
     let content : content_now site t (area_of held) ≡ content_of (standing site s.pointer s.table) (reads after)
     = ap₂ (λ (u : VolumeTable) (image : ℕ → List ℕ). content_in site u image) (sym (one s.table (extents_in (reads after)) left)) (fun_ext (λ q. sym (back.extents.reads q))) in
-    record { group = standing site s.pointer s.table; stands = s.stands; state = ap state_of content; no_stray = subst HasNoStray content none }
+    record { group = standing site s.pointer s.table; stands = s.stands; state = subst (λ c. IsStateOf c σ) content state }
 
 -- ---- the whole
 
-pub has_run : (s : RunSides) (status : Status) (site : Site) (t : VolumeTable) (held : Held) (start : State) (result : Result ⊤ RunFault) (Ready : Type 0)
+pub has_run : (s : RunSides) (status : Status) (site : Site) (t : VolumeTable) (held : Held) (start end : State) (result : Result ⊤ RunFault) (Ready : Type 0)
     → IsSoundOn s.size (reads s.old) → Shows s.size (reads s.old) start.disks → IsOpenedOn s.size (reads s.old) start.shape
-    → HasRun start (state_now site t (area_of held)) result s.had_left s.left s.had_got s.got (MayShow site (LeavesGroup s.size held (plate_at site))) Ready (KeepsAll site (LeavesGroup s.size held (plate_at site)))
-    → IsGivenBack s.size site held s.new → (Ready → IsOneTable s.size site s.new t) → (Ready → HasNoStray (content_now site t (area_of held))) → EndsAs result s.size s.new (state_now site t (area_of held)) status
+    → HasRun start end result s.had_left s.left s.had_got s.got (MayShow site (LeavesGroup s.size held (plate_at site))) Ready (KeepsAll site (LeavesGroup s.size held (plate_at site)))
+    → IsGivenBack s.size site held s.new → (Ready → IsOneTable s.size site s.new t) → (Ready → IsStateOf (content_now site t (area_of held)) end) → EndsAs result s.size s.new end status
     → plate_of s.size (reads s.old) ≡ Ok (plate_at site) → HasRunOn s status
-has_run s status site t held start result Ready sound shown opened run back one none ends labelled =
+has_run s status site t held start end result Ready sound shown opened run back one state ends labelled =
     let always = back.stands in
     record {
       sound = sound;
       start = start;
-      end = state_now site t (area_of held);
+      end = end;
       result = result;
       shown = shown;
       opened = opened;
       did = run_as
           (λ ds m. let w = shown_device s.size s.new site ds always m in record { table = w.table; image = w.image; left = back.fewer w.table w.image w.left; shown = w.shown })
-          (λ r. reads_as s.size site held s.new t back (one r) (none r))
+          (λ r. reads_as s.size site held s.new t end back (one r) (state r))
           (λ keeps. kept_device s.size s.new site always (λ u image l. keeps u image (back.fewer u image l))) run;
       ends = ends;
       label = λ image allowed. (always image allowed).stands.labelled ∙ sym labelled;
@@ -118,24 +118,31 @@ kept_back_after size site held after k always = record {
 pub one_after : (size : ℕ) (site : Site) (held after : Held) (t : VolumeTable) → Keeps held after → IsOneTable size site held t → IsOneTable size site after t
 one_after size site held after t k one = λ u image l. one u image (fewer_after size site held after u image k l)
 
-pub shown_after : (size : ℕ) (held after : Held) (ds : List Disk) → Keeps held after → ShowsOnly size held ds → ShowsOnly size after ds
-shown_after size held after ds k only = λ es m. only es (record { image = m.image; allowed = Allows-keeps size m.image k m.allowed; shows = m.shows })
+-- where nothing is pending then, a stop of the device shows the disks that a read of the session gave
+pub shown_settled : (size : ℕ) (site : Site) (t : VolumeTable) (held after : Held) (m : Known) → area_place + area_size site ≤ size → IsOrderly site t m → IsReady site t (area_of held) m
+    → Keeps held after → IsSettled after → IsGivenBack size site held after → IsOneTable size site after t → ShowsOnly size after (disks (content_now site t (area_of held)))
+shown_settled size site t held after m room o ready k settled back one = λ es on.
+    let s = back.stands on.image on.allowed in
+    let left : LeavesGroup size after (plate_at site) s.table (extents_in on.image) = record { whole = on.image; allowed = on.allowed; pointer = s.pointer; stands = s.stands; sectors = λ q. refl } in
+    let area_settled : IsSettled (area_of after) = λ q. settled (area_place + q) in
+    let still = ready_synced site t (area_of held) (area_of after) m ready back.extents area_settled in
+    let is = (same_left site t (area_of after) m (extents_in on.image) o still area_settled (λ q below. on.allowed (area_place + q) (omega (arith, room, below)))).same_disks in
+    shown_standing size on.image site s.pointer s.table es s.stands on.shows
+    ∙ ap (λ (u : VolumeTable). disks (content_in site u (extents_in on.image))) (one s.table (extents_in on.image) left) ∙ is
+    ∙ ap (λ (image : ℕ → List ℕ). disks (content_in site t image)) (fun_ext (λ q. back.extents.reads q))
 
--- a stop of the device shows what a stop of the session shows
-pub shown_only : (size : ℕ) (site : Site) (held : Held) (ds : List Disk) → StandsAlways size held site
-    → ((es : List Disk) → MayShow site (LeavesGroup size held (plate_at site)) es → es ≡ ds) → ShowsOnly size held ds
-shown_only size site held ds always only = λ es m. only es (shown_device size held site es always m)
-
--- the same, where the session tells the size of its device
-pub has_run_sized : (s : RunSides) (status : Status) (other : ℕ) (site : Site) (t : VolumeTable) (held : Held) (start : State) (result : Result ⊤ RunFault) (Ready : Type 0) → other ≡ s.size
+-- the same, where the session tells the size of its device, and of what a stop may leave more than the group does
+pub has_run_sized : (s : RunSides) (status : Status) (other : ℕ) (site : Site) (t : VolumeTable) (held : Held) (start end : State) (result : Result ⊤ RunFault) (Ready told : Type 0) (failed : Bool) → other ≡ s.size
     → IsSoundOn s.size (reads s.old) → Shows s.size (reads s.old) start.disks → IsOpenedOn s.size (reads s.old) start.shape
-    → HasRun start (state_now site t (area_of held)) result s.had_left s.left s.had_got s.got (MayShow site (LeavesGroup other held (plate_at site))) Ready (KeepsAll site (LeavesGroup other held (plate_at site)))
-    → IsGivenBack other site held s.new → (Ready → IsOneTable other site s.new t) → (Ready → HasNoStray (content_now site t (area_of held))) → EndsAs result s.size s.new (state_now site t (area_of held)) status
+    → HasRun start end result s.had_left s.left s.had_got s.got (MayShow site (Left told site (LeavesGroup other held (plate_at site)) failed t (area_of held))) Ready (KeepsAll site (Left told site (LeavesGroup other held (plate_at site)) failed t (area_of held)))
+    → IsGivenBack other site held s.new → (Ready → IsOneTable other site s.new t) → (Ready → IsStateOf (content_now site t (area_of held)) end) → EndsAs result s.size s.new end status
     → plate_of s.size (reads s.old) ≡ Ok (plate_at site) → HasRunOn s status
-has_run_sized s status other site t held start result Ready is_size sound shown opened run back one none ends labelled =
-    has_run s status site t held start result Ready sound shown opened
-    (subst (λ n. HasRun start (state_now site t (area_of held)) result s.had_left s.left s.had_got s.got (MayShow site (LeavesGroup n held (plate_at site))) Ready (KeepsAll site (LeavesGroup n held (plate_at site)))) is_size run)
-    (subst (λ n. IsGivenBack n site held s.new) is_size back) (λ r. subst (λ n. IsOneTable n site s.new t) is_size (one r)) none ends labelled
+has_run_sized s status other site t held start end result Ready told failed is_size sound shown opened run back one state ends labelled =
+    let leaves = LeavesGroup other held (plate_at site) in
+    let by_group = run_as (λ ds m. record { table = m.table; image = m.image; left = inl m.left; shown = m.shown }) (λ r. r) (λ keeps u image l. keeps u image (inl l)) run in
+    has_run s status site t held start end result Ready sound shown opened
+    (subst (λ n. HasRun start end result s.had_left s.left s.had_got s.got (MayShow site (LeavesGroup n held (plate_at site))) Ready (KeepsAll site (LeavesGroup n held (plate_at site)))) is_size by_group)
+    (subst (λ n. IsGivenBack n site held s.new) is_size back) (λ r. subst (λ n. IsOneTable n site s.new t) is_size (one r)) state ends labelled
 
 -- a device that was handed back as it was
 pub back_itself : (size : ℕ) (site : Site) (held : Held) → StandsAlways size held site → IsGivenBack size site held held
@@ -150,10 +157,10 @@ ok_not_err r u f is failed = let e = sym is ∙ failed in (let x = e in cc)
 
 -- the script was read to its end
 pub ends_done : (size other : ℕ) (new : Held) (end : State) (result : Result ⊤ RunFault) (u : ⊤) (status : Status) (told : Type 0) → told → result ≡ Ok u → other ≡ size → ((status ≡ Done) × (told → IsSettled new)) ⊎ (status ≡ Device)
-    → ShowsOnly other new end.disks → EndsAs result size new end status
+    → (IsSettled new → ShowsOnly other new end.disks) → EndsAs result size new end status
 ends_done size other new end result u status told it is is_size ended only =
-    let only_here : ShowsOnly size new end.disks = subst (λ n. ShowsOnly n new end.disks) is_size only in
-    subst (λ (r : Result ⊤ RunFault). EndsAs r size new end status) (sym is) (⊎_elim (λ done. inl (done.0, done.1 it, only_here)) (λ failed. inr failed) ended)
+    subst (λ (r : Result ⊤ RunFault). EndsAs r size new end status) (sym is)
+    (⊎_elim (λ done. inl (done.0, done.1 it, subst (λ n. ShowsOnly n new end.disks) is_size (only (done.1 it)))) (λ failed. inr failed) ended)
 
 pub ends_early : (size : ℕ) (new : Held) (end : State) (result : Result ⊤ RunFault) (f : RunFault) (status : Status) → result ≡ Err f → status ≡ status_of (Err f) → EndsAs result size new end status
 ends_early size new end result f status is status_is = subst (λ (r : Result ⊤ RunFault). EndsAs r size new end status) (sym is) status_is

@@ -5,7 +5,7 @@ use Rattle.sm_base.specs.declared.faults.OpenFault.{OpenFault}
 use Rattle.sm_disk.specs.Held.{Held, Keeps, reads}
 use Rattle.sm_disk.proofs.HeldLaws.{Keeps-then}
 use Rattle.sm_standing.specs.Checks.{first_fault_today}
-use Rattle.sm_recover.specs.Stores.{content_now}
+use Rattle.sm_ready.specs.Stores.{content_now}
 use Rattle.vg_layout.specs.Opening.{StandsOn, plate_of}
 use Rattle.vg_layout.specs.Sectors.{Plate, Pointer}
 use Rattle.vg_meta.specs.Tables.{VolumeTable}

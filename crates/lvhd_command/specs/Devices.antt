@@ -1,5 +1,5 @@
 -- What a stop of a device may show, and when a device is kept: whatever it leaves opens again (this project's format).
-use Rattle.std.specs.Prelude.{◌≡◌, ℕ, List, None, Some}
+use Rattle.std.specs.Prelude.{◌≡◌, ℕ, Bool, List, None, Some}
 use Rattle.sm_base.specs.declared.faults.OpenFault.{OpenFault}
 use Rattle.sm_base.specs.declared.faults.OpenFault.TheVariants.{Damaged}
 use Rattle.sm_base.specs.declared.faults.Place.{Place}
@@ -8,7 +8,10 @@ use Rattle.sm_machine.specs.Disks.{Disk}
 use Rattle.vg_layout.specs.Opening.{GroupFound, StandsOn, IsRefused}
 use Rattle.vg_layout.specs.Sectors.{Plate}
 use Rattle.vg_layout.specs.declared.labels.GroupLabel.{GroupLabel}
+use Rattle.vg_meta.specs.Tables.{VolumeTable}
+use Rattle.vg_store.specs.Groups.{LeavesGroup, area_of}
 use Rattle.vg_volumes.specs.Sites.{Site}
+use Rattle.sm_ready.specs.Stores.{Leaving, Left}
 use Rattle.sm_standing.specs.Checks.{first_fault_today}
 use Rattle.sm_machine.specs.Shapes.{Shape}
 use Rattle.sm_standing.specs.Devices.{IsKeptOn, Shows, content_of}
@@ -48,3 +51,7 @@ site_on l size = record { geometry = l.geometry; count = l.extents; identity = l
 -- what the label of such a group says
 abbrev pub plate_at : Site → Plate
 plate_at s = record { extent = s.geometry.extent; block = s.geometry.block; entries = s.geometry.entries; count = s.count; identity = s.identity }
+
+-- what a stop may leave of a group on this device: a table, and the sectors of the extents
+abbrev pub group_leaves : Type 0 → ℕ → Held → GroupLabel → Bool → VolumeTable → Leaving
+group_leaves told size h l failed t = Left told (site_on l size) (LeavesGroup size h (plate_at (site_on l size))) failed t (area_of h)

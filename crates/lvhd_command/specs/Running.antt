@@ -15,10 +15,8 @@ use Rattle.vg_volumes.specs.Sites.{Site}
 use Rattle.sm_run.specs.Runs.{HasRun}
 use Rattle.sm_run.specs.declared.runs.RunFault.{RunFault}
 use Rattle.sm_run.specs.declared.runs.RunFault.TheVariants as run
-use Rattle.sm_recover.specs.Stores.{HasNoStray}
 use Rattle.sm_standing.specs.Devices.{Shows, content_of}
-use Rattle.sm_standing.specs.Shapes.{shape}
-use Rattle.sm_standing.specs.Standing.{disks}
+use Rattle.sm_standing.specs.Shapes.{IsStateOf}
 use Rattle.lvhd_command.specs.declared.statuses.Status.{Status}
 use Rattle.lvhd_command.specs.declared.statuses.Status.TheVariants.{Done, Words, Device, Source, Sink, Refused, Memory, TooLong}
 use Rattle.lvhd_command.specs.Devices.{IsKeptDevice, MayShowOn, IsSoundOn, IsRefusedOn, IsOpenedOn, plate_at}
@@ -56,12 +54,11 @@ status_of (Err run.Source) = Source
 status_of (Err run.Sink) = Sink
 status_of (Err run.TooLong) = TooLong
 
--- a read gives the machine's disks and shape, and each record is that of a disk
+-- a read gives the machine's state: its disks, and its shape but for attachments and operation
 pub record ReadsAsState (size : ℕ) (h : Held) (σ : State) : Type 0 where
   pub group : GroupFound
   pub stands : StandsOn size (reads h) group
-  pub state : σ ≡ record { disks = disks (content_of group (reads h)); shape = shape (content_of group (reads h)) }
-  pub no_stray : HasNoStray (content_of group (reads h))
+  pub state : IsStateOf (content_of group (reads h)) σ
 
 -- a stop shows these disks and no others
 abbrev pub ShowsOnly : ℕ → Held → List Disk → Type 0

@@ -5,18 +5,18 @@ ghost use Rattle.sm_base.specs.declared.faults.OpenFault.{OpenFault};
 ghost use Rattle.sm_disk.specs.Held.{Keeps, reads};
 ghost use Rattle.sm_machine.specs.Disks.{Disk};
 ghost use Rattle.sm_standing.specs.Devices.{Shows};
-ghost use Rattle.sm_standing.specs.Shapes.{shape};
 ghost use Rattle.sm_standing.specs.Standing.{disks};
 ghost use Rattle.vg_meta.specs.Roomy.{table_alone};
-ghost use Rattle.vg_layout.specs.Fields.{plate};
 ghost use Rattle.vg_layout.specs.Opening.{plate_of};
-ghost use Rattle.vg_store.specs.Groups.{LeavesGroup, area_of};
+ghost use Rattle.vg_store.specs.Groups.{area_of};
 ghost use Rattle.vg_store.specs.Openings.{IsAnswer};
+ghost use Rattle.sm_ready.specs.Known.{known, shape_in};
+ghost use Rattle.sm_ready.specs.Ready.{IsReady};
+ghost use Rattle.sm_ready.specs.Sessions.{KeepsAll, state_in};
+ghost use Rattle.sm_ready.specs.Stores.{MayShow, content_now};
 ghost use Rattle.sm_recover.specs.Repairs.{UnlessDeviceFailed};
-ghost use Rattle.sm_recover.specs.Stores.{IsAtRest, content_now, state_now};
 ghost use Rattle.sm_run.specs.Runs.{BeginsSettled};
-ghost use Rattle.sm_session.specs.Sessions.{MayShow, KeepsAll};
-ghost use Rattle.lvhd_command.specs.Devices.{IsKeptDevice, IsSoundOn, IsRefusedOn, IsOpenedOn, plate_at, site_on};
+ghost use Rattle.lvhd_command.specs.Devices.{IsKeptDevice, IsSoundOn, IsRefusedOn, IsOpenedOn, group_leaves, plate_at, site_on};
 ghost use Rattle.lvhd_command.specs.Running.{ShowsNothingNew, KeepsBeside, MayHaveLabel};
 
 use sm_base::OpenFault;
@@ -37,13 +37,14 @@ pub fn open<D: Disk>(alloc: Global, disk: D, now: u32) -> Result<Session<Group<D
     ensures whole { IfOk result (λ s. s.broken ≡ false) }
     ensures now { IfOk result (λ s. s.now ≡ now) }
     ensures sound { IfOk result (λ s. D.told → IsSoundOn (D.size disk) (reads (D.held disk))) }
-    ensures rest { IfOk result (λ s. D.told → IsAtRest (site_on s.store.label (D.size s.store.disk)) (table_alone s.store.table) (area_of (D.held s.store.disk)) s.records) }
+    ensures ready { IfOk result (λ s. D.told → IsReady (site_on s.store.label (D.size s.store.disk)) (table_alone s.store.table) (area_of (D.held s.store.disk)) (known s.memory)) }
     ensures shown { IfOk result (λ s. D.told → Shows (D.size disk) (reads (D.held disk)) (disks (content_now (site_on s.store.label (D.size s.store.disk)) (table_alone s.store.table) (area_of (D.held s.store.disk))))) }
-    ensures opened { IfOk result (λ s. D.told → IsOpenedOn (D.size disk) (reads (D.held disk)) (shape (content_now (site_on s.store.label (D.size s.store.disk)) (table_alone s.store.table) (area_of (D.held s.store.disk))))) }
+    ensures opened { IfOk result (λ s. D.told → IsOpenedOn (D.size disk) (reads (D.held disk)) (shape_in (site_on s.store.label (D.size s.store.disk)) (table_alone s.store.table) (known s.memory))) }
     ensures label { IfOk result (λ s. D.told → plate_of (D.size disk) (reads (D.held disk)) ≡ Ok (plate_at (site_on s.store.label (D.size s.store.disk)))) }
-    ensures kept { IfOk result (λ s. D.told → KeepsAll (site_on s.store.label (D.size s.store.disk)) (LeavesGroup (D.size s.store.disk) (D.held s.store.disk) (plate s.store.label))) }
-    ensures begins { IfOk result (λ s. D.told → BeginsSettled (state_now (site_on s.store.label (D.size s.store.disk)) (table_alone s.store.table) (area_of (D.held s.store.disk)))
-        (MayShow (site_on s.store.label (D.size s.store.disk)) (LeavesGroup (D.size s.store.disk) (D.held s.store.disk) (plate s.store.label)))) }
+    ensures kept { IfOk result (λ s. D.told → KeepsAll (site_on s.store.label (D.size s.store.disk))
+        (group_leaves D.told (D.size s.store.disk) (D.held s.store.disk) s.store.label s.store.failed (table_alone s.store.table))) }
+    ensures begins { IfOk result (λ s. D.told → BeginsSettled (state_in (site_on s.store.label (D.size s.store.disk)) (table_alone s.store.table) (area_of (D.held s.store.disk)) (known s.memory))
+        (MayShow (site_on s.store.label (D.size s.store.disk)) (group_leaves D.told (D.size s.store.disk) (D.held s.store.disk) s.store.label s.store.failed (table_alone s.store.table)))) }
     ensures beside { IfOk result (λ s. D.told → KeepsBeside (D.size disk) (D.held disk) (D.held s.store.disk)) }
     ensures size_back { IfErr result (λ e. D.size e.1 ≡ D.size disk) }
     ensures counts_back { IfErr result (λ e. D.faults disk ≤ D.faults e.1) }

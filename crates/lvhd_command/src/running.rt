@@ -3,7 +3,9 @@
 ghost use Rattle.std.specs.Prelude.{◌≡◌, ◌≢◌, ◌≤◌, ◌⊎◌, ℕ, List, false, Err};
 ghost use Rattle.sm_base.specs.declared.faults.OpenFault.{OpenFault};
 ghost use Rattle.sm_disk.specs.Held.{Allows, IsSettled, Keeps, Rose, reads};
-ghost use Rattle.sm_recover.specs.Stores.{IsAtRest, content_now};
+ghost use Rattle.sm_ready.specs.Known.{known};
+ghost use Rattle.sm_ready.specs.Ready.{IsReady};
+ghost use Rattle.sm_ready.specs.Stores.{content_now};
 ghost use Rattle.sm_standing.specs.Standing.{disks};
 ghost use Rattle.vg_layout.specs.Fields.{plate};
 ghost use Rattle.vg_meta.specs.Roomy.{table_alone};
@@ -93,8 +95,6 @@ fn leave<D: Disk>(session: Session<Group<D>>) -> D
     ensures disk { result ≡ session.store.disk }
     ensures stands { D.told → (image : ℕ → List ℕ) → Allows (D.size session.store.disk) (D.held session.store.disk) image → GroupStands (D.size session.store.disk) image (plate session.store.label) }
     ensures one { D.told → session.broken ≡ false → (t : VolumeTable) (image : ℕ → List ℕ) → LeavesGroup (D.size session.store.disk) (D.held session.store.disk) (plate session.store.label) t image → t ≡ table_alone session.store.table }
-    ensures shown { D.told → session.broken ≡ false → IsAtRest (site_on session.store.label (D.size session.store.disk)) (table_alone session.store.table) (area_of (D.held session.store.disk)) session.records
-        → ShowsOnly (D.size session.store.disk) (D.held session.store.disk) (disks (content_now (site_on session.store.label (D.size session.store.disk)) (table_alone session.store.table) (area_of (D.held session.store.disk)))) }
 {
     session.into_store().into_disk()
 }
@@ -108,8 +108,8 @@ fn close<D: Disk>(session: Session<Group<D>>) -> (Status, D)
     ensures keeps { D.told → Keeps (D.held session.store.disk) (D.held result.1) }
     ensures back { D.told → IsGivenBack (D.size session.store.disk) (site_on session.store.label (D.size session.store.disk)) (D.held session.store.disk) (D.held result.1) }
     ensures one { D.told → session.broken ≡ false → (t : VolumeTable) (image : ℕ → List ℕ) → LeavesGroup (D.size session.store.disk) (D.held result.1) (plate session.store.label) t image → t ≡ table_alone session.store.table }
-    ensures shown { D.told → session.broken ≡ false → IsAtRest (site_on session.store.label (D.size session.store.disk)) (table_alone session.store.table) (area_of (D.held session.store.disk)) session.records
-        → ShowsOnly (D.size session.store.disk) (D.held result.1) (disks (content_now (site_on session.store.label (D.size session.store.disk)) (table_alone session.store.table) (area_of (D.held session.store.disk)))) }
+    ensures shown { D.told → session.broken ≡ false → IsReady (site_on session.store.label (D.size session.store.disk)) (table_alone session.store.table) (area_of (D.held session.store.disk)) (known session.memory)
+        → IsSettled (D.held result.1) → ShowsOnly (D.size session.store.disk) (D.held result.1) (disks (content_now (site_on session.store.label (D.size session.store.disk)) (table_alone session.store.table) (area_of (D.held session.store.disk)))) }
 {
     let mut disk = leave(session);
     match disk.sync() {

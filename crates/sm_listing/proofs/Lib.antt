@@ -1,3 +1,1 @@
-mod PutLaws
-mod ShownLaws
 pub mod ListLaws

@@ -1,5 +1,5 @@
 -- The rows of the records are those of the disks.
-use Rattle.std.proofs.Common.{◌≡◌, ℕ, zero, suc, ◌+◌, ◌-◌, ◌*◌, ◌^◌, ◌<◌, ◌≤◌, min, inl, inr, Bool, true, false, cond, List, [], ◌∷◌, length, map, drop, Option, Some, None, unwrap_or, refl, sym, ap, ap₂, ◌∙◌, subst, arith}
+use Rattle.std.proofs.Common.{◌≡◌, ℕ, zero, suc, ◌-◌, ◌*◌, ◌^◌, ◌<◌, ◌≤◌, inl, inr, Bool, true, false, cond, List, [], ◌∷◌, length, map, drop, Option, Some, None, unwrap_or, refl, sym, ap, ap₂, ◌∙◌, subst, arith}
 use Rattle.std.proofs.Math.Logic.{∥∥₁_elim}
 use Rattle.std.proofs.Math.Nat.{min-eq_left}
 use Rattle.std.proofs.Props.{props}
@@ -16,8 +16,8 @@ use Rattle.vhd_chain.specs.declared.rows.TreeRow.{TreeRow}
 use Rattle.sm_record.specs.declared.records.Record.{Record}
 use Rattle.sm_machine.specs.Disks.{Disk}
 use Rattle.sm_machine.specs.Shapes.{Shape, DiskRecord, free}
-use Rattle.sm_machine.specs.Commits.{commits, is_given_up, own_commits, gives_up}
-use Rattle.sm_machine.specs.Steps.{State, disk_row, step, step_whole, is_built, with_record, accepted, disks_next, shape_next, shape_after, reply_to, unless_refused}
+use Rattle.sm_machine.specs.Commits.{is_given_up, own_commits, gives_up}
+use Rattle.sm_machine.specs.Steps.{State, Outcome, disk_row, step, is_built, with_record, accepted, disks_next, shape_after, reply_to}
 use Rattle.sm_machine.specs.Refusals.{refusal, is_reserved, is_unknown, is_taken, is_in_use, is_not_attached, is_read_only, is_raw_disk, is_out_of_range, is_bad_size, is_shrink, is_deep, is_too_many, is_spent, lacks_space, need, named, new_uuid, forked}
 use Rattle.sm_machine.specs.WellFormed.{IsWellFormed}
 use Rattle.sm_machine.specs.declared.commands.Command.TheVariants.{List as ListDisks}
@@ -35,7 +35,8 @@ use Rattle.sm_ready.proofs.ShapeLaws.{records_now}
 use Rattle.sm_ready.proofs.SizeLaws.{law_size}
 use Rattle.sm_mgt.specs.Places.{place_count}
 use Rattle.sm_listing.specs.Listed.{byte_size, shown_size, row_with, listed_row, is_row_before, with_row, with_listed, listed}
-use Rattle.sm_listing.proofs.ShownLaws.{shown_row, shown_some, shown_none, few_sectors}
+use Rattle.sm_ready.proofs.ShownLaws.{shown_row, shown_some, shown_none, few_sectors}
+use Rattle.sm_ready.proofs.TakenLaws.{step_by, step_still}
 
 -- a record of the machine as it is listed
 abbrev row_of : List TreeRow → DiskRecord → DiskRow
@@ -62,9 +63,9 @@ listed_records s t m (Some r ∷ places) o w = by (is_shown m.rows r.uuid) refl 
     by : (b : Bool) → is_shown m.rows r.uuid ≡ b → listed m.rows places ≡ map (row_of m.rows) (records_in ps)
         → with_listed (listed_row m.rows r) (listed m.rows places) ≡ map (row_of m.rows) (records_in (cond b (Some r ∷ ps) ps))
     by true is rest =
-        let k = shown_some s t m r.uuid o w is in
-        ap₂ with_listed (sized m.rows r k.0 k.1) rest ∙ sym (more m.rows (machine_record r) (records_in ps))
-    by false is rest = ap (λ o. with_listed (row_with r o) (listed m.rows places)) (shown_none m.rows r.uuid is) ∙ rest
+        let k = shown_some (λ q. sector_count q.image) s t m r.uuid o w is in
+        ap₂ with_listed (sized m.rows r (sector_count k.0.image) k.3) rest ∙ sym (more m.rows (machine_record r) (records_in ps))
+    by false is rest = ap (λ o. with_listed (row_with r o) (listed m.rows places)) (shown_none (λ q. sector_count q.image) m.rows r.uuid is) ∙ rest
 
 -- ---- and those are the rows of the disks
 
@@ -76,7 +77,7 @@ of_disk : (s : Site) (t : VolumeTable) (area : Held) (m : Known) (d : Disk) → 
 of_disk s t area m d o ready w i =
     let h = law_size s t area m d o ready i in
     let size : byte_size (unwrap_or (shown_size m.rows d.uuid) 0) ≡ length d.sectors * 512 =
-    ap (λ (x : Option ℕ). byte_size (unwrap_or x 0)) (shown_row s t m h.row d.uuid o w h.there h.shown h.named)
+    ap (λ (x : Option ℕ). byte_size (unwrap_or x 0)) (shown_row (λ q. sector_count q.image) s t m h.row d.uuid o w h.there h.shown h.named)
     ∙ told (sector_count h.row.image) (few_sectors s t m h.row o w h.there)
     ∙ ap (λ k. k * 512) (sym h.size) in
     ap (λ (k : ℕ). let x : DiskRow = record { uuid = d.uuid; size = k; read_only = d.read_only; origin = d.origin; label = d.label } in x) size
@@ -98,18 +99,13 @@ unfolding refusal is_reserved is_unknown is_taken is_in_use is_not_attached is_r
 never s = ap (λ b. first_some (given b (NoSpace 0 (free s)) ∷ [])) (le-ltb (free s) 0 (omega arith))
 
 step_reply : (σ : State) → (step σ ListDisks).reply ≡ reply.List (map disk_row σ.disks)
-unfolding step is_built step_whole accepted reply_to
-step_reply σ = ap (λ o. (unless_refused o σ ListDisks).reply) (never σ.shape)
-
-same_number : (n : ℕ) → n < 2 ^ 48 → min (n + 0) (2 ^ 48 - 1) ≡ n
-same_number n h = omega arith
+unfolding is_built accepted reply_to
+step_reply σ = ap (λ (o : Outcome). o.reply) (step_by σ ListDisks None refl (never σ.shape))
 
 -- and leaves the state
 pub step_after : (σ : State) → σ.shape.sequence < 2 ^ 48 → (step σ ListDisks).after ≡ σ
-unfolding step is_built step_whole accepted disks_next shape_next shape_after commits own_commits is_given_up gives_up
-step_after σ few =
-    ap (λ o. (unless_refused o σ ListDisks).after) (never σ.shape)
-    ∙ ap (λ n. let sh : Shape = record σ.shape { sequence = n } in let w : State = record σ { shape = sh } in w) (same_number σ.shape.sequence few)
+unfolding is_built disks_next shape_after own_commits is_given_up gives_up
+step_after σ few = step_still σ ListDisks refl (never σ.shape) few refl refl refl refl
 
 pub law_list : (s : Site) (t : VolumeTable) (area : Held) (m : Known) (rows : List DiskRow) → rows ≡ listed m.rows m.places → IsOrderly s t m → IsReady s t area m → reply.List rows ≡ (step (state_in s t area m) ListDisks).reply
 law_list s t area m rows is o ready =

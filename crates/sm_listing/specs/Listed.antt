@@ -1,23 +1,20 @@
 -- The rows of the disks, by what is in memory (this project's format).
-use Rattle.std.specs.Prelude.{ℕ, ◌*◌, ◌-◌, ◌^◌, min, Bool, List, [], ◌∷◌, Option, Some, None, if◌then◌else◌}
-use Rattle.std.specs.Option.{option_or}
+use Rattle.std.specs.Prelude.{ℕ, ◌*◌, ◌-◌, ◌^◌, min, Bool, List, [], ◌∷◌, Option, Some, None}
 use Rattle.common_laws.specs.Lists.{insert_by}
-use Rattle.sm_base.specs.declared.names.Name.TheVariants.{Vhd, Raw}
 use Rattle.sm_machine.specs.Disks.{sector_bytes, uuid_before}
 use Rattle.sm_machine.specs.declared.replies.DiskRow.{DiskRow}
 use Rattle.sm_record.specs.declared.records.Record.{Record}
 use Rattle.vhd_image.specs.Bodies.{sector_count}
-use Rattle.vhd_chain.specs.Trees.{tree_row}
 use Rattle.vhd_chain.specs.declared.rows.TreeRow.{TreeRow}
+use Rattle.sm_ready.specs.Shown.{of_shown, of_visible}
 
 -- the size in sectors of an image, where it is visible
 abbrev pub visible_size : Option TreeRow → Option ℕ
-visible_size None = None
-visible_size (Some r) = if r.hidden then None else Some (sector_count r.image)
+visible_size o = of_visible (λ r. sector_count r.image) o
 
 -- the size in sectors of the visible image of a UUID
-unfoldable pub shown_size : List TreeRow → List ℕ → Option ℕ
-shown_size rows u = option_or (visible_size (tree_row rows (Vhd u))) (visible_size (tree_row rows (Raw u)))
+abbrev pub shown_size : List TreeRow → List ℕ → Option ℕ
+shown_size rows u = of_shown (λ r. sector_count r.image) rows u
 
 -- so many sectors in bytes, up to the greatest number of 64 bits
 abbrev pub byte_size : ℕ → ℕ

@@ -42,7 +42,7 @@ fn image_size(tree: &Tree, name: &Name) -> Option<u64>
 }
 
 /// The size in sectors of a disk's visible image.
-#[tactic(auto, unfolding(crate::specs::Listed::shown_size))]
+#[tactic(auto, unfolding(sm_ready::specs::Shown::of_shown))]
 fn disk_size(tree: &Tree, disk: &Uuid) -> Option<u64>
     ensures { result ≡ shown_size tree.now.rows disk.now }
 {

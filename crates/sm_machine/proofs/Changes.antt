@@ -20,6 +20,15 @@ pub find-map : {A : Type 0} (t : A → Bool) (g : A → A) → ((y : A) → t (g
 find-map t g h [] = refl
 find-map t g h (y ∷ ys) = found_case t g y ys (t y) (t (g y)) (h y) (find-map t g h ys)
 
+-- looking among those that pass, where those that do not are not looked for
+pub find-filter : {A : Type 0} (test keep : A → Bool) (xs : List A) → ((x : A) → In x xs → keep x ≡ false → test x ≡ false) → find test (filter keep xs) ≡ find test xs
+find-filter test keep [] none = refl
+find-filter test keep (x ∷ xs) none = by (keep x) refl (find-filter test keep xs (λ y i. none y (inr i)))
+  where
+    by : (b : Bool) → keep x ≡ b → find test (filter keep xs) ≡ find test xs → find test (cond b (x ∷ filter keep xs) (filter keep xs)) ≡ find test (x ∷ xs)
+    by true is rest = ap (λ o. cond (test x) (Some x) o) rest
+    by false is rest = rest ∙ sym (ap (λ b. cond b (Some x) (find test xs)) (none x (inl refl) is))
+
 -- a filter that passes less after a change
 le_case : {A : Type 0} (t : A → Bool) (g : A → A) (y : A) (ys : List A) (b c : Bool) → (c ≡ true → b ≡ true) → length (filter t (map g ys)) ≤ length (filter t ys) → length (cond c (g y ∷ filter t (map g ys)) (filter t (map g ys))) ≤ length (cond b (y ∷ filter t ys) (filter t ys))
 le_case t g y ys true true e ih = omega arith

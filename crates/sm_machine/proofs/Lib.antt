@@ -17,6 +17,7 @@ pub mod Idle
 pub mod ImageNames
 pub mod Listed
 pub mod Mapped
+pub mod Moments
 pub mod New
 pub mod Numbers
 pub mod Passed
@@ -26,3 +27,4 @@ pub mod Steps
 pub mod Swaps
 pub mod Tables
 pub mod Together
+pub mod Uses

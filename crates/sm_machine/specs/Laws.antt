@@ -1,6 +1,9 @@
 -- Laws of the machine: what holds of every step, whatever the definitions look like.
-use Rattle.std.specs.Prelude.{◌≡◌, ℕ, ◌*◌, ◌≤◌, Bool, true, false, []}
-use Rattle.std.specs.List.{list_any}
+use Rattle.std.specs.Prelude.{◌≡◌, ◌≢◌, ℕ, ◌+◌, ◌*◌, ◌<◌, ◌≤◌, Bool, true, false, not, [], ◌∷◌, ◌++◌, map, Some, if◌then◌else◌}
+use Rattle.std.specs.List.{filter, list_any}
+use Rattle.common_laws.specs.Lists.{In}
+use Rattle.sm_base.specs.declared.names.Name.{Name}
+use Rattle.sm_base.specs.declared.operations.Mode.TheVariants.{Rw}
 use Rattle.sm_base.specs.declared.operations.Op.TheVariants as op
 use Rattle.sm_base.specs.declared.operations.Plan.{Plan}
 use Rattle.sm_base.specs.declared.operations.Plan.TheVariants as plan
@@ -9,10 +12,10 @@ use Rattle.sm_machine.specs.declared.commands.Command.{Command}
 use Rattle.sm_machine.specs.declared.replies.Reply.TheVariants as reply
 use Rattle.sm_base.specs.Numbers.{IsGeometry}
 use Rattle.sm_machine.specs.declared.commands.Command.TheVariants.{Gc}
-use Rattle.sm_machine.specs.Shapes.{Shape, new_shape}
+use Rattle.sm_machine.specs.Shapes.{Shape, ImageRow, Attachment, free, image_uuid, is_vhd, new_shape, on_image, reads_through, refs, thick_in, with_image, without_image}
 use Rattle.sm_machine.specs.Collector.{next_step, is_garbage, is_loose, pairs, leaves, debt, IsLess}
-use Rattle.sm_machine.specs.Steps.{State, Outcome, shape_next, step_whole}
-use Rattle.sm_machine.specs.WellFormed.{AreDisksOf, IsWellFormed}
+use Rattle.sm_machine.specs.Steps.{State, Outcome, is_attached, shape_next, step_whole}
+use Rattle.sm_machine.specs.WellFormed.{AreDisksOf, IsOperation, IsSize, IsWellFormed}
 
 -- a refused command changes neither disks nor shape
 abbrev pub RefusedKeeps : (State → Command → Outcome) → Type 0
@@ -59,3 +62,68 @@ StepKeepsDisks by = (σ : State) (c : Command) → IsWellFormed σ.shape → Are
 -- no step of the collector changes a disk
 abbrev pub CollectorKeepsDisks : Type 0
 CollectorKeepsDisks = (σ : State) → (step_whole σ Gc).after.disks ≡ σ.disks
+
+-- ---- moments inside a command
+
+-- the volume of a VHD image may have so many extents: at least one, as many more as are free, and room for each of its
+-- blocks where its disk is attached for writing
+pub record MayHave (s : Shape) (i : ImageRow) (extents : ℕ) : Type 0 where
+  pub there : In i s.images
+  pub vhd : is_vhd i.name ≡ true
+  pub some : 0 < extents
+  pub room : extents ≤ i.extents + free s
+  pub thick : (a : Attachment) → In a s.attached → a.mode ≡ Rw → i.hidden ≡ false → image_uuid i.name ≡ a.disk → thick_in s i.size ≤ extents
+
+abbrev pub with_extents : ℕ → ImageRow → Shape → Shape
+with_extents extents i s = record s { images = on_image i.name (λ y. record y { extents = extents }) s.images }
+
+-- a volume that is enlarged or cut keeps a shape well-formed
+abbrev pub ExtentsKeepShape : Type 0
+ExtentsKeepShape = (s : Shape) (i : ImageRow) (extents : ℕ) → IsWellFormed s → MayHave s i extents → IsWellFormed (with_extents extents i s)
+
+-- a VHD image may have this greater size: each image that reads through it is as large, and each of its blocks has room
+-- where its disk is attached for writing
+pub record MayGrow (s : Shape) (i : ImageRow) (size : ℕ) : Type 0 where
+  pub there : In i s.images
+  pub vhd : is_vhd i.name ≡ true
+  pub whole : IsSize s size
+  pub more : i.size ≤ size
+  pub children : (y : ImageRow) → In y s.images → y.parent ≡ Some i.name → size ≤ y.size
+  pub thick : (a : Attachment) → In a s.attached → a.mode ≡ Rw → i.hidden ≡ false → image_uuid i.name ≡ a.disk → thick_in s size ≤ i.extents
+
+abbrev pub with_size : ℕ → ImageRow → Shape → Shape
+with_size size i s = record s { images = on_image i.name (λ y. record y { size = size }) s.images }
+
+-- an image that gets a greater size keeps a shape well-formed, where the operation stays one
+abbrev pub SizeKeepsShape : Type 0
+SizeKeepsShape = (s : Shape) (i : ImageRow) (size : ℕ) → IsWellFormed s → MayGrow s i size → IsOperation (with_size size i s) s.op → IsWellFormed (with_size size i s)
+
+-- ---- how many attached disks read through an image
+
+-- an image of a UUID that no image has
+pub record IsNewImage (s : Shape) (i : ImageRow) : Type 0 where
+  pub other : (y : ImageRow) → In y s.images → image_uuid y.name ≢ image_uuid i.name
+
+-- a hidden image through which no other reads
+pub record IsUnused (s : Shape) (n : Name) : Type 0 where
+  pub hidden : (y : ImageRow) → In y s.images → y.name ≡ n → y.hidden ≡ true
+  pub childless : (y : ImageRow) → In y s.images → y.parent ≢ Some n
+
+-- images with the same names, marks and parents
+pub record IsSeenAlike (g : ImageRow → ImageRow) : Type 0 where
+  pub name : (y : ImageRow) → (g y).name ≡ y.name
+  pub hidden : (y : ImageRow) → (g y).hidden ≡ y.hidden
+  pub parent : (y : ImageRow) → (g y).parent ≡ y.parent
+
+abbrev pub one_if : Bool → ℕ
+one_if b = if b then 1 else 0
+
+-- neither a new image, nor one less that is unused, nor a change that is not seen changes the users of any image; a disk
+-- that is attached or detached counts for each image that it reads through
+pub record UsesFollow : Type 0 where
+  pub more : (s : Shape) (i : ImageRow) (n : Name) → IsWellFormed s → IsNewImage s i → refs n (record s { images = with_image i s.images }) ≡ refs n s
+  pub less : (s : Shape) (x n : Name) → IsWellFormed s → IsUnused s x → refs n (record s { images = without_image x s.images }) ≡ refs n s
+  pub changed : (s : Shape) (g : ImageRow → ImageRow) (n : Name) → IsSeenAlike g → refs n (record s { images = map g s.images }) ≡ refs n s
+  pub attached : (s : Shape) (a : Attachment) (n : Name) → refs n (record s { attached = s.attached ++ a ∷ [] }) ≡ refs n s + one_if (reads_through n s a.disk)
+  pub detached : (s : Shape) (a : Attachment) (n : Name) → IsWellFormed s → In a s.attached
+      → refs n s ≡ refs n (record s { attached = filter (λ b. not (is_attached a.disk b)) s.attached }) + one_if (reads_through n s a.disk)

@@ -1,6 +1,6 @@
 //! Laws of the machine. Each function does nothing: its clause is the law, and the check proves it.
 
-ghost use Rattle.sm_machine.specs.Laws.{CollectorKeepsDisks, IdleIsDone, NewHasNoDisks, NewIsWellFormed, RefusedKeeps, StepKeepsDisks, StepKeepsShape, StepLowersDebt};
+ghost use Rattle.sm_machine.specs.Laws.{CollectorKeepsDisks, ExtentsKeepShape, IdleIsDone, NewHasNoDisks, NewIsWellFormed, RefusedKeeps, SizeKeepsShape, StepKeepsDisks, StepKeepsShape, StepLowersDebt, UsesFollow};
 ghost use Rattle.sm_machine.specs.Steps.{step, step_whole};
 
 /// A refused command changes neither disks nor shape.
@@ -42,4 +42,16 @@ pub fn step_keeps_disks()
 /// No step of the collector changes a disk.
 pub fn collector_keeps_disks()
     ensures disks { CollectorKeepsDisks }
+{}
+
+/// The volume of a VHD image may get more of the free extents, or be cut, and an image may get a greater size: the moments
+/// inside a command, which no step ends in.
+pub fn moments_keep_shape()
+    ensures extents { ExtentsKeepShape }
+    ensures size { SizeKeepsShape }
+{}
+
+/// How many attached disks read through an image, after a change of the images or of the attachments.
+pub fn uses_follow()
+    ensures { UsesFollow }
 {}

@@ -1,9 +1,2 @@
 mod FillLaws
-mod WriteLaws
-mod AcceptLaws
-mod CauseSteps
-mod MakeLaws
-mod EndLaws
-mod JoinLaws
-mod PrepareLaws
-mod CommandLaws
+mod RawLaws

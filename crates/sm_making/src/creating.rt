@@ -27,6 +27,7 @@ use vg_volumes::Store;
 ///
 /// # Errors
 /// A call of the store failed; a stop leaves the disks from before, or these and the new one.
+#[tactic(auto, unfolding(sm_machine::specs::Runs::is_accepted))]
 pub fn create<S: Store>(
     alloc: Global,
     store: &mut S,

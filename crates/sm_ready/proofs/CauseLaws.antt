@@ -26,17 +26,17 @@ use Rattle.sm_ready.proofs.RowLaws.{tree_found}
 use Rattle.sm_ready.proofs.ShapeLaws.{any_at}
 
 -- a name of an image with this UUID
-named_as : (n : Name) (u : List ℕ) → is_image_name n ≡ true → image_uuid n ≡ u → (n ≡ Vhd u) ⊎ (n ≡ Raw u)
+pub named_as : (n : Name) (u : List ℕ) → is_image_name n ≡ true → image_uuid n ≡ u → (n ≡ Vhd u) ⊎ (n ≡ Raw u)
 unfolding is_image_name image_uuid
 named_as (Vhd v) u e same = inl (ap Vhd same)
 named_as (Raw v) u e same = inr (ap Raw same)
 named_as _ u e same = absurd (true≢false (sym e))
 
-vhd_uuid : (u : List ℕ) → image_uuid (Vhd u) ≡ u
+pub vhd_uuid : (u : List ℕ) → image_uuid (Vhd u) ≡ u
 unfolding image_uuid
 vhd_uuid u = refl
 
-raw_uuid : (u : List ℕ) → image_uuid (Raw u) ≡ u
+pub raw_uuid : (u : List ℕ) → image_uuid (Raw u) ≡ u
 unfolding image_uuid
 raw_uuid u = refl
 

@@ -1,4 +1,5 @@
--- The text of a table of which memory is orderly fits its slot.
+-- The text of a table of few images and of one journal entry at most fits its slot, so that of a table of which memory is
+-- orderly.
 use Rattle.std.proofs.Common.{◌≡◌, suc, ℕ, ◌+◌, ◌*◌, ◌≤◌, Bool, true, false, cond, List, [], ◌∷◌, length, filter, refl, sym, ap, subst, arith, length-append}
 use Rattle.std.specs.List.{AllByRecursion, flat_map}
 use Rattle.std.specs.List.Sorted.{IsStrictlySortedBy}
@@ -11,7 +12,10 @@ use Rattle.sm_base.specs.declared.operations.Op.TheVariants as op
 use Rattle.sm_base.specs.Kinds.{is_image, is_entry}
 use Rattle.sm_base.specs.Names.{name_cmp}
 use Rattle.sm_base.proofs.NameLemmas.{length-spelling-le}
-use Rattle.vg_meta.specs.Tables.{VolumeTable, Row, IsVolume, names_of, extents_in}
+use Rattle.vg_meta.specs.Tables.{VolumeTable, Row, IsTable, IsVolume, names_of, extents_in}
+use Rattle.sm_machine.specs.Shapes.{image_limit}
+use Rattle.sm_standing.specs.Checks.{images}
+use Rattle.sm_standing.specs.Entries.{names_in}
 use Rattle.vg_meta.specs.Text.{text, volume_text}
 use Rattle.vg_meta.proofs.DecodeLaws.{used-le}
 use Rattle.vg_meta.proofs.NameLaws.{less_other}
@@ -77,16 +81,10 @@ one_entry (op.Copy v p cursor) = omega arith
 one_entry (op.Relink v p) = omega arith
 one_entry (op.Leaf l p cursor) = omega arith
 
+-- a table of few images and of one entry at most
+pub fits_few : (count : ℕ) (t : VolumeTable) → IsTable count t → count ≤ 65536 → length (images t) ≤ image_limit → length (names_in t is_entry) ≤ 1 → length (text t) ≤ text_limit
+fits_few count t table extents few one =
+    omega (arith, length-text t, long_volumes t.volumes table.volumes.each, one_other t.volumes table.volumes.rising, one, few, used-le count t.volumes table.volumes, extents)
+
 pub fits_orderly : (s : Site) (t : VolumeTable) (m : Known) → IsOrderly s t m → length (text t) ≤ text_limit
-fits_orderly s t m o =
-    omega (
-      arith,
-      length-text t,
-      long_volumes t.volumes o.table.volumes.each,
-      one_other t.volumes o.table.volumes.rising,
-      ap (λ (ns : List Name). length ns) o.entries,
-      one_entry m.op,
-      o.few,
-      used-le s.count t.volumes o.table.volumes,
-      o.few_extents,
-    )
+fits_orderly s t m o = fits_few s.count t o.table o.few_extents o.few (omega (arith, ap (λ (ns : List Name). length ns) o.entries, one_entry m.op))

@@ -27,7 +27,7 @@ use Rattle.common_laws.proofs.Lists.{In-map, In-map_at}
 use Rattle.sm_record.specs.Records.{reading}
 use Rattle.sm_record.specs.declared.records.Reading.{Reading}
 use Rattle.sm_record.specs.declared.records.Reading.TheVariants.{Free}
-use Rattle.sm_standing.specs.Additions.{SameReadings}
+use Rattle.sm_standing.specs.Readings.{SameReadings}
 use Rattle.sm_standing.specs.Contents.{sectors_of, reading_at, record_count, record_of}
 use Rattle.sm_standing.specs.Entries.{is_visible}
 use Rattle.sm_standing.specs.Images.{Image, image_of}

@@ -1,4 +1,4 @@
--- The last commit of raw create: the new volume is marked as filled, and memory has a row and a record more.
+-- The last commit of a command that makes a disk: the new volume is marked as filled, and memory has a row and a record more.
 use Rattle.std.proofs.Common.{◌≡◌, ◌≢◌, ◌⊎◌, inl, inr, ⊎_elim, ℕ, zero, suc, ◌*◌, ◌<◌, ◌≤◌, ◌&&◌, ◌||◌, not, Bool, true, false, cond, List, [], ◌∷◌, length, map, get_or, Option, Some, None, refl, sym, ap, ap₂, ◌∙◌, subst, arith}
 use Rattle.std.proofs.Math.Path.{fun_ext}
 use Rattle.std.proofs.Math.ListN.{set}
@@ -36,14 +36,14 @@ use Rattle.sm_machine.specs.Disks.{Disk, with_disk, uuid_before}
 use Rattle.common_laws.specs.Lists.{In, insert_by, numbers, ◌>>=◌}
 use Rattle.sm_machine.specs.Shapes.{ImageRow, DiskRecord, is_image_of, image_uuid, with_image, refs, image_limit, chain_limit}
 use Rattle.sm_machine.specs.Steps.{with_record}
-use Rattle.sm_machine.specs.WellFormed.{IsWellFormed}
+use Rattle.sm_machine.specs.WellFormed.{IsWellFormed, is_image_name}
 use Rattle.common_laws.proofs.Lists.{In-insert, In-map, In-map_at}
 use Rattle.sm_record.specs.declared.records.Record.{Record}
 use Rattle.sm_standing.specs.Contents.{Content, sectors_of, reading_at, record_count, records, record_of, is_record_of}
 use Rattle.sm_standing.specs.Entries.{is_visible, of_row}
 use Rattle.sm_standing.specs.Standing.{standing_volume, disk_at, disk_in, disks}
 use Rattle.sm_standing.specs.Images.{Image, image_of, sectors_read, image_reads, answer_of}
-use Rattle.sm_standing.specs.Additions.{OneReading}
+use Rattle.sm_standing.specs.Readings.{OneReading}
 use Rattle.sm_standing.proofs.RecordLists.{records_alike, records_one, record_of_first, first_of}
 use Rattle.sm_standing.proofs.WalkLaws.{walk_same, turn-up}
 use Rattle.sm_standing.proofs.DiskLists.{disks_more}
@@ -54,7 +54,8 @@ use Rattle.vhd_chain.specs.Trees.{row_name, tree_row}
 use Rattle.sm_ready.specs.Orderly.{IsOrderly, IsRoomyIn}
 use Rattle.vhd_image.specs.Bodies.{StandsIn, sector_count, parent_name}
 use Rattle.sm_ready.proofs.Orders.{new_unrowed, geometry_of, whole, In-tree_row}
-use Rattle.sm_ready.proofs.RowLaws.{found_in, tree_found}
+use Rattle.sm_ready.proofs.CauseLaws.{named_as, vhd_uuid, raw_uuid}
+use Rattle.sm_ready.proofs.RowLaws.{found_in, image_named, tree_found}
 use Rattle.vg_meta.proofs.ChangeLaws.{IsTable-applied}
 use Rattle.vg_meta.proofs.RowLaws.{names_of-with_row}
 use Rattle.sm_standing.proofs.DisksShown.{row_of-In}
@@ -73,7 +74,6 @@ use Rattle.sm_ready.proofs.MiddleLaws.{middle_in, middle_safe}
 use Rattle.sm_ready.specs.Middle.{IsStray, IsMiddle}
 use Rattle.sm_ready.proofs.RestLaws.{keeps_rest, steady_keeps, agrees_keeps}
 use Rattle.sm_base.specs.declared.operations.Op.TheVariants as op
-use Rattle.vhd_image.specs.declared.images.Body.TheVariants as body
 
 -- ---- memory with a row more
 
@@ -201,84 +201,91 @@ records_more q rs qs (Some x ∷ places) (suc k) r below free each now =
 
 -- ---- ready
 
--- what stands in table and memory before the last commit
-pub record IsMade (s : Site) (t : VolumeTable) (m : Known) (k : ℕ) (r : Record) (row : Row) : Type 0 where
+-- what stands in table and memory before the last commit: a new volume of this name, and the image that it is to be
+pub record IsMade (s : Site) (t : VolumeTable) (m : Known) (own : Name) (added : TreeRow) (k : ℕ) (r : Record) (row : Row) : Type 0 where
   pub orderly : IsOrderly s t m
   pub no_stray : HasNoStray m
   pub idle : m.op ≡ op.Idle
   pub stray : IsStray m k r
-  pub there : rows t (Raw r.uuid) ≡ Some row
+  pub there : rows t own ≡ Some row
   pub fresh : row.fresh ≡ true
   pub visible : row.hidden ≡ false
-  pub allows : Permits s.count t (Mark (Raw r.uuid) Fresh false)
+  pub allows : Permits s.count t (Mark own Fresh false)
+  pub image : is_image_name own ≡ true
+  pub uuid : image_uuid own ≡ r.uuid
+  pub named : row_name added ≡ own
+  pub shown : added.hidden ≡ false
+  pub long : added.extents ≡ length row.extents
+  pub stands : StandsIn s.geometry (added.extents * s.geometry.extent) added.image
 
--- and in the sectors: the zeros and the record are written
-pub record IsWritten (s : Site) (t : VolumeTable) (m : Known) (old new : Held) (k : ℕ) (r : Record) : Type 0 where
+-- and in the sectors: those of the image and the record are written
+pub record IsWritten (s : Site) (t : VolumeTable) (m : Known) (old new : Held) (own : Name) (added : TreeRow) (k : ℕ) (r : Record) : Type 0 where
   pub ready : IsReady s t old m
   pub settled : (n : Name) → IsQuiet (volume_of s t old n)
   pub middle : IsMiddle s t m old new k r
   pub agrees : Agrees (records_held s t new) (set m.places k (Some r))
+  pub steady : IsSteady s.geometry (added.extents * s.geometry.extent) (volume_of s t (at_rest (held_reads new)) own) added.image
 
--- the image in memory, and memory after it
-abbrev pub made_row : Site → Record → Row → TreeRow
-made_row s r row = record { image = body.Raw (Raw r.uuid) (length row.extents * s.geometry.extent); hidden = false; extents = length row.extents }
+-- memory after it
+abbrev pub made_memory : TreeRow → ℕ → Record → Known → Known
+made_memory added k r m = record m { rows = with_tree added m.rows; places = set m.places k (Some r) }
 
-abbrev pub made_memory : Site → ℕ → Record → Row → Known → Known
-made_memory s k r row m = record m { rows = with_tree (made_row s r row) m.rows; places = set m.places k (Some r) }
+abbrev pub after : VolumeTable → Name → VolumeTable
+after t own = applied t (Mark own Fresh false)
 
-abbrev pub after : VolumeTable → Record → VolumeTable
-after t r = applied t (Mark (Raw r.uuid) Fresh false)
-
-module _ (s : Site) (t : VolumeTable) (m : Known) (k : ℕ) (r : Record) (row : Row) (h : IsMade s t m k r row) where
-  name_case : (n : Name) → (n ≡ Raw r.uuid) ⊎ (n ≢ Raw r.uuid)
-  name_case n = name_or_not n (Raw r.uuid)
+module _ (s : Site) (t : VolumeTable) (m : Known) (own : Name) (added : TreeRow) (k : ℕ) (r : Record) (row : Row) (h : IsMade s t m own added k r row) where
+  name_case : (n : Name) → (n ≡ own) ⊎ (n ≢ own)
+  name_case n = name_or_not n own
 
   -- each volume has the extents that it had
-  pub same_extents : (n : Name) → extents_of (rows (after t r) n) ≡ extents_of (rows t n)
+  pub same_extents : (n : Name) → extents_of (rows (after t own) n) ≡ extents_of (rows t n)
   same_extents n =
-      let by_name = changes_by_name s.count t (Mark (Raw r.uuid) Fresh false) h.orderly.table h.allows in
-      ⊎_elim (λ e. ap (λ x. extents_of (rows (after t r) x)) e ∙ ap extents_of by_name.does.2 ∙ sym (ap (λ x. extents_of (rows t x)) e ∙ ap extents_of by_name.does.1))
+      let by_name = changes_by_name s.count t (Mark own Fresh false) h.orderly.table h.allows in
+      ⊎_elim (λ e. ap (λ x. extents_of (rows (after t own) x)) e ∙ ap extents_of by_name.does.2 ∙ sym (ap (λ x. extents_of (rows t x)) e ∙ ap extents_of by_name.does.1))
       (λ other. ap extents_of (by_name.others n other)) (name_case n)
 
   -- ---- the shape: one image and one record more
 
-  pub shape_last : shape_in s (after t r) (made_memory s k r row m)
-      ≡ record (shape_in s t m) { sequence = (after t r).sequence; records = with_record (machine_record r) (shape_in s t m).records; images = with_image (machine_row (made_row s r row)) (shape_in s t m).images }
-  unfolding shape_in image_uuid
-  shape_last = ap₂ (λ (rs : List DiskRecord) (is : List ImageRow). record (shape_in s t m) { sequence = (after t r).sequence; records = rs; images = is })
-      (records_more strict m.rows (with_tree (made_row s r row) m.rows) m.places k r (omega (arith, h.stray.within, h.orderly.places)) h.stray.free each now)
-      (images_with (made_row s r row) m.rows)
+  pub shape_last : shape_in s (after t own) (made_memory added k r m)
+      ≡ record (shape_in s t m) { sequence = (after t own).sequence; records = with_record (machine_record r) (shape_in s t m).records; images = with_image (machine_row added) (shape_in s t m).images }
+  unfolding shape_in
+  shape_last = ap₂ (λ (rs : List DiskRecord) (is : List ImageRow). record (shape_in s t m) { sequence = (after t own).sequence; records = rs; images = is })
+      (records_more strict m.rows (with_tree added m.rows) m.places k r (omega (arith, h.stray.within, h.orderly.places)) h.stray.free each now)
+      (images_with added m.rows)
     where
-      mine : (u : List ℕ) → is_shown (with_tree (made_row s r row) m.rows) u ≡ (bytes_eq (image_uuid (Raw r.uuid)) u || is_shown m.rows u)
-      mine u = shown_with (made_row s r row) m.rows u
+      mine : (u : List ℕ) → is_shown (with_tree added m.rows) u ≡ (bytes_eq r.uuid u || is_shown m.rows u)
+      mine u = shown_with added m.rows u
+          ∙ ap₂ (λ (hidden : Bool) (v : List ℕ). (not hidden && bytes_eq v u) || is_shown m.rows u) h.shown (ap image_uuid h.named ∙ h.uuid)
 
-      now : is_shown (with_tree (made_row s r row) m.rows) r.uuid ≡ true
+      now : is_shown (with_tree added m.rows) r.uuid ≡ true
       now = mine r.uuid ∙ ap (λ b. b || is_shown m.rows r.uuid) ((bytes_eq-Decides r.uuid r.uuid).1 refl)
 
       apart : (x : Record) → In (Some x) m.places → x.uuid ≢ r.uuid
       apart x i same = true≢false (sym (h.no_stray x i) ∙ ap (is_shown m.rows) same ∙ h.stray.unseen)
 
-      each : (x : Record) → In (Some x) m.places → (is_shown (with_tree (made_row s r row) m.rows) x.uuid ≡ is_shown m.rows x.uuid) × (x.uuid ≢ r.uuid)
-      each x i = (mine x.uuid ∙ ap (λ b. bytes_eq (image_uuid (Raw r.uuid)) x.uuid || b) (h.no_stray x i) ∙ or_true (bytes_eq (image_uuid (Raw r.uuid)) x.uuid) ∙ sym (h.no_stray x i), apart x i)
+      each : (x : Record) → In (Some x) m.places → (is_shown (with_tree added m.rows) x.uuid ≡ is_shown m.rows x.uuid) × (x.uuid ≢ r.uuid)
+      each x i = (mine x.uuid ∙ ap (λ b. bytes_eq r.uuid x.uuid || b) (h.no_stray x i) ∙ or_true (bytes_eq r.uuid x.uuid) ∙ sym (h.no_stray x i), apart x i)
 
-module _ (s : Site) (t : VolumeTable) (m : Known) (old new : Held) (k : ℕ) (r : Record) (row : Row) (h : IsMade s t m k r row) (f : IsWritten s t m old new k r) where
-  kept_volume : (n : Name) → Keeps (volume_of s t new n) (volume_of s (after t r) (at_rest (held_reads new)) n)
-  kept_volume n = subst (λ es. Keeps (volume_of s t new n) (volume s.geometry.extent es (at_rest (held_reads new)))) (sym (same_extents s t m k r row h n)) (Keeps-volume s.geometry.extent (extents_of (rows t n)) (keeps_rest new))
+module _ (s : Site) (t : VolumeTable) (m : Known) (old new : Held) (own : Name) (added : TreeRow) (k : ℕ) (r : Record) (row : Row) (h : IsMade s t m own added k r row) (f : IsWritten s t m old new own added k r) where
+  kept_volume : (n : Name) → Keeps (volume_of s t new n) (volume_of s (after t own) (at_rest (held_reads new)) n)
+  kept_volume n = subst (λ es. Keeps (volume_of s t new n) (volume s.geometry.extent es (at_rest (held_reads new)))) (sym (same_extents s t m own added k r row h n)) (Keeps-volume s.geometry.extent (extents_of (rows t n)) (keeps_rest new))
 
-  pub ready_last : IsReady s (after t r) (at_rest (held_reads new)) (made_memory s k r row m)
+  pub ready_last : IsReady s (after t own) (at_rest (held_reads new)) (made_memory added k r m)
   ready_last = record {
     firm = record {
-      images = λ q i. image q (In-insert (λ a b. is_lt (name_cmp (row_name a) (row_name b))) (made_row s r row) m.rows q i);
-      quiet = λ q i _. volume_rested s (after t r) (held_reads new) (row_name q);
-      below = subst (IsBelow (content_now s (after t r) (at_rest (held_reads new)))) (sym h.idle) tt;
+      images = λ q i. image q (In-insert (λ a b. is_lt (name_cmp (row_name a) (row_name b))) added m.rows q i);
+      quiet = λ q i _. volume_rested s (after t own) (held_reads new) (row_name q);
+      below = subst (IsBelow (content_now s (after t own) (at_rest (held_reads new)))) (sym h.idle) tt;
     };
-    records = agrees_keeps (records_held s t new) (records_held s (after t r) (at_rest (held_reads new))) (set m.places k (Some r)) (kept_volume Mgt) f.agrees;
-    recorded = volume_rested s (after t r) (held_reads new) Mgt;
+    records = agrees_keeps (records_held s t new) (records_held s (after t own) (at_rest (held_reads new))) (set m.places k (Some r)) (kept_volume Mgt) f.agrees;
+    recorded = volume_rested s (after t own) (held_reads new) Mgt;
   }
     where
-      image : (q : TreeRow) → (q ≡ made_row s r row) ⊎ In q m.rows → IsSteady s.geometry (q.extents * s.geometry.extent) (volume_of s (after t r) (at_rest (held_reads new)) (row_name q)) q.image
-      image q (inl is) = subst (λ z. IsSteady s.geometry (z.extents * s.geometry.extent) (volume_of s (after t r) (at_rest (held_reads new)) (row_name z)) z.image) (sym is) refl
-      image q (inr i) = steady_keeps s.geometry (q.extents * s.geometry.extent) (volume_of s t old (row_name q)) (volume_of s (after t r) (at_rest (held_reads new)) (row_name q)) q.image
+      image : (q : TreeRow) → (q ≡ added) ⊎ In q m.rows → IsSteady s.geometry (q.extents * s.geometry.extent) (volume_of s (after t own) (at_rest (held_reads new)) (row_name q)) q.image
+      image q (inl is) = subst (λ z. IsSteady s.geometry (z.extents * s.geometry.extent) (volume_of s (after t own) (at_rest (held_reads new)) (row_name z)) z.image) (sym is)
+          (subst (λ n. IsSteady s.geometry (added.extents * s.geometry.extent) (volume_of s (after t own) (at_rest (held_reads new)) n) added.image) (sym h.named)
+          (subst (λ es. IsSteady s.geometry (added.extents * s.geometry.extent) (volume s.geometry.extent es (at_rest (held_reads new))) added.image) (sym (same_extents s t m own added k r row h own)) f.steady))
+      image q (inr i) = steady_keeps s.geometry (q.extents * s.geometry.extent) (volume_of s t old (row_name q)) (volume_of s (after t own) (at_rest (held_reads new)) (row_name q)) q.image
           (Keeps-then (f.middle.images q i) (kept_volume (row_name q))) (f.ready.firm.images q i)
 
 -- ---- memory is orderly after it
@@ -308,104 +315,104 @@ filter_away test [] none = refl
 filter_away test (x ∷ xs) none = ap (λ b. cond b (x ∷ filter test xs) (filter test xs)) (none x (inl refl)) ∙ filter_away test xs (λ y i. none y (inr i))
 
 -- what is left to the machine's law of a step, and to the counts
-pub record IsStepped (s : Site) (t : VolumeTable) (m : Known) (k : ℕ) (r : Record) (row : Row) : Type 0 where
-  pub few : length (table_images (after t r)) ≤ image_limit
-  pub only_new : (q : Row) → In q t.volumes → q.fresh ≡ true → q.name ≡ Raw r.uuid
-  pub well_formed : ∥ IsWellFormed (record (shape_in s t m) { sequence = (after t r).sequence; records = with_record (machine_record r) (shape_in s t m).records; images = with_image (machine_row (made_row s r row)) (shape_in s t m).images }) ∥₁
-  pub counts : (n : Name) → count_of m.attached n ≡ refs n (shape_in s (after t r) (made_memory s k r row m))
+pub record IsStepped (s : Site) (t : VolumeTable) (m : Known) (own : Name) (added : TreeRow) (k : ℕ) (r : Record) (row : Row) : Type 0 where
+  pub few : length (table_images (after t own)) ≤ image_limit
+  pub only_new : (q : Row) → In q t.volumes → q.fresh ≡ true → q.name ≡ own
+  pub well_formed : ∥ IsWellFormed (record (shape_in s t m) { sequence = (after t own).sequence; records = with_record (machine_record r) (shape_in s t m).records; images = with_image (machine_row added) (shape_in s t m).images }) ∥₁
+  pub counts : (n : Name) → count_of m.attached n ≡ refs n (shape_in s (after t own) (made_memory added k r m))
 
-module _ (s : Site) (t : VolumeTable) (m : Known) (k : ℕ) (r : Record) (row : Row) (h : IsMade s t m k r row) (g : IsStepped s t m k r row) where
-  pub now_there : rows (after t r) (Raw r.uuid) ≡ Some (tagged Fresh false row)
+module _ (s : Site) (t : VolumeTable) (m : Known) (own : Name) (added : TreeRow) (k : ℕ) (r : Record) (row : Row) (h : IsMade s t m own added k r row) (g : IsStepped s t m own added k r row) where
+  pub now_there : rows (after t own) own ≡ Some (tagged Fresh false row)
   now_there =
-      let by_name = changes_by_name s.count t (Mark (Raw r.uuid) Fresh false) h.orderly.table h.allows in
+      let by_name = changes_by_name s.count t (Mark own Fresh false) h.orderly.table h.allows in
       by_name.does.2 ∙ ap (λ (x : Row). Some (tagged Fresh false x)) (same_Some by_name.does.0 row (sym by_name.does.1 ∙ h.there))
 
-  row_other : (n : Name) → n ≢ Raw r.uuid → rows (after t r) n ≡ rows t n
-  row_other n other = (changes_by_name s.count t (Mark (Raw r.uuid) Fresh false) h.orderly.table h.allows).others n other
+  row_other : (n : Name) → n ≢ own → rows (after t own) n ≡ rows t n
+  row_other n other = (changes_by_name s.count t (Mark own Fresh false) h.orderly.table h.allows).others n other
 
-  table_after : IsTable s.count (after t r)
-  table_after = IsTable-applied s.count t (Mark (Raw r.uuid) Fresh false) h.orderly.table h.allows
+  table_after : IsTable s.count (after t own)
+  table_after = IsTable-applied s.count t (Mark own Fresh false) h.orderly.table h.allows
 
   -- no volume is new after it
-  pub none_new : (q : Row) → In q (after t r).volumes → q.fresh ≡ false
-  none_new q i = by (name_or_not q.name (Raw r.uuid)) q.fresh refl
+  pub none_new : (q : Row) → In q (after t own).volumes → q.fresh ≡ false
+  none_new q i = by (name_or_not q.name own) q.fresh refl
     where
-      there : rows (after t r) q.name ≡ Some q
-      there = found_in (after t r).volumes table_after.volumes.rising q i
+      there : rows (after t own) q.name ≡ Some q
+      there = found_in (after t own).volumes table_after.volumes.rising q i
 
-      by : (q.name ≡ Raw r.uuid) ⊎ (q.name ≢ Raw r.uuid) → (b : Bool) → q.fresh ≡ b → q.fresh ≡ false
+      by : (q.name ≡ own) ⊎ (q.name ≢ own) → (b : Bool) → q.fresh ≡ b → q.fresh ≡ false
       by x false e = e
-      by (inl same) true e = sym (ap (λ (z : Row). z.fresh) (same_Some (tagged Fresh false row) q (sym now_there ∙ sym (ap (rows (after t r)) same) ∙ there)))
+      by (inl same) true e = sym (ap (λ (z : Row). z.fresh) (same_Some (tagged Fresh false row) q (sym now_there ∙ sym (ap (rows (after t own)) same) ∙ there)))
       by (inr other) true e = absurd (other (g.only_new q (row_of-In t.volumes q.name q (sym (row_other q.name other) ∙ there)).0 e))
 
-  unrowed_before : tree_row m.rows (Raw r.uuid) ≡ None
-  unrowed_before = new_unrowed s t m (Raw r.uuid) row h.orderly refl h.there h.fresh
+  unrowed_before : tree_row m.rows own ≡ None
+  unrowed_before = new_unrowed s t m own row h.orderly (image_named own h.image) h.there h.fresh
 
-  pub orderly_last : IsOrderly s (after t r) (made_memory s k r row m)
+  pub orderly_last : IsOrderly s (after t own) (made_memory added k r m)
   unfolding shape_in
   orderly_last = record {
     table = table_after;
     few_extents = h.orderly.few_extents;
-    record_volume = ap length (same_extents s t m k r row h Mgt) ∙ h.orderly.record_volume;
+    record_volume = ap length (same_extents s t m own added k r row h Mgt) ∙ h.orderly.record_volume;
     few = g.few;
     new_named = λ q i new. absurd (true≢false (sym new ∙ none_new q i));
-    images = λ n e. image n e (name_or_not n (Raw r.uuid));
-    entries = ap (filter is_entry) (names_of-with_row t.volumes (Raw r.uuid) (tagged Fresh false) (λ q. refl)) ∙ h.orderly.entries;
+    images = λ n e. image n e (name_or_not n own);
+    entries = ap (filter is_entry) (names_of-with_row t.volumes own (tagged Fresh false) (λ q. refl)) ∙ h.orderly.entries;
     places = length-set m.places k (Some r) ∙ h.orderly.places;
-    stands = λ q i. ⊎_elim (λ is. subst (λ z. StandsIn s.geometry (z.extents * s.geometry.extent) z.image) (sym is) (omega arith)) (λ j. h.orderly.stands q j)
-        (In-insert (λ a b. is_lt (name_cmp (row_name a) (row_name b))) (made_row s r row) m.rows q i);
-    well_formed = ∥∥₁_map g.well_formed (λ w. subst IsWellFormed (sym (shape_last s t m k r row h)) w);
-    roomy = subst (λ x. IsRoomyIn (shape_in s (after t r) (made_memory s k r row m)) x) (sym h.idle) tt;
+    stands = λ q i. ⊎_elim (λ is. subst (λ z. StandsIn s.geometry (z.extents * s.geometry.extent) z.image) (sym is) h.stands) (λ j. h.orderly.stands q j)
+        (In-insert (λ a b. is_lt (name_cmp (row_name a) (row_name b))) added m.rows q i);
+    well_formed = ∥∥₁_map g.well_formed (λ w. subst IsWellFormed (sym (shape_last s t m own added k r row h)) w);
+    roomy = subst (λ x. IsRoomyIn (shape_in s (after t own) (made_memory added k r m)) x) (sym h.idle) tt;
     counts = g.counts;
   }
     where
-      image : (n : Name) → is_image n ≡ true → (n ≡ Raw r.uuid) ⊎ (n ≢ Raw r.uuid) → row_face (rows (after t r) n) ≡ tree_face (tree_row (with_tree (made_row s r row) m.rows) n)
+      image : (n : Name) → is_image n ≡ true → (n ≡ own) ⊎ (n ≢ own) → row_face (rows (after t own) n) ≡ tree_face (tree_row (with_tree added m.rows) n)
       image n e (inl same) =
-          ap row_face (ap (rows (after t r)) same ∙ now_there)
-          ∙ ap (λ b. Some (record { hidden = b; extents = length row.extents })) h.visible
-          ∙ sym (ap tree_face (ap (tree_row (with_tree (made_row s r row) m.rows)) same ∙ tree_with_same (made_row s r row) m.rows (Raw r.uuid) refl unrowed_before))
-      image n e (inr other) = ap row_face (row_other n other) ∙ h.orderly.images n e ∙ sym (ap tree_face (tree_with_other (made_row s r row) m.rows n (λ q. other (sym q))))
+          ap row_face (ap (rows (after t own)) same ∙ now_there)
+          ∙ ap₂ (λ b l. Some (record { hidden = b; extents = l })) (h.visible ∙ sym h.shown) (sym h.long)
+          ∙ sym (ap tree_face (ap (tree_row (with_tree added m.rows)) same ∙ tree_with_same added m.rows own h.named unrowed_before))
+      image n e (inr other) = ap row_face (row_other n other) ∙ h.orderly.images n e ∙ sym (ap tree_face (tree_with_other added m.rows n (λ q. other (sym q ∙ h.named))))
 
-module _ (s : Site) (t : VolumeTable) (m : Known) (old new : Held) (k : ℕ) (r : Record) (row : Row) (h : IsMade s t m k r row) (g : IsStepped s t m k r row) (f : IsWritten s t m old new k r) where
+module _ (s : Site) (t : VolumeTable) (m : Known) (old new : Held) (own : Name) (added : TreeRow) (k : ℕ) (r : Record) (row : Row) (h : IsMade s t m own added k r row) (g : IsStepped s t m own added k r row) (f : IsWritten s t m old new own added k r) where
   -- ---- one disk more
 
   abbrev pub was_content : Content
   was_content = content_now s t old
 
   abbrev pub now_content : Content
-  now_content = content_now s (after t r) (at_rest (held_reads new))
+  now_content = content_now s (after t own) (at_rest (held_reads new))
 
   abbrev pub made_disk : Disk
-  made_disk = disk_in now_content r.uuid r (Raw r.uuid)
+  made_disk = disk_in now_content r.uuid r own
 
-  sector : (p : ℕ) (n : Name) → n ≢ Raw r.uuid → sectors_of now_content n p ≡ sectors_of (content_in s t (held_reads new)) n p
+  sector : (p : ℕ) (n : Name) → n ≢ own → sectors_of now_content n p ≡ sectors_of (content_in s t (held_reads new)) n p
   unfolding sectors_of
-  sector p n other = ap (λ o. piece s.geometry.extent (extents_of o) (held_reads new) p) ((row_other s t m k r row h g) n other)
+  sector p n other = ap (λ o. piece s.geometry.extent (extents_of o) (held_reads new) p) ((row_other s t m own added k r row h g) n other)
 
   -- the same image under either table
-  retabled : (n : Name) (x : Option Row) → n ≢ Raw r.uuid → rows t n ≡ x → image_of now_content n ≡ image_of (content_in s t (held_reads new)) n
+  retabled : (n : Name) (x : Option Row) → n ≢ own → rows t n ≡ x → image_of now_content n ≡ image_of (content_in s t (held_reads new)) n
   unfolding image_of
-  retabled (Vhd u) None other is = none_of_vhd now_content u ((row_other s t m k r row h g) (Vhd u) other ∙ is) ∙ sym (none_of_vhd (content_in s t (held_reads new)) u is)
+  retabled (Vhd u) None other is = none_of_vhd now_content u ((row_other s t m own added k r row h g) (Vhd u) other ∙ is) ∙ sym (none_of_vhd (content_in s t (held_reads new)) u is)
   retabled (Vhd u) (Some v) other is =
       vhd_same (content_in s t (held_reads new)) now_content u u v v (geometry_of s t m h.orderly) (record {
         extent = refl;
         block = refl;
         entries = refl;
         before = is;
-        after = (row_other s t m k r row h g) (Vhd u) other ∙ is;
+        after = (row_other s t m own added k r row h g) (Vhd u) other ∙ is;
         extents = refl;
         fresh = refl;
         sectors = λ p _. sector p (Vhd u) other;
       })
-      (whole s t m (Vhd u) h.orderly) (whole s (after t r) (made_memory s k r row m) (Vhd u) (orderly_last s t m k r row h g))
-  retabled (Raw u) None other is = none_of_raw now_content u ((row_other s t m k r row h g) (Raw u) other ∙ is) ∙ sym (none_of_raw (content_in s t (held_reads new)) u is)
+      (whole s t m (Vhd u) h.orderly) (whole s (after t own) (made_memory added k r m) (Vhd u) (orderly_last s t m own added k r row h g))
+  retabled (Raw u) None other is = none_of_raw now_content u ((row_other s t m own added k r row h g) (Raw u) other ∙ is) ∙ sym (none_of_raw (content_in s t (held_reads new)) u is)
   retabled (Raw u) (Some v) other is =
       raw_same (content_in s t (held_reads new)) now_content u u v v (record {
         extent = refl;
         block = refl;
         entries = refl;
         before = is;
-        after = (row_other s t m k r row h g) (Raw u) other ∙ is;
+        after = (row_other s t m own added k r row h g) (Raw u) other ∙ is;
         extents = refl;
         fresh = refl;
         sectors = λ p _. sector p (Raw u) other;
@@ -418,12 +425,12 @@ module _ (s : Site) (t : VolumeTable) (m : Known) (old new : Held) (k : ℕ) (r 
   retabled (Relink c p) x other is = refl
   retabled (Leaf l p) x other is = refl
 
-  images_same : (n : Name) → n ≢ Raw r.uuid → image_of now_content n ≡ image_of was_content n
+  images_same : (n : Name) → n ≢ own → image_of now_content n ≡ image_of was_content n
   images_same n other = retabled n (rows t n) other refl
       ∙ image_quiet s t old m (held_reads new) n h.orderly f.ready.firm (middle_in s t m old new k r h.orderly f.ready h.stray.within f.middle (held_reads new) (left_now s new)) (f.settled n)
 
   -- nothing image_reads through the new image
-  no_parent : (n : Name) (i : Image) → image_of was_content n ≡ Some i → i.parent ≢ Some (Raw r.uuid)
+  no_parent : (n : Name) (i : Image) → image_of was_content n ≡ Some i → i.parent ≢ Some own
   unfolding shape_in
   no_parent n i is up = ∥∥₁_elim h.orderly.well_formed (hlevel props) (λ w. by w (tree_row m.rows n) refl)
     where
@@ -432,15 +439,15 @@ module _ (s : Site) (t : VolumeTable) (m : Known) (old new : Held) (k : ℕ) (r 
       by w (Some q) e =
           let l : record { size = i.size; parent = i.parent } ≡ record { size = sector_count q.image; parent = parent_name q.image } =
           same_Some _ _ (sym (ap link_of is) ∙ links_left s t old m (held_reads old) n h.orderly f.ready.firm (left_in s t m old (held_reads old) h.orderly (left_now s old)) ∙ ap link_in e) in
-          let p = w.parents (machine_row q) (Raw r.uuid) (In-map_at machine_row m.rows q (In-tree_row m.rows n q e).0) (sym (ap (λ (z : Link). z.parent) l) ∙ up) in
+          let p = w.parents (machine_row q) own (In-map_at machine_row m.rows q (In-tree_row m.rows n q e).0) (sym (ap (λ (z : Link). z.parent) l) ∙ up) in
           let y = In-map machine_row m.rows p.parent p.there in
-          none-some y.0 (sym (unrowed_before s t m k r row h g) ∙ ap (tree_row m.rows) (sym (sym (ap (λ (z : ImageRow). z.name) y.2) ∙ p.is_named)) ∙ tree_found m.rows y.0 w.one_image y.1)
+          none-some y.0 (sym (unrowed_before s t m own added k r row h g) ∙ ap (tree_row m.rows) (sym (sym (ap (λ (z : ImageRow). z.name) y.2) ∙ p.is_named)) ∙ tree_found m.rows y.0 w.one_image y.1)
 
-  sectors_alike : (n : Name) → n ≢ Raw r.uuid → sectors_read now_content n ≡ sectors_read was_content n
+  sectors_alike : (n : Name) → n ≢ own → sectors_read now_content n ≡ sectors_read was_content n
   unfolding sectors_read image_reads
   sectors_alike n other =
       ap₂ (λ (o : Option Image) (f : ℕ → List ℕ). elim o as (λ o. List (List ℕ)) [ None ↦ [] | Some i ↦ map f (numbers 0 i.size) ]) (images_same n other)
-      (fun_ext (λ j. walk_same (λ x. x ≢ Raw r.uuid) (λ x. answer_of j (image_of was_content x)) (λ x. answer_of j (image_of now_content x))
+      (fun_ext (λ j. walk_same (λ x. x ≢ own) (λ x. answer_of j (image_of was_content x)) (λ x. answer_of j (image_of now_content x))
       (record { closed = λ x p away sent at. let w = turn-up j (image_of was_content x) p sent in no_parent x w.image w.there (w.parent ∙ ap Some at) })
       (λ x away. ap (answer_of j) (images_same x away)) chain_limit n other))
 
@@ -452,34 +459,40 @@ module _ (s : Site) (t : VolumeTable) (m : Known) (old new : Held) (k : ℕ) (r 
       by None e = refl
       by (Some n) e = absurd (true≢false (sym (standing_shown s t m r.uuid n h.orderly e) ∙ h.stray.unseen))
 
-  visible_other : (n : Name) → n ≢ Raw r.uuid → is_visible (after t r) n ≡ is_visible t n
-  visible_other n other = ap (of_row (λ q. not q.hidden && not q.fresh)) ((row_other s t m k r row h g) n other)
+  visible_other : (n : Name) → n ≢ own → is_visible (after t own) n ≡ is_visible t n
+  visible_other n other = ap (of_row (λ q. not q.hidden && not q.fresh)) ((row_other s t m own added k r row h g) n other)
 
   abbrev plainly : Bool → Bool → List ℕ → Option Name
   plainly a b u = cond a (Some (Vhd u)) (cond b (Some (Raw u)) None)
 
-  stands_made : standing_volume (after t r) r.uuid ≡ Some (Raw r.uuid)
-  stands_made =
-      plainly_stands s (after t r) (made_memory s k r row m) r.uuid (orderly_last s t m k r row h g)
-      ∙ ap₂ (λ (a b : Bool). plainly a b r.uuid) (visible_other (Vhd r.uuid) (λ e. let x = e in cc) ∙ vhd (is_visible t (Vhd r.uuid)) refl)
-      (ap (of_row (λ q. not q.hidden && not q.fresh)) (now_there s t m k r row h g) ∙ ap (λ b. not b && not false) h.visible)
+  visible_own : is_visible (after t own) own ≡ true
+  visible_own = ap (of_row (λ q. not q.hidden && not q.fresh)) (now_there s t m own added k r row h g) ∙ ap (λ b. not b && not false) h.visible
+
+  stands_made : standing_volume (after t own) r.uuid ≡ Some own
+  stands_made = plainly_stands s (after t own) (made_memory added k r m) r.uuid (orderly_last s t m own added k r row h g) ∙ by (named_as own r.uuid h.image h.uuid)
     where
       vhd : (b : Bool) → is_visible t (Vhd r.uuid) ≡ b → b ≡ false
       vhd false e = refl
       vhd true e = absurd (none-some (Vhd r.uuid) (sym none_stands ∙ plainly_stands s t m r.uuid h.orderly ∙ ap (λ b. plainly b (is_visible t (Raw r.uuid)) r.uuid) e))
 
-  stands_other : (u : List ℕ) → u ≢ r.uuid → standing_volume (after t r) u ≡ standing_volume t u
+      by : (own ≡ Vhd r.uuid) ⊎ (own ≡ Raw r.uuid) → plainly (is_visible (after t own) (Vhd r.uuid)) (is_visible (after t own) (Raw r.uuid)) r.uuid ≡ Some own
+      by (inl is) = ap (λ a. plainly a (is_visible (after t own) (Raw r.uuid)) r.uuid) (ap (is_visible (after t own)) (sym is) ∙ visible_own) ∙ ap Some (sym is)
+      by (inr is) =
+          ap₂ (λ (a b : Bool). plainly a b r.uuid) (visible_other (Vhd r.uuid) (λ e. let x = e ∙ is in cc) ∙ vhd (is_visible t (Vhd r.uuid)) refl)
+          (ap (is_visible (after t own)) (sym is) ∙ visible_own) ∙ ap Some (sym is)
+
+  stands_other : (u : List ℕ) → u ≢ r.uuid → standing_volume (after t own) u ≡ standing_volume t u
   stands_other u other =
-      plainly_stands s (after t r) (made_memory s k r row m) u (orderly_last s t m k r row h g)
-      ∙ ap₂ (λ (a b : Bool). plainly a b u) (visible_other (Vhd u) (λ e. let x = e in cc)) (visible_other (Raw u) (λ e. other (let x = e in cc)))
+      plainly_stands s (after t own) (made_memory added k r m) u (orderly_last s t m own added k r row h g)
+      ∙ ap₂ (λ (a b : Bool). plainly a b u) (visible_other (Vhd u) (λ e. other (sym (vhd_uuid u) ∙ ap image_uuid e ∙ h.uuid))) (visible_other (Raw u) (λ e. other (sym (raw_uuid u) ∙ ap image_uuid e ∙ h.uuid)))
       ∙ sym (plainly_stands s t m u h.orderly)
 
-  stands_away : (u : List ℕ) (n : Name) → u ≢ r.uuid → standing_volume t u ≡ Some n → n ≢ Raw r.uuid
+  stands_away : (u : List ℕ) (n : Name) → u ≢ r.uuid → standing_volume t u ≡ Some n → n ≢ own
   stands_away u n other is same = by (is_visible t (Vhd u)) (is_visible t (Raw u)) (sym (plainly_stands s t m u h.orderly) ∙ is)
     where
       by : (a b : Bool) → plainly a b u ≡ Some n → ⊥
-      by true b e = let x : Vhd u ≡ Raw r.uuid = same_Some (Vhd u) n e ∙ same in cc
-      by false true e = other (let x : Raw u ≡ Raw r.uuid = same_Some (Raw u) n e ∙ same in cc)
+      by true b e = other (sym (vhd_uuid u) ∙ ap image_uuid (same_Some (Vhd u) n e ∙ same) ∙ h.uuid)
+      by false true e = other (sym (raw_uuid u) ∙ ap image_uuid (same_Some (Raw u) n e ∙ same) ∙ h.uuid)
       by false false e = none-some n e
 
   -- the records
@@ -492,7 +505,7 @@ module _ (s : Site) (t : VolumeTable) (m : Known) (old new : Held) (k : ℕ) (r 
   }
     where
       now : (p : ℕ) → p < record_count → reading_at now_content p ≡ as_reading (get_or (set m.places k (Some r)) p None)
-      now p below = place_reads s (after t r) (at_rest (held_reads new)) (made_memory s k r row m) (orderly_last s t m k r row h g) (ready_last s t m old new k r row h f) p below
+      now p below = place_reads s (after t own) (at_rest (held_reads new)) (made_memory added k r m) (orderly_last s t m own added k r row h g) (ready_last s t m old new own added k r row h f) p below
 
   unrecorded : filter (is_record_of r.uuid) (records was_content) ≡ []
   unrecorded = none (records was_content) (λ x i. x_not x i (is_record_of r.uuid x) refl)
@@ -524,7 +537,7 @@ module _ (s : Site) (t : VolumeTable) (m : Known) (old new : Held) (k : ℕ) (r 
 
       here : disk_at now_content r.uuid ≡ Some made_disk
       here = ap (λ (y : Option Name). y >>= (λ n. record_of now_content r.uuid >>= (λ q. Some (disk_in now_content r.uuid q n)))) stands_made
-          ∙ ap (λ (y : Option Record). y >>= (λ q. Some (disk_in now_content r.uuid q (Raw r.uuid)))) recorded_made
+          ∙ ap (λ (y : Option Record). y >>= (λ q. Some (disk_in now_content r.uuid q own))) recorded_made
 
       others : (u : List ℕ) → u ≢ r.uuid → disk_at now_content u ≡ disk_at was_content u
       others u other = by (standing_volume t u) refl
@@ -540,12 +553,12 @@ module _ (s : Site) (t : VolumeTable) (m : Known) (old new : Held) (k : ℕ) (r 
   -- ---- and the call has done its work
 
   pub law_made : (end : Held) (before leaves : Leaving) (ok : Type 0) → MayShow s before (disks was_content)
-      → IsCommit s t (after t r) new end leaves ok
-      → HasDoneFrom s (after t r) end (made_memory s k r row m) before leaves ok (disks was_content) (with_disk made_disk (disks was_content))
+      → IsCommit s t (after t own) new end leaves ok
+      → HasDoneFrom s (after t own) end (made_memory added k r m) before leaves ok (disks was_content) (with_disk made_disk (disks was_content))
   law_made end before leaves ok might commit = record {
-    ready = λ fine. subst (λ a. IsReady s (after t r) a (made_memory s k r row m)) (sym (rested new end commit.keeps (commit.settled fine))) (ready_last s t m old new k r row h f);
+    ready = λ fine. subst (λ a. IsReady s (after t own) a (made_memory added k r m)) (sym (rested new end commit.keeps (commit.settled fine))) (ready_last s t m old new own added k r row h f);
     settled = commit.settled;
-    shown = λ fine. ap (λ a. disks (content_now s (after t r) a)) (rested new end commit.keeps (commit.settled fine)) ∙ disks_last;
-    crash = law_commit s t (after t r) new end (made_memory s k r row m) before leaves ok (disks was_content) (with_disk made_disk (disks was_content))
-        (middle_safe s t m old new k r before (disks was_content) h.orderly f.ready h.stray f.middle f.settled refl might) (orderly_last s t m k r row h g) (ready_last s t m old new k r row h f) commit disks_last;
+    shown = λ fine. ap (λ a. disks (content_now s (after t own) a)) (rested new end commit.keeps (commit.settled fine)) ∙ disks_last;
+    crash = law_commit s t (after t own) new end (made_memory added k r m) before leaves ok (disks was_content) (with_disk made_disk (disks was_content))
+        (middle_safe s t m old new k r before (disks was_content) h.orderly f.ready h.stray f.middle f.settled refl might) (orderly_last s t m own added k r row h g) (ready_last s t m old new own added k r row h f) commit disks_last;
   }

@@ -25,7 +25,7 @@ use Rattle.sm_machine.specs.WellFormed.{is_image_name}
 use Rattle.sm_record.specs.Records.{reading}
 use Rattle.sm_record.specs.declared.records.Reading.{Reading}
 use Rattle.sm_record.specs.declared.records.Reading.TheVariants.{Free}
-use Rattle.sm_standing.specs.Additions.{SameReadings}
+use Rattle.sm_standing.specs.Readings.{SameReadings}
 use Rattle.sm_standing.specs.Contents.{Content, sectors_of, reading_at, record_count, record_of, is_record_of, records}
 use Rattle.sm_standing.specs.Images.{Image, image_of, vhd_image, raw_image}
 use Rattle.sm_standing.proofs.RecordLists.{records_same, record_of_first, first_of}

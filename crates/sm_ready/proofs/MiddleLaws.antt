@@ -21,7 +21,7 @@ use Rattle.sm_machine.specs.WellFormed.{IsWellFormed}
 use Rattle.sm_record.specs.Records.{reading}
 use Rattle.sm_record.specs.declared.records.Record.{Record}
 use Rattle.sm_record.specs.declared.records.Reading.TheVariants.{Taken}
-use Rattle.sm_standing.specs.Additions.{SameReadings}
+use Rattle.sm_standing.specs.Readings.{SameReadings}
 use Rattle.sm_standing.specs.Contents.{Content, sectors_of, reading_at, record_count, record_of, is_record_of}
 use Rattle.sm_standing.specs.Images.{image_of}
 use Rattle.sm_standing.specs.Keeping.{IsKept}

@@ -77,7 +77,7 @@ once rs (x ∷ places) zero (suc j) r q d at_k at_j other shown same = not_first
 once rs (x ∷ places) (suc k) zero r q d at_k at_j other shown same = not_first rs q r places (subst (λ o. Once rs (o ∷ places)) at_j d) (ap (is_shown rs) same ∙ shown) (sym same) (at_place places k r at_k)
 once rs (x ∷ places) (suc k) (suc j) r q d at_k at_j other shown same = once rs places k j r q (fewer rs x places d) at_k at_j (λ e. other (ap suc e)) shown same
 
-any_In : {A : Type 0} (test : A → Bool) (xs : List A) → list_any test xs ≡ true → (x : A) × In x xs × (test x ≡ true)
+pub any_In : {A : Type 0} (test : A → Bool) (xs : List A) → list_any test xs ≡ true → (x : A) × In x xs × (test x ≡ true)
 any_In test [] e = absurd (true≢false (sym e))
 any_In test (y ∷ ys) e = by (test y) refl (λ f. any_In test ys f) e
   where

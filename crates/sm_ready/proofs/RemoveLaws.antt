@@ -1,12 +1,11 @@
 -- An image that nobody uses goes: the collector removes a hidden image without children.
 use Rattle.vhd_image.specs.Bodies.{parent_name}
-use Rattle.std.proofs.Common.{◌≡◌, ◌≢◌, ◌⊎◌, inl, inr, ⊎_elim, ℕ, zero, suc, ◌+◌, ◌≤◌, ◌&&◌, not, Bool, true, false, cond, List, [], ◌∷◌, length, map, Option, Some, None, refl, sym, ap, ap₂, ◌∙◌, subst}
-use Rattle.std.proofs.Math.Path.{fun_ext}
+use Rattle.std.proofs.Common.{◌≡◌, ◌≢◌, ◌⊎◌, inl, inr, ⊎_elim, ℕ, ◌+◌, ◌≤◌, ◌&&◌, not, Bool, true, false, cond, List, [], ◌∷◌, length, map, Option, Some, None, refl, sym, ap, ap₂, ◌∙◌, subst}
 use Rattle.std.proofs.Math.Logic.{∥∥₁_elim, ∥∥₁_map}
 use Rattle.std.proofs.Props.{props}
 use Rattle.std.proofs.lemmas.Bool.{true≢false}
 use Rattle.std.proofs.lemmas.Option.{same_Some}
-use Rattle.std.specs.List.{filter, find, list_any}
+use Rattle.std.specs.List.{filter}
 use Rattle.std.specs.Str.{bytes_eq}
 use Rattle.sm_base.specs.declared.names.Name.{Name}
 use Rattle.sm_base.specs.declared.names.Name.TheVariants.{Mgt, Vhd, Raw, Old, Clone, Inflate, Coalesce, Relink, Leaf}
@@ -22,19 +21,21 @@ use Rattle.vg_volumes.specs.Commits.{IsBefore}
 use Rattle.vg_volumes.specs.Sites.{Site, area_size}
 use Rattle.sm_machine.specs.Collector.{collected, next_step}
 use Rattle.sm_machine.specs.Commits.{commits, own_commits, plan_commits, is_given_up, gives_up}
-use Rattle.common_laws.specs.Lists.{In, ◌>>=◌}
-use Rattle.sm_machine.specs.Shapes.{Shape, ImageRow, DiskRecord, same_image, is_image as is_image_in, find_image, is_parent, chain, chain_limit, parent_of, disk_image, is_image_of, refs, risen, without_image, image_uuid, image_limit}
+use Rattle.common_laws.proofs.Booleans.{not_false}
+use Rattle.common_laws.specs.Lists.{In}
+use Rattle.sm_machine.specs.Shapes.{Shape, ImageRow, DiskRecord, same_image, is_image as is_image_in, is_parent, is_image_of, refs, risen, without_image, image_uuid, image_limit}
 use Rattle.sm_machine.specs.Steps.{State, step_whole, shape_next, shape_after, unless_refused, accepted}
+use Rattle.sm_machine.specs.Laws.{IsUnused}
+use Rattle.sm_machine.proofs.Uses.{less_uses}
 use Rattle.sm_machine.specs.WellFormed.{IsWellFormed, is_image_name}
 use Rattle.sm_machine.specs.declared.commands.Command.TheVariants.{Gc}
-use Rattle.common_laws.proofs.Lists.{In-filter, filter-In, In-map_at, In-map, find-some}
+use Rattle.common_laws.proofs.Lists.{In-filter, filter-In, In-map_at, In-map}
 use Rattle.sm_machine.proofs.Listed.{map-filter}
 use Rattle.sm_machine.proofs.Steps.{whole_keeps_shape}
 use Rattle.sm_base.specs.declared.operations.Op.{Op}
 use Rattle.sm_base.specs.declared.refusals.Refusal.{Refusal}
 use Rattle.sm_machine.specs.Refusals.{refusal}
-use Rattle.sm_machine.proofs.ImageNames.{same_image-sound, same_image-refl, other_image}
-use Rattle.sm_machine.proofs.Chains.{parent_of-some}
+use Rattle.sm_machine.proofs.ImageNames.{same_image-sound, same_image-refl}
 use Rattle.sm_ready.specs.Orderly.{IsRoomy, IsRoomyIn, IsOrderly}
 use Rattle.sm_ready.proofs.RowLaws.{tree_found, image_named}
 use Rattle.vg_volumes.specs.Volumes.{piece}
@@ -145,79 +146,22 @@ In-without x r (y ∷ rs) i = by (name_eq y.name x) (λ j. In-without x r rs j) 
 
 -- ---- counts: nobody reads through it
 
-find-filter : {A : Type 0} (test keep : A → Bool) (xs : List A) → ((x : A) → In x xs → keep x ≡ false → test x ≡ false) → find test (filter keep xs) ≡ find test xs
-find-filter test keep [] none = refl
-find-filter test keep (x ∷ xs) none = by (keep x) refl (find-filter test keep xs (λ y i. none y (inr i)))
-  where
-    by : (b : Bool) → keep x ≡ b → find test (filter keep xs) ≡ find test xs → find test (cond b (x ∷ filter keep xs) (filter keep xs)) ≡ find test (x ∷ xs)
-    by true is rest = ap (λ o. cond (test x) (Some x) o) rest
-    by false is rest = rest ∙ sym (ap (λ b. cond b (Some x) (find test xs)) (none x (inl refl) is))
-
-not_false : (b : Bool) → not b ≡ false → b ≡ true
-not_false true e = refl
-not_false false e = absurd (true≢false e)
-
-record IsUnread (σ : Shape) (x : Name) : Type 0 where
-  image : is_image_name x ≡ true
-  childless : (i : ImageRow) → In i σ.images → is_parent x i.parent ≡ false
-  hidden : (i : ImageRow) → In i σ.images → i.name ≡ x → i.hidden ≡ true
-
-image_stays : (σ : Shape) (x n : Name) → n ≢ x → find_image n (without_image x σ.images) ≡ find_image n σ.images
-image_stays σ x n other = find-filter (is_image_in n) (λ i. not (is_image_in x i)) σ.images (λ i h gone.
-    other_image i.name n (λ same. other (sym same ∙ same_image-sound i.name x (not_false (same_image i.name x) gone))))
-
-chain_stays : (σ : Shape) (x : Name) → IsUnread σ x → (k : ℕ) (n : Name) → n ≢ x → chain k n (without_image x σ.images) ≡ chain k n σ.images
-unfolding chain
-chain_stays σ x unread zero n other = refl
-chain_stays σ x unread (suc k) n other =
-    ap (λ (o : Option ImageRow). n ∷ elim (o >>= (λ i. i.parent)) as (λ o. List Name) [ None ↦ [] | Some p ↦ chain k p (without_image x σ.images) ]) (image_stays σ x n other)
-    ∙ ap (λ ns. n ∷ ns) (by (λ p away. chain_stays σ x unread k p away) (parent_of n σ.images) refl)
-  where
-    by : ((p : Name) → p ≢ x → chain k p (without_image x σ.images) ≡ chain k p σ.images) → (o : Option Name) → parent_of n σ.images ≡ o
-        → elim o as (λ o. List Name) [ None ↦ [] | Some p ↦ chain k p (without_image x σ.images) ] ≡ elim o as (λ o. List Name) [ None ↦ [] | Some p ↦ chain k p σ.images ]
-    by rest None is = refl
-    by rest (Some p) is =
-        let w = parent_of-some σ.images n p is in
-        rest p (λ same. true≢false (sym (same_image-refl x unread.image) ∙ ap (λ q. same_image q x) (sym same) ∙ sym (ap (is_parent x) w.3) ∙ unread.childless w.0 w.1))
-
-visible_other : (σ : Shape) (x : Name) (u : List ℕ) (i : ImageRow) → IsUnread σ x → disk_image u σ ≡ Some i → i.name ≢ x
-visible_other σ x u i unread is same =
-    let w = find-some (is_image_of u) σ.images i is in
-    true≢false (sym (front (not i.hidden) (bytes_eq (image_uuid i.name) u) w.1) ∙ ap not (unread.hidden i w.0 same))
-  where
-    front : (a b : Bool) → (a && b) ≡ true → a ≡ true
-    front true b e = refl
-    front false b e = absurd (true≢false (sym e))
-
-abbrev reads_by : Name → List ImageRow → Option ImageRow → Bool
-reads_by n images o = elim o as (λ o. Bool) [ None ↦ false | Some i ↦ list_any (same_image n) (chain chain_limit i.name images) ]
-
-through_stays : (σ : Shape) (x n : Name) (u : List ℕ) → IsUnread σ x → reads_by n (without_image x σ.images) (find (is_image_of u) (without_image x σ.images)) ≡ reads_by n σ.images (disk_image u σ)
-through_stays σ x n u unread =
-    ap (reads_by n (without_image x σ.images)) (find-filter (is_image_of u) (λ i. not (is_image_in x i)) σ.images gone) ∙ by (disk_image u σ) refl
-  where
-    gone : (i : ImageRow) → In i σ.images → not (is_image_in x i) ≡ false → is_image_of u i ≡ false
-    gone i h e = ap (λ b. not b && bytes_eq (image_uuid i.name) u) (unread.hidden i h (same_image-sound i.name x (not_false (same_image i.name x) e)))
-
-    by : (o : Option ImageRow) → disk_image u σ ≡ o → reads_by n (without_image x σ.images) o ≡ reads_by n σ.images o
-    by None is = refl
-    by (Some i) is = ap (list_any (same_image n)) (chain_stays σ x unread chain_limit i.name (visible_other σ x u i unread is))
-
-refs_removed : (σ : Shape) (x n : Name) (k : ℕ) → IsUnread σ x → refs n (record σ { images = without_image x σ.images; sequence = k }) ≡ refs n σ
-unfolding refs
-refs_removed σ x n k unread = ap (λ (f : List ℕ → Bool). length (filter (λ a. f a.disk) σ.attached)) (fun_ext (λ u. through_stays σ x n u unread))
-
-unread_in : (s : Site) (t : VolumeTable) (m : Known) (x : Name) (r : TreeRow) → IsOrderly s t m → IsGarbage s t m x r → IsUnread (shape_in s t m) x
+unused_in : (s : Site) (t : VolumeTable) (m : Known) (x : Name) (r : TreeRow) → IsOrderly s t m → IsGarbage s t m x r → IsUnused (shape_in s t m) x
 unfolding shape_in
-unread_in s t m x r o g = record {
-  image = g.image;
-  childless = λ i h. let w = In-map machine_row m.rows i h in ap (λ (y : ImageRow). is_parent x y.parent) w.2 ∙ g.childless w.0 w.1;
+unused_in s t m x r o g = record {
   hidden = λ i h same. let w = In-map machine_row m.rows i h in
       ∥∥₁_elim o.well_formed (hlevel props) (λ f.
       let found = tree_found m.rows w.0 f.one_image w.1 in
       let named : row_name w.0 ≡ x = sym (ap (λ (y : ImageRow). y.name) w.2) ∙ same in
       ap (λ (y : ImageRow). y.hidden) w.2 ∙ ap (λ (q : TreeRow). q.hidden) (same_Some w.0 r (sym (ap (tree_row m.rows) (sym named) ∙ found) ∙ g.there)) ∙ g.hidden);
+  childless = λ i h linked. let w = In-map machine_row m.rows i h in
+      true≢false (sym (ap (is_parent x) (sym (ap (λ (y : ImageRow). y.parent) w.2) ∙ linked) ∙ same_image-refl x g.image) ∙ g.childless w.0 w.1);
 }
+
+refs_removed : (s : Site) (t : VolumeTable) (m : Known) (x n : Name) (r : TreeRow) (k : ℕ) → IsOrderly s t m → IsGarbage s t m x r
+    → refs n (record (shape_in s t m) { images = without_image x (shape_in s t m).images; sequence = k }) ≡ refs n (shape_in s t m)
+unfolding refs
+refs_removed s t m x n r k o g = ∥∥₁_elim o.well_formed (hlevel props) (λ w. less_uses (shape_in s t m) x w (unused_in s t m x r o g) n)
 
 pub no_journal : (n : Name) → is_image_name n ≡ true → is_entry n ≡ false
 unfolding is_image_name
@@ -237,7 +181,7 @@ unfolding shape_in
 records_removed s t m x r o g = ap (λ ps. records_in ps) (shown_same (without_row x m).rows m.rows m.places (λ u.
     any_filter (λ q. is_image_of u (machine_row q)) (λ q. not (same_image (row_name q) x)) m.rows (λ q i gone.
     ap (λ b. not b && bytes_eq (image_uuid (row_name q)) u)
-    ((unread_in s t m x r o g).hidden (machine_row q) (In-map_at machine_row m.rows q i) (same_image-sound (row_name q) x (not_false (same_image (row_name q) x) gone))))))
+    ((unused_in s t m x r o g).hidden (machine_row q) (In-map_at machine_row m.rows q i) (same_image-sound (row_name q) x (not_false (same_image (row_name q) x) gone))))))
 
 shape_with : (s : Site) (t : VolumeTable) (m : Known) (x : Name) (r : TreeRow) → IsOrderly s t m → IsGarbage s t m x r
     → shape_in s (applied t (Remove x)) (without_row x m) ≡ record (shape_in s t m) { images = without_image x (shape_in s t m).images; sequence = raised t.sequence }
@@ -276,7 +220,7 @@ orderly_removed s t m x r σ o g is allows =
       stands = λ q i. o.stands q (In-filter (λ r. not (same_image (row_name r) x)) m.rows q i).0;
       well_formed = ∥∥₁_map o.well_formed (λ w. subst IsWellFormed (sym is_it) (whole_keeps_shape σ Gc (subst IsWellFormed (sym is) w)));
       roomy = idle_roomy (shape_in s (applied t (Remove x)) (without_row x m)) m.op refl g.idle;
-      counts = λ n. o.counts n ∙ sym (refs_removed (shape_in s t m) x n (raised t.sequence) (unread_in s t m x r o g)) ∙ sym (ap (refs n) (shape_with s t m x r o g));
+      counts = λ n. o.counts n ∙ sym (refs_removed s t m x n r (raised t.sequence) o g) ∙ sym (ap (refs n) (shape_with s t m x r o g));
     }
 
 -- ---- the content is the same without it
@@ -357,7 +301,7 @@ folding_journal (Coalesce v p) e = refl
 folding_journal (Relink v p) e = refl
 folding_journal (Leaf l p) e = refl
 
-none_folding : (s : Site) (t : VolumeTable) (m : Known) → IsOrderly s t m → m.op ≡ op.Idle → folding t ≡ []
+pub none_folding : (s : Site) (t : VolumeTable) (m : Known) → IsOrderly s t m → m.op ≡ op.Idle → folding t ≡ []
 none_folding s t m o idle = none_of (folding t) (λ n i.
     let w = In-filter is_folding (names_of t.volumes) n i in
     subst (In n) (o.entries ∙ ap entry_of idle) (filter-In is_entry (names_of t.volumes) n w.0 (folding_journal n w.1)))

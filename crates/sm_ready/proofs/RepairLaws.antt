@@ -16,8 +16,6 @@ use Rattle.vg_volumes.specs.Volumes.{span, spot, volume}
 use Rattle.vg_volumes.proofs.VolumeLaws.{Keeps-volume}
 use Rattle.sm_record.specs.declared.records.Record.{Record}
 use Rattle.sm_mgt.specs.Places.{Agrees, records_held}
-use Rattle.sm_standing.specs.Contents.{Content}
-use Rattle.sm_standing.specs.Keeping.{IsKept}
 use Rattle.sm_standing.specs.Standing.{disks}
 use Rattle.vhd_chain.specs.Trees.{row_name}
 use Rattle.vhd_volumes.specs.Steady.{IsQuiet}
@@ -26,12 +24,13 @@ use Rattle.sm_ready.specs.Done.{at_rest}
 use Rattle.sm_ready.specs.Known.{Known}
 use Rattle.sm_ready.specs.Orderly.{IsOrderly}
 use Rattle.sm_ready.specs.Ready.{IsReady, IsBelow}
+use Rattle.sm_ready.specs.Repairs.{IsSame}
 use Rattle.sm_ready.specs.Stores.{content_in, content_now}
-use Rattle.sm_ready.proofs.CommitLaws.{law_settled, rested}
+use Rattle.sm_ready.proofs.CommitLaws.{law_settled, rested, volume_rested}
 use Rattle.sm_ready.proofs.GoneLaws.{IsBeside, orderly_gone, ready_gone, disks_gone}
 use Rattle.sm_ready.proofs.KeptLaws.{law_kept}
 use Rattle.sm_ready.proofs.LeftLaws.{IsLeft, left_in, left_now, ready_places}
-use Rattle.sm_ready.proofs.RestLaws.{steady_keeps}
+use Rattle.sm_ready.proofs.RestLaws.{ready_rest, steady_keeps}
 use Rattle.sm_ready.proofs.StrayLaws.{IsSwept, swept_disks, with_places}
 
 volume_settled : (extent : ℕ) (es : List ℕ) (area : Held) → IsSettled area → IsSettled (volume extent es area)
@@ -46,16 +45,18 @@ volume_settled extent es area settled p = by (nat_lt p (span extent es))
 pub all_quiet : (s : Site) (t : VolumeTable) (area : Held) → IsSettled area → (n : Name) → IsQuiet (volume_of s t area n)
 all_quiet s t area settled n = quiet_settled (volume_of s t area n) (volume_settled s.geometry.extent (extents_of (rows t n)) area settled)
 
--- it is kept, and shows these disks
-abbrev pub IsSame : Content → Content → Type 0
-IsSame was c = IsKept c × (disks c ≡ disks was)
+-- what is ready is so once a sync has made all of it last
+pub ready_synced : (s : Site) (t : VolumeTable) (old new : Held) (m : Known) → IsReady s t old m → Keeps old new → IsSettled new → IsReady s t new m
+ready_synced s t old new m ready keeps settled =
+    subst (λ h. IsReady s t h m) (sym (rested old new keeps settled))
+    (ready_rest s t t old m m ready (λ r i. record { row = r; there = i; image = refl; extents = refl; same = refl }) refl refl (volume_rested s t (reads old)) ready.firm.below)
 
 -- what a stop leaves of a ready store in which nothing is pending
 pub same_left : (s : Site) (t : VolumeTable) (area : Held) (m : Known) (image : ℕ → List ℕ) → IsOrderly s t m → IsReady s t area m → IsSettled area → IsLeft s area image → IsSame (content_now s t area) (content_in s t image)
-same_left s t area m image o ready settled left = (
-  law_kept s t area m image o ready.firm (left_in s t m area image o left) (ready_places s t area m image o ready left),
-  law_settled s t area m image o ready (all_quiet s t area settled) left,
-)
+same_left s t area m image o ready settled left = record {
+  kept = law_kept s t area m image o ready.firm (left_in s t m area image o left) (ready_places s t area m image o ready left);
+  same_disks = law_settled s t area m image o ready (all_quiet s t area settled) left;
+}
 
 -- ---- a new volume goes
 
@@ -71,7 +72,7 @@ module _ (s : Site) (t : VolumeTable) (old : Held) (m : Known) (x : Name) (r : R
   pub gone_stop : (v : VolumeTable) (image : ℕ → List ℕ) → IsAfter (area_size s) (applied t (Remove x)) old v image → IsSame (content_now s t old) (content_in s v image)
   gone_stop v image after =
       let w = same_left s (applied t (Remove x)) (at_rest (reads old)) m image (orderly_gone s t m x r o h) (ready_gone s t old m x r o ready h idle) (λ p. refl) (λ p below. inl (after.sectors p below)) in
-      subst (λ l. IsSame (content_now s t old) (content_in s l image)) (sym after.table_is) (w.0, w.1 ∙ disks_gone s t old m x r o ready h idle)
+      subst (λ l. IsSame (content_now s t old) (content_in s l image)) (sym after.table_is) (record { kept = w.kept; same_disks = w.same_disks ∙ disks_gone s t old m x r o ready h idle })
 
 -- ---- records of no disk are wiped, and a sync makes it last
 

@@ -47,7 +47,7 @@ use Rattle.common_laws.proofs.Lists.{In-map, In-map_at, In-filter, filter-In, In
 use Rattle.sm_standing.specs.Contents.{Content, row, sectors_of, records, record_of, record_count, reading_at, taken, is_record_of}
 use Rattle.sm_standing.specs.Images.{Image, image_of, raw_image}
 use Rattle.sm_standing.specs.Ordered.{Rising, uuid_cmp, disk_cmp}
-use Rattle.sm_standing.specs.Shapes.{shape, row_of as shape_row, image_row, image_rows, other_extents, disk_record}
+use Rattle.sm_standing.specs.Shapes.{shape, unattached, row_of as shape_row, image_row, image_rows, other_extents, disk_record}
 use Rattle.sm_standing.specs.Standing.{disks, standing_volume, stands_plainly, stands_folded, stands_forked, under, disk_at, disk_in}
 use Rattle.sm_standing.proofs.DisksShown.{row_of-In}
 use Rattle.sm_standing.proofs.Orders.{rising_ext, In-filter_map, filter_map-In, rising-filter_map}
@@ -643,9 +643,6 @@ records_now s t area m o ready w =
 
 -- ---- all of it
 
-unattached : Shape → Shape
-unattached σ = record σ { attached = []; op = Idle }
-
 abbrev shape_with : Site → VolumeTable → ℕ → List DiskRecord → List ImageRow → Shape
 shape_with s t others records images = record {
   sequence = t.sequence;
@@ -661,7 +658,7 @@ shape_with s t others records images = record {
 }
 
 pub law_shape : (s : Site) (t : VolumeTable) (area : Held) (m : Known) → HasNoNew t → IsOrderly s t m → IsReady s t area m
-    → shape (content_now s t area) ≡ record (shape_in s t m) { attached = []; op = Idle }
+    → shape (content_now s t area) ≡ unattached (shape_in s t m)
 unfolding shape shape_in
 law_shape s t area m none_new o ready = ∥∥₁_elim o.well_formed (hlevel props) (λ w.
     ap₂ (λ (k : ℕ) (rs : List DiskRecord). shape_with s t k rs (image_rows (content_now s t area))) (others_now s t area m none_new o ready.firm ∙ o.record_volume) (records_now s t area m o ready w)

@@ -27,6 +27,7 @@ use Rattle.sm_mgt.specs.Places.{place_count, records_held, as_reading}
 use Rattle.sm_standing.specs.Contents.{Content, sectors_of, reading_at, record_count, records, record_of, is_record_of, taken}
 use Rattle.sm_standing.specs.Images.{image_of}
 use Rattle.sm_standing.specs.Keeping.{IsKept}
+use Rattle.sm_standing.specs.Shapes.{IsStateOf}
 use Rattle.sm_standing.specs.Standing.{standing_volume, disk_at, disk_in, disks}
 use Rattle.sm_standing.proofs.DiskLists.{disks_same}
 use Rattle.sm_standing.proofs.RecordLists.{record_of_first, first_of}
@@ -35,12 +36,13 @@ use Rattle.vhd_chain.specs.declared.rows.TreeRow.{TreeRow}
 use Rattle.vhd_volumes.specs.Steady.{IsQuiet}
 use Rattle.sm_ready.specs.Known.{Known, machine_row, shape_in, records_in, shown_places, is_shown, is_shown_place}
 use Rattle.sm_ready.specs.Orderly.{IsOrderly, IsRoomyIn}
-use Rattle.sm_ready.specs.Ready.{IsFirm, IsReady, HoldsPlaces, is_written_in}
+use Rattle.sm_ready.specs.Ready.{IsFirm, IsReady, IsTidy, HoldsPlaces, is_written_in}
+use Rattle.sm_ready.specs.Sessions.{state_in}
 use Rattle.sm_ready.specs.Stores.{content_in, content_now}
 use Rattle.sm_ready.proofs.AlikeLaws.{sectors_same}
 use Rattle.sm_ready.proofs.KeptLaws.{law_kept}
 use Rattle.sm_ready.proofs.LeftLaws.{IsLeft, IsLeftIn, left_volume, image_quiet, place_reads, mgt_long}
-use Rattle.sm_ready.proofs.ShapeLaws.{as_taken, standing_shown, stands_now}
+use Rattle.sm_ready.proofs.ShapeLaws.{as_taken, content_records, law_shape, standing_shown, stands_now}
 
 -- ---- which records are stray
 
@@ -77,6 +79,16 @@ shown_stands s t m u o shown = ∥∥₁_elim o.well_formed (hlevel props) (λ w
 -- no visible image in memory has the UUID of a record of no disk
 pub stray_unseen : (s : Site) (t : VolumeTable) (m : Known) (u : List ℕ) → IsOrderly s t m → is_some (standing_volume t u) ≡ false → is_shown m.rows u ≡ false
 stray_unseen s t m u o stray = false_from_ne_true (is_shown m.rows u) (λ e. true≢false (sym (shown_stands s t m u o e) ∙ stray))
+
+-- ---- what a read gives
+
+-- between two commands it gives the machine's state
+pub law_state : (s : Site) (t : VolumeTable) (area : Held) (m : Known) → IsOrderly s t m → IsTidy t m → IsReady s t area m → IsStateOf (content_now s t area) (state_in s t area m)
+law_state s t area m o tidy ready = record {
+  same_disks = refl;
+  same_shape = sym (law_shape s t area m tidy.none_new o ready);
+  no_stray = λ r i. shown_stands s t m r.uuid o (tidy.no_stray r (content_records s t area m r o ready i));
+}
 
 -- ---- memory without some of them
 

@@ -1,8 +1,10 @@
 -- Commands that only read, and commands that did their work, told as a session tells them.
-use Rattle.std.proofs.Common.{◌≡◌, ◌⊎◌, inl, inr, ⊎_elim, ℕ, true, false, List, Ok, Err, sym, ap, ap₂, ◌∙◌, subst}
+use Rattle.std.proofs.Common.{◌≡◌, ◌⊎◌, inl, inr, ⊎_elim, ℕ, ◌+◌, ◌^◌, ◌<◌, Bool, true, false, List, Option, None, Ok, Err, refl, sym, ap, ap₂, ◌∙◌, subst, arith}
+use Rattle.std.proofs.lemmas.Bool.{true≢false}
 use Rattle.std.proofs.Math.Path.{fun_ext}
 use Rattle.sm_base.specs.declared.faults.Failed.{Failed}
-use Rattle.sm_base.specs.declared.refusals.Refusal.TheVariants.{NoMemory}
+use Rattle.sm_base.specs.declared.refusals.Refusal.TheVariants.{BadLine, NoMemory}
+use Rattle.sm_base.specs.declared.refusals.Refusal.{Refusal}
 use Rattle.sm_disk.specs.Held.{Held, SameHeld}
 use Rattle.vg_meta.specs.Roomy.{table_alone}
 use Rattle.vg_meta.specs.Tables.{VolumeTable}
@@ -10,12 +12,16 @@ use Rattle.vg_volumes.specs.Commits.{IsBefore}
 use Rattle.vg_volumes.specs.Sites.{area_size}
 use Rattle.vg_volumes.specs.Stored.{stored, IsChoiceOf, OnlyReads}
 use Rattle.vg_volumes.specs.declared.stores.Store.{Ghosts}
+use Rattle.vg_volumes.proofs.StoredLaws.{reads_none}
 use Rattle.sm_machine.specs.declared.commands.Command.{Command}
 use Rattle.sm_machine.specs.declared.replies.Reply.{Reply}
 use Rattle.sm_machine.specs.declared.replies.Reply.TheVariants.{No}
 use Rattle.sm_machine.specs.Disks.{Disk}
 use Rattle.sm_machine.specs.Runs.{is_accepted, is_settling}
-use Rattle.sm_machine.specs.Steps.{State, step}
+use Rattle.sm_machine.specs.Commits.{commits, is_given_up, one_if, own_commits}
+use Rattle.sm_machine.specs.Refusals.{refusal}
+use Rattle.sm_machine.specs.Shapes.{Shape, risen}
+use Rattle.sm_machine.specs.Steps.{State, Outcome, step, step_whole, is_built, if_built, given_up, shape_after, shape_next, disks_next, reply_to, accepted, refused, unless_refused}
 use Rattle.sm_run.specs.Between.{IsBetween}
 use Rattle.sm_standing.specs.Keeping.{IsKept}
 use Rattle.sm_standing.specs.Standing.{disks}
@@ -29,7 +35,7 @@ use Rattle.sm_ready.specs.declared.memory.Memory.{Memory}
 use Rattle.sm_ready.proofs.CommitLaws.{IsSafe, ready_safe}
 use Rattle.sm_ready.proofs.LeaveLaws.{left_choice}
 
-held_same : (a b : Held) → SameHeld a b → b ≡ a
+pub held_same : (a b : Held) → SameHeld a b → b ≡ a
 held_same a b e = ap₂ (λ (f : ℕ → List ℕ) (p : ℕ → List (List ℕ)). let h : Held = record { floor = f; pending = p } in h) (fun_ext (λ q. e.floor q)) (fun_ext (λ q. e.pending q))
 
 -- the answer of a command that left all as it was: memory was wanting, or it is the machine's, which stays as it was
@@ -92,3 +98,81 @@ module _ {S : Type 0} (g : Ghosts S) (a b : S) (m n : Memory) (command : Command
       → HasDone (g.site a) (table_alone (g.table a)) (table_alone (g.table b)) (g.area a) (g.area b) (known n) (StoreLeaves g a) (StoreLeaves g b) ok ((step (store_state g a m) command).after).disks
       → StoreTakes g command a m b n (Err f)
   taken_failed ok f done = record { reply = tt; ready = tt; settled = tt; crash = done.crash }
+
+-- ---- the step of a command
+
+-- one that is not built yet is answered as a line that spells none
+pub step_unbuilt : (σ : State) (c : Command) → is_built c ≡ false → step σ c ≡ refused σ BadLine
+unfolding step
+step_unbuilt σ c unbuilt = ap (λ b. if_built b σ c) unbuilt
+
+-- one that is built is refused, or accepted
+pub step_by : (σ : State) (c : Command) (o : Option Refusal) → is_built c ≡ true → refusal σ.shape c ≡ o → step σ c ≡ unless_refused o σ c
+unfolding step step_whole
+step_by σ c o built is = ap (λ b. if_built b σ c) built ∙ ap (λ x. unless_refused x σ c) is
+
+-- an accepted one that changes neither disks nor shape, and makes no commit, leaves the state
+pub step_still : (σ : State) (c : Command) → is_built c ≡ true → refusal σ.shape c ≡ None → σ.shape.sequence < 2 ^ 48 → disks_next σ.disks σ.shape c ≡ σ.disks → shape_after σ.shape c ≡ σ.shape → is_given_up σ.shape c ≡ false
+    → own_commits σ.shape c ≡ 0 → (step σ c).after ≡ σ
+unfolding accepted shape_next commits
+step_still σ c built passes few same_disks same_shape keeps none =
+    ap (λ (o : Outcome). o.after) (step_by σ c None built passes)
+    ∙ ap₂ (λ (ds : List Disk) (sh : Shape). let x : State = record { disks = ds; shape = record (given_up (is_given_up σ.shape c) sh) { sequence = risen σ.shape.sequence (commits σ.shape c) } } in x) same_disks same_shape
+    ∙ ap₂ (λ (b : Bool) (n : ℕ). let x : State = record σ { shape = record (given_up b σ.shape) { sequence = risen σ.shape.sequence (one_if b + n) } } in x) keeps none
+    ∙ ap (λ (k : ℕ). let x : State = record σ { shape = record σ.shape { sequence = k } } in x) (omega arith)
+
+-- ---- a command is taken
+
+-- what is known of a store and of memory where a command is taken
+pub record IsTold {S : Type 0} (g : Ghosts S) (a : S) (m : Memory) : Type 0 where
+  pub orderly : IsOrderlyStore g a m
+  pub usable : g.failed a ≡ false
+  pub told : g.told
+  pub ready : IsReadyStore g a m
+  pub now : (v : VolumeTable) (image : ℕ → List ℕ) → g.leaves a v image → IsChoiceOf (stored g a) v image
+
+pub is_told : {S : Type 0} (g : Ghosts S) (a : S) (m : Memory) → IsOrderlyStore g a m → g.failed a ≡ false → g.told → IsReadyStore g a m → ((v : VolumeTable) (image : ℕ → List ℕ) → g.leaves a v image → IsChoiceOf (stored g a) v image)
+    → IsTold g a m
+is_told g a m orderly usable told ready now = record { orderly = orderly; usable = usable; told = told; ready = ready; now = now }
+
+module _ {S : Type 0} {g : Ghosts S} {a : S} {m : Memory} (h : IsTold g a m) (c : Command) where
+  abbrev σ : State
+  σ = store_state g a m
+
+  unaccepted : (q : Refusal) → is_accepted (No q) ≡ true → ⊥
+  unfolding is_accepted
+  unaccepted q e = true≢false (sym e)
+
+  -- refused, or not built: nothing was done
+  pub taken_refused : (q : Refusal) → step σ c ≡ refused σ q → StoreTakes g c a m a m (Ok (No q))
+  taken_refused q is =
+      taken_reads g a a m m c (No q) h.orderly h.usable h.told h.ready h.now (reads_none a) (λ t image l. l) refl
+      (inr (ap (λ (o : Outcome). o.reply) (sym is), ap (λ (o : Outcome). o.after) is)) (λ yes settles. unaccepted q yes)
+
+  -- memory was wanting, and nothing was written
+  pub taken_poor : {b : S} (n : Memory) → OnlyReads g a b → ((t : VolumeTable) (image : ℕ → List ℕ) → g.leaves b t image → g.leaves a t image) → n ≡ m → StoreTakes g c a m b n (Ok (No NoMemory))
+  taken_poor {b} n reads fewer same =
+      taken_reads g a b m n c (No NoMemory) h.orderly h.usable h.told h.ready h.now reads fewer same (inl refl) (λ yes settles. unaccepted NoMemory yes)
+
+  -- it is answered from memory, and leaves the state
+  pub taken_answered : {r : Reply} → (r ≡ No NoMemory) ⊎ (r ≡ (step σ c).reply) → (step σ c).after ≡ σ → is_settling c ≡ false → StoreTakes g c a m a m (Ok r)
+  taken_answered {r} answer still unsettling =
+      taken_reads g a a m m c r h.orderly h.usable h.told h.ready h.now (reads_none a) (λ t image l. l) refl (⊎_elim (λ poor. inl poor) (λ is. inr (is, still)) answer) (λ yes settles. true≢false (sym settles ∙ unsettling))
+
+  module _ {b : S} (n : Memory) {ok : Type 0} (built : is_built c ≡ true) (passes : refusal σ.shape c ≡ None)
+      (done : HasDone (g.site a) (table_alone (g.table a)) (table_alone (g.table b)) (g.area a) (g.area b) (known n) (StoreLeaves g a) (StoreLeaves g b) ok (disks_next σ.disks σ.shape c)) where
+    stepped : HasDone (g.site a) (table_alone (g.table a)) (table_alone (g.table b)) (g.area a) (g.area b) (known n) (StoreLeaves g a) (StoreLeaves g b) ok (step σ c).after.disks
+    unfolding accepted
+    stepped = subst (λ ds. HasDone (g.site a) (table_alone (g.table a)) (table_alone (g.table b)) (g.area a) (g.area b) (known n) (StoreLeaves g a) (StoreLeaves g b) ok ds)
+        (ap (λ (o : Outcome). o.after.disks) (sym (step_by σ c None built passes))) done
+
+    -- it did its work
+    pub taken_accepted : (r : Reply) → r ≡ reply_to σ.disks σ.shape c → ok → shape_in (g.site a) (table_alone (g.table b)) (known n) ≡ (step_whole σ c).after.shape → StoreTakes g c a m b n (Ok r)
+    unfolding step accepted
+    taken_accepted r replied fine shaped =
+        taken_done g a b m n c r h.orderly h.usable h.told h.ready h.now ok fine (ap (λ (o : Outcome). o.reply) (step_by σ c None built passes) ∙ sym replied)
+        (shaped ∙ ap (λ x. (if_built x σ c).after.shape) (sym built)) stepped
+
+    -- and it failed
+    pub taken_stopped : (f : Failed) → StoreTakes g c a m b n (Err f)
+    taken_stopped f = taken_failed g a b m n c (No NoMemory) h.orderly h.usable h.told h.ready h.now ok f stepped

@@ -10,3 +10,6 @@ pub mod Done
 pub mod Taken
 pub mod Written
 pub mod Proper
+pub mod Repairs
+pub mod Cleaned
+pub mod Shown

@@ -5,7 +5,7 @@
 //! of the disks, the attachments, and what the collector is doing.
 //!
 //! **What it is.** `Known` is what a contract sees of it. `shape_in` is the machine's shape, read off the table and memory
-//! alone; `outline_in` is what the checks of an opening look at, read off the same. `IsOrderly` and `IsAtRest` say what
+//! alone; `outline_in` is what the checks of an opening look at, read off the same. `IsOrderly` and `IsTidy` say what
 //! holds of table and memory, whatever a device holds; `IsReady` says what holds of the sectors: each image is steady, only
 //! own images of disks attached for writing have sectors that a stop may leave otherwise than a read gives them, and the
 //! records in memory are those that a read gives.
@@ -17,8 +17,21 @@
 //! images (`FirstLaws`), its record (`MiddleLaws`), its mark taken away (`LastLaws`), an image that nobody uses (`RemoveLaws`),
 //! a guest's write (`GuestLaws`, `AfterLaws`).
 //!
+//! For an opening, whatever kind its images have: the rows that are read off a table (`LoadLaws`) and the places of the
+//! records make memory that is orderly (`BegunLaws`); it is at rest again behind each repair (`AgainLaws`), where a volume
+//! that is new goes (`NewVolumeLaws`) and where a record of no disk is wiped (`WipeLaws`); the table is then the one from before
+//! without its new volumes (`CleanLaws`), and the shape the one that an opening is to make (`OpenedLaws`).
+//!
+//! **What a command cites.** Why it is refused, by table and memory, and what is known where it is not (`RefusalLaws`); what
+//! was taken, whether it was refused, answered, accepted or stopped (`TakenLaws`); what a stop leaves in a chain of calls of
+//! the store (`ChainLaws`), and what it shows at rest (`ShowLaws`); an image and its disk's record made in two commits
+//! (`NewLaws`, `MakingLaws`); room for rows (`RoomLaws`, `RowRoomLaws`); what is asked of the visible image of a UUID (`ShownLaws`); a list in order with one element more (`InsertLaws`).
+//!
+//! While an image is being enlarged a kept content stays kept, with the same disks (`EnlargedLaws`).
+//!
 //! The definitions are in `specs/`: `Known` (what is in memory, and its shape), `Outlined` (its outline), `Orderly` and `Ready`
-//! (the two invariants), `Stores` (the content of a store), `Done` (what a call of a step did).
+//! (the two invariants), `Shown` (the visible image of a UUID), `Stores` (the content of a store), `Done` (what a call of a step
+//! did), `Repairs` and `Cleaned` (what an opening repairs, and the table that it leaves).
 #![tactic(auto)]
 
 mod memory;

@@ -1,13 +1,6 @@
-pub mod PrunedLaws
 pub mod CheckLaws
 pub mod DiskLaws
 pub mod RemovalLaws
-pub mod CleanLaws
-pub mod OpenedLaws
-pub mod FitLaws
-pub mod AreaLaws
-pub mod WipeLaws
-pub mod RoomLaws
-pub mod ReadLaws
-pub mod RestLaws
 pub mod OpeningLaws
+pub mod LoadedLaws
+pub mod OpenedWell

@@ -1,9 +1,8 @@
 -- The checks one after another: which place is the first, and what is known where none is.
-use Rattle.std.proofs.Common.{◌≡◌, ◌≢◌, ℕ, zero, suc, ◌+◌, ◌<◌, ◌≤◌, ◌⊎◌, inl, inr, Bool, true, false, cond, not, ◌==◌, List, [], ◌∷◌, ◌++◌, length, get_or, Option, Some, None, refl, sym, ap, ◌∙◌, subst, arith, nat_lt}
-use Rattle.std.specs.List.{find, slice_get}
-use Rattle.std.specs.Prelude.{Result, Err, IfErr}
-use Rattle.std.proofs.lemmas.Bool.{ltb-false}
-use Rattle.std.proofs.lemmas.Bool.Decides.{nat_tests}
+use Rattle.std.proofs.Common.{◌≡◌, ℕ, zero, suc, ◌+◌, ◌*◌, ◌<◌, ◌≤◌, ◌⊎◌, inl, inr, Bool, true, false, cond, not, List, [], ◌∷◌, ◌++◌, length, get_or, Option, Some, None, refl, sym, ap, ◌∙◌, subst, subst₂, arith}
+use Rattle.std.specs.List.{find}
+use Rattle.std.specs.Prelude.{Result, Err, IfErr, IfNone}
+use Rattle.std.proofs.lemmas.Bool.{cases_lt, ltb-false, eqb-true}
 use Rattle.std.proofs.lemmas.Option.{slice_get-get_or, slice_get_within}
 use Rattle.sm_base.specs.declared.faults.OpenFault.{OpenFault}
 use Rattle.sm_base.specs.declared.faults.OpenFault.TheVariants as fault
@@ -11,31 +10,41 @@ use Rattle.sm_base.specs.declared.faults.Place.{Place}
 use Rattle.sm_base.specs.declared.faults.Place.TheVariants as at
 use Rattle.sm_base.specs.declared.names.Name.TheVariants.{Mgt}
 use Rattle.sm_base.specs.declared.sizes.Geometry.{Geometry}
+use Rattle.sm_base.proofs.NumberLemmas.{le-div_up}
 use Rattle.sm_disk.specs.Held.{Held, reads, Rose}
 use Rattle.vg_layout.specs.Places.{record_extents}
-use Rattle.vg_meta.specs.Tables.{VolumeTable, Row, IsTable, extents_of}
+use Rattle.vg_meta.specs.Tables.{VolumeTable, Row, IsTable, rows, extents_of}
 use Rattle.vg_meta.specs.Roomy.{RoomyTable, table_alone}
-use Rattle.vg_volumes.specs.Sites.{Site}
-use Rattle.vg_volumes.specs.Volumes.{piece}
-use Rattle.vg_volumes.proofs.VolumeLaws.{volume_reads}
+use Rattle.vg_volumes.specs.Sites.{Site, size_of}
 use Rattle.common_laws.specs.Lists.{first_some, numbers, given}
-use Rattle.sm_machine.specs.Shapes.{image_limit}
 use Rattle.sm_record.specs.declared.records.Record.{Record}
 use Rattle.sm_record.specs.declared.records.Reading.{Reading}
 use Rattle.sm_record.specs.declared.records.Reading.TheVariants.{Free, Taken, Damaged}
 use Rattle.sm_record.specs.Records.{reading}
 use Rattle.sm_mgt.specs.Places.{Agrees, as_reading, records_held, IsFirstDamaged, reading_of}
-use Rattle.sm_standing.specs.Contents.{Content, row, record_count, sectors_of}
-use Rattle.sm_standing.specs.Checks.{has_records, record_volume_fault, images, too_many_fault, entry_ahead_fault, image_ahead_fault, record_fault, record_place, is_damaged, disk_fault, fault_today_of, first_fault_today}
-use Rattle.sm_standing.specs.Outlines.{reading_in, outline}
+use Rattle.sm_standing.specs.Contents.{record_count}
+use Rattle.sm_standing.specs.Checks.{has_records, record_volume_fault, too_many_fault, entry_ahead_fault, image_ahead_fault, record_fault, record_place, is_damaged, disk_fault, fault_today_of, first_fault_today}
+use Rattle.sm_standing.specs.Outlines.{Outline, reading_in, outline}
 use Rattle.sm_standing.proofs.OutlineLaws.{reading_within}
-use Rattle.sm_standing.specs.Plain.{IsPlain}
 use Rattle.common_laws.proofs.Lists.{none_first, find_none, In-numbers}
-use Rattle.sm_recover.specs.Stores.{content_in, content_now}
+use Rattle.sm_ready.specs.Stores.{content_in, content_now}
 use Rattle.sm_recover.specs.Faults.{HasTable, HasPlaces, table_faults}
 use Rattle.sm_recover.specs.Repairs.{IsChecked, IsOpeningStopped}
-use Rattle.sm_recover.proofs.CheckLaws.{plain_from}
-use Rattle.sm_recover.proofs.AreaLaws.{record_places, records_fit, reading_is}
+use Rattle.sm_recover.proofs.CheckLaws.{only, plain_from}
+use Rattle.common_laws.proofs.Booleans.{not_false}
+use Rattle.sm_ready.proofs.LeftLaws.{now_sector}
+
+-- ---- the volume of records
+
+-- it has all its sectors
+pub records_fit : {s : Site} {t : VolumeTable} → IsChecked s t → record_count ≤ size_of s t Mgt
+unfolding record_extents
+records_fit {s} {t} c =
+    subst (λ n. 512 ≤ n * s.geometry.extent) (sym c.record_volume) (le-div_up 512 s.geometry.extent (omega (arith, s.geometry.in_range.extent_least)))
+
+-- a reading is that of the sector that the store holds
+reading_held : {s : Site} {t : VolumeTable} (area : Held) (k : ℕ) → IsChecked s t → k < record_count → reading_in (content_now s t area) k ≡ reading_of (records_held s t area) k
+reading_held {s} {t} area k c below = reading_within (content_now s t area) k below ∙ ap reading (now_sector s t area Mgt k (omega (arith, below, records_fit c)))
 
 -- ---- the first of all
 
@@ -50,120 +59,90 @@ first_behind (Some y ∷ xs) ys h = absurd (let e = h in cc)
 first_behind (None ∷ xs) ys h = first_behind xs ys h
 
 -- a check by the table is the first that fails
-pub today_table : (c : Content) (place : Place) → first_some (table_faults c) ≡ Some place → first_fault_today c ≡ Some place
+pub today_table : (x : Outline) (place : Place) → first_some (table_faults x) ≡ Some place → fault_today_of x ≡ Some place
 unfolding fault_today_of
-today_table c place h = first_front (table_faults c) (record_fault (outline c) ∷ disk_fault (outline c) ∷ []) place h
+today_table x place h = first_front (table_faults x) (record_fault x ∷ disk_fault x ∷ []) place h
 
 -- or one of the records
-pub today_records : (c : Content) (place : Place) → first_some (table_faults c) ≡ None → record_fault (outline c) ≡ Some place → first_fault_today c ≡ Some place
+today_records : (x : Outline) (place : Place) → first_some (table_faults x) ≡ None → record_fault x ≡ Some place → fault_today_of x ≡ Some place
 unfolding fault_today_of
-today_records c place none h = first_behind (table_faults c) (record_fault (outline c) ∷ disk_fault (outline c) ∷ []) none ∙ ap (λ o. first_some (o ∷ disk_fault (outline c) ∷ [])) h
-
-only : {A : Type 0} (o : Option A) → first_some (o ∷ []) ≡ o
-only None = refl
-only (Some x) = refl
+today_records x place none h = first_behind (table_faults x) (record_fault x ∷ disk_fault x ∷ []) none ∙ ap (λ o. first_some (o ∷ disk_fault x ∷ [])) h
 
 -- or that of the disks, or none
-pub today_disks : (c : Content) (o : Option Place) → first_some (table_faults c) ≡ None → record_fault (outline c) ≡ None → disk_fault (outline c) ≡ o → first_fault_today c ≡ o
+today_disks : (x : Outline) → first_some (table_faults x) ≡ None → record_fault x ≡ None → fault_today_of x ≡ disk_fault x
 unfolding fault_today_of
-today_disks c o none right h =
-    first_behind (table_faults c) (record_fault (outline c) ∷ disk_fault (outline c) ∷ []) none ∙ ap (λ q. first_some (q ∷ disk_fault (outline c) ∷ [])) right ∙ only (disk_fault (outline c)) ∙ h
+today_disks x none right = first_behind (table_faults x) (record_fault x ∷ disk_fault x ∷ []) none ∙ ap (λ q. first_some (q ∷ disk_fault x ∷ [])) right ∙ only (disk_fault x)
 
 -- ---- where the checks by the table pass
 
-pub has_table : (s : Site) (g : Geometry) (t : VolumeTable) (image : ℕ → List ℕ) → g ≡ s.geometry → HasTable g t (content_in s t image)
-has_table s g t image is = record {
-  extent = ap (λ (x : Geometry). x.extent) (sym is);
-  block = ap (λ (x : Geometry). x.block) (sym is);
-  entries = ap (λ (x : Geometry). x.entries) (sym is);
-  table = refl;
-}
+-- the outline of a content of this table
+pub has_table : (s : Site) (t : VolumeTable) (image : ℕ → List ℕ) → HasTable s.geometry t (outline (content_in s t image))
+has_table s t image = record { extent = refl; block = refl; entries = refl; table = refl }
+
+-- that is what the checks by the table say
+abbrev pub TablesSay : Site → VolumeTable → Option Place → Type 0
+TablesSay s t o = (x : Outline) → HasTable s.geometry t x → first_some (table_faults x) ≡ o
 
 none_given : (b : Bool) (p : Place) → given b p ≡ None → b ≡ false
 none_given true p h = absurd (let e = h in cc)
 none_given false p h = refl
 
-eq_of : (a b : ℕ) → (a == b) ≡ true → a ≡ b
-eq_of a b h = grind (arith, nat_tests)
+records_long : (x : Outline) (o : Option Row) → not (has_records x o) ≡ false → length (extents_of o) ≡ record_extents x.extent
+records_long x None h = absurd (let e = h in cc)
+records_long x (Some r) h = eqb-true _ _ (not_false _ h)
 
-not_not : (b : Bool) → not b ≡ false → b ≡ true
-not_not true h = refl
-not_not false h = absurd (let e = h in cc)
-
-records_long : (c : Content) (o : Option Row) → not (has_records (outline c) o) ≡ false → length (extents_of o) ≡ record_extents c.extent
-records_long c None h = absurd (let e = h in cc)
-records_long c (Some r) h = eq_of (length r.extents) (record_extents c.extent) (not_not (length r.extents == record_extents c.extent) h)
-
-volume_long : (c : Content) → record_volume_fault (outline c) ≡ None → length (extents_of (row c Mgt)) ≡ record_extents c.extent
-unfolding record_volume_fault
-volume_long c h = records_long c (row c Mgt) (none_given (not (has_records (outline c) (row c Mgt))) at.Mgt h)
-
-few : (c : Content) → too_many_fault (outline c) ≡ None → length (images c.table) ≤ 500
-unfolding too_many_fault
-few c h = ltb-false 500 (length (images c.table)) (none_given (nat_lt image_limit (length (images c.table))) at.Images h)
-
-pub checked_from : (s : Site) (t : VolumeTable) → IsTable s.count t → s.count ≤ 65536 → ((image : ℕ → List ℕ) → first_some (table_faults (content_in s t image)) ≡ None) → IsChecked s t
+pub checked_from : (s : Site) (t : VolumeTable) → IsTable s.count t → s.count ≤ 65536 → TablesSay s t None → IsChecked s t
+unfolding record_volume_fault too_many_fault
 checked_from s t table extents none =
-    let c : Content = content_in s t (λ p. []) in
-    let each = none_first (table_faults c) (none (λ p. [])) in
+    let x : Outline = outline (content_in s t (λ p. [])) in
+    let each = none_first (table_faults x) (none x (has_table s t (λ p. []))) in
     record {
       table = table;
       few_extents = extents;
-      plain = plain_from c (each (entry_ahead_fault (outline c)) (inr (inr (inr (inl refl))))) (each (image_ahead_fault (outline c)) (inr (inr (inr (inr (inl refl))))));
-      few_images = few c (each (too_many_fault (outline c)) (inr (inl refl)));
-      record_volume = volume_long c (each (record_volume_fault (outline c)) (inl refl));
+      plain = plain_from x (each (entry_ahead_fault x) (inr (inr (inr (inl refl))))) (each (image_ahead_fault x) (inr (inr (inr (inr (inl refl))))));
+      few_images = ltb-false _ _ (none_given _ at.Images (each (too_many_fault x) (inr (inl refl))));
+      record_volume = records_long x (rows t Mgt) (none_given _ at.Mgt (each (record_volume_fault x) (inl refl)));
     }
 
 -- ---- the records
 
-pub has_places : {s : Site} {t : VolumeTable} (area : Held) (places : List (Option Record)) → IsChecked s t → Agrees (records_held s t area) places → HasPlaces places (content_now s t area)
+has_places : {s : Site} {t : VolumeTable} (area : Held) (places : List (Option Record)) → IsChecked s t → Agrees (records_held s t area) places
+    → HasPlaces places (outline (content_now s t area))
 has_places area places c agrees = record {
   long = agrees.long;
-  each = λ k o at. reading_is area c agrees k o (omega (arith, slice_get_within places k o at, agrees.long)) at;
+  each = λ k o at. reading_held area k c (omega (arith, slice_get_within places k o at, agrees.long)) ∙ agrees.each k o at;
 }
 
 as_right : (o : Option Record) → is_damaged (as_reading o) ≡ false
 as_right None = refl
 as_right (Some r) = refl
 
-pub records_right : (c : Content) (places : List (Option Record)) → HasPlaces places c → record_fault (outline c) ≡ None
+records_right : (x : Outline) (places : List (Option Record)) → HasPlaces places x → record_fault x ≡ None
 unfolding record_fault
-records_right c places has =
-    ap record_place (find_none (λ k. is_damaged (reading_in c k)) (numbers 0 record_count)
-    (λ k h. let w = In-numbers 0 record_count k h in
-    let found : slice_get places k ≡ Some (get_or places k None) = slice_get-get_or places k None (omega (arith, w.1, has.long)) in
-    ap is_damaged (reading_within c k w.1 ∙ has.each k (get_or places k None) found) ∙ as_right (get_or places k None)))
-
-first_step : (test : ℕ → Bool) (a : ℕ) (b : Bool) (rest : Option ℕ) (k : ℕ) → test a ≡ b → (a ≡ k → test k ≡ true → b ≡ true) → (a ≢ k → b ≡ false) → (a ≢ k → rest ≡ Some k) → (a ≡ k) ⊎ (a ≢ k)
-    → test k ≡ true → cond b (Some a) rest ≡ Some k
-first_step test a b rest k is same other behind (inl at) passes = ap (λ v. cond v (Some a) rest) (same at passes) ∙ ap Some at
-first_step test a b rest k is same other behind (inr away) passes = ap (λ v. cond v (Some a) rest) (other away) ∙ behind away
-
-eq_or_not : (a k : ℕ) → (a ≡ k) ⊎ (a ≢ k)
-eq_or_not a k = of_test (a == k) refl
-  where
-    of_test : (b : Bool) → (a == k) ≡ b → (a ≡ k) ⊎ (a ≢ k)
-    of_test true is = inl (eq_of a k is)
-    of_test false is = inr (λ e. (let h = is in grind (arith, nat_tests, e)))
+records_right x places has =
+    ap record_place (find_none (λ k. is_damaged (x.readings k)) (numbers 0 record_count) (λ k h.
+    let found = slice_get-get_or places k None (omega (arith, (In-numbers 0 record_count k h).1, has.long)) in
+    ap is_damaged (has.each k (get_or places k None) found) ∙ as_right (get_or places k None)))
 
 first_number : (test : ℕ → Bool) (a n k : ℕ) → a ≤ k → k < a + n → test k ≡ true → ((j : ℕ) → a ≤ j → j < k → test j ≡ false) → find test (numbers a n) ≡ Some k
 unfolding numbers
 first_number test a zero k from below passes before = absurd (omega arith)
 first_number test a (suc n) k from below passes before =
-    first_step test a (test a) (find test (numbers (a + 1) n)) k refl (λ e p. ap test e ∙ p) (λ away. before a (omega arith) (omega (arith, away)))
-    (λ away. first_number test (a + 1) n k (omega (arith, away)) (omega arith) passes (λ j lo hi. before j (omega arith) hi)) (eq_or_not a k) passes
+    by (cases_lt a k) (λ less. first_number test (a + 1) n k (omega (arith, less)) (omega arith) passes (λ j lo hi. before j (omega arith) hi))
+  where
+    by : (a < k) ⊎ (k ≤ a) → (a < k → find test (numbers (a + 1) n) ≡ Some k) → cond (test a) (Some a) (find test (numbers (a + 1) n)) ≡ Some k
+    by (inl less) rest = ap (λ v. cond v (Some a) (find test (numbers (a + 1) n))) (before a (omega arith) less) ∙ rest less
+    by (inr least) rest =
+        let e : a ≡ k = omega (arith, least, from) in
+        ap (λ v. cond v (Some a) (find test (numbers (a + 1) n))) (ap test e ∙ passes) ∙ ap Some e
 
 damaged_test : (r : Reading) → (r ≡ Damaged → ⊥) → is_damaged r ≡ false
 damaged_test Free h = refl
 damaged_test (Taken x) h = refl
 damaged_test Damaged h = absurd (h refl)
 
-reading_held : {s : Site} {t : VolumeTable} (area : Held) (k : ℕ) → IsChecked s t → k < record_count → reading_in (content_now s t area) k ≡ reading_of (records_held s t area) k
-unfolding sectors_of piece
-reading_held {s} {t} area k c below = reading_within (content_now s t area) k below ∙ ap reading (sym (volume_reads s.geometry.extent (record_places t) area k (omega (arith, below, records_fit c))))
-
 -- the first sector that is damaged
-pub records_wrong : {s : Site} {t : VolumeTable} (area : Held) (k : ℕ) → IsChecked s t → IsFirstDamaged (records_held s t area) k → record_fault (outline (content_now s t area)) ≡ Some (at.Record k)
+records_wrong : {s : Site} {t : VolumeTable} (area : Held) (k : ℕ) → IsChecked s t → IsFirstDamaged (records_held s t area) k → record_fault (outline (content_now s t area)) ≡ Some (at.Record k)
 unfolding record_fault
 records_wrong {s} {t} area k c first =
     ap record_place (first_number (λ j. is_damaged (reading_in (content_now s t area) j)) 0 record_count k (omega arith) (omega (arith, first.within))
@@ -172,32 +151,34 @@ records_wrong {s} {t} area k c first =
 
 -- ---- as the checks are called
 
-pub tables_say : (s : Site) (g : Geometry) (k kept : RoomyTable) (o : Option Place) → k ≡ kept → g ≡ s.geometry → ((c : Content) → HasTable g (table_alone k) c → o ≡ first_some (table_faults c))
-    → (image : ℕ → List ℕ) → first_some (table_faults (content_in s (table_alone kept) image)) ≡ o
-tables_say s g k kept o same geometry says image =
-    sym (says (content_in s (table_alone kept) image)
-    (subst (λ x. HasTable g (table_alone x) (content_in s (table_alone kept) image)) (sym same) (has_table s g (table_alone kept) image geometry)))
+pub tables_say : (s : Site) (g : Geometry) (k kept : RoomyTable) (o : Option Place) → k ≡ kept → g ≡ s.geometry
+    → ((x : Outline) → HasTable g (table_alone k) x → o ≡ first_some (table_faults x)) → TablesSay s (table_alone kept) o
+tables_say s g k kept o same geometry says x has = sym (says x (subst₂ (λ h (y : RoomyTable). HasTable h (table_alone y) x) (sym geometry) (sym same) has))
+
+-- of an outline with this table and these places
+pub all_pass : (s : Site) {t u : VolumeTable} (places : List (Option Record)) (o : Option Place) → u ≡ t → TablesSay s t None
+    → ((x : Outline) → x.table ≡ u → HasPlaces places x → o ≡ disk_fault x) → (x : Outline) → HasTable s.geometry t x → HasPlaces places x → fault_today_of x ≡ o
+all_pass s places o same none says x is has = today_disks x (none x is) (records_right x places has) ∙ sym (says x (is.table ∙ sym same) has)
 
 pub all_say : {s : Site} {t u : VolumeTable} (area : Held) (places : List (Option Record)) (o : Option Place) → IsChecked s t → u ≡ t → Agrees (records_held s t area) places
-    → ((image : ℕ → List ℕ) → first_some (table_faults (content_in s t image)) ≡ None)
-    → ((c : Content) → c.table ≡ u → HasPlaces places c → o ≡ disk_fault (outline c)) → first_fault_today (content_now s t area) ≡ o
-all_say {s} {t} {u} area places o c same agrees none says =
-    let has = has_places area places c agrees in
-    today_disks (content_now s t area) o (none (reads area)) (records_right (content_now s t area) places has) (sym (says (content_now s t area) (sym same) has))
-
-pub plain_later : {s : Site} {t u : VolumeTable} → IsChecked s t → u ≡ t → IsPlain u
-plain_later c same = subst IsPlain (sym same) c.plain
+    → TablesSay s t None → ((x : Outline) → x.table ≡ u → HasPlaces places x → o ≡ disk_fault x) → first_fault_today (content_now s t area) ≡ o
+all_say {s} {t} area places o c same agrees none says =
+    all_pass s places o same none says (outline (content_now s t area)) (has_table s t (reads area)) (has_places area places c agrees)
 
 -- why the records were not read
-pub stopped_by : {s : Site} {t : VolumeTable} (told : Type 0) (area : Held) (before now : ℕ) (e : OpenFault) → IsChecked s t
-    → ((image : ℕ → List ℕ) → first_some (table_faults (content_in s t image)) ≡ None)
+pub stopped_by : {s : Site} {t : VolumeTable} (told : Type 0) (area : Held) (before now : ℕ) (e : OpenFault) → IsChecked s t → TablesSay s t None
     → (e ≡ fault.NoMemory) ⊎ ((e ≡ fault.Device) × Rose before now) ⊎ ((k : ℕ) × (e ≡ fault.Damaged (at.Record k)) × (told → IsFirstDamaged (records_held s t area) k))
     → IsOpeningStopped told (content_now s t area) before now e
 stopped_by {s} {t} told area before now e c none (inl is) = subst (IsOpeningStopped told (content_now s t area) before now) (sym is) tt
 stopped_by {s} {t} told area before now e c none (inr (inl (is, rose))) = subst (IsOpeningStopped told (content_now s t area) before now) (sym is) rose
 stopped_by {s} {t} told area before now e c none (inr (inr (k, is, first))) =
+    let x = outline (content_now s t area) in
     subst (IsOpeningStopped told (content_now s t area) before now) (sym is)
-    (λ known. today_records (content_now s t area) (at.Record k) (none (reads area)) (records_wrong area k c (first known)))
+    (λ known. today_records x (at.Record k) (none x (has_table s t (reads area))) (records_wrong area k c (first known)))
 
 pub if_err : {T E : Type 0} (P : E → Type 0) (r : Result T E) (e : E) → r ≡ Err e → P e → IfErr r P
 if_err P r e is p = subst (λ x. IfErr x P) (sym is) p
+
+pub none_only : {A P : Type 0} (o : Option A) → (o ≡ None → P) → IfNone o P
+none_only None p = p refl
+none_only (Some x) p = tt

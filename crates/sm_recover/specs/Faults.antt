@@ -4,7 +4,7 @@ use Rattle.std.specs.Prelude.{◌≡◌, ◌⊎◌, ℕ, Bool, true, false, ◌&
 use Rattle.std.specs.List.{slice_get}
 use Rattle.sm_base.specs.declared.faults.Place.{Place}
 use Rattle.sm_base.specs.declared.names.Name.{Name}
-use Rattle.sm_base.specs.declared.names.Name.TheVariants.{Mgt, Vhd, Raw, Old, Clone, Inflate, Coalesce, Relink, Leaf}
+use Rattle.sm_base.specs.declared.names.Name.TheVariants.{Raw}
 use Rattle.sm_base.specs.declared.sizes.Geometry.{Geometry}
 use Rattle.std.specs.declared.cmp.Ordering.TheVariants.{Less}
 use Rattle.vg_meta.specs.Tables.{VolumeTable, Row}
@@ -12,33 +12,32 @@ use Rattle.sm_machine.specs.Disks.{uuid_before}
 use Rattle.common_laws.specs.Lists.{given}
 use Rattle.sm_record.specs.declared.records.Record.{Record}
 use Rattle.sm_mgt.specs.Places.{place_count, is_of, as_reading}
-use Rattle.sm_standing.specs.Contents.{Content, reading_at}
 use Rattle.sm_standing.specs.Checks.{record_volume_fault, too_many_fault, misnamed_fault, entry_ahead_fault, image_ahead_fault, invalid_fault, is_oversize}
-use Rattle.sm_standing.specs.Outlines.{outline}
+use Rattle.sm_standing.specs.Outlines.{Outline}
 use Rattle.sm_standing.specs.Ordered.{uuid_cmp}
 use Rattle.sm_standing.specs.Standing.{standing_volume}
 
--- a content with these sizes and this table
-pub record HasTable (geometry : Geometry) (t : VolumeTable) (c : Content) : Type 0 where
-  pub extent : c.extent ≡ geometry.extent
-  pub block : c.block ≡ geometry.block
-  pub entries : c.entries ≡ geometry.entries
-  pub table : c.table ≡ t
+-- an outline with these sizes and this table
+pub record HasTable (geometry : Geometry) (t : VolumeTable) (x : Outline) : Type 0 where
+  pub extent : x.extent ≡ geometry.extent
+  pub block : x.block ≡ geometry.block
+  pub entries : x.entries ≡ geometry.entries
+  pub table : x.table ≡ t
 
 -- the checks that look at these alone, in their order
-abbrev pub table_faults : Content → List (Option Place)
-table_faults c = record_volume_fault (outline c)
-    ∷ too_many_fault (outline c)
-    ∷ misnamed_fault (outline c)
-    ∷ entry_ahead_fault (outline c)
-    ∷ image_ahead_fault (outline c)
-    ∷ invalid_fault (outline c)
+abbrev pub table_faults : Outline → List (Option Place)
+table_faults x = record_volume_fault x
+    ∷ too_many_fault x
+    ∷ misnamed_fault x
+    ∷ entry_ahead_fault x
+    ∷ image_ahead_fault x
+    ∷ invalid_fault x
     ∷ []
 
--- a content with these places of records
-pub record HasPlaces (places : List (Option Record)) (c : Content) : Type 0 where
+-- an outline with these places of records
+pub record HasPlaces (places : List (Option Record)) (x : Outline) : Type 0 where
   pub long : length places ≡ place_count
-  pub each : (k : ℕ) (o : Option Record) → slice_get places k ≡ Some o → reading_at c k ≡ as_reading o
+  pub each : (k : ℕ) (o : Option Record) → slice_get places k ≡ Some o → x.readings k ≡ as_reading o
 
 -- whether a UUID is a disk that has no record or several
 abbrev pub is_unrecorded_in : VolumeTable → List (Option Record) → List ℕ → Bool
@@ -47,14 +46,7 @@ is_unrecorded_in t places u = is_some (standing_volume t u) && not (count_by (is
 -- the UUID of a raw image, where it is such a disk
 unfoldable pub unrecorded : VolumeTable → List (Option Record) → Name → Option (List ℕ)
 unrecorded t places (Raw u) = given (is_unrecorded_in t places u) u
-unrecorded t places Mgt = None
-unrecorded t places (Vhd u) = None
-unrecorded t places (Old u) = None
-unrecorded t places (Clone disk base twin) = None
-unrecorded t places (Inflate image extents) = None
-unrecorded t places (Coalesce child parent) = None
-unrecorded t places (Relink child parent) = None
-unrecorded t places (Leaf leaf parent) = None
+unrecorded t places _ = None
 
 -- the lesser of two UUIDs, where there are two
 abbrev pub lesser : Option (List ℕ) → Option (List ℕ) → Option (List ℕ)
@@ -70,14 +62,7 @@ IsLeast P (Some u) = P u × ((v : List ℕ) → P v → (v ≡ u) ⊎ (uuid_cmp 
 -- a raw image
 abbrev pub is_raw : Name → Bool
 is_raw (Raw u) = true
-is_raw Mgt = false
-is_raw (Vhd u) = false
-is_raw (Old u) = false
-is_raw (Clone disk base twin) = false
-is_raw (Inflate image extents) = false
-is_raw (Coalesce child parent) = false
-is_raw (Relink child parent) = false
-is_raw (Leaf leaf parent) = false
+is_raw _ = false
 
 -- a raw image that is not new and has more blocks than a block allocation table has entries
 abbrev pub is_sized_wrong : Geometry → Row → Bool

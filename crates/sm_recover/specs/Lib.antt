@@ -1,5 +1,4 @@
 pub mod Stores
-pub mod Pruned
 pub mod Faults
 pub mod Repairs
-pub mod Cleaned
+pub mod Loaded

@@ -1,24 +1,18 @@
--- What the steps of an opening tell each other: what the checks leave known, why they stopped, and what the repair of the
--- records may write.
-use Rattle.std.specs.Prelude.{◌≡◌, ◌⊎◌, ℕ, ◌≤◌, true, false, List, length, Option, Some, is_some}
-use Rattle.std.specs.List.{slice_get}
+-- What the steps of an opening tell each other: what the checks leave known, and why they stopped.
+use Rattle.std.specs.Prelude.{◌≡◌, ℕ, ◌≤◌, length, Some}
 use Rattle.sm_base.specs.declared.faults.OpenFault.{OpenFault}
 use Rattle.sm_base.specs.declared.faults.OpenFault.TheVariants as fault
-use Rattle.sm_base.specs.declared.names.Name.{Name}
 use Rattle.sm_base.specs.declared.names.Name.TheVariants.{Mgt}
-use Rattle.sm_disk.specs.Held.{Held, May, Rose}
-use Rattle.sm_disk.specs.Sectors.{zeros}
+use Rattle.sm_disk.specs.Held.{Rose}
 use Rattle.vg_layout.specs.Places.{record_extents}
-use Rattle.vg_meta.specs.Tables.{VolumeTable, Row, IsTable, rows, extents_of}
+use Rattle.vg_meta.specs.Tables.{VolumeTable, IsTable, rows, extents_of}
 use Rattle.vg_meta.specs.Roomy.{table_alone}
 use Rattle.vg_volumes.specs.Sites.{Site}
 use Rattle.vg_volumes.specs.declared.stores.Store.{Ghosts}
 use Rattle.sm_machine.specs.Shapes.{image_limit}
-use Rattle.sm_record.specs.declared.records.Record.{Record}
 use Rattle.sm_standing.specs.Contents.{Content}
 use Rattle.sm_standing.specs.Checks.{images, first_fault_today}
 use Rattle.sm_standing.specs.Plain.{IsPlain}
-use Rattle.sm_standing.specs.Standing.{standing_volume}
 
 -- what is known of the table in memory once the checks passed: new volumes may be among the others
 pub record IsChecked (s : Site) (t : VolumeTable) : Type 0 where
@@ -28,6 +22,7 @@ pub record IsChecked (s : Site) (t : VolumeTable) : Type 0 where
   pub few_images : length (images t) ≤ image_limit
   pub record_volume : length (extents_of (rows t Mgt)) ≡ record_extents s.geometry.extent
 
+-- of a store: what is known of its table once the checks passed
 abbrev pub IsCheckedStore : {S : Type 0} → Ghosts S → S → Type 0
 IsCheckedStore g s = IsChecked (g.site s) (table_alone (g.table s))
 
@@ -46,19 +41,3 @@ UnlessDeviceFailed (fault.Damaged place) Fact = Fact
 UnlessDeviceFailed fault.NoMemory Fact = Fact
 UnlessDeviceFailed fault.NotARepository Fact = Fact
 UnlessDeviceFailed (fault.Unsupported version) Fact = Fact
-
--- this place in memory has the record of no disk
-abbrev pub IsStrayAt : VolumeTable → List (Option Record) → ℕ → Type 0
-IsStrayAt t places k = (r : Record) × (slice_get places k ≡ Some (Some r)) × (is_some (standing_volume t r.uuid) ≡ false)
-
--- a record in this place is that of a disk
-abbrev pub IsRightAt : VolumeTable → List (Option Record) → ℕ → Type 0
-IsRightAt t places k = (r : Record) → slice_get places k ≡ Some (Some r) → is_some (standing_volume t r.uuid) ≡ true
-
--- at some places a stop may leave zeros, and at each place what it may have left before
-abbrev pub IsZeroedAt : (ℕ → Type 0) → Held → Held → Type 0
-IsZeroedAt At old new = (p : ℕ) (v : List ℕ) → May new p v → May old p v ⊎ ((v ≡ zeros) × At p)
-
--- the volume of this name is new
-abbrev pub IsNewVolume : VolumeTable → Name → Type 0
-IsNewVolume t n = (r : Row) × (rows t n ≡ Some r) × (r.fresh ≡ true)

@@ -7,8 +7,7 @@ ghost use Rattle.sm_base.specs.Numbers.{IsGeometry};
 ghost use Rattle.common_laws.specs.Lists.{first_some};
 ghost use Rattle.sm_machine.specs.Shapes.{image_limit};
 ghost use Rattle.sm_standing.specs.Checks.{record_volume_fault, too_many_fault, misnamed_fault, entry_ahead_fault, image_ahead_fault, invalid_fault, is_misnamed as is_misnamed_row, is_image_ahead, is_oversize};
-ghost use Rattle.sm_standing.specs.Outlines.{outline};
-ghost use Rattle.sm_standing.specs.Contents.{Content};
+ghost use Rattle.sm_standing.specs.Outlines.{Outline};
 ghost use Rattle.sm_standing.specs.Entries.{is_there, is_past, base_number};
 ghost use Rattle.sm_standing.specs.Plain.{IsPlain};
 ghost use Rattle.vg_meta.specs.Roomy.{table_alone};
@@ -21,7 +20,7 @@ use vg_meta::{Table, Volume};
 
 /// The place of the first check by the table that fails.
 pub fn table_fault(table: &Table, geometry: &Geometry) -> Option<Place>
-    ensures { (c : Content) → HasTable geometry.now (table_alone table.now) c → result ≡ first_some (table_faults c) }
+    ensures { (x : Outline) → HasTable geometry.now (table_alone table.now) x → result ≡ first_some (table_faults x) }
 {
     if let Some(place) = record_volume_fault(table, geometry) {
         return Some(place);
@@ -43,7 +42,7 @@ pub fn table_fault(table: &Table, geometry: &Geometry) -> Option<Place>
 
 /// The volume of records is there, with exactly its extents.
 fn record_volume_fault(table: &Table, geometry: &Geometry) -> Option<Place>
-    ensures { (c : Content) → HasTable geometry.now (table_alone table.now) c → result ≡ record_volume_fault (outline c) }
+    ensures { (x : Outline) → HasTable geometry.now (table_alone table.now) x → result ≡ record_volume_fault x }
 {
     match table.get(&Name::Mgt) {
         Some(volume) if volume.extents().len() == record_extents(geometry) as usize => None,
@@ -53,7 +52,7 @@ fn record_volume_fault(table: &Table, geometry: &Geometry) -> Option<Place>
 
 /// There are at most 500 images.
 fn too_many_fault(table: &Table) -> Option<Place>
-    ensures { (c : Content) → c.table ≡ table_alone table.now → result ≡ too_many_fault (outline c) }
+    ensures { (x : Outline) → x.table ≡ table_alone table.now → result ≡ too_many_fault x }
 {
     if count_images(table.volumes()) > IMAGE_LIMIT {
         Some(Place::Images)
@@ -64,7 +63,7 @@ fn too_many_fault(table: &Table) -> Option<Place>
 
 /// No image has another's UUID, nor the UUID of a base image that is still to come.
 fn misnamed_fault(table: &Table) -> Option<Place>
-    ensures { (c : Content) → c.table ≡ table_alone table.now → result ≡ misnamed_fault (outline c) }
+    ensures { (x : Outline) → x.table ≡ table_alone table.now → result ≡ misnamed_fault x }
 {
     let volume = first_misnamed(table.volumes(), table)?;
     Some(Place::Image {
@@ -74,7 +73,7 @@ fn misnamed_fault(table: &Table) -> Option<Place>
 
 /// There is no journal entry.
 fn entry_fault(table: &Table) -> Option<Place>
-    ensures { (c : Content) → c.table ≡ table_alone table.now → result ≡ entry_ahead_fault (outline c) }
+    ensures { (x : Outline) → x.table ≡ table_alone table.now → result ≡ entry_ahead_fault x }
 {
     let volume = first_entry(table.volumes())?;
     Some(Place::Journal {
@@ -84,7 +83,7 @@ fn entry_fault(table: &Table) -> Option<Place>
 
 /// Each image is a raw one, and visible.
 fn image_fault(table: &Table) -> Option<Place>
-    ensures { (c : Content) → c.table ≡ table_alone table.now → result ≡ image_ahead_fault (outline c) }
+    ensures { (x : Outline) → x.table ≡ table_alone table.now → result ≡ image_ahead_fault x }
 {
     let volume = first_ahead(table.volumes())?;
     Some(Place::Image {
@@ -94,7 +93,7 @@ fn image_fault(table: &Table) -> Option<Place>
 
 /// Each raw image that is not new has at most as many blocks as a block allocation table has entries.
 fn size_fault(table: &Table, geometry: &Geometry) -> Option<Place>
-    ensures { (c : Content) → HasTable geometry.now (table_alone table.now) c → IsPlain (table_alone table.now) → result ≡ invalid_fault (outline c) }
+    ensures { (x : Outline) → HasTable geometry.now (table_alone table.now) x → IsPlain (table_alone table.now) → result ≡ invalid_fault x }
 {
     let volume = first_oversize(table.volumes(), geometry)?;
     Some(Place::Image {

@@ -3,8 +3,7 @@
 ghost use Rattle.std.specs.Prelude.{◌≡◌, is_some, true};
 ghost use Rattle.sm_machine.specs.Disks.{uuid_before};
 ghost use Rattle.sm_standing.specs.Checks.{disk_fault};
-ghost use Rattle.sm_standing.specs.Outlines.{outline};
-ghost use Rattle.sm_standing.specs.Contents.{Content};
+ghost use Rattle.sm_standing.specs.Outlines.{Outline};
 ghost use Rattle.sm_standing.specs.Plain.{IsPlain};
 ghost use Rattle.sm_standing.specs.Standing.{standing_volume};
 ghost use Rattle.vg_meta.specs.Roomy.{table_alone};
@@ -18,7 +17,7 @@ use vg_meta::{Table, Volume};
 /// The disk with the least UUID that has no record or several.
 pub fn disk_fault(table: &Table, mgt: &Mgt) -> Option<Place>
     requires { IsPlain (table_alone table.now) }
-    ensures { (c : Content) → c.table ≡ table_alone table.now → HasPlaces mgt.now c → result ≡ disk_fault (outline c) }
+    ensures { (x : Outline) → x.table ≡ table_alone table.now → HasPlaces mgt.now x → result ≡ disk_fault x }
 {
     let uuid = least_unrecorded(table, mgt)?;
     Some(Place::Disk { uuid })

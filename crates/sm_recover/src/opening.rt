@@ -1,37 +1,62 @@
-//! All checks, one after another, and then the memory for the rows of the table. Nothing is written.
+//! All checks, one after another, and then the memory of a session: the images that stand, and room for all that may come.
+//! Nothing is written.
 
-ghost use Rattle.std.specs.Prelude.{◌≡◌, None, OnOk, IfOk, IfErr};
-ghost use Rattle.sm_mgt.specs.Places.{Agrees, records_of};
+ghost use Rattle.std.specs.Prelude.{◌≡◌, None, OnOk, IfOk, IfErr, IfNone, length};
+ghost use Rattle.sm_disk.specs.Held.{IsSettled};
+ghost use Rattle.common_laws.specs.Lists.{first_some};
+ghost use Rattle.sm_mgt.specs.Places.{Agrees, place_count, records_of};
 ghost use Rattle.sm_standing.specs.Checks.{first_fault_today};
 ghost use Rattle.vg_volumes.specs.Stored.{OnlyReads};
 ghost use Rattle.sm_recover.specs.Repairs.{IsCheckedStore, IsOpeningStopped};
-ghost use Rattle.sm_recover.specs.Stores.{HasRows, store_content};
+ghost use Rattle.sm_ready.specs.Sessions.{IsAtEase, HasRows, HasTreeRoom, IsOrderlyStore, IsReadyStore};
+ghost use Rattle.sm_ready.specs.Stores.{store_content};
+ghost use Rattle.sm_standing.specs.Checks.{fault_today_of};
+ghost use Rattle.sm_standing.specs.Outlines.{Outline};
+ghost use Rattle.sm_recover.specs.Faults.{HasPlaces, HasTable, table_faults};
+ghost use Rattle.vg_meta.specs.Roomy.{table_alone};
 
 use crate::checks::table_fault;
 use crate::disks::disk_fault;
-use sm_base::{NoMemory, OpenFault};
+use crate::loading::load;
+use sm_base::{IMAGE_LIMIT, NoMemory, Op, OpenFault, Place};
 use sm_mgt::Mgt;
+use sm_ready::Memory;
+use sm_refs::Attachments;
 use std::alloc::Global;
 use vg_volumes::Store;
 
 /// The most rows that a table may come to have: those of 500 images, of the volume of records, and of 4 journal entries.
 const MOST_ROWS: usize = 505;
 
-/// Checks what stands in a store, takes the memory for all rows that its table may come to have, and answers the places
-/// of the records.
-pub fn checked_with_room<S: Store>(alloc: Global, store: &mut S) -> Result<Mgt, OpenFault>
+/// Checks what stands in a store, takes the memory for all rows that its table and its tree may come to have, and answers
+/// what a session keeps in memory. New volumes are no rows of the tree, and records of no disk are in their places.
+pub fn checked_with_room<S: Store>(alloc: Global, store: &mut S) -> Result<Memory, OpenFault>
     ensures reads { OnlyReads S.Store store.old store.new }
     ensures checked { OnOk result (IsCheckedStore S.Store store.old) }
     ensures sound { OnOk result (S.told → first_fault_today (store_content S.Store store.old) ≡ None) }
-    ensures agrees { S.told → IfOk result (Agrees (records_of S.Store store.old)) }
+    ensures orderly { IfOk result (λ m. IsOrderlyStore S.Store store.old m) }
+    ensures ready { IfOk result (λ m. S.told → IsSettled (S.area store.old) → IsReadyStore S.Store store.old m) }
+    ensures at_ease { IfOk result IsAtEase }
+    ensures tree_room { IfOk result HasTreeRoom }
     ensures cause { IfErr result (IsOpeningStopped S.told (store_content S.Store store.old) (S.faults store.old) (S.faults store.new)) }
     ensures room { OnOk result (HasRows (S.table store.new)) }
 {
-    let mgt = checked(alloc, store)?;
+    let records = checked(alloc, store)?;
     let Ok(()) = make_room(store) else {
         return Err(OpenFault::NoMemory);
     };
-    Ok(mgt)
+    let Ok(tree) = load(alloc, store) else {
+        return Err(OpenFault::NoMemory);
+    };
+    let Ok(attached) = Attachments::new(alloc, IMAGE_LIMIT) else {
+        return Err(OpenFault::NoMemory);
+    };
+    Ok(Memory {
+        tree,
+        records,
+        attached,
+        operation: Op::Idle,
+    })
 }
 
 /// Checks what stands in a store, and answers the places of the records.
@@ -40,11 +65,11 @@ fn checked<S: Store>(alloc: Global, store: &mut S) -> Result<Mgt, OpenFault>
     ensures checked { OnOk result (IsCheckedStore S.Store store.old) }
     ensures sound { OnOk result (S.told → first_fault_today (store_content S.Store store.old) ≡ None) }
     ensures agrees { S.told → IfOk result (Agrees (records_of S.Store store.old)) }
+    ensures passed { IfOk result (λ places. (x : Outline) → HasTable (S.site store.old).geometry (table_alone (S.table store.old)) x → HasPlaces places x → fault_today_of x ≡ None) }
+    ensures long { IfOk result (λ places. length places ≡ place_count) }
     ensures cause { IfErr result (IsOpeningStopped S.told (store_content S.Store store.old) (S.faults store.old) (S.faults store.new)) }
 {
-    let geometry = store.geometry();
-    let _extents = store.extents();
-    if let Some(place) = table_fault(store.table(), &geometry) {
+    if let Some(place) = first_by_table(store) {
         return Err(OpenFault::Damaged { place });
     }
     let mgt = Mgt::load(alloc, store)?;
@@ -52,6 +77,16 @@ fn checked<S: Store>(alloc: Global, store: &mut S) -> Result<Mgt, OpenFault>
         return Err(OpenFault::Damaged { place });
     }
     Ok(mgt)
+}
+
+/// The place of the first check by the table that fails. Where none does, what the repairs rest on is known.
+fn first_by_table<S: Store>(store: &S) -> Option<Place>
+    ensures says { (x : Outline) → HasTable (S.site store.now).geometry (table_alone (S.table store.now)) x → first_some (table_faults x) ≡ result }
+    ensures checked { IfNone result (IsCheckedStore S.Store store.now) }
+{
+    let geometry = store.geometry();
+    let _extents = store.extents();
+    table_fault(store.table(), &geometry)
 }
 
 /// Makes room for all rows that the table may come to have. What stands counts, so that no later row takes memory.

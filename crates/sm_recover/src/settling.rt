@@ -1,35 +1,38 @@
 //! The checks, and then the repair.
 
-ghost use Rattle.std.specs.Prelude.{◌≡◌, ◌⊎◌, ◌≤◌, None, false, OnOk, OnErr, IfOk, IfErr};
+ghost use Rattle.std.specs.Prelude.{◌≡◌, ◌⊎◌, ◌<◌, ◌≤◌, ℕ, None, false, OnOk, OnErr, IfOk, IfErr};
 ghost use Rattle.sm_disk.specs.Held.{IsSettled, Keeps};
-ghost use Rattle.sm_mgt.specs.Places.{Agrees, records_of};
+ghost use Rattle.sm_mgt.specs.Places.{place_count};
 ghost use Rattle.sm_standing.specs.Checks.{first_fault_today};
 ghost use Rattle.sm_standing.specs.Opened.{opened};
-ghost use Rattle.sm_standing.specs.Shapes.{shape};
 ghost use Rattle.sm_standing.specs.Standing.{disks};
 ghost use Rattle.vg_meta.specs.Roomy.{table_alone};
-ghost use Rattle.vg_volumes.specs.Stored.{Stays, OnlyReads, Counts, Leaves};
-ghost use Rattle.sm_recover.specs.Cleaned.{cleaned, HasFewRemovals, ReadsAsBefore};
-ghost use Rattle.sm_recover.specs.Pruned.{IsPruned};
+ghost use Rattle.vg_volumes.specs.Stored.{Stays, OnlyReads, Counts, Leaves, stored};
+ghost use Rattle.sm_ready.specs.Cleaned.{cleaned, HasFewRemovals};
+ghost use Rattle.sm_ready.specs.Repairs.{IsAtRest, IsRightAt, IsSame, IsWithoutStrays, LeavesSame, RestsAgain};
 ghost use Rattle.sm_recover.specs.Repairs.{IsCheckedStore, IsOpeningStopped, UnlessDeviceFailed};
-ghost use Rattle.sm_recover.specs.Stores.{IsOrderlyStore, HasRows, IsStoreAtRest, IsRepairedFrom, HasNoStray, content_in, store_content};
+ghost use Rattle.sm_ready.specs.Known.{Known, known, shape_in};
+ghost use Rattle.sm_ready.specs.Sessions.{IsAtEase, HasRows, HasTreeRoom, IsOrderlyStore, IsReadyStore, IsTidyStore};
+ghost use Rattle.sm_ready.specs.Stores.{content_in, store_content};
+ghost use Rattle.sm_recover.specs.Stores.{IsRepairedFrom};
 
 use crate::opening::checked_with_room;
 use crate::removals::remove_new;
 use crate::wiping::wipe_strays;
 use sm_base::{Failed, OpenFault};
 use sm_mgt::Mgt;
+use sm_ready::Memory;
 use std::alloc::Global;
 use vg_volumes::Store;
 
 /// Checks what stands in a store, all checks before the first write, and then repairs what a stop has left: volumes
-/// that are new are removed, and records of no disk are wiped. Answers the places of the records. Memory is taken
-/// before the first write, and none after it.
+/// that are new are removed, and records of no disk are wiped. Answers what a session keeps in memory: the images, the
+/// places of the records, no attachment and no operation. Memory is taken before the first write, and none after it.
 ///
 /// # Errors
 /// `Damaged` with the first place at which the checks fail, and nothing was written; `Device` where a call of the
 /// store failed; `NoMemory`, and nothing was written. Where a check fails nothing was written, whatever the answer.
-pub fn settle<S: Store>(alloc: Global, store: &mut S) -> Result<Mgt, OpenFault>
+pub fn settle<S: Store>(alloc: Global, store: &mut S) -> Result<Memory, OpenFault>
     requires usable { S.failed store.old ≡ false }
     requires settled { S.told → IsSettled (S.area store.old) }
     ensures site { S.site store.new ≡ S.site store.old }
@@ -40,66 +43,65 @@ pub fn settle<S: Store>(alloc: Global, store: &mut S) -> Result<Mgt, OpenFault>
     ensures refused { IfErr result (λ e. UnlessDeviceFailed e (OnlyReads S.Store store.old store.new)) }
     ensures unsound { OnErr result (S.told → (first_fault_today (store_content S.Store store.old) ≡ None → ⊥) → Keeps (S.device store.old) (S.device store.new)) }
     ensures usable_still { OnOk result (S.failed store.new ≡ false) }
-    ensures orderly { OnOk result (IsOrderlyStore S.Store store.new) }
+    ensures orderly { IfOk result (λ m. IsOrderlyStore S.Store store.new m) }
+    ensures tidy { IfOk result (λ m. IsTidyStore S.Store store.new m) }
+    ensures at_ease { IfOk result IsAtEase }
     ensures room { OnOk result (HasRows (S.table store.new)) }
+    ensures tree_room { IfOk result HasTreeRoom }
     ensures cleaned { OnOk result (table_alone (S.table store.new) ≡ cleaned (table_alone (S.table store.old))) }
     ensures few { HasFewRemovals (table_alone (S.table store.old)) (table_alone (S.table store.new)) }
     ensures few_left { Leaves S.Store store.new (λ t image. HasFewRemovals (table_alone (S.table store.old)) t) }
-    ensures at_rest { IfOk result (λ mgt. S.told → IsStoreAtRest S.Store store.new mgt) }
+    ensures settled { OnOk result (S.told → IsSettled (S.area store.new)) }
+    ensures ready { IfOk result (λ m. S.told → IsReadyStore S.Store store.new m) }
     ensures disks { OnOk result (S.told → disks (store_content S.Store store.new)
         ≡ disks (store_content S.Store store.old)) }
-    ensures area { OnOk result (S.told → ReadsAsBefore (store_content S.Store store.old) (store_content S.Store store.new)) }
-    ensures opened { OnOk result (S.told → shape (store_content S.Store store.new)
-        ≡ opened (store_content S.Store store.old)) }
+    ensures opened { IfOk result (λ m. S.told → shape_in (S.site store.new) (table_alone (S.table store.new)) (known m) ≡ opened (store_content S.Store store.old)) }
     ensures crash { Leaves S.Store store.new (λ t image. S.leaves store.old t image ⊎ IsRepairedFrom (store_content S.Store store.old) (content_in (S.site store.old) t image)) }
 {
-    let mut mgt = checked_with_room(alloc, store)?;
-    let Ok(()) = repair(store, &mut mgt) else {
+    let mut memory = checked_with_room(alloc, store)?;
+    let Ok(()) = repair(store, &mut memory) else {
         return Err(OpenFault::Device);
     };
-    Ok(mgt)
+    Ok(memory)
 }
 
 /// Removes the new volumes, and wipes the records of no disk.
-fn repair<S: Store>(store: &mut S, mgt: &mut Mgt) -> Result<(), Failed>
+fn repair<S: Store>(store: &mut S, memory: &mut Memory) -> Result<(), Failed>
     requires usable { S.failed store.old ≡ false }
-    requires settled { S.told → IsSettled (S.area store.old) }
     requires checked { IsCheckedStore S.Store store.old }
-    requires sound { S.told → first_fault_today (store_content S.Store store.old) ≡ None }
-    requires agrees { S.told → Agrees (records_of S.Store store.old) mgt.old }
+    requires orderly { IsOrderlyStore S.Store store.old memory.old }
     ensures site { S.site store.new ≡ S.site store.old }
     ensures counts { S.faults store.old ≤ S.faults store.new }
     ensures beside { S.told → Keeps (S.beside store.old) (S.beside store.new) }
     ensures cause { Counts S.Store result store.old store.new }
     ensures usable_still { OnOk result (S.failed store.new ≡ false) }
-    ensures orderly { OnOk result (IsOrderlyStore S.Store store.new) }
+    ensures tree { memory.new.tree ≡ memory.old.tree }
+    ensures attached { memory.new.attached ≡ memory.old.attached }
+    ensures operation { memory.new.operation ≡ memory.old.operation }
     ensures room { OnOk result (HasRows (S.table store.old) → HasRows (S.table store.new)) }
     ensures cleaned { OnOk result (table_alone (S.table store.new) ≡ cleaned (table_alone (S.table store.old))) }
     ensures few { HasFewRemovals (table_alone (S.table store.old)) (table_alone (S.table store.new)) }
     ensures few_left { Leaves S.Store store.new (λ t image. HasFewRemovals (table_alone (S.table store.old)) t) }
-    ensures at_rest { OnOk result (S.told → IsStoreAtRest S.Store store.new mgt.new) }
-    ensures repaired { OnOk result (S.told → IsRepairedFrom (store_content S.Store store.old) (store_content S.Store store.new)) }
-    ensures area { OnOk result (S.told → ReadsAsBefore (store_content S.Store store.old) (store_content S.Store store.new)) }
-    ensures crash { Leaves S.Store store.new (λ t image. IsRepairedFrom (store_content S.Store store.old) (content_in (S.site store.old) t image)) }
+    ensures orderly { OnOk result (IsOrderlyStore S.Store store.new memory.new) }
+    ensures tidy { OnOk result (IsTidyStore S.Store store.new memory.new) }
+    ensures rest { OnOk result (S.told → RestsAgain (stored S.Store store.old) (stored S.Store store.new) (known memory.old) (known memory.new)) }
+    ensures crash { Leaves S.Store store.new (λ t image. IsAtRest (stored S.Store store.old) (known memory.old) → IsSame (store_content S.Store store.old) (content_in (S.site store.old) t image)) }
 {
     remove_new(store)?;
-    tidy_records(store, mgt)?;
+    tidy_records(store, &mut memory.records)?;
     Ok(())
 }
 
 /// Wipes the records of no disk, and makes all last.
 fn tidy_records<S: Store>(store: &mut S, mgt: &mut Mgt) -> Result<(), Failed>
     requires usable { S.failed store.old ≡ false }
-    requires settled { S.told → IsSettled (S.area store.old) }
-    requires orderly { IsOrderlyStore S.Store store.old }
-    requires agrees { S.told → Agrees (records_of S.Store store.old) mgt.old }
+    requires checked { IsCheckedStore S.Store store.old }
     ensures stays { Stays S.Store store.old store.new }
     ensures cause { Counts S.Store result store.old store.new }
-    ensures settled { OnOk result (S.told → IsSettled (S.area store.new)) }
-    ensures agrees { OnOk result (S.told → Agrees (records_of S.Store store.new) mgt.new) }
-    ensures no_stray { OnOk result (S.told → HasNoStray (store_content S.Store store.new)) }
-    ensures pruned { OnOk result (S.told → IsPruned (store_content S.Store store.old) (store_content S.Store store.new)) }
-    ensures crash { Leaves S.Store store.new (λ t image. IsPruned (store_content S.Store store.old) (content_in (S.site store.old) t image)) }
+    ensures right { OnOk result ((k : ℕ) → k < place_count → IsRightAt (table_alone (S.table store.old)) mgt.new k) }
+    ensures freed { OnOk result (IsWithoutStrays (table_alone (S.table store.old)) mgt.old mgt.new) }
+    ensures rest { OnOk result (S.told → (m : Known) → RestsAgain (stored S.Store store.old) (stored S.Store store.new) (record m { places = mgt.old }) (record m { places = mgt.new })) }
+    ensures crash { (m : Known) → LeavesSame S.Store (record m { places = mgt.old }) store.old store.new }
 {
     wipe_strays(store, mgt)?;
     store.sync()?;

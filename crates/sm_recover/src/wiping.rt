@@ -1,13 +1,12 @@
 //! The records of no disk are wiped. They are what a stop has left of disks that were being made or taken away.
 
-ghost use Rattle.std.specs.Prelude.{◌≡◌, ◌≢◌, ◌<◌, ℕ, false, true, OnOk};
-ghost use Rattle.std.specs.List.{slice_get};
+ghost use Rattle.std.specs.Prelude.{◌≡◌, ◌<◌, ℕ, false, true, OnOk};
 ghost use Rattle.sm_base.specs.declared.names.Name.TheVariants.{Mgt as mgt_name};
 ghost use Rattle.sm_mgt.specs.Places.{Agrees, HasAllPlaces, place_count, records_of};
 ghost use Rattle.sm_standing.specs.Plain.{IsPlain};
 ghost use Rattle.vg_meta.specs.Roomy.{table_alone};
 ghost use Rattle.vg_volumes.specs.Stored.{Writes, Counts};
-ghost use Rattle.sm_recover.specs.Repairs.{IsRightAt, IsStrayAt, IsZeroedAt};
+ghost use Rattle.sm_ready.specs.Repairs.{IsRightAt, IsStrayAt, IsWithoutStrays, IsZeroedAt};
 
 use crate::disks::is_disk;
 use sm_base::{Failed, RECORD_LIMIT};
@@ -26,6 +25,7 @@ pub fn wipe_strays<S: Store>(store: &mut S, mgt: &mut Mgt) -> Result<(), Failed>
     ensures cause { Counts S.Store result store.old store.new }
     ensures agrees { OnOk result (S.told → Agrees (records_of S.Store store.old) mgt.old → Agrees (records_of S.Store store.new) mgt.new) }
     ensures right { OnOk result ((k : ℕ) → k < place_count → IsRightAt (table_alone (S.table store.old)) mgt.new k) }
+    ensures freed { OnOk result (IsWithoutStrays (table_alone (S.table store.old)) mgt.old mgt.new) }
 {
     for place in 0..PLACES {
         wipe_stray(store, mgt, place)?;
@@ -42,7 +42,7 @@ fn wipe_stray<S: Store>(store: &mut S, mgt: &mut Mgt, place: u32) -> Result<(), 
     ensures cause { Counts S.Store result store.old store.new }
     ensures agrees { OnOk result (S.told → Agrees (records_of S.Store store.old) mgt.old → Agrees (records_of S.Store store.new) mgt.new) }
     ensures right { OnOk result (IsRightAt (table_alone (S.table store.old)) mgt.new place) }
-    ensures others { OnOk result ((k : ℕ) → k ≢ place → slice_get mgt.new k ≡ slice_get mgt.old k) }
+    ensures freed { OnOk result (IsWithoutStrays (table_alone (S.table store.old)) mgt.old mgt.new) }
 {
     if !is_stray(store.table(), mgt, place) {
         return Ok(());

@@ -1,41 +1,46 @@
 //! A repository that is open, and its steps.
 
-ghost use Rattle.std.specs.Prelude.{◌≡◌, ◌≤◌, ◌⊎◌, List, None, false, IfOk, IfErr};
+ghost use Rattle.std.specs.Prelude.{◌≡◌, ◌≤◌, ◌⊎◌, None, false, IfOk, IfErr};
 ghost use Rattle.std.proofs.Props.{props};
 ghost use Rattle.sm_disk.specs.Held.{IsSettled, Keeps};
 ghost use Rattle.vg_meta.specs.Roomy.{table_alone};
-ghost use Rattle.sm_machine.specs.Disks.{Disk};
+ghost use Rattle.sm_ready.specs.Cleaned.{HasFewRemovals};
 ghost use Rattle.sm_recover.specs.Repairs.{IsOpeningStopped, UnlessDeviceFailed};
+ghost use Rattle.sm_recover.specs.Stores.{IsRepairedFrom};
 ghost use Rattle.vg_volumes.specs.Stored.{OnlyReads, Leaves};
-ghost use Rattle.sm_recover.specs.Cleaned.{HasFewRemovals};
-ghost use Rattle.sm_recover.specs.Stores.{IsOrderly, IsStoreAtRest, IsRepairedFrom, HasRows, content_in, store_content, state_now};
+ghost use Rattle.sm_ready.specs.Known.{known, shape_in};
+ghost use Rattle.sm_ready.specs.Orderly.{IsOrderly};
+ghost use Rattle.sm_ready.specs.Proper.{IsOrderly-prop, IsTidy-prop};
+ghost use Rattle.sm_ready.specs.Ready.{IsTidy};
+ghost use Rattle.sm_ready.specs.Sessions.{HasRows, HasTreeRoom, IsAtEase, IsReadyStore, KeepsAll, store_state};
+ghost use Rattle.sm_ready.specs.Stores.{MayShow, StoreLeaves, content_in, store_content};
 ghost use Rattle.sm_run.specs.Runs.{BeginsSettled};
 ghost use Rattle.sm_standing.specs.Checks.{first_fault_today};
 ghost use Rattle.sm_standing.specs.Opened.{opened};
-ghost use Rattle.sm_standing.specs.Shapes.{shape};
 ghost use Rattle.sm_standing.specs.Standing.{disks};
-ghost use Rattle.sm_session.specs.Proper.{IsOrderly-prop};
-ghost use Rattle.sm_session.specs.Sessions.{MayShow, KeepsAll};
 
 use crate::taking::take;
 use sm_base::OpenFault;
 use sm_machine::{Command, Reply};
-use sm_mgt::Mgt;
+use sm_ready::Memory;
 use sm_recover::settle;
 use sm_run::{StepFault, Steps};
 use std::alloc::Global;
 use vg_volumes::Store;
 
-/// A repository that is open: its store, the records of its disks in memory, whether a step has failed, and the time at
-/// which it was opened, in seconds since 2000-01-01 00:00 UTC: the stamp of the images that it makes.
+/// A repository that is open: its store, what is in memory of it, whether a step has failed, and the time at which it was
+/// opened, in seconds since 2000-01-01 00:00 UTC: the stamp of the images that it makes.
 pub struct Session<S: Store> {
     store: S,
-    records: Mgt,
+    memory: Memory,
     broken: bool,
     now: u32,
-    // While no step has failed, the table is as it is between two steps, commits may be made, and the table may come to
-    // have all its rows without memory for them.
-    ghost orderly: { broken ≡ false → IsOrderly (S.site store) (table_alone (S.table store)) } by { Prim.hlevel (props, IsOrderly-prop) },
+    // While no step has failed, table and memory are as they are between two steps, nothing is attached and the collector
+    // does nothing, commits may be made, and table and tree may come to have all their rows without memory for them.
+    ghost orderly: { broken ≡ false → IsOrderly (S.site store) (table_alone (S.table store)) (known memory) } by { Prim.hlevel (props, IsOrderly-prop) },
+    ghost tidy: { broken ≡ false → IsTidy (table_alone (S.table store)) (known memory) } by { Prim.hlevel (props, IsTidy-prop) },
+    ghost at_ease: { broken ≡ false → IsAtEase memory } by { Prim.hlevel props },
+    ghost tree_room: { broken ≡ false → HasTreeRoom memory },
     ghost usable: { broken ≡ false → S.failed store ≡ false },
     ghost room: { broken ≡ false → HasRows (S.table store) },
 }
@@ -56,13 +61,13 @@ impl<S: Store> Session<S> {
         ensures whole { IfOk result (λ s. s.broken ≡ false) }
         ensures now { IfOk result (λ s. s.now ≡ now) }
         ensures sound { IfOk result (λ s. S.told → first_fault_today (store_content S.Store store) ≡ None) }
-        ensures rest { IfOk result (λ s. S.told → IsStoreAtRest S.Store s.store s.records) }
+        ensures ready { IfOk result (λ s. S.told → IsReadyStore S.Store s.store s.memory) }
+        ensures settled { IfOk result (λ s. S.told → IsSettled (S.area s.store)) }
         ensures disks { IfOk result (λ s. S.told → disks (store_content S.Store s.store)
             ≡ disks (store_content S.Store store)) }
-        ensures opened { IfOk result (λ s. S.told → shape (store_content S.Store s.store)
-            ≡ opened (store_content S.Store store)) }
-        ensures kept { IfOk result (λ s. S.told → KeepsAll (S.site s.store) (S.leaves s.store)) }
-        ensures begins { IfOk result (λ s. S.told → BeginsSettled (state_now (S.site s.store) (table_alone (S.table s.store)) (S.area s.store)) (MayShow (S.site s.store) (S.leaves s.store))) }
+        ensures opened { IfOk result (λ s. S.told → shape_in (S.site s.store) (table_alone (S.table s.store)) (known s.memory) ≡ opened (store_content S.Store store)) }
+        ensures kept { IfOk result (λ s. S.told → KeepsAll (S.site s.store) (StoreLeaves S.Store s.store)) }
+        ensures begins { IfOk result (λ s. S.told → BeginsSettled (store_state S.Store s.store s.memory) (MayShow (S.site s.store) (StoreLeaves S.Store s.store))) }
         ensures site_back { IfErr result (λ e. S.site e.1 ≡ S.site store) }
         ensures counts_back { IfErr result (λ e. S.faults store ≤ S.faults e.1) }
         ensures beside_back { IfErr result (λ e. S.told → Keeps (S.beside store) (S.beside e.1)) }
@@ -76,9 +81,9 @@ impl<S: Store> Session<S> {
     {
         let mut store = store;
         match settle(alloc, &mut store) {
-            Ok(records) => Ok(Session {
+            Ok(memory) => Ok(Session {
                 store,
-                records,
+                memory,
                 broken: false,
                 now,
             }),
@@ -86,15 +91,13 @@ impl<S: Store> Session<S> {
         }
     }
 
-    /// The store, as it is. No call is made on it. Between two steps a stop shows the machine's disks alone.
+    /// The store, as it is. No call is made on it.
     pub fn into_store(self) -> S
         ensures store { result ≡ self.store }
-        ensures shown { S.told → self.broken ≡ false → IsStoreAtRest S.Store self.store self.records
-            → (ds : List Disk) → MayShow (S.site self.store) (S.leaves self.store) ds → ds ≡ disks (store_content S.Store self.store) }
     {
         let Session {
             store,
-            records: _,
+            memory: _,
             broken: _,
             now: _,
         } = self;
@@ -104,24 +107,23 @@ impl<S: Store> Session<S> {
 
 impl<S: Store> Steps for Session<S> {
     ghost use Rattle.std.specs.Prelude.{◌≡◌, false};
-    ghost use Rattle.vg_meta.specs.Roomy.{table_alone};
     ghost use Rattle.vg_volumes.specs.Sites.{Site};
-    ghost use Rattle.sm_recover.specs.Stores.{IsStoreAtRest, state_now};
-    ghost use Rattle.sm_session.specs.Sessions.{MayShow, KeepsAll};
+    ghost use Rattle.sm_ready.specs.Sessions.{IsReadyStore, KeepsAll, store_state};
+    ghost use Rattle.sm_ready.specs.Stores.{MayShow, StoreLeaves};
 
     ghost told = { S.told };
 
-    ghost state = { λ s. state_now (S.site s.store) (table_alone (S.table s.store)) (S.area s.store) };
+    ghost state = { λ s. store_state S.Store s.store s.memory };
 
-    ghost ready = { λ s. (s.broken ≡ false) × IsStoreAtRest S.Store s.store s.records };
+    ghost ready = { λ s. (s.broken ≡ false) × IsReadyStore S.Store s.store s.memory };
 
-    ghost kept = { λ s. KeepsAll (S.site s.store) (S.leaves s.store) };
+    ghost kept = { λ s. KeepsAll (S.site s.store) (StoreLeaves S.Store s.store) };
 
     ghost held = { λ s. S.area s.store };
 
     ghost beside = { λ s. S.beside s.store };
 
-    ghost leaves = { λ s. MayShow (S.site s.store) (S.leaves s.store) };
+    ghost leaves = { λ s. MayShow (S.site s.store) (StoreLeaves S.Store s.store) };
 
     ghost broken = { λ s. s.broken };
 
@@ -135,7 +137,7 @@ impl<S: Store> Steps for Session<S> {
         if self.broken {
             return Err(StepFault::Broken);
         }
-        let taken = take(alloc, &mut self.store, &mut self.records, command);
+        let taken = take(alloc, &mut self.store, &mut self.memory, command);
         match taken {
             Ok(reply) => Ok(reply),
             Err(_) => {

@@ -1,14 +1,17 @@
 -- The first of all faults, and the longest chain.
-use Rattle.std.proofs.Common.{◌≡◌, ℕ, inl, inr, true, false, ◌||◌, ◌==◌, List, [], ◌∷◌, ◌++◌, length, Option, Some, None, refl, sym, ap, ◌∙◌}
+use Rattle.std.proofs.Common.{◌≡◌, ℕ, inl, inr, Bool, true, false, ◌||◌, ◌==◌, List, [], ◌∷◌, ◌++◌, length, Option, Some, None, refl, sym, ap, ◌∙◌}
 use Rattle.std.specs.Prelude.{nat_le}
 use Rattle.common_laws.proofs.Booleans.{second_fails, all_hold}
 use Rattle.sm_base.specs.declared.faults.Place.{Place}
 use Rattle.sm_base.specs.declared.names.Name.TheVariants.{Vhd}
 use Rattle.common_laws.specs.Lists.{In, first_some}
 use Rattle.vg_meta.specs.Tables.{Row}
-use Rattle.sm_standing.specs.Checks.{all_faults, fault_of, children, chain_length, is_linked, is_misplaced, tree_wrong_as, is_tree_wrong}
+use Rattle.sm_standing.specs.Checks.{first_name, name_in, placed, all_faults, fault_of, children, chain_length, is_linked, is_misplaced, tree_wrong_as, is_tree_wrong}
 use Rattle.sm_standing.specs.Outlines.{Outline, Link}
-use Rattle.common_laws.proofs.Lists.{none_first}
+use Rattle.std.specs.List.{find}
+use Rattle.common_laws.specs.Lists.{given}
+use Rattle.common_laws.proofs.Lists.{none_first, find_none, none_find}
+use Rattle.sm_base.specs.declared.names.Name.{Name}
 
 -- ---- the first of all
 
@@ -53,3 +56,26 @@ chain_more o r u i name hidden is linked long =
     wrong_at o u r i name is
     ∙ second_fails (is_linked o i) (nat_le (chain_length o 31 r.name) 30) (r.hidden || (length (children o r.name) == 0))
     (ap (λ n. nat_le (chain_length o 31 n) 30) name ∙ ap (λ k. nat_le k 30) long)
+
+-- ---- one check
+
+-- a test that no row passes names no place
+pub none_named : (place : Name → Place) (test : Row → Bool) (rs : List Row) → ((r : Row) → In r rs → test r ≡ false) → placed place (first_name test rs) ≡ None
+unfolding first_name
+none_named place test rs fails = ap (λ o. placed place (name_in o)) (find_none test rs fails)
+
+named_step : (place : Name → Place) (o : Option Row) → placed place (name_in o) ≡ None → o ≡ None
+named_step place None h = refl
+named_step place (Some r) h = absurd (let e = h in cc)
+
+pub named_none : (place : Name → Place) (test : Row → Bool) (rs : List Row) → placed place (first_name test rs) ≡ None → (r : Row) → In r rs → test r ≡ false
+unfolding first_name
+named_none place test rs h = none_find test rs (named_step place (find test rs) h)
+
+pub given_none : (b : Bool) (p : Place) → b ≡ false → given b p ≡ None
+given_none true p h = absurd (let e = h in cc)
+given_none false p h = refl
+
+pub none_given : (b : Bool) (p : Place) → given b p ≡ None → b ≡ false
+none_given true p h = absurd (let e = h in cc)
+none_given false p h = refl

@@ -4,7 +4,6 @@ pub mod DiskLists
 pub mod PlainDisks
 pub mod PlainKept
 pub mod RecordLists
-pub mod RawAdded
 pub mod TurnLaws
 pub mod WalkLaws
 pub mod ImageLaws
@@ -12,3 +11,4 @@ pub mod WorldLaws
 pub mod FaultLaws
 pub mod OutlineLaws
 pub mod ImageSectors
+pub mod EnlargingLaws

@@ -33,14 +33,14 @@ outline_records_same c =
 
 -- ---- one outline
 
-abbrev made : ℕ → ℕ → ℕ → VolumeTable → (Name → Option Link) → (ℕ → Reading) → Outline
+abbrev pub made : ℕ → ℕ → ℕ → VolumeTable → (Name → Option Link) → (ℕ → Reading) → Outline
 made extent block entries table links readings = record { extent = extent; block = block; entries = entries; table = table; links = links; readings = readings }
 
-made-of : {x x' y y' z z' : ℕ} {t t' : VolumeTable} {l l' : Name → Option Link} {r r' : ℕ → Reading} → x ≡ x' → y ≡ y' → z ≡ z' → t ≡ t' → l ≡ l' → r ≡ r'
+pub made-of : {x x' y y' z z' : ℕ} {t t' : VolumeTable} {l l' : Name → Option Link} {r r' : ℕ → Reading} → x ≡ x' → y ≡ y' → z ≡ z' → t ≡ t' → l ≡ l' → r ≡ r'
     → made x y z t l r ≡ made x' y' z' t' l' r'
 made-of ex ey ez et el er = λ i. made (ex i) (ey i) (ez i) (et i) (el i) (er i)
 
-in_same : (a b : Content) (k : ℕ) → (k < record_count → reading_at b k ≡ reading_at a k) → (k < record_count) ⊎ (record_count ≤ k) → reading_in b k ≡ reading_in a k
+pub in_same : (a b : Content) (k : ℕ) → (k < record_count → reading_at b k ≡ reading_at a k) → (k < record_count) ⊎ (record_count ≤ k) → reading_in b k ≡ reading_in a k
 in_same a b k same (inl below) = reading_within b k below ∙ same below ∙ sym (reading_within a k below)
 in_same a b k same (inr past) = behind b k past ∙ sym (behind a k past)
 

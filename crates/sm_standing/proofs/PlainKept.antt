@@ -1,6 +1,6 @@
 -- A repository of raw disks alone is kept exactly where it is sound fact by fact, and then today's checks pass.
 use Rattle.std.proofs.Common.{eq-eqb, ◌≡◌, ℕ, ◌≤◌, inl, inr, Bool, true, false, cond, not, ◌&&◌, ◌||◌, ◌==◌, List, [], ◌∷◌, length, Option, Some, None, is_some, refl, sym, ap, ◌∙◌, subst, arith, nat_lt}
-use Rattle.std.specs.List.{AllByRecursion, filter, find}
+use Rattle.std.specs.List.{AllByRecursion, filter}
 use Rattle.std.proofs.lemmas.Bool.{le-ltb, ltb-false, eqb-true}
 use Rattle.common_laws.proofs.Options.{is_some-parts}
 use Rattle.common_laws.proofs.Booleans.{not_false}
@@ -11,33 +11,21 @@ use Rattle.sm_base.specs.declared.names.Name.TheVariants.{Mgt, Vhd, Raw, Old, Cl
 use Rattle.vg_layout.specs.Places.{record_extents}
 use Rattle.sm_base.specs.Kinds.{is_image as is_data, is_entry}
 use Rattle.vg_meta.specs.Tables.{VolumeTable, Row}
-use Rattle.common_laws.specs.Lists.{In, given, numbers, ◌>>=◌}
+use Rattle.common_laws.specs.Lists.{In, numbers, ◌>>=◌}
 use Rattle.sm_standing.specs.Plain.{is_plain, is_plain_name, IsPlain}
 use Rattle.sm_standing.specs.PlainSound.{PlainSound}
 use Rattle.sm_standing.specs.Contents.{Content, row, record_count, is_record_of}
 use Rattle.sm_standing.specs.Entries.{is_there, is_past, are_past, is_at_stage, making, second}
 use Rattle.sm_standing.specs.Images.{image_of, vhd_image}
 use Rattle.sm_standing.specs.Standing.{standing_volume, uuids}
-use Rattle.sm_standing.specs.Checks.{first_name, name_in, placed, has_records, record_volume_fault, images, too_many_fault, has_twin, misnamed_fault, lesser, second_entry_fault, lost_entry_fault, is_orphaned, old_leaf_fault, is_image_wrong, is_oversize, invalid_fault, is_tree_wrong, tree_wrong_as, tree_fault, is_entry_linked, entry_link_fault, record_place, record_fault, disk_place, disk_uuids, is_unrecorded, disk_fault, all_faults, faults_today, fault_of, first_fault, is_damaged, is_ahead, entry_ahead_fault, image_ahead_fault, fault_today_of, first_fault_today}
+use Rattle.sm_standing.specs.Checks.{placed, has_records, record_volume_fault, images, too_many_fault, has_twin, misnamed_fault, lesser, second_entry_fault, lost_entry_fault, is_orphaned, old_leaf_fault, is_image_wrong, is_oversize, invalid_fault, is_tree_wrong, tree_wrong_as, tree_fault, is_entry_linked, entry_link_fault, record_place, record_fault, disk_place, disk_uuids, is_unrecorded, disk_fault, all_faults, faults_today, fault_of, first_fault, is_damaged, is_ahead, entry_ahead_fault, image_ahead_fault, fault_today_of, first_fault_today}
 use Rattle.sm_standing.specs.Outlines.{Outline, outline, outline_records}
 use Rattle.sm_standing.specs.Keeping.{IsKept}
 use Rattle.common_laws.proofs.Lists.{find_none, none_find, none_first, first_none, numbers-In, In-numbers, In-filter, filter-In}
 use Rattle.sm_standing.proofs.OutlineLaws.{reading_within, outline_records_same}
 use Rattle.sm_standing.proofs.DisksShown.{stands_listed}
+use Rattle.sm_standing.proofs.FaultLaws.{given_none, none_given, named_none, none_named}
 use Rattle.sm_standing.proofs.PlainDisks.{all-In, no_vhd, no_making, no_folding}
-
--- a test that no row passes names no place
-none_named : (place : Name → Place) (test : Row → Bool) (rs : List Row) → ((r : Row) → In r rs → test r ≡ false) → placed place (first_name test rs) ≡ None
-unfolding first_name
-none_named place test rs fails = ap (λ o. placed place (name_in o)) (find_none test rs fails)
-
-named_step : (place : Name → Place) (o : Option Row) → placed place (name_in o) ≡ None → o ≡ None
-named_step place None h = refl
-named_step place (Some r) h = absurd (let e = h in cc)
-
-named_none : (place : Name → Place) (test : Row → Bool) (rs : List Row) → placed place (first_name test rs) ≡ None → (r : Row) → In r rs → test r ≡ false
-unfolding first_name
-named_none place test rs h = none_find test rs (named_step place (find test rs) h)
 
 -- ---- each check of a plain row, by its name
 
@@ -64,14 +52,6 @@ unfolding is_entry_linked
 not_special hidden Mgt h = record { no_journal = refl; no_vhd_name = λ u e. (let x = e in cc); no_old_name = λ t. refl; linked = λ o. refl }
 not_special hidden (Raw u) h = record { no_journal = refl; no_vhd_name = λ v e. (let x = e in cc); no_old_name = λ t. refl; linked = λ o. refl }
 not_special hidden _ h = absurd (let e = h in cc)
-
-given_none : (b : Bool) (p : Place) → b ≡ false → given b p ≡ None
-given_none true p h = absurd (let e = h in cc)
-given_none false p h = refl
-
-none_given : (b : Bool) (p : Place) → given b p ≡ None → b ≡ false
-none_given true p h = absurd (let e = h in cc)
-none_given false p h = refl
 
 -- a volume of no VHD name passes the check of trees
 tree_at : (o : Outline) (r : Row) (n : Name) → ((u : List ℕ) → n ≡ Vhd u → ⊥) → r.name ≡ n → is_tree_wrong o r ≡ false

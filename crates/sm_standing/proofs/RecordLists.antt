@@ -7,7 +7,7 @@ use Rattle.common_laws.proofs.Lists.{In-numbers, numbers-In, filter-In}
 use Rattle.sm_standing.proofs.Orders.{filter_map-In}
 use Rattle.sm_record.specs.declared.records.Record.{Record}
 use Rattle.sm_standing.specs.Contents.{Content, reading_at, record_count, records, taken, is_record_of, record_of}
-use Rattle.sm_standing.specs.Additions.{SameReadings, OneReading}
+use Rattle.sm_standing.specs.Readings.{SameReadings, OneReading}
 
 -- the first element of a list
 abbrev pub first_of : {A : Type 0} → List A → Option A

@@ -13,8 +13,9 @@ pub mod Plain
 pub mod Ordered
 pub mod RawDisks
 pub mod PlainSound
-pub mod Additions
+pub mod Readings
 pub mod Changes
 pub mod Worlds
 pub mod Apart
 pub mod Volumes
+pub mod Enlarging

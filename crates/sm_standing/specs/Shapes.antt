@@ -1,14 +1,15 @@
 -- The shape of a repository: what its table, images and records spell, with no attachments and no operation (this
 -- project's format).
-use Rattle.std.specs.Prelude.{ℕ, List, [], length, map, Option, Some, None}
+use Rattle.std.specs.Prelude.{◌≡◌, ℕ, List, [], length, map, Option, Some, None}
 use Rattle.std.specs.List.{filter_map, sum}
 use Rattle.sm_base.specs.declared.operations.Op.TheVariants.{Idle}
 use Rattle.vg_meta.specs.Tables.{Row}
 use Rattle.sm_machine.specs.Disks.{Disk}
 use Rattle.sm_machine.specs.Shapes.{Shape, ImageRow, DiskRecord}
+use Rattle.sm_machine.specs.Steps.{State}
 use Rattle.sm_standing.specs.Contents.{Content}
 use Rattle.sm_standing.specs.Images.{Image, image_of}
-use Rattle.sm_standing.specs.Standing.{disks}
+use Rattle.sm_standing.specs.Standing.{HasNoStray, disks}
 
 -- the row of an image
 abbrev pub image_row : Row → Image → ImageRow
@@ -43,3 +44,14 @@ shape c = record {
   attached = [];
   op = Idle;
 }
+
+-- a shape but for what is attached and what the collector does, of which nothing stands on a device
+abbrev pub unattached : Shape → Shape
+unattached s = record s { attached = []; op = Idle }
+
+-- what stands here is the machine's state: its disks, and its shape but for what is attached and what the collector does;
+-- and each record is that of a disk
+pub record IsStateOf (c : Content) (σ : State) : Type 0 where
+  pub same_disks : σ.disks ≡ disks c
+  pub same_shape : unattached σ.shape ≡ shape c
+  pub no_stray : HasNoStray c

@@ -3,16 +3,16 @@
 -- that is being folded the leaf stands in the parent once it was renamed, and in its own name again, even while
 -- hidden, once the parent took that; every other UUID stands in the visible VHD or raw image that has it and is not
 -- new. Label, origin and whether it is a snapshot come from the disk's record.
-use Rattle.std.specs.Prelude.{ℕ, ◌&&◌, ◌||◌, List, [], ◌∷◌, Option, Some, None, if◌then◌else◌}
+use Rattle.std.specs.Prelude.{◌≡◌, ℕ, true, ◌&&◌, ◌||◌, List, [], ◌∷◌, Option, Some, None, is_some, if◌then◌else◌}
 use Rattle.std.specs.List.{filter_map, find, flat_map}
 use Rattle.std.specs.Str.{bytes_eq}
-use Rattle.common_laws.specs.Lists.{◌>>=◌}
+use Rattle.common_laws.specs.Lists.{In, ◌>>=◌}
 use Rattle.sm_base.specs.declared.names.Name.{Name}
 use Rattle.sm_base.specs.declared.names.Name.TheVariants.{Vhd, Raw, Clone, Leaf}
 use Rattle.vg_meta.specs.Tables.{VolumeTable}
 use Rattle.sm_machine.specs.Disks.{Disk, uuid_before}
 use Rattle.sm_record.specs.declared.records.Record.{Record}
-use Rattle.sm_standing.specs.Contents.{Content, record_of}
+use Rattle.sm_standing.specs.Contents.{Content, record_of, records}
 use Rattle.sm_standing.specs.Entries.{is_visible, image_with, is_leaf_renamed, is_leaf_swapped, making, folding, head}
 use Rattle.sm_standing.specs.Images.{sectors_read}
 
@@ -81,3 +81,7 @@ disk_at c u = do
 -- the disks, in order of UUID
 unfoldable pub disks : Content → List Disk
 disks c = filter_map (disk_at c) (uuids c.table)
+
+-- each record is that of a disk
+abbrev pub HasNoStray : Content → Type 0
+HasNoStray c = (r : Record) → In r (records c) → is_some (standing_volume c.table r.uuid) ≡ true

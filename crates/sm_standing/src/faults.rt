@@ -4,10 +4,12 @@ ghost use Rattle.std.specs.Prelude.{◌≡◌, ◌++◌, ◌∷◌, ℕ, List, N
 ghost use Rattle.sm_base.specs.declared.faults.Place.{Place};
 ghost use Rattle.sm_base.specs.declared.names.Name.TheVariants.{Vhd};
 ghost use Rattle.common_laws.specs.Lists.{In};
-ghost use Rattle.vg_meta.specs.Tables.{Row};
+ghost use Rattle.vg_meta.specs.Tables.{Row, VolumeTable};
 ghost use Rattle.sm_standing.specs.Checks.{all_faults, fault_of, first_fault, is_linked, chain_length, is_tree_wrong};
 ghost use Rattle.sm_standing.specs.Contents.{Content};
+ghost use Rattle.sm_standing.specs.Enlarging.{IsEnlarging};
 ghost use Rattle.sm_standing.specs.Outlines.{Outline, Link, IsOutlinedAlike, outline};
+ghost use Rattle.sm_standing.specs.Standing.{standing_volume, uuids};
 
 /// What the checks look at is the same where the sizes, the table, each image's size and parent and each record sector
 /// are. So what a guest writes, and where an image's blocks stand, decides no check.
@@ -27,4 +29,11 @@ pub fn law_first_fault()
 pub fn law_longest_chain()
     ensures most { (o : Outline) (r : Row) (u : List ℕ) (i : Link) → r.name ≡ Vhd u → r.hidden ≡ true → o.links (Vhd u) ≡ Some i → is_linked o i ≡ true → chain_length o 31 (Vhd u) ≡ 30 → is_tree_wrong o r ≡ false }
     ensures more { (o : Outline) (r : Row) (u : List ℕ) (i : Link) → r.name ≡ Vhd u → r.hidden ≡ true → o.links (Vhd u) ≡ Some i → is_linked o i ≡ true → chain_length o 31 (Vhd u) ≡ 31 → is_tree_wrong o r ≡ true }
+{}
+
+/// While an image is being enlarged no check fails that did not fail before, and each disk stands where it stood.
+pub fn law_enlarging()
+    ensures sound { (o : Outline) (t : VolumeTable) (u : List ℕ) (extents : ℕ) → IsEnlarging o t u extents → fault_of o ≡ None → fault_of (record o { table = t }) ≡ None }
+    ensures stands { (o : Outline) (t : VolumeTable) (u v : List ℕ) (extents : ℕ) → IsEnlarging o t u extents → standing_volume t v ≡ standing_volume o.table v }
+    ensures uuids { (o : Outline) (t : VolumeTable) (u : List ℕ) (extents : ℕ) → IsEnlarging o t u extents → uuids t ≡ uuids o.table }
 {}

@@ -11,8 +11,8 @@
 //! (an image, a turn, what is read), `Answering` (the same without a bound), `Standing` (the disks), `Outlines`
 //! (what the checks look at), `Checks` (the checks in their order), `Keeping` (kept), `Devices` (the same of a
 //! whole device), `Shapes` (the shape that a content spells), `Opened` (the shape that an opening makes),
-//! `Plain` and `PlainSound` (a repository of raw disks alone), `Additions` (a raw image more), `Changes` (an image
-//! that comes, goes, grows or moves), `Worlds` (what a change of the area leaves).
+//! `Plain` and `PlainSound` (a repository of raw disks alone), `Readings` (record sectors of two contents), `Changes` (an
+//! image that comes, goes, grows or moves), `Worlds` (what a change of the area leaves).
 //!
 //! The laws are the contracts of functions that do nothing: of what is read through a chain (`chains`), of images in a
 //! content (`images`), of what a commit or a write leaves of each volume (`worlds`), of the list of disks (`listing`), of
@@ -36,5 +36,5 @@ pub use images::{
     law_removed, law_short_chain,
 };
 pub use listing::{law_disk, law_disks_follow, law_disks_in_order, law_one_disk_more};
-pub use raw::{law_new_image, law_new_image_filled, law_plain_kept, law_today};
+pub use raw::{law_plain_kept, law_today};
 pub use worlds::{law_commit, law_other_choices, law_other_volumes};

@@ -1,3 +1,4 @@
 pub mod EmptyContent
 pub mod FaultExamples
 pub mod OutlineExample
+pub mod EnlargingExample

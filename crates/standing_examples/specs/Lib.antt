@@ -1,3 +1,4 @@
 pub mod SmallContents
 pub mod SmallTables
 pub mod FaultyContents
+pub mod SmallOutlines

@@ -19,7 +19,7 @@ pub use faults::{
     example_lost_entry, example_misnamed, example_old_leaf, example_record, example_record_volume,
     example_relink_link, example_second_entry, example_too_many, example_tree,
 };
-pub use outlines::example_outline;
+pub use outlines::{example_enlarging, example_outline};
 pub use tables::{
     example_coalesce, example_fork_begun, example_fork_ended, example_fork_made,
     example_fork_renamed, example_inflate, example_leaf_copied, example_leaf_folded,

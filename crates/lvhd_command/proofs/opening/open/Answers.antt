@@ -8,7 +8,7 @@ use Rattle.vg_meta.specs.Roomy.{table_alone}
 use Rattle.vg_store.specs.Groups.{LeavesGroup, area_of, beside_of}
 use Rattle.vg_volumes.specs.Sites.{Site, area_size}
 use Rattle.sm_recover.specs.Repairs.{IsOpeningStopped}
-use Rattle.sm_recover.specs.Stores.{content_now}
+use Rattle.sm_ready.specs.Stores.{content_now}
 use Rattle.lvhd_command.specs.Devices.{IsRefusedOn, site_on, plate_at}
 use Rattle.lvhd_command.specs.Devices.IsRefusedOn.{by_group}
 use Rattle.lvhd_command.proofs.OpenLaws.{StandsAlways, sound_entry, shown_entry, opened_entry, answer_as, refused_content, kept_back, shown_back, repaired_sized, always_sized, unless, unless_from}

@@ -1,7 +1,8 @@
 use Rattle.vg_meta.specs.Roomy.{table_alone}
 use Rattle.vg_volumes.specs.Sites.{Site}
+use Rattle.sm_ready.specs.Known.{known}
 use Rattle.lvhd_command.specs.Devices.{site_on}
-use Rattle.lvhd_command.proofs.RunLaws.{kept_back_after, one_after, shown_after}
+use Rattle.lvhd_command.proofs.RunLaws.{kept_back_after, one_after, shown_settled}
 use Rattle.lvhd_command.proofs.running.close.Goals as goal
 
 pub returns-in-Ok-clause-back : goal.returns-in-Ok-clause-back
@@ -21,12 +22,13 @@ returns-in-Ok-clause-one g c = λ told whole.
     one_after size site (g.D.Disk.held s.store.disk) _ (table_alone s.store.table) (keeps told) (c.leave-disk.ensures.one told whole)
 
 pub returns-in-Ok-clause-shown : goal.returns-in-Ok-clause-shown
-returns-in-Ok-clause-shown g c = λ told whole rest.
+returns-in-Ok-clause-shown g c = λ told whole ready settled.
     let s = c.args.session in
     let size = g.D.Disk.size s.store.disk in
     let site : Site = site_on s.store.label size in
     let keeps = rw c.leave-disk.ensures.disk at c.sync.ensures.keeps in
-    shown_after size (g.D.Disk.held s.store.disk) _ _ (keeps told) (c.leave-disk.ensures.shown told whole rest)
+    shown_settled size site (table_alone s.store.table) (g.D.Disk.held s.store.disk) _ (known s.memory) s.store.area (s.orderly whole) ready (keeps told) settled
+    (returns-in-Ok-clause-back g c told) (returns-in-Ok-clause-one g c told whole)
 
 pub returns-in-Err-clause-back : goal.returns-in-Err-clause-back
 returns-in-Err-clause-back g c = λ told.
@@ -45,12 +47,13 @@ returns-in-Err-clause-one g c = λ told whole.
     one_after size site (g.D.Disk.held s.store.disk) _ (table_alone s.store.table) (keeps told) (c.leave-disk.ensures.one told whole)
 
 pub returns-in-Err-clause-shown : goal.returns-in-Err-clause-shown
-returns-in-Err-clause-shown g c = λ told whole rest.
+returns-in-Err-clause-shown g c = λ told whole ready settled.
     let s = c.args.session in
     let size = g.D.Disk.size s.store.disk in
     let site : Site = site_on s.store.label size in
     let keeps = rw c.leave-disk.ensures.disk at c.sync.ensures.keeps in
-    shown_after size (g.D.Disk.held s.store.disk) _ _ (keeps told) (c.leave-disk.ensures.shown told whole rest)
+    shown_settled size site (table_alone s.store.table) (g.D.Disk.held s.store.disk) _ (known s.memory) s.store.area (s.orderly whole) ready (keeps told) settled
+    (returns-in-Err-clause-back g c told) (returns-in-Err-clause-one g c told whole)
 
 pub returns-in-Ok-clause-keeps : goal.returns-in-Ok-clause-keeps
 returns-in-Ok-clause-keeps g c = λ told. let keeps = rw c.leave-disk.ensures.disk at c.sync.ensures.keeps in keeps told

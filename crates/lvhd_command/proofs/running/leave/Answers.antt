@@ -1,8 +1,6 @@
 use Rattle.std.proofs.Common.{sym, ap, ◌∙◌, subst}
 use Rattle.vg_layout.specs.Fields.{plate}
 use Rattle.vg_store.specs.Groups.{LeavesGroup}
-use Rattle.lvhd_command.specs.Devices.{site_on}
-use Rattle.lvhd_command.proofs.RunLaws.{shown_only}
 use Rattle.lvhd_command.proofs.running.leave.Goals as goal
 
 pub returns-clause-one : goal.returns-clause-one
@@ -10,8 +8,3 @@ returns-clause-one g c = λ told whole t image left.
     let leaves = rw c.into_store.ensures.store at c.into_disk.ensures.leaves in
     let disk = c.into_disk.ensures.disk ∙ ap (λ group. group.disk) c.into_store.ensures.store in
     (leaves told (c.args.session.usable whole) t image (subst (λ d. LeavesGroup (g.D.Disk.size d) (g.D.Disk.held d) (plate c.args.session.store.label) t image) (sym disk) left)).table_is
-
-pub returns-clause-shown : goal.returns-clause-shown
-returns-clause-shown g c = λ told whole rest.
-    let s = c.args.session in
-    shown_only (g.D.Disk.size s.store.disk) (site_on s.store.label (g.D.Disk.size s.store.disk)) (g.D.Disk.held s.store.disk) _ (s.store.stands told) (c.into_store.ensures.shown told whole rest)

@@ -2,8 +2,10 @@ use Rattle.std.proofs.Common.{◌≡◌, inl, inr, ⊎_elim, Ok, sym, refl, ap, 
 use Rattle.sm_disk.specs.Held.{Keeps}
 use Rattle.sm_disk.proofs.HeldLaws.{Keeps-none}
 use Rattle.vg_meta.specs.Roomy.{table_alone}
-use Rattle.vg_store.specs.Groups.{beside_of}
+use Rattle.vg_store.specs.Groups.{area_of, beside_of}
 use Rattle.vg_volumes.specs.Sites.{Site, area_size}
+use Rattle.sm_ready.specs.Known.{known}
+use Rattle.sm_ready.proofs.StrayLaws.{law_state}
 use Rattle.lvhd_command.specs.Devices.{plate_at, site_on}
 use Rattle.lvhd_command.specs.Running.{RunSides, IsGivenBack}
 use Rattle.lvhd_command.proofs.RunLaws.{IsOneTable, has_run_sized, back_itself, ok_not_err, ends_done, ends_early, said_refused, has_stayed, stayed_poor, kept_off, left_of, done_not_kept_off}
@@ -48,10 +50,11 @@ returns-in-Ok-run-clause-did g c = λ told kept.
     let site : Site = site_on m.store.label n in
     let is_size : n ≡ s.size = ap (λ (x : Site). x.sectors) c.run.ensures.site ∙ e.size in
     let labelled = e.label told ∙ ap (λ (x : Site). Ok (plate_at x)) (sym c.run.ensures.site) in
-    let r = c.run.ensures.run told (e.whole, e.rest told) (e.kept told) (e.begins told) in
+    let r = c.run.ensures.run told (e.whole, e.ready told) (e.kept told) (e.begins told) in
     let ready = r.ready (λ failed. ok_not_err c.run.result _ _ c.in-Ok-run.is failed) in
-    inl (has_run_sized s c.close.result.0 n site (table_alone m.store.table) (g.D.Disk.held m.store.disk) _ c.run.result _ is_size (e.sound told) (e.shown told) (e.opened told) r
-    (c.close.ensures.back told) (λ q. c.close.ensures.one told q.0) (λ q. q.1.no_stray)
+    inl (has_run_sized s c.close.result.0 n site (table_alone m.store.table) (g.D.Disk.held m.store.disk) _ _ c.run.result _ g.D.Disk.told m.store.failed is_size (e.sound told) (e.shown told) (e.opened told) r
+    (c.close.ensures.back told) (λ q. c.close.ensures.one told q.0)
+    (λ q. law_state site (table_alone m.store.table) (area_of (g.D.Disk.held m.store.disk)) (known m.memory) (m.orderly q.0) (m.tidy q.0) q.1)
     (ends_done s.size n s.new _ c.run.result _ c.close.result.0 g.D.Disk.told told c.in-Ok-run.is is_size c.close.ensures.status (c.close.ensures.shown told ready.0 ready.1)) labelled)
 
 pub returns-clause-did : goal.returns-clause-did
@@ -71,10 +74,11 @@ returns-clause-did g c = λ told kept.
     let site : Site = site_on m.store.label n in
     let is_size : n ≡ s.size = ap (λ (x : Site). x.sectors) c.run.ensures.site ∙ e.size in
     let labelled = e.label told ∙ ap (λ (x : Site). Ok (plate_at x)) (sym c.run.ensures.site) in
-    let r = c.run.ensures.run told (e.whole, e.rest told) (e.kept told) (e.begins told) in
+    let r = c.run.ensures.run told (e.whole, e.ready told) (e.kept told) (e.begins told) in
     let back = subst (λ d. IsGivenBack n site (g.D.Disk.held m.store.disk) (g.D.Disk.held d)) (sym c.leave.ensures.disk) (back_itself n site (g.D.Disk.held m.store.disk) (c.leave.ensures.stands told)) in
-    inl (has_run_sized s c.status_of_fault.result n site (table_alone m.store.table) (g.D.Disk.held m.store.disk) _ c.run.result _ is_size (e.sound told) (e.shown told) (e.opened told) r
-    back (λ q. subst (λ d. IsOneTable n site (g.D.Disk.held d) (table_alone m.store.table)) (sym c.leave.ensures.disk) (c.leave.ensures.one told q.0)) (λ q. q.1.no_stray)
+    inl (has_run_sized s c.status_of_fault.result n site (table_alone m.store.table) (g.D.Disk.held m.store.disk) _ _ c.run.result _ g.D.Disk.told m.store.failed is_size (e.sound told) (e.shown told) (e.opened told) r
+    back (λ q. subst (λ d. IsOneTable n site (g.D.Disk.held d) (table_alone m.store.table)) (sym c.leave.ensures.disk) (c.leave.ensures.one told q.0))
+    (λ q. law_state site (table_alone m.store.table) (area_of (g.D.Disk.held m.store.disk)) (known m.memory) (m.orderly q.0) (m.tidy q.0) q.1)
     (ends_early s.size s.new _ c.run.result c.in-Err-run.fault c.status_of_fault.result c.in-Err-run.is c.status_of_fault.ensures) labelled)
 
 pub returns-in-Err-clause-unsound : goal.returns-in-Err-clause-unsound

@@ -1,17 +1,16 @@
-use Rattle.std.proofs.Common.{◌≡◌, None, Some, sym, ◌∙◌, ap, rules}
-use Rattle.std.specs.List.{find}
+use Rattle.std.proofs.Common.{◌≡◌, None, Some, ap, rules}
 use Rattle.sm_base.specs.declared.faults.Place.TheVariants as at
-use Rattle.vg_meta.specs.Roomy.{RoomyRow}
 use Rattle.sm_base.specs.Kinds.{is_entry}
-use Rattle.sm_recover.proofs.CheckLaws.{entry_at}
+use Rattle.sm_standing.specs.Checks.{entry_ahead_fault}
+use Rattle.sm_recover.proofs.CheckLaws.{first_at}
 use Rattle.sm_recover.proofs.checks.entry_fault.Goals as goal
 
 pub returns-in_err-volume : goal.returns-in_err-volume
-returns-in_err-volume c = λ content is.
+unfolding entry_ahead_fault
+returns-in_err-volume c = λ seen is.
     let none : c.from_residual.result ≡ None = search rules in
-    none ∙ sym (entry_at content c.args.table.now None is (c.in_err-volume.ensures ∙ ap (find (λ (h : RoomyRow). is_entry h.row.name)) c.volumes.ensures.volumes))
+    first_at at.Journal (λ t r. is_entry r.name) c.args.table.now is c.volumes.ensures.volumes c.in_err-volume.ensures none
 
 pub returns : goal.returns
-returns c = λ content is.
-    sym (entry_at content c.args.table.now (Some c.in_ok-volume.volume.now) is (c.in_ok-volume.ensures ∙ ap (find (λ (h : RoomyRow). is_entry h.row.name)) c.volumes.ensures.volumes)
-    ∙ ap (λ n. Some (at.Journal n)) (sym c.name.ensures.name))
+unfolding entry_ahead_fault
+returns c = λ seen is. first_at at.Journal (λ t r. is_entry r.name) c.args.table.now is c.volumes.ensures.volumes c.in_ok-volume.ensures (ap (λ n. Some (at.Journal n)) c.name.ensures.name)

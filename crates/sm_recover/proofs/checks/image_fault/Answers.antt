@@ -1,17 +1,15 @@
-use Rattle.std.proofs.Common.{◌≡◌, None, Some, sym, ◌∙◌, ap, rules}
-use Rattle.std.specs.List.{find}
+use Rattle.std.proofs.Common.{◌≡◌, None, Some, ap, rules}
 use Rattle.sm_base.specs.declared.faults.Place.TheVariants as at
-use Rattle.vg_meta.specs.Roomy.{RoomyRow}
-use Rattle.sm_standing.specs.Checks.{is_image_ahead}
-use Rattle.sm_recover.proofs.CheckLaws.{ahead_at}
+use Rattle.sm_standing.specs.Checks.{is_image_ahead, image_ahead_fault}
+use Rattle.sm_recover.proofs.CheckLaws.{first_at}
 use Rattle.sm_recover.proofs.checks.image_fault.Goals as goal
 
 pub returns-in_err-volume : goal.returns-in_err-volume
-returns-in_err-volume c = λ content is.
+unfolding image_ahead_fault
+returns-in_err-volume c = λ seen is.
     let none : c.from_residual.result ≡ None = search rules in
-    none ∙ sym (ahead_at content c.args.table.now None is (c.in_err-volume.ensures ∙ ap (find (λ (h : RoomyRow). is_image_ahead h.row)) c.volumes.ensures.volumes))
+    first_at at.Image (λ t r. is_image_ahead r) c.args.table.now is c.volumes.ensures.volumes c.in_err-volume.ensures none
 
 pub returns : goal.returns
-returns c = λ content is.
-    sym (ahead_at content c.args.table.now (Some c.in_ok-volume.volume.now) is (c.in_ok-volume.ensures ∙ ap (find (λ (h : RoomyRow). is_image_ahead h.row)) c.volumes.ensures.volumes)
-    ∙ ap (λ n. Some (at.Image n)) (sym c.name.ensures.name))
+unfolding image_ahead_fault
+returns c = λ seen is. first_at at.Image (λ t r. is_image_ahead r) c.args.table.now is c.volumes.ensures.volumes c.in_ok-volume.ensures (ap (λ n. Some (at.Image n)) c.name.ensures.name)

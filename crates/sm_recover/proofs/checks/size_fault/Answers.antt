@@ -1,19 +1,17 @@
-use Rattle.std.proofs.Common.{◌≡◌, None, Some, sym, ◌∙◌, ap, rules}
-use Rattle.std.specs.List.{find}
+use Rattle.std.proofs.Common.{◌≡◌, None, Some, refl, ap, ◌∙◌, rules}
 use Rattle.sm_base.specs.declared.faults.Place.TheVariants as at
-use Rattle.vg_meta.specs.Roomy.{RoomyRow}
+use Rattle.vg_meta.specs.Roomy.{table_alone}
 use Rattle.sm_recover.specs.Faults.{is_sized_wrong}
-use Rattle.sm_recover.proofs.CheckLaws.{sized_at}
+use Rattle.sm_recover.proofs.CheckLaws.{first_at, sized_at}
 use Rattle.sm_recover.proofs.checks.size_fault.Goals as goal
 
 pub returns-in_err-volume : goal.returns-in_err-volume
-returns-in_err-volume c = λ content is plain.
+returns-in_err-volume c = λ seen is plain.
     let none : c.from_residual.result ≡ None = search rules in
-    none ∙ sym (sized_at content c.args.geometry.now c.args.table.now None is plain
-    (c.in_err-volume.ensures ∙ ap (find (λ (h : RoomyRow). is_sized_wrong c.args.geometry.now h.row)) c.volumes.ensures.volumes))
+    first_at at.Image (λ t r. is_sized_wrong c.args.geometry.now r) c.args.table.now refl c.volumes.ensures.volumes c.in_err-volume.ensures none
+    ∙ sized_at seen c.args.geometry.now (table_alone c.args.table.now) is plain
 
 pub returns : goal.returns
-returns c = λ content is plain.
-    sym (sized_at content c.args.geometry.now c.args.table.now (Some c.in_ok-volume.volume.now) is plain
-    (c.in_ok-volume.ensures ∙ ap (find (λ (h : RoomyRow). is_sized_wrong c.args.geometry.now h.row)) c.volumes.ensures.volumes)
-    ∙ ap (λ n. Some (at.Image n)) (sym c.name.ensures.name))
+returns c = λ seen is plain.
+    first_at at.Image (λ t r. is_sized_wrong c.args.geometry.now r) c.args.table.now refl c.volumes.ensures.volumes c.in_ok-volume.ensures (ap (λ n. Some (at.Image n)) c.name.ensures.name)
+    ∙ sized_at seen c.args.geometry.now (table_alone c.args.table.now) is plain

@@ -3,9 +3,9 @@ use Rattle.sm_recover.proofs.DiskLaws.{disk_fault_is}
 use Rattle.sm_recover.proofs.disks.disk_fault.Goals as goal
 
 pub returns-in_err-uuid : goal.returns-in_err-uuid
-returns-in_err-uuid c = λ content is has.
+returns-in_err-uuid c = λ seen is has.
     let none : c.from_residual.result ≡ None = search rules in
-    none ∙ sym (disk_fault_is content c.args.table.now c.args.mgt.now None is has c.in_err-uuid.ensures)
+    none ∙ sym (disk_fault_is seen c.args.table.now c.args.mgt.now None is has c.in_err-uuid.ensures)
 
 pub returns : goal.returns
-returns c = λ content is has. sym (disk_fault_is content c.args.table.now c.args.mgt.now (Some c.in_ok-uuid.uuid) is has c.in_ok-uuid.ensures)
+returns c = λ seen is has. sym (disk_fault_is seen c.args.table.now c.args.mgt.now (Some c.in_ok-uuid.uuid) is has c.in_ok-uuid.ensures)

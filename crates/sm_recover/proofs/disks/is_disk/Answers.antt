@@ -1,5 +1,5 @@
-use Rattle.std.proofs.Common.{◌≡◌, true, false, not, ◌&&◌, ap, ap₂, sym, ◌∙◌, rules}
-use Rattle.sm_recover.proofs.DiskLaws.{shown, gone}
+use Rattle.std.proofs.Common.{◌≡◌, None, true, false, not, ◌&&◌, ap, ap₂, sym, ◌∙◌, rules}
+use Rattle.sm_recover.proofs.DiskLaws.{shown, disk_at}
 use Rattle.sm_recover.proofs.disks.is_disk.Goals as goal
 
 pub returns-then-not-is_hidden : goal.returns-then-not-is_hidden
@@ -16,4 +16,4 @@ returns-else-not-is_hidden c =
     ∙ ap (λ h. not h && not c.in-Some.volume.now.row.fresh) hidden)
 
 pub returns-in-None : goal.returns-in-None
-returns-in-None c = sym (gone c.args.table.now c.args.uuid.now c.requires c.in-None.ensures.none)
+returns-in-None c = sym (disk_at c.args.table.now c.args.uuid.now None c.requires c.in-None.ensures.none)

@@ -1,7 +1,7 @@
 use Rattle.std.proofs.Common.{length, ap, ◌∙◌, arith}
 use Rattle.vg_meta.specs.Roomy.{RoomyTable}
 use Rattle.vg_volumes.proofs.StoredLaws.{reads_room}
-use Rattle.sm_recover.proofs.RoomLaws.{rows_made}
+use Rattle.sm_ready.proofs.RowRoomLaws.{rows_made}
 use Rattle.sm_recover.proofs.opening.make_room.Goals as goal
 
 pub returns-clause-room : goal.returns-clause-room

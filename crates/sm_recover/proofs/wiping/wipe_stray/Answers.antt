@@ -1,8 +1,8 @@
 use Rattle.std.proofs.Common.{inl, subst}
 use Rattle.vg_meta.specs.Roomy.{table_alone}
 use Rattle.vg_volumes.proofs.StoredLaws.{writes_none, writes_as}
-use Rattle.sm_recover.specs.Repairs.{IsStrayAt}
-use Rattle.sm_recover.proofs.WipeLaws.{zeroed_one, agrees_after, freed_right, freed_others}
+use Rattle.sm_ready.specs.Repairs.{IsStrayAt}
+use Rattle.sm_ready.proofs.WipeLaws.{zeroed_one, agrees_after, freed_right, freed_none, freed_one}
 use Rattle.sm_recover.proofs.wiping.wipe_stray.Goals as goal
 
 pub returns-then-not-is_stray-clause-writes : goal.returns-then-not-is_stray-clause-writes
@@ -25,5 +25,10 @@ returns-clause-agrees g c = λ told.
 pub returns-clause-right : goal.returns-clause-right
 returns-clause-right g c = freed_right _ c.args.mgt.now c.wipe.new.self c.args.place c.in_ok-wipe.ensures.places
 
-pub returns-clause-others : goal.returns-clause-others
-returns-clause-others g c = freed_others c.args.mgt.now c.wipe.new.self c.args.place c.in_ok-wipe.ensures.places
+pub returns-then-not-is_stray-clause-freed : goal.returns-then-not-is_stray-clause-freed
+returns-then-not-is_stray-clause-freed g c = freed_none _ c.args.mgt.now
+
+pub returns-clause-freed : goal.returns-clause-freed
+returns-clause-freed g c =
+    freed_one _ c.args.mgt.now c.wipe.new.self c.args.place c.in_ok-wipe.ensures.places
+    (subst (λ k. IsStrayAt (table_alone k) c.args.mgt.now c.args.place) c.table.ensures.table (c.is_stray.ensures.stray c.if-not-is_stray.false))

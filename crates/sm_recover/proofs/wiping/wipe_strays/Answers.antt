@@ -1,17 +1,18 @@
-use Rattle.std.proofs.Common.{◌≤◌, inl, sym, subst}
+use Rattle.std.proofs.Common.{◌≤◌, arith, inl, sym, subst}
 use Rattle.sm_base.specs.declared.names.Name.TheVariants.{Mgt as mgt_name}
 use Rattle.vg_volumes.proofs.StoredLaws.{writes_none, writes_then, size_stays, rose_later}
 use Rattle.sm_mgt.specs.Places.{place_count}
 use Rattle.sm_mgt.proofs.ClearLaws.{on_err}
 use Rattle.sm_standing.specs.Plain.{IsPlain}
-use Rattle.sm_recover.proofs.WipeLaws.{zeroed_step, so_far_none, so_far_more}
+use Rattle.sm_ready.proofs.WipeLaws.{zeroed_step, right_more, freed_none, freed_then}
 use Rattle.sm_recover.proofs.wiping.wipe_strays.Goals as goal
 
 pub loop-place-init : goal.loop-place-init
 loop-place-init g c = record {
   wrote = writes_none _ _ _ (λ h p v may. inl may);
   agrees = λ told was. was;
-  far = so_far_none _ _;
+  freed = freed_none _ _;
+  right = λ k below. absurd (omega (arith, below));
 }
 
 pub wipe_stray-requires-clause-size : goal.wipe_stray-requires-clause-size
@@ -26,15 +27,16 @@ loop-place-preserved g c =
     let i = c.loop-place.invariant in
     let table = i.wrote.stays.table in
     record {
-      wrote = writes_then (zeroed_step c.args.mgt.now c.loop-place.mgt c.loop-place.place table i.far) i.wrote c.wipe_stray.ensures.writes;
+      wrote = writes_then (zeroed_step c.args.mgt.now c.loop-place.mgt table i.freed) i.wrote c.wipe_stray.ensures.writes;
       agrees = λ told was. c.in_ok-wipe_stray.ensures.agrees told (i.agrees told was);
-      far = so_far_more c.args.mgt.now c.loop-place.mgt c.wipe_stray.new.mgt c.loop-place.place table i.far c.in_ok-wipe_stray.ensures.right c.in_ok-wipe_stray.ensures.others;
+      freed = freed_then c.args.mgt.now c.loop-place.mgt c.wipe_stray.new.mgt table i.freed c.in_ok-wipe_stray.ensures.freed;
+      right = right_more c.loop-place.mgt c.wipe_stray.new.mgt c.loop-place.place table i.right c.in_ok-wipe_stray.ensures.right c.in_ok-wipe_stray.ensures.freed;
     }
 
 pub returns-in_err-wipe_stray-clause-writes : goal.returns-in_err-wipe_stray-clause-writes
 returns-in_err-wipe_stray-clause-writes g c =
     let i = c.loop-place.invariant in
-    writes_then (zeroed_step c.args.mgt.now c.loop-place.mgt c.loop-place.place i.wrote.stays.table i.far) i.wrote c.wipe_stray.ensures.writes
+    writes_then (zeroed_step c.args.mgt.now c.loop-place.mgt i.wrote.stays.table i.freed) i.wrote c.wipe_stray.ensures.writes
 
 pub returns-in_err-wipe_stray-clause-cause : goal.returns-in_err-wipe_stray-clause-cause
 returns-in_err-wipe_stray-clause-cause g c =

@@ -1,0 +1,15 @@
+pub mod TableSteps
+pub mod ShapeSteps
+pub mod SteadySteps
+pub mod RecordSteps
+pub mod PlainOrderly
+pub mod PlainReady
+pub mod PairOrderly
+pub mod CopyOrderly
+pub mod PairReady
+pub mod CopyReady
+pub mod TableFails
+pub mod MemoryFails
+pub mod SectorFails
+pub mod RoomFails
+pub mod CrowdFails

@@ -1,0 +1,11 @@
+use Rattle.ready_examples.proofs.PlainOrderly.{plain_has_shape, plain_orderly}
+use Rattle.ready_examples.proofs.PlainReady.{plain_ready, plain_tidy}
+use Rattle.ready_examples.proofs.resting.example_plain.Goals as goal
+
+pub returns : goal.returns
+returns c = record {
+  shape = plain_has_shape;
+  orderly = plain_orderly;
+  ready = plain_ready;
+  tidy = plain_tidy;
+}

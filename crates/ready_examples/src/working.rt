@@ -1,0 +1,30 @@
+//! Repositories at work: a copy is under way, and a guest writes.
+
+ghost use Rattle.std.specs.Prelude.{◌≡◌};
+ghost use Rattle.sm_base.specs.declared.names.Name.TheVariants.{Vhd};
+ghost use Rattle.vg_volumes.specs.Sites.{volume_of};
+ghost use Rattle.vhd_volumes.specs.Steady.{IsQuiet};
+ghost use Rattle.sm_ready.specs.Known.{shape_in};
+ghost use Rattle.sm_ready.specs.Orderly.{IsOrderly};
+ghost use Rattle.sm_ready.specs.Ready.{IsReady, IsTidy};
+ghost use Rattle.sm_stages.specs.Worked.{first};
+ghost use Rattle.ready_examples.specs.Repositories.{plain_table, written_known, written_area, written_shape, copy_table, copy_known, copy_area, copy_shape};
+ghost use Rattle.ready_examples.specs.WorkedRows.{site};
+
+/// A hidden image is copied into the base under it, and its block 0 was: under the entry of the copy, with the cursor at 1.
+pub fn example_copying()
+    ensures shape { shape_in site copy_table copy_known ≡ copy_shape }
+    ensures orderly { IsOrderly site copy_table copy_known }
+    ensures ready { IsReady site copy_table copy_area copy_known }
+    ensures tidy { IsTidy copy_table copy_known }
+{}
+
+/// A disk is attached for writing, and its guest has written a sector that no sync followed. A stop may leave of this sector
+/// what a read does not give, and still all is ready.
+pub fn example_writing()
+    ensures shape { shape_in site plain_table written_known ≡ written_shape }
+    ensures orderly { IsOrderly site plain_table written_known }
+    ensures ready { IsReady site plain_table written_area written_known }
+    ensures tidy { IsTidy plain_table written_known }
+    ensures not_quiet { ¬ IsQuiet (volume_of site plain_table written_area (Vhd first)) }
+{}

@@ -1,0 +1,18 @@
+use Rattle.std.proofs.Common.{◌∙◌}
+use Rattle.sm_standing.proofs.EnlargingLaws.{enlarging_sound, stands_alike}
+use Rattle.standing_examples.specs.SmallContents.{one}
+use Rattle.standing_examples.specs.SmallOutlines.{thin_outline, enlarging_table}
+use Rattle.standing_examples.proofs.EnlargingExample.{thin_enlarging, thin_sound, thin_stands}
+use Rattle.standing_examples.proofs.outlines.example_enlarging.Goals as goal
+
+pub returns-clause-enlarging : goal.returns-clause-enlarging
+returns-clause-enlarging c = thin_enlarging
+
+pub returns-clause-before : goal.returns-clause-before
+returns-clause-before c = thin_sound
+
+pub returns-clause-sound : goal.returns-clause-sound
+returns-clause-sound c = enlarging_sound thin_outline enlarging_table one 1 thin_enlarging thin_sound
+
+pub returns-clause-stands : goal.returns-clause-stands
+returns-clause-stands c = stands_alike thin_outline enlarging_table one 1 thin_enlarging one ∙ thin_stands
