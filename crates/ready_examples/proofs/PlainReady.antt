@@ -26,7 +26,8 @@ use Rattle.ready_examples.specs.WorkedRows.{sizes, site, top_head, first_slot}
 use Rattle.ready_examples.specs.Repositories.{raw_record, plain_table, plain_known, plain_rows, plain_image, plain_area, written_known, written_area}
 use Rattle.ready_examples.proofs.PlainOrderly.{none_new}
 use Rattle.ready_examples.proofs.RecordSteps.{records_agree, no_stray_in}
-use Rattle.ready_examples.proofs.SteadySteps.{HoldsImage, apart_settled, spot_numbers, rest_settled, steady, top_here, top_holds, volume_holds}
+use Rattle.ready_examples.proofs.SteadySteps.{HoldsImage, apart_settled, rest_settled, steady, top_here, top_holds, volume_holds}
+use Rattle.sm_stages.proofs.PlacedLaws.{spot_numbers}
 use Rattle.ready_examples.proofs.TableSteps.{each, second_uuid}
 
 pub raw_right : IsRecord raw_record

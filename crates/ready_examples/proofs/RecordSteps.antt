@@ -18,7 +18,7 @@ use Rattle.vhd_chain.specs.declared.rows.TreeRow.{TreeRow}
 use Rattle.sm_ready.specs.Known.{is_shown}
 use Rattle.sm_stages.specs.Worked.{record_area}
 use Rattle.ready_examples.specs.WorkedRows.{site}
-use Rattle.ready_examples.proofs.SteadySteps.{spot_numbers}
+use Rattle.sm_stages.proofs.PlacedLaws.{spot_numbers}
 
 -- a place behind the records is free
 blank_place : (n k : ℕ) (o : Option Record) → slice_get (replicate n None) k ≡ Some o → (o ≡ None) × (k < n)

@@ -43,7 +43,8 @@ use Rattle.ready_examples.proofs.CopyReady.{between_there, base_there, ready_whe
 use Rattle.ready_examples.proofs.PlainOrderly.{orderly_with, stand_right}
 use Rattle.ready_examples.proofs.PlainReady.{plain_holds, plain_place, plain_ready, raw_right, written_ready, written_not_quiet}
 use Rattle.ready_examples.proofs.RecordSteps.{records_agree}
-use Rattle.ready_examples.proofs.SteadySteps.{HoldsImage, apart_settled, entry_alike, held_reads, rest_settled, spot_numbers, steady, top_here, top_holds, volume_holds}
+use Rattle.ready_examples.proofs.SteadySteps.{HoldsImage, apart_settled, entry_alike, held_reads, rest_settled, steady, top_here, top_holds, volume_holds}
+use Rattle.sm_stages.proofs.PlacedLaws.{spot_numbers}
 use Rattle.ready_examples.proofs.TableSteps.{each}
 
 -- ---- a slot that memory forgot

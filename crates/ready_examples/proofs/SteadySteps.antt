@@ -1,5 +1,5 @@
 -- The worked images are steady in their volumes: nothing is pending but in sector 5, which is the first of slot 0.
-use Rattle.std.proofs.Common.{◌≡◌, ◌≢◌, ◌⊎◌, ⊎_elim, inl, inr, ℕ, zero, suc, ◌+◌, ◌*◌, ◌/◌, ◌%◌, ◌<◌, ◌≤◌, Bool, true, false, cond, nat_lt, List, [], ◌∷◌, take, replicate, slice_index, Option, Some, None, refl, sym, ap, ◌∙◌, subst, arith, lit<}
+use Rattle.std.proofs.Common.{◌≡◌, ◌≢◌, ◌⊎◌, ⊎_elim, inl, inr, ℕ, zero, suc, ◌+◌, ◌*◌, ◌/◌, ◌%◌, ◌<◌, ◌≤◌, Bool, true, false, cond, nat_lt, List, [], ◌∷◌, take, replicate, Option, Some, None, refl, sym, ap, ◌∙◌, subst, arith, lit<}
 use Rattle.std.proofs.Math.Path.{fun_ext}
 use Rattle.std.proofs.lemmas.Bool.{ltb-true, ltb-false}
 use Rattle.std.proofs.lemmas.Option.{none-some, same_Some}
@@ -33,6 +33,7 @@ use Rattle.layout_examples.proofs.SmallImageLaws.{code-slot, entry-volume, foote
 use Rattle.sm_stages.specs.WorkedImages.{child_image, one_entry, one_slot, top_image, filled_child, empty_child, child_footer, child_header}
 use Rattle.sm_stages.proofs.WorkedLaws.{filled_laid, one_at, only_zero, top_laid}
 use Rattle.ready_examples.specs.WorkedRows.{sizes, site, top_footer, top_header, top_head, head_over, first_slot, no_slots}
+use Rattle.sm_stages.proofs.PlacedLaws.{spot_numbers}
 
 -- ---- what is held
 
@@ -199,16 +200,6 @@ unfolding child_image
 empty_holds p = record { holds = λ b below filled. absurd (filled (entry-volume (footer_bytes child_footer) (take 512 (header_bytes (child_header p))) (table_of []) (footer_bytes child_footer) empty b (omega arith) ∙ word-table_of [] b (omega arith) (omega arith))) }
 
 -- ---- volumes
-
-index_numbers : (a n j : ℕ) → j < n → slice_index (numbers a n) j ≡ a + j
-unfolding numbers
-index_numbers a zero j below = absurd (omega arith)
-index_numbers a (suc n) zero below = omega arith
-index_numbers a (suc n) (suc j) below = index_numbers (a + 1) n j (omega arith) ∙ omega arith
-
-pub spot_numbers : (a n s : ℕ) → s < 32 * n → spot 32 (numbers a n) s ≡ 32 * a + s
-unfolding spot
-spot_numbers a n s below = let e = index_numbers a n (s / 32) (omega arith) in omega (arith, e)
 
 five_long : (at p : ℕ) → p < 160 → p < span 32 (numbers at 5)
 unfolding numbers

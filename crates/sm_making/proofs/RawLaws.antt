@@ -36,7 +36,7 @@ use Rattle.sm_ready.specs.Done.{at_rest}
 use Rattle.sm_ready.specs.Known.{Known, known, machine_row, shape_in}
 use Rattle.sm_ready.specs.Orderly.{IsOrderly}
 use Rattle.sm_ready.specs.Ready.{IsTidy}
-use Rattle.sm_ready.specs.Sessions.{IsAtEase, IsOrderlyStore, IsTidyStore}
+use Rattle.sm_ready.specs.Sessions.{IsOrderlyStore, IsTidyStore}
 use Rattle.sm_ready.specs.Stores.{content_now}
 use Rattle.sm_ready.specs.declared.memory.Memory.{Memory}
 use Rattle.sm_ready.proofs.ChainLaws.{tab}
@@ -82,7 +82,7 @@ pub row_is : (s : Site) (t : VolumeTable) (m : Known) (u es : List ℕ) (size : 
 unfolding shape_in rounded
 row_is s t m u es size many = ap (λ (n : ℕ). let i : ImageRow = record { name = Raw u; hidden = false; parent = None; size = n * s.geometry.extent; slots = []; extents = n } in i) many
 
-module _ {S : Type 0} (g : Ghosts S) (a : S) (m : Memory) (entry : Record) (es : List ℕ) (orderly : IsOrderlyStore g a m) (tidy : IsTidyStore g a m) (ease : IsAtEase m) (disk : IsForDisk (g.site a) (tab g a) (known m) entry.uuid entry.label es)
+module _ {S : Type 0} (g : Ghosts S) (a : S) (m : Memory) (entry : Record) (es : List ℕ) (orderly : IsOrderlyStore g a m) (tidy : IsTidyStore g a m) (disk : IsForDisk (g.site a) (tab g a) (known m) entry.uuid entry.label es)
     (proper : IsRecord entry) (plain : entry ≡ entry_of entry.uuid entry.label) (place : IsSome (place_for m.records entry.uuid)) where
   abbrev image : TreeRow
   image = raw_row entry.uuid (length es) (length es * (g.site a).geometry.extent)
@@ -94,7 +94,6 @@ module _ {S : Type 0} (g : Ghosts S) (a : S) (m : Memory) (entry : Record) (es :
       record {
         orderly = orderly;
         tidy = tidy;
-        idle = ease.idle;
         proper = proper.uuid.uuid;
         image = refl;
         uuid = refl;

@@ -7,7 +7,7 @@ ghost use Rattle.vg_meta.specs.Tables.{VolumeTable};
 ghost use Rattle.sm_machine.specs.declared.commands.Command.TheVariants.{Create};
 ghost use Rattle.sm_machine.specs.Runs.{is_accepted};
 ghost use Rattle.vg_volumes.specs.Stored.{OnlyReads, Counts, Leaves};
-ghost use Rattle.sm_ready.specs.Sessions.{IsAtEase, IsOrderlyStore, IsTidyStore, IsReadyStore, HasRows, HasTreeRoom};
+ghost use Rattle.sm_ready.specs.Sessions.{IsOrderlyStore, IsTidyStore, IsReadyStore, HasRows, HasTreeRoom};
 ghost use Rattle.sm_ready.specs.Taken.{StoreTakes};
 ghost use Rattle.sm_making.specs.Making.{IsOnLeast, HasFewCommits};
 ghost use Rattle.sm_making.specs.Refusing.{extents_for};
@@ -39,7 +39,6 @@ pub fn create<S: Store>(
     requires usable { S.failed store.old ≡ false }
     requires orderly { IsOrderlyStore S.Store store.old memory.old }
     requires tidy { IsTidyStore S.Store store.old memory.old }
-    requires at_ease { IsAtEase memory.old }
     requires tree_room { HasTreeRoom memory.old }
     ensures site { S.site store.new ≡ S.site store.old }
     ensures counts { S.faults store.old ≤ S.faults store.new }
@@ -50,7 +49,6 @@ pub fn create<S: Store>(
     ensures usable_still { OnOk result (S.failed store.new ≡ false) }
     ensures orderly_still { OnOk result (IsOrderlyStore S.Store store.new memory.new) }
     ensures tidy_still { OnOk result (IsTidyStore S.Store store.new memory.new) }
-    ensures at_ease_still { OnOk result (IsAtEase memory.new) }
     ensures tree_room_still { OnOk result (HasTreeRoom memory.new) }
     ensures room { HasRows (S.table store.old) → OnOk result (HasRows (S.table store.new)) }
     ensures refused { IfOk result (λ r. is_accepted r ≡ false → (t : VolumeTable) (image : ℕ → List ℕ) → S.leaves store.new t image → S.leaves store.old t image) }

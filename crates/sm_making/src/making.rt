@@ -30,7 +30,7 @@ ghost use Rattle.sm_standing.specs.Standing.{disks};
 ghost use Rattle.sm_ready.specs.Done.{HasDone};
 ghost use Rattle.sm_ready.specs.Known.{known, shape_in};
 ghost use Rattle.sm_ready.specs.Middle.{IsMiddle};
-ghost use Rattle.sm_ready.specs.Sessions.{IsAtEase, IsOrderlyStore, IsTidyStore, IsReadyStore, HasRows, HasTreeRoom};
+ghost use Rattle.sm_ready.specs.Sessions.{IsOrderlyStore, IsTidyStore, IsReadyStore, HasRows, HasTreeRoom};
 ghost use Rattle.sm_ready.specs.Stores.{StoreLeaves, store_content};
 ghost use Rattle.sm_making.specs.Making.{IsForDisk, HasFewCommits, table_made, new_disk, entry_of};
 ghost use Rattle.sm_making.specs.Stages.{Anything, HasZeros, IsNewVolume, IsFilled, raw_row};
@@ -208,7 +208,6 @@ fn make_disk<S: Store>(
     requires usable { S.failed store.old ≡ false }
     requires orderly { IsOrderlyStore S.Store store.old memory.old }
     requires tidy { IsTidyStore S.Store store.old memory.old }
-    requires at_ease { IsAtEase memory.old }
     requires disk { IsForDisk (S.site store.old) (table_alone (S.table store.old)) (known memory.old) entry.uuid entry.label extents.items }
     requires row { 0 < (S.table store.old).spare }
     requires tree_room { HasTreeRoom memory.old }
@@ -227,7 +226,6 @@ fn make_disk<S: Store>(
     ensures room { HasRows (S.table store.old) → OnOk result (HasRows (S.table store.new)) }
     ensures orderly { OnOk result (IsOrderlyStore S.Store store.new memory.new) }
     ensures tidy { OnOk result (IsTidyStore S.Store store.new memory.new) }
-    ensures at_ease { OnOk result (IsAtEase memory.new) }
     ensures tree_room { OnOk result (HasTreeRoom memory.new) }
     ensures shape { OnOk result ((σ : State) (d : IsForDisk (S.site store.old) (table_alone (S.table store.old)) (known memory.old) entry.uuid entry.label extents.items)
         → σ.shape ≡ shape_in (S.site store.old) (table_alone (S.table store.old)) (known memory.old)
@@ -265,7 +263,6 @@ pub(crate) fn make_raw<S: Store>(
     requires usable { S.failed store.old ≡ false }
     requires orderly { IsOrderlyStore S.Store store.old memory.old }
     requires tidy { IsTidyStore S.Store store.old memory.old }
-    requires at_ease { IsAtEase memory.old }
     requires disk { IsForDisk (S.site store.old) (table_alone (S.table store.old)) (known memory.old) disk label extents.items }
     requires tree_room { HasTreeRoom memory.old }
     ensures site { S.site store.new ≡ S.site store.old }
@@ -282,7 +279,6 @@ pub(crate) fn make_raw<S: Store>(
     ensures room { HasRows (S.table store.old) → OnOk result (HasRows (S.table store.new)) }
     ensures orderly { OnOk result (IsOrderlyStore S.Store store.new memory.new) }
     ensures tidy { OnOk result (IsTidyStore S.Store store.new memory.new) }
-    ensures at_ease { OnOk result (IsAtEase memory.new) }
     ensures tree_room { OnOk result (HasTreeRoom memory.new) }
     ensures shape { OnOk result ((σ : State) (d : IsForDisk (S.site store.old) (table_alone (S.table store.old)) (known memory.old) disk label extents.items)
         → σ.shape ≡ shape_in (S.site store.old) (table_alone (S.table store.old)) (known memory.old)

@@ -1,5 +1,5 @@
 -- The first commit of a command that makes a disk: a new volume stands beside the images, and nothing else changes.
-use Rattle.std.proofs.Common.{◌≡◌, ◌≢◌, ◌⊎◌, inl, inr, ⊎_elim, ℕ, ◌≤◌, Bool, true, false, cond, List, length, Option, Some, None, refl, sym, ap, ap₂, ◌∙◌, subst}
+use Rattle.std.proofs.Common.{◌≡◌, ◌≢◌, ◌⊎◌, inl, inr, ⊎_elim, ℕ, ◌≤◌, Bool, true, false, cond, List, length, Option, Some, None, refl, sym, ap, ap₂, ◌∙◌}
 use Rattle.std.proofs.Math.Path.{fun_ext}
 use Rattle.std.proofs.Math.Logic.{∥∥₁_elim}
 use Rattle.std.proofs.Props.{props}
@@ -32,7 +32,7 @@ use Rattle.sm_ready.specs.Known.{Known, shape_in}
 use Rattle.vhd_chain.specs.declared.rows.TreeRow.{TreeRow}
 use Rattle.vhd_chain.specs.Trees.{row_name, tree_row}
 use Rattle.sm_ready.specs.Orderly.{IsOrderly}
-use Rattle.sm_ready.specs.Ready.{IsReady, IsBelow}
+use Rattle.sm_ready.specs.Ready.{IsReady}
 use Rattle.sm_ready.specs.Stores.{Leaving, content_now}
 use Rattle.sm_ready.proofs.AlikeLaws.{sectors_same}
 use Rattle.sm_ready.proofs.CommitLaws.{law_single_commit, volume_rested}
@@ -40,15 +40,14 @@ use Rattle.sm_ready.proofs.FreshLaws.{orderly_new, visible_new}
 use Rattle.sm_standing.proofs.ImageSectors.{vhd_same, raw_same}
 use Rattle.sm_ready.proofs.LeftLaws.{none_of_vhd, none_of_raw}
 use Rattle.sm_ready.proofs.Orders.{geometry_of, whole, unrowed}
+use Rattle.sm_ready.proofs.OperationLaws.{below_alike}
 use Rattle.sm_ready.proofs.RestLaws.{IsOfRow, ready_rest}
 use Rattle.sm_ready.proofs.RowLaws.{tree_found, image_named}
 use Rattle.sm_ready.proofs.ShapeLaws.{HasNoNew, plainly_stands}
-use Rattle.sm_base.specs.declared.operations.Op.TheVariants as op
 
 -- a new volume is made for an image
 pub record IsNew (s : Site) (t : VolumeTable) (m : Known) (x : Name) (es : List ℕ) : Type 0 where
   pub no_new : HasNoNew t
-  pub idle : m.op ≡ op.Idle
   pub allows : Permits s.count t (Create x true es)
   pub image : is_image_name x ≡ true
   pub few : length (table_images (applied t (Create x true es))) ≤ image_limit
@@ -157,7 +156,7 @@ module _ (s : Site) (t : VolumeTable) (old : Held) (m : Known) (x : Name) (es : 
   pub ready_new : IsReady s (applied t (Create x true es)) (at_rest (reads old)) m
   unfolding shape_in
   ready_new = ready_rest s t (applied t (Create x true es)) old m m ready from (ap extents_of (mgt_stays s.count t (Create x true es) o.table h.allows)) refl (volume_rested s (applied t (Create x true es)) (reads old))
-      (subst (IsBelow now) (sym h.idle) tt)
+      (below_alike was now m.op refl refl (λ n _. images_same n) ready.firm.below)
     where
       from : (q : TreeRow) → In q m.rows → IsOfRow t (applied t (Create x true es)) m q
       from q i = record { row = q; there = i; image = refl; extents = refl; same = ap extents_of (other_row (row_name q) away) }

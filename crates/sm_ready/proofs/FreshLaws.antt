@@ -88,13 +88,13 @@ raised_well σ k more most w = record {
   operation = operation_raised σ k σ.op w.operation;
 }
 
-roomy_raised : (σ : Shape) (k : ℕ) (x : Op) → IsRoomyIn σ x → IsRoomyIn (record σ { sequence = k }) x
+pub roomy_raised : (σ : Shape) (k : ℕ) (x : Op) → IsRoomyIn σ x → IsRoomyIn (record σ { sequence = k }) x
 roomy_raised σ k op.Idle h = tt
 roomy_raised σ k (op.Copy v p c) h = h
 roomy_raised σ k (op.Relink v p) h = tt
 roomy_raised σ k (op.Leaf l p c) h = h
 
-refs_raised : (σ : Shape) (k : ℕ) (n : Name) → refs n (record σ { sequence = k }) ≡ refs n σ
+pub refs_raised : (σ : Shape) (k : ℕ) (n : Name) → refs n (record σ { sequence = k }) ≡ refs n σ
 unfolding refs
 refs_raised σ k n = refl
 

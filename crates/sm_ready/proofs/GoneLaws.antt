@@ -10,7 +10,6 @@ use Rattle.sm_base.specs.Kinds.{is_image}
 use Rattle.sm_base.specs.Names.{is_base}
 use Rattle.sm_base.specs.declared.names.Name.{Name}
 use Rattle.sm_base.specs.declared.names.Name.TheVariants.{Mgt, Vhd, Raw, Old, Clone, Inflate, Coalesce, Relink, Leaf}
-use Rattle.sm_base.specs.declared.operations.Op.{Op}
 use Rattle.sm_base.specs.declared.operations.Op.TheVariants as op
 use Rattle.sm_disk.specs.Held.{Held, reads}
 use Rattle.vg_meta.specs.Tables.{VolumeTable, Row, rows, extents_of, name_eq}
@@ -23,7 +22,6 @@ use Rattle.vg_volumes.specs.Commits.{IsBefore}
 use Rattle.vg_volumes.specs.Sites.{Site, area_size}
 use Rattle.vg_volumes.specs.Volumes.{piece}
 use Rattle.common_laws.specs.Lists.{In, ◌>>=◌}
-use Rattle.sm_machine.specs.Shapes.{Shape, refs}
 use Rattle.sm_machine.specs.WellFormed.{is_image_name}
 use Rattle.sm_record.specs.Records.{reading}
 use Rattle.sm_record.specs.declared.records.Record.{Record}
@@ -40,12 +38,12 @@ use Rattle.vhd_chain.specs.declared.rows.TreeRow.{TreeRow}
 use Rattle.vhd_chain.specs.Trees.{row_name, tree_row}
 use Rattle.sm_ready.specs.Done.{HasDone, IsCommit, at_rest}
 use Rattle.sm_ready.specs.Known.{Known, shape_in, row_face}
-use Rattle.sm_ready.specs.Orderly.{IsOrderly, IsRoomyIn}
+use Rattle.sm_ready.specs.Orderly.{IsOrderly}
 use Rattle.sm_ready.specs.Ready.{IsReady, IsBelow}
 use Rattle.sm_ready.specs.Stores.{Leaving, content_now}
 use Rattle.sm_ready.proofs.AlikeLaws.{sectors_same}
 use Rattle.sm_ready.proofs.CommitLaws.{law_single_commit, volume_rested}
-use Rattle.sm_ready.proofs.FreshLaws.{raised_well}
+use Rattle.sm_ready.proofs.FreshLaws.{raised_well, refs_raised, roomy_raised}
 use Rattle.sm_ready.proofs.LeftLaws.{none_of_vhd, none_of_raw}
 use Rattle.sm_ready.proofs.Orders.{fresh_face, geometry_of, new_unrowed, whole}
 use Rattle.sm_ready.proofs.RemoveLaws.{In-without, names_without, no_journal}
@@ -104,16 +102,6 @@ named_still t u r later fewer e = by (is_image r.name) (has_twin t r.name) (are_
     by true true c twin past e = absurd (true≢false e)
     by true false false twin past e = absurd (true≢false e)
     by true false true twin past e = ap₂ (λ (x y : Bool). x || not y) (twin_gone t u r.name fewer twin) (all_past (uuids_in r.name) t.sequence u.sequence later past)
-
-pub roomy_raised : (σ : Shape) (k : ℕ) (x : Op) → IsRoomyIn σ x → IsRoomyIn (record σ { sequence = k }) x
-roomy_raised σ k op.Idle h = tt
-roomy_raised σ k (op.Copy v p c) h = h
-roomy_raised σ k (op.Relink v p) h = tt
-roomy_raised σ k (op.Leaf l p c) h = h
-
-pub refs_raised : (σ : Shape) (k : ℕ) (n : Name) → refs n (record σ { sequence = k }) ≡ refs n σ
-unfolding refs
-refs_raised σ k n = refl
 
 raised_more : (k : ℕ) → k < 2 ^ 48 → k ≤ raised k
 raised_more k h = omega (arith, h)

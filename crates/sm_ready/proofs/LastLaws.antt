@@ -61,7 +61,7 @@ use Rattle.vg_meta.proofs.RowLaws.{names_of-with_row}
 use Rattle.sm_standing.proofs.DisksShown.{row_of-In}
 use Rattle.sm_standing.specs.Checks.{images as table_images}
 use Rattle.sm_mgt.specs.Places.{Agrees, records_held, as_reading}
-use Rattle.sm_ready.specs.Ready.{IsReady, IsBelow, HasNoStray}
+use Rattle.sm_ready.specs.Ready.{IsReady, HasNoStray}
 use Rattle.vhd_volumes.specs.Steady.{IsQuiet}
 use Rattle.vhd_image.specs.Steady.{IsSteady}
 use Rattle.sm_ready.specs.Stores.{Leaving, MayShow, content_in, content_now}
@@ -72,8 +72,8 @@ use Rattle.sm_ready.specs.Outlined.{link_in}
 use Rattle.sm_standing.specs.Outlines.{Link, link_of}
 use Rattle.sm_ready.proofs.MiddleLaws.{middle_in, middle_safe}
 use Rattle.sm_ready.specs.Middle.{IsStray, IsMiddle}
+use Rattle.sm_ready.proofs.OperationLaws.{WorksAt, below_alike, roomy_more, works_there}
 use Rattle.sm_ready.proofs.RestLaws.{keeps_rest, steady_keeps, agrees_keeps}
-use Rattle.sm_base.specs.declared.operations.Op.TheVariants as op
 
 -- ---- memory with a row more
 
@@ -205,7 +205,6 @@ records_more q rs qs (Some x ∷ places) (suc k) r below free each now =
 pub record IsMade (s : Site) (t : VolumeTable) (m : Known) (own : Name) (added : TreeRow) (k : ℕ) (r : Record) (row : Row) : Type 0 where
   pub orderly : IsOrderly s t m
   pub no_stray : HasNoStray m
-  pub idle : m.op ≡ op.Idle
   pub stray : IsStray m k r
   pub there : rows t own ≡ Some row
   pub fresh : row.fresh ≡ true
@@ -265,28 +264,6 @@ module _ (s : Site) (t : VolumeTable) (m : Known) (own : Name) (added : TreeRow)
 
       each : (x : Record) → In (Some x) m.places → (is_shown (with_tree added m.rows) x.uuid ≡ is_shown m.rows x.uuid) × (x.uuid ≢ r.uuid)
       each x i = (mine x.uuid ∙ ap (λ b. bytes_eq r.uuid x.uuid || b) (h.no_stray x i) ∙ or_true (bytes_eq r.uuid x.uuid) ∙ sym (h.no_stray x i), apart x i)
-
-module _ (s : Site) (t : VolumeTable) (m : Known) (old new : Held) (own : Name) (added : TreeRow) (k : ℕ) (r : Record) (row : Row) (h : IsMade s t m own added k r row) (f : IsWritten s t m old new own added k r) where
-  kept_volume : (n : Name) → Keeps (volume_of s t new n) (volume_of s (after t own) (at_rest (held_reads new)) n)
-  kept_volume n = subst (λ es. Keeps (volume_of s t new n) (volume s.geometry.extent es (at_rest (held_reads new)))) (sym (same_extents s t m own added k r row h n)) (Keeps-volume s.geometry.extent (extents_of (rows t n)) (keeps_rest new))
-
-  pub ready_last : IsReady s (after t own) (at_rest (held_reads new)) (made_memory added k r m)
-  ready_last = record {
-    firm = record {
-      images = λ q i. image q (In-insert (λ a b. is_lt (name_cmp (row_name a) (row_name b))) added m.rows q i);
-      quiet = λ q i _. volume_rested s (after t own) (held_reads new) (row_name q);
-      below = subst (IsBelow (content_now s (after t own) (at_rest (held_reads new)))) (sym h.idle) tt;
-    };
-    records = agrees_keeps (records_held s t new) (records_held s (after t own) (at_rest (held_reads new))) (set m.places k (Some r)) (kept_volume Mgt) f.agrees;
-    recorded = volume_rested s (after t own) (held_reads new) Mgt;
-  }
-    where
-      image : (q : TreeRow) → (q ≡ added) ⊎ In q m.rows → IsSteady s.geometry (q.extents * s.geometry.extent) (volume_of s (after t own) (at_rest (held_reads new)) (row_name q)) q.image
-      image q (inl is) = subst (λ z. IsSteady s.geometry (z.extents * s.geometry.extent) (volume_of s (after t own) (at_rest (held_reads new)) (row_name z)) z.image) (sym is)
-          (subst (λ n. IsSteady s.geometry (added.extents * s.geometry.extent) (volume_of s (after t own) (at_rest (held_reads new)) n) added.image) (sym h.named)
-          (subst (λ es. IsSteady s.geometry (added.extents * s.geometry.extent) (volume s.geometry.extent es (at_rest (held_reads new))) added.image) (sym (same_extents s t m own added k r row h own)) f.steady))
-      image q (inr i) = steady_keeps s.geometry (q.extents * s.geometry.extent) (volume_of s t old (row_name q)) (volume_of s (after t own) (at_rest (held_reads new)) (row_name q)) q.image
-          (Keeps-then (f.middle.images q i) (kept_volume (row_name q))) (f.ready.firm.images q i)
 
 -- ---- memory is orderly after it
 
@@ -348,6 +325,14 @@ module _ (s : Site) (t : VolumeTable) (m : Known) (own : Name) (added : TreeRow)
   unrowed_before : tree_row m.rows own ≡ None
   unrowed_before = new_unrowed s t m own row h.orderly (image_named own h.image) h.there h.fresh
 
+  -- an operation works at no new image
+  pub works_away : (n : Name) → WorksAt m.op n → n ≢ own
+  unfolding shape_in
+  works_away n works same = ∥∥₁_elim h.orderly.well_formed (hlevel props) (λ w.
+      let at = works_there (shape_in s t m) w n works in
+      let y = In-map machine_row m.rows at.0 at.1 in
+      none-some y.0 (sym (ap (tree_row m.rows) (sym (ap (λ (x : ImageRow). x.name) y.2) ∙ at.2 ∙ same) ∙ unrowed_before) ∙ tree_found m.rows y.0 w.one_image y.1))
+
   pub orderly_last : IsOrderly s (after t own) (made_memory added k r m)
   unfolding shape_in
   orderly_last = record {
@@ -362,7 +347,8 @@ module _ (s : Site) (t : VolumeTable) (m : Known) (own : Name) (added : TreeRow)
     stands = λ q i. ⊎_elim (λ is. subst (λ z. StandsIn s.geometry (z.extents * s.geometry.extent) z.image) (sym is) h.stands) (λ j. h.orderly.stands q j)
         (In-insert (λ a b. is_lt (name_cmp (row_name a) (row_name b))) added m.rows q i);
     well_formed = ∥∥₁_map g.well_formed (λ w. subst IsWellFormed (sym (shape_last s t m own added k r row h)) w);
-    roomy = subst (λ x. IsRoomyIn (shape_in s (after t own) (made_memory added k r m)) x) (sym h.idle) tt;
+    roomy = subst (λ x. IsRoomyIn x m.op) (sym (shape_last s t m own added k r row h))
+        (roomy_more (shape_in s t m) (after t own).sequence (with_record (machine_record r) (shape_in s t m).records) (machine_row added) m.op (λ n works same. works_away n works (same ∙ h.named)) h.orderly.roomy);
     counts = g.counts;
   }
     where
@@ -428,6 +414,31 @@ module _ (s : Site) (t : VolumeTable) (m : Known) (old new : Held) (own : Name) 
   images_same : (n : Name) → n ≢ own → image_of now_content n ≡ image_of was_content n
   images_same n other = retabled n (rows t n) other refl
       ∙ image_quiet s t old m (held_reads new) n h.orderly f.ready.firm (middle_in s t m old new k r h.orderly f.ready h.stray.within f.middle (held_reads new) (left_now s new)) (f.settled n)
+
+  -- ---- ready
+
+  kept_volume : (n : Name) → Keeps (volume_of s t new n) (volume_of s (after t own) (at_rest (held_reads new)) n)
+  kept_volume n = subst (λ es. Keeps (volume_of s t new n) (volume s.geometry.extent es (at_rest (held_reads new)))) (sym (same_extents s t m own added k r row h n)) (Keeps-volume s.geometry.extent (extents_of (rows t n)) (keeps_rest new))
+
+  pub ready_last : IsReady s (after t own) (at_rest (held_reads new)) (made_memory added k r m)
+  ready_last = record {
+    firm = record {
+      images = λ q i. image q (In-insert (λ a b. is_lt (name_cmp (row_name a) (row_name b))) added m.rows q i);
+      quiet = λ q i _. volume_rested s (after t own) (held_reads new) (row_name q);
+      below = below_alike was_content now_content m.op refl refl (λ n works. images_same n (works_away s t m own added k r row h g n works)) f.ready.firm.below;
+    };
+    records = agrees_keeps (records_held s t new) (records_held s (after t own) (at_rest (held_reads new))) (set m.places k (Some r)) (kept_volume Mgt) f.agrees;
+    recorded = volume_rested s (after t own) (held_reads new) Mgt;
+  }
+    where
+      image : (q : TreeRow) → (q ≡ added) ⊎ In q m.rows → IsSteady s.geometry (q.extents * s.geometry.extent) (volume_of s (after t own) (at_rest (held_reads new)) (row_name q)) q.image
+      image q (inl is) = subst (λ z. IsSteady s.geometry (z.extents * s.geometry.extent) (volume_of s (after t own) (at_rest (held_reads new)) (row_name z)) z.image) (sym is)
+          (subst (λ n. IsSteady s.geometry (added.extents * s.geometry.extent) (volume_of s (after t own) (at_rest (held_reads new)) n) added.image) (sym h.named)
+          (subst (λ es. IsSteady s.geometry (added.extents * s.geometry.extent) (volume s.geometry.extent es (at_rest (held_reads new))) added.image) (sym (same_extents s t m own added k r row h own)) f.steady))
+      image q (inr i) = steady_keeps s.geometry (q.extents * s.geometry.extent) (volume_of s t old (row_name q)) (volume_of s (after t own) (at_rest (held_reads new)) (row_name q)) q.image
+          (Keeps-then (f.middle.images q i) (kept_volume (row_name q))) (f.ready.firm.images q i)
+
+  -- ---- the disks
 
   -- nothing image_reads through the new image
   no_parent : (n : Name) (i : Image) → image_of was_content n ≡ Some i → i.parent ≢ Some own
@@ -505,7 +516,7 @@ module _ (s : Site) (t : VolumeTable) (m : Known) (old new : Held) (own : Name) 
   }
     where
       now : (p : ℕ) → p < record_count → reading_at now_content p ≡ as_reading (get_or (set m.places k (Some r)) p None)
-      now p below = place_reads s (after t own) (at_rest (held_reads new)) (made_memory added k r m) (orderly_last s t m own added k r row h g) (ready_last s t m old new own added k r row h f) p below
+      now p below = place_reads s (after t own) (at_rest (held_reads new)) (made_memory added k r m) (orderly_last s t m own added k r row h g) (ready_last) p below
 
   unrecorded : filter (is_record_of r.uuid) (records was_content) ≡ []
   unrecorded = none (records was_content) (λ x i. x_not x i (is_record_of r.uuid x) refl)
@@ -556,9 +567,9 @@ module _ (s : Site) (t : VolumeTable) (m : Known) (old new : Held) (own : Name) 
       → IsCommit s t (after t own) new end leaves ok
       → HasDoneFrom s (after t own) end (made_memory added k r m) before leaves ok (disks was_content) (with_disk made_disk (disks was_content))
   law_made end before leaves ok might commit = record {
-    ready = λ fine. subst (λ a. IsReady s (after t own) a (made_memory added k r m)) (sym (rested new end commit.keeps (commit.settled fine))) (ready_last s t m old new own added k r row h f);
+    ready = λ fine. subst (λ a. IsReady s (after t own) a (made_memory added k r m)) (sym (rested new end commit.keeps (commit.settled fine))) (ready_last);
     settled = commit.settled;
     shown = λ fine. ap (λ a. disks (content_now s (after t own) a)) (rested new end commit.keeps (commit.settled fine)) ∙ disks_last;
     crash = law_commit s t (after t own) new end (made_memory added k r m) before leaves ok (disks was_content) (with_disk made_disk (disks was_content))
-        (middle_safe s t m old new k r before (disks was_content) h.orderly f.ready h.stray f.middle f.settled refl might) (orderly_last s t m own added k r row h g) (ready_last s t m old new own added k r row h f) commit disks_last;
+        (middle_safe s t m old new k r before (disks was_content) h.orderly f.ready h.stray f.middle f.settled refl might) (orderly_last s t m own added k r row h g) (ready_last) commit disks_last;
   }

@@ -48,3 +48,5 @@ pub mod ShowLaws
 pub mod RoomLaws
 pub mod InsertLaws
 pub mod ShownLaws
+pub mod MapLaws
+pub mod OperationLaws

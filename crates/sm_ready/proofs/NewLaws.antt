@@ -16,7 +16,6 @@ use Rattle.sm_base.specs.Kinds.{is_entry, is_image}
 use Rattle.sm_base.specs.Names.{IsName, is_base, name_cmp}
 use Rattle.sm_base.specs.declared.names.Name.{Name}
 use Rattle.sm_base.specs.declared.names.Name.TheVariants.{Vhd, Raw}
-use Rattle.sm_base.specs.declared.operations.Op.TheVariants.{Idle}
 use Rattle.vg_meta.specs.Tables.{VolumeTable, Row, rows, names_of}
 use Rattle.vg_meta.specs.Changes.{AreFree, Permits, applied, made, put, tagged}
 use Rattle.vg_meta.specs.declared.changes.Change.TheVariants.{Create, Mark}
@@ -95,7 +94,6 @@ unvolumed s t m n o tidy image none = by (rows t n) refl (o.images n image ∙ a
 pub record IsToMake (s : Site) (t : VolumeTable) (m : Known) (own : Name) (es : List ℕ) (added : TreeRow) (k : ℕ) (r : Record) : Type 0 where
   pub orderly : IsOrderly s t m
   pub tidy : IsTidy t m
-  pub idle : m.op ≡ Idle
   pub proper : IsName own
   pub image : is_image_name own ≡ true
   pub uuid : image_uuid own ≡ r.uuid
@@ -141,7 +139,6 @@ module _ (s : Site) (t : VolumeTable) (m : Known) (own : Name) (es : List ℕ) (
   unfolding is_image_name
   is_new = record {
     no_new = b.tidy.none_new;
-    idle = b.idle;
     allows = allowed;
     image = b.image;
     few = omega (arith, filter-put (λ r. is_image r.name) (made own true es) t.volumes (image_named own b.image), images_counted s t m b.tidy.none_new b.orderly, b.few);
@@ -213,7 +210,6 @@ module _ (s : Site) (t : VolumeTable) (m : Known) (own : Name) (es : List ℕ) (
   made_is = record {
     orderly = orderly_begun;
     no_stray = b.tidy.no_stray;
-    idle = b.idle;
     stray = stray;
     there = there;
     fresh = refl;

@@ -52,6 +52,7 @@ use Rattle.sm_ready.specs.Ready.{IsBelow, IsReady}
 use Rattle.sm_standing.proofs.ImageSectors.{vhd_same, raw_same}
 use Rattle.sm_ready.proofs.LeftLaws.{left_in, links_left, left_now, none_of_vhd, none_of_raw}
 use Rattle.sm_ready.proofs.Orders.{geometry_of, rowed, whole, none_making, none_of, In-tree_row}
+use Rattle.sm_ready.proofs.SoundLaws.{folding_journal}
 use Rattle.sm_ready.proofs.ShapeLaws.{HasNoNew, any_filter, shown_same}
 use Rattle.sm_standing.proofs.DisksShown.{row_of-In}
 use Rattle.sm_ready.specs.Known.{Known, machine_row, shape_in, entry_of, row_face, tree_face, records_in, shown_places}
@@ -289,17 +290,6 @@ no_child s t old m x r n o ready g =
 filter_none : {A : Type 0} (test : A → Bool) (xs : List A) → ((x : A) → In x xs → test x ≡ false) → filter test xs ≡ []
 filter_none test [] none = refl
 filter_none test (x ∷ xs) none = ap (λ b. cond b (x ∷ filter test xs) (filter test xs)) (none x (inl refl)) ∙ filter_none test xs (λ y i. none y (inr i))
-
-folding_journal : (n : Name) → is_folding n ≡ true → is_entry n ≡ true
-folding_journal Mgt e = absurd (true≢false (sym e))
-folding_journal (Vhd u) e = absurd (true≢false (sym e))
-folding_journal (Raw u) e = absurd (true≢false (sym e))
-folding_journal (Old u) e = absurd (true≢false (sym e))
-folding_journal (Clone d b w) e = refl
-folding_journal (Inflate u k) e = refl
-folding_journal (Coalesce v p) e = refl
-folding_journal (Relink v p) e = refl
-folding_journal (Leaf l p) e = refl
 
 pub none_folding : (s : Site) (t : VolumeTable) (m : Known) → IsOrderly s t m → m.op ≡ op.Idle → folding t ≡ []
 none_folding s t m o idle = none_of (folding t) (λ n i.

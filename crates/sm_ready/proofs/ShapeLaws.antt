@@ -317,7 +317,7 @@ no_extents r (Coalesce c p) v none other old = no_length r v
 no_extents r (Relink c p) v none other old = no_length r v
 no_extents r (Leaf l p) v none other old = no_length r v
 
-sum-cons : (f : Row → ℕ) (r : Row) (rs : List Row) → sum (map f (r ∷ rs)) ≡ f r + sum (map f rs)
+pub sum-cons : (f : Row → ℕ) (r : Row) (rs : List Row) → sum (map f (r ∷ rs)) ≡ f r + sum (map f rs)
 sum-cons f r rs = sum-map f (r ∷ rs) ∙ sum_by-cons f r rs ∙ ap (λ n. f r + n) (sym (sum-map f rs))
 
 mgt_or_not : (n : Name) → (n ≡ Mgt) ⊎ (n ≢ Mgt)

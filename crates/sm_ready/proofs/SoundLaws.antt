@@ -131,7 +131,7 @@ other_linked c (Coalesce a b) e = absurd (true≢false e)
 other_linked c (Relink a b) e = absurd (true≢false e)
 other_linked c (Leaf a b) e = absurd (true≢false e)
 
-folding_journal : (n : Name) → is_folding n ≡ true → is_entry n ≡ true
+pub folding_journal : (n : Name) → is_folding n ≡ true → is_entry n ≡ true
 folding_journal Mgt e = absurd (true≢false (sym e))
 folding_journal (Vhd u) e = absurd (true≢false (sym e))
 folding_journal (Raw u) e = absurd (true≢false (sym e))

@@ -1,5 +1,5 @@
 -- Records of no disk are wiped: memory stays orderly, each left image is kept and shows the disks from before.
-use Rattle.std.proofs.Common.{◌≡◌, ◌⊎◌, inl, inr, ⊎_elim, ℕ, zero, suc, ◌+◌, ◌<◌, ◌≤◌, ◌||◌, not, Bool, true, false, cond, List, [], ◌∷◌, length, get_or, Option, Some, None, is_some, refl, sym, ap, ◌∙◌, subst, arith}
+use Rattle.std.proofs.Common.{◌≡◌, ◌⊎◌, inl, inr, ⊎_elim, ℕ, zero, suc, ◌+◌, ◌<◌, ◌≤◌, not, Bool, true, false, cond, List, [], ◌∷◌, length, get_or, Option, Some, None, is_some, refl, sym, ap, ◌∙◌, subst, arith}
 use Rattle.std.specs.List.{filter, filter_map, cons_option}
 use Rattle.std.proofs.Math.Path.{fun_ext}
 use Rattle.std.proofs.Math.Logic.{∥∥₁_map, ∥∥₁_elim}
@@ -7,7 +7,6 @@ use Rattle.std.proofs.Props.{props}
 use Rattle.std.proofs.lemmas.Bool.{true≢false, false_from_ne_true, and_parts, cases_lt}
 use Rattle.std.proofs.lemmas.Option.{slice_get-get_or}
 use Rattle.std.proofs.lemmas.Slice.Eq.{bytes_eq-Decides}
-use Rattle.std.specs.List.{list_any}
 use Rattle.std.specs.Str.{bytes_eq}
 use Rattle.sm_base.specs.declared.names.Name.{Name}
 use Rattle.sm_base.specs.declared.names.Name.TheVariants.{Mgt}
@@ -42,17 +41,10 @@ use Rattle.sm_ready.specs.Stores.{content_in, content_now}
 use Rattle.sm_ready.proofs.AlikeLaws.{sectors_same}
 use Rattle.sm_ready.proofs.KeptLaws.{law_kept}
 use Rattle.sm_ready.proofs.LeftLaws.{IsLeft, IsLeftIn, left_volume, image_quiet, place_reads, mgt_long}
+use Rattle.sm_ready.proofs.OnceLaws.{any_In}
 use Rattle.sm_ready.proofs.ShapeLaws.{as_taken, content_records, law_shape, standing_shown, stands_now}
 
 -- ---- which records are stray
-
-any_some : {A : Type 0} (test : A → Bool) (xs : List A) → list_any test xs ≡ true → (x : A) × In x xs × (test x ≡ true)
-any_some test [] h = absurd (true≢false (sym h))
-any_some {A} test (x ∷ xs) h = by (λ e. any_some test xs e) (test x) refl h
-  where
-    by : (list_any test xs ≡ true → (y : A) × In y xs × (test y ≡ true)) → (b : Bool) → test x ≡ b → (b || list_any test xs) ≡ true → (y : A) × In y (x ∷ xs) × (test y ≡ true)
-    by rest true is e = (x, inl refl, is)
-    by rest false is e = let w = rest e in (w.0, inr w.1, w.2)
 
 -- the row of a visible image
 pub record IsVisible (xs : List TreeRow) (u : List ℕ) : Type 0 where
@@ -63,7 +55,7 @@ pub record IsVisible (xs : List TreeRow) (u : List ℕ) : Type 0 where
 
 pub visible_of : (xs : List TreeRow) (u : List ℕ) → is_shown xs u ≡ true → IsVisible xs u
 visible_of xs u h =
-    let w = any_some (λ r. is_image_of u (machine_row r)) xs h in
+    let w = any_In (λ r. is_image_of u (machine_row r)) xs h in
     let p = and_parts (not w.0.hidden) (bytes_eq (image_uuid (row_name w.0)) u) w.2 in
     record { row = w.0; there = w.1; shown = shown_of w.0.hidden p.0; uuid = (bytes_eq-Decides (image_uuid (row_name w.0)) u).0 p.1 }
   where

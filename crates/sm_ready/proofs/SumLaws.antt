@@ -5,7 +5,7 @@ use Rattle.std.proofs.Props.{props}
 use Rattle.std.specs.List.{AllByRecursion, filter_map, cons_option, sum}
 use Rattle.std.specs.declared.cmp.Ordering.TheVariants.{Less}
 use Rattle.std.proofs.lemmas.Bool.{true≢false, lt-ltb}
-use Rattle.std.proofs.lemmas.List.Sums.{sum-map, sum_by-cons}
+use Rattle.std.proofs.lemmas.List.Sums.{sum_by-cons}
 use Rattle.std.proofs.lemmas.Option.{none-some, same_Some}
 use Rattle.sm_base.specs.Kinds.{is_image}
 use Rattle.sm_base.specs.Names.{IsName, name_cmp}
@@ -29,7 +29,7 @@ use Rattle.vhd_chain.specs.declared.rows.TreeRow.{TreeRow}
 use Rattle.sm_ready.specs.Known.{Known, machine_row, shape_in}
 use Rattle.sm_ready.specs.Orderly.{IsOrderly}
 use Rattle.sm_ready.proofs.Orders.{rowed, named_row}
-use Rattle.sm_ready.proofs.ShapeLaws.{HasNoNew, row_cmp, image_cmp, rising_rows, image_total, rising_images, sum_mgt, no_extents}
+use Rattle.sm_ready.proofs.ShapeLaws.{HasNoNew, row_cmp, image_cmp, rising_rows, image_total, rising_images, sum-cons, sum_mgt, no_extents}
 use Rattle.sm_ready.proofs.RowLaws.{tree_found, found_in, volume_there, image_named, All-In}
 
 -- an image's row with nothing but its name and its number of extents
@@ -136,9 +136,6 @@ extents-blank : (xs : List ImageRow) → image_extents (map blank xs) ≡ image_
 unfolding image_extents
 extents-blank [] = refl
 extents-blank (x ∷ xs) = ap (λ n. x.extents + n) (extents-blank xs)
-
-sum-cons : (f : Row → ℕ) (r : Row) (rs : List Row) → sum (map f (r ∷ rs)) ≡ f r + sum (map f rs)
-sum-cons f r rs = sum-map f (r ∷ rs) ∙ sum_by-cons f r rs ∙ ap (λ n. f r + n) (sym (sum-map f rs))
 
 -- the extents of all volumes are those of images and those of the others
 extents_split : (rs : List Row) → length (extents_in rs) ≡ sum (map other_of rs) + image_extents (filter_map sized_of rs)

@@ -19,15 +19,15 @@
 //!
 //! For an opening, whatever kind its images have: the rows that are read off a table (`LoadLaws`) and the places of the
 //! records make memory that is orderly (`BegunLaws`); it is at rest again behind each repair (`AgainLaws`), where a volume
-//! that is new goes (`NewVolumeLaws`) and where a record of no disk is wiped (`WipeLaws`); the table is then the one from before
-//! without its new volumes (`CleanLaws`), and the shape the one that an opening is to make (`OpenedLaws`).
+//! that is new goes (`NewVolumeLaws`) and where a record of no disk is wiped (`WipeLaws`); the table is then the one from
+//! before without its new volumes (`CleanLaws`), and the shape the one that an opening is to make (`OpenedLaws`).
 //!
 //! **What a command cites.** Why it is refused, by table and memory, and what is known where it is not (`RefusalLaws`); what
 //! was taken, whether it was refused, answered, accepted or stopped (`TakenLaws`); what a stop leaves in a chain of calls of
 //! the store (`ChainLaws`), and what it shows at rest (`ShowLaws`); an image and its disk's record made in two commits
-//! (`NewLaws`, `MakingLaws`); room for rows (`RoomLaws`, `RowRoomLaws`); what is asked of the visible image of a UUID (`ShownLaws`); a list in order with one element more (`InsertLaws`).
-//!
-//! While an image is being enlarged a kept content stays kept, with the same disks (`EnlargedLaws`).
+//! (`NewLaws`, `MakingLaws`), whatever is attached and whatever operation runs (`OperationLaws`); an image that is being
+//! enlarged (`EnlargedLaws`); the machine's tables as maps of images (`MapLaws`); room for rows (`RoomLaws`, `RowRoomLaws`);
+//! what is asked of the visible image of a UUID (`ShownLaws`); a list in order with one element more (`InsertLaws`).
 //!
 //! The definitions are in `specs/`: `Known` (what is in memory, and its shape), `Outlined` (its outline), `Orderly` and `Ready`
 //! (the two invariants), `Shown` (the visible image of a UUID), `Stores` (the content of a store), `Done` (what a call of a step

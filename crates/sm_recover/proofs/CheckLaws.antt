@@ -1,10 +1,10 @@
 -- The checks by the table: what is found among the volumes in memory is what the checks name.
 use Rattle.std.proofs.Common.{◌≡◌, ℕ, inl, inr, Bool, true, false, cond, not, ◌&&◌, List, [], ◌∷◌, length, Option, Some, None, refl, sym, ap, ap₂, ◌∙◌, arith, nat_lt}
-use Rattle.std.specs.List.{AllByRecursion, filter, find}
+use Rattle.std.specs.List.{filter, find}
 use Rattle.sm_base.specs.declared.faults.Place.{Place}
 use Rattle.sm_base.specs.declared.faults.Place.TheVariants as at
 use Rattle.sm_base.specs.declared.names.Name.{Name}
-use Rattle.sm_base.specs.declared.names.Name.TheVariants.{Mgt, Vhd, Raw, Old}
+use Rattle.sm_base.specs.declared.names.Name.TheVariants.{Mgt, Raw}
 use Rattle.sm_base.specs.declared.sizes.Geometry.{Geometry}
 use Rattle.vg_meta.specs.Tables.{VolumeTable, Row, rows}
 use Rattle.sm_base.specs.Kinds.{is_image as is_data, is_entry}
@@ -12,10 +12,11 @@ use Rattle.vg_meta.specs.Roomy.{RoomyTable, RoomyRow, table_alone, rows_alone}
 use Rattle.common_laws.specs.Lists.{In, given, first_some}
 use Rattle.sm_machine.specs.Shapes.{image_limit}
 use Rattle.sm_standing.specs.Plain.{is_plain, is_plain_name, IsPlain}
-use Rattle.sm_standing.specs.Checks.{first_name, name_in, placed, has_records, record_volume_fault, images, too_many_fault, is_ahead, is_image_ahead, entry_ahead_fault, image_ahead_fault, is_invalid, is_image_wrong, is_oversize, invalid_fault}
+use Rattle.sm_standing.specs.Checks.{first_name, name_in, placed, has_records, record_volume_fault, images, too_many_fault, is_image_ahead, entry_ahead_fault, image_ahead_fault, is_invalid, is_image_wrong, is_oversize, invalid_fault}
 use Rattle.sm_standing.specs.Outlines.{Outline}
+use Rattle.sm_standing.proofs.FaultLaws.{named_none}
 use Rattle.sm_standing.proofs.PlainDisks.{all-In}
-use Rattle.common_laws.proofs.Lists.{none_find}
+use Rattle.sm_standing.proofs.PlainKept.{all-of, journal_or_image}
 use Rattle.sm_recover.specs.Faults.{HasTable, is_raw, is_sized_wrong}
 
 -- ---- the first of the volumes in memory
@@ -84,30 +85,11 @@ too_many_at x k is held count =
 
 -- ---- what is known where they pass
 
-named_step : (place : Name → Place) (o : Option Row) → placed place (name_in o) ≡ None → o ≡ None
-named_step place None h = refl
-named_step place (Some r) h = absurd (let e = h in cc)
-
-pub named_none : (place : Name → Place) (test : Row → Bool) (rs : List Row) → placed place (first_name test rs) ≡ None → (r : Row) → In r rs → test r ≡ false
-unfolding first_name
-named_none place test rs h = none_find test rs (named_step place (find test rs) h)
-
-plain_at : (hidden : Bool) (n : Name) → is_entry n ≡ false → is_ahead hidden n ≡ false → is_plain_name hidden n ≡ true
-plain_at hidden Mgt j h = refl
-plain_at hidden (Raw u) j h = ap not h
-plain_at hidden (Vhd u) j h = absurd (let e = h in cc)
-plain_at hidden (Old u) j h = absurd (let e = h in cc)
-plain_at hidden _ j h = absurd (let e = j in cc)
-
-all-each : (P : Row → Type 0) (rs : List Row) → ((r : Row) → In r rs → P r) → AllByRecursion P rs
-all-each P [] each = tt
-all-each P (r ∷ rs) each = (each r (inl refl), all-each P rs (λ s h. each s (inr h)))
-
 -- without entries, and with visible raw images alone, the table is plain
 pub plain_from : (x : Outline) → entry_ahead_fault x ≡ None → image_ahead_fault x ≡ None → IsPlain x.table
 unfolding entry_ahead_fault image_ahead_fault
-plain_from x no_entry none_ahead = all-each (λ r. is_plain r ≡ true) x.table.volumes (λ r k.
-    plain_at r.hidden r.name (named_none at.Journal (λ r. is_entry r.name) x.table.volumes no_entry r k) (named_none at.Image is_image_ahead x.table.volumes none_ahead r k))
+plain_from x no_entry none_ahead = all-of (λ r. is_plain r ≡ true) x.table.volumes (λ r k.
+    journal_or_image r.hidden r.name (named_none at.Journal (λ r. is_entry r.name) x.table.volumes no_entry r k) (named_none at.Image is_image_ahead x.table.volumes none_ahead r k))
 
 pub only : {A : Type 0} (o : Option A) → first_some (o ∷ []) ≡ o
 only None = refl

@@ -18,7 +18,7 @@ use Rattle.sm_machine.specs.WellFormed.{IsImageRow, EndsWithin, is_image_name, t
 use Rattle.sm_record.specs.declared.records.Record.{Record}
 use Rattle.sm_mgt.specs.Places.{Agrees, records_held, as_reading, is_of, place_count}
 use Rattle.sm_refs.specs.Attached.{Attached}
-use Rattle.sm_standing.specs.Checks.{is_misnamed, misnamed_fault, is_invalid, is_image_wrong, invalid_fault, is_oversize, is_unrecorded, disk_place, disk_uuids, disk_fault, faults_today, fault_today_of}
+use Rattle.sm_standing.specs.Checks.{is_misnamed, misnamed_fault, is_invalid, is_image_wrong, invalid_fault, is_oversize, is_unrecorded, disk_uuids, disk_fault, faults_today, fault_today_of}
 use Rattle.sm_standing.specs.Outlines.{Outline}
 use Rattle.sm_standing.specs.Plain.{is_plain, is_plain_name}
 use Rattle.sm_standing.specs.Standing.{standing_volume, uuids}
@@ -35,7 +35,8 @@ use Rattle.sm_ready.specs.Outlined.{outline_in}
 use Rattle.sm_ready.proofs.RowLaws.{found_in}
 use Rattle.sm_recover.specs.Faults.{HasPlaces, HasTable}
 use Rattle.sm_recover.specs.Repairs.{IsChecked}
-use Rattle.sm_recover.proofs.CheckLaws.{named_none}
+use Rattle.sm_standing.proofs.FaultLaws.{named_none}
+use Rattle.sm_standing.proofs.PlainKept.{disk_none}
 use Rattle.sm_recover.proofs.DiskLaws.{records_counted}
 use Rattle.sm_ready.proofs.NewVolumeLaws.{not_records}
 use Rattle.common_laws.proofs.Options.{is_some-parts}
@@ -63,10 +64,6 @@ some_extents r u right named =
     (subst (λ n. suits (record { name = n; hidden = r.hidden; fresh = r.fresh; extents = r.extents }) ≡ true) named right)
 
 -- ---- what the checks say
-
-no_place : (o : Option (List ℕ)) → disk_place o ≡ None → o ≡ None
-no_place None h = refl
-no_place (Some u) h = absurd (none-some (at.Disk u) (sym h))
 
 plain_image : (hidden : Bool) (n : Name) → is_plain_name hidden n ≡ true → n ≢ Mgt → is_image_name n ≡ true
 unfolding is_image_name
@@ -105,7 +102,7 @@ module _ {s : Site} {t : VolumeTable} {places : List (Option Record)} (c : IsChe
       let n = is_some-parts (standing_volume t u) stands in
       let listed = filter-In (λ v. is_some (standing_volume t v)) (uuids t) u (stands_listed t u n.0 n.1) stands in
       length-filter (is_of u) places ∙ sym (records_counted seen places u has)
-      ∙ eqb-true _ 1 (not_false _ (none_find (is_unrecorded seen) (disk_uuids seen) (no_place _ (none (disk_fault seen) (inr (inr (inr (inr (inr (inr (inr (inl refl)))))))))) u listed))
+      ∙ eqb-true _ 1 (not_false _ (none_find (is_unrecorded seen) (disk_uuids seen) (disk_none _ (none (disk_fault seen) (inr (inr (inr (inr (inr (inr (inr (inl refl)))))))))) u listed))
 
   -- ---- each row
 

@@ -16,7 +16,7 @@ use Rattle.vg_layout.specs.Places.{record_extents}
 use Rattle.vg_meta.specs.Tables.{VolumeTable, Row, IsTable, rows, extents_of}
 use Rattle.vg_meta.specs.Roomy.{RoomyTable, table_alone}
 use Rattle.vg_volumes.specs.Sites.{Site, size_of}
-use Rattle.common_laws.specs.Lists.{first_some, numbers, given}
+use Rattle.common_laws.specs.Lists.{first_some, numbers}
 use Rattle.sm_record.specs.declared.records.Record.{Record}
 use Rattle.sm_record.specs.declared.records.Reading.{Reading}
 use Rattle.sm_record.specs.declared.records.Reading.TheVariants.{Free, Taken, Damaged}
@@ -30,6 +30,7 @@ use Rattle.common_laws.proofs.Lists.{none_first, find_none, In-numbers}
 use Rattle.sm_ready.specs.Stores.{content_in, content_now}
 use Rattle.sm_recover.specs.Faults.{HasTable, HasPlaces, table_faults}
 use Rattle.sm_recover.specs.Repairs.{IsChecked, IsOpeningStopped}
+use Rattle.sm_standing.proofs.FaultLaws.{none_given}
 use Rattle.sm_recover.proofs.CheckLaws.{only, plain_from}
 use Rattle.common_laws.proofs.Booleans.{not_false}
 use Rattle.sm_ready.proofs.LeftLaws.{now_sector}
@@ -82,10 +83,6 @@ has_table s t image = record { extent = refl; block = refl; entries = refl; tabl
 -- that is what the checks by the table say
 abbrev pub TablesSay : Site → VolumeTable → Option Place → Type 0
 TablesSay s t o = (x : Outline) → HasTable s.geometry t x → first_some (table_faults x) ≡ o
-
-none_given : (b : Bool) (p : Place) → given b p ≡ None → b ≡ false
-none_given true p h = absurd (let e = h in cc)
-none_given false p h = refl
 
 records_long : (x : Outline) (o : Option Row) → not (has_records x o) ≡ false → length (extents_of o) ≡ record_extents x.extent
 records_long x None h = absurd (let e = h in cc)

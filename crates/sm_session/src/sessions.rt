@@ -12,7 +12,7 @@ ghost use Rattle.sm_ready.specs.Known.{known, shape_in};
 ghost use Rattle.sm_ready.specs.Orderly.{IsOrderly};
 ghost use Rattle.sm_ready.specs.Proper.{IsOrderly-prop, IsTidy-prop};
 ghost use Rattle.sm_ready.specs.Ready.{IsTidy};
-ghost use Rattle.sm_ready.specs.Sessions.{HasRows, HasTreeRoom, IsAtEase, IsReadyStore, KeepsAll, store_state};
+ghost use Rattle.sm_ready.specs.Sessions.{HasRows, HasTreeRoom, IsReadyStore, KeepsAll, store_state};
 ghost use Rattle.sm_ready.specs.Stores.{MayShow, StoreLeaves, content_in, store_content};
 ghost use Rattle.sm_run.specs.Runs.{BeginsSettled};
 ghost use Rattle.sm_standing.specs.Checks.{first_fault_today};
@@ -35,11 +35,10 @@ pub struct Session<S: Store> {
     memory: Memory,
     broken: bool,
     now: u32,
-    // While no step has failed, table and memory are as they are between two steps, nothing is attached and the collector
-    // does nothing, commits may be made, and table and tree may come to have all their rows without memory for them.
+    // While no step has failed, table and memory are as they are between two steps, commits may be made, and table and tree
+    // may come to have all their rows without memory for them.
     ghost orderly: { broken ≡ false → IsOrderly (S.site store) (table_alone (S.table store)) (known memory) } by { Prim.hlevel (props, IsOrderly-prop) },
     ghost tidy: { broken ≡ false → IsTidy (table_alone (S.table store)) (known memory) } by { Prim.hlevel (props, IsTidy-prop) },
-    ghost at_ease: { broken ≡ false → IsAtEase memory } by { Prim.hlevel props },
     ghost tree_room: { broken ≡ false → HasTreeRoom memory },
     ghost usable: { broken ≡ false → S.failed store ≡ false },
     ghost room: { broken ≡ false → HasRows (S.table store) },

@@ -34,7 +34,7 @@ index_numbers a zero j below = absurd (omega arith)
 index_numbers a (suc n) zero below = omega arith
 index_numbers a (suc n) (suc j) below = index_numbers (a + 1) n j (omega arith) ∙ omega arith
 
-spot_numbers : (a n s : ℕ) → s < 32 * n → spot 32 (numbers a n) s ≡ 32 * a + s
+pub spot_numbers : (a n s : ℕ) → s < 32 * n → spot 32 (numbers a n) s ≡ 32 * a + s
 unfolding spot
 spot_numbers a n s below = let e = index_numbers a n (s / 32) (omega arith) in omega (arith, e)
 

@@ -1,6 +1,6 @@
 -- The list of disks is determined by the disk of each UUID.
 pub use Rattle.common_laws.proofs.Bytes.{same_or_not}
-use Rattle.std.proofs.Common.{◌≡◌, ◌≢◌, ℕ, ◌⊎◌, inl, inr, Bool, true, false, cond, List, [], ◌∷◌, Option, Some, None, refl, sym, ap, ◌∙◌, subst, bytes_eq}
+use Rattle.std.proofs.Common.{◌≡◌, ◌≢◌, ℕ, ◌⊎◌, inl, inr, Bool, true, false, cond, List, [], ◌∷◌, Option, Some, None, refl, sym, ap, ◌∙◌, subst}
 use Rattle.std.specs.declared.cmp.Ordering.TheVariants.{Less, Equal}
 use Rattle.std.specs.Ordering.{is_lt}
 use Rattle.std.proofs.lemmas.Map.Lookups.{exact_bytes}
@@ -73,10 +73,6 @@ pub disks_same : (a b : Content) → ((u : List ℕ) → disk_at b u ≡ disk_at
 disks_same a b same = rising_ext disk_cmp disk_cmp_total (disks b) (disks a) (rising-disks b) (rising-disks a)
     (λ d h. at_disks a d.uuid d (sym (same d.uuid) ∙ disks_at b d h))
     (λ d h. at_disks b d.uuid d (same d.uuid ∙ disks_at a d h))
-
-decided : (u v : List ℕ) (b : Bool) → bytes_eq u v ≡ b → (u ≡ v) ⊎ (u ≢ v)
-decided u v true is = inl ((bytes_eq-Decides u v).0 is)
-decided u v false is = inr (λ at. let e = (bytes_eq-Decides u v).1 at in cc)
 
 -- where one UUID that was no disk is this disk, and each other is the same, the disks are one more
 pub disks_more : (a b : Content) (d : Disk) → disk_at a d.uuid ≡ None → disk_at b d.uuid ≡ Some d

@@ -12,3 +12,5 @@ pub mod FaultLaws
 pub mod OutlineLaws
 pub mod ImageSectors
 pub mod EnlargingLaws
+pub mod DiskChanges
+pub mod BesideLaws

@@ -124,14 +124,14 @@ plain_kept c s = record {
 
 -- ---- from today's checks to the facts
 
-journal_or_image : (hidden : Bool) (n : Name) → is_entry n ≡ false → is_ahead hidden n ≡ false → is_plain_name hidden n ≡ true
+pub journal_or_image : (hidden : Bool) (n : Name) → is_entry n ≡ false → is_ahead hidden n ≡ false → is_plain_name hidden n ≡ true
 journal_or_image hidden Mgt j h = refl
 journal_or_image hidden (Raw u) j h = ap not h
 journal_or_image hidden (Vhd u) j h = absurd (let e = h in cc)
 journal_or_image hidden (Old u) j h = absurd (let e = h in cc)
 journal_or_image hidden _ j h = absurd (let e = j in cc)
 
-all-of : (P : Row → Type 0) (rs : List Row) → ((r : Row) → In r rs → P r) → AllByRecursion P rs
+pub all-of : (P : Row → Type 0) (rs : List Row) → ((r : Row) → In r rs → P r) → AllByRecursion P rs
 all-of P [] each = tt
 all-of P (r ∷ rs) each = (each r (inl refl), all-of P rs (λ s h. each s (inr h)))
 
@@ -154,7 +154,7 @@ record_none : (o : Option ℕ) → record_place o ≡ None → o ≡ None
 record_none None h = refl
 record_none (Some k) h = absurd (let e = h in cc)
 
-disk_none : (o : Option (List ℕ)) → disk_place o ≡ None → o ≡ None
+pub disk_none : (o : Option (List ℕ)) → disk_place o ≡ None → o ≡ None
 disk_none None h = refl
 disk_none (Some k) h = absurd (let e = h in cc)
 

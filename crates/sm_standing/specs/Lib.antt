@@ -19,3 +19,4 @@ pub mod Worlds
 pub mod Apart
 pub mod Volumes
 pub mod Enlarging
+pub mod Besides

@@ -5,6 +5,7 @@ ghost use Rattle.sm_base.specs.declared.faults.Place.{Place};
 ghost use Rattle.sm_base.specs.declared.names.Name.TheVariants.{Vhd};
 ghost use Rattle.common_laws.specs.Lists.{In};
 ghost use Rattle.vg_meta.specs.Tables.{Row, VolumeTable};
+ghost use Rattle.sm_standing.specs.Besides.{IsBeside};
 ghost use Rattle.sm_standing.specs.Checks.{all_faults, fault_of, first_fault, is_linked, chain_length, is_tree_wrong};
 ghost use Rattle.sm_standing.specs.Contents.{Content};
 ghost use Rattle.sm_standing.specs.Enlarging.{IsEnlarging};
@@ -36,4 +37,10 @@ pub fn law_enlarging()
     ensures sound { (o : Outline) (t : VolumeTable) (u : List ℕ) (extents : ℕ) → IsEnlarging o t u extents → fault_of o ≡ None → fault_of (record o { table = t }) ≡ None }
     ensures stands { (o : Outline) (t : VolumeTable) (u v : List ℕ) (extents : ℕ) → IsEnlarging o t u extents → standing_volume t v ≡ standing_volume o.table v }
     ensures uuids { (o : Outline) (t : VolumeTable) (u : List ℕ) (extents : ℕ) → IsEnlarging o t u extents → uuids t ≡ uuids o.table }
+{}
+
+/// Where whatever speaks of none of some UUIDs is as it was, and each volume that speaks of one passes by itself, no check
+/// fails.
+pub fn law_beside()
+    ensures { (a b : Outline) (us : List (List ℕ)) → IsBeside a b us → fault_of a ≡ None → fault_of b ≡ None }
 {}

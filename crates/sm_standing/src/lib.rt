@@ -30,11 +30,14 @@ mod worlds;
 pub use chains::{
     law_copy_below, law_guest_write, law_no_parent, law_relink, law_rename, law_walk,
 };
-pub use faults::{law_first_fault, law_longest_chain, law_outline};
+pub use faults::{law_beside, law_enlarging, law_first_fault, law_longest_chain, law_outline};
 pub use images::{
     law_chain_kept, law_chain_length, law_copied, law_moved, law_no_image, law_raised, law_read,
     law_removed, law_short_chain,
 };
-pub use listing::{law_disk, law_disks_follow, law_disks_in_order, law_one_disk_more};
+pub use listing::{
+    law_disk, law_disks_follow, law_disks_in_order, law_one_disk_changed, law_one_disk_less,
+    law_one_disk_more,
+};
 pub use raw::{law_plain_kept, law_today};
 pub use worlds::{law_commit, law_other_choices, law_other_volumes};

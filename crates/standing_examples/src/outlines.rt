@@ -1,7 +1,8 @@
 //! What a guest writes is no part of an outline; and an image that is being enlarged.
 
-ghost use Rattle.std.specs.Prelude.{◌≡◌, ◌<◌, ℕ, List, None, Some};
+ghost use Rattle.std.specs.Prelude.{◌≡◌, ◌∷◌, ◌<◌, ℕ, [], List, None, Some};
 ghost use Rattle.sm_base.specs.declared.names.Name.TheVariants.{Vhd};
+ghost use Rattle.sm_standing.specs.Besides.{IsBeside};
 ghost use Rattle.sm_standing.specs.Checks.{fault_of, first_fault};
 ghost use Rattle.sm_standing.specs.Enlarging.{IsEnlarging};
 ghost use Rattle.sm_standing.specs.Outlines.{outline};
@@ -22,4 +23,5 @@ pub fn example_enlarging()
     ensures before { fault_of thin_outline ≡ None }
     ensures sound { fault_of (record thin_outline { table = enlarging_table }) ≡ None }
     ensures stands { standing_volume enlarging_table one ≡ Some (Vhd one) }
+    ensures beside { IsBeside thin_outline (record thin_outline { table = enlarging_table }) (one ∷ []) }
 {}

@@ -31,20 +31,20 @@ overflow_mul-sectors g c =
     omega (arith, mul-le-mul most wide)
 
 pub begin-requires : goal.begin-requires
-begin-requires g c = let r = c.requires in can_begin (makes g.S.Store c.args.store.now c.args.memory.now c.args.entry c.args.extents.items r.orderly r.tidy r.at_ease r.disk r.proper r.plain r.place r.usable) r.row
+begin-requires g c = let r = c.requires in can_begin (makes g.S.Store c.args.store.now c.args.memory.now c.args.entry c.args.extents.items r.orderly r.tidy r.disk r.proper r.plain r.place r.usable) r.row
 
 pub returns-in_err-begin-clause-done : goal.returns-in_err-begin-clause-done
 returns-in_err-begin-clause-done g c = λ told ready.
     let r = c.requires in
-    begin_failed (makes g.S.Store c.args.store.now c.args.memory.now c.args.entry c.args.extents.items r.orderly r.tidy r.at_ease r.disk r.proper r.plain r.place r.usable) told ready _ _ _ (λ fine. err_not_ok _ tt c.from_residual.ensures.0 fine) c.in_err-begin.ensures.fails (c.begin.ensures.crash told)
+    begin_failed (makes g.S.Store c.args.store.now c.args.memory.now c.args.entry c.args.extents.items r.orderly r.tidy r.disk r.proper r.plain r.place r.usable) told ready _ _ _ (λ fine. err_not_ok _ tt c.from_residual.ensures.0 fine) c.in_err-begin.ensures.fails (c.begin.ensures.crash told)
 
 pub fill_disk-requires-clause-orderly : goal.fill_disk-requires-clause-orderly
-fill_disk-requires-clause-orderly g c = let r = c.requires in next_orderly (makes g.S.Store c.args.store.now c.args.memory.now c.args.entry c.args.extents.items r.orderly r.tidy r.at_ease r.disk r.proper r.plain r.place r.usable) c.in_ok-begin.ensures.commits
+fill_disk-requires-clause-orderly g c = let r = c.requires in next_orderly (makes g.S.Store c.args.store.now c.args.memory.now c.args.entry c.args.extents.items r.orderly r.tidy r.disk r.proper r.plain r.place r.usable) c.in_ok-begin.ensures.commits
 
 pub fill_disk-requires-clause-new : goal.fill_disk-requires-clause-new
 fill_disk-requires-clause-new g c =
     let r = c.requires in
-    record { row = _; there = next_there (makes g.S.Store c.args.store.now c.args.memory.now c.args.entry c.args.extents.items r.orderly r.tidy r.at_ease r.disk r.proper r.plain r.place r.usable) c.in_ok-begin.ensures.commits; fresh = refl; visible = refl; long = omega (arith, c.len-count.ensures, c.args.extents.ok.0) }
+    record { row = _; there = next_there (makes g.S.Store c.args.store.now c.args.memory.now c.args.entry c.args.extents.items r.orderly r.tidy r.disk r.proper r.plain r.place r.usable) c.in_ok-begin.ensures.commits; fresh = refl; visible = refl; long = omega (arith, c.len-count.ensures, c.args.extents.ok.0) }
 
 pub fill_disk-requires-clause-few : goal.fill_disk-requires-clause-few
 fill_disk-requires-clause-few g c =
@@ -59,11 +59,11 @@ returns-in_err-fill_disk-clause-done g c = λ told ready.
     let r = c.requires in
     let m = c.in_ok-begin.ensures.commits in
     let stays = c.fill_disk.ensures.stays in
-    fill_failed (makes g.S.Store c.args.store.now c.args.memory.now c.args.entry c.args.extents.items r.orderly r.tidy r.at_ease r.disk r.proper r.plain r.place r.usable) told ready m (c.begin.ensures.crash told) stays (c.fill_disk.ensures.middle told) _ _ _
+    fill_failed (makes g.S.Store c.args.store.now c.args.memory.now c.args.entry c.args.extents.items r.orderly r.tidy r.disk r.proper r.plain r.place r.usable) told ready m (c.begin.ensures.crash told) stays (c.fill_disk.ensures.middle told) _ _ _
     (λ fine. err_not_ok _ tt c.from_residual-in_err-fill_disk.ensures.0 fine) (g.met.S.Store.leaves_now c.fill_disk.new.store told (stays.failed ∙ m.usable))
 
 pub end-requires : goal.end-requires
-end-requires g c = let r = c.requires in can_end (makes g.S.Store c.args.store.now c.args.memory.now c.args.entry c.args.extents.items r.orderly r.tidy r.at_ease r.disk r.proper r.plain r.place r.usable) c.in_ok-begin.ensures.commits c.fill_disk.ensures.stays
+end-requires g c = let r = c.requires in can_end (makes g.S.Store c.args.store.now c.args.memory.now c.args.entry c.args.extents.items r.orderly r.tidy r.disk r.proper r.plain r.place r.usable) c.in_ok-begin.ensures.commits c.fill_disk.ensures.stays
 
 pub returns-in_err-end-clause-beside : goal.returns-in_err-end-clause-beside
 returns-in_err-end-clause-beside g c = λ told.
@@ -72,7 +72,7 @@ returns-in_err-end-clause-beside g c = λ told.
 pub returns-in_err-end-clause-done : goal.returns-in_err-end-clause-done
 returns-in_err-end-clause-done g c = λ told ready.
     let r = c.requires in
-    let b = makes g.S.Store c.args.store.now c.args.memory.now c.args.entry c.args.extents.items r.orderly r.tidy r.at_ease r.disk r.proper r.plain r.place r.usable in
+    let b = makes g.S.Store c.args.store.now c.args.memory.now c.args.entry c.args.extents.items r.orderly r.tidy r.disk r.proper r.plain r.place r.usable in
     let filled = c.in_ok-fill_disk.ensures.filled told in
     end_failed b told ready c.in_ok-begin.ensures.commits (c.begin.ensures.crash told) c.fill_disk.ensures.stays (c.fill_disk.ensures.middle told) filled.records refl _ (disk_is b r.plain c.in_ok-begin.ensures.commits filled)
     _ _ (λ fine. err_not_ok _ tt c.from_residual-in_err-end.ensures.0 fine) c.in_err-end.ensures.fails (c.end.ensures.crash told)
@@ -80,19 +80,19 @@ returns-in_err-end-clause-done g c = λ told ready.
 pub add_image-requires-clause-room : goal.add_image-requires-clause-room
 add_image-requires-clause-room g c =
     let r = c.requires in
-    let few = (makes g.S.Store c.args.store.now c.args.memory.now c.args.entry c.args.extents.items r.orderly r.tidy r.at_ease r.disk r.proper r.plain r.place r.usable).begins.few in
+    let few = (makes g.S.Store c.args.store.now c.args.memory.now c.args.entry c.args.extents.items r.orderly r.tidy r.disk r.proper r.plain r.place r.usable).begins.few in
     subst (λ (t : Tree). 0 < t.spare) (sym c.fill_disk.ensures.others.0) (omega (arith, r.tree_room, few))
 
 pub add_image-requires-clause-absent : goal.add_image-requires-clause-absent
 add_image-requires-clause-absent g c =
     let r = c.requires in
     ap (λ (t : Tree). tree_row t.rows (Raw c.args.entry.uuid)) c.fill_disk.ensures.others.0
-    ∙ no_row _ _ _ _ _ _ _ _ (makes g.S.Store c.args.store.now c.args.memory.now c.args.entry c.args.extents.items r.orderly r.tidy r.at_ease r.disk r.proper r.plain r.place r.usable).begins (Raw c.args.entry.uuid) (raw_image _) (raw_uuid _)
+    ∙ no_row _ _ _ _ _ _ _ _ (makes g.S.Store c.args.store.now c.args.memory.now c.args.entry c.args.extents.items r.orderly r.tidy r.disk r.proper r.plain r.place r.usable).begins (Raw c.args.entry.uuid) (raw_image _) (raw_uuid _)
 
 -- ---- at the end
 
 made : (g : Over) (c : goal.After-add_image g) → MakesIn g.S.Store c.args.store.now c.args.memory.now (Raw c.args.entry.uuid) c.args.extents.items (raw_row c.args.entry.uuid (length c.args.extents.items) (length c.args.extents.items * (g.S.Store.site c.args.store.now).geometry.extent)) (place_of c.args.memory.now c.args.entry) c.args.entry
-made g c = let r = c.requires in makes g.S.Store c.args.store.now c.args.memory.now c.args.entry c.args.extents.items r.orderly r.tidy r.at_ease r.disk r.proper r.plain r.place r.usable
+made g c = let r = c.requires in makes g.S.Store c.args.store.now c.args.memory.now c.args.entry c.args.extents.items r.orderly r.tidy r.disk r.proper r.plain r.place r.usable
 
 memory_is : (g : Over) (c : goal.After-add_image g) → known c.add_image.new.memory ≡ made_memory (raw_row c.args.entry.uuid (length c.args.extents.items) (length c.args.extents.items * (g.S.Store.site c.args.store.now).geometry.extent)) (place_of c.args.memory.now c.args.entry) c.args.entry (known c.args.memory.now)
 memory_is g c =

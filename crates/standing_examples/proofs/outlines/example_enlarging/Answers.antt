@@ -2,7 +2,7 @@ use Rattle.std.proofs.Common.{◌∙◌}
 use Rattle.sm_standing.proofs.EnlargingLaws.{enlarging_sound, stands_alike}
 use Rattle.standing_examples.specs.SmallContents.{one}
 use Rattle.standing_examples.specs.SmallOutlines.{thin_outline, enlarging_table}
-use Rattle.standing_examples.proofs.EnlargingExample.{thin_enlarging, thin_sound, thin_stands}
+use Rattle.standing_examples.proofs.EnlargingExample.{thin_beside, thin_enlarging, thin_sound, thin_stands}
 use Rattle.standing_examples.proofs.outlines.example_enlarging.Goals as goal
 
 pub returns-clause-enlarging : goal.returns-clause-enlarging
@@ -16,3 +16,6 @@ returns-clause-sound c = enlarging_sound thin_outline enlarging_table one 1 thin
 
 pub returns-clause-stands : goal.returns-clause-stands
 returns-clause-stands c = stands_alike thin_outline enlarging_table one 1 thin_enlarging one ∙ thin_stands
+
+pub returns-clause-beside : goal.returns-clause-beside
+returns-clause-beside c = thin_beside
