@@ -5,8 +5,9 @@ use Rattle.std.proofs.Math.Nat.{div-lt_iff_lt-mul, mul-le-mul_right}
 use Rattle.std.proofs.lemmas.List.{append-nil}
 use Rattle.std.proofs.lemmas.List.FromFn.{length-range_with_len, get_or-range_with_len}
 use Rattle.std.proofs.lemmas.Nat.{div-add-mod'}
+use Rattle.std.proofs.lemmas.Option.{none-some}
 use Rattle.sm_base.specs.declared.names.Name.{Name}
-use Rattle.sm_base.specs.declared.names.Name.TheVariants.{Mgt, Raw}
+use Rattle.sm_base.specs.declared.names.Name.TheVariants.{Mgt, Vhd}
 use Rattle.sm_base.specs.declared.sizes.Geometry.{Geometry}
 use Rattle.sm_base.proofs.NumberLemmas.{le-div_up}
 use Rattle.sm_disk.specs.Held.{Held, Allows, IsSettled}
@@ -24,14 +25,16 @@ use Rattle.vg_layout.specs.Opening.{GroupFound, StandsOn, plate_of, text_in}
 use Rattle.vg_layout.proofs.ImageLaws.{plate_area, plate_few, plate_same, pointer_same, stands_from, stands_once, text_front}
 use Rattle.vg_store.specs.Formats.{IsFormatted, new_group}
 use Rattle.vg_volumes.specs.Volumes.{piece, spot}
-use Rattle.sm_standing.specs.Checks.{is_damaged}
-use Rattle.sm_standing.specs.Contents.{Content, row, reading_at, sectors_of, record_of}
+use Rattle.sm_standing.specs.Checks.{is_damaged, is_invalid, is_misnamed}
+use Rattle.sm_standing.specs.Images.{image_of}
+use Rattle.sm_standing.specs.Outlines.{outline}
+use Rattle.sm_standing.specs.Contents.{Content, row, reading_at, sectors_of}
 use Rattle.sm_standing.specs.Devices.{IsKeptOn, Shows, content_of}
 use Rattle.sm_standing.specs.Plain.{IsPlain}
 use Rattle.sm_standing.specs.PlainSound.{PlainSound}
 use Rattle.sm_standing.specs.Standing.{standing_volume, disks}
 use Rattle.sm_standing.proofs.DiskLists.{disks_at}
-use Rattle.sm_standing.proofs.PlainDisks.{plain_stands, raw_stands, plain_disk_at, raw_disk_at}
+use Rattle.sm_standing.proofs.PlainDisks.{none_stands, plain_stands}
 use Rattle.sm_standing.proofs.PlainKept.{plain_kept}
 use Rattle.lvhd_command.specs.Devices.{IsKeptDevice, MayShowOn}
 
@@ -44,21 +47,22 @@ emptied c n = record { extent = c.extent; block = c.block; entries = c.entries; 
 new_plain : (n : ℕ) → IsPlain (new_table n)
 new_plain n = (refl, tt)
 
-no_raw : (c : Content) (n : ℕ) (u : List ℕ) → row (emptied c n) (Raw u) ≡ None
-unfolding row_of name_eq
-no_raw c n u = refl
-
 records_there : (c : Content) (n : ℕ) → row (emptied c n) Mgt ≡ Some (record { name = Mgt; hidden = false; fresh = false; extents = range_with_len 0 n })
 unfolding row_of name_eq
 records_there c n = refl
 
-no_standing : (n : ℕ) (u : List ℕ) (m : Name) → row_of (new_table n).volumes (Raw u) ≡ None → standing_volume (new_table n) u ≡ Some m → ⊥
-no_standing n u m none h =
-    let e = sym (plain_stands (new_table n) u (new_plain n) ∙ ap (raw_stands u) none) ∙ h in (let x = e in cc)
+nowhere : (n : ℕ) (u : List ℕ) → standing_volume (new_table n) u ≡ None
+unfolding row_of name_eq
+nowhere n u = plain_stands (new_table n) u (new_plain n)
 
-named_raw : (n : ℕ) (u : List ℕ) (r : Row) → In r (new_table n).volumes → r.name ≡ Raw u → ⊥
-named_raw n u r (inl is) name = let e = ap (λ (q : Row). q.name) (sym is) ∙ name in (let x = e in cc)
-named_raw n u r (inr none) name = elim none [ ]
+-- there is no image
+no_image : (c : Content) (n : ℕ) (u : List ℕ) → image_of (emptied c n) (Vhd u) ≡ None
+unfolding image_of row_of name_eq
+no_image c n u = refl
+
+each_alone : (n : ℕ) (P : Row → Type 0) → P (record { name = Mgt; hidden = false; fresh = false; extents = range_with_len 0 n }) → (r : Row) → In r (new_table n).volumes → P r
+each_alone n P here r (inl is) = subst P (sym is) here
+each_alone n P here r (inr none) = elim none [ ]
 
 -- on the first extents each sector of a volume is the same of the area
 spot_first : (extent n p : ℕ) → 0 < extent → p < n * extent → spot extent (range_with_len 0 n) p ≡ p
@@ -92,10 +96,11 @@ new_sound c n some room long free = record {
   records_there = records_there c n;
   records_extents = length-range_with_len 0 n ∙ long;
   few_images = omega arith;
-  past = λ r u h m. absurd (named_raw n u r h m);
-  sizes = λ r u h m f. absurd (named_raw n u r h m);
+  named = each_alone n (λ r. is_misnamed (new_table n) r ≡ false) refl;
+  valid = each_alone n (λ r. is_invalid (outline (emptied c n)) r ≡ false) refl;
+  parentless = λ u i is. absurd (none-some i (sym (no_image c n u) ∙ is));
   right = λ k below. ap is_damaged (free_at c n some room free k below);
-  recorded = λ u m is. absurd (no_standing n u m (no_raw c n u) is);
+  recorded = λ u m is. absurd (none-some m (sym (nowhere n u) ∙ is));
 }
 
 no_disks : (ds : List Disk) → ((d : Disk) → In d ds → ⊥) → ds ≡ []
@@ -103,10 +108,7 @@ no_disks [] none = refl
 no_disks (d ∷ ds) none = absurd (none d (inl refl))
 
 new_disks : (c : Content) (n : ℕ) → disks (emptied c n) ≡ []
-new_disks c n = no_disks (disks (emptied c n)) (λ d h.
-    let at = disks_at (emptied c n) d h in
-    let none = plain_disk_at (emptied c n) d.uuid (new_plain n) ∙ ap (λ q. raw_disk_at (emptied c n) d.uuid q (record_of (emptied c n) d.uuid)) (no_raw c n d.uuid) in
-    let e = sym at ∙ none in (let x = e in cc))
+new_disks c n = no_disks (disks (emptied c n)) (λ d h. absurd (none-some d (sym (none_stands (emptied c n) d.uuid (nowhere n d.uuid)) ∙ disks_at (emptied c n) d h)))
 
 -- ---- a device
 
@@ -123,7 +125,8 @@ formatted_kept size image g repository f =
     record {
       group = new_group size g repository;
       stands = f.stands;
-      kept = plain_kept c (new_sound c (record_extents g.extent) (some_extent g) (records_room g.extent (some_extent g)) refl f.records);
+      kept = plain_kept c (new_sound c (record_extents g.extent) (some_extent g) (records_room g.extent (some_extent g)) refl f.records)
+          (λ u i is. absurd (none-some i (sym (no_image c (record_extents g.extent) u) ∙ is)));
     }
 
 pub formatted_empty : (size : ℕ) (image : ℕ → List ℕ) (g : Geometry) (repository : List ℕ) → IsFormatted size image g repository → Shows size image []

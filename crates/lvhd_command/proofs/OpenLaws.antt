@@ -4,7 +4,7 @@ use Rattle.std.proofs.Math.Path.{fun_ext}
 use Rattle.sm_base.specs.declared.faults.OpenFault.{OpenFault}
 use Rattle.sm_base.specs.declared.faults.OpenFault.TheVariants as fault
 use Rattle.sm_disk.specs.Held.{Held, Allows, Keeps, reads}
-use Rattle.sm_disk.proofs.HeldLaws.{Allows-keeps}
+use Rattle.sm_disk.proofs.HeldLaws.{Allows-keeps, Allows-reads}
 use Rattle.sm_machine.specs.Disks.{Disk}
 use Rattle.vg_layout.specs.Places.{area_place}
 use Rattle.vg_layout.specs.Sectors.{Plate, Pointer}
@@ -15,17 +15,17 @@ use Rattle.vg_store.specs.Groups.{GroupStands, LeavesGroup, area_of}
 use Rattle.vg_store.specs.Openings.{IsAnswer}
 use Rattle.vg_volumes.specs.Sites.{Site}
 use Rattle.sm_recover.specs.Repairs.{IsOpeningStopped, UnlessDeviceFailed}
-use Rattle.sm_recover.specs.Stores.{IsRepairedFrom}
+use Rattle.sm_recover.specs.Stores.{IsRepairedFrom, MayBeRepairedFrom}
 use Rattle.sm_ready.specs.Sessions.{KeepsAll}
 use Rattle.sm_ready.specs.Stores.{MayShow, content_in, content_now}
 use Rattle.sm_standing.specs.Checks.{first_fault_today}
 use Rattle.sm_standing.specs.Contents.{Content}
 use Rattle.sm_standing.specs.Devices.{IsKeptOn, Shows, content_of}
-use Rattle.sm_standing.specs.Keeping.{IsKept}
+use Rattle.sm_standing.specs.Keeping.{HasNoEmptySlot, IsKept}
 use Rattle.sm_standing.specs.Opened.{opened}
 use Rattle.sm_machine.specs.Shapes.{Shape}
 use Rattle.sm_standing.specs.Standing.{disks}
-use Rattle.lvhd_command.specs.Devices.{IsKeptDevice, MayShowOn, IsSoundOn, IsRefusedOn, IsOpenedOn, plate_at}
+use Rattle.lvhd_command.specs.Devices.{HasNoEmptySlotOn, IsKeptDevice, MayShowOn, IsSoundOn, IsRefusedOn, IsOpenedOn, plate_at}
 use Rattle.lvhd_command.specs.Devices.IsRefusedOn.{by_content}
 use Rattle.lvhd_command.specs.Running.{IsLeftBefore, ShowsNothingNew}
 
@@ -82,6 +82,17 @@ shown_device size h site ds always m =
 -- the extents read as they did
 content_entry : (s : Site) (t : VolumeTable) (h now : Held) → Keeps (area_of h) (area_of now) → content_now s t (area_of now) ≡ content_in s t (extents_in (reads h))
 content_entry s t h now k = ap (content_in s t) (fun_ext (λ q. k.reads q))
+
+-- where no slot is empty on the device, none is in the content
+pub slots_entry : (size : ℕ) (h now : Held) (site : Site) (at : Pointer) (t : VolumeTable) → Keeps (area_of h) (area_of now) → StandsOn size (reads h) (standing site at t)
+    → HasNoEmptySlotOn size (reads h) → HasNoEmptySlot (content_now site t (area_of now))
+slots_entry size h now site at t k stands holding = subst HasNoEmptySlot (sym (content_entry site t h now k)) (holding (standing site at t) stands)
+
+-- and none is on a device that is kept
+pub kept_slots : (size : ℕ) (h : Held) → IsKeptDevice size h → HasNoEmptySlotOn size (reads h)
+kept_slots size h kept g on =
+    let k = kept (reads h) (Allows-reads size h) in
+    (subst IsKept (content_once size (reads h) g k.group on k.stands) k.kept).holding
 
 pub sound_entry : (size : ℕ) (h now : Held) (site : Site) (at : Pointer) (t : VolumeTable) → Keeps (area_of h) (area_of now) → StandsOn size (reads h) (standing site at t)
     → first_fault_today (content_now site t (area_of now)) ≡ None → IsSoundOn size (reads h)
@@ -172,12 +183,12 @@ shown_back size entry h last site now at first same k ka stands always left = λ
     (subst (λ (x : Site). StandsOn size image (standing x s.pointer s.table)) same s.stands)
     (left s.table (extents_in image) (left_of size last now image allowed s))
 
--- the same, where each side tells the size of its device
-pub repaired_sized : (size before after : ℕ) (h last : Held) (site now : Site) (first : VolumeTable) → before ≡ size → after ≡ size
-    → ((t : VolumeTable) (image : ℕ → List ℕ) → LeavesGroup after last (plate_at now) t image → LeavesGroup before h (plate_at site) t image ⊎ IsRepairedFrom (content_now site first (area_of h)) (content_in site t image))
+-- the same, where each side tells the size of its device, and no slot was empty
+pub repaired_sized : (size before after : ℕ) (h last : Held) (site now : Site) (first : VolumeTable) → before ≡ size → after ≡ size → HasNoEmptySlot (content_now site first (area_of h))
+    → ((t : VolumeTable) (image : ℕ → List ℕ) → LeavesGroup after last (plate_at now) t image → LeavesGroup before h (plate_at site) t image ⊎ MayBeRepairedFrom (content_now site first (area_of h)) (content_in site t image))
     → LeavesRepaired size h last site now first
-repaired_sized size before after h last site now first is_before is_after left = λ t image l.
-    ⊎_elim (λ was. inl (subst (λ n. LeavesGroup n h (plate_at site) t image) is_before was)) (λ new. inr new)
+repaired_sized size before after h last site now first is_before is_after holding left = λ t image l.
+    ⊎_elim (λ was. inl (subst (λ n. LeavesGroup n h (plate_at site) t image) is_before was)) (λ new. inr (new.repaired holding))
     (left t image (subst (λ n. LeavesGroup n last (plate_at now) t image) (sym is_after) l))
 
 pub always_sized : (size after : ℕ) (last : Held) (site : Site) → after ≡ size → StandsAlways after last site → StandsAlways size last site

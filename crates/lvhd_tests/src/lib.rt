@@ -5,6 +5,8 @@
 #![tactic(auto)]
 
 #[cfg(test)]
+mod change_tests;
+#[cfg(test)]
 mod fixtures;
 #[cfg(test)]
 mod refused_tests;

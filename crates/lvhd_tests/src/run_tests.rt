@@ -24,7 +24,7 @@ const MAKE: &[u8] = b"create 11111111-1111-4111-8111-111111111111 65536 raw data
 /// Devices with room and without, words that spell no form, names that are reserved or taken, sizes, a command that is not
 /// built, and no space. A disk has at most 64 blocks of 4,096 bytes. A run of `list` syncs, reads four times, syncs what an
 /// opening repairs, and syncs last.
-const RUNS: [Row<'static>; 29] = [
+const RUNS: [Row<'static>; 33] = [
     (
         Device::Blank(6144),
         FORMAT,
@@ -122,6 +122,38 @@ const RUNS: [Row<'static>; 29] = [
         NO,
         Status::Done,
         b"no BadSize\n",
+    ),
+    (
+        NEW,
+        RUN,
+        b"create 11111111-1111-4111-8111-111111111111 1 vhd x\nlist\ncreate 11111111-1111-4111-8111-111111111111 1 vhd x\n",
+        NO,
+        Status::Done,
+        b"ok 4096\nok 1 11111111-1111-4111-8111-111111111111,4096,rw,-,x\nno NameTaken\n",
+    ),
+    (
+        NEW,
+        RUN,
+        b"create 11111111-1111-4111-8111-111111111111 262144 vhd x\ncreate 22222222-2222-4222-8222-222222222222 262145 vhd x\ncreate 22222222-2222-4222-8222-222222222222 0 vhd x\n",
+        NO,
+        Status::Done,
+        b"ok 262144\nno BadSize\nno BadSize\n",
+    ),
+    (
+        Device::New(4608),
+        RUN,
+        b"create 11111111-1111-4111-8111-111111111111 1 vhd x\n",
+        NO,
+        Status::Done,
+        b"no NoSpace need 1 free 0\n",
+    ),
+    (
+        NEW,
+        RUN,
+        b"create 11111111-1111-4111-8111-111111111111 1 vhd x\nlabel 11111111-1111-4111-8111-111111111111 y\nlabel 22222222-2222-4222-8222-222222222222 z\nlist\ndelete 11111111-1111-4111-8111-111111111111\ndelete 11111111-1111-4111-8111-111111111111\nlist\n",
+        NO,
+        Status::Done,
+        b"ok 4096\nok\nno UnknownDisk\nok 1 11111111-1111-4111-8111-111111111111,4096,rw,-,y\nok\nno UnknownDisk\nok 0\n",
     ),
     (
         NEW,

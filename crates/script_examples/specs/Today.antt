@@ -2,7 +2,7 @@
 use Rattle.std.specs.Prelude.{[], ◌∷◌, codes}
 use Rattle.script_examples.specs.Scripts.{Script, line}
 
--- raw disks, and refusals by name, room and size
+-- raw disks and a VHD one, labels and ends, and refusals by name, room and size
 abbrev pub raw_disks : Script
 raw_disks =
     line (codes "list") (codes "ok 0") ∷
@@ -13,5 +13,11 @@ raw_disks =
     line (codes "create 44444444-4444-4444-8444-444444444444 262144 raw z") (codes "ok 262144") ∷
     line (codes "create 55555555-5555-4555-8555-555555555555 262144 raw z") (codes "no NoSpace need 16 free 15") ∷
     line (codes "create 55555555-5555-4555-8555-555555555555 262145 raw z") (codes "no BadSize") ∷
-    line (codes "create 11111111-1111-4111-8111-111111111111 1 vhd x") (codes "no BadLine") ∷
+    line (codes "create 11111111-1111-4111-8111-111111111111 1 vhd x") (codes "ok 4096") ∷
+    line (codes "label 11111111-1111-4111-8111-111111111111 w") (codes "ok") ∷
+    line (codes "delete 33333333-3333-4333-8333-333333333333") (codes "ok") ∷
+    line (codes "delete 33333333-3333-4333-8333-333333333333") (codes "no UnknownDisk") ∷
+    line (codes "delete 44444444-4444-4444-8444-444444444444") (codes "ok") ∷
+    line (codes "list") (codes "ok 2 11111111-1111-4111-8111-111111111111,4096,rw,-,w 22222222-2222-4222-8222-222222222222,16384,rw,-,y") ∷
+    line (codes "attach 11111111-1111-4111-8111-111111111111 ro") (codes "no BadLine") ∷
     []

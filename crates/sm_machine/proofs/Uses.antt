@@ -1,5 +1,5 @@
 -- How many attached disks read through an image, after a change of the images or of the attachments.
-use Rattle.std.proofs.Common.{◌≡◌, ◌≢◌, inl, inr, ℕ, zero, suc, ◌+◌, Bool, true, false, not, ◌&&◌, cond, List, [], ◌∷◌, ◌++◌, map, length, Option, Some, None, refl, sym, ap, ◌∙◌, subst, arith}
+use Rattle.std.proofs.Common.{◌≡◌, ◌≢◌, inl, inr, ℕ, zero, suc, ◌+◌, Bool, true, false, not, cond, List, [], ◌∷◌, ◌++◌, map, length, Option, Some, None, refl, sym, ap, ◌∙◌, subst, arith}
 use Rattle.std.specs.List.{filter, find, list_any}
 use Rattle.std.specs.Option.{option_map}
 use Rattle.std.specs.Str.{bytes_eq}
@@ -125,12 +125,9 @@ module _ (s : Shape) (x : Name) (w : IsWellFormed s) (unused : IsUnused s x) whe
   pub less_uses : (n : Name) → refs n (record s { images = without_image x s.images }) ≡ refs n s
   less_uses n = refs_alike s (without_image x s.images) (λ m. m ≢ x) parents_less
       (λ m p k is same. (let y = parent_of-some s.images m p is in unused.childless y.0 y.1 (y.3 ∙ ap Some same)))
-      (λ a h. ap name_of (find-filter (is_image_of a.disk) (λ y. not (is_image x y)) s.images (λ y k out. hidden_not a.disk y (unused.hidden y k (gone y out)))))
+      (λ a h. ap name_of (find-filter (is_image_of a.disk) (λ y. not (is_image x y)) s.images (λ y k out. unused.unattached a y h k (gone y out))))
       (λ a m h is same. (let y = named_there a.disk s.images m (disk_image a.disk s) refl is in
-      true≢false (sym (unused.hidden y.0 y.1 (y.2 ∙ same)) ∙ (disks_own s w a.disk y.0 y.3).0))) n
-    where
-      hidden_not : (u : List ℕ) (y : ImageRow) → y.hidden ≡ true → is_image_of u y ≡ false
-      hidden_not u y hidden = ap (λ b. not b && bytes_eq (image_uuid y.name) u) hidden
+      true≢false (sym y.3 ∙ unused.unattached a y.0 h y.1 (y.2 ∙ same)))) n
 
 -- ---- one attached disk more, and one less
 

@@ -12,7 +12,7 @@ use Rattle.sm_machine.specs.declared.commands.Command.{Command}
 use Rattle.sm_machine.specs.declared.replies.Reply.TheVariants as reply
 use Rattle.sm_base.specs.Numbers.{IsGeometry}
 use Rattle.sm_machine.specs.declared.commands.Command.TheVariants.{Gc}
-use Rattle.sm_machine.specs.Shapes.{Shape, ImageRow, Attachment, free, image_uuid, is_vhd, new_shape, on_image, reads_through, refs, thick_in, with_image, without_image}
+use Rattle.sm_machine.specs.Shapes.{Shape, ImageRow, Attachment, free, image_uuid, is_image_of, is_vhd, new_shape, on_image, reads_through, refs, thick_in, with_image, without_image}
 use Rattle.sm_machine.specs.Collector.{next_step, is_garbage, is_loose, pairs, leaves, debt, IsLess}
 use Rattle.sm_machine.specs.Steps.{State, Outcome, is_attached, shape_next, step_whole}
 use Rattle.sm_machine.specs.WellFormed.{AreDisksOf, IsOperation, IsSize, IsWellFormed}
@@ -104,9 +104,9 @@ SizeKeepsShape = (s : Shape) (i : ImageRow) (size : ℕ) → IsWellFormed s → 
 pub record IsNewImage (s : Shape) (i : ImageRow) : Type 0 where
   pub other : (y : ImageRow) → In y s.images → image_uuid y.name ≢ image_uuid i.name
 
--- a hidden image through which no other reads
+-- an image in which no attached disk stands, and through which no other reads
 pub record IsUnused (s : Shape) (n : Name) : Type 0 where
-  pub hidden : (y : ImageRow) → In y s.images → y.name ≡ n → y.hidden ≡ true
+  pub unattached : (a : Attachment) (y : ImageRow) → In a s.attached → In y s.images → y.name ≡ n → is_image_of a.disk y ≡ false
   pub childless : (y : ImageRow) → In y s.images → y.parent ≢ Some n
 
 -- images with the same names, marks and parents

@@ -235,7 +235,9 @@ step_whole σ c = unless_refused (refusal σ.shape c) σ c
 
 -- the commands that are built today
 unfoldable pub is_built : Command → Bool
-is_built (Create u size raw label) = raw
+is_built (Create u size raw label) = true
+is_built (Delete u) = true
+is_built (Label u text) = true
 is_built Listing = true
 is_built _ = false
 

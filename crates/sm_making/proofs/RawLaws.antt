@@ -1,7 +1,6 @@
 -- A new raw disk: what is known before its volume is made, and the disk that its zeros and its record are.
-use Rattle.std.proofs.Common.{◌≡◌, ◌≢◌, zero, suc, ℕ, ◌+◌, ◌*◌, ◌<◌, ◌≤◌, ◌==◌, ◌||◌, true, false, List, [], ◌∷◌, length, map, replicate, unwrap_or, Option, Some, None, IsSome, refl, sym, ap, ap₂, ◌∙◌, subst, subst₂, arith}
+use Rattle.std.proofs.Common.{◌≡◌, ◌≢◌, ℕ, ◌*◌, ◌<◌, ◌≤◌, ◌==◌, ◌||◌, true, false, List, [], length, unwrap_or, Option, Some, None, IsSome, refl, sym, ap, ap₂, ◌∙◌, subst, subst₂, arith}
 use Rattle.std.proofs.lemmas.Bool.{eqb-false, or_parts}
-use Rattle.common_laws.specs.Lists.{numbers}
 use Rattle.sm_base.proofs.NumberLemmas.{div_up-pos}
 use Rattle.sm_base.specs.Names.{IsName}
 use Rattle.sm_base.specs.declared.names.Name.TheVariants.{Raw}
@@ -41,12 +40,13 @@ use Rattle.sm_ready.specs.Stores.{content_now}
 use Rattle.sm_ready.specs.declared.memory.Memory.{Memory}
 use Rattle.sm_ready.proofs.ChainLaws.{tab}
 use Rattle.sm_ready.proofs.LastLaws.{after, now_there}
+use Rattle.sm_ready.proofs.MadeLaws.{zeros_read}
 use Rattle.sm_ready.proofs.MakingLaws.{MakesIn}
 use Rattle.sm_ready.proofs.NewLaws.{IsToMake, made_is, stepped_is, there, well_target}
 use Rattle.sm_ready.proofs.RefusalLaws.{IsNewUuid, new_passed}
 use Rattle.sm_ready.proofs.StepLaws.{stepped, target}
 use Rattle.sm_making.specs.Making.{IsForDisk, entry_of, new_disk}
-use Rattle.sm_making.specs.Refusing.{extents_for}
+use Rattle.sm_ready.specs.Refusing.{extents_for}
 use Rattle.sm_making.specs.Stages.{IsFilled, raw_row}
 
 pub raw_image : (u : List ℕ) → is_image_name (Raw u) ≡ true
@@ -123,11 +123,6 @@ module _ {S : Type 0} (g : Ghosts S) (a : S) (m : Memory) (entry : Record) (es :
   makes usable = record { begins = begins; usable = usable }
 
 -- ---- the disk
-
-zeros_read : (a n : ℕ) → map (λ (k : ℕ). zeros) (numbers a n) ≡ replicate n zeros
-unfolding numbers
-zeros_read a zero = refl
-zeros_read a (suc n) = ap (λ xs. zeros ∷ xs) (zeros_read (a + 1) n)
 
 zero_sectors : (c : Content) (u : List ℕ) (r : Row) → content.row c (Raw u) ≡ Some r → r.fresh ≡ false → ((p : ℕ) → p < size_of c (Raw u) → sectors_of c (Raw u) p ≡ zeros)
     → sectors_read c (Raw u) ≡ filled (size_of c (Raw u)) 0

@@ -1,3 +1,3 @@
 pub mod Making
-pub mod Refusing
 pub mod Stages
+pub mod Vhds

@@ -12,7 +12,7 @@ use Rattle.sm_machine.specs.Refusals.{refusal}
 use Rattle.sm_machine.specs.declared.commands.Command.TheVariants as command
 use Rattle.sm_record.specs.declared.records.Record.{Record}
 use Rattle.sm_ready.specs.Known.{Known, shape_in}
-use Rattle.sm_making.specs.Refusing.{extents_for}
+use Rattle.sm_ready.specs.Refusing.{extents_for}
 
 -- a raw disk may be made on these extents: they are free, and a command that asks for one of so many is not refused
 pub record IsForDisk (s : Site) (t : VolumeTable) (m : Known) (u label es : List ℕ) : Type 0 where

@@ -7,23 +7,22 @@ ghost use Rattle.vg_meta.specs.Tables.{VolumeTable};
 ghost use Rattle.sm_machine.specs.declared.commands.Command.TheVariants.{Create};
 ghost use Rattle.sm_machine.specs.Runs.{is_accepted};
 ghost use Rattle.vg_volumes.specs.Stored.{OnlyReads, Counts, Leaves};
-ghost use Rattle.sm_ready.specs.Sessions.{IsOrderlyStore, IsTidyStore, IsReadyStore, HasRows, HasTreeRoom};
+ghost use Rattle.sm_ready.specs.Sessions.{IsOrderlyStore, IsTidyStore, IsReadyStore, HasRows, HasTreeRoom, StaysInUse};
 ghost use Rattle.sm_ready.specs.Taken.{StoreTakes};
 ghost use Rattle.sm_making.specs.Making.{IsOnLeast, HasFewCommits};
-ghost use Rattle.sm_making.specs.Refusing.{extents_for};
+ghost use Rattle.sm_ready.specs.Refusing.{IsAllowed, extents_for};
 
 use crate::making::make_raw;
-use crate::refusing::{extents_needed, refuse_create};
 use sm_base::{CallFault, Failed, Label, Refusal, SECTOR};
 use sm_machine::Reply;
-use sm_ready::Memory;
+use sm_ready::{Memory, extents_needed};
 use std::alloc::Global;
 use uuid::Uuid;
 use vg_extents::first_fit;
 use vg_volumes::Store;
 
-/// Makes a raw disk of at least so many bytes, or refuses to. A disk that is refused, or for which memory is wanting,
-/// writes nothing.
+/// Makes a raw disk of at least so many bytes, where no cause refuses it. A disk for which memory is wanting writes
+/// nothing.
 ///
 /// # Errors
 /// A call of the store failed; a stop leaves the disks from before, or these and the new one.
@@ -40,10 +39,12 @@ pub fn create<S: Store>(
     requires orderly { IsOrderlyStore S.Store store.old memory.old }
     requires tidy { IsTidyStore S.Store store.old memory.old }
     requires tree_room { HasTreeRoom memory.old }
+    requires allowed { IsAllowed S.Store (Create disk.now size true label.now) store.old memory.old }
     ensures site { S.site store.new ≡ S.site store.old }
     ensures counts { S.faults store.old ≤ S.faults store.new }
     ensures cause { Counts S.Store result store.old store.new }
     ensures beside { S.told → Keeps (S.beside store.old) (S.beside store.new) }
+    ensures in_use { StaysInUse memory.old memory.new }
     ensures few { HasFewCommits (table_alone (S.table store.old)) (table_alone (S.table store.new)) }
     ensures few_left { Leaves S.Store store.new (λ t image. HasFewCommits (table_alone (S.table store.old)) t) }
     ensures usable_still { OnOk result (S.failed store.new ≡ false) }
@@ -60,10 +61,6 @@ pub fn create<S: Store>(
 {
     let geometry = store.geometry();
     let extents = store.extents();
-    let refusal = refuse_create(store.table(), memory, &geometry, extents, disk, size);
-    if let Some(refusal) = refusal {
-        return Ok(Reply::No(refusal));
-    }
     let need = extents_needed(&geometry, size);
     let Ok(found) = first_fit(alloc, store.table(), extents, need as u32) else {
         return Ok(Reply::No(Refusal::NoMemory));

@@ -2,22 +2,34 @@
 //!
 //! **What is kept here.** Nothing: each call works on a store and on what a session has in memory.
 //!
-//! **What it promises.** `create` answers exactly as the machine says, told or not: the first cause that refuses it, read off
-//! table and memory, or the size of the disk. While a raw disk is made its volume is marked new, so that a stop before the last
-//! commit leaves the disks from before; afterwards they are these and the new one, which reads as zeros. Its extents are the
-//! least that are free. A command that is refused, or for which memory is wanting, writes nothing.
+//! **What it asks.** No cause refuses the command (`IsAllowed` of `sm_ready`): its caller has asked them.
 //!
-//! **In which units.** Sizes are in bytes where a command gives them, else in sectors of 512 bytes or in extents.
+//! **What it promises.** `create` answers exactly as the machine says, the size of the disk, or that memory is wanting. While a
+//! raw disk is made its volume is marked new, so that a stop before the last commit leaves the disks from before; afterwards
+//! they are these and the new one, which reads as zeros. Its extents are the least that are free. A command for which memory is
+//! wanting writes nothing.
 //!
-//! **What it costs.** A raw disk costs two commits, a write for each extent, and one sector for its record. Memory is taken
-//! before anything is written: the zeros of one extent, and the list of its extents.
+//! `create_vhd` makes a VHD disk where no cause refuses it, and answers as the machine says of every command, whether a line of
+//! a script reaches it yet or not. Its volume too is marked new until its image and its record are written. The image has no
+//! slots and no parent, so the disk reads as zeros; its unique id is spelled by the table's number after the first commit, and
+//! its footers and its header are told byte for byte.
 //!
-//! The definitions are in `specs/`: `Refusing` (sizes), `Making` (what is asked, and what is made), `Stages` (what is written in
-//! between).
+//! **In which units.** Sizes are in bytes where a command gives them, else in sectors of 512 bytes or in extents. A raw disk's
+//! size is rounded up to the extent, a VHD disk's to the block. Times are in seconds since the beginning of the year 2000.
+//!
+//! **What it costs.** A raw disk costs two commits, a write for each extent, and one sector for its record. A VHD disk costs two
+//! commits, and the writes of two footers, two sectors of a header, a sector for each 128 entries of its table, and one record,
+//! whatever its size. Memory is taken before anything is written: the zeros of one extent or the map of T entries, and the list
+//! of its extents.
+//!
+//! The definitions are in `specs/`: `Making` (what is asked, and what is made), `Stages` (what is written in between), and `Vhds`
+//! (all three of a VHD disk).
 #![tactic(auto)]
 
 mod creating;
 mod making;
-mod refusing;
+mod vhd_creating;
+mod vhd_making;
 
 pub use creating::create;
+pub use vhd_creating::create_vhd;

@@ -30,7 +30,7 @@ ghost use Rattle.sm_standing.specs.Standing.{disks};
 ghost use Rattle.sm_ready.specs.Done.{HasDone};
 ghost use Rattle.sm_ready.specs.Known.{known, shape_in};
 ghost use Rattle.sm_ready.specs.Middle.{IsMiddle};
-ghost use Rattle.sm_ready.specs.Sessions.{IsOrderlyStore, IsTidyStore, IsReadyStore, HasRows, HasTreeRoom};
+ghost use Rattle.sm_ready.specs.Sessions.{IsOrderlyStore, IsTidyStore, IsReadyStore, HasRows, HasTreeRoom, StaysInUse};
 ghost use Rattle.sm_ready.specs.Stores.{StoreLeaves, store_content};
 ghost use Rattle.sm_making.specs.Making.{IsForDisk, HasFewCommits, table_made, new_disk, entry_of};
 ghost use Rattle.sm_making.specs.Stages.{Anything, HasZeros, IsNewVolume, IsFilled, raw_row};
@@ -85,15 +85,15 @@ fn prepare<S: Store>(
     Ok(bytes)
 }
 
-/// Makes the disk's volume, marked new, by one commit.
-fn begin<S: Store>(store: &mut S, disk: Uuid, extents: Vec<u32>) -> Result<(), Failed>
-    requires { CanCommit S.Store (Create (Raw disk) true extents.items) store.old }
-    ensures commits { OnOk result (Commits S.Store (Create (Raw disk) true extents.items) store.old store.new) }
+/// Makes a volume, marked new, by one commit.
+pub(crate) fn begin<S: Store>(store: &mut S, name: Name, extents: Vec<u32>) -> Result<(), Failed>
+    requires { CanCommit S.Store (Create name true extents.items) store.old }
+    ensures commits { OnOk result (Commits S.Store (Create name true extents.items) store.old store.new) }
     ensures fails { OnErr result (FailsToCommit S.Store store.old store.new) }
-    ensures crash { Leaves S.Store store.new (IsEitherOf (stored S.Store store.old) (Create (Raw disk) true extents.items)) }
+    ensures crash { Leaves S.Store store.new (IsEitherOf (stored S.Store store.old) (Create name true extents.items)) }
 {
     store.commit(Change::Create {
-        name: Name::Raw(disk),
+        name,
         fresh: true,
         extents: Extents::new(extents),
     })?;
@@ -125,7 +125,7 @@ fn law_uuid(bytes: &[u8])
 }
 
 /// The record of a new disk.
-fn record_of(disk: Uuid, label: Label) -> Record
+pub(crate) fn record_of(disk: Uuid, label: Label) -> Record
     requires not_nil { is_nil_bytes disk ≡ false }
     ensures is { result ≡ entry_of disk label }
     ensures proper { IsRecord result }
@@ -166,15 +166,15 @@ fn fill_disk<S: Store>(
     Ok(())
 }
 
-/// Takes the disk's mark away, by one commit.
-fn end<S: Store>(store: &mut S, disk: Uuid) -> Result<(), Failed>
-    requires { CanCommit S.Store (Mark (Raw disk) Fresh false) store.old }
-    ensures commits { OnOk result (Commits S.Store (Mark (Raw disk) Fresh false) store.old store.new) }
+/// Takes a volume's mark away, by one commit.
+pub(crate) fn end<S: Store>(store: &mut S, name: Name) -> Result<(), Failed>
+    requires { CanCommit S.Store (Mark name Fresh false) store.old }
+    ensures commits { OnOk result (Commits S.Store (Mark name Fresh false) store.old store.new) }
     ensures fails { OnErr result (FailsToCommit S.Store store.old store.new) }
-    ensures crash { Leaves S.Store store.new (IsEitherOf (stored S.Store store.old) (Mark (Raw disk) Fresh false)) }
+    ensures crash { Leaves S.Store store.new (IsEitherOf (stored S.Store store.old) (Mark name Fresh false)) }
 {
     store.commit(Change::Mark {
-        name: Name::Raw(disk),
+        name,
         tag: Tag::Fresh,
         on: false,
     })?;
@@ -219,6 +219,7 @@ fn make_disk<S: Store>(
     ensures counts { S.faults store.old ≤ S.faults store.new }
     ensures cause { Counts S.Store result store.old store.new }
     ensures beside { S.told → Keeps (S.beside store.old) (S.beside store.new) }
+    ensures in_use { StaysInUse memory.old memory.new }
     ensures few { HasFewCommits (table_alone (S.table store.old)) (table_alone (S.table store.new)) }
     ensures few_left { Leaves S.Store store.new (λ t image. HasFewCommits (table_alone (S.table store.old)) t) }
     ensures usable_still { OnOk result (S.failed store.new ≡ false) }
@@ -238,9 +239,9 @@ fn make_disk<S: Store>(
     let disk = entry.uuid;
     let count = extents.len() as u32;
     let sectors = u64::from(count) * u64::from(store.geometry().extent);
-    begin(store, disk, extents)?;
+    begin(store, Name::Raw(disk), extents)?;
     fill_disk(store, memory, entry, count, bytes)?;
-    end(store, disk)?;
+    end(store, Name::Raw(disk))?;
     add_image(memory, disk, count, sectors);
     Ok(())
 }
@@ -269,6 +270,7 @@ pub(crate) fn make_raw<S: Store>(
     ensures counts { S.faults store.old ≤ S.faults store.new }
     ensures cause { result ≡ Err fault.Device → Rose (S.faults store.old) (S.faults store.new) }
     ensures beside { S.told → Keeps (S.beside store.old) (S.beside store.new) }
+    ensures in_use { StaysInUse memory.old memory.new }
     ensures few { HasFewCommits (table_alone (S.table store.old)) (table_alone (S.table store.new)) }
     ensures few_left { Leaves S.Store store.new (λ t image. HasFewCommits (table_alone (S.table store.old)) t) }
     ensures usable_still { OnOk result (S.failed store.new ≡ false) }

@@ -1,5 +1,7 @@
 -- What record a UUID has after a change.
-use Rattle.std.proofs.Common.{◌≡◌, ℕ, ◌<◌, ◌≤◌, ◌⊎◌, inl, inr, Bool, true, false, nat_lt, List, [], ◌∷◌, length, map, get_or, set, find, slice_get, position, is_none, unwrap_or, Option, Some, None, refl, sym, ap, ◌∙◌, arith}
+use Rattle.std.proofs.lemmas.List.Elements.{All-head, All-tail}
+use Rattle.std.proofs.lemmas.Option.{none-some, same_Some}
+use Rattle.std.proofs.Common.{All, cond, subst, ◌≡◌, ℕ, ◌<◌, ◌≤◌, ◌⊎◌, inl, inr, Bool, true, false, nat_lt, List, [], ◌∷◌, length, map, get_or, set, find, slice_get, position, is_none, unwrap_or, Option, Some, None, refl, sym, ap, ◌∙◌, arith}
 use Rattle.std.proofs.lemmas.Bool.{cases_Bool, cases_lt, cond-true, cond-false, lt-ltb}
 use Rattle.std.proofs.lemmas.List.{length-set, get_or-set_same, get_or-set_other}
 use Rattle.std.proofs.lemmas.List.Folds.{find_at}
@@ -65,3 +67,12 @@ find_none (o ∷ places) u =
 
 pub clear_none : (places : List (Option Record)) (u : List ℕ) → record_in (map (cleared u) places) u ≡ None
 clear_none places u = ap (λ o. unwrap_or o None) (find_none places u)
+
+-- what is found is one of the places
+pub find_proper : {X : Type 0} (P : X → Type 0) (test : X → Bool) (xs : List X) (x : X) → All P xs → find test xs ≡ Some x → P x
+find_proper P test [] x all is = absurd (none-some x is)
+find_proper P test (y ∷ ys) x all is = by (test y) (find_proper P test ys x (All-tail P y ys all)) is
+  where
+    by : (b : Bool) → (find test ys ≡ Some x → P x) → cond b (Some y) (find test ys) ≡ Some x → P x
+    by true rest e = subst P (same_Some y x e) (All-head P y ys all)
+    by false rest e = rest e

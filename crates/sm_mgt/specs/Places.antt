@@ -1,5 +1,5 @@
 -- The places of the volume of records: 512 sectors, each free or with the record of a disk (this project's format).
-use Rattle.std.specs.Prelude.{◌≡◌, ◌≢◌, ℕ, ◌<◌, ◌≤◌, ◌⊎◌, Bool, true, false, if◌then◌else◌, List, [], ◌∷◌, ◌++◌, length, find, position, is_none, Option, Some, None, unwrap_or, slice_index_or}
+use Rattle.std.specs.Prelude.{◌≡◌, ◌≢◌, ℕ, ◌<◌, ◌≤◌, ◌⊎◌, All, IfSome, Bool, true, false, if◌then◌else◌, List, [], ◌∷◌, ◌++◌, length, find, position, is_none, Option, Some, None, unwrap_or, slice_index_or}
 use Rattle.std.specs.List.{slice_get}
 use Rattle.std.specs.Option.{option_or}
 use Rattle.std.specs.Str.{bytes_eq}
@@ -9,7 +9,7 @@ use Rattle.sm_disk.specs.Sectors.{sector, zeros}
 use Rattle.sm_record.specs.declared.records.Record.{Record}
 use Rattle.sm_record.specs.declared.records.Reading.{Reading}
 use Rattle.sm_record.specs.declared.records.Reading.TheVariants.{Free, Taken, Damaged}
-use Rattle.sm_record.specs.Records.{reading}
+use Rattle.sm_record.specs.Records.{IsRecord, reading}
 use Rattle.vg_meta.specs.Tables.{VolumeTable}
 use Rattle.vg_volumes.specs.Sites.{Site, volume_of}
 use Rattle.vg_volumes.specs.Stored.{stored, sectors_in, held_in}
@@ -39,6 +39,15 @@ HasAllPlaces g s = place_count ≤ sectors_in (stored g s) Mgt
 abbrev pub as_reading : Option Record → Reading
 as_reading None = Free
 as_reading (Some r) = Taken r
+
+-- a place with a record has a right one
+abbrev pub IsProperPlace : Option Record → Type 0
+IsProperPlace place = IfSome place IsRecord
+
+-- the list is that of all places, each free or with a right record
+pub record ArePlaces (places : List (Option Record)) : Type 0 where
+  pub long : length places ≡ place_count
+  pub proper : All IsProperPlace places
 
 -- the places in memory are those that a read gives
 pub record Agrees (held : Held) (places : List (Option Record)) : Type 0 where

@@ -12,7 +12,7 @@ ghost use Rattle.sm_disk.specs.Sectors.{zeros, sector};
 ghost use Rattle.sm_record.specs.Records.{IsRecord, record_sector, reading};
 ghost use Rattle.sm_record.specs.declared.records.Reading.TheVariants.{Damaged};
 ghost use Rattle.vg_volumes.specs.Stored.{OnlyReads, Writes, Counts, Faults};
-ghost use Rattle.sm_mgt.specs.Places.{HasAllPlaces, records_of, ReadsAsPlaces, IsDamagedFirst, as_reading, place_count, Agrees, IsFirstDamaged, is_of, place_for, record_in, HasRecordAt, cleared, TornZeros, WroteZeros};
+ghost use Rattle.sm_mgt.specs.Places.{HasAllPlaces, records_of, ReadsAsPlaces, IsDamagedFirst, ArePlaces, IsProperPlace, as_reading, place_count, Agrees, IsFirstDamaged, is_of, place_for, record_in, HasRecordAt, cleared, TornZeros, WroteZeros};
 
 use sm_base::{Failed, Name, OpenFault, Place};
 use sm_record::{Reading, Record};
@@ -31,15 +31,15 @@ pub struct Mgt {
 }
 
 impl Model for Mgt {
-    ghost use Rattle.std.specs.Prelude.{◌≡◌, List, Option, length};
+    ghost use Rattle.std.specs.Prelude.{List, Option};
     ghost use Rattle.sm_record.specs.declared.records.Record.{Record};
-    ghost use Rattle.sm_mgt.specs.Places.{place_count};
+    ghost use Rattle.sm_mgt.specs.Places.{ArePlaces};
 
     ghost Value = { List (Option Record) };
 
     ghost view = { λ m. m.places.items };
 
-    ghost invariant = { λ m. length m.places.items ≡ place_count };
+    ghost invariant = { λ m. ArePlaces m.places.items };
 }
 
 /// A sector of zeros.
@@ -119,6 +119,7 @@ fn place_at(bytes: &[u8], index: usize) -> Option<Option<Record>>
     requires { 512 * index + 512 ≤ length bytes.now }
     ensures damaged { result ≡ None → reading (sector bytes.now index) ≡ Damaged }
     ensures right { IfSome result (λ place. reading (sector bytes.now index) ≡ as_reading place) }
+    ensures proper { IfSome result IsProperPlace }
 {
     match Record::read(&sector_at(bytes, index)) {
         Reading::Free => Some(None),
@@ -131,6 +132,7 @@ fn place_at(bytes: &[u8], index: usize) -> Option<Option<Record>>
 fn places_in(alloc: Global, bytes: &[u8]) -> Result<Vec<Option<Record>>, OpenFault>
     requires { length bytes.now ≡ 512 * place_count }
     ensures ok { IfOk result (λ places. ReadsAsPlaces bytes.now place_count places.items) }
+    ensures proper { IfOk result (λ places. ArePlaces places.items) }
     ensures damaged { IfErr result (λ e. (e ≡ NoMemory) ⊎ ((k : ℕ) × IsDamagedFirst bytes.now k × (e ≡ fault.Damaged (at.Record k)))) }
 {
     let mut places = Vec::new(alloc);
@@ -228,7 +230,8 @@ impl Mgt {
 
     /// The record of a disk: the one in the least place that has the UUID, and `None` where no place has it.
     pub fn find(&self, uuid: &Uuid) -> Option<&Record>
-        ensures { option_copied result ≡ record_in self.now uuid.now }
+        ensures found { option_copied result ≡ record_in self.now uuid.now }
+        ensures proper { IfSome (option_copied result) IsRecord }
     {
         taken_place(&self.places, uuid)?.as_ref()
     }

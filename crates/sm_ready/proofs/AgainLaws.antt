@@ -161,7 +161,7 @@ module _ {S : Type 0} {g : Ghosts S} where
         rest = λ r. record {
           orderly = orderly_freed (g.site a) (table_alone (g.table a)) m ps r.orderly (freed_from ps r.orderly freed);
           ready = swept_ready (g.site a) (table_alone (g.table a)) m (g.area a) (g.area b) (g.area d) r.orderly r.ready (swept w told r.orderly) keeps ps settled
-              (synced m ps w keeps (agrees r.ready.records)) r.idle;
+              (synced m ps w keeps (agrees r.ready.records)) r.settled;
           settled = settled;
           idle = r.idle;
         };

@@ -56,7 +56,7 @@ still s t area m before image o ready left was =
       sectors = λ u k bytes h. (disks (content_in s t image), record { table = t; image = image; left = was; shown = refl }, h);
     }
 
-already : (before : List Disk → Type 0) (new ds : List Disk) → ds ≡ new → IsAlready before new ds
+pub already : (before : List Disk → Type 0) (new ds : List Disk) → ds ≡ new → IsAlready before new ds
 already before new ds is = record {
   faces = ap (map face) is;
   sectors = λ u k bytes h. inr (subst (λ (d : List Disk). HasSector d u k bytes) is h);

@@ -324,7 +324,7 @@ image_quiet s t area m image (Coalesce v p) o ready left settled = refl
 image_quiet s t area m image (Relink v p) o ready left settled = refl
 image_quiet s t area m image (Leaf l p) o ready left settled = refl
 
-none_link : (o : Option Image) → link_of o ≡ None → o ≡ None
+pub none_link : (o : Option Image) → link_of o ≡ None → o ≡ None
 none_link None e = refl
 none_link (Some i) e = absurd (none-some _ (sym e))
 

@@ -50,3 +50,15 @@ pub mod InsertLaws
 pub mod ShownLaws
 pub mod MapLaws
 pub mod OperationLaws
+pub mod SyncLaws
+pub mod UsedLaws
+pub mod OwnLaws
+pub mod LabelLaws
+pub mod LookLaws
+pub mod TurnLaws
+pub mod NeedLaws
+pub mod MadeLaws
+pub mod StopLaws
+pub mod RawGuestLaws
+pub mod ThenLaws
+pub mod DoesLaws

@@ -1,9 +1,9 @@
--- A command makes an image and the record of its disk in a store: a commit that makes the volume, marked new; writes to it,
+-- A command makes an image and the record of its disk in a store: a commit that makes the volume, marked new; work on it,
 -- and the record; a commit that takes the mark away. What a stop leaves at each point, and what is known at the end.
 use Rattle.std.proofs.Common.{◌≡◌, inr, ℕ, ◌*◌, ◌≤◌, true, false, List, set, Option, Some, refl, sym, ap, ap₂, ◌∙◌, subst, subst₂}
 use Rattle.sm_base.specs.declared.names.Name.{Name}
 use Rattle.sm_base.specs.declared.names.Name.TheVariants.{Mgt}
-use Rattle.sm_disk.specs.Held.{Torn, Wrote, reads}
+use Rattle.sm_disk.specs.Held.{Held, Keeps, Torn, Wrote, reads}
 use Rattle.sm_disk.specs.Sectors.{sector}
 use Rattle.sm_disk.proofs.HeldLaws.{torn_from_same, SameHeld-none}
 use Rattle.sm_disk.proofs.SectorLaws.{sector-one}
@@ -12,7 +12,7 @@ use Rattle.vg_meta.specs.Changes.{HasRoom, Permits, applied, made}
 use Rattle.vg_meta.specs.declared.changes.Change.TheVariants.{Create, Mark}
 use Rattle.vg_meta.specs.declared.changes.Tag.TheVariants.{Fresh}
 use Rattle.vg_volumes.specs.Sites.{Site, Fits, volume_of}
-use Rattle.vg_volumes.specs.Stored.{stored, Stays, Writes, CanCommit, Commits, FailsToCommit, IsChoiceOf, IsEitherOf}
+use Rattle.vg_volumes.specs.Stored.{stored, Stays, Writes, WorksOn, CanCommit, Commits, FailsToCommit, IsChoiceOf, IsEitherOf}
 use Rattle.vg_volumes.specs.declared.stores.Store.{Ghosts}
 use Rattle.vg_volumes.proofs.StoredLaws.{did_in, beside_in, size_stays}
 use Rattle.vg_volumes.proofs.VolumeLaws.{KeepsAt-none, KeepsElsewhere-same}
@@ -47,6 +47,7 @@ use Rattle.sm_ready.proofs.MiddleLaws.{middle_safe}
 use Rattle.sm_ready.proofs.NewLaws.{IsToMake, allowed, is_new, orderly_begun, fits_begun, there, stray, made_is, stepped_is, orderly_made, fits_made, tidy_made}
 use Rattle.sm_ready.proofs.ReachLaws.{reached}
 use Rattle.sm_ready.proofs.RepairLaws.{all_quiet}
+use Rattle.sm_ready.proofs.RestLaws.{agrees_keeps}
 
 -- the first sector of a record's bytes reads as the record
 record_reads : (r : Record) → IsRecord r → reading (sector (record_sector r) 0) ≡ Taken r
@@ -56,16 +57,16 @@ record_reads r proper = ap reading (sector-one (record_sector r) (sector_fits r 
 
 module _ {S : Type 0} {g : Ghosts S} (m : Memory) (own : Name) (k : ℕ) (r : Record) (row : Row) (image : is_image_name own ≡ true) (proper : IsRecord r) {a : S} (o : IsOrderlyStore g a m)
     (there : rows (tab g a) own ≡ Some row) (fresh : row.fresh ≡ true) where
-  -- while the volume is written
-  pub middle_first : {b : S} {Did : _} → Writes g own Did a b → g.told → IsMiddle (g.site a) (tab g a) (known m) (g.area a) (g.area b) k r
+  -- while the volume is worked on
+  pub middle_first : {b : S} → WorksOn g own a b → g.told → IsMiddle (g.site a) (tab g a) (known m) (g.area a) (g.area b) k r
   middle_first {b} first told =
-      reached (g.site a) (tab g a) (known m) (g.area a) (g.area b) (g.area b) own k r row (record_sector r) o image there fresh (KeepsElsewhere-same (first.beside told)) (KeepsAt-none _ (g.area b))
+      reached (g.site a) (tab g a) (known m) (g.area a) (g.area b) (g.area b) own k r row (record_sector r) o image there fresh (first.elsewhere told) (KeepsAt-none _ (g.area b))
       (torn_from_same k (record_sector r) (SameHeld-none (records_held (g.site a) (tab g a) (g.area b)))) (sector_fits r proper).long (record_reads r proper)
 
   -- and while the record goes into its place
-  pub middle_then : {b d : S} {Did : _} → Writes g own Did a b → Writes g Mgt (Torn k (record_sector r)) b d → g.told → IsMiddle (g.site a) (tab g a) (known m) (g.area a) (g.area d) k r
+  pub middle_then : {b d : S} → WorksOn g own a b → Writes g Mgt (Torn k (record_sector r)) b d → g.told → IsMiddle (g.site a) (tab g a) (known m) (g.area a) (g.area d) k r
   middle_then {b} {d} first second told =
-      reached (g.site a) (tab g a) (known m) (g.area a) (g.area b) (g.area d) own k r row (record_sector r) o image there fresh (KeepsElsewhere-same (first.beside told))
+      reached (g.site a) (tab g a) (known m) (g.area a) (g.area b) (g.area d) own k r row (record_sector r) o image there fresh (first.elsewhere told)
       (KeepsElsewhere-same (beside_in first.stays second told)) (did_in first.stays second told) (sector_fits r proper).long (record_reads r proper)
 
 -- the volume of records has all places
@@ -169,7 +170,7 @@ module _ {S : Type 0} {g : Ghosts S} {a : S} {m : Memory} {own : Name} {es : Lis
     fill_failed n ok ds never choice = stopped_at g n ok ds never (stays.site ∙ c.site) (stays.table ∙ c.table) safe choice
 
     -- the image and the record are written
-    module _ (put : Wrote k (record_sector r) (records_held (g.site b) (tab g b) (g.area b)) (records_held (g.site b) (tab g b) (g.area d)))
+    module _ (mid : Held) (kept : Keeps (records_held (g.site b) (tab g b) (g.area b)) mid) (put : Wrote k (record_sector r) mid (records_held (g.site b) (tab g b) (g.area d)))
         (steady : IsSteady s.geometry (added.extents * s.geometry.extent) (volume_of s t1 (at_rest (reads (g.area d))) own) added.image)
         (made_disk : Disk) (disk_is : disk_in (content_now s (after t1 own) (at_rest (reads (g.area d)))) r.uuid r own ≡ made_disk) where
       written : IsWritten s t1 (known m) (g.area b) (g.area d) own added k r
@@ -177,8 +178,9 @@ module _ {S : Type 0} {g : Ghosts S} {a : S} {m : Memory} {own : Name} {es : Lis
         ready = done_first.ready tt;
         settled = all_quiet s t1 (g.area b) (c.settled told);
         middle = middle_here;
-        agrees = agrees_put m.records r k (records_held s t1 (g.area b)) (records_held s t1 (g.area d)) h.begins.recorded h.begins.placed
-            (subst₂ (λ x y. Wrote k (record_sector r) (records_held x y (g.area b)) (records_held x y (g.area d))) c.site c.table put) (done_first.ready tt).records;
+        agrees = agrees_put m.records r k mid (records_held s t1 (g.area d)) h.begins.recorded h.begins.placed
+            (subst₂ (λ x y. Wrote k (record_sector r) mid (records_held x y (g.area d))) c.site c.table put)
+            (agrees_keeps (records_held s t1 (g.area b)) mid m.records (subst₂ (λ x y. Keeps (records_held x y (g.area b)) mid) c.site c.table kept) (done_first.ready tt).records);
         steady = steady;
       }
 

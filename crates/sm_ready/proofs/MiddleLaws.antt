@@ -82,7 +82,7 @@ firm_put s t area m k r stray firm = record {
   below = firm.below;
 }
 
-nat_or_not : (p k : ℕ) → (p ≡ k) ⊎ (p ≢ k)
+pub nat_or_not : (p k : ℕ) → (p ≡ k) ⊎ (p ≢ k)
 nat_or_not p k = ⊎_elim (λ below. inr (λ e. omega (arith, below, e))) (λ up. ⊎_elim (λ past. inr (λ e. omega (arith, past, e))) (λ at. inl (omega (arith, up, at))) (cases_lt k p)) (cases_lt p k)
 
 -- ---- what a stop leaves

@@ -32,7 +32,7 @@ use Rattle.sm_ready.proofs.ShapeLaws.{standing_shown, into_records, from_records
 abbrev before : DiskRecord → DiskRecord → Bool
 before a b = uuid_before a.uuid b.uuid
 
-abbrev uuid_of : DiskRecord → List ℕ
+abbrev pub uuid_of : DiskRecord → List ℕ
 uuid_of d = d.uuid
 
 -- what is distinct with an element put in is so without it, and has none like it
@@ -50,7 +50,7 @@ without_it x (y ∷ ys) d = by (before x y) (λ e. without_it x ys e) d
           (λ i. let z = In-map uuid_of ys y.uuid i in e.0 (subst (λ u. In u (map uuid_of (insert_by before x ys))) (sym z.2) (In-map_at uuid_of (insert_by before x ys) z.0 (In-insert_old before x ys z.0 z.1))), r.1),
         )
 
-abbrev Once : List TreeRow → List (Option Record) → Type 0
+abbrev pub Once : List TreeRow → List (Option Record) → Type 0
 Once rs places = Distinct (map uuid_of (records_in (shown_places rs places)))
 
 fewer : (rs : List TreeRow) (x : Option Record) (places : List (Option Record)) → Once rs (x ∷ places) → Once rs places
@@ -70,7 +70,7 @@ not_first rs r q places d shown same i =
     (In-map_at uuid_of (records_in (shown_places rs places)) (machine_record q) (into_records (shown_places rs places) q (filter-In (is_shown_place rs) places (Some q) i (ap (is_shown rs) same ∙ shown)))))
 
 -- two places with shown outline_records have distinct UUIDs
-once : (rs : List TreeRow) (places : List (Option Record)) (k j : ℕ) (r q : Record) → Once rs places → get_or places k None ≡ Some r → get_or places j None ≡ Some q → k ≢ j → is_shown rs r.uuid ≡ true → q.uuid ≡ r.uuid → ⊥
+pub once : (rs : List TreeRow) (places : List (Option Record)) (k j : ℕ) (r q : Record) → Once rs places → get_or places k None ≡ Some r → get_or places j None ≡ Some q → k ≢ j → is_shown rs r.uuid ≡ true → q.uuid ≡ r.uuid → ⊥
 once rs [] k j r q d at_k at_j other shown same = none-some r at_k
 once rs (x ∷ places) zero zero r q d at_k at_j other shown same = other refl
 once rs (x ∷ places) zero (suc j) r q d at_k at_j other shown same = not_first rs r q places (subst (λ o. Once rs (o ∷ places)) at_k d) shown same (at_place places j q at_j)

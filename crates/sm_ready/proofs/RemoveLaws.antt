@@ -98,7 +98,7 @@ images_removed rows x = map-filter machine_row (λ r. not (same_image (row_name 
 
 -- ---- memory is orderly
 
-name_or_not : (n x : Name) → (n ≡ x) ⊎ (n ≢ x)
+pub name_or_not : (n x : Name) → (n ≡ x) ⊎ (n ≢ x)
 name_or_not n x = by (name_eq n x) refl
   where
     by : (b : Bool) → name_eq n x ≡ b → (n ≡ x) ⊎ (n ≢ x)
@@ -147,14 +147,18 @@ In-without x r (y ∷ rs) i = by (name_eq y.name x) (λ j. In-without x r rs j) 
 
 -- ---- counts: nobody reads through it
 
+hidden_in : (s : Site) (t : VolumeTable) (m : Known) (x : Name) (r : TreeRow) (i : ImageRow) → IsOrderly s t m → IsGarbage s t m x r → In i (shape_in s t m).images → i.name ≡ x → i.hidden ≡ true
+unfolding shape_in
+hidden_in s t m x r i o g h same = let w = In-map machine_row m.rows i h in
+    ∥∥₁_elim o.well_formed (hlevel props) (λ f.
+    let found = tree_found m.rows w.0 f.one_image w.1 in
+    let named : row_name w.0 ≡ x = sym (ap (λ (y : ImageRow). y.name) w.2) ∙ same in
+    ap (λ (y : ImageRow). y.hidden) w.2 ∙ ap (λ (q : TreeRow). q.hidden) (same_Some w.0 r (sym (ap (tree_row m.rows) (sym named) ∙ found) ∙ g.there)) ∙ g.hidden)
+
 unused_in : (s : Site) (t : VolumeTable) (m : Known) (x : Name) (r : TreeRow) → IsOrderly s t m → IsGarbage s t m x r → IsUnused (shape_in s t m) x
 unfolding shape_in
 unused_in s t m x r o g = record {
-  hidden = λ i h same. let w = In-map machine_row m.rows i h in
-      ∥∥₁_elim o.well_formed (hlevel props) (λ f.
-      let found = tree_found m.rows w.0 f.one_image w.1 in
-      let named : row_name w.0 ≡ x = sym (ap (λ (y : ImageRow). y.name) w.2) ∙ same in
-      ap (λ (y : ImageRow). y.hidden) w.2 ∙ ap (λ (q : TreeRow). q.hidden) (same_Some w.0 r (sym (ap (tree_row m.rows) (sym named) ∙ found) ∙ g.there)) ∙ g.hidden);
+  unattached = λ a i _ h same. ap (λ (b : Bool). not b && bytes_eq (image_uuid i.name) a.disk) (hidden_in s t m x r i o g h same);
   childless = λ i h linked. let w = In-map machine_row m.rows i h in
       true≢false (sym (ap (is_parent x) (sym (ap (λ (y : ImageRow). y.parent) w.2) ∙ linked) ∙ same_image-refl x g.image) ∙ g.childless w.0 w.1);
 }
@@ -182,7 +186,7 @@ unfolding shape_in
 records_removed s t m x r o g = ap (λ ps. records_in ps) (shown_same (without_row x m).rows m.rows m.places (λ u.
     any_filter (λ q. is_image_of u (machine_row q)) (λ q. not (same_image (row_name q) x)) m.rows (λ q i gone.
     ap (λ b. not b && bytes_eq (image_uuid (row_name q)) u)
-    ((unused_in s t m x r o g).hidden (machine_row q) (In-map_at machine_row m.rows q i) (same_image-sound (row_name q) x (not_false (same_image (row_name q) x) gone))))))
+    (hidden_in s t m x r (machine_row q) o g (In-map_at machine_row m.rows q i) (same_image-sound (row_name q) x (not_false (same_image (row_name q) x) gone))))))
 
 shape_with : (s : Site) (t : VolumeTable) (m : Known) (x : Name) (r : TreeRow) → IsOrderly s t m → IsGarbage s t m x r
     → shape_in s (applied t (Remove x)) (without_row x m) ≡ record (shape_in s t m) { images = without_image x (shape_in s t m).images; sequence = raised t.sequence }
@@ -226,23 +230,23 @@ orderly_removed s t m x r σ o g is allows =
 
 -- ---- the content is the same without it
 
-abbrev after : Site → VolumeTable → Held → Name → Content
+abbrev pub after : Site → VolumeTable → Held → Name → Content
 after s t old x = content_now s (applied t (Remove x)) (at_rest (reads old))
 
-same_rows : (s : Site) (t : VolumeTable) (m : Known) (x n : Name) → IsOrderly s t m → Permits s.count t (Remove x) → n ≢ x → rows (applied t (Remove x)) n ≡ rows t n
+pub same_rows : (s : Site) (t : VolumeTable) (m : Known) (x n : Name) → IsOrderly s t m → Permits s.count t (Remove x) → n ≢ x → rows (applied t (Remove x)) n ≡ rows t n
 same_rows s t m x n o allows other = (changes_by_name s.count t (Remove x) o.table allows).others n other
 
-sectors_kept : (s : Site) (t : VolumeTable) (old : Held) (x n : Name) → rows (applied t (Remove x)) n ≡ rows t n → (p : ℕ) → sectors_of (after s t old x) n p ≡ sectors_of (content_now s t old) n p
+pub sectors_kept : (s : Site) (t : VolumeTable) (old : Held) (x n : Name) → rows (applied t (Remove x)) n ≡ rows t n → (p : ℕ) → sectors_of (after s t old x) n p ≡ sectors_of (content_now s t old) n p
 unfolding sectors_of
 sectors_kept s t old x n same p = ap (λ o. piece s.geometry.extent (extents_of o) (reads old) p) same
 
-image_kept : (s : Site) (t : VolumeTable) (old : Held) (m : Known) (x n : Name) (r : TreeRow) (o : Option Row) → IsOrderly s t m → IsGarbage s t m x r → Permits s.count t (Remove x) → n ≢ x → rows t n ≡ o
+-- each other image is the same, beside orderly memory
+pub image_kept : (s : Site) (t : VolumeTable) (old : Held) (m m' : Known) (x n : Name) (o : Option Row) → IsOrderly s t m → IsOrderly s (applied t (Remove x)) m' → Permits s.count t (Remove x) → n ≢ x → rows t n ≡ o
     → image_of (after s t old x) n ≡ image_of (content_now s t old) n
 unfolding image_of
-image_kept s t old m x (Vhd u) r None o g allows other is = none_of_vhd (after s t old x) u (same_rows s t m x (Vhd u) o allows other ∙ is) ∙ sym (none_of_vhd (content_now s t old) u is)
-image_kept s t old m x (Vhd u) r (Some v) o g allows other is =
+image_kept s t old m m' x (Vhd u) None o o' allows other is = none_of_vhd (after s t old x) u (same_rows s t m x (Vhd u) o allows other ∙ is) ∙ sym (none_of_vhd (content_now s t old) u is)
+image_kept s t old m m' x (Vhd u) (Some v) o o' allows other is =
     let same = same_rows s t m x (Vhd u) o allows other in
-    let o' = orderly_removed s t m x r (record { disks = []; shape = shape_in s t m }) o g refl allows in
     vhd_same (content_now s t old) (after s t old x) u u v v (geometry_of s t m o) (record {
       extent = refl;
       block = refl;
@@ -252,9 +256,9 @@ image_kept s t old m x (Vhd u) r (Some v) o g allows other is =
       extents = refl;
       fresh = refl;
       sectors = λ p _. sectors_kept s t old x (Vhd u) same p;
-    }) (whole s t m (Vhd u) o) (whole s (applied t (Remove x)) (without_row x m) (Vhd u) o')
-image_kept s t old m x (Raw u) r None o g allows other is = none_of_raw (after s t old x) u (same_rows s t m x (Raw u) o allows other ∙ is) ∙ sym (none_of_raw (content_now s t old) u is)
-image_kept s t old m x (Raw u) r (Some v) o g allows other is =
+    }) (whole s t m (Vhd u) o) (whole s (applied t (Remove x)) m' (Vhd u) o')
+image_kept s t old m m' x (Raw u) None o o' allows other is = none_of_raw (after s t old x) u (same_rows s t m x (Raw u) o allows other ∙ is) ∙ sym (none_of_raw (content_now s t old) u is)
+image_kept s t old m m' x (Raw u) (Some v) o o' allows other is =
     let same = same_rows s t m x (Raw u) o allows other in
     raw_same (content_now s t old) (after s t old x) u u v v (record {
       extent = refl;
@@ -266,22 +270,23 @@ image_kept s t old m x (Raw u) r (Some v) o g allows other is =
       fresh = refl;
       sectors = λ p _. sectors_kept s t old x (Raw u) same p;
     })
-image_kept s t old m x Mgt r v o g allows other is = refl
-image_kept s t old m x (Old u) r v o g allows other is = refl
-image_kept s t old m x (Clone d b w) r v o g allows other is = refl
-image_kept s t old m x (Inflate u k) r v o g allows other is = refl
-image_kept s t old m x (Coalesce c p) r v o g allows other is = refl
-image_kept s t old m x (Relink c p) r v o g allows other is = refl
-image_kept s t old m x (Leaf l p) r v o g allows other is = refl
+image_kept s t old m m' x Mgt v o o' allows other is = refl
+image_kept s t old m m' x (Old u) v o o' allows other is = refl
+image_kept s t old m m' x (Clone d b w) v o o' allows other is = refl
+image_kept s t old m m' x (Inflate u k) v o o' allows other is = refl
+image_kept s t old m m' x (Coalesce c p) v o o' allows other is = refl
+image_kept s t old m m' x (Relink c p) v o o' allows other is = refl
+image_kept s t old m m' x (Leaf l p) v o o' allows other is = refl
 
 -- nobody's image has it as a parent
-no_child : (s : Site) (t : VolumeTable) (old : Held) (m : Known) (x : Name) (r : TreeRow) (n : Name) → IsOrderly s t m → IsReady s t old m → IsGarbage s t m x r → parent_is x (link_of (image_of (content_now s t old) n)) ≡ false
-no_child s t old m x r n o ready g =
+pub no_child : (s : Site) (t : VolumeTable) (old : Held) (m : Known) (x n : Name) → IsOrderly s t m → IsReady s t old m → ((c : TreeRow) → In c m.rows → is_parent x (machine_row c).parent ≡ false)
+    → parent_is x (link_of (image_of (content_now s t old) n)) ≡ false
+no_child s t old m x n o ready childless =
     ap (parent_is x) (links_left s t old m (reads old) n o ready.firm (left_in s t m old (reads old) o (left_now s old))) ∙ by (tree_row m.rows n) refl
   where
     by : (y : Option TreeRow) → tree_row m.rows n ≡ y → parent_is x (link_in y) ≡ false
     by None is = refl
-    by (Some c) is = of (parent_name c.image) (g.childless c (In-tree_row m.rows n c is).0)
+    by (Some c) is = of (parent_name c.image) (childless c (In-tree_row m.rows n c is).0)
       where
         of : (q : Option Name) → is_parent x q ≡ false → elim q as (λ o. Bool) [ None ↦ false | Some p ↦ same_image p x ] ≡ false
         of None e = refl
@@ -308,10 +313,10 @@ removed_disks_same s t old m x r o ready g allows =
       name = same_image-refl x g.image;
       there = by_name.does.1;
       hidden = sym w.hidden ∙ ap (λ (q : TreeRow). q.hidden) (same_Some w.row r (sym w.found ∙ g.there)) ∙ g.hidden;
-      childless = filter_none (λ q. parent_is x (link_of (image_of c q.name))) t.volumes (λ q i. no_child s t old m x r q.name o ready g);
+      childless = filter_none (λ q. parent_is x (link_of (image_of c q.name))) t.volumes (λ q i. no_child s t old m x q.name o ready g.childless);
       gone = by_name.does.2;
       others = λ n other. by_name.others n other;
-      images = λ n other. image_kept s t old m x n r (rows t n) o g allows other refl;
+      images = λ n other. image_kept s t old m (without_row x m) x n (rows t n) o o' allows other refl;
       recorded = λ u. record_of_first (after s t old x) u
           ∙ ap first_of (records_same c (after s t old x) u (λ k below. ap reading (sectors_kept s t old x Mgt (mgt_stays s.count t (Remove x) o.table allows) k)))
           ∙ sym (record_of_first c u);

@@ -16,6 +16,7 @@ use Rattle.vg_volumes.specs.Volumes.{span, spot, volume}
 use Rattle.vg_volumes.proofs.VolumeLaws.{Keeps-volume}
 use Rattle.sm_record.specs.declared.records.Record.{Record}
 use Rattle.sm_mgt.specs.Places.{Agrees, records_held}
+use Rattle.sm_standing.specs.Images.{image_of}
 use Rattle.sm_standing.specs.Standing.{disks}
 use Rattle.vhd_chain.specs.Trees.{row_name}
 use Rattle.vhd_volumes.specs.Steady.{IsQuiet}
@@ -23,15 +24,16 @@ use Rattle.vhd_volumes.proofs.SteadyLaws.{quiet_settled}
 use Rattle.sm_ready.specs.Done.{at_rest}
 use Rattle.sm_ready.specs.Known.{Known}
 use Rattle.sm_ready.specs.Orderly.{IsOrderly}
-use Rattle.sm_ready.specs.Ready.{IsReady, IsBelow}
+use Rattle.sm_ready.specs.Ready.{IsReady}
 use Rattle.sm_ready.specs.Repairs.{IsSame}
 use Rattle.sm_ready.specs.Stores.{content_in, content_now}
 use Rattle.sm_ready.proofs.CommitLaws.{law_settled, rested, volume_rested}
 use Rattle.sm_ready.proofs.GoneLaws.{IsBeside, orderly_gone, ready_gone, disks_gone}
 use Rattle.sm_ready.proofs.KeptLaws.{law_kept}
-use Rattle.sm_ready.proofs.LeftLaws.{IsLeft, left_in, left_now, ready_places}
+use Rattle.sm_ready.proofs.LeftLaws.{IsLeft, image_quiet, left_in, left_now, ready_places}
+use Rattle.sm_ready.proofs.OperationLaws.{below_alike}
 use Rattle.sm_ready.proofs.RestLaws.{ready_rest, steady_keeps}
-use Rattle.sm_ready.proofs.StrayLaws.{IsSwept, swept_disks, with_places}
+use Rattle.sm_ready.proofs.StrayLaws.{IsSwept, swept_disks, swept_in, with_places}
 
 volume_settled : (extent : ℕ) (es : List ℕ) (area : Held) → IsSettled area → IsSettled (volume extent es area)
 unfolding volume
@@ -77,13 +79,18 @@ module _ (s : Site) (t : VolumeTable) (old : Held) (m : Known) (x : Name) (r : R
 -- ---- records of no disk are wiped, and a sync makes it last
 
 module _ (s : Site) (t : VolumeTable) (m : Known) (old mid new : Held) (o : IsOrderly s t m) (ready : IsReady s t old m) (swept : IsSwept s t m old mid) (keeps : Keeps mid new) where
-  pub swept_ready : (ps : List (Option Record)) → IsSettled new → Agrees (records_held s t new) ps → m.op ≡ op.Idle → IsReady s t new (with_places ps m)
-  swept_ready ps settled agrees idle = record {
+  swept_images : IsSettled old → (n : Name) → image_of (content_now s t new) n ≡ image_of (content_now s t old) n
+  swept_images settled n =
+      ap (λ image. image_of (content_in s t image) n) (fun_ext keeps.reads)
+      ∙ image_quiet s t old m (reads mid) n o ready.firm (swept_in s t m old mid o ready swept (reads mid) (left_now s mid)) (all_quiet s t old settled n)
+
+  pub swept_ready : (ps : List (Option Record)) → IsSettled new → Agrees (records_held s t new) ps → IsSettled old → IsReady s t new (with_places ps m)
+  swept_ready ps settled agrees before = record {
     firm = record {
       images = λ q i. steady_keeps s.geometry (q.extents * s.geometry.extent) (volume_of s t old (row_name q)) (volume_of s t new (row_name q)) q.image
           (Keeps-then (swept.images q i) (Keeps-volume s.geometry.extent (extents_of (rows t (row_name q))) keeps)) (ready.firm.images q i);
       quiet = λ q i still. all_quiet s t new settled (row_name q);
-      below = subst (IsBelow (content_now s t new)) (sym idle) tt;
+      below = below_alike (content_now s t old) (content_now s t new) m.op refl refl (λ n _. swept_images before n) ready.firm.below;
     };
     records = agrees;
     recorded = all_quiet s t new settled Mgt;

@@ -509,7 +509,7 @@ plainly_stands s t m u o =
     ap (λ (ns : List Name). under (λ e. stands_forked t e u) (head ns) (under (λ e. stands_folded t e u) (head (folding t)) (stands_plainly t u))) (none_making s t m o)
     ∙ under_plainly t u (head (folding t)) (stands_plainly t u) (λ l. no_old s t m l o)
 
-visible_row : (s : Site) (t : VolumeTable) (m : Known) (r : TreeRow) → IsOrderly s t m → IsWellFormed (shape_in s t m) → In r m.rows → r.hidden ≡ false → is_visible t (row_name r) ≡ true
+pub visible_row : (s : Site) (t : VolumeTable) (m : Known) (r : TreeRow) → IsOrderly s t m → IsWellFormed (shape_in s t m) → In r m.rows → r.hidden ≡ false → is_visible t (row_name r) ≡ true
 unfolding shape_in
 visible_row s t m r o w i shown =
     let found = tree_found m.rows r w.one_image i in

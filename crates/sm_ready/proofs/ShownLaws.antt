@@ -29,7 +29,7 @@ visible : {A : Type 0} (f : TreeRow → A) (r : TreeRow) → r.hidden ≡ false 
 visible f r shown = ap (λ b. cond b None (Some (f r))) shown
 
 -- a UUID has one image
-no_twin : (s : Site) (t : VolumeTable) (m : Known) (r : TreeRow) (u : List ℕ) → IsWellFormed (shape_in s t m) → In r m.rows → row_name r ≡ Raw u → tree_row m.rows (Vhd u) ≡ None
+pub no_twin : (s : Site) (t : VolumeTable) (m : Known) (r : TreeRow) (u : List ℕ) → IsWellFormed (shape_in s t m) → In r m.rows → row_name r ≡ Raw u → tree_row m.rows (Vhd u) ≡ None
 unfolding shape_in image_uuid is_vhd
 no_twin s t m r u w i named = by (tree_row m.rows (Vhd u)) refl
   where

@@ -113,7 +113,7 @@ shown_freed rs (x ∷ ps) (y ∷ qs) f = shown_rest rs x y ps qs (f.each 0) (sho
 abbrev pub with_places : List (Option Record) → Known → Known
 with_places ps m = record m { places = ps }
 
-shape_freed : (s : Site) (t : VolumeTable) (m : Known) (ps : List (Option Record)) → IsFreed m.rows m.places ps → shape_in s t (with_places ps m) ≡ shape_in s t m
+pub shape_freed : (s : Site) (t : VolumeTable) (m : Known) (ps : List (Option Record)) → IsFreed m.rows m.places ps → shape_in s t (with_places ps m) ≡ shape_in s t m
 unfolding shape_in
 shape_freed s t m ps f = ap (λ qs. record (shape_in s t m) { records = records_in qs }) (shown_freed m.rows m.places ps f)
 

@@ -1,5 +1,5 @@
 -- Commands that only read, and commands that did their work, told as a session tells them.
-use Rattle.std.proofs.Common.{◌≡◌, ◌⊎◌, inl, inr, ⊎_elim, ℕ, ◌+◌, ◌^◌, ◌<◌, Bool, true, false, List, Option, None, Ok, Err, refl, sym, ap, ap₂, ◌∙◌, subst, arith}
+use Rattle.std.proofs.Common.{◌≡◌, ◌⊎◌, inl, inr, ⊎_elim, ℕ, ◌+◌, ◌^◌, ◌<◌, Bool, true, false, List, Option, None, Result, Ok, Err, refl, sym, ap, ap₂, ◌∙◌, subst, arith}
 use Rattle.std.proofs.lemmas.Bool.{true≢false}
 use Rattle.std.proofs.Math.Path.{fun_ext}
 use Rattle.sm_base.specs.declared.faults.Failed.{Failed}
@@ -30,7 +30,7 @@ use Rattle.sm_ready.specs.Known.{known, shape_in}
 use Rattle.sm_ready.specs.Ready.{IsReady}
 use Rattle.sm_ready.specs.Sessions.{IsOrderlyStore, IsReadyStore, state_in, store_state}
 use Rattle.sm_ready.specs.Stores.{MayShow, StoreLeaves, content_in, store_content}
-use Rattle.sm_ready.specs.Taken.{StoreTakes}
+use Rattle.sm_ready.specs.Taken.{StoreTakes, StoreTakesTo, StoreTakesWhole}
 use Rattle.sm_ready.specs.declared.memory.Memory.{Memory}
 use Rattle.sm_ready.proofs.CommitLaws.{IsSafe, ready_safe}
 use Rattle.sm_ready.proofs.LeaveLaws.{left_choice}
@@ -39,10 +39,10 @@ pub held_same : (a b : Held) → SameHeld a b → b ≡ a
 held_same a b e = ap₂ (λ (f : ℕ → List ℕ) (p : ℕ → List (List ℕ)). let h : Held = record { floor = f; pending = p } in h) (fun_ext (λ q. e.floor q)) (fun_ext (λ q. e.pending q))
 
 -- the answer of a command that left all as it was: memory was wanting, or it is the machine's, which stays as it was
-abbrev pub IsAnswer : State → Command → Reply → Type 0
-IsAnswer σ command r = (r ≡ No NoMemory) ⊎ ((r ≡ (step σ command).reply) × ((step σ command).after ≡ σ))
+abbrev pub IsAnswer : State → Outcome → Reply → Type 0
+IsAnswer σ o r = (r ≡ No NoMemory) ⊎ ((r ≡ o.reply) × (o.after ≡ σ))
 
-module _ {S : Type 0} (g : Ghosts S) (a b : S) (m n : Memory) (command : Command) (r : Reply) (orderly : IsOrderlyStore g a m) (usable : g.failed a ≡ false) (told : g.told) (ready : IsReadyStore g a m)
+module _ (o : Outcome) {S : Type 0} (g : Ghosts S) (a b : S) (m n : Memory) (command : Command) (r : Reply) (orderly : IsOrderlyStore g a m) (usable : g.failed a ≡ false) (told : g.told) (ready : IsReadyStore g a m)
     (now : (v : VolumeTable) (image : ℕ → List ℕ) → g.leaves a v image → IsChoiceOf (stored g a) v image) where
   safe : IsSafe (g.site a) (table_alone (g.table a)) (g.area a) (StoreLeaves g a) (disks (store_content g a))
   safe = ready_safe (g.site a) (table_alone (g.table a)) (g.area a) (known m) (StoreLeaves g a) orderly ready (λ image is. inr (told, usable, is))
@@ -51,15 +51,15 @@ module _ {S : Type 0} (g : Ghosts S) (a b : S) (m n : Memory) (command : Command
   left v image l = left_choice g.told (g.site a) (table_alone (g.table a)) (g.area a) (g.leaves a) (g.failed a) now v image l
 
   -- a command that only read
-  pub taken_reads : OnlyReads g a b → ((t : VolumeTable) (image : ℕ → List ℕ) → g.leaves b t image → g.leaves a t image) → n ≡ m → IsAnswer (store_state g a m) command r → (is_accepted r ≡ true → is_settling command ≡ true → ⊥)
-      → StoreTakes g command a m b n (Ok r)
+  pub taken_reads : OnlyReads g a b → ((t : VolumeTable) (image : ℕ → List ℕ) → g.leaves b t image → g.leaves a t image) → n ≡ m → IsAnswer (store_state g a m) o r → (is_accepted r ≡ true → is_settling command ≡ true → ⊥)
+      → StoreTakesTo o g command a m b n (Ok r)
   taken_reads reads fewer same answer unsettling = record {
     reply = ⊎_elim (λ poor. inl (poor, unchanged)) (λ w. inr (w.0, unchanged ∙ sym w.1)) answer;
     ready = still;
     settled = λ yes settles. absurd (unsettling yes settles);
     crash = λ v image l.
         let here = left v image (before v image l) in
-        subst (λ y. IsKept (content_in (g.site a) y image) × IsBetween (MayShow (g.site a) (StoreLeaves g a)) (disks (store_content g a)) ((step (store_state g a m) command).after).disks (disks (content_in (g.site a) y image))) (sym here.table_is)
+        subst (λ y. IsKept (content_in (g.site a) y image) × IsBetween (MayShow (g.site a) (StoreLeaves g a)) (disks (store_content g a)) o.after.disks (disks (content_in (g.site a) y image))) (sym here.table_is)
         (safe.kept image here.sectors, inl (safe.shown image here.sectors));
   }
     where
@@ -83,9 +83,9 @@ module _ {S : Type 0} (g : Ghosts S) (a b : S) (m n : Memory) (command : Command
           )) l
 
   -- a command that did its work
-  pub taken_done : (ok : Type 0) → ok → (step (store_state g a m) command).reply ≡ r → shape_in (g.site a) (table_alone (g.table b)) (known n) ≡ (step (store_state g a m) command).after.shape
-      → HasDone (g.site a) (table_alone (g.table a)) (table_alone (g.table b)) (g.area a) (g.area b) (known n) (StoreLeaves g a) (StoreLeaves g b) ok ((step (store_state g a m) command).after).disks
-      → StoreTakes g command a m b n (Ok r)
+  pub taken_done : (ok : Type 0) → ok → o.reply ≡ r → shape_in (g.site a) (table_alone (g.table b)) (known n) ≡ o.after.shape
+      → HasDone (g.site a) (table_alone (g.table a)) (table_alone (g.table b)) (g.area a) (g.area b) (known n) (StoreLeaves g a) (StoreLeaves g b) ok o.after.disks
+      → StoreTakesTo o g command a m b n (Ok r)
   taken_done ok fine replied shaped done = record {
     reply = inr (sym replied, ap₂ (λ (ds : List Disk) (σ : _). let x : State = record { disks = ds; shape = σ } in x) (done.shown fine) shaped);
     ready = done.ready fine;
@@ -95,8 +95,8 @@ module _ {S : Type 0} (g : Ghosts S) (a b : S) (m n : Memory) (command : Command
 
   -- and one that failed
   pub taken_failed : (ok : Type 0) (f : Failed)
-      → HasDone (g.site a) (table_alone (g.table a)) (table_alone (g.table b)) (g.area a) (g.area b) (known n) (StoreLeaves g a) (StoreLeaves g b) ok ((step (store_state g a m) command).after).disks
-      → StoreTakes g command a m b n (Err f)
+      → HasDone (g.site a) (table_alone (g.table a)) (table_alone (g.table b)) (g.area a) (g.area b) (known n) (StoreLeaves g a) (StoreLeaves g b) ok o.after.disks
+      → StoreTakesTo o g command a m b n (Err f)
   taken_failed ok f done = record { reply = tt; ready = tt; settled = tt; crash = done.crash }
 
 -- ---- the step of a command
@@ -111,12 +111,17 @@ pub step_by : (σ : State) (c : Command) (o : Option Refusal) → is_built c ≡
 unfolding step step_whole
 step_by σ c o built is = ap (λ b. if_built b σ c) built ∙ ap (λ x. unless_refused x σ c) is
 
+-- one of all commands is accepted where no cause applies
+pub whole_by : (σ : State) (c : Command) → refusal σ.shape c ≡ None → step_whole σ c ≡ accepted σ c
+unfolding step_whole
+whole_by σ c passes = ap (λ x. unless_refused x σ c) passes
+
 -- an accepted one that changes neither disks nor shape, and makes no commit, leaves the state
 pub step_still : (σ : State) (c : Command) → is_built c ≡ true → refusal σ.shape c ≡ None → σ.shape.sequence < 2 ^ 48 → disks_next σ.disks σ.shape c ≡ σ.disks → shape_after σ.shape c ≡ σ.shape → is_given_up σ.shape c ≡ false
     → own_commits σ.shape c ≡ 0 → (step σ c).after ≡ σ
 unfolding accepted shape_next commits
 step_still σ c built passes few same_disks same_shape keeps none =
-    ap (λ (o : Outcome). o.after) (step_by σ c None built passes)
+    ap (λ (x : Outcome). x.after) (step_by σ c None built passes)
     ∙ ap₂ (λ (ds : List Disk) (sh : Shape). let x : State = record { disks = ds; shape = record (given_up (is_given_up σ.shape c) sh) { sequence = risen σ.shape.sequence (commits σ.shape c) } } in x) same_disks same_shape
     ∙ ap₂ (λ (b : Bool) (n : ℕ). let x : State = record σ { shape = record (given_up b σ.shape) { sequence = risen σ.shape.sequence (one_if b + n) } } in x) keeps none
     ∙ ap (λ (k : ℕ). let x : State = record σ { shape = record σ.shape { sequence = k } } in x) (omega arith)
@@ -135,44 +140,57 @@ pub is_told : {S : Type 0} (g : Ghosts S) (a : S) (m : Memory) → IsOrderlyStor
     → IsTold g a m
 is_told g a m orderly usable told ready now = record { orderly = orderly; usable = usable; told = told; ready = ready; now = now }
 
-module _ {S : Type 0} {g : Ghosts S} {a : S} {m : Memory} (h : IsTold g a m) (c : Command) where
-  abbrev σ : State
-  σ = store_state g a m
+unaccepted : (q : Refusal) → is_accepted (No q) ≡ true → ⊥
+unfolding is_accepted
+unaccepted q e = true≢false (sym e)
 
-  unaccepted : (q : Refusal) → is_accepted (No q) ≡ true → ⊥
-  unfolding is_accepted
-  unaccepted q e = true≢false (sym e)
-
+-- to this reply and this state
+module _ {o : Outcome} {S : Type 0} {g : Ghosts S} {a : S} {m : Memory} (h : IsTold g a m) (c : Command) where
   -- refused, or not built: nothing was done
-  pub taken_refused : (q : Refusal) → step σ c ≡ refused σ q → StoreTakes g c a m a m (Ok (No q))
+  pub taken_refused : (q : Refusal) → o ≡ refused (store_state g a m) q → StoreTakesTo o g c a m a m (Ok (No q))
   taken_refused q is =
-      taken_reads g a a m m c (No q) h.orderly h.usable h.told h.ready h.now (reads_none a) (λ t image l. l) refl
-      (inr (ap (λ (o : Outcome). o.reply) (sym is), ap (λ (o : Outcome). o.after) is)) (λ yes settles. unaccepted q yes)
+      taken_reads o g a a m m c (No q) h.orderly h.usable h.told h.ready h.now (reads_none a) (λ t image l. l) refl
+      (inr (ap (λ (x : Outcome). x.reply) (sym is), ap (λ (x : Outcome). x.after) is)) (λ yes settles. unaccepted q yes)
 
   -- memory was wanting, and nothing was written
-  pub taken_poor : {b : S} (n : Memory) → OnlyReads g a b → ((t : VolumeTable) (image : ℕ → List ℕ) → g.leaves b t image → g.leaves a t image) → n ≡ m → StoreTakes g c a m b n (Ok (No NoMemory))
+  pub taken_poor : {b : S} (n : Memory) → OnlyReads g a b → ((t : VolumeTable) (image : ℕ → List ℕ) → g.leaves b t image → g.leaves a t image) → n ≡ m → StoreTakesTo o g c a m b n (Ok (No NoMemory))
   taken_poor {b} n reads fewer same =
-      taken_reads g a b m n c (No NoMemory) h.orderly h.usable h.told h.ready h.now reads fewer same (inl refl) (λ yes settles. unaccepted NoMemory yes)
+      taken_reads o g a b m n c (No NoMemory) h.orderly h.usable h.told h.ready h.now reads fewer same (inl refl) (λ yes settles. unaccepted NoMemory yes)
 
   -- it is answered from memory, and leaves the state
-  pub taken_answered : {r : Reply} → (r ≡ No NoMemory) ⊎ (r ≡ (step σ c).reply) → (step σ c).after ≡ σ → is_settling c ≡ false → StoreTakes g c a m a m (Ok r)
+  pub taken_answered : {r : Reply} → (r ≡ No NoMemory) ⊎ (r ≡ o.reply) → o.after ≡ store_state g a m → is_settling c ≡ false → StoreTakesTo o g c a m a m (Ok r)
   taken_answered {r} answer still unsettling =
-      taken_reads g a a m m c r h.orderly h.usable h.told h.ready h.now (reads_none a) (λ t image l. l) refl (⊎_elim (λ poor. inl poor) (λ is. inr (is, still)) answer) (λ yes settles. true≢false (sym settles ∙ unsettling))
+      taken_reads o g a a m m c r h.orderly h.usable h.told h.ready h.now (reads_none a) (λ t image l. l) refl (⊎_elim (λ poor. inl poor) (λ is. inr (is, still)) answer) (λ yes settles. true≢false (sym settles ∙ unsettling))
 
-  module _ {b : S} (n : Memory) {ok : Type 0} (built : is_built c ≡ true) (passes : refusal σ.shape c ≡ None)
-      (done : HasDone (g.site a) (table_alone (g.table a)) (table_alone (g.table b)) (g.area a) (g.area b) (known n) (StoreLeaves g a) (StoreLeaves g b) ok (disks_next σ.disks σ.shape c)) where
-    stepped : HasDone (g.site a) (table_alone (g.table a)) (table_alone (g.table b)) (g.area a) (g.area b) (known n) (StoreLeaves g a) (StoreLeaves g b) ok (step σ c).after.disks
+  module _ {b : S} (n : Memory) {ok : Type 0} (accepts : o ≡ accepted (store_state g a m) c)
+      (done : HasDone (g.site a) (table_alone (g.table a)) (table_alone (g.table b)) (g.area a) (g.area b) (known n) (StoreLeaves g a) (StoreLeaves g b) ok (disks_next (store_state g a m).disks (store_state g a m).shape c)) where
+    stepped : HasDone (g.site a) (table_alone (g.table a)) (table_alone (g.table b)) (g.area a) (g.area b) (known n) (StoreLeaves g a) (StoreLeaves g b) ok o.after.disks
     unfolding accepted
     stepped = subst (λ ds. HasDone (g.site a) (table_alone (g.table a)) (table_alone (g.table b)) (g.area a) (g.area b) (known n) (StoreLeaves g a) (StoreLeaves g b) ok ds)
-        (ap (λ (o : Outcome). o.after.disks) (sym (step_by σ c None built passes))) done
+        (ap (λ (x : Outcome). x.after.disks) (sym accepts)) done
 
     -- it did its work
-    pub taken_accepted : (r : Reply) → r ≡ reply_to σ.disks σ.shape c → ok → shape_in (g.site a) (table_alone (g.table b)) (known n) ≡ (step_whole σ c).after.shape → StoreTakes g c a m b n (Ok r)
-    unfolding step accepted
-    taken_accepted r replied fine shaped =
-        taken_done g a b m n c r h.orderly h.usable h.told h.ready h.now ok fine (ap (λ (o : Outcome). o.reply) (step_by σ c None built passes) ∙ sym replied)
-        (shaped ∙ ap (λ x. (if_built x σ c).after.shape) (sym built)) stepped
+    pub done_by : (r : Reply) → r ≡ reply_to (store_state g a m).disks (store_state g a m).shape c → ok → shape_in (g.site a) (table_alone (g.table b)) (known n) ≡ o.after.shape → StoreTakesTo o g c a m b n (Ok r)
+    unfolding accepted
+    done_by r replied fine shaped =
+        taken_done o g a b m n c r h.orderly h.usable h.told h.ready h.now ok fine (ap (λ (x : Outcome). x.reply) accepts ∙ sym replied) shaped stepped
 
     -- and it failed
-    pub taken_stopped : (f : Failed) → StoreTakes g c a m b n (Err f)
-    taken_stopped f = taken_failed g a b m n c (No NoMemory) h.orderly h.usable h.told h.ready h.now ok f stepped
+    pub stopped_by : (f : Failed) → StoreTakesTo o g c a m b n (Err f)
+    stopped_by f = taken_failed o g a b m n c (No NoMemory) h.orderly h.usable h.told h.ready h.now ok f stepped
+
+-- the same of a command that is built
+module _ {S : Type 0} {g : Ghosts S} {a b : S} {m : Memory} (h : IsTold g a m) (c : Command) (n : Memory) {ok : Type 0} (built : is_built c ≡ true) (passes : refusal (store_state g a m).shape c ≡ None)
+    (done : HasDone (g.site a) (table_alone (g.table a)) (table_alone (g.table b)) (g.area a) (g.area b) (known n) (StoreLeaves g a) (StoreLeaves g b) ok (disks_next (store_state g a m).disks (store_state g a m).shape c)) where
+  pub taken_accepted : (r : Reply) → r ≡ reply_to (store_state g a m).disks (store_state g a m).shape c → ok → shape_in (g.site a) (table_alone (g.table b)) (known n) ≡ (step_whole (store_state g a m) c).after.shape → StoreTakes g c a m b n (Ok r)
+  unfolding step
+  taken_accepted r replied fine shaped =
+      done_by h c n (step_by (store_state g a m) c None built passes) done r replied fine (shaped ∙ ap (λ x. (if_built x (store_state g a m) c).after.shape) (sym built))
+
+  pub taken_stopped : (f : Failed) → StoreTakes g c a m b n (Err f)
+  taken_stopped f = stopped_by h c n (step_by (store_state g a m) c None built passes) done f
+
+-- what was taken as the machine of all commands has it was taken, once the command is built
+pub taken_built : {S : Type 0} (g : Ghosts S) (a b : S) (m n : Memory) (c : Command) (r : Result Reply Failed) → is_built c ≡ true → StoreTakesWhole g c a m b n r → StoreTakes g c a m b n r
+unfolding step
+taken_built g a b m n c r built taken = subst (λ x. StoreTakesTo (if_built x (store_state g a m) c) g c a m b n r) (sym built) taken

@@ -21,18 +21,18 @@ use Rattle.sm_ready.specs.Written.{HasBytes}
 
 -- ---- one sector of a disk
 
-slice-numbers : (a n k : ℕ) → k < n → slice_get (numbers a n) k ≡ Some (a + k)
+pub slice-numbers : (a n k : ℕ) → k < n → slice_get (numbers a n) k ≡ Some (a + k)
 unfolding numbers
 slice-numbers a zero k below = absurd (omega (arith, below))
 slice-numbers a (suc n) zero below = ap Some (omega arith)
 slice-numbers a (suc n) (suc k) below = slice-numbers (a + 1) n k (omega (arith, below)) ∙ ap Some (omega arith)
 
-length-numbers : (a n : ℕ) → length (numbers a n) ≡ n
+pub length-numbers : (a n : ℕ) → length (numbers a n) ≡ n
 unfolding numbers
 length-numbers a zero = refl
 length-numbers a (suc n) = ap suc (length-numbers (a + 1) n)
 
-read_of : (c : Content) (n : Name) (i : Image) → image_of c n ≡ Some i → sectors_read c n ≡ map (image_reads c n) (numbers 0 i.size)
+pub read_of : (c : Content) (n : Name) (i : Image) → image_of c n ≡ Some i → sectors_read c n ≡ map (image_reads c n) (numbers 0 i.size)
 unfolding sectors_read
 read_of c n i is = ap (λ (o : Option Image). elim o as (λ o. List (List ℕ)) [ None ↦ [] | Some x ↦ map (image_reads c n) (numbers 0 x.size) ]) is
 

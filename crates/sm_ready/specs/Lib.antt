@@ -13,3 +13,5 @@ pub mod Proper
 pub mod Repairs
 pub mod Cleaned
 pub mod Shown
+pub mod Does
+pub mod Refusing

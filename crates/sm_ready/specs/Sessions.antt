@@ -55,3 +55,8 @@ HasTreeRoom m = image_limit ≤ length m.tree.rows + m.tree.spare
 pub record IsAtEase (m : Memory) : Type 0 where
   pub idle : m.operation ≡ Idle
   pub unattached : m.attached.disks ≡ []
+
+-- the attachments and the collector's operation stay
+pub record StaysInUse (old new : Memory) : Type 0 where
+  pub attached : new.attached ≡ old.attached
+  pub operation : new.operation ≡ old.operation

@@ -11,30 +11,36 @@ use Rattle.sm_machine.specs.declared.commands.Command.{Command}
 use Rattle.sm_machine.specs.declared.replies.Reply.{Reply}
 use Rattle.sm_machine.specs.declared.replies.Reply.TheVariants.{No}
 use Rattle.sm_machine.specs.Runs.{is_accepted, is_settling}
-use Rattle.sm_machine.specs.Steps.{step}
+use Rattle.sm_machine.specs.Steps.{Outcome, step, step_whole}
 use Rattle.sm_run.specs.Between.{IsBetween}
 use Rattle.sm_standing.specs.Keeping.{IsKept}
 use Rattle.sm_standing.specs.Standing.{disks}
 use Rattle.sm_ready.specs.Known.{Known, known}
 use Rattle.sm_ready.specs.Ready.{IsReady}
-use Rattle.sm_ready.specs.Sessions.{state_in}
+use Rattle.sm_ready.specs.Sessions.{state_in, store_state}
 use Rattle.sm_ready.specs.Stores.{Leaving, MayShow, StoreLeaves, content_in}
 use Rattle.sm_ready.specs.declared.memory.Memory.{Memory}
 
--- The answer is the machine's and so is the state, or memory was wanting and all is as it was; at an answer the sectors are
--- as memory says, and behind a command that makes all last nothing is pending; and whatever a stop leaves is kept, and
--- shows disks between those from before and those from after.
-pub record HasTaken (s : Site) (command : Command) (t : VolumeTable) (area : Held) (m : Known) (u : VolumeTable) (now : Held) (n : Known) (before leaves : Leaving) (result : Result Reply Failed) : Type 0 where
-  pub reply : IfOk result (λ r. ((r ≡ No NoMemory) × (state_in s u now n ≡ state_in s t area m))
-      ⊎ ((r ≡ (step (state_in s t area m) command).reply) × (state_in s u now n ≡ (step (state_in s t area m) command).after)))
+-- The answer and the state are these, or memory was wanting and all is as it was; at an answer the sectors are as memory
+-- says, and behind a command that makes all last nothing is pending; and whatever a stop leaves is kept, and shows disks
+-- between those from before and those from after.
+pub record HasTakenTo (o : Outcome) (s : Site) (command : Command) (t : VolumeTable) (area : Held) (m : Known) (u : VolumeTable) (now : Held) (n : Known) (before leaves : Leaving) (result : Result Reply Failed) : Type 0 where
+  pub reply : IfOk result (λ r. ((r ≡ No NoMemory) × (state_in s u now n ≡ state_in s t area m)) ⊎ ((r ≡ o.reply) × (state_in s u now n ≡ o.after)))
   pub ready : OnOk result (IsReady s u now n)
   pub settled : IfOk result (λ r. is_accepted r ≡ true → is_settling command ≡ true → IsSettled now)
   pub crash : (v : VolumeTable) (image : ℕ → List ℕ) → leaves v image → IsKept (content_in s v image)
-      × IsBetween (MayShow s before) (state_in s t area m).disks ((step (state_in s t area m) command).after).disks (disks (content_in s v image))
+      × IsBetween (MayShow s before) (state_in s t area m).disks o.after.disks (disks (content_in s v image))
 
--- of a store with its memory: a call takes this command, with the reply and the state that the machine gives, or answers that
--- memory is wanting and leaves the state; whatever a stop leaves is kept, with disks between those from before and those
--- from after
+-- of a store with its memory: a call takes this command to this reply and this state, or answers that memory is wanting and
+-- leaves the state; whatever a stop leaves is kept, with disks between those from before and those from after
+abbrev pub StoreTakesTo : Outcome → {S : Type 0} → Ghosts S → Command → S → Memory → S → Memory → Result Reply Failed → Type 0
+StoreTakesTo o g command old m new n result =
+    HasTakenTo o (g.site old) command (table_alone (g.table old)) (g.area old) (known m) (table_alone (g.table new)) (g.area new) (known n) (StoreLeaves g old) (StoreLeaves g new) result
+
+-- to what the machine makes of the command, where it is one that is built
 abbrev pub StoreTakes : {S : Type 0} → Ghosts S → Command → S → Memory → S → Memory → Result Reply Failed → Type 0
-StoreTakes g command old m new n result =
-    HasTaken (g.site old) command (table_alone (g.table old)) (g.area old) (known m) (table_alone (g.table new)) (g.area new) (known n) (StoreLeaves g old) (StoreLeaves g new) result
+StoreTakes g command old m new n result = StoreTakesTo (step (store_state g old m) command) g command old m new n result
+
+-- to what the machine makes of it, whether a line of a script reaches it yet or not
+abbrev pub StoreTakesWhole : {S : Type 0} → Ghosts S → Command → S → Memory → S → Memory → Result Reply Failed → Type 0
+StoreTakesWhole g command old m new n result = StoreTakesTo (step_whole (store_state g old m) command) g command old m new n result

@@ -15,25 +15,43 @@
 //! and shows the disks that a read gives, but for what guests wrote (`AlikeLaws`). The laws by kind of change say what a stop
 //! may leave while it is made, and that the store is ready behind it: a single commit (`CommitLaws`), a new volume beside the
 //! images (`FirstLaws`), its record (`MiddleLaws`), its mark taken away (`LastLaws`), an image that nobody uses (`RemoveLaws`),
-//! a guest's write (`GuestLaws`, `AfterLaws`).
+//! a guest's write into a VHD image (`GuestLaws`) and into a raw one (`RawGuestLaws`), both by what a stop leaves of the image
+//! (`StopLaws`), and that the store is ready behind it (`AfterLaws`).
 //!
 //! For an opening, whatever kind its images have: the rows that are read off a table (`LoadLaws`) and the places of the
 //! records make memory that is orderly (`BegunLaws`); it is at rest again behind each repair (`AgainLaws`), where a volume
 //! that is new goes (`NewVolumeLaws`) and where a record of no disk is wiped (`WipeLaws`); the table is then the one from
 //! before without its new volumes (`CleanLaws`), and the shape the one that an opening is to make (`OpenedLaws`).
 //!
-//! **What a command cites.** Why it is refused, by table and memory, and what is known where it is not (`RefusalLaws`); what
-//! was taken, whether it was refused, answered, accepted or stopped (`TakenLaws`); what a stop leaves in a chain of calls of
-//! the store (`ChainLaws`), and what it shows at rest (`ShowLaws`); an image and its disk's record made in two commits
-//! (`NewLaws`, `MakingLaws`), whatever is attached and whatever operation runs (`OperationLaws`); an image that is being
-//! enlarged (`EnlargedLaws`); the machine's tables as maps of images (`MapLaws`); room for rows (`RoomLaws`, `RowRoomLaws`);
-//! what is asked of the visible image of a UUID (`ShownLaws`); a list in order with one element more (`InsertLaws`).
+//! [`refuse`] says why a command is refused, told or not: the first cause in the machine's order, by the table and by what is
+//! in memory (`Answers`). It is asked once, before a command is taken; a command's crate requires that no cause was found
+//! (`IsAllowed`). It takes no memory and makes no call of a store. Sizes are in bytes where a command gives them, else in
+//! sectors; room is counted in extents, and [`extents_needed`] gives those of a raw disk. [`image_name`] is the name of a disk's
+//! own image.
+//!
+//! **What a command cites.** What is known where no cause refuses it (`RefusalLaws`), and of the extents that it takes
+//! (`NeedLaws`); what the machine looks up of a disk, by what is in memory (`LookLaws`); what was taken, whether it was
+//! refused, answered, accepted or stopped (`TakenLaws`), by the commands that are built or by all; what a stop leaves in a
+//! chain of calls of the store (`ChainLaws`), and what it shows at rest (`ShowLaws`); the image of the disk that a command
+//! names (`OwnLaws`); a command that makes all last and changes memory alone (`SyncLaws`, `UsedLaws`), and one that gives a
+//! disk another label (`LabelLaws`); an image and its disk's record made in two commits (`NewLaws`, `MakingLaws`), whatever
+//! is attached and whatever operation runs (`OperationLaws`); a VHD image that was just made, which is steady and, without
+//! a parent, reads as zeros (`MadeLaws`); an image that is being enlarged (`EnlargedLaws`); the machine's tables as maps of images (`MapLaws`); room for rows (`RoomLaws`, `RowRoomLaws`); what is asked of the visible
+//! image of a UUID (`ShownLaws`); a list in order with one element more (`InsertLaws`).
 //!
 //! The definitions are in `specs/`: `Known` (what is in memory, and its shape), `Outlined` (its outline), `Orderly` and `Ready`
-//! (the two invariants), `Shown` (the visible image of a UUID), `Stores` (the content of a store), `Done` (what a call of a step
-//! did), `Repairs` and `Cleaned` (what an opening repairs, and the table that it leaves).
+//! (the two invariants), `Shown` (the visible image of a UUID), `Refusing` (when an answer is the machine's), `Stores` (the
+//! content of a store), `Done` (what a call of a step did), `Repairs` and `Cleaned` (what an opening repairs, and the table that
+//! it leaves).
 #![tactic(auto)]
 
+mod asking;
+mod causes;
 mod memory;
+mod needs;
+mod refusing;
 
+pub use asking::image_name;
 pub use memory::Memory;
+pub use needs::extents_needed;
+pub use refusing::refuse;

@@ -1,23 +1,22 @@
 -- The checks by the table: what is found among the volumes in memory is what the checks name.
-use Rattle.std.proofs.Common.{◌≡◌, ℕ, inl, inr, Bool, true, false, cond, not, ◌&&◌, List, [], ◌∷◌, length, Option, Some, None, refl, sym, ap, ap₂, ◌∙◌, arith, nat_lt}
+use Rattle.std.proofs.Common.{◌≡◌, ℕ, inl, inr, Bool, true, false, cond, not, List, [], ◌∷◌, length, Option, Some, None, refl, sym, ap, ap₂, ◌∙◌, arith, nat_lt}
 use Rattle.std.specs.List.{filter, find}
 use Rattle.sm_base.specs.declared.faults.Place.{Place}
 use Rattle.sm_base.specs.declared.faults.Place.TheVariants as at
 use Rattle.sm_base.specs.declared.names.Name.{Name}
-use Rattle.sm_base.specs.declared.names.Name.TheVariants.{Mgt, Raw}
+use Rattle.sm_base.specs.declared.names.Name.TheVariants.{Mgt}
 use Rattle.sm_base.specs.declared.sizes.Geometry.{Geometry}
 use Rattle.vg_meta.specs.Tables.{VolumeTable, Row, rows}
 use Rattle.sm_base.specs.Kinds.{is_image as is_data, is_entry}
 use Rattle.vg_meta.specs.Roomy.{RoomyTable, RoomyRow, table_alone, rows_alone}
 use Rattle.common_laws.specs.Lists.{In, given, first_some}
 use Rattle.sm_machine.specs.Shapes.{image_limit}
-use Rattle.sm_standing.specs.Plain.{is_plain, is_plain_name, IsPlain}
-use Rattle.sm_standing.specs.Checks.{first_name, name_in, placed, has_records, record_volume_fault, images, too_many_fault, is_image_ahead, entry_ahead_fault, image_ahead_fault, is_invalid, is_image_wrong, is_oversize, invalid_fault}
+use Rattle.sm_standing.specs.Plain.{is_plain, IsPlain}
+use Rattle.sm_standing.specs.Checks.{first_name, name_in, placed, has_records, record_volume_fault, images, too_many_fault, is_image_ahead, entry_ahead_fault, image_ahead_fault}
 use Rattle.sm_standing.specs.Outlines.{Outline}
 use Rattle.sm_standing.proofs.FaultLaws.{named_none}
-use Rattle.sm_standing.proofs.PlainDisks.{all-In}
 use Rattle.sm_standing.proofs.PlainKept.{all-of, journal_or_image}
-use Rattle.sm_recover.specs.Faults.{HasTable, is_raw, is_sized_wrong}
+use Rattle.sm_recover.specs.Faults.{HasTable}
 
 -- ---- the first of the volumes in memory
 
@@ -41,27 +40,9 @@ first_at place test k is held found said =
     said ∙ ap (λ q. placed place (held_name q)) (found ∙ ap (find (λ h. test (table_alone k) h.row)) held) ∙ ap (placed place) (sym (held_first (test (table_alone k)) k.rows))
     ∙ sym (ap (λ u. placed place (first_name (test u) u.volumes)) is)
 
--- ---- sizes
-
-find_same : (p q : Row → Bool) (rs : List Row) → ((r : Row) → In r rs → p r ≡ q r) → find p rs ≡ find q rs
+pub find_same : (p q : Row → Bool) (rs : List Row) → ((r : Row) → In r rs → p r ≡ q r) → find p rs ≡ find q rs
 find_same p q [] same = refl
 find_same p q (r ∷ rs) same = ap₂ (λ b o. cond b (Some r) o) (same r (inl refl)) (find_same p q rs (λ s h. same s (inr h)))
-
--- a plain volume is wrong where it is a raw image that is too large
-wrong_at : (x : Outline) (r : Row) (hidden fresh : Bool) (n : Name) → is_plain_name hidden n ≡ true
-    → (not fresh && is_image_wrong x r n) ≡ (is_raw n && (not fresh && is_oversize x.extent x.block x.entries r))
-wrong_at x r hidden true Mgt h = refl
-wrong_at x r hidden false Mgt h = refl
-wrong_at x r hidden fresh (Raw u) h = refl
-wrong_at x r hidden fresh _ h = absurd (let e = h in cc)
-
-pub sized_at : (x : Outline) (g : Geometry) (t : VolumeTable) → HasTable g t x → IsPlain t → placed at.Image (first_name (is_sized_wrong g) t.volumes) ≡ invalid_fault x
-unfolding invalid_fault first_name
-sized_at x g t is plain =
-    ap (λ o. placed at.Image (name_in o)) (find_same (is_sized_wrong g) (is_invalid x) t.volumes (λ r h.
-    let same : is_sized_wrong g r ≡ (is_raw r.name && (not r.fresh && is_oversize x.extent x.block x.entries r)) = rw (is.extent, is.block, is.entries) in
-    same ∙ sym (wrong_at x r r.hidden r.fresh r.name (all-In (λ r. is_plain r ≡ true) t.volumes r plain h))))
-    ∙ ap (λ u. placed at.Image (name_in (find (is_invalid x) u.volumes))) (sym is.table)
 
 -- ---- the volume of records, and how many images there are
 
@@ -85,7 +66,7 @@ too_many_at x k is held count =
 
 -- ---- what is known where they pass
 
--- without entries, and with visible raw images alone, the table is plain
+-- without entries, and with visible images alone, nothing is under way
 pub plain_from : (x : Outline) → entry_ahead_fault x ≡ None → image_ahead_fault x ≡ None → IsPlain x.table
 unfolding entry_ahead_fault image_ahead_fault
 plain_from x no_entry none_ahead = all-of (λ r. is_plain r ≡ true) x.table.volumes (λ r k.
@@ -95,6 +76,6 @@ pub only : {A : Type 0} (o : Option A) → first_some (o ∷ []) ≡ o
 only None = refl
 only (Some x) = refl
 
--- the last of six checks, where the others pass
-pub last_of : {a b d e f : Option Place} (o : Option Place) → a ≡ None → b ≡ None → d ≡ None → e ≡ None → f ≡ None → first_some (a ∷ b ∷ d ∷ e ∷ f ∷ o ∷ []) ≡ o
-last_of o is_a is_b is_d is_e is_f = rw (is_a, is_b, is_d, is_e, is_f) (only o)
+-- the last of five checks, where the others pass
+pub last_of : {a b d e : Option Place} (o : Option Place) → a ≡ None → b ≡ None → d ≡ None → e ≡ None → first_some (a ∷ b ∷ d ∷ e ∷ o ∷ []) ≡ o
+last_of o is_a is_b is_d is_e = rw (is_a, is_b, is_d, is_e) (only o)

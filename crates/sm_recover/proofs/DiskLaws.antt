@@ -1,19 +1,20 @@
 -- The disk without exactly one record that has the least UUID: found among the volumes in any order, it is the first of
 -- the disks in theirs.
-use Rattle.std.proofs.Common.{◌≡◌, ℕ, suc, ◌+◌, ◌⊎◌, inl, inr, ⊎_elim, Bool, true, false, cond, not, ◌&&◌, ◌==◌, List, [], ◌∷◌, length, fold, Option, Some, None, is_some, refl, sym, ap, ap₂, ◌∙◌, subst, arith}
+use Rattle.std.proofs.Common.{◌≡◌, ℕ, suc, ◌+◌, ◌⊎◌, inl, inr, ⊎_elim, Bool, true, false, cond, not, ◌&&◌, ◌||◌, ◌==◌, List, [], ◌∷◌, length, fold, Option, Some, None, is_some, refl, sym, ap, ap₂, ◌∙◌, subst, arith}
 use Rattle.std.specs.Prelude.{count_by}
 use Rattle.std.specs.declared.cmp.Ordering.{Ordering}
 use Rattle.std.specs.declared.cmp.Ordering.TheVariants.{Less, Equal, Greater}
 use Rattle.std.specs.List.{filter, find, filter_map, cons_option, slice_get}
 use Rattle.std.specs.Ordering.{is_lt}
-use Rattle.std.proofs.lemmas.Bool.{and_parts}
+use Rattle.std.proofs.lemmas.Bool.{and_parts, true≢false}
 use Rattle.std.proofs.lemmas.Cmp.{nat_list_cmp_total}
 use Rattle.std.proofs.lemmas.List.Sums.{length-filter}
 use Rattle.std.proofs.lemmas.Map.Lookups.{exact_bytes}
 use Rattle.sm_base.specs.declared.names.Name.{Name}
-use Rattle.sm_base.specs.declared.names.Name.TheVariants.{Raw}
+use Rattle.sm_base.specs.declared.names.Name.TheVariants.{Vhd, Raw}
 use Rattle.vg_meta.specs.Tables.{VolumeTable, Row, rows}
 use Rattle.vg_meta.specs.Roomy.{RoomyTable, RoomyRow, table_alone, rows_alone}
+use Rattle.vg_meta.proofs.RowLaws.{row_of-name}
 use Rattle.common_laws.specs.Lists.{In, given, numbers}
 use Rattle.sm_record.specs.declared.records.Record.{Record}
 use Rattle.sm_mgt.specs.Places.{is_of}
@@ -21,10 +22,11 @@ use Rattle.sm_standing.specs.Contents.{taken, is_record_of}
 use Rattle.sm_standing.specs.Checks.{is_unrecorded, disk_place, disk_fault}
 use Rattle.sm_standing.specs.Outlines.{Outline, outline_records}
 use Rattle.sm_standing.specs.Ordered.{Rising, uuid_cmp}
+use Rattle.sm_standing.specs.Entries.{is_visible, of_row}
 use Rattle.sm_standing.specs.Plain.{IsPlain}
 use Rattle.sm_standing.specs.Standing.{standing_volume, uuids}
-use Rattle.sm_standing.proofs.DisksShown.{row_of-In, is_raw, rising-in_order, stands_listed}
-use Rattle.sm_standing.proofs.PlainDisks.{plain_stands, raw_stands}
+use Rattle.sm_standing.proofs.DisksShown.{row_of-In, rising-in_order, stands_listed}
+use Rattle.sm_standing.proofs.PlainDisks.{plain_stands}
 use Rattle.sm_recover.specs.Faults.{HasPlaces, IsLeast, is_unrecorded_in, unrecorded, lesser}
 use Rattle.common_laws.proofs.Lists.{In-map, In-filter, filter-In}
 use Rattle.common_laws.proofs.Options.{is_some-parts}
@@ -34,17 +36,24 @@ use Rattle.sm_ready.proofs.ShapeLaws.{as_taken}
 
 -- ---- whether a UUID is a disk
 
--- by the row of its raw image
-pub disk_at : (k : RoomyTable) (u : List ℕ) (o : Option Row) → IsPlain (table_alone k) → rows (table_alone k) (Raw u) ≡ o → is_some (standing_volume (table_alone k) u) ≡ is_some (raw_stands u o)
-disk_at k u o plain there = ap is_some (plain_stands (table_alone k) u plain ∙ ap (raw_stands u) there)
-
-pub shown : (k : RoomyTable) (u : List ℕ) (h : RoomyRow) → IsPlain (table_alone k) → rows (table_alone k) (Raw u) ≡ Some h.row
-    → is_some (standing_volume (table_alone k) u) ≡ (not h.row.hidden && not h.row.fresh)
-shown k u h plain there = disk_at k u (Some h.row) plain there ∙ by (not h.row.hidden && not h.row.fresh)
+found_either : (test : Name → Bool) (a b : Name) → is_some (find test (a ∷ b ∷ [])) ≡ (test a || test b)
+found_either test a b = by (test a) (test b)
   where
-    by : (b : Bool) → is_some (cond b (Some (Raw u)) None) ≡ b
-    by true = refl
-    by false = refl
+    by : (p q : Bool) → is_some (cond p (Some a) (cond q (Some b) None)) ≡ (p || q)
+    by true q = refl
+    by false true = refl
+    by false false = refl
+
+-- it is one where an image of its name is visible and not new
+pub disk_at : (t : VolumeTable) (u : List ℕ) → IsPlain t → is_some (standing_volume t u) ≡ (is_visible t (Vhd u) || is_visible t (Raw u))
+disk_at t u plain = ap is_some (plain_stands t u plain) ∙ found_either (is_visible t) (Vhd u) (Raw u)
+
+-- whether a volume is visible and not new, by its row
+pub visible_none : (t : VolumeTable) (n : Name) → rows t n ≡ None → is_visible t n ≡ false
+visible_none t n gone = ap (of_row (λ r. not r.hidden && not r.fresh)) gone
+
+pub visible_row : (t : VolumeTable) (n : Name) (r : Row) → rows t n ≡ Some r → is_visible t n ≡ (not r.hidden && not r.fresh)
+visible_row t n r there = ap (of_row (λ r. not r.hidden && not r.fresh)) there
 
 -- ---- the least of some UUIDs
 
@@ -152,8 +161,13 @@ module _ (t : VolumeTable) (places : List (Option Record)) where
 
   from_name : (n : Name) (u : List ℕ) → unrecorded t places n ≡ Some u → Wrong u
   unfolding unrecorded
+  from_name (Vhd v) u h = let w = given_parts (is_unrecorded_in t places v) v u h in subst Wrong w.1 w.0
   from_name (Raw v) u h = let w = given_parts (is_unrecorded_in t places v) v u h in subst Wrong w.1 w.0
   from_name _ u h = absurd (let k = h in cc)
+
+  at_vhd : (u : List ℕ) → Wrong u → unrecorded t places (Vhd u) ≡ Some u
+  unfolding unrecorded
+  at_vhd u wrong = ap (λ b. given b u) wrong
 
   at_raw : (u : List ℕ) → Wrong u → unrecorded t places (Raw u) ≡ Some u
   unfolding unrecorded
@@ -162,17 +176,33 @@ module _ (t : VolumeTable) (places : List (Option Record)) where
   stands : (u : List ℕ) → Wrong u → is_some (standing_volume t u) ≡ true
   stands u wrong = (and_parts (is_some (standing_volume t u)) (not (count_by (is_of u) places == 1)) wrong).0
 
-raw_row : (u : List ℕ) (o : Option Row) → is_some (raw_stands u o) ≡ true → (r : Row) × (o ≡ Some r)
-raw_row u None h = absurd (let k = h in cc)
-raw_row u (Some r) h = (r, refl)
+visible_there : (t : VolumeTable) (n : Name) → is_visible t n ≡ true → (r : Row) × (rows t n ≡ Some r)
+visible_there t n h = by (rows t n) refl h
+  where
+    by : (o : Option Row) → rows t n ≡ o → of_row (λ r. not r.hidden && not r.fresh) o ≡ true → (r : Row) × (rows t n ≡ Some r)
+    by None is h = absurd (true≢false (sym h))
+    by (Some r) is h = (r, is)
 
-wrong_given : (k : RoomyTable) (places : List (Option Record)) (u : List ℕ) → IsPlain (table_alone k) → Wrong (table_alone k) places u → IsGiven (λ h. unrecorded (table_alone k) places h.row.name) k.rows u
-wrong_given k places u plain wrong =
-    let t = table_alone k in
-    let w = raw_row u (rows t (Raw u)) (sym (disk_at k u (rows t (Raw u)) plain refl) ∙ stands t places u wrong) in
-    let at = row_of-In (rows_alone k.rows) (Raw u) w.0 w.1 in
-    let h = In-map (λ (g : RoomyRow). g.row) k.rows w.0 at.0 in
-    (h.0, h.1, ap (λ (r : Row). unrecorded t places r.name) (sym h.2) ∙ ap (unrecorded t places) (is_raw w.0.name u at.1) ∙ at_raw t places u wrong)
+-- the volume of a name among those in memory
+held_row : (k : RoomyTable) (n : Name) (r : Row) → rows (table_alone k) n ≡ Some r → (h : RoomyRow) × In h k.rows × (h.row.name ≡ n)
+held_row k n r there =
+    let at = row_of-In (rows_alone k.rows) n r there in
+    let h = In-map (λ (g : RoomyRow). g.row) k.rows r at.0 in
+    (h.0, h.1, ap (λ (q : Row). q.name) (sym h.2) ∙ row_of-name (rows_alone k.rows) n r there)
+
+module _ (k : RoomyTable) (places : List (Option Record)) (u : List ℕ) (plain : IsPlain (table_alone k)) (wrong : Wrong (table_alone k) places u) where
+  from_visible : (n : Name) → is_visible (table_alone k) n ≡ true → unrecorded (table_alone k) places n ≡ Some u → IsGiven (λ h. unrecorded (table_alone k) places h.row.name) k.rows u
+  from_visible n visible given =
+      let r = visible_there (table_alone k) n visible in
+      let h = held_row k n r.0 r.1 in
+      (h.0, h.1, ap (unrecorded (table_alone k) places) h.2 ∙ given)
+
+  wrong_given : IsGiven (λ h. unrecorded (table_alone k) places h.row.name) k.rows u
+  wrong_given = by (is_visible (table_alone k) (Vhd u)) refl (sym (disk_at (table_alone k) u plain) ∙ stands (table_alone k) places u wrong)
+    where
+      by : (b : Bool) → is_visible (table_alone k) (Vhd u) ≡ b → (b || is_visible (table_alone k) (Raw u)) ≡ true → IsGiven (λ h. unrecorded (table_alone k) places h.row.name) k.rows u
+      by true is either = from_visible (Vhd u) is (at_vhd (table_alone k) places u wrong)
+      by false is either = from_visible (Raw u) either (at_raw (table_alone k) places u wrong)
 
 -- the least among the volumes so far
 abbrev pub with_unrecorded : VolumeTable → List (Option Record) → Option (List ℕ) → RoomyRow → Option (List ℕ)

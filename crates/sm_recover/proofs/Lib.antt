@@ -4,3 +4,9 @@ pub mod RemovalLaws
 pub mod OpeningLaws
 pub mod LoadedLaws
 pub mod OpenedWell
+mod ReadLaws
+mod HoldingLaws
+mod FoundLaws
+mod ParentLaws
+mod SeenLaws
+mod TurnLaws

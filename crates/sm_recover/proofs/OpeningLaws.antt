@@ -1,7 +1,7 @@
 -- The checks one after another: which place is the first, and what is known where none is.
 use Rattle.std.proofs.Common.{◌≡◌, ℕ, zero, suc, ◌+◌, ◌*◌, ◌<◌, ◌≤◌, ◌⊎◌, inl, inr, Bool, true, false, cond, not, List, [], ◌∷◌, ◌++◌, length, get_or, Option, Some, None, refl, sym, ap, ◌∙◌, subst, subst₂, arith}
 use Rattle.std.specs.List.{find}
-use Rattle.std.specs.Prelude.{Result, Err, IfErr, IfNone}
+use Rattle.std.specs.Prelude.{Result, Err, IfErr, IfNone, IfSome}
 use Rattle.std.proofs.lemmas.Bool.{cases_lt, ltb-false, eqb-true}
 use Rattle.std.proofs.lemmas.Option.{slice_get-get_or, slice_get_within}
 use Rattle.sm_base.specs.declared.faults.OpenFault.{OpenFault}
@@ -16,20 +16,23 @@ use Rattle.vg_layout.specs.Places.{record_extents}
 use Rattle.vg_meta.specs.Tables.{VolumeTable, Row, IsTable, rows, extents_of}
 use Rattle.vg_meta.specs.Roomy.{RoomyTable, table_alone}
 use Rattle.vg_volumes.specs.Sites.{Site, size_of}
+use Rattle.vg_volumes.specs.Stored.{OnlyReads, Stored}
+use Rattle.vg_volumes.specs.declared.stores.Store.{Ghosts}
+use Rattle.sm_ready.proofs.AgainLaws.{stored_as}
 use Rattle.common_laws.specs.Lists.{first_some, numbers}
 use Rattle.sm_record.specs.declared.records.Record.{Record}
 use Rattle.sm_record.specs.declared.records.Reading.{Reading}
 use Rattle.sm_record.specs.declared.records.Reading.TheVariants.{Free, Taken, Damaged}
 use Rattle.sm_record.specs.Records.{reading}
-use Rattle.sm_mgt.specs.Places.{Agrees, as_reading, records_held, IsFirstDamaged, reading_of}
+use Rattle.sm_mgt.specs.Places.{Agrees, as_reading, records_held, records_of, IsFirstDamaged, reading_of}
 use Rattle.sm_standing.specs.Contents.{record_count}
-use Rattle.sm_standing.specs.Checks.{has_records, record_volume_fault, too_many_fault, entry_ahead_fault, image_ahead_fault, record_fault, record_place, is_damaged, disk_fault, fault_today_of, first_fault_today}
+use Rattle.sm_standing.specs.Checks.{has_records, record_volume_fault, too_many_fault, entry_ahead_fault, image_ahead_fault, invalid_fault, parent_ahead_fault, record_fault, record_place, is_damaged, disk_fault, fault_today_of, first_fault_today}
 use Rattle.sm_standing.specs.Outlines.{Outline, reading_in, outline}
 use Rattle.sm_standing.proofs.OutlineLaws.{reading_within}
 use Rattle.common_laws.proofs.Lists.{none_first, find_none, In-numbers}
 use Rattle.sm_ready.specs.Stores.{content_in, content_now}
-use Rattle.sm_recover.specs.Faults.{HasTable, HasPlaces, table_faults}
-use Rattle.sm_recover.specs.Repairs.{IsChecked, IsOpeningStopped}
+use Rattle.sm_recover.specs.Faults.{HasTable, HasPlaces, PassImages, table_faults}
+use Rattle.sm_recover.specs.Repairs.{IsChecked, IsOpeningStopped, IsStoppedBy}
 use Rattle.sm_standing.proofs.FaultLaws.{none_given}
 use Rattle.sm_recover.proofs.CheckLaws.{only, plain_from}
 use Rattle.common_laws.proofs.Booleans.{not_false}
@@ -59,20 +62,37 @@ first_behind [] ys h = refl
 first_behind (Some y ∷ xs) ys h = absurd (let e = h in cc)
 first_behind (None ∷ xs) ys h = first_behind xs ys h
 
+abbrev behind : Outline → List (Option Place)
+behind x = invalid_fault x ∷ parent_ahead_fault x ∷ record_fault x ∷ disk_fault x ∷ []
+
 -- a check by the table is the first that fails
 pub today_table : (x : Outline) (place : Place) → first_some (table_faults x) ≡ Some place → fault_today_of x ≡ Some place
 unfolding fault_today_of
-today_table x place h = first_front (table_faults x) (record_fault x ∷ disk_fault x ∷ []) place h
+today_table x place h = first_front (table_faults x) (behind x) place h
 
--- or one of the records
-today_records : (x : Outline) (place : Place) → first_some (table_faults x) ≡ None → record_fault x ≡ Some place → fault_today_of x ≡ Some place
+-- where they pass, it is one of the images, of their parents, of the records, of the disks, or none
+pub today_images : (x : Outline) → first_some (table_faults x) ≡ None → fault_today_of x ≡ first_some (behind x)
 unfolding fault_today_of
-today_records x place none h = first_behind (table_faults x) (record_fault x ∷ disk_fault x ∷ []) none ∙ ap (λ o. first_some (o ∷ disk_fault x ∷ [])) h
+today_images x none = first_behind (table_faults x) (behind x) none
 
--- or that of the disks, or none
-today_disks : (x : Outline) → first_some (table_faults x) ≡ None → record_fault x ≡ None → fault_today_of x ≡ disk_fault x
-unfolding fault_today_of
-today_disks x none right = first_behind (table_faults x) (record_fault x ∷ disk_fault x ∷ []) none ∙ ap (λ q. first_some (q ∷ disk_fault x ∷ [])) right ∙ only (disk_fault x)
+pub today_valid : (x : Outline) (place : Place) → first_some (table_faults x) ≡ None → invalid_fault x ≡ Some place → fault_today_of x ≡ Some place
+today_valid x place none h = today_images x none ∙ ap (λ o. first_some (o ∷ parent_ahead_fault x ∷ record_fault x ∷ disk_fault x ∷ [])) h
+
+pub today_parents : (x : Outline) (place : Place) → first_some (table_faults x) ≡ None → invalid_fault x ≡ None → parent_ahead_fault x ≡ Some place → fault_today_of x ≡ Some place
+today_parents x place none valid h =
+    today_images x none ∙ ap (λ o. first_some (o ∷ parent_ahead_fault x ∷ record_fault x ∷ disk_fault x ∷ [])) valid
+    ∙ ap (λ o. first_some (o ∷ record_fault x ∷ disk_fault x ∷ [])) h
+
+today_last : (x : Outline) → first_some (table_faults x) ≡ None → invalid_fault x ≡ None → parent_ahead_fault x ≡ None → fault_today_of x ≡ first_some (record_fault x ∷ disk_fault x ∷ [])
+today_last x none valid alone =
+    today_images x none ∙ ap (λ o. first_some (o ∷ parent_ahead_fault x ∷ record_fault x ∷ disk_fault x ∷ [])) valid
+    ∙ ap (λ o. first_some (o ∷ record_fault x ∷ disk_fault x ∷ [])) alone
+
+pub today_records : (x : Outline) (place : Place) → first_some (table_faults x) ≡ None → invalid_fault x ≡ None → parent_ahead_fault x ≡ None → record_fault x ≡ Some place → fault_today_of x ≡ Some place
+today_records x place none valid alone h = today_last x none valid alone ∙ ap (λ o. first_some (o ∷ disk_fault x ∷ [])) h
+
+pub today_disks : (x : Outline) → first_some (table_faults x) ≡ None → invalid_fault x ≡ None → parent_ahead_fault x ≡ None → record_fault x ≡ None → fault_today_of x ≡ disk_fault x
+today_disks x none valid alone right = today_last x none valid alone ∙ ap (λ q. first_some (q ∷ disk_fault x ∷ [])) right ∙ only (disk_fault x)
 
 -- ---- where the checks by the table pass
 
@@ -154,24 +174,43 @@ tables_say s g k kept o same geometry says x has = sym (says x (subst₂ (λ h (
 
 -- of an outline with this table and these places
 pub all_pass : (s : Site) {t u : VolumeTable} (places : List (Option Record)) (o : Option Place) → u ≡ t → TablesSay s t None
-    → ((x : Outline) → x.table ≡ u → HasPlaces places x → o ≡ disk_fault x) → (x : Outline) → HasTable s.geometry t x → HasPlaces places x → fault_today_of x ≡ o
-all_pass s places o same none says x is has = today_disks x (none x is) (records_right x places has) ∙ sym (says x (is.table ∙ sym same) has)
+    → ((x : Outline) → x.table ≡ u → HasPlaces places x → o ≡ disk_fault x) → (x : Outline) → HasTable s.geometry t x → PassImages x → HasPlaces places x → fault_today_of x ≡ o
+all_pass s places o same none says x is images has = today_disks x (none x is) images.valid images.alone (records_right x places has) ∙ sym (says x (is.table ∙ sym same) has)
 
 pub all_say : {s : Site} {t u : VolumeTable} (area : Held) (places : List (Option Record)) (o : Option Place) → IsChecked s t → u ≡ t → Agrees (records_held s t area) places
-    → TablesSay s t None → ((x : Outline) → x.table ≡ u → HasPlaces places x → o ≡ disk_fault x) → first_fault_today (content_now s t area) ≡ o
-all_say {s} {t} area places o c same agrees none says =
-    all_pass s places o same none says (outline (content_now s t area)) (has_table s t (reads area)) (has_places area places c agrees)
+    → TablesSay s t None → ((x : Outline) → x.table ≡ u → HasPlaces places x → o ≡ disk_fault x) → PassImages (outline (content_now s t area)) → first_fault_today (content_now s t area) ≡ o
+all_say {s} {t} area places o c same agrees none says images =
+    all_pass s places o same none says (outline (content_now s t area)) (has_table s t (reads area)) images (has_places area places c agrees)
+
+-- why the images were not read
+pub not_read : (s : Site) (t : VolumeTable) (told : Type 0) (area : Held) (before now : ℕ) (e : OpenFault) → TablesSay s t None
+    → IsStoppedBy told (invalid_fault (outline (content_now s t area))) before now e → IsOpeningStopped told (content_now s t area) before now e
+not_read s t told area before now (fault.Damaged place) none is = λ known.
+    let x = outline (content_now s t area) in today_valid x place (none x (has_table s t (reads area))) (is known)
+not_read s t told area before now fault.Device none is = is
+not_read s t told area before now fault.NoMemory none is = tt
+not_read s t told area before now fault.NotARepository none is = is
+not_read s t told area before now (fault.Unsupported version) none is = is
+
+-- the records of a store that was only read are those from before
+module _ {S : Type 0} {g : Ghosts S} {a b : S} (only : OnlyReads g a b) (told : g.told) where
+  pub agrees_before : (places : List (Option Record)) → Agrees (records_of g b) places → Agrees (records_of g a) places
+  agrees_before places = subst (λ (y : Stored). Agrees (records_held y.site y.table y.area) places) (stored_as only told)
+
+  pub damaged_before : (k : ℕ) → IsFirstDamaged (records_of g b) k → IsFirstDamaged (records_of g a) k
+  damaged_before k = subst (λ (y : Stored). IsFirstDamaged (records_held y.site y.table y.area) k) (stored_as only told)
 
 -- why the records were not read
-pub stopped_by : {s : Site} {t : VolumeTable} (told : Type 0) (area : Held) (before now : ℕ) (e : OpenFault) → IsChecked s t → TablesSay s t None
-    → (e ≡ fault.NoMemory) ⊎ ((e ≡ fault.Device) × Rose before now) ⊎ ((k : ℕ) × (e ≡ fault.Damaged (at.Record k)) × (told → IsFirstDamaged (records_held s t area) k))
+pub stopped_by : {s : Site} {t : VolumeTable} (told : Type 0) (area : Held) (before mid now : ℕ) (e : OpenFault) {First : ℕ → Type 0} → IsChecked s t → TablesSay s t None → (told → PassImages (outline (content_now s t area))) → before ≤ mid
+    → (told → (k : ℕ) → First k → IsFirstDamaged (records_held s t area) k)
+    → (e ≡ fault.NoMemory) ⊎ ((e ≡ fault.Device) × Rose mid now) ⊎ ((k : ℕ) × (e ≡ fault.Damaged (at.Record k)) × (told → First k))
     → IsOpeningStopped told (content_now s t area) before now e
-stopped_by {s} {t} told area before now e c none (inl is) = subst (IsOpeningStopped told (content_now s t area) before now) (sym is) tt
-stopped_by {s} {t} told area before now e c none (inr (inl (is, rose))) = subst (IsOpeningStopped told (content_now s t area) before now) (sym is) rose
-stopped_by {s} {t} told area before now e c none (inr (inr (k, is, first))) =
+stopped_by {s} {t} told area before mid now e c none images later to_first (inl is) = subst (IsOpeningStopped told (content_now s t area) before now) (sym is) tt
+stopped_by {s} {t} told area before mid now e c none images later to_first (inr (inl (is, rose))) = subst (IsOpeningStopped told (content_now s t area) before now) (sym is) (omega (arith, rose, later))
+stopped_by {s} {t} told area before mid now e c none images later to_first (inr (inr (k, is, first))) =
     let x = outline (content_now s t area) in
     subst (IsOpeningStopped told (content_now s t area) before now) (sym is)
-    (λ known. today_records x (at.Record k) (none x (has_table s t (reads area))) (records_wrong area k c (first known)))
+    (λ known. today_records x (at.Record k) (none x (has_table s t (reads area))) (images known).valid (images known).alone (records_wrong area k c (to_first known k (first known))))
 
 pub if_err : {T E : Type 0} (P : E → Type 0) (r : Result T E) (e : E) → r ≡ Err e → P e → IfErr r P
 if_err P r e is p = subst (λ x. IfErr x P) (sym is) p
@@ -179,3 +218,9 @@ if_err P r e is p = subst (λ x. IfErr x P) (sym is) p
 pub none_only : {A P : Type 0} (o : Option A) → (o ≡ None → P) → IfNone o P
 none_only None p = p refl
 none_only (Some x) p = tt
+
+pub if_some : {A : Type 0} (P : A → Type 0) {o : Option A} {x : A} → o ≡ Some x → IfSome o P → P x
+if_some P is p = subst (λ o. IfSome o P) is p
+
+pub if_none : {A : Type 0} (P : Type 0) {o : Option A} → o ≡ None → IfNone o P → P
+if_none P is p = subst (λ o. IfNone o P) is p

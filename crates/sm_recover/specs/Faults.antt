@@ -1,21 +1,24 @@
--- The checks of an opening, by what each of them looks at: the table with the sizes alone, or the places of the records
--- beside it.
-use Rattle.std.specs.Prelude.{◌≡◌, ◌⊎◌, ℕ, Bool, true, false, ◌&&◌, ◌==◌, not, List, [], ◌∷◌, length, Option, Some, None, is_some, count_by, if◌then◌else◌}
+-- The checks of an opening, by what each of them looks at: the table with the sizes alone, the images in memory, or the
+-- places of the records beside the table.
+use Rattle.std.specs.Prelude.{◌≡◌, ◌⊎◌, ℕ, Bool, false, ◌&&◌, ◌==◌, not, List, [], ◌∷◌, length, Option, Some, None, is_some, count_by, if◌then◌else◌}
 use Rattle.std.specs.List.{slice_get}
 use Rattle.sm_base.specs.declared.faults.Place.{Place}
 use Rattle.sm_base.specs.declared.names.Name.{Name}
-use Rattle.sm_base.specs.declared.names.Name.TheVariants.{Raw}
+use Rattle.sm_base.specs.declared.names.Name.TheVariants.{Vhd, Raw}
 use Rattle.sm_base.specs.declared.sizes.Geometry.{Geometry}
 use Rattle.std.specs.declared.cmp.Ordering.TheVariants.{Less}
-use Rattle.vg_meta.specs.Tables.{VolumeTable, Row}
+use Rattle.vg_meta.specs.Tables.{VolumeTable}
 use Rattle.sm_machine.specs.Disks.{uuid_before}
 use Rattle.common_laws.specs.Lists.{given}
 use Rattle.sm_record.specs.declared.records.Record.{Record}
 use Rattle.sm_mgt.specs.Places.{place_count, is_of, as_reading}
-use Rattle.sm_standing.specs.Checks.{record_volume_fault, too_many_fault, misnamed_fault, entry_ahead_fault, image_ahead_fault, invalid_fault, is_oversize}
+use Rattle.sm_standing.specs.Checks.{record_volume_fault, too_many_fault, misnamed_fault, entry_ahead_fault, image_ahead_fault, invalid_fault, parent_ahead_fault}
 use Rattle.sm_standing.specs.Outlines.{Outline}
 use Rattle.sm_standing.specs.Ordered.{uuid_cmp}
 use Rattle.sm_standing.specs.Standing.{standing_volume}
+use Rattle.vhd_chain.specs.Trees.{tree_row, parent_of}
+use Rattle.vhd_chain.specs.declared.rows.TreeRow.{TreeRow}
+use Rattle.sm_ready.specs.Outlined.{link_in}
 
 -- an outline with these sizes and this table
 pub record HasTable (geometry : Geometry) (t : VolumeTable) (x : Outline) : Type 0 where
@@ -31,8 +34,21 @@ table_faults x = record_volume_fault x
     ∷ misnamed_fault x
     ∷ entry_ahead_fault x
     ∷ image_ahead_fault x
-    ∷ invalid_fault x
     ∷ []
+
+-- the checks of the images pass: each is valid, and none has a parent
+pub record PassImages (x : Outline) : Type 0 where
+  pub valid : invalid_fault x ≡ None
+  pub alone : parent_ahead_fault x ≡ None
+
+-- an outline with the links of these rows
+abbrev pub HasLinks : List TreeRow → Outline → Type 0
+HasLinks xs x = (n : Name) → x.links n ≡ link_in (tree_row xs n)
+
+-- whether the VHD image of a name has a parent in memory
+abbrev pub has_parent_in : List TreeRow → Name → Bool
+has_parent_in xs (Vhd u) = is_some (parent_of xs (Vhd u))
+has_parent_in xs _ = false
 
 -- an outline with these places of records
 pub record HasPlaces (places : List (Option Record)) (x : Outline) : Type 0 where
@@ -43,8 +59,9 @@ pub record HasPlaces (places : List (Option Record)) (x : Outline) : Type 0 wher
 abbrev pub is_unrecorded_in : VolumeTable → List (Option Record) → List ℕ → Bool
 is_unrecorded_in t places u = is_some (standing_volume t u) && not (count_by (is_of u) places == 1)
 
--- the UUID of a raw image, where it is such a disk
+-- the UUID of an image, where it is such a disk
 unfoldable pub unrecorded : VolumeTable → List (Option Record) → Name → Option (List ℕ)
+unrecorded t places (Vhd u) = given (is_unrecorded_in t places u) u
 unrecorded t places (Raw u) = given (is_unrecorded_in t places u) u
 unrecorded t places _ = None
 
@@ -58,12 +75,3 @@ lesser (Some a) (Some b) = if uuid_before b a then Some b else Some a
 abbrev pub IsLeast : (List ℕ → Type 0) → Option (List ℕ) → Type 0
 IsLeast P None = (u : List ℕ) → P u → ⊥
 IsLeast P (Some u) = P u × ((v : List ℕ) → P v → (v ≡ u) ⊎ (uuid_cmp u v ≡ Less))
-
--- a raw image
-abbrev pub is_raw : Name → Bool
-is_raw (Raw u) = true
-is_raw _ = false
-
--- a raw image that is not new and has more blocks than a block allocation table has entries
-abbrev pub is_sized_wrong : Geometry → Row → Bool
-is_sized_wrong g r = is_raw r.name && (not r.fresh && is_oversize g.extent g.block g.entries r)

@@ -1,26 +1,87 @@
--- What an opening reads into memory of a repository of raw disks: the images that are not new.
-use Rattle.std.specs.Prelude.{◌*◌, not, List, length, Option, None}
+-- What an opening reads into memory: the images that are not new, each off its volume.
+use Rattle.std.specs.Prelude.{◌≡◌, ℕ, ◌*◌, ◌<◌, ◌≤◌, ◌&&◌, ◌⊎◌, not, true, false, List, length, Option, None, Some, if◌then◌else◌}
 use Rattle.std.specs.List.{filter_map}
+use Rattle.sm_base.specs.Kinds.{is_image}
+use Rattle.sm_base.specs.declared.faults.OpenFault.{OpenFault}
+use Rattle.sm_base.specs.declared.faults.OpenFault.TheVariants as fault
+use Rattle.sm_base.specs.declared.faults.Place.TheVariants as at
 use Rattle.sm_base.specs.declared.names.Name.{Name}
-use Rattle.sm_base.specs.declared.names.Name.TheVariants.{Raw}
+use Rattle.sm_base.specs.declared.names.Name.TheVariants.{Vhd, Raw}
 use Rattle.sm_base.specs.declared.sizes.Geometry.{Geometry}
+use Rattle.sm_disk.specs.Held.{Held}
 use Rattle.vg_meta.specs.Tables.{Row}
-use Rattle.common_laws.specs.Lists.{given}
+use Rattle.common_laws.specs.Lists.{In}
+use Rattle.vg_volumes.specs.Stored.{Faults, held_in, stored}
+use Rattle.vg_volumes.specs.declared.stores.Store.{Ghosts}
+use Rattle.vhd_image.specs.Bodies.{IfVhd, IsVhd, StandsIn}
+use Rattle.vhd_image.specs.Opened.{HasNoImage, ReadsAsImage}
+use Rattle.vhd_image.specs.declared.images.Body.{Body}
 use Rattle.vhd_image.specs.declared.images.Body.TheVariants as body
+use Rattle.vhd_chain.specs.Trees.{row_name, tree_row}
 use Rattle.vhd_chain.specs.declared.rows.TreeRow.{TreeRow}
 
--- the raw image that fills a volume
-abbrev pub filling : Geometry → Row → Name → TreeRow
-filling g r n = record { image = body.Raw n (length r.extents * g.extent); hidden = r.hidden; extents = length r.extents }
+-- ---- the rows of the volumes
 
--- that of a volume under this name, where it is one of a raw image and not new
-abbrev pub row_under : Geometry → Row → Name → Option TreeRow
-row_under g r (Raw u) = given (not r.fresh) (filling g r (Raw u))
-row_under g r _ = None
+-- the row of a volume, with the image of one in memory: hidden, and in as many extents, as the table says
+abbrev pub row_with : Row → Option TreeRow → Option TreeRow
+row_with r None = None
+row_with r (Some x) = Some (record { image = x.image; hidden = r.hidden; extents = length r.extents })
 
-abbrev pub row_in : Geometry → Row → Option TreeRow
-row_in g r = row_under g r r.name
+-- where the volume is that of an image and not new, it is that of its name
+abbrev pub row_among : List TreeRow → Row → Option TreeRow
+row_among xs r = if is_image r.name && not r.fresh then row_with r (tree_row xs r.name) else None
 
--- the rows in memory of some volumes, in their order
-abbrev pub loaded : Geometry → List Row → List TreeRow
-loaded g rs = filter_map (row_in g) rs
+-- these are the rows of the volumes, in their order, and no others
+abbrev pub AreRowsOf : List Row → List TreeRow → Type 0
+AreRowsOf rs xs = xs ≡ filter_map (row_among xs) rs
+
+-- ---- what is read of an image
+
+-- the image of a raw volume of so many sectors: it has no more blocks than a table has entries
+pub record IsRawRead (g : Geometry) (sectors : ℕ) (n : Name) (image : Body) : Type 0 where
+  pub is : image ≡ body.Raw n sectors
+  pub fits : sectors ≤ g.entries * g.block
+
+-- a VHD image of so many sectors: it stands in them, and where the content is told a read gives it
+pub record IsVhdRead (told : Type 0) (g : Geometry) (sectors : ℕ) (h : Held) (image : Body) : Type 0 where
+  pub vhd : IsVhd image
+  pub stands : StandsIn g sectors image
+  pub gives : told → IfVhd image (ReadsAsImage g sectors h)
+
+-- the one or the other, by the volume's name
+abbrev pub IsReadAs : Type 0 → Geometry → ℕ → Held → Name → Body → Type 0
+IsReadAs told g sectors h (Raw u) image = IsRawRead g sectors (Raw u) image
+IsReadAs told g sectors h (Vhd u) image = IsVhdRead told g sectors h image
+IsReadAs told g sectors h _ image = ⊥
+
+-- there is no such image: a raw one would have too many blocks; no valid VHD image is there, where the content is told
+abbrev pub IsNoneRead : Type 0 → Geometry → ℕ → Held → Name → Type 0
+IsNoneRead told g sectors h (Raw u) = g.entries * g.block < sectors
+IsNoneRead told g sectors h (Vhd u) = told → HasNoImage g sectors h
+IsNoneRead told g sectors h _ = ⊥
+
+-- the row of a volume, as it was read off a store
+pub record IsRow {S : Type 0} (g : Ghosts S) (s : S) (r : Row) (x : TreeRow) : Type 0 where
+  pub named : row_name x ≡ r.name
+  pub hidden : x.hidden ≡ r.hidden
+  pub extents : x.extents ≡ length r.extents
+  pub image : IsReadAs g.told (g.site s).geometry (length r.extents * (g.site s).geometry.extent) (held_in (stored g s) r.name) r.name x.image
+
+-- a volume of an image that is not new
+pub record IsFilledImage (r : Row) : Type 0 where
+  pub image : is_image r.name ≡ true
+  pub filled : r.fresh ≡ false
+
+-- each volume of an image that is not new has its row, as it was read off a store
+abbrev pub HasEachRow : {S : Type 0} → Ghosts S → S → List Row → List TreeRow → Type 0
+HasEachRow g s rs xs = (r : Row) → In r rs → IsFilledImage r → (x : TreeRow) × (tree_row xs r.name ≡ Some x) × IsRow g s r x
+
+-- why the image in so many sectors of a volume was not read: no memory, a fault of the device, or there is none
+abbrev pub FailsToRead : {S : Type 0} → Ghosts S → Name → ℕ → OpenFault → S → S → Type 0
+FailsToRead g n sectors e old new = (e ≡ fault.NoMemory) ⊎ ((e ≡ fault.Device) × Faults g old new)
+    ⊎ ((e ≡ fault.Damaged (at.Image n)) × IsNoneRead g.told (g.site old).geometry sectors (held_in (stored g old) n) n)
+
+-- why a volume's image was not read: and then the volume is that of an image and not new
+pub record FailsAt {S : Type 0} (g : Ghosts S) (r : Row) (e : OpenFault) (old new : S) : Type 0 where
+  pub volume : IsFilledImage r
+  pub fails : FailsToRead g r.name (length r.extents * (g.site old).geometry.extent) e old new

@@ -1,7 +1,8 @@
 -- What the steps of an opening tell each other: what the checks leave known, and why they stopped.
-use Rattle.std.specs.Prelude.{◌≡◌, ℕ, ◌≤◌, length, Some}
+use Rattle.std.specs.Prelude.{◌≡◌, ℕ, ◌≤◌, length, Option, Some}
 use Rattle.sm_base.specs.declared.faults.OpenFault.{OpenFault}
 use Rattle.sm_base.specs.declared.faults.OpenFault.TheVariants as fault
+use Rattle.sm_base.specs.declared.faults.Place.{Place}
 use Rattle.sm_base.specs.declared.names.Name.TheVariants.{Mgt}
 use Rattle.sm_disk.specs.Held.{Rose}
 use Rattle.vg_layout.specs.Places.{record_extents}
@@ -26,13 +27,17 @@ pub record IsChecked (s : Site) (t : VolumeTable) : Type 0 where
 abbrev pub IsCheckedStore : {S : Type 0} → Ghosts S → S → Type 0
 IsCheckedStore g s = IsChecked (g.site s) (table_alone (g.table s))
 
+-- why a step of an opening stopped: the place that its checks name, where the content is told; a fault of the device; memory
+abbrev pub IsStoppedBy : Type 0 → Option Place → ℕ → ℕ → OpenFault → Type 0
+IsStoppedBy told first before now (fault.Damaged place) = told → first ≡ Some place
+IsStoppedBy told first before now fault.Device = Rose before now
+IsStoppedBy told first before now fault.NoMemory = Unit {0}
+IsStoppedBy told first before now fault.NotARepository = ⊥
+IsStoppedBy told first before now (fault.Unsupported version) = ⊥
+
 -- why an opening stopped: the first place that is damaged, where the content is told; a fault of the device; memory
 abbrev pub IsOpeningStopped : Type 0 → Content → ℕ → ℕ → OpenFault → Type 0
-IsOpeningStopped told c before now (fault.Damaged place) = told → first_fault_today c ≡ Some place
-IsOpeningStopped told c before now fault.Device = Rose before now
-IsOpeningStopped told c before now fault.NoMemory = Unit {0}
-IsOpeningStopped told c before now fault.NotARepository = ⊥
-IsOpeningStopped told c before now (fault.Unsupported version) = ⊥
+IsOpeningStopped told c before now e = IsStoppedBy told (first_fault_today c) before now e
 
 -- a fact where no call of the device failed
 abbrev pub UnlessDeviceFailed : OpenFault → Type 0 → Type 0

@@ -3,15 +3,12 @@
 ghost use Rattle.std.specs.Prelude.{◌≡◌, ℕ, ◌*◌, ◌<◌, ◌&&◌, not, nat_lt, length, filter, find, is_some};
 ghost use Rattle.std.specs.Option.{option_copied};
 ghost use Rattle.sm_base.specs.Kinds.{is_image, is_entry};
-ghost use Rattle.sm_base.specs.Numbers.{IsGeometry};
 ghost use Rattle.common_laws.specs.Lists.{first_some};
-ghost use Rattle.sm_machine.specs.Shapes.{image_limit};
-ghost use Rattle.sm_standing.specs.Checks.{record_volume_fault, too_many_fault, misnamed_fault, entry_ahead_fault, image_ahead_fault, invalid_fault, is_misnamed as is_misnamed_row, is_image_ahead, is_oversize};
+ghost use Rattle.sm_standing.specs.Checks.{record_volume_fault, too_many_fault, misnamed_fault, entry_ahead_fault, image_ahead_fault, is_misnamed as is_misnamed_row, is_image_ahead};
 ghost use Rattle.sm_standing.specs.Outlines.{Outline};
 ghost use Rattle.sm_standing.specs.Entries.{is_there, is_past, base_number};
-ghost use Rattle.sm_standing.specs.Plain.{IsPlain};
 ghost use Rattle.vg_meta.specs.Roomy.{table_alone};
-ghost use Rattle.sm_recover.specs.Faults.{HasTable, is_sized_wrong, table_faults};
+ghost use Rattle.sm_recover.specs.Faults.{HasTable, table_faults};
 
 use sm_base::{Geometry, IMAGE_LIMIT, Name, Place, is_base};
 use uuid::Uuid;
@@ -34,10 +31,7 @@ pub fn table_fault(table: &Table, geometry: &Geometry) -> Option<Place>
     if let Some(place) = entry_fault(table) {
         return Some(place);
     }
-    if let Some(place) = image_fault(table) {
-        return Some(place);
-    }
-    size_fault(table, geometry)
+    image_fault(table)
 }
 
 /// The volume of records is there, with exactly its extents.
@@ -81,21 +75,11 @@ fn entry_fault(table: &Table) -> Option<Place>
     })
 }
 
-/// Each image is a raw one, and visible.
+/// Each image is visible, and none is an old leaf.
 fn image_fault(table: &Table) -> Option<Place>
     ensures { (x : Outline) → x.table ≡ table_alone table.now → result ≡ image_ahead_fault x }
 {
     let volume = first_ahead(table.volumes())?;
-    Some(Place::Image {
-        name: volume.name(),
-    })
-}
-
-/// Each raw image that is not new has at most as many blocks as a block allocation table has entries.
-fn size_fault(table: &Table, geometry: &Geometry) -> Option<Place>
-    ensures { (x : Outline) → HasTable geometry.now (table_alone table.now) x → IsPlain (table_alone table.now) → result ≡ invalid_fault x }
-{
-    let volume = first_oversize(table.volumes(), geometry)?;
     Some(Place::Image {
         name: volume.name(),
     })
@@ -126,12 +110,6 @@ fn first_ahead(volumes: &[Volume]) -> Option<&Volume>
     ensures { option_copied result ≡ find (λ v. is_image_ahead v.row) volumes.now }
 {
     volumes.iter().find(|volume| is_ahead(volume))
-}
-
-fn first_oversize<'a>(volumes: &'a [Volume], geometry: &Geometry) -> Option<&'a Volume>
-    ensures { option_copied result ≡ find (λ v. is_sized_wrong geometry.now v.row) volumes.now }
-{
-    volumes.iter().find(|volume| is_too_large(volume, geometry))
 }
 
 /// Whether a name of an image is not free for it.
@@ -168,30 +146,13 @@ fn number_in(uuid: &Uuid) -> u64
     u64::from_be_bytes(bytes)
 }
 
-/// Whether a volume is an image that is no visible raw one.
+/// Whether a volume is a hidden image, or an old leaf.
 fn is_ahead(volume: &Volume) -> bool
     ensures { result ≡ is_image_ahead volume.now.row }
 {
     match volume.name() {
-        Name::Raw(_) => volume.is_hidden(),
-        Name::Vhd(_) | Name::Old(_) => true,
+        Name::Vhd(_) | Name::Raw(_) => volume.is_hidden(),
+        Name::Old(_) => true,
         _ => false,
     }
-}
-
-/// Whether a volume is a raw image that is not new and has too many blocks.
-fn is_too_large(volume: &Volume, geometry: &Geometry) -> bool
-    ensures { result ≡ is_sized_wrong geometry.now volume.now.row }
-{
-    let is_raw = matches!(volume.name(), Name::Raw(_));
-    is_raw && !volume.is_fresh() && is_long(volume.extents(), geometry)
-}
-
-/// Whether extents have more sectors than a block allocation table has room for.
-fn is_long(extents: &[u32], geometry: &Geometry) -> bool
-    ensures { result ≡ nat_lt (geometry.now.entries * geometry.now.block) (length extents.now * geometry.now.extent) }
-{
-    let most = u64::from(geometry.entries) * u64::from(geometry.block);
-    let sectors = (extents.len() as u64).saturating_mul(u64::from(geometry.extent));
-    most < sectors
 }

@@ -1,8 +1,10 @@
 //! The check that looks at the records beside the table: each disk has exactly one.
 
 ghost use Rattle.std.specs.Prelude.{◌≡◌, is_some, true};
+ghost use Rattle.common_laws.specs.Lists.{given};
 ghost use Rattle.sm_machine.specs.Disks.{uuid_before};
 ghost use Rattle.sm_standing.specs.Checks.{disk_fault};
+ghost use Rattle.sm_standing.specs.Entries.{is_visible};
 ghost use Rattle.sm_standing.specs.Outlines.{Outline};
 ghost use Rattle.sm_standing.specs.Plain.{IsPlain};
 ghost use Rattle.sm_standing.specs.Standing.{standing_volume};
@@ -23,12 +25,19 @@ pub fn disk_fault(table: &Table, mgt: &Mgt) -> Option<Place>
     Some(Place::Disk { uuid })
 }
 
-/// Whether a UUID is a disk, in a table of visible raw images alone.
+/// Whether a UUID is a disk, in a table of visible images and no journal entry.
 pub fn is_disk(table: &Table, uuid: &Uuid) -> bool
     requires { IsPlain (table_alone table.now) }
     ensures { result ≡ is_some (standing_volume (table_alone table.now) uuid.now) }
 {
-    match table.get(&Name::Raw(*uuid)) {
+    is_shown(table, &Name::Vhd(*uuid)) || is_shown(table, &Name::Raw(*uuid))
+}
+
+/// Whether a volume is there, not new, and visible.
+fn is_shown(table: &Table, name: &Name) -> bool
+    ensures { result ≡ is_visible (table_alone table.now) name.now }
+{
+    match table.get(name) {
         Some(volume) => !volume.is_hidden() && !volume.is_fresh(),
         None => false,
     }
@@ -45,15 +54,24 @@ fn least_unrecorded(table: &Table, mgt: &Mgt) -> Option<Uuid>
     least
 }
 
-/// The UUID of a raw image, where it is a disk that has no record or several.
+/// The UUID of an image, where it is a disk that has no record or several.
 #[tactic(auto, unfolding(crate::specs::Faults::unrecorded))]
 fn unrecorded(volume: &Volume, table: &Table, mgt: &Mgt) -> Option<Uuid>
     requires { IsPlain (table_alone table.now) }
     ensures { result ≡ unrecorded (table_alone table.now) mgt.now volume.now.row.name }
 {
-    let Name::Raw(uuid) = volume.name() else {
-        return None;
-    };
+    match volume.name() {
+        Name::Vhd(uuid) => wrong_disk(uuid, table, mgt),
+        Name::Raw(uuid) => wrong_disk(uuid, table, mgt),
+        _ => None,
+    }
+}
+
+/// A UUID, where it is a disk that has no record or several.
+fn wrong_disk(uuid: Uuid, table: &Table, mgt: &Mgt) -> Option<Uuid>
+    requires { IsPlain (table_alone table.now) }
+    ensures { result ≡ given (is_unrecorded_in (table_alone table.now) mgt.now uuid) uuid }
+{
     if is_disk(table, &uuid) && mgt.count(&uuid) != 1 {
         Some(uuid)
     } else {

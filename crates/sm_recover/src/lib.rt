@@ -5,31 +5,35 @@
 //! line says extents; a place of a record is a number from 0 to 511.
 //!
 //! **The model** (`specs/`). `Stores` has what an opening may leave (`IsRepairedFrom`). `Loaded` has the images as they are
-//! read off the table. `Faults` says what each check looks at, and `Repairs` what the checks leave known and why an opening
-//! stops. What holds for images of any kind is `sm_ready`'s: what holds of a store between two steps, memory at rest beside
-//! a store and what each repair makes of it (its `Repairs`), and the table that an opening leaves (its `Cleaned`).
+//! read off their volumes. `Faults` says what each check looks at, and `Repairs` what the checks leave known and why an
+//! opening stops. What holds for images of any kind is `sm_ready`'s: what holds of a store between two steps, memory at rest
+//! beside a store and what each repair makes of it (its `Repairs`), and the table that an opening leaves (its `Cleaned`).
 //!
 //! **What it promises.** All checks come before the first write, in their order, and the first that fails gives the
-//! place (`checks.rt` by the table, `disks.rt` by the records, `opening.rt` one after another). A repository that has
-//! journal entries, or images that are no visible raw ones, is refused. Then the images are read into memory, with room for
-//! all that may come (`loading.rt`). Then each new volume is removed by a commit of its own (`removals.rt`), each record of
-//! no disk is wiped (`wiping.rt`), and one sync makes this last (`settling.rt`). At each moment a stop leaves what stood
-//! before, or a content that is kept and has the same disks. Afterwards table and memory are orderly and tidy, told or not,
-//! and where the content is told the store is ready and nothing is pending. The table is the one from before without its new
-//! volumes, its sequence number raised by one for each of them; and the shape in memory is the one that an opening is to make of what
-//! stood before.
+//! place (`checks.rt` by the table, `loading.rt` and `parents.rt` by the images, `disks.rt` by the records, `opening.rt` one
+//! after another). A repository that has journal entries, hidden images, old leaves or VHD images with parents is refused.
+//! The images are read into memory as they are checked, in order of name, each once, with room for all that may come. Then
+//! each new volume is removed by a commit of its own (`removals.rt`), each record of no disk is wiped (`wiping.rt`), and one
+//! sync makes this last (`settling.rt`). At each moment a stop leaves what stood before, or a content that is kept and has
+//! the same disks. Afterwards table and memory are orderly and tidy, told or not, and where the content is told the store is
+//! ready and nothing is pending. The table is the one from before without its new volumes, its sequence number raised by one
+//! for each of them; and the shape in memory is the one that an opening is to make of what stood before. What is said here of
+//! sectors, disks and shape is promised where each slot of a VHD image held a sector, which no check sees.
 //!
-//! **What it costs.** Behind the checks an opening takes once the memory for the 505 rows that a table may come to have,
-//! less those that stand, for the 500 images that the tree may come to have, and for as many attachments; `Mgt::load` takes
-//! memory for the records; nothing else takes any. The checks go over the volumes once each, and twice where a volume looks
-//! for another, and over the 512 places once for each disk. A repair is one commit for each new volume, one write for each
-//! stray record, and one sync, also where nothing is to repair.
+//! **What it costs.** The checks go over the volumes once each, and twice where a volume looks for another; they read of
+//! each VHD image the footer, the header and the table, at most 3 sectors and one for each 128 entries, and one more where
+//! the last sector holds no footer; of the records 512 sectors; and they go over the 512 places once for each disk. An
+//! opening takes the memory for the 500 images that the tree may come to have before it reads any, and then for each VHD image
+//! that of its map, 4 bytes an entry; `Mgt::load` takes memory for the records; behind the checks it takes that of the 505 rows
+//! that a table may come to have, less those that stand, and of as many attachments as images; nothing else takes any. A
+//! repair is one commit for each new volume, one write for each stray record, and one sync, also where nothing is to repair.
 #![tactic(auto)]
 
 mod checks;
 mod disks;
 mod loading;
 mod opening;
+mod parents;
 mod removals;
 mod settling;
 mod wiping;

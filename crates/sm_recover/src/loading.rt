@@ -1,49 +1,116 @@
-//! The tree of a repository of raw disks, read off its table: a row for each volume of an image that is not new.
+//! The images are read into memory: each volume of an image that is not new gives a row of the tree. A raw image is read
+//! off the table alone; of a VHD image the footer, the header and the table are read, once.
 
-ghost use Rattle.std.specs.Prelude.{◌≡◌, ◌<◌, ◌≤◌, ◌+◌, ◌^◌, length, IfOk};
+ghost use Rattle.std.specs.Prelude.{◌≡◌, ◌<◌, ◌≤◌, ◌+◌, ◌*◌, length, true, Some, IfOk, IfErr, IfSome, IfNone, slice_get};
 ghost use Rattle.vg_meta.specs.Roomy.{table_alone};
+ghost use Rattle.vg_meta.specs.Tables.{Row};
+ghost use Rattle.vg_volumes.specs.Stored.{OnlyReads, held_in, sectors_in, stored};
+ghost use Rattle.vhd_image.specs.Bodies.{volume_name};
 ghost use Rattle.sm_machine.specs.Shapes.{image_limit};
-ghost use Rattle.sm_recover.specs.Loaded.{loaded, row_in};
-ghost use Rattle.sm_recover.specs.Repairs.{IsCheckedStore};
+ghost use Rattle.sm_machine.specs.WellFormed.{is_image_name};
+ghost use Rattle.sm_base.specs.declared.faults.OpenFault.TheVariants as fault;
+ghost use Rattle.sm_base.specs.declared.faults.Place.TheVariants as at;
+ghost use Rattle.sm_standing.specs.Checks.{invalid_fault};
+ghost use Rattle.sm_standing.specs.Outlines.{outline};
+ghost use Rattle.sm_ready.specs.Stores.{store_content};
+ghost use Rattle.sm_recover.specs.Loaded.{AreRowsOf, FailsAt, FailsToRead, HasEachRow, IsFilledImage, IsRawRead, IsReadAs, IsRow};
+ghost use Rattle.sm_recover.specs.Repairs.{IsCheckedStore, IsStoppedBy};
 
-use sm_base::{Geometry, IMAGE_LIMIT, Name, NoMemory};
+use sm_base::{Geometry, IMAGE_LIMIT, Name, OpenFault, Place};
 use std::alloc::Global;
-use vg_meta::Volume;
 use vg_volumes::Store;
 use vhd_chain::{Tree, TreeRow};
 use vhd_image::Image;
 
-/// Makes room for all the images that a repository may come to have, and puts those in that stand and are not new.
-pub fn load<S: Store>(alloc: Global, store: &S) -> Result<Tree, NoMemory>
-    requires checked { IsCheckedStore S.Store store.now }
-    ensures rows { IfOk result (λ tree. tree.rows ≡ loaded (S.site store.now).geometry (table_alone (S.table store.now)).volumes) }
+/// Makes room for all the images that a repository may come to have, and reads those that stand and are not new, in order
+/// of name.
+///
+/// # Errors
+/// `Damaged` with the first image that is not valid; `Device` where a call of the store failed; `NoMemory`.
+pub fn load<S: Store>(alloc: Global, store: &mut S) -> Result<Tree, OpenFault>
+    requires checked { IsCheckedStore S.Store store.old }
+    ensures reads { OnlyReads S.Store store.old store.new }
+    ensures rows { IfOk result (λ tree. AreRowsOf (table_alone (S.table store.old)).volumes tree.rows) }
+    ensures each { IfOk result (λ tree. HasEachRow S.Store store.old (table_alone (S.table store.old)).volumes tree.rows) }
     ensures room { IfOk result (λ tree. image_limit ≤ length tree.rows + tree.spare) }
+    ensures cause { IfErr result (IsStoppedBy S.told (invalid_fault (outline (store_content S.Store store.old))) (S.faults store.old) (S.faults store.new)) }
 {
-    let geometry = store.geometry();
-    let volumes = store.table().volumes();
     let mut tree = Tree::new(alloc);
-    tree.reserve(IMAGE_LIMIT)?;
-    for volume in volumes {
-        if let Some(row) = row_of(volume, &geometry) {
+    let Ok(()) = tree.reserve(IMAGE_LIMIT) else {
+        return Err(OpenFault::NoMemory);
+    };
+    let count = store.table().volumes().len();
+    for index in 0..count {
+        let found = row_at(alloc, store, index)?;
+        if let Some(row) = found {
             tree.add(row);
         }
     }
     Ok(tree)
 }
 
-/// The row of a volume, where it is that of a raw image and not new.
-fn row_of(volume: &Volume, geometry: &Geometry) -> Option<TreeRow>
-    requires { length volume.now.row.extents < 2 ^ 32 }
-    ensures { result ≡ row_in geometry.now volume.now.row }
+/// The row of the volume in this place of the table, where it is that of an image and not new.
+fn row_at<S: Store>(
+    alloc: Global,
+    store: &mut S,
+    index: usize,
+) -> Result<Option<TreeRow>, OpenFault>
+    requires checked { IsCheckedStore S.Store store.old }
+    requires within { index < length (table_alone (S.table store.old)).volumes }
+    ensures reads { OnlyReads S.Store store.old store.new }
+    ensures some { IfOk result (λ found. IfSome found (λ x. (r : Row) → slice_get (table_alone (S.table store.old)).volumes index ≡ Some r → IsFilledImage r × IsRow S.Store store.old r x)) }
+    ensures none { IfOk result (λ found. IfNone found ((r : Row) → slice_get (table_alone (S.table store.old)).volumes index ≡ Some r → IsFilledImage r → ⊥)) }
+    ensures cause { IfErr result (λ e. (r : Row) → slice_get (table_alone (S.table store.old)).volumes index ≡ Some r → FailsAt S.Store r e store.old store.new) }
 {
-    let name = volume.name();
-    if !matches!(name, Name::Raw(_)) || volume.is_fresh() {
-        return None;
+    let volume = &store.table().volumes()[index];
+    if volume.is_fresh() || !volume.name().is_image() {
+        return Ok(None);
     }
+    let name = volume.name();
+    let hidden = volume.is_hidden();
     let extents = volume.extents().len() as u32;
-    Some(TreeRow {
-        image: Image::raw(&name, u64::from(extents) * u64::from(geometry.extent)),
-        hidden: volume.is_hidden(),
+    let image = image_in(alloc, store, &name, extents)?;
+    Ok(Some(TreeRow {
+        image,
+        hidden,
         extents,
-    })
+    }))
+}
+
+/// The image in a volume of so many extents, which are all that it has.
+fn image_in<S: Store>(
+    alloc: Global,
+    store: &mut S,
+    name: &Name,
+    extents: u32,
+) -> Result<Image, OpenFault>
+    requires image { is_image_name name.now ≡ true }
+    requires some { 1 ≤ extents }
+    requires within { extents * (S.site store.old).geometry.extent ≤ sectors_in (stored S.Store store.old) name.now }
+    ensures reads { OnlyReads S.Store store.old store.new }
+    ensures name { IfOk result (λ image. volume_name image ≡ name.now) }
+    ensures image { IfOk result (IsReadAs S.told (S.site store.old).geometry (extents * (S.site store.old).geometry.extent) (held_in (stored S.Store store.old) name.now) name.now) }
+    ensures cause { IfErr result (λ e. FailsToRead S.Store name.now (extents * (S.site store.old).geometry.extent) e store.old store.new) }
+{
+    match name {
+        Name::Vhd(_) => Image::open(alloc, store, name, extents),
+        _ => raw_in(&store.geometry(), name, extents),
+    }
+}
+
+/// The raw image in a volume of so many extents: one that has at most as many blocks as a block allocation table has
+/// entries.
+fn raw_in(geometry: &Geometry, name: &Name, extents: u32) -> Result<Image, OpenFault>
+    ensures image { IfOk result (IsRawRead geometry.now (extents * geometry.now.extent) name.now) }
+    ensures err { IfErr result (λ e. e ≡ fault.Damaged (at.Image name.now)) }
+    ensures long { IfErr result (λ e. geometry.now.entries * geometry.now.block < extents * geometry.now.extent) }
+{
+    let most = u64::from(geometry.entries) * u64::from(geometry.block);
+    let sectors = u64::from(extents) * u64::from(geometry.extent);
+    if most < sectors {
+        return Err(OpenFault::Damaged {
+            place: Place::Image { name: *name },
+        });
+    }
+    Ok(Image::raw(name, sectors))
 }

@@ -1,7 +1,7 @@
 //! All checks, one after another, and then the memory of a session: the images that stand, and room for all that may come.
 //! Nothing is written.
 
-ghost use Rattle.std.specs.Prelude.{◌≡◌, None, OnOk, IfOk, IfErr, IfNone, length};
+ghost use Rattle.std.specs.Prelude.{◌≡◌, ◌≤◌, ◌+◌, None, OnOk, IfOk, IfErr, IfNone, length};
 ghost use Rattle.sm_disk.specs.Held.{IsSettled};
 ghost use Rattle.common_laws.specs.Lists.{first_some};
 ghost use Rattle.sm_mgt.specs.Places.{Agrees, place_count, records_of};
@@ -12,18 +12,23 @@ ghost use Rattle.sm_ready.specs.Sessions.{IsAtEase, HasRows, HasTreeRoom, IsOrde
 ghost use Rattle.sm_ready.specs.Stores.{store_content};
 ghost use Rattle.sm_standing.specs.Checks.{fault_today_of};
 ghost use Rattle.sm_standing.specs.Outlines.{Outline};
-ghost use Rattle.sm_recover.specs.Faults.{HasPlaces, HasTable, table_faults};
+ghost use Rattle.sm_standing.specs.Keeping.{HasNoEmptySlot};
+ghost use Rattle.sm_machine.specs.Shapes.{image_limit};
+ghost use Rattle.sm_recover.specs.Faults.{HasLinks, HasPlaces, HasTable, PassImages, table_faults};
+ghost use Rattle.sm_recover.specs.Loaded.{AreRowsOf, HasEachRow};
 ghost use Rattle.vg_meta.specs.Roomy.{table_alone};
 
 use crate::checks::table_fault;
 use crate::disks::disk_fault;
 use crate::loading::load;
+use crate::parents::parent_fault;
 use sm_base::{IMAGE_LIMIT, NoMemory, Op, OpenFault, Place};
 use sm_mgt::Mgt;
 use sm_ready::Memory;
 use sm_refs::Attachments;
 use std::alloc::Global;
 use vg_volumes::Store;
+use vhd_chain::Tree;
 
 /// The most rows that a table may come to have: those of 500 images, of the volume of records, and of 4 journal entries.
 const MOST_ROWS: usize = 505;
@@ -35,17 +40,14 @@ pub fn checked_with_room<S: Store>(alloc: Global, store: &mut S) -> Result<Memor
     ensures checked { OnOk result (IsCheckedStore S.Store store.old) }
     ensures sound { OnOk result (S.told → first_fault_today (store_content S.Store store.old) ≡ None) }
     ensures orderly { IfOk result (λ m. IsOrderlyStore S.Store store.old m) }
-    ensures ready { IfOk result (λ m. S.told → IsSettled (S.area store.old) → IsReadyStore S.Store store.old m) }
+    ensures ready { IfOk result (λ m. S.told → IsSettled (S.area store.old) → HasNoEmptySlot (store_content S.Store store.old) → IsReadyStore S.Store store.old m) }
     ensures at_ease { IfOk result IsAtEase }
     ensures tree_room { IfOk result HasTreeRoom }
     ensures cause { IfErr result (IsOpeningStopped S.told (store_content S.Store store.old) (S.faults store.old) (S.faults store.new)) }
     ensures room { OnOk result (HasRows (S.table store.new)) }
 {
-    let records = checked(alloc, store)?;
+    let (tree, records) = checked(alloc, store)?;
     let Ok(()) = make_room(store) else {
-        return Err(OpenFault::NoMemory);
-    };
-    let Ok(tree) = load(alloc, store) else {
         return Err(OpenFault::NoMemory);
     };
     let Ok(attached) = Attachments::new(alloc, IMAGE_LIMIT) else {
@@ -59,24 +61,46 @@ pub fn checked_with_room<S: Store>(alloc: Global, store: &mut S) -> Result<Memor
     })
 }
 
-/// Checks what stands in a store, and answers the places of the records.
-fn checked<S: Store>(alloc: Global, store: &mut S) -> Result<Mgt, OpenFault>
+/// Checks what stands in a store, and answers the images and the places of the records.
+fn checked<S: Store>(alloc: Global, store: &mut S) -> Result<(Tree, Mgt), OpenFault>
     ensures reads { OnlyReads S.Store store.old store.new }
     ensures checked { OnOk result (IsCheckedStore S.Store store.old) }
     ensures sound { OnOk result (S.told → first_fault_today (store_content S.Store store.old) ≡ None) }
-    ensures agrees { S.told → IfOk result (Agrees (records_of S.Store store.old)) }
-    ensures passed { IfOk result (λ places. (x : Outline) → HasTable (S.site store.old).geometry (table_alone (S.table store.old)) x → HasPlaces places x → fault_today_of x ≡ None) }
-    ensures long { IfOk result (λ places. length places ≡ place_count) }
+    ensures agrees { S.told → IfOk result (λ p. Agrees (records_of S.Store store.old) p.1) }
+    ensures passed { IfOk result (λ p. (x : Outline) → HasTable (S.site store.old).geometry (table_alone (S.table store.old)) x → HasLinks p.0.rows x → HasPlaces p.1 x → fault_today_of x ≡ None) }
+    ensures rows { IfOk result (λ p. AreRowsOf (table_alone (S.table store.old)).volumes p.0.rows) }
+    ensures each { IfOk result (λ p. HasEachRow S.Store store.old (table_alone (S.table store.old)).volumes p.0.rows) }
+    ensures room { IfOk result (λ p. image_limit ≤ length p.0.rows + p.0.spare) }
+    ensures long { IfOk result (λ p. length p.1 ≡ place_count) }
+    ensures cause { IfErr result (IsOpeningStopped S.told (store_content S.Store store.old) (S.faults store.old) (S.faults store.new)) }
+{
+    let tree = checked_images(alloc, store)?;
+    let mgt = Mgt::load(alloc, store)?;
+    if let Some(place) = disk_fault(store.table(), &mgt) {
+        return Err(OpenFault::Damaged { place });
+    }
+    Ok((tree, mgt))
+}
+
+/// The checks in front of the records, by the table and by the images, which it answers.
+fn checked_images<S: Store>(alloc: Global, store: &mut S) -> Result<Tree, OpenFault>
+    ensures reads { OnlyReads S.Store store.old store.new }
+    ensures checked { OnOk result (IsCheckedStore S.Store store.old) }
+    ensures tables { OnOk result ((x : Outline) → HasTable (S.site store.old).geometry (table_alone (S.table store.old)) x → first_some (table_faults x) ≡ None) }
+    ensures passed { IfOk result (λ tree. (x : Outline) → HasTable (S.site store.old).geometry (table_alone (S.table store.old)) x → HasLinks tree.rows x → PassImages x) }
+    ensures rows { IfOk result (λ tree. AreRowsOf (table_alone (S.table store.old)).volumes tree.rows) }
+    ensures each { IfOk result (λ tree. HasEachRow S.Store store.old (table_alone (S.table store.old)).volumes tree.rows) }
+    ensures room { IfOk result (λ tree. image_limit ≤ length tree.rows + tree.spare) }
     ensures cause { IfErr result (IsOpeningStopped S.told (store_content S.Store store.old) (S.faults store.old) (S.faults store.new)) }
 {
     if let Some(place) = first_by_table(store) {
         return Err(OpenFault::Damaged { place });
     }
-    let mgt = Mgt::load(alloc, store)?;
-    if let Some(place) = disk_fault(store.table(), &mgt) {
+    let tree = load(alloc, store)?;
+    if let Some(place) = parent_fault(store.table(), &tree) {
         return Err(OpenFault::Damaged { place });
     }
-    Ok(mgt)
+    Ok(tree)
 }
 
 /// The place of the first check by the table that fails. Where none does, what the repairs rest on is known.

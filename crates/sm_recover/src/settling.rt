@@ -14,7 +14,8 @@ ghost use Rattle.sm_recover.specs.Repairs.{IsCheckedStore, IsOpeningStopped, Unl
 ghost use Rattle.sm_ready.specs.Known.{Known, known, shape_in};
 ghost use Rattle.sm_ready.specs.Sessions.{IsAtEase, HasRows, HasTreeRoom, IsOrderlyStore, IsReadyStore, IsTidyStore};
 ghost use Rattle.sm_ready.specs.Stores.{content_in, store_content};
-ghost use Rattle.sm_recover.specs.Stores.{IsRepairedFrom};
+ghost use Rattle.sm_recover.specs.Stores.{MayBeRepairedFrom};
+ghost use Rattle.sm_standing.specs.Keeping.{HasNoEmptySlot};
 
 use crate::opening::checked_with_room;
 use crate::removals::remove_new;
@@ -28,6 +29,9 @@ use vg_volumes::Store;
 /// Checks what stands in a store, all checks before the first write, and then repairs what a stop has left: volumes
 /// that are new are removed, and records of no disk are wiped. Answers what a session keeps in memory: the images, the
 /// places of the records, no attachment and no operation. Memory is taken before the first write, and none after it.
+///
+/// No check can see whether each slot of a VHD image holds a sector, as no check reads bitmaps. What is promised of the
+/// sectors and of the disks rests on it: it is so in each content that is kept.
 ///
 /// # Errors
 /// `Damaged` with the first place at which the checks fail, and nothing was written; `Device` where a call of the
@@ -52,11 +56,12 @@ pub fn settle<S: Store>(alloc: Global, store: &mut S) -> Result<Memory, OpenFaul
     ensures few { HasFewRemovals (table_alone (S.table store.old)) (table_alone (S.table store.new)) }
     ensures few_left { Leaves S.Store store.new (λ t image. HasFewRemovals (table_alone (S.table store.old)) t) }
     ensures settled { OnOk result (S.told → IsSettled (S.area store.new)) }
-    ensures ready { IfOk result (λ m. S.told → IsReadyStore S.Store store.new m) }
-    ensures disks { OnOk result (S.told → disks (store_content S.Store store.new)
+    ensures ready { IfOk result (λ m. S.told → HasNoEmptySlot (store_content S.Store store.old) → IsReadyStore S.Store store.new m) }
+    ensures disks { OnOk result (S.told → HasNoEmptySlot (store_content S.Store store.old) → disks (store_content S.Store store.new)
         ≡ disks (store_content S.Store store.old)) }
-    ensures opened { IfOk result (λ m. S.told → shape_in (S.site store.new) (table_alone (S.table store.new)) (known m) ≡ opened (store_content S.Store store.old)) }
-    ensures crash { Leaves S.Store store.new (λ t image. S.leaves store.old t image ⊎ IsRepairedFrom (store_content S.Store store.old) (content_in (S.site store.old) t image)) }
+    ensures opened { IfOk result (λ m. S.told → HasNoEmptySlot (store_content S.Store store.old)
+        → shape_in (S.site store.new) (table_alone (S.table store.new)) (known m) ≡ opened (store_content S.Store store.old)) }
+    ensures crash { Leaves S.Store store.new (λ t image. S.leaves store.old t image ⊎ MayBeRepairedFrom (store_content S.Store store.old) (content_in (S.site store.old) t image)) }
 {
     let mut memory = checked_with_room(alloc, store)?;
     let Ok(()) = repair(store, &mut memory) else {
@@ -84,6 +89,7 @@ fn repair<S: Store>(store: &mut S, memory: &mut Memory) -> Result<(), Failed>
     ensures few_left { Leaves S.Store store.new (λ t image. HasFewRemovals (table_alone (S.table store.old)) t) }
     ensures orderly { OnOk result (IsOrderlyStore S.Store store.new memory.new) }
     ensures tidy { OnOk result (IsTidyStore S.Store store.new memory.new) }
+    ensures settled { OnOk result (S.told → IsSettled (S.area store.new)) }
     ensures rest { OnOk result (S.told → RestsAgain (stored S.Store store.old) (stored S.Store store.new) (known memory.old) (known memory.new)) }
     ensures crash { Leaves S.Store store.new (λ t image. IsAtRest (stored S.Store store.old) (known memory.old) → IsSame (store_content S.Store store.old) (content_in (S.site store.old) t image)) }
 {
@@ -100,6 +106,7 @@ fn tidy_records<S: Store>(store: &mut S, mgt: &mut Mgt) -> Result<(), Failed>
     ensures cause { Counts S.Store result store.old store.new }
     ensures right { OnOk result ((k : ℕ) → k < place_count → IsRightAt (table_alone (S.table store.old)) mgt.new k) }
     ensures freed { OnOk result (IsWithoutStrays (table_alone (S.table store.old)) mgt.old mgt.new) }
+    ensures settled { OnOk result (S.told → IsSettled (S.area store.new)) }
     ensures rest { OnOk result (S.told → (m : Known) → RestsAgain (stored S.Store store.old) (stored S.Store store.new) (record m { places = mgt.old }) (record m { places = mgt.new })) }
     ensures crash { (m : Known) → LeavesSame S.Store (record m { places = mgt.old }) store.old store.new }
 {

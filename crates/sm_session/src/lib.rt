@@ -14,7 +14,9 @@
 //! the step or those from after it; a refused step makes no write and no sync; after an accepted one nothing is
 //! pending. A new disk takes the least free extents, in rising order, and raises the sequence number at most by two,
 //! whether it is made or not (`HasFewCommits`). No call changes what stands beside the store.
-//! Today's commands are `create` of a raw disk and `list`; any other is answered as a line that spells none.
+//! Today's commands are `create` of a raw disk and `list`; any other is answered as a line that spells none. Why a command
+//! is refused is asked once, of `refuse` (`sm_ready`), before the command is carried out: so a command's crate is called
+//! only where no cause was found.
 //! [`Session::begin`] checks what stands in a store and repairs it first. After a step that failed no further one is
 //! taken.
 #![tactic(auto)]

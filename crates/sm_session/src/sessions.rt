@@ -2,11 +2,12 @@
 
 ghost use Rattle.std.specs.Prelude.{◌≡◌, ◌≤◌, ◌⊎◌, None, false, IfOk, IfErr};
 ghost use Rattle.std.proofs.Props.{props};
+ghost use Rattle.sm_base.specs.declared.operations.Op.TheVariants.{Idle};
 ghost use Rattle.sm_disk.specs.Held.{IsSettled, Keeps};
 ghost use Rattle.vg_meta.specs.Roomy.{table_alone};
 ghost use Rattle.sm_ready.specs.Cleaned.{HasFewRemovals};
 ghost use Rattle.sm_recover.specs.Repairs.{IsOpeningStopped, UnlessDeviceFailed};
-ghost use Rattle.sm_recover.specs.Stores.{IsRepairedFrom};
+ghost use Rattle.sm_recover.specs.Stores.{MayBeRepairedFrom};
 ghost use Rattle.vg_volumes.specs.Stored.{OnlyReads, Leaves};
 ghost use Rattle.sm_ready.specs.Known.{known, shape_in};
 ghost use Rattle.sm_ready.specs.Orderly.{IsOrderly};
@@ -16,6 +17,7 @@ ghost use Rattle.sm_ready.specs.Sessions.{HasRows, HasTreeRoom, IsReadyStore, Ke
 ghost use Rattle.sm_ready.specs.Stores.{MayShow, StoreLeaves, content_in, store_content};
 ghost use Rattle.sm_run.specs.Runs.{BeginsSettled};
 ghost use Rattle.sm_standing.specs.Checks.{first_fault_today};
+ghost use Rattle.sm_standing.specs.Keeping.{HasNoEmptySlot};
 ghost use Rattle.sm_standing.specs.Opened.{opened};
 ghost use Rattle.sm_standing.specs.Standing.{disks};
 
@@ -40,12 +42,15 @@ pub struct Session<S: Store> {
     ghost orderly: { broken ≡ false → IsOrderly (S.site store) (table_alone (S.table store)) (known memory) } by { Prim.hlevel (props, IsOrderly-prop) },
     ghost tidy: { broken ≡ false → IsTidy (table_alone (S.table store)) (known memory) } by { Prim.hlevel (props, IsTidy-prop) },
     ghost tree_room: { broken ≡ false → HasTreeRoom memory },
+    // The collector does nothing.
+    ghost idle: { broken ≡ false → memory.operation ≡ Idle },
     ghost usable: { broken ≡ false → S.failed store ≡ false },
     ghost room: { broken ≡ false → HasRows (S.table store) },
 }
 
 impl<S: Store> Session<S> {
-    /// Checks what stands in a store, all checks before the first write, and repairs what a stop has left.
+    /// Checks what stands in a store, all checks before the first write, and repairs what a stop has left. What is promised
+    /// of the sectors and of the disks rests on what no check sees: that each slot of a VHD image holds a sector.
     ///
     /// # Errors
     /// Why there is no session, with the store: `Damaged` with the first place at which the checks fail; `Device` where
@@ -60,13 +65,15 @@ impl<S: Store> Session<S> {
         ensures whole { IfOk result (λ s. s.broken ≡ false) }
         ensures now { IfOk result (λ s. s.now ≡ now) }
         ensures sound { IfOk result (λ s. S.told → first_fault_today (store_content S.Store store) ≡ None) }
-        ensures ready { IfOk result (λ s. S.told → IsReadyStore S.Store s.store s.memory) }
+        ensures ready { IfOk result (λ s. S.told → HasNoEmptySlot (store_content S.Store store) → IsReadyStore S.Store s.store s.memory) }
         ensures settled { IfOk result (λ s. S.told → IsSettled (S.area s.store)) }
-        ensures disks { IfOk result (λ s. S.told → disks (store_content S.Store s.store)
+        ensures disks { IfOk result (λ s. S.told → HasNoEmptySlot (store_content S.Store store) → disks (store_content S.Store s.store)
             ≡ disks (store_content S.Store store)) }
-        ensures opened { IfOk result (λ s. S.told → shape_in (S.site s.store) (table_alone (S.table s.store)) (known s.memory) ≡ opened (store_content S.Store store)) }
-        ensures kept { IfOk result (λ s. S.told → KeepsAll (S.site s.store) (StoreLeaves S.Store s.store)) }
-        ensures begins { IfOk result (λ s. S.told → BeginsSettled (store_state S.Store s.store s.memory) (MayShow (S.site s.store) (StoreLeaves S.Store s.store))) }
+        ensures opened { IfOk result (λ s. S.told → HasNoEmptySlot (store_content S.Store store)
+            → shape_in (S.site s.store) (table_alone (S.table s.store)) (known s.memory) ≡ opened (store_content S.Store store)) }
+        ensures kept { IfOk result (λ s. S.told → HasNoEmptySlot (store_content S.Store store) → KeepsAll (S.site s.store) (StoreLeaves S.Store s.store)) }
+        ensures begins { IfOk result (λ s. S.told → HasNoEmptySlot (store_content S.Store store)
+            → BeginsSettled (store_state S.Store s.store s.memory) (MayShow (S.site s.store) (StoreLeaves S.Store s.store))) }
         ensures site_back { IfErr result (λ e. S.site e.1 ≡ S.site store) }
         ensures counts_back { IfErr result (λ e. S.faults store ≤ S.faults e.1) }
         ensures beside_back { IfErr result (λ e. S.told → Keeps (S.beside store) (S.beside e.1)) }
@@ -76,7 +83,7 @@ impl<S: Store> Session<S> {
         ensures refused { IfErr result (λ e. UnlessDeviceFailed e.0 (OnlyReads S.Store store e.1)) }
         ensures unsound_back { IfErr result (λ e. S.told → (first_fault_today (store_content S.Store store) ≡ None → ⊥) → Keeps (S.device store) (S.device e.1)) }
         ensures crash_back { IfErr result (λ e. Leaves S.Store e.1 (λ t image. S.leaves store t image
-            ⊎ IsRepairedFrom (store_content S.Store store) (content_in (S.site store) t image))) }
+            ⊎ MayBeRepairedFrom (store_content S.Store store) (content_in (S.site store) t image))) }
     {
         let mut store = store;
         match settle(alloc, &mut store) {
@@ -136,7 +143,7 @@ impl<S: Store> Steps for Session<S> {
         if self.broken {
             return Err(StepFault::Broken);
         }
-        let taken = take(alloc, &mut self.store, &mut self.memory, command);
+        let taken = take(alloc, &mut self.store, &mut self.memory, command, self.now);
         match taken {
             Ok(reply) => Ok(reply),
             Err(_) => {

@@ -1,36 +1,56 @@
 //! Taking one command.
 
 ghost use Rattle.std.specs.Prelude.{◌≡◌, ◌≤◌, ℕ, List, true, false, IfOk, OnOk};
+ghost use Rattle.sm_base.specs.declared.operations.Op.TheVariants.{Idle};
 ghost use Rattle.sm_disk.specs.Held.{Keeps};
 ghost use Rattle.vg_meta.specs.Roomy.{table_alone};
 ghost use Rattle.vg_meta.specs.Tables.{VolumeTable};
 ghost use Rattle.sm_machine.specs.declared.commands.Command.TheVariants.{Create};
 ghost use Rattle.sm_machine.specs.Runs.{is_accepted};
+ghost use Rattle.sm_machine.specs.Steps.{is_built as is_built_by};
 ghost use Rattle.vg_volumes.specs.Stored.{OnlyReads, Counts, Leaves};
 ghost use Rattle.sm_making.specs.Making.{IsOnLeast, HasFewCommits};
-ghost use Rattle.sm_making.specs.Refusing.{extents_for};
+ghost use Rattle.sm_ready.specs.Refusing.{IsAllowed, extents_for};
 ghost use Rattle.sm_ready.specs.Sessions.{HasRows, HasTreeRoom, IsOrderlyStore, IsReadyStore, IsTidyStore};
 ghost use Rattle.sm_ready.specs.Taken.{StoreTakes};
 
 use sm_base::{Failed, Refusal};
+use sm_changing::{delete, label};
 use sm_listing::list;
 use sm_machine::{Command, Reply};
-use sm_making::create;
-use sm_ready::Memory;
+use sm_making::{create, create_vhd};
+use sm_ready::{Memory, refuse};
 use std::alloc::Global;
 use vg_volumes::Store;
 
-/// Takes a command. One that is not built yet is answered as a line that spells none.
-pub fn take<S: Store>(
+/// Whether a command is built.
+#[tactic(auto, unfolding(sm_machine::specs::Steps::is_built))]
+fn is_built(command: &Command) -> bool
+    ensures { result ≡ is_built_by command.now }
+{
+    match command {
+        Command::Create { .. } | Command::Delete { .. } | Command::Label { .. } | Command::List => {
+            true
+        }
+        _ => false,
+    }
+}
+
+/// Carries out a command that is built and that no cause refuses. `now` is the stamp of an image that it makes.
+fn carry_out<S: Store>(
     alloc: Global,
     store: &mut S,
     memory: &mut Memory,
     command: &Command,
+    now: u32,
 ) -> Result<Reply, Failed>
     requires usable { S.failed store.old ≡ false }
     requires orderly { IsOrderlyStore S.Store store.old memory.old }
     requires tidy { IsTidyStore S.Store store.old memory.old }
     requires tree_room { HasTreeRoom memory.old }
+    requires idle { memory.old.operation ≡ Idle }
+    requires built { is_built_by command.now ≡ true }
+    requires allowed { IsAllowed S.Store command.now store.old memory.old }
     ensures site { S.site store.new ≡ S.site store.old }
     ensures counts { S.faults store.old ≤ S.faults store.new }
     ensures cause { Counts S.Store result store.old store.new }
@@ -40,6 +60,7 @@ pub fn take<S: Store>(
     ensures usable_still { OnOk result (S.failed store.new ≡ false) }
     ensures orderly_still { OnOk result (IsOrderlyStore S.Store store.new memory.new) }
     ensures tidy_still { OnOk result (IsTidyStore S.Store store.new memory.new) }
+    ensures idle_still { OnOk result (memory.new.operation ≡ Idle) }
     ensures tree_room_still { OnOk result (HasTreeRoom memory.new) }
     ensures room { HasRows (S.table store.old) → OnOk result (HasRows (S.table store.new)) }
     ensures refused { IfOk result (λ r. is_accepted r ≡ false → (t : VolumeTable) (image : ℕ → List ℕ) → S.leaves store.new t image → S.leaves store.old t image) }
@@ -59,22 +80,63 @@ pub fn take<S: Store>(
             if *raw {
                 create(alloc, store, memory, disk, *size, label)
             } else {
-                Ok(Reply::No(Refusal::BadLine))
+                create_vhd(alloc, store, memory, disk, *size, label, now)
             }
         }
+        Command::Delete { disk } => {
+            delete(store, memory, disk)?;
+            Ok(Reply::Done)
+        }
+        Command::Label { disk, text } => {
+            label(store, memory, disk, text)?;
+            Ok(Reply::Done)
+        }
         Command::List => Ok(list(alloc, memory)),
-        Command::Delete { .. }
-        | Command::Attach { .. }
-        | Command::Detach { .. }
-        | Command::Snapshot { .. }
-        | Command::Clone { .. }
-        | Command::Resize { .. }
-        | Command::Label { .. }
-        | Command::Write { .. }
-        | Command::Fill { .. }
-        | Command::Read { .. }
-        | Command::Flush { .. }
-        | Command::Gc
-        | Command::Stat => Ok(Reply::No(Refusal::BadLine)),
+        _ => unreachable!(),
     }
+}
+
+/// Takes a command. One that is not built yet is answered as a line that spells none, and one that a cause refuses with the
+/// first of them. `now` is the stamp of an image that it makes, in seconds since 2000-01-01 00:00 UTC.
+pub fn take<S: Store>(
+    alloc: Global,
+    store: &mut S,
+    memory: &mut Memory,
+    command: &Command,
+    now: u32,
+) -> Result<Reply, Failed>
+    requires usable { S.failed store.old ≡ false }
+    requires orderly { IsOrderlyStore S.Store store.old memory.old }
+    requires tidy { IsTidyStore S.Store store.old memory.old }
+    requires tree_room { HasTreeRoom memory.old }
+    requires idle { memory.old.operation ≡ Idle }
+    ensures site { S.site store.new ≡ S.site store.old }
+    ensures counts { S.faults store.old ≤ S.faults store.new }
+    ensures cause { Counts S.Store result store.old store.new }
+    ensures beside { S.told → Keeps (S.beside store.old) (S.beside store.new) }
+    ensures few { HasFewCommits (table_alone (S.table store.old)) (table_alone (S.table store.new)) }
+    ensures few_left { Leaves S.Store store.new (λ t image. HasFewCommits (table_alone (S.table store.old)) t) }
+    ensures usable_still { OnOk result (S.failed store.new ≡ false) }
+    ensures orderly_still { OnOk result (IsOrderlyStore S.Store store.new memory.new) }
+    ensures tidy_still { OnOk result (IsTidyStore S.Store store.new memory.new) }
+    ensures idle_still { OnOk result (memory.new.operation ≡ Idle) }
+    ensures tree_room_still { OnOk result (HasTreeRoom memory.new) }
+    ensures room { HasRows (S.table store.old) → OnOk result (HasRows (S.table store.new)) }
+    ensures refused { IfOk result (λ r. is_accepted r ≡ false → (t : VolumeTable) (image : ℕ → List ℕ) → S.leaves store.new t image → S.leaves store.old t image) }
+    ensures untouched { IfOk result (λ r. is_accepted r ≡ false → OnlyReads S.Store store.old store.new × (memory.new ≡ memory.old)) }
+    ensures least { (u : List ℕ) (size : ℕ) (label : List ℕ) → command.now ≡ Create u size true label → IfOk result (λ r. is_accepted r ≡ true
+        → IsOnLeast (S.site store.old) (table_alone (S.table store.old)) u (extents_for (S.site store.old).geometry.extent size) (table_alone (S.table store.new))) }
+    ensures taken { S.told → IsReadyStore S.Store store.old memory.old
+        → StoreTakes S.Store command.now store.old memory.old store.new memory.new result }
+{
+    if !is_built(command) {
+        return Ok(Reply::No(Refusal::BadLine));
+    }
+    let geometry = store.geometry();
+    let extents = store.extents();
+    let refusal = refuse(store.table(), memory, &geometry, extents, command);
+    if let Some(refusal) = refusal {
+        return Ok(Reply::No(refusal));
+    }
+    carry_out(alloc, store, memory, command, now)
 }

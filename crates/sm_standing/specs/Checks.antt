@@ -285,23 +285,31 @@ first_fault c = fault_of (outline c)
 
 -- ---- what can't be repaired yet
 
--- an image that is no visible raw one
+-- a hidden image, or an old leaf
 abbrev pub is_ahead : Bool → Name → Bool
 is_ahead hidden (Raw u) = hidden
-is_ahead hidden (Vhd u) = true
+is_ahead hidden (Vhd u) = hidden
 is_ahead hidden (Old u) = true
 is_ahead hidden _ = false
 
 abbrev pub is_image_ahead : Row → Bool
 is_image_ahead r = is_ahead r.hidden r.name
 
--- the checks of the program as it is built today: the first entry is refused with the eighth check, and the first image
--- that is no visible raw one with the tenth
+-- a VHD image that has a parent: a new one has none
+abbrev pub has_parent : Outline → Name → Bool
+has_parent o (Vhd u) = is_some (parent_in o (Vhd u))
+has_parent o _ = false
+
+-- the checks of the program as it is built today: the first entry is refused with the eighth check, the first hidden image
+-- or old leaf with the ninth, and the first image that has a parent with the eleventh
 unfoldable pub entry_ahead_fault : Outline → Option Place
 entry_ahead_fault o = placed at.Journal (first_name (λ r. is_entry r.name) o.table.volumes)
 
 unfoldable pub image_ahead_fault : Outline → Option Place
 image_ahead_fault o = placed at.Image (first_name is_image_ahead o.table.volumes)
+
+unfoldable pub parent_ahead_fault : Outline → Option Place
+parent_ahead_fault o = placed at.Tree (first_name (λ r. has_parent o r.name) o.table.volumes)
 
 abbrev pub faults_today : Outline → List (Option Place)
 faults_today o = record_volume_fault o
@@ -310,6 +318,7 @@ faults_today o = record_volume_fault o
     ∷ entry_ahead_fault o
     ∷ image_ahead_fault o
     ∷ invalid_fault o
+    ∷ parent_ahead_fault o
     ∷ record_fault o
     ∷ disk_fault o
     ∷ []

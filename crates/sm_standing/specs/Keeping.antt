@@ -16,12 +16,16 @@ abbrev pub IsHolding : ℕ → Image → Type 0
 IsHolding block i = (b k : ℕ) → slice_get i.slots b ≡ Some (Some k)
     → (j : ℕ) × (j < block) × ((bytes : List ℕ) × (i.own (b * block + j) ≡ Some bytes))
 
+-- in each VHD image each block with a slot holds a sector: no slot is empty
+abbrev pub HasNoEmptySlot : Content → Type 0
+HasNoEmptySlot c = (u : List ℕ) (i : Image) → image_of c (Vhd u) ≡ Some i → IsHolding c.block i
+
 -- what one image holds, another holds alike
 abbrev pub IsHeldAlike : Image → Image → Type 0
 IsHeldAlike v p = (s : ℕ) (bytes : List ℕ) → v.own s ≡ Some bytes → p.own s ≡ Some bytes
 
 pub record IsKept (c : Content) : Type 0 where
   pub sound : first_fault c ≡ None
-  pub holding : (u : List ℕ) (i : Image) → image_of c (Vhd u) ≡ Some i → IsHolding c.block i
+  pub holding : HasNoEmptySlot c
   pub linking : (child parent : List ℕ) (r : Row) (v p : Image) (n : Name) → row c (Relink child parent) ≡ Some r
       → image_of c (Vhd child) ≡ Some v → v.parent ≡ Some n → image_of c n ≡ Some p → IsHeldAlike v p

@@ -11,7 +11,6 @@ pub mod Shapes
 pub mod Opened
 pub mod Plain
 pub mod Ordered
-pub mod RawDisks
 pub mod PlainSound
 pub mod Readings
 pub mod Changes

@@ -1,12 +1,14 @@
--- A repository of raw disks alone: its volumes are the volume of records and visible raw images, new ones among them.
+-- A repository in which nothing is under way: its volumes are the volume of records and visible VHD and raw images, new ones
+-- among them. No image is hidden, none is an old leaf, and there is no journal entry.
 use Rattle.std.specs.Prelude.{◌≡◌, Bool, true, false, not}
 use Rattle.std.specs.List.{AllByRecursion}
 use Rattle.sm_base.specs.declared.names.Name.{Name}
-use Rattle.sm_base.specs.declared.names.Name.TheVariants.{Mgt, Raw}
+use Rattle.sm_base.specs.declared.names.Name.TheVariants.{Mgt, Vhd, Raw}
 use Rattle.vg_meta.specs.Tables.{Row, VolumeTable}
 
 abbrev pub is_plain_name : Bool → Name → Bool
 is_plain_name hidden Mgt = true
+is_plain_name hidden (Vhd u) = not hidden
 is_plain_name hidden (Raw u) = not hidden
 is_plain_name hidden _ = false
 

@@ -11,12 +11,12 @@
 //! (an image, a turn, what is read), `Answering` (the same without a bound), `Standing` (the disks), `Outlines`
 //! (what the checks look at), `Checks` (the checks in their order), `Keeping` (kept), `Devices` (the same of a
 //! whole device), `Shapes` (the shape that a content spells), `Opened` (the shape that an opening makes),
-//! `Plain` and `PlainSound` (a repository of raw disks alone), `Readings` (record sectors of two contents), `Changes` (an
-//! image that comes, goes, grows or moves), `Worlds` (what a change of the area leaves).
+//! `Plain` and `PlainSound` (a repository of visible images without parents), `Readings` (record sectors of two contents),
+//! `Changes` (an image that comes, goes, grows or moves), `Worlds` (what a change of the area leaves).
 //!
 //! The laws are the contracts of functions that do nothing: of what is read through a chain (`chains`), of images in a
 //! content (`images`), of what a commit or a write leaves of each volume (`worlds`), of the list of disks (`listing`), of
-//! raw disks alone (`raw`), and of outlines and the first check that fails (`faults`). That their hypotheses can be met is
+//! visible images without parents (`plain`), and of outlines and the first check that fails (`faults`). That their hypotheses can be met is
 //! shown in the crate standing_examples.
 #![tactic(auto)]
 
@@ -24,7 +24,7 @@ mod chains;
 mod faults;
 mod images;
 mod listing;
-mod raw;
+mod plain;
 mod worlds;
 
 pub use chains::{
@@ -39,5 +39,5 @@ pub use listing::{
     law_disk, law_disks_follow, law_disks_in_order, law_one_disk_changed, law_one_disk_less,
     law_one_disk_more,
 };
-pub use raw::{law_plain_kept, law_today};
+pub use plain::{law_plain_kept, law_today};
 pub use worlds::{law_commit, law_other_choices, law_other_volumes};

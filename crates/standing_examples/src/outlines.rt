@@ -1,14 +1,15 @@
-//! What a guest writes is no part of an outline; and an image that is being enlarged.
+//! What a guest writes is no part of an outline; an image that is being enlarged; and what today's checks pass.
 
-ghost use Rattle.std.specs.Prelude.{◌≡◌, ◌∷◌, ◌<◌, ℕ, [], List, None, Some};
-ghost use Rattle.sm_base.specs.declared.names.Name.TheVariants.{Vhd};
+ghost use Rattle.std.specs.Prelude.{◌≡◌, ◌∷◌, ◌<◌, ℕ, [], List, None, Some, false, true};
+ghost use Rattle.sm_base.specs.declared.faults.Place.TheVariants as at;
+ghost use Rattle.sm_base.specs.declared.names.Name.TheVariants.{Vhd, Raw};
 ghost use Rattle.sm_standing.specs.Besides.{IsBeside};
-ghost use Rattle.sm_standing.specs.Checks.{fault_of, first_fault};
+ghost use Rattle.sm_standing.specs.Checks.{fault_of, fault_today_of, first_fault};
 ghost use Rattle.sm_standing.specs.Enlarging.{IsEnlarging};
 ghost use Rattle.sm_standing.specs.Outlines.{outline};
 ghost use Rattle.sm_standing.specs.Standing.{standing_volume};
-ghost use Rattle.standing_examples.specs.SmallContents.{lone_raw, one};
-ghost use Rattle.standing_examples.specs.SmallOutlines.{thin_outline, enlarging_table};
+ghost use Rattle.standing_examples.specs.SmallContents.{lone_raw, one, two};
+ghost use Rattle.standing_examples.specs.SmallOutlines.{thin_outline, enlarging_table, mixed_outline};
 
 /// A guest writes into a raw disk, behind the records: the outline is as it was, and so is the first fault.
 pub fn example_outline()
@@ -24,4 +25,12 @@ pub fn example_enlarging()
     ensures sound { fault_of (record thin_outline { table = enlarging_table }) ≡ None }
     ensures stands { standing_volume enlarging_table one ≡ Some (Vhd one) }
     ensures beside { IsBeside thin_outline (record thin_outline { table = enlarging_table }) (one ∷ []) }
+{}
+
+/// A raw disk beside a VHD disk passes today's checks; a VHD disk with a parent stops at the tree, and a hidden VHD image at
+/// the image.
+pub fn example_today()
+    ensures passes { fault_today_of (mixed_outline false None) ≡ None }
+    ensures parent { fault_today_of (mixed_outline false (Some (Raw two))) ≡ Some (at.Tree (Vhd one)) }
+    ensures hidden { fault_today_of (mixed_outline true None) ≡ Some (at.Image (Vhd one)) }
 {}

@@ -9,25 +9,14 @@ use Rattle.sm_machine.specs.declared.commands.Command.TheVariants.{Create}
 use Rattle.sm_machine.specs.declared.replies.Reply.TheVariants as reply
 use Rattle.sm_ready.specs.Known.{shape_in}
 use Rattle.sm_ready.specs.Sessions.{store_state}
-use Rattle.sm_ready.proofs.RefusalLaws.{few_rows}
-use Rattle.sm_ready.proofs.TakenLaws.{is_told, step_by, taken_accepted, taken_poor, taken_refused, taken_stopped}
+use Rattle.sm_ready.proofs.TakenLaws.{is_told, taken_accepted, taken_poor, taken_stopped}
 use Rattle.vg_volumes.proofs.StoredLaws.{reads_none}
-use Rattle.sm_making.specs.Refusing.{extents_for}
+use Rattle.sm_ready.specs.Refusing.{extents_for}
 use Rattle.sm_making.proofs.RawLaws.{enough}
 use Rattle.sm_making.proofs.creating.create.Goals as goal
 
-pub refuse_create-refusal-requires : goal.refuse_create-refusal-requires
-refuse_create-refusal-requires g c = record { few = few_rows _ _ _ c.requires.orderly }
-
-pub returns-in-Some-clause-taken : goal.returns-in-Some-clause-taken
-unfolding is_built
-returns-in-Some-clause-taken g c = λ told ready.
-    let is = (rw c.table.ensures.table at c.in-Some.ensures.exact) (g.S.Store.site c.args.store.now) c.args.label.now (record { same_sizes = sym c.geometry-geometry.ensures; same_count = sym c.extents-extents.ensures.count }) c.requires.orderly c.requires.tidy in
-    taken_refused (is_told g.S.Store c.args.store.now c.args.memory.now c.requires.orderly c.requires.usable told ready (g.met.S.Store.leaves_now c.args.store.now told c.requires.usable))
-    _ _ (step_by (store_state g.S.Store c.args.store.now c.args.memory.now) _ _ refl (sym is))
-
-pub returns-in_default-first_fit-clause-taken : goal.returns-in_default-first_fit-clause-taken
-returns-in_default-first_fit-clause-taken g c = λ told ready.
+pub returns-in_default-clause-taken : goal.returns-in_default-clause-taken
+returns-in_default-clause-taken g c = λ told ready.
     taken_poor (is_told g.S.Store c.args.store.now c.args.memory.now c.requires.orderly c.requires.usable told ready (g.met.S.Store.leaves_now c.args.store.now told c.requires.usable)) _ _ (reads_none _) (λ t image h. h) refl
 
 pub returns-in-Err-NoMemory-clause-taken : goal.returns-in-Err-NoMemory-clause-taken
@@ -38,13 +27,13 @@ returns-in-Err-NoMemory-clause-taken g c = λ told ready.
 pub overflow_cast-need : goal.overflow_cast-need
 overflow_cast-need g c =
     let need = c.extents_needed-need.ensures.extents ∙ ap (λ (h : Geometry). extents_for h.extent c.args.size) c.geometry-geometry.ensures in
-    let most = enough (g.S.Store.site c.args.store.now) _ _ _ c.args.label.now c.args.size c.requires.orderly c.requires.tidy (sym ((rw c.table.ensures.table at c.in_default.ensures.exact) (g.S.Store.site c.args.store.now) c.args.label.now (record { same_sizes = sym c.geometry-geometry.ensures; same_count = sym c.extents-extents.ensures.count }) c.requires.orderly c.requires.tidy)) in
+    let most = enough (g.S.Store.site c.args.store.now) _ _ _ c.args.label.now c.args.size c.requires.orderly c.requires.tidy c.requires.allowed in
     omega (arith, need, most)
 
 pub overflow_mul-result-in-Ok-make_raw : goal.overflow_mul-result-in-Ok-make_raw
 overflow_mul-result-in-Ok-make_raw g c =
     let need = c.extents_needed-need.ensures.extents ∙ ap (λ (h : Geometry). extents_for h.extent c.args.size) c.geometry-geometry.ensures in
-    let most = enough (g.S.Store.site c.args.store.now) _ _ _ c.args.label.now c.args.size c.requires.orderly c.requires.tidy (sym ((rw c.table.ensures.table at c.in_default.ensures.exact) (g.S.Store.site c.args.store.now) c.args.label.now (record { same_sizes = sym c.geometry-geometry.ensures; same_count = sym c.extents-extents.ensures.count }) c.requires.orderly c.requires.tidy)) in
+    let most = enough (g.S.Store.site c.args.store.now) _ _ _ c.args.label.now c.args.size c.requires.orderly c.requires.tidy c.requires.allowed in
     let many : c.extents_needed-need.result ≤ 65536 = omega (arith, need, most) in
     let wide : c.from.result ≤ 8192 = omega (arith, c.from.ensures, c.geometry-geometry.result.in_range.extent_most) in
     omega (arith, mul-le-mul many wide)
@@ -52,19 +41,17 @@ overflow_mul-result-in-Ok-make_raw g c =
 pub returns-in-Ok-make_raw-clause-taken : goal.returns-in-Ok-make_raw-clause-taken
 unfolding is_built disks_next reply_to rounded shape_in
 returns-in-Ok-make_raw-clause-taken g c = λ told ready.
-    let none = sym ((rw c.table.ensures.table at c.in_default.ensures.exact) (g.S.Store.site c.args.store.now) c.args.label.now (record { same_sizes = sym c.geometry-geometry.ensures; same_count = sym c.extents-extents.ensures.count }) c.requires.orderly c.requires.tidy) in
     let extent = ap (λ (h : Geometry). h.extent) c.geometry-geometry.ensures in
     let need = c.extents_needed-need.ensures.extents ∙ ap (λ n. extents_for n c.args.size) extent in
     let long = c.in-Ok.ensures.fit.many ∙ need in
-    taken_accepted (is_told g.S.Store c.args.store.now c.args.memory.now c.requires.orderly c.requires.usable told ready (g.met.S.Store.leaves_now c.args.store.now told c.requires.usable)) (Create c.args.disk.now c.args.size true c.args.label.now) c.make_raw.new.memory refl none
+    taken_accepted (is_told g.S.Store c.args.store.now c.args.memory.now c.requires.orderly c.requires.usable told ready (g.met.S.Store.leaves_now c.args.store.now told c.requires.usable)) (Create c.args.disk.now c.args.size true c.args.label.now) c.make_raw.new.memory refl c.requires.allowed
     (rw long at (c.make_raw.ensures.done told ready (λ poor. let x = sym c.in-Ok-make_raw.is ∙ poor in cc))) _ (ap₂ (λ n m. reply.Size (n * m * 512)) need (c.from.ensures ∙ extent)) c.in-Ok-make_raw.is
-    (c.in-Ok-make_raw.ensures.shape (store_state g.S.Store c.args.store.now c.args.memory.now) (record { size = c.args.size; accepted = none; many = long; extents_free = subst (λ n. AreFree n (table_alone (g.S.Store.table c.args.store.now)).volumes c.in-Ok.found.items) c.extents-extents.ensures.count (rw c.table-2.ensures.table at c.in-Ok.ensures.free) }) refl)
+    (c.in-Ok-make_raw.ensures.shape (store_state g.S.Store c.args.store.now c.args.memory.now) (record { size = c.args.size; accepted = c.requires.allowed; many = long; extents_free = subst (λ n. AreFree n (table_alone (g.S.Store.table c.args.store.now)).volumes c.in-Ok.found.items) c.extents-extents.ensures.count (rw c.table.ensures.table at c.in-Ok.ensures.free) }) refl)
 
 pub returns-in-Err-Device-clause-taken : goal.returns-in-Err-Device-clause-taken
 unfolding is_built disks_next rounded shape_in
 returns-in-Err-Device-clause-taken g c = λ told ready.
-    let none = sym ((rw c.table.ensures.table at c.in_default.ensures.exact) (g.S.Store.site c.args.store.now) c.args.label.now (record { same_sizes = sym c.geometry-geometry.ensures; same_count = sym c.extents-extents.ensures.count }) c.requires.orderly c.requires.tidy) in
     let need = c.extents_needed-need.ensures.extents ∙ ap (λ (h : Geometry). extents_for h.extent c.args.size) c.geometry-geometry.ensures in
     let long = c.in-Ok.ensures.fit.many ∙ need in
-    taken_stopped (is_told g.S.Store c.args.store.now c.args.memory.now c.requires.orderly c.requires.usable told ready (g.met.S.Store.leaves_now c.args.store.now told c.requires.usable)) (Create c.args.disk.now c.args.size true c.args.label.now) c.make_raw.new.memory refl none
+    taken_stopped (is_told g.S.Store c.args.store.now c.args.memory.now c.requires.orderly c.requires.usable told ready (g.met.S.Store.leaves_now c.args.store.now told c.requires.usable)) (Create c.args.disk.now c.args.size true c.args.label.now) c.make_raw.new.memory refl c.requires.allowed
     (rw long at (c.make_raw.ensures.done told ready (λ poor. let x = sym c.in-Err-Device.is ∙ poor in let y = c.in-Err-Device.field-0-is in cc))) _

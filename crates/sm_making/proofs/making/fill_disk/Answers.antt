@@ -1,4 +1,4 @@
-use Rattle.vg_volumes.proofs.StoredLaws.{stays_then}
+use Rattle.vg_volumes.proofs.StoredLaws.{stays_then, works_writes}
 use Rattle.sm_base.specs.declared.names.Name.TheVariants.{Raw}
 use Rattle.sm_ready.proofs.ChainLaws.{writes_both}
 use Rattle.sm_ready.proofs.MakingLaws.{middle_first, middle_then, places_stay}
@@ -8,7 +8,7 @@ use Rattle.sm_making.proofs.making.fill_disk.Goals as goal
 pub returns-in_err-fill-clause-middle : goal.returns-in_err-fill-clause-middle
 returns-in_err-fill-clause-middle g c =
     let r = c.requires in
-    middle_first c.args.memory.now (Raw c.args.entry.uuid) _ c.args.entry r.new.row (raw_image _) r.proper r.orderly r.new.there r.new.fresh c.fill.ensures.writes
+    middle_first c.args.memory.now (Raw c.args.entry.uuid) _ c.args.entry r.new.row (raw_image _) r.proper r.orderly r.new.there r.new.fresh (works_writes c.fill.ensures.writes)
 
 pub put-requires-clause-size : goal.put-requires-clause-size
 put-requires-clause-size g c = places_stay c.args.memory.now c.requires.orderly c.fill.ensures.writes.stays
@@ -19,7 +19,7 @@ returns-in_err-put-clause-stays g c = stays_then c.fill.ensures.writes.stays c.p
 pub returns-in_err-put-clause-middle : goal.returns-in_err-put-clause-middle
 returns-in_err-put-clause-middle g c =
     let r = c.requires in
-    middle_then c.args.memory.now (Raw c.args.entry.uuid) _ c.args.entry r.new.row (raw_image _) r.proper r.orderly r.new.there r.new.fresh c.fill.ensures.writes c.put.ensures.writes
+    middle_then c.args.memory.now (Raw c.args.entry.uuid) _ c.args.entry r.new.row (raw_image _) r.proper r.orderly r.new.there r.new.fresh (works_writes c.fill.ensures.writes) c.put.ensures.writes
 
 pub returns-clause-stays : goal.returns-clause-stays
 returns-clause-stays g c = stays_then c.fill.ensures.writes.stays c.put.ensures.writes.stays
@@ -27,7 +27,7 @@ returns-clause-stays g c = stays_then c.fill.ensures.writes.stays c.put.ensures.
 pub returns-clause-middle : goal.returns-clause-middle
 returns-clause-middle g c =
     let r = c.requires in
-    middle_then c.args.memory.now (Raw c.args.entry.uuid) _ c.args.entry r.new.row (raw_image _) r.proper r.orderly r.new.there r.new.fresh c.fill.ensures.writes c.put.ensures.writes
+    middle_then c.args.memory.now (Raw c.args.entry.uuid) _ c.args.entry r.new.row (raw_image _) r.proper r.orderly r.new.there r.new.fresh (works_writes c.fill.ensures.writes) c.put.ensures.writes
 
 pub returns-clause-filled : goal.returns-clause-filled
 returns-clause-filled g c = λ told.

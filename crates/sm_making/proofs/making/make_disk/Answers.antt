@@ -2,7 +2,7 @@ use Rattle.std.proofs.Common.{◌≡◌, ◌*◌, ◌<◌, ◌≤◌, true, leng
 use Rattle.std.proofs.Math.Nat.{mul-le-mul}
 use Rattle.sm_base.specs.declared.names.Name.TheVariants.{Raw}
 use Rattle.sm_base.specs.declared.sizes.Geometry.{Geometry}
-use Rattle.sm_disk.proofs.HeldLaws.{Keeps-then}
+use Rattle.sm_disk.proofs.HeldLaws.{Keeps-none, Keeps-then}
 use Rattle.vg_meta.specs.Roomy.{table_alone}
 use Rattle.vhd_chain.specs.Trees.{Tree, tree_row, with_row}
 use Rattle.sm_ready.specs.Known.{known, shape_in}
@@ -74,7 +74,7 @@ returns-in_err-end-clause-done g c = λ told ready.
     let r = c.requires in
     let b = makes g.S.Store c.args.store.now c.args.memory.now c.args.entry c.args.extents.items r.orderly r.tidy r.disk r.proper r.plain r.place r.usable in
     let filled = c.in_ok-fill_disk.ensures.filled told in
-    end_failed b told ready c.in_ok-begin.ensures.commits (c.begin.ensures.crash told) c.fill_disk.ensures.stays (c.fill_disk.ensures.middle told) filled.records refl _ (disk_is b r.plain c.in_ok-begin.ensures.commits filled)
+    end_failed b told ready c.in_ok-begin.ensures.commits (c.begin.ensures.crash told) c.fill_disk.ensures.stays (c.fill_disk.ensures.middle told) _ (Keeps-none _) filled.records refl _ (disk_is b r.plain c.in_ok-begin.ensures.commits filled)
     _ _ (λ fine. err_not_ok _ tt c.from_residual-in_err-end.ensures.0 fine) c.in_err-end.ensures.fails (c.end.ensures.crash told)
 
 pub add_image-requires-clause-room : goal.add_image-requires-clause-room
@@ -129,5 +129,5 @@ returns-clause-shape g c = λ σ disk same.
 pub returns-clause-done : goal.returns-clause-done
 returns-clause-done g c = λ told ready.
     let filled = c.in_ok-fill_disk.ensures.filled told in
-    end_made (made g c) told ready c.in_ok-begin.ensures.commits (c.begin.ensures.crash told) c.fill_disk.ensures.stays (c.fill_disk.ensures.middle told) filled.records refl _ (disk_is (made g c) c.requires.plain c.in_ok-begin.ensures.commits filled)
+    end_made (made g c) told ready c.in_ok-begin.ensures.commits (c.begin.ensures.crash told) c.fill_disk.ensures.stays (c.fill_disk.ensures.middle told) _ (Keeps-none _) filled.records refl _ (disk_is (made g c) c.requires.plain c.in_ok-begin.ensures.commits filled)
     c.add_image.new.memory _ c.in_ok-end.ensures.commits (c.end.ensures.crash told) (memory_is g c)

@@ -1,7 +1,6 @@
-use Rattle.std.proofs.Common.{◌≡◌, None, sym, ◌∙◌, subst}
-use Rattle.sm_standing.specs.Plain.{IsPlain}
-use Rattle.sm_standing.specs.Checks.{record_volume_fault, too_many_fault, misnamed_fault, entry_ahead_fault, image_ahead_fault}
-use Rattle.sm_recover.proofs.CheckLaws.{plain_from, last_of}
+use Rattle.std.proofs.Common.{◌≡◌, None, sym, ◌∙◌}
+use Rattle.sm_standing.specs.Checks.{record_volume_fault, too_many_fault, misnamed_fault, entry_ahead_fault}
+use Rattle.sm_recover.proofs.CheckLaws.{last_of}
 use Rattle.sm_recover.proofs.checks.table_fault.Goals as goal
 
 pub returns : goal.returns
@@ -10,6 +9,4 @@ returns c = λ seen is.
     let second : too_many_fault seen ≡ None = sym (c.in_default-too_many_fault.ensures seen is.table) in
     let third : misnamed_fault seen ≡ None = sym (c.in_default-misnamed_fault.ensures seen is.table) in
     let fourth : entry_ahead_fault seen ≡ None = sym (c.in_default-entry_fault.ensures seen is.table) in
-    let fifth : image_ahead_fault seen ≡ None = sym (c.in_default-image_fault.ensures seen is.table) in
-    c.size_fault.ensures seen is (subst IsPlain is.table (plain_from seen fourth fifth))
-    ∙ sym (last_of _ first second third fourth fifth)
+    c.image_fault.ensures seen is.table ∙ sym (last_of _ first second third fourth)

@@ -1,19 +1,16 @@
-use Rattle.std.proofs.Common.{◌≡◌, None, true, false, not, ◌&&◌, ap, ap₂, sym, ◌∙◌, rules}
-use Rattle.sm_recover.proofs.DiskLaws.{shown, disk_at}
+use Rattle.std.proofs.Common.{◌≡◌, true, false, ◌||◌, sym, ap, ◌∙◌, rules}
+use Rattle.sm_base.specs.declared.names.Name.TheVariants.{Vhd, Raw}
+use Rattle.vg_meta.specs.Roomy.{table_alone}
+use Rattle.sm_standing.specs.Entries.{is_visible}
+use Rattle.sm_recover.proofs.DiskLaws.{disk_at}
 use Rattle.sm_recover.proofs.disks.is_disk.Goals as goal
 
-pub returns-then-not-is_hidden : goal.returns-then-not-is_hidden
-returns-then-not-is_hidden c =
-    let visible : c.in-Some.volume.now.row.hidden ≡ false = search rules in
-    sym (shown c.args.table.now c.args.uuid.now c.in-Some.volume.now c.requires c.in-Some.ensures.found.row
-    ∙ ap₂ (λ h f. not h && not f) visible (sym c.is_fresh.ensures.fresh))
+pub returns-then-is_shown : goal.returns-then-is_shown
+returns-then-is_shown c =
+    let there : is_visible (table_alone c.args.table.now) (Vhd c.args.uuid.now) ≡ true = search rules in
+    c.is_shown.ensures ∙ there ∙ sym (disk_at (table_alone c.args.table.now) c.args.uuid.now c.requires ∙ ap (λ b. b || is_visible (table_alone c.args.table.now) (Raw c.args.uuid.now)) there)
 
-pub returns-else-not-is_hidden : goal.returns-else-not-is_hidden
-returns-else-not-is_hidden c =
-    let hidden : c.in-Some.volume.now.row.hidden ≡ true = search rules in
-    let answer : not c.is_hidden.result ≡ false = search rules in
-    answer ∙ sym (shown c.args.table.now c.args.uuid.now c.in-Some.volume.now c.requires c.in-Some.ensures.found.row
-    ∙ ap (λ h. not h && not c.in-Some.volume.now.row.fresh) hidden)
-
-pub returns-in-None : goal.returns-in-None
-returns-in-None c = sym (disk_at c.args.table.now c.args.uuid.now None c.requires c.in-None.ensures.none)
+pub returns-else-is_shown : goal.returns-else-is_shown
+returns-else-is_shown c =
+    let gone : is_visible (table_alone c.args.table.now) (Vhd c.args.uuid.now) ≡ false = search rules in
+    c.is_shown-else-is_shown.ensures ∙ sym (disk_at (table_alone c.args.table.now) c.args.uuid.now c.requires ∙ ap (λ b. b || is_visible (table_alone c.args.table.now) (Raw c.args.uuid.now)) gone)

@@ -1,56 +1,89 @@
-use Rattle.std.proofs.Common.{◌≡◌, ◌+◌, ◌≤◌, List, None, length, filter, sym, ap, ◌∙◌, subst, arith, rules}
-use Rattle.sm_base.specs.Kinds.{is_image}
+use Rattle.std.proofs.Common.{◌≡◌, ◌+◌, ◌<◌, ◌≤◌, List, None, Err, length, take, sym, ap, ◌∙◌, subst, arith, rules}
+use Rattle.sm_base.specs.Names.{IsName}
 use Rattle.vg_meta.specs.Roomy.{RoomyRow, RoomyTable, rows_alone}
-use Rattle.vg_meta.specs.Tables.{Row}
 use Rattle.common_laws.proofs.Lists.{length-insert_by}
-use Rattle.vhd_chain.specs.Trees.{tree_row, row_name, is_before, with_row}
+use Rattle.vg_volumes.proofs.StoredLaws.{reads_then}
+use Rattle.vhd_chain.specs.Trees.{Tree, is_before}
 use Rattle.vhd_chain.specs.declared.rows.TreeRow.{TreeRow}
-use Rattle.sm_recover.specs.Loaded.{row_in}
-use Rattle.sm_ready.proofs.LoadLaws.{at_item, extents_few, item_named, read_none, read_some, read_absent, read_less}
-use Rattle.sm_recover.proofs.LoadedLaws.{read_from}
+use Rattle.sm_recover.specs.Loaded.{AreRowsOf, HasEachRow}
+use Rattle.sm_recover.proofs.OpeningLaws.{if_err, if_none, if_some}
+use Rattle.sm_recover.proofs.LoadedLaws.{each_none, each_some, name_free, one_less, rows_none, rows_some}
+use Rattle.sm_recover.proofs.TurnLaws.{row_kept, stopped_at, turn, volume_named}
 use Rattle.sm_recover.proofs.loading.load.Goals as goal
-use Rattle.sm_recover.proofs.loading.load.Goals.{in-Some, in_default}
+use Rattle.sm_recover.proofs.loading.load.Goals.{in-Some, in_default-found}
 
-pub row_of-requires : goal.row_of-requires
-row_of-requires g c =
-    let a = at_item c.requires.checked.table c.table.ensures.table c.volumes-volumes.ensures.volumes c.loop-volume-test.true c.volume-item.is in
-    extents_few (g.S.Store.table c.args.store.now) c.requires.checked.table (c.volumes-volumes.ensures.volumes ∙ ap (λ (k : RoomyTable). k.rows) c.table.ensures.table) a c.requires.checked.few_extents
+pub returns-in_err-found-clause-reads : goal.returns-in_err-found-clause-reads
+returns-in_err-found-clause-reads g c = reads_then c.loop-index.invariant.only c.row_at.ensures.reads
+
+pub returns-in_err-found-clause-cause : goal.returns-in_err-found-clause-cause
+returns-in_err-found-clause-cause g c =
+    let i = c.loop-index.invariant in
+    let below : c.loop-index.index < length (g.S.Store.table c.args.store.now).rows =
+    omega (arith, c.loop-index-test.true, ap (λ (xs : List RoomyRow). length xs) c.volumes-count.ensures.volumes, ap (λ (k : RoomyTable). length k.rows) c.table.ensures.table) in
+    let t = turn i.only c.requires.checked c.loop-index.index below in
+    let is : c.from_residual.result ≡ Err c.in_err-found.field-0.0 = search rules in
+    if_err _ c.from_residual.result c.in_err-found.field-0.0 is
+    (stopped_at i.only c.requires.checked t.item c.loop-index.tree.rows c.in_err-found.field-0.0 i.each (c.in_err-found.ensures.cause t.volume.row t.here))
 
 pub add-requires-clause-name : goal.add-requires-clause-name
 add-requires-clause-name g c =
-    let a = at_item c.requires.checked.table c.table.ensures.table c.volumes-volumes.ensures.volumes c.loop-volume-test.true c.volume-item.is in
-    item_named (g.S.Store.table c.args.store.now) c.requires.checked.table (c.volumes-volumes.ensures.volumes ∙ ap (λ (k : RoomyTable). k.rows) c.table.ensures.table) a
-    (read_from c.geometry-geometry.result c.volume-item.result.row c.in-Some.row (sym c.row_of.ensures ∙ c.in-Some.is))
+    let i = c.loop-index.invariant in
+    let below : c.loop-index.index < length (g.S.Store.table c.args.store.now).rows =
+    omega (arith, c.loop-index-test.true, ap (λ (xs : List RoomyRow). length xs) c.volumes-count.ensures.volumes, ap (λ (k : RoomyTable). length k.rows) c.table.ensures.table) in
+    let t = turn i.only c.requires.checked c.loop-index.index below in
+    let found = if_some _ c.in-Some.is c.in_ok-found.ensures.some t.volume.row t.here in
+    subst IsName (sym found.1.named) (volume_named i.only c.requires.checked t.item)
 
 pub add-requires-clause-absent : goal.add-requires-clause-absent
 add-requires-clause-absent g c =
-    let a = at_item c.requires.checked.table c.table.ensures.table c.volumes-volumes.ensures.volumes c.loop-volume-test.true c.volume-item.is in
-    ap (λ (xs : List TreeRow). tree_row xs (row_name c.in-Some.row)) c.loop-volume.invariant.rows
-    ∙ read_absent (row_in c.geometry-geometry.result) (read_from c.geometry-geometry.result) a (sym c.row_of.ensures ∙ c.in-Some.is)
+    let i = c.loop-index.invariant in
+    let below : c.loop-index.index < length (g.S.Store.table c.args.store.now).rows =
+    omega (arith, c.loop-index-test.true, ap (λ (xs : List RoomyRow). length xs) c.volumes-count.ensures.volumes, ap (λ (k : RoomyTable). length k.rows) c.table.ensures.table) in
+    let t = turn i.only c.requires.checked c.loop-index.index below in
+    let found = if_some _ c.in-Some.is c.in_ok-found.ensures.some t.volume.row t.here in
+    name_free t.item c.loop-index.tree.rows c.in-Some.row i.rows found.0 found.1.named
 
 pub add-requires-clause-room : goal.add-requires-clause-room
 add-requires-clause-room g c =
-    let a = at_item c.requires.checked.table c.table.ensures.table c.volumes-volumes.ensures.volumes c.loop-volume-test.true c.volume-item.is in
-    let less = read_less (row_in c.geometry-geometry.result) (read_from c.geometry-geometry.result) a (sym c.row_of.ensures ∙ c.in-Some.is) in
-    let is = c.volumes-volumes.ensures.volumes ∙ ap (λ (k : RoomyTable). k.rows) c.table.ensures.table in
-    omega (arith, less, ap (λ (xs : List RoomyRow). length (filter (λ (r : Row). is_image r.name) (rows_alone xs))) is, c.requires.checked.few_images, ap length c.loop-volume.invariant.rows, c.loop-volume.invariant.room)
+    let i = c.loop-index.invariant in
+    let below : c.loop-index.index < length (g.S.Store.table c.args.store.now).rows =
+    omega (arith, c.loop-index-test.true, ap (λ (xs : List RoomyRow). length xs) c.volumes-count.ensures.volumes, ap (λ (k : RoomyTable). length k.rows) c.table.ensures.table) in
+    let t = turn i.only c.requires.checked c.loop-index.index below in
+    let found = if_some _ c.in-Some.is c.in_ok-found.ensures.some t.volume.row t.here in
+    let less = one_less t.item c.loop-index.tree.rows c.in-Some.row i.rows found.0 found.1.named found.1.hidden found.1.extents in
+    omega (arith, less, c.requires.checked.few_images, i.room)
 
-pub loop-volume-preserved : goal.loop-volume-preserved
-loop-volume-preserved g c =
-    let i = c.loop-volume.invariant in
-    let a = at_item c.requires.checked.table c.table.ensures.table c.volumes-volumes.ensures.volumes c.loop-volume-test.true c.volume-item.is in
-    let read = row_in c.geometry-geometry.result in
-    let from = read_from c.geometry-geometry.result in
-    elim c.match-row_of.branch [
-      | in-Some w ↦ record {
-        rows = ap (λ t. t.rows) w.tree-is ∙ w.add.ensures.rows ∙ ap (with_row w.in-Some.row) i.rows ∙ sym (read_some read from a (sym c.row_of.ensures ∙ w.in-Some.is));
-        room = subst (λ t. 500 ≤ length t.rows + t.spare) (sym w.tree-is)
-            (omega (arith, i.room, w.add.ensures.spare, ap length w.add.ensures.rows, length-insert_by is_before w.in-Some.row c.loop-volume.tree.rows));
-      }
-      | in_default w ↦
-          let none : c.row_of.result ≡ None = search rules in
+pub loop-index-preserved : goal.loop-index-preserved
+loop-index-preserved g c =
+    let i = c.loop-index.invariant in
+    let below : c.loop-index.index < length (g.S.Store.table c.args.store.now).rows =
+    omega (arith, c.loop-index-test.true, ap (λ (xs : List RoomyRow). length xs) c.volumes-count.ensures.volumes, ap (λ (k : RoomyTable). length k.rows) c.table.ensures.table) in
+    let t = turn i.only c.requires.checked c.loop-index.index below in
+    let only = reads_then i.only c.row_at.ensures.reads in
+    elim c.match-found.branch [
+      | in-Some w ↦
+          let found = if_some _ w.in-Some.is c.in_ok-found.ensures.some t.volume.row t.here in
+          let row = row_kept i.only c.requires.checked t.volume.row w.in-Some.row found.1 in
+          let same = ap (λ (z : Tree). z.rows) w.tree-is ∙ w.add.ensures.rows in
           record {
-            rows = ap (λ t. t.rows) w.tree-is ∙ i.rows ∙ sym (read_none read from a (sym c.row_of.ensures ∙ none));
-            room = subst (λ t. 500 ≤ length t.rows + t.spare) (sym w.tree-is) i.room;
+            only = only;
+            rows = subst (AreRowsOf (rows_alone (take (c.loop-index.index + 1) (g.S.Store.table c.args.store.now).rows))) (sym same)
+                (rows_some t.item c.loop-index.tree.rows w.in-Some.row i.rows found.0 row.named row.hidden row.extents);
+            each = subst (HasEachRow g.S.Store c.args.store.now (rows_alone (take (c.loop-index.index + 1) (g.S.Store.table c.args.store.now).rows))) (sym same)
+                (each_some t.item g.S.Store c.args.store.now c.loop-index.tree.rows i.each w.in-Some.row i.rows found.0 row);
+            room = subst (λ (z : Tree). 500 ≤ length z.rows + z.spare) (sym w.tree-is)
+                (omega (arith, i.room, w.add.ensures.spare, ap (λ (xs : List TreeRow). length xs) w.add.ensures.rows, length-insert_by is_before w.in-Some.row c.loop-index.tree.rows));
+          }
+      | in_default-found w ↦
+          let none : c.in_ok-found.found ≡ None = search rules in
+          let not_filled = if_none _ none c.in_ok-found.ensures.none t.volume.row t.here in
+          let same = ap (λ (z : Tree). z.rows) w.tree-is in
+          record {
+            only = only;
+            rows = subst (AreRowsOf (rows_alone (take (c.loop-index.index + 1) (g.S.Store.table c.args.store.now).rows))) (sym same)
+                (rows_none t.item c.loop-index.tree.rows i.rows not_filled);
+            each = subst (HasEachRow g.S.Store c.args.store.now (rows_alone (take (c.loop-index.index + 1) (g.S.Store.table c.args.store.now).rows))) (sym same)
+                (each_none t.item g.S.Store c.args.store.now c.loop-index.tree.rows i.each not_filled);
+            room = subst (λ (z : Tree). 500 ≤ length z.rows + z.spare) (sym w.tree-is) i.room;
           }
     ]

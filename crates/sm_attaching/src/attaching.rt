@@ -1,0 +1,89 @@
+//! Attaching a disk whose image has its extents, and detaching one.
+
+ghost use Rattle.std.specs.Prelude.{◌≡◌, ◌≤◌, ℕ, List, true, false, IfOk, OnOk};
+ghost use Rattle.sm_disk.specs.Held.{Keeps};
+ghost use Rattle.vg_meta.specs.Roomy.{table_alone};
+ghost use Rattle.vg_meta.specs.Tables.{VolumeTable};
+ghost use Rattle.vg_volumes.specs.Stored.{Counts};
+ghost use Rattle.sm_machine.specs.declared.commands.Command.TheVariants as command;
+ghost use Rattle.sm_ready.specs.Refusing.{IsAllowed};
+ghost use Rattle.sm_ready.specs.Does.{IsKeptUp, NeedsNone, ShapesAs, StoreDoes};
+ghost use Rattle.sm_ready.specs.Sessions.{IsOrderlyStore, IsTidyStore, IsReadyStore};
+ghost use Rattle.sm_attaching.specs.Attaching.{HasAttachmentRoom, StaysBeside};
+
+use crate::chains::{CHAIN_LIMIT, chain_into};
+use sm_base::{Failed, Mode, Name};
+use sm_ready::{Memory, image_name};
+use uuid::Uuid;
+use vg_volumes::Store;
+
+/// Notes that a disk is attached for this mode; its image has the extents that the mode asks for. Makes all last first.
+///
+/// # Errors
+/// The sync failed; the disk is not attached.
+pub fn attach<S: Store>(
+    store: &mut S,
+    memory: &mut Memory,
+    disk: &Uuid,
+    mode: Mode,
+) -> Result<(), Failed>
+    requires usable { S.failed store.old ≡ false }
+    requires orderly { IsOrderlyStore S.Store store.old memory.old }
+    requires tidy { IsTidyStore S.Store store.old memory.old }
+    requires room { HasAttachmentRoom memory.old }
+    requires allowed { IsAllowed S.Store (command.Attach disk.now mode) store.old memory.old }
+    requires kept_up { IsKeptUp S.Store (command.Attach disk.now mode) store.old memory.old }
+    requires enough { NeedsNone S.Store (command.Attach disk.now mode) store.old memory.old }
+    ensures site { S.site store.new ≡ S.site store.old }
+    ensures counts { S.faults store.old ≤ S.faults store.new }
+    ensures cause { Counts S.Store result store.old store.new }
+    ensures beside { S.told → Keeps (S.beside store.old) (S.beside store.new) }
+    ensures table { table_alone (S.table store.new) ≡ table_alone (S.table store.old) }
+    ensures others { StaysBeside memory.old memory.new }
+    ensures usable_still { S.failed store.new ≡ false }
+    ensures orderly_still { IsOrderlyStore S.Store store.new memory.new }
+    ensures tidy_still { IsTidyStore S.Store store.new memory.new }
+    ensures room_still { HasAttachmentRoom memory.new }
+    ensures shape { OnOk result (ShapesAs S.Store (command.Attach disk.now mode) store.old memory.old store.new memory.new) }
+    ensures done { S.told → IsReadyStore S.Store store.old memory.old
+        → StoreDoes S.Store (command.Attach disk.now mode) store.old memory.old store.new memory.new (result ≡ Ok tt) }
+{
+    store.sync()?;
+    let mut names = [Name::Mgt; CHAIN_LIMIT];
+    let leaf = image_name(&memory.tree, disk);
+    let count = chain_into(&memory.tree, &leaf, &mut names);
+    memory.attached.enter(*disk, mode, &names[..count]);
+    Ok(())
+}
+
+/// Notes that a disk is no longer attached. Makes all last first.
+///
+/// # Errors
+/// The sync failed; the disk is attached as before.
+pub fn detach<S: Store>(store: &mut S, memory: &mut Memory, disk: &Uuid) -> Result<(), Failed>
+    requires usable { S.failed store.old ≡ false }
+    requires orderly { IsOrderlyStore S.Store store.old memory.old }
+    requires tidy { IsTidyStore S.Store store.old memory.old }
+    requires room { HasAttachmentRoom memory.old }
+    requires allowed { IsAllowed S.Store (command.Detach disk.now) store.old memory.old }
+    ensures site { S.site store.new ≡ S.site store.old }
+    ensures counts { S.faults store.old ≤ S.faults store.new }
+    ensures cause { Counts S.Store result store.old store.new }
+    ensures beside { S.told → Keeps (S.beside store.old) (S.beside store.new) }
+    ensures table { table_alone (S.table store.new) ≡ table_alone (S.table store.old) }
+    ensures others { StaysBeside memory.old memory.new }
+    ensures usable_still { S.failed store.new ≡ false }
+    ensures orderly_still { IsOrderlyStore S.Store store.new memory.new }
+    ensures tidy_still { IsTidyStore S.Store store.new memory.new }
+    ensures room_still { HasAttachmentRoom memory.new }
+    ensures shape { OnOk result (ShapesAs S.Store (command.Detach disk.now) store.old memory.old store.new memory.new) }
+    ensures done { S.told → IsReadyStore S.Store store.old memory.old
+        → StoreDoes S.Store (command.Detach disk.now) store.old memory.old store.new memory.new (result ≡ Ok tt) }
+{
+    store.sync()?;
+    let mut names = [Name::Mgt; CHAIN_LIMIT];
+    let leaf = image_name(&memory.tree, disk);
+    let count = chain_into(&memory.tree, &leaf, &mut names);
+    memory.attached.leave(disk, &names[..count]);
+    Ok(())
+}

@@ -1,0 +1,12 @@
+pub mod SlotLaws
+pub mod OwnLaws
+pub mod TakenLaws
+pub mod ReplacedLaws
+pub mod AskLaws
+pub mod SectorLists
+pub mod NowLaws
+pub mod ReadLaws
+pub mod DiskLaws
+pub mod OrderLaws
+pub mod WriteLaws
+pub mod DoneLaws

@@ -1,0 +1,86 @@
+-- What a command takes of extents is below 2^32, where its size is not bad.
+use Rattle.std.proofs.Common.{◌≡◌, inl, inr, ℕ, ◌+◌, ◌-◌, ◌*◌, ◌^◌, ◌<◌, ◌≤◌, ◌==◌, ◌||◌, Bool, true, false, nat_lt, List, Option, Some, None, refl, sym, subst, arith}
+use Rattle.std.proofs.Math.Logic.{∥∥₁_elim}
+use Rattle.std.proofs.Math.Nat.{mul-lt-mul_of_pos_right}
+use Rattle.std.proofs.Props.{props}
+use Rattle.std.proofs.lemmas.Bool.{or_parts, ltb-false, cases_lt}
+use Rattle.std.proofs.lemmas.Nat.{mul-le}
+use Rattle.common_laws.specs.Lists.{In}
+use Rattle.common_laws.proofs.Lists.{find-some}
+use Rattle.sm_base.specs.Numbers.{IsGeometry, div_up, first, thin, thick}
+use Rattle.sm_base.specs.declared.operations.Mode.TheVariants.{Ro, Rw}
+use Rattle.sm_base.proofs.NumberLemmas.{blocks-le, div_up-le, image_fits}
+use Rattle.vg_meta.specs.Tables.{VolumeTable}
+use Rattle.vg_volumes.specs.Sites.{Site}
+use Rattle.sm_machine.specs.Refusals.{fork_need, is_bad_size, lacking, need, new_extents, rounded, wanted, with_image_of}
+use Rattle.sm_machine.specs.Shapes.{ImageRow, Shape, attached_as, disk_image, is_image_of, is_rw, is_vhd, thick_in, thin_in}
+use Rattle.sm_machine.specs.WellFormed.{IsWellFormed}
+use Rattle.sm_machine.specs.declared.commands.Command.{Command}
+use Rattle.sm_machine.specs.declared.commands.Command.TheVariants.{Create, Attach, Snapshot, Clone}
+use Rattle.sm_ready.specs.Known.{Known, shape_in}
+use Rattle.sm_ready.specs.Orderly.{IsOrderly}
+
+pub thin_few : (extent block entries slots : ℕ) → IsGeometry extent block entries → slots ≤ entries → thin extent block entries slots ≤ 2 ^ 27
+unfolding thin
+thin_few extent block entries slots g within =
+    let fits = image_fits extent block entries slots g within in
+    div_up-le (first entries + slots * (1 + block) + 1) extent (2 ^ 27) (omega (arith, g.extent_least)) (omega (arith, fits, g.extent_least))
+
+pub thick_few : (extent block entries sectors : ℕ) → IsGeometry extent block entries → sectors ≤ entries * block → thick extent block entries sectors ≤ 2 ^ 27
+unfolding thick
+thick_few extent block entries sectors g within = thin_few extent block entries (div_up sectors block) g (blocks-le sectors block entries (omega (arith, g.block_least)) within)
+
+module _ (σ : Shape) (w : IsWellFormed σ) where
+  few_of : (f : ImageRow → ℕ) (u : List ℕ) → ((i : ImageRow) → In i σ.images → f i < 2 ^ 32) → with_image_of f (disk_image u σ) < 2 ^ 32
+  few_of f u few = by (disk_image u σ) refl
+    where
+      by : (x : Option ImageRow) → disk_image u σ ≡ x → with_image_of f x < 2 ^ 32
+      by None is = omega arith
+      by (Some i) is = few i (find-some (is_image_of u) σ.images i is).0
+
+  thick_row : (i : ImageRow) → In i σ.images → thick_in σ i.size ≤ 2 ^ 27
+  thick_row i at =
+      let size = (w.images i at).whole in
+      thick_few σ.extent σ.block σ.entries i.size w.geometry (subst (λ k. k ≤ σ.entries * σ.block) (sym size.1) (mul-le size.0 σ.block σ.entries σ.block size.3 (omega arith)))
+
+  few_lacking : (i : ImageRow) → In i σ.images → lacking σ i < 2 ^ 32
+  few_lacking i at = by (is_vhd i.name)
+    where
+      by : (b : Bool) → elim b as (λ _. ℕ) [ true ↦ thick_in σ i.size - i.extents | false ↦ 0 ] < 2 ^ 32
+      by true = omega (arith, thick_row i at)
+      by false = omega arith
+
+  few_thin : thin_in σ 0 ≤ 2 ^ 27
+  few_thin = thin_few σ.extent σ.block σ.entries 0 w.geometry (omega arith)
+
+  few_fork : (u : List ℕ) (i : ImageRow) → In i σ.images → fork_need σ u i < 2 ^ 32
+  few_fork u i at = by (is_rw (attached_as u σ))
+    where
+      by : (b : Bool) → wanted σ b i.size + thin_in σ 0 < 2 ^ 32
+      by true = omega (arith, thick_row i at, few_thin)
+      by false = omega (arith, few_thin)
+
+  few_raw : (size : ℕ) → σ.extents ≤ 65536 → ((size == 0) || nat_lt (σ.entries * σ.block) (rounded σ true size) || nat_lt (σ.extents * σ.extent) (rounded σ true size)) ≡ false → new_extents σ true size < 2 ^ 32
+  unfolding rounded
+  few_raw size most good =
+      let n = new_extents σ true size in
+      let within : n * σ.extent ≤ σ.extents * σ.extent = ltb-false (σ.extents * σ.extent) (n * σ.extent) (or_parts ((size == 0) || nat_lt (σ.entries * σ.block) (n * σ.extent)) _ good).1 in
+      elim (cases_lt σ.extents n) [
+        | inl over ↦ absurd (omega (arith, within, mul-lt-mul_of_pos_right {k = σ.extent} over (omega (arith, w.geometry.extent_least))))
+        | inr under ↦ omega (arith, under, most)
+      ]
+
+  few_need : (c : Command) → σ.extents ≤ 65536 → is_bad_size σ c ≡ false → need σ c < 2 ^ 32
+  unfolding need is_bad_size
+  few_need (Create u size true label) most good = few_raw size most good
+  few_need (Create u size false label) most good = omega (arith, few_thin)
+  few_need (Attach u Rw) most good = few_of (lacking σ) u few_lacking
+  few_need (Attach u Ro) most good = omega arith
+  few_need (Snapshot u twin) most good = few_of (fork_need σ u) u (few_fork u)
+  few_need (Clone u twin) most good = few_of (fork_need σ u) u (few_fork u)
+  few_need _ most good = omega arith
+
+-- the extents that a command takes are below 2^32
+pub need_few : (s : Site) (t : VolumeTable) (m : Known) (c : Command) → IsOrderly s t m → is_bad_size (shape_in s t m) c ≡ false → need (shape_in s t m) c < 2 ^ 32
+unfolding shape_in
+need_few s t m c o good = ∥∥₁_elim o.well_formed (hlevel props) (λ w. few_need (shape_in s t m) w c o.few_extents good)

@@ -1,0 +1,117 @@
+//! Sizes in sectors, and the extents that a command takes.
+
+ghost use Rattle.std.specs.Prelude.{◌≡◌, ◌≤◌, ◌<◌, ◌*◌, ◌^◌};
+ghost use Rattle.sm_machine.specs.Refusals as machine;
+ghost use Rattle.sm_machine.specs.Shapes.{attached_as, disk_image, is_rw, thick_in, thin_in};
+ghost use Rattle.sm_ready.specs.Known.{known, machine_row};
+ghost use Rattle.sm_ready.specs.Refusing.{Measures, Sizes, extents_for};
+ghost use Rattle.vhd_image.specs.Bodies.{sector_count};
+
+use crate::asking::{image, is_vhd};
+use crate::memory::Memory;
+use sm_base::{Geometry, Mode, SECTOR};
+use sm_machine::Command;
+use uuid::Uuid;
+use vhd_chain::TreeRow;
+
+/// The extents that a raw disk of so many bytes takes.
+pub fn extents_needed(geometry: &Geometry, size: u64) -> u64
+    ensures extents { result ≡ extents_for geometry.now.extent size }
+    ensures sectors { result * geometry.now.extent < 2 ^ 63 }
+{
+    size.div_ceil(SECTOR * u64::from(geometry.extent))
+}
+
+/// A size in bytes as sectors, rounded up: a raw disk's to the extent, a VHD image's to the block.
+pub(crate) fn rounded(geometry: &Geometry, raw: bool, size: u64) -> u64
+    ensures { Sizes (λ σ. machine.rounded σ raw size) geometry.now result }
+{
+    if raw {
+        extents_needed(geometry, size) * u64::from(geometry.extent)
+    } else {
+        let block = u64::from(geometry.block);
+        size.div_ceil(SECTOR * block) * block
+    }
+}
+
+/// The extents of an image of so many sectors of which each block has a slot. No image has more blocks than its table.
+fn thick(geometry: &Geometry, sectors: u64) -> u64
+    ensures exact { sectors ≤ geometry.now.entries * geometry.now.block → Sizes (λ σ. thick_in σ sectors) geometry.now result }
+    ensures few { result < 2 ^ 32 }
+{
+    let most = u64::from(geometry.entries) * u64::from(geometry.block);
+    geometry.thick(sectors.min(most))
+}
+
+/// The extents of an image that has no slot.
+fn thin(geometry: &Geometry) -> u64
+    ensures exact { Sizes (λ σ. thin_in σ 0) geometry.now result }
+    ensures few { result < 2 ^ 32 }
+{
+    geometry.thin(0)
+}
+
+/// The extents that a VHD image lacks for being written to; a raw one lacks none.
+fn lacking(geometry: &Geometry, row: &TreeRow) -> u64
+    ensures { sector_count row.now.image ≤ geometry.now.entries * geometry.now.block → Sizes (λ σ. machine.lacking σ (machine_row row.now)) geometry.now result }
+{
+    if is_vhd(row) {
+        thick(geometry, row.image.sectors()).saturating_sub(u64::from(row.extents))
+    } else {
+        0
+    }
+}
+
+/// The extents that the visible image of a UUID lacks for being written to.
+fn lacking_of(memory: &Memory, geometry: &Geometry, disk: &Uuid) -> u64
+    ensures { Measures (λ σ. machine.with_image_of (machine.lacking σ) (disk_image disk.now σ)) geometry.now (known memory.now) result }
+{
+    match image(memory, disk) {
+        Some(row) => lacking(geometry, row),
+        None => 0,
+    }
+}
+
+/// The extents that an image of a disk needs: each block a slot where the disk is attached for writing, else none.
+fn wanted(memory: &Memory, geometry: &Geometry, disk: &Uuid, sectors: u64) -> u64
+    ensures exact { sectors ≤ geometry.now.entries * geometry.now.block → Measures (λ σ. machine.wanted σ (is_rw (attached_as disk.now σ)) sectors) geometry.now (known memory.now) result }
+    ensures few { result < 2 ^ 32 }
+{
+    match memory.attached.mode(disk) {
+        Some(Mode::Rw) => thick(geometry, sectors),
+        Some(Mode::Ro) => thin(geometry),
+        None => thin(geometry),
+    }
+}
+
+/// The extents of the two images that a fork makes: the disk's own, and the twin.
+fn fork_need(memory: &Memory, geometry: &Geometry, disk: &Uuid) -> u64
+    ensures { Measures (λ σ. machine.with_image_of (machine.fork_need σ disk.now) (disk_image disk.now σ)) geometry.now (known memory.now) result }
+{
+    match image(memory, disk) {
+        Some(row) => wanted(memory, geometry, disk, row.image.sectors()) + thin(geometry),
+        None => 0,
+    }
+}
+
+/// The extents that a command takes.
+pub(crate) fn need(memory: &Memory, geometry: &Geometry, command: &Command) -> u64
+    ensures { Measures (λ σ. machine.need σ command.now) geometry.now (known memory.now) result }
+{
+    match command {
+        Command::Create { size, raw, .. } => {
+            if *raw {
+                extents_needed(geometry, *size)
+            } else {
+                thin(geometry)
+            }
+        }
+        Command::Attach { disk, mode } => match mode {
+            Mode::Ro => 0,
+            Mode::Rw => lacking_of(memory, geometry, disk),
+        },
+        Command::Snapshot { disk, .. } => fork_need(memory, geometry, disk),
+        Command::Clone { disk, .. } => fork_need(memory, geometry, disk),
+        _ => 0,
+    }
+}

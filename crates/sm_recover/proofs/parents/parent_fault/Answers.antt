@@ -1,0 +1,13 @@
+use Rattle.std.proofs.Common.{◌≡◌, None, Some, ap, rules}
+use Rattle.sm_base.specs.declared.faults.Place.TheVariants as at
+use Rattle.sm_base.specs.declared.names.Name.{Name}
+use Rattle.sm_recover.proofs.ParentLaws.{parents_at}
+use Rattle.sm_recover.proofs.parents.parent_fault.Goals as goal
+
+pub returns-in_err-volume : goal.returns-in_err-volume
+returns-in_err-volume c = λ seen is links.
+    let none : c.from_residual.result ≡ None = search rules in
+    parents_at c.args.table.now c.args.tree.now.rows seen is links c.volumes.ensures.volumes c.in_err-volume.ensures none
+
+pub returns : goal.returns
+returns c = λ seen is links. parents_at c.args.table.now c.args.tree.now.rows seen is links c.volumes.ensures.volumes c.in_ok-volume.ensures (ap (λ (n : Name). Some (at.Tree n)) c.name.ensures.name)

@@ -1,0 +1,106 @@
+use Rattle.std.proofs.Common.{◌≡◌, ℕ, Bool, true, false, List, None, Ok, refl, sym, ap, ◌∙◌, subst}
+use Rattle.std.proofs.lemmas.Bool.{true≢false}
+use Rattle.std.proofs.lemmas.Result.{err_from_is_err_and}
+use Rattle.sm_base.specs.declared.operations.Op.TheVariants.{Idle}
+use Rattle.vg_meta.specs.Roomy.{table_alone}
+use Rattle.sm_machine.specs.Commits.{folds, gives_up, is_given_up}
+use Rattle.sm_machine.specs.Refusals.{refusal}
+use Rattle.sm_machine.specs.Runs.{is_accepted, is_settling}
+use Rattle.sm_machine.specs.Shapes.{Shape}
+use Rattle.sm_machine.specs.Steps.{is_built, reply_to}
+use Rattle.sm_machine.specs.declared.commands.Command.{Command}
+use Rattle.sm_machine.specs.declared.commands.Command.TheVariants as command
+use Rattle.sm_listing.proofs.ListLaws.{step_after}
+use Rattle.sm_ready.specs.Does.{ShapesAs, StoreDoes, store_shape}
+use Rattle.sm_ready.specs.Known.{shape_in}
+use Rattle.sm_ready.specs.Sessions.{store_state}
+use Rattle.sm_ready.specs.Taken.{StoreTakes, StoreTakesWhole}
+use Rattle.sm_ready.proofs.DoesLaws.{does_err, does_ok}
+use Rattle.sm_ready.proofs.TakenLaws.{is_told, taken_answered, taken_built}
+use Rattle.sm_session.proofs.taking.carry_out.Goals as goal
+
+-- no other command is built
+unbuilt : (c : Command) → is_built c ≡ true → ((u : List ℕ) (size : ℕ) (raw : Bool) (label : List ℕ) → c ≡ command.Create u size raw label → ⊥) → ((u : List ℕ) → c ≡ command.Delete u → ⊥) → ((u text : List ℕ) → c ≡ command.Label u text → ⊥)
+    → (c ≡ command.List → ⊥) → ⊥
+unfolding is_built
+unbuilt (command.Create u size raw label) built no_create no_delete no_label no_list = no_create u size raw label refl
+unbuilt (command.Delete u) built no_create no_delete no_label no_list = no_delete u refl
+unbuilt (command.Label u text) built no_create no_delete no_label no_list = no_label u text refl
+unbuilt command.List built no_create no_delete no_label no_list = no_list refl
+unbuilt _ built no_create no_delete no_label no_list = true≢false (sym built)
+
+pub unreachable-requires : goal.unreachable-requires
+unreachable-requires g c = unbuilt c.args.command.now c.requires.built c.in_default.not-Create c.in_default.not-Delete c.in_default.not-Label c.in_default.not-List
+
+-- where the collector does nothing, nothing is given up
+nothing_given_up : (σ : Shape) (u : List ℕ) → σ.op ≡ Idle → is_given_up σ (command.Delete u) ≡ false
+unfolding is_given_up gives_up folds
+nothing_given_up σ u idle = ap (λ o. folds o u) idle
+
+pub delete-requires-clause-kept_up : goal.delete-requires-clause-kept_up
+unfolding shape_in
+delete-requires-clause-kept_up g c = nothing_given_up (store_shape g.S.Store c.args.store.now c.args.memory.now) c.in-Delete.disk c.requires.idle
+
+pub returns-in_err-delete-in-Delete-clause-taken : goal.returns-in_err-delete-in-Delete-clause-taken
+unfolding is_built
+returns-in_err-delete-in-Delete-clause-taken g c = λ told ready.
+    let e = err_from_is_err_and c.from_residual.result c.from_residual.ensures.1 in
+    subst (λ k. StoreTakes g.S.Store k c.args.store.now c.args.memory.now c.delete.new.store c.delete.new.memory c.from_residual.result) (sym c.in-Delete.is)
+    (subst (λ r. StoreTakes g.S.Store (command.Delete c.in-Delete.disk) c.args.store.now c.args.memory.now c.delete.new.store c.delete.new.memory r) (sym e.1)
+    (does_err (is_told g.S.Store c.args.store.now c.args.memory.now c.requires.orderly c.requires.usable told ready (g.met.S.Store.leaves_now c.args.store.now told c.requires.usable)) (command.Delete c.in-Delete.disk) c.delete.new.memory refl
+    (subst (λ k. refusal (store_shape g.S.Store c.args.store.now c.args.memory.now) k ≡ None) c.in-Delete.is c.requires.allowed) (c.delete.ensures.done told ready) e.0))
+
+pub returns-in_ok-delete-in-Delete-clause-refused : goal.returns-in_ok-delete-in-Delete-clause-refused
+unfolding is_accepted
+returns-in_ok-delete-in-Delete-clause-refused g c = λ e. absurd (true≢false e)
+
+pub returns-in_ok-delete-in-Delete-clause-untouched : goal.returns-in_ok-delete-in-Delete-clause-untouched
+unfolding is_accepted
+returns-in_ok-delete-in-Delete-clause-untouched g c = λ e. absurd (true≢false e)
+
+pub returns-in_ok-delete-in-Delete-clause-taken : goal.returns-in_ok-delete-in-Delete-clause-taken
+unfolding reply_to
+returns-in_ok-delete-in-Delete-clause-taken g c = λ told ready.
+    does_ok (is_told g.S.Store c.args.store.now c.args.memory.now c.requires.orderly c.requires.usable told ready (g.met.S.Store.leaves_now c.args.store.now told c.requires.usable)) c.args.command.now c.delete.new.memory c.requires.built c.requires.allowed
+    (subst (λ k. StoreDoes g.S.Store k c.args.store.now c.args.memory.now c.delete.new.store c.delete.new.memory (c.delete.result ≡ Ok tt)) (sym c.in-Delete.is) (c.delete.ensures.done told ready))
+    _ (sym (ap (reply_to (store_state g.S.Store c.args.store.now c.args.memory.now).disks (store_state g.S.Store c.args.store.now c.args.memory.now).shape) c.in-Delete.is)) c.in_ok-delete-in-Delete.was c.delete.ensures.site
+    (subst (λ k. ShapesAs g.S.Store k c.args.store.now c.args.memory.now c.delete.new.store c.delete.new.memory) (sym c.in-Delete.is) c.in_ok-delete-in-Delete.ensures.shape)
+
+pub returns-in_err-label-in-Label-clause-taken : goal.returns-in_err-label-in-Label-clause-taken
+unfolding is_built
+returns-in_err-label-in-Label-clause-taken g c = λ told ready.
+    let e = err_from_is_err_and c.from_residual-in_err-label-in-Label.result c.from_residual-in_err-label-in-Label.ensures.1 in
+    subst (λ k. StoreTakes g.S.Store k c.args.store.now c.args.memory.now c.label.new.store c.label.new.memory c.from_residual-in_err-label-in-Label.result) (sym c.in-Label.is)
+    (subst (λ r. StoreTakes g.S.Store (command.Label c.in-Label.disk c.in-Label.text) c.args.store.now c.args.memory.now c.label.new.store c.label.new.memory r) (sym e.1)
+    (does_err (is_told g.S.Store c.args.store.now c.args.memory.now c.requires.orderly c.requires.usable told ready (g.met.S.Store.leaves_now c.args.store.now told c.requires.usable)) (command.Label c.in-Label.disk c.in-Label.text) c.label.new.memory refl
+    (subst (λ k. refusal (store_shape g.S.Store c.args.store.now c.args.memory.now) k ≡ None) c.in-Label.is c.requires.allowed) (c.label.ensures.done told ready) e.0))
+
+pub returns-in_ok-label-in-Label-clause-refused : goal.returns-in_ok-label-in-Label-clause-refused
+unfolding is_accepted
+returns-in_ok-label-in-Label-clause-refused g c = λ e. absurd (true≢false e)
+
+pub returns-in_ok-label-in-Label-clause-untouched : goal.returns-in_ok-label-in-Label-clause-untouched
+unfolding is_accepted
+returns-in_ok-label-in-Label-clause-untouched g c = λ e. absurd (true≢false e)
+
+pub returns-in_ok-label-in-Label-clause-taken : goal.returns-in_ok-label-in-Label-clause-taken
+unfolding reply_to
+returns-in_ok-label-in-Label-clause-taken g c = λ told ready.
+    does_ok (is_told g.S.Store c.args.store.now c.args.memory.now c.requires.orderly c.requires.usable told ready (g.met.S.Store.leaves_now c.args.store.now told c.requires.usable)) c.args.command.now c.label.new.memory c.requires.built c.requires.allowed
+    (subst (λ k. StoreDoes g.S.Store k c.args.store.now c.args.memory.now c.label.new.store c.label.new.memory (c.label.result ≡ Ok tt)) (sym c.in-Label.is) (c.label.ensures.done told ready))
+    _ (sym (ap (reply_to (store_state g.S.Store c.args.store.now c.args.memory.now).disks (store_state g.S.Store c.args.store.now c.args.memory.now).shape) c.in-Label.is)) c.in_ok-label-in-Label.was c.label.ensures.stays.site
+    (subst (λ k. ShapesAs g.S.Store k c.args.store.now c.args.memory.now c.label.new.store c.label.new.memory) (sym c.in-Label.is) c.in_ok-label-in-Label.ensures.shape)
+
+pub returns-else-raw-clause-taken : goal.returns-else-raw-clause-taken
+returns-else-raw-clause-taken g c = λ told ready.
+    taken_built g.S.Store c.args.store.now c.create_vhd.new.store c.args.memory.now c.create_vhd.new.memory c.args.command.now c.create_vhd.result c.requires.built
+    (subst (λ k. StoreTakesWhole g.S.Store k c.args.store.now c.args.memory.now c.create_vhd.new.store c.create_vhd.new.memory c.create_vhd.result)
+    (sym (c.in-Create.is ∙ ap (λ b. command.Create c.in-Create.disk c.in-Create.size b c.in-Create.label) c.if-raw.false)) (c.create_vhd.ensures.taken told ready))
+
+pub returns-in-List-clause-taken : goal.returns-in-List-clause-taken
+unfolding is_settling shape_in
+returns-in-List-clause-taken g c = λ told ready.
+    let a = c.args.store.now in
+    let listed = c.list.ensures.listed (g.S.Store.site a) (table_alone (g.S.Store.table a)) (g.S.Store.area a) c.requires.orderly c.requires.tidy ready in
+    subst (λ k. StoreTakes g.S.Store k a c.args.memory.now a c.args.memory.now (Ok c.list.result)) (sym c.in-List.is)
+    (taken_answered (is_told g.S.Store c.args.store.now c.args.memory.now c.requires.orderly c.requires.usable told ready (g.met.S.Store.leaves_now c.args.store.now told c.requires.usable)) _ listed (step_after (store_state g.S.Store a c.args.memory.now) c.requires.orderly.table.sequence) refl)
