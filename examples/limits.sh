@@ -1,6 +1,8 @@
 #!/bin/sh
 # A test of the limits, on real files, each run under a limit on memory of 64 MiB: 500 disks made in one run, and one more,
-# which is refused; and 20,000 accepted lines in one run over three disks. Prints each reply once, with how often it came.
+# which is refused; 20,000 accepted lines in one run over three disks; 500 VHD disks made and all attached; 20,000 writes, fills
+# and reads of one disk; and a fill over a whole disk of 8,192 blocks. Prints each reply once, at most 24 characters of it, with
+# how often it came.
 set -e
 root=$(cd "$(dirname "$0")/.." && pwd)
 program="$root/crates/lvhd/out/lvhd"
@@ -10,7 +12,7 @@ repository=99999999-9999-4999-8999-999999999999
 # Runs a script in little memory, and counts its replies.
 counted() {
     (ulimit -v 65536; "$program" "$1" run <"$2") >"$work/replies"
-    LC_ALL=C sort "$work/replies" | uniq -c | sed 's/^ *//'
+    cut -c1-24 "$work/replies" | LC_ALL=C sort | uniq -c | sed 's/^ *//'
 }
 # 500 disks of one extent each, behind the 16 extents of the records.
 truncate -s 11M "$work/many.img"
@@ -37,3 +39,40 @@ truncate -s 3M "$work/few.img"
     done
 } >"$work/script"
 counted "$work/few.img" "$work/script"
+# 500 VHD disks of one block, all attached for writing.
+truncate -s 16M "$work/attached.img"
+"$program" "$work/attached.img" format 16384 4096 64 "$repository"
+for line in 'create 11111111-1111-4111-8111-%012d 4096 vhd disk\n' 'attach 11111111-1111-4111-8111-%012d rw\n'; do
+    i=1
+    while [ "$i" -le 500 ]; do
+        printf "$line" "$i"
+        i=$((i + 1))
+    done
+done >"$work/script"
+counted "$work/attached.img" "$work/script"
+# 20,000 lines over one disk, a third of them each writes, fills and reads.
+truncate -s 3M "$work/guest.img"
+"$program" "$work/guest.img" format 16384 4096 64 "$repository"
+disk=11111111-1111-4111-8111-111111111111
+awk -v disk="$disk" 'BEGIN {
+    for (i = 0; i < 512; i++) bytes = bytes "ab"
+    print "create " disk " 262144 vhd guest"
+    print "attach " disk " rw"
+    for (i = 0; i < 6666; i++) {
+        at = (i * 37) % 512
+        print "write " disk " " at " " bytes
+        print "fill " disk " " at " 1 5a"
+        print "read " disk " " at " 1"
+    }
+}' >"$work/script"
+counted "$work/guest.img" "$work/script"
+# A disk of 8,192 blocks.
+truncate -s 48M "$work/whole.img"
+"$program" "$work/whole.img" format 16384 4096 8192 "$repository"
+{
+    echo "create $disk 33554432 vhd guest"
+    echo "attach $disk rw"
+    echo "fill $disk 0 65536 5a"
+    echo "read $disk 65535 1"
+} >"$work/script"
+counted "$work/whole.img" "$work/script"

@@ -9,6 +9,8 @@ mod change_tests;
 #[cfg(test)]
 mod fixtures;
 #[cfg(test)]
+mod guest_tests;
+#[cfg(test)]
 mod refused_tests;
 #[cfg(test)]
 mod run_tests;

@@ -24,7 +24,7 @@ const MAKE: &[u8] = b"create 11111111-1111-4111-8111-111111111111 65536 raw data
 /// Devices with room and without, words that spell no form, names that are reserved or taken, sizes, a command that is not
 /// built, and no space. A disk has at most 64 blocks of 4,096 bytes. A run of `list` syncs, reads four times, syncs what an
 /// opening repairs, and syncs last.
-const RUNS: [Row<'static>; 33] = [
+const RUNS: [Row<'static>; 34] = [
     (
         Device::Blank(6144),
         FORMAT,
@@ -134,10 +134,18 @@ const RUNS: [Row<'static>; 33] = [
     (
         NEW,
         RUN,
-        b"create 11111111-1111-4111-8111-111111111111 262144 vhd x\ncreate 22222222-2222-4222-8222-222222222222 262145 vhd x\ncreate 22222222-2222-4222-8222-222222222222 0 vhd x\n",
+        b"create 11111111-1111-4111-8111-111111111111 262144 vhd x\ncreate 22222222-2222-4222-8222-222222222222 262145 vhd x\ncreate 22222222-2222-4222-8222-222222222222 0 vhd x\ncreate 22222222-2222-4222-8222-222222222222 262145 raw x\ncreate 33333333-3333-4333-8333-333333333333 65536 vhd x\nresize 33333333-3333-4333-8333-333333333333 65537\nresize 33333333-3333-4333-8333-333333333333 69632\nresize 33333333-3333-4333-8333-333333333333 4096\nresize 33333333-3333-4333-8333-333333333333 262145\n",
         NO,
         Status::Done,
-        b"ok 262144\nno BadSize\nno BadSize\n",
+        b"ok 262144\nno BadSize\nno BadSize\nno BadSize\nok 65536\nok 69632\nok 69632\nno Shrink\nno BadSize\n",
+    ),
+    (
+        NEW,
+        RUN,
+        b"create 11111111-1111-4111-8111-111111111111 1 vhd x\ncreate 22222222-2222-4222-8222-222222222222 1 raw y\ncreate 11111111-1111-4111-8111-111111111111 1 vhd x\nresize 22222222-2222-4222-8222-222222222222 32768\nattach 33333333-3333-4333-8333-333333333333 ro\nfill 11111111-1111-4111-8111-111111111111 0 1 aa\n",
+        NO,
+        Status::Done,
+        b"ok 4096\nok 16384\nno NameTaken\nno RawDisk\nno UnknownDisk\nno NotAttached\n",
     ),
     (
         Device::New(4608),
@@ -155,14 +163,7 @@ const RUNS: [Row<'static>; 33] = [
         Status::Done,
         b"ok 4096\nok\nno UnknownDisk\nok 1 11111111-1111-4111-8111-111111111111,4096,rw,-,y\nok\nno UnknownDisk\nok 0\n",
     ),
-    (
-        NEW,
-        RUN,
-        b"attach 11111111-1111-4111-8111-111111111111 ro\n",
-        NO,
-        Status::Done,
-        b"no BadLine\n",
-    ),
+    (NEW, RUN, b"gc\n", NO, Status::Done, b"no BadLine\n"),
     (
         Device::New(4608),
         RUN,

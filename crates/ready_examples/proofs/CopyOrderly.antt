@@ -26,6 +26,7 @@ use Rattle.sm_stages.specs.Worked.{first, second, base}
 use Rattle.ready_examples.specs.WorkedRows.{sizes, sizes_in_range, site, no_slots, first_slot}
 use Rattle.ready_examples.specs.Repositories.{copy, copying, copying_shape, copy_table, copy_known, copy_shape}
 use Rattle.ready_examples.proofs.ShapeSteps.{sorted_by, apart_by, no_base, base_low, differ, one_parent}
+use Rattle.ready_examples.proofs.SlotSteps.{AreWithin, front_within}
 use Rattle.ready_examples.proofs.TableSteps.{each, below_by, distinct_by, first_uuid, second_uuid, base_uuid_right, face_step}
 
 -- ---- the table
@@ -157,13 +158,13 @@ module _ (slots : List (Option ℕ)) (n : ℕ) where
 -- ---- memory
 
 -- the images stand where the slots have room
-pub copying_stands : (slots : List (Option ℕ)) (n : ℕ) → length slots ≡ 64 → HasRoomFor sizes (top_of slots) 160 → 0 < n → (r : TreeRow) → In r (copying slots n).rows → StandsIn sizes (r.extents * 32) r.image
+pub copying_stands : (slots : List (Option ℕ)) (n : ℕ) → length slots ≡ 64 → AreWithin slots → HasRoomFor sizes (top_of slots) 160 → 0 < n → (r : TreeRow) → In r (copying slots n).rows → StandsIn sizes (r.extents * 32) r.image
 unfolding first_sector div_up
-copying_stands slots n long room some = each (λ r. StandsIn sizes (r.extents * 32) r.image) (copying slots n).rows (
-  record { entries = refl; block = refl; size = refl; least = lit≤ tt; most = lit≤ tt; room = lit≤ tt },
+copying_stands slots n long within room some = each (λ r. StandsIn sizes (r.extents * 32) r.image) (copying slots n).rows (
+  record { entries = refl; block = refl; size = refl; least = lit≤ tt; most = lit≤ tt; sized = front_within [] 64 (lit≤ tt); room = lit≤ tt },
   (
-    record { entries = long; block = refl; size = refl; least = lit≤ tt; most = lit≤ tt; room = room },
-    (record { entries = refl; block = refl; size = refl; least = lit≤ tt; most = lit≤ tt; room = base_room }, tt),
+    record { entries = long; block = refl; size = refl; least = lit≤ tt; most = lit≤ tt; sized = within; room = room },
+    (record { entries = refl; block = refl; size = refl; least = lit≤ tt; most = lit≤ tt; sized = front_within (Some 0 ∷ []) 63 (lit≤ tt); room = base_room }, tt),
   ),
 )
   where
@@ -201,7 +202,7 @@ copy_orderly = record {
   images = copy_faces;
   places = refl;
   entries = refl;
-  stands = copying_stands first_slot 5 refl one_room (lit< tt);
+  stands = copying_stands first_slot 5 refl (front_within (Some 0 ∷ []) 63 (lit≤ tt)) one_room (lit< tt);
   well_formed = ∣ subst IsWellFormed (sym copy_has_shape) (copying_well_formed first_slot 5 refl (lit< tt) (lit≤ tt)) ∣₁;
   roomy = base_roomy;
   counts = λ n. refl;

@@ -1,5 +1,6 @@
 pub mod TableSteps
 pub mod ShapeSteps
+pub mod SlotSteps
 pub mod SteadySteps
 pub mod RecordSteps
 pub mod PlainOrderly

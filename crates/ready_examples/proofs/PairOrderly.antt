@@ -23,6 +23,7 @@ use Rattle.sm_stages.specs.Worked.{first, second, base}
 use Rattle.ready_examples.specs.WorkedRows.{sizes, sizes_in_range, site}
 use Rattle.ready_examples.specs.Repositories.{pair_table, pair_known, pair_shape}
 use Rattle.ready_examples.proofs.ShapeSteps.{sorted_by, apart_by, no_base, base_low, one_parent}
+use Rattle.ready_examples.proofs.SlotSteps.{front_within}
 use Rattle.ready_examples.proofs.TableSteps.{each, below_by, distinct_by, first_uuid, second_uuid, base_uuid_right, face_step}
 
 -- ---- the table
@@ -128,10 +129,10 @@ pair_well_formed = record {
 stand_right : (r : TreeRow) → In r pair_known.rows → StandsIn sizes (r.extents * 32) r.image
 unfolding first_sector div_up
 stand_right = each (λ r. StandsIn sizes (r.extents * 32) r.image) pair_known.rows (
-  record { entries = refl; block = refl; size = refl; least = lit≤ tt; most = lit≤ tt; room = lit≤ tt },
+  record { entries = refl; block = refl; size = refl; least = lit≤ tt; most = lit≤ tt; sized = front_within (Some 0 ∷ []) 63 (lit≤ tt); room = lit≤ tt },
   (
-    record { entries = refl; block = refl; size = refl; least = lit≤ tt; most = lit≤ tt; room = lit≤ tt },
-    (record { entries = refl; block = refl; size = refl; least = lit≤ tt; most = lit≤ tt; room = lit≤ tt }, tt),
+    record { entries = refl; block = refl; size = refl; least = lit≤ tt; most = lit≤ tt; sized = front_within [] 64 (lit≤ tt); room = lit≤ tt },
+    (record { entries = refl; block = refl; size = refl; least = lit≤ tt; most = lit≤ tt; sized = front_within (Some 0 ∷ []) 63 (lit≤ tt); room = lit≤ tt }, tt),
   ),
 )
 

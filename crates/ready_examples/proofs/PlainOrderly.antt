@@ -27,6 +27,7 @@ use Rattle.sm_stages.specs.Worked.{first, second}
 use Rattle.ready_examples.specs.WorkedRows.{sizes, sizes_in_range, site, site_of, first_slot}
 use Rattle.ready_examples.specs.Repositories.{plain_table, plain_known, plain_shape, rows_with, known_with, shape_of, written_known, written_shape}
 use Rattle.ready_examples.proofs.ShapeSteps.{sorted_by, apart_by, no_base}
+use Rattle.ready_examples.proofs.SlotSteps.{AreWithin, front_within}
 use Rattle.ready_examples.proofs.TableSteps.{alike, each, below_by, distinct_by, first_uuid, second_uuid, face_step}
 
 -- ---- the table
@@ -170,10 +171,10 @@ written_well_formed = let w = plain_well_formed 64 first_slot (codes "b") (lit�
 abbrev pub AreStanding : List (Option ℕ) → Type 0
 AreStanding slots = (r : TreeRow) → In r (rows_with slots) → StandsIn sizes (r.extents * 32) r.image
 
-pub stand_right : (slots : List (Option ℕ)) → length slots ≡ 64 → HasRoomFor sizes (top_of slots) 160 → AreStanding slots
-stand_right slots long room = each (λ r. StandsIn sizes (r.extents * 32) r.image) (rows_with slots) (
+pub stand_right : (slots : List (Option ℕ)) → length slots ≡ 64 → AreWithin slots → HasRoomFor sizes (top_of slots) 160 → AreStanding slots
+stand_right slots long within room = each (λ r. StandsIn sizes (r.extents * 32) r.image) (rows_with slots) (
   lit≤ tt,
-  (record { entries = long; block = refl; size = refl; least = lit≤ tt; most = lit≤ tt; room = room }, tt),
+  (record { entries = long; block = refl; size = refl; least = lit≤ tt; most = lit≤ tt; sized = within; room = room }, tt),
 )
 
 first_room : HasRoomFor sizes (top_of first_slot) 160
@@ -181,7 +182,7 @@ unfolding first_sector div_up
 first_room = lit≤ tt
 
 pub first_stands : AreStanding first_slot
-first_stands = stand_right first_slot refl first_room
+first_stands = stand_right first_slot refl (front_within (Some 0 ∷ []) 63 (lit≤ tt)) first_room
 
 -- orderly where the group is small and the images stand
 pub orderly_with : (count : ℕ) (slots : List (Option ℕ)) (label : List ℕ) → 64 ≤ count → length slots ≡ 64 → count ≤ 65536 → AreStanding slots → IsOrderly (site_of count) plain_table (known_with slots label)

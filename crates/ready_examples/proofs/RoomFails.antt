@@ -1,5 +1,5 @@
 -- A copy whose parent has no room for the blocks of both images.
-use Rattle.std.proofs.Common.{◌≡◌, inl, inr, ℕ, ◌≤◌, ◌++◌, true, false, List, None, refl, sym, ◌∙◌, subst, arith, lit≤, lit<, bytes_eq}
+use Rattle.std.proofs.Common.{◌≡◌, inl, inr, ℕ, ◌≤◌, ◌++◌, true, false, List, None, refl, sym, ◌∙◌, subst, arith, lit≤, lit<, bytes_eq, [], ◌∷◌, Some}
 use Rattle.std.specs.List.Sorted.{IsStrictlySortedBy}
 use Rattle.common_laws.specs.Lists.{In, numbers}
 use Rattle.sm_base.specs.Kinds.{is_image}
@@ -23,6 +23,7 @@ use Rattle.ready_examples.specs.FailingMemory.{four_slots, tight_known}
 use Rattle.ready_examples.specs.FailingTables.{tight_table}
 use Rattle.ready_examples.specs.WorkedRows.{site, sizes}
 use Rattle.ready_examples.proofs.CopyOrderly.{copying_has_shape, copying_stands, copying_well_formed}
+use Rattle.ready_examples.proofs.SlotSteps.{front_within}
 use Rattle.ready_examples.proofs.TableSteps.{each, below_by, distinct_by, first_uuid, second_uuid, base_uuid_right, face_step}
 
 abbrev used : List ℕ
@@ -70,7 +71,7 @@ tight_only h = record {
   images = tight_faces;
   places = refl;
   entries = refl;
-  stands = copying_stands four_slots 1 refl four_room (lit< tt);
+  stands = copying_stands four_slots 1 refl (front_within (Some 0 ∷ Some 1 ∷ Some 2 ∷ Some 3 ∷ []) 60 (lit≤ tt)) four_room (lit< tt);
   well_formed = ∣ subst IsWellFormed (sym (copying_has_shape four_slots 1 tight_table refl)) (copying_well_formed four_slots 1 refl (lit< tt) (lit≤ tt)) ∣₁;
   roomy = h;
   counts = λ n. refl;

@@ -45,13 +45,14 @@ use Rattle.ready_examples.proofs.PlainReady.{plain_holds, plain_place, plain_rea
 use Rattle.ready_examples.proofs.RecordSteps.{records_agree}
 use Rattle.ready_examples.proofs.SteadySteps.{HoldsImage, apart_settled, entry_alike, held_reads, rest_settled, steady, top_here, top_holds, volume_holds}
 use Rattle.sm_stages.proofs.PlacedLaws.{spot_numbers}
+use Rattle.ready_examples.proofs.SlotSteps.{front_within}
 use Rattle.ready_examples.proofs.TableSteps.{each}
 
 -- ---- a slot that memory forgot
 
 pub forgotten_orderly : IsOrderly site plain_table forgotten_known
 unfolding first_sector div_up
-forgotten_orderly = orderly_with 64 no_slots (codes "b") (lit≤ tt) refl (lit≤ tt) (stand_right no_slots refl (lit≤ tt))
+forgotten_orderly = orderly_with 64 no_slots (codes "b") (lit≤ tt) refl (lit≤ tt) (stand_right no_slots refl (front_within [] 64 (lit≤ tt)) (lit≤ tt))
 
 pub forgotten_only : ((r : TreeRow) → In r forgotten_known.rows → IsSteady sizes (r.extents * 32) (volume_of site plain_table plain_area (row_name r)) r.image)
     → IsReady site plain_table plain_area forgotten_known
@@ -111,7 +112,7 @@ uncopied_fails h =
 
 pub relabelled_orderly : IsOrderly site plain_table relabelled_known
 unfolding first_sector div_up
-relabelled_orderly = orderly_with 64 first_slot (codes "c") (lit≤ tt) refl (lit≤ tt) (stand_right first_slot refl (lit≤ tt))
+relabelled_orderly = orderly_with 64 first_slot (codes "c") (lit≤ tt) refl (lit≤ tt) (stand_right first_slot refl (front_within (Some 0 ∷ []) 63 (lit≤ tt)) (lit≤ tt))
 
 pub relabelled_only : Agrees (records_held site plain_table plain_area) relabelled_known.places → IsReady site plain_table plain_area relabelled_known
 relabelled_only h = record {

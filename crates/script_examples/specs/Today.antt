@@ -19,5 +19,7 @@ raw_disks =
     line (codes "delete 33333333-3333-4333-8333-333333333333") (codes "no UnknownDisk") ∷
     line (codes "delete 44444444-4444-4444-8444-444444444444") (codes "ok") ∷
     line (codes "list") (codes "ok 2 11111111-1111-4111-8111-111111111111,4096,rw,-,w 22222222-2222-4222-8222-222222222222,16384,rw,-,y") ∷
-    line (codes "attach 11111111-1111-4111-8111-111111111111 ro") (codes "no BadLine") ∷
+    line (codes "attach 11111111-1111-4111-8111-111111111111 ro") (codes "ok") ∷
+    line (codes "delete 11111111-1111-4111-8111-111111111111") (codes "no InUse") ∷
+    line (codes "gc") (codes "no BadLine") ∷
     []

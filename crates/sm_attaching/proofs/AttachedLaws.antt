@@ -166,7 +166,8 @@ room_for_chain s t m u o own room = record {
 
 -- ---- attached
 
-change_none : {A : Type 0} (test : A → Bool) (f : A → A) (xs : List A) → ((x : A) → In x xs → test x ≡ true → f x ≡ x) → change test f xs ≡ xs
+-- where a change leaves what it speaks of
+pub change_none : {A : Type 0} (test : A → Bool) (f : A → A) (xs : List A) → ((x : A) → In x xs → test x ≡ true → f x ≡ x) → change test f xs ≡ xs
 change_none test f [] same = refl
 change_none test f (x ∷ xs) same = ap₂ (λ y ys. y ∷ ys) (by (test x) refl) (change_none test f xs (λ y i e. same y (inr i) e))
   where

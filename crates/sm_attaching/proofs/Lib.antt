@@ -1,3 +1,5 @@
 pub mod ChainLaws
 pub mod UseLaws
 pub mod AttachedLaws
+pub mod GrowLaws
+pub mod LackLaws

@@ -4,10 +4,12 @@ ghost use Rattle.std.specs.Prelude.{◌≡◌, ◌≤◌, ℕ, List, true, false
 ghost use Rattle.sm_disk.specs.Held.{Keeps};
 ghost use Rattle.vg_meta.specs.Roomy.{table_alone};
 ghost use Rattle.vg_meta.specs.Tables.{VolumeTable};
+ghost use Rattle.vg_volumes.specs.Sites.{NoLessRoom};
 ghost use Rattle.vg_volumes.specs.Stored.{Counts};
 ghost use Rattle.sm_machine.specs.declared.commands.Command.TheVariants as command;
 ghost use Rattle.sm_ready.specs.Refusing.{IsAllowed};
 ghost use Rattle.sm_ready.specs.Does.{IsKeptUp, NeedsNone, ShapesAs, StoreDoes};
+ghost use Rattle.sm_ready.specs.Frames.{HasTrueImages};
 ghost use Rattle.sm_ready.specs.Sessions.{IsOrderlyStore, IsTidyStore, IsReadyStore};
 ghost use Rattle.sm_attaching.specs.Attaching.{HasAttachmentRoom, StaysBeside};
 
@@ -21,7 +23,7 @@ use vg_volumes::Store;
 ///
 /// # Errors
 /// The sync failed; the disk is not attached.
-pub fn attach<S: Store>(
+pub(crate) fn note<S: Store>(
     store: &mut S,
     memory: &mut Memory,
     disk: &Uuid,
@@ -31,6 +33,7 @@ pub fn attach<S: Store>(
     requires orderly { IsOrderlyStore S.Store store.old memory.old }
     requires tidy { IsTidyStore S.Store store.old memory.old }
     requires room { HasAttachmentRoom memory.old }
+    requires true_now { HasTrueImages S.Store store.old memory.old }
     requires allowed { IsAllowed S.Store (command.Attach disk.now mode) store.old memory.old }
     requires kept_up { IsKeptUp S.Store (command.Attach disk.now mode) store.old memory.old }
     requires enough { NeedsNone S.Store (command.Attach disk.now mode) store.old memory.old }
@@ -39,11 +42,13 @@ pub fn attach<S: Store>(
     ensures cause { Counts S.Store result store.old store.new }
     ensures beside { S.told → Keeps (S.beside store.old) (S.beside store.new) }
     ensures table { table_alone (S.table store.new) ≡ table_alone (S.table store.old) }
+    ensures no_less { NoLessRoom (S.table store.old) (S.table store.new) }
     ensures others { StaysBeside memory.old memory.new }
     ensures usable_still { S.failed store.new ≡ false }
     ensures orderly_still { IsOrderlyStore S.Store store.new memory.new }
     ensures tidy_still { IsTidyStore S.Store store.new memory.new }
     ensures room_still { HasAttachmentRoom memory.new }
+    ensures true_still { HasTrueImages S.Store store.new memory.new }
     ensures shape { OnOk result (ShapesAs S.Store (command.Attach disk.now mode) store.old memory.old store.new memory.new) }
     ensures done { S.told → IsReadyStore S.Store store.old memory.old
         → StoreDoes S.Store (command.Attach disk.now mode) store.old memory.old store.new memory.new (result ≡ Ok tt) }
@@ -65,17 +70,20 @@ pub fn detach<S: Store>(store: &mut S, memory: &mut Memory, disk: &Uuid) -> Resu
     requires orderly { IsOrderlyStore S.Store store.old memory.old }
     requires tidy { IsTidyStore S.Store store.old memory.old }
     requires room { HasAttachmentRoom memory.old }
+    requires true_now { HasTrueImages S.Store store.old memory.old }
     requires allowed { IsAllowed S.Store (command.Detach disk.now) store.old memory.old }
     ensures site { S.site store.new ≡ S.site store.old }
     ensures counts { S.faults store.old ≤ S.faults store.new }
     ensures cause { Counts S.Store result store.old store.new }
     ensures beside { S.told → Keeps (S.beside store.old) (S.beside store.new) }
     ensures table { table_alone (S.table store.new) ≡ table_alone (S.table store.old) }
+    ensures no_less { NoLessRoom (S.table store.old) (S.table store.new) }
     ensures others { StaysBeside memory.old memory.new }
     ensures usable_still { S.failed store.new ≡ false }
     ensures orderly_still { IsOrderlyStore S.Store store.new memory.new }
     ensures tidy_still { IsTidyStore S.Store store.new memory.new }
     ensures room_still { HasAttachmentRoom memory.new }
+    ensures true_still { HasTrueImages S.Store store.new memory.new }
     ensures shape { OnOk result (ShapesAs S.Store (command.Detach disk.now) store.old memory.old store.new memory.new) }
     ensures done { S.told → IsReadyStore S.Store store.old memory.old
         → StoreDoes S.Store (command.Detach disk.now) store.old memory.old store.new memory.new (result ≡ Ok tt) }

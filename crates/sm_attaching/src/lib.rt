@@ -5,7 +5,7 @@
 //! **What it promises.** `attach` notes how a disk is in use, and `detach` that it no longer is; each image of the disk's chain
 //! is counted as often as an attached disk uses it. Both sync first, so that nothing is pending behind them; a stop leaves the
 //! disks from before, each sector as it might have been left before the call. Neither changes a disk, and neither takes
-//! memory.
+//! memory. The images in memory stay true of their volumes, whatever a stop would have left before the call.
 //!
 //! **In which units.** Images of a chain are counted, at most 30.
 //!
@@ -17,5 +17,7 @@
 
 mod attaching;
 mod chains;
+mod enlarging;
 
-pub use attaching::{attach, detach};
+pub use attaching::detach;
+pub use enlarging::attach;

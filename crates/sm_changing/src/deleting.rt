@@ -8,8 +8,8 @@ ghost use Rattle.vg_volumes.specs.Stored.{CanCommit, Commits, Counts, FailsToCom
 ghost use Rattle.sm_machine.specs.declared.commands.Command.TheVariants as command;
 ghost use Rattle.sm_ready.specs.Refusing.{IsAllowed};
 ghost use Rattle.sm_ready.specs.Does.{IsKeptUp, ShapesAs, StoreDoes};
+ghost use Rattle.sm_ready.specs.Frames.{HasCommits, HasTrueImages};
 ghost use Rattle.sm_ready.specs.Sessions.{HasRows, HasTreeRoom, IsOrderlyStore, IsReadyStore, IsTidyStore, StaysInUse};
-ghost use Rattle.sm_changing.specs.Deleting.{HasOneCommit};
 
 use sm_base::{Failed, Name};
 use sm_ready::{Memory, image_name};
@@ -36,20 +36,22 @@ pub fn delete<S: Store>(store: &mut S, memory: &mut Memory, disk: &Uuid) -> Resu
     requires usable { S.failed store.old ≡ false }
     requires orderly { IsOrderlyStore S.Store store.old memory.old }
     requires tidy { IsTidyStore S.Store store.old memory.old }
+    requires true_now { HasTrueImages S.Store store.old memory.old }
     requires allowed { IsAllowed S.Store (command.Delete disk.now) store.old memory.old }
     requires kept_up { IsKeptUp S.Store (command.Delete disk.now) store.old memory.old }
     ensures site { S.site store.new ≡ S.site store.old }
     ensures counts { S.faults store.old ≤ S.faults store.new }
     ensures cause { Counts S.Store result store.old store.new }
     ensures beside { S.told → Keeps (S.beside store.old) (S.beside store.new) }
-    ensures few { HasOneCommit (table_alone (S.table store.old)) (table_alone (S.table store.new)) }
-    ensures few_left { Leaves S.Store store.new (λ t image. HasOneCommit (table_alone (S.table store.old)) t) }
+    ensures few { HasCommits 1 (table_alone (S.table store.old)) (table_alone (S.table store.new)) }
+    ensures few_left { Leaves S.Store store.new (λ t image. HasCommits 1 (table_alone (S.table store.old)) t) }
     ensures others { StaysInUse memory.old memory.new }
     ensures room { HasRows (S.table store.old) → OnOk result (HasRows (S.table store.new)) }
     ensures tree_room { HasTreeRoom memory.old → HasTreeRoom memory.new }
     ensures usable_still { OnOk result (S.failed store.new ≡ false) }
     ensures orderly_still { OnOk result (IsOrderlyStore S.Store store.new memory.new) }
     ensures tidy_still { OnOk result (IsTidyStore S.Store store.new memory.new) }
+    ensures true_still { OnOk result (HasTrueImages S.Store store.new memory.new) }
     ensures shape { OnOk result (ShapesAs S.Store (command.Delete disk.now) store.old memory.old store.new memory.new) }
     ensures done { S.told → IsReadyStore S.Store store.old memory.old
         → StoreDoes S.Store (command.Delete disk.now) store.old memory.old store.new memory.new (result ≡ Ok tt) }

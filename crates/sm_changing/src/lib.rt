@@ -10,6 +10,9 @@
 //! shows nothing. The disk is not attached, and nobody reads through its image; the collector may work at other images, and
 //! goes on. The table's number rises by one at most. All is made last at the end.
 //!
+//! Each image in memory is true of what its volume holds, where that is told (`HasTrueImages` of `sm_ready`): before a call, and
+//! behind one that succeeded.
+//!
 //! No call takes memory.
 //!
 //! **In which units.** A record is one sector of 512 bytes.

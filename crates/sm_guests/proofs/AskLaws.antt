@@ -1,11 +1,10 @@
 -- What a guest's write and read may ask of the images below, by what holds between two steps.
-use Rattle.std.proofs.Common.{◌≡◌, ◌⊎◌, inl, inr, ⊎_elim, ℕ, ◌+◌, ◌-◌, ◌*◌, ◌/◌, ◌%◌, ◌==◌, ◌<◌, ◌≤◌, nat_lt, max, ◌||◌, Bool, true, false, List, Option, Some, None, refl, sym, ap, ◌∙◌, subst, arith, eqb-true, eq-eqb}
-use Rattle.std.proofs.Math.Logic.{∥∥₁_elim, ∥∥₁_map}
+use Rattle.std.proofs.Common.{◌≡◌, ◌⊎◌, inl, inr, ⊎_elim, ℕ, ◌+◌, ◌-◌, ◌*◌, ◌/◌, ◌%◌, ◌==◌, ◌<◌, ◌≤◌, nat_lt, max, ◌||◌, Bool, true, false, List, Option, Some, None, refl, sym, ap, ◌∙◌, subst, arith, eq-eqb}
+use Rattle.std.proofs.Math.Logic.{∥∥₁_elim}
 use Rattle.std.proofs.Math.Nat.{div-lt_iff_lt-mul, div-mul-le_self, le-div_iff_mul-le, le_of_mul-le-mul_right}
 use Rattle.std.proofs.Props.{props}
 use Rattle.std.proofs.lemmas.Bool.{true≢false, ltb-false, cases_lt}
 use Rattle.std.proofs.lemmas.Nat.{mul-le, div-add-mod'}
-use Rattle.std.proofs.lemmas.Option.{same_Some}
 use Rattle.std.proofs.lemmas.Slice.Eq.{bytes_eq-Decides}
 use Rattle.std.specs.List.{find}
 use Rattle.std.specs.Str.{bytes_eq}
@@ -17,22 +16,19 @@ use Rattle.sm_base.specs.declared.names.Name.{Name}
 use Rattle.sm_base.specs.declared.operations.Mode.{Mode}
 use Rattle.sm_base.specs.declared.operations.Mode.TheVariants.{Ro, Rw}
 use Rattle.sm_base.specs.declared.sizes.Geometry.{Geometry}
-use Rattle.sm_disk.specs.Held.{Held, IsWhole}
+use Rattle.sm_disk.specs.Held.{IsWhole}
 use Rattle.vg_meta.specs.Tables.{VolumeTable}
-use Rattle.vg_volumes.specs.Sites.{Site, size_of, volume_of}
-use Rattle.vhd_chain.specs.Trees.{row_name, tree_row}
+use Rattle.vg_volumes.specs.Sites.{Site, size_of}
+use Rattle.vhd_chain.specs.Trees.{row_name}
 use Rattle.vhd_chain.specs.declared.rows.TreeRow.{TreeRow}
-use Rattle.vhd_map.specs.Places.{blank}
-use Rattle.vhd_map.specs.Slots.{top_of}
-use Rattle.vhd_layout.specs.Layouts.{entry}
-use Rattle.vhd_layout.proofs.ReadingLaws.{valid-decided}
+use Rattle.vhd_map.specs.Slots.{slot_of, top_of}
+use Rattle.vhd_layout.proofs.ImageLaws.{option_cases}
 use Rattle.vhd_volumes.specs.declared.heads.Head.{Head}
-use Rattle.vhd_volumes.specs.Truth.{IsStanding, IsTrueIn, HasRoomFor, disk_blocks, disk_sectors}
+use Rattle.vhd_volumes.specs.Truth.{IsStanding, HasRoomFor, disk_blocks, disk_sectors}
 use Rattle.vhd_volumes.specs.Writes.{blocks_touched, written_map}
 use Rattle.vhd_write.proofs.WorkLaws.{room-less}
-use Rattle.vhd_image.specs.Bodies.{StandsIn, TrueIn, sector_count}
-use Rattle.vhd_image.specs.Steady.{IsSteady}
-use Rattle.vhd_image.specs.Written.{HasRoomToWrite, written}
+use Rattle.vhd_image.specs.Bodies.{StandsIn, sector_count}
+use Rattle.vhd_image.specs.Written.{HasRoomToWrite}
 use Rattle.vhd_image.specs.declared.images.Body.{Body}
 use Rattle.vhd_image.specs.declared.images.Body.TheVariants as body
 use Rattle.sm_machine.specs.Shapes.{Attachment, image_uuid, is_rw, is_vhd, thick_in}
@@ -41,89 +37,11 @@ use Rattle.sm_machine.proofs.Attaches.{is_its_image}
 use Rattle.sm_machine.proofs.Guests.{disk_image_is}
 use Rattle.sm_ready.specs.Known.{Known, machine_row, shape_in}
 use Rattle.sm_ready.specs.Orderly.{IsOrderly}
-use Rattle.sm_ready.specs.Ready.{IsReady}
 use Rattle.sm_ready.proofs.CauseLaws.{named_as}
-use Rattle.sm_ready.proofs.LeftLaws.{size_there}
-use Rattle.sm_ready.proofs.Orders.{geometry_of, named_row, raw_row, rowed, vhd_row}
-use Rattle.sm_ready.proofs.RowLaws.{image_named, tree_found, volume_there}
-use Rattle.sm_guests.specs.Guests.{HasSlotsWithin}
+use Rattle.sm_ready.proofs.Orders.{geometry_of, named_row, raw_row, vhd_row}
+use Rattle.sm_ready.proofs.TruthLaws.{row_sectors, row_stands}
 use Rattle.sm_guests.proofs.OwnLaws.{IsOwn}
 use Rattle.sm_guests.proofs.SlotLaws.{few_blocks}
-
-module _ (s : Site) (t : VolumeTable) (m : Known) (o : IsOrderly s t m) where
-  -- ---- an image stands in its volume
-
-  pub row_found : (r : TreeRow) → In r m.rows → tree_row m.rows (row_name r) ≡ Some r
-  unfolding shape_in
-  row_found r i = ∥∥₁_elim o.well_formed (hlevel props) (λ w. tree_found m.rows r w.one_image i)
-
-  pub row_sectors : (r : TreeRow) → In r m.rows → size_of s t (row_name r) ≡ r.extents * s.geometry.extent
-  row_sectors r i =
-      let image = image_named (row_name r) (named_row s t m r o i) in
-      let found = row_found r i in
-      let v = volume_there s t m r o image found in
-      let w = rowed s t m (row_name r) v.row o image v.there v.filled in
-      let same : w.row ≡ r = same_Some w.row r (sym w.found ∙ found) in
-      size_there s t (row_name r) v.row v.there ∙ ap (λ k. k * s.geometry.extent) (sym w.long ∙ ap (λ (q : TreeRow). q.extents) same)
-
-  pub row_stands : (r : TreeRow) → In r m.rows → StandsIn s.geometry (size_of s t (row_name r)) r.image
-  row_stands r i = subst (λ n. StandsIn s.geometry n r.image) (sym (row_sectors r i)) (o.stands r i)
-
--- ---- and is true of it
-
-kind_of : (k : ℕ) → ∥ (k ≡ 3) ⊎ (k ≡ 4) ∥₁ → (k ≡ 3) ⊎ (k ≡ 4)
-kind_of k x = by (k == 3) refl
-  where
-    by : (b : Bool) → (k == 3) ≡ b → (k ≡ 3) ⊎ (k ≡ 4)
-    by true e = inl (eqb-true k 3 e)
-    by false e = inr (∥∥₁_elim x (hlevel props) (λ y. ⊎_elim (λ is. absurd (true≢false (sym (eq-eqb k 3 is) ∙ e))) (λ is. is) y))
-
-blank_or : (k c : ℕ) → ∥ (k ≡ blank) ⊎ (k ≡ c) ∥₁ → (k ≡ blank) ⊎ (k ≡ c)
-blank_or k c x = by (k == blank) refl
-  where
-    by : (b : Bool) → (k == blank) ≡ b → (k ≡ blank) ⊎ (k ≡ c)
-    by true e = inl (eqb-true k blank e)
-    by false e = inr (∥∥₁_elim x (hlevel props) (λ y. ⊎_elim (λ is. absurd (true≢false (sym (eq-eqb k blank is) ∙ e))) (λ is. is) y))
-
-truth_known : (g : Geometry) (n : ℕ) (h : Held) (head : Head) (slots : List (Option ℕ)) → IsGeometry g.extent g.block g.entries → ∥ IsTrueIn g n h head slots ∥₁ → IsTrueIn g n h head slots
-truth_known g n h head slots ok x = record {
-  now = record {
-    head = record {
-      footer_reads = ∥∥₁_elim x (hlevel props) (λ y. y.now.head.footer_reads);
-      footer_fits = record {
-        kind = kind_of head.footer.kind (∥∥₁_map x (λ y. y.now.head.footer_fits.kind));
-        size = ∥∥₁_elim x (hlevel props) (λ y. y.now.head.footer_fits.size);
-        least = ∥∥₁_elim x (hlevel props) (λ y. y.now.head.footer_fits.least);
-        most = ∥∥₁_elim x (hlevel props) (λ y. y.now.head.footer_fits.most);
-      };
-      header_reads = ∥∥₁_elim x (hlevel props) (λ y. y.now.head.header_reads);
-      header_fits = record {
-        table_offset = ∥∥₁_elim x (hlevel props) (λ y. y.now.head.header_fits.table_offset);
-        entries = ∥∥₁_elim x (hlevel props) (λ y. y.now.head.header_fits.entries);
-        block = ∥∥₁_elim x (hlevel props) (λ y. y.now.head.header_fits.block);
-        parent = ∥∥₁_elim x (hlevel props) (λ y. y.now.head.header_fits.parent);
-      };
-      room = ∥∥₁_elim x (hlevel props) (λ y. y.now.head.room);
-    };
-    table = λ b below. ∥∥₁_elim x (hlevel props) (λ y. y.now.table b below);
-    slots = record {
-      sized = λ b k is. ∥∥₁_elim x (hlevel props) (λ y. y.now.slots.sized b k is);
-      fits = λ b k is. ∥∥₁_elim x (hlevel props) (λ y. y.now.slots.fits b k is);
-      once = λ b c k is also. ∥∥₁_elim x (hlevel props) (λ y. y.now.slots.once b c k is also);
-    };
-  };
-  valid = λ v allows. (valid-decided g.extent g.block g.entries n v ok).0 (∥∥₁_elim x (hlevel props) (λ y. (valid-decided g.extent g.block g.entries n v ok).1 (y.valid v allows)));
-  within = λ v allows b below. blank_or (entry v b) _ (∥∥₁_map x (λ y. y.within v allows b below));
-}
-
-body_known : (g : Geometry) (n : ℕ) (h : Held) (b : Body) → IsGeometry g.extent g.block g.entries → ∥ IsSteady g n h b ∥₁ → TrueIn g n h b
-body_known g n h (body.Raw volume size) ok x = tt
-body_known g n h (body.Vhd head slots) ok x = truth_known g n h head slots ok (∥∥₁_map x (λ y. y.is_true))
-
-pub row_true : (s : Site) (t : VolumeTable) (m : Known) (area : Held) (o : IsOrderly s t m) → ∥ IsReady s t area m ∥₁ → (r : TreeRow) → In r m.rows → TrueIn s.geometry (size_of s t (row_name r)) (volume_of s t area (row_name r)) r.image
-row_true s t m area o x r i =
-    subst (λ n. TrueIn s.geometry n (volume_of s t area (row_name r)) r.image) (sym (row_sectors s t m o r i))
-    (body_known s.geometry (r.extents * s.geometry.extent) (volume_of s t area (row_name r)) r.image (geometry_of s t m o) (∥∥₁_map x (λ y. y.firm.images r i)))
 
 -- ---- sectors within the disk
 
@@ -181,12 +99,13 @@ blocks_fit g blocks at len pos some fits =
 max_cases : (x a b : ℕ) → x ≤ max a b → (x ≤ a) ⊎ (x ≤ b)
 max_cases x a b le = ⊎_elim (λ high. inr (omega (arith, le, high))) (λ low. inl low) (cases_lt a x)
 
-room_in : (g : Geometry) (n at len extents : ℕ) (head : Head) (slots : List (Option ℕ)) → IsGeometry g.extent g.block g.entries → IsStanding g n head slots → HasSlotsWithin g (body.Vhd head slots)
+room_in : (g : Geometry) (n at len extents : ℕ) (head : Head) (slots : List (Option ℕ)) → IsGeometry g.extent g.block g.entries → IsStanding g n head slots
     → 0 < len / 512 → at + len / 512 ≤ disk_sectors head.footer → n ≡ extents * g.extent → thick g.extent g.block g.entries (disk_sectors head.footer) ≤ extents
-    → HasRoomFor g (top_of (written_map g.block at len slots)) n × HasSlotsWithin g (body.Vhd head (written_map g.block at len slots))
+    → HasRoomFor g (top_of (written_map g.block at len slots)) n
 unfolding thick thin
-room_in g n at len extents head slots ok stands within some fits long enough =
+room_in g n at len extents head slots ok stands some fits long enough =
     let d = disk_blocks g head.footer in
+    let within : (b : ℕ) → d ≤ b → slot_of slots b ≡ None = λ b past. ⊎_elim (λ none. none) (λ has. absurd (let low = stands.sized b has.0 has.1 in omega (arith, low, past))) (option_cases (slot_of slots b)) in
     let pos : 0 < g.block = omega (arith, ok.block_least) in
     let size : disk_sectors head.footer ≡ d * g.block = omega (arith, stands.size) in
     let f = few_blocks d (at / g.block) (blocks_touched g.block at len) slots (blocks_fit g d at len pos some (omega (arith, fits, size))) (omega (arith, stands.most, stands.entries)) within in
@@ -195,7 +114,7 @@ room_in g n at len extents head slots ok stands within some fits long enough =
     let blocks = le_of_mul-le-mul_right {m = d} {n = div_up (disk_sectors head.footer) g.block} {k = g.block} (subst (λ k. k ≤ div_up (disk_sectors head.footer) g.block * g.block) size (le-div_up (disk_sectors head.footer) g.block pos)) pos in
     let many = mul-le d (1 + g.block) (div_up (disk_sectors head.footer) g.block) (1 + g.block) blocks (omega arith) in
     let thick_room : HasRoomFor g d n = omega (arith, reach, wide, many, long) in
-    (⊎_elim (λ low. room-less g (top_of (written_map g.block at len slots)) (top_of slots) n low stands.room) (λ low. room-less g (top_of (written_map g.block at len slots)) d n low thick_room) (max_cases (top_of (written_map g.block at len slots)) (top_of slots) d f.1), f.0)
+    ⊎_elim (λ low. room-less g (top_of (written_map g.block at len slots)) (top_of slots) n low stands.room) (λ low. room-less g (top_of (written_map g.block at len slots)) d n low thick_room) (max_cases (top_of (written_map g.block at len slots)) (top_of slots) d f)
 
 pub vhd_name : (s : Site) (t : VolumeTable) (m : Known) (r : TreeRow) (head : Head) (slots : List (Option ℕ)) → IsOrderly s t m → In r m.rows → r.image ≡ body.Vhd head slots → is_vhd (row_name r) ≡ true
 unfolding is_vhd
@@ -205,16 +124,16 @@ pub raw_name : (s : Site) (t : VolumeTable) (m : Known) (r : TreeRow) (volume : 
 unfolding is_vhd
 raw_name s t m r volume size o i is = ⊎_elim (λ vhd. absurd (let w = vhd_row s t m r (image_uuid (row_name r)) o i vhd in let x = sym is ∙ w.is in cc)) (λ raw. ap is_vhd raw) (named_as (row_name r) (image_uuid (row_name r)) (named_row s t m r o i) refl)
 
-pub room_own : (s : Site) (t : VolumeTable) (m : Known) (u : List ℕ) (r : TreeRow) (o : IsOrderly s t m) (h : IsOwn s t m u r) (at len : ℕ) → HasSlotsWithin s.geometry r.image → 0 < len / 512 → at + len / 512 ≤ sector_count r.image
-    → HasRoomToWrite s.geometry (size_of s t (row_name r)) at len r.image × HasSlotsWithin s.geometry (written s.geometry.block at len r.image)
+pub room_own : (s : Site) (t : VolumeTable) (m : Known) (u : List ℕ) (r : TreeRow) (o : IsOrderly s t m) (h : IsOwn s t m u r) (at len : ℕ) → 0 < len / 512 → at + len / 512 ≤ sector_count r.image
+    → HasRoomToWrite s.geometry (size_of s t (row_name r)) at len r.image
 unfolding shape_in
-room_own s t m u r o h at len within some fits = by r.image refl
+room_own s t m u r o h at len some fits = by r.image refl
   where
-    by : (b : Body) → r.image ≡ b → HasRoomToWrite s.geometry (size_of s t (row_name r)) at len r.image × HasSlotsWithin s.geometry (written s.geometry.block at len r.image)
-    by (body.Raw volume size) is = subst (λ b. HasRoomToWrite s.geometry (size_of s t (row_name r)) at len b × HasSlotsWithin s.geometry (written s.geometry.block at len b)) (sym is) (tt, tt)
+    by : (b : Body) → r.image ≡ b → HasRoomToWrite s.geometry (size_of s t (row_name r)) at len r.image
+    by (body.Raw volume size) is = subst (HasRoomToWrite s.geometry (size_of s t (row_name r)) at len) (sym is) tt
     by (body.Vhd head slots) is =
-        subst (λ b. HasRoomToWrite s.geometry (size_of s t (row_name r)) at len b × HasSlotsWithin s.geometry (written s.geometry.block at len b)) (sym is)
+        subst (HasRoomToWrite s.geometry (size_of s t (row_name r)) at len) (sym is)
         (room_in s.geometry (size_of s t (row_name r)) at len r.extents head slots (geometry_of s t m o)
-        (subst (StandsIn s.geometry (size_of s t (row_name r))) is (row_stands s t m o r h.there)) (subst (HasSlotsWithin s.geometry) is within) some
+        (subst (StandsIn s.geometry (size_of s t (row_name r))) is (row_stands s t m o r h.there)) some
         (subst (λ b. at + len / 512 ≤ sector_count b) is fits) (row_sectors s t m o r h.there)
         (subst (λ b. thick_in (shape_in s t m) (sector_count b) ≤ r.extents) is (thick_own s t m u r o h (vhd_name s t m r head slots o h.there is))))

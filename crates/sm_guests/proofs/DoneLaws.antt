@@ -1,12 +1,11 @@
 -- A guest's write as a session tells it: what a store and memory are behind it.
-use Rattle.std.proofs.Common.{◌≡◌, ◌≢◌, ◌⊎◌, inr, ⊎_elim, ℕ, ◌+◌, ◌*◌, ◌/◌, ◌%◌, ◌==◌, ◌<◌, ◌≤◌, not, ◌&&◌, Bool, true, false, List, length, Option, Some, None, Ok, Err, refl, sym, ap, ap₂, ◌∙◌, subst, arith, eqb-true}
-use Rattle.std.proofs.Math.Logic.{∥∥₁_elim}
+use Rattle.std.proofs.Common.{◌≡◌, inr, ⊎_elim, ℕ, ◌+◌, ◌*◌, ◌/◌, ◌%◌, ◌^◌, ◌==◌, ◌<◌, ◌≤◌, not, ◌&&◌, Bool, true, false, List, length, Option, Some, None, Ok, Err, refl, sym, ap, ap₂, ◌∙◌, subst, subst₂, arith, eqb-true}
+use Rattle.std.proofs.Math.Logic.{∥∥₁_elim, ∥∥₁_map}
 use Rattle.std.proofs.Props.{props}
 use Rattle.std.proofs.lemmas.Bool.{true≢false}
 use Rattle.std.proofs.lemmas.Nat.{div-add-mod'}
-use Rattle.std.proofs.lemmas.Option.{none-some}
 use Rattle.std.specs.Option.{option_map}
-use Rattle.std.specs.Prelude.{Result, IfSome, OnOk}
+use Rattle.std.specs.Prelude.{Result, OnOk}
 use Rattle.common_laws.specs.Lists.{In}
 use Rattle.common_laws.proofs.Lists.{In-map_at}
 use Rattle.sm_base.specs.declared.faults.Failed.{Failed}
@@ -19,19 +18,20 @@ use Rattle.vg_volumes.specs.Stored.{stored, sectors_in, held_in, IsChoiceOf, Wor
 use Rattle.vg_volumes.specs.declared.stores.Store.{Ghosts}
 use Rattle.vhd_volumes.specs.Steps.{Does, Holds}
 use Rattle.vhd_volumes.specs.Writes.{KeepsHeads}
-use Rattle.vhd_image.specs.Bodies.{StandsIn, TrueIn, IfVhdDoes, sector_count, volume_name}
+use Rattle.vhd_chain.specs.Reading.{AllAreTrue}
+use Rattle.vhd_image.specs.Bodies.{ImageIsTrue, StandsIn, TrueIn, IfVhdDoes, sector_count, volume_name}
 use Rattle.vhd_image.specs.Steady.{IsSteady}
 use Rattle.vhd_image.specs.Written.{HasRoomToWrite, IsWriting, IsBodyWritten, MayHaveGrown, written}
 use Rattle.vhd_image.specs.declared.images.Body.{Body}
 use Rattle.vhd_image.proofs.SteadyStores.{steady_write}
 use Rattle.vhd_chain.specs.Trees.{row_name, tree_row, with_replaced}
 use Rattle.vhd_chain.specs.declared.rows.TreeRow.{TreeRow}
-use Rattle.sm_machine.specs.Commits.{own_commits, is_given_up, gives_up}
+use Rattle.sm_machine.specs.Commits.{commits, own_commits, is_given_up, gives_up}
 use Rattle.sm_machine.specs.Disks.{Disk, on_disk}
 use Rattle.sm_machine.specs.Refusals.{refusal, named, is_not_attached, is_read_only, is_out_of_range, is_outside}
 use Rattle.sm_machine.specs.Runs.{is_settling}
 use Rattle.sm_machine.specs.Shapes.{Shape, ImageRow, attached_as, find_image, image_uuid, is_image, is_rw, same_image}
-use Rattle.sm_machine.specs.Steps.{State, Outcome, accepted, disks_next as machine_disks, reply_to, shape_after, step_whole, write_shape, written_image}
+use Rattle.sm_machine.specs.Steps.{State, Outcome, accepted, disks_next as machine_disks, reply_to, shape_after, shape_next, step_whole, write_shape, written_image}
 use Rattle.sm_machine.specs.WellFormed.{IsWellFormed}
 use Rattle.sm_machine.specs.declared.commands.Command.TheVariants.{Write}
 use Rattle.sm_machine.specs.declared.replies.Reply.TheVariants.{Done}
@@ -48,17 +48,29 @@ use Rattle.sm_ready.specs.Ready.{HasNoStray, IsFirm, IsReady, is_written_as, is_
 use Rattle.sm_ready.specs.Sessions.{IsOrderlyStore, IsTidyStore, IsReadyStore, state_in, store_state}
 use Rattle.sm_ready.specs.Stores.{MayShow, StoreLeaves, content_in, content_now}
 use Rattle.sm_ready.specs.declared.memory.Memory.{Memory}
+use Rattle.sm_ready.specs.Does.{ShapesAs}
+use Rattle.sm_ready.specs.Frames.{HasTrueImages}
+use Rattle.sm_ready.specs.Refusing.{IsAllowed}
+use Rattle.sm_ready.specs.Taken.{StoreTakesWhole}
 use Rattle.sm_ready.proofs.LeftLaws.{IsLeft}
 use Rattle.sm_ready.proofs.Orders.{geometry_of}
-use Rattle.sm_guests.specs.Guests.{IsAllowed, AreSlotsWithin, HasSlotsWithin, own_name}
-use Rattle.sm_guests.specs.Taken.{StoreTakesWhole, answered}
-use Rattle.sm_guests.proofs.AskLaws.{room_own, row_sectors, whole_bytes, within_own}
-use Rattle.sm_guests.proofs.OwnLaws.{IsOwn, own_row}
+use Rattle.sm_ready.proofs.RestLaws.{true_keeps}
+use Rattle.sm_ready.proofs.TakenLaws.{whole_by}
+use Rattle.sm_guests.specs.Taken.{answered}
+use Rattle.sm_ready.proofs.PutBackLaws.{of_rows}
+use Rattle.sm_ready.proofs.TruthLaws.{row_sectors}
+use Rattle.sm_guests.proofs.AskLaws.{room_own, whole_bytes, within_own}
+use Rattle.sm_guests.proofs.OwnLaws.{IsOwn, own_name, own_row}
 use Rattle.sm_guests.proofs.ReadLaws.{or_none}
-use Rattle.sm_guests.proofs.ReplacedLaws.{IsLike, of_rows, orderly_replaced, ready_replaced, replaced, shape_replaced, stray_replaced, there_replaced}
-use Rattle.sm_guests.proofs.TakenLaws.{few_numbers, shape_unnumbered, whole_accepted}
+use Rattle.sm_guests.proofs.ReplacedLaws.{IsLike, orderly_replaced, others, ready_replaced, replaced, shape_replaced, stray_replaced, there_replaced}
+use Rattle.sm_guests.proofs.TakenLaws.{few_numbers, shape_unnumbered}
 use Rattle.sm_guests.proofs.DiskLaws.{over}
 use Rattle.sm_guests.proofs.WriteLaws.{bytes_next, disks_next, like_grown, row_written, with_image, written_stop}
+
+-- the shape behind a write, which makes no commit and gives nothing up
+pub write_next : (σ : Shape) (u : List ℕ) (at : ℕ) (bytes : List ℕ) → σ.sequence < 2 ^ 48 → shape_next σ (Write u at bytes) ≡ write_shape σ u at (length bytes / 512)
+unfolding shape_next shape_after commits own_commits is_given_up gives_up
+write_next σ u at bytes few = ap (λ (k : ℕ). let x : Shape = record (write_shape σ u at (length bytes / 512)) { sequence = k } in x) (omega (arith, few))
 
 -- what a write that is not refused asks of its sectors
 pub write_range : (s : Shape) (u : List ℕ) (at : ℕ) (bytes : List ℕ) → refusal s (Write u at bytes) ≡ None → (is_outside s u at (length bytes / 512) ≡ false) × (length bytes % 512 ≡ 0)
@@ -81,16 +93,16 @@ pub row_taken : (rs : List TreeRow) (u : List ℕ) (name : Name) (x : Option Tre
 row_taken rs u name x r its taken is = ap (tree_row rs) (sym its) ∙ sym taken ∙ is
 
 module _ (s : Site) (t : VolumeTable) (m : Known) (u : List ℕ) (r : TreeRow) (o : IsOrderly s t m) (h : IsOwn s t m u r) (at : ℕ) (bytes : List ℕ) (allowed : refusal (shape_in s t m) (Write u at bytes) ≡ None) where
-  some_fits : (0 < length bytes / 512) × (at + length bytes / 512 ≤ sector_count r.image)
+  pub some_fits : (0 < length bytes / 512) × (at + length bytes / 512 ≤ sector_count r.image)
   some_fits = within_own s t m u r o h.there h.shown h.uuid at (length bytes / 512) (write_range (shape_in s t m) u at bytes allowed).0
 
   pub write_whole : IsWhole at (length bytes) (sector_count r.image)
   write_whole = let f = some_fits in whole_bytes at (length bytes) (sector_count r.image) (write_range (shape_in s t m) u at bytes allowed).1 f.0 f.1
 
-  pub write_room : HasSlotsWithin s.geometry r.image → HasRoomToWrite s.geometry (size_of s t (row_name r)) at (length bytes) r.image × HasSlotsWithin s.geometry (written s.geometry.block at (length bytes) r.image)
-  write_room within = let f = some_fits in room_own s t m u r o h at (length bytes) within f.0 f.1
+  pub write_room : HasRoomToWrite s.geometry (size_of s t (row_name r)) at (length bytes) r.image
+  write_room = let f = some_fits in room_own s t m u r o h at (length bytes) f.0 f.1
 
-  even : length bytes ≡ 512 * (length bytes / 512)
+  pub even : length bytes ≡ 512 * (length bytes / 512)
   even = let e = div-add-mod' (length bytes) 512 in let z = (write_range (shape_in s t m) u at bytes allowed).1 in omega (arith, e, z)
 
   -- which images are written to is as it was
@@ -114,7 +126,7 @@ module _ (s : Site) (t : VolumeTable) (m : Known) (u : List ℕ) (r : TreeRow) (
 
 -- ---- of a store
 
-module _ {S : Type 0} (g : Ghosts S) (a b : S) (m n : Memory) (u : List ℕ) (at : ℕ) (bytes : List ℕ) (r : TreeRow) (new : Body) (orderly : IsOrderlyStore g a m) (allowed : IsAllowed g a m (Write u at bytes))
+module _ {S : Type 0} (g : Ghosts S) (a b : S) (m n : Memory) (u : List ℕ) (at : ℕ) (bytes : List ℕ) (r : TreeRow) (new : Body) (orderly : IsOrderlyStore g a m) (allowed : IsAllowed g (Write u at bytes) a m)
     (found : tree_row m.tree.rows (own_name m.tree.rows u) ≡ Some r) (works : WorksOn g (row_name r) a b) (grown : MayHaveGrown r.image new) (memory : known n ≡ replaced (with_image new r) (known m)) where
   abbrev s : Site
   s = g.site a
@@ -128,12 +140,29 @@ module _ {S : Type 0} (g : Ghosts S) (a b : S) (m n : Memory) (u : List ℕ) (at
   like : IsLike r (with_image new r)
   like = like_grown r new grown
 
-  of_row : (x : TreeRow) → In x n.tree.rows → (In x m.tree.rows × (row_name x ≢ row_name r)) ⊎ (x ≡ with_image new r)
-  of_row x i = of_rows s t (known m) u r (with_image new r) orderly own like x (subst (λ (k : Known). In x k.rows) memory i)
+  -- the images are true behind it, where the written one is
+  pub true_after : Holds g (row_name r) (λ x. TrueIn s.geometry (sectors_in (stored g a) (row_name r)) x new) b → HasTrueImages g a m → HasTrueImages g b n
+  true_after truth was told = ∥∥₁_map (was told) (λ each. subst (AllAreTrue (stored g b)) (sym (ap (λ (k : Known). k.rows) memory)) (λ x i. ⊎_elim
+      (λ old. subst₂ (λ y z. TrueIn y.geometry (size_of y z (row_name x)) (volume_of y z (g.area b) (row_name x)) x.image) (sym works.stays.site) (sym works.stays.table)
+      (true_keeps s.geometry (size_of s t (row_name x)) (volume_of s t (g.area a) (row_name x)) (volume_of s t (g.area b) (row_name x)) x.image
+      (others s t (known m) u r (with_image new r) orderly own like (g.area a) (g.area b) (works.elsewhere told) (row_name x) old.1) (each x old.0)))
+      (λ is. subst (λ (y : TreeRow). ImageIsTrue (stored g b) y.image) (sym is)
+      (subst (λ k. TrueIn (g.site b).geometry (sectors_in (stored g b) k) (held_in (stored g b) k) new) (sym like.name)
+      (subst₂ (λ y z. TrueIn y.geometry (size_of y z (row_name r)) (held_in (stored g b) (row_name r)) new) (sym works.stays.site) (sym works.stays.table) (truth told))))
+      (of_rows s t (known m) orderly r (with_image new r) own.there like.name x i)))
 
   module _ (is : new ≡ written s.geometry.block at (length bytes) r.image) where
     row : machine_row (with_image new r) ≡ written_image (shape_in s t (known m)) at (length bytes / 512) (machine_row r)
     row = row_written s t (known m) r new at (length bytes) orderly own.there (let e = (geometry_of s t (known m) orderly).block_least in omega (arith, e)) (some_fits s t (known m) u r orderly own at bytes allowed).0 is
+
+    shaped : shape_in s t (replaced (with_image new r) (known m)) ≡ write_shape (shape_in s t (known m)) u at (length bytes / 512)
+    shaped = shape_replaced s t (known m) u r (with_image new r) orderly own like at (length bytes / 512) row
+
+    -- the shape of what is in memory is the machine's
+    pub shape_now : ShapesAs g (Write u at bytes) a m b n
+    unfolding shape_in
+    shape_now = ap₂ (λ (x : Site) (y : VolumeTable). shape_in x y (known n)) works.stays.site works.stays.table ∙ ap (shape_in s t) memory ∙ shaped
+        ∙ sym (write_next (shape_in s t (known m)) u at bytes (few_numbers s t (known m) orderly))
 
     pub orderly_after : StandsIn s.geometry (size_of s t (row_name r)) new → IsOrderlyStore g b n
     orderly_after stands =
@@ -146,11 +175,6 @@ module _ {S : Type 0} (g : Ghosts S) (a b : S) (m n : Memory) (u : List ℕ) (at
       none_new = λ x i. tidy.none_new x (subst (λ (y : VolumeTable). In x y.volumes) works.stays.table i);
       no_stray = subst HasNoStray (sym memory) (stray_replaced s t (known m) u r (with_image new r) orderly own like at (length bytes / 512) row tidy.no_stray);
     }
-
-    pub slots_after : AreSlotsWithin g a m → AreSlotsWithin g b n
-    slots_after within x i = subst (λ (y : Site). HasSlotsWithin y.geometry x.image) (sym works.stays.site)
-        (⊎_elim (λ old. within x old.0) (λ is_new. subst (λ (y : TreeRow). HasSlotsWithin s.geometry y.image) (sym is_new) (subst (HasSlotsWithin s.geometry) (sym is)
-        (write_room s t (known m) u r orderly own at bytes allowed (within r own.there)).1)) (of_row x i))
 
   -- ---- told
 
@@ -165,7 +189,7 @@ module _ {S : Type 0} (g : Ghosts S) (a b : S) (m n : Memory) (u : List ℕ) (at
 
     machine_after : (step_whole (store_state g a m) (Write u at bytes)).after.disks ≡ on_disk u (over at (length bytes / 512) bytes) (disks (content_now s t (g.area a)))
     unfolding accepted machine_disks
-    machine_after = ap (λ (x : Outcome). x.after.disks) (whole_accepted (store_state g a m) (Write u at bytes) allowed)
+    machine_after = ap (λ (x : Outcome). x.after.disks) (whole_by (store_state g a m) (Write u at bytes) allowed)
 
     left_now : (v : VolumeTable) (image : ℕ → List ℕ) → StoreLeaves g b v image → (v ≡ t) × IsLeft s (g.area b) image
     left_now v image l = ⊎_elim (λ x. at_choice (later v image x)) (λ x. at_choice x.2) l
@@ -211,12 +235,9 @@ module _ {S : Type 0} (g : Ghosts S) (a b : S) (m n : Memory) (u : List ℕ) (at
           (subst (λ (y : VolumeTable). IsSteady s.geometry (size_of s y (volume_name new)) (volume_of s y (g.area b) (volume_name new)) new) works.stays.table
           (subst (λ (x : Site). IsSteady x.geometry (size_of x (table_alone (g.table b)) (volume_name new)) (volume_of x (table_alone (g.table b)) (g.area b) (volume_name new)) new) works.stays.site now)))
 
-      shaped : shape_in s t (replaced (with_image new r) (known m)) ≡ write_shape (shape_in s t (known m)) u at (length bytes / 512)
-      shaped = shape_replaced s t (known m) u r (with_image new r) orderly own like at (length bytes / 512) (row is)
-
       ready_now : IsReady s t (g.area b) (replaced (with_image new r) (known m))
-      ready_now = ready_replaced s t (known m) u r (with_image new r) orderly own like (g.area a) (g.area b) ready (works.elsewhere told) steady
-          (λ p. ap (λ (x : Shape). is_written_in x p) shaped ∙ written_same s t (known m) u r orderly own at bytes allowed (length bytes / 512) p) (written_own s t (known m) u r orderly own at bytes allowed)
+      ready_now = ready_replaced s t (known m) u r (with_image new r) orderly own like (g.area a) (g.area b) (works.elsewhere told) ready steady
+          (λ p. ap (λ (x : Shape). is_written_in x p) (shaped is) ∙ written_same s t (known m) u r orderly own at bytes allowed (length bytes / 512) p) (written_own s t (known m) u r orderly own at bytes allowed)
 
       shown : disks (content_now s t (g.area b)) ≡ on_disk u (over at (length bytes / 512) bytes) (disks (content_now s t (g.area a)))
       shown =
@@ -235,9 +256,9 @@ module _ {S : Type 0} (g : Ghosts S) (a b : S) (m n : Memory) (u : List ℕ) (at
       unfolding accepted reply_to is_settling
       write_done = record {
         reply = inr (
-          sym (ap (λ (x : Outcome). x.reply) (whole_accepted (store_state g a m) (Write u at bytes) allowed)),
+          sym (ap (λ (x : Outcome). x.reply) (whole_by (store_state g a m) (Write u at bytes) allowed)),
           ap₂ (λ (y : VolumeTable) (k : Known). state_in s y (g.area b) k) works.stays.table memory
-              ∙ ap₂ (λ (ds : List Disk) (x : Shape). let z : State = record { disks = ds; shape = x } in z) (shown ∙ sym machine_after) (shaped ∙ sym machine_shape),
+              ∙ ap₂ (λ (ds : List Disk) (x : Shape). let z : State = record { disks = ds; shape = x } in z) (shown ∙ sym machine_after) (shaped is ∙ sym machine_shape),
         );
         ready = subst (λ (y : VolumeTable). IsReady s y (g.area b) (known n)) (sym works.stays.table) (subst (IsReady s t (g.area b)) (sym memory) ready_now);
         settled = λ yes settles. absurd (true≢false (sym settles));
@@ -256,11 +277,3 @@ module _ {S : Type 0} (g : Ghosts S) (a b : S) (m n : Memory) (u : List ℕ) (at
 pub both_ok : {T E : Type 0} (P Q : Type 0) (result : Result T E) → OnOk result P → OnOk result Q → OnOk result (P × Q)
 both_ok P Q (Ok x) p q = (p, q)
 both_ok P Q (Err e) p q = tt
-
--- the room of a row that was taken out and put back
-pub spared : {x : Option TreeRow} {r : TreeRow} {was taken now : ℕ} → IfSome x (λ _. taken ≡ was + 1) → x ≡ Some r → now + 1 ≡ taken → now ≡ was
-spared {x} {r} {was} {taken} {now} some is back = by x is some
-  where
-    by : (y : Option TreeRow) → y ≡ Some r → IfSome y (λ _. taken ≡ was + 1) → now ≡ was
-    by None e h = absurd (none-some r e)
-    by (Some q) e h = omega (arith, h, back)

@@ -7,6 +7,14 @@ pub mod SectorLists
 pub mod NowLaws
 pub mod ReadLaws
 pub mod DiskLaws
-pub mod OrderLaws
 pub mod WriteLaws
 pub mod DoneLaws
+pub mod FillLaws
+pub mod FillSteps
+pub mod FillAllowed
+pub mod FillShapes
+pub mod FillStates
+pub mod FillBetween
+pub mod FillTaken
+pub mod FillBegun
+pub mod FillLoop

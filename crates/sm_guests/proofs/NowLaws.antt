@@ -55,7 +55,7 @@ use Rattle.sm_ready.proofs.RowLaws.{image_named, volume_there}
 use Rattle.sm_ready.proofs.ShapeLaws.{plainly_stands, records_now, visible_row}
 use Rattle.sm_ready.proofs.Steadies.{steady_valid, steady_size, steady_parent}
 use Rattle.sm_guests.proofs.OwnLaws.{own_name_is}
-use Rattle.sm_guests.proofs.AskLaws.{row_found, row_sectors}
+use Rattle.sm_ready.proofs.TruthLaws.{row_found, row_sectors}
 
 -- an image as a read gives it: with size and parent of what is in memory, and the sectors that it holds there
 pub record IsNow (c : Content) (n : Name) (g : Geometry) (sectors : ℕ) (b : Body) (v : Sectors) : Type 0 where

@@ -31,12 +31,12 @@ use Rattle.sm_ready.specs.Stores.{content_now}
 use Rattle.sm_ready.proofs.Orders.{In-tree_row}
 use Rattle.sm_ready.proofs.ShownLaws.{few_sectors}
 use Rattle.sm_ready.proofs.WrittenLaws.{read_of}
-use Rattle.sm_guests.specs.Guests.{own_name}
 use Rattle.sm_guests.proofs.AskLaws.{within_own}
 use Rattle.sm_guests.proofs.NowLaws.{chain_now, disk_found, disk_own, row_now}
-use Rattle.sm_guests.proofs.OwnLaws.{own_shown, own_there, own_uuid}
+use Rattle.sm_guests.proofs.OwnLaws.{own_name, own_shown, own_there, own_uuid}
 use Rattle.sm_guests.proofs.SectorLists.{bytes_read}
-use Rattle.sm_guests.proofs.TakenLaws.{whole_accepted, whole_still}
+use Rattle.sm_ready.proofs.TakenLaws.{whole_by}
+use Rattle.sm_guests.proofs.TakenLaws.{whole_still}
 
 pub or_none : (a b : Bool) → (a || b) ≡ false → (a ≡ false) × (b ≡ false)
 or_none true b e = absurd (true≢false e)
@@ -101,4 +101,4 @@ read_still σ u sector count allowed few = whole_still σ (Read u sector count) 
 
 pub read_reply : (σ : State) (u : List ℕ) (sector count : ℕ) → refusal σ.shape (Read u sector count) ≡ None → (step_whole σ (Read u sector count)).reply ≡ Bytes (read_from sector count (find (is_disk u) σ.disks))
 unfolding accepted reply_to
-read_reply σ u sector count allowed = ap (λ (o : Outcome). o.reply) (whole_accepted σ (Read u sector count) allowed)
+read_reply σ u sector count allowed = ap (λ (o : Outcome). o.reply) (whole_by σ (Read u sector count) allowed)

@@ -30,7 +30,7 @@ map_numbers f g a b (suc n) same =
     ap₂ (λ x xs. x ∷ xs) (ap f (let e : a ≡ a + 0 = omega arith in e) ∙ same 0 (omega arith) ∙ ap g (let e : b + 0 ≡ b = omega arith in e))
     (map_numbers f g (a + 1) (b + 1) n (λ k below. ap f (let e : a + 1 + k ≡ a + suc k = omega arith in e) ∙ same (suc k) (omega (arith, below)) ∙ ap g (let e : b + suc k ≡ b + 1 + k = omega arith in e)))
 
-split_numbers : (a n k : ℕ) → numbers a (n + k) ≡ numbers a n ++ numbers (a + n) k
+pub split_numbers : (a n k : ℕ) → numbers a (n + k) ≡ numbers a n ++ numbers (a + n) k
 split_numbers a n k = sym (take-append-drop n (numbers a (n + k))) ∙ ap₂ (λ xs ys. xs ++ ys) (take_numbers a n k) (drop_numbers a n k)
 
 map-append : (f : ℕ → List ℕ) (xs ys : List ℕ) → map f (xs ++ ys) ≡ map f xs ++ map f ys

@@ -76,10 +76,10 @@ few_block d m b low long h = by (slot_of m b) refl
         })
     by (Some k) is = subst (IsFew d m) (sym (with_block-held b m k is)) (record { long = refl; within = h; top = omega arith })
 
-pub few_blocks : (d b n : ℕ) (m : List (Option ℕ)) → b + n ≤ d → d ≤ length m → IsWithin d m → IsWithin d (with_blocks b n m) × (top_of (with_blocks b n m) ≤ max (top_of m) d)
+pub few_blocks : (d b n : ℕ) (m : List (Option ℕ)) → b + n ≤ d → d ≤ length m → IsWithin d m → top_of (with_blocks b n m) ≤ max (top_of m) d
 unfolding with_blocks
-few_blocks d b zero m low long h = (h, omega arith)
+few_blocks d b zero m low long h = omega arith
 few_blocks d b (suc n) m low long h =
     let f = few_block d m b (omega (arith, low)) long h in
     let rest = few_blocks d (suc b) n (with_block b m) (omega (arith, low)) (omega (arith, long, f.long)) f.within in
-    (rest.0, omega (arith, rest.1, f.top))
+    omega (arith, rest, f.top)

@@ -1,12 +1,11 @@
 -- A guest's command that changes neither disks nor shape, told as a session tells it.
-use Rattle.std.proofs.Common.{◌≡◌, ◌⊎◌, inl, inr, ⊎_elim, ℕ, ◌+◌, ◌*◌, ◌^◌, ◌<◌, Bool, true, false, List, Option, None, Ok, Err, sym, ap, ap₂, ◌∙◌, subst, arith}
+use Rattle.std.proofs.Common.{◌≡◌, ◌⊎◌, inl, inr, ⊎_elim, ℕ, ◌+◌, ◌*◌, ◌^◌, ◌<◌, Bool, true, false, List, None, Ok, Err, sym, ap, ap₂, ◌∙◌, subst, arith}
 use Rattle.std.specs.Prelude.{Result, IfOk, IsErr, OnOk}
 use Rattle.std.proofs.Math.Path.{fun_ext}
 use Rattle.std.proofs.Math.Logic.{∥∥₁_elim}
 use Rattle.std.proofs.Props.{props}
 use Rattle.std.proofs.lemmas.Bool.{true≢false}
 use Rattle.sm_base.specs.declared.faults.Failed.{Failed}
-use Rattle.sm_base.specs.declared.refusals.Refusal.{Refusal}
 use Rattle.sm_base.specs.declared.refusals.Refusal.TheVariants.{NoMemory}
 use Rattle.sm_base.specs.declared.names.Name.TheVariants.{Mgt}
 use Rattle.sm_disk.specs.Held.{Held, Allows, Keeps, IsSettled}
@@ -28,7 +27,7 @@ use Rattle.sm_machine.specs.Runs.{is_accepted, is_settling}
 use Rattle.sm_machine.specs.Commits.{commits, is_given_up, one_if, own_commits}
 use Rattle.sm_machine.specs.Refusals.{refusal}
 use Rattle.sm_machine.specs.Shapes.{Shape, risen}
-use Rattle.sm_machine.specs.Steps.{State, Outcome, step_whole, given_up, shape_after, shape_next, disks_next, accepted, unless_refused}
+use Rattle.sm_machine.specs.Steps.{State, Outcome, step_whole, given_up, shape_after, shape_next, disks_next, accepted}
 use Rattle.sm_run.specs.Between.{IsBetween}
 use Rattle.sm_standing.specs.Keeping.{IsKept}
 use Rattle.sm_standing.specs.Standing.{disks}
@@ -41,20 +40,18 @@ use Rattle.sm_ready.specs.Stores.{MayShow, StoreLeaves, content_in, store_conten
 use Rattle.sm_ready.specs.declared.memory.Memory.{Memory}
 use Rattle.sm_ready.proofs.CommitLaws.{IsSafe, ready_safe}
 use Rattle.sm_ready.proofs.RestLaws.{agrees_keeps, steady_keeps}
-use Rattle.sm_guests.specs.Taken.{StoreTakesWhole, answered}
+use Rattle.sm_ready.proofs.TakenLaws.{whole_by}
+use Rattle.sm_ready.specs.Taken.{StoreTakesWhole}
+use Rattle.sm_guests.specs.Taken.{answered}
 
 -- ---- the step of a command that is not refused
-
-pub whole_accepted : (σ : State) (c : Command) → refusal σ.shape c ≡ None → step_whole σ c ≡ accepted σ c
-unfolding step_whole
-whole_accepted σ c passes = ap (λ (o : Option Refusal). unless_refused o σ c) passes
 
 -- one that gives nothing up and makes no commit keeps the number
 pub shape_unnumbered : (σ : State) (c : Command) → refusal σ.shape c ≡ None → σ.shape.sequence < 2 ^ 48 → is_given_up σ.shape c ≡ false → own_commits σ.shape c ≡ 0
     → (step_whole σ c).after.shape ≡ record (shape_after σ.shape c) { sequence = σ.shape.sequence }
 unfolding accepted shape_next commits
 shape_unnumbered σ c passes few keeps none =
-    ap (λ (o : Outcome). o.after.shape) (whole_accepted σ c passes)
+    ap (λ (o : Outcome). o.after.shape) (whole_by σ c passes)
     ∙ ap₂ (λ (b : Bool) (n : ℕ). let x : Shape = record (given_up b (shape_after σ.shape c)) { sequence = risen σ.shape.sequence (one_if b + n) } in x) keeps none
     ∙ ap (λ (k : ℕ). let x : Shape = record (shape_after σ.shape c) { sequence = k } in x) (omega (arith, few))
 
@@ -122,7 +119,7 @@ pub whole_still : (σ : State) (c : Command) → refusal σ.shape c ≡ None →
 unfolding accepted
 whole_still σ c passes few keeps none same_disks same_shape =
     ap₂ (λ (ds : List Disk) (sh : Shape). let x : State = record { disks = ds; shape = sh } in x)
-    (ap (λ (o : Outcome). o.after.disks) (whole_accepted σ c passes) ∙ same_disks)
+    (ap (λ (o : Outcome). o.after.disks) (whole_by σ c passes) ∙ same_disks)
     (shape_unnumbered σ c passes few keeps none ∙ ap (λ (sh : Shape). let x : Shape = record sh { sequence = σ.shape.sequence } in x) same_shape)
 
 -- ---- what a call's one answer is
@@ -134,6 +131,10 @@ answered_if P r (Err e) f h = tt
 pub answered_all : {U : Type 0} (P : Reply → Type 0) (r : Reply) (result : Result U Failed) → P r → IfOk (answered r result) P
 answered_all P r (Ok x) h = h
 answered_all P r (Err e) h = tt
+
+pub answered_err : {U : Type 0} (r : Reply) (result : Result U Failed) → IsErr result → IsErr (answered r result)
+answered_err r (Ok x) failed = failed
+answered_err r (Err e) failed = failed
 
 -- a call that failed answered nothing
 pub err_if : {T E : Type 0} (P : T → Type 0) (result : Result T E) → IsErr result → IfOk result P

@@ -1,28 +1,32 @@
-//! A guest's commands on an attached disk: sectors are read and written, and all that was written is made last.
+//! A guest's commands on an attached disk: sectors are read, written and filled, and all that was written is made last.
 //!
 //! **What is kept here.** Nothing: each call works on a store and on what a session has in memory. Of memory only the row of
 //! the disk's own image changes: blocks of it may get slots.
 //!
-//! **What it promises.** Each call takes a command that the machine does not refuse, and answers as the machine says. A write
-//! touches no image but the disk's own, is never refused for space and never wants memory. At every stop, in the middle of a
-//! write and after one that failed, each of its sectors holds what it might have held before or what is written, each other
-//! sector what it might have held before, and the repository opens. What was written lasts once `flush` comes back well.
+//! **What it promises.** Each call takes a command that the machine does not refuse. Whatever a stop would have left before it,
+//! the images in memory stay true of their volumes. Of a store that is ready it answers as the machine says. A write touches no
+//! image but the disk's own, is never refused for space and never wants memory. At every stop, in the middle of a write and
+//! after one that failed, each of its sectors holds what it might have held before or what is written, each other sector what
+//! it might have held before, and the repository opens. What was written lasts once `flush` comes back well. A fill promises
+//! what the write of all its sectors promises.
 //!
 //! **In which units.** Disks are in sectors of 512 bytes, and so are the blocks of the pool's buffers.
 //!
 //! **What it costs.** A write over blocks that have slots is one write of the store for each run of sectors in a block, and no
 //! sync; a first write into blocks makes at most one sync for each sector of the table. A read is one read of the store for
 //! each run of sectors that one image holds, beside one of a bitmap for each VHD image that is asked. A flush is one sync.
-//! Memory is taken for the answer of a read alone, before the store is called; a write borrows one buffer of the pool.
+//! A fill costs a write for each block that it reaches. Memory is taken for the answer of a read alone, before the store is
+//! called; a write borrows one buffer of the pool, a fill two.
 //!
-//! The definitions are in `specs/`: `Guests` (what is asked, and what stays in memory), `Taken` (what taking a command did).
+//! The definitions are in `specs/`: `Taken` (what a call answers).
 #![tactic(auto)]
 
-mod disks;
+mod filling;
 mod flushing;
 mod reading;
 mod writing;
 
+pub use filling::fill;
 pub use flushing::flush;
 pub use reading::read;
 pub use writing::write;

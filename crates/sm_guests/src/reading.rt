@@ -1,16 +1,18 @@
 //! Sectors of a disk are read.
 
-ghost use Rattle.std.specs.Prelude.{◌≡◌, false};
+ghost use Rattle.std.specs.Prelude.{◌≡◌, ℕ, List, false, IfOk};
+ghost use Rattle.vg_meta.specs.Tables.{VolumeTable};
 ghost use Rattle.vg_volumes.specs.Stored.{Counts, OnlyReads};
 ghost use Rattle.sm_machine.specs.declared.commands.Command.TheVariants.{Read};
+ghost use Rattle.sm_machine.specs.Runs.{is_accepted};
+ghost use Rattle.sm_ready.specs.Frames.{HasTrueImages};
+ghost use Rattle.sm_ready.specs.Refusing.{IsAllowed};
 ghost use Rattle.sm_ready.specs.Sessions.{IsOrderlyStore, IsReadyStore};
-ghost use Rattle.sm_guests.specs.Guests.{IsAllowed};
-ghost use Rattle.sm_guests.specs.Taken.{StoreTakesWhole};
+ghost use Rattle.sm_ready.specs.Taken.{StoreTakesWhole};
 
-use crate::disks::own_volume;
 use sm_base::{Failed, Refusal};
 use sm_machine::{Bytes, Reply};
-use sm_ready::Memory;
+use sm_ready::{Memory, image_name};
 use std::alloc::Global;
 use uuid::Uuid;
 use vg_volumes::Store;
@@ -22,6 +24,7 @@ const SECTOR: usize = 512;
 ///
 /// # Errors
 /// A call of the store failed.
+#[tactic(auto, unfolding(sm_machine::specs::Runs::is_accepted))]
 pub fn read<S: Store>(
     alloc: Global,
     store: &mut S,
@@ -32,17 +35,19 @@ pub fn read<S: Store>(
 ) -> Result<Reply, Failed>
     requires usable { S.failed store.old ≡ false }
     requires orderly { IsOrderlyStore S.Store store.old memory.now }
-    requires allowed { IsAllowed S.Store store.old memory.now (Read disk.now sector count) }
-    requires ready { S.told → ∥ IsReadyStore S.Store store.old memory.now ∥₁ }
+    requires true_now { HasTrueImages S.Store store.old memory.now }
+    requires allowed { IsAllowed S.Store (Read disk.now sector count) store.old memory.now }
     ensures reads_only { OnlyReads S.Store store.old store.new }
     ensures cause { Counts S.Store result store.old store.new }
+    ensures true_still { HasTrueImages S.Store store.new memory.now }
+    ensures refused { IfOk result (λ r. is_accepted r ≡ false → (t : VolumeTable) (image : ℕ → List ℕ) → S.leaves store.new t image → S.leaves store.old t image) }
     ensures taken { S.told → IsReadyStore S.Store store.old memory.now
         → StoreTakesWhole S.Store (Read disk.now sector count) store.old memory.now store.new memory.now result }
 {
     let Ok(mut bytes) = vec![in alloc; 0; SECTOR * count as usize] else {
         return Ok(Reply::No(Refusal::NoMemory));
     };
-    let volume = own_volume(&memory.tree, disk);
+    let volume = image_name(&memory.tree, disk);
     memory.tree.read(store, &volume, sector, &mut bytes)?;
     Ok(Reply::Bytes(Bytes { bytes }))
 }

@@ -4,14 +4,16 @@ ghost use Rattle.std.specs.Prelude.{◌≡◌, ◌<◌, ◌≤◌, ◌+◌, ◌*
 ghost use Rattle.vg_volumes.specs.Stored.{Counts, Stays};
 ghost use Rattle.sm_machine.specs.declared.commands.Command.TheVariants.{Write};
 ghost use Rattle.sm_machine.specs.declared.replies.Reply.TheVariants.{Done};
+ghost use Rattle.sm_ready.specs.Does.{ShapesAs};
+ghost use Rattle.sm_ready.specs.Frames.{HasTrueImages, IsBesideTree};
+ghost use Rattle.sm_ready.specs.Refusing.{IsAllowed};
 ghost use Rattle.sm_ready.specs.Sessions.{IsOrderlyStore, IsTidyStore, IsReadyStore};
-ghost use Rattle.sm_guests.specs.Guests.{IsAllowed, AreSlotsWithin, IsBesideTree};
-ghost use Rattle.sm_guests.specs.Taken.{StoreTakesWhole, answered};
+ghost use Rattle.sm_ready.specs.Taken.{StoreTakesWhole};
+ghost use Rattle.sm_guests.specs.Taken.{answered};
 
-use crate::disks::own_volume;
 use sm_base::Failed;
 use sm_pool::Pool;
-use sm_ready::Memory;
+use sm_ready::{Memory, image_name};
 use uuid::Uuid;
 use vg_volumes::Store;
 
@@ -31,22 +33,21 @@ pub fn write<S: Store>(
     requires usable { S.failed store.old ≡ false }
     requires orderly { IsOrderlyStore S.Store store.old memory.old }
     requires tidy { IsTidyStore S.Store store.old memory.old }
-    // So each block that gets a slot has room.
-    requires slots { AreSlotsWithin S.Store store.old memory.old }
-    requires allowed { IsAllowed S.Store store.old memory.old (Write disk.now sector bytes.now) }
-    requires ready { S.told → ∥ IsReadyStore S.Store store.old memory.old ∥₁ }
+    requires true_now { HasTrueImages S.Store store.old memory.old }
+    requires allowed { IsAllowed S.Store (Write disk.now sector bytes.now) store.old memory.old }
     requires buffer { (0 < pool.old.free) × (512 * (1 + (S.site store.old).geometry.block) ≤ pool.old.bytes) }
     ensures stays { Stays S.Store store.old store.new }
     ensures cause { Counts S.Store result store.old store.new }
     ensures pool { pool.new ≡ pool.old }
     ensures beside_tree { IsBesideTree memory.old memory.new }
     ensures orderly_still { OnOk result (IsOrderlyStore S.Store store.new memory.new) }
+    ensures shape { OnOk result (ShapesAs S.Store (Write disk.now sector bytes.now) store.old memory.old store.new memory.new) }
     ensures tidy_still { OnOk result (IsTidyStore S.Store store.new memory.new) }
-    ensures slots_still { OnOk result (AreSlotsWithin S.Store store.new memory.new) }
+    ensures true_still { OnOk result (HasTrueImages S.Store store.new memory.new) }
     ensures taken { S.told → IsReadyStore S.Store store.old memory.old
         → StoreTakesWhole S.Store (Write disk.now sector bytes.now) store.old memory.old store.new memory.new (answered Done result) }
 {
-    let volume = own_volume(&memory.tree, disk);
+    let volume = image_name(&memory.tree, disk);
     let Some(mut row) = memory.tree.take(&volume) else {
         unreachable!()
     };

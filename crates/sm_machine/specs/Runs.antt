@@ -5,7 +5,7 @@ use Rattle.std.specs.Prelude.{◌≡◌, ℕ, Bool, true, false, List, [], ◌�
 use Rattle.std.specs.List.{slice_get}
 use Rattle.sm_base.specs.declared.refusals.Refusal.TheVariants.{NoMemory}
 use Rattle.sm_machine.specs.declared.commands.Command.{Command}
-use Rattle.sm_machine.specs.declared.commands.Command.TheVariants.{Create, Delete, Attach, Detach, Snapshot, Clone, Resize, Label, Flush}
+use Rattle.sm_machine.specs.declared.commands.Command.TheVariants.{Create, Delete, Attach, Detach, Snapshot, Clone, Resize, Label, Write, Fill, Flush}
 use Rattle.sm_machine.specs.declared.replies.Reply.{Reply}
 use Rattle.sm_machine.specs.declared.replies.Reply.TheVariants as reply
 use Rattle.sm_machine.specs.Lines.{spelled}
@@ -32,6 +32,17 @@ after_run σ (t ∷ turns) = after_run ((taken σ t).after) turns
 unfoldable pub replies : State → List Turn → List ℕ
 replies σ [] = []
 replies σ (t ∷ turns) = printed ((taken σ t).reply) ++ replies ((taken σ t).after) turns
+
+-- whether a step of the command may want memory
+unfoldable pub takes_memory : Command → Bool
+takes_memory (Delete u) = false
+takes_memory (Detach u) = false
+takes_memory (Resize u size) = false
+takes_memory (Label u text) = false
+takes_memory (Write u sector bytes) = false
+takes_memory (Fill u sector count byte) = false
+takes_memory (Flush u) = false
+takes_memory _ = true
 
 -- the turns of a script of which each line finds memory
 abbrev pub ample : List (List ℕ) → List Turn

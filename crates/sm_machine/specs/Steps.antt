@@ -237,7 +237,14 @@ step_whole σ c = unless_refused (refusal σ.shape c) σ c
 unfoldable pub is_built : Command → Bool
 is_built (Create u size raw label) = true
 is_built (Delete u) = true
+is_built (Attach u mode) = true
+is_built (Detach u) = true
+is_built (Resize u size) = true
 is_built (Label u text) = true
+is_built (Write u sector bytes) = true
+is_built (Fill u sector count byte) = true
+is_built (Read u sector count) = true
+is_built (Flush u) = true
 is_built Listing = true
 is_built _ = false
 

@@ -1,5 +1,5 @@
 -- What a new raw disk asks of table and memory, and what it makes of them (this project's format).
-use Rattle.std.specs.Prelude.{◌≡◌, ℕ, ◌+◌, ◌≤◌, true, false, List, length, None}
+use Rattle.std.specs.Prelude.{◌≡◌, ℕ, true, false, List, length, None}
 use Rattle.sm_base.specs.declared.names.Name.TheVariants.{Raw}
 use Rattle.vg_meta.specs.Tables.{VolumeTable}
 use Rattle.vg_meta.specs.Changes.{AreFree, applied}
@@ -27,10 +27,6 @@ table_begun t u extents = applied t (Create (Raw u) true extents)
 
 abbrev pub table_made : VolumeTable → List ℕ → List ℕ → VolumeTable
 table_made t u extents = applied (table_begun t u extents) (Mark (Raw u) Fresh false)
-
--- at most two commits were made
-abbrev pub HasFewCommits : VolumeTable → VolumeTable → Type 0
-HasFewCommits old new = new.sequence ≤ old.sequence + 2
 
 -- the record of a new disk
 abbrev pub entry_of : List ℕ → List ℕ → Record

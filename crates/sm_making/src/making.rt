@@ -28,11 +28,12 @@ ghost use Rattle.sm_record.specs.Records.{IsRecord};
 ghost use Rattle.sm_mgt.specs.Places.{HasAllPlaces, place_for};
 ghost use Rattle.sm_standing.specs.Standing.{disks};
 ghost use Rattle.sm_ready.specs.Done.{HasDone};
+ghost use Rattle.sm_ready.specs.Frames.{HasCommits, HasTrueImages};
 ghost use Rattle.sm_ready.specs.Known.{known, shape_in};
 ghost use Rattle.sm_ready.specs.Middle.{IsMiddle};
 ghost use Rattle.sm_ready.specs.Sessions.{IsOrderlyStore, IsTidyStore, IsReadyStore, HasRows, HasTreeRoom, StaysInUse};
 ghost use Rattle.sm_ready.specs.Stores.{StoreLeaves, store_content};
-ghost use Rattle.sm_making.specs.Making.{IsForDisk, HasFewCommits, table_made, new_disk, entry_of};
+ghost use Rattle.sm_making.specs.Making.{IsForDisk, table_made, new_disk, entry_of};
 ghost use Rattle.sm_making.specs.Stages.{Anything, HasZeros, IsNewVolume, IsFilled, raw_row};
 ghost use Rattle.vhd_chain.specs.Trees.{tree_row, with_row};
 
@@ -211,6 +212,7 @@ fn make_disk<S: Store>(
     requires disk { IsForDisk (S.site store.old) (table_alone (S.table store.old)) (known memory.old) entry.uuid entry.label extents.items }
     requires row { 0 < (S.table store.old).spare }
     requires tree_room { HasTreeRoom memory.old }
+    requires true_now { HasTrueImages S.Store store.old memory.old }
     requires place { IsSome (place_for memory.old.records entry.uuid) }
     requires bytes { bytes.now ≡ replicate (512 * (S.site store.old).geometry.extent) 0 }
     requires proper { IsRecord entry }
@@ -220,14 +222,15 @@ fn make_disk<S: Store>(
     ensures cause { Counts S.Store result store.old store.new }
     ensures beside { S.told → Keeps (S.beside store.old) (S.beside store.new) }
     ensures in_use { StaysInUse memory.old memory.new }
-    ensures few { HasFewCommits (table_alone (S.table store.old)) (table_alone (S.table store.new)) }
-    ensures few_left { Leaves S.Store store.new (λ t image. HasFewCommits (table_alone (S.table store.old)) t) }
+    ensures few { HasCommits 2 (table_alone (S.table store.old)) (table_alone (S.table store.new)) }
+    ensures few_left { Leaves S.Store store.new (λ t image. HasCommits 2 (table_alone (S.table store.old)) t) }
     ensures usable_still { OnOk result (S.failed store.new ≡ false) }
     ensures table { OnOk result (table_alone (S.table store.new) ≡ table_made (table_alone (S.table store.old)) entry.uuid extents.items) }
     ensures room { HasRows (S.table store.old) → OnOk result (HasRows (S.table store.new)) }
     ensures orderly { OnOk result (IsOrderlyStore S.Store store.new memory.new) }
     ensures tidy { OnOk result (IsTidyStore S.Store store.new memory.new) }
     ensures tree_room { OnOk result (HasTreeRoom memory.new) }
+    ensures true_still { OnOk result (HasTrueImages S.Store store.new memory.new) }
     ensures shape { OnOk result ((σ : State) (d : IsForDisk (S.site store.old) (table_alone (S.table store.old)) (known memory.old) entry.uuid entry.label extents.items)
         → σ.shape ≡ shape_in (S.site store.old) (table_alone (S.table store.old)) (known memory.old)
         → shape_in (S.site store.old) (table_alone (S.table store.new)) (known memory.new) ≡ (step_whole σ (command.Create entry.uuid d.size true entry.label)).after.shape) }
@@ -266,13 +269,14 @@ pub(crate) fn make_raw<S: Store>(
     requires tidy { IsTidyStore S.Store store.old memory.old }
     requires disk { IsForDisk (S.site store.old) (table_alone (S.table store.old)) (known memory.old) disk label extents.items }
     requires tree_room { HasTreeRoom memory.old }
+    requires true_now { HasTrueImages S.Store store.old memory.old }
     ensures site { S.site store.new ≡ S.site store.old }
     ensures counts { S.faults store.old ≤ S.faults store.new }
     ensures cause { result ≡ Err fault.Device → Rose (S.faults store.old) (S.faults store.new) }
     ensures beside { S.told → Keeps (S.beside store.old) (S.beside store.new) }
     ensures in_use { StaysInUse memory.old memory.new }
-    ensures few { HasFewCommits (table_alone (S.table store.old)) (table_alone (S.table store.new)) }
-    ensures few_left { Leaves S.Store store.new (λ t image. HasFewCommits (table_alone (S.table store.old)) t) }
+    ensures few { HasCommits 2 (table_alone (S.table store.old)) (table_alone (S.table store.new)) }
+    ensures few_left { Leaves S.Store store.new (λ t image. HasCommits 2 (table_alone (S.table store.old)) t) }
     ensures usable_still { OnOk result (S.failed store.new ≡ false) }
     ensures poor { result ≡ Err fault.NoMemory
         → OnlyReads S.Store store.old store.new × ((t : VolumeTable) (image : ℕ → List ℕ) → S.leaves store.new t image → S.leaves store.old t image)
@@ -282,6 +286,7 @@ pub(crate) fn make_raw<S: Store>(
     ensures orderly { OnOk result (IsOrderlyStore S.Store store.new memory.new) }
     ensures tidy { OnOk result (IsTidyStore S.Store store.new memory.new) }
     ensures tree_room { OnOk result (HasTreeRoom memory.new) }
+    ensures true_still { OnOk result (HasTrueImages S.Store store.new memory.new) }
     ensures shape { OnOk result ((σ : State) (d : IsForDisk (S.site store.old) (table_alone (S.table store.old)) (known memory.old) disk label extents.items)
         → σ.shape ≡ shape_in (S.site store.old) (table_alone (S.table store.old)) (known memory.old)
         → shape_in (S.site store.old) (table_alone (S.table store.new)) (known memory.new) ≡ (step_whole σ (command.Create disk d.size true label)).after.shape) }

@@ -10,10 +10,10 @@ ghost use Rattle.vhd_chain.specs.Trees.{with_row};
 ghost use Rattle.vhd_volumes.specs.Steps.{Gives};
 ghost use Rattle.sm_machine.specs.declared.commands.Command.TheVariants.{Create};
 ghost use Rattle.sm_machine.specs.Runs.{is_accepted};
+ghost use Rattle.sm_ready.specs.Frames.{HasCommits, HasTrueImages};
 ghost use Rattle.sm_ready.specs.Refusing.{IsAllowed};
 ghost use Rattle.sm_ready.specs.Sessions.{IsOrderlyStore, IsTidyStore, IsReadyStore, HasRows, HasTreeRoom, StaysInUse};
 ghost use Rattle.sm_ready.specs.Taken.{StoreTakesWhole};
-ghost use Rattle.sm_making.specs.Making.{HasFewCommits};
 ghost use Rattle.sm_making.specs.Vhds.{IsVhdOnLeast, HasHead, made_head, made_row, vhd_sectors};
 
 use crate::vhd_making::make_vhd;
@@ -44,18 +44,20 @@ pub fn create_vhd<S: Store>(
     requires orderly { IsOrderlyStore S.Store store.old memory.old }
     requires tidy { IsTidyStore S.Store store.old memory.old }
     requires tree_room { HasTreeRoom memory.old }
+    requires true_now { HasTrueImages S.Store store.old memory.old }
     requires allowed { IsAllowed S.Store (Create disk.now size false label.now) store.old memory.old }
     ensures site { S.site store.new ≡ S.site store.old }
     ensures counts { S.faults store.old ≤ S.faults store.new }
     ensures cause { Counts S.Store result store.old store.new }
     ensures beside { S.told → Keeps (S.beside store.old) (S.beside store.new) }
     ensures in_use { StaysInUse memory.old memory.new }
-    ensures few { HasFewCommits (table_alone (S.table store.old)) (table_alone (S.table store.new)) }
-    ensures few_left { Leaves S.Store store.new (λ t image. HasFewCommits (table_alone (S.table store.old)) t) }
+    ensures few { HasCommits 2 (table_alone (S.table store.old)) (table_alone (S.table store.new)) }
+    ensures few_left { Leaves S.Store store.new (λ t image. HasCommits 2 (table_alone (S.table store.old)) t) }
     ensures usable_still { OnOk result (S.failed store.new ≡ false) }
     ensures orderly_still { OnOk result (IsOrderlyStore S.Store store.new memory.new) }
     ensures tidy_still { OnOk result (IsTidyStore S.Store store.new memory.new) }
     ensures tree_room_still { OnOk result (HasTreeRoom memory.new) }
+    ensures true_still { OnOk result (HasTrueImages S.Store store.new memory.new) }
     ensures room { HasRows (S.table store.old) → OnOk result (HasRows (S.table store.new)) }
     ensures refused { IfOk result (λ r. is_accepted r ≡ false → (t : VolumeTable) (image : ℕ → List ℕ) → S.leaves store.new t image → S.leaves store.old t image) }
     ensures untouched { IfOk result (λ r. is_accepted r ≡ false → OnlyReads S.Store store.old store.new × (memory.new ≡ memory.old)) }

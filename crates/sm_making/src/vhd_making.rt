@@ -28,11 +28,12 @@ ghost use Rattle.sm_record.specs.Records.{IsRecord};
 ghost use Rattle.sm_mgt.specs.Places.{place_for};
 ghost use Rattle.sm_standing.specs.Standing.{disks};
 ghost use Rattle.sm_ready.specs.Done.{HasDone};
+ghost use Rattle.sm_ready.specs.Frames.{HasCommits, HasTrueImages};
 ghost use Rattle.sm_ready.specs.Known.{known, shape_in};
 ghost use Rattle.sm_ready.specs.Middle.{IsMiddle};
 ghost use Rattle.sm_ready.specs.Sessions.{IsOrderlyStore, IsTidyStore, IsReadyStore, HasRows, HasTreeRoom, StaysInUse};
 ghost use Rattle.sm_ready.specs.Stores.{StoreLeaves, store_content};
-ghost use Rattle.sm_making.specs.Making.{HasFewCommits, new_disk};
+ghost use Rattle.sm_making.specs.Making.{new_disk};
 ghost use Rattle.sm_making.specs.Stages.{IsNewVolume};
 ghost use Rattle.sm_making.specs.Vhds.{CanMakeVhd, IsForVhd, IsImaged, HasHead, begun_head, made_head, made_row, table_with, vhd_extents};
 
@@ -117,19 +118,21 @@ fn make_vhd_disk<S: Store>(
 ) -> Result<(), Failed>
     requires can { CanMakeVhd S.Store store.old memory.old entry extents.items sectors }
     requires blank { map ≡ replicate (S.site store.old).geometry.entries None }
+    requires true_now { HasTrueImages S.Store store.old memory.old }
     ensures site { S.site store.new ≡ S.site store.old }
     ensures counts { S.faults store.old ≤ S.faults store.new }
     ensures cause { Counts S.Store result store.old store.new }
     ensures beside { S.told → Keeps (S.beside store.old) (S.beside store.new) }
     ensures in_use { StaysInUse memory.old memory.new }
-    ensures few { HasFewCommits (table_alone (S.table store.old)) (table_alone (S.table store.new)) }
-    ensures few_left { Leaves S.Store store.new (λ t image. HasFewCommits (table_alone (S.table store.old)) t) }
+    ensures few { HasCommits 2 (table_alone (S.table store.old)) (table_alone (S.table store.new)) }
+    ensures few_left { Leaves S.Store store.new (λ t image. HasCommits 2 (table_alone (S.table store.old)) t) }
     ensures usable_still { OnOk result (S.failed store.new ≡ false) }
     ensures table { OnOk result (table_alone (S.table store.new) ≡ table_with (table_alone (S.table store.old)) (name.Vhd entry.uuid) extents.items) }
     ensures room { HasRows (S.table store.old) → OnOk result (HasRows (S.table store.new)) }
     ensures orderly { OnOk result (IsOrderlyStore S.Store store.new memory.new) }
     ensures tidy { OnOk result (IsTidyStore S.Store store.new memory.new) }
     ensures tree_room { OnOk result (HasTreeRoom memory.new) }
+    ensures true_still { OnOk result (HasTrueImages S.Store store.new memory.new) }
     ensures image { OnOk result (memory.new.tree.rows ≡ with_row (made_row (S.site store.old) (table_alone (S.table store.old)) entry.uuid now sectors) memory.old.tree.rows) }
     ensures head { OnOk result (Gives S.Store (name.Vhd entry.uuid) (HasHead (sectors_in (stored S.Store store.new) (name.Vhd entry.uuid))
         (made_head (S.site store.old) (table_alone (S.table store.old)) entry.uuid now sectors)) store.new) }
@@ -176,13 +179,14 @@ pub(crate) fn make_vhd<S: Store>(
     requires tidy { IsTidyStore S.Store store.old memory.old }
     requires disk { IsForVhd (S.site store.old) (table_alone (S.table store.old)) (known memory.old) disk label extents.items sectors }
     requires tree_room { HasTreeRoom memory.old }
+    requires true_now { HasTrueImages S.Store store.old memory.old }
     ensures site { S.site store.new ≡ S.site store.old }
     ensures counts { S.faults store.old ≤ S.faults store.new }
     ensures cause { result ≡ Err fault.Device → Rose (S.faults store.old) (S.faults store.new) }
     ensures beside { S.told → Keeps (S.beside store.old) (S.beside store.new) }
     ensures in_use { StaysInUse memory.old memory.new }
-    ensures few { HasFewCommits (table_alone (S.table store.old)) (table_alone (S.table store.new)) }
-    ensures few_left { Leaves S.Store store.new (λ t image. HasFewCommits (table_alone (S.table store.old)) t) }
+    ensures few { HasCommits 2 (table_alone (S.table store.old)) (table_alone (S.table store.new)) }
+    ensures few_left { Leaves S.Store store.new (λ t image. HasCommits 2 (table_alone (S.table store.old)) t) }
     ensures usable_still { OnOk result (S.failed store.new ≡ false) }
     ensures poor { result ≡ Err fault.NoMemory
         → OnlyReads S.Store store.old store.new × ((t : VolumeTable) (image : ℕ → List ℕ) → S.leaves store.new t image → S.leaves store.old t image)
@@ -192,6 +196,7 @@ pub(crate) fn make_vhd<S: Store>(
     ensures orderly { OnOk result (IsOrderlyStore S.Store store.new memory.new) }
     ensures tidy { OnOk result (IsTidyStore S.Store store.new memory.new) }
     ensures tree_room { OnOk result (HasTreeRoom memory.new) }
+    ensures true_still { OnOk result (HasTrueImages S.Store store.new memory.new) }
     ensures image { OnOk result (memory.new.tree.rows ≡ with_row (made_row (S.site store.old) (table_alone (S.table store.old)) disk now sectors) memory.old.tree.rows) }
     ensures head { OnOk result (Gives S.Store (name.Vhd disk) (HasHead (sectors_in (stored S.Store store.new) (name.Vhd disk))
         (made_head (S.site store.old) (table_alone (S.table store.old)) disk now sectors)) store.new) }

@@ -8,33 +8,16 @@ use Rattle.vg_meta.specs.Tables.{VolumeTable}
 use Rattle.sm_machine.specs.Disks.{Disk}
 use Rattle.common_laws.specs.Lists.{◌>>=◌, numbers}
 use Rattle.sm_machine.specs.Runs.{Face, face}
-use Rattle.sm_machine.specs.Shapes.{chain_limit}
 use Rattle.sm_record.specs.declared.records.Record.{Record}
 use Rattle.sm_standing.specs.Contents.{Content, record_of}
-use Rattle.sm_standing.specs.Images.{Image, image_of, answer_of, walk, image_reads, sectors_read}
+use Rattle.sm_standing.specs.Images.{Image, image_of, image_reads, sectors_read}
 use Rattle.sm_standing.specs.Standing.{standing_volume, disk_at, disk_in, disks, uuids}
-use Rattle.sm_standing.proofs.DiskLists.{disks_same}
+use Rattle.sm_standing.proofs.ImageLaws.{disks_as}
 use Rattle.sm_standing.specs.Outlines.{Outline, Link, outline, link_of}
 
-reads_same : (c d : Content) → ((n : Name) → image_of d n ≡ image_of c n) → (n : Name) (k : ℕ) → image_reads d n k ≡ image_reads c n k
-unfolding image_reads
-reads_same c d same n k = ap (λ (f : Name → Option Image). walk chain_limit (λ x. answer_of k (f x)) n) (fun_ext same)
-
--- where the images are the same, so is what is read
-pub sectors_same : (c d : Content) → ((n : Name) → image_of d n ≡ image_of c n) → (n : Name) → sectors_read d n ≡ sectors_read c n
-unfolding sectors_read
-sectors_same c d same n =
-    ap₂ (λ (o : Option Image) (f : ℕ → List ℕ). elim o as (λ o. List (List ℕ)) [ None ↦ [] | Some i ↦ map f (numbers 0 i.size) ]) (same n) (fun_ext (λ k. reads_same c d same n k))
-
--- and the disks
+-- where table, images and records are the same, so are the disks
 pub disks_alike : (c d : Content) → d.table ≡ c.table → ((n : Name) → image_of d n ≡ image_of c n) → ((u : List ℕ) → record_of d u ≡ record_of c u) → disks d ≡ disks c
-unfolding disk_at
-disks_alike c d table same recorded = disks_same c d (λ u. at u)
-  where
-    at : (u : List ℕ) → disk_at d u ≡ disk_at c u
-    at u = ap (λ (t : VolumeTable). standing_volume t u >>= (λ n. record_of d u >>= (λ r. Some (disk_in d u r n)))) table
-        ∙ ap (λ (o : Option Record). standing_volume c.table u >>= (λ n. o >>= (λ r. Some (disk_in d u r n)))) (recorded u)
-        ∙ ap (λ (f : Name → List (List ℕ)). standing_volume c.table u >>= (λ n. record_of c u >>= (λ r. Some (record { uuid = u; label = r.label; origin = r.origin; read_only = r.read_only; sectors = f n })))) (fun_ext (sectors_same c d same))
+disks_alike c d table same recorded = disks_as c d (λ u. ap (λ (t : VolumeTable). standing_volume t u) table) same recorded
 
 -- ---- faces
 

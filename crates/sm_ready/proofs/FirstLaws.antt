@@ -25,7 +25,7 @@ use Rattle.sm_standing.specs.Contents.{Content, sectors_of, record_of}
 use Rattle.sm_standing.specs.Images.{image_of}
 use Rattle.sm_standing.specs.Standing.{standing_volume, disk_at, disk_in, disks}
 use Rattle.sm_standing.proofs.DiskLists.{disks_same}
-use Rattle.sm_standing.proofs.ImageLaws.{new_image}
+use Rattle.sm_standing.proofs.ImageLaws.{new_image, sectors_same}
 use Rattle.sm_standing.proofs.RecordLists.{records_same, record_of_first, first_of}
 use Rattle.sm_ready.specs.Done.{HasDone, IsCommit, at_rest}
 use Rattle.sm_ready.specs.Known.{Known, shape_in}
@@ -34,7 +34,6 @@ use Rattle.vhd_chain.specs.Trees.{row_name, tree_row}
 use Rattle.sm_ready.specs.Orderly.{IsOrderly}
 use Rattle.sm_ready.specs.Ready.{IsReady}
 use Rattle.sm_ready.specs.Stores.{Leaving, content_now}
-use Rattle.sm_ready.proofs.AlikeLaws.{sectors_same}
 use Rattle.sm_ready.proofs.CommitLaws.{law_single_commit, volume_rested}
 use Rattle.sm_ready.proofs.FreshLaws.{orderly_new, visible_new}
 use Rattle.sm_standing.proofs.ImageSectors.{vhd_same, raw_same}

@@ -1,13 +1,10 @@
 -- A new volume beside the images goes, by a commit of its own: memory stays orderly, and no disk changes.
-use Rattle.std.proofs.Common.{◌≡◌, ◌≢◌, ◌⊎◌, inl, inr, ⊎_elim, ℕ, suc, ◌^◌, ◌<◌, ◌≤◌, ◌&&◌, ◌||◌, not, Bool, true, false, cond, List, [], ◌∷◌, length, filter, nat_lt, Option, Some, None, is_some, refl, sym, ap, ap₂, ◌∙◌, subst, arith}
-use Rattle.std.specs.List.{list_all}
+use Rattle.std.proofs.Common.{◌≡◌, ◌≢◌, ◌⊎◌, inl, inr, ⊎_elim, ℕ, suc, ◌^◌, ◌<◌, ◌≤◌, ◌&&◌, not, Bool, true, false, cond, List, [], ◌∷◌, length, filter, Option, Some, None, is_some, refl, sym, ap, ap₂, ◌∙◌, subst, arith}
 use Rattle.std.proofs.Math.Path.{fun_ext}
 use Rattle.std.proofs.Math.Logic.{∥∥₁_map, ∥∥₁_elim}
 use Rattle.std.proofs.Props.{props}
-use Rattle.std.proofs.lemmas.Bool.{true≢false, lt-ltb, ltb-true}
 use Rattle.std.proofs.lemmas.Option.{none-some}
 use Rattle.sm_base.specs.Kinds.{is_image}
-use Rattle.sm_base.specs.Names.{is_base}
 use Rattle.sm_base.specs.declared.names.Name.{Name}
 use Rattle.sm_base.specs.declared.names.Name.TheVariants.{Mgt, Vhd, Raw, Old, Clone, Inflate, Coalesce, Relink, Leaf}
 use Rattle.sm_base.specs.declared.operations.Op.TheVariants as op
@@ -25,14 +22,14 @@ use Rattle.common_laws.specs.Lists.{In, ◌>>=◌}
 use Rattle.sm_machine.specs.WellFormed.{is_image_name}
 use Rattle.sm_record.specs.Records.{reading}
 use Rattle.sm_record.specs.declared.records.Record.{Record}
-use Rattle.sm_standing.specs.Checks.{has_twin, is_misnamed}
 use Rattle.sm_standing.specs.Contents.{Content, sectors_of, record_of}
-use Rattle.sm_standing.specs.Entries.{base_number, is_past, are_past, is_there, is_visible, of_row, uuids_in}
+use Rattle.sm_standing.specs.Entries.{is_there, is_visible, of_row}
 use Rattle.sm_standing.specs.Images.{image_of}
 use Rattle.sm_standing.specs.Standing.{standing_volume, disk_at, disk_in, disks}
 use Rattle.sm_standing.proofs.DiskLists.{disks_same}
-use Rattle.sm_standing.proofs.ImageLaws.{new_image}
+use Rattle.sm_standing.proofs.ImageLaws.{new_image, sectors_same}
 use Rattle.sm_standing.proofs.ImageSectors.{vhd_same, raw_same}
+use Rattle.sm_standing.proofs.NamedLaws.{named_still}
 use Rattle.sm_standing.proofs.RecordLists.{records_same, record_of_first, first_of}
 use Rattle.vhd_chain.specs.declared.rows.TreeRow.{TreeRow}
 use Rattle.vhd_chain.specs.Trees.{row_name, tree_row}
@@ -41,7 +38,6 @@ use Rattle.sm_ready.specs.Known.{Known, shape_in, row_face}
 use Rattle.sm_ready.specs.Orderly.{IsOrderly}
 use Rattle.sm_ready.specs.Ready.{IsReady, IsBelow}
 use Rattle.sm_ready.specs.Stores.{Leaving, content_now}
-use Rattle.sm_ready.proofs.AlikeLaws.{sectors_same}
 use Rattle.sm_ready.proofs.CommitLaws.{law_single_commit, volume_rested}
 use Rattle.sm_ready.proofs.FreshLaws.{raised_well, refs_raised, roomy_raised}
 use Rattle.sm_ready.proofs.LeftLaws.{none_of_vhd, none_of_raw}
@@ -66,42 +62,6 @@ pub fewer_left : (test : Row → Bool) (n : Name) (rs : List Row) → length (fi
 unfolding without
 fewer_left test n [] = omega arith
 fewer_left test n (s ∷ rs) = fewer_step (name_eq s.name n) s rs (without n rs) test (fewer_left test n rs)
-
-pub past_later : (u : List ℕ) (s t : ℕ) → s ≤ t → is_past s u ≡ true → is_past t u ≡ true
-past_later u s t le h = by (is_base u) h
-  where
-    by : (b : Bool) → (not b || nat_lt (base_number u) s) ≡ true → (not b || nat_lt (base_number u) t) ≡ true
-    by false h = refl
-    by true h = lt-ltb (base_number u) t (let lt = ltb-true (base_number u) s h in omega arith)
-
-all_past : (us : List (List ℕ)) (s t : ℕ) → s ≤ t → list_all (is_past s) us ≡ true → list_all (is_past t) us ≡ true
-all_past [] s t le h = refl
-all_past (u ∷ us) s t le h = by (λ e. all_past us s t le e) (is_past s u) refl h
-  where
-    by : (list_all (is_past s) us ≡ true → list_all (is_past t) us ≡ true) → (b : Bool) → is_past s u ≡ b → (b && list_all (is_past s) us) ≡ true → (is_past t u && list_all (is_past t) us) ≡ true
-    by rest true is e = ap₂ (λ (c d : Bool). c && d) (past_later u s t le is) (rest e)
-    by rest false is e = absurd (true≢false (sym e))
-
-twin_gone : (t u : VolumeTable) (n : Name) → ((m : Name) → is_there t m ≡ false → is_there u m ≡ false) → has_twin t n ≡ false → has_twin u n ≡ false
-twin_gone t u (Vhd v) fewer e = fewer (Raw v) e
-twin_gone t u (Raw v) fewer e = fewer (Vhd v) e
-twin_gone t u Mgt fewer e = refl
-twin_gone t u (Old v) fewer e = refl
-twin_gone t u (Clone d b w) fewer e = refl
-twin_gone t u (Inflate v k) fewer e = refl
-twin_gone t u (Coalesce c p) fewer e = refl
-twin_gone t u (Relink c p) fewer e = refl
-twin_gone t u (Leaf l p) fewer e = refl
-
--- a volume that has its name to itself keeps it
-named_still : (t u : VolumeTable) (r : Row) → t.sequence ≤ u.sequence → ((m : Name) → is_there t m ≡ false → is_there u m ≡ false) → is_misnamed t r ≡ false → is_misnamed u r ≡ false
-named_still t u r later fewer e = by (is_image r.name) (has_twin t r.name) (are_past t r.name) refl refl e
-  where
-    by : (a b c : Bool) → has_twin t r.name ≡ b → are_past t r.name ≡ c → (a && (b || not c)) ≡ false → (a && (has_twin u r.name || not (are_past u r.name))) ≡ false
-    by false b c twin past e = refl
-    by true true c twin past e = absurd (true≢false e)
-    by true false false twin past e = absurd (true≢false e)
-    by true false true twin past e = ap₂ (λ (x y : Bool). x || not y) (twin_gone t u r.name fewer twin) (all_past (uuids_in r.name) t.sequence u.sequence later past)
 
 raised_more : (k : ℕ) → k < 2 ^ 48 → k ≤ raised k
 raised_more k h = omega (arith, h)

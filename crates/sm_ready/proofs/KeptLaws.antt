@@ -58,11 +58,16 @@ size_now s t area m n i c o ready w there named is =
     same_Some _ _ (sym (ap link_of is) ∙ links_left s t area m (reads area) n o ready (left_in s t m area (reads area) o (left_now s area)) ∙ ap link_in (ap (tree_row m.rows) (sym name) ∙ found)) in
     ap (λ (z : Link). z.size) l ∙ sym (ap (λ (z : ImageRow). z.size) y.2)
 
+-- while children are being linked to a parent, it is not smaller than the image between
+pub relink_large : (s : Site) (t : VolumeTable) (area : Held) (m : Known) → IsOrderly s t m → IsFirm s t area m → IsWellFormed (shape_in s t m)
+    → (v p : Name) (c q : ImageRow) → m.op ≡ op.Relink v p → In c (shape_in s t m).images → In q (shape_in s t m).images → c.name ≡ v → q.name ≡ p → c.size ≤ q.size
+relink_large s t area m o ready w v p c q is in_c in_q named_c named_q =
+    let below : IsHeldBelow (content_now s t area) v p s.geometry.entries = subst (IsBelow (content_now s t area)) is ready.below in
+    omega (arith, size_now s t area m v below.child c o ready w in_c named_c below.image, size_now s t area m p below.parent q o ready w in_q named_q below.under, below.size)
+
 -- no check fails of what memory tells
 pub law_sound : (s : Site) (t : VolumeTable) (area : Held) (m : Known) → IsOrderly s t m → IsFirm s t area m → fault_of (outline_in s t m) ≡ None
-law_sound s t area m o ready = ∥∥₁_elim o.well_formed (hlevel props) (λ w. sound s t m o w (λ v p c q is in_c in_q named_c named_q.
-    let below : IsHeldBelow (content_now s t area) v p s.geometry.entries = subst (IsBelow (content_now s t area)) is ready.below in
-    omega (arith, size_now s t area m v below.child c o ready w in_c named_c below.image, size_now s t area m p below.parent q o ready w in_q named_q below.under, below.size)))
+law_sound s t area m o ready = ∥∥₁_elim o.well_formed (hlevel props) (λ w. sound s t m o w (relink_large s t area m o ready w))
 
 -- ---- each block with a slot holds a sector
 

@@ -34,13 +34,13 @@ use Rattle.sm_standing.specs.Contents.{Content, is_record_of, reading_at, record
 use Rattle.sm_standing.specs.Images.{image_of, sectors_read}
 use Rattle.sm_standing.specs.Standing.{disk_at, disk_in, disks, standing_volume}
 use Rattle.sm_standing.proofs.DiskChanges.{disks_changed}
+use Rattle.sm_standing.proofs.ImageLaws.{sectors_same}
 use Rattle.vhd_chain.specs.declared.rows.TreeRow.{TreeRow}
 use Rattle.sm_ready.specs.Known.{Known, is_shown, machine_record, records_in, shape_in, shown_places}
 use Rattle.sm_ready.specs.Middle.{with_place}
 use Rattle.sm_ready.specs.Orderly.{IsOrderly, IsRoomyIn}
 use Rattle.sm_ready.specs.Ready.{HoldsPlaces, IsFirm, IsReady, is_written_in}
 use Rattle.sm_ready.specs.Stores.{content_in, content_now}
-use Rattle.sm_ready.proofs.AlikeLaws.{sectors_same}
 use Rattle.sm_ready.proofs.LeftLaws.{place_reads}
 use Rattle.sm_ready.proofs.MiddleLaws.{nat_or_not}
 use Rattle.sm_ready.proofs.NewLaws.{well_target}

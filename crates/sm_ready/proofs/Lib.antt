@@ -30,7 +30,6 @@ pub mod GoneLaws
 pub mod StrayLaws
 pub mod RepairLaws
 pub mod SizeLaws
-pub mod EnlargedLaws
 pub mod NewVolumeLaws
 pub mod CleanLaws
 pub mod RowRoomLaws
@@ -62,3 +61,9 @@ pub mod StopLaws
 pub mod RawGuestLaws
 pub mod ThenLaws
 pub mod DoesLaws
+pub mod FrameLaws
+pub mod TruthLaws
+pub mod PutBackLaws
+pub mod RaisedLaws
+pub mod GrownLaws
+pub mod ApartLaws

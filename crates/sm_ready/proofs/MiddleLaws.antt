@@ -28,6 +28,7 @@ use Rattle.sm_standing.specs.Keeping.{IsKept}
 use Rattle.sm_standing.specs.Standing.{standing_volume, disk_at, disk_in, disks}
 use Rattle.sm_standing.proofs.DiskLists.{disks_same}
 use Rattle.sm_standing.proofs.RecordLists.{records_same, records_alike, record_of_first, first_of}
+use Rattle.sm_standing.proofs.ImageLaws.{sectors_same}
 use Rattle.sm_ready.specs.Middle.{with_place, IsStray, IsMiddle}
 use Rattle.sm_ready.specs.Known.{Known, shape_in, records_in, shown_places, is_shown, is_shown_place}
 use Rattle.vhd_chain.specs.declared.rows.TreeRow.{TreeRow}
@@ -37,7 +38,7 @@ use Rattle.sm_mgt.specs.Places.{Agrees, place_count, records_held, as_reading}
 use Rattle.sm_ready.specs.Ready.{IsFirm, IsReady, HoldsPlaces, is_written_in}
 use Rattle.vhd_volumes.specs.Steady.{IsQuiet}
 use Rattle.sm_ready.specs.Stores.{Leaving, MayShow, content_in, content_now}
-use Rattle.sm_ready.proofs.AlikeLaws.{sectors_same, disks_alike}
+use Rattle.sm_ready.proofs.AlikeLaws.{disks_alike}
 use Rattle.sm_ready.proofs.CommitLaws.{IsSafe}
 use Rattle.sm_ready.proofs.KeptLaws.{law_kept}
 use Rattle.sm_ready.proofs.LeftLaws.{IsLeft, IsLeftIn, left_now, now_sector, left_volume, image_quiet, place_reads, mgt_long}

@@ -38,7 +38,7 @@ module _ (σ : Shape) (w : IsWellFormed σ) where
       by None is = omega arith
       by (Some i) is = few i (find-some (is_image_of u) σ.images i is).0
 
-  thick_row : (i : ImageRow) → In i σ.images → thick_in σ i.size ≤ 2 ^ 27
+  pub thick_row : (i : ImageRow) → In i σ.images → thick_in σ i.size ≤ 2 ^ 27
   thick_row i at =
       let size = (w.images i at).whole in
       thick_few σ.extent σ.block σ.entries i.size w.geometry (subst (λ k. k ≤ σ.entries * σ.block) (sym size.1) (mul-le size.0 σ.block σ.entries σ.block size.3 (omega arith)))

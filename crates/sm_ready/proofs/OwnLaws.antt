@@ -1,5 +1,5 @@
 -- The image of the disk that a command names, where the command is not refused.
-use Rattle.std.proofs.Common.{◌≡◌, ◌⊎◌, inl, inr, ℕ, ◌+◌, Bool, true, false, not, ◌&&◌, if◌then◌else◌, List, Option, Some, None, refl, sym, ap, ◌∙◌, subst, arith}
+use Rattle.std.proofs.Common.{◌≡◌, ◌≢◌, ◌⊎◌, inl, inr, ℕ, ◌+◌, Bool, true, false, not, ◌&&◌, if◌then◌else◌, List, map, Option, Some, None, refl, sym, ap, ◌∙◌, subst, arith}
 use Rattle.std.specs.Prelude.{is_none, is_some}
 use Rattle.std.proofs.Math.Logic.{∥∥₁_elim}
 use Rattle.std.proofs.Props.{props}
@@ -9,7 +9,7 @@ use Rattle.sm_base.specs.declared.names.Name.{Name}
 use Rattle.sm_base.specs.declared.names.Name.TheVariants.{Vhd, Raw}
 use Rattle.common_laws.specs.Lists.{In}
 use Rattle.common_laws.proofs.Bytes.{bytes_eq-same}
-use Rattle.common_laws.proofs.Lists.{In-map, In-map_at, find-some}
+use Rattle.common_laws.proofs.Lists.{Distinct-key, In-map, In-map_at, find-some}
 use Rattle.vg_meta.specs.Tables.{VolumeTable}
 use Rattle.vg_volumes.specs.Sites.{Site}
 use Rattle.vhd_chain.specs.Trees.{row_name, tree_row}
@@ -21,7 +21,7 @@ use Rattle.sm_machine.specs.Shapes.{DiskRecord, ImageRow, Shape, disk_image, dis
 use Rattle.sm_machine.specs.Steps.{State, accepted, given_up, shape_after, shape_next, step_whole, unless_refused}
 use Rattle.sm_machine.specs.WellFormed.{HasRecord, IsWellFormed}
 use Rattle.sm_machine.proofs.Attaches.{is_its_image}
-use Rattle.sm_machine.proofs.Guests.{disk_image_is}
+use Rattle.sm_machine.proofs.Guests.{disk_image_is, disks_own}
 use Rattle.sm_machine.proofs.Passed.{passed}
 use Rattle.sm_ready.specs.Known.{Known, is_shown, machine_row, shape_in}
 use Rattle.sm_ready.specs.Orderly.{IsOrderly}
@@ -81,6 +81,17 @@ pub own_image : (s : Site) (t : VolumeTable) (m : Known) (u : List ℕ) → IsOr
 unfolding shape_in
 own_image s t m u o own = ∥∥₁_elim o.well_formed (hlevel props) (λ w.
     disk_image_is (shape_in s t m) w u (machine_row own.row) (In-map_at machine_row m.rows own.row own.there) (is_its_image (machine_row own.row) u own.shown own.uuid))
+
+-- and no other is
+pub other_image : (s : Site) (t : VolumeTable) (m : Known) (u : List ℕ) (r : TreeRow) → IsWellFormed (shape_in s t m) → In r m.rows → image_uuid (row_name r) ≡ u → (p : TreeRow) → In p m.rows → row_name p ≢ row_name r → is_image_of u (machine_row p) ≡ false
+unfolding shape_in
+other_image s t m u r w there uuid p i other = by (is_image_of u (machine_row p)) refl
+  where
+    by : (b : Bool) → is_image_of u (machine_row p) ≡ b → is_image_of u (machine_row p) ≡ false
+    by false is = is
+    by true is =
+        absurd (other (ap (λ (y : ImageRow). y.name) (Distinct-key (λ (y : ImageRow). image_uuid y.name) (map machine_row m.rows) (machine_row p) (machine_row r) w.one_image
+        (In-map_at machine_row m.rows p i) (In-map_at machine_row m.rows r there) ((disks_own (shape_in s t m) w u (machine_row p) is).1 ∙ sym uuid))))
 
 -- ---- the step of a command that is not refused
 

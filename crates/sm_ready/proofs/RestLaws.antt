@@ -25,7 +25,9 @@ use Rattle.vhd_chain.specs.declared.rows.TreeRow.{TreeRow}
 use Rattle.vhd_chain.specs.Trees.{row_name}
 use Rattle.sm_mgt.specs.Places.{Agrees, records_held}
 use Rattle.sm_ready.specs.Ready.{IsReady, IsBelow}
+use Rattle.vhd_image.specs.Bodies.{TrueIn}
 use Rattle.vhd_image.specs.Steady.{IsSteady}
+use Rattle.vhd_volumes.specs.Truth.{IsTrueIn}
 use Rattle.vhd_volumes.specs.Steady.{IsSteadyIn, IsQuiet}
 use Rattle.sm_ready.specs.Stores.{content_now}
 use Rattle.vhd_image.specs.declared.images.Body.TheVariants as body
@@ -36,18 +38,26 @@ keeps_rest h = record {
   may = λ p v m. subst (λ w. May h p w) (sym (may_settled (at_rest (reads h)) p v refl m)) (May-reads h p);
 }
 
-steady_in : (g : Geometry) (n : ℕ) (a b : Held) (head : Head) (m : List (Option ℕ)) → Keeps a b → IsSteadyIn g n a head m → IsSteadyIn g n b head m
-steady_in g n a b head m keeps steady =
+true_in : (g : Geometry) (n : ℕ) (a b : Held) (head : Head) (m : List (Option ℕ)) → Keeps a b → IsTrueIn g n a head m → IsTrueIn g n b head m
+true_in g n a b head m keeps is_true =
     let same : (λ p. reads b p) ≡ (λ p. reads a p) = fun_ext keeps.reads in
     record {
-      is_true = record {
-        now = subst (λ (v : Sectors). IsImage (layout_in g head.footer n) v head.footer head.header (slot_of m)) (sym same) steady.is_true.now;
-        valid = λ v allows. steady.is_true.valid v (Allows-keeps n v keeps allows);
-        within = λ v allows. steady.is_true.within v (Allows-keeps n v keeps allows);
-      };
-      still = λ p v here may. steady.still p v here (keeps.may p v may) ∙ sym (keeps.reads p);
-      holding = λ v allows. steady.holding v (Allows-keeps n v keeps allows);
+      now = subst (λ (v : Sectors). IsImage (layout_in g head.footer n) v head.footer head.header (slot_of m)) (sym same) is_true.now;
+      valid = λ v allows. is_true.valid v (Allows-keeps n v keeps allows);
+      within = λ v allows. is_true.within v (Allows-keeps n v keeps allows);
     }
+
+-- an image stays true where its volume keeps what it holds
+pub true_keeps : (g : Geometry) (n : ℕ) (a b : Held) (x : Body) → Keeps a b → TrueIn g n a x → TrueIn g n b x
+true_keeps g n a b (body.Raw volume size) keeps is_true = tt
+true_keeps g n a b (body.Vhd head m) keeps is_true = true_in g n a b head m keeps is_true
+
+steady_in : (g : Geometry) (n : ℕ) (a b : Held) (head : Head) (m : List (Option ℕ)) → Keeps a b → IsSteadyIn g n a head m → IsSteadyIn g n b head m
+steady_in g n a b head m keeps steady = record {
+  is_true = true_in g n a b head m keeps steady.is_true;
+  still = λ p v here may. steady.still p v here (keeps.may p v may) ∙ sym (keeps.reads p);
+  holding = λ v allows. steady.holding v (Allows-keeps n v keeps allows);
+}
 
 pub steady_keeps : (g : Geometry) (n : ℕ) (a b : Held) (x : Body) → Keeps a b → IsSteady g n a x → IsSteady g n b x
 steady_keeps g n a b (body.Raw volume size) keeps steady = steady

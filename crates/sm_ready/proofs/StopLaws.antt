@@ -83,6 +83,60 @@ visible_apart s t m r q o i shown j parent = ∥∥₁_elim o.well_formed (hleve
     let same : y.0 ≡ r = same_Some y.0 r (sym (tree_found m.rows y.0 w.one_image y.1) ∙ ap (tree_row m.rows) named ∙ tree_found m.rows r w.one_image i) in
     true≢false (sym h.is_hidden ∙ ap (λ (z : ImageRow). z.hidden) y.2 ∙ ap (λ (z : TreeRow). z.hidden) same ∙ shown))
 
+-- nor is it the child of a relink, which is hidden
+pub relink_apart : (s : Site) (t : VolumeTable) (m : Known) (r : TreeRow) → IsOrderly s t m → In r m.rows → r.hidden ≡ false → (child parent : List ℕ) (q : Row) → rows t (Relink child parent) ≡ Some q → Vhd child ≢ row_name r
+unfolding shape_in
+relink_apart s t m r o i shown child parent q entry same = ∥∥₁_elim o.well_formed (hlevel props) (λ w.
+    let e = entry_relink s t m child parent q o entry in
+    let c = subst (IsOperation (shape_in s t m)) e.is w.operation in
+    let y = In-map machine_row m.rows c.child c.there in
+    let named : row_name y.0 ≡ row_name r = sym (ap (λ (z : ImageRow). z.name) y.2) ∙ c.is_named ∙ vhd_named e.v c.vhd ∙ ap Vhd e.uuid ∙ same in
+    let one : y.0 ≡ r = same_Some y.0 r (sym (tree_found m.rows y.0 w.one_image y.1) ∙ ap (tree_row m.rows) named ∙ tree_found m.rows r w.one_image i) in
+    true≢false (sym c.is_shown ∙ ap (λ (z : ImageRow). z.hidden) y.2 ∙ ap (λ (z : TreeRow). z.hidden) one ∙ shown))
+
+pub name_or_not : (n x : Name) → (n ≡ x) ⊎ (n ≢ x)
+name_or_not n x = by (name_eq n x) refl
+  where
+    by : (b : Bool) → name_eq n x ≡ b → (n ≡ x) ⊎ (n ≢ x)
+    by true e = inl (name_eq-true n x e)
+    by false e = inr (name_eq-false n x e)
+
+abbrev pub link_at : ℕ → Option Name → Link
+link_at size parent = record { size = size; parent = parent }
+
+-- an image of the area that is one that a stop might have left before, but in the volume of x, a visible image
+module _ (s : Site) (t : VolumeTable) (m : Known) (old : Held) (x : Name) (image earlier : Sectors) (r : TreeRow) (o : IsOrderly s t m) (ready : IsReady s t old m) (there : In r m.rows) (shown : r.hidden ≡ false) (named : row_name r ≡ x)
+    (might : IsLeft s old earlier) (others : (n : Name) → n ≢ x → (p : ℕ) → p < size_of s t n → sectors_of (content_in s t image) n p ≡ sectors_of (content_in s t earlier) n p) where
+  same_readings : SameReadings (content_in s t earlier) (content_in s t image)
+  same_readings k below = ap reading (others Mgt record_apart k (omega (arith, below, mgt_long s t m o)))
+    where
+      record_apart : Mgt ≢ x
+      record_apart same = true≢false (sym (named_row s t m r o there) ∙ ap is_image_name (named ∙ sym same) ∙ mgt_image)
+
+  pub recorded_beside : (v : List ℕ) → record_of (content_in s t image) v ≡ record_of (content_in s t earlier) v
+  recorded_beside v = record_of_first (content_in s t image) v ∙ ap first_of (records_same (content_in s t earlier) (content_in s t image) v same_readings) ∙ sym (record_of_first (content_in s t earlier) v)
+
+  pub reading_beside : (k : ℕ) → reading_in (content_in s t image) k ≡ reading_in (content_in s t earlier) k
+  reading_beside k = ⊎_elim
+      (λ below. ap (λ y. cond (nat_lt k record_count) y Free) (same_readings k below))
+      (λ past. ap (λ b. cond b (reading_at (content_in s t image) k) Free) (le-ltb k record_count past) ∙ sym (ap (λ b. cond b (reading_at (content_in s t earlier) k) Free) (le-ltb k record_count past))) (cases_lt k record_count)
+
+  pub image_beside : (n : Name) → n ≢ x → image_of (content_in s t image) n ≡ image_of (content_in s t earlier) n
+  image_beside n other = image_by_sectors s t m earlier image n (rows t n) o refl (others n other)
+
+  -- the row of an image that is there
+  pub row_beside : (n : Name) (i : Image) → image_of (content_in s t earlier) n ≡ Some i → (q : TreeRow) × (tree_row m.rows n ≡ Some q) × (link_at i.size i.parent ≡ link_at (sector_count q.image) (parent_name q.image))
+  row_beside n i is = by (tree_row m.rows n) refl (sym (ap link_of is) ∙ links_left s t old m earlier n o ready.firm (left_in s t m old earlier o might))
+    where
+      by : (y : Option TreeRow) → tree_row m.rows n ≡ y → link_of (Some i) ≡ link_in y → (q : TreeRow) × (tree_row m.rows n ≡ Some q) × (link_at i.size i.parent ≡ link_at (sector_count q.image) (parent_name q.image))
+      by None e l = absurd (none-some (link_at i.size i.parent) (sym l))
+      by (Some q) e l = (q, e, same_Some (link_at i.size i.parent) (link_at (sector_count q.image) (parent_name q.image)) l)
+
+  pub childless : (n : Name) (i : Image) → image_of (content_in s t earlier) n ≡ Some i → i.parent ≢ Some x
+  childless n i is parent =
+      let q = row_beside n i is in
+      visible_apart s t m r q.0 o there shown (In-tree_row m.rows n q.0 q.1).0 (sym (ap (λ (z : Link). z.parent) q.2) ∙ parent ∙ ap Some (sym named))
+
 -- a stop leaves this image of the area while a guest writes into x, a visible image: beside x it is one that a stop might
 -- have left before, and the image in x follows the one in that
 pub record IsStopped (s : Site) (t : VolumeTable) (m : Known) (old : Held) (x : Name) (W : ℕ → List ℕ → Type 0) (image : Sectors) : Type 0 where
@@ -104,26 +158,14 @@ pub record IsStopped (s : Site) (t : VolumeTable) (m : Known) (old : Held) (x : 
 
 module _ (s : Site) (t : VolumeTable) (m : Known) (old : Held) (x : Name) (u : List ℕ) (W : ℕ → List ℕ → Type 0) (image : Sectors) (o : IsOrderly s t m) (ready : IsReady s t old m) (h : IsStopped s t m old x W image)
     (owner : (v : List ℕ) → standing_volume t v ≡ Some x → v ≡ u) where
-  same_readings : SameReadings (content_in s t h.earlier) (content_in s t image)
-  same_readings k below = ap reading (h.others Mgt record_apart k (omega (arith, below, mgt_long s t m o)))
-    where
-      record_apart : Mgt ≢ x
-      record_apart same = true≢false (sym (named_row s t m h.row o h.there) ∙ ap is_image_name (h.named ∙ sym same) ∙ mgt_image)
+  no_child : (n : Name) (i : Image) → image_of (content_in s t h.earlier) n ≡ Some i → i.parent ≢ Some x
+  no_child = childless s t m old x image h.earlier h.row o ready h.there h.shown h.named h.might h.others
 
   recorded : (v : List ℕ) → record_of (content_in s t image) v ≡ record_of (content_in s t h.earlier) v
-  recorded v = record_of_first (content_in s t image) v ∙ ap first_of (records_same (content_in s t h.earlier) (content_in s t image) v same_readings) ∙ sym (record_of_first (content_in s t h.earlier) v)
-
-  no_child : (n : Name) (i : Image) → image_of (content_in s t h.earlier) n ≡ Some i → i.parent ≢ Some x
-  no_child n i is parent = by (tree_row m.rows n) refl (sym (ap link_of is) ∙ links_left s t old m h.earlier n o ready.firm (left_in s t m old h.earlier o h.might))
-    where
-      by : (y : Option TreeRow) → tree_row m.rows n ≡ y → link_of (Some i) ≡ link_in y → ⊥
-      by None e l = none-some (record { size = i.size; parent = i.parent }) (sym l)
-      by (Some q) e l =
-          visible_apart s t m h.row q o h.there h.shown (In-tree_row m.rows n q e).0
-          (sym (ap (λ (z : Link). z.parent) (same_Some (record { size = i.size; parent = i.parent }) (record { size = sector_count q.image; parent = parent_name q.image }) l)) ∙ parent ∙ ap Some (sym h.named))
+  recorded = recorded_beside s t m old x image h.earlier h.row o ready h.there h.shown h.named h.might h.others
 
   others_same : (n : Name) → n ≢ x → image_of (content_in s t image) n ≡ image_of (content_in s t h.earlier) n
-  others_same n other = image_by_sectors s t m h.earlier image n (rows t n) o refl (h.others n other)
+  others_same = image_beside s t m old x image h.earlier h.row o ready h.there h.shown h.named h.might h.others
 
   written_over : IsWrittenOver (content_in s t h.earlier) (content_in s t image) x W
   written_over = record {
@@ -140,28 +182,16 @@ module _ (s : Site) (t : VolumeTable) (m : Known) (old : Held) (x : Name) (u : L
     no_child = no_child;
   }
 
-  name_or_not : (n : Name) → (n ≡ x) ⊎ (n ≢ x)
-  name_or_not n = by (name_eq n x) refl
-    where
-      by : (b : Bool) → name_eq n x ≡ b → (n ≡ x) ⊎ (n ≢ x)
-      by true e = inl (name_eq-true n x e)
-      by false e = inr (name_eq-false n x e)
-
   link_same : (n : Name) → link_of (image_of (content_in s t image) n) ≡ link_of (image_of (content_in s t h.earlier) n)
   link_same n = ⊎_elim
       (λ same. ap (λ y. link_of (image_of (content_in s t image) y)) same ∙ ap link_of h.after
       ∙ ap₂ (λ (k : ℕ) (p : Option Name). let l : Link = record { size = k; parent = p } in Some l) h.size h.parent
       ∙ sym (ap (λ y. link_of (image_of (content_in s t h.earlier) y)) same ∙ ap link_of h.before))
-      (λ other. ap link_of (others_same n other)) (name_or_not n)
-
-  reading_same : (k : ℕ) → reading_in (content_in s t image) k ≡ reading_in (content_in s t h.earlier) k
-  reading_same k = ⊎_elim
-      (λ below. ap (λ y. cond (nat_lt k record_count) y Free) (same_readings k below))
-      (λ past. ap (λ b. cond b (reading_at (content_in s t image) k) Free) (le-ltb k record_count past) ∙ sym (ap (λ b. cond b (reading_at (content_in s t h.earlier) k) Free) (le-ltb k record_count past))) (cases_lt k record_count)
+      (λ other. ap link_of (others_same n other)) (name_or_not n x)
 
   outline_same : outline (content_in s t image) ≡ outline (content_in s t h.earlier)
   outline_same = ap₂ (λ (ls : Name → Option Link) (rs : ℕ → Reading). let l : Outline = record { extent = s.geometry.extent; block = s.geometry.block; entries = s.geometry.entries; table = t; links = ls; readings = rs } in l)
-      (fun_ext link_same) (fun_ext reading_same)
+      (fun_ext link_same) (fun_ext (reading_beside s t m old x image h.earlier h.row o ready h.there h.shown h.named h.might h.others))
 
   -- the disks are those from after it, but sectors that a stop might have left before
   pub stop_between : (ds : List Disk) (before : Leaving) → HasBytes (disks (content_now s t old)) ds u W → ((other : Sectors) → IsLeft s old other → before t other)
@@ -170,18 +200,10 @@ module _ (s : Site) (t : VolumeTable) (m : Known) (old : Held) (x : Name) (u : L
       let alike = law_left_now s t old m h.earlier o ready h.might in
       inr (written_already (content_in s t h.earlier) (content_in s t image) x u W (disks (content_now s t old)) ds (MayShow s before) written_over owner has
       (faces_alike (content_in s t h.earlier) (content_in s t image) outline_same recorded ∙ faces_alike (content_now s t old) (content_in s t h.earlier) alike.outline alike.records)
-      (record { table = t; image = h.earlier; left = might h.earlier h.might; shown = refl }) name_or_not)
+      (record { table = t; image = h.earlier; left = might h.earlier h.might; shown = refl }) (λ n. name_or_not n x))
 
-  -- the child of a relink is hidden, so it is not the written image
   not_child : (child parent : List ℕ) (q : Row) → rows t (Relink child parent) ≡ Some q → Vhd child ≢ x
-  unfolding shape_in
-  not_child child parent q entry same = ∥∥₁_elim o.well_formed (hlevel props) (λ w.
-      let e = entry_relink s t m child parent q o entry in
-      let c = subst (IsOperation (shape_in s t m)) e.is w.operation in
-      let y = In-map machine_row m.rows c.child c.there in
-      let named : row_name y.0 ≡ row_name h.row = sym (ap (λ (z : ImageRow). z.name) y.2) ∙ c.is_named ∙ vhd_named e.v c.vhd ∙ ap Vhd e.uuid ∙ same ∙ sym h.named in
-      let one : y.0 ≡ h.row = same_Some y.0 h.row (sym (tree_found m.rows y.0 w.one_image y.1) ∙ ap (tree_row m.rows) named ∙ tree_found m.rows h.row w.one_image h.there) in
-      true≢false (sym c.is_shown ∙ ap (λ (z : ImageRow). z.hidden) y.2 ∙ ap (λ (z : TreeRow). z.hidden) one ∙ h.shown))
+  not_child child parent q entry same = relink_apart s t m h.row o h.there h.shown child parent q entry (same ∙ sym h.named)
 
   -- and what is left is kept
   pub stop_kept : IsKept (content_in s t image)
@@ -191,7 +213,7 @@ module _ (s : Site) (t : VolumeTable) (m : Known) (old : Held) (x : Name) (u : L
         sound = ap fault_of outline_same ∙ kept.sound;
         holding = λ v i is. ⊎_elim
             (λ same. subst (IsHolding s.geometry.block) (same_Some _ i (sym h.after ∙ ap (image_of (content_in s t image)) (sym same) ∙ is)) (h.holding v same))
-            (λ other. kept.holding v i (sym (others_same (Vhd v) other) ∙ is)) (name_or_not (Vhd v));
+            (λ other. kept.holding v i (sym (others_same (Vhd v) other) ∙ is)) (name_or_not (Vhd v) x);
         linking = λ child parent q v p n entry child_is linked under.
             let child_was = sym (others_same (Vhd child) (not_child child parent q entry)) ∙ child_is in
             kept.linking child parent q v p n entry child_was linked (sym (others_same n (λ same. no_child (Vhd child) v child_was (linked ∙ ap Some same))) ∙ under);

@@ -30,6 +30,7 @@ use Rattle.sm_standing.specs.Shapes.{IsStateOf}
 use Rattle.sm_standing.specs.Standing.{standing_volume, disk_at, disk_in, disks}
 use Rattle.sm_standing.proofs.DiskLists.{disks_same}
 use Rattle.sm_standing.proofs.RecordLists.{record_of_first, first_of}
+use Rattle.sm_standing.proofs.ImageLaws.{sectors_same}
 use Rattle.vhd_chain.specs.Trees.{row_name}
 use Rattle.vhd_chain.specs.declared.rows.TreeRow.{TreeRow}
 use Rattle.vhd_volumes.specs.Steady.{IsQuiet}
@@ -38,7 +39,6 @@ use Rattle.sm_ready.specs.Orderly.{IsOrderly, IsRoomyIn}
 use Rattle.sm_ready.specs.Ready.{IsFirm, IsReady, IsTidy, HoldsPlaces, is_written_in}
 use Rattle.sm_ready.specs.Sessions.{state_in}
 use Rattle.sm_ready.specs.Stores.{content_in, content_now}
-use Rattle.sm_ready.proofs.AlikeLaws.{sectors_same}
 use Rattle.sm_ready.proofs.KeptLaws.{law_kept}
 use Rattle.sm_ready.proofs.LeftLaws.{IsLeft, IsLeftIn, left_volume, image_quiet, place_reads, mgt_long}
 use Rattle.sm_ready.proofs.OnceLaws.{any_In}

@@ -1,8 +1,10 @@
--- A table and a content as an opening leaves them: without the new volumes, each removed by a commit of its own.
-use Rattle.std.specs.Prelude.{ℕ, ◌+◌, ◌≤◌, not, List, length}
+-- A table as an opening leaves it: without the new volumes, each removed by a commit of its own; and how many commits an
+-- opening makes.
+use Rattle.std.specs.Prelude.{ℕ, ◌+◌, ◌≤◌, not, List, length, None, Some}
 use Rattle.std.specs.List.{filter}
 use Rattle.vg_meta.specs.Tables.{VolumeTable, Row}
 use Rattle.sm_machine.specs.Shapes.{risen}
+use Rattle.sm_standing.specs.Entries.{head, making}
 
 -- how many of these volumes are new
 abbrev pub new_count : List Row → ℕ
@@ -16,6 +18,10 @@ filled rs = filter (λ r. not r.fresh) rs
 unfoldable pub cleaned : VolumeTable → VolumeTable
 cleaned t = record { sequence = risen t.sequence (new_count t.volumes); volumes = filled t.volumes }
 
--- the sequence number was raised at most by one for each volume that was new
+-- the most commits that undo an enlargement, where there is one: the volume of the image is cut, and the entry removed
+abbrev pub undo_count : VolumeTable → ℕ
+undo_count t = elim (head (making t)) [ None ↦ 0 | Some n ↦ 2 ]
+
+-- the sequence number was raised at most by one for each volume that was new, and by two for an enlargement that was undone
 abbrev pub HasFewRemovals : VolumeTable → VolumeTable → Type 0
-HasFewRemovals old new = new.sequence ≤ old.sequence + new_count old.volumes
+HasFewRemovals old new = new.sequence ≤ old.sequence + new_count old.volumes + undo_count old

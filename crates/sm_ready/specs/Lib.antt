@@ -15,3 +15,4 @@ pub mod Cleaned
 pub mod Shown
 pub mod Does
 pub mod Refusing
+pub mod Frames

@@ -26,8 +26,8 @@
 //! [`refuse`] says why a command is refused, told or not: the first cause in the machine's order, by the table and by what is
 //! in memory (`Answers`). It is asked once, before a command is taken; a command's crate requires that no cause was found
 //! (`IsAllowed`). It takes no memory and makes no call of a store. Sizes are in bytes where a command gives them, else in
-//! sectors; room is counted in extents, and [`extents_needed`] gives those of a raw disk. [`image_name`] is the name of a disk's
-//! own image.
+//! sectors, and [`rounded`] gives these; room is counted in extents: [`need`] gives those that a command takes, and
+//! [`extents_needed`] those of a raw disk. [`image_name`] is the name of a disk's own image.
 //!
 //! **What a command cites.** What is known where no cause refuses it (`RefusalLaws`), and of the extents that it takes
 //! (`NeedLaws`); what the machine looks up of a disk, by what is in memory (`LookLaws`); what was taken, whether it was
@@ -36,8 +36,11 @@
 //! names (`OwnLaws`); a command that makes all last and changes memory alone (`SyncLaws`, `UsedLaws`), and one that gives a
 //! disk another label (`LabelLaws`); an image and its disk's record made in two commits (`NewLaws`, `MakingLaws`), whatever
 //! is attached and whatever operation runs (`OperationLaws`); a VHD image that was just made, which is steady and, without
-//! a parent, reads as zeros (`MadeLaws`); an image that is being enlarged (`EnlargedLaws`); the machine's tables as maps of images (`MapLaws`); room for rows (`RoomLaws`, `RowRoomLaws`); what is asked of the visible
-//! image of a UUID (`ShownLaws`); a list in order with one element more (`InsertLaws`).
+//! a parent, reads as zeros (`MadeLaws`); the machine's tables as maps of images (`MapLaws`); room for rows (`RoomLaws`,
+//! `RowRoomLaws`); what is asked of the visible image of a UUID (`ShownLaws`); a list in order with one element more
+//! (`InsertLaws`); a row that was taken out of the tree, changed and put back (`PutBackLaws`); that an image stands in its volume
+//! and is true of it (`TruthLaws`), and stays so (`FrameLaws`); a visible image at which the operation does not work (`ApartLaws`);
+//! a disk that grows, as the disks show it (`RaisedLaws`), and what a stop leaves of it (`GrownLaws`).
 //!
 //! The definitions are in `specs/`: `Known` (what is in memory, and its shape), `Outlined` (its outline), `Orderly` and `Ready`
 //! (the two invariants), `Shown` (the visible image of a UUID), `Refusing` (when an answer is the machine's), `Stores` (the
@@ -53,5 +56,5 @@ mod refusing;
 
 pub use asking::image_name;
 pub use memory::Memory;
-pub use needs::extents_needed;
+pub use needs::{extents_needed, need, rounded};
 pub use refusing::refuse;

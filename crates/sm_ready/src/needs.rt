@@ -23,7 +23,7 @@ pub fn extents_needed(geometry: &Geometry, size: u64) -> u64
 }
 
 /// A size in bytes as sectors, rounded up: a raw disk's to the extent, a VHD image's to the block.
-pub(crate) fn rounded(geometry: &Geometry, raw: bool, size: u64) -> u64
+pub fn rounded(geometry: &Geometry, raw: bool, size: u64) -> u64
     ensures { Sizes (λ σ. machine.rounded σ raw size) geometry.now result }
 {
     if raw {
@@ -95,7 +95,7 @@ fn fork_need(memory: &Memory, geometry: &Geometry, disk: &Uuid) -> u64
 }
 
 /// The extents that a command takes.
-pub(crate) fn need(memory: &Memory, geometry: &Geometry, command: &Command) -> u64
+pub fn need(memory: &Memory, geometry: &Geometry, command: &Command) -> u64
     ensures { Measures (λ σ. machine.need σ command.now) geometry.now (known memory.now) result }
 {
     match command {

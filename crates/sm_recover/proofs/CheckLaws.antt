@@ -1,22 +1,25 @@
 -- The checks by the table: what is found among the volumes in memory is what the checks name.
-use Rattle.std.proofs.Common.{◌≡◌, ℕ, inl, inr, Bool, true, false, cond, not, List, [], ◌∷◌, length, Option, Some, None, refl, sym, ap, ap₂, ◌∙◌, arith, nat_lt}
-use Rattle.std.specs.List.{filter, find}
+use Rattle.std.proofs.Common.{◌≡◌, ℕ, suc, ◌+◌, ◌<◌, ◌≤◌, inl, inr, Bool, true, false, cond, not, ◌&&◌, ◌||◌, List, [], ◌∷◌, length, drop, position, slice_get, Option, Some, None, refl, sym, ap, ap₂, ◌∙◌, subst, arith, nat_lt}
+use Rattle.std.specs.List.{filter, find, position_or_len}
+use Rattle.std.proofs.lemmas.Bool.{true≢false, ltb-true, ltb-false}
+use Rattle.std.proofs.lemmas.Option.{none-some, same_Some}
 use Rattle.sm_base.specs.declared.faults.Place.{Place}
 use Rattle.sm_base.specs.declared.faults.Place.TheVariants as at
 use Rattle.sm_base.specs.declared.names.Name.{Name}
-use Rattle.sm_base.specs.declared.names.Name.TheVariants.{Mgt}
+use Rattle.sm_base.specs.declared.names.Name.TheVariants.{Mgt, Vhd, Raw, Old, Clone, Inflate, Coalesce, Relink, Leaf}
 use Rattle.sm_base.specs.declared.sizes.Geometry.{Geometry}
-use Rattle.vg_meta.specs.Tables.{VolumeTable, Row, rows}
+use Rattle.vg_meta.specs.Tables.{VolumeTable, Row, names_of, rows}
 use Rattle.sm_base.specs.Kinds.{is_image as is_data, is_entry}
 use Rattle.vg_meta.specs.Roomy.{RoomyTable, RoomyRow, table_alone, rows_alone}
 use Rattle.common_laws.specs.Lists.{In, given, first_some}
 use Rattle.sm_machine.specs.Shapes.{image_limit}
-use Rattle.sm_standing.specs.Plain.{is_plain, IsPlain}
-use Rattle.sm_standing.specs.Checks.{first_name, name_in, placed, has_records, record_volume_fault, images, too_many_fault, is_image_ahead, entry_ahead_fault, image_ahead_fault}
+use Rattle.sm_standing.specs.Entries.{are_past, head, is_at_stage, is_folding, is_inflating, is_making, is_past, making, second}
+use Rattle.sm_standing.specs.Plain.{IsSimple, is_simple}
+use Rattle.sm_standing.specs.Checks.{first_name, name_in, placed, has_records, record_volume_fault, images, too_many_fault, is_entry_ahead, is_image_ahead, is_lost, lesser, entry_ahead_fault, second_entry_fault, lost_entry_fault, image_ahead_fault}
 use Rattle.sm_standing.specs.Outlines.{Outline}
 use Rattle.sm_standing.proofs.FaultLaws.{named_none}
-use Rattle.sm_standing.proofs.PlainKept.{all-of, journal_or_image}
-use Rattle.sm_recover.specs.Faults.{HasTable}
+use Rattle.sm_standing.proofs.PlainKept.{all-of, simple_from}
+use Rattle.sm_recover.specs.Faults.{HasTable, is_enlarging_lost}
 
 -- ---- the first of the volumes in memory
 
@@ -66,16 +69,154 @@ too_many_at x k is held count =
 
 -- ---- what is known where they pass
 
--- without entries, and with visible images alone, nothing is under way
-pub plain_from : (x : Outline) → entry_ahead_fault x ≡ None → image_ahead_fault x ≡ None → IsPlain x.table
+-- where no entry is there but those of enlargements, and no image is hidden, nothing else is under way
+pub simple_table : (x : Outline) → entry_ahead_fault x ≡ None → image_ahead_fault x ≡ None → IsSimple x.table
 unfolding entry_ahead_fault image_ahead_fault
-plain_from x no_entry none_ahead = all-of (λ r. is_plain r ≡ true) x.table.volumes (λ r k.
-    journal_or_image r.hidden r.name (named_none at.Journal (λ r. is_entry r.name) x.table.volumes no_entry r k) (named_none at.Image is_image_ahead x.table.volumes none_ahead r k))
+simple_table x no_entry none_ahead = all-of (λ r. is_simple r ≡ true) x.table.volumes (λ r k.
+    simple_from r.hidden r.name (named_none at.Journal (λ r. is_entry_ahead r.name) x.table.volumes no_entry r k) (named_none at.Image is_image_ahead x.table.volumes none_ahead r k))
 
 pub only : {A : Type 0} (o : Option A) → first_some (o ∷ []) ≡ o
 only None = refl
 only (Some x) = refl
 
--- the last of five checks, where the others pass
-pub last_of : {a b d e : Option Place} (o : Option Place) → a ≡ None → b ≡ None → d ≡ None → e ≡ None → first_some (a ∷ b ∷ d ∷ e ∷ o ∷ []) ≡ o
-last_of o is_a is_b is_d is_e = rw (is_a, is_b, is_d, is_e) (only o)
+-- the last of seven checks, where the others pass
+pub last_of : {a b d e f g : Option Place} (o : Option Place) → a ≡ None → b ≡ None → d ≡ None → e ≡ None → f ≡ None → g ≡ None → first_some (a ∷ b ∷ d ∷ e ∷ f ∷ g ∷ o ∷ []) ≡ o
+last_of o is_a is_b is_d is_e is_f is_g = rw (is_a, is_b, is_d, is_e, is_f, is_g) (only o)
+
+-- ---- the entries
+
+first_passing : {A : Type 0} (test : A → Bool) (xs : List A) → find test xs ≡ slice_get (filter test xs) 0
+first_passing test [] = refl
+first_passing {A} test (x ∷ xs) = by (test x) (first_passing test xs)
+  where
+    by : (b : Bool) → find test xs ≡ slice_get (filter test xs) 0 → cond b (Some x) (find test xs) ≡ slice_get (cond b (x ∷ filter test xs) (filter test xs)) 0
+    by true rest = refl
+    by false rest = rest
+
+second_passing : {A : Type 0} (test : A → Bool) (xs : List A) (k : ℕ) → position_or_len test xs ≡ k → k < length xs → find test (drop (suc k) xs) ≡ slice_get (filter test xs) 1
+second_passing test [] k is within = absurd (omega (arith, within))
+second_passing {A} test (x ∷ xs) k is within = by (test x) refl (second_passing test xs (position_or_len test xs) refl)
+  where
+    by : (b : Bool) → test x ≡ b → (position_or_len test xs < length xs → find test (drop (suc (position_or_len test xs)) xs) ≡ slice_get (filter test xs) 1)
+        → find test (drop (suc k) (x ∷ xs)) ≡ slice_get (cond b (x ∷ filter test xs) (filter test xs)) 1
+    by true at rest =
+        let none : 0 ≡ k = sym (ap (λ b. cond (not b) (1 + position_or_len test xs) 0) at) ∙ is in
+        subst (λ n. find test (drop n xs) ≡ slice_get (filter test xs) 0) none (first_passing test xs)
+    by false at rest =
+        let one : 1 + position_or_len test xs ≡ k = sym (ap (λ b. cond (not b) (1 + position_or_len test xs) 0) at) ∙ is in
+        let e : suc (position_or_len test xs) ≡ k = omega (arith, one) in
+        subst (λ n. find test (drop n xs) ≡ slice_get (filter test xs) 1) e (rest (omega (arith, one, within)))
+
+none_passing : {A : Type 0} (test : A → Bool) (xs : List A) → length xs ≤ position_or_len test xs → filter test xs ≡ []
+none_passing test [] past = refl
+none_passing {A} test (x ∷ xs) past = by (test x) refl (none_passing test xs)
+  where
+    by : (b : Bool) → test x ≡ b → (length xs ≤ position_or_len test xs → filter test xs ≡ []) → cond b (x ∷ filter test xs) (filter test xs) ≡ []
+    by true at rest = let none = ap (λ b. cond (not b) (1 + position_or_len test xs) 0) at in absurd (omega (arith, past, none))
+    by false at rest = let one = ap (λ b. cond (not b) (1 + position_or_len test xs) 0) at in rest (omega (arith, past, one))
+
+place_of : {A : Type 0} (test : A → Bool) (xs : List A) (k : ℕ) → position test xs ≡ Some k → (position_or_len test xs ≡ k) × (k < length xs)
+place_of test xs k is = by (nat_lt (position_or_len test xs) (length xs)) refl is
+  where
+    by : (b : Bool) → nat_lt (position_or_len test xs) (length xs) ≡ b → cond b (Some (position_or_len test xs)) None ≡ Some k → (position_or_len test xs ≡ k) × (k < length xs)
+    by true below e = let same = same_Some (position_or_len test xs) k e in (same, subst (λ n. n < length xs) same (ltb-true (position_or_len test xs) (length xs) below))
+    by false past e = absurd (none-some k e)
+
+-- the second that passes stands behind the first, where there is one
+pub second_behind : {A : Type 0} (test : A → Bool) (xs : List A) (k : ℕ) → position test xs ≡ Some k → find test (drop (k + 1) xs) ≡ slice_get (filter test xs) 1
+second_behind test xs k is =
+    let w = place_of test xs k is in
+    subst (λ n. find test (drop n xs) ≡ slice_get (filter test xs) 1) (let e : suc k ≡ k + 1 = omega arith in e) (second_passing test xs k w.0 w.1)
+
+pub second_none : {A : Type 0} (test : A → Bool) (xs : List A) → position test xs ≡ None → slice_get (filter test xs) 1 ≡ None
+second_none {A} test xs is = by (nat_lt (position_or_len test xs) (length xs)) refl is
+  where
+    by : (b : Bool) → nat_lt (position_or_len test xs) (length xs) ≡ b → cond b (Some (position_or_len test xs)) None ≡ None → slice_get (filter test xs) 1 ≡ None
+    by true below e = absurd (none-some (position_or_len test xs) (sym e))
+    by false past e = ap (λ (ys : List A). slice_get ys 1) (none_passing test xs (ltb-false (position_or_len test xs) (length xs) past))
+
+-- the second name of a group is that of the second volume
+second_name : (test : Name → Bool) (hs : List RoomyRow) → second (filter test (names_of (rows_alone hs))) ≡ held_name (slice_get (filter (λ h. test h.row.name) hs) 1)
+second_name test hs = ap second (names_passing hs) ∙ behind (filter (λ h. test h.row.name) hs)
+  where
+    behind : (gs : List RoomyRow) → second (names_of (rows_alone gs)) ≡ held_name (slice_get gs 1)
+    behind [] = refl
+    behind (g ∷ []) = refl
+    behind (g ∷ h ∷ gs) = refl
+
+    names_passing : (gs : List RoomyRow) → filter test (names_of (rows_alone gs)) ≡ names_of (rows_alone (filter (λ h. test h.row.name) gs))
+    names_passing [] = refl
+    names_passing (g ∷ gs) = by (test g.row.name) (names_passing gs)
+      where
+        by : (b : Bool) → filter test (names_of (rows_alone gs)) ≡ names_of (rows_alone (filter (λ h. test h.row.name) gs))
+            → cond b (g.row.name ∷ filter test (names_of (rows_alone gs))) (filter test (names_of (rows_alone gs))) ≡ names_of (rows_alone (cond b (g ∷ filter (λ h. test h.row.name) gs) (filter (λ h. test h.row.name) gs)))
+        by true rest = ap (λ ns. g.row.name ∷ ns) rest
+        by false rest = rest
+
+not_folding : (n : Name) → is_entry_ahead n ≡ false → is_folding n ≡ false
+not_folding Mgt h = refl
+not_folding (Vhd u) h = refl
+not_folding (Raw u) h = refl
+not_folding (Old u) h = refl
+not_folding (Clone d b t) h = refl
+not_folding (Inflate u e) h = refl
+not_folding (Coalesce c p) h = absurd (true≢false h)
+not_folding (Relink c p) h = absurd (true≢false h)
+not_folding (Leaf l p) h = absurd (true≢false h)
+
+none_ahead : (x : Outline) → entry_ahead_fault x ≡ None → (r : Row) → In r x.table.volumes → is_entry_ahead r.name ≡ false
+unfolding entry_ahead_fault
+none_ahead x no_entry = named_none at.Journal (λ r. is_entry_ahead r.name) x.table.volumes no_entry
+
+none_folding : (rs : List Row) → ((r : Row) → In r rs → is_entry_ahead r.name ≡ false) → filter is_folding (names_of rs) ≡ []
+none_folding [] none = refl
+none_folding (r ∷ rs) none =
+    ap (λ b. cond b (r.name ∷ filter is_folding (names_of rs)) (filter is_folding (names_of rs))) (not_folding r.name (none r (inl refl))) ∙ none_folding rs (λ s i. none s (inr i))
+
+pub second_at : (k : RoomyTable) (x : Outline) {hs : List RoomyRow} {o : Option RoomyRow} {answer : Option Place} → x.table ≡ table_alone k → entry_ahead_fault x ≡ None → hs ≡ k.rows
+    → o ≡ slice_get (filter (λ h. is_making h.row.name) hs) 1 → answer ≡ placed at.Journal (held_name o) → answer ≡ second_entry_fault x
+unfolding second_entry_fault
+second_at k x is no_entry held found said =
+    said ∙ ap (λ q. placed at.Journal (held_name q)) (found ∙ ap (λ gs. slice_get (filter (λ (h : RoomyRow). is_making h.row.name) gs) 1) held)
+    ∙ ap (placed at.Journal) (sym (second_name is_making k.rows) ∙ sym (ap (λ (u : VolumeTable). second (making u)) is))
+    ∙ sym (ap (λ ns. placed at.Journal (lesser (second ns) (second (making x.table)))) (none_folding x.table.volumes (none_ahead x no_entry)))
+
+-- an entry is lost as the check says it, where no other is there
+lost_as : (t : VolumeTable) (n : Name) → is_entry_ahead n ≡ false → is_enlarging_lost t n ≡ (is_entry n && not (is_at_stage t n && are_past t n))
+unfolding is_at_stage
+lost_as t (Inflate u e) h = by (is_inflating t u e) (is_past t.sequence u)
+  where
+    by : (a b : Bool) → (not a || not b) ≡ not (a && (b && true))
+    by true true = refl
+    by true false = refl
+    by false b = refl
+lost_as t Mgt h = refl
+lost_as t (Vhd u) h = refl
+lost_as t (Raw u) h = refl
+lost_as t (Old u) h = refl
+lost_as t (Clone d b w) h = absurd (true≢false h)
+lost_as t (Coalesce c p) h = absurd (true≢false h)
+lost_as t (Relink c p) h = absurd (true≢false h)
+lost_as t (Leaf l p) h = absurd (true≢false h)
+
+pub lost_at : (k : RoomyTable) (x : Outline) {hs : List RoomyRow} {o : Option RoomyRow} {answer : Option Place} → x.table ≡ table_alone k → entry_ahead_fault x ≡ None → hs ≡ k.rows
+    → o ≡ find (λ h. is_enlarging_lost (table_alone k) h.row.name) hs → answer ≡ placed at.Journal (held_name o) → answer ≡ lost_entry_fault x
+unfolding lost_entry_fault first_name
+lost_at k x is no_entry held found said =
+    first_at at.Journal (λ t r. is_enlarging_lost t r.name) k is held found said
+    ∙ ap (λ q. placed at.Journal (name_in q)) (find_same (λ r. is_enlarging_lost x.table r.name) (is_lost x.table) x.table.volumes (λ r i. lost_as x.table r.name (none_ahead x no_entry r i)))
+
+-- the first name of a group is that of the first volume
+pub first_making_at : (k : RoomyTable) {hs : List RoomyRow} {o : Option RoomyRow} {answer : Option Name} → hs ≡ k.rows → o ≡ find (λ h. is_making h.row.name) hs → answer ≡ held_name o
+    → answer ≡ head (making (table_alone k))
+first_making_at k held found said =
+    said ∙ ap held_name (found ∙ ap (find (λ (h : RoomyRow). is_making h.row.name)) held) ∙ first_name_at k.rows
+  where
+    first_name_at : (hs : List RoomyRow) → held_name (find (λ h. is_making h.row.name) hs) ≡ head (filter is_making (names_of (rows_alone hs)))
+    first_name_at [] = refl
+    first_name_at (h ∷ hs) = by (is_making h.row.name) (first_name_at hs)
+      where
+        by : (b : Bool) → held_name (find (λ h. is_making h.row.name) hs) ≡ head (filter is_making (names_of (rows_alone hs)))
+            → held_name (cond b (Some h) (find (λ h. is_making h.row.name) hs)) ≡ head (cond b (h.row.name ∷ filter is_making (names_of (rows_alone hs))) (filter is_making (names_of (rows_alone hs))))
+        by true e = refl
+        by false e = e

@@ -11,23 +11,24 @@ use Rattle.std.proofs.lemmas.Cmp.{nat_list_cmp_total}
 use Rattle.std.proofs.lemmas.List.Sums.{length-filter}
 use Rattle.std.proofs.lemmas.Map.Lookups.{exact_bytes}
 use Rattle.sm_base.specs.declared.names.Name.{Name}
-use Rattle.sm_base.specs.declared.names.Name.TheVariants.{Vhd, Raw}
-use Rattle.vg_meta.specs.Tables.{VolumeTable, Row, rows}
+use Rattle.sm_base.specs.declared.names.Name.TheVariants.{Mgt, Vhd, Raw, Old, Clone, Inflate, Coalesce, Relink, Leaf}
+use Rattle.vg_meta.specs.Tables.{VolumeTable, Row, names_of, rows}
 use Rattle.vg_meta.specs.Roomy.{RoomyTable, RoomyRow, table_alone, rows_alone}
 use Rattle.vg_meta.proofs.RowLaws.{row_of-name}
 use Rattle.common_laws.specs.Lists.{In, given, numbers}
 use Rattle.sm_record.specs.declared.records.Record.{Record}
 use Rattle.sm_mgt.specs.Places.{is_of}
 use Rattle.sm_standing.specs.Contents.{taken, is_record_of}
-use Rattle.sm_standing.specs.Checks.{is_unrecorded, disk_place, disk_fault}
+use Rattle.sm_standing.specs.Checks.{is_entry_ahead, is_unrecorded, disk_place, disk_fault}
 use Rattle.sm_standing.specs.Outlines.{Outline, outline_records}
 use Rattle.sm_standing.specs.Ordered.{Rising, uuid_cmp}
-use Rattle.sm_standing.specs.Entries.{is_visible, of_row}
-use Rattle.sm_standing.specs.Plain.{IsPlain}
-use Rattle.sm_standing.specs.Standing.{standing_volume, uuids}
+use Rattle.sm_standing.specs.Entries.{head, is_making, is_visible, making, of_row}
+use Rattle.sm_standing.specs.Plain.{IsPlain, IsSimple, is_simple}
+use Rattle.sm_standing.specs.Standing.{standing_volume, stands_folded, stands_forked, stands_plainly, under, uuids}
 use Rattle.sm_standing.proofs.DisksShown.{row_of-In, rising-in_order, stands_listed}
-use Rattle.sm_standing.proofs.PlainDisks.{plain_stands}
-use Rattle.sm_recover.specs.Faults.{HasPlaces, IsLeast, is_unrecorded_in, unrecorded, lesser}
+use Rattle.sm_standing.proofs.PlainDisks.{all-In, plain_stands, simple_folding}
+use Rattle.sm_standing.proofs.PlainKept.{not_ahead}
+use Rattle.sm_recover.specs.Faults.{HasOwnDisks, HasPlaces, IsLeast, is_unrecorded_in, unrecorded, lesser}
 use Rattle.common_laws.proofs.Lists.{In-map, In-filter, filter-In}
 use Rattle.common_laws.proofs.Options.{is_some-parts}
 use Rattle.sm_standing.specs.Checks.{disk_uuids}
@@ -44,9 +45,37 @@ found_either test a b = by (test a) (test b)
     by false true = refl
     by false false = refl
 
--- it is one where an image of its name is visible and not new
-pub disk_at : (t : VolumeTable) (u : List ℕ) → IsPlain t → is_some (standing_volume t u) ≡ (is_visible t (Vhd u) || is_visible t (Raw u))
-disk_at t u plain = ap is_some (plain_stands t u plain) ∙ found_either (is_visible t) (Vhd u) (Raw u)
+-- where nothing is under way it is one where an image of its name is visible and not new
+pub own_plain : (t : VolumeTable) → IsPlain t → HasOwnDisks t
+own_plain t plain u = ap is_some (plain_stands t u plain) ∙ found_either (is_visible t) (Vhd u) (Raw u)
+
+-- the entry of an enlargement says nothing of disks
+pub own_simple : (t : VolumeTable) → IsSimple t → HasOwnDisks t
+unfolding standing_volume
+own_simple t simple u =
+    ap is_some (ap (λ ns. under (λ e. stands_forked t e u) (head (making t)) (under (λ e. stands_folded t e u) (head ns) (stands_plainly t u))) (simple_folding t.volumes simple)
+    ∙ forked_simple (making t) (λ n i. by_name n i)) ∙ found_either (is_visible t) (Vhd u) (Raw u)
+  where
+    forked : (n : Name) → is_entry_ahead n ≡ false → is_making n ≡ true → stands_forked t n u (stands_plainly t u) ≡ stands_plainly t u
+    forked (Inflate v e) not_ahead making = refl
+    forked (Clone d b w) not_ahead making = absurd (true≢false not_ahead)
+    forked Mgt not_ahead making = refl
+    forked (Vhd v) not_ahead making = refl
+    forked (Raw v) not_ahead making = refl
+    forked (Old v) not_ahead making = refl
+    forked (Coalesce c p) not_ahead making = refl
+    forked (Relink c p) not_ahead making = refl
+    forked (Leaf l p) not_ahead making = refl
+
+    forked_simple : (ns : List Name) → ((n : Name) → In n ns → stands_forked t n u (stands_plainly t u) ≡ stands_plainly t u) → under (λ e. stands_forked t e u) (head ns) (stands_plainly t u) ≡ stands_plainly t u
+    forked_simple [] each = refl
+    forked_simple (n ∷ ns) each = each n (inl refl)
+
+    by_name : (n : Name) → In n (making t) → stands_forked t n u (stands_plainly t u) ≡ stands_plainly t u
+    by_name n i =
+        let listed = In-filter is_making (names_of t.volumes) n i in
+        let r = In-map (λ (x : Row). x.name) t.volumes n listed.0 in
+        forked n (ap is_entry_ahead r.2 ∙ (not_ahead r.0.hidden r.0.name (all-In (λ (x : Row). is_simple x ≡ true) t.volumes r.0 simple r.1)).no_entry_ahead) listed.1
 
 -- whether a volume is visible and not new, by its row
 pub visible_none : (t : VolumeTable) (n : Name) → rows t n ≡ None → is_visible t n ≡ false
@@ -190,7 +219,7 @@ held_row k n r there =
     let h = In-map (λ (g : RoomyRow). g.row) k.rows r at.0 in
     (h.0, h.1, ap (λ (q : Row). q.name) (sym h.2) ∙ row_of-name (rows_alone k.rows) n r there)
 
-module _ (k : RoomyTable) (places : List (Option Record)) (u : List ℕ) (plain : IsPlain (table_alone k)) (wrong : Wrong (table_alone k) places u) where
+module _ (k : RoomyTable) (places : List (Option Record)) (u : List ℕ) (own : HasOwnDisks (table_alone k)) (wrong : Wrong (table_alone k) places u) where
   from_visible : (n : Name) → is_visible (table_alone k) n ≡ true → unrecorded (table_alone k) places n ≡ Some u → IsGiven (λ h. unrecorded (table_alone k) places h.row.name) k.rows u
   from_visible n visible given =
       let r = visible_there (table_alone k) n visible in
@@ -198,7 +227,7 @@ module _ (k : RoomyTable) (places : List (Option Record)) (u : List ℕ) (plain 
       (h.0, h.1, ap (unrecorded (table_alone k) places) h.2 ∙ given)
 
   wrong_given : IsGiven (λ h. unrecorded (table_alone k) places h.row.name) k.rows u
-  wrong_given = by (is_visible (table_alone k) (Vhd u)) refl (sym (disk_at (table_alone k) u plain) ∙ stands (table_alone k) places u wrong)
+  wrong_given = by (is_visible (table_alone k) (Vhd u)) refl (sym (own u) ∙ stands (table_alone k) places u wrong)
     where
       by : (b : Bool) → is_visible (table_alone k) (Vhd u) ≡ b → (b || is_visible (table_alone k) (Raw u)) ≡ true → IsGiven (λ h. unrecorded (table_alone k) places h.row.name) k.rows u
       by true is either = from_visible (Vhd u) is (at_vhd (table_alone k) places u wrong)
@@ -208,12 +237,12 @@ module _ (k : RoomyTable) (places : List (Option Record)) (u : List ℕ) (plain 
 abbrev pub with_unrecorded : VolumeTable → List (Option Record) → Option (List ℕ) → RoomyRow → Option (List ℕ)
 with_unrecorded t places least h = lesser least (unrecorded t places h.row.name)
 
-pub least_unrecorded : (k : RoomyTable) (places : List (Option Record)) → IsPlain (table_alone k)
+pub least_unrecorded : (k : RoomyTable) (places : List (Option Record)) → HasOwnDisks (table_alone k)
     → IsLeast (λ u. is_unrecorded_in (table_alone k) places u ≡ true) (fold (with_unrecorded (table_alone k) places) None k.rows)
-least_unrecorded k places plain =
+least_unrecorded k places own =
     let t = table_alone k in
     least_as (λ u. ⊥ ⊎ IsGiven (λ h. unrecorded t places h.row.name) k.rows u) (Wrong t places) (fold (with_unrecorded t places) None k.rows)
-    (λ u. ⊎_elim (λ none. absurd none) (λ g. from_name t places g.0.row.name u g.2)) (λ u wrong. inr (wrong_given k places u plain wrong))
+    (λ u. ⊎_elim (λ none. absurd none) (λ g. from_name t places g.0.row.name u g.2)) (λ u wrong. inr (wrong_given k places u own wrong))
     (least_fold (λ h. unrecorded t places h.row.name) k.rows (λ u. ⊥) None (λ u none. none))
 
 -- the check of the records, by the least of these UUIDs

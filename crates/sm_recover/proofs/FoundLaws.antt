@@ -1,5 +1,5 @@
 -- What was read of a volume is what the checks look at: the image that the content has there, or that it has none.
-use Rattle.std.proofs.Common.{◌≡◌, ℕ, ◌*◌, ◌<◌, Bool, true, false, cond, not, ◌&&◌, nat_lt, List, Option, Some, None, is_none, refl, sym, ap, ap₂, ◌∙◌, subst, arith, length}
+use Rattle.std.proofs.Common.{◌≡◌, inl, inr, ℕ, ◌*◌, ◌<◌, Bool, true, false, cond, not, ◌&&◌, nat_lt, List, Option, Some, None, is_none, refl, sym, ap, ap₂, ◌∙◌, subst, arith, length}
 use Rattle.std.proofs.lemmas.Bool.{true≢false, cond-true, le-ltb, lt-ltb}
 use Rattle.sm_base.specs.Kinds.{is_image}
 use Rattle.sm_base.specs.declared.names.Name.{Name}
@@ -31,7 +31,12 @@ use Rattle.sm_ready.specs.Outlined.{link_in}
 use Rattle.sm_ready.specs.Stores.{content_now}
 use Rattle.sm_ready.proofs.LeftLaws.{now_sector, raw_of, size_there, vhd_of}
 use Rattle.sm_recover.specs.Faults.{HasTable}
-use Rattle.sm_recover.specs.Loaded.{IsFilledImage, IsNoneRead, IsReadAs}
+use Rattle.sm_recover.specs.Loaded.{IsFilledImage, IsNoneRead, IsReadAs, as_read}
+use Rattle.sm_recover.specs.Repairs.{IsUndoable}
+use Rattle.sm_standing.specs.Undone.{undone}
+use Rattle.sm_standing.proofs.UndoneLaws.{undone_none}
+use Rattle.sm_standing.proofs.UndoneContents.{images_undone_at}
+use Rattle.sm_recover.proofs.TableLaws.{Cases, cases, other_extents, other_whole, records_room}
 
 and_no : (b : Bool) → (b && false) ≡ false
 and_no true = refl
@@ -110,7 +115,7 @@ module _ (told : Type 0) (s : Site) (t : VolumeTable) (area : Held) (r : Row) wh
       → link_of (image_of (content_now s t area) r.name) ≡ shown image
   link_read image plain there filled read known = link_named r.name image plain there filled read known
 
-  module _ {x : Outline} (is : HasTable s.geometry t x) where
+  module _ {u : VolumeTable} {x : Outline} (is : HasTable s.geometry u x) where
     oversize : nat_lt (s.geometry.entries * s.geometry.block) (sectors_by s r) ≡ is_oversize x.extent x.block x.entries r
     oversize = rw (is.extent, is.block, is.entries) refl
 
@@ -163,3 +168,43 @@ skipped x r none = by (is_image r.name) r.fresh refl refl
     by false f other fresh = ap (λ w. not r.fresh && w) (wrong_kind x r r.name other) ∙ and_no (not r.fresh)
     by true true image fresh = ap (λ f. not f && is_image_wrong x r r.name) fresh
     by true false image fresh = absurd (none (record { image = image; filled = fresh }))
+
+-- ---- beside a table in which an image is being enlarged
+
+-- a volume is as wrong as it is read
+wrong_read : (ns : List Name) (x : Outline) (q : Row) (n : Name) → q.name ≡ n → is_image_wrong x (as_read ns q) n ≡ is_image_wrong x q n
+wrong_read ns x q (Raw u) is = ap (λ r. is_image_wrong x r (Raw u)) (other_whole ns q (other_extents ns q.name (length q.extents) (λ v same. let e = sym is ∙ same in cc)))
+wrong_read ns x q (Vhd u) is = refl
+wrong_read ns x q Mgt is = refl
+wrong_read ns x q (Old u) is = refl
+wrong_read ns x q (Clone d b w) is = refl
+wrong_read ns x q (Inflate u e) is = refl
+wrong_read ns x q (Coalesce a b) is = refl
+wrong_read ns x q (Relink a b) is = refl
+wrong_read ns x q (Leaf l p) is = refl
+
+pub invalid_as_read : (ns : List Name) (x : Outline) (q : Row) → is_invalid x (as_read ns q) ≡ is_invalid x q
+invalid_as_read ns x q = ap (λ w. not q.fresh && w) (wrong_read ns x q q.name refl)
+
+module _ (s : Site) (t : VolumeTable) (area : Held) (c : IsUndoable s t) where
+  -- each image is the same without the enlargement
+  pub image_undone : (n : Name) → image_of (content_now s (undone t) area) n ≡ image_of (content_now s t area) n
+  image_undone n = by (cases c)
+    where
+      by : Cases c → image_of (content_now s (undone t) area) n ≡ image_of (content_now s t area) n
+      by (inl none) = ap (λ x. image_of (content_now s x area) n) (undone_none t none)
+      by (inr (u, e, w)) = images_undone_at (content_now s t area) u e w c.table s.geometry.in_range (records_room s t c.record_volume) (undone t).sequence n
+
+  wrong_undone : (r : Row) (n : Name) → is_image_wrong (outline (content_now s t area)) r n ≡ is_image_wrong (outline (content_now s (undone t) area)) r n
+  wrong_undone r (Vhd u) = ap (λ i. is_none (link_of i)) (sym (image_undone (Vhd u)))
+  wrong_undone r (Raw u) = refl
+  wrong_undone r Mgt = refl
+  wrong_undone r (Old u) = refl
+  wrong_undone r (Clone d b w) = refl
+  wrong_undone r (Inflate u e) = refl
+  wrong_undone r (Coalesce a b) = refl
+  wrong_undone r (Relink a b) = refl
+  wrong_undone r (Leaf l p) = refl
+
+  pub invalid_undone : (r : Row) → is_invalid (outline (content_now s t area)) r ≡ is_invalid (outline (content_now s (undone t) area)) r
+  invalid_undone r = ap (λ w. not r.fresh && w) (wrong_undone r r.name)

@@ -9,8 +9,7 @@ use Rattle.sm_base.specs.declared.names.Name.{Name}
 use Rattle.vg_meta.specs.Tables.{Row}
 use Rattle.vg_meta.specs.Roomy.{RoomyRow, rows_alone}
 use Rattle.vg_meta.proofs.NameLaws.{less_other}
-use Rattle.vg_volumes.specs.Stored.{held_in, stored}
-use Rattle.vg_volumes.specs.declared.stores.Store.{Ghosts}
+use Rattle.vg_volumes.specs.Stored.{Stored, held_in}
 use Rattle.common_laws.specs.Lists.{In}
 use Rattle.common_laws.proofs.Lists.{In-append}
 use Rattle.sm_standing.specs.Ordered.{Rising}
@@ -141,35 +140,35 @@ module _ {hs : List RoomyRow} {i : ℕ} {h : RoomyRow} (a : IsItem hs i h) where
       by (inr (inl is)) = inr is
       by (inr (inr none)) = absurd none
 
-  module _ {S : Type 0} (g : Ghosts S) (s : S) (xs : List TreeRow) (each : HasEachRow g s (rows_alone (take i hs)) xs) where
-    pub each_none : (IsFilledImage h.row → ⊥) → HasEachRow g s (rows_alone (take (i + 1) hs)) xs
+  module _ (told : Type 0) (held : Stored) (xs : List TreeRow) (each : HasEachRow told held (rows_alone (take i hs)) xs) where
+    pub each_none : (IsFilledImage h.row → ⊥) → HasEachRow told held (rows_alone (take (i + 1) hs)) xs
     each_none none r there f = by (next_in r there)
       where
-        by : In r (rows_alone (take i hs)) ⊎ (r ≡ h.row) → (x : TreeRow) × (tree_row xs r.name ≡ Some x) × IsRow g s r x
+        by : In r (rows_alone (take i hs)) ⊎ (r ≡ h.row) → (x : TreeRow) × (tree_row xs r.name ≡ Some x) × IsRow told held r x
         by (inl before) = each r before f
         by (inr is) = absurd (none (subst IsFilledImage is f))
 
-    pub each_some : (x : TreeRow) → AreRowsOf (rows_alone (take i hs)) xs → IsFilledImage h.row → IsRow g s h.row x → HasEachRow g s (rows_alone (take (i + 1) hs)) (with_row x xs)
+    pub each_some : (x : TreeRow) → AreRowsOf (rows_alone (take i hs)) xs → IsFilledImage h.row → IsRow told held h.row x → HasEachRow told held (rows_alone (take (i + 1) hs)) (with_row x xs)
     each_some x are filled row r there f = by (next_in r there)
       where
-        by : In r (rows_alone (take i hs)) ⊎ (r ≡ h.row) → (y : TreeRow) × (tree_row (with_row x xs) r.name ≡ Some y) × IsRow g s r y
+        by : In r (rows_alone (take i hs)) ⊎ (r ≡ h.row) → (y : TreeRow) × (tree_row (with_row x xs) r.name ≡ Some y) × IsRow told held r y
         by (inl before) = let w = each r before f in (w.0, other_found xs x are filled row.named r.name (front_names r before) ∙ w.1, w.2)
-        by (inr is) = (x, ap (λ (q : Row). tree_row (with_row x xs) q.name) is ∙ same_found xs x are filled row.named, subst (λ q. IsRow g s q x) (sym is) row)
+        by (inr is) = (x, ap (λ (q : Row). tree_row (with_row x xs) q.name) is ∙ same_found xs x are filled row.named, subst (λ q. IsRow told held q x) (sym is) row)
 
 -- ---- all of them
 
 -- a row is that of its volume, as it was read
-pub record IsRead {S : Type 0} (g : Ghosts S) (s : S) (rs : List Row) (xs : List TreeRow) (x : TreeRow) : Type 0 where
+pub record IsRead (told : Type 0) (held : Stored) (rs : List Row) (xs : List TreeRow) (x : TreeRow) : Type 0 where
   pub volume : Row
   pub there : In volume rs
   pub filled : IsFilledImage volume
-  pub row : IsRow g s volume x
+  pub row : IsRow told held volume x
   pub found : TreeRow
   pub at : tree_row xs volume.name ≡ Some found
   pub same : found.image ≡ x.image
 
-module _ {S : Type 0} {g : Ghosts S} {s : S} {rs : List Row} {xs : List TreeRow} (are : AreRowsOf rs xs) (each : HasEachRow g s rs xs) where
-  pub read_row : (x : TreeRow) → In x xs → IsRead g s rs xs x
+module _ {told : Type 0} {held : Stored} {rs : List Row} {xs : List TreeRow} (are : AreRowsOf rs xs) (each : HasEachRow told held rs xs) where
+  pub read_row : (x : TreeRow) → In x xs → IsRead told held rs xs x
   read_row x i =
       let w = In-filter_map (row_among xs) rs x (subst (In x) are i) in
       let a = among_of xs w.0 x w.2 in
@@ -186,12 +185,12 @@ module _ {S : Type 0} {g : Ghosts S} {s : S} {rs : List Row} {xs : List TreeRow}
           named = (read_from xs w.0 x w.2).named;
           hidden = ap (λ (z : TreeRow). z.hidden) a.is;
           extents = ap (λ (z : TreeRow). z.extents) a.is;
-          image = subst (IsReadAs g.told (g.site s).geometry (length w.0.extents * (g.site s).geometry.extent) (held_in (stored g s) w.0.name) w.0.name) same y.2.image;
+          image = subst (IsReadAs told held.site.geometry (length w.0.extents * held.site.geometry.extent) (held_in held w.0.name) w.0.name) same y.2.image;
         };
       }
 
 -- each volume of an image that is not new has one
-pub read_each : {S : Type 0} {g : Ghosts S} {s : S} (rs : List Row) (xs : List TreeRow) → HasEachRow g s rs xs → (r : Row) → In r rs → is_image r.name ≡ true → r.fresh ≡ false → (x : TreeRow) × (row_among xs r ≡ Some x)
+pub read_each : {told : Type 0} {held : Stored} (rs : List Row) (xs : List TreeRow) → HasEachRow told held rs xs → (r : Row) → In r rs → is_image r.name ≡ true → r.fresh ≡ false → (x : TreeRow) × (row_among xs r ≡ Some x)
 read_each rs xs each r i image filled =
     let f : IsFilledImage r = record { image = image; filled = filled } in
     let w = each r i f in

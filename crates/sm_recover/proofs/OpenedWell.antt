@@ -9,10 +9,11 @@ use Rattle.sm_base.specs.declared.names.Name.TheVariants.{Mgt, Vhd, Raw, Old, Cl
 use Rattle.sm_base.specs.declared.operations.Op.TheVariants.{Idle}
 use Rattle.sm_base.specs.declared.sizes.Geometry.{Geometry}
 use Rattle.sm_disk.specs.Held.{Held, IsSettled, reads}
-use Rattle.vg_meta.specs.Tables.{VolumeTable, Row, IsVolume, rows}
+use Rattle.vg_meta.specs.Tables.{VolumeTable, Row, IsVolume, extents_of, rows}
 use Rattle.vg_meta.specs.Roomy.{table_alone}
 use Rattle.vg_volumes.specs.Sites.{Site, volume_of}
-use Rattle.vg_volumes.specs.Stored.{held_in, stored}
+use Rattle.vg_volumes.specs.Stored.{held_in, sectors_in}
+use Rattle.vg_volumes.specs.Volumes.{volume}
 use Rattle.vg_volumes.specs.declared.stores.Store.{Ghosts}
 use Rattle.common_laws.specs.Lists.{In, ◌>>=◌}
 use Rattle.common_laws.proofs.Booleans.{not_false}
@@ -32,14 +33,16 @@ use Rattle.sm_standing.specs.Standing.{standing_volume, uuids}
 use Rattle.sm_standing.proofs.DisksShown.{stands_listed}
 use Rattle.sm_standing.proofs.FaultLaws.{named_none}
 use Rattle.sm_standing.proofs.PlainDisks.{all-In}
-use Rattle.sm_standing.proofs.PlainKept.{disk_none}
+use Rattle.sm_standing.proofs.PlainKept.{disk_none, plain_simple_name}
+use Rattle.sm_standing.specs.Undone.{undone}
+use Rattle.vhd_chain.specs.Reading.{AllAreTrue}
 use Rattle.vhd_chain.specs.Trees.{row_name}
 use Rattle.vhd_chain.specs.declared.rows.TreeRow.{TreeRow}
-use Rattle.vhd_image.specs.Bodies.{StandsIn, parent_name, volume_name}
+use Rattle.vhd_image.specs.Bodies.{StandsIn, TrueIn, parent_name, volume_name}
 use Rattle.vhd_image.specs.Steady.{IsSteady}
 use Rattle.vhd_image.specs.declared.images.Body.{Body}
 use Rattle.vhd_image.specs.declared.images.Body.TheVariants as body
-use Rattle.vhd_image.proofs.SteadyLaws.{steady_quiet}
+use Rattle.vhd_image.proofs.SteadyLaws.{steady_quiet, true_quiet}
 use Rattle.sm_ready.specs.Known.{Known, machine_row, shape_in}
 use Rattle.sm_ready.specs.Orderly.{IsOrderly}
 use Rattle.sm_ready.specs.Ready.{IsReady}
@@ -51,12 +54,13 @@ use Rattle.sm_ready.proofs.NumberLaws.{whole_blocks}
 use Rattle.sm_ready.proofs.RepairLaws.{all_quiet}
 use Rattle.sm_ready.proofs.RowLaws.{All-In, found_in}
 use Rattle.sm_recover.specs.Faults.{HasLinks, HasPlaces, HasTable}
-use Rattle.sm_recover.specs.Loaded.{AreRowsOf, HasEachRow, IsReadAs, row_among}
-use Rattle.sm_recover.specs.Repairs.{IsCheckedStore}
-use Rattle.sm_recover.proofs.DiskLaws.{disk_at, records_counted, visible_row}
-use Rattle.sm_recover.proofs.FoundLaws.{sectors_by, valid_there}
+use Rattle.sm_recover.specs.Loaded.{AreRowsOf, HasEachRow, IsReadAs, read_volumes, row_among, stored_undone}
+use Rattle.sm_recover.specs.Repairs.{IsChecked, IsUndoableStore}
+use Rattle.sm_recover.proofs.DiskLaws.{own_plain, records_counted, visible_row}
+use Rattle.sm_recover.proofs.FoundLaws.{image_undone, sectors_by, valid_there}
+use Rattle.sm_recover.proofs.TableLaws.{image_not_making, records_undone, undone_checked, undone_filtered, undone_from, undone_in, undone_named, undone_stands}
 use Rattle.sm_recover.proofs.HoldingLaws.{holds_each}
-use Rattle.sm_recover.proofs.LoadedLaws.{read_each, read_from, read_row}
+use Rattle.sm_recover.proofs.LoadedLaws.{none_among, read_each, read_from, read_row}
 use Rattle.sm_recover.proofs.ReadLaws.{image_named, some_extents}
 use Rattle.sm_recover.proofs.RemovalLaws.{no_entry}
 use Rattle.sm_base.specs.declared.faults.Place.{Place}
@@ -157,20 +161,33 @@ uuid_shown t _ is_disk image visible = absurd (true≢false (sym image))
 
 -- ---- what the checks say
 
-module _ {S : Type 0} (g : Ghosts S) (store : S) (xs : List TreeRow) (places : List (Option Record)) (c : IsCheckedStore g store) (are : AreRowsOf (table_alone (g.table store)).volumes xs)
-    (each : HasEachRow g store (table_alone (g.table store)).volumes xs) where
+module _ {S : Type 0} (g : Ghosts S) (store : S) (xs : List TreeRow) (places : List (Option Record)) (c : IsUndoableStore g store) (are_read : AreRowsOf (read_volumes (table_alone (g.table store))) xs)
+    (each_read : HasEachRow g.told (stored_undone g store) (read_volumes (table_alone (g.table store))) xs) where
   abbrev s : Site
   s = g.site store
 
+  -- the table as it is, and without the enlargement
+  abbrev was : VolumeTable
+  was = table_alone (g.table store)
+
   abbrev t : VolumeTable
-  t = table_alone (g.table store)
+  t = undone was
+
+  d : IsChecked s t
+  d = undone_checked c
+
+  are : AreRowsOf t.volumes xs
+  are = are_read ∙ sym (undone_filtered c (row_among xs) (λ r making. none_among xs r (λ f. true≢false (sym making ∙ image_not_making r.name f.image))))
+
+  each : HasEachRow g.told (stored_undone g store) t.volumes xs
+  each r i = each_read r (undone_in c r i)
 
   plain_at : (r : Row) → In r t.volumes → is_plain r ≡ true
-  plain_at r i = all-In (λ (x : Row). is_plain x ≡ true) t.volumes r c.plain i
+  plain_at r i = all-In (λ (x : Row). is_plain x ≡ true) t.volumes r d.plain i
 
-  module _ (long : length places ≡ place_count) (pass : (x : Outline) → HasTable s.geometry t x → HasLinks xs x → HasPlaces places x → fault_today_of x ≡ None) where
+  module _ (long : length places ≡ place_count) (pass : (x : Outline) → HasTable s.geometry was x → HasLinks xs x → HasPlaces places x → fault_today_of x ≡ None) where
     abbrev seen : Outline
-    seen = outline_in s t (begun_with xs places 0)
+    seen = outline_in s was (begun_with xs places 0)
 
     has : HasPlaces places seen
     unfolding outline_in
@@ -186,19 +203,23 @@ module _ {S : Type 0} (g : Ghosts S) (store : S) (xs : List TreeRow) (places : L
 
     named : (r : Row) → In r t.volumes → is_misnamed t r ≡ false
     unfolding outline_in misnamed_fault
-    named = named_none at.Image (is_misnamed t) t.volumes (none (misnamed_fault seen) (inr (inr (inl refl))))
+    named = undone_named c (named_none at.Image (is_misnamed was) was.volumes (none (misnamed_fault seen) (inr (inr (inl refl)))))
 
     alone : (r : Row) → In r t.volumes → has_parent seen r.name ≡ false
     unfolding outline_in parent_ahead_fault
-    alone = named_none at.Tree (λ r. has_parent seen r.name) t.volumes (none (parent_ahead_fault seen) (inr (inr (inr (inr (inr (inr (inl refl))))))))
+    alone r i =
+        let f = undone_from c r i in
+        ap (λ (x : Row). has_parent seen x.name) f.is
+        ∙ named_none at.Tree (λ q. has_parent seen q.name) was.volumes (none (parent_ahead_fault seen) (inr (inr (inr (inr (inr (inr (inr (inr (inl refl)))))))))) f.volume f.there
 
     recorded : (u : List ℕ) → is_some (standing_volume t u) ≡ true → length (filter (is_of u) places) ≡ 1
     unfolding outline_in disk_fault
-    recorded u stands =
-        let n = is_some-parts (standing_volume t u) stands in
-        let listed = filter-In (λ v. is_some (standing_volume t v)) (uuids t) u (stands_listed t u n.0 n.1) stands in
+    recorded u stood =
+        let stands : is_some (standing_volume was u) ≡ true = ap is_some (sym (undone_stands c u)) ∙ stood in
+        let n = is_some-parts (standing_volume was u) stands in
+        let listed = filter-In (λ v. is_some (standing_volume was v)) (uuids was) u (stands_listed was u n.0 n.1) stands in
         length-filter (is_of u) places ∙ sym (records_counted seen places u has)
-        ∙ eqb-true _ 1 (not_false _ (none_find (is_unrecorded seen) (disk_uuids seen) (disk_none _ (none (disk_fault seen) (inr (inr (inr (inr (inr (inr (inr (inr (inl refl))))))))))) u listed))
+        ∙ eqb-true _ 1 (not_false _ (none_find (is_unrecorded seen) (disk_uuids seen) (disk_none _ (none (disk_fault seen) (inr (inr (inr (inr (inr (inr (inr (inr (inr (inr (inl refl))))))))))))) u listed))
 
     -- ---- each row
 
@@ -206,13 +227,13 @@ module _ {S : Type 0} (g : Ghosts S) (store : S) (xs : List TreeRow) (places : L
     proper room x i =
         let w = read_row are each x i in
         subst (λ k. IsImageRow (shape_in s t (begun_with xs places room)) (machine_row (row_by x.image x.hidden k))) (sym w.row.extents)
-        (row_proper g.told s t (begun_with xs places room) (held_in (stored g store) w.volume.name) w.volume.name x.image x.hidden (length w.volume.extents) w.row.image
-        (some_extents w.volume (All-In IsVolume t.volumes w.volume c.table.volumes.each w.there).kind w.filled.image) w.row.named)
+        (row_proper g.told s t (begun_with xs places room) (held_in (stored_undone g store) w.volume.name) w.volume.name x.image x.hidden (length w.volume.extents) w.row.image
+        (some_extents w.volume (All-In IsVolume t.volumes w.volume d.table.volumes.each w.there).kind w.filled.image) w.row.named)
 
     parentless : (x : TreeRow) → In x xs → parent_name x.image ≡ None
     parentless x i =
         let w = read_row are each x i in
-        row_alone g.told s.geometry (held_in (stored g store) w.volume.name) seen w.volume.name w.found x (length w.volume.extents * s.geometry.extent) w.row.image (links w.volume.name ∙ ap link_in w.at) w.same (alone w.volume w.there)
+        row_alone g.told s.geometry (held_in (stored_undone g store) w.volume.name) seen w.volume.name w.found x (length w.volume.extents * s.geometry.extent) w.row.image (links w.volume.name ∙ ap link_in w.at) w.same (alone w.volume w.there)
 
     no_parent : (i : ImageRow) → In i (map machine_row xs) → i.parent ≡ None
     no_parent i h =
@@ -229,22 +250,22 @@ module _ {S : Type 0} (g : Ghosts S) (store : S) (xs : List TreeRow) (places : L
     shown : (x : TreeRow) → In x xs → x.hidden ≡ false → is_some (standing_volume t (image_uuid (row_name x))) ≡ true
     shown x i visible =
         let w = read_row are each x i in
-        let there = found_in t.volumes c.table.volumes.rising w.volume w.there in
+        let there = found_in t.volumes d.table.volumes.rising w.volume w.there in
         let hidden : w.volume.hidden ≡ false = sym w.row.hidden ∙ visible in
         subst (λ n. is_some (standing_volume t (image_uuid n)) ≡ true) (sym w.row.named)
-        (uuid_shown t w.volume.name (λ u. disk_at t u c.plain) (image_named w.volume.hidden w.volume.name (plain_at w.volume w.there) w.filled.image)
+        (uuid_shown t w.volume.name (own_plain t d.plain) (image_named w.volume.hidden w.volume.name (plain_simple_name w.volume.hidden w.volume.name (plain_at w.volume w.there)) w.filled.image)
         (visible_row t w.volume.name w.volume there ∙ ap₂ (λ h d. not h && not d) hidden w.filled.filled))
 
     read : IsRead s t (row_among xs) xs places
     read = record {
       rows_are = are;
-      table = c.table;
-      few_extents = c.few_extents;
-      record_volume = c.record_volume;
-      few = c.few_images;
+      table = d.table;
+      few_extents = d.few_extents;
+      record_volume = d.record_volume;
+      few = d.few_images;
       named = named;
-      new_image = λ r i new. plain_image r.hidden r.name (plain_at r i) (not_records c.table (r, found_in t.volumes c.table.volumes.rising r i, new));
-      no_entry = no_entry t c.plain;
+      new_image = λ r i new. plain_image r.hidden r.name (plain_at r i) (not_records d.table (r, found_in t.volumes d.table.volumes.rising r i, new));
+      no_entry = no_entry t d.plain;
       from = read_from xs;
       all = read_each t.volumes xs each;
       proper = proper;
@@ -252,7 +273,7 @@ module _ {S : Type 0} (g : Ghosts S) (store : S) (xs : List TreeRow) (places : L
       chains = λ x i. subst (λ o. EndsWithin 29 o (map machine_row xs)) (sym (parent_none (row_name x))) tt;
       stands = λ x i.
           let w = read_row are each x i in
-          subst (λ k. StandsIn s.geometry (k * s.geometry.extent) x.image) (sym w.row.extents) (row_stands g.told s.geometry (held_in (stored g store) w.volume.name) w.volume.name x.image (length w.volume.extents * s.geometry.extent) w.row.image);
+          subst (λ k. StandsIn s.geometry (k * s.geometry.extent) x.image) (sym w.row.extents) (row_stands g.told s.geometry (held_in (stored_undone g store) w.volume.name) w.volume.name x.image (length w.volume.extents * s.geometry.extent) w.row.image);
       long = long;
       shown = shown;
       recorded = recorded;
@@ -267,14 +288,14 @@ module _ {S : Type 0} (g : Ghosts S) (store : S) (xs : List TreeRow) (places : L
   -- ---- and ready, where nothing is pending, no slot is empty, and the places are those of the store
 
   module _ (told : g.told) (settled : IsSettled (g.area store)) (holding : HasNoEmptySlot (store_content g store)) where
-    steady_named : (r : Row) (n : Name) (image : Body) → rows t n ≡ Some r → r.fresh ≡ false → IsReadAs g.told s.geometry (sectors_by s r) (held_in (stored g store) n) n image
-        → IsSteady s.geometry (sectors_by s r) (held_in (stored g store) n) image
-    steady_named r (Raw u) image there filled read = subst (IsSteady s.geometry (sectors_by s r) (held_in (stored g store) (Raw u))) (sym read.is) refl
+    steady_named : (r : Row) (n : Name) (image : Body) → rows t n ≡ Some r → r.fresh ≡ false → IsReadAs g.told s.geometry (sectors_by s r) (held_in (stored_undone g store) n) n image
+        → IsSteady s.geometry (sectors_by s r) (held_in (stored_undone g store) n) image
+    steady_named r (Raw u) image there filled read = subst (IsSteady s.geometry (sectors_by s r) (held_in (stored_undone g store) (Raw u))) (sym read.is) refl
     steady_named r (Vhd u) (body.Raw volume size) there filled read = absurd read.vhd
     steady_named r (Vhd u) (body.Vhd head m) there filled read =
-        steady_quiet s.geometry (sectors_by s r) head m s.geometry.in_range (held_in (stored g store) (Vhd u)) (all_quiet s t (g.area store) settled (Vhd u)) (read.gives told)
-        (holds_each s.geometry.block s.geometry.entries (sectors_by s r) (reads (held_in (stored g store) (Vhd u)))
-        (holding u _ (valid_there s t (g.area store) u r c.plain there filled head m read.stands (read.gives told))))
+        steady_quiet s.geometry (sectors_by s r) head m s.geometry.in_range (held_in (stored_undone g store) (Vhd u)) (all_quiet s t (g.area store) settled (Vhd u)) (read.gives told)
+        (holds_each s.geometry.block s.geometry.entries (sectors_by s r) (reads (held_in (stored_undone g store) (Vhd u)))
+        (holding u _ (sym (image_undone s was (g.area store) c (Vhd u)) ∙ valid_there s t (g.area store) u r d.plain there filled head m read.stands (read.gives told))))
     steady_named r Mgt image there filled read = absurd read
     steady_named r (Old u) image there filled read = absurd read
     steady_named r (Clone d b w) image there filled read = absurd read
@@ -287,7 +308,32 @@ module _ {S : Type 0} (g : Ghosts S) (store : S) (xs : List TreeRow) (places : L
     steady x i =
         let w = read_row are each x i in
         subst₂ (λ k n. IsSteady s.geometry (k * s.geometry.extent) (volume_of s t (g.area store) n) x.image) (sym w.row.extents) (sym w.row.named)
-        (steady_named w.volume w.volume.name x.image (found_in t.volumes c.table.volumes.rising w.volume w.there) w.filled.filled w.row.image)
+        (steady_named w.volume w.volume.name x.image (found_in t.volumes d.table.volumes.rising w.volume w.there) w.filled.filled w.row.image)
 
     pub opened_ready : (attached : Attached) → Agrees (records_of g store) places → IsReady s t (g.area store) (record { rows = xs; places = places; attached = attached; op = Idle })
-    opened_ready attached agrees = begun_ready s t (g.area store) _ steady settled agrees refl
+    opened_ready attached agrees =
+        begun_ready s t (g.area store) _ steady settled
+        (subst (λ o. Agrees (volume s.geometry.extent (extents_of o) (g.area store)) places) (sym (records_undone c)) agrees) refl
+
+  -- ---- and true, where nothing is pending: a sector in each slot is not asked
+
+  module _ (told : g.told) (settled : IsSettled (g.area store)) where
+    true_named : (r : Row) (n : Name) (image : Body) → IsReadAs g.told s.geometry (sectors_by s r) (held_in (stored_undone g store) n) n image → TrueIn s.geometry (sectors_by s r) (held_in (stored_undone g store) n) image
+    true_named r (Raw u) image read = subst (TrueIn s.geometry (sectors_by s r) (held_in (stored_undone g store) (Raw u))) (sym read.is) tt
+    true_named r (Vhd u) (body.Raw volume size) read = absurd read.vhd
+    true_named r (Vhd u) (body.Vhd head m) read =
+        true_quiet s.geometry (sectors_by s r) head m s.geometry.in_range (held_in (stored_undone g store) (Vhd u)) (all_quiet s t (g.area store) settled (Vhd u)) (read.gives told)
+    true_named r Mgt image read = absurd read
+    true_named r (Old u) image read = absurd read
+    true_named r (Clone d b w) image read = absurd read
+    true_named r (Inflate u e) image read = absurd read
+    true_named r (Coalesce a p) image read = absurd read
+    true_named r (Relink a p) image read = absurd read
+    true_named r (Leaf l p) image read = absurd read
+
+    pub opened_true : AllAreTrue (stored_undone g store) xs
+    opened_true x i =
+        let w = read_row are each x i in
+        let size : sectors_in (stored_undone g store) w.volume.name ≡ sectors_by s w.volume = ap (λ o. length (extents_of o) * s.geometry.extent) (found_in t.volumes d.table.volumes.rising w.volume w.there) in
+        subst₂ (λ k n. TrueIn s.geometry k (held_in (stored_undone g store) n) x.image) (sym (ap (sectors_in (stored_undone g store)) w.row.named ∙ size)) (sym w.row.named)
+        (true_named w.volume w.volume.name x.image w.row.image)

@@ -24,16 +24,26 @@ use Rattle.sm_ready.specs.Outlined.{link_in}
 use Rattle.sm_ready.specs.Stores.{store_content}
 use Rattle.sm_ready.proofs.LeftLaws.{new_raw, new_vhd, none_of_raw, none_of_vhd}
 use Rattle.sm_ready.proofs.Orders.{In-tree_row}
-use Rattle.sm_ready.proofs.RowLaws.{found_in}
 use Rattle.sm_recover.specs.Faults.{HasLinks, HasTable}
-use Rattle.sm_recover.specs.Loaded.{AreRowsOf, HasEachRow, row_among}
-use Rattle.sm_recover.specs.Repairs.{IsCheckedStore}
-use Rattle.sm_recover.proofs.FoundLaws.{link_read, skipped, valid_read}
+use Rattle.sm_recover.specs.Loaded.{AreRowsOf, HasEachRow, as_read, read_volumes, row_among, stored_undone}
+use Rattle.sm_recover.specs.Repairs.{IsUndoableStore}
+use Rattle.sm_standing.specs.Entries.{making}
+use Rattle.sm_standing.specs.Undone.{undone}
+use Rattle.common_laws.proofs.Lists.{In-map_at}
+use Rattle.sm_recover.proofs.TableLaws.{found_read, undone_checked}
+use Rattle.sm_recover.proofs.FoundLaws.{image_undone, invalid_as_read, link_read, skipped, valid_read}
 use Rattle.sm_recover.proofs.LoadedLaws.{among_of, read_from}
 
-module _ {S : Type 0} {g : Ghosts S} {store : S} (c : IsCheckedStore g store) (xs : List TreeRow) (each : HasEachRow g store (table_alone (g.table store)).volumes xs) where
+module _ {S : Type 0} (g : Ghosts S) (store : S) (c : IsUndoableStore g store) (xs : List TreeRow) (each : HasEachRow g.told (stored_undone g store) (read_volumes (table_alone (g.table store))) xs) where
   abbrev t : VolumeTable
   t = table_alone (g.table store)
+
+  -- a volume as it is read
+  abbrev seen : Row → Row
+  seen r = as_read (making t) r
+
+  seen_in : (r : Row) → In r t.volumes → In (seen r) (read_volumes t)
+  seen_in r i = In-map_at seen t.volumes r i
 
   -- each image is valid
   pub all_valid : (x : Outline) → HasTable (g.site store).geometry t x → HasLinks xs x → invalid_fault x ≡ None
@@ -45,29 +55,30 @@ module _ {S : Type 0} {g : Ghosts S} {store : S} (c : IsCheckedStore g store) (x
         where
           by : (k f : Bool) → is_image r.name ≡ k → r.fresh ≡ f → is_invalid x r ≡ false
           by true false image fresh =
-              let w = each r i (record { image = image; filled = fresh }) in
-              valid_read g.told (g.site store) t (g.area store) r has w.0.image w.2.image (links r.name ∙ ap link_in w.1)
+              let w = each (seen r) (seen_in r i) (record { image = image; filled = fresh }) in
+              sym (invalid_as_read (making t) x r) ∙ valid_read g.told (g.site store) (undone t) (g.area store) (seen r) has w.0.image w.2.image (links r.name ∙ ap link_in w.1)
           by false f image fresh = skipped x r (λ w. true≢false (sym w.image ∙ image))
           by true true image fresh = skipped x r (λ w. true≢false (sym fresh ∙ w.filled))
 
-  module _ (are : AreRowsOf t.volumes xs) (told : g.told) where
+  module _ (are : AreRowsOf (read_volumes t) xs) (told : g.told) where
     abbrev now : Content
     now = store_content g store
 
     some_link : (n : Name) (y : TreeRow) → tree_row xs n ≡ Some y → link_of (image_of now n) ≡ link_in (tree_row xs n)
     some_link n y is =
         let v = In-tree_row xs n y is in
-        let w = In-filter_map (row_among xs) t.volumes y (subst (In y) are v.0) in
+        let w = In-filter_map (row_among xs) (read_volumes t) y (subst (In y) are v.0) in
         let r = w.0 in
         let filled = (among_of xs r y w.2).filled in
         let e = each r w.1 filled in
         subst (λ m. link_of (image_of now m) ≡ link_in (tree_row xs m)) (sym (read_from xs r y w.2).named ∙ v.1)
-        (link_read g.told (g.site store) t (g.area store) r e.0.image c.plain (found_in t.volumes c.table.volumes.rising r w.1) filled.filled e.2.image told ∙ sym (ap link_in e.1))
+        (ap link_of (sym (image_undone (g.site store) t (g.area store) c r.name))
+        ∙ link_read g.told (g.site store) (undone t) (g.area store) r e.0.image (undone_checked c).plain (found_read c r w.1 filled.image) filled.filled e.2.image told ∙ sym (ap link_in e.1))
 
     filled_none : (n : Name) (r : Row) → is_image n ≡ true → rows t n ≡ Some r → r.fresh ≡ false → tree_row xs n ≡ None → ⊥
     filled_none n r image there filled none =
         let named = row_of-name t.volumes n r there in
-        let w = each r (row_of-In t.volumes n r there).0 (record { image = ap is_image named ∙ image; filled = filled }) in
+        let w = each (seen r) (seen_in r (row_of-In t.volumes n r there).0) (record { image = ap is_image named ∙ image; filled = filled }) in
         none-some w.0 (sym none ∙ ap (tree_row xs) (sym named) ∙ w.1)
 
     no_vhd : (u : List ℕ) (o : Option Row) → rows t (Vhd u) ≡ o → tree_row xs (Vhd u) ≡ None → image_of now (Vhd u) ≡ None

@@ -1,10 +1,10 @@
 -- The checks of an opening, by what each of them looks at: the table with the sizes alone, the images in memory, or the
 -- places of the records beside the table.
-use Rattle.std.specs.Prelude.{◌≡◌, ◌⊎◌, ℕ, Bool, false, ◌&&◌, ◌==◌, not, List, [], ◌∷◌, length, Option, Some, None, is_some, count_by, if◌then◌else◌}
+use Rattle.std.specs.Prelude.{◌≡◌, ◌⊎◌, ℕ, Bool, false, ◌&&◌, ◌||◌, ◌==◌, not, List, [], ◌∷◌, length, Option, Some, None, is_some, count_by, if◌then◌else◌}
 use Rattle.std.specs.List.{slice_get}
 use Rattle.sm_base.specs.declared.faults.Place.{Place}
 use Rattle.sm_base.specs.declared.names.Name.{Name}
-use Rattle.sm_base.specs.declared.names.Name.TheVariants.{Vhd, Raw}
+use Rattle.sm_base.specs.declared.names.Name.TheVariants.{Vhd, Raw, Inflate}
 use Rattle.sm_base.specs.declared.sizes.Geometry.{Geometry}
 use Rattle.std.specs.declared.cmp.Ordering.TheVariants.{Less}
 use Rattle.vg_meta.specs.Tables.{VolumeTable}
@@ -12,8 +12,9 @@ use Rattle.sm_machine.specs.Disks.{uuid_before}
 use Rattle.common_laws.specs.Lists.{given}
 use Rattle.sm_record.specs.declared.records.Record.{Record}
 use Rattle.sm_mgt.specs.Places.{place_count, is_of, as_reading}
-use Rattle.sm_standing.specs.Checks.{record_volume_fault, too_many_fault, misnamed_fault, entry_ahead_fault, image_ahead_fault, invalid_fault, parent_ahead_fault}
+use Rattle.sm_standing.specs.Checks.{record_volume_fault, too_many_fault, misnamed_fault, entry_ahead_fault, second_entry_fault, lost_entry_fault, image_ahead_fault, invalid_fault, parent_ahead_fault}
 use Rattle.sm_standing.specs.Outlines.{Outline}
+use Rattle.sm_standing.specs.Entries.{is_inflating, is_past, is_visible}
 use Rattle.sm_standing.specs.Ordered.{uuid_cmp}
 use Rattle.sm_standing.specs.Standing.{standing_volume}
 use Rattle.vhd_chain.specs.Trees.{tree_row, parent_of}
@@ -33,8 +34,15 @@ table_faults x = record_volume_fault x
     ∷ too_many_fault x
     ∷ misnamed_fault x
     ∷ entry_ahead_fault x
+    ∷ second_entry_fault x
+    ∷ lost_entry_fault x
     ∷ image_ahead_fault x
     ∷ []
+
+-- an enlargement that stands at no stage, or of an image that is still to come
+abbrev pub is_enlarging_lost : VolumeTable → Name → Bool
+is_enlarging_lost t (Inflate u extents) = not (is_inflating t u extents) || not (is_past t.sequence u)
+is_enlarging_lost t _ = false
 
 -- the checks of the images pass: each is valid, and none has a parent
 pub record PassImages (x : Outline) : Type 0 where
@@ -54,6 +62,10 @@ has_parent_in xs _ = false
 pub record HasPlaces (places : List (Option Record)) (x : Outline) : Type 0 where
   pub long : length places ≡ place_count
   pub each : (k : ℕ) (o : Option Record) → slice_get places k ≡ Some o → x.readings k ≡ as_reading o
+
+-- a UUID is a disk where an image of it, a VHD or a raw one, is visible and not new: no entry says otherwise
+abbrev pub HasOwnDisks : VolumeTable → Type 0
+HasOwnDisks t = (u : List ℕ) → is_some (standing_volume t u) ≡ (is_visible t (Vhd u) || is_visible t (Raw u))
 
 -- whether a UUID is a disk that has no record or several
 abbrev pub is_unrecorded_in : VolumeTable → List (Option Record) → List ℕ → Bool

@@ -1,5 +1,5 @@
 -- What an opening reads into memory: the images that are not new, each off its volume.
-use Rattle.std.specs.Prelude.{◌≡◌, ℕ, ◌*◌, ◌<◌, ◌≤◌, ◌&&◌, ◌⊎◌, not, true, false, List, length, Option, None, Some, if◌then◌else◌}
+use Rattle.std.specs.Prelude.{◌≡◌, ℕ, ◌*◌, ◌<◌, ◌≤◌, ◌&&◌, ◌⊎◌, not, true, false, List, length, map, take, Option, None, Some, if◌then◌else◌}
 use Rattle.std.specs.List.{filter_map}
 use Rattle.sm_base.specs.Kinds.{is_image}
 use Rattle.sm_base.specs.declared.faults.OpenFault.{OpenFault}
@@ -9,9 +9,13 @@ use Rattle.sm_base.specs.declared.names.Name.{Name}
 use Rattle.sm_base.specs.declared.names.Name.TheVariants.{Vhd, Raw}
 use Rattle.sm_base.specs.declared.sizes.Geometry.{Geometry}
 use Rattle.sm_disk.specs.Held.{Held}
-use Rattle.vg_meta.specs.Tables.{Row}
+use Rattle.vg_meta.specs.Tables.{Row, VolumeTable}
+use Rattle.vg_meta.specs.Roomy.{table_alone}
 use Rattle.common_laws.specs.Lists.{In}
-use Rattle.vg_volumes.specs.Stored.{Faults, held_in, stored}
+use Rattle.sm_standing.specs.Entries.{making}
+use Rattle.sm_standing.specs.Images.{image_extents}
+use Rattle.sm_standing.specs.Undone.{undone}
+use Rattle.vg_volumes.specs.Stored.{Faults, Stored, held_in}
 use Rattle.vg_volumes.specs.declared.stores.Store.{Ghosts}
 use Rattle.vhd_image.specs.Bodies.{IfVhd, IsVhd, StandsIn}
 use Rattle.vhd_image.specs.Opened.{HasNoImage, ReadsAsImage}
@@ -19,6 +23,20 @@ use Rattle.vhd_image.specs.declared.images.Body.{Body}
 use Rattle.vhd_image.specs.declared.images.Body.TheVariants as body
 use Rattle.vhd_chain.specs.Trees.{row_name, tree_row}
 use Rattle.vhd_chain.specs.declared.rows.TreeRow.{TreeRow}
+
+-- ---- what stands in a store while an image is being enlarged
+
+-- a volume with the extents in which its image lies, by the entries of a table
+abbrev pub as_read : List Name → Row → Row
+as_read entries r = record r { extents = take (image_extents entries r.name (length r.extents)) r.extents }
+
+-- the volumes of a table, so
+abbrev pub read_volumes : VolumeTable → List Row
+read_volumes t = map (as_read (making t)) t.volumes
+
+-- what a store holds, without the enlargement
+abbrev pub stored_undone : {S : Type 0} → Ghosts S → S → Stored
+stored_undone g s = record { site = g.site s; table = undone (table_alone (g.table s)); area = g.area s }
 
 -- ---- the rows of the volumes
 
@@ -60,28 +78,28 @@ IsNoneRead told g sectors h (Raw u) = g.entries * g.block < sectors
 IsNoneRead told g sectors h (Vhd u) = told → HasNoImage g sectors h
 IsNoneRead told g sectors h _ = ⊥
 
--- the row of a volume, as it was read off a store
-pub record IsRow {S : Type 0} (g : Ghosts S) (s : S) (r : Row) (x : TreeRow) : Type 0 where
-  pub named : row_name x ≡ r.name
-  pub hidden : x.hidden ≡ r.hidden
-  pub extents : x.extents ≡ length r.extents
-  pub image : IsReadAs g.told (g.site s).geometry (length r.extents * (g.site s).geometry.extent) (held_in (stored g s) r.name) r.name x.image
+-- the row of a volume, as it was read off what a store holds
+pub record IsRow (told : Type 0) (x : Stored) (r : Row) (y : TreeRow) : Type 0 where
+  pub named : row_name y ≡ r.name
+  pub hidden : y.hidden ≡ r.hidden
+  pub extents : y.extents ≡ length r.extents
+  pub image : IsReadAs told x.site.geometry (length r.extents * x.site.geometry.extent) (held_in x r.name) r.name y.image
 
 -- a volume of an image that is not new
 pub record IsFilledImage (r : Row) : Type 0 where
   pub image : is_image r.name ≡ true
   pub filled : r.fresh ≡ false
 
--- each volume of an image that is not new has its row, as it was read off a store
-abbrev pub HasEachRow : {S : Type 0} → Ghosts S → S → List Row → List TreeRow → Type 0
-HasEachRow g s rs xs = (r : Row) → In r rs → IsFilledImage r → (x : TreeRow) × (tree_row xs r.name ≡ Some x) × IsRow g s r x
+-- each volume of an image that is not new has its row, as it was read
+abbrev pub HasEachRow : Type 0 → Stored → List Row → List TreeRow → Type 0
+HasEachRow told x rs ys = (r : Row) → In r rs → IsFilledImage r → (y : TreeRow) × (tree_row ys r.name ≡ Some y) × IsRow told x r y
 
 -- why the image in so many sectors of a volume was not read: no memory, a fault of the device, or there is none
-abbrev pub FailsToRead : {S : Type 0} → Ghosts S → Name → ℕ → OpenFault → S → S → Type 0
-FailsToRead g n sectors e old new = (e ≡ fault.NoMemory) ⊎ ((e ≡ fault.Device) × Faults g old new)
-    ⊎ ((e ≡ fault.Damaged (at.Image n)) × IsNoneRead g.told (g.site old).geometry sectors (held_in (stored g old) n) n)
+abbrev pub FailsToRead : {S : Type 0} → Ghosts S → Stored → Name → ℕ → OpenFault → S → S → Type 0
+FailsToRead g x n sectors e old new = (e ≡ fault.NoMemory) ⊎ ((e ≡ fault.Device) × Faults g old new)
+    ⊎ ((e ≡ fault.Damaged (at.Image n)) × IsNoneRead g.told x.site.geometry sectors (held_in x n) n)
 
 -- why a volume's image was not read: and then the volume is that of an image and not new
-pub record FailsAt {S : Type 0} (g : Ghosts S) (r : Row) (e : OpenFault) (old new : S) : Type 0 where
+pub record FailsAt {S : Type 0} (g : Ghosts S) (x : Stored) (r : Row) (e : OpenFault) (old new : S) : Type 0 where
   pub volume : IsFilledImage r
-  pub fails : FailsToRead g r.name (length r.extents * (g.site old).geometry.extent) e old new
+  pub fails : FailsToRead g x r.name (length r.extents * x.site.geometry.extent) e old new

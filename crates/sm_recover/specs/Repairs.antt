@@ -1,21 +1,25 @@
 -- What the steps of an opening tell each other: what the checks leave known, and why they stopped.
-use Rattle.std.specs.Prelude.{◌≡◌, ℕ, ◌≤◌, length, Option, Some}
+use Rattle.std.specs.Prelude.{◌≡◌, ℕ, ◌<◌, ◌≤◌, false, List, length, Option, Some, None}
+use Rattle.common_laws.specs.Lists.{In}
 use Rattle.sm_base.specs.declared.faults.OpenFault.{OpenFault}
 use Rattle.sm_base.specs.declared.faults.OpenFault.TheVariants as fault
 use Rattle.sm_base.specs.declared.faults.Place.{Place}
 use Rattle.sm_base.specs.declared.names.Name.TheVariants.{Mgt}
-use Rattle.sm_disk.specs.Held.{Rose}
+use Rattle.sm_disk.specs.Held.{IsSettled, Rose, reads}
 use Rattle.vg_layout.specs.Places.{record_extents}
-use Rattle.vg_meta.specs.Tables.{VolumeTable, IsTable, rows, extents_of}
+use Rattle.vg_meta.specs.Tables.{VolumeTable, Row, IsTable, rows, extents_of}
 use Rattle.vg_meta.specs.Roomy.{table_alone}
-use Rattle.vg_volumes.specs.Sites.{Site}
+use Rattle.vg_volumes.specs.Sites.{Site, area_size}
+use Rattle.vg_volumes.specs.Stored.{Stored}
 use Rattle.vg_volumes.specs.declared.stores.Store.{Ghosts}
 use Rattle.sm_machine.specs.Shapes.{image_limit}
 use Rattle.sm_standing.specs.Contents.{Content}
-use Rattle.sm_standing.specs.Checks.{images, first_fault_today}
-use Rattle.sm_standing.specs.Plain.{IsPlain}
+use Rattle.sm_standing.specs.Checks.{images, is_lost, first_fault_today}
+use Rattle.sm_standing.specs.Entries.{making, second}
+use Rattle.sm_standing.specs.Plain.{IsPlain, IsSimple}
 
--- what is known of the table in memory once the checks passed: new volumes may be among the others
+-- what is known of the table in memory once the checks passed, where no image is being enlarged: new volumes may be among the
+-- others
 pub record IsChecked (s : Site) (t : VolumeTable) : Type 0 where
   pub table : IsTable s.count t
   pub few_extents : s.count ≤ 65536
@@ -23,9 +27,29 @@ pub record IsChecked (s : Site) (t : VolumeTable) : Type 0 where
   pub few_images : length (images t) ≤ image_limit
   pub record_volume : length (extents_of (rows t Mgt)) ≡ record_extents s.geometry.extent
 
--- of a store: what is known of its table once the checks passed
+-- what is known of the table in memory before an enlargement is undone, once the checks by the table passed: the volumes are
+-- as above, and beside them at most one says that an image is being enlarged, which is there, and not new, in the extents that
+-- it had and perhaps more
+pub record IsUndoable (s : Site) (t : VolumeTable) : Type 0 where
+  pub table : IsTable s.count t
+  pub few_extents : s.count ≤ 65536
+  pub simple : IsSimple t
+  pub one_entry : second (making t) ≡ None
+  pub at_stage : (r : Row) → In r t.volumes → is_lost t r ≡ false
+  pub few_images : length (images t) ≤ image_limit
+  pub record_volume : length (extents_of (rows t Mgt)) ≡ record_extents s.geometry.extent
+
+abbrev pub IsUndoableStore : {S : Type 0} → Ghosts S → S → Type 0
+IsUndoableStore g s = IsUndoable (g.site s) (table_alone (g.table s))
+
+-- of a store: what is known of its table once an enlargement was undone
 abbrev pub IsCheckedStore : {S : Type 0} → Ghosts S → S → Type 0
 IsCheckedStore g s = IsChecked (g.site s) (table_alone (g.table s))
+
+-- what a stop leaves while the table changes: one of these tables, and of the area, where nothing was pending, what a read gave
+pub record IsLeftOf (x : Stored) (P : VolumeTable → Type 0) (t : VolumeTable) (image : ℕ → List ℕ) : Type 0 where
+  pub table : P t
+  pub sectors : IsSettled x.area → (p : ℕ) → p < area_size x.site → image p ≡ reads x.area p
 
 -- why a step of an opening stopped: the place that its checks name, where the content is told; a fault of the device; memory
 abbrev pub IsStoppedBy : Type 0 → Option Place → ℕ → ℕ → OpenFault → Type 0

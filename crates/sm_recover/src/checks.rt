@@ -1,15 +1,16 @@
 //! The checks that look at the table and the sizes alone.
 
-ghost use Rattle.std.specs.Prelude.{◌≡◌, ℕ, ◌*◌, ◌<◌, ◌&&◌, not, nat_lt, length, filter, find, is_some};
+ghost use Rattle.std.specs.Prelude.{◌≡◌, ℕ, ◌*◌, ◌<◌, ◌&&◌, not, nat_lt, length, filter, find, is_some, None};
 ghost use Rattle.std.specs.Option.{option_copied};
-ghost use Rattle.sm_base.specs.Kinds.{is_image, is_entry};
+ghost use Rattle.sm_base.specs.Kinds.{is_image};
 ghost use Rattle.common_laws.specs.Lists.{first_some};
-ghost use Rattle.sm_standing.specs.Checks.{record_volume_fault, too_many_fault, misnamed_fault, entry_ahead_fault, image_ahead_fault, is_misnamed as is_misnamed_row, is_image_ahead};
+ghost use Rattle.sm_standing.specs.Checks.{record_volume_fault, too_many_fault, misnamed_fault, entry_ahead_fault, second_entry_fault, lost_entry_fault, image_ahead_fault, is_entry_ahead, is_misnamed as is_misnamed_row, is_image_ahead};
 ghost use Rattle.sm_standing.specs.Outlines.{Outline};
-ghost use Rattle.sm_standing.specs.Entries.{is_there, is_past, base_number};
+ghost use Rattle.sm_standing.specs.Entries.{is_there, is_past, base_number, is_inflating};
 ghost use Rattle.vg_meta.specs.Roomy.{table_alone};
-ghost use Rattle.sm_recover.specs.Faults.{HasTable, table_faults};
+ghost use Rattle.sm_recover.specs.Faults.{HasTable, is_enlarging_lost, table_faults};
 
+use crate::entries::second_making;
 use sm_base::{Geometry, IMAGE_LIMIT, Name, Place, is_base};
 use uuid::Uuid;
 use vg_layout::record_extents;
@@ -29,6 +30,12 @@ pub fn table_fault(table: &Table, geometry: &Geometry) -> Option<Place>
         return Some(place);
     }
     if let Some(place) = entry_fault(table) {
+        return Some(place);
+    }
+    if let Some(place) = second_fault(table) {
+        return Some(place);
+    }
+    if let Some(place) = lost_fault(table) {
         return Some(place);
     }
     image_fault(table)
@@ -65,11 +72,32 @@ fn misnamed_fault(table: &Table) -> Option<Place>
     })
 }
 
-/// There is no journal entry.
+/// There is no journal entry but that of an enlargement.
 fn entry_fault(table: &Table) -> Option<Place>
     ensures { (x : Outline) → x.table ≡ table_alone table.now → result ≡ entry_ahead_fault x }
 {
     let volume = first_entry(table.volumes())?;
+    Some(Place::Journal {
+        name: volume.name(),
+    })
+}
+
+/// There is one enlargement at most. No other entries are there.
+fn second_fault(table: &Table) -> Option<Place>
+    ensures { (x : Outline) → x.table ≡ table_alone table.now → entry_ahead_fault x ≡ None → result ≡ second_entry_fault x }
+{
+    let volume = second_making(table.volumes())?;
+    Some(Place::Journal {
+        name: volume.name(),
+    })
+}
+
+/// The image of an enlargement is there, not new, with the extents that it had at least, and its UUID is not still to come. No
+/// other entries are there.
+fn lost_fault(table: &Table) -> Option<Place>
+    ensures { (x : Outline) → x.table ≡ table_alone table.now → entry_ahead_fault x ≡ None → result ≡ lost_entry_fault x }
+{
+    let volume = first_lost(table.volumes(), table)?;
     Some(Place::Journal {
         name: volume.name(),
     })
@@ -101,9 +129,47 @@ fn first_misnamed<'a>(volumes: &'a [Volume], table: &Table) -> Option<&'a Volume
 }
 
 fn first_entry(volumes: &[Volume]) -> Option<&Volume>
-    ensures { option_copied result ≡ find (λ v. is_entry v.row.name) volumes.now }
+    ensures { option_copied result ≡ find (λ v. is_entry_ahead v.row.name) volumes.now }
 {
-    volumes.iter().find(|volume| volume.name().is_entry())
+    volumes.iter().find(|volume| is_entry_ahead(&volume.name()))
+}
+
+/// Whether a name is that of an entry whose work is neither ended nor undone here.
+fn is_entry_ahead(name: &Name) -> bool
+    ensures { result ≡ is_entry_ahead name.now }
+{
+    matches!(
+        name,
+        Name::Clone { .. } | Name::Coalesce { .. } | Name::Relink { .. } | Name::Leaf { .. }
+    )
+}
+
+fn first_lost<'a>(volumes: &'a [Volume], table: &Table) -> Option<&'a Volume>
+    ensures { option_copied result ≡ find (λ v. is_enlarging_lost (table_alone table.now) v.row.name) volumes.now }
+{
+    volumes.iter().find(|volume| is_lost(&volume.name(), table))
+}
+
+/// Whether a name is that of an enlargement that stands at no stage of its work.
+fn is_lost(name: &Name, table: &Table) -> bool
+    ensures { result ≡ is_enlarging_lost (table_alone table.now) name.now }
+{
+    match name {
+        Name::Inflate { image, extents } => {
+            !is_inflating(table, image, *extents) || !is_past(table.seq(), image)
+        }
+        _ => false,
+    }
+}
+
+/// Whether the VHD image of a UUID is there, not new, with so many extents at least.
+fn is_inflating(table: &Table, image: &Uuid, extents: u32) -> bool
+    ensures { result ≡ is_inflating (table_alone table.now) image.now extents }
+{
+    match table.get(&Name::Vhd(*image)) {
+        Some(volume) => !volume.is_fresh() && extents as usize <= volume.extents().len(),
+        None => false,
+    }
 }
 
 fn first_ahead(volumes: &[Volume]) -> Option<&Volume>

@@ -6,10 +6,9 @@ ghost use Rattle.sm_machine.specs.Disks.{uuid_before};
 ghost use Rattle.sm_standing.specs.Checks.{disk_fault};
 ghost use Rattle.sm_standing.specs.Entries.{is_visible};
 ghost use Rattle.sm_standing.specs.Outlines.{Outline};
-ghost use Rattle.sm_standing.specs.Plain.{IsPlain};
 ghost use Rattle.sm_standing.specs.Standing.{standing_volume};
 ghost use Rattle.vg_meta.specs.Roomy.{table_alone};
-ghost use Rattle.sm_recover.specs.Faults.{HasPlaces, IsLeast, is_unrecorded_in, lesser, unrecorded};
+ghost use Rattle.sm_recover.specs.Faults.{HasOwnDisks, HasPlaces, IsLeast, is_unrecorded_in, lesser, unrecorded};
 
 use sm_base::{Name, Place};
 use sm_mgt::Mgt;
@@ -18,16 +17,16 @@ use vg_meta::{Table, Volume};
 
 /// The disk with the least UUID that has no record or several.
 pub fn disk_fault(table: &Table, mgt: &Mgt) -> Option<Place>
-    requires { IsPlain (table_alone table.now) }
+    requires { HasOwnDisks (table_alone table.now) }
     ensures { (x : Outline) → x.table ≡ table_alone table.now → HasPlaces mgt.now x → result ≡ disk_fault x }
 {
     let uuid = least_unrecorded(table, mgt)?;
     Some(Place::Disk { uuid })
 }
 
-/// Whether a UUID is a disk, in a table of visible images and no journal entry.
+/// Whether a UUID is a disk, in a table in which no entry moves one.
 pub fn is_disk(table: &Table, uuid: &Uuid) -> bool
-    requires { IsPlain (table_alone table.now) }
+    requires { HasOwnDisks (table_alone table.now) }
     ensures { result ≡ is_some (standing_volume (table_alone table.now) uuid.now) }
 {
     is_shown(table, &Name::Vhd(*uuid)) || is_shown(table, &Name::Raw(*uuid))
@@ -44,7 +43,7 @@ fn is_shown(table: &Table, name: &Name) -> bool
 }
 
 fn least_unrecorded(table: &Table, mgt: &Mgt) -> Option<Uuid>
-    requires { IsPlain (table_alone table.now) }
+    requires { HasOwnDisks (table_alone table.now) }
     ensures { IsLeast (λ u. is_unrecorded_in (table_alone table.now) mgt.now u ≡ true) result }
 {
     let mut least = None;
@@ -57,7 +56,7 @@ fn least_unrecorded(table: &Table, mgt: &Mgt) -> Option<Uuid>
 /// The UUID of an image, where it is a disk that has no record or several.
 #[tactic(auto, unfolding(crate::specs::Faults::unrecorded))]
 fn unrecorded(volume: &Volume, table: &Table, mgt: &Mgt) -> Option<Uuid>
-    requires { IsPlain (table_alone table.now) }
+    requires { HasOwnDisks (table_alone table.now) }
     ensures { result ≡ unrecorded (table_alone table.now) mgt.now volume.now.row.name }
 {
     match volume.name() {
@@ -69,7 +68,7 @@ fn unrecorded(volume: &Volume, table: &Table, mgt: &Mgt) -> Option<Uuid>
 
 /// A UUID, where it is a disk that has no record or several.
 fn wrong_disk(uuid: Uuid, table: &Table, mgt: &Mgt) -> Option<Uuid>
-    requires { IsPlain (table_alone table.now) }
+    requires { HasOwnDisks (table_alone table.now) }
     ensures { result ≡ given (is_unrecorded_in (table_alone table.now) mgt.now uuid) uuid }
 {
     if is_disk(table, &uuid) && mgt.count(&uuid) != 1 {

@@ -35,6 +35,7 @@ pub fn remove_new<S: Store>(store: &mut S) -> Result<(), Failed>
     ensures few_left { Leaves S.Store store.new (λ t image. HasFewRemovals (table_alone (S.table store.old)) t) }
     ensures room { OnOk result (HasRows (S.table store.old) → HasRows (S.table store.new)) }
     ensures beside { S.told → Keeps (S.beside store.old) (S.beside store.new) }
+    ensures keeps { S.told → Keeps (S.area store.old) (S.area store.new) }
     ensures orderly { OnOk result ((m : Known) → IsOrderly (S.site store.old) (table_alone (S.table store.old)) m → IsOrderly (S.site store.new) (table_alone (S.table store.new)) m) }
     ensures rest { OnOk result (S.told → (m : Known) → RestsAgain (stored S.Store store.old) (stored S.Store store.new) m m) }
     ensures crash { (m : Known) → Leaves S.Store store.new (λ t image. IsAtRest (stored S.Store store.old) m → IsSame (store_content S.Store store.old) (content_in (S.site store.old) t image)) }

@@ -1,24 +1,31 @@
-//! The checks, and then the repair.
+//! The checks, and then the repairs: an enlargement is undone, new volumes go, and records of no disk are wiped. Each repair is
+//! a commit or a write of its own, so the table's sequence number rises by two at most for an enlargement and by one for each new
+//! volume.
 
 ghost use Rattle.std.specs.Prelude.{◌≡◌, ◌⊎◌, ◌<◌, ◌≤◌, ℕ, None, false, OnOk, OnErr, IfOk, IfErr};
+ghost use Rattle.sm_base.specs.declared.names.Name.TheVariants.{Mgt as mgt_name};
 ghost use Rattle.sm_disk.specs.Held.{IsSettled, Keeps};
 ghost use Rattle.sm_mgt.specs.Places.{place_count};
 ghost use Rattle.sm_standing.specs.Checks.{first_fault_today};
 ghost use Rattle.sm_standing.specs.Opened.{opened};
 ghost use Rattle.sm_standing.specs.Standing.{disks};
 ghost use Rattle.vg_meta.specs.Roomy.{table_alone};
-ghost use Rattle.vg_volumes.specs.Stored.{Stays, OnlyReads, Counts, Leaves, stored};
+ghost use Rattle.vg_volumes.specs.Stored.{OnlyReads, Counts, Leaves, WorksOn, stored};
 ghost use Rattle.sm_ready.specs.Cleaned.{cleaned, HasFewRemovals};
 ghost use Rattle.sm_ready.specs.Repairs.{IsAtRest, IsRightAt, IsSame, IsWithoutStrays, LeavesSame, RestsAgain};
 ghost use Rattle.sm_recover.specs.Repairs.{IsCheckedStore, IsOpeningStopped, UnlessDeviceFailed};
+ghost use Rattle.sm_machine.specs.Shapes.{image_limit};
+ghost use Rattle.sm_ready.specs.Frames.{HasTrueImages};
 ghost use Rattle.sm_ready.specs.Known.{Known, known, shape_in};
 ghost use Rattle.sm_ready.specs.Sessions.{IsAtEase, HasRows, HasTreeRoom, IsOrderlyStore, IsReadyStore, IsTidyStore};
 ghost use Rattle.sm_ready.specs.Stores.{content_in, store_content};
 ghost use Rattle.sm_recover.specs.Stores.{MayBeRepairedFrom};
 ghost use Rattle.sm_standing.specs.Keeping.{HasNoEmptySlot};
+ghost use Rattle.sm_standing.specs.Undone.{undone};
 
 use crate::opening::checked_with_room;
 use crate::removals::remove_new;
+use crate::undoing::undo;
 use crate::wiping::wipe_strays;
 use sm_base::{Failed, OpenFault};
 use sm_mgt::Mgt;
@@ -26,8 +33,8 @@ use sm_ready::Memory;
 use std::alloc::Global;
 use vg_volumes::Store;
 
-/// Checks what stands in a store, all checks before the first write, and then repairs what a stop has left: volumes
-/// that are new are removed, and records of no disk are wiped. Answers what a session keeps in memory: the images, the
+/// Checks what stands in a store, all checks before the first write, and then repairs what a stop has left: an enlargement
+/// is undone, volumes that are new are removed, and records of no disk are wiped. Answers what a session keeps in memory: the images, the
 /// places of the records, no attachment and no operation. Memory is taken before the first write, and none after it.
 ///
 /// No check can see whether each slot of a VHD image holds a sector, as no check reads bitmaps. What is promised of the
@@ -52,7 +59,9 @@ pub fn settle<S: Store>(alloc: Global, store: &mut S) -> Result<Memory, OpenFaul
     ensures at_ease { IfOk result IsAtEase }
     ensures room { OnOk result (HasRows (S.table store.new)) }
     ensures tree_room { IfOk result HasTreeRoom }
-    ensures cleaned { OnOk result (table_alone (S.table store.new) ≡ cleaned (table_alone (S.table store.old))) }
+    ensures attachment_room { IfOk result (λ m. image_limit ≤ m.attached.room) }
+    ensures true_images { IfOk result (λ m. HasTrueImages S.Store store.new m) }
+    ensures cleaned { OnOk result (table_alone (S.table store.new) ≡ cleaned (undone (table_alone (S.table store.old)))) }
     ensures few { HasFewRemovals (table_alone (S.table store.old)) (table_alone (S.table store.new)) }
     ensures few_left { Leaves S.Store store.new (λ t image. HasFewRemovals (table_alone (S.table store.old)) t) }
     ensures settled { OnOk result (S.told → IsSettled (S.area store.new)) }
@@ -64,6 +73,9 @@ pub fn settle<S: Store>(alloc: Global, store: &mut S) -> Result<Memory, OpenFaul
     ensures crash { Leaves S.Store store.new (λ t image. S.leaves store.old t image ⊎ MayBeRepairedFrom (store_content S.Store store.old) (content_in (S.site store.old) t image)) }
 {
     let mut memory = checked_with_room(alloc, store)?;
+    let Ok(()) = undo(store) else {
+        return Err(OpenFault::Device);
+    };
     let Ok(()) = repair(store, &mut memory) else {
         return Err(OpenFault::Device);
     };
@@ -91,6 +103,7 @@ fn repair<S: Store>(store: &mut S, memory: &mut Memory) -> Result<(), Failed>
     ensures tidy { OnOk result (IsTidyStore S.Store store.new memory.new) }
     ensures settled { OnOk result (S.told → IsSettled (S.area store.new)) }
     ensures rest { OnOk result (S.told → RestsAgain (stored S.Store store.old) (stored S.Store store.new) (known memory.old) (known memory.new)) }
+    ensures true_images { OnOk result (HasTrueImages S.Store store.old memory.old → HasTrueImages S.Store store.new memory.new) }
     ensures crash { Leaves S.Store store.new (λ t image. IsAtRest (stored S.Store store.old) (known memory.old) → IsSame (store_content S.Store store.old) (content_in (S.site store.old) t image)) }
 {
     remove_new(store)?;
@@ -102,7 +115,7 @@ fn repair<S: Store>(store: &mut S, memory: &mut Memory) -> Result<(), Failed>
 fn tidy_records<S: Store>(store: &mut S, mgt: &mut Mgt) -> Result<(), Failed>
     requires usable { S.failed store.old ≡ false }
     requires checked { IsCheckedStore S.Store store.old }
-    ensures stays { Stays S.Store store.old store.new }
+    ensures works { WorksOn S.Store mgt_name store.old store.new }
     ensures cause { Counts S.Store result store.old store.new }
     ensures right { OnOk result ((k : ℕ) → k < place_count → IsRightAt (table_alone (S.table store.old)) mgt.new k) }
     ensures freed { OnOk result (IsWithoutStrays (table_alone (S.table store.old)) mgt.old mgt.new) }

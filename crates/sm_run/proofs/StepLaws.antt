@@ -7,7 +7,7 @@ use Rattle.sm_machine.specs.declared.replies.Reply.{Reply}
 use Rattle.sm_machine.specs.declared.replies.Reply.TheVariants.{No}
 use Rattle.sm_machine.specs.Disks.{Disk}
 use Rattle.sm_machine.specs.Lines.{spelled}
-use Rattle.sm_machine.specs.Runs.{Turn, taken, settles, some_settling, is_accepted, is_settling, face}
+use Rattle.sm_machine.specs.Runs.{Turn, taken, settles, some_settling, is_accepted, is_settling, takes_memory, face}
 use Rattle.sm_machine.specs.Steps.{State, Outcome, refused, step, step_line, step_or_bad}
 use Rattle.sm_run.specs.Between.{IsBetween, IsSettledAs}
 use Rattle.sm_run.specs.Parts.{turn_of, HasStepped}
@@ -47,10 +47,10 @@ settles-refused σ t r is h = sym (is_accepted-no r) ∙ ap (λ (o : Outcome). i
 -- ---- the step of a line
 
 pub spared-ample : (line : List ℕ) → IsSpared (turn_of line false)
-spared-ample line = λ is none. absurd (cc)
+spared-ample line = λ is. absurd (cc)
 
-pub spared-spelled : (line : List ℕ) (command : Command) (poor : Bool) → spelled line ≡ Some command → IsSpared (turn_of line poor)
-spared-spelled line command poor h = λ is none. absurd (let clash : Some command ≡ None = sym h ∙ none in cc)
+pub spared-spelled : (line : List ℕ) (command : Command) (poor : Bool) → spelled line ≡ Some command → takes_memory command ≡ true → IsSpared (turn_of line poor)
+spared-spelled line command poor h takes = λ is. inr (command, h, takes)
 
 -- the disks are those that a stop might leave before
 same_between : (σ : State) (before : List Disk → Type 0) (ds : List Disk) → before ds → map face ds ≡ map face σ.disks → IsBetween before σ.disks σ.disks ds
@@ -82,6 +82,7 @@ stepped-refused σ σ' line poor r reply before after is_ready is_kept spared is
 pub stepped-command : (σ σ' : State) (line : List ℕ) (command : Command) (result : Result Reply StepFault) (before after : List Disk → Type 0) (is_ready is_kept : Type 0)
     → spelled line ≡ Some command
     → IfOk result (λ r. ((r ≡ No NoMemory) × (σ' ≡ σ)) ⊎ ((r ≡ (step σ command).reply) × (σ' ≡ (step σ command).after)))
+    → IfOk result (λ r. r ≡ No NoMemory → takes_memory command ≡ true)
     → OnOk result is_ready → is_kept
     → IfOk result (λ r. is_accepted r ≡ false → (ds : List Disk) → after ds → before ds)
     → ((ds : List Disk) → after ds → IsBetween before σ.disks ((step σ command).after).disks ds)
@@ -89,7 +90,7 @@ pub stepped-command : (σ σ' : State) (line : List ℕ) (command : Command) (re
     → IfOk result (λ r. is_accepted r ≡ true → is_settling command ≡ true → (ds : List Disk) → after ds → IsSettledAs σ'.disks ds)
     → ((ds : List Disk) → before ds → map face ds ≡ map face σ.disks)
     → HasStepped σ σ' line result before after is_ready is_kept
-stepped-command σ σ' line command (Err e) before after is_ready is_kept spells says ready kept refuses crash faces settled had =
+stepped-command σ σ' line command (Err e) before after is_ready is_kept spells says takes ready kept refuses crash faces settled had =
     let is = taken-some σ line command spells in
     record {
       poor = false;
@@ -102,10 +103,10 @@ stepped-command σ σ' line command (Err e) before after is_ready is_kept spells
       faces = tt;
       settled = tt;
     }
-stepped-command σ σ' line command (Ok r) before after is_ready is_kept spells (inl poor) ready kept refuses crash faces settled had =
-    stepped-refused σ σ' line true NoMemory r before after is_ready is_kept (spared-spelled line command true spells) (taken-poor σ line)
+stepped-command σ σ' line command (Ok r) before after is_ready is_kept spells (inl poor) takes ready kept refuses crash faces settled had =
+    stepped-refused σ σ' line true NoMemory r before after is_ready is_kept (spared-spelled line command true spells (takes poor.0)) (taken-poor σ line)
     poor.0 poor.1 ready kept had (refuses (ap is_accepted poor.0 ∙ is_accepted-no NoMemory))
-stepped-command σ σ' line command (Ok r) before after is_ready is_kept spells (inr whole) ready kept refuses crash faces settled had =
+stepped-command σ σ' line command (Ok r) before after is_ready is_kept spells (inr whole) takes ready kept refuses crash faces settled had =
     let is = taken-some σ line command spells in
     record {
       poor = false;

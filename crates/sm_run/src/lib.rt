@@ -12,7 +12,9 @@
 //! found no memory. At `Ok` the script was read to its end, its lines are those of the turns, and the sink got exactly
 //! their replies. Where the source failed, or gave a byte past the most of a script, every line that a newline had
 //! ended was answered. Where the device or the sink failed, one line more was read whole: of its reply nothing, or a
-//! front, went out. The machine's state is the one after the turns, or after that line too.
+//! front, went out. The machine's state is the one after the turns, or after that line too. Memory is wanting only to a
+//! `write`, whose bytes want it while the line is read, and to a line that spells a command whose step takes memory
+//! (`takes_memory`): no other line is answered so (`IsSpared`).
 //!
 //! **What a stop may leave.** At every return the disks are those after some prefix of the accepted lines that
 //! reaches at least the last acknowledged flush or changing command, sector by sector (`IsAsAfter`, `IsAsDuring`). A

@@ -6,7 +6,7 @@ ghost use Rattle.sm_disk.specs.Held.{Held, Keeps, SameHeld, Rose};
 ghost use Rattle.sm_machine.specs.declared.replies.Reply.TheVariants.{No};
 ghost use Rattle.sm_machine.specs.Disks.{Disk};
 ghost use Rattle.sm_machine.specs.Steps.{State, step};
-ghost use Rattle.sm_machine.specs.Runs.{is_accepted, is_settling, face};
+ghost use Rattle.sm_machine.specs.Runs.{is_accepted, is_settling, takes_memory, face};
 ghost use Rattle.sm_run.specs.Between.{IsBetween, IsSettledAs};
 ghost use Rattle.sm_run.specs.declared.steps.StepFault.TheVariants.{Device, Broken};
 
@@ -57,8 +57,9 @@ pub trait Steps {
 
     ghost site: { Self → Site };
 
-    /// One step. A refused command, one that found no memory among them, makes no write and no sync. At `Broken`
-    /// nothing is done, and no step touches what stands beside the machine's store.
+    /// One step. A refused command, one that found no memory among them, makes no write and no sync; only a command
+    /// whose step takes memory is answered with want of it. At `Broken` nothing is done, and no step touches what stands
+    /// beside the machine's store.
     fn step(&mut self, alloc: Global, command: &Command) -> Result<Reply, StepFault>
         ensures site { site self.new ≡ site self.old }
         ensures counts { faults self.old ≤ faults self.new }
@@ -71,6 +72,7 @@ pub trait Steps {
         ensures reply { told → ready self.old → IfOk result (λ r.
             ((r ≡ No NoMemory) × (state self.new ≡ state self.old))
             ⊎ ((r ≡ (step (state self.old) command.now).reply) × (state self.new ≡ (step (state self.old) command.now).after))) }
+        ensures spared { IfOk result (λ r. r ≡ No NoMemory → takes_memory command.now ≡ true) }
         ensures ready { told → ready self.old → OnOk result (ready self.new) }
         ensures kept { told → ready self.old → kept self.new }
         ensures refused { IfOk result (λ r. is_accepted r ≡ false → (ds : List Disk) → leaves self.new ds → leaves self.old ds) }

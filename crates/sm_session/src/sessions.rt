@@ -1,14 +1,16 @@
 //! A repository that is open, and its steps.
 
-ghost use Rattle.std.specs.Prelude.{◌≡◌, ◌≤◌, ◌⊎◌, None, false, IfOk, IfErr};
+ghost use Rattle.std.specs.Prelude.{◌≡◌, ◌≤◌, ◌<◌, ◌+◌, ◌*◌, ◌⊎◌, None, false, IfOk, IfErr};
 ghost use Rattle.std.proofs.Props.{props};
 ghost use Rattle.sm_base.specs.declared.operations.Op.TheVariants.{Idle};
+ghost use Rattle.sm_attaching.specs.Attaching.{HasAttachmentRoom};
 ghost use Rattle.sm_disk.specs.Held.{IsSettled, Keeps};
 ghost use Rattle.vg_meta.specs.Roomy.{table_alone};
 ghost use Rattle.sm_ready.specs.Cleaned.{HasFewRemovals};
 ghost use Rattle.sm_recover.specs.Repairs.{IsOpeningStopped, UnlessDeviceFailed};
 ghost use Rattle.sm_recover.specs.Stores.{MayBeRepairedFrom};
 ghost use Rattle.vg_volumes.specs.Stored.{OnlyReads, Leaves};
+ghost use Rattle.sm_ready.specs.Frames.{HasTrueImages};
 ghost use Rattle.sm_ready.specs.Known.{known, shape_in};
 ghost use Rattle.sm_ready.specs.Orderly.{IsOrderly};
 ghost use Rattle.sm_ready.specs.Proper.{IsOrderly-prop, IsTidy-prop};
@@ -22,19 +24,24 @@ ghost use Rattle.sm_standing.specs.Opened.{opened};
 ghost use Rattle.sm_standing.specs.Standing.{disks};
 
 use crate::taking::take;
-use sm_base::OpenFault;
+use sm_base::{NoMemory, OpenFault, SECTOR};
 use sm_machine::{Command, Reply};
+use sm_pool::Pool;
 use sm_ready::Memory;
 use sm_recover::settle;
 use sm_run::{StepFault, Steps};
 use std::alloc::Global;
 use vg_volumes::Store;
 
-/// A repository that is open: its store, what is in memory of it, whether a step has failed, and the time at which it was
-/// opened, in seconds since 2000-01-01 00:00 UTC: the stamp of the images that it makes.
+/// How many buffers a session has: a block and its bitmap each.
+const BUFFERS: usize = 2;
+
+/// A repository that is open: its store, what is in memory of it, buffers for the blocks of guests, whether a step has failed,
+/// and the time at which it was opened, in seconds since 2000-01-01 00:00 UTC: the stamp of the images that it makes.
 pub struct Session<S: Store> {
     store: S,
     memory: Memory,
+    pool: Pool,
     broken: bool,
     now: u32,
     // While no step has failed, table and memory are as they are between two steps, commits may be made, and table and tree
@@ -44,8 +51,20 @@ pub struct Session<S: Store> {
     ghost tree_room: { broken ≡ false → HasTreeRoom memory },
     // The collector does nothing.
     ghost idle: { broken ≡ false → memory.operation ≡ Idle },
+    // Each image in memory is true of its volume, as many disks may be attached as there may be, and two buffers are free.
+    ghost true_images: { broken ≡ false → HasTrueImages S.Store store memory } by { Prim.hlevel props },
+    ghost attachment_room: { broken ≡ false → HasAttachmentRoom memory },
+    ghost buffer: { (1 < pool.free) × (512 * (1 + (S.site store).geometry.block) ≤ pool.bytes) },
     ghost usable: { broken ≡ false → S.failed store ≡ false },
     ghost room: { broken ≡ false → HasRows (S.table store) },
+}
+
+/// The buffers of a session, all free: each holds a block and its bitmap.
+fn buffers<S: Store>(alloc: Global, store: &S) -> Result<Pool, NoMemory>
+    ensures { IfOk result (λ pool. (1 < pool.free) × (512 * (1 + (S.site store.now).geometry.block) ≤ pool.bytes)) }
+{
+    let block = store.geometry().block as usize;
+    Pool::new(alloc, BUFFERS, SECTOR as usize * (1 + block))
 }
 
 impl<S: Store> Session<S> {
@@ -86,10 +105,14 @@ impl<S: Store> Session<S> {
             ⊎ MayBeRepairedFrom (store_content S.Store store) (content_in (S.site store) t image))) }
     {
         let mut store = store;
+        let Ok(pool) = buffers(alloc, &store) else {
+            return Err((OpenFault::NoMemory, store));
+        };
         match settle(alloc, &mut store) {
             Ok(memory) => Ok(Session {
                 store,
                 memory,
+                pool,
                 broken: false,
                 now,
             }),
@@ -104,6 +127,7 @@ impl<S: Store> Session<S> {
         let Session {
             store,
             memory: _,
+            pool: _,
             broken: _,
             now: _,
         } = self;
@@ -143,7 +167,14 @@ impl<S: Store> Steps for Session<S> {
         if self.broken {
             return Err(StepFault::Broken);
         }
-        let taken = take(alloc, &mut self.store, &mut self.memory, command, self.now);
+        let taken = take(
+            alloc,
+            &mut self.store,
+            &mut self.memory,
+            &mut self.pool,
+            command,
+            self.now,
+        );
         match taken {
             Ok(reply) => Ok(reply),
             Err(_) => {

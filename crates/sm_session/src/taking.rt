@@ -1,25 +1,33 @@
 //! Taking one command.
 
-ghost use Rattle.std.specs.Prelude.{◌≡◌, ◌≤◌, ℕ, List, true, false, IfOk, OnOk};
+ghost use Rattle.std.specs.Prelude.{◌≡◌, ◌≤◌, ◌<◌, ◌+◌, ◌*◌, ℕ, List, true, false, IfOk, OnOk};
 ghost use Rattle.sm_base.specs.declared.operations.Op.TheVariants.{Idle};
 ghost use Rattle.sm_disk.specs.Held.{Keeps};
 ghost use Rattle.vg_meta.specs.Roomy.{table_alone};
 ghost use Rattle.vg_meta.specs.Tables.{VolumeTable};
 ghost use Rattle.sm_machine.specs.declared.commands.Command.TheVariants.{Create};
-ghost use Rattle.sm_machine.specs.Runs.{is_accepted};
+ghost use Rattle.sm_machine.specs.Runs.{is_accepted, takes_memory};
+ghost use Rattle.sm_base.specs.declared.refusals.Refusal.TheVariants.{NoMemory};
+ghost use Rattle.sm_machine.specs.declared.replies.Reply.TheVariants.{No};
 ghost use Rattle.sm_machine.specs.Steps.{is_built as is_built_by};
 ghost use Rattle.vg_volumes.specs.Stored.{OnlyReads, Counts, Leaves};
-ghost use Rattle.sm_making.specs.Making.{IsOnLeast, HasFewCommits};
+ghost use Rattle.sm_making.specs.Making.{IsOnLeast};
+ghost use Rattle.sm_attaching.specs.Attaching.{HasAttachmentRoom};
+ghost use Rattle.sm_ready.specs.Frames.{HasCommits, HasTrueImages};
 ghost use Rattle.sm_ready.specs.Refusing.{IsAllowed, extents_for};
 ghost use Rattle.sm_ready.specs.Sessions.{HasRows, HasTreeRoom, IsOrderlyStore, IsReadyStore, IsTidyStore};
 ghost use Rattle.sm_ready.specs.Taken.{StoreTakes};
+ghost use Rattle.sm_session.specs.Carrying.{is_guests, most_commits};
 
+use crate::guests::serve;
 use sm_base::{Failed, Refusal};
 use sm_changing::{delete, label};
 use sm_listing::list;
 use sm_machine::{Command, Reply};
 use sm_making::{create, create_vhd};
+use sm_pool::Pool;
 use sm_ready::{Memory, refuse};
+use sm_space::resize;
 use std::alloc::Global;
 use vg_volumes::Store;
 
@@ -32,6 +40,9 @@ fn is_built(command: &Command) -> bool
         Command::Create { .. } | Command::Delete { .. } | Command::Label { .. } | Command::List => {
             true
         }
+        Command::Resize { .. } | Command::Attach { .. } | Command::Detach { .. } => true,
+        Command::Write { .. } | Command::Fill { .. } => true,
+        Command::Read { .. } | Command::Flush { .. } => true,
         _ => false,
     }
 }
@@ -41,6 +52,7 @@ fn carry_out<S: Store>(
     alloc: Global,
     store: &mut S,
     memory: &mut Memory,
+    pool: &mut Pool,
     command: &Command,
     now: u32,
 ) -> Result<Reply, Failed>
@@ -49,21 +61,28 @@ fn carry_out<S: Store>(
     requires tidy { IsTidyStore S.Store store.old memory.old }
     requires tree_room { HasTreeRoom memory.old }
     requires idle { memory.old.operation ≡ Idle }
+    requires attachment_room { HasAttachmentRoom memory.old }
+    requires true_now { HasTrueImages S.Store store.old memory.old }
+    requires buffer { (1 < pool.old.free) × (512 * (1 + (S.site store.old).geometry.block) ≤ pool.old.bytes) }
     requires built { is_built_by command.now ≡ true }
     requires allowed { IsAllowed S.Store command.now store.old memory.old }
     ensures site { S.site store.new ≡ S.site store.old }
     ensures counts { S.faults store.old ≤ S.faults store.new }
     ensures cause { Counts S.Store result store.old store.new }
     ensures beside { S.told → Keeps (S.beside store.old) (S.beside store.new) }
-    ensures few { HasFewCommits (table_alone (S.table store.old)) (table_alone (S.table store.new)) }
-    ensures few_left { Leaves S.Store store.new (λ t image. HasFewCommits (table_alone (S.table store.old)) t) }
+    ensures pool { pool.new ≡ pool.old }
+    ensures few { HasCommits (most_commits command.now) (table_alone (S.table store.old)) (table_alone (S.table store.new)) }
+    ensures few_left { Leaves S.Store store.new (λ t image. HasCommits (most_commits command.now) (table_alone (S.table store.old)) t) }
     ensures usable_still { OnOk result (S.failed store.new ≡ false) }
     ensures orderly_still { OnOk result (IsOrderlyStore S.Store store.new memory.new) }
     ensures tidy_still { OnOk result (IsTidyStore S.Store store.new memory.new) }
     ensures idle_still { OnOk result (memory.new.operation ≡ Idle) }
     ensures tree_room_still { OnOk result (HasTreeRoom memory.new) }
+    ensures attachment_room_still { OnOk result (HasAttachmentRoom memory.new) }
+    ensures true_still { OnOk result (HasTrueImages S.Store store.new memory.new) }
     ensures room { HasRows (S.table store.old) → OnOk result (HasRows (S.table store.new)) }
     ensures refused { IfOk result (λ r. is_accepted r ≡ false → (t : VolumeTable) (image : ℕ → List ℕ) → S.leaves store.new t image → S.leaves store.old t image) }
+    ensures spared { IfOk result (λ r. r ≡ No NoMemory → takes_memory command.now ≡ true) }
     ensures untouched { IfOk result (λ r. is_accepted r ≡ false → OnlyReads S.Store store.old store.new × (memory.new ≡ memory.old)) }
     ensures least { (u : List ℕ) (size : ℕ) (label : List ℕ) → command.now ≡ Create u size true label → IfOk result (λ r. is_accepted r ≡ true
         → IsOnLeast (S.site store.old) (table_alone (S.table store.old)) u (extents_for (S.site store.old).geometry.extent size) (table_alone (S.table store.new))) }
@@ -91,8 +110,12 @@ fn carry_out<S: Store>(
             label(store, memory, disk, text)?;
             Ok(Reply::Done)
         }
+        Command::Resize { disk, size } => {
+            let bytes = resize(store, memory, disk, *size)?;
+            Ok(Reply::Size(bytes))
+        }
         Command::List => Ok(list(alloc, memory)),
-        _ => unreachable!(),
+        _ => serve(alloc, store, memory, pool, command),
     }
 }
 
@@ -102,6 +125,7 @@ pub fn take<S: Store>(
     alloc: Global,
     store: &mut S,
     memory: &mut Memory,
+    pool: &mut Pool,
     command: &Command,
     now: u32,
 ) -> Result<Reply, Failed>
@@ -110,19 +134,26 @@ pub fn take<S: Store>(
     requires tidy { IsTidyStore S.Store store.old memory.old }
     requires tree_room { HasTreeRoom memory.old }
     requires idle { memory.old.operation ≡ Idle }
+    requires attachment_room { HasAttachmentRoom memory.old }
+    requires true_now { HasTrueImages S.Store store.old memory.old }
+    requires buffer { (1 < pool.old.free) × (512 * (1 + (S.site store.old).geometry.block) ≤ pool.old.bytes) }
     ensures site { S.site store.new ≡ S.site store.old }
     ensures counts { S.faults store.old ≤ S.faults store.new }
     ensures cause { Counts S.Store result store.old store.new }
     ensures beside { S.told → Keeps (S.beside store.old) (S.beside store.new) }
-    ensures few { HasFewCommits (table_alone (S.table store.old)) (table_alone (S.table store.new)) }
-    ensures few_left { Leaves S.Store store.new (λ t image. HasFewCommits (table_alone (S.table store.old)) t) }
+    ensures pool { pool.new ≡ pool.old }
+    ensures few { HasCommits (most_commits command.now) (table_alone (S.table store.old)) (table_alone (S.table store.new)) }
+    ensures few_left { Leaves S.Store store.new (λ t image. HasCommits (most_commits command.now) (table_alone (S.table store.old)) t) }
     ensures usable_still { OnOk result (S.failed store.new ≡ false) }
     ensures orderly_still { OnOk result (IsOrderlyStore S.Store store.new memory.new) }
     ensures tidy_still { OnOk result (IsTidyStore S.Store store.new memory.new) }
     ensures idle_still { OnOk result (memory.new.operation ≡ Idle) }
     ensures tree_room_still { OnOk result (HasTreeRoom memory.new) }
+    ensures attachment_room_still { OnOk result (HasAttachmentRoom memory.new) }
+    ensures true_still { OnOk result (HasTrueImages S.Store store.new memory.new) }
     ensures room { HasRows (S.table store.old) → OnOk result (HasRows (S.table store.new)) }
     ensures refused { IfOk result (λ r. is_accepted r ≡ false → (t : VolumeTable) (image : ℕ → List ℕ) → S.leaves store.new t image → S.leaves store.old t image) }
+    ensures spared { IfOk result (λ r. r ≡ No NoMemory → takes_memory command.now ≡ true) }
     ensures untouched { IfOk result (λ r. is_accepted r ≡ false → OnlyReads S.Store store.old store.new × (memory.new ≡ memory.old)) }
     ensures least { (u : List ℕ) (size : ℕ) (label : List ℕ) → command.now ≡ Create u size true label → IfOk result (λ r. is_accepted r ≡ true
         → IsOnLeast (S.site store.old) (table_alone (S.table store.old)) u (extents_for (S.site store.old).geometry.extent size) (table_alone (S.table store.new))) }
@@ -138,5 +169,5 @@ pub fn take<S: Store>(
     if let Some(refusal) = refusal {
         return Ok(Reply::No(refusal));
     }
-    carry_out(alloc, store, memory, command, now)
+    carry_out(alloc, store, memory, pool, command, now)
 }

@@ -1,8 +1,6 @@
 -- Behind the last commit the image is read in all its extents: it says what it said, and memory is ready.
 use Rattle.std.proofs.Common.{◌≡◌, ◌≢◌, ⊎_elim, ℕ, ◌+◌, ◌-◌, ◌*◌, ◌/◌, ◌<◌, ◌≤◌, ◌&&◌, not, Bool, true, cond, List, length, Option, Some, None, refl, sym, ap, ap₂, ◌∙◌, subst, arith}
 use Rattle.std.proofs.Math.Path.{fun_ext}
-use Rattle.std.proofs.Math.Logic.{∥∥₁_elim}
-use Rattle.std.proofs.Props.{props}
 use Rattle.std.proofs.Math.Nat.{mul-le-mul_right}
 use Rattle.std.proofs.lemmas.Bool.{true≢false}
 use Rattle.std.proofs.lemmas.List.{length-append}
@@ -27,9 +25,9 @@ use Rattle.vhd_image.specs.declared.images.Body.TheVariants as body
 use Rattle.vhd_image.specs.Changes.{EndsAt, StaysTrueIn}
 use Rattle.vhd_image.specs.Steady.{IsSteady}
 use Rattle.vhd_image.proofs.SteadyLaws.{body_keeps, steady_at_end, steady_ended, steady_kept}
-use Rattle.vhd_chain.specs.Trees.{row_name, tree_row}
+use Rattle.vhd_chain.specs.Trees.{row_name}
 use Rattle.vhd_chain.specs.declared.rows.TreeRow.{TreeRow}
-use Rattle.common_laws.specs.Lists.{In, ◌>>=◌}
+use Rattle.common_laws.specs.Lists.{◌>>=◌}
 use Rattle.sm_machine.specs.WellFormed.{is_image_name}
 use Rattle.sm_record.specs.Records.{reading}
 use Rattle.sm_record.specs.declared.records.Record.{Record}
@@ -41,22 +39,21 @@ use Rattle.sm_standing.specs.Standing.{disk_at, disk_in, disks, standing_volume}
 use Rattle.sm_standing.proofs.DiskLists.{disks_same}
 use Rattle.sm_standing.proofs.ImageSectors.{gone, image_same, raw_same, vhd_same}
 use Rattle.sm_standing.proofs.RecordLists.{first_of, record_of_first, records_same}
+use Rattle.sm_standing.proofs.ImageLaws.{sectors_same}
 use Rattle.sm_ready.specs.Done.{at_rest}
-use Rattle.sm_ready.specs.Known.{Known, shape_in}
+use Rattle.sm_ready.specs.Known.{Known}
 use Rattle.sm_ready.specs.Ready.{IsReady}
 use Rattle.sm_ready.specs.Stores.{content_now}
-use Rattle.sm_ready.proofs.AlikeLaws.{sectors_same}
 use Rattle.sm_ready.proofs.CommitLaws.{volume_rested}
 use Rattle.sm_ready.proofs.LeftLaws.{IsVhdIn, left_in, left_now, mgt_long, now_sector, size_there, vhd_allowed, vhd_in, vhd_of}
 use Rattle.sm_ready.proofs.OperationLaws.{below_alike}
 use Rattle.sm_ready.proofs.Orders.{In-tree_row, geometry_of, named_row, whole}
 use Rattle.sm_ready.proofs.RestLaws.{agrees_keeps, keeps_rest}
-use Rattle.sm_ready.proofs.RowLaws.{tree_found}
 use Rattle.sm_ready.proofs.ShapeLaws.{plainly_stands}
 use Rattle.sm_ready.proofs.Steadies.{steady_size, steady_valid}
 use Rattle.sm_space.proofs.MomentLaws.{beside_it, front_written, longer}
 use Rattle.sm_space.proofs.MomentLaws as moment
-use Rattle.sm_space.proofs.OrderlyLaws.{IsToGrow, after, ended, ended_other, ended_own, larger, larger_own, named_or_not, orderly_ended, own}
+use Rattle.sm_space.proofs.OrderlyLaws.{IsToGrow, after, ended, ended_other, ended_own, larger, larger_own, named_or_not, only, orderly_ended, own}
 use Rattle.sm_space.proofs.SizedLaws.{In-turned, IsTurned, sized, turned_same}
 
 -- in more sectors or in fewer an image says the same where its footer gives one size
@@ -275,10 +272,6 @@ module _ (s : Site) (t : VolumeTable) (m : Known) (u es : List ℕ) (row : TreeR
 
   -- ---- memory is ready
 
-  only : (x : TreeRow) → In x m.rows → row_name x ≡ Vhd u → x ≡ row
-  unfolding shape_in
-  only x i is = ∥∥₁_elim h.orderly.well_formed (hlevel props) (λ w. same_Some x row (sym (tree_found m.rows x w.one_image i) ∙ ap (tree_row m.rows) is ∙ h.found))
-
   no_entry_name : (n : Name) → is_image_name n ≡ true → n ≢ Inflate u row.extents
   unfolding is_image_name
   no_entry_name n image is = true≢false (sym image ∙ ap is_image_name is)
@@ -287,7 +280,7 @@ module _ (s : Site) (t : VolumeTable) (m : Known) (u es : List ℕ) (row : TreeR
   steady_in r w = ⊎_elim
       (λ k. subst (λ (x : TreeRow). IsSteady s.geometry (x.extents * s.geometry.extent) (volume_of s (ended s t m u es row h) last (row_name x)) x.image) (sym k.1)
       (body_keeps s.geometry (w.row.extents * s.geometry.extent) w.row.image (other_keeps (row_name w.row) k.0 (no_entry_name (row_name w.row) (named_row s t m w.row h.orderly w.there))) (ready.firm.images w.row w.there)))
-      (λ k. subst (λ (x : TreeRow). IsSteady s.geometry (x.extents * s.geometry.extent) (volume_of s (ended s t m u es row h) last (row_name x)) x.image) (sym (k.1 ∙ ap (sized (row.extents + length es)) (only w.row w.there k.0)))
+      (λ k. subst (λ (x : TreeRow). IsSteady s.geometry (x.extents * s.geometry.extent) (volume_of s (ended s t m u es row h) last (row_name x)) x.image) (sym (k.1 ∙ ap (sized (row.extents + length es)) (only s t m u es row h w.row w.there k.0)))
       (subst (λ n. IsSteady s.geometry ((row.extents + length es) * s.geometry.extent) (volume_of s (ended s t m u es row h) last n) row.image) (sym (In-tree_row m.rows (Vhd u) row h.found).1)
       (subst (λ b. IsSteady s.geometry ((row.extents + length es) * s.geometry.extent) (volume_of s (ended s t m u es row h) last (Vhd u)) b) (sym image_is)
       (subst (λ n. IsSteadyIn s.geometry n (volume_of s (ended s t m u es row h) last (Vhd u)) facts.head facts.slots) (sym more_is) steady_more)))) w.how

@@ -92,24 +92,37 @@ module _ {S : Type 0} {g : Ghosts S} {a : S} {m : Memory} {u es : List ℕ} {row
   abbrev t3 : VolumeTable
   t3 = ended s t (known m) u es row h.grows
 
+  pub own_name : volume_name row.image ≡ Vhd u
+  own_name = (In-tree_row m.tree.rows (Vhd u) row h.grows.found).1
+
+  -- what happened to the image's volume
+  pub row_does : (P : Head → List (Option ℕ) → Held → Held → Type 0) (d f : S) → IfRow (tree_row m.tree.rows (Vhd u)) (λ r. IfVhdDoes g r.image P d f) → g.told
+      → IfVhd row.image (λ head slots. P head slots (held_in (stored g d) (Vhd u)) (held_in (stored g f) (Vhd u)))
+  row_does P d f had told =
+      let is = subst (λ o. IfRow o (λ r. IfVhdDoes g r.image P d f)) h.grows.found had in
+      at_name row.image (Vhd u) P (λ n. held_in (stored g d) n) (λ n. held_in (stored g f) n) own_name (is told)
+
   pub can_note : 0 < (g.table a).spare → CanCommit g (Create (Inflate u row.extents) false []) a
   can_note room = record { usable = h.usable; allowed = may_note s t (known m) u es row h.grows; room = room; fits = fits_noted s t (known m) u es row h.grows }
 
   module _ {b : S} (c : Commits g (Create (Inflate u row.extents) false []) a b) where
+    pub permits_grow : Permits (g.site b).count (tab g b) (Grow (Vhd u) es)
+    permits_grow = subst₂ (λ x y. Permits x.count y (Grow (Vhd u) es)) (sym c.site) (sym c.table) (may_grow s t (known m) u es row h.grows)
+
     pub can_grow : length es ≤ places (g.table a) (Vhd u) → CanCommit g (Grow (Vhd u) es) b
     unfolding name_eq
     can_grow room = record {
       usable = c.usable;
-      allowed = subst₂ (λ x y. Permits x.count y (Grow (Vhd u) es)) (sym c.site) (sym c.table) (may_grow s t (known m) u es row h.grows);
+      allowed = permits_grow;
       room = let more = c.room.spare_extents (Vhd u) in omega (arith, room, more);
       fits = subst (λ y. Fits y (Grow (Vhd u) es)) (sym c.table) (fits_larger s t (known m) u es row h.grows);
     }
 
     module _ {d : S} (k : Commits g (Grow (Vhd u) es) b d) where
-      site_then : g.site d ≡ s
+      pub site_then : g.site d ≡ g.site a
       site_then = k.site ∙ c.site
 
-      table_then : tab g d ≡ t2
+      pub table_then : tab g d ≡ larger (g.site a) (tab g a) (known m) u es row h.grows
       table_then = k.table ∙ ap (λ y. applied y (Grow (Vhd u) es)) c.table
 
       pub can_end : (to : ℕ) → row.extents + length es ≡ to → CanEnd g d m.tree.rows (Vhd u) to
@@ -297,20 +310,12 @@ module _ {S : Type 0} {g : Ghosts S} {a : S} {m : Memory} {u es : List ℕ} {row
 
         module _ (stays : IfRow (tree_row m.tree.rows (Vhd u)) (λ r. IfVhdDoes g r.image (StaysTrueIn (g.site d).geometry) d f))
             (ends : IfRow (tree_row m.tree.rows (Vhd u)) (λ r. IfVhdDoes g r.image (EndsAt (g.site d).geometry (to * (g.site d).geometry.extent)) d f)) where
-          own_name : volume_name row.image ≡ Vhd u
-          own_name = (In-tree_row m.tree.rows (Vhd u) row h.grows.found).1
-
-          in_row : (P : Head → List (Option ℕ) → Held → Held → Type 0) → IfRow (tree_row m.tree.rows (Vhd u)) (λ r. IfVhdDoes g r.image P d f) → IfVhd row.image (λ head slots. P head slots (held_in (stored g d) (Vhd u)) (held_in (stored g f) (Vhd u)))
-          in_row P had =
-              let is = subst (λ o. IfRow o (λ r. IfVhdDoes g r.image P d f)) h.grows.found had in
-              at_name row.image (Vhd u) P (λ n. held_in (stored g d) n) (λ n. held_in (stored g f) n) own_name (is told)
-
           stays_here : IfVhd row.image (λ head slots. StaysTrueIn site.geometry head slots (volume_of site with_more still (Vhd u)) (volume_of site with_more (g.area f) (Vhd u)))
-          stays_here = held_then (λ x old new. IfVhd row.image (λ head slots. StaysTrueIn x.geometry head slots old new)) (in_row (StaysTrueIn (g.site d).geometry) stays)
+          stays_here = held_then (λ x old new. IfVhd row.image (λ head slots. StaysTrueIn x.geometry head slots old new)) (row_does h (StaysTrueIn (g.site d).geometry) d f stays told)
 
           ends_here : IfVhd row.image (λ head slots. EndsAt site.geometry ((row.extents + length es) * site.geometry.extent) head slots (volume_of site with_more still (Vhd u)) (volume_of site with_more (g.area f) (Vhd u)))
           ends_here = subst (λ n. IfVhd row.image (λ head slots. EndsAt site.geometry (n * site.geometry.extent) head slots (volume_of site with_more still (Vhd u)) (volume_of site with_more (g.area f) (Vhd u)))) (sym sum)
-              (held_then (λ x old new. IfVhd row.image (λ head slots. EndsAt x.geometry (to * x.geometry.extent) head slots old new)) (in_row (EndsAt (g.site d).geometry (to * (g.site d).geometry.extent)) ends))
+              (held_then (λ x old new. IfVhd row.image (λ head slots. EndsAt x.geometry (to * x.geometry.extent) head slots old new)) (row_does h (EndsAt (g.site d).geometry (to * (g.site d).geometry.extent)) d f ends told))
 
           abbrev then : Known
           then = after site first (known m) u es row h.grows

@@ -4,3 +4,6 @@ pub mod OrderlyLaws
 pub mod MomentLaws
 pub mod EndLaws
 pub mod InflatingLaws
+pub mod TrueLaws
+pub mod ResizeLaws
+pub mod ResizedLaws

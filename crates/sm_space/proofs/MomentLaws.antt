@@ -26,7 +26,7 @@ use Rattle.sm_ready.specs.Known.{Known}
 use Rattle.sm_ready.specs.Ready.{IsReady}
 use Rattle.sm_ready.specs.Stores.{Leaving, MayShow, content_in, content_now}
 use Rattle.sm_ready.proofs.CommitLaws.{IsSafe, volume_rested}
-use Rattle.sm_ready.proofs.EnlargedLaws.{enlarging_disks, enlarging_kept}
+use Rattle.sm_standing.proofs.EnlargedLaws.{enlarging_disks, enlarging_kept}
 use Rattle.sm_ready.proofs.KeptLaws.{law_kept}
 use Rattle.sm_ready.proofs.LeftLaws.{IsLeft, extent_some, left_in, left_now, mgt_long, now_sector, ready_places}
 use Rattle.sm_ready.proofs.Orders.{geometry_of, none_making}

@@ -88,6 +88,7 @@ stands_more g n k (body.Vhd head slots) more stands = record {
   size = stands.size;
   least = stands.least;
   most = stands.most;
+  sized = stands.sized;
   room = omega (arith, more, stands.room);
 }
 
@@ -321,11 +322,12 @@ module _ (s : Site) (t : VolumeTable) (m : Known) (u es : List ℕ) (row : TreeR
       number = omega (arith, h.orderly.table.sequence)
 
   -- no other row of memory has the name
-  no_more : (x : TreeRow) → In x m.rows → row_name x ≡ Vhd u → x.extents ≤ to
+  pub only : (x : TreeRow) → In x m.rows → row_name x ≡ Vhd u → x ≡ row
   unfolding shape_in
-  no_more x i is = ∥∥₁_elim h.orderly.well_formed (hlevel props) (λ w.
-      let same = same_Some x row (sym (tree_found m.rows x w.one_image i) ∙ ap (tree_row m.rows) is ∙ h.found) in
-      omega (arith, ap (λ (r : TreeRow). r.extents) same))
+  only x i is = ∥∥₁_elim h.orderly.well_formed (hlevel props) (λ w. same_Some x row (sym (tree_found m.rows x w.one_image i) ∙ ap (tree_row m.rows) is ∙ h.found))
+
+  no_more : (x : TreeRow) → In x m.rows → row_name x ≡ Vhd u → x.extents ≤ to
+  no_more x i is = omega (arith, ap (λ (r : TreeRow). r.extents) (only x i is))
 
   none_larger : (y : ImageRow) → In y (shape_in s t m).images → is_image_in (Vhd u) y ≡ true → y.extents ≤ to
   unfolding shape_in

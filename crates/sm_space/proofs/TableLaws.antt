@@ -13,6 +13,7 @@ use Rattle.vg_meta.proofs.NameLaws.{name_eq-other, name_eq-same, name_eq-true}
 use Rattle.common_laws.specs.Lists.{In}
 use Rattle.sm_standing.specs.Enlarging.{HasEntry, IsAtLeast}
 use Rattle.sm_standing.specs.Enlarging.HasEntry.{here, next}
+use Rattle.sm_standing.proofs.UndoneLaws.{all_themselves, at_least_itself}
 
 -- ---- an entry comes, and goes
 
@@ -110,21 +111,14 @@ In-with_row n f (s ∷ rs) r i = by (name_eq s.name n) (λ j. In-with_row n f rs
 -- ---- the same volumes, one of them with more extents, and the entry
 
 module _ (u : List ℕ) where
-  at_least_itself : (r : Row) → IsAtLeast u r r
-  at_least_itself r = record { name = refl; hidden = refl; fresh = refl; more = omega arith; same = λ other. refl }
-
-  all_themselves : (rs : List Row) → AllZip (IsAtLeast u) rs rs
-  all_themselves [] = tt
-  all_themselves (r ∷ rs) = (at_least_itself r, all_themselves rs)
-
   pub entry_put : (r : Row) (rs : List Row) → HasEntry r.name u rs (put r rs)
   unfolding put
   entry_put r [] = here r [] [] refl tt
   entry_put r (s ∷ rs) = by (is_lt (name_cmp r.name s.name)) (entry_put r rs)
     where
       by : (b : Bool) → HasEntry r.name u rs (put r rs) → HasEntry r.name u (s ∷ rs) (cond b (r ∷ s ∷ rs) (s ∷ put r rs))
-      by true rest = here r (s ∷ rs) (s ∷ rs) refl (all_themselves (s ∷ rs))
-      by false rest = next s s rs (put r rs) (at_least_itself s) rest
+      by true rest = here r (s ∷ rs) (s ∷ rs) refl (all_themselves u (s ∷ rs))
+      by false rest = next s s rs (put r rs) (at_least_itself u s) rest
 
   module _ (es : List ℕ) where
     at_least_grown : (q r : Row) → r.name ≡ Vhd u → IsAtLeast u q r → IsAtLeast u q (grown es r)

@@ -67,7 +67,3 @@ pub record IsEnlarged (count : ℕ) (t : VolumeTable) (u : List ℕ) (to : ℕ) 
   pub more : List ℕ
   pub least : AreLeastFree count (to - length row.extents) t more
   pub volumes : next.volumes ≡ with_row (Vhd u) (grown more) t.volumes
-
--- at most three commits were made
-abbrev pub HasFewCommits : VolumeTable → VolumeTable → Type 0
-HasFewCommits old new = new.sequence ≤ old.sequence + 3

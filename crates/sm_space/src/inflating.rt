@@ -25,10 +25,11 @@ ghost use Rattle.sm_standing.specs.Standing.{disks};
 ghost use Rattle.sm_journal.specs.Entries.{putting};
 ghost use Rattle.sm_ready.specs.Does.{store_shape};
 ghost use Rattle.sm_ready.specs.Done.{HasDone};
+ghost use Rattle.sm_ready.specs.Frames.{HasCommits, HasTrueImages};
 ghost use Rattle.sm_ready.specs.Known.{known};
 ghost use Rattle.sm_ready.specs.Sessions.{IsOrderlyStore, IsTidyStore, IsReadyStore, HasRows, HasTreeRoom};
 ghost use Rattle.sm_ready.specs.Stores.{StoreLeaves, store_content};
-ghost use Rattle.sm_space.specs.Inflating.{CanEnd, IfRow, extents_in, inflated, with_extents, HasFewCommits, HasFree, IsBelow, IsEnlarged, IsGrowth};
+ghost use Rattle.sm_space.specs.Inflating.{CanEnd, IfRow, extents_in, inflated, with_extents, HasFree, IsBelow, IsEnlarged, IsGrowth};
 
 use sm_base::{CallFault, Failed, Name, NoMemory};
 use sm_journal::{drop_entry, put};
@@ -138,6 +139,7 @@ fn enlarge<S: Store>(
     requires usable { S.failed store.old ≡ false }
     requires orderly { IsOrderlyStore S.Store store.old memory.old }
     requires tidy { IsTidyStore S.Store store.old memory.old }
+    requires true_now { HasTrueImages S.Store store.old memory.old }
     requires there { IsBelow memory.old.tree.rows disk.now to }
     requires growth { IsGrowth (S.site store.old).count (table_alone (S.table store.old)) (Vhd disk.now) (to - extents_in (tree_row memory.old.tree.rows (Vhd disk.now))) growth }
     requires row { 0 < (S.table store.old).spare }
@@ -146,8 +148,8 @@ fn enlarge<S: Store>(
     ensures counts { S.faults store.old ≤ S.faults store.new }
     ensures cause { Counts S.Store result store.old store.new }
     ensures beside { S.told → Keeps (S.beside store.old) (S.beside store.new) }
-    ensures few { HasFewCommits (table_alone (S.table store.old)) (table_alone (S.table store.new)) }
-    ensures few_left { Leaves S.Store store.new (λ t image. HasFewCommits (table_alone (S.table store.old)) t) }
+    ensures few { HasCommits 3 (table_alone (S.table store.old)) (table_alone (S.table store.new)) }
+    ensures few_left { Leaves S.Store store.new (λ t image. HasCommits 3 (table_alone (S.table store.old)) t) }
     ensures usable_still { OnOk result (S.failed store.new ≡ false) }
     ensures others { (memory.new.records ≡ memory.old.records) × (memory.new.attached ≡ memory.old.attached) × (memory.new.operation ≡ memory.old.operation) }
     ensures rows { OnOk result (memory.new.tree.rows ≡ with_extents (Vhd disk.now) to memory.old.tree.rows) }
@@ -155,6 +157,7 @@ fn enlarge<S: Store>(
     ensures room { HasRows (S.table store.old) → OnOk result (HasRows (S.table store.new)) }
     ensures orderly_still { OnOk result (IsOrderlyStore S.Store store.new memory.new) }
     ensures tidy_still { OnOk result (IsTidyStore S.Store store.new memory.new) }
+    ensures true_still { OnOk result (HasTrueImages S.Store store.new memory.new) }
     ensures shape { OnOk result (store_shape S.Store store.new memory.new ≡ inflated disk.now to (store_shape S.Store store.old memory.old)) }
     ensures least { OnOk result (IsEnlarged (S.site store.old).count (table_alone (S.table store.old)) disk.now to (table_alone (S.table store.new))) }
     ensures done { S.told → IsReadyStore S.Store store.old memory.old
@@ -190,6 +193,7 @@ pub fn inflate<S: Store>(
     requires usable { S.failed store.old ≡ false }
     requires orderly { IsOrderlyStore S.Store store.old memory.old }
     requires tidy { IsTidyStore S.Store store.old memory.old }
+    requires true_now { HasTrueImages S.Store store.old memory.old }
     requires tree_room { HasTreeRoom memory.old }
     requires there { IsBelow memory.old.tree.rows disk.now to }
     requires free { HasFree (S.site store.old).count (table_alone (S.table store.old)) memory.old.tree.rows disk.now to }
@@ -197,14 +201,16 @@ pub fn inflate<S: Store>(
     ensures counts { S.faults store.old ≤ S.faults store.new }
     ensures cause { result ≡ Err fault.Device → Rose (S.faults store.old) (S.faults store.new) }
     ensures beside { S.told → Keeps (S.beside store.old) (S.beside store.new) }
-    ensures few { HasFewCommits (table_alone (S.table store.old)) (table_alone (S.table store.new)) }
-    ensures few_left { Leaves S.Store store.new (λ t image. HasFewCommits (table_alone (S.table store.old)) t) }
+    ensures few { HasCommits 3 (table_alone (S.table store.old)) (table_alone (S.table store.new)) }
+    ensures few_left { Leaves S.Store store.new (λ t image. HasCommits 3 (table_alone (S.table store.old)) t) }
     ensures poor { result ≡ Err fault.NoMemory
         → OnlyReads S.Store store.old store.new × ((t : VolumeTable) (image : ℕ → List ℕ) → S.leaves store.new t image → S.leaves store.old t image)
         × (memory.new ≡ memory.old) × (S.failed store.new ≡ false) }
+    ensures true_poor { result ≡ Err fault.NoMemory → HasTrueImages S.Store store.new memory.new }
     ensures usable_still { OnOk result (S.failed store.new ≡ false) }
     ensures orderly_still { OnOk result (IsOrderlyStore S.Store store.new memory.new) }
     ensures tidy_still { OnOk result (IsTidyStore S.Store store.new memory.new) }
+    ensures true_still { OnOk result (HasTrueImages S.Store store.new memory.new) }
     ensures tree_room_still { OnOk result (HasTreeRoom memory.new) }
     ensures room { HasRows (S.table store.old) → OnOk result (HasRows (S.table store.new)) }
     ensures others { (memory.new.records ≡ memory.old.records) × (memory.new.attached ≡ memory.old.attached) × (memory.new.operation ≡ memory.old.operation) }

@@ -1,8 +1,7 @@
 -- What speaks of none of some UUIDs passes each check as it did.
-use Rattle.std.proofs.Common.{◌≡◌, inl, inr, ℕ, zero, suc, Bool, true, false, not, ◌&&◌, ◌||◌, ◌==◌, List, length, Option, Some, None, is_some, is_none, refl, sym, ap, ap₂, ◌∙◌, subst, arith, nat_lt, nat_le}
-use Rattle.std.proofs.lemmas.Bool.{true≢false, lt-ltb, ltb-true}
+use Rattle.std.proofs.Common.{◌≡◌, inl, inr, ℕ, zero, suc, Bool, true, false, not, ◌&&◌, ◌||◌, ◌==◌, List, length, Option, Some, None, is_some, is_none, refl, sym, ap, ap₂, ◌∙◌, subst, nat_le}
+use Rattle.std.proofs.lemmas.Bool.{true≢false}
 use Rattle.sm_base.specs.Kinds.{is_image as is_data, is_entry}
-use Rattle.sm_base.specs.Names.{is_base}
 use Rattle.sm_base.specs.declared.faults.Place.{Place}
 use Rattle.sm_base.specs.declared.faults.Place.TheVariants as at
 use Rattle.sm_base.specs.declared.names.Name.{Name}
@@ -14,22 +13,16 @@ use Rattle.common_laws.proofs.Lists.{none_first, first_none}
 use Rattle.sm_standing.specs.Apart.{is_apart}
 use Rattle.sm_standing.specs.Besides.{IsBeside, PassesAlone, is_settled_name}
 use Rattle.sm_standing.specs.Checks.{record_volume_fault, has_twin, is_misnamed, misnamed_fault, lost_entry_fault, is_lost, is_orphaned, old_leaf_fault, is_image_wrong, is_oversize, is_invalid, invalid_fault, chain_length, is_linked, is_no_larger, is_parent_right, is_misplaced, is_tree_wrong, tree_wrong_as, tree_fault, is_entry_linked, entry_link_fault, all_faults, fault_of}
-use Rattle.sm_standing.specs.Entries.{of_row, is_at_stage, is_hidden, is_past, are_past, base_number}
+use Rattle.sm_standing.specs.Entries.{of_row, is_at_stage, is_hidden, is_past, are_past}
 use Rattle.sm_standing.specs.Outlines.{Outline, Link}
 use Rattle.sm_standing.proofs.DisksShown.{row_of-In}
 use Rattle.sm_standing.proofs.FaultLaws.{named_none, none_named}
+use Rattle.sm_standing.proofs.NamedLaws.{past_later}
 
 module _ (a b : Outline) (us : List (List ℕ)) (w : IsBeside a b us) where
   -- the row of a name apart stood among the volumes from before
   was_there : (r : Row) → In r b.table.volumes → is_apart us r.name ≡ true → In r a.table.volumes
   was_there r i apart = (row_of-In a.table.volumes r.name r (sym (w.rows_apart r.name apart) ∙ w.found r i)).0
-
-  past_more : (v : List ℕ) → is_past a.table.sequence v ≡ true → is_past b.table.sequence v ≡ true
-  past_more v = by (is_base v)
-    where
-      by : (c : Bool) → (not c || nat_lt (base_number v) a.table.sequence) ≡ true → (not c || nat_lt (base_number v) b.table.sequence) ≡ true
-      by false h = refl
-      by true h = lt-ltb (base_number v) b.table.sequence (let below = ltb-true (base_number v) a.table.sequence h in let later = w.later in omega arith)
 
   abbrev misnamed_as : VolumeTable → Name → Bool
   misnamed_as t n = is_data n && (has_twin t n || not (are_past t n))
@@ -39,7 +32,7 @@ module _ (a b : Outline) (us : List (List ℕ)) (w : IsBeside a b us) where
   past_right t u v same h = by t (is_past a.table.sequence v) refl refl h
     where
       by : (x p : Bool) → t ≡ x → is_past a.table.sequence v ≡ p → (x || not (p && true)) ≡ false → (u || not (is_past b.table.sequence v && true)) ≡ false
-      by false true is_t is_past_ k = ap₂ (λ y q. y || not (q && true)) (same ∙ is_t) (past_more v is_past_)
+      by false true is_t is_past_ k = ap₂ (λ y q. y || not (q && true)) (same ∙ is_t) (past_later v a.table.sequence b.table.sequence w.later is_past_)
       by true p is_t is_past_ k = absurd (true≢false k)
       by false false is_t is_past_ k = absurd (true≢false k)
 

@@ -7,9 +7,8 @@ use Rattle.std.proofs.lemmas.Option.{none-some}
 use Rattle.std.specs.Str.{bytes_eq}
 use Rattle.vg_layout.specs.Places.{record_extents}
 use Rattle.vg_volumes.specs.Volumes.{span}
-use Rattle.std.proofs.lemmas.Bool.{true≢false, le-leb, lt-ltb, ltb-true}
+use Rattle.std.proofs.lemmas.Bool.{true≢false, le-leb}
 use Rattle.sm_base.specs.Kinds.{is_image as is_data, is_entry}
-use Rattle.sm_base.specs.Names.{is_base}
 use Rattle.sm_base.specs.declared.faults.Place.{Place}
 use Rattle.sm_base.specs.declared.faults.Place.TheVariants as at
 use Rattle.sm_base.specs.declared.names.Name.{Name}
@@ -21,11 +20,12 @@ use Rattle.common_laws.proofs.Lists.{none_first, first_none, filter-In, In-map_a
 use Rattle.sm_standing.specs.Checks.{placed, has_records, record_volume_fault, too_many_fault, has_twin, is_misnamed, misnamed_fault, lesser, second_entry_fault, is_lost, lost_entry_fault, is_orphaned, old_leaf_fault, is_image_wrong, is_invalid, invalid_fault, children, parent_is, chain_length, is_linked, is_no_larger, is_parent_right, is_misplaced, is_tree_wrong, tree_wrong_as, tree_fault, has_parent_of, children_with, is_leaf_linked, is_entry_linked, entry_link_fault, record_fault, disk_place, is_unrecorded, disk_fault, all_faults, fault_of}
 use Rattle.sm_standing.specs.Enlarging.{IsAtLeast, HasEntry, IsEnlarging}
 use Rattle.sm_standing.specs.Enlarging.HasEntry.{here, next}
-use Rattle.sm_standing.specs.Entries.{of_row, is_there, is_filled, is_hidden, is_visible, is_folding, is_making, folding, making, head, second, is_past, are_past, uuids_in, is_at_stage, is_coalescing, is_folding_leaf, is_leaf_copied, is_leaf_renamed, is_leaf_swapped, is_leaf_folded, is_old_of, base_number}
+use Rattle.sm_standing.specs.Entries.{of_row, is_there, is_filled, is_hidden, is_visible, is_folding, is_making, folding, making, head, second, is_past, are_past, uuids_in, is_at_stage, is_coalescing, is_folding_leaf, is_leaf_copied, is_leaf_renamed, is_leaf_swapped, is_leaf_folded, is_old_of}
 use Rattle.sm_standing.specs.Outlines.{Outline, Link, outline_records}
 use Rattle.sm_standing.specs.Standing.{standing_volume, stands_forked, stands_folded, stands_plainly, under, candidates, in_order, uuids}
 use Rattle.sm_standing.proofs.DisksShown.{row_of-In}
 use Rattle.sm_standing.proofs.FaultLaws.{named_none, none_named}
+use Rattle.sm_standing.proofs.NamedLaws.{all_past}
 
 -- ---- a volume beside the one from before
 
@@ -71,6 +71,19 @@ module _ (e : Name) (u : List ℕ) where
       by : (r.name ≡ e) ⊎ ((q' : Row) × In q' qs × IsAtLeast u q' r) → (r.name ≡ e) ⊎ ((q' : Row) × In q' (q ∷ qs) × IsAtLeast u q' r)
       by (inl is) = inl is
       by (inr w) = inr (w.0, inr w.1, w.2)
+
+  -- each one from before is still there
+  pub into : (qs rs : List Row) (q : Row) → HasEntry e u qs rs → In q qs → (r : Row) × In r rs × IsAtLeast u q r
+  into qs [] q there i = elim there [ ]
+  into qs (r' ∷ rs) q (here _ _ _ is same) i = let w = zipped qs rs same i in (w.0, inr w.1, w.2)
+    where
+      zipped : (qs rs : List Row) → AllZip (IsAtLeast u) qs rs → In q qs → (r : Row) × In r rs × IsAtLeast u q r
+      zipped [] rs same i = absurd i
+      zipped (p ∷ qs) (s ∷ rs) same (inl at) = (s, inl refl, subst (λ x. IsAtLeast u x s) (sym at) same.0)
+      zipped (p ∷ qs) (s ∷ rs) same (inr i) = let w = zipped qs rs same.1 i in (w.0, inr w.1, w.2)
+      zipped (p ∷ qs) [] same i = absurd same
+  into (p ∷ qs) (r' ∷ rs) q (next _ _ _ _ one rest) (inl at) = (r', inl refl, subst (λ x. IsAtLeast u x r') (sym at) one)
+  into (p ∷ qs) (r' ∷ rs) q (next _ _ _ _ one rest) (inr i) = let w = into qs rs q rest i in (w.0, inr w.1, w.2)
 
   -- a list that is made of the names of volumes, to which the entry adds nothing
   module _ {A : Type 0} (f : Row → List A) (alike : (q r : Row) → IsAtLeast u q r → f r ≡ f q) where
@@ -132,7 +145,7 @@ module _ (e : Name) (u : List ℕ) (qs rs : List Row) (among : HasEntry e u qs r
       ∙ flat_same e u (λ r. cond (test r.name) (r.name ∷ []) []) (λ q r one. ap (λ n. cond (test n) (n ∷ []) []) one.name) qs rs among (λ r is. ap (λ b. cond b (r.name ∷ []) []) (ap test is ∙ out))
       ∙ sym (names_flat test qs)
 
-  count_same : (test : Row → Bool) → ((q r : Row) → IsAtLeast u q r → test r ≡ test q) → ((r : Row) → r.name ≡ e → test r ≡ false) → length (filter test rs) ≡ length (filter test qs)
+  pub count_same : (test : Row → Bool) → ((q r : Row) → IsAtLeast u q r → test r ≡ test q) → ((r : Row) → r.name ≡ e → test r ≡ false) → length (filter test rs) ≡ length (filter test qs)
   count_same test alike out =
       count_flat test rs
       ∙ ap length (flat_same e u (λ r. cond (test r) (r.name ∷ []) []) (λ q r one. ap₂ (λ b n. cond b (n ∷ []) []) (alike q r one) one.name) qs rs among (λ r is. ap (λ b. cond b (r.name ∷ []) []) (out r is)))
@@ -210,20 +223,8 @@ module _ (o : Outline) (t : VolumeTable) (u : List ℕ) (extents : ℕ) (w : IsE
       by false is = refl
       by true is = absurd (nothing q.name (subst (In q.name) w.none_making (filter-In is_making (names_of o.table.volumes) q.name (In-map_at (λ (r : Row). r.name) o.table.volumes q i) is)))
 
-  past_more : (v : List ℕ) → is_past o.table.sequence v ≡ true → is_past t.sequence v ≡ true
-  past_more v = by (is_base v)
-    where
-      by : (b : Bool) → (not b || nat_lt (base_number v) o.table.sequence) ≡ true → (not b || nat_lt (base_number v) t.sequence) ≡ true
-      by false h = refl
-      by true h = lt-ltb (base_number v) t.sequence (let below = ltb-true (base_number v) o.table.sequence h in let later = w.later in omega arith)
-
-  all_past : (vs : List (List ℕ)) → list_all (is_past o.table.sequence) vs ≡ true → list_all (is_past t.sequence) vs ≡ true
-  all_past [] h = refl
-  all_past (v ∷ vs) h = by (λ k. all_past vs k) (is_past o.table.sequence v) refl h
-    where
-      by : (list_all (is_past o.table.sequence) vs ≡ true → list_all (is_past t.sequence) vs ≡ true) → (b : Bool) → is_past o.table.sequence v ≡ b → (b && list_all (is_past o.table.sequence) vs) ≡ true → list_all (is_past t.sequence) (v ∷ vs) ≡ true
-      by rest true is h = ap (λ b. b && list_all (is_past t.sequence) vs) (past_more v is) ∙ rest h
-      by rest false is h = absurd (true≢false (sym h))
+  still_past : (vs : List (List ℕ)) → list_all (is_past o.table.sequence) vs ≡ true → list_all (is_past t.sequence) vs ≡ true
+  still_past vs = all_past vs o.table.sequence t.sequence w.later
 
   -- each row is the entry, or passes as one from before does
   each : (test : Row → Bool) (was : Row → Bool) → ((r : Row) → r.name ≡ entry → test r ≡ false) → ((q : Row) → In q o.table.volumes → was q ≡ false)
@@ -274,7 +275,7 @@ module _ (o : Outline) (t : VolumeTable) (u : List ℕ) (extents : ℕ) (w : IsE
     where
       by : (d twin past : Bool) → has_twin o.table n ≡ twin → are_past o.table n ≡ past → (d && (twin || not past)) ≡ false → (d && (has_twin t n || not (are_past t n))) ≡ false
       by false twin past is_twin is_past_ h = refl
-      by true false true is_twin is_past_ h = ap₂ (λ a b. a || not b) (twin_alike n ∙ is_twin) (all_past (uuids_in n) is_past_)
+      by true false true is_twin is_past_ h = ap₂ (λ a b. a || not b) (twin_alike n ∙ is_twin) (still_past (uuids_in n) is_past_)
       by true true past is_twin is_past_ h = absurd (true≢false h)
       by true false false is_twin is_past_ h = absurd (true≢false h)
 
@@ -339,7 +340,7 @@ module _ (o : Outline) (t : VolumeTable) (u : List ℕ) (extents : ℕ) (w : IsE
       past_by true p h = absurd (true≢false h)
 
       past : are_past t entry ≡ true
-      past = all_past (u ∷ []) (ap (λ b. b && true) (past_by (has_twin o.table (Vhd u)) (is_past o.table.sequence u) right))
+      past = still_past (u ∷ []) (ap (λ b. b && true) (past_by (has_twin o.table (Vhd u)) (is_past o.table.sequence u) right))
 
   lost_as : VolumeTable → Name → Bool
   lost_as x n = is_entry n && not (is_at_stage x n && are_past x n)
@@ -350,7 +351,7 @@ module _ (o : Outline) (t : VolumeTable) (u : List ℕ) (extents : ℕ) (w : IsE
     where
       by : (d stage past : Bool) → is_at_stage o.table n ≡ stage → are_past o.table n ≡ past → (d && not (stage && past)) ≡ false → (d && not (is_at_stage t n && are_past t n)) ≡ false
       by false stage past is_stage is_past_ h = refl
-      by true true true is_stage is_past_ h = ap₂ (λ a b. not (a && b)) (stage_alike n no_making ∙ is_stage) (all_past (uuids_in n) is_past_)
+      by true true true is_stage is_past_ h = ap₂ (λ a b. not (a && b)) (stage_alike n no_making ∙ is_stage) (still_past (uuids_in n) is_past_)
       by true false past is_stage is_past_ h = absurd (true≢false h)
       by true true false is_stage is_past_ h = absurd (true≢false h)
 

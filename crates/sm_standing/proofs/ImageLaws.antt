@@ -1,5 +1,6 @@
 -- A change of one image, and the disks.
 use Rattle.std.proofs.Common.{◌≡◌, ◌≢◌, ◌⊎◌, inl, inr, ℕ, ◌<◌, ◌≤◌, ◌&&◌, not, Bool, true, false, cond, List, [], map, Option, Some, None, refl, sym, ap, ap₂, ◌∙◌, subst, arith}
+use Rattle.std.proofs.Math.Path.{fun_ext}
 use Rattle.std.proofs.lemmas.Bool.{cases_lt}
 use Rattle.common_laws.proofs.Options.{bind-some}
 use Rattle.sm_base.specs.declared.names.Name.{Name}
@@ -10,7 +11,7 @@ use Rattle.vg_meta.specs.Tables.{Row, VolumeTable, name_eq}
 use Rattle.vg_meta.proofs.NameLaws.{name_eq-true, name_eq-false}
 use Rattle.sm_machine.specs.Disks.{Disk}
 use Rattle.common_laws.specs.Lists.{In, numbers, ◌>>=◌}
-use Rattle.sm_machine.specs.Shapes.{same_image}
+use Rattle.sm_machine.specs.Shapes.{same_image, chain_limit}
 use Rattle.sm_standing.specs.Changes.{turns_of, parent_of, IsShortChain, IsCopied, IsRaised, IsMoved, IsRemoved, SameImagesBut}
 use Rattle.sm_standing.specs.Checks.{children, parent_is}
 use Rattle.sm_standing.specs.Outlines.{link_of, outline}
@@ -122,6 +123,25 @@ pub parent_reads : (c : Content) (n p : Name) (i : Image) (s : ℕ) → image_of
 parent_reads c n p i s is below none up_to short =
     let sent : answer_of s (image_of c n) ≡ up p = turn-within s (image_of c n) i is below ∙ ap₂ held_or none up_to in
     reads_short c p s (image_reads c n s) (short_above c n p (parent-is c n p i is up_to) short) (up_reads (turns_of c s) n p (image_reads c n s) sent (short_reads c n s short))
+
+-- ---- the same images
+
+reads_same : (c d : Content) → ((n : Name) → image_of d n ≡ image_of c n) → (n : Name) (k : ℕ) → image_reads d n k ≡ image_reads c n k
+unfolding image_reads
+reads_same c d same n k = ap (λ (f : Name → Option Image). walk chain_limit (λ x. answer_of k (f x)) n) (fun_ext same)
+
+-- where the images are the same, so is what is read
+pub sectors_same : (c d : Content) → ((n : Name) → image_of d n ≡ image_of c n) → (n : Name) → sectors_read d n ≡ sectors_read c n
+unfolding sectors_read
+sectors_same c d same n =
+    ap₂ (λ (o : Option Image) (f : ℕ → List ℕ). elim o as (λ o. List (List ℕ)) [ None ↦ [] | Some i ↦ map f (numbers 0 i.size) ]) (same n) (fun_ext (λ k. reads_same c d same n k))
+
+-- and where each UUID stands where it stood and has its record, the disks
+pub disks_as : (c d : Content) → ((u : List ℕ) → standing_volume d.table u ≡ standing_volume c.table u) → ((n : Name) → image_of d n ≡ image_of c n) → ((u : List ℕ) → record_of d u ≡ record_of c u) → disks d ≡ disks c
+unfolding disk_at
+disks_as c d stands same recorded = disks_same c d (λ u.
+    ap₂ (λ x y. x >>= (λ n. y >>= (λ r. Some (disk_in d u r n)))) (stands u) (recorded u)
+    ∙ ap (λ (f : Name → List (List ℕ)). standing_volume c.table u >>= (λ n. record_of c u >>= (λ r. Some (record { uuid = u; label = r.label; origin = r.origin; read_only = r.read_only; sectors = f n })))) (fun_ext (sectors_same c d same)))
 
 -- ---- a disk that moves
 

@@ -11,6 +11,12 @@ pub mod WorldLaws
 pub mod FaultLaws
 pub mod OutlineLaws
 pub mod ImageSectors
+pub mod NamedLaws
 pub mod EnlargingLaws
+pub mod EnlargedLaws
+pub mod UndoneLaws
+pub mod UndoneContents
+pub mod UndoneShape
+pub mod UndoneToday
 pub mod DiskChanges
 pub mod BesideLaws

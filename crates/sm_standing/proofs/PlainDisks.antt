@@ -2,12 +2,12 @@
 use Rattle.std.proofs.Common.{◌≡◌, ℕ, zero, suc, ◌+◌, ◌<◌, ◌≤◌, inl, inr, Bool, true, false, cond, List, [], ◌∷◌, map, Some, None, refl, sym, ap, ap₂, ◌∙◌, subst, arith, nat_lt}
 use Rattle.std.specs.List.{AllByRecursion, filter}
 use Rattle.sm_base.specs.declared.names.Name.{Name}
-use Rattle.sm_base.specs.declared.names.Name.TheVariants.{Mgt, Vhd, Raw}
+use Rattle.sm_base.specs.declared.names.Name.TheVariants.{Mgt, Vhd, Raw, Inflate}
 use Rattle.vg_meta.specs.Tables.{VolumeTable, Row, names_of}
 use Rattle.std.proofs.lemmas.Bool.{lt-ltb}
 use Rattle.sm_disk.specs.Sectors.{zeros}
 use Rattle.common_laws.specs.Lists.{In, numbers, ◌>>=◌}
-use Rattle.sm_standing.specs.Plain.{is_plain, is_plain_name, IsPlain}
+use Rattle.sm_standing.specs.Plain.{is_plain, is_plain_name, IsPlain, is_simple, is_simple_name}
 use Rattle.sm_standing.specs.Contents.{Content, row, sectors_of, size_of, record_of}
 use Rattle.sm_standing.specs.Entries.{is_making, is_folding, folding, head}
 use Rattle.sm_standing.specs.Images.{image_of, raw_image, answer_of, here, up, walk, image_reads, sectors_read, held_or}
@@ -34,6 +34,17 @@ no_making (r ∷ rs) all = ap (λ b. cond b (r.name ∷ filter is_making (names_
 pub no_folding : (rs : List Row) → AllByRecursion (λ r. is_plain r ≡ true) rs → filter is_folding (names_of rs) ≡ []
 no_folding [] all = refl
 no_folding (r ∷ rs) all = ap (λ b. cond b (r.name ∷ filter is_folding (names_of rs)) (filter is_folding (names_of rs))) (plain_is_no_entry r.hidden r.name all.0).1 ∙ no_folding rs all.1
+
+simple_is_no_folding : (hidden : Bool) (n : Name) → is_simple_name hidden n ≡ true → is_folding n ≡ false
+simple_is_no_folding hidden Mgt h = refl
+simple_is_no_folding hidden (Raw u) h = refl
+simple_is_no_folding hidden (Vhd u) h = refl
+simple_is_no_folding hidden (Inflate u extents) h = refl
+simple_is_no_folding hidden _ h = absurd (let x = h in cc)
+
+pub simple_folding : (rs : List Row) → AllByRecursion (λ r. is_simple r ≡ true) rs → filter is_folding (names_of rs) ≡ []
+simple_folding [] all = refl
+simple_folding (r ∷ rs) all = ap (λ b. cond b (r.name ∷ filter is_folding (names_of rs)) (filter is_folding (names_of rs))) (simple_is_no_folding r.hidden r.name all.0) ∙ simple_folding rs all.1
 
 -- ---- standing
 

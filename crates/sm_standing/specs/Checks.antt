@@ -285,6 +285,14 @@ first_fault c = fault_of (outline c)
 
 -- ---- what can't be repaired yet
 
+-- an entry whose work an opening neither ends nor undoes: any but that of an enlargement
+abbrev pub is_entry_ahead : Name → Bool
+is_entry_ahead (Clone disk base twin) = true
+is_entry_ahead (Coalesce child parent) = true
+is_entry_ahead (Relink child parent) = true
+is_entry_ahead (Leaf leaf parent) = true
+is_entry_ahead _ = false
+
 -- a hidden image, or an old leaf
 abbrev pub is_ahead : Bool → Name → Bool
 is_ahead hidden (Raw u) = hidden
@@ -300,10 +308,10 @@ abbrev pub has_parent : Outline → Name → Bool
 has_parent o (Vhd u) = is_some (parent_in o (Vhd u))
 has_parent o _ = false
 
--- the checks of the program as it is built today: the first entry is refused with the eighth check, the first hidden image
--- or old leaf with the ninth, and the first image that has a parent with the eleventh
+-- the checks of the program as it is built today: in front of the eighth the first entry is refused that is not that of an
+-- enlargement, with the ninth the first hidden image or old leaf, and with the eleventh the first image that has a parent
 unfoldable pub entry_ahead_fault : Outline → Option Place
-entry_ahead_fault o = placed at.Journal (first_name (λ r. is_entry r.name) o.table.volumes)
+entry_ahead_fault o = placed at.Journal (first_name (λ r. is_entry_ahead r.name) o.table.volumes)
 
 unfoldable pub image_ahead_fault : Outline → Option Place
 image_ahead_fault o = placed at.Image (first_name is_image_ahead o.table.volumes)
@@ -316,6 +324,8 @@ faults_today o = record_volume_fault o
     ∷ too_many_fault o
     ∷ misnamed_fault o
     ∷ entry_ahead_fault o
+    ∷ second_entry_fault o
+    ∷ lost_entry_fault o
     ∷ image_ahead_fault o
     ∷ invalid_fault o
     ∷ parent_ahead_fault o

@@ -19,3 +19,4 @@ pub mod Apart
 pub mod Volumes
 pub mod Enlarging
 pub mod Besides
+pub mod Undone

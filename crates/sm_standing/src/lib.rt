@@ -12,7 +12,8 @@
 //! (what the checks look at), `Checks` (the checks in their order), `Keeping` (kept), `Devices` (the same of a
 //! whole device), `Shapes` (the shape that a content spells), `Opened` (the shape that an opening makes),
 //! `Plain` and `PlainSound` (a repository of visible images without parents), `Readings` (record sectors of two contents),
-//! `Changes` (an image that comes, goes, grows or moves), `Worlds` (what a change of the area leaves).
+//! `Changes` (an image that comes, goes, grows or moves), `Enlarging` (an image that is being enlarged), `Undone` (a table
+//! without an enlargement that was cut short), `Worlds` (what a change of the area leaves).
 //!
 //! The laws are the contracts of functions that do nothing: of what is read through a chain (`chains`), of images in a
 //! content (`images`), of what a commit or a write leaves of each volume (`worlds`), of the list of disks (`listing`), of
@@ -39,5 +40,5 @@ pub use listing::{
     law_disk, law_disks_follow, law_disks_in_order, law_one_disk_changed, law_one_disk_less,
     law_one_disk_more,
 };
-pub use plain::{law_plain_kept, law_today};
+pub use plain::{law_plain_kept, law_today, law_undone};
 pub use worlds::{law_commit, law_other_choices, law_other_volumes};

@@ -1,11 +1,21 @@
-//! Laws of a repository in which nothing is under way: visible images, VHD and raw ones, and no journal entry.
+//! Laws of a repository of visible images without parents, VHD and raw ones: of one in which nothing is under way, and of one in
+//! which an image is being enlarged, and what is left when that is undone.
 
-ghost use Rattle.std.specs.Prelude.{◌≡◌, None};
+ghost use Rattle.std.specs.Prelude.{◌≡◌, ℕ, List, [], None};
+ghost use Rattle.sm_base.specs.Numbers.{IsGeometry};
+ghost use Rattle.sm_base.specs.declared.names.Name.{Name};
+ghost use Rattle.vg_meta.specs.Tables.{VolumeTable, IsTable};
 ghost use Rattle.sm_standing.specs.Checks.{first_fault, first_fault_today};
 ghost use Rattle.sm_standing.specs.Contents.{Content};
+ghost use Rattle.sm_standing.specs.Entries.{making};
+ghost use Rattle.sm_standing.specs.Images.{image_of};
 ghost use Rattle.sm_standing.specs.Keeping.{HasNoEmptySlot, IsKept};
-ghost use Rattle.sm_standing.specs.Plain.{IsPlain};
-ghost use Rattle.sm_standing.specs.PlainSound.{PlainSound};
+ghost use Rattle.sm_standing.specs.Opened.{opened};
+ghost use Rattle.sm_standing.specs.Plain.{IsSimple};
+ghost use Rattle.sm_standing.specs.PlainSound.{PlainSound, SimpleSound};
+ghost use Rattle.sm_standing.specs.Standing.{disks};
+ghost use Rattle.sm_standing.specs.Undone.{IsSameArea, IsUndoing, undone, undone_content};
+ghost use Rattle.sm_standing.specs.Worlds.{with_table};
 
 /// Where the facts hold that make such a repository sound, it is sound; and kept where no slot is empty.
 pub fn law_plain_kept()
@@ -13,10 +23,27 @@ pub fn law_plain_kept()
     ensures kept { (c : Content) → PlainSound c → HasNoEmptySlot c → IsKept c }
 {}
 
-/// Today's checks pass exactly where all checks pass and nothing is under way. No image has a parent then.
+/// Today's checks pass exactly where all checks pass and at most one image is being enlarged; where none is, nothing is under
+/// way. No image has a parent then.
 pub fn law_today()
-    ensures facts { (c : Content) → first_fault_today c ≡ None → PlainSound c }
+    ensures facts { (c : Content) → first_fault_today c ≡ None → SimpleSound c }
     ensures all { (c : Content) → first_fault_today c ≡ None → first_fault c ≡ None }
-    ensures plain { (c : Content) → first_fault_today c ≡ None → IsPlain c.table }
-    ensures back { (c : Content) → first_fault c ≡ None → IsPlain c.table → first_fault_today c ≡ None }
+    ensures kept { (c : Content) → first_fault_today c ≡ None → HasNoEmptySlot c → IsKept c }
+    ensures plain { (c : Content) → first_fault_today c ≡ None → making c.table ≡ [] → PlainSound c }
+    ensures back { (c : Content) → first_fault c ≡ None → IsSimple c.table → first_fault_today c ≡ None }
+{}
+
+/// An enlargement that a stop has cut short is undone by at most two commits. Where today's checks pass, nothing is under way
+/// without it, and all is sound; each image and each disk is as it was, and an opening makes the same shape. Whatever
+/// a stop leaves of the commits is kept, where no slot is empty, and shows the same disks.
+pub fn law_undone()
+    ensures sound { (c : Content) → first_fault_today c ≡ None → IsTable c.count c.table → IsGeometry c.extent c.block c.entries → PlainSound (undone_content c) }
+    ensures images { (c : Content) → first_fault_today c ≡ None → IsTable c.count c.table → IsGeometry c.extent c.block c.entries → (n : Name) → image_of (undone_content c) n ≡ image_of c n }
+    ensures disks { (c : Content) → first_fault_today c ≡ None → IsTable c.count c.table → IsGeometry c.extent c.block c.entries → disks (undone_content c) ≡ disks c }
+    ensures opened { (c : Content) → first_fault_today c ≡ None → IsTable c.count c.table → IsGeometry c.extent c.block c.entries → opened (undone_content c) ≡ opened c }
+    ensures table { (c : Content) → first_fault_today c ≡ None → IsTable c.count c.table → IsGeometry c.extent c.block c.entries → IsTable c.count (undone c.table) }
+    ensures kept { (c : Content) → first_fault_today c ≡ None → IsTable c.count c.table → IsGeometry c.extent c.block c.entries → HasNoEmptySlot c
+        → (v : VolumeTable) (area : ℕ → List ℕ) → IsUndoing c.table v → IsSameArea c area → IsKept (with_table c v area) }
+    ensures shown { (c : Content) → first_fault_today c ≡ None → IsTable c.count c.table → IsGeometry c.extent c.block c.entries
+        → (v : VolumeTable) (area : ℕ → List ℕ) → IsUndoing c.table v → IsSameArea c area → disks (with_table c v area) ≡ disks c }
 {}

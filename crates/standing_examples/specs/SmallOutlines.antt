@@ -1,6 +1,6 @@
 -- Small outlines: one of a thin disk, with its table while the disk's image is being enlarged, and one of a VHD disk beside a
 -- raw one.
-use Rattle.std.specs.Prelude.{ℕ, Bool, ◌==◌, false, [], ◌∷◌, Option, None, Some, if◌then◌else◌}
+use Rattle.std.specs.Prelude.{ℕ, Bool, ◌==◌, false, List, [], ◌∷◌, ◌++◌, map, Option, None, Some, if◌then◌else◌}
 use Rattle.sm_base.specs.declared.names.Name.{Name}
 use Rattle.sm_base.specs.declared.names.Name.TheVariants.{Vhd, Raw, Inflate}
 use Rattle.vg_meta.specs.Tables.{VolumeTable}
@@ -26,6 +26,10 @@ thin_outline = record { extent = 32; block = 8; entries = 64; table = thin_table
 -- the entry says that the image had one extent; it has three by now
 abbrev pub enlarging_table : VolumeTable
 enlarging_table = record { sequence = 6; volumes = sized_row false (Inflate one 1) [] ∷ record_row (0 ∷ 1 ∷ 2 ∷ 3 ∷ 4 ∷ 5 ∷ 6 ∷ 7 ∷ 8 ∷ 9 ∷ 10 ∷ 11 ∷ 12 ∷ 13 ∷ 14 ∷ 15 ∷ []) ∷ sized_row false (Vhd one) (16 ∷ 17 ∷ 18 ∷ []) ∷ [] }
+
+-- the same volumes with these entries
+abbrev pub entries_table : List Name → VolumeTable
+entries_table entries = record { sequence = 6; volumes = map (λ n. sized_row false n []) entries ++ record_row (0 ∷ 1 ∷ 2 ∷ 3 ∷ 4 ∷ 5 ∷ 6 ∷ 7 ∷ 8 ∷ 9 ∷ 10 ∷ 11 ∷ 12 ∷ 13 ∷ 14 ∷ 15 ∷ []) ∷ sized_row false (Vhd one) (16 ∷ 17 ∷ 18 ∷ []) ∷ [] }
 
 -- a raw disk two beside the image of the VHD disk one, which may be hidden
 abbrev pub mixed_table : Bool → VolumeTable

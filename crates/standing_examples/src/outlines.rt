@@ -1,15 +1,16 @@
-//! What a guest writes is no part of an outline; an image that is being enlarged; and what today's checks pass.
+//! What a guest writes is no part of an outline; an image that is being enlarged, and that undone; and what today's checks pass.
 
 ghost use Rattle.std.specs.Prelude.{◌≡◌, ◌∷◌, ◌<◌, ℕ, [], List, None, Some, false, true};
 ghost use Rattle.sm_base.specs.declared.faults.Place.TheVariants as at;
-ghost use Rattle.sm_base.specs.declared.names.Name.TheVariants.{Vhd, Raw};
+ghost use Rattle.sm_base.specs.declared.names.Name.TheVariants.{Vhd, Raw, Inflate, Relink};
 ghost use Rattle.sm_standing.specs.Besides.{IsBeside};
 ghost use Rattle.sm_standing.specs.Checks.{fault_of, fault_today_of, first_fault};
 ghost use Rattle.sm_standing.specs.Enlarging.{IsEnlarging};
 ghost use Rattle.sm_standing.specs.Outlines.{outline};
 ghost use Rattle.sm_standing.specs.Standing.{standing_volume};
-ghost use Rattle.standing_examples.specs.SmallContents.{lone_raw, one, two};
-ghost use Rattle.standing_examples.specs.SmallOutlines.{thin_outline, enlarging_table, mixed_outline};
+ghost use Rattle.sm_standing.specs.Undone.{IsBeingEnlarged, half_undone, undone};
+ghost use Rattle.standing_examples.specs.SmallContents.{lone_raw, one, two, sized_row};
+ghost use Rattle.standing_examples.specs.SmallOutlines.{thin_outline, thin_table, enlarging_table, entries_table, mixed_outline};
 
 /// A guest writes into a raw disk, behind the records: the outline is as it was, and so is the first fault.
 pub fn example_outline()
@@ -28,9 +29,24 @@ pub fn example_enlarging()
 {}
 
 /// A raw disk beside a VHD disk passes today's checks; a VHD disk with a parent stops at the tree, and a hidden VHD image at
-/// the image.
+/// the image. The entry of an enlargement passes, a second one and one at no stage do not, and any other entry is named in front
+/// of these.
 pub fn example_today()
     ensures passes { fault_today_of (mixed_outline false None) ≡ None }
     ensures parent { fault_today_of (mixed_outline false (Some (Raw two))) ≡ Some (at.Tree (Vhd one)) }
     ensures hidden { fault_today_of (mixed_outline true None) ≡ Some (at.Image (Vhd one)) }
+    ensures enlarging { fault_today_of (record thin_outline { table = enlarging_table }) ≡ None }
+    ensures second { fault_today_of (record thin_outline { table = entries_table (Inflate one 1 ∷ Inflate one 2 ∷ []) }) ≡ Some (at.Journal (Inflate one 2)) }
+    ensures lost { fault_today_of (record thin_outline { table = entries_table (Inflate one 4 ∷ []) }) ≡ Some (at.Journal (Inflate one 4)) }
+    ensures other { fault_today_of (record thin_outline { table = entries_table (Inflate one 1 ∷ Inflate one 2 ∷ Relink one two ∷ []) }) ≡ Some (at.Journal (Relink one two)) }
+{}
+
+/// A thin disk of one extent got two more, and a stop came: it is cut to one extent, and the entry is removed. Where it got none
+/// yet the entry goes at once, and a table without the entry stays as it is.
+pub fn example_undone()
+    ensures being { IsBeingEnlarged enlarging_table one 1 }
+    ensures cut { half_undone enlarging_table ≡ record { sequence = 7; volumes = sized_row false (Inflate one 1) [] ∷ thin_table.volumes } }
+    ensures undone { undone enlarging_table ≡ record { sequence = 8; volumes = thin_table.volumes } }
+    ensures at_once { undone (record { sequence = 5; volumes = sized_row false (Inflate one 1) [] ∷ thin_table.volumes }) ≡ record { sequence = 6; volumes = thin_table.volumes } }
+    ensures none { undone thin_table ≡ thin_table }
 {}

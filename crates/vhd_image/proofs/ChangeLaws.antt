@@ -163,15 +163,22 @@ module _ (g : Geometry) (n : ℕ) (head : Head) (m : List (Option ℕ)) (sectors
             ⊎_elim (λ none. inl (e ∙ none)) (λ named. inr (e ∙ named)) (true_old.within r.from.before r.from.allowed c below);
       }
 
-  pub resize-stands : IsStanding g n head m → IsStanding g n (with_size head sectors) m
-  resize-stands stands = record {
-    entries = stands.entries;
-    block = stands.block;
-    size = (footer-fits head.footer (disk_blocks g head.footer) refl true_old.now.head.footer_fits).size;
-    least = (footer-fits head.footer (disk_blocks g head.footer) refl true_old.now.head.footer_fits).least;
-    most = (footer-fits head.footer (disk_blocks g head.footer) refl true_old.now.head.footer_fits).most;
-    room = stands.room;
-  }
+-- the image of the new size stands: its blocks are more
+pub resize-stands : (g : Geometry) (n : ℕ) (head : Head) (m : List (Option ℕ)) (sectors : ℕ) → IsGeometry g.extent g.block g.entries → IsDiskSize g sectors → disk_sectors head.footer ≤ sectors
+    → IsStanding g n head m → IsStanding g n (with_size head sectors) m
+resize-stands g n head m sectors ok size grows stands =
+    let back : 512 * sectors / 512 ≡ sectors = omega arith in
+    let blocks : disk_blocks g (with_size head sectors).footer ≡ sectors / g.block = ap (λ (k : ℕ). k / g.block) back in
+    let more = le-div (disk_blocks g head.footer) sectors g.block (omega (arith, ok.block_least)) (omega (arith, stands.size, grows)) in
+    record {
+      entries = stands.entries;
+      block = stands.block;
+      size = ap (λ (k : ℕ). 512 * k) (size.whole ∙ ap (λ (k : ℕ). k * g.block) (sym blocks));
+      least = omega (arith, blocks, size.least);
+      most = omega (arith, blocks, size.most);
+      sized = λ b slot has. omega (arith, blocks, more, stands.sized b slot has);
+      room = stands.room;
+    }
 
 -- the footer of the new size passes the tests
 pub resized-proper : (g : Geometry) (n : ℕ) (head : Head) (m : List (Option ℕ)) (sectors : ℕ) (a : Held) → IsGeometry g.extent g.block g.entries → IsDiskSize g sectors → IsTrueIn g n a head m → IsFooter (with_size head sectors).footer

@@ -28,6 +28,7 @@ use Rattle.vhd_image.specs.declared.images.Body.{Body}
 use Rattle.vhd_image.specs.Made.{IsDiskSize, MayHave, new_header, new_footer, IsBlankTo}
 use Rattle.vhd_image.proofs.ContentLaws.{is-layout}
 use Rattle.vhd_image.proofs.OpeningLaws.{footer-own}
+use Rattle.vhd_image.proofs.TableLaws.{slot_of-blank}
 
 -- ---- the size of a volume
 
@@ -157,6 +158,7 @@ module _ (g : Geometry) (n now sectors : ℕ) (uid : List ℕ) (size : IsDiskSiz
         size = f.size;
         least = f.least;
         most = f.most;
+        sized = λ b slot has. absurd (none-some slot (sym (slot_of-blank g.entries b) ∙ has));
         room = subst (λ (k : ℕ). HasRoomFor g k n) (sym (top_of-replicate g.entries)) room;
       }
 

@@ -108,5 +108,6 @@ stands-from g n head m long footer header room fits =
       size = footer.size;
       least = footer.least;
       most = footer.most;
+      sized = fits.sized;
       room = slots-need l (top_of m) room (omega (arith, few));
     }

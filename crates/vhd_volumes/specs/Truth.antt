@@ -1,6 +1,6 @@
 -- An image in a volume of a store: when it stands there, and when it is true of what the store holds, whatever a stop
 -- may leave. `h` is what the volume holds; the image lies in its first so many sectors.
-use Rattle.std.specs.Prelude.{◌≡◌, ℕ, ◌+◌, ◌*◌, ◌/◌, ◌<◌, ◌≤◌, ◌⊎◌, List, length, Option}
+use Rattle.std.specs.Prelude.{◌≡◌, ℕ, ◌+◌, ◌*◌, ◌/◌, ◌<◌, ◌≤◌, ◌⊎◌, List, length, Option, Some}
 use Rattle.sm_base.specs.Numbers.{first}
 use Rattle.sm_base.specs.declared.names.Name.{Name}
 use Rattle.sm_base.specs.declared.sizes.Geometry.{Geometry}
@@ -29,13 +29,15 @@ abbrev pub HasRoomFor : Geometry → ℕ → ℕ → Type 0
 HasRoomFor g slots sectors = first g.entries + slots * (1 + g.block) + 1 ≤ sectors
 
 -- The image stands in so many sectors: its map has the repository's number of entries, its header the repository's
--- block, its size is a whole number of blocks from 1 to the number of entries, and its slots have room.
+-- block, its size is a whole number of blocks from 1 to the number of entries, each block that has a slot is one of
+-- these, and its slots have room.
 pub record IsStanding (g : Geometry) (sectors : ℕ) (head : Head) (m : List (Option ℕ)) : Type 0 where
   pub entries : length m ≡ g.entries
   pub block : head.header.block ≡ 512 * g.block
   pub size : head.footer.current ≡ 512 * (disk_blocks g head.footer * g.block)
   pub least : 1 ≤ disk_blocks g head.footer
   pub most : disk_blocks g head.footer ≤ g.entries
+  pub sized : (b slot : ℕ) → slot_of m b ≡ Some slot → b < disk_blocks g head.footer
   pub room : HasRoomFor g (top_of m) sectors
 
 -- whatever a stop may leave holds a valid image

@@ -2,6 +2,7 @@
 -- told in the layout `l'` of the store as it began, equal to the first.
 use Rattle.std.proofs.Common.{◌≡◌, ◌≢◌, ℕ, ◌+◌, ◌-◌, ◌*◌, ◌/◌, ◌<◌, ◌≤◌, ◌⊎◌, Bool, true, false, List, length, Option, None, refl, sym, ap, ap₂, ◌∙◌, subst, subst₂, inl, inr, ⊎_elim, arith}
 use Rattle.std.specs.Bool.{OnTrue}
+use Rattle.std.proofs.lemmas.Bool.{cases_lt}
 use Rattle.sm_base.specs.declared.sizes.Geometry.{Geometry}
 use Rattle.sm_disk.specs.Held.{Held, IsWhole, Puts, SameHeld, Reaches, reads}
 use Rattle.sm_disk.proofs.ReachesLaws.{Reaches-then, Reaches-same}
@@ -71,7 +72,15 @@ module _ {geo : Geometry} {n0 : ℕ} {head : Head} {m : List (Option ℕ)} {at :
     new-room = subst (λ x. HasRoomFor geo (top_of x) n0) (sym new-map) slots
 
     pub new-stands : IsStanding geo n0 head n
-    new-stands = record { entries = given.grown.long ∙ stands.entries; block = stands.block; size = stands.size; least = stands.least; most = stands.most; room = new-room }
+    new-stands = record {
+      entries = given.grown.long ∙ stands.entries;
+      block = stands.block;
+      size = stands.size;
+      least = stands.least;
+      most = stands.most;
+      sized = λ b slot has. ⊎_elim (λ below. omega (arith, fits.most)) (λ past. stands.sized b slot (sym (given.others b (inr past)) ∙ has)) (cases_lt b span.end);
+      room = new-room;
+    }
 
   module _ {old mid : Held} (was : IsTrueOf (layout_in geo head.footer n0) old head (slot_of m)) (r : Reaches (PutsData (layout_in geo head.footer n0) span.sector from (slot_of m)) old mid) where
     pub guarded-now : IsGuarded l (Puts at from) old mid

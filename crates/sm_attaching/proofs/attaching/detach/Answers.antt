@@ -1,4 +1,4 @@
-use Rattle.std.proofs.Common.{◌≡◌, ◌≢◌, false, List, sym, subst, subst₂}
+use Rattle.std.proofs.Common.{refl, ◌≡◌, ◌≢◌, false, List, sym, subst, subst₂}
 use Rattle.std.specs.Prelude.{AllPairs, slice_index_or, take}
 use Rattle.sm_base.specs.declared.names.Name.{Name}
 use Rattle.vg_meta.specs.Roomy.{table_alone}
@@ -10,6 +10,7 @@ use Rattle.sm_refs.specs.Attached.{CountsLess}
 use Rattle.sm_ready.specs.Known.{known, shape_in}
 use Rattle.sm_ready.specs.Orderly.{IsOrderly}
 use Rattle.sm_ready.proofs.ChainLaws.{err_not_ok}
+use Rattle.sm_ready.proofs.FrameLaws.{true_stays}
 use Rattle.sm_ready.proofs.RepairLaws.{ready_synced}
 use Rattle.sm_ready.proofs.SyncLaws.{synced, synced_failed}
 use Rattle.sm_ready.proofs.TakenLaws.{is_told}
@@ -79,3 +80,9 @@ returns-clause-done g c = λ told ready.
     (record { site = c.sync.ensures.site; table = c.sync.ensures.table.0; failed = c.sync.ensures.table.1; keeps = c.sync.ensures.keeps told; leaves = c.sync.ensures.leaves told })
     (with_attached c.leave.new.self (known c.args.memory.now)) _ _ (detach_disks _ _ c.args.disk.now) (c.in_ok-sync.ensures.settled told)
     (ready_used _ _ _ (known c.args.memory.now) c.leave.new.self (ready_synced _ _ _ _ (known c.args.memory.now) ready (c.sync.ensures.keeps told) (c.in_ok-sync.ensures.settled told)) (c.in_ok-sync.ensures.settled told))
+
+pub returns-in_err-sync-clause-true_still : goal.returns-in_err-sync-clause-true_still
+returns-in_err-sync-clause-true_still g c = true_stays g.S.Store c.args.memory.now c.args.memory.now c.sync.ensures.site c.sync.ensures.table.0 refl c.sync.ensures.keeps c.requires.true_now
+
+pub returns-clause-true_still : goal.returns-clause-true_still
+returns-clause-true_still g c = true_stays g.S.Store c.args.memory.now (record c.args.memory.now { attached = c.leave.new.self }) c.sync.ensures.site c.sync.ensures.table.0 refl c.sync.ensures.keeps c.requires.true_now

@@ -1,14 +1,15 @@
 use Rattle.std.proofs.Common.{refl, ◌∙◌}
+use Rattle.sm_base.specs.declared.names.Name.TheVariants.{Mgt}
 use Rattle.sm_disk.proofs.HeldLaws.{Keeps-then}
+use Rattle.vg_volumes.proofs.StoredLaws.{stays_from, stays_then, works_keeps, works_then, works_writes}
 use Rattle.sm_ready.specs.Known.{known}
 use Rattle.sm_ready.specs.declared.memory.Memory.{Memory}
 use Rattle.sm_ready.proofs.ChainLaws.{err_not_ok}
 use Rattle.sm_ready.proofs.OwnLaws.{own_name}
 use Rattle.sm_ready.proofs.RoomLaws.{rows_commits, rows_stays}
 use Rattle.sm_ready.proofs.TakenLaws.{is_told}
-use Rattle.vg_volumes.proofs.StoredLaws.{stays_from, stays_then}
 use Rattle.sm_changing.proofs.DeleteLaws.{to_delete}
-use Rattle.sm_changing.proofs.DeletedLaws.{can_remove, clear_failed, end_done, end_failed, has_places, known_ended, orderly_end, remove_failed, shape_end, tidy_end, tree_room_less}
+use Rattle.sm_changing.proofs.DeletedLaws.{can_remove, clear_failed, end_done, end_failed, has_places, known_ended, orderly_end, remove_failed, shape_end, tidy_end, tree_room_less, true_deleted}
 use Rattle.sm_changing.proofs.deleting.delete.Goals as goal
 
 pub remove-requires : goal.remove-requires
@@ -137,3 +138,12 @@ returns-clause-done g c = λ told ready.
     w (g.met.S.Store.leaves_now c.clear.new.store told (w.stays.failed ∙ c.in_ok-remove.ensures.commits.usable))
     (record { site = e.site; table = e.table.0; failed = e.table.1; keeps = e.keeps told; leaves = e.leaves told }) (c.in_ok-sync.ensures.settled told) c.in_ok-clear.ensures.wrote
     after _ (known_ended c.args.memory.now after _ _ _ name c.take.ensures.rows c.in_ok-clear.ensures.places refl refl)
+
+pub returns-clause-true_still : goal.returns-clause-true_still
+returns-clause-true_still g c =
+    let r = c.requires in
+    let d = to_delete _ _ (known c.args.memory.now) c.args.disk.now r.orderly r.tidy r.allowed r.kept_up in
+    let e = c.sync.ensures in
+    let after : Memory = record { tree = c.take.new.self; records = c.clear.new.self; attached = c.args.memory.now.attached; operation = c.args.memory.now.operation } in
+    true_deleted g.S.Store c.args.store.now c.args.memory.now d (own_name _ _ (known c.args.memory.now) c.args.disk.now _ r.orderly d.own c.image_name-name.ensures) c.in_ok-remove.ensures.commits
+    (works_then (works_writes c.clear.ensures.writes) (works_keeps Mgt (stays_from {g = g.S.Store} e.site e.table e.no_less e.counts e.beside) e.keeps)) after c.take.ensures.rows r.true_now

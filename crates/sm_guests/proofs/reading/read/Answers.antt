@@ -10,7 +10,8 @@ use Rattle.sm_machine.specs.declared.commands.Command.TheVariants.{Read}
 use Rattle.sm_machine.specs.declared.replies.Reply.TheVariants.{Bytes}
 use Rattle.sm_ready.specs.Known.{known, shape_in}
 use Rattle.sm_ready.specs.Sessions.{store_state}
-use Rattle.sm_guests.proofs.AskLaws.{row_stands, row_true}
+use Rattle.sm_ready.proofs.FrameLaws.{true_stays}
+use Rattle.sm_ready.proofs.TruthLaws.{row_stands, row_true}
 use Rattle.sm_guests.proofs.ReadLaws.{read_bytes, read_range, read_reply, read_still, read_whole, taken_all}
 use Rattle.sm_guests.proofs.TakenLaws.{err_if, few_numbers, taken_keeps}
 use Rattle.sm_guests.proofs.reading.read.Given.{Over}
@@ -36,10 +37,20 @@ pub read-requires-clause-stand : goal.read-requires-clause-stand
 read-requires-clause-stand g c = λ r i. row_stands _ _ _ c.requires.orderly r i
 
 pub read-requires-clause-true_now : goal.read-requires-clause-true_now
-read-requires-clause-true_now g c = λ told r i. row_true _ _ _ _ c.requires.orderly (c.requires.ready told) r i
+read-requires-clause-true_now g c = λ told r i. row_true g.S.Store c.args.store.now c.args.memory.now c.requires.orderly c.requires.true_now told r i
 
 pub read-requires-clause-whole : goal.read-requires-clause-whole
 read-requires-clause-whole g c = read_whole _ _ _ _ _ _ c.requires.orderly c.requires.allowed _ (long g c)
+
+pub returns-in_err-read-clause-true_still : goal.returns-in_err-read-clause-true_still
+returns-in_err-read-clause-true_still g c =
+    let only = c.read.ensures.reads_only in
+    true_stays g.S.Store c.args.memory.now c.args.memory.now only.stays.site only.stays.table refl (λ told. Keeps-same (only.held told)) c.requires.true_now
+
+pub returns-clause-true_still : goal.returns-clause-true_still
+returns-clause-true_still g c =
+    let only = c.read.ensures.reads_only in
+    true_stays g.S.Store c.args.memory.now c.args.memory.now only.stays.site only.stays.table refl (λ told. Keeps-same (only.held told)) c.requires.true_now
 
 pub returns-in_err-read-clause-taken : goal.returns-in_err-read-clause-taken
 unfolding shape_in
@@ -58,6 +69,6 @@ returns-clause-taken g c = λ told ready.
     only.stays (Keeps-same (only.held told)) (only.leaves told) _
     (inr (ap Bytes (taken_all _ _ _ (wide ∙ sym c.in-Ok.ensures.len)
     ∙ read_bytes _ _ _ c.args.disk.now c.args.sector c.args.count c.requires.orderly c.requires.allowed _ c.read.new.to ready wide
-    (λ k below. c.in_ok-read.ensures.read told k (omega arith) (omega (arith, below, wide)) ∙ ap (λ n. chain_reads (stored g.S.Store c.args.store.now) c.args.memory.now.tree.rows n (c.args.sector + k)) c.own_volume-volume.ensures))
+    (λ k below. c.in_ok-read.ensures.read told k (omega arith) (omega (arith, below, wide)) ∙ ap (λ n. chain_reads (stored g.S.Store c.args.store.now) c.args.memory.now.tree.rows n (c.args.sector + k)) c.image_name-volume.ensures))
     ∙ sym (read_reply (store_state g.S.Store c.args.store.now c.args.memory.now) _ _ _ c.requires.allowed)))
     (read_still (store_state g.S.Store c.args.store.now c.args.memory.now) _ _ _ c.requires.allowed (few_numbers _ _ _ c.requires.orderly)) (λ yes settles. absurd (true≢false (sym settles)))

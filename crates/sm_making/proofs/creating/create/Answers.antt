@@ -9,6 +9,8 @@ use Rattle.sm_machine.specs.declared.commands.Command.TheVariants.{Create}
 use Rattle.sm_machine.specs.declared.replies.Reply.TheVariants as reply
 use Rattle.sm_ready.specs.Known.{shape_in}
 use Rattle.sm_ready.specs.Sessions.{store_state}
+use Rattle.sm_ready.specs.declared.memory.Memory.{Memory}
+use Rattle.sm_ready.proofs.FrameLaws.{true_reads}
 use Rattle.sm_ready.proofs.TakenLaws.{is_told, taken_accepted, taken_poor, taken_stopped}
 use Rattle.vg_volumes.proofs.StoredLaws.{reads_none}
 use Rattle.sm_ready.specs.Refusing.{extents_for}
@@ -55,3 +57,8 @@ returns-in-Err-Device-clause-taken g c = λ told ready.
     let long = c.in-Ok.ensures.fit.many ∙ need in
     taken_stopped (is_told g.S.Store c.args.store.now c.args.memory.now c.requires.orderly c.requires.usable told ready (g.met.S.Store.leaves_now c.args.store.now told c.requires.usable)) (Create c.args.disk.now c.args.size true c.args.label.now) c.make_raw.new.memory refl c.requires.allowed
     (rw long at (c.make_raw.ensures.done told ready (λ poor. let x = sym c.in-Err-Device.is ∙ poor in let y = c.in-Err-Device.field-0-is in cc))) _
+
+pub returns-in-Err-NoMemory-clause-true_still : goal.returns-in-Err-NoMemory-clause-true_still
+returns-in-Err-NoMemory-clause-true_still g c =
+    let poor = c.make_raw.ensures.poor (c.in-Err-NoMemory.is ∙ ap (λ f. Err f) c.in-Err-NoMemory.field-0-is) in
+    true_reads g.S.Store c.args.memory.now c.make_raw.new.memory (ap (λ (x : Memory). x.tree.rows) poor.2) poor.0 c.requires.true_now

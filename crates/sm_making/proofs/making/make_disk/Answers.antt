@@ -5,10 +5,11 @@ use Rattle.sm_base.specs.declared.sizes.Geometry.{Geometry}
 use Rattle.sm_disk.proofs.HeldLaws.{Keeps-none, Keeps-then}
 use Rattle.vg_meta.specs.Roomy.{table_alone}
 use Rattle.vhd_chain.specs.Trees.{Tree, tree_row, with_row}
-use Rattle.sm_ready.specs.Known.{known, shape_in}
+use Rattle.sm_ready.specs.Known.{Known, known, shape_in}
 use Rattle.sm_record.specs.declared.records.Record.{Record}
 use Rattle.sm_ready.proofs.CauseLaws.{raw_uuid}
 use Rattle.sm_ready.proofs.ChainLaws.{err_not_ok}
+use Rattle.sm_ready.proofs.FrameLaws.{true_made}
 use Rattle.sm_ready.proofs.LastLaws.{made_memory}
 use Rattle.sm_ready.proofs.MakingLaws.{MakesIn, can_begin, can_end, next_orderly, next_there, begin_failed, fill_failed, end_failed, end_made, table_end, orderly_end, tidy_end, known_made}
 use Rattle.sm_ready.proofs.NewLaws.{no_row, shape_made}
@@ -131,3 +132,8 @@ returns-clause-done g c = λ told ready.
     let filled = c.in_ok-fill_disk.ensures.filled told in
     end_made (made g c) told ready c.in_ok-begin.ensures.commits (c.begin.ensures.crash told) c.fill_disk.ensures.stays (c.fill_disk.ensures.middle told) _ (Keeps-none _) filled.records refl _ (disk_is (made g c) c.requires.plain c.in_ok-begin.ensures.commits filled)
     c.add_image.new.memory _ c.in_ok-end.ensures.commits (c.end.ensures.crash told) (memory_is g c)
+
+pub returns-clause-true_still : goal.returns-clause-true_still
+returns-clause-true_still g c =
+    true_made (made g c) c.in_ok-begin.ensures.commits c.fill_disk.ensures.stays c.in_ok-end.ensures.commits c.add_image.new.memory (ap (λ (x : Known). x.rows) (memory_is g c))
+    c.fill_disk.ensures.middle (λ told. refl) c.requires.true_now

@@ -1,4 +1,4 @@
-use Rattle.std.proofs.Common.{◌*◌, length}
+use Rattle.std.proofs.Common.{◌*◌, length, refl}
 use Rattle.sm_disk.proofs.HeldLaws.{Keeps-then}
 use Rattle.vg_meta.specs.Roomy.{table_alone}
 use Rattle.vg_volumes.specs.Stored.{Stored}
@@ -7,6 +7,7 @@ use Rattle.sm_standing.specs.Standing.{disks}
 use Rattle.sm_ready.specs.Known.{known}
 use Rattle.sm_ready.specs.Stores.{content_now}
 use Rattle.sm_ready.proofs.ChainLaws.{done_behind, ready_read}
+use Rattle.sm_ready.proofs.FrameLaws.{true_reads}
 use Rattle.sm_making.specs.Making.{new_disk}
 use Rattle.sm_making.proofs.RawLaws.{new}
 use Rattle.sm_making.proofs.making.make_raw.Goals as goal
@@ -38,3 +39,6 @@ returns-clause-done g c = λ told ready enough.
     let e = c.prepare.ensures in
     done_behind _ (λ (x : Stored). with_disk (new_disk c.args.disk c.args.label (length c.args.extents.items * x.site.geometry.extent)) (disks (content_now x.site x.table x.area))) e.reads e.same.1 e.leaves (λ fine. c.in-Ok-make_disk.is)
     (rw c.record_of-entry.ensures.is at (c.make_disk.ensures.done told (ready_read c.args.memory.now e.reads e.same.1 ready)))
+
+pub make_disk-requires-clause-true_now : goal.make_disk-requires-clause-true_now
+make_disk-requires-clause-true_now g c = true_reads g.S.Store c.args.memory.now c.args.memory.now refl c.prepare.ensures.reads c.requires.true_now

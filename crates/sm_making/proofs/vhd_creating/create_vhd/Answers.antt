@@ -15,6 +15,8 @@ use Rattle.sm_machine.specs.declared.commands.Command.TheVariants.{Create}
 use Rattle.sm_machine.specs.declared.replies.Reply.TheVariants as reply
 use Rattle.sm_ready.specs.Known.{known, shape_in}
 use Rattle.sm_ready.specs.Sessions.{store_state}
+use Rattle.sm_ready.specs.declared.memory.Memory.{Memory}
+use Rattle.sm_ready.proofs.FrameLaws.{true_reads}
 use Rattle.sm_ready.proofs.TakenLaws.{done_by, is_told, stopped_by, taken_poor, whole_by}
 use Rattle.sm_making.specs.Vhds.{HasHead, disk_head, image_uid, made_row, vhd_extents, vhd_sectors}
 use Rattle.sm_making.proofs.VhdLaws.{few_sectors, not_many}
@@ -88,3 +90,8 @@ returns-in-Err-Device-clause-taken g c = λ told ready.
     let command = Create c.args.disk.now c.args.size false c.args.label.now in
     stopped_by (is_told g.S.Store c.args.store.now c.args.memory.now c.requires.orderly c.requires.usable told ready (g.met.S.Store.leaves_now c.args.store.now told c.requires.usable)) command c.make_vhd.new.memory (whole_by σ command c.requires.allowed)
     (rw is at (c.make_vhd.ensures.done told ready (λ poor. let x = sym c.in-Err-Device.is ∙ poor in let y = c.in-Err-Device.field-0-is in cc))) _
+
+pub returns-in-Err-NoMemory-clause-true_still : goal.returns-in-Err-NoMemory-clause-true_still
+returns-in-Err-NoMemory-clause-true_still g c =
+    let poor = c.make_vhd.ensures.poor (c.in-Err-NoMemory.is ∙ ap (λ f. Err f) c.in-Err-NoMemory.field-0-is) in
+    true_reads g.S.Store c.args.memory.now c.make_vhd.new.memory (ap (λ (x : Memory). x.tree.rows) poor.2) poor.0 c.requires.true_now

@@ -9,10 +9,11 @@ use Rattle.vhd_image.specs.Bodies.{volume_name}
 use Rattle.vhd_image.specs.Made.{IsDiskSize}
 use Rattle.vhd_image.specs.declared.images.Body.{Body}
 use Rattle.sm_record.specs.declared.records.Record.{Record}
-use Rattle.sm_ready.specs.Known.{known, shape_in}
+use Rattle.sm_ready.specs.Known.{Known, known, shape_in}
 use Rattle.sm_ready.specs.declared.memory.Memory.{Memory}
 use Rattle.sm_ready.proofs.CauseLaws.{vhd_uuid}
 use Rattle.sm_ready.proofs.ChainLaws.{err_not_ok}
+use Rattle.sm_ready.proofs.FrameLaws.{true_made}
 use Rattle.sm_ready.proofs.LastLaws.{made_memory}
 use Rattle.sm_ready.proofs.MadeLaws.{read_end}
 use Rattle.sm_ready.proofs.MakingLaws.{begin_failed, can_begin, can_end, end_failed, end_made, fill_failed, known_made, next_orderly, next_there, orderly_end, table_end, tidy_end}
@@ -155,3 +156,10 @@ returns-clause-done g c = λ told ready.
     end_made (makes_vhd can c.args.now) told ready begun (c.begin.ensures.crash told) c.write_disk.ensures.stays (c.write_disk.ensures.middle told) wrote.between wrote.kept wrote.records
     (steady_vhd can c.args.now begun c.write_disk.new.store wrote) _ (vhd_disk_is can c.args.now begun c.write_disk.new.store wrote)
     (last g c) _ c.in_ok-end.ensures.commits (c.end.ensures.crash told) (memory_is g c)
+
+pub returns-clause-true_still : goal.returns-clause-true_still
+returns-clause-true_still g c =
+    let can = c.requires.can in
+    let begun = c.in_ok-begin.ensures.commits in
+    true_made (makes_vhd can c.args.now) begun c.write_disk.ensures.stays c.in_ok-end.ensures.commits (last g c) (ap (λ (x : Known). x.rows) (memory_is g c)) c.write_disk.ensures.middle
+    (λ told. steady_vhd can c.args.now begun c.write_disk.new.store (c.in_ok-image.ensures.written told)) c.requires.true_now

@@ -1,5 +1,5 @@
 use Rattle.std.proofs.Common.{◌≡◌, None, sym, ◌∙◌}
-use Rattle.sm_standing.specs.Checks.{record_volume_fault, too_many_fault, misnamed_fault, entry_ahead_fault}
+use Rattle.sm_standing.specs.Checks.{record_volume_fault, too_many_fault, misnamed_fault, entry_ahead_fault, second_entry_fault, lost_entry_fault}
 use Rattle.sm_recover.proofs.CheckLaws.{last_of}
 use Rattle.sm_recover.proofs.checks.table_fault.Goals as goal
 
@@ -9,4 +9,6 @@ returns c = λ seen is.
     let second : too_many_fault seen ≡ None = sym (c.in_default-too_many_fault.ensures seen is.table) in
     let third : misnamed_fault seen ≡ None = sym (c.in_default-misnamed_fault.ensures seen is.table) in
     let fourth : entry_ahead_fault seen ≡ None = sym (c.in_default-entry_fault.ensures seen is.table) in
-    c.image_fault.ensures seen is.table ∙ sym (last_of _ first second third fourth)
+    let fifth : second_entry_fault seen ≡ None = sym (c.in_default-second_fault.ensures seen is.table fourth) in
+    let sixth : lost_entry_fault seen ≡ None = sym (c.in_default-lost_fault.ensures seen is.table fourth) in
+    c.image_fault.ensures seen is.table ∙ sym (last_of _ first second third fourth fifth sixth)

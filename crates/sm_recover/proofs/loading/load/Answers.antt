@@ -1,14 +1,15 @@
 use Rattle.std.proofs.Common.{◌≡◌, ◌+◌, ◌<◌, ◌≤◌, List, None, Err, length, take, sym, ap, ◌∙◌, subst, arith, rules}
 use Rattle.sm_base.specs.Names.{IsName}
-use Rattle.vg_meta.specs.Roomy.{RoomyRow, RoomyTable, rows_alone}
+use Rattle.vg_meta.specs.Roomy.{RoomyRow, RoomyTable, rows_alone, table_alone}
+use Rattle.sm_standing.specs.Entries.{making}
 use Rattle.common_laws.proofs.Lists.{length-insert_by}
 use Rattle.vg_volumes.proofs.StoredLaws.{reads_then}
 use Rattle.vhd_chain.specs.Trees.{Tree, is_before}
 use Rattle.vhd_chain.specs.declared.rows.TreeRow.{TreeRow}
-use Rattle.sm_recover.specs.Loaded.{AreRowsOf, HasEachRow}
+use Rattle.sm_recover.specs.Loaded.{AreRowsOf, HasEachRow, stored_undone}
 use Rattle.sm_recover.proofs.OpeningLaws.{if_err, if_none, if_some}
 use Rattle.sm_recover.proofs.LoadedLaws.{each_none, each_some, name_free, one_less, rows_none, rows_some}
-use Rattle.sm_recover.proofs.TurnLaws.{row_kept, stopped_at, turn, volume_named}
+use Rattle.sm_recover.proofs.TurnLaws.{all_read, few_read, filled_read, read_filled, read_rows, row_kept_as, stopped_at, turn, volume_named}
 use Rattle.sm_recover.proofs.loading.load.Goals as goal
 use Rattle.sm_recover.proofs.loading.load.Goals.{in-Some, in_default-found}
 
@@ -23,7 +24,7 @@ returns-in_err-found-clause-cause g c =
     let t = turn i.only c.requires.checked c.loop-index.index below in
     let is : c.from_residual.result ≡ Err c.in_err-found.field-0.0 = search rules in
     if_err _ c.from_residual.result c.in_err-found.field-0.0 is
-    (stopped_at i.only c.requires.checked t.item c.loop-index.tree.rows c.in_err-found.field-0.0 i.each (c.in_err-found.ensures.cause t.volume.row t.here))
+    (stopped_at i.only c.requires.checked c.loop-index.index t.volume t.item c.loop-index.tree.rows c.in_err-found.field-0.0 i.each (c.in_err-found.ensures.cause t.volume.row t.here))
 
 pub add-requires-clause-name : goal.add-requires-clause-name
 add-requires-clause-name g c =
@@ -32,7 +33,8 @@ add-requires-clause-name g c =
     omega (arith, c.loop-index-test.true, ap (λ (xs : List RoomyRow). length xs) c.volumes-count.ensures.volumes, ap (λ (k : RoomyTable). length k.rows) c.table.ensures.table) in
     let t = turn i.only c.requires.checked c.loop-index.index below in
     let found = if_some _ c.in-Some.is c.in_ok-found.ensures.some t.volume.row t.here in
-    subst IsName (sym found.1.named) (volume_named i.only c.requires.checked t.item)
+    let row = row_kept_as i.only c.requires.checked t.volume.row c.in-Some.row found.1 in
+    subst IsName (sym row.named) (volume_named i.only c.requires.checked c.loop-index.index t.volume t.item)
 
 pub add-requires-clause-absent : goal.add-requires-clause-absent
 add-requires-clause-absent g c =
@@ -41,7 +43,8 @@ add-requires-clause-absent g c =
     omega (arith, c.loop-index-test.true, ap (λ (xs : List RoomyRow). length xs) c.volumes-count.ensures.volumes, ap (λ (k : RoomyTable). length k.rows) c.table.ensures.table) in
     let t = turn i.only c.requires.checked c.loop-index.index below in
     let found = if_some _ c.in-Some.is c.in_ok-found.ensures.some t.volume.row t.here in
-    name_free t.item c.loop-index.tree.rows c.in-Some.row i.rows found.0 found.1.named
+    let row = row_kept_as i.only c.requires.checked t.volume.row c.in-Some.row found.1 in
+    name_free t.item c.loop-index.tree.rows c.in-Some.row i.rows (filled_read (making (table_alone (g.S.Store.table c.args.store.now))) found.0) row.named
 
 pub add-requires-clause-room : goal.add-requires-clause-room
 add-requires-clause-room g c =
@@ -50,8 +53,9 @@ add-requires-clause-room g c =
     omega (arith, c.loop-index-test.true, ap (λ (xs : List RoomyRow). length xs) c.volumes-count.ensures.volumes, ap (λ (k : RoomyTable). length k.rows) c.table.ensures.table) in
     let t = turn i.only c.requires.checked c.loop-index.index below in
     let found = if_some _ c.in-Some.is c.in_ok-found.ensures.some t.volume.row t.here in
-    let less = one_less t.item c.loop-index.tree.rows c.in-Some.row i.rows found.0 found.1.named found.1.hidden found.1.extents in
-    omega (arith, less, c.requires.checked.few_images, i.room)
+    let row = row_kept_as i.only c.requires.checked t.volume.row c.in-Some.row found.1 in
+    let less = one_less t.item c.loop-index.tree.rows c.in-Some.row i.rows (filled_read (making (table_alone (g.S.Store.table c.args.store.now))) found.0) row.named row.hidden row.extents in
+    omega (arith, less, few_read (g.S.Store.table c.args.store.now), c.requires.checked.few_images, i.room)
 
 pub loop-index-preserved : goal.loop-index-preserved
 loop-index-preserved g c =
@@ -63,14 +67,14 @@ loop-index-preserved g c =
     elim c.match-found.branch [
       | in-Some w ↦
           let found = if_some _ w.in-Some.is c.in_ok-found.ensures.some t.volume.row t.here in
-          let row = row_kept i.only c.requires.checked t.volume.row w.in-Some.row found.1 in
+          let row = row_kept_as i.only c.requires.checked t.volume.row w.in-Some.row found.1 in
           let same = ap (λ (z : Tree). z.rows) w.tree-is ∙ w.add.ensures.rows in
           record {
             only = only;
-            rows = subst (AreRowsOf (rows_alone (take (c.loop-index.index + 1) (g.S.Store.table c.args.store.now).rows))) (sym same)
-                (rows_some t.item c.loop-index.tree.rows w.in-Some.row i.rows found.0 row.named row.hidden row.extents);
-            each = subst (HasEachRow g.S.Store c.args.store.now (rows_alone (take (c.loop-index.index + 1) (g.S.Store.table c.args.store.now).rows))) (sym same)
-                (each_some t.item g.S.Store c.args.store.now c.loop-index.tree.rows i.each w.in-Some.row i.rows found.0 row);
+            rows = subst (AreRowsOf (rows_alone (take (c.loop-index.index + 1) (read_rows (g.S.Store.table c.args.store.now))))) (sym same)
+                (rows_some t.item c.loop-index.tree.rows w.in-Some.row i.rows (filled_read (making (table_alone (g.S.Store.table c.args.store.now))) found.0) row.named row.hidden row.extents);
+            each = subst (HasEachRow g.S.Store.told (stored_undone g.S.Store c.args.store.now) (rows_alone (take (c.loop-index.index + 1) (read_rows (g.S.Store.table c.args.store.now))))) (sym same)
+                (each_some t.item g.S.Store.told (stored_undone g.S.Store c.args.store.now) c.loop-index.tree.rows i.each w.in-Some.row i.rows (filled_read (making (table_alone (g.S.Store.table c.args.store.now))) found.0) row);
             room = subst (λ (z : Tree). 500 ≤ length z.rows + z.spare) (sym w.tree-is)
                 (omega (arith, i.room, w.add.ensures.spare, ap (λ (xs : List TreeRow). length xs) w.add.ensures.rows, length-insert_by is_before w.in-Some.row c.loop-index.tree.rows));
           }
@@ -80,10 +84,21 @@ loop-index-preserved g c =
           let same = ap (λ (z : Tree). z.rows) w.tree-is in
           record {
             only = only;
-            rows = subst (AreRowsOf (rows_alone (take (c.loop-index.index + 1) (g.S.Store.table c.args.store.now).rows))) (sym same)
-                (rows_none t.item c.loop-index.tree.rows i.rows not_filled);
-            each = subst (HasEachRow g.S.Store c.args.store.now (rows_alone (take (c.loop-index.index + 1) (g.S.Store.table c.args.store.now).rows))) (sym same)
-                (each_none t.item g.S.Store c.args.store.now c.loop-index.tree.rows i.each not_filled);
+            rows = subst (AreRowsOf (rows_alone (take (c.loop-index.index + 1) (read_rows (g.S.Store.table c.args.store.now))))) (sym same)
+                (rows_none t.item c.loop-index.tree.rows i.rows (λ f. not_filled (read_filled (making (table_alone (g.S.Store.table c.args.store.now))) f)));
+            each = subst (HasEachRow g.S.Store.told (stored_undone g.S.Store c.args.store.now) (rows_alone (take (c.loop-index.index + 1) (read_rows (g.S.Store.table c.args.store.now))))) (sym same)
+                (each_none t.item g.S.Store.told (stored_undone g.S.Store c.args.store.now) c.loop-index.tree.rows i.each (λ f. not_filled (read_filled (making (table_alone (g.S.Store.table c.args.store.now))) f)));
             room = subst (λ (z : Tree). 500 ≤ length z.rows + z.spare) (sym w.tree-is) i.room;
           }
     ]
+
+pub returns-clause-rows : goal.returns-clause-rows
+returns-clause-rows g c =
+    let long = ap (λ (xs : List RoomyRow). length xs) c.volumes-count.ensures.volumes ∙ ap (λ (k : RoomyTable). length k.rows) c.table.ensures.table in
+    subst (λ rs. AreRowsOf rs c.loop-index.tree.rows) (all_read (g.S.Store.table c.args.store.now) c.loop-index.index (omega (arith, c.loop-index-test.false, long))) c.loop-index.invariant.rows
+
+pub returns-clause-each : goal.returns-clause-each
+returns-clause-each g c =
+    let long = ap (λ (xs : List RoomyRow). length xs) c.volumes-count.ensures.volumes ∙ ap (λ (k : RoomyTable). length k.rows) c.table.ensures.table in
+    subst (λ rs. HasEachRow g.S.Store.told (stored_undone g.S.Store c.args.store.now) rs c.loop-index.tree.rows)
+    (all_read (g.S.Store.table c.args.store.now) c.loop-index.index (omega (arith, c.loop-index-test.false, long))) c.loop-index.invariant.each

@@ -31,9 +31,9 @@ returns-in-Some-parent_fault-clause-cause g c = λ told.
     let x = outline (content_now s t area) in
     let has = has_table s t (reads area) in
     let k = c.in_ok-tree.ensures in
-    let links = links_now c.in_default.ensures.checked c.in_ok-tree.tree.rows k.each k.rows told in
+    let links = links_now g.S.Store c.args.store.now c.in_default.ensures.checked c.in_ok-tree.tree.rows k.each k.rows told in
     let same : t ≡ table_alone c.table.result.now = sym (ap table_alone c.table.ensures.table ∙ c.load.ensures.reads.stays.table) in
-    today_parents x c.in-Some-parent_fault.place (c.in_default.ensures.says x has) (all_valid c.in_default.ensures.checked c.in_ok-tree.tree.rows k.each x has links)
+    today_parents x c.in-Some-parent_fault.place (c.in_default.ensures.says x has) (all_valid g.S.Store c.args.store.now c.in_default.ensures.checked c.in_ok-tree.tree.rows k.each x has links)
     (sym (c.in-Some-parent_fault.ensures x same links))
 
 pub returns-clause-passed : goal.returns-clause-passed
@@ -42,6 +42,6 @@ returns-clause-passed g c = λ x has links.
     let k = c.in_ok-tree.ensures in
     let same : t ≡ table_alone c.table.result.now = sym (ap table_alone c.table.ensures.table ∙ c.load.ensures.reads.stays.table) in
     record {
-      valid = all_valid c.in_default.ensures.checked c.in_ok-tree.tree.rows k.each x has links;
+      valid = all_valid g.S.Store c.args.store.now c.in_default.ensures.checked c.in_ok-tree.tree.rows k.each x has links;
       alone = sym (c.in_default-parent_fault.ensures x (has.table ∙ same) links);
     }

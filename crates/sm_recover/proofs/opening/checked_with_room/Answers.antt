@@ -1,5 +1,5 @@
 use Rattle.vg_volumes.proofs.StoredLaws.{reads_then}
-use Rattle.sm_recover.proofs.OpenedWell.{opened_with, opened_ready}
+use Rattle.sm_recover.proofs.OpenedWell.{opened_with, opened_ready, opened_true}
 use Rattle.sm_recover.proofs.opening.checked_with_room.Goals as goal
 
 pub returns-in_default-clause-reads : goal.returns-in_default-clause-reads
@@ -20,3 +20,8 @@ pub returns-clause-ready : goal.returns-clause-ready
 returns-clause-ready g c = λ told settled holding.
     let k = c.in_ok-tree.ensures in
     opened_ready g.S.Store c.args.store.now c.in_ok-tree.tree.rows c.in_ok-tree.records k.checked k.rows k.each told settled holding c.in-Ok-new.attached (k.agrees told)
+
+pub returns-clause-true_images : goal.returns-clause-true_images
+returns-clause-true_images g c = λ told settled.
+    let k = c.in_ok-tree.ensures in
+    opened_true g.S.Store c.args.store.now c.in_ok-tree.tree.rows c.in_ok-tree.records k.checked k.rows k.each told settled

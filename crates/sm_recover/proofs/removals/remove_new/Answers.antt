@@ -29,6 +29,7 @@ loop-name-init g c = record {
   few = few_same (table_alone (g.S.Store.table c.args.store.now));
   room = λ had. had;
   beside = λ told. Keeps-none _;
+  keeps = λ told. Keeps-none _;
   orderly = λ m o. o;
   rest = λ told m. again_none _ m;
 }
@@ -53,6 +54,7 @@ loop-name-preserved g c =
       few = few_removals (table_alone (g.S.Store.table c.args.store.now)) next.table checked.table cleaned;
       room = λ had. rows_removed _ _ n new table c.in_ok-commit.ensures.room_after.spare_rows (i.room had);
       beside = λ told. Keeps-then (i.beside told) (e.beside told);
+      keeps = λ told. Keeps-then (i.keeps told) (e.keeps told);
       orderly = λ m o. orderly_less now n new next m e.site table (i.orderly m o);
       rest = λ told m. again_then (i.rest told m) (again_less now n new next m e.site table (e.keeps told) (c.in_ok-commit.ensures.settled told));
     }
@@ -98,3 +100,6 @@ returns-in_err-commit-clause-few_left g c = λ told t image leaves.
 pub returns-clause-few_left : goal.returns-clause-few_left
 returns-clause-few_left g c = λ told t image leaves.
     few_at (table_alone (g.S.Store.table c.args.store.now)) (g.met.S.Store.leaves_now c.loop-name.store told c.loop-name.invariant.usable t image leaves).table_is c.loop-name.invariant.few
+
+pub returns-in_err-commit-clause-keeps : goal.returns-in_err-commit-clause-keeps
+returns-in_err-commit-clause-keeps g c = λ told. Keeps-then (c.loop-name.invariant.keeps told) (c.commit.ensures.keeps told)

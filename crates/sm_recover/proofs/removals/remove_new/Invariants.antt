@@ -21,6 +21,7 @@ invariant-loop-name g l = record {
   few : HasFewRemovals (table_alone (g.S.Store.table l.fn.store)) (table_alone (g.S.Store.table l.store));
   room : HasRows (g.S.Store.table l.fn.store) → HasRows (g.S.Store.table l.store);
   beside : g.S.Store.told → Keeps (g.S.Store.beside l.fn.store) (g.S.Store.beside l.store);
+  keeps : g.S.Store.told → Keeps (g.S.Store.area l.fn.store) (g.S.Store.area l.store);
   orderly : (m : Known) → IsOrderly (g.S.Store.site l.fn.store) (table_alone (g.S.Store.table l.fn.store)) m → IsOrderly (g.S.Store.site l.store) (table_alone (g.S.Store.table l.store)) m;
   rest : g.S.Store.told → (m : Known) → RestsAgain (stored g.S.Store l.fn.store) (stored g.S.Store l.store) m m;
 }

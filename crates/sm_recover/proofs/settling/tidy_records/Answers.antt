@@ -1,21 +1,23 @@
 use Rattle.std.proofs.Common.{◌∙◌}
-use Rattle.vg_volumes.proofs.StoredLaws.{stays_from, stays_then}
-use Rattle.sm_recover.proofs.OpeningLaws.{records_fit}
+use Rattle.vg_volumes.proofs.StoredLaws.{stays_from, works_keeps, works_then, works_writes}
+use Rattle.sm_base.specs.declared.names.Name.TheVariants.{Mgt}
+use Rattle.vg_meta.specs.Roomy.{table_alone}
+use Rattle.sm_recover.proofs.TableLaws.{records_room}
 use Rattle.sm_ready.proofs.AgainLaws.{again_wiped, stop_wiped}
 use Rattle.sm_recover.proofs.settling.tidy_records.Goals as goal
 
 pub wipe_strays-requires-clause-size : goal.wipe_strays-requires-clause-size
-wipe_strays-requires-clause-size g c = records_fit c.requires.checked
+wipe_strays-requires-clause-size g c = records_room (g.S.Store.site c.args.store.now) (table_alone (g.S.Store.table c.args.store.now)) c.requires.checked.record_volume
 
 pub returns-in_err-wipe_strays-clause-crash : goal.returns-in_err-wipe_strays-clause-crash
 returns-in_err-wipe_strays-clause-crash g c = λ m told t image leaves.
     let w = c.wipe_strays.ensures.writes in
     stop_wiped (record m { places = c.args.mgt.now }) w told (g.met.S.Store.leaves_now c.wipe_strays.new.store told (w.stays.failed ∙ c.requires.usable) t image leaves)
 
-pub returns-in_err-sync-clause-stays : goal.returns-in_err-sync-clause-stays
-returns-in_err-sync-clause-stays g c =
+pub returns-in_err-sync-clause-works : goal.returns-in_err-sync-clause-works
+returns-in_err-sync-clause-works g c =
     let e = c.sync.ensures in
-    stays_then c.wipe_strays.ensures.writes.stays (stays_from {g = g.S.Store} e.site e.table e.no_less e.counts e.beside)
+    works_then (works_writes c.wipe_strays.ensures.writes) (works_keeps Mgt (stays_from {g = g.S.Store} e.site e.table e.no_less e.counts e.beside) e.keeps)
 
 pub returns-in_err-sync-clause-crash : goal.returns-in_err-sync-clause-crash
 returns-in_err-sync-clause-crash g c = λ m told t image leaves.
@@ -23,10 +25,10 @@ returns-in_err-sync-clause-crash g c = λ m told t image leaves.
     stop_wiped (record m { places = c.args.mgt.now }) w told
     (g.met.S.Store.leaves_now c.wipe_strays.new.store told (w.stays.failed ∙ c.requires.usable) t image (c.sync.ensures.leaves told t image leaves))
 
-pub returns-clause-stays : goal.returns-clause-stays
-returns-clause-stays g c =
+pub returns-clause-works : goal.returns-clause-works
+returns-clause-works g c =
     let e = c.sync.ensures in
-    stays_then c.wipe_strays.ensures.writes.stays (stays_from {g = g.S.Store} e.site e.table e.no_less e.counts e.beside)
+    works_then (works_writes c.wipe_strays.ensures.writes) (works_keeps Mgt (stays_from {g = g.S.Store} e.site e.table e.no_less e.counts e.beside) e.keeps)
 
 pub returns-clause-rest : goal.returns-clause-rest
 returns-clause-rest g c = λ told m.
@@ -39,3 +41,6 @@ returns-clause-crash g c = λ m told t image leaves.
     let w = c.wipe_strays.ensures.writes in
     stop_wiped (record m { places = c.args.mgt.now }) w told
     (g.met.S.Store.leaves_now c.wipe_strays.new.store told (w.stays.failed ∙ c.requires.usable) t image (c.sync.ensures.leaves told t image leaves))
+
+pub returns-in_err-wipe_strays-clause-works : goal.returns-in_err-wipe_strays-clause-works
+returns-in_err-wipe_strays-clause-works g c = works_writes c.wipe_strays.ensures.writes

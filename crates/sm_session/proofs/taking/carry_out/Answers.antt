@@ -1,45 +1,29 @@
-use Rattle.std.proofs.Common.{◌≡◌, ℕ, Bool, true, false, List, None, Ok, refl, sym, ap, ◌∙◌, subst}
+use Rattle.std.proofs.Common.{◌≡◌, true, None, Ok, refl, sym, ap, ◌∙◌, subst}
 use Rattle.std.proofs.lemmas.Bool.{true≢false}
 use Rattle.std.proofs.lemmas.Result.{err_from_is_err_and}
-use Rattle.sm_base.specs.declared.operations.Op.TheVariants.{Idle}
 use Rattle.vg_meta.specs.Roomy.{table_alone}
-use Rattle.sm_machine.specs.Commits.{folds, gives_up, is_given_up}
 use Rattle.sm_machine.specs.Refusals.{refusal}
-use Rattle.sm_machine.specs.Runs.{is_accepted, is_settling}
-use Rattle.sm_machine.specs.Shapes.{Shape}
+use Rattle.sm_base.specs.declared.refusals.Refusal.TheVariants.{NoMemory}
+use Rattle.std.specs.Result.{IsOk}
+use Rattle.sm_machine.specs.declared.replies.Reply.TheVariants.{No, Size}
+use Rattle.sm_machine.specs.Runs.{is_accepted, is_settling, takes_memory}
 use Rattle.sm_machine.specs.Steps.{is_built, reply_to}
-use Rattle.sm_machine.specs.declared.commands.Command.{Command}
 use Rattle.sm_machine.specs.declared.commands.Command.TheVariants as command
 use Rattle.sm_listing.proofs.ListLaws.{step_after}
 use Rattle.sm_ready.specs.Does.{ShapesAs, StoreDoes, store_shape}
+use Rattle.sm_ready.specs.Frames.{HasCommits}
 use Rattle.sm_ready.specs.Known.{shape_in}
 use Rattle.sm_ready.specs.Sessions.{store_state}
 use Rattle.sm_ready.specs.Taken.{StoreTakes, StoreTakesWhole}
 use Rattle.sm_ready.proofs.DoesLaws.{does_err, does_ok}
 use Rattle.sm_ready.proofs.TakenLaws.{is_told, taken_answered, taken_built}
+use Rattle.sm_session.specs.Carrying.{most_commits}
+use Rattle.sm_session.proofs.CarryLaws.{nothing_given_up, of_reply, others_guests}
 use Rattle.sm_session.proofs.taking.carry_out.Goals as goal
-
--- no other command is built
-unbuilt : (c : Command) → is_built c ≡ true → ((u : List ℕ) (size : ℕ) (raw : Bool) (label : List ℕ) → c ≡ command.Create u size raw label → ⊥) → ((u : List ℕ) → c ≡ command.Delete u → ⊥) → ((u text : List ℕ) → c ≡ command.Label u text → ⊥)
-    → (c ≡ command.List → ⊥) → ⊥
-unfolding is_built
-unbuilt (command.Create u size raw label) built no_create no_delete no_label no_list = no_create u size raw label refl
-unbuilt (command.Delete u) built no_create no_delete no_label no_list = no_delete u refl
-unbuilt (command.Label u text) built no_create no_delete no_label no_list = no_label u text refl
-unbuilt command.List built no_create no_delete no_label no_list = no_list refl
-unbuilt _ built no_create no_delete no_label no_list = true≢false (sym built)
-
-pub unreachable-requires : goal.unreachable-requires
-unreachable-requires g c = unbuilt c.args.command.now c.requires.built c.in_default.not-Create c.in_default.not-Delete c.in_default.not-Label c.in_default.not-List
-
--- where the collector does nothing, nothing is given up
-nothing_given_up : (σ : Shape) (u : List ℕ) → σ.op ≡ Idle → is_given_up σ (command.Delete u) ≡ false
-unfolding is_given_up gives_up folds
-nothing_given_up σ u idle = ap (λ o. folds o u) idle
 
 pub delete-requires-clause-kept_up : goal.delete-requires-clause-kept_up
 unfolding shape_in
-delete-requires-clause-kept_up g c = nothing_given_up (store_shape g.S.Store c.args.store.now c.args.memory.now) c.in-Delete.disk c.requires.idle
+delete-requires-clause-kept_up g c = nothing_given_up (store_shape g.S.Store c.args.store.now c.args.memory.now) (command.Delete c.in-Delete.disk) c.requires.idle
 
 pub returns-in_err-delete-in-Delete-clause-taken : goal.returns-in_err-delete-in-Delete-clause-taken
 unfolding is_built
@@ -104,3 +88,75 @@ returns-in-List-clause-taken g c = λ told ready.
     let listed = c.list.ensures.listed (g.S.Store.site a) (table_alone (g.S.Store.table a)) (g.S.Store.area a) c.requires.orderly c.requires.tidy ready in
     subst (λ k. StoreTakes g.S.Store k a c.args.memory.now a c.args.memory.now (Ok c.list.result)) (sym c.in-List.is)
     (taken_answered (is_told g.S.Store c.args.store.now c.args.memory.now c.requires.orderly c.requires.usable told ready (g.met.S.Store.leaves_now c.args.store.now told c.requires.usable)) _ listed (step_after (store_state g.S.Store a c.args.memory.now) c.requires.orderly.table.sequence) refl)
+
+pub returns-then-raw-clause-few : goal.returns-then-raw-clause-few
+unfolding most_commits
+returns-then-raw-clause-few g c = subst (λ k. HasCommits (most_commits k) (table_alone (g.S.Store.table c.args.store.now)) (table_alone (g.S.Store.table c.create.new.store))) (sym c.in-Create.is) c.create.ensures.few
+
+pub returns-then-raw-clause-few_left : goal.returns-then-raw-clause-few_left
+unfolding most_commits
+returns-then-raw-clause-few_left g c = λ told t image l. subst (λ k. HasCommits (most_commits k) (table_alone (g.S.Store.table c.args.store.now)) t) (sym c.in-Create.is) (c.create.ensures.few_left told t image l)
+
+pub returns-else-raw-clause-few : goal.returns-else-raw-clause-few
+unfolding most_commits
+returns-else-raw-clause-few g c = subst (λ k. HasCommits (most_commits k) (table_alone (g.S.Store.table c.args.store.now)) (table_alone (g.S.Store.table c.create_vhd.new.store))) (sym c.in-Create.is) c.create_vhd.ensures.few
+
+pub returns-else-raw-clause-few_left : goal.returns-else-raw-clause-few_left
+unfolding most_commits
+returns-else-raw-clause-few_left g c = λ told t image l. subst (λ k. HasCommits (most_commits k) (table_alone (g.S.Store.table c.args.store.now)) t) (sym c.in-Create.is) (c.create_vhd.ensures.few_left told t image l)
+
+pub returns-in_err-delete-in-Delete-clause-few : goal.returns-in_err-delete-in-Delete-clause-few
+unfolding most_commits
+returns-in_err-delete-in-Delete-clause-few g c = subst (λ k. HasCommits (most_commits k) (table_alone (g.S.Store.table c.args.store.now)) (table_alone (g.S.Store.table c.delete.new.store))) (sym c.in-Delete.is) c.delete.ensures.few
+
+pub returns-in_err-delete-in-Delete-clause-few_left : goal.returns-in_err-delete-in-Delete-clause-few_left
+unfolding most_commits
+returns-in_err-delete-in-Delete-clause-few_left g c = λ told t image l. subst (λ k. HasCommits (most_commits k) (table_alone (g.S.Store.table c.args.store.now)) t) (sym c.in-Delete.is) (c.delete.ensures.few_left told t image l)
+
+pub returns-in_ok-delete-in-Delete-clause-few : goal.returns-in_ok-delete-in-Delete-clause-few
+unfolding most_commits
+returns-in_ok-delete-in-Delete-clause-few g c = subst (λ k. HasCommits (most_commits k) (table_alone (g.S.Store.table c.args.store.now)) (table_alone (g.S.Store.table c.delete.new.store))) (sym c.in-Delete.is) c.delete.ensures.few
+
+pub returns-in_ok-delete-in-Delete-clause-few_left : goal.returns-in_ok-delete-in-Delete-clause-few_left
+unfolding most_commits
+returns-in_ok-delete-in-Delete-clause-few_left g c = λ told t image l. subst (λ k. HasCommits (most_commits k) (table_alone (g.S.Store.table c.args.store.now)) t) (sym c.in-Delete.is) (c.delete.ensures.few_left told t image l)
+
+pub serve-requires-clause-guests : goal.serve-requires-clause-guests
+serve-requires-clause-guests g c = others_guests c.args.command.now c.requires.built c.in_default.not-Create c.in_default.not-Delete c.in_default.not-Label c.in_default.not-Resize c.in_default.not-List
+
+pub resize-requires-clause-kept_up : goal.resize-requires-clause-kept_up
+unfolding shape_in
+resize-requires-clause-kept_up g c = nothing_given_up (store_shape g.S.Store c.args.store.now c.args.memory.now) (command.Resize c.in-Resize.disk c.in-Resize.size) c.requires.idle
+
+pub returns-in_err-bytes-in-Resize-clause-taken : goal.returns-in_err-bytes-in-Resize-clause-taken
+returns-in_err-bytes-in-Resize-clause-taken g c = λ told ready.
+    let e = err_from_is_err_and c.from_residual-in_err-bytes-in-Resize.result c.from_residual-in_err-bytes-in-Resize.ensures.1 in
+    subst (λ r. StoreTakes g.S.Store c.args.command.now c.args.store.now c.args.memory.now c.resize.new.store c.resize.new.memory r) (sym e.1)
+    (does_err (is_told g.S.Store c.args.store.now c.args.memory.now c.requires.orderly c.requires.usable told ready (g.met.S.Store.leaves_now c.args.store.now told c.requires.usable)) c.args.command.now c.resize.new.memory c.requires.built c.requires.allowed (subst (λ k. StoreDoes g.S.Store k c.args.store.now c.args.memory.now c.resize.new.store c.resize.new.memory (IsOk c.resize.result)) (sym c.in-Resize.is) (c.resize.ensures.done told ready)) e.0)
+
+pub returns-in_ok-bytes-in-Resize-clause-refused : goal.returns-in_ok-bytes-in-Resize-clause-refused
+unfolding is_accepted
+returns-in_ok-bytes-in-Resize-clause-refused g c = λ e. absurd (true≢false e)
+
+pub returns-in_ok-bytes-in-Resize-clause-untouched : goal.returns-in_ok-bytes-in-Resize-clause-untouched
+unfolding is_accepted
+returns-in_ok-bytes-in-Resize-clause-untouched g c = λ e. absurd (true≢false e)
+
+pub returns-in_ok-bytes-in-Resize-clause-taken : goal.returns-in_ok-bytes-in-Resize-clause-taken
+unfolding reply_to shape_in
+returns-in_ok-bytes-in-Resize-clause-taken g c = λ told ready.
+    does_ok (is_told g.S.Store c.args.store.now c.args.memory.now c.requires.orderly c.requires.usable told ready (g.met.S.Store.leaves_now c.args.store.now told c.requires.usable)) c.args.command.now c.resize.new.memory c.requires.built c.requires.allowed (subst (λ k. StoreDoes g.S.Store k c.args.store.now c.args.memory.now c.resize.new.store c.resize.new.memory (IsOk c.resize.result)) (sym c.in-Resize.is) (c.resize.ensures.done told ready))
+    _ (ap Size c.in_ok-bytes-in-Resize.ensures.size ∙ sym (ap (reply_to (store_state g.S.Store c.args.store.now c.args.memory.now).disks (store_state g.S.Store c.args.store.now c.args.memory.now).shape) c.in-Resize.is)) (subst IsOk (sym c.in_ok-bytes-in-Resize.was) refl) c.resize.ensures.stays.site
+    (subst (λ k. ShapesAs g.S.Store k c.args.store.now c.args.memory.now c.resize.new.store c.resize.new.memory) (sym c.in-Resize.is) c.in_ok-bytes-in-Resize.ensures.shape)
+
+pub returns-then-raw-clause-spared : goal.returns-then-raw-clause-spared
+unfolding takes_memory
+returns-then-raw-clause-spared g c = of_reply (λ r. r ≡ No NoMemory → takes_memory c.args.command.now ≡ true) c.create.result (λ r e. subst (λ k. takes_memory k ≡ true) (sym c.in-Create.is) refl)
+
+pub returns-else-raw-clause-spared : goal.returns-else-raw-clause-spared
+unfolding takes_memory
+returns-else-raw-clause-spared g c = of_reply (λ r. r ≡ No NoMemory → takes_memory c.args.command.now ≡ true) c.create_vhd.result (λ r e. subst (λ k. takes_memory k ≡ true) (sym c.in-Create.is) refl)
+
+pub returns-in-List-clause-spared : goal.returns-in-List-clause-spared
+unfolding takes_memory
+returns-in-List-clause-spared g c = λ e. subst (λ k. takes_memory k ≡ true) (sym c.in-List.is) refl

@@ -1,8 +1,10 @@
 use Rattle.std.proofs.Common.{sym, ◌∙◌}
 use Rattle.std.proofs.lemmas.Bool.{true≢false}
 use Rattle.sm_machine.specs.Runs.{is_accepted}
+use Rattle.sm_ready.specs.Does.{store_shape}
 use Rattle.sm_ready.specs.Sessions.{store_state}
 use Rattle.sm_ready.proofs.TakenLaws.{is_told, step_by, step_unbuilt, taken_refused}
+use Rattle.sm_session.proofs.CarryLaws.{never_for_memory}
 use Rattle.sm_session.proofs.taking.take.Goals as goal
 
 pub returns-then-not-is_built-clause-least : goal.returns-then-not-is_built-clause-least
@@ -26,3 +28,8 @@ returns-in-Some-clause-taken g c = λ told ready.
 pub carry_out-requires-clause-allowed : goal.carry_out-requires-clause-allowed
 carry_out-requires-clause-allowed g c =
     sym ((rw c.table.ensures.table at c.in_default.ensures.exact) (g.S.Store.site c.args.store.now) (record { same_sizes = sym c.geometry-geometry.ensures; same_count = sym c.extents-extents.ensures.count }) c.requires.orderly c.requires.tidy)
+
+pub returns-in-Some-clause-spared : goal.returns-in-Some-clause-spared
+returns-in-Some-clause-spared g c = λ e.
+    let is = (rw c.table.ensures.table at c.in-Some.ensures.exact) (g.S.Store.site c.args.store.now) (record { same_sizes = sym c.geometry-geometry.ensures; same_count = sym c.extents-extents.ensures.count }) c.requires.orderly c.requires.tidy in
+    absurd (never_for_memory (store_shape g.S.Store c.args.store.now c.args.memory.now) c.args.command.now (sym is ∙ (let x = e in cc)))

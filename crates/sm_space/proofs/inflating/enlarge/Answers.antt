@@ -8,6 +8,7 @@ use Rattle.sm_ready.proofs.ChainLaws.{err_not_ok}
 use Rattle.sm_ready.proofs.RoomLaws.{rows_commits, rows_stays}
 use Rattle.sm_space.specs.Inflating.{extents_in}
 use Rattle.sm_space.proofs.InflatingLaws.{can_drop, can_end, can_grow, can_note, drop_failed, end_failed, enlarged_end, grow_failed, grows_in, inflated_done, known_after, least_is, note_failed, orderly_end, shape_end, sum_is, tidy_end}
+use Rattle.sm_space.proofs.TrueLaws.{true_enlarged}
 use Rattle.sm_space.proofs.inflating.enlarge.Goals as goal
 
 pub put-requires : goal.put-requires
@@ -234,3 +235,17 @@ returns-clause-done g c =
     let e = c.end_image.ensures in
     λ told ready. inflated_done h told ready c1 c2 c.args.to sum e.works e.others e.stays c.in_ok-end_image.ensures.ends _ _ c3
     (λ v image l. subst (λ n. IsEitherOf (stored g.S.Store c.end_image.new.store) (Remove (Inflate u n)) v image) had (c.drop_entry.ensures.crash told v image l)) is
+
+pub returns-clause-true_still : goal.returns-clause-true_still
+returns-clause-true_still g c =
+    let r = c.requires in
+    let store = c.args.store.now in
+    let memory = c.args.memory.now in
+    let u = c.args.disk.now in
+    let h = grows_in g.S.Store store memory u c.args.to c.args.growth r.orderly r.tidy r.usable r.there r.growth in
+    let had = c.extents_of.ensures ∙ ap extents_in r.there.there in
+    let c1 = subst (λ n. Commits g.S.Store (Create (Inflate u n) false []) store c.put.new.store) had c.in_ok-put.ensures.commits in
+    let c2 = subst (λ x. Commits g.S.Store x c.put.new.store c.grow.new.store) r.growth.is c.in_ok-grow.ensures.commits in
+    let c3 = subst (λ n. Commits g.S.Store (Remove (Inflate u n)) c.end_image.new.store c.drop_entry.new.store) had c.in_ok-drop_entry.ensures.commits in
+    let sum = sum_is g.S.Store store memory u c.args.to c.args.growth r.orderly r.tidy r.usable r.there r.growth in
+    true_enlarged h c1 c2 c.end_image.ensures.works c3 c.args.to sum c.in_ok-end_image.ensures.ends c.set_extents.new.memory c.set_extents.ensures.rows r.true_now

@@ -2,12 +2,12 @@ use Rattle.sm_ready.proofs.ShowLaws.{kept_ready, settled_ready}
 use Rattle.sm_ready.proofs.TakenLaws.{is_told}
 use Rattle.sm_session.proofs.sessions.Session.begin.Goals as goal
 
-pub returns-in-Ok-clause-kept : goal.returns-in-Ok-clause-kept
-returns-in-Ok-clause-kept g c = λ told holding.
-    let e = c.in-Ok.ensures in
-    kept_ready (is_told g.S.Store c.settle.new.store c.in-Ok.memory e.orderly e.usable_still told (e.ready told holding) (g.met.S.Store.leaves_now c.settle.new.store told e.usable_still))
+pub returns-in-Ok-settle-clause-kept : goal.returns-in-Ok-settle-clause-kept
+returns-in-Ok-settle-clause-kept g c = λ told holding.
+    let e = c.in-Ok-settle.ensures in
+    kept_ready (is_told g.S.Store c.settle.new.store c.in-Ok-settle.memory e.orderly e.usable_still told (e.ready told holding) (g.met.S.Store.leaves_now c.settle.new.store told e.usable_still))
 
-pub returns-in-Ok-clause-begins : goal.returns-in-Ok-clause-begins
-returns-in-Ok-clause-begins g c = λ told holding.
-    let e = c.in-Ok.ensures in
-    settled_ready (is_told g.S.Store c.settle.new.store c.in-Ok.memory e.orderly e.usable_still told (e.ready told holding) (g.met.S.Store.leaves_now c.settle.new.store told e.usable_still)) (e.settled told)
+pub returns-in-Ok-settle-clause-begins : goal.returns-in-Ok-settle-clause-begins
+returns-in-Ok-settle-clause-begins g c = λ told holding.
+    let e = c.in-Ok-settle.ensures in
+    settled_ready (is_told g.S.Store c.settle.new.store c.in-Ok-settle.memory e.orderly e.usable_still told (e.ready told holding) (g.met.S.Store.leaves_now c.settle.new.store told e.usable_still)) (e.settled told)

@@ -19,16 +19,15 @@ use Rattle.sm_standing.specs.Images.{image_extents, image_of, vhd_image}
 use Rattle.sm_standing.specs.Keeping.{IsKept, IsHolding}
 use Rattle.sm_standing.specs.Outlines.{link_of, outline}
 use Rattle.sm_standing.specs.Readings.{SameReadings}
-use Rattle.sm_standing.specs.Standing.{standing_volume, disk_at, disk_in, disks}
+use Rattle.sm_standing.specs.Standing.{disks}
 use Rattle.sm_standing.specs.Volumes.{IsAtSize, IsSameVolume}
-use Rattle.sm_standing.proofs.DiskLists.{disks_same}
 use Rattle.sm_standing.proofs.DisksShown.{row_of-In}
 use Rattle.sm_standing.proofs.EnlargingLaws.{Beside, near, making_now, enlarging_sound, stands_alike}
 use Rattle.sm_standing.proofs.ImageSectors.{image_same, vhd_same, raw_same, gone, whole_none}
 use Rattle.sm_standing.proofs.OutlineLaws.{made-of, in_same}
 use Rattle.sm_standing.proofs.RecordLists.{records_same, record_of_first, first_of}
 use Rattle.vhd_layout.specs.Readings.{image_at}
-use Rattle.sm_ready.proofs.AlikeLaws.{sectors_same}
+use Rattle.sm_standing.proofs.ImageLaws.{disks_as}
 
 module _ (a b : Content) (u : List ℕ) (extents : ℕ) (w : IsEnlargingOn a b u extents) where
   beside : (n : Name) → n ≢ Inflate u extents → Beside u (row a n) (row b n)
@@ -116,7 +115,7 @@ module _ (a b : Content) (u : List ℕ) (extents : ℕ) (w : IsEnlargingOn a b u
   readings_enlarging : SameReadings a b
   readings_enlarging k below = ap reading (w.sectors Mgt k (omega (arith, below, w.records)))
 
-  outline_enlarging : outline b ≡ record (outline a) { table = b.table }
+  pub outline_enlarging : outline b ≡ record (outline a) { table = b.table }
   outline_enlarging = made-of w.extent w.block w.entries refl (fun_ext (λ n. ap link_of (images_enlarging n))) (fun_ext (λ k. in_same a b k (readings_enlarging k) (cases_lt k record_count)))
 
   -- it stays kept
@@ -138,10 +137,7 @@ module _ (a b : Content) (u : List ℕ) (extents : ℕ) (w : IsEnlargingOn a b u
 
   -- and shows the same disks
   pub enlarging_disks : disks b ≡ disks a
-  unfolding disk_at
-  enlarging_disks = disks_same a b (λ v.
-      ap₂ (λ x y. x >>= (λ n. y >>= (λ q. Some (disk_in b v q n)))) (stands_alike (outline a) b.table u extents w.table v) (recorded v)
-      ∙ ap (λ f. standing_volume a.table v >>= (λ n. record_of a v >>= (λ q. Some (record { uuid = v; label = q.label; origin = q.origin; read_only = q.read_only; sectors = f n })))) (fun_ext (sectors_same a b images_enlarging)))
+  enlarging_disks = disks_as a b (stands_alike (outline a) b.table u extents w.table) images_enlarging recorded
     where
       recorded : (v : List ℕ) → record_of b v ≡ record_of a v
       recorded v = record_of_first b v ∙ ap first_of (records_same a b v readings_enlarging) ∙ sym (record_of_first a v)

@@ -1,0 +1,59 @@
+-- A fill is the write of so many equal bytes.
+use Rattle.std.proofs.Common.{◌≡◌, ℕ, zero, suc, ◌+◌, ◌*◌, ◌/◌, ◌%◌, ◌==◌, ◌||◌, not, Bool, true, false, List, [], ◌∷◌, ◌++◌, length, drop, replicate, None, refl, sym, ap, ap₂, ◌∙◌, arith}
+use Rattle.std.proofs.lemmas.List.{take-replicate}
+use Rattle.std.proofs.lemmas.List.{length-replicate, replicate-append-replicate}
+use Rattle.std.proofs.Math.Seq.{drop-append_seam}
+use Rattle.common_laws.specs.Lists.{first_some, given}
+use Rattle.sm_machine.specs.Commits.{commits, own_commits, is_given_up, gives_up}
+use Rattle.sm_machine.specs.Disks.{cut_sectors, filled, on_disk}
+use Rattle.sm_machine.specs.Refusals.{refusal, is_reserved, is_unknown, is_taken, is_in_use, is_not_attached, is_read_only, is_raw_disk, is_out_of_range, is_outside, is_bad_size, is_shrink, is_deep, is_too_many, is_spent, lacks_space, need, named, new_uuid, forked, images_needed}
+use Rattle.sm_machine.specs.Shapes.{Shape, free, risen}
+use Rattle.sm_base.specs.declared.refusals.Refusal.TheVariants.{UnknownDisk, NotAttached, ReadOnly, OutOfRange, NoSpace}
+use Rattle.sm_machine.specs.Steps.{State, Outcome, accepted, disks_next, reply_to, shape_after, shape_next, step_whole, write_shape, written_disk}
+use Rattle.sm_machine.specs.declared.commands.Command.TheVariants.{Fill, Write}
+use Rattle.sm_machine.specs.declared.replies.Reply.TheVariants.{Done}
+use Rattle.sm_ready.proofs.TakenLaws.{whole_by}
+
+drop_all_of : (n byte : ℕ) → drop 512 (replicate (512 + 512 * n) byte) ≡ replicate (512 * n) byte
+drop_all_of n byte = ap (drop 512) (sym (replicate-append-replicate 512 (512 * n) byte)) ∙ drop-append 512 (replicate 512 byte) (replicate (512 * n) byte) (length-replicate 512 byte)
+  where
+    drop-append : (k : ℕ) (xs ys : List ℕ) → length xs ≡ k → drop k (xs ++ ys) ≡ ys
+    drop-append k xs ys long = ap (λ j. drop j (xs ++ ys)) (sym long) ∙ drop-append_seam xs ys
+
+pub filled_cut : (n byte : ℕ) → cut_sectors n (replicate (512 * n) byte) ≡ filled n byte
+unfolding cut_sectors
+filled_cut zero byte = refl
+filled_cut (suc n) byte =
+    let more : 512 * suc n ≡ 512 + 512 * n = omega arith in
+    ap (λ k. cut_sectors (suc n) (replicate k byte)) more ∙ ap₂ (λ x xs. x ∷ xs) (take-replicate 512 (512 + 512 * n) byte (omega arith)) (ap (cut_sectors n) (drop_all_of n byte) ∙ filled_cut n byte)
+
+-- so many sectors of a byte
+abbrev pub all_of : ℕ → ℕ → List ℕ
+all_of n byte = replicate (512 * n) byte
+
+pub length_all : (n byte : ℕ) → length (all_of n byte) / 512 ≡ n
+length_all n byte = let e = length-replicate (512 * n) byte in omega (arith, e)
+
+pub fill_allowed : (s : Shape) (u : List ℕ) (at n byte : ℕ) → refusal s (Fill u at n byte) ≡ None → refusal s (Write u at (all_of n byte)) ≡ None
+unfolding refusal is_reserved is_unknown is_taken is_in_use is_not_attached is_read_only is_raw_disk is_out_of_range is_bad_size is_shrink is_deep is_too_many is_spent lacks_space need named new_uuid forked images_needed
+fill_allowed s u at n byte allowed =
+    ap (λ b. first_some (given (is_unknown s (Fill u at n byte)) UnknownDisk ∷ None ∷ None ∷ given (is_not_attached s (Fill u at n byte)) NotAttached ∷ given (is_read_only s (Fill u at n byte)) ReadOnly ∷ None
+    ∷ given b OutOfRange ∷ None ∷ None ∷ None ∷ None ∷ None ∷ given (lacks_space s (Fill u at n byte)) (NoSpace 0 (free s)) ∷ [])) range ∙ allowed
+  where
+    even : length (all_of n byte) % 512 ≡ 0
+    even = let e = length-replicate (512 * n) byte in omega (arith, e)
+
+    or_false : (b : Bool) → (b || false) ≡ b
+    or_false true = refl
+    or_false false = refl
+
+    range : (is_outside s u at (length (all_of n byte) / 512) || not (length (all_of n byte) % 512 == 0)) ≡ is_outside s u at n
+    range = ap₂ (λ k m. is_outside s u at k || not (m == 0)) (length_all n byte) even ∙ or_false (is_outside s u at n)
+
+pub fill_is : (σ : State) (u : List ℕ) (at n byte : ℕ) → refusal σ.shape (Fill u at n byte) ≡ None → step_whole σ (Fill u at n byte) ≡ step_whole σ (Write u at (all_of n byte))
+unfolding accepted disks_next shape_next shape_after reply_to commits own_commits is_given_up gives_up
+fill_is σ u at n byte allowed =
+    whole_by σ (Fill u at n byte) allowed
+    ∙ ap₂ (λ (ss : List (List ℕ)) (k : ℕ). let x : Outcome = record { reply = Done; after = record { disks = on_disk u (written_disk at ss) σ.disks; shape = record (write_shape σ.shape u at k) { sequence = risen σ.shape.sequence 0 } } } in x)
+    (sym (filled_cut n byte) ∙ ap (λ k. cut_sectors k (all_of n byte)) (sym (length_all n byte))) (sym (length_all n byte))
+    ∙ sym (whole_by σ (Write u at (all_of n byte)) (fill_allowed σ.shape u at n byte allowed))

@@ -1,0 +1,98 @@
+-- What a command's own crate tells of it, as a step tells it.
+use Rattle.std.proofs.Common.{◌≡◌, ℕ, Bool, true, false, List, [], ◌∷◌, length, Option, Some, None, Result, IfOk, Ok, Err, refl, sym, ap, ◌∙◌}
+use Rattle.sm_base.specs.declared.faults.Failed.{Failed}
+use Rattle.sm_base.specs.declared.operations.Mode.{Mode}
+use Rattle.sm_base.specs.declared.operations.Op.TheVariants.{Idle}
+use Rattle.sm_base.specs.declared.refusals.Refusal.{Refusal}
+use Rattle.sm_base.specs.declared.refusals.Refusal.TheVariants.{BadSize, ChainTooLong, InUse, NameTaken, NoMemory, NoSpace, NotAttached, OutOfRange, RawDisk, ReadOnly, ReservedName, SequenceSpent, Shrink, TooMany, UnknownDisk}
+use Rattle.common_laws.specs.Lists.{first_some, given}
+use Rattle.std.proofs.lemmas.Option.{none-some, same_Some}
+use Rattle.sm_machine.specs.Refusals.{fork_depth, images_needed, is_bad_size, is_deep, is_in_use, is_not_attached, is_out_of_range, is_raw_disk, is_read_only, is_reserved, is_shrink, is_spent, is_taken, is_too_many, is_unknown, lacks_space, need, refusal}
+use Rattle.std.proofs.lemmas.Bool.{true≢false}
+use Rattle.vg_volumes.specs.declared.stores.Store.{Ghosts}
+use Rattle.sm_machine.specs.Commits.{folds, gives_up, is_given_up}
+use Rattle.sm_machine.specs.Shapes.{Shape, free}
+use Rattle.sm_machine.specs.Steps.{is_built}
+use Rattle.sm_machine.specs.declared.commands.Command.{Command}
+use Rattle.sm_machine.specs.declared.commands.Command.TheVariants as command
+use Rattle.sm_machine.specs.declared.replies.Reply.{Reply}
+use Rattle.sm_ready.specs.Taken.{StoreTakes}
+use Rattle.sm_ready.specs.declared.memory.Memory.{Memory}
+use Rattle.sm_session.specs.Carrying.{is_guests}
+
+-- where the collector does nothing, nothing is given up
+pub nothing_given_up : (σ : Shape) (c : Command) → σ.op ≡ Idle → is_given_up σ c ≡ false
+unfolding is_given_up folds
+nothing_given_up σ c idle = by (gives_up c)
+  where
+    by : (o : Option (List ℕ)) → elim o as (λ _. Bool) [ None ↦ false | Some u ↦ folds σ.op u ] ≡ false
+    by None = refl
+    by (Some u) = ap (λ o. folds o u) idle
+
+-- what is told of a command at any result is told of it where it failed
+pub stopped_at : {S : Type 0} (g : Ghosts S) (a b : S) (m n : Memory) (c : Command) (r : Result Reply Failed) (f : Failed) → StoreTakes g c a m b n r → StoreTakes g c a m b n (Err f)
+stopped_at g a b m n c r f taken = record { reply = tt; ready = tt; settled = tt; crash = taken.crash }
+
+-- no other command is a guest's
+pub not_guests : (c : Command) → is_guests c ≡ true → ((u : List ℕ) (mode : Mode) → c ≡ command.Attach u mode → ⊥) → ((u : List ℕ) → c ≡ command.Detach u → ⊥) → ((u : List ℕ) (sector : ℕ) (bytes : List ℕ) → c ≡ command.Write u sector bytes → ⊥)
+    → ((u : List ℕ) (sector count byte : ℕ) → c ≡ command.Fill u sector count byte → ⊥) → ((u : List ℕ) (sector count : ℕ) → c ≡ command.Read u sector count → ⊥) → ((u : List ℕ) → c ≡ command.Flush u → ⊥) → ⊥
+unfolding is_guests
+not_guests (command.Attach u mode) guests no_attach no_detach no_write no_fill no_read no_flush = no_attach u mode refl
+not_guests (command.Detach u) guests no_attach no_detach no_write no_fill no_read no_flush = no_detach u refl
+not_guests (command.Write u sector bytes) guests no_attach no_detach no_write no_fill no_read no_flush = no_write u sector bytes refl
+not_guests (command.Fill u sector count byte) guests no_attach no_detach no_write no_fill no_read no_flush = no_fill u sector count byte refl
+not_guests (command.Read u sector count) guests no_attach no_detach no_write no_fill no_read no_flush = no_read u sector count refl
+not_guests (command.Flush u) guests no_attach no_detach no_write no_fill no_read no_flush = no_flush u refl
+not_guests _ guests no_attach no_detach no_write no_fill no_read no_flush = true≢false (sym guests)
+
+-- what is built and no command of the repository's own is a guest's
+pub others_guests : (c : Command) → is_built c ≡ true → ((u : List ℕ) (size : ℕ) (raw : Bool) (label : List ℕ) → c ≡ command.Create u size raw label → ⊥) → ((u : List ℕ) → c ≡ command.Delete u → ⊥) → ((u text : List ℕ) → c ≡ command.Label u text → ⊥)
+    → ((u : List ℕ) (size : ℕ) → c ≡ command.Resize u size → ⊥) → (c ≡ command.List → ⊥) → is_guests c ≡ true
+unfolding is_built is_guests
+others_guests (command.Create u size raw label) built no_create no_delete no_label no_resize no_list = absurd (no_create u size raw label refl)
+others_guests (command.Delete u) built no_create no_delete no_label no_resize no_list = absurd (no_delete u refl)
+others_guests (command.Label u text) built no_create no_delete no_label no_resize no_list = absurd (no_label u text refl)
+others_guests (command.Resize u size) built no_create no_delete no_label no_resize no_list = absurd (no_resize u size refl)
+others_guests command.List built no_create no_delete no_label no_resize no_list = absurd (no_list refl)
+others_guests (command.Attach u mode) built no_create no_delete no_label no_resize no_list = refl
+others_guests (command.Detach u) built no_create no_delete no_label no_resize no_list = refl
+others_guests (command.Write u sector bytes) built no_create no_delete no_label no_resize no_list = refl
+others_guests (command.Fill u sector count byte) built no_create no_delete no_label no_resize no_list = refl
+others_guests (command.Read u sector count) built no_create no_delete no_label no_resize no_list = refl
+others_guests (command.Flush u) built no_create no_delete no_label no_resize no_list = refl
+others_guests _ built no_create no_delete no_label no_resize no_list = absurd (true≢false (sym built))
+
+-- ---- want of memory is no cause
+
+abbrev is_memory : Refusal → Bool
+is_memory NoMemory = true
+is_memory _ = false
+
+past : (b : Bool) (r : Refusal) (rest : List (Option Refusal)) → is_memory r ≡ false → (first_some rest ≡ Some NoMemory → ⊥) → first_some (given b r ∷ rest) ≡ Some NoMemory → ⊥
+past true r rest other on is = true≢false (sym (ap is_memory (same_Some r NoMemory is)) ∙ other)
+past false r rest other on is = on is
+
+-- no command is refused for it
+pub never_for_memory : (σ : Shape) (c : Command) → refusal σ c ≡ Some NoMemory → ⊥
+unfolding refusal
+never_for_memory σ c =
+    past (is_reserved c) ReservedName _ refl
+    (past (is_unknown σ c) UnknownDisk _ refl
+    (past (is_taken σ c) NameTaken _ refl
+    (past (is_in_use σ c) InUse _ refl
+    (past (is_not_attached σ c) NotAttached _ refl
+    (past (is_read_only σ c) ReadOnly _ refl
+    (past (is_raw_disk σ c) RawDisk _ refl
+    (past (is_out_of_range σ c) OutOfRange _ refl
+    (past (is_bad_size σ c) BadSize _ refl
+    (past (is_shrink σ c) Shrink _ refl
+    (past (is_deep σ c) (ChainTooLong (fork_depth σ c)) _ refl
+    (past (is_too_many σ c) (TooMany (length σ.images) (images_needed c)) _ refl
+    (past (is_spent σ c) SequenceSpent _ refl
+    (past (lacks_space σ c) (NoSpace (need σ c) (free σ)) _ refl
+    (λ e. none-some NoMemory e))))))))))))))
+
+-- what holds of every reply holds of the one that came, if one came
+pub of_reply : (P : Reply → Type 0) (result : Result Reply Failed) → ((r : Reply) → P r) → IfOk result P
+of_reply P (Ok r) all = all r
+of_reply P (Err e) all = tt

@@ -1,0 +1,324 @@
+-- A disk that is not attached gets a greater size: memory and shape with it.
+use Rattle.std.proofs.Common.{◌≡◌, ◌≢◌, ◌⊎◌, inl, inr, ⊎_elim, ℕ, ◌*◌, ◌/◌, ◌≤◌, not, max, ◌&&◌, nat_lt, ◌==◌, Bool, true, false, List, [], map, Option, Some, None, refl, sym, ap, ap₂, ◌∙◌, subst, arith}
+use Rattle.std.proofs.Math.Logic.{∥∥₁_elim, ∥∥₁_map}
+use Rattle.std.proofs.Math.Nat.{le_of_mul-le-mul_right, mul-div_cancel}
+use Rattle.std.proofs.Props.{props}
+use Rattle.std.specs.Prelude.{if◌then◌else◌, is_some}
+use Rattle.std.specs.Str.{bytes_eq}
+use Rattle.std.proofs.lemmas.Bool.{true≢false, eqb-false, ltb-false, or_parts}
+use Rattle.sm_base.proofs.NumberLemmas.{div_up-pos}
+use Rattle.sm_base.specs.Numbers.{div_up}
+use Rattle.std.proofs.lemmas.Option.{none-some, same_Some}
+use Rattle.sm_base.specs.declared.names.Name.{Name}
+use Rattle.sm_base.specs.declared.names.Name.TheVariants.{Vhd, Raw}
+use Rattle.sm_base.specs.declared.operations.Op.{Op}
+use Rattle.sm_base.specs.declared.operations.Op.TheVariants as op
+use Rattle.common_laws.specs.Lists.{In, change, when}
+use Rattle.common_laws.proofs.Booleans.{not_false}
+use Rattle.common_laws.proofs.Bytes.{bytes_eq-refl}
+use Rattle.sm_base.specs.declared.operations.Mode.{Mode}
+use Rattle.sm_disk.specs.Held.{Held}
+use Rattle.sm_standing.specs.Checks.{fault_of}
+use Rattle.sm_ready.specs.Outlined.{outline_in}
+use Rattle.sm_ready.specs.Ready.{IsFirm, is_written_as, is_written_in}
+use Rattle.sm_machine.proofs.Chains.{find_image-in}
+use Rattle.common_laws.proofs.Lists.{In-map, In-map_at}
+use Rattle.vg_meta.specs.Tables.{VolumeTable}
+use Rattle.vg_volumes.specs.Sites.{Site}
+use Rattle.vhd_image.specs.Bodies.{IsVhd, StandsIn, parent_name, sector_count, volume_name}
+use Rattle.vhd_image.specs.Changes.{resized}
+use Rattle.vhd_image.specs.Made.{IsDiskSize}
+use Rattle.vhd_image.proofs.ChangeLaws.{resize-stands}
+use Rattle.vhd_image.specs.declared.images.Body.{Body}
+use Rattle.vhd_image.specs.declared.images.Body.TheVariants as body
+use Rattle.vhd_chain.specs.Reading.{slots_of}
+use Rattle.vhd_chain.specs.Trees.{row_name, tree_row, with_replaced}
+use Rattle.vhd_chain.specs.declared.rows.TreeRow.{TreeRow}
+use Rattle.sm_machine.specs.declared.commands.Command.TheVariants.{Resize}
+use Rattle.sm_machine.specs.Commits.{folds, gives_up, is_given_up, own_commits}
+use Rattle.sm_machine.specs.Collector.{count_either}
+use Rattle.sm_machine.specs.Laws.{IsSeenAlike}
+use Rattle.sm_machine.specs.Refusals.{is_bad_size, is_in_use, is_raw_disk, is_shrink, named, of_some, refusal, rounded}
+use Rattle.sm_machine.specs.Shapes.{DiskRecord, ImageRow, Shape, attached_as, is_rw, image_uuid, is_image_of, is_vhd, refs, thin_in, top}
+use Rattle.sm_machine.specs.Steps.{shape_after, shape_next}
+use Rattle.sm_machine.specs.WellFormed.{IsWellFormed}
+use Rattle.sm_machine.proofs.Attaches.{is_its_image}
+use Rattle.sm_machine.proofs.Passed.{passed}
+use Rattle.sm_machine.proofs.Steps.{whole_keeps_shape}
+use Rattle.sm_machine.proofs.Uses.{changed_uses}
+use Rattle.sm_ready.specs.Known.{Known, is_shown, machine_row, records_in, shape_in}
+use Rattle.sm_ready.specs.Orderly.{IsOrderly, IsRoomyFor, IsRoomyIn}
+use Rattle.sm_ready.specs.Ready.{IsTidy}
+use Rattle.sm_ready.proofs.KeptLaws.{vhd_named}
+use Rattle.sm_ready.proofs.Orders.{HasHead, geometry_of, vhd_row}
+use Rattle.sm_ready.proofs.OwnLaws.{IsOwn, next_shape, other_image, own_image, own_name as named_own, own_row, step_shape}
+use Rattle.sm_ready.proofs.PutBackLaws.{any_replaced, face_replaced, map_replaced, of_rows}
+use Rattle.sm_ready.proofs.TruthLaws.{row_found}
+use Rattle.sm_ready.proofs.ApartLaws as apart
+use Rattle.sm_ready.proofs.KeptLaws.{relink_large}
+use Rattle.sm_ready.proofs.OperationLaws.{WorksAt}
+use Rattle.sm_ready.proofs.SoundLaws.{sound}
+use Rattle.sm_ready.proofs.ShapeLaws.{shown_same}
+
+-- the row with an image of this size
+abbrev pub sized : ℕ → TreeRow → TreeRow
+sized sectors r = record r { image = resized sectors r.image }
+
+sized_name : (sectors : ℕ) (b : Body) → volume_name (resized sectors b) ≡ volume_name b
+sized_name sectors (body.Raw n k) = refl
+sized_name sectors (body.Vhd head m) = refl
+
+sized_parent : (sectors : ℕ) (b : Body) → parent_name (resized sectors b) ≡ parent_name b
+sized_parent sectors (body.Raw n k) = refl
+sized_parent sectors (body.Vhd head m) = refl
+
+sized_slots : (sectors : ℕ) (b : Body) → slots_of (resized sectors b) ≡ slots_of b
+sized_slots sectors (body.Raw n k) = refl
+sized_slots sectors (body.Vhd head m) = refl
+
+sized_count : (sectors : ℕ) (b : Body) → IsVhd b → sector_count (resized sectors b) ≡ sectors
+sized_count sectors (body.Raw n k) vhd = absurd vhd
+sized_count sectors (body.Vhd head m) vhd = omega arith
+
+-- the disk that gets a size: its visible image is in this row
+pub record IsToResize (s : Site) (t : VolumeTable) (m : Known) (u : List ℕ) (bytes : ℕ) (r : TreeRow) : Type 0 where
+  pub orderly : IsOrderly s t m
+  pub there : In r m.rows
+  pub shown : r.hidden ≡ false
+  pub uuid : image_uuid (row_name r) ≡ u
+  pub passes : refusal (shape_in s t m) (Resize u bytes) ≡ None
+  pub kept_up : is_given_up (shape_in s t m) (Resize u bytes) ≡ false
+
+-- the name by which its image is looked up
+abbrev pub own_name : List TreeRow → List ℕ → Name
+own_name rows u = if is_some (tree_row rows (Vhd u)) then Vhd u else Raw u
+
+module _ (s : Site) (t : VolumeTable) (m : Known) (u : List ℕ) (bytes : ℕ) (n : Name) (x : Option TreeRow) (o : IsOrderly s t m) (passes : refusal (shape_in s t m) (Resize u bytes) ≡ None) (named_as : n ≡ own_name m.rows u) (looked : x ≡ tree_row m.rows n) where
+  has : IsOwn m u
+  unfolding named
+  has = own_row s t m (Resize u bytes) u o passes refl
+
+  is_found : x ≡ Some has.row
+  is_found = looked ∙ ap (tree_row m.rows) (named_own s t m u n o has named_as) ∙ row_found s t m o has.row has.there
+
+  pub named_here : (r : TreeRow) → x ≡ Some r → n ≡ row_name r
+  named_here r is = named_own s t m u n o has named_as ∙ ap row_name (same_Some has.row r (sym is_found ∙ is))
+
+  pub none_found : x ≡ None → ⊥
+  none_found none = none-some has.row (sym none ∙ is_found)
+
+  pub to_resize : (r : TreeRow) → x ≡ Some r → is_given_up (shape_in s t m) (Resize u bytes) ≡ false → IsToResize s t m u bytes r
+  to_resize r is kept_up =
+      let same : has.row ≡ r = same_Some has.row r (sym is_found ∙ is) in
+      record {
+        orderly = o;
+        there = subst (λ (q : TreeRow). In q m.rows) same has.there;
+        shown = subst (λ (q : TreeRow). q.hidden ≡ false) same has.shown;
+        uuid = subst (λ (q : TreeRow). image_uuid (row_name q) ≡ u) same has.uuid;
+        passes = passes;
+        kept_up = kept_up;
+      }
+
+module _ {s : Site} {t : VolumeTable} {m : Known} {u : List ℕ} {bytes : ℕ} {own : TreeRow} (h : IsToResize s t m u bytes own) where
+  abbrev σ : Shape
+  σ = shape_in s t m
+
+  abbrev pub sectors : ℕ
+  sectors = rounded (shape_in s t m) false bytes
+
+  abbrev next : TreeRow
+  next = sized sectors own
+
+  abbrev pub grown : Known
+  grown = record m { rows = with_replaced next m.rows }
+
+  pub found : tree_row m.rows (row_name own) ≡ Some own
+  found = row_found s t m h.orderly own h.there
+
+  own_is : is_image_of u (machine_row own) ≡ true
+  own_is = is_its_image (machine_row own) u h.shown h.uuid
+
+  abbrev has_own : IsOwn m u
+  has_own = record { row = own; there = h.there; shown = h.shown; uuid = h.uuid }
+
+  pub vhd_name : is_vhd (row_name own) ≡ true
+  unfolding is_raw_disk
+  vhd_name = not_false (is_vhd (row_name own)) (sym (ap (of_some (λ (i : ImageRow). not (is_vhd i.name))) (own_image s t m u h.orderly has_own)) ∙ (passed σ (Resize u bytes) h.passes).raw_disk)
+
+  pub named_vhd : row_name own ≡ Vhd u
+  named_vhd = vhd_named (row_name own) vhd_name ∙ ap Vhd h.uuid
+
+  pub own_head : HasHead own
+  own_head = vhd_row s t m own (image_uuid (row_name own)) h.orderly h.there (vhd_named (row_name own) vhd_name)
+
+  pub own_vhd : IsVhd own.image
+  own_vhd = subst IsVhd (sym own_head.is) tt
+
+  pub no_less : sector_count own.image ≤ sectors
+  unfolding is_shrink
+  no_less = ltb-false sectors (sector_count own.image) (sym (ap (of_some (λ (i : ImageRow). nat_lt sectors i.size)) (own_image s t m u h.orderly has_own)) ∙ (passed σ (Resize u bytes) h.passes).shrink)
+
+  row_sized : machine_row next ≡ record (machine_row own) { size = sectors }
+  row_sized =
+      ap₂ (λ (n : Name) (p : Option Name). let i : ImageRow = record { name = n; hidden = own.hidden; parent = p; size = sector_count next.image; slots = slots_of next.image; extents = own.extents } in i) (sized_name sectors own.image) (sized_parent sectors own.image)
+      ∙ ap₂ (λ (k : ℕ) (l : List (Option ℕ)). let i : ImageRow = record (machine_row own) { size = k; slots = l } in i) (sized_count sectors own.image own_vhd) (sized_slots sectors own.image)
+
+  -- ---- its rows
+
+  abbrev with_size : ImageRow → ImageRow
+  with_size i = record i { size = sectors }
+
+  images_sized : IsWellFormed σ → map machine_row grown.rows ≡ change (is_image_of u) with_size (map machine_row m.rows)
+  images_sized w = map_replaced s t m h.orderly own next h.there (sized_name sectors own.image) machine_row (λ y. when (is_image_of u y) with_size y)
+      (row_sized ∙ sym (ap (λ b. when b with_size (machine_row own)) own_is)) (λ p i other. sym (ap (λ b. when b with_size (machine_row p)) (other_image s t m u own w h.there h.uuid p i other)))
+
+  shown_sized : (v : List ℕ) → is_shown grown.rows v ≡ is_shown m.rows v
+  shown_sized v = any_replaced s t m h.orderly own next h.there (sized_name sectors own.image) (λ x. is_image_of v (machine_row x)) (ap (λ n. not own.hidden && bytes_eq (image_uuid n) v) (sized_name sectors own.image))
+
+  shape_with : IsWellFormed σ → shape_in s t grown ≡ record σ { images = change (is_image_of u) with_size σ.images }
+  unfolding shape_in
+  shape_with w = ap₂ (λ (rs : List DiskRecord) (xs : List ImageRow). record σ { records = rs; images = xs }) (ap (λ ps. records_in ps) (shown_same grown.rows m.rows m.places shown_sized)) (images_sized w)
+
+  shape_plain : shape_in s t grown ≡ record σ { images = change (is_image_of u) with_size σ.images }
+  shape_plain = ∥∥₁_elim h.orderly.well_formed (hlevel props) shape_with
+
+  -- the shape is the machine's
+  pub shape_sized : shape_in s t grown ≡ shape_next σ (Resize u bytes)
+  unfolding shape_after own_commits
+  shape_sized = ∥∥₁_elim h.orderly.well_formed (hlevel props) (λ w. shape_with w ∙ sym (next_shape σ (Resize u bytes) w h.kept_up refl))
+
+  seen_alike : IsSeenAlike (λ y. when (is_image_of u y) with_size y)
+  seen_alike = record { name = λ y. name_by (is_image_of u y) y; hidden = λ y. hidden_by (is_image_of u y) y; parent = λ y. parent_by (is_image_of u y) y }
+    where
+      name_by : (b : Bool) (y : ImageRow) → (when b with_size y).name ≡ y.name
+      name_by true y = refl
+      name_by false y = refl
+
+      hidden_by : (b : Bool) (y : ImageRow) → (when b with_size y).hidden ≡ y.hidden
+      hidden_by true y = refl
+      hidden_by false y = refl
+
+      parent_by : (b : Bool) (y : ImageRow) → (when b with_size y).parent ≡ y.parent
+      parent_by true y = refl
+      parent_by false y = refl
+
+  roomy_for : (v p : Name) → IsRoomyFor σ v p → IsRoomyFor (record σ { images = change (is_image_of u) with_size σ.images }) v p
+  roomy_for v p room i q hi hq is under vhd =
+      let y = In-map (λ x. when (is_image_of u x) with_size x) σ.images i hi in
+      let z = In-map (λ x. when (is_image_of u x) with_size x) σ.images q hq in
+      by (is_image_of u y.0) (is_image_of u z.0) y.0 z.0 y.1 z.1 y.2 z.2
+    where
+      by : (a b : Bool) (y z : ImageRow) → In y σ.images → In z σ.images → i ≡ when a with_size y → q ≡ when b with_size z → thin_in σ (max (top q.slots) (count_either q.slots i.slots)) ≤ q.extents
+      by a b y z hy hz iy qz =
+          let slots_i : i.slots ≡ y.slots = ap (λ (x : ImageRow). x.slots) iy ∙ slots_by a y in
+          let slots_q : q.slots ≡ z.slots = ap (λ (x : ImageRow). x.slots) qz ∙ slots_by b z in
+          let extents_q : q.extents ≡ z.extents = ap (λ (x : ImageRow). x.extents) qz ∙ extents_by b z in
+          let h = room y z hy hz (sym (ap (λ (x : ImageRow). x.name) iy ∙ name_by a y) ∙ is) (sym (ap (λ (x : ImageRow). x.name) qz ∙ name_by b z) ∙ under) vhd in
+          subst (λ k. thin_in σ (max (top q.slots) (count_either q.slots i.slots)) ≤ k) (sym extents_q)
+          (subst (λ (l : List (Option ℕ)). thin_in σ (max (top l) (count_either l i.slots)) ≤ z.extents) (sym slots_q) (subst (λ (l : List (Option ℕ)). thin_in σ (max (top z.slots) (count_either z.slots l)) ≤ z.extents) (sym slots_i) h))
+        where
+          slots_by : (c : Bool) (x : ImageRow) → (when c with_size x).slots ≡ x.slots
+          slots_by true x = refl
+          slots_by false x = refl
+
+          extents_by : (c : Bool) (x : ImageRow) → (when c with_size x).extents ≡ x.extents
+          extents_by true x = refl
+          extents_by false x = refl
+
+          name_by : (c : Bool) (x : ImageRow) → (when c with_size x).name ≡ x.name
+          name_by true x = refl
+          name_by false x = refl
+
+  roomy_sized : (o : Op) → IsRoomyIn σ o → IsRoomyIn (record σ { images = change (is_image_of u) with_size σ.images }) o
+  roomy_sized op.Idle room = tt
+  roomy_sized (op.Copy v p cursor) room = roomy_for v p room
+  roomy_sized (op.Relink v p) room = tt
+  roomy_sized (op.Leaf l p cursor) room = roomy_for l p room
+
+  -- a row of it is one from before of another name, or the new one
+  pub rows_sized : (x : TreeRow) → In x grown.rows → (In x m.rows × (row_name x ≢ row_name own)) ⊎ (x ≡ next)
+  rows_sized = of_rows s t m h.orderly own next h.there (sized_name sectors own.image)
+
+  -- memory is orderly with it
+  pub orderly_sized : StandsIn s.geometry (own.extents * s.geometry.extent) next.image → IsOrderly s t grown
+  unfolding shape_in
+  orderly_sized stands =
+      let o = h.orderly in
+      record {
+        table = o.table;
+        few_extents = o.few_extents;
+        record_volume = o.record_volume;
+        few = o.few;
+        new_named = o.new_named;
+        images = λ n is. o.images n is ∙ sym (face_replaced s t m o own next h.there (sized_name sectors own.image) refl refl n);
+        places = o.places;
+        entries = o.entries;
+        stands = λ x i. ⊎_elim (λ old. o.stands x old.0) (λ new. subst (λ (y : TreeRow). StandsIn s.geometry (y.extents * s.geometry.extent) y.image) (sym new) stands) (rows_sized x i);
+        well_formed = ∥∥₁_map o.well_formed (λ w. subst IsWellFormed (step_shape (record { disks = []; shape = σ }) (Resize u bytes) h.passes ∙ sym shape_sized) (whole_keeps_shape (record { disks = []; shape = σ }) (Resize u bytes) w));
+        roomy = subst (λ (τ : Shape). IsRoomyIn τ m.op) (sym shape_plain) (roomy_sized m.op o.roomy);
+        counts = λ n. o.counts n ∙ sym (uses_same n);
+      }
+    where
+      uses_same : (n : Name) → refs n (shape_in s t grown) ≡ refs n σ
+      uses_same n = ap (refs n) shape_plain ∙ changed_uses σ (λ y. when (is_image_of u y) with_size y) n seen_alike
+
+  -- no record is stray
+  pub tidy_sized : IsTidy t m → IsTidy t grown
+  tidy_sized tidy = record { none_new = tidy.none_new; no_stray = λ r i. shown_sized r.uuid ∙ tidy.no_stray r i }
+
+  -- the size is a disk's
+  pub size_proper : IsDiskSize s.geometry sectors
+  unfolding is_bad_size shape_in rounded
+  size_proper =
+      let bad = or_parts _ false (passed (shape_in s t m) (Resize u bytes) h.passes).bad_size in
+      let parts = or_parts (bytes == 0) (nat_lt (s.geometry.entries * s.geometry.block) (div_up bytes (512 * s.geometry.block) * s.geometry.block)) bad.0 in
+      let least = s.geometry.in_range.block_least in
+      let blocks = div_up bytes (512 * s.geometry.block) in
+      let is : blocks * s.geometry.block / s.geometry.block ≡ blocks = mul-div_cancel blocks {n = s.geometry.block} (omega (arith, least)) in
+      record {
+        whole = ap (λ k. k * s.geometry.block) (sym is);
+        least = subst (λ k. 1 ≤ k) (sym is) (div_up-pos bytes (512 * s.geometry.block) (omega (arith, least)) (let x : bytes ≢ 0 = eqb-false bytes 0 parts.0 in omega (arith, x)));
+        most = subst (λ k. k ≤ s.geometry.entries) (sym is) (le_of_mul-le-mul_right (ltb-false (s.geometry.entries * s.geometry.block) (blocks * s.geometry.block) parts.1) (omega (arith, least)));
+      }
+
+  -- and the image stands with it
+  pub stands_sized : StandsIn s.geometry (own.extents * s.geometry.extent) next.image
+  stands_sized = subst (λ b. StandsIn s.geometry (own.extents * s.geometry.extent) (resized sectors b)) (sym own_head.is)
+      (resize-stands s.geometry (own.extents * s.geometry.extent) own_head.head own_head.slots sectors (geometry_of s t m h.orderly) size_proper (subst (λ b. sector_count b ≤ sectors) own_head.is no_less)
+      (subst (StandsIn s.geometry (own.extents * s.geometry.extent)) own_head.is (h.orderly.stands own h.there)))
+
+  -- ---- the operation works at other images
+
+  pub works_apart : (n : Name) → WorksAt m.op n → n ≢ row_name own
+  unfolding shape_in is_given_up folds gives_up
+  works_apart = apart.works_apart s t m own h.orderly h.there h.shown (λ w l p cursor is same.
+      true≢false (sym (ap (λ v. bytes_eq v u) (ap image_uuid (sym same) ∙ h.uuid) ∙ bytes_eq-refl u) ∙ sym (ap (λ o. folds o u) is) ∙ h.kept_up))
+
+  -- an image of another name was there
+  was_there : (x : ImageRow) → In x (map machine_row grown.rows) → x.name ≢ row_name own → In x (map machine_row m.rows)
+  was_there x i other =
+      let z = In-map machine_row grown.rows x i in
+      ⊎_elim (λ old. subst (λ y. In y (map machine_row m.rows)) (sym z.2) (In-map_at machine_row m.rows z.0 old.0))
+      (λ new. absurd (other (ap (λ (y : ImageRow). y.name) z.2 ∙ ap row_name new ∙ sized_name sectors own.image))) (rows_sized z.0 z.1)
+
+  -- no check fails of memory with the new size
+  pub sound_sized : (area : Held) → IsFirm s t area m → IsOrderly s t grown → fault_of (outline_in s t grown) ≡ None
+  unfolding shape_in
+  sound_sized area firm orderly = ∥∥₁_elim orderly.well_formed (hlevel props) (λ after. ∥∥₁_elim h.orderly.well_formed (hlevel props) (λ w.
+      sound s t grown orderly after (λ v p c q is in_c in_q named_c named_q.
+      relink_large s t area m h.orderly firm w v p c q is
+      (was_there c in_c (λ same. works_apart v (subst (λ o. WorksAt o v) (sym is) (inl refl)) (sym named_c ∙ same)))
+      (was_there q in_q (λ same. works_apart p (subst (λ o. WorksAt o p) (sym is) (inr refl)) (sym named_q ∙ same))) named_c named_q)))
+
+  -- and nothing is written to the disk's image
+  pub not_written : is_written_in (shape_in s t m) (row_name own) ≡ false
+  unfolding is_written_in is_in_use shape_in
+  not_written = ∥∥₁_elim h.orderly.well_formed (hlevel props) (λ w.
+      let i = In-map_at machine_row m.rows own h.there in
+      ap (is_written_as (shape_in s t m) (row_name own)) (find_image-in (shape_in s t m).images (machine_row own) w.one_image i (w.images (machine_row own) i).named)
+      ∙ ap₂ (λ (b : Bool) (v : List ℕ). not b && is_rw (attached_as v (shape_in s t m))) h.shown h.uuid
+      ∙ none_rw (attached_as u (shape_in s t m)) (passed (shape_in s t m) (Resize u bytes) h.passes).in_use)
+    where
+      none_rw : (x : Option Mode) → is_some x ≡ false → is_rw x ≡ false
+      none_rw None e = refl
+      none_rw (Some a) e = absurd (true≢false e)

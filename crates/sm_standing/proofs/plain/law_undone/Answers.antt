@@ -1,0 +1,24 @@
+use Rattle.sm_standing.proofs.PlainKept.{today_sound}
+use Rattle.sm_standing.proofs.UndoneToday.{table_undone, today_disks, today_images, today_opened, today_undone, undoing_disks, undoing_kept}
+use Rattle.sm_standing.proofs.plain.law_undone.Goals as goal
+
+pub returns-clause-sound : goal.returns-clause-sound
+returns-clause-sound c = λ a h table geometry. today_undone a table geometry (today_sound a h)
+
+pub returns-clause-images : goal.returns-clause-images
+returns-clause-images c = λ a h table geometry. today_images a table geometry (today_sound a h)
+
+pub returns-clause-disks : goal.returns-clause-disks
+returns-clause-disks c = λ a h table geometry. today_disks a table geometry (today_sound a h)
+
+pub returns-clause-opened : goal.returns-clause-opened
+returns-clause-opened c = λ a h table geometry. today_opened a table geometry (today_sound a h)
+
+pub returns-clause-table : goal.returns-clause-table
+returns-clause-table c = λ a h table geometry. table_undone a table geometry (today_sound a h)
+
+pub returns-clause-kept : goal.returns-clause-kept
+returns-clause-kept c = λ a h table geometry. undoing_kept a table geometry (today_sound a h)
+
+pub returns-clause-shown : goal.returns-clause-shown
+returns-clause-shown c = λ a h table geometry. undoing_disks a table geometry (today_sound a h)
