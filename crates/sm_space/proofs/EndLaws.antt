@@ -1,13 +1,13 @@
 -- Behind the last commit the image is read in all its extents: it says what it said, and memory is ready.
-use Rattle.std.proofs.Common.{◌≡◌, ◌≢◌, ⊎_elim, ℕ, ◌+◌, ◌-◌, ◌*◌, ◌/◌, ◌<◌, ◌≤◌, ◌&&◌, not, Bool, true, cond, List, length, Option, Some, None, refl, sym, ap, ap₂, ◌∙◌, subst, arith}
-use Rattle.std.proofs.Math.Path.{fun_ext}
+use Rattle.std.proofs.Common.{◌≡◌, ◌≢◌, ⊎_elim, ℕ, ◌+◌, ◌-◌, ◌*◌, ◌/◌, ◌<◌, ◌≤◌, true, false, List, length, Some, refl, sym, ap, ◌∙◌, subst, arith}
 use Rattle.std.proofs.Math.Nat.{mul-le-mul_right}
 use Rattle.std.proofs.lemmas.Bool.{true≢false}
 use Rattle.std.proofs.lemmas.List.{length-append}
 use Rattle.std.proofs.lemmas.Option.{same_Some}
+use Rattle.sm_base.specs.Kinds.{is_entry}
 use Rattle.sm_base.specs.Numbers.{IsGeometry}
 use Rattle.sm_base.specs.declared.names.Name.{Name}
-use Rattle.sm_base.specs.declared.names.Name.TheVariants.{Mgt, Vhd, Raw, Old, Clone, Inflate, Coalesce, Relink, Leaf}
+use Rattle.sm_base.specs.declared.names.Name.TheVariants.{Mgt, Vhd, Inflate}
 use Rattle.sm_disk.specs.Held.{Held, Allows, IsSettled, Keeps, reads}
 use Rattle.sm_disk.proofs.HeldLaws.{Keeps-then}
 use Rattle.vg_meta.specs.Tables.{Row, VolumeTable, extents_of, rows}
@@ -27,37 +27,30 @@ use Rattle.vhd_image.specs.Steady.{IsSteady}
 use Rattle.vhd_image.proofs.SteadyLaws.{body_keeps, steady_at_end, steady_ended, steady_kept}
 use Rattle.vhd_chain.specs.Trees.{row_name}
 use Rattle.vhd_chain.specs.declared.rows.TreeRow.{TreeRow}
-use Rattle.common_laws.specs.Lists.{◌>>=◌}
 use Rattle.sm_machine.specs.WellFormed.{is_image_name}
-use Rattle.sm_record.specs.Records.{reading}
-use Rattle.sm_record.specs.declared.records.Record.{Record}
 use Rattle.sm_mgt.specs.Places.{records_held}
-use Rattle.sm_standing.specs.Contents.{Content, record_of, sectors_of}
-use Rattle.sm_standing.specs.Entries.{is_visible, of_row}
+use Rattle.sm_standing.specs.Contents.{Content, sectors_of}
 use Rattle.sm_standing.specs.Images.{image_of}
-use Rattle.sm_standing.specs.Standing.{disk_at, disk_in, disks, standing_volume}
-use Rattle.sm_standing.proofs.DiskLists.{disks_same}
-use Rattle.sm_standing.proofs.ImageSectors.{gone, image_same, raw_same, vhd_same}
-use Rattle.sm_standing.proofs.RecordLists.{first_of, record_of_first, records_same}
-use Rattle.sm_standing.proofs.ImageLaws.{sectors_same}
+use Rattle.sm_standing.specs.Standing.{disks}
+use Rattle.sm_standing.proofs.ImageSectors.{image_same}
 use Rattle.sm_ready.specs.Done.{at_rest}
 use Rattle.sm_ready.specs.Known.{Known}
 use Rattle.sm_ready.specs.Ready.{IsReady}
 use Rattle.sm_ready.specs.Stores.{content_now}
 use Rattle.sm_ready.proofs.CommitLaws.{volume_rested}
-use Rattle.sm_ready.proofs.LeftLaws.{IsVhdIn, left_in, left_now, mgt_long, now_sector, size_there, vhd_allowed, vhd_in, vhd_of}
+use Rattle.sm_ready.proofs.LeftLaws.{IsVhdIn, left_in, left_now, now_sector, size_there, vhd_allowed, vhd_in, vhd_of}
 use Rattle.sm_ready.proofs.OperationLaws.{below_alike}
 use Rattle.sm_ready.proofs.Orders.{In-tree_row, geometry_of, named_row, whole}
 use Rattle.sm_ready.proofs.RestLaws.{agrees_keeps, keeps_rest}
-use Rattle.sm_ready.proofs.ShapeLaws.{plainly_stands}
 use Rattle.sm_ready.proofs.Steadies.{steady_size, steady_valid}
 use Rattle.sm_space.proofs.MomentLaws.{beside_it, front_written, longer}
 use Rattle.sm_space.proofs.MomentLaws as moment
-use Rattle.sm_space.proofs.OrderlyLaws.{IsToGrow, after, ended, ended_other, ended_own, larger, larger_own, named_or_not, only, orderly_ended, own}
+use Rattle.sm_space.proofs.OrderlyLaws.{IsToGrow, after, ended, ended_other, ended_own, larger, larger_own, only, orderly_ended, own}
 use Rattle.sm_space.proofs.SizedLaws.{In-turned, IsTurned, sized, turned_same}
+use Rattle.sm_space.proofs.TurnedLaws.{IsTurnedTo, disks_turned, images_turned}
 
 -- in more sectors or in fewer an image says the same where its footer gives one size
-content_ends : (block entries n k : ℕ) (v : Sectors) → size_at n v ≡ size_at k v → content_at block entries n v ≡ content_at block entries k v
+pub content_ends : (block entries n k : ℕ) (v : Sectors) → size_at n v ≡ size_at k v → content_at block entries n v ≡ content_at block entries k v
 unfolding slot_at slot_number
 content_ends block entries n k v same =
     ap (λ z. let x : ImageContent = record { size = z; parent = parent_at v; slots = slots_at (layout_of block entries (z / block) n) v; own = own_at block z v } in x) same
@@ -201,74 +194,30 @@ module _ (s : Site) (t : VolumeTable) (m : Known) (u es : List ℕ) (row : TreeR
       ∙ image_same g.extent g.block g.entries less there_now (sectors_of was (Vhd u)) ok own_sector
       ∙ sym (vhd_of was u volume_own (own s t m u es row h).there (own s t m u es row h).filled (whole s t m (Vhd u) h.orderly))
 
-  -- ---- each image is the same
+  -- ---- each disk is the same
 
-  vhd_image : (v : List ℕ) (x : Option Row) → Vhd v ≢ Vhd u → rows t (Vhd v) ≡ x → image_of now (Vhd v) ≡ image_of was (Vhd v)
-  vhd_image v None other is = gone was now (Vhd v) is (ended_other s t m u es row h (Vhd v) other ∙ is)
-  vhd_image v (Some r) other is =
-      vhd_same was now v v r r ok (record {
-        extent = refl;
-        block = refl;
-        entries = refl;
-        before = is;
-        after = ended_other s t m u es row h (Vhd v) other ∙ is;
-        extents = refl;
-        fresh = refl;
-        sectors = other_sector (Vhd v) other (λ same. (let x = same in cc));
-      }) (whole s t m (Vhd v) h.orderly) (whole s (ended s t m u es row h) (after s t m u es row h) (Vhd v) (orderly_ended s t m u es row h))
+  turned_to : IsTurnedTo t (ended s t m u es row h) u
+  turned_to = record {
+    before = volume_own;
+    after = grown es volume_own;
+    was = (own s t m u es row h).there;
+    is = ended_own s t m u es row h;
+    hidden = refl;
+    fresh = refl;
+    others = ended_other s t m u es row h;
+  }
 
-  raw_image : (v : List ℕ) (x : Option Row) → rows t (Raw v) ≡ x → image_of now (Raw v) ≡ image_of was (Raw v)
-  raw_image v None is = gone was now (Raw v) is (ended_other s t m u es row h (Raw v) (λ same. (let x = same in cc)) ∙ is)
-  raw_image v (Some r) is =
-      raw_same was now v v r r (record {
-        extent = refl;
-        block = refl;
-        entries = refl;
-        before = is;
-        after = ended_other s t m u es row h (Raw v) (λ same. (let x = same in cc)) ∙ is;
-        extents = refl;
-        fresh = refl;
-        sectors = other_sector (Raw v) (λ same. (let x = same in cc)) (λ same. (let x = same in cc));
-      })
+  no_entry_kind : (n : Name) → is_entry n ≡ false → n ≢ Inflate u row.extents
+  no_entry_kind n other is = true≢false (sym (ap is_entry is) ∙ other)
+
+  other_there : (n : Name) → n ≢ Vhd u → is_entry n ≡ false → (p : ℕ) → p < size_of s t n → sectors_of now n p ≡ sectors_of was n p
+  other_there n away other = other_sector n away (no_entry_kind n other)
 
   pub images_ended : (n : Name) → image_of now n ≡ image_of was n
-  unfolding image_of
-  images_ended (Vhd v) = ⊎_elim (λ same. ap (image_of now) same ∙ own_image ∙ sym (ap (image_of was) same)) (λ other. vhd_image v (rows t (Vhd v)) other refl) (named_or_not (Vhd v) (Vhd u))
-  images_ended (Raw v) = raw_image v (rows t (Raw v)) refl
-  images_ended Mgt = refl
-  images_ended (Old v) = refl
-  images_ended (Clone x y z) = refl
-  images_ended (Inflate x y) = refl
-  images_ended (Coalesce x y) = refl
-  images_ended (Relink x y) = refl
-  images_ended (Leaf x y) = refl
-
-  -- ---- and each disk
-
-  recorded : (v : List ℕ) → record_of now v ≡ record_of was v
-  recorded v =
-      record_of_first now v
-      ∙ ap first_of (records_same was now v (λ k below. ap reading (other_sector Mgt (λ same. (let x = same in cc)) (λ same. (let x = same in cc)) k (omega (arith, below, mgt_long s t m h.orderly)))))
-      ∙ sym (record_of_first was v)
-
-  visible_same : (n : Name) → is_visible (ended s t m u es row h) n ≡ is_visible t n
-  visible_same n = ⊎_elim
-      (λ same. ap (λ x. of_row (λ r. not r.hidden && not r.fresh) (rows (ended s t m u es row h) x)) same ∙ ap (of_row (λ r. not r.hidden && not r.fresh)) (ended_own s t m u es row h)
-      ∙ sym (ap (of_row (λ r. not r.hidden && not r.fresh)) (own s t m u es row h).there) ∙ sym (ap (λ x. of_row (λ r. not r.hidden && not r.fresh) (rows t x)) same))
-      (λ other. ap (of_row (λ r. not r.hidden && not r.fresh)) (ended_other s t m u es row h n other)) (named_or_not n (Vhd u))
-
-  stands_same : (v : List ℕ) → standing_volume (ended s t m u es row h) v ≡ standing_volume t v
-  stands_same v =
-      plainly_stands s (ended s t m u es row h) (after s t m u es row h) v (orderly_ended s t m u es row h)
-      ∙ ap₂ (λ (a b : Bool). cond a (Some (Vhd v)) (cond b (Some (Raw v)) None)) (visible_same (Vhd v)) (visible_same (Raw v))
-      ∙ sym (plainly_stands s t m v h.orderly)
+  images_ended = images_turned s t (ended s t m u es row h) m (after s t m u es row h) old last u h.orderly (orderly_ended s t m u es row h) turned_to other_there own_image
 
   pub disks_ended : disks now ≡ disks was
-  unfolding disk_at
-  disks_ended = disks_same was now (λ v.
-      ap (λ (y : Option Name). y >>= (λ n. record_of now v >>= (λ q. Some (disk_in now v q n)))) (stands_same v)
-      ∙ ap (λ (y : Option Record). standing_volume t v >>= (λ n. y >>= (λ q. Some (disk_in now v q n)))) (recorded v)
-      ∙ ap (λ (f : Name → List (List ℕ)). standing_volume t v >>= (λ n. record_of was v >>= (λ q. Some (record { uuid = v; label = q.label; origin = q.origin; read_only = q.read_only; sectors = f n })))) (fun_ext (sectors_same was now images_ended)))
+  disks_ended = disks_turned s t (ended s t m u es row h) m (after s t m u es row h) old last u h.orderly (orderly_ended s t m u es row h) turned_to other_there own_image
 
   -- ---- memory is ready
 

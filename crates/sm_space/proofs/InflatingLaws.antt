@@ -59,7 +59,7 @@ pub record GrowsIn {S : Type 0} (g : Ghosts S) (a : S) (m : Memory) (u es : List
   pub usable : g.failed a ≡ false
 
 -- a fact of a VHD image's volume, told by its name
-at_name : (b : Body) (n : Name) (P : Head → List (Option ℕ) → Held → Held → Type 0) (f k : Name → Held) → volume_name b ≡ n → IfVhd b (λ head m. P head m (f head.volume) (k head.volume)) → IfVhd b (λ head m. P head m (f n) (k n))
+pub at_name : (b : Body) (n : Name) (P : Head → List (Option ℕ) → Held → Held → Type 0) (f k : Name → Held) → volume_name b ≡ n → IfVhd b (λ head m. P head m (f head.volume) (k head.volume)) → IfVhd b (λ head m. P head m (f n) (k n))
 at_name (body.Raw volume size) n P f k is had = tt
 at_name (body.Vhd head m) n P f k is had = subst (λ x. P head m (f x) (k x)) is had
 

@@ -1,9 +1,16 @@
 pub mod TableLaws
 pub mod SizedLaws
+pub mod OwnLaws
 pub mod OrderlyLaws
+pub mod CutLaws
+pub mod UnchangedLaws
 pub mod MomentLaws
+pub mod TurnedLaws
 pub mod EndLaws
+pub mod FooterLaws
 pub mod InflatingLaws
 pub mod TrueLaws
+pub mod DeflatingLaws
+pub mod LooseLaws
 pub mod ResizeLaws
 pub mod ResizedLaws

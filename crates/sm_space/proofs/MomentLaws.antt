@@ -30,7 +30,8 @@ use Rattle.sm_standing.proofs.EnlargedLaws.{enlarging_disks, enlarging_kept}
 use Rattle.sm_ready.proofs.KeptLaws.{law_kept}
 use Rattle.sm_ready.proofs.LeftLaws.{IsLeft, extent_some, left_in, left_now, mgt_long, now_sector, ready_places}
 use Rattle.sm_ready.proofs.Orders.{geometry_of, none_making}
-use Rattle.sm_space.proofs.OrderlyLaws.{IsToGrow, larger, larger_own, larger_size, larger_table, named_or_not, no_entry, noted, noted_table, own, own_size}
+use Rattle.sm_space.proofs.OrderlyLaws.{IsToGrow, larger, larger_own, larger_size, larger_table, no_entry, noted, noted_table, own, own_size}
+use Rattle.sm_space.proofs.OwnLaws.{named_or_not}
 use Rattle.sm_space.proofs.TableLaws.{entry_grown, entry_put}
 
 module _ (s : Site) (t : VolumeTable) (m : Known) (u es : List ℕ) (row : TreeRow) (h : IsToGrow s t m u es row) (old : Held) (ready : IsReady s t old m) where

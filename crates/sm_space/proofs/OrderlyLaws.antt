@@ -1,12 +1,10 @@
 -- What the three commits ask of the table, and what holds of table and memory behind them.
-use Rattle.std.proofs.Common.{◌≡◌, ◌≢◌, ◌⊎◌, inl, inr, ⊎_elim, ℕ, ◌+◌, ◌*◌, ◌^◌, ◌<◌, ◌≤◌, max, Bool, true, false, List, [], length, map, filter, Option, Some, None, refl, sym, ap, ap₂, ◌∙◌, subst, arith}
+use Rattle.std.proofs.Common.{◌≡◌, ◌≢◌, ⊎_elim, ℕ, ◌+◌, ◌*◌, ◌^◌, ◌<◌, ◌≤◌, max, Bool, true, false, List, [], length, map, filter, Option, Some, None, refl, sym, ap, ap₂, ◌∙◌, subst, arith}
 use Rattle.std.specs.List.{AllByRecursion, IsDistinct}
-use Rattle.std.proofs.Math.Logic.{∥∥₁_elim, ∥∥₁_map}
+use Rattle.std.proofs.Math.Logic.{∥∥₁_map}
 use Rattle.std.proofs.Math.Nat.{mul-le-mul_right}
-use Rattle.std.proofs.Props.{props}
 use Rattle.std.proofs.lemmas.Bool.{true≢false}
 use Rattle.std.proofs.lemmas.List.{length-append}
-use Rattle.std.proofs.lemmas.Option.{same_Some}
 use Rattle.sm_base.specs.Kinds.{is_image, is_entry}
 use Rattle.sm_base.specs.Names.{IsName, IsUuid}
 use Rattle.sm_base.specs.declared.names.Name.{Name}
@@ -14,14 +12,14 @@ use Rattle.sm_base.specs.declared.names.Name.TheVariants.{Mgt, Vhd, Inflate}
 use Rattle.sm_base.specs.declared.operations.Op.{Op}
 use Rattle.sm_base.specs.declared.operations.Op.TheVariants as op
 use Rattle.sm_base.specs.declared.sizes.Geometry.{Geometry}
-use Rattle.vg_meta.specs.Tables.{Row, VolumeTable, IsTable, IsVolume, extents_of, is_one_of, name_eq, names_of, row_of, rows, free as free_of}
+use Rattle.vg_meta.specs.Tables.{Row, VolumeTable, IsTable, extents_of, is_one_of, names_of, row_of, rows, free as free_of}
 use Rattle.vg_meta.specs.Changes.{AreFree, Permits, applied, grown, made, with_row}
 use Rattle.vg_meta.specs.declared.changes.Change.TheVariants.{Create, Grow, Remove}
 use Rattle.vg_meta.specs.Text.{text}
 use Rattle.vg_meta.proofs.ChangeLaws.{IsTable-applied}
 use Rattle.vg_meta.proofs.DecodeLaws.{used-le}
-use Rattle.vg_meta.proofs.NameLaws.{name_eq-true, name_eq-false}
-use Rattle.vg_meta.proofs.RowLaws.{All-row_of, names_of-with_row, row_of-put_other, row_of-put_same, row_of-with_row_other, row_of-with_row_same}
+use Rattle.vg_meta.proofs.NameLaws.{name_eq-true}
+use Rattle.vg_meta.proofs.RowLaws.{names_of-with_row, row_of-put_other, row_of-put_same, row_of-with_row_other, row_of-with_row_same}
 use Rattle.vg_volumes.specs.Sites.{Site, Fits, size_of, text_limit}
 use Rattle.vg_volumes.specs.Volumes.{span}
 use Rattle.vhd_image.specs.Bodies.{StandsIn}
@@ -47,10 +45,11 @@ use Rattle.sm_ready.specs.Orderly.{IsOrderly, IsRoomyFor, IsRoomyIn}
 use Rattle.sm_ready.specs.Ready.{IsTidy}
 use Rattle.sm_ready.proofs.FitLaws.{fits_entries}
 use Rattle.sm_ready.proofs.FreshLaws.{raised_well, refs_raised}
-use Rattle.sm_ready.proofs.Orders.{In-tree_row, filled_face, none_making, rowed}
-use Rattle.sm_ready.proofs.RowLaws.{HasVolume, tree_found, volume_there}
+use Rattle.sm_ready.proofs.Orders.{filled_face, none_making}
 use Rattle.sm_ready.proofs.SumLaws.{free_counted}
 use Rattle.sm_space.specs.Inflating.{inflated, with_extents}
+use Rattle.sm_space.proofs.OwnLaws as owned
+use Rattle.sm_space.proofs.OwnLaws.{IsOwn, named_or_not}
 use Rattle.sm_space.proofs.SizedLaws.{In-turned, IsTurned, images_turned, places_turned, shown_turned, sized, turned_other, turned_same}
 use Rattle.sm_space.proofs.TableLaws.{In-with_row, changed_between, counted, extents_put, named_put}
 
@@ -62,22 +61,6 @@ pub record IsToGrow (s : Site) (t : VolumeTable) (m : Known) (u es : List ℕ) (
   pub extents_free : AreFree s.count t.volumes es
   pub some_extents : 0 < length es
   pub enough : length es ≤ length (free_of s.count t)
-
--- memory, once its volume has so many
-pub record IsOwn (t : VolumeTable) (u : List ℕ) (row : TreeRow) : Type 0 where
-  pub volume : Row
-  pub there : rows t (Vhd u) ≡ Some volume
-  pub filled : volume.fresh ≡ false
-  pub hidden : row.hidden ≡ volume.hidden
-  pub long : row.extents ≡ length volume.extents
-
--- a name is that of the image, or another
-pub named_or_not : (n x : Name) → (n ≡ x) ⊎ (n ≢ x)
-named_or_not n x = by (name_eq n x) refl
-  where
-    by : (b : Bool) → name_eq n x ≡ b → (n ≡ x) ⊎ (n ≢ x)
-    by true e = inl (name_eq-true n x e)
-    by false e = inr (name_eq-false n x e)
 
 -- an image stands in more sectors too
 stands_more : (g : Geometry) (n k : ℕ) (b : Body) → n ≤ k → StandsIn g n b → StandsIn g k b
@@ -92,10 +75,10 @@ stands_more g n k (body.Vhd head slots) more stands = record {
   room = omega (arith, more, stands.room);
 }
 
--- ---- a parent of a copy has no less room
+-- ---- one image gets other extents
 
-module _ (u : List ℕ) (to : ℕ) (σ : Shape) (more : (y : ImageRow) → In y σ.images → is_image_in (Vhd u) y ≡ true → y.extents ≤ to) where
-  abbrev turned_row : ImageRow → ImageRow
+module _ (u : List ℕ) (to : ℕ) (σ : Shape) where
+  abbrev pub turned_row : ImageRow → ImageRow
   turned_row y = when (is_image_in (Vhd u) y) (λ i. record i { extents = to }) y
 
   seen_alike : IsSeenAlike turned_row
@@ -108,9 +91,13 @@ module _ (u : List ℕ) (to : ℕ) (σ : Shape) (more : (y : ImageRow) → In y 
           of true = same y
           of false = refl
 
-  pub refs_inflated : (n : Name) → refs n (inflated u to σ) ≡ refs n σ
-  refs_inflated n = refs_raised (record σ { images = map turned_row σ.images }) (risen σ.sequence 3) n ∙ changed_uses σ turned_row n seen_alike
+  -- each is used as often, whatever the sequence number
+  pub refs_turned : (k : ℕ) (n : Name) → refs n (record σ { sequence = k; images = on_image (Vhd u) (λ i. record i { extents = to }) σ.images }) ≡ refs n σ
+  refs_turned k n = refs_raised (record σ { images = map turned_row σ.images }) k n ∙ changed_uses σ turned_row n seen_alike
 
+-- ---- a parent of a copy has no less room
+
+module _ (u : List ℕ) (to : ℕ) (σ : Shape) (more : (y : ImageRow) → In y σ.images → is_image_in (Vhd u) y ≡ true → y.extents ≤ to) where
   record WasRow (x : ImageRow) : Type 0 where
     row : ImageRow
     there : In row σ.images
@@ -119,7 +106,7 @@ module _ (u : List ℕ) (to : ℕ) (σ : Shape) (more : (y : ImageRow) → In y 
     extents : row.extents ≤ x.extents
 
   was_row : (x : ImageRow) → In x (inflated u to σ).images → WasRow x
-  was_row x i = let w = In-map turned_row σ.images x i in by w.0 w.1 (is_image_in (Vhd u) w.0) refl w.2
+  was_row x i = let w = In-map (turned_row u to σ) σ.images x i in by w.0 w.1 (is_image_in (Vhd u) w.0) refl w.2
     where
       by : (y : ImageRow) → In y σ.images → (b : Bool) → is_image_in (Vhd u) y ≡ b → x ≡ when b (λ i. record i { extents = to }) y → WasRow x
       by y there true own is = record { row = y; there = there; name = ap (λ (z : ImageRow). z.name) is; slots = ap (λ (z : ImageRow). z.slots) is; extents = omega (arith, more y there own, ap (λ (z : ImageRow). z.extents) is) }
@@ -166,23 +153,10 @@ module _ (s : Site) (t : VolumeTable) (m : Known) (u es : List ℕ) (row : TreeR
   after = record m { rows = with_extents (Vhd u) to m.rows }
 
   in_rows : In row m.rows × (row_name row ≡ Vhd u)
-  in_rows = In-tree_row m.rows (Vhd u) row h.found
+  in_rows = owned.in_rows s t m u row h.orderly h.found
 
   pub own : IsOwn t u row
-  own = of (volume_there s t m row h.orderly (ap is_image in_rows.1) (ap (tree_row m.rows) in_rows.1 ∙ h.found))
-    where
-      of : HasVolume t (row_name row) → IsOwn t u row
-      of v =
-          let there = ap (rows t) (sym in_rows.1) ∙ v.there in
-          let w = rowed s t m (Vhd u) v.row h.orderly refl there v.filled in
-          let same : w.row ≡ row = same_Some w.row row (sym w.found ∙ h.found) in
-          record { volume = v.row; there = there; filled = v.filled; hidden = ap (λ (r : TreeRow). r.hidden) (sym same) ∙ w.hidden; long = ap (λ (r : TreeRow). r.extents) (sym same) ∙ w.long }
-
-  proper : IsVolume own.volume
-  proper = All-row_of IsVolume t.volumes (Vhd u) own.volume h.orderly.table.volumes.each own.there
-
-  named : own.volume.name ≡ Vhd u
-  named = name_eq-true own.volume.name (Vhd u) (row_of-In t.volumes (Vhd u) own.volume own.there).1
+  own = owned.own s t m u row h.orderly h.found
 
   pub no_entry : rows t entry ≡ None
   no_entry = by (rows t entry) refl
@@ -198,7 +172,7 @@ module _ (s : Site) (t : VolumeTable) (m : Known) (u es : List ℕ) (row : TreeR
 
   uuid : IsUuid u
   unfolding IsName
-  uuid = subst IsName named proper.name
+  uuid = subst IsName (owned.named s t m u row h.orderly h.found) (owned.proper s t m u row h.orderly h.found).name
 
   few : row.extents < 2 ^ 32
   few =
@@ -207,8 +181,7 @@ module _ (s : Site) (t : VolumeTable) (m : Known) (u es : List ℕ) (row : TreeR
       omega (arith, own.long, is, part, used-le s.count t.volumes h.orderly.table.volumes, h.orderly.few_extents)
 
   pub some : 0 < row.extents
-  unfolding shape_in
-  some = ∥∥₁_elim h.orderly.well_formed (hlevel props) (λ w. (w.images (machine_row row) (In-map_at machine_row m.rows row in_rows.0)).volume)
+  some = owned.some s t m u row h.orderly h.found
 
   pub may_note : Permits s.count t (Create entry false [])
   unfolding IsName IsDistinct
@@ -256,7 +229,7 @@ module _ (s : Site) (t : VolumeTable) (m : Known) (u es : List ℕ) (row : TreeR
 
   -- the sectors of the volume
   pub own_size : size_of s t (Vhd u) ≡ row.extents * s.geometry.extent
-  own_size = ap (λ o. span s.geometry.extent (extents_of o)) own.there ∙ ap (λ n. n * s.geometry.extent) (sym own.long)
+  own_size = owned.own_size s t m u row h.orderly h.found
 
   pub larger_size : size_of s larger (Vhd u) ≡ to * s.geometry.extent
   larger_size = ap (λ o. span s.geometry.extent (extents_of o)) larger_own ∙ ap (λ n. n * s.geometry.extent) (length-append own.volume.extents es ∙ ap (λ n. n + length es) (sym own.long))
@@ -323,8 +296,7 @@ module _ (s : Site) (t : VolumeTable) (m : Known) (u es : List ℕ) (row : TreeR
 
   -- no other row of memory has the name
   pub only : (x : TreeRow) → In x m.rows → row_name x ≡ Vhd u → x ≡ row
-  unfolding shape_in
-  only x i is = ∥∥₁_elim h.orderly.well_formed (hlevel props) (λ w. same_Some x row (sym (tree_found m.rows x w.one_image i) ∙ ap (tree_row m.rows) is ∙ h.found))
+  only = owned.only s t m u row h.orderly h.found
 
   no_more : (x : TreeRow) → In x m.rows → row_name x ≡ Vhd u → x.extents ≤ to
   no_more x i is = omega (arith, ap (λ (r : TreeRow). r.extents) (only x i is))
@@ -375,7 +347,7 @@ module _ (s : Site) (t : VolumeTable) (m : Known) (u es : List ℕ) (row : TreeR
     stands = λ r i. stands_in r (In-turned (Vhd u) to m.rows r i);
     well_formed = well;
     roomy = subst (λ (σ : Shape). IsRoomyIn σ m.op) (sym ended_shape) (roomy_inflated u to (shape_in s t m) none_larger m.op h.orderly.roomy);
-    counts = λ n. h.orderly.counts n ∙ sym (refs_inflated u to (shape_in s t m) none_larger n) ∙ sym (ap (refs n) ended_shape);
+    counts = λ n. h.orderly.counts n ∙ sym (refs_turned u to (shape_in s t m) (risen t.sequence 3) n) ∙ sym (ap (refs n) ended_shape);
   }
     where
       face : row_face (Some (grown es own.volume)) ≡ tree_face (Some (sized to row))

@@ -59,8 +59,13 @@ module _ (g : Geometry) (n : ℕ) (head : Head) (m : List (Option ℕ)) (ok : Is
         within = λ v allows. was.within v (before v allows);
       }
 
+-- so one of either kind
+pub body_front : (g : Geometry) (n : ℕ) (b : Body) {x y : Held} → IsGeometry g.extent g.block g.entries → KeepsAt (λ p. p < n) x y → TrueIn g n x b → TrueIn g n y b
+body_front g n (body.Raw volume size) ok keeps was = tt
+body_front g n (body.Vhd head m) ok keeps was = true_front g n head m ok keeps was
+
 -- and in so many sectors where it ends there now, once all is settled
-body_ended : (g : Geometry) (n k : ℕ) (b : Body) {x y z w : Held} → IsGeometry g.extent g.block g.entries → KeepsAt (λ p. p < n) x y → IfVhd b (λ head m. EndsAt g k head m y z)
+pub body_ended : (g : Geometry) (n k : ℕ) (b : Body) {x y z w : Held} → IsGeometry g.extent g.block g.entries → KeepsAt (λ p. p < n) x y → IfVhd b (λ head m. EndsAt g k head m y z)
     → Keeps z w → IsSettled w → TrueIn g n x b → TrueIn g k w b
 body_ended g n k (body.Raw volume size) ok keeps ends kept settled was = tt
 body_ended g n k (body.Vhd head m) {w = w} ok keeps ends kept settled was =

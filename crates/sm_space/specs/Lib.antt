@@ -1,1 +1,2 @@
+pub mod Deflating
 pub mod Inflating

@@ -96,7 +96,12 @@ fn grow<S: Store>(store: &mut S, growth: Change) -> Result<(), Failed>
 }
 
 /// Writes the footer of an image into the last sector of the first so many extents of its volume.
-fn end_image<S: Store>(store: &mut S, tree: &Tree, name: &Name, to: u32) -> Result<(), Failed>
+pub(crate) fn end_image<S: Store>(
+    store: &mut S,
+    tree: &Tree,
+    name: &Name,
+    to: u32,
+) -> Result<(), Failed>
     requires image { CanEnd S.Store store.old tree.now.rows name.now to }
     ensures works { WorksOn S.Store name.now store.old store.new }
     ensures cause { Counts S.Store result store.old store.new }
@@ -113,7 +118,7 @@ fn end_image<S: Store>(store: &mut S, tree: &Tree, name: &Name, to: u32) -> Resu
 }
 
 /// Notes in memory how many extents the volume of an image has.
-fn set_extents(memory: &mut Memory, name: &Name, to: u32)
+pub(crate) fn set_extents(memory: &mut Memory, name: &Name, to: u32)
     requires there { IsSome (tree_row memory.old.tree.rows name.now) }
     ensures rows { memory.new.tree.rows ≡ with_extents name.now to memory.old.tree.rows }
     ensures spare { memory.new.tree.spare ≡ memory.old.tree.spare }

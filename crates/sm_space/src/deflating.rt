@@ -1,0 +1,87 @@
+//! The volume of a VHD image is cut to its first extents.
+//!
+//! Behind its last slot in use an image has free sectors, as far as its footer, which is its last. So the footer is written
+//! first where the image is to end: no slot lies there, and the image reads as before. The commit that cuts the volume makes
+//! that footer last before it lets the image end there. No journal entry is needed: at each moment a footer stands at the end
+//! that the table gives.
+
+ghost use Rattle.std.specs.Prelude.{◌≡◌, ◌≤◌, false, OnErr, OnOk};
+ghost use Rattle.std.specs.declared.result.Result.TheVariants.{Ok};
+ghost use Rattle.sm_base.specs.declared.names.Name.TheVariants.{Vhd};
+ghost use Rattle.sm_disk.specs.Held.{Keeps};
+ghost use Rattle.vg_meta.specs.Changes.{applied};
+ghost use Rattle.vg_meta.specs.Roomy.{table_alone};
+ghost use Rattle.vg_meta.specs.declared.changes.Change.TheVariants.{Cut};
+ghost use Rattle.vg_volumes.specs.Stored.{stored, Counts, Leaves, IsEitherOf, CanCommit, Commits, FailsToCommit};
+ghost use Rattle.sm_standing.specs.Standing.{disks};
+ghost use Rattle.sm_ready.specs.Does.{store_shape};
+ghost use Rattle.sm_ready.specs.Done.{HasDone};
+ghost use Rattle.sm_ready.specs.Frames.{HasCommits, HasTrueImages};
+ghost use Rattle.sm_ready.specs.Known.{known};
+ghost use Rattle.sm_ready.specs.Sessions.{IsOrderlyStore, IsReadyStore, IsTidyStore, HasRows, HasTreeRoom};
+ghost use Rattle.sm_ready.specs.Stores.{StoreLeaves, store_content};
+ghost use Rattle.sm_space.specs.Deflating.{CanDeflate, deflated};
+
+use crate::inflating::{end_image, set_extents};
+use sm_base::{Failed, Name};
+use sm_ready::Memory;
+use uuid::Uuid;
+use vg_meta::Change;
+use vg_volumes::Store;
+
+/// Cuts the volume of the VHD image of this UUID, visible or hidden, to its first so many extents, in which its slots have
+/// room. The image is the same. It takes no memory.
+///
+/// # Errors
+///
+/// A call of the store failed; a stop leaves the disks from before.
+pub fn deflate<S: Store>(
+    store: &mut S,
+    memory: &mut Memory,
+    disk: &Uuid,
+    to: u32,
+) -> Result<(), Failed>
+    requires usable { S.failed store.old ≡ false }
+    requires orderly { IsOrderlyStore S.Store store.old memory.old }
+    requires tidy { IsTidyStore S.Store store.old memory.old }
+    requires true_now { HasTrueImages S.Store store.old memory.old }
+    requires there { CanDeflate (store_shape S.Store store.old memory.old) (Vhd disk.now) to }
+    ensures site { S.site store.new ≡ S.site store.old }
+    ensures counts { S.faults store.old ≤ S.faults store.new }
+    ensures cause { Counts S.Store result store.old store.new }
+    ensures beside { S.told → Keeps (S.beside store.old) (S.beside store.new) }
+    ensures few { HasCommits 1 (table_alone (S.table store.old)) (table_alone (S.table store.new)) }
+    ensures few_left { Leaves S.Store store.new (λ t image. HasCommits 1 (table_alone (S.table store.old)) t) }
+    ensures usable_still { OnOk result (S.failed store.new ≡ false) }
+    ensures others { (memory.new.records ≡ memory.old.records) × (memory.new.attached ≡ memory.old.attached) × (memory.new.operation ≡ memory.old.operation) }
+    ensures room { HasRows (S.table store.old) → OnOk result (HasRows (S.table store.new)) }
+    ensures tree_room { HasTreeRoom memory.old → HasTreeRoom memory.new }
+    ensures orderly_still { OnOk result (IsOrderlyStore S.Store store.new memory.new) }
+    ensures tidy_still { OnOk result (IsTidyStore S.Store store.new memory.new) }
+    ensures true_still { OnOk result (HasTrueImages S.Store store.new memory.new) }
+    ensures shape { OnOk result (store_shape S.Store store.new memory.new ≡ deflated (Vhd disk.now) to (store_shape S.Store store.old memory.old)) }
+    ensures cut { OnOk result (table_alone (S.table store.new) ≡ applied (table_alone (S.table store.old)) (Cut (Vhd disk.now) to)) }
+    ensures done { S.told → IsReadyStore S.Store store.old memory.old
+        → HasDone (S.site store.old) (table_alone (S.table store.old)) (table_alone (S.table store.new)) (S.area store.old) (S.area store.new) (known memory.new)
+        (StoreLeaves S.Store store.old) (StoreLeaves S.Store store.new) (result ≡ Ok tt) (disks (store_content S.Store store.old)) }
+{
+    let name = Name::Vhd(*disk);
+    end_image(store, &memory.tree, &name, to)?;
+    cut(store, &name, to)?;
+    set_extents(memory, &name, to);
+    Ok(())
+}
+
+/// Cuts the volume to its first extents, by one commit.
+fn cut<S: Store>(store: &mut S, name: &Name, to: u32) -> Result<(), Failed>
+    requires { CanCommit S.Store (Cut name.now to) store.old }
+    ensures commits { OnOk result (Commits S.Store (Cut name.now to) store.old store.new) }
+    ensures fails { OnErr result (FailsToCommit S.Store store.old store.new) }
+    ensures crash { Leaves S.Store store.new (IsEitherOf (stored S.Store store.old) (Cut name.now to)) }
+{
+    store.commit(Change::Cut {
+        name: *name,
+        keep: to,
+    })?;
+    Ok(())
+}
