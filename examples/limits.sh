@@ -1,8 +1,9 @@
 #!/bin/sh
 # A test of the limits, on real files, each run under a limit on memory of 64 MiB: 500 disks made in one run, and one more,
 # which is refused; 20,000 accepted lines in one run over three disks; 500 VHD disks made and all attached; 20,000 writes, fills
-# and reads of one disk; and a fill over a whole disk of 8,192 blocks. Prints each reply once, at most 24 characters of it, with
-# how often it came.
+# and reads of one disk; a fill over a whole disk of 8,192 blocks; a chain of 30 images that is read 200 times, and one more, which
+# is refused; and clones until 500 images stand, and one more. Prints each reply once, at most 24 characters of it, with how often
+# it came.
 set -e
 root=$(cd "$(dirname "$0")/.." && pwd)
 program="$root/crates/lvhd/out/lvhd"
@@ -76,3 +77,23 @@ truncate -s 48M "$work/whole.img"
     echo "read $disk 65535 1"
 } >"$work/script"
 counted "$work/whole.img" "$work/script"
+# A chain of 30 images, and one more, which is refused; it is read 200 times.
+truncate -s 4M "$work/chain.img"
+"$program" "$work/chain.img" format 16384 4096 64 "$repository"
+awk -v disk="$disk" 'BEGIN {
+    print "create " disk " 4096 vhd guest"
+    for (i = 1; i <= 30; i++) printf "snapshot %s 22222222-2222-4222-8222-%012d\n", disk, i
+    print "attach " disk " ro"
+    for (i = 0; i < 200; i++) print "read " disk " " i % 8 " 1"
+}' >"$work/script"
+counted "$work/chain.img" "$work/script"
+# Clones of clones, each disk cloned twice at most, until 499 images stand; one more, whose two images would be too
+# many; a disk, whose image is the last; and one more.
+truncate -s 16M "$work/clones.img"
+"$program" "$work/clones.img" format 16384 4096 64 "$repository"
+awk 'BEGIN {
+    printf "create 11111111-1111-4111-8111-%012d 4096 vhd guest\n", 0
+    for (i = 1; i <= 250; i++) printf "clone 11111111-1111-4111-8111-%012d 11111111-1111-4111-8111-%012d\n", (i - 1) / 2, i
+    for (i = 251; i <= 252; i++) printf "create 11111111-1111-4111-8111-%012d 16384 raw guest\n", i
+}' >"$work/script"
+counted "$work/clones.img" "$work/script"

@@ -3,7 +3,7 @@
 use sm_base::{Failed, Label, Mode, Name, Op, Plan, Refusal};
 use sm_disk::MemSink;
 use sm_script::{
-    Bytes, Command, DiskRow, DiskRows, Line, LineFault, Print, Reply, StatRow, StatRows,
+    Bytes, Command, DiskRow, DiskRows, Line, LineBytes, Print, Reading, Reply, StatRow, StatRows,
 };
 use std::alloc::{AllocError, Global};
 use std::process::Abort;
@@ -97,14 +97,14 @@ fn says(command: &Command, word: &str, disk: Uuid, numbers: [u64; 3], text: &[u8
 /// A line is read as a command of this word, this disk, these numbers and this text.
 fn is_read(
     rt: &impl Abort,
-    line: Result<Command, LineFault>,
+    reading: &Reading,
     word: &str,
     disk: Uuid,
     numbers: [u64; 3],
     text: &[u8],
 ) -> Result<(), Fail> {
-    let command = line?;
-    let is_right = says(&command, word, disk, numbers, text);
+    let command = reading.command().ok_or("a command")?;
+    let is_right = says(command, word, disk, numbers, text);
     assert!(rt; is_right, "{word}");
     Ok(())
 }
@@ -119,8 +119,8 @@ fn reads(
     text: &[u8],
 ) -> Result<(), Fail> {
     let line = line_of(alloc, word, rest)?;
-    let command = Line::read(alloc, &line);
-    is_read(rt, command, word, first(), numbers, text)
+    let reading = Line::read(&line, Line::room(alloc)?);
+    is_read(rt, &reading, word, first(), numbers, text)
 }
 
 #[test]
@@ -160,14 +160,8 @@ fn reads_alone(
     word: &str,
     disk: Uuid,
 ) -> Result<(), Fail> {
-    is_read(
-        rt,
-        Line::read(alloc, line.as_bytes()),
-        word,
-        disk,
-        [0; 3],
-        b"",
-    )
+    let reading = Line::read(line.as_bytes(), Line::room(alloc)?);
+    is_read(rt, &reading, word, disk, [0; 3], b"")
 }
 
 #[test]
@@ -180,42 +174,65 @@ fn commands_alone(rt: HostRuntime) -> Result<(), Fail> {
     reads_alone(&rt, rt.alloc(), upper, "delete", second())
 }
 
-/// A line of `write` with so many pairs of digits, and more digits behind them.
-fn write_line(alloc: Global, pairs: usize, more: &[u8]) -> Result<Vec<u8>, AllocError> {
+/// A line of `write` with a pair of digits so many times, and more digits behind them.
+fn write_line(
+    alloc: Global,
+    pair: &[u8],
+    times: usize,
+    more: &[u8],
+) -> Result<Vec<u8>, AllocError> {
     let mut line = line_of(alloc, "write", " 9 ")?;
-    for _ in 0..pairs {
-        line.extend_from_slice(b"0F")?;
+    for _ in 0..times {
+        line.extend_from_slice(pair)?;
     }
     line.extend_from_slice(more)?;
     Ok(line)
 }
 
-/// A `write` of so many sectors is read.
-fn reads_sectors(rt: &impl Abort, alloc: Global, sectors: usize) -> Result<(), Fail> {
-    let line = write_line(alloc, sectors.saturating_mul(512), b"")?;
-    let command = Line::read(alloc, &line);
-    let bytes = vec![in alloc; 15; sectors.saturating_mul(512)]?;
-    let first = first();
-    is_read(rt, command, "write", first, [9, 0, 0], &bytes)
+/// A `write` of so many bytes, each of this pair of digits, is read into the room, which is answered again.
+fn reads_write(
+    rt: &impl Abort,
+    alloc: Global,
+    room: LineBytes,
+    pair: &str,
+    byte: u8,
+    count: usize,
+) -> Result<LineBytes, Fail> {
+    let line = write_line(alloc, pair.as_bytes(), count, b"")?;
+    let bytes = vec![in alloc; byte; count]?;
+    let reading = Line::read(&line, room);
+    is_read(rt, &reading, "write", first(), [9, 0, 0], &bytes)?;
+    Ok(reading.into_room())
+}
+
+#[test]
+fn a_room_is_used_again(rt: HostRuntime) -> Result<(), Fail> {
+    let alloc = rt.alloc();
+    let room = Line::room(alloc)?;
+    let capacity = room.bytes.capacity();
+    let room = reads_write(&rt, alloc, room, "0F", 0x0f, 1024)?;
+    let room = reads_write(&rt, alloc, room, "a5", 0xa5, 512)?;
+    let room = Line::read(b"gc", room).into_room();
+    let room = reads_write(&rt, alloc, room, "7e", 0x7e, 63 * 512)?;
+    assert!(rt; room.bytes.capacity() == capacity, "a room");
+    Ok(())
 }
 
 /// A line spells no command.
-fn is_bad(rt: &impl Abort, alloc: Global, line: &[u8], text: &str) {
-    let read = Line::read(alloc, line);
-    assert!(rt; matches!(read, Err(LineFault::BadLine)), "{text}");
+fn is_bad(rt: &impl Abort, alloc: Global, line: &[u8], text: &str) -> Result<(), Fail> {
+    let reading = Line::read(line, Line::room(alloc)?);
+    assert!(rt; reading.command().is_none(), "{text}");
+    Ok(())
 }
 
 /// A `write` of so many pairs of digits and more digits is refused.
 fn refuses_digits(rt: &impl Abort, alloc: Global, pairs: usize, more: &str) -> Result<(), Fail> {
-    let line = write_line(alloc, pairs, more.as_bytes())?;
-    is_bad(rt, alloc, &line, more);
-    Ok(())
+    let line = write_line(alloc, b"0F", pairs, more.as_bytes())?;
+    is_bad(rt, alloc, &line, more)
 }
 
 #[test]
-fn writes(rt: HostRuntime) -> Result<(), Fail> {
-    reads_sectors(&rt, rt.alloc(), 1)?;
-    reads_sectors(&rt, rt.alloc(), 63)?;
+fn writes_that_spell_nothing(rt: HostRuntime) -> Result<(), Fail> {
     let rows = [
         (0, ""),
         (511, "0"),
@@ -233,8 +250,7 @@ fn writes(rt: HostRuntime) -> Result<(), Fail> {
 /// A line of the first UUID is refused.
 fn refuses(rt: &impl Abort, alloc: Global, word: &str, rest: &str) -> Result<(), Fail> {
     let line = line_of(alloc, word, rest)?;
-    is_bad(rt, alloc, &line, rest);
-    Ok(())
+    is_bad(rt, alloc, &line, rest)
 }
 
 #[test]
@@ -270,7 +286,7 @@ fn lines_of_a_disk_that_spell_nothing(rt: HostRuntime) -> Result<(), Fail> {
 }
 
 #[test]
-fn lines_that_spell_nothing(rt: HostRuntime) {
+fn lines_that_spell_nothing(rt: HostRuntime) -> Result<(), Fail> {
     let rows = [
         "",
         "gc ",
@@ -286,10 +302,10 @@ fn lines_that_spell_nothing(rt: HostRuntime) {
         "delete 11111111-1111-1111-1111-11111111111g",
     ];
     for line in rows {
-        is_bad(&rt, rt.alloc(), line.as_bytes(), line);
+        is_bad(&rt, rt.alloc(), line.as_bytes(), line)?;
     }
-    is_bad(&rt, rt.alloc(), b"gc\xff", "no text");
-    is_bad(&rt, rt.alloc(), &[b' '; 65536], "spaces");
+    is_bad(&rt, rt.alloc(), b"gc\xff", "no text")?;
+    is_bad(&rt, rt.alloc(), &[b' '; 65536], "spaces")
 }
 
 /// The reply is printed as this text.

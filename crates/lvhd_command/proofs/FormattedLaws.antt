@@ -24,7 +24,7 @@ use Rattle.vg_layout.specs.Opening.{GroupFound, StandsOn, plate_of, text_in}
 use Rattle.vg_layout.proofs.ImageLaws.{plate_area, plate_few, plate_same, pointer_same, stands_from, stands_once, text_front}
 use Rattle.vg_store.specs.Formats.{IsFormatted, new_group}
 use Rattle.vg_volumes.specs.Volumes.{piece, spot}
-use Rattle.sm_standing.specs.Checks.{is_damaged, is_invalid, is_misnamed}
+use Rattle.sm_standing.specs.Checks.{is_damaged, is_invalid, is_misnamed, is_tree_wrong}
 use Rattle.sm_standing.specs.Images.{image_of}
 use Rattle.sm_standing.specs.Outlines.{outline}
 use Rattle.sm_standing.specs.Contents.{Content, row, reading_at, sectors_of}
@@ -97,7 +97,7 @@ new_sound c n some room long free = record {
   few_images = omega arith;
   named = each_alone n (λ r. is_misnamed (new_table n) r ≡ false) refl;
   valid = each_alone n (λ r. is_invalid (outline (emptied c n)) r ≡ false) refl;
-  parentless = λ u i is. absurd (none-some i (sym (no_image c n u) ∙ is));
+  placed = each_alone n (λ r. is_tree_wrong (outline (emptied c n)) r ≡ false) refl;
   right = λ k below. ap is_damaged (free_at c n some room free k below);
   recorded = λ u m is. absurd (none-some m (sym (nowhere n u) ∙ is));
 }

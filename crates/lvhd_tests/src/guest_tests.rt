@@ -2,45 +2,13 @@
 //! what may be left is opened again: a sector has the bytes that were made last, or those that were written behind them.
 
 use crate::fixtures::{Device, Fault, RUN, Run, damaged, failing, make_device, run_into};
+use crate::scripts::Piece::{self, Bytes, Text};
+use crate::scripts::{calls, is_answered, joined, told};
 use lvhd_command::Status;
 use sm_disk::{Disk, MemDisk, MemSink, read_sector};
 use std::alloc::Global;
 use std::test::Fail;
 use test_support::{CHOICES, DEVICE_SECTORS, holds};
-
-/// A piece of a script or of what it is answered: text, or the two hex digits of a byte so many times.
-#[derive(Clone, Copy)]
-enum Piece<'a> {
-    Text(&'a [u8]),
-    Bytes(u8, usize),
-}
-
-use Piece::{Bytes, Text};
-
-/// The digit of a number below 16.
-fn digit(number: u8) -> u8 {
-    match number {
-        0..=9 => b'0' + number,
-        _ => b'a' + (number & 15).saturating_sub(10),
-    }
-}
-
-/// The pieces, one after another.
-fn joined(alloc: Global, pieces: &[Piece]) -> Result<Vec<u8>, Fail> {
-    let mut all = Vec::new(alloc);
-    for piece in pieces {
-        match piece {
-            Text(text) => all.extend_from_slice(text)?,
-            Bytes(byte, times) => {
-                for _time in 0..*times {
-                    all.push(digit(*byte >> 4))?;
-                    all.push(digit(*byte & 15))?;
-                }
-            }
-        }
-    }
-    Ok(all)
-}
 
 /// A VHD disk of 128 sectors is made, filled, written, read, detached, enlarged, and read again for reading alone; then a raw
 /// one of 32.
@@ -124,36 +92,6 @@ const FULL: [Piece<'static>; 1] = [Text(
 const NO_ROOM: [Piece<'static>; 1] = [Text(
     b"ok 262144\nok 262144\nok 262144\nok\nok\nno NoSpace need 18 free 9\nok\n",
 )];
-
-/// A run of a script on a device that is done: what it printed, and the device that is left.
-fn told(alloc: Global, disk: MemDisk, pieces: &[Piece]) -> Result<(Vec<u8>, MemDisk), Fail> {
-    let script = joined(alloc, pieces)?;
-    let run = Run {
-        words: RUN,
-        script: &script,
-        fault: Fault::Nothing,
-        status: Status::Done,
-        printed: b"",
-    };
-    let mut sink = MemSink::new(alloc, None)?;
-    let (status, after) = run_into(alloc, disk, &run, &mut sink)?;
-    holds(status == run.status, "a run that is done")?;
-    let mut printed = Vec::new(alloc);
-    printed.extend_from_slice(sink.bytes())?;
-    Ok((printed, after))
-}
-
-/// Whether a script is answered so on a device.
-fn is_answered(
-    alloc: Global,
-    new: &MemDisk,
-    script: &[Piece],
-    printed: &[Piece],
-) -> Result<bool, Fail> {
-    let (replies, _after) = told(alloc, new.left(alloc, &[])?, script)?;
-    let expected = joined(alloc, printed)?;
-    Ok(replies[..] == expected[..])
-}
 
 fn all_answered(alloc: Global, new: &MemDisk) -> Result<(), Fail> {
     let is_right = is_answered(alloc, new, &GUESTS, &ANSWERS)?;
@@ -312,8 +250,9 @@ const WRITTEN: [Piece<'static>; 3] = [
 type Cost<'a> = (&'a [Piece<'a>], u64);
 
 /// A list and a refused line make none, an overwrite of held sectors one read of the block's bitmap and one write, a flush one
-/// sync, and a read of held sectors one of the bitmap and one of the bytes.
-const COSTS: [Cost<'static>; 5] = [
+/// sync, and a read of held sectors one of the bitmap and one of the bytes. The first write into a block makes four: its bitmap and
+/// bytes are written, all is made last, and the sector of the table that names the block is read and written.
+const COSTS: [Cost<'static>; 6] = [
     (&[Text(b"list\n")], 0),
     (
         &[Text(b"read 11111111-1111-4111-8111-111111111111 128 1\n")],
@@ -327,32 +266,20 @@ const COSTS: [Cost<'static>; 5] = [
         ],
         2,
     ),
+    (
+        &[
+            Text(b"write 11111111-1111-4111-8111-111111111111 16 "),
+            Bytes(0xcc, 512),
+            Text(b"\n"),
+        ],
+        4,
+    ),
     (&[Text(b"flush 11111111-1111-4111-8111-111111111111\n")], 1),
     (
         &[Text(b"read 11111111-1111-4111-8111-111111111111 9 1\n")],
         2,
     ),
 ];
-
-/// How many calls of the device a run of a script makes: the first call whose failure is not met.
-fn calls(alloc: Global, new: &MemDisk, script: &[u8]) -> Result<u64, Fail> {
-    for call in 0..1000 {
-        let run = Run {
-            words: RUN,
-            script,
-            fault: Fault::Call(call),
-            status: Status::Done,
-            printed: b"",
-        };
-        let disk = failing(alloc, new, run.fault)?;
-        let mut sink = MemSink::new(alloc, None)?;
-        let (status, _after) = run_into(alloc, disk, &run, &mut sink)?;
-        if status == Status::Done {
-            return Ok(call);
-        }
-    }
-    Err(Fail::from("a run that ends"))
-}
 
 /// Whether a line behind the others makes so many calls.
 fn costs(alloc: Global, new: &MemDisk, before: u64, cost: &Cost) -> Result<bool, Fail> {
@@ -375,6 +302,25 @@ fn all_cost(alloc: Global, new: &MemDisk) -> Result<(), Fail> {
 fn lines_of_guests_cost_few_calls(rt: HostRuntime) -> Result<(), Fail> {
     let new = make_device(rt.alloc(), Device::New(DEVICE_SECTORS))?;
     all_cost(rt.alloc(), &new)
+}
+
+/// Three VHD disks, of which one is attached.
+const THREE: [Piece<'static>; 1] = [Text(
+    b"create 11111111-1111-4111-8111-111111111111 65536 vhd x\ncreate 22222222-2222-4222-8222-222222222222 4096 vhd y\ncreate 33333333-3333-4333-8333-333333333333 65536 vhd z\nattach 33333333-3333-4333-8333-333333333333 rw\n",
+)];
+
+/// An opening reads the label, the header, the text and the records, and of each image the footer, the two sectors of the header
+/// and the table, each once.
+fn reads_each_once(alloc: Global, new: &MemDisk) -> Result<(), Fail> {
+    let (_made, disk) = told(alloc, new.left(alloc, &[])?, &THREE)?;
+    let (_replies, after) = told(alloc, disk.left(alloc, &[])?, &[])?;
+    holds(after.reads() == 4 + 3 * 4, "the reads of an opening")
+}
+
+#[test]
+fn an_opening_reads_each_image_once(rt: HostRuntime) -> Result<(), Fail> {
+    let new = make_device(rt.alloc(), Device::New(DEVICE_SECTORS))?;
+    reads_each_once(rt.alloc(), &new)
 }
 
 /// Blocks 7 and 8 of a disk of 64 blocks get slots 0 and 1.

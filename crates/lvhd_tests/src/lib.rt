@@ -9,10 +9,14 @@ mod change_tests;
 #[cfg(test)]
 mod fixtures;
 #[cfg(test)]
+mod fork_tests;
+#[cfg(test)]
 mod guest_tests;
 #[cfg(test)]
 mod refused_tests;
 #[cfg(test)]
 mod run_tests;
+#[cfg(test)]
+mod scripts;
 #[cfg(test)]
 mod stop_tests;

@@ -2,7 +2,7 @@
 use Rattle.std.specs.Prelude.{[], ◌∷◌, codes}
 use Rattle.script_examples.specs.Scripts.{Script, line}
 
--- raw disks and a VHD one, labels and ends, and refusals by name, room and size
+-- raw disks, a VHD one and its snapshot, labels and ends, and refusals by name, room and size
 abbrev pub raw_disks : Script
 raw_disks =
     line (codes "list") (codes "ok 0") ∷
@@ -21,5 +21,8 @@ raw_disks =
     line (codes "list") (codes "ok 2 11111111-1111-4111-8111-111111111111,4096,rw,-,w 22222222-2222-4222-8222-222222222222,16384,rw,-,y") ∷
     line (codes "attach 11111111-1111-4111-8111-111111111111 ro") (codes "ok") ∷
     line (codes "delete 11111111-1111-4111-8111-111111111111") (codes "no InUse") ∷
+    line (codes "snapshot 11111111-1111-4111-8111-111111111111 33333333-3333-4333-8333-333333333333") (codes "ok") ∷
+    line (codes "clone 33333333-3333-4333-8333-333333333333 11111111-1111-4111-8111-111111111111") (codes "no NameTaken") ∷
+    line (codes "list") (codes "ok 3 11111111-1111-4111-8111-111111111111,4096,rw,-,w 22222222-2222-4222-8222-222222222222,16384,rw,-,y 33333333-3333-4333-8333-333333333333,4096,ro,11111111-1111-4111-8111-111111111111,w") ∷
     line (codes "gc") (codes "no BadLine") ∷
     []

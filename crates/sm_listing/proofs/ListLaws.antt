@@ -69,7 +69,7 @@ listed_records s t m (Some r ∷ places) o w = by (is_shown m.rows r.uuid) refl 
 
 -- ---- and those are the rows of the disks
 
-told : (k : ℕ) → k ≤ 1044480 * 4096 → byte_size k ≡ k * 512
+pub told : (k : ℕ) → k ≤ 1044480 * 4096 → byte_size k ≡ k * 512
 told k few = min-eq_left (omega (arith, few))
 
 of_disk : (s : Site) (t : VolumeTable) (area : Held) (m : Known) (d : Disk) → IsOrderly s t m → IsReady s t area m → IsWellFormed (shape_in s t m) → In d (disks (content_now s t area))
@@ -82,15 +82,16 @@ of_disk s t area m d o ready w i =
     ∙ ap (λ k. k * 512) (sym h.size) in
     ap (λ (k : ℕ). let x : DiskRow = record { uuid = d.uuid; size = k; read_only = d.read_only; origin = d.origin; label = d.label } in x) size
 
-each_disk : (rows : List TreeRow) (ds : List Disk) → ((d : Disk) → In d ds → row_of rows (disk_record d) ≡ disk_row d) → map (row_of rows) (map disk_record ds) ≡ map disk_row ds
-each_disk rows [] same = refl
-each_disk rows (d ∷ ds) same = ap₂ (λ (x : DiskRow) (xs : List DiskRow). x ∷ xs) (same d (inl refl)) (each_disk rows ds (λ e i. same e (inr i)))
+-- elements that are turned twice, where both come to one turn
+pub turned_twice : {A B C : Type 0} (g : B → C) (h : A → B) (f : A → C) (xs : List A) → ((x : A) → In x xs → g (h x) ≡ f x) → map g (map h xs) ≡ map f xs
+turned_twice g h f [] same = refl
+turned_twice {A} {B} {C} g h f (x ∷ xs) same = ap₂ (λ (y : C) (ys : List C). y ∷ ys) (same x (inl refl)) (turned_twice g h f xs (λ z i. same z (inr i)))
 
 pub listed_now : (s : Site) (t : VolumeTable) (area : Held) (m : Known) → IsOrderly s t m → IsReady s t area m → IsWellFormed (shape_in s t m) → listed m.rows m.places ≡ map disk_row (disks (content_now s t area))
 listed_now s t area m o ready w =
     listed_records s t m m.places o w
     ∙ ap (map (row_of m.rows)) (sym (records_now s t area m o ready w))
-    ∙ each_disk m.rows (disks (content_now s t area)) (λ d i. of_disk s t area m d o ready w i)
+    ∙ turned_twice (row_of m.rows) disk_record disk_row (disks (content_now s t area)) (λ d i. of_disk s t area m d o ready w i)
 
 -- ---- and so the machine answers
 

@@ -17,6 +17,24 @@ impl Model for Bytes {
     ghost view = { λ a. a.bytes.items };
 }
 
+/// Bytes that a line spells, whole sectors, in room for the most that any line may spell: 63 sectors, 32,256 bytes. A
+/// contract sees the list of them.
+#[derive(Drop)]
+pub struct LineBytes {
+    pub bytes: Vec<u8>,
+}
+
+impl Model for LineBytes {
+    ghost use Rattle.std.specs.Prelude.{◌≤◌, List, ℕ};
+    ghost use Rattle.std.specs.Vec.{vec_capacity};
+
+    ghost Value = { List ℕ };
+
+    ghost view = { λ a. a.bytes.items };
+
+    ghost invariant = { λ a. 32256 ≤ vec_capacity a.bytes };
+}
+
 /// One line of a script. Each is one step of the machine. Sizes are in bytes, `sector` and `count` in
 /// sectors.
 #[derive(Drop)]
@@ -65,7 +83,7 @@ pub enum Command {
     Write {
         disk: Uuid,
         sector: u64,
-        bytes: Bytes,
+        bytes: LineBytes,
     },
     /// Write one byte over so many sectors.
     Fill {

@@ -26,5 +26,5 @@ mod commands;
 pub mod laws;
 mod replies;
 
-pub use commands::{Bytes, Command};
+pub use commands::{Bytes, Command, LineBytes};
 pub use replies::{DiskRow, DiskRows, Reply, StatRow, StatRows};

@@ -67,3 +67,5 @@ pub mod PutBackLaws
 pub mod RaisedLaws
 pub mod GrownLaws
 pub mod ApartLaws
+pub mod RunLaws
+pub mod SafeLaws

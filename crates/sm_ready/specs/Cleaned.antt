@@ -1,10 +1,10 @@
 -- A table as an opening leaves it: without the new volumes, each removed by a commit of its own; and how many commits an
 -- opening makes.
-use Rattle.std.specs.Prelude.{ℕ, ◌+◌, ◌≤◌, not, List, length, None, Some}
+use Rattle.std.specs.Prelude.{ℕ, ◌+◌, ◌≤◌, not, List, length}
 use Rattle.std.specs.List.{filter}
 use Rattle.vg_meta.specs.Tables.{VolumeTable, Row}
 use Rattle.sm_machine.specs.Shapes.{risen}
-use Rattle.sm_standing.specs.Entries.{head, making}
+use Rattle.sm_standing.specs.Undone.{undo_changes}
 
 -- how many of these volumes are new
 abbrev pub new_count : List Row → ℕ
@@ -18,10 +18,11 @@ filled rs = filter (λ r. not r.fresh) rs
 unfoldable pub cleaned : VolumeTable → VolumeTable
 cleaned t = record { sequence = risen t.sequence (new_count t.volumes); volumes = filled t.volumes }
 
--- the most commits that undo an enlargement, where there is one: the volume of the image is cut, and the entry removed
+-- how many commits undo a fork or an enlargement that a stop has cut short, where there is one: at most five, and two
 abbrev pub undo_count : VolumeTable → ℕ
-undo_count t = elim (head (making t)) [ None ↦ 0 | Some n ↦ 2 ]
+undo_count t = length (undo_changes t)
 
--- the sequence number was raised at most by one for each volume that was new, and by two for an enlargement that was undone
+-- the sequence number was raised at most by one for each volume that was new, and by one for each change that undoes a fork or an
+-- enlargement
 abbrev pub HasFewRemovals : VolumeTable → VolumeTable → Type 0
 HasFewRemovals old new = new.sequence ≤ old.sequence + new_count old.volumes + undo_count old

@@ -16,3 +16,4 @@ pub mod Shown
 pub mod Does
 pub mod Refusing
 pub mod Frames
+pub mod Runs

@@ -15,7 +15,7 @@ use crate::asking::{forked, image, is_vhd, named, new_uuid};
 use crate::memory::Memory;
 use crate::needs::rounded;
 use sm_base::{Geometry, IMAGE_LIMIT, Mode, Name, SECTOR, SPENT_SEQUENCE, is_base};
-use sm_machine::{Bytes, Command};
+use sm_machine::{Command, LineBytes};
 use uuid::Uuid;
 use vg_meta::Table;
 
@@ -178,7 +178,7 @@ fn is_outside(memory: &Memory, disk: &Uuid, sector: u64, count: u64) -> bool
 }
 
 /// How many bytes there are.
-fn byte_count(bytes: &Bytes) -> u64
+fn byte_count(bytes: &LineBytes) -> u64
     ensures { result ≡ length bytes.now }
 {
     bytes.bytes.len() as u64

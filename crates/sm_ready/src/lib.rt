@@ -40,11 +40,12 @@
 //! `RowRoomLaws`); what is asked of the visible image of a UUID (`ShownLaws`); a list in order with one element more
 //! (`InsertLaws`); a row that was taken out of the tree, changed and put back (`PutBackLaws`); that an image stands in its volume
 //! and is true of it (`TruthLaws`), and stays so (`FrameLaws`); a visible image at which the operation does not work (`ApartLaws`);
-//! a disk that grows, as the disks show it (`RaisedLaws`), and what a stop leaves of it (`GrownLaws`).
+//! a disk that grows, as the disks show it (`RaisedLaws`), and what a stop leaves of it (`GrownLaws`); commits made one after the
+//! other (`RunLaws`), and such whose moments are safe (`SafeLaws`).
 //!
 //! The definitions are in `specs/`: `Known` (what is in memory, and its shape), `Outlined` (its outline), `Orderly` and `Ready`
 //! (the two invariants), `Shown` (the visible image of a UUID), `Refusing` (when an answer is the machine's), `Stores` (the
-//! content of a store), `Done` (what a call of a step did), `Repairs` and `Cleaned` (what an opening repairs, and the table that
+//! content of a store), `Done` (what a call of a step did), `Runs` (commits one after the other), `Repairs` and `Cleaned` (what an opening repairs, and the table that
 //! it leaves).
 #![tactic(auto)]
 

@@ -1,6 +1,7 @@
 -- The checks by the table: what is found among the volumes in memory is what the checks name.
-use Rattle.std.proofs.Common.{◌≡◌, ℕ, suc, ◌+◌, ◌<◌, ◌≤◌, inl, inr, Bool, true, false, cond, not, ◌&&◌, ◌||◌, List, [], ◌∷◌, length, drop, position, slice_get, Option, Some, None, refl, sym, ap, ap₂, ◌∙◌, subst, arith, nat_lt}
-use Rattle.std.specs.List.{filter, find, position_or_len}
+use Rattle.std.proofs.Common.{◌≡◌, ℕ, suc, ◌+◌, ◌<◌, ◌≤◌, inl, inr, Bool, true, false, cond, not, ◌&&◌, ◌||◌, ◌==◌, List, [], ◌∷◌, length, drop, position, slice_get, Option, Some, None, refl, sym, ap, ap₂, ◌∙◌, subst, arith, nat_lt}
+use Rattle.std.specs.List.{filter, find, list_any, position_or_len}
+use Rattle.std.specs.Str.{bytes_eq}
 use Rattle.std.proofs.lemmas.Bool.{true≢false, ltb-true, ltb-false}
 use Rattle.std.proofs.lemmas.Option.{none-some, same_Some}
 use Rattle.sm_base.specs.declared.faults.Place.{Place}
@@ -13,13 +14,12 @@ use Rattle.sm_base.specs.Kinds.{is_image as is_data, is_entry}
 use Rattle.vg_meta.specs.Roomy.{RoomyTable, RoomyRow, table_alone, rows_alone}
 use Rattle.common_laws.specs.Lists.{In, given, first_some}
 use Rattle.sm_machine.specs.Shapes.{image_limit}
-use Rattle.sm_standing.specs.Entries.{are_past, head, is_at_stage, is_folding, is_inflating, is_making, is_past, making, second}
-use Rattle.sm_standing.specs.Plain.{IsSimple, is_simple}
-use Rattle.sm_standing.specs.Checks.{first_name, name_in, placed, has_records, record_volume_fault, images, too_many_fault, is_entry_ahead, is_image_ahead, is_lost, lesser, entry_ahead_fault, second_entry_fault, lost_entry_fault, image_ahead_fault}
+use Rattle.sm_standing.specs.Entries.{are_past, folding, has_image, head, is_among, is_at_stage, is_fork_begun, is_fork_made, is_forking, is_inflating, is_making, is_old_of, is_past, is_there, making, second, uuids_in}
+use Rattle.sm_standing.specs.Checks.{first_name, name_in, placed, has_records, record_volume_fault, images, too_many_fault, is_entry_ahead, is_lost, is_orphaned, lesser, entry_ahead_fault, second_entry_fault, lost_entry_fault, old_leaf_fault}
 use Rattle.sm_standing.specs.Outlines.{Outline}
 use Rattle.sm_standing.proofs.FaultLaws.{named_none}
-use Rattle.sm_standing.proofs.PlainKept.{all-of, simple_from}
-use Rattle.sm_recover.specs.Faults.{HasTable, is_enlarging_lost}
+use Rattle.sm_standing.proofs.PlainKept.{none_folding}
+use Rattle.sm_recover.specs.Faults.{HasTable, has_any, is_any_visible, is_begun, is_fork_at_stage, is_making_lost, is_old}
 
 -- ---- the first of the volumes in memory
 
@@ -68,12 +68,6 @@ too_many_at x k is held count =
     ∙ ap (λ m. given (nat_lt image_limit m) at.Images) (images_counted k.rows ∙ sym (count ∙ ap (λ gs. length (filter (λ (h : RoomyRow). is_data h.row.name) gs)) held))
 
 -- ---- what is known where they pass
-
--- where no entry is there but those of enlargements, and no image is hidden, nothing else is under way
-pub simple_table : (x : Outline) → entry_ahead_fault x ≡ None → image_ahead_fault x ≡ None → IsSimple x.table
-unfolding entry_ahead_fault image_ahead_fault
-simple_table x no_entry none_ahead = all-of (λ r. is_simple r ≡ true) x.table.volumes (λ r k.
-    simple_from r.hidden r.name (named_none at.Journal (λ r. is_entry_ahead r.name) x.table.volumes no_entry r k) (named_none at.Image is_image_ahead x.table.volumes none_ahead r k))
 
 pub only : {A : Type 0} (o : Option A) → first_some (o ∷ []) ≡ o
 only None = refl
@@ -153,25 +147,9 @@ second_name test hs = ap second (names_passing hs) ∙ behind (filter (λ h. tes
         by true rest = ap (λ ns. g.row.name ∷ ns) rest
         by false rest = rest
 
-not_folding : (n : Name) → is_entry_ahead n ≡ false → is_folding n ≡ false
-not_folding Mgt h = refl
-not_folding (Vhd u) h = refl
-not_folding (Raw u) h = refl
-not_folding (Old u) h = refl
-not_folding (Clone d b t) h = refl
-not_folding (Inflate u e) h = refl
-not_folding (Coalesce c p) h = absurd (true≢false h)
-not_folding (Relink c p) h = absurd (true≢false h)
-not_folding (Leaf l p) h = absurd (true≢false h)
-
-none_ahead : (x : Outline) → entry_ahead_fault x ≡ None → (r : Row) → In r x.table.volumes → is_entry_ahead r.name ≡ false
+pub none_ahead : (x : Outline) → entry_ahead_fault x ≡ None → (r : Row) → In r x.table.volumes → is_entry_ahead r.name ≡ false
 unfolding entry_ahead_fault
 none_ahead x no_entry = named_none at.Journal (λ r. is_entry_ahead r.name) x.table.volumes no_entry
-
-none_folding : (rs : List Row) → ((r : Row) → In r rs → is_entry_ahead r.name ≡ false) → filter is_folding (names_of rs) ≡ []
-none_folding [] none = refl
-none_folding (r ∷ rs) none =
-    ap (λ b. cond b (r.name ∷ filter is_folding (names_of rs)) (filter is_folding (names_of rs))) (not_folding r.name (none r (inl refl))) ∙ none_folding rs (λ s i. none s (inr i))
 
 pub second_at : (k : RoomyTable) (x : Outline) {hs : List RoomyRow} {o : Option RoomyRow} {answer : Option Place} → x.table ≡ table_alone k → entry_ahead_fault x ≡ None → hs ≡ k.rows
     → o ≡ slice_get (filter (λ h. is_making h.row.name) hs) 1 → answer ≡ placed at.Journal (held_name o) → answer ≡ second_entry_fault x
@@ -181,30 +159,98 @@ second_at k x is no_entry held found said =
     ∙ ap (placed at.Journal) (sym (second_name is_making k.rows) ∙ sym (ap (λ (u : VolumeTable). second (making u)) is))
     ∙ sym (ap (λ ns. placed at.Journal (lesser (second ns) (second (making x.table)))) (none_folding x.table.volumes (none_ahead x no_entry)))
 
+-- some of three names, in their order
+abbrev three : (a b c : Bool) (x y z : Name) → List Name
+three a b c x y z = cond a (x ∷ cond b (y ∷ cond c (z ∷ []) []) (cond c (z ∷ []) [])) (cond b (y ∷ cond c (z ∷ []) []) (cond c (z ∷ []) []))
+
+some_of : (a b c : Bool) (x y z : Name) → not (length (three a b c x y z) == 0) ≡ (a || (b || c))
+some_of true true true x y z = refl
+some_of true true false x y z = refl
+some_of true false true x y z = refl
+some_of true false false x y z = refl
+some_of false true true x y z = refl
+some_of false true false x y z = refl
+some_of false false true x y z = refl
+some_of false false false x y z = refl
+
+one_of : (a b c : Bool) (x y z : Name) → (length (three a b c x y z) == 1) ≡ cond a (not b && not c) (cond b (not c) c)
+one_of true true true x y z = refl
+one_of true true false x y z = refl
+one_of true false true x y z = refl
+one_of true false false x y z = refl
+one_of false true true x y z = refl
+one_of false true false x y z = refl
+one_of false false true x y z = refl
+one_of false false false x y z = refl
+
+-- the stages of a fork are those that are looked for, where no entry of the other group is there
+begun_as : (t : VolumeTable) (d b w : List ℕ) → is_fork_begun t d b w ≡ is_begun t d b w
+begun_as t d b w =
+    ap₂ (λ x y. not x && y) (some b) (ap₂ (λ x y. not x && y) (some w)
+    (ap (λ x. x && is_any_visible t d) (one_of (is_there t (Vhd d)) (is_there t (Raw d)) (is_there t (Old d)) (Vhd d) (Raw d) (Old d))))
+  where
+    some : (u : List ℕ) → has_image t u ≡ has_any t u
+    some u = some_of (is_there t (Vhd u)) (is_there t (Raw u)) (is_there t (Old u)) (Vhd u) (Raw u) (Old u)
+
+pub stage_as : (t : VolumeTable) (d b w : List ℕ) → folding t ≡ [] → is_forking t d b w ≡ is_fork_at_stage t d b w
+stage_as t d b w none =
+    ap (λ x. not (bytes_eq d b) && (not (bytes_eq d w) && (not (bytes_eq b w) && x)))
+    (ap (λ us. not (list_any (is_among (d ∷ b ∷ w ∷ [])) us) && (is_fork_begun t d b w || is_fork_made t d b w)) (ap (λ ns. elim (head ns) as (λ _. List (List ℕ)) [ None ↦ [] | Some n ↦ uuids_in n ]) none)
+    ∙ ap (λ x. x || is_fork_made t d b w) (begun_as t d b w))
+
 -- an entry is lost as the check says it, where no other is there
-lost_as : (t : VolumeTable) (n : Name) → is_entry_ahead n ≡ false → is_enlarging_lost t n ≡ (is_entry n && not (is_at_stage t n && are_past t n))
+lost_as : (t : VolumeTable) (n : Name) → folding t ≡ [] → is_entry_ahead n ≡ false → is_making_lost t n ≡ (is_entry n && not (is_at_stage t n && are_past t n))
 unfolding is_at_stage
-lost_as t (Inflate u e) h = by (is_inflating t u e) (is_past t.sequence u)
+lost_as t (Inflate u e) none h = by (is_inflating t u e) (is_past t.sequence u)
   where
     by : (a b : Bool) → (not a || not b) ≡ not (a && (b && true))
     by true true = refl
     by true false = refl
     by false b = refl
-lost_as t Mgt h = refl
-lost_as t (Vhd u) h = refl
-lost_as t (Raw u) h = refl
-lost_as t (Old u) h = refl
-lost_as t (Clone d b w) h = absurd (true≢false h)
-lost_as t (Coalesce c p) h = absurd (true≢false h)
-lost_as t (Relink c p) h = absurd (true≢false h)
-lost_as t (Leaf l p) h = absurd (true≢false h)
+lost_as t (Clone d b w) none h =
+    by (is_fork_at_stage t d b w) (is_past t.sequence d) (is_past t.sequence b) (is_past t.sequence w)
+    ∙ ap (λ x. not (x && (is_past t.sequence d && (is_past t.sequence b && (is_past t.sequence w && true))))) (sym (stage_as t d b w none))
+  where
+    by : (a p q r : Bool) → (not a || not (p && (q && r))) ≡ not (a && (p && (q && (r && true))))
+    by false p q r = refl
+    by true false q r = refl
+    by true true false r = refl
+    by true true true false = refl
+    by true true true true = refl
+lost_as t Mgt none h = refl
+lost_as t (Vhd u) none h = refl
+lost_as t (Raw u) none h = refl
+lost_as t (Old u) none h = refl
+lost_as t (Coalesce c p) none h = absurd (true≢false h)
+lost_as t (Relink c p) none h = absurd (true≢false h)
+lost_as t (Leaf l p) none h = absurd (true≢false h)
 
 pub lost_at : (k : RoomyTable) (x : Outline) {hs : List RoomyRow} {o : Option RoomyRow} {answer : Option Place} → x.table ≡ table_alone k → entry_ahead_fault x ≡ None → hs ≡ k.rows
-    → o ≡ find (λ h. is_enlarging_lost (table_alone k) h.row.name) hs → answer ≡ placed at.Journal (held_name o) → answer ≡ lost_entry_fault x
+    → o ≡ find (λ h. is_making_lost (table_alone k) h.row.name) hs → answer ≡ placed at.Journal (held_name o) → answer ≡ lost_entry_fault x
 unfolding lost_entry_fault first_name
 lost_at k x is no_entry held found said =
-    first_at at.Journal (λ t r. is_enlarging_lost t r.name) k is held found said
-    ∙ ap (λ q. placed at.Journal (name_in q)) (find_same (λ r. is_enlarging_lost x.table r.name) (is_lost x.table) x.table.volumes (λ r i. lost_as x.table r.name (none_ahead x no_entry r i)))
+    first_at at.Journal (λ t r. is_making_lost t r.name) k is held found said
+    ∙ ap (λ q. placed at.Journal (name_in q)) (find_same (λ r. is_making_lost x.table r.name) (is_lost x.table) x.table.volumes
+    (λ r i. lost_as x.table r.name (none_folding x.table.volumes (none_ahead x no_entry)) (none_ahead x no_entry r i)))
+
+-- an old leaf belongs to no entry, where those of leaves are not there
+old_as : (t : VolumeTable) (n : Name) → folding t ≡ [] → is_old n ≡ is_orphaned t n
+old_as t (Old u) none = sym (ap (λ ns. not (list_any (is_old_of t u) ns)) none)
+old_as t Mgt none = refl
+old_as t (Vhd u) none = refl
+old_as t (Raw u) none = refl
+old_as t (Clone d b w) none = refl
+old_as t (Inflate u e) none = refl
+old_as t (Coalesce c p) none = refl
+old_as t (Relink c p) none = refl
+old_as t (Leaf l p) none = refl
+
+pub old_at : (k : RoomyTable) (x : Outline) {hs : List RoomyRow} {o : Option RoomyRow} {answer : Option Place} → x.table ≡ table_alone k → entry_ahead_fault x ≡ None → hs ≡ k.rows
+    → o ≡ find (λ h. is_old h.row.name) hs → answer ≡ placed at.Image (held_name o) → answer ≡ old_leaf_fault x
+unfolding old_leaf_fault first_name
+old_at k x is no_entry held found said =
+    first_at at.Image (λ t r. is_old r.name) k is held found said
+    ∙ ap (λ q. placed at.Image (name_in q)) (find_same (λ r. is_old r.name) (λ r. is_orphaned x.table r.name) x.table.volumes (λ r i. old_as x.table r.name (none_folding x.table.volumes (none_ahead x no_entry))))
 
 -- the first name of a group is that of the first volume
 pub first_making_at : (k : RoomyTable) {hs : List RoomyRow} {o : Option RoomyRow} {answer : Option Name} → hs ≡ k.rows → o ≡ find (λ h. is_making h.row.name) hs → answer ≡ held_name o

@@ -4,7 +4,8 @@ use Rattle.std.proofs.Common.{◌≡◌, ℕ, suc, ◌+◌, ◌⊎◌, inl, inr,
 use Rattle.std.specs.Prelude.{count_by}
 use Rattle.std.specs.declared.cmp.Ordering.{Ordering}
 use Rattle.std.specs.declared.cmp.Ordering.TheVariants.{Less, Equal, Greater}
-use Rattle.std.specs.List.{filter, find, filter_map, cons_option, slice_get}
+use Rattle.std.specs.List.{filter, find, filter_map, flat_map, cons_option, slice_get}
+use Rattle.std.specs.Str.{bytes_eq}
 use Rattle.std.specs.Ordering.{is_lt}
 use Rattle.std.proofs.lemmas.Bool.{and_parts, true≢false}
 use Rattle.std.proofs.lemmas.Cmp.{nat_list_cmp_total}
@@ -13,23 +14,21 @@ use Rattle.std.proofs.lemmas.Map.Lookups.{exact_bytes}
 use Rattle.sm_base.specs.declared.names.Name.{Name}
 use Rattle.sm_base.specs.declared.names.Name.TheVariants.{Mgt, Vhd, Raw, Old, Clone, Inflate, Coalesce, Relink, Leaf}
 use Rattle.vg_meta.specs.Tables.{VolumeTable, Row, names_of, rows}
-use Rattle.vg_meta.specs.Roomy.{RoomyTable, RoomyRow, table_alone, rows_alone}
-use Rattle.vg_meta.proofs.RowLaws.{row_of-name}
+use Rattle.vg_meta.specs.Roomy.{RoomyTable, RoomyRow, table_alone}
 use Rattle.common_laws.specs.Lists.{In, given, numbers}
 use Rattle.sm_record.specs.declared.records.Record.{Record}
 use Rattle.sm_mgt.specs.Places.{is_of}
 use Rattle.sm_standing.specs.Contents.{taken, is_record_of}
-use Rattle.sm_standing.specs.Checks.{is_entry_ahead, is_unrecorded, disk_place, disk_fault}
+use Rattle.sm_standing.specs.Checks.{is_unrecorded, disk_place, disk_fault}
 use Rattle.sm_standing.specs.Outlines.{Outline, outline_records}
 use Rattle.sm_standing.specs.Ordered.{Rising, uuid_cmp}
-use Rattle.sm_standing.specs.Entries.{head, is_making, is_visible, making, of_row}
-use Rattle.sm_standing.specs.Plain.{IsPlain, IsSimple, is_simple}
-use Rattle.sm_standing.specs.Standing.{standing_volume, stands_folded, stands_forked, stands_plainly, under, uuids}
-use Rattle.sm_standing.proofs.DisksShown.{row_of-In, rising-in_order, stands_listed}
-use Rattle.sm_standing.proofs.PlainDisks.{all-In, plain_stands, simple_folding}
-use Rattle.sm_standing.proofs.PlainKept.{not_ahead}
-use Rattle.sm_recover.specs.Faults.{HasOwnDisks, HasPlaces, IsLeast, is_unrecorded_in, unrecorded, lesser}
-use Rattle.common_laws.proofs.Lists.{In-map, In-filter, filter-In}
+use Rattle.sm_standing.specs.Entries.{folding, head, image_with, is_folding, is_visible, making, of_row}
+use Rattle.sm_standing.specs.Plain.{IsPlain}
+use Rattle.sm_standing.specs.Standing.{candidates, in_order, standing_volume, stands_folded, stands_forked, stands_plainly, under, uuids}
+use Rattle.sm_standing.proofs.DisksShown.{In-with_uuid, rising-in_order, stands_listed}
+use Rattle.sm_standing.proofs.PlainDisks.{plain_stands}
+use Rattle.sm_recover.specs.Faults.{HasPlaces, IsLeast, is_disk_by, is_shown, is_unrecorded_in, unrecorded, lesser}
+use Rattle.common_laws.proofs.Lists.{In-append, In-map, In-map_at, In-filter, filter-In}
 use Rattle.common_laws.proofs.Options.{is_some-parts}
 use Rattle.sm_standing.specs.Checks.{disk_uuids}
 use Rattle.sm_standing.proofs.Orders.{not_both}
@@ -46,40 +45,37 @@ found_either test a b = by (test a) (test b)
     by false false = refl
 
 -- where nothing is under way it is one where an image of its name is visible and not new
-pub own_plain : (t : VolumeTable) → IsPlain t → HasOwnDisks t
+pub own_plain : (t : VolumeTable) → IsPlain t → (u : List ℕ) → is_some (standing_volume t u) ≡ (is_visible t (Vhd u) || is_visible t (Raw u))
 own_plain t plain u = ap is_some (plain_stands t u plain) ∙ found_either (is_visible t) (Vhd u) (Raw u)
 
--- the entry of an enlargement says nothing of disks
-pub own_simple : (t : VolumeTable) → IsSimple t → HasOwnDisks t
+-- whether it is one by the entry of a fork, where no entry of the other group is there
+pub disk_by : (t : VolumeTable) → folding t ≡ [] → (u : List ℕ) → is_some (standing_volume t u) ≡ is_disk_by t (head (making t)) u
 unfolding standing_volume
-own_simple t simple u =
-    ap is_some (ap (λ ns. under (λ e. stands_forked t e u) (head (making t)) (under (λ e. stands_folded t e u) (head ns) (stands_plainly t u))) (simple_folding t.volumes simple)
-    ∙ forked_simple (making t) (λ n i. by_name n i)) ∙ found_either (is_visible t) (Vhd u) (Raw u)
+disk_by t none u =
+    ap is_some (ap (λ ns. under (λ e. stands_forked t e u) (head (making t)) (under (λ e. stands_folded t e u) (head ns) (stands_plainly t u))) none) ∙ by (head (making t))
   where
-    forked : (n : Name) → is_entry_ahead n ≡ false → is_making n ≡ true → stands_forked t n u (stands_plainly t u) ≡ stands_plainly t u
-    forked (Inflate v e) not_ahead making = refl
-    forked (Clone d b w) not_ahead making = absurd (true≢false not_ahead)
-    forked Mgt not_ahead making = refl
-    forked (Vhd v) not_ahead making = refl
-    forked (Raw v) not_ahead making = refl
-    forked (Old v) not_ahead making = refl
-    forked (Coalesce c p) not_ahead making = refl
-    forked (Relink c p) not_ahead making = refl
-    forked (Leaf l p) not_ahead making = refl
+    own : is_some (stands_plainly t u) ≡ is_shown t u
+    own = found_either (is_visible t) (Vhd u) (Raw u)
 
-    forked_simple : (ns : List Name) → ((n : Name) → In n ns → stands_forked t n u (stands_plainly t u) ≡ stands_plainly t u) → under (λ e. stands_forked t e u) (head ns) (stands_plainly t u) ≡ stands_plainly t u
-    forked_simple [] each = refl
-    forked_simple (n ∷ ns) each = each n (inl refl)
+    forked : (a b w : Bool) (o : Option Name) → is_some (cond a (elim o as (λ _. Option Name) [ None ↦ stands_plainly t u | Some n ↦ Some n ]) (cond (b || w) None (stands_plainly t u)))
+        ≡ cond a (is_some o || is_shown t u) (not b && (not w && is_shown t u))
+    forked true b w None = own
+    forked true b w (Some n) = refl
+    forked false true w o = refl
+    forked false false true o = refl
+    forked false false false o = own
 
-    by_name : (n : Name) → In n (making t) → stands_forked t n u (stands_plainly t u) ≡ stands_plainly t u
-    by_name n i =
-        let listed = In-filter is_making (names_of t.volumes) n i in
-        let r = In-map (λ (x : Row). x.name) t.volumes n listed.0 in
-        forked n (ap is_entry_ahead r.2 ∙ (not_ahead r.0.hidden r.0.name (all-In (λ (x : Row). is_simple x ≡ true) t.volumes r.0 simple r.1)).no_entry_ahead) listed.1
-
--- whether a volume is visible and not new, by its row
-pub visible_none : (t : VolumeTable) (n : Name) → rows t n ≡ None → is_visible t n ≡ false
-visible_none t n gone = ap (of_row (λ r. not r.hidden && not r.fresh)) gone
+    by : (o : Option Name) → is_some (under (λ e. stands_forked t e u) o (stands_plainly t u)) ≡ is_disk_by t o u
+    by None = own
+    by (Some (Clone d b w)) = forked (bytes_eq u d) (bytes_eq u b) (bytes_eq u w) (image_with t b)
+    by (Some (Inflate v e)) = own
+    by (Some Mgt) = own
+    by (Some (Vhd v)) = own
+    by (Some (Raw v)) = own
+    by (Some (Old v)) = own
+    by (Some (Coalesce c p)) = own
+    by (Some (Relink c p)) = own
+    by (Some (Leaf l p)) = own
 
 pub visible_row : (t : VolumeTable) (n : Name) (r : Row) → rows t n ≡ Some r → is_visible t n ≡ (not r.hidden && not r.fresh)
 visible_row t n r there = ap (of_row (λ r. not r.hidden && not r.fresh)) there
@@ -192,58 +188,72 @@ module _ (t : VolumeTable) (places : List (Option Record)) where
   unfolding unrecorded
   from_name (Vhd v) u h = let w = given_parts (is_unrecorded_in t places v) v u h in subst Wrong w.1 w.0
   from_name (Raw v) u h = let w = given_parts (is_unrecorded_in t places v) v u h in subst Wrong w.1 w.0
+  from_name (Clone v b c) u h = let w = given_parts (is_unrecorded_in t places v) v u h in subst Wrong w.1 w.0
   from_name _ u h = absurd (let k = h in cc)
 
   at_vhd : (u : List ℕ) → Wrong u → unrecorded t places (Vhd u) ≡ Some u
   unfolding unrecorded
   at_vhd u wrong = ap (λ b. given b u) wrong
 
-  at_raw : (u : List ℕ) → Wrong u → unrecorded t places (Raw u) ≡ Some u
-  unfolding unrecorded
-  at_raw u wrong = ap (λ b. given b u) wrong
-
   stands : (u : List ℕ) → Wrong u → is_some (standing_volume t u) ≡ true
   stands u wrong = (and_parts (is_some (standing_volume t u)) (not (count_by (is_of u) places == 1)) wrong).0
 
-visible_there : (t : VolumeTable) (n : Name) → is_visible t n ≡ true → (r : Row) × (rows t n ≡ Some r)
-visible_there t n h = by (rows t n) refl h
-  where
-    by : (o : Option Row) → rows t n ≡ o → of_row (λ r. not r.hidden && not r.fresh) o ≡ true → (r : Row) × (rows t n ≡ Some r)
-    by None is h = absurd (true≢false (sym h))
-    by (Some r) is h = (r, is)
+-- a UUID that may be a disk is that of a volume's name
+flat_map-In : (f : Row → List (List ℕ)) (rs : List Row) (u : List ℕ) → In u (flat_map f rs) → (r : Row) × In r rs × In u (f r)
+flat_map-In f [] u i = absurd i
+flat_map-In f (r ∷ rs) u i = ⊎_elim (λ j. (r, inl refl, j)) (λ j. let w = flat_map-In f rs u j in (w.0, inr w.1, w.2)) (In-append (f r) (flat_map f rs) u i)
 
--- the volume of a name among those in memory
-held_row : (k : RoomyTable) (n : Name) (r : Row) → rows (table_alone k) n ≡ Some r → (h : RoomyRow) × In h k.rows × (h.row.name ≡ n)
-held_row k n r there =
-    let at = row_of-In (rows_alone k.rows) n r there in
-    let h = In-map (λ (g : RoomyRow). g.row) k.rows r at.0 in
-    (h.0, h.1, ap (λ (q : Row). q.name) (sym h.2) ∙ row_of-name (rows_alone k.rows) n r there)
+in_order-In : (us : List (List ℕ)) (u : List ℕ) → In u (in_order us) → In u us
+unfolding in_order
+in_order-In [] u i = i
+in_order-In (v ∷ us) u i = ⊎_elim (λ is. inl is) (λ j. inr (in_order-In us u j)) (In-with_uuid v u (in_order us) i)
 
-module _ (k : RoomyTable) (places : List (Option Record)) (u : List ℕ) (own : HasOwnDisks (table_alone k)) (wrong : Wrong (table_alone k) places u) where
-  from_visible : (n : Name) → is_visible (table_alone k) n ≡ true → unrecorded (table_alone k) places n ≡ Some u → IsGiven (λ h. unrecorded (table_alone k) places h.row.name) k.rows u
-  from_visible n visible given =
-      let r = visible_there (table_alone k) n visible in
-      let h = held_row k n r.0 r.1 in
-      (h.0, h.1, ap (unrecorded (table_alone k) places) h.2 ∙ given)
+module _ (k : RoomyTable) (places : List (Option Record)) (u : List ℕ) (none : folding (table_alone k) ≡ []) (wrong : Wrong (table_alone k) places u) where
+  abbrev t : VolumeTable
+  t = table_alone k
 
-  wrong_given : IsGiven (λ h. unrecorded (table_alone k) places h.row.name) k.rows u
-  wrong_given = by (is_visible (table_alone k) (Vhd u)) refl (sym (own u) ∙ stands (table_alone k) places u wrong)
+  -- by the name that speaks of it
+  of_name : (n : Name) → is_folding n ≡ false → In u (candidates n) → unrecorded t places n ≡ Some u
+  unfolding unrecorded
+  of_name (Vhd v) other (inl is) = subst (λ (x : List ℕ). given (is_unrecorded_in t places x) x ≡ Some u) is (at_vhd t places u wrong)
+  of_name (Raw v) other (inl is) = subst (λ (x : List ℕ). given (is_unrecorded_in t places x) x ≡ Some u) is (at_vhd t places u wrong)
+  of_name (Clone d b w) other (inl is) = subst (λ (x : List ℕ). given (is_unrecorded_in t places x) x ≡ Some u) is (at_vhd t places u wrong)
+  of_name (Vhd v) other (inr i) = absurd i
+  of_name (Raw v) other (inr i) = absurd i
+  of_name (Clone d b w) other (inr i) = absurd i
+  of_name (Leaf l p) other i = absurd (true≢false other)
+  of_name Mgt other i = absurd i
+  of_name (Old v) other i = absurd i
+  of_name (Inflate v e) other i = absurd i
+  of_name (Coalesce c p) other i = absurd i
+  of_name (Relink c p) other i = absurd i
+
+  not_folding : (r : Row) → In r t.volumes → is_folding r.name ≡ false
+  not_folding r i = by (is_folding r.name) refl
     where
-      by : (b : Bool) → is_visible (table_alone k) (Vhd u) ≡ b → (b || is_visible (table_alone k) (Raw u)) ≡ true → IsGiven (λ h. unrecorded (table_alone k) places h.row.name) k.rows u
-      by true is either = from_visible (Vhd u) is (at_vhd (table_alone k) places u wrong)
-      by false is either = from_visible (Raw u) either (at_raw (table_alone k) places u wrong)
+      by : (b : Bool) → is_folding r.name ≡ b → b ≡ false
+      by false is = refl
+      by true is = absurd (subst (In r.name) none (filter-In is_folding (names_of t.volumes) r.name (In-map_at (λ (x : Row). x.name) t.volumes r i) is))
+
+  wrong_given : IsGiven (λ h. unrecorded t places h.row.name) k.rows u
+  unfolding uuids
+  wrong_given =
+      let n = is_some-parts (standing_volume t u) (stands t places u wrong) in
+      let r = flat_map-In (λ r. candidates r.name) t.volumes u (in_order-In (flat_map (λ (r : Row). candidates r.name) t.volumes) u (stands_listed t u n.0 n.1)) in
+      let h = In-map (λ (g : RoomyRow). g.row) k.rows r.0 r.1 in
+      (h.0, h.1, ap (λ (q : Row). unrecorded t places q.name) (sym h.2) ∙ of_name r.0.name (not_folding r.0 r.1) r.2)
 
 -- the least among the volumes so far
 abbrev pub with_unrecorded : VolumeTable → List (Option Record) → Option (List ℕ) → RoomyRow → Option (List ℕ)
 with_unrecorded t places least h = lesser least (unrecorded t places h.row.name)
 
-pub least_unrecorded : (k : RoomyTable) (places : List (Option Record)) → HasOwnDisks (table_alone k)
+pub least_unrecorded : (k : RoomyTable) (places : List (Option Record)) → folding (table_alone k) ≡ []
     → IsLeast (λ u. is_unrecorded_in (table_alone k) places u ≡ true) (fold (with_unrecorded (table_alone k) places) None k.rows)
-least_unrecorded k places own =
+least_unrecorded k places none =
     let t = table_alone k in
     least_as (λ u. ⊥ ⊎ IsGiven (λ h. unrecorded t places h.row.name) k.rows u) (Wrong t places) (fold (with_unrecorded t places) None k.rows)
-    (λ u. ⊎_elim (λ none. absurd none) (λ g. from_name t places g.0.row.name u g.2)) (λ u wrong. inr (wrong_given k places u own wrong))
-    (least_fold (λ h. unrecorded t places h.row.name) k.rows (λ u. ⊥) None (λ u none. none))
+    (λ u. ⊎_elim (λ none. absurd none) (λ g. from_name t places g.0.row.name u g.2)) (λ u wrong. inr (wrong_given k places u none wrong))
+    (least_fold (λ h. unrecorded t places h.row.name) k.rows (λ u. ⊥) None (λ u never. never))
 
 -- the check of the records, by the least of these UUIDs
 pub disk_fault_is : (x : Outline) (k : RoomyTable) (places : List (Option Record)) (o : Option (List ℕ)) → x.table ≡ table_alone k → HasPlaces places x

@@ -21,29 +21,27 @@ use Rattle.vhd_image.specs.declared.images.Body.{Body}
 use Rattle.vhd_image.specs.declared.images.Body.TheVariants as body
 use Rattle.sm_standing.specs.Checks.{is_image_wrong, is_invalid, is_oversize}
 use Rattle.sm_standing.specs.Contents.{sectors_of}
-use Rattle.sm_standing.specs.Images.{image_of, image_extents, raw_image}
+use Rattle.sm_standing.specs.Images.{image_of, raw_image}
 use Rattle.sm_standing.specs.Outlines.{Link, Outline, link_of, outline}
-use Rattle.sm_standing.specs.Plain.{IsPlain}
 use Rattle.sm_standing.specs.Volumes.{IsAtSize}
 use Rattle.sm_standing.proofs.ImageSectors.{image_same}
-use Rattle.sm_standing.proofs.PlainDisks.{no_making}
 use Rattle.sm_ready.specs.Outlined.{link_in}
 use Rattle.sm_ready.specs.Stores.{content_now}
 use Rattle.sm_ready.proofs.LeftLaws.{now_sector, raw_of, size_there, vhd_of}
 use Rattle.sm_recover.specs.Faults.{HasTable}
-use Rattle.sm_recover.specs.Loaded.{IsFilledImage, IsNoneRead, IsReadAs, as_read}
+use Rattle.sm_recover.specs.Loaded.{IsFilledImage, IsNoneRead, IsReadAs, as_read, shortened}
 use Rattle.sm_recover.specs.Repairs.{IsUndoable}
 use Rattle.sm_standing.specs.Undone.{undone}
-use Rattle.sm_standing.proofs.UndoneLaws.{undone_none}
 use Rattle.sm_standing.proofs.UndoneContents.{images_undone_at}
-use Rattle.sm_recover.proofs.TableLaws.{Cases, cases, other_extents, other_whole, records_room}
+use Rattle.sm_recover.proofs.TableLaws.{Cases, cases, other_extents, other_whole, records_room, shortened_undone}
 
 and_no : (b : Bool) → (b && false) ≡ false
 and_no true = refl
 and_no false = refl
 
-pub at_size : (t : VolumeTable) (n : Name) → IsPlain t → IsAtSize t n
-at_size t n plain all = ap (λ ns. image_extents ns n all) (no_making t.volumes plain)
+-- each image lies in all the extents of its volume
+abbrev pub IsSized : VolumeTable → Type 0
+IsSized t = (n : Name) → IsAtSize t n
 
 -- the sectors of a volume
 abbrev pub sectors_by : Site → Row → ℕ
@@ -52,7 +50,7 @@ sectors_by s r = length r.extents * s.geometry.extent
 link : ℕ → Option Name → Option Link
 link size parent = Some (record { size = size; parent = parent })
 
-module _ (s : Site) (t : VolumeTable) (area : Held) (u : List ℕ) (r : Row) (plain : IsPlain t) (there : rows t (Vhd u) ≡ Some r) (filled : r.fresh ≡ false) where
+module _ (s : Site) (t : VolumeTable) (area : Held) (u : List ℕ) (r : Row) (sized : IsSized t) (there : rows t (Vhd u) ≡ Some r) (filled : r.fresh ≡ false) where
   abbrev pub n : ℕ
   n = sectors_by s r
 
@@ -62,7 +60,7 @@ module _ (s : Site) (t : VolumeTable) (area : Held) (u : List ℕ) (r : Row) (pl
   -- the image by what a read gives
   image_read : image_of (content_now s t area) (Vhd u) ≡ image_at s.geometry.block s.geometry.entries n v
   image_read =
-      vhd_of (content_now s t area) u r there filled (at_size t (Vhd u) plain)
+      vhd_of (content_now s t area) u r there filled (sized (Vhd u))
       ∙ image_same s.geometry.extent s.geometry.block s.geometry.entries n (sectors_of (content_now s t area) (Vhd u)) v s.geometry.in_range
       (λ p below. now_sector s t area (Vhd u) p (subst (λ k. p < k) (sym (size_there s t (Vhd u) r there)) below))
 
@@ -97,23 +95,23 @@ abbrev shown : Body → Option Link
 shown image = Some (record { size = sector_count image; parent = parent_name image })
 
 module _ (told : Type 0) (s : Site) (t : VolumeTable) (area : Held) (r : Row) where
-  link_named : (n : Name) (image : Body) → IsPlain t → rows t n ≡ Some r → r.fresh ≡ false → IsReadAs told s.geometry (sectors_by s r) (volume_of s t area n) n image → told → link_of (image_of (content_now s t area) n) ≡ shown image
+  link_named : (n : Name) (image : Body) → IsSized t → rows t n ≡ Some r → r.fresh ≡ false → IsReadAs told s.geometry (sectors_by s r) (volume_of s t area n) n image → told → link_of (image_of (content_now s t area) n) ≡ shown image
   unfolding link
-  link_named (Raw u) image plain there filled read known = raw_link s t area u r there filled ∙ sym (ap shown read.is)
-  link_named (Vhd u) (body.Raw volume size) plain there filled read known = absurd read.vhd
-  link_named (Vhd u) (body.Vhd head m) plain there filled read known = link_there s t area u r plain there filled head m read.stands (read.gives known)
-  link_named Mgt image plain there filled read known = absurd read
-  link_named (Old u) image plain there filled read known = absurd read
-  link_named (Clone d b w) image plain there filled read known = absurd read
-  link_named (Inflate u e) image plain there filled read known = absurd read
-  link_named (Coalesce x y) image plain there filled read known = absurd read
-  link_named (Relink x y) image plain there filled read known = absurd read
-  link_named (Leaf l p) image plain there filled read known = absurd read
+  link_named (Raw u) image sized there filled read known = raw_link s t area u r there filled ∙ sym (ap shown read.is)
+  link_named (Vhd u) (body.Raw volume size) sized there filled read known = absurd read.vhd
+  link_named (Vhd u) (body.Vhd head m) sized there filled read known = link_there s t area u r sized there filled head m read.stands (read.gives known)
+  link_named Mgt image sized there filled read known = absurd read
+  link_named (Old u) image sized there filled read known = absurd read
+  link_named (Clone d b w) image sized there filled read known = absurd read
+  link_named (Inflate u e) image sized there filled read known = absurd read
+  link_named (Coalesce x y) image sized there filled read known = absurd read
+  link_named (Relink x y) image sized there filled read known = absurd read
+  link_named (Leaf l p) image sized there filled read known = absurd read
 
   -- the checks see the image that was read
-  pub link_read : (image : Body) → IsPlain t → rows t r.name ≡ Some r → r.fresh ≡ false → IsReadAs told s.geometry (sectors_by s r) (volume_of s t area r.name) r.name image → told
+  pub link_read : (image : Body) → IsSized t → rows t r.name ≡ Some r → r.fresh ≡ false → IsReadAs told s.geometry (sectors_by s r) (volume_of s t area r.name) r.name image → told
       → link_of (image_of (content_now s t area) r.name) ≡ shown image
-  link_read image plain there filled read known = link_named r.name image plain there filled read known
+  link_read image sized there filled read known = link_named r.name image sized there filled read known
 
   module _ {u : VolumeTable} {x : Outline} (is : HasTable s.geometry u x) where
     oversize : nat_lt (s.geometry.entries * s.geometry.block) (sectors_by s r) ≡ is_oversize x.extent x.block x.entries r
@@ -135,19 +133,19 @@ module _ (told : Type 0) (s : Site) (t : VolumeTable) (area : Held) (r : Row) wh
     valid_read image read found = valid_named r.name image read found
 
   -- or there is none
-  invalid_named : (n : Name) → IsPlain t → rows t n ≡ Some r → r.fresh ≡ false → IsNoneRead told s.geometry (sectors_by s r) (volume_of s t area n) n → told → is_image_wrong (outline (content_now s t area)) r n ≡ true
-  invalid_named (Raw u) plain there filled none known = lt-ltb (s.geometry.entries * s.geometry.block) (sectors_by s r) none
-  invalid_named (Vhd u) plain there filled none known = ap (λ o. is_none (link_of o)) (none_there s t area u r plain there filled (none known))
-  invalid_named Mgt plain there filled none known = absurd none
-  invalid_named (Old u) plain there filled none known = absurd none
-  invalid_named (Clone d b w) plain there filled none known = absurd none
-  invalid_named (Inflate u e) plain there filled none known = absurd none
-  invalid_named (Coalesce a b) plain there filled none known = absurd none
-  invalid_named (Relink a b) plain there filled none known = absurd none
-  invalid_named (Leaf l p) plain there filled none known = absurd none
+  invalid_named : (n : Name) → IsSized t → rows t n ≡ Some r → r.fresh ≡ false → IsNoneRead told s.geometry (sectors_by s r) (volume_of s t area n) n → told → is_image_wrong (outline (content_now s t area)) r n ≡ true
+  invalid_named (Raw u) sized there filled none known = lt-ltb (s.geometry.entries * s.geometry.block) (sectors_by s r) none
+  invalid_named (Vhd u) sized there filled none known = ap (λ o. is_none (link_of o)) (none_there s t area u r sized there filled (none known))
+  invalid_named Mgt sized there filled none known = absurd none
+  invalid_named (Old u) sized there filled none known = absurd none
+  invalid_named (Clone d b w) sized there filled none known = absurd none
+  invalid_named (Inflate u e) sized there filled none known = absurd none
+  invalid_named (Coalesce a b) sized there filled none known = absurd none
+  invalid_named (Relink a b) sized there filled none known = absurd none
+  invalid_named (Leaf l p) sized there filled none known = absurd none
 
-  pub invalid_read : IsPlain t → rows t r.name ≡ Some r → r.fresh ≡ false → IsNoneRead told s.geometry (sectors_by s r) (volume_of s t area r.name) r.name → told → is_invalid (outline (content_now s t area)) r ≡ true
-  invalid_read plain there filled none known = ap₂ (λ f w. not f && w) filled (invalid_named r.name plain there filled none known)
+  pub invalid_read : IsSized t → rows t r.name ≡ Some r → r.fresh ≡ false → IsNoneRead told s.geometry (sectors_by s r) (volume_of s t area r.name) r.name → told → is_invalid (outline (content_now s t area)) r ≡ true
+  invalid_read sized there filled none known = ap₂ (λ f w. not f && w) filled (invalid_named r.name sized there filled none known)
 
 -- a volume that has no image in memory is none that the check speaks of
 wrong_kind : (x : Outline) (r : Row) (n : Name) → is_image n ≡ false → is_image_wrong x r n ≡ false
@@ -169,7 +167,7 @@ skipped x r none = by (is_image r.name) r.fresh refl refl
     by true true image fresh = ap (λ f. not f && is_image_wrong x r r.name) fresh
     by true false image fresh = absurd (none (record { image = image; filled = fresh }))
 
--- ---- beside a table in which an image is being enlarged
+-- ---- beside a table in which a fork or an enlargement is under way
 
 -- a volume is as wrong as it is read
 wrong_read : (ns : List Name) (x : Outline) (q : Row) (n : Name) → q.name ≡ n → is_image_wrong x (as_read ns q) n ≡ is_image_wrong x q n
@@ -188,23 +186,25 @@ invalid_as_read ns x q = ap (λ w. not q.fresh && w) (wrong_read ns x q q.name r
 
 module _ (s : Site) (t : VolumeTable) (area : Held) (c : IsUndoable s t) where
   -- each image is the same without the enlargement
-  pub image_undone : (n : Name) → image_of (content_now s (undone t) area) n ≡ image_of (content_now s t area) n
-  image_undone n = by (cases c)
+  pub image_short : (n : Name) → image_of (content_now s (shortened t) area) n ≡ image_of (content_now s t area) n
+  image_short n = by (cases c)
     where
-      by : Cases c → image_of (content_now s (undone t) area) n ≡ image_of (content_now s t area) n
-      by (inl none) = ap (λ x. image_of (content_now s x area) n) (undone_none t none)
-      by (inr (u, e, w)) = images_undone_at (content_now s t area) u e w c.table s.geometry.in_range (records_room s t c.record_volume) (undone t).sequence n
+      by : Cases c → image_of (content_now s (shortened t) area) n ≡ image_of (content_now s t area) n
+      by (inl k) = ap (λ x. image_of (content_now s x area) n) k.table
+      by (inr (u, e, w)) =
+          ap (λ x. image_of (content_now s x area) n) (shortened_undone t u e w.entry)
+          ∙ images_undone_at (content_now s t area) u e w c.table s.geometry.in_range (records_room s t c.record_volume) (undone t).sequence n
 
-  wrong_undone : (r : Row) (n : Name) → is_image_wrong (outline (content_now s t area)) r n ≡ is_image_wrong (outline (content_now s (undone t) area)) r n
-  wrong_undone r (Vhd u) = ap (λ i. is_none (link_of i)) (sym (image_undone (Vhd u)))
-  wrong_undone r (Raw u) = refl
-  wrong_undone r Mgt = refl
-  wrong_undone r (Old u) = refl
-  wrong_undone r (Clone d b w) = refl
-  wrong_undone r (Inflate u e) = refl
-  wrong_undone r (Coalesce a b) = refl
-  wrong_undone r (Relink a b) = refl
-  wrong_undone r (Leaf l p) = refl
+  wrong_short : (r : Row) (n : Name) → is_image_wrong (outline (content_now s t area)) r n ≡ is_image_wrong (outline (content_now s (shortened t) area)) r n
+  wrong_short r (Vhd u) = ap (λ i. is_none (link_of i)) (sym (image_short (Vhd u)))
+  wrong_short r (Raw u) = refl
+  wrong_short r Mgt = refl
+  wrong_short r (Old u) = refl
+  wrong_short r (Clone d b w) = refl
+  wrong_short r (Inflate u e) = refl
+  wrong_short r (Coalesce a b) = refl
+  wrong_short r (Relink a b) = refl
+  wrong_short r (Leaf l p) = refl
 
-  pub invalid_undone : (r : Row) → is_invalid (outline (content_now s t area)) r ≡ is_invalid (outline (content_now s (undone t) area)) r
-  invalid_undone r = ap (λ w. not r.fresh && w) (wrong_undone r r.name)
+  pub invalid_short : (r : Row) → is_invalid (outline (content_now s t area)) r ≡ is_invalid (outline (content_now s (shortened t) area)) r
+  invalid_short r = ap (λ w. not r.fresh && w) (wrong_short r r.name)

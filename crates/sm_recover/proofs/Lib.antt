@@ -1,16 +1,27 @@
 pub mod CheckLaws
+pub mod LinkLaws
 pub mod DiskLaws
 pub mod RemovalLaws
 pub mod OpeningLaws
 pub mod LoadedLaws
 pub mod OpenedWell
+pub mod MemoryLaws
+pub mod RowsLaws
+mod ForkedMemory
 pub mod TableLaws
 pub mod UndoLaws
 pub mod SettleLaws
+pub mod StepLaws
+pub mod CountLaws
+pub mod BackLaws
+pub mod EntryLaws
+pub mod UndoneLaws
+pub mod GiveBackLaws
+mod CheckedTrees
 pub mod TrueLaws
 mod ReadLaws
 mod HoldingLaws
 mod FoundLaws
-mod ParentLaws
+mod TreeLaws
 mod SeenLaws
 mod TurnLaws

@@ -1,8 +1,7 @@
--- Where the checks pass, memory as an opening begins with it is orderly, told or not; and ready, where each slot holds a sector.
-use Rattle.std.proofs.Common.{◌≡◌, ◌≢◌, inl, inr, ℕ, ◌*◌, ◌<◌, ◌≤◌, Bool, true, false, not, ◌&&◌, ◌||◌, List, [], length, map, filter, Option, Some, None, is_some, refl, sym, ap, ap₂, ◌∙◌, subst, subst₂, arith}
-use Rattle.std.proofs.lemmas.Bool.{true≢false, eqb-true}
-use Rattle.std.proofs.lemmas.List.Sums.{length-filter}
-use Rattle.std.proofs.lemmas.Option.{none-some, get_or_from_slice_get}
+-- Memory as an opening begins with it, beside the table without a fork or an enlargement: orderly, told or not; and ready, where
+-- each slot holds a sector.
+use Rattle.std.proofs.Common.{◌≡◌, ◌≢◌, ℕ, ◌*◌, ◌<◌, ◌≤◌, Bool, true, false, not, ◌&&◌, ◌||◌, List, [], length, map, filter, Option, Some, is_some, refl, sym, ap, ap₂, ◌∙◌, subst, subst₂, arith}
+use Rattle.std.proofs.lemmas.Bool.{true≢false}
 use Rattle.std.proofs.Math.Nat.{mul_assoc, le-mul_of_pos_right, le_of_mul-le-mul_right}
 use Rattle.sm_base.specs.declared.names.Name.{Name}
 use Rattle.sm_base.specs.declared.names.Name.TheVariants.{Mgt, Vhd, Raw, Old, Clone, Inflate, Coalesce, Relink, Leaf}
@@ -15,26 +14,24 @@ use Rattle.vg_volumes.specs.Sites.{Site, volume_of}
 use Rattle.vg_volumes.specs.Stored.{held_in, sectors_in}
 use Rattle.vg_volumes.specs.Volumes.{volume}
 use Rattle.vg_volumes.specs.declared.stores.Store.{Ghosts}
-use Rattle.common_laws.specs.Lists.{In, ◌>>=◌}
-use Rattle.common_laws.proofs.Booleans.{not_false}
-use Rattle.common_laws.proofs.Lists.{In-map, filter-In, find-some, none_find, none_first}
-use Rattle.common_laws.proofs.Options.{is_some-parts}
-use Rattle.sm_machine.specs.Shapes.{ImageRow, find_image, image_uuid, is_vhd, parent_of}
-use Rattle.sm_machine.specs.WellFormed.{IsImageRow, EndsWithin, is_image_name, table_length}
+use Rattle.common_laws.specs.Lists.{In}
+use Rattle.sm_machine.specs.Shapes.{image_uuid, is_vhd}
+use Rattle.sm_machine.specs.WellFormed.{IsImageRow, EndsWithin, HasParent, is_image_name, table_length}
 use Rattle.sm_record.specs.declared.records.Record.{Record}
-use Rattle.sm_mgt.specs.Places.{Agrees, records_of, as_reading, is_of, place_count}
+use Rattle.sm_mgt.specs.Places.{Agrees, records_of, is_of, place_count}
 use Rattle.sm_refs.specs.Attached.{Attached}
-use Rattle.sm_standing.specs.Checks.{is_misnamed, misnamed_fault, has_parent, parent_ahead_fault, is_unrecorded, disk_uuids, disk_fault, faults_today, fault_today_of}
+use Rattle.sm_standing.specs.Checks.{is_misnamed}
 use Rattle.sm_standing.specs.Entries.{is_visible}
-use Rattle.sm_standing.specs.Keeping.{HasNoEmptySlot}
-use Rattle.sm_standing.specs.Outlines.{Outline}
 use Rattle.sm_standing.specs.Plain.{is_plain, is_plain_name}
-use Rattle.sm_standing.specs.Standing.{standing_volume, uuids}
-use Rattle.sm_standing.proofs.DisksShown.{stands_listed}
-use Rattle.sm_standing.proofs.FaultLaws.{named_none}
+use Rattle.sm_standing.specs.Standing.{standing_volume}
 use Rattle.sm_standing.proofs.PlainDisks.{all-In}
-use Rattle.sm_standing.proofs.PlainKept.{disk_none, plain_simple_name}
+use Rattle.sm_standing.proofs.PlainKept.{plain_simple_name}
 use Rattle.sm_standing.specs.Undone.{undone}
+use Rattle.sm_standing.specs.Keeping.{HasNoEmptySlot, IsHolding}
+use Rattle.vhd_layout.specs.Contents.{content_at}
+use Rattle.vhd_volumes.specs.declared.heads.Head.{Head}
+use Rattle.vhd_volumes.specs.Truth.{IsStanding}
+use Rattle.vhd_image.specs.Opened.{ReadsAsImage}
 use Rattle.vhd_chain.specs.Reading.{AllAreTrue}
 use Rattle.vhd_chain.specs.Trees.{row_name}
 use Rattle.vhd_chain.specs.declared.rows.TreeRow.{TreeRow}
@@ -46,25 +43,22 @@ use Rattle.vhd_image.proofs.SteadyLaws.{steady_quiet, true_quiet}
 use Rattle.sm_ready.specs.Known.{Known, machine_row, shape_in}
 use Rattle.sm_ready.specs.Orderly.{IsOrderly}
 use Rattle.sm_ready.specs.Ready.{IsReady}
-use Rattle.sm_ready.specs.Outlined.{link_in, outline_in}
 use Rattle.sm_ready.specs.Stores.{store_content}
 use Rattle.sm_ready.proofs.BegunLaws.{IsRead, begun_with, begun_orderly, begun_ready}
 use Rattle.sm_ready.proofs.NewVolumeLaws.{not_records}
 use Rattle.sm_ready.proofs.NumberLaws.{whole_blocks}
 use Rattle.sm_ready.proofs.RepairLaws.{all_quiet}
 use Rattle.sm_ready.proofs.RowLaws.{All-In, found_in}
-use Rattle.sm_recover.specs.Faults.{HasLinks, HasPlaces, HasTable}
-use Rattle.sm_recover.specs.Loaded.{AreRowsOf, HasEachRow, IsReadAs, read_volumes, row_among, stored_undone}
+use Rattle.sm_recover.specs.Loaded.{AreRowsOf, HasEachRow, IsReadAs, row_among, shortened, stored_undone}
 use Rattle.sm_recover.specs.Repairs.{IsChecked, IsUndoableStore}
-use Rattle.sm_recover.proofs.DiskLaws.{own_plain, records_counted, visible_row}
-use Rattle.sm_recover.proofs.FoundLaws.{image_undone, sectors_by, valid_there}
-use Rattle.sm_recover.proofs.TableLaws.{image_not_making, records_undone, undone_checked, undone_filtered, undone_from, undone_in, undone_named, undone_stands}
+use Rattle.sm_recover.proofs.DiskLaws.{own_plain, visible_row}
+use Rattle.sm_recover.proofs.FoundLaws.{image_short, sectors_by, valid_there}
+use Rattle.sm_recover.proofs.TableLaws.{short_sized}
+use Rattle.sm_recover.proofs.UndoneLaws.{records_undone, undone_checked}
 use Rattle.sm_recover.proofs.HoldingLaws.{holds_each}
-use Rattle.sm_recover.proofs.LoadedLaws.{none_among, read_each, read_from, read_row}
+use Rattle.sm_recover.proofs.LoadedLaws.{read_each, read_from, read_row}
 use Rattle.sm_recover.proofs.ReadLaws.{image_named, some_extents}
 use Rattle.sm_recover.proofs.RemovalLaws.{no_entry}
-use Rattle.sm_base.specs.declared.faults.Place.{Place}
-use Rattle.sm_base.specs.declared.faults.Place.TheVariants as at
 
 -- ---- a raw image is a whole number of blocks
 
@@ -78,12 +72,12 @@ size_whole extent block entries long m is within some_block some_long fits =
 
 -- ---- an image that was read
 
-plain_image : (hidden : Bool) (n : Name) → is_plain_name hidden n ≡ true → n ≢ Mgt → is_image_name n ≡ true
+plain_image : (n : Name) → is_plain_name n ≡ true → n ≢ Mgt → is_image_name n ≡ true
 unfolding is_image_name
-plain_image hidden Mgt h other = absurd (other refl)
-plain_image hidden (Vhd u) h other = refl
-plain_image hidden (Raw u) h other = refl
-plain_image hidden _ h other = absurd (true≢false (sym h))
+plain_image Mgt h other = absurd (other refl)
+plain_image (Vhd u) h other = refl
+plain_image (Raw u) h other = refl
+plain_image _ h other = absurd (true≢false (sym h))
 
 abbrev row_by : Body → Bool → ℕ → TreeRow
 row_by image hidden k = record { image = image; hidden = hidden; extents = k }
@@ -130,23 +124,6 @@ row_stands told g h (Coalesce a p) image sectors read = absurd read
 row_stands told g h (Relink a p) image sectors read = absurd read
 row_stands told g h (Leaf l p) image sectors read = absurd read
 
--- it has no parent, where the check of parents says so
-row_alone : (told : Type 0) (g : Geometry) (h : Held) (x : Outline) (n : Name) (y image : TreeRow) (sectors : ℕ) → IsReadAs told g sectors h n image.image → x.links n ≡ link_in (Some y) → y.image ≡ image.image
-    → has_parent x n ≡ false → parent_name image.image ≡ None
-row_alone told g h x (Raw u) y image sectors read found same none = ap parent_name read.is
-row_alone told g h x (Vhd u) y image sectors read found same none = ap parent_name (sym same) ∙ by (parent_name y.image) (sym (ap (λ l. is_some (l >>= (λ i. i.parent))) found) ∙ none)
-  where
-    by : (o : Option Name) → is_some o ≡ false → o ≡ None
-    by None h = refl
-    by (Some p) h = absurd (true≢false h)
-row_alone told g h x Mgt y image sectors read found same none = absurd read
-row_alone told g h x (Old u) y image sectors read found same none = absurd read
-row_alone told g h x (Clone d b w) y image sectors read found same none = absurd read
-row_alone told g h x (Inflate u e) y image sectors read found same none = absurd read
-row_alone told g h x (Coalesce a p) y image sectors read found same none = absurd read
-row_alone told g h x (Relink a p) y image sectors read found same none = absurd read
-row_alone told g h x (Leaf l p) y image sectors read found same none = absurd read
-
 -- its UUID is a disk, where it is visible
 uuid_shown : (t : VolumeTable) (n : Name) (is_disk : (u : List ℕ) → is_some (standing_volume t u) ≡ (is_visible t (Vhd u) || is_visible t (Raw u))) → is_image_name n ≡ true → is_visible t n ≡ true
     → is_some (standing_volume t (image_uuid n)) ≡ true
@@ -159,14 +136,25 @@ uuid_shown t (Raw u) is_disk image visible = is_disk u ∙ ap (λ b. is_visible 
     or_true false = refl
 uuid_shown t _ is_disk image visible = absurd (true≢false (sym image))
 
--- ---- what the checks say
+-- ---- memory beside the table without a fork or an enlargement
 
-module _ {S : Type 0} (g : Ghosts S) (store : S) (xs : List TreeRow) (places : List (Option Record)) (c : IsUndoableStore g store) (are_read : AreRowsOf (read_volumes (table_alone (g.table store))) xs)
-    (each_read : HasEachRow g.told (stored_undone g store) (read_volumes (table_alone (g.table store))) xs) where
+-- what is known of the rows in memory and of the places beside that table
+pub record IsBeside {S : Type 0} (g : Ghosts S) (store : S) (ys : List TreeRow) (places : List (Option Record)) : Type 0 where
+  pub are : AreRowsOf (undone (table_alone (g.table store))).volumes ys
+  pub each : HasEachRow g.told (stored_undone g store) (undone (table_alone (g.table store))).volumes ys
+  pub named : (r : Row) → In r (undone (table_alone (g.table store))).volumes → is_misnamed (undone (table_alone (g.table store))) r ≡ false
+  pub parents : (x : TreeRow) (p : Name) → In x ys → parent_name x.image ≡ Some p → HasParent (map machine_row ys) (machine_row x) p
+  pub chains : (x : TreeRow) → In x ys → EndsWithin 30 (Some (row_name x)) (map machine_row ys)
+  pub recorded : (u : List ℕ) → is_some (standing_volume (undone (table_alone (g.table store))) u) ≡ true → length (filter (is_of u) places) ≡ 1
+  -- each VHD image of it stood before in as many extents
+  pub source : (u : List ℕ) (r : Row) → rows (undone (table_alone (g.table store))) (Vhd u) ≡ Some r → r.fresh ≡ false
+      → (v : List ℕ) × (q : Row) × (rows (shortened (table_alone (g.table store))) (Vhd v) ≡ Some q) × (q.fresh ≡ false) × (q.extents ≡ r.extents)
+
+module _ {S : Type 0} (g : Ghosts S) (store : S) (xs : List TreeRow) (places : List (Option Record)) (c : IsUndoableStore g store) (k : IsBeside g store xs places) where
   abbrev s : Site
   s = g.site store
 
-  -- the table as it is, and without the enlargement
+  -- the table as it is, and without a fork or an enlargement
   abbrev was : VolumeTable
   was = table_alone (g.table store)
 
@@ -177,50 +165,18 @@ module _ {S : Type 0} (g : Ghosts S) (store : S) (xs : List TreeRow) (places : L
   d = undone_checked c
 
   are : AreRowsOf t.volumes xs
-  are = are_read ∙ sym (undone_filtered c (row_among xs) (λ r making. none_among xs r (λ f. true≢false (sym making ∙ image_not_making r.name f.image))))
+  are = k.are
 
   each : HasEachRow g.told (stored_undone g store) t.volumes xs
-  each r i = each_read r (undone_in c r i)
+  each = k.each
 
   plain_at : (r : Row) → In r t.volumes → is_plain r ≡ true
   plain_at r i = all-In (λ (x : Row). is_plain x ≡ true) t.volumes r d.plain i
 
-  module _ (long : length places ≡ place_count) (pass : (x : Outline) → HasTable s.geometry was x → HasLinks xs x → HasPlaces places x → fault_today_of x ≡ None) where
-    abbrev seen : Outline
-    seen = outline_in s was (begun_with xs places 0)
+  records_same : rows t Mgt ≡ rows was Mgt
+  records_same = records_undone c
 
-    has : HasPlaces places seen
-    unfolding outline_in
-    has = record { long = long; each = λ k o at. ap as_reading (get_or_from_slice_get places k o None at) }
-
-    links : HasLinks xs seen
-    unfolding outline_in
-    links n = refl
-
-    none : (o : Option Place) → In o (faults_today seen) → o ≡ None
-    unfolding outline_in fault_today_of
-    none = none_first (faults_today seen) (pass seen (record { extent = refl; block = refl; entries = refl; table = refl }) links has)
-
-    named : (r : Row) → In r t.volumes → is_misnamed t r ≡ false
-    unfolding outline_in misnamed_fault
-    named = undone_named c (named_none at.Image (is_misnamed was) was.volumes (none (misnamed_fault seen) (inr (inr (inl refl)))))
-
-    alone : (r : Row) → In r t.volumes → has_parent seen r.name ≡ false
-    unfolding outline_in parent_ahead_fault
-    alone r i =
-        let f = undone_from c r i in
-        ap (λ (x : Row). has_parent seen x.name) f.is
-        ∙ named_none at.Tree (λ q. has_parent seen q.name) was.volumes (none (parent_ahead_fault seen) (inr (inr (inr (inr (inr (inr (inr (inr (inl refl)))))))))) f.volume f.there
-
-    recorded : (u : List ℕ) → is_some (standing_volume t u) ≡ true → length (filter (is_of u) places) ≡ 1
-    unfolding outline_in disk_fault
-    recorded u stood =
-        let stands : is_some (standing_volume was u) ≡ true = ap is_some (sym (undone_stands c u)) ∙ stood in
-        let n = is_some-parts (standing_volume was u) stands in
-        let listed = filter-In (λ v. is_some (standing_volume was v)) (uuids was) u (stands_listed was u n.0 n.1) stands in
-        length-filter (is_of u) places ∙ sym (records_counted seen places u has)
-        ∙ eqb-true _ 1 (not_false _ (none_find (is_unrecorded seen) (disk_uuids seen) (disk_none _ (none (disk_fault seen) (inr (inr (inr (inr (inr (inr (inr (inr (inr (inr (inl refl))))))))))))) u listed))
-
+  module _ (long : length places ≡ place_count) where
     -- ---- each row
 
     proper : (room : ℕ) (x : TreeRow) → In x xs → IsImageRow (shape_in s t (begun_with xs places room)) (machine_row x)
@@ -230,30 +186,13 @@ module _ {S : Type 0} (g : Ghosts S) (store : S) (xs : List TreeRow) (places : L
         (row_proper g.told s t (begun_with xs places room) (held_in (stored_undone g store) w.volume.name) w.volume.name x.image x.hidden (length w.volume.extents) w.row.image
         (some_extents w.volume (All-In IsVolume t.volumes w.volume d.table.volumes.each w.there).kind w.filled.image) w.row.named)
 
-    parentless : (x : TreeRow) → In x xs → parent_name x.image ≡ None
-    parentless x i =
-        let w = read_row are each x i in
-        row_alone g.told s.geometry (held_in (stored_undone g store) w.volume.name) seen w.volume.name w.found x (length w.volume.extents * s.geometry.extent) w.row.image (links w.volume.name ∙ ap link_in w.at) w.same (alone w.volume w.there)
-
-    no_parent : (i : ImageRow) → In i (map machine_row xs) → i.parent ≡ None
-    no_parent i h =
-        let x = In-map machine_row xs i h in
-        ap (λ (z : ImageRow). z.parent) x.2 ∙ parentless x.0 x.1
-
-    parent_none : (n : Name) → parent_of n (map machine_row xs) ≡ None
-    parent_none n = by (find_image n (map machine_row xs)) refl
-      where
-        by : (o : Option ImageRow) → find_image n (map machine_row xs) ≡ o → o >>= (λ i. i.parent) ≡ None
-        by None is = refl
-        by (Some i) is = no_parent i (find-some _ (map machine_row xs) i is).0
-
     shown : (x : TreeRow) → In x xs → x.hidden ≡ false → is_some (standing_volume t (image_uuid (row_name x))) ≡ true
     shown x i visible =
         let w = read_row are each x i in
         let there = found_in t.volumes d.table.volumes.rising w.volume w.there in
         let hidden : w.volume.hidden ≡ false = sym w.row.hidden ∙ visible in
         subst (λ n. is_some (standing_volume t (image_uuid n)) ≡ true) (sym w.row.named)
-        (uuid_shown t w.volume.name (own_plain t d.plain) (image_named w.volume.hidden w.volume.name (plain_simple_name w.volume.hidden w.volume.name (plain_at w.volume w.there)) w.filled.image)
+        (uuid_shown t w.volume.name (own_plain t d.plain) (image_named w.volume.name (plain_simple_name w.volume.name (plain_at w.volume w.there)) w.filled.image)
         (visible_row t w.volume.name w.volume there ∙ ap₂ (λ h d. not h && not d) hidden w.filled.filled))
 
     read : IsRead s t (row_among xs) xs places
@@ -263,20 +202,20 @@ module _ {S : Type 0} (g : Ghosts S) (store : S) (xs : List TreeRow) (places : L
       few_extents = d.few_extents;
       record_volume = d.record_volume;
       few = d.few_images;
-      named = named;
-      new_image = λ r i new. plain_image r.hidden r.name (plain_at r i) (not_records d.table (r, found_in t.volumes d.table.volumes.rising r i, new));
+      named = k.named;
+      new_image = λ r i new. plain_image r.name (plain_at r i) (not_records d.table (r, found_in t.volumes d.table.volumes.rising r i, new));
       no_entry = no_entry t d.plain;
       from = read_from xs;
       all = read_each t.volumes xs each;
       proper = proper;
-      parents = λ x p i is. absurd (none-some p (sym (parentless x i) ∙ is));
-      chains = λ x i. subst (λ o. EndsWithin 29 o (map machine_row xs)) (sym (parent_none (row_name x))) tt;
+      parents = k.parents;
+      chains = k.chains;
       stands = λ x i.
           let w = read_row are each x i in
           subst (λ k. StandsIn s.geometry (k * s.geometry.extent) x.image) (sym w.row.extents) (row_stands g.told s.geometry (held_in (stored_undone g store) w.volume.name) w.volume.name x.image (length w.volume.extents * s.geometry.extent) w.row.image);
       long = long;
       shown = shown;
-      recorded = recorded;
+      recorded = k.recorded;
     }
 
     -- memory as an opening has made it by then
@@ -288,6 +227,21 @@ module _ {S : Type 0} (g : Ghosts S) (store : S) (xs : List TreeRow) (places : L
   -- ---- and ready, where nothing is pending, no slot is empty, and the places are those of the store
 
   module _ (told : g.told) (settled : IsSettled (g.area store)) (holding : HasNoEmptySlot (store_content g store)) where
+    -- each of its slots holds a sector, as it did before
+    held_before : (u : List ℕ) (r : Row) → rows t (Vhd u) ≡ Some r → r.fresh ≡ false → (head : Head) (m : List (Option ℕ)) → IsStanding s.geometry (sectors_by s r) head m
+        → ReadsAsImage s.geometry (sectors_by s r) (held_in (stored_undone g store) (Vhd u)) head m
+        → IsHolding s.geometry.block (content_at s.geometry.block s.geometry.entries (sectors_by s r) (reads (held_in (stored_undone g store) (Vhd u))))
+    held_before u r there filled head m stands gives =
+        let q = k.source u r there filled in
+        let short = shortened was in
+        let long : sectors_by s q.1 ≡ sectors_by s r = ap (λ (es : List ℕ). length es * s.geometry.extent) q.4 in
+        let same : volume_of s short (g.area store) (Vhd q.0) ≡ volume_of s t (g.area store) (Vhd u) =
+        ap (λ o. volume s.geometry.extent (extents_of o) (g.area store)) q.2 ∙ ap (λ es. volume s.geometry.extent es (g.area store)) q.4 ∙ sym (ap (λ o. volume s.geometry.extent (extents_of o) (g.area store)) there) in
+        subst₂ (λ n h. IsHolding s.geometry.block (content_at s.geometry.block s.geometry.entries n (reads h))) long same
+        (holding q.0 _ (sym (image_short s was (g.area store) c (Vhd q.0))
+        ∙ valid_there s short (g.area store) q.0 q.1 (short_sized c) q.2 q.3 head m (subst (λ n. IsStanding s.geometry n head m) (sym long) stands)
+        (subst₂ (λ n h. ReadsAsImage s.geometry n h head m) (sym long) (sym same) gives)))
+
     steady_named : (r : Row) (n : Name) (image : Body) → rows t n ≡ Some r → r.fresh ≡ false → IsReadAs g.told s.geometry (sectors_by s r) (held_in (stored_undone g store) n) n image
         → IsSteady s.geometry (sectors_by s r) (held_in (stored_undone g store) n) image
     steady_named r (Raw u) image there filled read = subst (IsSteady s.geometry (sectors_by s r) (held_in (stored_undone g store) (Raw u))) (sym read.is) refl
@@ -295,7 +249,7 @@ module _ {S : Type 0} (g : Ghosts S) (store : S) (xs : List TreeRow) (places : L
     steady_named r (Vhd u) (body.Vhd head m) there filled read =
         steady_quiet s.geometry (sectors_by s r) head m s.geometry.in_range (held_in (stored_undone g store) (Vhd u)) (all_quiet s t (g.area store) settled (Vhd u)) (read.gives told)
         (holds_each s.geometry.block s.geometry.entries (sectors_by s r) (reads (held_in (stored_undone g store) (Vhd u)))
-        (holding u _ (sym (image_undone s was (g.area store) c (Vhd u)) ∙ valid_there s t (g.area store) u r d.plain there filled head m read.stands (read.gives told))))
+        (held_before u r there filled head m read.stands (read.gives told)))
     steady_named r Mgt image there filled read = absurd read
     steady_named r (Old u) image there filled read = absurd read
     steady_named r (Clone d b w) image there filled read = absurd read
@@ -313,7 +267,7 @@ module _ {S : Type 0} (g : Ghosts S) (store : S) (xs : List TreeRow) (places : L
     pub opened_ready : (attached : Attached) → Agrees (records_of g store) places → IsReady s t (g.area store) (record { rows = xs; places = places; attached = attached; op = Idle })
     opened_ready attached agrees =
         begun_ready s t (g.area store) _ steady settled
-        (subst (λ o. Agrees (volume s.geometry.extent (extents_of o) (g.area store)) places) (sym (records_undone c)) agrees) refl
+        (subst (λ o. Agrees (volume s.geometry.extent (extents_of o) (g.area store)) places) (sym records_same) agrees) refl
 
   -- ---- and true, where nothing is pending: a sector in each slot is not asked
 

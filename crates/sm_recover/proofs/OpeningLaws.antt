@@ -25,7 +25,7 @@ use Rattle.sm_record.specs.declared.records.Reading.TheVariants.{Free, Taken, Da
 use Rattle.sm_record.specs.Records.{reading}
 use Rattle.sm_mgt.specs.Places.{Agrees, as_reading, records_held, records_of, IsFirstDamaged, reading_of}
 use Rattle.sm_standing.specs.Contents.{record_count}
-use Rattle.sm_standing.specs.Checks.{has_records, is_lost, lesser, placed, record_volume_fault, too_many_fault, entry_ahead_fault, second_entry_fault, lost_entry_fault, image_ahead_fault, invalid_fault, parent_ahead_fault, record_fault, record_place, is_damaged, disk_fault, fault_today_of, first_fault_today}
+use Rattle.sm_standing.specs.Checks.{has_records, is_lost, lesser, placed, record_volume_fault, too_many_fault, entry_ahead_fault, second_entry_fault, lost_entry_fault, old_leaf_fault, invalid_fault, tree_fault, entry_link_fault, record_fault, record_place, is_damaged, disk_fault, fault_today_of, first_fault_today}
 use Rattle.sm_standing.specs.Outlines.{Outline, reading_in, outline}
 use Rattle.sm_standing.proofs.OutlineLaws.{reading_within}
 use Rattle.common_laws.proofs.Lists.{none_first, find_none, In-numbers}
@@ -35,7 +35,8 @@ use Rattle.sm_recover.specs.Repairs.{IsUndoable, IsOpeningStopped, IsStoppedBy}
 use Rattle.sm_standing.proofs.FaultLaws.{named_none, none_given}
 use Rattle.sm_standing.specs.Entries.{making, second}
 use Rattle.sm_standing.proofs.PlainDisks.{simple_folding}
-use Rattle.sm_recover.proofs.CheckLaws.{only, simple_table}
+use Rattle.sm_recover.proofs.CheckLaws.{only}
+use Rattle.sm_standing.proofs.PlainKept.{simple_table}
 use Rattle.sm_recover.proofs.TableLaws.{records_room}
 use Rattle.common_laws.proofs.Booleans.{not_false}
 use Rattle.sm_ready.proofs.LeftLaws.{now_sector}
@@ -63,7 +64,7 @@ first_behind (Some y ∷ xs) ys h = absurd (let e = h in cc)
 first_behind (None ∷ xs) ys h = first_behind xs ys h
 
 abbrev behind : Outline → List (Option Place)
-behind x = invalid_fault x ∷ parent_ahead_fault x ∷ record_fault x ∷ disk_fault x ∷ []
+behind x = invalid_fault x ∷ tree_fault x ∷ entry_link_fault x ∷ record_fault x ∷ disk_fault x ∷ []
 
 -- a check by the table is the first that fails
 pub today_table : (x : Outline) (place : Place) → first_some (table_faults x) ≡ Some place → fault_today_of x ≡ Some place
@@ -76,23 +77,29 @@ unfolding fault_today_of
 today_images x none = first_behind (table_faults x) (behind x) none
 
 pub today_valid : (x : Outline) (place : Place) → first_some (table_faults x) ≡ None → invalid_fault x ≡ Some place → fault_today_of x ≡ Some place
-today_valid x place none h = today_images x none ∙ ap (λ o. first_some (o ∷ parent_ahead_fault x ∷ record_fault x ∷ disk_fault x ∷ [])) h
+today_valid x place none h = today_images x none ∙ ap (λ o. first_some (o ∷ tree_fault x ∷ entry_link_fault x ∷ record_fault x ∷ disk_fault x ∷ [])) h
 
-pub today_parents : (x : Outline) (place : Place) → first_some (table_faults x) ≡ None → invalid_fault x ≡ None → parent_ahead_fault x ≡ Some place → fault_today_of x ≡ Some place
-today_parents x place none valid h =
-    today_images x none ∙ ap (λ o. first_some (o ∷ parent_ahead_fault x ∷ record_fault x ∷ disk_fault x ∷ [])) valid
-    ∙ ap (λ o. first_some (o ∷ record_fault x ∷ disk_fault x ∷ [])) h
+pub today_trees : (x : Outline) (place : Place) → first_some (table_faults x) ≡ None → invalid_fault x ≡ None → tree_fault x ≡ Some place → fault_today_of x ≡ Some place
+today_trees x place none valid h =
+    today_images x none ∙ ap (λ o. first_some (o ∷ tree_fault x ∷ entry_link_fault x ∷ record_fault x ∷ disk_fault x ∷ [])) valid
+    ∙ ap (λ o. first_some (o ∷ entry_link_fault x ∷ record_fault x ∷ disk_fault x ∷ [])) h
 
-today_last : (x : Outline) → first_some (table_faults x) ≡ None → invalid_fault x ≡ None → parent_ahead_fault x ≡ None → fault_today_of x ≡ first_some (record_fault x ∷ disk_fault x ∷ [])
-today_last x none valid alone =
-    today_images x none ∙ ap (λ o. first_some (o ∷ parent_ahead_fault x ∷ record_fault x ∷ disk_fault x ∷ [])) valid
-    ∙ ap (λ o. first_some (o ∷ record_fault x ∷ disk_fault x ∷ [])) alone
+today_behind : (x : Outline) → first_some (table_faults x) ≡ None → invalid_fault x ≡ None → tree_fault x ≡ None → fault_today_of x ≡ first_some (entry_link_fault x ∷ record_fault x ∷ disk_fault x ∷ [])
+today_behind x none valid trees =
+    today_images x none ∙ ap (λ o. first_some (o ∷ tree_fault x ∷ entry_link_fault x ∷ record_fault x ∷ disk_fault x ∷ [])) valid
+    ∙ ap (λ o. first_some (o ∷ entry_link_fault x ∷ record_fault x ∷ disk_fault x ∷ [])) trees
 
-pub today_records : (x : Outline) (place : Place) → first_some (table_faults x) ≡ None → invalid_fault x ≡ None → parent_ahead_fault x ≡ None → record_fault x ≡ Some place → fault_today_of x ≡ Some place
-today_records x place none valid alone h = today_last x none valid alone ∙ ap (λ o. first_some (o ∷ disk_fault x ∷ [])) h
+pub today_links : (x : Outline) (place : Place) → first_some (table_faults x) ≡ None → invalid_fault x ≡ None → tree_fault x ≡ None → entry_link_fault x ≡ Some place → fault_today_of x ≡ Some place
+today_links x place none valid trees h = today_behind x none valid trees ∙ ap (λ o. first_some (o ∷ record_fault x ∷ disk_fault x ∷ [])) h
 
-pub today_disks : (x : Outline) → first_some (table_faults x) ≡ None → invalid_fault x ≡ None → parent_ahead_fault x ≡ None → record_fault x ≡ None → fault_today_of x ≡ disk_fault x
-today_disks x none valid alone right = today_last x none valid alone ∙ ap (λ q. first_some (q ∷ disk_fault x ∷ [])) right ∙ only (disk_fault x)
+today_last : (x : Outline) → first_some (table_faults x) ≡ None → PassImages x → fault_today_of x ≡ first_some (record_fault x ∷ disk_fault x ∷ [])
+today_last x none pass = today_behind x none pass.valid pass.placed ∙ ap (λ o. first_some (o ∷ record_fault x ∷ disk_fault x ∷ [])) pass.linked
+
+pub today_records : (x : Outline) (place : Place) → first_some (table_faults x) ≡ None → PassImages x → record_fault x ≡ Some place → fault_today_of x ≡ Some place
+today_records x place none pass h = today_last x none pass ∙ ap (λ o. first_some (o ∷ disk_fault x ∷ [])) h
+
+pub today_disks : (x : Outline) → first_some (table_faults x) ≡ None → PassImages x → record_fault x ≡ None → fault_today_of x ≡ disk_fault x
+today_disks x none pass right = today_last x none pass ∙ ap (λ q. first_some (q ∷ disk_fault x ∷ [])) right ∙ only (disk_fault x)
 
 -- ---- where the checks by the table pass
 
@@ -117,7 +124,7 @@ unfolding record_volume_fault too_many_fault second_entry_fault lost_entry_fault
 checked_from s t table extents none =
     let x : Outline = outline (content_in s t (λ p. [])) in
     let each = none_first (table_faults x) (none x (has_table s t (λ p. []))) in
-    let simple = simple_table x (each (entry_ahead_fault x) (inr (inr (inr (inl refl))))) (each (image_ahead_fault x) (inr (inr (inr (inr (inr (inr (inl refl)))))))) in
+    let simple = simple_table x (each (entry_ahead_fault x) (inr (inr (inr (inl refl))))) (each (old_leaf_fault x) (inr (inr (inr (inr (inr (inr (inl refl)))))))) in
     record {
       table = table;
       few_extents = extents;
@@ -128,6 +135,10 @@ checked_from s t table extents none =
       few_images = ltb-false _ _ (none_given _ at.Images (each (too_many_fault x) (inr (inl refl))));
       record_volume = records_long x (rows t Mgt) (none_given _ at.Mgt (each (record_volume_fault x) (inl refl)));
     }
+
+-- no entry is there that is neither ended nor undone
+pub none_ahead_of : (x : Outline) → first_some (table_faults x) ≡ None → entry_ahead_fault x ≡ None
+none_ahead_of x none = none_first (table_faults x) none (entry_ahead_fault x) (inr (inr (inr (inl refl))))
 
 -- ---- the records
 
@@ -183,7 +194,7 @@ tables_say s g k kept o same geometry says x has = sym (says x (subst₂ (λ h (
 -- of an outline with this table and these places
 pub all_pass : (s : Site) {t u : VolumeTable} (places : List (Option Record)) (o : Option Place) → u ≡ t → TablesSay s t None
     → ((x : Outline) → x.table ≡ u → HasPlaces places x → o ≡ disk_fault x) → (x : Outline) → HasTable s.geometry t x → PassImages x → HasPlaces places x → fault_today_of x ≡ o
-all_pass s places o same none says x is images has = today_disks x (none x is) images.valid images.alone (records_right x places has) ∙ sym (says x (is.table ∙ sym same) has)
+all_pass s places o same none says x is images has = today_disks x (none x is) images (records_right x places has) ∙ sym (says x (is.table ∙ sym same) has)
 
 pub all_say : {s : Site} {t u : VolumeTable} (area : Held) (places : List (Option Record)) (o : Option Place) → IsUndoable s t → u ≡ t → Agrees (records_held s t area) places
     → TablesSay s t None → ((x : Outline) → x.table ≡ u → HasPlaces places x → o ≡ disk_fault x) → PassImages (outline (content_now s t area)) → first_fault_today (content_now s t area) ≡ o
@@ -218,7 +229,7 @@ stopped_by {s} {t} told area before mid now e c none images later to_first (inr 
 stopped_by {s} {t} told area before mid now e c none images later to_first (inr (inr (k, is, first))) =
     let x = outline (content_now s t area) in
     subst (IsOpeningStopped told (content_now s t area) before now) (sym is)
-    (λ known. today_records x (at.Record k) (none x (has_table s t (reads area))) (images known).valid (images known).alone (records_wrong area k c (to_first known k (first known))))
+    (λ known. today_records x (at.Record k) (none x (has_table s t (reads area))) (images known) (records_wrong area k c (to_first known k (first known))))
 
 pub if_err : {T E : Type 0} (P : E → Type 0) (r : Result T E) (e : E) → r ≡ Err e → P e → IfErr r P
 if_err P r e is p = subst (λ x. IfErr x P) (sym is) p

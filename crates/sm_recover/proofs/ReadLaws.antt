@@ -30,7 +30,6 @@ use Rattle.sm_machine.specs.WellFormed.{is_image_name}
 use Rattle.sm_standing.specs.Entries.{making}
 use Rattle.sm_standing.specs.Images.{image_extents}
 use Rattle.sm_standing.specs.Plain.{is_simple, is_simple_name}
-use Rattle.sm_standing.specs.Undone.{undone}
 use Rattle.sm_standing.proofs.PlainDisks.{all-In}
 use Rattle.vhd_fields.specs.declared.footers.Footer.{Footer}
 use Rattle.vhd_fields.specs.declared.headers.Header.{Header}
@@ -46,9 +45,9 @@ use Rattle.vhd_image.specs.declared.images.Body.{Body}
 use Rattle.vhd_image.specs.declared.images.Body.TheVariants as body
 use Rattle.sm_ready.proofs.LoadLaws.{at_item, extents_few}
 use Rattle.sm_ready.proofs.RowLaws.{All-In, found_in}
-use Rattle.sm_recover.specs.Loaded.{FailsAt, FailsToRead, IsNoneRead, IsRawRead, IsReadAs, IsRow, as_read, stored_undone}
+use Rattle.sm_recover.specs.Loaded.{FailsAt, FailsToRead, IsNoneRead, IsRawRead, IsReadAs, IsRow, as_read, shortened, stored_read}
 use Rattle.sm_recover.specs.Repairs.{IsUndoable, IsUndoableStore}
-use Rattle.sm_recover.proofs.TableLaws.{image_not_making, read_within, undone_row}
+use Rattle.sm_recover.proofs.TableLaws.{image_not_making, read_within, short_row}
 
 -- ---- a raw image
 
@@ -81,14 +80,15 @@ module _ {S : Type 0} (g : Ghosts S) (s : S) (sectors : ℕ) where
 
 -- ---- a volume of the table
 
--- an image of a table in which at most images are being enlarged is a VHD or a raw one
-pub image_named : (hidden : Bool) (n : Name) → is_simple_name hidden n ≡ true → is_image n ≡ true → is_image_name n ≡ true
+-- an image of a table in which at most a fork or an enlargement is under way is a VHD or a raw one
+pub image_named : (n : Name) → is_simple_name n ≡ true → is_image n ≡ true → is_image_name n ≡ true
 unfolding is_image_name
-image_named hidden (Vhd u) simple image = refl
-image_named hidden (Raw u) simple image = refl
-image_named hidden Mgt simple image = absurd (true≢false (sym image))
-image_named hidden (Inflate u e) simple image = absurd (true≢false (sym image))
-image_named hidden _ simple image = absurd (true≢false (sym simple))
+image_named (Vhd u) simple image = refl
+image_named (Raw u) simple image = refl
+image_named Mgt simple image = absurd (true≢false (sym image))
+image_named (Inflate u e) simple image = absurd (true≢false (sym image))
+image_named (Clone d b w) simple image = absurd (true≢false (sym image))
+image_named _ simple image = absurd (true≢false (sym simple))
 
 pub some_extents : (r : Row) → suits r ≡ true → is_image r.name ≡ true → 0 < length r.extents
 some_extents r right image =
@@ -126,7 +126,7 @@ module _ {s : Site} (kept : RoomyTable) {k : RoomyTable} {hs : List RoomyRow} {i
       extents_few kept c.table rows_are (at_item c.table same is (omega (arith, within, long, ap (λ (xs : List RoomyRow). length xs) rows_are)) at) c.few_extents
 
   pub row_named : is_image h.row.name ≡ true → is_image_name h.row.name ≡ true
-  row_named image = image_named h.row.hidden h.row.name (all-In (λ (x : Row). is_simple x ≡ true) (rows_alone kept.rows) h.row c.simple row_in) image
+  row_named image = image_named h.row.name (all-In (λ (x : Row). is_simple x ≡ true) (rows_alone kept.rows) h.row c.simple row_in) image
 
   pub row_some : is_image h.row.name ≡ true → 1 ≤ length h.row.extents
   row_some image = some_extents h.row (All-In IsVolume (rows_alone kept.rows) h.row c.table.volumes.each row_in).kind image
@@ -231,37 +231,37 @@ module _ {S : Type 0} (g : Ghosts S) (s : S) (r : Row) (c : IsUndoableStore g s)
   row_found : rows t r.name ≡ Some r
   row_found = found_in t.volumes c.table.volumes.rising r there
 
-  extents_undone : extents_of (rows (undone t) r.name) ≡ take many (extents_of (rows t r.name))
-  extents_undone =
-      ap extents_of (undone_row c r.name (image_not_making r.name image) ∙ ap (option_map (as_read (making t))) row_found)
+  extents_short : extents_of (rows (shortened t) r.name) ≡ take many (extents_of (rows t r.name))
+  extents_short =
+      ap extents_of (short_row c r.name (image_not_making r.name image) ∙ ap (option_map (as_read (making t))) row_found)
       ∙ sym (ap (λ o. take many (extents_of o)) row_found)
 
-  same_below : SameBelow (many * (g.site s).geometry.extent) (reads (held_in (stored g s) r.name)) (reads (held_in (stored_undone g s) r.name))
+  same_below : SameBelow (many * (g.site s).geometry.extent) (reads (held_in (stored g s) r.name)) (reads (held_in (stored_read g s) r.name))
   same_below p below =
-      ap (λ es. reads (volume (g.site s).geometry.extent es (g.area s)) p) extents_undone
+      ap (λ es. reads (volume (g.site s).geometry.extent es (g.area s)) p) extents_short
       ∙ front_reads (g.site s).geometry.extent many (extents_of (rows t r.name)) (g.area s) (subst (λ o. many ≤ length (extents_of o)) (sym row_found) within) p below
 
   pub row_read : {name : Name} {extents : ℕ} {hidden : Bool} (found : Body) → name ≡ r.name → extents ≡ many → hidden ≡ r.hidden → volume_name found ≡ name
       → IsReadAs g.told (g.site s).geometry (extents * (g.site s).geometry.extent) (held_in (stored g s) name) name found
-      → IsRow g.told (stored_undone g s) (as_read (making t) r) (record { image = found; hidden = hidden; extents = extents })
+      → IsRow g.told (stored_read g s) (as_read (making t) r) (record { image = found; hidden = hidden; extents = extents })
   row_read found named long hidden is read = record {
     named = is ∙ named;
     hidden = hidden;
     extents = long ∙ sym many_read;
-    image = subst (λ k. IsReadAs g.told (g.site s).geometry (k * (g.site s).geometry.extent) (held_in (stored_undone g s) r.name) r.name found) (sym many_read)
-        (read_below g.told (g.site s).geometry (many * (g.site s).geometry.extent) (held_in (stored g s) r.name) (held_in (stored_undone g s) r.name) same_below r.name found
+    image = subst (λ k. IsReadAs g.told (g.site s).geometry (k * (g.site s).geometry.extent) (held_in (stored_read g s) r.name) r.name found) (sym many_read)
+        (read_below g.told (g.site s).geometry (many * (g.site s).geometry.extent) (held_in (stored g s) r.name) (held_in (stored_read g s) r.name) same_below r.name found
         (subst₂ (λ n k. IsReadAs g.told (g.site s).geometry (k * (g.site s).geometry.extent) (held_in (stored g s) n) n found) named long read));
   }
 
   pub row_fails : {name : Name} {extents : ℕ} (e : OpenFault) (new : S) → name ≡ r.name → extents ≡ many → r.fresh ≡ false → FailsToRead g (stored g s) name (extents * (g.site s).geometry.extent) e s new
-      → FailsAt g (stored_undone g s) (as_read (making t) r) e s new
+      → FailsAt g (stored_read g s) (as_read (making t) r) e s new
   row_fails e new named long filled fails = record {
     volume = record { image = image; filled = filled };
-    fails = subst (λ k. FailsToRead g (stored_undone g s) r.name (k * (g.site s).geometry.extent) e s new) (sym many_read)
+    fails = subst (λ k. FailsToRead g (stored_read g s) r.name (k * (g.site s).geometry.extent) e s new) (sym many_read)
         (by (subst₂ (λ n k. FailsToRead g (stored g s) n (k * (g.site s).geometry.extent) e s new) named long fails));
   }
     where
-      by : FailsToRead g (stored g s) r.name (many * (g.site s).geometry.extent) e s new → FailsToRead g (stored_undone g s) r.name (many * (g.site s).geometry.extent) e s new
+      by : FailsToRead g (stored g s) r.name (many * (g.site s).geometry.extent) e s new → FailsToRead g (stored_read g s) r.name (many * (g.site s).geometry.extent) e s new
       by (inl is) = inl is
       by (inr (inl w)) = inr (inl w)
-      by (inr (inr (is, none))) = inr (inr (is, none_below g.told (g.site s).geometry (many * (g.site s).geometry.extent) (held_in (stored g s) r.name) (held_in (stored_undone g s) r.name) same_below r.name none))
+      by (inr (inr (is, none))) = inr (inr (is, none_below g.told (g.site s).geometry (many * (g.site s).geometry.extent) (held_in (stored g s) r.name) (held_in (stored_read g s) r.name) same_below r.name none))

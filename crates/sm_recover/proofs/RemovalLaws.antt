@@ -39,12 +39,12 @@ checked_more {s} n c new is = subst (IsChecked s) (sym is) (checked_one n c new)
 
 -- ---- the text
 
--- a table of visible raw images alone has no journal entry
+-- where nothing is under way there is no journal entry
 pub no_entry : (t : VolumeTable) → IsPlain t → names_in t is_entry ≡ []
 no_entry t plain = none_of (names_in t is_entry) (λ n i.
     let w = In-filter is_entry (names_of t.volumes) n i in
     let r = In-map (λ (r : Row). r.name) t.volumes n w.0 in
-    true≢false (sym w.1 ∙ ap is_entry r.2 ∙ (not_special r.0.hidden r.0.name (all-In (λ (x : Row). is_plain x ≡ true) t.volumes r.0 plain r.1)).no_journal))
+    true≢false (sym w.1 ∙ ap is_entry r.2 ∙ (not_special r.0.name (all-In (λ (x : Row). is_plain x ≡ true) t.volumes r.0 plain r.1)).no_journal))
 
 pub text_fits : {s : Site} {t : VolumeTable} → IsChecked s t → length (text t) ≤ text_limit
 text_fits {s} {t} c = fits_few s.count t c.table c.few_extents c.few_images (omega (arith, ap (λ (ns : List Name). length ns) (no_entry t c.plain)))

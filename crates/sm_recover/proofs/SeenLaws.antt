@@ -1,7 +1,7 @@
 -- The images in memory, once all were read, are what the checks look at.
-use Rattle.std.proofs.Common.{◌≡◌, ℕ, Bool, true, false, List, Option, Some, None, refl, sym, ap, ◌∙◌, subst}
+use Rattle.std.proofs.Common.{◌≡◌, ℕ, Bool, true, false, List, Option, Some, None, length, filter, refl, sym, ap, ◌∙◌, subst}
 use Rattle.std.proofs.lemmas.Bool.{true≢false}
-use Rattle.std.proofs.lemmas.Option.{none-some}
+use Rattle.std.proofs.lemmas.Option.{none-some, same_Some}
 use Rattle.sm_base.specs.Kinds.{is_image}
 use Rattle.sm_base.specs.declared.faults.Place.TheVariants as at
 use Rattle.sm_base.specs.declared.names.Name.{Name}
@@ -11,30 +11,31 @@ use Rattle.vg_meta.specs.Roomy.{table_alone}
 use Rattle.vg_meta.proofs.RowLaws.{row_of-name}
 use Rattle.vg_volumes.specs.declared.stores.Store.{Ghosts}
 use Rattle.common_laws.specs.Lists.{In}
-use Rattle.sm_standing.specs.Checks.{invalid_fault, is_invalid}
+use Rattle.sm_standing.specs.Checks.{children, invalid_fault, is_invalid, parent_is}
 use Rattle.sm_standing.specs.Contents.{Content}
 use Rattle.sm_standing.specs.Images.{image_of}
 use Rattle.sm_standing.specs.Outlines.{Outline, link_of, outline}
 use Rattle.sm_standing.proofs.DisksShown.{row_of-In}
 use Rattle.sm_standing.proofs.FaultLaws.{none_named}
 use Rattle.sm_standing.proofs.Orders.{In-filter_map}
-use Rattle.vhd_chain.specs.Trees.{tree_row}
+use Rattle.vhd_chain.specs.Trees.{is_child_of, row_name, tree_row}
 use Rattle.vhd_chain.specs.declared.rows.TreeRow.{TreeRow}
 use Rattle.sm_ready.specs.Outlined.{link_in}
 use Rattle.sm_ready.specs.Stores.{store_content}
 use Rattle.sm_ready.proofs.LeftLaws.{new_raw, new_vhd, none_of_raw, none_of_vhd}
 use Rattle.sm_ready.proofs.Orders.{In-tree_row}
-use Rattle.sm_recover.specs.Faults.{HasLinks, HasTable}
-use Rattle.sm_recover.specs.Loaded.{AreRowsOf, HasEachRow, as_read, read_volumes, row_among, stored_undone}
+use Rattle.sm_recover.specs.Faults.{HasChildren, HasLinks, HasTable, HasVolumes}
+use Rattle.sm_recover.specs.Loaded.{AreRowsOf, HasEachRow, IsFilledImage, as_read, read_volumes, row_among, shortened, stored_read}
 use Rattle.sm_recover.specs.Repairs.{IsUndoableStore}
 use Rattle.sm_standing.specs.Entries.{making}
-use Rattle.sm_standing.specs.Undone.{undone}
-use Rattle.common_laws.proofs.Lists.{In-map_at}
-use Rattle.sm_recover.proofs.TableLaws.{found_read, undone_checked}
-use Rattle.sm_recover.proofs.FoundLaws.{image_undone, invalid_as_read, link_read, skipped, valid_read}
-use Rattle.sm_recover.proofs.LoadedLaws.{among_of, read_from}
+use Rattle.common_laws.proofs.Lists.{In-map, In-map_at}
+use Rattle.sm_recover.proofs.TableLaws.{found_read, short_sized}
+use Rattle.sm_recover.proofs.FoundLaws.{image_short, invalid_as_read, link_read, skipped, valid_read}
+use Rattle.sm_recover.proofs.LoadedLaws.{among_is, among_of, none_among, read_from, read_row}
+use Rattle.sm_recover.proofs.TreeLaws.{child_seen, count_through}
+use Rattle.sm_ready.proofs.RowLaws.{found_in}
 
-module _ {S : Type 0} (g : Ghosts S) (store : S) (c : IsUndoableStore g store) (xs : List TreeRow) (each : HasEachRow g.told (stored_undone g store) (read_volumes (table_alone (g.table store))) xs) where
+module _ {S : Type 0} (g : Ghosts S) (store : S) (c : IsUndoableStore g store) (xs : List TreeRow) (each : HasEachRow g.told (stored_read g store) (read_volumes (table_alone (g.table store))) xs) where
   abbrev t : VolumeTable
   t = table_alone (g.table store)
 
@@ -56,9 +57,60 @@ module _ {S : Type 0} (g : Ghosts S) (store : S) (c : IsUndoableStore g store) (
           by : (k f : Bool) → is_image r.name ≡ k → r.fresh ≡ f → is_invalid x r ≡ false
           by true false image fresh =
               let w = each (seen r) (seen_in r i) (record { image = image; filled = fresh }) in
-              sym (invalid_as_read (making t) x r) ∙ valid_read g.told (g.site store) (undone t) (g.area store) (seen r) has w.0.image w.2.image (links r.name ∙ ap link_in w.1)
+              sym (invalid_as_read (making t) x r) ∙ valid_read g.told (g.site store) (shortened t) (g.area store) (seen r) has w.0.image w.2.image (links r.name ∙ ap link_in w.1)
           by false f image fresh = skipped x r (λ w. true≢false (sym w.image ∙ image))
           by true true image fresh = skipped x r (λ w. true≢false (sym fresh ∙ w.filled))
+
+  -- a volume that is none of an image that is not new has no row
+  unfound : AreRowsOf (read_volumes t) xs → (r : Row) → In r t.volumes → (IsFilledImage r → ⊥) → tree_row xs r.name ≡ None
+  unfound are r i none = by (tree_row xs r.name) refl
+    where
+      by : (o : Option TreeRow) → tree_row xs r.name ≡ o → o ≡ None
+      by None is = refl
+      by (Some y) is =
+          let v = In-tree_row xs r.name y is in
+          let w = In-filter_map (row_among xs) (read_volumes t) y (subst (In y) are v.0) in
+          let f = (among_of xs w.0 y w.2).filled in
+          let q = In-map seen t.volumes w.0 w.1 in
+          let named : q.0.name ≡ r.name = sym (ap (λ (z : Row). z.name) q.2) ∙ sym (read_from xs w.0 y w.2).named ∙ v.1 in
+          let same = same_Some q.0 r (sym (found_in t.volumes c.table.volumes.rising q.0 q.1) ∙ ap (rows t) named ∙ found_in t.volumes c.table.volumes.rising r i) in
+          let filled : IsFilledImage (seen q.0) = subst IsFilledImage q.2 f in
+          absurd (none (subst IsFilledImage same (record { image = filled.image; filled = filled.filled })))
+
+  -- the children of a VHD image are as many as in memory
+  pub children_counted : AreRowsOf (read_volumes t) xs → (x : Outline) → x.table ≡ t → HasLinks xs x → HasChildren xs x
+  unfolding children
+  children_counted are x is links u =
+      ap (λ (v : VolumeTable). length (filter (λ r. parent_is (Vhd u) (x.links r.name)) v.volumes)) is
+      ∙ count_through seen (row_among xs) (λ r. parent_is (Vhd u) (x.links r.name)) (is_child_of (Vhd u)) t.volumes (λ r i. one r i)
+      ∙ ap (λ ys. length (filter (is_child_of (Vhd u)) ys)) (sym are)
+    where
+      one : (r : Row) → In r t.volumes → parent_is (Vhd u) (x.links r.name) ≡ elim (row_among xs (seen r)) as (λ _. Bool) [ None ↦ false | Some y ↦ is_child_of (Vhd u) y ]
+      one r i = ap (parent_is (Vhd u)) (links r.name) ∙ by (is_image r.name) r.fresh refl refl
+        where
+          not_filled : (IsFilledImage r → ⊥) → parent_is (Vhd u) (link_in (tree_row xs r.name)) ≡ elim (row_among xs (seen r)) as (λ _. Bool) [ None ↦ false | Some y ↦ is_child_of (Vhd u) y ]
+          not_filled none =
+              ap (λ o. parent_is (Vhd u) (link_in o)) (unfound are r i none)
+              ∙ sym (ap (λ o. elim o as (λ _. Bool) [ None ↦ false | Some y ↦ is_child_of (Vhd u) y ]) (none_among xs (seen r) (λ f. none (record { image = f.image; filled = f.filled }))))
+
+          by : (k f : Bool) → is_image r.name ≡ k → r.fresh ≡ f → parent_is (Vhd u) (link_in (tree_row xs r.name)) ≡ elim (row_among xs (seen r)) as (λ _. Bool) [ None ↦ false | Some y ↦ is_child_of (Vhd u) y ]
+          by false f image fresh = not_filled (λ w. true≢false (sym w.image ∙ image))
+          by true true image fresh = not_filled (λ w. true≢false (sym fresh ∙ w.filled))
+          by true false image fresh =
+              child_seen u (tree_row xs r.name) (λ y. record { image = y.image; hidden = r.hidden; extents = length (seen r).extents }) (λ y. refl)
+              ∙ sym (ap (λ o. elim o as (λ _. Bool) [ None ↦ false | Some y ↦ is_child_of (Vhd u) y ]) (among_is xs (seen r) (record { image = image; filled = fresh })))
+
+  -- and each of them is that of a volume
+  pub volumes_seen : AreRowsOf (read_volumes t) xs → (x : Outline) → x.table ≡ t → HasVolumes xs x
+  volumes_seen are x is y i =
+      let w = read_row are each y i in
+      let q = In-map seen t.volumes w.volume w.there in
+      let named : q.0.name ≡ row_name y = sym (ap (λ (z : Row). z.name) q.2) ∙ sym w.row.named in (
+        q.0,
+        subst (λ (v : VolumeTable). In q.0 v.volumes) (sym is) q.1,
+        named,
+        ap (λ n. link_in (tree_row xs n)) w.row.named ∙ ap link_in w.at ∙ ap (λ b. link_in (Some (record { image = b; hidden = y.hidden; extents = y.extents }))) w.same,
+      )
 
   module _ (are : AreRowsOf (read_volumes t) xs) (told : g.told) where
     abbrev now : Content
@@ -72,8 +124,8 @@ module _ {S : Type 0} (g : Ghosts S) (store : S) (c : IsUndoableStore g store) (
         let filled = (among_of xs r y w.2).filled in
         let e = each r w.1 filled in
         subst (λ m. link_of (image_of now m) ≡ link_in (tree_row xs m)) (sym (read_from xs r y w.2).named ∙ v.1)
-        (ap link_of (sym (image_undone (g.site store) t (g.area store) c r.name))
-        ∙ link_read g.told (g.site store) (undone t) (g.area store) r e.0.image (undone_checked c).plain (found_read c r w.1 filled.image) filled.filled e.2.image told ∙ sym (ap link_in e.1))
+        (ap link_of (sym (image_short (g.site store) t (g.area store) c r.name))
+        ∙ link_read g.told (g.site store) (shortened t) (g.area store) r e.0.image (short_sized c) (found_read c r w.1 filled.image) filled.filled e.2.image told ∙ sym (ap link_in e.1))
 
     filled_none : (n : Name) (r : Row) → is_image n ≡ true → rows t n ≡ Some r → r.fresh ≡ false → tree_row xs n ≡ None → ⊥
     filled_none n r image there filled none =

@@ -1,4 +1,4 @@
--- An opening from the checks on: what stands once an enlargement was undone is what the checks read, without the enlargement.
+-- An opening from the checks on: what stands once a fork or an enlargement was undone is what the checks read, without it.
 use Rattle.std.proofs.Common.{◌≡◌, ℕ, List, None, sym, ap, ap₂, ◌∙◌, subst, subst₂}
 use Rattle.sm_disk.specs.Held.{Held, IsSettled, Keeps}
 use Rattle.vg_meta.specs.Roomy.{table_alone}
@@ -25,7 +25,7 @@ use Rattle.sm_ready.proofs.CleanLaws.{few_from}
 use Rattle.sm_recover.specs.Loaded.{stored_undone}
 use Rattle.sm_recover.specs.Repairs.{IsChecked, IsCheckedStore, IsUndoableStore}
 use Rattle.sm_recover.specs.Stores.{MayBeRepairedFrom}
-use Rattle.sm_recover.proofs.TableLaws.{undone_checked}
+use Rattle.sm_recover.proofs.UndoneLaws.{undone_checked}
 use Rattle.sm_recover.proofs.UndoLaws.{few_behind, held_same}
 
 -- what a stop leaves while it is undone

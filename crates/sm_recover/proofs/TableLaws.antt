@@ -1,5 +1,5 @@
 -- The table without an enlargement: its volumes are those of the table in the extents in which their images are read, without
--- the entry; so what is known of it is what the checks of the table with it leave known.
+-- the entry.
 use Rattle.std.proofs.Common.{◌≡◌, ◌≢◌, ◌⊎◌, inl, inr, ℕ, Bool, true, false, cond, List, [], ◌∷◌, length, map, take, ◌*◌, ◌≤◌, arith, Option, Some, None, refl, sym, ap, ap₂, ◌∙◌, subst, arith}
 use Rattle.std.specs.Prelude.{option_map}
 use Rattle.std.specs.List.{AllByRecursion, filter_map, cons_option}
@@ -12,33 +12,29 @@ use Rattle.sm_base.specs.Names.{name_cmp}
 use Rattle.sm_base.specs.declared.names.Name.{Name}
 use Rattle.sm_base.specs.declared.names.Name.TheVariants.{Mgt, Vhd, Raw, Old, Clone, Inflate, Coalesce, Relink, Leaf}
 use Rattle.vg_meta.specs.Changes.{cut_to, with_row, without}
-use Rattle.vg_meta.specs.Tables.{IsTable, Row, VolumeTable, name_eq, names_of, row_of, rows}
+use Rattle.vg_meta.specs.Tables.{Row, VolumeTable, name_eq, names_of, row_of, rows}
 use Rattle.vg_meta.proofs.NameLaws.{less_other, name_eq-false, name_eq-other, name_eq-true}
 use Rattle.vg_meta.proofs.RowLaws.{IsRising, row_of-without_other}
 use Rattle.common_laws.specs.Lists.{In, when}
 use Rattle.common_laws.proofs.Bytes.{bytes_eq-refl, bytes_eq-same}
-use Rattle.common_laws.proofs.Lists.{filter-In, In-map, In-map_at}
+use Rattle.common_laws.proofs.Lists.{In-map}
 use Rattle.sm_machine.specs.Shapes.{same_image}
-use Rattle.sm_standing.specs.Entries.{is_making, making}
+use Rattle.sm_standing.specs.Entries.{head, is_making, making}
 use Rattle.sm_standing.specs.Images.{image_extents}
-use Rattle.sm_standing.specs.Plain.{IsPlain, is_plain, is_simple}
-use Rattle.sm_standing.specs.Undone.{IsBeingEnlarged, undone}
-use Rattle.sm_standing.proofs.UndoneLaws.{enlarged_or_not, images_undone, named_undone, stands_undone, undone_is_table, undone_later, undone_none, undone_volumes}
-use Rattle.sm_recover.specs.Repairs.{IsChecked, IsUndoable}
+use Rattle.sm_standing.specs.Undone.{IsBeingEnlarged, applied_all, undone}
+use Rattle.sm_standing.proofs.UndoneLaws.{undone_making, undone_volumes}
+use Rattle.sm_recover.specs.Repairs.{IsUndoable}
 use Rattle.vg_volumes.specs.Sites.{Site, size_of}
-use Rattle.sm_machine.specs.Shapes.{image_limit}
-use Rattle.sm_standing.specs.Checks.{images, is_misnamed}
-use Rattle.sm_standing.specs.Standing.{standing_volume}
 use Rattle.vg_meta.specs.Tables.{extents_of}
 use Rattle.vg_meta.proofs.RowLaws.{row_of-name}
 use Rattle.sm_base.specs.Kinds.{is_image}
 use Rattle.sm_base.proofs.NumberLemmas.{le-div_up}
 use Rattle.vg_layout.specs.Places.{record_extents}
-use Rattle.std.proofs.lemmas.Option.{same_Some}
+use Rattle.std.proofs.lemmas.Option.{none-some, same_Some}
 use Rattle.sm_ready.proofs.RowLaws.{found_in}
 use Rattle.sm_standing.proofs.PlainDisks.{all-In}
-use Rattle.sm_standing.proofs.PlainKept.{all-of, simple_plain_name}
-use Rattle.sm_recover.specs.Loaded.{as_read, read_volumes}
+use Rattle.sm_recover.specs.Loaded.{as_read, read_volumes, shortened, shortened_by}
+use Rattle.sm_recover.proofs.EntryLaws.{changes_some, enlarged_found, head_alone, undone_applied}
 
 -- an image is no entry
 pub image_not_making : (n : Name) → is_image n ≡ true → is_making n ≡ false
@@ -55,7 +51,7 @@ image_not_making (Leaf l p) image = absurd (true≢false (sym image))
 -- ---- a volume as its image is read
 
 -- an entry speaks of the image of a name by it
-own_name : (u : List ℕ) (n : Name) → same_image (Vhd u) n ≡ name_eq n (Vhd u)
+pub own_name : (u : List ℕ) (n : Name) → same_image (Vhd u) n ≡ name_eq n (Vhd u)
 unfolding same_image name_eq
 own_name u (Vhd v) = by (bytes_eq u v) (bytes_eq v u) refl refl
   where
@@ -131,9 +127,37 @@ other_extents (e ∷ ns) n all other = other_entry e n all other
 pub other_whole : (ns : List Name) (r : Row) → image_extents ns r.name (length r.extents) ≡ length r.extents → as_read ns r ≡ r
 other_whole ns r all = ap (λ n. record r { extents = take n r.extents }) all ∙ whole r
 
--- where no entry is there, each is as it is
-pub read_none : (t : VolumeTable) → making t ≡ [] → read_volumes t ≡ t.volumes
-read_none t none = ap (λ ns. map (as_read ns) t.volumes) none ∙ map_none (as_read []) t.volumes (λ r i. whole r)
+-- a table that tells of no enlargement: each volume is read as it is
+pub record IsWhole (t : VolumeTable) : Type 0 where
+  pub table : shortened t ≡ t
+  pub extents : (n : Name) (all : ℕ) → image_extents (making t) n all ≡ all
+
+pub read_whole : (t : VolumeTable) → IsWhole t → read_volumes t ≡ t.volumes
+read_whole t k = map_none (as_read (making t)) t.volumes (λ r i. other_whole (making t) r (k.extents r.name (length r.extents)))
+
+pub whole_alone : (t : VolumeTable) (n : Name) → making t ≡ n ∷ [] → ((u : List ℕ) (e : ℕ) → n ≢ Inflate u e) → IsWhole t
+unfolding shortened
+whole_alone t n is other = by n is other
+  where
+    by : (n : Name) → making t ≡ n ∷ [] → ((u : List ℕ) (e : ℕ) → n ≢ Inflate u e) → IsWhole t
+    by (Inflate u e) is other = absurd (other u e refl)
+    by Mgt is other = record { table = ap (λ ns. shortened_by t (head ns)) is; extents = λ m all. ap (λ ns. image_extents ns m all) is }
+    by (Vhd u) is other = record { table = ap (λ ns. shortened_by t (head ns)) is; extents = λ m all. ap (λ ns. image_extents ns m all) is }
+    by (Raw u) is other = record { table = ap (λ ns. shortened_by t (head ns)) is; extents = λ m all. ap (λ ns. image_extents ns m all) is }
+    by (Old u) is other = record { table = ap (λ ns. shortened_by t (head ns)) is; extents = λ m all. ap (λ ns. image_extents ns m all) is }
+    by (Clone d b w) is other = record { table = ap (λ ns. shortened_by t (head ns)) is; extents = λ m all. ap (λ ns. image_extents ns m all) is }
+    by (Coalesce v p) is other = record { table = ap (λ ns. shortened_by t (head ns)) is; extents = λ m all. ap (λ ns. image_extents ns m all) is }
+    by (Relink v p) is other = record { table = ap (λ ns. shortened_by t (head ns)) is; extents = λ m all. ap (λ ns. image_extents ns m all) is }
+    by (Leaf l p) is other = record { table = ap (λ ns. shortened_by t (head ns)) is; extents = λ m all. ap (λ ns. image_extents ns m all) is }
+
+pub whole_none : (t : VolumeTable) → making t ≡ [] → IsWhole t
+unfolding shortened
+whole_none t none = record { table = ap (λ ns. shortened_by t (head ns)) none; extents = λ m all. ap (λ ns. image_extents ns m all) none }
+
+-- and one that does: it is what is undone
+pub shortened_undone : (t : VolumeTable) (u : List ℕ) (e : ℕ) → making t ≡ Inflate u e ∷ [] → shortened t ≡ undone t
+unfolding shortened
+shortened_undone t u e is = ap (λ ns. shortened_by t (head ns)) is ∙ ap (applied_all t) (sym (changes_some t (Inflate u e) (ap head is))) ∙ sym (undone_applied t)
 
 -- ---- the volumes of a table without one, and with each one changed
 
@@ -187,7 +211,7 @@ without_others n (s ∷ rs) r rising i = by (name_eq s.name n) refl i (λ j. wit
     by false is (inl same) rest = λ e. name_eq-false s.name n is (ap (λ (x : Row). x.name) (sym same) ∙ e)
     by false is (inr i) rest = rest i
 
--- ---- the table without the enlargement
+-- ---- the table without an enlargement
 
 -- no volume of a name that is no entry's
 not_entry : (u : List ℕ) (e : ℕ) (n : Name) → is_making n ≡ false → n ≢ Inflate u e
@@ -195,7 +219,7 @@ not_entry u e n no_entry is = true≢false (sym (ap is_making is) ∙ no_entry)
 
 -- what becomes of its volumes is as of those that are read: the entry gives nothing
 module _ {B : Type 0} (f : Row → Option B) where
-  filtered_without : (n : Name) (rs : List Row) → ((r : Row) → r.name ≡ n → f r ≡ None) → filter_map f (without n rs) ≡ filter_map f rs
+  pub filtered_without : (n : Name) (rs : List Row) → ((r : Row) → r.name ≡ n → f r ≡ None) → filter_map f (without n rs) ≡ filter_map f rs
   unfolding without
   filtered_without n [] none = refl
   filtered_without n (r ∷ rs) none = by (name_eq r.name n) refl (filtered_without n rs none)
@@ -208,8 +232,11 @@ module _ {t : VolumeTable} {u : List ℕ} {e : ℕ} (w : IsBeingEnlarged t u e) 
   read_is : read_volumes t ≡ with_row (Vhd u) (cut_to e) t.volumes
   read_is = ap (λ ns. map (as_read ns) t.volumes) w.entry ∙ map_same (as_read (Inflate u e ∷ [])) (cut_row u e) t.volumes (λ r i. read_one u e r) ∙ sym (cut_mapped u e t.volumes rising)
 
-  undone_read : (undone t).volumes ≡ without (Inflate u e) (read_volumes t)
-  undone_read = undone_volumes t u e w ∙ ap (without (Inflate u e)) (sym read_is)
+  short : shortened t ≡ undone t
+  short = shortened_undone t u e w.entry
+
+  short_read : (shortened t).volumes ≡ without (Inflate u e) (read_volumes t)
+  short_read = ap (λ (x : VolumeTable). x.volumes) short ∙ undone_volumes t u e w ∙ ap (without (Inflate u e)) (sym read_is)
 
 read_name : (ns : List Name) (r : Row) → (as_read ns r).name ≡ r.name
 read_name ns r = refl
@@ -219,124 +246,90 @@ module _ {s : Site} {t : VolumeTable} (c : IsUndoable s t) where
   rising = c.table.volumes.rising
 
   abbrev pub Cases : Type 0
-  Cases = (making t ≡ []) ⊎ ((u : List ℕ) × (e : ℕ) × IsBeingEnlarged t u e)
+  Cases = IsWhole t ⊎ ((u : List ℕ) × (e : ℕ) × IsBeingEnlarged t u e)
 
   pub cases : Cases
-  cases = enlarged_or_not s.count t c.table c.simple c.one_entry c.at_stage
+  cases = by (head (making t)) refl
+    where
+      of : (n : Name) → head (making t) ≡ Some n → Cases
+      of (Inflate u e) found = inr (u, e, enlarged_found u e c found)
+      of Mgt found = inl (whole_alone t Mgt (head_alone (making t) Mgt found c.one_entry) (λ v k is. let x = is in cc))
+      of (Vhd v) found = inl (whole_alone t (Vhd v) (head_alone (making t) (Vhd v) found c.one_entry) (λ u k is. let x = is in cc))
+      of (Raw v) found = inl (whole_alone t (Raw v) (head_alone (making t) (Raw v) found c.one_entry) (λ u k is. let x = is in cc))
+      of (Old v) found = inl (whole_alone t (Old v) (head_alone (making t) (Old v) found c.one_entry) (λ u k is. let x = is in cc))
+      of (Clone d b w) found = inl (whole_alone t (Clone d b w) (head_alone (making t) (Clone d b w) found c.one_entry) (λ u k is. let x = is in cc))
+      of (Coalesce v p) found = inl (whole_alone t (Coalesce v p) (head_alone (making t) (Coalesce v p) found c.one_entry) (λ u k is. let x = is in cc))
+      of (Relink v p) found = inl (whole_alone t (Relink v p) (head_alone (making t) (Relink v p) found c.one_entry) (λ u k is. let x = is in cc))
+      of (Leaf l p) found = inl (whole_alone t (Leaf l p) (head_alone (making t) (Leaf l p) found c.one_entry) (λ u k is. let x = is in cc))
+
+      nothing : (ns : List Name) → head ns ≡ None → ns ≡ []
+      nothing [] none = refl
+      nothing (n ∷ ns) none = absurd (none-some n (sym none))
+
+      by : (o : Option Name) → head (making t) ≡ o → Cases
+      by None none = inl (whole_none t (nothing (making t) none))
+      by (Some n) found = of n found
 
   read_rising : IsRising (read_volumes t)
   read_rising = subst (IsStrictlySortedBy name_cmp) (sym (names_mapped (as_read (making t)) (read_name (making t)) t.volumes)) rising
 
-  making_listed : (q : Row) → In q t.volumes → is_making q.name ≡ true → In q.name (making t)
-  making_listed q i is = filter-In is_making (names_of t.volumes) q.name (In-map_at (λ (x : Row). x.name) t.volumes q i) is
-
-  no_entry_by : (b : Bool) (n : Name) → is_making n ≡ b → (is_making n ≡ true → ⊥) → is_making n ≡ false
-  no_entry_by false n is never = is
-  no_entry_by true n is never = absurd (never is)
-
-  -- a volume of it is one from before that is no entry, as its image is read
+  -- a volume of it is one from before, as its image is read
   pub record IsFrom (r : Row) : Type 0 where
     pub volume : Row
     pub there : In volume t.volumes
     pub is : r ≡ as_read (making t) volume
-    pub no_entry : is_making volume.name ≡ false
 
-  pub undone_from : (r : Row) → In r (undone t).volumes → IsFrom r
-  undone_from r i = by cases
+  pub short_in : (r : Row) → In r (shortened t).volumes → In r (read_volumes t)
+  short_in r i = by cases
     where
-      from : (q : Row) → In q t.volumes → r ≡ as_read (making t) q → (is_making q.name ≡ true → ⊥) → IsFrom r
-      from q there is never = record { volume = q; there = there; is = is; no_entry = no_entry_by (is_making q.name) q.name refl never }
+      by : Cases → In r (read_volumes t)
+      by (inl k) = subst (In r) (ap (λ (x : VolumeTable). x.volumes) k.table ∙ sym (read_whole t k)) i
+      by (inr (u, e, w)) = In-without (Inflate u e) (read_volumes t) r (subst (In r) (short_read w rising) i)
 
-      by : Cases → IsFrom r
-      by (inl none) =
-          let q = In-map (as_read (making t)) t.volumes r (subst (In r) (ap (λ (x : VolumeTable). x.volumes) (undone_none t none) ∙ sym (read_none t none)) i) in
-          from q.0 q.1 q.2 (λ is. let listed : In q.0.name [] = subst (In q.0.name) none (making_listed q.0 q.1 is) in absurd listed)
-      by (inr (u, e, w)) =
-          let j = subst (In r) (undone_read w rising) i in
-          let q = In-map (as_read (making t)) t.volumes r (In-without (Inflate u e) (read_volumes t) r j) in
-          from q.0 q.1 q.2 (λ is. alone (subst (In q.0.name) w.entry (making_listed q.0 q.1 is)) (λ same.
-          without_others (Inflate u e) (read_volumes t) r read_rising j (ap (λ (x : Row). x.name) q.2 ∙ same)))
-        where
-          alone : {n m : Name} → In n (m ∷ []) → (n ≡ m → ⊥) → ⊥
-          alone (inl is) never = never is
-          alone (inr none) never = absurd none
-
-  pub undone_in : (r : Row) → In r (undone t).volumes → In r (read_volumes t)
-  undone_in r i = let f = undone_from r i in subst (λ x. In x (read_volumes t)) (sym f.is) (In-map_at (as_read (making t)) t.volumes f.volume f.there)
+  pub short_from : (r : Row) → In r (shortened t).volumes → IsFrom r
+  short_from r i = let q = In-map (as_read (making t)) t.volumes r (short_in r i) in record { volume = q.0; there = q.1; is = q.2 }
 
   -- what its volumes give
-  pub undone_filtered : {B : Type 0} (f : Row → Option B) → ((r : Row) → is_making r.name ≡ true → f r ≡ None) → filter_map f (undone t).volumes ≡ filter_map f (read_volumes t)
-  undone_filtered f nothing = by cases
+  pub short_filtered : {B : Type 0} (f : Row → Option B) → ((r : Row) → is_making r.name ≡ true → f r ≡ None) → filter_map f (shortened t).volumes ≡ filter_map f (read_volumes t)
+  short_filtered f nothing = by cases
     where
-      by : Cases → filter_map f (undone t).volumes ≡ filter_map f (read_volumes t)
-      by (inl none) = ap (filter_map f) (ap (λ (x : VolumeTable). x.volumes) (undone_none t none) ∙ sym (read_none t none))
-      by (inr (u, e, w)) = ap (filter_map f) (undone_read w rising) ∙ filtered_without f (Inflate u e) (read_volumes t) (λ r is. nothing r (ap is_making is))
+      by : Cases → filter_map f (shortened t).volumes ≡ filter_map f (read_volumes t)
+      by (inl k) = ap (filter_map f) (ap (λ (x : VolumeTable). x.volumes) k.table ∙ sym (read_whole t k))
+      by (inr (u, e, w)) = ap (filter_map f) (short_read w rising) ∙ filtered_without f (Inflate u e) (read_volumes t) (λ r is. nothing r (ap is_making is))
 
   -- by name
-  pub undone_row : (n : Name) → is_making n ≡ false → rows (undone t) n ≡ option_map (as_read (making t)) (rows t n)
-  undone_row n no_entry = by cases
+  pub short_row : (n : Name) → is_making n ≡ false → rows (shortened t) n ≡ option_map (as_read (making t)) (rows t n)
+  short_row n no_entry = by cases
     where
       read_row : row_of (read_volumes t) n ≡ option_map (as_read (making t)) (rows t n)
       read_row = row_of_mapped (as_read (making t)) (read_name (making t)) t.volumes n
 
-      by : Cases → rows (undone t) n ≡ option_map (as_read (making t)) (rows t n)
-      by (inl none) = ap (λ (x : VolumeTable). rows x n) (undone_none t none) ∙ ap (λ rs. row_of rs n) (sym (read_none t none)) ∙ read_row
+      by : Cases → rows (shortened t) n ≡ option_map (as_read (making t)) (rows t n)
+      by (inl k) = ap (λ (x : VolumeTable). rows x n) k.table ∙ ap (λ rs. row_of rs n) (sym (read_whole t k)) ∙ read_row
       by (inr (u, e, w)) =
-          ap (λ rs. row_of rs n) (undone_read w rising) ∙ row_of-without_other (read_volumes t) (Inflate u e) n (λ is. not_entry u e n no_entry (sym is)) ∙ read_row
-
-  plain_undone : IsPlain (undone t)
-  plain_undone = all-of (λ r. is_plain r ≡ true) (undone t).volumes (λ r i.
-      let f = undone_from r i in
-      ap is_plain f.is ∙ simple_plain_name f.volume.hidden f.volume.name (all-In (λ (x : Row). is_simple x ≡ true) t.volumes f.volume c.simple f.there) f.no_entry)
+          ap (λ rs. row_of rs n) (short_read w rising) ∙ row_of-without_other (read_volumes t) (Inflate u e) n (λ is. not_entry u e n no_entry (sym is)) ∙ read_row
 
   -- its volume of records is the same
-  pub records_undone : rows (undone t) Mgt ≡ rows t Mgt
-  records_undone = undone_row Mgt refl ∙ by (rows t Mgt) refl
+  pub records_short : rows (shortened t) Mgt ≡ rows t Mgt
+  records_short = short_row Mgt refl ∙ by (rows t Mgt) refl
     where
       by : (o : Option Row) → rows t Mgt ≡ o → option_map (as_read (making t)) o ≡ o
       by None is = refl
       by (Some r) is = ap Some (other_whole (making t) r (other_extents (making t) r.name (length r.extents) (λ u same. let x = sym (row_of-name t.volumes Mgt r is) ∙ same in cc)))
 
-  -- what is known of it
-  pub undone_checked : IsChecked s (undone t)
-  undone_checked = record {
-    table = tabled cases;
-    few_extents = c.few_extents;
-    plain = plain_undone;
-    few_images = subst (λ n. n ≤ image_limit) (sym (counted cases)) c.few_images;
-    record_volume = ap (λ o. length (extents_of o)) records_undone ∙ c.record_volume;
-  }
+  pub short_sized : (n : Name) (all : ℕ) → image_extents (making (shortened t)) n all ≡ all
+  short_sized n all = by cases
     where
-      tabled : Cases → IsTable s.count (undone t)
-      tabled (inl none) = subst (IsTable s.count) (sym (undone_none t none)) c.table
-      tabled (inr (u, e, w)) = undone_is_table t u e w s.count c.table
-
-      counted : Cases → length (images (undone t)) ≡ length (images t)
-      counted (inl none) = ap (λ x. length (images x)) (undone_none t none)
-      counted (inr (u, e, w)) = images_undone t u e w
-
-  -- a UUID stands where it stood
-  pub undone_stands : (v : List ℕ) → standing_volume (undone t) v ≡ standing_volume t v
-  undone_stands v = by cases
-    where
-      by : Cases → standing_volume (undone t) v ≡ standing_volume t v
-      by (inl none) = ap (λ x. standing_volume x v) (undone_none t none)
-      by (inr (u, e, w)) = stands_undone t u e w (undone t).sequence c.simple v
-
-  -- no image is named wrongly
-  pub undone_named : ((r : Row) → In r t.volumes → is_misnamed t r ≡ false) → (r : Row) → In r (undone t).volumes → is_misnamed (undone t) r ≡ false
-  undone_named named = by cases
-    where
-      by : Cases → (r : Row) → In r (undone t).volumes → is_misnamed (undone t) r ≡ false
-      by (inl none) = subst (λ x. (r : Row) → In r x.volumes → is_misnamed x r ≡ false) (sym (undone_none t none)) named
-      by (inr (u, e, w)) = named_undone t u e w (undone t).sequence (undone_later t u e w s.count c.table) named
+      by : Cases → image_extents (making (shortened t)) n all ≡ all
+      by (inl k) = ap (λ x. image_extents (making x) n all) k.table ∙ k.extents n all
+      by (inr (u, e, w)) = ap (λ x. image_extents (making x) n all) (short w rising) ∙ ap (λ ns. image_extents ns n all) (undone_making t u e w)
 
   -- an image is read in extents that its volume has, and in one at least
   read_by : (r : Row) → In r t.volumes → (P : ℕ → Type 0) → P (length r.extents) → ((u : List ℕ) (e : ℕ) → IsBeingEnlarged t u e → r.name ≡ Vhd u → P e) → P (image_extents (making t) r.name (length r.extents))
   read_by r i P all own = by cases
     where
       by : Cases → P (image_extents (making t) r.name (length r.extents))
-      by (inl none) = subst (λ ns. P (image_extents ns r.name (length r.extents))) (sym none) all
+      by (inl k) = subst P (sym (k.extents r.name (length r.extents))) all
       by (inr (u, e, w)) = subst (λ ns. P (image_extents ns r.name (length r.extents))) (sym w.entry) (chosen (same_image (Vhd u) r.name) refl)
         where
           chosen : (b : Bool) → same_image (Vhd u) r.name ≡ b → P (cond b e (length r.extents))
@@ -352,11 +345,11 @@ module _ {s : Site} {t : VolumeTable} (c : IsUndoable s t) where
   read_some r i some = read_by r i (λ k. 1 ≤ k) some (λ u e w named. w.some)
 
   -- the volume of an image that is read is found
-  pub found_read : (r : Row) → In r (read_volumes t) → is_image r.name ≡ true → rows (undone t) r.name ≡ Some r
+  pub found_read : (r : Row) → In r (read_volumes t) → is_image r.name ≡ true → rows (shortened t) r.name ≡ Some r
   found_read r i image =
       let q = In-map (as_read (making t)) t.volumes r i in
       let named : q.0.name ≡ r.name = ap (λ (x : Row). x.name) (sym q.2) in
-      undone_row r.name (image_not_making r.name image)
+      short_row r.name (image_not_making r.name image)
       ∙ ap (option_map (as_read (making t))) (ap (rows t) (sym named) ∙ found_in t.volumes c.table.volumes.rising q.0 q.1) ∙ ap Some (sym q.2)
 
 -- the volume of records has room for all places

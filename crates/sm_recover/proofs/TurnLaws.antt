@@ -28,16 +28,15 @@ use Rattle.vhd_chain.specs.declared.rows.TreeRow.{TreeRow}
 use Rattle.sm_standing.specs.Checks.{images, first_name, invalid_fault, is_invalid, name_in, placed}
 use Rattle.sm_standing.specs.Outlines.{Outline, link_of, outline}
 use Rattle.sm_standing.specs.Entries.{making}
-use Rattle.sm_standing.specs.Undone.{undone}
 use Rattle.sm_ready.specs.Stores.{store_content}
 use Rattle.sm_ready.proofs.AgainLaws.{stored_as}
 use Rattle.sm_ready.proofs.LoadLaws.{IsItem, among, at_item}
 use Rattle.sm_ready.proofs.RowLaws.{All-In}
 use Rattle.sm_recover.specs.Faults.{HasTable}
-use Rattle.sm_recover.specs.Loaded.{FailsAt, FailsToRead, HasEachRow, IsFilledImage, IsNoneRead, IsReadAs, IsRow, as_read, read_volumes, stored_undone}
+use Rattle.sm_recover.specs.Loaded.{FailsAt, FailsToRead, HasEachRow, IsFilledImage, IsNoneRead, IsReadAs, IsRow, as_read, read_volumes, shortened, stored_read}
 use Rattle.sm_recover.specs.Repairs.{IsStoppedBy, IsUndoable}
-use Rattle.sm_recover.proofs.FoundLaws.{image_undone, invalid_as_read, invalid_read, invalid_undone, link_read, skipped, valid_read}
-use Rattle.sm_recover.proofs.TableLaws.{found_read, undone_checked}
+use Rattle.sm_recover.proofs.FoundLaws.{image_short, invalid_as_read, invalid_read, invalid_short, link_read, skipped, valid_read}
+use Rattle.sm_recover.proofs.TableLaws.{found_read, short_sized}
 
 -- ---- the volume that a turn comes to
 
@@ -126,13 +125,13 @@ module _ {S : Type 0} {g : Ghosts S} {a b : S} (only : OnlyReads g a b) (c : IsU
   -- ---- what is found by a store that was only read is found by the one from before
 
   abbrev before : Stored
-  before = stored_undone g a
+  before = stored_read g a
 
   abbrev behind : Stored
-  behind = stored_undone g b
+  behind = stored_read g b
 
   same_stored : g.told → behind ≡ before
-  same_stored told = ap (λ (y : Stored). record y { table = undone y.table }) (stored_as only told)
+  same_stored told = ap (λ (y : Stored). record y { table = shortened y.table }) (stored_as only told)
 
   kept_as : (n : Name) (image : Body) (k : ℕ) → IsReadAs g.told behind.site.geometry (k * behind.site.geometry.extent) (held_in behind n) n image
       → IsReadAs g.told before.site.geometry (k * before.site.geometry.extent) (held_in before n) n image
@@ -181,12 +180,12 @@ module _ {S : Type 0} {g : Ghosts S} {a b : S} (only : OnlyReads g a b) (c : IsU
   seen_table = record { extent = refl; block = refl; entries = refl; table = refl }
 
   abbrev u : VolumeTable
-  u = undone t
+  u = shortened t
 
   valid_row : (r : Row) (x : TreeRow) → In r (read_volumes t) → IsFilledImage r → IsRow g.told before r x → g.told → is_invalid seen r ≡ false
   valid_row r x i f row told =
       valid_read g.told (g.site a) u (g.area a) r seen_table x.image row.image
-      (ap link_of (sym (image_undone (g.site a) t (g.area a) c r.name)) ∙ link_read g.told (g.site a) u (g.area a) r x.image (undone_checked c).plain (found_read c r i f.image) f.filled row.image told)
+      (ap link_of (sym (image_short (g.site a) t (g.area a) c r.name)) ∙ link_read g.told (g.site a) u (g.area a) r x.image (short_sized c) (found_read c r i f.image) f.filled row.image told)
 
   -- one whose image is there or that has none is not wrong
   right_row : (r : Row) → In r (read_volumes t) → (IsFilledImage r → (x : TreeRow) × IsRow g.told before r x) → g.told → is_invalid seen r ≡ false
@@ -243,8 +242,8 @@ module _ {S : Type 0} {g : Ghosts S} {a b : S} (only : OnlyReads g a b) (c : IsU
         ap (placed at.Image) (sym (first_read (is_invalid seen) t.volumes (invalid_as_read (making t) seen)))
         ∙ ap (λ o. placed at.Image (name_in o)) (first_found (is_invalid seen)
         (λ r there. right_row r (front_in r there) (λ f. let w = each r there f in (w.0, w.2)) told)
-        (invalid_undone (g.site a) t (g.area a) c here
-        ∙ invalid_read g.told (g.site a) u (g.area a) here (undone_checked c).plain (found_read c here volume_in filled.image) filled.filled (none_kept here.name (length here.extents) none) told))
+        (invalid_short (g.site a) t (g.area a) c here
+        ∙ invalid_read g.told (g.site a) u (g.area a) here (short_sized c) (found_read c here volume_in filled.image) filled.filled (none_kept here.name (length here.extents) none) told))
 
     pub stopped_at : {d : S} (xs : List TreeRow) (e : OpenFault) → HasEachRow g.told before front xs → FailsAt g behind (as_read (making (table_alone (g.table b))) h.row) e b d
         → IsStoppedBy g.told (invalid_fault seen) (g.faults a) (g.faults d) e

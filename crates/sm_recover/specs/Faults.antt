@@ -1,23 +1,27 @@
 -- The checks of an opening, by what each of them looks at: the table with the sizes alone, the images in memory, or the
 -- places of the records beside the table.
-use Rattle.std.specs.Prelude.{◌≡◌, ◌⊎◌, ℕ, Bool, false, ◌&&◌, ◌||◌, ◌==◌, not, List, [], ◌∷◌, length, Option, Some, None, is_some, count_by, if◌then◌else◌}
-use Rattle.std.specs.List.{slice_get}
+use Rattle.std.specs.Prelude.{◌≡◌, ◌⊎◌, ℕ, suc, Bool, true, false, ◌&&◌, ◌||◌, ◌==◌, not, nat_le, List, [], ◌∷◌, length, Option, Some, None, is_some, count_by, if◌then◌else◌}
+use Rattle.std.specs.List.{list_any, slice_get}
+use Rattle.std.specs.Str.{bytes_eq}
 use Rattle.sm_base.specs.declared.faults.Place.{Place}
 use Rattle.sm_base.specs.declared.names.Name.{Name}
-use Rattle.sm_base.specs.declared.names.Name.TheVariants.{Vhd, Raw, Inflate}
+use Rattle.sm_base.specs.declared.names.Name.TheVariants.{Vhd, Raw, Old, Clone, Inflate}
 use Rattle.sm_base.specs.declared.sizes.Geometry.{Geometry}
 use Rattle.std.specs.declared.cmp.Ordering.TheVariants.{Less}
-use Rattle.vg_meta.specs.Tables.{VolumeTable}
+use Rattle.vg_meta.specs.Tables.{Row, VolumeTable}
 use Rattle.sm_machine.specs.Disks.{uuid_before}
-use Rattle.common_laws.specs.Lists.{given}
+use Rattle.sm_machine.specs.Shapes.{chain_limit, same_image}
+use Rattle.common_laws.specs.Lists.{In, given}
 use Rattle.sm_record.specs.declared.records.Record.{Record}
 use Rattle.sm_mgt.specs.Places.{place_count, is_of, as_reading}
-use Rattle.sm_standing.specs.Checks.{record_volume_fault, too_many_fault, misnamed_fault, entry_ahead_fault, second_entry_fault, lost_entry_fault, image_ahead_fault, invalid_fault, parent_ahead_fault}
+use Rattle.sm_standing.specs.Checks.{record_volume_fault, too_many_fault, misnamed_fault, entry_ahead_fault, second_entry_fault, lost_entry_fault, old_leaf_fault, invalid_fault, tree_fault, entry_link_fault, has_uuid, is_no_larger, children}
 use Rattle.sm_standing.specs.Outlines.{Outline}
-use Rattle.sm_standing.specs.Entries.{is_inflating, is_past, is_visible}
+use Rattle.sm_standing.specs.Entries.{image_with, is_fork_made, is_hidden, is_inflating, is_past, is_there, is_visible}
 use Rattle.sm_standing.specs.Ordered.{uuid_cmp}
 use Rattle.sm_standing.specs.Standing.{standing_volume}
-use Rattle.vhd_chain.specs.Trees.{tree_row, parent_of}
+use Rattle.vhd_image.specs.Bodies.{parent_name, sector_count}
+use Rattle.vhd_image.specs.declared.images.Body.{Body}
+use Rattle.vhd_chain.specs.Trees.{chain_length, children as children_in, row_name, tree_row}
 use Rattle.vhd_chain.specs.declared.rows.TreeRow.{TreeRow}
 use Rattle.sm_ready.specs.Outlined.{link_in}
 
@@ -36,45 +40,129 @@ table_faults x = record_volume_fault x
     ∷ entry_ahead_fault x
     ∷ second_entry_fault x
     ∷ lost_entry_fault x
-    ∷ image_ahead_fault x
+    ∷ old_leaf_fault x
     ∷ []
 
--- an enlargement that stands at no stage, or of an image that is still to come
-abbrev pub is_enlarging_lost : VolumeTable → Name → Bool
-is_enlarging_lost t (Inflate u extents) = not (is_inflating t u extents) || not (is_past t.sequence u)
-is_enlarging_lost t _ = false
+-- an image of a UUID is there, or an old leaf
+abbrev pub has_any : VolumeTable → List ℕ → Bool
+has_any t u = is_there t (Vhd u) || (is_there t (Raw u) || is_there t (Old u))
 
--- the checks of the images pass: each is valid, and none has a parent
+-- exactly one of them
+abbrev pub has_one : VolumeTable → List ℕ → Bool
+has_one t u = if is_there t (Vhd u) then not (is_there t (Raw u)) && not (is_there t (Old u)) else if is_there t (Raw u) then not (is_there t (Old u)) else is_there t (Old u)
+
+-- one of them that is visible and not new
+abbrev pub is_any_visible : VolumeTable → List ℕ → Bool
+is_any_visible t u = is_visible t (Vhd u) || (is_visible t (Raw u) || is_visible t (Old u))
+
+-- a fork before the disk's image is renamed
+abbrev pub is_begun : VolumeTable → List ℕ → List ℕ → List ℕ → Bool
+is_begun t disk base twin = not (has_any t base) && (not (has_any t twin) && (has_one t disk && is_any_visible t disk))
+
+-- a fork at a stage, where no entry of the other group is there
+abbrev pub is_fork_at_stage : VolumeTable → List ℕ → List ℕ → List ℕ → Bool
+is_fork_at_stage t disk base twin =
+    not (bytes_eq disk base) && (not (bytes_eq disk twin) && (not (bytes_eq base twin)
+    && (is_begun t disk base twin || is_fork_made t disk base twin)))
+
+-- an enlargement or a fork that stands at no stage, or whose UUIDs are still to come
+abbrev pub is_making_lost : VolumeTable → Name → Bool
+is_making_lost t (Inflate u extents) = not (is_inflating t u extents) || not (is_past t.sequence u)
+is_making_lost t (Clone disk base twin) =
+    not (is_fork_at_stage t disk base twin) || not (is_past t.sequence disk && (is_past t.sequence base && is_past t.sequence twin))
+is_making_lost t _ = false
+
+-- the name of an old leaf
+abbrev pub is_old : Name → Bool
+is_old (Old u) = true
+is_old _ = false
+
+-- the checks of the images pass: each is valid, and stands in its tree as it should, also where a fork is under way
 pub record PassImages (x : Outline) : Type 0 where
   pub valid : invalid_fault x ≡ None
-  pub alone : parent_ahead_fault x ≡ None
+  pub placed : tree_fault x ≡ None
+  pub linked : entry_link_fault x ≡ None
 
 -- an outline with the links of these rows
 abbrev pub HasLinks : List TreeRow → Outline → Type 0
 HasLinks xs x = (n : Name) → x.links n ≡ link_in (tree_row xs n)
 
--- whether the VHD image of a name has a parent in memory
-abbrev pub has_parent_in : List TreeRow → Name → Bool
-has_parent_in xs (Vhd u) = is_some (parent_of xs (Vhd u))
-has_parent_in xs _ = false
+-- an outline in which each VHD image has as many children as among these rows
+abbrev pub HasChildren : List TreeRow → Outline → Type 0
+HasChildren xs x = (u : List ℕ) → length (children x (Vhd u)) ≡ length (children_in xs (Vhd u))
+
+-- an outline in which each of these rows is seen: a volume has its name, and by that it is found
+abbrev pub HasVolumes : List TreeRow → Outline → Type 0
+HasVolumes xs x = (y : TreeRow) → In y xs → (r : Row) × In r x.table.volumes × (r.name ≡ row_name y) × (link_in (tree_row xs (row_name y)) ≡ link_in (Some y))
+
+-- ---- the entry of a fork, by the images in memory
+
+-- an image that has a parent of this UUID
+abbrev pub is_over : List ℕ → Body → Bool
+is_over base image = elim (parent_name image) [ None ↦ false | Some q ↦ has_uuid base q ]
+
+-- one that has the base of a fork as parent, and is none of its two new images
+abbrev pub is_other_child : List ℕ → List ℕ → List ℕ → TreeRow → Bool
+is_other_child disk base twin y = is_over base y.image && (not (same_image (Vhd disk) (row_name y)) && not (same_image (Vhd twin) (row_name y)))
+
+-- a new image that is in memory has the base as parent
+abbrev pub is_new_over : List TreeRow → List ℕ → List ℕ → Bool
+is_new_over xs base u = elim (tree_row xs (Vhd u)) [ None ↦ true | Some y ↦ is_over base y.image ]
+
+-- no image but the two new ones has the base as parent, and those that are in memory have it
+abbrev pub is_fork_linked_in : List TreeRow → List ℕ → List ℕ → List ℕ → Bool
+is_fork_linked_in xs disk base twin = is_new_over xs base disk && (is_new_over xs base twin && not (list_any (is_other_child disk base twin) xs))
+
+-- the entry of a fork whose base is there, and whose images are linked otherwise
+abbrev pub is_unlinked_in : VolumeTable → List TreeRow → Name → Bool
+is_unlinked_in t xs (Clone disk base twin) = is_fork_made t disk base twin && not (is_fork_linked_in xs disk base twin)
+is_unlinked_in t xs _ = false
+
+-- a parent that is there in memory, not new, hidden and not larger
+abbrev pub is_parent_right_in : VolumeTable → List TreeRow → ℕ → Name → Bool
+is_parent_right_in t xs size p = is_hidden t p && is_no_larger size (link_in (tree_row xs p))
+
+-- an image's parent is right where it has one
+abbrev pub is_linked_in : VolumeTable → List TreeRow → Body → Bool
+is_linked_in t xs image = elim (parent_name image) [ None ↦ true | Some p ↦ is_parent_right_in t xs (sector_count image) p ]
+
+-- an image in memory that is linked wrongly, whose chain is too long, or that is visible and has children
+abbrev pub is_misplaced_in : VolumeTable → List TreeRow → Row → Option TreeRow → Bool
+is_misplaced_in t xs r None = false
+is_misplaced_in t xs r (Some y) = not (is_linked_in t xs y.image
+    && (nat_le (chain_length xs (suc chain_limit) r.name) chain_limit
+    && (r.hidden || (length (children_in xs r.name) == 0))))
+
+-- the check speaks of VHD images alone
+abbrev pub tree_wrong_in : VolumeTable → List TreeRow → Row → Name → Bool
+tree_wrong_in t xs r (Vhd u) = is_misplaced_in t xs r (tree_row xs (Vhd u))
+tree_wrong_in t xs r _ = false
 
 -- an outline with these places of records
 pub record HasPlaces (places : List (Option Record)) (x : Outline) : Type 0 where
   pub long : length places ≡ place_count
   pub each : (k : ℕ) (o : Option Record) → slice_get places k ≡ Some o → x.readings k ≡ as_reading o
 
--- a UUID is a disk where an image of it, a VHD or a raw one, is visible and not new: no entry says otherwise
-abbrev pub HasOwnDisks : VolumeTable → Type 0
-HasOwnDisks t = (u : List ℕ) → is_some (standing_volume t u) ≡ (is_visible t (Vhd u) || is_visible t (Raw u))
+-- a UUID of which a VHD or a raw image is visible and not new
+abbrev pub is_shown : VolumeTable → List ℕ → Bool
+is_shown t u = is_visible t (Vhd u) || is_visible t (Raw u)
+
+-- whether a UUID is a disk, by the entry of a fork: the disk stands in the base where that is there, and neither base nor twin is one
+abbrev pub is_disk_by : VolumeTable → Option Name → List ℕ → Bool
+is_disk_by t (Some (Clone disk base twin)) u =
+    if bytes_eq u disk then is_some (image_with t base) || is_shown t u
+    else not (bytes_eq u base) && (not (bytes_eq u twin) && is_shown t u)
+is_disk_by t _ u = is_shown t u
 
 -- whether a UUID is a disk that has no record or several
 abbrev pub is_unrecorded_in : VolumeTable → List (Option Record) → List ℕ → Bool
 is_unrecorded_in t places u = is_some (standing_volume t u) && not (count_by (is_of u) places == 1)
 
--- the UUID of an image, where it is such a disk
+-- the UUID of an image, and that of the disk of a fork, where it is such a disk
 unfoldable pub unrecorded : VolumeTable → List (Option Record) → Name → Option (List ℕ)
 unrecorded t places (Vhd u) = given (is_unrecorded_in t places u) u
 unrecorded t places (Raw u) = given (is_unrecorded_in t places u) u
+unrecorded t places (Clone disk base twin) = given (is_unrecorded_in t places disk) disk
 unrecorded t places _ = None
 
 -- the lesser of two UUIDs, where there are two

@@ -6,15 +6,15 @@ use Rattle.sm_base.specs.declared.faults.OpenFault.{OpenFault}
 use Rattle.sm_base.specs.declared.faults.OpenFault.TheVariants as fault
 use Rattle.sm_base.specs.declared.faults.Place.TheVariants as at
 use Rattle.sm_base.specs.declared.names.Name.{Name}
-use Rattle.sm_base.specs.declared.names.Name.TheVariants.{Vhd, Raw}
+use Rattle.sm_base.specs.declared.names.Name.TheVariants.{Vhd, Raw, Inflate}
 use Rattle.sm_base.specs.declared.sizes.Geometry.{Geometry}
 use Rattle.sm_disk.specs.Held.{Held}
 use Rattle.vg_meta.specs.Tables.{Row, VolumeTable}
 use Rattle.vg_meta.specs.Roomy.{table_alone}
 use Rattle.common_laws.specs.Lists.{In}
-use Rattle.sm_standing.specs.Entries.{making}
+use Rattle.sm_standing.specs.Entries.{head, making}
 use Rattle.sm_standing.specs.Images.{image_extents}
-use Rattle.sm_standing.specs.Undone.{undone}
+use Rattle.sm_standing.specs.Undone.{applied_all, changes_back, undone}
 use Rattle.vg_volumes.specs.Stored.{Faults, Stored, held_in}
 use Rattle.vg_volumes.specs.declared.stores.Store.{Ghosts}
 use Rattle.vhd_image.specs.Bodies.{IfVhd, IsVhd, StandsIn}
@@ -24,7 +24,7 @@ use Rattle.vhd_image.specs.declared.images.Body.TheVariants as body
 use Rattle.vhd_chain.specs.Trees.{row_name, tree_row}
 use Rattle.vhd_chain.specs.declared.rows.TreeRow.{TreeRow}
 
--- ---- what stands in a store while an image is being enlarged
+-- ---- what stands in a store while a fork or an enlargement is under way
 
 -- a volume with the extents in which its image lies, by the entries of a table
 abbrev pub as_read : List Name → Row → Row
@@ -34,7 +34,19 @@ as_read entries r = record r { extents = take (image_extents entries r.name (len
 abbrev pub read_volumes : VolumeTable → List Row
 read_volumes t = map (as_read (making t)) t.volumes
 
--- what a store holds, without the enlargement
+-- the table without an enlargement: the entry of a fork stays
+abbrev pub shortened_by : VolumeTable → Option Name → VolumeTable
+shortened_by t (Some (Inflate u extents)) = applied_all t (changes_back t (Inflate u extents))
+shortened_by t _ = t
+
+unfoldable pub shortened : VolumeTable → VolumeTable
+shortened t = shortened_by t (head (making t))
+
+-- what a store holds, so
+abbrev pub stored_read : {S : Type 0} → Ghosts S → S → Stored
+stored_read g s = record { site = g.site s; table = shortened (table_alone (g.table s)); area = g.area s }
+
+-- and without a fork or an enlargement
 abbrev pub stored_undone : {S : Type 0} → Ghosts S → S → Stored
 stored_undone g s = record { site = g.site s; table = undone (table_alone (g.table s)); area = g.area s }
 

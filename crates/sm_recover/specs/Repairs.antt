@@ -18,8 +18,8 @@ use Rattle.sm_standing.specs.Checks.{images, is_lost, first_fault_today}
 use Rattle.sm_standing.specs.Entries.{making, second}
 use Rattle.sm_standing.specs.Plain.{IsPlain, IsSimple}
 
--- what is known of the table in memory once the checks passed, where no image is being enlarged: new volumes may be among the
--- others
+-- what is known of the table in memory once the checks passed, where no fork and no enlargement is under way: new volumes may be
+-- among the others
 pub record IsChecked (s : Site) (t : VolumeTable) : Type 0 where
   pub table : IsTable s.count t
   pub few_extents : s.count ≤ 65536
@@ -27,9 +27,9 @@ pub record IsChecked (s : Site) (t : VolumeTable) : Type 0 where
   pub few_images : length (images t) ≤ image_limit
   pub record_volume : length (extents_of (rows t Mgt)) ≡ record_extents s.geometry.extent
 
--- what is known of the table in memory before an enlargement is undone, once the checks by the table passed: the volumes are
--- as above, and beside them at most one says that an image is being enlarged, which is there, and not new, in the extents that
--- it had and perhaps more
+-- what is known of the table in memory before a fork or an enlargement is undone, once the checks by the table passed: the volumes
+-- are as above, and beside them at most one says that a disk is being forked, or that an image is being enlarged, and that stands
+-- at a stage of its work
 pub record IsUndoable (s : Site) (t : VolumeTable) : Type 0 where
   pub table : IsTable s.count t
   pub few_extents : s.count ≤ 65536
@@ -42,7 +42,7 @@ pub record IsUndoable (s : Site) (t : VolumeTable) : Type 0 where
 abbrev pub IsUndoableStore : {S : Type 0} → Ghosts S → S → Type 0
 IsUndoableStore g s = IsUndoable (g.site s) (table_alone (g.table s))
 
--- of a store: what is known of its table once an enlargement was undone
+-- of a store: what is known of its table once a fork or an enlargement was undone
 abbrev pub IsCheckedStore : {S : Type 0} → Ghosts S → S → Type 0
 IsCheckedStore g s = IsChecked (g.site s) (table_alone (g.table s))
 

@@ -4,13 +4,15 @@ ghost use Rattle.std.specs.Prelude.{◌≡◌, ℕ, ◌*◌, ◌<◌, ◌&&◌, 
 ghost use Rattle.std.specs.Option.{option_copied};
 ghost use Rattle.sm_base.specs.Kinds.{is_image};
 ghost use Rattle.common_laws.specs.Lists.{first_some};
-ghost use Rattle.sm_standing.specs.Checks.{record_volume_fault, too_many_fault, misnamed_fault, entry_ahead_fault, second_entry_fault, lost_entry_fault, image_ahead_fault, is_entry_ahead, is_misnamed as is_misnamed_row, is_image_ahead};
+ghost use Rattle.sm_standing.specs.Checks.{record_volume_fault, too_many_fault, misnamed_fault, entry_ahead_fault, second_entry_fault, lost_entry_fault, old_leaf_fault, is_entry_ahead, is_misnamed as is_misnamed_row};
 ghost use Rattle.sm_standing.specs.Outlines.{Outline};
-ghost use Rattle.sm_standing.specs.Entries.{is_there, is_past, base_number, is_inflating};
+ghost use Rattle.sm_standing.specs.Entries.{is_past, base_number, is_inflating};
 ghost use Rattle.vg_meta.specs.Roomy.{table_alone};
-ghost use Rattle.sm_recover.specs.Faults.{HasTable, is_enlarging_lost, table_faults};
+ghost use Rattle.sm_recover.specs.Faults.{HasTable, is_making_lost, is_old, table_faults};
 
 use crate::entries::second_making;
+use crate::forks::is_forking;
+use crate::volumes::has;
 use sm_base::{Geometry, IMAGE_LIMIT, Name, Place, is_base};
 use uuid::Uuid;
 use vg_layout::record_extents;
@@ -38,7 +40,7 @@ pub fn table_fault(table: &Table, geometry: &Geometry) -> Option<Place>
     if let Some(place) = lost_fault(table) {
         return Some(place);
     }
-    image_fault(table)
+    old_fault(table)
 }
 
 /// The volume of records is there, with exactly its extents.
@@ -72,7 +74,7 @@ fn misnamed_fault(table: &Table) -> Option<Place>
     })
 }
 
-/// There is no journal entry but that of an enlargement.
+/// There is no journal entry but those of forks and of enlargements.
 fn entry_fault(table: &Table) -> Option<Place>
     ensures { (x : Outline) → x.table ≡ table_alone table.now → result ≡ entry_ahead_fault x }
 {
@@ -82,7 +84,7 @@ fn entry_fault(table: &Table) -> Option<Place>
     })
 }
 
-/// There is one enlargement at most. No other entries are there.
+/// There is one fork or enlargement at most. No other entries are there.
 fn second_fault(table: &Table) -> Option<Place>
     ensures { (x : Outline) → x.table ≡ table_alone table.now → entry_ahead_fault x ≡ None → result ≡ second_entry_fault x }
 {
@@ -92,8 +94,7 @@ fn second_fault(table: &Table) -> Option<Place>
     })
 }
 
-/// The image of an enlargement is there, not new, with the extents that it had at least, and its UUID is not still to come. No
-/// other entries are there.
+/// A fork, and an enlargement, stands at a stage of its work, and its UUIDs are not still to come. No other entries are there.
 fn lost_fault(table: &Table) -> Option<Place>
     ensures { (x : Outline) → x.table ≡ table_alone table.now → entry_ahead_fault x ≡ None → result ≡ lost_entry_fault x }
 {
@@ -103,11 +104,11 @@ fn lost_fault(table: &Table) -> Option<Place>
     })
 }
 
-/// Each image is visible, and none is an old leaf.
-fn image_fault(table: &Table) -> Option<Place>
-    ensures { (x : Outline) → x.table ≡ table_alone table.now → result ≡ image_ahead_fault x }
+/// There is no old leaf. No entry of a leaf is there to which one could belong.
+fn old_fault(table: &Table) -> Option<Place>
+    ensures { (x : Outline) → x.table ≡ table_alone table.now → entry_ahead_fault x ≡ None → result ≡ old_leaf_fault x }
 {
-    let volume = first_ahead(table.volumes())?;
+    let volume = first_old(table.volumes())?;
     Some(Place::Image {
         name: volume.name(),
     })
@@ -140,23 +141,26 @@ fn is_entry_ahead(name: &Name) -> bool
 {
     matches!(
         name,
-        Name::Clone { .. } | Name::Coalesce { .. } | Name::Relink { .. } | Name::Leaf { .. }
+        Name::Coalesce { .. } | Name::Relink { .. } | Name::Leaf { .. }
     )
 }
 
 fn first_lost<'a>(volumes: &'a [Volume], table: &Table) -> Option<&'a Volume>
-    ensures { option_copied result ≡ find (λ v. is_enlarging_lost (table_alone table.now) v.row.name) volumes.now }
+    ensures { option_copied result ≡ find (λ v. is_making_lost (table_alone table.now) v.row.name) volumes.now }
 {
     volumes.iter().find(|volume| is_lost(&volume.name(), table))
 }
 
-/// Whether a name is that of an enlargement that stands at no stage of its work.
+/// Whether a name is that of a fork or of an enlargement that stands at no stage of its work, or whose UUIDs are still to come.
 fn is_lost(name: &Name, table: &Table) -> bool
-    ensures { result ≡ is_enlarging_lost (table_alone table.now) name.now }
+    ensures { result ≡ is_making_lost (table_alone table.now) name.now }
 {
     match name {
         Name::Inflate { image, extents } => {
             !is_inflating(table, image, *extents) || !is_past(table.seq(), image)
+        }
+        Name::Clone { disk, base, twin } => {
+            !is_forking(table, disk, base, twin) || !are_past(table.seq(), disk, base, twin)
         }
         _ => false,
     }
@@ -172,10 +176,17 @@ fn is_inflating(table: &Table, image: &Uuid, extents: u32) -> bool
     }
 }
 
-fn first_ahead(volumes: &[Volume]) -> Option<&Volume>
-    ensures { option_copied result ≡ find (λ v. is_image_ahead v.row) volumes.now }
+fn first_old(volumes: &[Volume]) -> Option<&Volume>
+    ensures { option_copied result ≡ find (λ v. is_old v.row.name) volumes.now }
 {
-    volumes.iter().find(|volume| is_ahead(volume))
+    volumes.iter().find(|volume| is_old(&volume.name()))
+}
+
+/// Whether a name is that of an old leaf.
+fn is_old(name: &Name) -> bool
+    ensures { result ≡ is_old name.now }
+{
+    matches!(name, Name::Old(_))
 }
 
 /// Whether a name of an image is not free for it.
@@ -183,17 +194,11 @@ fn is_misnamed(volume: &Volume, table: &Table) -> bool
     ensures { result ≡ is_misnamed_row (table_alone table.now) volume.now.row }
 {
     match volume.name() {
-        Name::Vhd(uuid) => has(table, Name::Raw(uuid)) || !is_past(table.seq(), &uuid),
-        Name::Raw(uuid) => has(table, Name::Vhd(uuid)) || !is_past(table.seq(), &uuid),
+        Name::Vhd(uuid) => has(table, &Name::Raw(uuid)) || !is_past(table.seq(), &uuid),
+        Name::Raw(uuid) => has(table, &Name::Vhd(uuid)) || !is_past(table.seq(), &uuid),
         Name::Old(uuid) => !is_past(table.seq(), &uuid),
         _ => false,
     }
-}
-
-fn has(table: &Table, name: Name) -> bool
-    ensures { result ≡ is_there (table_alone table.now) name }
-{
-    table.get(&name).is_some()
 }
 
 /// Whether the number in a base image's UUID is below the sequence number.
@@ -203,6 +208,12 @@ fn is_past(sequence: u64, uuid: &Uuid) -> bool
     !is_base(uuid) || number_in(uuid) < sequence
 }
 
+fn are_past(sequence: u64, disk: &Uuid, base: &Uuid, twin: &Uuid) -> bool
+    ensures { result ≡ (is_past sequence disk.now && (is_past sequence base.now && is_past sequence twin.now)) }
+{
+    is_past(sequence, disk) && is_past(sequence, base) && is_past(sequence, twin)
+}
+
 /// The number in the last six bytes.
 fn number_in(uuid: &Uuid) -> u64
     ensures { result ≡ base_number uuid.now }
@@ -210,15 +221,4 @@ fn number_in(uuid: &Uuid) -> u64
     let mut bytes = [0; 8];
     bytes[2..].copy_from_slice(&uuid.as_bytes()[10..]);
     u64::from_be_bytes(bytes)
-}
-
-/// Whether a volume is a hidden image, or an old leaf.
-fn is_ahead(volume: &Volume) -> bool
-    ensures { result ≡ is_image_ahead volume.now.row }
-{
-    match volume.name() {
-        Name::Vhd(_) | Name::Raw(_) => volume.is_hidden(),
-        Name::Old(_) => true,
-        _ => false,
-    }
 }

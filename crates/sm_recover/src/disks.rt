@@ -1,15 +1,18 @@
 //! The check that looks at the records beside the table: each disk has exactly one.
 
-ghost use Rattle.std.specs.Prelude.{◌≡◌, is_some, true};
+ghost use Rattle.std.specs.Prelude.{◌≡◌, [], Some, is_some, true};
 ghost use Rattle.common_laws.specs.Lists.{given};
+ghost use Rattle.sm_base.specs.declared.names.Name.TheVariants.{Clone};
 ghost use Rattle.sm_machine.specs.Disks.{uuid_before};
 ghost use Rattle.sm_standing.specs.Checks.{disk_fault};
-ghost use Rattle.sm_standing.specs.Entries.{is_visible};
+ghost use Rattle.sm_standing.specs.Entries.{folding};
 ghost use Rattle.sm_standing.specs.Outlines.{Outline};
 ghost use Rattle.sm_standing.specs.Standing.{standing_volume};
 ghost use Rattle.vg_meta.specs.Roomy.{table_alone};
-ghost use Rattle.sm_recover.specs.Faults.{HasOwnDisks, HasPlaces, IsLeast, is_unrecorded_in, lesser, unrecorded};
+ghost use Rattle.sm_recover.specs.Faults.{HasPlaces, IsLeast, is_disk_by, is_shown, is_unrecorded_in, lesser, unrecorded};
 
+use crate::entries::entry_in;
+use crate::volumes::{image_with, is_visible};
 use sm_base::{Name, Place};
 use sm_mgt::Mgt;
 use uuid::Uuid;
@@ -17,33 +20,55 @@ use vg_meta::{Table, Volume};
 
 /// The disk with the least UUID that has no record or several.
 pub fn disk_fault(table: &Table, mgt: &Mgt) -> Option<Place>
-    requires { HasOwnDisks (table_alone table.now) }
+    requires { folding (table_alone table.now) ≡ [] }
     ensures { (x : Outline) → x.table ≡ table_alone table.now → HasPlaces mgt.now x → result ≡ disk_fault x }
 {
     let uuid = least_unrecorded(table, mgt)?;
     Some(Place::Disk { uuid })
 }
 
-/// Whether a UUID is a disk, in a table in which no entry moves one.
+/// Whether a UUID is a disk: of a fork whose base is there the disk stands in that, and neither base nor twin is one. No
+/// entry of the other group is there.
 pub fn is_disk(table: &Table, uuid: &Uuid) -> bool
-    requires { HasOwnDisks (table_alone table.now) }
+    requires { folding (table_alone table.now) ≡ [] }
     ensures { result ≡ is_some (standing_volume (table_alone table.now) uuid.now) }
 {
-    is_shown(table, &Name::Vhd(*uuid)) || is_shown(table, &Name::Raw(*uuid))
+    let Some(entry) = entry_in(table) else {
+        return is_shown(table, uuid);
+    };
+    is_disk_by(table, &entry, uuid)
 }
 
-/// Whether a volume is there, not new, and visible.
-fn is_shown(table: &Table, name: &Name) -> bool
-    ensures { result ≡ is_visible (table_alone table.now) name.now }
+/// The same, by the entry that is there.
+fn is_disk_by(table: &Table, entry: &Name, uuid: &Uuid) -> bool
+    ensures { result ≡ is_disk_by (table_alone table.now) (Some entry.now) uuid.now }
 {
-    match table.get(name) {
-        Some(volume) => !volume.is_hidden() && !volume.is_fresh(),
-        None => false,
+    match entry {
+        Name::Clone { disk, base, twin } => is_disk_forked(table, disk, base, twin, uuid),
+        _ => is_shown(table, uuid),
     }
 }
 
+/// The same, by the entry of a fork.
+fn is_disk_forked(table: &Table, disk: &Uuid, base: &Uuid, twin: &Uuid, uuid: &Uuid) -> bool
+    ensures { result ≡ is_disk_by (table_alone table.now) (Some (Clone disk.now base.now twin.now)) uuid.now }
+{
+    if *uuid == *disk {
+        image_with(table, base).is_some() || is_shown(table, uuid)
+    } else {
+        *uuid != *base && *uuid != *twin && is_shown(table, uuid)
+    }
+}
+
+/// Whether a VHD or a raw image of a UUID is there, not new, and visible.
+fn is_shown(table: &Table, uuid: &Uuid) -> bool
+    ensures { result ≡ is_shown (table_alone table.now) uuid.now }
+{
+    is_visible(table, &Name::Vhd(*uuid)) || is_visible(table, &Name::Raw(*uuid))
+}
+
 fn least_unrecorded(table: &Table, mgt: &Mgt) -> Option<Uuid>
-    requires { HasOwnDisks (table_alone table.now) }
+    requires { folding (table_alone table.now) ≡ [] }
     ensures { IsLeast (λ u. is_unrecorded_in (table_alone table.now) mgt.now u ≡ true) result }
 {
     let mut least = None;
@@ -53,22 +78,23 @@ fn least_unrecorded(table: &Table, mgt: &Mgt) -> Option<Uuid>
     least
 }
 
-/// The UUID of an image, where it is a disk that has no record or several.
+/// The UUID of an image, and that of the disk of a fork, where it is a disk that has no record or several.
 #[tactic(auto, unfolding(crate::specs::Faults::unrecorded))]
 fn unrecorded(volume: &Volume, table: &Table, mgt: &Mgt) -> Option<Uuid>
-    requires { HasOwnDisks (table_alone table.now) }
+    requires { folding (table_alone table.now) ≡ [] }
     ensures { result ≡ unrecorded (table_alone table.now) mgt.now volume.now.row.name }
 {
     match volume.name() {
         Name::Vhd(uuid) => wrong_disk(uuid, table, mgt),
         Name::Raw(uuid) => wrong_disk(uuid, table, mgt),
+        Name::Clone { disk, .. } => wrong_disk(disk, table, mgt),
         _ => None,
     }
 }
 
 /// A UUID, where it is a disk that has no record or several.
 fn wrong_disk(uuid: Uuid, table: &Table, mgt: &Mgt) -> Option<Uuid>
-    requires { HasOwnDisks (table_alone table.now) }
+    requires { folding (table_alone table.now) ≡ [] }
     ensures { result ≡ given (is_unrecorded_in (table_alone table.now) mgt.now uuid) uuid }
 {
     if is_disk(table, &uuid) && mgt.count(&uuid) != 1 {

@@ -17,7 +17,7 @@ ghost use Rattle.sm_standing.specs.Outlines.{outline};
 ghost use Rattle.sm_ready.specs.Stores.{store_content};
 ghost use Rattle.sm_standing.specs.Entries.{making};
 ghost use Rattle.sm_standing.specs.Images.{image_extents};
-ghost use Rattle.sm_recover.specs.Loaded.{AreRowsOf, FailsAt, FailsToRead, HasEachRow, IsFilledImage, IsRawRead, IsReadAs, IsRow, as_read, read_volumes, stored_undone};
+ghost use Rattle.sm_recover.specs.Loaded.{AreRowsOf, FailsAt, FailsToRead, HasEachRow, IsFilledImage, IsRawRead, IsReadAs, IsRow, as_read, read_volumes, stored_read};
 ghost use Rattle.sm_recover.specs.Repairs.{IsStoppedBy, IsUndoableStore};
 
 use crate::entries::entry_in;
@@ -38,7 +38,7 @@ pub fn load<S: Store>(alloc: Global, store: &mut S) -> Result<Tree, OpenFault>
     requires checked { IsUndoableStore S.Store store.old }
     ensures reads { OnlyReads S.Store store.old store.new }
     ensures rows { IfOk result (λ tree. AreRowsOf (read_volumes (table_alone (S.table store.old))) tree.rows) }
-    ensures each { IfOk result (λ tree. HasEachRow S.told (stored_undone S.Store store.old) (read_volumes (table_alone (S.table store.old))) tree.rows) }
+    ensures each { IfOk result (λ tree. HasEachRow S.told (stored_read S.Store store.old) (read_volumes (table_alone (S.table store.old))) tree.rows) }
     ensures room { IfOk result (λ tree. image_limit ≤ length tree.rows + tree.spare) }
     ensures cause { IfErr result (IsStoppedBy S.told (invalid_fault (outline (store_content S.Store store.old))) (S.faults store.old) (S.faults store.new)) }
 {
@@ -65,9 +65,9 @@ fn row_at<S: Store>(
     requires checked { IsUndoableStore S.Store store.old }
     requires within { index < length (table_alone (S.table store.old)).volumes }
     ensures reads { OnlyReads S.Store store.old store.new }
-    ensures some { IfOk result (λ found. IfSome found (λ x. (r : Row) → slice_get (table_alone (S.table store.old)).volumes index ≡ Some r → IsFilledImage r × IsRow S.told (stored_undone S.Store store.old) (as_read (making (table_alone (S.table store.old))) r) x)) }
+    ensures some { IfOk result (λ found. IfSome found (λ x. (r : Row) → slice_get (table_alone (S.table store.old)).volumes index ≡ Some r → IsFilledImage r × IsRow S.told (stored_read S.Store store.old) (as_read (making (table_alone (S.table store.old))) r) x)) }
     ensures none { IfOk result (λ found. IfNone found ((r : Row) → slice_get (table_alone (S.table store.old)).volumes index ≡ Some r → IsFilledImage r → ⊥)) }
-    ensures cause { IfErr result (λ e. (r : Row) → slice_get (table_alone (S.table store.old)).volumes index ≡ Some r → FailsAt S.Store (stored_undone S.Store store.old) (as_read (making (table_alone (S.table store.old))) r) e store.old store.new) }
+    ensures cause { IfErr result (λ e. (r : Row) → slice_get (table_alone (S.table store.old)).volumes index ≡ Some r → FailsAt S.Store (stored_read S.Store store.old) (as_read (making (table_alone (S.table store.old))) r) e store.old store.new) }
 {
     let volume = &store.table().volumes()[index];
     if volume.is_fresh() || !volume.name().is_image() {
@@ -111,7 +111,7 @@ fn extents_by(entry: &Name, name: &Name, all: u32) -> u32
 }
 
 /// Whether a name is that of the VHD image of a UUID.
-fn is_vhd_of(name: &Name, image: &Uuid) -> bool
+pub fn is_vhd_of(name: &Name, image: &Uuid) -> bool
     ensures { result ≡ same_image (Vhd image.now) name.now }
 {
     match name {

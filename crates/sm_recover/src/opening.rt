@@ -19,14 +19,16 @@ ghost use Rattle.sm_standing.specs.Keeping.{HasNoEmptySlot};
 ghost use Rattle.sm_standing.specs.Undone.{undone};
 ghost use Rattle.sm_machine.specs.Shapes.{image_limit};
 ghost use Rattle.sm_recover.specs.Faults.{HasLinks, HasPlaces, HasTable, PassImages, table_faults};
-ghost use Rattle.sm_recover.specs.Loaded.{AreRowsOf, HasEachRow, read_volumes, stored_undone};
+ghost use Rattle.sm_recover.specs.Loaded.{AreRowsOf, HasEachRow, read_volumes, stored_read, stored_undone};
 ghost use Rattle.vg_meta.specs.Roomy.{table_alone};
 ghost use Rattle.vhd_chain.specs.Reading.{AllAreTrue};
 
 use crate::checks::table_fault;
 use crate::disks::disk_fault;
+use crate::links::link_fault;
 use crate::loading::load;
-use crate::parents::parent_fault;
+use crate::memory::give_back;
+use crate::trees::tree_fault;
 use sm_base::{IMAGE_LIMIT, NoMemory, Op, OpenFault, Place};
 use sm_mgt::Mgt;
 use sm_ready::Memory;
@@ -39,8 +41,8 @@ use vhd_chain::Tree;
 const MOST_ROWS: usize = 505;
 
 /// Checks what stands in a store, takes the memory for all rows that its table and its tree may come to have, and answers
-/// what a session keeps in memory: what stands beside the table without the enlargement that the table may tell. New volumes
-/// are no rows of the tree, and records of no disk are in their places.
+/// what a session keeps in memory: what stands beside the table without the fork or the enlargement that the table may tell.
+/// New volumes are no rows of the tree, and records of no disk are in their places.
 pub fn checked_with_room<S: Store>(alloc: Global, store: &mut S) -> Result<Memory, OpenFault>
     ensures reads { OnlyReads S.Store store.old store.new }
     ensures checked { OnOk result (IsUndoableStore S.Store store.old) }
@@ -54,13 +56,14 @@ pub fn checked_with_room<S: Store>(alloc: Global, store: &mut S) -> Result<Memor
     ensures cause { IfErr result (IsOpeningStopped S.told (store_content S.Store store.old) (S.faults store.old) (S.faults store.new)) }
     ensures room { OnOk result (HasRows (S.table store.new)) }
 {
-    let (tree, records) = checked(alloc, store)?;
+    let (mut tree, records) = checked(alloc, store)?;
     let Ok(()) = make_room(store) else {
         return Err(OpenFault::NoMemory);
     };
     let Ok(attached) = Attachments::new(alloc, IMAGE_LIMIT) else {
         return Err(OpenFault::NoMemory);
     };
+    give_back(&mut tree, store.table());
     Ok(Memory {
         tree,
         records,
@@ -77,7 +80,7 @@ fn checked<S: Store>(alloc: Global, store: &mut S) -> Result<(Tree, Mgt), OpenFa
     ensures agrees { S.told → IfOk result (λ p. Agrees (records_of S.Store store.old) p.1) }
     ensures passed { IfOk result (λ p. (x : Outline) → HasTable (S.site store.old).geometry (table_alone (S.table store.old)) x → HasLinks p.0.rows x → HasPlaces p.1 x → fault_today_of x ≡ None) }
     ensures rows { IfOk result (λ p. AreRowsOf (read_volumes (table_alone (S.table store.old))) p.0.rows) }
-    ensures each { IfOk result (λ p. HasEachRow S.told (stored_undone S.Store store.old) (read_volumes (table_alone (S.table store.old))) p.0.rows) }
+    ensures each { IfOk result (λ p. HasEachRow S.told (stored_read S.Store store.old) (read_volumes (table_alone (S.table store.old))) p.0.rows) }
     ensures room { IfOk result (λ p. image_limit ≤ length p.0.rows + p.0.spare) }
     ensures long { IfOk result (λ p. length p.1 ≡ place_count) }
     ensures cause { IfErr result (IsOpeningStopped S.told (store_content S.Store store.old) (S.faults store.old) (S.faults store.new)) }
@@ -97,7 +100,7 @@ fn checked_images<S: Store>(alloc: Global, store: &mut S) -> Result<Tree, OpenFa
     ensures tables { OnOk result ((x : Outline) → HasTable (S.site store.old).geometry (table_alone (S.table store.old)) x → first_some (table_faults x) ≡ None) }
     ensures passed { IfOk result (λ tree. (x : Outline) → HasTable (S.site store.old).geometry (table_alone (S.table store.old)) x → HasLinks tree.rows x → PassImages x) }
     ensures rows { IfOk result (λ tree. AreRowsOf (read_volumes (table_alone (S.table store.old))) tree.rows) }
-    ensures each { IfOk result (λ tree. HasEachRow S.told (stored_undone S.Store store.old) (read_volumes (table_alone (S.table store.old))) tree.rows) }
+    ensures each { IfOk result (λ tree. HasEachRow S.told (stored_read S.Store store.old) (read_volumes (table_alone (S.table store.old))) tree.rows) }
     ensures room { IfOk result (λ tree. image_limit ≤ length tree.rows + tree.spare) }
     ensures cause { IfErr result (IsOpeningStopped S.told (store_content S.Store store.old) (S.faults store.old) (S.faults store.new)) }
 {
@@ -105,7 +108,10 @@ fn checked_images<S: Store>(alloc: Global, store: &mut S) -> Result<Tree, OpenFa
         return Err(OpenFault::Damaged { place });
     }
     let tree = load(alloc, store)?;
-    if let Some(place) = parent_fault(store.table(), &tree) {
+    if let Some(place) = tree_fault(store.table(), &tree) {
+        return Err(OpenFault::Damaged { place });
+    }
+    if let Some(place) = link_fault(store.table(), &tree) {
         return Err(OpenFault::Damaged { place });
     }
     Ok(tree)

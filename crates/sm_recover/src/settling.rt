@@ -1,6 +1,6 @@
-//! The checks, and then the repairs: an enlargement is undone, new volumes go, and records of no disk are wiped. Each repair is
-//! a commit or a write of its own, so the table's sequence number rises by two at most for an enlargement and by one for each new
-//! volume.
+//! The checks, and then the repairs: a fork or an enlargement is undone, new volumes go, and records of no disk are wiped. Each
+//! repair is a commit or a write of its own, so the table's sequence number rises by five at most for a fork, by two at most for an
+//! enlargement, and by one for each new volume.
 
 ghost use Rattle.std.specs.Prelude.{◌≡◌, ◌⊎◌, ◌<◌, ◌≤◌, ℕ, None, false, OnOk, OnErr, IfOk, IfErr};
 ghost use Rattle.sm_base.specs.declared.names.Name.TheVariants.{Mgt as mgt_name};
@@ -33,9 +33,9 @@ use sm_ready::Memory;
 use std::alloc::Global;
 use vg_volumes::Store;
 
-/// Checks what stands in a store, all checks before the first write, and then repairs what a stop has left: an enlargement
-/// is undone, volumes that are new are removed, and records of no disk are wiped. Answers what a session keeps in memory: the images, the
-/// places of the records, no attachment and no operation. Memory is taken before the first write, and none after it.
+/// Checks what stands in a store, all checks before the first write, and then repairs what a stop has left: a fork or an
+/// enlargement is undone, volumes that are new are removed, and records of no disk are wiped. Answers what a session keeps in memory:
+/// the images, the places of the records, no attachment and no operation. Memory is taken before the first write, and none after it.
 ///
 /// No check can see whether each slot of a VHD image holds a sector, as no check reads bitmaps. What is promised of the
 /// sectors and of the disks rests on it: it is so in each content that is kept.

@@ -1,27 +1,35 @@
-//! An enlargement that a stop has cut short is undone: the image ends where it ended before.
+//! A fork or an enlargement that a stop has cut short is undone: the base of a fork is the disk's image again, and an image that
+//! was being enlarged ends where it ended before.
 
-ghost use Rattle.std.specs.Prelude.{◌≡◌, ◌≤◌, false, None, Some, OnOk, OnErr};
+ghost use Rattle.std.specs.Prelude.{◌≡◌, ◌≤◌, false, None, Some, OnOk};
+ghost use Rattle.sm_base.specs.declared.names.Name.TheVariants.{Clone, Inflate};
 ghost use Rattle.sm_disk.specs.Held.{IsSettled, Keeps};
 ghost use Rattle.sm_standing.specs.Checks.{first_fault_today};
-ghost use Rattle.sm_standing.specs.Entries.{head, making, of_row};
+ghost use Rattle.sm_standing.specs.Entries.{of_row};
 ghost use Rattle.sm_standing.specs.Keeping.{HasNoEmptySlot};
-ghost use Rattle.sm_standing.specs.Undone.{IsUndoing, half_undone, is_longer, undone};
+ghost use Rattle.sm_standing.specs.Undone.{changes_back, is_longer, undone};
 ghost use Rattle.vg_meta.specs.Roomy.{table_alone};
 ghost use Rattle.vg_meta.specs.Tables.{rows};
-ghost use Rattle.vg_volumes.specs.Stored.{Counts, Leaves, stored};
+ghost use Rattle.vg_volumes.specs.Stored.{Counts, Leaves};
 ghost use Rattle.sm_ready.specs.Cleaned.{HasFewRemovals};
 ghost use Rattle.sm_ready.specs.Repairs.{IsSame};
+ghost use Rattle.sm_ready.specs.Runs.{AllMay};
 ghost use Rattle.sm_ready.specs.Sessions.{HasRows};
 ghost use Rattle.sm_ready.specs.Stores.{content_in, store_content};
-ghost use Rattle.sm_recover.specs.Repairs.{IsLeftOf, IsUndoableStore};
+ghost use Rattle.sm_recover.specs.Repairs.{IsUndoableStore};
+ghost use Rattle.sm_recover.specs.Steps.{MakesAll, MakesPart, changes_of_base, is_marked};
 
 use crate::entries::entry_in;
+use crate::memory::under_name;
+use crate::steps::commit_where;
+use crate::volumes::{has, image_with};
 use sm_base::{Failed, Name};
-use vg_meta::{Change, Table};
+use uuid::Uuid;
+use vg_meta::{Change, Table, Tag};
 use vg_volumes::Store;
 
-/// Cuts the volume of an image that was being enlarged to the extents that it had, where it has more, and then removes the
-/// entry: a commit each. The entry goes last, so a stop in between leaves one that says how far the image reaches.
+/// Undoes the fork or the enlargement whose entry is there, by a commit for each change. The entry goes last, so a stop in
+/// between leaves one that says what is to be undone.
 pub fn undo<S: Store>(store: &mut S) -> Result<(), Failed>
     requires usable { S.failed store.old ≡ false }
     requires undoable { IsUndoableStore S.Store store.old }
@@ -42,40 +50,110 @@ pub fn undo<S: Store>(store: &mut S) -> Result<(), Failed>
     let Some(entry) = entry_in(store.table()) else {
         return Ok(());
     };
-    cut(store, &entry)?;
-    store.commit(Change::Remove { name: entry })?;
+    undo_entry(store, &entry)?;
     Ok(())
 }
 
-/// Cuts the volume of the image of an entry to the extents that it had, where it has more.
-fn cut<S: Store>(store: &mut S, entry: &Name) -> Result<(), Failed>
+/// Undoes what an entry says.
+fn undo_entry<S: Store>(store: &mut S, entry: &Name) -> Result<(), Failed>
     requires usable { S.failed store.old ≡ false }
-    requires undoable { IsUndoableStore S.Store store.old }
-    requires entry { head (making (table_alone (S.table store.old))) ≡ Some entry.now }
-    ensures site { S.site store.new ≡ S.site store.old }
-    ensures counts { S.faults store.old ≤ S.faults store.new }
-    ensures beside { S.told → Keeps (S.beside store.old) (S.beside store.new) }
-    ensures keeps { S.told → Keeps (S.area store.old) (S.area store.new) }
+    requires allowed { AllMay (S.site store.old).count (table_alone (S.table store.old)) (changes_back (table_alone (S.table store.old)) entry.now) }
+    ensures part { MakesPart S.Store (changes_back (table_alone (S.table store.old)) entry.now) store.old store.new }
+    ensures all { OnOk result (MakesAll S.Store (changes_back (table_alone (S.table store.old)) entry.now) store.old store.new) }
     ensures cause { Counts S.Store result store.old store.new }
-    ensures usable_still { OnOk result (S.failed store.new ≡ false) }
-    ensures cut { OnOk result (table_alone (S.table store.new) ≡ half_undone (table_alone (S.table store.old))) }
-    ensures failed { OnErr result (table_alone (S.table store.new) ≡ table_alone (S.table store.old)) }
-    ensures room { OnOk result (HasRows (S.table store.old) → HasRows (S.table store.new)) }
-    ensures settled { OnOk result (S.told → IsSettled (S.area store.old) → IsSettled (S.area store.new)) }
-    ensures crash { Leaves S.Store store.new (IsLeftOf (stored S.Store store.old) (IsUndoing (table_alone (S.table store.old)))) }
 {
-    let Name::Inflate { image, extents } = entry else {
+    match entry {
+        Name::Inflate { image, extents } => undo_enlargement(store, *image, *extents)?,
+        Name::Clone { disk, base, twin } => undo_fork(store, disk, base, twin)?,
+        _ => (),
+    }
+    Ok(())
+}
+
+/// Cuts the volume of the image that was being enlarged to the extents that it had, where it has more, and removes the entry.
+fn undo_enlargement<S: Store>(store: &mut S, image: Uuid, extents: u32) -> Result<(), Failed>
+    requires usable { S.failed store.old ≡ false }
+    requires allowed { AllMay (S.site store.old).count (table_alone (S.table store.old)) (changes_back (table_alone (S.table store.old)) (Inflate image extents)) }
+    ensures part { MakesPart S.Store (changes_back (table_alone (S.table store.old)) (Inflate image extents)) store.old store.new }
+    ensures all { OnOk result (MakesAll S.Store (changes_back (table_alone (S.table store.old)) (Inflate image extents)) store.old store.new) }
+    ensures cause { Counts S.Store result store.old store.new }
+{
+    let name = Name::Vhd(image);
+    let is_long = is_longer(store.table(), &name, extents);
+    let keep = extents;
+    commit_where(store, is_long, Change::Cut { name, keep })?;
+    let name = Name::Inflate { image, extents };
+    commit_where(store, true, Change::Remove { name })?;
+    Ok(())
+}
+
+/// Removes the twin's new image where it is there, gives the disk its base as image again where that is there, and removes
+/// the entry.
+fn undo_fork<S: Store>(store: &mut S, disk: &Uuid, base: &Uuid, twin: &Uuid) -> Result<(), Failed>
+    requires usable { S.failed store.old ≡ false }
+    requires allowed { AllMay (S.site store.old).count (table_alone (S.table store.old)) (changes_back (table_alone (S.table store.old)) (Clone disk.now base.now twin.now)) }
+    ensures part { MakesPart S.Store (changes_back (table_alone (S.table store.old)) (Clone disk.now base.now twin.now)) store.old store.new }
+    ensures all { OnOk result (MakesAll S.Store (changes_back (table_alone (S.table store.old)) (Clone disk.now base.now twin.now)) store.old store.new) }
+    ensures cause { Counts S.Store result store.old store.new }
+{
+    let name = Name::Vhd(*twin);
+    let has_twin = has(store.table(), &name);
+    let has_own = has(store.table(), &Name::Vhd(*disk));
+    let found = image_with(store.table(), base);
+    let is_hidden = is_marked(store.table(), &found);
+    commit_where(store, has_twin, Change::Remove { name })?;
+    give_back(store, *disk, found, has_own, is_hidden)?;
+    let name = Name::Clone {
+        disk: *disk,
+        base: *base,
+        twin: *twin,
+    };
+    commit_where(store, true, Change::Remove { name })?;
+    Ok(())
+}
+
+/// Removes the disk's new image where it is there, shows the base where it is hidden, and gives it the disk's name. Does
+/// nothing where there is no base.
+fn give_back<S: Store>(
+    store: &mut S,
+    disk: Uuid,
+    base: Option<Name>,
+    has_own: bool,
+    is_hidden: bool,
+) -> Result<(), Failed>
+    requires usable { S.failed store.old ≡ false }
+    requires allowed { AllMay (S.site store.old).count (table_alone (S.table store.old)) (changes_of_base disk base has_own is_hidden) }
+    ensures part { MakesPart S.Store (changes_of_base disk base has_own is_hidden) store.old store.new }
+    ensures all { OnOk result (MakesAll S.Store (changes_of_base disk base has_own is_hidden) store.old store.new) }
+    ensures cause { Counts S.Store result store.old store.new }
+{
+    let Some(from) = base else {
         return Ok(());
     };
-    let name = Name::Vhd(*image);
-    if !is_longer(store.table(), &name, *extents) {
-        return Ok(());
-    }
-    store.commit(Change::Cut {
-        name,
-        keep: *extents,
-    })?;
+    let name = Name::Vhd(disk);
+    commit_where(store, has_own, Change::Remove { name })?;
+    let shown = Change::Mark {
+        name: from,
+        tag: Tag::Hidden,
+        on: false,
+    };
+    commit_where(store, is_hidden, shown)?;
+    let to = under_name(&from, &disk);
+    commit_where(store, true, Change::Rename { from, to })?;
     Ok(())
+}
+
+/// Whether a volume is there and hidden, where there is a name.
+fn is_marked(table: &Table, name: &Option<Name>) -> bool
+    ensures { result ≡ is_marked (table_alone table.now) name.now }
+{
+    let Some(name) = name else {
+        return false;
+    };
+    match table.get(name) {
+        Some(volume) => volume.is_hidden(),
+        None => false,
+    }
 }
 
 /// Whether a volume is there and has more extents than so many.

@@ -3,7 +3,6 @@ use Rattle.std.proofs.Common.{◌≡◌, ◌⊎◌, inl, inr, ℕ, ◌+◌, ◌<
 use Rattle.std.proofs.lemmas.Bool.{cases_lt}
 use Rattle.std.proofs.lemmas.Bool.Decides.{nat_tests}
 use Rattle.std.proofs.lemmas.List.{take_all, take-append-le, take-take, length-take}
-use Rattle.std.specs.List.{starts_with}
 use Rattle.sm_machine.specs.Lines.{line_limit, lines, onto, spelled}
 use Rattle.sm_run.specs.Parts.{front_of, is_in_line}
 use Rattle.sm_run.specs.Runs.{ended, onto_ended}
@@ -109,8 +108,3 @@ spelled-front line = by (cases_lt line_limit (length line))
         let long : line_limit < length (take (line_limit + 1) line) = omega (arith, length-take (line_limit + 1) line) in
         spelled-long (take (line_limit + 1) line) long ∙ sym (spelled-long line h)
     by (inr h) = let k : length line ≤ line_limit + 1 = omega arith in ap spelled (take_all (line_limit + 1) line k)
-
--- and begins as the line does
-pub starts-front : (line word : List ℕ) → length word ≤ line_limit + 1 → starts_with nat_eq (front_of line) word ≡ starts_with nat_eq line word
-unfolding front_of
-starts-front line word h = rw (take-take (length word) (line_limit + 1) line h) refl

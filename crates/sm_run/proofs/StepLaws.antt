@@ -50,7 +50,7 @@ pub spared-ample : (line : List ℕ) → IsSpared (turn_of line false)
 spared-ample line = λ is. absurd (cc)
 
 pub spared-spelled : (line : List ℕ) (command : Command) (poor : Bool) → spelled line ≡ Some command → takes_memory command ≡ true → IsSpared (turn_of line poor)
-spared-spelled line command poor h takes = λ is. inr (command, h, takes)
+spared-spelled line command poor h takes = λ is. (command, h, takes)
 
 -- the disks are those that a stop might leave before
 same_between : (σ : State) (before : List Disk → Type 0) (ds : List Disk) → before ds → map face ds ≡ map face σ.disks → IsBetween before σ.disks σ.disks ds

@@ -1,8 +1,7 @@
 -- A run over a script (this project's format): which lines were read, which of them were answered, and what the sink
 -- got. A script is read byte by byte, and each line's reply goes out whole before the next byte is read. So at every
 -- return all lines that were read whole are answered, but for the last one where its step or its reply failed.
-use Rattle.std.specs.Prelude.{◌≡◌, ◌≢◌, ◌≤◌, ◌^◌, ◌+◌, ◌==◌, ◌⊎◌, ⊤, ℕ, Bool, true, false, List, [], ◌∷◌, ◌++◌, map, length, take, codes, nat_eq, Option, Some, All, IfSome, Result, Ok, Err}
-use Rattle.std.specs.List.{starts_with}
+use Rattle.std.specs.Prelude.{◌≡◌, ◌≢◌, ◌≤◌, ◌^◌, ◌+◌, ◌==◌, ◌⊎◌, ⊤, ℕ, Bool, true, false, List, [], ◌∷◌, ◌++◌, map, length, take, Option, Some, All, IfSome, Result, Ok, Err}
 use Rattle.sm_disk.specs.Streams.{Takes, Adds}
 use Rattle.sm_machine.specs.declared.commands.Command.{Command}
 use Rattle.sm_machine.specs.Disks.{Disk}
@@ -36,10 +35,9 @@ lines_of turns = map (λ t. t.line) turns
 abbrev pub IsSpent : Option (List ℕ) → Type 0
 IsSpent content = IfSome content (λ left. left ≡ [])
 
--- a line to which memory was wanting is a `write`, whose bytes want memory while it is read, or it spells a command whose
--- step takes memory
+-- a line to which memory was wanting spells a command whose step takes memory
 abbrev pub IsSpared : Turn → Type 0
-IsSpared t = t.poor ≡ true → (starts_with nat_eq t.line (codes "write ") ≡ true) ⊎ ((c : Command) × (spelled t.line ≡ Some c) × (takes_memory c ≡ true))
+IsSpared t = t.poor ≡ true → (c : Command) × (spelled t.line ≡ Some c) × (takes_memory c ≡ true)
 
 -- the script was read to its end, and every line of it was answered
 pub record IsReadToEnd (bytes : List ℕ) (turns pending : List Turn) (left : Option (List ℕ)) : Type 0 where

@@ -12,19 +12,19 @@
 //! found no memory. At `Ok` the script was read to its end, its lines are those of the turns, and the sink got exactly
 //! their replies. Where the source failed, or gave a byte past the most of a script, every line that a newline had
 //! ended was answered. Where the device or the sink failed, one line more was read whole: of its reply nothing, or a
-//! front, went out. The machine's state is the one after the turns, or after that line too. Memory is wanting only to a
-//! `write`, whose bytes want it while the line is read, and to a line that spells a command whose step takes memory
-//! (`takes_memory`): no other line is answered so (`IsSpared`).
+//! front, went out. The machine's state is the one after the turns, or after that line too. Memory is wanting only to
+//! a line that spells a command whose step takes memory (`takes_memory`): no other line is answered so (`IsSpared`), no
+//! `write`, `fill` or `flush`.
 //!
 //! **What a stop may leave.** At every return the disks are those after some prefix of the accepted lines that
 //! reaches at least the last acknowledged flush or changing command, sector by sector (`IsAsAfter`, `IsAsDuring`). A
 //! stop is a device that fails from some call on, so this covers each moment of a run. The laws by which one step
 //! makes what a stop may show grow stand by themselves: [`law_during`], [`law_after`], [`law_settled`].
 //!
-//! **Costs.** One buffer of 65,537 bytes, a [`LineBuffer`], which the caller takes before all else, so a run never ends
-//! for want of it; no other memory but that of the steps and of the bytes of a `write`. The source is read byte by byte,
-//! since a larger piece would take lines from it that a fault of the sink leaves unread. A run ends, after at most
-//! 2^40 + 1 bytes.
+//! **Costs.** One [`LineBuffer`], of 65,537 bytes for a line and 32,256 for the bytes that it may spell, which the caller
+//! takes before all else and which is used again for each line, so a run never ends for want of it; no other memory but
+//! that of the steps. The source is read byte by byte, since a larger piece would take lines from it that a fault of the
+//! sink leaves unread. A run ends, after at most 2^40 + 1 bytes.
 #![tactic(auto)]
 
 mod answers;

@@ -62,9 +62,9 @@ pub fn run<M: Steps, S: Source, K: Sink>(
                 if line.bytes().is_empty() {
                     return Ok(());
                 }
-                return answer(alloc, machine, line.bytes(), sink);
+                return answer(alloc, machine, line, sink);
             }
-            Ok(Ending::Newline) => answer(alloc, machine, line.bytes(), sink)?,
+            Ok(Ending::Newline) => answer(alloc, machine, line, sink)?,
         }
     }
 }

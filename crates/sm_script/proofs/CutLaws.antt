@@ -1,13 +1,13 @@
 -- The words of a line, from its first space on.
 use Rattle.std.proofs.Common.{◌≡◌, ℕ, suc, ◌+◌, ◌<◌, ◌≤◌, ◌==◌, ◌⊎◌, inl, inr, Bool, true, false, cond, List, [], ◌∷◌, ◌++◌, length, take, drop, get_or, drop-cons, Option, Some, None, arith, refl, sym, ap, subst, ◌∙◌}
-use Rattle.std.specs.Prelude.{not, position, option_copied, is_some}
+use Rattle.std.specs.Prelude.{⊤, not, position, option_copied, is_some}
 use Rattle.std.specs.List.{position_or_len}
 use Rattle.std.proofs.Common.{Bor}
 use Rattle.std.proofs.lemmas.Bool.{cases_lt, ltb-true, ltb-false, eqb-true}
 use Rattle.std.proofs.lemmas.List.{take-append-drop}
 use Rattle.std.proofs.lemmas.List.Quantifiers.{position-Some}
 use Rattle.sm_machine.specs.Lines.{before, words}
-use Rattle.sm_script.specs.Cuts.{words_behind}
+use Rattle.sm_script.specs.Cuts.{behind, words_behind}
 
 -- the length of the first word
 abbrev front : List ℕ → ℕ
@@ -86,3 +86,30 @@ pub two_words : (more : Option (Bor (List ℕ))) (line word : List ℕ) → is_s
     → 1 < length (words line)
 two_words None line word some e = cc some
 two_words (Some m) line word some e = let h = words_some m.now in omega (arith, ap length e)
+
+-- each word has at most so many bytes
+Within : ℕ → List (List ℕ) → Type 0
+Within n [] = ⊤
+Within n (w ∷ ws) = (length w ≤ n) × Within n ws
+
+within_more : (n : ℕ) (ws : List (List ℕ)) → Within n ws → Within (suc n) ws
+unfolding Within
+within_more n [] h = tt
+within_more n (w ∷ ws) h = (omega (arith, h.0), within_more n ws h.1)
+
+within_step : (space : Bool) (b n : ℕ) (ws : List (List ℕ)) → Within n ws → Within (suc n) (before space b ws)
+unfolding Within
+within_step true b n ws h = (omega arith, within_more n ws h)
+within_step false b n [] h = (omega arith, tt)
+within_step false b n (w ∷ ws) h = (omega (arith, h.0), within_more n ws h.1)
+
+words_within : (line : List ℕ) → Within (length line) (words line)
+unfolding words Within
+words_within [] = (omega arith, tt)
+words_within (b ∷ bytes) = within_step (b == 32) b (length bytes) (words bytes) (words_within bytes)
+
+-- the third of the words behind a first one is shorter than what stands there
+pub third_within : (rest : Option (List ℕ)) (a b c : List ℕ) → words_behind rest ≡ a ∷ b ∷ c ∷ [] → length c < length (behind rest)
+unfolding Within
+third_within None a b c e = cc
+third_within (Some line) a b c e = let h = subst (Within (length line)) e (words_within line) in omega (arith, h.1.1.0)

@@ -1,5 +1,5 @@
 -- The values that the libraries read, and those that the words of a line spell.
-use Rattle.std.proofs.Common.{◌≡◌, ℕ, ◌+◌, ◌*◌, ◌%◌, ◌^◌, ◌<◌, ◌≤◌, ◌==◌, ◌⊎◌, inl, inr, Bool, true, false, ◌&&◌, List, [], ◌∷◌, length, slice_index, Option, Some, None, Result, Ok, Err, IsOk, IfOk, MatchResult, ◌↔◌, if◌then◌else◌, nat_lt, nat_le, Bor, arith, refl, sym, ap, subst, ◌∙◌}
+use Rattle.std.proofs.Common.{◌≡◌, ℕ, ◌+◌, ◌*◌, ◌/◌, ◌%◌, ◌^◌, ◌<◌, ◌≤◌, ◌==◌, ◌⊎◌, inl, inr, Bool, true, false, ◌&&◌, List, [], ◌∷◌, length, slice_index, Option, Some, None, Result, Ok, Err, IsOk, IfOk, MatchResult, ◌↔◌, if◌then◌else◌, nat_lt, nat_le, Bor, arith, refl, sym, ap, subst, ◌∙◌}
 use Rattle.std.specs.Prelude.{not, ◌||◌, ⊤}
 use Rattle.std.specs.List.{list_all}
 use Rattle.std.specs.Char.{is_ascii_digit}
@@ -12,7 +12,8 @@ use Rattle.std.proofs.lemmas.Str.{IsUtf8-from_ascii}
 use Rattle.std.proofs.lemmas.Str.Parse.{IsNumeralModel, numerals_by_value, tells_all_ascii_digits, parse_digits}
 use Rattle.std.proofs.lemmas.Fmt.{IsAscii-from_digits}
 use Rattle.uuid.specs.Text.{parsed, hex_digit_value}
-use Rattle.hex.specs.Hex.{hex_digit_value as table_value, decode_of, decode_pairs, decode_sized}
+use Rattle.hex.specs.Hex.{hex_digit_value as table_value, decode_pairs, decode_sized}
+use Rattle.hex.proofs.HexLemmas.{decode_sized-twice}
 use Rattle.hex.specs.declared.error.FromHexError.{FromHexError}
 use Rattle.sm_machine.specs.Lines.{byte_of, hex_bytes, is_number, number_of, sectors_of, uuid_of}
 use Rattle.common_laws.specs.Lists.{◌>>=◌}
@@ -193,28 +194,33 @@ byte_none word out r e err told = by (decode_sized word 1) told ∙ byte_decoded
 
 -- whole sectors
 
-pub sectors_read : (word bytes : List ℕ) → false ≡ (length word == 0) → length word % 1024 ≡ 0 → decode_of word ≡ Ok bytes → sectors_of word ≡ Some bytes
+-- what is decoded into half as many bytes as there are digits
+pub hex_decoded : (word out : List ℕ) (n : ℕ) (r : Result ⊤ FromHexError) → length word % 1024 ≡ 0 → n ≡ length word / 2
+    → MatchResult (decode_sized word n) (λ bytes. (r ≡ Ok tt) × (out ≡ bytes)) (λ e. r ≡ Err e)
+    → MatchResult r (λ _. hex_bytes word ≡ Some out) (λ _. hex_bytes word ≡ None)
+hex_decoded word out n r whole half told =
+    let twice : length word ≡ 2 * n = omega arith in
+    by (decode_sized word n) r told (ap result_ok (decode_sized-twice word n twice ∙ decode_of-pairs word whole) ∙ decode-hex_bytes 0 word)
+  where
+    by : (d : Result (List ℕ) FromHexError) (r : Result ⊤ FromHexError) → MatchResult d (λ bytes. (r ≡ Ok tt) × (out ≡ bytes)) (λ e. r ≡ Err e)
+        → result_ok d ≡ hex_bytes word → MatchResult r (λ _. hex_bytes word ≡ Some out) (λ _. hex_bytes word ≡ None)
+    by (Ok bytes) (Ok u) t same = sym same ∙ ap (λ (l : List ℕ). Some l) (sym t.1)
+    by (Ok bytes) (Err e) t same = cc t.0
+    by (Err x) (Ok u) t same = cc t
+    by (Err x) (Err e) t same = sym same
+
+-- a word of as many digits as whole sectors have
+pub sectors_whole : (word : List ℕ) → false ≡ (length word == 0) → length word % 1024 ≡ 0 → hex_bytes word ≡ sectors_of word
 unfolding sectors_of
-sectors_read word bytes some whole decoded =
+sectors_whole word some whole =
     let large : nat_le 1024 (length word) ≡ true = grind (arith, nat_tests) in
     let even : (length word % 1024 == 0) ≡ true = grind (arith, nat_tests) in
     by (nat_le 1024 (length word)) (length word % 1024 == 0) large even
-    ∙ sym (decode-hex_bytes 0 word) ∙ ap result_ok (sym (decode_of-pairs word whole) ∙ decoded)
   where
-    by : (t s : Bool) → t ≡ true → s ≡ true → (if t && s then hex_bytes word else None) ≡ hex_bytes word
+    by : (t s : Bool) → t ≡ true → s ≡ true → hex_bytes word ≡ (if t && s then hex_bytes word else None)
     by true true h k = refl
     by true false h k = cc
     by false s h k = cc
-
-pub sectors_bad : (word : List ℕ) (e : FromHexError) → length word % 1024 ≡ 0 → decode_of word ≡ Err e → sectors_of word ≡ None
-unfolding sectors_of
-sectors_bad word e whole decoded =
-    let bytes : hex_bytes word ≡ None = sym (decode-hex_bytes 0 word) ∙ ap result_ok (sym (decode_of-pairs word whole) ∙ decoded) in
-    by (nat_le 1024 (length word) && (length word % 1024 == 0)) (hex_bytes word) bytes
-  where
-    by : (t : Bool) (o : Option (List ℕ)) → o ≡ None → (if t then o else None) ≡ None
-    by true o none = none
-    by false o none = refl
 
 pub sectors_none : (word : List ℕ) → (0 < length word → length word % 1024 ≡ 0 → ⊥) → sectors_of word ≡ None
 unfolding sectors_of

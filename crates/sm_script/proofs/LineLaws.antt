@@ -1,14 +1,9 @@
 -- A line and its first word.
-use Rattle.std.proofs.Common.{◌≡◌, ◌≢◌, ℕ, ◌<◌, ◌≤◌, Bool, true, false, true≢false, List, ◌∷◌, ◌++◌, codes, length, nat_eq, nat_le, IsTrue, Option, Some, None, Bor, Result, Ok, Err, IfOk, if◌then◌else◌, arith, refl, sym, ap, subst, ◌∙◌}
-use Rattle.std.specs.Prelude.{option_copied, IsSome, IsErr}
-use Rattle.std.specs.List.{starts_with}
+use Rattle.std.proofs.Common.{◌≡◌, ◌≢◌, ℕ, ◌<◌, ◌≤◌, Bool, true, false, true≢false, List, ◌∷◌, ◌++◌, codes, length, length-append, nat_le, None, if◌then◌else◌, arith, refl, sym, ap, ◌∙◌}
 use Rattle.std.specs.Str.{bytes_eq}
 use Rattle.std.proofs.lemmas.Bool.Decides.{nat_tests}
 use Rattle.std.proofs.lemmas.Slice.Eq.{bytes_eq-Decides}
 use Rattle.sm_machine.specs.Lines.{after_write, spelled, spelled_words, words}
-use Rattle.sm_machine.specs.declared.commands.Command.{Command}
-use Rattle.sm_script.specs.Cuts.{behind}
-use Rattle.sm_script.specs.declared.lines.LineFault.{LineFault}
 
 -- a line that is too long
 pub spelled-long : (line : List ℕ) → 65536 < length line → spelled line ≡ None
@@ -70,19 +65,6 @@ spelled_words-none verb rest n1 n2 n3 n4 n5 n6 n7 n8 n9 n10 n11 n12 n13 n14 n15 
     let stat = not_word verb (codes "stat") n15 in
     rw (← create, ← delete, ← attach, ← detach, ← snapshot, ← copy, ← resize, ← label, ← write, ← fill, ← read, ← flush, ← gc, ← list, ← stat) refl
 
--- what holds of the answer, of the same words
-pub answered : (r : Result Command LineFault) (o p : Option Command) → o ≡ p → IfOk r (λ c. o ≡ Some c) → IfOk r (λ c. p ≡ Some c)
-answered (Ok c) o p e told = sym e ∙ told
-answered (Err x) o p e told = tt
-
-pub none_answered : (r : Result Command LineFault) (o : Option Command) → IfOk r (λ c. o ≡ Some c) → o ≡ None → IsErr r
-none_answered (Ok c) o told none = cc
-none_answered (Err x) o told none = refl
-
--- a line of `write` and a space
-pub write_front : (line verb : List ℕ) (rest : Option (Bor (List ℕ))) → IsSome rest → line ≡ verb ++ behind (option_copied rest) → verb ≡ codes "write"
-    → IsTrue (starts_with nat_eq line (codes "write "))
-write_front line verb None some bytes is = cc some
-write_front line verb (Some more) some bytes is =
-    let P : List ℕ → Type 0 = λ l. IsTrue (starts_with nat_eq l (codes "write ")) in
-    subst P (sym (bytes ∙ ap (λ v. v ++ (32 ∷ more.now)) is)) refl
+-- what stands behind the first word is no longer than the line
+pub behind_within : (line verb more : List ℕ) → line ≡ verb ++ more → length line ≤ 65536 → length more ≤ 65536
+behind_within line verb more bytes short = omega (arith, ap length bytes, length-append verb more)

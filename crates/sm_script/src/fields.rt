@@ -2,18 +2,15 @@
 //! spells none. `uuid` takes other forms of text too, and std a sign and leading zeros: those are refused
 //! first.
 
-ghost use Rattle.std.specs.Prelude.{◌≡◌, ◌≢◌, None, Some, Err, IfOk};
+ghost use Rattle.std.specs.Prelude.{◌≡◌, ◌<◌, ◌≤◌, ◌/◌, ◌%◌, None, Some, MatchResult, length, vec_capacity};
 ghost use Rattle.std.specs.Char.{is_ascii_digit};
 ghost use Rattle.std.specs.List.{list_all};
-ghost use Rattle.hex.specs.declared.error.FromHexError.TheVariants.{OutOfMemory};
-ghost use Rattle.sm_machine.specs.Lines.{byte_of, is_number, is_raw_of, mode_of, number_of, sectors_of, uuid_of};
-ghost use Rattle.sm_script.specs.declared.lines.LineFault.TheVariants.{BadLine, NoMemory};
+ghost use Rattle.std.specs.Result.{result_ok};
+ghost use Rattle.sm_machine.specs.Lines.{byte_of, hex_bytes, is_number, is_raw_of, mode_of, number_of, sectors_of, uuid_of};
 
-use crate::lines::LineFault;
 use hex::FromHexError;
 use sm_base::Mode;
-use sm_machine::Bytes;
-use std::alloc::Global;
+use sm_machine::LineBytes;
 use std::str;
 use uuid::Uuid;
 
@@ -93,27 +90,30 @@ pub fn byte_in(word: &[u8]) -> Option<u8>
     }
 }
 
-/// The bytes of whole sectors, at least one: 1,024 hexadecimal digits for each.
-pub fn sectors_in(alloc: Global, word: &[u8]) -> Result<Bytes, LineFault>
-    ensures ok { IfOk result (λ bytes. sectors_of word.now ≡ Some bytes) }
-    ensures bad { result ≡ Err BadLine → sectors_of word.now ≡ None }
+/// The bytes of whole sectors, at least one: 1,024 hexadecimal digits for each. They take the place of what the room
+/// held. Where the word spells none, the room is given back.
+pub fn sectors_in(word: &[u8], mut room: LineBytes) -> Result<LineBytes, LineBytes>
+    requires { length word.now < 65536 }
+    ensures { result_ok result ≡ sectors_of word.now }
 {
     if word.is_empty() || word.len() % 1024 != 0 {
-        return Err(LineFault::BadLine);
+        return Err(room);
     }
-    match hex::decode(alloc, word) {
-        Ok(bytes) => Ok(Bytes { bytes }),
-        Err(fault) => Err(line_fault(fault)),
+    match decode(word, &mut room.bytes) {
+        Ok(()) => Ok(room),
+        Err(_) => Err(room),
     }
 }
 
-// Want of memory, or else a digit that is none.
-fn line_fault(fault: FromHexError) -> LineFault
-    ensures memory { fault ≡ OutOfMemory → result ≡ NoMemory }
-    ensures digit { fault ≢ OutOfMemory → result ≡ BadLine }
+// The bytes of pairs of digits, in place of what there was. There is room for them, so no memory is taken.
+fn decode(word: &[u8], bytes: &mut Vec<u8>) -> Result<(), FromHexError>
+    requires whole { length word.now % 1024 ≡ 0 }
+    requires room { length word.now / 2 ≤ vec_capacity bytes.old }
+    ensures decoded { MatchResult result (λ _. hex_bytes word.now ≡ Some bytes.new.items) (λ _. hex_bytes word.now ≡ None) }
+    ensures room { vec_capacity bytes.old ≤ vec_capacity bytes.new }
 {
-    match fault {
-        FromHexError::OutOfMemory => LineFault::NoMemory,
-        _ => LineFault::BadLine,
+    if bytes.resize(word.len() / 2, 0).is_err() {
+        unreachable!();
     }
+    hex::decode_to_slice(word, bytes)
 }

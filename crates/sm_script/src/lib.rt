@@ -5,21 +5,22 @@
 //! spells a command and how a reply is printed. Lines, words and texts are in bytes, sizes in commands and
 //! replies too.
 //!
-//! What is promised: [`Line::read`] answers the command that the line spells, and [`LineFault::BadLine`] only
-//! where it spells none, so whatever the libraries take beyond the grammar is refused (a UUID in braces or
-//! without hyphens, a number with a sign or a leading zero). [`Print::print`] writes the reply's text, or
+//! What is promised: [`Line::read`] answers exactly the command that the line spells, or none where it spells
+//! none, so whatever the libraries take beyond the grammar is refused (a UUID in braces or without hyphens, a
+//! number with a sign or a leading zero). [`Print::print`] writes the reply's text, or
 //! fails where the sink's faults rose and has then written a front of it.
 //!
 //! What it costs: a line is cut in one pass over its bytes, which stops at a word too many, and each word is
-//! read once; only the bytes of `write` take memory. Printing takes none, and writes a word of at most 128
-//! bytes at a time.
+//! read once. The bytes of a `write` are decoded into room for those of any line, 32,256 bytes ([`Line::room`]);
+//! it goes into what is read, a [`Reading`], and comes back from it for the next line. So the room takes memory
+//! once, and reading a line takes none. Printing takes none, and writes a word of at most 128 bytes at a time.
 //!
 //! For other words than those of a script, as the program's own, there are [`number_in`] and [`uuid_in`], which
 //! read one, and [`Word`] and [`write_line`], which print a line of them.
 //!
 //! The definitions of the grammar and of the printed text are those of `sm_machine` (`Lines`, `Replies`). In
-//! `specs/` here: `Cuts` (what stands behind a line's first word), and `Pieces` (what a call did that was to
-//! write a text).
+//! `specs/` here: `Cuts` (what stands behind a line's first word), `Pieces` (what a call did that was to write a
+//! text), and `Rooms` (where the room for the bytes of a line is).
 #![tactic(auto)]
 
 mod cuts;
@@ -29,13 +30,15 @@ mod listings;
 mod parts;
 mod pieces;
 mod printing;
+mod readings;
 mod refusals;
 mod steps;
 mod words;
 
 pub use fields::{number_in, uuid_in};
-pub use lines::{Line, LineFault};
+pub use lines::Line;
 pub use pieces::write_line;
 pub use printing::Print;
-pub use sm_machine::{Bytes, Command, DiskRow, DiskRows, Reply, StatRow, StatRows};
+pub use readings::Reading;
+pub use sm_machine::{Bytes, Command, DiskRow, DiskRows, LineBytes, Reply, StatRow, StatRows};
 pub use words::Word;

@@ -1,53 +1,50 @@
 //! The grammar of a script's lines.
 
-ghost use Rattle.std.specs.Prelude.{◌≡◌, ◌≢◌, ◌∷◌, Some, None, Err, IfOk, IfErr, IsTrue, IsSome, IsErr, codes, nat_eq, option_copied};
-ghost use Rattle.std.specs.List.{starts_with};
+ghost use Rattle.std.specs.Prelude.{◌≡◌, ◌≢◌, ◌∷◌, [], IfOk, codes, option_copied};
 ghost use Rattle.sm_machine.specs.Lines.{spelled, spelled_words};
 ghost use Rattle.sm_script.specs.Cuts.{words_behind};
-ghost use Rattle.sm_script.specs.declared.lines.LineFault.TheVariants.{BadLine, NoMemory};
 
 use crate::cuts::first_word;
 use crate::parts::{
     attach, copy, create, delete, detach, fill, flush, label, lone, read, resize, snapshot, write,
 };
-use sm_machine::Command;
+use crate::readings::Reading;
+use sm_base::NoMemory;
+use sm_machine::{Command, LineBytes};
 use std::alloc::Global;
 
 /// The most bytes that a line may have, without its newline.
 const LINE_LIMIT: usize = 65536;
 
-/// Why a line is not read.
-#[derive(Clone, Copy, Debug, PartialEq, Eq)]
-pub enum LineFault {
-    /// The line spells no command.
-    BadLine,
-    /// The bytes of a `write` found no memory.
-    NoMemory,
-}
+/// The bytes of the most sectors that a line may spell, 63.
+const ROOM: usize = 32256;
 
 /// The grammar of lines. It has no value of its own to keep.
 pub struct Line;
 
 impl Line {
-    /// The command that a line spells, without its newline. Want of memory may take the place of any other
-    /// answer to a `write`.
-    pub fn read(alloc: Global, line: &[u8]) -> Result<Command, LineFault>
-        ensures ok { IfOk result (λ c. spelled line.now ≡ Some c) }
-        ensures bad { result ≡ Err BadLine → spelled line.now ≡ None }
-        ensures none { spelled line.now ≡ None → IsErr result }
-        ensures memory { result ≡ Err NoMemory → IsTrue (starts_with nat_eq line.now (codes "write ")) }
+    /// Room for the bytes of any line.
+    pub fn room(alloc: Global) -> Result<LineBytes, NoMemory>
+        ensures { IfOk result (λ room. room ≡ []) }
+    {
+        match Vec::with_capacity(alloc, ROOM) {
+            Ok(bytes) => Ok(LineBytes { bytes }),
+            Err(_) => Err(NoMemory),
+        }
+    }
+
+    /// The command that a line spells, without its newline. The bytes of a `write` take the place of what the room held.
+    pub fn read(line: &[u8], room: LineBytes) -> Reading
+        ensures { result ≡ spelled line.now }
     {
         if line.len() > LINE_LIMIT {
-            return Err(LineFault::BadLine);
+            return Reading::beside(None, room);
         }
         let (verb, rest) = first_word(line);
         if verb == b"write".as_slice() {
-            return write(alloc, rest);
+            return write(rest, room);
         }
-        match command(verb, rest) {
-            Some(command) => Ok(command),
-            None => Err(LineFault::BadLine),
-        }
+        Reading::beside(command(verb, rest), room)
     }
 }
 

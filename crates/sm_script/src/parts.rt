@@ -1,17 +1,15 @@
 //! What stands behind a line's first word, read as the parts of a command.
 
-ghost use Rattle.std.specs.Prelude.{◌≡◌, None, Some, Err, IfOk, IsSome, option_copied};
+ghost use Rattle.std.specs.Prelude.{◌≡◌, ◌≤◌, length, option_copied};
 ghost use Rattle.sm_machine.specs.Lines.{after_attach, after_create, after_disk, after_fill, after_label, after_read, after_resize, after_twin, after_write, alone};
 ghost use Rattle.sm_machine.specs.declared.commands.Command.TheVariants.{Clone, Delete, Detach, Flush, Snapshot};
-ghost use Rattle.sm_script.specs.Cuts.{words_behind};
-ghost use Rattle.sm_script.specs.declared.lines.LineFault.TheVariants.{BadLine, NoMemory};
+ghost use Rattle.sm_script.specs.Cuts.{behind, words_behind};
 
 use crate::cuts::{four, one, three, two};
 use crate::fields::{byte_in, is_raw_in, mode_in, number_in, sectors_in, uuid_in};
-use crate::lines::LineFault;
+use crate::readings::Reading;
 use sm_base::Label;
-use sm_machine::Command;
-use std::alloc::Global;
+use sm_machine::{Command, LineBytes};
 
 /// A new disk's UUID, its size in bytes, its kind and its label.
 pub fn create(rest: Option<&[u8]>) -> Option<Command>
@@ -149,25 +147,22 @@ pub fn lone(command: Command, rest: Option<&[u8]>) -> Option<Command>
     Some(command)
 }
 
-/// A disk, a sector, and the bytes of whole sectors.
-pub fn write(alloc: Global, rest: Option<&[u8]>) -> Result<Command, LineFault>
-    ensures ok { IfOk result (λ c. after_write (words_behind (option_copied rest.entry)) ≡ Some c) }
-    ensures bad { result ≡ Err BadLine → after_write (words_behind (option_copied rest.entry)) ≡ None }
-    ensures memory { result ≡ Err NoMemory → IsSome rest.entry }
+/// A disk, a sector, and the bytes of whole sectors, which take the place of what the room held.
+pub fn write(rest: Option<&[u8]>, room: LineBytes) -> Reading
+    requires { length (behind (option_copied rest)) ≤ 65536 }
+    ensures { result ≡ after_write (words_behind (option_copied rest.entry)) }
 {
     let Some((disk, sector, digits)) = three(rest) else {
-        return Err(LineFault::BadLine);
+        return Reading::beside(None, room);
     };
     let Some(disk) = uuid_in(disk) else {
-        return Err(LineFault::BadLine);
+        return Reading::beside(None, room);
     };
     let Some(sector) = number_in(sector) else {
-        return Err(LineFault::BadLine);
+        return Reading::beside(None, room);
     };
-    let bytes = sectors_in(alloc, digits)?;
-    Ok(Command::Write {
-        disk,
-        sector,
-        bytes,
-    })
+    match sectors_in(digits, room) {
+        Ok(bytes) => Reading::write(disk, sector, bytes),
+        Err(room) => Reading::beside(None, room),
+    }
 }

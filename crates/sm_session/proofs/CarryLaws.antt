@@ -47,20 +47,23 @@ not_guests _ guests no_attach no_detach no_write no_fill no_read no_flush = true
 
 -- what is built and no command of the repository's own is a guest's
 pub others_guests : (c : Command) → is_built c ≡ true → ((u : List ℕ) (size : ℕ) (raw : Bool) (label : List ℕ) → c ≡ command.Create u size raw label → ⊥) → ((u : List ℕ) → c ≡ command.Delete u → ⊥) → ((u text : List ℕ) → c ≡ command.Label u text → ⊥)
-    → ((u : List ℕ) (size : ℕ) → c ≡ command.Resize u size → ⊥) → (c ≡ command.List → ⊥) → is_guests c ≡ true
+    → ((u : List ℕ) (size : ℕ) → c ≡ command.Resize u size → ⊥) → ((u twin : List ℕ) → c ≡ command.Snapshot u twin → ⊥)
+    → ((u twin : List ℕ) → c ≡ command.Clone u twin → ⊥) → (c ≡ command.List → ⊥) → is_guests c ≡ true
 unfolding is_built is_guests
-others_guests (command.Create u size raw label) built no_create no_delete no_label no_resize no_list = absurd (no_create u size raw label refl)
-others_guests (command.Delete u) built no_create no_delete no_label no_resize no_list = absurd (no_delete u refl)
-others_guests (command.Label u text) built no_create no_delete no_label no_resize no_list = absurd (no_label u text refl)
-others_guests (command.Resize u size) built no_create no_delete no_label no_resize no_list = absurd (no_resize u size refl)
-others_guests command.List built no_create no_delete no_label no_resize no_list = absurd (no_list refl)
-others_guests (command.Attach u mode) built no_create no_delete no_label no_resize no_list = refl
-others_guests (command.Detach u) built no_create no_delete no_label no_resize no_list = refl
-others_guests (command.Write u sector bytes) built no_create no_delete no_label no_resize no_list = refl
-others_guests (command.Fill u sector count byte) built no_create no_delete no_label no_resize no_list = refl
-others_guests (command.Read u sector count) built no_create no_delete no_label no_resize no_list = refl
-others_guests (command.Flush u) built no_create no_delete no_label no_resize no_list = refl
-others_guests _ built no_create no_delete no_label no_resize no_list = absurd (true≢false (sym built))
+others_guests (command.Create u size raw label) built no_create no_delete no_label no_resize no_snapshot no_clone no_list = absurd (no_create u size raw label refl)
+others_guests (command.Delete u) built no_create no_delete no_label no_resize no_snapshot no_clone no_list = absurd (no_delete u refl)
+others_guests (command.Label u text) built no_create no_delete no_label no_resize no_snapshot no_clone no_list = absurd (no_label u text refl)
+others_guests (command.Resize u size) built no_create no_delete no_label no_resize no_snapshot no_clone no_list = absurd (no_resize u size refl)
+others_guests (command.Snapshot u twin) built no_create no_delete no_label no_resize no_snapshot no_clone no_list = absurd (no_snapshot u twin refl)
+others_guests (command.Clone u twin) built no_create no_delete no_label no_resize no_snapshot no_clone no_list = absurd (no_clone u twin refl)
+others_guests command.List built no_create no_delete no_label no_resize no_snapshot no_clone no_list = absurd (no_list refl)
+others_guests (command.Attach u mode) built no_create no_delete no_label no_resize no_snapshot no_clone no_list = refl
+others_guests (command.Detach u) built no_create no_delete no_label no_resize no_snapshot no_clone no_list = refl
+others_guests (command.Write u sector bytes) built no_create no_delete no_label no_resize no_snapshot no_clone no_list = refl
+others_guests (command.Fill u sector count byte) built no_create no_delete no_label no_resize no_snapshot no_clone no_list = refl
+others_guests (command.Read u sector count) built no_create no_delete no_label no_resize no_snapshot no_clone no_list = refl
+others_guests (command.Flush u) built no_create no_delete no_label no_resize no_snapshot no_clone no_list = refl
+others_guests _ built no_create no_delete no_label no_resize no_snapshot no_clone no_list = absurd (true≢false (sym built))
 
 -- ---- want of memory is no cause
 

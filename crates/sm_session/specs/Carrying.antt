@@ -1,7 +1,7 @@
 -- The commands of guests, and how many commits a command makes at most.
 use Rattle.std.specs.Prelude.{ℕ, Bool, true, false}
 use Rattle.sm_machine.specs.declared.commands.Command.{Command}
-use Rattle.sm_machine.specs.declared.commands.Command.TheVariants.{Create, Delete, Attach, Detach, Write, Fill, Read, Flush}
+use Rattle.sm_machine.specs.declared.commands.Command.TheVariants.{Create, Delete, Attach, Detach, Snapshot, Clone, Write, Fill, Read, Flush}
 
 -- what a guest's host asks: a disk comes into use and goes out of it, and its sectors are read and written
 unfoldable pub is_guests : Command → Bool
@@ -13,10 +13,12 @@ is_guests (Read u sector count) = true
 is_guests (Flush u) = true
 is_guests _ = false
 
--- a new disk is made and then unmarked, one that goes is removed, and the image of one that is attached may get extents under an
--- entry; nothing else commits
+-- a new disk is made and then unmarked, one that goes is removed, the image of one that is attached may get extents under an
+-- entry, and eight make a disk of another; nothing else commits
 unfoldable pub most_commits : Command → ℕ
 most_commits (Create u size raw label) = 2
 most_commits (Delete u) = 1
 most_commits (Attach u mode) = 3
+most_commits (Snapshot u twin) = 8
+most_commits (Clone u twin) = 8
 most_commits _ = 0

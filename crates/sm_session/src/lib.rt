@@ -15,15 +15,16 @@
 //! pending, but behind a write or a fill, whose bytes may be lost until they are made last. A new disk takes the least free
 //! extents, in rising order; and a step raises the sequence number by so many commits at most, whether it does its work or not
 //! (`most_commits`). No call changes what stands beside the store.
-//! Today's commands are those that make, give up, rename and list disks, and those of guests (`is_guests`): a disk comes into
-//! use and goes out of it, and its sectors are read, written, filled and made last; any other is answered as a line that spells
-//! none. Why a command is refused is asked once, of `refuse` (`sm_ready`), before the command is carried out: so a command's
+//! Today's commands are those that make disks, also of one another, give them up, rename and list them, and those of guests
+//! (`is_guests`): a disk comes into use and goes out of it, and its sectors are read, written, filled and made last; any other
+//! is answered as a line that spells none. Why a command is refused is asked once, of `refuse` (`sm_ready`), before the command is carried out: so a command's
 //! crate is called only where no cause was found. Between two steps each image in memory is true of its volume, whether or not
 //! the device was kept when it was opened: so a guest may always read and write.
 //! [`Session::begin`] checks what stands in a store and repairs it first. After a step that failed no further one is
 //! taken.
 #![tactic(auto)]
 
+mod forks;
 mod guests;
 mod sessions;
 mod taking;

@@ -19,6 +19,7 @@ ghost use Rattle.sm_ready.specs.Sessions.{HasRows, HasTreeRoom, IsOrderlyStore, 
 ghost use Rattle.sm_ready.specs.Taken.{StoreTakes};
 ghost use Rattle.sm_session.specs.Carrying.{is_guests, most_commits};
 
+use crate::forks::derive;
 use crate::guests::serve;
 use sm_base::{Failed, Refusal};
 use sm_changing::{delete, label};
@@ -40,7 +41,8 @@ fn is_built(command: &Command) -> bool
         Command::Create { .. } | Command::Delete { .. } | Command::Label { .. } | Command::List => {
             true
         }
-        Command::Resize { .. } | Command::Attach { .. } | Command::Detach { .. } => true,
+        Command::Snapshot { .. } | Command::Clone { .. } | Command::Resize { .. } => true,
+        Command::Attach { .. } | Command::Detach { .. } => true,
         Command::Write { .. } | Command::Fill { .. } => true,
         Command::Read { .. } | Command::Flush { .. } => true,
         _ => false,
@@ -114,6 +116,8 @@ fn carry_out<S: Store>(
             let bytes = resize(store, memory, disk, *size)?;
             Ok(Reply::Size(bytes))
         }
+        Command::Snapshot { disk, twin } => derive(alloc, store, memory, disk, twin, true, now),
+        Command::Clone { disk, twin } => derive(alloc, store, memory, disk, twin, false, now),
         Command::List => Ok(list(alloc, memory)),
         _ => serve(alloc, store, memory, pool, command),
     }

@@ -73,10 +73,10 @@ leaf_linked c o os are is_first right =
 
 -- ---- the fork
 
-abbrev early : VolumeTable → Content
+abbrev pub early : VolumeTable → Content
 early t = content_with t (fork_area (first_record ∷ []))
 
-abbrev late : VolumeTable → Content
+abbrev pub late : VolumeTable → Content
 late t = content_with t (fork_area (first_record ∷ second_record ∷ []))
 
 -- without a parent
@@ -84,13 +84,13 @@ written_top : (t : VolumeTable) (rs : List Record) (u : List ℕ) (hidden : Bool
     → image_of (content_with t (fork_area rs)) (Vhd u) ≡ Some (written_out None (top 17))
 written_top t rs u hidden there whole = saying_top (content_with t (fork_area rs)) (Vhd u) 17 (disk_image t rs u hidden (Vhd u) there whole)
 
-early_undamaged : (t : VolumeTable) → HasRecords t → record_fault (outline (early t)) ≡ None
+pub early_undamaged : (t : VolumeTable) → HasRecords t → record_fault (outline (early t)) ≡ None
 early_undamaged t there = one_undamaged t (top_image 17) (empty_child (Vhd base)) (empty_child (Vhd base)) first_record there first_right
 
-late_undamaged : (t : VolumeTable) → HasRecords t → record_fault (outline (late t)) ≡ None
+pub late_undamaged : (t : VolumeTable) → HasRecords t → record_fault (outline (late t)) ≡ None
 late_undamaged t there = two_undamaged t (top_image 17) (empty_child (Vhd base)) (empty_child (Vhd base)) first_record second_record there first_right second_right
 
-early_records : (t : VolumeTable) → HasRecords t → records (early t) ≡ first_record ∷ []
+pub early_records : (t : VolumeTable) → HasRecords t → records (early t) ≡ first_record ∷ []
 early_records t there = one_record t (top_image 17) (empty_child (Vhd base)) (empty_child (Vhd base)) first_record there first_right
 
 -- the entry was made

@@ -26,7 +26,7 @@ use Rattle.sm_standing.proofs.DisksShown.{row_of-In}
 use Rattle.sm_standing.proofs.ImageLaws.{image_there}
 use Rattle.sm_standing.proofs.WalkLaws.{depth_top}
 use Rattle.sm_standing.specs.Apart.{IsEmptyOver}
-use Rattle.sm_stages.specs.Forks.{forked, IsForkable, IsForkPlace, IsForking, IsForked}
+use Rattle.sm_standing.specs.Forks.{forked, IsForkable, IsForkPlace, IsForking, IsForked}
 use Rattle.sm_stages.specs.Moments.{top, child}
 use Rattle.sm_stages.specs.Worked.{first, second, base, first_record, second_record, content_with, image_row, one_disk, fork_area, unforked, forking_at, filled_at}
 use Rattle.sm_stages.specs.WorkedImages.{top_image, empty_child}
@@ -83,7 +83,7 @@ second_child t rs hidden name there whole =
 pub child_empty : (s : ℕ) → child.own s ≡ None
 child_empty s = empty_own (Vhd base) (size_at 160 (empty_child (Vhd base))) s (let e = child_size (Vhd base) (table_of []) empty base_named refl in omega (arith, e))
 
-over : (c : Content) (n : Name) → image_of c n ≡ Some child → image_of c (Vhd base) ≡ Some (top 17) → IsEmptyOver c n (Vhd base) child (top 17)
+pub over : (c : Content) (n : Name) → image_of c n ≡ Some child → image_of c (Vhd base) ≡ Some (top 17) → IsEmptyOver c n (Vhd base) child (top 17)
 over c n is below = record {
   image = is;
   parent = child_parent (Vhd base) (table_of []) empty base_named refl;
@@ -147,7 +147,7 @@ pub recorded_one : (t : VolumeTable) → HasRecords t → (u : List ℕ) → rec
 recorded_one t there u =
     ap (find (is_record_of u)) (one_record t (top_image 17) (empty_child (Vhd base)) (empty_child (Vhd base)) first_record there first_right ∙ sym unforked_records)
 
-differs : (u v : List ℕ) → u ≢ v → bytes_eq v u ≡ false
+pub differs : (u v : List ℕ) → u ≢ v → bytes_eq v u ≡ false
 differs u v other = by (bytes_eq v u) refl
   where
     by : (b : Bool) → bytes_eq v u ≡ b → b ≡ false

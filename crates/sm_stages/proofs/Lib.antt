@@ -1,6 +1,3 @@
-pub mod ApartLaws
-pub mod ForkLaws
-pub mod SwapLaws
 pub mod PieceLaws
 pub mod WorkedLaws
 pub mod PlacedLaws
@@ -12,6 +9,7 @@ pub mod WorkedDisks
 pub mod WorkedSound
 pub mod OpenedLaws
 pub mod EntrySound
+pub mod ForkMomentExample
 pub mod RelinkOpened
 pub mod VolumeExample
 pub mod RemovedExample

@@ -16,16 +16,16 @@ use Rattle.sm_standing.specs.Images.{Image, image_of}
 use Rattle.sm_standing.specs.Opened.{Part, Work, begun, repaired, new_removed, extents_besides, in_name_order, row_of_part, opened}
 use Rattle.sm_standing.specs.Shapes.{disk_record, image_row, shape, row_of as shape_row}
 use Rattle.sm_standing.specs.Standing.{standing_volume, disks, disk_at, uuids, with_uuid, in_order}
-use Rattle.sm_stages.specs.Forks.{IsForking}
+use Rattle.sm_standing.specs.Forks.{IsForking}
 use Rattle.sm_stages.specs.Moments.{top, filled, written, disk_of}
 use Rattle.sm_stages.specs.Opened.{one_disk_shape}
 use Rattle.sm_stages.specs.Worked.{first, second, base, first_record, second_record, content_with, image_row as worked_row, fork_area, fork_after, swap_area, unforked, forking_at, filled_at, swapping_at}
 use Rattle.sm_stages.proofs.ForkExample.{forkable, moment_1, moment_2, moment_3, moment_4, moment_5, moment_6, moment_7, unforked_image, first_right}
-use Rattle.sm_stages.proofs.ForkLaws.{forking}
+use Rattle.sm_standing.proofs.ForkLaws.{forking}
 use Rattle.sm_stages.proofs.ForkMoments.{fork_1, fork_2, fork_3, fork_4, fork_5, fork_6, fork_7, is_fork_1, is_fork_2, is_fork_3, is_fork_4, is_fork_5, is_fork_6, is_fork_7, swap_1, swap_2, swap_3, swap_4, swap_5, is_swap_1, is_swap_2, is_swap_3, is_swap_4, is_swap_5}
 use Rattle.sm_stages.proofs.PlacedLaws.{one_record}
 use Rattle.sm_stages.proofs.SwapExample.{parent_image, swappable, moment_1 as swap_moment_1, moment_2 as swap_moment_2, moment_3 as swap_moment_3, moment_4 as swap_moment_4, moment_5 as swap_moment_5}
-use Rattle.sm_stages.proofs.SwapLaws.{swapping}
+use Rattle.sm_standing.proofs.SwapLaws.{swapping}
 use Rattle.sm_stages.proofs.WorkedDisks.{unforked_disks, shown, top_sectors}
 use Rattle.sm_stages.specs.WorkedImages.{top_image, filled_child, empty_child}
 

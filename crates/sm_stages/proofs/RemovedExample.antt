@@ -21,7 +21,7 @@ use Rattle.sm_standing.specs.Standing.{standing_volume, disks, disk_at, uuids, w
 use Rattle.sm_standing.proofs.ImageLaws.{removed_disks, childless_parent}
 use Rattle.sm_stages.specs.Moments.{top, child, empty_over, written, disk_of}
 use Rattle.sm_stages.specs.Worked.{first, second, base, first_record, content_with, image_row, fork_area, relinking, relinked_at, still_linked}
-use Rattle.sm_stages.proofs.ApartLaws.{none_disk}
+use Rattle.sm_standing.proofs.ApartLaws.{none_disk}
 use Rattle.sm_stages.proofs.ForkExample.{HasRecords, disk_image, first_child, second_child, recorded_one, unforked_records}
 use Rattle.sm_stages.proofs.ForkMoments.{relink_1, relink_2, is_relink_1, is_relink_2}
 use Rattle.sm_stages.proofs.RelinkOpened.{over_hidden, over_second}

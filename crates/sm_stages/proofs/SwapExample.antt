@@ -15,7 +15,7 @@ use Rattle.sm_standing.specs.Images.{Image, image_of, image_extents}
 use Rattle.sm_standing.specs.Standing.{standing_volume, stands_plainly}
 use Rattle.sm_standing.proofs.ImageLaws.{image_there, parent-is}
 use Rattle.sm_standing.proofs.WalkLaws.{depth_top, depth_up}
-use Rattle.sm_stages.specs.Swaps.{swapped, IsSwappable, IsSwapping, IsLeafAway, IsParentNamed, IsLeafGone}
+use Rattle.sm_standing.specs.Swaps.{swapped, IsSwappable, IsSwapping, IsLeafAway, IsParentNamed, IsLeafGone}
 use Rattle.sm_stages.specs.Moments.{top, filled}
 use Rattle.sm_stages.specs.Worked.{first, base, first_record, content_with, image_row, leaf_copied, swap_area, swapping_at}
 use Rattle.sm_stages.specs.WorkedImages.{top_image, filled_child, empty_child, one_entry, one_slot}

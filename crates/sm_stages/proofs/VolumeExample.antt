@@ -5,7 +5,7 @@ use Rattle.common_laws.specs.Lists.{numbers}
 use Rattle.vg_meta.specs.Tables.{Row, VolumeTable, row_of, name_eq, extents_of}
 use Rattle.vg_volumes.specs.Volumes.{piece}
 use Rattle.sm_standing.specs.Contents.{Content, sectors_of}
-use Rattle.sm_stages.specs.Forks.{forked}
+use Rattle.sm_standing.specs.Forks.{forked}
 use Rattle.sm_standing.specs.Volumes.{IsSameVolume, AreSameApart}
 use Rattle.sm_stages.specs.Worked.{first, second, base, first_record, content_with, image_row, one_disk, fork_area, unforked, forking_at}
 use Rattle.sm_stages.proofs.ForkMoments.{fork_2, is_fork_2}

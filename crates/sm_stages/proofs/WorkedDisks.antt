@@ -22,9 +22,9 @@ use Rattle.sm_standing.proofs.WalkLaws.{depth_top, depth_up}
 use Rattle.sm_stages.specs.Moments.{top, filled, child, written, disk_of}
 use Rattle.sm_stages.specs.Worked.{first, second, base, first_record, second_record, content_with, area_of, image_row, one_disk, unforked, two_disks, fresh_disk, written_disk}
 use Rattle.sm_stages.specs.WorkedImages.{top_image, filled_child, empty_child, sector_of}
-use Rattle.sm_stages.proofs.ApartLaws.{none_disk}
+use Rattle.sm_standing.proofs.ApartLaws.{none_disk}
 use Rattle.sm_stages.proofs.ForkExample.{base_named, first_right, second_right, unforked_image, unforked_records, child_empty, HasRecords}
-use Rattle.sm_stages.proofs.ForkLaws.{made_disk}
+use Rattle.sm_standing.proofs.ForkLaws.{made_disk}
 use Rattle.sm_stages.proofs.ForkMoments.{fork_8, is_fork_8}
 use Rattle.sm_stages.proofs.PlacedLaws.{placed_image, area_first, area_second, area_third, two_records}
 use Rattle.sm_stages.proofs.SwapExample.{filled_size, filled_parent, held_alike}

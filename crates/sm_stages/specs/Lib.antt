@@ -1,5 +1,3 @@
-pub mod Forks
-pub mod Swaps
 pub mod WorkedImages
 pub mod Worked
 pub mod Moments

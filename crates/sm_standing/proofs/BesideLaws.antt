@@ -1,25 +1,38 @@
 -- What speaks of none of some UUIDs passes each check as it did.
-use Rattle.std.proofs.Common.{◌≡◌, inl, inr, ℕ, zero, suc, Bool, true, false, not, ◌&&◌, ◌||◌, ◌==◌, List, length, Option, Some, None, is_some, is_none, refl, sym, ap, ap₂, ◌∙◌, subst, nat_le}
-use Rattle.std.proofs.lemmas.Bool.{true≢false}
+use Rattle.std.proofs.Common.{◌≡◌, inl, inr, ℕ, zero, suc, ◌≤◌, Bool, true, false, not, ◌&&◌, ◌||◌, ◌==◌, List, length, Option, Some, None, is_some, is_none, refl, sym, ap, ap₂, ◌∙◌, subst, nat_le}
+use Rattle.std.proofs.lemmas.Bool.{true≢false, and_parts, eqb-true, eq-eqb}
+use Rattle.common_laws.proofs.Booleans.{all_hold, not_false}
 use Rattle.sm_base.specs.Kinds.{is_image as is_data, is_entry}
 use Rattle.sm_base.specs.declared.faults.Place.{Place}
 use Rattle.sm_base.specs.declared.faults.Place.TheVariants as at
 use Rattle.sm_base.specs.declared.names.Name.{Name}
 use Rattle.sm_base.specs.declared.names.Name.TheVariants.{Mgt, Vhd, Raw, Old, Clone, Inflate, Coalesce, Relink, Leaf}
 use Rattle.vg_layout.specs.Places.{record_extents}
-use Rattle.vg_meta.specs.Tables.{VolumeTable, Row}
+use Rattle.vg_meta.specs.Tables.{VolumeTable, Row, rows}
 use Rattle.common_laws.specs.Lists.{In, given}
 use Rattle.common_laws.proofs.Lists.{none_first, first_none}
 use Rattle.sm_standing.specs.Apart.{is_apart}
 use Rattle.sm_standing.specs.Besides.{IsBeside, PassesAlone, is_settled_name}
-use Rattle.sm_standing.specs.Checks.{record_volume_fault, has_twin, is_misnamed, misnamed_fault, lost_entry_fault, is_lost, is_orphaned, old_leaf_fault, is_image_wrong, is_oversize, is_invalid, invalid_fault, chain_length, is_linked, is_no_larger, is_parent_right, is_misplaced, is_tree_wrong, tree_wrong_as, tree_fault, is_entry_linked, entry_link_fault, all_faults, fault_of}
+use Rattle.sm_standing.specs.Checks.{children, record_volume_fault, has_twin, is_misnamed, misnamed_fault, lost_entry_fault, is_lost, is_orphaned, old_leaf_fault, is_image_wrong, is_oversize, is_invalid, invalid_fault, chain_length, is_linked, is_no_larger, is_parent_right, is_misplaced, is_tree_wrong, tree_wrong_as, tree_fault, is_entry_linked, entry_link_fault, all_faults, fault_of}
 use Rattle.sm_standing.specs.Entries.{of_row, is_at_stage, is_hidden, is_past, are_past}
 use Rattle.sm_standing.specs.Outlines.{Outline, Link}
 use Rattle.sm_standing.proofs.DisksShown.{row_of-In}
 use Rattle.sm_standing.proofs.FaultLaws.{named_none, none_named}
 use Rattle.sm_standing.proofs.NamedLaws.{past_later}
 
-module _ (a b : Outline) (us : List (List ℕ)) (w : IsBeside a b us) where
+-- whatever speaks of none of the UUIDs is as it was, and where an image had no children it has none
+pub record IsAlikeApart (a b : Outline) (us : List (List ℕ)) : Type 0 where
+  pub extent : b.extent ≡ a.extent
+  pub block : b.block ≡ a.block
+  pub entries : b.entries ≡ a.entries
+  pub later : a.table.sequence ≤ b.table.sequence
+  pub found : (r : Row) → In r b.table.volumes → rows b.table r.name ≡ Some r
+  pub rows_apart : (n : Name) → is_apart us n ≡ true → rows b.table n ≡ rows a.table n
+  pub links_apart : (n : Name) → is_apart us n ≡ true → b.links n ≡ a.links n
+  pub parents_apart : (n p : Name) (i : Link) → is_apart us n ≡ true → a.links n ≡ Some i → i.parent ≡ Some p → is_apart us p ≡ true
+  pub childless_apart : (n : Name) → is_apart us n ≡ true → (length (children a n) == 0) ≡ true → (length (children b n) == 0) ≡ true
+
+module _ (a b : Outline) (us : List (List ℕ)) (w : IsAlikeApart a b us) where
   -- the row of a name apart stood among the volumes from before
   was_there : (r : Row) → In r b.table.volumes → is_apart us r.name ≡ true → In r a.table.volumes
   was_there r i apart = (row_of-In a.table.volumes r.name r (sym (w.rows_apart r.name apart) ∙ w.found r i)).0
@@ -42,20 +55,20 @@ module _ (a b : Outline) (us : List (List ℕ)) (w : IsBeside a b us) where
   and_false true = refl
   and_false false = refl
 
-  hidden_alike : (n : Name) → is_apart us n ≡ true → is_hidden b.table n ≡ is_hidden a.table n
+  pub hidden_alike : (n : Name) → is_apart us n ≡ true → is_hidden b.table n ≡ is_hidden a.table n
   hidden_alike n apart = ap (of_row (λ r. r.hidden && not r.fresh)) (w.rows_apart n apart)
 
-  parent_alike : (size : ℕ) (n : Name) → is_apart us n ≡ true → is_parent_right b size n ≡ is_parent_right a size n
+  pub parent_alike : (size : ℕ) (n : Name) → is_apart us n ≡ true → is_parent_right b size n ≡ is_parent_right a size n
   parent_alike size n apart = ap₂ (λ h l. h && is_no_larger size l) (hidden_alike n apart) (w.links_apart n apart)
 
-  linked_alike : (n : Name) (i : Link) → is_apart us n ≡ true → a.links n ≡ Some i → is_linked b i ≡ is_linked a i
+  pub linked_alike : (n : Name) (i : Link) → is_apart us n ≡ true → a.links n ≡ Some i → is_linked b i ≡ is_linked a i
   linked_alike n i apart is = by i.parent refl
     where
       by : (x : Option Name) → i.parent ≡ x → elim x as (λ _. Bool) [ None ↦ true | Some p ↦ is_parent_right b i.size p ] ≡ elim x as (λ _. Bool) [ None ↦ true | Some p ↦ is_parent_right a i.size p ]
       by None at_none = refl
       by (Some p) at_some = parent_alike i.size p (w.parents_apart n p i apart is at_some)
 
-  chain_alike : (most : ℕ) (n : Name) → is_apart us n ≡ true → chain_length b most n ≡ chain_length a most n
+  pub chain_alike : (most : ℕ) (n : Name) → is_apart us n ≡ true → chain_length b most n ≡ chain_length a most n
   unfolding chain_length
   chain_alike zero n apart = refl
   chain_alike (suc most) n apart =
@@ -73,13 +86,18 @@ module _ (a b : Outline) (us : List (List ℕ)) (w : IsBeside a b us) where
       by further None is = refl
       by further (Some i) is = ap suc (up further i is i.parent refl)
 
-  misplaced_alike : (r : Row) (n : Name) → r.name ≡ n → is_apart us n ≡ true → (x : Option Link) → a.links n ≡ x → is_misplaced b r x ≡ is_misplaced a r x
-  misplaced_alike r n named apart None is = refl
-  misplaced_alike r n named apart (Some i) is =
+  misplaced_alike : (r : Row) (n : Name) → r.name ≡ n → is_apart us n ≡ true → (x : Option Link) → a.links n ≡ x → is_misplaced a r x ≡ false → is_misplaced b r x ≡ false
+  misplaced_alike r n named apart None is h = refl
+  misplaced_alike r n named apart (Some i) is h =
       let here = subst (λ m. is_apart us m ≡ true) (sym named) apart in
-      let childless = ap (λ k. r.hidden || (k == 0)) (w.children_apart r.name here) in
-      let short = ap₂ (λ k c. nat_le k 30 && c) (chain_alike 31 r.name here) childless in
-      ap₂ (λ x y. not (x && y)) (linked_alike n i apart is) short
+      let placed = and_parts (is_linked a i) (nat_le (chain_length a 31 r.name) 30 && (r.hidden || (length (children a r.name) == 0))) (not_false _ h) in
+      let short = and_parts (nat_le (chain_length a 31 r.name) 30) (r.hidden || (length (children a r.name) == 0)) placed.1 in
+      all_hold (is_linked b i) (nat_le (chain_length b 31 r.name) 30) (r.hidden || (length (children b r.name) == 0)) (linked_alike n i apart is ∙ placed.0)
+      (ap (λ k. nat_le k 30) (chain_alike 31 r.name here) ∙ short.0) (childless r.hidden here short.1)
+    where
+      childless : (k : Bool) → is_apart us r.name ≡ true → (k || (length (children a r.name) == 0)) ≡ true → (k || (length (children b r.name) == 0)) ≡ true
+      childless true here h = refl
+      childless false here h = w.childless_apart r.name here h
 
   -- ---- each volume
 
@@ -100,7 +118,7 @@ module _ (a b : Outline) (us : List (List ℕ)) (w : IsBeside a b us) where
     unfolding tree_fault
     tree_before = named_none at.Tree (is_tree_wrong a) a.table.volumes (was (tree_fault a) (inr (inr (inr (inr (inr (inr (inr (inl refl)))))))))
 
-    by_name : (r : Row) → In r b.table.volumes → (n : Name) → r.name ≡ n → is_settled_name us n ≡ true → PassesAlone b r
+    pub by_name : (r : Row) → In r b.table.volumes → (n : Name) → r.name ≡ n → is_settled_name us n ≡ true → PassesAlone b r
     unfolding is_entry_linked
     by_name r i Mgt named apart = record {
       named = ap (misnamed_as b.table) named;
@@ -119,8 +137,8 @@ module _ (a b : Outline) (us : List (List ℕ)) (w : IsBeside a b us) where
           owned = ap (is_orphaned b.table) named;
           valid = ap (λ n. not r.fresh && is_image_wrong b r n) named ∙ ap (λ l. not r.fresh && is_none l) (w.links_apart (Vhd v) apart)
               ∙ sym (ap (λ n. not r.fresh && is_image_wrong a r n) named) ∙ invalid_before r there;
-          placed = ap (tree_wrong_as b r) named ∙ ap (is_misplaced b r) (w.links_apart (Vhd v) apart) ∙ misplaced_alike r (Vhd v) named apart (a.links (Vhd v)) refl
-              ∙ sym (ap (tree_wrong_as a r) named) ∙ tree_before r there;
+          placed = ap (tree_wrong_as b r) named ∙ ap (is_misplaced b r) (w.links_apart (Vhd v) apart)
+              ∙ misplaced_alike r (Vhd v) named apart (a.links (Vhd v)) refl (sym (ap (tree_wrong_as a r) named) ∙ tree_before r there);
           linked = ap (is_entry_linked b) named;
         }
     by_name r i (Raw v) named apart =
@@ -143,18 +161,33 @@ module _ (a b : Outline) (us : List (List ℕ)) (w : IsBeside a b us) where
     by_name r i (Relink x y) named apart = absurd (true≢false (sym apart))
     by_name r i (Leaf x y) named apart = absurd (true≢false (sym apart))
 
+module _ (a b : Outline) (us : List (List ℕ)) (w : IsBeside a b us) where
+  alike : IsAlikeApart a b us
+  alike = record {
+    extent = w.extent;
+    block = w.block;
+    entries = w.entries;
+    later = w.later;
+    found = w.found;
+    rows_apart = w.rows_apart;
+    links_apart = w.links_apart;
+    parents_apart = w.parents_apart;
+    childless_apart = λ n apart none. eq-eqb (length (children b n)) 0 (w.children_apart n apart (eqb-true (length (children a n)) 0 none));
+  }
+
+  module _ (sound : fault_of a ≡ None) where
     passes : (r : Row) → In r b.table.volumes → PassesAlone b r
     passes r i = by (is_settled_name us r.name) refl
       where
         by : (c : Bool) → is_settled_name us r.name ≡ c → PassesAlone b r
-        by true is = by_name r i r.name refl is
+        by true is = by_name a b us alike sound r i r.name refl is
         by false is = w.others r i is
 
     record_volume_ok : record_volume_fault b ≡ None
     unfolding record_volume_fault
     record_volume_ok =
         ap₂ (λ e x. given (not (elim x as (λ _. Bool) [ None ↦ false | Some r ↦ length r.extents == record_extents e ])) at.Mgt) w.extent (w.rows_apart Mgt refl)
-        ∙ was (record_volume_fault a) (inl refl)
+        ∙ was a b us alike sound (record_volume_fault a) (inl refl)
 
     -- no check fails
     pub beside_sound : fault_of b ≡ None

@@ -171,6 +171,23 @@ module _ (e : Name) (u : List ℕ) (qs rs : List Row) (among : HasEntry e u qs r
           out_of true h = absurd (let x = h in cc)
           out_of false h = refl
 
+-- ---- chains
+
+-- which no table decides
+pub chain_alike : (o : Outline) (t : VolumeTable) (most : ℕ) (n : Name) → chain_length (record o { table = t }) most n ≡ chain_length o most n
+unfolding chain_length
+chain_alike o t zero n = refl
+chain_alike o t (suc most) n = by (λ p. chain_alike o t most p) (o.links n)
+  where
+    up : ((p : Name) → chain_length (record o { table = t }) most p ≡ chain_length o most p) → (x : Option Name) → elim x as (λ _. ℕ) [ None ↦ 0 | Some p ↦ chain_length (record o { table = t }) most p ] ≡ elim x as (λ _. ℕ) [ None ↦ 0 | Some p ↦ chain_length o most p ]
+    up rest None = refl
+    up rest (Some p) = rest p
+
+    by : ((p : Name) → chain_length (record o { table = t }) most p ≡ chain_length o most p) → (x : Option Link) → elim x as (λ _. ℕ) [ None ↦ 0 | Some i ↦ suc (elim i.parent as (λ _. ℕ) [ None ↦ 0 | Some p ↦ chain_length (record o { table = t }) most p ]) ]
+        ≡ elim x as (λ _. ℕ) [ None ↦ 0 | Some i ↦ suc (elim i.parent as (λ _. ℕ) [ None ↦ 0 | Some p ↦ chain_length o most p ]) ]
+    by rest None = refl
+    by rest (Some i) = ap suc (up rest i.parent)
+
 -- ---- each check
 
 module _ (o : Outline) (t : VolumeTable) (u : List ℕ) (extents : ℕ) (w : IsEnlarging o t u extents) where
@@ -412,20 +429,6 @@ module _ (o : Outline) (t : VolumeTable) (u : List ℕ) (extents : ℕ) (w : IsE
       (λ q r i one was. ap (λ n. not r.fresh && is_image_wrong enlarging r n) one.name ∙ ap₂ (λ f b. not f && b) one.fresh (wrong_alike q r q.name one refl) ∙ was))
 
   -- 11
-  chain_alike : (most : ℕ) (n : Name) → chain_length enlarging most n ≡ chain_length o most n
-  unfolding chain_length
-  chain_alike zero n = refl
-  chain_alike (suc most) n = by (λ p. chain_alike most p) (o.links n)
-    where
-      up : ((p : Name) → chain_length enlarging most p ≡ chain_length o most p) → (x : Option Name) → elim x as (λ _. ℕ) [ None ↦ 0 | Some p ↦ chain_length enlarging most p ] ≡ elim x as (λ _. ℕ) [ None ↦ 0 | Some p ↦ chain_length o most p ]
-      up rest None = refl
-      up rest (Some p) = rest p
-
-      by : ((p : Name) → chain_length enlarging most p ≡ chain_length o most p) → (x : Option Link) → elim x as (λ _. ℕ) [ None ↦ 0 | Some i ↦ suc (elim i.parent as (λ _. ℕ) [ None ↦ 0 | Some p ↦ chain_length enlarging most p ]) ]
-          ≡ elim x as (λ _. ℕ) [ None ↦ 0 | Some i ↦ suc (elim i.parent as (λ _. ℕ) [ None ↦ 0 | Some p ↦ chain_length o most p ]) ]
-      by rest None = refl
-      by rest (Some i) = ap suc (up rest i.parent)
-
   children_alike : (p : Name) → length (children enlarging p) ≡ length (children o p)
   unfolding children
   children_alike p = count_same entry u o.table.volumes t.volumes w.volumes (λ r. parent_is p (o.links r.name)) (λ q r one. ap (λ n. parent_is p (o.links n)) one.name)
@@ -452,10 +455,10 @@ module _ (o : Outline) (t : VolumeTable) (u : List ℕ) (extents : ℕ) (w : IsE
   misplaced_alike q r None one = refl
   misplaced_alike q r (Some i) one =
       let childless = ap₂ (λ a b. a || (b == 0)) one.hidden (children_alike r.name ∙ ap (λ n. length (children o n)) one.name) in
-      let short = ap₂ (λ a b. nat_le a 30 && b) (chain_alike 31 r.name ∙ ap (chain_length o 31) one.name) childless in
+      let short = ap₂ (λ a b. nat_le a 30 && b) (chain_alike o t 31 r.name ∙ ap (chain_length o 31) one.name) childless in
       ap₂ (λ a b. not (a && b)) (linked_alike i) short
 
-  tree_alike : (q r : Row) (n : Name) → IsAtLeast u q r → tree_wrong_as enlarging r n ≡ tree_wrong_as o q n
+  pub tree_alike : (q r : Row) (n : Name) → IsAtLeast u q r → tree_wrong_as enlarging r n ≡ tree_wrong_as o q n
   tree_alike q r (Vhd v) one = misplaced_alike q r (o.links (Vhd v)) one
   tree_alike q r (Raw v) one = refl
   tree_alike q r Mgt one = refl

@@ -1,8 +1,8 @@
 -- The disks of a repository in which nothing is under way, and the sectors of a raw image.
-use Rattle.std.proofs.Common.{◌≡◌, ℕ, zero, suc, ◌+◌, ◌<◌, ◌≤◌, inl, inr, Bool, true, false, cond, List, [], ◌∷◌, map, Some, None, refl, sym, ap, ap₂, ◌∙◌, subst, arith, nat_lt}
+use Rattle.std.proofs.Common.{◌≡◌, ℕ, zero, suc, ◌+◌, ◌<◌, ◌≤◌, inl, inr, true, false, cond, List, [], ◌∷◌, map, Some, None, refl, sym, ap, ap₂, ◌∙◌, subst, arith, nat_lt}
 use Rattle.std.specs.List.{AllByRecursion, filter}
 use Rattle.sm_base.specs.declared.names.Name.{Name}
-use Rattle.sm_base.specs.declared.names.Name.TheVariants.{Mgt, Vhd, Raw, Inflate}
+use Rattle.sm_base.specs.declared.names.Name.TheVariants.{Mgt, Vhd, Raw, Clone, Inflate}
 use Rattle.vg_meta.specs.Tables.{VolumeTable, Row, names_of}
 use Rattle.std.proofs.lemmas.Bool.{lt-ltb}
 use Rattle.sm_disk.specs.Sectors.{zeros}
@@ -21,30 +21,31 @@ all-In P [] r all h = elim h [ ]
 all-In P (s ∷ rs) r all (inl is) = subst P (sym is) all.0
 all-In P (s ∷ rs) r all (inr h) = all-In P rs r all.1 h
 
-plain_is_no_entry : (hidden : Bool) (n : Name) → is_plain_name hidden n ≡ true → (is_making n ≡ false) × (is_folding n ≡ false)
-plain_is_no_entry hidden Mgt h = (refl, refl)
-plain_is_no_entry hidden (Raw u) h = (refl, refl)
-plain_is_no_entry hidden (Vhd u) h = (refl, refl)
-plain_is_no_entry hidden _ h = absurd (let x = h in cc)
+plain_is_no_entry : (n : Name) → is_plain_name n ≡ true → (is_making n ≡ false) × (is_folding n ≡ false)
+plain_is_no_entry Mgt h = (refl, refl)
+plain_is_no_entry (Raw u) h = (refl, refl)
+plain_is_no_entry (Vhd u) h = (refl, refl)
+plain_is_no_entry _ h = absurd (let x = h in cc)
 
 pub no_making : (rs : List Row) → AllByRecursion (λ r. is_plain r ≡ true) rs → filter is_making (names_of rs) ≡ []
 no_making [] all = refl
-no_making (r ∷ rs) all = ap (λ b. cond b (r.name ∷ filter is_making (names_of rs)) (filter is_making (names_of rs))) (plain_is_no_entry r.hidden r.name all.0).0 ∙ no_making rs all.1
+no_making (r ∷ rs) all = ap (λ b. cond b (r.name ∷ filter is_making (names_of rs)) (filter is_making (names_of rs))) (plain_is_no_entry r.name all.0).0 ∙ no_making rs all.1
 
 pub no_folding : (rs : List Row) → AllByRecursion (λ r. is_plain r ≡ true) rs → filter is_folding (names_of rs) ≡ []
 no_folding [] all = refl
-no_folding (r ∷ rs) all = ap (λ b. cond b (r.name ∷ filter is_folding (names_of rs)) (filter is_folding (names_of rs))) (plain_is_no_entry r.hidden r.name all.0).1 ∙ no_folding rs all.1
+no_folding (r ∷ rs) all = ap (λ b. cond b (r.name ∷ filter is_folding (names_of rs)) (filter is_folding (names_of rs))) (plain_is_no_entry r.name all.0).1 ∙ no_folding rs all.1
 
-simple_is_no_folding : (hidden : Bool) (n : Name) → is_simple_name hidden n ≡ true → is_folding n ≡ false
-simple_is_no_folding hidden Mgt h = refl
-simple_is_no_folding hidden (Raw u) h = refl
-simple_is_no_folding hidden (Vhd u) h = refl
-simple_is_no_folding hidden (Inflate u extents) h = refl
-simple_is_no_folding hidden _ h = absurd (let x = h in cc)
+simple_is_no_folding : (n : Name) → is_simple_name n ≡ true → is_folding n ≡ false
+simple_is_no_folding Mgt h = refl
+simple_is_no_folding (Raw u) h = refl
+simple_is_no_folding (Vhd u) h = refl
+simple_is_no_folding (Clone disk base twin) h = refl
+simple_is_no_folding (Inflate u extents) h = refl
+simple_is_no_folding _ h = absurd (let x = h in cc)
 
 pub simple_folding : (rs : List Row) → AllByRecursion (λ r. is_simple r ≡ true) rs → filter is_folding (names_of rs) ≡ []
 simple_folding [] all = refl
-simple_folding (r ∷ rs) all = ap (λ b. cond b (r.name ∷ filter is_folding (names_of rs)) (filter is_folding (names_of rs))) (simple_is_no_folding r.hidden r.name all.0) ∙ simple_folding rs all.1
+simple_folding (r ∷ rs) all = ap (λ b. cond b (r.name ∷ filter is_folding (names_of rs)) (filter is_folding (names_of rs))) (simple_is_no_folding r.name all.0) ∙ simple_folding rs all.1
 
 -- ---- standing
 

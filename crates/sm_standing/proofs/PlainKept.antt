@@ -1,35 +1,31 @@
--- A repository of visible images without parents, one of which may be being enlarged, is sound exactly fact by fact; it is kept
--- where no slot is empty; and then today's checks pass.
-use Rattle.std.proofs.Common.{eq-eqb, ◌≡◌, ℕ, suc, ◌≤◌, inl, inr, Bool, true, false, cond, not, ◌&&◌, ◌||◌, ◌==◌, List, [], ◌∷◌, length, Option, Some, None, is_some, refl, sym, ap, ◌∙◌, arith, nat_lt}
-use Rattle.std.specs.Prelude.{nat_le}
-use Rattle.std.specs.List.{AllByRecursion, filter}
+-- A repository in which nothing is under way but that images may be being enlarged, and disks forked, is sound exactly fact by
+-- fact; it is kept where no slot is empty; and then today's checks pass.
+use Rattle.std.proofs.Common.{eq-eqb, ◌≡◌, ℕ, ◌≤◌, inl, inr, Bool, true, false, cond, not, ◌&&◌, ◌==◌, List, [], ◌∷◌, length, Option, Some, None, is_some, refl, sym, ap, ◌∙◌, arith, nat_lt}
+use Rattle.std.specs.List.{AllByRecursion, filter, list_any}
 use Rattle.std.proofs.lemmas.Bool.{true≢false, le-ltb, ltb-false, eqb-true}
-use Rattle.std.proofs.lemmas.Option.{none-some}
 use Rattle.common_laws.proofs.Options.{is_some-parts}
-use Rattle.common_laws.proofs.Booleans.{not_false, all_hold}
+use Rattle.common_laws.proofs.Booleans.{not_false}
 use Rattle.sm_base.specs.declared.faults.Place.{Place}
 use Rattle.sm_base.specs.declared.faults.Place.TheVariants as at
 use Rattle.sm_base.specs.declared.names.Name.{Name}
-use Rattle.sm_base.specs.declared.names.Name.TheVariants.{Mgt, Vhd, Raw, Old, Inflate}
+use Rattle.sm_base.specs.declared.names.Name.TheVariants.{Mgt, Vhd, Raw, Old, Clone, Inflate, Relink}
 use Rattle.vg_layout.specs.Places.{record_extents}
 use Rattle.sm_base.specs.Kinds.{is_entry}
-use Rattle.vg_meta.specs.Tables.{VolumeTable, Row, names_of, rows}
+use Rattle.vg_meta.specs.Tables.{VolumeTable, Row, names_of}
 use Rattle.vg_meta.proofs.ExtentLaws.{All-weaken}
 use Rattle.vg_meta.proofs.RowLaws.{row_of-name}
-use Rattle.common_laws.specs.Lists.{In, numbers, ◌>>=◌}
-use Rattle.sm_machine.specs.Shapes.{same_image}
+use Rattle.common_laws.specs.Lists.{In, numbers}
 use Rattle.sm_standing.specs.Plain.{is_plain, is_plain_name, IsPlain, is_simple, is_simple_name, IsSimple}
 use Rattle.sm_standing.specs.PlainSound.{PlainSound, SimpleSound}
 use Rattle.sm_standing.specs.Contents.{Content, row, record_count, is_record_of}
-use Rattle.sm_standing.specs.Entries.{are_past, is_at_stage, is_hidden, is_making, of_row, making, second}
-use Rattle.sm_standing.specs.Images.{Image, image_of, raw_image, vhd_image}
+use Rattle.sm_standing.specs.Entries.{are_past, folding, is_at_stage, is_folding, is_making, is_old_of, making, second}
 use Rattle.sm_standing.specs.Standing.{standing_volume, uuids}
-use Rattle.sm_standing.specs.Checks.{placed, has_records, record_volume_fault, images, too_many_fault, misnamed_fault, lesser, second_entry_fault, lost_entry_fault, is_orphaned, old_leaf_fault, invalid_fault, parent_is, children, chain_length, is_no_larger, is_parent_right, is_linked, is_misplaced, is_tree_wrong, tree_wrong_as, tree_fault, is_entry_linked, entry_link_fault, record_place, record_fault, disk_place, disk_uuids, is_unrecorded, disk_fault, all_faults, faults_today, fault_of, first_fault, is_damaged, is_ahead, is_entry_ahead, has_parent, entry_ahead_fault, image_ahead_fault, parent_ahead_fault, fault_today_of, first_fault_today}
-use Rattle.sm_standing.specs.Outlines.{Link, Outline, outline, outline_records, link_of, parent_in}
+use Rattle.sm_standing.specs.Checks.{placed, has_records, record_volume_fault, images, too_many_fault, misnamed_fault, lesser, second_entry_fault, lost_entry_fault, is_orphaned, old_leaf_fault, invalid_fault, tree_fault, is_entry_linked, entry_link_fault, record_place, record_fault, disk_place, disk_uuids, is_unrecorded, disk_fault, all_faults, faults_today, fault_of, first_fault, is_damaged, is_entry_ahead, entry_ahead_fault, fault_today_of, first_fault_today}
+use Rattle.sm_standing.specs.Outlines.{Outline, outline, outline_records}
 use Rattle.sm_standing.specs.Keeping.{HasNoEmptySlot, IsKept}
 use Rattle.common_laws.proofs.Lists.{find_none, none_find, none_first, first_none, numbers-In, In-numbers, In-filter, filter-In}
 use Rattle.sm_standing.proofs.OutlineLaws.{reading_within, outline_records_same}
-use Rattle.sm_standing.proofs.DisksShown.{is_vhd, stands_listed, row_of-In}
+use Rattle.sm_standing.proofs.DisksShown.{stands_listed, row_of-In}
 use Rattle.sm_standing.proofs.FaultLaws.{given_none, none_given, named_none, none_named}
 use Rattle.sm_standing.proofs.PlainDisks.{all-In, no_making, simple_folding}
 
@@ -41,43 +37,43 @@ pub record NotSpecial (n : Name) : Type 0 where
   pub no_old_name : (t : VolumeTable) → is_orphaned t n ≡ false
   pub linked : (o : Outline) → is_entry_linked o n ≡ true
 
-pub not_special : (hidden : Bool) (n : Name) → is_plain_name hidden n ≡ true → NotSpecial n
+pub not_special : (n : Name) → is_plain_name n ≡ true → NotSpecial n
 unfolding is_entry_linked
-not_special hidden Mgt h = record { no_journal = refl; no_old_name = λ t. refl; linked = λ o. refl }
-not_special hidden (Raw u) h = record { no_journal = refl; no_old_name = λ t. refl; linked = λ o. refl }
-not_special hidden (Vhd u) h = record { no_journal = refl; no_old_name = λ t. refl; linked = λ o. refl }
-not_special hidden _ h = absurd (true≢false (sym h))
+not_special Mgt h = record { no_journal = refl; no_old_name = λ t. refl; linked = λ o. refl }
+not_special (Raw u) h = record { no_journal = refl; no_old_name = λ t. refl; linked = λ o. refl }
+not_special (Vhd u) h = record { no_journal = refl; no_old_name = λ t. refl; linked = λ o. refl }
+not_special _ h = absurd (true≢false (sym h))
 
 -- nor is a simple one
 pub record NotAhead (n : Name) : Type 0 where
   pub no_entry_ahead : is_entry_ahead n ≡ false
   pub no_old_name : (t : VolumeTable) → is_orphaned t n ≡ false
-  pub linked : (o : Outline) → is_entry_linked o n ≡ true
 
-pub not_ahead : (hidden : Bool) (n : Name) → is_simple_name hidden n ≡ true → NotAhead n
-unfolding is_entry_linked
-not_ahead hidden Mgt h = record { no_entry_ahead = refl; no_old_name = λ t. refl; linked = λ o. refl }
-not_ahead hidden (Raw u) h = record { no_entry_ahead = refl; no_old_name = λ t. refl; linked = λ o. refl }
-not_ahead hidden (Vhd u) h = record { no_entry_ahead = refl; no_old_name = λ t. refl; linked = λ o. refl }
-not_ahead hidden (Inflate u extents) h = record { no_entry_ahead = refl; no_old_name = λ t. refl; linked = λ o. refl }
-not_ahead hidden _ h = absurd (true≢false (sym h))
+pub not_ahead : (n : Name) → is_simple_name n ≡ true → NotAhead n
+not_ahead Mgt h = record { no_entry_ahead = refl; no_old_name = λ t. refl }
+not_ahead (Raw u) h = record { no_entry_ahead = refl; no_old_name = λ t. refl }
+not_ahead (Vhd u) h = record { no_entry_ahead = refl; no_old_name = λ t. refl }
+not_ahead (Clone disk base twin) h = record { no_entry_ahead = refl; no_old_name = λ t. refl }
+not_ahead (Inflate u extents) h = record { no_entry_ahead = refl; no_old_name = λ t. refl }
+not_ahead _ h = absurd (true≢false (sym h))
 
 -- a plain volume is a simple one, and a simple one that is no entry is plain
-pub plain_simple_name : (hidden : Bool) (n : Name) → is_plain_name hidden n ≡ true → is_simple_name hidden n ≡ true
-plain_simple_name hidden Mgt h = refl
-plain_simple_name hidden (Raw u) h = h
-plain_simple_name hidden (Vhd u) h = h
-plain_simple_name hidden _ h = absurd (true≢false (sym h))
+pub plain_simple_name : (n : Name) → is_plain_name n ≡ true → is_simple_name n ≡ true
+plain_simple_name Mgt h = refl
+plain_simple_name (Raw u) h = h
+plain_simple_name (Vhd u) h = h
+plain_simple_name _ h = absurd (true≢false (sym h))
 
-pub simple_plain_name : (hidden : Bool) (n : Name) → is_simple_name hidden n ≡ true → is_making n ≡ false → is_plain_name hidden n ≡ true
-simple_plain_name hidden Mgt h no_entry = refl
-simple_plain_name hidden (Raw u) h no_entry = h
-simple_plain_name hidden (Vhd u) h no_entry = h
-simple_plain_name hidden (Inflate u extents) h no_entry = absurd (true≢false no_entry)
-simple_plain_name hidden _ h no_entry = absurd (true≢false (sym h))
+pub simple_plain_name : (n : Name) → is_simple_name n ≡ true → is_making n ≡ false → is_plain_name n ≡ true
+simple_plain_name Mgt h no_entry = refl
+simple_plain_name (Raw u) h no_entry = h
+simple_plain_name (Vhd u) h no_entry = h
+simple_plain_name (Clone disk base twin) h no_entry = absurd (true≢false no_entry)
+simple_plain_name (Inflate u extents) h no_entry = absurd (true≢false no_entry)
+simple_plain_name _ h no_entry = absurd (true≢false (sym h))
 
 pub plain_simple : (t : VolumeTable) → IsPlain t → IsSimple t
-plain_simple t plain = All-weaken (λ r. is_plain r ≡ true) (λ r. is_simple r ≡ true) t.volumes (λ r. plain_simple_name r.hidden r.name) plain
+plain_simple t plain = All-weaken (λ r. is_plain r ≡ true) (λ r. is_simple r ≡ true) t.volumes (λ r. plain_simple_name r.name) plain
 
 records_fault : (o : Outline) (m : Option Row) (s : Row) → m ≡ Some s → length s.extents ≡ record_extents o.extent → not (has_records o m) ≡ false
 records_fault o None s is long = absurd (let e = is in cc)
@@ -94,66 +90,6 @@ recorded_once c s u h =
     let w = is_some-parts (standing_volume c.table u) (In-filter (λ v. is_some (standing_volume c.table v)) (uuids c.table) u h).1 in
     ap not (eq-eqb (length (filter (is_record_of u) (outline_records (outline c)))) 1 (ap (λ rs. length (filter (is_record_of u) rs)) (outline_records_same c) ∙ s.recorded u w.0 w.1))
 
--- ---- parents
-
--- an image in the outline of such a content has none
-linkless : (c : Content) → SimpleSound c → (n : Name) (i : Link) → (outline c).links n ≡ Some i → i.parent ≡ None
-unfolding image_of raw_image
-linkless c s n i is = by n (image_of c n) refl is
-  where
-    of : (o : Option Image) → link_of o ≡ Some i → ((m : Image) → o ≡ Some m → m.parent ≡ None) → i.parent ≡ None
-    of None is none = absurd (none-some i is)
-    of (Some m) is none = (let e = is in let p = none m refl in cc)
-
-    raw : (u : List ℕ) (o : Option Row) (m : Image) → (o >>= (λ r. cond r.fresh None (Some (raw_image c (Raw u))))) ≡ Some m → m.parent ≡ None
-    raw u None m is = absurd (none-some m is)
-    raw u (Some r) m is = fresh r.fresh is
-      where
-        fresh : (b : Bool) → cond b None (Some (raw_image c (Raw u))) ≡ Some m → m.parent ≡ None
-        fresh true is = absurd (none-some m is)
-        fresh false is = (let e = is in cc)
-
-    by : (n : Name) (o : Option Image) → image_of c n ≡ o → link_of o ≡ Some i → i.parent ≡ None
-    by (Vhd u) o at is = of o is (λ m e. s.parentless u m (at ∙ e))
-    by (Raw u) o at is = of o is (λ m e. raw u (row c (Raw u)) m (at ∙ e))
-    by _ o at is = absurd (none-some i (ap link_of at ∙ is))
-
-no_child_at : (o : Option Link) (p : Name) → ((i : Link) → o ≡ Some i → i.parent ≡ None) → parent_is p o ≡ false
-no_child_at None p none = refl
-no_child_at (Some i) p none = ap (λ q. elim q [ None ↦ false | Some q ↦ same_image q p ]) (none i refl)
-
-no_children : (c : Content) → SimpleSound c → (p : Name) → children (outline c) p ≡ []
-unfolding children
-no_children c s p = none_pass (λ r. parent_is p ((outline c).links r.name)) c.table.volumes (λ r. no_child_at ((outline c).links r.name) p (linkless c s r.name))
-  where
-    none_pass : (test : Row → Bool) (rs : List Row) → ((r : Row) → test r ≡ false) → filter test rs ≡ []
-    none_pass test [] none = refl
-    none_pass test (r ∷ rs) none = ap (λ b. cond b (r ∷ filter test rs) (filter test rs)) (none r) ∙ none_pass test rs none
-
--- a chain of one
-one_long : (o : Outline) (n : Name) (i : Link) → o.links n ≡ Some i → i.parent ≡ None → chain_length o 31 n ≡ 1
-unfolding chain_length
-one_long o n i is none =
-    ap (λ l. elim l [ None ↦ 0 | Some i ↦ suc (elim i.parent [ None ↦ 0 | Some p ↦ chain_length o 30 p ]) ]) is
-    ∙ ap (λ p. suc (elim p [ None ↦ 0 | Some p ↦ chain_length o 30 p ])) none
-
-placed_at : (c : Content) → SimpleSound c → (r : Row) (n : Name) → r.name ≡ n → tree_wrong_as (outline c) r n ≡ false
-placed_at c s r (Vhd u) named = by ((outline c).links (Vhd u)) refl
-  where
-    either : (b : Bool) → (b || true) ≡ true
-    either true = refl
-    either false = refl
-
-    by : (l : Option Link) → (outline c).links (Vhd u) ≡ l → is_misplaced (outline c) r l ≡ false
-    by None is = refl
-    by (Some i) is =
-        let none = linkless c s (Vhd u) i is in
-        all_hold (is_linked (outline c) i) _ _
-        (ap (λ p. elim p [ None ↦ true | Some p ↦ is_parent_right (outline c) i.size p ]) none)
-        (ap (λ n. nat_le n 30) (ap (chain_length (outline c) 31) named ∙ one_long (outline c) (Vhd u) i is none))
-        (ap (λ rs. r.hidden || (length rs == 0)) (no_children c s r.name) ∙ either r.hidden)
-placed_at c s r _ named = refl
-
 -- each check passes
 checks_pass : (c : Content) → SimpleSound c → (o : Option Place)
     → In o (all_faults (outline c)) → o ≡ None
@@ -165,11 +101,11 @@ checks_pass c s o (inr (inr (inr (inl is)))) = is ∙ ap (λ ns. placed at.Journ
     ∙ ap (placed at.Journal) s.one_entry
 checks_pass c s o (inr (inr (inr (inr (inl is))))) = is ∙ none_named at.Journal _ c.table.volumes s.at_stage
 checks_pass c s o (inr (inr (inr (inr (inr (inl is)))))) = is ∙ none_named at.Image _ c.table.volumes (λ r h.
-    (not_ahead r.hidden r.name (simple_row c s r h)).no_old_name c.table)
+    (not_ahead r.name (simple_row c s r h)).no_old_name c.table)
 checks_pass c s o (inr (inr (inr (inr (inr (inr (inl is))))))) = is ∙ none_named at.Image _ c.table.volumes s.valid
-checks_pass c s o (inr (inr (inr (inr (inr (inr (inr (inl is)))))))) = is ∙ none_named at.Tree _ c.table.volumes (λ r h. placed_at c s r r.name refl)
+checks_pass c s o (inr (inr (inr (inr (inr (inr (inr (inl is)))))))) = is ∙ none_named at.Tree _ c.table.volumes s.placed
 checks_pass c s o (inr (inr (inr (inr (inr (inr (inr (inr (inl is))))))))) = is ∙ none_named at.Journal _ c.table.volumes (λ r h.
-    ap not ((not_ahead r.hidden r.name (simple_row c s r h)).linked (outline c)))
+    ap not (s.linked r h))
 checks_pass c s o (inr (inr (inr (inr (inr (inr (inr (inr (inr (inl is)))))))))) = is ∙ ap record_place (find_none _ (numbers 0 record_count) (λ k h.
     let below = (In-numbers 0 record_count k h).1 in ap is_damaged (reading_within c k below) ∙ s.right k below))
 checks_pass c s o (inr (inr (inr (inr (inr (inr (inr (inr (inr (inr (inl is))))))))))) = is ∙ ap disk_place (find_none _ (disk_uuids (outline c)) (λ u h. recorded_once c s u h))
@@ -185,7 +121,9 @@ pub simple_kept : (c : Content) → SimpleSound c → HasNoEmptySlot c → IsKep
 simple_kept c s holding = record {
   sound = simple_sound c s;
   holding = holding;
-  linking = λ child parent r v p n there is linked held. absurd (none-some n (sym (s.parentless child v is) ∙ linked));
+  linking = λ child parent r v p n there is linked held.
+      let i = row_of-In c.table.volumes (Relink child parent) r there in
+      absurd (true≢false (sym (simple_row c s r i.0) ∙ ap is_simple_name (row_of-name c.table.volumes (Relink child parent) r there)));
 }
 
 -- ---- where nothing is under way
@@ -199,9 +137,10 @@ plain_is_simple c s = record {
   few_images = s.few_images;
   named = s.named;
   one_entry = ap second (no_making c.table.volumes s.plain);
-  at_stage = λ r h. ap (λ b. b && not (is_at_stage c.table r.name && are_past c.table r.name)) (not_special r.hidden r.name (all-In (λ r. is_plain r ≡ true) c.table.volumes r s.plain h)).no_journal;
+  at_stage = λ r h. ap (λ b. b && not (is_at_stage c.table r.name && are_past c.table r.name)) (not_special r.name (all-In (λ r. is_plain r ≡ true) c.table.volumes r s.plain h)).no_journal;
   valid = s.valid;
-  parentless = s.parentless;
+  placed = s.placed;
+  linked = λ r h. (not_special r.name (all-In (λ r. is_plain r ≡ true) c.table.volumes r s.plain h)).linked (outline c);
   right = s.right;
   recorded = s.recorded;
 }
@@ -214,24 +153,42 @@ plain_kept c s = simple_kept c (plain_is_simple c s)
 
 -- ---- from today's checks to the facts
 
-pub journal_or_image : (hidden : Bool) (n : Name) → is_entry n ≡ false → is_ahead hidden n ≡ false → is_plain_name hidden n ≡ true
-journal_or_image hidden Mgt j h = refl
-journal_or_image hidden (Raw u) j h = ap not h
-journal_or_image hidden (Vhd u) j h = ap not h
-journal_or_image hidden (Old u) j h = absurd (let e = h in cc)
-journal_or_image hidden _ j h = absurd (let e = j in cc)
+not_folding : (n : Name) → is_entry_ahead n ≡ false → is_folding n ≡ false
+not_folding Mgt h = refl
+not_folding (Vhd u) h = refl
+not_folding (Raw u) h = refl
+not_folding (Old u) h = refl
+not_folding (Clone d b t) h = refl
+not_folding (Inflate u e) h = refl
+not_folding _ h = absurd (let e = h in cc)
 
-pub simple_from : (hidden : Bool) (n : Name) → is_entry_ahead n ≡ false → is_ahead hidden n ≡ false → is_simple_name hidden n ≡ true
-simple_from hidden Mgt j h = refl
-simple_from hidden (Raw u) j h = ap not h
-simple_from hidden (Vhd u) j h = ap not h
-simple_from hidden (Inflate u extents) j h = refl
-simple_from hidden (Old u) j h = absurd (let e = h in cc)
-simple_from hidden _ j h = absurd (let e = j in cc)
+-- no leaf is being folded, where no entry but those of forks and enlargements is there
+pub none_folding : (rs : List Row) → ((r : Row) → In r rs → is_entry_ahead r.name ≡ false) → filter is_folding (names_of rs) ≡ []
+none_folding [] none = refl
+none_folding (r ∷ rs) none =
+    ap (λ b. cond b (r.name ∷ filter is_folding (names_of rs)) (filter is_folding (names_of rs))) (not_folding r.name (none r (inl refl))) ∙ none_folding rs (λ s i. none s (inr i))
+
+-- so each old leaf is refused
+simple_from : (t : VolumeTable) (n : Name) → folding t ≡ [] → is_entry_ahead n ≡ false → is_orphaned t n ≡ false → is_simple_name n ≡ true
+simple_from t Mgt none j h = refl
+simple_from t (Raw u) none j h = refl
+simple_from t (Vhd u) none j h = refl
+simple_from t (Clone disk base twin) none j h = refl
+simple_from t (Inflate u extents) none j h = refl
+simple_from t (Old u) none j h = absurd (true≢false (sym (ap (λ ns. not (list_any (is_old_of t u) ns)) none) ∙ h))
+simple_from t _ none j h = absurd (let e = j in cc)
 
 pub all-of : (P : Row → Type 0) (rs : List Row) → ((r : Row) → In r rs → P r) → AllByRecursion P rs
 all-of P [] each = tt
 all-of P (r ∷ rs) each = (each r (inl refl), all-of P rs (λ s h. each s (inr h)))
+
+-- where these two checks pass at most images are being enlarged, or disks forked
+pub simple_table : (o : Outline) → entry_ahead_fault o ≡ None → old_leaf_fault o ≡ None → IsSimple o.table
+unfolding entry_ahead_fault old_leaf_fault
+simple_table o no_entry owned =
+    let none = named_none at.Journal (λ r. is_entry_ahead r.name) o.table.volumes no_entry in
+    all-of (λ r. is_simple r ≡ true) o.table.volumes (λ r k.
+    simple_from o.table r.name (none_folding o.table.volumes none) (none r k) (named_none at.Image (λ q. is_orphaned o.table q.name) o.table.volumes owned r k))
 
 records_right : (c : Content) (m : Option Row) → row c Mgt ≡ m → not (has_records (outline c) m) ≡ false → (r : Row) × (row c Mgt ≡ Some r) × (length r.extents ≡ record_extents c.extent)
 records_right c None is h = absurd (let e = h in cc)
@@ -255,37 +212,13 @@ not_above n h = ltb-false 500 n h
 listed_disk : (c : Content) (u : List ℕ) (n : Name) → standing_volume c.table u ≡ Some n → In u (disk_uuids (outline c))
 listed_disk c u n is = filter-In (λ v. is_some (standing_volume c.table v)) (uuids c.table) u (stands_listed c.table u n is) (ap is_some is)
 
--- where the check of parents passes, no image has one
-parent_none : (o : Outline) (n : Name) (i : Link) → o.links n ≡ Some i → is_some (parent_in o n) ≡ false → i.parent ≡ None
-parent_none o n i is h = by i.parent (sym (ap (λ l. is_some (l >>= (λ (k : Link). k.parent))) is) ∙ h)
-  where
-    by : (p : Option Name) → is_some p ≡ false → p ≡ None
-    by None h = refl
-    by (Some p) h = absurd (true≢false h)
-
-row_there : (c : Content) (u : List ℕ) (i : Image) → image_of c (Vhd u) ≡ Some i → (r : Row) × (row c (Vhd u) ≡ Some r)
-unfolding image_of
-row_there c u i is = by (row c (Vhd u)) refl (ap is_some is)
-  where
-    by : (o : Option Row) → row c (Vhd u) ≡ o → is_some (image_of c (Vhd u)) ≡ true → (r : Row) × (row c (Vhd u) ≡ Some r)
-    by None at some = absurd (true≢false (sym some ∙ ap (λ q. is_some (q >>= (λ r. cond r.fresh None (vhd_image c (Vhd u) r)))) at))
-    by (Some r) at some = (r, at)
-
-none_above : (c : Content) → ((r : Row) → In r c.table.volumes → has_parent (outline c) r.name ≡ false) → (u : List ℕ) (i : Image) → image_of c (Vhd u) ≡ Some i → i.parent ≡ None
-none_above c none u i is =
-    let w = row_there c u i is in
-    let there = row_of-In c.table.volumes (Vhd u) w.0 w.1 in
-    parent_none (outline c) (Vhd u) (record { size = i.size; parent = i.parent }) (ap link_of is) (ap (has_parent (outline c)) (sym (is_vhd w.0.name u there.1)) ∙ none w.0 there.0)
-
--- where today's checks pass, at most images are being enlarged, and the repository is sound fact by fact
+-- where today's checks pass, at most images are being enlarged or disks forked, and the repository is sound fact by fact
 pub today_sound : (c : Content) → first_fault_today c ≡ None → SimpleSound c
-unfolding fault_today_of record_volume_fault too_many_fault misnamed_fault entry_ahead_fault second_entry_fault lost_entry_fault image_ahead_fault invalid_fault parent_ahead_fault record_fault disk_fault
+unfolding fault_today_of record_volume_fault too_many_fault misnamed_fault second_entry_fault lost_entry_fault invalid_fault tree_fault entry_link_fault record_fault disk_fault
 today_sound c h =
     let each = none_first (faults_today (outline c)) h in
     let w = records_right c (row c Mgt) refl (none_given _ at.Mgt (each (record_volume_fault (outline c)) (inl refl))) in
-    let quiet : IsSimple c.table = all-of (λ r. is_simple r ≡ true) c.table.volumes (λ r k. simple_from r.hidden r.name
-    (named_none at.Journal _ c.table.volumes (each (entry_ahead_fault (outline c)) (inr (inr (inr (inl refl))))) r k)
-    (named_none at.Image _ c.table.volumes (each (image_ahead_fault (outline c)) (inr (inr (inr (inr (inr (inr (inl refl)))))))) r k)) in
+    let quiet = simple_table (outline c) (each (entry_ahead_fault (outline c)) (inr (inr (inr (inl refl))))) (each (old_leaf_fault (outline c)) (inr (inr (inr (inr (inr (inr (inl refl)))))))) in
     record {
       simple = quiet;
       records_row = w.0;
@@ -297,9 +230,11 @@ today_sound c h =
           (sym (ap (λ ns. placed at.Journal (lesser (second ns) (second (making c.table)))) (simple_folding c.table.volumes quiet)) ∙ each (second_entry_fault (outline c)) (inr (inr (inr (inr (inl refl))))));
       at_stage = named_none at.Journal _ c.table.volumes (each (lost_entry_fault (outline c)) (inr (inr (inr (inr (inr (inl refl)))))));
       valid = named_none at.Image _ c.table.volumes (each (invalid_fault (outline c)) (inr (inr (inr (inr (inr (inr (inr (inl refl)))))))));
-      parentless = none_above c (named_none at.Tree _ c.table.volumes (each (parent_ahead_fault (outline c)) (inr (inr (inr (inr (inr (inr (inr (inr (inl refl)))))))))));
-      right = λ k below. sym (ap is_damaged (reading_within c k below)) ∙ none_find _ (numbers 0 record_count) (record_none _ (each (record_fault (outline c)) (inr (inr (inr (inr (inr (inr (inr (inr (inr (inl refl)))))))))))) k (numbers-In 0 record_count k (omega arith) (omega arith));
-      recorded = λ u n is. ap (λ rs. length (filter (is_record_of u) rs)) (sym (outline_records_same c)) ∙ eqb-true _ 1 (not_false _ (none_find _ (disk_uuids (outline c)) (disk_none _ (each (disk_fault (outline c)) (inr (inr (inr (inr (inr (inr (inr (inr (inr (inr (inl refl))))))))))))) u (listed_disk c u n is)));
+      placed = named_none at.Tree _ c.table.volumes (each (tree_fault (outline c)) (inr (inr (inr (inr (inr (inr (inr (inr (inl refl))))))))));
+      linked = λ r h. not_false (is_entry_linked (outline c) r.name) (named_none at.Journal (λ q. not (is_entry_linked (outline c) q.name)) c.table.volumes
+          (each (entry_link_fault (outline c)) (inr (inr (inr (inr (inr (inr (inr (inr (inr (inl refl))))))))))) r h);
+      right = λ k below. sym (ap is_damaged (reading_within c k below)) ∙ none_find _ (numbers 0 record_count) (record_none _ (each (record_fault (outline c)) (inr (inr (inr (inr (inr (inr (inr (inr (inr (inr (inl refl))))))))))))) k (numbers-In 0 record_count k (omega arith) (omega arith));
+      recorded = λ u n is. ap (λ rs. length (filter (is_record_of u) rs)) (sym (outline_records_same c)) ∙ eqb-true _ 1 (not_false _ (none_find _ (disk_uuids (outline c)) (disk_none _ (each (disk_fault (outline c)) (inr (inr (inr (inr (inr (inr (inr (inr (inr (inr (inr (inl refl)))))))))))))) u (listed_disk c u n is)));
     }
 
 -- where no entry is there, nothing is under way
@@ -313,7 +248,7 @@ simple_none_plain t simple none = each t.volumes simple none
         by : (b : Bool) → is_making r.name ≡ b → cond b (r.name ∷ filter is_making (names_of rs)) (filter is_making (names_of rs)) ≡ []
             → (filter is_making (names_of rs) ≡ [] → AllByRecursion (λ r. is_plain r ≡ true) rs) → AllByRecursion (λ r. is_plain r ≡ true) (r ∷ rs)
         by true is h rest = absurd (let x = h in cc)
-        by false is h rest = (simple_plain_name r.hidden r.name all.0 is, rest h)
+        by false is h rest = (simple_plain_name r.name all.0 is, rest h)
 
 pub simple_is_plain : (c : Content) → SimpleSound c → making c.table ≡ [] → PlainSound c
 simple_is_plain c s none = record {
@@ -324,77 +259,30 @@ simple_is_plain c s none = record {
   few_images = s.few_images;
   named = s.named;
   valid = s.valid;
-  parentless = s.parentless;
+  placed = s.placed;
   right = s.right;
   recorded = s.recorded;
 }
 
 -- ---- and back
 
-ahead_at : (hidden : Bool) (n : Name) → is_simple_name hidden n ≡ true → is_ahead hidden n ≡ false
-ahead_at hidden Mgt h = refl
-ahead_at true (Raw u) h = absurd (true≢false (sym h))
-ahead_at false (Raw u) h = refl
-ahead_at true (Vhd u) h = absurd (true≢false (sym h))
-ahead_at false (Vhd u) h = refl
-ahead_at hidden (Inflate u extents) h = refl
-ahead_at hidden _ h = absurd (true≢false (sym h))
-
--- no image is hidden
-none_hidden : (t : VolumeTable) (n : Name) → IsSimple t → ((hidden : Bool) → is_simple_name hidden n ≡ true → hidden ≡ false) → is_hidden t n ≡ false
-none_hidden t n plain visible = by (rows t n) refl
-  where
-    by : (o : Option Row) → rows t n ≡ o → of_row (λ r. r.hidden && not r.fresh) o ≡ false
-    by None is = refl
-    by (Some r) is =
-        let there = row_of-In t.volumes n r is in
-        ap (λ b. b && not r.fresh) (visible r.hidden (ap (is_simple_name r.hidden) (sym (row_of-name t.volumes n r is)) ∙ all-In (λ s. is_simple s ≡ true) t.volumes r plain there.0))
-
-shown : (hidden : Bool) → not hidden ≡ true → hidden ≡ false
-shown true h = absurd (true≢false (sym h))
-shown false h = refl
-
--- so nothing is a right parent
-wrong_parent : (c : Content) (size : ℕ) (p : Name) → IsSimple c.table → is_parent_right (outline c) size p ≡ false
-unfolding image_of
-wrong_parent c size (Vhd u) plain = ap (λ b. b && is_no_larger size ((outline c).links (Vhd u))) (none_hidden c.table (Vhd u) plain shown)
-wrong_parent c size (Raw u) plain = ap (λ b. b && is_no_larger size ((outline c).links (Raw u))) (none_hidden c.table (Raw u) plain shown)
-wrong_parent c size p plain = and_false (is_hidden c.table p)
-  where
-    and_false : (b : Bool) → (b && false) ≡ false
-    and_false true = refl
-    and_false false = refl
-
-parentless_at : (c : Content) (r : Row) (n : Name) → IsSimple c.table → tree_wrong_as (outline c) r n ≡ false → has_parent (outline c) n ≡ false
-parentless_at c r (Vhd u) plain right = by ((outline c).links (Vhd u)) right
-  where
-    of : (i : Link) (p : Option Name) (rest : Bool) → not (elim p [ None ↦ true | Some q ↦ is_parent_right (outline c) i.size q ] && rest) ≡ false → is_some p ≡ false
-    of i None rest right = refl
-    of i (Some q) rest right = absurd (true≢false (sym (ap (λ b. not (b && rest)) (wrong_parent c i.size q plain)) ∙ right))
-
-    by : (l : Option Link) → is_misplaced (outline c) r l ≡ false → is_some (l >>= (λ (i : Link). i.parent)) ≡ false
-    by None right = refl
-    by (Some i) right = of i i.parent _ right
-parentless_at c r _ plain right = refl
-
--- where all checks pass and at most images are being enlarged, each of today's passes
+-- where all checks pass and at most images are being enlarged or disks forked, each of today's passes
 today_pass : (c : Content) → ((o : Option Place) → In o (all_faults (outline c)) → o ≡ None) → IsSimple c.table → (o : Option Place) → In o (faults_today (outline c)) → o ≡ None
-unfolding entry_ahead_fault image_ahead_fault parent_ahead_fault tree_fault
+unfolding entry_ahead_fault
 today_pass c each simple o (inl is) = each o (inl is)
 today_pass c each simple o (inr (inl is)) = each o (inr (inl is))
 today_pass c each simple o (inr (inr (inl is))) = each o (inr (inr (inl is)))
 today_pass c each simple o (inr (inr (inr (inl is)))) = is ∙ none_named at.Journal _ c.table.volumes (λ r h.
-    (not_ahead r.hidden r.name (all-In (λ s. is_simple s ≡ true) c.table.volumes r simple h)).no_entry_ahead)
+    (not_ahead r.name (all-In (λ s. is_simple s ≡ true) c.table.volumes r simple h)).no_entry_ahead)
 today_pass c each simple o (inr (inr (inr (inr (inl is))))) = each o (inr (inr (inr (inl is))))
 today_pass c each simple o (inr (inr (inr (inr (inr (inl is)))))) = each o (inr (inr (inr (inr (inl is)))))
-today_pass c each simple o (inr (inr (inr (inr (inr (inr (inl is))))))) = is ∙ none_named at.Image _ c.table.volumes (λ r h.
-    ahead_at r.hidden r.name (all-In (λ s. is_simple s ≡ true) c.table.volumes r simple h))
+today_pass c each simple o (inr (inr (inr (inr (inr (inr (inl is))))))) = each o (inr (inr (inr (inr (inr (inl is))))))
 today_pass c each simple o (inr (inr (inr (inr (inr (inr (inr (inl is)))))))) = each o (inr (inr (inr (inr (inr (inr (inl is)))))))
-today_pass c each simple o (inr (inr (inr (inr (inr (inr (inr (inr (inl is))))))))) = is ∙ none_named at.Tree _ c.table.volumes (λ r h.
-    parentless_at c r r.name simple (named_none at.Tree (is_tree_wrong (outline c)) c.table.volumes (each (tree_fault (outline c)) (inr (inr (inr (inr (inr (inr (inr (inl refl))))))))) r h))
-today_pass c each simple o (inr (inr (inr (inr (inr (inr (inr (inr (inr (inl is)))))))))) = each o (inr (inr (inr (inr (inr (inr (inr (inr (inr (inl is))))))))))
-today_pass c each simple o (inr (inr (inr (inr (inr (inr (inr (inr (inr (inr (inl is))))))))))) = each o (inr (inr (inr (inr (inr (inr (inr (inr (inr (inr (inl is)))))))))))
-today_pass c each simple o (inr (inr (inr (inr (inr (inr (inr (inr (inr (inr (inr none))))))))))) = elim none [ ]
+today_pass c each simple o (inr (inr (inr (inr (inr (inr (inr (inr (inl is))))))))) = each o (inr (inr (inr (inr (inr (inr (inr (inl is))))))))
+today_pass c each simple o (inr (inr (inr (inr (inr (inr (inr (inr (inr (inl is)))))))))) = each o (inr (inr (inr (inr (inr (inr (inr (inr (inl is)))))))))
+today_pass c each simple o (inr (inr (inr (inr (inr (inr (inr (inr (inr (inr (inl is))))))))))) = each o (inr (inr (inr (inr (inr (inr (inr (inr (inr (inl is))))))))))
+today_pass c each simple o (inr (inr (inr (inr (inr (inr (inr (inr (inr (inr (inr (inl is)))))))))))) = each o (inr (inr (inr (inr (inr (inr (inr (inr (inr (inr (inl is)))))))))))
+today_pass c each simple o (inr (inr (inr (inr (inr (inr (inr (inr (inr (inr (inr (inr none)))))))))))) = elim none [ ]
 
 pub simple_today : (c : Content) → first_fault c ≡ None → IsSimple c.table → first_fault_today c ≡ None
 unfolding fault_of fault_today_of

@@ -1,6 +1,7 @@
 -- The content without an enlargement that a stop has cut short, beside the one with it: the same images, records and disks.
 -- Between the two commits that undo it, and whatever a stop leaves of them, what stands is kept and shows the same disks.
-use Rattle.std.proofs.Common.{◌≡◌, ℕ, ◌+◌, ◌*◌, ◌/◌, ◌%◌, ◌<◌, ◌≤◌, Bool, true, false, not, ◌&&◌, List, [], ◌++◌, length, drop, is_none, refl, sym, ap, ap₂, ◌∙◌, arith, nat_lt}
+use Rattle.std.proofs.Common.{◌≡◌, ℕ, ◌+◌, ◌*◌, ◌/◌, ◌%◌, ◌<◌, ◌≤◌, Bool, true, false, not, ◌&&◌, ◌||◌, ◌==◌, List, [], ◌++◌, length, drop, Option, Some, None, is_none, refl, sym, ap, ap₂, ◌∙◌, arith, nat_lt, nat_le}
+use Rattle.std.proofs.Math.Path.{fun_ext}
 use Rattle.std.specs.List.{filter, filter_map, find}
 use Rattle.std.proofs.lemmas.List.{append-nil, take-append-drop, get_or_append_left}
 use Rattle.std.proofs.Math.Nat.{div-lt_iff_lt-mul}
@@ -14,18 +15,20 @@ use Rattle.vg_meta.proofs.NameLaws.{name_eq-true, name_eq-false}
 use Rattle.vg_meta.proofs.RowLaws.{row_of-without_other}
 use Rattle.vg_volumes.specs.Volumes.{piece, span, spot}
 use Rattle.sm_record.specs.Records.{reading}
-use Rattle.sm_standing.specs.Checks.{fault_today_of, is_damaged, is_image_wrong}
+use Rattle.sm_standing.specs.Checks.{children, fault_today_of, is_damaged, is_image_wrong, is_linked, is_misplaced, is_tree_wrong, tree_wrong_as}
 use Rattle.sm_standing.specs.Contents.{Content, record_count, is_record_of, records, reading_at, sectors_of, size_of, taken}
 use Rattle.sm_standing.specs.Enlarging.{HasEntry, IsAtLeast, IsEnlargingOn}
 use Rattle.sm_standing.specs.Images.{image_of, raw_image, vhd_image}
 use Rattle.sm_standing.specs.Keeping.{HasNoEmptySlot, IsKept}
-use Rattle.sm_standing.specs.Outlines.{outline, link_of}
+use Rattle.sm_standing.specs.Outlines.{Link, Outline, outline, link_of}
 use Rattle.sm_standing.specs.PlainSound.{PlainSound, SimpleSound}
 use Rattle.sm_standing.specs.Standing.{disks}
-use Rattle.sm_standing.specs.Undone.{IsBeingEnlarged, IsSameArea, undone, undone_content_at}
+use Rattle.sm_standing.specs.Undone.{IsBeingEnlarged, IsSameArea, undone, undone_at, undone_content_at}
 use Rattle.sm_standing.specs.Worlds.{with_table}
 use Rattle.sm_standing.proofs.EnlargedLaws.{enlarging_disks, enlarging_kept, images_enlarging, outline_enlarging}
+use Rattle.sm_standing.proofs.EnlargingLaws.{chain_alike, tree_alike}
 use Rattle.sm_standing.proofs.ImageLaws.{disks_as}
+use Rattle.sm_standing.proofs.OutlineLaws.{made-of}
 use Rattle.sm_standing.proofs.PlainKept.{plain_kept, simple_sound, simple_today, today_sound}
 use Rattle.sm_standing.proofs.UndoneLaws.{cut_later, cut_table, entry_gone, entry_still, entry_there, images_undone, is_enlarging, named_undone, other_undone, own_long, own_undone, row_from, stands_undone, undone_is, undone_is_table, undone_later, undone_plain}
 use Rattle.sm_standing.proofs.WorldLaws.{spot_below}
@@ -34,6 +37,26 @@ use Rattle.sm_standing.proofs.WorldLaws.{spot_below}
 spot_front : (extent : ℕ) (es more : List ℕ) (p : ℕ) → 0 < extent → p < span extent es → spot extent (es ++ more) p ≡ spot extent es p
 unfolding spot
 spot_front extent es more p some below = ap (λ e. e * extent + p % extent) (get_or_append_left es more 0 (p / extent) ((div-lt_iff_lt-mul some).1 below))
+
+-- the sequence number decides no place in a tree
+tree_at : (o : Outline) (sequence : ℕ) (r : Row) (n : Name) → tree_wrong_as (record o { table = record o.table { sequence = sequence } }) r n ≡ tree_wrong_as o r n
+unfolding children
+tree_at o sequence r (Vhd v) = by (o.links (Vhd v))
+  where
+    again : Outline
+    again = record o { table = record o.table { sequence = sequence } }
+
+    by : (x : Option Link) → is_misplaced again r x ≡ is_misplaced o r x
+    by None = refl
+    by (Some i) = ap (λ k. not (is_linked o i && (nat_le k 30 && (r.hidden || (length (children o r.name) == 0))))) (chain_alike o again.table 31 r.name)
+tree_at o sequence r Mgt = refl
+tree_at o sequence r (Raw v) = refl
+tree_at o sequence r (Old v) = refl
+tree_at o sequence r (Clone x y z) = refl
+tree_at o sequence r (Inflate x y) = refl
+tree_at o sequence r (Coalesce x y) = refl
+tree_at o sequence r (Relink x y) = refl
+tree_at o sequence r (Leaf x y) = refl
 
 module _ (c : Content) (u : List ℕ) (extents : ℕ) (w : IsBeingEnlarged c.table u extents) (table : IsTable c.count c.table) (geometry : IsGeometry c.extent c.block c.entries) (room : record_count ≤ size_of c Mgt) where
   abbrev entry : Name
@@ -120,6 +143,10 @@ module _ (c : Content) (u : List ℕ) (extents : ℕ) (w : IsBeingEnlarged c.tab
   images_at sequence (Relink x y) = refl
   images_at sequence (Leaf x y) = refl
 
+  outline_at : (sequence : ℕ) → outline (undone_content_at sequence c) ≡ record (outline before_it) { table = undone_at sequence c.table }
+  unfolding sectors_of
+  outline_at sequence = made-of refl refl refl refl (fun_ext (λ n. ap link_of (images_at sequence n))) refl
+
   -- each image is the same
   pub images_undone_at : (sequence : ℕ) (n : Name) → image_of (undone_content_at sequence c) n ≡ image_of c n
   images_undone_at sequence n = images_at sequence n ∙ sym (images_enlarging before_it c u extents now n)
@@ -150,7 +177,12 @@ module _ (c : Content) (u : List ℕ) (extents : ℕ) (w : IsBeingEnlarged c.tab
           let k = row_from c.table u extents w q i in
           let one = k.2 in
           ap₂ (λ f b. not f && b) (sym one.fresh) (wrong q k.0 one q.name refl) ∙ ap (λ n. not k.0.fresh && is_image_wrong (outline c) k.0 n) (sym one.name) ∙ s.valid k.0 k.1;
-      parentless = λ v i is. s.parentless v i (sym (images_undone_at sequence (Vhd v)) ∙ is);
+      placed = λ q i.
+          let k = row_from c.table u extents w q i in
+          let one = k.2 in
+          ap (λ o. is_tree_wrong o q) (outline_at sequence) ∙ tree_at (outline before_it) sequence q q.name
+          ∙ sym (tree_alike (outline before_it) c.table u extents now.table q k.0 q.name one) ∙ sym (ap (λ o. tree_wrong_as o k.0 q.name) (outline_enlarging before_it c u extents now))
+          ∙ ap (tree_wrong_as (outline c) k.0) (sym one.name) ∙ s.placed k.0 k.1;
       right = λ k below. ap is_damaged (readings_undone sequence k) ∙ s.right k below;
       recorded = λ v n is. ap (λ rs. length (filter (is_record_of v) rs)) (records_undone sequence) ∙ s.recorded v n (sym (stands_undone c.table u extents w sequence s.simple v) ∙ is);
     }

@@ -1,6 +1,6 @@
 -- The table without an enlargement that a stop has cut short, beside the one with it: the same volumes without the entry, and
 -- that of the image cut to the extents that it had.
-use Rattle.std.proofs.Common.{◌≡◌, ◌≢◌, ◌⊎◌, inl, inr, ℕ, suc, ◌<◌, ◌≤◌, ◌^◌, Bool, true, false, not, cond, ◌&&◌, ◌||◌, List, [], ◌∷◌, length, Option, Some, None, is_some, refl, sym, ap, ap₂, ◌∙◌, subst, arith, nat_le, length-take}
+use Rattle.std.proofs.Common.{◌≡◌, ◌≢◌, ◌⊎◌, inl, inr, ℕ, suc, ◌+◌, ◌<◌, ◌≤◌, ◌^◌, Bool, true, false, not, cond, ◌&&◌, ◌||◌, List, [], ◌∷◌, ◌++◌, length, Option, Some, None, is_some, refl, sym, ap, ap₂, ◌∙◌, subst, arith, nat_le, length-take}
 use Rattle.std.specs.List.{AllZip, filter}
 use Rattle.std.proofs.lemmas.Bool.{true≢false, ltb-true, ltb-false, leb-true}
 use Rattle.std.proofs.lemmas.List.{take_all}
@@ -10,10 +10,12 @@ use Rattle.common_laws.proofs.Lists.{In-filter, In-map, In-map_at}
 use Rattle.sm_base.specs.Kinds.{is_image as is_data, is_entry}
 use Rattle.sm_base.specs.Names.{IsName}
 use Rattle.sm_base.specs.declared.names.Name.{Name}
-use Rattle.sm_base.specs.declared.names.Name.TheVariants.{Vhd, Inflate, Clone}
+use Rattle.sm_base.specs.declared.names.Name.TheVariants.{Mgt, Vhd, Raw, Old, Inflate, Clone, Coalesce, Relink, Leaf}
 use Rattle.vg_meta.specs.Tables.{VolumeTable, Row, IsTable, IsVolume, rows, row_of, names_of, name_eq}
 use Rattle.vg_meta.specs.Changes.{Permits, applied, cut_to, raised, with_row, without}
-use Rattle.vg_meta.specs.declared.changes.Change.TheVariants.{Cut, Remove}
+use Rattle.vg_meta.specs.declared.changes.Change.{Change}
+use Rattle.vg_meta.specs.declared.changes.Change.TheVariants.{Cut, Mark, Remove, Rename}
+use Rattle.vg_meta.specs.declared.changes.Tag.TheVariants.{Hidden}
 use Rattle.vg_meta.proofs.ChangeLaws.{IsTable-applied}
 use Rattle.vg_meta.proofs.NameLaws.{name_eq-true, name_eq-false}
 use Rattle.vg_meta.proofs.RowLaws.{row_of-with_row_other, row_of-with_row_same, row_of-without_other, row_of-without_same}
@@ -21,11 +23,12 @@ use Rattle.sm_record.specs.declared.records.Reading.TheVariants.{Free}
 use Rattle.sm_standing.specs.Checks.{has_twin, images, is_lost, is_misnamed}
 use Rattle.sm_standing.specs.Enlarging.{HasEntry, IsAtLeast, IsEnlarging}
 use Rattle.sm_standing.specs.Enlarging.HasEntry.{here, next}
-use Rattle.sm_standing.specs.Entries.{are_past, head, is_at_stage, is_inflating, is_making, is_there, making, of_row, second}
+use Rattle.sm_standing.specs.Entries.{are_past, head, image_with, is_at_stage, is_inflating, is_making, is_there, making, of_row, second}
+use Rattle.sm_standing.specs.Opened.{under_name}
 use Rattle.sm_standing.specs.Outlines.{Outline}
 use Rattle.sm_standing.specs.Plain.{IsPlain, IsSimple, is_simple, is_simple_name}
 use Rattle.sm_standing.specs.Standing.{standing_volume}
-use Rattle.sm_standing.specs.Undone.{IsBeingEnlarged, cut_volume, entry_undone, is_longer, undone, undone_at}
+use Rattle.sm_standing.specs.Undone.{IsBeingEnlarged, applied_all, base_changes, changes_back, is_longer, undo_changes, undone, undone_at, wanted}
 use Rattle.sm_standing.proofs.DisksShown.{row_of-In}
 use Rattle.sm_standing.proofs.EnlargingLaws.{count_same, into, stands_alike}
 use Rattle.sm_standing.proofs.NamedLaws.{named_still}
@@ -92,7 +95,7 @@ none_of_length [] h = refl
 none_of_length (x ∷ xs) h = absurd (omega (arith, h))
 
 -- a volume of this name is found
-named_found : (rs : List Row) (n : Name) → In n (names_of rs) → (r : Row) × (row_of rs n ≡ Some r)
+pub named_found : (rs : List Row) (n : Name) → In n (names_of rs) → (r : Row) × (row_of rs n ≡ Some r)
 unfolding row_of
 named_found [] n i = absurd i
 named_found (s ∷ rs) n i = by (name_eq s.name n) refl i (λ j. named_found rs n j)
@@ -116,8 +119,8 @@ unchanged (s ∷ rs) n f r there same = by (name_eq s.name n) there (λ h. uncha
 
 -- without an entry it is the same
 pub undone_none : (t : VolumeTable) → making t ≡ [] → undone t ≡ t
-unfolding undone
-undone_none t none = ap (λ ns. elim (head ns) [ None ↦ t | Some n ↦ entry_undone n t ]) none
+unfolding undone undo_changes
+undone_none t none = ap (λ ns. applied_all t (elim (head ns) as (λ _. List Change) [ None ↦ [] | Some n ↦ changes_back t n ])) none
 
 module _ (t : VolumeTable) (u : List ℕ) (extents : ℕ) (w : IsBeingEnlarged t u extents) where
   abbrev pub entry : Name
@@ -125,18 +128,26 @@ module _ (t : VolumeTable) (u : List ℕ) (extents : ℕ) (w : IsBeingEnlarged t
 
   -- the table with the entry, the volume cut
   abbrev pub cut_table : VolumeTable
-  cut_table = cut_volume (Vhd u) extents t
+  cut_table = applied_all t (wanted (of_row (is_longer extents) (rows t (Vhd u))) (Cut (Vhd u) extents))
+
+  pub changes_are : undo_changes t ≡ wanted (of_row (is_longer extents) (rows t (Vhd u))) (Cut (Vhd u) extents) ++ Remove entry ∷ []
+  unfolding undo_changes
+  changes_are = ap (λ ns. elim (head ns) as (λ _. List Change) [ None ↦ [] | Some n ↦ changes_back t n ]) w.entry
 
   pub undone_is : undone t ≡ applied cut_table (Remove entry)
   unfolding undone
-  undone_is = ap (λ ns. elim (head ns) [ None ↦ t | Some n ↦ entry_undone n t ]) w.entry
+  undone_is = ap (applied_all t) changes_are ∙ by (of_row (is_longer extents) (rows t (Vhd u)))
+    where
+      by : (b : Bool) → applied_all t (wanted b (Cut (Vhd u) extents) ++ Remove entry ∷ []) ≡ applied (applied_all t (wanted b (Cut (Vhd u) extents))) (Remove entry)
+      by true = refl
+      by false = refl
 
   -- where the volume is longer it is cut
   pub cut_longer : is_longer extents w.own ≡ true → cut_table ≡ applied t (Cut (Vhd u) extents)
-  cut_longer longer = ap (λ o. cond (elim o [ None ↦ false | Some r ↦ is_longer extents r ]) (applied t (Cut (Vhd u) extents)) t) w.there ∙ ap (λ b. cond b (applied t (Cut (Vhd u) extents)) t) longer
+  cut_longer longer = ap (λ o. applied_all t (wanted (of_row (is_longer extents) o) (Cut (Vhd u) extents))) w.there ∙ ap (λ b. applied_all t (wanted b (Cut (Vhd u) extents))) longer
 
   pub cut_same : is_longer extents w.own ≡ false → cut_table ≡ t
-  cut_same short = ap (λ o. cond (elim o [ None ↦ false | Some r ↦ is_longer extents r ]) (applied t (Cut (Vhd u) extents)) t) w.there ∙ ap (λ b. cond b (applied t (Cut (Vhd u) extents)) t) short
+  cut_same short = ap (λ o. applied_all t (wanted (of_row (is_longer extents) o) (Cut (Vhd u) extents))) w.there ∙ ap (λ b. applied_all t (wanted b (Cut (Vhd u) extents))) short
 
   abbrev pub cut_rows : List Row
   cut_rows = with_row (Vhd u) (cut_to extents) t.volumes
@@ -271,7 +282,7 @@ module _ (t : VolumeTable) (u : List ℕ) (extents : ℕ) (w : IsBeingEnlarged t
   undone_simple simple = all-of (λ r. is_simple r ≡ true) (undone t).volumes (λ q i.
       let k = row_from q i in
       let one = k.2 in
-      ap₂ (λ h n. is_simple_name h n) (sym one.hidden) (sym one.name) ∙ all-In (λ r. is_simple r ≡ true) t.volumes k.0 simple k.1)
+      ap is_simple_name (sym one.name) ∙ all-In (λ r. is_simple r ≡ true) t.volumes k.0 simple k.1)
 
   pub undone_plain : IsSimple t → IsPlain (undone t)
   undone_plain simple = simple_none_plain (undone t) (undone_simple simple) (undone_making t u extents w)
@@ -314,14 +325,18 @@ head_alone [] n is one = absurd (none-some n is)
 head_alone (m ∷ []) n is one = ap (λ x. x ∷ []) (same_Some m n is)
 head_alone (m ∷ k ∷ ns) n is one = absurd (none-some k (sym one))
 
--- nothing is being made, or one image is being enlarged
+-- what is being forked
+abbrev pub IsBeingForked : VolumeTable → Type 0
+IsBeingForked t = (disk base twin : List ℕ) × (making t ≡ Clone disk base twin ∷ [])
+
+-- nothing is being made, or one image is being enlarged, or one disk is being forked
 pub enlarged_or_not : (count : ℕ) (t : VolumeTable) → IsTable count t → IsSimple t → second (making t) ≡ None → ((r : Row) → In r t.volumes → is_lost t r ≡ false)
-    → (making t ≡ []) ⊎ ((u : List ℕ) × (extents : ℕ) × IsBeingEnlarged t u extents)
+    → (making t ≡ []) ⊎ (((u : List ℕ) × (extents : ℕ) × IsBeingEnlarged t u extents) ⊎ IsBeingForked t)
 unfolding is_at_stage IsName
 enlarged_or_not count t table simple one at_stage = by (making t) refl one
   where
-    of : (n : Name) (r : Row) → In r t.volumes → r.name ≡ n → is_making n ≡ true → making t ≡ n ∷ [] → (u : List ℕ) × (extents : ℕ) × IsBeingEnlarged t u extents
-    of (Inflate u extents) r i named made is = (u, extents, found (rows t (Vhd u)) refl stage)
+    of : (n : Name) (r : Row) → In r t.volumes → r.name ≡ n → is_making n ≡ true → making t ≡ n ∷ [] → ((u : List ℕ) × (extents : ℕ) × IsBeingEnlarged t u extents) ⊎ IsBeingForked t
+    of (Inflate u extents) r i named made is = inl (u, extents, found (rows t (Vhd u)) refl stage)
       where
         stands : (a b : Bool) → not (a && b) ≡ false → a ≡ true
         stands true b h = refl
@@ -342,13 +357,58 @@ enlarged_or_not count t table simple one at_stage = by (making t) refl one
         found (Some own) at h =
             let p = parts own.fresh (nat_le extents (length own.extents)) h in
             record { entry = is; own = own; there = at; filled = p.0; had = leb-true extents (length own.extents) p.1; some = proper.1 }
-    of (Clone disk base twin) r i named made is = absurd (true≢false (sym (all-In (λ r. is_simple r ≡ true) t.volumes r simple i) ∙ ap (is_simple_name r.hidden) named))
+    of (Clone disk base twin) r i named made is = inr (disk, base, twin, is)
     of _ r i named made is = absurd (true≢false (sym made))
 
-    by : (ns : List Name) → making t ≡ ns → second ns ≡ None → (making t ≡ []) ⊎ ((u : List ℕ) × (extents : ℕ) × IsBeingEnlarged t u extents)
+    by : (ns : List Name) → making t ≡ ns → second ns ≡ None → (making t ≡ []) ⊎ (((u : List ℕ) × (extents : ℕ) × IsBeingEnlarged t u extents) ⊎ IsBeingForked t)
     by [] is none = inl is
     by (n ∷ ns) is none =
         let alone = is ∙ head_alone (n ∷ ns) n refl none in
         let k = In-filter is_making (names_of t.volumes) n (subst (In n) (sym alone) (inl refl)) in
         let r = In-map (λ (r : Row). r.name) t.volumes n k.0 in
         inr (of n r.0 r.1 (sym r.2) k.1 alone)
+
+-- ---- how many commits
+
+few_wanted : (b : Bool) (c : Change) (cs : List Change) (k : ℕ) → length cs ≤ k → length (wanted b c ++ cs) ≤ suc k
+few_wanted true c cs k few = omega (arith, few)
+few_wanted false c cs k few = omega (arith, few)
+
+few_based : (t : VolumeTable) (disk : List ℕ) (o : Option Name) (c : Change) → length (base_changes t disk o ++ c ∷ []) ≤ 4
+few_based t disk None c = omega arith
+few_based t disk (Some base) c = by (is_there t (Vhd disk)) (of_row (λ r. r.hidden) (rows t base))
+  where
+    by : (a b : Bool) → length ((wanted a (Remove (Vhd disk)) ++ (wanted b (Mark base Hidden false) ++ Rename base (under_name base disk) ∷ [])) ++ c ∷ []) ≤ 4
+    by true true = omega arith
+    by true false = omega arith
+    by false true = omega arith
+    by false false = omega arith
+
+few_back : (t : VolumeTable) (n : Name) → length (changes_back t n) ≤ 5
+few_back t (Inflate u extents) = let k = few_wanted (of_row (is_longer extents) (rows t (Vhd u))) (Cut (Vhd u) extents) (Remove (Inflate u extents) ∷ []) 1 (omega arith) in omega (arith, k)
+few_back t (Clone disk base twin) =
+    few_wanted (is_there t (Vhd twin)) (Remove (Vhd twin)) (base_changes t disk (image_with t base) ++ Remove (Clone disk base twin) ∷ []) 4 (few_based t disk (image_with t base) (Remove (Clone disk base twin)))
+few_back t Mgt = omega arith
+few_back t (Vhd u) = omega arith
+few_back t (Raw u) = omega arith
+few_back t (Old u) = omega arith
+few_back t (Coalesce x y) = omega arith
+few_back t (Relink x y) = omega arith
+few_back t (Leaf x y) = omega arith
+
+-- five at most
+pub few_changes : (t : VolumeTable) → length (undo_changes t) ≤ 5
+unfolding undo_changes
+few_changes t = by (head (making t))
+  where
+    by : (o : Option Name) → length (elim o as (λ _. List Change) [ None ↦ [] | Some n ↦ changes_back t n ]) ≤ 5
+    by None = omega arith
+    by (Some n) = few_back t n
+
+-- each of which raises the sequence number by one at most
+pub sequence_behind : (t : VolumeTable) (cs : List Change) → (applied_all t cs).sequence ≤ t.sequence + length cs
+sequence_behind t [] = omega arith
+sequence_behind t (c ∷ cs) = let rest = sequence_behind (applied t c) cs in let one = raised_most t.sequence in omega (arith, rest, one)
+  where
+    raised_most : (q : ℕ) → raised q ≤ q + 1
+    raised_most q = omega arith

@@ -30,7 +30,7 @@ use Rattle.sm_standing.proofs.UndoneLaws.{cut_entry_row, cut_is_table, cut_longe
 -- ---- the parts of a list of volumes
 
 module _ (c : Content) (n : Name) where
-  abbrev parts : List Row → List Part
+  abbrev pub parts : List Row → List Part
   parts rs = map (part_of c) rs
 
   or_false : (b : Bool) → (b || false) ≡ b
@@ -38,23 +38,23 @@ module _ (c : Content) (n : Name) where
   or_false false = refl
 
   -- behind a volume of this name no other has it
-  behind : (r : Row) (rs : List Row) → IsRising (r ∷ rs) → name_eq r.name n ≡ true → row_of rs n ≡ None
+  pub behind : (r : Row) (rs : List Row) → IsRising (r ∷ rs) → name_eq r.name n ≡ true → row_of rs n ≡ None
   unfolding IsStrictlySortedBy
   behind r rs rising is = subst (λ m. row_of rs m ≡ None) (name_eq-true r.name n is) (none_from_front rs r.name rising.0)
 
-  none_more : (r : Row) (rs : List Row) (b : Bool) → cond b (Some r) (row_of rs n) ≡ None → (b ≡ false) × (row_of rs n ≡ None)
+  pub none_more : (r : Row) (rs : List Row) (b : Bool) → cond b (Some r) (row_of rs n) ≡ None → (b ≡ false) × (row_of rs n ≡ None)
   none_more r rs true h = absurd (none-some r (sym h))
   none_more r rs false h = (refl, h)
 
   -- where no volume has it no part is changed or taken
-  others_cut : (f : Part → Part) (rs : List Row) → row_of rs n ≡ None → map (λ p. when (is_part n p) f p) (parts rs) ≡ parts rs
+  pub others_cut : (f : Part → Part) (rs : List Row) → row_of rs n ≡ None → map (λ p. when (is_part n p) f p) (parts rs) ≡ parts rs
   unfolding row_of
   others_cut f [] none = refl
   others_cut f (r ∷ rs) none =
       let k = none_more r rs (name_eq r.name n) none in
       ap₂ (λ (b : Bool) (ps : List Part). when b f (part_of c r) ∷ ps) k.0 (others_cut f rs k.1)
 
-  others_kept : (rs : List Row) → row_of rs n ≡ None → filter (λ p. not (is_part n p)) (parts rs) ≡ parts rs
+  pub others_kept : (rs : List Row) → row_of rs n ≡ None → filter (λ p. not (is_part n p)) (parts rs) ≡ parts rs
   unfolding row_of
   others_kept [] none = refl
   others_kept (r ∷ rs) none =
@@ -70,7 +70,7 @@ module _ (c : Content) (n : Name) where
       ap₂ (λ a b. (a && test (part_of c r)) || b) k.0 (none_any test rs k.1)
 
   -- a test of the part of this name is one of its volume
-  any_part : (test : Part → Bool) (rs : List Row) → IsRising rs → list_any (λ p. is_part n p && test p) (parts rs) ≡ of_row (λ r. test (part_of c r)) (row_of rs n)
+  pub any_part : (test : Part → Bool) (rs : List Row) → IsRising rs → list_any (λ p. is_part n p && test p) (parts rs) ≡ of_row (λ r. test (part_of c r)) (row_of rs n)
   unfolding row_of IsStrictlySortedBy
   any_part test [] rising = refl
   any_part test (r ∷ rs) rising = by (name_eq r.name n) refl (any_part test rs rising.1)
@@ -80,7 +80,7 @@ module _ (c : Content) (n : Name) where
       by true is rest = ap (λ b. test (part_of c r) || b) (none_any test rs (behind r rs rising is)) ∙ or_false (test (part_of c r))
       by false is rest = rest
 
-  part_there : (rs : List Row) (r : Row) → row_of rs n ≡ Some r → list_any (is_part n) (parts rs) ≡ true
+  pub part_there : (rs : List Row) (r : Row) → row_of rs n ≡ Some r → list_any (is_part n) (parts rs) ≡ true
   unfolding row_of
   part_there [] r there = absurd (none-some r there)
   part_there (s ∷ rs) r there = by (name_eq s.name n) there (λ h. part_there rs r h)
@@ -104,7 +104,7 @@ module _ (c : Content) (n : Name) where
           ap₂ (λ (k : ℕ) (ps : List Part). (record (part_of c r) { extents = k }) ∷ ps) (sym long) (others_cut (part_cut extents) rs (behind r rs rising is))
       by false is h rest = ap (λ ps. part_of c r ∷ ps) (rest h)
 
-  parts_without : (rs : List Row) → IsRising rs → filter (λ p. not (is_part n p)) (parts rs) ≡ parts (without n rs)
+  pub parts_without : (rs : List Row) → IsRising rs → filter (λ p. not (is_part n p)) (parts rs) ≡ parts (without n rs)
   unfolding without IsStrictlySortedBy
   parts_without [] rising = refl
   parts_without (r ∷ rs) rising = by (name_eq r.name n) refl (parts_without rs rising.1)
@@ -116,10 +116,10 @@ module _ (c : Content) (n : Name) where
 
 -- ---- the edits
 
-abbrev work_of : Content → VolumeTable → Work
+abbrev pub work_of : Content → VolumeTable → Work
 work_of c t = record { sequence = t.sequence; parts = map (part_of c) t.volumes }
 
-removed_work : (c : Content) (n : Name) (t : VolumeTable) (r : Row) → IsRising t.volumes → rows t n ≡ Some r → removed n (work_of c t) ≡ work_of c (applied t (Remove n))
+pub removed_work : (c : Content) (n : Name) (t : VolumeTable) (r : Row) → IsRising t.volumes → rows t n ≡ Some r → removed n (work_of c t) ≡ work_of c (applied t (Remove n))
 removed_work c n t r rising there =
     ap (λ b. when b (λ v. committed v (filter (λ p. not (is_part n p)) v.parts)) (work_of c t)) (part_there c n t.volumes r there)
     ∙ ap (committed (work_of c t)) (parts_without c n t.volumes rising)

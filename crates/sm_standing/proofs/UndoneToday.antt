@@ -1,11 +1,16 @@
--- Where today's checks pass: what an enlargement that was cut short, where there is one, leaves of a content, and what stands
--- while it is undone.
-use Rattle.std.proofs.Common.{◌≡◌, ◌⊎◌, inl, inr, ℕ, ◌*◌, ◌<◌, ◌≤◌, true, List, [], length, None, Some, refl, sym, ap, ◌∙◌, subst, arith}
+-- Where today's checks pass: what an enlargement or a fork that was cut short, where there is one, leaves of a content, and what
+-- stands while it is undone.
+use Rattle.std.proofs.Common.{◌≡◌, ◌⊎◌, inl, inr, ℕ, zero, suc, ◌*◌, ◌<◌, ◌≤◌, Bool, true, false, List, [], ◌∷◌, ◌++◌, length, take, Option, None, Some, refl, sym, ap, ◌∙◌, subst, arith}
 use Rattle.sm_base.specs.Numbers.{IsGeometry, div_up}
 use Rattle.sm_base.proofs.NumberLemmas.{le-div_up}
 use Rattle.sm_base.specs.declared.names.Name.{Name}
 use Rattle.sm_base.specs.declared.names.Name.TheVariants.{Mgt, Vhd, Raw, Old, Clone, Inflate, Coalesce, Relink, Leaf}
 use Rattle.vg_layout.specs.Places.{record_extents}
+use Rattle.common_laws.specs.Lists.{◌>>=◌}
+use Rattle.vg_meta.specs.Changes.{Permits, applied}
+use Rattle.vg_meta.specs.declared.changes.Change.{Change}
+use Rattle.vg_meta.specs.declared.changes.Change.TheVariants.{Cut, Remove}
+use Rattle.vg_meta.proofs.ChangeLaws.{IsTable-applied}
 use Rattle.vg_meta.specs.Tables.{VolumeTable, Row, IsTable, extents_of, rows}
 use Rattle.vg_meta.proofs.ByName.{spread}
 use Rattle.vg_volumes.specs.Volumes.{piece, spot}
@@ -13,7 +18,7 @@ use Rattle.sm_record.specs.Records.{reading}
 use Rattle.sm_standing.specs.Apart.{is_apart}
 use Rattle.sm_standing.specs.Checks.{fault_today_of}
 use Rattle.sm_standing.specs.Contents.{Content, row, record_count, sectors_of, size_of}
-use Rattle.sm_standing.specs.Entries.{head, making}
+use Rattle.sm_standing.specs.Entries.{head, making, of_row}
 use Rattle.sm_standing.specs.Images.{image_of}
 use Rattle.sm_standing.specs.Keeping.{HasNoEmptySlot, IsKept}
 use Rattle.sm_standing.specs.Opened.{opened}
@@ -21,15 +26,18 @@ use Rattle.sm_standing.specs.Outlines.{link_of}
 use Rattle.sm_standing.specs.PlainSound.{PlainSound, SimpleSound}
 use Rattle.sm_standing.specs.Readings.{SameReadings}
 use Rattle.sm_standing.specs.Standing.{disks}
-use Rattle.sm_standing.specs.Undone.{IsBeingEnlarged, IsSameArea, IsUndoing, entry_cut, half_undone, undone, undone_content}
+use Rattle.sm_standing.specs.Undone.{AllPermit, IsBeingEnlarged, IsSameArea, IsUndoing, applied_all, changes_back, from_entry, image_back, is_longer, row_back, undo_changes, undone, undone_content, undone_from, wanted}
 use Rattle.sm_standing.specs.Worlds.{with_table}
+use Rattle.sm_standing.proofs.ForkOpened.{fork_opened}
+use Rattle.sm_standing.proofs.ForkRuns.{AllRun, run_permits, run_taken}
+use Rattle.sm_standing.proofs.ForkUndone.{fork_disks, fork_holding, fork_images, fork_kept, fork_permits, fork_rows, fork_table, fork_undone, fork_undone_disks}
 use Rattle.sm_standing.proofs.ImageLaws.{disks_as}
 use Rattle.sm_standing.proofs.ImageSectors.{same_images, whole_none}
 use Rattle.sm_standing.proofs.OutlineLaws.{outline_same}
 use Rattle.sm_standing.proofs.PlainKept.{simple_is_plain, simple_kept, simple_sound, simple_today, today_sound}
 use Rattle.sm_standing.proofs.RecordLists.{first_of, record_of_first, records_same}
-use Rattle.sm_standing.proofs.UndoneContents.{between_cut, between_disks, between_kept, between_now, disks_undone_at, images_undone_at, sound_undone, undone_disks, undone_kept}
-use Rattle.sm_standing.proofs.UndoneLaws.{cut_table, enlarged_or_not, undone_is_table, undone_later, undone_none}
+use Rattle.sm_standing.proofs.UndoneContents.{between_cut, between_disks, between_kept, between_now, disks_undone_at, holding_undone, images_undone_at, sound_undone, undone_disks, undone_kept}
+use Rattle.sm_standing.proofs.UndoneLaws.{IsBeingForked, changes_are, cut_table, enlarged_or_not, may_cut, may_remove, undone_is, undone_is_table, undone_later, undone_none}
 use Rattle.sm_standing.proofs.UndoneShape.{opened_undone}
 use Rattle.sm_standing.proofs.WorldLaws.{spot_below}
 
@@ -97,9 +105,9 @@ module _ (c : Content) (table : IsTable c.count c.table) (geometry : IsGeometry 
     there_disks : disks there ≡ disks c
     there_disks = disks_as c there (λ v. refl) images_alike (λ v. record_of_first there v ∙ ap first_of (records_same c there v readings_alike) ∙ sym (record_of_first c v))
 
-  -- ---- in both cases
+  -- ---- in each case
 
-  either : (making c.table ≡ []) ⊎ ((u : List ℕ) × (extents : ℕ) × IsBeingEnlarged c.table u extents)
+  either : (making c.table ≡ []) ⊎ (((u : List ℕ) × (extents : ℕ) × IsBeingEnlarged c.table u extents) ⊎ IsBeingForked c.table)
   either = enlarged_or_not c.count c.table table s.simple s.one_entry s.at_stage
 
   as_it_was : making c.table ≡ [] → undone_content c ≡ c
@@ -108,81 +116,160 @@ module _ (c : Content) (table : IsTable c.count c.table) (geometry : IsGeometry 
   pub table_undone : IsTable c.count (undone c.table)
   table_undone = by either
     where
-      by : (making c.table ≡ []) ⊎ ((u : List ℕ) × (extents : ℕ) × IsBeingEnlarged c.table u extents) → IsTable c.count (undone c.table)
+      by : (making c.table ≡ []) ⊎ (((u : List ℕ) × (extents : ℕ) × IsBeingEnlarged c.table u extents) ⊎ IsBeingForked c.table) → IsTable c.count (undone c.table)
       by (inl none) = subst (IsTable c.count) (sym (undone_none c.table none)) table
-      by (inr k) = undone_is_table c.table k.0 k.1 k.2 c.count table
+      by (inr (inl k)) = undone_is_table c.table k.0 k.1 k.2 c.count table
+      by (inr (inr k)) = fork_table c table geometry room s k.0 k.1 k.2 k.3
 
-  pub today_images : (n : Name) → image_of (undone_content c) n ≡ image_of c n
+  from_itself : (n : Name) → making c.table ≡ [] → undone_from c.table n ≡ Some n
+  unfolding undone_from
+  from_itself n none = ap (λ ns. elim (head ns) as (λ _. Option Name) [ None ↦ Some n | Some e ↦ from_entry c.table e n ]) none
+
+  from_enlarged : (n : Name) (u : List ℕ) (extents : ℕ) → IsBeingEnlarged c.table u extents → undone_from c.table n ≡ Some n
+  unfolding undone_from
+  from_enlarged n u extents w = ap (λ ns. elim (head ns) as (λ _. Option Name) [ None ↦ Some n | Some e ↦ from_entry c.table e n ]) w.entry
+
+  pub today_images : (n : Name) → image_of (undone_content c) n ≡ image_back c n
   today_images n = by either
     where
-      by : (making c.table ≡ []) ⊎ ((u : List ℕ) × (extents : ℕ) × IsBeingEnlarged c.table u extents) → image_of (undone_content c) n ≡ image_of c n
-      by (inl none) = ap (λ x. image_of x n) (as_it_was none)
-      by (inr k) = images_undone_at c k.0 k.1 k.2 table geometry room (undone c.table).sequence n
+      by : (making c.table ≡ []) ⊎ (((u : List ℕ) × (extents : ℕ) × IsBeingEnlarged c.table u extents) ⊎ IsBeingForked c.table) → image_of (undone_content c) n ≡ image_back c n
+      by (inl none) = ap (λ x. image_of x n) (as_it_was none) ∙ sym (ap (λ o. o >>= image_of c) (from_itself n none))
+      by (inr (inl k)) = images_undone_at c k.0 k.1 k.2 table geometry room (undone c.table).sequence n ∙ sym (ap (λ o. o >>= image_of c) (from_enlarged n k.0 k.1 k.2))
+      by (inr (inr k)) = fork_images c table geometry room s k.0 k.1 k.2 k.3 n
 
   -- nothing is under way without it, and all is sound
   pub today_undone : PlainSound (undone_content c)
   today_undone = by either
     where
-      by : (making c.table ≡ []) ⊎ ((u : List ℕ) × (extents : ℕ) × IsBeingEnlarged c.table u extents) → PlainSound (undone_content c)
+      by : (making c.table ≡ []) ⊎ (((u : List ℕ) × (extents : ℕ) × IsBeingEnlarged c.table u extents) ⊎ IsBeingForked c.table) → PlainSound (undone_content c)
       by (inl none) = subst PlainSound (sym (as_it_was none)) (simple_is_plain c s none)
-      by (inr k) = sound_undone c k.0 k.1 k.2 table geometry room s (undone c.table).sequence (undone_later c.table k.0 k.1 k.2 c.count table)
+      by (inr (inl k)) = sound_undone c k.0 k.1 k.2 table geometry room s (undone c.table).sequence (undone_later c.table k.0 k.1 k.2 c.count table)
+      by (inr (inr k)) = fork_undone c table geometry room s k.0 k.1 k.2 k.3
+
+  -- behind a fork its volumes are those that there were
+  pub today_rows : (disk base twin : List ℕ) → making c.table ≡ Clone disk base twin ∷ [] → (n : Name) → rows (undone c.table) n ≡ row_back c.table n
+  today_rows disk base twin entry n = fork_rows c table geometry room s disk base twin entry n
 
   pub today_holding : HasNoEmptySlot c → HasNoEmptySlot (undone_content c)
-  today_holding holding v i is = holding v i (sym (today_images (Vhd v)) ∙ is)
+  today_holding holding = by either
+    where
+      by : (making c.table ≡ []) ⊎ (((u : List ℕ) × (extents : ℕ) × IsBeingEnlarged c.table u extents) ⊎ IsBeingForked c.table) → HasNoEmptySlot (undone_content c)
+      by (inl none) = subst HasNoEmptySlot (sym (as_it_was none)) holding
+      by (inr (inl k)) = holding_undone c k.0 k.1 k.2 table geometry room (undone c.table).sequence holding
+      by (inr (inr k)) = fork_holding c table geometry room s k.0 k.1 k.2 k.3 holding
 
   pub today_disks : disks (undone_content c) ≡ disks c
   today_disks = by either
     where
-      by : (making c.table ≡ []) ⊎ ((u : List ℕ) × (extents : ℕ) × IsBeingEnlarged c.table u extents) → disks (undone_content c) ≡ disks c
+      by : (making c.table ≡ []) ⊎ (((u : List ℕ) × (extents : ℕ) × IsBeingEnlarged c.table u extents) ⊎ IsBeingForked c.table) → disks (undone_content c) ≡ disks c
       by (inl none) = ap disks (as_it_was none)
-      by (inr k) = disks_undone_at c k.0 k.1 k.2 table geometry room s (undone c.table).sequence
+      by (inr (inl k)) = disks_undone_at c k.0 k.1 k.2 table geometry room s (undone c.table).sequence
+      by (inr (inr k)) = fork_undone_disks c table geometry room s k.0 k.1 k.2 k.3
 
   pub today_opened : opened (undone_content c) ≡ opened c
   today_opened = by either
     where
-      by : (making c.table ≡ []) ⊎ ((u : List ℕ) × (extents : ℕ) × IsBeingEnlarged c.table u extents) → opened (undone_content c) ≡ opened c
+      by : (making c.table ≡ []) ⊎ (((u : List ℕ) × (extents : ℕ) × IsBeingEnlarged c.table u extents) ⊎ IsBeingForked c.table) → opened (undone_content c) ≡ opened c
       by (inl none) = ap opened (as_it_was none)
-      by (inr k) = opened_undone c k.0 k.1 k.2 table geometry room s
+      by (inr (inl k)) = opened_undone c k.0 k.1 k.2 table geometry room s
+      by (inr (inr k)) = fork_opened c table geometry room s k.0 k.1 k.2 k.3
 
   -- ---- whatever a stop leaves while it is undone
 
-  half_is : (u : List ℕ) (extents : ℕ) (w : IsBeingEnlarged c.table u extents) → half_undone c.table ≡ cut_table c.table u extents w
-  unfolding half_undone
-  half_is u extents w = ap (λ ns. elim (head ns) [ None ↦ c.table | Some n ↦ entry_cut n c.table ]) w.entry
-
-  half_none : making c.table ≡ [] → half_undone c.table ≡ c.table
-  unfolding half_undone
-  half_none none = ap (λ ns. elim (head ns) [ None ↦ c.table | Some n ↦ entry_cut n c.table ]) none
+  changes_none : making c.table ≡ [] → undo_changes c.table ≡ []
+  unfolding undo_changes
+  changes_none none = ap (λ ns. elim (head ns) as (λ _. List Change) [ None ↦ [] | Some n ↦ changes_back c.table n ]) none
 
   all_one : making c.table ≡ [] → (v : VolumeTable) → IsUndoing c.table v → v ≡ c.table
-  all_one none v (inl is) = is
-  all_one none v (inr (inl is)) = is ∙ half_none none
-  all_one none v (inr (inr is)) = is ∙ undone_none c.table none
+  all_one none v k = k.1 ∙ ap (λ cs. applied_all c.table (take k.0 cs)) (changes_none none) ∙ by k.0
+    where
+      by : (k : ℕ) → applied_all c.table (take k []) ≡ c.table
+      by zero = refl
+      by (suc k) = refl
+
+  -- the table, or behind the cut, or without the entry
+  abbrev IsStep : (u : List ℕ) (extents : ℕ) → IsBeingEnlarged c.table u extents → VolumeTable → Type 0
+  IsStep u extents w v = (v ≡ c.table) ⊎ ((v ≡ cut_table c.table u extents w) ⊎ (v ≡ undone c.table))
+
+  abbrev IsAny : VolumeTable → Type 0
+  IsAny v = Unit {0}
+
+  enlarging_run : (u : List ℕ) (extents : ℕ) (w : IsBeingEnlarged c.table u extents) → AllRun c.count (IsStep u extents w) IsAny c.table (undo_changes c.table)
+  enlarging_run u extents w = subst (AllRun c.count (IsStep u extents w) IsAny c.table) (sym (changes_are c.table u extents w)) (by (of_row (is_longer extents) (rows c.table (Vhd u))) refl)
+    where
+      cut_is : (b : Bool) → of_row (is_longer extents) (rows c.table (Vhd u)) ≡ b → cut_table c.table u extents w ≡ applied_all c.table (wanted b (Cut (Vhd u) extents))
+      cut_is b is = ap (λ x. applied_all c.table (wanted x (Cut (Vhd u) extents))) is
+
+      longer : (b : Bool) → of_row (is_longer extents) (rows c.table (Vhd u)) ≡ b → is_longer extents w.own ≡ b
+      longer b is = sym (ap (of_row (is_longer extents)) w.there) ∙ is
+
+      removed : (x : VolumeTable) → cut_table c.table u extents w ≡ x → IsStep u extents w (applied x (Remove (Inflate u extents)))
+      removed x is = inr (inr (sym (undone_is c.table u extents w ∙ ap (λ y. applied y (Remove (Inflate u extents))) is)))
+
+      may : (x : VolumeTable) → cut_table c.table u extents w ≡ x → Permits c.count x (Remove (Inflate u extents))
+      may x is = subst (λ y. Permits c.count y (Remove (Inflate u extents))) is (may_remove c.table u extents w c.count)
+
+      by : (b : Bool) → of_row (is_longer extents) (rows c.table (Vhd u)) ≡ b → AllRun c.count (IsStep u extents w) IsAny c.table (wanted b (Cut (Vhd u) extents) ++ Remove (Inflate u extents) ∷ [])
+      by false is = (inl refl, may c.table (cut_is false is), (removed c.table (cut_is false is), tt))
+      by true is = (
+        inl refl,
+        may_cut c.table u extents w c.count (longer true is),
+        (inr (inl (sym (cut_is true is))), may (applied c.table (Cut (Vhd u) extents)) (cut_is true is), (removed (applied c.table (Cut (Vhd u) extents)) (cut_is true is), tt)),
+      )
+
+  step_of : (u : List ℕ) (extents : ℕ) (w : IsBeingEnlarged c.table u extents) (v : VolumeTable) → IsUndoing c.table v → IsStep u extents w v
+  step_of u extents w v k = subst (IsStep u extents w) (sym k.1) (run_taken c.count (IsStep u extents w) IsAny c.table (undo_changes c.table) (enlarging_run u extents w) k.0)
+
+  -- each change is allowed in its turn, and each table is one
+  pub today_permits : AllPermit c.count c.table (undo_changes c.table)
+  today_permits = by either
+    where
+      by : (making c.table ≡ []) ⊎ (((u : List ℕ) × (extents : ℕ) × IsBeingEnlarged c.table u extents) ⊎ IsBeingForked c.table) → AllPermit c.count c.table (undo_changes c.table)
+      by (inl none) = subst (AllPermit c.count c.table) (sym (changes_none none)) tt
+      by (inr (inl k)) = run_permits c.count (IsStep k.0 k.1 k.2) IsAny c.table (undo_changes c.table) (enlarging_run k.0 k.1 k.2)
+      by (inr (inr k)) = fork_permits c table geometry room s k.0 k.1 k.2 k.3
+
+  pub undoing_table : (v : VolumeTable) → IsUndoing c.table v → IsTable c.count v
+  undoing_table v k = subst (IsTable c.count) (sym k.1) (by c.table (undo_changes c.table) k.0 table today_permits)
+    where
+      by : (t : VolumeTable) (cs : List Change) (k : ℕ) → IsTable c.count t → AllPermit c.count t cs → IsTable c.count (applied_all t (take k cs))
+      by t [] zero is may = is
+      by t [] (suc k) is may = is
+      by t (x ∷ cs) zero is may = is
+      by t (x ∷ cs) (suc k) is may = by (applied t x) cs k (IsTable-applied c.count t x is may.0) may.1
 
   pub undoing_kept : HasNoEmptySlot c → (v : VolumeTable) (area : ℕ → List ℕ) → IsUndoing c.table v → IsSameArea c area → IsKept (with_table c v area)
-  undoing_kept holding v area undoing same = by either undoing
+  undoing_kept holding v area undoing same = by either
     where
       at : (u : VolumeTable) → v ≡ u → IsKept (with_table c u area) → IsKept (with_table c v area)
       at u is kept = subst (λ x. IsKept (with_table c x area)) (sym is) kept
 
-      by : (making c.table ≡ []) ⊎ ((u : List ℕ) × (extents : ℕ) × IsBeingEnlarged c.table u extents) → IsUndoing c.table v → IsKept (with_table c v area)
-      by (inl none) one = at c.table (all_one none v one) (there_kept none area same holding)
-      by (inr k) (inl is) = at c.table is (between_kept c k.0 k.1 k.2 table geometry room s holding c.table area (between_now c k.0 k.1 k.2 table geometry room) same)
-      by (inr k) (inr (inl is)) =
-          at (cut_table c.table k.0 k.1 k.2) (is ∙ half_is k.0 k.1 k.2)
-          (between_kept c k.0 k.1 k.2 table geometry room s holding (cut_table c.table k.0 k.1 k.2) area (between_cut c k.0 k.1 k.2 table geometry room) same)
-      by (inr k) (inr (inr is)) = at (undone c.table) is (undone_kept c k.0 k.1 k.2 table geometry room s holding area same)
+      step : (u : List ℕ) (extents : ℕ) (w : IsBeingEnlarged c.table u extents) → IsStep u extents w v → IsKept (with_table c v area)
+      step u extents w (inl is) = at c.table is (between_kept c u extents w table geometry room s holding c.table area (between_now c u extents w table geometry room) same)
+      step u extents w (inr (inl is)) =
+          at (cut_table c.table u extents w) is
+          (between_kept c u extents w table geometry room s holding (cut_table c.table u extents w) area (between_cut c u extents w table geometry room) same)
+      step u extents w (inr (inr is)) = at (undone c.table) is (undone_kept c u extents w table geometry room s holding area same)
+
+      by : (making c.table ≡ []) ⊎ (((u : List ℕ) × (extents : ℕ) × IsBeingEnlarged c.table u extents) ⊎ IsBeingForked c.table) → IsKept (with_table c v area)
+      by (inl none) = at c.table (all_one none v undoing) (there_kept none area same holding)
+      by (inr (inl k)) = step k.0 k.1 k.2 (step_of k.0 k.1 k.2 v undoing)
+      by (inr (inr k)) = fork_kept c table geometry room s k.0 k.1 k.2 k.3 holding v area undoing same
 
   pub undoing_disks : (v : VolumeTable) (area : ℕ → List ℕ) → IsUndoing c.table v → IsSameArea c area → disks (with_table c v area) ≡ disks c
-  undoing_disks v area undoing same = by either undoing
+  undoing_disks v area undoing same = by either
     where
       at : (u : VolumeTable) → v ≡ u → disks (with_table c u area) ≡ disks c → disks (with_table c v area) ≡ disks c
       at u is shown = ap (λ x. disks (with_table c x area)) is ∙ shown
 
-      by : (making c.table ≡ []) ⊎ ((u : List ℕ) × (extents : ℕ) × IsBeingEnlarged c.table u extents) → IsUndoing c.table v → disks (with_table c v area) ≡ disks c
-      by (inl none) one = at c.table (all_one none v one) (there_disks none area same)
-      by (inr k) (inl is) = at c.table is (between_disks c k.0 k.1 k.2 table geometry room s c.table area (between_now c k.0 k.1 k.2 table geometry room) same)
-      by (inr k) (inr (inl is)) =
-          at (cut_table c.table k.0 k.1 k.2) (is ∙ half_is k.0 k.1 k.2)
-          (between_disks c k.0 k.1 k.2 table geometry room s (cut_table c.table k.0 k.1 k.2) area (between_cut c k.0 k.1 k.2 table geometry room) same)
-      by (inr k) (inr (inr is)) = at (undone c.table) is (undone_disks c k.0 k.1 k.2 table geometry room s area same)
+      step : (u : List ℕ) (extents : ℕ) (w : IsBeingEnlarged c.table u extents) → IsStep u extents w v → disks (with_table c v area) ≡ disks c
+      step u extents w (inl is) = at c.table is (between_disks c u extents w table geometry room s c.table area (between_now c u extents w table geometry room) same)
+      step u extents w (inr (inl is)) =
+          at (cut_table c.table u extents w) is
+          (between_disks c u extents w table geometry room s (cut_table c.table u extents w) area (between_cut c u extents w table geometry room) same)
+      step u extents w (inr (inr is)) = at (undone c.table) is (undone_disks c u extents w table geometry room s area same)
+
+      by : (making c.table ≡ []) ⊎ (((u : List ℕ) × (extents : ℕ) × IsBeingEnlarged c.table u extents) ⊎ IsBeingForked c.table) → disks (with_table c v area) ≡ disks c
+      by (inl none) = at c.table (all_one none v undoing) (there_disks none area same)
+      by (inr (inl k)) = step k.0 k.1 k.2 (step_of k.0 k.1 k.2 v undoing)
+      by (inr (inr k)) = fork_disks c table geometry room s k.0 k.1 k.2 k.3 v area undoing same

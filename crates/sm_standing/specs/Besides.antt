@@ -31,11 +31,11 @@ pub record IsBeside (a b : Outline) (us : List (List ℕ)) : Type 0 where
   pub entries : b.entries ≡ a.entries
   pub later : a.table.sequence ≤ b.table.sequence
   pub found : (r : Row) → In r b.table.volumes → rows b.table r.name ≡ Some r
-  -- images apart are the same, their parents are apart, and they have as many children
+  -- images apart are the same, their parents are apart, and those that had no children have none
   pub rows_apart : (n : Name) → is_apart us n ≡ true → rows b.table n ≡ rows a.table n
   pub links_apart : (n : Name) → is_apart us n ≡ true → b.links n ≡ a.links n
   pub parents_apart : (n p : Name) (i : Link) → is_apart us n ≡ true → a.links n ≡ Some i → i.parent ≡ Some p → is_apart us p ≡ true
-  pub children_apart : (n : Name) → is_apart us n ≡ true → length (children b n) ≡ length (children a n)
+  pub children_apart : (n : Name) → is_apart us n ≡ true → length (children a n) ≡ 0 → length (children b n) ≡ 0
   -- every other volume passes
   pub others : (r : Row) → In r b.table.volumes → is_settled_name us r.name ≡ false → PassesAlone b r
   pub few : too_many_fault b ≡ None

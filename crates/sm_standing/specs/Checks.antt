@@ -285,39 +285,18 @@ first_fault c = fault_of (outline c)
 
 -- ---- what can't be repaired yet
 
--- an entry whose work an opening neither ends nor undoes: any but that of an enlargement
+-- an entry whose work an opening neither ends nor undoes: any but those of a fork and of an enlargement
 abbrev pub is_entry_ahead : Name → Bool
-is_entry_ahead (Clone disk base twin) = true
 is_entry_ahead (Coalesce child parent) = true
 is_entry_ahead (Relink child parent) = true
 is_entry_ahead (Leaf leaf parent) = true
 is_entry_ahead _ = false
 
--- a hidden image, or an old leaf
-abbrev pub is_ahead : Bool → Name → Bool
-is_ahead hidden (Raw u) = hidden
-is_ahead hidden (Vhd u) = hidden
-is_ahead hidden (Old u) = true
-is_ahead hidden _ = false
-
-abbrev pub is_image_ahead : Row → Bool
-is_image_ahead r = is_ahead r.hidden r.name
-
--- a VHD image that has a parent: a new one has none
-abbrev pub has_parent : Outline → Name → Bool
-has_parent o (Vhd u) = is_some (parent_in o (Vhd u))
-has_parent o _ = false
-
--- the checks of the program as it is built today: in front of the eighth the first entry is refused that is not that of an
--- enlargement, with the ninth the first hidden image or old leaf, and with the eleventh the first image that has a parent
+-- the checks of the program as it is built today: in front of the eighth the first entry of copying, linking and folding is
+-- refused. So with the ninth each old leaf is, as it belongs to the entry of a leaf; and the twelfth looks at the entries of forks
+-- alone
 unfoldable pub entry_ahead_fault : Outline → Option Place
 entry_ahead_fault o = placed at.Journal (first_name (λ r. is_entry_ahead r.name) o.table.volumes)
-
-unfoldable pub image_ahead_fault : Outline → Option Place
-image_ahead_fault o = placed at.Image (first_name is_image_ahead o.table.volumes)
-
-unfoldable pub parent_ahead_fault : Outline → Option Place
-parent_ahead_fault o = placed at.Tree (first_name (λ r. has_parent o r.name) o.table.volumes)
 
 abbrev pub faults_today : Outline → List (Option Place)
 faults_today o = record_volume_fault o
@@ -326,9 +305,10 @@ faults_today o = record_volume_fault o
     ∷ entry_ahead_fault o
     ∷ second_entry_fault o
     ∷ lost_entry_fault o
-    ∷ image_ahead_fault o
+    ∷ old_leaf_fault o
     ∷ invalid_fault o
-    ∷ parent_ahead_fault o
+    ∷ tree_fault o
+    ∷ entry_link_fault o
     ∷ record_fault o
     ∷ disk_fault o
     ∷ []

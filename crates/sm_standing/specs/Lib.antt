@@ -20,3 +20,5 @@ pub mod Volumes
 pub mod Enlarging
 pub mod Besides
 pub mod Undone
+pub mod Forks
+pub mod Swaps

@@ -1,34 +1,35 @@
--- A repository in which nothing is under way: its volumes are the volume of records and visible VHD and raw images, new ones
--- among them. No image is hidden, none is an old leaf, and there is no journal entry. Also one in which at most images are
--- being enlarged.
-use Rattle.std.specs.Prelude.{◌≡◌, Bool, true, false, not}
+-- A repository in which nothing is under way: its volumes are the volume of records and VHD and raw images, visible and hidden
+-- ones, new ones among them. None is an old leaf, and there is no journal entry. Also one in which at most images are being
+-- enlarged, or in which a disk is being forked.
+use Rattle.std.specs.Prelude.{◌≡◌, Bool, true, false}
 use Rattle.std.specs.List.{AllByRecursion}
 use Rattle.sm_base.specs.declared.names.Name.{Name}
-use Rattle.sm_base.specs.declared.names.Name.TheVariants.{Mgt, Vhd, Raw, Inflate}
+use Rattle.sm_base.specs.declared.names.Name.TheVariants.{Mgt, Vhd, Raw, Clone, Inflate}
 use Rattle.vg_meta.specs.Tables.{Row, VolumeTable}
 
-abbrev pub is_plain_name : Bool → Name → Bool
-is_plain_name hidden Mgt = true
-is_plain_name hidden (Vhd u) = not hidden
-is_plain_name hidden (Raw u) = not hidden
-is_plain_name hidden _ = false
+abbrev pub is_plain_name : Name → Bool
+is_plain_name Mgt = true
+is_plain_name (Vhd u) = true
+is_plain_name (Raw u) = true
+is_plain_name _ = false
 
 abbrev pub is_plain : Row → Bool
-is_plain r = is_plain_name r.hidden r.name
+is_plain r = is_plain_name r.name
 
 abbrev pub IsPlain : VolumeTable → Type 0
 IsPlain t = AllByRecursion (λ r. is_plain r ≡ true) t.volumes
 
--- a plain volume, or the entry of an enlargement
-abbrev pub is_simple_name : Bool → Name → Bool
-is_simple_name hidden Mgt = true
-is_simple_name hidden (Vhd u) = not hidden
-is_simple_name hidden (Raw u) = not hidden
-is_simple_name hidden (Inflate image extents) = true
-is_simple_name hidden _ = false
+-- a plain volume, or the entry of a fork or of an enlargement
+abbrev pub is_simple_name : Name → Bool
+is_simple_name Mgt = true
+is_simple_name (Vhd u) = true
+is_simple_name (Raw u) = true
+is_simple_name (Clone disk base twin) = true
+is_simple_name (Inflate image extents) = true
+is_simple_name _ = false
 
 abbrev pub is_simple : Row → Bool
-is_simple r = is_simple_name r.hidden r.name
+is_simple r = is_simple_name r.name
 
 abbrev pub IsSimple : VolumeTable → Type 0
 IsSimple t = AllByRecursion (λ r. is_simple r ≡ true) t.volumes

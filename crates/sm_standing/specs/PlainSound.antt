@@ -1,17 +1,17 @@
--- When a repository of visible images without parents is sound, fact by fact; and one in which an image is being enlarged.
-use Rattle.std.specs.Prelude.{◌≡◌, ℕ, ◌<◌, ◌≤◌, false, List, length, Some, None}
+-- When a repository in which nothing is under way is sound, fact by fact; and one in which an image is being enlarged, or a disk
+-- is being forked.
+use Rattle.std.specs.Prelude.{◌≡◌, ℕ, ◌<◌, ◌≤◌, true, false, List, length, Some, None}
 use Rattle.std.specs.List.{filter}
 use Rattle.sm_base.specs.declared.names.Name.{Name}
-use Rattle.sm_base.specs.declared.names.Name.TheVariants.{Mgt, Vhd}
+use Rattle.sm_base.specs.declared.names.Name.TheVariants.{Mgt}
 use Rattle.vg_layout.specs.Places.{record_extents}
 use Rattle.vg_meta.specs.Tables.{Row}
 use Rattle.common_laws.specs.Lists.{In}
 use Rattle.sm_machine.specs.Shapes.{image_limit}
 use Rattle.sm_standing.specs.Plain.{IsPlain, IsSimple}
 use Rattle.sm_standing.specs.Contents.{Content, row, reading_at, record_count, records, is_record_of}
-use Rattle.sm_standing.specs.Checks.{images, is_misnamed, is_lost, is_invalid, is_damaged}
+use Rattle.sm_standing.specs.Checks.{images, is_misnamed, is_lost, is_invalid, is_tree_wrong, is_entry_linked, is_damaged}
 use Rattle.sm_standing.specs.Entries.{making, second}
-use Rattle.sm_standing.specs.Images.{Image, image_of}
 use Rattle.sm_standing.specs.Outlines.{outline}
 use Rattle.sm_standing.specs.Standing.{standing_volume}
 
@@ -23,7 +23,7 @@ pub record PlainSound (c : Content) : Type 0 where
   pub few_images : length (images c.table) ≤ image_limit
   pub named : (r : Row) → In r c.table.volumes → is_misnamed c.table r ≡ false
   pub valid : (r : Row) → In r c.table.volumes → is_invalid (outline c) r ≡ false
-  pub parentless : (u : List ℕ) (i : Image) → image_of c (Vhd u) ≡ Some i → i.parent ≡ None
+  pub placed : (r : Row) → In r c.table.volumes → is_tree_wrong (outline c) r ≡ false
   pub right : (k : ℕ) → k < record_count → is_damaged (reading_at c k) ≡ false
   pub recorded : (u : List ℕ) (n : Name) → standing_volume c.table u ≡ Some n → length (filter (is_record_of u) (records c)) ≡ 1
 
@@ -37,6 +37,7 @@ pub record SimpleSound (c : Content) : Type 0 where
   pub one_entry : second (making c.table) ≡ None
   pub at_stage : (r : Row) → In r c.table.volumes → is_lost c.table r ≡ false
   pub valid : (r : Row) → In r c.table.volumes → is_invalid (outline c) r ≡ false
-  pub parentless : (u : List ℕ) (i : Image) → image_of c (Vhd u) ≡ Some i → i.parent ≡ None
+  pub placed : (r : Row) → In r c.table.volumes → is_tree_wrong (outline c) r ≡ false
+  pub linked : (r : Row) → In r c.table.volumes → is_entry_linked (outline c) r.name ≡ true
   pub right : (k : ℕ) → k < record_count → is_damaged (reading_at c k) ≡ false
   pub recorded : (u : List ℕ) (n : Name) → standing_volume c.table u ≡ Some n → length (filter (is_record_of u) (records c)) ≡ 1

@@ -11,27 +11,33 @@
 //! (an image, a turn, what is read), `Answering` (the same without a bound), `Standing` (the disks), `Outlines`
 //! (what the checks look at), `Checks` (the checks in their order), `Keeping` (kept), `Devices` (the same of a
 //! whole device), `Shapes` (the shape that a content spells), `Opened` (the shape that an opening makes),
-//! `Plain` and `PlainSound` (a repository of visible images without parents), `Readings` (record sectors of two contents),
+//! `Plain` and `PlainSound` (a repository in which nothing is under way), `Readings` (record sectors of two contents),
 //! `Changes` (an image that comes, goes, grows or moves), `Enlarging` (an image that is being enlarged), `Undone` (a table
-//! without an enlargement that was cut short), `Worlds` (what a change of the area leaves).
+//! without an enlargement or a fork that was cut short), `Worlds` (what a change of the area leaves), `Forks` and `Swaps` (a content at any
+//! moment of a fork, or of a swap, beside the one from before).
 //!
 //! The laws are the contracts of functions that do nothing: of what is read through a chain (`chains`), of images in a
-//! content (`images`), of what a commit or a write leaves of each volume (`worlds`), of the list of disks (`listing`), of
-//! visible images without parents (`plain`), and of outlines and the first check that fails (`faults`). That their hypotheses can be met is
-//! shown in the crate standing_examples.
+//! content (`images`), of what a commit or a write leaves of each volume (`worlds`), of the list of disks (`listing`), of a
+//! repository in which nothing is under way, or an enlargement or a fork alone (`plain`), of outlines and the first check that fails
+//! (`faults`), of what a volume says under whatever name it stands (`volumes`), and of the moments of a fork (`forks`) and of a
+//! swap (`swaps`). That their hypotheses can be met is shown in the crate standing_examples.
 #![tactic(auto)]
 
 mod chains;
 mod faults;
+mod forks;
 mod images;
 mod listing;
 mod plain;
+mod swaps;
+mod volumes;
 mod worlds;
 
 pub use chains::{
     law_copy_below, law_guest_write, law_no_parent, law_relink, law_rename, law_walk,
 };
 pub use faults::{law_beside, law_enlarging, law_first_fault, law_longest_chain, law_outline};
+pub use forks::{law_fork_ended, law_fork_sound, law_forking};
 pub use images::{
     law_chain_kept, law_chain_length, law_copied, law_moved, law_no_image, law_raised, law_read,
     law_removed, law_short_chain,
@@ -41,4 +47,6 @@ pub use listing::{
     law_one_disk_more,
 };
 pub use plain::{law_plain_kept, law_today, law_undone};
+pub use swaps::law_swapping;
+pub use volumes::{law_same_apart, law_same_volume, law_whole};
 pub use worlds::{law_commit, law_other_choices, law_other_volumes};

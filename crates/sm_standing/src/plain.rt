@@ -1,10 +1,11 @@
-//! Laws of a repository of visible images without parents, VHD and raw ones: of one in which nothing is under way, and of one in
-//! which an image is being enlarged, and what is left when that is undone.
+//! Laws of a repository in which nothing is under way, and of one in which an image is being enlarged or a disk is being forked,
+//! and what is left when that is undone. Its images are VHD and raw ones, visible and hidden, with parents and without.
 
-ghost use Rattle.std.specs.Prelude.{◌≡◌, ℕ, List, [], None};
+ghost use Rattle.std.specs.Prelude.{◌≡◌, ◌≤◌, ℕ, List, [], ◌∷◌, length, None};
 ghost use Rattle.sm_base.specs.Numbers.{IsGeometry};
 ghost use Rattle.sm_base.specs.declared.names.Name.{Name};
-ghost use Rattle.vg_meta.specs.Tables.{VolumeTable, IsTable};
+ghost use Rattle.sm_base.specs.declared.names.Name.TheVariants.{Clone};
+ghost use Rattle.vg_meta.specs.Tables.{VolumeTable, IsTable, rows};
 ghost use Rattle.sm_standing.specs.Checks.{first_fault, first_fault_today};
 ghost use Rattle.sm_standing.specs.Contents.{Content};
 ghost use Rattle.sm_standing.specs.Entries.{making};
@@ -14,7 +15,7 @@ ghost use Rattle.sm_standing.specs.Opened.{opened};
 ghost use Rattle.sm_standing.specs.Plain.{IsSimple};
 ghost use Rattle.sm_standing.specs.PlainSound.{PlainSound, SimpleSound};
 ghost use Rattle.sm_standing.specs.Standing.{disks};
-ghost use Rattle.sm_standing.specs.Undone.{IsSameArea, IsUndoing, undone, undone_content};
+ghost use Rattle.sm_standing.specs.Undone.{AllPermit, IsSameArea, IsUndoing, image_back, row_back, undo_changes, undone, undone_content};
 ghost use Rattle.sm_standing.specs.Worlds.{with_table};
 
 /// Where the facts hold that make such a repository sound, it is sound; and kept where no slot is empty.
@@ -23,8 +24,8 @@ pub fn law_plain_kept()
     ensures kept { (c : Content) → PlainSound c → HasNoEmptySlot c → IsKept c }
 {}
 
-/// Today's checks pass exactly where all checks pass and at most one image is being enlarged; where none is, nothing is under
-/// way. No image has a parent then.
+/// Today's checks pass exactly where all checks pass and at most one image is being enlarged or one disk is being forked; where
+/// neither is, nothing is under way. No old leaf is there then.
 pub fn law_today()
     ensures facts { (c : Content) → first_fault_today c ≡ None → SimpleSound c }
     ensures all { (c : Content) → first_fault_today c ≡ None → first_fault c ≡ None }
@@ -33,15 +34,22 @@ pub fn law_today()
     ensures back { (c : Content) → first_fault c ≡ None → IsSimple c.table → first_fault_today c ≡ None }
 {}
 
-/// An enlargement that a stop has cut short is undone by at most two commits. Where today's checks pass, nothing is under way
-/// without it, and all is sound; each image and each disk is as it was, and an opening makes the same shape. Whatever
-/// a stop leaves of the commits is kept, where no slot is empty, and shows the same disks.
+/// An enlargement or a fork that a stop has cut short is undone by at most five commits, each of which is allowed in its turn.
+/// Where today's checks pass, nothing is under way without it, and all is sound; each image is as it was, that of a fork's
+/// base under the disk's name again, and each disk too, and an opening makes the same shape. Whatever a stop leaves of the
+/// commits is kept, where no slot is empty, and shows the same disks.
 pub fn law_undone()
     ensures sound { (c : Content) → first_fault_today c ≡ None → IsTable c.count c.table → IsGeometry c.extent c.block c.entries → PlainSound (undone_content c) }
-    ensures images { (c : Content) → first_fault_today c ≡ None → IsTable c.count c.table → IsGeometry c.extent c.block c.entries → (n : Name) → image_of (undone_content c) n ≡ image_of c n }
+    ensures images { (c : Content) → first_fault_today c ≡ None → IsTable c.count c.table → IsGeometry c.extent c.block c.entries → (n : Name) → image_of (undone_content c) n ≡ image_back c n }
+    ensures rows { (c : Content) → first_fault_today c ≡ None → IsTable c.count c.table → IsGeometry c.extent c.block c.entries
+        → (disk base twin : List ℕ) → making c.table ≡ Clone disk base twin ∷ [] → (n : Name) → rows (undone c.table) n ≡ row_back c.table n }
     ensures disks { (c : Content) → first_fault_today c ≡ None → IsTable c.count c.table → IsGeometry c.extent c.block c.entries → disks (undone_content c) ≡ disks c }
     ensures opened { (c : Content) → first_fault_today c ≡ None → IsTable c.count c.table → IsGeometry c.extent c.block c.entries → opened (undone_content c) ≡ opened c }
+    ensures holding { (c : Content) → first_fault_today c ≡ None → IsTable c.count c.table → IsGeometry c.extent c.block c.entries → HasNoEmptySlot c → HasNoEmptySlot (undone_content c) }
     ensures table { (c : Content) → first_fault_today c ≡ None → IsTable c.count c.table → IsGeometry c.extent c.block c.entries → IsTable c.count (undone c.table) }
+    ensures few { (t : VolumeTable) → length (undo_changes t) ≤ 5 }
+    ensures permits { (c : Content) → first_fault_today c ≡ None → IsTable c.count c.table → IsGeometry c.extent c.block c.entries → AllPermit c.count c.table (undo_changes c.table) }
+    ensures tables { (c : Content) → first_fault_today c ≡ None → IsTable c.count c.table → IsGeometry c.extent c.block c.entries → (v : VolumeTable) → IsUndoing c.table v → IsTable c.count v }
     ensures kept { (c : Content) → first_fault_today c ≡ None → IsTable c.count c.table → IsGeometry c.extent c.block c.entries → HasNoEmptySlot c
         → (v : VolumeTable) (area : ℕ → List ℕ) → IsUndoing c.table v → IsSameArea c area → IsKept (with_table c v area) }
     ensures shown { (c : Content) → first_fault_today c ≡ None → IsTable c.count c.table → IsGeometry c.extent c.block c.entries

@@ -12,7 +12,7 @@ use Rattle.common_laws.specs.Lists.{In}
 use Rattle.sm_record.specs.declared.records.Reading.TheVariants.{Free}
 use Rattle.sm_record.proofs.RoundTrips.{reading_zeros}
 use Rattle.sm_standing.specs.Contents.{reading_at, sectors_of}
-use Rattle.sm_standing.specs.Checks.{is_damaged, is_invalid, is_misnamed}
+use Rattle.sm_standing.specs.Checks.{is_damaged, is_invalid, is_misnamed, is_tree_wrong}
 use Rattle.sm_standing.specs.Images.{image_of}
 use Rattle.sm_standing.specs.Outlines.{outline}
 use Rattle.standing_examples.specs.SmallContents.{record_row, empty_content}
@@ -57,7 +57,7 @@ empty_sound extents long = record {
   few_images = omega arith;
   named = each_alone extents (λ r. is_misnamed (empty_content extents).table r ≡ false) refl;
   valid = each_alone extents (λ r. is_invalid (outline (empty_content extents)) r ≡ false) refl;
-  parentless = λ u i is. absurd (none-some i (sym (no_image extents u) ∙ is));
+  placed = each_alone extents (λ r. is_tree_wrong (outline (empty_content extents)) r ≡ false) refl;
   right = λ k below. ap is_damaged (free_everywhere extents k);
   recorded = λ u n is. absurd (none-some n (sym (nowhere extents u) ∙ is));
 }

@@ -1,13 +1,13 @@
--- Small outlines: one of a thin disk, with its table while the disk's image is being enlarged, and one of a VHD disk beside a
--- raw one.
-use Rattle.std.specs.Prelude.{ℕ, Bool, ◌==◌, false, List, [], ◌∷◌, ◌++◌, map, Option, None, Some, if◌then◌else◌}
+-- Small outlines: one of a thin disk, with its table while the disk's image is being enlarged, one of a VHD image beside a raw
+-- one, and one of a disk that is being forked.
+use Rattle.std.specs.Prelude.{ℕ, Bool, ◌==◌, false, true, bytes_eq, List, [], ◌∷◌, ◌++◌, map, Option, None, Some, if◌then◌else◌}
 use Rattle.sm_base.specs.declared.names.Name.{Name}
-use Rattle.sm_base.specs.declared.names.Name.TheVariants.{Vhd, Raw, Inflate}
-use Rattle.vg_meta.specs.Tables.{VolumeTable}
+use Rattle.sm_base.specs.declared.names.Name.TheVariants.{Vhd, Raw, Old, Clone, Inflate}
+use Rattle.vg_meta.specs.Tables.{Row, VolumeTable}
 use Rattle.sm_record.specs.declared.records.Reading.{Reading}
 use Rattle.sm_record.specs.declared.records.Reading.TheVariants.{Free, Taken}
 use Rattle.sm_standing.specs.Outlines.{Outline, Link}
-use Rattle.standing_examples.specs.SmallContents.{one, two, record_row, sized_row}
+use Rattle.standing_examples.specs.SmallContents.{one, two, three, record_row, sized_row}
 
 -- the volume of records, and the image of a disk of four blocks of 8 sectors, which has one extent of 32 sectors
 abbrev pub thin_table : VolumeTable
@@ -31,9 +31,17 @@ enlarging_table = record { sequence = 6; volumes = sized_row false (Inflate one 
 abbrev pub entries_table : List Name → VolumeTable
 entries_table entries = record { sequence = 6; volumes = map (λ n. sized_row false n []) entries ++ record_row (0 ∷ 1 ∷ 2 ∷ 3 ∷ 4 ∷ 5 ∷ 6 ∷ 7 ∷ 8 ∷ 9 ∷ 10 ∷ 11 ∷ 12 ∷ 13 ∷ 14 ∷ 15 ∷ []) ∷ sized_row false (Vhd one) (16 ∷ 17 ∷ 18 ∷ []) ∷ [] }
 
--- a raw disk two beside the image of the VHD disk one, which may be hidden
-abbrev pub mixed_table : Bool → VolumeTable
-mixed_table hidden = record { sequence = 6; volumes = sized_row false (Raw two) (17 ∷ []) ∷ record_row (0 ∷ 1 ∷ 2 ∷ 3 ∷ 4 ∷ 5 ∷ 6 ∷ 7 ∷ 8 ∷ 9 ∷ 10 ∷ 11 ∷ 12 ∷ 13 ∷ 14 ∷ 15 ∷ []) ∷ record { name = Vhd one; hidden = hidden; fresh = false; extents = 16 ∷ [] } ∷ [] }
+-- an old leaf of the image, and no entry
+abbrev pub old_table : VolumeTable
+old_table = record { sequence = 6; volumes = record_row (0 ∷ 1 ∷ 2 ∷ 3 ∷ 4 ∷ 5 ∷ 6 ∷ 7 ∷ 8 ∷ 9 ∷ 10 ∷ 11 ∷ 12 ∷ 13 ∷ 14 ∷ 15 ∷ []) ∷ sized_row false (Old one) (17 ∷ []) ∷ sized_row false (Vhd one) (16 ∷ []) ∷ [] }
+
+-- a volume that is not new, and may be hidden
+abbrev pub image_row : Bool → Name → List ℕ → Row
+image_row hidden n extents = record { name = n; hidden = hidden; fresh = false; extents = extents }
+
+-- a raw image two beside the VHD image one; each may be hidden
+abbrev pub mixed_table : Bool → Bool → VolumeTable
+mixed_table raw_hidden vhd_hidden = record { sequence = 6; volumes = image_row raw_hidden (Raw two) (17 ∷ []) ∷ record_row (0 ∷ 1 ∷ 2 ∷ 3 ∷ 4 ∷ 5 ∷ 6 ∷ 7 ∷ 8 ∷ 9 ∷ 10 ∷ 11 ∷ 12 ∷ 13 ∷ 14 ∷ 15 ∷ []) ∷ image_row vhd_hidden (Vhd one) (16 ∷ []) ∷ [] }
 
 -- the VHD image may have a parent
 abbrev pub mixed_links : Option Name → Name → Option Link
@@ -44,5 +52,21 @@ mixed_links parent _ = None
 abbrev pub two_records : ℕ → Reading
 two_records k = if k == 1 then Taken (record { uuid = two; label = []; origin = None; read_only = false }) else one_record k
 
-abbrev pub mixed_outline : Bool → Option Name → Outline
-mixed_outline hidden parent = record { extent = 32; block = 8; entries = 64; table = mixed_table hidden; links = mixed_links parent; readings = two_records }
+abbrev pub mixed_outline : Bool → Bool → Option Name → Outline
+mixed_outline raw_hidden vhd_hidden parent = record { extent = 32; block = 8; entries = 64; table = mixed_table raw_hidden vhd_hidden; links = mixed_links parent; readings = two_records }
+
+-- the disk one is being forked: its image is the hidden base two, its own new image is filled, and that of the twin three is new
+abbrev pub forking_table : VolumeTable
+forking_table = record {
+  sequence = 10;
+  volumes = record_row (0 ∷ 1 ∷ 2 ∷ 3 ∷ 4 ∷ 5 ∷ 6 ∷ 7 ∷ 8 ∷ 9 ∷ 10 ∷ 11 ∷ 12 ∷ 13 ∷ 14 ∷ 15 ∷ [])
+      ∷ image_row false (Vhd one) (17 ∷ []) ∷ image_row true (Vhd two) (16 ∷ []) ∷ sized_row true (Vhd three) (18 ∷ []) ∷ image_row false (Clone one two three) [] ∷ [];
+}
+
+-- the disk's new image may have another parent than the base
+abbrev pub forking_links : Option Name → Name → Option Link
+forking_links parent (Vhd u) = if bytes_eq u two then Some (record { size = 32; parent = None }) else if bytes_eq u one then Some (record { size = 32; parent = parent }) else None
+forking_links parent _ = None
+
+abbrev pub forking_outline : Option Name → Outline
+forking_outline parent = record { extent = 32; block = 8; entries = 64; table = forking_table; links = forking_links parent; readings = one_record }

@@ -1,16 +1,17 @@
-//! What a guest writes is no part of an outline; an image that is being enlarged, and that undone; and what today's checks pass.
+//! What a guest writes is no part of an outline; an image that is being enlarged, and a disk that is being forked, and either
+//! undone; and what today's checks pass.
 
-ghost use Rattle.std.specs.Prelude.{◌≡◌, ◌∷◌, ◌<◌, ℕ, [], List, None, Some, false, true};
+ghost use Rattle.std.specs.Prelude.{◌≡◌, ◌∷◌, ◌<◌, ℕ, [], List, None, Some, false, take, true};
 ghost use Rattle.sm_base.specs.declared.faults.Place.TheVariants as at;
-ghost use Rattle.sm_base.specs.declared.names.Name.TheVariants.{Vhd, Raw, Inflate, Relink};
+ghost use Rattle.sm_base.specs.declared.names.Name.TheVariants.{Vhd, Raw, Old, Clone, Inflate, Relink};
 ghost use Rattle.sm_standing.specs.Besides.{IsBeside};
 ghost use Rattle.sm_standing.specs.Checks.{fault_of, fault_today_of, first_fault};
 ghost use Rattle.sm_standing.specs.Enlarging.{IsEnlarging};
 ghost use Rattle.sm_standing.specs.Outlines.{outline};
 ghost use Rattle.sm_standing.specs.Standing.{standing_volume};
-ghost use Rattle.sm_standing.specs.Undone.{IsBeingEnlarged, half_undone, undone};
-ghost use Rattle.standing_examples.specs.SmallContents.{lone_raw, one, two, sized_row};
-ghost use Rattle.standing_examples.specs.SmallOutlines.{thin_outline, thin_table, enlarging_table, entries_table, mixed_outline};
+ghost use Rattle.sm_standing.specs.Undone.{IsBeingEnlarged, applied_all, undo_changes, undone, undone_from};
+ghost use Rattle.standing_examples.specs.SmallContents.{lone_raw, one, two, three, four, record_row, sized_row};
+ghost use Rattle.standing_examples.specs.SmallOutlines.{thin_outline, thin_table, enlarging_table, entries_table, old_table, mixed_outline, forking_table, forking_outline};
 
 /// A guest writes into a raw disk, behind the records: the outline is as it was, and so is the first fault.
 pub fn example_outline()
@@ -28,25 +29,40 @@ pub fn example_enlarging()
     ensures beside { IsBeside thin_outline (record thin_outline { table = enlarging_table }) (one ∷ []) }
 {}
 
-/// A raw disk beside a VHD disk passes today's checks; a VHD disk with a parent stops at the tree, and a hidden VHD image at
-/// the image. The entry of an enlargement passes, a second one and one at no stage do not, and any other entry is named in front
-/// of these.
+/// A raw disk beside a VHD disk passes today's checks. So does a hidden VHD image beside it, and a VHD disk over the raw image where
+/// that is hidden; over a visible one it stops at the tree, and an old leaf stops at the image. The entry of an enlargement passes,
+/// a second one and one at no stage do not, and an entry of a link is named in front of these. The entry of a fork passes where the
+/// base is the only parent of its new images.
 pub fn example_today()
-    ensures passes { fault_today_of (mixed_outline false None) ≡ None }
-    ensures parent { fault_today_of (mixed_outline false (Some (Raw two))) ≡ Some (at.Tree (Vhd one)) }
-    ensures hidden { fault_today_of (mixed_outline true None) ≡ Some (at.Image (Vhd one)) }
+    ensures passes { fault_today_of (mixed_outline false false None) ≡ None }
+    ensures hidden { fault_today_of (mixed_outline false true None) ≡ None }
+    ensures child { fault_today_of (mixed_outline true false (Some (Raw two))) ≡ None }
+    ensures parent { fault_today_of (mixed_outline false false (Some (Raw two))) ≡ Some (at.Tree (Vhd one)) }
+    ensures old { fault_today_of (record thin_outline { table = old_table }) ≡ Some (at.Image (Old one)) }
     ensures enlarging { fault_today_of (record thin_outline { table = enlarging_table }) ≡ None }
     ensures second { fault_today_of (record thin_outline { table = entries_table (Inflate one 1 ∷ Inflate one 2 ∷ []) }) ≡ Some (at.Journal (Inflate one 2)) }
     ensures lost { fault_today_of (record thin_outline { table = entries_table (Inflate one 4 ∷ []) }) ≡ Some (at.Journal (Inflate one 4)) }
     ensures other { fault_today_of (record thin_outline { table = entries_table (Inflate one 1 ∷ Inflate one 2 ∷ Relink one two ∷ []) }) ≡ Some (at.Journal (Relink one two)) }
+    ensures fork { fault_today_of (forking_outline (Some (Vhd two))) ≡ None }
+    ensures unlinked { fault_today_of (forking_outline None) ≡ Some (at.Journal (Clone one two three)) }
 {}
 
 /// A thin disk of one extent got two more, and a stop came: it is cut to one extent, and the entry is removed. Where it got none
 /// yet the entry goes at once, and a table without the entry stays as it is.
 pub fn example_undone()
     ensures being { IsBeingEnlarged enlarging_table one 1 }
-    ensures cut { half_undone enlarging_table ≡ record { sequence = 7; volumes = sized_row false (Inflate one 1) [] ∷ thin_table.volumes } }
+    ensures cut { applied_all enlarging_table (take 1 (undo_changes enlarging_table)) ≡ record { sequence = 7; volumes = sized_row false (Inflate one 1) [] ∷ thin_table.volumes } }
     ensures undone { undone enlarging_table ≡ record { sequence = 8; volumes = thin_table.volumes } }
     ensures at_once { undone (record { sequence = 5; volumes = sized_row false (Inflate one 1) [] ∷ thin_table.volumes }) ≡ record { sequence = 6; volumes = thin_table.volumes } }
     ensures none { undone thin_table ≡ thin_table }
+{}
+
+/// A disk was being forked, its own new image filled and that of the twin not yet: the new images go, and the base is shown and
+/// takes the disk's name. That is the name that the image had; what speaks of no fork has its own.
+pub fn example_fork_undone()
+    ensures undone { undone forking_table ≡ record { sequence = 15; volumes = record_row (0 ∷ 1 ∷ 2 ∷ 3 ∷ 4 ∷ 5 ∷ 6 ∷ 7 ∷ 8 ∷ 9 ∷ 10 ∷ 11 ∷ 12 ∷ 13 ∷ 14 ∷ 15 ∷ []) ∷ sized_row false (Vhd one) (16 ∷ []) ∷ [] } }
+    ensures image { undone_from forking_table (Vhd one) ≡ Some (Vhd two) }
+    ensures base { undone_from forking_table (Vhd two) ≡ None }
+    ensures twin { undone_from forking_table (Vhd three) ≡ None }
+    ensures other { undone_from forking_table (Vhd four) ≡ Some (Vhd four) }
 {}

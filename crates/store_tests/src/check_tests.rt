@@ -191,7 +191,7 @@ fn sizes(rt: HostRuntime) -> Result<(), Fail> {
     answers(&rt, rt.alloc(), 3, &alone, image(first()))?;
     answers(&rt, rt.alloc(), 4, &alone, disk(first()))?;
     let hidden = [make(first()), hide(), Step::Nothing];
-    answers(&rt, rt.alloc(), 4, &hidden, image(first()))
+    answers(&rt, rt.alloc(), 4, &hidden, None)
 }
 
 /// The sequence number is 2 once a base image is made, so the number in its UUID is at most 1.
@@ -220,5 +220,43 @@ fn order(rt: HostRuntime) -> Result<(), Fail> {
         4,
         &[make(first()), hide(), journal()],
         ahead,
+    )
+}
+
+/// The entry of a fork whose base was made at this sequence number.
+fn fork(number: u8) -> Name {
+    Name::Clone {
+        disk: first(),
+        base: base(number),
+        twin: Uuid::from_bytes([0, 0, 0, 0, 0, 0, 0x40, 0, 0x80, 0, 0, 0, 0, 0, 0, 2]),
+    }
+}
+
+fn forking(number: u8) -> Step {
+    Step::Make {
+        name: fork(number),
+        fresh: false,
+        extent: None,
+    }
+}
+
+/// A fork stands at a stage where the disk's image is visible, or where the base is there in its place: then what is wanting is the
+/// disk's record alone. It stands at none where the disk's image is hidden, nor where its base is still to come.
+#[test]
+fn forks(rt: HostRuntime) -> Result<(), Fail> {
+    let begun = [make(first()), forking(1), Step::Nothing];
+    answers(&rt, rt.alloc(), 4, &begun, disk(first()))?;
+    let renamed = [make(base(1)), forking(1), Step::Nothing];
+    answers(&rt, rt.alloc(), 4, &renamed, disk(first()))?;
+    let lost = damaged(Place::Journal { name: fork(1) });
+    let hidden = [make(first()), hide(), forking(1)];
+    answers(&rt, rt.alloc(), 4, &hidden, lost)?;
+    let late = damaged(Place::Journal { name: fork(9) });
+    answers(
+        &rt,
+        rt.alloc(),
+        4,
+        &[make(first()), forking(9), Step::Nothing],
+        late,
     )
 }

@@ -11,4 +11,4 @@ returns c = λ seen is.
     let fourth : entry_ahead_fault seen ≡ None = sym (c.in_default-entry_fault.ensures seen is.table) in
     let fifth : second_entry_fault seen ≡ None = sym (c.in_default-second_fault.ensures seen is.table fourth) in
     let sixth : lost_entry_fault seen ≡ None = sym (c.in_default-lost_fault.ensures seen is.table fourth) in
-    c.image_fault.ensures seen is.table ∙ sym (last_of _ first second third fourth fifth sixth)
+    c.old_fault.ensures seen is.table fourth ∙ sym (last_of _ first second third fourth fifth sixth)

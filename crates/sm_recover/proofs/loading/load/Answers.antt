@@ -6,7 +6,7 @@ use Rattle.common_laws.proofs.Lists.{length-insert_by}
 use Rattle.vg_volumes.proofs.StoredLaws.{reads_then}
 use Rattle.vhd_chain.specs.Trees.{Tree, is_before}
 use Rattle.vhd_chain.specs.declared.rows.TreeRow.{TreeRow}
-use Rattle.sm_recover.specs.Loaded.{AreRowsOf, HasEachRow, stored_undone}
+use Rattle.sm_recover.specs.Loaded.{AreRowsOf, HasEachRow, stored_read}
 use Rattle.sm_recover.proofs.OpeningLaws.{if_err, if_none, if_some}
 use Rattle.sm_recover.proofs.LoadedLaws.{each_none, each_some, name_free, one_less, rows_none, rows_some}
 use Rattle.sm_recover.proofs.TurnLaws.{all_read, few_read, filled_read, read_filled, read_rows, row_kept_as, stopped_at, turn, volume_named}
@@ -73,8 +73,8 @@ loop-index-preserved g c =
             only = only;
             rows = subst (AreRowsOf (rows_alone (take (c.loop-index.index + 1) (read_rows (g.S.Store.table c.args.store.now))))) (sym same)
                 (rows_some t.item c.loop-index.tree.rows w.in-Some.row i.rows (filled_read (making (table_alone (g.S.Store.table c.args.store.now))) found.0) row.named row.hidden row.extents);
-            each = subst (HasEachRow g.S.Store.told (stored_undone g.S.Store c.args.store.now) (rows_alone (take (c.loop-index.index + 1) (read_rows (g.S.Store.table c.args.store.now))))) (sym same)
-                (each_some t.item g.S.Store.told (stored_undone g.S.Store c.args.store.now) c.loop-index.tree.rows i.each w.in-Some.row i.rows (filled_read (making (table_alone (g.S.Store.table c.args.store.now))) found.0) row);
+            each = subst (HasEachRow g.S.Store.told (stored_read g.S.Store c.args.store.now) (rows_alone (take (c.loop-index.index + 1) (read_rows (g.S.Store.table c.args.store.now))))) (sym same)
+                (each_some t.item g.S.Store.told (stored_read g.S.Store c.args.store.now) c.loop-index.tree.rows i.each w.in-Some.row i.rows (filled_read (making (table_alone (g.S.Store.table c.args.store.now))) found.0) row);
             room = subst (λ (z : Tree). 500 ≤ length z.rows + z.spare) (sym w.tree-is)
                 (omega (arith, i.room, w.add.ensures.spare, ap (λ (xs : List TreeRow). length xs) w.add.ensures.rows, length-insert_by is_before w.in-Some.row c.loop-index.tree.rows));
           }
@@ -86,8 +86,8 @@ loop-index-preserved g c =
             only = only;
             rows = subst (AreRowsOf (rows_alone (take (c.loop-index.index + 1) (read_rows (g.S.Store.table c.args.store.now))))) (sym same)
                 (rows_none t.item c.loop-index.tree.rows i.rows (λ f. not_filled (read_filled (making (table_alone (g.S.Store.table c.args.store.now))) f)));
-            each = subst (HasEachRow g.S.Store.told (stored_undone g.S.Store c.args.store.now) (rows_alone (take (c.loop-index.index + 1) (read_rows (g.S.Store.table c.args.store.now))))) (sym same)
-                (each_none t.item g.S.Store.told (stored_undone g.S.Store c.args.store.now) c.loop-index.tree.rows i.each (λ f. not_filled (read_filled (making (table_alone (g.S.Store.table c.args.store.now))) f)));
+            each = subst (HasEachRow g.S.Store.told (stored_read g.S.Store c.args.store.now) (rows_alone (take (c.loop-index.index + 1) (read_rows (g.S.Store.table c.args.store.now))))) (sym same)
+                (each_none t.item g.S.Store.told (stored_read g.S.Store c.args.store.now) c.loop-index.tree.rows i.each (λ f. not_filled (read_filled (making (table_alone (g.S.Store.table c.args.store.now))) f)));
             room = subst (λ (z : Tree). 500 ≤ length z.rows + z.spare) (sym w.tree-is) i.room;
           }
     ]
@@ -100,5 +100,5 @@ returns-clause-rows g c =
 pub returns-clause-each : goal.returns-clause-each
 returns-clause-each g c =
     let long = ap (λ (xs : List RoomyRow). length xs) c.volumes-count.ensures.volumes ∙ ap (λ (k : RoomyTable). length k.rows) c.table.ensures.table in
-    subst (λ rs. HasEachRow g.S.Store.told (stored_undone g.S.Store c.args.store.now) rs c.loop-index.tree.rows)
+    subst (λ rs. HasEachRow g.S.Store.told (stored_read g.S.Store c.args.store.now) rs c.loop-index.tree.rows)
     (all_read (g.S.Store.table c.args.store.now) c.loop-index.index (omega (arith, c.loop-index-test.false, long))) c.loop-index.invariant.each

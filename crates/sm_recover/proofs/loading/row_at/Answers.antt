@@ -6,7 +6,7 @@ use Rattle.vg_meta.specs.Roomy.{table_alone}
 use Rattle.vg_volumes.specs.Stored.{sectors_in, stored}
 use Rattle.sm_machine.specs.WellFormed.{is_image_name}
 use Rattle.sm_standing.specs.Entries.{making}
-use Rattle.sm_recover.specs.Loaded.{FailsAt, IsFilledImage, IsRow, as_read, stored_undone}
+use Rattle.sm_recover.specs.Loaded.{FailsAt, IsFilledImage, IsRow, as_read, stored_read}
 use Rattle.sm_recover.proofs.OpeningLaws.{if_err}
 use Rattle.sm_recover.proofs.ReadLaws.{many, many_is, row_fails, row_few, row_in, row_is, row_named, row_read, row_size, row_some}
 use Rattle.sm_recover.proofs.TableLaws.{read_some, read_within}
@@ -59,7 +59,7 @@ returns-in_err-image-clause-cause g c =
     many_is c.extents_read-extents.ensures c.table-2.ensures.table c.name-name.ensures.name c.extents.ensures.extents in
     if_err _ c.from_residual.result c.in_err-image.field-0.0 is (λ r at.
     let same = row_is k c.requires.checked c.table.ensures.table c.volumes.ensures.volumes c.requires.within c.index-volumes-index.is r at in
-    subst (λ (z : Row). FailsAt g.S.Store (stored_undone g.S.Store c.args.store.now) (as_read (making (table_alone k)) z) c.in_err-image.field-0.0 c.args.store.now c.image_in.new.store) (sym same)
+    subst (λ (z : Row). FailsAt g.S.Store (stored_read g.S.Store c.args.store.now) (as_read (making (table_alone k)) z) c.in_err-image.field-0.0 c.args.store.now c.image_in.new.store) (sym same)
     (row_fails g.S.Store c.args.store.now q c.requires.checked there image c.in_err-image.field-0.0 c.image_in.new.store c.name-name.ensures.name extents filled.filled c.in_err-image.ensures.cause))
 
 pub returns-clause-some : goal.returns-clause-some
@@ -74,4 +74,4 @@ returns-clause-some g c = λ r at.
     many_is c.extents_read-extents.ensures c.table-2.ensures.table c.name-name.ensures.name c.extents.ensures.extents in
     let row = row_read g.S.Store c.args.store.now q c.requires.checked there image c.in_ok-image.image c.name-name.ensures.name extents c.is_hidden-hidden.ensures.hidden c.in_ok-image.ensures.name
     c.in_ok-image.ensures.image in
-    (subst IsFilledImage (sym same) filled, subst (λ (z : Row). IsRow g.S.Store.told (stored_undone g.S.Store c.args.store.now) (as_read (making (table_alone k)) z) (record { image = c.in_ok-image.image; hidden = c.is_hidden-hidden.result; extents = c.extents_read-extents.result })) (sym same) row)
+    (subst IsFilledImage (sym same) filled, subst (λ (z : Row). IsRow g.S.Store.told (stored_read g.S.Store c.args.store.now) (as_read (making (table_alone k)) z) (record { image = c.in_ok-image.image; hidden = c.is_hidden-hidden.result; extents = c.extents_read-extents.result })) (sym same) row)

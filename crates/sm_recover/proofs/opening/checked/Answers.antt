@@ -1,4 +1,4 @@
-use Rattle.std.proofs.Common.{◌≡◌, None, Some, Err, sym, ap, ◌∙◌, subst, subst₂, rules}
+use Rattle.std.proofs.Common.{◌≡◌, [], None, Some, Err, sym, ap, ◌∙◌, subst, subst₂, rules}
 use Rattle.sm_disk.specs.Held.{reads}
 use Rattle.vg_meta.specs.Roomy.{table_alone}
 use Rattle.vg_volumes.proofs.StoredLaws.{reads_then}
@@ -6,8 +6,8 @@ use Rattle.sm_standing.specs.Outlines.{outline}
 use Rattle.sm_ready.specs.Stores.{content_now}
 use Rattle.sm_recover.specs.Repairs.{IsOpeningStopped, IsUndoable}
 use Rattle.sm_recover.proofs.OpeningLaws.{agrees_before, damaged_before, records_fit, has_table, all_pass, all_say, stopped_by, if_err}
-use Rattle.sm_recover.specs.Faults.{HasOwnDisks}
-use Rattle.sm_recover.proofs.DiskLaws.{own_simple}
+use Rattle.sm_standing.specs.Entries.{folding}
+use Rattle.sm_standing.proofs.PlainDisks.{simple_folding}
 use Rattle.sm_recover.proofs.SeenLaws.{links_now}
 use Rattle.sm_recover.proofs.opening.checked.Goals as goal
 
@@ -35,8 +35,8 @@ returns-in_err-mgt-clause-cause g c =
 
 pub disk_fault-requires : goal.disk_fault-requires
 disk_fault-requires g c =
-    subst HasOwnDisks (sym (ap table_alone c.table.ensures.table ∙ c.load.ensures.reads.stays.table ∙ c.checked_images.ensures.reads.stays.table))
-    (own_simple (table_alone (g.S.Store.table c.args.store.now)) c.in_ok-tree.ensures.checked.simple)
+    subst (λ x. folding x ≡ []) (sym (ap table_alone c.table.ensures.table ∙ c.load.ensures.reads.stays.table ∙ c.checked_images.ensures.reads.stays.table))
+    (simple_folding (table_alone (g.S.Store.table c.args.store.now)).volumes c.in_ok-tree.ensures.checked.simple)
 
 pub returns-in-Some-clause-reads : goal.returns-in-Some-clause-reads
 returns-in-Some-clause-reads g c = reads_then c.checked_images.ensures.reads c.load.ensures.reads

@@ -1,4 +1,15 @@
+use Rattle.std.proofs.Common.{sym, ap, ◌∙◌, subst, arith}
+use Rattle.vg_meta.specs.Roomy.{table_alone}
 use Rattle.vg_volumes.proofs.StoredLaws.{reads_then}
+use Rattle.vhd_chain.specs.Reading.{AllAreTrue}
+use Rattle.sm_ready.specs.Orderly.{IsOrderly}
+use Rattle.sm_ready.specs.Ready.{IsReady}
+use Rattle.sm_standing.specs.Undone.{undone}
+use Rattle.sm_base.specs.declared.operations.Op.TheVariants.{Idle}
+use Rattle.sm_recover.specs.Backs.{CanGiveBack, rows_back}
+use Rattle.sm_recover.specs.Loaded.{stored_undone}
+use Rattle.sm_recover.proofs.MemoryLaws.{beside}
+use Rattle.sm_recover.proofs.RowsLaws.{can_give_back}
 use Rattle.sm_recover.proofs.OpenedWell.{opened_with, opened_ready, opened_true}
 use Rattle.sm_recover.proofs.opening.checked_with_room.Goals as goal
 
@@ -8,20 +19,46 @@ returns-in_default-clause-reads g c = reads_then c.checked.ensures.reads c.make_
 pub returns-in_default-new-clause-reads : goal.returns-in_default-new-clause-reads
 returns-in_default-new-clause-reads g c = reads_then c.checked.ensures.reads c.make_room.ensures.reads
 
+pub give_back-requires : goal.give_back-requires
+give_back-requires g c =
+    let k = c.in_ok-tree.ensures in
+    let same = ap table_alone c.table.ensures.table ∙ c.make_room.ensures.reads.stays.table ∙ c.checked.ensures.reads.stays.table in
+    subst (λ t. CanGiveBack t c.in_ok-tree.tree.rows) (sym same) (can_give_back g.S.Store c.args.store.now c.in_ok-tree.tree.rows k.checked k.rows)
+
 pub returns-clause-reads : goal.returns-clause-reads
 returns-clause-reads g c = reads_then c.checked.ensures.reads c.make_room.ensures.reads
 
 pub returns-clause-orderly : goal.returns-clause-orderly
 returns-clause-orderly g c =
     let k = c.in_ok-tree.ensures in
-    opened_with g.S.Store c.args.store.now c.in_ok-tree.tree.rows c.in_ok-tree.records k.checked k.rows k.each k.long k.passed c.in-Ok-new.attached c.in-Ok-new.ensures.disks c.in-Ok-new.ensures.counts
+    let store = c.args.store.now in
+    let was = table_alone (g.S.Store.table store) in
+    let same = ap table_alone c.table.ensures.table ∙ c.make_room.ensures.reads.stays.table ∙ c.checked.ensures.reads.stays.table in
+    let is = c.give_back.ensures.rows ∙ ap (λ t. rows_back t c.in_ok-tree.tree.rows) same in
+    subst (λ ys. IsOrderly (g.S.Store.site store) (undone was) (record { rows = ys; places = c.in_ok-tree.records; attached = c.in-Ok-new.attached; op = Idle })) (sym is)
+    (opened_with g.S.Store store (rows_back was c.in_ok-tree.tree.rows) c.in_ok-tree.records k.checked (beside g.S.Store store c.in_ok-tree.tree.rows c.in_ok-tree.records k.checked k.rows k.each k.long k.passed) k.long
+    c.in-Ok-new.attached c.in-Ok-new.ensures.disks c.in-Ok-new.ensures.counts)
 
 pub returns-clause-ready : goal.returns-clause-ready
 returns-clause-ready g c = λ told settled holding.
     let k = c.in_ok-tree.ensures in
-    opened_ready g.S.Store c.args.store.now c.in_ok-tree.tree.rows c.in_ok-tree.records k.checked k.rows k.each told settled holding c.in-Ok-new.attached (k.agrees told)
+    let store = c.args.store.now in
+    let was = table_alone (g.S.Store.table store) in
+    let same = ap table_alone c.table.ensures.table ∙ c.make_room.ensures.reads.stays.table ∙ c.checked.ensures.reads.stays.table in
+    let is = c.give_back.ensures.rows ∙ ap (λ t. rows_back t c.in_ok-tree.tree.rows) same in
+    subst (λ ys. IsReady (g.S.Store.site store) (undone was) (g.S.Store.area store) (record { rows = ys; places = c.in_ok-tree.records; attached = c.in-Ok-new.attached; op = Idle })) (sym is)
+    (opened_ready g.S.Store store (rows_back was c.in_ok-tree.tree.rows) c.in_ok-tree.records k.checked (beside g.S.Store store c.in_ok-tree.tree.rows c.in_ok-tree.records k.checked k.rows k.each k.long k.passed)
+    told settled holding c.in-Ok-new.attached (k.agrees told))
 
 pub returns-clause-true_images : goal.returns-clause-true_images
 returns-clause-true_images g c = λ told settled.
     let k = c.in_ok-tree.ensures in
-    opened_true g.S.Store c.args.store.now c.in_ok-tree.tree.rows c.in_ok-tree.records k.checked k.rows k.each told settled
+    let store = c.args.store.now in
+    let was = table_alone (g.S.Store.table store) in
+    let same = ap table_alone c.table.ensures.table ∙ c.make_room.ensures.reads.stays.table ∙ c.checked.ensures.reads.stays.table in
+    let is = c.give_back.ensures.rows ∙ ap (λ t. rows_back t c.in_ok-tree.tree.rows) same in
+    subst (AllAreTrue (stored_undone g.S.Store store)) (sym is)
+    (opened_true g.S.Store store (rows_back was c.in_ok-tree.tree.rows) c.in_ok-tree.records k.checked (beside g.S.Store store c.in_ok-tree.tree.rows c.in_ok-tree.records k.checked k.rows k.each k.long k.passed) told settled)
+
+pub returns-clause-tree_room : goal.returns-clause-tree_room
+returns-clause-tree_room g c = let k = c.in_ok-tree.ensures in omega (arith, c.give_back.ensures.room, k.room)

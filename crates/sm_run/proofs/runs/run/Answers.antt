@@ -36,9 +36,8 @@ pub returns-in-Ok-ScriptEnd-clause-run : goal.returns-in-Ok-ScriptEnd-clause-run
 returns-in-Ok-ScriptEnd-clause-run g c = λ told ready kept begins.
     let r = rw c.in-Ok-ScriptEnd.field-0-is at c.in-Ok-ScriptEnd.ensures.read in
     let so = c.lines.invariant.run told ready kept begins in
-    let front = c.bytes-in-Ok-ScriptEnd.ensures ∙ r.kept in
     run-last _ _ _ c.answer.result _ _ _ _ _ _ _ _ (g.M.Steps.leaves c.lines.machine) (g.M.Steps.leaves c.answer.new.machine) _ _ _ _ r.bytes so r.in_line (some-line r.bytes c.bytes.result.now c.is_empty.result (c.bytes.ensures ∙ r.kept) c.is_empty.ensures c.if-is_empty.false) r.ends.0 r.ends.1 r.ends.2
-    (c.answer.ensures.answered told so.ready so.kept (so_far-faces _ _ _ _ _ _ _ (g.M.Steps.leaves c.lines.machine) _ _ so) r.bytes front)
+    (c.answer.ensures.answered told so.ready so.kept (so_far-faces _ _ _ _ _ _ _ (g.M.Steps.leaves c.lines.machine) _ _ so) r.bytes r.kept)
 
 pub returns-in-Ok-ScriptEnd-clause-beside : goal.returns-in-Ok-ScriptEnd-clause-beside
 returns-in-Ok-ScriptEnd-clause-beside g c = λ told. Keeps-then (c.lines.invariant.beside told) (c.answer.ensures.beside told)
@@ -52,9 +51,8 @@ lines-preserved g c = record {
   run = λ told ready kept begins.
       let r = rw c.in-Ok-Newline.field-0-is at c.in-Ok-Newline.ensures.read in
       let so = c.lines.invariant.run told ready kept begins in
-      let front = c.bytes-in-Ok-Newline.ensures ∙ r.kept in
       so_far-more _ _ _ _ _ _ _ _ _ _ _ (g.M.Steps.leaves c.lines.machine) (g.M.Steps.leaves c.answer-in-Ok-Newline.new.machine) _ _ _ _ r.bytes so r.in_line r.ends.0 r.ends.1
-      (c.in_ok-answer-in-Ok-Newline.ensures.answered told so.ready so.kept (so_far-faces _ _ _ _ _ _ _ (g.M.Steps.leaves c.lines.machine) _ _ so) r.bytes front);
+      (c.in_ok-answer-in-Ok-Newline.ensures.answered told so.ready so.kept (so_far-faces _ _ _ _ _ _ _ (g.M.Steps.leaves c.lines.machine) _ _ so) r.bytes r.kept);
   going_on = λ h. c.answer-in-Ok-Newline.ensures.going_on (c.lines.invariant.going_on h) (ok-not_device _ _ c.in_ok-answer-in-Ok-Newline.was);
   site = c.answer-in-Ok-Newline.ensures.site ∙ c.lines.invariant.site;
   beside = λ told. Keeps-then (c.lines.invariant.beside told) (c.answer-in-Ok-Newline.ensures.beside told);
@@ -67,8 +65,7 @@ pub returns-in_err-answer-in-Ok-Newline-clause-run : goal.returns-in_err-answer-
 returns-in_err-answer-in-Ok-Newline-clause-run g c = λ told ready kept begins.
     let r = rw c.in-Ok-Newline.field-0-is at c.in-Ok-Newline.ensures.read in
     let so = c.lines.invariant.run told ready kept begins in
-    let front = c.bytes-in-Ok-Newline.ensures ∙ r.kept in
-    let a = c.in_err-answer-in-Ok-Newline.ensures.answered told so.ready so.kept (so_far-faces _ _ _ _ _ _ _ (g.M.Steps.leaves c.lines.machine) _ _ so) r.bytes front in
+    let a = c.in_err-answer-in-Ok-Newline.ensures.answered told so.ready so.kept (so_far-faces _ _ _ _ _ _ _ (g.M.Steps.leaves c.lines.machine) _ _ so) r.bytes r.kept in
     let p = err_from_is_err_and c.from_residual.result c.from_residual.ensures.1 in
     rw (p.1, p.2) (run-cut_line _ _ _ c.in_err-answer-in-Ok-Newline.field-0.0 _ _ _ _ _ _ _ _ (g.M.Steps.leaves c.lines.machine) (g.M.Steps.leaves c.answer-in-Ok-Newline.new.machine)
     _ _ _ _ r.bytes so r.in_line r.ends.0 r.ends.1 a)

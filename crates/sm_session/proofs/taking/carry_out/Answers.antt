@@ -122,7 +122,7 @@ unfolding most_commits
 returns-in_ok-delete-in-Delete-clause-few_left g c = λ told t image l. subst (λ k. HasCommits (most_commits k) (table_alone (g.S.Store.table c.args.store.now)) t) (sym c.in-Delete.is) (c.delete.ensures.few_left told t image l)
 
 pub serve-requires-clause-guests : goal.serve-requires-clause-guests
-serve-requires-clause-guests g c = others_guests c.args.command.now c.requires.built c.in_default.not-Create c.in_default.not-Delete c.in_default.not-Label c.in_default.not-Resize c.in_default.not-List
+serve-requires-clause-guests g c = others_guests c.args.command.now c.requires.built c.in_default.not-Create c.in_default.not-Delete c.in_default.not-Label c.in_default.not-Resize c.in_default.not-Snapshot c.in_default.not-Clone c.in_default.not-List
 
 pub resize-requires-clause-kept_up : goal.resize-requires-clause-kept_up
 unfolding shape_in
@@ -160,3 +160,35 @@ returns-else-raw-clause-spared g c = of_reply (λ r. r ≡ No NoMemory → takes
 pub returns-in-List-clause-spared : goal.returns-in-List-clause-spared
 unfolding takes_memory
 returns-in-List-clause-spared g c = λ e. subst (λ k. takes_memory k ≡ true) (sym c.in-List.is) refl
+
+pub returns-in-Snapshot-clause-few : goal.returns-in-Snapshot-clause-few
+unfolding most_commits
+returns-in-Snapshot-clause-few g c = subst (λ k. HasCommits (most_commits k) (table_alone (g.S.Store.table c.args.store.now)) (table_alone (g.S.Store.table c.derive.new.store))) (sym c.in-Snapshot.is) c.derive.ensures.few
+
+pub returns-in-Snapshot-clause-few_left : goal.returns-in-Snapshot-clause-few_left
+unfolding most_commits
+returns-in-Snapshot-clause-few_left g c = λ told t image l. subst (λ k. HasCommits (most_commits k) (table_alone (g.S.Store.table c.args.store.now)) t) (sym c.in-Snapshot.is) (c.derive.ensures.few_left told t image l)
+
+pub returns-in-Snapshot-clause-spared : goal.returns-in-Snapshot-clause-spared
+unfolding takes_memory
+returns-in-Snapshot-clause-spared g c = of_reply (λ r. r ≡ No NoMemory → takes_memory c.args.command.now ≡ true) c.derive.result (λ r e. subst (λ k. takes_memory k ≡ true) (sym c.in-Snapshot.is) refl)
+
+pub returns-in-Snapshot-clause-taken : goal.returns-in-Snapshot-clause-taken
+returns-in-Snapshot-clause-taken g c = λ told ready.
+    subst (λ k. StoreTakes g.S.Store k c.args.store.now c.args.memory.now c.derive.new.store c.derive.new.memory c.derive.result) (sym c.in-Snapshot.is) (c.derive.ensures.taken told ready)
+
+pub returns-in-Clone-clause-few : goal.returns-in-Clone-clause-few
+unfolding most_commits
+returns-in-Clone-clause-few g c = subst (λ k. HasCommits (most_commits k) (table_alone (g.S.Store.table c.args.store.now)) (table_alone (g.S.Store.table c.derive-in-Clone.new.store))) (sym c.in-Clone.is) c.derive-in-Clone.ensures.few
+
+pub returns-in-Clone-clause-few_left : goal.returns-in-Clone-clause-few_left
+unfolding most_commits
+returns-in-Clone-clause-few_left g c = λ told t image l. subst (λ k. HasCommits (most_commits k) (table_alone (g.S.Store.table c.args.store.now)) t) (sym c.in-Clone.is) (c.derive-in-Clone.ensures.few_left told t image l)
+
+pub returns-in-Clone-clause-spared : goal.returns-in-Clone-clause-spared
+unfolding takes_memory
+returns-in-Clone-clause-spared g c = of_reply (λ r. r ≡ No NoMemory → takes_memory c.args.command.now ≡ true) c.derive-in-Clone.result (λ r e. subst (λ k. takes_memory k ≡ true) (sym c.in-Clone.is) refl)
+
+pub returns-in-Clone-clause-taken : goal.returns-in-Clone-clause-taken
+returns-in-Clone-clause-taken g c = λ told ready.
+    subst (λ k. StoreTakes g.S.Store k c.args.store.now c.args.memory.now c.derive-in-Clone.new.store c.derive-in-Clone.new.memory c.derive-in-Clone.result) (sym c.in-Clone.is) (c.derive-in-Clone.ensures.taken told ready)

@@ -2,7 +2,7 @@ use Rattle.std.proofs.Common.{refl, arith}
 use Rattle.sm_base.specs.declared.names.Name.TheVariants.{Vhd}
 use Rattle.vg_meta.specs.Changes.{with_row, without}
 use Rattle.vg_meta.specs.Tables.{row_of, name_eq}
-use Rattle.sm_standing.specs.Undone.{half_undone, undone}
+use Rattle.sm_standing.specs.Undone.{undo_changes, undone}
 use Rattle.standing_examples.specs.SmallContents.{sized_row}
 use Rattle.standing_examples.proofs.outlines.example_undone.Goals as goal
 
@@ -11,17 +11,17 @@ unfolding row_of name_eq
 returns-clause-being c = record { entry = refl; own = sized_row _ (Vhd _) _; there = refl; filled = refl; had = omega arith; some = omega arith }
 
 pub returns-clause-cut : goal.returns-clause-cut
-unfolding half_undone undone with_row without row_of name_eq
+unfolding undo_changes undone with_row without row_of name_eq
 returns-clause-cut c = refl
 
 pub returns-clause-undone : goal.returns-clause-undone
-unfolding half_undone undone with_row without row_of name_eq
+unfolding undo_changes undone with_row without row_of name_eq
 returns-clause-undone c = refl
 
 pub returns-clause-at_once : goal.returns-clause-at_once
-unfolding half_undone undone with_row without row_of name_eq
+unfolding undo_changes undone with_row without row_of name_eq
 returns-clause-at_once c = refl
 
 pub returns-clause-none : goal.returns-clause-none
-unfolding half_undone undone with_row without row_of name_eq
+unfolding undo_changes undone with_row without row_of name_eq
 returns-clause-none c = refl

@@ -1,0 +1,197 @@
+use Rattle.std.proofs.Common.{length, ◌≡◌, ap, ap₂, arith, refl, subst, subst₂, sym, unwrap_or, ◌∙◌}
+use Rattle.sm_base.specs.Names.{IsName}
+use Rattle.sm_disk.proofs.HeldLaws.{Keeps-then}
+use Rattle.vg_meta.specs.Roomy.{table_alone}
+use Rattle.vg_meta.specs.Tables.{VolumeTable}
+use Rattle.vg_volumes.specs.Sites.{Site}
+use Rattle.vg_volumes.specs.Stored.{stored}
+use Rattle.vhd_image.specs.Bodies.{sector_count, volume_name}
+use Rattle.vhd_image.specs.Made.{IsDiskSize, IsParentImage}
+use Rattle.vhd_chain.specs.Trees.{row_name, tree_row}
+use Rattle.vhd_chain.specs.declared.rows.TreeRow.{TreeRow}
+use Rattle.sm_mgt.specs.Places.{place_for}
+use Rattle.sm_ready.specs.declared.memory.Memory.{Memory}
+use Rattle.sm_ready.proofs.ChainLaws.{err_not_ok}
+use Rattle.sm_ready.proofs.RunLaws.{few_among}
+use Rattle.sm_clone.specs.Forking.{forked_rows, last_changes}
+use Rattle.sm_clone.proofs.ForkTrue.{IsForked}
+use Rattle.sm_clone.proofs.ForkedLaws.{IsForkedMemory, orderly_end, shape_end, site_then, table_then, tidy_end, true_end}
+use Rattle.sm_clone.proofs.DoneLaws.{begin_failed, end_failed, fill_failed, fork_done}
+use Rattle.sm_clone.proofs.MakingLaws.{apart, base_named, can_begin, can_end, few_own, few_twins, found_not, images_are, names, names_apart, no_base, no_leaf, no_twin, number_is, own_room, parent_is, places, size_is, three_spare, tree_room, twin_room, use_room}
+use Rattle.sm_clone.proofs.forking.make_fork.Given.{Over}
+use Rattle.sm_clone.proofs.forking.make_fork.Goals as goal
+
+pub unreachable-requires : goal.unreachable-requires
+unreachable-requires g c = found_not c.requires.can (sym c.take.ensures.taken ∙ c.in_default.is)
+
+pub overflow_cast-own_count : goal.overflow_cast-own_count
+overflow_cast-own_count g c = omega (arith, c.len-own_count.ensures, c.args.parts.own.ok.0, few_own c.requires.can)
+
+pub overflow_cast-twin_count : goal.overflow_cast-twin_count
+overflow_cast-twin_count g c = omega (arith, c.len-twin_count.ensures, c.args.parts.twins.ok.0, few_twins c.requires.can)
+
+pub begin-requires : goal.begin-requires
+begin-requires g c = can_begin c.requires.can
+
+pub returns-in_err-begin-clause-done : goal.returns-in_err-begin-clause-done
+returns-in_err-begin-clause-done g c = λ told ready.
+    begin_failed c.requires.can told ready _ _ (λ fine. err_not_ok _ tt c.from_residual.ensures.0 fine) c.in_err-begin.ensures.fails (c.begin.ensures.crash told)
+
+pub fill-requires-clause-own_room : goal.fill-requires-clause-own_room
+fill-requires-clause-own_room g c = own_room c.requires.can c.in_ok-begin.ensures.runs
+
+pub fill-requires-clause-twin_room : goal.fill-requires-clause-twin_room
+fill-requires-clause-twin_room g c = twin_room c.requires.can c.in_ok-begin.ensures.runs
+
+pub fill-requires-clause-apart : goal.fill-requires-clause-apart
+fill-requires-clause-apart g c = apart c.requires.can
+
+pub fill-requires-clause-size : goal.fill-requires-clause-size
+fill-requires-clause-size g c =
+    subst₂ (λ (z : Site) (r : TreeRow). IsDiskSize z.geometry (sector_count r.image)) (sym c.in_ok-begin.ensures.runs.site) (sym c.make_base.ensures)
+    (size_is c.requires.can c.in-Some.base (sym c.take.ensures.taken ∙ c.in-Some.is))
+
+pub fill-requires-clause-parent : goal.fill-requires-clause-parent
+fill-requires-clause-parent g c = subst (λ (r : TreeRow). IsParentImage r.image) (sym c.make_base.ensures) (parent_is c.requires.can c.in-Some.base (sym c.take.ensures.taken ∙ c.in-Some.is))
+
+pub fill-requires-clause-places : goal.fill-requires-clause-places
+fill-requires-clause-places g c = places c.requires.can c.in_ok-begin.ensures.runs
+
+pub returns-in_err-own-clause-beside : goal.returns-in_err-own-clause-beside
+returns-in_err-own-clause-beside g c = λ told. Keeps-then (c.in_ok-begin.ensures.runs.beside told) (c.fill.ensures.stays.beside told)
+
+pub returns-in_err-own-clause-few_left : goal.returns-in_err-own-clause-few_left
+returns-in_err-own-clause-few_left g c = λ told v image left.
+    let is = ap (λ (x : VolumeTable). x.sequence) (g.met.S.Store.leaves_now c.fill.new.store told (c.fill.ensures.stays.failed ∙ c.in_ok-begin.ensures.runs.usable) v image left).table_is in
+    omega (arith, is, ap (λ (x : VolumeTable). x.sequence) c.fill.ensures.stays.table, number_is c.requires.can c.in_ok-begin.ensures.runs)
+
+pub returns-in_err-own-clause-done : goal.returns-in_err-own-clause-done
+returns-in_err-own-clause-done g c = λ told ready.
+    let begun = c.in_ok-begin.ensures.runs in
+    fill_failed c.requires.can told ready begun c.fill.ensures.stays c.fill.ensures.middle _ _ (λ fine. err_not_ok _ tt c.from_residual-in_err-own.ensures.0 fine)
+    (g.met.S.Store.leaves_now c.fill.new.store told (c.fill.ensures.stays.failed ∙ begun.usable))
+
+pub end-requires : goal.end-requires
+end-requires g c = can_end c.requires.can c.in_ok-begin.ensures.runs c.fill.ensures.stays
+
+pub returns-in_err-end-clause-beside : goal.returns-in_err-end-clause-beside
+returns-in_err-end-clause-beside g c = λ told.
+    Keeps-then (c.in_ok-begin.ensures.runs.beside told) (Keeps-then (c.fill.ensures.stays.beside told) (c.in_err-end.ensures.fails.beside told))
+
+pub returns-in_err-end-clause-few_left : goal.returns-in_err-end-clause-few_left
+returns-in_err-end-clause-few_left g c = λ told v image left.
+    omega (
+      arith,
+      few_among (stored g.S.Store c.fill.new.store) (last_changes c.args.fork.now) v image (c.end.ensures.crash told v image left),
+      ap (λ (x : VolumeTable). x.sequence) c.fill.ensures.stays.table,
+      number_is c.requires.can c.in_ok-begin.ensures.runs,
+    )
+
+pub returns-in_err-end-clause-done : goal.returns-in_err-end-clause-done
+returns-in_err-end-clause-done g c = λ told ready.
+    end_failed c.requires.can told ready c.in_ok-begin.ensures.runs c.fill.ensures.stays c.fill.ensures.middle c.args.now c.make_base.new.row.image c.in-Some.base
+    (sym c.take.ensures.taken ∙ c.in-Some.is) (ap (λ (r : TreeRow). r.image) c.make_base.ensures) c.in_ok-own.ensures.filled _ _
+    (λ fine. err_not_ok _ tt c.from_residual-in_err-end.ensures.0 fine) c.in_err-end.ensures.fails (c.end.ensures.crash told)
+
+pub add_rows-requires-clause-room : goal.add_rows-requires-clause-room
+add_rows-requires-clause-room g c = three_spare c.requires.can c.take.new.self.spare c.in-Some.ensures.some c.requires.tree_room
+
+pub add_rows-requires-clause-names : goal.add_rows-requires-clause-names
+add_rows-requires-clause-names g c =
+    let base = ap row_name c.make_base.ensures ∙ base_named c.requires.can c.in-Some.base (sym c.take.ensures.taken ∙ c.in-Some.is) in
+    let own = ap row_name c.shown_row-own.ensures ∙ ap volume_name c.in_ok-own.ensures.own in
+    let twin = ap row_name c.shown_row-twin.ensures ∙ ap volume_name c.in_ok-own.ensures.twin in
+    let is = names c.requires.can in
+    (subst IsName (sym base) is.0, subst IsName (sym own) is.1, subst IsName (sym twin) is.2)
+
+pub add_rows-requires-clause-no_base : goal.add_rows-requires-clause-no_base
+add_rows-requires-clause-no_base g c =
+    ap₂ tree_row c.take.ensures.rows (ap row_name c.make_base.ensures ∙ base_named c.requires.can c.in-Some.base (sym c.take.ensures.taken ∙ c.in-Some.is)) ∙ no_base c.requires.can
+
+pub add_rows-requires-clause-no_own : goal.add_rows-requires-clause-no_own
+add_rows-requires-clause-no_own g c =
+    ap₂ tree_row c.take.ensures.rows (ap row_name c.shown_row-own.ensures ∙ ap volume_name c.in_ok-own.ensures.own) ∙ no_leaf c.requires.can
+
+pub add_rows-requires-clause-no_twin : goal.add_rows-requires-clause-no_twin
+add_rows-requires-clause-no_twin g c =
+    ap₂ tree_row c.take.ensures.rows (ap row_name c.shown_row-twin.ensures ∙ ap volume_name c.in_ok-own.ensures.twin) ∙ no_twin c.requires.can
+
+pub add_rows-requires-clause-apart : goal.add_rows-requires-clause-apart
+add_rows-requires-clause-apart g c =
+    let base = ap row_name c.make_base.ensures ∙ base_named c.requires.can c.in-Some.base (sym c.take.ensures.taken ∙ c.in-Some.is) in
+    let own = ap row_name c.shown_row-own.ensures ∙ ap volume_name c.in_ok-own.ensures.own in
+    let twin = ap row_name c.shown_row-twin.ensures ∙ ap volume_name c.in_ok-own.ensures.twin in
+    let apart = names_apart c.requires.can in
+    (λ is. apart.0 (sym base ∙ is ∙ own), λ is. apart.1 (sym base ∙ is ∙ twin), λ is. apart.2 (sym own ∙ is ∙ twin))
+
+pub note_uses-requires : goal.note_uses-requires
+note_uses-requires g c = record { room = use_room c.requires.can c.requires.room }
+
+-- ---- at the end
+
+-- what is in memory then
+abbrev last : (g : Over) (c : goal.After-note_uses g) → Memory
+last g c = record { tree = c.add_rows.new.tree; records = c.fill.new.records; attached = c.note_uses.new.attached; operation = c.args.memory.now.operation }
+
+rows_are : (g : Over) (c : goal.After-note_uses g) → c.add_rows.new.tree.rows ≡ forked_rows (g.S.Store.site c.args.store.now) (table_alone (g.S.Store.table c.args.store.now)) c.args.fork.now c.args.now
+    (length c.args.parts.own.items) (length c.args.parts.twins.items) (tree_row c.args.memory.now.tree.rows c.args.fork.now.own) c.args.memory.now.tree.rows
+rows_are g c =
+    let begun = c.in_ok-begin.ensures.runs in
+    let own : c.len-own_count.result ≡ length c.args.parts.own.items = omega (arith, c.len-own_count.ensures, c.args.parts.own.ok.0) in
+    let twins : c.len-twin_count.result ≡ length c.args.parts.twins.items = omega (arith, c.len-twin_count.ensures, c.args.parts.twins.ok.0) in
+    images_are c.requires.can c.args.now (table_alone (g.S.Store.table c.begin.new.store)).sequence _ _ (g.S.Store.site c.begin.new.store) c.in-Some.base c.make_base.new.row c.shown_row-own.result c.shown_row-twin.result _ _
+    c.take.new.self.rows c.add_rows.new.tree.rows (sym c.take.ensures.taken ∙ c.in-Some.is) c.take.ensures.rows c.make_base.ensures begun.site (number_is c.requires.can begun)
+    own twins c.in_ok-own.ensures.own c.in_ok-own.ensures.twin c.shown_row-own.ensures c.shown_row-twin.ensures c.add_rows.ensures.rows
+
+memory_is : (g : Over) (c : goal.After-note_uses g) → IsForkedMemory (g.S.Store.site c.args.store.now) (table_alone (g.S.Store.table c.args.store.now)) c.args.memory.now (last g c) c.args.fork.now
+    (length c.args.parts.own.items) (length c.args.parts.twins.items) c.args.entry c.args.now
+memory_is g c = record { rows = rows_are g c; records = c.in_ok-own.ensures.kept; uses = c.note_uses.ensures.uses; others = refl }
+
+calls : (g : Over) (c : goal.After-note_uses g) → IsForked g.S.Store c.args.store.now c.begin.new.store c.fill.new.store c.end.new.store c.args.fork.now c.args.parts.own.items c.args.parts.twins.items c.args.now
+    c.make_base.new.row.image (unwrap_or (place_for c.args.memory.now.records c.args.entry.uuid) 0) c.args.entry
+calls g c = record { first = c.in_ok-begin.ensures.runs; stays = c.fill.ensures.stays; middle = c.fill.ensures.middle; filled = c.in_ok-own.ensures.filled; last = c.in_ok-end.ensures.runs }
+
+pub returns-clause-beside : goal.returns-clause-beside
+returns-clause-beside g c = λ told.
+    Keeps-then (c.in_ok-begin.ensures.runs.beside told) (Keeps-then (c.fill.ensures.stays.beside told) (c.in_ok-end.ensures.runs.beside told))
+
+pub returns-clause-few_left : goal.returns-clause-few_left
+returns-clause-few_left g c = λ told v image left.
+    omega (
+      arith,
+      few_among (stored g.S.Store c.fill.new.store) (last_changes c.args.fork.now) v image (c.end.ensures.crash told v image left),
+      ap (λ (x : VolumeTable). x.sequence) c.fill.ensures.stays.table,
+      number_is c.requires.can c.in_ok-begin.ensures.runs,
+    )
+
+pub returns-clause-orderly_still : goal.returns-clause-orderly_still
+returns-clause-orderly_still g c =
+    let can = c.requires.can in
+    orderly_end can (last g c) c.args.now (site_then can c.args.now c.make_base.new.row.image (calls g c)) (table_then can c.args.now c.make_base.new.row.image (calls g c)) (memory_is g c)
+
+pub returns-clause-tidy_still : goal.returns-clause-tidy_still
+returns-clause-tidy_still g c =
+    let can = c.requires.can in
+    tidy_end can (last g c) c.args.now (site_then can c.args.now c.make_base.new.row.image (calls g c)) (table_then can c.args.now c.make_base.new.row.image (calls g c)) (memory_is g c)
+
+pub returns-clause-tree_room_still : goal.returns-clause-tree_room_still
+returns-clause-tree_room_still g c =
+    tree_room c.requires.can c.take.new.self c.add_rows.new.tree _ _ _ c.take.ensures.rows c.in-Some.ensures.some c.add_rows.ensures.rows c.add_rows.ensures.spare c.requires.tree_room
+
+pub returns-clause-true_still : goal.returns-clause-true_still
+returns-clause-true_still g c =
+    true_end c.requires.can c.args.now c.make_base.new.row.image (calls g c) c.in-Some.base (sym c.take.ensures.taken ∙ c.in-Some.is) (ap (λ (r : TreeRow). r.image) c.make_base.ensures) (last g c) (rows_are g c) c.requires.true_now
+
+pub returns-clause-images : goal.returns-clause-images
+returns-clause-images g c = rows_are g c
+
+pub returns-clause-shape : goal.returns-clause-shape
+returns-clause-shape g c =
+    let can = c.requires.can in
+    shape_end can (last g c) c.args.now (site_then can c.args.now c.make_base.new.row.image (calls g c)) (table_then can c.args.now c.make_base.new.row.image (calls g c)) (memory_is g c)
+
+pub returns-clause-done : goal.returns-clause-done
+returns-clause-done g c = λ told ready.
+    fork_done c.requires.can told ready c.in_ok-begin.ensures.runs c.fill.ensures.stays c.fill.ensures.middle c.args.now c.make_base.new.row.image c.in-Some.base
+    (sym c.take.ensures.taken ∙ c.in-Some.is) (ap (λ (r : TreeRow). r.image) c.make_base.ensures) c.in_ok-own.ensures.filled (last g c) _
+    c.in_ok-end.ensures.runs (c.end.ensures.crash told) (rows_are g c) c.in_ok-own.ensures.kept refl

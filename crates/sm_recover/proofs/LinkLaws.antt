@@ -1,0 +1,163 @@
+-- The check of a fork's entry by parents and children: what it says by the images in memory.
+use Rattle.std.proofs.Common.{◌≡◌, ◌⊎◌, arith, inl, inr, ⊎_elim, ℕ, ◌==◌, Bool, true, false, not, ◌&&◌, ◌||◌, List, [], ◌∷◌, ◌++◌, length, filter, Option, Some, None, refl, sym, ap, ap₂, ◌∙◌}
+use Rattle.std.specs.List.{find, list_any}
+use Rattle.std.proofs.lemmas.Bool.{and_parts, ne_eqb, true≢false}
+use Rattle.sm_base.specs.declared.faults.Place.{Place}
+use Rattle.sm_base.specs.declared.faults.Place.TheVariants as at
+use Rattle.sm_base.specs.declared.names.Name.{Name}
+use Rattle.sm_base.specs.declared.names.Name.TheVariants.{Mgt, Vhd, Raw, Old, Clone, Inflate, Coalesce, Relink, Leaf}
+use Rattle.vg_meta.specs.Roomy.{RoomyRow, RoomyTable, table_alone}
+use Rattle.vg_meta.specs.Tables.{Row}
+use Rattle.common_laws.specs.Lists.{In}
+use Rattle.common_laws.proofs.Booleans.{or_cases}
+use Rattle.common_laws.proofs.Lists.{In-append, In-filter, In-left, filter-In}
+use Rattle.sm_machine.specs.Shapes.{same_image}
+use Rattle.sm_machine.proofs.Changes.{list_any-some}
+use Rattle.vhd_image.specs.Bodies.{parent_name}
+use Rattle.vhd_chain.specs.Trees.{row_name, tree_row}
+use Rattle.vhd_chain.specs.declared.rows.TreeRow.{TreeRow}
+use Rattle.sm_standing.specs.Checks.{children, children_with, entry_ahead_fault, entry_link_fault, first_name, has_uuid, is_base_of, is_entry_ahead, is_entry_linked, name_in, parent_is, placed}
+use Rattle.sm_standing.specs.Entries.{is_fork_made}
+use Rattle.sm_standing.specs.Outlines.{Outline}
+use Rattle.sm_ready.specs.Outlined.{link_in}
+use Rattle.sm_ready.proofs.Orders.{In-tree_row}
+use Rattle.sm_recover.specs.Faults.{HasLinks, HasVolumes, is_fork_linked_in, is_new_over, is_other_child, is_over, is_unlinked_in}
+use Rattle.sm_recover.proofs.CheckLaws.{find_same, first_at, held_name, none_ahead}
+use Rattle.sm_recover.proofs.TableLaws.{own_name}
+use Rattle.sm_recover.proofs.TreeLaws.{named_vhd}
+
+In-right : {A : Type 0} (xs ys : List A) (x : A) → In x ys → In x (xs ++ ys)
+In-right [] ys x i = i
+In-right (y ∷ xs) ys x i = inr (In-right xs ys x i)
+
+-- a list of which an element is known
+not_empty : {A : Type 0} (xs : List A) (x : A) → In x xs → (length xs == 0) ≡ false
+not_empty [] x i = absurd i
+not_empty {A} (y ∷ xs) x i = ne_eqb (length (y ∷ xs)) 0 (λ e. absurd (omega (arith, e)))
+
+empty : {A : Type 0} (xs : List A) → ((x : A) → In x xs → ⊥) → (length xs == 0) ≡ true
+empty [] none = refl
+empty (x ∷ xs) none = absurd (none x (inl refl))
+
+pub any_some : {A : Type 0} (test : A → Bool) (xs : List A) → list_any test xs ≡ true → (x : A) × In x xs × (test x ≡ true)
+any_some test [] is = absurd (true≢false (sym is))
+any_some {A} test (x ∷ xs) is = by (test x) refl is (λ later. any_some test xs later)
+  where
+    by : (b : Bool) → test x ≡ b → (b || list_any test xs) ≡ true → (list_any test xs ≡ true → (y : A) × In y xs × (test y ≡ true)) → (y : A) × In y (x ∷ xs) × (test y ≡ true)
+    by true at is rest = (x, inl refl, at)
+    by false at is rest = let w = rest is in (w.0, inr w.1, w.2)
+
+-- by either order of its names
+turned : (u : List ℕ) (n : Name) → same_image n (Vhd u) ≡ same_image (Vhd u) n
+turned u n = named_vhd n u ∙ sym (own_name u n)
+
+module _ (xs : List TreeRow) (x : Outline) (links : HasLinks xs x) (seen : HasVolumes xs x) where
+  new_seen : (b u : List ℕ) → is_new_over xs b u ≡ is_base_of b (x.links (Vhd u))
+  new_seen b u = by (tree_row xs (Vhd u)) ∙ sym (ap (is_base_of b) (links (Vhd u)))
+    where
+      by : (o : Option TreeRow) → elim o as (λ _. Bool) [ None ↦ true | Some y ↦ is_over b y.image ] ≡ is_base_of b (link_in o)
+      by None = refl
+      by (Some y) = refl
+
+  module _ (d b w : List ℕ) where
+    abbrev other : Row → Bool
+    other r = not (same_image r.name (Vhd d) || same_image r.name (Vhd w))
+
+    -- a child by either name of the base
+    over_either : (o : Option Name) → elim o as (λ _. Bool) [ None ↦ false | Some q ↦ has_uuid b q ] ≡ true
+        → (elim o as (λ _. Bool) [ None ↦ false | Some q ↦ same_image q (Vhd b) ] ≡ true) ⊎ (elim o as (λ _. Bool) [ None ↦ false | Some q ↦ same_image q (Raw b) ] ≡ true)
+    over_either None is = absurd (true≢false (sym is))
+    over_either (Some q) is = or_cases (same_image q (Vhd b)) (same_image q (Raw b)) is
+
+    over_by : (o : Option Name) → (elim o as (λ _. Bool) [ None ↦ false | Some q ↦ same_image q (Vhd b) ] ≡ true) ⊎ (elim o as (λ _. Bool) [ None ↦ false | Some q ↦ same_image q (Raw b) ] ≡ true)
+        → elim o as (λ _. Bool) [ None ↦ false | Some q ↦ has_uuid b q ] ≡ true
+    over_by None (inl is) = is
+    over_by None (inr is) = is
+    over_by (Some q) (inl is) = ap (λ c. c || same_image q (Raw b)) is
+    over_by (Some q) (inr is) = by (same_image q (Vhd b))
+      where
+        by : (c : Bool) → (c || same_image q (Raw b)) ≡ true
+        by true = refl
+        by false = is
+
+    other_of : (n : Name) → (not (same_image (Vhd d) n) && not (same_image (Vhd w) n)) ≡ not (same_image n (Vhd d) || same_image n (Vhd w))
+    other_of n = by (same_image (Vhd d) n) (same_image (Vhd w) n) ∙ sym (ap₂ (λ p q. not (p || q)) (turned d n) (turned w n))
+      where
+        by : (p q : Bool) → (not p && not q) ≡ not (p || q)
+        by true q = refl
+        by false q = refl
+
+    abbrev ours : List Row
+    ours = children_with x b
+
+    -- a volume of another image that has the base as parent
+    found : (r : Row) → In r ours → other r ≡ true → (y : TreeRow) × In y xs × (is_other_child d b w y ≡ true)
+    unfolding children
+    found r i apart = by (tree_row xs r.name) refl
+      where
+        linked : (In r x.table.volumes) × ((parent_is (Vhd b) (x.links r.name) ≡ true) ⊎ (parent_is (Raw b) (x.links r.name) ≡ true))
+        linked = ⊎_elim (λ j. let v = In-filter (λ (q : Row). parent_is (Vhd b) (x.links q.name)) x.table.volumes r j in (v.0, inl v.1))
+            (λ j. let v = In-filter (λ (q : Row). parent_is (Raw b) (x.links q.name)) x.table.volumes r j in (v.0, inr v.1))
+            (In-append (children x (Vhd b)) (children x (Raw b)) r i)
+
+        by : (o : Option TreeRow) → tree_row xs r.name ≡ o → (y : TreeRow) × In y xs × (is_other_child d b w y ≡ true)
+        by None is =
+            let none = links r.name ∙ ap link_in is in
+            absurd (⊎_elim (λ e. true≢false (sym e ∙ ap (parent_is (Vhd b)) none)) (λ e. true≢false (sym e ∙ ap (parent_is (Raw b)) none)) linked.1)
+        by (Some y) is =
+            let v = In-tree_row xs r.name y is in
+            let there = links r.name ∙ ap link_in is in
+            let over = over_by (parent_name y.image) (⊎_elim (λ e. inl (sym (ap (parent_is (Vhd b)) there) ∙ e)) (λ e. inr (sym (ap (parent_is (Raw b)) there) ∙ e)) linked.1) in
+            (y, v.0, ap₂ (λ p q. p && q) over (other_of (row_name y) ∙ ap (λ n. not (same_image n (Vhd d) || same_image n (Vhd w))) v.1 ∙ apart))
+
+    listed : (y : TreeRow) → In y xs → is_other_child d b w y ≡ true → (r : Row) × In r (filter other ours)
+    unfolding children
+    listed y i is =
+        let r = seen y i in
+        let parts = and_parts (is_over b y.image) (not (same_image (Vhd d) (row_name y)) && not (same_image (Vhd w) (row_name y))) is in
+        let there : x.links r.0.name ≡ link_in (Some y) = links r.0.name ∙ ap (λ n. link_in (tree_row xs n)) r.2 ∙ r.3 in
+        let apart : other r.0 ≡ true = ap (λ n. not (same_image n (Vhd d) || same_image n (Vhd w))) r.2 ∙ sym (other_of (row_name y)) ∙ parts.1 in (
+          r.0,
+          filter-In other ours r.0 (⊎_elim
+              (λ e. In-left (children x (Vhd b)) (children x (Raw b)) r.0 (filter-In (λ (q : Row). parent_is (Vhd b) (x.links q.name)) x.table.volumes r.0 r.1 (ap (parent_is (Vhd b)) there ∙ e)))
+              (λ e. In-right (children x (Vhd b)) (children x (Raw b)) r.0 (filter-In (λ (q : Row). parent_is (Raw b) (x.links q.name)) x.table.volumes r.0 r.1 (ap (parent_is (Raw b)) there ∙ e)))
+              (over_either (parent_name y.image) parts.0)) apart,
+        )
+
+    others_seen : (length (filter other ours) == 0) ≡ not (list_any (is_other_child d b w) xs)
+    others_seen = by (list_any (is_other_child d b w) xs) refl
+      where
+        by : (c : Bool) → list_any (is_other_child d b w) xs ≡ c → (length (filter other ours) == 0) ≡ not c
+        by true is = let y = any_some (is_other_child d b w) xs is in let r = listed y.0 y.1 y.2 in not_empty (filter other ours) r.0 r.1
+        by false is = empty (filter other ours) (λ r i.
+            let v = In-filter other ours r i in
+            let y = found r v.0 v.1 in
+            true≢false (sym (list_any-some (is_other_child d b w) xs y.0 y.1 y.2) ∙ is))
+
+    fork_seen : is_fork_linked_in xs d b w ≡ (is_base_of b (x.links (Vhd d)) && (is_base_of b (x.links (Vhd w)) && (length (filter other ours) == 0)))
+    fork_seen = ap₂ (λ p q. p && q) (new_seen b d) (ap₂ (λ p q. p && q) (new_seen b w) (sym others_seen))
+
+  pub unlinked_seen : (n : Name) → is_entry_ahead n ≡ false → is_unlinked_in x.table xs n ≡ not (is_entry_linked x n)
+  unfolding is_entry_linked
+  unlinked_seen (Clone d b w) h = by (is_fork_made x.table d b w) (is_fork_linked_in xs d b w) ∙ ap (λ p. not (not (is_fork_made x.table d b w) || p)) (fork_seen d b w)
+    where
+      by : (p q : Bool) → (p && not q) ≡ not (not p || q)
+      by true q = refl
+      by false q = refl
+  unlinked_seen Mgt h = refl
+  unlinked_seen (Vhd u) h = refl
+  unlinked_seen (Raw u) h = refl
+  unlinked_seen (Old u) h = refl
+  unlinked_seen (Inflate u e) h = refl
+  unlinked_seen (Coalesce c p) h = absurd (true≢false h)
+  unlinked_seen (Relink c p) h = absurd (true≢false h)
+  unlinked_seen (Leaf l p) h = absurd (true≢false h)
+
+-- what is found among the volumes is what the check names
+pub links_at : (k : RoomyTable) (xs : List TreeRow) (x : Outline) {hs : List RoomyRow} {o : Option RoomyRow} {answer : Option Place} → x.table ≡ table_alone k → entry_ahead_fault x ≡ None → HasLinks xs x → HasVolumes xs x
+    → hs ≡ k.rows → o ≡ find (λ h. is_unlinked_in (table_alone k) xs h.row.name) hs → answer ≡ placed at.Journal (held_name o) → answer ≡ entry_link_fault x
+unfolding entry_link_fault first_name
+links_at k xs x is no_entry links seen held found said =
+    first_at at.Journal (λ t r. is_unlinked_in t xs r.name) k is held found said
+    ∙ ap (λ q. placed at.Journal (name_in q)) (find_same (λ r. is_unlinked_in x.table xs r.name) (λ r. not (is_entry_linked x r.name)) x.table.volumes
+    (λ r i. unlinked_seen xs x links seen r.name (none_ahead x no_entry r i)))

@@ -1,0 +1,48 @@
+-- Changes of a table, made one after the other by a commit each: what all of them make, and what stands while they are made.
+use Rattle.std.specs.Prelude.{◌≡◌, ℕ, ◌≤◌, Bool, false, List, [], ◌∷◌, ◌++◌, take, Option, None, Some}
+use Rattle.sm_base.specs.declared.names.Name.{Name}
+use Rattle.sm_base.specs.declared.names.Name.TheVariants.{Vhd}
+use Rattle.sm_disk.specs.Held.{Keeps, IsSettled}
+use Rattle.vg_meta.specs.Roomy.{table_alone}
+use Rattle.vg_meta.specs.Tables.{VolumeTable, rows}
+use Rattle.vg_meta.specs.declared.changes.Change.{Change}
+use Rattle.vg_meta.specs.declared.changes.Change.TheVariants.{Mark, Remove, Rename}
+use Rattle.vg_meta.specs.declared.changes.Tag.TheVariants.{Hidden}
+use Rattle.vg_volumes.specs.Stored.{Leaves, stored}
+use Rattle.vg_volumes.specs.declared.stores.Store.{Ghosts}
+use Rattle.sm_standing.specs.Entries.{of_row}
+use Rattle.sm_standing.specs.Opened.{under_name}
+use Rattle.sm_standing.specs.Undone.{applied_all, wanted}
+use Rattle.sm_ready.specs.Sessions.{HasRows}
+use Rattle.sm_recover.specs.Repairs.{IsLeftOf}
+
+-- the table behind the first so many of them
+abbrev pub IsPartOf : VolumeTable → List Change → VolumeTable → Type 0
+IsPartOf t cs v = (k : ℕ) × (v ≡ applied_all t (take k cs))
+
+-- some of them were made, in their order, and a stop leaves the table behind some, with what a read gave where nothing was pending
+pub record MakesPart {S : Type 0} (g : Ghosts S) (cs : List Change) (old new : S) : Type 0 where
+  pub site : g.site new ≡ g.site old
+  pub counts : g.faults old ≤ g.faults new
+  pub beside : g.told → Keeps (g.beside old) (g.beside new)
+  pub keeps : g.told → Keeps (g.area old) (g.area new)
+  pub part : IsPartOf (table_alone (g.table old)) cs (table_alone (g.table new))
+  pub left : Leaves g new (IsLeftOf (stored g old) (IsPartOf (table_alone (g.table old)) cs))
+
+-- and all of them were made
+pub record MakesAll {S : Type 0} (g : Ghosts S) (cs : List Change) (old new : S) : Type 0 where
+  pub usable : g.failed new ≡ false
+  pub table : table_alone (g.table new) ≡ applied_all (table_alone (g.table old)) cs
+  pub room : HasRows (g.table old) → HasRows (g.table new)
+  pub settled : g.told → IsSettled (g.area old) → IsSettled (g.area new)
+
+-- the changes that give a disk its base as image again, where the base is there: by whether the new image is there, and whether
+-- the base is hidden
+abbrev pub changes_of_base : List ℕ → Option Name → Bool → Bool → List Change
+changes_of_base disk None has_own hidden = []
+changes_of_base disk (Some base) has_own hidden = wanted has_own (Remove (Vhd disk)) ++ (wanted hidden (Mark base Hidden false) ++ Rename base (under_name base disk) ∷ [])
+
+-- whether the volume of a name, where there is one, is there and hidden
+abbrev pub is_marked : VolumeTable → Option Name → Bool
+is_marked t None = false
+is_marked t (Some n) = of_row (λ r. r.hidden) (rows t n)

@@ -1,0 +1,104 @@
+//! The check that looks at the images in memory beside the entry of a fork: its new images have the base as parent, and
+//! nothing else has.
+
+ghost use Rattle.std.specs.Prelude.{◌≡◌, None, find};
+ghost use Rattle.std.specs.List.{list_any};
+ghost use Rattle.std.specs.Option.{option_copied};
+ghost use Rattle.sm_standing.specs.Checks.{entry_ahead_fault, entry_link_fault, has_uuid};
+ghost use Rattle.sm_standing.specs.Outlines.{Outline};
+ghost use Rattle.vg_meta.specs.Roomy.{table_alone};
+ghost use Rattle.sm_recover.specs.Faults.{HasLinks, HasVolumes, is_fork_linked_in, is_new_over, is_other_child, is_over, is_unlinked_in};
+
+use crate::forks::is_fork_made;
+use crate::loading::is_vhd_of;
+use sm_base::{Name, Place};
+use uuid::Uuid;
+use vg_meta::{Table, Volume};
+use vhd_chain::{Tree, TreeRow};
+use vhd_image::Image;
+
+/// The entry of a fork whose images are linked otherwise than it says. Entries of the other group are not there.
+pub fn link_fault(table: &Table, tree: &Tree) -> Option<Place>
+    ensures { (x : Outline) → x.table ≡ table_alone table.now → entry_ahead_fault x ≡ None → HasLinks tree.now.rows x → HasVolumes tree.now.rows x
+        → result ≡ entry_link_fault x }
+{
+    let volume = first_unlinked(table.volumes(), table, tree)?;
+    Some(Place::Journal {
+        name: volume.name(),
+    })
+}
+
+fn first_unlinked<'a>(volumes: &'a [Volume], table: &Table, tree: &Tree) -> Option<&'a Volume>
+    ensures { option_copied result ≡ find (λ v. is_unlinked_in (table_alone table.now) tree.now.rows v.row.name) volumes.now }
+{
+    volumes
+        .iter()
+        .find(|volume| is_unlinked(&volume.name(), table, tree))
+}
+
+/// Whether a name is that of the entry of a fork whose base is there, and whose images are linked otherwise.
+fn is_unlinked(name: &Name, table: &Table, tree: &Tree) -> bool
+    ensures { result ≡ is_unlinked_in (table_alone table.now) tree.now.rows name.now }
+{
+    match name {
+        Name::Clone { disk, base, twin } => {
+            is_fork_made(table, disk, base, twin) && !is_linked(tree, disk, base, twin)
+        }
+        _ => false,
+    }
+}
+
+/// Whether the new images of a fork that are in memory have the base as parent, and no other has.
+fn is_linked(tree: &Tree, disk: &Uuid, base: &Uuid, twin: &Uuid) -> bool
+    ensures { result ≡ is_fork_linked_in tree.now.rows disk.now base.now twin.now }
+{
+    is_new_over(tree, base, disk)
+        && is_new_over(tree, base, twin)
+        && !has_other_child(tree.rows(), disk, base, twin)
+}
+
+/// Whether the VHD image of a UUID has the base as parent, where it is in memory.
+fn is_new_over(tree: &Tree, base: &Uuid, uuid: &Uuid) -> bool
+    ensures { result ≡ is_new_over tree.now.rows base.now uuid.now }
+{
+    match tree.get(&Name::Vhd(*uuid)) {
+        Some(row) => is_over(&row.image, base),
+        None => true,
+    }
+}
+
+/// Whether an image has the base as parent that is none of the new ones.
+fn has_other_child(rows: &[TreeRow], disk: &Uuid, base: &Uuid, twin: &Uuid) -> bool
+    ensures { result ≡ list_any (is_other_child disk.now base.now twin.now) rows.now }
+{
+    rows.iter().any(|row| is_other_child(row, disk, base, twin))
+}
+
+fn is_other_child(row: &TreeRow, disk: &Uuid, base: &Uuid, twin: &Uuid) -> bool
+    ensures { result ≡ is_other_child disk.now base.now twin.now row.now }
+{
+    let name = row.image.name();
+    is_over(&row.image, base) && !is_vhd_of(&name, disk) && !is_vhd_of(&name, twin)
+}
+
+/// Whether an image has a parent of this UUID.
+fn is_over(image: &Image, base: &Uuid) -> bool
+    ensures { result ≡ is_over base.now image.now }
+{
+    match image.parent() {
+        Some(parent) => has_uuid(&parent, base),
+        None => false,
+    }
+}
+
+/// Whether a name is that of a VHD or a raw image of this UUID.
+#[tactic(auto, unfolding(sm_machine::specs::Shapes::same_image))]
+fn has_uuid(name: &Name, uuid: &Uuid) -> bool
+    ensures { result ≡ has_uuid uuid.now name.now }
+{
+    match name {
+        Name::Vhd(own) => *own == *uuid,
+        Name::Raw(own) => *own == *uuid,
+        _ => false,
+    }
+}

@@ -1,5 +1,0 @@
-use Rattle.sm_standing.proofs.ImageSectors.{same_images}
-use Rattle.sm_stages.proofs.volumes.law_same_apart.Goals as goal
-
-pub returns : goal.returns
-returns c = same_images
