@@ -1,0 +1,4 @@
+mod ImageLaws
+mod PairLaws
+mod StepLaws
+mod PlanLaws

@@ -1,0 +1,86 @@
+//! The collector's next step.
+
+ghost use Rattle.std.specs.Prelude.{◌≡◌};
+ghost use Rattle.vg_meta.specs.Roomy.{table_alone};
+ghost use Rattle.sm_machine.specs.Collector as machine;
+ghost use Rattle.sm_machine.specs.Shapes.{children};
+ghost use Rattle.sm_ready.specs.Known.{known};
+ghost use Rattle.sm_ready.specs.Refusing.{Answers, Recalls};
+ghost use Rattle.gc_plan.specs.Planning.{Fills, fold_next};
+
+use crate::finding::{blocked, deflation, folding, removal};
+use crate::images::next_block;
+use crate::pairs::Kind;
+use sm_base::{Geometry, Name, Op, Plan};
+use sm_ready::Memory;
+use vg_extents::free;
+use vg_meta::Table;
+
+/// Nothing is to be removed or cut: the first image that can be folded.
+fn plan_fold(memory: &Memory, geometry: &Geometry, free: u32) -> Plan
+    ensures { Fills fold_next geometry.now free (known memory.now) result }
+{
+    match folding(memory, geometry, free, Kind::Hidden) {
+        Some(plan) => plan,
+        None => match folding(memory, geometry, free, Kind::Leaf) {
+            Some(plan) => plan,
+            None => blocked(memory, geometry, free),
+        },
+    }
+}
+
+/// No operation runs: the first rule that applies.
+fn plan_idle(table: &Table, memory: &Memory, geometry: &Geometry, extents: u32) -> Plan
+    ensures { Answers machine.plan_idle geometry.now extents (table_alone table.now) (known memory.now) result }
+{
+    match removal(memory) {
+        Some(plan) => plan,
+        None => match deflation(memory, geometry) {
+            Some(plan) => plan,
+            None => plan_fold(memory, geometry, free(table, extents)),
+        },
+    }
+}
+
+/// The next block to copy, or else what comes when all are copied.
+fn copy_or(done: Plan, block: Option<u32>) -> Plan
+    ensures { result ≡ machine.copy_or done block }
+{
+    match block {
+        Some(block) => Plan::Copy { block },
+        None => done,
+    }
+}
+
+/// A copy goes on while its child has children.
+fn plan_copy(memory: &Memory, child: &Name, cursor: u32) -> Plan
+    ensures { Recalls (λ σ. machine.plan_copy σ child.now cursor (children child.now σ.images)) (known memory.now) result }
+{
+    if memory.tree.child_count(child) == 0 {
+        return Plan::Abandon;
+    }
+    copy_or(Plan::Turn, next_block(memory, child, cursor))
+}
+
+/// The next child to link, or else the end.
+fn plan_relink(memory: &Memory, child: &Name) -> Plan
+    ensures { Recalls (λ σ. machine.relink_or (children child.now σ.images)) (known memory.now) result }
+{
+    match memory.tree.least_child(child) {
+        Some(child) => Plan::RelinkOne { child },
+        None => Plan::Finish,
+    }
+}
+
+/// The collector's next step, by table and memory alone. A repository has `extents` extents in all. It takes no memory and makes
+/// no call.
+pub fn plan(table: &Table, memory: &Memory, geometry: &Geometry, extents: u32) -> Plan
+    ensures exact { Answers machine.next_step geometry.now extents (table_alone table.now) (known memory.now) result }
+{
+    match memory.operation {
+        Op::Idle => plan_idle(table, memory, geometry, extents),
+        Op::Copy { child, cursor, .. } => plan_copy(memory, &child, cursor),
+        Op::Relink { child, .. } => plan_relink(memory, &child),
+        Op::Leaf { leaf, cursor, .. } => copy_or(Plan::Swap, next_block(memory, &leaf, cursor)),
+    }
+}
