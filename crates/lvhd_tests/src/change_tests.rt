@@ -1,4 +1,4 @@
-//! A run of four changes stops at each call, and what may be left is opened again: it has the disks behind the lines that were
+//! A run of five changes stops at each call, and what may be left is opened again: it has the disks behind the lines that were
 //! answered, or those behind one line more.
 
 use crate::fixtures::{Device, Fault, RUN, Run, failing, make_device, ran, run_into};
@@ -8,26 +8,28 @@ use std::alloc::Global;
 use std::test::Fail;
 use test_support::{CHOICES, DEVICE_SECTORS, holds};
 
-/// A VHD disk and a raw one are made, the first gets another label, and the second is given up.
+/// A VHD disk and a raw one are made, the first gets another label and is enlarged, and the second is given up.
 const SCRIPT: &[u8] =
-    b"create 11111111-1111-4111-8111-111111111111 1 vhd first\ncreate 22222222-2222-4222-8222-222222222222 1 raw second\nlabel 11111111-1111-4111-8111-111111111111 third\ndelete 22222222-2222-4222-8222-222222222222\n";
+    b"create 11111111-1111-4111-8111-111111111111 1 vhd first\ncreate 22222222-2222-4222-8222-222222222222 1 raw second\nlabel 11111111-1111-4111-8111-111111111111 third\nresize 11111111-1111-4111-8111-111111111111 8192\ndelete 22222222-2222-4222-8222-222222222222\n";
 
 /// What is printed behind so many lines.
-const PRINTED: [&[u8]; 5] = [
+const PRINTED: [&[u8]; 6] = [
     b"",
     b"ok 4096\n",
     b"ok 4096\nok 16384\n",
     b"ok 4096\nok 16384\nok\n",
-    b"ok 4096\nok 16384\nok\nok\n",
+    b"ok 4096\nok 16384\nok\nok 8192\n",
+    b"ok 4096\nok 16384\nok\nok 8192\nok\n",
 ];
 
 /// The disks behind so many lines.
-const LISTS: [&[u8]; 5] = [
+const LISTS: [&[u8]; 6] = [
     b"ok 0\n",
     b"ok 1 11111111-1111-4111-8111-111111111111,4096,rw,-,first\n",
     b"ok 2 11111111-1111-4111-8111-111111111111,4096,rw,-,first 22222222-2222-4222-8222-222222222222,16384,rw,-,second\n",
     b"ok 2 11111111-1111-4111-8111-111111111111,4096,rw,-,third 22222222-2222-4222-8222-222222222222,16384,rw,-,second\n",
-    b"ok 1 11111111-1111-4111-8111-111111111111,4096,rw,-,third\n",
+    b"ok 2 11111111-1111-4111-8111-111111111111,8192,rw,-,third 22222222-2222-4222-8222-222222222222,16384,rw,-,second\n",
+    b"ok 1 11111111-1111-4111-8111-111111111111,8192,rw,-,third\n",
 ];
 
 /// Whether a device lists the disks behind so many lines.
@@ -51,7 +53,7 @@ fn shows(alloc: Global, left: &MemDisk, answered: usize) -> Result<bool, Fail> {
     if lists(alloc, left, answered)? {
         return Ok(true);
     }
-    if answered >= 4 {
+    if answered >= 5 {
         return Ok(false);
     }
     lists(alloc, left, answered + 1)
@@ -88,7 +90,7 @@ fn stops(alloc: Global, new: &MemDisk, call: u64) -> Result<bool, Fail> {
     };
     all_show(alloc, &after, lines)?;
     let done = status == Status::Done;
-    holds(done && lines == 4 || status == Status::Device, "the status")?;
+    holds(done && lines == 5 || status == Status::Device, "the status")?;
     Ok(done)
 }
 
