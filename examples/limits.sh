@@ -2,8 +2,8 @@
 # A test of the limits, on real files, each run under a limit on memory of 64 MiB: 500 disks made in one run, and one more,
 # which is refused; 20,000 accepted lines in one run over three disks; 500 VHD disks made and all attached; 20,000 writes, fills
 # and reads of one disk; a fill over a whole disk of 8,192 blocks; a chain of 30 images that is read 200 times, and one more, which
-# is refused; and clones until 500 images stand, and one more. Prints each reply once, at most 24 characters of it, with how often
-# it came.
+# is refused; clones until 500 images stand, and one more; and 120 snapshots of one disk made and given up while it is written, and
+# what they leave collected. Prints each reply once, at most 24 characters of it, with how often it came.
 set -e
 root=$(cd "$(dirname "$0")/.." && pwd)
 program="$root/crates/lvhd/out/lvhd"
@@ -97,3 +97,25 @@ awk 'BEGIN {
     for (i = 251; i <= 252; i++) printf "create 11111111-1111-4111-8111-%012d 16384 raw guest\n", i
 }' >"$work/script"
 counted "$work/clones.img" "$work/script"
+# 120 snapshots of a disk that is written in between, each given up, and the collector behind it until it is idle.
+truncate -s 3M "$work/collected.img"
+"$program" "$work/collected.img" format 16384 4096 64 "$repository"
+awk -v disk="$disk" 'BEGIN {
+    print "create " disk " 65536 vhd guest"
+    print "attach " disk " rw"
+    for (i = 1; i <= 120; i++) {
+        printf "fill %s %d 3 %02x\n", disk, (i * 7) % 126, i
+        printf "snapshot %s 22222222-2222-4222-8222-%012d\n", disk, i
+        printf "fill %s %d 1 %02x\n", disk, (i * 11) % 128, 255 - i
+        printf "delete 22222222-2222-4222-8222-%012d\n", i
+        for (k = 0; k < i % 20; k++) print "gc"
+    }
+    for (k = 0; k < 900; k++) print "gc"
+    print "stat"
+}' >"$work/script"
+counted "$work/collected.img" "$work/script"
+# What the disk has then, all of it, as a sum.
+{
+    echo "attach $disk ro"
+    echo "read $disk 0 128"
+} | (ulimit -v 65536; "$program" "$work/collected.img" run) | cksum

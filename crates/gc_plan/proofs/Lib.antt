@@ -1,4 +1,4 @@
-mod ImageLaws
+pub mod ImageLaws
 mod PairLaws
 mod StepLaws
-mod PlanLaws
+pub mod PlanLaws

@@ -21,11 +21,11 @@ use Rattle.sm_ready.specs.Stores.{MayShow, content_in, content_now}
 use Rattle.sm_standing.specs.Checks.{first_fault_today}
 use Rattle.sm_standing.specs.Contents.{Content}
 use Rattle.sm_standing.specs.Devices.{IsKeptOn, Shows, content_of}
-use Rattle.sm_standing.specs.Keeping.{HasNoEmptySlot, IsKept}
+use Rattle.sm_standing.specs.Keeping.{HoldsWell, IsKept}
 use Rattle.sm_standing.specs.Opened.{opened}
 use Rattle.sm_machine.specs.Shapes.{Shape}
 use Rattle.sm_standing.specs.Standing.{disks}
-use Rattle.lvhd_command.specs.Devices.{HasNoEmptySlotOn, IsKeptDevice, MayShowOn, IsSoundOn, IsRefusedOn, IsOpenedOn, plate_at}
+use Rattle.lvhd_command.specs.Devices.{HoldsWellOn, IsKeptDevice, MayShowOn, IsSoundOn, IsRefusedOn, IsOpenedOn, plate_at}
 use Rattle.lvhd_command.specs.Devices.IsRefusedOn.{by_content}
 use Rattle.lvhd_command.specs.Running.{IsLeftBefore, ShowsNothingNew}
 
@@ -83,16 +83,17 @@ shown_device size h site ds always m =
 content_entry : (s : Site) (t : VolumeTable) (h now : Held) → Keeps (area_of h) (area_of now) → content_now s t (area_of now) ≡ content_in s t (extents_in (reads h))
 content_entry s t h now k = ap (content_in s t) (fun_ext (λ q. k.reads q))
 
--- where no slot is empty on the device, none is in the content
-pub slots_entry : (size : ℕ) (h now : Held) (site : Site) (at : Pointer) (t : VolumeTable) → Keeps (area_of h) (area_of now) → StandsOn size (reads h) (standing site at t)
-    → HasNoEmptySlotOn size (reads h) → HasNoEmptySlot (content_now site t (area_of now))
-slots_entry size h now site at t k stands holding = subst HasNoEmptySlot (sym (content_entry site t h now k)) (holding (standing site at t) stands)
+-- what no opening tests holds of the content where it holds on the device
+pub well_entry : (size : ℕ) (h now : Held) (site : Site) (at : Pointer) (t : VolumeTable) → Keeps (area_of h) (area_of now) → StandsOn size (reads h) (standing site at t)
+    → HoldsWellOn size (reads h) → HoldsWell (content_now site t (area_of now))
+well_entry size h now site at t k stands holding = subst HoldsWell (sym (content_entry site t h now k)) (holding (standing site at t) stands)
 
--- and none is on a device that is kept
-pub kept_slots : (size : ℕ) (h : Held) → IsKeptDevice size h → HasNoEmptySlotOn size (reads h)
-kept_slots size h kept g on =
+-- and it holds on a device that is kept
+pub kept_well : (size : ℕ) (h : Held) → IsKeptDevice size h → HoldsWellOn size (reads h)
+kept_well size h kept g on =
     let k = kept (reads h) (Allows-reads size h) in
-    (subst IsKept (content_once size (reads h) g k.group on k.stands) k.kept).holding
+    let whole = subst IsKept (content_once size (reads h) g k.group on k.stands) k.kept in
+    record { holding = whole.holding; linking = whole.linking }
 
 pub sound_entry : (size : ℕ) (h now : Held) (site : Site) (at : Pointer) (t : VolumeTable) → Keeps (area_of h) (area_of now) → StandsOn size (reads h) (standing site at t)
     → first_fault_today (content_now site t (area_of now)) ≡ None → IsSoundOn size (reads h)
@@ -183,8 +184,8 @@ shown_back size entry h last site now at first same k ka stands always left = λ
     (subst (λ (x : Site). StandsOn size image (standing x s.pointer s.table)) same s.stands)
     (left s.table (extents_in image) (left_of size last now image allowed s))
 
--- the same, where each side tells the size of its device, and no slot was empty
-pub repaired_sized : (size before after : ℕ) (h last : Held) (site now : Site) (first : VolumeTable) → before ≡ size → after ≡ size → HasNoEmptySlot (content_now site first (area_of h))
+-- the same, where each side tells the size of its device, and what no opening tests held
+pub repaired_sized : (size before after : ℕ) (h last : Held) (site now : Site) (first : VolumeTable) → before ≡ size → after ≡ size → HoldsWell (content_now site first (area_of h))
     → ((t : VolumeTable) (image : ℕ → List ℕ) → LeavesGroup after last (plate_at now) t image → LeavesGroup before h (plate_at site) t image ⊎ MayBeRepairedFrom (content_now site first (area_of h)) (content_in site t image))
     → LeavesRepaired size h last site now first
 repaired_sized size before after h last site now first is_before is_after holding left = λ t image l.

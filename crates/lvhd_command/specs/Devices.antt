@@ -15,16 +15,16 @@ use Rattle.sm_ready.specs.Stores.{Leaving, Left}
 use Rattle.sm_standing.specs.Checks.{first_fault_today}
 use Rattle.sm_machine.specs.Shapes.{Shape}
 use Rattle.sm_standing.specs.Devices.{IsKeptOn, Shows, content_of}
-use Rattle.sm_standing.specs.Keeping.{HasNoEmptySlot}
+use Rattle.sm_standing.specs.Keeping.{HoldsWell}
 use Rattle.sm_standing.specs.Opened.{opened}
 
 -- each image that the device allows is kept
 abbrev pub IsKeptDevice : ℕ → Held → Type 0
 IsKeptDevice size h = (image : ℕ → List ℕ) → Allows size h image → IsKeptOn size image
 
--- in what stands on the image no slot is empty
-abbrev pub HasNoEmptySlotOn : ℕ → (ℕ → List ℕ) → Type 0
-HasNoEmptySlotOn size image = (g : GroupFound) → StandsOn size image g → HasNoEmptySlot (content_of g image)
+-- of what stands on the image that holds which no opening tests
+abbrev pub HoldsWellOn : ℕ → (ℕ → List ℕ) → Type 0
+HoldsWellOn size image = (g : GroupFound) → StandsOn size image g → HoldsWell (content_of g image)
 
 -- a stop of the device may show these disks
 pub record MayShowOn (size : ℕ) (h : Held) (ds : List Disk) : Type 0 where

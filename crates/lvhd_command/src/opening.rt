@@ -16,7 +16,7 @@ ghost use Rattle.sm_ready.specs.Sessions.{KeepsAll, state_in};
 ghost use Rattle.sm_ready.specs.Stores.{MayShow, content_now};
 ghost use Rattle.sm_recover.specs.Repairs.{UnlessDeviceFailed};
 ghost use Rattle.sm_run.specs.Runs.{BeginsSettled};
-ghost use Rattle.lvhd_command.specs.Devices.{HasNoEmptySlotOn, IsKeptDevice, IsSoundOn, IsRefusedOn, IsOpenedOn, group_leaves, plate_at, site_on};
+ghost use Rattle.lvhd_command.specs.Devices.{HoldsWellOn, IsKeptDevice, IsSoundOn, IsRefusedOn, IsOpenedOn, group_leaves, plate_at, site_on};
 ghost use Rattle.lvhd_command.specs.Running.{ShowsNothingNew, KeepsBeside, MayHaveLabel};
 
 use sm_base::OpenFault;
@@ -27,7 +27,8 @@ use vg_store::Group;
 
 /// Opens the repository on a device: it is synced, all checks are made, and what a stop has left is repaired. `now` is in
 /// seconds since 2000-01-01 00:00 UTC. What is promised of the sectors and of the disks rests on what no check sees: that each
-/// slot of a VHD image holds a sector. It is so on a device that is kept.
+/// slot of a VHD image holds a sector, and that an image whose children are being linked past it was copied. It is so on a device
+/// that is kept.
 ///
 /// # Errors
 /// The answer of the first check that fails, a fault of the device, or want of memory, with the device. Unless a call of
@@ -38,17 +39,17 @@ pub fn open<D: Disk>(alloc: Global, disk: D, now: u32) -> Result<Session<Group<D
     ensures whole { IfOk result (λ s. s.broken ≡ false) }
     ensures now { IfOk result (λ s. s.now ≡ now) }
     ensures sound { IfOk result (λ s. D.told → IsSoundOn (D.size disk) (reads (D.held disk))) }
-    ensures ready { IfOk result (λ s. D.told → HasNoEmptySlotOn (D.size disk) (reads (D.held disk))
+    ensures ready { IfOk result (λ s. D.told → HoldsWellOn (D.size disk) (reads (D.held disk))
         → IsReady (site_on s.store.label (D.size s.store.disk)) (table_alone s.store.table) (area_of (D.held s.store.disk)) (known s.memory)) }
-    ensures shown { IfOk result (λ s. D.told → HasNoEmptySlotOn (D.size disk) (reads (D.held disk))
+    ensures shown { IfOk result (λ s. D.told → HoldsWellOn (D.size disk) (reads (D.held disk))
         → Shows (D.size disk) (reads (D.held disk)) (disks (content_now (site_on s.store.label (D.size s.store.disk)) (table_alone s.store.table) (area_of (D.held s.store.disk))))) }
-    ensures opened { IfOk result (λ s. D.told → HasNoEmptySlotOn (D.size disk) (reads (D.held disk))
+    ensures opened { IfOk result (λ s. D.told → HoldsWellOn (D.size disk) (reads (D.held disk))
         → IsOpenedOn (D.size disk) (reads (D.held disk)) (shape_in (site_on s.store.label (D.size s.store.disk)) (table_alone s.store.table) (known s.memory))) }
     ensures label { IfOk result (λ s. D.told → plate_of (D.size disk) (reads (D.held disk)) ≡ Ok (plate_at (site_on s.store.label (D.size s.store.disk)))) }
-    ensures kept { IfOk result (λ s. D.told → HasNoEmptySlotOn (D.size disk) (reads (D.held disk))
+    ensures kept { IfOk result (λ s. D.told → HoldsWellOn (D.size disk) (reads (D.held disk))
         → KeepsAll (site_on s.store.label (D.size s.store.disk))
         (group_leaves D.told (D.size s.store.disk) (D.held s.store.disk) s.store.label s.store.failed (table_alone s.store.table))) }
-    ensures begins { IfOk result (λ s. D.told → HasNoEmptySlotOn (D.size disk) (reads (D.held disk))
+    ensures begins { IfOk result (λ s. D.told → HoldsWellOn (D.size disk) (reads (D.held disk))
         → BeginsSettled (state_in (site_on s.store.label (D.size s.store.disk)) (table_alone s.store.table) (area_of (D.held s.store.disk)) (known s.memory))
         (MayShow (site_on s.store.label (D.size s.store.disk)) (group_leaves D.told (D.size s.store.disk) (D.held s.store.disk) s.store.label s.store.failed (table_alone s.store.table)))) }
     ensures beside { IfOk result (λ s. D.told → KeepsBeside (D.size disk) (D.held disk) (D.held s.store.disk)) }
@@ -61,7 +62,7 @@ pub fn open<D: Disk>(alloc: Global, disk: D, now: u32) -> Result<Session<Group<D
     ensures beside_back { IfErr result (λ e. D.told → KeepsBeside (D.size disk) (D.held disk) (D.held e.1)) }
     ensures label_back { IfErr result (λ e. D.told → MayHaveLabel (D.size disk) (D.held disk) (D.held e.1)) }
     ensures kept_back { IfErr result (λ e. D.told → IsKeptDevice (D.size disk) (D.held disk) → IsKeptDevice (D.size disk) (D.held e.1)) }
-    ensures shown_back { IfErr result (λ e. D.told → HasNoEmptySlotOn (D.size disk) (reads (D.held disk))
+    ensures shown_back { IfErr result (λ e. D.told → HoldsWellOn (D.size disk) (reads (D.held disk))
         → ShowsNothingNew (D.size disk) (D.held disk) (D.held e.1)) }
 {
     let group = match Group::open(alloc, disk) {

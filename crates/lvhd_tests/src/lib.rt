@@ -7,6 +7,8 @@
 #[cfg(test)]
 mod change_tests;
 #[cfg(test)]
+mod collect_tests;
+#[cfg(test)]
 mod fixtures;
 #[cfg(test)]
 mod fork_tests;

@@ -163,7 +163,7 @@ const RUNS: [Row<'static>; 34] = [
         Status::Done,
         b"ok 4096\nok\nno UnknownDisk\nok 1 11111111-1111-4111-8111-111111111111,4096,rw,-,y\nok\nno UnknownDisk\nok 0\n",
     ),
-    (NEW, RUN, b"gc\n", NO, Status::Done, b"no BadLine\n"),
+    (NEW, RUN, b"gc\n", NO, Status::Done, b"ok gc idle\n"),
     (
         Device::New(4608),
         RUN,

@@ -43,4 +43,4 @@ by_built false σ c r e = refl
 
 pub built_keeps : (σ : State) (c : Command) (r : Refusal) → (step σ c).reply ≡ reply.No r → (step σ c).after ≡ σ
 unfolding step
-built_keeps σ c r e = by_built (is_built c) σ c r e
+built_keeps σ c r e = by_built (is_built σ.shape c) σ c r e

@@ -113,4 +113,4 @@ by_built σ c false w = w
 
 pub built_keeps_shape : (σ : State) (c : Command) → IsWellFormed σ.shape → IsWellFormed ((step σ c).after.shape)
 unfolding step
-built_keeps_shape σ c w = by_built σ c (is_built c) w
+built_keeps_shape σ c w = by_built σ c (is_built σ.shape c) w

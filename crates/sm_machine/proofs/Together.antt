@@ -416,7 +416,7 @@ by_built σ c false w a = a
 
 pub built_keeps_disks : (σ : State) (c : Command) → IsWellFormed σ.shape → AreDisksOf σ.disks σ.shape → AreDisksOf ((step σ c).after.disks) ((step σ c).after.shape)
 unfolding step
-built_keeps_disks σ c w a = by_built σ c (is_built c) w a
+built_keeps_disks σ c w a = by_built σ c (is_built σ.shape c) w a
 
 -- the collector leaves the disks as they are
 gc_by_refusal : (σ : State) (o : Option Refusal) → (unless_refused o σ Gc).after.disks ≡ σ.disks

@@ -1,7 +1,7 @@
 -- One step of the machine: a command turns disks and shape into a reply, new disks and a new shape (this project's
 -- format). A refused command changes nothing. Want of memory is no answer of the machine: a line that finds no memory is
 -- one that the machine has not stepped on.
-use Rattle.std.specs.Prelude.{ℕ, ◌+◌, ◌-◌, ◌*◌, ◌/◌, not, Bool, true, false, List, [], ◌∷◌, ◌++◌, length, map, replicate, Option, Some, None}
+use Rattle.std.specs.Prelude.{ℕ, ◌+◌, ◌-◌, ◌*◌, ◌/◌, ◌||◌, not, Bool, true, false, List, [], ◌∷◌, ◌++◌, length, map, replicate, Option, Some, None}
 use Rattle.std.specs.List.{filter, find}
 use Rattle.std.specs.Str.{bytes_eq}
 use Rattle.sm_base.specs.Names.{base_uuid}
@@ -9,7 +9,10 @@ use Rattle.sm_base.specs.declared.names.Name.{Name}
 use Rattle.sm_base.specs.declared.names.Name.TheVariants.{Vhd, Raw}
 use Rattle.sm_base.specs.declared.operations.Mode.{Mode}
 use Rattle.sm_base.specs.declared.operations.Mode.TheVariants.{Ro, Rw}
+use Rattle.sm_base.specs.declared.operations.Op.{Op}
 use Rattle.sm_base.specs.declared.operations.Op.TheVariants as op
+use Rattle.sm_base.specs.declared.operations.Plan.{Plan}
+use Rattle.sm_base.specs.declared.operations.Plan.TheVariants as plan
 use Rattle.sm_base.specs.declared.refusals.Refusal.{Refusal}
 use Rattle.sm_base.specs.declared.refusals.Refusal.TheVariants.{BadLine}
 use Rattle.sm_machine.specs.declared.commands.Command.{Command}
@@ -233,22 +236,19 @@ unless_refused None σ c = accepted σ c
 unfoldable pub step_whole : State → Command → Outcome
 step_whole σ c = unless_refused (refusal σ.shape c) σ c
 
--- the commands that are built today
-unfoldable pub is_built : Command → Bool
-is_built (Create u size raw label) = true
-is_built (Delete u) = true
-is_built (Attach u mode) = true
-is_built (Detach u) = true
-is_built (Snapshot u twin) = true
-is_built (Clone u twin) = true
-is_built (Resize u size) = true
-is_built (Label u text) = true
-is_built (Write u sector bytes) = true
-is_built (Fill u sector count byte) = true
-is_built (Read u sector count) = true
-is_built (Flush u) = true
-is_built Listing = true
-is_built _ = false
+-- whether an operation folds a leaf, and whether a step of the collector begins to
+unfoldable pub is_fold : Op → Bool
+is_fold (op.Leaf leaf parent cursor) = true
+is_fold _ = false
+
+unfoldable pub begins_fold : Plan → Bool
+begins_fold (plan.Leaf leaf parent to) = true
+begins_fold _ = false
+
+-- what is built today: all but the folding of leaves
+unfoldable pub is_built : Shape → Command → Bool
+is_built s Gc = not (is_fold s.op || begins_fold (next_step s))
+is_built s _ = true
 
 abbrev pub if_built : Bool → State → Command → Outcome
 if_built true σ c = step_whole σ c
@@ -256,7 +256,7 @@ if_built false σ c = refused σ BadLine
 
 -- the step of a command that is built; any other line spells no command yet
 unfoldable pub step : State → Command → Outcome
-step σ c = if_built (is_built c) σ c
+step σ c = if_built (is_built σ.shape c) σ c
 
 abbrev pub step_or_bad : Option Command → State → Outcome
 step_or_bad None σ = refused σ BadLine

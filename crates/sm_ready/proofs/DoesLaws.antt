@@ -15,7 +15,7 @@ use Rattle.sm_ready.specs.declared.memory.Memory.{Memory}
 use Rattle.sm_ready.proofs.OwnLaws.{step_shape}
 use Rattle.sm_ready.proofs.TakenLaws.{IsTold, taken_accepted, taken_stopped}
 
-module _ {S : Type 0} {g : Ghosts S} {a b : S} {m : Memory} (h : IsTold g a m) (c : Command) (n : Memory) {ok : Type 0} (built : is_built c ≡ true) (passes : refusal (store_shape g a m) c ≡ None) (done : StoreDoes g c a m b n ok) where
+module _ {S : Type 0} {g : Ghosts S} {a b : S} {m : Memory} (h : IsTold g a m) (c : Command) (n : Memory) {ok : Type 0} (built : is_built (store_shape g a m) c ≡ true) (passes : refusal (store_shape g a m) c ≡ None) (done : StoreDoes g c a m b n ok) where
   -- it did its work, and is answered so
   pub does_ok : (r : Reply) → r ≡ reply_to (store_state g a m).disks (store_state g a m).shape c → ok → g.site b ≡ g.site a → ShapesAs g c a m b n → StoreTakes g c a m b n (Ok r)
   does_ok r replied fine site shaped = taken_accepted h c n built passes done r replied fine (ap (λ s. shape_in s (table_alone (g.table b)) (known n)) (sym site) ∙ shaped ∙ sym (step_shape (store_state g a m) c passes))

@@ -102,12 +102,12 @@ module _ (o : Outcome) {S : Type 0} (g : Ghosts S) (a b : S) (m n : Memory) (com
 -- ---- the step of a command
 
 -- one that is not built yet is answered as a line that spells none
-pub step_unbuilt : (σ : State) (c : Command) → is_built c ≡ false → step σ c ≡ refused σ BadLine
+pub step_unbuilt : (σ : State) (c : Command) → is_built σ.shape c ≡ false → step σ c ≡ refused σ BadLine
 unfolding step
 step_unbuilt σ c unbuilt = ap (λ b. if_built b σ c) unbuilt
 
 -- one that is built is refused, or accepted
-pub step_by : (σ : State) (c : Command) (o : Option Refusal) → is_built c ≡ true → refusal σ.shape c ≡ o → step σ c ≡ unless_refused o σ c
+pub step_by : (σ : State) (c : Command) (o : Option Refusal) → is_built σ.shape c ≡ true → refusal σ.shape c ≡ o → step σ c ≡ unless_refused o σ c
 unfolding step step_whole
 step_by σ c o built is = ap (λ b. if_built b σ c) built ∙ ap (λ x. unless_refused x σ c) is
 
@@ -117,7 +117,7 @@ unfolding step_whole
 whole_by σ c passes = ap (λ x. unless_refused x σ c) passes
 
 -- an accepted one that changes neither disks nor shape, and makes no commit, leaves the state
-pub step_still : (σ : State) (c : Command) → is_built c ≡ true → refusal σ.shape c ≡ None → σ.shape.sequence < 2 ^ 48 → disks_next σ.disks σ.shape c ≡ σ.disks → shape_after σ.shape c ≡ σ.shape → is_given_up σ.shape c ≡ false
+pub step_still : (σ : State) (c : Command) → is_built σ.shape c ≡ true → refusal σ.shape c ≡ None → σ.shape.sequence < 2 ^ 48 → disks_next σ.disks σ.shape c ≡ σ.disks → shape_after σ.shape c ≡ σ.shape → is_given_up σ.shape c ≡ false
     → own_commits σ.shape c ≡ 0 → (step σ c).after ≡ σ
 unfolding accepted shape_next commits
 step_still σ c built passes few same_disks same_shape keeps none =
@@ -180,7 +180,7 @@ module _ {o : Outcome} {S : Type 0} {g : Ghosts S} {a : S} {m : Memory} (h : IsT
     stopped_by f = taken_failed o g a b m n c (No NoMemory) h.orderly h.usable h.told h.ready h.now ok f stepped
 
 -- the same of a command that is built
-module _ {S : Type 0} {g : Ghosts S} {a b : S} {m : Memory} (h : IsTold g a m) (c : Command) (n : Memory) {ok : Type 0} (built : is_built c ≡ true) (passes : refusal (store_state g a m).shape c ≡ None)
+module _ {S : Type 0} {g : Ghosts S} {a b : S} {m : Memory} (h : IsTold g a m) (c : Command) (n : Memory) {ok : Type 0} (built : is_built (store_state g a m).shape c ≡ true) (passes : refusal (store_state g a m).shape c ≡ None)
     (done : HasDone (g.site a) (table_alone (g.table a)) (table_alone (g.table b)) (g.area a) (g.area b) (known n) (StoreLeaves g a) (StoreLeaves g b) ok (disks_next (store_state g a m).disks (store_state g a m).shape c)) where
   pub taken_accepted : (r : Reply) → r ≡ reply_to (store_state g a m).disks (store_state g a m).shape c → ok → shape_in (g.site a) (table_alone (g.table b)) (known n) ≡ (step_whole (store_state g a m) c).after.shape → StoreTakes g c a m b n (Ok r)
   unfolding step
@@ -191,6 +191,6 @@ module _ {S : Type 0} {g : Ghosts S} {a b : S} {m : Memory} (h : IsTold g a m) (
   taken_stopped f = stopped_by h c n (step_by (store_state g a m) c None built passes) done f
 
 -- what was taken as the machine of all commands has it was taken, once the command is built
-pub taken_built : {S : Type 0} (g : Ghosts S) (a b : S) (m n : Memory) (c : Command) (r : Result Reply Failed) → is_built c ≡ true → StoreTakesWhole g c a m b n r → StoreTakes g c a m b n r
+pub taken_built : {S : Type 0} (g : Ghosts S) (a b : S) (m n : Memory) (c : Command) (r : Result Reply Failed) → is_built (store_state g a m).shape c ≡ true → StoreTakesWhole g c a m b n r → StoreTakes g c a m b n r
 unfolding step
 taken_built g a b m n c r built taken = subst (λ x. StoreTakesTo (if_built x (store_state g a m) c) g c a m b n r) (sym built) taken

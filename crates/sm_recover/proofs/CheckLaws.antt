@@ -14,12 +14,12 @@ use Rattle.sm_base.specs.Kinds.{is_image as is_data, is_entry}
 use Rattle.vg_meta.specs.Roomy.{RoomyTable, RoomyRow, table_alone, rows_alone}
 use Rattle.common_laws.specs.Lists.{In, given, first_some}
 use Rattle.sm_machine.specs.Shapes.{image_limit}
-use Rattle.sm_standing.specs.Entries.{are_past, folding, has_image, head, is_among, is_at_stage, is_fork_begun, is_fork_made, is_forking, is_inflating, is_making, is_old_of, is_past, is_there, making, second, uuids_in}
+use Rattle.sm_standing.specs.Entries.{are_past, folding, has_image, head, is_at_stage, is_coalescing, is_fork_begun, is_fork_made, is_forking, is_inflating, is_old_of, is_past, is_there, making, names_in, second}
 use Rattle.sm_standing.specs.Checks.{first_name, name_in, placed, has_records, record_volume_fault, images, too_many_fault, is_entry_ahead, is_lost, is_orphaned, lesser, entry_ahead_fault, second_entry_fault, lost_entry_fault, old_leaf_fault}
 use Rattle.sm_standing.specs.Outlines.{Outline}
 use Rattle.sm_standing.proofs.FaultLaws.{named_none}
-use Rattle.sm_standing.proofs.PlainKept.{none_folding}
-use Rattle.sm_recover.specs.Faults.{HasTable, has_any, is_any_visible, is_begun, is_fork_at_stage, is_making_lost, is_old}
+use Rattle.sm_standing.proofs.PlainKept.{none_old}
+use Rattle.sm_recover.specs.Faults.{HasTable, has_any, is_any_visible, is_apart, is_begun, is_fork_at_stage, is_making_lost, is_old}
 
 -- ---- the first of the volumes in memory
 
@@ -151,13 +151,16 @@ pub none_ahead : (x : Outline) → entry_ahead_fault x ≡ None → (r : Row) �
 unfolding entry_ahead_fault
 none_ahead x no_entry = named_none at.Journal (λ r. is_entry_ahead r.name) x.table.volumes no_entry
 
-pub second_at : (k : RoomyTable) (x : Outline) {hs : List RoomyRow} {o : Option RoomyRow} {answer : Option Place} → x.table ≡ table_alone k → entry_ahead_fault x ≡ None → hs ≡ k.rows
-    → o ≡ slice_get (filter (λ h. is_making h.row.name) hs) 1 → answer ≡ placed at.Journal (held_name o) → answer ≡ second_entry_fault x
+pub second_name_at : (test : Name → Bool) (k : RoomyTable) {hs : List RoomyRow} {o : Option RoomyRow} {answer : Option Name} → hs ≡ k.rows → o ≡ slice_get (filter (λ h. test h.row.name) hs) 1
+    → answer ≡ held_name o → answer ≡ second (names_in (table_alone k) test)
+second_name_at test k held found said =
+    said ∙ ap held_name (found ∙ ap (λ gs. slice_get (filter (λ (h : RoomyRow). test h.row.name) gs) 1) held) ∙ sym (second_name test k.rows)
+
+pub second_at : (k : RoomyTable) (x : Outline) {a b : Option Name} {answer : Option Place} → x.table ≡ table_alone k → a ≡ second (folding (table_alone k)) → b ≡ second (making (table_alone k))
+    → answer ≡ placed at.Journal (lesser a b) → answer ≡ second_entry_fault x
 unfolding second_entry_fault
-second_at k x is no_entry held found said =
-    said ∙ ap (λ q. placed at.Journal (held_name q)) (found ∙ ap (λ gs. slice_get (filter (λ (h : RoomyRow). is_making h.row.name) gs) 1) held)
-    ∙ ap (placed at.Journal) (sym (second_name is_making k.rows) ∙ sym (ap (λ (u : VolumeTable). second (making u)) is))
-    ∙ sym (ap (λ ns. placed at.Journal (lesser (second ns) (second (making x.table)))) (none_folding x.table.volumes (none_ahead x no_entry)))
+second_at k x is folds makes said =
+    said ∙ ap₂ (λ p q. placed at.Journal (lesser p q)) folds makes ∙ sym (ap (λ (u : VolumeTable). placed at.Journal (lesser (second (folding u)) (second (making u)))) is)
 
 -- some of three names, in their order
 abbrev three : (a b c : Bool) (x y z : Name) → List Name
@@ -183,7 +186,7 @@ one_of false true false x y z = refl
 one_of false false true x y z = refl
 one_of false false false x y z = refl
 
--- the stages of a fork are those that are looked for, where no entry of the other group is there
+-- the stages of a fork are those that are looked for
 begun_as : (t : VolumeTable) (d b w : List ℕ) → is_fork_begun t d b w ≡ is_begun t d b w
 begun_as t d b w =
     ap₂ (λ x y. not x && y) (some b) (ap₂ (λ x y. not x && y) (some w)
@@ -192,24 +195,28 @@ begun_as t d b w =
     some : (u : List ℕ) → has_image t u ≡ has_any t u
     some u = some_of (is_there t (Vhd u)) (is_there t (Raw u)) (is_there t (Old u)) (Vhd u) (Raw u) (Old u)
 
-pub stage_as : (t : VolumeTable) (d b w : List ℕ) → folding t ≡ [] → is_forking t d b w ≡ is_fork_at_stage t d b w
-stage_as t d b w none =
-    ap (λ x. not (bytes_eq d b) && (not (bytes_eq d w) && (not (bytes_eq b w) && x)))
-    (ap (λ us. not (list_any (is_among (d ∷ b ∷ w ∷ [])) us) && (is_fork_begun t d b w || is_fork_made t d b w)) (ap (λ ns. elim (head ns) as (λ _. List (List ℕ)) [ None ↦ [] | Some n ↦ uuids_in n ]) none)
-    ∙ ap (λ x. x || is_fork_made t d b w) (begun_as t d b w))
+pub stage_as : (t : VolumeTable) (d b w : List ℕ) → is_forking t d b w ≡ is_fork_at_stage t d b w
+stage_as t d b w =
+    ap (λ x. not (bytes_eq d b) && (not (bytes_eq d w) && (not (bytes_eq b w) && (is_apart t d b w && (x || is_fork_made t d b w))))) (begun_as t d b w)
 
--- an entry is lost as the check says it, where no other is there
-lost_as : (t : VolumeTable) (n : Name) → folding t ≡ [] → is_entry_ahead n ≡ false → is_making_lost t n ≡ (is_entry n && not (is_at_stage t n && are_past t n))
+copy_lost : (a p q : Bool) → not (a && (p && q)) ≡ not (a && (p && (q && true)))
+copy_lost false p q = refl
+copy_lost true false q = refl
+copy_lost true true true = refl
+copy_lost true true false = refl
+
+-- an entry is lost as the check says it
+lost_as : (t : VolumeTable) (n : Name) → is_entry_ahead n ≡ false → is_making_lost t n ≡ (is_entry n && not (is_at_stage t n && are_past t n))
 unfolding is_at_stage
-lost_as t (Inflate u e) none h = by (is_inflating t u e) (is_past t.sequence u)
+lost_as t (Inflate u e) h = by (is_inflating t u e) (is_past t.sequence u)
   where
     by : (a b : Bool) → (not a || not b) ≡ not (a && (b && true))
     by true true = refl
     by true false = refl
     by false b = refl
-lost_as t (Clone d b w) none h =
+lost_as t (Clone d b w) h =
     by (is_fork_at_stage t d b w) (is_past t.sequence d) (is_past t.sequence b) (is_past t.sequence w)
-    ∙ ap (λ x. not (x && (is_past t.sequence d && (is_past t.sequence b && (is_past t.sequence w && true))))) (sym (stage_as t d b w none))
+    ∙ ap (λ x. not (x && (is_past t.sequence d && (is_past t.sequence b && (is_past t.sequence w && true))))) (sym (stage_as t d b w))
   where
     by : (a p q r : Bool) → (not a || not (p && (q && r))) ≡ not (a && (p && (q && (r && true))))
     by false p q r = refl
@@ -217,13 +224,13 @@ lost_as t (Clone d b w) none h =
     by true true false r = refl
     by true true true false = refl
     by true true true true = refl
-lost_as t Mgt none h = refl
-lost_as t (Vhd u) none h = refl
-lost_as t (Raw u) none h = refl
-lost_as t (Old u) none h = refl
-lost_as t (Coalesce c p) none h = absurd (true≢false h)
-lost_as t (Relink c p) none h = absurd (true≢false h)
-lost_as t (Leaf l p) none h = absurd (true≢false h)
+lost_as t Mgt h = refl
+lost_as t (Vhd u) h = refl
+lost_as t (Raw u) h = refl
+lost_as t (Old u) h = refl
+lost_as t (Coalesce c p) h = copy_lost (is_coalescing t c p) (is_past t.sequence c) (is_past t.sequence p)
+lost_as t (Relink c p) h = copy_lost (is_coalescing t c p) (is_past t.sequence c) (is_past t.sequence p)
+lost_as t (Leaf l p) h = absurd (true≢false h)
 
 pub lost_at : (k : RoomyTable) (x : Outline) {hs : List RoomyRow} {o : Option RoomyRow} {answer : Option Place} → x.table ≡ table_alone k → entry_ahead_fault x ≡ None → hs ≡ k.rows
     → o ≡ find (λ h. is_making_lost (table_alone k) h.row.name) hs → answer ≡ placed at.Journal (held_name o) → answer ≡ lost_entry_fault x
@@ -231,11 +238,11 @@ unfolding lost_entry_fault first_name
 lost_at k x is no_entry held found said =
     first_at at.Journal (λ t r. is_making_lost t r.name) k is held found said
     ∙ ap (λ q. placed at.Journal (name_in q)) (find_same (λ r. is_making_lost x.table r.name) (is_lost x.table) x.table.volumes
-    (λ r i. lost_as x.table r.name (none_folding x.table.volumes (none_ahead x no_entry)) (none_ahead x no_entry r i)))
+    (λ r i. lost_as x.table r.name (none_ahead x no_entry r i)))
 
 -- an old leaf belongs to no entry, where those of leaves are not there
-old_as : (t : VolumeTable) (n : Name) → folding t ≡ [] → is_old n ≡ is_orphaned t n
-old_as t (Old u) none = sym (ap (λ ns. not (list_any (is_old_of t u) ns)) none)
+old_as : (t : VolumeTable) (n : Name) → ((u : List ℕ) → list_any (is_old_of t u) (folding t) ≡ false) → is_old n ≡ is_orphaned t n
+old_as t (Old u) none = sym (ap not (none u))
 old_as t Mgt none = refl
 old_as t (Vhd u) none = refl
 old_as t (Raw u) none = refl
@@ -250,19 +257,19 @@ pub old_at : (k : RoomyTable) (x : Outline) {hs : List RoomyRow} {o : Option Roo
 unfolding old_leaf_fault first_name
 old_at k x is no_entry held found said =
     first_at at.Image (λ t r. is_old r.name) k is held found said
-    ∙ ap (λ q. placed at.Image (name_in q)) (find_same (λ r. is_old r.name) (λ r. is_orphaned x.table r.name) x.table.volumes (λ r i. old_as x.table r.name (none_folding x.table.volumes (none_ahead x no_entry))))
+    ∙ ap (λ q. placed at.Image (name_in q)) (find_same (λ r. is_old r.name) (λ r. is_orphaned x.table r.name) x.table.volumes (λ r i. old_as x.table r.name (λ u. none_old x.table u x.table.volumes (none_ahead x no_entry))))
 
 -- the first name of a group is that of the first volume
-pub first_making_at : (k : RoomyTable) {hs : List RoomyRow} {o : Option RoomyRow} {answer : Option Name} → hs ≡ k.rows → o ≡ find (λ h. is_making h.row.name) hs → answer ≡ held_name o
-    → answer ≡ head (making (table_alone k))
-first_making_at k held found said =
-    said ∙ ap held_name (found ∙ ap (find (λ (h : RoomyRow). is_making h.row.name)) held) ∙ first_name_at k.rows
+pub first_entry_at : (test : Name → Bool) (k : RoomyTable) {hs : List RoomyRow} {o : Option RoomyRow} {answer : Option Name} → hs ≡ k.rows → o ≡ find (λ h. test h.row.name) hs → answer ≡ held_name o
+    → answer ≡ head (names_in (table_alone k) test)
+first_entry_at test k held found said =
+    said ∙ ap held_name (found ∙ ap (find (λ (h : RoomyRow). test h.row.name)) held) ∙ first_name_at k.rows
   where
-    first_name_at : (hs : List RoomyRow) → held_name (find (λ h. is_making h.row.name) hs) ≡ head (filter is_making (names_of (rows_alone hs)))
+    first_name_at : (hs : List RoomyRow) → held_name (find (λ h. test h.row.name) hs) ≡ head (filter test (names_of (rows_alone hs)))
     first_name_at [] = refl
-    first_name_at (h ∷ hs) = by (is_making h.row.name) (first_name_at hs)
+    first_name_at (h ∷ hs) = by (test h.row.name) (first_name_at hs)
       where
-        by : (b : Bool) → held_name (find (λ h. is_making h.row.name) hs) ≡ head (filter is_making (names_of (rows_alone hs)))
-            → held_name (cond b (Some h) (find (λ h. is_making h.row.name) hs)) ≡ head (cond b (h.row.name ∷ filter is_making (names_of (rows_alone hs))) (filter is_making (names_of (rows_alone hs))))
+        by : (b : Bool) → held_name (find (λ h. test h.row.name) hs) ≡ head (filter test (names_of (rows_alone hs)))
+            → held_name (cond b (Some h) (find (λ h. test h.row.name) hs)) ≡ head (cond b (h.row.name ∷ filter test (names_of (rows_alone hs))) (filter test (names_of (rows_alone hs))))
         by true e = refl
         by false e = e

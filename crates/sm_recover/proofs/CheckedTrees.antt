@@ -8,7 +8,6 @@ use Rattle.sm_base.specs.declared.names.Name.TheVariants.{Mgt, Vhd, Raw, Old, Cl
 use Rattle.sm_base.specs.declared.sizes.Geometry.{Geometry}
 use Rattle.sm_disk.specs.Held.{Held}
 use Rattle.vg_meta.specs.Tables.{VolumeTable, Row, rows}
-use Rattle.vg_meta.specs.Roomy.{table_alone}
 use Rattle.vg_volumes.specs.Sites.{Site}
 use Rattle.vg_volumes.specs.Stored.{held_in}
 use Rattle.vg_volumes.specs.declared.stores.Store.{Ghosts}
@@ -36,8 +35,8 @@ use Rattle.sm_ready.specs.Outlined.{link_in, outline_in}
 use Rattle.sm_ready.proofs.BegunLaws.{begun_with}
 use Rattle.sm_ready.proofs.RowLaws.{found_in}
 use Rattle.sm_recover.specs.Faults.{HasLinks, HasPlaces, HasTable}
-use Rattle.sm_recover.specs.Loaded.{AreRowsOf, HasEachRow, IsReadAs, read_volumes, row_among, shortened, stored_read}
-use Rattle.sm_recover.specs.Repairs.{IsUndoableStore}
+use Rattle.sm_recover.specs.Loaded.{AreRowsOf, HasEachRow, IsReadAs, read_volumes, row_among, shortened, stored_with}
+use Rattle.sm_recover.proofs.EntryLaws.{IsStaged}
 use Rattle.sm_recover.proofs.DiskLaws.{records_counted}
 use Rattle.sm_recover.proofs.TableLaws.{image_not_making, short_filtered, short_from, short_in}
 use Rattle.sm_ready.proofs.Orders.{In-tree_row}
@@ -60,22 +59,19 @@ raw_or_vhd told g h (Leaf l p) image sectors read = absurd read
 
 -- ---- what the checks say
 
-module _ {S : Type 0} (g : Ghosts S) (store : S) (xs : List TreeRow) (places : List (Option Record)) (c : IsUndoableStore g store) (are_read : AreRowsOf (read_volumes (table_alone (g.table store))) xs)
-    (each_read : HasEachRow g.told (stored_read g store) (read_volumes (table_alone (g.table store))) xs) where
+module _ {S : Type 0} (g : Ghosts S) (store : S) (xs : List TreeRow) (places : List (Option Record)) {was : VolumeTable} (c : IsStaged (g.site store) was) (are_read : AreRowsOf (read_volumes was) xs)
+    (each_read : HasEachRow g.told (stored_with g store (shortened was)) (read_volumes was) xs) where
   abbrev s : Site
   s = g.site store
 
-  -- the table as it is, and without an enlargement
-  abbrev was : VolumeTable
-  was = table_alone (g.table store)
-
+  -- the table without an enlargement
   abbrev pub t : VolumeTable
   t = shortened was
 
   pub are : AreRowsOf t.volumes xs
   are = are_read ∙ sym (short_filtered c (row_among xs) (λ r making. none_among xs r (λ f. true≢false (sym making ∙ image_not_making r.name f.image))))
 
-  pub each : HasEachRow g.told (stored_read g store) t.volumes xs
+  pub each : HasEachRow g.told (stored_with g store (shortened was)) t.volumes xs
   each r i = each_read r (short_in c r i)
 
   module _ (long : length places ≡ place_count) (pass : (x : Outline) → HasTable s.geometry was x → HasLinks xs x → HasPlaces places x → fault_today_of x ≡ None) where
@@ -132,7 +128,7 @@ module _ {S : Type 0} (g : Ghosts S) (store : S) (xs : List TreeRow) (places : L
     stands_in_tree x p i is =
         let w = read_row are each x i in
         let f = short_from c w.volume w.there in
-        by w.volume f.volume f.there (ap (λ (r : Row). r.name) f.is) w.row.named (raw_or_vhd g.told s.geometry (held_in (stored_read g store) w.volume.name) w.volume.name x.image (length w.volume.extents * s.geometry.extent) w.row.image)
+        by w.volume f.volume f.there (ap (λ (r : Row). r.name) f.is) w.row.named (raw_or_vhd g.told s.geometry (held_in (stored_with g store (shortened was)) w.volume.name) w.volume.name x.image (length w.volume.extents * s.geometry.extent) w.row.image)
       where
         by : (v q : Row) → In q was.volumes → v.name ≡ q.name → row_name x ≡ v.name → (parent_name x.image ≡ None) ⊎ ((u : List ℕ) × (v.name ≡ Vhd u)) → StandsRight seen (row_name x) (link_of x)
         by v q there same named (inl none) = absurd (none-some p (sym none ∙ is))
@@ -140,7 +136,7 @@ module _ {S : Type 0} (g : Ghosts S) (store : S) (xs : List TreeRow) (places : L
             let at : row_name x ≡ Vhd u = named ∙ vhd in
             subst (λ n. StandsRight seen n (link_of x)) (sym at) (stands_right seen q u (link_of x) (ap seen.links (sym at) ∙ link_seen x i) (sym same ∙ vhd) (placed_at q there))
 
-    parent_there : (x : TreeRow) (p : Name) → In x xs → parent_name x.image ≡ Some p → HasParentIn xs seen (sector_count x.image) p
+    pub parent_there : (x : TreeRow) (p : Name) → In x xs → parent_name x.image ≡ Some p → HasParentIn xs seen (sector_count x.image) p
     parent_there x p i is = parent_in xs seen links (link_of x) p (stands_in_tree x p i is).linked is
 
     pub parents : (x : TreeRow) (p : Name) → In x xs → parent_name x.image ≡ Some p → HasParent (map machine_row xs) (machine_row x) p

@@ -13,7 +13,7 @@ use Rattle.std.proofs.lemmas.List.Sums.{length-filter}
 use Rattle.std.proofs.lemmas.Map.Lookups.{exact_bytes}
 use Rattle.sm_base.specs.declared.names.Name.{Name}
 use Rattle.sm_base.specs.declared.names.Name.TheVariants.{Mgt, Vhd, Raw, Old, Clone, Inflate, Coalesce, Relink, Leaf}
-use Rattle.vg_meta.specs.Tables.{VolumeTable, Row, names_of, rows}
+use Rattle.vg_meta.specs.Tables.{VolumeTable, Row, rows}
 use Rattle.vg_meta.specs.Roomy.{RoomyTable, RoomyRow, table_alone}
 use Rattle.common_laws.specs.Lists.{In, given, numbers}
 use Rattle.sm_record.specs.declared.records.Record.{Record}
@@ -22,13 +22,14 @@ use Rattle.sm_standing.specs.Contents.{taken, is_record_of}
 use Rattle.sm_standing.specs.Checks.{is_unrecorded, disk_place, disk_fault}
 use Rattle.sm_standing.specs.Outlines.{Outline, outline_records}
 use Rattle.sm_standing.specs.Ordered.{Rising, uuid_cmp}
-use Rattle.sm_standing.specs.Entries.{folding, head, image_with, is_folding, is_visible, making, of_row}
-use Rattle.sm_standing.specs.Plain.{IsPlain}
+use Rattle.sm_standing.specs.Entries.{folding, head, image_with, is_visible, making, of_row}
+use Rattle.sm_standing.specs.Plain.{IsKnown, IsPlain, is_known, is_known_name}
 use Rattle.sm_standing.specs.Standing.{candidates, in_order, standing_volume, stands_folded, stands_forked, stands_plainly, under, uuids}
 use Rattle.sm_standing.proofs.DisksShown.{In-with_uuid, rising-in_order, stands_listed}
-use Rattle.sm_standing.proofs.PlainDisks.{plain_stands}
+use Rattle.sm_standing.proofs.PlainDisks.{all-In, plain_stands}
+use Rattle.sm_recover.proofs.KnownLaws.{first_folding}
 use Rattle.sm_recover.specs.Faults.{HasPlaces, IsLeast, is_disk_by, is_shown, is_unrecorded_in, unrecorded, lesser}
-use Rattle.common_laws.proofs.Lists.{In-append, In-map, In-map_at, In-filter, filter-In}
+use Rattle.common_laws.proofs.Lists.{In-append, In-map, In-filter, filter-In}
 use Rattle.common_laws.proofs.Options.{is_some-parts}
 use Rattle.sm_standing.specs.Checks.{disk_uuids}
 use Rattle.sm_standing.proofs.Orders.{not_both}
@@ -48,11 +49,27 @@ found_either test a b = by (test a) (test b)
 pub own_plain : (t : VolumeTable) → IsPlain t → (u : List ℕ) → is_some (standing_volume t u) ≡ (is_visible t (Vhd u) || is_visible t (Raw u))
 own_plain t plain u = ap is_some (plain_stands t u plain) ∙ found_either (is_visible t) (Vhd u) (Raw u)
 
--- whether it is one by the entry of a fork, where no entry of the other group is there
-pub disk_by : (t : VolumeTable) → folding t ≡ [] → (u : List ℕ) → is_some (standing_volume t u) ≡ is_disk_by t (head (making t)) u
+-- the entry of a copy or of a link says nothing of it
+folded_none : (t : VolumeTable) → IsKnown t → (u : List ℕ) (o : Option Name) → under (λ e. stands_folded t e u) (head (folding t)) o ≡ o
+folded_none t known u o = by (head (folding t)) (λ n is. (first_folding t n known is).known)
+  where
+    by : (h : Option Name) → ((n : Name) → h ≡ Some n → is_known_name n ≡ true) → under (λ e. stands_folded t e u) h o ≡ o
+    by None each = refl
+    by (Some (Leaf l p)) each = absurd (true≢false (sym (each (Leaf l p) refl)))
+    by (Some Mgt) each = refl
+    by (Some (Vhd v)) each = refl
+    by (Some (Raw v)) each = refl
+    by (Some (Old v)) each = refl
+    by (Some (Clone d b w)) each = refl
+    by (Some (Inflate v e)) each = refl
+    by (Some (Coalesce c p)) each = refl
+    by (Some (Relink c p)) each = refl
+
+-- whether it is one by the entry of a fork, where no leaf is being folded
+pub disk_by : (t : VolumeTable) → IsKnown t → (u : List ℕ) → is_some (standing_volume t u) ≡ is_disk_by t (head (making t)) u
 unfolding standing_volume
-disk_by t none u =
-    ap is_some (ap (λ ns. under (λ e. stands_forked t e u) (head (making t)) (under (λ e. stands_folded t e u) (head ns) (stands_plainly t u))) none) ∙ by (head (making t))
+disk_by t known u =
+    ap (λ o. is_some (under (λ e. stands_forked t e u) (head (making t)) o)) (folded_none t known u (stands_plainly t u)) ∙ by (head (making t))
   where
     own : is_some (stands_plainly t u) ≡ is_shown t u
     own = found_either (is_visible t) (Vhd u) (Raw u)
@@ -208,12 +225,12 @@ unfolding in_order
 in_order-In [] u i = i
 in_order-In (v ∷ us) u i = ⊎_elim (λ is. inl is) (λ j. inr (in_order-In us u j)) (In-with_uuid v u (in_order us) i)
 
-module _ (k : RoomyTable) (places : List (Option Record)) (u : List ℕ) (none : folding (table_alone k) ≡ []) (wrong : Wrong (table_alone k) places u) where
+module _ (k : RoomyTable) (places : List (Option Record)) (u : List ℕ) (known : IsKnown (table_alone k)) (wrong : Wrong (table_alone k) places u) where
   abbrev t : VolumeTable
   t = table_alone k
 
   -- by the name that speaks of it
-  of_name : (n : Name) → is_folding n ≡ false → In u (candidates n) → unrecorded t places n ≡ Some u
+  of_name : (n : Name) → is_known_name n ≡ true → In u (candidates n) → unrecorded t places n ≡ Some u
   unfolding unrecorded
   of_name (Vhd v) other (inl is) = subst (λ (x : List ℕ). given (is_unrecorded_in t places x) x ≡ Some u) is (at_vhd t places u wrong)
   of_name (Raw v) other (inl is) = subst (λ (x : List ℕ). given (is_unrecorded_in t places x) x ≡ Some u) is (at_vhd t places u wrong)
@@ -221,19 +238,12 @@ module _ (k : RoomyTable) (places : List (Option Record)) (u : List ℕ) (none :
   of_name (Vhd v) other (inr i) = absurd i
   of_name (Raw v) other (inr i) = absurd i
   of_name (Clone d b w) other (inr i) = absurd i
-  of_name (Leaf l p) other i = absurd (true≢false other)
+  of_name (Leaf l p) other i = absurd (true≢false (sym other))
   of_name Mgt other i = absurd i
   of_name (Old v) other i = absurd i
   of_name (Inflate v e) other i = absurd i
   of_name (Coalesce c p) other i = absurd i
   of_name (Relink c p) other i = absurd i
-
-  not_folding : (r : Row) → In r t.volumes → is_folding r.name ≡ false
-  not_folding r i = by (is_folding r.name) refl
-    where
-      by : (b : Bool) → is_folding r.name ≡ b → b ≡ false
-      by false is = refl
-      by true is = absurd (subst (In r.name) none (filter-In is_folding (names_of t.volumes) r.name (In-map_at (λ (x : Row). x.name) t.volumes r i) is))
 
   wrong_given : IsGiven (λ h. unrecorded t places h.row.name) k.rows u
   unfolding uuids
@@ -241,18 +251,18 @@ module _ (k : RoomyTable) (places : List (Option Record)) (u : List ℕ) (none :
       let n = is_some-parts (standing_volume t u) (stands t places u wrong) in
       let r = flat_map-In (λ r. candidates r.name) t.volumes u (in_order-In (flat_map (λ (r : Row). candidates r.name) t.volumes) u (stands_listed t u n.0 n.1)) in
       let h = In-map (λ (g : RoomyRow). g.row) k.rows r.0 r.1 in
-      (h.0, h.1, ap (λ (q : Row). unrecorded t places q.name) (sym h.2) ∙ of_name r.0.name (not_folding r.0 r.1) r.2)
+      (h.0, h.1, ap (λ (q : Row). unrecorded t places q.name) (sym h.2) ∙ of_name r.0.name (all-In (λ (x : Row). is_known x ≡ true) t.volumes r.0 known r.1) r.2)
 
 -- the least among the volumes so far
 abbrev pub with_unrecorded : VolumeTable → List (Option Record) → Option (List ℕ) → RoomyRow → Option (List ℕ)
 with_unrecorded t places least h = lesser least (unrecorded t places h.row.name)
 
-pub least_unrecorded : (k : RoomyTable) (places : List (Option Record)) → folding (table_alone k) ≡ []
+pub least_unrecorded : (k : RoomyTable) (places : List (Option Record)) → IsKnown (table_alone k)
     → IsLeast (λ u. is_unrecorded_in (table_alone k) places u ≡ true) (fold (with_unrecorded (table_alone k) places) None k.rows)
-least_unrecorded k places none =
+least_unrecorded k places known =
     let t = table_alone k in
     least_as (λ u. ⊥ ⊎ IsGiven (λ h. unrecorded t places h.row.name) k.rows u) (Wrong t places) (fold (with_unrecorded t places) None k.rows)
-    (λ u. ⊎_elim (λ none. absurd none) (λ g. from_name t places g.0.row.name u g.2)) (λ u wrong. inr (wrong_given k places u none wrong))
+    (λ u. ⊎_elim (λ none. absurd none) (λ g. from_name t places g.0.row.name u g.2)) (λ u wrong. inr (wrong_given k places u known wrong))
     (least_fold (λ h. unrecorded t places h.row.name) k.rows (λ u. ⊥) None (λ u never. never))
 
 -- the check of the records, by the least of these UUIDs

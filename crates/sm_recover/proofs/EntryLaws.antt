@@ -14,25 +14,40 @@ use Rattle.sm_base.specs.Names.{IsName}
 use Rattle.sm_base.specs.declared.names.Name.{Name}
 use Rattle.sm_base.specs.declared.names.Name.TheVariants.{Mgt, Vhd, Raw, Old, Clone, Inflate, Coalesce, Relink, Leaf}
 use Rattle.vg_meta.specs.Changes.{Permits, applied}
-use Rattle.vg_meta.specs.Tables.{IsVolume, Row, VolumeTable, names_of, rows}
+use Rattle.vg_layout.specs.Places.{record_extents}
+use Rattle.vg_meta.specs.Tables.{IsTable, IsVolume, Row, VolumeTable, extents_of, names_of, rows}
 use Rattle.vg_meta.specs.declared.changes.Change.{Change}
 use Rattle.vg_meta.specs.declared.changes.Change.TheVariants.{Cut, Remove}
 use Rattle.vg_meta.proofs.ByName.{changes_by_name}
 use Rattle.vg_volumes.specs.Sites.{Site}
+use Rattle.sm_standing.specs.Checks.{is_lost}
 use Rattle.sm_standing.specs.Entries.{are_past, head, image_with, is_at_stage, is_filled, is_fork_made, is_forking, is_making, is_there, is_visible_or_gone, making, of_row, second}
 use Rattle.sm_standing.specs.Opened.{under_name}
 use Rattle.sm_standing.specs.Undone.{IsBeingEnlarged, applied_all, base_changes, changes_back, is_longer, undo_changes, undone, wanted}
 use Rattle.sm_standing.specs.Plain.{is_simple, is_simple_name}
-use Rattle.sm_standing.proofs.PlainDisks.{all-In, simple_folding}
+use Rattle.sm_standing.proofs.PlainDisks.{all-In}
 use Rattle.sm_standing.proofs.UndoneLaws.{IsBeingForked, enlarged_or_not, entry_row}
 use Rattle.sm_ready.specs.Runs.{AllMay}
 use Rattle.sm_ready.proofs.RowLaws.{All-In, found_in}
-use Rattle.sm_recover.specs.Faults.{has_any, is_begun, is_fork_at_stage}
-use Rattle.sm_recover.specs.Repairs.{IsUndoable}
+use Rattle.sm_recover.specs.Faults.{has_any, is_apart, is_begun, is_fork_at_stage}
+use Rattle.sm_recover.specs.Repairs.{IsEndable, IsUndoable}
 use Rattle.sm_recover.specs.Steps.{changes_of_base, is_marked}
 use Rattle.sm_recover.proofs.BackLaws.{HasBase, IsGone, May, give_back, remove_one, remove_where, then_may}
 use Rattle.sm_recover.proofs.CheckLaws.{stage_as}
 use Rattle.sm_recover.proofs.CountLaws.{IsSmall, may_join, may_one, names_counted, small_next}
+
+-- what is known of a table before a fork or an enlargement is undone, whether or not an entry of the other group is there
+pub record IsStaged (s : Site) (t : VolumeTable) : Type 0 where
+  pub table : IsTable s.count t
+  pub one_entry : second (making t) ≡ None
+  pub at_stage : (r : Row) → In r t.volumes → is_lost t r ≡ false
+  pub record_volume : length (extents_of (rows t Mgt)) ≡ record_extents s.geometry.extent
+
+pub staged : {s : Site} {t : VolumeTable} → IsUndoable s t → IsStaged s t
+staged c = record { table = c.table; one_entry = c.one_entry; at_stage = c.at_stage; record_volume = c.record_volume }
+
+pub staged_end : {s : Site} {t : VolumeTable} → IsEndable s t → IsStaged s t
+staged_end c = record { table = c.table; one_entry = c.one_entry; at_stage = c.at_stage; record_volume = c.record_volume }
 
 -- ---- the entry of a fork
 
@@ -49,7 +64,7 @@ head_alone [] n is one = absurd (none-some n is)
 head_alone (m ∷ []) n is one = ap (λ x. x ∷ []) (same_Some m n is)
 head_alone (m ∷ k ∷ ns) n is one = absurd (none-some k (sym one))
 
-pub fork_found : {s : Site} {t : VolumeTable} (d b w : List ℕ) → IsUndoable s t → head (making t) ≡ Some (Clone d b w) → IsFork t d b w
+pub fork_found : {s : Site} {t : VolumeTable} (d b w : List ℕ) → IsStaged s t → head (making t) ≡ Some (Clone d b w) → IsFork t d b w
 unfolding is_at_stage
 fork_found {s} {t} d b w c found =
     let alone = head_alone (making t) (Clone d b w) found c.one_entry in
@@ -61,7 +76,7 @@ fork_found {s} {t} d b w c found =
       entry = alone;
       row = r.0;
       there = ap (rows t) (sym named) ∙ found_in t.volumes c.table.volumes.rising r.0 r.1;
-      stage = sym (stage_as t d b w (simple_folding t.volumes c.simple)) ∙ right.0;
+      stage = sym (stage_as t d b w) ∙ right.0;
       past = right.1;
       named = subst IsName named (All-In IsVolume t.volumes r.0 c.table.volumes.each r.1).name;
     }
@@ -114,14 +129,21 @@ unlike : (u v : List ℕ) → not (bytes_eq u v) ≡ true → u ≢ v
 unlike u v other same = true≢false (sym (bytes_eq-refl u) ∙ ap (bytes_eq u) same ∙ not_true (bytes_eq u v) other)
 
 module _ {t : VolumeTable} {d b w : List ℕ} (f : IsFork t d b w) where
-  apart : (not (bytes_eq d b) ≡ true) × ((not (bytes_eq d w) && (not (bytes_eq b w) && (is_begun t d b w || is_fork_made t d b w))) ≡ true)
-  apart = and_parts (not (bytes_eq d b)) (not (bytes_eq d w) && (not (bytes_eq b w) && (is_begun t d b w || is_fork_made t d b w))) f.stage
+  abbrev staged_apart : Bool
+  staged_apart = is_apart t d b w && (is_begun t d b w || is_fork_made t d b w)
 
-  apart_twin : (not (bytes_eq d w) ≡ true) × ((not (bytes_eq b w) && (is_begun t d b w || is_fork_made t d b w)) ≡ true)
-  apart_twin = and_parts (not (bytes_eq d w)) (not (bytes_eq b w) && (is_begun t d b w || is_fork_made t d b w)) apart.1
+  apart : (not (bytes_eq d b) ≡ true) × ((not (bytes_eq d w) && (not (bytes_eq b w) && staged_apart)) ≡ true)
+  apart = and_parts (not (bytes_eq d b)) (not (bytes_eq d w) && (not (bytes_eq b w) && staged_apart)) f.stage
 
-  apart_base : (not (bytes_eq b w) ≡ true) × ((is_begun t d b w || is_fork_made t d b w) ≡ true)
-  apart_base = and_parts (not (bytes_eq b w)) (is_begun t d b w || is_fork_made t d b w) apart_twin.1
+  apart_twin : (not (bytes_eq d w) ≡ true) × ((not (bytes_eq b w) && staged_apart) ≡ true)
+  apart_twin = and_parts (not (bytes_eq d w)) (not (bytes_eq b w) && staged_apart) apart.1
+
+  apart_base : (not (bytes_eq b w) ≡ true) × (staged_apart ≡ true)
+  apart_base = and_parts (not (bytes_eq b w)) staged_apart apart_twin.1
+
+  -- it has no UUID of the other entry
+  pub apart_folding : is_apart t d b w ≡ true
+  apart_folding = (and_parts (is_apart t d b w) (is_begun t d b w || is_fork_made t d b w) apart_base.1).0
 
   pub disk_base : d ≢ b
   disk_base = unlike d b apart.0
@@ -133,7 +155,7 @@ module _ {t : VolumeTable} {d b w : List ℕ} (f : IsFork t d b w) where
   base_twin = unlike b w apart_base.0
 
   pub at_stage : (is_begun t d b w || is_fork_made t d b w) ≡ true
-  at_stage = apart_base.1
+  at_stage = (and_parts (is_apart t d b w) (is_begun t d b w || is_fork_made t d b w) apart_base.1).1
 
   -- where an image has the base's UUID the disk's image was renamed
   pub base_made : (from : Name) → image_with t b ≡ Some from → is_fork_made t d b w ≡ true
@@ -354,9 +376,9 @@ undoable_small {s} {t} c = record {
 }
 
 -- the image that is being enlarged
-pub enlarged_found : {s : Site} {t : VolumeTable} (u : List ℕ) (e : ℕ) → IsUndoable s t → head (making t) ≡ Some (Inflate u e) → IsBeingEnlarged t u e
+pub enlarged_found : {s : Site} {t : VolumeTable} (u : List ℕ) (e : ℕ) → IsStaged s t → head (making t) ≡ Some (Inflate u e) → IsBeingEnlarged t u e
 enlarged_found {s} {t} u e c found =
-    by (enlarged_or_not s.count t c.table c.simple c.one_entry c.at_stage)
+    by (enlarged_or_not s.count t c.table c.one_entry c.at_stage)
   where
     by : (making t ≡ []) ⊎ (((u : List ℕ) × (extents : ℕ) × IsBeingEnlarged t u extents) ⊎ IsBeingForked t) → IsBeingEnlarged t u e
     by (inl none) = absurd (none-some (Inflate u e) (sym (ap head none) ∙ found))
@@ -367,11 +389,11 @@ enlarged_found {s} {t} u e c found =
 
 -- each change is allowed in its turn
 pub back_allowed : {s : Site} {t : VolumeTable} (n : Name) → IsUndoable s t → head (making t) ≡ Some n → AllMay s.count t (changes_back t n)
-back_allowed (Inflate u e) c found = enlargement_back _ c.few_extents (enlarged_found u e c found) (undoable_small c)
+back_allowed (Inflate u e) c found = enlargement_back _ c.few_extents (enlarged_found u e (staged c) found) (undoable_small c)
 back_allowed {s} {t} (Clone d b w) c found = by (image_with t b) refl
   where
     f : IsFork t d b w
-    f = fork_found d b w c found
+    f = fork_found d b w (staged c) found
 
     by : (o : Option Name) → image_with t b ≡ o → AllMay s.count t (changes_back t (Clone d b w))
     by None none = (none_back s.count c.few_extents f (undoable_small c) none).may

@@ -12,7 +12,6 @@ use Rattle.sm_base.specs.declared.sizes.Geometry.{Geometry}
 use Rattle.sm_base.proofs.OrderLemmas.{name_cmp-same}
 use Rattle.sm_disk.specs.Held.{Held}
 use Rattle.vg_meta.specs.Changes.{without as without_row}
-use Rattle.vg_meta.specs.Roomy.{table_alone}
 use Rattle.vg_meta.specs.Tables.{IsVolume, Row, VolumeTable, extents_of, rows}
 use Rattle.vg_meta.specs.declared.changes.Change.TheVariants.{Remove}
 use Rattle.vg_meta.proofs.NameLaws.{name_eq-other}
@@ -37,7 +36,7 @@ use Rattle.sm_standing.specs.Ordered.{Rising}
 use Rattle.sm_standing.specs.Outlines.{Link, Outline}
 use Rattle.sm_standing.specs.Standing.{standing_volume}
 use Rattle.sm_standing.specs.Undone.{applied_all, base_changes, changes_back, undone, wanted}
-use Rattle.sm_standing.proofs.PlainDisks.{simple_folding}
+use Rattle.sm_standing.proofs.PlainKept.{simple_known}
 use Rattle.sm_standing.proofs.NamedLaws.{all_past, named_still, past_later}
 use Rattle.sm_standing.proofs.Orders.{In-filter_map, filter_map-In, In-insert, new-insert, old-insert, rising-insert, rising_ext}
 use Rattle.vhd_image.specs.Bodies.{in_volume, parent_name, sector_count, volume_name}
@@ -53,16 +52,16 @@ use Rattle.sm_ready.proofs.Orders.{In-tree_row}
 use Rattle.sm_ready.proofs.RowLaws.{All-In, found_in}
 use Rattle.sm_recover.specs.Backs.{fork_back, row_back, rows_back}
 use Rattle.sm_recover.specs.Faults.{HasLinks, HasPlaces, HasTable, has_any, has_one, is_any_visible, is_begun, is_disk_by, is_fork_linked_in, is_new_over, is_other_child, is_shown, is_unlinked_in}
-use Rattle.sm_recover.specs.Loaded.{AreRowsOf, HasEachRow, IsReadAs, IsRow, read_volumes, row_among, row_with, shortened, stored_read}
-use Rattle.sm_recover.specs.Repairs.{IsUndoableStore}
+use Rattle.sm_recover.specs.Loaded.{AreRowsOf, HasEachRow, IsReadAs, IsRow, read_volumes, row_among, row_with, shortened, stored_with}
+use Rattle.sm_recover.specs.Repairs.{IsUndoable}
 use Rattle.sm_recover.proofs.CheckedTrees as checked
 use Rattle.sm_recover.proofs.DiskLaws.{disk_by, own_plain}
 use Rattle.sm_recover.proofs.BackLaws.{HasBase}
-use Rattle.sm_recover.proofs.EntryLaws.{IsDropped, IsFork, IsMade, IsTakenBack, at_stage, back_image, base_found, base_made, disk_twin, from_not_twin, has_base, made_parts, undoable_small}
+use Rattle.sm_recover.proofs.EntryLaws.{IsDropped, IsFork, IsMade, IsTakenBack, at_stage, back_image, base_found, base_made, disk_twin, from_not_twin, has_base, made_parts, staged, undoable_small}
 use Rattle.sm_recover.proofs.GiveBackLaws.{free_back, rows_some}
 use Rattle.sm_recover.proofs.TreeLaws.{ends}
 use Rattle.sm_recover.proofs.LinkLaws.{unlinked_seen}
-use Rattle.sm_recover.proofs.SeenLaws.{volumes_seen}
+use Rattle.sm_recover.proofs.SeenLaws.{children_counted, volumes_seen}
 use Rattle.sm_recover.proofs.TableLaws.{own_name as own_image}
 use Rattle.sm_recover.proofs.LoadedLaws.{among_is, none_among, read_from}
 use Rattle.sm_recover.proofs.OpenedWell.{IsBeside}
@@ -105,10 +104,10 @@ read_renamed told g sectors h (Relink a p) d image read = absurd read
 read_renamed told g sectors h (Leaf l p) d image read = absurd read
 
 -- what a store with this table holds
-abbrev with_table : Stored → VolumeTable → Stored
+abbrev pub with_table : Stored → VolumeTable → Stored
 with_table x t = record x { table = t }
 
-row_moved : (told : Type 0) (x : Stored) (t u : VolumeTable) (r : Row) (y : TreeRow) → rows u r.name ≡ rows t r.name → IsRow told (with_table x t) r y → IsRow told (with_table x u) r y
+pub row_moved : (told : Type 0) (x : Stored) (t u : VolumeTable) (r : Row) (y : TreeRow) → rows u r.name ≡ rows t r.name → IsRow told (with_table x t) r y → IsRow told (with_table x u) r y
 row_moved told x t u r y same row = record {
   named = row.named;
   hidden = row.hidden;
@@ -116,13 +115,10 @@ row_moved told x t u r y same row = record {
   image = subst (λ o. IsReadAs told x.site.geometry (length r.extents * x.site.geometry.extent) (volume x.site.geometry.extent (extents_of o) x.area) r.name y.image) (sym same) row.image;
 }
 
-module _ {S : Type 0} (g : Ghosts S) (store : S) (xs : List TreeRow) (places : List (Option Record)) (c : IsUndoableStore g store) (are_read : AreRowsOf (read_volumes (table_alone (g.table store))) xs)
-    (each_read : HasEachRow g.told (stored_read g store) (read_volumes (table_alone (g.table store))) xs) (long : length places ≡ place_count)
-    (pass : (x : Outline) → HasTable (g.site store).geometry (table_alone (g.table store)) x → HasLinks xs x → HasPlaces places x → fault_today_of x ≡ None)
-    (d b w : List ℕ) (found : head (making (table_alone (g.table store))) ≡ Some (Clone d b w)) where
-  abbrev was : VolumeTable
-  was = table_alone (g.table store)
-
+module _ {S : Type 0} (g : Ghosts S) (store : S) (xs : List TreeRow) (places : List (Option Record)) {was : VolumeTable} (c : IsUndoable (g.site store) was) (are_read : AreRowsOf (read_volumes was) xs)
+    (each_read : HasEachRow g.told (stored_with g store (shortened was)) (read_volumes was) xs) (long : length places ≡ place_count)
+    (pass : (x : Outline) → HasTable (g.site store).geometry was x → HasLinks xs x → HasPlaces places x → fault_today_of x ≡ None)
+    (d b w : List ℕ) (found : head (making was) ≡ Some (Clone d b w)) where
   abbrev now : VolumeTable
   now = undone was
 
@@ -139,17 +135,17 @@ module _ {S : Type 0} (g : Ghosts S) (store : S) (xs : List TreeRow) (places : L
   are = are_read ∙ ap (filter_map (row_among xs)) (read_whole was whole)
 
   each : HasEachRow g.told held was.volumes xs
-  each = subst (λ t. HasEachRow g.told (with_table held t) t.volumes xs) whole.table (checked.each g store xs places c are_read each_read)
+  each = subst (λ t. HasEachRow g.told (with_table held t) t.volumes xs) whole.table (checked.each g store xs places (staged c) are_read each_read)
 
   named : (r : Row) → In r was.volumes → is_misnamed was r ≡ false
-  named = checked.named g store xs places c are_read each_read long pass
+  named = checked.named g store xs places (staged c) are_read each_read long pass
 
   later : was.sequence ≤ now.sequence
   later = subst (λ (t : VolumeTable). was.sequence ≤ t.sequence) (sym (undone_by was (Clone d b w) found)) (later_all was (changes_back was (Clone d b w)) (let q = c.table.sequence in omega (arith, q)))
 
   -- a row in memory has the name of a volume
   row_volume : (y : TreeRow) → In y xs → HasVolume was y
-  row_volume y i = has_volume c are_read y i
+  row_volume y i = has_volume (staged c) are_read y i
 
   rows_are : rows_back was xs ≡ fork_back (image_with was b) d (without (Vhd w) xs)
   rows_are = rows_some was xs (Clone d b w) found
@@ -165,7 +161,7 @@ module _ {S : Type 0} (g : Ghosts S) (store : S) (xs : List TreeRow) (places : L
   stands_now u = own_plain now (undone_checked c).plain u
 
   stands_was : (u : List ℕ) → is_some (standing_volume was u) ≡ is_disk_by was (Some (Clone d b w)) u
-  stands_was u = disk_by was (simple_folding was.volumes c.simple) u ∙ ap (λ o. is_disk_by was o u) found
+  stands_was u = disk_by was (simple_known was c.simple) u ∙ ap (λ o. is_disk_by was o u) found
 
   -- a name of no volume is shown by none
   hidden_none : (t : VolumeTable) (n : Name) → rows t n ≡ None → is_visible t n ≡ false
@@ -240,14 +236,14 @@ module _ {S : Type 0} (g : Ghosts S) (store : S) (xs : List TreeRow) (places : L
     from_was : (r : Row) → In r now.volumes → In r was.volumes × (rows now r.name ≡ rows was r.name)
     from_was r i = let j = In-without (Clone d b w) was.volumes r (subst (In r) volumes_now i) in (j, now_volumes r i ∙ sym (was_volumes r j))
 
-    pub dropped_beside : IsBeside g store (rows_back was xs) places
-    dropped_beside = subst (λ ys. IsBeside g store ys places) (sym ys_are) (record {
+    pub dropped_beside : IsBeside g store was (rows_back was xs) places
+    dropped_beside = subst (λ ys. IsBeside g store was ys places) (sym ys_are) (record {
       are = are ∙ sym (ap (filter_map (row_among xs)) volumes_now ∙ filtered_without (row_among xs) (Clone d b w) was.volumes (λ r is. none_among xs r (λ q. true≢false (sym q.image ∙ ap is_image is))));
       each = λ r i filled. let v = from_was r i in let y = each r v.0 filled in (y.0, y.1, row_moved g.told held was now r y.0 v.1 y.2);
       named = λ r i. named_still was now r later (λ n gone. gone_still n gone) (named r (from_was r i).0);
-      parents = checked.parents g store xs places c are_read each_read long pass;
-      chains = checked.chains g store xs places c are_read each_read long pass;
-      recorded = λ u stood. checked.recorded g store xs places c are_read each_read long pass u (stands_was u ∙ still u (sym (stands_now u) ∙ stood));
+      parents = checked.parents g store xs places (staged c) are_read each_read long pass;
+      chains = checked.chains g store xs places (staged c) are_read each_read long pass;
+      recorded = λ u stood. checked.recorded g store xs places (staged c) are_read each_read long pass u (stands_was u ∙ still u (sym (stands_now u) ∙ stood));
       source = λ u r there filled. (u, r, ap (λ t. rows t (Vhd u)) whole.table ∙ sym (same_row (Vhd u) (λ e. let x = e in cc)) ∙ there, filled, refl);
     })
       where
@@ -375,7 +371,7 @@ module _ {S : Type 0} (g : Ghosts S) (store : S) (xs : List TreeRow) (places : L
     new_name = named_in to y₀.image
 
     free : tree_row zs to ≡ None
-    free = free_back from d w xs (can_give_back g store xs c are_read d b w found from at_base)
+    free = free_back from d w xs (can_give_back xs (staged c) are_read d b w found from at_base)
 
     at_new : tree_row ys to ≡ Some new
     at_new = ap (tree_row ys) (sym new_name) ∙ tree_row-with_same zs new (ap (tree_row zs) new_name ∙ free)
@@ -544,9 +540,10 @@ module _ {S : Type 0} (g : Ghosts S) (store : S) (xs : List TreeRow) (places : L
     linked_in : is_fork_linked_in xs d b w ≡ true
     unfolding outline_in
     linked_in =
-        let seen = checked.seen g store xs places c are_read each_read long pass in
-        let entry = checked.linked g store xs places c are_read each_read long pass f.row (row_listed was (Clone d b w) f.row f.there) in
-        let right = unlinked_seen xs seen (checked.links g store xs places c are_read each_read long pass) (volumes_seen g store c xs each_read are_read seen refl) (Clone d b w) refl in
+        let seen = checked.seen g store xs places (staged c) are_read each_read long pass in
+        let entry = checked.linked g store xs places (staged c) are_read each_read long pass f.row (row_listed was (Clone d b w) f.row f.there) in
+        let right = unlinked_seen xs seen (checked.links g store xs places (staged c) are_read each_read long pass) (volumes_seen g store (staged c) xs each_read are_read seen refl)
+        (children_counted g store (staged c) xs each_read are_read seen refl (checked.links g store xs places (staged c) are_read each_read long pass)) (Clone d b w) refl in
         let same : is_unlinked_in was xs (Clone d b w) ≡ false = right ∙ ap not (ap (is_entry_linked seen) (sym (row_of-name was.volumes (Clone d b w) f.row f.there)) ∙ entry) in
         not_false (is_fork_linked_in xs d b w) (sym (ap (λ x. x && not (is_fork_linked_in xs d b w)) (base_made f from at_base)) ∙ same)
 
@@ -578,7 +575,7 @@ module _ {S : Type 0} (g : Ghosts S) (store : S) (xs : List TreeRow) (places : L
 
     parent_stays : (x : TreeRow) (p : Name) → In x xs → row_name x ≢ Vhd d → row_name x ≢ Vhd w → parent_name x.image ≡ Some p → HasStay x p
     parent_stays x p i not_own not_new is =
-        let h = checked.parents g store xs places c are_read each_read long pass x p i is in
+        let h = checked.parents g store xs places (staged c) are_read each_read long pass x p i is in
         let q = In-map machine_row xs h.parent h.there in
         let hidden : q.0.hidden ≡ true = ap (λ (z : ImageRow). z.hidden) (sym q.2) ∙ h.is_hidden in
         let named_p : row_name q.0 ≡ p = ap (λ (z : ImageRow). z.name) (sym q.2) ∙ h.is_named in
@@ -638,7 +635,7 @@ module _ {S : Type 0} (g : Ghosts S) (store : S) (xs : List TreeRow) (places : L
     -- ---- chains
 
     abbrev seen : Outline
-    seen = checked.seen g store xs places c are_read each_read long pass
+    seen = checked.seen g store xs places (staged c) are_read each_read long pass
 
     abbrev seen_now : Outline
     seen_now = record seen { links = λ n. link_in (tree_row ys n) }
@@ -654,12 +651,12 @@ module _ {S : Type 0} (g : Ghosts S) (store : S) (xs : List TreeRow) (places : L
     chain_at x n m z is = ap (λ (o : Option Link). elim o as (λ _. ℕ) [ None ↦ 0 | Some i ↦ suc (elim i.parent as (λ _. ℕ) [ None ↦ 0 | Some p ↦ chain_length x n p ]) ]) is
 
     link_was : (z : TreeRow) → In z xs → seen.links (row_name z) ≡ Some (link z)
-    link_was z i = checked.links g store xs places c are_read each_read long pass (row_name z) ∙ checked.found_link g store xs places c are_read each_read long pass z i
+    link_was z i = checked.links g store xs places (staged c) are_read each_read long pass (row_name z) ∙ checked.found_link g store xs places (staged c) are_read each_read long pass z i
 
     found_ys : (z : TreeRow) → In z ys → link_in (tree_row ys (row_name z)) ≡ link_in (Some z)
     found_ys z i = ⊎_elim
         (λ is. subst (λ v. link_in (tree_row ys (row_name v)) ≡ link_in (Some v)) (sym is) (ap (λ n. link_in (tree_row ys n)) new_name ∙ ap link_in at_new))
-        (λ j. let v = in_zs z j in ap link_in (at_other (row_name z) v.not_twin v.not_own v.not_from (stays_not_to z v)) ∙ checked.found_link g store xs places c are_read each_read long pass z v.there)
+        (λ j. let v = in_zs z j in ap link_in (at_other (row_name z) v.not_twin v.not_own v.not_from (stays_not_to z v)) ∙ checked.found_link g store xs places (staged c) are_read each_read long pass z v.there)
         (In-insert tree_cmp row_total new z zs i)
 
     up : (z : TreeRow) (p : Name) → In z ys → parent_name z.image ≡ Some p → (q : TreeRow) × (tree_row ys p ≡ Some q)
@@ -688,7 +685,7 @@ module _ {S : Type 0} (g : Ghosts S) (store : S) (xs : List TreeRow) (places : L
         let long_now = chain_at seen_now 30 (row_name z) z (found_ys z i) in
         let long_was = chain_at seen 30 (row_name v.row) v.row (link_was v.row v.in_xs) in
         let same = ap (below seen_now 30) v.parent ∙ by v (parent_name v.row.image) refl in
-        omega (arith, long_now, long_was, same, checked.short g store xs places c are_read each_read long pass v.row v.in_xs)
+        omega (arith, long_now, long_was, same, checked.short g store xs places (staged c) are_read each_read long pass v.row v.in_xs)
       where
         by : (v : Was z) (o : Option Name) → parent_name v.row.image ≡ o → below seen_now 30 o ≡ below seen 30 o
         by v None is = refl
@@ -752,13 +749,13 @@ module _ {S : Type 0} (g : Ghosts S) (store : S) (xs : List TreeRow) (places : L
         (λ o. (u, r, ap (λ t. rows t (Vhd u)) whole.table ∙ ap (rows was) (sym (row_of-name now.volumes (Vhd u) r at)) ∙ was_volumes r o.there, filled, refl))
         (taken_from c d b w found from at_base r (row_listed now (Vhd u) r at))
 
-    pub taken_beside : IsBeside g store (rows_back was xs) places
-    taken_beside = subst (λ zs. IsBeside g store zs places) (sym taken_are) (record {
+    pub taken_beside : IsBeside g store was (rows_back was xs) places
+    taken_beside = subst (λ zs. IsBeside g store was zs places) (sym taken_are) (record {
       are = are_ys;
       each = each_ys;
       named = named_ys;
       parents = parents_ys;
       chains = chains_ys;
-      recorded = λ u stood. checked.recorded g store xs places c are_read each_read long pass u (stands_was u ∙ still u (sym (stands_now u) ∙ stood));
+      recorded = λ u stood. checked.recorded g store xs places (staged c) are_read each_read long pass u (stands_was u ∙ still u (sym (stands_now u) ∙ stood));
       source = source_ys;
     })

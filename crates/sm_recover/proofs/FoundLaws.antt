@@ -30,9 +30,9 @@ use Rattle.sm_ready.specs.Stores.{content_now}
 use Rattle.sm_ready.proofs.LeftLaws.{now_sector, raw_of, size_there, vhd_of}
 use Rattle.sm_recover.specs.Faults.{HasTable}
 use Rattle.sm_recover.specs.Loaded.{IsFilledImage, IsNoneRead, IsReadAs, as_read, shortened}
-use Rattle.sm_recover.specs.Repairs.{IsUndoable}
 use Rattle.sm_standing.specs.Undone.{undone}
 use Rattle.sm_standing.proofs.UndoneContents.{images_undone_at}
+use Rattle.sm_recover.proofs.EntryLaws.{IsStaged}
 use Rattle.sm_recover.proofs.TableLaws.{Cases, cases, other_extents, other_whole, records_room, shortened_undone}
 
 and_no : (b : Bool) → (b && false) ≡ false
@@ -184,7 +184,7 @@ wrong_read ns x q (Leaf l p) is = refl
 pub invalid_as_read : (ns : List Name) (x : Outline) (q : Row) → is_invalid x (as_read ns q) ≡ is_invalid x q
 invalid_as_read ns x q = ap (λ w. not q.fresh && w) (wrong_read ns x q q.name refl)
 
-module _ (s : Site) (t : VolumeTable) (area : Held) (c : IsUndoable s t) where
+module _ (s : Site) (t : VolumeTable) (area : Held) (c : IsStaged s t) where
   -- each image is the same without the enlargement
   pub image_short : (n : Name) → image_of (content_now s (shortened t) area) n ≡ image_of (content_now s t area) n
   image_short n = by (cases c)

@@ -15,6 +15,10 @@ pub mod StepLaws
 pub mod CountLaws
 pub mod BackLaws
 pub mod EntryLaws
+pub mod KnownLaws
+pub mod UnfoldLaws
+pub mod UnfoldedMemory
+pub mod LinkedLaws
 pub mod UndoneLaws
 pub mod GiveBackLaws
 mod CheckedTrees
@@ -25,3 +29,8 @@ mod FoundLaws
 mod TreeLaws
 mod SeenLaws
 mod TurnLaws
+pub mod LinkingLaws
+pub mod LinkUpLaws
+pub mod EndLaws
+pub mod FirstLaws
+pub mod SweptLaws

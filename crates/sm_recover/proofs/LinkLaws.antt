@@ -1,7 +1,8 @@
--- The check of a fork's entry by parents and children: what it says by the images in memory.
-use Rattle.std.proofs.Common.{◌≡◌, ◌⊎◌, arith, inl, inr, ⊎_elim, ℕ, ◌==◌, Bool, true, false, not, ◌&&◌, ◌||◌, List, [], ◌∷◌, ◌++◌, length, filter, Option, Some, None, refl, sym, ap, ap₂, ◌∙◌}
+-- The check of the entries by parents and children: what it says by the images in memory.
+use Rattle.std.proofs.Common.{◌≡◌, ◌⊎◌, arith, inl, inr, ⊎_elim, ℕ, zero, suc, ◌+◌, ◌==◌, Bool, true, false, not, ◌&&◌, ◌||◌, List, [], ◌∷◌, ◌++◌, length, filter, Option, Some, None, refl, sym, ap, ap₂, ◌∙◌, nat_le}
 use Rattle.std.specs.List.{find, list_any}
-use Rattle.std.proofs.lemmas.Bool.{and_parts, ne_eqb, true≢false}
+use Rattle.std.proofs.lemmas.Bool.{and_parts, le-leb, ne_eqb, true≢false}
+use Rattle.std.proofs.lemmas.List.{length-append}
 use Rattle.sm_base.specs.declared.faults.Place.{Place}
 use Rattle.sm_base.specs.declared.faults.Place.TheVariants as at
 use Rattle.sm_base.specs.declared.names.Name.{Name}
@@ -13,15 +14,15 @@ use Rattle.common_laws.proofs.Booleans.{or_cases}
 use Rattle.common_laws.proofs.Lists.{In-append, In-filter, In-left, filter-In}
 use Rattle.sm_machine.specs.Shapes.{same_image}
 use Rattle.sm_machine.proofs.Changes.{list_any-some}
-use Rattle.vhd_image.specs.Bodies.{parent_name}
-use Rattle.vhd_chain.specs.Trees.{row_name, tree_row}
+use Rattle.vhd_image.specs.Bodies.{parent_name, sector_count}
+use Rattle.vhd_chain.specs.Trees.{children as children_in, row_name, tree_row}
 use Rattle.vhd_chain.specs.declared.rows.TreeRow.{TreeRow}
-use Rattle.sm_standing.specs.Checks.{children, children_with, entry_ahead_fault, entry_link_fault, first_name, has_uuid, is_base_of, is_entry_ahead, is_entry_linked, name_in, parent_is, placed}
+use Rattle.sm_standing.specs.Checks.{children, children_with, entry_ahead_fault, entry_link_fault, first_name, has_such_parent, has_uuid, is_base_of, is_entry_ahead, is_entry_linked, name_in, of_image, parent_is, placed}
 use Rattle.sm_standing.specs.Entries.{is_fork_made}
-use Rattle.sm_standing.specs.Outlines.{Outline}
+use Rattle.sm_standing.specs.Outlines.{Link, Outline}
 use Rattle.sm_ready.specs.Outlined.{link_in}
 use Rattle.sm_ready.proofs.Orders.{In-tree_row}
-use Rattle.sm_recover.specs.Faults.{HasLinks, HasVolumes, is_fork_linked_in, is_new_over, is_other_child, is_over, is_unlinked_in}
+use Rattle.sm_recover.specs.Faults.{HasChildren, HasLinks, HasVolumes, has_one_child, has_parent_in, is_as_large_in, is_copy_in, is_fork_linked_in, is_link_in, is_new_over, is_other_child, is_over, is_unlinked_in}
 use Rattle.sm_recover.proofs.CheckLaws.{find_same, first_at, held_name, none_ahead}
 use Rattle.sm_recover.proofs.TableLaws.{own_name}
 use Rattle.sm_recover.proofs.TreeLaws.{named_vhd}
@@ -137,27 +138,81 @@ module _ (xs : List TreeRow) (x : Outline) (links : HasLinks xs x) (seen : HasVo
     fork_seen : is_fork_linked_in xs d b w ≡ (is_base_of b (x.links (Vhd d)) && (is_base_of b (x.links (Vhd w)) && (length (filter other ours) == 0)))
     fork_seen = ap₂ (λ p q. p && q) (new_seen b d) (ap₂ (λ p q. p && q) (new_seen b w) (sym others_seen))
 
-  pub unlinked_seen : (n : Name) → is_entry_ahead n ≡ false → is_unlinked_in x.table xs n ≡ not (is_entry_linked x n)
+  -- ---- a copy or a link
+
+  -- a parent of this UUID is there
+  parent_seen : (p : List ℕ) (size : ℕ) (o : Option Name) → elim o as (λ _. Bool) [ None ↦ false | Some q ↦ has_uuid p q && is_as_large_in xs (nat_le size) q ]
+      ≡ has_such_parent x p (λ (l : Link). nat_le size l.size) o
+  parent_seen p size None = refl
+  parent_seen p size (Some q) = ap (λ b. has_uuid p q && b) (large (tree_row xs q) ∙ sym (ap (of_image (λ (l : Link). nat_le size l.size)) (links q)))
+    where
+      large : (o : Option TreeRow) → elim o as (λ _. Bool) [ None ↦ false | Some y ↦ nat_le size (sector_count y.image) ] ≡ of_image (λ (l : Link). nat_le size l.size) (link_in o)
+      large None = refl
+      large (Some y) = refl
+
+  pub link_seen : (c p : List ℕ) → is_link_in xs c p ≡ is_entry_linked x (Relink c p)
   unfolding is_entry_linked
-  unlinked_seen (Clone d b w) h = by (is_fork_made x.table d b w) (is_fork_linked_in xs d b w) ∙ ap (λ p. not (not (is_fork_made x.table d b w) || p)) (fork_seen d b w)
+  link_seen c p = by (tree_row xs (Vhd c)) ∙ sym (ap (of_image (λ v. has_such_parent x p (λ (l : Link). nat_le v.size l.size) v.parent)) (links (Vhd c)))
+    where
+      by : (o : Option TreeRow) → elim o as (λ _. Bool) [ None ↦ false | Some y ↦ has_parent_in xs p (nat_le (sector_count y.image)) y.image ]
+          ≡ of_image (λ v. has_such_parent x p (λ (l : Link). nat_le v.size l.size) v.parent) (link_in o)
+      by None = refl
+      by (Some y) = parent_seen p (sector_count y.image) (parent_name y.image)
+
+  module _ (counted : HasChildren xs x) where
+    one_child : (p : List ℕ) → has_one_child xs p ≡ (length (children_with x p) == 1)
+    one_child p =
+        by (length (children_in xs (Vhd p))) (length (children_in xs (Raw p)))
+        ∙ ap (λ n. n == 1) (ap₂ (λ m n. m + n) (sym (counted.vhd p)) (sym (counted.raw p)) ∙ sym (length-append (children x (Vhd p)) (children x (Raw p))))
+      where
+        by : (m n : ℕ) → (((m == 1) && (n == 0)) || ((m == 0) && (n == 1))) ≡ (m + n == 1)
+        by zero zero = refl
+        by zero (suc zero) = refl
+        by zero (suc (suc n)) = let e : suc (suc n) ≡ 0 + suc (suc n) = omega arith in ap (λ k. k == 1) e
+        by (suc zero) zero = refl
+        by (suc zero) (suc n) = ap (λ b. b || false) (ne_eqb (suc n) 0 (λ e. absurd (omega (arith, e)))) ∙ sym (ne_eqb (1 + suc n) 1 (λ e. absurd (omega (arith, e))))
+        by (suc (suc m)) n =
+            ap₂ (λ a b. (a && (n == 0)) || (b && (n == 1))) (ne_eqb (suc (suc m)) 1 (λ e. absurd (omega (arith, e)))) (ne_eqb (suc (suc m)) 0 (λ e. absurd (omega (arith, e))))
+            ∙ sym (ne_eqb (suc (suc m) + n) 1 (λ e. absurd (omega (arith, e))))
+
+    copy_seen : (c p : List ℕ) → is_copy_in xs c p ≡ is_entry_linked x (Coalesce c p)
+    unfolding is_entry_linked
+    copy_seen c p = by (tree_row xs (Vhd c)) ∙ sym (ap (λ o. of_image (λ v. has_such_parent x p (λ (l : Link). true) v.parent) o && (length (children_with x p) == 1)) (links (Vhd c)))
+      where
+        any : (o : Option Link) → of_image (λ (l : Link). nat_le 0 l.size) o ≡ of_image (λ (l : Link). true) o
+        any None = refl
+        any (Some l) = le-leb 0 l.size (omega arith)
+
+        any_size : (o : Option Name) → has_such_parent x p (λ (l : Link). nat_le 0 l.size) o ≡ has_such_parent x p (λ (l : Link). true) o
+        any_size None = refl
+        any_size (Some q) = ap (λ b. has_uuid p q && b) (any (x.links q))
+
+        by : (o : Option TreeRow) → elim o as (λ _. Bool) [ None ↦ false | Some y ↦ has_parent_in xs p (nat_le 0) y.image && has_one_child xs p ]
+            ≡ (of_image (λ v. has_such_parent x p (λ (l : Link). true) v.parent) (link_in o) && (length (children_with x p) == 1))
+        by None = refl
+        by (Some y) = ap₂ (λ a b. a && b) (parent_seen p 0 (parent_name y.image) ∙ any_size (parent_name y.image)) (one_child p)
+
+  pub unlinked_seen : HasChildren xs x → (n : Name) → is_entry_ahead n ≡ false → is_unlinked_in x.table xs n ≡ not (is_entry_linked x n)
+  unfolding is_entry_linked
+  unlinked_seen counted (Clone d b w) h = by (is_fork_made x.table d b w) (is_fork_linked_in xs d b w) ∙ ap (λ p. not (not (is_fork_made x.table d b w) || p)) (fork_seen d b w)
     where
       by : (p q : Bool) → (p && not q) ≡ not (not p || q)
       by true q = refl
       by false q = refl
-  unlinked_seen Mgt h = refl
-  unlinked_seen (Vhd u) h = refl
-  unlinked_seen (Raw u) h = refl
-  unlinked_seen (Old u) h = refl
-  unlinked_seen (Inflate u e) h = refl
-  unlinked_seen (Coalesce c p) h = absurd (true≢false h)
-  unlinked_seen (Relink c p) h = absurd (true≢false h)
-  unlinked_seen (Leaf l p) h = absurd (true≢false h)
+  unlinked_seen counted Mgt h = refl
+  unlinked_seen counted (Vhd u) h = refl
+  unlinked_seen counted (Raw u) h = refl
+  unlinked_seen counted (Old u) h = refl
+  unlinked_seen counted (Inflate u e) h = refl
+  unlinked_seen counted (Coalesce c p) h = ap not (copy_seen counted c p)
+  unlinked_seen counted (Relink c p) h = ap not (link_seen c p)
+  unlinked_seen counted (Leaf l p) h = absurd (true≢false h)
 
 -- what is found among the volumes is what the check names
-pub links_at : (k : RoomyTable) (xs : List TreeRow) (x : Outline) {hs : List RoomyRow} {o : Option RoomyRow} {answer : Option Place} → x.table ≡ table_alone k → entry_ahead_fault x ≡ None → HasLinks xs x → HasVolumes xs x
-    → hs ≡ k.rows → o ≡ find (λ h. is_unlinked_in (table_alone k) xs h.row.name) hs → answer ≡ placed at.Journal (held_name o) → answer ≡ entry_link_fault x
+pub links_at : (k : RoomyTable) (xs : List TreeRow) (x : Outline) {hs : List RoomyRow} {o : Option RoomyRow} {answer : Option Place}
+    → x.table ≡ table_alone k → entry_ahead_fault x ≡ None → HasLinks xs x → HasVolumes xs x → HasChildren xs x → hs ≡ k.rows → o ≡ find (λ h. is_unlinked_in (table_alone k) xs h.row.name) hs → answer ≡ placed at.Journal (held_name o) → answer ≡ entry_link_fault x
 unfolding entry_link_fault first_name
-links_at k xs x is no_entry links seen held found said =
+links_at k xs x is no_entry links seen counted held found said =
     first_at at.Journal (λ t r. is_unlinked_in t xs r.name) k is held found said
     ∙ ap (λ q. placed at.Journal (name_in q)) (find_same (λ r. is_unlinked_in x.table xs r.name) (λ r. not (is_entry_linked x r.name)) x.table.volumes
-    (λ r i. unlinked_seen xs x links seen r.name (none_ahead x no_entry r i)))
+    (λ r i. unlinked_seen xs x links seen counted r.name (none_ahead x no_entry r i)))

@@ -9,7 +9,6 @@ use Rattle.sm_base.specs.declared.operations.Op.TheVariants.{Idle}
 use Rattle.sm_base.specs.declared.sizes.Geometry.{Geometry}
 use Rattle.sm_disk.specs.Held.{Held, IsSettled, reads}
 use Rattle.vg_meta.specs.Tables.{VolumeTable, Row, IsVolume, extents_of, rows}
-use Rattle.vg_meta.specs.Roomy.{table_alone}
 use Rattle.vg_volumes.specs.Sites.{Site, volume_of}
 use Rattle.vg_volumes.specs.Stored.{held_in, sectors_in}
 use Rattle.vg_volumes.specs.Volumes.{volume}
@@ -18,14 +17,14 @@ use Rattle.common_laws.specs.Lists.{In}
 use Rattle.sm_machine.specs.Shapes.{image_uuid, is_vhd}
 use Rattle.sm_machine.specs.WellFormed.{IsImageRow, EndsWithin, HasParent, is_image_name, table_length}
 use Rattle.sm_record.specs.declared.records.Record.{Record}
-use Rattle.sm_mgt.specs.Places.{Agrees, records_of, is_of, place_count}
+use Rattle.sm_mgt.specs.Places.{Agrees, records_held, is_of, place_count}
 use Rattle.sm_refs.specs.Attached.{Attached}
 use Rattle.sm_standing.specs.Checks.{is_misnamed}
 use Rattle.sm_standing.specs.Entries.{is_visible}
 use Rattle.sm_standing.specs.Plain.{is_plain, is_plain_name}
 use Rattle.sm_standing.specs.Standing.{standing_volume}
 use Rattle.sm_standing.proofs.PlainDisks.{all-In}
-use Rattle.sm_standing.proofs.PlainKept.{plain_simple_name}
+use Rattle.sm_standing.proofs.PlainKept.{plain_simple_name, simple_known_name}
 use Rattle.sm_standing.specs.Undone.{undone}
 use Rattle.sm_standing.specs.Keeping.{HasNoEmptySlot, IsHolding}
 use Rattle.vhd_layout.specs.Contents.{content_at}
@@ -43,15 +42,16 @@ use Rattle.vhd_image.proofs.SteadyLaws.{steady_quiet, true_quiet}
 use Rattle.sm_ready.specs.Known.{Known, machine_row, shape_in}
 use Rattle.sm_ready.specs.Orderly.{IsOrderly}
 use Rattle.sm_ready.specs.Ready.{IsReady}
-use Rattle.sm_ready.specs.Stores.{store_content}
+use Rattle.sm_ready.specs.Stores.{content_now}
 use Rattle.sm_ready.proofs.BegunLaws.{IsRead, begun_with, begun_orderly, begun_ready}
 use Rattle.sm_ready.proofs.NewVolumeLaws.{not_records}
 use Rattle.sm_ready.proofs.NumberLaws.{whole_blocks}
 use Rattle.sm_ready.proofs.RepairLaws.{all_quiet}
 use Rattle.sm_ready.proofs.RowLaws.{All-In, found_in}
-use Rattle.sm_recover.specs.Loaded.{AreRowsOf, HasEachRow, IsReadAs, row_among, shortened, stored_undone}
-use Rattle.sm_recover.specs.Repairs.{IsChecked, IsUndoableStore}
+use Rattle.sm_recover.specs.Loaded.{AreRowsOf, HasEachRow, IsReadAs, row_among, shortened, stored_with}
+use Rattle.sm_recover.specs.Repairs.{IsChecked, IsUndoable}
 use Rattle.sm_recover.proofs.DiskLaws.{own_plain, visible_row}
+use Rattle.sm_recover.proofs.EntryLaws.{staged}
 use Rattle.sm_recover.proofs.FoundLaws.{image_short, sectors_by, valid_there}
 use Rattle.sm_recover.proofs.TableLaws.{short_sized}
 use Rattle.sm_recover.proofs.UndoneLaws.{records_undone, undone_checked}
@@ -139,25 +139,22 @@ uuid_shown t _ is_disk image visible = absurd (true≢false (sym image))
 -- ---- memory beside the table without a fork or an enlargement
 
 -- what is known of the rows in memory and of the places beside that table
-pub record IsBeside {S : Type 0} (g : Ghosts S) (store : S) (ys : List TreeRow) (places : List (Option Record)) : Type 0 where
-  pub are : AreRowsOf (undone (table_alone (g.table store))).volumes ys
-  pub each : HasEachRow g.told (stored_undone g store) (undone (table_alone (g.table store))).volumes ys
-  pub named : (r : Row) → In r (undone (table_alone (g.table store))).volumes → is_misnamed (undone (table_alone (g.table store))) r ≡ false
+pub record IsBeside {S : Type 0} (g : Ghosts S) (store : S) (was : VolumeTable) (ys : List TreeRow) (places : List (Option Record)) : Type 0 where
+  pub are : AreRowsOf (undone was).volumes ys
+  pub each : HasEachRow g.told (stored_with g store (undone was)) (undone was).volumes ys
+  pub named : (r : Row) → In r (undone was).volumes → is_misnamed (undone was) r ≡ false
   pub parents : (x : TreeRow) (p : Name) → In x ys → parent_name x.image ≡ Some p → HasParent (map machine_row ys) (machine_row x) p
   pub chains : (x : TreeRow) → In x ys → EndsWithin 30 (Some (row_name x)) (map machine_row ys)
-  pub recorded : (u : List ℕ) → is_some (standing_volume (undone (table_alone (g.table store))) u) ≡ true → length (filter (is_of u) places) ≡ 1
+  pub recorded : (u : List ℕ) → is_some (standing_volume (undone was) u) ≡ true → length (filter (is_of u) places) ≡ 1
   -- each VHD image of it stood before in as many extents
-  pub source : (u : List ℕ) (r : Row) → rows (undone (table_alone (g.table store))) (Vhd u) ≡ Some r → r.fresh ≡ false
-      → (v : List ℕ) × (q : Row) × (rows (shortened (table_alone (g.table store))) (Vhd v) ≡ Some q) × (q.fresh ≡ false) × (q.extents ≡ r.extents)
+  pub source : (u : List ℕ) (r : Row) → rows (undone was) (Vhd u) ≡ Some r → r.fresh ≡ false
+      → (v : List ℕ) × (q : Row) × (rows (shortened was) (Vhd v) ≡ Some q) × (q.fresh ≡ false) × (q.extents ≡ r.extents)
 
-module _ {S : Type 0} (g : Ghosts S) (store : S) (xs : List TreeRow) (places : List (Option Record)) (c : IsUndoableStore g store) (k : IsBeside g store xs places) where
+module _ {S : Type 0} (g : Ghosts S) (store : S) (xs : List TreeRow) (places : List (Option Record)) {was : VolumeTable} (c : IsUndoable (g.site store) was) (k : IsBeside g store was xs places) where
   abbrev s : Site
   s = g.site store
 
-  -- the table as it is, and without a fork or an enlargement
-  abbrev was : VolumeTable
-  was = table_alone (g.table store)
-
+  -- the table without a fork or an enlargement
   abbrev t : VolumeTable
   t = undone was
 
@@ -167,7 +164,7 @@ module _ {S : Type 0} (g : Ghosts S) (store : S) (xs : List TreeRow) (places : L
   are : AreRowsOf t.volumes xs
   are = k.are
 
-  each : HasEachRow g.told (stored_undone g store) t.volumes xs
+  each : HasEachRow g.told (stored_with g store (undone was)) t.volumes xs
   each = k.each
 
   plain_at : (r : Row) → In r t.volumes → is_plain r ≡ true
@@ -183,7 +180,7 @@ module _ {S : Type 0} (g : Ghosts S) (store : S) (xs : List TreeRow) (places : L
     proper room x i =
         let w = read_row are each x i in
         subst (λ k. IsImageRow (shape_in s t (begun_with xs places room)) (machine_row (row_by x.image x.hidden k))) (sym w.row.extents)
-        (row_proper g.told s t (begun_with xs places room) (held_in (stored_undone g store) w.volume.name) w.volume.name x.image x.hidden (length w.volume.extents) w.row.image
+        (row_proper g.told s t (begun_with xs places room) (held_in (stored_with g store (undone was)) w.volume.name) w.volume.name x.image x.hidden (length w.volume.extents) w.row.image
         (some_extents w.volume (All-In IsVolume t.volumes w.volume d.table.volumes.each w.there).kind w.filled.image) w.row.named)
 
     shown : (x : TreeRow) → In x xs → x.hidden ≡ false → is_some (standing_volume t (image_uuid (row_name x))) ≡ true
@@ -192,7 +189,7 @@ module _ {S : Type 0} (g : Ghosts S) (store : S) (xs : List TreeRow) (places : L
         let there = found_in t.volumes d.table.volumes.rising w.volume w.there in
         let hidden : w.volume.hidden ≡ false = sym w.row.hidden ∙ visible in
         subst (λ n. is_some (standing_volume t (image_uuid n)) ≡ true) (sym w.row.named)
-        (uuid_shown t w.volume.name (own_plain t d.plain) (image_named w.volume.name (plain_simple_name w.volume.name (plain_at w.volume w.there)) w.filled.image)
+        (uuid_shown t w.volume.name (own_plain t d.plain) (image_named w.volume.name (simple_known_name w.volume.name (plain_simple_name w.volume.name (plain_at w.volume w.there))) w.filled.image)
         (visible_row t w.volume.name w.volume there ∙ ap₂ (λ h d. not h && not d) hidden w.filled.filled))
 
     read : IsRead s t (row_among xs) xs places
@@ -212,7 +209,7 @@ module _ {S : Type 0} (g : Ghosts S) (store : S) (xs : List TreeRow) (places : L
       chains = k.chains;
       stands = λ x i.
           let w = read_row are each x i in
-          subst (λ k. StandsIn s.geometry (k * s.geometry.extent) x.image) (sym w.row.extents) (row_stands g.told s.geometry (held_in (stored_undone g store) w.volume.name) w.volume.name x.image (length w.volume.extents * s.geometry.extent) w.row.image);
+          subst (λ k. StandsIn s.geometry (k * s.geometry.extent) x.image) (sym w.row.extents) (row_stands g.told s.geometry (held_in (stored_with g store (undone was)) w.volume.name) w.volume.name x.image (length w.volume.extents * s.geometry.extent) w.row.image);
       long = long;
       shown = shown;
       recorded = k.recorded;
@@ -226,11 +223,11 @@ module _ {S : Type 0} (g : Ghosts S) (store : S) (xs : List TreeRow) (places : L
 
   -- ---- and ready, where nothing is pending, no slot is empty, and the places are those of the store
 
-  module _ (told : g.told) (settled : IsSettled (g.area store)) (holding : HasNoEmptySlot (store_content g store)) where
+  module _ (told : g.told) (settled : IsSettled (g.area store)) (holding : HasNoEmptySlot (content_now s was (g.area store))) where
     -- each of its slots holds a sector, as it did before
     held_before : (u : List ℕ) (r : Row) → rows t (Vhd u) ≡ Some r → r.fresh ≡ false → (head : Head) (m : List (Option ℕ)) → IsStanding s.geometry (sectors_by s r) head m
-        → ReadsAsImage s.geometry (sectors_by s r) (held_in (stored_undone g store) (Vhd u)) head m
-        → IsHolding s.geometry.block (content_at s.geometry.block s.geometry.entries (sectors_by s r) (reads (held_in (stored_undone g store) (Vhd u))))
+        → ReadsAsImage s.geometry (sectors_by s r) (held_in (stored_with g store (undone was)) (Vhd u)) head m
+        → IsHolding s.geometry.block (content_at s.geometry.block s.geometry.entries (sectors_by s r) (reads (held_in (stored_with g store (undone was)) (Vhd u))))
     held_before u r there filled head m stands gives =
         let q = k.source u r there filled in
         let short = shortened was in
@@ -238,17 +235,17 @@ module _ {S : Type 0} (g : Ghosts S) (store : S) (xs : List TreeRow) (places : L
         let same : volume_of s short (g.area store) (Vhd q.0) ≡ volume_of s t (g.area store) (Vhd u) =
         ap (λ o. volume s.geometry.extent (extents_of o) (g.area store)) q.2 ∙ ap (λ es. volume s.geometry.extent es (g.area store)) q.4 ∙ sym (ap (λ o. volume s.geometry.extent (extents_of o) (g.area store)) there) in
         subst₂ (λ n h. IsHolding s.geometry.block (content_at s.geometry.block s.geometry.entries n (reads h))) long same
-        (holding q.0 _ (sym (image_short s was (g.area store) c (Vhd q.0))
-        ∙ valid_there s short (g.area store) q.0 q.1 (short_sized c) q.2 q.3 head m (subst (λ n. IsStanding s.geometry n head m) (sym long) stands)
+        (holding q.0 _ (sym (image_short s was (g.area store) (staged c) (Vhd q.0))
+        ∙ valid_there s short (g.area store) q.0 q.1 (short_sized (staged c)) q.2 q.3 head m (subst (λ n. IsStanding s.geometry n head m) (sym long) stands)
         (subst₂ (λ n h. ReadsAsImage s.geometry n h head m) (sym long) (sym same) gives)))
 
-    steady_named : (r : Row) (n : Name) (image : Body) → rows t n ≡ Some r → r.fresh ≡ false → IsReadAs g.told s.geometry (sectors_by s r) (held_in (stored_undone g store) n) n image
-        → IsSteady s.geometry (sectors_by s r) (held_in (stored_undone g store) n) image
-    steady_named r (Raw u) image there filled read = subst (IsSteady s.geometry (sectors_by s r) (held_in (stored_undone g store) (Raw u))) (sym read.is) refl
+    steady_named : (r : Row) (n : Name) (image : Body) → rows t n ≡ Some r → r.fresh ≡ false → IsReadAs g.told s.geometry (sectors_by s r) (held_in (stored_with g store (undone was)) n) n image
+        → IsSteady s.geometry (sectors_by s r) (held_in (stored_with g store (undone was)) n) image
+    steady_named r (Raw u) image there filled read = subst (IsSteady s.geometry (sectors_by s r) (held_in (stored_with g store (undone was)) (Raw u))) (sym read.is) refl
     steady_named r (Vhd u) (body.Raw volume size) there filled read = absurd read.vhd
     steady_named r (Vhd u) (body.Vhd head m) there filled read =
-        steady_quiet s.geometry (sectors_by s r) head m s.geometry.in_range (held_in (stored_undone g store) (Vhd u)) (all_quiet s t (g.area store) settled (Vhd u)) (read.gives told)
-        (holds_each s.geometry.block s.geometry.entries (sectors_by s r) (reads (held_in (stored_undone g store) (Vhd u)))
+        steady_quiet s.geometry (sectors_by s r) head m s.geometry.in_range (held_in (stored_with g store (undone was)) (Vhd u)) (all_quiet s t (g.area store) settled (Vhd u)) (read.gives told)
+        (holds_each s.geometry.block s.geometry.entries (sectors_by s r) (reads (held_in (stored_with g store (undone was)) (Vhd u)))
         (held_before u r there filled head m read.stands (read.gives told)))
     steady_named r Mgt image there filled read = absurd read
     steady_named r (Old u) image there filled read = absurd read
@@ -264,7 +261,7 @@ module _ {S : Type 0} (g : Ghosts S) (store : S) (xs : List TreeRow) (places : L
         subst₂ (λ k n. IsSteady s.geometry (k * s.geometry.extent) (volume_of s t (g.area store) n) x.image) (sym w.row.extents) (sym w.row.named)
         (steady_named w.volume w.volume.name x.image (found_in t.volumes d.table.volumes.rising w.volume w.there) w.filled.filled w.row.image)
 
-    pub opened_ready : (attached : Attached) → Agrees (records_of g store) places → IsReady s t (g.area store) (record { rows = xs; places = places; attached = attached; op = Idle })
+    pub opened_ready : (attached : Attached) → Agrees (records_held s was (g.area store)) places → IsReady s t (g.area store) (record { rows = xs; places = places; attached = attached; op = Idle })
     opened_ready attached agrees =
         begun_ready s t (g.area store) _ steady settled
         (subst (λ o. Agrees (volume s.geometry.extent (extents_of o) (g.area store)) places) (sym records_same) agrees) refl
@@ -272,11 +269,11 @@ module _ {S : Type 0} (g : Ghosts S) (store : S) (xs : List TreeRow) (places : L
   -- ---- and true, where nothing is pending: a sector in each slot is not asked
 
   module _ (told : g.told) (settled : IsSettled (g.area store)) where
-    true_named : (r : Row) (n : Name) (image : Body) → IsReadAs g.told s.geometry (sectors_by s r) (held_in (stored_undone g store) n) n image → TrueIn s.geometry (sectors_by s r) (held_in (stored_undone g store) n) image
-    true_named r (Raw u) image read = subst (TrueIn s.geometry (sectors_by s r) (held_in (stored_undone g store) (Raw u))) (sym read.is) tt
+    true_named : (r : Row) (n : Name) (image : Body) → IsReadAs g.told s.geometry (sectors_by s r) (held_in (stored_with g store (undone was)) n) n image → TrueIn s.geometry (sectors_by s r) (held_in (stored_with g store (undone was)) n) image
+    true_named r (Raw u) image read = subst (TrueIn s.geometry (sectors_by s r) (held_in (stored_with g store (undone was)) (Raw u))) (sym read.is) tt
     true_named r (Vhd u) (body.Raw volume size) read = absurd read.vhd
     true_named r (Vhd u) (body.Vhd head m) read =
-        true_quiet s.geometry (sectors_by s r) head m s.geometry.in_range (held_in (stored_undone g store) (Vhd u)) (all_quiet s t (g.area store) settled (Vhd u)) (read.gives told)
+        true_quiet s.geometry (sectors_by s r) head m s.geometry.in_range (held_in (stored_with g store (undone was)) (Vhd u)) (all_quiet s t (g.area store) settled (Vhd u)) (read.gives told)
     true_named r Mgt image read = absurd read
     true_named r (Old u) image read = absurd read
     true_named r (Clone d b w) image read = absurd read
@@ -285,9 +282,9 @@ module _ {S : Type 0} (g : Ghosts S) (store : S) (xs : List TreeRow) (places : L
     true_named r (Relink a p) image read = absurd read
     true_named r (Leaf l p) image read = absurd read
 
-    pub opened_true : AllAreTrue (stored_undone g store) xs
+    pub opened_true : AllAreTrue (stored_with g store (undone was)) xs
     opened_true x i =
         let w = read_row are each x i in
-        let size : sectors_in (stored_undone g store) w.volume.name ≡ sectors_by s w.volume = ap (λ o. length (extents_of o) * s.geometry.extent) (found_in t.volumes d.table.volumes.rising w.volume w.there) in
-        subst₂ (λ k n. TrueIn s.geometry k (held_in (stored_undone g store) n) x.image) (sym (ap (sectors_in (stored_undone g store)) w.row.named ∙ size)) (sym w.row.named)
+        let size : sectors_in (stored_with g store (undone was)) w.volume.name ≡ sectors_by s w.volume = ap (λ o. length (extents_of o) * s.geometry.extent) (found_in t.volumes d.table.volumes.rising w.volume w.there) in
+        subst₂ (λ k n. TrueIn s.geometry k (held_in (stored_with g store (undone was)) n) x.image) (sym (ap (sectors_in (stored_with g store (undone was))) w.row.named ∙ size)) (sym w.row.named)
         (true_named w.volume w.volume.name x.image w.row.image)

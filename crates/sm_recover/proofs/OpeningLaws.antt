@@ -1,6 +1,7 @@
 -- The checks one after another: which place is the first, and what is known where none is.
 use Rattle.std.proofs.Common.{◌≡◌, ℕ, zero, suc, ◌+◌, ◌<◌, ◌≤◌, ◌⊎◌, inl, inr, Bool, true, false, cond, not, List, [], ◌∷◌, ◌++◌, length, get_or, Option, Some, None, refl, sym, ap, ◌∙◌, subst, subst₂, arith}
 use Rattle.std.specs.List.{find}
+use Rattle.std.specs.Ordering.{is_lt}
 use Rattle.std.specs.Prelude.{Result, Err, IfErr, IfNone, IfSome}
 use Rattle.std.proofs.lemmas.Bool.{cases_lt, ltb-false, eqb-true}
 use Rattle.std.proofs.lemmas.Option.{none-some, slice_get-get_or, slice_get_within}
@@ -8,6 +9,8 @@ use Rattle.sm_base.specs.declared.faults.OpenFault.{OpenFault}
 use Rattle.sm_base.specs.declared.faults.OpenFault.TheVariants as fault
 use Rattle.sm_base.specs.declared.faults.Place.{Place}
 use Rattle.sm_base.specs.declared.faults.Place.TheVariants as at
+use Rattle.sm_base.specs.Names.{name_cmp}
+use Rattle.sm_base.specs.declared.names.Name.{Name}
 use Rattle.sm_base.specs.declared.names.Name.TheVariants.{Mgt}
 use Rattle.sm_base.specs.declared.sizes.Geometry.{Geometry}
 use Rattle.sm_disk.specs.Held.{Held, reads, Rose}
@@ -25,18 +28,17 @@ use Rattle.sm_record.specs.declared.records.Reading.TheVariants.{Free, Taken, Da
 use Rattle.sm_record.specs.Records.{reading}
 use Rattle.sm_mgt.specs.Places.{Agrees, as_reading, records_held, records_of, IsFirstDamaged, reading_of}
 use Rattle.sm_standing.specs.Contents.{record_count}
-use Rattle.sm_standing.specs.Checks.{has_records, is_lost, lesser, placed, record_volume_fault, too_many_fault, entry_ahead_fault, second_entry_fault, lost_entry_fault, old_leaf_fault, invalid_fault, tree_fault, entry_link_fault, record_fault, record_place, is_damaged, disk_fault, fault_today_of, first_fault_today}
+use Rattle.sm_standing.specs.Checks.{has_records, is_lost, is_misnamed, lesser, record_volume_fault, too_many_fault, misnamed_fault, entry_ahead_fault, second_entry_fault, lost_entry_fault, old_leaf_fault, invalid_fault, tree_fault, entry_link_fault, record_fault, record_place, is_damaged, disk_fault, fault_today_of, first_fault_today}
 use Rattle.sm_standing.specs.Outlines.{Outline, reading_in, outline}
 use Rattle.sm_standing.proofs.OutlineLaws.{reading_within}
 use Rattle.common_laws.proofs.Lists.{none_first, find_none, In-numbers}
 use Rattle.sm_ready.specs.Stores.{content_in, content_now}
 use Rattle.sm_recover.specs.Faults.{HasTable, HasPlaces, PassImages, table_faults}
-use Rattle.sm_recover.specs.Repairs.{IsUndoable, IsOpeningStopped, IsStoppedBy}
+use Rattle.sm_recover.specs.Repairs.{IsEndable, IsOpeningStopped, IsStoppedBy}
 use Rattle.sm_standing.proofs.FaultLaws.{named_none, none_given}
-use Rattle.sm_standing.specs.Entries.{making, second}
-use Rattle.sm_standing.proofs.PlainDisks.{simple_folding}
+use Rattle.sm_standing.specs.Entries.{folding, making, second}
 use Rattle.sm_recover.proofs.CheckLaws.{only}
-use Rattle.sm_standing.proofs.PlainKept.{simple_table}
+use Rattle.sm_standing.proofs.PlainKept.{known_table}
 use Rattle.sm_recover.proofs.TableLaws.{records_room}
 use Rattle.common_laws.proofs.Booleans.{not_false}
 use Rattle.sm_ready.proofs.LeftLaws.{now_sector}
@@ -44,11 +46,11 @@ use Rattle.sm_ready.proofs.LeftLaws.{now_sector}
 -- ---- the volume of records
 
 -- it has all its sectors
-pub records_fit : {s : Site} {t : VolumeTable} → IsUndoable s t → record_count ≤ size_of s t Mgt
+pub records_fit : {s : Site} {t : VolumeTable} → IsEndable s t → record_count ≤ size_of s t Mgt
 records_fit {s} {t} c = records_room s t c.record_volume
 
 -- a reading is that of the sector that the store holds
-reading_held : {s : Site} {t : VolumeTable} (area : Held) (k : ℕ) → IsUndoable s t → k < record_count → reading_in (content_now s t area) k ≡ reading_of (records_held s t area) k
+reading_held : {s : Site} {t : VolumeTable} (area : Held) (k : ℕ) → IsEndable s t → k < record_count → reading_in (content_now s t area) k ≡ reading_of (records_held s t area) k
 reading_held {s} {t} area k c below = reading_within (content_now s t area) k below ∙ ap reading (now_sector s t area Mgt k (omega (arith, below, records_fit c)))
 
 -- ---- the first of all
@@ -119,19 +121,29 @@ none_placed : {A : Type 0} (place : A → Place) (o : Option A) → elim o as (�
 none_placed place None h = refl
 none_placed place (Some n) h = absurd (none-some (place n) (sym h))
 
-pub checked_from : (s : Site) (t : VolumeTable) → IsTable s.count t → s.count ≤ 65536 → TablesSay s t None → IsUndoable s t
-unfolding record_volume_fault too_many_fault second_entry_fault lost_entry_fault
+lesser_none : (a b : Option Name) → lesser a b ≡ None → (a ≡ None) × (b ≡ None)
+lesser_none None b is = (refl, is)
+lesser_none (Some x) None is = absurd (none-some x (sym is))
+lesser_none (Some x) (Some y) is = by (is_lt (name_cmp x y)) is
+  where
+    by : (c : Bool) → cond c (Some x) (Some y) ≡ None → (Some x ≡ None) × (Some y ≡ None)
+    by true is = absurd (none-some x (sym is))
+    by false is = absurd (none-some y (sym is))
+
+pub checked_from : (s : Site) (t : VolumeTable) → IsTable s.count t → s.count ≤ 65536 → TablesSay s t None → IsEndable s t
+unfolding record_volume_fault too_many_fault misnamed_fault second_entry_fault lost_entry_fault
 checked_from s t table extents none =
     let x : Outline = outline (content_in s t (λ p. [])) in
     let each = none_first (table_faults x) (none x (has_table s t (λ p. []))) in
-    let simple = simple_table x (each (entry_ahead_fault x) (inr (inr (inr (inl refl))))) (each (old_leaf_fault x) (inr (inr (inr (inr (inr (inr (inl refl)))))))) in
+    let entries = lesser_none (second (folding t)) (second (making t)) (none_placed at.Journal _ (each (second_entry_fault x) (inr (inr (inr (inr (inl refl))))))) in
     record {
       table = table;
       few_extents = extents;
-      simple = simple;
-      one_entry = none_placed at.Journal (second (making t))
-          (sym (ap (λ ns. placed at.Journal (lesser (second ns) (second (making t)))) (simple_folding t.volumes simple)) ∙ each (second_entry_fault x) (inr (inr (inr (inr (inl refl))))));
+      known = known_table x (each (entry_ahead_fault x) (inr (inr (inr (inl refl))))) (each (old_leaf_fault x) (inr (inr (inr (inr (inr (inr (inl refl))))))));
+      one_entry = entries.1;
+      one_folding = entries.0;
       at_stage = named_none at.Journal (is_lost t) t.volumes (each (lost_entry_fault x) (inr (inr (inr (inr (inr (inl refl)))))));
+      named = named_none at.Image (is_misnamed t) t.volumes (each (misnamed_fault x) (inr (inr (inl refl))));
       few_images = ltb-false _ _ (none_given _ at.Images (each (too_many_fault x) (inr (inl refl))));
       record_volume = records_long x (rows t Mgt) (none_given _ at.Mgt (each (record_volume_fault x) (inl refl)));
     }
@@ -142,7 +154,7 @@ none_ahead_of x none = none_first (table_faults x) none (entry_ahead_fault x) (i
 
 -- ---- the records
 
-has_places : {s : Site} {t : VolumeTable} (area : Held) (places : List (Option Record)) → IsUndoable s t → Agrees (records_held s t area) places
+has_places : {s : Site} {t : VolumeTable} (area : Held) (places : List (Option Record)) → IsEndable s t → Agrees (records_held s t area) places
     → HasPlaces places (outline (content_now s t area))
 has_places area places c agrees = record {
   long = agrees.long;
@@ -178,7 +190,7 @@ damaged_test (Taken x) h = refl
 damaged_test Damaged h = absurd (h refl)
 
 -- the first sector that is damaged
-records_wrong : {s : Site} {t : VolumeTable} (area : Held) (k : ℕ) → IsUndoable s t → IsFirstDamaged (records_held s t area) k → record_fault (outline (content_now s t area)) ≡ Some (at.Record k)
+records_wrong : {s : Site} {t : VolumeTable} (area : Held) (k : ℕ) → IsEndable s t → IsFirstDamaged (records_held s t area) k → record_fault (outline (content_now s t area)) ≡ Some (at.Record k)
 unfolding record_fault
 records_wrong {s} {t} area k c first =
     ap record_place (first_number (λ j. is_damaged (reading_in (content_now s t area) j)) 0 record_count k (omega arith) (omega (arith, first.within))
@@ -196,7 +208,7 @@ pub all_pass : (s : Site) {t u : VolumeTable} (places : List (Option Record)) (o
     → ((x : Outline) → x.table ≡ u → HasPlaces places x → o ≡ disk_fault x) → (x : Outline) → HasTable s.geometry t x → PassImages x → HasPlaces places x → fault_today_of x ≡ o
 all_pass s places o same none says x is images has = today_disks x (none x is) images (records_right x places has) ∙ sym (says x (is.table ∙ sym same) has)
 
-pub all_say : {s : Site} {t u : VolumeTable} (area : Held) (places : List (Option Record)) (o : Option Place) → IsUndoable s t → u ≡ t → Agrees (records_held s t area) places
+pub all_say : {s : Site} {t u : VolumeTable} (area : Held) (places : List (Option Record)) (o : Option Place) → IsEndable s t → u ≡ t → Agrees (records_held s t area) places
     → TablesSay s t None → ((x : Outline) → x.table ≡ u → HasPlaces places x → o ≡ disk_fault x) → PassImages (outline (content_now s t area)) → first_fault_today (content_now s t area) ≡ o
 all_say {s} {t} area places o c same agrees none says images =
     all_pass s places o same none says (outline (content_now s t area)) (has_table s t (reads area)) images (has_places area places c agrees)
@@ -220,7 +232,7 @@ module _ {S : Type 0} {g : Ghosts S} {a b : S} (only : OnlyReads g a b) (told : 
   damaged_before k = subst (λ (y : Stored). IsFirstDamaged (records_held y.site y.table y.area) k) (stored_as only told)
 
 -- why the records were not read
-pub stopped_by : {s : Site} {t : VolumeTable} (told : Type 0) (area : Held) (before mid now : ℕ) (e : OpenFault) {First : ℕ → Type 0} → IsUndoable s t → TablesSay s t None → (told → PassImages (outline (content_now s t area))) → before ≤ mid
+pub stopped_by : {s : Site} {t : VolumeTable} (told : Type 0) (area : Held) (before mid now : ℕ) (e : OpenFault) {First : ℕ → Type 0} → IsEndable s t → TablesSay s t None → (told → PassImages (outline (content_now s t area))) → before ≤ mid
     → (told → (k : ℕ) → First k → IsFirstDamaged (records_held s t area) k)
     → (e ≡ fault.NoMemory) ⊎ ((e ≡ fault.Device) × Rose mid now) ⊎ ((k : ℕ) × (e ≡ fault.Damaged (at.Record k)) × (told → First k))
     → IsOpeningStopped told (content_now s t area) before now e

@@ -29,7 +29,7 @@ use Rattle.sm_machine.specs.Shapes.{same_image}
 use Rattle.sm_machine.specs.WellFormed.{is_image_name}
 use Rattle.sm_standing.specs.Entries.{making}
 use Rattle.sm_standing.specs.Images.{image_extents}
-use Rattle.sm_standing.specs.Plain.{is_simple, is_simple_name}
+use Rattle.sm_standing.specs.Plain.{is_known, is_known_name}
 use Rattle.sm_standing.proofs.PlainDisks.{all-In}
 use Rattle.vhd_fields.specs.declared.footers.Footer.{Footer}
 use Rattle.vhd_fields.specs.declared.headers.Header.{Header}
@@ -46,7 +46,8 @@ use Rattle.vhd_image.specs.declared.images.Body.TheVariants as body
 use Rattle.sm_ready.proofs.LoadLaws.{at_item, extents_few}
 use Rattle.sm_ready.proofs.RowLaws.{All-In, found_in}
 use Rattle.sm_recover.specs.Loaded.{FailsAt, FailsToRead, IsNoneRead, IsRawRead, IsReadAs, IsRow, as_read, shortened, stored_read}
-use Rattle.sm_recover.specs.Repairs.{IsUndoable, IsUndoableStore}
+use Rattle.sm_recover.specs.Repairs.{IsEndable, IsEndableStore}
+use Rattle.sm_recover.proofs.EntryLaws.{staged_end}
 use Rattle.sm_recover.proofs.TableLaws.{image_not_making, read_within, short_row}
 
 -- ---- a raw image
@@ -80,15 +81,17 @@ module _ {S : Type 0} (g : Ghosts S) (s : S) (sectors : ℕ) where
 
 -- ---- a volume of the table
 
--- an image of a table in which at most a fork or an enlargement is under way is a VHD or a raw one
-pub image_named : (n : Name) → is_simple_name n ≡ true → is_image n ≡ true → is_image_name n ≡ true
+-- an image of a table in which no leaf is being folded is a VHD or a raw one
+pub image_named : (n : Name) → is_known_name n ≡ true → is_image n ≡ true → is_image_name n ≡ true
 unfolding is_image_name
-image_named (Vhd u) simple image = refl
-image_named (Raw u) simple image = refl
-image_named Mgt simple image = absurd (true≢false (sym image))
-image_named (Inflate u e) simple image = absurd (true≢false (sym image))
-image_named (Clone d b w) simple image = absurd (true≢false (sym image))
-image_named _ simple image = absurd (true≢false (sym simple))
+image_named (Vhd u) known image = refl
+image_named (Raw u) known image = refl
+image_named Mgt known image = absurd (true≢false (sym image))
+image_named (Inflate u e) known image = absurd (true≢false (sym image))
+image_named (Clone d b w) known image = absurd (true≢false (sym image))
+image_named (Coalesce v p) known image = absurd (true≢false (sym image))
+image_named (Relink v p) known image = absurd (true≢false (sym image))
+image_named _ known image = absurd (true≢false (sym known))
 
 pub some_extents : (r : Row) → suits r ≡ true → is_image r.name ≡ true → 0 < length r.extents
 some_extents r right image =
@@ -102,7 +105,7 @@ place_in [] i x at = absurd (none-some x at)
 place_in (y ∷ xs) zero x at = inl (sym (same_Some y x at))
 place_in (y ∷ xs) (suc i) x at = inr (place_in xs i x at)
 
-module _ {s : Site} (kept : RoomyTable) {k : RoomyTable} {hs : List RoomyRow} {i : ℕ} {h : RoomyRow} (c : IsUndoable s (table_alone kept)) (same : k ≡ kept) (is : hs ≡ k.rows) (within : i < length (rows_alone kept.rows)) (at : h ≡ get_or hs i h) where
+module _ {s : Site} (kept : RoomyTable) {k : RoomyTable} {hs : List RoomyRow} {i : ℕ} {h : RoomyRow} (c : IsEndable s (table_alone kept)) (same : k ≡ kept) (is : hs ≡ k.rows) (within : i < length (rows_alone kept.rows)) (at : h ≡ get_or hs i h) where
   rows_are : hs ≡ kept.rows
   rows_are = is ∙ ap (λ (x : RoomyTable). x.rows) same
 
@@ -126,7 +129,7 @@ module _ {s : Site} (kept : RoomyTable) {k : RoomyTable} {hs : List RoomyRow} {i
       extents_few kept c.table rows_are (at_item c.table same is (omega (arith, within, long, ap (λ (xs : List RoomyRow). length xs) rows_are)) at) c.few_extents
 
   pub row_named : is_image h.row.name ≡ true → is_image_name h.row.name ≡ true
-  row_named image = image_named h.row.name (all-In (λ (x : Row). is_simple x ≡ true) (rows_alone kept.rows) h.row c.simple row_in) image
+  row_named image = image_named h.row.name (all-In (λ (x : Row). is_known x ≡ true) (rows_alone kept.rows) h.row c.known row_in) image
 
   pub row_some : is_image h.row.name ≡ true → 1 ≤ length h.row.extents
   row_some image = some_extents h.row (All-In IsVolume (rows_alone kept.rows) h.row c.table.volumes.each row_in).kind image
@@ -214,7 +217,7 @@ many_is {kept = kept} {n = n} {es = es} is same named extents =
     is ∙ ap (λ (x : RoomyTable). image_extents (making (table_alone x)) n (length es)) same
     ∙ ap₂ (λ (x : Name) (ys : List ℕ). image_extents (making (table_alone kept)) x (length ys)) named extents
 
-module _ {S : Type 0} (g : Ghosts S) (s : S) (r : Row) (c : IsUndoableStore g s) (there : In r (table_alone (g.table s)).volumes) (image : is_image r.name ≡ true) where
+module _ {S : Type 0} (g : Ghosts S) (s : S) (r : Row) (c : IsEndableStore g s) (there : In r (table_alone (g.table s)).volumes) (image : is_image r.name ≡ true) where
   abbrev t : VolumeTable
   t = table_alone (g.table s)
 
@@ -223,7 +226,7 @@ module _ {S : Type 0} (g : Ghosts S) (s : S) (r : Row) (c : IsUndoableStore g s)
   many = image_extents (making t) r.name (length r.extents)
 
   within : many ≤ length r.extents
-  within = read_within c r there
+  within = read_within (staged_end c) r there
 
   many_read : length (as_read (making t) r).extents ≡ many
   many_read = length-take-le many r.extents within
@@ -233,7 +236,7 @@ module _ {S : Type 0} (g : Ghosts S) (s : S) (r : Row) (c : IsUndoableStore g s)
 
   extents_short : extents_of (rows (shortened t) r.name) ≡ take many (extents_of (rows t r.name))
   extents_short =
-      ap extents_of (short_row c r.name (image_not_making r.name image) ∙ ap (option_map (as_read (making t))) row_found)
+      ap extents_of (short_row (staged_end c) r.name (image_not_making r.name image) ∙ ap (option_map (as_read (making t))) row_found)
       ∙ sym (ap (λ o. take many (extents_of o)) row_found)
 
   same_below : SameBelow (many * (g.site s).geometry.extent) (reads (held_in (stored g s) r.name)) (reads (held_in (stored_read g s) r.name))

@@ -3,9 +3,7 @@ use Rattle.std.proofs.Common.{◌≡◌, false, List, Option, Some, None, refl, 
 use Rattle.std.proofs.lemmas.Option.{none-some}
 use Rattle.sm_base.specs.declared.names.Name.{Name}
 use Rattle.sm_base.specs.declared.names.Name.TheVariants.{Raw}
-use Rattle.vg_meta.specs.Roomy.{table_alone}
 use Rattle.vg_meta.specs.Tables.{Row, VolumeTable, rows}
-use Rattle.vg_volumes.specs.declared.stores.Store.{Ghosts}
 use Rattle.vg_volumes.specs.Sites.{Site}
 use Rattle.common_laws.specs.Lists.{In}
 use Rattle.common_laws.proofs.Lists.{In-map}
@@ -19,8 +17,7 @@ use Rattle.vhd_chain.specs.Trees.{row_name, tree_row}
 use Rattle.vhd_chain.specs.declared.rows.TreeRow.{TreeRow}
 use Rattle.sm_recover.specs.Backs.{CanGiveBack}
 use Rattle.sm_recover.specs.Loaded.{AreRowsOf, as_read, read_volumes, row_among}
-use Rattle.sm_recover.specs.Repairs.{IsUndoable, IsUndoableStore}
-use Rattle.sm_recover.proofs.EntryLaws.{base_made, fork_found, made_parts}
+use Rattle.sm_recover.proofs.EntryLaws.{IsStaged, base_made, fork_found, made_parts}
 use Rattle.sm_recover.proofs.LoadedLaws.{read_from}
 use Rattle.std.specs.Cmp.{IsTotalOrder}
 use Rattle.sm_base.proofs.OrderLemmas.{name_cmp_total}
@@ -70,7 +67,7 @@ pub record HasVolume (t : VolumeTable) (y : TreeRow) : Type 0 where
   pub filled : volume.fresh ≡ false
   pub hidden : y.hidden ≡ volume.hidden
 
-pub has_volume : {s : Site} {t : VolumeTable} {xs : List TreeRow} → IsUndoable s t → AreRowsOf (read_volumes t) xs → (y : TreeRow) → In y xs → HasVolume t y
+pub has_volume : {s : Site} {t : VolumeTable} {xs : List TreeRow} → IsStaged s t → AreRowsOf (read_volumes t) xs → (y : TreeRow) → In y xs → HasVolume t y
 has_volume {s} {t} {xs} c are y i =
     let v = In-filter_map (row_among xs) (read_volumes t) y (subst (In y) are i) in
     let f = read_from xs v.0 y v.2 in
@@ -84,16 +81,16 @@ has_volume {s} {t} {xs} c are y i =
     }
 
 -- a name of no volume is that of no row
-pub no_row : {s : Site} {t : VolumeTable} {xs : List TreeRow} → IsUndoable s t → AreRowsOf (read_volumes t) xs → (n : Name) → rows t n ≡ None → tree_row xs n ≡ None
+pub no_row : {s : Site} {t : VolumeTable} {xs : List TreeRow} → IsStaged s t → AreRowsOf (read_volumes t) xs → (n : Name) → rows t n ≡ None → tree_row xs n ≡ None
 no_row {s} {t} {xs} c are n none = by (tree_row xs n) refl
   where
     by : (o : Option TreeRow) → tree_row xs n ≡ o → o ≡ None
     by None is = refl
     by (Some y) is = let v = In-tree_row xs n y is in let k = has_volume c are y v.0 in absurd (none-some k.volume (sym none ∙ ap (rows t) (sym v.1) ∙ k.there))
 
-pub can_give_back : {S : Type 0} (g : Ghosts S) (store : S) (xs : List TreeRow) → IsUndoableStore g store → AreRowsOf (read_volumes (table_alone (g.table store))) xs → CanGiveBack (table_alone (g.table store)) xs
+pub can_give_back : {s : Site} {t : VolumeTable} (xs : List TreeRow) → IsStaged s t → AreRowsOf (read_volumes t) xs → CanGiveBack t xs
 unfolding IsName
-can_give_back g store xs c are d b w found from there =
+can_give_back {s} {t} xs c are d b w found from there =
     let f = fork_found d b w c found in
-    let made = made_parts {t = table_alone (g.table store)} {d = d} {b = b} {w = w} (base_made f from there) in
-    record { vhd_name = f.named.0; raw_name = f.named.0; no_raw = no_row c are (Raw d) (none_of_some (rows (table_alone (g.table store)) (Raw d)) made.no_raw) }
+    let made = made_parts {t = t} {d = d} {b = b} {w = w} (base_made f from there) in
+    record { vhd_name = f.named.0; raw_name = f.named.0; no_raw = no_row c are (Raw d) (none_of_some (rows t (Raw d)) made.no_raw) }

@@ -6,11 +6,11 @@ use Rattle.sm_base.specs.Kinds.{is_image}
 use Rattle.sm_base.specs.declared.faults.Place.TheVariants as at
 use Rattle.sm_base.specs.declared.names.Name.{Name}
 use Rattle.sm_base.specs.declared.names.Name.TheVariants.{Mgt, Vhd, Raw, Old, Clone, Inflate, Coalesce, Relink, Leaf}
-use Rattle.vg_meta.specs.Tables.{Row, VolumeTable, rows}
-use Rattle.vg_meta.specs.Roomy.{table_alone}
+use Rattle.vg_meta.specs.Tables.{Row, VolumeTable, name_eq, rows}
 use Rattle.vg_meta.proofs.RowLaws.{row_of-name}
 use Rattle.vg_volumes.specs.declared.stores.Store.{Ghosts}
 use Rattle.common_laws.specs.Lists.{In}
+use Rattle.sm_machine.specs.Shapes.{same_image}
 use Rattle.sm_standing.specs.Checks.{children, invalid_fault, is_invalid, parent_is}
 use Rattle.sm_standing.specs.Contents.{Content}
 use Rattle.sm_standing.specs.Images.{image_of}
@@ -18,27 +18,24 @@ use Rattle.sm_standing.specs.Outlines.{Outline, link_of, outline}
 use Rattle.sm_standing.proofs.DisksShown.{row_of-In}
 use Rattle.sm_standing.proofs.FaultLaws.{none_named}
 use Rattle.sm_standing.proofs.Orders.{In-filter_map}
-use Rattle.vhd_chain.specs.Trees.{is_child_of, row_name, tree_row}
+use Rattle.vhd_chain.specs.Trees.{children as children_in, is_child_of, row_name, tree_row}
 use Rattle.vhd_chain.specs.declared.rows.TreeRow.{TreeRow}
 use Rattle.sm_ready.specs.Outlined.{link_in}
-use Rattle.sm_ready.specs.Stores.{store_content}
+use Rattle.sm_ready.specs.Stores.{content_now}
 use Rattle.sm_ready.proofs.LeftLaws.{new_raw, new_vhd, none_of_raw, none_of_vhd}
 use Rattle.sm_ready.proofs.Orders.{In-tree_row}
 use Rattle.sm_recover.specs.Faults.{HasChildren, HasLinks, HasTable, HasVolumes}
-use Rattle.sm_recover.specs.Loaded.{AreRowsOf, HasEachRow, IsFilledImage, as_read, read_volumes, row_among, shortened, stored_read}
-use Rattle.sm_recover.specs.Repairs.{IsUndoableStore}
+use Rattle.sm_recover.specs.Loaded.{AreRowsOf, HasEachRow, IsFilledImage, as_read, read_volumes, row_among, shortened, stored_with}
 use Rattle.sm_standing.specs.Entries.{making}
 use Rattle.common_laws.proofs.Lists.{In-map, In-map_at}
+use Rattle.sm_recover.proofs.EntryLaws.{IsStaged}
 use Rattle.sm_recover.proofs.TableLaws.{found_read, short_sized}
 use Rattle.sm_recover.proofs.FoundLaws.{image_short, invalid_as_read, link_read, skipped, valid_read}
 use Rattle.sm_recover.proofs.LoadedLaws.{among_is, among_of, none_among, read_from, read_row}
-use Rattle.sm_recover.proofs.TreeLaws.{child_seen, count_through}
+use Rattle.sm_recover.proofs.TreeLaws.{child_seen, count_through, named_raw, named_vhd}
 use Rattle.sm_ready.proofs.RowLaws.{found_in}
 
-module _ {S : Type 0} (g : Ghosts S) (store : S) (c : IsUndoableStore g store) (xs : List TreeRow) (each : HasEachRow g.told (stored_read g store) (read_volumes (table_alone (g.table store))) xs) where
-  abbrev t : VolumeTable
-  t = table_alone (g.table store)
-
+module _ {S : Type 0} (g : Ghosts S) (store : S) {t : VolumeTable} (c : IsStaged (g.site store) t) (xs : List TreeRow) (each : HasEachRow g.told (stored_with g store (shortened t)) (read_volumes t) xs) where
   -- a volume as it is read
   abbrev seen : Row → Row
   seen r = as_read (making t) r
@@ -77,28 +74,34 @@ module _ {S : Type 0} (g : Ghosts S) (store : S) (c : IsUndoableStore g store) (
           let filled : IsFilledImage (seen q.0) = subst IsFilledImage q.2 f in
           absurd (none (subst IsFilledImage same (record { image = filled.image; filled = filled.filled })))
 
-  -- the children of a VHD image are as many as in memory
-  pub children_counted : AreRowsOf (read_volumes t) xs → (x : Outline) → x.table ≡ t → HasLinks xs x → HasChildren xs x
+  -- the children of an image are as many as in memory
+  counted : (p : Name) → ((q : Name) → same_image q p ≡ name_eq q p) → AreRowsOf (read_volumes t) xs → (x : Outline) → x.table ≡ t → HasLinks xs x → length (children x p) ≡ length (children_in xs p)
   unfolding children
-  children_counted are x is links u =
-      ap (λ (v : VolumeTable). length (filter (λ r. parent_is (Vhd u) (x.links r.name)) v.volumes)) is
-      ∙ count_through seen (row_among xs) (λ r. parent_is (Vhd u) (x.links r.name)) (is_child_of (Vhd u)) t.volumes (λ r i. one r i)
-      ∙ ap (λ ys. length (filter (is_child_of (Vhd u)) ys)) (sym are)
+  counted p named are x is links =
+      ap (λ (v : VolumeTable). length (filter (λ r. parent_is p (x.links r.name)) v.volumes)) is
+      ∙ count_through seen (row_among xs) (λ r. parent_is p (x.links r.name)) (is_child_of p) t.volumes (λ r i. one r i)
+      ∙ ap (λ ys. length (filter (is_child_of p) ys)) (sym are)
     where
-      one : (r : Row) → In r t.volumes → parent_is (Vhd u) (x.links r.name) ≡ elim (row_among xs (seen r)) as (λ _. Bool) [ None ↦ false | Some y ↦ is_child_of (Vhd u) y ]
-      one r i = ap (parent_is (Vhd u)) (links r.name) ∙ by (is_image r.name) r.fresh refl refl
+      one : (r : Row) → In r t.volumes → parent_is p (x.links r.name) ≡ elim (row_among xs (seen r)) as (λ _. Bool) [ None ↦ false | Some y ↦ is_child_of p y ]
+      one r i = ap (parent_is p) (links r.name) ∙ by (is_image r.name) r.fresh refl refl
         where
-          not_filled : (IsFilledImage r → ⊥) → parent_is (Vhd u) (link_in (tree_row xs r.name)) ≡ elim (row_among xs (seen r)) as (λ _. Bool) [ None ↦ false | Some y ↦ is_child_of (Vhd u) y ]
+          not_filled : (IsFilledImage r → ⊥) → parent_is p (link_in (tree_row xs r.name)) ≡ elim (row_among xs (seen r)) as (λ _. Bool) [ None ↦ false | Some y ↦ is_child_of p y ]
           not_filled none =
-              ap (λ o. parent_is (Vhd u) (link_in o)) (unfound are r i none)
-              ∙ sym (ap (λ o. elim o as (λ _. Bool) [ None ↦ false | Some y ↦ is_child_of (Vhd u) y ]) (none_among xs (seen r) (λ f. none (record { image = f.image; filled = f.filled }))))
+              ap (λ o. parent_is p (link_in o)) (unfound are r i none)
+              ∙ sym (ap (λ o. elim o as (λ _. Bool) [ None ↦ false | Some y ↦ is_child_of p y ]) (none_among xs (seen r) (λ f. none (record { image = f.image; filled = f.filled }))))
 
-          by : (k f : Bool) → is_image r.name ≡ k → r.fresh ≡ f → parent_is (Vhd u) (link_in (tree_row xs r.name)) ≡ elim (row_among xs (seen r)) as (λ _. Bool) [ None ↦ false | Some y ↦ is_child_of (Vhd u) y ]
+          by : (k f : Bool) → is_image r.name ≡ k → r.fresh ≡ f → parent_is p (link_in (tree_row xs r.name)) ≡ elim (row_among xs (seen r)) as (λ _. Bool) [ None ↦ false | Some y ↦ is_child_of p y ]
           by false f image fresh = not_filled (λ w. true≢false (sym w.image ∙ image))
           by true true image fresh = not_filled (λ w. true≢false (sym fresh ∙ w.filled))
           by true false image fresh =
-              child_seen u (tree_row xs r.name) (λ y. record { image = y.image; hidden = r.hidden; extents = length (seen r).extents }) (λ y. refl)
-              ∙ sym (ap (λ o. elim o as (λ _. Bool) [ None ↦ false | Some y ↦ is_child_of (Vhd u) y ]) (among_is xs (seen r) (record { image = image; filled = fresh })))
+              child_seen p named (tree_row xs r.name) (λ y. record { image = y.image; hidden = r.hidden; extents = length (seen r).extents }) (λ y. refl)
+              ∙ sym (ap (λ o. elim o as (λ _. Bool) [ None ↦ false | Some y ↦ is_child_of p y ]) (among_is xs (seen r) (record { image = image; filled = fresh })))
+
+  pub children_counted : AreRowsOf (read_volumes t) xs → (x : Outline) → x.table ≡ t → HasLinks xs x → HasChildren xs x
+  children_counted are x is links = record {
+    vhd = λ u. counted (Vhd u) (λ q. named_vhd q u) are x is links;
+    raw = λ u. counted (Raw u) (λ q. named_raw q u) are x is links;
+  }
 
   -- and each of them is that of a volume
   pub volumes_seen : AreRowsOf (read_volumes t) xs → (x : Outline) → x.table ≡ t → HasVolumes xs x
@@ -114,7 +117,7 @@ module _ {S : Type 0} (g : Ghosts S) (store : S) (c : IsUndoableStore g store) (
 
   module _ (are : AreRowsOf (read_volumes t) xs) (told : g.told) where
     abbrev now : Content
-    now = store_content g store
+    now = content_now (g.site store) t (g.area store)
 
     some_link : (n : Name) (y : TreeRow) → tree_row xs n ≡ Some y → link_of (image_of now n) ≡ link_in (tree_row xs n)
     some_link n y is =

@@ -1,53 +1,105 @@
--- An opening from the checks on: what stands once a fork or an enlargement was undone is what the checks read, without it.
-use Rattle.std.proofs.Common.{◌≡◌, ℕ, List, None, sym, ap, ap₂, ◌∙◌, subst, subst₂}
-use Rattle.sm_disk.specs.Held.{Held, IsSettled, Keeps}
+-- An opening from the checks on: what stands behind each of its parts is what the checks read, without what was under way.
+use Rattle.std.proofs.Common.{◌≡◌, ◌*◌, ℕ, List, [], length, Option, Some, None, refl, sym, ap, ap₂, ◌∙◌, subst, subst₂}
+use Rattle.sm_base.specs.declared.names.Name.{Name}
+use Rattle.sm_base.specs.declared.names.Name.TheVariants.{Mgt, Vhd, Raw, Old, Clone, Inflate, Coalesce, Relink, Leaf}
+use Rattle.sm_disk.specs.Held.{Held, IsSettled, Keeps, reads}
 use Rattle.vg_meta.specs.Roomy.{table_alone}
-use Rattle.vg_meta.specs.Tables.{VolumeTable}
+use Rattle.vg_meta.specs.Tables.{VolumeTable, extents_of, rows}
+use Rattle.vg_volumes.specs.Volumes.{volume}
+use Rattle.vhd_image.specs.Bodies.{ImageIsTrue, TrueIn}
+use Rattle.vhd_chain.specs.Reading.{AllAreTrue}
+use Rattle.vhd_chain.specs.Trees.{row_name}
 use Rattle.vg_volumes.specs.Stored.{OnlyReads, Stored, stored}
 use Rattle.vg_volumes.specs.declared.stores.Store.{Ghosts}
+use Rattle.sm_machine.specs.Shapes.{Shape}
 use Rattle.sm_standing.specs.Checks.{first_fault_today}
-use Rattle.sm_standing.specs.Keeping.{HasNoEmptySlot}
+use Rattle.sm_standing.specs.Entries.{folding, head}
+use Rattle.sm_standing.specs.Keeping.{HoldsWell}
 use Rattle.sm_standing.specs.Opened.{opened}
-use Rattle.sm_standing.specs.Standing.{disks}
 use Rattle.sm_standing.specs.Undone.{undone}
-use Rattle.sm_standing.proofs.PlainKept.{today_sound}
-use Rattle.sm_standing.proofs.UndoneToday.{today_disks, today_opened}
-use Rattle.sm_ready.specs.Cleaned.{HasFewRemovals}
-use Rattle.sm_ready.specs.Known.{known}
+use Rattle.sm_standing.specs.Unfolded.{linked_by, linked_up, unfolded, unfolded_content}
+use Rattle.sm_standing.proofs.PlainKept.{today_known}
+use Rattle.sm_standing.proofs.UndoneToday.{today_opened}
+use Rattle.sm_standing.proofs.UnfoldedToday.{unfolded_opened, unfolded_sound, unfolded_table}
+use Rattle.sm_ready.specs.Cleaned.{HasFewRemovals, cleaned}
+use Rattle.sm_ready.specs.Frames.{HasCommits}
+use Rattle.sm_ready.specs.Does.{store_shape}
+use Rattle.sm_ready.specs.Known.{known, shape_in}
 use Rattle.sm_ready.specs.Orderly.{IsOrderly}
 use Rattle.sm_ready.specs.Ready.{IsReady}
 use Rattle.sm_ready.specs.Repairs.{IsAtRest, IsSame, content_of}
-use Rattle.sm_ready.specs.Sessions.{IsAtEase}
+use Rattle.sm_ready.specs.Sessions.{IsAtEase, IsOrderlyStore}
 use Rattle.sm_ready.specs.Stores.{content_in, store_content}
 use Rattle.sm_ready.specs.declared.memory.Memory.{Memory}
 use Rattle.sm_ready.proofs.AgainLaws.{stored_as}
 use Rattle.sm_ready.proofs.CleanLaws.{few_from}
+use Rattle.sm_ready.proofs.Orders.{named_row}
+use Rattle.sm_ready.proofs.RowLaws.{image_named}
+use Rattle.sm_recover.specs.Linking.{IsLinkBegun, LinkedBy, LinksRest}
+use Rattle.sm_recover.specs.Links.{IsLinkRight}
 use Rattle.sm_recover.specs.Loaded.{stored_undone}
-use Rattle.sm_recover.specs.Repairs.{IsChecked, IsCheckedStore, IsUndoableStore}
+use Rattle.sm_recover.specs.Repairs.{IsChecked, IsCheckedStore, IsEndableStore, IsLinkable}
+use Rattle.sm_recover.specs.Steps.{IsPartOf, first_changes, uncopied}
 use Rattle.sm_recover.specs.Stores.{MayBeRepairedFrom}
+use Rattle.sm_recover.proofs.EndLaws.{first_table, image_not_folding, rows_unfolded}
+use Rattle.sm_recover.proofs.FirstLaws.{few_link, few_rest, first_done, first_same}
+use Rattle.sm_recover.proofs.StepLaws.{part_all}
+use Rattle.sm_recover.proofs.SweptLaws.{opened_shape}
+use Rattle.sm_recover.proofs.UndoLaws.{held_same}
 use Rattle.sm_recover.proofs.UndoneLaws.{undone_checked}
-use Rattle.sm_recover.proofs.UndoLaws.{few_behind, held_same}
+use Rattle.sm_recover.proofs.UnfoldLaws.{undoable_unfolded}
 
 -- what a stop leaves while it is undone
 abbrev pub IsLeftSame : VolumeTable → (ℕ → List ℕ) → Stored → Type 0
-IsLeftSame v image x = IsSettled x.area → first_fault_today (content_of x) ≡ None → HasNoEmptySlot (content_of x) → IsSame (content_of x) (content_in x.site v image)
+IsLeftSame v image x = IsSettled x.area → first_fault_today (content_of x) ≡ None → HoldsWell (content_of x) → IsSame (content_of x) (content_in x.site v image)
 
 pub undoing_repaired : {S : Type 0} {g : Ghosts S} {a b : S} {v : VolumeTable} {image : ℕ → List ℕ} → OnlyReads g a b → g.told → first_fault_today (store_content g a) ≡ None → IsSettled (g.area a)
     → IsLeftSame v image (stored g b) → MayBeRepairedFrom (store_content g a) (content_in (g.site a) v image)
 undoing_repaired {v = v} {image = image} r told sound settled left = record {
   was_sound = sound;
-  repaired = λ holding. let w = subst (IsLeftSame v image) (stored_as r told) left settled sound holding in record { was_sound = sound; sound = w.kept; same_disks = w.same_disks };
+  repaired = λ well. let w = subst (IsLeftSame v image) (stored_as r told) left settled sound well in record { was_sound = sound; sound = w.kept; same_disks = w.same_disks };
 }
 
-module _ {S : Type 0} {g : Ghosts S} {a b d : S} (r : OnlyReads g a b) (site : g.site d ≡ g.site b) (table : table_alone (g.table d) ≡ undone (table_alone (g.table b))) where
-  pub table_behind : table_alone (g.table d) ≡ undone (table_alone (g.table a))
-  table_behind = table ∙ ap undone r.stays.table
+-- behind the links
+pub same_behind : {S : Type 0} {g : Ghosts S} {d e : S} {n : Memory} {v : VolumeTable} {image : ℕ → List ℕ} → g.site e ≡ g.site d → LinksRest g d e n → IsSame (store_content g e) (content_in (g.site e) v image)
+    → IsSame (store_content g d) (content_in (g.site d) v image)
+same_behind {g = g} {d} {e} {n} {v} {image} site rest same =
+    let w = subst (λ z. IsSame (store_content g e) (content_in z v image)) site same in
+    record { kept = w.kept; same_disks = w.same_disks ∙ rest.same_disks }
 
-  pub checked_behind : IsUndoableStore g a → IsCheckedStore g d
-  checked_behind c = subst₂ IsChecked (sym (site ∙ r.stays.site)) (sym table_behind) (undone_checked c)
+-- a: in front of the checks; b: behind them; d: once the first changes are made
+module _ {S : Type 0} {g : Ghosts S} {a b d : S} (r : OnlyReads g a b) (site : g.site d ≡ g.site b) (table : table_alone (g.table d) ≡ undone (uncopied (table_alone (g.table b)))) (c : IsEndableStore g a) where
+  abbrev t : VolumeTable
+  t = table_alone (g.table a)
 
-  pub few_all : (v : VolumeTable) → IsUndoableStore g a → HasFewRemovals (table_alone (g.table d)) v → HasFewRemovals (table_alone (g.table a)) v
-  few_all v c few = few_behind v c (few_from v table_behind few)
+  same_site : g.site d ≡ g.site a
+  same_site = site ∙ r.stays.site
+
+  pub first_behind : table_alone (g.table d) ≡ undone (uncopied t)
+  first_behind = table ∙ ap (λ u. undone (uncopied u)) r.stays.table
+
+  -- the table once a link has ended
+  pub less_behind : unfolded (table_alone (g.table d)) ≡ undone (unfolded t)
+  less_behind = ap unfolded first_behind ∙ (first_done c).less
+
+  pub linkable_behind : (m : Memory) → IsLinkRight t m.tree.rows → IsLinkable (g.site d) (table_alone (g.table d)) m.tree.rows (head (folding (table_alone (g.table d))))
+  linkable_behind m right = subst₂ (λ s u. IsLinkable s u m.tree.rows (head (folding u))) (sym same_site) (sym first_behind) ((first_done c).linkable m.tree.rows right)
+
+  pub orderly_behind : (m : Memory) → IsOrderly (g.site a) (undone (unfolded t)) (known m) → IsOrderly (g.site d) (unfolded (table_alone (g.table d))) (known m)
+  orderly_behind m o = subst₂ (λ s u. IsOrderly s u (known m)) (sym same_site) (sym less_behind) o
+
+  -- each image that was true is so
+  pub true_behind : (m : Memory) → IsOrderly (g.site a) (undone (unfolded t)) (known m) → g.area d ≡ g.area a → AllAreTrue (stored_undone g a) m.tree.rows → AllAreTrue (stored g d) m.tree.rows
+  true_behind m o area was x i =
+      let n = row_name x in
+      let named = named_row (g.site a) (undone (unfolded t)) (known m) x o i in
+      let same : rows (table_alone (g.table d)) n ≡ rows (undone (unfolded t)) n = sym (rows_unfolded (table_alone (g.table d)) n (image_not_folding n (image_named n named))) ∙ ap (λ u. rows u n) less_behind in
+      subst (λ (h : Held). ImageIsTrue (record { site = g.site d; table = table_alone (g.table d); area = h }) x.image) (sym area)
+      (subst (λ s. ImageIsTrue (record { site = s; table = table_alone (g.table d); area = g.area a }) x.image) (sym same_site)
+      (subst (λ r. TrueIn (g.site a).geometry (length (extents_of r) * (g.site a).geometry.extent) (volume (g.site a).geometry.extent (extents_of r) (g.area a)) x.image) (sym same) (was x i)))
+
+  pub few_linking : (v : VolumeTable) → HasCommits (length (folding (table_alone (g.table d)))) (table_alone (g.table d)) v → HasFewRemovals t v
+  few_linking v few = few_link c v (subst (λ u. HasCommits (length (folding u)) u v) first_behind few)
 
   module _ (told : g.told) (keeps : Keeps (g.area b) (g.area d)) (was : IsSettled (g.area a)) (settled : IsSettled (g.area b) → IsSettled (g.area d)) where
     area_before : g.area b ≡ g.area a
@@ -56,31 +108,80 @@ module _ {S : Type 0} {g : Ghosts S} {a b d : S} (r : OnlyReads g a b) (site : g
     settled_before : IsSettled (g.area b)
     settled_before = subst IsSettled (sym area_before) was
 
-    pub stored_behind : stored g d ≡ stored_undone g a
-    stored_behind =
-        ap₂ (λ z t. let x : Stored = record { site = z; table = t; area = g.area d } in x) (site ∙ r.stays.site) table_behind
-        ∙ ap (λ (h : Held). let x : Stored = record { site = g.site a; table = undone (table_alone (g.table a)); area = h } in x)
-        (held_same (g.area b) (g.area d) keeps settled_before (settled settled_before) ∙ area_before)
+    pub area_behind : g.area d ≡ g.area a
+    area_behind = held_same (g.area b) (g.area d) keeps settled_before (settled settled_before) ∙ area_before
+
+    -- what stands then is kept and shows the disks from before
+    pub same_first : first_fault_today (store_content g a) ≡ None → HoldsWell (store_content g a) → IsSame (store_content g a) (store_content g d)
+    same_first sound well =
+        subst (λ (x : Stored). IsSame (store_content g a) (content_of x)) (sym stored_first)
+        (first_same (stored g a) c (undone (uncopied t)) (reads (g.area a))
+        (record { table = subst (IsPartOf t (first_changes t)) (first_table t) (part_all t (first_changes t)); sectors = λ settled p below. refl }) was sound well)
+      where
+        stored_first : stored g d ≡ record { site = g.site a; table = undone (uncopied t); area = g.area a }
+        stored_first = ap₂ (λ s u. let x : Stored = record { site = s; table = u; area = g.area d } in x) same_site first_behind ∙ ap (λ (h : Held). let x : Stored = record { site = g.site a; table = undone (uncopied t); area = h } in x) area_behind
+
+    pub link_begun : (m : Memory) → first_fault_today (store_content g a) ≡ None → HoldsWell (store_content g a) → IsReady (g.site a) (undone (unfolded t)) (g.area a) (known m) → IsLinkBegun (stored g d) (known m)
+    link_begun m sound well ready = record {
+      settled = settled settled_before;
+      kept = (same_first sound well).kept;
+      ready = subst (λ s. IsReady s (unfolded (table_alone (g.table d))) (g.area d) (known m)) (sym same_site)
+          (subst₂ (λ u h. IsReady (g.site a) u h (known m)) (sym less_behind) (sym area_behind) ready);
+    }
+
+    -- what a stop leaves of it
+    pub link_repaired : {v : VolumeTable} {image : ℕ → List ℕ} → first_fault_today (store_content g a) ≡ None → (HoldsWell (store_content g a) → IsSame (store_content g d) (content_in (g.site d) v image))
+        → MayBeRepairedFrom (store_content g a) (content_in (g.site a) v image)
+    link_repaired {v} {image} sound left = record {
+      was_sound = sound;
+      repaired = λ well.
+          let w = subst (λ z. IsSame (store_content g d) (content_in z v image)) same_site (left well) in
+          record { was_sound = sound; sound = w.kept; same_disks = w.same_disks ∙ (same_first sound well).same_disks };
+    }
+
+  -- e: once the children are linked
+  module _ {e : S} (site_then : g.site e ≡ g.site d) (ended : table_alone (g.table e) ≡ unfolded (table_alone (g.table d))) where
+    pub table_behind : table_alone (g.table e) ≡ undone (unfolded t)
+    table_behind = ended ∙ less_behind
+
+    pub checked_behind : IsCheckedStore g e
+    checked_behind = subst₂ IsChecked (sym (site_then ∙ same_site)) (sym table_behind) (undone_checked (undoable_unfolded c))
+
+    pub few_all : (v : VolumeTable) → HasFewRemovals (table_alone (g.table e)) v → HasFewRemovals t v
+    few_all v few = few_rest c v (few_from v table_behind few)
 
     -- memory is at rest beside it
-    pub start : (m : Memory) → IsOrderly (g.site a) (undone (table_alone (g.table a))) (known m) → IsReady (g.site a) (undone (table_alone (g.table a))) (g.area a) (known m) → IsAtEase m → IsAtRest (stored g d) (known m)
-    start m orderly ready ease = subst (λ x. IsAtRest x (known m)) (sym stored_behind) (record { orderly = orderly; ready = ready; settled = was; idle = ease.idle })
+    pub start : (n : Memory) → IsOrderlyStore g e n → LinksRest g d e n → IsAtEase n → IsAtRest (stored g e) (known n)
+    start n orderly rest ease = record { orderly = orderly; ready = rest.ready; settled = rest.settled; idle = ease.idle }
 
-    module _ (c : IsUndoableStore g a) (sound : first_fault_today (store_content g a) ≡ None) where
-      -- the disks are those from before
-      pub disks_behind : disks (content_of (stored g d)) ≡ disks (store_content g a)
-      disks_behind = ap (λ x. disks (content_of x)) stored_behind ∙ today_disks (store_content g a) c.table (g.site a).geometry.in_range (today_sound (store_content g a) sound)
-
-      -- and so is the shape that an opening makes
-      pub opened_behind : opened (content_of (stored_undone g a)) ≡ opened (store_content g a)
-      opened_behind = today_opened (store_content g a) c.table (g.site a).geometry.in_range (today_sound (store_content g a) sound)
-
-      -- what a stop leaves of it
-      pub behind_repaired : {v : VolumeTable} {image : ℕ → List ℕ} → (HasNoEmptySlot (store_content g a) → IsSame (content_of (stored g d)) (content_in (g.site d) v image))
-          → MayBeRepairedFrom (store_content g a) (content_in (g.site a) v image)
-      behind_repaired {v} {image} left = record {
-        was_sound = sound;
-        repaired = λ holding.
-            let w = subst (λ z. IsSame (content_of (stored g d)) (content_in z v image)) (site ∙ r.stays.site) (left holding) in
-            record { was_sound = sound; sound = w.kept; same_disks = w.same_disks ∙ disks_behind };
-      }
+    -- and the shape that an opening is to make of it is the one that it is to make of what stood first
+    pub opened_behind : (m n : Memory) → first_fault_today (store_content g a) ≡ None → IsSettled (g.area a) → IsOrderly (g.site a) (undone (unfolded t)) (known m) → IsReady (g.site a) (undone (unfolded t)) (g.area a) (known m) → IsAtEase m
+        → IsAtRest (stored g e) (known n) → n.attached.disks ≡ [] → IsLinkRight t m.tree.rows
+        → LinkedBy (head (folding (table_alone (g.table d)))) m.tree.rows (shape_in (g.site d) (unfolded (table_alone (g.table d))) (known m)) (store_shape g e n)
+        → opened (content_of (stored g e)) ≡ opened (store_content g a)
+    opened_behind m n sound was orderly ready ease rest unattached right linked =
+        let x : Stored = record { site = g.site a; table = undone (unfolded t); area = g.area a } in
+        let s = today_known (store_content g a) sound in
+        let begun : IsAtRest x (known m) = record { orderly = orderly; ready = ready; settled = was; idle = ease.idle } in
+        let first = opened_shape x (known m) begun ease.unattached in
+        let last = opened_shape (stored g e) (known n) rest unattached in
+        let shapes : store_shape g e n ≡ linked_up t (shape_in (g.site a) (undone (unfolded t)) (known m)) =
+        (first_done c).linked m.tree.rows _ _ right (subst (λ u. LinkedBy (head (folding u)) m.tree.rows (shape_in (g.site a) (undone (unfolded t)) (known m)) (store_shape g e n)) first_behind
+        (subst₂ (λ z u. LinkedBy (head (folding (table_alone (g.table d)))) m.tree.rows (shape_in z u (known m)) (store_shape g e n)) same_site less_behind linked)) in
+        last ∙ ap₂ (λ k σ. let y : Shape = record σ { sequence = k } in y) (ap (λ u. (cleaned u).sequence) table_behind) shapes
+        ∙ up_numbered (head (folding t)) (shape_in (g.site a) (undone (unfolded t)) (known m)) (cleaned (undone (unfolded t))).sequence
+        ∙ ap (linked_up t) (sym first ∙ today_opened (unfolded_content (store_content g a)) (unfolded_table (store_content g a) s c.table) (g.site a).geometry.in_range (unfolded_sound (store_content g a) s c.table))
+        ∙ sym (unfolded_opened (store_content g a) s c.table)
+      where
+        -- whatever its number is
+        up_numbered : (h : Option Name) (σ : Shape) (k : ℕ) → record (linked_by t h σ) { sequence = k } ≡ linked_by t h (record σ { sequence = k })
+        up_numbered None σ k = refl
+        up_numbered (Some (Relink v p)) σ k = refl
+        up_numbered (Some Mgt) σ k = refl
+        up_numbered (Some (Vhd u)) σ k = refl
+        up_numbered (Some (Raw u)) σ k = refl
+        up_numbered (Some (Old u)) σ k = refl
+        up_numbered (Some (Clone u v w)) σ k = refl
+        up_numbered (Some (Inflate u v)) σ k = refl
+        up_numbered (Some (Coalesce u v)) σ k = refl
+        up_numbered (Some (Leaf u v)) σ k = refl

@@ -1,12 +1,12 @@
 -- Changes made one after the other: what one commit makes, and one part behind another.
-use Rattle.std.proofs.Common.{◌≡◌, inl, inr, ℕ, zero, suc, ◌+◌, ◌<◌, ◌≤◌, List, [], ◌∷◌, ◌++◌, length, take, refl, sym, ap, ◌∙◌, subst, arith}
+use Rattle.std.proofs.Common.{◌≡◌, ℕ, zero, suc, ◌+◌, ◌<◌, ◌≤◌, List, [], ◌∷◌, ◌++◌, length, take, refl, sym, ap, ◌∙◌, subst, arith}
 use Rattle.sm_disk.specs.Held.{IsSettled, Keeps}
 use Rattle.sm_disk.proofs.HeldLaws.{Keeps-then, may_settled}
 use Rattle.vg_meta.specs.Changes.{applied}
 use Rattle.vg_meta.specs.Tables.{VolumeTable}
 use Rattle.vg_meta.specs.declared.changes.Change.{Change}
 use Rattle.vg_volumes.specs.Stored.{CanCommit, Commits, Stored, stored}
-use Rattle.vg_volumes.specs.Commits.{IsBefore, IsEither}
+use Rattle.vg_volumes.specs.Commits.{IsBefore}
 use Rattle.vg_volumes.specs.Sites.{area_size}
 use Rattle.vg_volumes.specs.declared.stores.Store.{Ghosts}
 use Rattle.sm_standing.specs.Undone.{applied_all}

@@ -23,7 +23,6 @@ use Rattle.sm_standing.specs.Entries.{head, is_making, making}
 use Rattle.sm_standing.specs.Images.{image_extents}
 use Rattle.sm_standing.specs.Undone.{IsBeingEnlarged, applied_all, undone}
 use Rattle.sm_standing.proofs.UndoneLaws.{undone_making, undone_volumes}
-use Rattle.sm_recover.specs.Repairs.{IsUndoable}
 use Rattle.vg_volumes.specs.Sites.{Site, size_of}
 use Rattle.vg_meta.specs.Tables.{extents_of}
 use Rattle.vg_meta.proofs.RowLaws.{row_of-name}
@@ -34,7 +33,7 @@ use Rattle.std.proofs.lemmas.Option.{none-some, same_Some}
 use Rattle.sm_ready.proofs.RowLaws.{found_in}
 use Rattle.sm_standing.proofs.PlainDisks.{all-In}
 use Rattle.sm_recover.specs.Loaded.{as_read, read_volumes, shortened, shortened_by}
-use Rattle.sm_recover.proofs.EntryLaws.{changes_some, enlarged_found, head_alone, undone_applied}
+use Rattle.sm_recover.proofs.EntryLaws.{IsStaged, changes_some, enlarged_found, head_alone, undone_applied}
 
 -- an image is no entry
 pub image_not_making : (n : Name) → is_image n ≡ true → is_making n ≡ false
@@ -241,7 +240,7 @@ module _ {t : VolumeTable} {u : List ℕ} {e : ℕ} (w : IsBeingEnlarged t u e) 
 read_name : (ns : List Name) (r : Row) → (as_read ns r).name ≡ r.name
 read_name ns r = refl
 
-module _ {s : Site} {t : VolumeTable} (c : IsUndoable s t) where
+module _ {s : Site} {t : VolumeTable} (c : IsStaged s t) where
   rising : IsRising t.volumes
   rising = c.table.volumes.rising
 

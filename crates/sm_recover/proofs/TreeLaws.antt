@@ -70,7 +70,7 @@ module _ (xs : List TreeRow) (x : Outline) (links : HasLinks xs x) where
     misplaced_seen : (r : Row) (u : List ℕ) → r.name ≡ Vhd u → (o : Option TreeRow) → is_misplaced_in x.table xs r o ≡ is_misplaced x r (link_in o)
     misplaced_seen r u named None = refl
     misplaced_seen r u named (Some y) =
-        let childless = ap (λ n. length (children_in xs n)) named ∙ sym (counted u) ∙ ap (λ n. length (children x n)) (sym named) in
+        let childless = ap (λ n. length (children_in xs n)) named ∙ sym (counted.vhd u) ∙ ap (λ n. length (children x n)) (sym named) in
         let short = ap₂ (λ k n. nat_le k 30 && (r.hidden || (n == 0))) (chain_seen 31 r.name) childless in
         ap₂ (λ a b. not (a && b)) (linked_seen y.image) short
 
@@ -95,7 +95,7 @@ trees_at k xs x is links counted held found said =
 
 -- ---- children
 
--- whether a name is that of a VHD image, by either equality
+-- whether a name is that of an image, by either equality
 pub named_vhd : (n : Name) (u : List ℕ) → same_image n (Vhd u) ≡ name_eq n (Vhd u)
 unfolding same_image name_eq
 named_vhd (Vhd v) u = refl
@@ -108,19 +108,31 @@ named_vhd (Coalesce a p) u = refl
 named_vhd (Relink a p) u = refl
 named_vhd (Leaf l p) u = refl
 
+pub named_raw : (n : Name) (u : List ℕ) → same_image n (Raw u) ≡ name_eq n (Raw u)
+unfolding same_image name_eq
+named_raw (Raw v) u = refl
+named_raw Mgt u = refl
+named_raw (Vhd v) u = refl
+named_raw (Old v) u = refl
+named_raw (Clone d b w) u = refl
+named_raw (Inflate v e) u = refl
+named_raw (Coalesce a p) u = refl
+named_raw (Relink a p) u = refl
+named_raw (Leaf l p) u = refl
+
 abbrev passes : (TreeRow → Bool) → Option TreeRow → Bool
 passes test None = false
 passes test (Some y) = test y
 
 -- the row of a volume is a child where the link of its name is
-pub child_seen : (u : List ℕ) (o : Option TreeRow) (f : TreeRow → TreeRow) → ((y : TreeRow) → (f y).image ≡ y.image)
-    → parent_is (Vhd u) (link_in o) ≡ passes (is_child_of (Vhd u)) (elim o as (λ _. Option TreeRow) [ None ↦ None | Some y ↦ Some (f y) ])
-child_seen u None f same = refl
-child_seen u (Some y) f same = by (parent_name y.image) ∙ sym (ap (λ b. elim (parent_name b) as (λ _. Bool) [ None ↦ false | Some q ↦ name_eq q (Vhd u) ]) (same y))
+pub child_seen : (p : Name) → ((q : Name) → same_image q p ≡ name_eq q p) → (o : Option TreeRow) (f : TreeRow → TreeRow) → ((y : TreeRow) → (f y).image ≡ y.image)
+    → parent_is p (link_in o) ≡ passes (is_child_of p) (elim o as (λ _. Option TreeRow) [ None ↦ None | Some y ↦ Some (f y) ])
+child_seen p named None f same = refl
+child_seen p named (Some y) f same = by (parent_name y.image) ∙ sym (ap (λ b. elim (parent_name b) as (λ _. Bool) [ None ↦ false | Some q ↦ name_eq q p ]) (same y))
   where
-    by : (o : Option Name) → elim o as (λ _. Bool) [ None ↦ false | Some q ↦ same_image q (Vhd u) ] ≡ elim o as (λ _. Bool) [ None ↦ false | Some q ↦ name_eq q (Vhd u) ]
+    by : (o : Option Name) → elim o as (λ _. Bool) [ None ↦ false | Some q ↦ same_image q p ] ≡ elim o as (λ _. Bool) [ None ↦ false | Some q ↦ name_eq q p ]
     by None = refl
-    by (Some q) = named_vhd q u
+    by (Some q) = named q
 
 -- as many volumes pass a test as their rows do
 pub count_through : (change : Row → Row) (f : Row → Option TreeRow) (test : Row → Bool) (of : TreeRow → Bool) (rs : List Row) → ((r : Row) → In r rs → test r ≡ passes of (f (change r)))

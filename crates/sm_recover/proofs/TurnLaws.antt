@@ -34,8 +34,9 @@ use Rattle.sm_ready.proofs.LoadLaws.{IsItem, among, at_item}
 use Rattle.sm_ready.proofs.RowLaws.{All-In}
 use Rattle.sm_recover.specs.Faults.{HasTable}
 use Rattle.sm_recover.specs.Loaded.{FailsAt, FailsToRead, HasEachRow, IsFilledImage, IsNoneRead, IsReadAs, IsRow, as_read, read_volumes, shortened, stored_read}
-use Rattle.sm_recover.specs.Repairs.{IsStoppedBy, IsUndoable}
+use Rattle.sm_recover.specs.Repairs.{IsEndable, IsStoppedBy}
 use Rattle.sm_recover.proofs.FoundLaws.{image_short, invalid_as_read, invalid_read, invalid_short, link_read, skipped, valid_read}
+use Rattle.sm_recover.proofs.EntryLaws.{staged_end}
 use Rattle.sm_recover.proofs.TableLaws.{found_read, short_sized}
 
 -- ---- the volume that a turn comes to
@@ -107,7 +108,7 @@ item_read ns {hs} {i} {h} item =
     same_names [] = refl
     same_names (g ∷ gs) = ap (λ xs. g.row.name ∷ xs) (same_names gs)
 
-module _ {S : Type 0} {g : Ghosts S} {a b : S} (only : OnlyReads g a b) (c : IsUndoable (g.site a) (table_alone (g.table a))) where
+module _ {S : Type 0} {g : Ghosts S} {a b : S} (only : OnlyReads g a b) (c : IsEndable (g.site a) (table_alone (g.table a))) where
   abbrev t : VolumeTable
   t = table_alone (g.table a)
 
@@ -185,7 +186,7 @@ module _ {S : Type 0} {g : Ghosts S} {a b : S} (only : OnlyReads g a b) (c : IsU
   valid_row : (r : Row) (x : TreeRow) → In r (read_volumes t) → IsFilledImage r → IsRow g.told before r x → g.told → is_invalid seen r ≡ false
   valid_row r x i f row told =
       valid_read g.told (g.site a) u (g.area a) r seen_table x.image row.image
-      (ap link_of (sym (image_short (g.site a) t (g.area a) c r.name)) ∙ link_read g.told (g.site a) u (g.area a) r x.image (short_sized c) (found_read c r i f.image) f.filled row.image told)
+      (ap link_of (sym (image_short (g.site a) t (g.area a) (staged_end c) r.name)) ∙ link_read g.told (g.site a) u (g.area a) r x.image (short_sized (staged_end c)) (found_read (staged_end c) r i f.image) f.filled row.image told)
 
   -- one whose image is there or that has none is not wrong
   right_row : (r : Row) → In r (read_volumes t) → (IsFilledImage r → (x : TreeRow) × IsRow g.told before r x) → g.told → is_invalid seen r ≡ false
@@ -242,8 +243,8 @@ module _ {S : Type 0} {g : Ghosts S} {a b : S} (only : OnlyReads g a b) (c : IsU
         ap (placed at.Image) (sym (first_read (is_invalid seen) t.volumes (invalid_as_read (making t) seen)))
         ∙ ap (λ o. placed at.Image (name_in o)) (first_found (is_invalid seen)
         (λ r there. right_row r (front_in r there) (λ f. let w = each r there f in (w.0, w.2)) told)
-        (invalid_short (g.site a) t (g.area a) c here
-        ∙ invalid_read g.told (g.site a) u (g.area a) here (short_sized c) (found_read c here volume_in filled.image) filled.filled (none_kept here.name (length here.extents) none) told))
+        (invalid_short (g.site a) t (g.area a) (staged_end c) here
+        ∙ invalid_read g.told (g.site a) u (g.area a) here (short_sized (staged_end c)) (found_read (staged_end c) here volume_in filled.image) filled.filled (none_kept here.name (length here.extents) none) told))
 
     pub stopped_at : {d : S} (xs : List TreeRow) (e : OpenFault) → HasEachRow g.told before front xs → FailsAt g behind (as_read (making (table_alone (g.table b))) h.row) e b d
         → IsStoppedBy g.told (invalid_fault seen) (g.faults a) (g.faults d) e

@@ -13,12 +13,12 @@ use Rattle.vg_meta.specs.declared.changes.Change.TheVariants.{Cut, Mark, Remove}
 use Rattle.vg_meta.specs.declared.changes.Tag.TheVariants.{Hidden}
 use Rattle.vg_volumes.specs.Sites.{Site}
 use Rattle.vg_volumes.specs.Stored.{Stored}
-use Rattle.sm_standing.specs.Checks.{first_fault_today}
-use Rattle.sm_standing.specs.Entries.{head, image_with, is_there, making, of_row}
+use Rattle.sm_standing.specs.Entries.{folding, head, image_with, is_there, making, of_row}
 use Rattle.sm_standing.specs.Keeping.{HasNoEmptySlot}
+use Rattle.sm_standing.specs.PlainSound.{SimpleSound}
 use Rattle.sm_standing.specs.Undone.{applied_all, base_changes, changes_back, is_longer, undo_changes, undone, wanted}
-use Rattle.sm_standing.proofs.PlainDisks.{no_making}
-use Rattle.sm_standing.proofs.PlainKept.{today_sound}
+use Rattle.sm_standing.proofs.PlainDisks.{no_making, simple_folding}
+use Rattle.sm_standing.proofs.PlainKept.{plain_simple}
 use Rattle.sm_standing.proofs.UndoneToday.{undoing_disks, undoing_kept}
 use Rattle.sm_ready.specs.Cleaned.{HasFewRemovals, new_count}
 use Rattle.sm_ready.specs.Repairs.{IsSame, content_of}
@@ -83,6 +83,10 @@ nothing_left : {s : Site} {t : VolumeTable} → IsUndoable s t → undo_changes 
 unfolding undo_changes
 nothing_left {s} {t} c = ap (λ ns. elim (head ns) as (λ _. List Change) [ None ↦ [] | Some n ↦ changes_back (undone t) n ]) (no_making (undone t).volumes (undone_checked c).plain)
 
+-- no entry is left
+pub none_folded : {s : Site} {t : VolumeTable} → IsUndoable s t → folding (undone t) ≡ []
+none_folded {s} {t} c = simple_folding (undone t).volumes (plain_simple (undone t) (undone_checked c).plain)
+
 -- and behind it
 pub few_behind : {s : Site} {t : VolumeTable} (v : VolumeTable) → IsUndoable s t → HasFewRemovals (undone t) v → HasFewRemovals t v
 few_behind {s} {t} v c few =
@@ -92,6 +96,7 @@ few_behind {s} {t} v c few =
       arith,
       few,
       ap (λ (cs : List Change). length cs) (nothing_left c),
+      ap (λ (ns : List Name). length ns) (none_folded c),
       ap (λ (x : VolumeTable). x.sequence) (undone_applied t),
       ap (λ (x : VolumeTable). new_count x.volumes) (undone_applied t),
       fewer,
@@ -100,10 +105,9 @@ few_behind {s} {t} v c few =
 
 -- ---- what is left is kept, and has the same disks
 
-pub left_same : (x : Stored) (v : VolumeTable) (image : ℕ → List ℕ) → IsTable x.site.count x.table → IsLeftOf x (IsPartOf x.table (undo_changes x.table)) v image → IsSettled x.area → first_fault_today (content_of x) ≡ None
+pub left_same : (x : Stored) (v : VolumeTable) (image : ℕ → List ℕ) → IsTable x.site.count x.table → IsLeftOf x (IsPartOf x.table (undo_changes x.table)) v image → IsSettled x.area → SimpleSound (content_of x)
     → HasNoEmptySlot (content_of x) → IsSame (content_of x) (content_in x.site v image)
-left_same x v image table left settled sound holding =
-    let s = today_sound (content_of x) sound in
+left_same x v image table left settled s holding =
     let g = x.site.geometry.in_range in
     record {
       kept = undoing_kept (content_of x) table g s holding v image left.table (left.sectors settled);

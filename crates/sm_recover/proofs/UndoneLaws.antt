@@ -21,7 +21,7 @@ use Rattle.sm_standing.proofs.PlainKept.{all-of, simple_plain_name}
 use Rattle.sm_standing.proofs.UndoneLaws.{images_undone, undone_is_table, undone_plain}
 use Rattle.sm_ready.proofs.RowLaws.{found_in}
 use Rattle.sm_recover.specs.Repairs.{IsChecked, IsUndoable}
-use Rattle.sm_recover.proofs.EntryLaws.{IsDropped, IsFork, IsTakenBack, back_image, base_found, changes_none, changes_some, enlarged_found, fork_found, none_back, some_back, undoable_small, undone_applied}
+use Rattle.sm_recover.proofs.EntryLaws.{IsDropped, IsFork, IsTakenBack, back_image, base_found, changes_none, changes_some, enlarged_found, fork_found, none_back, some_back, staged, undoable_small, undone_applied}
 use Rattle.sm_recover.proofs.TableLaws.{records_short, shortened_undone}
 
 pub decide : (a b : Name) → (a ≡ b) ⊎ (a ≢ b)
@@ -72,7 +72,7 @@ module _ {s : Site} {t : VolumeTable} (c : IsUndoable s t) where
 
   module _ (d b w : List ℕ) (found : head (making t) ≡ Some (Clone d b w)) where
     pub fork : IsFork t d b w
-    fork = fork_found d b w c found
+    fork = fork_found d b w (staged c) found
 
     -- no image has the base's UUID
     pub dropped : image_with t b ≡ None → IsDropped s.count t (undone t) d b w
@@ -154,7 +154,7 @@ module _ {s : Site} {t : VolumeTable} (c : IsUndoable s t) where
     few_extents = c.few_extents;
     plain = undone_plain t u e w c.simple;
     few_images = subst (λ n. n ≤ image_limit) (sym (images_undone t u e w)) c.few_images;
-    record_volume = ap (λ o. length (extents_of o)) (ap (λ x. rows x Mgt) (sym (shortened_undone t u e w.entry)) ∙ records_short c) ∙ c.record_volume;
+    record_volume = ap (λ o. length (extents_of o)) (ap (λ x. rows x Mgt) (sym (shortened_undone t u e w.entry)) ∙ records_short (staged c)) ∙ c.record_volume;
   }
 
   -- where no entry is there, it is as it is
@@ -185,7 +185,7 @@ module _ {s : Site} {t : VolumeTable} (c : IsUndoable s t) where
     where
       by : (o : Option Name) → head (making t) ≡ o → IsChecked s (undone t)
       by None none = nothing_checked none
-      by (Some (Inflate u e)) found = enlarged_checked u e (enlarged_found u e c found)
+      by (Some (Inflate u e)) found = enlarged_checked u e (enlarged_found u e (staged c) found)
       by (Some (Clone d b w)) found = fork_checked d b w found (image_with t b) refl
       by (Some Mgt) found = absurd (not_making Mgt found refl)
       by (Some (Vhd u)) found = absurd (not_making (Vhd u) found refl)
@@ -206,7 +206,7 @@ module _ {s : Site} {t : VolumeTable} (c : IsUndoable s t) where
 
       by : (o : Option Name) → head (making t) ≡ o → rows (undone t) Mgt ≡ rows t Mgt
       by None none = ap (λ x. rows x Mgt) (undone_nothing t none)
-      by (Some (Inflate u e)) found = ap (λ x. rows x Mgt) (sym (shortened_undone t u e (enlarged_found u e c found).entry)) ∙ records_short c
+      by (Some (Inflate u e)) found = ap (λ x. rows x Mgt) (sym (shortened_undone t u e (enlarged_found u e (staged c) found).entry)) ∙ records_short (staged c)
       by (Some (Clone d b w)) found = forked d b w found (image_with t b) refl
       by (Some Mgt) found = absurd (not_making Mgt found refl)
       by (Some (Vhd u)) found = absurd (not_making (Vhd u) found refl)

@@ -5,7 +5,7 @@ use Rattle.std.specs.List.{list_any, slice_get}
 use Rattle.std.specs.Str.{bytes_eq}
 use Rattle.sm_base.specs.declared.faults.Place.{Place}
 use Rattle.sm_base.specs.declared.names.Name.{Name}
-use Rattle.sm_base.specs.declared.names.Name.TheVariants.{Vhd, Raw, Old, Clone, Inflate}
+use Rattle.sm_base.specs.declared.names.Name.TheVariants.{Vhd, Raw, Old, Clone, Inflate, Coalesce, Relink}
 use Rattle.sm_base.specs.declared.sizes.Geometry.{Geometry}
 use Rattle.std.specs.declared.cmp.Ordering.TheVariants.{Less}
 use Rattle.vg_meta.specs.Tables.{Row, VolumeTable}
@@ -16,7 +16,7 @@ use Rattle.sm_record.specs.declared.records.Record.{Record}
 use Rattle.sm_mgt.specs.Places.{place_count, is_of, as_reading}
 use Rattle.sm_standing.specs.Checks.{record_volume_fault, too_many_fault, misnamed_fault, entry_ahead_fault, second_entry_fault, lost_entry_fault, old_leaf_fault, invalid_fault, tree_fault, entry_link_fault, has_uuid, is_no_larger, children}
 use Rattle.sm_standing.specs.Outlines.{Outline}
-use Rattle.sm_standing.specs.Entries.{image_with, is_fork_made, is_hidden, is_inflating, is_past, is_there, is_visible}
+use Rattle.sm_standing.specs.Entries.{folding_uuids, image_with, is_among, is_coalescing, is_fork_made, is_hidden, is_inflating, is_past, is_there, is_visible}
 use Rattle.sm_standing.specs.Ordered.{uuid_cmp}
 use Rattle.sm_standing.specs.Standing.{standing_volume}
 use Rattle.vhd_image.specs.Bodies.{parent_name, sector_count}
@@ -59,17 +59,27 @@ is_any_visible t u = is_visible t (Vhd u) || (is_visible t (Raw u) || is_visible
 abbrev pub is_begun : VolumeTable → List ℕ → List ℕ → List ℕ → Bool
 is_begun t disk base twin = not (has_any t base) && (not (has_any t twin) && (has_one t disk && is_any_visible t disk))
 
--- a fork at a stage, where no entry of the other group is there
+-- a fork that has no UUID of the entry of the other group
+abbrev pub is_apart : VolumeTable → List ℕ → List ℕ → List ℕ → Bool
+is_apart t disk base twin = not (list_any (is_among (disk ∷ base ∷ twin ∷ [])) (folding_uuids t))
+
+-- a fork at a stage
 abbrev pub is_fork_at_stage : VolumeTable → List ℕ → List ℕ → List ℕ → Bool
 is_fork_at_stage t disk base twin =
     not (bytes_eq disk base) && (not (bytes_eq disk twin) && (not (bytes_eq base twin)
-    && (is_begun t disk base twin || is_fork_made t disk base twin)))
+    && (is_apart t disk base twin && (is_begun t disk base twin || is_fork_made t disk base twin))))
 
--- an enlargement or a fork that stands at no stage, or whose UUIDs are still to come
+-- a copy or a link at its stage, with UUIDs that are not still to come
+abbrev pub is_copy_placed : VolumeTable → List ℕ → List ℕ → Bool
+is_copy_placed t child parent = is_coalescing t child parent && (is_past t.sequence child && is_past t.sequence parent)
+
+-- an entry that stands at no stage, or whose UUIDs are still to come; that of the folding of a leaf is not looked at
 abbrev pub is_making_lost : VolumeTable → Name → Bool
 is_making_lost t (Inflate u extents) = not (is_inflating t u extents) || not (is_past t.sequence u)
 is_making_lost t (Clone disk base twin) =
     not (is_fork_at_stage t disk base twin) || not (is_past t.sequence disk && (is_past t.sequence base && is_past t.sequence twin))
+is_making_lost t (Coalesce child parent) = not (is_copy_placed t child parent)
+is_making_lost t (Relink child parent) = not (is_copy_placed t child parent)
 is_making_lost t _ = false
 
 -- the name of an old leaf
@@ -87,9 +97,10 @@ pub record PassImages (x : Outline) : Type 0 where
 abbrev pub HasLinks : List TreeRow → Outline → Type 0
 HasLinks xs x = (n : Name) → x.links n ≡ link_in (tree_row xs n)
 
--- an outline in which each VHD image has as many children as among these rows
-abbrev pub HasChildren : List TreeRow → Outline → Type 0
-HasChildren xs x = (u : List ℕ) → length (children x (Vhd u)) ≡ length (children_in xs (Vhd u))
+-- an outline in which each image has as many children as among these rows
+pub record HasChildren (xs : List TreeRow) (x : Outline) : Type 0 where
+  pub vhd : (u : List ℕ) → length (children x (Vhd u)) ≡ length (children_in xs (Vhd u))
+  pub raw : (u : List ℕ) → length (children x (Raw u)) ≡ length (children_in xs (Raw u))
 
 -- an outline in which each of these rows is seen: a volume has its name, and by that it is found
 abbrev pub HasVolumes : List TreeRow → Outline → Type 0
@@ -113,9 +124,35 @@ is_new_over xs base u = elim (tree_row xs (Vhd u)) [ None ↦ true | Some y ↦ 
 abbrev pub is_fork_linked_in : List TreeRow → List ℕ → List ℕ → List ℕ → Bool
 is_fork_linked_in xs disk base twin = is_new_over xs base disk && (is_new_over xs base twin && not (list_any (is_other_child disk base twin) xs))
 
--- the entry of a fork whose base is there, and whose images are linked otherwise
+-- ---- the entry of a copy or of a link, by the images in memory
+
+-- an image that is in memory, of a size that passes a test
+abbrev pub is_as_large_in : List TreeRow → (ℕ → Bool) → Name → Bool
+is_as_large_in xs test n = elim (tree_row xs n) [ None ↦ false | Some y ↦ test (sector_count y.image) ]
+
+-- an image that has a parent of this UUID, which is such an image
+abbrev pub has_parent_in : List TreeRow → List ℕ → (ℕ → Bool) → Body → Bool
+has_parent_in xs parent test image = elim (parent_name image) [ None ↦ false | Some q ↦ has_uuid parent q && is_as_large_in xs test q ]
+
+-- one image has a parent of this UUID
+abbrev pub has_one_child : List TreeRow → List ℕ → Bool
+has_one_child xs parent =
+    ((length (children_in xs (Vhd parent)) == 1) && (length (children_in xs (Raw parent)) == 0))
+    || ((length (children_in xs (Vhd parent)) == 0) && (length (children_in xs (Raw parent)) == 1))
+
+-- the child of a copy has the parent, and no other has
+abbrev pub is_copy_in : List TreeRow → List ℕ → List ℕ → Bool
+is_copy_in xs child parent = elim (tree_row xs (Vhd child)) [ None ↦ false | Some y ↦ has_parent_in xs parent (nat_le 0) y.image && has_one_child xs parent ]
+
+-- the child of a link has the parent, which is as large at least
+abbrev pub is_link_in : List TreeRow → List ℕ → List ℕ → Bool
+is_link_in xs child parent = elim (tree_row xs (Vhd child)) [ None ↦ false | Some y ↦ has_parent_in xs parent (nat_le (sector_count y.image)) y.image ]
+
+-- an entry whose images are linked otherwise than it says: of a fork where the base is there
 abbrev pub is_unlinked_in : VolumeTable → List TreeRow → Name → Bool
 is_unlinked_in t xs (Clone disk base twin) = is_fork_made t disk base twin && not (is_fork_linked_in xs disk base twin)
+is_unlinked_in t xs (Coalesce child parent) = not (is_copy_in xs child parent)
+is_unlinked_in t xs (Relink child parent) = not (is_link_in xs child parent)
 is_unlinked_in t xs _ = false
 
 -- a parent that is there in memory, not new, hidden and not larger

@@ -4,3 +4,5 @@ pub mod Repairs
 pub mod Steps
 pub mod Backs
 pub mod Loaded
+pub mod Links
+pub mod Linking

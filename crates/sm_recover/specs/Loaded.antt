@@ -15,6 +15,7 @@ use Rattle.common_laws.specs.Lists.{In}
 use Rattle.sm_standing.specs.Entries.{head, making}
 use Rattle.sm_standing.specs.Images.{image_extents}
 use Rattle.sm_standing.specs.Undone.{applied_all, changes_back, undone}
+use Rattle.sm_standing.specs.Unfolded.{unfolded}
 use Rattle.vg_volumes.specs.Stored.{Faults, Stored, held_in}
 use Rattle.vg_volumes.specs.declared.stores.Store.{Ghosts}
 use Rattle.vhd_image.specs.Bodies.{IfVhd, IsVhd, StandsIn}
@@ -42,13 +43,17 @@ shortened_by t _ = t
 unfoldable pub shortened : VolumeTable → VolumeTable
 shortened t = shortened_by t (head (making t))
 
--- what a store holds, so
-abbrev pub stored_read : {S : Type 0} → Ghosts S → S → Stored
-stored_read g s = record { site = g.site s; table = shortened (table_alone (g.table s)); area = g.area s }
+-- what a store holds, by another table
+abbrev pub stored_with : {S : Type 0} → Ghosts S → S → VolumeTable → Stored
+stored_with g s t = record { site = g.site s; table = t; area = g.area s }
 
--- and without a fork or an enlargement
+-- and by that table
+abbrev pub stored_read : {S : Type 0} → Ghosts S → S → Stored
+stored_read g s = stored_with g s (shortened (table_alone (g.table s)))
+
+-- and once all that was under way is undone
 abbrev pub stored_undone : {S : Type 0} → Ghosts S → S → Stored
-stored_undone g s = record { site = g.site s; table = undone (table_alone (g.table s)); area = g.area s }
+stored_undone g s = stored_with g s (undone (unfolded (table_alone (g.table s))))
 
 -- ---- the rows of the volumes
 

@@ -1,22 +1,28 @@
 -- What the steps of an opening tell each other: what the checks leave known, and why they stopped.
-use Rattle.std.specs.Prelude.{◌≡◌, ℕ, ◌<◌, ◌≤◌, false, List, length, Option, Some, None}
+use Rattle.std.specs.Prelude.{◌≡◌, ℕ, ◌<◌, ◌≤◌, true, false, List, length, Option, Some, None}
 use Rattle.common_laws.specs.Lists.{In}
 use Rattle.sm_base.specs.declared.faults.OpenFault.{OpenFault}
 use Rattle.sm_base.specs.declared.faults.OpenFault.TheVariants as fault
 use Rattle.sm_base.specs.declared.faults.Place.{Place}
-use Rattle.sm_base.specs.declared.names.Name.TheVariants.{Mgt}
+use Rattle.sm_base.specs.Kinds.{is_image}
+use Rattle.sm_base.specs.declared.names.Name.{Name}
+use Rattle.sm_base.specs.declared.names.Name.TheVariants.{Mgt, Vhd, Relink}
 use Rattle.sm_disk.specs.Held.{IsSettled, Rose, reads}
 use Rattle.vg_layout.specs.Places.{record_extents}
+use Rattle.vg_meta.specs.Changes.{applied}
 use Rattle.vg_meta.specs.Tables.{VolumeTable, Row, IsTable, rows, extents_of}
+use Rattle.vg_meta.specs.declared.changes.Change.TheVariants.{Remove}
 use Rattle.vg_meta.specs.Roomy.{table_alone}
 use Rattle.vg_volumes.specs.Sites.{Site, area_size}
 use Rattle.vg_volumes.specs.Stored.{Stored}
 use Rattle.vg_volumes.specs.declared.stores.Store.{Ghosts}
 use Rattle.sm_machine.specs.Shapes.{image_limit}
 use Rattle.sm_standing.specs.Contents.{Content}
-use Rattle.sm_standing.specs.Checks.{images, is_lost, first_fault_today}
-use Rattle.sm_standing.specs.Entries.{making, second}
-use Rattle.sm_standing.specs.Plain.{IsPlain, IsSimple}
+use Rattle.sm_standing.specs.Checks.{images, is_lost, is_misnamed, has_uuid, first_fault_today}
+use Rattle.sm_standing.specs.Entries.{are_past, folding, is_there, making, second}
+use Rattle.sm_standing.specs.Plain.{IsKnown, IsPlain, IsSimple}
+use Rattle.vhd_chain.specs.declared.rows.TreeRow.{TreeRow}
+use Rattle.sm_recover.specs.Links.{HasLink}
 
 -- what is known of the table in memory once the checks passed, where no fork and no enlargement is under way: new volumes may be
 -- among the others
@@ -26,6 +32,23 @@ pub record IsChecked (s : Site) (t : VolumeTable) : Type 0 where
   pub plain : IsPlain t
   pub few_images : length (images t) ≤ image_limit
   pub record_volume : length (extents_of (rows t Mgt)) ≡ record_extents s.geometry.extent
+
+-- what is known of the table in memory once the checks by the table passed: beside images, new ones among them, and the volume of
+-- records at most one entry says that a disk is being forked or that an image is being enlarged, and at most one that an image is
+-- being copied or that its children are being linked; each stands at a stage of its work
+pub record IsEndable (s : Site) (t : VolumeTable) : Type 0 where
+  pub table : IsTable s.count t
+  pub few_extents : s.count ≤ 65536
+  pub known : IsKnown t
+  pub one_entry : second (making t) ≡ None
+  pub one_folding : second (folding t) ≡ None
+  pub at_stage : (r : Row) → In r t.volumes → is_lost t r ≡ false
+  pub named : (r : Row) → In r t.volumes → is_misnamed t r ≡ false
+  pub few_images : length (images t) ≤ image_limit
+  pub record_volume : length (extents_of (rows t Mgt)) ≡ record_extents s.geometry.extent
+
+abbrev pub IsEndableStore : {S : Type 0} → Ghosts S → S → Type 0
+IsEndableStore g s = IsEndable (g.site s) (table_alone (g.table s))
 
 -- what is known of the table in memory before a fork or an enlargement is undone, once the checks by the table passed: the volumes
 -- are as above, and beside them at most one says that a disk is being forked, or that an image is being enlarged, and that stands
@@ -39,10 +62,21 @@ pub record IsUndoable (s : Site) (t : VolumeTable) : Type 0 where
   pub few_images : length (images t) ≤ image_limit
   pub record_volume : length (extents_of (rows t Mgt)) ≡ record_extents s.geometry.extent
 
-abbrev pub IsUndoableStore : {S : Type 0} → Ghosts S → S → Type 0
-IsUndoableStore g s = IsUndoable (g.site s) (table_alone (g.table s))
+-- a table in which children of an image are being linked to its parent, and nothing else is under way
+pub record IsLinking (s : Site) (t : VolumeTable) (child parent : List ℕ) : Type 0 where
+  pub table : IsTable s.count t
+  pub entry : Row
+  pub there : rows t (Relink child parent) ≡ Some entry
+  pub rest : IsChecked s (applied t (Remove (Relink child parent)))
+  pub past : (n : Name) → is_image n ≡ true → is_there t n ≡ true → are_past t n ≡ true
 
--- of a store: what is known of its table once a fork or an enlargement was undone
+-- a table in which that is under way at most, beside these images
+abbrev pub IsLinkable : Site → VolumeTable → List TreeRow → Option Name → Type 0
+IsLinkable s t xs None = Unit {0}
+IsLinkable s t xs (Some (Relink child parent)) = IsLinking s t child parent × (n : Name) × HasLink xs (Vhd child) n × (has_uuid parent n ≡ true)
+IsLinkable s t xs (Some n) = ⊥
+
+-- of a store: what is known of its table once what was under way is ended or undone
 abbrev pub IsCheckedStore : {S : Type 0} → Ghosts S → S → Type 0
 IsCheckedStore g s = IsChecked (g.site s) (table_alone (g.table s))
 

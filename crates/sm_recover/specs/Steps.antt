@@ -1,7 +1,7 @@
 -- Changes of a table, made one after the other by a commit each: what all of them make, and what stands while they are made.
-use Rattle.std.specs.Prelude.{◌≡◌, ℕ, ◌≤◌, Bool, false, List, [], ◌∷◌, ◌++◌, take, Option, None, Some}
+use Rattle.std.specs.Prelude.{◌≡◌, ℕ, ◌≤◌, Bool, true, false, List, [], ◌∷◌, ◌++◌, take, Option, None, Some}
 use Rattle.sm_base.specs.declared.names.Name.{Name}
-use Rattle.sm_base.specs.declared.names.Name.TheVariants.{Vhd}
+use Rattle.sm_base.specs.declared.names.Name.TheVariants.{Vhd, Coalesce}
 use Rattle.sm_disk.specs.Held.{Keeps, IsSettled}
 use Rattle.vg_meta.specs.Roomy.{table_alone}
 use Rattle.vg_meta.specs.Tables.{VolumeTable, rows}
@@ -10,9 +10,9 @@ use Rattle.vg_meta.specs.declared.changes.Change.TheVariants.{Mark, Remove, Rena
 use Rattle.vg_meta.specs.declared.changes.Tag.TheVariants.{Hidden}
 use Rattle.vg_volumes.specs.Stored.{Leaves, stored}
 use Rattle.vg_volumes.specs.declared.stores.Store.{Ghosts}
-use Rattle.sm_standing.specs.Entries.{of_row}
+use Rattle.sm_standing.specs.Entries.{folding, head, of_row}
 use Rattle.sm_standing.specs.Opened.{under_name}
-use Rattle.sm_standing.specs.Undone.{applied_all, wanted}
+use Rattle.sm_standing.specs.Undone.{applied_all, undo_changes, wanted}
 use Rattle.sm_ready.specs.Sessions.{HasRows}
 use Rattle.sm_recover.specs.Repairs.{IsLeftOf}
 
@@ -46,3 +46,20 @@ changes_of_base disk (Some base) has_own hidden = wanted has_own (Remove (Vhd di
 abbrev pub is_marked : VolumeTable → Option Name → Bool
 is_marked t None = false
 is_marked t (Some n) = of_row (λ r. r.hidden) (rows t n)
+
+-- the change that takes away the entry of a copy, where it is one
+abbrev pub is_copy : Name → Bool
+is_copy (Coalesce child parent) = true
+is_copy _ = false
+
+abbrev pub ends_copy : Option Name → List Change
+ends_copy None = []
+ends_copy (Some n) = wanted (is_copy n) (Remove n)
+
+-- the table without the entry of a copy
+abbrev pub uncopied : VolumeTable → VolumeTable
+uncopied t = applied_all t (ends_copy (head (folding t)))
+
+-- the changes in front of the linking of children: the entry of a copy goes, and a fork or an enlargement is undone
+abbrev pub first_changes : VolumeTable → List Change
+first_changes t = ends_copy (head (folding t)) ++ undo_changes (uncopied t)

@@ -4,15 +4,15 @@ ghost use Rattle.std.specs.Prelude.{◌≡◌, ℕ, ◌*◌, ◌<◌, ◌&&◌, 
 ghost use Rattle.std.specs.Option.{option_copied};
 ghost use Rattle.sm_base.specs.Kinds.{is_image};
 ghost use Rattle.common_laws.specs.Lists.{first_some};
-ghost use Rattle.sm_standing.specs.Checks.{record_volume_fault, too_many_fault, misnamed_fault, entry_ahead_fault, second_entry_fault, lost_entry_fault, old_leaf_fault, is_entry_ahead, is_misnamed as is_misnamed_row};
+ghost use Rattle.sm_standing.specs.Checks.{record_volume_fault, too_many_fault, misnamed_fault, entry_ahead_fault, second_entry_fault, lost_entry_fault, old_leaf_fault, is_entry_ahead, is_misnamed as is_misnamed_row, lesser};
 ghost use Rattle.sm_standing.specs.Outlines.{Outline};
-ghost use Rattle.sm_standing.specs.Entries.{is_past, base_number, is_inflating};
+ghost use Rattle.sm_standing.specs.Entries.{is_past, base_number, is_coalescing, is_inflating};
 ghost use Rattle.vg_meta.specs.Roomy.{table_alone};
-ghost use Rattle.sm_recover.specs.Faults.{HasTable, is_making_lost, is_old, table_faults};
+ghost use Rattle.sm_recover.specs.Faults.{HasTable, is_copy_placed, is_making_lost, is_old, table_faults};
 
-use crate::entries::second_making;
+use crate::entries::{second_entry, second_folding_in};
 use crate::forks::is_forking;
-use crate::volumes::has;
+use crate::volumes::{has, is_hidden};
 use sm_base::{Geometry, IMAGE_LIMIT, Name, Place, is_base};
 use uuid::Uuid;
 use vg_layout::record_extents;
@@ -74,7 +74,7 @@ fn misnamed_fault(table: &Table) -> Option<Place>
     })
 }
 
-/// There is no journal entry but those of forks and of enlargements.
+/// There is no journal entry of the folding of a leaf.
 fn entry_fault(table: &Table) -> Option<Place>
     ensures { (x : Outline) → x.table ≡ table_alone table.now → result ≡ entry_ahead_fault x }
 {
@@ -84,17 +84,29 @@ fn entry_fault(table: &Table) -> Option<Place>
     })
 }
 
-/// There is one fork or enlargement at most. No other entries are there.
+/// There is one entry of each group at most.
 fn second_fault(table: &Table) -> Option<Place>
-    ensures { (x : Outline) → x.table ≡ table_alone table.now → entry_ahead_fault x ≡ None → result ≡ second_entry_fault x }
+    ensures { (x : Outline) → x.table ≡ table_alone table.now → result ≡ second_entry_fault x }
 {
-    let volume = second_making(table.volumes())?;
-    Some(Place::Journal {
-        name: volume.name(),
-    })
+    let name = lesser(second_folding_in(table), second_entry(table))?;
+    Some(Place::Journal { name })
 }
 
-/// A fork, and an enlargement, stands at a stage of its work, and its UUIDs are not still to come. No other entries are there.
+/// The lesser of two names, where there are two.
+fn lesser(first: Option<Name>, second: Option<Name>) -> Option<Name>
+    ensures { result ≡ lesser first second }
+{
+    let (Some(one), Some(other)) = (first, second) else {
+        return first.or(second);
+    };
+    if one.compare(&other).is_lt() {
+        Some(one)
+    } else {
+        Some(other)
+    }
+}
+
+/// Each entry stands at a stage of its work, and its UUIDs are not still to come. None of the folding of a leaf is there.
 fn lost_fault(table: &Table) -> Option<Place>
     ensures { (x : Outline) → x.table ≡ table_alone table.now → entry_ahead_fault x ≡ None → result ≡ lost_entry_fault x }
 {
@@ -104,7 +116,7 @@ fn lost_fault(table: &Table) -> Option<Place>
     })
 }
 
-/// There is no old leaf. No entry of a leaf is there to which one could belong.
+/// There is no old leaf. No entry of the folding of a leaf is there to which one could belong.
 fn old_fault(table: &Table) -> Option<Place>
     ensures { (x : Outline) → x.table ≡ table_alone table.now → entry_ahead_fault x ≡ None → result ≡ old_leaf_fault x }
 {
@@ -135,14 +147,11 @@ fn first_entry(volumes: &[Volume]) -> Option<&Volume>
     volumes.iter().find(|volume| is_entry_ahead(&volume.name()))
 }
 
-/// Whether a name is that of an entry whose work is neither ended nor undone here.
+/// Whether a name is that of an entry whose work is neither ended nor undone here: that of the folding of a leaf.
 fn is_entry_ahead(name: &Name) -> bool
     ensures { result ≡ is_entry_ahead name.now }
 {
-    matches!(
-        name,
-        Name::Coalesce { .. } | Name::Relink { .. } | Name::Leaf { .. }
-    )
+    matches!(name, Name::Leaf { .. })
 }
 
 fn first_lost<'a>(volumes: &'a [Volume], table: &Table) -> Option<&'a Volume>
@@ -151,7 +160,7 @@ fn first_lost<'a>(volumes: &'a [Volume], table: &Table) -> Option<&'a Volume>
     volumes.iter().find(|volume| is_lost(&volume.name(), table))
 }
 
-/// Whether a name is that of a fork or of an enlargement that stands at no stage of its work, or whose UUIDs are still to come.
+/// Whether a name is that of an entry that stands at no stage of its work, or whose UUIDs are still to come.
 fn is_lost(name: &Name, table: &Table) -> bool
     ensures { result ≡ is_making_lost (table_alone table.now) name.now }
 {
@@ -162,6 +171,8 @@ fn is_lost(name: &Name, table: &Table) -> bool
         Name::Clone { disk, base, twin } => {
             !is_forking(table, disk, base, twin) || !are_past(table.seq(), disk, base, twin)
         }
+        Name::Coalesce { child, parent } => !is_copy_placed(table, child, parent),
+        Name::Relink { child, parent } => !is_copy_placed(table, child, parent),
         _ => false,
     }
 }
@@ -174,6 +185,23 @@ fn is_inflating(table: &Table, image: &Uuid, extents: u32) -> bool
         Some(volume) => !volume.is_fresh() && extents as usize <= volume.extents().len(),
         None => false,
     }
+}
+
+/// Whether a copy or a link stands at its stage, and its UUIDs are not still to come.
+fn is_copy_placed(table: &Table, child: &Uuid, parent: &Uuid) -> bool
+    ensures { result ≡ is_copy_placed (table_alone table.now) child.now parent.now }
+{
+    is_coalescing(table, child, parent)
+        && is_past(table.seq(), child)
+        && is_past(table.seq(), parent)
+}
+
+/// Whether the VHD image of a UUID is there, not new and hidden, and so is an image of the parent's.
+fn is_coalescing(table: &Table, child: &Uuid, parent: &Uuid) -> bool
+    ensures { result ≡ is_coalescing (table_alone table.now) child.now parent.now }
+{
+    is_hidden(table, &Name::Vhd(*child))
+        && (is_hidden(table, &Name::Vhd(*parent)) || is_hidden(table, &Name::Raw(*parent)))
 }
 
 fn first_old(volumes: &[Volume]) -> Option<&Volume>

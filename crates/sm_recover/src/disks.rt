@@ -1,12 +1,12 @@
 //! The check that looks at the records beside the table: each disk has exactly one.
 
-ghost use Rattle.std.specs.Prelude.{◌≡◌, [], Some, is_some, true};
+ghost use Rattle.std.specs.Prelude.{◌≡◌, Some, is_some, true};
 ghost use Rattle.common_laws.specs.Lists.{given};
 ghost use Rattle.sm_base.specs.declared.names.Name.TheVariants.{Clone};
 ghost use Rattle.sm_machine.specs.Disks.{uuid_before};
 ghost use Rattle.sm_standing.specs.Checks.{disk_fault};
-ghost use Rattle.sm_standing.specs.Entries.{folding};
 ghost use Rattle.sm_standing.specs.Outlines.{Outline};
+ghost use Rattle.sm_standing.specs.Plain.{IsKnown};
 ghost use Rattle.sm_standing.specs.Standing.{standing_volume};
 ghost use Rattle.vg_meta.specs.Roomy.{table_alone};
 ghost use Rattle.sm_recover.specs.Faults.{HasPlaces, IsLeast, is_disk_by, is_shown, is_unrecorded_in, lesser, unrecorded};
@@ -20,7 +20,7 @@ use vg_meta::{Table, Volume};
 
 /// The disk with the least UUID that has no record or several.
 pub fn disk_fault(table: &Table, mgt: &Mgt) -> Option<Place>
-    requires { folding (table_alone table.now) ≡ [] }
+    requires { IsKnown (table_alone table.now) }
     ensures { (x : Outline) → x.table ≡ table_alone table.now → HasPlaces mgt.now x → result ≡ disk_fault x }
 {
     let uuid = least_unrecorded(table, mgt)?;
@@ -28,9 +28,9 @@ pub fn disk_fault(table: &Table, mgt: &Mgt) -> Option<Place>
 }
 
 /// Whether a UUID is a disk: of a fork whose base is there the disk stands in that, and neither base nor twin is one. No
-/// entry of the other group is there.
+/// entry of the folding of a leaf is there.
 pub fn is_disk(table: &Table, uuid: &Uuid) -> bool
-    requires { folding (table_alone table.now) ≡ [] }
+    requires { IsKnown (table_alone table.now) }
     ensures { result ≡ is_some (standing_volume (table_alone table.now) uuid.now) }
 {
     let Some(entry) = entry_in(table) else {
@@ -68,7 +68,7 @@ fn is_shown(table: &Table, uuid: &Uuid) -> bool
 }
 
 fn least_unrecorded(table: &Table, mgt: &Mgt) -> Option<Uuid>
-    requires { folding (table_alone table.now) ≡ [] }
+    requires { IsKnown (table_alone table.now) }
     ensures { IsLeast (λ u. is_unrecorded_in (table_alone table.now) mgt.now u ≡ true) result }
 {
     let mut least = None;
@@ -81,7 +81,7 @@ fn least_unrecorded(table: &Table, mgt: &Mgt) -> Option<Uuid>
 /// The UUID of an image, and that of the disk of a fork, where it is a disk that has no record or several.
 #[tactic(auto, unfolding(crate::specs::Faults::unrecorded))]
 fn unrecorded(volume: &Volume, table: &Table, mgt: &Mgt) -> Option<Uuid>
-    requires { folding (table_alone table.now) ≡ [] }
+    requires { IsKnown (table_alone table.now) }
     ensures { result ≡ unrecorded (table_alone table.now) mgt.now volume.now.row.name }
 {
     match volume.name() {
@@ -94,7 +94,7 @@ fn unrecorded(volume: &Volume, table: &Table, mgt: &Mgt) -> Option<Uuid>
 
 /// A UUID, where it is a disk that has no record or several.
 fn wrong_disk(uuid: Uuid, table: &Table, mgt: &Mgt) -> Option<Uuid>
-    requires { folding (table_alone table.now) ≡ [] }
+    requires { IsKnown (table_alone table.now) }
     ensures { result ≡ given (is_unrecorded_in (table_alone table.now) mgt.now uuid) uuid }
 {
     if is_disk(table, &uuid) && mgt.count(&uuid) != 1 {

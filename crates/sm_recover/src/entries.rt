@@ -1,14 +1,14 @@
-//! The entries of forks and of enlargements in a table.
+//! The entries in a table, of each of the two groups: those of forks and of enlargements, and those of copies, of links and of leaves.
 
 ghost use Rattle.std.specs.Prelude.{◌≡◌, find, filter, position, slice_get};
 ghost use Rattle.std.specs.Option.{option_copied};
-ghost use Rattle.sm_standing.specs.Entries.{head, is_making, making};
+ghost use Rattle.sm_standing.specs.Entries.{folding, head, is_folding, is_making, making, second};
 ghost use Rattle.vg_meta.specs.Roomy.{table_alone};
 
 use sm_base::Name;
 use vg_meta::{Table, Volume};
 
-/// The first in order of name.
+/// The first of a fork or of an enlargement, in order of name.
 pub fn entry_in(table: &Table) -> Option<Name>
     ensures { result ≡ head (making (table_alone table.now)) }
 {
@@ -16,8 +16,31 @@ pub fn entry_in(table: &Table) -> Option<Name>
     Some(volume.name())
 }
 
-/// The volume of the second.
-pub fn second_making(volumes: &[Volume]) -> Option<&Volume>
+/// The second.
+pub fn second_entry(table: &Table) -> Option<Name>
+    ensures { result ≡ second (making (table_alone table.now)) }
+{
+    let volume = second_making(table.volumes())?;
+    Some(volume.name())
+}
+
+/// The first of a copy, of a link or of a leaf, in order of name.
+pub fn folding_in(table: &Table) -> Option<Name>
+    ensures { result ≡ head (folding (table_alone table.now)) }
+{
+    let volume = first_folding(table.volumes())?;
+    Some(volume.name())
+}
+
+/// The second.
+pub fn second_folding_in(table: &Table) -> Option<Name>
+    ensures { result ≡ second (folding (table_alone table.now)) }
+{
+    let volume = second_folding(table.volumes())?;
+    Some(volume.name())
+}
+
+fn second_making(volumes: &[Volume]) -> Option<&Volume>
     ensures { option_copied result ≡ slice_get (filter (λ v. is_making v.row.name) volumes.now) 1 }
 {
     let first = making_place(volumes)?;
@@ -40,4 +63,32 @@ fn is_making(name: &Name) -> bool
     ensures { result ≡ is_making name.now }
 {
     matches!(name, Name::Clone { .. } | Name::Inflate { .. })
+}
+
+fn second_folding(volumes: &[Volume]) -> Option<&Volume>
+    ensures { option_copied result ≡ slice_get (filter (λ v. is_folding v.row.name) volumes.now) 1 }
+{
+    let first = folding_place(volumes)?;
+    first_folding(&volumes[first + 1..])
+}
+
+fn first_folding(volumes: &[Volume]) -> Option<&Volume>
+    ensures { option_copied result ≡ find (λ v. is_folding v.row.name) volumes.now }
+{
+    volumes.iter().find(|volume| is_folding(&volume.name()))
+}
+
+fn folding_place(volumes: &[Volume]) -> Option<usize>
+    ensures { result ≡ position (λ v. is_folding v.row.name) volumes.now }
+{
+    volumes.iter().position(|volume| is_folding(&volume.name()))
+}
+
+fn is_folding(name: &Name) -> bool
+    ensures { result ≡ is_folding name.now }
+{
+    matches!(
+        name,
+        Name::Coalesce { .. } | Name::Relink { .. } | Name::Leaf { .. }
+    )
 }

@@ -1,23 +1,48 @@
 //! The stages of a fork, by the table.
 
-ghost use Rattle.std.specs.Prelude.{◌≡◌, ◌&&◌};
-ghost use Rattle.sm_standing.specs.Entries.{is_fork_made, is_past};
+ghost use Rattle.std.specs.Prelude.{◌≡◌, ◌&&◌, ◌∷◌, []};
+ghost use Rattle.sm_standing.specs.Entries.{is_among, is_fork_made, is_past};
 ghost use Rattle.vg_meta.specs.Roomy.{table_alone};
-ghost use Rattle.sm_recover.specs.Faults.{has_any, has_one, is_any_visible, is_begun, is_fork_at_stage};
+ghost use Rattle.sm_recover.specs.Faults.{has_any, has_one, is_any_visible, is_apart, is_begun, is_fork_at_stage};
 
+use crate::entries::folding_in;
 use crate::volumes::{has, is_filled, is_hidden, is_visible, is_visible_or_gone};
 use sm_base::Name;
 use uuid::Uuid;
 use vg_meta::Table;
 
-/// Whether a fork stands at one of its two stages, and its three UUIDs differ.
+/// Whether a fork stands at one of its two stages, and its three UUIDs differ, also from those of the entry of the other group.
 pub fn is_forking(table: &Table, disk: &Uuid, base: &Uuid, twin: &Uuid) -> bool
     ensures { result ≡ is_fork_at_stage (table_alone table.now) disk.now base.now twin.now }
 {
     *disk != *base
         && *disk != *twin
         && *base != *twin
+        && is_apart(table, disk, base, twin)
         && (is_begun(table, disk, base, twin) || is_fork_made(table, disk, base, twin))
+}
+
+/// Whether the entry of the other group, where there is one, has none of three UUIDs.
+fn is_apart(table: &Table, disk: &Uuid, base: &Uuid, twin: &Uuid) -> bool
+    ensures { result ≡ is_apart (table_alone table.now) disk.now base.now twin.now }
+{
+    let Some(entry) = folding_in(table) else {
+        return true;
+    };
+    let (child, parent) = match &entry {
+        Name::Coalesce { child, parent } => (*child, *parent),
+        Name::Relink { child, parent } => (*child, *parent),
+        Name::Leaf { leaf, parent } => (*leaf, *parent),
+        _ => return true,
+    };
+    !is_among(&child, disk, base, twin) && !is_among(&parent, disk, base, twin)
+}
+
+/// Whether a UUID is one of three.
+fn is_among(uuid: &Uuid, disk: &Uuid, base: &Uuid, twin: &Uuid) -> bool
+    ensures { result ≡ is_among (disk.now ∷ base.now ∷ twin.now ∷ []) uuid.now }
+{
+    *disk == *uuid || *base == *uuid || *twin == *uuid
 }
 
 /// Whether the disk's image was not renamed yet: it is the only one of its UUID, and visible; no image has the base's UUID

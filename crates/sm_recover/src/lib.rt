@@ -6,34 +6,40 @@
 //!
 //! **The model** (`specs/`). `Stores` has what an opening may leave (`IsRepairedFrom`). `Loaded` has the images as they are
 //! read off their volumes, an image that is being enlarged in the extents that it had. `Faults` says what each check looks
-//! at, `Repairs` what the checks leave known and why an opening stops, `Steps` what changes make one after the other, and
-//! `Backs` the images in memory once a fork is undone. What holds for images of any kind is `sm_ready`'s: what holds of a store
-//! between two steps, memory at rest beside a store and what each repair makes of it (its `Repairs`), and the table that an
-//! opening leaves (its `Cleaned`). The table without a fork or an enlargement, and the changes that lead to it, are
-//! `sm_standing`'s (its `Undone`).
+//! at, `Repairs` what the checks leave known and why an opening stops, `Links` what they leave known of a link, `Steps` what
+//! changes make one after the other, `Linking` what linking children one after the other leaves, and `Backs` the images in memory
+//! once a fork is undone. What holds for images of any kind is `sm_ready`'s: what holds of a store between two steps, memory at
+//! rest beside a store and what each repair makes of it (its `Repairs`), and the table that an opening leaves (its `Cleaned`). The
+//! table without a fork or an enlargement, and the changes that lead to it, are `sm_standing`'s (its `Undone`), and so is the table
+//! without the entry of a copy or of a link (its `Unfolded`). How one child is linked is `gc_coalesce`'s.
 //!
 //! **What it promises.** All checks come before the first write, in their order, and the first that fails gives the place
 //! (`checks.rt` and `forks.rt` by the table, `loading.rt`, `trees.rt` and `links.rt` by the images, `disks.rt` by the records,
 //! `opening.rt` one after another). Images of every kind pass, visible and hidden, with parents and without: each parent is
 //! there, not new, hidden and not larger, a chain has at most 30 images, and a visible image has no children. A repository is
-//! refused that has old leaves, or journal entries other than one that says that a disk is being forked or that an image is
-//! being enlarged (`entries.rt`). Such an entry has to stand at its stage: of an enlargement the VHD image is there, not new,
-//! in the extents that it had at least; of a fork the disk's image is there and nothing else of it, or the base is there, and
-//! the new images that are filled have it as parent, and nothing else has. The images are
+//! refused that has old leaves, the journal entry of the folding of a leaf, or two entries of one of the two groups
+//! (`entries.rt`): those of forks and of enlargements, and those of copies and of links. An entry has to stand at its stage: of
+//! an enlargement the VHD image is there, not new, in the extents that it had at least; of a fork, whose UUIDs are none of the
+//! other entry's, the disk's image is there and nothing else of it, or the base is there, and the new images that are filled have
+//! it as parent, and nothing else has; of a copy or a link the image is there, hidden, and its parent has the UUID that the entry
+//! says and is hidden: in a copy no other image has that parent, in a link it is not smaller than the image. The images are
 //! read into memory as they are checked, in order of name, each once, with room for all that may come; one that is being
 //! enlarged is read in the extents that it had, since in those behind them anything may stand. Once all checks passed, memory
 //! is that of the table in which nothing is under way (`memory.rt`): of a fork the new images go, and the base, where it is
-//! there, is the disk's image, shown. Then the fork or the enlargement is undone (`undoing.rt`), a commit each (`steps.rt`): of an
-//! enlargement the image's volume is cut to the extents that it had, where it has more; of a fork the twin's new image is
-//! removed, and where the base is there the disk's new image is removed, and the base is shown and takes the disk's name; the
-//! entry goes last. Then each new volume is removed by a commit of its own (`removals.rt`), each record of
-//! no disk is wiped (`wiping.rt`), and one sync makes this last (`settling.rt`). At each moment a stop leaves what stood
-//! before, or a content that is kept and has the same disks. Afterwards table and memory are orderly and tidy, told or
-//! not, with room for all images and attachments that may come; where the content is told each image in memory is true of
-//! its volume, the store is ready and nothing is pending. The table is the one from before without the fork or the enlargement
-//! and without its new volumes, its sequence number raised by one for each commit; and the shape in memory is the one that an
-//! opening is to make of what stood before. What is said here of a ready store, of disks and of shape is promised where
-//! each slot of a VHD image held a sector, which no check sees.
+//! there, is the disk's image, shown; of a link the image stands over its parent still. Then the entry of a copy goes, and the fork
+//! or the enlargement is undone (`undoing.rt`), a commit each (`steps.rt`): of an enlargement the image's volume is cut to the
+//! extents that it had, where it has more; of a fork the twin's new image is removed, and where the base is there the disk's new
+//! image is removed, and the base is shown and takes the disk's name; the entry goes last. While that is done the entry of a link
+//! stands. Then it is the collector's operation again: each image that reads through the link's image is linked to the parent, in
+//! order of name, and then the entry goes (`linking.rt`); the link's image stays, hidden and without children. Then each new volume is
+//! removed by a commit of its own (`removals.rt`), each record of no disk is wiped (`wiping.rt`), and one sync makes this last
+//! (`settling.rt`). At each moment a stop leaves what stood before, or a content that is kept and has the same disks. Afterwards
+//! table and memory are orderly and tidy, told or not, with room for all images and attachments that may come; where the content is
+//! told each image in memory is true of its volume, the store is ready and nothing is pending. The table is the one from before
+//! without what was under way and without its new volumes, its sequence number raised by one for each commit; and the shape in memory
+//! is the one that an opening is to make of what stood before. What is said here of a ready store, of disks and of shape is promised
+//! where what stood held well: each slot of a VHD image a sector, and under the entry of a link the parent, with equal bytes,
+//! whatever the image holds. No check sees that.
 //!
 //! **What it costs.** The checks go over the volumes once each, and twice where a volume looks for another, as each image
 //! looks for the entry under which it may lie; the check of trees goes over the images in memory once for each image of
@@ -43,14 +49,15 @@
 //! images that the tree may come to have before it reads any, and then for each VHD image that of its map, 4 bytes an entry;
 //! `Mgt::load` takes memory for the records; behind the checks it takes that of the 505 rows that a table may come to have,
 //! less those that stand, and of as many attachments as images; nothing else takes any. A repair is at most five commits for a
-//! fork and two for an enlargement, one commit for each new volume, one write for each stray record, and one sync, also where
-//! nothing is to repair.
+//! fork and two for an enlargement, one commit for a copy and for a link, for each child of a link two syncs, two sectors read and one
+//! written, one commit for each new volume, one write for each stray record, and one sync, also where nothing is to repair.
 #![tactic(auto)]
 
 mod checks;
 mod disks;
 mod entries;
 mod forks;
+mod linking;
 mod links;
 mod loading;
 mod memory;

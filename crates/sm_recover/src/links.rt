@@ -1,13 +1,13 @@
-//! The check that looks at the images in memory beside the entry of a fork: its new images have the base as parent, and
-//! nothing else has.
+//! The check that looks at the images in memory beside the entries. The new images of a fork have the base as parent, and
+//! nothing else has; the child of a copy has the parent, and nothing else has; that of a link has it, and it is as large at least.
 
-ghost use Rattle.std.specs.Prelude.{◌≡◌, None, find};
+ghost use Rattle.std.specs.Prelude.{◌≡◌, None, find, nat_le};
 ghost use Rattle.std.specs.List.{list_any};
 ghost use Rattle.std.specs.Option.{option_copied};
 ghost use Rattle.sm_standing.specs.Checks.{entry_ahead_fault, entry_link_fault, has_uuid};
 ghost use Rattle.sm_standing.specs.Outlines.{Outline};
 ghost use Rattle.vg_meta.specs.Roomy.{table_alone};
-ghost use Rattle.sm_recover.specs.Faults.{HasLinks, HasVolumes, is_fork_linked_in, is_new_over, is_other_child, is_over, is_unlinked_in};
+ghost use Rattle.sm_recover.specs.Faults.{HasChildren, HasLinks, HasVolumes, has_one_child, has_parent_in, is_as_large_in, is_copy_in, is_fork_linked_in, is_link_in, is_new_over, is_other_child, is_over, is_unlinked_in};
 
 use crate::forks::is_fork_made;
 use crate::loading::is_vhd_of;
@@ -17,10 +17,10 @@ use vg_meta::{Table, Volume};
 use vhd_chain::{Tree, TreeRow};
 use vhd_image::Image;
 
-/// The entry of a fork whose images are linked otherwise than it says. Entries of the other group are not there.
+/// The first entry whose images are linked otherwise than it says. None of the folding of a leaf is there.
 pub fn link_fault(table: &Table, tree: &Tree) -> Option<Place>
     ensures { (x : Outline) → x.table ≡ table_alone table.now → entry_ahead_fault x ≡ None → HasLinks tree.now.rows x → HasVolumes tree.now.rows x
-        → result ≡ entry_link_fault x }
+        → HasChildren tree.now.rows x → result ≡ entry_link_fault x }
 {
     let volume = first_unlinked(table.volumes(), table, tree)?;
     Some(Place::Journal {
@@ -36,7 +36,7 @@ fn first_unlinked<'a>(volumes: &'a [Volume], table: &Table, tree: &Tree) -> Opti
         .find(|volume| is_unlinked(&volume.name(), table, tree))
 }
 
-/// Whether a name is that of the entry of a fork whose base is there, and whose images are linked otherwise.
+/// Whether a name is that of an entry whose images are linked otherwise: of a fork where the base is there.
 fn is_unlinked(name: &Name, table: &Table, tree: &Tree) -> bool
     ensures { result ≡ is_unlinked_in (table_alone table.now) tree.now.rows name.now }
 {
@@ -44,8 +44,59 @@ fn is_unlinked(name: &Name, table: &Table, tree: &Tree) -> bool
         Name::Clone { disk, base, twin } => {
             is_fork_made(table, disk, base, twin) && !is_linked(tree, disk, base, twin)
         }
+        Name::Coalesce { child, parent } => !is_copy(tree, child, parent),
+        Name::Relink { child, parent } => !is_link(tree, child, parent),
         _ => false,
     }
+}
+
+/// Whether the VHD image of a UUID has a parent of another, which is in memory, and no other image has it.
+fn is_copy(tree: &Tree, child: &Uuid, parent: &Uuid) -> bool
+    ensures { result ≡ is_copy_in tree.now.rows child.now parent.now }
+{
+    match tree.get(&Name::Vhd(*child)) {
+        Some(row) => has_parent(tree, parent, &row.image, 0) && has_one_child(tree, parent),
+        None => false,
+    }
+}
+
+/// Whether the VHD image of a UUID has a parent of another, which is in memory and as large at least.
+fn is_link(tree: &Tree, child: &Uuid, parent: &Uuid) -> bool
+    ensures { result ≡ is_link_in tree.now.rows child.now parent.now }
+{
+    match tree.get(&Name::Vhd(*child)) {
+        Some(row) => has_parent(tree, parent, &row.image, row.image.sectors()),
+        None => false,
+    }
+}
+
+/// Whether an image has a parent of this UUID, which is in memory and has so many sectors at least.
+fn has_parent(tree: &Tree, parent: &Uuid, image: &Image, sectors: u64) -> bool
+    ensures { result ≡ has_parent_in tree.now.rows parent.now (nat_le sectors) image.now }
+{
+    match image.parent() {
+        Some(name) => has_uuid(&name, parent) && is_as_large(tree, &name, sectors),
+        None => false,
+    }
+}
+
+/// Whether an image is in memory and has so many sectors at least.
+fn is_as_large(tree: &Tree, name: &Name, sectors: u64) -> bool
+    ensures { result ≡ is_as_large_in tree.now.rows (nat_le sectors) name.now }
+{
+    match tree.get(name) {
+        Some(row) => sectors <= row.image.sectors(),
+        None => false,
+    }
+}
+
+/// Whether one image has a parent of this UUID.
+fn has_one_child(tree: &Tree, parent: &Uuid) -> bool
+    ensures { result ≡ has_one_child tree.now.rows parent.now }
+{
+    let over_vhd = tree.child_count(&Name::Vhd(*parent));
+    let over_raw = tree.child_count(&Name::Raw(*parent));
+    over_vhd == 1 && over_raw == 0 || over_vhd == 0 && over_raw == 1
 }
 
 /// Whether the new images of a fork that are in memory have the base as parent, and no other has.

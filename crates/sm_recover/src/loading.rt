@@ -18,7 +18,7 @@ ghost use Rattle.sm_ready.specs.Stores.{store_content};
 ghost use Rattle.sm_standing.specs.Entries.{making};
 ghost use Rattle.sm_standing.specs.Images.{image_extents};
 ghost use Rattle.sm_recover.specs.Loaded.{AreRowsOf, FailsAt, FailsToRead, HasEachRow, IsFilledImage, IsRawRead, IsReadAs, IsRow, as_read, read_volumes, stored_read};
-ghost use Rattle.sm_recover.specs.Repairs.{IsStoppedBy, IsUndoableStore};
+ghost use Rattle.sm_recover.specs.Repairs.{IsStoppedBy, IsEndableStore};
 
 use crate::entries::entry_in;
 use sm_base::{Geometry, IMAGE_LIMIT, Name, OpenFault, Place};
@@ -35,7 +35,7 @@ use vhd_image::Image;
 /// # Errors
 /// `Damaged` with the first image that is not valid; `Device` where a call of the store failed; `NoMemory`.
 pub fn load<S: Store>(alloc: Global, store: &mut S) -> Result<Tree, OpenFault>
-    requires checked { IsUndoableStore S.Store store.old }
+    requires checked { IsEndableStore S.Store store.old }
     ensures reads { OnlyReads S.Store store.old store.new }
     ensures rows { IfOk result (λ tree. AreRowsOf (read_volumes (table_alone (S.table store.old))) tree.rows) }
     ensures each { IfOk result (λ tree. HasEachRow S.told (stored_read S.Store store.old) (read_volumes (table_alone (S.table store.old))) tree.rows) }
@@ -62,7 +62,7 @@ fn row_at<S: Store>(
     store: &mut S,
     index: usize,
 ) -> Result<Option<TreeRow>, OpenFault>
-    requires checked { IsUndoableStore S.Store store.old }
+    requires checked { IsEndableStore S.Store store.old }
     requires within { index < length (table_alone (S.table store.old)).volumes }
     ensures reads { OnlyReads S.Store store.old store.new }
     ensures some { IfOk result (λ found. IfSome found (λ x. (r : Row) → slice_get (table_alone (S.table store.old)).volumes index ≡ Some r → IsFilledImage r × IsRow S.told (stored_read S.Store store.old) (as_read (making (table_alone (S.table store.old))) r) x)) }

@@ -1,6 +1,7 @@
-//! The checks, and then the repairs: a fork or an enlargement is undone, new volumes go, and records of no disk are wiped. Each
-//! repair is a commit or a write of its own, so the table's sequence number rises by five at most for a fork, by two at most for an
-//! enlargement, and by one for each new volume.
+//! The checks, and then the repairs: the entry of a copy goes, a fork or an enlargement is undone, the children of a link are linked and
+//! its entry goes, new volumes go, and records of no disk are wiped. Each repair of the table is a commit of its own, so its sequence
+//! number rises by five at most for a fork, by two at most for an enlargement, by one for a copy or a link, and by one for each new
+//! volume.
 
 ghost use Rattle.std.specs.Prelude.{◌≡◌, ◌⊎◌, ◌<◌, ◌≤◌, ℕ, None, false, OnOk, OnErr, IfOk, IfErr};
 ghost use Rattle.sm_base.specs.declared.names.Name.TheVariants.{Mgt as mgt_name};
@@ -20,9 +21,11 @@ ghost use Rattle.sm_ready.specs.Known.{Known, known, shape_in};
 ghost use Rattle.sm_ready.specs.Sessions.{IsAtEase, HasRows, HasTreeRoom, IsOrderlyStore, IsReadyStore, IsTidyStore};
 ghost use Rattle.sm_ready.specs.Stores.{content_in, store_content};
 ghost use Rattle.sm_recover.specs.Stores.{MayBeRepairedFrom};
-ghost use Rattle.sm_standing.specs.Keeping.{HasNoEmptySlot};
+ghost use Rattle.sm_standing.specs.Keeping.{HoldsWell};
 ghost use Rattle.sm_standing.specs.Undone.{undone};
+ghost use Rattle.sm_standing.specs.Unfolded.{unfolded};
 
+use crate::linking::link_up;
 use crate::opening::checked_with_room;
 use crate::removals::remove_new;
 use crate::undoing::undo;
@@ -33,12 +36,14 @@ use sm_ready::Memory;
 use std::alloc::Global;
 use vg_volumes::Store;
 
-/// Checks what stands in a store, all checks before the first write, and then repairs what a stop has left: a fork or an
-/// enlargement is undone, volumes that are new are removed, and records of no disk are wiped. Answers what a session keeps in memory:
-/// the images, the places of the records, no attachment and no operation. Memory is taken before the first write, and none after it.
+/// Checks what stands in a store, all checks before the first write, and then repairs what a stop has left: the entry of a copy goes, a
+/// fork or an enlargement is undone, a link is ended, volumes that are new are removed, and records of no disk are wiped. Answers what
+/// a session keeps in memory: the images, the places of the records, no attachment and no operation. Memory is taken before the first
+/// write, and none after it.
 ///
-/// No check can see whether each slot of a VHD image holds a sector, as no check reads bitmaps. What is promised of the
-/// sectors and of the disks rests on it: it is so in each content that is kept.
+/// No check can see whether each slot of a VHD image holds a sector, nor whether under the entry of a link the parent holds whatever
+/// the image holds, as no check reads bitmaps. What is promised of the sectors and of the disks rests on it: it is so in each content
+/// that is kept.
 ///
 /// # Errors
 /// `Damaged` with the first place at which the checks fail, and nothing was written; `Device` where a call of the
@@ -61,19 +66,22 @@ pub fn settle<S: Store>(alloc: Global, store: &mut S) -> Result<Memory, OpenFaul
     ensures tree_room { IfOk result HasTreeRoom }
     ensures attachment_room { IfOk result (λ m. image_limit ≤ m.attached.room) }
     ensures true_images { IfOk result (λ m. HasTrueImages S.Store store.new m) }
-    ensures cleaned { OnOk result (table_alone (S.table store.new) ≡ cleaned (undone (table_alone (S.table store.old)))) }
+    ensures cleaned { OnOk result (table_alone (S.table store.new) ≡ cleaned (undone (unfolded (table_alone (S.table store.old))))) }
     ensures few { HasFewRemovals (table_alone (S.table store.old)) (table_alone (S.table store.new)) }
     ensures few_left { Leaves S.Store store.new (λ t image. HasFewRemovals (table_alone (S.table store.old)) t) }
     ensures settled { OnOk result (S.told → IsSettled (S.area store.new)) }
-    ensures ready { IfOk result (λ m. S.told → HasNoEmptySlot (store_content S.Store store.old) → IsReadyStore S.Store store.new m) }
-    ensures disks { OnOk result (S.told → HasNoEmptySlot (store_content S.Store store.old) → disks (store_content S.Store store.new)
+    ensures ready { IfOk result (λ m. S.told → HoldsWell (store_content S.Store store.old) → IsReadyStore S.Store store.new m) }
+    ensures disks { OnOk result (S.told → HoldsWell (store_content S.Store store.old) → disks (store_content S.Store store.new)
         ≡ disks (store_content S.Store store.old)) }
-    ensures opened { IfOk result (λ m. S.told → HasNoEmptySlot (store_content S.Store store.old)
+    ensures opened { IfOk result (λ m. S.told → HoldsWell (store_content S.Store store.old)
         → shape_in (S.site store.new) (table_alone (S.table store.new)) (known m) ≡ opened (store_content S.Store store.old)) }
     ensures crash { Leaves S.Store store.new (λ t image. S.leaves store.old t image ⊎ MayBeRepairedFrom (store_content S.Store store.old) (content_in (S.site store.old) t image)) }
 {
     let mut memory = checked_with_room(alloc, store)?;
     let Ok(()) = undo(store) else {
+        return Err(OpenFault::Device);
+    };
+    let Ok(()) = link_up(store, &mut memory) else {
         return Err(OpenFault::Device);
     };
     let Ok(()) = repair(store, &mut memory) else {

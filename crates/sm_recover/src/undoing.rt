@@ -1,13 +1,13 @@
-//! A fork or an enlargement that a stop has cut short is undone: the base of a fork is the disk's image again, and an image that
-//! was being enlarged ends where it ended before.
+//! The entry of a copy that a stop has cut short goes, and a fork or an enlargement is undone: the base of a fork is the disk's image
+//! again, and an image that was being enlarged ends where it ended before.
 
 ghost use Rattle.std.specs.Prelude.{◌≡◌, ◌≤◌, false, None, Some, OnOk};
 ghost use Rattle.sm_base.specs.declared.names.Name.TheVariants.{Clone, Inflate};
 ghost use Rattle.sm_disk.specs.Held.{IsSettled, Keeps};
 ghost use Rattle.sm_standing.specs.Checks.{first_fault_today};
-ghost use Rattle.sm_standing.specs.Entries.{of_row};
-ghost use Rattle.sm_standing.specs.Keeping.{HasNoEmptySlot};
-ghost use Rattle.sm_standing.specs.Undone.{changes_back, is_longer, undone};
+ghost use Rattle.sm_standing.specs.Entries.{folding, head, of_row};
+ghost use Rattle.sm_standing.specs.Keeping.{HoldsWell};
+ghost use Rattle.sm_standing.specs.Undone.{changes_back, is_longer, undo_changes, undone};
 ghost use Rattle.vg_meta.specs.Roomy.{table_alone};
 ghost use Rattle.vg_meta.specs.Tables.{rows};
 ghost use Rattle.vg_volumes.specs.Stored.{Counts, Leaves};
@@ -16,10 +16,10 @@ ghost use Rattle.sm_ready.specs.Repairs.{IsSame};
 ghost use Rattle.sm_ready.specs.Runs.{AllMay};
 ghost use Rattle.sm_ready.specs.Sessions.{HasRows};
 ghost use Rattle.sm_ready.specs.Stores.{content_in, store_content};
-ghost use Rattle.sm_recover.specs.Repairs.{IsUndoableStore};
-ghost use Rattle.sm_recover.specs.Steps.{MakesAll, MakesPart, changes_of_base, is_marked};
+ghost use Rattle.sm_recover.specs.Repairs.{IsEndableStore};
+ghost use Rattle.sm_recover.specs.Steps.{MakesAll, MakesPart, changes_of_base, ends_copy, first_changes, is_copy, is_marked, uncopied};
 
-use crate::entries::entry_in;
+use crate::entries::{entry_in, folding_in};
 use crate::memory::under_name;
 use crate::steps::commit_where;
 use crate::volumes::{has, image_with};
@@ -28,24 +28,70 @@ use uuid::Uuid;
 use vg_meta::{Change, Table, Tag};
 use vg_volumes::Store;
 
-/// Undoes the fork or the enlargement whose entry is there, by a commit for each change. The entry goes last, so a stop in
-/// between leaves one that says what is to be undone.
+/// Takes away the entry of a copy, and then undoes the fork or the enlargement whose entry is there, by a commit for each change. That
+/// entry goes last, so a stop in between leaves one that says what is to be undone. The entry of a link stays.
 pub fn undo<S: Store>(store: &mut S) -> Result<(), Failed>
     requires usable { S.failed store.old ≡ false }
-    requires undoable { IsUndoableStore S.Store store.old }
+    requires endable { IsEndableStore S.Store store.old }
     ensures site { S.site store.new ≡ S.site store.old }
     ensures counts { S.faults store.old ≤ S.faults store.new }
     ensures beside { S.told → Keeps (S.beside store.old) (S.beside store.new) }
     ensures keeps { S.told → Keeps (S.area store.old) (S.area store.new) }
     ensures cause { Counts S.Store result store.old store.new }
     ensures usable_still { OnOk result (S.failed store.new ≡ false) }
-    ensures undone { OnOk result (table_alone (S.table store.new) ≡ undone (table_alone (S.table store.old))) }
+    ensures undone { OnOk result (table_alone (S.table store.new) ≡ undone (uncopied (table_alone (S.table store.old)))) }
     ensures few { HasFewRemovals (table_alone (S.table store.old)) (table_alone (S.table store.new)) }
     ensures few_left { Leaves S.Store store.new (λ t image. HasFewRemovals (table_alone (S.table store.old)) t) }
     ensures room { OnOk result (HasRows (S.table store.old) → HasRows (S.table store.new)) }
     ensures settled { OnOk result (S.told → IsSettled (S.area store.old) → IsSettled (S.area store.new)) }
     ensures crash { Leaves S.Store store.new (λ t image. IsSettled (S.area store.old) → first_fault_today (store_content S.Store store.old) ≡ None
-        → HasNoEmptySlot (store_content S.Store store.old) → IsSame (store_content S.Store store.old) (content_in (S.site store.old) t image)) }
+        → HoldsWell (store_content S.Store store.old) → IsSame (store_content S.Store store.old) (content_in (S.site store.old) t image)) }
+{
+    make_first(store)?;
+    Ok(())
+}
+
+/// The commits of it.
+fn make_first<S: Store>(store: &mut S) -> Result<(), Failed>
+    requires usable { S.failed store.old ≡ false }
+    requires allowed { AllMay (S.site store.old).count (table_alone (S.table store.old)) (first_changes (table_alone (S.table store.old))) }
+    ensures part { MakesPart S.Store (first_changes (table_alone (S.table store.old))) store.old store.new }
+    ensures all { OnOk result (MakesAll S.Store (first_changes (table_alone (S.table store.old))) store.old store.new) }
+    ensures cause { Counts S.Store result store.old store.new }
+{
+    end_copy(store)?;
+    undo_making(store)?;
+    Ok(())
+}
+
+/// Takes away the entry of a copy, where it is there.
+fn end_copy<S: Store>(store: &mut S) -> Result<(), Failed>
+    requires usable { S.failed store.old ≡ false }
+    requires allowed { AllMay (S.site store.old).count (table_alone (S.table store.old)) (ends_copy (head (folding (table_alone (S.table store.old))))) }
+    ensures part { MakesPart S.Store (ends_copy (head (folding (table_alone (S.table store.old))))) store.old store.new }
+    ensures all { OnOk result (MakesAll S.Store (ends_copy (head (folding (table_alone (S.table store.old))))) store.old store.new) }
+    ensures cause { Counts S.Store result store.old store.new }
+{
+    let Some(name) = folding_in(store.table()) else {
+        return Ok(());
+    };
+    commit_where(store, is_copy(&name), Change::Remove { name })?;
+    Ok(())
+}
+
+fn is_copy(name: &Name) -> bool
+    ensures { result ≡ is_copy name.now }
+{
+    matches!(name, Name::Coalesce { .. })
+}
+
+/// Undoes the fork or the enlargement whose entry is there.
+fn undo_making<S: Store>(store: &mut S) -> Result<(), Failed>
+    requires usable { S.failed store.old ≡ false }
+    requires allowed { AllMay (S.site store.old).count (table_alone (S.table store.old)) (undo_changes (table_alone (S.table store.old))) }
+    ensures part { MakesPart S.Store (undo_changes (table_alone (S.table store.old))) store.old store.new }
+    ensures all { OnOk result (MakesAll S.Store (undo_changes (table_alone (S.table store.old))) store.old store.new) }
+    ensures cause { Counts S.Store result store.old store.new }
 {
     let Some(entry) = entry_in(store.table()) else {
         return Ok(());

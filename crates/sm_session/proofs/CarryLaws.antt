@@ -1,8 +1,9 @@
 -- What a command's own crate tells of it, as a step tells it.
-use Rattle.std.proofs.Common.{◌≡◌, ℕ, Bool, true, false, List, [], ◌∷◌, length, Option, Some, None, Result, IfOk, Ok, Err, refl, sym, ap, ◌∙◌}
+use Rattle.std.proofs.Common.{◌≡◌, ℕ, Bool, true, false, List, ◌∷◌, length, Option, Some, None, Result, IfOk, Ok, Err, refl, sym, ap, ◌∙◌, subst}
 use Rattle.sm_base.specs.declared.faults.Failed.{Failed}
 use Rattle.sm_base.specs.declared.operations.Mode.{Mode}
-use Rattle.sm_base.specs.declared.operations.Op.TheVariants.{Idle}
+use Rattle.sm_base.specs.declared.operations.Op.{Op}
+use Rattle.sm_base.specs.declared.operations.Op.TheVariants as op
 use Rattle.sm_base.specs.declared.refusals.Refusal.{Refusal}
 use Rattle.sm_base.specs.declared.refusals.Refusal.TheVariants.{BadSize, ChainTooLong, InUse, NameTaken, NoMemory, NoSpace, NotAttached, OutOfRange, RawDisk, ReadOnly, ReservedName, SequenceSpent, Shrink, TooMany, UnknownDisk}
 use Rattle.common_laws.specs.Lists.{first_some, given}
@@ -12,22 +13,28 @@ use Rattle.std.proofs.lemmas.Bool.{true≢false}
 use Rattle.vg_volumes.specs.declared.stores.Store.{Ghosts}
 use Rattle.sm_machine.specs.Commits.{folds, gives_up, is_given_up}
 use Rattle.sm_machine.specs.Shapes.{Shape, free}
-use Rattle.sm_machine.specs.Steps.{is_built}
+use Rattle.sm_machine.specs.Steps.{is_built, is_fold}
 use Rattle.sm_machine.specs.declared.commands.Command.{Command}
 use Rattle.sm_machine.specs.declared.commands.Command.TheVariants as command
 use Rattle.sm_machine.specs.declared.replies.Reply.{Reply}
 use Rattle.sm_ready.specs.Taken.{StoreTakes}
 use Rattle.sm_ready.specs.declared.memory.Memory.{Memory}
 use Rattle.sm_session.specs.Carrying.{is_guests}
+use Rattle.sm_session.proofs.CollectLaws.{never_refused}
 
--- where the collector does nothing, nothing is given up
-pub nothing_given_up : (σ : Shape) (c : Command) → σ.op ≡ Idle → is_given_up σ c ≡ false
-unfolding is_given_up folds
-nothing_given_up σ c idle = by (gives_up c)
+folds_none : (o : Op) (u : List ℕ) → is_fold o ≡ false → folds o u ≡ false
+unfolding is_fold folds
+folds_none (op.Leaf leaf parent cursor) u no_fold = absurd (true≢false no_fold)
+folds_none _ u no_fold = refl
+
+-- where the collector folds no leaf, nothing is given up
+pub nothing_given_up : (σ : Shape) (c : Command) → is_fold σ.op ≡ false → is_given_up σ c ≡ false
+unfolding is_given_up
+nothing_given_up σ c no_fold = by (gives_up c)
   where
     by : (o : Option (List ℕ)) → elim o as (λ _. Bool) [ None ↦ false | Some u ↦ folds σ.op u ] ≡ false
     by None = refl
-    by (Some u) = ap (λ o. folds o u) idle
+    by (Some u) = folds_none σ.op u no_fold
 
 -- what is told of a command at any result is told of it where it failed
 pub stopped_at : {S : Type 0} (g : Ghosts S) (a b : S) (m n : Memory) (c : Command) (r : Result Reply Failed) (f : Failed) → StoreTakes g c a m b n r → StoreTakes g c a m b n (Err f)
@@ -45,25 +52,39 @@ not_guests (command.Read u sector count) guests no_attach no_detach no_write no_
 not_guests (command.Flush u) guests no_attach no_detach no_write no_fill no_read no_flush = no_flush u refl
 not_guests _ guests no_attach no_detach no_write no_fill no_read no_flush = true≢false (sym guests)
 
--- what is built and no command of the repository's own is a guest's
-pub others_guests : (c : Command) → is_built c ≡ true → ((u : List ℕ) (size : ℕ) (raw : Bool) (label : List ℕ) → c ≡ command.Create u size raw label → ⊥) → ((u : List ℕ) → c ≡ command.Delete u → ⊥) → ((u text : List ℕ) → c ≡ command.Label u text → ⊥)
+-- a command of no other kind is a guest's
+pub others_guests : (c : Command) → ((u : List ℕ) (size : ℕ) (raw : Bool) (label : List ℕ) → c ≡ command.Create u size raw label → ⊥) → ((u : List ℕ) → c ≡ command.Delete u → ⊥) → ((u text : List ℕ) → c ≡ command.Label u text → ⊥)
     → ((u : List ℕ) (size : ℕ) → c ≡ command.Resize u size → ⊥) → ((u twin : List ℕ) → c ≡ command.Snapshot u twin → ⊥)
-    → ((u twin : List ℕ) → c ≡ command.Clone u twin → ⊥) → (c ≡ command.List → ⊥) → is_guests c ≡ true
+    → ((u twin : List ℕ) → c ≡ command.Clone u twin → ⊥) → (c ≡ command.List → ⊥) → (c ≡ command.Stat → ⊥) → (c ≡ command.Gc → ⊥) → is_guests c ≡ true
+unfolding is_guests
+others_guests (command.Create u size raw label) no_create no_delete no_label no_resize no_snapshot no_clone no_list no_stat no_gc = absurd (no_create u size raw label refl)
+others_guests (command.Delete u) no_create no_delete no_label no_resize no_snapshot no_clone no_list no_stat no_gc = absurd (no_delete u refl)
+others_guests (command.Label u text) no_create no_delete no_label no_resize no_snapshot no_clone no_list no_stat no_gc = absurd (no_label u text refl)
+others_guests (command.Resize u size) no_create no_delete no_label no_resize no_snapshot no_clone no_list no_stat no_gc = absurd (no_resize u size refl)
+others_guests (command.Snapshot u twin) no_create no_delete no_label no_resize no_snapshot no_clone no_list no_stat no_gc = absurd (no_snapshot u twin refl)
+others_guests (command.Clone u twin) no_create no_delete no_label no_resize no_snapshot no_clone no_list no_stat no_gc = absurd (no_clone u twin refl)
+others_guests command.List no_create no_delete no_label no_resize no_snapshot no_clone no_list no_stat no_gc = absurd (no_list refl)
+others_guests command.Stat no_create no_delete no_label no_resize no_snapshot no_clone no_list no_stat no_gc = absurd (no_stat refl)
+others_guests command.Gc no_create no_delete no_label no_resize no_snapshot no_clone no_list no_stat no_gc = absurd (no_gc refl)
+others_guests _ no_create no_delete no_label no_resize no_snapshot no_clone no_list no_stat no_gc = refl
+
+-- ---- what is built
+
+-- a command that is one that is built
+pub is_on : (σ : Shape) {c k : Command} → c ≡ k → is_built σ k ≡ true → is_built σ c ≡ true
+is_on σ is built = subst (λ x. is_built σ x ≡ true) (sym is) built
+
+-- a guest's command is
+pub guests_built : (σ : Shape) (c : Command) → is_guests c ≡ true → is_built σ c ≡ true
 unfolding is_built is_guests
-others_guests (command.Create u size raw label) built no_create no_delete no_label no_resize no_snapshot no_clone no_list = absurd (no_create u size raw label refl)
-others_guests (command.Delete u) built no_create no_delete no_label no_resize no_snapshot no_clone no_list = absurd (no_delete u refl)
-others_guests (command.Label u text) built no_create no_delete no_label no_resize no_snapshot no_clone no_list = absurd (no_label u text refl)
-others_guests (command.Resize u size) built no_create no_delete no_label no_resize no_snapshot no_clone no_list = absurd (no_resize u size refl)
-others_guests (command.Snapshot u twin) built no_create no_delete no_label no_resize no_snapshot no_clone no_list = absurd (no_snapshot u twin refl)
-others_guests (command.Clone u twin) built no_create no_delete no_label no_resize no_snapshot no_clone no_list = absurd (no_clone u twin refl)
-others_guests command.List built no_create no_delete no_label no_resize no_snapshot no_clone no_list = absurd (no_list refl)
-others_guests (command.Attach u mode) built no_create no_delete no_label no_resize no_snapshot no_clone no_list = refl
-others_guests (command.Detach u) built no_create no_delete no_label no_resize no_snapshot no_clone no_list = refl
-others_guests (command.Write u sector bytes) built no_create no_delete no_label no_resize no_snapshot no_clone no_list = refl
-others_guests (command.Fill u sector count byte) built no_create no_delete no_label no_resize no_snapshot no_clone no_list = refl
-others_guests (command.Read u sector count) built no_create no_delete no_label no_resize no_snapshot no_clone no_list = refl
-others_guests (command.Flush u) built no_create no_delete no_label no_resize no_snapshot no_clone no_list = refl
-others_guests _ built no_create no_delete no_label no_resize no_snapshot no_clone no_list = absurd (true≢false (sym built))
+guests_built σ command.Gc guests = absurd (true≢false (sym guests))
+guests_built σ _ guests = refl
+
+-- so is one that a cause refuses: no cause refuses a step of the collector
+pub refused_built : (σ : Shape) (c : Command) (r : Refusal) → refusal σ c ≡ Some r → is_built σ c ≡ true
+unfolding is_built
+refused_built σ command.Gc r is = absurd (none-some r (sym (never_refused σ) ∙ is))
+refused_built σ _ r is = refl
 
 -- ---- want of memory is no cause
 

@@ -1,1 +1,2 @@
 pub mod CarryLaws
+pub mod CollectLaws

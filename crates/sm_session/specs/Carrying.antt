@@ -1,7 +1,9 @@
--- The commands of guests, and how many commits a command makes at most.
+-- The commands of guests, how many commits a command makes at most, and which step of the collector takes memory.
 use Rattle.std.specs.Prelude.{ℕ, Bool, true, false}
+use Rattle.sm_base.specs.declared.operations.Plan.{Plan}
+use Rattle.sm_base.specs.declared.operations.Plan.TheVariants as plan
 use Rattle.sm_machine.specs.declared.commands.Command.{Command}
-use Rattle.sm_machine.specs.declared.commands.Command.TheVariants.{Create, Delete, Attach, Detach, Snapshot, Clone, Write, Fill, Read, Flush}
+use Rattle.sm_machine.specs.declared.commands.Command.TheVariants.{Create, Delete, Attach, Detach, Snapshot, Clone, Write, Fill, Read, Flush, Gc}
 
 -- what a guest's host asks: a disk comes into use and goes out of it, and its sectors are read and written
 unfoldable pub is_guests : Command → Bool
@@ -14,11 +16,18 @@ is_guests (Flush u) = true
 is_guests _ = false
 
 -- a new disk is made and then unmarked, one that goes is removed, the image of one that is attached may get extents under an
--- entry, and eight make a disk of another; nothing else commits
+-- entry, eight make a disk of another, and a step of the collector may enlarge a volume and put its own entry; nothing else
+-- commits
 unfoldable pub most_commits : Command → ℕ
 most_commits (Create u size raw label) = 2
 most_commits (Delete u) = 1
 most_commits (Attach u mode) = 3
 most_commits (Snapshot u twin) = 8
 most_commits (Clone u twin) = 8
+most_commits Gc = 4
 most_commits _ = 0
+
+-- a step of the collector begins to copy an image into its parent: no other takes memory
+unfoldable pub begins : Plan → Bool
+begins (plan.Begin child parent to) = true
+begins _ = false

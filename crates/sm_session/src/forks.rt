@@ -1,14 +1,13 @@
 //! Carrying out what makes a disk of another: a snapshot, or a clone.
 
-ghost use Rattle.std.specs.Prelude.{◌≡◌, ◌≤◌, ℕ, List, true, false, IfOk, OnOk};
+ghost use Rattle.std.specs.Prelude.{◌≡◌, ◌≤◌, ℕ, List, false, IfOk, OnOk};
 ghost use Rattle.sm_attaching.specs.Attaching.{HasAttachmentRoom};
-ghost use Rattle.sm_base.specs.declared.operations.Op.TheVariants.{Idle};
 ghost use Rattle.sm_clone.specs.Forking.{forking};
 ghost use Rattle.sm_disk.specs.Held.{Keeps};
 ghost use Rattle.vg_meta.specs.Roomy.{table_alone};
 ghost use Rattle.vg_meta.specs.Tables.{VolumeTable};
 ghost use Rattle.sm_machine.specs.Runs.{is_accepted};
-ghost use Rattle.sm_machine.specs.Steps.{is_built};
+ghost use Rattle.sm_machine.specs.Steps.{is_fold};
 ghost use Rattle.vg_volumes.specs.Stored.{OnlyReads, Counts, Leaves};
 ghost use Rattle.sm_ready.specs.Frames.{HasCommits, HasTrueImages};
 ghost use Rattle.sm_ready.specs.Refusing.{IsAllowed};
@@ -37,10 +36,9 @@ pub(crate) fn derive<S: Store>(
     requires orderly { IsOrderlyStore S.Store store.old memory.old }
     requires tidy { IsTidyStore S.Store store.old memory.old }
     requires tree_room { HasTreeRoom memory.old }
-    requires idle { memory.old.operation ≡ Idle }
+    requires no_fold { is_fold memory.old.operation ≡ false }
     requires attachment_room { HasAttachmentRoom memory.old }
     requires true_now { HasTrueImages S.Store store.old memory.old }
-    requires built { is_built (forking disk.now twin.now read_only) ≡ true }
     requires allowed { IsAllowed S.Store (forking disk.now twin.now read_only) store.old memory.old }
     ensures site { S.site store.new ≡ S.site store.old }
     ensures counts { S.faults store.old ≤ S.faults store.new }
@@ -51,7 +49,7 @@ pub(crate) fn derive<S: Store>(
     ensures usable_still { OnOk result (S.failed store.new ≡ false) }
     ensures orderly_still { OnOk result (IsOrderlyStore S.Store store.new memory.new) }
     ensures tidy_still { OnOk result (IsTidyStore S.Store store.new memory.new) }
-    ensures idle_still { OnOk result (memory.new.operation ≡ Idle) }
+    ensures no_fold_still { OnOk result (is_fold memory.new.operation ≡ false) }
     ensures tree_room_still { OnOk result (HasTreeRoom memory.new) }
     ensures attachment_room_still { OnOk result (HasAttachmentRoom memory.new) }
     ensures true_still { OnOk result (HasTrueImages S.Store store.new memory.new) }

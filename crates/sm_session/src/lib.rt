@@ -2,8 +2,8 @@
 //! it.
 //!
 //! **What is kept here.** A [`Session`] has a store of volumes and what is in memory of it: the images, the places of the
-//! records, the attachments and what the collector does; two buffers of a block and its bitmap; and whether a step has failed. Sizes in commands and replies are
-//! in bytes, those in the table in extents, places in sectors.
+//! records, the attachments and what the collector does; two buffers of a block and its bitmap; and whether a step has failed.
+//! Sizes in commands and replies are in bytes, those in the table in extents, places in sectors.
 //!
 //! **The model** is that of `sm_ready`: the machine's disks are those that a read gives, its shape is that of what is in
 //! memory (`store_state`); what a stop may show (`MayShow`), that whatever it leaves is kept (`KeepsAll`), and what a command
@@ -11,19 +11,30 @@
 //!
 //! **What it promises.** [`Session`] steps as a run asks (`Steps` of `sm_run`): each reply is the machine's, or want of
 //! memory; at every return, success and failure alike, whatever a stop leaves is kept and shows the disks from before
-//! the step or those from after it; a refused step makes no write and no sync; after an accepted one nothing is
-//! pending, but behind a write or a fill, whose bytes may be lost until they are made last. A new disk takes the least free
-//! extents, in rising order; and a step raises the sequence number by so many commits at most, whether it does its work or not
+//! the step or those from after it; a refused step makes no write and no sync; behind an accepted one that makes all last nothing
+//! is pending (`is_settling`), and the bytes of a write or a fill may be lost until then. A new disk takes the least free extents, in
+//! rising order; and a step raises the sequence number by so many commits at most, whether it does its work or not
 //! (`most_commits`). No call changes what stands beside the store.
-//! Today's commands are those that make disks, also of one another, give them up, rename and list them, and those of guests
-//! (`is_guests`): a disk comes into use and goes out of it, and its sectors are read, written, filled and made last; any other
-//! is answered as a line that spells none. Why a command is refused is asked once, of `refuse` (`sm_ready`), before the command is carried out: so a command's
-//! crate is called only where no cause was found. Between two steps each image in memory is true of its volume, whether or not
-//! the device was kept when it was opened: so a guest may always read and write.
+//!
+//! The commands are those that make disks, also of one another, give them up, rename, resize and list them, the one that tells
+//! of the images, those of guests (`is_guests`): a disk comes into use and goes out of it, and its sectors are read, written,
+//! filled and made last; and the collector's. Why a command is refused is asked once, of `refuse` (`sm_ready`), before the command
+//! is carried out: so a command's crate is called only where no cause was found. Between two steps each image in memory is true of
+//! its volume, whether or not the device was kept when it was opened: so a guest may always read and write.
+//!
+//! **The collector.** A step of it is the machine's next one, by table and memory (`gc_plan`). Each kind of step is a function of its
+//! own (`gc_coalesce`; `deflate` of `sm_space`): an image that nothing reads through is removed, a volume is cut to what it needs,
+//! a copy of a hidden image begins, goes on by a block, is given up or ends, and a child is linked. The reply tells the step and the
+//! operation from before it. No step changes a disk. Each but the blocked and the idle one lowers the debt of what is in memory
+//! (`debt` of `sm_machine`), so such steps come to an end; the blocked and the idle one do nothing. Only a step that begins
+//! may find that memory is wanting (`begins`). Leaves are not folded yet: between two steps no operation folds one (`is_fold`), and a
+//! step that would begin to is answered as a line that spells none.
+//!
 //! [`Session::begin`] checks what stands in a store and repairs it first. After a step that failed no further one is
 //! taken.
 #![tactic(auto)]
 
+mod collecting;
 mod forks;
 mod guests;
 mod sessions;

@@ -2,10 +2,10 @@
 
 ghost use Rattle.std.specs.Prelude.{◌≡◌, ◌≤◌, ◌<◌, ◌+◌, ◌*◌, ◌⊎◌, None, false, IfOk, IfErr};
 ghost use Rattle.std.proofs.Props.{props};
-ghost use Rattle.sm_base.specs.declared.operations.Op.TheVariants.{Idle};
 ghost use Rattle.sm_attaching.specs.Attaching.{HasAttachmentRoom};
 ghost use Rattle.sm_disk.specs.Held.{IsSettled, Keeps};
 ghost use Rattle.vg_meta.specs.Roomy.{table_alone};
+ghost use Rattle.sm_machine.specs.Steps.{is_fold};
 ghost use Rattle.sm_ready.specs.Cleaned.{HasFewRemovals};
 ghost use Rattle.sm_recover.specs.Repairs.{IsOpeningStopped, UnlessDeviceFailed};
 ghost use Rattle.sm_recover.specs.Stores.{MayBeRepairedFrom};
@@ -19,7 +19,7 @@ ghost use Rattle.sm_ready.specs.Sessions.{HasRows, HasTreeRoom, IsReadyStore, Ke
 ghost use Rattle.sm_ready.specs.Stores.{MayShow, StoreLeaves, content_in, store_content};
 ghost use Rattle.sm_run.specs.Runs.{BeginsSettled};
 ghost use Rattle.sm_standing.specs.Checks.{first_fault_today};
-ghost use Rattle.sm_standing.specs.Keeping.{HasNoEmptySlot};
+ghost use Rattle.sm_standing.specs.Keeping.{HoldsWell};
 ghost use Rattle.sm_standing.specs.Opened.{opened};
 ghost use Rattle.sm_standing.specs.Standing.{disks};
 
@@ -49,8 +49,8 @@ pub struct Session<S: Store> {
     ghost orderly: { broken ≡ false → IsOrderly (S.site store) (table_alone (S.table store)) (known memory) } by { Prim.hlevel (props, IsOrderly-prop) },
     ghost tidy: { broken ≡ false → IsTidy (table_alone (S.table store)) (known memory) } by { Prim.hlevel (props, IsTidy-prop) },
     ghost tree_room: { broken ≡ false → HasTreeRoom memory },
-    // The collector does nothing.
-    ghost idle: { broken ≡ false → memory.operation ≡ Idle },
+    // The collector folds no leaf.
+    ghost no_fold: { broken ≡ false → is_fold memory.operation ≡ false },
     // Each image in memory is true of its volume, as many disks may be attached as there may be, and two buffers are free.
     ghost true_images: { broken ≡ false → HasTrueImages S.Store store memory } by { Prim.hlevel props },
     ghost attachment_room: { broken ≡ false → HasAttachmentRoom memory },
@@ -84,14 +84,14 @@ impl<S: Store> Session<S> {
         ensures whole { IfOk result (λ s. s.broken ≡ false) }
         ensures now { IfOk result (λ s. s.now ≡ now) }
         ensures sound { IfOk result (λ s. S.told → first_fault_today (store_content S.Store store) ≡ None) }
-        ensures ready { IfOk result (λ s. S.told → HasNoEmptySlot (store_content S.Store store) → IsReadyStore S.Store s.store s.memory) }
+        ensures ready { IfOk result (λ s. S.told → HoldsWell (store_content S.Store store) → IsReadyStore S.Store s.store s.memory) }
         ensures settled { IfOk result (λ s. S.told → IsSettled (S.area s.store)) }
-        ensures disks { IfOk result (λ s. S.told → HasNoEmptySlot (store_content S.Store store) → disks (store_content S.Store s.store)
+        ensures disks { IfOk result (λ s. S.told → HoldsWell (store_content S.Store store) → disks (store_content S.Store s.store)
             ≡ disks (store_content S.Store store)) }
-        ensures opened { IfOk result (λ s. S.told → HasNoEmptySlot (store_content S.Store store)
+        ensures opened { IfOk result (λ s. S.told → HoldsWell (store_content S.Store store)
             → shape_in (S.site s.store) (table_alone (S.table s.store)) (known s.memory) ≡ opened (store_content S.Store store)) }
-        ensures kept { IfOk result (λ s. S.told → HasNoEmptySlot (store_content S.Store store) → KeepsAll (S.site s.store) (StoreLeaves S.Store s.store)) }
-        ensures begins { IfOk result (λ s. S.told → HasNoEmptySlot (store_content S.Store store)
+        ensures kept { IfOk result (λ s. S.told → HoldsWell (store_content S.Store store) → KeepsAll (S.site s.store) (StoreLeaves S.Store s.store)) }
+        ensures begins { IfOk result (λ s. S.told → HoldsWell (store_content S.Store store)
             → BeginsSettled (store_state S.Store s.store s.memory) (MayShow (S.site s.store) (StoreLeaves S.Store s.store))) }
         ensures site_back { IfErr result (λ e. S.site e.1 ≡ S.site store) }
         ensures counts_back { IfErr result (λ e. S.faults store ≤ S.faults e.1) }

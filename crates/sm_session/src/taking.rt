@@ -1,7 +1,6 @@
 //! Taking one command.
 
 ghost use Rattle.std.specs.Prelude.{◌≡◌, ◌≤◌, ◌<◌, ◌+◌, ◌*◌, ℕ, List, true, false, IfOk, OnOk};
-ghost use Rattle.sm_base.specs.declared.operations.Op.TheVariants.{Idle};
 ghost use Rattle.sm_disk.specs.Held.{Keeps};
 ghost use Rattle.vg_meta.specs.Roomy.{table_alone};
 ghost use Rattle.vg_meta.specs.Tables.{VolumeTable};
@@ -9,7 +8,7 @@ ghost use Rattle.sm_machine.specs.declared.commands.Command.TheVariants.{Create}
 ghost use Rattle.sm_machine.specs.Runs.{is_accepted, takes_memory};
 ghost use Rattle.sm_base.specs.declared.refusals.Refusal.TheVariants.{NoMemory};
 ghost use Rattle.sm_machine.specs.declared.replies.Reply.TheVariants.{No};
-ghost use Rattle.sm_machine.specs.Steps.{is_built as is_built_by};
+ghost use Rattle.sm_machine.specs.Steps.{is_fold};
 ghost use Rattle.vg_volumes.specs.Stored.{OnlyReads, Counts, Leaves};
 ghost use Rattle.sm_making.specs.Making.{IsOnLeast};
 ghost use Rattle.sm_attaching.specs.Attaching.{HasAttachmentRoom};
@@ -17,13 +16,14 @@ ghost use Rattle.sm_ready.specs.Frames.{HasCommits, HasTrueImages};
 ghost use Rattle.sm_ready.specs.Refusing.{IsAllowed, extents_for};
 ghost use Rattle.sm_ready.specs.Sessions.{HasRows, HasTreeRoom, IsOrderlyStore, IsReadyStore, IsTidyStore};
 ghost use Rattle.sm_ready.specs.Taken.{StoreTakes};
-ghost use Rattle.sm_session.specs.Carrying.{is_guests, most_commits};
+ghost use Rattle.sm_session.specs.Carrying.{most_commits};
 
+use crate::collecting::gc;
 use crate::forks::derive;
 use crate::guests::serve;
-use sm_base::{Failed, Refusal};
+use sm_base::Failed;
 use sm_changing::{delete, label};
-use sm_listing::list;
+use sm_listing::{list, stat};
 use sm_machine::{Command, Reply};
 use sm_making::{create, create_vhd};
 use sm_pool::Pool;
@@ -32,24 +32,7 @@ use sm_space::resize;
 use std::alloc::Global;
 use vg_volumes::Store;
 
-/// Whether a command is built.
-#[tactic(auto, unfolding(sm_machine::specs::Steps::is_built))]
-fn is_built(command: &Command) -> bool
-    ensures { result ≡ is_built_by command.now }
-{
-    match command {
-        Command::Create { .. } | Command::Delete { .. } | Command::Label { .. } | Command::List => {
-            true
-        }
-        Command::Snapshot { .. } | Command::Clone { .. } | Command::Resize { .. } => true,
-        Command::Attach { .. } | Command::Detach { .. } => true,
-        Command::Write { .. } | Command::Fill { .. } => true,
-        Command::Read { .. } | Command::Flush { .. } => true,
-        _ => false,
-    }
-}
-
-/// Carries out a command that is built and that no cause refuses. `now` is the stamp of an image that it makes.
+/// Carries out a command that no cause refuses. `now` is the stamp of an image that it makes.
 fn carry_out<S: Store>(
     alloc: Global,
     store: &mut S,
@@ -62,11 +45,10 @@ fn carry_out<S: Store>(
     requires orderly { IsOrderlyStore S.Store store.old memory.old }
     requires tidy { IsTidyStore S.Store store.old memory.old }
     requires tree_room { HasTreeRoom memory.old }
-    requires idle { memory.old.operation ≡ Idle }
+    requires no_fold { is_fold memory.old.operation ≡ false }
     requires attachment_room { HasAttachmentRoom memory.old }
     requires true_now { HasTrueImages S.Store store.old memory.old }
     requires buffer { (1 < pool.old.free) × (512 * (1 + (S.site store.old).geometry.block) ≤ pool.old.bytes) }
-    requires built { is_built_by command.now ≡ true }
     requires allowed { IsAllowed S.Store command.now store.old memory.old }
     ensures site { S.site store.new ≡ S.site store.old }
     ensures counts { S.faults store.old ≤ S.faults store.new }
@@ -78,7 +60,7 @@ fn carry_out<S: Store>(
     ensures usable_still { OnOk result (S.failed store.new ≡ false) }
     ensures orderly_still { OnOk result (IsOrderlyStore S.Store store.new memory.new) }
     ensures tidy_still { OnOk result (IsTidyStore S.Store store.new memory.new) }
-    ensures idle_still { OnOk result (memory.new.operation ≡ Idle) }
+    ensures no_fold_still { OnOk result (is_fold memory.new.operation ≡ false) }
     ensures tree_room_still { OnOk result (HasTreeRoom memory.new) }
     ensures attachment_room_still { OnOk result (HasAttachmentRoom memory.new) }
     ensures true_still { OnOk result (HasTrueImages S.Store store.new memory.new) }
@@ -119,12 +101,17 @@ fn carry_out<S: Store>(
         Command::Snapshot { disk, twin } => derive(alloc, store, memory, disk, twin, true, now),
         Command::Clone { disk, twin } => derive(alloc, store, memory, disk, twin, false, now),
         Command::List => Ok(list(alloc, memory)),
+        Command::Stat => {
+            let extents = store.extents();
+            Ok(stat(alloc, store.table(), memory, extents))
+        }
+        Command::Gc => gc(alloc, store, memory, pool),
         _ => serve(alloc, store, memory, pool, command),
     }
 }
 
-/// Takes a command. One that is not built yet is answered as a line that spells none, and one that a cause refuses with the
-/// first of them. `now` is the stamp of an image that it makes, in seconds since 2000-01-01 00:00 UTC.
+/// Takes a command. One that a cause refuses is answered with the first of them, and a step of the collector that is not built yet
+/// as a line that spells none. `now` is the stamp of an image that it makes, in seconds since 2000-01-01 00:00 UTC.
 pub fn take<S: Store>(
     alloc: Global,
     store: &mut S,
@@ -137,7 +124,7 @@ pub fn take<S: Store>(
     requires orderly { IsOrderlyStore S.Store store.old memory.old }
     requires tidy { IsTidyStore S.Store store.old memory.old }
     requires tree_room { HasTreeRoom memory.old }
-    requires idle { memory.old.operation ≡ Idle }
+    requires no_fold { is_fold memory.old.operation ≡ false }
     requires attachment_room { HasAttachmentRoom memory.old }
     requires true_now { HasTrueImages S.Store store.old memory.old }
     requires buffer { (1 < pool.old.free) × (512 * (1 + (S.site store.old).geometry.block) ≤ pool.old.bytes) }
@@ -151,7 +138,7 @@ pub fn take<S: Store>(
     ensures usable_still { OnOk result (S.failed store.new ≡ false) }
     ensures orderly_still { OnOk result (IsOrderlyStore S.Store store.new memory.new) }
     ensures tidy_still { OnOk result (IsTidyStore S.Store store.new memory.new) }
-    ensures idle_still { OnOk result (memory.new.operation ≡ Idle) }
+    ensures no_fold_still { OnOk result (is_fold memory.new.operation ≡ false) }
     ensures tree_room_still { OnOk result (HasTreeRoom memory.new) }
     ensures attachment_room_still { OnOk result (HasAttachmentRoom memory.new) }
     ensures true_still { OnOk result (HasTrueImages S.Store store.new memory.new) }
@@ -164,9 +151,6 @@ pub fn take<S: Store>(
     ensures taken { S.told → IsReadyStore S.Store store.old memory.old
         → StoreTakes S.Store command.now store.old memory.old store.new memory.new result }
 {
-    if !is_built(command) {
-        return Ok(Reply::No(Refusal::BadLine));
-    }
     let geometry = store.geometry();
     let extents = store.extents();
     let refusal = refuse(store.table(), memory, &geometry, extents, command);

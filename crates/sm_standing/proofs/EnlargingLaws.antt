@@ -206,7 +206,7 @@ module _ (o : Outline) (t : VolumeTable) (u : List ℕ) (extents : ℕ) (w : IsE
   there_alike : (n : Name) → n ≢ entry → is_there t n ≡ is_there o.table n
   there_alike n other = there_same u (rows o.table n) (rows t n) (near n other)
 
-  hidden_alike : (n : Name) → n ≢ entry → is_hidden t n ≡ is_hidden o.table n
+  pub hidden_alike : (n : Name) → n ≢ entry → is_hidden t n ≡ is_hidden o.table n
   hidden_alike n other = marks (λ r. r.hidden && not r.fresh) (λ q r one. ap₂ (λ h f. h && not f) one.hidden one.fresh) n other
 
   visible_alike : (n : Name) → n ≢ entry → is_visible t n ≡ is_visible o.table n

@@ -16,6 +16,7 @@ pub mod EnlargingLaws
 pub mod EnlargedLaws
 pub mod UndoneLaws
 pub mod UndoneContents
+pub mod AreaLaws
 pub mod UndoneShape
 pub mod UndoneToday
 pub mod VolumeLists
@@ -36,3 +37,10 @@ pub mod ForkUndone
 pub mod PartLists
 pub mod ForkOpened
 pub mod SwapLaws
+pub mod UnfoldedLaws
+pub mod UnfoldedChecks
+pub mod UnfoldedContents
+pub mod UnfoldedShape
+pub mod UnfoldedRuns
+pub mod UnfoldedToday
+pub mod LinkingLaws

@@ -1,28 +1,31 @@
--- A repository in which nothing is under way but that images may be being enlarged, and disks forked, is sound exactly fact by
--- fact; it is kept where no slot is empty; and then today's checks pass.
-use Rattle.std.proofs.Common.{eq-eqb, ◌≡◌, ℕ, ◌≤◌, inl, inr, Bool, true, false, cond, not, ◌&&◌, ◌==◌, List, [], ◌∷◌, length, Option, Some, None, is_some, refl, sym, ap, ◌∙◌, arith, nat_lt}
+-- A repository in which nothing is under way but that images may be being enlarged, disks forked, and images copied or linked, is
+-- sound exactly fact by fact; it is kept where it holds well; and then today's checks pass.
+use Rattle.std.proofs.Common.{eq-eqb, ◌≡◌, ℕ, ◌≤◌, inl, inr, Bool, true, false, cond, not, ◌&&◌, ◌||◌, ◌==◌, List, [], ◌∷◌, length, Option, Some, None, is_some, refl, sym, ap, ap₂, ◌∙◌, arith, nat_lt}
 use Rattle.std.specs.List.{AllByRecursion, filter, list_any}
 use Rattle.std.proofs.lemmas.Bool.{true≢false, le-ltb, ltb-false, eqb-true}
+use Rattle.std.proofs.lemmas.Option.{none-some}
+use Rattle.std.specs.Ordering.{is_lt}
+use Rattle.sm_base.specs.Names.{name_cmp}
 use Rattle.common_laws.proofs.Options.{is_some-parts}
 use Rattle.common_laws.proofs.Booleans.{not_false}
 use Rattle.sm_base.specs.declared.faults.Place.{Place}
 use Rattle.sm_base.specs.declared.faults.Place.TheVariants as at
 use Rattle.sm_base.specs.declared.names.Name.{Name}
-use Rattle.sm_base.specs.declared.names.Name.TheVariants.{Mgt, Vhd, Raw, Old, Clone, Inflate, Relink}
+use Rattle.sm_base.specs.declared.names.Name.TheVariants.{Mgt, Vhd, Raw, Old, Clone, Inflate, Coalesce, Relink, Leaf}
 use Rattle.vg_layout.specs.Places.{record_extents}
 use Rattle.sm_base.specs.Kinds.{is_entry}
 use Rattle.vg_meta.specs.Tables.{VolumeTable, Row, names_of}
 use Rattle.vg_meta.proofs.ExtentLaws.{All-weaken}
 use Rattle.vg_meta.proofs.RowLaws.{row_of-name}
 use Rattle.common_laws.specs.Lists.{In, numbers}
-use Rattle.sm_standing.specs.Plain.{is_plain, is_plain_name, IsPlain, is_simple, is_simple_name, IsSimple}
-use Rattle.sm_standing.specs.PlainSound.{PlainSound, SimpleSound}
+use Rattle.sm_standing.specs.Plain.{is_plain, is_plain_name, IsPlain, is_simple, is_simple_name, IsSimple, is_known, is_known_name, IsKnown}
+use Rattle.sm_standing.specs.PlainSound.{PlainSound, SimpleSound, KnownSound}
 use Rattle.sm_standing.specs.Contents.{Content, row, record_count, is_record_of}
 use Rattle.sm_standing.specs.Entries.{are_past, folding, is_at_stage, is_folding, is_making, is_old_of, making, second}
 use Rattle.sm_standing.specs.Standing.{standing_volume, uuids}
 use Rattle.sm_standing.specs.Checks.{placed, has_records, record_volume_fault, images, too_many_fault, misnamed_fault, lesser, second_entry_fault, lost_entry_fault, is_orphaned, old_leaf_fault, invalid_fault, tree_fault, is_entry_linked, entry_link_fault, record_place, record_fault, disk_place, disk_uuids, is_unrecorded, disk_fault, all_faults, faults_today, fault_of, first_fault, is_damaged, is_entry_ahead, entry_ahead_fault, fault_today_of, first_fault_today}
 use Rattle.sm_standing.specs.Outlines.{Outline, outline, outline_records}
-use Rattle.sm_standing.specs.Keeping.{HasNoEmptySlot, IsKept}
+use Rattle.sm_standing.specs.Keeping.{HasNoEmptySlot, HoldsWell, IsKept}
 use Rattle.common_laws.proofs.Lists.{find_none, none_find, none_first, first_none, numbers-In, In-numbers, In-filter, filter-In}
 use Rattle.sm_standing.proofs.OutlineLaws.{reading_within, outline_records_same}
 use Rattle.sm_standing.proofs.DisksShown.{stands_listed, row_of-In}
@@ -44,18 +47,41 @@ not_special (Raw u) h = record { no_journal = refl; no_old_name = λ t. refl; li
 not_special (Vhd u) h = record { no_journal = refl; no_old_name = λ t. refl; linked = λ o. refl }
 not_special _ h = absurd (true≢false (sym h))
 
--- nor is a simple one
+-- nor is a known one
 pub record NotAhead (n : Name) : Type 0 where
   pub no_entry_ahead : is_entry_ahead n ≡ false
   pub no_old_name : (t : VolumeTable) → is_orphaned t n ≡ false
 
-pub not_ahead : (n : Name) → is_simple_name n ≡ true → NotAhead n
+pub not_ahead : (n : Name) → is_known_name n ≡ true → NotAhead n
 not_ahead Mgt h = record { no_entry_ahead = refl; no_old_name = λ t. refl }
 not_ahead (Raw u) h = record { no_entry_ahead = refl; no_old_name = λ t. refl }
 not_ahead (Vhd u) h = record { no_entry_ahead = refl; no_old_name = λ t. refl }
 not_ahead (Clone disk base twin) h = record { no_entry_ahead = refl; no_old_name = λ t. refl }
 not_ahead (Inflate u extents) h = record { no_entry_ahead = refl; no_old_name = λ t. refl }
+not_ahead (Coalesce child parent) h = record { no_entry_ahead = refl; no_old_name = λ t. refl }
+not_ahead (Relink child parent) h = record { no_entry_ahead = refl; no_old_name = λ t. refl }
 not_ahead _ h = absurd (true≢false (sym h))
+
+-- a simple volume is a known one, and a known one that is no entry of a copy or a link is simple
+pub simple_known_name : (n : Name) → is_simple_name n ≡ true → is_known_name n ≡ true
+simple_known_name Mgt h = refl
+simple_known_name (Raw u) h = h
+simple_known_name (Vhd u) h = h
+simple_known_name (Clone disk base twin) h = h
+simple_known_name (Inflate u extents) h = h
+simple_known_name _ h = absurd (true≢false (sym h))
+
+pub known_simple_name : (n : Name) → is_known_name n ≡ true → is_folding n ≡ false → is_simple_name n ≡ true
+known_simple_name Mgt h no_entry = refl
+known_simple_name (Raw u) h no_entry = refl
+known_simple_name (Vhd u) h no_entry = refl
+known_simple_name (Clone disk base twin) h no_entry = refl
+known_simple_name (Inflate u extents) h no_entry = refl
+known_simple_name (Old u) h no_entry = absurd (true≢false (sym h))
+known_simple_name _ h no_entry = absurd (true≢false no_entry)
+
+pub simple_known : (t : VolumeTable) → IsSimple t → IsKnown t
+simple_known t simple = All-weaken (λ r. is_simple r ≡ true) (λ r. is_known r ≡ true) t.volumes (λ r. simple_known_name r.name) simple
 
 -- a plain volume is a simple one, and a simple one that is no entry is plain
 pub plain_simple_name : (n : Name) → is_plain_name n ≡ true → is_simple_name n ≡ true
@@ -79,29 +105,29 @@ records_fault : (o : Outline) (m : Option Row) (s : Row) → m ≡ Some s → le
 records_fault o None s is long = absurd (let e = is in cc)
 records_fault o (Some r) s is long = ap not (eq-eqb (length r.extents) (record_extents o.extent) (let same : r ≡ s = (let e = is in cc) in ap (λ t. length t.extents) same ∙ long))
 
-simple_row : (c : Content) → SimpleSound c → (r : Row) → In r c.table.volumes → is_simple r ≡ true
-simple_row c s r h = all-In (λ r. is_simple r ≡ true) c.table.volumes r s.simple h
+known_row : (c : Content) → KnownSound c → (r : Row) → In r c.table.volumes → is_known r ≡ true
+known_row c s r h = all-In (λ r. is_known r ≡ true) c.table.volumes r s.known h
 
 not_below : (n : ℕ) → n ≤ 500 → nat_lt 500 n ≡ false
 not_below n h = le-ltb 500 n h
 
-recorded_once : (c : Content) → SimpleSound c → (u : List ℕ) → In u (disk_uuids (outline c)) → is_unrecorded (outline c) u ≡ false
+recorded_once : (c : Content) → KnownSound c → (u : List ℕ) → In u (disk_uuids (outline c)) → is_unrecorded (outline c) u ≡ false
 recorded_once c s u h =
     let w = is_some-parts (standing_volume c.table u) (In-filter (λ v. is_some (standing_volume c.table v)) (uuids c.table) u h).1 in
     ap not (eq-eqb (length (filter (is_record_of u) (outline_records (outline c)))) 1 (ap (λ rs. length (filter (is_record_of u) rs)) (outline_records_same c) ∙ s.recorded u w.0 w.1))
 
 -- each check passes
-checks_pass : (c : Content) → SimpleSound c → (o : Option Place)
+checks_pass : (c : Content) → KnownSound c → (o : Option Place)
     → In o (all_faults (outline c)) → o ≡ None
 unfolding record_volume_fault too_many_fault misnamed_fault second_entry_fault lost_entry_fault old_leaf_fault invalid_fault tree_fault entry_link_fault record_fault disk_fault
 checks_pass c s o (inl is) = is ∙ given_none _ at.Mgt (records_fault (outline c) (row c Mgt) s.records_row s.records_there s.records_extents)
 checks_pass c s o (inr (inl is)) = is ∙ given_none _ at.Images (not_below (length (images c.table)) s.few_images)
 checks_pass c s o (inr (inr (inl is))) = is ∙ none_named at.Image _ c.table.volumes s.named
-checks_pass c s o (inr (inr (inr (inl is)))) = is ∙ ap (λ ns. placed at.Journal (lesser (second ns) (second (making c.table)))) (simple_folding c.table.volumes s.simple)
+checks_pass c s o (inr (inr (inr (inl is)))) = is ∙ ap (λ o. placed at.Journal (lesser o (second (making c.table)))) s.one_folding
     ∙ ap (placed at.Journal) s.one_entry
 checks_pass c s o (inr (inr (inr (inr (inl is))))) = is ∙ none_named at.Journal _ c.table.volumes s.at_stage
 checks_pass c s o (inr (inr (inr (inr (inr (inl is)))))) = is ∙ none_named at.Image _ c.table.volumes (λ r h.
-    (not_ahead r.name (simple_row c s r h)).no_old_name c.table)
+    (not_ahead r.name (known_row c s r h)).no_old_name c.table)
 checks_pass c s o (inr (inr (inr (inr (inr (inr (inl is))))))) = is ∙ none_named at.Image _ c.table.volumes s.valid
 checks_pass c s o (inr (inr (inr (inr (inr (inr (inr (inl is)))))))) = is ∙ none_named at.Tree _ c.table.volumes s.placed
 checks_pass c s o (inr (inr (inr (inr (inr (inr (inr (inr (inl is))))))))) = is ∙ none_named at.Journal _ c.table.volumes (λ r h.
@@ -112,19 +138,45 @@ checks_pass c s o (inr (inr (inr (inr (inr (inr (inr (inr (inr (inr (inl is)))))
 checks_pass c s o (inr (inr (inr (inr (inr (inr (inr (inr (inr (inr (inr none))))))))))) = elim none [ ]
 
 -- sound, fact by fact
-pub simple_sound : (c : Content) → SimpleSound c → first_fault c ≡ None
+pub known_sound : (c : Content) → KnownSound c → first_fault c ≡ None
 unfolding fault_of
-simple_sound c s = first_none (all_faults (outline c)) (checks_pass c s)
+known_sound c s = first_none (all_faults (outline c)) (checks_pass c s)
+
+pub simple_is_known : (c : Content) → SimpleSound c → KnownSound c
+simple_is_known c s = record {
+  known = simple_known c.table s.simple;
+  records_row = s.records_row;
+  records_there = s.records_there;
+  records_extents = s.records_extents;
+  few_images = s.few_images;
+  named = s.named;
+  one_folding = ap second (simple_folding c.table.volumes s.simple);
+  one_entry = s.one_entry;
+  at_stage = s.at_stage;
+  valid = s.valid;
+  placed = s.placed;
+  linked = s.linked;
+  right = s.right;
+  recorded = s.recorded;
+}
+
+pub simple_sound : (c : Content) → SimpleSound c → first_fault c ≡ None
+simple_sound c s = known_sound c (simple_is_known c s)
 
 -- and kept
-pub simple_kept : (c : Content) → SimpleSound c → HasNoEmptySlot c → IsKept c
-simple_kept c s holding = record {
-  sound = simple_sound c s;
+pub simple_well : (c : Content) → IsSimple c.table → HasNoEmptySlot c → HoldsWell c
+simple_well c simple holding = record {
   holding = holding;
   linking = λ child parent r v p n there is linked held.
       let i = row_of-In c.table.volumes (Relink child parent) r there in
-      absurd (true≢false (sym (simple_row c s r i.0) ∙ ap is_simple_name (row_of-name c.table.volumes (Relink child parent) r there)));
+      absurd (true≢false (sym (all-In (λ r. is_simple r ≡ true) c.table.volumes r simple i.0) ∙ ap is_simple_name (row_of-name c.table.volumes (Relink child parent) r there)));
 }
+
+pub known_kept : (c : Content) → KnownSound c → HoldsWell c → IsKept c
+known_kept c s well = record { sound = known_sound c s; holding = well.holding; linking = well.linking }
+
+pub simple_kept : (c : Content) → SimpleSound c → HasNoEmptySlot c → IsKept c
+simple_kept c s holding = known_kept c (simple_is_known c s) (simple_well c s.simple holding)
 
 -- ---- where nothing is under way
 
@@ -153,42 +205,36 @@ plain_kept c s = simple_kept c (plain_is_simple c s)
 
 -- ---- from today's checks to the facts
 
-not_folding : (n : Name) → is_entry_ahead n ≡ false → is_folding n ≡ false
-not_folding Mgt h = refl
-not_folding (Vhd u) h = refl
-not_folding (Raw u) h = refl
-not_folding (Old u) h = refl
-not_folding (Clone d b t) h = refl
-not_folding (Inflate u e) h = refl
-not_folding _ h = absurd (let e = h in cc)
+not_old : (t : VolumeTable) (u : List ℕ) (n : Name) → is_entry_ahead n ≡ false → is_old_of t u n ≡ false
+not_old t u (Leaf leaf parent) h = absurd (true≢false h)
+not_old t u _ h = refl
 
--- no leaf is being folded, where no entry but those of forks and enlargements is there
-pub none_folding : (rs : List Row) → ((r : Row) → In r rs → is_entry_ahead r.name ≡ false) → filter is_folding (names_of rs) ≡ []
-none_folding [] none = refl
-none_folding (r ∷ rs) none =
-    ap (λ b. cond b (r.name ∷ filter is_folding (names_of rs)) (filter is_folding (names_of rs))) (not_folding r.name (none r (inl refl))) ∙ none_folding rs (λ s i. none s (inr i))
+-- no entry takes an old leaf for its own, where no leaf is being folded
+pub none_old : (t : VolumeTable) (u : List ℕ) (rs : List Row) → ((r : Row) → In r rs → is_entry_ahead r.name ≡ false) → list_any (is_old_of t u) (filter is_folding (names_of rs)) ≡ false
+none_old t u [] none = refl
+none_old t u (r ∷ rs) none = by (is_folding r.name) (none_old t u rs (λ s i. none s (inr i)))
+  where
+    by : (b : Bool) → list_any (is_old_of t u) (filter is_folding (names_of rs)) ≡ false → list_any (is_old_of t u) (cond b (r.name ∷ filter is_folding (names_of rs)) (filter is_folding (names_of rs))) ≡ false
+    by true rest = ap₂ (λ x y. x || y) (not_old t u r.name (none r (inl refl))) rest
+    by false rest = rest
 
 -- so each old leaf is refused
-simple_from : (t : VolumeTable) (n : Name) → folding t ≡ [] → is_entry_ahead n ≡ false → is_orphaned t n ≡ false → is_simple_name n ≡ true
-simple_from t Mgt none j h = refl
-simple_from t (Raw u) none j h = refl
-simple_from t (Vhd u) none j h = refl
-simple_from t (Clone disk base twin) none j h = refl
-simple_from t (Inflate u extents) none j h = refl
-simple_from t (Old u) none j h = absurd (true≢false (sym (ap (λ ns. not (list_any (is_old_of t u) ns)) none) ∙ h))
-simple_from t _ none j h = absurd (let e = j in cc)
+known_from : (t : VolumeTable) (n : Name) → ((u : List ℕ) → list_any (is_old_of t u) (folding t) ≡ false) → is_entry_ahead n ≡ false → is_orphaned t n ≡ false → is_known_name n ≡ true
+known_from t (Old u) none j h = absurd (true≢false (sym (ap not (none u)) ∙ h))
+known_from t (Leaf leaf parent) none j h = absurd (true≢false j)
+known_from t _ none j h = refl
 
 pub all-of : (P : Row → Type 0) (rs : List Row) → ((r : Row) → In r rs → P r) → AllByRecursion P rs
 all-of P [] each = tt
 all-of P (r ∷ rs) each = (each r (inl refl), all-of P rs (λ s h. each s (inr h)))
 
--- where these two checks pass at most images are being enlarged, or disks forked
-pub simple_table : (o : Outline) → entry_ahead_fault o ≡ None → old_leaf_fault o ≡ None → IsSimple o.table
+-- where these two checks pass no leaf is being folded
+pub known_table : (o : Outline) → entry_ahead_fault o ≡ None → old_leaf_fault o ≡ None → IsKnown o.table
 unfolding entry_ahead_fault old_leaf_fault
-simple_table o no_entry owned =
+known_table o no_entry owned =
     let none = named_none at.Journal (λ r. is_entry_ahead r.name) o.table.volumes no_entry in
-    all-of (λ r. is_simple r ≡ true) o.table.volumes (λ r k.
-    simple_from o.table r.name (none_folding o.table.volumes none) (none r k) (named_none at.Image (λ q. is_orphaned o.table q.name) o.table.volumes owned r k))
+    all-of (λ r. is_known r ≡ true) o.table.volumes (λ r k.
+    known_from o.table r.name (λ u. none_old o.table u o.table.volumes none) (none r k) (named_none at.Image (λ q. is_orphaned o.table q.name) o.table.volumes owned r k))
 
 records_right : (c : Content) (m : Option Row) → row c Mgt ≡ m → not (has_records (outline c) m) ≡ false → (r : Row) × (row c Mgt ≡ Some r) × (length r.extents ≡ record_extents c.extent)
 records_right c None is h = absurd (let e = h in cc)
@@ -198,7 +244,7 @@ record_none : (o : Option ℕ) → record_place o ≡ None → o ≡ None
 record_none None h = refl
 record_none (Some k) h = absurd (let e = h in cc)
 
-place_none : (place : Name → Place) (o : Option Name) → placed place o ≡ None → o ≡ None
+pub place_none : (place : Name → Place) (o : Option Name) → placed place o ≡ None → o ≡ None
 place_none place None h = refl
 place_none place (Some n) h = absurd (let e = h in cc)
 
@@ -212,22 +258,32 @@ not_above n h = ltb-false 500 n h
 listed_disk : (c : Content) (u : List ℕ) (n : Name) → standing_volume c.table u ≡ Some n → In u (disk_uuids (outline c))
 listed_disk c u n is = filter-In (λ v. is_some (standing_volume c.table v)) (uuids c.table) u (stands_listed c.table u n is) (ap is_some is)
 
--- where today's checks pass, at most images are being enlarged or disks forked, and the repository is sound fact by fact
-pub today_sound : (c : Content) → first_fault_today c ≡ None → SimpleSound c
+pub lesser_none : (a b : Option Name) → lesser a b ≡ None → (a ≡ None) × (b ≡ None)
+lesser_none None b h = (refl, h)
+lesser_none (Some a) None h = absurd (none-some a (sym h))
+lesser_none (Some a) (Some b) h = absurd (by (is_lt (name_cmp a b)) h)
+  where
+    by : (l : Bool) → cond l (Some a) (Some b) ≡ None → ⊥
+    by true is = none-some a (sym is)
+    by false is = none-some b (sym is)
+
+-- where today's checks pass, no leaf is being folded, and the repository is sound fact by fact
+pub today_known : (c : Content) → first_fault_today c ≡ None → KnownSound c
 unfolding fault_today_of record_volume_fault too_many_fault misnamed_fault second_entry_fault lost_entry_fault invalid_fault tree_fault entry_link_fault record_fault disk_fault
-today_sound c h =
+today_known c h =
     let each = none_first (faults_today (outline c)) h in
     let w = records_right c (row c Mgt) refl (none_given _ at.Mgt (each (record_volume_fault (outline c)) (inl refl))) in
-    let quiet = simple_table (outline c) (each (entry_ahead_fault (outline c)) (inr (inr (inr (inl refl))))) (each (old_leaf_fault (outline c)) (inr (inr (inr (inr (inr (inr (inl refl)))))))) in
+    let known = known_table (outline c) (each (entry_ahead_fault (outline c)) (inr (inr (inr (inl refl))))) (each (old_leaf_fault (outline c)) (inr (inr (inr (inr (inr (inr (inl refl)))))))) in
+    let entries = lesser_none (second (folding c.table)) (second (making c.table)) (place_none at.Journal _ (each (second_entry_fault (outline c)) (inr (inr (inr (inr (inl refl))))))) in
     record {
-      simple = quiet;
+      known = known;
       records_row = w.0;
       records_there = w.1;
       records_extents = w.2;
       few_images = not_above (length (images c.table)) (none_given _ at.Images (each (too_many_fault (outline c)) (inr (inl refl))));
       named = named_none at.Image _ c.table.volumes (each (misnamed_fault (outline c)) (inr (inr (inl refl))));
-      one_entry = place_none at.Journal (second (making c.table))
-          (sym (ap (λ ns. placed at.Journal (lesser (second ns) (second (making c.table)))) (simple_folding c.table.volumes quiet)) ∙ each (second_entry_fault (outline c)) (inr (inr (inr (inr (inl refl))))));
+      one_folding = entries.0;
+      one_entry = entries.1;
       at_stage = named_none at.Journal _ c.table.volumes (each (lost_entry_fault (outline c)) (inr (inr (inr (inr (inr (inl refl)))))));
       valid = named_none at.Image _ c.table.volumes (each (invalid_fault (outline c)) (inr (inr (inr (inr (inr (inr (inr (inl refl)))))))));
       placed = named_none at.Tree _ c.table.volumes (each (tree_fault (outline c)) (inr (inr (inr (inr (inr (inr (inr (inr (inl refl))))))))));
@@ -236,6 +292,39 @@ today_sound c h =
       right = λ k below. sym (ap is_damaged (reading_within c k below)) ∙ none_find _ (numbers 0 record_count) (record_none _ (each (record_fault (outline c)) (inr (inr (inr (inr (inr (inr (inr (inr (inr (inr (inl refl))))))))))))) k (numbers-In 0 record_count k (omega arith) (omega arith));
       recorded = λ u n is. ap (λ rs. length (filter (is_record_of u) rs)) (sym (outline_records_same c)) ∙ eqb-true _ 1 (not_false _ (none_find _ (disk_uuids (outline c)) (disk_none _ (each (disk_fault (outline c)) (inr (inr (inr (inr (inr (inr (inr (inr (inr (inr (inr (inl refl)))))))))))))) u (listed_disk c u n is)));
     }
+
+-- where no entry of a copy or a link is there, at most images are being enlarged or disks forked
+pub known_is_simple : (t : VolumeTable) → IsKnown t → folding t ≡ [] → IsSimple t
+known_is_simple t known none = each t.volumes known none
+  where
+    each : (rs : List Row) → AllByRecursion (λ r. is_known r ≡ true) rs → filter is_folding (names_of rs) ≡ [] → AllByRecursion (λ r. is_simple r ≡ true) rs
+    each [] all none = tt
+    each (r ∷ rs) all none = by (is_folding r.name) refl none (each rs all.1)
+      where
+        by : (b : Bool) → is_folding r.name ≡ b → cond b (r.name ∷ filter is_folding (names_of rs)) (filter is_folding (names_of rs)) ≡ []
+            → (filter is_folding (names_of rs) ≡ [] → AllByRecursion (λ r. is_simple r ≡ true) rs) → AllByRecursion (λ r. is_simple r ≡ true) (r ∷ rs)
+        by true is h rest = absurd (let x = h in cc)
+        by false is h rest = (known_simple_name r.name all.0 is, rest h)
+
+pub known_sound_simple : (c : Content) → KnownSound c → IsSimple c.table → SimpleSound c
+known_sound_simple c s simple = record {
+  simple = simple;
+  records_row = s.records_row;
+  records_there = s.records_there;
+  records_extents = s.records_extents;
+  few_images = s.few_images;
+  named = s.named;
+  one_entry = s.one_entry;
+  at_stage = s.at_stage;
+  valid = s.valid;
+  placed = s.placed;
+  linked = s.linked;
+  right = s.right;
+  recorded = s.recorded;
+}
+
+pub today_sound : (c : Content) → first_fault_today c ≡ None → folding c.table ≡ [] → SimpleSound c
+today_sound c h none = let s = today_known c h in known_sound_simple c s (known_is_simple c.table s.known none)
 
 -- where no entry is there, nothing is under way
 pub simple_none_plain : (t : VolumeTable) → IsSimple t → making t ≡ [] → IsPlain t
@@ -266,24 +355,27 @@ simple_is_plain c s none = record {
 
 -- ---- and back
 
--- where all checks pass and at most images are being enlarged or disks forked, each of today's passes
-today_pass : (c : Content) → ((o : Option Place) → In o (all_faults (outline c)) → o ≡ None) → IsSimple c.table → (o : Option Place) → In o (faults_today (outline c)) → o ≡ None
+-- where all checks pass and no leaf is being folded, each of today's passes
+today_pass : (c : Content) → ((o : Option Place) → In o (all_faults (outline c)) → o ≡ None) → IsKnown c.table → (o : Option Place) → In o (faults_today (outline c)) → o ≡ None
 unfolding entry_ahead_fault
-today_pass c each simple o (inl is) = each o (inl is)
-today_pass c each simple o (inr (inl is)) = each o (inr (inl is))
-today_pass c each simple o (inr (inr (inl is))) = each o (inr (inr (inl is)))
-today_pass c each simple o (inr (inr (inr (inl is)))) = is ∙ none_named at.Journal _ c.table.volumes (λ r h.
-    (not_ahead r.name (all-In (λ s. is_simple s ≡ true) c.table.volumes r simple h)).no_entry_ahead)
-today_pass c each simple o (inr (inr (inr (inr (inl is))))) = each o (inr (inr (inr (inl is))))
-today_pass c each simple o (inr (inr (inr (inr (inr (inl is)))))) = each o (inr (inr (inr (inr (inl is)))))
-today_pass c each simple o (inr (inr (inr (inr (inr (inr (inl is))))))) = each o (inr (inr (inr (inr (inr (inl is))))))
-today_pass c each simple o (inr (inr (inr (inr (inr (inr (inr (inl is)))))))) = each o (inr (inr (inr (inr (inr (inr (inl is)))))))
-today_pass c each simple o (inr (inr (inr (inr (inr (inr (inr (inr (inl is))))))))) = each o (inr (inr (inr (inr (inr (inr (inr (inl is))))))))
-today_pass c each simple o (inr (inr (inr (inr (inr (inr (inr (inr (inr (inl is)))))))))) = each o (inr (inr (inr (inr (inr (inr (inr (inr (inl is)))))))))
-today_pass c each simple o (inr (inr (inr (inr (inr (inr (inr (inr (inr (inr (inl is))))))))))) = each o (inr (inr (inr (inr (inr (inr (inr (inr (inr (inl is))))))))))
-today_pass c each simple o (inr (inr (inr (inr (inr (inr (inr (inr (inr (inr (inr (inl is)))))))))))) = each o (inr (inr (inr (inr (inr (inr (inr (inr (inr (inr (inl is)))))))))))
-today_pass c each simple o (inr (inr (inr (inr (inr (inr (inr (inr (inr (inr (inr (inr none)))))))))))) = elim none [ ]
+today_pass c each known o (inl is) = each o (inl is)
+today_pass c each known o (inr (inl is)) = each o (inr (inl is))
+today_pass c each known o (inr (inr (inl is))) = each o (inr (inr (inl is)))
+today_pass c each known o (inr (inr (inr (inl is)))) = is ∙ none_named at.Journal _ c.table.volumes (λ r h.
+    (not_ahead r.name (all-In (λ s. is_known s ≡ true) c.table.volumes r known h)).no_entry_ahead)
+today_pass c each known o (inr (inr (inr (inr (inl is))))) = each o (inr (inr (inr (inl is))))
+today_pass c each known o (inr (inr (inr (inr (inr (inl is)))))) = each o (inr (inr (inr (inr (inl is)))))
+today_pass c each known o (inr (inr (inr (inr (inr (inr (inl is))))))) = each o (inr (inr (inr (inr (inr (inl is))))))
+today_pass c each known o (inr (inr (inr (inr (inr (inr (inr (inl is)))))))) = each o (inr (inr (inr (inr (inr (inr (inl is)))))))
+today_pass c each known o (inr (inr (inr (inr (inr (inr (inr (inr (inl is))))))))) = each o (inr (inr (inr (inr (inr (inr (inr (inl is))))))))
+today_pass c each known o (inr (inr (inr (inr (inr (inr (inr (inr (inr (inl is)))))))))) = each o (inr (inr (inr (inr (inr (inr (inr (inr (inl is)))))))))
+today_pass c each known o (inr (inr (inr (inr (inr (inr (inr (inr (inr (inr (inl is))))))))))) = each o (inr (inr (inr (inr (inr (inr (inr (inr (inr (inl is))))))))))
+today_pass c each known o (inr (inr (inr (inr (inr (inr (inr (inr (inr (inr (inr (inl is)))))))))))) = each o (inr (inr (inr (inr (inr (inr (inr (inr (inr (inr (inl is)))))))))))
+today_pass c each known o (inr (inr (inr (inr (inr (inr (inr (inr (inr (inr (inr (inr none)))))))))))) = elim none [ ]
+
+pub known_today : (c : Content) → first_fault c ≡ None → IsKnown c.table → first_fault_today c ≡ None
+unfolding fault_of fault_today_of
+known_today c sound known = first_none (faults_today (outline c)) (today_pass c (none_first (all_faults (outline c)) sound) known)
 
 pub simple_today : (c : Content) → first_fault c ≡ None → IsSimple c.table → first_fault_today c ≡ None
-unfolding fault_of fault_today_of
-simple_today c sound simple = first_none (faults_today (outline c)) (today_pass c (none_first (all_faults (outline c)) sound) simple)
+simple_today c sound simple = known_today c sound (simple_known c.table simple)

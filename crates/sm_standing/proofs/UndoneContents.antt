@@ -29,6 +29,7 @@ use Rattle.sm_standing.proofs.EnlargedLaws.{enlarging_disks, enlarging_kept, ima
 use Rattle.sm_standing.proofs.EnlargingLaws.{chain_alike, tree_alike}
 use Rattle.sm_standing.proofs.ImageLaws.{disks_as}
 use Rattle.sm_standing.proofs.OutlineLaws.{made-of}
+use Rattle.sm_standing.proofs.PlainDisks.{simple_folding}
 use Rattle.sm_standing.proofs.PlainKept.{plain_kept, simple_sound, simple_today, today_sound}
 use Rattle.sm_standing.proofs.UndoneLaws.{cut_later, cut_table, entry_gone, entry_still, entry_there, images_undone, is_enlarging, named_undone, other_undone, own_long, own_undone, row_from, stands_undone, undone_is, undone_is_table, undone_later, undone_plain}
 use Rattle.sm_standing.proofs.WorldLaws.{spot_below}
@@ -126,7 +127,7 @@ module _ (c : Content) (u : List ℕ) (extents : ℕ) (w : IsBeingEnlarged c.tab
     records = omega (arith, room, ap (λ o. length (extents_of o) * c.extent) mgt_same);
   }
 
-  now : IsEnlargingOn before_it c u extents
+  pub now : IsEnlargingOn before_it c u extents
   now = between_enlarging c.table c.area between_now (λ p below. refl)
 
   -- ---- images, records and disks
@@ -219,6 +220,7 @@ module _ (c : Content) (u : List ℕ) (extents : ℕ) (w : IsBeingEnlarged c.tab
         today_sound (with_table c c.table area)
         (ap fault_today_of (outline_enlarging before_it (with_table c c.table area) u extents (between_enlarging c.table area between_now same) ∙ sym (outline_enlarging before_it c u extents now))
         ∙ simple_today c (simple_sound c s) s.simple)
+        (simple_folding c.table.volumes s.simple)
 
     pub holding_alike : (area : ℕ → List ℕ) → IsSameArea c area → HasNoEmptySlot c → HasNoEmptySlot (with_table c c.table area)
     holding_alike area same holding v i is =

@@ -117,6 +117,10 @@ unchanged (s ∷ rs) n f r there same = by (name_eq s.name n) there (λ h. uncha
 
 -- ---- the table
 
+-- a commit takes no number back
+pub raised_later : (q : ℕ) → q < 2 ^ 48 → q ≤ raised q
+raised_later q below = omega (arith, below)
+
 -- without an entry it is the same
 pub undone_none : (t : VolumeTable) → making t ≡ [] → undone t ≡ t
 unfolding undone undo_changes
@@ -233,9 +237,6 @@ module _ (t : VolumeTable) (u : List ℕ) (extents : ℕ) (w : IsBeingEnlarged t
 
   -- ---- the sequence number
 
-  raised_later : (q : ℕ) → q < 2 ^ 48 → q ≤ raised q
-  raised_later q below = omega (arith, below)
-
   pub cut_later : (count : ℕ) → IsTable count t → t.sequence ≤ cut_table.sequence
   cut_later count table = by (is_longer extents w.own) refl
     where
@@ -320,7 +321,7 @@ module _ (t : VolumeTable) (u : List ℕ) (extents : ℕ) (w : IsBeingEnlarged t
 
 -- ---- with today's checks of a table
 
-head_alone : (ns : List Name) (n : Name) → head ns ≡ Some n → second ns ≡ None → ns ≡ n ∷ []
+pub head_alone : (ns : List Name) (n : Name) → head ns ≡ Some n → second ns ≡ None → ns ≡ n ∷ []
 head_alone [] n is one = absurd (none-some n is)
 head_alone (m ∷ []) n is one = ap (λ x. x ∷ []) (same_Some m n is)
 head_alone (m ∷ k ∷ ns) n is one = absurd (none-some k (sym one))
@@ -330,10 +331,10 @@ abbrev pub IsBeingForked : VolumeTable → Type 0
 IsBeingForked t = (disk base twin : List ℕ) × (making t ≡ Clone disk base twin ∷ [])
 
 -- nothing is being made, or one image is being enlarged, or one disk is being forked
-pub enlarged_or_not : (count : ℕ) (t : VolumeTable) → IsTable count t → IsSimple t → second (making t) ≡ None → ((r : Row) → In r t.volumes → is_lost t r ≡ false)
+pub enlarged_or_not : (count : ℕ) (t : VolumeTable) → IsTable count t → second (making t) ≡ None → ((r : Row) → In r t.volumes → is_lost t r ≡ false)
     → (making t ≡ []) ⊎ (((u : List ℕ) × (extents : ℕ) × IsBeingEnlarged t u extents) ⊎ IsBeingForked t)
 unfolding is_at_stage IsName
-enlarged_or_not count t table simple one at_stage = by (making t) refl one
+enlarged_or_not count t table one at_stage = by (making t) refl one
   where
     of : (n : Name) (r : Row) → In r t.volumes → r.name ≡ n → is_making n ≡ true → making t ≡ n ∷ [] → ((u : List ℕ) × (extents : ℕ) × IsBeingEnlarged t u extents) ⊎ IsBeingForked t
     of (Inflate u extents) r i named made is = inl (u, extents, found (rows t (Vhd u)) refl stage)

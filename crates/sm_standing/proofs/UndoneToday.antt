@@ -1,114 +1,48 @@
 -- Where today's checks pass: what an enlargement or a fork that was cut short, where there is one, leaves of a content, and what
 -- stands while it is undone.
-use Rattle.std.proofs.Common.{◌≡◌, ◌⊎◌, inl, inr, ℕ, zero, suc, ◌*◌, ◌<◌, ◌≤◌, Bool, true, false, List, [], ◌∷◌, ◌++◌, length, take, Option, None, Some, refl, sym, ap, ◌∙◌, subst, arith}
-use Rattle.sm_base.specs.Numbers.{IsGeometry, div_up}
-use Rattle.sm_base.proofs.NumberLemmas.{le-div_up}
+use Rattle.std.proofs.Common.{◌≡◌, ◌⊎◌, inl, inr, ℕ, zero, suc, ◌≤◌, Bool, true, false, not, ◌&&◌, List, [], ◌∷◌, ◌++◌, take, Option, None, Some, refl, sym, ap, ◌∙◌, subst}
+use Rattle.std.proofs.lemmas.Bool.{true≢false}
+use Rattle.sm_base.specs.Numbers.{IsGeometry}
 use Rattle.sm_base.specs.declared.names.Name.{Name}
-use Rattle.sm_base.specs.declared.names.Name.TheVariants.{Mgt, Vhd, Raw, Old, Clone, Inflate, Coalesce, Relink, Leaf}
-use Rattle.vg_layout.specs.Places.{record_extents}
+use Rattle.sm_base.specs.declared.names.Name.TheVariants.{Mgt, Vhd, Clone, Inflate}
 use Rattle.common_laws.specs.Lists.{◌>>=◌}
 use Rattle.vg_meta.specs.Changes.{Permits, applied}
 use Rattle.vg_meta.specs.declared.changes.Change.{Change}
 use Rattle.vg_meta.specs.declared.changes.Change.TheVariants.{Cut, Remove}
 use Rattle.vg_meta.proofs.ChangeLaws.{IsTable-applied}
-use Rattle.vg_meta.specs.Tables.{VolumeTable, Row, IsTable, extents_of, rows}
-use Rattle.vg_meta.proofs.ByName.{spread}
-use Rattle.vg_volumes.specs.Volumes.{piece, spot}
-use Rattle.sm_record.specs.Records.{reading}
+use Rattle.vg_meta.specs.Tables.{VolumeTable, IsTable, rows}
 use Rattle.sm_standing.specs.Apart.{is_apart}
-use Rattle.sm_standing.specs.Checks.{fault_today_of}
-use Rattle.sm_standing.specs.Contents.{Content, row, record_count, sectors_of, size_of}
-use Rattle.sm_standing.specs.Entries.{head, making, of_row}
+use Rattle.sm_standing.specs.Contents.{Content, record_count, size_of}
+use Rattle.sm_standing.specs.Entries.{head, is_hidden, is_making, making, of_row}
+use Rattle.sm_standing.specs.Forks.{forked}
 use Rattle.sm_standing.specs.Images.{image_of}
 use Rattle.sm_standing.specs.Keeping.{HasNoEmptySlot, IsKept}
 use Rattle.sm_standing.specs.Opened.{opened}
-use Rattle.sm_standing.specs.Outlines.{link_of}
+use Rattle.sm_standing.specs.Outlines.{outline}
 use Rattle.sm_standing.specs.PlainSound.{PlainSound, SimpleSound}
-use Rattle.sm_standing.specs.Readings.{SameReadings}
 use Rattle.sm_standing.specs.Standing.{disks}
 use Rattle.sm_standing.specs.Undone.{AllPermit, IsBeingEnlarged, IsSameArea, IsUndoing, applied_all, changes_back, from_entry, image_back, is_longer, row_back, undo_changes, undone, undone_content, undone_from, wanted}
 use Rattle.sm_standing.specs.Worlds.{with_table}
+use Rattle.sm_standing.proofs.AreaLaws.{area_disks, area_images, area_kept, records_room}
+use Rattle.sm_standing.proofs.EnlargedLaws.{images_enlarging}
+use Rattle.sm_standing.proofs.EnlargingLaws.{hidden_alike}
+use Rattle.sm_standing.proofs.ForkContents.{images_apart}
 use Rattle.sm_standing.proofs.ForkOpened.{fork_opened}
 use Rattle.sm_standing.proofs.ForkRuns.{AllRun, run_permits, run_taken}
-use Rattle.sm_standing.proofs.ForkUndone.{fork_disks, fork_holding, fork_images, fork_kept, fork_permits, fork_rows, fork_table, fork_undone, fork_undone_disks}
-use Rattle.sm_standing.proofs.ImageLaws.{disks_as}
-use Rattle.sm_standing.proofs.ImageSectors.{same_images, whole_none}
-use Rattle.sm_standing.proofs.OutlineLaws.{outline_same}
-use Rattle.sm_standing.proofs.PlainKept.{simple_is_plain, simple_kept, simple_sound, simple_today, today_sound}
-use Rattle.sm_standing.proofs.RecordLists.{first_of, record_of_first, records_same}
-use Rattle.sm_standing.proofs.UndoneContents.{between_cut, between_disks, between_kept, between_now, disks_undone_at, holding_undone, images_undone_at, sound_undone, undone_disks, undone_kept}
+use Rattle.sm_standing.proofs.ForkUndone.{fork_parts, its_stage, n as n_of, fork_disks, fork_holding, fork_images, fork_kept, fork_permits, fork_rows, fork_table, fork_undone, fork_undone_disks}
+use Rattle.sm_standing.proofs.PlainKept.{simple_is_known, simple_is_plain, simple_well}
+use Rattle.sm_standing.proofs.UndoneContents.{IsBetween, before_it, between_enlarging, now, between_cut, between_disks, between_kept, between_now, disks_undone_at, holding_undone, images_undone_at, sound_undone, undone_disks, undone_kept}
 use Rattle.sm_standing.proofs.UndoneLaws.{IsBeingForked, changes_are, cut_table, enlarged_or_not, may_cut, may_remove, undone_is, undone_is_table, undone_later, undone_none}
 use Rattle.sm_standing.proofs.UndoneShape.{opened_undone}
-use Rattle.sm_standing.proofs.WorldLaws.{spot_below}
-
--- the volume of records has room for them
-pub records_fit : (c : Content) (r : Row) → 0 < c.extent → row c Mgt ≡ Some r → length r.extents ≡ record_extents c.extent → record_count ≤ size_of c Mgt
-unfolding record_extents
-records_fit c r some there long =
-    let fits = le-div_up 512 c.extent some in
-    let size : size_of c Mgt ≡ div_up 512 c.extent * c.extent = ap (λ o. length (extents_of o) * c.extent) there ∙ ap (λ k. k * c.extent) long in
-    omega (arith, fits, size)
-
--- ---- while nothing is being made
-
-apart_of_none : (n : Name) → is_apart [] n ≡ true
-apart_of_none Mgt = refl
-apart_of_none (Vhd u) = refl
-apart_of_none (Raw u) = refl
-apart_of_none (Old u) = refl
-apart_of_none (Clone x y z) = refl
-apart_of_none (Inflate x y) = refl
-apart_of_none (Coalesce x y) = refl
-apart_of_none (Relink x y) = refl
-apart_of_none (Leaf x y) = refl
 
 module _ (c : Content) (table : IsTable c.count c.table) (geometry : IsGeometry c.extent c.block c.entries) (s : SimpleSound c) where
-  some_extent : 0 < c.extent
-  some_extent = let least = geometry.extent_least in omega (arith, least)
-
   pub room : record_count ≤ size_of c Mgt
-  room = records_fit c s.records_row some_extent s.records_there s.records_extents
-
-  -- with an area that is the same as far as the extents go
-  module _ (none : making c.table ≡ []) (area : ℕ → List ℕ) (same : IsSameArea c area) where
-    abbrev there : Content
-    there = with_table c c.table area
-
-    sectors_alike : (n : Name) (p : ℕ) → p < size_of c n → sectors_of there n p ≡ sectors_of c n p
-    unfolding sectors_of piece
-    sectors_alike n p below = same (spot c.extent (extents_of (rows c.table n)) p) (spot_below c.count c.extent (rows c.table) n p (spread c.count c.table table) some_extent below)
-
-    images_alike : (n : Name) → image_of there n ≡ image_of c n
-    images_alike n =
-        (same_images c there [] geometry (record {
-          extent = refl;
-          block = refl;
-          entries = refl;
-          rows = λ m apart. refl;
-          sectors = λ m p apart below. sectors_alike m p below;
-          whole = λ m apart. whole_none c.table m none;
-          still_whole = λ m apart. whole_none c.table m none;
-        })).images n (apart_of_none n)
-
-    readings_alike : SameReadings c there
-    readings_alike k below = ap reading (sectors_alike Mgt k (omega (arith, below, room)))
-
-    there_sound : SimpleSound there
-    there_sound =
-        today_sound there
-        (ap fault_today_of (outline_same c there (record { extent = refl; block = refl; entries = refl; table = refl; links = λ n. ap link_of (images_alike n); readings = readings_alike }))
-        ∙ simple_today c (simple_sound c s) s.simple)
-
-    there_kept : HasNoEmptySlot c → IsKept there
-    there_kept holding = simple_kept there there_sound (λ v i is. holding v i (sym (images_alike (Vhd v)) ∙ is))
-
-    there_disks : disks there ≡ disks c
-    there_disks = disks_as c there (λ v. refl) images_alike (λ v. record_of_first there v ∙ ap first_of (records_same c there v readings_alike) ∙ sym (record_of_first c v))
+  room = records_room c geometry (simple_is_known c s)
 
   -- ---- in each case
 
   either : (making c.table ≡ []) ⊎ (((u : List ℕ) × (extents : ℕ) × IsBeingEnlarged c.table u extents) ⊎ IsBeingForked c.table)
-  either = enlarged_or_not c.count c.table table s.simple s.one_entry s.at_stage
+  either = enlarged_or_not c.count c.table table s.one_entry s.at_stage
 
   as_it_was : making c.table ≡ [] → undone_content c ≡ c
   as_it_was none = ap (λ (t : VolumeTable). record c { table = t }) (undone_none c.table none)
@@ -252,7 +186,7 @@ module _ (c : Content) (table : IsTable c.count c.table) (geometry : IsGeometry 
       step u extents w (inr (inr is)) = at (undone c.table) is (undone_kept c u extents w table geometry room s holding area same)
 
       by : (making c.table ≡ []) ⊎ (((u : List ℕ) × (extents : ℕ) × IsBeingEnlarged c.table u extents) ⊎ IsBeingForked c.table) → IsKept (with_table c v area)
-      by (inl none) = at c.table (all_one none v undoing) (there_kept none area same holding)
+      by (inl none) = at c.table (all_one none v undoing) (area_kept c table geometry (simple_is_known c s) area same (simple_well c s.simple holding))
       by (inr (inl k)) = step k.0 k.1 k.2 (step_of k.0 k.1 k.2 v undoing)
       by (inr (inr k)) = fork_kept c table geometry room s k.0 k.1 k.2 k.3 holding v area undoing same
 
@@ -270,6 +204,57 @@ module _ (c : Content) (table : IsTable c.count c.table) (geometry : IsGeometry 
       step u extents w (inr (inr is)) = at (undone c.table) is (undone_disks c u extents w table geometry room s area same)
 
       by : (making c.table ≡ []) ⊎ (((u : List ℕ) × (extents : ℕ) × IsBeingEnlarged c.table u extents) ⊎ IsBeingForked c.table) → disks (with_table c v area) ≡ disks c
-      by (inl none) = at c.table (all_one none v undoing) (there_disks none area same)
+      by (inl none) = at c.table (all_one none v undoing) (area_disks c table geometry (simple_is_known c s) area same)
       by (inr (inl k)) = step k.0 k.1 k.2 (step_of k.0 k.1 k.2 v undoing)
       by (inr (inr k)) = fork_disks c table geometry room s k.0 k.1 k.2 k.3 v area undoing same
+
+  -- an image that speaks of no fork is as it was, and as hidden
+  abbrev pub SpeaksNoFork : Name → Type 0
+  SpeaksNoFork n = (disk base twin : List ℕ) → making c.table ≡ Clone disk base twin ∷ [] → is_apart (forked disk base twin) n ≡ true
+
+  pub undoing_images : (v : VolumeTable) (area : ℕ → List ℕ) → IsUndoing c.table v → IsSameArea c area → (n : Name) → SpeaksNoFork n → image_of (with_table c v area) n ≡ image_of c n
+  undoing_images v area undoing same n apart = by either
+    where
+      at : (x : VolumeTable) → v ≡ x → image_of (with_table c x area) n ≡ image_of c n → image_of (with_table c v area) n ≡ image_of c n
+      at x is shown = ap (λ y. image_of (with_table c y area) n) is ∙ shown
+
+      still : image_of (with_table c c.table area) n ≡ image_of c n
+      still = area_images c table geometry (simple_is_known c s) area same n
+
+      step : (u : List ℕ) (extents : ℕ) (w : IsBeingEnlarged c.table u extents) → IsStep u extents w v → image_of (with_table c v area) n ≡ image_of c n
+      step u extents w (inl is) = at c.table is still
+      step u extents w (inr (inl is)) =
+          let cut = cut_table c.table u extents w in
+          at cut is
+          (images_enlarging (before_it c u extents w table geometry room) (with_table c cut area) u extents (between_enlarging c u extents w table geometry room cut area (between_cut c u extents w table geometry room) same) n
+          ∙ sym (images_enlarging (before_it c u extents w table geometry room) c u extents (now c u extents w table geometry room) n))
+      step u extents w (inr (inr is)) = at (undone c.table) is (images_undone_at (with_table c c.table area) u extents w table geometry room (undone c.table).sequence n ∙ still)
+
+      by : (making c.table ≡ []) ⊎ (((u : List ℕ) × (extents : ℕ) × IsBeingEnlarged c.table u extents) ⊎ IsBeingForked c.table) → image_of (with_table c v area) n ≡ image_of c n
+      by (inl none) = at c.table (all_one none v undoing) still
+      by (inr (inl k)) = step k.0 k.1 k.2 (step_of k.0 k.1 k.2 v undoing)
+      by (inr (inr (disk, base, twin, entry))) =
+          let part = fork_parts c table geometry room s disk base twin entry v undoing in
+          images_apart c disk base twin (n_of c table geometry room s disk base twin entry) table geometry room entry s (its_stage c table geometry room s disk base twin entry) v part.0 part.1 part.2 area same n
+          (apart disk base twin entry)
+
+  pub undoing_hidden : (v : VolumeTable) → IsUndoing c.table v → (n : Name) → is_making n ≡ false → SpeaksNoFork n → is_hidden v n ≡ is_hidden c.table n
+  undoing_hidden v undoing n no_entry apart = by either
+    where
+      enlarged : (u : List ℕ) (extents : ℕ) (w : IsBeingEnlarged c.table u extents) (x : VolumeTable) → IsBetween c u extents w table geometry room x → is_hidden x n ≡ is_hidden (undone c.table) n
+      enlarged u extents w x between =
+          hidden_alike (outline (before_it c u extents w table geometry room)) x u extents (between_enlarging c u extents w table geometry room x c.area between (λ p below. refl)).table n
+          (λ is. true≢false (sym (ap is_making is) ∙ no_entry))
+
+      step : (u : List ℕ) (extents : ℕ) (w : IsBeingEnlarged c.table u extents) → IsStep u extents w v → is_hidden v n ≡ is_hidden c.table n
+      step u extents w (inl is) = ap (λ x. is_hidden x n) is
+      step u extents w (inr (inl is)) =
+          ap (λ x. is_hidden x n) is ∙ enlarged u extents w (cut_table c.table u extents w) (between_cut c u extents w table geometry room) ∙ sym (enlarged u extents w c.table (between_now c u extents w table geometry room))
+      step u extents w (inr (inr is)) = ap (λ x. is_hidden x n) is ∙ sym (enlarged u extents w c.table (between_now c u extents w table geometry room))
+
+      by : (making c.table ≡ []) ⊎ (((u : List ℕ) × (extents : ℕ) × IsBeingEnlarged c.table u extents) ⊎ IsBeingForked c.table) → is_hidden v n ≡ is_hidden c.table n
+      by (inl none) = ap (λ x. is_hidden x n) (all_one none v undoing)
+      by (inr (inl k)) = step k.0 k.1 k.2 (step_of k.0 k.1 k.2 v undoing)
+      by (inr (inr (disk, base, twin, entry))) =
+          let part = fork_parts c table geometry room s disk base twin entry v undoing in
+          ap (of_row (λ r. r.hidden && not r.fresh)) (part.2.apart n (apart disk base twin entry))

@@ -285,16 +285,13 @@ first_fault c = fault_of (outline c)
 
 -- ---- what can't be repaired yet
 
--- an entry whose work an opening neither ends nor undoes: any but those of a fork and of an enlargement
+-- an entry whose work an opening neither ends nor undoes: that of the folding of a leaf
 abbrev pub is_entry_ahead : Name → Bool
-is_entry_ahead (Coalesce child parent) = true
-is_entry_ahead (Relink child parent) = true
 is_entry_ahead (Leaf leaf parent) = true
 is_entry_ahead _ = false
 
--- the checks of the program as it is built today: in front of the eighth the first entry of copying, linking and folding is
--- refused. So with the ninth each old leaf is, as it belongs to the entry of a leaf; and the twelfth looks at the entries of forks
--- alone
+-- the checks of the program as it is built today: in front of the eighth the first entry of the folding of a leaf is refused. So
+-- with the ninth each old leaf is, as it belongs to such an entry
 unfoldable pub entry_ahead_fault : Outline → Option Place
 entry_ahead_fault o = placed at.Journal (first_name (λ r. is_entry_ahead r.name) o.table.volumes)
 

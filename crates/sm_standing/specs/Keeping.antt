@@ -24,8 +24,17 @@ HasNoEmptySlot c = (u : List ℕ) (i : Image) → image_of c (Vhd u) ≡ Some i 
 abbrev pub IsHeldAlike : Image → Image → Type 0
 IsHeldAlike v p = (s : ℕ) (bytes : List ℕ) → v.own s ≡ Some bytes → p.own s ≡ Some bytes
 
+-- under the entry of a link the image's parent holds, with equal bytes, each sector that the image holds
+abbrev pub HasParentAlike : Content → Type 0
+HasParentAlike c = (child parent : List ℕ) (r : Row) (v p : Image) (n : Name) → row c (Relink child parent) ≡ Some r
+    → image_of c (Vhd child) ≡ Some v → v.parent ≡ Some n → image_of c n ≡ Some p → IsHeldAlike v p
+
+-- what no opening tests
+pub record HoldsWell (c : Content) : Type 0 where
+  pub holding : HasNoEmptySlot c
+  pub linking : HasParentAlike c
+
 pub record IsKept (c : Content) : Type 0 where
   pub sound : first_fault c ≡ None
   pub holding : HasNoEmptySlot c
-  pub linking : (child parent : List ℕ) (r : Row) (v p : Image) (n : Name) → row c (Relink child parent) ≡ Some r
-      → image_of c (Vhd child) ≡ Some v → v.parent ≡ Some n → image_of c n ≡ Some p → IsHeldAlike v p
+  pub linking : HasParentAlike c

@@ -22,3 +22,4 @@ pub mod Besides
 pub mod Undone
 pub mod Forks
 pub mod Swaps
+pub mod Unfolded

@@ -1,10 +1,10 @@
 -- A repository in which nothing is under way: its volumes are the volume of records and VHD and raw images, visible and hidden
 -- ones, new ones among them. None is an old leaf, and there is no journal entry. Also one in which at most images are being
--- enlarged, or in which a disk is being forked.
+-- enlarged, or in which a disk is being forked; and one in which an image is being folded into its parent besides.
 use Rattle.std.specs.Prelude.{◌≡◌, Bool, true, false}
 use Rattle.std.specs.List.{AllByRecursion}
 use Rattle.sm_base.specs.declared.names.Name.{Name}
-use Rattle.sm_base.specs.declared.names.Name.TheVariants.{Mgt, Vhd, Raw, Clone, Inflate}
+use Rattle.sm_base.specs.declared.names.Name.TheVariants.{Mgt, Vhd, Raw, Clone, Inflate, Coalesce, Relink}
 use Rattle.vg_meta.specs.Tables.{Row, VolumeTable}
 
 abbrev pub is_plain_name : Name → Bool
@@ -33,3 +33,15 @@ is_simple r = is_simple_name r.name
 
 abbrev pub IsSimple : VolumeTable → Type 0
 IsSimple t = AllByRecursion (λ r. is_simple r ≡ true) t.volumes
+
+-- a simple volume, or the entry of a copy, or of children that are being linked
+abbrev pub is_known_name : Name → Bool
+is_known_name (Coalesce child parent) = true
+is_known_name (Relink child parent) = true
+is_known_name n = is_simple_name n
+
+abbrev pub is_known : Row → Bool
+is_known r = is_known_name r.name
+
+abbrev pub IsKnown : VolumeTable → Type 0
+IsKnown t = AllByRecursion (λ r. is_known r ≡ true) t.volumes

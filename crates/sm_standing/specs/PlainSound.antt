@@ -1,5 +1,5 @@
 -- When a repository in which nothing is under way is sound, fact by fact; and one in which an image is being enlarged, or a disk
--- is being forked.
+-- is being forked; and one in which an image is being folded into its parent besides.
 use Rattle.std.specs.Prelude.{◌≡◌, ℕ, ◌<◌, ◌≤◌, true, false, List, length, Some, None}
 use Rattle.std.specs.List.{filter}
 use Rattle.sm_base.specs.declared.names.Name.{Name}
@@ -8,10 +8,10 @@ use Rattle.vg_layout.specs.Places.{record_extents}
 use Rattle.vg_meta.specs.Tables.{Row}
 use Rattle.common_laws.specs.Lists.{In}
 use Rattle.sm_machine.specs.Shapes.{image_limit}
-use Rattle.sm_standing.specs.Plain.{IsPlain, IsSimple}
+use Rattle.sm_standing.specs.Plain.{IsKnown, IsPlain, IsSimple}
 use Rattle.sm_standing.specs.Contents.{Content, row, reading_at, record_count, records, is_record_of}
 use Rattle.sm_standing.specs.Checks.{images, is_misnamed, is_lost, is_invalid, is_tree_wrong, is_entry_linked, is_damaged}
-use Rattle.sm_standing.specs.Entries.{making, second}
+use Rattle.sm_standing.specs.Entries.{folding, making, second}
 use Rattle.sm_standing.specs.Outlines.{outline}
 use Rattle.sm_standing.specs.Standing.{standing_volume}
 
@@ -34,6 +34,22 @@ pub record SimpleSound (c : Content) : Type 0 where
   pub records_extents : length records_row.extents ≡ record_extents c.extent
   pub few_images : length (images c.table) ≤ image_limit
   pub named : (r : Row) → In r c.table.volumes → is_misnamed c.table r ≡ false
+  pub one_entry : second (making c.table) ≡ None
+  pub at_stage : (r : Row) → In r c.table.volumes → is_lost c.table r ≡ false
+  pub valid : (r : Row) → In r c.table.volumes → is_invalid (outline c) r ≡ false
+  pub placed : (r : Row) → In r c.table.volumes → is_tree_wrong (outline c) r ≡ false
+  pub linked : (r : Row) → In r c.table.volumes → is_entry_linked (outline c) r.name ≡ true
+  pub right : (k : ℕ) → k < record_count → is_damaged (reading_at c k) ≡ false
+  pub recorded : (u : List ℕ) (n : Name) → standing_volume c.table u ≡ Some n → length (filter (is_record_of u) (records c)) ≡ 1
+
+pub record KnownSound (c : Content) : Type 0 where
+  pub known : IsKnown c.table
+  pub records_row : Row
+  pub records_there : row c Mgt ≡ Some records_row
+  pub records_extents : length records_row.extents ≡ record_extents c.extent
+  pub few_images : length (images c.table) ≤ image_limit
+  pub named : (r : Row) → In r c.table.volumes → is_misnamed c.table r ≡ false
+  pub one_folding : second (folding c.table) ≡ None
   pub one_entry : second (making c.table) ≡ None
   pub at_stage : (r : Row) → In r c.table.volumes → is_lost c.table r ≡ false
   pub valid : (r : Row) → In r c.table.volumes → is_invalid (outline c) r ≡ false

@@ -7,20 +7,21 @@
 //! sizes and its table, of each image the size and the parent, and what each record sector reads as. Sizes are in
 //! sectors of 512 bytes, room in extents.
 //!
-//! The definitions are in `specs/`: `Contents`, `Entries` (journal entries and their stages), `Images`
-//! (an image, a turn, what is read), `Answering` (the same without a bound), `Standing` (the disks), `Outlines`
-//! (what the checks look at), `Checks` (the checks in their order), `Keeping` (kept), `Devices` (the same of a
-//! whole device), `Shapes` (the shape that a content spells), `Opened` (the shape that an opening makes),
-//! `Plain` and `PlainSound` (a repository in which nothing is under way), `Readings` (record sectors of two contents),
-//! `Changes` (an image that comes, goes, grows or moves), `Enlarging` (an image that is being enlarged), `Undone` (a table
-//! without an enlargement or a fork that was cut short), `Worlds` (what a change of the area leaves), `Forks` and `Swaps` (a content at any
-//! moment of a fork, or of a swap, beside the one from before).
+//! The definitions are in `specs/`: `Contents`, `Entries` (journal entries and their stages), `Images` (an image, a turn, what
+//! is read), `Answering` (the same without a bound), `Standing` (the disks), `Outlines` (what the checks look at), `Checks`
+//! (the checks in their order), `Keeping` (kept), `Devices` (the same of a whole device), `Shapes` (the shape that a content
+//! spells), `Opened` (the shape that an opening makes), `Plain` and `PlainSound` (a repository in which nothing is under way),
+//! `Readings` (record sectors of two contents), `Changes` (an image that comes, goes, grows or moves), `Enlarging` (an image
+//! that is being enlarged), `Undone` (a table without an enlargement or a fork that was cut short), `Unfolded` (a table without
+//! the entry of a copy or of a link), `Worlds` (what a change of the area leaves), `Forks` and `Swaps` (a content at any moment
+//! of a fork, or of a swap, beside the one from before).
 //!
 //! The laws are the contracts of functions that do nothing: of what is read through a chain (`chains`), of images in a
 //! content (`images`), of what a commit or a write leaves of each volume (`worlds`), of the list of disks (`listing`), of a
-//! repository in which nothing is under way, or an enlargement or a fork alone (`plain`), of outlines and the first check that fails
-//! (`faults`), of what a volume says under whatever name it stands (`volumes`), and of the moments of a fork (`forks`) and of a
-//! swap (`swaps`). That their hypotheses can be met is shown in the crate standing_examples.
+//! repository in which nothing is under way, or an enlargement or a fork alone (`plain`), or a copy or a link
+//! (`unfolding`), of outlines and the first check that fails (`faults`), of what a volume says under whatever name it
+//! stands (`volumes`), and of the moments of a fork (`forks`) and of a swap (`swaps`). That their hypotheses can be met is
+//! shown in the crate standing_examples.
 #![tactic(auto)]
 
 mod chains;
@@ -30,6 +31,7 @@ mod images;
 mod listing;
 mod plain;
 mod swaps;
+mod unfolding;
 mod volumes;
 mod worlds;
 
@@ -48,5 +50,6 @@ pub use listing::{
 };
 pub use plain::{law_plain_kept, law_today, law_undone};
 pub use swaps::law_swapping;
+pub use unfolding::{law_linking, law_unfolded};
 pub use volumes::{law_same_apart, law_same_volume, law_whole};
 pub use worlds::{law_commit, law_other_choices, law_other_volumes};

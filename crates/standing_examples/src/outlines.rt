@@ -1,17 +1,18 @@
 //! What a guest writes is no part of an outline; an image that is being enlarged, and a disk that is being forked, and either
-//! undone; and what today's checks pass.
+//! undone; children that are being linked, and the table without that; and what today's checks pass.
 
 ghost use Rattle.std.specs.Prelude.{◌≡◌, ◌∷◌, ◌<◌, ℕ, [], List, None, Some, false, take, true};
 ghost use Rattle.sm_base.specs.declared.faults.Place.TheVariants as at;
-ghost use Rattle.sm_base.specs.declared.names.Name.TheVariants.{Vhd, Raw, Old, Clone, Inflate, Relink};
+ghost use Rattle.sm_base.specs.declared.names.Name.TheVariants.{Vhd, Raw, Old, Clone, Inflate, Leaf, Relink};
 ghost use Rattle.sm_standing.specs.Besides.{IsBeside};
 ghost use Rattle.sm_standing.specs.Checks.{fault_of, fault_today_of, first_fault};
 ghost use Rattle.sm_standing.specs.Enlarging.{IsEnlarging};
 ghost use Rattle.sm_standing.specs.Outlines.{outline};
 ghost use Rattle.sm_standing.specs.Standing.{standing_volume};
 ghost use Rattle.sm_standing.specs.Undone.{IsBeingEnlarged, applied_all, undo_changes, undone, undone_from};
+ghost use Rattle.sm_standing.specs.Unfolded.{unfolded};
 ghost use Rattle.standing_examples.specs.SmallContents.{lone_raw, one, two, three, four, record_row, sized_row};
-ghost use Rattle.standing_examples.specs.SmallOutlines.{thin_outline, thin_table, enlarging_table, entries_table, old_table, mixed_outline, forking_table, forking_outline};
+ghost use Rattle.standing_examples.specs.SmallOutlines.{thin_outline, thin_table, enlarging_table, entries_table, old_table, mixed_outline, forking_table, forking_outline, linking_images, linking_outline, linking_table};
 
 /// A guest writes into a raw disk, behind the records: the outline is as it was, and so is the first fault.
 pub fn example_outline()
@@ -31,8 +32,8 @@ pub fn example_enlarging()
 
 /// A raw disk beside a VHD disk passes today's checks. So does a hidden VHD image beside it, and a VHD disk over the raw image where
 /// that is hidden; over a visible one it stops at the tree, and an old leaf stops at the image. The entry of an enlargement passes,
-/// a second one and one at no stage do not, and an entry of a link is named in front of these. The entry of a fork passes where the
-/// base is the only parent of its new images.
+/// a second one and one at no stage do not, and an entry of the folding of a leaf is named in front of these. The entry of a fork
+/// passes where the base is the only parent of its new images, and that of a link where the parent is no smaller than the image.
 pub fn example_today()
     ensures passes { fault_today_of (mixed_outline false false None) ≡ None }
     ensures hidden { fault_today_of (mixed_outline false true None) ≡ None }
@@ -42,9 +43,11 @@ pub fn example_today()
     ensures enlarging { fault_today_of (record thin_outline { table = enlarging_table }) ≡ None }
     ensures second { fault_today_of (record thin_outline { table = entries_table (Inflate one 1 ∷ Inflate one 2 ∷ []) }) ≡ Some (at.Journal (Inflate one 2)) }
     ensures lost { fault_today_of (record thin_outline { table = entries_table (Inflate one 4 ∷ []) }) ≡ Some (at.Journal (Inflate one 4)) }
-    ensures other { fault_today_of (record thin_outline { table = entries_table (Inflate one 1 ∷ Inflate one 2 ∷ Relink one two ∷ []) }) ≡ Some (at.Journal (Relink one two)) }
+    ensures other { fault_today_of (record thin_outline { table = entries_table (Inflate one 1 ∷ Inflate one 2 ∷ Leaf one two ∷ []) }) ≡ Some (at.Journal (Leaf one two)) }
     ensures fork { fault_today_of (forking_outline (Some (Vhd two))) ≡ None }
     ensures unlinked { fault_today_of (forking_outline None) ≡ Some (at.Journal (Clone one two three)) }
+    ensures link { fault_today_of (linking_outline 32) ≡ None }
+    ensures smaller { fault_today_of (linking_outline 24) ≡ Some (at.Journal (Relink two three)) }
 {}
 
 /// A thin disk of one extent got two more, and a stop came: it is cut to one extent, and the entry is removed. Where it got none
@@ -65,4 +68,11 @@ pub fn example_fork_undone()
     ensures base { undone_from forking_table (Vhd two) ≡ None }
     ensures twin { undone_from forking_table (Vhd three) ≡ None }
     ensures other { undone_from forking_table (Vhd four) ≡ Some (Vhd four) }
+{}
+
+/// The children of an image were being linked to its parent: without the entry the images are left. A table without such an entry
+/// stays as it is.
+pub fn example_unfolded()
+    ensures unfolded { unfolded linking_table ≡ record { sequence = 9; volumes = linking_images } }
+    ensures none { unfolded thin_table ≡ thin_table }
 {}

@@ -11,7 +11,7 @@ use Rattle.sm_recover.specs.Repairs.{IsOpeningStopped}
 use Rattle.sm_ready.specs.Stores.{content_now}
 use Rattle.lvhd_command.specs.Devices.{IsRefusedOn, site_on, plate_at}
 use Rattle.lvhd_command.specs.Devices.IsRefusedOn.{by_group}
-use Rattle.lvhd_command.proofs.OpenLaws.{StandsAlways, sound_entry, shown_entry, opened_entry, answer_as, refused_content, kept_back, shown_back, repaired_sized, always_sized, unless, unless_from, kept_slots, slots_entry}
+use Rattle.lvhd_command.proofs.OpenLaws.{StandsAlways, sound_entry, shown_entry, opened_entry, answer_as, refused_content, kept_back, shown_back, repaired_sized, always_sized, unless, unless_from, kept_well, well_entry}
 use Rattle.lvhd_command.proofs.UnsoundLaws.{beside_whole, beside_then, never_sound}
 use Rattle.lvhd_command.proofs.opening.open.Goals as goal
 
@@ -43,32 +43,32 @@ returns-in-Ok-begin-clause-shown g c = λ told holding.
     let e = c.in-Ok.ensures in
     let group = c.in-Ok.group in
     shown_entry (g.D.Disk.size c.args.disk) (g.D.Disk.held c.args.disk) (g.D.Disk.held group.disk) (site_on group.label (g.D.Disk.size group.disk)) (pointer group.header) (table_alone group.table) _
-    (e.area told) (e.stands told) (c.in-Ok-begin.ensures.disks told (slots_entry (g.D.Disk.size c.args.disk) (g.D.Disk.held c.args.disk) (g.D.Disk.held group.disk) (site_on group.label (g.D.Disk.size group.disk)) (pointer group.header) (table_alone group.table) (e.area told) (e.stands told) holding))
+    (e.area told) (e.stands told) (c.in-Ok-begin.ensures.disks told (well_entry (g.D.Disk.size c.args.disk) (g.D.Disk.held c.args.disk) (g.D.Disk.held group.disk) (site_on group.label (g.D.Disk.size group.disk)) (pointer group.header) (table_alone group.table) (e.area told) (e.stands told) holding))
 
 pub returns-in-Ok-begin-clause-opened : goal.returns-in-Ok-begin-clause-opened
 returns-in-Ok-begin-clause-opened g c = λ told holding.
     let e = c.in-Ok.ensures in
     let group = c.in-Ok.group in
     opened_entry (g.D.Disk.size c.args.disk) (g.D.Disk.held c.args.disk) (g.D.Disk.held group.disk) (site_on group.label (g.D.Disk.size group.disk)) (pointer group.header) (table_alone group.table) _
-    (e.area told) (e.stands told) (c.in-Ok-begin.ensures.opened told (slots_entry (g.D.Disk.size c.args.disk) (g.D.Disk.held c.args.disk) (g.D.Disk.held group.disk) (site_on group.label (g.D.Disk.size group.disk)) (pointer group.header) (table_alone group.table) (e.area told) (e.stands told) holding))
+    (e.area told) (e.stands told) (c.in-Ok-begin.ensures.opened told (well_entry (g.D.Disk.size c.args.disk) (g.D.Disk.held c.args.disk) (g.D.Disk.held group.disk) (site_on group.label (g.D.Disk.size group.disk)) (pointer group.header) (table_alone group.table) (e.area told) (e.stands told) holding))
 
 pub returns-in-Ok-begin-clause-ready : goal.returns-in-Ok-begin-clause-ready
 returns-in-Ok-begin-clause-ready g c = λ told holding.
     let e = c.in-Ok.ensures in
     let group = c.in-Ok.group in
-    c.in-Ok-begin.ensures.ready told (slots_entry (g.D.Disk.size c.args.disk) (g.D.Disk.held c.args.disk) (g.D.Disk.held group.disk) (site_on group.label (g.D.Disk.size group.disk)) (pointer group.header) (table_alone group.table) (e.area told) (e.stands told) holding)
+    c.in-Ok-begin.ensures.ready told (well_entry (g.D.Disk.size c.args.disk) (g.D.Disk.held c.args.disk) (g.D.Disk.held group.disk) (site_on group.label (g.D.Disk.size group.disk)) (pointer group.header) (table_alone group.table) (e.area told) (e.stands told) holding)
 
 pub returns-in-Ok-begin-clause-kept : goal.returns-in-Ok-begin-clause-kept
 returns-in-Ok-begin-clause-kept g c = λ told holding.
     let e = c.in-Ok.ensures in
     let group = c.in-Ok.group in
-    c.in-Ok-begin.ensures.kept told (slots_entry (g.D.Disk.size c.args.disk) (g.D.Disk.held c.args.disk) (g.D.Disk.held group.disk) (site_on group.label (g.D.Disk.size group.disk)) (pointer group.header) (table_alone group.table) (e.area told) (e.stands told) holding)
+    c.in-Ok-begin.ensures.kept told (well_entry (g.D.Disk.size c.args.disk) (g.D.Disk.held c.args.disk) (g.D.Disk.held group.disk) (site_on group.label (g.D.Disk.size group.disk)) (pointer group.header) (table_alone group.table) (e.area told) (e.stands told) holding)
 
 pub returns-in-Ok-begin-clause-begins : goal.returns-in-Ok-begin-clause-begins
 returns-in-Ok-begin-clause-begins g c = λ told holding.
     let e = c.in-Ok.ensures in
     let group = c.in-Ok.group in
-    c.in-Ok-begin.ensures.begins told (slots_entry (g.D.Disk.size c.args.disk) (g.D.Disk.held c.args.disk) (g.D.Disk.held group.disk) (site_on group.label (g.D.Disk.size group.disk)) (pointer group.header) (table_alone group.table) (e.area told) (e.stands told) holding)
+    c.in-Ok-begin.ensures.begins told (well_entry (g.D.Disk.size c.args.disk) (g.D.Disk.held c.args.disk) (g.D.Disk.held group.disk) (site_on group.label (g.D.Disk.size group.disk)) (pointer group.header) (table_alone group.table) (e.area told) (e.stands told) holding)
 
 pub returns-in-Err-begin-clause-size_back : goal.returns-in-Err-begin-clause-size_back
 returns-in-Err-begin-clause-size_back g c = ap g.D.Disk.size c.into_disk.ensures.disk ∙ ap (λ (s : Site). s.sectors) c.in-Err-begin.ensures.site_back ∙ c.in-Ok.ensures.size
@@ -84,7 +84,7 @@ returns-in-Err-begin-clause-refused g c =
 
 pub returns-in-Err-begin-clause-kept_back : goal.returns-in-Err-begin-clause-kept_back
 returns-in-Err-begin-clause-kept_back g c = λ told kept.
-    let holding = kept_slots (g.D.Disk.size c.args.disk) (g.D.Disk.held c.args.disk) kept in
+    let holding = kept_well (g.D.Disk.size c.args.disk) (g.D.Disk.held c.args.disk) kept in
     let e = c.in-Ok.ensures in
     let group = c.in-Ok.group in
     let back = c.in-Err-begin.group in
@@ -94,7 +94,7 @@ returns-in-Err-begin-clause-kept_back g c = λ told kept.
     let now : Site = site_on back.label (g.D.Disk.size back.disk) in
     let after : g.D.Disk.size d ≡ size = ap g.D.Disk.size c.into_disk.ensures.disk ∙ ap (λ (s : Site). s.sectors) c.in-Err-begin.ensures.site_back ∙ e.size in
     let left = repaired_sized size (g.D.Disk.size group.disk) (g.D.Disk.size d) (g.D.Disk.held group.disk) (g.D.Disk.held d) site now (table_alone group.table) e.size after
-    (slots_entry (g.D.Disk.size c.args.disk) (g.D.Disk.held c.args.disk) (g.D.Disk.held group.disk) (site_on group.label (g.D.Disk.size group.disk)) (pointer group.header) (table_alone group.table) (e.area told) (e.stands told) holding)
+    (well_entry (g.D.Disk.size c.args.disk) (g.D.Disk.held c.args.disk) (g.D.Disk.held group.disk) (site_on group.label (g.D.Disk.size group.disk)) (pointer group.header) (table_alone group.table) (e.area told) (e.stands told) holding)
     (λ t image l. c.in-Err-begin.ensures.crash_back told t image (subst (λ x. LeavesGroup (g.D.Disk.size x) (g.D.Disk.held x) (plate back.label) t image) c.into_disk.ensures.disk l)) in
     let always = always_sized size (g.D.Disk.size d) (g.D.Disk.held d) now after (c.into_disk.ensures.stands told) in
     kept_back size (g.D.Disk.held c.args.disk) (g.D.Disk.held group.disk) (g.D.Disk.held d) site now (table_alone group.table) c.in-Err-begin.ensures.site_back (e.keeps told) always left kept
@@ -110,7 +110,7 @@ returns-in-Err-begin-clause-shown_back g c = λ told holding.
     let now : Site = site_on back.label (g.D.Disk.size back.disk) in
     let after : g.D.Disk.size d ≡ size = ap g.D.Disk.size c.into_disk.ensures.disk ∙ ap (λ (s : Site). s.sectors) c.in-Err-begin.ensures.site_back ∙ e.size in
     let left = repaired_sized size (g.D.Disk.size group.disk) (g.D.Disk.size d) (g.D.Disk.held group.disk) (g.D.Disk.held d) site now (table_alone group.table) e.size after
-    (slots_entry (g.D.Disk.size c.args.disk) (g.D.Disk.held c.args.disk) (g.D.Disk.held group.disk) (site_on group.label (g.D.Disk.size group.disk)) (pointer group.header) (table_alone group.table) (e.area told) (e.stands told) holding)
+    (well_entry (g.D.Disk.size c.args.disk) (g.D.Disk.held c.args.disk) (g.D.Disk.held group.disk) (site_on group.label (g.D.Disk.size group.disk)) (pointer group.header) (table_alone group.table) (e.area told) (e.stands told) holding)
     (λ t image l. c.in-Err-begin.ensures.crash_back told t image (subst (λ x. LeavesGroup (g.D.Disk.size x) (g.D.Disk.held x) (plate back.label) t image) c.into_disk.ensures.disk l)) in
     let always = always_sized size (g.D.Disk.size d) (g.D.Disk.held d) now after (c.into_disk.ensures.stands told) in
     shown_back size (g.D.Disk.held c.args.disk) (g.D.Disk.held group.disk) (g.D.Disk.held d) site now (pointer group.header) (table_alone group.table) c.in-Err-begin.ensures.site_back (e.keeps told) (e.area told)

@@ -8,7 +8,7 @@ use Rattle.sm_ready.specs.Known.{known}
 use Rattle.sm_ready.proofs.StrayLaws.{law_state}
 use Rattle.lvhd_command.specs.Devices.{plate_at, site_on}
 use Rattle.lvhd_command.specs.Running.{RunSides, IsGivenBack}
-use Rattle.lvhd_command.proofs.OpenLaws.{kept_slots}
+use Rattle.lvhd_command.proofs.OpenLaws.{kept_well}
 use Rattle.lvhd_command.proofs.RunLaws.{IsOneTable, has_run_sized, back_itself, ok_not_err, ends_done, ends_early, said_refused, has_stayed, stayed_poor, kept_off, left_of, done_not_kept_off}
 use Rattle.lvhd_command.proofs.ExactLaws.{never_so, never_poor, sound_or_refused}
 use Rattle.lvhd_command.proofs.UnsoundLaws.{beside_whole, beside_then, beside_last}
@@ -29,7 +29,7 @@ returns-in-Err-clause-did g c = λ told kept.
       source = refl;
       said = said_refused s c.in-Err.fault c.refuse.result g.D.Disk.told _ _ _ _ told c.in-Err.ensures.refused c.refuse.ensures;
       kept = c.in-Err.ensures.kept_back told kept;
-      shown = c.in-Err.ensures.shown_back told (kept_slots (g.D.Disk.size c.args.disk) (g.D.Disk.held c.args.disk) kept);
+      shown = c.in-Err.ensures.shown_back told (kept_well (g.D.Disk.size c.args.disk) (g.D.Disk.held c.args.disk) kept);
       label = c.in-Err.ensures.label_back told;
       untouched = left_of (Keeps s.old s.new) c.in-Err.fault _ _ _ _ c.refuse.result c.refuse.ensures (c.in-Err.ensures.untouched told);
     })
@@ -51,7 +51,7 @@ returns-in-Ok-run-clause-did g c = λ told kept.
     let site : Site = site_on m.store.label n in
     let is_size : n ≡ s.size = ap (λ (x : Site). x.sectors) c.run.ensures.site ∙ e.size in
     let labelled = e.label told ∙ ap (λ (x : Site). Ok (plate_at x)) (sym c.run.ensures.site) in
-    let slots = kept_slots (g.D.Disk.size c.args.disk) (g.D.Disk.held c.args.disk) kept in
+    let slots = kept_well (g.D.Disk.size c.args.disk) (g.D.Disk.held c.args.disk) kept in
     let r = c.run.ensures.run told (e.whole, e.ready told slots) (e.kept told slots) (e.begins told slots) in
     let ready = r.ready (λ failed. ok_not_err c.run.result _ _ c.in-Ok-run.is failed) in
     inl (has_run_sized s c.close.result.0 n site (table_alone m.store.table) (g.D.Disk.held m.store.disk) _ _ c.run.result _ g.D.Disk.told m.store.failed is_size (e.sound told) (e.shown told slots) (e.opened told slots) r
@@ -76,7 +76,7 @@ returns-clause-did g c = λ told kept.
     let site : Site = site_on m.store.label n in
     let is_size : n ≡ s.size = ap (λ (x : Site). x.sectors) c.run.ensures.site ∙ e.size in
     let labelled = e.label told ∙ ap (λ (x : Site). Ok (plate_at x)) (sym c.run.ensures.site) in
-    let slots = kept_slots (g.D.Disk.size c.args.disk) (g.D.Disk.held c.args.disk) kept in
+    let slots = kept_well (g.D.Disk.size c.args.disk) (g.D.Disk.held c.args.disk) kept in
     let r = c.run.ensures.run told (e.whole, e.ready told slots) (e.kept told slots) (e.begins told slots) in
     let back = subst (λ d. IsGivenBack n site (g.D.Disk.held m.store.disk) (g.D.Disk.held d)) (sym c.leave.ensures.disk) (back_itself n site (g.D.Disk.held m.store.disk) (c.leave.ensures.stands told)) in
     inl (has_run_sized s c.status_of_fault.result n site (table_alone m.store.table) (g.D.Disk.held m.store.disk) _ _ c.run.result _ g.D.Disk.told m.store.failed is_size (e.sound told) (e.shown told slots) (e.opened told slots) r

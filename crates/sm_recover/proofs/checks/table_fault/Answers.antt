@@ -9,6 +9,6 @@ returns c = λ seen is.
     let second : too_many_fault seen ≡ None = sym (c.in_default-too_many_fault.ensures seen is.table) in
     let third : misnamed_fault seen ≡ None = sym (c.in_default-misnamed_fault.ensures seen is.table) in
     let fourth : entry_ahead_fault seen ≡ None = sym (c.in_default-entry_fault.ensures seen is.table) in
-    let fifth : second_entry_fault seen ≡ None = sym (c.in_default-second_fault.ensures seen is.table fourth) in
+    let fifth : second_entry_fault seen ≡ None = sym (c.in_default-second_fault.ensures seen is.table) in
     let sixth : lost_entry_fault seen ≡ None = sym (c.in_default-lost_fault.ensures seen is.table fourth) in
     c.old_fault.ensures seen is.table fourth ∙ sym (last_of _ first second third fourth fifth sixth)

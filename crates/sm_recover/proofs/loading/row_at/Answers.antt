@@ -7,6 +7,7 @@ use Rattle.vg_volumes.specs.Stored.{sectors_in, stored}
 use Rattle.sm_machine.specs.WellFormed.{is_image_name}
 use Rattle.sm_standing.specs.Entries.{making}
 use Rattle.sm_recover.specs.Loaded.{FailsAt, IsFilledImage, IsRow, as_read, stored_read}
+use Rattle.sm_recover.proofs.EntryLaws.{staged_end}
 use Rattle.sm_recover.proofs.OpeningLaws.{if_err}
 use Rattle.sm_recover.proofs.ReadLaws.{many, many_is, row_fails, row_few, row_in, row_is, row_named, row_read, row_size, row_some}
 use Rattle.sm_recover.proofs.TableLaws.{read_some, read_within}
@@ -32,7 +33,7 @@ image_in-requires-clause-some g c =
     let there = row_in k c.requires.checked c.table.ensures.table c.volumes.ensures.volumes c.requires.within c.index-volumes-index.is in
     let is : c.extents_read-extents.result ≡ many g.S.Store c.args.store.now r c.requires.checked there image =
     many_is c.extents_read-extents.ensures c.table-2.ensures.table c.name-name.ensures.name c.extents.ensures.extents in
-    omega (arith, is, read_some c.requires.checked r there some)
+    omega (arith, is, read_some (staged_end c.requires.checked) r there some)
 
 pub image_in-requires-clause-within : goal.image_in-requires-clause-within
 image_in-requires-clause-within g c =
@@ -43,7 +44,7 @@ image_in-requires-clause-within g c =
     let size = row_size k c.requires.checked c.table.ensures.table c.volumes.ensures.volumes c.requires.within c.index-volumes-index.is in
     let is : c.extents_read-extents.result ≡ many g.S.Store c.args.store.now r c.requires.checked there image =
     many_is c.extents_read-extents.ensures c.table-2.ensures.table c.name-name.ensures.name c.extents.ensures.extents in
-    let less = mul-le-mul_right (g.S.Store.site c.args.store.now).geometry.extent (read_within c.requires.checked r there) in
+    let less = mul-le-mul_right (g.S.Store.site c.args.store.now).geometry.extent (read_within (staged_end c.requires.checked) r there) in
     subst (λ n. c.extents_read-extents.result * (g.S.Store.site c.args.store.now).geometry.extent ≤ sectors_in (stored g.S.Store c.args.store.now) n) (sym c.name-name.ensures.name)
     (omega (arith, size, less, ap (λ (n : ℕ). n * (g.S.Store.site c.args.store.now).geometry.extent) is))
 

@@ -5,6 +5,7 @@ use Rattle.sm_standing.specs.Outlines.{outline}
 use Rattle.sm_ready.specs.Stores.{content_now}
 use Rattle.sm_recover.specs.Repairs.{IsOpeningStopped}
 use Rattle.sm_recover.proofs.OpeningLaws.{has_table, if_err, none_ahead_of, not_read, today_links, today_table, today_trees}
+use Rattle.sm_recover.proofs.EntryLaws.{staged_end}
 use Rattle.sm_recover.proofs.SeenLaws.{all_valid, children_counted, links_now, volumes_seen}
 use Rattle.sm_recover.proofs.opening.checked_images.Goals as goal
 
@@ -31,10 +32,10 @@ returns-in-Some-tree_fault-clause-cause g c = λ told.
     let x = outline (content_now s t area) in
     let has = has_table s t (reads area) in
     let k = c.in_ok-tree.ensures in
-    let links = links_now g.S.Store c.args.store.now c.in_default.ensures.checked c.in_ok-tree.tree.rows k.each k.rows told in
+    let links = links_now g.S.Store c.args.store.now (staged_end c.in_default.ensures.checked) c.in_ok-tree.tree.rows k.each k.rows told in
     let same : t ≡ table_alone c.table.result.now = sym (ap table_alone c.table.ensures.table ∙ c.load.ensures.reads.stays.table) in
-    today_trees x c.in-Some-tree_fault.place (c.in_default.ensures.says x has) (all_valid g.S.Store c.args.store.now c.in_default.ensures.checked c.in_ok-tree.tree.rows k.each x has links)
-    (sym (c.in-Some-tree_fault.ensures x same links (children_counted g.S.Store c.args.store.now c.in_default.ensures.checked c.in_ok-tree.tree.rows k.each k.rows x refl links)))
+    today_trees x c.in-Some-tree_fault.place (c.in_default.ensures.says x has) (all_valid g.S.Store c.args.store.now (staged_end c.in_default.ensures.checked) c.in_ok-tree.tree.rows k.each x has links)
+    (sym (c.in-Some-tree_fault.ensures x same links (children_counted g.S.Store c.args.store.now (staged_end c.in_default.ensures.checked) c.in_ok-tree.tree.rows k.each k.rows x refl links)))
 
 pub returns-in-Some-link_fault-clause-cause : goal.returns-in-Some-link_fault-clause-cause
 returns-in-Some-link_fault-clause-cause g c = λ told.
@@ -44,24 +45,24 @@ returns-in-Some-link_fault-clause-cause g c = λ told.
     let x = outline (content_now s t area) in
     let has = has_table s t (reads area) in
     let k = c.in_ok-tree.ensures in
-    let u = c.in_default.ensures.checked in
+    let u = staged_end c.in_default.ensures.checked in
     let xs = c.in_ok-tree.tree.rows in
     let links = links_now g.S.Store c.args.store.now u xs k.each k.rows told in
     let kept = c.load.ensures.reads.stays.table in
     today_links x c.in-Some-link_fault.place (c.in_default.ensures.says x has) (all_valid g.S.Store c.args.store.now u xs k.each x has links)
     (sym (c.in_default-tree_fault.ensures x (sym (ap table_alone c.table.ensures.table ∙ kept)) links (children_counted g.S.Store c.args.store.now u xs k.each k.rows x refl links)))
     (sym (c.in-Some-link_fault.ensures x (sym (ap table_alone c.table-2.ensures.table ∙ kept)) (none_ahead_of x (c.in_default.ensures.says x has)) links
-    (volumes_seen g.S.Store c.args.store.now u xs k.each k.rows x refl)))
+    (volumes_seen g.S.Store c.args.store.now u xs k.each k.rows x refl) (children_counted g.S.Store c.args.store.now u xs k.each k.rows x refl links)))
 
 pub returns-clause-passed : goal.returns-clause-passed
 returns-clause-passed g c = λ x has links.
     let k = c.in_ok-tree.ensures in
-    let u = c.in_default.ensures.checked in
+    let u = staged_end c.in_default.ensures.checked in
     let xs = c.in_ok-tree.tree.rows in
     let kept = c.load.ensures.reads.stays.table in
     record {
       valid = all_valid g.S.Store c.args.store.now u xs k.each x has links;
       placed = sym (c.in_default-tree_fault.ensures x (has.table ∙ sym (ap table_alone c.table.ensures.table ∙ kept)) links (children_counted g.S.Store c.args.store.now u xs k.each k.rows x has.table links));
       linked = sym (c.in_default-link_fault.ensures x (has.table ∙ sym (ap table_alone c.table-2.ensures.table ∙ kept)) (none_ahead_of x (c.in_default.ensures.says x has)) links
-          (volumes_seen g.S.Store c.args.store.now u xs k.each k.rows x has.table));
+          (volumes_seen g.S.Store c.args.store.now u xs k.each k.rows x has.table) (children_counted g.S.Store c.args.store.now u xs k.each k.rows x has.table links));
     }

@@ -1,4 +1,4 @@
-use Rattle.std.proofs.Common.{◌≡◌, true, None, Ok, refl, sym, ap, ◌∙◌, subst}
+use Rattle.std.proofs.Common.{◌≡◌, ◌⊎◌, ⊎_elim, inl, inr, true, None, Ok, refl, sym, ap, ◌∙◌, subst}
 use Rattle.std.proofs.lemmas.Bool.{true≢false}
 use Rattle.std.proofs.lemmas.Result.{err_from_is_err_and}
 use Rattle.vg_meta.specs.Roomy.{table_alone}
@@ -10,20 +10,23 @@ use Rattle.sm_machine.specs.Runs.{is_accepted, is_settling, takes_memory}
 use Rattle.sm_machine.specs.Steps.{is_built, reply_to}
 use Rattle.sm_machine.specs.declared.commands.Command.TheVariants as command
 use Rattle.sm_listing.proofs.ListLaws.{step_after}
+use Rattle.sm_listing.proofs.StatSteps.{stat_after, stat_reply}
 use Rattle.sm_ready.specs.Does.{ShapesAs, StoreDoes, store_shape}
 use Rattle.sm_ready.specs.Frames.{HasCommits}
-use Rattle.sm_ready.specs.Known.{shape_in}
+use Rattle.sm_ready.specs.Known.{known, shape_in}
+use Rattle.sm_ready.specs.Orderly.{IsOrderly}
+use Rattle.sm_ready.specs.Ready.{IsTidy}
 use Rattle.sm_ready.specs.Sessions.{store_state}
 use Rattle.sm_ready.specs.Taken.{StoreTakes, StoreTakesWhole}
 use Rattle.sm_ready.proofs.DoesLaws.{does_err, does_ok}
 use Rattle.sm_ready.proofs.TakenLaws.{is_told, taken_answered, taken_built}
 use Rattle.sm_session.specs.Carrying.{most_commits}
-use Rattle.sm_session.proofs.CarryLaws.{nothing_given_up, of_reply, others_guests}
+use Rattle.sm_session.proofs.CarryLaws.{is_on, nothing_given_up, of_reply, others_guests}
 use Rattle.sm_session.proofs.taking.carry_out.Goals as goal
 
 pub delete-requires-clause-kept_up : goal.delete-requires-clause-kept_up
 unfolding shape_in
-delete-requires-clause-kept_up g c = nothing_given_up (store_shape g.S.Store c.args.store.now c.args.memory.now) (command.Delete c.in-Delete.disk) c.requires.idle
+delete-requires-clause-kept_up g c = nothing_given_up (store_shape g.S.Store c.args.store.now c.args.memory.now) (command.Delete c.in-Delete.disk) c.requires.no_fold
 
 pub returns-in_err-delete-in-Delete-clause-taken : goal.returns-in_err-delete-in-Delete-clause-taken
 unfolding is_built
@@ -43,9 +46,9 @@ unfolding is_accepted
 returns-in_ok-delete-in-Delete-clause-untouched g c = λ e. absurd (true≢false e)
 
 pub returns-in_ok-delete-in-Delete-clause-taken : goal.returns-in_ok-delete-in-Delete-clause-taken
-unfolding reply_to
+unfolding is_built reply_to
 returns-in_ok-delete-in-Delete-clause-taken g c = λ told ready.
-    does_ok (is_told g.S.Store c.args.store.now c.args.memory.now c.requires.orderly c.requires.usable told ready (g.met.S.Store.leaves_now c.args.store.now told c.requires.usable)) c.args.command.now c.delete.new.memory c.requires.built c.requires.allowed
+    does_ok (is_told g.S.Store c.args.store.now c.args.memory.now c.requires.orderly c.requires.usable told ready (g.met.S.Store.leaves_now c.args.store.now told c.requires.usable)) c.args.command.now c.delete.new.memory (is_on _ c.in-Delete.is refl) c.requires.allowed
     (subst (λ k. StoreDoes g.S.Store k c.args.store.now c.args.memory.now c.delete.new.store c.delete.new.memory (c.delete.result ≡ Ok tt)) (sym c.in-Delete.is) (c.delete.ensures.done told ready))
     _ (sym (ap (reply_to (store_state g.S.Store c.args.store.now c.args.memory.now).disks (store_state g.S.Store c.args.store.now c.args.memory.now).shape) c.in-Delete.is)) c.in_ok-delete-in-Delete.was c.delete.ensures.site
     (subst (λ k. ShapesAs g.S.Store k c.args.store.now c.args.memory.now c.delete.new.store c.delete.new.memory) (sym c.in-Delete.is) c.in_ok-delete-in-Delete.ensures.shape)
@@ -68,16 +71,17 @@ unfolding is_accepted
 returns-in_ok-label-in-Label-clause-untouched g c = λ e. absurd (true≢false e)
 
 pub returns-in_ok-label-in-Label-clause-taken : goal.returns-in_ok-label-in-Label-clause-taken
-unfolding reply_to
+unfolding is_built reply_to
 returns-in_ok-label-in-Label-clause-taken g c = λ told ready.
-    does_ok (is_told g.S.Store c.args.store.now c.args.memory.now c.requires.orderly c.requires.usable told ready (g.met.S.Store.leaves_now c.args.store.now told c.requires.usable)) c.args.command.now c.label.new.memory c.requires.built c.requires.allowed
+    does_ok (is_told g.S.Store c.args.store.now c.args.memory.now c.requires.orderly c.requires.usable told ready (g.met.S.Store.leaves_now c.args.store.now told c.requires.usable)) c.args.command.now c.label.new.memory (is_on _ c.in-Label.is refl) c.requires.allowed
     (subst (λ k. StoreDoes g.S.Store k c.args.store.now c.args.memory.now c.label.new.store c.label.new.memory (c.label.result ≡ Ok tt)) (sym c.in-Label.is) (c.label.ensures.done told ready))
     _ (sym (ap (reply_to (store_state g.S.Store c.args.store.now c.args.memory.now).disks (store_state g.S.Store c.args.store.now c.args.memory.now).shape) c.in-Label.is)) c.in_ok-label-in-Label.was c.label.ensures.stays.site
     (subst (λ k. ShapesAs g.S.Store k c.args.store.now c.args.memory.now c.label.new.store c.label.new.memory) (sym c.in-Label.is) c.in_ok-label-in-Label.ensures.shape)
 
 pub returns-else-raw-clause-taken : goal.returns-else-raw-clause-taken
+unfolding is_built
 returns-else-raw-clause-taken g c = λ told ready.
-    taken_built g.S.Store c.args.store.now c.create_vhd.new.store c.args.memory.now c.create_vhd.new.memory c.args.command.now c.create_vhd.result c.requires.built
+    taken_built g.S.Store c.args.store.now c.create_vhd.new.store c.args.memory.now c.create_vhd.new.memory c.args.command.now c.create_vhd.result (is_on _ c.in-Create.is refl)
     (subst (λ k. StoreTakesWhole g.S.Store k c.args.store.now c.args.memory.now c.create_vhd.new.store c.create_vhd.new.memory c.create_vhd.result)
     (sym (c.in-Create.is ∙ ap (λ b. command.Create c.in-Create.disk c.in-Create.size b c.in-Create.label) c.if-raw.false)) (c.create_vhd.ensures.taken told ready))
 
@@ -122,17 +126,18 @@ unfolding most_commits
 returns-in_ok-delete-in-Delete-clause-few_left g c = λ told t image l. subst (λ k. HasCommits (most_commits k) (table_alone (g.S.Store.table c.args.store.now)) t) (sym c.in-Delete.is) (c.delete.ensures.few_left told t image l)
 
 pub serve-requires-clause-guests : goal.serve-requires-clause-guests
-serve-requires-clause-guests g c = others_guests c.args.command.now c.requires.built c.in_default.not-Create c.in_default.not-Delete c.in_default.not-Label c.in_default.not-Resize c.in_default.not-Snapshot c.in_default.not-Clone c.in_default.not-List
+serve-requires-clause-guests g c = others_guests c.args.command.now c.in_default.not-Create c.in_default.not-Delete c.in_default.not-Label c.in_default.not-Resize c.in_default.not-Snapshot c.in_default.not-Clone c.in_default.not-List c.in_default.not-Stat c.in_default.not-Gc
 
 pub resize-requires-clause-kept_up : goal.resize-requires-clause-kept_up
 unfolding shape_in
-resize-requires-clause-kept_up g c = nothing_given_up (store_shape g.S.Store c.args.store.now c.args.memory.now) (command.Resize c.in-Resize.disk c.in-Resize.size) c.requires.idle
+resize-requires-clause-kept_up g c = nothing_given_up (store_shape g.S.Store c.args.store.now c.args.memory.now) (command.Resize c.in-Resize.disk c.in-Resize.size) c.requires.no_fold
 
 pub returns-in_err-bytes-in-Resize-clause-taken : goal.returns-in_err-bytes-in-Resize-clause-taken
+unfolding is_built
 returns-in_err-bytes-in-Resize-clause-taken g c = λ told ready.
     let e = err_from_is_err_and c.from_residual-in_err-bytes-in-Resize.result c.from_residual-in_err-bytes-in-Resize.ensures.1 in
     subst (λ r. StoreTakes g.S.Store c.args.command.now c.args.store.now c.args.memory.now c.resize.new.store c.resize.new.memory r) (sym e.1)
-    (does_err (is_told g.S.Store c.args.store.now c.args.memory.now c.requires.orderly c.requires.usable told ready (g.met.S.Store.leaves_now c.args.store.now told c.requires.usable)) c.args.command.now c.resize.new.memory c.requires.built c.requires.allowed (subst (λ k. StoreDoes g.S.Store k c.args.store.now c.args.memory.now c.resize.new.store c.resize.new.memory (IsOk c.resize.result)) (sym c.in-Resize.is) (c.resize.ensures.done told ready)) e.0)
+    (does_err (is_told g.S.Store c.args.store.now c.args.memory.now c.requires.orderly c.requires.usable told ready (g.met.S.Store.leaves_now c.args.store.now told c.requires.usable)) c.args.command.now c.resize.new.memory (is_on _ c.in-Resize.is refl) c.requires.allowed (subst (λ k. StoreDoes g.S.Store k c.args.store.now c.args.memory.now c.resize.new.store c.resize.new.memory (IsOk c.resize.result)) (sym c.in-Resize.is) (c.resize.ensures.done told ready)) e.0)
 
 pub returns-in_ok-bytes-in-Resize-clause-refused : goal.returns-in_ok-bytes-in-Resize-clause-refused
 unfolding is_accepted
@@ -143,9 +148,9 @@ unfolding is_accepted
 returns-in_ok-bytes-in-Resize-clause-untouched g c = λ e. absurd (true≢false e)
 
 pub returns-in_ok-bytes-in-Resize-clause-taken : goal.returns-in_ok-bytes-in-Resize-clause-taken
-unfolding reply_to shape_in
+unfolding is_built reply_to shape_in
 returns-in_ok-bytes-in-Resize-clause-taken g c = λ told ready.
-    does_ok (is_told g.S.Store c.args.store.now c.args.memory.now c.requires.orderly c.requires.usable told ready (g.met.S.Store.leaves_now c.args.store.now told c.requires.usable)) c.args.command.now c.resize.new.memory c.requires.built c.requires.allowed (subst (λ k. StoreDoes g.S.Store k c.args.store.now c.args.memory.now c.resize.new.store c.resize.new.memory (IsOk c.resize.result)) (sym c.in-Resize.is) (c.resize.ensures.done told ready))
+    does_ok (is_told g.S.Store c.args.store.now c.args.memory.now c.requires.orderly c.requires.usable told ready (g.met.S.Store.leaves_now c.args.store.now told c.requires.usable)) c.args.command.now c.resize.new.memory (is_on _ c.in-Resize.is refl) c.requires.allowed (subst (λ k. StoreDoes g.S.Store k c.args.store.now c.args.memory.now c.resize.new.store c.resize.new.memory (IsOk c.resize.result)) (sym c.in-Resize.is) (c.resize.ensures.done told ready))
     _ (ap Size c.in_ok-bytes-in-Resize.ensures.size ∙ sym (ap (reply_to (store_state g.S.Store c.args.store.now c.args.memory.now).disks (store_state g.S.Store c.args.store.now c.args.memory.now).shape) c.in-Resize.is)) (subst IsOk (sym c.in_ok-bytes-in-Resize.was) refl) c.resize.ensures.stays.site
     (subst (λ k. ShapesAs g.S.Store k c.args.store.now c.args.memory.now c.resize.new.store c.resize.new.memory) (sym c.in-Resize.is) c.in_ok-bytes-in-Resize.ensures.shape)
 
@@ -192,3 +197,32 @@ returns-in-Clone-clause-spared g c = of_reply (λ r. r ≡ No NoMemory → takes
 pub returns-in-Clone-clause-taken : goal.returns-in-Clone-clause-taken
 returns-in-Clone-clause-taken g c = λ told ready.
     subst (λ k. StoreTakes g.S.Store k c.args.store.now c.args.memory.now c.derive-in-Clone.new.store c.derive-in-Clone.new.memory c.derive-in-Clone.result) (sym c.in-Clone.is) (c.derive-in-Clone.ensures.taken told ready)
+
+pub returns-in-Stat-clause-spared : goal.returns-in-Stat-clause-spared
+unfolding takes_memory
+returns-in-Stat-clause-spared g c = λ e. subst (λ k. takes_memory k ≡ true) (sym c.in-Stat.is) refl
+
+pub returns-in-Stat-clause-taken : goal.returns-in-Stat-clause-taken
+unfolding is_settling shape_in
+returns-in-Stat-clause-taken g c = λ told ready.
+    let a = c.args.store.now in
+    let σ = store_state g.S.Store a c.args.memory.now in
+    let at = c.table.ensures.table in
+    let answered = subst (λ k. (c.stat.result ≡ No NoMemory) ⊎ (c.stat.result ≡ reply_to σ.disks (shape_in (g.S.Store.site a) (table_alone k) (known c.args.memory.now)) command.Stat)) at
+    (c.stat.ensures.answered (g.S.Store.site a) σ.disks (sym c.extents-extents.ensures.count) (subst (λ k. IsOrderly (g.S.Store.site a) (table_alone k) (known c.args.memory.now)) (sym at) c.requires.orderly)
+    (subst (λ k. IsTidy (table_alone k) (known c.args.memory.now)) (sym at) c.requires.tidy)) in
+    subst (λ k. StoreTakes g.S.Store k a c.args.memory.now a c.args.memory.now (Ok c.stat.result)) (sym c.in-Stat.is)
+    (taken_answered (is_told g.S.Store c.args.store.now c.args.memory.now c.requires.orderly c.requires.usable told ready (g.met.S.Store.leaves_now c.args.store.now told c.requires.usable)) _
+    (⊎_elim (λ poor. inl poor) (λ is. inr (is ∙ sym (stat_reply σ))) answered) (stat_after σ c.requires.orderly.table.sequence) refl)
+
+pub returns-in-Gc-clause-few : goal.returns-in-Gc-clause-few
+unfolding most_commits
+returns-in-Gc-clause-few g c = subst (λ k. HasCommits (most_commits k) (table_alone (g.S.Store.table c.args.store.now)) (table_alone (g.S.Store.table c.gc.new.store))) (sym c.in-Gc.is) c.gc.ensures.few
+
+pub returns-in-Gc-clause-few_left : goal.returns-in-Gc-clause-few_left
+unfolding most_commits
+returns-in-Gc-clause-few_left g c = λ told t image l. subst (λ k. HasCommits (most_commits k) (table_alone (g.S.Store.table c.args.store.now)) t) (sym c.in-Gc.is) (c.gc.ensures.few_left told t image l)
+
+pub returns-in-Gc-clause-spared : goal.returns-in-Gc-clause-spared
+unfolding takes_memory
+returns-in-Gc-clause-spared g c = of_reply (λ r. r ≡ No NoMemory → takes_memory c.args.command.now ≡ true) c.gc.result (λ r e. subst (λ k. takes_memory k ≡ true) (sym c.in-Gc.is) refl)

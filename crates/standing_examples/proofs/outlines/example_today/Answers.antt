@@ -54,3 +54,11 @@ returns-clause-fork c = refl
 pub returns-clause-unlinked : goal.returns-clause-unlinked
 unfolding fault_today_of record_volume_fault too_many_fault misnamed_fault entry_ahead_fault second_entry_fault lost_entry_fault old_leaf_fault invalid_fault tree_fault entry_link_fault is_entry_linked children chain_length record_fault disk_fault first_name outline_records standing_volume uuids in_order with_uuid row_of name_eq record_extents div_up is_base numbers is_at_stage image_with same_image
 returns-clause-unlinked c = refl
+
+pub returns-clause-link : goal.returns-clause-link
+unfolding fault_today_of record_volume_fault too_many_fault misnamed_fault entry_ahead_fault second_entry_fault lost_entry_fault old_leaf_fault invalid_fault tree_fault entry_link_fault is_entry_linked children chain_length record_fault disk_fault first_name outline_records standing_volume uuids in_order with_uuid row_of name_eq record_extents div_up is_base numbers is_at_stage image_with same_image
+returns-clause-link c = refl
+
+pub returns-clause-smaller : goal.returns-clause-smaller
+unfolding fault_today_of record_volume_fault too_many_fault misnamed_fault entry_ahead_fault second_entry_fault lost_entry_fault old_leaf_fault invalid_fault tree_fault entry_link_fault is_entry_linked children chain_length record_fault disk_fault first_name outline_records standing_volume uuids in_order with_uuid row_of name_eq record_extents div_up is_base numbers is_at_stage image_with same_image
+returns-clause-smaller c = refl

@@ -1,0 +1,392 @@
+-- The machine's shape where the collector's next step begins a copy: what the step says of the image and its parent, and that
+-- the two ways to the shape behind it agree: at once, and once the parent has its extents and the child's size.
+use Rattle.std.proofs.Common.{◌≡◌, ℕ, suc, ◌+◌, ◌-◌, ◌<◌, ◌≤◌, inl, inr, Bool, true, false, max, nat_lt, List, [], ◌∷◌, ◌++◌, length, map, Option, Some, None, refl, sym, ap, ap₂, ◌∙◌, subst, subst₂, arith}
+use Rattle.std.proofs.Math.Logic.{∥∥₁_elim}
+use Rattle.std.proofs.Props.{props}
+use Rattle.std.specs.List.{find}
+use Rattle.std.specs.Option.{option_map}
+use Rattle.std.proofs.lemmas.Bool.{eqb-true, leb-true, le-ltb, lt-ltb, true≢false}
+use Rattle.common_laws.specs.Lists.{In, when}
+use Rattle.common_laws.proofs.Lists.{Distinct-key, In-map, In-map_at, filter-In, find-some}
+use Rattle.sm_base.specs.declared.names.Name.{Name}
+use Rattle.sm_base.specs.declared.operations.Op.{Op}
+use Rattle.sm_base.specs.declared.operations.Op.TheVariants as op
+use Rattle.sm_base.specs.declared.operations.Plan.{Plan}
+use Rattle.sm_base.specs.declared.operations.Plan.TheVariants as plan
+use Rattle.sm_machine.specs.Collector.{Pair, blocked, collected, copy_or, count_either, enlarged, fits, is_garbage, is_loose, leaves, next_step, pairs, plan_copy, plan_idle, plan_running, relink_or, size_of, target}
+use Rattle.sm_machine.specs.Commits.{commits, extents_of, gives_up, growth_commits, is_given_up, own_commits, plan_commits}
+use Rattle.sm_machine.specs.Laws.{MayGrow}
+use Rattle.sm_machine.specs.Shapes.{ImageRow, Shape, children, find_image, free, image_uuid, is_image, is_parent, is_vhd, on_image, risen, same_image, thin_in, top}
+use Rattle.sm_machine.specs.Steps.{shape_after, shape_next}
+use Rattle.sm_machine.specs.WellFormed.{HasParent, IsOnlyChild, IsWellFormed}
+use Rattle.sm_machine.specs.declared.commands.Command.TheVariants.{Gc}
+use Rattle.sm_machine.proofs.Begins.{IsFoldable, chosen_pair}
+use Rattle.sm_machine.proofs.Changes.{find-map, when-key}
+use Rattle.sm_machine.proofs.Collects.{same_row}
+use Rattle.sm_machine.proofs.Debts.{found_row, is_itself, parent_apart}
+use Rattle.sm_machine.proofs.ImageNames.{other_image, same_image-refl}
+use Rattle.sm_ready.specs.Orderly.{IsRoomyFor}
+use Rattle.gc_coalesce.specs.Beginning.{CanEnter, entered, raised}
+
+-- ---- what the plan says
+
+-- the step begins a copy of this pair
+pub record IsPlanned (s : Shape) (v p : Name) (to : ℕ) : Type 0 where
+  pub pair : Pair
+  pub there : In pair (pairs s)
+  pub enough : fits s pair ≡ true
+  pub idle : s.op ≡ op.Idle
+  pub child : pair.child.name ≡ v
+  pub parent : pair.parent.name ≡ p
+  pub extents : target s pair ≡ to
+
+module _ (s : Shape) (v p : Name) (to : ℕ) where
+  not_blocked : (ps : List Pair) → blocked s ps ≡ plan.Begin v p to → ⊥
+  not_blocked [] e = cc
+  not_blocked (x ∷ xs) e = cc
+
+  not_copied : (d : Plan) (b : Option ℕ) → (d ≡ plan.Begin v p to → ⊥) → copy_or d b ≡ plan.Begin v p to → ⊥
+  not_copied d None none e = none e
+  not_copied d (Some b) none e = cc
+
+  not_copying : (n : Name) (cursor : ℕ) (is : List ImageRow) → plan_copy s n cursor is ≡ plan.Begin v p to → ⊥
+  not_copying n cursor [] e = cc
+  not_copying n cursor (i ∷ is) e = not_copied plan.Turn _ (λ f. (let x = f in cc)) e
+
+  not_linking : (is : List ImageRow) → relink_or is ≡ plan.Begin v p to → ⊥
+  not_linking [] e = cc
+  not_linking (i ∷ is) e = cc
+
+  by_rules : (g l : Option ImageRow) (q r : Option Pair) → find (fits s) (pairs s) ≡ q → s.op ≡ op.Idle
+      → elim g [ Some i ↦ plan.Remove i.name | None ↦ elim l [ Some i ↦ plan.Deflate i.name (thin_in s (top i.slots)) | None ↦ elim q [ Some x ↦ plan.Begin x.child.name x.parent.name (target s x) | None ↦ elim r [ Some x ↦ plan.Leaf x.child.name x.parent.name (target s x) | None ↦ blocked s (pairs s ++ leaves s) ] ] ] ]
+      ≡ plan.Begin v p to → IsPlanned s v p to
+  by_rules (Some i) l q r found o e = cc
+  by_rules None (Some i) q r found o e = cc
+  by_rules None None (Some x) r found o e =
+      let f = find-some (fits s) (pairs s) x found in
+      record {
+        pair = x;
+        there = f.0;
+        enough = f.1;
+        idle = o;
+        child = (let n : x.child.name ≡ v = cc in n);
+        parent = (let n : x.parent.name ≡ p = cc in n);
+        extents = (let n : target s x ≡ to = cc in n);
+      }
+  by_rules None None None (Some x) found o e = cc
+  by_rules None None None None found o e = absurd (not_blocked (pairs s ++ leaves s) e)
+
+  by_idle : s.op ≡ op.Idle → plan_idle s ≡ plan.Begin v p to → IsPlanned s v p to
+  unfolding plan_idle
+  by_idle o e = by_rules (find (is_garbage s) s.images) (find (is_loose s) s.images) (find (fits s) (pairs s)) (find (fits s) (leaves s)) refl o e
+
+  by_operation : (o : Op) → s.op ≡ o → plan_running s o ≡ plan.Begin v p to → IsPlanned s v p to
+  unfolding plan_running
+  by_operation op.Idle is e = by_idle is e
+  by_operation (op.Copy n q cursor) is e = absurd (not_copying n cursor _ e)
+  by_operation (op.Relink n q) is e = absurd (not_linking _ e)
+  by_operation (op.Leaf n q cursor) is e = absurd (not_copied plan.Swap _ (λ f. (let x = f in cc)) e)
+
+  pub planned : next_step s ≡ plan.Begin v p to → IsPlanned s v p to
+  unfolding next_step
+  planned e = by_operation s.op refl e
+
+-- ---- lists
+
+one_of : {A : Type 0} (xs : List A) (x y : A) → length xs ≡ 1 → In x xs → In y xs → x ≡ y
+one_of [] x y e h k = absurd h
+one_of (a ∷ []) x y e (inl q) (inl r) = q ∙ sym r
+one_of (a ∷ []) x y e (inl q) (inr k) = absurd k
+one_of (a ∷ []) x y e (inr h) k = absurd h
+one_of (a ∷ b ∷ xs) x y e h k = absurd (let l : suc (suc (length xs)) ≡ 1 = e in omega (arith, l))
+
+map_in : {A B : Type 0} (f g : A → B) (xs : List A) → ((x : A) → In x xs → f x ≡ g x) → map f xs ≡ map g xs
+map_in f g [] same = refl
+map_in f g (x ∷ xs) same = ap₂ (λ y ys. y ∷ ys) (same x (inl refl)) (map_in f g xs (λ y i. same y (inr i)))
+
+-- an image that is changed twice
+twice : (n : Name) (f g : ImageRow → ImageRow) → ((y : ImageRow) → (g y).name ≡ y.name) → (xs : List ImageRow) → on_image n f (on_image n g xs) ≡ on_image n (λ i. f (g i)) xs
+twice n f g same [] = refl
+twice n f g same (x ∷ xs) = ap₂ (λ y ys. y ∷ ys) (by (is_image n x) refl) (twice n f g same xs)
+  where
+    by : (b : Bool) → is_image n x ≡ b → when (is_image n (when b g x)) f (when b g x) ≡ when b (λ i. f (g i)) x
+    by true e = ap (λ c. when c f (g x)) (ap (λ m. same_image m n) (same x) ∙ e)
+    by false e = ap (λ c. when c f x) e
+
+abbrev size_by : Option ImageRow → ℕ
+size_by None = 0
+size_by (Some i) = i.size
+
+-- ---- where a step begins a copy
+
+module _ (s : Shape) (v p : Name) (to : ℕ) (x : ∥ IsWellFormed s ∥₁) (h : IsPlanned s v p to) where
+  abbrev child : ImageRow
+  child = h.pair.child
+
+  abbrev parent : ImageRow
+  parent = h.pair.parent
+
+  pub foldable : IsFoldable s true h.pair
+  foldable = chosen_pair s h.pair h.there
+
+  abbrev needed : ℕ
+  needed = thin_in s (max (top h.pair.parent.slots) (count_either h.pair.parent.slots h.pair.child.slots))
+
+  only_child : (i : ImageRow) → In i s.images → i.parent ≡ Some h.pair.parent.name → i ≡ h.pair.child
+  unfolding children
+  only_child i there e =
+      let one : length (children parent.name s.images) ≡ 1 = eqb-true _ _ foldable.one in
+      let own : same_image parent.name parent.name ≡ true = ∥∥₁_elim x (hlevel props) (λ w. is_itself s w parent foldable.parent_there) in
+      let is : (j : ImageRow) → j.parent ≡ Some parent.name → is_parent parent.name j.parent ≡ true = λ (j : ImageRow) (q : j.parent ≡ Some parent.name). ap (is_parent parent.name) q ∙ own in
+      one_of (children parent.name s.images) i child one
+      (filter-In (λ (j : ImageRow). is_parent parent.name j.parent) s.images i there (is i e))
+      (filter-In (λ (j : ImageRow). is_parent parent.name j.parent) s.images child foldable.child_there (is child foldable.link))
+
+  -- the extents that the parent is to have
+  to_vhd : is_vhd h.pair.parent.name ≡ true → to ≡ max h.pair.parent.extents needed
+  unfolding target
+  to_vhd e = sym h.extents ∙ ap (λ c. elim c as (λ _. ℕ) [ true ↦ max h.pair.parent.extents needed | false ↦ h.pair.parent.extents ]) e
+
+  to_raw : is_vhd h.pair.parent.name ≡ false → to ≡ h.pair.parent.extents
+  unfolding target
+  to_raw e = sym h.extents ∙ ap (λ c. elim c as (λ _. ℕ) [ true ↦ max h.pair.parent.extents needed | false ↦ h.pair.parent.extents ]) e
+
+  pub at_least : h.pair.parent.extents ≤ to
+  at_least = by (is_vhd parent.name) refl
+    where
+      by : (b : Bool) → is_vhd h.pair.parent.name ≡ b → h.pair.parent.extents ≤ to
+      by true e = omega (arith, to_vhd e)
+      by false e = omega (arith, to_raw e)
+
+  -- a parent that gains extents is a VHD image
+  pub grows_vhd : h.pair.parent.extents < to → is_vhd p ≡ true
+  grows_vhd less = ap is_vhd (sym h.parent) ∙ by (is_vhd parent.name) refl
+    where
+      by : (b : Bool) → is_vhd h.pair.parent.name ≡ b → b ≡ true
+      by true e = refl
+      by false e = absurd (omega (arith, less, to_raw e))
+
+  pub gains_free : to - h.pair.parent.extents ≤ free s
+  gains_free = omega (arith, leb-true (target s h.pair - parent.extents) (free s) h.enough, h.extents)
+
+  room : is_vhd h.pair.parent.name ≡ true → needed ≤ to
+  room e = omega (arith, to_vhd e)
+
+  -- no extents are wanting
+  pub can_enter : to ≤ h.pair.parent.extents → CanEnter s v p
+  can_enter most = subst₂ (CanEnter s) h.child h.parent (record {
+    child = child;
+    parent = parent;
+    child_there = foldable.child_there;
+    parent_there = foldable.parent_there;
+    child_named = refl;
+    parent_named = refl;
+    hidden = foldable.shown;
+    vhd = foldable.vhd;
+    linked = foldable.link;
+    only = only_child;
+    kind = foldable.kind;
+    room = λ e. omega (arith, room e, most);
+    idle = h.idle;
+  })
+
+  -- ---- once it has them
+
+  abbrev widen : ImageRow → ImageRow
+  widen i = record i { extents = to }
+
+  abbrev at : ImageRow → ImageRow
+  at y = when (is_image h.pair.parent.name y) widen y
+
+  abbrev wide : ℕ → Shape
+  wide k = record s { sequence = k; images = on_image h.pair.parent.name widen s.images }
+
+  child_same : at h.pair.child ≡ h.pair.child
+  child_same = ap (λ b. when b widen child) (other_image child.name parent.name (∥∥₁_elim x (hlevel props) (λ w. parent_apart s w child parent.name foldable.child_there foldable.link)))
+
+  parent_now : at h.pair.parent ≡ widen h.pair.parent
+  parent_now = ap (λ b. when b widen parent) (∥∥₁_elim x (hlevel props) (λ w. is_itself s w parent foldable.parent_there))
+
+  parent_key : (y : ImageRow) → (at y).parent ≡ y.parent
+  parent_key y = when-key (λ (i : ImageRow). i.parent) widen (λ i. refl) (is_image parent.name y) y
+
+  name_key : (y : ImageRow) → (at y).name ≡ y.name
+  name_key y = when-key (λ (i : ImageRow). i.name) widen (λ i. refl) (is_image parent.name y) y
+
+  pub can_enter_wide : (k : ℕ) → CanEnter (record s { sequence = k; images = on_image p (λ i. record i { extents = to }) s.images }) v p
+  can_enter_wide k = subst₂ (λ a b. CanEnter (record s { sequence = k; images = on_image b (λ i. record i { extents = to }) s.images }) a b) h.child h.parent (record {
+    child = child;
+    parent = widen parent;
+    child_there = subst (λ j. In j (map at s.images)) child_same (In-map_at at s.images child foldable.child_there);
+    parent_there = subst (λ j. In j (map at s.images)) parent_now (In-map_at at s.images parent foldable.parent_there);
+    child_named = refl;
+    parent_named = refl;
+    hidden = foldable.shown;
+    vhd = foldable.vhd;
+    linked = foldable.link;
+    only = λ i there e. (let y = In-map at s.images i there in
+        let is = only_child y.0 y.1 (sym (ap (λ (j : ImageRow). j.parent) y.2 ∙ parent_key y.0) ∙ e) in
+        y.2 ∙ ap at is ∙ child_same);
+    kind = foldable.kind;
+    room = room;
+    idle = h.idle;
+  })
+
+  -- ---- the shape behind the step
+
+  child_found : find_image h.pair.child.name s.images ≡ Some h.pair.child
+  child_found = ∥∥₁_elim x (hlevel props) (λ w. found_row s w child foldable.child_there)
+
+  child_size : size_of h.pair.child.name s ≡ h.pair.child.size
+  child_size = ap size_by child_found
+
+  child_size_wide : (k : ℕ) → size_of h.pair.child.name (wide k) ≡ h.pair.child.size
+  child_size_wide k = ap size_by (find-map (is_image child.name) at (λ y. ap (λ n. same_image n child.name) (name_key y)) s.images ∙ ap (option_map at) child_found ∙ ap Some child_same)
+
+  parent_extents : extents_of h.pair.parent.name s ≡ h.pair.parent.extents
+  parent_extents = ap (λ (o : Option ImageRow). elim o as (λ _. ℕ) [ None ↦ 0 | Some i ↦ i.extents ]) (∥∥₁_elim x (hlevel props) (λ w. found_row s w parent foldable.parent_there))
+
+  abbrev begun : ℕ → Shape
+  begun k = record s { sequence = k; images = enlarged h.pair.child.name h.pair.parent.name to s; op = op.Copy h.pair.child.name h.pair.parent.name 0 }
+
+  next_is : next_step s ≡ plan.Begin h.pair.child.name h.pair.parent.name to → shape_next s Gc ≡ begun (risen s.sequence (0 + (growth_commits (nat_lt (extents_of h.pair.parent.name s) to) + 1)))
+  unfolding shape_next shape_after commits own_commits plan_commits collected is_given_up gives_up
+  next_is e = ap (λ (q : Plan). let x : Shape = record (collected q s) { sequence = risen s.sequence (0 + plan_commits s q) } in x) e
+
+  commits_by : (b : Bool) → nat_lt h.pair.parent.extents to ≡ b → next_step s ≡ plan.Begin h.pair.child.name h.pair.parent.name to → shape_next s Gc ≡ begun (risen s.sequence (0 + (growth_commits b + 1)))
+  commits_by b is e = next_is e ∙ ap (λ c. begun (risen s.sequence (0 + (growth_commits c + 1)))) (ap (λ k. nat_lt k to) parent_extents ∙ is)
+
+  named_step : next_step s ≡ plan.Begin v p to → next_step s ≡ plan.Begin h.pair.child.name h.pair.parent.name to
+  named_step e = e ∙ ap₂ (λ a b. plan.Begin a b to) (sym h.child) (sym h.parent)
+
+  pub entered_next : to ≤ h.pair.parent.extents → next_step s ≡ plan.Begin v p to → entered v p s ≡ shape_next s Gc
+  entered_next most e =
+      let same : parent.extents ≡ to = omega (arith, most, at_least) in
+      sym (ap₂ (λ a b. entered a b s) h.child h.parent)
+      ∙ ap (λ (is : List ImageRow). let x : Shape = record s { sequence = risen s.sequence 1; images = is; op = op.Copy child.name parent.name 0 } in x) (map_in _ _ s.images (row_same same))
+      ∙ ap begun (omega arith)
+      ∙ sym (commits_by false (le-ltb parent.extents to most) (named_step e))
+    where
+      row_same : h.pair.parent.extents ≡ to → (y : ImageRow) → In y s.images
+          → when (is_image h.pair.parent.name y) (λ i. record i { size = size_of h.pair.child.name s }) y ≡ when (is_image h.pair.parent.name y) (λ i. record i { size = size_of h.pair.child.name s; extents = to }) y
+      row_same same y there = by (is_image parent.name y) refl
+        where
+          by : (b : Bool) → is_image h.pair.parent.name y ≡ b → when b (λ i. record i { size = size_of h.pair.child.name s }) y ≡ when b (λ i. record i { size = size_of h.pair.child.name s; extents = to }) y
+          by true is = ap (λ k. let x : ImageRow = record y { size = size_of h.pair.child.name s; extents = k } in x) (ap (λ (j : ImageRow). j.extents) (∥∥₁_elim x (hlevel props) (λ w. same_row s w parent y foldable.parent_there there is)) ∙ same)
+          by false is = refl
+
+  pub entered_next_wide : h.pair.parent.extents < to → next_step s ≡ plan.Begin v p to
+      → entered v p (record s { sequence = risen s.sequence 3; images = on_image p (λ i. record i { extents = to }) s.images }) ≡ shape_next s Gc
+  entered_next_wide less e =
+      sym (ap₂ (λ a b. entered a b (record s { sequence = risen s.sequence 3; images = on_image b (λ i. record i { extents = to }) s.images })) h.child h.parent)
+      ∙ ap₂ (λ (k : ℕ) (is : List ImageRow). let x : Shape = record s { sequence = k; images = is; op = op.Copy child.name parent.name 0 } in x) (omega arith)
+      (ap (λ k. on_image parent.name (λ i. record i { size = k }) (on_image parent.name widen s.images)) (child_size_wide (risen s.sequence 3) ∙ sym child_size) ∙ twice parent.name (λ i. record i { size = size_of child.name s }) widen (λ y. refl) s.images)
+      ∙ sym (commits_by true (lt-ltb parent.extents to less) (named_step e))
+
+-- ---- the parent gets the child's size, and the copy begins
+
+module _ (s : Shape) (v p : Name) (x : ∥ IsWellFormed s ∥₁) (h : CanEnter s v p) where
+  pub size_is : size_of v s ≡ h.child.size
+  size_is = ∥∥₁_elim x (hlevel props) (λ w. ap (λ n. size_of n s) (sym h.child_named) ∙ ap size_by (found_row s w h.child h.child_there))
+
+  apart : h.child.name ≡ p → ⊥
+  apart = ∥∥₁_elim x (hlevel props) (λ w. parent_apart s w h.child p h.child_there h.linked)
+
+  parent_is : (w : IsWellFormed s) → (w.parents h.child p h.child_there h.linked).parent ≡ h.parent
+  parent_is w =
+      let q : HasParent s.images h.child p = w.parents h.child p h.child_there h.linked in
+      Distinct-key (λ (y : ImageRow). image_uuid y.name) s.images q.parent h.parent w.one_image q.there h.parent_there (ap image_uuid (q.is_named ∙ sym h.parent_named))
+
+  pub parent_hidden : h.parent.hidden ≡ true
+  parent_hidden = ∥∥₁_elim x (hlevel props) (λ w. sym (ap (λ (y : ImageRow). y.hidden) (parent_is w)) ∙ (w.parents h.child p h.child_there h.linked).is_hidden)
+
+  pub not_larger : h.parent.size ≤ h.child.size
+  not_larger = ∥∥₁_elim x (hlevel props) (λ w. subst (λ (y : ImageRow). y.size ≤ h.child.size) (parent_is w) (w.parents h.child p h.child_there h.linked).not_larger)
+
+  pub may_grow : IsWellFormed s → is_vhd p ≡ true → MayGrow s h.parent h.child.size
+  may_grow w vhd = record {
+    there = h.parent_there;
+    vhd = ap is_vhd h.parent_named ∙ vhd;
+    whole = (w.images h.child h.child_there).whole;
+    more = not_larger;
+    children = λ y there e. (let is = ap (λ (x : ImageRow). x.size) (h.only y there (e ∙ ap Some h.parent_named)) in omega (arith, is));
+    thick = λ a i rw shown uuid. absurd (true≢false (sym parent_hidden ∙ shown));
+  }
+
+  abbrev grown : ImageRow → ImageRow
+  grown i = record i { size = size_of v s }
+
+  abbrev on : ImageRow → ImageRow
+  on y = when (is_image p y) grown y
+
+  -- where the sizes are equal, nothing changes
+  pub raised_same : h.parent.size ≡ h.child.size → raised v p s ≡ s
+  raised_same same = ap (λ (is : List ImageRow). let x : Shape = record s { images = is } in x) (map_in on (λ y. y) s.images (λ y there. by y there (is_image p y) refl) ∙ map_id s.images)
+    where
+      by : (y : ImageRow) → In y s.images → (b : Bool) → is_image p y ≡ b → when b grown y ≡ y
+      by y there true is =
+          let own : y ≡ h.parent = ∥∥₁_elim x (hlevel props) (λ w. same_row s w h.parent y h.parent_there there (ap (same_image y.name) h.parent_named ∙ is)) in
+          ap (λ k. let x : ImageRow = record y { size = k } in x) (size_is ∙ sym same ∙ ap (λ (x : ImageRow). x.size) (sym own))
+      by y there false is = refl
+
+      map_id : (xs : List ImageRow) → map (λ y. y) xs ≡ xs
+      map_id [] = refl
+      map_id (x ∷ xs) = ap (λ ys. x ∷ ys) (map_id xs)
+
+  child_on : on h.child ≡ h.child
+  child_on = ap (λ b. when b grown h.child) (other_image h.child.name p apart)
+
+  link_key : (y : ImageRow) → (on y).parent ≡ y.parent
+  link_key y = when-key (λ (i : ImageRow). i.parent) grown (λ i. refl) (is_image p y) y
+
+  on_name : (y : ImageRow) → (on y).name ≡ y.name
+  on_name y = when-key (λ (i : ImageRow). i.name) grown (λ i. refl) (is_image p y) y
+
+  itself : (y : ImageRow) → In y s.images → y.name ≡ p → is_image p y ≡ true
+  itself y there e = ∥∥₁_elim x (hlevel props) (λ w. ap (λ n. same_image n p) e ∙ subst (λ n. same_image n n ≡ true) e (same_image-refl y.name (w.images y there).named))
+
+  only_now : (i : ImageRow) → In i (raised v p s).images → i.parent ≡ Some p → i ≡ h.child
+  only_now i there e =
+      let y = In-map on s.images i there in
+      let is = h.only y.0 y.1 (sym (ap (λ (x : ImageRow). x.parent) y.2 ∙ link_key y.0) ∙ e) in
+      y.2 ∙ ap on is ∙ child_on
+
+  -- the images of the operation are there
+  pub works : IsOnlyChild (raised v p s) true v p
+  works = record {
+    link = record {
+      child = h.child;
+      there = subst (λ x. In x (map on s.images)) child_on (In-map_at on s.images h.child h.child_there);
+      is_named = h.child_named;
+      is_shown = h.hidden;
+      vhd = h.vhd;
+      linked = h.linked;
+    };
+    only = λ i there e. ap (λ (x : ImageRow). x.name) (only_now i there e) ∙ h.child_named;
+    same_size = λ q there e. (let y = In-map on s.images q there in
+        let named : y.0.name ≡ p = sym (ap (λ (x : ImageRow). x.name) y.2 ∙ on_name y.0) ∙ e in
+        ap (λ (x : ImageRow). x.size) y.2 ∙ ap (λ b. (when b grown y.0).size) (itself y.0 y.1 named) ∙ size_is);
+  }
+
+  slots_key : (y : ImageRow) → (on y).slots ≡ y.slots
+  slots_key y = when-key (λ (i : ImageRow). i.slots) grown (λ i. refl) (is_image p y) y
+
+  extents_key : (y : ImageRow) → (on y).extents ≡ y.extents
+  extents_key y = when-key (λ (i : ImageRow). i.extents) grown (λ i. refl) (is_image p y) y
+
+  row_of : (i : ImageRow) → In i s.images → (y : ImageRow) → In y (raised v p s).images → y.name ≡ i.name → (y.slots ≡ i.slots) × (y.extents ≡ i.extents)
+  row_of i there y now named =
+      let z = In-map on s.images y now in
+      let is : z.0 ≡ i = ∥∥₁_elim x (hlevel props) (λ w. Distinct-key (λ (j : ImageRow). image_uuid j.name) s.images z.0 i w.one_image z.1 there (ap image_uuid (sym (ap (λ (j : ImageRow). j.name) z.2 ∙ on_name z.0) ∙ named))) in (
+        ap (λ (j : ImageRow). j.slots) z.2 ∙ slots_key z.0 ∙ ap (λ (j : ImageRow). j.slots) is,
+        ap (λ (j : ImageRow). j.extents) z.2 ∙ extents_key z.0 ∙ ap (λ (j : ImageRow). j.extents) is,
+      )
+
+  -- and the parent has room
+  pub roomy : IsRoomyFor (raised v p s) v p
+  roomy i q i_there q_there i_named q_named vhd =
+      let c = row_of h.child h.child_there i i_there (i_named ∙ sym h.child_named) in
+      let d = row_of h.parent h.parent_there q q_there (q_named ∙ sym h.parent_named) in
+      let least = h.room vhd in
+      let is = ap₂ (λ x y. thin_in s (max (top x) (count_either x y))) d.0 c.0 in
+      omega (arith, least, is, d.1)

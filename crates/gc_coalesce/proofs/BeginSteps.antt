@@ -1,0 +1,127 @@
+-- Where the collector's next step begins a copy, as a session tells it: the parent in memory, the extents that it is to gain, and what
+-- is known once it has them.
+use Rattle.std.proofs.Common.{◌≡◌, ℕ, ◌<◌, ◌≤◌, false, true, List, Some, None, sym, ap, ap₂, ◌∙◌, subst, subst₂, arith}
+use Rattle.std.proofs.lemmas.Option.{none-some, same_Some}
+use Rattle.sm_base.specs.declared.names.Name.{Name}
+use Rattle.sm_base.specs.declared.names.Name.TheVariants.{Vhd}
+use Rattle.sm_base.specs.declared.operations.Op.TheVariants as op
+use Rattle.sm_base.specs.declared.operations.Plan.TheVariants as plan
+use Rattle.vg_meta.specs.Tables.{VolumeTable}
+use Rattle.vg_volumes.specs.Sites.{Site}
+use Rattle.vg_volumes.specs.Stored.{IsChoiceOf, OnlyReads, stored}
+use Rattle.vg_volumes.specs.declared.stores.Store.{Ghosts}
+use Rattle.vhd_chain.specs.Trees.{tree_row}
+use Rattle.vhd_chain.specs.declared.rows.TreeRow.{TreeRow}
+use Rattle.sm_machine.specs.Collector.{next_step}
+use Rattle.sm_machine.specs.Shapes.{ImageRow, Shape, image_uuid, on_image, risen}
+use Rattle.sm_machine.specs.Steps.{shape_next}
+use Rattle.sm_machine.specs.WellFormed.{is_image_name}
+use Rattle.sm_machine.specs.declared.commands.Command.TheVariants.{Gc}
+use Rattle.sm_standing.specs.Standing.{disks}
+use Rattle.sm_ready.specs.Does.{store_shape}
+use Rattle.sm_ready.specs.Done.{HasDone}
+use Rattle.sm_ready.specs.Known.{Known, known, shape_in}
+use Rattle.sm_ready.specs.Orderly.{IsOrderly}
+use Rattle.sm_ready.specs.Ready.{IsReady, IsTidy}
+use Rattle.sm_ready.specs.Sessions.{IsOrderlyStore, IsReadyStore}
+use Rattle.sm_ready.specs.Stores.{StoreLeaves, content_now, store_content}
+use Rattle.sm_ready.specs.declared.memory.Memory.{Memory}
+use Rattle.sm_ready.proofs.ChainLaws.{tab}
+use Rattle.sm_ready.proofs.KeptLaws.{vhd_named}
+use Rattle.sm_ready.proofs.Orders.{In-tree_row, named_row}
+use Rattle.sm_ready.proofs.SumLaws.{free_counted}
+use Rattle.sm_ready.proofs.TakenLaws.{IsTold, is_told}
+use Rattle.sm_ready.proofs.ThenLaws.{then_done}
+use Rattle.sm_space.specs.Inflating.{HasFree, IsBelow, extents_in, inflated}
+use Rattle.gc_coalesce.specs.Beginning.{CanEnter, entered}
+use Rattle.gc_coalesce.proofs.BeginShapes.{IsPlanned, can_enter, can_enter_wide, entered_next, entered_next_wide, foldable, gains_free, grows_vhd, planned}
+use Rattle.gc_coalesce.proofs.BeginStores.{IsRowOf, row_of}
+
+module _ (s : Site) (t : VolumeTable) (m : Known) (v p : Name) (to : ℕ) (o : IsOrderly s t m) (next : next_step (shape_in s t m) ≡ plan.Begin v p to) where
+  abbrev σ : Shape
+  σ = shape_in s t m
+
+  h : IsPlanned (shape_in s t m) v p to
+  h = planned σ v p to next
+
+  parent : IsRowOf m h.pair.parent
+  parent = row_of s t m h.pair.parent o (foldable σ v p to o.well_formed h).parent_there
+
+  found : tree_row m.rows p ≡ Some parent.row
+  found = ap (tree_row m.rows) (sym h.parent) ∙ parent.found
+
+  pub not_gone : tree_row m.rows p ≡ None → ⊥
+  not_gone none = none-some parent.row (sym none ∙ found)
+
+  pub idle : m.op ≡ op.Idle
+  unfolding shape_in
+  idle = h.idle
+
+  module _ (r : TreeRow) (there : tree_row m.rows p ≡ Some r) where
+    extents_are : h.pair.parent.extents ≡ r.extents
+    extents_are = ap (λ (i : ImageRow). i.extents) parent.is ∙ ap (λ (x : TreeRow). x.extents) (same_Some parent.row r (sym found ∙ there))
+
+    pub image_name : is_image_name p ≡ true
+    image_name = let at = In-tree_row m.rows p r there in subst (λ n. is_image_name n ≡ true) at.1 (named_row s t m r o at.0)
+
+    -- ---- no extents are wanting
+
+    pub can_now : to ≤ r.extents → CanEnter (shape_in s t m) v p
+    can_now most = can_enter σ v p to o.well_formed h (omega (arith, most, extents_are))
+
+    pub next_now : to ≤ r.extents → entered v p (shape_in s t m) ≡ shape_next (shape_in s t m) Gc
+    next_now most = entered_next σ v p to o.well_formed h (omega (arith, most, extents_are)) next
+
+    -- ---- some are
+
+    module _ (less : r.extents < to) where
+      wants : h.pair.parent.extents < to
+      wants = omega (arith, less, extents_are)
+
+      vhd : p ≡ Vhd (image_uuid p)
+      vhd = vhd_named p (grows_vhd σ v p to o.well_formed h wants)
+
+      is_there : tree_row m.rows (Vhd (image_uuid p)) ≡ Some r
+      is_there = ap (tree_row m.rows) (sym vhd) ∙ there
+
+      pub is_below : IsBelow m.rows (image_uuid p) to
+      is_below = record { row = r; there = is_there; below = less }
+
+      pub has_free : IsTidy t m → HasFree s.count t m.rows (image_uuid p) to
+      has_free tidy = omega (arith, gains_free σ v p to o.well_formed h, free_counted s t m tidy.none_new o, extents_are, ap extents_in is_there)
+
+      abbrev wide : Name → Shape
+      wide n = record (shape_in s t m) { sequence = risen (shape_in s t m).sequence 3; images = on_image n (λ i. record i { extents = to }) (shape_in s t m).images }
+
+      wide_is : wide p ≡ inflated (image_uuid p) to (shape_in s t m)
+      wide_is = ap wide vhd
+
+      pub can_then : CanEnter (inflated (image_uuid p) to (shape_in s t m)) v p
+      can_then = subst (λ (x : Shape). CanEnter x v p) wide_is (can_enter_wide σ v p to o.well_formed h (risen σ.sequence 3))
+
+      pub next_then : entered v p (inflated (image_uuid p) to (shape_in s t m)) ≡ shape_next (shape_in s t m) Gc
+      next_then = ap (entered v p) (sym wide_is) ∙ entered_next_wide σ v p to o.well_formed h wants next
+
+-- ---- two calls that change no disk, one after the other
+
+module _ {S : Type 0} {g : Ghosts S} {a b e : S} {m : Memory} (n : Memory) {first : Type 0} (h : IsTold g a m) (site : g.site b ≡ g.site a) (orderly : IsOrderlyStore g b n) (usable : g.failed b ≡ false)
+    (choice : (v : VolumeTable) (image : ℕ → List ℕ) → g.leaves b v image → IsChoiceOf (stored g b) v image)
+    (d : HasDone (g.site a) (tab g a) (tab g b) (g.area a) (g.area b) (known n) (StoreLeaves g a) (StoreLeaves g b) first (disks (store_content g a))) (fine : first) where
+  pub both_done : (k : Known) (ok : Type 0)
+      → (IsReadyStore g b n → HasDone (g.site b) (tab g b) (tab g e) (g.area b) (g.area e) k (StoreLeaves g b) (StoreLeaves g e) ok (disks (store_content g b)))
+      → HasDone (g.site a) (tab g a) (tab g e) (g.area a) (g.area e) k (StoreLeaves g a) (StoreLeaves g e) ok (disks (store_content g a))
+  both_done k ok second =
+      let made = subst (λ s. IsReady s (tab g b) (g.area b) (known n)) (sym site) (d.ready fine) in
+      let same = ap (λ s. disks (content_now s (tab g b) (g.area b))) site ∙ d.shown fine in
+      then_done h (is_told g b n orderly usable h.told made choice) site (d.settled fine) same k ok (disks (store_content g a))
+      (subst (λ ds. HasDone (g.site b) (tab g b) (tab g e) (g.area b) (g.area e) k (StoreLeaves g b) (StoreLeaves g e) ok ds) same (second made))
+
+-- the shape is the same where a call only read
+pub shape_read : {S : Type 0} {g : Ghosts S} {a b : S} (m : Memory) → OnlyReads g a b → store_shape g b m ≡ store_shape g a m
+shape_read m reads = ap₂ (λ s t. shape_in s t (known m)) reads.stays.site reads.stays.table
+
+-- and what is known of the store
+pub told_read : {S : Type 0} {g : Ghosts S} {a b : S} (m : Memory) → IsOrderlyStore g a m → g.failed a ≡ false → g.told → IsReadyStore g b m → OnlyReads g a b
+    → ((v : VolumeTable) (image : ℕ → List ℕ) → g.leaves b v image → IsChoiceOf (stored g b) v image) → IsTold g b m
+told_read {g = g} {b = b} m orderly usable told ready reads choice =
+    is_told g b m (subst₂ (λ s t. IsOrderly s t (known m)) (sym reads.stays.site) (sym reads.stays.table) orderly) (reads.stays.failed ∙ usable) told ready choice

@@ -1,0 +1,196 @@
+-- The images of a copy that runs, and the block that is planned.
+use Rattle.std.proofs.Common.{◌≡◌, ◌≢◌, ◌⊎◌, inl, inr, ⊎_elim, ℕ, zero, suc, ◌+◌, ◌<◌, ◌≤◌, Bool, true, false, cond, List, [], ◌∷◌, map, Option, Some, None, refl, sym, ap, ◌∙◌, subst, arith}
+use Rattle.std.proofs.Math.Logic.{∥∥₁_elim}
+use Rattle.std.proofs.Props.{props}
+use Rattle.std.proofs.lemmas.Bool.{cases_lt}
+use Rattle.std.proofs.lemmas.Option.{none-some, same_Some}
+use Rattle.std.specs.List.{find}
+use Rattle.common_laws.specs.Lists.{In, numbers}
+use Rattle.common_laws.proofs.Lists.{In-map, In-map_at}
+use Rattle.sm_base.specs.declared.names.Name.{Name}
+use Rattle.sm_base.specs.declared.operations.Op.TheVariants as op
+use Rattle.sm_base.specs.declared.operations.Plan.TheVariants as plan
+use Rattle.vg_meta.specs.Tables.{VolumeTable}
+use Rattle.vg_volumes.specs.Sites.{Site}
+use Rattle.vhd_image.specs.Bodies.{parent_name, sector_count}
+use Rattle.vhd_chain.specs.Reading.{slots_of}
+use Rattle.vhd_chain.specs.Trees.{row_name, tree_row, without}
+use Rattle.vhd_chain.proofs.ByName.{tree_row-without_other}
+use Rattle.vhd_chain.specs.declared.rows.TreeRow.{TreeRow}
+use Rattle.sm_machine.specs.Collector.{copy_or, next_block, next_step, plan_copy, plan_running, table_of}
+use Rattle.sm_machine.specs.Shapes.{ImageRow, Shape, chain_limit, children, find_image, is_there, is_vhd, parent_of, slot_at}
+use Rattle.sm_machine.specs.WellFormed.{EndsWithin, IsOnlyChild, IsOperation, IsWellFormed}
+use Rattle.sm_machine.proofs.Chains.{find_image-in, parent_of-in}
+use Rattle.sm_machine.proofs.Tables.{next_found}
+use Rattle.sm_ready.specs.Known.{Known, machine_row, shape_in}
+use Rattle.sm_ready.specs.Orderly.{IsOrderly}
+use Rattle.sm_ready.proofs.Orders.{In-tree_row}
+use Rattle.sm_ready.proofs.TruthLaws.{row_found}
+
+-- ---- the least block from the cursor on
+
+first_found : (t : ℕ → Bool) (c n b : ℕ) → find t (numbers c n) ≡ Some b → (k : ℕ) → c ≤ k → k < b → t k ≡ false
+unfolding numbers
+first_found t c zero b is k low below = absurd (none-some b is)
+first_found t c (suc n) b is k low below = by (t c) refl is (λ later past. first_found t (c + 1) n b later k past below)
+  where
+    least : (k ≡ c) ⊎ (c + 1 ≤ k)
+    least = ⊎_elim (λ less. inr (omega (arith, less))) (λ no_more. inl (omega (arith, low, no_more))) (cases_lt c k)
+
+    by : (x : Bool) → t c ≡ x → cond x (Some c) (find t (numbers (c + 1) n)) ≡ Some b → (find t (numbers (c + 1) n) ≡ Some b → c + 1 ≤ k → t k ≡ false) → t k ≡ false
+    by true e here rest = absurd (omega (arith, same_Some c b here, low, below))
+    by false e later rest = ⊎_elim (λ same. ap t same ∙ e) (λ past. rest later past) least
+
+no_slot : (o : Option ℕ) → is_there o ≡ false → o ≡ None
+no_slot None e = refl
+no_slot (Some k) e = absurd (let x = e in cc)
+
+-- a chain that comes back to where it began does not end
+no_loop : (most : ℕ) (n : Name) (images : List ImageRow) → parent_of n images ≡ Some n → EndsWithin most (Some n) images → ⊥
+no_loop zero n images loop ends = ends
+no_loop (suc most) n images loop ends = no_loop most n images loop (subst (λ o. EndsWithin most o images) loop ends)
+
+-- ---- a copy that runs
+
+-- the rows of the child and of the parent, and the block that is to be copied
+pub record IsToCopy (s : Site) (t : VolumeTable) (m : Known) (v p : Name) (cursor b : ℕ) (i q : TreeRow) : Type 0 where
+  pub orderly : IsOrderly s t m
+  pub op : m.op ≡ op.Copy v p cursor
+  pub planned : next_step (shape_in s t m) ≡ plan.Copy b
+  pub child : tree_row m.rows v ≡ Some i
+  pub parent : tree_row m.rows p ≡ Some q
+
+module _ {s : Site} {t : VolumeTable} {m : Known} {v p : Name} {cursor : ℕ} (o : IsOrderly s t m) (is : m.op ≡ op.Copy v p cursor) where
+  only_in : IsWellFormed (shape_in s t m) → IsOnlyChild (shape_in s t m) true v p
+  unfolding shape_in
+  only_in w = subst (IsOperation (shape_in s t m)) is w.operation
+
+  row_of : (n : Name) (x : ImageRow) → In x (map machine_row m.rows) → x.name ≡ n → (y : TreeRow) × (tree_row m.rows n ≡ Some y) × (x ≡ machine_row y)
+  row_of n x there named =
+      let y = In-map machine_row m.rows x there in
+      (y.0, ap (tree_row m.rows) (sym (sym (ap (λ (z : ImageRow). z.name) y.2) ∙ named)) ∙ row_found s t m o y.0 y.1, y.2)
+
+  pub no_child : tree_row m.rows v ≡ None → ⊥
+  unfolding shape_in
+  no_child none = ∥∥₁_elim o.well_formed (hlevel props) (λ w.
+      let c = (only_in w).link in
+      let y = row_of v c.child c.there c.is_named in none-some y.0 (sym none ∙ y.1))
+
+  pub no_parent : tree_row m.rows p ≡ None → ⊥
+  unfolding shape_in
+  no_parent none = ∥∥₁_elim o.well_formed (hlevel props) (λ w.
+      let c = (only_in w).link in
+      let z = w.parents c.child p c.there c.linked in
+      let y = row_of p z.parent z.there z.is_named in none-some y.0 (sym none ∙ y.1))
+
+  pub names_apart : v ≢ p
+  unfolding shape_in
+  names_apart same = ∥∥₁_elim o.well_formed (hlevel props) (λ w.
+      let c = (only_in w).link in
+      no_loop chain_limit v (shape_in s t m).images
+      (ap (λ n. parent_of n (shape_in s t m).images) (sym c.is_named) ∙ parent_of-in (shape_in s t m).images c.child w.one_image c.there (w.images c.child c.there).named ∙ c.linked ∙ ap Some (sym same))
+      (subst (λ n. EndsWithin chain_limit (Some n) (shape_in s t m).images) c.is_named (w.chains c.child c.there)))
+
+  -- the rows are found, the child's once the parent's was taken out
+  module _ {mid : List TreeRow} (rest : mid ≡ without p m.rows) where
+    pub child_found : tree_row mid v ≡ tree_row m.rows v
+    child_found = ap (λ rs. tree_row rs v) rest ∙ tree_row-without_other m.rows p v (λ same. names_apart (sym same))
+
+    pub no_child_left : tree_row mid v ≡ None → ⊥
+    no_child_left none = no_child (sym child_found ∙ none)
+
+    pub to_copy : {b : ℕ} {i q : TreeRow} → next_step (shape_in s t m) ≡ plan.Copy b → tree_row m.rows p ≡ Some q → tree_row mid v ≡ Some i → IsToCopy s t m v p cursor b i q
+    to_copy planned parent child = record { orderly = o; op = is; planned = planned; child = sym child_found ∙ child; parent = parent }
+
+module _ {s : Site} {t : VolumeTable} {m : Known} {v p : Name} {cursor b : ℕ} {i q : TreeRow} (h : IsToCopy s t m v p cursor b i q) where
+  abbrev σ : Shape
+  σ = shape_in s t m
+
+  pub child_there : In i m.rows
+  child_there = (In-tree_row m.rows v i h.child).0
+
+  pub child_named : row_name i ≡ v
+  child_named = (In-tree_row m.rows v i h.child).1
+
+  pub there : In q m.rows
+  there = (In-tree_row m.rows p q h.parent).0
+
+  pub named : row_name q ≡ p
+  named = (In-tree_row m.rows p q h.parent).1
+
+  pub copies_only : IsWellFormed (shape_in s t m) → IsOnlyChild (shape_in s t m) true v p
+  copies_only = only_in h.orderly h.op
+
+  is_child : (w : IsWellFormed σ) → (copies_only w).link.child ≡ machine_row i
+  unfolding shape_in
+  is_child w =
+      let c = (copies_only w).link in
+      let y = row_of h.orderly h.op v c.child c.there c.is_named in
+      y.2 ∙ ap machine_row (same_Some y.0 i (sym y.1 ∙ h.child))
+
+  pub linked : parent_name i.image ≡ Some p
+  unfolding shape_in
+  linked = ∥∥₁_elim h.orderly.well_formed (hlevel props) (λ w. sym (ap (λ (x : ImageRow). x.parent) (is_child w)) ∙ (copies_only w).link.linked)
+
+  pub child_hidden : i.hidden ≡ true
+  unfolding shape_in
+  child_hidden = ∥∥₁_elim h.orderly.well_formed (hlevel props) (λ w. sym (ap (λ (x : ImageRow). x.hidden) (is_child w)) ∙ (copies_only w).link.is_shown)
+
+  pub child_vhd : is_vhd v ≡ true
+  unfolding shape_in
+  child_vhd = ∥∥₁_elim h.orderly.well_formed (hlevel props) (λ w. (copies_only w).link.vhd)
+
+  pub hidden : q.hidden ≡ true
+  unfolding shape_in
+  hidden = ∥∥₁_elim h.orderly.well_formed (hlevel props) (λ w.
+      let c = (copies_only w).link in
+      let z = w.parents c.child p c.there c.linked in
+      let y = row_of h.orderly h.op p z.parent z.there z.is_named in
+      sym (ap (λ (x : ImageRow). x.hidden) (y.2 ∙ ap machine_row (same_Some y.0 q (sym y.1 ∙ h.parent)))) ∙ z.is_hidden)
+
+  pub only : (x : TreeRow) → In x m.rows → parent_name x.image ≡ Some p → row_name x ≡ v
+  unfolding shape_in
+  only x j parent = ∥∥₁_elim h.orderly.well_formed (hlevel props) (λ w. (copies_only w).only (machine_row x) (In-map_at machine_row m.rows x j) parent)
+
+  pub same_size : sector_count q.image ≡ sector_count i.image
+  unfolding shape_in
+  same_size = ∥∥₁_elim h.orderly.well_formed (hlevel props) (λ w.
+      (copies_only w).same_size (machine_row q) (In-map_at machine_row m.rows q there) named ∙ ap (λ (x : ImageRow). x.size) (is_child w))
+
+  pub apart : v ≢ p
+  apart = names_apart h.orderly h.op
+
+  -- ---- the block
+
+  child_table : table_of v σ ≡ slots_of i.image
+  unfolding shape_in
+  child_table = ∥∥₁_elim h.orderly.well_formed (hlevel props) (λ w.
+      let j = In-map_at machine_row m.rows i child_there in
+      ap (λ (o : Option ImageRow). elim o as (λ _. List (Option ℕ)) [ None ↦ [] | Some x ↦ x.slots ])
+      (ap (λ n. find_image n (shape_in s t m).images) (sym child_named) ∙ find_image-in (shape_in s t m).images (machine_row i) w.one_image j (w.images (machine_row i) j).named))
+
+  pub next_is : next_block cursor (slots_of i.image) ≡ Some b
+  unfolding next_step plan_running shape_in
+  next_is = ap (next_block cursor) (sym child_table) ∙ by_children (children v σ.images) (sym (ap (plan_running σ) h.op) ∙ h.planned)
+    where
+      by_block : (o : Option ℕ) → copy_or plan.Turn o ≡ plan.Copy b → o ≡ Some b
+      by_block None e = absurd (let x = e in cc)
+      by_block (Some c) e = let x = e in cc
+
+      by_children : (xs : List ImageRow) → plan_copy σ v cursor xs ≡ plan.Copy b → next_block cursor (table_of v σ) ≡ Some b
+      by_children [] e = absurd (let x = e in cc)
+      by_children (x ∷ xs) e = by_block (next_block cursor (table_of v σ)) e
+
+  pub ahead : cursor ≤ b
+  ahead = (next_found cursor b (slots_of i.image) next_is).0
+
+  pub has_slot : (k : ℕ) × (slot_at (slots_of i.image) b ≡ Some k)
+  has_slot = some_there (slot_at (slots_of i.image) b) (next_found cursor b (slots_of i.image) next_is).1
+    where
+      some_there : (o : Option ℕ) → is_there o ≡ true → (k : ℕ) × (o ≡ Some k)
+      some_there None e = absurd (let x = e in cc)
+      some_there (Some k) e = (k, refl)
+
+  pub none_between : (k : ℕ) → cursor ≤ k → k < b → slot_at (slots_of i.image) k ≡ None
+  unfolding next_block
+  none_between k low below = no_slot _ (first_found (λ c. is_there (slot_at (slots_of i.image) c)) cursor _ b next_is k low below)

@@ -1,0 +1,164 @@
+use Rattle.std.proofs.Common.{Ok, Err, refl, sym, ap, ap₂, ◌∙◌, subst, subst₂, option_copied}
+use Rattle.std.proofs.lemmas.Result.{err_from_is_err_and}
+use Rattle.sm_disk.proofs.HeldLaws.{Keeps-then}
+use Rattle.vg_meta.specs.Roomy.{table_alone}
+use Rattle.vg_meta.specs.Tables.{VolumeTable}
+use Rattle.vg_volumes.specs.Sites.{Site}
+use Rattle.vg_volumes.specs.Stored.{Stored}
+use Rattle.vg_volumes.proofs.StoredLaws.{reads_then}
+use Rattle.sm_machine.specs.Shapes.{image_uuid}
+use Rattle.sm_machine.specs.Steps.{disks_next}
+use Rattle.sm_standing.specs.Standing.{disks}
+use Rattle.sm_ready.specs.Known.{known}
+use Rattle.sm_ready.specs.Orderly.{IsOrderly}
+use Rattle.sm_ready.specs.Stores.{content_now}
+use Rattle.sm_ready.proofs.ChainLaws.{done_behind, err_not_ok, ready_read}
+use Rattle.sm_ready.proofs.FrameLaws.{true_reads}
+use Rattle.sm_space.specs.Inflating.{HasFree, IsBelow, inflated}
+use Rattle.sm_space.proofs.InflatingLaws.{only_read}
+use Rattle.gc_coalesce.specs.Beginning.{CanEnter, entered}
+use Rattle.gc_coalesce.proofs.BeginRows.{spare_row}
+use Rattle.gc_coalesce.proofs.BeginSteps.{both_done, can_now, can_then, has_free, idle, image_name, is_below, next_now, next_then, not_gone, shape_read, told_read}
+use Rattle.gc_coalesce.proofs.beginning.begin.Goals as goal
+
+pub unreachable-requires : goal.unreachable-requires
+unreachable-requires g c = not_gone _ _ (known c.args.memory.now) _ _ _ c.requires.orderly c.requires.planned (sym c.get.ensures ∙ ap option_copied c.in_default.is)
+
+-- ---- memory is wanting
+
+pub returns-in_default-make_room-clause-true_poor : goal.returns-in_default-make_room-clause-true_poor
+returns-in_default-make_room-clause-true_poor g c = λ poor. true_reads g.S.Store c.args.memory.now c.args.memory.now refl c.make_room.ensures.reads c.requires.true_now
+
+pub returns-in_default-make_room-clause-done : goal.returns-in_default-make_room-clause-done
+unfolding disks_next
+returns-in_default-make_room-clause-done g c = λ told ready.
+    let e = c.make_room.ensures in
+    only_read c.args.memory.now c.requires.orderly c.requires.usable told ready (g.met.S.Store.leaves_now c.args.store.now told c.requires.usable) e.reads e.same e.leaves _ _ (λ fine. absurd (let x = fine in cc))
+
+-- ---- the parent has its extents
+
+pub enter-requires-clause-true_now : goal.enter-requires-clause-true_now
+enter-requires-clause-true_now g c = true_reads g.S.Store c.args.memory.now c.args.memory.now refl c.make_room.ensures.reads c.requires.true_now
+
+pub enter-requires-clause-row : goal.enter-requires-clause-row
+enter-requires-clause-row g c =
+    let stays = c.make_room.ensures.reads.stays in
+    spare_row (g.S.Store.site c.args.store.now) (g.S.Store.table c.make_room.new.store) (known c.args.memory.now)
+    (subst (λ t. IsOrderly (g.S.Store.site c.args.store.now) t (known c.args.memory.now)) (sym stays.table) c.requires.orderly)
+    (idle _ _ (known c.args.memory.now) _ _ _ c.requires.orderly c.requires.planned) c.in-Ok.ensures.room
+
+pub enter-requires-clause-can : goal.enter-requires-clause-can
+enter-requires-clause-can g c =
+    let there = sym c.get.ensures ∙ ap option_copied c.in-Some.is in
+    subst (λ σ. CanEnter σ c.args.child.now c.args.parent.now) (sym (shape_read c.args.memory.now c.make_room.ensures.reads))
+    (can_now _ _ (known c.args.memory.now) _ _ _ c.requires.orderly c.requires.planned c.in-Some.row.now there c.if-to-had.true)
+
+pub returns-in_default-enter-clause-beside : goal.returns-in_default-enter-clause-beside
+returns-in_default-enter-clause-beside g c = λ told. Keeps-then (c.make_room.ensures.reads.stays.beside told) (c.enter.ensures.beside told)
+
+pub returns-in_default-enter-clause-done : goal.returns-in_default-enter-clause-done
+unfolding disks_next
+returns-in_default-enter-clause-done g c = λ told ready.
+    let e = c.make_room.ensures in
+    done_behind _ (λ (x : Stored). disks (content_now x.site x.table x.area)) e.reads e.same e.leaves (λ fine. absurd (let x = fine in cc))
+    (c.enter.ensures.done told (ready_read c.args.memory.now e.reads e.same ready))
+
+pub returns-then-to-had-clause-beside : goal.returns-then-to-had-clause-beside
+returns-then-to-had-clause-beside g c = λ told. Keeps-then (c.make_room.ensures.reads.stays.beside told) (c.enter.ensures.beside told)
+
+pub returns-then-to-had-clause-shape : goal.returns-then-to-had-clause-shape
+returns-then-to-had-clause-shape g c =
+    let there = sym c.get.ensures ∙ ap option_copied c.in-Some.is in
+    c.in-Ok-enter.ensures.shape ∙ ap (entered c.args.child.now c.args.parent.now) (shape_read c.args.memory.now c.make_room.ensures.reads)
+    ∙ next_now _ _ (known c.args.memory.now) _ _ _ c.requires.orderly c.requires.planned c.in-Some.row.now there c.if-to-had.true
+
+pub returns-then-to-had-clause-done : goal.returns-then-to-had-clause-done
+unfolding disks_next
+returns-then-to-had-clause-done g c = λ told ready.
+    let e = c.make_room.ensures in
+    done_behind _ (λ (x : Stored). disks (content_now x.site x.table x.area)) e.reads e.same e.leaves (λ fine. c.in-Ok-enter.is)
+    (c.enter.ensures.done told (ready_read c.args.memory.now e.reads e.same ready))
+
+-- ---- it is to gain some
+
+pub image_uuid-requires : goal.image_uuid-requires
+image_uuid-requires g c = image_name _ _ (known c.args.memory.now) _ _ _ c.requires.orderly c.requires.planned c.in-Some.row.now (sym c.get.ensures ∙ ap option_copied c.in-Some.is)
+
+pub inflate-requires-clause-true_now : goal.inflate-requires-clause-true_now
+inflate-requires-clause-true_now g c = true_reads g.S.Store c.args.memory.now c.args.memory.now refl c.make_room.ensures.reads c.requires.true_now
+
+pub inflate-requires-clause-there : goal.inflate-requires-clause-there
+inflate-requires-clause-there g c =
+    subst (λ u. IsBelow c.args.memory.now.tree.rows u c.args.to) (sym c.image_uuid.ensures)
+    (is_below _ _ (known c.args.memory.now) _ _ _ c.requires.orderly c.requires.planned c.in-Some.row.now (sym c.get.ensures ∙ ap option_copied c.in-Some.is) c.if-to-had.false)
+
+pub inflate-requires-clause-free : goal.inflate-requires-clause-free
+inflate-requires-clause-free g c =
+    let stays = c.make_room.ensures.reads.stays in
+    subst (λ u. HasFree (g.S.Store.site c.make_room.new.store).count (table_alone (g.S.Store.table c.make_room.new.store)) c.args.memory.now.tree.rows u c.args.to) (sym c.image_uuid.ensures)
+    (subst₂ (λ (s : Site) (t : VolumeTable). HasFree s.count t c.args.memory.now.tree.rows (image_uuid c.args.parent.now) c.args.to) (sym stays.site) (sym stays.table)
+    (has_free _ _ (known c.args.memory.now) _ _ _ c.requires.orderly c.requires.planned c.in-Some.row.now (sym c.get.ensures ∙ ap option_copied c.in-Some.is) c.if-to-had.false c.requires.tidy))
+
+pub returns-in_err-inflate-clause-beside : goal.returns-in_err-inflate-clause-beside
+returns-in_err-inflate-clause-beside g c = λ told. Keeps-then (c.make_room.ensures.reads.stays.beside told) (c.inflate.ensures.beside told)
+
+pub returns-in_err-inflate-clause-poor : goal.returns-in_err-inflate-clause-poor
+returns-in_err-inflate-clause-poor g c = λ poor.
+    let from = err_from_is_err_and c.from_residual.result c.from_residual.ensures.1 in
+    let e = c.make_room.ensures in
+    let w = c.inflate.ensures.poor (c.in_err-inflate.was ∙ ap Err (sym from.2) ∙ sym from.1 ∙ poor) in
+    (reads_then e.reads w.0, λ t image l. e.leaves t image (w.1 t image l), w.2, w.3)
+
+pub returns-in_err-inflate-clause-done : goal.returns-in_err-inflate-clause-done
+unfolding disks_next
+returns-in_err-inflate-clause-done g c = λ told ready.
+    let e = c.make_room.ensures in
+    done_behind _ (λ (x : Stored). disks (content_now x.site x.table x.area)) e.reads e.same e.leaves (λ fine. absurd (err_not_ok _ tt c.from_residual.ensures.0 fine))
+    (c.inflate.ensures.done told (ready_read c.args.memory.now e.reads e.same ready))
+
+-- ---- it has them
+
+pub enter-requires-2-clause-row : goal.enter-requires-2-clause-row
+enter-requires-2-clause-row g c =
+    spare_row (g.S.Store.site c.inflate.new.store) (g.S.Store.table c.inflate.new.store) (known c.inflate.new.memory) c.in_ok-inflate.ensures.orderly_still
+    (c.inflate.ensures.others.2 ∙ idle _ _ (known c.args.memory.now) _ _ _ c.requires.orderly c.requires.planned) (c.in_ok-inflate.ensures.room c.in-Ok.ensures.room)
+
+pub enter-requires-2-clause-can : goal.enter-requires-2-clause-can
+enter-requires-2-clause-can g c =
+    let there = sym c.get.ensures ∙ ap option_copied c.in-Some.is in
+    subst (λ σ. CanEnter σ c.args.child.now c.args.parent.now)
+    (sym (c.in_ok-inflate.ensures.shape ∙ ap₂ (λ u σ. inflated u c.args.to σ) c.image_uuid.ensures (shape_read c.args.memory.now c.make_room.ensures.reads)))
+    (can_then _ _ (known c.args.memory.now) _ _ _ c.requires.orderly c.requires.planned c.in-Some.row.now there c.if-to-had.false)
+
+pub returns-in_default-enter-2-clause-beside : goal.returns-in_default-enter-2-clause-beside
+returns-in_default-enter-2-clause-beside g c = λ told. Keeps-then (c.make_room.ensures.reads.stays.beside told) (Keeps-then (c.inflate.ensures.beside told) (c.enter-2.ensures.beside told))
+
+pub returns-in_default-enter-2-clause-done : goal.returns-in_default-enter-2-clause-done
+unfolding disks_next
+returns-in_default-enter-2-clause-done g c = λ told ready.
+    let e = c.make_room.ensures in
+    let i = c.in_ok-inflate.ensures in
+    let was = ready_read c.args.memory.now e.reads e.same ready in
+    let h = told_read c.args.memory.now c.requires.orderly c.requires.usable told was e.reads (g.met.S.Store.leaves_now c.make_room.new.store told (e.reads.stays.failed ∙ c.requires.usable)) in
+    done_behind _ (λ (x : Stored). disks (content_now x.site x.table x.area)) e.reads e.same e.leaves (λ fine. absurd (let x = fine in cc))
+    (both_done c.inflate.new.memory h i.site i.orderly_still i.usable_still (g.met.S.Store.leaves_now c.inflate.new.store told i.usable_still) (i.done told was) (refl {a = Ok tt}) _ _ (λ made. c.enter-2.ensures.done told made))
+
+pub returns-clause-beside : goal.returns-clause-beside
+returns-clause-beside g c = λ told. Keeps-then (c.make_room.ensures.reads.stays.beside told) (Keeps-then (c.inflate.ensures.beside told) (c.enter-2.ensures.beside told))
+
+pub returns-clause-shape : goal.returns-clause-shape
+returns-clause-shape g c =
+    let there = sym c.get.ensures ∙ ap option_copied c.in-Some.is in
+    c.in-Ok-enter-2.ensures.shape
+    ∙ ap (entered c.args.child.now c.args.parent.now) (c.in_ok-inflate.ensures.shape ∙ ap₂ (λ u σ. inflated u c.args.to σ) c.image_uuid.ensures (shape_read c.args.memory.now c.make_room.ensures.reads))
+    ∙ next_then _ _ (known c.args.memory.now) _ _ _ c.requires.orderly c.requires.planned c.in-Some.row.now there c.if-to-had.false
+
+pub returns-clause-done : goal.returns-clause-done
+unfolding disks_next
+returns-clause-done g c = λ told ready.
+    let e = c.make_room.ensures in
+    let i = c.in_ok-inflate.ensures in
+    let was = ready_read c.args.memory.now e.reads e.same ready in
+    let h = told_read c.args.memory.now c.requires.orderly c.requires.usable told was e.reads (g.met.S.Store.leaves_now c.make_room.new.store told (e.reads.stays.failed ∙ c.requires.usable)) in
+    done_behind _ (λ (x : Stored). disks (content_now x.site x.table x.area)) e.reads e.same e.leaves (λ fine. c.in-Ok-enter-2.is)
+    (both_done c.inflate.new.memory h i.site i.orderly_still i.usable_still (g.met.S.Store.leaves_now c.inflate.new.store told i.usable_still) (i.done told was) (refl {a = Ok tt}) _ _ (λ made. c.enter-2.ensures.done told made))

@@ -1,0 +1,82 @@
+use Rattle.std.proofs.Common.{inl, inr, refl, sym, ap, subst}
+use Rattle.sm_machine.specs.Collector.{turned}
+use Rattle.sm_ready.specs.Known.{known}
+use Rattle.sm_ready.proofs.ChainLaws.{err_not_ok}
+use Rattle.sm_ready.proofs.OperationLaws.{WorksAt}
+use Rattle.sm_ready.proofs.RoomLaws.{rows_commits}
+use Rattle.sm_ready.proofs.TakenLaws.{is_told}
+use Rattle.gc_coalesce.proofs.EndingLaws.{can_end, done_end, failed_end, orderly_end, shape_end, tidy_end, true_end, turns, worked_named}
+use Rattle.gc_coalesce.proofs.PlannedLaws.{turn_planned}
+use Rattle.gc_coalesce.proofs.ending.turn.Goals as goal
+
+pub unreachable-requires : goal.unreachable-requires
+unreachable-requires g c =
+    let w = turn_planned _ _ (known c.args.memory.now) c.requires.planned in
+    c.in_default.not-Copy w.0 w.1 w.2 w.3
+
+pub copy_entry-requires-clause-child : goal.copy_entry-requires-clause-child
+copy_entry-requires-clause-child g c = worked_named _ _ (known c.args.memory.now) c.in-Copy.child c.requires.orderly (subst (λ x. WorksAt x c.in-Copy.child) (sym c.in-Copy.is) (inl refl))
+
+pub copy_entry-requires-clause-parent : goal.copy_entry-requires-clause-parent
+copy_entry-requires-clause-parent g c = worked_named _ _ (known c.args.memory.now) c.in-Copy.parent c.requires.orderly (subst (λ x. WorksAt x c.in-Copy.parent) (sym c.in-Copy.is) (inr refl))
+
+pub link_entry-requires-clause-child : goal.link_entry-requires-clause-child
+link_entry-requires-clause-child g c = worked_named _ _ (known c.args.memory.now) c.in-Copy.child c.requires.orderly (subst (λ x. WorksAt x c.in-Copy.child) (sym c.in-Copy.is) (inl refl))
+
+pub link_entry-requires-clause-parent : goal.link_entry-requires-clause-parent
+link_entry-requires-clause-parent g c = worked_named _ _ (known c.args.memory.now) c.in-Copy.parent c.requires.orderly (subst (λ x. WorksAt x c.in-Copy.parent) (sym c.in-Copy.is) (inr refl))
+
+pub replace-requires : goal.replace-requires
+replace-requires g c =
+    let r = c.requires in
+    let h = turns g.S.Store c.args.store.now c.args.memory.now r.orderly r.planned c.in-Copy.is c.copy_entry.ensures c.link_entry.ensures in
+    can_end g.S.Store c.args.store.now c.args.memory.now h r.usable
+
+pub returns-in_err-replace-clause-done : goal.returns-in_err-replace-clause-done
+returns-in_err-replace-clause-done g c = λ told ready.
+    let r = c.requires in
+    let h = turns g.S.Store c.args.store.now c.args.memory.now r.orderly r.planned c.in-Copy.is c.copy_entry.ensures c.link_entry.ensures in
+    failed_end g.S.Store c.args.store.now c.args.memory.now h
+    (is_told g.S.Store c.args.store.now c.args.memory.now r.orderly r.usable told ready (g.met.S.Store.leaves_now c.args.store.now told r.usable))
+    c.args.memory.now _ (λ fine. err_not_ok _ tt c.from_residual.ensures.0 fine) c.in_err-replace.ensures.fails (c.replace.ensures.crash told)
+
+pub returns-clause-operation : goal.returns-clause-operation
+unfolding turned
+returns-clause-operation g c = sym (ap turned c.in-Copy.is)
+
+pub returns-clause-room : goal.returns-clause-room
+returns-clause-room g c =
+    let r = c.requires in
+    let h = turns g.S.Store c.args.store.now c.args.memory.now r.orderly r.planned c.in-Copy.is c.copy_entry.ensures c.link_entry.ensures in
+    rows_commits (can_end g.S.Store c.args.store.now c.args.memory.now h r.usable) c.in_ok-replace.ensures.commits
+
+pub returns-clause-orderly_still : goal.returns-clause-orderly_still
+returns-clause-orderly_still g c =
+    let r = c.requires in
+    let h = turns g.S.Store c.args.store.now c.args.memory.now r.orderly r.planned c.in-Copy.is c.copy_entry.ensures c.link_entry.ensures in
+    orderly_end g.S.Store c.args.store.now c.args.memory.now h c.in_ok-replace.ensures.commits
+
+pub returns-clause-tidy_still : goal.returns-clause-tidy_still
+returns-clause-tidy_still g c =
+    let r = c.requires in
+    let h = turns g.S.Store c.args.store.now c.args.memory.now r.orderly r.planned c.in-Copy.is c.copy_entry.ensures c.link_entry.ensures in
+    tidy_end g.S.Store c.args.store.now c.args.memory.now h c.in_ok-replace.ensures.commits
+
+pub returns-clause-true_still : goal.returns-clause-true_still
+returns-clause-true_still g c =
+    let r = c.requires in
+    let h = turns g.S.Store c.args.store.now c.args.memory.now r.orderly r.planned c.in-Copy.is c.copy_entry.ensures c.link_entry.ensures in
+    true_end g.S.Store c.args.store.now c.args.memory.now h c.in_ok-replace.ensures.commits r.true_now
+
+pub returns-clause-shape : goal.returns-clause-shape
+returns-clause-shape g c =
+    let r = c.requires in
+    let h = turns g.S.Store c.args.store.now c.args.memory.now r.orderly r.planned c.in-Copy.is c.copy_entry.ensures c.link_entry.ensures in
+    shape_end g.S.Store c.args.store.now c.args.memory.now h c.in_ok-replace.ensures.commits
+
+pub returns-clause-done : goal.returns-clause-done
+returns-clause-done g c = λ told ready.
+    let r = c.requires in
+    let h = turns g.S.Store c.args.store.now c.args.memory.now r.orderly r.planned c.in-Copy.is c.copy_entry.ensures c.link_entry.ensures in
+    done_end g.S.Store c.args.store.now c.args.memory.now h c.in_ok-replace.ensures.commits
+    (is_told g.S.Store c.args.store.now c.args.memory.now r.orderly r.usable told ready (g.met.S.Store.leaves_now c.args.store.now told r.usable)) (c.replace.ensures.crash told) _

@@ -1,0 +1,57 @@
+use Rattle.std.proofs.Common.{◌≡◌, sym, ap, ◌∙◌, subst}
+use Rattle.std.proofs.lemmas.Result.{on_ok_weaker}
+use Rattle.sm_machine.specs.Shapes.{image_uuid}
+use Rattle.sm_machine.specs.Steps.{disks_next, is_fold, shape_next}
+use Rattle.sm_machine.specs.declared.commands.Command.TheVariants.{Gc}
+use Rattle.sm_ready.specs.Does.{store_shape}
+use Rattle.sm_ready.specs.Known.{shape_in}
+use Rattle.sm_ready.proofs.KeptLaws.{vhd_named}
+use Rattle.sm_space.specs.Deflating.{CanDeflate, deflated}
+use Rattle.sm_space.proofs.LooseLaws.{planned_cut, shape_planned}
+use Rattle.sm_session.proofs.CollectLaws.{advanced_folds, copy_runs, seven_work, turned_folds}
+use Rattle.sm_session.proofs.collecting.work.Goals as goal
+
+pub unreachable-requires : goal.unreachable-requires
+unreachable-requires g c =
+    let cut = planned_cut (store_shape g.S.Store c.args.store.now c.args.memory.now) c.in-Deflate.name c.in-Deflate.to (c.requires.planned ∙ c.in-Deflate.is) in
+    c.in_default-name.not-Vhd (image_uuid c.in-Deflate.name) (vhd_named c.in-Deflate.name cut.1)
+
+pub deflate-requires-clause-there : goal.deflate-requires-clause-there
+deflate-requires-clause-there g c =
+    let s = store_shape g.S.Store c.args.store.now c.args.memory.now in
+    subst (λ n. CanDeflate s n c.in-Deflate.to) c.in-Vhd.is (planned_cut s c.in-Deflate.name c.in-Deflate.to (c.requires.planned ∙ c.in-Deflate.is)).0
+
+pub copy_block-requires-clause-copying : goal.copy_block-requires-clause-copying
+unfolding shape_in
+copy_block-requires-clause-copying g c = copy_runs (store_shape g.S.Store c.args.store.now c.args.memory.now) c.in-Copy.block (c.requires.planned ∙ c.in-Copy.is) c.requires.no_fold
+
+pub unreachable-requires-in_default : goal.unreachable-requires-in_default
+unfolding shape_in
+unreachable-requires-in_default g c =
+    seven_work (store_shape g.S.Store c.args.store.now c.args.memory.now) c.args.plan c.requires.planned c.requires.no_fold c.requires.built c.requires.working c.requires.no_begin
+    c.in_default.not-Remove c.in_default.not-Deflate c.in_default.not-Copy c.in_default.not-Turn c.in_default.not-RelinkOne c.in_default.not-Finish c.in_default.not-Abandon
+
+pub returns-in-Vhd-clause-shape : goal.returns-in-Vhd-clause-shape
+returns-in-Vhd-clause-shape g c = λ told ready.
+    let s = store_shape g.S.Store c.args.store.now c.args.memory.now in
+    let next = subst (λ n. shape_next s Gc ≡ deflated n c.in-Deflate.to s) c.in-Vhd.is (shape_planned s c.in-Deflate.name c.in-Deflate.to (c.requires.planned ∙ c.in-Deflate.is)) in
+    on_ok_weaker c.deflate.result (λ is. is ∙ sym next) c.deflate.ensures.shape
+
+pub returns-in-Vhd-clause-done : goal.returns-in-Vhd-clause-done
+unfolding disks_next
+returns-in-Vhd-clause-done g c = c.deflate.ensures.done
+
+pub returns-in-Copy-clause-no_fold_still : goal.returns-in-Copy-clause-no_fold_still
+returns-in-Copy-clause-no_fold_still g c =
+    on_ok_weaker c.copy_block.result (λ is. ap is_fold is ∙ advanced_folds c.in-Copy.block c.args.memory.now.operation ∙ c.requires.no_fold) c.copy_block.ensures.operation
+
+pub returns-in-Turn-clause-no_fold_still : goal.returns-in-Turn-clause-no_fold_still
+returns-in-Turn-clause-no_fold_still g c = on_ok_weaker c.turn.result (λ is. ap is_fold is ∙ turned_folds c.args.memory.now.operation ∙ c.requires.no_fold) c.turn.ensures.operation
+
+pub returns-in-Finish-clause-no_fold_still : goal.returns-in-Finish-clause-no_fold_still
+unfolding is_fold
+returns-in-Finish-clause-no_fold_still g c = on_ok_weaker c.finish.result (λ is. ap is_fold is) c.finish.ensures.operation
+
+pub returns-in-Abandon-clause-no_fold_still : goal.returns-in-Abandon-clause-no_fold_still
+unfolding is_fold
+returns-in-Abandon-clause-no_fold_still g c = on_ok_weaker c.abandon.result (λ is. ap is_fold is) c.abandon.ensures.operation

@@ -1,0 +1,187 @@
+//! Carrying out a step of the collector.
+
+ghost use Rattle.std.specs.Prelude.{◌≡◌, ◌≤◌, ◌<◌, ◌+◌, ◌*◌, ℕ, List, true, false, IfOk, OnOk};
+ghost use Rattle.std.specs.declared.result.Result.TheVariants.{Ok};
+ghost use Rattle.sm_attaching.specs.Attaching.{HasAttachmentRoom};
+ghost use Rattle.sm_base.specs.declared.refusals.Refusal.TheVariants.{NoMemory};
+ghost use Rattle.sm_disk.specs.Held.{Keeps};
+ghost use Rattle.vg_meta.specs.Roomy.{table_alone};
+ghost use Rattle.vg_meta.specs.Tables.{VolumeTable};
+ghost use Rattle.sm_machine.specs.Collector.{IsLess, debt, next_step};
+ghost use Rattle.sm_machine.specs.Laws.{is_working};
+ghost use Rattle.sm_machine.specs.Runs.{is_accepted};
+ghost use Rattle.sm_machine.specs.Steps.{is_built, is_fold};
+ghost use Rattle.sm_machine.specs.declared.commands.Command.TheVariants as command;
+ghost use Rattle.sm_machine.specs.declared.replies.Reply.TheVariants.{No};
+ghost use Rattle.vg_volumes.specs.Stored.{OnlyReads, Counts, Leaves};
+ghost use Rattle.sm_ready.specs.Does.{ShapesAs, StoreDoes, store_shape};
+ghost use Rattle.sm_ready.specs.Frames.{HasCommits, HasTrueImages};
+ghost use Rattle.sm_ready.specs.Sessions.{HasRows, HasTreeRoom, IsOrderlyStore, IsReadyStore, IsTidyStore};
+ghost use Rattle.sm_ready.specs.Taken.{StoreTakes};
+ghost use Rattle.sm_session.specs.Carrying.{begins};
+
+use gc_coalesce::{abandon, begin, copy_block, finish, relink_one, remove, turn};
+use sm_base::{CallFault, Failed, Name, Plan, Refusal};
+use sm_machine::Reply;
+use sm_pool::Pool;
+use sm_ready::Memory;
+use sm_space::deflate;
+use std::alloc::Global;
+use vg_volumes::Store;
+
+/// Takes the collector's next step. One that begins to fold a leaf is not built yet, and is answered as a line that spells none.
+pub(crate) fn gc<S: Store>(
+    alloc: Global,
+    store: &mut S,
+    memory: &mut Memory,
+    pool: &mut Pool,
+) -> Result<Reply, Failed>
+    requires usable { S.failed store.old ≡ false }
+    requires orderly { IsOrderlyStore S.Store store.old memory.old }
+    requires tidy { IsTidyStore S.Store store.old memory.old }
+    requires tree_room { HasTreeRoom memory.old }
+    requires no_fold { is_fold memory.old.operation ≡ false }
+    requires attachment_room { HasAttachmentRoom memory.old }
+    requires true_now { HasTrueImages S.Store store.old memory.old }
+    requires buffer { (1 < pool.old.free) × (512 * (1 + (S.site store.old).geometry.block) ≤ pool.old.bytes) }
+    ensures site { S.site store.new ≡ S.site store.old }
+    ensures counts { S.faults store.old ≤ S.faults store.new }
+    ensures cause { Counts S.Store result store.old store.new }
+    ensures beside { S.told → Keeps (S.beside store.old) (S.beside store.new) }
+    ensures pool { pool.new ≡ pool.old }
+    ensures few { HasCommits 4 (table_alone (S.table store.old)) (table_alone (S.table store.new)) }
+    ensures few_left { Leaves S.Store store.new (λ t image. HasCommits 4 (table_alone (S.table store.old)) t) }
+    ensures usable_still { OnOk result (S.failed store.new ≡ false) }
+    ensures orderly_still { OnOk result (IsOrderlyStore S.Store store.new memory.new) }
+    ensures tidy_still { OnOk result (IsTidyStore S.Store store.new memory.new) }
+    ensures no_fold_still { OnOk result (is_fold memory.new.operation ≡ false) }
+    ensures tree_room_still { OnOk result (HasTreeRoom memory.new) }
+    ensures attachment_room_still { OnOk result (HasAttachmentRoom memory.new) }
+    ensures true_still { OnOk result (HasTrueImages S.Store store.new memory.new) }
+    ensures room { HasRows (S.table store.old) → OnOk result (HasRows (S.table store.new)) }
+    ensures refused { IfOk result (λ r. is_accepted r ≡ false → (t : VolumeTable) (image : ℕ → List ℕ) → S.leaves store.new t image → S.leaves store.old t image) }
+    ensures untouched { IfOk result (λ r. is_accepted r ≡ false → OnlyReads S.Store store.old store.new × (memory.new ≡ memory.old)) }
+    ensures taken { S.told → IsReadyStore S.Store store.old memory.old
+        → StoreTakes S.Store command.Gc store.old memory.old store.new memory.new result }
+{
+    let geometry = store.geometry();
+    let extents = store.extents();
+    let plan = gc_plan::plan(store.table(), memory, &geometry, extents);
+    match plan {
+        Plan::Leaf { .. } => Ok(Reply::No(Refusal::BadLine)),
+        _ => collect(alloc, store, memory, pool, plan),
+    }
+}
+
+/// Takes the step that is planned, and answers it with the operation from before. Only one that begins takes memory, and one that is
+/// blocked or idle does nothing. Two buffers of the pool are borrowed and given back.
+fn collect<S: Store>(
+    alloc: Global,
+    store: &mut S,
+    memory: &mut Memory,
+    pool: &mut Pool,
+    plan: Plan,
+) -> Result<Reply, Failed>
+    requires usable { S.failed store.old ≡ false }
+    requires orderly { IsOrderlyStore S.Store store.old memory.old }
+    requires tidy { IsTidyStore S.Store store.old memory.old }
+    requires tree_room { HasTreeRoom memory.old }
+    requires no_fold { is_fold memory.old.operation ≡ false }
+    requires attachment_room { HasAttachmentRoom memory.old }
+    requires true_now { HasTrueImages S.Store store.old memory.old }
+    requires buffer { (1 < pool.old.free) × (512 * (1 + (S.site store.old).geometry.block) ≤ pool.old.bytes) }
+    requires planned { next_step (store_shape S.Store store.old memory.old) ≡ plan }
+    requires built { is_built (store_shape S.Store store.old memory.old) command.Gc ≡ true }
+    ensures site { S.site store.new ≡ S.site store.old }
+    ensures counts { S.faults store.old ≤ S.faults store.new }
+    ensures cause { Counts S.Store result store.old store.new }
+    ensures beside { S.told → Keeps (S.beside store.old) (S.beside store.new) }
+    ensures pool { pool.new ≡ pool.old }
+    ensures few { HasCommits 4 (table_alone (S.table store.old)) (table_alone (S.table store.new)) }
+    ensures few_left { Leaves S.Store store.new (λ t image. HasCommits 4 (table_alone (S.table store.old)) t) }
+    ensures usable_still { OnOk result (S.failed store.new ≡ false) }
+    ensures orderly_still { OnOk result (IsOrderlyStore S.Store store.new memory.new) }
+    ensures tidy_still { OnOk result (IsTidyStore S.Store store.new memory.new) }
+    ensures no_fold_still { OnOk result (is_fold memory.new.operation ≡ false) }
+    ensures tree_room_still { OnOk result (HasTreeRoom memory.new) }
+    ensures attachment_room_still { OnOk result (HasAttachmentRoom memory.new) }
+    ensures true_still { OnOk result (HasTrueImages S.Store store.new memory.new) }
+    ensures room { HasRows (S.table store.old) → OnOk result (HasRows (S.table store.new)) }
+    ensures refused { IfOk result (λ r. is_accepted r ≡ false → (t : VolumeTable) (image : ℕ → List ℕ) → S.leaves store.new t image → S.leaves store.old t image) }
+    ensures spared { IfOk result (λ r. r ≡ No NoMemory → begins plan ≡ true) }
+    ensures untouched { IfOk result (λ r. is_accepted r ≡ false → OnlyReads S.Store store.old store.new × (memory.new ≡ memory.old)) }
+    ensures lowered { S.told → IsReadyStore S.Store store.old memory.old → IfOk result (λ r. is_accepted r ≡ true → is_working plan ≡ true
+        → ∥ IsLess (debt (store_shape S.Store store.new memory.new)) (debt (store_shape S.Store store.old memory.old)) ∥₁) }
+    ensures taken { S.told → IsReadyStore S.Store store.old memory.old
+        → StoreTakes S.Store command.Gc store.old memory.old store.new memory.new result }
+{
+    let operation = memory.operation;
+    match &plan {
+        Plan::Begin { child, parent, to } => {
+            match begin(alloc, store, memory, child, parent, *to) {
+                Ok(()) => Ok(Reply::Gc(plan, operation)),
+                Err(CallFault::NoMemory) => Ok(Reply::No(Refusal::NoMemory)),
+                Err(CallFault::Device) => Err(Failed),
+            }
+        }
+        Plan::Blocked { .. } | Plan::Idle => Ok(Reply::Gc(plan, operation)),
+        _ => {
+            work(store, memory, pool, plan)?;
+            Ok(Reply::Gc(plan, operation))
+        }
+    }
+}
+
+/// Takes a step that does something and begins nothing. It takes no memory.
+fn work<S: Store>(
+    store: &mut S,
+    memory: &mut Memory,
+    pool: &mut Pool,
+    plan: Plan,
+) -> Result<(), Failed>
+    requires usable { S.failed store.old ≡ false }
+    requires orderly { IsOrderlyStore S.Store store.old memory.old }
+    requires tidy { IsTidyStore S.Store store.old memory.old }
+    requires tree_room { HasTreeRoom memory.old }
+    requires no_fold { is_fold memory.old.operation ≡ false }
+    requires attachment_room { HasAttachmentRoom memory.old }
+    requires true_now { HasTrueImages S.Store store.old memory.old }
+    requires buffer { (1 < pool.old.free) × (512 * (1 + (S.site store.old).geometry.block) ≤ pool.old.bytes) }
+    requires planned { next_step (store_shape S.Store store.old memory.old) ≡ plan }
+    requires built { is_built (store_shape S.Store store.old memory.old) command.Gc ≡ true }
+    requires working { is_working plan ≡ true }
+    requires no_begin { begins plan ≡ false }
+    ensures site { S.site store.new ≡ S.site store.old }
+    ensures counts { S.faults store.old ≤ S.faults store.new }
+    ensures cause { Counts S.Store result store.old store.new }
+    ensures beside { S.told → Keeps (S.beside store.old) (S.beside store.new) }
+    ensures pool { pool.new ≡ pool.old }
+    ensures few { HasCommits 1 (table_alone (S.table store.old)) (table_alone (S.table store.new)) }
+    ensures few_left { Leaves S.Store store.new (λ t image. HasCommits 1 (table_alone (S.table store.old)) t) }
+    ensures usable_still { OnOk result (S.failed store.new ≡ false) }
+    ensures orderly_still { OnOk result (IsOrderlyStore S.Store store.new memory.new) }
+    ensures tidy_still { OnOk result (IsTidyStore S.Store store.new memory.new) }
+    ensures no_fold_still { OnOk result (is_fold memory.new.operation ≡ false) }
+    ensures tree_room_still { OnOk result (HasTreeRoom memory.new) }
+    ensures attachment_room_still { OnOk result (HasAttachmentRoom memory.new) }
+    ensures true_still { OnOk result (HasTrueImages S.Store store.new memory.new) }
+    ensures room { HasRows (S.table store.old) → OnOk result (HasRows (S.table store.new)) }
+    ensures shape { S.told → IsReadyStore S.Store store.old memory.old → OnOk result (ShapesAs S.Store command.Gc store.old memory.old store.new memory.new) }
+    ensures done { S.told → IsReadyStore S.Store store.old memory.old → StoreDoes S.Store command.Gc store.old memory.old store.new memory.new (result ≡ Ok tt) }
+{
+    match plan {
+        Plan::Remove { name } => remove(store, memory, &name),
+        Plan::Deflate { name, to } => {
+            let Name::Vhd(disk) = name else {
+                unreachable!()
+            };
+            deflate(store, memory, &disk, to)
+        }
+        Plan::Copy { block } => copy_block(store, memory, pool, block),
+        Plan::Turn => turn(store, memory),
+        Plan::RelinkOne { child } => relink_one(store, memory, &child),
+        Plan::Finish => finish(store, memory),
+        Plan::Abandon => abandon(store, memory),
+        _ => unreachable!(),
+    }
+}
