@@ -15,8 +15,9 @@ type Row<'a> = (&'a [Piece<'a>], &'a [Piece<'a>]);
 
 /// An empty repository; a disk, its images listed; a disk that is written; a base that is cut; three disks and what is free; a base
 /// that is folded into its own, with a fork and a write before its last child is linked; a copy that is given up when its children
-/// are gone; and a snapshot of a raw disk.
-const ROWS: [Row<'static>; 8] = [
+/// are gone; and a snapshot of a raw disk. Then bases that are folded: two with a sector each in one block; one whose parent has to grow;
+/// one that is larger than its parent; one over a raw base; and one for which there is no room at first.
+const ROWS: [Row<'static>; 13] = [
     (
         &[Text(b"list\ngc\nstat\n")],
         &[Text(b"ok 0\nok gc idle\nok seq 1 free 48 op none images 0\n")],
@@ -109,12 +110,89 @@ const ROWS: [Row<'static>; 8] = [
             ),
         ],
     ),
+    (
+        &[Text(
+            b"create 11111111-1111-4111-8111-111111111111 65536 vhd x\nattach 11111111-1111-4111-8111-111111111111 rw\nfill 11111111-1111-4111-8111-111111111111 0 1 aa\nsnapshot 11111111-1111-4111-8111-111111111111 44444444-4444-4444-8444-444444444444\nfill 11111111-1111-4111-8111-111111111111 2 1 bb\nsnapshot 11111111-1111-4111-8111-111111111111 22222222-2222-4222-8222-222222222222\ndelete 44444444-4444-4444-8444-444444444444\ngc\ngc\ngc\ngc\ngc\ngc\ngc\ngc\ngc\ngc\nattach 22222222-2222-4222-8222-222222222222 ro\nread 11111111-1111-4111-8111-111111111111 0 4\nread 22222222-2222-4222-8222-222222222222 0 4\n",
+        )],
+        &[
+            Text(
+                b"ok 65536\nok\nok\nok\nok\nok\nok\nok gc deflate VHD-6c766864-0000-8000-8000-000000000006\nok gc deflate VHD-6c766864-0000-8000-8000-00000000000e\nok gc begin VHD-6c766864-0000-8000-8000-00000000000e\nok gc copy VHD-6c766864-0000-8000-8000-00000000000e 0\nok gc turn VHD-6c766864-0000-8000-8000-00000000000e\nok gc relink VHD-11111111-1111-4111-8111-111111111111\nok gc relink VHD-22222222-2222-4222-8222-222222222222\nok gc finish VHD-6c766864-0000-8000-8000-00000000000e\nok gc remove VHD-6c766864-0000-8000-8000-00000000000e\nok gc idle\nok\nok ",
+            ),
+            Bytes(0xaa, 512),
+            Bytes(0x00, 512),
+            Bytes(0xbb, 512),
+            Bytes(0x00, 512),
+            Text(b"\nok "),
+            Bytes(0xaa, 512),
+            Bytes(0x00, 512),
+            Bytes(0xbb, 512),
+            Bytes(0x00, 512),
+            Text(b"\n"),
+        ],
+    ),
+    (
+        &[Text(
+            b"create 11111111-1111-4111-8111-111111111111 65536 vhd x\nattach 11111111-1111-4111-8111-111111111111 rw\nfill 11111111-1111-4111-8111-111111111111 0 24 aa\nsnapshot 11111111-1111-4111-8111-111111111111 44444444-4444-4444-8444-444444444444\nfill 11111111-1111-4111-8111-111111111111 24 24 bb\nsnapshot 11111111-1111-4111-8111-111111111111 22222222-2222-4222-8222-222222222222\ndelete 44444444-4444-4444-8444-444444444444\ngc\ngc\ngc\ngc\ngc\nstat\ngc\ngc\ngc\ngc\ngc\ngc\ngc\nattach 22222222-2222-4222-8222-222222222222 ro\nread 22222222-2222-4222-8222-222222222222 23 2\nstat\n",
+        )],
+        &[
+            Text(
+                b"ok 65536\nok\nok\nok\nok\nok\nok\nok gc deflate VHD-6c766864-0000-8000-8000-000000000006\nok gc deflate VHD-6c766864-0000-8000-8000-00000000000e\nok gc begin VHD-6c766864-0000-8000-8000-00000000000e\nok gc copy VHD-6c766864-0000-8000-8000-00000000000e 3\nok gc copy VHD-6c766864-0000-8000-8000-00000000000e 4\nok seq 29 free 39 op copy,VHD-6c766864-0000-8000-8000-00000000000e,VHD-6c766864-0000-8000-8000-000000000006,5 images 4 VHD-11111111-1111-4111-8111-111111111111,v,VHD-6c766864-0000-8000-8000-00000000000e,65536,0,5,1 VHD-22222222-2222-4222-8222-222222222222,v,VHD-6c766864-0000-8000-8000-00000000000e,65536,0,1,0 VHD-6c766864-0000-8000-8000-000000000006,h,-,65536,5,2,1 VHD-6c766864-0000-8000-8000-00000000000e,h,VHD-6c766864-0000-8000-8000-000000000006,65536,3,1,1\nok gc copy VHD-6c766864-0000-8000-8000-00000000000e 5\nok gc turn VHD-6c766864-0000-8000-8000-00000000000e\nok gc relink VHD-11111111-1111-4111-8111-111111111111\nok gc relink VHD-22222222-2222-4222-8222-222222222222\nok gc finish VHD-6c766864-0000-8000-8000-00000000000e\nok gc remove VHD-6c766864-0000-8000-8000-00000000000e\nok gc idle\nok\nok ",
+            ),
+            Bytes(0xaa, 512),
+            Bytes(0xbb, 512),
+            Text(
+                b"\nok seq 32 free 40 op none images 3 VHD-11111111-1111-4111-8111-111111111111,v,VHD-6c766864-0000-8000-8000-000000000006,65536,0,5,1 VHD-22222222-2222-4222-8222-222222222222,v,VHD-6c766864-0000-8000-8000-000000000006,65536,0,1,1 VHD-6c766864-0000-8000-8000-000000000006,h,-,65536,6,2,2\n",
+            ),
+        ],
+    ),
+    (
+        &[Text(
+            b"create 11111111-1111-4111-8111-111111111111 65536 vhd x\nattach 11111111-1111-4111-8111-111111111111 rw\nfill 11111111-1111-4111-8111-111111111111 127 1 aa\nsnapshot 11111111-1111-4111-8111-111111111111 44444444-4444-4444-8444-444444444444\ndetach 11111111-1111-4111-8111-111111111111\nresize 11111111-1111-4111-8111-111111111111 131072\nattach 11111111-1111-4111-8111-111111111111 rw\nfill 11111111-1111-4111-8111-111111111111 128 1 bb\nsnapshot 11111111-1111-4111-8111-111111111111 22222222-2222-4222-8222-222222222222\ndelete 44444444-4444-4444-8444-444444444444\ngc\ngc\ngc\ngc\nstat\ngc\ngc\ngc\ngc\ngc\ngc\nread 11111111-1111-4111-8111-111111111111 127 3\nstat\n",
+        )],
+        &[
+            Text(
+                b"ok 65536\nok\nok\nok\nok\nok 131072\nok\nok\nok\nok\nok gc deflate VHD-6c766864-0000-8000-8000-000000000006\nok gc deflate VHD-6c766864-0000-8000-8000-000000000011\nok gc begin VHD-6c766864-0000-8000-8000-000000000011\nok gc copy VHD-6c766864-0000-8000-8000-000000000011 16\nok seq 29 free 35 op copy,VHD-6c766864-0000-8000-8000-000000000011,VHD-6c766864-0000-8000-8000-000000000006,17 images 4 VHD-11111111-1111-4111-8111-111111111111,v,VHD-6c766864-0000-8000-8000-000000000011,131072,0,10,1 VHD-22222222-2222-4222-8222-222222222222,v,VHD-6c766864-0000-8000-8000-000000000011,131072,0,1,0 VHD-6c766864-0000-8000-8000-000000000006,h,-,131072,2,1,1 VHD-6c766864-0000-8000-8000-000000000011,h,VHD-6c766864-0000-8000-8000-000000000006,131072,1,1,1\nok gc turn VHD-6c766864-0000-8000-8000-000000000011\nok gc relink VHD-11111111-1111-4111-8111-111111111111\nok gc relink VHD-22222222-2222-4222-8222-222222222222\nok gc finish VHD-6c766864-0000-8000-8000-000000000011\nok gc remove VHD-6c766864-0000-8000-8000-000000000011\nok gc idle\nok ",
+            ),
+            Bytes(0xaa, 512),
+            Bytes(0xbb, 512),
+            Bytes(0x00, 512),
+            Text(
+                b"\nok seq 32 free 36 op none images 3 VHD-11111111-1111-4111-8111-111111111111,v,VHD-6c766864-0000-8000-8000-000000000006,131072,0,10,1 VHD-22222222-2222-4222-8222-222222222222,v,VHD-6c766864-0000-8000-8000-000000000006,131072,0,1,0 VHD-6c766864-0000-8000-8000-000000000006,h,-,131072,2,1,1\n",
+            ),
+        ],
+    ),
+    (
+        &[Text(
+            b"create 11111111-1111-4111-8111-111111111111 16384 raw x\nattach 11111111-1111-4111-8111-111111111111 rw\nfill 11111111-1111-4111-8111-111111111111 0 1 aa\nsnapshot 11111111-1111-4111-8111-111111111111 44444444-4444-4444-8444-444444444444\nfill 11111111-1111-4111-8111-111111111111 8 9 bb\nsnapshot 11111111-1111-4111-8111-111111111111 22222222-2222-4222-8222-222222222222\ndelete 44444444-4444-4444-8444-444444444444\ngc\ngc\ngc\ngc\ngc\ngc\ngc\ngc\ngc\ngc\nattach 22222222-2222-4222-8222-222222222222 ro\nread 22222222-2222-4222-8222-222222222222 0 2\nread 11111111-1111-4111-8111-111111111111 15 3\nstat\n",
+        )],
+        &[
+            Text(
+                b"ok 16384\nok\nok\nok\nok\nok\nok\nok gc deflate VHD-6c766864-0000-8000-8000-00000000000b\nok gc begin VHD-6c766864-0000-8000-8000-00000000000b\nok gc copy VHD-6c766864-0000-8000-8000-00000000000b 1\nok gc copy VHD-6c766864-0000-8000-8000-00000000000b 2\nok gc turn VHD-6c766864-0000-8000-8000-00000000000b\nok gc relink VHD-11111111-1111-4111-8111-111111111111\nok gc relink VHD-22222222-2222-4222-8222-222222222222\nok gc finish VHD-6c766864-0000-8000-8000-00000000000b\nok gc remove VHD-6c766864-0000-8000-8000-00000000000b\nok gc idle\nok\nok ",
+            ),
+            Bytes(0xaa, 512),
+            Bytes(0x00, 512),
+            Text(b"\nok "),
+            Bytes(0xbb, 1024),
+            Bytes(0x00, 512),
+            Text(
+                b"\nok seq 25 free 44 op none images 3 LV-6c766864-0000-8000-8000-000000000003,h,-,16384,0,1,2 VHD-11111111-1111-4111-8111-111111111111,v,LV-6c766864-0000-8000-8000-000000000003,16384,0,2,1 VHD-22222222-2222-4222-8222-222222222222,v,LV-6c766864-0000-8000-8000-000000000003,16384,0,1,1\n",
+            ),
+        ],
+    ),
+    (
+        &[Text(
+            b"create 11111111-1111-4111-8111-111111111111 65536 vhd x\nattach 11111111-1111-4111-8111-111111111111 rw\nfill 11111111-1111-4111-8111-111111111111 0 24 aa\nsnapshot 11111111-1111-4111-8111-111111111111 44444444-4444-4444-8444-444444444444\nfill 11111111-1111-4111-8111-111111111111 24 24 bb\nsnapshot 11111111-1111-4111-8111-111111111111 22222222-2222-4222-8222-222222222222\ndelete 44444444-4444-4444-8444-444444444444\ngc\ngc\ncreate 33333333-3333-4333-8333-333333333333 262144 raw y\ncreate 55555555-5555-4555-8555-555555555555 262144 raw z\ncreate 44444444-4444-4444-8444-444444444444 131072 raw z\ngc\ndelete 44444444-4444-4444-8444-444444444444\ngc\ngc\n",
+        )],
+        &[Text(
+            b"ok 65536\nok\nok\nok\nok\nok\nok\nok gc deflate VHD-6c766864-0000-8000-8000-000000000006\nok gc deflate VHD-6c766864-0000-8000-8000-00000000000e\nok 262144\nok 262144\nok 131072\nok gc blocked need 1 free 0\nok\nok gc begin VHD-6c766864-0000-8000-8000-00000000000e\nok gc copy VHD-6c766864-0000-8000-8000-00000000000e 3\n",
+        )],
+    ),
 ];
 
 /// Each row is answered.
 fn all_answered(alloc: Global, new: &MemDisk) -> Result<(), Fail> {
-    for row in ROWS {
-        let (script, printed) = row;
+    for row in &ROWS {
+        let (script, printed) = *row;
         holds(
             is_answered(alloc, new, script, printed)?,
             "the replies to the collector",
@@ -276,11 +354,13 @@ fn stands_each_stop(alloc: Global, new: &MemDisk) -> Result<(), Fail> {
 /// The run stops at each fourth of its calls, and then the opening at each of its own.
 fn opens_behind_stops(alloc: Global, new: &MemDisk) -> Result<(), Fail> {
     let first = calls(alloc, new, FORKED)?;
-    for turn in 0..250 {
-        let (is_done, after) = stopped(alloc, new, COLLECTED, first + 4 * turn)?;
-        opens_at_each_stop(alloc, &after.left(alloc, &[1])?)?;
-        if is_done {
-            return Ok(());
+    for call in first..1000 {
+        if call % 4 == 0 {
+            let (is_done, after) = stopped(alloc, new, COLLECTED, call)?;
+            opens_at_each_stop(alloc, &after.left(alloc, &[1])?)?;
+            if is_done {
+                return Ok(());
+            }
         }
     }
     Err(Fail::from("a run that ends"))
