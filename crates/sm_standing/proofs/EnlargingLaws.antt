@@ -1,5 +1,5 @@
 -- While an image is being enlarged all checks pass that passed before, and each disk stands where it stood.
-use Rattle.std.proofs.Common.{◌≡◌, ◌≢◌, ◌⊎◌, inl, inr, ℕ, zero, suc, ◌+◌, ◌*◌, Bool, true, false, not, cond, ◌&&◌, ◌||◌, ◌==◌, List, [], ◌∷◌, ◌++◌, length, Option, Some, None, is_some, refl, sym, ap, ap₂, ◌∙◌, subst, arith, nat_lt, nat_le}
+use Rattle.std.proofs.Common.{◌≡◌, ◌≢◌, ◌⊎◌, inl, inr, ℕ, zero, suc, ◌+◌, ◌*◌, ◌≤◌, Bool, true, false, not, cond, ◌&&◌, ◌||◌, ◌==◌, List, [], ◌∷◌, ◌++◌, length, Option, Some, None, is_some, refl, sym, ap, ap₂, ◌∙◌, subst, arith, nat_lt, nat_le}
 use Rattle.std.specs.List.{AllZip, filter, find, flat_map, list_all, list_any}
 use Rattle.std.proofs.Math.Path.{fun_ext}
 use Rattle.std.proofs.lemmas.List.{length-append}
@@ -224,7 +224,7 @@ module _ (o : Outline) (t : VolumeTable) (u : List ℕ) (extents : ℕ) (w : IsE
   old_other : (v : List ℕ) → Old v ≢ entry
   old_other v is = let x = is in cc
 
-  folding_same : folding t ≡ folding o.table
+  pub folding_same : folding t ≡ folding o.table
   folding_same = names_same entry u o.table.volumes t.volumes w.volumes is_folding refl
 
   pub making_now : making t ≡ entry ∷ []
@@ -253,9 +253,9 @@ module _ (o : Outline) (t : VolumeTable) (u : List ℕ) (extents : ℕ) (w : IsE
       by (inr k) = carries k.0 r k.1 k.2 (before k.0 k.1)
 
   -- 6
-  record_volume_ok : record_volume_fault o ≡ None → record_volume_fault enlarging ≡ None
+  record_volume_same : record_volume_fault enlarging ≡ record_volume_fault o
   unfolding record_volume_fault
-  record_volume_ok ok = ap (λ b. given (not b) at.Mgt) (by (rows o.table Mgt) (rows t Mgt) refl (near Mgt (λ is. let x = is in cc))) ∙ ok
+  record_volume_same = ap (λ b. given (not b) at.Mgt) (by (rows o.table Mgt) (rows t Mgt) refl (near Mgt (λ is. let x = is in cc)))
     where
       by : (x y : Option Row) → rows o.table Mgt ≡ x → Beside u x y → has_records enlarging y ≡ has_records o x
       by None None is k = refl
@@ -266,10 +266,10 @@ module _ (o : Outline) (t : VolumeTable) (u : List ℕ) (extents : ℕ) (w : IsE
       by (Some q) None is k = absurd k
 
   -- 7
-  too_many_ok : too_many_fault o ≡ None → too_many_fault enlarging ≡ None
+  too_many_same : too_many_fault enlarging ≡ too_many_fault o
   unfolding too_many_fault
-  too_many_ok ok =
-      ap (λ n. given (nat_lt 500 n) at.Images) (count_same entry u o.table.volumes t.volumes w.volumes (λ r. is_data r.name) (λ q r one. ap is_data one.name) (λ r is. ap is_data is)) ∙ ok
+  too_many_same =
+      ap (λ n. given (nat_lt 500 n) at.Images) (count_same entry u o.table.volumes t.volumes w.volumes (λ r. is_data r.name) (λ q r one. ap is_data one.name) (λ r is. ap is_data is))
 
   misnamed_as : VolumeTable → Name → Bool
   misnamed_as x n = is_data n && (has_twin x n || not (are_past x n))
@@ -285,26 +285,28 @@ module _ (o : Outline) (t : VolumeTable) (u : List ℕ) (extents : ℕ) (w : IsE
   twin_alike (Relink a b) = refl
   twin_alike (Leaf a b) = refl
 
-  -- a name that was right is right
-  still_named : (n : Name) → misnamed_as o.table n ≡ false → misnamed_as t n ≡ false
+  -- a name that is right in a table is right in another that has as many of its UUID, and no less used
+  still_named : (x y : VolumeTable) (n : Name) → has_twin y n ≡ has_twin x n → (are_past x n ≡ true → are_past y n ≡ true) → misnamed_as x n ≡ false → misnamed_as y n ≡ false
   unfolding misnamed_as
-  still_named n ok = by (is_data n) (has_twin o.table n) (are_past o.table n) refl refl ok
+  still_named x y n twins used ok = by (is_data n) (has_twin x n) (are_past x n) refl refl ok
     where
-      by : (d twin past : Bool) → has_twin o.table n ≡ twin → are_past o.table n ≡ past → (d && (twin || not past)) ≡ false → (d && (has_twin t n || not (are_past t n))) ≡ false
+      by : (d twin past : Bool) → has_twin x n ≡ twin → are_past x n ≡ past → (d && (twin || not past)) ≡ false → (d && (has_twin y n || not (are_past y n))) ≡ false
       by false twin past is_twin is_past_ h = refl
-      by true false true is_twin is_past_ h = ap₂ (λ a b. a || not b) (twin_alike n ∙ is_twin) (still_past (uuids_in n) is_past_)
+      by true false true is_twin is_past_ h = ap₂ (λ a b. a || not b) (twins ∙ is_twin) (used is_past_)
       by true true past is_twin is_past_ h = absurd (true≢false h)
       by true false false is_twin is_past_ h = absurd (true≢false h)
 
   misnamed_ok : misnamed_fault o ≡ None → misnamed_fault enlarging ≡ None
   unfolding misnamed_fault misnamed_as
   misnamed_ok ok = none_named at.Image (is_misnamed t) t.volumes (each (is_misnamed t) (is_misnamed o.table) (λ r is. ap (misnamed_as t) is)
-      (named_none at.Image (is_misnamed o.table) o.table.volumes ok) (λ q r i one was. ap (misnamed_as t) one.name ∙ still_named q.name was))
+      (named_none at.Image (is_misnamed o.table) o.table.volumes ok) (λ q r i one was. ap (misnamed_as t) one.name ∙ still_named o.table t q.name (twin_alike q.name) (still_past (uuids_in q.name)) was))
 
   -- 8
-  second_entry_ok : second_entry_fault o ≡ None → second_entry_fault enlarging ≡ None
+  second_entry_same : second_entry_fault enlarging ≡ second_entry_fault o
   unfolding second_entry_fault
-  second_entry_ok ok = ap₂ (λ xs ys. placed at.Journal (lesser (second xs) (second ys))) folding_same making_now ∙ sym (ap (λ ys. placed at.Journal (lesser (second (folding o.table)) (second ys))) w.none_making) ∙ ok
+  second_entry_same =
+      ap₂ (λ xs ys. placed at.Journal (lesser (second xs) (second ys))) folding_same making_now
+      ∙ sym (ap (λ ys. placed at.Journal (lesser (second (folding o.table)) (second ys))) w.none_making)
 
   coalescing_alike : (a b : List ℕ) → is_coalescing t a b ≡ is_coalescing o.table a b
   coalescing_alike a b = ap₂ (λ x y. x && y) (hidden_alike (Vhd a) (vhd_other a)) (ap₂ (λ x y. x || y) (hidden_alike (Vhd b) (vhd_other b)) (hidden_alike (Raw b) (raw_other b)))
@@ -312,7 +314,7 @@ module _ (o : Outline) (t : VolumeTable) (u : List ℕ) (extents : ℕ) (w : IsE
   copied_alike : (l p : List ℕ) → is_leaf_copied t l p ≡ is_leaf_copied o.table l p
   copied_alike l p = ap₂ (λ x y. x && y) (visible_alike (Vhd l) (vhd_other l)) (ap₂ (λ x y. x && not y) (hidden_alike (Vhd p) (vhd_other p)) (there_alike (Old l) (old_other l)))
 
-  renamed_alike : (l p : List ℕ) → is_leaf_renamed t l p ≡ is_leaf_renamed o.table l p
+  pub renamed_alike : (l p : List ℕ) → is_leaf_renamed t l p ≡ is_leaf_renamed o.table l p
   renamed_alike l p = ap₂ (λ x y. x && y) (there_alike (Old l) (old_other l)) (ap₂ (λ x y. x && y) (hidden_alike (Vhd p) (vhd_other p)) (ap₂ (λ x y. not x && not y) (there_alike (Vhd l) (vhd_other l)) (there_alike (Raw l) (raw_other l))))
 
   swapped_alike : (l p : List ℕ) → is_leaf_swapped t l p ≡ is_leaf_swapped o.table l p
@@ -362,20 +364,21 @@ module _ (o : Outline) (t : VolumeTable) (u : List ℕ) (extents : ℕ) (w : IsE
   lost_as : VolumeTable → Name → Bool
   lost_as x n = is_entry n && not (is_at_stage x n && are_past x n)
 
-  still_found : (n : Name) → is_making n ≡ false → lost_as o.table n ≡ false → lost_as t n ≡ false
+  still_found : (x y : VolumeTable) (n : Name) → is_at_stage y n ≡ is_at_stage x n → (are_past x n ≡ true → are_past y n ≡ true) → lost_as x n ≡ false → lost_as y n ≡ false
   unfolding lost_as
-  still_found n no_making ok = by (is_entry n) (is_at_stage o.table n) (are_past o.table n) refl refl ok
+  still_found x y n stages used ok = by (is_entry n) (is_at_stage x n) (are_past x n) refl refl ok
     where
-      by : (d stage past : Bool) → is_at_stage o.table n ≡ stage → are_past o.table n ≡ past → (d && not (stage && past)) ≡ false → (d && not (is_at_stage t n && are_past t n)) ≡ false
+      by : (d stage past : Bool) → is_at_stage x n ≡ stage → are_past x n ≡ past → (d && not (stage && past)) ≡ false → (d && not (is_at_stage y n && are_past y n)) ≡ false
       by false stage past is_stage is_past_ h = refl
-      by true true true is_stage is_past_ h = ap₂ (λ a b. not (a && b)) (stage_alike n no_making ∙ is_stage) (still_past (uuids_in n) is_past_)
+      by true true true is_stage is_past_ h = ap₂ (λ a b. not (a && b)) (stages ∙ is_stage) (used is_past_)
       by true false past is_stage is_past_ h = absurd (true≢false h)
       by true true false is_stage is_past_ h = absurd (true≢false h)
 
   lost_entry_ok : misnamed_fault o ≡ None → lost_entry_fault o ≡ None → lost_entry_fault enlarging ≡ None
   unfolding lost_entry_fault lost_as
   lost_entry_ok named ok = none_named at.Journal (is_lost t) t.volumes (each (is_lost t) (is_lost o.table) (λ r is. ap (lost_as t) is ∙ ap not (entry_stands named))
-      (named_none at.Journal (is_lost o.table) o.table.volumes ok) (λ q r i one was. ap (lost_as t) one.name ∙ still_found q.name (not_making q i) was))
+      (named_none at.Journal (is_lost o.table) o.table.volumes ok)
+      (λ q r i one was. ap (lost_as t) one.name ∙ still_found o.table t q.name (stage_alike q.name (not_making q i)) (still_past (uuids_in q.name)) was))
 
   -- 9
   old_alike : (v : List ℕ) (n : Name) → is_old_of t v n ≡ is_old_of o.table v n
@@ -538,11 +541,11 @@ module _ (o : Outline) (t : VolumeTable) (u : List ℕ) (extents : ℕ) (w : IsE
       by None = plainly
       by (Some x) = folded_stands x v (stands_plainly t v) (stands_plainly o.table v) plainly
 
-  disk_ok : disk_fault o ≡ None → disk_fault enlarging ≡ None
+  disk_same : disk_fault enlarging ≡ disk_fault o
   unfolding disk_fault outline_records
-  disk_ok ok =
+  disk_same =
       ap (λ us. disk_place (find (is_unrecorded o) (filter (λ v. is_some (standing_volume t v)) us))) uuids_alike
-      ∙ ap (λ f. disk_place (find (is_unrecorded o) (filter f (uuids o.table)))) (fun_ext (λ v. ap is_some (stands_alike v))) ∙ ok
+      ∙ ap (λ f. disk_place (find (is_unrecorded o) (filter f (uuids o.table)))) (fun_ext (λ v. ap is_some (stands_alike v)))
 
   -- no check fails
   pub enlarging_sound : fault_of o ≡ None → fault_of enlarging ≡ None
@@ -556,15 +559,78 @@ module _ (o : Outline) (t : VolumeTable) (u : List ℕ) (extents : ℕ) (w : IsE
       named = was (misnamed_fault o) (inr (inr (inl refl)))
 
       pass : (f : Option Place) → In f (all_faults enlarging) → f ≡ None
-      pass f (inl is) = is ∙ record_volume_ok (was _ (inl refl))
-      pass f (inr (inl is)) = is ∙ too_many_ok (was _ (inr (inl refl)))
+      pass f (inl is) = is ∙ record_volume_same ∙ was _ (inl refl)
+      pass f (inr (inl is)) = is ∙ too_many_same ∙ was _ (inr (inl refl))
       pass f (inr (inr (inl is))) = is ∙ misnamed_ok named
-      pass f (inr (inr (inr (inl is)))) = is ∙ second_entry_ok (was _ (inr (inr (inr (inl refl)))))
+      pass f (inr (inr (inr (inl is)))) = is ∙ second_entry_same ∙ was _ (inr (inr (inr (inl refl))))
       pass f (inr (inr (inr (inr (inl is))))) = is ∙ lost_entry_ok named (was _ (inr (inr (inr (inr (inl refl))))))
       pass f (inr (inr (inr (inr (inr (inl is)))))) = is ∙ old_leaf_ok (was _ (inr (inr (inr (inr (inr (inl refl)))))))
       pass f (inr (inr (inr (inr (inr (inr (inl is))))))) = is ∙ invalid_ok (was _ (inr (inr (inr (inr (inr (inr (inl refl))))))))
       pass f (inr (inr (inr (inr (inr (inr (inr (inl is)))))))) = is ∙ tree_ok (was _ (inr (inr (inr (inr (inr (inr (inr (inl refl)))))))))
       pass f (inr (inr (inr (inr (inr (inr (inr (inr (inl is))))))))) = is ∙ entry_link_ok (was _ (inr (inr (inr (inr (inr (inr (inr (inr (inl refl))))))))))
       pass f (inr (inr (inr (inr (inr (inr (inr (inr (inr (inl is)))))))))) = is ∙ was _ (inr (inr (inr (inr (inr (inr (inr (inr (inr (inl refl))))))))))
-      pass f (inr (inr (inr (inr (inr (inr (inr (inr (inr (inr (inl is))))))))))) = is ∙ disk_ok (was _ (inr (inr (inr (inr (inr (inr (inr (inr (inr (inr (inl refl))))))))))))
+      pass f (inr (inr (inr (inr (inr (inr (inr (inr (inr (inr (inl is))))))))))) = is ∙ disk_same ∙ was _ (inr (inr (inr (inr (inr (inr (inr (inr (inr (inr (inl refl)))))))))))
       pass f (inr (inr (inr (inr (inr (inr (inr (inr (inr (inr (inr none))))))))))) = absurd none
+
+  -- nor did one fail without it where none does, if no UUID was used since
+  module _ (used : t.sequence ≤ o.table.sequence) where
+    past_before : (vs : List (List ℕ)) → list_all (is_past t.sequence) vs ≡ true → list_all (is_past o.table.sequence) vs ≡ true
+    past_before vs = all_past vs t.sequence o.table.sequence used
+
+    -- each row from before passes as the one that it is now does
+    each_before : (test was : Row → Bool) → ((r : Row) → In r t.volumes → test r ≡ false) → ((q r : Row) → In q o.table.volumes → IsAtLeast u q r → test r ≡ false → was q ≡ false)
+        → (q : Row) → In q o.table.volumes → was q ≡ false
+    each_before test was now carries q i = let k = into entry u o.table.volumes t.volumes q w.volumes i in carries q k.0 i k.2 (now k.0 k.1)
+
+    misnamed_before : misnamed_fault enlarging ≡ None → misnamed_fault o ≡ None
+    unfolding misnamed_fault misnamed_as
+    misnamed_before ok = none_named at.Image (is_misnamed o.table) o.table.volumes (each_before (is_misnamed t) (is_misnamed o.table) (named_none at.Image (is_misnamed t) t.volumes ok)
+        (λ q r i one now. still_named t o.table q.name (sym (twin_alike q.name)) (past_before (uuids_in q.name)) (sym (ap (misnamed_as t) one.name) ∙ now)))
+
+    lost_entry_before : lost_entry_fault enlarging ≡ None → lost_entry_fault o ≡ None
+    unfolding lost_entry_fault lost_as
+    lost_entry_before ok = none_named at.Journal (is_lost o.table) o.table.volumes (each_before (is_lost t) (is_lost o.table) (named_none at.Journal (is_lost t) t.volumes ok)
+        (λ q r i one now. still_found t o.table q.name (sym (stage_alike q.name (not_making q i))) (past_before (uuids_in q.name)) (sym (ap (lost_as t) one.name) ∙ now)))
+
+    old_leaf_before : old_leaf_fault enlarging ≡ None → old_leaf_fault o ≡ None
+    unfolding old_leaf_fault
+    old_leaf_before ok = none_named at.Image (λ r. is_orphaned o.table r.name) o.table.volumes
+        (each_before (λ r. is_orphaned t r.name) (λ r. is_orphaned o.table r.name) (named_none at.Image (λ r. is_orphaned t r.name) t.volumes ok)
+        (λ q r i one now. sym (orphaned_alike q.name) ∙ sym (ap (is_orphaned t) one.name) ∙ now))
+
+    invalid_before : invalid_fault enlarging ≡ None → invalid_fault o ≡ None
+    unfolding invalid_fault
+    invalid_before ok = none_named at.Image (is_invalid o) o.table.volumes (each_before (is_invalid enlarging) (is_invalid o) (named_none at.Image (is_invalid enlarging) t.volumes ok)
+        (λ q r i one now. sym (ap (λ n. not r.fresh && is_image_wrong enlarging r n) one.name ∙ ap₂ (λ f b. not f && b) one.fresh (wrong_alike q r q.name one refl)) ∙ now))
+
+    tree_before : tree_fault enlarging ≡ None → tree_fault o ≡ None
+    unfolding tree_fault
+    tree_before ok = none_named at.Tree (is_tree_wrong o) o.table.volumes (each_before (is_tree_wrong enlarging) (is_tree_wrong o) (named_none at.Tree (is_tree_wrong enlarging) t.volumes ok)
+        (λ q r i one now. sym (ap (tree_wrong_as enlarging r) one.name ∙ tree_alike q r q.name one) ∙ now))
+
+    entry_link_before : entry_link_fault enlarging ≡ None → entry_link_fault o ≡ None
+    unfolding entry_link_fault
+    entry_link_before ok = none_named at.Journal (λ r. not (is_entry_linked o r.name)) o.table.volumes
+        (each_before (λ r. not (is_entry_linked enlarging r.name)) (λ r. not (is_entry_linked o r.name)) (named_none at.Journal (λ r. not (is_entry_linked enlarging r.name)) t.volumes ok)
+        (λ q r i one now. sym (ap (λ n. not (is_entry_linked enlarging n)) one.name ∙ ap not (entry_alike q.name (not_making q i))) ∙ now))
+
+    pub sound_before : fault_of enlarging ≡ None → fault_of o ≡ None
+    unfolding fault_of record_fault
+    sound_before sound = first_none (all_faults o) pass
+      where
+        now : (f : Option Place) → In f (all_faults enlarging) → f ≡ None
+        now = none_first (all_faults enlarging) sound
+
+        pass : (f : Option Place) → In f (all_faults o) → f ≡ None
+        pass f (inl is) = is ∙ sym record_volume_same ∙ now _ (inl refl)
+        pass f (inr (inl is)) = is ∙ sym too_many_same ∙ now _ (inr (inl refl))
+        pass f (inr (inr (inl is))) = is ∙ misnamed_before (now _ (inr (inr (inl refl))))
+        pass f (inr (inr (inr (inl is)))) = is ∙ sym second_entry_same ∙ now _ (inr (inr (inr (inl refl))))
+        pass f (inr (inr (inr (inr (inl is))))) = is ∙ lost_entry_before (now _ (inr (inr (inr (inr (inl refl))))))
+        pass f (inr (inr (inr (inr (inr (inl is)))))) = is ∙ old_leaf_before (now _ (inr (inr (inr (inr (inr (inl refl)))))))
+        pass f (inr (inr (inr (inr (inr (inr (inl is))))))) = is ∙ invalid_before (now _ (inr (inr (inr (inr (inr (inr (inl refl))))))))
+        pass f (inr (inr (inr (inr (inr (inr (inr (inl is)))))))) = is ∙ tree_before (now _ (inr (inr (inr (inr (inr (inr (inr (inl refl)))))))))
+        pass f (inr (inr (inr (inr (inr (inr (inr (inr (inl is))))))))) = is ∙ entry_link_before (now _ (inr (inr (inr (inr (inr (inr (inr (inr (inl refl))))))))))
+        pass f (inr (inr (inr (inr (inr (inr (inr (inr (inr (inl is)))))))))) = is ∙ now _ (inr (inr (inr (inr (inr (inr (inr (inr (inr (inl refl))))))))))
+        pass f (inr (inr (inr (inr (inr (inr (inr (inr (inr (inr (inl is))))))))))) = is ∙ sym disk_same ∙ now _ (inr (inr (inr (inr (inr (inr (inr (inr (inr (inr (inl refl)))))))))))
+        pass f (inr (inr (inr (inr (inr (inr (inr (inr (inr (inr (inr none))))))))))) = absurd none

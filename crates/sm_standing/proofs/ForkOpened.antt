@@ -12,9 +12,7 @@ use Rattle.sm_base.specs.Names.{IsName, name_cmp}
 use Rattle.sm_base.specs.Numbers.{IsGeometry}
 use Rattle.sm_base.specs.declared.names.Name.{Name}
 use Rattle.sm_base.specs.declared.names.Name.TheVariants.{Mgt, Vhd, Raw, Clone}
-use Rattle.sm_base.specs.declared.operations.Op.TheVariants.{Idle}
 use Rattle.sm_machine.specs.Disks.{Disk}
-use Rattle.sm_machine.specs.Shapes.{ImageRow, Shape}
 use Rattle.vg_meta.specs.Tables.{VolumeTable, Row, IsTable, IsVolume, name_eq, row_of, rows}
 use Rattle.vg_meta.specs.Changes.{Permits, applied, put, put_some, renamed as renamed_row, tagged, with_row, without}
 use Rattle.vg_meta.specs.declared.changes.Change.{Change}
@@ -28,9 +26,8 @@ use Rattle.sm_standing.specs.Forks.{forked}
 use Rattle.sm_standing.specs.Contents.{Content, record_count, size_of}
 use Rattle.sm_standing.specs.Entries.{head, image_with, is_there, making, of_row}
 use Rattle.sm_standing.specs.Images.{Image, image_of}
-use Rattle.sm_standing.specs.Opened.{Part, Work, base_back, begun, by_entry, committed, enlarging_undone, extents_besides, folding_ended, forking_undone, has_part, in_name_order, is_part, new_removed, opened, part_of, removed, renamed, repaired, row_of_part, shown, under_name}
+use Rattle.sm_standing.specs.Opened.{Part, Work, base_back, begun, by_entry, committed, enlarging_undone, extents_besides, folding_ended, forking_undone, has_part, in_name_order, is_part, opened, part_of, removed, renamed, repaired, row_of_part, shown, under_name}
 use Rattle.sm_standing.specs.PlainSound.{SimpleSound}
-use Rattle.sm_standing.specs.Shapes.{disk_record}
 use Rattle.sm_standing.specs.Standing.{disks}
 use Rattle.sm_standing.specs.Undone.{AllPermit, applied_all, base_changes, undo_changes, undone, undone_content, wanted}
 use Rattle.sm_standing.proofs.ForkContents.{image_kept, images_apart}
@@ -40,7 +37,7 @@ use Rattle.sm_standing.proofs.ForkTables.{IsForkStage}
 use Rattle.sm_standing.proofs.ForkUndone.{at_base, fork_last, fork_permits, fork_table, fork_undone, fork_undone_disks, gone_last, its_stage, last_making, last_name, last_part, n}
 use Rattle.sm_standing.proofs.PartLists.{AreAlike, IsPut, images_alike, left_alike, put_any, put_filter, sums_alike}
 use Rattle.sm_standing.proofs.PlainDisks.{all-In, no_folding, simple_folding}
-use Rattle.sm_standing.proofs.UndoneShape.{any_part, behind, none_more, others_cut, part_there, parts_without, removed_work, work_of}
+use Rattle.sm_standing.proofs.UndoneShape.{any_part, behind, left, none_more, others_cut, part_there, parts_without, removed_work, shape_by, shape_of, work_of}
 use Rattle.sm_standing.proofs.VolumeLists.{found_in}
 
 -- ---- the edits of a list of volumes
@@ -70,7 +67,7 @@ module _ (c : Content) (n : Name) where
       by false is h rest = ap (λ ps. part_of c r ∷ ps) (rest h)
 
   -- the part of this name gets another, in its place
-  parts_renamed : (to : Name) (rs : List Row) (own : Row) → IsRising rs → row_of rs n ≡ Some own
+  pub parts_renamed : (to : Name) (rs : List Row) (own : Row) → IsRising rs → row_of rs n ≡ Some own
       → IsPut (record (part_of c own) { name = to }) (parts (without n rs)) (map (λ p. when (is_part n p) (λ q. record q { name = to }) p) (parts rs))
   unfolding row_of without IsStrictlySortedBy
   parts_renamed to [] own rising there = absurd (none-some own there)
@@ -84,7 +81,7 @@ module _ (c : Content) (n : Name) where
       by true is h rest = inl (ap (λ (x : Row). record (part_of c x) { name = to }) (same_Some r own h), others_cut c n (λ q. record q { name = to }) rs (behind c n r rs rising is))
       by false is h rest = inr (parts (without n rs), refl, rest h)
 
-parts_put : (c : Content) (r : Row) (rs : List Row) → IsPut (part_of c r) (map (part_of c) rs) (map (part_of c) (put r rs))
+pub parts_put : (c : Content) (r : Row) (rs : List Row) → IsPut (part_of c r) (map (part_of c) rs) (map (part_of c) (put r rs))
 unfolding put
 parts_put c r [] = inl (refl, refl)
 parts_put c r (s ∷ rs) = by (is_lt (name_cmp r.name s.name)) (parts_put c r rs)
@@ -93,19 +90,25 @@ parts_put c r (s ∷ rs) = by (is_lt (name_cmp r.name s.name)) (parts_put c r rs
     by true rest = inl (refl, refl)
     by false rest = inr (map (part_of c) rs, refl, rest)
 
-map_same : (f g : Row → Part) (rs : List Row) → ((r : Row) → In r rs → f r ≡ g r) → map f rs ≡ map g rs
+-- two working copies in which a part stands in two places have one shape
+pub shape_alike : (c : Content) (p : Part) → IsName p.name → (v w : Work) → AreAlike p v w → (ds : List Disk) → shape_of c v ds ≡ shape_of c w ds
+shape_alike c p proper v w a ds =
+    ap₂ (λ k m. shape_by c k m (in_name_order (filter_map row_of_part v.parts)) ds) a.sequence (sums_alike p extents_besides v w a)
+    ∙ ap (λ is. shape_by c w.sequence (sum (map extents_besides w.parts)) is ds) (images_alike p proper v w a)
+
+pub map_same : (f g : Row → Part) (rs : List Row) → ((r : Row) → In r rs → f r ≡ g r) → map f rs ≡ map g rs
 map_same f g [] same = refl
 map_same f g (r ∷ rs) same = ap₂ (λ x xs. x ∷ xs) (same r (inl refl)) (map_same f g rs (λ q i. same q (inr i)))
 
 -- ---- the edits of a table
 
 module _ (c : Content) (t : VolumeTable) (rising : IsRising t.volumes) where
-  edit_removed : (n : Name) (b : Bool) → is_there t n ≡ b → removed n (work_of c t) ≡ work_of c (applied_all t (wanted b (Remove n)))
+  pub edit_removed : (n : Name) (b : Bool) → is_there t n ≡ b → removed n (work_of c t) ≡ work_of c (applied_all t (wanted b (Remove n)))
   edit_removed n true there = let k = is_some-parts (rows t n) there in removed_work c n t k.0 rising k.1
   edit_removed n false gone =
       ap (λ b. when b (λ v. committed v (filter (λ p. not (is_part n p)) v.parts)) (work_of c t)) (part_absent c n t.volumes (none_of_some (rows t n) gone))
 
-  edit_shown : (n : Name) (r : Row) → rows t n ≡ Some r → (b : Bool) → of_row (λ x. x.hidden) (rows t n) ≡ b → shown n (work_of c t) ≡ work_of c (applied_all t (wanted b (Mark n Hidden false)))
+  pub edit_shown : (n : Name) (r : Row) → rows t n ≡ Some r → (b : Bool) → of_row (λ x. x.hidden) (rows t n) ≡ b → shown n (work_of c t) ≡ work_of c (applied_all t (wanted b (Mark n Hidden false)))
   edit_shown n r there b is =
       ap by_test (any_part c n (λ p. p.hidden) t.volumes rising ∙ is) ∙ by b
     where
@@ -118,11 +121,11 @@ module _ (c : Content) (t : VolumeTable) (rising : IsRising t.volumes) where
 
 -- ---- runs of changes that are allowed
 
-permits_front : (count : ℕ) (t : VolumeTable) (xs ys : List Change) → AllPermit count t (xs ++ ys) → IsTable count t → IsTable count (applied_all t xs) × AllPermit count (applied_all t xs) ys
+pub permits_front : (count : ℕ) (t : VolumeTable) (xs ys : List Change) → AllPermit count t (xs ++ ys) → IsTable count t → IsTable count (applied_all t xs) × AllPermit count (applied_all t xs) ys
 permits_front count t [] ys may table = (table, may)
 permits_front count t (x ∷ xs) ys may table = permits_front count (applied t x) xs ys may.1 (IsTable-applied count t x table may.0)
 
-applied_then : (t : VolumeTable) (xs ys : List Change) → applied_all t (xs ++ ys) ≡ applied_all (applied_all t xs) ys
+pub applied_then : (t : VolumeTable) (xs ys : List Change) → applied_all t (xs ++ ys) ≡ applied_all (applied_all t xs) ys
 applied_then t [] ys = refl
 applied_then t (x ∷ xs) ys = applied_then (applied t x) xs ys
 
@@ -400,9 +403,6 @@ module _ (c : Content) (table : IsTable c.count c.table) (geometry : IsGeometry 
 
   -- ---- the shape
 
-  abbrev left : Work → Work
-  left x = new_removed x.parts x
-
   abbrev by_names : VolumeTable → Work → List Name → List Name → Work
   by_names v x ns fs = left (by_entry (folding_ended v) (head fs) (by_entry (forking_undone v) (head ns) (by_entry enlarging_undone (head ns) x)))
 
@@ -414,36 +414,14 @@ module _ (c : Content) (table : IsTable c.count c.table) (geometry : IsGeometry 
       let sound = fork_undone c table geometry room s disk base twin entry in
       ap₂ (by_names (undone t) (begun d)) (last_making c table geometry room s disk base twin entry) (no_folding (undone t).volumes sound.plain)
 
-  abbrev shape_by : ℕ → ℕ → List ImageRow → List Disk → Shape
-  shape_by sequence besides images ds = record {
-    sequence = sequence;
-    extent = c.extent;
-    block = c.block;
-    entries = c.entries;
-    extents = c.count;
-    others = besides;
-    records = map disk_record ds;
-    images = images;
-    attached = [];
-    op = Idle;
-  }
-
-  abbrev shape_of : Work → List Disk → Shape
-  shape_of x ds = shape_by x.sequence (sum (map extents_besides x.parts)) (in_name_order (filter_map row_of_part x.parts)) ds
-
-  shape_alike : (p : Part) → IsName p.name → (v w : Work) → AreAlike p v w → (ds : List Disk) → shape_of v ds ≡ shape_of w ds
-  shape_alike p proper v w a ds =
-      ap₂ (λ k m. shape_by k m (in_name_order (filter_map row_of_part v.parts)) ds) a.sequence (sums_alike p extents_besides v w a)
-      ∙ ap (λ is. shape_by w.sequence (sum (map extents_besides w.parts)) is ds) (images_alike p proper v w a)
-
-  same_shape : (ds : List Disk) → shape_of (left (forking_undone t e (begun c))) ds ≡ shape_of (left (begun d)) ds
+  same_shape : (ds : List Disk) → shape_of c (left (forking_undone t e (begun c))) ds ≡ shape_of c (left (begun d)) ds
   same_shape ds = let k = fork_last c table geometry room s disk base twin entry in by k.3
     where
-      by : ((image_with t base ≡ None) × (last ≡ it)) ⊎ ((image_with t base ≡ Some it) × (last ≡ under_name it disk)) → shape_of (left (forking_undone t e (begun c))) ds ≡ shape_of (left (begun d)) ds
-      by (inl k) = ap (λ w. shape_of (left w) ds) (begun_same k.0 k.1)
+      by : ((image_with t base ≡ None) × (last ≡ it)) ⊎ ((image_with t base ≡ Some it) × (last ≡ under_name it disk)) → shape_of c (left (forking_undone t e (begun c))) ds ≡ shape_of c (left (begun d)) ds
+      by (inl k) = ap (λ w. shape_of c (left w) ds) (begun_same k.0 k.1)
       by (inr k) =
-          ap (λ w. shape_of (left w) ds) (made_work k.0 k.1)
-          ∙ shape_alike (moved k.0 k.1) (may_rename k.0 k.1).name_proper (left (ended k.0 k.1)) (left (begun d))
+          ap (λ w. shape_of c (left w) ds) (made_work k.0 k.1)
+          ∙ shape_alike c (moved k.0 k.1) (may_rename k.0 k.1).name_proper (left (ended k.0 k.1)) (left (begun d))
           (left_alike (moved k.0 k.1) (old k.0 k.1) (ended k.0 k.1) (begun d) (alike k.0 k.1)) ds
         where
           old : (image : image_with t base ≡ Some it) (to_last : last ≡ under_name it disk) → (own image to_last).fresh ≡ false
@@ -459,5 +437,5 @@ module _ (c : Content) (table : IsTable c.count c.table) (geometry : IsGeometry 
   pub fork_opened : opened (undone_content c) ≡ opened c
   unfolding opened
   fork_opened =
-      ap₂ shape_of repaired_now (fork_undone_disks c table geometry room s disk base twin entry)
-      ∙ sym (same_shape (disks c)) ∙ ap (λ w. shape_of w (disks c)) (sym repaired_then)
+      ap₂ (shape_of c) repaired_now (fork_undone_disks c table geometry room s disk base twin entry)
+      ∙ sym (same_shape (disks c)) ∙ ap (λ w. shape_of c w (disks c)) (sym repaired_then)

@@ -44,3 +44,15 @@ pub mod UnfoldedShape
 pub mod UnfoldedRuns
 pub mod UnfoldedToday
 pub mod LinkingLaws
+pub mod LeafStages
+pub mod LeafSteady
+pub mod LeafMoves
+pub mod LeafRename
+pub mod LeafRuns
+pub mod LeafCornerUndone
+pub mod LeafCorner
+pub mod LeafEnds
+pub mod LeafSteps
+pub mod LeafOpenedEdits
+pub mod LeafOpenedParts
+pub mod LeafOpened

@@ -166,7 +166,7 @@ module _ (p : Part) where
     pub first : IsPut p others v.parts
     pub second : IsPut p others w.parts
 
-  removed_alike : (n : Name) → is_part n p ≡ false → (v w : Work) → AreAlike v w → AreAlike (removed n v) (removed n w)
+  pub removed_alike : (n : Name) → is_part n p ≡ false → (v w : Work) → AreAlike v w → AreAlike (removed n v) (removed n w)
   removed_alike n other v w a = subst (λ b. AreAlike (removed n v) (when b (λ x. committed x (filter (λ q. not (is_part n q)) x.parts)) w)) same (by (has_part n v))
     where
       same : has_part n v ≡ has_part n w

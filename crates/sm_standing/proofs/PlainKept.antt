@@ -19,7 +19,7 @@ use Rattle.vg_meta.proofs.ExtentLaws.{All-weaken}
 use Rattle.vg_meta.proofs.RowLaws.{row_of-name}
 use Rattle.common_laws.specs.Lists.{In, numbers}
 use Rattle.sm_standing.specs.Plain.{is_plain, is_plain_name, IsPlain, is_simple, is_simple_name, IsSimple, is_known, is_known_name, IsKnown}
-use Rattle.sm_standing.specs.PlainSound.{PlainSound, SimpleSound, KnownSound}
+use Rattle.sm_standing.specs.PlainSound.{AllSound, PlainSound, SimpleSound, KnownSound}
 use Rattle.sm_standing.specs.Contents.{Content, row, record_count, is_record_of}
 use Rattle.sm_standing.specs.Entries.{are_past, folding, is_at_stage, is_folding, is_making, is_old_of, making, second}
 use Rattle.sm_standing.specs.Standing.{standing_volume, uuids}
@@ -291,6 +291,31 @@ today_known c h =
           (each (entry_link_fault (outline c)) (inr (inr (inr (inr (inr (inr (inr (inr (inr (inl refl))))))))))) r h);
       right = λ k below. sym (ap is_damaged (reading_within c k below)) ∙ none_find _ (numbers 0 record_count) (record_none _ (each (record_fault (outline c)) (inr (inr (inr (inr (inr (inr (inr (inr (inr (inr (inl refl))))))))))))) k (numbers-In 0 record_count k (omega arith) (omega arith));
       recorded = λ u n is. ap (λ rs. length (filter (is_record_of u) rs)) (sym (outline_records_same c)) ∙ eqb-true _ 1 (not_false _ (none_find _ (disk_uuids (outline c)) (disk_none _ (each (disk_fault (outline c)) (inr (inr (inr (inr (inr (inr (inr (inr (inr (inr (inr (inl refl)))))))))))))) u (listed_disk c u n is)));
+    }
+
+-- where all checks pass it is sound fact by fact
+pub sound_all : (c : Content) → first_fault c ≡ None → AllSound c
+unfolding fault_of record_volume_fault too_many_fault misnamed_fault second_entry_fault lost_entry_fault old_leaf_fault invalid_fault tree_fault entry_link_fault record_fault disk_fault
+sound_all c h =
+    let each = none_first (all_faults (outline c)) h in
+    let w = records_right c (row c Mgt) refl (none_given _ at.Mgt (each (record_volume_fault (outline c)) (inl refl))) in
+    let entries = lesser_none (second (folding c.table)) (second (making c.table)) (place_none at.Journal _ (each (second_entry_fault (outline c)) (inr (inr (inr (inl refl)))))) in
+    record {
+      records_row = w.0;
+      records_there = w.1;
+      records_extents = w.2;
+      few_images = not_above (length (images c.table)) (none_given _ at.Images (each (too_many_fault (outline c)) (inr (inl refl))));
+      named = named_none at.Image _ c.table.volumes (each (misnamed_fault (outline c)) (inr (inr (inl refl))));
+      one_folding = entries.0;
+      one_entry = entries.1;
+      at_stage = named_none at.Journal _ c.table.volumes (each (lost_entry_fault (outline c)) (inr (inr (inr (inr (inl refl))))));
+      owned = named_none at.Image (λ r. is_orphaned c.table r.name) c.table.volumes (each (old_leaf_fault (outline c)) (inr (inr (inr (inr (inr (inl refl)))))));
+      valid = named_none at.Image _ c.table.volumes (each (invalid_fault (outline c)) (inr (inr (inr (inr (inr (inr (inl refl))))))));
+      placed = named_none at.Tree _ c.table.volumes (each (tree_fault (outline c)) (inr (inr (inr (inr (inr (inr (inr (inl refl)))))))));
+      linked = λ r i. not_false (is_entry_linked (outline c) r.name) (named_none at.Journal (λ q. not (is_entry_linked (outline c) q.name)) c.table.volumes
+          (each (entry_link_fault (outline c)) (inr (inr (inr (inr (inr (inr (inr (inr (inl refl)))))))))) r i);
+      right = λ k below. sym (ap is_damaged (reading_within c k below)) ∙ none_find _ (numbers 0 record_count) (record_none _ (each (record_fault (outline c)) (inr (inr (inr (inr (inr (inr (inr (inr (inr (inl refl)))))))))))) k (numbers-In 0 record_count k (omega arith) (omega arith));
+      recorded = λ u n is. ap (λ rs. length (filter (is_record_of u) rs)) (sym (outline_records_same c)) ∙ eqb-true _ 1 (not_false _ (none_find _ (disk_uuids (outline c)) (disk_none _ (each (disk_fault (outline c)) (inr (inr (inr (inr (inr (inr (inr (inr (inr (inr (inl refl))))))))))))) u (listed_disk c u n is)));
     }
 
 -- where no entry of a copy or a link is there, at most images are being enlarged or disks forked

@@ -17,38 +17,38 @@ use Rattle.sm_standing.proofs.ApartLaws.{beside, stands_beside, plainly_same, pl
 
 -- ---- which UUID
 
-record Which (leaf parent u : List ℕ) : Type 0 where
-  cases : (u ≡ leaf) ⊎ ((u ≡ parent) ⊎ (is_among (swapped leaf parent) u ≡ false))
+pub record Which (leaf parent u : List ℕ) : Type 0 where
+  pub cases : (u ≡ leaf) ⊎ ((u ≡ parent) ⊎ (is_among (swapped leaf parent) u ≡ false))
 
 which-by : (leaf parent u : List ℕ) (l p : Bool) → bytes_eq leaf u ≡ l → bytes_eq parent u ≡ p → Which leaf parent u
 which-by leaf parent u true p is_l is_p = record { cases = inl (sym ((bytes_eq-Decides leaf u).0 is_l)) }
 which-by leaf parent u false true is_l is_p = record { cases = inr (inl (sym ((bytes_eq-Decides parent u).0 is_p))) }
 which-by leaf parent u false false is_l is_p = record { cases = inr (inr (ap₂ (λ l r. l || r) is_l (ap (λ p. p || false) is_p))) }
 
-which : (leaf parent u : List ℕ) → Which leaf parent u
+pub which : (leaf parent u : List ℕ) → Which leaf parent u
 which leaf parent u = which-by leaf parent u (bytes_eq leaf u) (bytes_eq parent u) refl refl
 
-leaf_among : (leaf parent : List ℕ) → is_among (swapped leaf parent) leaf ≡ true
+pub leaf_among : (leaf parent : List ℕ) → is_among (swapped leaf parent) leaf ≡ true
 leaf_among leaf parent = ap (λ l. l || (bytes_eq parent leaf || false)) (bytes_eq-refl leaf)
 
 -- ---- where it stands
 
-entry_other : (t : VolumeTable) (leaf parent u : List ℕ) (plainly : Option Name) → bytes_eq u leaf ≡ false → stands_folded t (Leaf leaf parent) u plainly ≡ plainly
+pub entry_other : (t : VolumeTable) (leaf parent u : List ℕ) (plainly : Option Name) → bytes_eq u leaf ≡ false → stands_folded t (Leaf leaf parent) u plainly ≡ plainly
 entry_other t leaf parent u plainly off =
     ap (λ s. cond (s && is_leaf_renamed t leaf parent) (Some (Vhd parent)) (cond (s && is_leaf_swapped t leaf parent) (Some (Vhd leaf)) plainly)) off
 
-entry_leaf : (t : VolumeTable) (leaf parent : List ℕ) (plainly : Option Name)
+pub entry_leaf : (t : VolumeTable) (leaf parent : List ℕ) (plainly : Option Name)
     → stands_folded t (Leaf leaf parent) leaf plainly ≡ cond (is_leaf_renamed t leaf parent) (Some (Vhd parent)) (cond (is_leaf_swapped t leaf parent) (Some (Vhd leaf)) plainly)
 entry_leaf t leaf parent plainly =
     ap (λ s. cond (s && is_leaf_renamed t leaf parent) (Some (Vhd parent)) (cond (s && is_leaf_swapped t leaf parent) (Some (Vhd leaf)) plainly)) (bytes_eq-refl leaf)
 
-beside_entry : (t : VolumeTable) (leaf parent u : List ℕ) → HasLeafEntry t leaf parent → beside t u ≡ stands_folded t (Leaf leaf parent) u (stands_plainly t u)
+pub beside_entry : (t : VolumeTable) (leaf parent u : List ℕ) → HasLeafEntry t leaf parent → beside t u ≡ stands_folded t (Leaf leaf parent) u (stands_plainly t u)
 beside_entry t leaf parent u entry = ap (λ o. under (λ e. stands_folded t e u) o (stands_plainly t u)) entry
 
-beside_none : (t : VolumeTable) (u : List ℕ) → folding t ≡ [] → beside t u ≡ stands_plainly t u
+pub beside_none : (t : VolumeTable) (u : List ℕ) → folding t ≡ [] → beside t u ≡ stands_plainly t u
 beside_none t u none = ap (λ ns. under (λ e. stands_folded t e u) (head ns) (stands_plainly t u)) none
 
-beside_plain : (t : VolumeTable) (leaf parent u : List ℕ) → HasLeafEntry t leaf parent ⊎ (folding t ≡ []) → bytes_eq u leaf ≡ false → beside t u ≡ stands_plainly t u
+pub beside_plain : (t : VolumeTable) (leaf parent u : List ℕ) → HasLeafEntry t leaf parent ⊎ (folding t ≡ []) → bytes_eq u leaf ≡ false → beside t u ≡ stands_plainly t u
 beside_plain t leaf parent u (inl entry) off = beside_entry t leaf parent u entry ∙ entry_other t leaf parent u (stands_plainly t u) off
 beside_plain t leaf parent u (inr none) off = beside_none t u none
 
@@ -59,20 +59,20 @@ entry_or_none t leaf parent m (inr (inl named)) = inl named.0
 entry_or_none t leaf parent m (inr (inr gone)) = gone.0
 
 -- a parent that has the leaf's name is no longer there under its own
-not_renamed : (old filled gone there hidden rest : Bool) → (there ≡ false → hidden ≡ false) → (old && (filled && not there)) ≡ true → (old && (hidden && rest)) ≡ false
+pub not_renamed : (old filled gone there hidden rest : Bool) → (there ≡ false → hidden ≡ false) → (old && (filled && not there)) ≡ true → (old && (hidden && rest)) ≡ false
 not_renamed true true gone false hidden rest from is = ap (λ h. h && rest) (from refl)
 not_renamed true true gone true hidden rest from is = absurd (let e = is in cc)
 not_renamed true false gone there hidden rest from is = absurd (let e = is in cc)
 not_renamed false filled gone there hidden rest from is = refl
 
-hidden_there : (t : VolumeTable) (n : Name) → is_there t n ≡ false → is_hidden t n ≡ false
+pub hidden_there : (t : VolumeTable) (n : Name) → is_there t n ≡ false → is_hidden t n ≡ false
 hidden_there t n none = by (rows t n) refl
   where
     by : (o : Option Row) → rows t n ≡ o → is_hidden t n ≡ false
     by None is = ap (of_row (λ r. r.hidden && not r.fresh)) is
     by (Some r) is = absurd (let e : true ≡ false = sym (ap (λ (o : Option Row). elim o [ None ↦ false | Some s ↦ true ]) is) ∙ none in let x = e in cc)
 
-named_renamed : (t : VolumeTable) (leaf parent : List ℕ) → is_leaf_swapped t leaf parent ≡ true → is_leaf_renamed t leaf parent ≡ false
+pub named_renamed : (t : VolumeTable) (leaf parent : List ℕ) → is_leaf_swapped t leaf parent ≡ true → is_leaf_renamed t leaf parent ≡ false
 named_renamed t leaf parent is =
     not_renamed (is_there t (Old leaf)) (is_filled t (Vhd leaf)) true (is_there t (Vhd parent)) (is_hidden t (Vhd parent))
     (not (is_there t (Vhd leaf)) && not (is_there t (Raw leaf))) (hidden_there t (Vhd parent)) is
@@ -86,7 +86,7 @@ folded_parts true false there is = record { is_visible = refl; no_old = refl }
 folded_parts true true there is = absurd (let e = is in cc)
 folded_parts false old there is = absurd (let e = is in cc)
 
-visible_stands : (t : VolumeTable) (u : List ℕ) → is_visible t (Vhd u) ≡ true → stands_plainly t u ≡ Some (Vhd u)
+pub visible_stands : (t : VolumeTable) (u : List ℕ) → is_visible t (Vhd u) ≡ true → stands_plainly t u ≡ Some (Vhd u)
 visible_stands t u is = ap (λ v. cond v (Some (Vhd u)) (cond (is_visible t (Raw u)) (Some (Raw u)) None)) is
 
 gone_entry : (t : VolumeTable) (leaf parent : List ℕ) (m : Name) (plainly : Option Name) → is_there t (Old leaf) ≡ false
@@ -106,7 +106,7 @@ gone_stands t leaf parent (inr none) is =
     let parts = folded_parts (is_visible t (Vhd leaf)) (is_there t (Old leaf)) (is_there t (Vhd parent)) is in
     beside_none t leaf none ∙ visible_stands t leaf parts.is_visible
 
-leaf_stands : (t : VolumeTable) (leaf parent : List ℕ) (m : Name) → IsLeafAway t leaf parent m ⊎ (IsParentNamed t leaf parent m ⊎ IsLeafGone t leaf parent m)
+pub leaf_stands : (t : VolumeTable) (leaf parent : List ℕ) (m : Name) → IsLeafAway t leaf parent m ⊎ (IsParentNamed t leaf parent m ⊎ IsLeafGone t leaf parent m)
     → beside t leaf ≡ Some m
 leaf_stands t leaf parent m (inl away) =
     beside_entry t leaf parent leaf away.0

@@ -1,63 +1,44 @@
 -- The content without an enlargement that a stop has cut short, beside the one with it: the same images, records and disks.
 -- Between the two commits that undo it, and whatever a stop leaves of them, what stands is kept and shows the same disks.
-use Rattle.std.proofs.Common.{◌≡◌, ℕ, ◌+◌, ◌*◌, ◌/◌, ◌%◌, ◌<◌, ◌≤◌, Bool, true, false, not, ◌&&◌, ◌||◌, ◌==◌, List, [], ◌++◌, length, drop, Option, Some, None, is_none, refl, sym, ap, ap₂, ◌∙◌, arith, nat_lt, nat_le}
+use Rattle.std.proofs.Common.{◌≡◌, ℕ, ◌+◌, ◌*◌, ◌/◌, ◌%◌, ◌<◌, ◌≤◌, Bool, true, false, List, [], ◌++◌, length, drop, None, refl, sym, ap, ◌∙◌, arith}
 use Rattle.std.proofs.Math.Path.{fun_ext}
-use Rattle.std.specs.List.{filter, filter_map, find}
+use Rattle.std.specs.List.{filter_map, find}
 use Rattle.std.proofs.lemmas.List.{append-nil, take-append-drop, get_or_append_left}
 use Rattle.std.proofs.Math.Nat.{div-lt_iff_lt-mul}
 use Rattle.common_laws.specs.Lists.{numbers}
 use Rattle.sm_base.specs.Numbers.{IsGeometry}
 use Rattle.sm_base.specs.declared.names.Name.{Name}
 use Rattle.sm_base.specs.declared.names.Name.TheVariants.{Mgt, Vhd, Raw, Old, Clone, Inflate, Coalesce, Relink, Leaf}
-use Rattle.vg_meta.specs.Tables.{VolumeTable, Row, IsTable, extents_of, row_of, rows, name_eq}
+use Rattle.vg_meta.specs.Tables.{VolumeTable, IsTable, extents_of, row_of, rows, name_eq}
 use Rattle.vg_meta.proofs.ByName.{spread}
 use Rattle.vg_meta.proofs.NameLaws.{name_eq-true, name_eq-false}
 use Rattle.vg_meta.proofs.RowLaws.{row_of-without_other}
 use Rattle.vg_volumes.specs.Volumes.{piece, span, spot}
 use Rattle.sm_record.specs.Records.{reading}
-use Rattle.sm_standing.specs.Checks.{children, fault_today_of, is_damaged, is_image_wrong, is_linked, is_misplaced, is_tree_wrong, tree_wrong_as}
+use Rattle.sm_standing.specs.Checks.{fault_of, first_fault}
 use Rattle.sm_standing.specs.Contents.{Content, record_count, is_record_of, records, reading_at, sectors_of, size_of, taken}
-use Rattle.sm_standing.specs.Enlarging.{HasEntry, IsAtLeast, IsEnlargingOn}
+use Rattle.sm_standing.specs.Enlarging.{HasEntry, IsEnlargingOn}
 use Rattle.sm_standing.specs.Images.{image_of, raw_image, vhd_image}
 use Rattle.sm_standing.specs.Keeping.{HasNoEmptySlot, IsKept}
-use Rattle.sm_standing.specs.Outlines.{Link, Outline, outline, link_of}
+use Rattle.sm_standing.specs.Outlines.{outline, link_of}
+use Rattle.sm_standing.specs.Plain.{IsSimple}
 use Rattle.sm_standing.specs.PlainSound.{PlainSound, SimpleSound}
 use Rattle.sm_standing.specs.Standing.{disks}
 use Rattle.sm_standing.specs.Undone.{IsBeingEnlarged, IsSameArea, undone, undone_at, undone_content_at}
 use Rattle.sm_standing.specs.Worlds.{with_table}
 use Rattle.sm_standing.proofs.EnlargedLaws.{enlarging_disks, enlarging_kept, images_enlarging, outline_enlarging}
-use Rattle.sm_standing.proofs.EnlargingLaws.{chain_alike, tree_alike}
+use Rattle.sm_standing.proofs.EnlargingLaws.{enlarging_sound, sound_before}
 use Rattle.sm_standing.proofs.ImageLaws.{disks_as}
 use Rattle.sm_standing.proofs.OutlineLaws.{made-of}
 use Rattle.sm_standing.proofs.PlainDisks.{simple_folding}
-use Rattle.sm_standing.proofs.PlainKept.{plain_kept, simple_sound, simple_today, today_sound}
-use Rattle.sm_standing.proofs.UndoneLaws.{cut_later, cut_table, entry_gone, entry_still, entry_there, images_undone, is_enlarging, named_undone, other_undone, own_long, own_undone, row_from, stands_undone, undone_is, undone_is_table, undone_later, undone_plain}
+use Rattle.sm_standing.proofs.PlainKept.{plain_kept, simple_sound, simple_today, today_sound, simple_is_plain}
+use Rattle.sm_standing.proofs.UndoneLaws.{cut_later, cut_table, entry_gone, entry_still, entry_there, is_enlarging, other_undone, own_long, own_undone, undone_is, undone_is_table, undone_later, undone_simple, undone_making, undone_stands}
 use Rattle.sm_standing.proofs.WorldLaws.{spot_below}
 
 -- where extents stand behind these each place stays where it was
 spot_front : (extent : ℕ) (es more : List ℕ) (p : ℕ) → 0 < extent → p < span extent es → spot extent (es ++ more) p ≡ spot extent es p
 unfolding spot
 spot_front extent es more p some below = ap (λ e. e * extent + p % extent) (get_or_append_left es more 0 (p / extent) ((div-lt_iff_lt-mul some).1 below))
-
--- the sequence number decides no place in a tree
-tree_at : (o : Outline) (sequence : ℕ) (r : Row) (n : Name) → tree_wrong_as (record o { table = record o.table { sequence = sequence } }) r n ≡ tree_wrong_as o r n
-unfolding children
-tree_at o sequence r (Vhd v) = by (o.links (Vhd v))
-  where
-    again : Outline
-    again = record o { table = record o.table { sequence = sequence } }
-
-    by : (x : Option Link) → is_misplaced again r x ≡ is_misplaced o r x
-    by None = refl
-    by (Some i) = ap (λ k. not (is_linked o i && (nat_le k 30 && (r.hidden || (length (children o r.name) == 0))))) (chain_alike o again.table 31 r.name)
-tree_at o sequence r Mgt = refl
-tree_at o sequence r (Raw v) = refl
-tree_at o sequence r (Old v) = refl
-tree_at o sequence r (Clone x y z) = refl
-tree_at o sequence r (Inflate x y) = refl
-tree_at o sequence r (Coalesce x y) = refl
-tree_at o sequence r (Relink x y) = refl
-tree_at o sequence r (Leaf x y) = refl
 
 module _ (c : Content) (u : List ℕ) (extents : ℕ) (w : IsBeingEnlarged c.table u extents) (table : IsTable c.count c.table) (geometry : IsGeometry c.extent c.block c.entries) (room : record_count ≤ size_of c Mgt) where
   abbrev entry : Name
@@ -116,7 +97,7 @@ module _ (c : Content) (u : List ℕ) (extents : ℕ) (w : IsBeingEnlarged c.tab
     block = refl;
     entries = refl;
     geometry = geometry;
-    table = is_enlarging c.table u extents w (outline before_it) v refl between.later between.volumes;
+    table = is_enlarging c.table u extents w (outline before_it) c.table.sequence v refl between.later between.volumes;
     all = sym (own_long c.table u extents w);
     sectors = λ n p below.
         let front = between.front n in
@@ -144,7 +125,7 @@ module _ (c : Content) (u : List ℕ) (extents : ℕ) (w : IsBeingEnlarged c.tab
   images_at sequence (Relink x y) = refl
   images_at sequence (Leaf x y) = refl
 
-  outline_at : (sequence : ℕ) → outline (undone_content_at sequence c) ≡ record (outline before_it) { table = undone_at sequence c.table }
+  pub outline_at : (sequence : ℕ) → outline (undone_content_at sequence c) ≡ record (outline before_it) { table = undone_at sequence c.table }
   unfolding sectors_of
   outline_at sequence = made-of refl refl refl refl (fun_ext (λ n. ap link_of (images_at sequence n))) refl
 
@@ -156,71 +137,67 @@ module _ (c : Content) (u : List ℕ) (extents : ℕ) (w : IsBeingEnlarged c.tab
   unfolding sectors_of
   readings_undone sequence k = ap (λ o. reading (piece c.extent (extents_of o) c.area k)) mgt_same
 
-  records_undone : (sequence : ℕ) → records (undone_content_at sequence c) ≡ records c
+  pub records_undone : (sequence : ℕ) → records (undone_content_at sequence c) ≡ records c
   unfolding records sectors_of
   records_undone sequence = ap (λ o. filter_map (λ k. taken (reading (piece c.extent (extents_of o) c.area k))) (numbers 0 record_count)) mgt_same
 
   pub holding_undone : (sequence : ℕ) → HasNoEmptySlot c → HasNoEmptySlot (undone_content_at sequence c)
   holding_undone sequence holding v i is = holding v i (sym (images_undone_at sequence (Vhd v)) ∙ is)
 
-  -- ---- sound and kept
+  -- the same disks
+  pub disks_undone_at : (sequence : ℕ) → disks (undone_content_at sequence c) ≡ disks c
+  disks_undone_at sequence =
+      disks_as c (undone_content_at sequence c) (undone_stands c.table u extents w sequence) (images_undone_at sequence) (λ v. ap (λ rs. find (is_record_of v) rs) (records_undone sequence))
+
+  -- whatever a stop leaves while the entry stands shows them
+  pub between_disks : (v : VolumeTable) (area : ℕ → List ℕ) → IsBetween v → IsSameArea c area → disks (with_table c v area) ≡ disks c
+  between_disks v area between same = enlarging_disks before_it (with_table c v area) u extents (between_enlarging v area between same) ∙ disks_undone_at c.table.sequence
+
+  -- ---- sound
+
+  module _ (sound : first_fault c ≡ None) where
+    pub sound_before_it : first_fault before_it ≡ None
+    sound_before_it = sound_before (outline before_it) c.table u extents now.table (omega arith) (sym (ap fault_of (outline_enlarging before_it c u extents now)) ∙ sound)
+
+    pub sound_between : (v : VolumeTable) (area : ℕ → List ℕ) → IsBetween v → IsSameArea c area → first_fault (with_table c v area) ≡ None
+    sound_between v area between same =
+        let k = between_enlarging v area between same in
+        ap fault_of (outline_enlarging before_it (with_table c v area) u extents k) ∙ enlarging_sound (outline before_it) v u extents k.table sound_before_it
+
+    pub sound_undone_at : (sequence : ℕ) → c.table.sequence ≤ sequence → first_fault (undone_content_at sequence c) ≡ None
+    unfolding image_of
+    sound_undone_at sequence later =
+        ap fault_of (outline_at sequence)
+        ∙ sound_before (record (outline before_it) { table = undone_at sequence c.table }) over u extents
+        (is_enlarging c.table u extents w (outline before_it) sequence over no_image (omega arith) (entry_there c.table u extents w)) (omega arith)
+        (enlarging_sound (outline before_it) over u extents (is_enlarging c.table u extents w (outline before_it) c.table.sequence over no_image later (entry_there c.table u extents w)) sound_before_it)
+      where
+        -- with the entry, as late
+        over : VolumeTable
+        over = record c.table { sequence = sequence }
+
+        no_image : (outline before_it).links (Inflate u extents) ≡ None
+        no_image = refl
+
+  -- ---- and kept, where nothing else is under way
 
   module _ (s : SimpleSound c) where
     pub sound_undone : (sequence : ℕ) → c.table.sequence ≤ sequence → PlainSound (undone_content_at sequence c)
-    sound_undone sequence later = record {
-      plain = undone_plain c.table u extents w s.simple;
-      records_row = s.records_row;
-      records_there = mgt_same ∙ s.records_there;
-      records_extents = s.records_extents;
-      few_images = let few = s.few_images in omega (arith, few, images_undone c.table u extents w);
-      named = named_undone c.table u extents w sequence later s.named;
-      valid = λ q i.
-          let k = row_from c.table u extents w q i in
-          let one = k.2 in
-          ap₂ (λ f b. not f && b) (sym one.fresh) (wrong q k.0 one q.name refl) ∙ ap (λ n. not k.0.fresh && is_image_wrong (outline c) k.0 n) (sym one.name) ∙ s.valid k.0 k.1;
-      placed = λ q i.
-          let k = row_from c.table u extents w q i in
-          let one = k.2 in
-          ap (λ o. is_tree_wrong o q) (outline_at sequence) ∙ tree_at (outline before_it) sequence q q.name
-          ∙ sym (tree_alike (outline before_it) c.table u extents now.table q k.0 q.name one) ∙ sym (ap (λ o. tree_wrong_as o k.0 q.name) (outline_enlarging before_it c u extents now))
-          ∙ ap (tree_wrong_as (outline c) k.0) (sym one.name) ∙ s.placed k.0 k.1;
-      right = λ k below. ap is_damaged (readings_undone sequence k) ∙ s.right k below;
-      recorded = λ v n is. ap (λ rs. length (filter (is_record_of v) rs)) (records_undone sequence) ∙ s.recorded v n (sym (stands_undone c.table u extents w sequence s.simple v) ∙ is);
-    }
-      where
-        wrong : (q r : Row) → IsAtLeast u q r → (n : Name) → q.name ≡ n → is_image_wrong (outline (undone_content_at sequence c)) q n ≡ is_image_wrong (outline c) r n
-        wrong q r one (Vhd v) is = ap (λ o. is_none (link_of o)) (images_undone_at sequence (Vhd v))
-        wrong q r one (Raw v) is = ap (λ es. nat_lt (c.entries * c.block) (span c.extent es)) (sym (one.same (λ own. (let x = sym is ∙ own in cc))))
-        wrong q r one Mgt is = refl
-        wrong q r one (Old v) is = refl
-        wrong q r one (Clone x y z) is = refl
-        wrong q r one (Inflate x y) is = refl
-        wrong q r one (Coalesce x y) is = refl
-        wrong q r one (Relink x y) is = refl
-        wrong q r one (Leaf x y) is = refl
+    sound_undone sequence later =
+        let d = undone_content_at sequence c in
+        let simple : IsSimple d.table = undone_simple c.table u extents w s.simple in
+        simple_is_plain d (today_sound d (simple_today d (sound_undone_at (simple_sound c s) sequence later) simple) (simple_folding d.table.volumes simple)) (undone_making c.table u extents w)
 
-    -- the same disks
-    pub disks_undone_at : (sequence : ℕ) → disks (undone_content_at sequence c) ≡ disks c
-    disks_undone_at sequence =
-        disks_as c (undone_content_at sequence c) (stands_undone c.table u extents w sequence s.simple) (images_undone_at sequence)
-        (λ v. ap (λ rs. find (is_record_of v) rs) (records_undone sequence))
-
-    -- whatever a stop leaves while the entry stands is kept, and shows them
+    -- whatever a stop leaves while the entry stands is kept
     pub between_kept : HasNoEmptySlot c → (v : VolumeTable) (area : ℕ → List ℕ) → IsBetween v → IsSameArea c area → IsKept (with_table c v area)
     between_kept holding v area between same =
         enlarging_kept before_it (with_table c v area) u extents (between_enlarging v area between same)
         (plain_kept before_it (sound_undone c.table.sequence (omega arith)) (holding_undone c.table.sequence holding))
 
-    pub between_disks : (v : VolumeTable) (area : ℕ → List ℕ) → IsBetween v → IsSameArea c area → disks (with_table c v area) ≡ disks c
-    between_disks v area between same = enlarging_disks before_it (with_table c v area) u extents (between_enlarging v area between same) ∙ disks_undone_at c.table.sequence
-
     -- so is what it leaves with this area and the table from before
     pub sound_alike : (area : ℕ → List ℕ) → IsSameArea c area → SimpleSound (with_table c c.table area)
     sound_alike area same =
-        today_sound (with_table c c.table area)
-        (ap fault_today_of (outline_enlarging before_it (with_table c c.table area) u extents (between_enlarging c.table area between_now same) ∙ sym (outline_enlarging before_it c u extents now))
-        ∙ simple_today c (simple_sound c s) s.simple)
-        (simple_folding c.table.volumes s.simple)
+        today_sound (with_table c c.table area) (simple_today (with_table c c.table area) (sound_between (simple_sound c s) c.table area between_now same) s.simple) (simple_folding c.table.volumes s.simple)
 
     pub holding_alike : (area : ℕ → List ℕ) → IsSameArea c area → HasNoEmptySlot c → HasNoEmptySlot (with_table c c.table area)
     holding_alike area same holding v i is =
@@ -229,14 +206,14 @@ module _ (c : Content) (u : List ℕ) (extents : ℕ) (w : IsBeingEnlarged c.tab
 
 -- ---- without the entry
 
-module _ (c : Content) (u : List ℕ) (extents : ℕ) (w : IsBeingEnlarged c.table u extents) (table : IsTable c.count c.table) (geometry : IsGeometry c.extent c.block c.entries) (room : record_count ≤ size_of c Mgt) (s : SimpleSound c) where
-  pub undone_kept : HasNoEmptySlot c → (area : ℕ → List ℕ) → IsSameArea c area → IsKept (with_table c (undone c.table) area)
-  undone_kept holding area same =
+module _ (c : Content) (u : List ℕ) (extents : ℕ) (w : IsBeingEnlarged c.table u extents) (table : IsTable c.count c.table) (geometry : IsGeometry c.extent c.block c.entries) (room : record_count ≤ size_of c Mgt) where
+  pub undone_disks : (area : ℕ → List ℕ) → IsSameArea c area → disks (with_table c (undone c.table) area) ≡ disks c
+  undone_disks area same =
+      disks_undone_at (with_table c c.table area) u extents w table geometry room (undone c.table).sequence
+      ∙ between_disks c u extents w table geometry room c.table area (between_now c u extents w table geometry room) same
+
+  pub undone_kept : SimpleSound c → HasNoEmptySlot c → (area : ℕ → List ℕ) → IsSameArea c area → IsKept (with_table c (undone c.table) area)
+  undone_kept s holding area same =
       plain_kept (with_table c (undone c.table) area)
       (sound_undone (with_table c c.table area) u extents w table geometry room (sound_alike c u extents w table geometry room s area same) (undone c.table).sequence (undone_later c.table u extents w c.count table))
       (holding_undone (with_table c c.table area) u extents w table geometry room (undone c.table).sequence (holding_alike c u extents w table geometry room s area same holding))
-
-  pub undone_disks : (area : ℕ → List ℕ) → IsSameArea c area → disks (with_table c (undone c.table) area) ≡ disks c
-  undone_disks area same =
-      disks_undone_at (with_table c c.table area) u extents w table geometry room (sound_alike c u extents w table geometry room s area same) (undone c.table).sequence
-      ∙ between_disks c u extents w table geometry room s c.table area (between_now c u extents w table geometry room) same

@@ -255,9 +255,9 @@ module _ (t : VolumeTable) (u : List ℕ) (extents : ℕ) (w : IsBeingEnlarged t
 
 module _ (t : VolumeTable) (u : List ℕ) (extents : ℕ) (w : IsBeingEnlarged t u extents) where
   -- a later table that has the entry, and the same volumes, that of the image perhaps with more extents
-  abbrev pub is_enlarging : (o : Outline) (v : VolumeTable) → o.links (Inflate u extents) ≡ None → t.sequence ≤ v.sequence → HasEntry (Inflate u extents) u (undone t).volumes v.volumes
-      → IsEnlarging (record o { table = undone_at t.sequence t }) v u extents
-  is_enlarging o v none later volumes = record {
+  abbrev pub is_enlarging : (o : Outline) (sequence : ℕ) (v : VolumeTable) → o.links (Inflate u extents) ≡ None → sequence ≤ v.sequence → HasEntry (Inflate u extents) u (undone t).volumes v.volumes
+      → IsEnlarging (record o { table = undone_at sequence t }) v u extents
+  is_enlarging o sequence v none later volumes = record {
     later = later;
     volumes = volumes;
     own = cut_to extents w.own;
@@ -268,11 +268,11 @@ module _ (t : VolumeTable) (u : List ℕ) (extents : ℕ) (w : IsBeingEnlarged t
     no_image = none;
   }
 
-  abbrev bare : Outline
+  abbrev pub bare : Outline
   bare = record { extent = 0; block = 0; entries = 0; table = undone_at t.sequence t; links = λ n. None; readings = λ k. Free }
 
-  enlarging_now : IsEnlarging bare t u extents
-  enlarging_now = is_enlarging bare t refl (omega arith) (entry_there t u extents w)
+  pub enlarging_now : IsEnlarging bare t u extents
+  enlarging_now = is_enlarging bare t.sequence t refl (omega arith) (entry_there t u extents w)
 
   -- each volume of it is one of the table with the entry
   pub row_from : (q : Row) → In q (undone t).volumes → (r : Row) × In r t.volumes × IsAtLeast u q r
@@ -318,6 +318,17 @@ module _ (t : VolumeTable) (u : List ℕ) (extents : ℕ) (w : IsBeingEnlarged t
   stands_undone sequence simple v =
       plain_stands (undone_at sequence t) v (undone_plain simple) ∙ sym (plain_stands (undone_at t.sequence t) v (undone_plain simple))
       ∙ sym (stands_alike bare t u extents enlarging_now v)
+
+  -- whatever else is under way
+  pub undone_stands : (sequence : ℕ) (v : List ℕ) → standing_volume (undone_at sequence t) v ≡ standing_volume t v
+  undone_stands sequence v =
+      sym (stands_alike (record bare { table = undone_at sequence t }) over u extents (is_enlarging bare sequence over refl (omega arith) (entry_there t u extents w)) v)
+      ∙ stands_alike bare over u extents (is_enlarging bare t.sequence over refl (omega arith) (entry_there t u extents w)) v
+      ∙ sym (stands_alike bare t u extents enlarging_now v)
+    where
+      -- with the entry, later than both
+      over : VolumeTable
+      over = record t { sequence = sequence + t.sequence }
 
 -- ---- with today's checks of a table
 

@@ -10,7 +10,7 @@ use Rattle.sm_base.specs.declared.names.Name.{Name}
 use Rattle.sm_base.specs.declared.names.Name.TheVariants.{Mgt, Vhd, Inflate}
 use Rattle.sm_base.specs.declared.operations.Op.TheVariants.{Idle}
 use Rattle.sm_machine.specs.Disks.{Disk}
-use Rattle.sm_machine.specs.Shapes.{Shape}
+use Rattle.sm_machine.specs.Shapes.{ImageRow, Shape}
 use Rattle.vg_meta.specs.Tables.{VolumeTable, Row, IsTable, row_of, rows, name_eq}
 use Rattle.vg_meta.specs.Changes.{applied, cut_to, with_row, without}
 use Rattle.vg_meta.specs.declared.changes.Change.TheVariants.{Remove}
@@ -119,12 +119,34 @@ module _ (c : Content) (n : Name) where
 abbrev pub work_of : Content → VolumeTable → Work
 work_of c t = record { sequence = t.sequence; parts = map (part_of c) t.volumes }
 
+-- the shape of what is left, beside these disks
+abbrev pub shape_by : Content → ℕ → ℕ → List ImageRow → List Disk → Shape
+shape_by c sequence besides images ds = record {
+  sequence = sequence;
+  extent = c.extent;
+  block = c.block;
+  entries = c.entries;
+  extents = c.count;
+  others = besides;
+  records = map disk_record ds;
+  images = images;
+  attached = [];
+  op = Idle;
+}
+
+abbrev pub shape_of : Content → Work → List Disk → Shape
+shape_of c x ds = shape_by c x.sequence (sum (map extents_besides x.parts)) (in_name_order (filter_map row_of_part x.parts)) ds
+
+-- what is left when the new volumes go
+abbrev pub left : Work → Work
+left x = new_removed x.parts x
+
 pub removed_work : (c : Content) (n : Name) (t : VolumeTable) (r : Row) → IsRising t.volumes → rows t n ≡ Some r → removed n (work_of c t) ≡ work_of c (applied t (Remove n))
 removed_work c n t r rising there =
     ap (λ b. when b (λ v. committed v (filter (λ p. not (is_part n p)) v.parts)) (work_of c t)) (part_there c n t.volumes r there)
     ∙ ap (committed (work_of c t)) (parts_without c n t.volumes rising)
 
-module _ (c : Content) (u : List ℕ) (extents : ℕ) (w : IsBeingEnlarged c.table u extents) (table : IsTable c.count c.table) (geometry : IsGeometry c.extent c.block c.entries) (room : record_count ≤ size_of c Mgt) (s : SimpleSound c) where
+module _ (c : Content) (u : List ℕ) (extents : ℕ) (w : IsBeingEnlarged c.table u extents) (table : IsTable c.count c.table) where
   abbrev t : VolumeTable
   t = c.table
 
@@ -140,44 +162,28 @@ module _ (c : Content) (u : List ℕ) (extents : ℕ) (w : IsBeingEnlarged c.tab
       by true is = ap (committed (work_of c t)) (parts_cut c (Vhd u) extents t.volumes w.own table.volumes.rising w.there w.had) ∙ ap (work_of c) (sym (cut_longer t u extents w is))
       by false is = ap (work_of c) (sym (cut_same t u extents w is))
 
-  begun_same : work_of c (undone t) ≡ begun (undone_content c)
-  begun_same =
-      ap (λ (f : Row → Part). record { sequence = (undone t).sequence; parts = map f (undone t).volumes })
-      (fun_ext (λ r. ap (λ (i : Option Image). record { name = r.name; hidden = r.hidden; fresh = r.fresh; extents = length r.extents; image = i }) (sym (images_undone_at c u extents w table geometry room (undone t).sequence r.name))))
-
-  undone_work : enlarging_undone (Inflate u extents) (begun c) ≡ begun (undone_content c)
+  pub undone_work : enlarging_undone (Inflate u extents) (begun c) ≡ work_of c (undone t)
   undone_work =
       ap (removed (Inflate u extents)) cut_work
       ∙ removed_work c (Inflate u extents) (cut_table t u extents w) (entry_row t u extents w).0 (cut_is_table t u extents w c.count table).volumes.rising (cut_entry_row t u extents w)
-      ∙ ap (work_of c) (sym (undone_is t u extents w)) ∙ begun_same
+      ∙ ap (work_of c) (sym (undone_is t u extents w))
 
-  abbrev left : Work → Work
-  left x = new_removed x.parts x
+  module _ (geometry : IsGeometry c.extent c.block c.entries) (room : record_count ≤ size_of c Mgt) (s : SimpleSound c) where
+    begun_same : work_of c (undone t) ≡ begun (undone_content c)
+    begun_same =
+        ap (λ (f : Row → Part). record { sequence = (undone t).sequence; parts = map f (undone t).volumes })
+        (fun_ext (λ r. ap (λ (i : Option Image). record { name = r.name; hidden = r.hidden; fresh = r.fresh; extents = length r.extents; image = i }) (sym (images_undone_at c u extents w table geometry room (undone t).sequence r.name))))
 
-  abbrev by_names : VolumeTable → Work → List Name → List Name → Work
-  by_names v x ns fs = left (by_entry (folding_ended v) (head fs) (by_entry (forking_undone v) (head ns) (by_entry enlarging_undone (head ns) x)))
+    abbrev by_names : VolumeTable → Work → List Name → List Name → Work
+    by_names v x ns fs = left (by_entry (folding_ended v) (head fs) (by_entry (forking_undone v) (head ns) (by_entry enlarging_undone (head ns) x)))
 
-  repaired_same : repaired t (begun c) ≡ repaired (undone t) (begun (undone_content c))
-  repaired_same =
-      ap₂ (by_names t (begun c)) w.entry (simple_folding t.volumes s.simple)
-      ∙ ap left undone_work
-      ∙ sym (ap₂ (by_names (undone t) (begun (undone_content c))) (undone_making t u extents w) (no_folding (undone t).volumes (undone_plain t u extents w s.simple)))
+    repaired_same : repaired t (begun c) ≡ repaired (undone t) (begun (undone_content c))
+    repaired_same =
+        ap₂ (by_names t (begun c)) w.entry (simple_folding t.volumes s.simple)
+        ∙ ap left (undone_work ∙ begun_same)
+        ∙ sym (ap₂ (by_names (undone t) (begun (undone_content c))) (undone_making t u extents w) (no_folding (undone t).volumes (undone_plain t u extents w s.simple)))
 
-  abbrev shape_of : Work → List Disk → Shape
-  shape_of x ds = record {
-    sequence = x.sequence;
-    extent = c.extent;
-    block = c.block;
-    entries = c.entries;
-    extents = c.count;
-    others = sum (map extents_besides x.parts);
-    records = map disk_record ds;
-    images = in_name_order (filter_map row_of_part x.parts);
-    attached = [];
-    op = Idle;
-  }
-
-  -- the same shape
-  pub opened_undone : opened (undone_content c) ≡ opened c
-  unfolding opened
-  opened_undone = sym (ap₂ shape_of repaired_same (sym (disks_undone_at c u extents w table geometry room s (undone t).sequence)))
+    -- the same shape
+    pub opened_undone : opened (undone_content c) ≡ opened c
+    unfolding opened
+    opened_undone = sym (ap₂ (shape_of c) repaired_same (sym (disks_undone_at c u extents w table geometry room (undone t).sequence)))

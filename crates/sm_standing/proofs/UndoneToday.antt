@@ -35,6 +35,28 @@ use Rattle.sm_standing.proofs.UndoneContents.{IsBetween, before_it, between_enla
 use Rattle.sm_standing.proofs.UndoneLaws.{IsBeingForked, changes_are, cut_table, enlarged_or_not, may_cut, may_remove, undone_is, undone_is_table, undone_later, undone_none}
 use Rattle.sm_standing.proofs.UndoneShape.{opened_undone}
 
+-- the commits that undo an enlargement, and others behind them: each is allowed in its turn
+module _ (count : ℕ) (t : VolumeTable) (u : List ℕ) (extents : ℕ) (w : IsBeingEnlarged t u extents) (P L : VolumeTable → Type 0) (first : P t) (next : P (cut_table t u extents w)) where
+  pub enlarged_run : (cs : List Change) → AllRun count P L (undone t) cs → AllRun count P L t (wanted (of_row (is_longer extents) (rows t (Vhd u))) (Cut (Vhd u) extents) ++ Remove (Inflate u extents) ∷ cs)
+  enlarged_run cs rest = by (of_row (is_longer extents) (rows t (Vhd u))) refl
+    where
+      cut_is : (b : Bool) → of_row (is_longer extents) (rows t (Vhd u)) ≡ b → cut_table t u extents w ≡ applied_all t (wanted b (Cut (Vhd u) extents))
+      cut_is b is = ap (λ x. applied_all t (wanted x (Cut (Vhd u) extents))) is
+
+      removed : (x : VolumeTable) → cut_table t u extents w ≡ x → AllRun count P L (applied x (Remove (Inflate u extents))) cs
+      removed x is = subst (λ y. AllRun count P L y cs) (undone_is t u extents w ∙ ap (λ y. applied y (Remove (Inflate u extents))) is) rest
+
+      may : (x : VolumeTable) → cut_table t u extents w ≡ x → Permits count x (Remove (Inflate u extents))
+      may x is = subst (λ y. Permits count y (Remove (Inflate u extents))) is (may_remove t u extents w count)
+
+      by : (b : Bool) → of_row (is_longer extents) (rows t (Vhd u)) ≡ b → AllRun count P L t (wanted b (Cut (Vhd u) extents) ++ Remove (Inflate u extents) ∷ cs)
+      by false is = (first, may t (cut_is false is), removed t (cut_is false is))
+      by true is = (
+        first,
+        may_cut t u extents w count (sym (ap (of_row (is_longer extents)) w.there) ∙ is),
+        (subst P (cut_is true is) next, may (applied t (Cut (Vhd u) extents)) (cut_is true is), removed (applied t (Cut (Vhd u) extents)) (cut_is true is)),
+      )
+
 module _ (c : Content) (table : IsTable c.count c.table) (geometry : IsGeometry c.extent c.block c.entries) (s : SimpleSound c) where
   pub room : record_count ≤ size_of c Mgt
   room = records_room c geometry (simple_is_known c s)
@@ -97,7 +119,7 @@ module _ (c : Content) (table : IsTable c.count c.table) (geometry : IsGeometry 
     where
       by : (making c.table ≡ []) ⊎ (((u : List ℕ) × (extents : ℕ) × IsBeingEnlarged c.table u extents) ⊎ IsBeingForked c.table) → disks (undone_content c) ≡ disks c
       by (inl none) = ap disks (as_it_was none)
-      by (inr (inl k)) = disks_undone_at c k.0 k.1 k.2 table geometry room s (undone c.table).sequence
+      by (inr (inl k)) = disks_undone_at c k.0 k.1 k.2 table geometry room (undone c.table).sequence
       by (inr (inr k)) = fork_undone_disks c table geometry room s k.0 k.1 k.2 k.3
 
   pub today_opened : opened (undone_content c) ≡ opened c
@@ -129,27 +151,9 @@ module _ (c : Content) (table : IsTable c.count c.table) (geometry : IsGeometry 
   IsAny v = Unit {0}
 
   enlarging_run : (u : List ℕ) (extents : ℕ) (w : IsBeingEnlarged c.table u extents) → AllRun c.count (IsStep u extents w) IsAny c.table (undo_changes c.table)
-  enlarging_run u extents w = subst (AllRun c.count (IsStep u extents w) IsAny c.table) (sym (changes_are c.table u extents w)) (by (of_row (is_longer extents) (rows c.table (Vhd u))) refl)
-    where
-      cut_is : (b : Bool) → of_row (is_longer extents) (rows c.table (Vhd u)) ≡ b → cut_table c.table u extents w ≡ applied_all c.table (wanted b (Cut (Vhd u) extents))
-      cut_is b is = ap (λ x. applied_all c.table (wanted x (Cut (Vhd u) extents))) is
-
-      longer : (b : Bool) → of_row (is_longer extents) (rows c.table (Vhd u)) ≡ b → is_longer extents w.own ≡ b
-      longer b is = sym (ap (of_row (is_longer extents)) w.there) ∙ is
-
-      removed : (x : VolumeTable) → cut_table c.table u extents w ≡ x → IsStep u extents w (applied x (Remove (Inflate u extents)))
-      removed x is = inr (inr (sym (undone_is c.table u extents w ∙ ap (λ y. applied y (Remove (Inflate u extents))) is)))
-
-      may : (x : VolumeTable) → cut_table c.table u extents w ≡ x → Permits c.count x (Remove (Inflate u extents))
-      may x is = subst (λ y. Permits c.count y (Remove (Inflate u extents))) is (may_remove c.table u extents w c.count)
-
-      by : (b : Bool) → of_row (is_longer extents) (rows c.table (Vhd u)) ≡ b → AllRun c.count (IsStep u extents w) IsAny c.table (wanted b (Cut (Vhd u) extents) ++ Remove (Inflate u extents) ∷ [])
-      by false is = (inl refl, may c.table (cut_is false is), (removed c.table (cut_is false is), tt))
-      by true is = (
-        inl refl,
-        may_cut c.table u extents w c.count (longer true is),
-        (inr (inl (sym (cut_is true is))), may (applied c.table (Cut (Vhd u) extents)) (cut_is true is), (removed (applied c.table (Cut (Vhd u) extents)) (cut_is true is), tt)),
-      )
+  enlarging_run u extents w =
+      subst (AllRun c.count (IsStep u extents w) IsAny c.table) (sym (changes_are c.table u extents w))
+      (enlarged_run c.count c.table u extents w (IsStep u extents w) IsAny (inl refl) (inr (inl refl)) [] (inr (inr refl), tt))
 
   step_of : (u : List ℕ) (extents : ℕ) (w : IsBeingEnlarged c.table u extents) (v : VolumeTable) → IsUndoing c.table v → IsStep u extents w v
   step_of u extents w v k = subst (IsStep u extents w) (sym k.1) (run_taken c.count (IsStep u extents w) IsAny c.table (undo_changes c.table) (enlarging_run u extents w) k.0)
@@ -197,11 +201,11 @@ module _ (c : Content) (table : IsTable c.count c.table) (geometry : IsGeometry 
       at u is shown = ap (λ x. disks (with_table c x area)) is ∙ shown
 
       step : (u : List ℕ) (extents : ℕ) (w : IsBeingEnlarged c.table u extents) → IsStep u extents w v → disks (with_table c v area) ≡ disks c
-      step u extents w (inl is) = at c.table is (between_disks c u extents w table geometry room s c.table area (between_now c u extents w table geometry room) same)
+      step u extents w (inl is) = at c.table is (between_disks c u extents w table geometry room c.table area (between_now c u extents w table geometry room) same)
       step u extents w (inr (inl is)) =
           at (cut_table c.table u extents w) is
-          (between_disks c u extents w table geometry room s (cut_table c.table u extents w) area (between_cut c u extents w table geometry room) same)
-      step u extents w (inr (inr is)) = at (undone c.table) is (undone_disks c u extents w table geometry room s area same)
+          (between_disks c u extents w table geometry room (cut_table c.table u extents w) area (between_cut c u extents w table geometry room) same)
+      step u extents w (inr (inr is)) = at (undone c.table) is (undone_disks c u extents w table geometry room area same)
 
       by : (making c.table ≡ []) ⊎ (((u : List ℕ) × (extents : ℕ) × IsBeingEnlarged c.table u extents) ⊎ IsBeingForked c.table) → disks (with_table c v area) ≡ disks c
       by (inl none) = at c.table (all_one none v undoing) (area_disks c table geometry (simple_is_known c s) area same)

@@ -45,7 +45,7 @@ lost_step true false p x y on past h = absurd (true≢false h)
 lost_step true true false x y on past h = absurd (true≢false h)
 lost_step true true true x y on past h = ap₂ (λ k l. not (k && l)) (on refl) (past refl)
 
-fork_step : (a b d g h k : Bool) → (g ≡ true → h ≡ true) → (not a && (not b && (not d && (g && k)))) ≡ true → (not a && (not b && (not d && (h && k)))) ≡ true
+pub fork_step : (a b d g h k : Bool) → (g ≡ true → h ≡ true) → (not a && (not b && (not d && (g && k)))) ≡ true → (not a && (not b && (not d && (h && k)))) ≡ true
 fork_step true b d g h k on is = absurd (true≢false (sym is))
 fork_step false true d g h k on is = absurd (true≢false (sym is))
 fork_step false false true g h k on is = absurd (true≢false (sym is))

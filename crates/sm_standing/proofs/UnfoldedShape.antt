@@ -9,22 +9,19 @@ use Rattle.common_laws.specs.Lists.{insert_by, when}
 use Rattle.sm_base.specs.Names.{name_cmp}
 use Rattle.sm_base.specs.declared.names.Name.{Name}
 use Rattle.sm_base.specs.declared.names.Name.TheVariants.{Mgt, Vhd, Raw, Old, Clone, Inflate, Coalesce, Relink, Leaf}
-use Rattle.sm_base.specs.declared.operations.Op.TheVariants.{Idle}
 use Rattle.vg_meta.specs.Changes.{applied}
 use Rattle.vg_meta.specs.declared.changes.Change.TheVariants.{Remove}
 use Rattle.vg_meta.specs.Tables.{VolumeTable, Row, name_eq, rows}
 use Rattle.vg_meta.proofs.NameLaws.{name_eq-true}
 use Rattle.vg_meta.proofs.RowLaws.{IsRising}
-use Rattle.sm_machine.specs.Disks.{Disk}
-use Rattle.sm_machine.specs.Shapes.{ImageRow, Shape, risen, same_image, with_image}
+use Rattle.sm_machine.specs.Shapes.{ImageRow, risen, same_image, with_image}
 use Rattle.sm_standing.specs.Contents.{Content}
 use Rattle.sm_standing.specs.Entries.{folding, head, image_with, is_folding, making}
 use Rattle.sm_standing.specs.Images.{Image}
 use Rattle.sm_standing.specs.Opened.{Part, Work, base_back, begun, by_entry, committed, cut, enlarging_undone, extents_besides, folding_ended, forking_undone, has_parent, in_name_order, is_part, linked, linked_image, new_removed, opened, part_cut, part_row, removed, renamed, repaired, row_of_part, shown, under_name}
-use Rattle.sm_standing.specs.Shapes.{disk_record}
 use Rattle.sm_standing.specs.Standing.{disks}
 use Rattle.sm_standing.specs.Unfolded.{linked_past, past_parent}
-use Rattle.sm_standing.proofs.UndoneShape.{removed_work}
+use Rattle.sm_standing.proofs.UndoneShape.{left, removed_work, shape_of}
 use Rattle.sm_standing.proofs.UnfoldedRuns.{plain_apart, under_plain}
 use Rattle.sm_standing.proofs.VolumeLists.{none_without}
 use Rattle.sm_standing.proofs.UnfoldedContents.{bare, disks_bare, images_bare}
@@ -41,7 +38,7 @@ any_filter test keep kept (p ∷ ps) = by (test p) (keep p) refl refl (any_filte
     by true false is k rest = absurd (true≢false (sym (kept p is) ∙ k))
     by false false is k rest = rest ∙ sym (ap (λ x. x || list_any test ps) is)
 
-any_map : (test : Part → Bool) (g : Part → Part) → ((p : Part) → test (g p) ≡ test p) → (ps : List Part) → list_any test (map g ps) ≡ list_any test ps
+pub any_map : (test : Part → Bool) (g : Part → Part) → ((p : Part) → test (g p) ≡ test p) → (ps : List Part) → list_any test (map g ps) ≡ list_any test ps
 any_map test g same [] = refl
 any_map test g same (p ∷ ps) = ap₂ (λ a b. a || b) (same p) (any_map test g same ps)
 
@@ -66,8 +63,25 @@ filter_map_same keep g same (p ∷ ps) = ap (λ b. cond b (g p ∷ filter keep (
 -- ---- edits beside the removal of one part
 
 -- an edit that is made where a test says so, by one commit
-abbrev edit : (List Part → Bool) → (List Part → List Part) → Work → Work
+abbrev pub edit : (List Part → Bool) → (List Part → List Part) → Work → Work
 edit test g w = when (test w.parts) (λ v. committed v (g v.parts)) w
+
+-- two edits that say nothing of one another
+pub edits_apart : (s t : List Part → Bool) (f g : List Part → List Part) → ((ps : List Part) → s (g ps) ≡ s ps) → ((ps : List Part) → t (f ps) ≡ t ps)
+    → ((ps : List Part) → f (g ps) ≡ g (f ps)) → (w : Work) → edit s f (edit t g w) ≡ edit t g (edit s f w)
+edits_apart s t f g first second same w =
+    ap (λ b. when b (λ v. committed v (f v.parts)) (edit t g w)) (seen s g first (t w.parts)) ∙ by (s w.parts) (t w.parts)
+    ∙ sym (ap (λ b. when b (λ v. committed v (g v.parts)) (edit s f w)) (seen t f second (s w.parts)))
+  where
+    seen : (test : List Part → Bool) (h : List Part → List Part) → ((ps : List Part) → test (h ps) ≡ test ps) → (b : Bool) → test (when b (λ v. committed v (h v.parts)) w).parts ≡ test w.parts
+    seen test h kept true = kept w.parts
+    seen test h kept false = refl
+
+    by : (a b : Bool) → when a (λ v. committed v (f v.parts)) (when b (λ v. committed v (g v.parts)) w) ≡ when b (λ v. committed v (g v.parts)) (when a (λ v. committed v (f v.parts)) w)
+    by true true = ap (λ ps. record { sequence = risen (risen w.sequence 1) 1; parts = ps }) (same w.parts)
+    by true false = refl
+    by false true = refl
+    by false false = refl
 
 module _ (e : Name) where
   abbrev keeps : Part → Bool
@@ -83,43 +97,20 @@ module _ (e : Name) where
     same : (ps : List Part) → less (g ps) ≡ g (less ps)
 
   removed_edit : (test : List Part → Bool) (g : List Part → List Part) → IsBesides test g → (w : Work) → removed e (edit test g w) ≡ edit test g (removed e w)
-  removed_edit test g k w =
-      ap (λ b. when b (λ v. committed v (less v.parts)) (edit test g w)) any_same
-      ∙ by (test w.parts) (list_any (is_part e) w.parts)
-      ∙ sym (ap (λ b. when b (λ v. committed v (g v.parts)) (removed e w)) seen_same)
-    where
-      any_by : (a : Bool) → list_any (is_part e) (when a (λ v. committed v (g v.parts)) w).parts ≡ list_any (is_part e) w.parts
-      any_by true = k.there w.parts
-      any_by false = refl
-
-      any_same : list_any (is_part e) (edit test g w).parts ≡ list_any (is_part e) w.parts
-      any_same = any_by (test w.parts)
-
-      seen_by : (b : Bool) → test (when b (λ v. committed v (less v.parts)) w).parts ≡ test w.parts
-      seen_by true = k.seen w.parts
-      seen_by false = refl
-
-      seen_same : test (removed e w).parts ≡ test w.parts
-      seen_same = seen_by (list_any (is_part e) w.parts)
-
-      by : (a b : Bool) → when b (λ v. committed v (less v.parts)) (when a (λ v. committed v (g v.parts)) w) ≡ when a (λ v. committed v (g v.parts)) (when b (λ v. committed v (less v.parts)) w)
-      by true true = ap (λ ps. record { sequence = risen (risen w.sequence 1) 1; parts = ps }) (k.same w.parts)
-      by true false = refl
-      by false true = refl
-      by false false = refl
+  removed_edit test g k w = edits_apart (list_any (is_part e)) test less g k.there k.seen k.same w
 
   -- a part of another name is not this one
-  other_part : (n : Name) (p : Part) → name_eq n e ≡ false → is_part n p ≡ true → is_part e p ≡ false
+  pub other_part : (n : Name) (p : Part) → name_eq n e ≡ false → is_part n p ≡ true → is_part e p ≡ false
   other_part n p other is = ap (λ m. name_eq m e) (name_eq-true p.name n is) ∙ other
 
   by_name : (n : Name) (p : Part) → name_eq n e ≡ false → (test : Part → Bool) → (test p ≡ true → is_part n p ≡ true) → test p ≡ true → keeps p ≡ true
   by_name n p other test of is = ap not (other_part n p other (of is))
 
-  first_of : (a b : Bool) → (a && b) ≡ true → a ≡ true
+  pub first_of : (a b : Bool) → (a && b) ≡ true → a ≡ true
   first_of true b h = refl
   first_of false b h = h
 
-  changed_part : (n : Name) (h : Part → Part) → name_eq n e ≡ false → ((p : Part) → is_part n p ≡ true → is_part e (h p) ≡ false) → (p : Part) → is_part e (when (is_part n p) h p) ≡ is_part e p
+  pub changed_part : (n : Name) (h : Part → Part) → name_eq n e ≡ false → ((p : Part) → is_part n p ≡ true → is_part e (h p) ≡ false) → (p : Part) → is_part e (when (is_part n p) h p) ≡ is_part e p
   changed_part n h other away p = by (is_part n p) refl
     where
       by : (b : Bool) → is_part n p ≡ b → is_part e (when b h p) ≡ is_part e p
@@ -134,7 +125,7 @@ module _ (e : Name) where
     same = filter_map_same keeps (λ p. when (is_part n p) h p) (λ p. ap not (changed_part n h other away p));
   }
 
-  removed_removed : (n : Name) → name_eq n e ≡ false → (w : Work) → removed e (removed n w) ≡ removed n (removed e w)
+  pub removed_removed : (n : Name) → name_eq n e ≡ false → (w : Work) → removed e (removed n w) ≡ removed n (removed e w)
   removed_removed n other w =
       removed_edit (list_any (is_part n)) (filter (λ p. not (is_part n p))) (record {
         seen = any_filter (is_part n) keeps (λ p is. by_name n p other (is_part n) (λ h. h) is);
@@ -149,20 +140,20 @@ module _ (e : Name) where
           by true at = absurd (true≢false (sym is ∙ other_part n p other at))
           by false at = refl
 
-  removed_cut : (n : Name) (extents : ℕ) → name_eq n e ≡ false → (w : Work) → removed e (cut n extents w) ≡ cut n extents (removed e w)
+  pub removed_cut : (n : Name) (extents : ℕ) → name_eq n e ≡ false → (w : Work) → removed e (cut n extents w) ≡ cut n extents (removed e w)
   removed_cut n extents other w =
       removed_edit (list_any (λ p. is_part n p && nat_lt extents p.extents)) (map (λ p. when (is_part n p) (part_cut extents) p))
       (mapped_besides n (list_any (λ p. is_part n p && nat_lt extents p.extents)) (part_cut extents) other (λ p is. other_part n p other is)
       (any_filter (λ p. is_part n p && nat_lt extents p.extents) keeps
       (λ p is. by_name n p other (λ q. is_part n q && nat_lt extents q.extents) (first_of (is_part n p) (nat_lt extents p.extents)) is))) w
 
-  removed_shown : (n : Name) → name_eq n e ≡ false → (w : Work) → removed e (shown n w) ≡ shown n (removed e w)
+  pub removed_shown : (n : Name) → name_eq n e ≡ false → (w : Work) → removed e (shown n w) ≡ shown n (removed e w)
   removed_shown n other w =
       removed_edit (list_any (λ p. is_part n p && p.hidden)) (map (λ p. when (is_part n p) (λ q. record q { hidden = false }) p))
       (mapped_besides n (list_any (λ p. is_part n p && p.hidden)) (λ q. record q { hidden = false }) other (λ p is. other_part n p other is)
       (any_filter (λ p. is_part n p && p.hidden) keeps (λ p is. by_name n p other (λ q. is_part n q && q.hidden) (first_of (is_part n p) p.hidden) is))) w
 
-  removed_renamed : (n m : Name) → name_eq n e ≡ false → name_eq m e ≡ false → (w : Work) → removed e (renamed n m w) ≡ renamed n m (removed e w)
+  pub removed_renamed : (n m : Name) → name_eq n e ≡ false → name_eq m e ≡ false → (w : Work) → removed e (renamed n m w) ≡ renamed n m (removed e w)
   removed_renamed n m other to w =
       removed_edit (λ ps. true) (map (λ p. when (is_part n p) (λ q. record q { name = m }) p)) (mapped_besides n (λ ps. true) (λ q. record q { name = m }) other (λ p is. to) (λ ps. refl)) w
 
@@ -276,6 +267,10 @@ module _ (child : List ℕ) (m : Name) where
 
 -- ---- the repairs
 
+-- what is being made is undone
+abbrev pub made : VolumeTable → Option Name → Work → Work
+made x o w = by_entry (forking_undone x) o (by_entry enlarging_undone o w)
+
 module _ (e : Name) (f : IsFold e) (t : VolumeTable) where
   back_same : (disk : List ℕ) (o : Option Name) → ((n : Name) → o ≡ Some n → is_folding n ≡ false) → (w : Work) → removed e (base_back disk o w) ≡ base_back disk o (removed e w)
   back_same disk None other w = refl
@@ -309,9 +304,6 @@ module _ (e : Name) (f : IsFold e) (t : VolumeTable) where
   forking_same (Coalesce x y) w = refl
   forking_same (Relink x y) w = refl
   forking_same (Leaf x y) w = refl
-
-  abbrev made : VolumeTable → Option Name → Work → Work
-  made x o w = by_entry (forking_undone x) o (by_entry enlarging_undone o w)
 
   made_same : (o : Option Name) (w : Work) → removed e (made t o w) ≡ made t o (removed e w)
   made_same None w = refl
@@ -347,52 +339,35 @@ module _ (c : Content) (e : Name) (f : IsFold e) (one : folding c.table ≡ e �
       ∙ ap (λ (g : Row → Part). record { sequence = d.table.sequence; parts = map g d.table.volumes })
       (fun_ext (λ r. ap (λ (i : Option Image). record { name = r.name; hidden = r.hidden; fresh = r.fresh; extents = length r.extents; image = i }) (sym (images_bare c e f d.table.sequence r.name))))
 
-  abbrev left : Work → Work
-  left w = new_removed w.parts w
-
   -- what the entry's end leaves of the fork's or the enlargement's
-  ended : removed e (made e f t t (head (making t)) (begun c)) ≡ made e f t d.table (head (making d.table)) (begun d)
+  ended : removed e (made t (head (making t)) (begun c)) ≡ made d.table (head (making d.table)) (begun d)
   ended =
-      made_same e f t (head (making t)) (begun c) ∙ ap (made e f t t (head (making t))) begun_bare ∙ sym (made_bare e f t d.table.sequence (head (making t)) (begun d))
-      ∙ sym (ap (λ ns. made e f t d.table (head ns) (begun d)) (making_bare e f t d.table.sequence))
+      made_same e f t (head (making t)) (begun c) ∙ ap (made t (head (making t))) begun_bare ∙ sym (made_bare e f t d.table.sequence (head (making t)) (begun d))
+      ∙ sym (ap (λ ns. made d.table (head ns) (begun d)) (making_bare e f t d.table.sequence))
 
   abbrev folded : VolumeTable → List Name → Work → Work
   folded x ns w = left (by_entry (folding_ended x) (head ns) w)
 
-  without_it : repaired d.table (begun d) ≡ left (made e f t d.table (head (making d.table)) (begun d))
-  without_it = ap (λ ns. folded d.table ns (made e f t d.table (head (making d.table)) (begun d))) (none_without is_folding e t.volumes f.folds one)
+  without_it : repaired d.table (begun d) ≡ left (made d.table (head (making d.table)) (begun d))
+  without_it = ap (λ ns. folded d.table ns (made d.table (head (making d.table)) (begun d))) (none_without is_folding e t.volumes f.folds one)
 
-  with_it : repaired t (begun c) ≡ left (folding_ended t e (made e f t t (head (making t)) (begun c)))
-  with_it = ap (λ ns. folded t ns (made e f t t (head (making t)) (begun c))) one
-
-  abbrev shape_of : Work → List Disk → Shape
-  shape_of x ds = record {
-    sequence = x.sequence;
-    extent = c.extent;
-    block = c.block;
-    entries = c.entries;
-    extents = c.count;
-    others = sum (map extents_besides x.parts);
-    records = map disk_record ds;
-    images = in_name_order (filter_map row_of_part x.parts);
-    attached = [];
-    op = Idle;
-  }
+  with_it : repaired t (begun c) ≡ left (folding_ended t e (made t (head (making t)) (begun c)))
+  with_it = ap (λ ns. folded t ns (made t (head (making t)) (begun c))) one
 
   disks_same : disks d ≡ disks c
   disks_same = disks_bare c e f d.table.sequence one
 
-  pub opened_copy : folding_ended t e (made e f t t (head (making t)) (begun c)) ≡ removed e (made e f t t (head (making t)) (begun c)) → opened c ≡ opened d
+  pub opened_copy : folding_ended t e (made t (head (making t)) (begun c)) ≡ removed e (made t (head (making t)) (begun c)) → opened c ≡ opened d
   unfolding opened
-  opened_copy is = ap₂ shape_of (with_it ∙ ap left (is ∙ ended) ∙ sym without_it) (sym disks_same)
+  opened_copy is = ap₂ (shape_of c) (with_it ∙ ap left (is ∙ ended) ∙ sym without_it) (sym disks_same)
 
   pub opened_link : (child : List ℕ) (m : Name)
-      → folding_ended t e (made e f t t (head (making t)) (begun c)) ≡ removed e (linked (Vhd child) m (made e f t t (head (making t)) (begun c))) → opened c ≡ linked_past (Vhd child) m (opened d)
+      → folding_ended t e (made t (head (making t)) (begun c)) ≡ removed e (linked (Vhd child) m (made t (head (making t)) (begun c))) → opened c ≡ linked_past (Vhd child) m (opened d)
   unfolding opened
   opened_link child m is =
-      ap₂ shape_of
-      (with_it ∙ ap left (is ∙ removed_linked (Vhd child) m e (made e f t t (head (making t)) (begun c)) ∙ ap (linked (Vhd child) m) ended)
-      ∙ swept_linked (Vhd child) m (made e f t d.table (head (making d.table)) (begun d)).parts (made e f t d.table (head (making d.table)) (begun d)) ∙ ap (linked (Vhd child) m) (sym without_it))
+      ap₂ (shape_of c)
+      (with_it ∙ ap left (is ∙ removed_linked (Vhd child) m e (made t (head (making t)) (begun c)) ∙ ap (linked (Vhd child) m) ended)
+      ∙ swept_linked (Vhd child) m (made d.table (head (making d.table)) (begun d)).parts (made d.table (head (making d.table)) (begun d)) ∙ ap (linked (Vhd child) m) (sym without_it))
       (sym disks_same)
-      ∙ ap₂ (λ (k : ℕ) (is : List ImageRow). record (shape_of (repaired d.table (begun d)) (disks d)) { others = k; images = is })
+      ∙ ap₂ (λ (k : ℕ) (is : List ImageRow). record (shape_of c (repaired d.table (begun d)) (disks d)) { others = k; images = is })
       (ap sum (extents_up (Vhd child) m (repaired d.table (begun d)).parts)) (images_up child m (repaired d.table (begun d)).parts)

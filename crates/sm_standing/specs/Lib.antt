@@ -23,3 +23,4 @@ pub mod Undone
 pub mod Forks
 pub mod Swaps
 pub mod Unfolded
+pub mod Leaves

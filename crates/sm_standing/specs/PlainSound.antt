@@ -10,7 +10,7 @@ use Rattle.common_laws.specs.Lists.{In}
 use Rattle.sm_machine.specs.Shapes.{image_limit}
 use Rattle.sm_standing.specs.Plain.{IsKnown, IsPlain, IsSimple}
 use Rattle.sm_standing.specs.Contents.{Content, row, reading_at, record_count, records, is_record_of}
-use Rattle.sm_standing.specs.Checks.{images, is_misnamed, is_lost, is_invalid, is_tree_wrong, is_entry_linked, is_damaged}
+use Rattle.sm_standing.specs.Checks.{images, is_misnamed, is_lost, is_orphaned, is_invalid, is_tree_wrong, is_entry_linked, is_damaged}
 use Rattle.sm_standing.specs.Entries.{folding, making, second}
 use Rattle.sm_standing.specs.Outlines.{outline}
 use Rattle.sm_standing.specs.Standing.{standing_volume}
@@ -52,6 +52,23 @@ pub record KnownSound (c : Content) : Type 0 where
   pub one_folding : second (folding c.table) ≡ None
   pub one_entry : second (making c.table) ≡ None
   pub at_stage : (r : Row) → In r c.table.volumes → is_lost c.table r ≡ false
+  pub valid : (r : Row) → In r c.table.volumes → is_invalid (outline c) r ≡ false
+  pub placed : (r : Row) → In r c.table.volumes → is_tree_wrong (outline c) r ≡ false
+  pub linked : (r : Row) → In r c.table.volumes → is_entry_linked (outline c) r.name ≡ true
+  pub right : (k : ℕ) → k < record_count → is_damaged (reading_at c k) ≡ false
+  pub recorded : (u : List ℕ) (n : Name) → standing_volume c.table u ≡ Some n → length (filter (is_record_of u) (records c)) ≡ 1
+
+-- every sound repository, fact by fact
+pub record AllSound (c : Content) : Type 0 where
+  pub records_row : Row
+  pub records_there : row c Mgt ≡ Some records_row
+  pub records_extents : length records_row.extents ≡ record_extents c.extent
+  pub few_images : length (images c.table) ≤ image_limit
+  pub named : (r : Row) → In r c.table.volumes → is_misnamed c.table r ≡ false
+  pub one_folding : second (folding c.table) ≡ None
+  pub one_entry : second (making c.table) ≡ None
+  pub at_stage : (r : Row) → In r c.table.volumes → is_lost c.table r ≡ false
+  pub owned : (r : Row) → In r c.table.volumes → is_orphaned c.table r.name ≡ false
   pub valid : (r : Row) → In r c.table.volumes → is_invalid (outline c) r ≡ false
   pub placed : (r : Row) → In r c.table.volumes → is_tree_wrong (outline c) r ≡ false
   pub linked : (r : Row) → In r c.table.volumes → is_entry_linked (outline c) r.name ≡ true

@@ -13,13 +13,13 @@
 //! spells), `Opened` (the shape that an opening makes), `Plain` and `PlainSound` (a repository in which nothing is under way),
 //! `Readings` (record sectors of two contents), `Changes` (an image that comes, goes, grows or moves), `Enlarging` (an image
 //! that is being enlarged), `Undone` (a table without an enlargement or a fork that was cut short), `Unfolded` (a table without
-//! the entry of a copy or of a link), `Worlds` (what a change of the area leaves), `Forks` and `Swaps` (a content at any moment
+//! the entry of a copy or of a link), `Leaves` (a table without that of a leaf that is being folded), `Worlds` (what a change of the area leaves), `Forks` and `Swaps` (a content at any moment
 //! of a fork, or of a swap, beside the one from before).
 //!
 //! The laws are the contracts of functions that do nothing: of what is read through a chain (`chains`), of images in a
 //! content (`images`), of what a commit or a write leaves of each volume (`worlds`), of the list of disks (`listing`), of a
 //! repository in which nothing is under way, or an enlargement or a fork alone (`plain`), or a copy or a link
-//! (`unfolding`), of outlines and the first check that fails (`faults`), of what a volume says under whatever name it
+//! (`unfolding`), or the folding of a leaf (`leaves`), of outlines and the first check that fails (`faults`), of what a volume says under whatever name it
 //! stands (`volumes`), and of the moments of a fork (`forks`) and of a swap (`swaps`). That their hypotheses can be met is
 //! shown in the crate standing_examples.
 #![tactic(auto)]
@@ -28,6 +28,7 @@ mod chains;
 mod faults;
 mod forks;
 mod images;
+mod leaves;
 mod listing;
 mod plain;
 mod swaps;
@@ -44,6 +45,7 @@ pub use images::{
     law_chain_kept, law_chain_length, law_copied, law_moved, law_no_image, law_raised, law_read,
     law_removed, law_short_chain,
 };
+pub use leaves::law_leaf;
 pub use listing::{
     law_disk, law_disks_follow, law_disks_in_order, law_one_disk_changed, law_one_disk_less,
     law_one_disk_more,

@@ -1,8 +1,9 @@
 -- Small outlines: one of a thin disk, with its table while the disk's image is being enlarged, one of a VHD image beside a raw
--- one, one of a disk that is being forked, and one of an image whose children are being linked to its parent.
+-- one, one of a disk that is being forked, and those of an image that is being copied into its parent, and whose children are being
+-- linked to it.
 use Rattle.std.specs.Prelude.{ℕ, Bool, ◌==◌, false, true, bytes_eq, List, [], ◌∷◌, ◌++◌, map, Option, None, Some, if◌then◌else◌}
 use Rattle.sm_base.specs.declared.names.Name.{Name}
-use Rattle.sm_base.specs.declared.names.Name.TheVariants.{Vhd, Raw, Old, Clone, Inflate, Relink}
+use Rattle.sm_base.specs.declared.names.Name.TheVariants.{Vhd, Raw, Old, Clone, Inflate, Coalesce, Relink}
 use Rattle.vg_meta.specs.Tables.{Row, VolumeTable}
 use Rattle.sm_record.specs.declared.records.Reading.{Reading}
 use Rattle.sm_record.specs.declared.records.Reading.TheVariants.{Free, Taken}
@@ -71,18 +72,29 @@ forking_links parent _ = None
 abbrev pub forking_outline : Option Name → Outline
 forking_outline parent = record { extent = 32; block = 8; entries = 64; table = forking_table; links = forking_links parent; readings = one_record }
 
--- the disk one lies over the hidden image two, and that over the hidden image three, to which its children are being linked
+-- the disk one lies over the hidden image two, and that over the hidden image three, under the entry of a fold
 abbrev pub linking_images : List Row
 linking_images = record_row (0 ∷ 1 ∷ 2 ∷ 3 ∷ 4 ∷ 5 ∷ 6 ∷ 7 ∷ 8 ∷ 9 ∷ 10 ∷ 11 ∷ 12 ∷ 13 ∷ 14 ∷ 15 ∷ [])
     ∷ image_row false (Vhd one) (16 ∷ []) ∷ image_row true (Vhd two) (17 ∷ []) ∷ image_row true (Vhd three) (18 ∷ []) ∷ []
 
-abbrev pub linking_table : VolumeTable
-linking_table = record { sequence = 8; volumes = image_row false (Relink two three) [] ∷ linking_images }
+abbrev pub folding_table : Name → VolumeTable
+folding_table entry = record { sequence = 8; volumes = image_row false entry [] ∷ linking_images }
 
--- the image three may be smaller
-abbrev pub linking_links : ℕ → Name → Option Link
-linking_links size (Vhd u) = if bytes_eq u one then Some (record { size = 32; parent = Some (Vhd two) }) else if bytes_eq u two then Some (record { size = 32; parent = Some (Vhd three) }) else Some (record { size = size; parent = None })
-linking_links size _ = None
+-- the disk may have another parent, and the image three may be smaller
+abbrev pub folding_links : Name → ℕ → Name → Option Link
+folding_links parent size (Vhd u) = if bytes_eq u one then Some (record { size = 32; parent = Some parent }) else if bytes_eq u two then Some (record { size = 32; parent = Some (Vhd three) }) else Some (record { size = size; parent = None })
+folding_links parent size _ = None
+
+abbrev pub folding_outline : Name → Name → ℕ → Outline
+folding_outline entry parent size = record { extent = 32; block = 8; entries = 64; table = folding_table entry; links = folding_links parent size; readings = one_record }
+
+-- the children of the image two are being linked to the image three
+abbrev pub linking_table : VolumeTable
+linking_table = folding_table (Relink two three)
 
 abbrev pub linking_outline : ℕ → Outline
-linking_outline size = record { extent = 32; block = 8; entries = 64; table = linking_table; links = linking_links size; readings = one_record }
+linking_outline size = folding_outline (Relink two three) (Vhd two) size
+
+-- the image two is being copied into the image three
+abbrev pub copying_outline : Name → Outline
+copying_outline parent = folding_outline (Coalesce two three) parent 32

@@ -3,7 +3,7 @@
 
 ghost use Rattle.std.specs.Prelude.{◌≡◌, ◌∷◌, ◌<◌, ℕ, [], List, None, Some, false, take, true};
 ghost use Rattle.sm_base.specs.declared.faults.Place.TheVariants as at;
-ghost use Rattle.sm_base.specs.declared.names.Name.TheVariants.{Vhd, Raw, Old, Clone, Inflate, Leaf, Relink};
+ghost use Rattle.sm_base.specs.declared.names.Name.TheVariants.{Vhd, Raw, Old, Clone, Coalesce, Inflate, Leaf, Relink};
 ghost use Rattle.sm_standing.specs.Besides.{IsBeside};
 ghost use Rattle.sm_standing.specs.Checks.{fault_of, fault_today_of, first_fault};
 ghost use Rattle.sm_standing.specs.Enlarging.{IsEnlarging};
@@ -12,7 +12,7 @@ ghost use Rattle.sm_standing.specs.Standing.{standing_volume};
 ghost use Rattle.sm_standing.specs.Undone.{IsBeingEnlarged, applied_all, undo_changes, undone, undone_from};
 ghost use Rattle.sm_standing.specs.Unfolded.{unfolded};
 ghost use Rattle.standing_examples.specs.SmallContents.{lone_raw, one, two, three, four, record_row, sized_row};
-ghost use Rattle.standing_examples.specs.SmallOutlines.{thin_outline, thin_table, enlarging_table, entries_table, old_table, mixed_outline, forking_table, forking_outline, linking_images, linking_outline, linking_table};
+ghost use Rattle.standing_examples.specs.SmallOutlines.{thin_outline, thin_table, enlarging_table, entries_table, old_table, mixed_outline, forking_table, forking_outline, linking_images, linking_outline, linking_table, copying_outline};
 
 /// A guest writes into a raw disk, behind the records: the outline is as it was, and so is the first fault.
 pub fn example_outline()
@@ -33,7 +33,8 @@ pub fn example_enlarging()
 /// A raw disk beside a VHD disk passes today's checks. So does a hidden VHD image beside it, and a VHD disk over the raw image where
 /// that is hidden; over a visible one it stops at the tree, and an old leaf stops at the image. The entry of an enlargement passes,
 /// a second one and one at no stage do not, and an entry of the folding of a leaf is named in front of these. The entry of a fork
-/// passes where the base is the only parent of its new images, and that of a link where the parent is no smaller than the image.
+/// passes where the base is the only parent of its new images, that of a link where the parent is no smaller than the image, and
+/// that of a copy where the image is its parent's only child.
 pub fn example_today()
     ensures passes { fault_today_of (mixed_outline false false None) ≡ None }
     ensures hidden { fault_today_of (mixed_outline false true None) ≡ None }
@@ -48,6 +49,8 @@ pub fn example_today()
     ensures unlinked { fault_today_of (forking_outline None) ≡ Some (at.Journal (Clone one two three)) }
     ensures link { fault_today_of (linking_outline 32) ≡ None }
     ensures smaller { fault_today_of (linking_outline 24) ≡ Some (at.Journal (Relink two three)) }
+    ensures copy { fault_today_of (copying_outline (Vhd two)) ≡ None }
+    ensures shared { fault_today_of (copying_outline (Vhd three)) ≡ Some (at.Journal (Coalesce two three)) }
 {}
 
 /// A thin disk of one extent got two more, and a stop came: it is cut to one extent, and the entry is removed. Where it got none

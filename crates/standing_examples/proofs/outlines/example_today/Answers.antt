@@ -62,3 +62,11 @@ returns-clause-link c = refl
 pub returns-clause-smaller : goal.returns-clause-smaller
 unfolding fault_today_of record_volume_fault too_many_fault misnamed_fault entry_ahead_fault second_entry_fault lost_entry_fault old_leaf_fault invalid_fault tree_fault entry_link_fault is_entry_linked children chain_length record_fault disk_fault first_name outline_records standing_volume uuids in_order with_uuid row_of name_eq record_extents div_up is_base numbers is_at_stage image_with same_image
 returns-clause-smaller c = refl
+
+pub returns-clause-copy : goal.returns-clause-copy
+unfolding fault_today_of record_volume_fault too_many_fault misnamed_fault entry_ahead_fault second_entry_fault lost_entry_fault old_leaf_fault invalid_fault tree_fault entry_link_fault is_entry_linked children chain_length record_fault disk_fault first_name outline_records standing_volume uuids in_order with_uuid row_of name_eq record_extents div_up is_base numbers is_at_stage image_with same_image
+returns-clause-copy c = refl
+
+pub returns-clause-shared : goal.returns-clause-shared
+unfolding fault_today_of record_volume_fault too_many_fault misnamed_fault entry_ahead_fault second_entry_fault lost_entry_fault old_leaf_fault invalid_fault tree_fault entry_link_fault is_entry_linked children chain_length record_fault disk_fault first_name outline_records standing_volume uuids in_order with_uuid row_of name_eq record_extents div_up is_base numbers is_at_stage image_with same_image
+returns-clause-shared c = refl
