@@ -1,5 +1,5 @@
--- The entry of a copy is put, once its parent has the child's size: what the commit asks, what a stop leaves, and what is known behind it.
-use Rattle.std.proofs.Common.{◌≡◌, ℕ, ◌<◌, true, false, List, [], Option, Some, None, refl, sym, ap, ap₂, ◌∙◌, subst, subst₂, arith}
+-- The entry of a copy, of a hidden image or of a leaf, is put, once its parent has the child's size: what the commit asks, what a stop leaves, and what is known behind it.
+use Rattle.std.proofs.Common.{◌≡◌, ℕ, ◌<◌, Bool, true, false, List, [], Option, Some, None, refl, sym, ap, ap₂, ◌∙◌, subst, subst₂, arith}
 use Rattle.std.proofs.Math.Logic.{∥∥₁_elim}
 use Rattle.std.proofs.Props.{props}
 use Rattle.std.specs.List.{IsDistinct}
@@ -10,7 +10,7 @@ use Rattle.common_laws.proofs.Lists.{In-map_at, filter-In}
 use Rattle.sm_base.specs.Kinds.{is_entry}
 use Rattle.sm_base.specs.Names.{IsName, IsUuid}
 use Rattle.sm_base.specs.declared.names.Name.{Name}
-use Rattle.sm_base.specs.declared.names.Name.TheVariants.{Coalesce, Vhd, Raw}
+use Rattle.sm_base.specs.declared.names.Name.TheVariants.{Vhd, Raw}
 use Rattle.sm_base.specs.declared.operations.Op.TheVariants as op
 use Rattle.sm_disk.specs.Held.{Held, reads}
 use Rattle.vg_meta.specs.Changes.{Permits, applied}
@@ -25,7 +25,7 @@ use Rattle.vhd_image.specs.Bodies.{sector_count}
 use Rattle.vhd_chain.specs.Trees.{row_name, tree_row}
 use Rattle.vhd_chain.specs.declared.rows.TreeRow.{TreeRow}
 use Rattle.sm_machine.specs.Disks.{Disk}
-use Rattle.sm_machine.specs.Shapes.{ImageRow, Shape, image_uuid, risen}
+use Rattle.sm_machine.specs.Shapes.{ImageRow, Shape, attached_as, image_uuid, is_vhd, risen}
 use Rattle.sm_machine.specs.WellFormed.{IsOnlyChild, is_image_name}
 use Rattle.sm_run.specs.Between.{IsBetween}
 use Rattle.sm_standing.specs.Images.{Image, image_of}
@@ -52,8 +52,11 @@ use Rattle.sm_ready.proofs.LeftLaws.{left_in, left_now, links_left}
 use Rattle.sm_ready.proofs.OperationLaws.{below_alike}
 use Rattle.sm_ready.proofs.Orders.{In-tree_row, named_row}
 use Rattle.sm_ready.proofs.PutBackLaws.{row_proper}
-use Rattle.gc_coalesce.specs.Beginning.{CanEnter, LeavesStill, entered, raised}
+use Rattle.gc_coalesce.specs.Beginning.{CanBegin, CanEnter, KeepsExtents, LeavesStill, copy_entry, entered, raised}
+use Rattle.gc_coalesce.specs.Copying.{copy_of}
+use Rattle.gc_coalesce.proofs.BeginExtents.{extents_put}
 use Rattle.gc_coalesce.proofs.BeginShapes.{roomy, works}
+use Rattle.gc_coalesce.proofs.CopyKinds.{below_in, entry_no_image, entry_no_records, entry_proper, entry_suits, is_its_entry, its_entry, roomy_in, runs}
 use Rattle.gc_coalesce.proofs.BeginStores.{IsRowOf, child_found, child_row, parent_found, parent_row, row_of}
 use Rattle.gc_coalesce.proofs.EntryLaws as entries
 
@@ -81,7 +84,7 @@ module _ (s : Site) (t : VolumeTable) (m : Known) (v p : Name) (o : IsOrderly s 
 
 -- ---- nothing is copied yet
 
-module _ (s : Site) (t : VolumeTable) (m : Known) (v p : Name) (o : IsOrderly s t m) (works : IsOnlyChild (shape_in s t m) true v p) where
+module _ (s : Site) (t : VolumeTable) (m : Known) (k : Bool) (v p : Name) (o : IsOrderly s t m) (works : IsOnlyChild (shape_in s t m) k v p) where
   child_at : IsRowOf m works.link.child
   child_at = row_of s t m works.link.child o works.link.there
 
@@ -112,7 +115,7 @@ module _ (s : Site) (t : VolumeTable) (m : Known) (v p : Name) (o : IsOrderly s 
   below_none area firm =
       let c = at_image v child_at.row child_is in
       let q = at_image p parent_at.0 parent_at.1 in
-      record { child = c.0; parent = q.0; image = c.1; under = q.1; size = q.2 ∙ same_size ∙ sym c.2; held = λ k bytes below. absurd (omega (arith, below)) }
+      record { child = c.0; parent = q.0; image = c.1; under = q.1; size = q.2 ∙ same_size ∙ sym c.2; held = λ at bytes below. absurd (omega (arith, below)) }
     where
       at_image : (n : Name) (r : TreeRow) → tree_row m.rows n ≡ Some r → (i : Image) × (image_of (content_now s t area) n ≡ Some i) × (i.size ≡ sector_count r.image)
       at_image n r found = by (image_of (content_now s t area) n) refl (links_left s t area m (reads area) n o firm (left_in s t m area (reads area) o (left_now s area)) ∙ ap link_in found)
@@ -124,24 +127,25 @@ module _ (s : Site) (t : VolumeTable) (m : Known) (v p : Name) (o : IsOrderly s 
 -- ---- the table and memory
 
 -- memory is orderly, no operation runs, and a copy may begin
-pub record IsToEnter (s : Site) (t : VolumeTable) (m : Known) (v p : Name) : Type 0 where
+pub record IsToEnter (s : Site) (t : VolumeTable) (m : Known) (k : Bool) (v p : Name) : Type 0 where
   pub orderly : IsOrderly s t m
   pub tidy : IsTidy t m
   pub idle : m.op ≡ op.Idle
   pub child_uuid : IsUuid (image_uuid v)
   pub parent_uuid : IsUuid (image_uuid p)
-  pub works : IsOnlyChild (shape_in s t m) true v p
+  pub works : IsOnlyChild (shape_in s t m) k v p
+  pub leaf : k ≡ false → (is_vhd p ≡ true) × (attached_as (image_uuid v) (shape_in s t m) ≡ None)
   pub roomy : IsRoomyFor (shape_in s t m) v p
 
-module _ (s : Site) (t : VolumeTable) (m : Known) (v p : Name) (h : IsToEnter s t m v p) where
+module _ (s : Site) (t : VolumeTable) (m : Known) (k : Bool) (v p : Name) (h : IsToEnter s t m k v p) where
   abbrev entry : Name
-  entry = Coalesce (image_uuid v) (image_uuid p)
+  entry = copy_entry k v p
 
   abbrev pub next : VolumeTable
-  next = applied t (Create (Coalesce (image_uuid v) (image_uuid p)) false [])
+  next = applied t (Create (copy_entry k v p) false [])
 
   abbrev pub after : Known
-  after = record m { op = op.Copy v p 0 }
+  after = record m { op = copy_of k v p 0 }
 
   none_there : names_in t is_entry ≡ []
   none_there = h.orderly.entries ∙ ap entry_of h.idle
@@ -149,88 +153,91 @@ module _ (s : Site) (t : VolumeTable) (m : Known) (v p : Name) (h : IsToEnter s 
   no_row : rows t entry ≡ None
   no_row = by (rows t entry) refl
     where
-      by : (x : Option Row) → rows t (Coalesce (image_uuid v) (image_uuid p)) ≡ x → x ≡ None
+      by : (x : Option Row) → rows t (copy_entry k v p) ≡ x → x ≡ None
       by None is = refl
       by (Some q) is = absurd (
-          let w = row_of-In t.volumes (Coalesce (image_uuid v) (image_uuid p)) q is in
-          let name = name_eq-true q.name (Coalesce (image_uuid v) (image_uuid p)) w.1 in
-          subst (In q.name) none_there (filter-In is_entry (names_of t.volumes) q.name (In-map_at (λ (r : Row). r.name) t.volumes q w.0) (ap is_entry name)))
+          let w = row_of-In t.volumes (copy_entry k v p) q is in
+          let name = name_eq-true q.name (copy_entry k v p) w.1 in
+          subst (In q.name) none_there (filter-In is_entry (names_of t.volumes) q.name (In-map_at (λ (r : Row). r.name) t.volumes q w.0) (ap is_entry name ∙ is_its_entry k v p)))
 
-  pub may_put : Permits s.count t (Create (Coalesce (image_uuid v) (image_uuid p)) false [])
-  unfolding IsName IsDistinct
+  pub may_put : Permits s.count t (Create (copy_entry k v p) false [])
+  unfolding IsDistinct
   may_put = record {
-    name_proper = (h.child_uuid, h.parent_uuid);
+    name_proper = entry_proper k v p h.child_uuid h.parent_uuid;
     new_name = no_row;
-    not_mgt = λ is. (let x = is in cc);
-    kind = refl;
+    not_mgt = entry_no_records k v p;
+    kind = entry_suits k v p;
     extents_free = record { below = tt; unused = tt; distinct = tt };
   }
 
-  put_table : entries.IsReentered s t (applied t (Create (Coalesce (image_uuid v) (image_uuid p)) false []))
-  put_table = entries.entered s t (Create entry false []) h.orderly.table may_put (λ n of. ap is_entry of)
+  put_table : entries.IsReentered s t (applied t (Create (copy_entry k v p) false []))
+  put_table = entries.entered s t (Create entry false []) h.orderly.table may_put (λ n of. ap is_entry of ∙ is_its_entry k v p)
 
-  pub orderly_put : IsOrderly s (applied t (Create (Coalesce (image_uuid v) (image_uuid p)) false [])) (record m { op = op.Copy v p 0 })
-  orderly_put = entries.orderly_entry s t next m h.orderly put_table (op.Copy v p 0) (entries.entry_put t entry false [] refl none_there) (λ w. h.works) h.roomy
+  pub orderly_put : IsOrderly s (applied t (Create (copy_entry k v p) false [])) (record m { op = copy_of k v p 0 })
+  orderly_put = entries.orderly_entry s t next m h.orderly put_table (copy_of k v p 0) (entries.entry_put t entry false [] (is_its_entry k v p) none_there ∙ sym (its_entry k v p 0))
+      (λ w. runs (shape_in s t m) k v p 0 h.works h.leaf) (roomy_in (shape_in s t m) k v p 0 h.roomy)
 
-  pub tidy_put : IsTidy (applied t (Create (Coalesce (image_uuid v) (image_uuid p)) false [])) (record m { op = op.Copy v p 0 })
-  tidy_put = entries.tidy_entry s t next m (op.Copy v p 0) put_table h.tidy
+  pub tidy_put : IsTidy (applied t (Create (copy_entry k v p) false [])) (record m { op = copy_of k v p 0 })
+  tidy_put = entries.tidy_entry s t next m (copy_of k v p 0) put_table h.tidy
 
-  pub fits_put : Fits t (Create (Coalesce (image_uuid v) (image_uuid p)) false [])
+  pub fits_put : Fits t (Create (copy_entry k v p) false [])
   fits_put = fits_orderly s next after orderly_put
 
-  pub shape_put : shape_in s (applied t (Create (Coalesce (image_uuid v) (image_uuid p)) false [])) (record m { op = op.Copy v p 0 }) ≡ record (shape_in s t m) { sequence = risen t.sequence 1; op = op.Copy v p 0 }
-  shape_put = entries.shape_entry s t next m (op.Copy v p 0) ∙ ap (λ (k : ℕ). let x : Shape = record (shape_in s t m) { sequence = k; op = op.Copy v p 0 } in x) (omega arith)
+  pub shape_put : shape_in s (applied t (Create (copy_entry k v p) false [])) (record m { op = copy_of k v p 0 }) ≡ record (shape_in s t m) { sequence = risen t.sequence 1; op = copy_of k v p 0 }
+  shape_put = entries.shape_entry s t next m (copy_of k v p 0) ∙ ap (λ (n : ℕ). let x : Shape = record (shape_in s t m) { sequence = n; op = copy_of k v p 0 } in x) (omega arith)
 
-  pub disks_put : (image : ℕ → List ℕ) → disks (content_in s (applied t (Create (Coalesce (image_uuid v) (image_uuid p)) false [])) image) ≡ disks (content_in s t image)
+  pub disks_put : (image : ℕ → List ℕ) → disks (content_in s (applied t (Create (copy_entry k v p) false [])) image) ≡ disks (content_in s t image)
   disks_put image = entries.disks_entry s t next m after image h.orderly orderly_put put_table.same
 
-  pub ready_put : (area : Held) → IsReady s t area m → IsReady s (applied t (Create (Coalesce (image_uuid v) (image_uuid p)) false [])) area (record m { op = op.Copy v p 0 })
+  pub ready_put : (area : Held) → IsReady s t area m → IsReady s (applied t (Create (copy_entry k v p) false [])) area (record m { op = copy_of k v p 0 })
   ready_put area ready =
-      entries.ready_entry s t next m (op.Copy v p 0) (entries.extents_entry s t next m h.orderly put_table) area ready
-      (below_alike (content_now s t area) (content_now s next area) (op.Copy v p 0) refl refl (λ n _. entries.image_entry s t next m after (reads area) h.orderly orderly_put put_table.same n)
-      (below_none s t m v p h.orderly h.works area ready.firm))
+      entries.ready_entry s t next m (copy_of k v p 0) (entries.extents_entry s t next m h.orderly put_table) area ready
+      (below_alike (content_now s t area) (content_now s next area) (copy_of k v p 0) refl refl (λ n _. entries.image_entry s t next m after (reads area) h.orderly orderly_put put_table.same n)
+      (below_in (content_now s t area) k v p 0 (below_none s t m k v p h.orderly h.works area ready.firm)))
 
 -- ---- the commit
 
-module _ {S : Type 0} {g : Ghosts S} {a b : S} (n : Memory) {v p : Name} (h : IsToEnter (g.site a) (tab g a) (known n) v p) (stays : Stays g a b) (usable : g.failed a ≡ false) where
+module _ {S : Type 0} {g : Ghosts S} {a b : S} (n : Memory) {k : Bool} {v p : Name} (h : IsToEnter (g.site a) (tab g a) (known n) k v p) (stays : Stays g a b) (usable : g.failed a ≡ false) where
   abbrev change : Change
-  change = Create (Coalesce (image_uuid v) (image_uuid p)) false []
+  change = Create (copy_entry k v p) false []
 
-  permits_put : Permits (g.site b).count (tab g b) (Create (Coalesce (image_uuid v) (image_uuid p)) false [])
-  permits_put = subst₂ (λ (x : Site) y. Permits x.count y change) (sym stays.site) (sym stays.table) (may_put (g.site a) (tab g a) (known n) v p h)
+  permits_put : Permits (g.site b).count (tab g b) (Create (copy_entry k v p) false [])
+  permits_put = subst₂ (λ (x : Site) y. Permits x.count y change) (sym stays.site) (sym stays.table) (may_put (g.site a) (tab g a) (known n) k v p h)
 
-  pub can_put : 0 < (g.table b).spare → CanCommit g (Create (Coalesce (image_uuid v) (image_uuid p)) false []) b
+  pub can_put : 0 < (g.table b).spare → CanCommit g (Create (copy_entry k v p) false []) b
   can_put row = record {
     usable = stays.failed ∙ usable;
     allowed = permits_put;
     room = row;
-    fits = subst (λ y. Fits y change) (sym stays.table) (fits_put (g.site a) (tab g a) (known n) v p h);
+    fits = subst (λ y. Fits y change) (sym stays.table) (fits_put (g.site a) (tab g a) (known n) k v p h);
   }
 
-  module _ {x : S} (c : Commits g (Create (Coalesce (image_uuid v) (image_uuid p)) false []) b x) (k : Memory) (is : known k ≡ after (g.site a) (tab g a) (known n) v p h) where
+  module _ {x : S} (c : Commits g (Create (copy_entry k v p) false []) b x) (l : Memory) (is : known l ≡ after (g.site a) (tab g a) (known n) k v p h) where
     site_end : g.site x ≡ g.site a
     site_end = c.site ∙ stays.site
 
-    table_end : tab g x ≡ next (g.site a) (tab g a) (known n) v p h
+    table_end : tab g x ≡ next (g.site a) (tab g a) (known n) k v p h
     table_end = c.table ∙ ap (λ y. applied y change) stays.table
 
-    pub orderly_end : IsOrderlyStore g x k
-    orderly_end = subst₂ (λ y z. IsOrderly y z (known k)) (sym site_end) (sym table_end) (subst (IsOrderly (g.site a) (next (g.site a) (tab g a) (known n) v p h)) (sym is) (orderly_put (g.site a) (tab g a) (known n) v p h))
+    pub orderly_end : IsOrderlyStore g x l
+    orderly_end = subst₂ (λ y z. IsOrderly y z (known l)) (sym site_end) (sym table_end) (subst (IsOrderly (g.site a) (next (g.site a) (tab g a) (known n) k v p h)) (sym is) (orderly_put (g.site a) (tab g a) (known n) k v p h))
 
-    pub tidy_end : IsTidyStore g x k
-    tidy_end = subst₂ IsTidy (sym table_end) (sym is) (tidy_put (g.site a) (tab g a) (known n) v p h)
+    pub extents_end : KeepsExtents (tab g a) (tab g x)
+    extents_end = subst (KeepsExtents (tab g a)) (sym table_end) (extents_put (tab g a) (copy_entry k v p) (no_row (g.site a) (tab g a) (known n) k v p h))
 
-    pub shape_end : (σ : Shape) → shape_in (g.site a) (tab g a) (known n) ≡ raised v p σ → (tab g a).sequence ≡ σ.sequence → store_shape g x k ≡ entered v p σ
+    pub tidy_end : IsTidyStore g x l
+    tidy_end = subst₂ IsTidy (sym table_end) (sym is) (tidy_put (g.site a) (tab g a) (known n) k v p h)
+
+    pub shape_end : (σ : Shape) → shape_in (g.site a) (tab g a) (known n) ≡ raised v p σ → (tab g a).sequence ≡ σ.sequence → store_shape g x l ≡ entered k v p σ
     shape_end σ shape number =
-        ap₂ (λ (y : Site) (z : VolumeTable). shape_in y z (known k)) site_end table_end ∙ ap (shape_in (g.site a) (next (g.site a) (tab g a) (known n) v p h)) is ∙ shape_put (g.site a) (tab g a) (known n) v p h
-        ∙ ap₂ (λ (y : Shape) j. let z : Shape = record y { sequence = risen j 1; op = op.Copy v p 0 } in z) shape number
+        ap₂ (λ (y : Site) (z : VolumeTable). shape_in y z (known l)) site_end table_end ∙ ap (shape_in (g.site a) (next (g.site a) (tab g a) (known n) k v p h)) is ∙ shape_put (g.site a) (tab g a) (known n) k v p h
+        ∙ ap₂ (λ (y : Shape) j. let z : Shape = record y { sequence = risen j 1; op = copy_of k v p 0 } in z) shape number
 
-    not_entry : (r : TreeRow) → In r n.tree.rows → row_name r ≡ Coalesce (image_uuid v) (image_uuid p) → ⊥
-    unfolding is_image_name
-    not_entry r i of = true≢false (sym (named_row (g.site a) (tab g a) (known n) r h.orderly i) ∙ ap is_image_name of)
+    not_entry : (r : TreeRow) → In r n.tree.rows → row_name r ≡ copy_entry k v p → ⊥
+    not_entry r i of = true≢false (sym (named_row (g.site a) (tab g a) (known n) r h.orderly i) ∙ ap is_image_name of ∙ entry_no_image k v p)
 
-    pub true_end : k.tree.rows ≡ n.tree.rows → HasTrueImages g b n → HasTrueImages g x k
-    true_end same = true_kept g n k c.site (λ told r i.
+    pub true_end : l.tree.rows ≡ n.tree.rows → HasTrueImages g b n → HasTrueImages g x l
+    true_end same = true_kept g n l c.site (λ told r i.
         let was = subst (In r) same i in
         (was, volume_commits r (subst₂ (λ (y : Site) z. IsTable y.count z) (sym stays.site) (sym stays.table) h.orderly.table) permits_put (λ of. not_entry r was of) c told))
 
@@ -244,32 +251,32 @@ module _ {S : Type 0} {g : Ghosts S} {a b : S} (n : Memory) {v p : Name} (h : Is
     safe = record { kept = leaves.kept; shown = leaves.shown }
 
     module _ (ready : IsReady (g.site a) (tab g a) (at_rest (reads (g.area b))) (known n)) (same : disks (content_now (g.site a) (tab g a) (g.area b)) ≡ disks (store_content g a)) where
-      ready_then : IsReady (g.site a) (next (g.site a) (tab g a) (known n) v p h) (at_rest (reads (g.area b))) (after (g.site a) (tab g a) (known n) v p h)
-      ready_then = ready_put (g.site a) (tab g a) (known n) v p h (at_rest (reads (g.area b))) ready
+      ready_then : IsReady (g.site a) (next (g.site a) (tab g a) (known n) k v p h) (at_rest (reads (g.area b))) (after (g.site a) (tab g a) (known n) k v p h)
+      ready_then = ready_put (g.site a) (tab g a) (known n) k v p h (at_rest (reads (g.area b))) ready
 
-      disks_then : disks (content_now (g.site a) (next (g.site a) (tab g a) (known n) v p h) (at_rest (reads (g.area b)))) ≡ disks (store_content g a)
-      disks_then = disks_put (g.site a) (tab g a) (known n) v p h (reads (g.area b)) ∙ same
+      disks_then : disks (content_now (g.site a) (next (g.site a) (tab g a) (known n) k v p h) (at_rest (reads (g.area b)))) ≡ disks (store_content g a)
+      disks_then = disks_put (g.site a) (tab g a) (known n) k v p h (reads (g.area b)) ∙ same
 
-      crash : {x : S} (ok : Type 0) → IsCommit (g.site a) (tab g a) (next (g.site a) (tab g a) (known n) v p h) (g.area b) (g.area x) (StoreLeaves g x) ok → (z : VolumeTable) (image : ℕ → List ℕ) → StoreLeaves g x z image
+      crash : {x : S} (ok : Type 0) → IsCommit (g.site a) (tab g a) (next (g.site a) (tab g a) (known n) k v p h) (g.area b) (g.area x) (StoreLeaves g x) ok → (z : VolumeTable) (image : ℕ → List ℕ) → StoreLeaves g x z image
           → IsKept (content_in (g.site a) z image) × IsBetween (MayShow (g.site a) (StoreLeaves g a)) was was (disks (content_in (g.site a) z image))
-      crash {x} ok commit = law_commit (g.site a) (tab g a) (next (g.site a) (tab g a) (known n) v p h) (g.area b) (g.area x) (after (g.site a) (tab g a) (known n) v p h) (StoreLeaves g a) (StoreLeaves g x) ok was was
-          safe (orderly_put (g.site a) (tab g a) (known n) v p h) ready_then commit disks_then
+      crash {x} ok commit = law_commit (g.site a) (tab g a) (next (g.site a) (tab g a) (known n) k v p h) (g.area b) (g.area x) (after (g.site a) (tab g a) (known n) k v p h) (StoreLeaves g a) (StoreLeaves g x) ok was was
+          safe (orderly_put (g.site a) (tab g a) (known n) k v p h) ready_then commit disks_then
 
-      pub put_failed : {x : S} (k : Known) (ok : Type 0) → (ok → ⊥) → FailsToCommit g b x → ((z : VolumeTable) (image : ℕ → List ℕ) → g.leaves x z image → IsEitherOf (stored g b) (Create (Coalesce (image_uuid v) (image_uuid p)) false []) z image)
-          → HasDoneFrom (g.site a) (tab g x) (g.area x) k (StoreLeaves g a) (StoreLeaves g x) ok (disks (store_content g a)) (disks (store_content g a))
-      put_failed {x} k ok never fails either = only_crash never (crash {x = x} ok (commit_failed g change ok never stays.site stays.table told fails either))
+      pub put_failed : {x : S} (l : Known) (ok : Type 0) → (ok → ⊥) → FailsToCommit g b x → ((z : VolumeTable) (image : ℕ → List ℕ) → g.leaves x z image → IsEitherOf (stored g b) (Create (copy_entry k v p) false []) z image)
+          → HasDoneFrom (g.site a) (tab g x) (g.area x) l (StoreLeaves g a) (StoreLeaves g x) ok (disks (store_content g a)) (disks (store_content g a))
+      put_failed {x} l ok never fails either = only_crash never (crash {x = x} ok (commit_failed g change ok never stays.site stays.table told fails either))
 
-      pub put_done : {x : S} (k : Memory) (ok : Type 0) (c : Commits g (Create (Coalesce (image_uuid v) (image_uuid p)) false []) b x)
-          → ((z : VolumeTable) (image : ℕ → List ℕ) → g.leaves x z image → IsEitherOf (stored g b) (Create (Coalesce (image_uuid v) (image_uuid p)) false []) z image)
-          → known k ≡ after (g.site a) (tab g a) (known n) v p h
-          → HasDoneFrom (g.site a) (tab g x) (g.area x) (known k) (StoreLeaves g a) (StoreLeaves g x) ok (disks (store_content g a)) (disks (store_content g a))
-      put_done {x} k ok c either is =
+      pub put_done : {x : S} (l : Memory) (ok : Type 0) (c : Commits g (Create (copy_entry k v p) false []) b x)
+          → ((z : VolumeTable) (image : ℕ → List ℕ) → g.leaves x z image → IsEitherOf (stored g b) (Create (copy_entry k v p) false []) z image)
+          → known l ≡ after (g.site a) (tab g a) (known n) k v p h
+          → HasDoneFrom (g.site a) (tab g x) (g.area x) (known l) (StoreLeaves g a) (StoreLeaves g x) ok (disks (store_content g a)) (disks (store_content g a))
+      put_done {x} l ok c either is =
           let rests = rested (g.area b) (g.area x) (c.keeps told) (c.settled told) in
-          subst₂ (λ y z. HasDoneFrom (g.site a) y (g.area x) z (StoreLeaves g a) (StoreLeaves g x) ok was was) (sym (table_end c k is)) (sym is)
+          subst₂ (λ y z. HasDoneFrom (g.site a) y (g.area x) z (StoreLeaves g a) (StoreLeaves g x) ok was was) (sym (table_end c l is)) (sym is)
           (record {
-            ready = λ fine. subst (λ y. IsReady (g.site a) (next (g.site a) (tab g a) (known n) v p h) y (after (g.site a) (tab g a) (known n) v p h)) (sym rests) ready_then;
+            ready = λ fine. subst (λ y. IsReady (g.site a) (next (g.site a) (tab g a) (known n) k v p h) y (after (g.site a) (tab g a) (known n) k v p h)) (sym rests) ready_then;
             settled = λ fine. c.settled told;
-            shown = λ fine. ap (λ y. disks (content_now (g.site a) (next (g.site a) (tab g a) (known n) v p h) y)) rests ∙ disks_then;
+            shown = λ fine. ap (λ y. disks (content_now (g.site a) (next (g.site a) (tab g a) (known n) k v p h) y)) rests ∙ disks_then;
             crash = crash {x = x} ok (commit_made g change ok stays.site stays.table told c either);
           })
 
@@ -281,17 +288,18 @@ raise_failed {g = g} {a} {b} stays leaves choice k ok never = stopped_at g k ok 
 
 -- ---- memory behind the raise
 
-pub to_enter : {S : Type 0} {g : Ghosts S} {a b : S} (m n : Memory) {v p : Name} → IsOrderlyStore g a m → CanEnter (store_shape g a m) v p → Stays g a b → IsOrderlyStore g b n → IsTidyStore g b n → store_shape g b n ≡ raised v p (store_shape g a m)
-    → n.operation ≡ m.operation → IsToEnter (g.site a) (tab g a) (known n) v p
+pub to_enter : {S : Type 0} {g : Ghosts S} {a b : S} (m n : Memory) {k : Bool} {v p : Name} → IsOrderlyStore g a m → CanBegin (store_shape g a m) k v p → Stays g a b → IsOrderlyStore g b n → IsTidyStore g b n → store_shape g b n ≡ raised v p (store_shape g a m)
+    → n.operation ≡ m.operation → IsToEnter (g.site a) (tab g a) (known n) k v p
 unfolding shape_in
-to_enter {g = g} {a} {b} m n {v} {p} o h stays orderly tidy shape operation =
+to_enter {g = g} {a} {b} m n {k} {v} {p} o h stays orderly tidy shape operation =
     let same : shape_in (g.site a) (tab g a) (known n) ≡ raised v p (shape_in (g.site a) (tab g a) (known m)) = sym (ap₂ (λ (y : Site) (z : VolumeTable). shape_in y z (known n)) stays.site stays.table) ∙ shape in
     record {
       orderly = subst₂ (λ y z. IsOrderly y z (known n)) stays.site stays.table orderly;
       tidy = subst (λ z. IsTidy z (known n)) stays.table tidy;
-      idle = operation ∙ h.idle;
-      child_uuid = (child_named (g.site a) (tab g a) (known m) v p o h).1;
-      parent_uuid = (parent_named (g.site a) (tab g a) (known m) v p o h).1;
-      works = subst (λ (σ : Shape). IsOnlyChild σ true v p) (sym same) (works (shape_in (g.site a) (tab g a) (known m)) v p o.well_formed h);
-      roomy = subst (λ (σ : Shape). IsRoomyFor σ v p) (sym same) (roomy (shape_in (g.site a) (tab g a) (known m)) v p o.well_formed h);
+      idle = operation ∙ h.pair.idle;
+      child_uuid = (child_named (g.site a) (tab g a) (known m) v p o h.pair).1;
+      parent_uuid = (parent_named (g.site a) (tab g a) (known m) v p o h.pair).1;
+      works = subst (λ (σ : Shape). IsOnlyChild σ k v p) (sym same) (works (shape_in (g.site a) (tab g a) (known m)) v p o.well_formed h.pair k h.shown);
+      leaf = λ is. (let l = h.leaf is in (l.0, subst (λ (σ : Shape). attached_as (image_uuid v) σ ≡ None) (sym same) l.1));
+      roomy = subst (λ (σ : Shape). IsRoomyFor σ v p) (sym same) (roomy (shape_in (g.site a) (tab g a) (known m)) v p o.well_formed h.pair);
     }

@@ -1,4 +1,4 @@
--- The machine's shape where the collector's next step begins a copy: what the step says of the image and its parent, and that
+-- The machine's shape where the collector's next step begins a copy, of a hidden image or of a leaf: what the step says of the image and its parent, and that
 -- the two ways to the shape behind it agree: at once, and once the parent has its extents and the child's size.
 use Rattle.std.proofs.Common.{◌≡◌, ℕ, suc, ◌+◌, ◌-◌, ◌<◌, ◌≤◌, inl, inr, Bool, true, false, max, nat_lt, List, [], ◌∷◌, ◌++◌, length, map, Option, Some, None, refl, sym, ap, ap₂, ◌∙◌, subst, subst₂, arith}
 use Rattle.std.proofs.Math.Logic.{∥∥₁_elim}
@@ -9,31 +9,36 @@ use Rattle.std.proofs.lemmas.Bool.{eqb-true, leb-true, le-ltb, lt-ltb, true≢fa
 use Rattle.common_laws.specs.Lists.{In, when}
 use Rattle.common_laws.proofs.Lists.{Distinct-key, In-map, In-map_at, filter-In, find-some}
 use Rattle.sm_base.specs.declared.names.Name.{Name}
-use Rattle.sm_base.specs.declared.operations.Op.{Op}
 use Rattle.sm_base.specs.declared.operations.Op.TheVariants as op
-use Rattle.sm_base.specs.declared.operations.Plan.{Plan}
 use Rattle.sm_base.specs.declared.operations.Plan.TheVariants as plan
-use Rattle.sm_machine.specs.Collector.{Pair, blocked, collected, copy_or, count_either, enlarged, fits, is_garbage, is_loose, leaves, next_step, pairs, plan_copy, plan_idle, plan_running, relink_or, size_of, target}
-use Rattle.sm_machine.specs.Commits.{commits, extents_of, gives_up, growth_commits, is_given_up, own_commits, plan_commits}
+use Rattle.sm_machine.specs.Collector.{Pair, blocked, count_either, enlarged, fits, is_garbage, is_loose, leaves, next_step, pairs, plan_idle, plan_running, size_of, target}
+use Rattle.sm_machine.specs.Commits.{extents_of, growth_commits}
 use Rattle.sm_machine.specs.Laws.{MayGrow}
-use Rattle.sm_machine.specs.Shapes.{ImageRow, Shape, children, find_image, free, image_uuid, is_image, is_parent, is_vhd, on_image, risen, same_image, thin_in, top}
-use Rattle.sm_machine.specs.Steps.{shape_after, shape_next}
+use Rattle.sm_machine.specs.Shapes.{ImageRow, Shape, attached_as, children, find_image, free, image_uuid, is_image, is_parent, is_vhd, on_image, risen, same_image, thin_in, top}
+use Rattle.sm_machine.specs.Steps.{shape_next}
 use Rattle.sm_machine.specs.WellFormed.{HasParent, IsOnlyChild, IsWellFormed}
 use Rattle.sm_machine.specs.declared.commands.Command.TheVariants.{Gc}
-use Rattle.sm_machine.proofs.Begins.{IsFoldable, chosen_pair}
+use Rattle.sm_machine.proofs.Begins.{IsFoldable, chosen_leaf, chosen_pair}
 use Rattle.sm_machine.proofs.Changes.{find-map, when-key}
 use Rattle.sm_machine.proofs.Collects.{same_row}
 use Rattle.sm_machine.proofs.Debts.{found_row, is_itself, parent_apart}
 use Rattle.sm_machine.proofs.ImageNames.{other_image, same_image-refl}
 use Rattle.sm_ready.specs.Orderly.{IsRoomyFor}
-use Rattle.gc_coalesce.specs.Beginning.{CanEnter, entered, raised}
+use Rattle.gc_coalesce.specs.Beginning.{CanBegin, CanEnter, begins, entered, raised}
+use Rattle.gc_coalesce.specs.Copying.{copy_of}
+use Rattle.gc_coalesce.proofs.CopyKinds.{begins_idle, begun_of}
+use Rattle.gc_coalesce.proofs.PlannedLaws.{gc_shape}
 
 -- ---- what the plan says
 
+abbrev pairs_of : Bool → Shape → List Pair
+pairs_of true s = pairs s
+pairs_of false s = leaves s
+
 -- the step begins a copy of this pair
-pub record IsPlanned (s : Shape) (v p : Name) (to : ℕ) : Type 0 where
+pub record IsPlanned (s : Shape) (k : Bool) (v p : Name) (to : ℕ) : Type 0 where
   pub pair : Pair
-  pub there : In pair (pairs s)
+  pub there : In pair (pairs_of k s)
   pub enough : fits s pair ≡ true
   pub idle : s.op ≡ op.Idle
   pub child : pair.child.name ≡ v
@@ -41,55 +46,45 @@ pub record IsPlanned (s : Shape) (v p : Name) (to : ℕ) : Type 0 where
   pub extents : target s pair ≡ to
 
 module _ (s : Shape) (v p : Name) (to : ℕ) where
-  not_blocked : (ps : List Pair) → blocked s ps ≡ plan.Begin v p to → ⊥
-  not_blocked [] e = cc
-  not_blocked (x ∷ xs) e = cc
+  not_blocked : (k : Bool) (ps : List Pair) → blocked s ps ≡ begins k v p to → ⊥
+  not_blocked true [] e = (let z = e in cc)
+  not_blocked true (x ∷ xs) e = (let z = e in cc)
+  not_blocked false [] e = (let z = e in cc)
+  not_blocked false (x ∷ xs) e = (let z = e in cc)
 
-  not_copied : (d : Plan) (b : Option ℕ) → (d ≡ plan.Begin v p to → ⊥) → copy_or d b ≡ plan.Begin v p to → ⊥
-  not_copied d None none e = none e
-  not_copied d (Some b) none e = cc
+  chosen : (k : Bool) (x : Pair) → find (fits s) (pairs_of k s) ≡ Some x → s.op ≡ op.Idle → begins k x.child.name x.parent.name (target s x) ≡ begins k v p to → IsPlanned s k v p to
+  chosen k x found idle e =
+      let f = find-some (fits s) (pairs_of k s) x found in
+      let n = names k e in
+      record { pair = x; there = f.0; enough = f.1; idle = idle; child = n.0; parent = n.1; extents = n.2 }
+    where
+      names : (k : Bool) → begins k x.child.name x.parent.name (target s x) ≡ begins k v p to → (x.child.name ≡ v) × (x.parent.name ≡ p) × (target s x ≡ to)
+      names true e = ((let n : x.child.name ≡ v = cc in n), (let n : x.parent.name ≡ p = cc in n), (let n : target s x ≡ to = cc in n))
+      names false e = ((let n : x.child.name ≡ v = cc in n), (let n : x.parent.name ≡ p = cc in n), (let n : target s x ≡ to = cc in n))
 
-  not_copying : (n : Name) (cursor : ℕ) (is : List ImageRow) → plan_copy s n cursor is ≡ plan.Begin v p to → ⊥
-  not_copying n cursor [] e = cc
-  not_copying n cursor (i ∷ is) e = not_copied plan.Turn _ (λ f. (let x = f in cc)) e
-
-  not_linking : (is : List ImageRow) → relink_or is ≡ plan.Begin v p to → ⊥
-  not_linking [] e = cc
-  not_linking (i ∷ is) e = cc
-
-  by_rules : (g l : Option ImageRow) (q r : Option Pair) → find (fits s) (pairs s) ≡ q → s.op ≡ op.Idle
+  by_rules : (k : Bool) (g l : Option ImageRow) (q r : Option Pair) → find (fits s) (pairs s) ≡ q → find (fits s) (leaves s) ≡ r → s.op ≡ op.Idle
       → elim g [ Some i ↦ plan.Remove i.name | None ↦ elim l [ Some i ↦ plan.Deflate i.name (thin_in s (top i.slots)) | None ↦ elim q [ Some x ↦ plan.Begin x.child.name x.parent.name (target s x) | None ↦ elim r [ Some x ↦ plan.Leaf x.child.name x.parent.name (target s x) | None ↦ blocked s (pairs s ++ leaves s) ] ] ] ]
-      ≡ plan.Begin v p to → IsPlanned s v p to
-  by_rules (Some i) l q r found o e = cc
-  by_rules None (Some i) q r found o e = cc
-  by_rules None None (Some x) r found o e =
-      let f = find-some (fits s) (pairs s) x found in
-      record {
-        pair = x;
-        there = f.0;
-        enough = f.1;
-        idle = o;
-        child = (let n : x.child.name ≡ v = cc in n);
-        parent = (let n : x.parent.name ≡ p = cc in n);
-        extents = (let n : target s x ≡ to = cc in n);
-      }
-  by_rules None None None (Some x) found o e = cc
-  by_rules None None None None found o e = absurd (not_blocked (pairs s ++ leaves s) e)
+      ≡ begins k v p to → IsPlanned s k v p to
+  by_rules true (Some i) l q r pair leaf o e = absurd (let z = e in cc)
+  by_rules true None (Some i) q r pair leaf o e = absurd (let z = e in cc)
+  by_rules true None None (Some x) r pair leaf o e = chosen true x pair o e
+  by_rules true None None None (Some x) pair leaf o e = absurd (let z = e in cc)
+  by_rules true None None None None pair leaf o e = absurd (not_blocked true (pairs s ++ leaves s) e)
+  by_rules false (Some i) l q r pair leaf o e = absurd (let z = e in cc)
+  by_rules false None (Some i) q r pair leaf o e = absurd (let z = e in cc)
+  by_rules false None None (Some x) r pair leaf o e = absurd (let z = e in cc)
+  by_rules false None None None (Some x) pair leaf o e = chosen false x leaf o e
+  by_rules false None None None None pair leaf o e = absurd (not_blocked false (pairs s ++ leaves s) e)
 
-  by_idle : s.op ≡ op.Idle → plan_idle s ≡ plan.Begin v p to → IsPlanned s v p to
+  by_idle : (k : Bool) → s.op ≡ op.Idle → plan_idle s ≡ begins k v p to → IsPlanned s k v p to
   unfolding plan_idle
-  by_idle o e = by_rules (find (is_garbage s) s.images) (find (is_loose s) s.images) (find (fits s) (pairs s)) (find (fits s) (leaves s)) refl o e
+  by_idle k o e = by_rules k (find (is_garbage s) s.images) (find (is_loose s) s.images) (find (fits s) (pairs s)) (find (fits s) (leaves s)) refl refl o e
 
-  by_operation : (o : Op) → s.op ≡ o → plan_running s o ≡ plan.Begin v p to → IsPlanned s v p to
-  unfolding plan_running
-  by_operation op.Idle is e = by_idle is e
-  by_operation (op.Copy n q cursor) is e = absurd (not_copying n cursor _ e)
-  by_operation (op.Relink n q) is e = absurd (not_linking _ e)
-  by_operation (op.Leaf n q cursor) is e = absurd (not_copied plan.Swap _ (λ f. (let x = f in cc)) e)
-
-  pub planned : next_step s ≡ plan.Begin v p to → IsPlanned s v p to
-  unfolding next_step
-  planned e = by_operation s.op refl e
+  pub planned : (k : Bool) → next_step s ≡ begins k v p to → IsPlanned s k v p to
+  unfolding next_step plan_running
+  planned k e =
+      let idle = begins_idle s k v p to s.op e in
+      by_idle k idle (sym (ap (plan_running s) idle) ∙ e)
 
 -- ---- lists
 
@@ -119,15 +114,22 @@ size_by (Some i) = i.size
 
 -- ---- where a step begins a copy
 
-module _ (s : Shape) (v p : Name) (to : ℕ) (x : ∥ IsWellFormed s ∥₁) (h : IsPlanned s v p to) where
+module _ (s : Shape) (k : Bool) (v p : Name) (to : ℕ) (x : ∥ IsWellFormed s ∥₁) (h : IsPlanned s k v p to) where
   abbrev child : ImageRow
   child = h.pair.child
 
   abbrev parent : ImageRow
   parent = h.pair.parent
 
-  pub foldable : IsFoldable s true h.pair
-  foldable = chosen_pair s h.pair h.there
+  pub foldable : IsFoldable s k h.pair
+  foldable = by k h.there
+    where
+      by : (c : Bool) → In h.pair (pairs_of c s) → IsFoldable s c h.pair
+      by true there = chosen_pair s h.pair there
+      by false there = (chosen_leaf s h.pair there).foldable
+
+  leaf_parts : k ≡ false → (is_vhd h.pair.parent.name ≡ true) × (attached_as (image_uuid h.pair.child.name) s ≡ None)
+  leaf_parts is = let l = chosen_leaf s h.pair (subst (λ c. In h.pair (pairs_of c s)) is h.there) in (l.parent_vhd, l.free_leaf)
 
   abbrev needed : ℕ
   needed = thin_in s (max (top h.pair.parent.slots) (count_either h.pair.parent.slots h.pair.child.slots))
@@ -173,21 +175,24 @@ module _ (s : Shape) (v p : Name) (to : ℕ) (x : ∥ IsWellFormed s ∥₁) (h 
   room e = omega (arith, to_vhd e)
 
   -- no extents are wanting
-  pub can_enter : to ≤ h.pair.parent.extents → CanEnter s v p
-  can_enter most = subst₂ (CanEnter s) h.child h.parent (record {
-    child = child;
-    parent = parent;
-    child_there = foldable.child_there;
-    parent_there = foldable.parent_there;
-    child_named = refl;
-    parent_named = refl;
-    hidden = foldable.shown;
-    vhd = foldable.vhd;
-    linked = foldable.link;
-    only = only_child;
-    kind = foldable.kind;
-    room = λ e. omega (arith, room e, most);
-    idle = h.idle;
+  pub can_begin : to ≤ h.pair.parent.extents → CanBegin s k v p
+  can_begin most = subst₂ (CanBegin s k) h.child h.parent (record {
+    pair = record {
+      child = child;
+      parent = parent;
+      child_there = foldable.child_there;
+      parent_there = foldable.parent_there;
+      child_named = refl;
+      parent_named = refl;
+      vhd = foldable.vhd;
+      linked = foldable.link;
+      only = only_child;
+      kind = foldable.kind;
+      room = λ e. omega (arith, room e, most);
+      idle = h.idle;
+    };
+    shown = foldable.shown;
+    leaf = leaf_parts;
   })
 
   -- ---- once it has them
@@ -199,7 +204,7 @@ module _ (s : Shape) (v p : Name) (to : ℕ) (x : ∥ IsWellFormed s ∥₁) (h 
   at y = when (is_image h.pair.parent.name y) widen y
 
   abbrev wide : ℕ → Shape
-  wide k = record s { sequence = k; images = on_image h.pair.parent.name widen s.images }
+  wide j = record s { sequence = j; images = on_image h.pair.parent.name widen s.images }
 
   child_same : at h.pair.child ≡ h.pair.child
   child_same = ap (λ b. when b widen child) (other_image child.name parent.name (∥∥₁_elim x (hlevel props) (λ w. parent_apart s w child parent.name foldable.child_there foldable.link)))
@@ -213,23 +218,26 @@ module _ (s : Shape) (v p : Name) (to : ℕ) (x : ∥ IsWellFormed s ∥₁) (h 
   name_key : (y : ImageRow) → (at y).name ≡ y.name
   name_key y = when-key (λ (i : ImageRow). i.name) widen (λ i. refl) (is_image parent.name y) y
 
-  pub can_enter_wide : (k : ℕ) → CanEnter (record s { sequence = k; images = on_image p (λ i. record i { extents = to }) s.images }) v p
-  can_enter_wide k = subst₂ (λ a b. CanEnter (record s { sequence = k; images = on_image b (λ i. record i { extents = to }) s.images }) a b) h.child h.parent (record {
-    child = child;
-    parent = widen parent;
-    child_there = subst (λ j. In j (map at s.images)) child_same (In-map_at at s.images child foldable.child_there);
-    parent_there = subst (λ j. In j (map at s.images)) parent_now (In-map_at at s.images parent foldable.parent_there);
-    child_named = refl;
-    parent_named = refl;
-    hidden = foldable.shown;
-    vhd = foldable.vhd;
-    linked = foldable.link;
-    only = λ i there e. (let y = In-map at s.images i there in
-        let is = only_child y.0 y.1 (sym (ap (λ (j : ImageRow). j.parent) y.2 ∙ parent_key y.0) ∙ e) in
-        y.2 ∙ ap at is ∙ child_same);
-    kind = foldable.kind;
-    room = room;
-    idle = h.idle;
+  pub can_begin_wide : (j : ℕ) → CanBegin (record s { sequence = j; images = on_image p (λ i. record i { extents = to }) s.images }) k v p
+  can_begin_wide j = subst₂ (λ a b. CanBegin (record s { sequence = j; images = on_image b (λ i. record i { extents = to }) s.images }) k a b) h.child h.parent (record {
+    pair = record {
+      child = child;
+      parent = widen parent;
+      child_there = subst (λ y. In y (map at s.images)) child_same (In-map_at at s.images child foldable.child_there);
+      parent_there = subst (λ y. In y (map at s.images)) parent_now (In-map_at at s.images parent foldable.parent_there);
+      child_named = refl;
+      parent_named = refl;
+      vhd = foldable.vhd;
+      linked = foldable.link;
+      only = λ i there e. (let y = In-map at s.images i there in
+          let is = only_child y.0 y.1 (sym (ap (λ (z : ImageRow). z.parent) y.2 ∙ parent_key y.0) ∙ e) in
+          y.2 ∙ ap at is ∙ child_same);
+      kind = foldable.kind;
+      room = room;
+      idle = h.idle;
+    };
+    shown = foldable.shown;
+    leaf = leaf_parts;
   })
 
   -- ---- the shape behind the step
@@ -240,30 +248,29 @@ module _ (s : Shape) (v p : Name) (to : ℕ) (x : ∥ IsWellFormed s ∥₁) (h 
   child_size : size_of h.pair.child.name s ≡ h.pair.child.size
   child_size = ap size_by child_found
 
-  child_size_wide : (k : ℕ) → size_of h.pair.child.name (wide k) ≡ h.pair.child.size
-  child_size_wide k = ap size_by (find-map (is_image child.name) at (λ y. ap (λ n. same_image n child.name) (name_key y)) s.images ∙ ap (option_map at) child_found ∙ ap Some child_same)
+  child_size_wide : (j : ℕ) → size_of h.pair.child.name (wide j) ≡ h.pair.child.size
+  child_size_wide j = ap size_by (find-map (is_image child.name) at (λ y. ap (λ n. same_image n child.name) (name_key y)) s.images ∙ ap (option_map at) child_found ∙ ap Some child_same)
 
   parent_extents : extents_of h.pair.parent.name s ≡ h.pair.parent.extents
   parent_extents = ap (λ (o : Option ImageRow). elim o as (λ _. ℕ) [ None ↦ 0 | Some i ↦ i.extents ]) (∥∥₁_elim x (hlevel props) (λ w. found_row s w parent foldable.parent_there))
 
   abbrev begun : ℕ → Shape
-  begun k = record s { sequence = k; images = enlarged h.pair.child.name h.pair.parent.name to s; op = op.Copy h.pair.child.name h.pair.parent.name 0 }
+  begun n = record s { sequence = n; images = enlarged h.pair.child.name h.pair.parent.name to s; op = copy_of k h.pair.child.name h.pair.parent.name 0 }
 
-  next_is : next_step s ≡ plan.Begin h.pair.child.name h.pair.parent.name to → shape_next s Gc ≡ begun (risen s.sequence (0 + (growth_commits (nat_lt (extents_of h.pair.parent.name s) to) + 1)))
-  unfolding shape_next shape_after commits own_commits plan_commits collected is_given_up gives_up
-  next_is e = ap (λ (q : Plan). let x : Shape = record (collected q s) { sequence = risen s.sequence (0 + plan_commits s q) } in x) e
+  next_is : next_step s ≡ begins k h.pair.child.name h.pair.parent.name to → shape_next s Gc ≡ begun (risen s.sequence (0 + (growth_commits (nat_lt (extents_of h.pair.parent.name s) to) + 1)))
+  next_is e = gc_shape s _ e ∙ begun_of s k h.pair.child.name h.pair.parent.name to (λ n. risen s.sequence (0 + n))
 
-  commits_by : (b : Bool) → nat_lt h.pair.parent.extents to ≡ b → next_step s ≡ plan.Begin h.pair.child.name h.pair.parent.name to → shape_next s Gc ≡ begun (risen s.sequence (0 + (growth_commits b + 1)))
-  commits_by b is e = next_is e ∙ ap (λ c. begun (risen s.sequence (0 + (growth_commits c + 1)))) (ap (λ k. nat_lt k to) parent_extents ∙ is)
+  commits_by : (b : Bool) → nat_lt h.pair.parent.extents to ≡ b → next_step s ≡ begins k h.pair.child.name h.pair.parent.name to → shape_next s Gc ≡ begun (risen s.sequence (0 + (growth_commits b + 1)))
+  commits_by b is e = next_is e ∙ ap (λ c. begun (risen s.sequence (0 + (growth_commits c + 1)))) (ap (λ n. nat_lt n to) parent_extents ∙ is)
 
-  named_step : next_step s ≡ plan.Begin v p to → next_step s ≡ plan.Begin h.pair.child.name h.pair.parent.name to
-  named_step e = e ∙ ap₂ (λ a b. plan.Begin a b to) (sym h.child) (sym h.parent)
+  named_step : next_step s ≡ begins k v p to → next_step s ≡ begins k h.pair.child.name h.pair.parent.name to
+  named_step e = e ∙ ap₂ (λ a b. begins k a b to) (sym h.child) (sym h.parent)
 
-  pub entered_next : to ≤ h.pair.parent.extents → next_step s ≡ plan.Begin v p to → entered v p s ≡ shape_next s Gc
+  pub entered_next : to ≤ h.pair.parent.extents → next_step s ≡ begins k v p to → entered k v p s ≡ shape_next s Gc
   entered_next most e =
       let same : parent.extents ≡ to = omega (arith, most, at_least) in
-      sym (ap₂ (λ a b. entered a b s) h.child h.parent)
-      ∙ ap (λ (is : List ImageRow). let x : Shape = record s { sequence = risen s.sequence 1; images = is; op = op.Copy child.name parent.name 0 } in x) (map_in _ _ s.images (row_same same))
+      sym (ap₂ (λ a b. entered k a b s) h.child h.parent)
+      ∙ ap (λ (is : List ImageRow). let x : Shape = record s { sequence = risen s.sequence 1; images = is; op = copy_of k child.name parent.name 0 } in x) (map_in _ _ s.images (row_same same))
       ∙ ap begun (omega arith)
       ∙ sym (commits_by false (le-ltb parent.extents to most) (named_step e))
     where
@@ -272,15 +279,15 @@ module _ (s : Shape) (v p : Name) (to : ℕ) (x : ∥ IsWellFormed s ∥₁) (h 
       row_same same y there = by (is_image parent.name y) refl
         where
           by : (b : Bool) → is_image h.pair.parent.name y ≡ b → when b (λ i. record i { size = size_of h.pair.child.name s }) y ≡ when b (λ i. record i { size = size_of h.pair.child.name s; extents = to }) y
-          by true is = ap (λ k. let x : ImageRow = record y { size = size_of h.pair.child.name s; extents = k } in x) (ap (λ (j : ImageRow). j.extents) (∥∥₁_elim x (hlevel props) (λ w. same_row s w parent y foldable.parent_there there is)) ∙ same)
+          by true is = ap (λ n. let x : ImageRow = record y { size = size_of h.pair.child.name s; extents = n } in x) (ap (λ (j : ImageRow). j.extents) (∥∥₁_elim x (hlevel props) (λ w. same_row s w parent y foldable.parent_there there is)) ∙ same)
           by false is = refl
 
-  pub entered_next_wide : h.pair.parent.extents < to → next_step s ≡ plan.Begin v p to
-      → entered v p (record s { sequence = risen s.sequence 3; images = on_image p (λ i. record i { extents = to }) s.images }) ≡ shape_next s Gc
+  pub entered_next_wide : h.pair.parent.extents < to → next_step s ≡ begins k v p to
+      → entered k v p (record s { sequence = risen s.sequence 3; images = on_image p (λ i. record i { extents = to }) s.images }) ≡ shape_next s Gc
   entered_next_wide less e =
-      sym (ap₂ (λ a b. entered a b (record s { sequence = risen s.sequence 3; images = on_image b (λ i. record i { extents = to }) s.images })) h.child h.parent)
-      ∙ ap₂ (λ (k : ℕ) (is : List ImageRow). let x : Shape = record s { sequence = k; images = is; op = op.Copy child.name parent.name 0 } in x) (omega arith)
-      (ap (λ k. on_image parent.name (λ i. record i { size = k }) (on_image parent.name widen s.images)) (child_size_wide (risen s.sequence 3) ∙ sym child_size) ∙ twice parent.name (λ i. record i { size = size_of child.name s }) widen (λ y. refl) s.images)
+      sym (ap₂ (λ a b. entered k a b (record s { sequence = risen s.sequence 3; images = on_image b (λ i. record i { extents = to }) s.images })) h.child h.parent)
+      ∙ ap₂ (λ (n : ℕ) (is : List ImageRow). let x : Shape = record s { sequence = n; images = is; op = copy_of k child.name parent.name 0 } in x) (omega arith)
+      (ap (λ n. on_image parent.name (λ i. record i { size = n }) (on_image parent.name widen s.images)) (child_size_wide (risen s.sequence 3) ∙ sym child_size) ∙ twice parent.name (λ i. record i { size = size_of child.name s }) widen (λ y. refl) s.images)
       ∙ sym (commits_by true (lt-ltb parent.extents to less) (named_step e))
 
 -- ---- the parent gets the child's size, and the copy begins
@@ -352,13 +359,13 @@ module _ (s : Shape) (v p : Name) (x : ∥ IsWellFormed s ∥₁) (h : CanEnter 
       y.2 ∙ ap on is ∙ child_on
 
   -- the images of the operation are there
-  pub works : IsOnlyChild (raised v p s) true v p
-  works = record {
+  pub works : (k : Bool) → h.child.hidden ≡ k → IsOnlyChild (raised v p s) k v p
+  works k shown = record {
     link = record {
       child = h.child;
       there = subst (λ x. In x (map on s.images)) child_on (In-map_at on s.images h.child h.child_there);
       is_named = h.child_named;
-      is_shown = h.hidden;
+      is_shown = shown;
       vhd = h.vhd;
       linked = h.linked;
     };

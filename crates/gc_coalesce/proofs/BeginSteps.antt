@@ -1,11 +1,10 @@
 -- Where the collector's next step begins a copy, as a session tells it: the parent in memory, the extents that it is to gain, and what
 -- is known once it has them.
-use Rattle.std.proofs.Common.{◌≡◌, ℕ, ◌<◌, ◌≤◌, false, true, List, Some, None, sym, ap, ap₂, ◌∙◌, subst, subst₂, arith}
+use Rattle.std.proofs.Common.{◌≡◌, ℕ, ◌<◌, ◌≤◌, Bool, false, true, List, Some, None, sym, ap, ap₂, ◌∙◌, subst, subst₂, arith}
 use Rattle.std.proofs.lemmas.Option.{none-some, same_Some}
 use Rattle.sm_base.specs.declared.names.Name.{Name}
 use Rattle.sm_base.specs.declared.names.Name.TheVariants.{Vhd}
 use Rattle.sm_base.specs.declared.operations.Op.TheVariants as op
-use Rattle.sm_base.specs.declared.operations.Plan.TheVariants as plan
 use Rattle.vg_meta.specs.Tables.{VolumeTable}
 use Rattle.vg_volumes.specs.Sites.{Site}
 use Rattle.vg_volumes.specs.Stored.{IsChoiceOf, OnlyReads, stored}
@@ -32,20 +31,21 @@ use Rattle.sm_ready.proofs.Orders.{In-tree_row, named_row}
 use Rattle.sm_ready.proofs.SumLaws.{free_counted}
 use Rattle.sm_ready.proofs.TakenLaws.{IsTold, is_told}
 use Rattle.sm_ready.proofs.ThenLaws.{then_done}
-use Rattle.sm_space.specs.Inflating.{HasFree, IsBelow, extents_in, inflated}
-use Rattle.gc_coalesce.specs.Beginning.{CanEnter, entered}
-use Rattle.gc_coalesce.proofs.BeginShapes.{IsPlanned, can_enter, can_enter_wide, entered_next, entered_next_wide, foldable, gains_free, grows_vhd, planned}
+use Rattle.sm_space.specs.Inflating.{HasFree, IsBelow, IsEnlarged, extents_in, inflated}
+use Rattle.gc_coalesce.specs.Beginning.{CanBegin, IsWidened, KeepsExtents, begins, entered}
+use Rattle.gc_coalesce.proofs.BeginExtents.{all_gained, extents_known, none_gained}
+use Rattle.gc_coalesce.proofs.BeginShapes.{IsPlanned, can_begin, can_begin_wide, entered_next, entered_next_wide, foldable, gains_free, grows_vhd, planned}
 use Rattle.gc_coalesce.proofs.BeginStores.{IsRowOf, row_of}
 
-module _ (s : Site) (t : VolumeTable) (m : Known) (v p : Name) (to : ℕ) (o : IsOrderly s t m) (next : next_step (shape_in s t m) ≡ plan.Begin v p to) where
+module _ (s : Site) (t : VolumeTable) (m : Known) (k : Bool) (v p : Name) (to : ℕ) (o : IsOrderly s t m) (next : next_step (shape_in s t m) ≡ begins k v p to) where
   abbrev σ : Shape
   σ = shape_in s t m
 
-  h : IsPlanned (shape_in s t m) v p to
-  h = planned σ v p to next
+  h : IsPlanned (shape_in s t m) k v p to
+  h = planned σ v p to k next
 
   parent : IsRowOf m h.pair.parent
-  parent = row_of s t m h.pair.parent o (foldable σ v p to o.well_formed h).parent_there
+  parent = row_of s t m h.pair.parent o (foldable σ k v p to o.well_formed h).parent_there
 
   found : tree_row m.rows p ≡ Some parent.row
   found = ap (tree_row m.rows) (sym h.parent) ∙ parent.found
@@ -66,11 +66,14 @@ module _ (s : Site) (t : VolumeTable) (m : Known) (v p : Name) (to : ℕ) (o : I
 
     -- ---- no extents are wanting
 
-    pub can_now : to ≤ r.extents → CanEnter (shape_in s t m) v p
-    can_now most = can_enter σ v p to o.well_formed h (omega (arith, most, extents_are))
+    pub can_now : to ≤ r.extents → CanBegin (shape_in s t m) k v p
+    can_now most = can_begin σ k v p to o.well_formed h (omega (arith, most, extents_are))
 
-    pub next_now : to ≤ r.extents → entered v p (shape_in s t m) ≡ shape_next (shape_in s t m) Gc
-    next_now most = entered_next σ v p to o.well_formed h (omega (arith, most, extents_are)) next
+    pub next_now : to ≤ r.extents → entered k v p (shape_in s t m) ≡ shape_next (shape_in s t m) Gc
+    next_now most = entered_next σ k v p to o.well_formed h (omega (arith, most, extents_are)) next
+
+    pub widened_now : to ≤ r.extents → (next : VolumeTable) → KeepsExtents t next → IsWidened s.count t p to next
+    widened_now most next keeps = none_gained s.count t p to next (omega (arith, most, extents_known s t m p r o there)) keeps
 
     -- ---- some are
 
@@ -79,7 +82,7 @@ module _ (s : Site) (t : VolumeTable) (m : Known) (v p : Name) (to : ℕ) (o : I
       wants = omega (arith, less, extents_are)
 
       vhd : p ≡ Vhd (image_uuid p)
-      vhd = vhd_named p (grows_vhd σ v p to o.well_formed h wants)
+      vhd = vhd_named p (grows_vhd σ k v p to o.well_formed h wants)
 
       is_there : tree_row m.rows (Vhd (image_uuid p)) ≡ Some r
       is_there = ap (tree_row m.rows) (sym vhd) ∙ there
@@ -88,7 +91,10 @@ module _ (s : Site) (t : VolumeTable) (m : Known) (v p : Name) (to : ℕ) (o : I
       is_below = record { row = r; there = is_there; below = less }
 
       pub has_free : IsTidy t m → HasFree s.count t m.rows (image_uuid p) to
-      has_free tidy = omega (arith, gains_free σ v p to o.well_formed h, free_counted s t m tidy.none_new o, extents_are, ap extents_in is_there)
+      has_free tidy = omega (arith, gains_free σ k v p to o.well_formed h, free_counted s t m tidy.none_new o, extents_are, ap extents_in is_there)
+
+      pub widened_then : (mid next : VolumeTable) → IsEnlarged s.count t (image_uuid p) to mid → KeepsExtents mid next → IsWidened s.count t p to next
+      widened_then mid next enlarged keeps = all_gained s.count t p (image_uuid p) to mid next vhd enlarged keeps
 
       abbrev wide : Name → Shape
       wide n = record (shape_in s t m) { sequence = risen (shape_in s t m).sequence 3; images = on_image n (λ i. record i { extents = to }) (shape_in s t m).images }
@@ -96,11 +102,11 @@ module _ (s : Site) (t : VolumeTable) (m : Known) (v p : Name) (to : ℕ) (o : I
       wide_is : wide p ≡ inflated (image_uuid p) to (shape_in s t m)
       wide_is = ap wide vhd
 
-      pub can_then : CanEnter (inflated (image_uuid p) to (shape_in s t m)) v p
-      can_then = subst (λ (x : Shape). CanEnter x v p) wide_is (can_enter_wide σ v p to o.well_formed h (risen σ.sequence 3))
+      pub can_then : CanBegin (inflated (image_uuid p) to (shape_in s t m)) k v p
+      can_then = subst (λ (x : Shape). CanBegin x k v p) wide_is (can_begin_wide σ k v p to o.well_formed h (risen σ.sequence 3))
 
-      pub next_then : entered v p (inflated (image_uuid p) to (shape_in s t m)) ≡ shape_next (shape_in s t m) Gc
-      next_then = ap (entered v p) (sym wide_is) ∙ entered_next_wide σ v p to o.well_formed h wants next
+      pub next_then : entered k v p (inflated (image_uuid p) to (shape_in s t m)) ≡ shape_next (shape_in s t m) Gc
+      next_then = ap (entered k v p) (sym wide_is) ∙ entered_next_wide σ k v p to o.well_formed h wants next
 
 -- ---- two calls that change no disk, one after the other
 

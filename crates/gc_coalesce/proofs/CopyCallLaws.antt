@@ -1,5 +1,5 @@
 -- What the calls of a copied block ask, and what they leave where nothing is told of the sectors.
-use Rattle.std.proofs.Common.{◌≡◌, inl, inr, ⊎_elim, ℕ, ◌+◌, ◌*◌, List, Fits, w32, sym, ap, ◌∙◌, subst, subst₂, arith}
+use Rattle.std.proofs.Common.{◌≡◌, inl, inr, ⊎_elim, ℕ, ◌*◌, ◌<◌, List, sym, ap, ◌∙◌, subst, subst₂, arith}
 use Rattle.common_laws.specs.Lists.{In}
 use Rattle.sm_base.specs.declared.names.Name.{Name}
 use Rattle.sm_disk.specs.Held.{Keeps}
@@ -49,8 +49,8 @@ can_copy g a m {b = b} {i = i} {q = q} h truth = record {
 }
 
 -- the cursor behind the block is a number of a block
-pub cursor_fits : {s : Site} {t : VolumeTable} {m : Known} {v p : Name} {cursor b : ℕ} {i q : TreeRow} → IsToCopy s t m v p cursor b i q → Fits w32 (b + 1)
-cursor_fits {s} {t} {m} {b = b} {i = i} h =
+pub cursor_below : {s : Site} {t : VolumeTable} {m : Known} {v p : Name} {cursor b : ℕ} {i q : TreeRow} → IsToCopy s t m v p cursor b i q → b < 4294967295
+cursor_below {s} {t} {m} {b = b} {i = i} h =
     let w = child_head h in
     let k = child_slot h in
     let long = (subst (λ x. StandsIn s.geometry (i.extents * s.geometry.extent) x) w.is (h.orderly.stands i (child_there h))).entries in

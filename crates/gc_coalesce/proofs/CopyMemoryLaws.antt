@@ -10,7 +10,6 @@ use Rattle.common_laws.proofs.Lists.{In-map, In-map_at}
 use Rattle.sm_base.specs.Numbers.{div_up, first, thin}
 use Rattle.sm_base.specs.declared.names.Name.{Name}
 use Rattle.sm_base.specs.declared.operations.Op.{Op}
-use Rattle.sm_base.specs.declared.operations.Op.TheVariants as op
 use Rattle.sm_base.specs.declared.sizes.Geometry.{Geometry}
 use Rattle.sm_base.proofs.NumberLemmas.{div_up-le, le-div_up}
 use Rattle.vg_meta.specs.Tables.{VolumeTable}
@@ -26,11 +25,11 @@ use Rattle.vhd_chain.specs.Trees.{row_name, tree_row, with_replaced}
 use Rattle.vhd_chain.specs.declared.rows.TreeRow.{TreeRow}
 use Rattle.sm_machine.specs.Collector.{collected, copied, count_either, given_block, with_block}
 use Rattle.sm_machine.specs.Commits.{gives_up, is_given_up, own_commits, plan_commits}
-use Rattle.sm_machine.specs.Shapes.{DiskRecord, ImageRow, Shape, image_uuid, is_image, is_image_of, is_vhd, on_image, refs, same_image, thin_in, top}
+use Rattle.sm_machine.specs.Shapes.{DiskRecord, ImageRow, Shape, image_uuid, is_image, is_image_of, is_vhd, mode_in, on_image, refs, same_image, thin_in, top}
 use Rattle.sm_machine.specs.Steps.{shape_after, shape_next}
-use Rattle.sm_machine.specs.WellFormed.{IsOnlyChild, IsWellFormed, is_image_name}
+use Rattle.sm_machine.specs.WellFormed.{IsOnlyChild, IsOperation, IsWellFormed, is_image_name}
 use Rattle.sm_machine.specs.declared.commands.Command.TheVariants.{Gc}
-use Rattle.sm_machine.proofs.Collects.{block_key, copy_keeps, copy_only, operation_changes}
+use Rattle.sm_machine.proofs.Collects.{block_key, copied_shape, copy_keeps, copy_only, operation_changes}
 use Rattle.sm_machine.proofs.ImageNames.{other_image, same_image-refl}
 use Rattle.sm_machine.proofs.Uses.{changed_uses}
 use Rattle.sm_ready.specs.Known.{Known, entry_of, is_shown, machine_row, records_in, shape_in}
@@ -45,7 +44,9 @@ use Rattle.sm_ready.proofs.PutBackLaws.{any_replaced, face_replaced, map_replace
 use Rattle.sm_ready.proofs.ShapeLaws.{shown_same}
 use Rattle.sm_ready.proofs.TruthLaws.{row_found}
 use Rattle.gc_coalesce.specs.Blocks.{HasRoomForBlock, MayHaveSlot, with_slot}
-use Rattle.gc_coalesce.proofs.CopyPlanLaws.{IsToCopy, apart, child_named, child_there, child_vhd, copies_only, has_slot, named, there}
+use Rattle.gc_coalesce.proofs.CopyPlanLaws.{IsToCopy, apart, child_named, child_there, child_vhd, copies_only, copy_runs, has_slot, named, there}
+use Rattle.gc_coalesce.specs.Copying.{advanced, copy_of}
+use Rattle.gc_coalesce.proofs.CopyKinds.{advanced_is, copied_of, its_entry, leaf_of, roomy_in, roomy_of, runs}
 use Rattle.gc_coalesce.proofs.CopyRoomLaws.{room_of, slot_either, slot_top}
 
 -- the row with this image
@@ -53,8 +54,8 @@ abbrev pub with_image : Body → TreeRow → TreeRow
 with_image d r = record r { image = d }
 
 -- what is in memory then
-abbrev pub behind : Body → TreeRow → Name → Name → ℕ → Known → Known
-behind d q v p b m = record m { rows = with_replaced (with_image d q) m.rows; op = op.Copy v p (b + 1) }
+abbrev pub behind : Body → TreeRow → ℕ → Known → Known
+behind d q b m = record m { rows = with_replaced (with_image d q) m.rows; op = advanced b m.op }
 
 -- ---- an image with one slot more
 
@@ -115,36 +116,38 @@ module _ {s : Site} {t : VolumeTable} {m : Known} {v p : Name} {cursor b : ℕ} 
   -- ---- the shape, by what became of the parent's row
 
   module _ (d : Body) (f : ImageRow → ImageRow) (name : volume_name d ≡ volume_name q.image) (row : machine_row (with_image d q) ≡ f (machine_row q)) where
-    shown_behind : (u : List ℕ) → is_shown (behind d q v p b m).rows u ≡ is_shown m.rows u
+    shown_behind : (u : List ℕ) → is_shown (behind d q b m).rows u ≡ is_shown m.rows u
     shown_behind u = any_replaced s t m h.orderly q (with_image d q) (there h) name (λ x. is_image_of u (machine_row x)) (ap (λ n. not q.hidden && bytes_eq (image_uuid n) u) name)
 
-    images_behind : map machine_row (behind d q v p b m).rows ≡ on_image p f (map machine_row m.rows)
+    images_behind : map machine_row (behind d q b m).rows ≡ on_image p f (map machine_row m.rows)
     images_behind = map_replaced s t m h.orderly q (with_image d q) (there h) name machine_row (λ y. when (is_image p y) f y)
         (row ∙ sym (ap (λ c. when c f (machine_row q)) mine))
         (λ x j other. sym (ap (λ c. when c f (machine_row x)) (other_image (row_name x) p (λ same. other (same ∙ sym (named h))))))
 
-    pub shape_behind : shape_in s t (behind d q v p b m) ≡ record (shape_in s t m) { images = on_image p f (shape_in s t m).images; op = op.Copy v p (b + 1) }
+    pub shape_behind : shape_in s t (behind d q b m) ≡ record (shape_in s t m) { images = on_image p f (shape_in s t m).images; op = advanced b m.op }
     unfolding shape_in
-    shape_behind = ap₂ (λ (rs : List DiskRecord) (xs : List ImageRow). record (shape_in s t m) { records = rs; images = xs; op = op.Copy v p (b + 1) })
-        (ap (λ ps. records_in ps) (shown_same (behind d q v p b m).rows m.rows m.places shown_behind)) images_behind
+    shape_behind = ap₂ (λ (rs : List DiskRecord) (xs : List ImageRow). record (shape_in s t m) { records = rs; images = xs; op = advanced b m.op })
+        (ap (λ ps. records_in ps) (shown_same (behind d q b m).rows m.rows m.places shown_behind)) images_behind
 
-    pub tidy_behind : IsTidy t m → IsTidy t (behind d q v p b m)
+    pub tidy_behind : IsTidy t m → IsTidy t (behind d q b m)
     tidy_behind tidy = record { none_new = tidy.none_new; no_stray = λ r j. shown_behind r.uuid ∙ tidy.no_stray r j }
 
   -- it is the machine's where the parent got the slot
-  pub shape_copied : (d : Body) → d ≡ with_slot b q.image → shape_in s t (behind d q v p b m) ≡ shape_next σ Gc
-  unfolding shape_in shape_after own_commits plan_commits is_given_up gives_up collected copied
+  pub shape_copied : (d : Body) → d ≡ with_slot b q.image → shape_in s t (behind d q b m) ≡ shape_next σ Gc
+  unfolding shape_in shape_after own_commits plan_commits is_given_up gives_up collected
   shape_copied d is = ∥∥₁_elim h.orderly.well_formed (hlevel props) (λ w.
       shape_behind d (given_block b) (ap volume_name is ∙ slot_name b q.image) (ap (λ x. machine_row (with_image x q)) is ∙ row_copied)
-      ∙ sym (next_shape σ Gc w refl (ap (plan_commits σ) h.planned) ∙ ap (λ x. record (collected x σ) { sequence = σ.sequence }) h.planned ∙ by_op σ.op (op_is)))
+      ∙ sym (next_shape σ Gc w refl (ap (plan_commits σ) h.planned) ∙ ap (λ x. record (collected x σ) { sequence = σ.sequence }) h.planned ∙ step))
     where
-      op_is : σ.op ≡ op.Copy v p cursor
-      op_is = h.op
-
-      by_op : (o : Op) → o ≡ op.Copy v p cursor → record (copied o b σ) { sequence = σ.sequence } ≡ record σ { images = on_image p (given_block b) σ.images; op = op.Copy v p (b + 1) }
-      by_op o is = ap (λ x. record (copied x b σ) { sequence = σ.sequence }) is
+      step : record (copied σ.op b σ) { sequence = σ.sequence } ≡ record σ { images = on_image p (given_block b) σ.images; op = advanced b σ.op }
+      step = subst (λ o. record (copied o b σ) { sequence = σ.sequence } ≡ record σ { images = on_image p (given_block b) σ.images; op = advanced b o }) (sym h.op)
+          (copied_of σ h.kind v p cursor b σ.sequence)
 
   -- ---- memory is orderly
+
+  room_in : IsRoomyFor σ v p
+  unfolding shape_in
+  room_in = roomy_of (shape_in s t m) h.kind v p cursor (subst (IsRoomyIn (shape_in s t m)) h.op h.orderly.roomy)
 
   same_images : (xs : List ImageRow) → on_image p (λ y. y) xs ≡ xs
   same_images [] = refl
@@ -154,9 +157,9 @@ module _ {s : Site} {t : VolumeTable} {m : Known} {v p : Name} {cursor b : ℕ} 
       by true = refl
       by false = refl
 
-  only_behind : (o : Op) → IsOnlyChild σ true v p → IsOnlyChild (record (shape_in s t m) { op = o }) true v p
+  only_behind : (o : Op) (k : Bool) → IsOnlyChild σ k v p → IsOnlyChild (record (shape_in s t m) { op = o }) k v p
   unfolding shape_in
-  only_behind o c = record {
+  only_behind o k c = record {
     link = record { child = c.link.child; there = c.link.there; is_named = c.link.is_named; is_shown = c.link.is_shown; vhd = c.link.vhd; linked = c.link.linked };
     only = c.only;
     same_size = c.same_size;
@@ -164,7 +167,7 @@ module _ {s : Site} {t : VolumeTable} {m : Known} {v p : Name} {cursor b : ℕ} 
 
   module _ (d : Body) (may : MayHaveSlot b q.image d) where
     abbrev o' : Op
-    o' = op.Copy v p (b + 1)
+    o' = advanced b m.op
 
     abbrev next : TreeRow
     next = with_image d q
@@ -173,29 +176,40 @@ module _ {s : Site} {t : VolumeTable} {m : Known} {v p : Name} {cursor b : ℕ} 
     name = may_name b q.image d may
 
     -- the shape either way
-    still_is : d ≡ q.image → shape_in s t (behind d q v p b m) ≡ record (shape_in s t m) { op = op.Copy v p (b + 1) }
+    pub still_is : d ≡ q.image → shape_in s t (behind d q b m) ≡ record (shape_in s t m) { op = advanced b m.op }
     still_is is = shape_behind d (λ y. y) name (ap (λ x. machine_row (with_image x q)) is)
-        ∙ ap (λ (xs : List ImageRow). record (shape_in s t m) { images = xs; op = op.Copy v p (b + 1) }) (same_images σ.images)
+        ∙ ap (λ (xs : List ImageRow). record (shape_in s t m) { images = xs; op = advanced b m.op }) (same_images σ.images)
 
-    slot_is : d ≡ with_slot b q.image → shape_in s t (behind d q v p b m) ≡ record (shape_in s t m) { images = on_image p (given_block b) (shape_in s t m).images; op = op.Copy v p (b + 1) }
+    slot_is : d ≡ with_slot b q.image → shape_in s t (behind d q b m) ≡ record (shape_in s t m) { images = on_image p (given_block b) (shape_in s t m).images; op = advanced b m.op }
     slot_is is = shape_behind d (given_block b) name (ap (λ x. machine_row (with_image x q)) is ∙ row_copied)
 
-    well : IsWellFormed σ → IsWellFormed (shape_in s t (behind d q v p b m))
-    well w = ⊎_elim
-        (λ is. subst IsWellFormed (sym (still_is is)) (operation_changes σ w (op.Copy v p (b + 1)) (only_behind (op.Copy v p (b + 1)) (copies_only h w))))
-        (λ is. subst IsWellFormed (sym (slot_is is)) (copy_keeps σ w p b (op.Copy v p (b + 1)) (copy_only σ w p b (op.Copy v p (b + 1)) true v (copies_only h w)))) may
+    goes_on : advanced b m.op ≡ copy_of h.kind v p (b + 1)
+    goes_on = ap (advanced b) h.op ∙ advanced_is h.kind v p cursor b
 
-    uses : IsWellFormed σ → (n : Name) → refs n (shape_in s t (behind d q v p b m)) ≡ refs n σ
+    -- the operation goes on in a shape with its images and attachments
+    runs_on : IsWellFormed σ → (τ : Op → Shape) → ((o : Op) → IsOnlyChild σ h.kind v p → IsOnlyChild (τ o) h.kind v p) → ((o : Op) → (τ o).attached ≡ σ.attached) → IsOperation (τ (advanced b m.op)) (advanced b m.op)
+    runs_on w τ only attached =
+        let o = copy_of h.kind v p (b + 1) in
+        subst (λ x. IsOperation (τ x) x) (sym goes_on)
+        (runs (τ o) h.kind v p (b + 1) (only o (copies_only h w)) (λ is. (let l = leaf_of σ h.kind v p cursor (copy_runs h w) is in
+        (l.0, ap (mode_in (image_uuid v)) (attached o) ∙ l.1))))
+
+    well : IsWellFormed σ → IsWellFormed (shape_in s t (behind d q b m))
+    well w = ⊎_elim
+        (λ is. subst IsWellFormed (sym (still_is is)) (operation_changes σ w o' (runs_on w (λ o. record (shape_in s t m) { op = o }) (λ o. only_behind o h.kind) (λ o. refl))))
+        (λ is. subst IsWellFormed (sym (slot_is is)) (copy_keeps σ w p b o' (runs_on w (copied_shape σ w p b) (λ o. copy_only σ w p b o h.kind v) (λ o. refl)))) may
+
+    uses : IsWellFormed σ → (n : Name) → refs n (shape_in s t (behind d q b m)) ≡ refs n σ
     unfolding refs
     uses w n = ⊎_elim
         (λ is. ap (refs n) (still_is is))
-        (λ is. ap (refs n) (slot_is is) ∙ changed_uses (record (shape_in s t m) { op = op.Copy v p (b + 1) }) (λ y. when (is_image p y) (given_block b) y) n (record {
+        (λ is. ap (refs n) (slot_is is) ∙ changed_uses (record (shape_in s t m) { op = advanced b m.op }) (λ y. when (is_image p y) (given_block b) y) n (record {
           name = block_key σ w p b (λ (y : ImageRow). y.name) (λ y xs. refl);
           hidden = block_key σ w p b (λ (y : ImageRow). y.hidden) (λ y xs. refl);
           parent = block_key σ w p b (λ (y : ImageRow). y.parent) (λ y xs. refl);
         })) may
 
-    pub rows_behind : (x : TreeRow) → In x (behind d q v p b m).rows → (In x m.rows × (row_name x ≢ row_name q)) ⊎ (x ≡ with_image d q)
+    pub rows_behind : (x : TreeRow) → In x (behind d q b m).rows → (In x m.rows × (row_name x ≢ row_name q)) ⊎ (x ≡ with_image d q)
     rows_behind = of_rows s t m h.orderly q (with_image d q) (there h) name
 
     -- ---- and has as much room
@@ -226,11 +240,11 @@ module _ {s : Site} {t : VolumeTable} {m : Known} {v p : Name} {cursor b : ℕ} 
         let either_d = ap₂ count_either d_is i_is in
         let either_q = ap₂ count_either q_is i_is in omega (arith, one, two, top_d, top_q, either_d, either_q)) may
 
-    roomy_behind : IsRoomyFor σ v p → IsRoomyFor (shape_in s t (behind d q v p b m)) v p
+    roomy_behind : IsRoomyFor σ v p → IsRoomyFor (shape_in s t (behind d q b m)) v p
     unfolding shape_in
     roomy_behind room x y x_there y_there x_is y_is vhd =
-        let a = In-map machine_row (behind d q v p b m).rows x x_there in
-        let c = In-map machine_row (behind d q v p b m).rows y y_there in
+        let a = In-map machine_row (behind d q b m).rows x x_there in
+        let c = In-map machine_row (behind d q b m).rows y y_there in
         let a_named : row_name a.0 ≡ v = sym (ap (λ (z : ImageRow). z.name) a.2) ∙ x_is in
         let c_named : row_name c.0 ≡ p = sym (ap (λ (z : ImageRow). z.name) c.2) ∙ y_is in
         let a_is : a.0 ≡ i = ⊎_elim
@@ -243,7 +257,7 @@ module _ {s : Site} {t : VolumeTable} {m : Known} {v p : Name} {cursor b : ℕ} 
         (subst (λ (z : ImageRow). thin_in σ (max (top (slots_of d)) (count_either (slots_of d) z.slots)) ≤ q.extents) (sym (a.2 ∙ ap machine_row a_is))
         (let more = thin_more s.geometry _ _ (no_less u.head u.slots u.is) in omega (arith, more, was)))
 
-    pub orderly_behind : StandsIn s.geometry (q.extents * s.geometry.extent) d → IsOrderly s t (behind d q v p b m)
+    pub orderly_behind : StandsIn s.geometry (q.extents * s.geometry.extent) d → IsOrderly s t (behind d q b m)
     unfolding shape_in
     orderly_behind stands =
         let o = h.orderly in
@@ -255,10 +269,11 @@ module _ {s : Site} {t : VolumeTable} {m : Known} {v p : Name} {cursor b : ℕ} 
           new_named = o.new_named;
           images = λ n is. o.images n is ∙ sym (face_replaced s t m o q (with_image d q) (there h) name refl refl n);
           places = o.places;
-          entries = o.entries ∙ ap entry_of h.op;
+          entries = o.entries ∙ ap entry_of h.op ∙ its_entry h.kind v p cursor ∙ sym (ap entry_of goes_on ∙ its_entry h.kind v p (b + 1));
           stands = λ x j. ⊎_elim (λ old. o.stands x old.0) (λ new. subst (λ (y : TreeRow). StandsIn s.geometry (y.extents * s.geometry.extent) y.image) (sym new) stands) (rows_behind x j);
           well_formed = ∥∥₁_map o.well_formed well;
-          roomy = roomy_behind (subst (IsRoomyIn (shape_in s t m)) h.op o.roomy);
+          roomy = subst (IsRoomyIn (shape_in s t (behind d q b m))) (sym goes_on)
+              (roomy_in (shape_in s t (behind d q b m)) h.kind v p (b + 1) (roomy_behind room_in));
           counts = λ n. o.counts n ∙ sym (∥∥₁_elim o.well_formed (hlevel props) (λ w. uses w n));
         }
 
@@ -271,9 +286,6 @@ module _ {s : Site} {t : VolumeTable} {m : Known} {v p : Name} {cursor b : ℕ} 
       (λ is. let w = raw_row s t m q (image_uuid (row_name q)) h.orderly (there h) is in subst (HasRoomForBlock s.geometry (q.extents * s.geometry.extent) b) (sym w.is) tt)
       (named_as (row_name q) (image_uuid (row_name q)) (named_row s t m q h.orderly (there h)) refl)
     where
-      room_in : IsRoomyFor σ v p
-      room_in = subst (IsRoomyIn (shape_in s t m)) h.op h.orderly.roomy
-
       by_vhd : (head : Head) (slots : List (Option ℕ)) → q.image ≡ body.Vhd head slots → is_vhd p ≡ true → HasRoomForBlock s.geometry (q.extents * s.geometry.extent) b q.image
       by_vhd head slots is vhd =
           let was = room_in (machine_row i) (machine_row q) (In-map_at machine_row m.rows i (child_there h)) (In-map_at machine_row m.rows q (there h)) (child_named h) (named h) vhd in

@@ -1,5 +1,5 @@
 -- The images of a copy that runs, and the block that is planned.
-use Rattle.std.proofs.Common.{◌≡◌, ◌≢◌, ◌⊎◌, inl, inr, ⊎_elim, ℕ, zero, suc, ◌+◌, ◌<◌, ◌≤◌, Bool, true, false, cond, List, [], ◌∷◌, map, Option, Some, None, refl, sym, ap, ◌∙◌, subst, arith}
+use Rattle.std.proofs.Common.{◌≡◌, ◌≢◌, ◌⊎◌, inl, inr, ⊎_elim, ℕ, zero, suc, ◌+◌, ◌<◌, ◌≤◌, Bool, true, false, cond, List, [], map, Option, Some, None, refl, sym, ap, ◌∙◌, subst, arith}
 use Rattle.std.proofs.Math.Logic.{∥∥₁_elim}
 use Rattle.std.proofs.Props.{props}
 use Rattle.std.proofs.lemmas.Bool.{cases_lt}
@@ -8,7 +8,6 @@ use Rattle.std.specs.List.{find}
 use Rattle.common_laws.specs.Lists.{In, numbers}
 use Rattle.common_laws.proofs.Lists.{In-map, In-map_at}
 use Rattle.sm_base.specs.declared.names.Name.{Name}
-use Rattle.sm_base.specs.declared.operations.Op.TheVariants as op
 use Rattle.sm_base.specs.declared.operations.Plan.TheVariants as plan
 use Rattle.vg_meta.specs.Tables.{VolumeTable}
 use Rattle.vg_volumes.specs.Sites.{Site}
@@ -17,8 +16,8 @@ use Rattle.vhd_chain.specs.Reading.{slots_of}
 use Rattle.vhd_chain.specs.Trees.{row_name, tree_row, without}
 use Rattle.vhd_chain.proofs.ByName.{tree_row-without_other}
 use Rattle.vhd_chain.specs.declared.rows.TreeRow.{TreeRow}
-use Rattle.sm_machine.specs.Collector.{copy_or, next_block, next_step, plan_copy, plan_running, table_of}
-use Rattle.sm_machine.specs.Shapes.{ImageRow, Shape, chain_limit, children, find_image, is_there, is_vhd, parent_of, slot_at}
+use Rattle.sm_machine.specs.Collector.{next_block, next_step, plan_running, table_of}
+use Rattle.sm_machine.specs.Shapes.{ImageRow, Shape, chain_limit, find_image, is_there, is_vhd, parent_of, slot_at}
 use Rattle.sm_machine.specs.WellFormed.{EndsWithin, IsOnlyChild, IsOperation, IsWellFormed}
 use Rattle.sm_machine.proofs.Chains.{find_image-in, parent_of-in}
 use Rattle.sm_machine.proofs.Tables.{next_found}
@@ -26,6 +25,8 @@ use Rattle.sm_ready.specs.Known.{Known, machine_row, shape_in}
 use Rattle.sm_ready.specs.Orderly.{IsOrderly}
 use Rattle.sm_ready.proofs.Orders.{In-tree_row}
 use Rattle.sm_ready.proofs.TruthLaws.{row_found}
+use Rattle.gc_coalesce.specs.Copying.{IsCopyOf, copy_of}
+use Rattle.gc_coalesce.proofs.CopyKinds.{block_of, only_of}
 
 -- ---- the least block from the cursor on
 
@@ -52,18 +53,22 @@ no_loop (suc most) n images loop ends = no_loop most n images loop (subst (λ o.
 
 -- ---- a copy that runs
 
--- the rows of the child and of the parent, and the block that is to be copied
+-- the rows of the child and of the parent, and the block that is to be copied; the child is hidden or a leaf
 pub record IsToCopy (s : Site) (t : VolumeTable) (m : Known) (v p : Name) (cursor b : ℕ) (i q : TreeRow) : Type 0 where
   pub orderly : IsOrderly s t m
-  pub op : m.op ≡ op.Copy v p cursor
+  pub kind : Bool
+  pub op : m.op ≡ copy_of kind v p cursor
   pub planned : next_step (shape_in s t m) ≡ plan.Copy b
   pub child : tree_row m.rows v ≡ Some i
   pub parent : tree_row m.rows p ≡ Some q
 
-module _ {s : Site} {t : VolumeTable} {m : Known} {v p : Name} {cursor : ℕ} (o : IsOrderly s t m) (is : m.op ≡ op.Copy v p cursor) where
-  only_in : IsWellFormed (shape_in s t m) → IsOnlyChild (shape_in s t m) true v p
+module _ {s : Site} {t : VolumeTable} {m : Known} (o : IsOrderly s t m) (v p : Name) (is : IsCopyOf m.op v p) where
+  running_in : IsWellFormed (shape_in s t m) → IsOperation (shape_in s t m) (copy_of is.0 v p is.1)
   unfolding shape_in
-  only_in w = subst (IsOperation (shape_in s t m)) is w.operation
+  running_in w = subst (IsOperation (shape_in s t m)) is.2 w.operation
+
+  only_in : IsWellFormed (shape_in s t m) → IsOnlyChild (shape_in s t m) is.0 v p
+  only_in w = only_of (shape_in s t m) is.0 v p is.1 (running_in w)
 
   row_of : (n : Name) (x : ImageRow) → In x (map machine_row m.rows) → x.name ≡ n → (y : TreeRow) × (tree_row m.rows n ≡ Some y) × (x ≡ machine_row y)
   row_of n x there named =
@@ -99,12 +104,15 @@ module _ {s : Site} {t : VolumeTable} {m : Known} {v p : Name} {cursor : ℕ} (o
     pub no_child_left : tree_row mid v ≡ None → ⊥
     no_child_left none = no_child (sym child_found ∙ none)
 
-    pub to_copy : {b : ℕ} {i q : TreeRow} → next_step (shape_in s t m) ≡ plan.Copy b → tree_row m.rows p ≡ Some q → tree_row mid v ≡ Some i → IsToCopy s t m v p cursor b i q
-    to_copy planned parent child = record { orderly = o; op = is; planned = planned; child = sym child_found ∙ child; parent = parent }
+    pub to_copy : {b : ℕ} {i q : TreeRow} → next_step (shape_in s t m) ≡ plan.Copy b → tree_row m.rows p ≡ Some q → tree_row mid v ≡ Some i → IsToCopy s t m v p is.1 b i q
+    to_copy planned parent child = record { orderly = o; kind = is.0; op = is.2; planned = planned; child = sym child_found ∙ child; parent = parent }
 
 module _ {s : Site} {t : VolumeTable} {m : Known} {v p : Name} {cursor b : ℕ} {i q : TreeRow} (h : IsToCopy s t m v p cursor b i q) where
   abbrev σ : Shape
   σ = shape_in s t m
+
+  abbrev copies : IsCopyOf m.op v p
+  copies = (h.kind, cursor, h.op)
 
   pub child_there : In i m.rows
   child_there = (In-tree_row m.rows v i h.child).0
@@ -118,23 +126,22 @@ module _ {s : Site} {t : VolumeTable} {m : Known} {v p : Name} {cursor b : ℕ} 
   pub named : row_name q ≡ p
   named = (In-tree_row m.rows p q h.parent).1
 
-  pub copies_only : IsWellFormed (shape_in s t m) → IsOnlyChild (shape_in s t m) true v p
-  copies_only = only_in h.orderly h.op
+  pub copies_only : IsWellFormed (shape_in s t m) → IsOnlyChild (shape_in s t m) h.kind v p
+  copies_only = only_in h.orderly v p copies
+
+  pub copy_runs : IsWellFormed (shape_in s t m) → IsOperation (shape_in s t m) (copy_of h.kind v p cursor)
+  copy_runs = running_in h.orderly v p copies
 
   is_child : (w : IsWellFormed σ) → (copies_only w).link.child ≡ machine_row i
   unfolding shape_in
   is_child w =
       let c = (copies_only w).link in
-      let y = row_of h.orderly h.op v c.child c.there c.is_named in
+      let y = row_of h.orderly v p copies v c.child c.there c.is_named in
       y.2 ∙ ap machine_row (same_Some y.0 i (sym y.1 ∙ h.child))
 
   pub linked : parent_name i.image ≡ Some p
   unfolding shape_in
   linked = ∥∥₁_elim h.orderly.well_formed (hlevel props) (λ w. sym (ap (λ (x : ImageRow). x.parent) (is_child w)) ∙ (copies_only w).link.linked)
-
-  pub child_hidden : i.hidden ≡ true
-  unfolding shape_in
-  child_hidden = ∥∥₁_elim h.orderly.well_formed (hlevel props) (λ w. sym (ap (λ (x : ImageRow). x.hidden) (is_child w)) ∙ (copies_only w).link.is_shown)
 
   pub child_vhd : is_vhd v ≡ true
   unfolding shape_in
@@ -145,7 +152,7 @@ module _ {s : Site} {t : VolumeTable} {m : Known} {v p : Name} {cursor b : ℕ} 
   hidden = ∥∥₁_elim h.orderly.well_formed (hlevel props) (λ w.
       let c = (copies_only w).link in
       let z = w.parents c.child p c.there c.linked in
-      let y = row_of h.orderly h.op p z.parent z.there z.is_named in
+      let y = row_of h.orderly v p copies p z.parent z.there z.is_named in
       sym (ap (λ (x : ImageRow). x.hidden) (y.2 ∙ ap machine_row (same_Some y.0 q (sym y.1 ∙ h.parent)))) ∙ z.is_hidden)
 
   pub only : (x : TreeRow) → In x m.rows → parent_name x.image ≡ Some p → row_name x ≡ v
@@ -158,7 +165,7 @@ module _ {s : Site} {t : VolumeTable} {m : Known} {v p : Name} {cursor b : ℕ} 
       (copies_only w).same_size (machine_row q) (In-map_at machine_row m.rows q there) named ∙ ap (λ (x : ImageRow). x.size) (is_child w))
 
   pub apart : v ≢ p
-  apart = names_apart h.orderly h.op
+  apart = names_apart h.orderly v p copies
 
   -- ---- the block
 
@@ -170,16 +177,8 @@ module _ {s : Site} {t : VolumeTable} {m : Known} {v p : Name} {cursor b : ℕ} 
       (ap (λ n. find_image n (shape_in s t m).images) (sym child_named) ∙ find_image-in (shape_in s t m).images (machine_row i) w.one_image j (w.images (machine_row i) j).named))
 
   pub next_is : next_block cursor (slots_of i.image) ≡ Some b
-  unfolding next_step plan_running shape_in
-  next_is = ap (next_block cursor) (sym child_table) ∙ by_children (children v σ.images) (sym (ap (plan_running σ) h.op) ∙ h.planned)
-    where
-      by_block : (o : Option ℕ) → copy_or plan.Turn o ≡ plan.Copy b → o ≡ Some b
-      by_block None e = absurd (let x = e in cc)
-      by_block (Some c) e = let x = e in cc
-
-      by_children : (xs : List ImageRow) → plan_copy σ v cursor xs ≡ plan.Copy b → next_block cursor (table_of v σ) ≡ Some b
-      by_children [] e = absurd (let x = e in cc)
-      by_children (x ∷ xs) e = by_block (next_block cursor (table_of v σ)) e
+  unfolding next_step shape_in
+  next_is = ap (next_block cursor) (sym child_table) ∙ block_of σ h.kind v p cursor b (sym (ap (plan_running σ) h.op) ∙ h.planned)
 
   pub ahead : cursor ≤ b
   ahead = (next_found cursor b (slots_of i.image) next_is).0

@@ -54,8 +54,10 @@ use Rattle.sm_ready.proofs.SyncLaws.{IsSynced}
 use Rattle.sm_ready.proofs.TakenLaws.{IsTold}
 use Rattle.sm_ready.proofs.TruthLaws.{row_sectors}
 use Rattle.gc_coalesce.specs.Blocks.{Copies, HasCopied, IsMaskedBy, MayHaveSlot, own_held, with_slot}
+use Rattle.gc_coalesce.specs.Copying.{advanced}
 use Rattle.gc_coalesce.proofs.CopyBlockLaws.{add_one, grown_count, own_grown}
 use Rattle.gc_coalesce.proofs.CopyCrashLaws.{crash_synced, keeps_parent, left_copied, masked_parent}
+use Rattle.gc_coalesce.proofs.CopyKinds.{advanced_is, below_in, below_of}
 use Rattle.gc_coalesce.proofs.CopyLeftLaws.{child_now, kept_other, not_records, parent_now}
 use Rattle.gc_coalesce.proofs.CopyMemoryLaws.{behind, may_name, orderly_behind, rows_behind, with_image}
 use Rattle.gc_coalesce.proofs.CopyNowLaws.{IsNow, row_now}
@@ -143,16 +145,16 @@ module _ {S : Type 0} (g : Ghosts S) {b d : S} (e : S) (m : Memory) {v p : Name}
     next_name : row_name next ≡ p
     next_name = may_name blk q.image new done.slot ∙ named h
 
-    next_there : In next (behind new q v p blk (known m)).rows
+    next_there : In next (behind new q blk (known m)).rows
     next_there = subst (λ x. In x (with_replaced next m.tree.rows)) (ap (λ c. when c (λ _. next) q) (name_eq-same (row_name q) (row_name next) (named h ∙ sym next_name)))
         (In-map_at (λ r. when (has_name (row_name next) r) (λ _. next) r) m.tree.rows q (there h))
 
-    orderly_new : IsOrderly s t (behind new q v p blk (known m))
+    orderly_new : IsOrderly s t (behind new q blk (known m))
     orderly_new = orderly_behind h new done.slot stands_new
 
     parent_end : IsNow (content_now s t (g.area e)) p s.geometry (size_of s t p) new (reads (volume_of s t (g.area e) p))
     parent_end = subst (λ n. IsNow (content_now s t (g.area e)) n s.geometry (size_of s t n) new (reads (volume_of s t (g.area e) n))) next_name
-        (row_now s t (g.area e) (behind new q v p blk (known m)) orderly_new next next_there (subst (λ n. IsSteady s.geometry wide (volume_of s t (g.area e) n) new) (sym next_name) steady_new))
+        (row_now s t (g.area e) (behind new q blk (known m)) orderly_new next next_there (subst (λ n. IsSteady s.geometry wide (volume_of s t (g.area e) n) new) (sym next_name) steady_new))
 
     image_end : (n : Name) → n ≢ p → image_of (content_now s t (g.area e)) n ≡ image_of (content_now s t (g.area b)) n
     image_end n other = image_by_sectors s t (known m) (reads (g.area b)) (reads (g.area e)) n (rows t n) h.orderly refl
@@ -206,7 +208,7 @@ module _ {S : Type 0} (g : Ghosts S) {b d : S} (e : S) (m : Memory) {v p : Name}
     held_below k bytes below has = ⊎_elim
         (λ early. ⊎_elim
         (λ old.
-        let was : IsHeldBelow (content_now s t (g.area b)) v p cursor = subst (IsBelow (content_now s t (g.area b))) h.op told.ready.firm.below in
+        let was : IsHeldBelow (content_now s t (g.area b)) v p cursor = below_of (content_now s t (g.area b)) h.kind v p cursor (subst (IsBelow (content_now s t (g.area b))) h.op told.ready.firm.below) in
         let child_is : was.child ≡ child_b.image = same_Some was.child child_b.image (sym was.image ∙ child_b.there) in
         let parent_is : was.parent ≡ parent_b.image = same_Some was.parent parent_b.image (sym was.under ∙ parent_b.there) in
         sym (held_d k) ∙ done.kept told.told k bytes (child_read k ∙ has)
@@ -216,7 +218,7 @@ module _ {S : Type 0} (g : Ghosts S) {b d : S} (e : S) (m : Memory) {v p : Name}
 
     -- ---- the store is ready
 
-    pub ready_new : IsReady (g.site b) (tab g b) (g.area e) (behind new q v p blk (known m))
+    pub ready_new : IsReady (g.site b) (tab g b) (g.area e) (behind new q blk (known m))
     ready_new = record {
       firm = record {
         images = λ r j. ⊎_elim
@@ -225,14 +227,14 @@ module _ {S : Type 0} (g : Ghosts S) {b d : S} (e : S) (m : Memory) {v p : Name}
             (λ is. subst (λ (x : TreeRow). IsSteady s.geometry (x.extents * s.geometry.extent) (volume_of s t (g.area e) (row_name x)) x.image) (sym is)
             (subst (λ n. IsSteady s.geometry wide (volume_of s t (g.area e) n) new) (sym next_name) steady_new)) (rows_behind h new done.slot r j);
         quiet = λ r j _. all_quiet s t (g.area e) last (row_name r);
-        below = record {
+        below = subst (IsBelow (content_now s t (g.area e))) (sym (ap (advanced blk) h.op ∙ advanced_is h.kind v p cursor blk)) (below_in (content_now s t (g.area e)) h.kind v p (blk + 1) (record {
           child = child_b.image;
           parent = parent_end.image;
           image = image_end v (apart h) ∙ child_b.there;
           under = parent_end.there;
           size = parent_end.size ∙ grown_count q.image new copies.grown ∙ same_size h ∙ sym child_b.size;
           held = held_below;
-        };
+        }));
       };
       records = agrees_keeps (records_held s t (g.area b)) (records_held s t (g.area e)) m.records
           (kept_all Mgt (not_records h (g.area b) (g.area d) told.ready settled (keeps_parent g h new copies told settled))) told.ready.records;
@@ -246,7 +248,7 @@ module _ {S : Type 0} (g : Ghosts S) {b d : S} (e : S) (m : Memory) {v p : Name}
     shown_new = disks_copied (store_content g b) (content_now s t (g.area e)) v p
         (left_copied g h new copies told settled (reads (g.area e)) (subst (IsLeft s (g.area d)) (sym same_reads) (left_now s (g.area d))))
 
-    pub copy_done : ((w : VolumeTable) (image : ℕ → List ℕ) → g.leaves d w image → IsChoiceOf (stored g d) w image) → (n : Known) → n ≡ behind new q v p blk (known m) → (ok : Type 0)
+    pub copy_done : ((w : VolumeTable) (image : ℕ → List ℕ) → g.leaves d w image → IsChoiceOf (stored g d) w image) → (n : Known) → n ≡ behind new q blk (known m) → (ok : Type 0)
         → HasDone (g.site b) (tab g b) (tab g e) (g.area b) (g.area e) n (StoreLeaves g b) (StoreLeaves g e) ok (disks (store_content g b))
     copy_done later n is ok = record {
       ready = λ _. subst₂ (λ z k. IsReady s z (g.area e) k) (sym (y.table ∙ copies.works.stays.table)) (sym is) ready_new;

@@ -1,7 +1,6 @@
 -- A block that is copied, from the first sync on: what each of its ends leaves.
-use Rattle.std.proofs.Common.{◌≡◌, ℕ, ◌+◌, ◌*◌, inl, List, false, refl, sym, ap, ap₂, ◌∙◌, subst, subst₂}
+use Rattle.std.proofs.Common.{◌≡◌, ℕ, ◌*◌, inl, List, false, refl, sym, ap, ap₂, ◌∙◌, subst, subst₂}
 use Rattle.sm_base.specs.declared.names.Name.{Name}
-use Rattle.sm_base.specs.declared.operations.Op.TheVariants as op
 use Rattle.sm_disk.specs.Held.{IsSettled, Keeps}
 use Rattle.vg_meta.specs.Tables.{VolumeTable}
 use Rattle.vg_volumes.specs.Stored.{IsChoiceOf, stored}
@@ -9,8 +8,9 @@ use Rattle.vg_volumes.specs.declared.stores.Store.{Ghosts}
 use Rattle.vhd_image.specs.declared.images.Body.{Body}
 use Rattle.vhd_chain.specs.Trees.{with_replaced}
 use Rattle.vhd_chain.specs.declared.rows.TreeRow.{TreeRow}
+use Rattle.sm_machine.specs.Collector.{IsLess, debt}
 use Rattle.sm_machine.specs.declared.commands.Command.TheVariants.{Gc}
-use Rattle.sm_ready.specs.Does.{ShapesAs, StoreDoes}
+use Rattle.sm_ready.specs.Does.{ShapesAs, StoreDoes, store_shape}
 use Rattle.sm_ready.specs.Frames.{HasTrueImages}
 use Rattle.sm_ready.specs.Known.{Known, known, machine_row, shape_in}
 use Rattle.sm_ready.specs.Orderly.{IsOrderly}
@@ -23,11 +23,16 @@ use Rattle.sm_ready.proofs.FrameLaws.{true_stays}
 use Rattle.sm_ready.proofs.SyncLaws.{IsSynced, told_behind}
 use Rattle.sm_ready.proofs.TakenLaws.{IsTold, is_told}
 use Rattle.gc_coalesce.specs.Blocks.{Copies, HasCopied}
-use Rattle.gc_coalesce.specs.Copying.{IsMasked}
+use Rattle.gc_coalesce.specs.Copying.{IsMasked, advanced}
 use Rattle.gc_coalesce.proofs.CopyCallLaws.{to_copy_at, true_copied}
 use Rattle.gc_coalesce.proofs.CopyCrashLaws.{copy_failed, from_before, masked_since, sync_failed, synced_choice}
+use Rattle.gc_coalesce.proofs.CopyDebt.{lowers}
 use Rattle.gc_coalesce.proofs.CopyMemoryLaws.{behind, may_name, orderly_behind, shape_copied, tidy_behind, with_image}
-use Rattle.gc_coalesce.proofs.CopyPlanLaws.{IsToCopy}
+use Rattle.gc_coalesce.proofs.CopyPlanLaws.{IsToCopy, named}
+use Rattle.gc_coalesce.proofs.LinkEnds.{IsRested}
+use Rattle.gc_coalesce.proofs.SyncedLaws.{synced_again, written_synced}
+use Rattle.gc_coalesce.specs.Syncing.{LeavesSynced}
+use Rattle.vg_volumes.specs.Stored.{WorksOn}
 use Rattle.gc_coalesce.proofs.CopyReadyLaws.{copy_done, slot_new, stands_new}
 
 -- what is known of a sync
@@ -64,7 +69,21 @@ module _ {S : Type 0} {g : Ghosts S} {a b d : S} {m : Memory} {v p : Name} {curs
   later told = u.choice d told (u.copies.works.stays.failed ∙ u.sync.failed ∙ u.usable)
 
   masked_by : g.told → IsReadyStore g a m → (w : VolumeTable) (image : ℕ → List ℕ) → IsChoiceOf (stored g d) w image → IsMasked m.operation (store_content g a) (content_in (g.site a) w image)
-  masked_by told ready = masked_since g images_b new u.copies (told_b told ready) (u.settled told) (told_a told ready) (synced_b told) u.images.op
+  masked_by told ready = masked_since g images_b new u.copies (told_b told ready) (u.settled told) (told_a told ready) (synced_b told)
+
+  -- ---- nothing else was pending when the parent was written
+
+  rested_b : IsRested g a b
+  rested_b = record { site = u.sync.site; table = u.sync.table; failed = u.sync.failed; synced = synced_b; settled = u.settled }
+
+  works_on : WorksOn g p b d
+  works_on = subst (λ n. WorksOn g n b d) (named u.images) u.copies.works
+
+  pub written_beside : LeavesSynced g p a d
+  written_beside = written_synced g a b d p u.usable u.choice rested_b works_on
+
+  pub synced_beside : {e : S} → IsSync g d e → LeavesSynced g p a e
+  synced_beside {e} y = synced_again g a b d p u.usable u.choice rested_b works_on e y.leaves
 
   -- ---- the copy failed
 
@@ -91,9 +110,9 @@ module _ {S : Type 0} {g : Ghosts S} {a b d : S} {m : Memory} {v p : Name} {curs
     -- ---- all was copied, and lasts
 
     module _ (n : Memory) (done : HasCopied g i.image blk (blk * (g.site b).geometry.block) (g.site b).geometry.block q.image new b d)
-        (rows : n.tree.rows ≡ with_replaced (with_image new q) m.tree.rows) (rest : known n ≡ record (known m) { rows = n.tree.rows; op = op.Copy v p (blk + 1) }) where
-      memory_is : known n ≡ behind new q v p blk (known m)
-      memory_is = rest ∙ ap (λ rs. let k : Known = record (known m) { rows = rs; op = op.Copy v p (blk + 1) } in k) rows
+        (rows : n.tree.rows ≡ with_replaced (with_image new q) m.tree.rows) (rest : known n ≡ record (known m) { rows = n.tree.rows; op = advanced blk m.operation }) where
+      memory_is : known n ≡ behind new q blk (known m)
+      memory_is = rest ∙ ap (λ rs. let k : Known = record (known m) { rows = rs; op = advanced blk m.operation } in k) rows
 
       site_is : g.site e ≡ g.site b
       site_is = y.site ∙ u.copies.works.stays.site
@@ -103,20 +122,25 @@ module _ {S : Type 0} {g : Ghosts S} {a b d : S} {m : Memory} {v p : Name} {curs
 
       pub whole_orderly : IsOrderlyStore g e n
       whole_orderly = subst (IsOrderly (g.site e) (tab g e)) (sym memory_is)
-          (subst₂ (λ s t. IsOrderly s t (behind new q v p blk (known m))) (sym site_is) (sym table_is) (orderly_behind images_b new done.slot (stands_new g e m images_b new u.copies done)))
+          (subst₂ (λ s t. IsOrderly s t (behind new q blk (known m))) (sym site_is) (sym table_is) (orderly_behind images_b new done.slot (stands_new g e m images_b new u.copies done)))
 
       pub whole_tidy : IsTidyStore g a m → IsTidyStore g e n
       whole_tidy tidy = subst (IsTidy (tab g e)) (sym memory_is)
-          (subst (λ t. IsTidy t (behind new q v p blk (known m))) (sym (table_is ∙ u.sync.table)) (tidy_behind u.images new (λ _. machine_row (with_image new q)) (may_name blk q.image new done.slot) refl tidy))
+          (subst (λ t. IsTidy t (behind new q blk (known m))) (sym (table_is ∙ u.sync.table)) (tidy_behind u.images new (λ _. machine_row (with_image new q)) (may_name blk q.image new done.slot) refl tidy))
 
       pub whole_true : HasTrueImages g a m → HasTrueImages g e n
       whole_true truth = true_copied g e m n images_b new u.copies _ _ done y.site y.table y.keeps rows (true_stays g m m u.sync.site u.sync.table refl u.sync.keeps truth)
 
+      whole_is : store_shape g e n ≡ shape_in (g.site a) (tab g a) (behind new q blk (known m))
+      whole_is = ap₂ (λ s t. shape_in s t (known n)) (site_is ∙ u.sync.site) (table_is ∙ u.sync.table) ∙ ap (shape_in (g.site a) (tab g a)) memory_is
+
+      pub whole_lowered : ∥ IsLess (debt (store_shape g e n)) (debt (store_shape g a m)) ∥₁
+      whole_lowered = subst (λ σ. ∥ IsLess (debt σ) (debt (store_shape g a m)) ∥₁) (sym whole_is) (lowers u.images new done.slot)
+
       module _ (settled : g.told → IsSettled (g.area e)) where
         pub whole_shape : g.told → IsReadyStore g a m → ShapesAs g Gc a m e n
         whole_shape told ready =
-            ap₂ (λ s t. shape_in s t (known n)) (site_is ∙ u.sync.site) (table_is ∙ u.sync.table) ∙ ap (shape_in (g.site a) (tab g a)) memory_is
-            ∙ shape_copied u.images new (slot_new g e m images_b new u.copies done (told_b told ready) (u.settled told) (synced_e told) (settled told))
+            whole_is ∙ shape_copied u.images new (slot_new g e m images_b new u.copies done (told_b told ready) (u.settled told) (synced_e told) (settled told))
 
         pub whole_done : (ok : Type 0) → g.told → IsReadyStore g a m → StoreDoes g Gc a m e n ok
         whole_done ok told ready =

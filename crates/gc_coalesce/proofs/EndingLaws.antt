@@ -36,7 +36,7 @@ use Rattle.sm_standing.specs.Entries.{names_in}
 use Rattle.sm_standing.specs.Standing.{disks}
 use Rattle.sm_standing.proofs.DisksShown.{row_of-In}
 use Rattle.sm_standing.proofs.UndoneLaws.{named_found}
-use Rattle.sm_ready.specs.Does.{ShapesAs, StoreDoes, store_shape}
+use Rattle.sm_ready.specs.Does.{StoreDoes, store_shape}
 use Rattle.sm_ready.specs.Done.{HasDone, IsCommit, at_rest}
 use Rattle.sm_ready.specs.Frames.{HasTrueImages}
 use Rattle.sm_ready.specs.Known.{Known, entry_of, known, shape_in}
@@ -53,6 +53,7 @@ use Rattle.sm_ready.proofs.OperationLaws.{WorksAt, below_alike, works_there}
 use Rattle.sm_ready.proofs.Orders.{named_row}
 use Rattle.sm_ready.proofs.RowLaws.{All-In, In-names, image_named}
 use Rattle.sm_ready.proofs.TakenLaws.{IsTold}
+use Rattle.gc_coalesce.specs.Ending.{folding}
 use Rattle.gc_coalesce.proofs.CopiedLaws.{all_copied}
 use Rattle.gc_coalesce.proofs.PlannedLaws.{gc_shape, none_left}
 use Rattle.gc_coalesce.proofs.EntryLaws.{IsReentered, disks_entry, entered, entry_gone, entry_replaced, extents_entry, image_entry, orderly_entry, ready_rested, shape_entry, tidy_entry}
@@ -68,7 +69,6 @@ pub record IsEnding (s : Site) (t : VolumeTable) (m : Known) (x : Op) (change : 
   pub entry : names_in (applied t change) is_entry ≡ entry_of x
   pub works : IsWellFormed (shape_in s t m) → IsOperation (shape_in s t m) x
   pub roomy : IsRoomyIn (shape_in s t m) x
-  pub shape : shape_next (shape_in s t m) Gc ≡ record (shape_in s t m) { sequence = raised t.sequence; op = x }
   pub below : (area : Held) → IsReady s t area m → IsBelow (content_now s t area) x
 
 -- the images of the operation are named as images are
@@ -92,34 +92,41 @@ none_other t e f one is other = by (rows t f) refl
         (subst (In f) one (filter-In is_entry (names_of t.volumes) f (subst (λ n. In n (names_of t.volumes)) (row_of-name t.volumes f r at) (In-names t.volumes r (row_of-In t.volumes f r at).0)) is)))
 
 -- the operation is over
-to_end : (s : Site) (t : VolumeTable) (m : Known) (e : Name) → IsOrderly s t m → is_entry e ≡ true → names_in t is_entry ≡ e ∷ []
-    → shape_next (shape_in s t m) Gc ≡ record (shape_in s t m) { sequence = raised t.sequence; op = op.Idle } → IsEnding s t m op.Idle (Remove e)
-to_end s t m e o is one shape = record {
-  orderly = o;
-  permits = (let w = entry_row t e one in record { row = w.0; there = w.1; not_mgt = λ same. true≢false (sym is ∙ ap is_entry same) });
-  room = λ k. tt;
-  of_entries = λ n of. ap is_entry of ∙ is;
-  entry = entry_gone t e is one;
-  works = λ w. tt;
-  roomy = tt;
-  shape = shape;
-  below = λ area ready. tt;
-}
+to_end : (s : Site) (t : VolumeTable) (m : Known) (e : Name) → IsOrderly s t m → entry_of m.op ≡ e ∷ [] → IsEnding s t m op.Idle (Remove e)
+to_end s t m e o its =
+    let one : names_in t is_entry ≡ e ∷ [] = o.entries ∙ its in
+    let is : is_entry e ≡ true = (In-filter is_entry (names_of t.volumes) e (subst (In e) (sym one) (inl refl))).1 in
+    record {
+      orderly = o;
+      permits = (let w = entry_row t e one in record { row = w.0; there = w.1; not_mgt = λ same. true≢false (sym is ∙ ap is_entry same) });
+      room = λ k. tt;
+      of_entries = λ n of. ap is_entry of ∙ is;
+      entry = entry_gone t e is one;
+      works = λ w. tt;
+      roomy = tt;
+      below = λ area ready. tt;
+    }
 
-to_abandon : (s : Site) (t : VolumeTable) (m : Known) (v p : Name) (cursor : ℕ) → IsOrderly s t m → next_step (shape_in s t m) ≡ plan.Abandon → m.op ≡ op.Copy v p cursor
-    → IsEnding s t m op.Idle (Remove (Coalesce (image_uuid v) (image_uuid p)))
+-- the machine's shape where a step ends it
+pub step_abandon : (s : Site) (t : VolumeTable) (m : Known) → next_step (shape_in s t m) ≡ plan.Abandon → record (shape_in s t m) { sequence = raised t.sequence; op = op.Idle } ≡ shape_next (shape_in s t m) Gc
 unfolding shape_in collected plan_commits
-to_abandon s t m v p cursor o planned is = to_end s t m (Coalesce (image_uuid v) (image_uuid p)) o refl (o.entries ∙ ap entry_of is) (gc_shape (shape_in s t m) plan.Abandon planned)
+step_abandon s t m planned = sym (gc_shape (shape_in s t m) plan.Abandon planned)
 
-to_finish : (s : Site) (t : VolumeTable) (m : Known) (v p : Name) → IsOrderly s t m → next_step (shape_in s t m) ≡ plan.Finish → m.op ≡ op.Relink v p
-    → IsEnding s t m op.Idle (Remove (Relink (image_uuid v) (image_uuid p)))
+pub step_finish : (s : Site) (t : VolumeTable) (m : Known) → next_step (shape_in s t m) ≡ plan.Finish → record (shape_in s t m) { sequence = raised t.sequence; op = op.Idle } ≡ shape_next (shape_in s t m) Gc
 unfolding shape_in collected plan_commits
-to_finish s t m v p o planned is = to_end s t m (Relink (image_uuid v) (image_uuid p)) o refl (o.entries ∙ ap entry_of is) (gc_shape (shape_in s t m) plan.Finish planned)
+step_finish s t m planned = sym (gc_shape (shape_in s t m) plan.Finish planned)
+
+-- a leaf is folded
+pub leaf_folded : (o : Op) → folding o ≡ true → (l p : Name) × (cursor : ℕ) × (o ≡ op.Leaf l p cursor)
+leaf_folded (op.Leaf l p cursor) is = (l, p, cursor, refl)
+leaf_folded op.Idle is = absurd (true≢false (sym is))
+leaf_folded (op.Copy v p cursor) is = absurd (true≢false (sym is))
+leaf_folded (op.Relink v p) is = absurd (true≢false (sym is))
 
 -- children are linked next
 to_turn : (s : Site) (t : VolumeTable) (m : Known) (v p : Name) (cursor : ℕ) → IsOrderly s t m → next_step (shape_in s t m) ≡ plan.Turn → m.op ≡ op.Copy v p cursor
     → IsEnding s t m (op.Relink v p) (Rename (Coalesce (image_uuid v) (image_uuid p)) (Relink (image_uuid v) (image_uuid p)))
-unfolding shape_in collected plan_commits turned IsName
+unfolding shape_in IsName
 to_turn s t m v p cursor o planned is =
     let from = Coalesce (image_uuid v) (image_uuid p) in
     let to = Relink (image_uuid v) (image_uuid p) in
@@ -140,9 +147,14 @@ to_turn s t m v p cursor o planned is =
       entry = entry_replaced t from to r.0 r.1 refl refl one;
       works = λ w. (subst (IsOperation (shape_in s t m)) is w.operation).link;
       roomy = tt;
-      shape = gc_shape (shape_in s t m) plan.Turn planned ∙ ap (λ y. let x : Shape = record (shape_in s t m) { sequence = raised t.sequence; op = turned y } in x) is;
       below = λ area ready. all_copied s t area m v p cursor o ready.firm is (none_left s t m v p cursor planned is);
     }
+
+pub step_turn : (s : Site) (t : VolumeTable) (m : Known) (v p : Name) (cursor : ℕ) → next_step (shape_in s t m) ≡ plan.Turn → m.op ≡ op.Copy v p cursor
+    → record (shape_in s t m) { sequence = raised t.sequence; op = op.Relink v p } ≡ shape_next (shape_in s t m) Gc
+unfolding shape_in collected plan_commits turned
+step_turn s t m v p cursor planned is =
+    sym (gc_shape (shape_in s t m) plan.Turn planned ∙ ap (λ y. let x : Shape = record (shape_in s t m) { sequence = raised t.sequence; op = turned y } in x) is)
 
 module _ {s : Site} {t : VolumeTable} {m : Known} {x : Op} {change : Change} (h : IsEnding s t m x change) where
   abbrev next : VolumeTable
@@ -156,9 +168,6 @@ module _ {s : Site} {t : VolumeTable} {m : Known} {x : Op} {change : Change} (h 
 
   pub orderly_next : IsOrderly s next then
   orderly_next = orderly_entry s t next m h.orderly entered_next x h.entry h.works h.roomy
-
-  pub shape_ended : shape_in s next then ≡ shape_next (shape_in s t m) Gc
-  shape_ended = shape_entry s t next m x ∙ sym h.shape
 
   pub tidy_next : IsTidy t m → IsTidy next then
   tidy_next tidy = tidy_entry s t next m x entered_next tidy
@@ -175,14 +184,8 @@ module _ {s : Site} {t : VolumeTable} {m : Known} {x : Op} {change : Change} (h 
 -- ---- in a store
 
 module _ {S : Type 0} (g : Ghosts S) (a : S) (m : Memory) (o : IsOrderlyStore g a m) where
-  pub abandons : {v p e : Name} {cursor : ℕ} → next_step (store_shape g a m) ≡ plan.Abandon → m.operation ≡ op.Copy v p cursor → e ≡ Coalesce (image_uuid v) (image_uuid p)
-      → IsEnding (g.site a) (tab g a) (known m) op.Idle (Remove e)
-  abandons {v} {p} {cursor = cursor} planned is entry =
-      subst (λ n. IsEnding (g.site a) (tab g a) (known m) op.Idle (Remove n)) (sym entry) (to_abandon (g.site a) (tab g a) (known m) v p cursor o planned is)
-
-  pub finishes : {v p e : Name} → next_step (store_shape g a m) ≡ plan.Finish → m.operation ≡ op.Relink v p → e ≡ Relink (image_uuid v) (image_uuid p)
-      → IsEnding (g.site a) (tab g a) (known m) op.Idle (Remove e)
-  finishes {v} {p} planned is entry = subst (λ n. IsEnding (g.site a) (tab g a) (known m) op.Idle (Remove n)) (sym entry) (to_finish (g.site a) (tab g a) (known m) v p o planned is)
+  pub ends : {y : Op} {e n : Name} → m.operation ≡ y → entry_of y ≡ n ∷ [] → e ≡ n → IsEnding (g.site a) (tab g a) (known m) op.Idle (Remove e)
+  ends {e = e} is entry same = to_end (g.site a) (tab g a) (known m) e o (ap entry_of is ∙ entry ∙ ap (λ k. k ∷ []) (sym same))
 
   pub turns : {v p from to : Name} {cursor : ℕ} → next_step (store_shape g a m) ≡ plan.Turn → m.operation ≡ op.Copy v p cursor
       → from ≡ Coalesce (image_uuid v) (image_uuid p) → to ≡ Relink (image_uuid v) (image_uuid p) → IsEnding (g.site a) (tab g a) (known m) (op.Relink v p) (Rename from to)
@@ -205,8 +208,8 @@ module _ {S : Type 0} (g : Ghosts S) (a : S) (m : Memory) {x : Op} {change : Cha
     pub tidy_end : IsTidyStore g a m → IsTidyStore g b ended
     tidy_end tidy = subst (λ y. IsTidy y (known ended)) (sym c.table) (tidy_next h tidy)
 
-    pub shape_end : ShapesAs g Gc a m b ended
-    shape_end = ap₂ (λ y z. shape_in y z (known ended)) c.site c.table ∙ shape_ended h
+    pub shape_end : store_shape g b ended ≡ record (store_shape g a m) { sequence = raised (tab g a).sequence; op = x }
+    shape_end = ap₂ (λ y z. shape_in y z (known ended)) c.site c.table ∙ shape_entry (g.site a) (tab g a) (applied (tab g a) change) (known m) x
 
     pub true_end : HasTrueImages g a m → HasTrueImages g b ended
     true_end = true_kept g m ended c.site (λ told r i. (
@@ -215,14 +218,24 @@ module _ {S : Type 0} (g : Ghosts S) (a : S) (m : Memory) {x : Op} {change : Cha
           true≢false (sym (h.of_entries (row_name r) of) ∙ image-no_entry (row_name r) (image_named (row_name r) (named_row (g.site a) (tab g a) (known m) r h.orderly i)))) c told,
     ))
 
-    pub done_end : IsTold g a m → ((v : VolumeTable) (image : ℕ → List ℕ) → g.leaves b v image → IsEitherOf (stored g a) change v image) → (ok : Type 0) → StoreDoes g Gc a m b ended ok
-    unfolding disks_next
+    pub done_end : IsTold g a m → ((v : VolumeTable) (image : ℕ → List ℕ) → g.leaves b v image → IsEitherOf (stored g a) change v image) → (ok : Type 0)
+        → HasDone (g.site a) (tab g a) (tab g b) (g.area a) (g.area b) (known ended) (StoreLeaves g a) (StoreLeaves g b) ok (disks (store_content g a))
     done_end k stop ok = subst (λ z. HasDone (g.site a) (tab g a) z (g.area a) (g.area b) (known ended) (StoreLeaves g a) (StoreLeaves g b) ok (disks (store_content g a))) (sym c.table)
         (done_next h (g.area a) (g.area b) (StoreLeaves g a) (StoreLeaves g b) ok k.ready (λ image at. inr (k.told, k.usable, at)) (commit_made g change ok refl refl k.told c stop))
 
+    -- as a step of the collector
+    pub gc_end : IsTold g a m → ((v : VolumeTable) (image : ℕ → List ℕ) → g.leaves b v image → IsEitherOf (stored g a) change v image) → (ok : Type 0) → StoreDoes g Gc a m b ended ok
+    unfolding disks_next
+    gc_end k stop ok = done_end k stop ok
+
   -- the commit failed
   pub failed_end : IsTold g a m → {b : S} (n : Memory) (ok : Type 0) → (ok → ⊥) → FailsToCommit g a b
-      → ((v : VolumeTable) (image : ℕ → List ℕ) → g.leaves b v image → IsEitherOf (stored g a) change v image) → StoreDoes g Gc a m b n ok
-  unfolding disks_next
+      → ((v : VolumeTable) (image : ℕ → List ℕ) → g.leaves b v image → IsEitherOf (stored g a) change v image)
+      → HasDone (g.site a) (tab g a) (tab g b) (g.area a) (g.area b) (known n) (StoreLeaves g a) (StoreLeaves g b) ok (disks (store_content g a))
   failed_end k {b} n ok never fails stop = only_crash never (done_next h (g.area a) (g.area b) (StoreLeaves g a) (StoreLeaves g b) ok k.ready (λ image at. inr (k.told, k.usable, at))
       (commit_failed g change ok never refl refl k.told fails stop)).crash
+
+  pub gc_failed : IsTold g a m → {b : S} (n : Memory) (ok : Type 0) → (ok → ⊥) → FailsToCommit g a b
+      → ((v : VolumeTable) (image : ℕ → List ℕ) → g.leaves b v image → IsEitherOf (stored g a) change v image) → StoreDoes g Gc a m b n ok
+  unfolding disks_next
+  gc_failed k n ok never fails stop = failed_end k n ok never fails stop

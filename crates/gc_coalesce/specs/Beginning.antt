@@ -1,19 +1,24 @@
--- What the beginning of a copy asks of the shape and makes of it, and what the writes before its entry leave (this project's format).
-use Rattle.std.specs.Prelude.{◌≡◌, ◌≤◌, ◌⊎◌, ℕ, max, true, List, Option, None, Some}
+-- What the beginning of a copy, of a hidden image or of a leaf, asks of the shape and makes of it, and what the writes before its entry leave (this project's format).
+use Rattle.std.specs.Prelude.{◌≡◌, ◌≢◌, ◌-◌, ◌≤◌, ◌⊎◌, ◌++◌, ℕ, max, Bool, true, false, length, List, Option, None, Some}
 use Rattle.common_laws.specs.Lists.{In}
 use Rattle.sm_base.specs.declared.names.Name.{Name}
+use Rattle.sm_base.specs.declared.names.Name.TheVariants.{Coalesce, Leaf}
 use Rattle.sm_base.specs.declared.operations.Op.TheVariants as op
+use Rattle.sm_base.specs.declared.operations.Plan.{Plan}
+use Rattle.sm_base.specs.declared.operations.Plan.TheVariants as plan
 use Rattle.sm_disk.specs.Held.{Allows, Held}
-use Rattle.vg_meta.specs.Tables.{VolumeTable}
+use Rattle.vg_meta.specs.Tables.{VolumeTable, extents_of, rows}
+use Rattle.vg_extents.specs.Fits.{AreLeastFree}
 use Rattle.vg_volumes.specs.Sites.{Site, area_size}
 use Rattle.vhd_chain.specs.declared.rows.TreeRow.{TreeRow}
 use Rattle.vhd_image.specs.Bodies.{sector_count}
 use Rattle.sm_machine.specs.Collector.{count_either, size_of}
 use Rattle.sm_machine.specs.Disks.{Disk}
-use Rattle.sm_machine.specs.Shapes.{ImageRow, Shape, is_vhd, on_image, risen, thin_in, top}
+use Rattle.sm_machine.specs.Shapes.{ImageRow, Shape, attached_as, image_uuid, is_vhd, on_image, risen, thin_in, top}
 use Rattle.sm_run.specs.Between.{IsStill}
 use Rattle.sm_standing.specs.Keeping.{IsKept}
 use Rattle.sm_standing.specs.Standing.{disks}
+use Rattle.gc_coalesce.specs.Copying.{copy_of}
 use Rattle.sm_ready.specs.Stores.{Leaving, MayShow, content_in}
 
 -- how many sectors the image behind a row has
@@ -21,8 +26,18 @@ abbrev pub sectors_of : Option TreeRow → ℕ
 sectors_of None = 0
 sectors_of (Some r) = sector_count r.image
 
--- no operation runs; a hidden VHD image v is the only one that reads through p, a VHD image that has room for the blocks of both, or
--- a raw one as large as v
+-- the step that begins to copy v into p, by whether v is hidden or a leaf
+abbrev pub begins : Bool → Name → Name → ℕ → Plan
+begins true v p to = plan.Begin v p to
+begins false v p to = plan.Leaf v p to
+
+-- the journal entry of the copy
+abbrev pub copy_entry : Bool → Name → Name → Name
+copy_entry true v p = Coalesce (image_uuid v) (image_uuid p)
+copy_entry false v p = Leaf (image_uuid v) (image_uuid p)
+
+-- no operation runs; a VHD image v is the only one that reads through p, a VHD image that has room for the blocks of both, or a raw
+-- one as large as v
 pub record CanEnter (s : Shape) (v p : Name) : Type 0 where
   pub child : ImageRow
   pub parent : ImageRow
@@ -30,7 +45,6 @@ pub record CanEnter (s : Shape) (v p : Name) : Type 0 where
   pub parent_there : In parent s.images
   pub child_named : child.name ≡ v
   pub parent_named : parent.name ≡ p
-  pub hidden : child.hidden ≡ true
   pub vhd : is_vhd v ≡ true
   pub linked : child.parent ≡ Some p
   pub only : (i : ImageRow) → In i s.images → i.parent ≡ Some p → i ≡ child
@@ -38,13 +52,31 @@ pub record CanEnter (s : Shape) (v p : Name) : Type 0 where
   pub room : is_vhd p ≡ true → thin_in s (max (top parent.slots) (count_either parent.slots child.slots)) ≤ parent.extents
   pub idle : s.op ≡ op.Idle
 
+-- v is hidden; or else it is a disk's leaf that is not attached, and p is a VHD image
+pub record CanBegin (s : Shape) (hidden : Bool) (v p : Name) : Type 0 where
+  pub pair : CanEnter s v p
+  pub shown : pair.child.hidden ≡ hidden
+  pub leaf : hidden ≡ false → (is_vhd p ≡ true) × (attached_as (image_uuid v) s ≡ None)
+
 -- the parent has the child's size
 abbrev pub raised : Name → Name → Shape → Shape
 raised child parent s = record s { images = on_image parent (λ i. record i { size = size_of child s }) s.images }
 
 -- and the copy has begun, by one commit
-abbrev pub entered : Name → Name → Shape → Shape
-entered child parent s = record s { sequence = risen s.sequence 1; images = (raised child parent s).images; op = op.Copy child parent 0 }
+abbrev pub entered : Bool → Name → Name → Shape → Shape
+entered hidden child parent s = record s { sequence = risen s.sequence 1; images = (raised child parent s).images; op = copy_of hidden child parent 0 }
+
+-- each volume has the extents that it had
+abbrev pub KeepsExtents : VolumeTable → VolumeTable → Type 0
+KeepsExtents t next = (n : Name) → extents_of (rows next n) ≡ extents_of (rows t n)
+
+-- the volume of this name has the extents that it had, and then, where they were fewer than this number, the least free ones, as many
+-- as were wanting; each other volume has those that it had
+pub record IsWidened (count : ℕ) (t : VolumeTable) (n : Name) (to : ℕ) (next : VolumeTable) : Type 0 where
+  pub more : List ℕ
+  pub least : AreLeastFree count (to - length (extents_of (rows t n))) t more
+  pub extents : extents_of (rows next n) ≡ extents_of (rows t n) ++ more
+  pub others : (x : Name) → x ≢ n → extents_of (rows next x) ≡ extents_of (rows t x)
 
 -- whatever a stop leaves of this area, while the table stands, is kept and shows these disks
 pub record LeavesStill (s : Site) (t : VolumeTable) (area : Held) (before : Leaving) (ds : List Disk) : Type 0 where

@@ -1,3 +1,5 @@
 pub mod Beginning
 pub mod Blocks
 pub mod Copying
+pub mod Ending
+pub mod Syncing

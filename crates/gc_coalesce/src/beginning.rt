@@ -1,10 +1,10 @@
-//! An image begins to be folded into its parent.
+//! An image begins to be folded into its parent: a hidden image, or the leaf of a disk that is not attached.
 //!
 //! Before the operation's entry is put, its parent gets what the operation asks for: extents for the blocks of both images, and the
 //! child's size. Neither changes a disk, since the parent is hidden and has no other child. So a stop before the entry leaves the
 //! disks from before, and behind it too, as nothing is copied yet. The entry's commit makes the parent's new footers last.
 
-ghost use Rattle.std.specs.Prelude.{◌≡◌, ◌≤◌, ◌<◌, ℕ, List, IsSome, IsTrue, false, OnErr, OnOk};
+ghost use Rattle.std.specs.Prelude.{◌≡◌, ◌≤◌, ◌<◌, ℕ, List, IsSome, true, false, OnErr, OnOk};
 ghost use Rattle.std.specs.declared.result.Result.TheVariants.{Ok, Err};
 ghost use Rattle.sm_base.specs.declared.faults.CallFault.TheVariants as fault;
 ghost use Rattle.sm_base.specs.declared.operations.Op.TheVariants as op;
@@ -15,7 +15,6 @@ ghost use Rattle.vg_meta.specs.Roomy.{table_alone};
 ghost use Rattle.vg_volumes.specs.Stored.{Counts, Leaves, OnlyReads, Stays};
 ghost use Rattle.vhd_chain.specs.Trees.{tree_row};
 ghost use Rattle.sm_machine.specs.Collector.{next_step};
-ghost use Rattle.sm_machine.specs.Shapes.{image_uuid as uuid_in};
 ghost use Rattle.sm_machine.specs.WellFormed.{is_image_name};
 ghost use Rattle.sm_machine.specs.declared.commands.Command.TheVariants as command;
 ghost use Rattle.sm_standing.specs.Standing.{disks};
@@ -26,30 +25,20 @@ ghost use Rattle.sm_ready.specs.Known.{known};
 ghost use Rattle.sm_ready.specs.Ready.{IsReady};
 ghost use Rattle.sm_ready.specs.Sessions.{HasRows, HasTreeRoom, IsOrderlyStore, IsReadyStore, IsTidyStore};
 ghost use Rattle.sm_ready.specs.Stores.{StoreLeaves, content_now, store_content};
-ghost use Rattle.gc_coalesce.specs.Beginning.{CanEnter, LeavesStill, entered, raised, sectors_of};
+ghost use Rattle.gc_coalesce.specs.Beginning.{CanBegin, CanEnter, IsWidened, KeepsExtents, LeavesStill, begins, copy_entry as entry_in, entered, raised, sectors_of};
+ghost use Rattle.gc_coalesce.specs.Copying.{copy_of};
 
+use crate::ending::{copy_entry, leaf_entry, uuid_of};
 use sm_base::{CallFault, Failed, Name, NoMemory, Op};
 use sm_journal::put;
 use sm_ready::Memory;
 use sm_space::inflate;
 use std::alloc::Global;
-use uuid::Uuid;
 use vg_volumes::Store;
 use vhd_chain::Tree;
 
 /// The most rows that a table may come to have: those of 500 images, of the volume of records, and of 4 journal entries.
 const MOST_ROWS: usize = 505;
-
-/// The UUID in the name of an image.
-fn image_uuid(name: &Name) -> Uuid
-    requires { IsTrue (is_image_name name.now) }
-    ensures { result ≡ uuid_in name.now }
-{
-    match name {
-        Name::Vhd(uuid) | Name::Raw(uuid) => *uuid,
-        _ => unreachable!(),
-    }
-}
 
 /// The size of an image, in sectors.
 fn size_of(tree: &Tree, name: &Name) -> u64
@@ -114,10 +103,44 @@ fn raise<S: Store>(
     Ok(())
 }
 
+/// The journal entry of the copy.
+fn entry_for(hidden: bool, child: &Name, parent: &Name) -> Name
+    requires child { is_image_name child.now ≡ true }
+    requires parent { is_image_name parent.now ≡ true }
+    ensures { result ≡ entry_in hidden child.now parent.now }
+{
+    if hidden {
+        copy_entry(child, parent)
+    } else {
+        leaf_entry(child, parent)
+    }
+}
+
+/// The copy, of which nothing is done yet.
+fn first(hidden: bool, child: &Name, parent: &Name) -> Op
+    ensures { result ≡ copy_of hidden child.now parent.now 0 }
+{
+    let parent = *parent;
+    if hidden {
+        Op::Copy {
+            child: *child,
+            parent,
+            cursor: 0,
+        }
+    } else {
+        Op::Leaf {
+            leaf: *child,
+            parent,
+            cursor: 0,
+        }
+    }
+}
+
 /// Gives the parent's image the size of its only child, and puts the operation's entry, for which the table has a row.
 fn enter<S: Store>(
     store: &mut S,
     memory: &mut Memory,
+    hidden: bool,
     child: &Name,
     parent: &Name,
 ) -> Result<(), Failed>
@@ -126,7 +149,7 @@ fn enter<S: Store>(
     requires tidy { IsTidyStore S.Store store.old memory.old }
     requires true_now { HasTrueImages S.Store store.old memory.old }
     requires row { 0 < (S.table store.old).spare }
-    requires can { CanEnter (store_shape S.Store store.old memory.old) child.now parent.now }
+    requires can { CanBegin (store_shape S.Store store.old memory.old) hidden child.now parent.now }
     ensures site { S.site store.new ≡ S.site store.old }
     ensures counts { S.faults store.old ≤ S.faults store.new }
     ensures cause { Counts S.Store result store.old store.new }
@@ -134,28 +157,81 @@ fn enter<S: Store>(
     ensures few { HasCommits 1 (table_alone (S.table store.old)) (table_alone (S.table store.new)) }
     ensures few_left { Leaves S.Store store.new (λ t image. HasCommits 1 (table_alone (S.table store.old)) t) }
     ensures usable_still { OnOk result (S.failed store.new ≡ false) }
-    ensures operation { OnOk result (memory.new.operation ≡ op.Copy child.now parent.now 0) }
+    ensures operation { OnOk result (memory.new.operation ≡ copy_of hidden child.now parent.now 0) }
     ensures others { (memory.new.records ≡ memory.old.records) × (memory.new.attached ≡ memory.old.attached) }
     ensures room { HasRows (S.table store.old) → OnOk result (HasRows (S.table store.new)) }
     ensures tree_room { HasTreeRoom memory.old → HasTreeRoom memory.new }
     ensures orderly_still { OnOk result (IsOrderlyStore S.Store store.new memory.new) }
     ensures tidy_still { OnOk result (IsTidyStore S.Store store.new memory.new) }
     ensures true_still { OnOk result (HasTrueImages S.Store store.new memory.new) }
-    ensures shape { OnOk result (store_shape S.Store store.new memory.new ≡ entered child.now parent.now (store_shape S.Store store.old memory.old)) }
+    ensures extents { OnOk result (KeepsExtents (table_alone (S.table store.old)) (table_alone (S.table store.new))) }
+    ensures shape { OnOk result (store_shape S.Store store.new memory.new ≡ entered hidden child.now parent.now (store_shape S.Store store.old memory.old)) }
     ensures done { S.told → IsReadyStore S.Store store.old memory.old
         → HasDone (S.site store.old) (table_alone (S.table store.old)) (table_alone (S.table store.new)) (S.area store.old) (S.area store.new) (known memory.new)
         (StoreLeaves S.Store store.old) (StoreLeaves S.Store store.new) (result ≡ Ok tt) (disks (store_content S.Store store.old)) }
 {
-    let entry = Name::Coalesce {
-        child: image_uuid(child),
-        parent: image_uuid(parent),
-    };
+    let entry = entry_for(hidden, child, parent);
     raise(store, memory, child, parent)?;
     put(store, entry)?;
-    memory.operation = Op::Copy {
-        child: *child,
-        parent: *parent,
-        cursor: 0,
+    memory.operation = first(hidden, child, parent);
+    Ok(())
+}
+
+/// Begins to fold an image into its parent, by whether it is hidden or a leaf: the parent's volume gets so many extents where it has
+/// fewer, the least that are free; the parent gets the image's size where it is smaller; and the operation's entry is put.
+fn fold<S: Store>(
+    alloc: Global,
+    store: &mut S,
+    memory: &mut Memory,
+    hidden: bool,
+    child: &Name,
+    parent: &Name,
+    to: u32,
+) -> Result<(), CallFault>
+    requires usable { S.failed store.old ≡ false }
+    requires orderly { IsOrderlyStore S.Store store.old memory.old }
+    requires tidy { IsTidyStore S.Store store.old memory.old }
+    requires true_now { HasTrueImages S.Store store.old memory.old }
+    requires tree_room { HasTreeRoom memory.old }
+    requires planned { next_step (store_shape S.Store store.old memory.old) ≡ begins hidden child.now parent.now to }
+    ensures site { S.site store.new ≡ S.site store.old }
+    ensures counts { S.faults store.old ≤ S.faults store.new }
+    ensures cause { result ≡ Err fault.Device → Rose (S.faults store.old) (S.faults store.new) }
+    ensures beside { S.told → Keeps (S.beside store.old) (S.beside store.new) }
+    ensures few { HasCommits 4 (table_alone (S.table store.old)) (table_alone (S.table store.new)) }
+    ensures few_left { Leaves S.Store store.new (λ t image. HasCommits 4 (table_alone (S.table store.old)) t) }
+    ensures usable_still { OnOk result (S.failed store.new ≡ false) }
+    ensures poor { result ≡ Err fault.NoMemory
+        → OnlyReads S.Store store.old store.new × ((t : VolumeTable) (image : ℕ → List ℕ) → S.leaves store.new t image → S.leaves store.old t image)
+        × (memory.new ≡ memory.old) × (S.failed store.new ≡ false) }
+    ensures true_poor { result ≡ Err fault.NoMemory → HasTrueImages S.Store store.new memory.new }
+    ensures operation { OnOk result (memory.new.operation ≡ copy_of hidden child.now parent.now 0) }
+    ensures others { (memory.new.records ≡ memory.old.records) × (memory.new.attached ≡ memory.old.attached) }
+    ensures room { HasRows (S.table store.old) → OnOk result (HasRows (S.table store.new)) }
+    ensures tree_room_still { OnOk result (HasTreeRoom memory.new) }
+    ensures orderly_still { OnOk result (IsOrderlyStore S.Store store.new memory.new) }
+    ensures tidy_still { OnOk result (IsTidyStore S.Store store.new memory.new) }
+    ensures true_still { OnOk result (HasTrueImages S.Store store.new memory.new) }
+    ensures least { OnOk result (IsWidened (S.site store.old).count (table_alone (S.table store.old)) parent.now to (table_alone (S.table store.new))) }
+    ensures shape { OnOk result (ShapesAs S.Store command.Gc store.old memory.old store.new memory.new) }
+    ensures done { S.told → IsReadyStore S.Store store.old memory.old → StoreDoes S.Store command.Gc store.old memory.old store.new memory.new (result ≡ Ok tt) }
+{
+    let Some(row) = memory.tree.get(parent) else {
+        unreachable!()
+    };
+    let had = row.extents;
+    let Ok(()) = make_room(store) else {
+        return Err(CallFault::NoMemory);
+    };
+    if to <= had {
+        let Ok(()) = enter(store, memory, hidden, child, parent) else {
+            return Err(CallFault::Device);
+        };
+        return Ok(());
+    }
+    inflate(alloc, store, memory, &uuid_of(parent), to)?;
+    let Ok(()) = enter(store, memory, hidden, child, parent) else {
+        return Err(CallFault::Device);
     };
     Ok(())
 }
@@ -199,25 +275,53 @@ pub fn begin<S: Store>(
     ensures orderly_still { OnOk result (IsOrderlyStore S.Store store.new memory.new) }
     ensures tidy_still { OnOk result (IsTidyStore S.Store store.new memory.new) }
     ensures true_still { OnOk result (HasTrueImages S.Store store.new memory.new) }
+    ensures least { OnOk result (IsWidened (S.site store.old).count (table_alone (S.table store.old)) parent.now to (table_alone (S.table store.new))) }
     ensures shape { OnOk result (ShapesAs S.Store command.Gc store.old memory.old store.new memory.new) }
     ensures done { S.told → IsReadyStore S.Store store.old memory.old → StoreDoes S.Store command.Gc store.old memory.old store.new memory.new (result ≡ Ok tt) }
 {
-    let Some(row) = memory.tree.get(parent) else {
-        unreachable!()
-    };
-    let had = row.extents;
-    let Ok(()) = make_room(store) else {
-        return Err(CallFault::NoMemory);
-    };
-    if to <= had {
-        let Ok(()) = enter(store, memory, child, parent) else {
-            return Err(CallFault::Device);
-        };
-        return Ok(());
-    }
-    inflate(alloc, store, memory, &image_uuid(parent), to)?;
-    let Ok(()) = enter(store, memory, child, parent) else {
-        return Err(CallFault::Device);
-    };
-    Ok(())
+    fold(alloc, store, memory, true, child, parent, to)
+}
+
+/// Begins to fold the leaf of a disk that is not attached into its parent, as `begin` does a hidden image.
+///
+/// # Errors
+///
+/// Those of `begin`; a stop leaves the disks from before.
+pub fn begin_leaf<S: Store>(
+    alloc: Global,
+    store: &mut S,
+    memory: &mut Memory,
+    leaf: &Name,
+    parent: &Name,
+    to: u32,
+) -> Result<(), CallFault>
+    requires usable { S.failed store.old ≡ false }
+    requires orderly { IsOrderlyStore S.Store store.old memory.old }
+    requires tidy { IsTidyStore S.Store store.old memory.old }
+    requires true_now { HasTrueImages S.Store store.old memory.old }
+    requires tree_room { HasTreeRoom memory.old }
+    requires planned { next_step (store_shape S.Store store.old memory.old) ≡ plan.Leaf leaf.now parent.now to }
+    ensures site { S.site store.new ≡ S.site store.old }
+    ensures counts { S.faults store.old ≤ S.faults store.new }
+    ensures cause { result ≡ Err fault.Device → Rose (S.faults store.old) (S.faults store.new) }
+    ensures beside { S.told → Keeps (S.beside store.old) (S.beside store.new) }
+    ensures few { HasCommits 4 (table_alone (S.table store.old)) (table_alone (S.table store.new)) }
+    ensures few_left { Leaves S.Store store.new (λ t image. HasCommits 4 (table_alone (S.table store.old)) t) }
+    ensures usable_still { OnOk result (S.failed store.new ≡ false) }
+    ensures poor { result ≡ Err fault.NoMemory
+        → OnlyReads S.Store store.old store.new × ((t : VolumeTable) (image : ℕ → List ℕ) → S.leaves store.new t image → S.leaves store.old t image)
+        × (memory.new ≡ memory.old) × (S.failed store.new ≡ false) }
+    ensures true_poor { result ≡ Err fault.NoMemory → HasTrueImages S.Store store.new memory.new }
+    ensures operation { OnOk result (memory.new.operation ≡ op.Leaf leaf.now parent.now 0) }
+    ensures others { (memory.new.records ≡ memory.old.records) × (memory.new.attached ≡ memory.old.attached) }
+    ensures room { HasRows (S.table store.old) → OnOk result (HasRows (S.table store.new)) }
+    ensures tree_room_still { OnOk result (HasTreeRoom memory.new) }
+    ensures orderly_still { OnOk result (IsOrderlyStore S.Store store.new memory.new) }
+    ensures tidy_still { OnOk result (IsTidyStore S.Store store.new memory.new) }
+    ensures true_still { OnOk result (HasTrueImages S.Store store.new memory.new) }
+    ensures least { OnOk result (IsWidened (S.site store.old).count (table_alone (S.table store.old)) parent.now to (table_alone (S.table store.new))) }
+    ensures shape { OnOk result (ShapesAs S.Store command.Gc store.old memory.old store.new memory.new) }
+    ensures done { S.told → IsReadyStore S.Store store.old memory.old → StoreDoes S.Store command.Gc store.old memory.old store.new memory.new (result ≡ Ok tt) }
+{
+    fold(alloc, store, memory, false, leaf, parent, to)
 }

@@ -1,30 +1,33 @@
 //! The steps of the collector that coalesce images, one function a step: a hidden image is copied into its parent, block by block, then
-//! each image that reads through it is linked to the parent, and then nothing reads through it and it goes.
+//! each image that reads through it is linked to the parent, and then nothing reads through it and it goes. The leaf of a disk that is
+//! not attached is copied into its parent in the same way.
 //!
 //! **What is kept here.** Nothing: each call works on a store and on what a session has in memory.
 //!
 //! **What it is.** Each call is asked only where it is the machine's next step of the shape in memory (`planned`: `next_step` of
-//! `sm_machine`), and leaves the shape that the machine has behind `gc` (`shape`), its commits counted.
+//! `sm_machine`), and leaves the shape that the machine has behind `gc` (`shape`), its commits counted. `abandon_leaf` alone is no step:
+//! a command on the leaf's disk begins with it, and it leaves the shape without the operation.
 //!
 //! **What it promises.** No call changes a disk. At every return, success and failure alike, whatever a stop leaves is kept and shows
 //! the disks from before (`done`); behind a call that succeeded nothing is pending, table and memory are orderly, and each image in
 //! memory is true of its volume. `remove` takes a hidden image without children away. `begin` gives the parent extents for the blocks of
 //! both, where it has too few (the least free ones, under a journal entry of their own), and the image's size, where it is smaller, and
-//! then puts the operation's entry. `copy_block` copies what the image holds of one block: the parent changes only in sectors that the
-//! image holds (`masked`). `turn` puts the entry of a link in place of that of a copy, once no block is left. `relink_one` links the
-//! least child to the parent; its users are counted anew. `finish` takes the entry away once no child is left, and `abandon` that of a
-//! copy whose image has lost its children. An opening that finds children half linked goes on with `relink_one` and `finish`: so these
-//! ask nothing of new volumes and stray records.
+//! then puts the operation's entry; `begin_leaf` does so for a leaf. `copy_block` copies what the image, hidden or a leaf, holds of one
+//! block: the parent changes only in sectors that the image holds (`masked`). `turn` puts the entry of a link in place of that of a copy,
+//! once no block is left. `relink_one` links the least child to the parent; its users are counted anew. `finish` takes the entry away
+//! once no child is left, `abandon` that of a copy whose image has lost its children, and `abandon_leaf` that of the copy of a leaf. An
+//! opening that finds children half linked goes on with `relink_one` and `finish`: so these ask nothing of new volumes and stray records.
 //!
 //! **In which units.** Extents are counted; blocks are counted from 0.
 //!
-//! **What it costs.** `remove`, `abandon`, `turn` and `finish` are one commit each. `begin` is one commit, and three more where the parent
-//! gets extents; it alone takes memory, all of it before its first write. `copy_block` syncs before its first write and after its last,
-//! and reads and writes each run of held sectors once; a write to sectors that the parent did not hold makes one sync more (`vhd_write`);
-//! it borrows two buffers of the pool. `relink_one` reads two sectors and writes one, between two syncs.
+//! **What it costs.** `remove`, `abandon`, `abandon_leaf`, `turn` and `finish` are one commit each. `begin` and `begin_leaf` are one
+//! commit, and three more where the parent gets extents; they alone take memory, all of it before the first write. `copy_block` syncs
+//! before its first write and after its last, and reads and writes each run of held sectors once; a write to sectors that the parent did
+//! not hold makes one sync more (`vhd_write`); it borrows two buffers of the pool. `relink_one` reads two sectors and writes one, between
+//! two syncs.
 //!
 //! The definitions are in `specs/`: `Beginning` (when an operation may be entered, and what that makes of the shape), `Copying` (the cursor,
-//! and what a copy leaves of the parent), `Blocks` (one block of the child in the parent).
+//! and what a copy leaves of the parent), `Blocks` (one block of the child in the parent), `Ending` (a leaf's operation given up).
 #![tactic(auto)]
 
 mod beginning;
@@ -34,8 +37,8 @@ mod ending;
 mod linking;
 mod removing;
 
-pub use beginning::begin;
+pub use beginning::{begin, begin_leaf};
 pub use copying::copy_block;
-pub use ending::{abandon, finish, turn};
+pub use ending::{abandon, abandon_leaf, finish, turn};
 pub use linking::relink_one;
 pub use removing::remove;

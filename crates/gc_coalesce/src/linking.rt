@@ -11,6 +11,7 @@ ghost use Rattle.sm_machine.specs.declared.commands.Command.TheVariants as comma
 ghost use Rattle.sm_ready.specs.Does.{ShapesAs, StoreDoes, store_shape};
 ghost use Rattle.sm_ready.specs.Frames.{HasCommits, HasTrueImages};
 ghost use Rattle.sm_ready.specs.Sessions.{HasRows, IsOrderlyStore, IsReadyStore, IsTidyStore};
+ghost use Rattle.gc_coalesce.specs.Syncing.{LeavesSynced};
 
 use sm_base::{Failed, Name, Op};
 use sm_ready::Memory;
@@ -46,6 +47,7 @@ pub fn relink_one<S: Store>(store: &mut S, memory: &mut Memory, child: &Name) ->
     ensures true_still { OnOk result (HasTrueImages S.Store store.new memory.new) }
     ensures shape { OnOk result (ShapesAs S.Store command.Gc store.old memory.old store.new memory.new) }
     ensures done { S.told → IsReadyStore S.Store store.old memory.old → StoreDoes S.Store command.Gc store.old memory.old store.new memory.new (result ≡ Ok tt) }
+    ensures first { LeavesSynced S.Store child.now store.old store.new }
 {
     let Op::Relink { child: out, parent } = memory.operation else {
         unreachable!()

@@ -35,6 +35,7 @@ pub fn remove<S: Store>(store: &mut S, memory: &mut Memory, name: &Name) -> Resu
     ensures beside { S.told → Keeps (S.beside store.old) (S.beside store.new) }
     ensures few { HasCommits 1 (table_alone (S.table store.old)) (table_alone (S.table store.new)) }
     ensures few_left { Leaves S.Store store.new (λ t image. HasCommits 1 (table_alone (S.table store.old)) t) }
+    ensures keeps { S.told → Keeps (S.area store.old) (S.area store.new) }
     ensures usable_still { OnOk result (S.failed store.new ≡ false) }
     ensures others { StaysInUse memory.old memory.new }
     ensures room { HasRows (S.table store.old) → OnOk result (HasRows (S.table store.new)) }

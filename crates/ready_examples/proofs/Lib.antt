@@ -6,9 +6,11 @@ pub mod RecordSteps
 pub mod PlainOrderly
 pub mod PlainReady
 pub mod PairOrderly
+pub mod ChainOrderly
 pub mod CopyOrderly
+pub mod LinkOrderly
 pub mod PairReady
-pub mod CopyReady
+pub mod ChainReady
 pub mod TableFails
 pub mod MemoryFails
 pub mod SectorFails

@@ -22,7 +22,9 @@ use Rattle.sm_stages.specs.Worked.{first, second, base}
 use Rattle.ready_examples.specs.FailingMemory.{four_slots, tight_known}
 use Rattle.ready_examples.specs.FailingTables.{tight_table}
 use Rattle.ready_examples.specs.WorkedRows.{site, sizes}
-use Rattle.ready_examples.proofs.CopyOrderly.{copying_has_shape, copying_stands, copying_well_formed}
+use Rattle.ready_examples.specs.Repositories.{copy}
+use Rattle.ready_examples.proofs.ChainOrderly.{chain_has_shape, chain_stands, chain_well_formed}
+use Rattle.ready_examples.proofs.CopyOrderly.{copy_runs}
 use Rattle.ready_examples.proofs.SlotSteps.{front_within}
 use Rattle.ready_examples.proofs.TableSteps.{each, below_by, distinct_by, first_uuid, second_uuid, base_uuid_right, face_step}
 
@@ -71,8 +73,8 @@ tight_only h = record {
   images = tight_faces;
   places = refl;
   entries = refl;
-  stands = copying_stands four_slots 1 refl (front_within (Some 0 ∷ Some 1 ∷ Some 2 ∷ Some 3 ∷ []) 60 (lit≤ tt)) four_room (lit< tt);
-  well_formed = ∣ subst IsWellFormed (sym (copying_has_shape four_slots 1 tight_table refl)) (copying_well_formed four_slots 1 refl (lit< tt) (lit≤ tt)) ∣₁;
+  stands = chain_stands four_slots 1 refl (front_within (Some 0 ∷ Some 1 ∷ Some 2 ∷ Some 3 ∷ []) 60 (lit≤ tt)) four_room (lit< tt);
+  well_formed = ∣ subst IsWellFormed (sym (chain_has_shape copy four_slots 1 tight_table refl)) (chain_well_formed copy four_slots 1 refl (lit< tt) (lit≤ tt) (copy_runs four_slots 1)) ∣₁;
   roomy = h;
   counts = λ n. refl;
 }

@@ -1,10 +1,9 @@
 -- Memory and sectors that fail one field of the invariant of the sectors.
 use Rattle.std.proofs.Common.{◌≡◌, ◌≢◌, inl, inr, ℕ, zero, suc, ◌+◌, ◌*◌, ◌<◌, false, cond, List, [], ◌∷◌, get_or, codes, Some, refl, sym, ap, ◌∙◌, arith, lit≤, lit<}
 use Rattle.std.proofs.lemmas.Bool.{ne_eqb}
-use Rattle.std.proofs.lemmas.Option.{same_Some}
 use Rattle.common_laws.specs.Lists.{In, numbers}
 use Rattle.sm_base.specs.Numbers.{first as first_sector, div_up}
-use Rattle.sm_base.specs.declared.names.Name.TheVariants.{Raw, Vhd}
+use Rattle.sm_base.specs.declared.names.Name.TheVariants.{Raw, Vhd, Coalesce, Relink}
 use Rattle.sm_disk.specs.Held.{newest, reads}
 use Rattle.sm_disk.specs.Sectors.{zeros}
 use Rattle.sm_machine.specs.Shapes.{image_uuid, same_image}
@@ -27,19 +26,17 @@ use Rattle.sm_ready.specs.Known.{shape_in}
 use Rattle.sm_ready.specs.Orderly.{IsOrderly}
 use Rattle.sm_ready.specs.Ready.{IsBelow, IsReady, is_written_in}
 use Rattle.sm_ready.specs.Stores.{content_now}
-use Rattle.sm_stages.specs.Moments.{top, filled}
-use Rattle.sm_stages.specs.Worked.{first, second, first_record}
-use Rattle.sm_stages.specs.WorkedImages.{top_image, sector_of}
+use Rattle.sm_stages.specs.Worked.{first, second, base, first_record}
+use Rattle.sm_stages.specs.WorkedImages.{top_image}
 use Rattle.sm_stages.proofs.ForkExample.{first_right}
 use Rattle.sm_stages.proofs.PlacedLaws.{area_records}
-use Rattle.sm_stages.proofs.WorkedDisks.{filled_held, top_held}
 use Rattle.layout_examples.specs.SmallImages.{empty}
 use Rattle.layout_examples.proofs.SmallImageLaws.{sector_in}
 use Rattle.ready_examples.specs.FailingMemory.{forgotten_known, relabelled_known}
 use Rattle.ready_examples.specs.FailingSectors.{uncopied_area, unsynced_area}
-use Rattle.ready_examples.specs.Repositories.{copy, copy_table, copy_known, labelled, plain_table, plain_known, plain_rows, plain_image, plain_area, raw_record, written_area}
+use Rattle.ready_examples.specs.Repositories.{copy, copy_table, copy_known, link, link_table, link_known, labelled, plain_table, plain_known, plain_rows, plain_image, plain_area, raw_record, written_area}
 use Rattle.ready_examples.specs.WorkedRows.{sizes, site, no_slots, first_slot, top_head}
-use Rattle.ready_examples.proofs.CopyReady.{between_there, base_there, ready_where}
+use Rattle.ready_examples.proofs.ChainReady.{not_held_below, ready_where}
 use Rattle.ready_examples.proofs.PlainOrderly.{orderly_with, stand_right}
 use Rattle.ready_examples.proofs.PlainReady.{plain_holds, plain_place, plain_ready, raw_right, written_ready, written_not_quiet}
 use Rattle.ready_examples.proofs.RecordSteps.{records_agree}
@@ -98,15 +95,18 @@ loose_fails h = written_not_quiet (h _ (inr (inl refl)) unwritten)
 -- ---- a cursor past a block that the base holds otherwise
 
 pub uncopied_only : IsBelow (content_now site copy_table uncopied_area) copy → IsReady site copy_table uncopied_area copy_known
-uncopied_only h = ready_where 17 h
+uncopied_only h = ready_where (Coalesce second base) refl 17 copy h
 
 pub uncopied_fails : ¬ IsBelow (content_now site copy_table uncopied_area) copy
-uncopied_fails h =
-    let child = same_Some h.child (filled 34) (sym h.image ∙ between_there 17) in
-    let parent = same_Some h.parent (top 17) (sym h.under ∙ base_there 17) in
-    let held = h.held 0 (sector_of 34) (lit< tt) (ap (λ i. i.own 0) child ∙ filled_held) in
-    let same = same_Some (sector_of 17) (sector_of 34) (sym (top_held 17) ∙ ap (λ i. i.own 0) (sym parent) ∙ held) in
-    let bytes : 17 ≡ 34 = ap (λ (s : List ℕ). get_or s 0 0) same in omega (arith, bytes)
+uncopied_fails h = not_held_below (Coalesce second base) refl 17 (λ e. omega (arith, e)) 1 (lit≤ tt) h
+
+-- ---- nor does it under a link
+
+pub unheld_only : IsBelow (content_now site link_table uncopied_area) link → IsReady site link_table uncopied_area link_known
+unheld_only h = ready_where (Relink second base) refl 17 link h
+
+pub unheld_fails : ¬ IsBelow (content_now site link_table uncopied_area) link
+unheld_fails h = not_held_below (Relink second base) refl 17 (λ e. omega (arith, e)) 64 (lit≤ tt) h
 
 -- ---- a label that was not written
 

@@ -5,7 +5,7 @@ use Rattle.sm_record.specs.declared.records.Record.{Record}
 use Rattle.sm_ready.specs.Known.{Known}
 use Rattle.sm_stages.specs.Worked.{first, first_record}
 use Rattle.ready_examples.specs.FailingTables.{third}
-use Rattle.ready_examples.specs.Repositories.{plain_known, known_with, raw_record, copying}
+use Rattle.ready_examples.specs.Repositories.{plain_known, known_with, raw_record, copy, chain_known}
 use Rattle.ready_examples.specs.WorkedRows.{first_slot, no_slots}
 
 -- a place too few
@@ -47,4 +47,4 @@ abbrev pub four_slots : List (Option ℕ)
 four_slots = Some 0 ∷ Some 1 ∷ Some 2 ∷ Some 3 ∷ replicate 60 None
 
 abbrev pub tight_known : Known
-tight_known = copying four_slots 1
+tight_known = chain_known copy four_slots 1

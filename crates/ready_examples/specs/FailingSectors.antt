@@ -3,11 +3,11 @@ use Rattle.std.specs.Prelude.{◌==◌, [], ◌∷◌, if◌then◌else◌}
 use Rattle.sm_disk.specs.Held.{Held}
 use Rattle.sm_disk.specs.Sectors.{zeros}
 use Rattle.sm_ready.specs.Done.{at_rest}
-use Rattle.ready_examples.specs.Repositories.{plain_image, copy_image}
+use Rattle.ready_examples.specs.Repositories.{plain_image, chain_image}
 
--- the base holds other bytes of block 0 than the hidden image, though the cursor is past the block
+-- the base holds other bytes of block 0 than the hidden image, though the cursor of a copy is past the block, or the copy ended
 abbrev pub uncopied_area : Held
-uncopied_area = at_rest (copy_image 17)
+uncopied_area = at_rest (chain_image 17)
 
 -- the record in place 0 was written, and not synced: a stop may leave the place free
 abbrev pub unsynced_area : Held

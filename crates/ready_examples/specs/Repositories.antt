@@ -1,10 +1,12 @@
--- Four worked repositories, each with its table, its memory, its sectors and the machine's shape of it: two disks by
--- themselves; a disk and its snapshot over their base; a copy that is under way; and a disk that a guest writes to. Images
--- lie behind the records, which have extents 0 to 15.
+-- Five worked repositories, each with its table, its memory, its sectors and the machine's shape of it: two disks by
+-- themselves; a disk and its snapshot over their base; a copy that is under way; a link after it; and a disk that a guest
+-- writes to. Images lie behind the records, which have extents 0 to 15.
 use Rattle.std.specs.Prelude.{ℕ, ◌==◌, true, false, List, [], ◌∷◌, replicate, codes, Option, Some, None, if◌then◌else◌}
+use Rattle.sm_base.specs.declared.names.Name.{Name}
+use Rattle.sm_base.specs.declared.names.Name.TheVariants as name
 use Rattle.sm_base.specs.declared.names.Name.TheVariants.{Raw, Vhd, Coalesce}
 use Rattle.sm_base.specs.declared.operations.Op.{Op}
-use Rattle.sm_base.specs.declared.operations.Op.TheVariants.{Idle, Copy}
+use Rattle.sm_base.specs.declared.operations.Op.TheVariants.{Idle, Copy, Relink}
 use Rattle.sm_base.specs.declared.operations.Mode.TheVariants.{Rw}
 use Rattle.common_laws.specs.Lists.{numbers}
 use Rattle.sm_disk.specs.Held.{Held}
@@ -124,52 +126,72 @@ pair_shape = shape_with
     ∷ record { name = Vhd base; hidden = true; parent = None; size = 128; slots = first_slot; extents = 5 }
     ∷ [])
 
--- ---- a copy: a disk lies over a hidden image over a hidden base, and block 0 of the hidden image was copied into the base
+-- ---- a chain: a disk lies over a hidden image over a hidden base, under the entry of an operation
 
-abbrev pub copy_table : VolumeTable
-copy_table = table_with (image_row false (Vhd first) 21
+abbrev pub chain_table : Name → VolumeTable
+chain_table entry = table_with (image_row false (Vhd first) 21
     ∷ image_row true (Vhd second) 26
     ∷ image_row true (Vhd base) 16
-    ∷ record { name = Coalesce second base; hidden = false; fresh = false; extents = [] }
+    ∷ record { name = entry; hidden = false; fresh = false; extents = [] }
     ∷ [])
 
-abbrev pub copy : Op
-copy = Copy (Vhd second) (Vhd base) 1
-
 -- memory with these slots of the hidden image, and so many extents of the base
-abbrev pub copying : List (Option ℕ) → ℕ → Known
-copying slots n = record {
+abbrev pub chain_known : Op → List (Option ℕ) → ℕ → Known
+chain_known operation slots n = record {
   rows = vhd_row false (head_over (Vhd second) first) no_slots
       ∷ vhd_row true (head_over (Vhd base) second) slots
       ∷ record { image = body.Vhd (top_head base) first_slot; hidden = true; extents = n }
       ∷ [];
   places = Some first_record ∷ replicate 511 None;
   attached = unattached;
-  op = copy;
+  op = operation;
 }
 
-abbrev pub copy_known : Known
-copy_known = copying first_slot 5
-
 -- sector 0 of the hidden image is of byte 34, and the base's is of this one
-abbrev pub copy_image : ℕ → ℕ → List ℕ
-copy_image byte = area_of (top_image byte) (empty_child (Vhd second)) (filled_child (Vhd base) 34) (first_record ∷ [])
+abbrev pub chain_image : ℕ → ℕ → List ℕ
+chain_image byte = area_of (top_image byte) (empty_child (Vhd second)) (filled_child (Vhd base) 34) (first_record ∷ [])
 
-abbrev pub copy_area : Held
-copy_area = at_rest (copy_image 34)
+-- the base holds alike what the hidden image holds
+abbrev pub chain_area : Held
+chain_area = at_rest (chain_image 34)
 
-abbrev pub copying_shape : List (Option ℕ) → ℕ → Shape
-copying_shape slots n =
+abbrev pub chain_shape : Op → List (Option ℕ) → ℕ → Shape
+chain_shape operation slots n =
     let s = shape_with
     (record_of first_record ∷ [])
     (record { name = Vhd first; hidden = false; parent = Some (Vhd second); size = 128; slots = no_slots; extents = 5 }
     ∷ record { name = Vhd second; hidden = true; parent = Some (Vhd base); size = 128; slots = slots; extents = 5 }
     ∷ record { name = Vhd base; hidden = true; parent = None; size = 128; slots = first_slot; extents = n }
     ∷ []) in
-    record s { op = copy }
+    record s { op = operation }
+
+-- ---- a copy: block 0 of the hidden image was copied into the base
+
+abbrev pub copy_table : VolumeTable
+copy_table = chain_table (Coalesce second base)
+
+abbrev pub copy : Op
+copy = Copy (Vhd second) (Vhd base) 1
+
+abbrev pub copy_known : Known
+copy_known = chain_known copy first_slot 5
 
 abbrev pub copy_shape : Shape
-copy_shape = copying_shape first_slot 5
+copy_shape = chain_shape copy first_slot 5
+
+-- ---- a link: all of the hidden image was copied into the base, and the disk still lies over the hidden image
+
+abbrev pub link_table : VolumeTable
+link_table = chain_table (name.Relink second base)
+
+abbrev pub link : Op
+link = Relink (Vhd second) (Vhd base)
+
+abbrev pub link_known : Known
+link_known = chain_known link first_slot 5
+
+abbrev pub link_shape : Shape
+link_shape = chain_shape link first_slot 5
 
 -- ---- a guest writes: the two disks, of which the VHD disk is attached for writing. Its sector 0, which stands in sector 5
 -- of its volume, was written again with byte 34, and not synced

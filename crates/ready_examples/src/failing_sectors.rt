@@ -14,7 +14,7 @@ ghost use Rattle.sm_ready.specs.Ready.{IsBelow, IsReady, is_written_in};
 ghost use Rattle.sm_ready.specs.Stores.{content_now};
 ghost use Rattle.ready_examples.specs.FailingMemory.{forgotten_known, relabelled_known};
 ghost use Rattle.ready_examples.specs.FailingSectors.{uncopied_area, unsynced_area};
-ghost use Rattle.ready_examples.specs.Repositories.{copy, copy_table, copy_known, plain_table, plain_known, plain_area, written_area};
+ghost use Rattle.ready_examples.specs.Repositories.{copy, copy_table, copy_known, link, link_table, link_known, plain_table, plain_known, plain_area, written_area};
 ghost use Rattle.ready_examples.specs.WorkedRows.{site, sizes};
 
 /// The volume names a slot that memory does not.
@@ -34,6 +34,13 @@ pub fn example_loose()
 pub fn example_uncopied()
     ensures fails { ¬ IsReady site copy_table uncopied_area copy_known }
     ensures only { IsBelow (content_now site copy_table uncopied_area) copy → IsReady site copy_table uncopied_area copy_known }
+{}
+
+/// The copy was turned into a link, and the parent holds a block otherwise.
+pub fn example_unheld()
+    ensures orderly { IsOrderly site link_table link_known }
+    ensures fails { ¬ IsReady site link_table uncopied_area link_known }
+    ensures only { IsBelow (content_now site link_table uncopied_area) link → IsReady site link_table uncopied_area link_known }
 {}
 
 /// Memory has a label that was not written.

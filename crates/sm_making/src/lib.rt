@@ -10,10 +10,9 @@
 //! they are these and the new one, which reads as zeros. Its extents are the least that are free. A command for which memory is
 //! wanting writes nothing.
 //!
-//! `create_vhd` makes a VHD disk where no cause refuses it, and answers as the machine says of every command, whether a line of
-//! a script reaches it yet or not. Its volume too is marked new until its image and its record are written. The image has no
-//! slots and no parent, so the disk reads as zeros; its unique id is spelled by the table's number after the first commit, and
-//! its footers and its header are told byte for byte.
+//! `create_vhd` makes a VHD disk where no cause refuses it, and answers as the machine says. Its volume too is marked new until its
+//! image and its record are written. The image has no slots and no parent, so the disk reads as zeros; its unique id is spelled by
+//! the table's number after the first commit, and its footers and its header are told byte for byte.
 //!
 //! Each image in memory, the new one too, is true of what its volume holds behind a command that was answered.
 //!

@@ -41,6 +41,6 @@ StoreTakesTo o g command old m new n result =
 abbrev pub StoreTakes : {S : Type 0} → Ghosts S → Command → S → Memory → S → Memory → Result Reply Failed → Type 0
 StoreTakes g command old m new n result = StoreTakesTo (step (store_state g old m) command) g command old m new n result
 
--- to what the machine makes of it, whether a line of a script reaches it yet or not
+-- to what the machine of all commands makes of it, built or not
 abbrev pub StoreTakesWhole : {S : Type 0} → Ghosts S → Command → S → Memory → S → Memory → Result Reply Failed → Type 0
 StoreTakesWhole g command old m new n result = StoreTakesTo (step_whole (store_state g old m) command) g command old m new n result

@@ -14,7 +14,8 @@ use Rattle.sm_machine.specs.Shapes.{chain_limit, same_image}
 use Rattle.common_laws.specs.Lists.{In, given}
 use Rattle.sm_record.specs.declared.records.Record.{Record}
 use Rattle.sm_mgt.specs.Places.{place_count, is_of, as_reading}
-use Rattle.sm_standing.specs.Checks.{record_volume_fault, too_many_fault, misnamed_fault, entry_ahead_fault, second_entry_fault, lost_entry_fault, old_leaf_fault, invalid_fault, tree_fault, entry_link_fault, has_uuid, is_no_larger, children}
+use Rattle.sm_standing.specs.Checks.{record_volume_fault, too_many_fault, misnamed_fault, entry_ahead_fault, second_entry_fault, lost_entry_fault, old_leaf_fault}
+use Rattle.sm_standing.specs.Checks.{invalid_fault, tree_fault, entry_link_fault, has_uuid, is_no_larger, children}
 use Rattle.sm_standing.specs.Outlines.{Outline}
 use Rattle.sm_standing.specs.Entries.{folding_uuids, image_with, is_among, is_coalescing, is_fork_made, is_hidden, is_inflating, is_past, is_there, is_visible}
 use Rattle.sm_standing.specs.Ordered.{uuid_cmp}
@@ -87,7 +88,7 @@ abbrev pub is_old : Name → Bool
 is_old (Old u) = true
 is_old _ = false
 
--- the checks of the images pass: each is valid, and stands in its tree as it should, also where a fork is under way
+-- the checks of the images pass: each is valid, and stands in its tree as it should, also where entries stand
 pub record PassImages (x : Outline) : Type 0 where
   pub valid : invalid_fault x ≡ None
   pub placed : tree_fault x ≡ None
@@ -148,7 +149,7 @@ is_copy_in xs child parent = elim (tree_row xs (Vhd child)) [ None ↦ false | S
 abbrev pub is_link_in : List TreeRow → List ℕ → List ℕ → Bool
 is_link_in xs child parent = elim (tree_row xs (Vhd child)) [ None ↦ false | Some y ↦ has_parent_in xs parent (nat_le (sector_count y.image)) y.image ]
 
--- an entry whose images are linked otherwise than it says: of a fork where the base is there
+-- an entry whose images are linked otherwise than it says: of a fork where the base is there, of a copy or of a link
 abbrev pub is_unlinked_in : VolumeTable → List TreeRow → Name → Bool
 is_unlinked_in t xs (Clone disk base twin) = is_fork_made t disk base twin && not (is_fork_linked_in xs disk base twin)
 is_unlinked_in t xs (Coalesce child parent) = not (is_copy_in xs child parent)

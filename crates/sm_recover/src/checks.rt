@@ -4,7 +4,8 @@ ghost use Rattle.std.specs.Prelude.{◌≡◌, ℕ, ◌*◌, ◌<◌, ◌&&◌, 
 ghost use Rattle.std.specs.Option.{option_copied};
 ghost use Rattle.sm_base.specs.Kinds.{is_image};
 ghost use Rattle.common_laws.specs.Lists.{first_some};
-ghost use Rattle.sm_standing.specs.Checks.{record_volume_fault, too_many_fault, misnamed_fault, entry_ahead_fault, second_entry_fault, lost_entry_fault, old_leaf_fault, is_entry_ahead, is_misnamed as is_misnamed_row, lesser};
+ghost use Rattle.sm_standing.specs.Checks.{record_volume_fault, too_many_fault, misnamed_fault, entry_ahead_fault, second_entry_fault, lost_entry_fault, old_leaf_fault};
+ghost use Rattle.sm_standing.specs.Checks.{is_entry_ahead, is_misnamed as is_misnamed_row, lesser};
 ghost use Rattle.sm_standing.specs.Outlines.{Outline};
 ghost use Rattle.sm_standing.specs.Entries.{is_past, base_number, is_coalescing, is_inflating};
 ghost use Rattle.vg_meta.specs.Roomy.{table_alone};

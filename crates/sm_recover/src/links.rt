@@ -7,7 +7,8 @@ ghost use Rattle.std.specs.Option.{option_copied};
 ghost use Rattle.sm_standing.specs.Checks.{entry_ahead_fault, entry_link_fault, has_uuid};
 ghost use Rattle.sm_standing.specs.Outlines.{Outline};
 ghost use Rattle.vg_meta.specs.Roomy.{table_alone};
-ghost use Rattle.sm_recover.specs.Faults.{HasChildren, HasLinks, HasVolumes, has_one_child, has_parent_in, is_as_large_in, is_copy_in, is_fork_linked_in, is_link_in, is_new_over, is_other_child, is_over, is_unlinked_in};
+ghost use Rattle.sm_recover.specs.Faults.{HasChildren, HasLinks, HasVolumes, has_one_child, has_parent_in, is_as_large_in, is_copy_in};
+ghost use Rattle.sm_recover.specs.Faults.{is_fork_linked_in, is_link_in, is_new_over, is_other_child, is_over, is_unlinked_in};
 
 use crate::forks::is_fork_made;
 use crate::loading::is_vhd_of;
@@ -36,7 +37,7 @@ fn first_unlinked<'a>(volumes: &'a [Volume], table: &Table, tree: &Tree) -> Opti
         .find(|volume| is_unlinked(&volume.name(), table, tree))
 }
 
-/// Whether a name is that of an entry whose images are linked otherwise: of a fork where the base is there.
+/// Whether a name is that of an entry whose images are linked otherwise: of a fork where the base is there, of a copy or of a link.
 fn is_unlinked(name: &Name, table: &Table, tree: &Tree) -> bool
     ensures { result ≡ is_unlinked_in (table_alone table.now) tree.now.rows name.now }
 {

@@ -65,9 +65,11 @@ fn row_at<S: Store>(
     requires checked { IsEndableStore S.Store store.old }
     requires within { index < length (table_alone (S.table store.old)).volumes }
     ensures reads { OnlyReads S.Store store.old store.new }
-    ensures some { IfOk result (λ found. IfSome found (λ x. (r : Row) → slice_get (table_alone (S.table store.old)).volumes index ≡ Some r → IsFilledImage r × IsRow S.told (stored_read S.Store store.old) (as_read (making (table_alone (S.table store.old))) r) x)) }
+    ensures some { IfOk result (λ found. IfSome found (λ x. (r : Row) → slice_get (table_alone (S.table store.old)).volumes index ≡ Some r
+        → IsFilledImage r × IsRow S.told (stored_read S.Store store.old) (as_read (making (table_alone (S.table store.old))) r) x)) }
     ensures none { IfOk result (λ found. IfNone found ((r : Row) → slice_get (table_alone (S.table store.old)).volumes index ≡ Some r → IsFilledImage r → ⊥)) }
-    ensures cause { IfErr result (λ e. (r : Row) → slice_get (table_alone (S.table store.old)).volumes index ≡ Some r → FailsAt S.Store (stored_read S.Store store.old) (as_read (making (table_alone (S.table store.old))) r) e store.old store.new) }
+    ensures cause { IfErr result (λ e. (r : Row) → slice_get (table_alone (S.table store.old)).volumes index ≡ Some r
+        → FailsAt S.Store (stored_read S.Store store.old) (as_read (making (table_alone (S.table store.old))) r) e store.old store.new) }
 {
     let volume = &store.table().volumes()[index];
     if volume.is_fresh() || !volume.name().is_image() {

@@ -1,8 +1,9 @@
 -- What the collector's next step says of the operation, which steps there are, and what is told of them.
-use Rattle.std.proofs.Common.{◌≡◌, ◌⊎◌, inl, inr, ℕ, ◌^◌, ◌<◌, ◌||◌, not, Bool, true, false, List, [], ◌∷◌, ◌++◌, Option, Some, None, refl, sym, ap, ap₂, ◌∙◌, subst, arith}
+use Rattle.std.proofs.Common.{◌≡◌, ◌⊎◌, inl, inr, ℕ, ◌^◌, ◌<◌, ◌||◌, not, Bool, true, false, List, [], ◌∷◌, ◌++◌, Option, Some, None, Result, OnOk, refl, sym, ap, ap₂, ◌∙◌, subst, arith}
 use Rattle.std.specs.List.{find}
 use Rattle.std.proofs.lemmas.Bool.{true≢false, le-ltb}
 use Rattle.std.proofs.Math.Logic.{∥∥₁_map}
+use Rattle.std.proofs.lemmas.Result.{on_ok_weaker}
 use Rattle.common_laws.specs.Lists.{first_some, given}
 use Rattle.sm_base.specs.declared.names.Name.{Name}
 use Rattle.sm_base.specs.declared.operations.Op.{Op}
@@ -185,3 +186,7 @@ gc_reply σ built = ap (λ (o : Outcome). o.reply) (step_by σ Gc None built (ne
 -- one that does something lowers the debt
 pub gc_lowers : (s t : Shape) → ∥ IsWellFormed s ∥₁ → t ≡ shape_next s Gc → is_working (next_step s) ≡ true → ∥ IsLess (debt t) (debt s) ∥₁
 gc_lowers s t well shaped working = ∥∥₁_map well (λ w. subst (λ x. IsLess (debt x) (debt s)) (sym shaped) (step_lowers s w working))
+
+-- so does a call that leaves the machine's shape where it succeeds
+pub work_lowers : {A E : Type 0} (s t : Shape) → ∥ IsWellFormed s ∥₁ → is_working (next_step s) ≡ true → (r : Result A E) → OnOk r (t ≡ shape_next s Gc) → OnOk r (∥ IsLess (debt t) (debt s) ∥₁)
+work_lowers s t well working r shaped = on_ok_weaker r (λ is. gc_lowers s t well is working) shaped

@@ -1,6 +1,6 @@
 //! Carrying out a step of the collector.
 
-ghost use Rattle.std.specs.Prelude.{◌≡◌, ◌≤◌, ◌<◌, ◌+◌, ◌*◌, ℕ, List, true, false, IfOk, OnOk};
+ghost use Rattle.std.specs.Prelude.{◌≡◌, ◌≤◌, ◌<◌, ◌+◌, ◌*◌, ℕ, List, true, false, IfOk, OnOk, length};
 ghost use Rattle.std.specs.declared.result.Result.TheVariants.{Ok};
 ghost use Rattle.sm_attaching.specs.Attaching.{HasAttachmentRoom};
 ghost use Rattle.sm_base.specs.declared.refusals.Refusal.TheVariants.{NoMemory};
@@ -10,6 +10,7 @@ ghost use Rattle.vg_meta.specs.Tables.{VolumeTable};
 ghost use Rattle.sm_machine.specs.Collector.{IsLess, debt, next_step};
 ghost use Rattle.sm_machine.specs.Laws.{is_working};
 ghost use Rattle.sm_machine.specs.Runs.{is_accepted};
+ghost use Rattle.sm_machine.specs.Shapes.{image_limit};
 ghost use Rattle.sm_machine.specs.Steps.{is_built, is_fold};
 ghost use Rattle.sm_machine.specs.declared.commands.Command.TheVariants as command;
 ghost use Rattle.sm_machine.specs.declared.replies.Reply.TheVariants.{No};
@@ -21,6 +22,7 @@ ghost use Rattle.sm_ready.specs.Taken.{StoreTakes};
 ghost use Rattle.sm_session.specs.Carrying.{begins};
 
 use gc_coalesce::{abandon, begin, copy_block, finish, relink_one, remove, turn};
+use gc_plan::ChildCounts;
 use sm_base::{CallFault, Failed, Name, Plan, Refusal};
 use sm_machine::Reply;
 use sm_pool::Pool;
@@ -35,6 +37,7 @@ pub(crate) fn gc<S: Store>(
     store: &mut S,
     memory: &mut Memory,
     pool: &mut Pool,
+    children: &mut ChildCounts,
 ) -> Result<Reply, Failed>
     requires usable { S.failed store.old ≡ false }
     requires orderly { IsOrderlyStore S.Store store.old memory.old }
@@ -44,11 +47,13 @@ pub(crate) fn gc<S: Store>(
     requires attachment_room { HasAttachmentRoom memory.old }
     requires true_now { HasTrueImages S.Store store.old memory.old }
     requires buffer { (1 < pool.old.free) × (512 * (1 + (S.site store.old).geometry.block) ≤ pool.old.bytes) }
+    requires children { image_limit ≤ length children.old }
     ensures site { S.site store.new ≡ S.site store.old }
     ensures counts { S.faults store.old ≤ S.faults store.new }
     ensures cause { Counts S.Store result store.old store.new }
     ensures beside { S.told → Keeps (S.beside store.old) (S.beside store.new) }
     ensures pool { pool.new ≡ pool.old }
+    ensures children { length children.new ≡ length children.old }
     ensures few { HasCommits 4 (table_alone (S.table store.old)) (table_alone (S.table store.new)) }
     ensures few_left { Leaves S.Store store.new (λ t image. HasCommits 4 (table_alone (S.table store.old)) t) }
     ensures usable_still { OnOk result (S.failed store.new ≡ false) }
@@ -60,13 +65,17 @@ pub(crate) fn gc<S: Store>(
     ensures true_still { OnOk result (HasTrueImages S.Store store.new memory.new) }
     ensures room { HasRows (S.table store.old) → OnOk result (HasRows (S.table store.new)) }
     ensures refused { IfOk result (λ r. is_accepted r ≡ false → (t : VolumeTable) (image : ℕ → List ℕ) → S.leaves store.new t image → S.leaves store.old t image) }
+    ensures spared_plan { IfOk result (λ r. r ≡ No NoMemory → begins (next_step (store_shape S.Store store.old memory.old)) ≡ true) }
     ensures untouched { IfOk result (λ r. is_accepted r ≡ false → OnlyReads S.Store store.old store.new × (memory.new ≡ memory.old)) }
+    ensures lowered { IfOk result (λ r. is_accepted r ≡ true
+        → is_working (next_step (store_shape S.Store store.old memory.old)) ≡ true
+        → ∥ IsLess (debt (store_shape S.Store store.new memory.new)) (debt (store_shape S.Store store.old memory.old)) ∥₁) }
     ensures taken { S.told → IsReadyStore S.Store store.old memory.old
         → StoreTakes S.Store command.Gc store.old memory.old store.new memory.new result }
 {
     let geometry = store.geometry();
     let extents = store.extents();
-    let plan = gc_plan::plan(store.table(), memory, &geometry, extents);
+    let plan = gc_plan::plan(store.table(), memory, children, &geometry, extents);
     match plan {
         Plan::Leaf { .. } => Ok(Reply::No(Refusal::BadLine)),
         _ => collect(alloc, store, memory, pool, plan),
@@ -110,7 +119,7 @@ fn collect<S: Store>(
     ensures refused { IfOk result (λ r. is_accepted r ≡ false → (t : VolumeTable) (image : ℕ → List ℕ) → S.leaves store.new t image → S.leaves store.old t image) }
     ensures spared { IfOk result (λ r. r ≡ No NoMemory → begins plan ≡ true) }
     ensures untouched { IfOk result (λ r. is_accepted r ≡ false → OnlyReads S.Store store.old store.new × (memory.new ≡ memory.old)) }
-    ensures lowered { S.told → IsReadyStore S.Store store.old memory.old → IfOk result (λ r. is_accepted r ≡ true → is_working plan ≡ true
+    ensures lowered { IfOk result (λ r. is_accepted r ≡ true → is_working plan ≡ true
         → ∥ IsLess (debt (store_shape S.Store store.new memory.new)) (debt (store_shape S.Store store.old memory.old)) ∥₁) }
     ensures taken { S.told → IsReadyStore S.Store store.old memory.old
         → StoreTakes S.Store command.Gc store.old memory.old store.new memory.new result }
@@ -166,6 +175,7 @@ fn work<S: Store>(
     ensures attachment_room_still { OnOk result (HasAttachmentRoom memory.new) }
     ensures true_still { OnOk result (HasTrueImages S.Store store.new memory.new) }
     ensures room { HasRows (S.table store.old) → OnOk result (HasRows (S.table store.new)) }
+    ensures lowered { OnOk result (∥ IsLess (debt (store_shape S.Store store.new memory.new)) (debt (store_shape S.Store store.old memory.old)) ∥₁) }
     ensures shape { S.told → IsReadyStore S.Store store.old memory.old → OnOk result (ShapesAs S.Store command.Gc store.old memory.old store.new memory.new) }
     ensures done { S.told → IsReadyStore S.Store store.old memory.old → StoreDoes S.Store command.Gc store.old memory.old store.new memory.new (result ≡ Ok tt) }
 {

@@ -2,7 +2,8 @@
 //! it.
 //!
 //! **What is kept here.** A [`Session`] has a store of volumes and what is in memory of it: the images, the places of the
-//! records, the attachments and what the collector does; two buffers of a block and its bitmap; and whether a step has failed.
+//! records, the attachments and what the collector does; two buffers of a block and its bitmap; a number for each image that there
+//! may be, in which its children are counted; and whether a step has failed.
 //! Sizes in commands and replies are in bytes, those in the table in extents, places in sectors.
 //!
 //! **The model** is that of `sm_ready`: the machine's disks are those that a read gives, its shape is that of what is in

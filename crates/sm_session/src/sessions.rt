@@ -1,10 +1,11 @@
 //! A repository that is open, and its steps.
 
-ghost use Rattle.std.specs.Prelude.{◌≡◌, ◌≤◌, ◌<◌, ◌+◌, ◌*◌, ◌⊎◌, None, false, IfOk, IfErr};
+ghost use Rattle.std.specs.Prelude.{◌≡◌, ◌≤◌, ◌<◌, ◌+◌, ◌*◌, ◌⊎◌, None, false, IfOk, IfErr, length};
 ghost use Rattle.std.proofs.Props.{props};
 ghost use Rattle.sm_attaching.specs.Attaching.{HasAttachmentRoom};
 ghost use Rattle.sm_disk.specs.Held.{IsSettled, Keeps};
 ghost use Rattle.vg_meta.specs.Roomy.{table_alone};
+ghost use Rattle.sm_machine.specs.Shapes.{image_limit};
 ghost use Rattle.sm_machine.specs.Steps.{is_fold};
 ghost use Rattle.sm_ready.specs.Cleaned.{HasFewRemovals};
 ghost use Rattle.sm_recover.specs.Repairs.{IsOpeningStopped, UnlessDeviceFailed};
@@ -24,6 +25,7 @@ ghost use Rattle.sm_standing.specs.Opened.{opened};
 ghost use Rattle.sm_standing.specs.Standing.{disks};
 
 use crate::taking::take;
+use gc_plan::ChildCounts;
 use sm_base::{NoMemory, OpenFault, SECTOR};
 use sm_machine::{Command, Reply};
 use sm_pool::Pool;
@@ -36,12 +38,14 @@ use vg_volumes::Store;
 /// How many buffers a session has: a block and its bitmap each.
 const BUFFERS: usize = 2;
 
-/// A repository that is open: its store, what is in memory of it, buffers for the blocks of guests, whether a step has failed,
-/// and the time at which it was opened, in seconds since 2000-01-01 00:00 UTC: the stamp of the images that it makes.
+/// A repository that is open: its store, what is in memory of it, buffers for the blocks of guests, the numbers of children that
+/// the collector counts, whether a step has failed, and the time at which it was opened, in seconds since 2000-01-01 00:00 UTC:
+/// the stamp of the images that it makes.
 pub struct Session<S: Store> {
     store: S,
     memory: Memory,
     pool: Pool,
+    children: ChildCounts,
     broken: bool,
     now: u32,
     // While no step has failed, table and memory are as they are between two steps, commits may be made, and table and tree
@@ -55,6 +59,8 @@ pub struct Session<S: Store> {
     ghost true_images: { broken ≡ false → HasTrueImages S.Store store memory } by { Prim.hlevel props },
     ghost attachment_room: { broken ≡ false → HasAttachmentRoom memory },
     ghost buffer: { (1 < pool.free) × (512 * (1 + (S.site store).geometry.block) ≤ pool.bytes) },
+    // The children of as many images can be counted as there may be.
+    ghost child_counts: { image_limit ≤ length children },
     ghost usable: { broken ≡ false → S.failed store ≡ false },
     ghost room: { broken ≡ false → HasRows (S.table store) },
 }
@@ -69,7 +75,8 @@ fn buffers<S: Store>(alloc: Global, store: &S) -> Result<Pool, NoMemory>
 
 impl<S: Store> Session<S> {
     /// Checks what stands in a store, all checks before the first write, and repairs what a stop has left. What is promised
-    /// of the sectors and of the disks rests on what no check sees: that each slot of a VHD image holds a sector.
+    /// of the sectors and of the disks rests on what no check sees: that each slot of a VHD image holds a sector, and that an
+    /// image whose children are being linked past it was copied.
     ///
     /// # Errors
     /// Why there is no session, with the store: `Damaged` with the first place at which the checks fail; `Device` where
@@ -108,11 +115,15 @@ impl<S: Store> Session<S> {
         let Ok(pool) = buffers(alloc, &store) else {
             return Err((OpenFault::NoMemory, store));
         };
+        let Ok(children) = ChildCounts::new(alloc) else {
+            return Err((OpenFault::NoMemory, store));
+        };
         match settle(alloc, &mut store) {
             Ok(memory) => Ok(Session {
                 store,
                 memory,
                 pool,
+                children,
                 broken: false,
                 now,
             }),
@@ -128,6 +139,7 @@ impl<S: Store> Session<S> {
             store,
             memory: _,
             pool: _,
+            children: _,
             broken: _,
             now: _,
         } = self;
@@ -172,6 +184,7 @@ impl<S: Store> Steps for Session<S> {
             &mut self.store,
             &mut self.memory,
             &mut self.pool,
+            &mut self.children,
             command,
             self.now,
         );

@@ -1,26 +1,31 @@
 //! Taking one command.
 
-ghost use Rattle.std.specs.Prelude.{◌≡◌, ◌≤◌, ◌<◌, ◌+◌, ◌*◌, ℕ, List, true, false, IfOk, OnOk};
+ghost use Rattle.std.specs.Prelude.{◌≡◌, ◌≤◌, ◌<◌, ◌+◌, ◌*◌, ℕ, List, true, false, IfOk, OnOk, length};
 ghost use Rattle.sm_disk.specs.Held.{Keeps};
 ghost use Rattle.vg_meta.specs.Roomy.{table_alone};
 ghost use Rattle.vg_meta.specs.Tables.{VolumeTable};
-ghost use Rattle.sm_machine.specs.declared.commands.Command.TheVariants.{Create};
+ghost use Rattle.sm_machine.specs.declared.commands.Command.TheVariants.{Create, Gc};
+ghost use Rattle.sm_machine.specs.Collector.{IsLess, debt, next_step};
+ghost use Rattle.sm_machine.specs.Laws.{is_working};
 ghost use Rattle.sm_machine.specs.Runs.{is_accepted, takes_memory};
 ghost use Rattle.sm_base.specs.declared.refusals.Refusal.TheVariants.{NoMemory};
 ghost use Rattle.sm_machine.specs.declared.replies.Reply.TheVariants.{No};
+ghost use Rattle.sm_machine.specs.Shapes.{image_limit};
 ghost use Rattle.sm_machine.specs.Steps.{is_fold};
 ghost use Rattle.vg_volumes.specs.Stored.{OnlyReads, Counts, Leaves};
 ghost use Rattle.sm_making.specs.Making.{IsOnLeast};
 ghost use Rattle.sm_attaching.specs.Attaching.{HasAttachmentRoom};
+ghost use Rattle.sm_ready.specs.Does.{store_shape};
 ghost use Rattle.sm_ready.specs.Frames.{HasCommits, HasTrueImages};
 ghost use Rattle.sm_ready.specs.Refusing.{IsAllowed, extents_for};
 ghost use Rattle.sm_ready.specs.Sessions.{HasRows, HasTreeRoom, IsOrderlyStore, IsReadyStore, IsTidyStore};
 ghost use Rattle.sm_ready.specs.Taken.{StoreTakes};
-ghost use Rattle.sm_session.specs.Carrying.{most_commits};
+ghost use Rattle.sm_session.specs.Carrying.{begins, most_commits};
 
 use crate::collecting::gc;
 use crate::forks::derive;
 use crate::guests::serve;
+use gc_plan::ChildCounts;
 use sm_base::Failed;
 use sm_changing::{delete, label};
 use sm_listing::{list, stat};
@@ -38,6 +43,7 @@ fn carry_out<S: Store>(
     store: &mut S,
     memory: &mut Memory,
     pool: &mut Pool,
+    children: &mut ChildCounts,
     command: &Command,
     now: u32,
 ) -> Result<Reply, Failed>
@@ -49,12 +55,14 @@ fn carry_out<S: Store>(
     requires attachment_room { HasAttachmentRoom memory.old }
     requires true_now { HasTrueImages S.Store store.old memory.old }
     requires buffer { (1 < pool.old.free) × (512 * (1 + (S.site store.old).geometry.block) ≤ pool.old.bytes) }
+    requires children { image_limit ≤ length children.old }
     requires allowed { IsAllowed S.Store command.now store.old memory.old }
     ensures site { S.site store.new ≡ S.site store.old }
     ensures counts { S.faults store.old ≤ S.faults store.new }
     ensures cause { Counts S.Store result store.old store.new }
     ensures beside { S.told → Keeps (S.beside store.old) (S.beside store.new) }
     ensures pool { pool.new ≡ pool.old }
+    ensures children { length children.new ≡ length children.old }
     ensures few { HasCommits (most_commits command.now) (table_alone (S.table store.old)) (table_alone (S.table store.new)) }
     ensures few_left { Leaves S.Store store.new (λ t image. HasCommits (most_commits command.now) (table_alone (S.table store.old)) t) }
     ensures usable_still { OnOk result (S.failed store.new ≡ false) }
@@ -67,9 +75,13 @@ fn carry_out<S: Store>(
     ensures room { HasRows (S.table store.old) → OnOk result (HasRows (S.table store.new)) }
     ensures refused { IfOk result (λ r. is_accepted r ≡ false → (t : VolumeTable) (image : ℕ → List ℕ) → S.leaves store.new t image → S.leaves store.old t image) }
     ensures spared { IfOk result (λ r. r ≡ No NoMemory → takes_memory command.now ≡ true) }
+    ensures spared_gc { command.now ≡ Gc → IfOk result (λ r. r ≡ No NoMemory → begins (next_step (store_shape S.Store store.old memory.old)) ≡ true) }
     ensures untouched { IfOk result (λ r. is_accepted r ≡ false → OnlyReads S.Store store.old store.new × (memory.new ≡ memory.old)) }
     ensures least { (u : List ℕ) (size : ℕ) (label : List ℕ) → command.now ≡ Create u size true label → IfOk result (λ r. is_accepted r ≡ true
         → IsOnLeast (S.site store.old) (table_alone (S.table store.old)) u (extents_for (S.site store.old).geometry.extent size) (table_alone (S.table store.new))) }
+    ensures lowered_gc { command.now ≡ Gc → IfOk result (λ r. is_accepted r ≡ true
+        → is_working (next_step (store_shape S.Store store.old memory.old)) ≡ true
+        → ∥ IsLess (debt (store_shape S.Store store.new memory.new)) (debt (store_shape S.Store store.old memory.old)) ∥₁) }
     ensures taken { S.told → IsReadyStore S.Store store.old memory.old
         → StoreTakes S.Store command.now store.old memory.old store.new memory.new result }
 {
@@ -105,7 +117,7 @@ fn carry_out<S: Store>(
             let extents = store.extents();
             Ok(stat(alloc, store.table(), memory, extents))
         }
-        Command::Gc => gc(alloc, store, memory, pool),
+        Command::Gc => gc(alloc, store, memory, pool, children),
         _ => serve(alloc, store, memory, pool, command),
     }
 }
@@ -117,6 +129,7 @@ pub fn take<S: Store>(
     store: &mut S,
     memory: &mut Memory,
     pool: &mut Pool,
+    children: &mut ChildCounts,
     command: &Command,
     now: u32,
 ) -> Result<Reply, Failed>
@@ -128,11 +141,13 @@ pub fn take<S: Store>(
     requires attachment_room { HasAttachmentRoom memory.old }
     requires true_now { HasTrueImages S.Store store.old memory.old }
     requires buffer { (1 < pool.old.free) × (512 * (1 + (S.site store.old).geometry.block) ≤ pool.old.bytes) }
+    requires children { image_limit ≤ length children.old }
     ensures site { S.site store.new ≡ S.site store.old }
     ensures counts { S.faults store.old ≤ S.faults store.new }
     ensures cause { Counts S.Store result store.old store.new }
     ensures beside { S.told → Keeps (S.beside store.old) (S.beside store.new) }
     ensures pool { pool.new ≡ pool.old }
+    ensures children { length children.new ≡ length children.old }
     ensures few { HasCommits (most_commits command.now) (table_alone (S.table store.old)) (table_alone (S.table store.new)) }
     ensures few_left { Leaves S.Store store.new (λ t image. HasCommits (most_commits command.now) (table_alone (S.table store.old)) t) }
     ensures usable_still { OnOk result (S.failed store.new ≡ false) }
@@ -145,9 +160,13 @@ pub fn take<S: Store>(
     ensures room { HasRows (S.table store.old) → OnOk result (HasRows (S.table store.new)) }
     ensures refused { IfOk result (λ r. is_accepted r ≡ false → (t : VolumeTable) (image : ℕ → List ℕ) → S.leaves store.new t image → S.leaves store.old t image) }
     ensures spared { IfOk result (λ r. r ≡ No NoMemory → takes_memory command.now ≡ true) }
+    ensures spared_gc { command.now ≡ Gc → IfOk result (λ r. r ≡ No NoMemory → begins (next_step (store_shape S.Store store.old memory.old)) ≡ true) }
     ensures untouched { IfOk result (λ r. is_accepted r ≡ false → OnlyReads S.Store store.old store.new × (memory.new ≡ memory.old)) }
     ensures least { (u : List ℕ) (size : ℕ) (label : List ℕ) → command.now ≡ Create u size true label → IfOk result (λ r. is_accepted r ≡ true
         → IsOnLeast (S.site store.old) (table_alone (S.table store.old)) u (extents_for (S.site store.old).geometry.extent size) (table_alone (S.table store.new))) }
+    ensures lowered_gc { command.now ≡ Gc → IfOk result (λ r. is_accepted r ≡ true
+        → is_working (next_step (store_shape S.Store store.old memory.old)) ≡ true
+        → ∥ IsLess (debt (store_shape S.Store store.new memory.new)) (debt (store_shape S.Store store.old memory.old)) ∥₁) }
     ensures taken { S.told → IsReadyStore S.Store store.old memory.old
         → StoreTakes S.Store command.now store.old memory.old store.new memory.new result }
 {
@@ -157,5 +176,5 @@ pub fn take<S: Store>(
     if let Some(refusal) = refusal {
         return Ok(Reply::No(refusal));
     }
-    carry_out(alloc, store, memory, pool, command, now)
+    carry_out(alloc, store, memory, pool, children, command, now)
 }

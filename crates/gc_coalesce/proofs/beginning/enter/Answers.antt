@@ -1,25 +1,24 @@
-use Rattle.std.proofs.Common.{[], false, refl, sym, ap₂, ◌∙◌, subst, arith}
-use Rattle.sm_base.specs.declared.names.Name.TheVariants.{Coalesce}
-use Rattle.sm_base.specs.declared.operations.Op.TheVariants as op
+use Rattle.std.proofs.Common.{◌≡◌, [], false, refl, sym, ap, ap₂, ◌∙◌, subst, arith}
 use Rattle.sm_disk.proofs.HeldLaws.{Keeps-then}
 use Rattle.vg_meta.specs.Roomy.{table_alone}
 use Rattle.vg_meta.specs.declared.changes.Change.TheVariants.{Create}
 use Rattle.vg_volumes.specs.Stored.{CanCommit, Commits, IsEitherOf, stored}
-use Rattle.sm_machine.specs.Shapes.{image_uuid as uuid_in}
 use Rattle.sm_ready.specs.Does.{store_shape}
-use Rattle.sm_ready.specs.Known.{known, shape_in}
+use Rattle.sm_ready.specs.Known.{Known, known, shape_in}
 use Rattle.sm_ready.specs.declared.memory.Memory.{Memory}
 use Rattle.sm_ready.proofs.ChainLaws.{err_not_ok}
 use Rattle.sm_ready.proofs.RoomLaws.{rows_commits, rows_stays}
-use Rattle.gc_coalesce.proofs.BeginEntry.{IsToEnter, can_put, child_named, orderly_end, parent_named, put_done, put_failed, raise_failed, shape_end, tidy_end, to_enter, true_end}
+use Rattle.gc_coalesce.specs.Beginning.{copy_entry}
+use Rattle.gc_coalesce.specs.Copying.{copy_of}
+use Rattle.gc_coalesce.proofs.BeginEntry.{IsToEnter, can_put, child_named, extents_end, orderly_end, parent_named, put_done, put_failed, raise_failed, shape_end, tidy_end, to_enter, true_end}
 use Rattle.gc_coalesce.proofs.beginning.enter.Given.{Over}
 use Rattle.gc_coalesce.proofs.beginning.enter.Goals as goal
 
-pub image_uuid-requires : goal.image_uuid-requires
-image_uuid-requires g c = (child_named _ _ (known c.args.memory.now) _ _ c.requires.orderly c.requires.can).0
+pub entry_for-entry-requires-clause-child : goal.entry_for-entry-requires-clause-child
+entry_for-entry-requires-clause-child g c = (child_named _ _ (known c.args.memory.now) _ _ c.requires.orderly c.requires.can.pair).0
 
-pub image_uuid-requires-2 : goal.image_uuid-requires-2
-image_uuid-requires-2 g c = (parent_named _ _ (known c.args.memory.now) _ _ c.requires.orderly c.requires.can).0
+pub entry_for-entry-requires-clause-parent : goal.entry_for-entry-requires-clause-parent
+entry_for-entry-requires-clause-parent g c = (parent_named _ _ (known c.args.memory.now) _ _ c.requires.orderly c.requires.can.pair).0
 
 pub returns-in_err-raise-clause-done : goal.returns-in_err-raise-clause-done
 returns-in_err-raise-clause-done g c = λ told ready.
@@ -27,12 +26,12 @@ returns-in_err-raise-clause-done g c = λ told ready.
     raise_failed e.stays (e.safe told ready) (g.met.S.Store.leaves_now c.raise.new.store told (e.stays.failed ∙ c.requires.usable)) _ _ (λ fine. err_not_ok _ tt c.from_residual.ensures.0 fine)
 
 -- memory with the parent's new size
-abbrev sized : (g : Over) (c : goal.After-put-arg-1 g) → IsToEnter (g.S.Store.site c.args.store.now) (table_alone (g.S.Store.table c.args.store.now)) (known c.raise.new.memory) c.args.child.now c.args.parent.now
+abbrev sized : (g : Over) (c : goal.After-put-arg-1 g) → IsToEnter (g.S.Store.site c.args.store.now) (table_alone (g.S.Store.table c.args.store.now)) (known c.raise.new.memory) c.args.hidden c.args.child.now c.args.parent.now
 sized g c = let e = c.in_ok-raise.ensures in to_enter {a = c.args.store.now} {b = c.raise.new.store} c.args.memory.now c.raise.new.memory c.requires.orderly c.requires.can e.stays e.orderly_still e.tidy_still e.shape e.others.operation
 
 pub put-requires : goal.put-requires
 put-requires g c =
-    subst (λ n. CanCommit g.S.Store (Create n false []) c.raise.new.store) (sym (ap₂ Coalesce c.image_uuid.ensures c.image_uuid-2.ensures))
+    subst (λ n. CanCommit g.S.Store (Create n false []) c.raise.new.store) (sym c.entry_for-entry.ensures)
     (can_put c.raise.new.memory (sized g c) c.in_ok-raise.ensures.stays c.requires.usable (omega (arith, c.requires.row, c.in_ok-raise.ensures.stays.room.spare_rows)))
 
 pub returns-in_err-put-clause-beside : goal.returns-in_err-put-clause-beside
@@ -44,17 +43,17 @@ returns-in_err-put-clause-done g c = λ told ready.
     let h = to_enter {a = c.args.store.now} {b = c.raise.new.store} c.args.memory.now c.raise.new.memory c.requires.orderly c.requires.can e.stays e.orderly_still e.tidy_still e.shape e.others.operation in
     let w = e.ready told ready in
     put_failed c.raise.new.memory h e.stays c.requires.usable told (e.safe told ready) w.0 w.1 _ _ (λ fine. err_not_ok _ tt c.from_residual-in_err-put.ensures.0 fine) c.in_err-put.ensures.fails
-    (λ v image l. subst (λ n. IsEitherOf (stored g.S.Store c.raise.new.store) (Create n false []) v image) (ap₂ Coalesce c.image_uuid.ensures c.image_uuid-2.ensures) (c.put.ensures.crash told v image l))
+    (λ v image l. subst (λ n. IsEitherOf (stored g.S.Store c.raise.new.store) (Create n false []) v image) c.entry_for-entry.ensures (c.put.ensures.crash told v image l))
 
 pub returns-clause-beside : goal.returns-clause-beside
 returns-clause-beside g c = λ told. Keeps-then (c.in_ok-raise.ensures.stays.beside told) (c.in_ok-put.ensures.commits.beside told)
 
 -- the entry stands
-abbrev put : (g : Over) (c : goal.After-memory-3-1 g) → IsToEnter (g.S.Store.site c.args.store.now) (table_alone (g.S.Store.table c.args.store.now)) (known c.raise.new.memory) c.args.child.now c.args.parent.now
+abbrev put : (g : Over) (c : goal.After-memory-1 g) → IsToEnter (g.S.Store.site c.args.store.now) (table_alone (g.S.Store.table c.args.store.now)) (known c.raise.new.memory) c.args.hidden c.args.child.now c.args.parent.now
 put g c = let e = c.in_ok-raise.ensures in to_enter {a = c.args.store.now} {b = c.raise.new.store} c.args.memory.now c.raise.new.memory c.requires.orderly c.requires.can e.stays e.orderly_still e.tidy_still e.shape e.others.operation
 
-commits : (g : Over) (c : goal.After-memory-3-1 g) → Commits g.S.Store (Create (Coalesce (uuid_in c.args.child.now) (uuid_in c.args.parent.now)) false []) c.raise.new.store c.put.new.store
-commits g c = subst (λ n. Commits g.S.Store (Create n false []) c.raise.new.store c.put.new.store) (ap₂ Coalesce c.image_uuid.ensures c.image_uuid-2.ensures) c.in_ok-put.ensures.commits
+commits : (g : Over) (c : goal.After-memory-1 g) → Commits g.S.Store (Create (copy_entry c.args.hidden c.args.child.now c.args.parent.now) false []) c.raise.new.store c.put.new.store
+commits g c = subst (λ n. Commits g.S.Store (Create n false []) c.raise.new.store c.put.new.store) c.entry_for-entry.ensures c.in_ok-put.ensures.commits
 
 pub returns-clause-room : goal.returns-clause-room
 returns-clause-room g c = λ rows.
@@ -62,23 +61,29 @@ returns-clause-room g c = λ rows.
     rows_commits (can_put c.raise.new.memory (put g c) e.stays c.requires.usable (omega (arith, c.requires.row, e.stays.room.spare_rows))) (commits g c) (rows_stays e.stays rows)
 
 -- memory behind it
-abbrev behind : (g : Over) (c : goal.After-memory-3-1 g) → Memory
-behind g c = record { tree = c.raise.new.memory.tree; records = c.raise.new.memory.records; attached = c.raise.new.memory.attached; operation = op.Copy c.args.child.now c.args.parent.now 0 }
+abbrev behind : (g : Over) (c : goal.After-memory-1 g) → Memory
+behind g c = record { tree = c.raise.new.memory.tree; records = c.raise.new.memory.records; attached = c.raise.new.memory.attached; operation = c.first-memory.result }
+
+behind_is : (g : Over) (c : goal.After-memory-1 g) → known (behind g c) ≡ record (known c.raise.new.memory) { op = copy_of c.args.hidden c.args.child.now c.args.parent.now 0 }
+behind_is g c = ap (λ o. let k : Known = record (known c.raise.new.memory) { op = o } in k) c.first-memory.ensures
 
 pub returns-clause-orderly_still : goal.returns-clause-orderly_still
-returns-clause-orderly_still g c = orderly_end c.raise.new.memory (put g c) c.in_ok-raise.ensures.stays c.requires.usable (commits g c) (behind g c) refl
+returns-clause-orderly_still g c = orderly_end c.raise.new.memory (put g c) c.in_ok-raise.ensures.stays c.requires.usable (commits g c) (behind g c) (behind_is g c)
+
+pub returns-clause-extents : goal.returns-clause-extents
+returns-clause-extents g c = extents_end c.raise.new.memory (put g c) c.in_ok-raise.ensures.stays c.requires.usable (commits g c) (behind g c) (behind_is g c)
 
 pub returns-clause-tidy_still : goal.returns-clause-tidy_still
-returns-clause-tidy_still g c = tidy_end c.raise.new.memory (put g c) c.in_ok-raise.ensures.stays c.requires.usable (commits g c) (behind g c) refl
+returns-clause-tidy_still g c = tidy_end c.raise.new.memory (put g c) c.in_ok-raise.ensures.stays c.requires.usable (commits g c) (behind g c) (behind_is g c)
 
 pub returns-clause-true_still : goal.returns-clause-true_still
-returns-clause-true_still g c = true_end c.raise.new.memory (put g c) c.in_ok-raise.ensures.stays c.requires.usable (commits g c) (behind g c) refl refl c.in_ok-raise.ensures.true_still
+returns-clause-true_still g c = true_end c.raise.new.memory (put g c) c.in_ok-raise.ensures.stays c.requires.usable (commits g c) (behind g c) (behind_is g c) refl c.in_ok-raise.ensures.true_still
 
 pub returns-clause-shape : goal.returns-clause-shape
 unfolding shape_in
 returns-clause-shape g c =
     let stays = c.in_ok-raise.ensures.stays in
-    shape_end c.raise.new.memory (put g c) stays c.requires.usable (commits g c) (behind g c) refl (store_shape g.S.Store c.args.store.now c.args.memory.now)
+    shape_end c.raise.new.memory (put g c) stays c.requires.usable (commits g c) (behind g c) (behind_is g c) (store_shape g.S.Store c.args.store.now c.args.memory.now)
     (sym (ap₂ (λ y z. shape_in y z (known c.raise.new.memory)) stays.site stays.table) ∙ c.in_ok-raise.ensures.shape) refl
 
 pub returns-clause-done : goal.returns-clause-done
@@ -86,4 +91,4 @@ returns-clause-done g c = λ told ready.
     let e = c.in_ok-raise.ensures in
     let w = e.ready told ready in
     put_done c.raise.new.memory (put g c) e.stays c.requires.usable told (e.safe told ready) w.0 w.1 (behind g c) _ (commits g c)
-    (λ v image l. subst (λ n. IsEitherOf (stored g.S.Store c.raise.new.store) (Create n false []) v image) (ap₂ Coalesce c.image_uuid.ensures c.image_uuid-2.ensures) (c.put.ensures.crash told v image l)) refl
+    (λ v image l. subst (λ n. IsEitherOf (stored g.S.Store c.raise.new.store) (Create n false []) v image) c.entry_for-entry.ensures (c.put.ensures.crash told v image l)) (behind_is g c)

@@ -1,25 +1,26 @@
-use Rattle.std.proofs.Common.{◌≡◌, ◌+◌, length, List, refl, sym, ap, ap₂, ◌∙◌, subst}
+use Rattle.std.proofs.Common.{◌≡◌, length, List, refl, sym, ap, ap₂, ◌∙◌, subst}
 use Rattle.std.specs.Option.{option_copied}
 use Rattle.std.proofs.lemmas.List.{length-map}
 use Rattle.sm_base.specs.Names.{IsName}
-use Rattle.sm_base.specs.declared.operations.Op.TheVariants as op
 use Rattle.sm_disk.proofs.HeldLaws.{Keeps-then}
 use Rattle.vg_meta.specs.Roomy.{table_alone}
 use Rattle.vhd_chain.specs.Trees.{tree_row, with_replaced}
 use Rattle.vhd_chain.specs.declared.rows.TreeRow.{TreeRow}
 use Rattle.vhd_chain.proofs.ByName.{tree_row-without_same}
-use Rattle.sm_ready.specs.Known.{known}
+use Rattle.sm_ready.specs.Known.{Known, known}
 use Rattle.sm_ready.specs.declared.memory.Memory.{Memory}
 use Rattle.sm_ready.proofs.ChainLaws.{err_not_ok}
 use Rattle.sm_ready.proofs.FrameLaws.{true_stays}
 use Rattle.sm_ready.proofs.PutBackLaws.{row_proper}
 use Rattle.sm_ready.proofs.TakenLaws.{is_told}
+use Rattle.gc_coalesce.specs.Copying.{advanced}
 use Rattle.gc_coalesce.proofs.CopyBlockLaws.{grown_name}
-use Rattle.gc_coalesce.proofs.CopyCallLaws.{back_in_place, can_copy, cursor_fits, to_copy_at}
+use Rattle.gc_coalesce.proofs.CopyCallLaws.{back_in_place, can_copy, cursor_below, to_copy_at}
 use Rattle.gc_coalesce.proofs.CopyCrashLaws.{masked_first, never_done}
 use Rattle.gc_coalesce.proofs.CopyMemoryLaws.{with_image}
 use Rattle.gc_coalesce.proofs.CopyPlanLaws.{IsToCopy, named, no_child_left, no_parent, there, to_copy}
-use Rattle.gc_coalesce.proofs.CopyWholeLaws.{IsSync, IsUnderWay, failed_done, failed_masked, synced_masked, unsynced_done, whole_done, whole_orderly, whole_shape, whole_tidy, whole_true}
+use Rattle.gc_coalesce.proofs.CopyWholeLaws.{IsSync, IsUnderWay, failed_done, failed_masked, synced_beside, synced_masked, unsynced_done, whole_done, whole_lowered, whole_orderly, whole_shape, whole_tidy, whole_true, written_beside}
+use Rattle.gc_coalesce.proofs.SyncedLaws.{copy_synced, nothing_synced}
 use Rattle.gc_coalesce.proofs.copying.copy_block.Given.{Over}
 use Rattle.gc_coalesce.proofs.copying.copy_block.Goals as goal
 
@@ -34,20 +35,20 @@ returns-in_err-sync-clause-done g c = λ told ready.
 
 pub returns-in_err-sync-clause-masked : goal.returns-in_err-sync-clause-masked
 returns-in_err-sync-clause-masked g c = λ told ready again t image l.
-    masked_first g.S.Store c.args.store.now c.args.memory.now c.in-Copy.child c.in-Copy.parent c.in-Copy.cursor c.args.block c.in-Copy.is c.requires.planned
+    masked_first g.S.Store c.args.store.now c.args.memory.now c.images-child.result.0 c.images-child.result.1 c.args.block c.images-child.ensures c.requires.planned
     (is_told g.S.Store c.args.store.now c.args.memory.now c.requires.orderly c.requires.usable told ready
     (g.met.S.Store.leaves_now c.args.store.now told c.requires.usable))
     t image (g.met.S.Store.leaves_now c.args.store.now told c.requires.usable t image (c.sync.ensures.leaves told t image l))
 
 -- ---- the rows
 
-pub unreachable-requires-in_default-take : goal.unreachable-requires-in_default-take
-unreachable-requires-in_default-take g c =
-    no_parent c.requires.orderly c.in-Copy.is (sym c.take.ensures.taken ∙ c.in_default-take.is)
+pub unreachable-requires : goal.unreachable-requires
+unreachable-requires g c =
+    no_parent c.requires.orderly c.images-child.result.0 c.images-child.result.1 c.images-child.ensures (sym c.take.ensures.taken ∙ c.in_default.is)
 
 pub unreachable-requires-in_default-get : goal.unreachable-requires-in_default-get
 unreachable-requires-in_default-get g c =
-    no_child_left c.requires.orderly c.in-Copy.is c.take.ensures.rows (sym c.get.ensures ∙ ap option_copied c.in_default-get.is)
+    no_child_left c.requires.orderly c.images-child.result.0 c.images-child.result.1 c.images-child.ensures c.take.ensures.rows (sym c.get.ensures ∙ ap option_copied c.in_default-get.is)
 
 -- ---- the copy
 
@@ -55,14 +56,16 @@ pub copy_sectors-copied-requires-clause-can : goal.copy_sectors-copied-requires-
 copy_sectors-copied-requires-clause-can g c =
     can_copy g.S.Store c.sync.new.self c.args.memory.now
     (to_copy_at c.sync.ensures.site c.sync.ensures.table.0
-    (to_copy c.requires.orderly c.in-Copy.is c.take.ensures.rows c.requires.planned (sym c.take.ensures.taken ∙ c.in-Some.is) (sym c.get.ensures ∙ ap option_copied c.in-Some-get.is)))
+    (to_copy c.requires.orderly c.images-child.result.0 c.images-child.result.1 c.images-child.ensures c.take.ensures.rows
+    c.requires.planned (sym c.take.ensures.taken ∙ c.in-Some.is) (sym c.get.ensures ∙ ap option_copied c.in-Some-get.is)))
     (true_stays g.S.Store c.args.memory.now c.args.memory.now c.sync.ensures.site c.sync.ensures.table.0 refl c.sync.ensures.keeps c.requires.true_now)
 
 -- the images of the copy: before the row is put back
 abbrev taken : (g : Over) (c : goal.After-add-arg-1 g)
     → IsToCopy (g.S.Store.site c.args.store.now) (table_alone (g.S.Store.table c.args.store.now)) (known c.args.memory.now)
-    c.in-Copy.child c.in-Copy.parent c.in-Copy.cursor c.args.block c.in-Some-get.from.now c.in-Some.row
-taken g c = to_copy c.requires.orderly c.in-Copy.is c.take.ensures.rows c.requires.planned (sym c.take.ensures.taken ∙ c.in-Some.is) (sym c.get.ensures ∙ ap option_copied c.in-Some-get.is)
+    c.images-child.result.0 c.images-child.result.1 c.images-child.ensures.1 c.args.block c.in-Some-get.from.now c.in-Some.row
+taken g c = to_copy c.requires.orderly c.images-child.result.0 c.images-child.result.1 c.images-child.ensures c.take.ensures.rows
+    c.requires.planned (sym c.take.ensures.taken ∙ c.in-Some.is) (sym c.get.ensures ∙ ap option_copied c.in-Some-get.is)
 
 pub add-requires-clause-name : goal.add-requires-clause-name
 add-requires-clause-name g c = subst IsName (sym (grown_name c.in-Some.row.image c.copy_sectors-copied.new.parent c.copy_sectors-copied.ensures.copies.grown)) (row_proper _ _ _ c.requires.orderly c.in-Some.row (there (taken g c)))
@@ -70,15 +73,16 @@ add-requires-clause-name g c = subst IsName (sym (grown_name c.in-Some.row.image
 pub add-requires-clause-absent : goal.add-requires-clause-absent
 add-requires-clause-absent g c =
     ap₂ (λ rs n. tree_row rs n) c.take.ensures.rows (grown_name c.in-Some.row.image c.copy_sectors-copied.new.parent c.copy_sectors-copied.ensures.copies.grown ∙ named (taken g c))
-    ∙ tree_row-without_same c.args.memory.now.tree.rows c.in-Copy.parent
+    ∙ tree_row-without_same c.args.memory.now.tree.rows c.images-child.result.1
 
 -- ---- where the copy failed
 
 abbrev stopped : (g : Over) (c : goal.After-from_residual-in_err-copied g)
     → IsUnderWay g.S.Store c.args.store.now c.sync.new.self c.copy_sectors-copied.new.store c.args.memory.now
-    c.in-Copy.child c.in-Copy.parent c.in-Copy.cursor c.args.block c.in-Some-get.from.now c.in-Some.row c.copy_sectors-copied.new.parent
+    c.images-child.result.0 c.images-child.result.1 c.images-child.ensures.1 c.args.block c.in-Some-get.from.now c.in-Some.row c.copy_sectors-copied.new.parent
 stopped g c = record {
-  images = to_copy c.requires.orderly c.in-Copy.is c.take.ensures.rows c.requires.planned (sym c.take.ensures.taken ∙ c.in-Some.is) (sym c.get.ensures ∙ ap option_copied c.in-Some-get.is);
+  images = to_copy c.requires.orderly c.images-child.result.0 c.images-child.result.1 c.images-child.ensures c.take.ensures.rows
+      c.requires.planned (sym c.take.ensures.taken ∙ c.in-Some.is) (sym c.get.ensures ∙ ap option_copied c.in-Some-get.is);
   usable = c.requires.usable;
   sync = let e = c.sync.ensures in record { site = e.site; table = e.table.0; failed = e.table.1; keeps = e.keeps; leaves = e.leaves };
   settled = c.in_ok-sync.ensures.settled;
@@ -111,9 +115,10 @@ returns-in_err-copied-clause-masked g c = failed_masked (stopped g c)
 
 abbrev unsynced : (g : Over) (c : goal.After-from_residual-in_err-sync-2 g)
     → IsUnderWay g.S.Store c.args.store.now c.sync.new.self c.copy_sectors-copied.new.store c.args.memory.now
-    c.in-Copy.child c.in-Copy.parent c.in-Copy.cursor c.args.block c.in-Some-get.from.now c.in-Some.row c.copy_sectors-copied.new.parent
+    c.images-child.result.0 c.images-child.result.1 c.images-child.ensures.1 c.args.block c.in-Some-get.from.now c.in-Some.row c.copy_sectors-copied.new.parent
 unsynced g c = record {
-  images = to_copy c.requires.orderly c.in-Copy.is c.take.ensures.rows c.requires.planned (sym c.take.ensures.taken ∙ c.in-Some.is) (sym c.get.ensures ∙ ap option_copied c.in-Some-get.is);
+  images = to_copy c.requires.orderly c.images-child.result.0 c.images-child.result.1 c.images-child.ensures c.take.ensures.rows
+      c.requires.planned (sym c.take.ensures.taken ∙ c.in-Some.is) (sym c.get.ensures ∙ ap option_copied c.in-Some-get.is);
   usable = c.requires.usable;
   sync = let e = c.sync.ensures in record { site = e.site; table = e.table.0; failed = e.table.1; keeps = e.keeps; leaves = e.leaves };
   settled = c.in_ok-sync.ensures.settled;
@@ -147,14 +152,18 @@ returns-in_err-sync-2-clause-masked g c = synced_masked (unsynced g c) (unsynced
 
 -- ---- where all lasts
 
-pub overflow_add-memory : goal.overflow_add-memory
-overflow_add-memory g c = cursor_fits (to_copy c.requires.orderly c.in-Copy.is c.take.ensures.rows c.requires.planned (sym c.take.ensures.taken ∙ c.in-Some.is) (sym c.get.ensures ∙ ap option_copied c.in-Some-get.is))
+pub behind-memory-requires : goal.behind-memory-requires
+behind-memory-requires g c = record {
+  below = cursor_below (to_copy c.requires.orderly c.images-child.result.0 c.images-child.result.1 c.images-child.ensures c.take.ensures.rows
+      c.requires.planned (sym c.take.ensures.taken ∙ c.in-Some.is) (sym c.get.ensures ∙ ap option_copied c.in-Some-get.is));
+}
 
 abbrev lasting : (g : Over) (c : goal.After-memory-1 g)
     → IsUnderWay g.S.Store c.args.store.now c.sync.new.self c.copy_sectors-copied.new.store c.args.memory.now
-    c.in-Copy.child c.in-Copy.parent c.in-Copy.cursor c.args.block c.in-Some-get.from.now c.in-Some.row c.copy_sectors-copied.new.parent
+    c.images-child.result.0 c.images-child.result.1 c.images-child.ensures.1 c.args.block c.in-Some-get.from.now c.in-Some.row c.copy_sectors-copied.new.parent
 lasting g c = record {
-  images = to_copy c.requires.orderly c.in-Copy.is c.take.ensures.rows c.requires.planned (sym c.take.ensures.taken ∙ c.in-Some.is) (sym c.get.ensures ∙ ap option_copied c.in-Some-get.is);
+  images = to_copy c.requires.orderly c.images-child.result.0 c.images-child.result.1 c.images-child.ensures c.take.ensures.rows
+      c.requires.planned (sym c.take.ensures.taken ∙ c.in-Some.is) (sym c.get.ensures ∙ ap option_copied c.in-Some-get.is);
   usable = c.requires.usable;
   sync = let e = c.sync.ensures in record { site = e.site; table = e.table.0; failed = e.table.1; keeps = e.keeps; leaves = e.leaves };
   settled = c.in_ok-sync.ensures.settled;
@@ -167,7 +176,7 @@ lasting_last g c = let e = c.sync-2.ensures in record { site = e.site; table = e
 
 -- what is in memory then
 abbrev lasting_memory : (g : Over) (c : goal.After-memory-1 g) → Memory
-lasting_memory g c = record { tree = c.add.new.self; records = c.args.memory.now.records; attached = c.args.memory.now.attached; operation = op.Copy c.in-Copy.child c.in-Copy.parent (c.args.block + 1) }
+lasting_memory g c = record { tree = c.add.new.self; records = c.args.memory.now.records; attached = c.args.memory.now.attached; operation = c.behind-memory.result }
 
 pub returns-clause-beside : goal.returns-clause-beside
 returns-clause-beside g c = λ told. Keeps-then (c.sync.ensures.beside told) (Keeps-then (c.copy_sectors-copied.ensures.copies.works.stays.beside told) (c.sync-2.ensures.beside told))
@@ -177,23 +186,46 @@ lasting_rows : (g : Over) (c : goal.After-memory-1 g)
 lasting_rows g c = back_in_place (lasting g c).images c.copy_sectors-copied.new.parent
     (grown_name c.in-Some.row.image c.copy_sectors-copied.new.parent c.copy_sectors-copied.ensures.copies.grown) c.take.ensures.rows c.add.ensures.rows
 
+lasting_rest : (g : Over) (c : goal.After-memory-1 g) → known (lasting_memory g c) ≡ record (known c.args.memory.now) { rows = c.add.new.self.rows; op = advanced c.args.block c.args.memory.now.operation }
+lasting_rest g c = ap (λ o. let k : Known = record (known c.args.memory.now) { rows = c.add.new.self.rows; op = o } in k) c.behind-memory.ensures
+
 pub returns-clause-images : goal.returns-clause-images
 returns-clause-images g c = ap (λ (rs : List TreeRow). length rs) (lasting_rows g c) ∙ length-map c.args.memory.now.tree.rows _
 
 pub returns-clause-orderly_still : goal.returns-clause-orderly_still
-returns-clause-orderly_still g c = whole_orderly (lasting g c) (lasting_last g c) (lasting_memory g c) c.in_ok-copied.ensures.copied (lasting_rows g c) refl
+returns-clause-orderly_still g c = whole_orderly (lasting g c) (lasting_last g c) (lasting_memory g c) c.in_ok-copied.ensures.copied (lasting_rows g c) (lasting_rest g c)
 
 pub returns-clause-tidy_still : goal.returns-clause-tidy_still
-returns-clause-tidy_still g c = whole_tidy (lasting g c) (lasting_last g c) (lasting_memory g c) c.in_ok-copied.ensures.copied (lasting_rows g c) refl c.requires.tidy
+returns-clause-tidy_still g c = whole_tidy (lasting g c) (lasting_last g c) (lasting_memory g c) c.in_ok-copied.ensures.copied (lasting_rows g c) (lasting_rest g c) c.requires.tidy
 
 pub returns-clause-true_still : goal.returns-clause-true_still
-returns-clause-true_still g c = whole_true (lasting g c) (lasting_last g c) (lasting_memory g c) c.in_ok-copied.ensures.copied (lasting_rows g c) refl c.requires.true_now
+returns-clause-true_still g c = whole_true (lasting g c) (lasting_last g c) (lasting_memory g c) c.in_ok-copied.ensures.copied (lasting_rows g c) (lasting_rest g c) c.requires.true_now
+
+pub returns-clause-lowered : goal.returns-clause-lowered
+returns-clause-lowered g c = whole_lowered (lasting g c) (lasting_last g c) (lasting_memory g c) c.in_ok-copied.ensures.copied (lasting_rows g c) (lasting_rest g c)
 
 pub returns-clause-shape : goal.returns-clause-shape
-returns-clause-shape g c = whole_shape (lasting g c) (lasting_last g c) (lasting_memory g c) c.in_ok-copied.ensures.copied (lasting_rows g c) refl c.in_ok-sync-2.ensures.settled
+returns-clause-shape g c = whole_shape (lasting g c) (lasting_last g c) (lasting_memory g c) c.in_ok-copied.ensures.copied (lasting_rows g c) (lasting_rest g c) c.in_ok-sync-2.ensures.settled
 
 pub returns-clause-done : goal.returns-clause-done
-returns-clause-done g c = whole_done (lasting g c) (lasting_last g c) (lasting_memory g c) c.in_ok-copied.ensures.copied (lasting_rows g c) refl c.in_ok-sync-2.ensures.settled _
+returns-clause-done g c = whole_done (lasting g c) (lasting_last g c) (lasting_memory g c) c.in_ok-copied.ensures.copied (lasting_rows g c) (lasting_rest g c) c.in_ok-sync-2.ensures.settled _
 
 pub returns-clause-masked : goal.returns-clause-masked
 returns-clause-masked g c = synced_masked (lasting g c) (lasting_last g c)
+
+-- ---- nothing else was pending when the parent was written
+
+pub returns-in_err-sync-clause-first : goal.returns-in_err-sync-clause-first
+returns-in_err-sync-clause-first g c = nothing_synced g.S.Store c.args.memory.now.operation c.args.store.now c.sync.new.self c.sync.ensures.leaves
+
+pub returns-in_err-copied-clause-first : goal.returns-in_err-copied-clause-first
+returns-in_err-copied-clause-first g c =
+    copy_synced g.S.Store c.args.memory.now.operation c.images-child.result.0 c.images-child.result.1 c.args.store.now c.copy_sectors-copied.new.store c.images-child.ensures (written_beside (stopped g c))
+
+pub returns-in_err-sync-2-clause-first : goal.returns-in_err-sync-2-clause-first
+returns-in_err-sync-2-clause-first g c =
+    copy_synced g.S.Store c.args.memory.now.operation c.images-child.result.0 c.images-child.result.1 c.args.store.now c.sync-2.new.self c.images-child.ensures (synced_beside (unsynced g c) (unsynced_last g c))
+
+pub returns-clause-first : goal.returns-clause-first
+returns-clause-first g c =
+    copy_synced g.S.Store c.args.memory.now.operation c.images-child.result.0 c.images-child.result.1 c.args.store.now c.sync-2.new.self c.images-child.ensures (synced_beside (lasting g c) (lasting_last g c))

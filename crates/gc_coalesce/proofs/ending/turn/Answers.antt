@@ -1,11 +1,11 @@
-use Rattle.std.proofs.Common.{inl, inr, refl, sym, ap, subst}
+use Rattle.std.proofs.Common.{inl, inr, refl, sym, ap, subst, ◌∙◌}
 use Rattle.sm_machine.specs.Collector.{turned}
 use Rattle.sm_ready.specs.Known.{known}
 use Rattle.sm_ready.proofs.ChainLaws.{err_not_ok}
 use Rattle.sm_ready.proofs.OperationLaws.{WorksAt}
 use Rattle.sm_ready.proofs.RoomLaws.{rows_commits}
 use Rattle.sm_ready.proofs.TakenLaws.{is_told}
-use Rattle.gc_coalesce.proofs.EndingLaws.{can_end, done_end, failed_end, orderly_end, shape_end, tidy_end, true_end, turns, worked_named}
+use Rattle.gc_coalesce.proofs.EndingLaws.{can_end, gc_end, gc_failed, orderly_end, shape_end, step_turn, tidy_end, true_end, turns, worked_named}
 use Rattle.gc_coalesce.proofs.PlannedLaws.{turn_planned}
 use Rattle.gc_coalesce.proofs.ending.turn.Goals as goal
 
@@ -36,7 +36,7 @@ pub returns-in_err-replace-clause-done : goal.returns-in_err-replace-clause-done
 returns-in_err-replace-clause-done g c = λ told ready.
     let r = c.requires in
     let h = turns g.S.Store c.args.store.now c.args.memory.now r.orderly r.planned c.in-Copy.is c.copy_entry.ensures c.link_entry.ensures in
-    failed_end g.S.Store c.args.store.now c.args.memory.now h
+    gc_failed g.S.Store c.args.store.now c.args.memory.now h
     (is_told g.S.Store c.args.store.now c.args.memory.now r.orderly r.usable told ready (g.met.S.Store.leaves_now c.args.store.now told r.usable))
     c.args.memory.now _ (λ fine. err_not_ok _ tt c.from_residual.ensures.0 fine) c.in_err-replace.ensures.fails (c.replace.ensures.crash told)
 
@@ -72,11 +72,11 @@ pub returns-clause-shape : goal.returns-clause-shape
 returns-clause-shape g c =
     let r = c.requires in
     let h = turns g.S.Store c.args.store.now c.args.memory.now r.orderly r.planned c.in-Copy.is c.copy_entry.ensures c.link_entry.ensures in
-    shape_end g.S.Store c.args.store.now c.args.memory.now h c.in_ok-replace.ensures.commits
+    shape_end g.S.Store c.args.store.now c.args.memory.now h c.in_ok-replace.ensures.commits ∙ step_turn _ _ (known c.args.memory.now) _ _ _ r.planned c.in-Copy.is
 
 pub returns-clause-done : goal.returns-clause-done
 returns-clause-done g c = λ told ready.
     let r = c.requires in
     let h = turns g.S.Store c.args.store.now c.args.memory.now r.orderly r.planned c.in-Copy.is c.copy_entry.ensures c.link_entry.ensures in
-    done_end g.S.Store c.args.store.now c.args.memory.now h c.in_ok-replace.ensures.commits
+    gc_end g.S.Store c.args.store.now c.args.memory.now h c.in_ok-replace.ensures.commits
     (is_told g.S.Store c.args.store.now c.args.memory.now r.orderly r.usable told ready (g.met.S.Store.leaves_now c.args.store.now told r.usable)) (c.replace.ensures.crash told) _

@@ -1,10 +1,11 @@
-use Rattle.std.proofs.Common.{◌≡◌, ◌∙◌, refl, sym, ap, ap₂, subst, subst₂}
+use Rattle.std.proofs.Common.{inl, ◌≡◌, ◌∙◌, refl, sym, ap, ap₂, subst, subst₂}
 use Rattle.std.specs.Prelude.{option_copied, IsSome}
 use Rattle.common_laws.specs.Lists.{In}
 use Rattle.sm_base.specs.Names.{IsName}
 use Rattle.sm_disk.proofs.HeldLaws.{Keeps-then}
 use Rattle.vg_meta.specs.Roomy.{table_alone}
 use Rattle.vg_volumes.proofs.StoredLaws.{stays_from}
+use Rattle.vg_volumes.specs.Stored.{WorksOn}
 use Rattle.vhd_chain.specs.Trees.{row_name, tree_row, with_replaced}
 use Rattle.vhd_chain.proofs.ByName.{tree_row-without_other, tree_row-without_same}
 use Rattle.sm_ready.specs.Known.{Known, known, shape_in}
@@ -18,6 +19,7 @@ use Rattle.sm_ready.proofs.TruthLaws.{row_stands, row_true}
 use Rattle.gc_coalesce.proofs.LinkEnds.{IsRested, IsToLinkIn, links_there, proper, relink_done, relink_failed, relink_unsettled, rest_failed, rested}
 use Rattle.gc_coalesce.proofs.LinkLaws.{above_found, child_found, enough, linked_row, not_parent, orderly_linked, own_vhd, runs, shape_next_linked, tidy_linked, to_link}
 use Rattle.gc_coalesce.proofs.LinkStores.{parent_row, rows_back, rows_length, same_name, true_linked, with_image}
+use Rattle.gc_coalesce.proofs.SyncedLaws.{synced_again, written_synced}
 use Rattle.gc_coalesce.proofs.linking.relink_one.Given.{Over}
 use Rattle.gc_coalesce.proofs.linking.relink_one.Goals as goal
 
@@ -233,3 +235,23 @@ returns-clause-done g c = λ told ready.
     (record { site = c.sync-2.ensures.site; table = c.sync-2.ensures.table.0; failed = c.sync-2.ensures.table.1; keeps = c.sync-2.ensures.keeps told; leaves = c.sync-2.ensures.leaves told })
     (let e = c.sync-2.ensures in stays_from {g = g.S.Store} e.site e.table e.no_less e.counts e.beside) (c.in_ok-sync-2.ensures.settled told)
     c.set_parent-linked.new.self c.in_ok-linked.ensures.new_parent c.in_ok-linked.ensures.true_after _ c.relinked.new.self (memory_is g c) _
+
+-- ---- nothing else was pending when the child was linked
+
+pub returns-in_err-sync-clause-first : goal.returns-in_err-sync-clause-first
+returns-in_err-sync-clause-first g c = λ told t image leaves. inl (c.sync.ensures.leaves told t image leaves)
+
+pub returns-in_err-linked-clause-first : goal.returns-in_err-linked-clause-first
+returns-in_err-linked-clause-first g c =
+    written_synced g.S.Store c.args.store.now c.sync.new.self c.set_parent-linked.new.store c.args.child.now c.requires.usable g.met.S.Store.leaves_now (unlinked_rest g c)
+    (subst (λ n. WorksOn g.S.Store n c.sync.new.self c.set_parent-linked.new.store) (unlinked g c).named c.set_parent-linked.ensures.works)
+
+pub returns-in_err-sync-2-clause-first : goal.returns-in_err-sync-2-clause-first
+returns-in_err-sync-2-clause-first g c =
+    synced_again g.S.Store c.args.store.now c.sync.new.self c.set_parent-linked.new.store c.args.child.now c.requires.usable g.met.S.Store.leaves_now (unsynced_rest g c)
+    (subst (λ n. WorksOn g.S.Store n c.sync.new.self c.set_parent-linked.new.store) (unsynced g c).named c.set_parent-linked.ensures.works) c.sync-2.new.self c.sync-2.ensures.leaves
+
+pub returns-clause-first : goal.returns-clause-first
+returns-clause-first g c =
+    synced_again g.S.Store c.args.store.now c.sync.new.self c.set_parent-linked.new.store c.args.child.now c.requires.usable g.met.S.Store.leaves_now (lasting_rest g c)
+    (subst (λ n. WorksOn g.S.Store n c.sync.new.self c.set_parent-linked.new.store) (lasting g c).named c.set_parent-linked.ensures.works) c.sync-2.new.self c.sync-2.ensures.leaves

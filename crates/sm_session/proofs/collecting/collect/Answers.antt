@@ -24,7 +24,7 @@ pub work-requires-clause-no_begin : goal.work-requires-clause-no_begin
 work-requires-clause-no_begin g c = others_spare c.args.plan c.in_default.not-Begin
 
 pub returns-in_err-work-in_default-clause-lowered : goal.returns-in_err-work-in_default-clause-lowered
-returns-in_err-work-in_default-clause-lowered g c = λ told ready.
+returns-in_err-work-in_default-clause-lowered g c =
     let e = err_from_is_err_and c.from_residual.result c.from_residual.ensures.1 in
     let was = debt (store_shape g.S.Store c.args.store.now c.args.memory.now) in
     let is = debt (store_shape g.S.Store c.work.new.store c.work.new.memory) in
@@ -46,9 +46,7 @@ unfolding is_accepted
 returns-in_ok-work-in_default-clause-untouched g c = λ e. absurd (true≢false e)
 
 pub returns-in_ok-work-in_default-clause-lowered : goal.returns-in_ok-work-in_default-clause-lowered
-returns-in_ok-work-in_default-clause-lowered g c = λ told ready yes working.
-    gc_lowers (store_shape g.S.Store c.args.store.now c.args.memory.now) _ c.requires.orderly.well_formed (c.in_ok-work-in_default.ensures.shape told ready)
-    (ap is_working c.requires.planned ∙ working)
+returns-in_ok-work-in_default-clause-lowered g c = λ yes working. c.in_ok-work-in_default.ensures.lowered
 
 pub returns-in_ok-work-in_default-clause-taken : goal.returns-in_ok-work-in_default-clause-taken
 unfolding reply_to shape_in
@@ -71,7 +69,7 @@ unfolding is_accepted
 returns-in-Ok-clause-untouched g c = λ e. absurd (true≢false e)
 
 pub returns-in-Ok-clause-lowered : goal.returns-in-Ok-clause-lowered
-returns-in-Ok-clause-lowered g c = λ told ready yes working.
+returns-in-Ok-clause-lowered g c = λ yes working.
     gc_lowers (store_shape g.S.Store c.args.store.now c.args.memory.now) _ c.requires.orderly.well_formed c.in-Ok.ensures.shape (ap is_working c.requires.planned ∙ working)
 
 pub returns-in-Ok-clause-taken : goal.returns-in-Ok-clause-taken
@@ -88,7 +86,7 @@ returns-in-Err-NoMemory-clause-spared g c = λ poor. ap begins c.in-Begin.is
 
 pub returns-in-Err-NoMemory-clause-lowered : goal.returns-in-Err-NoMemory-clause-lowered
 unfolding is_accepted
-returns-in-Err-NoMemory-clause-lowered g c = λ told ready yes. absurd (true≢false (sym yes))
+returns-in-Err-NoMemory-clause-lowered g c = λ yes. absurd (true≢false (sym yes))
 
 pub returns-in-Err-NoMemory-clause-taken : goal.returns-in-Err-NoMemory-clause-taken
 returns-in-Err-NoMemory-clause-taken g c = λ told ready.

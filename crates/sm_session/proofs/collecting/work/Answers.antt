@@ -1,14 +1,16 @@
-use Rattle.std.proofs.Common.{◌≡◌, sym, ap, ◌∙◌, subst}
+use Rattle.std.proofs.Common.{◌≡◌, OnOk, sym, ap, ◌∙◌, subst}
 use Rattle.std.proofs.lemmas.Result.{on_ok_weaker}
+use Rattle.sm_machine.specs.Laws.{is_working}
 use Rattle.sm_machine.specs.Shapes.{image_uuid}
 use Rattle.sm_machine.specs.Steps.{disks_next, is_fold, shape_next}
 use Rattle.sm_machine.specs.declared.commands.Command.TheVariants.{Gc}
-use Rattle.sm_ready.specs.Does.{store_shape}
+use Rattle.sm_ready.specs.Does.{ShapesAs, store_shape}
 use Rattle.sm_ready.specs.Known.{shape_in}
 use Rattle.sm_ready.proofs.KeptLaws.{vhd_named}
 use Rattle.sm_space.specs.Deflating.{CanDeflate, deflated}
 use Rattle.sm_space.proofs.LooseLaws.{planned_cut, shape_planned}
-use Rattle.sm_session.proofs.CollectLaws.{advanced_folds, copy_runs, seven_work, turned_folds}
+use Rattle.sm_session.proofs.CollectLaws.{advanced_folds, copy_runs, seven_work, turned_folds, work_lowers}
+use Rattle.sm_session.proofs.collecting.work.Given.{Over}
 use Rattle.sm_session.proofs.collecting.work.Goals as goal
 
 pub unreachable-requires : goal.unreachable-requires
@@ -31,11 +33,19 @@ unreachable-requires-in_default g c =
     seven_work (store_shape g.S.Store c.args.store.now c.args.memory.now) c.args.plan c.requires.planned c.requires.no_fold c.requires.built c.requires.working c.requires.no_begin
     c.in_default.not-Remove c.in_default.not-Deflate c.in_default.not-Copy c.in_default.not-Turn c.in_default.not-RelinkOne c.in_default.not-Finish c.in_default.not-Abandon
 
-pub returns-in-Vhd-clause-shape : goal.returns-in-Vhd-clause-shape
-returns-in-Vhd-clause-shape g c = λ told ready.
+-- a cut leaves the machine's shape
+cut_shape : (g : Over) (c : goal.After-deflate g) → OnOk c.deflate.result (ShapesAs g.S.Store Gc c.args.store.now c.args.memory.now c.deflate.new.store c.deflate.new.memory)
+cut_shape g c =
     let s = store_shape g.S.Store c.args.store.now c.args.memory.now in
     let next = subst (λ n. shape_next s Gc ≡ deflated n c.in-Deflate.to s) c.in-Vhd.is (shape_planned s c.in-Deflate.name c.in-Deflate.to (c.requires.planned ∙ c.in-Deflate.is)) in
     on_ok_weaker c.deflate.result (λ is. is ∙ sym next) c.deflate.ensures.shape
+
+pub returns-in-Vhd-clause-shape : goal.returns-in-Vhd-clause-shape
+returns-in-Vhd-clause-shape g c = λ told ready. cut_shape g c
+
+pub returns-in-Vhd-clause-lowered : goal.returns-in-Vhd-clause-lowered
+returns-in-Vhd-clause-lowered g c =
+    work_lowers (store_shape g.S.Store c.args.store.now c.args.memory.now) _ c.requires.orderly.well_formed (ap is_working c.requires.planned ∙ c.requires.working) c.deflate.result (cut_shape g c)
 
 pub returns-in-Vhd-clause-done : goal.returns-in-Vhd-clause-done
 unfolding disks_next
@@ -55,3 +65,23 @@ returns-in-Finish-clause-no_fold_still g c = on_ok_weaker c.finish.result (λ is
 pub returns-in-Abandon-clause-no_fold_still : goal.returns-in-Abandon-clause-no_fold_still
 unfolding is_fold
 returns-in-Abandon-clause-no_fold_still g c = on_ok_weaker c.abandon.result (λ is. ap is_fold is) c.abandon.ensures.operation
+
+pub returns-in-Remove-clause-lowered : goal.returns-in-Remove-clause-lowered
+returns-in-Remove-clause-lowered g c =
+    work_lowers (store_shape g.S.Store c.args.store.now c.args.memory.now) _ c.requires.orderly.well_formed (ap is_working c.requires.planned ∙ c.requires.working) c.remove.result c.remove.ensures.shape
+
+pub returns-in-Turn-clause-lowered : goal.returns-in-Turn-clause-lowered
+returns-in-Turn-clause-lowered g c =
+    work_lowers (store_shape g.S.Store c.args.store.now c.args.memory.now) _ c.requires.orderly.well_formed (ap is_working c.requires.planned ∙ c.requires.working) c.turn.result c.turn.ensures.shape
+
+pub returns-in-RelinkOne-clause-lowered : goal.returns-in-RelinkOne-clause-lowered
+returns-in-RelinkOne-clause-lowered g c =
+    work_lowers (store_shape g.S.Store c.args.store.now c.args.memory.now) _ c.requires.orderly.well_formed (ap is_working c.requires.planned ∙ c.requires.working) c.relink_one.result c.relink_one.ensures.shape
+
+pub returns-in-Finish-clause-lowered : goal.returns-in-Finish-clause-lowered
+returns-in-Finish-clause-lowered g c =
+    work_lowers (store_shape g.S.Store c.args.store.now c.args.memory.now) _ c.requires.orderly.well_formed (ap is_working c.requires.planned ∙ c.requires.working) c.finish.result c.finish.ensures.shape
+
+pub returns-in-Abandon-clause-lowered : goal.returns-in-Abandon-clause-lowered
+returns-in-Abandon-clause-lowered g c =
+    work_lowers (store_shape g.S.Store c.args.store.now c.args.memory.now) _ c.requires.orderly.well_formed (ap is_working c.requires.planned ∙ c.requires.working) c.abandon.result c.abandon.ensures.shape

@@ -14,15 +14,15 @@ use Rattle.sm_ready.specs.Orderly.{IsOrderly}
 use Rattle.sm_ready.specs.Stores.{content_now}
 use Rattle.sm_ready.proofs.ChainLaws.{done_behind, err_not_ok, ready_read}
 use Rattle.sm_ready.proofs.FrameLaws.{true_reads}
-use Rattle.sm_space.specs.Inflating.{HasFree, IsBelow, inflated}
+use Rattle.sm_space.specs.Inflating.{HasFree, IsBelow, IsEnlarged, inflated}
 use Rattle.sm_space.proofs.InflatingLaws.{only_read}
-use Rattle.gc_coalesce.specs.Beginning.{CanEnter, entered}
+use Rattle.gc_coalesce.specs.Beginning.{CanBegin, KeepsExtents, entered}
 use Rattle.gc_coalesce.proofs.BeginRows.{spare_row}
-use Rattle.gc_coalesce.proofs.BeginSteps.{both_done, can_now, can_then, has_free, idle, image_name, is_below, next_now, next_then, not_gone, shape_read, told_read}
-use Rattle.gc_coalesce.proofs.beginning.begin.Goals as goal
+use Rattle.gc_coalesce.proofs.BeginSteps.{both_done, can_now, can_then, has_free, idle, image_name, is_below, next_now, next_then, not_gone, shape_read, told_read, widened_now, widened_then}
+use Rattle.gc_coalesce.proofs.beginning.fold.Goals as goal
 
 pub unreachable-requires : goal.unreachable-requires
-unreachable-requires g c = not_gone _ _ (known c.args.memory.now) _ _ _ c.requires.orderly c.requires.planned (sym c.get.ensures ∙ ap option_copied c.in_default.is)
+unreachable-requires g c = not_gone _ _ (known c.args.memory.now) c.args.hidden c.args.child.now c.args.parent.now c.args.to c.requires.orderly c.requires.planned (sym c.get.ensures ∙ ap option_copied c.in_default.is)
 
 -- ---- memory is wanting
 
@@ -45,13 +45,13 @@ enter-requires-clause-row g c =
     let stays = c.make_room.ensures.reads.stays in
     spare_row (g.S.Store.site c.args.store.now) (g.S.Store.table c.make_room.new.store) (known c.args.memory.now)
     (subst (λ t. IsOrderly (g.S.Store.site c.args.store.now) t (known c.args.memory.now)) (sym stays.table) c.requires.orderly)
-    (idle _ _ (known c.args.memory.now) _ _ _ c.requires.orderly c.requires.planned) c.in-Ok.ensures.room
+    (idle _ _ (known c.args.memory.now) c.args.hidden c.args.child.now c.args.parent.now c.args.to c.requires.orderly c.requires.planned) c.in-Ok.ensures.room
 
 pub enter-requires-clause-can : goal.enter-requires-clause-can
 enter-requires-clause-can g c =
     let there = sym c.get.ensures ∙ ap option_copied c.in-Some.is in
-    subst (λ σ. CanEnter σ c.args.child.now c.args.parent.now) (sym (shape_read c.args.memory.now c.make_room.ensures.reads))
-    (can_now _ _ (known c.args.memory.now) _ _ _ c.requires.orderly c.requires.planned c.in-Some.row.now there c.if-to-had.true)
+    subst (λ σ. CanBegin σ c.args.hidden c.args.child.now c.args.parent.now) (sym (shape_read c.args.memory.now c.make_room.ensures.reads))
+    (can_now _ _ (known c.args.memory.now) c.args.hidden c.args.child.now c.args.parent.now c.args.to c.requires.orderly c.requires.planned c.in-Some.row.now there c.if-to-had.true)
 
 pub returns-in_default-enter-clause-beside : goal.returns-in_default-enter-clause-beside
 returns-in_default-enter-clause-beside g c = λ told. Keeps-then (c.make_room.ensures.reads.stays.beside told) (c.enter.ensures.beside told)
@@ -69,8 +69,14 @@ returns-then-to-had-clause-beside g c = λ told. Keeps-then (c.make_room.ensures
 pub returns-then-to-had-clause-shape : goal.returns-then-to-had-clause-shape
 returns-then-to-had-clause-shape g c =
     let there = sym c.get.ensures ∙ ap option_copied c.in-Some.is in
-    c.in-Ok-enter.ensures.shape ∙ ap (entered c.args.child.now c.args.parent.now) (shape_read c.args.memory.now c.make_room.ensures.reads)
-    ∙ next_now _ _ (known c.args.memory.now) _ _ _ c.requires.orderly c.requires.planned c.in-Some.row.now there c.if-to-had.true
+    c.in-Ok-enter.ensures.shape ∙ ap (entered c.args.hidden c.args.child.now c.args.parent.now) (shape_read c.args.memory.now c.make_room.ensures.reads)
+    ∙ next_now _ _ (known c.args.memory.now) c.args.hidden c.args.child.now c.args.parent.now c.args.to c.requires.orderly c.requires.planned c.in-Some.row.now there c.if-to-had.true
+
+pub returns-then-to-had-clause-least : goal.returns-then-to-had-clause-least
+returns-then-to-had-clause-least g c =
+    let there = sym c.get.ensures ∙ ap option_copied c.in-Some.is in
+    widened_now _ _ (known c.args.memory.now) c.args.hidden c.args.child.now c.args.parent.now c.args.to c.requires.orderly c.requires.planned c.in-Some.row.now there c.if-to-had.true _
+    (subst (λ t. KeepsExtents t (table_alone (g.S.Store.table c.enter.new.store))) c.make_room.ensures.reads.stays.table c.in-Ok-enter.ensures.extents)
 
 pub returns-then-to-had-clause-done : goal.returns-then-to-had-clause-done
 unfolding disks_next
@@ -81,23 +87,27 @@ returns-then-to-had-clause-done g c = λ told ready.
 
 -- ---- it is to gain some
 
-pub image_uuid-requires : goal.image_uuid-requires
-image_uuid-requires g c = image_name _ _ (known c.args.memory.now) _ _ _ c.requires.orderly c.requires.planned c.in-Some.row.now (sym c.get.ensures ∙ ap option_copied c.in-Some.is)
+pub uuid_of-requires : goal.uuid_of-requires
+uuid_of-requires g c =
+    record {
+      image = image_name _ _ (known c.args.memory.now) c.args.hidden c.args.child.now c.args.parent.now c.args.to
+          c.requires.orderly c.requires.planned c.in-Some.row.now (sym c.get.ensures ∙ ap option_copied c.in-Some.is);
+    }
 
 pub inflate-requires-clause-true_now : goal.inflate-requires-clause-true_now
 inflate-requires-clause-true_now g c = true_reads g.S.Store c.args.memory.now c.args.memory.now refl c.make_room.ensures.reads c.requires.true_now
 
 pub inflate-requires-clause-there : goal.inflate-requires-clause-there
 inflate-requires-clause-there g c =
-    subst (λ u. IsBelow c.args.memory.now.tree.rows u c.args.to) (sym c.image_uuid.ensures)
-    (is_below _ _ (known c.args.memory.now) _ _ _ c.requires.orderly c.requires.planned c.in-Some.row.now (sym c.get.ensures ∙ ap option_copied c.in-Some.is) c.if-to-had.false)
+    subst (λ u. IsBelow c.args.memory.now.tree.rows u c.args.to) (sym c.uuid_of.ensures)
+    (is_below _ _ (known c.args.memory.now) c.args.hidden c.args.child.now c.args.parent.now c.args.to c.requires.orderly c.requires.planned c.in-Some.row.now (sym c.get.ensures ∙ ap option_copied c.in-Some.is) c.if-to-had.false)
 
 pub inflate-requires-clause-free : goal.inflate-requires-clause-free
 inflate-requires-clause-free g c =
     let stays = c.make_room.ensures.reads.stays in
-    subst (λ u. HasFree (g.S.Store.site c.make_room.new.store).count (table_alone (g.S.Store.table c.make_room.new.store)) c.args.memory.now.tree.rows u c.args.to) (sym c.image_uuid.ensures)
+    subst (λ u. HasFree (g.S.Store.site c.make_room.new.store).count (table_alone (g.S.Store.table c.make_room.new.store)) c.args.memory.now.tree.rows u c.args.to) (sym c.uuid_of.ensures)
     (subst₂ (λ (s : Site) (t : VolumeTable). HasFree s.count t c.args.memory.now.tree.rows (image_uuid c.args.parent.now) c.args.to) (sym stays.site) (sym stays.table)
-    (has_free _ _ (known c.args.memory.now) _ _ _ c.requires.orderly c.requires.planned c.in-Some.row.now (sym c.get.ensures ∙ ap option_copied c.in-Some.is) c.if-to-had.false c.requires.tidy))
+    (has_free _ _ (known c.args.memory.now) c.args.hidden c.args.child.now c.args.parent.now c.args.to c.requires.orderly c.requires.planned c.in-Some.row.now (sym c.get.ensures ∙ ap option_copied c.in-Some.is) c.if-to-had.false c.requires.tidy))
 
 pub returns-in_err-inflate-clause-beside : goal.returns-in_err-inflate-clause-beside
 returns-in_err-inflate-clause-beside g c = λ told. Keeps-then (c.make_room.ensures.reads.stays.beside told) (c.inflate.ensures.beside told)
@@ -121,14 +131,14 @@ returns-in_err-inflate-clause-done g c = λ told ready.
 pub enter-requires-2-clause-row : goal.enter-requires-2-clause-row
 enter-requires-2-clause-row g c =
     spare_row (g.S.Store.site c.inflate.new.store) (g.S.Store.table c.inflate.new.store) (known c.inflate.new.memory) c.in_ok-inflate.ensures.orderly_still
-    (c.inflate.ensures.others.2 ∙ idle _ _ (known c.args.memory.now) _ _ _ c.requires.orderly c.requires.planned) (c.in_ok-inflate.ensures.room c.in-Ok.ensures.room)
+    (c.inflate.ensures.others.2 ∙ idle _ _ (known c.args.memory.now) c.args.hidden c.args.child.now c.args.parent.now c.args.to c.requires.orderly c.requires.planned) (c.in_ok-inflate.ensures.room c.in-Ok.ensures.room)
 
 pub enter-requires-2-clause-can : goal.enter-requires-2-clause-can
 enter-requires-2-clause-can g c =
     let there = sym c.get.ensures ∙ ap option_copied c.in-Some.is in
-    subst (λ σ. CanEnter σ c.args.child.now c.args.parent.now)
-    (sym (c.in_ok-inflate.ensures.shape ∙ ap₂ (λ u σ. inflated u c.args.to σ) c.image_uuid.ensures (shape_read c.args.memory.now c.make_room.ensures.reads)))
-    (can_then _ _ (known c.args.memory.now) _ _ _ c.requires.orderly c.requires.planned c.in-Some.row.now there c.if-to-had.false)
+    subst (λ σ. CanBegin σ c.args.hidden c.args.child.now c.args.parent.now)
+    (sym (c.in_ok-inflate.ensures.shape ∙ ap₂ (λ u σ. inflated u c.args.to σ) c.uuid_of.ensures (shape_read c.args.memory.now c.make_room.ensures.reads)))
+    (can_then _ _ (known c.args.memory.now) c.args.hidden c.args.child.now c.args.parent.now c.args.to c.requires.orderly c.requires.planned c.in-Some.row.now there c.if-to-had.false)
 
 pub returns-in_default-enter-2-clause-beside : goal.returns-in_default-enter-2-clause-beside
 returns-in_default-enter-2-clause-beside g c = λ told. Keeps-then (c.make_room.ensures.reads.stays.beside told) (Keeps-then (c.inflate.ensures.beside told) (c.enter-2.ensures.beside told))
@@ -150,8 +160,17 @@ pub returns-clause-shape : goal.returns-clause-shape
 returns-clause-shape g c =
     let there = sym c.get.ensures ∙ ap option_copied c.in-Some.is in
     c.in-Ok-enter-2.ensures.shape
-    ∙ ap (entered c.args.child.now c.args.parent.now) (c.in_ok-inflate.ensures.shape ∙ ap₂ (λ u σ. inflated u c.args.to σ) c.image_uuid.ensures (shape_read c.args.memory.now c.make_room.ensures.reads))
-    ∙ next_then _ _ (known c.args.memory.now) _ _ _ c.requires.orderly c.requires.planned c.in-Some.row.now there c.if-to-had.false
+    ∙ ap (entered c.args.hidden c.args.child.now c.args.parent.now) (c.in_ok-inflate.ensures.shape ∙ ap₂ (λ u σ. inflated u c.args.to σ) c.uuid_of.ensures (shape_read c.args.memory.now c.make_room.ensures.reads))
+    ∙ next_then _ _ (known c.args.memory.now) c.args.hidden c.args.child.now c.args.parent.now c.args.to c.requires.orderly c.requires.planned c.in-Some.row.now there c.if-to-had.false
+
+pub returns-clause-least : goal.returns-clause-least
+returns-clause-least g c =
+    let there = sym c.get.ensures ∙ ap option_copied c.in-Some.is in
+    let stays = c.make_room.ensures.reads.stays in
+    widened_then _ _ (known c.args.memory.now) c.args.hidden c.args.child.now c.args.parent.now c.args.to c.requires.orderly c.requires.planned c.in-Some.row.now there c.if-to-had.false _ _
+    (subst (λ u. IsEnlarged (g.S.Store.site c.args.store.now).count (table_alone (g.S.Store.table c.args.store.now)) u c.args.to (table_alone (g.S.Store.table c.inflate.new.store))) c.uuid_of.ensures
+    (subst₂ (λ (s : Site) (t : VolumeTable). IsEnlarged s.count t c.uuid_of.result c.args.to (table_alone (g.S.Store.table c.inflate.new.store))) stays.site stays.table c.in_ok-inflate.ensures.least))
+    c.in-Ok-enter-2.ensures.extents
 
 pub returns-clause-done : goal.returns-clause-done
 unfolding disks_next
