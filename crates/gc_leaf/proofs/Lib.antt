@@ -1,0 +1,13 @@
+pub mod SwapSound
+pub mod SwapSteps
+pub mod SwapNames
+pub mod SwapFold
+pub mod SwapPair
+pub mod SwapTables
+pub mod SwapCopied
+pub mod SwapMoments
+pub mod SwapMemory
+pub mod SwapUses
+pub mod SwapEnds
+pub mod SwapRows
+pub mod SwapStores

@@ -1,0 +1,97 @@
+//! The parent takes the leaf's place.
+
+ghost use Rattle.std.specs.Prelude.{◌≡◌, ◌≤◌, ◌+◌, ℕ, true, false, OnErr, OnOk};
+ghost use Rattle.std.specs.declared.result.Result.TheVariants.{Ok};
+ghost use Rattle.sm_base.specs.declared.names.Name.{Name as NameModel};
+ghost use Rattle.sm_base.specs.declared.operations.Op.TheVariants as op;
+ghost use Rattle.sm_base.specs.declared.operations.Plan.TheVariants as plan;
+ghost use Rattle.sm_disk.specs.Held.{Keeps};
+ghost use Rattle.vg_meta.specs.Roomy.{table_alone};
+ghost use Rattle.vg_volumes.specs.Stored.{Counts, Leaves};
+ghost use Rattle.vhd_chain.specs.Trees.{tree_row};
+ghost use Rattle.sm_machine.specs.Collector.{next_step};
+ghost use Rattle.sm_machine.specs.Shapes.{image_uuid, is_vhd};
+ghost use Rattle.sm_machine.specs.declared.commands.Command.TheVariants as command;
+ghost use Rattle.sm_ready.specs.Does.{ShapesAs, StoreDoes, store_shape};
+ghost use Rattle.sm_ready.specs.Frames.{HasCommits, HasTrueImages};
+ghost use Rattle.sm_ready.specs.Sessions.{HasRows, HasTreeRoom, IsOrderlyStore, IsReadyStore, IsTidyStore};
+ghost use Rattle.gc_leaf.specs.Swapping.{CanFold, IsMoved, swapped_rows};
+
+use crate::runs::run;
+use sm_base::{Failed, Name, Op};
+use sm_ready::Memory;
+use uuid::Uuid;
+use vg_volumes::Store;
+use vhd_chain::Tree;
+
+/// The UUID in the name of a VHD image.
+#[tactic(auto, unfolding(sm_machine::specs::Shapes::image_uuid, sm_machine::specs::Shapes::is_vhd))]
+fn vhd_uuid(name: &Name) -> Uuid
+    requires { is_vhd name.now ≡ true }
+    ensures { result ≡ image_uuid name.now }
+{
+    match *name {
+        Name::Vhd(uuid) => uuid,
+        _ => unreachable!(),
+    }
+}
+
+/// The leaf's row goes, and the parent's gets the leaf's name and is not hidden. It takes no memory.
+fn fold(tree: &mut Tree, leaf: &Name, parent: &Name)
+    requires { CanFold tree.old leaf.now parent.now }
+    ensures rows { tree.new.rows ≡ swapped_rows leaf.now (tree_row tree.old.rows parent.now) parent.now tree.old.rows }
+    ensures spare { tree.new.spare ≡ tree.old.spare + 1 }
+{
+    let Some(_) = tree.take(leaf) else {
+        unreachable!()
+    };
+    let Some(mut row) = tree.take(parent) else {
+        unreachable!()
+    };
+    row.image.renamed(*leaf);
+    row.hidden = false;
+    tree.add(row);
+}
+
+/// All that the leaf of a disk that is not attached holds was copied into its parent: the leaf goes, and the parent takes its name,
+/// by five commits. No sector is written, and it takes no memory.
+///
+/// # Errors
+///
+/// A call of the store failed: memory is as it was, the store makes no further commit, and a stop leaves the disks from before.
+pub fn swap<S: Store>(store: &mut S, memory: &mut Memory) -> Result<(), Failed>
+    requires usable { S.failed store.old ≡ false }
+    requires orderly { IsOrderlyStore S.Store store.old memory.old }
+    requires tidy { IsTidyStore S.Store store.old memory.old }
+    requires true_now { HasTrueImages S.Store store.old memory.old }
+    requires planned { next_step (store_shape S.Store store.old memory.old) ≡ plan.Swap }
+    ensures site { S.site store.new ≡ S.site store.old }
+    ensures counts { S.faults store.old ≤ S.faults store.new }
+    ensures cause { Counts S.Store result store.old store.new }
+    ensures beside { S.told → Keeps (S.beside store.old) (S.beside store.new) }
+    ensures keeps { S.told → Keeps (S.area store.old) (S.area store.new) }
+    ensures few { HasCommits 5 (table_alone (S.table store.old)) (table_alone (S.table store.new)) }
+    ensures few_left { Leaves S.Store store.new (λ t image. HasCommits 5 (table_alone (S.table store.old)) t) }
+    ensures usable_still { OnOk result (S.failed store.new ≡ false) }
+    ensures stuck { OnErr result (S.failed store.new ≡ true) }
+    ensures unchanged { OnErr result (memory.new ≡ memory.old) }
+    ensures moved { OnOk result ((leaf parent : NameModel) (cursor : ℕ) → memory.old.operation ≡ op.Leaf leaf parent cursor
+        → IsMoved (table_alone (S.table store.old)) (table_alone (S.table store.new)) leaf parent) }
+    ensures operation { OnOk result (memory.new.operation ≡ op.Idle) }
+    ensures others { (memory.new.records ≡ memory.old.records) × (memory.new.attached ≡ memory.old.attached) }
+    ensures room { HasRows (S.table store.old) → OnOk result (HasRows (S.table store.new)) }
+    ensures tree_room { HasTreeRoom memory.old → HasTreeRoom memory.new }
+    ensures orderly_still { OnOk result (IsOrderlyStore S.Store store.new memory.new) }
+    ensures tidy_still { OnOk result (IsTidyStore S.Store store.new memory.new) }
+    ensures true_still { OnOk result (HasTrueImages S.Store store.new memory.new) }
+    ensures shape { OnOk result (ShapesAs S.Store command.Gc store.old memory.old store.new memory.new) }
+    ensures done { S.told → IsReadyStore S.Store store.old memory.old → StoreDoes S.Store command.Gc store.old memory.old store.new memory.new (result ≡ Ok tt) }
+{
+    let Op::Leaf { leaf, parent, .. } = memory.operation else {
+        unreachable!()
+    };
+    run(store, vhd_uuid(&leaf), vhd_uuid(&parent))?;
+    fold(&mut memory.tree, &leaf, &parent);
+    memory.operation = Op::Idle;
+    Ok(())
+}
