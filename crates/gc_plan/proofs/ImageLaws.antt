@@ -21,7 +21,7 @@ use Rattle.vhd_chain.specs.Trees.{row_name, tree_row, is_child_of}
 use Rattle.vhd_chain.specs.Trees as tree
 use Rattle.vhd_chain.specs.declared.rows.TreeRow.{TreeRow}
 use Rattle.sm_machine.specs.Collector.{next_block, table_of}
-use Rattle.sm_machine.specs.Shapes.{ImageRow, children, find_image, is_parent, same_image}
+use Rattle.sm_machine.specs.Shapes.{ImageRow, children, find_image, image_limit, is_parent, same_image}
 use Rattle.sm_machine.specs.WellFormed.{IsWellFormed, is_image_name, table_length}
 use Rattle.sm_machine.proofs.ImageNames.{other_image, same_image-refl}
 use Rattle.sm_ready.specs.Known.{Known, machine_row, shape_in}
@@ -97,6 +97,11 @@ children_found s t m n o = ∥∥₁_elim o.well_formed (hlevel props) (λ w. ch
 -- a table has no more entries than each has
 pub table_few : (s : Site) (t : VolumeTable) (m : Known) (r : TreeRow) → IsOrderly s t m → In r m.rows → length (slots_of r.image) ≤ s.geometry.entries
 table_few s t m r o i = ∥∥₁_elim o.well_formed (hlevel props) (λ w. table_by s t m o w r i)
+
+-- there are no more images in memory than there may be
+pub few_rows : (s : Site) (t : VolumeTable) (m : Known) → IsOrderly s t m → length m.rows ≤ image_limit
+unfolding shape_in
+few_rows s t m o = ∥∥₁_elim o.well_formed (hlevel props) (λ w. omega (arith, w.few, length-map m.rows machine_row))
 
 pub children_counted : (s : Site) (t : VolumeTable) (m : Known) (n : Name) → IsOrderly s t m → length (children n (shape_in s t m).images) ≡ length (tree.children m.rows n)
 children_counted s t m n o = ap (λ (is : List ImageRow). length is) (children_found s t m n o) ∙ length-map (tree.children m.rows n) machine_row

@@ -1,3 +1,4 @@
+mod CountLaws
 pub mod ImageLaws
 mod PairLaws
 mod StepLaws

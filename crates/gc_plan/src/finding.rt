@@ -6,9 +6,11 @@ ghost use Rattle.sm_machine.specs.Collector as machine;
 ghost use Rattle.sm_machine.specs.Collector.{pairs, leaves};
 ghost use Rattle.sm_ready.specs.Known.{Known, known};
 ghost use Rattle.sm_ready.specs.Refusing.{Measures, Recalls};
+ghost use Rattle.gc_plan.specs.Counting.{AreCounted};
 ghost use Rattle.gc_plan.specs.Planning as rules;
 ghost use Rattle.gc_plan.specs.Planning.{Fills, FillsOf, MeasuresOf, MeasuresPair, begun, begun_at, candidates, growth_of, least_of};
 
+use crate::counting::ChildCounts;
 use crate::images::{is_garbage, is_loose, needed};
 use crate::pairs::{Kind, Pair, candidate, fits, growth, target};
 use sm_base::{Geometry, Plan};
@@ -16,12 +18,13 @@ use sm_ready::Memory;
 use vhd_chain::TreeRow;
 
 /// Removes the first hidden image that has no children.
-pub(crate) fn removal(memory: &Memory) -> Option<Plan>
+pub(crate) fn removal(memory: &Memory, counts: &ChildCounts) -> Option<Plan>
+    requires counted { AreCounted memory.now.tree.rows counts.now }
     ensures { Recalls rules.removal (known memory.now) result }
 {
     let rows = memory.tree.rows();
     for row in rows {
-        if is_garbage(memory, row) {
+        if is_garbage(memory, counts, row) {
             return Some(Plan::Remove {
                 name: row.image.name(),
             });
@@ -66,14 +69,16 @@ fn begin(geometry: &Geometry, kind: Kind, pair: &Pair<'_>) -> Plan
 /// The same for one image, where it is of this kind and there is room.
 fn begin_at(
     memory: &Memory,
+    counts: &ChildCounts,
     geometry: &Geometry,
     free: u32,
     kind: Kind,
     row: &TreeRow,
 ) -> Option<Plan>
+    requires counted { AreCounted memory.now.tree.rows counts.now }
     ensures { FillsOf (begun_at kind) geometry.now free (known memory.now) row.now result }
 {
-    let pair = candidate(memory, kind, row)?;
+    let pair = candidate(memory, counts, kind, row)?;
     if fits(geometry, free, &pair) {
         Some(begin(geometry, kind, &pair))
     } else {
@@ -82,12 +87,19 @@ fn begin_at(
 }
 
 /// Begins to fold the first image of this kind into its parent for which there is room.
-pub(crate) fn folding(memory: &Memory, geometry: &Geometry, free: u32, kind: Kind) -> Option<Plan>
+pub(crate) fn folding(
+    memory: &Memory,
+    counts: &ChildCounts,
+    geometry: &Geometry,
+    free: u32,
+    kind: Kind,
+) -> Option<Plan>
+    requires counted { AreCounted memory.now.tree.rows counts.now }
     ensures { Fills (rules.folding kind) geometry.now free (known memory.now) result }
 {
     let rows = memory.tree.rows();
     for row in rows {
-        let plan = begin_at(memory, geometry, free, kind, row);
+        let plan = begin_at(memory, counts, geometry, free, kind, row);
         if plan.is_some() {
             return plan;
         }
@@ -109,31 +121,45 @@ fn lesser(one: Option<u32>, other: Option<u32>) -> Option<u32>
 }
 
 /// The extents that an image's parent is to gain, where the image is of this kind.
-fn growth_at(memory: &Memory, geometry: &Geometry, kind: Kind, row: &TreeRow) -> Option<u32>
+fn growth_at(
+    memory: &Memory,
+    counts: &ChildCounts,
+    geometry: &Geometry,
+    kind: Kind,
+    row: &TreeRow,
+) -> Option<u32>
+    requires counted { AreCounted memory.now.tree.rows counts.now }
     ensures { MeasuresOf (growth_of kind) geometry.now (known memory.now) row.now result }
 {
-    let pair = candidate(memory, kind, row)?;
+    let pair = candidate(memory, counts, kind, row)?;
     Some(growth(geometry, &pair))
 }
 
 /// The least extents that a parent of an image of this kind is to gain.
-fn least_growth(memory: &Memory, geometry: &Geometry, kind: Kind) -> Option<u32>
+fn least_growth(
+    memory: &Memory,
+    counts: &ChildCounts,
+    geometry: &Geometry,
+    kind: Kind,
+) -> Option<u32>
+    requires counted { AreCounted memory.now.tree.rows counts.now }
     ensures { Measures (λ σ. least_of σ (candidates kind σ)) geometry.now (known memory.now) result }
 {
     let mut least = None;
     let rows = memory.tree.rows();
     for row in rows {
-        least = lesser(least, growth_at(memory, geometry, kind, row));
+        least = lesser(least, growth_at(memory, counts, geometry, kind, row));
     }
     least
 }
 
 /// Where images are left and there is room for none, the least room that one needs; else nothing is to be done.
-pub(crate) fn blocked(memory: &Memory, geometry: &Geometry, free: u32) -> Plan
+pub(crate) fn blocked(memory: &Memory, counts: &ChildCounts, geometry: &Geometry, free: u32) -> Plan
+    requires counted { AreCounted memory.now.tree.rows counts.now }
     ensures { Fills (λ σ. machine.blocked σ (pairs σ ++ leaves σ)) geometry.now free (known memory.now) result }
 {
-    let hidden = least_growth(memory, geometry, Kind::Hidden);
-    let leaf = least_growth(memory, geometry, Kind::Leaf);
+    let hidden = least_growth(memory, counts, geometry, Kind::Hidden);
+    let leaf = least_growth(memory, counts, geometry, Kind::Leaf);
     match lesser(hidden, leaf) {
         Some(need) => Plan::Blocked { need, free },
         None => Plan::Idle,

@@ -10,8 +10,10 @@ ghost use Rattle.sm_ready.specs.Known.{Known, known};
 ghost use Rattle.sm_ready.specs.Refusing.{Recalls, Sizes};
 ghost use Rattle.vhd_chain.specs.Trees.{row_name};
 ghost use Rattle.vhd_chain.specs.Reading.{slots_of};
+ghost use Rattle.gc_plan.specs.Counting.{AreCounted};
 ghost use Rattle.gc_plan.specs.Planning.{MeasuresOf, RecallsOf};
 
+use crate::counting::ChildCounts;
 use sm_base::{Geometry, Mode, Name};
 use sm_ready::Memory;
 use vhd_chain::TreeRow;
@@ -54,24 +56,27 @@ fn is_rw(mode: Option<Mode>) -> bool
 }
 
 /// Whether an image has no children.
-pub(crate) fn is_childless(memory: &Memory, row: &TreeRow) -> bool
+pub(crate) fn is_childless(memory: &Memory, counts: &ChildCounts, row: &TreeRow) -> bool
+    requires counted { AreCounted memory.now.tree.rows counts.now }
     ensures { RecallsOf machine.is_childless (known memory.now) row.now result }
 {
-    memory.tree.child_count(&row.image.name()) == 0
+    counts.child_count(&memory.tree, row) == 0
 }
 
 /// Whether an image has exactly one child.
-pub(crate) fn has_one_child(memory: &Memory, row: &TreeRow) -> bool
+pub(crate) fn has_one_child(memory: &Memory, counts: &ChildCounts, row: &TreeRow) -> bool
+    requires counted { AreCounted memory.now.tree.rows counts.now }
     ensures { RecallsOf machine.has_one_child (known memory.now) row.now result }
 {
-    memory.tree.child_count(&row.image.name()) == 1
+    counts.child_count(&memory.tree, row) == 1
 }
 
 /// Whether an image is hidden and has no children.
-pub(crate) fn is_garbage(memory: &Memory, row: &TreeRow) -> bool
+pub(crate) fn is_garbage(memory: &Memory, counts: &ChildCounts, row: &TreeRow) -> bool
+    requires counted { AreCounted memory.now.tree.rows counts.now }
     ensures { RecallsOf machine.is_garbage (known memory.now) row.now result }
 {
-    row.hidden && is_childless(memory, row)
+    row.hidden && is_childless(memory, counts, row)
 }
 
 /// Whether an image is the own one of a disk that is attached for writing.

@@ -1,6 +1,8 @@
 //! Which step the collector takes next, by what is in memory.
 //!
-//! **What is kept here.** Nothing: [`plan`] reads the table and what a session has in memory, and changes neither.
+//! **What is kept here.** [`ChildCounts`]: a number for each image that there may be, whose memory is taken when it is made. What
+//! stood in it before a [`plan`] says nothing: `plan` counts the children of each image anew. It reads the table and what a session
+//! has in memory, and changes neither.
 //!
 //! **What it is.** The machine's `next_step` (`Collector` of `sm_machine`) of the shape in memory (`shape_in` of `sm_ready`). At
 //! rest its rules are tried in this order: a hidden image without children is removed; an image with more extents than its slots
@@ -16,18 +18,21 @@
 //! **In which units.** Room is counted in extents, sizes in sectors, blocks and slots from 0. A cursor is the least block that may
 //! still have to be copied.
 //!
-//! **What it costs.** At rest at most six passes over the images. An image's parent is found by one more pass, and the children
-//! of an image are counted by one: so the work grows with the square of the number of images, of which there are at most 500.
-//! The extents of the table are passed over once for the free ones. The blocks of a pair are counted at most twice, each time by a
-//! pass over the entries of two tables. While an operation runs: a few passes over the images, and one over the entries of one
-//! table from the cursor on.
+//! **What it costs.** At rest at most seven passes over the images: one counts children, and the others are the rules'. In a pass
+//! at most three rows are looked up for an image, its parent's and its own, each by name among the rows, which are in order: by
+//! ten comparisons at most, since there are at most 500 images. The extents of the table are passed over once for the free ones.
+//! The blocks of a pair are counted at most twice, each time by a pass over the entries of two tables. While an operation runs: a
+//! few passes over the images, and one over the entries of one table from the cursor on.
 //!
-//! The definitions are in `specs/`: `Planning` (when an answer of an image or of a pair is the machine's, and the rules one by one).
+//! The definitions are in `specs/`: `Planning` (when an answer of an image or of a pair is the machine's, and the rules one by one),
+//! `Counting` (when each row has its number of children).
 #![tactic(auto)]
 
+mod counting;
 mod finding;
 mod images;
 mod pairs;
 mod planning;
 
+pub use counting::ChildCounts;
 pub use planning::plan;

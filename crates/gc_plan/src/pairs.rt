@@ -9,8 +9,10 @@ ghost use Rattle.sm_ready.specs.Known.{Known, known};
 ghost use Rattle.vhd_chain.specs.Reading.{slots_of};
 ghost use Rattle.vhd_chain.specs.Trees.{row_name};
 ghost use Rattle.vhd_image.specs.Bodies.{sector_count};
+ghost use Rattle.gc_plan.specs.Counting.{AreCounted};
 ghost use Rattle.gc_plan.specs.Planning.{FillsPair, IsPairIn, MeasuresPair, RecallsOf, as_pair, candidate_of};
 
+use crate::counting::{ChildCounts, row_of};
 use crate::images::{has_one_child, is_attached, is_childless, is_vhd, thin, top};
 use sm_base::Geometry;
 use sm_ready::Memory;
@@ -33,13 +35,14 @@ pub(crate) enum Kind {
 }
 
 /// The image and its parent, where the parent has no other child.
-fn with_parent<'a>(memory: &'a Memory, row: &'a TreeRow) -> Option<Pair<'a>>
+fn with_parent<'a>(memory: &'a Memory, counts: &ChildCounts, row: &'a TreeRow) -> Option<Pair<'a>>
+    requires counted { AreCounted memory.now.tree.rows counts.now }
     ensures exact { RecallsOf machine.with_parent (known memory.now) row.now (option_map as_pair result) }
     ensures there { In row.now memory.now.tree.rows → IfSome result (IsPairIn memory.now.tree.rows) }
 {
     let name = row.image.parent()?;
-    let parent = memory.tree.get(&name)?;
-    if has_one_child(memory, parent) {
+    let parent = row_of(&memory.tree, &name)?;
+    if has_one_child(memory, counts, parent) {
         Some(Pair { child: row, parent })
     } else {
         None
@@ -47,10 +50,11 @@ fn with_parent<'a>(memory: &'a Memory, row: &'a TreeRow) -> Option<Pair<'a>>
 }
 
 /// Whether an image is a hidden VHD image with children.
-fn is_between(memory: &Memory, row: &TreeRow) -> bool
+fn is_between(memory: &Memory, counts: &ChildCounts, row: &TreeRow) -> bool
+    requires counted { AreCounted memory.now.tree.rows counts.now }
     ensures { RecallsOf (λ σ i. i.hidden && (is_vhd_name i.name && not (machine.is_childless σ i))) (known memory.now) row.now result }
 {
-    row.hidden && (is_vhd(row) && !is_childless(memory, row))
+    row.hidden && (is_vhd(row) && !is_childless(memory, counts, row))
 }
 
 /// Whether an image is the VHD image of a disk that is not attached.
@@ -68,26 +72,28 @@ fn is_proper(pair: &Pair<'_>) -> bool
 }
 
 /// A hidden VHD image with children and its parent, which is a VHD image, or a raw one of the same size.
-fn pair_of<'a>(memory: &'a Memory, row: &'a TreeRow) -> Option<Pair<'a>>
+fn pair_of<'a>(memory: &'a Memory, counts: &ChildCounts, row: &'a TreeRow) -> Option<Pair<'a>>
+    requires counted { AreCounted memory.now.tree.rows counts.now }
     ensures exact { RecallsOf machine.pair_of (known memory.now) row.now (option_map as_pair result) }
     ensures there { In row.now memory.now.tree.rows → IfSome result (IsPairIn memory.now.tree.rows) }
 {
-    if !is_between(memory, row) {
+    if !is_between(memory, counts, row) {
         return None;
     }
-    let pair = with_parent(memory, row)?;
+    let pair = with_parent(memory, counts, row)?;
     if is_proper(&pair) { Some(pair) } else { None }
 }
 
 /// The VHD image of a disk that is not attached and its parent, which is a VHD image.
-fn leaf_of<'a>(memory: &'a Memory, row: &'a TreeRow) -> Option<Pair<'a>>
+fn leaf_of<'a>(memory: &'a Memory, counts: &ChildCounts, row: &'a TreeRow) -> Option<Pair<'a>>
+    requires counted { AreCounted memory.now.tree.rows counts.now }
     ensures exact { RecallsOf machine.leaf_of (known memory.now) row.now (option_map as_pair result) }
     ensures there { In row.now memory.now.tree.rows → IfSome result (IsPairIn memory.now.tree.rows) }
 {
     if !is_unused(memory, row) {
         return None;
     }
-    let pair = with_parent(memory, row)?;
+    let pair = with_parent(memory, counts, row)?;
     if is_vhd(pair.parent) {
         Some(pair)
     } else {
@@ -96,13 +102,19 @@ fn leaf_of<'a>(memory: &'a Memory, row: &'a TreeRow) -> Option<Pair<'a>>
 }
 
 /// An image of this kind and its parent.
-pub(crate) fn candidate<'a>(memory: &'a Memory, kind: Kind, row: &'a TreeRow) -> Option<Pair<'a>>
+pub(crate) fn candidate<'a>(
+    memory: &'a Memory,
+    counts: &ChildCounts,
+    kind: Kind,
+    row: &'a TreeRow,
+) -> Option<Pair<'a>>
+    requires counted { AreCounted memory.now.tree.rows counts.now }
     ensures exact { RecallsOf (candidate_of kind) (known memory.now) row.now (option_map as_pair result) }
     ensures there { In row.now memory.now.tree.rows → IfSome result (IsPairIn memory.now.tree.rows) }
 {
     match kind {
-        Kind::Hidden => pair_of(memory, row),
-        Kind::Leaf => leaf_of(memory, row),
+        Kind::Hidden => pair_of(memory, counts, row),
+        Kind::Leaf => leaf_of(memory, counts, row),
     }
 }
 

@@ -1,13 +1,15 @@
 //! The collector's next step.
 
-ghost use Rattle.std.specs.Prelude.{◌≡◌};
+ghost use Rattle.std.specs.Prelude.{◌≡◌, ◌≤◌, length};
 ghost use Rattle.vg_meta.specs.Roomy.{table_alone};
 ghost use Rattle.sm_machine.specs.Collector as machine;
 ghost use Rattle.sm_machine.specs.Shapes.{children};
 ghost use Rattle.sm_ready.specs.Known.{known};
 ghost use Rattle.sm_ready.specs.Refusing.{Answers, Recalls};
+ghost use Rattle.gc_plan.specs.Counting.{AreCounted};
 ghost use Rattle.gc_plan.specs.Planning.{Fills, fold_next};
 
+use crate::counting::ChildCounts;
 use crate::finding::{blocked, deflation, folding, removal};
 use crate::images::next_block;
 use crate::pairs::Kind;
@@ -17,27 +19,35 @@ use vg_extents::free;
 use vg_meta::Table;
 
 /// Nothing is to be removed or cut: the first image that can be folded.
-fn plan_fold(memory: &Memory, geometry: &Geometry, free: u32) -> Plan
+fn plan_fold(memory: &Memory, counts: &ChildCounts, geometry: &Geometry, free: u32) -> Plan
+    requires counted { AreCounted memory.now.tree.rows counts.now }
     ensures { Fills fold_next geometry.now free (known memory.now) result }
 {
-    match folding(memory, geometry, free, Kind::Hidden) {
+    match folding(memory, counts, geometry, free, Kind::Hidden) {
         Some(plan) => plan,
-        None => match folding(memory, geometry, free, Kind::Leaf) {
+        None => match folding(memory, counts, geometry, free, Kind::Leaf) {
             Some(plan) => plan,
-            None => blocked(memory, geometry, free),
+            None => blocked(memory, counts, geometry, free),
         },
     }
 }
 
 /// No operation runs: the first rule that applies.
-fn plan_idle(table: &Table, memory: &Memory, geometry: &Geometry, extents: u32) -> Plan
+fn plan_idle(
+    table: &Table,
+    memory: &Memory,
+    counts: &ChildCounts,
+    geometry: &Geometry,
+    extents: u32,
+) -> Plan
+    requires counted { AreCounted memory.now.tree.rows counts.now }
     ensures { Answers machine.plan_idle geometry.now extents (table_alone table.now) (known memory.now) result }
 {
-    match removal(memory) {
+    match removal(memory, counts) {
         Some(plan) => plan,
         None => match deflation(memory, geometry) {
             Some(plan) => plan,
-            None => plan_fold(memory, geometry, free(table, extents)),
+            None => plan_fold(memory, counts, geometry, free(table, extents)),
         },
     }
 }
@@ -73,12 +83,23 @@ fn plan_relink(memory: &Memory, child: &Name) -> Plan
 }
 
 /// The collector's next step, by table and memory alone. A repository has `extents` extents in all. It takes no memory and makes
-/// no call.
-pub fn plan(table: &Table, memory: &Memory, geometry: &Geometry, extents: u32) -> Plan
+/// no call; where no operation runs it counts the children of the images anew.
+pub fn plan(
+    table: &Table,
+    memory: &Memory,
+    counts: &mut ChildCounts,
+    geometry: &Geometry,
+    extents: u32,
+) -> Plan
+    requires few { length memory.now.tree.rows ≤ length counts.old }
     ensures exact { Answers machine.next_step geometry.now extents (table_alone table.now) (known memory.now) result }
+    ensures room { length counts.new ≡ length counts.old }
 {
     match memory.operation {
-        Op::Idle => plan_idle(table, memory, geometry, extents),
+        Op::Idle => {
+            counts.count(&memory.tree);
+            plan_idle(table, memory, counts, geometry, extents)
+        }
         Op::Copy { child, cursor, .. } => plan_copy(memory, &child, cursor),
         Op::Relink { child, .. } => plan_relink(memory, &child),
         Op::Leaf { leaf, cursor, .. } => copy_or(Plan::Swap, next_block(memory, &leaf, cursor)),
