@@ -1,0 +1,446 @@
+#!/usr/bin/env python3
+"""A plain model of what the program does, written from docs/MACHINE.md and docs/USING.md and not from the program: disks are
+tables of sectors, images are rows, and nothing is on a device.
+
+    model.py script SEED LINES                             a random script over eight disks
+    model.py replies EXTENT BLOCK ENTRIES SECTORS < script  what a run answers on a new repository
+"""
+import random
+import re
+import sys
+
+UUID = re.compile(r"[0-9a-fA-F]{8}(-[0-9a-fA-F]{4}){3}-[0-9a-fA-F]{12}$")
+NUMBER = re.compile(r"(0|[1-9][0-9]*)$")
+LAST_SEQUENCE = 2**48 - 1
+
+
+class Image:
+    """One image: what it says of itself, its blocks by slot, and what it holds, sector by sector."""
+
+    def __init__(self, parent, size, extents):
+        self.parent, self.size, self.extents = parent, size, extents
+        self.hidden, self.slots, self.sectors = False, {}, {}
+
+    def top(self):
+        return max(self.slots.values(), default=-1) + 1
+
+    def give(self, block):
+        """A block without a slot gets the least free one."""
+        if block not in self.slots:
+            used = set(self.slots.values())
+            self.slots[block] = next(slot for slot in range(len(used) + 1) if slot not in used)
+
+
+class Disk:
+    def __init__(self, label, origin, read_only):
+        self.label, self.origin, self.read_only = label, origin, read_only
+
+
+class Refused(Exception):
+    pass
+
+
+def is_vhd(name):
+    return name.startswith("VHD-")
+
+
+def uuid_of(name):
+    return name[name.index("-") + 1 :]
+
+
+def base_uuid(number):
+    return f"6c766864-0000-8000-8000-{number:012x}"
+
+
+def up(number, unit):
+    return -(-number // unit)
+
+
+class Machine:
+    def __init__(self, extent, block, entries, sectors):
+        self.extent, self.block, self.entries = extent // 512, block // 512, entries
+        self.extents = min(65536, (sectors - 4096) // self.extent)
+        self.sequence, self.disks, self.images, self.attached, self.operation = 1, {}, {}, {}, None
+
+    # ---- numbers
+
+    def thin(self, slots):
+        return up(3 + up(self.entries, 128) + slots * (1 + self.block) + 1, self.extent)
+
+    def thick(self, size):
+        return self.thin(size // self.block)
+
+    def free(self):
+        return self.extents - up(512, self.extent) - sum(image.extents for image in self.images.values())
+
+    def commit(self, count):
+        self.sequence = min(self.sequence + count, LAST_SEQUENCE)
+
+    # ---- images
+
+    def own(self, disk):
+        """The name of a disk's image."""
+        return next(kind + disk for kind in ("VHD-", "LV-") if kind + disk in self.images and not self.images[kind + disk].hidden)
+
+    def chain(self, name):
+        names = []
+        while name:
+            names.append(name)
+            name = self.images[name].parent
+        return names
+
+    def children(self, name):
+        return sorted(child for child, image in self.images.items() if image.parent == name)
+
+    def read_sector(self, name, sector):
+        for name in self.chain(name):
+            image = self.images[name]
+            if sector >= image.size:
+                break
+            if sector in image.sectors:
+                return image.sectors[sector]
+            if not is_vhd(name):
+                break
+        return bytes(512)
+
+    # ---- lines
+
+    def command_of(self, line):
+        """The words of a line that spells a command, with its numbers and bytes read; None where it spells none."""
+        words = line.split(" ")
+        shape = {
+            "create": "USKL", "delete": "U", "attach": "UM", "detach": "U", "snapshot": "UU", "clone": "UU", "resize": "US", "label": "UL",
+            "write": "USH", "fill": "USSB", "read": "USS", "flush": "U", "gc": "", "list": "", "stat": "",
+        }.get(words[0])
+        if shape is None or len(words) != len(shape) + 1 or len(line) > 65536:
+            return None
+        tests = {
+            "U": lambda word: word.lower() if UUID.match(word) else None,
+            "S": lambda word: int(word) if NUMBER.match(word) and int(word) < 2**64 else None,
+            "K": lambda word: word if word in ("raw", "vhd") else None,
+            "M": lambda word: word if word in ("ro", "rw") else None,
+            "L": lambda word: word if re.match(r"[!-~]{1,64}$", word) else None,
+            "H": lambda word: bytes.fromhex(word) if re.match(r"([0-9a-fA-F]{1024})+$", word) else None,
+            "B": lambda word: bytes.fromhex(word) if re.match(r"[0-9a-fA-F]{2}$", word) else None,
+        }
+        read = [tests[kind](word) for kind, word in zip(shape, words[1:])]
+        return None if None in read else [words[0], *read]
+
+    def answer(self, line):
+        command = self.command_of(line)
+        if command is None:
+            return "no BadLine"
+        try:
+            return getattr(self, command[0])(*command[1:])
+        except Refused as refused:
+            return f"no {refused}"
+
+    # ---- refusals
+
+    def test(self, is_refused, refusal):
+        if is_refused:
+            raise Refused(refusal)
+
+    def test_names(self, disk, new):
+        """The causes that look at names: of the disk that is named, and of the new one."""
+        self.test(new and (new == str(base_uuid(0)).replace("6c766864", "00000000").replace("8000", "0000") or new.startswith(base_uuid(0)[:24])), "ReservedName")
+        self.test(disk and disk not in self.disks, "UnknownDisk")
+        self.test(new and (new in self.disks or any(uuid_of(name) == new for name in self.images)), "NameTaken")
+
+    def test_fork(self, name, need):
+        """The causes that look at how many images there are, and at the sequence number."""
+        if name:
+            depth = len(self.chain(name))
+            self.test(depth >= 30, f"ChainTooLong depth {depth}")
+        self.test(len(self.images) + need > 500, f"TooMany have {len(self.images)} need {need}")
+        self.test(self.sequence >= 2**48 - 16, "SequenceSpent")
+
+    def test_room(self, need):
+        self.test(need > self.free(), f"NoSpace need {need} free {self.free()}")
+
+    def test_size(self, size, raw):
+        unit = self.extent if raw else self.block
+        rounded = up(size, unit * 512) * unit
+        self.test(size == 0 or rounded > self.entries * self.block or raw and rounded > self.extents * self.extent, "BadSize")
+        return rounded
+
+    def give_up(self, name):
+        """The folding of a leaf is given up by a call on its disk."""
+        if self.operation and self.operation[0] == "leaf" and self.operation[1] == name:
+            self.operation = None
+            self.commit(1)
+
+    # ---- calls
+
+    def create(self, disk, size, kind, label):
+        self.test_names(None, disk)
+        raw = kind == "raw"
+        size = self.test_size(size, raw)
+        self.test_fork(None, 1)
+        need = size // self.extent if raw else self.thin(0)
+        self.test_room(need)
+        self.images[("LV-" if raw else "VHD-") + disk] = Image(None, size, need)
+        self.disks[disk] = Disk(label, None, False)
+        self.commit(2)
+        return f"ok {size * 512}"
+
+    def delete(self, disk):
+        self.test_names(disk, None)
+        self.test(disk in self.attached, "InUse")
+        name = self.own(disk)
+        self.give_up(name)
+        del self.images[name], self.disks[disk]
+        self.commit(1)
+        return "ok"
+
+    def attach(self, disk, mode):
+        self.test_names(disk, None)
+        self.test(disk in self.attached, "InUse")
+        self.test(mode == "rw" and self.disks[disk].read_only, "ReadOnly")
+        name = self.own(disk)
+        image = self.images[name]
+        need = max(0, self.thick(image.size) - image.extents) if mode == "rw" and is_vhd(name) else 0
+        self.test_room(need)
+        self.give_up(name)
+        if need:
+            image.extents += need
+            self.commit(3)
+        self.attached[disk] = mode
+        return "ok"
+
+    def detach(self, disk):
+        self.test_names(disk, None)
+        self.test(disk not in self.attached, "NotAttached")
+        del self.attached[disk]
+        return "ok"
+
+    def fork(self, disk, twin, read_only):
+        self.test_names(disk, twin)
+        name = self.own(disk)
+        self.test_fork(name, 2)
+        size = self.images[name].size
+        own = self.thick(size) if self.attached.get(disk) == "rw" else self.thin(0)
+        self.test_room(own + self.thin(0))
+        base = name[: name.index("-") + 1] + base_uuid(self.sequence)
+        self.give_up(name)
+        self.images[base] = self.images.pop(name)
+        self.images[base].hidden = True
+        self.images["VHD-" + disk] = Image(base, size, own)
+        self.images["VHD-" + twin] = Image(base, size, self.thin(0))
+        self.disks[twin] = Disk(self.disks[disk].label, disk, read_only)
+        self.commit(8)
+        return "ok"
+
+    def snapshot(self, disk, twin):
+        return self.fork(disk, twin, True)
+
+    def clone(self, disk, twin):
+        return self.fork(disk, twin, False)
+
+    def resize(self, disk, size):
+        self.test_names(disk, None)
+        self.test(disk in self.attached, "InUse")
+        self.test(self.disks[disk].read_only, "ReadOnly")
+        name = self.own(disk)
+        self.test(not is_vhd(name), "RawDisk")
+        size = self.test_size(size, False)
+        self.test(size < self.images[name].size, "Shrink")
+        self.give_up(name)
+        self.images[name].size = size
+        return f"ok {size * 512}"
+
+    def label(self, disk, text):
+        self.test_names(disk, None)
+        self.disks[disk].label = text
+        return "ok"
+
+    # ---- guests
+
+    def guest(self, disk, sector, count, writes):
+        """The causes of a guest's line, and the disk's image."""
+        self.test_names(disk, None)
+        self.test(disk not in self.attached, "NotAttached")
+        self.test(writes and self.attached[disk] == "ro", "ReadOnly")
+        image = self.images[self.own(disk)]
+        self.test(count == 0 or sector + count > image.size or not writes and count > 128, "OutOfRange")
+        return image
+
+    def put(self, disk, sector, sectors):
+        image = self.guest(disk, sector, len(sectors), True)
+        for place, data in enumerate(sectors, sector):
+            if is_vhd(self.own(disk)):
+                image.give(place // self.block)
+            image.sectors[place] = data
+        return "ok"
+
+    def write(self, disk, sector, data):
+        return self.put(disk, sector, [data[at : at + 512] for at in range(0, len(data), 512)])
+
+    def fill(self, disk, sector, count, byte):
+        self.guest(disk, sector, count, True)
+        return self.put(disk, sector, [byte * 512] * count)
+
+    def read(self, disk, sector, count):
+        self.guest(disk, sector, count, False)
+        name = self.own(disk)
+        return "ok " + b"".join(self.read_sector(name, place) for place in range(sector, sector + count)).hex()
+
+    def flush(self, disk):
+        self.test_names(disk, None)
+        self.test(disk not in self.attached, "NotAttached")
+        return "ok"
+
+    # ---- what stands
+
+    def list(self):
+        rows = [
+            f"{uuid},{self.images[self.own(uuid)].size * 512},{'ro' if disk.read_only else 'rw'},{disk.origin or '-'},{disk.label}"
+            for uuid, disk in sorted(self.disks.items())
+        ]
+        return " ".join(["ok", str(len(rows)), *rows])
+
+    def stat(self):
+        uses = [name for disk in self.attached for name in self.chain(self.own(disk))]
+        rows = [
+            f"{name},{'h' if image.hidden else 'v'},{image.parent or '-'},{image.size * 512},{len(image.slots)},{image.extents},{uses.count(name)}"
+            for name, image in sorted(self.images.items())
+        ]
+        operation = ",".join(map(str, self.operation)) if self.operation else "none"
+        return " ".join(["ok seq", str(self.sequence), "free", str(self.free()), "op", operation, "images", str(len(rows)), *rows])
+
+    # ---- the collector
+
+    def target(self, child, parent):
+        """The extents of the parent once the child is folded into it."""
+        above, below = self.images[child], self.images[parent]
+        if not is_vhd(parent):
+            return below.extents
+        return max(below.extents, self.thin(max(below.top(), len(set(below.slots) | set(above.slots)))))
+
+    def begin(self, kind, child, parent):
+        below = self.images[parent]
+        target = self.target(child, parent)
+        if target > below.extents:
+            self.commit(3)
+        below.extents, below.size = target, self.images[child].size
+        self.operation = (kind, child, parent, 0)
+        self.commit(1)
+
+    def copy(self, kind, child, parent, block):
+        above, below = self.images[child], self.images[parent]
+        if is_vhd(parent):
+            below.give(block)
+        below.sectors.update({place: data for place, data in above.sectors.items() if place // self.block == block})
+        self.operation = (kind, child, parent, block + 1)
+        return f"ok gc copy {child} {block}"
+
+    def go_on(self):
+        """The next step of the operation that runs."""
+        kind, child, parent = self.operation[:3]
+        if kind == "relink":
+            children = self.children(child)
+            if children:
+                self.images[children[0]].parent = parent
+                return f"ok gc relink {children[0]}"
+            self.operation = None
+            self.commit(1)
+            return f"ok gc finish {child}"
+        if kind == "copy" and not self.children(child):
+            self.operation = None
+            self.commit(1)
+            return f"ok gc abandon {child}"
+        left = [block for block in self.images[child].slots if block >= self.operation[3]]
+        if left:
+            return self.copy(kind, child, parent, min(left))
+        if kind == "copy":
+            self.operation = ("relink", child, parent)
+            self.commit(1)
+            return f"ok gc turn {child}"
+        self.images[child] = self.images.pop(parent)
+        self.images[child].hidden = False
+        self.operation = None
+        self.commit(5)
+        return f"ok gc swap {child}"
+
+    def is_pair(self, name):
+        """A hidden image with children, whose parent has no other child, and is a VHD image or as large."""
+        image = self.images[name]
+        if not (is_vhd(name) and image.hidden and image.parent and self.children(name)):
+            return False
+        return len(self.children(image.parent)) == 1 and (is_vhd(image.parent) or self.images[image.parent].size == image.size)
+
+    def is_leaf(self, name):
+        """The image of a disk that is not attached, whose parent is a VHD image and has no other child."""
+        image = self.images[name]
+        if image.hidden or not is_vhd(name) or uuid_of(name) in self.attached or not image.parent:
+            return False
+        return is_vhd(image.parent) and len(self.children(image.parent)) == 1
+
+    def tidy(self):
+        """A hidden image without children goes; one that has more extents than it needs is cut."""
+        for name, image in sorted(self.images.items()):
+            if image.hidden and not self.children(name):
+                del self.images[name]
+                self.commit(1)
+                return f"ok gc remove {name}"
+        for name, image in sorted(self.images.items()):
+            written = not image.hidden and self.attached.get(uuid_of(name)) == "rw"
+            if is_vhd(name) and not written and image.extents > self.thin(image.top()):
+                image.extents = self.thin(image.top())
+                self.commit(1)
+                return f"ok gc deflate {name}"
+        return None
+
+    def gc(self):
+        if self.operation:
+            return self.go_on()
+        done = self.tidy()
+        if done:
+            return done
+        needs = []
+        for word, kind, fits in (("begin", "copy", self.is_pair), ("leaf", "leaf", self.is_leaf)):
+            for name in sorted(filter(fits, self.images)):
+                parent = self.images[name].parent
+                need = self.target(name, parent) - self.images[parent].extents
+                if need <= self.free():
+                    # The folding of a leaf is not built yet: such a line is answered as one that spells none.
+                    if kind == "leaf":
+                        return "no BadLine"
+                    self.begin(kind, name, parent)
+                    return f"ok gc {word} {name}"
+                needs.append(need)
+        return f"ok gc blocked need {min(needs)} free {self.free()}" if needs else "ok gc idle"
+
+
+def random_line(draw):
+    """A line; each kind of line comes as often as its weight says."""
+    weights = {
+        "create": 1, "snapshot": 2, "clone": 1, "delete": 2, "attach rw": 3, "attach ro": 1, "detach": 1, "resize": 1, "fill": 6, "write": 1,
+        "read": 4, "flush": 1, "gc": 10, "stat": 1, "list": 1, "label": 1,
+    }
+    kind = draw.choices(list(weights), list(weights.values()))[0]
+    disk, other = (f"00000000-0000-4000-8000-0000000000{draw.randrange(8):02d}" for _ in range(2))
+    byte = f"{draw.randrange(256):02x}"
+    sector, count = draw.randrange(140), draw.randint(1, 16)
+    rest = {
+        "create": f"{disk} {4096 * draw.randint(1, 20)} {draw.choice(['vhd', 'vhd', 'vhd', 'raw'])} t{byte}",
+        "snapshot": f"{disk} {other}", "clone": f"{disk} {other}", "attach rw": f"{disk} rw", "attach ro": f"{disk} ro",
+        "resize": f"{disk} {4096 * draw.randint(1, 24)}", "fill": f"{disk} {sector} {count} {byte}",
+        "write": f"{disk} {sector} {byte * 512 * draw.randint(1, 2)}", "read": f"{disk} {sector} {count}", "label": f"{disk} l{byte}",
+        "gc": "", "stat": "", "list": "",
+    }.get(kind, disk)
+    return f"{kind.split()[0]} {rest}".rstrip()
+
+
+def main():
+    if sys.argv[1] == "script":
+        draw = random.Random(int(sys.argv[2]))
+        for _ in range(int(sys.argv[3])):
+            print(random_line(draw))
+        return
+    machine = Machine(*map(int, sys.argv[2:6]))
+    for line in sys.stdin.read().split("\n")[:-1]:
+        print(machine.answer(line))
+
+
+main()
