@@ -5,6 +5,7 @@ tables of sectors, images are rows, and nothing is on a device.
     model.py script SEED LINES                             a random script over eight disks
     model.py replies EXTENT BLOCK ENTRIES SECTORS < script  what a run answers on a new repository
 """
+import itertools
 import random
 import re
 import sys
@@ -403,24 +404,24 @@ class Machine:
                 parent = self.images[name].parent
                 need = self.target(name, parent) - self.images[parent].extents
                 if need <= self.free():
-                    # The folding of a leaf is not built yet: such a line is answered as one that spells none.
-                    if kind == "leaf":
-                        return "no BadLine"
                     self.begin(kind, name, parent)
                     return f"ok gc {word} {name}"
                 needs.append(need)
         return f"ok gc blocked need {min(needs)} free {self.free()}" if needs else "ok gc idle"
 
 
-def random_line(draw):
-    """A line; each kind of line comes as often as its weight says."""
+DISKS = [f"00000000-0000-4000-8000-0000000000{number:02d}" for number in range(8)]
+SPARE = "00000000-0000-4000-8000-000000000099"
+
+
+def random_line(draw, disk):
+    """A line, most of them on this disk; each kind of line comes as often as its weight says."""
     weights = {
-        "create": 1, "snapshot": 2, "clone": 1, "delete": 2, "attach rw": 3, "attach ro": 1, "detach": 1, "resize": 1, "fill": 6, "write": 1,
-        "read": 4, "flush": 1, "gc": 10, "stat": 1, "list": 1, "label": 1,
+        "create": 5, "snapshot": 2, "clone": 1, "delete": 1, "attach rw": 3, "attach ro": 1, "detach": 2, "resize": 1, "fill": 6, "write": 1,
+        "read": 4, "flush": 1, "gc": 4, "stat": 1, "list": 1, "label": 1,
     }
     kind = draw.choices(list(weights), list(weights.values()))[0]
-    disk, other = (f"00000000-0000-4000-8000-0000000000{draw.randrange(8):02d}" for _ in range(2))
-    byte = f"{draw.randrange(256):02x}"
+    other, byte = draw.choice(DISKS), f"{draw.randrange(256):02x}"
     sector, count = draw.randrange(140), draw.randint(1, 16)
     rest = {
         "create": f"{disk} {4096 * draw.randint(1, 20)} {draw.choice(['vhd', 'vhd', 'vhd', 'raw'])} t{byte}",
@@ -432,11 +433,34 @@ def random_line(draw):
     return f"{kind.split()[0]} {rest}".rstrip()
 
 
+def leaf_lines(draw):
+    """Lines after which a detached disk alone reads through its base, so that its leaf is folded; then one on this disk, perhaps."""
+    disk = draw.choice(DISKS)
+    fills = [f"fill {disk} {draw.randrange(24)} {draw.randint(1, 16)} {draw.randrange(256):02x}" for _ in range(3)]
+    gives_up = [f"attach {disk} rw", f"attach {disk} ro", f"snapshot {disk} {SPARE}", f"clone {disk} {SPARE}", f"resize {disk} {4096 * draw.randint(8, 24)}", f"delete {disk}"]
+    return [
+        f"create {disk} {4096 * draw.randint(8, 20)} vhd leaf", f"attach {disk} rw", fills[0], f"{draw.choice(['snapshot', 'clone'])} {disk} {SPARE}", *fills[1:],
+        f"detach {disk}", f"delete {SPARE}", *["gc"] * draw.randint(2, 7), "stat", draw.choice(gives_up + ["gc"] * 4), "stat", *["gc"] * draw.randint(1, 6),
+        f"attach {disk} ro", f"read {disk} 0 40", f"detach {disk}",
+    ]
+
+
+def random_lines(draw):
+    """Single lines, and those of folded leaves with single ones in between."""
+    while True:
+        lines = leaf_lines(draw) if draw.randrange(20) == 0 else [""]
+        for line in lines:
+            if not line or draw.randrange(12) == 0:
+                yield random_line(draw, draw.choice(DISKS))
+            if line:
+                yield line
+
+
 def main():
     if sys.argv[1] == "script":
         draw = random.Random(int(sys.argv[2]))
-        for _ in range(int(sys.argv[3])):
-            print(random_line(draw))
+        for line in itertools.islice(random_lines(draw), int(sys.argv[3])):
+            print(line)
         return
     machine = Machine(*map(int, sys.argv[2:6]))
     for line in sys.stdin.read().split("\n")[:-1]:

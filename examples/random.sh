@@ -1,5 +1,6 @@
 #!/bin/sh
-# Random scripts of 2,500 lines on a real file: guests' writes and reads, forks, deletions and steps of the collector in any order.
+# Random scripts of 2,500 lines on a real file: guests' writes and reads, forks, deletions and steps of the collector in any order, with
+# leaves that are folded and foldings that are given up.
 # Each reply is compared, byte for byte, with that of examples/model.py, a plain model of what the lines mean.
 set -e
 root=$(cd "$(dirname "$0")/.." && pwd)
@@ -16,7 +17,7 @@ run() {
     cmp "$work/replies" "$work/wanted"
     echo "script $1, $2 sectors: $(wc -l <"$work/replies") replies, each as the model has it"
 }
-run 1 6144
-run 2 7168
-run 3 10240
+run 1 5120
+run 2 6144
+run 3 8192
 run 4 18432

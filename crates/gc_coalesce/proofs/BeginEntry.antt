@@ -58,7 +58,7 @@ use Rattle.gc_coalesce.proofs.BeginExtents.{extents_put}
 use Rattle.gc_coalesce.proofs.BeginShapes.{roomy, works}
 use Rattle.gc_coalesce.proofs.CopyKinds.{below_in, entry_no_image, entry_no_records, entry_proper, entry_suits, is_its_entry, its_entry, roomy_in, runs}
 use Rattle.gc_coalesce.proofs.BeginStores.{IsRowOf, child_found, child_row, parent_found, parent_row, row_of}
-use Rattle.gc_coalesce.proofs.EntryLaws as entries
+use Rattle.gc_abandon.proofs.EntryLaws as entries
 
 -- ---- the names of the two images
 

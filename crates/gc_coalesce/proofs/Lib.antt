@@ -1,4 +1,3 @@
-pub mod EntryLaws
 pub mod PlannedLaws
 pub mod RemovingLaws
 pub mod CopiedLaws

@@ -24,7 +24,7 @@ use Rattle.vhd_chain.specs.declared.rows.TreeRow.{TreeRow}
 use Rattle.sm_machine.specs.Collector.{is_childless, next_step}
 use Rattle.sm_machine.specs.Refusals.{forked, is_bad_size, is_deep, is_in_use, is_not_attached, is_out_of_range, is_raw_disk, is_read_only, is_reserved, is_shrink, is_spent, is_taken, is_too_many, is_unknown, lacks_space, named, need, new_uuid, refusal}
 use Rattle.sm_machine.specs.Shapes.{ImageRow, Shape, children, free, image_uuid, is_image_of, is_parent, same_image}
-use Rattle.sm_machine.specs.Steps.{State, accepted, disks_next, shape_next, step_whole, unless_refused}
+use Rattle.sm_machine.specs.Steps.{State, accepted, disks_next, shape_next, step, unless_refused}
 use Rattle.sm_machine.specs.WellFormed.{is_image_name}
 use Rattle.sm_machine.specs.declared.commands.Command.TheVariants.{Gc}
 use Rattle.sm_machine.proofs.ImageNames.{same_image-refl, same_image-sound}
@@ -129,7 +129,7 @@ module _ {s : Site} {t : VolumeTable} {m : Known} {x : Name} (h : IsToRemove s t
   orderly_less = orderly_removed s t m x h.row state h.orderly h.garbage refl may_go
 
   pub shape_less : shape_in s next rest ≡ shape_next (shape_in s t m) Gc
-  unfolding step_whole accepted
+  unfolding step accepted
   shape_less = shape_removed s t m x h.row state h.orderly h.garbage refl ∙ ap (λ (r : Option Refusal). (unless_refused r state Gc).after.shape) (never_refused (shape_in s t m))
 
   -- the row of the name is the image's

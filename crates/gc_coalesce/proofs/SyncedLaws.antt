@@ -10,7 +10,7 @@ use Rattle.vg_volumes.specs.Stored.{WorksOn}
 use Rattle.vg_volumes.specs.Volumes.{IsElsewhere}
 use Rattle.vg_volumes.specs.declared.stores.Store.{Ghosts}
 use Rattle.gc_coalesce.specs.Copying.{IsCopyOf}
-use Rattle.gc_coalesce.specs.Syncing.{CopySynced, IsReadBeside, LeavesSynced}
+use Rattle.gc_coalesce.specs.Syncing.{CopySynced, LeavesSynced}
 use Rattle.gc_coalesce.proofs.LinkEnds.{IsRested, LeavesNow}
 
 module _ {S : Type 0} (g : Ghosts S) (a b d : S) (n : Name) (usable : g.failed a ≡ false) (now : LeavesNow g) (rest : IsRested g a b) (works : WorksOn g n b d) where

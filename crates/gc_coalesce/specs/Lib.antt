@@ -1,5 +1,4 @@
 pub mod Beginning
 pub mod Blocks
 pub mod Copying
-pub mod Ending
 pub mod Syncing

@@ -28,7 +28,8 @@ ghost use Rattle.sm_ready.specs.Stores.{StoreLeaves, content_now, store_content}
 ghost use Rattle.gc_coalesce.specs.Beginning.{CanBegin, CanEnter, IsWidened, KeepsExtents, LeavesStill, begins, copy_entry as entry_in, entered, raised, sectors_of};
 ghost use Rattle.gc_coalesce.specs.Copying.{copy_of};
 
-use crate::ending::{copy_entry, leaf_entry, uuid_of};
+use crate::ending::copy_entry;
+use gc_abandon::{leaf_entry, uuid_of};
 use sm_base::{CallFault, Failed, Name, NoMemory, Op};
 use sm_journal::put;
 use sm_ready::Memory;

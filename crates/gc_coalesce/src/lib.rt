@@ -5,8 +5,8 @@
 //! **What is kept here.** Nothing: each call works on a store and on what a session has in memory.
 //!
 //! **What it is.** Each call is asked only where it is the machine's next step of the shape in memory (`planned`: `next_step` of
-//! `sm_machine`), and leaves the shape that the machine has behind `gc` (`shape`), its commits counted. `abandon_leaf` alone is no step:
-//! a command on the leaf's disk begins with it, and it leaves the shape without the operation.
+//! `sm_machine`), and leaves the shape that the machine has behind `gc` (`shape`), its commits counted. That the fold of a leaf is given
+//! up, as a command on the leaf's disk begins, is no step of the collector: it is in `gc_abandon`.
 //!
 //! **What it promises.** No call changes a disk. At every return, success and failure alike, whatever a stop leaves is kept and shows
 //! the disks from before (`done`); behind a call that succeeded nothing is pending, table and memory are orderly, and each image in
@@ -15,19 +15,19 @@
 //! then puts the operation's entry; `begin_leaf` does so for a leaf. `copy_block` copies what the image, hidden or a leaf, holds of one
 //! block: the parent changes only in sectors that the image holds (`masked`). `turn` puts the entry of a link in place of that of a copy,
 //! once no block is left. `relink_one` links the least child to the parent; its users are counted anew. `finish` takes the entry away
-//! once no child is left, `abandon` that of a copy whose image has lost its children, and `abandon_leaf` that of the copy of a leaf. An
-//! opening that finds children half linked goes on with `relink_one` and `finish`: so these ask nothing of new volumes and stray records.
+//! once no child is left, and `abandon` that of a copy whose image has lost its children. An opening that finds children half linked goes
+//! on with `relink_one` and `finish`: so these ask nothing of new volumes and stray records.
 //!
 //! **In which units.** Extents are counted; blocks are counted from 0.
 //!
-//! **What it costs.** `remove`, `abandon`, `abandon_leaf`, `turn` and `finish` are one commit each. `begin` and `begin_leaf` are one
+//! **What it costs.** `remove`, `abandon`, `turn` and `finish` are one commit each. `begin` and `begin_leaf` are one
 //! commit, and three more where the parent gets extents; they alone take memory, all of it before the first write. `copy_block` syncs
 //! before its first write and after its last, and reads and writes each run of held sectors once; a write to sectors that the parent did
 //! not hold makes one sync more (`vhd_write`); it borrows two buffers of the pool. `relink_one` reads two sectors and writes one, between
 //! two syncs.
 //!
 //! The definitions are in `specs/`: `Beginning` (when an operation may be entered, and what that makes of the shape), `Copying` (the cursor,
-//! and what a copy leaves of the parent), `Blocks` (one block of the child in the parent), `Ending` (a leaf's operation given up).
+//! and what a copy leaves of the parent), `Blocks` (one block of the child in the parent).
 #![tactic(auto)]
 
 mod beginning;
@@ -39,6 +39,6 @@ mod removing;
 
 pub use beginning::{begin, begin_leaf};
 pub use copying::copy_block;
-pub use ending::{abandon, abandon_leaf, finish, turn};
+pub use ending::{abandon, finish, turn};
 pub use linking::relink_one;
 pub use removing::remove;

@@ -42,7 +42,7 @@ use Rattle.sm_ready.proofs.OwnLaws.{step_shape}
 use Rattle.sm_ready.proofs.Orders.{In-tree_row, named_row}
 use Rattle.sm_ready.proofs.RestLaws.{agrees_keeps, keeps_rest, steady_keeps}
 use Rattle.sm_ready.proofs.RowLaws.{found_in, image_named}
-use Rattle.gc_coalesce.proofs.EntryLaws.{fresh_image}
+use Rattle.gc_abandon.proofs.EntryLaws.{fresh_image}
 use Rattle.gc_leaf.proofs.SwapMemory.{folded, folded_name, images_alike, images_then, in_then, known_as, known_is, known_then, name_or, parent_row, shape_as, shown_still}
 use Rattle.gc_leaf.proofs.SwapPair.{leaf_is, parent_is, parent_vol, u, v}
 use Rattle.gc_leaf.proofs.SwapSteps.{IsToSwap}

@@ -11,7 +11,8 @@ use Rattle.vg_meta.specs.declared.changes.Change.TheVariants.{Rename}
 use Rattle.vg_meta.proofs.NameLaws.{name_eq-true}
 use Rattle.sm_standing.specs.Checks.{images as table_images}
 use Rattle.sm_standing.specs.Entries.{is_folding, is_making, names_in}
-use Rattle.sm_space.proofs.TableLaws.{counted, named_put}
+use Rattle.gc_abandon.proofs.EntryLaws.{counted}
+use Rattle.sm_space.proofs.TableLaws.{named_put}
 use Rattle.sm_ready.proofs.RemoveLaws.{names_without}
 
 -- a volume more, whose name does not pass

@@ -22,13 +22,12 @@ use Rattle.sm_machine.specs.Shapes.{image_limit}
 use Rattle.sm_standing.specs.Checks.{images as table_images}
 use Rattle.sm_standing.specs.Entries.{names_in}
 use Rattle.sm_standing.proofs.UndoneLaws.{named_found}
-use Rattle.sm_space.proofs.TableLaws.{counted}
 use Rattle.sm_ready.specs.Known.{Known}
 use Rattle.sm_ready.specs.Runs.{AllMay}
 use Rattle.sm_ready.proofs.FitLaws.{fits_few}
 use Rattle.sm_ready.proofs.GoneLaws.{fewer_left}
 use Rattle.sm_ready.proofs.RemoveLaws.{names_without}
-use Rattle.gc_coalesce.proofs.EntryLaws.{entry_gone}
+use Rattle.gc_abandon.proofs.EntryLaws.{counted, entry_gone}
 use Rattle.gc_leaf.specs.Swapping.{IsMoved, shown_as, swap_changes}
 use Rattle.gc_leaf.proofs.SwapNames.{entries_renamed, images_renamed}
 use Rattle.gc_leaf.proofs.SwapPair.{apart, entry_alone, leaf_is, leaf_proper, leaf_vol, none_old, old_proper, parent_is, parent_vol, u, v}

@@ -18,7 +18,7 @@ use Rattle.sm_recover.specs.Repairs.{IsOpeningStopped, UnlessDeviceFailed}
 use Rattle.sm_recover.specs.Stores.{IsRepairedFrom, MayBeRepairedFrom}
 use Rattle.sm_ready.specs.Sessions.{KeepsAll}
 use Rattle.sm_ready.specs.Stores.{MayShow, content_in, content_now}
-use Rattle.sm_standing.specs.Checks.{first_fault_today}
+use Rattle.sm_standing.specs.Checks.{first_fault}
 use Rattle.sm_standing.specs.Contents.{Content}
 use Rattle.sm_standing.specs.Devices.{IsKeptOn, Shows, content_of}
 use Rattle.sm_standing.specs.Keeping.{HoldsWell, IsKept}
@@ -96,11 +96,11 @@ kept_well size h kept g on =
     record { holding = whole.holding; linking = whole.linking }
 
 pub sound_entry : (size : ℕ) (h now : Held) (site : Site) (at : Pointer) (t : VolumeTable) → Keeps (area_of h) (area_of now) → StandsOn size (reads h) (standing site at t)
-    → first_fault_today (content_now site t (area_of now)) ≡ None → IsSoundOn size (reads h)
+    → first_fault (content_now site t (area_of now)) ≡ None → IsSoundOn size (reads h)
 sound_entry size h now site at t k stands sound = record {
   group = standing site at t;
   stands = stands;
-  sound = sym (ap first_fault_today (content_entry site t h now k)) ∙ sound;
+  sound = sym (ap first_fault (content_entry site t h now k)) ∙ sound;
 }
 
 pub shown_entry : (size : ℕ) (h now : Held) (site : Site) (at : Pointer) (t : VolumeTable) (ds : List Disk) → Keeps (area_of h) (area_of now) → StandsOn size (reads h) (standing site at t)
@@ -124,7 +124,7 @@ pub refused_content : (told : Type 0) (size : ℕ) (h now : Held) (site : Site) 
     → (told → Keeps (area_of h) (area_of now)) → (told → StandsOn size (reads h) (standing site at t))
     → IsOpeningStopped told (content_now site t (area_of now)) before after e → IsAnswer (λ f. told → IsRefusedOn size (reads h) f) first after e
 refused_content told size h now site at t first before after (fault.Damaged p) counts k stands is = λ it.
-    by_content (standing site at t) p (stands it) (sym (ap first_fault_today (content_entry site t h now (k it))) ∙ is it)
+    by_content (standing site at t) p (stands it) (sym (ap first_fault (content_entry site t h now (k it))) ∙ is it)
 refused_content told size h now site at t first before after fault.Device counts k stands is = omega (arith, counts, is)
 refused_content told size h now site at t first before after fault.NoMemory counts k stands is = tt
 refused_content told size h now site at t first before after fault.NotARepository counts k stands is = absurd is

@@ -12,7 +12,7 @@ use Rattle.vg_meta.specs.Tables.{VolumeTable}
 use Rattle.vg_store.specs.Groups.{LeavesGroup, area_of}
 use Rattle.vg_volumes.specs.Sites.{Site}
 use Rattle.sm_ready.specs.Stores.{Leaving, Left}
-use Rattle.sm_standing.specs.Checks.{first_fault_today}
+use Rattle.sm_standing.specs.Checks.{first_fault}
 use Rattle.sm_machine.specs.Shapes.{Shape}
 use Rattle.sm_standing.specs.Devices.{IsKeptOn, Shows, content_of}
 use Rattle.sm_standing.specs.Keeping.{HoldsWell}
@@ -32,11 +32,11 @@ pub record MayShowOn (size : ℕ) (h : Held) (ds : List Disk) : Type 0 where
   pub allowed : Allows size h image
   pub shows : Shows size image ds
 
--- a group stands on the image, and today's checks of its content pass
+-- a group stands on the image, and all checks of its content pass
 pub record IsSoundOn (size : ℕ) (image : ℕ → List ℕ) : Type 0 where
   pub group : GroupFound
   pub stands : StandsOn size image group
-  pub sound : first_fault_today (content_of group image) ≡ None
+  pub sound : first_fault (content_of group image) ≡ None
 
 -- this shape is what an opening makes of what stands on the image
 pub record IsOpenedOn (size : ℕ) (image : ℕ → List ℕ) (made : Shape) : Type 0 where
@@ -47,7 +47,7 @@ pub record IsOpenedOn (size : ℕ) (image : ℕ → List ℕ) (made : Shape) : T
 -- the first check that fails, and its answer
 pub data IsRefusedOn (size : ℕ) (image : ℕ → List ℕ) : OpenFault → Type 0 where
   by_group : (e : OpenFault) → IsRefused size image e → IsRefusedOn size image e
-  by_content : (g : GroupFound) (p : Place) → StandsOn size image g → first_fault_today (content_of g image) ≡ Some p → IsRefusedOn size image (Damaged p)
+  by_content : (g : GroupFound) (p : Place) → StandsOn size image g → first_fault (content_of g image) ≡ Some p → IsRefusedOn size image (Damaged p)
 
 -- what never changes of the group with this label on a device of so many sectors
 abbrev pub site_on : GroupLabel → ℕ → Site

@@ -1,9 +1,9 @@
 //! The collector: each of its steps is answered, with calls, guests' writes and forks between them; a run that collects stops at each
 //! call, what may be left is opened, and collected to the end.
 
-use crate::fixtures::{Device, Fault, RUN, Run, failing, make_device, run_into};
+use crate::fixtures::{Device, Fault, RUN, Run, make_device, run_into};
 use crate::scripts::Piece::{self, Bytes, Text};
-use crate::scripts::{calls, is_answered, joined};
+use crate::scripts::{calls, is_answered, joined, stopped};
 use lvhd_command::Status;
 use sm_disk::{MemDisk, MemSink};
 use std::alloc::Global;
@@ -301,26 +301,6 @@ fn all_show(alloc: Global, disk: &MemDisk) -> Result<(), Fail> {
         collects(alloc, disk.left(alloc, &[1])?)?,
         "what a stopped step leaves is collected",
     )
-}
-
-/// A run of the lines that collect on a device that stops at a call: whether it is done, and the device.
-fn stopped(
-    alloc: Global,
-    new: &MemDisk,
-    script: &[u8],
-    call: u64,
-) -> Result<(bool, MemDisk), Fail> {
-    let run = Run {
-        words: RUN,
-        script,
-        fault: Fault::Stop(call),
-        status: Status::Done,
-        printed: b"",
-    };
-    let disk = failing(alloc, new, run.fault)?;
-    let mut sink = MemSink::new(alloc, None)?;
-    let (status, after) = run_into(alloc, disk, &run, &mut sink)?;
-    Ok((status == run.status, after))
 }
 
 /// An opening of what is left stops at each of its calls, and what that leaves has both disks.

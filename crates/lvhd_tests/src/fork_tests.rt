@@ -1,9 +1,9 @@
 //! Disks made of one another: each command is answered, each cause of refusal once; a snapshot stops at each call, what may be
 //! left is opened, and that opening stops at each of its calls.
 
-use crate::fixtures::{Device, Fault, RUN, Run, failing, make_device, run_into, run_on};
+use crate::fixtures::{Device, Fault, RUN, Run, make_device, run_into, run_on};
 use crate::scripts::Piece::{self, Bytes, Text};
-use crate::scripts::{calls, is_answered, joined, told};
+use crate::scripts::{calls, is_answered, joined, stopped, told};
 use lvhd_command::Status;
 use sm_disk::{MemDisk, MemSink};
 use std::alloc::Global;
@@ -156,34 +156,15 @@ fn all_show(alloc: Global, disk: &MemDisk) -> Result<(), Fail> {
     Ok(())
 }
 
-/// A run of a script on a device that stops at a call: how it ended, and the device.
-fn stopped(
-    alloc: Global,
-    before: &MemDisk,
-    script: &[u8],
-    call: u64,
-) -> Result<(Status, MemDisk), Fail> {
-    let run = Run {
-        words: RUN,
-        script,
-        fault: Fault::Stop(call),
-        status: Status::Done,
-        printed: b"",
-    };
-    let disk = failing(alloc, before, run.fault)?;
-    let mut sink = MemSink::new(alloc, None)?;
-    run_into(alloc, disk, &run, &mut sink)
-}
-
 /// An opening stops at each of its calls, and what that leaves shows either disks.
 fn opens_at_each_stop(alloc: Global, left: &MemDisk) -> Result<(), Fail> {
     for call in 0..1000 {
-        let (status, after) = stopped(alloc, left, b"", call)?;
+        let (is_done, after) = stopped(alloc, left, b"", call)?;
         holds(
             shows_either(alloc, after.left(alloc, &[3])?)?,
             "what a stopped opening leaves",
         )?;
-        if status == Status::Done {
+        if is_done {
             return Ok(());
         }
     }
@@ -195,9 +176,9 @@ fn opens_at_each_stop(alloc: Global, left: &MemDisk) -> Result<(), Fail> {
 fn stands_each_stop(alloc: Global, new: &MemDisk) -> Result<(), Fail> {
     let first = calls(alloc, new, ATTACHED)?;
     for call in first..1000 {
-        let (status, after) = stopped(alloc, new, SNAPSHOT, call)?;
+        let (is_done, after) = stopped(alloc, new, SNAPSHOT, call)?;
         all_show(alloc, &after)?;
-        if status == Status::Done {
+        if is_done {
             return Ok(());
         }
         opens_at_each_stop(alloc, &after.left(alloc, &[1])?)?;

@@ -11,9 +11,13 @@ mod collect_tests;
 #[cfg(test)]
 mod fixtures;
 #[cfg(test)]
+mod fold_tests;
+#[cfg(test)]
 mod fork_tests;
 #[cfg(test)]
 mod guest_tests;
+#[cfg(test)]
+mod leaf_tests;
 #[cfg(test)]
 mod refused_tests;
 #[cfg(test)]

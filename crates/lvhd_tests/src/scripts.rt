@@ -88,3 +88,23 @@ pub fn calls(alloc: Global, new: &MemDisk, script: &[u8]) -> Result<u64, Fail> {
     }
     Err(Fail::from("a run that ends"))
 }
+
+/// A run of a script on a device that stops at a call: whether it is done, and the device.
+pub fn stopped(
+    alloc: Global,
+    before: &MemDisk,
+    script: &[u8],
+    call: u64,
+) -> Result<(bool, MemDisk), Fail> {
+    let run = Run {
+        words: RUN,
+        script,
+        fault: Fault::Stop(call),
+        status: Status::Done,
+        printed: b"",
+    };
+    let disk = failing(alloc, before, run.fault)?;
+    let mut sink = MemSink::new(alloc, None)?;
+    let (status, after) = run_into(alloc, disk, &run, &mut sink)?;
+    Ok((status == run.status, after))
+}

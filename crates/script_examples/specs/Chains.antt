@@ -3,8 +3,8 @@ use Rattle.std.specs.Prelude.{ℕ, zero, suc, Bool, true, false, List, [], ◌�
 use Rattle.sm_base.specs.declared.operations.Plan.{Plan}
 use Rattle.sm_base.specs.declared.operations.Plan.TheVariants as plan
 use Rattle.sm_machine.specs.Collector.{next_step}
-use Rattle.sm_machine.specs.Steps.{State}
-use Rattle.script_examples.specs.Scripts.{Script, line, new, whole, after}
+use Rattle.sm_machine.specs.Steps.{State, step_line}
+use Rattle.script_examples.specs.Scripts.{Script, line, new, after}
 
 -- a snapshot is made and deleted so many times
 abbrev pub again : ℕ → Script → Script
@@ -21,7 +21,7 @@ filling =
     again 29 (line (codes "snapshot 11111111-1111-4111-8111-111111111111 22222222-2222-4222-8222-222222222222") (codes "no ChainTooLong depth 30") ∷ [])
 
 abbrev pub filled : State
-filled = after whole new filling
+filled = after new filling
 
 abbrev pub is_idle : Plan → Bool
 is_idle plan.Idle = true
@@ -29,7 +29,7 @@ is_idle _ = false
 
 -- the repository after a collector's line
 abbrev pub after_one : State → State
-after_one σ = (whole σ (codes "gc")).after
+after_one σ = (step_line σ (codes "gc")).after
 
 -- whether each of so many collector's lines is answered idle
 abbrev pub gc_is_idle : ℕ → State → List Bool

@@ -3,6 +3,6 @@ pub mod Collecting
 pub mod Disks
 pub mod Guests
 pub mod Scripts
-pub mod Today
+pub mod RawDisks
 pub mod Texts
 pub mod Crowds

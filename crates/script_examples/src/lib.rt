@@ -11,16 +11,16 @@ ghost use Rattle.std.specs.Prelude.{None, Some, ◌≡◌, ℕ, List, Bool, code
 ghost use Rattle.script_examples.specs.Chains.{after_gc, filled, filling, gc_is_idle, one_more};
 ghost use Rattle.sm_machine.specs.Runs.{replies};
 ghost use Rattle.script_examples.specs.Texts.{answered, long_line, poor_once, states_after};
-ghost use Rattle.script_examples.specs.Today.{raw_disks};
+ghost use Rattle.script_examples.specs.RawDisks.{raw_disks};
 ghost use Rattle.script_examples.specs.Disks.{empty, grown, one_disk, order, refused, reserved, sizes, spent};
 ghost use Rattle.script_examples.specs.Crowds.{crowded_from, crowded};
 ghost use Rattle.script_examples.specs.Guests.{fork_room, snapshot_of_attached, guest_writes, shared_base, no_room, raw_base};
 ghost use Rattle.script_examples.specs.Collecting.{coalesce, given_up, fold, blocked};
-ghost use Rattle.script_examples.specs.Scripts.{IsAnswered, IsAnsweredToday, after, new, spent_from, whole};
+ghost use Rattle.script_examples.specs.Scripts.{IsAnswered, after, new, spent_from};
 
 /// Raw disks, and refusals by name, room and size.
 pub fn script_raw_disks()
-    ensures replies { IsAnsweredToday new raw_disks }
+    ensures replies { IsAnswered new raw_disks }
 {}
 
 /// Nothing is there.
@@ -50,7 +50,7 @@ pub fn script_reserved()
 
 /// The sequence number is nearly used up.
 pub fn script_spent()
-    ensures replies { IsAnswered (spent_from (after whole new reserved)) spent }
+    ensures replies { IsAnswered (spent_from (after new reserved)) spent }
 {}
 
 /// 500 images are the most.

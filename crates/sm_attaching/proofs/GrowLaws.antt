@@ -1,20 +1,18 @@
 -- The machine attaches a disk for writing in two ways that agree: at once, and once its image has all its extents.
-use Rattle.std.proofs.Common.{◌≡◌, inl, inr, ℕ, ◌+◌, ◌-◌, ◌<◌, ◌≤◌, ◌&&◌, min, not, nat_lt, Bool, true, false, List, [], ◌∷◌, ◌++◌, map, Option, Some, None, refl, sym, ap, ap₂, ◌∙◌, subst, arith}
+use Rattle.std.proofs.Common.{◌≡◌, inl, inr, ℕ, ◌+◌, ◌-◌, ◌<◌, nat_lt, Bool, true, false, List, [], ◌∷◌, ◌++◌, map, Option, Some, None, refl, sym, ap, ap₂, ◌∙◌, subst, arith}
 use Rattle.std.proofs.lemmas.Bool.{true≢false, le-ltb, lt-ltb}
-use Rattle.std.specs.List.{find}
 use Rattle.std.specs.Str.{bytes_eq}
 use Rattle.common_laws.specs.Lists.{In, change, first_some, given, when}
 use Rattle.common_laws.proofs.Bytes.{bytes_eq-same, bytes_eq-refl}
-use Rattle.common_laws.proofs.Lists.{Distinct-key, In-map, find-some, first_none}
+use Rattle.common_laws.proofs.Lists.{Distinct-key, In-map, find-some}
 use Rattle.sm_base.specs.declared.names.Name.{Name}
-use Rattle.sm_base.specs.declared.names.Name.TheVariants.{Vhd, Raw}
+use Rattle.sm_base.specs.declared.names.Name.TheVariants.{Vhd}
 use Rattle.sm_base.specs.declared.operations.Mode.TheVariants.{Rw}
-use Rattle.sm_base.specs.declared.refusals.Refusal.{Refusal}
 use Rattle.sm_machine.specs.declared.commands.Command.{Command}
 use Rattle.sm_machine.specs.declared.commands.Command.TheVariants.{Attach}
 use Rattle.sm_machine.specs.Commits.{commits, growth_commits, is_given_up, one_if, own_commits}
-use Rattle.sm_machine.specs.Refusals.{forked, is_bad_size, is_deep, is_in_use, is_not_attached, is_out_of_range, is_raw_disk, is_read_only, is_reserved, is_shrink, is_spent, is_taken, is_too_many, is_unknown, lacking, lacks_space, named, need, new_uuid, refusal, with_image_of}
-use Rattle.sm_machine.specs.Shapes.{ImageRow, Shape, attached_as, disk_image, disk_record, free, image_uuid, is_image, is_image_of, is_vhd, on_image, risen, same_image, thick_in}
+use Rattle.sm_machine.specs.Refusals.{forked, is_bad_size, is_deep, is_in_use, is_not_attached, is_out_of_range, is_raw_disk, is_read_only, is_shrink, is_spent, is_taken, is_too_many, is_unknown, lacking, lacks_space, named, need, new_uuid, refusal, with_image_of}
+use Rattle.sm_machine.specs.Shapes.{ImageRow, Shape, disk_image, free, image_uuid, is_image, is_image_of, is_vhd, on_image, risen, same_image, thick_in}
 use Rattle.sm_machine.specs.Steps.{attach_images, given_up, shape_after, shape_next}
 use Rattle.sm_machine.specs.WellFormed.{IsWellFormed}
 use Rattle.sm_machine.proofs.Guests.{disks_own}

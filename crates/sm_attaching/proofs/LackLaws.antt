@@ -1,13 +1,13 @@
 -- The image of a disk that lacks extents for being written to: it is a VHD image, and the extents that it lacks are free.
-use Rattle.std.proofs.Common.{◌≡◌, ℕ, ◌+◌, ◌-◌, ◌<◌, ◌≤◌, ◌^◌, nat_lt, Bool, true, false, List, length, Option, Some, None, is_some, refl, sym, ap, ◌∙◌, subst, arith, ⊎_elim}
+use Rattle.std.proofs.Common.{◌≡◌, ℕ, ◌+◌, ◌-◌, ◌<◌, ◌≤◌, ◌^◌, Bool, true, false, List, Some, None, is_some, refl, sym, ap, ◌∙◌, subst, arith, ⊎_elim}
 use Rattle.std.proofs.Math.Logic.{∥∥₁_elim}
 use Rattle.std.proofs.Props.{props}
 use Rattle.std.proofs.lemmas.Bool.{true≢false, ltb-false}
 use Rattle.common_laws.proofs.Lists.{In-map_at}
-use Rattle.sm_base.specs.declared.names.Name.TheVariants.{Vhd, Raw}
+use Rattle.sm_base.specs.declared.names.Name.TheVariants.{Vhd}
 use Rattle.sm_base.specs.declared.operations.Mode.{Mode}
 use Rattle.sm_base.specs.declared.operations.Mode.TheVariants.{Ro, Rw}
-use Rattle.vg_meta.specs.Tables.{VolumeTable, free as free_of}
+use Rattle.vg_meta.specs.Tables.{VolumeTable}
 use Rattle.vg_volumes.specs.Sites.{Site}
 use Rattle.vhd_chain.specs.Trees.{row_name, tree_row}
 use Rattle.sm_machine.specs.declared.commands.Command.TheVariants.{Attach}
@@ -15,7 +15,6 @@ use Rattle.sm_machine.specs.Commits.{is_given_up}
 use Rattle.sm_machine.specs.Refusals.{lacking, lacks_space, need, refusal, with_image_of}
 use Rattle.sm_machine.specs.Shapes.{Shape, free, is_image_of, is_vhd, thick_in}
 use Rattle.sm_machine.specs.Steps.{shape_next}
-use Rattle.sm_machine.specs.WellFormed.{IsWellFormed}
 use Rattle.sm_machine.proofs.Attaches.{is_its_image}
 use Rattle.sm_machine.proofs.Passed.{passed}
 use Rattle.sm_ready.specs.Known.{Known, machine_row, shape_in}
@@ -24,7 +23,7 @@ use Rattle.sm_ready.specs.Ready.{IsTidy}
 use Rattle.sm_ready.proofs.CauseLaws.{named_as}
 use Rattle.sm_ready.proofs.NeedLaws.{thick_row}
 use Rattle.sm_ready.proofs.Orders.{named_row}
-use Rattle.sm_ready.proofs.OwnLaws.{IsOwn, own_image, own_row}
+use Rattle.sm_ready.proofs.OwnLaws.{IsOwn, own_image}
 use Rattle.sm_ready.proofs.RowLaws.{tree_found}
 use Rattle.sm_ready.proofs.SumLaws.{free_counted}
 use Rattle.sm_space.specs.Inflating.{HasFree, IsBelow, extents_in, inflated}

@@ -3,3 +3,4 @@ pub mod UseLaws
 pub mod AttachedLaws
 pub mod GrowLaws
 pub mod LackLaws
+pub mod GivenLaws

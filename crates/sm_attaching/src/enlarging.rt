@@ -5,7 +5,7 @@ ghost use Rattle.sm_base.specs.declared.faults.CallFault.TheVariants as fault;
 ghost use Rattle.sm_disk.specs.Held.{Keeps, Rose};
 ghost use Rattle.vg_meta.specs.Roomy.{table_alone};
 ghost use Rattle.vg_meta.specs.Tables.{VolumeTable};
-ghost use Rattle.vg_volumes.specs.Stored.{Leaves, OnlyReads};
+ghost use Rattle.vg_volumes.specs.Stored.{Counts, Leaves, OnlyReads};
 ghost use Rattle.sm_machine.specs.declared.commands.Command.TheVariants as command;
 ghost use Rattle.sm_machine.specs.Refusals.{need as needed};
 ghost use Rattle.sm_ready.specs.Refusing.{IsAllowed};
@@ -13,21 +13,114 @@ ghost use Rattle.sm_ready.specs.Does.{IsKeptUp, ShapesAs, StoreDoes, store_shape
 ghost use Rattle.sm_ready.specs.Frames.{HasCommits, HasTrueImages};
 ghost use Rattle.sm_ready.specs.Sessions.{HasRows, HasTreeRoom, IsOrderlyStore, IsTidyStore, IsReadyStore};
 ghost use Rattle.sm_space.specs.Inflating.{IsEnlarged, extents_in};
-ghost use Rattle.sm_attaching.specs.Attaching.{HasAttachmentRoom};
+ghost use Rattle.sm_attaching.specs.Attaching.{HasAttachmentRoom, HasGrowth};
+ghost use Rattle.gc_abandon.specs.Abandoning.{unfolded, unfolded_table};
 ghost use Rattle.vhd_chain.specs.Trees.{tree_row};
 ghost use Rattle.sm_base.specs.declared.names.Name.TheVariants.{Vhd};
 
 use crate::attaching::note;
+use gc_abandon::give_up;
 use sm_base::{CallFault, Failed, Mode, Name};
 use sm_machine::Command;
 use sm_ready::{Memory, need};
-use sm_space::inflate;
+use sm_space::{enlarge, plan_growth};
 use std::alloc::Global;
 use uuid::Uuid;
+use vg_meta::Change;
 use vg_volumes::Store;
 
-/// Attaches a disk. Where it is attached for writing and its VHD image lacks extents for a slot of each block, it first gets
-/// them, the least that are free: so no write of a guest wants space.
+/// Attaches a disk where no operation is given up, and all memory was taken.
+fn attach_kept<S: Store>(
+    store: &mut S,
+    memory: &mut Memory,
+    disk: &Uuid,
+    mode: Mode,
+    growth: Option<(u32, Change)>,
+) -> Result<(), Failed>
+    requires usable { S.failed store.old ≡ false }
+    requires orderly { IsOrderlyStore S.Store store.old memory.old }
+    requires tidy { IsTidyStore S.Store store.old memory.old }
+    requires tree_room { HasTreeRoom memory.old }
+    requires room { HasAttachmentRoom memory.old }
+    requires true_now { HasTrueImages S.Store store.old memory.old }
+    requires allowed { IsAllowed S.Store (command.Attach disk.now mode) store.old memory.old }
+    requires kept_up { IsKeptUp S.Store (command.Attach disk.now mode) store.old memory.old }
+    requires growth { HasGrowth S.Store store.old memory.old disk.now mode growth }
+    ensures site { S.site store.new ≡ S.site store.old }
+    ensures counts { S.faults store.old ≤ S.faults store.new }
+    ensures cause { Counts S.Store result store.old store.new }
+    ensures beside { S.told → Keeps (S.beside store.old) (S.beside store.new) }
+    ensures few { HasCommits 3 (table_alone (S.table store.old)) (table_alone (S.table store.new)) }
+    ensures few_left { Leaves S.Store store.new (λ t image. HasCommits 3 (table_alone (S.table store.old)) t) }
+    ensures others { (memory.new.records ≡ memory.old.records) × (memory.new.operation ≡ memory.old.operation) }
+    ensures usable_still { OnOk result (S.failed store.new ≡ false) }
+    ensures orderly_still { OnOk result (IsOrderlyStore S.Store store.new memory.new) }
+    ensures tidy_still { OnOk result (IsTidyStore S.Store store.new memory.new) }
+    ensures tree_room_still { OnOk result (HasTreeRoom memory.new) }
+    ensures room_still { OnOk result (HasAttachmentRoom memory.new) }
+    ensures true_still { OnOk result (HasTrueImages S.Store store.new memory.new) }
+    ensures rows { HasRows (S.table store.old) → OnOk result (HasRows (S.table store.new)) }
+    ensures least { OnOk result (0 < needed (store_shape S.Store store.old memory.old) (command.Attach disk.now mode)
+        → IsEnlarged (S.site store.old).count (table_alone (S.table store.old)) disk.now
+        (extents_in (tree_row memory.old.tree.rows (Vhd disk.now)) + needed (store_shape S.Store store.old memory.old) (command.Attach disk.now mode)) (table_alone (S.table store.new))) }
+    ensures shape { OnOk result (ShapesAs S.Store (command.Attach disk.now mode) store.old memory.old store.new memory.new) }
+    ensures done { S.told → IsReadyStore S.Store store.old memory.old
+        → StoreDoes S.Store (command.Attach disk.now mode) store.old memory.old store.new memory.new (result ≡ Ok tt) }
+{
+    let Some((to, growth)) = growth else {
+        note(store, memory, disk, mode)?;
+        return Ok(());
+    };
+    enlarge(store, memory, disk, to, growth)?;
+    note(store, memory, disk, mode)?;
+    Ok(())
+}
+
+/// Attaches a disk where all memory was taken. An operation that folds its leaf is given up first.
+fn attach_given<S: Store>(
+    store: &mut S,
+    memory: &mut Memory,
+    disk: &Uuid,
+    mode: Mode,
+    growth: Option<(u32, Change)>,
+) -> Result<(), Failed>
+    requires usable { S.failed store.old ≡ false }
+    requires orderly { IsOrderlyStore S.Store store.old memory.old }
+    requires tidy { IsTidyStore S.Store store.old memory.old }
+    requires tree_room { HasTreeRoom memory.old }
+    requires room { HasAttachmentRoom memory.old }
+    requires true_now { HasTrueImages S.Store store.old memory.old }
+    requires allowed { IsAllowed S.Store (command.Attach disk.now mode) store.old memory.old }
+    requires growth { HasGrowth S.Store store.old memory.old disk.now mode growth }
+    ensures site { S.site store.new ≡ S.site store.old }
+    ensures counts { S.faults store.old ≤ S.faults store.new }
+    ensures cause { Counts S.Store result store.old store.new }
+    ensures beside { S.told → Keeps (S.beside store.old) (S.beside store.new) }
+    ensures few { HasCommits 4 (table_alone (S.table store.old)) (table_alone (S.table store.new)) }
+    ensures few_left { Leaves S.Store store.new (λ t image. HasCommits 4 (table_alone (S.table store.old)) t) }
+    ensures others { memory.new.records ≡ memory.old.records }
+    ensures operation { OnOk result (memory.new.operation ≡ unfolded memory.old.operation disk.now) }
+    ensures usable_still { OnOk result (S.failed store.new ≡ false) }
+    ensures orderly_still { OnOk result (IsOrderlyStore S.Store store.new memory.new) }
+    ensures tidy_still { OnOk result (IsTidyStore S.Store store.new memory.new) }
+    ensures tree_room_still { OnOk result (HasTreeRoom memory.new) }
+    ensures room_still { OnOk result (HasAttachmentRoom memory.new) }
+    ensures true_still { OnOk result (HasTrueImages S.Store store.new memory.new) }
+    ensures rows { HasRows (S.table store.old) → OnOk result (HasRows (S.table store.new)) }
+    ensures least { OnOk result (0 < needed (store_shape S.Store store.old memory.old) (command.Attach disk.now mode)
+        → IsEnlarged (S.site store.old).count (unfolded_table memory.old.operation disk.now (table_alone (S.table store.old))) disk.now
+        (extents_in (tree_row memory.old.tree.rows (Vhd disk.now)) + needed (store_shape S.Store store.old memory.old) (command.Attach disk.now mode)) (table_alone (S.table store.new))) }
+    ensures shape { OnOk result (ShapesAs S.Store (command.Attach disk.now mode) store.old memory.old store.new memory.new) }
+    ensures done { S.told → IsReadyStore S.Store store.old memory.old
+        → StoreDoes S.Store (command.Attach disk.now mode) store.old memory.old store.new memory.new (result ≡ Ok tt) }
+{
+    give_up(store, memory, disk)?;
+    attach_kept(store, memory, disk, mode, growth)
+}
+
+/// Attaches a disk. Where its leaf is being folded, that is given up first, once all memory was taken. Where it is attached for
+/// writing and its VHD image lacks extents for a slot of each block, it then gets them, the least that are free: so no write of a
+/// guest wants space.
 ///
 /// # Errors
 /// `NoMemory` where memory ran out, and nothing was written; `Device` where a call of the store failed. The disk is not
@@ -46,17 +139,17 @@ pub fn attach<S: Store>(
     requires room { HasAttachmentRoom memory.old }
     requires true_now { HasTrueImages S.Store store.old memory.old }
     requires allowed { IsAllowed S.Store (command.Attach disk.now mode) store.old memory.old }
-    requires kept_up { IsKeptUp S.Store (command.Attach disk.now mode) store.old memory.old }
     ensures site { S.site store.new ≡ S.site store.old }
     ensures counts { S.faults store.old ≤ S.faults store.new }
     ensures cause { result ≡ Err fault.Device → Rose (S.faults store.old) (S.faults store.new) }
     ensures beside { S.told → Keeps (S.beside store.old) (S.beside store.new) }
-    ensures few { HasCommits 3 (table_alone (S.table store.old)) (table_alone (S.table store.new)) }
-    ensures few_left { Leaves S.Store store.new (λ t image. HasCommits 3 (table_alone (S.table store.old)) t) }
+    ensures few { HasCommits 4 (table_alone (S.table store.old)) (table_alone (S.table store.new)) }
+    ensures few_left { Leaves S.Store store.new (λ t image. HasCommits 4 (table_alone (S.table store.old)) t) }
     ensures poor { result ≡ Err fault.NoMemory
         → OnlyReads S.Store store.old store.new × ((t : VolumeTable) (image : ℕ → List ℕ) → S.leaves store.new t image → S.leaves store.old t image)
         × (memory.new ≡ memory.old) × (S.failed store.new ≡ false) }
-    ensures others { (memory.new.records ≡ memory.old.records) × (memory.new.operation ≡ memory.old.operation) }
+    ensures others { memory.new.records ≡ memory.old.records }
+    ensures operation { OnOk result (memory.new.operation ≡ unfolded memory.old.operation disk.now) }
     ensures usable_still { OnOk result (S.failed store.new ≡ false) }
     ensures orderly_still { OnOk result (IsOrderlyStore S.Store store.new memory.new) }
     ensures tidy_still { OnOk result (IsTidyStore S.Store store.new memory.new) }
@@ -65,7 +158,7 @@ pub fn attach<S: Store>(
     ensures true_still { OnOk result (HasTrueImages S.Store store.new memory.new) }
     ensures rows { HasRows (S.table store.old) → OnOk result (HasRows (S.table store.new)) }
     ensures least { OnOk result (0 < needed (store_shape S.Store store.old memory.old) (command.Attach disk.now mode)
-        → IsEnlarged (S.site store.old).count (table_alone (S.table store.old)) disk.now
+        → IsEnlarged (S.site store.old).count (unfolded_table memory.old.operation disk.now (table_alone (S.table store.old))) disk.now
         (extents_in (tree_row memory.old.tree.rows (Vhd disk.now)) + needed (store_shape S.Store store.old memory.old) (command.Attach disk.now mode)) (table_alone (S.table store.new))) }
     ensures shape { OnOk result (ShapesAs S.Store (command.Attach disk.now mode) store.old memory.old store.new memory.new) }
     ensures done { S.told → IsReadyStore S.Store store.old memory.old
@@ -74,7 +167,7 @@ pub fn attach<S: Store>(
     let geometry = store.geometry();
     let lacking = need(memory, &geometry, &Command::Attach { disk: *disk, mode });
     if lacking == 0 {
-        let Ok(()) = note(store, memory, disk, mode) else {
+        let Ok(()) = attach_given(store, memory, disk, mode, None) else {
             return Err(CallFault::Device);
         };
         return Ok(());
@@ -83,8 +176,10 @@ pub fn attach<S: Store>(
         unreachable!()
     };
     let to = row.extents + lacking as u32;
-    inflate(alloc, store, memory, disk, to)?;
-    let Ok(()) = note(store, memory, disk, mode) else {
+    let Ok(growth) = plan_growth(alloc, store, memory, disk, to) else {
+        return Err(CallFault::NoMemory);
+    };
+    let Ok(()) = attach_given(store, memory, disk, mode, Some((to, growth))) else {
         return Err(CallFault::Device);
     };
     Ok(())

@@ -15,18 +15,17 @@ use Rattle.vhd_image.proofs.MakingLaws.{made-stands}
 use Rattle.vhd_volumes.specs.Steady.{IsSteadyIn}
 use Rattle.vhd_volumes.specs.Truth.{HasRoomFor, IsStanding}
 use Rattle.vhd_volumes.specs.declared.heads.Head.{Head}
-use Rattle.sm_machine.specs.Refusals.{refusal}
 use Rattle.sm_record.specs.declared.records.Record.{Record}
 use Rattle.sm_mgt.specs.Places.{place_for}
 use Rattle.sm_standing.specs.Apart.{is_apart}
 use Rattle.sm_standing.specs.Forks.{forked}
 use Rattle.sm_ready.specs.Done.{at_rest}
-use Rattle.sm_ready.specs.Known.{Known, shape_in}
+use Rattle.sm_ready.specs.Known.{Known}
 use Rattle.sm_ready.specs.Orderly.{IsOrderly}
 use Rattle.sm_ready.specs.Ready.{IsReady, IsTidy}
 use Rattle.sm_ready.proofs.MadeLaws.{steady_new}
 use Rattle.sm_ready.proofs.RestLaws.{keeps_rest}
-use Rattle.sm_clone.specs.Forking.{IsBesideFork, IsMade, base_body, base_name, child_head, fork_of, forking, twin_record}
+use Rattle.sm_clone.specs.Forking.{IsBesideFork, IsMade, Passes, base_body, base_name, child_head, fork_of, twin_record}
 use Rattle.sm_clone.specs.declared.forks.Fork.{Fork}
 use Rattle.sm_clone.proofs.ForkRows.{base_image, base_named, base_not_leaf, base_not_twin, disk_size}
 use Rattle.sm_clone.proofs.ForkableLaws.{disk_speaks, twin_speaks}
@@ -36,10 +35,10 @@ use Rattle.sm_clone.proofs.ShapeLaws.{sized_in}
 use Rattle.sm_machine.specs.WellFormed.{is_image_name}
 use Rattle.sm_ready.proofs.ShapeLaws.{mgt_image}
 
-module _ (s : Site) (t : VolumeTable) (m : Known) (u twin : List ℕ) (read_only : Bool) (o : IsOrderly s t m) (tidy : IsTidy t m) (passes : refusal (shape_in s t m) (forking u twin read_only) ≡ None)
+module _ (s : Site) (t : VolumeTable) (m : Known) (u twin : List ℕ) (read_only : Bool) (o : IsOrderly s t m) (tidy : IsTidy t m) (passes : Passes s t m u twin read_only)
     (old : Held) (ready : IsReady s t old m) (k : ℕ) (origin : Record) (placed : place_for m.places twin ≡ Some k) where
   abbrev f : Fork
-  f = fork_of t m.rows u twin
+  f = fork_of passes.number m.rows u twin
 
   abbrev us : List (List ℕ)
   us = forked f.disk f.base f.twin

@@ -109,7 +109,7 @@ module _ {S : Type 0} {g : Ghosts S} {a : S} {m : Memory} {f : Fork} {p : Parts}
 
   -- the fork, its place and its record as table and memory give them
   abbrev fork_now : Fork
-  fork_now = fork_of t m.tree.rows f.disk f.twin
+  fork_now = fork_of can.allowed.number m.tree.rows f.disk f.twin
 
   abbrev k_now : ℕ
   k_now = unwrap_or (place_for m.records f.twin) 0

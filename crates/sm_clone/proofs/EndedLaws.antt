@@ -31,7 +31,6 @@ use Rattle.vhd_volumes.specs.Truth.{HasRoomFor}
 use Rattle.vhd_volumes.specs.declared.heads.Head.{Head}
 use Rattle.sm_machine.specs.Commits.{is_given_up}
 use Rattle.sm_machine.specs.Disks.{Disk, is_disk, with_disk}
-use Rattle.sm_machine.specs.Refusals.{refusal}
 use Rattle.sm_machine.specs.Shapes.{DiskRecord, Shape, attached_as, is_rw}
 use Rattle.sm_machine.specs.Steps.{disks_next, fork_disks}
 use Rattle.sm_machine.specs.WellFormed.{IsWellFormed}
@@ -65,7 +64,7 @@ use Rattle.sm_ready.proofs.RestLaws.{agrees_keeps, keeps_rest, steady_keeps}
 use Rattle.sm_ready.proofs.RowLaws.{HasVolume, image_named, volume_there}
 use Rattle.sm_ready.proofs.ShapeLaws.{as_taken, content_records, into_records, place_of}
 use Rattle.sm_ready.proofs.TruthLaws.{row_found}
-use Rattle.sm_clone.specs.Forking.{AreForFork, IsBesideFork, IsFilled, IsMade, base_body, base_name, base_row, child_head, fork_of, forking, own_uid, twin_record, twin_uid}
+use Rattle.sm_clone.specs.Forking.{AreForFork, IsBesideFork, IsFilled, IsMade, Passes, base_body, base_name, base_row, child_head, fork_of, forking, own_uid, twin_record, twin_uid}
 use Rattle.sm_clone.specs.declared.forks.Fork.{Fork}
 use Rattle.sm_clone.proofs.AreaLaws.{area_behind, area_fill, area_front, made_steady}
 use Rattle.sm_clone.proofs.ForkRows.{base_named, by_row, roomy_wanted}
@@ -89,11 +88,11 @@ steady_under : (g : _) (n : ℕ) (h : Held) (to : Name) (b : Body) → IsSteady 
 steady_under g n h to (body.Raw volume size) was = was
 steady_under g n h to (body.Vhd head m) was = record { is_true = record { now = was.is_true.now; valid = was.is_true.valid; within = was.is_true.within }; still = was.still; holding = was.holding }
 
-module _ (s : Site) (t : VolumeTable) (m : Known) (u twin : List ℕ) (read_only : Bool) (o : IsOrderly s t m) (tidy : IsTidy t m) (passes : refusal (shape_in s t m) (forking u twin read_only) ≡ None)
+module _ (s : Site) (t : VolumeTable) (m : Known) (u twin : List ℕ) (read_only : Bool) (o : IsOrderly s t m) (tidy : IsTidy t m) (passes : Passes s t m u twin read_only)
     (keeps : is_given_up (shape_in s t m) (forking u twin read_only) ≡ false) (sectors : ℕ) (own twins : List ℕ) (taken : AreForFork s t (shape_in s t m) u sectors own twins) (proper : IsUuid twin)
     (old : Held) (ready : IsReady s t old m) (k : ℕ) (origin : Record) (placed : place_for m.places twin ≡ Some k) where
   abbrev f : Fork
-  f = fork_of t m.rows u twin
+  f = fork_of passes.number m.rows u twin
 
   abbrev us : List (List ℕ)
   us = forked f.disk f.base f.twin

@@ -1,6 +1,6 @@
 -- Table and memory are orderly and tidy once a fork is made.
-use Rattle.std.proofs.Common.{◌≡◌, ◌≢◌, ◌⊎◌, ⊎_elim, inl, inr, ℕ, ◌+◌, ◌*◌, ◌≤◌, Bool, true, false, cond, List, [], ◌∷◌, length, filter, Option, Some, None, refl, sym, ap, ap₂, ◌∙◌, subst}
-use Rattle.std.proofs.Math.Logic.{∥∥₁_elim}
+use Rattle.std.proofs.Common.{◌≡◌, ◌≢◌, ◌⊎◌, ⊎_elim, inl, inr, ℕ, ◌+◌, ◌*◌, ◌≤◌, Bool, true, false, cond, List, [], ◌∷◌, length, filter, Option, Some, None, refl, sym, ap, ap₂, ◌∙◌, subst, arith}
+use Rattle.std.proofs.Math.Logic.{∥∥₁_elim, ∥∥₁_map}
 use Rattle.std.proofs.Props.{props}
 use Rattle.std.specs.Str.{bytes_eq}
 use Rattle.std.proofs.lemmas.Bool.{true≢false}
@@ -24,7 +24,7 @@ use Rattle.vhd_chain.specs.declared.rows.TreeRow.{TreeRow}
 use Rattle.sm_machine.specs.Commits.{folds, gives_up, is_given_up}
 use Rattle.sm_machine.specs.Refusals.{refusal, wanted}
 use Rattle.sm_machine.specs.Shapes.{DiskRecord, ImageRow, Shape, attached_as, disk_image, image_limit, image_uuid, is_image_of, is_rw, refs, risen, thin_in}
-use Rattle.sm_machine.specs.Steps.{State, fork_images, fork_shape, forked_images, shape_next}
+use Rattle.sm_machine.specs.Steps.{State, fork_images, fork_shape, forked_images}
 use Rattle.sm_machine.specs.WellFormed.{IsChild, IsOperation, IsWellFormed, is_image_name}
 use Rattle.sm_machine.proofs.Chains.{IsThere}
 use Rattle.sm_machine.proofs.Forks.{IsForkable}
@@ -48,12 +48,13 @@ use Rattle.sm_ready.proofs.OwnLaws.{own_image, step_shape}
 use Rattle.sm_ready.proofs.RowLaws.{found_in, image_named}
 use Rattle.sm_ready.proofs.ShapeLaws.{mgt_image}
 use Rattle.sm_space.proofs.OwnLaws.{named_or_not}
-use Rattle.sm_clone.specs.Forking.{AreForFork, IsUsedAs, base_name, entry_name, fork_of, forking, sectors_of, table_forked}
+use Rattle.gc_abandon.proofs.EntryLaws.{well_as}
+use Rattle.sm_clone.specs.Forking.{AreForFork, IsUsedAs, Passes, base_name, entry_name, fork_of, forking, sectors_of, table_forked}
 use Rattle.sm_clone.specs.declared.forks.Fork.{Fork}
 use Rattle.sm_clone.proofs.ForkRows.{base_image, look_base, look_gone, look_leaf, look_other, look_twin, own_image_name, roomy_wanted, stands_then}
 use Rattle.sm_clone.proofs.ForkUses.{differ, forked, kept, kept_there, parent_kept, uses_base, uses_gone, uses_leaf, uses_other, was}
 use Rattle.sm_clone.proofs.PassedLaws.{found, own, own_is}
-use Rattle.sm_clone.proofs.ShapeLaws.{base_is, known_then, next_then, no_stray_then, shape_then}
+use Rattle.sm_clone.proofs.ShapeLaws.{base_is, by_number, known_then, next_then, no_stray_then, shape_then}
 use Rattle.sm_clone.proofs.TableLaws.{few_images, hidden_row, own_filled, own_there, stage_8, to_fork}
 
 -- what a fork that is not refused asks of the shape
@@ -166,25 +167,27 @@ pub record IsForkedTable (count : ℕ) (t : VolumeTable) (f : Fork) (own twins :
   pub entries : names_in next is_entry ≡ names_in t is_entry
   pub few : length (table_images next) ≤ image_limit
 
-module _ (s : Site) (t : VolumeTable) (m : Known) (u twin : List ℕ) (read_only : Bool) (o : IsOrderly s t m) (tidy : IsTidy t m) (passes : refusal (shape_in s t m) (forking u twin read_only) ≡ None) where
+module _ (s : Site) (t : VolumeTable) (m : Known) (u twin : List ℕ) (read_only : Bool) (o : IsOrderly s t m) (tidy : IsTidy t m) (passes : Passes s t m u twin read_only) where
+  -- the shape by the number that names the base
   abbrev σ : Shape
-  σ = shape_in s t m
+  σ = by_number s t m u twin read_only o tidy passes
 
   abbrev f : Fork
-  f = fork_of t m.rows u twin
+  f = fork_of passes.number m.rows u twin
 
   abbrev row : TreeRow
   row = (own s t m u twin read_only o tidy passes).row
 
-  abbrev is_forkable : IsForkable σ u twin
-  is_forkable = forkable σ u twin read_only passes
+  is_forkable : IsForkable σ u twin
+  unfolding shape_in
+  is_forkable = forkable σ u twin read_only passes.unrefused
 
   its_image : disk_image u σ ≡ Some (machine_row row)
   its_image = own_image s t m u o (own s t m u twin read_only o tidy passes)
 
   -- ---- the counts
 
-  module _ (keeps : is_given_up σ (forking u twin read_only) ≡ false) (used : Attached) (uses : IsUsedAs f m.attached used) where
+  module _ (keeps : is_given_up (shape_in s t m) (forking u twin read_only) ≡ false) (used : Attached) (uses : IsUsedAs f m.attached used) where
     abbrev after : Shape
     after = record (fork_shape σ u twin read_only) { sequence = risen t.sequence 8 }
 
@@ -194,15 +197,15 @@ module _ (s : Site) (t : VolumeTable) (m : Known) (u twin : List ℕ) (read_only
     -- each image is counted as often as something uses it
     pub counts_then : (n : Name) → count_of used n ≡ refs n after
     unfolding shape_in
-    counts_then n = ∥∥₁_elim o.well_formed (hlevel props) (λ w. by w (named_or_not n (base_name f)) (named_or_not n (name.Vhd u)) (named_or_not n f.own))
+    counts_then n = ∥∥₁_elim passes.orderly.well_formed (hlevel props) (λ w. by w (named_or_not n (base_name f)) (named_or_not n (name.Vhd u)) (named_or_not n f.own))
       where
         by : IsWellFormed σ → (n ≡ base_name f) ⊎ (n ≢ base_name f) → (n ≡ name.Vhd u) ⊎ (n ≢ name.Vhd u) → (n ≡ f.own) ⊎ (n ≢ f.own) → count_of used n ≡ refs n after
         by w (inl is) leaf mine =
-            ap (count_of used) is ∙ uses.base ∙ o.counts f.own ∙ ap (λ x. refs x σ) own_named
+            ap (count_of used) is ∙ uses.base ∙ passes.orderly.counts f.own ∙ ap (λ x. refs x σ) own_named
             ∙ sym (uses_base σ w u twin is_forkable (machine_row row) its_image read_only (risen t.sequence 8))
             ∙ sym (ap (λ x. refs x after) (is ∙ base_is s t m u twin read_only o tidy passes))
         by w (inr not_base) (inl is) mine =
-            ap (count_of used) is ∙ uses.own ∙ o.counts f.own ∙ ap (λ x. refs x σ) own_named
+            ap (count_of used) is ∙ uses.own ∙ passes.orderly.counts f.own ∙ ap (λ x. refs x σ) own_named
             ∙ sym (uses_leaf σ w u twin is_forkable (machine_row row) its_image read_only (risen t.sequence 8))
             ∙ sym (ap (λ x. refs x after) is)
         by w (inr not_base) (inr not_leaf) (inl is) =
@@ -210,7 +213,7 @@ module _ (s : Site) (t : VolumeTable) (m : Known) (u twin : List ℕ) (read_only
             ∙ sym (uses_gone σ w u twin is_forkable (machine_row row) its_image read_only (risen t.sequence 8) (λ leaf. not_leaf (is ∙ own_named ∙ leaf)))
             ∙ sym (ap (λ x. refs x after) (is ∙ own_named))
         by w (inr not_base) (inr not_leaf) (inr not_own) =
-            uses.others n not_base not_leaf not_own ∙ o.counts n
+            uses.others n not_base not_leaf not_own ∙ passes.orderly.counts n
             ∙ sym (uses_other σ w u twin is_forkable (machine_row row) its_image read_only (risen t.sequence 8) n
             (λ is. not_base (is ∙ sym (base_is s t m u twin read_only o tidy passes))) not_leaf (λ is. not_own (is ∙ sym own_named)))
 
@@ -224,8 +227,8 @@ module _ (s : Site) (t : VolumeTable) (m : Known) (u twin : List ℕ) (read_only
       by None is e = absurd (none-some _ e)
       by (Some r) is e = ap (λ (g : Face). g.extents) (same_Some _ _ (sym (filled_face r (tidy.none_new r (row_of-In t.volumes f.own r is).0)) ∙ e))
 
-  module _ (keeps : is_given_up σ (forking u twin read_only) ≡ false) (now k : ℕ) (origin : Record) (placed : place_for m.places twin ≡ Some k) (recorded : record_in m.places u ≡ Some origin)
-      (own_es twins : List ℕ) (many : length own_es ≡ wanted σ (is_rw (attached_as u σ)) (sectors_of (tree_row m.rows f.own))) (more : length twins ≡ thin_in σ 0)
+  module _ (keeps : is_given_up (shape_in s t m) (forking u twin read_only) ≡ false) (now k : ℕ) (origin : Record) (placed : place_for m.places twin ≡ Some k)
+      (recorded : record_in m.places u ≡ Some origin) (own_es twins : List ℕ) (many : length own_es ≡ wanted σ (is_rw (attached_as u σ)) (sectors_of (tree_row m.rows f.own))) (more : length twins ≡ thin_in σ 0)
       (used : Attached) (uses : IsUsedAs f m.attached used) (next : VolumeTable) (v : IsForkedTable s.count t f own_es twins next) (number : next.sequence ≡ t.sequence + 8) where
     abbrev memory : Known
     memory = known_then s t m u twin read_only o tidy passes now (length own_es) (length twins) k origin placed recorded many more used uses.disks
@@ -273,23 +276,33 @@ module _ (s : Site) (t : VolumeTable) (m : Known) (u twin : List ℕ) (read_only
         by (inr not_base) (inr not_leaf) (inr not_twin) (inl is) = absurd (none-some r (sym (ap (rows next) is ∙ v.gone (λ leaf. not_leaf (is ∙ leaf))) ∙ there))
         by (inr not_base) (inr not_leaf) (inr not_twin) (inr not_own) = tidy.none_new r (row_of-In t.volumes r.name r (sym (v.others r.name not_base not_leaf not_twin not_own) ∙ there)).0
 
-    shape_is : shape_in s next memory ≡ shape_next σ (forking u twin read_only)
-    shape_is = shape_then s t m u twin read_only o tidy passes now (length own_es) (length twins) k origin placed recorded many more used uses.disks next number keeps
-
     shape_as : shape_in s next memory ≡ record (fork_shape σ u twin read_only) { sequence = risen t.sequence 8 }
-    shape_as = shape_is ∙ next_then s t m u twin read_only o tidy passes now (length own_es) (length twins) k origin placed recorded many more used uses.disks keeps
+    shape_as = shape_then s t m u twin read_only o tidy passes now (length own_es) (length twins) k origin placed recorded many more used uses.disks next number
 
-    well : ∥ IsWellFormed (shape_in s next memory) ∥₁
-    well = well_target s t m (forking u twin read_only) σ_state (shape_in s next memory) o refl (shape_is ∙ sym (step_shape σ_state (forking u twin read_only) passes))
+    abbrev at_number : Shape
+    at_number = record (fork_shape σ u twin read_only) { sequence = risen passes.number 8 }
+
+    well_numbered : ∥ IsWellFormed at_number ∥₁
+    unfolding shape_in
+    well_numbered = well_target s (record t { sequence = passes.number }) m (forking u twin read_only) σ_state at_number passes.orderly refl
+        (sym (next_then s t m u twin read_only o tidy passes now (length own_es) (length twins) k origin placed recorded many more used uses.disks keeps)
+        ∙ sym (step_shape σ_state (forking u twin read_only) passes.unrefused))
       where
         σ_state : State
         σ_state = record { disks = []; shape = σ }
+
+    -- so it is by a number that is not less
+    well : ∥ IsWellFormed (shape_in s next memory) ∥₁
+    well = subst (λ (x : Shape). ∥ IsWellFormed x ∥₁) (sym shape_as) (∥∥₁_map well_numbered (λ w.
+        well_as at_number (risen t.sequence 8) at_number.op (omega arith)
+        (λ i n there fits is. let less = w.bases i n there fits is in let more = passes.below in omega (arith, less, more)) w.operation w))
 
     roomy : IsRoomyIn (shape_in s next memory) m.op
     unfolding shape_in
     roomy = subst (λ (x : Shape). IsRoomyIn x m.op)
         (sym (shape_as ∙ ap (λ (i : Option ImageRow). let x : Shape = record (fork_shape σ u twin read_only) { sequence = risen t.sequence 8; images = fork_images σ u twin i } in x) its_image))
-        (roomy_then σ o.well_formed u twin is_forkable (machine_row row) its_image (not_folded σ u twin read_only keeps) (risen t.sequence 8) (fork_shape σ u twin read_only).records o.roomy)
+        (roomy_then σ passes.orderly.well_formed u twin is_forkable (machine_row row) its_image (not_folded (shape_in s t m) u twin read_only keeps)
+        (risen t.sequence 8) (fork_shape σ u twin read_only).records passes.orderly.roomy)
 
     pub orderly_then : IsOrderly s next memory
     unfolding shape_in
@@ -319,9 +332,9 @@ module _ (s : Site) (t : VolumeTable) (m : Known) (u twin : List ℕ) (read_only
     }
 
 -- the last table of a fork is one
-module _ (s : Site) (t : VolumeTable) (m : Known) (u twin : List ℕ) (read_only : Bool) (o : IsOrderly s t m) (tidy : IsTidy t m) (passes : refusal (shape_in s t m) (forking u twin read_only) ≡ None)
+module _ (s : Site) (t : VolumeTable) (m : Known) (u twin : List ℕ) (read_only : Bool) (o : IsOrderly s t m) (tidy : IsTidy t m) (passes : Passes s t m u twin read_only)
     (sectors : ℕ) (own_es twins : List ℕ) (taken : AreForFork s t (shape_in s t m) u sectors own_es twins) (proper : IsUuid twin) where
-  pub forked_table : IsForkedTable s.count t (fork_of t m.rows u twin) own_es twins (table_forked t (fork_of t m.rows u twin) own_es twins)
+  pub forked_table : IsForkedTable s.count t (fork_of passes.number m.rows u twin) own_es twins (table_forked t (fork_of passes.number m.rows u twin) own_es twins)
   forked_table =
       let last = stage_8 s t m u twin read_only o tidy passes sectors own_es twins taken proper in
       let before = to_fork s t m u twin read_only o tidy passes sectors own_es twins taken proper in
@@ -336,8 +349,9 @@ module _ (s : Site) (t : VolumeTable) (m : Known) (u twin : List ℕ) (read_only
         twin_there = last.twin;
         gone = last.own;
         others = λ n not_base not_leaf not_twin not_own. ⊎_elim
-            (λ is. ap (rows (table_forked t (fork_of t m.rows u twin) own_es twins)) is ∙ last.entry ∙ sym (ap (rows t) is ∙ before.no_entry))
-            (λ not_entry. last.others n not_own not_base not_leaf not_twin not_entry) (named_or_not n (entry_name (fork_of t m.rows u twin)));
-        entries = all_of_collector (names_of (table_forked t (fork_of t m.rows u twin) own_es twins).volumes) last.making ∙ last.folding ∙ sym (all_of_collector (names_of t.volumes) before.none_making);
-        few = few_images s t m u twin read_only o tidy passes sectors own_es twins taken proper (table_forked t (fork_of t m.rows u twin) own_es twins) last.images;
+            (λ is. ap (rows (table_forked t (fork_of passes.number m.rows u twin) own_es twins)) is ∙ last.entry ∙ sym (ap (rows t) is ∙ before.no_entry))
+            (λ not_entry. last.others n not_own not_base not_leaf not_twin not_entry) (named_or_not n (entry_name (fork_of passes.number m.rows u twin)));
+        entries = all_of_collector (names_of (table_forked t (fork_of passes.number m.rows u twin) own_es twins).volumes) last.making
+            ∙ last.folding ∙ sym (all_of_collector (names_of t.volumes) before.none_making);
+        few = few_images s t m u twin read_only o tidy passes sectors own_es twins taken proper (table_forked t (fork_of passes.number m.rows u twin) own_es twins) last.images;
       }

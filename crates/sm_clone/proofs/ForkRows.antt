@@ -26,7 +26,7 @@ use Rattle.vhd_volumes.specs.Truth.{HasRoomFor}
 use Rattle.vhd_chain.specs.declared.rows.TreeRow.{TreeRow}
 use Rattle.vhd_chain.specs.Trees.{is_before, has_name, row_name, tree_row, with_row, without}
 use Rattle.vhd_chain.proofs.ByName.{tree_row-with_other, tree_row-with_same, tree_row-without_other, tree_row-without_same}
-use Rattle.sm_machine.specs.Refusals.{refusal, wanted}
+use Rattle.sm_machine.specs.Refusals.{wanted}
 use Rattle.sm_machine.specs.Shapes.{image_uuid, renamed}
 use Rattle.sm_machine.specs.WellFormed.{IsSize, IsWellFormed, is_image_name}
 use Rattle.sm_machine.proofs.Create.{base_form}
@@ -37,7 +37,7 @@ use Rattle.sm_ready.proofs.CauseLaws.{vhd_uuid}
 use Rattle.sm_ready.proofs.Orders.{In-tree_row}
 use Rattle.sm_ready.proofs.OwnLaws.{IsOwn}
 use Rattle.sm_space.proofs.OwnLaws.{named_or_not}
-use Rattle.sm_clone.specs.Forking.{base_body, base_name, base_row, child_row, fork_of, forking, own_uid, twin_uid}
+use Rattle.sm_clone.specs.Forking.{Passes, base_body, base_name, base_row, child_row, fork_of, own_uid, twin_uid}
 use Rattle.sm_clone.specs.declared.forks.Fork.{Fork}
 use Rattle.sm_clone.proofs.PassedLaws.{found, new, own}
 use Rattle.sm_clone.proofs.ShapeLaws.{named_in, rows_are, rows_then, sized_in}
@@ -72,9 +72,9 @@ raw_moved : (u v : List ℕ) → is_image_name (renamed (name.Raw u) v) ≡ true
 unfolding is_image_name renamed
 raw_moved u v = refl
 
-module _ (s : Site) (t : VolumeTable) (m : Known) (u twin : List ℕ) (read_only : Bool) (o : IsOrderly s t m) (tidy : IsTidy t m) (passes : refusal (shape_in s t m) (forking u twin read_only) ≡ None) where
+module _ (s : Site) (t : VolumeTable) (m : Known) (u twin : List ℕ) (read_only : Bool) (o : IsOrderly s t m) (tidy : IsTidy t m) (passes : Passes s t m u twin read_only) where
   abbrev f : Fork
-  f = fork_of t m.rows u twin
+  f = fork_of passes.number m.rows u twin
 
   abbrev its : IsOwn m u
   its = own s t m u twin read_only o tidy passes
@@ -106,9 +106,9 @@ module _ (s : Site) (t : VolumeTable) (m : Known) (u twin : List ℕ) (read_only
   pub base_image : is_image_name (base_name f) ≡ true
   base_image = by (is_some (tree_row m.rows (name.Vhd u)))
     where
-      by : (b : Bool) → is_image_name (renamed (cond b (name.Vhd u) (name.Raw u)) (base_uuid t.sequence)) ≡ true
-      by true = vhd_moved u (base_uuid t.sequence)
-      by false = raw_moved u (base_uuid t.sequence)
+      by : (b : Bool) → is_image_name (renamed (cond b (name.Vhd u) (name.Raw u)) (base_uuid passes.number)) ≡ true
+      by true = vhd_moved u (base_uuid passes.number)
+      by false = raw_moved u (base_uuid passes.number)
 
   pub no_twin_row : tree_row m.rows (name.Vhd twin) ≡ None
   no_twin_row = none_of_some _ (or_parts (is_some (tree_row m.rows (name.Vhd twin))) (is_some (tree_row m.rows (name.Raw twin))) (new s t m u twin read_only o tidy passes).absent).0
@@ -157,7 +157,7 @@ module _ (s : Site) (t : VolumeTable) (m : Known) (u twin : List ℕ) (read_only
       (its.uuid ∙ sym (vhd_uuid u) ∙ ap image_uuid (sym is) ∙ base_uuid_is s t m u twin read_only o tidy passes)
 
   pub base_not_twin : base_name f ≢ name.Vhd twin
-  base_not_twin is = true≢false (sym (base_form t.sequence) ∙ ap is_base (sym (base_uuid_is s t m u twin read_only o tidy passes) ∙ ap image_uuid is ∙ vhd_uuid twin)
+  base_not_twin is = true≢false (sym (base_form passes.number) ∙ ap is_base (sym (base_uuid_is s t m u twin read_only o tidy passes) ∙ ap image_uuid is ∙ vhd_uuid twin)
       ∙ (new s t m u twin read_only o tidy passes).not_base)
 
   -- ---- the images by name

@@ -29,7 +29,6 @@ use Rattle.sm_standing.specs.Undone.{applied_all}
 use Rattle.sm_ready.specs.Done.{at_rest}
 use Rattle.sm_ready.specs.Frames.{HasTrueImages}
 use Rattle.sm_ready.specs.Known.{known, shape_in}
-use Rattle.sm_ready.specs.Refusing.{IsAllowed}
 use Rattle.sm_ready.specs.Runs.{Runs}
 use Rattle.sm_ready.specs.Sessions.{IsOrderlyStore, IsTidyStore}
 use Rattle.sm_ready.specs.declared.memory.Memory.{Memory}
@@ -42,7 +41,7 @@ use Rattle.sm_ready.proofs.RestLaws.{true_keeps}
 use Rattle.sm_ready.proofs.ShapeLaws.{mgt_image}
 use Rattle.sm_ready.proofs.TruthLaws.{row_found}
 use Rattle.sm_space.proofs.OwnLaws.{named_or_not}
-use Rattle.sm_clone.specs.Forking.{AreForFork, IsBesideFork, IsFilled, IsMade, base_body, base_name, child_head, entry_name, first_changes, fork_of, forking, last_changes, own_uid, table_begun, table_forked, twin_uid}
+use Rattle.sm_clone.specs.Forking.{AreForFork, IsBesideFork, IsFilled, IsMade, Passes, base_body, base_name, child_head, entry_name, first_changes, fork_of, last_changes, own_uid, table_begun, table_forked, twin_uid}
 use Rattle.sm_clone.specs.declared.forks.Fork.{Fork}
 use Rattle.sm_clone.proofs.ForkRows.{base_image, base_named, base_not_leaf, base_not_twin, by_row, no_base_then, no_leaf_row, no_twin_row}
 use Rattle.sm_clone.proofs.PassedLaws.{own, own_is}
@@ -67,9 +66,10 @@ entry_no_image : (d b w : List ℕ) → is_image_name (name.Clone d b w) ≡ fal
 unfolding is_image_name
 entry_no_image d b w = refl
 
-module _ {S : Type 0} {g : Ghosts S} {a b d e : S} (m : Memory) (u twin : List ℕ) (read_only : Bool) (o : IsOrderlyStore g a m) (tidy : IsTidyStore g a m) (passes : IsAllowed g (forking u twin read_only) a m)
+module _ {S : Type 0} {g : Ghosts S} {a b d e : S} (m : Memory) (u twin : List ℕ) (read_only : Bool) (o : IsOrderlyStore g a m) (tidy : IsTidyStore g a m)
+    (passes : Passes (g.site a) (tab g a) (known m) u twin read_only)
     (sectors : ℕ) (own_es twins : List ℕ) (taken : AreForFork (g.site a) (tab g a) (shape_in (g.site a) (tab g a) (known m)) u sectors own_es twins) (proper : IsUuid twin)
-    (now : ℕ) (image : Body) (k : ℕ) (entry : Record) (w : IsForked g a b d e (fork_of (tab g a) m.tree.rows u twin) own_es twins now image k entry) where
+    (now : ℕ) (image : Body) (k : ℕ) (entry : Record) (w : IsForked g a b d e (fork_of passes.number m.tree.rows u twin) own_es twins now image k entry) where
   abbrev s : Site
   s = g.site a
 
@@ -77,7 +77,7 @@ module _ {S : Type 0} {g : Ghosts S} {a b d e : S} (m : Memory) (u twin : List �
   t = tab g a
 
   abbrev f : Fork
-  f = fork_of t m.tree.rows u twin
+  f = fork_of passes.number m.tree.rows u twin
 
   abbrev extent : ℕ
   extent = s.geometry.extent

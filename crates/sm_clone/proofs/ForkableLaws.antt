@@ -21,7 +21,7 @@ use Rattle.vhd_image.specs.Bodies.{parent_name, sector_count}
 use Rattle.vhd_chain.specs.Trees.{row_name, tree_row}
 use Rattle.vhd_chain.specs.declared.rows.TreeRow.{TreeRow}
 use Rattle.sm_machine.specs.Commits.{folds, gives_up, is_given_up}
-use Rattle.sm_machine.specs.Refusals.{forked as forked_disk, is_deep, of_some, refusal}
+use Rattle.sm_machine.specs.Refusals.{forked as forked_disk, is_deep, of_some}
 use Rattle.sm_machine.specs.Shapes.{ImageRow, Shape, chain, chain_limit, disk_image, find_image, image_uuid, is_image_of, parent_of as parent_in_shape}
 use Rattle.sm_machine.specs.WellFormed.{IsChild, IsOperation, IsWellFormed, is_image_name}
 use Rattle.sm_machine.proofs.Passed.{passed}
@@ -52,7 +52,7 @@ use Rattle.sm_ready.proofs.OwnLaws.{IsOwn, own_image}
 use Rattle.sm_ready.proofs.RowLaws.{image_named}
 use Rattle.sm_ready.proofs.ShapeLaws.{no_old, plainly_stands, standing_shown, visible_row}
 use Rattle.sm_ready.proofs.ShownLaws.{no_twin}
-use Rattle.sm_clone.specs.Forking.{fork_of, forking}
+use Rattle.sm_clone.specs.Forking.{Passes, fork_of, forking}
 use Rattle.sm_clone.specs.declared.forks.Fork.{Fork}
 use Rattle.sm_clone.proofs.PassedLaws.{found, new, own, own_is}
 use Rattle.sm_clone.proofs.ShapeLaws.{same_test}
@@ -127,27 +127,26 @@ folds_entry (Coalesce v p) e = refl
 folds_entry (Relink v p) e = refl
 folds_entry (Leaf l p) e = refl
 
-module _ (s : Site) (t : VolumeTable) (m : Known) (u twin : List ℕ) (read_only : Bool) (o : IsOrderly s t m) (tidy : IsTidy t m) (passes : refusal (shape_in s t m)
-    (forking u twin read_only) ≡ None) where
+module _ (s : Site) (t : VolumeTable) (m : Known) (u twin : List ℕ) (read_only : Bool) (o : IsOrderly s t m) (tidy : IsTidy t m) (passes : Passes s t m u twin read_only) where
   abbrev σ : Shape
   σ = shape_in s t m
 
   abbrev f : Fork
-  f = fork_of t m.rows u twin
+  f = fork_of passes.number m.rows u twin
 
   abbrev us : List (List ℕ)
-  us = forked u (base_uuid t.sequence) twin
+  us = forked u (base_uuid passes.number) twin
 
   abbrev its : IsOwn m u
   its = own s t m u twin read_only o tidy passes
 
-  not_base : (r : TreeRow) → In r m.rows → base_uuid t.sequence ≢ image_uuid (row_name r)
+  not_base : (r : TreeRow) → In r m.rows → base_uuid passes.number ≢ image_uuid (row_name r)
   not_base r i is = no_base_row s t m u twin read_only o tidy passes r i (sym is)
 
   not_twin : IsWellFormed σ → (r : TreeRow) → In r m.rows → twin ≢ image_uuid (row_name r)
   not_twin w r i is = true≢false (sym (ap (λ x. bytes_eq x twin) (sym is) ∙ bytes_eq-refl twin) ∙ row_without s t m twin o w (new s t m u twin read_only o tidy passes).absent r i)
 
-  pub disk_base : u ≢ base_uuid t.sequence
+  pub disk_base : u ≢ base_uuid passes.number
   disk_base is = no_base_row s t m u twin read_only o tidy passes its.row its.there (its.uuid ∙ is)
 
   -- the disk's UUID is that of its own image alone
@@ -164,7 +163,7 @@ module _ (s : Site) (t : VolumeTable) (m : Known) (u twin : List ℕ) (read_only
   hidden_apart w i there hidden =
       let y = In-map machine_row m.rows i there in
       let named = ap (λ (z : ImageRow). image_uuid z.name) y.2 in
-      none_among u (base_uuid t.sequence) twin (image_uuid i.name)
+      none_among u (base_uuid passes.number) twin (image_uuid i.name)
       (λ is. true≢false (sym hidden ∙ ap (λ (z : ImageRow). z.hidden) y.2 ∙ its_alone w y.0 y.1 (is ∙ named)))
       (λ is. not_base y.0 y.1 (is ∙ named)) (λ is. not_twin w y.0 y.1 (is ∙ named))
 
@@ -174,7 +173,7 @@ module _ (s : Site) (t : VolumeTable) (m : Known) (u twin : List ℕ) (read_only
   other_apart w i there other =
       let y = In-map machine_row m.rows i there in
       let named = ap (λ (z : ImageRow). image_uuid z.name) y.2 in
-      none_among u (base_uuid t.sequence) twin (image_uuid i.name) other (λ is. not_base y.0 y.1 (is ∙ named)) (λ is. not_twin w y.0 y.1 (is ∙ named))
+      none_among u (base_uuid passes.number) twin (image_uuid i.name) other (λ is. not_base y.0 y.1 (is ∙ named)) (λ is. not_twin w y.0 y.1 (is ∙ named))
 
   -- ---- where it stands
 
@@ -216,8 +215,8 @@ module _ (s : Site) (t : VolumeTable) (m : Known) (u twin : List ℕ) (read_only
           right false b e = e
           right true b e = absurd (true≢false (sym e))
 
-  pub no_base : standing_volume t (base_uuid t.sequence) ≡ None
-  no_base = none_stands (base_uuid t.sequence) not_base
+  pub no_base : standing_volume t (base_uuid passes.number) ≡ None
+  no_base = none_stands (base_uuid passes.number) not_base
 
   pub no_twin_stands : standing_volume t twin ≡ None
   no_twin_stands = ∥∥₁_elim o.well_formed (hlevel props) (λ w. none_stands twin (not_twin w))
@@ -372,9 +371,10 @@ module _ (s : Site) (t : VolumeTable) (m : Known) (u twin : List ℕ) (read_only
     forked_is false = refl
 
     pub room : depth (outline a) chain_limit f.own < chain_limit
-    unfolding is_deep
+    unfolding is_deep shape_in
     room =
-        let deep = sym (ap (of_some (λ v. nat_le chain_limit (length_of (disk_image v σ)))) (forked_is read_only)) ∙ (passed σ (forking u twin read_only) passes).deep in
+        let deep = sym (ap (of_some (λ v. nat_le chain_limit (length_of (disk_image v σ)))) (forked_is read_only))
+        ∙ (passed (shape_in s (record t { sequence = passes.number }) m) (forking u twin read_only) passes.unrefused).deep in
         let short = leb-false chain_limit (length (chain chain_limit (row_name its.row) σ.images)) (sym (ap (λ (x : Option ImageRow). nat_le chain_limit (length_of x)) (own_image s t m u o its))
         ∙ deep) in
         omega (arith, short, depth_same chain_limit f.own, ap (λ n. length (chain chain_limit n σ.images)) (own_is s t m u twin read_only o tidy passes))

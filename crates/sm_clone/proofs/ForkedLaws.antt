@@ -1,6 +1,6 @@
 -- What holds of a store and of memory once a fork is made that may be made: table and memory are orderly and tidy, the images are
 -- those of the fork and true, and the shape is the machine's.
-use Rattle.std.proofs.Common.{◌≡◌, ℕ, ◌+◌, List, length, set, slice_set, unwrap_or, Option, Some, None, IsSome, refl, sym, ap, ap₂, ◌∙◌, subst, subst₂}
+use Rattle.std.proofs.Common.{◌≡◌, ℕ, ◌+◌, List, length, set, slice_set, unwrap_or, Option, Some, None, IsSome, refl, sym, ap, ap₂, ◌∙◌, subst, subst₂, arith}
 use Rattle.std.proofs.lemmas.Option.{same_Some}
 use Rattle.sm_base.specs.declared.operations.Op.{Op}
 use Rattle.vg_meta.specs.Tables.{VolumeTable}
@@ -11,7 +11,9 @@ use Rattle.vhd_chain.specs.Trees.{tree_row}
 use Rattle.vhd_chain.specs.declared.rows.TreeRow.{TreeRow}
 use Rattle.sm_record.specs.declared.records.Record.{Record}
 use Rattle.sm_mgt.specs.Places.{place_for}
-use Rattle.sm_ready.specs.Does.{ShapesAs}
+use Rattle.sm_machine.specs.Shapes.{Shape, risen}
+use Rattle.sm_standing.specs.Entries.{base_number}
+use Rattle.sm_ready.specs.Does.{store_shape}
 use Rattle.sm_ready.specs.Frames.{HasTrueImages}
 use Rattle.sm_ready.specs.Known.{Known, known, shape_in}
 use Rattle.sm_ready.specs.Orderly.{IsOrderly}
@@ -19,13 +21,14 @@ use Rattle.sm_ready.specs.Ready.{IsTidy}
 use Rattle.sm_ready.specs.Sessions.{IsOrderlyStore, IsTidyStore}
 use Rattle.sm_ready.specs.declared.memory.Memory.{Memory}
 use Rattle.sm_ready.proofs.ChainLaws.{tab}
-use Rattle.sm_clone.specs.Forking.{AreForFork, CanFork, IsUsedAs, base_body, fork_of, forked_rows, forking, sectors_of, table_forked}
+use Rattle.sm_ready.proofs.NumberLaws.{number_of_base}
+use Rattle.sm_clone.specs.Forking.{AreForFork, CanFork, IsUsedAs, base_body, fork_of, forked_rows, forking, sectors_of, shape_forked, table_forked}
 use Rattle.sm_clone.specs.declared.forks.Fork.{Fork}
 use Rattle.sm_clone.specs.declared.preparing.Parts.{Parts}
 use Rattle.sm_clone.proofs.ForkOrderly.{IsForkedTable, forked_table, orderly_then, tidy_then}
 use Rattle.sm_clone.proofs.ForkTrue.{IsForked, site_end, table_end, true_then}
 use Rattle.sm_clone.proofs.MakingLaws.{twin_uuid}
-use Rattle.sm_clone.proofs.PassedLaws.{found}
+use Rattle.sm_clone.proofs.PassedLaws.{forked_after, found, new}
 use Rattle.sm_clone.proofs.ShapeLaws.{known_then, shape_then}
 use Rattle.sm_clone.proofs.TableLaws.{stage_8}
 
@@ -49,7 +52,7 @@ module _ {S : Type 0} {g : Ghosts S} {a : S} {m : Memory} {f : Fork} {p : Parts}
 
   -- the fork by the table's number
   abbrev by_number : Fork
-  by_number = fork_of t m.tree.rows f.disk f.twin
+  by_number = fork_of can.allowed.number m.tree.rows f.disk f.twin
 
   abbrev own : List ℕ
   own = p.own.items
@@ -106,11 +109,21 @@ module _ {S : Type 0} {g : Ghosts S} {a : S} {m : Memory} {f : Fork} {p : Parts}
     tidy_end = subst₂ IsTidy (sym table_is) (sym known_is)
         (tidy_then s t (known m) f.disk f.twin entry.read_only can.orderly can.tidy can.allowed can.kept_up now k can.origin placed can.recorded own twins taken.own_many taken.twin_many n.attached there.uses after volumes number)
 
-    pub shape_end : ShapesAs g (forking f.disk f.twin entry.read_only) a m e n
+    -- the number that names the base
+    number_is : base_number f.base ≡ can.allowed.number
+    number_is =
+        let few = (new s t (known m) f.disk f.twin entry.read_only can.orderly can.tidy can.allowed).unspent in
+        ap (λ (x : Fork). base_number x.base) can.fork ∙ number_of_base can.allowed.number (omega (arith, few))
+
+    pub shape_end : store_shape g e n ≡ shape_forked (store_shape g a m) (base_number f.base) (forking f.disk f.twin entry.read_only)
+    unfolding shape_in
     shape_end =
         ap₂ (λ (x : Site) (y : VolumeTable). shape_in x y (known n)) site table_is ∙ ap (shape_in s after) known_is
         ∙ shape_then s t (known m) f.disk f.twin entry.read_only can.orderly can.tidy can.allowed now (length own) (length twins) k can.origin placed can.recorded taken.own_many taken.twin_many n.attached there.uses.disks
-        after number can.kept_up
+        after number
+        ∙ ap (λ (x : Shape). let y : Shape = record x { sequence = risen t.sequence 8 } in y)
+        (sym (forked_after (record (store_shape g a m) { sequence = can.allowed.number }) f.disk f.twin entry.read_only))
+        ∙ ap (λ j. shape_forked (store_shape g a m) j (forking f.disk f.twin entry.read_only)) (sym number_is)
 
   -- over the calls
   module _ {b d e : S} (now : ℕ) (image : Body) (calls : IsForked g a b d e f own twins now image k entry) where

@@ -17,3 +17,4 @@ pub mod EndedLaws
 pub mod DoneLaws
 pub mod ForkedLaws
 pub mod ForkLaws
+pub mod GivenLaws

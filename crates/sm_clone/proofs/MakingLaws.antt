@@ -97,7 +97,7 @@ module _ {S : Type 0} {g : Ghosts S} {a : S} {m : Memory} {f : Fork} {p : Parts}
 
   -- the fork as the table and memory give it
   abbrev pub fork_now : Fork
-  fork_now = fork_of t m.tree.rows f.disk f.twin
+  fork_now = fork_of can.allowed.number m.tree.rows f.disk f.twin
 
   pub twin_uuid : IsUuid f.twin
   twin_uuid = subst IsUuid (ap (λ (r : Record). r.uuid) can.entry_is) can.proper.uuid.uuid
@@ -105,7 +105,7 @@ module _ {S : Type 0} {g : Ghosts S} {a : S} {m : Memory} {f : Fork} {p : Parts}
   abbrev sectors : ℕ
   sectors = sectors_of (tree_row m.tree.rows f.own)
 
-  pub to_fork : IsToFork s.count t fork_now.own (base_name fork_now) (name.Vhd f.disk) (name.Vhd f.twin) (name.Clone f.disk (base_uuid t.sequence) f.twin) own twins
+  pub to_fork : IsToFork s.count t fork_now.own (base_name fork_now) (name.Vhd f.disk) (name.Vhd f.twin) (name.Clone f.disk (base_uuid can.allowed.number) f.twin) own twins
   to_fork = tables.to_fork s t (known m) f.disk f.twin entry.read_only can.orderly can.tidy can.allowed sectors own twins can.extents twin_uuid
 
   pub can_begin : CanRun g (first_changes f own twins) a

@@ -21,7 +21,6 @@ use Rattle.vhd_volumes.specs.declared.heads.Head.{Head}
 use Rattle.vhd_chain.specs.Trees.{row_name, tree_row}
 use Rattle.sm_machine.specs.Commits.{is_given_up}
 use Rattle.sm_machine.specs.Disks.{Disk}
-use Rattle.sm_machine.specs.Refusals.{refusal}
 use Rattle.sm_machine.specs.Runs.{HasSector, face}
 use Rattle.sm_machine.specs.Shapes.{image_limit, renamed}
 use Rattle.sm_record.specs.Records.{reading}
@@ -59,16 +58,16 @@ use Rattle.sm_ready.proofs.MiddleLaws.{nat_or_not}
 use Rattle.sm_ready.proofs.Orders.{geometry_of, named_row, whole}
 use Rattle.sm_ready.proofs.RowLaws.{HasVolume, found_in, image_named, volume_there}
 use Rattle.sm_ready.proofs.Steadies.{steady_parent, steady_size, steady_valid}
-use Rattle.sm_clone.specs.Forking.{fork_of, forking, twin_record}
+use Rattle.sm_clone.specs.Forking.{Passes, fork_of, forking, twin_record}
 use Rattle.sm_clone.specs.declared.forks.Fork.{Fork}
 use Rattle.sm_clone.proofs.ForkableLaws.{IsStood, childless, moment_forkable, own_named, own_stood}
 use Rattle.sm_clone.proofs.PassedLaws.{found, own, own_is}
 use Rattle.sm_clone.proofs.ShapeLaws.{free}
 
-module _ (s : Site) (t : VolumeTable) (m : Known) (u twin : List ℕ) (read_only : Bool) (o : IsOrderly s t m) (tidy : IsTidy t m) (passes : refusal (shape_in s t m) (forking u twin read_only) ≡ None)
+module _ (s : Site) (t : VolumeTable) (m : Known) (u twin : List ℕ) (read_only : Bool) (o : IsOrderly s t m) (tidy : IsTidy t m) (passes : Passes s t m u twin read_only)
     (old : Held) (ready : IsReady s t old m) (k : ℕ) (origin : Record) (placed : place_for m.places twin ≡ Some k) where
   abbrev f : Fork
-  f = fork_of t m.rows u twin
+  f = fork_of passes.number m.rows u twin
 
   abbrev us : List (List ℕ)
   us = forked f.disk f.base f.twin

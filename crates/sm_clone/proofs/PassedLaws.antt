@@ -25,7 +25,7 @@ use Rattle.sm_ready.proofs.NeedLaws.{need_few}
 use Rattle.sm_ready.proofs.OwnLaws.{IsOwn, own_image, own_name as name_of, own_row}
 use Rattle.sm_ready.proofs.RefusalLaws.{IsNewUuid, new_passed}
 use Rattle.sm_ready.proofs.RowLaws.{tree_found}
-use Rattle.sm_clone.specs.Forking.{AreForFork, forking, own_name, sectors_of}
+use Rattle.sm_clone.specs.Forking.{AreForFork, Passes, forking, own_name, sectors_of}
 
 -- ---- the command, whether it is a snapshot or a clone
 
@@ -69,9 +69,21 @@ thin_is s t m g is = ap (λ (x : Geometry). thin x.extent x.block x.entries 0) i
 
 -- ---- where no cause refuses it
 
-module _ (s : Site) (t : VolumeTable) (m : Known) (u twin : List ℕ) (read_only : Bool) (o : IsOrderly s t m) (tidy : IsTidy t m) (passes : refusal (shape_in s t m) (forking u twin read_only) ≡ None) where
+-- where nothing was given up, the number is the table's
+pub passes_now : {s : Site} {t : VolumeTable} {m : Known} {u twin : List ℕ} {read_only : Bool}
+    → IsOrderly s t m → refusal (shape_in s t m) (forking u twin read_only) ≡ None → Passes s t m u twin read_only
+passes_now {t = t} o none = record { number = t.sequence; below = omega arith; above = omega arith; orderly = o; unrefused = none }
+
+module _ (s : Site) (t : VolumeTable) (m : Known) (u twin : List ℕ) (read_only : Bool) (o : IsOrderly s t m) (tidy : IsTidy t m) (passes : Passes s t m u twin read_only) where
+  -- the table by the number that names the base
+  abbrev pub numbered : VolumeTable
+  numbered = record t { sequence = passes.number }
+
+  tidy_numbered : IsTidy numbered m
+  tidy_numbered = record { none_new = tidy.none_new; no_stray = tidy.no_stray }
+
   pub own : IsOwn m u
-  own = own_row s t m (forking u twin read_only) u o passes (named_is u twin read_only)
+  own = own_row s numbered m (forking u twin read_only) u passes.orderly passes.unrefused (named_is u twin read_only)
 
   pub own_is : own_name m.rows u ≡ row_name own.row
   own_is = name_of s t m u (own_name m.rows u) o own refl
@@ -80,14 +92,18 @@ module _ (s : Site) (t : VolumeTable) (m : Known) (u twin : List ℕ) (read_only
   unfolding shape_in
   found = ∥∥₁_elim o.well_formed (hlevel props) (λ w. ap (tree_row m.rows) own_is ∙ tree_found m.rows own.row w.one_image own.there)
 
-  pub new : IsNewUuid s t m (forking u twin read_only) twin
-  new = new_passed s t m (forking u twin read_only) twin o tidy (new_is u twin read_only) passes
+  pub new : IsNewUuid s numbered m (forking u twin read_only) twin
+  new = new_passed s numbered m (forking u twin read_only) twin passes.orderly tidy_numbered (new_is u twin read_only) passes.unrefused
+
+  -- the commits do not spend the numbers
+  pub unspent : t.sequence ≤ 2 ^ 48 - 16
+  unspent = let few = new.unspent in let most = passes.above in omega (arith, few, most)
 
   -- the disk has a record
   pub recorded : record_in m.places u ≡ None → ⊥
   unfolding is_unknown
-  recorded none = true≢false (sym (ap is_none (record_is s t m u None o tidy none))
-      ∙ sym (ap (of_some (λ v. is_none (disk_record v (shape_in s t m)))) (named_is u twin read_only)) ∙ (passed (shape_in s t m) (forking u twin read_only) passes).unknown)
+  recorded none = true≢false (sym (ap is_none (record_is s numbered m u None passes.orderly tidy_numbered none))
+      ∙ sym (ap (of_some (λ v. is_none (disk_record v (shape_in s numbered m)))) (named_is u twin read_only)) ∙ (passed (shape_in s numbered m) (forking u twin read_only) passes.unrefused).unknown)
 
   -- it takes what the disk's image wants, and what an image has without slots
   pub need_is : need (shape_in s t m) (Snapshot u twin)
@@ -101,7 +117,8 @@ module _ (s : Site) (t : VolumeTable) (m : Known) (u twin : List ℕ) (read_only
   few = need_few s t m (Snapshot u twin) o (good_size (shape_in s t m) u twin)
 
   pub enough : need (shape_in s t m) (Snapshot u twin) ≤ length (free_of s.count t)
-  enough = subst (λ k. k ≤ length (free_of s.count t)) (need_any (shape_in s t m) u twin read_only ∙ sym (need_any (shape_in s t m) u twin true)) new.enough
+  unfolding shape_in free_of
+  enough = subst (λ k. k ≤ length (free_of s.count t)) (need_any (shape_in s numbered m) u twin read_only ∙ sym (need_any (shape_in s t m) u twin true)) new.enough
 
   -- the extents that were found are those of the two images
   pub for_fork : (all more count : ℕ) (k : VolumeTable) (own_es twin_es : List ℕ) → count ≡ s.count → k ≡ t → all ≡ need (shape_in s t m) (Snapshot u twin) → more ≡ thin_in (shape_in s t m) 0

@@ -24,7 +24,7 @@ use Rattle.vhd_image.specs.declared.images.Body.TheVariants.{Raw, Vhd}
 use Rattle.vhd_chain.specs.declared.rows.TreeRow.{TreeRow}
 use Rattle.vhd_chain.specs.Trees.{has_name, row_name, tree_row, with_row, without}
 use Rattle.sm_machine.specs.Commits.{commits, is_given_up, one_if}
-use Rattle.sm_machine.specs.Refusals.{refusal, wanted}
+use Rattle.sm_machine.specs.Refusals.{wanted}
 use Rattle.sm_machine.specs.Shapes.{Attachment, DiskRecord, ImageRow, Shape, attached_as, disk_image, disk_record, image_uuid, is_image_of, is_rw, renamed, risen, same_image, thin_in, with_image, without_image}
 use Rattle.sm_machine.specs.Steps.{child_image, fork_images, fork_records, fork_shape, forked_images, given_up, shape_after, shape_next}
 use Rattle.sm_machine.specs.WellFormed.{is_image_name}
@@ -42,9 +42,9 @@ use Rattle.sm_ready.proofs.LookLaws.{record_is}
 use Rattle.sm_ready.proofs.Orders.{named_row}
 use Rattle.sm_ready.proofs.OwnLaws.{IsOwn, own_image}
 use Rattle.sm_ready.proofs.ShapeLaws.{any_at, any_filter, at_place}
-use Rattle.sm_clone.specs.Forking.{base_body, base_name, base_row, child_row, fork_of, forked_rows, forking, own_uid, sectors_of, twin_record, twin_uid}
+use Rattle.sm_clone.specs.Forking.{Passes, base_body, base_name, base_row, child_row, fork_of, forked_rows, forking, own_uid, sectors_of, twin_record, twin_uid}
 use Rattle.sm_clone.specs.declared.forks.Fork.{Fork}
-use Rattle.sm_clone.proofs.PassedLaws.{eight, forked_after, found, new, own, own_is}
+use Rattle.sm_clone.proofs.PassedLaws.{eight, forked_after, found, new, own, own_is, unspent}
 
 -- ---- an image in a volume of another name
 
@@ -100,12 +100,16 @@ in_set (p ∷ ps) (suc k) y x (inr i) = ⊎_elim (λ e. inl e) (λ j. inr (inr j
 
 -- ---- once it is made
 
-module _ (s : Site) (t : VolumeTable) (m : Known) (u twin : List ℕ) (read_only : Bool) (o : IsOrderly s t m) (tidy : IsTidy t m) (passes : refusal (shape_in s t m) (forking u twin read_only) ≡ None) where
+module _ (s : Site) (t : VolumeTable) (m : Known) (u twin : List ℕ) (read_only : Bool) (o : IsOrderly s t m) (tidy : IsTidy t m) (passes : Passes s t m u twin read_only) where
   abbrev σ : Shape
   σ = shape_in s t m
 
+  -- the shape by the number that names the base
+  abbrev pub by_number : Shape
+  by_number = record σ { sequence = passes.number }
+
   abbrev f : Fork
-  f = fork_of t m.rows u twin
+  f = fork_of passes.number m.rows u twin
 
   abbrev its : IsOwn m u
   its = own s t m u twin read_only o tidy passes
@@ -125,10 +129,10 @@ module _ (s : Site) (t : VolumeTable) (m : Known) (u twin : List ℕ) (read_only
   is_image_row : (r : TreeRow) → In r m.rows → is_image_name (row_name r) ≡ true
   is_image_row r i = named_row s t m r o i
 
-  pub base_is : base_name f ≡ renamed (row_name row) (base_uuid t.sequence)
-  base_is = ap (λ n. renamed n (base_uuid t.sequence)) (own_is s t m u twin read_only o tidy passes)
+  pub base_is : base_name f ≡ renamed (row_name row) (base_uuid passes.number)
+  base_is = ap (λ n. renamed n (base_uuid passes.number)) (own_is s t m u twin read_only o tidy passes)
 
-  images_three : (now a b : ℕ) → a ≡ wanted σ (is_rw (attached_as u σ)) (sector_count row.image) → b ≡ thin_in σ 0 → map machine_row (three now a b) ≡ forked_images σ u twin (machine_row row)
+  images_three : (now a b : ℕ) → a ≡ wanted σ (is_rw (attached_as u σ)) (sector_count row.image) → b ≡ thin_in σ 0 → map machine_row (three now a b) ≡ forked_images by_number u twin (machine_row row)
   unfolding shape_in
   images_three now a b many more =
       images_with (child_row s.geometry twin now (twin_uid t) (base_body f row.image) b) (with_row (child_row s.geometry u now (own_uid t) (base_body f row.image) a) (with_row (base_row f row) (without f.own m.rows)))
@@ -227,11 +231,11 @@ module _ (s : Site) (t : VolumeTable) (m : Known) (u twin : List ℕ) (read_only
     abbrev pub known_then : Known
     known_then = record { rows = rows_then now a b; places = set m.places k (Some entry); attached = used; op = m.op }
 
-    images_then : map machine_row (rows_then now a b) ≡ fork_images σ u twin (disk_image u σ)
+    images_then : map machine_row (rows_then now a b) ≡ fork_images by_number u twin (disk_image u σ)
     images_then =
         ap (map machine_row) (rows_are now a b)
         ∙ images_three now a b (many ∙ ap (λ x. wanted σ (is_rw (attached_as u σ)) (sectors_of x)) (found s t m u twin read_only o tidy passes)) more
-        ∙ ap (fork_images σ u twin) (sym (own_image s t m u o its))
+        ∙ ap (fork_images by_number u twin) (sym (own_image s t m u o its))
 
     records_then : records_in (shown_places (rows_then now a b) (set m.places k (Some entry))) ≡ fork_records u twin read_only (disk_record u σ) σ.records
     unfolding shape_in
@@ -243,27 +247,30 @@ module _ (s : Site) (t : VolumeTable) (m : Known) (u twin : List ℕ) (read_only
     abbrev made_shape : ℕ → List ImageRow → List DiskRecord → List (List ℕ × Mode) → Shape
     made_shape n is rs ds = record σ { sequence = n; images = is; records = rs; attached = map (λ (d : List ℕ × Mode). let y : Attachment = record { disk = d.0; mode = d.1 } in y) ds }
 
-    machine_then : made_shape (risen t.sequence 8) (fork_images σ u twin (disk_image u σ)) (fork_records u twin read_only (disk_record u σ) σ.records) m.attached.disks ≡ record (fork_shape σ u twin read_only) { sequence = risen t.sequence 8 }
+    machine_then : made_shape (risen t.sequence 8) (fork_images by_number u twin (disk_image u σ)) (fork_records u twin read_only (disk_record u σ) σ.records) m.attached.disks
+        ≡ record (fork_shape by_number u twin read_only) { sequence = risen t.sequence 8 }
     unfolding shape_in
     machine_then = refl
 
-    pub next_then : is_given_up σ (forking u twin read_only) ≡ false → shape_next σ (forking u twin read_only) ≡ record (fork_shape σ u twin read_only) { sequence = risen t.sequence 8 }
-    unfolding shape_in shape_next commits
+    -- the machine's, by the number
+    pub next_then : is_given_up σ (forking u twin read_only) ≡ false
+        → shape_next by_number (forking u twin read_only) ≡ record (fork_shape by_number u twin read_only) { sequence = risen passes.number 8 }
+    unfolding shape_in shape_next commits is_given_up
     next_then keeps =
-        ap₂ (λ (g : Bool) (n : ℕ). let x : Shape = record (given_up g (shape_after σ (forking u twin read_only))) { sequence = risen t.sequence (one_if g + n) } in x) keeps (eight σ u twin read_only)
-        ∙ ap (λ (y : Shape). let x : Shape = record y { sequence = risen t.sequence 8 } in x) (forked_after σ u twin read_only)
+        ap₂ (λ (g : Bool) (n : ℕ). let x : Shape = record (given_up g (shape_after by_number (forking u twin read_only))) { sequence = risen passes.number (one_if g + n) } in x) keeps
+        (eight by_number u twin read_only)
+        ∙ ap (λ (y : Shape). let x : Shape = record y { sequence = risen passes.number 8 } in x) (forked_after by_number u twin read_only)
 
-    -- it is the machine's
-    pub shape_then : (v : VolumeTable) → v.sequence ≡ t.sequence + 8 → is_given_up σ (forking u twin read_only) ≡ false → shape_in s v known_then ≡ shape_next σ (forking u twin read_only)
+    -- it is the machine's but for the number
+    pub shape_then : (v : VolumeTable) → v.sequence ≡ t.sequence + 8 → shape_in s v known_then ≡ record (fork_shape by_number u twin read_only) { sequence = risen t.sequence 8 }
     unfolding shape_in
-    shape_then v number keeps =
+    shape_then v number =
         ap₂ (λ is rs. made_shape v.sequence is rs used.disks) images_then records_then
-        ∙ ap₂ (λ n ds. made_shape n (fork_images σ u twin (disk_image u σ)) (fork_records u twin read_only (disk_record u σ) σ.records) ds) (number ∙ rises) same
+        ∙ ap₂ (λ n ds. made_shape n (fork_images by_number u twin (disk_image u σ)) (fork_records u twin read_only (disk_record u σ) σ.records) ds) (number ∙ rises) same
         ∙ machine_then
-        ∙ sym (next_then keeps)
       where
         rises : t.sequence + 8 ≡ risen t.sequence 8
-        rises = let few = (new s t m u twin read_only o tidy passes).unspent in omega (arith, few)
+        rises = let few = unspent s t m u twin read_only o tidy passes in omega (arith, few)
 
     -- and no record is a stray
     pub no_stray_then : HasNoStray known_then

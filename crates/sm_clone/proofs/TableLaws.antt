@@ -24,7 +24,7 @@ use Rattle.vg_meta.proofs.RowLaws.{All-row_of, row_of-name}
 use Rattle.vg_volumes.specs.Sites.{Site, text_limit}
 use Rattle.vhd_chain.specs.Trees.{row_name, tree_row}
 use Rattle.vhd_chain.specs.declared.rows.TreeRow.{TreeRow}
-use Rattle.sm_machine.specs.Refusals.{refusal, wanted}
+use Rattle.sm_machine.specs.Refusals.{wanted}
 use Rattle.sm_machine.specs.Shapes.{attached_as, image_limit, image_uuid, is_rw, renamed, thin_in}
 use Rattle.sm_machine.specs.WellFormed.{is_image_name}
 use Rattle.sm_machine.proofs.Numbers.{thin-positive}
@@ -44,11 +44,11 @@ use Rattle.sm_ready.proofs.Orders.{In-tree_row, IsRowed, named_row, none_making,
 use Rattle.sm_ready.proofs.OwnLaws.{IsOwn}
 use Rattle.sm_ready.proofs.RowLaws.{HasVolume, image_named, volume_there}
 use Rattle.sm_ready.proofs.SumLaws.{images_counted}
-use Rattle.sm_space.proofs.TableLaws.{counted}
-use Rattle.sm_clone.specs.Forking.{AreForFork, base_name, entry_name, first_changes, fork_of, forking, last_changes, table_begun, table_forked}
+use Rattle.gc_abandon.proofs.EntryLaws.{counted}
+use Rattle.sm_clone.specs.Forking.{AreForFork, Passes, base_name, entry_name, first_changes, fork_of, last_changes, table_begun, table_forked}
 use Rattle.sm_clone.specs.declared.forks.Fork.{Fork}
 use Rattle.sm_clone.proofs.ForkRows.{vhd_named}
-use Rattle.sm_clone.proofs.PassedLaws.{found, makes_two, new, own as own_of, own_is}
+use Rattle.sm_clone.proofs.PassedLaws.{found, makes_two, new, own as own_of, own_is, unspent}
 use Rattle.sm_clone.proofs.StageLaws as staged
 use Rattle.sm_clone.proofs.StageLaws.{IsStage, IsToFork}
 use Rattle.sm_clone.proofs.UseLaws.{base_uuid_is, no_base_row, no_leaf}
@@ -102,10 +102,10 @@ few_entries (op.Leaf l p cursor) = omega arith
 
 -- ---- the fork
 
-module _ (s : Site) (t : VolumeTable) (m : Known) (u twin : List ℕ) (read_only : Bool) (o : IsOrderly s t m) (tidy : IsTidy t m) (passes : refusal (shape_in s t m) (forking u twin read_only) ≡ None)
+module _ (s : Site) (t : VolumeTable) (m : Known) (u twin : List ℕ) (read_only : Bool) (o : IsOrderly s t m) (tidy : IsTidy t m) (passes : Passes s t m u twin read_only)
     (sectors : ℕ) (own twins : List ℕ) (taken : AreForFork s t (shape_in s t m) u sectors own twins) (proper : IsUuid twin) where
   abbrev pub f : Fork
-  f = fork_of t m.rows u twin
+  f = fork_of passes.number m.rows u twin
 
   abbrev its : IsOwn m u
   its = own_of s t m u twin read_only o tidy passes
@@ -196,7 +196,7 @@ module _ (s : Site) (t : VolumeTable) (m : Known) (u twin : List ℕ) (read_only
   unfolding IsName
   to_fork = record {
     table = o.table;
-    unspent = let few = (new s t m u twin read_only o tidy passes).unspent in omega (arith, few);
+    unspent = let few = unspent s t m u twin read_only o tidy passes in omega (arith, few);
     row = own_row;
     there = own_there;
     shown = own_shown;
@@ -213,12 +213,13 @@ module _ (s : Site) (t : VolumeTable) (m : Known) (u twin : List ℕ) (read_only
     entry_is = refl;
     entry_making = refl;
     entry_folding = refl;
-    base_proper = base_named f.own f.base own_image (base_proper t.sequence);
+    base_proper = base_named f.own f.base own_image (base_proper passes.number);
     leaf_proper = disk_uuid;
     twin_proper = proper;
-    entry_proper = (disk_uuid, base_proper t.sequence, proper);
+    entry_proper = (disk_uuid, base_proper passes.number, proper);
     base_leaf = λ is. no_base_row s t m u twin read_only o tidy passes its.row its.there (its.uuid ∙ sym (vhd_uuid u) ∙ ap image_uuid (sym is) ∙ base_uuid_is s t m u twin read_only o tidy passes);
-    base_twin = λ is. true≢false (sym (is_base_of t.sequence) ∙ ap is_base (sym (base_uuid_is s t m u twin read_only o tidy passes) ∙ ap image_uuid is ∙ vhd_uuid twin) ∙ (new s t m u twin read_only o tidy passes).not_base);
+    base_twin = λ is. true≢false (sym (is_base_of passes.number) ∙ ap is_base (sym (base_uuid_is s t m u twin read_only o tidy passes) ∙ ap image_uuid is ∙ vhd_uuid twin)
+        ∙ (new s t m u twin read_only o tidy passes).not_base);
     leaf_twin = λ is. disk_twin (sym (vhd_uuid u) ∙ ap image_uuid is ∙ vhd_uuid twin);
     extents_free = taken.extents_free;
     some_own = omega (arith, taken.own_many, some_wanted (is_rw (attached_as u (shape_in s t m))));

@@ -19,7 +19,6 @@ use Rattle.vg_meta.specs.declared.changes.Change.TheVariants.{Create}
 use Rattle.vg_meta.proofs.ByName.{changes_by_name}
 use Rattle.vg_volumes.specs.Sites.{Site}
 use Rattle.sm_machine.specs.Commits.{is_given_up}
-use Rattle.sm_machine.specs.Refusals.{refusal}
 use Rattle.sm_machine.specs.Shapes.{image_limit, renamed}
 use Rattle.sm_record.specs.declared.records.Record.{Record}
 use Rattle.sm_mgt.specs.Places.{place_for}
@@ -39,7 +38,7 @@ use Rattle.sm_ready.proofs.OwnLaws.{IsOwn}
 use Rattle.sm_ready.proofs.RemoveLaws.{name_or_not}
 use Rattle.sm_ready.proofs.RowLaws.{found_in}
 use Rattle.sm_ready.proofs.ShapeLaws.{no_old}
-use Rattle.sm_clone.specs.Forking.{AreForFork, base_name, entry_name, fork_of, forking}
+use Rattle.sm_clone.specs.Forking.{AreForFork, Passes, base_name, entry_name, fork_of, forking}
 use Rattle.sm_clone.specs.declared.forks.Fork.{Fork}
 use Rattle.sm_clone.proofs.ForkableLaws.{beside, disk_base, disk_speaks, entry_speaks, own_named, raw_speaks, speaks_own, stood_plainly, twin_speaks, vhd_speaks}
 use Rattle.sm_clone.proofs.MomentLaws.{IsApartTable, IsMomentTable}
@@ -57,11 +56,11 @@ there_of w x y z =
     cond (is_some x) (Vhd w ∷ cond (is_some y) (Raw w ∷ cond (is_some z) (Old w ∷ []) []) (cond (is_some z) (Old w ∷ []) []))
     (cond (is_some y) (Raw w ∷ cond (is_some z) (Old w ∷ []) []) (cond (is_some z) (Old w ∷ []) []))
 
-module _ (s : Site) (t : VolumeTable) (m : Known) (u twin : List ℕ) (read_only : Bool) (o : IsOrderly s t m) (tidy : IsTidy t m) (passes : refusal (shape_in s t m) (forking u twin read_only) ≡ None)
+module _ (s : Site) (t : VolumeTable) (m : Known) (u twin : List ℕ) (read_only : Bool) (o : IsOrderly s t m) (tidy : IsTidy t m) (passes : Passes s t m u twin read_only)
     (keeps : is_given_up (shape_in s t m) (forking u twin read_only) ≡ false) (sectors : ℕ) (own twins : List ℕ) (taken : AreForFork s t (shape_in s t m) u sectors own twins) (proper : IsUuid twin)
     (old : Held) (ready : IsReady s t old m) (k : ℕ) (origin : Record) (placed : place_for m.places twin ≡ Some k) where
   abbrev f : Fork
-  f = fork_of t m.rows u twin
+  f = fork_of passes.number m.rows u twin
 
   abbrev us : List (List ℕ)
   us = forked f.disk f.base f.twin
@@ -129,7 +128,7 @@ module _ (s : Site) (t : VolumeTable) (m : Known) (u twin : List ℕ) (read_only
   disk_twin = tables.disk_twin s t m u twin read_only o tidy passes sectors own twins taken proper
 
   base_twin : f.base ≢ twin
-  base_twin is = true≢false (sym (is_base_of t.sequence) ∙ ap is_base is ∙ (new s t m u twin read_only o tidy passes).not_base)
+  base_twin is = true≢false (sym (is_base_of passes.number) ∙ ap is_base is ∙ (new s t m u twin read_only o tidy passes).not_base)
 
   kinds : ((f.own ≡ Vhd u) × (base_name f ≡ Vhd f.base)) ⊎ ((f.own ≡ Raw u) × (base_name f ≡ Raw f.base))
   unfolding renamed
@@ -181,8 +180,9 @@ module _ (s : Site) (t : VolumeTable) (m : Known) (u twin : List ℕ) (read_only
   past_base : (j : ℕ) → t.sequence < j → is_past j f.base ≡ true
   past_base j later =
       let few = (new s t m u twin read_only o tidy passes).unspent in
+      let less = passes.below in
       or_right (not (is_base f.base)) (nat_lt (base_number f.base) j)
-      (ap (λ i. nat_lt i j) (number_of_base t.sequence (omega (arith, few))) ∙ lt-ltb t.sequence j later)
+      (ap (λ i. nat_lt i j) (number_of_base passes.number (omega (arith, few))) ∙ lt-ltb passes.number j (omega (arith, less, later)))
 
   past_twin : (j : ℕ) → is_past j twin ≡ true
   past_twin j = ap (λ b. not b || nat_lt (base_number twin) j) (new s t m u twin read_only o tidy passes).not_base

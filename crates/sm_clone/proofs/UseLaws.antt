@@ -14,7 +14,6 @@ use Rattle.vg_meta.specs.Tables.{VolumeTable}
 use Rattle.vg_volumes.specs.Sites.{Site}
 use Rattle.vhd_chain.specs.declared.rows.TreeRow.{TreeRow}
 use Rattle.vhd_chain.specs.Trees.{row_name, tree_row}
-use Rattle.sm_machine.specs.Refusals.{refusal}
 use Rattle.sm_machine.specs.Shapes.{Attachment, ImageRow, chain, chain_limit, disk_image, image_limit, image_uuid, is_image_of, reads_through, refs, renamed, same_image}
 use Rattle.sm_machine.specs.WellFormed.{IsWellFormed, is_image_name}
 use Rattle.sm_machine.proofs.Chains.{parents_there}
@@ -30,7 +29,7 @@ use Rattle.sm_ready.proofs.RowLaws.{tree_found}
 use Rattle.sm_ready.proofs.OnceLaws.{any_In}
 use Rattle.sm_attaching.proofs.ChainLaws.{rest_there}
 use Rattle.sm_attaching.proofs.UseLaws.{In_has, has_In}
-use Rattle.sm_clone.specs.Forking.{HasUseRoom, base_name, fork_of, forking}
+use Rattle.sm_clone.specs.Forking.{HasUseRoom, Passes, base_name, fork_of}
 use Rattle.sm_clone.specs.declared.forks.Fork.{Fork}
 use Rattle.sm_clone.proofs.PassedLaws.{makes_two, new, own, own_is}
 
@@ -75,22 +74,23 @@ based (name.Vhd u) v e = refl
 based (name.Raw u) v e = refl
 based _ v e = cc
 
-module _ (s : Site) (t : VolumeTable) (m : Known) (u twin : List ℕ) (read_only : Bool) (o : IsOrderly s t m) (tidy : IsTidy t m) (passes : refusal (shape_in s t m) (forking u twin read_only) ≡ None) where
+module _ (s : Site) (t : VolumeTable) (m : Known) (u twin : List ℕ) (read_only : Bool) (o : IsOrderly s t m) (tidy : IsTidy t m) (passes : Passes s t m u twin read_only) where
   abbrev f : Fork
-  f = fork_of t m.rows u twin
+  f = fork_of passes.number m.rows u twin
 
   abbrev row : TreeRow
   row = (own s t m u twin read_only o tidy passes).row
 
   -- no image has the base's UUID
-  pub no_base_row : (r : TreeRow) → In r m.rows → image_uuid (row_name r) ≡ base_uuid t.sequence → ⊥
+  pub no_base_row : (r : TreeRow) → In r m.rows → image_uuid (row_name r) ≡ base_uuid passes.number → ⊥
   unfolding shape_in
-  no_base_row r i is = ∥∥₁_elim o.well_formed (hlevel props) (λ w.
+  no_base_row r i is = ∥∥₁_elim passes.orderly.well_formed (hlevel props) (λ w.
       let small = (new s t m u twin read_only o tidy passes).unspent in
-      let less : t.sequence < t.sequence = w.bases (machine_row r) t.sequence (In-map_at machine_row m.rows r i) (omega (arith, small)) is in omega (arith, less))
+      let less : passes.number < passes.number = w.bases (machine_row r) passes.number (In-map_at machine_row m.rows r i) (omega (arith, small)) is in omega (arith, less))
 
-  pub base_uuid_is : image_uuid (base_name f) ≡ base_uuid t.sequence
-  base_uuid_is = based f.own (base_uuid t.sequence) (subst (λ n. is_image_name n ≡ true) (sym (own_is s t m u twin read_only o tidy passes)) (named_row s t m row o (own s t m u twin read_only o tidy passes).there))
+  pub base_uuid_is : image_uuid (base_name f) ≡ base_uuid passes.number
+  base_uuid_is = based f.own (base_uuid passes.number)
+      (subst (λ n. is_image_name n ≡ true) (sym (own_is s t m u twin read_only o tidy passes)) (named_row s t m row o (own s t m u twin read_only o tidy passes).there))
 
   -- nor the base's name
   not_named : (n : Name) → In n (map row_name m.rows) → n ≢ base_name f

@@ -24,8 +24,9 @@ use Rattle.vhd_image.specs.declared.images.Body.{Body}
 use Rattle.vhd_image.specs.declared.images.Body.TheVariants.{Vhd}
 use Rattle.vhd_chain.specs.declared.rows.TreeRow.{TreeRow}
 use Rattle.vhd_chain.specs.Trees.{tree_row, with_row, without}
-use Rattle.sm_machine.specs.Refusals.{wanted}
-use Rattle.sm_machine.specs.Shapes.{Shape, attached_as, is_rw, renamed, thin_in}
+use Rattle.sm_machine.specs.Refusals.{refusal, wanted}
+use Rattle.sm_machine.specs.Shapes.{Shape, attached_as, is_rw, renamed, risen, thin_in}
+use Rattle.sm_machine.specs.Steps.{shape_after}
 use Rattle.sm_machine.specs.declared.commands.Command.{Command}
 use Rattle.sm_machine.specs.declared.commands.Command.TheVariants as command
 use Rattle.sm_record.specs.Records.{IsRecord, reading, record_sector}
@@ -38,7 +39,8 @@ use Rattle.sm_standing.specs.Undone.{applied_all}
 use Rattle.sm_clone.specs.declared.forks.Fork.{Fork}
 use Rattle.sm_clone.specs.declared.preparing.Parts.{Parts}
 use Rattle.sm_ready.specs.Does.{IsKeptUp, store_shape}
-use Rattle.sm_ready.specs.Refusing.{IsAllowed}
+use Rattle.sm_ready.specs.Known.{Known, known, shape_in}
+use Rattle.sm_ready.specs.Orderly.{IsOrderly}
 use Rattle.sm_ready.specs.Sessions.{IsOrderlyStore, IsTidyStore}
 use Rattle.sm_ready.specs.declared.memory.Memory.{Memory}
 
@@ -51,9 +53,9 @@ forking u twin false = command.Clone u twin
 abbrev pub own_name : List TreeRow → List ℕ → Name
 own_name rows u = if is_some (tree_row rows (name.Vhd u)) then name.Vhd u else name.Raw u
 
--- the fork of a disk: its base has the UUID of the table's number
-abbrev pub fork_of : VolumeTable → List TreeRow → List ℕ → List ℕ → Fork
-fork_of t rows u twin = record { disk = u; own = own_name rows u; base = base_uuid t.sequence; twin = twin }
+-- the fork of a disk: its base has the UUID of a number, that of the table where the command begins
+abbrev pub fork_of : ℕ → List TreeRow → List ℕ → List ℕ → Fork
+fork_of number rows u twin = record { disk = u; own = own_name rows u; base = base_uuid number; twin = twin }
 
 -- the base's name, of the kind that the disk's image has
 abbrev pub base_name : Fork → Name
@@ -185,16 +187,29 @@ HasForkedRows s t σ f now old new =
 
 -- ---- what is asked once all memory was taken
 
--- A fork may be made with these parts: no cause refuses it, no operation is given up, it is of the disk's image and of the table's
--- number, its record is the twin's and has a place; the extents are those that it takes, both maps are blank, and three rows
+-- The number by which the base is named: the table's, or the one below it, which was the table's until an operation was given up. By
+-- this number table and memory are orderly, and no cause refuses the fork.
+pub record Passes (s : Site) (t : VolumeTable) (m : Known) (u twin : List ℕ) (read_only : Bool) : Type 0 where
+  pub number : ℕ
+  pub below : number ≤ t.sequence
+  pub above : t.sequence ≤ number + 1
+  pub orderly : IsOrderly s (record t { sequence = number }) m
+  pub unrefused : refusal (shape_in s (record t { sequence = number }) m) (forking u twin read_only) ≡ None
+
+-- the machine's shape once a fork is made whose base has this number
+abbrev pub shape_forked : Shape → ℕ → Command → Shape
+shape_forked σ number c = record (shape_after (record σ { sequence = number }) c) { sequence = risen σ.sequence 8 }
+
+-- A fork may be made with these parts: no cause refuses it, no operation is given up, it is of the disk's image and of the number that
+-- names its base, its record is the twin's and has a place; the extents are those that it takes, both maps are blank, and three rows
 -- are spare.
 pub record CanFork {S : Type 0} (g : Ghosts S) (store : S) (m : Memory) (f : Fork) (p : Parts) (entry : Record) : Type 0 where
   pub usable : g.failed store ≡ false
   pub orderly : IsOrderlyStore g store m
   pub tidy : IsTidyStore g store m
-  pub allowed : IsAllowed g (forking f.disk f.twin entry.read_only) store m
+  pub allowed : Passes (g.site store) (table_alone (g.table store)) (known m) f.disk f.twin entry.read_only
   pub kept_up : IsKeptUp g (forking f.disk f.twin entry.read_only) store m
-  pub fork : f ≡ fork_of (table_alone (g.table store)) m.tree.rows f.disk f.twin
+  pub fork : f ≡ fork_of allowed.number m.tree.rows f.disk f.twin
   pub origin : Record
   pub recorded : record_in m.records f.disk ≡ Some origin
   pub entry_is : entry ≡ twin_record f.disk f.twin entry.read_only origin

@@ -1,4 +1,4 @@
-//! A disk is made of another, by eight commits.
+//! A disk is made of another: by eight commits, and by one more where the folding of its leaf is given up first.
 
 ghost use Rattle.std.specs.Prelude.{◌≡◌, ◌≤◌, ℕ, List, false, Ok, Err, OnOk, Some, length, unwrap_or};
 ghost use Rattle.std.specs.List.{slice_set};
@@ -9,18 +9,21 @@ ghost use Rattle.vg_meta.specs.Tables.{VolumeTable};
 ghost use Rattle.vg_volumes.specs.Stored.{Counts, Leaves, OnlyReads};
 ghost use Rattle.vhd_chain.specs.Trees.{tree_row};
 ghost use Rattle.sm_mgt.specs.Places.{place_for, record_in};
-ghost use Rattle.sm_ready.specs.Does.{IsKeptUp, ShapesAs, StoreDoes, store_shape};
+ghost use Rattle.gc_abandon.specs.Abandoning.{unfolded, unfolded_table};
+ghost use Rattle.sm_ready.specs.Does.{ShapesAs, StoreDoes, store_shape};
 ghost use Rattle.sm_ready.specs.Frames.{HasCommits, HasTrueImages};
 ghost use Rattle.sm_ready.specs.Refusing.{IsAllowed};
 ghost use Rattle.sm_ready.specs.Sessions.{HasRows, HasTreeRoom, IsOrderlyStore, IsReadyStore, IsTidyStore};
 ghost use Rattle.sm_attaching.specs.Attaching.{HasAttachmentRoom};
-ghost use Rattle.sm_clone.specs.Forking.{CanFork, HasForkedRows, IsForkedOnLeast, fork_of, forked_places, forked_rows, forking, own_name, sectors_of, table_forked};
+ghost use Rattle.sm_clone.specs.Forking.{CanFork, HasForkedRows, IsForkedOnLeast, fork_of, forked_places, forked_rows, forking, own_name, sectors_of, shape_forked, table_forked};
+ghost use Rattle.sm_standing.specs.Entries.{base_number};
 
 use crate::filling::fill;
 use crate::forks::{Fork, twin_record};
 use crate::memory::{add_rows, make_base, note_uses, shown_row};
 use crate::preparing::{Parts, prepare};
 use crate::runs::{begin, end};
+use gc_abandon::give_up;
 use sm_base::{CallFault, Failed, base_uuid};
 use sm_ready::{Memory, image_name};
 use sm_record::Record;
@@ -59,7 +62,8 @@ fn make_fork<S: Store>(
     ensures images { OnOk result (memory.new.tree.rows ≡ forked_rows (S.site store.old) (table_alone (S.table store.old)) fork.now now
         (length parts.own.items) (length parts.twins.items) (tree_row memory.old.tree.rows fork.now.own) memory.old.tree.rows) }
     ensures records { OnOk result (memory.new.records ≡ slice_set memory.old.records (unwrap_or (place_for memory.old.records entry.uuid) 0) (Some entry)) }
-    ensures shape { OnOk result (ShapesAs S.Store (forking fork.now.disk fork.now.twin entry.read_only) store.old memory.old store.new memory.new) }
+    ensures shape { OnOk result (store_shape S.Store store.new memory.new
+        ≡ shape_forked (store_shape S.Store store.old memory.old) (base_number fork.now.base) (forking fork.now.disk fork.now.twin entry.read_only)) }
     ensures done { S.told → IsReadyStore S.Store store.old memory.old
         → StoreDoes S.Store (forking fork.now.disk fork.now.twin entry.read_only) store.old memory.old store.new memory.new (result ≡ Ok tt) }
 {
@@ -90,7 +94,8 @@ fn make_fork<S: Store>(
 
 /// Makes a new disk, the twin, of a disk, which goes on: the disk's image becomes a hidden base, and both disks get images that
 /// hold nothing over it. The twin has the disk's label, and the disk is its origin. `now` is in seconds since the beginning of
-/// the year 2000.
+/// the year 2000. Where the disk's leaf is being folded that is given up first, once all memory was taken; the base's UUID is by the
+/// table's number from before.
 ///
 /// # Errors
 ///
@@ -112,18 +117,17 @@ pub fn fork<S: Store>(
     requires room { HasAttachmentRoom memory.old }
     requires true_now { HasTrueImages S.Store store.old memory.old }
     requires allowed { IsAllowed S.Store (forking disk.now twin.now read_only) store.old memory.old }
-    requires kept_up { IsKeptUp S.Store (forking disk.now twin.now read_only) store.old memory.old }
     ensures site { S.site store.new ≡ S.site store.old }
     ensures counts { S.faults store.old ≤ S.faults store.new }
     ensures cause { result ≡ Err fault.Device → Rose (S.faults store.old) (S.faults store.new) }
     ensures beside { S.told → Keeps (S.beside store.old) (S.beside store.new) }
-    ensures few { HasCommits 8 (table_alone (S.table store.old)) (table_alone (S.table store.new)) }
-    ensures few_left { Leaves S.Store store.new (λ t image. HasCommits 8 (table_alone (S.table store.old)) t) }
+    ensures few { HasCommits 9 (table_alone (S.table store.old)) (table_alone (S.table store.new)) }
+    ensures few_left { Leaves S.Store store.new (λ t image. HasCommits 9 (table_alone (S.table store.old)) t) }
     ensures poor { result ≡ Err fault.NoMemory
         → OnlyReads S.Store store.old store.new × ((t : VolumeTable) (image : ℕ → List ℕ) → S.leaves store.new t image → S.leaves store.old t image)
         × (memory.new ≡ memory.old) × (S.failed store.new ≡ false) }
     ensures true_poor { result ≡ Err fault.NoMemory → HasTrueImages S.Store store.new memory.new }
-    ensures others { memory.new.operation ≡ memory.old.operation }
+    ensures operation { OnOk result (memory.new.operation ≡ unfolded memory.old.operation disk.now) }
     ensures usable_still { OnOk result (S.failed store.new ≡ false) }
     ensures orderly_still { OnOk result (IsOrderlyStore S.Store store.new memory.new) }
     ensures tidy_still { OnOk result (IsTidyStore S.Store store.new memory.new) }
@@ -131,12 +135,13 @@ pub fn fork<S: Store>(
     ensures room_still { OnOk result (HasAttachmentRoom memory.new) }
     ensures true_still { OnOk result (HasTrueImages S.Store store.new memory.new) }
     ensures rows { HasRows (S.table store.old) → OnOk result (HasRows (S.table store.new)) }
-    ensures least { OnOk result (IsForkedOnLeast (S.site store.old) (table_alone (S.table store.old)) (store_shape S.Store store.old memory.old)
-        (fork_of (table_alone (S.table store.old)) memory.old.tree.rows disk.now twin.now) (sectors_of (tree_row memory.old.tree.rows (own_name memory.old.tree.rows disk.now))) (table_alone (S.table store.new))) }
+    ensures least { OnOk result (IsForkedOnLeast (S.site store.old) (unfolded_table memory.old.operation disk.now (table_alone (S.table store.old))) (store_shape S.Store store.old memory.old)
+        (fork_of (table_alone (S.table store.old)).sequence memory.old.tree.rows disk.now twin.now)
+        (sectors_of (tree_row memory.old.tree.rows (own_name memory.old.tree.rows disk.now))) (table_alone (S.table store.new))) }
     // The images in memory: the base, and two without slots over it, made now. Their headers name the base's volume, its unique id
     // and its time stamp; their own unique ids are by the table's number behind the commit that makes each.
-    ensures images { OnOk result (HasForkedRows (S.site store.old) (table_alone (S.table store.old)) (store_shape S.Store store.old memory.old)
-        (fork_of (table_alone (S.table store.old)) memory.old.tree.rows disk.now twin.now) now memory.old.tree.rows memory.new.tree.rows) }
+    ensures images { OnOk result (HasForkedRows (S.site store.old) (unfolded_table memory.old.operation disk.now (table_alone (S.table store.old))) (store_shape S.Store store.old memory.old)
+        (fork_of (table_alone (S.table store.old)).sequence memory.old.tree.rows disk.now twin.now) now memory.old.tree.rows memory.new.tree.rows) }
     ensures records { OnOk result (memory.new.records ≡ forked_places disk.now twin.now read_only (record_in memory.old.records disk.now) memory.old.records) }
     ensures shape { OnOk result (ShapesAs S.Store (forking disk.now twin.now read_only) store.old memory.old store.new memory.new) }
     ensures done { S.told → IsReadyStore S.Store store.old memory.old
@@ -154,6 +159,9 @@ pub fn fork<S: Store>(
         own: image_name(&memory.tree, disk),
         base: base_uuid(store.table().seq()),
         twin: *twin,
+    };
+    let Ok(()) = give_up(store, memory, disk) else {
+        return Err(CallFault::Device);
     };
     let Ok(()) = make_fork(store, memory, &fork, parts, entry, now) else {
         return Err(CallFault::Device);

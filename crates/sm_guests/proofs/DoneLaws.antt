@@ -31,7 +31,7 @@ use Rattle.sm_machine.specs.Disks.{Disk, on_disk}
 use Rattle.sm_machine.specs.Refusals.{refusal, named, is_not_attached, is_read_only, is_out_of_range, is_outside}
 use Rattle.sm_machine.specs.Runs.{is_settling}
 use Rattle.sm_machine.specs.Shapes.{Shape, ImageRow, attached_as, find_image, image_uuid, is_image, is_rw, same_image}
-use Rattle.sm_machine.specs.Steps.{State, Outcome, accepted, disks_next as machine_disks, reply_to, shape_after, shape_next, step_whole, write_shape, written_image}
+use Rattle.sm_machine.specs.Steps.{State, Outcome, accepted, disks_next as machine_disks, reply_to, shape_after, shape_next, step, write_shape, written_image}
 use Rattle.sm_machine.specs.WellFormed.{IsWellFormed}
 use Rattle.sm_machine.specs.declared.commands.Command.TheVariants.{Write}
 use Rattle.sm_machine.specs.declared.replies.Reply.TheVariants.{Done}
@@ -51,11 +51,11 @@ use Rattle.sm_ready.specs.declared.memory.Memory.{Memory}
 use Rattle.sm_ready.specs.Does.{ShapesAs}
 use Rattle.sm_ready.specs.Frames.{HasTrueImages}
 use Rattle.sm_ready.specs.Refusing.{IsAllowed}
-use Rattle.sm_ready.specs.Taken.{StoreTakesWhole}
+use Rattle.sm_ready.specs.Taken.{StoreTakes}
 use Rattle.sm_ready.proofs.LeftLaws.{IsLeft}
 use Rattle.sm_ready.proofs.Orders.{geometry_of}
 use Rattle.sm_ready.proofs.RestLaws.{true_keeps}
-use Rattle.sm_ready.proofs.TakenLaws.{whole_by}
+use Rattle.sm_ready.proofs.TakenLaws.{step_accepted}
 use Rattle.sm_guests.specs.Taken.{answered}
 use Rattle.sm_ready.proofs.PutBackLaws.{of_rows}
 use Rattle.sm_ready.proofs.TruthLaws.{row_sectors}
@@ -187,9 +187,9 @@ module _ {S : Type 0} (g : Ghosts S) (a b : S) (m n : Memory) (u : List ℕ) (at
     after : List Disk
     after = on_disk u (over at (length bytes / 512) bytes) (disks (content_now s t (g.area a)))
 
-    machine_after : (step_whole (store_state g a m) (Write u at bytes)).after.disks ≡ on_disk u (over at (length bytes / 512) bytes) (disks (content_now s t (g.area a)))
+    machine_after : (step (store_state g a m) (Write u at bytes)).after.disks ≡ on_disk u (over at (length bytes / 512) bytes) (disks (content_now s t (g.area a)))
     unfolding accepted machine_disks
-    machine_after = ap (λ (x : Outcome). x.after.disks) (whole_by (store_state g a m) (Write u at bytes) allowed)
+    machine_after = ap (λ (x : Outcome). x.after.disks) (step_accepted (store_state g a m) (Write u at bytes) allowed)
 
     left_now : (v : VolumeTable) (image : ℕ → List ℕ) → StoreLeaves g b v image → (v ≡ t) × IsLeft s (g.area b) image
     left_now v image l = ⊎_elim (λ x. at_choice (later v image x)) (λ x. at_choice x.2) l
@@ -207,7 +207,7 @@ module _ {S : Type 0} (g : Ghosts S) (a b : S) (m n : Memory) (u : List ℕ) (at
         (λ other is. inr (told, usable, record { table_is = refl; sectors = is })) image left
 
     crash : (v : VolumeTable) (image : ℕ → List ℕ) → StoreLeaves g b v image
-        → IsKept (content_in s v image) × IsBetween (MayShow s (StoreLeaves g a)) (disks (content_now s t (g.area a))) (step_whole (store_state g a m) (Write u at bytes)).after.disks (disks (content_in s v image))
+        → IsKept (content_in s v image) × IsBetween (MayShow s (StoreLeaves g a)) (disks (content_now s t (g.area a))) (step (store_state g a m) (Write u at bytes)).after.disks (disks (content_in s v image))
     crash v image l =
         let x = left_now v image l in
         subst (λ ds. IsKept (content_in s v image) × IsBetween (MayShow s (StoreLeaves g a)) (disks (content_now s t (g.area a))) ds (disks (content_in s v image))) (sym machine_after)
@@ -215,7 +215,7 @@ module _ {S : Type 0} (g : Ghosts S) (a b : S) (m n : Memory) (u : List ℕ) (at
         (stopped image x.1))
 
     -- it failed
-    pub write_stopped : (f : Failed) → StoreTakesWhole g (Write u at bytes) a m b n (Err f)
+    pub write_stopped : (f : Failed) → StoreTakes g (Write u at bytes) a m b n (Err f)
     write_stopped f = record { reply = tt; ready = tt; settled = tt; crash = crash }
 
     -- and it did its work
@@ -248,15 +248,15 @@ module _ {S : Type 0} (g : Ghosts S) (a b : S) (m n : Memory) (u : List ℕ) (at
           (subst (IsLike r) same like) (subst (λ x. IsOrderly s t (replaced x (known m))) same still) (subst (λ x. IsFirm s t (g.area b) (replaced x (known m))) same ready_now.firm)
           (subst (λ x. In x (with_replaced x m.tree.rows)) same (there_replaced s t (known m) u r (with_image new r) orderly own like))
 
-      machine_shape : (step_whole (store_state g a m) (Write u at bytes)).after.shape ≡ write_shape (shape_in s t (known m)) u at (length bytes / 512)
+      machine_shape : (step (store_state g a m) (Write u at bytes)).after.shape ≡ write_shape (shape_in s t (known m)) u at (length bytes / 512)
       unfolding shape_after own_commits is_given_up gives_up shape_in
       machine_shape = shape_unnumbered (store_state g a m) (Write u at bytes) allowed (few_numbers s t (known m) orderly) refl refl
 
-      pub write_done : StoreTakesWhole g (Write u at bytes) a m b n (Ok Done)
+      pub write_done : StoreTakes g (Write u at bytes) a m b n (Ok Done)
       unfolding accepted reply_to is_settling
       write_done = record {
         reply = inr (
-          sym (ap (λ (x : Outcome). x.reply) (whole_by (store_state g a m) (Write u at bytes) allowed)),
+          sym (ap (λ (x : Outcome). x.reply) (step_accepted (store_state g a m) (Write u at bytes) allowed)),
           ap₂ (λ (y : VolumeTable) (k : Known). state_in s y (g.area b) k) works.stays.table memory
               ∙ ap₂ (λ (ds : List Disk) (x : Shape). let z : State = record { disks = ds; shape = x } in z) (shown ∙ sym machine_after) (shaped is ∙ sym machine_shape),
         );
@@ -269,7 +269,7 @@ module _ {S : Type 0} (g : Ghosts S) (a b : S) (m n : Memory) (u : List ℕ) (at
     pub write_taken : (result : Result (Unit {0}) Failed) → OnOk result (new ≡ written s.geometry.block at (length bytes) r.image) → OnOk result (StandsIn s.geometry (size_of s t (row_name r)) new)
         → IfVhdDoes g r.image (λ head slots. KeepsHeads (sectors_in (stored g a) head.volume)) a b
         → OnOk result (Holds g (row_name r) (λ x. TrueIn s.geometry (sectors_in (stored g a) (row_name r)) x new) b)
-        → OnOk result (Does g (row_name r) (IsBodyWritten s.geometry (sectors_in (stored g a) (row_name r)) r.image at bytes) a b) → StoreTakesWhole g (Write u at bytes) a m b n (answered Done result)
+        → OnOk result (Does g (row_name r) (IsBodyWritten s.geometry (sectors_in (stored g a) (row_name r)) r.image at bytes) a b) → StoreTakes g (Write u at bytes) a m b n (answered Done result)
     write_taken (Ok x) is stands heads truth done = write_done is stands heads truth done
     write_taken (Err f) is stands heads truth done = write_stopped f
 

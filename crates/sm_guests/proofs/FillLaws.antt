@@ -9,10 +9,10 @@ use Rattle.sm_machine.specs.Disks.{cut_sectors, filled, on_disk}
 use Rattle.sm_machine.specs.Refusals.{refusal, is_reserved, is_unknown, is_taken, is_in_use, is_not_attached, is_read_only, is_raw_disk, is_out_of_range, is_outside, is_bad_size, is_shrink, is_deep, is_too_many, is_spent, lacks_space, need, named, new_uuid, forked, images_needed}
 use Rattle.sm_machine.specs.Shapes.{Shape, free, risen}
 use Rattle.sm_base.specs.declared.refusals.Refusal.TheVariants.{UnknownDisk, NotAttached, ReadOnly, OutOfRange, NoSpace}
-use Rattle.sm_machine.specs.Steps.{State, Outcome, accepted, disks_next, reply_to, shape_after, shape_next, step_whole, write_shape, written_disk}
+use Rattle.sm_machine.specs.Steps.{State, Outcome, accepted, disks_next, reply_to, shape_after, shape_next, step, write_shape, written_disk}
 use Rattle.sm_machine.specs.declared.commands.Command.TheVariants.{Fill, Write}
 use Rattle.sm_machine.specs.declared.replies.Reply.TheVariants.{Done}
-use Rattle.sm_ready.proofs.TakenLaws.{whole_by}
+use Rattle.sm_ready.proofs.TakenLaws.{step_accepted}
 
 drop_all_of : (n byte : ℕ) → drop 512 (replicate (512 + 512 * n) byte) ≡ replicate (512 * n) byte
 drop_all_of n byte = ap (drop 512) (sym (replicate-append-replicate 512 (512 * n) byte)) ∙ drop-append 512 (replicate 512 byte) (replicate (512 * n) byte) (length-replicate 512 byte)
@@ -50,10 +50,10 @@ fill_allowed s u at n byte allowed =
     range : (is_outside s u at (length (all_of n byte) / 512) || not (length (all_of n byte) % 512 == 0)) ≡ is_outside s u at n
     range = ap₂ (λ k m. is_outside s u at k || not (m == 0)) (length_all n byte) even ∙ or_false (is_outside s u at n)
 
-pub fill_is : (σ : State) (u : List ℕ) (at n byte : ℕ) → refusal σ.shape (Fill u at n byte) ≡ None → step_whole σ (Fill u at n byte) ≡ step_whole σ (Write u at (all_of n byte))
+pub fill_is : (σ : State) (u : List ℕ) (at n byte : ℕ) → refusal σ.shape (Fill u at n byte) ≡ None → step σ (Fill u at n byte) ≡ step σ (Write u at (all_of n byte))
 unfolding accepted disks_next shape_next shape_after reply_to commits own_commits is_given_up gives_up
 fill_is σ u at n byte allowed =
-    whole_by σ (Fill u at n byte) allowed
+    step_accepted σ (Fill u at n byte) allowed
     ∙ ap₂ (λ (ss : List (List ℕ)) (k : ℕ). let x : Outcome = record { reply = Done; after = record { disks = on_disk u (written_disk at ss) σ.disks; shape = record (write_shape σ.shape u at k) { sequence = risen σ.shape.sequence 0 } } } in x)
     (sym (filled_cut n byte) ∙ ap (λ k. cut_sectors k (all_of n byte)) (sym (length_all n byte))) (sym (length_all n byte))
-    ∙ sym (whole_by σ (Write u at (all_of n byte)) (fill_allowed σ.shape u at n byte allowed))
+    ∙ sym (step_accepted σ (Write u at (all_of n byte)) (fill_allowed σ.shape u at n byte allowed))

@@ -25,7 +25,7 @@ use Rattle.sm_ready.specs.Does.{ShapesAs, store_shape}
 use Rattle.sm_ready.specs.Known.{known, shape_in}
 use Rattle.sm_ready.specs.Refusing.{IsAllowed}
 use Rattle.sm_ready.specs.Sessions.{IsOrderlyStore, IsReadyStore, store_state}
-use Rattle.sm_ready.specs.Taken.{StoreTakesWhole}
+use Rattle.sm_ready.specs.Taken.{StoreTakes}
 use Rattle.sm_ready.specs.declared.memory.Memory.{Memory}
 use Rattle.sm_ready.proofs.Orders.{geometry_of}
 use Rattle.sm_ready.proofs.ShownLaws.{few_sectors}
@@ -151,17 +151,17 @@ module _ {S : Type 0} (g : Ghosts S) (a : S) (m : Memory) (u : List ℕ) (at cou
 
     -- and so is what is told
     module _ (usable : g.failed a ≡ false) (told : g.told) (ready : IsReadyStore g a m) (filling : IsFilling g u at count byte a m done b n) (site : g.site b ≡ g.site a) (c : S) (k : Memory) where
-      pub turn_told : g.site c ≡ g.site b → StoreTakesWhole g (Write u (at + done) (take (512 * few) bytes)) b n c k (Ok Done) → IsFilling g u at count byte a m (done + few) c k
+      pub turn_told : g.site c ≡ g.site b → StoreTakes g (Write u (at + done) (take (512 * few) bytes)) b n c k (Ok Done) → IsFilling g u at count byte a m (done + few) c k
       unfolding shape_in
       turn_told still taken =
           fill_more g u at count byte a m allowed (few_numbers (g.site a) (table_alone (g.table a)) (known m) orderly) some_block (reaches usable told ready) (sector_had g a m orderly usable told ready) b c n k done few goes filling site still
-          (subst (λ ys. StoreTakesWhole g (Write u (at + done) ys) b n c k (Ok Done)) piece taken)
+          (subst (λ ys. StoreTakes g (Write u (at + done) ys) b n c k (Ok Done)) piece taken)
 
-      pub turn_stopped : (result fails : Result Reply Failed) → IsErr fails → StoreTakesWhole g (Write u (at + done) (take (512 * few) bytes)) b n c k result → StoreTakesWhole g (Fill u at count byte) a m c k fails
+      pub turn_stopped : (result fails : Result Reply Failed) → IsErr fails → StoreTakes g (Write u (at + done) (take (512 * few) bytes)) b n c k result → StoreTakes g (Fill u at count byte) a m c k fails
       unfolding shape_in
       turn_stopped result fails failed taken =
           fill_stopped g u at count byte a m allowed (few_numbers (g.site a) (table_alone (g.table a)) (known m) orderly) some_block (reaches usable told ready) (sector_had g a m orderly usable told ready) b c n k done few goes filling site
-          result fails failed (subst (λ ys. StoreTakesWhole g (Write u (at + done) ys) b n c k result) piece taken)
+          result fails failed (subst (λ ys. StoreTakes g (Write u (at + done) ys) b n c k result) piece taken)
 
   -- ---- all of it
 
@@ -175,7 +175,7 @@ module _ {S : Type 0} (g : Ghosts S) (a : S) (m : Memory) (u : List ℕ) (at cou
       all (suc j) some = refl
 
   module _ (usable : g.failed a ≡ false) (told : g.told) (ready : IsReadyStore g a m) where
-    pub told_done : (b : S) (n : Memory) → g.site b ≡ g.site a → IsFilling g u at count byte a m count b n → StoreTakesWhole g (Fill u at count byte) a m b n (Ok Done)
+    pub told_done : (b : S) (n : Memory) → g.site b ≡ g.site a → IsFilling g u at count byte a m count b n → StoreTakes g (Fill u at count byte) a m b n (Ok Done)
     unfolding shape_in
     told_done b n site filling =
         fill_done g u at count byte a m allowed (few_numbers (g.site a) (table_alone (g.table a)) (known m) orderly) some_block (reaches usable told ready) (sector_had g a m orderly usable told ready) b n some_sectors site filling

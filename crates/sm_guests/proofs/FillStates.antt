@@ -6,24 +6,24 @@ use Rattle.sm_machine.specs.Commits.{own_commits, is_given_up, gives_up}
 use Rattle.sm_machine.specs.Disks.{Disk, cut_sectors, filled, is_disk, on_disk}
 use Rattle.sm_machine.specs.Refusals.{refusal}
 use Rattle.sm_machine.specs.Shapes.{Shape}
-use Rattle.sm_machine.specs.Steps.{State, Outcome, accepted, disks_next, shape_after, step_whole, write_shape, written_disk}
+use Rattle.sm_machine.specs.Steps.{State, Outcome, accepted, disks_next, shape_after, step, write_shape, written_disk}
 use Rattle.sm_machine.specs.declared.commands.Command.TheVariants.{Write}
 use Rattle.sm_machine.proofs.Changes.{when-key}
 use Rattle.sm_guests.proofs.FillAllowed.{allowed_behind}
 use Rattle.sm_guests.proofs.FillLaws.{all_of, filled_cut, length_all}
 use Rattle.sm_guests.proofs.FillSteps.{blocks_behind, filled_behind, shape_behind}
-use Rattle.sm_ready.proofs.TakenLaws.{whole_by}
+use Rattle.sm_ready.proofs.TakenLaws.{step_accepted}
 use Rattle.sm_guests.proofs.TakenLaws.{shape_unnumbered}
 
 -- the state once so many sectors of a byte are written
 abbrev pub filled_state : State → List ℕ → ℕ → ℕ → ℕ → State
 filled_state σ u at n byte = record { disks = on_disk u (written_disk at (filled n byte)) σ.disks; shape = write_shape σ.shape u at n }
 
-pub state_after : (σ : State) (u : List ℕ) (at n byte : ℕ) → refusal σ.shape (Write u at (all_of n byte)) ≡ None → σ.shape.sequence < 2 ^ 48 → (step_whole σ (Write u at (all_of n byte))).after ≡ filled_state σ u at n byte
+pub state_after : (σ : State) (u : List ℕ) (at n byte : ℕ) → refusal σ.shape (Write u at (all_of n byte)) ≡ None → σ.shape.sequence < 2 ^ 48 → (step σ (Write u at (all_of n byte))).after ≡ filled_state σ u at n byte
 unfolding accepted disks_next shape_after own_commits is_given_up gives_up
 state_after σ u at n byte allowed few =
     ap₂ (λ (ds : List Disk) (x : Shape). let z : State = record { disks = ds; shape = x } in z)
-    (ap (λ (x : Outcome). x.after.disks) (whole_by σ (Write u at (all_of n byte)) allowed)
+    (ap (λ (x : Outcome). x.after.disks) (step_accepted σ (Write u at (all_of n byte)) allowed)
     ∙ ap (λ ss. on_disk u (written_disk at ss) σ.disks) (ap (λ k. cut_sectors k (all_of n byte)) (length_all n byte) ∙ filled_cut n byte))
     (shape_unnumbered σ (Write u at (all_of n byte)) allowed few refl refl ∙ ap (λ k. write_shape σ.shape u at k) (length_all n byte))
 
@@ -47,7 +47,7 @@ disks_behind (d ∷ ds) u at a c byte within = ap₂ (λ x xs. x ∷ xs)
 -- a second piece that begins with a block, behind the first
 pub state_behind : (σ : State) (u : List ℕ) (at a c q byte : ℕ) → 0 < σ.shape.block → 0 < a → 0 < c → at + a ≡ suc q * σ.shape.block → Reaches σ.disks u at → σ.shape.sequence < 2 ^ 48
     → refusal σ.shape (Write u at (all_of (a + c) byte)) ≡ None
-    → (step_whole (filled_state σ u at a byte) (Write u (at + a) (all_of c byte))).after ≡ filled_state σ u at (a + c) byte
+    → (step (filled_state σ u at a byte) (Write u (at + a) (all_of c byte))).after ≡ filled_state σ u at (a + c) byte
 state_behind σ u at a c q byte pos some more whole within few allowed =
     state_after (filled_state σ u at a byte) u (at + a) c byte (allowed_behind σ.shape u at a c byte more allowed) few
     ∙ ap₂ (λ (ds : List Disk) (x : Shape). let z : State = record { disks = ds; shape = x } in z)

@@ -9,7 +9,7 @@ use Rattle.vg_volumes.specs.declared.stores.Store.{Ghosts}
 use Rattle.sm_machine.specs.Disks.{Disk}
 use Rattle.sm_machine.specs.Refusals.{refusal}
 use Rattle.sm_machine.specs.Runs.{HasSector, is_settling}
-use Rattle.sm_machine.specs.Steps.{State, Outcome, accepted, reply_to, step_whole}
+use Rattle.sm_machine.specs.Steps.{State, Outcome, accepted, reply_to, step}
 use Rattle.sm_machine.specs.declared.commands.Command.TheVariants.{Fill, Write}
 use Rattle.sm_machine.specs.declared.replies.Reply.{Reply}
 use Rattle.sm_machine.specs.declared.replies.Reply.TheVariants.{Done}
@@ -21,12 +21,12 @@ use Rattle.sm_ready.specs.Ready.{IsReady}
 use Rattle.sm_ready.specs.Sessions.{IsReadyStore, state_in, store_state}
 use Rattle.sm_ready.specs.Stores.{MayShow, StoreLeaves, content_in}
 use Rattle.sm_ready.specs.declared.memory.Memory.{Memory}
-use Rattle.sm_ready.specs.Taken.{StoreTakesWhole}
+use Rattle.sm_ready.specs.Taken.{StoreTakes}
 use Rattle.sm_guests.proofs.FillLaws.{all_of, fill_allowed, fill_is}
 use Rattle.sm_guests.proofs.FillBetween.{IsMixed, faces_filled, mixed_behind, mixed_between, mixed_step}
 use Rattle.sm_guests.proofs.FillShapes.{GoesOn, allowed_to}
 use Rattle.sm_guests.proofs.FillStates.{Reaches, filled_state, state_after, state_behind}
-use Rattle.sm_ready.proofs.TakenLaws.{whole_by}
+use Rattle.sm_ready.proofs.TakenLaws.{step_accepted}
 
 -- the state once so many sectors of a byte are written, where there are any
 abbrev pub reached : State → List ℕ → ℕ → ℕ → ℕ → State
@@ -47,10 +47,10 @@ module _ (σ : State) (u : List ℕ) (at count byte : ℕ) (allowed : refusal σ
   near n fits d there uuid = let far = within d there uuid in omega (arith, far, fits)
 
   -- a piece more
-  pub reached_more : (n c : ℕ) → GoesOn σ.shape.block at n c count → (step_whole (reached σ u at n byte) (Write u (at + n) (all_of c byte))).after ≡ reached σ u at (n + c) byte
+  pub reached_more : (n c : ℕ) → GoesOn σ.shape.block at n c count → (step (reached σ u at n byte) (Write u (at + n) (all_of c byte))).after ≡ reached σ u at (n + c) byte
   reached_more zero zero goes = absurd (omega (arith, goes.some))
   reached_more zero (suc c) goes =
-      ap (λ k. (step_whole σ (Write u k (all_of (suc c) byte))).after) (let e : at + zero ≡ at = omega arith in e)
+      ap (λ k. (step σ (Write u k (all_of (suc c) byte))).after) (let e : at + zero ≡ at = omega arith in e)
       ∙ state_after σ u at (suc c) byte (allowed_to σ.shape u at count byte allowed (suc c) goes.some (let w = goes.within in omega (arith, w))) few
       ∙ ap (λ k. reached σ u at k byte) (let e : suc c ≡ zero + suc c = omega arith in e)
   reached_more (suc n) c goes = ⊎_elim
@@ -87,9 +87,9 @@ module _ {S : Type 0} (g : Ghosts S) (u : List ℕ) (at count byte : ℕ) (a : S
   mixed n fits = mixed_to σ u at count byte allowed few pos within before had n fits
 
   module _ (b c : S) (n k : Memory) (done piece : ℕ) (goes : GoesOn σ.shape.block at done piece count) (now : IsFilling g u at count byte a m done b n) (site : g.site b ≡ g.site a) (result : Result Reply Failed)
-      (taken : StoreTakesWhole g (Write u (at + done) (all_of piece byte)) b n c k result) where
-    next : (step_whole (store_state g b n) (Write u (at + done) (all_of piece byte))).after ≡ reached σ u at (done + piece) byte
-    next = ap (λ x. (step_whole x (Write u (at + done) (all_of piece byte))).after) now.state ∙ reached_more σ u at count byte allowed few pos within done piece goes
+      (taken : StoreTakes g (Write u (at + done) (all_of piece byte)) b n c k result) where
+    next : (step (store_state g b n) (Write u (at + done) (all_of piece byte))).after ≡ reached σ u at (done + piece) byte
+    next = ap (λ x. (step x (Write u (at + done) (all_of piece byte))).after) now.state ∙ reached_more σ u at count byte allowed few pos within done piece goes
 
     -- what a stop may show of the piece
     pub piece_shows : (v : VolumeTable) (image : ℕ → List ℕ) → StoreLeaves g c v image → IsKept (content_in (g.site a) v image) × IsMixed before σ.disks whole (disks (content_in (g.site a) v image))
@@ -97,7 +97,7 @@ module _ {S : Type 0} (g : Ghosts S) (u : List ℕ) (at count byte : ℕ) (a : S
         let crash = taken.crash v image left in
         subst (λ x. IsKept (content_in x v image) × IsMixed before σ.disks whole (disks (content_in x v image))) site (
           crash.0,
-          mixed_step before (MayShow (g.site b) (StoreLeaves g b)) σ.disks whole (store_state g b n).disks (step_whole (store_state g b n) (Write u (at + done) (all_of piece byte))).after.disks (disks (content_in (g.site b) v image))
+          mixed_step before (MayShow (g.site b) (StoreLeaves g b)) σ.disks whole (store_state g b n).disks (step (store_state g b n) (Write u (at + done) (all_of piece byte))).after.disks (disks (content_in (g.site b) v image))
               (subst (λ (x : State). IsMixed before σ.disks whole x.disks) (sym now.state) (mixed done (omega (arith, goes.within))))
               (subst (λ (x : State). IsMixed before σ.disks whole x.disks) (sym next) (mixed (done + piece) goes.within))
               (λ es shown. subst (IsMixed before σ.disks whole) (sym shown.shown) (subst (λ x. IsMixed before σ.disks whole (disks (content_in x shown.table shown.image))) (sym site) (now.shows shown.table shown.image shown.left).1))
@@ -105,15 +105,15 @@ module _ {S : Type 0} (g : Ghosts S) (u : List ℕ) (at count byte : ℕ) (a : S
         )
 
   -- the step of the whole fill
-  filled_after : (step_whole σ (Fill u at count byte)).after ≡ filled_state σ u at count byte
+  filled_after : (step σ (Fill u at count byte)).after ≡ filled_state σ u at count byte
   filled_after = ap (λ (x : Outcome). x.after) (fill_is σ u at count byte refused) ∙ state_after σ u at count byte allowed few
 
-  between : (ds : List Disk) → IsMixed before σ.disks whole ds → IsBetween before σ.disks (step_whole σ (Fill u at count byte)).after.disks ds
+  between : (ds : List Disk) → IsMixed before σ.disks whole ds → IsBetween before σ.disks (step σ (Fill u at count byte)).after.disks ds
   between ds is = subst (λ (x : State). IsBetween before σ.disks x.disks ds) (sym filled_after) (mixed_between before σ.disks whole ds (faces_filled σ.disks u at count byte within) is)
 
   -- a piece that failed ends the fill
   pub fill_stopped : (b c : S) (n k : Memory) (done piece : ℕ) → GoesOn σ.shape.block at done piece count → IsFilling g u at count byte a m done b n → g.site b ≡ g.site a → (result fails : Result Reply Failed) → IsErr fails
-      → StoreTakesWhole g (Write u (at + done) (all_of piece byte)) b n c k result → StoreTakesWhole g (Fill u at count byte) a m c k fails
+      → StoreTakes g (Write u (at + done) (all_of piece byte)) b n c k result → StoreTakes g (Fill u at count byte) a m c k fails
   fill_stopped b c n k done piece goes now site result (Ok r) failed taken = absurd (true≢false (sym failed))
   fill_stopped b c n k done piece goes now site result (Err f) failed taken = record {
     reply = tt;
@@ -124,7 +124,7 @@ module _ {S : Type 0} (g : Ghosts S) (u : List ℕ) (at count byte : ℕ) (a : S
 
   -- and one that did its work is some more of it
   pub fill_more : (b c : S) (n k : Memory) (done piece : ℕ) → GoesOn σ.shape.block at done piece count → IsFilling g u at count byte a m done b n → g.site b ≡ g.site a → g.site c ≡ g.site b
-      → StoreTakesWhole g (Write u (at + done) (all_of piece byte)) b n c k (Ok Done) → IsFilling g u at count byte a m (done + piece) c k
+      → StoreTakes g (Write u (at + done) (all_of piece byte)) b n c k (Ok Done) → IsFilling g u at count byte a m (done + piece) c k
   fill_more b c n k done piece goes now site still taken = record {
     state = ap (λ x. state_in x (table_alone (g.table c)) (g.area c) (known k)) still ∙ ⊎_elim (λ poor. absurd (let x = poor.0 in cc)) (λ is. is.1) taken.reply ∙ next b c n k done piece goes now site (Ok Done) taken;
     ready = subst (λ x. IsReady x (table_alone (g.table c)) (g.area c) (known k)) (sym still) taken.ready;
@@ -132,11 +132,11 @@ module _ {S : Type 0} (g : Ghosts S) (u : List ℕ) (at count byte : ℕ) (a : S
   }
 
   -- all of it
-  pub fill_done : (b : S) (n : Memory) → 0 < count → g.site b ≡ g.site a → IsFilling g u at count byte a m count b n → StoreTakesWhole g (Fill u at count byte) a m b n (Ok Done)
+  pub fill_done : (b : S) (n : Memory) → 0 < count → g.site b ≡ g.site a → IsFilling g u at count byte a m count b n → StoreTakes g (Fill u at count byte) a m b n (Ok Done)
   unfolding is_settling accepted reply_to
   fill_done b n some site now = record {
     reply = inr (
-      sym (ap (λ (x : Outcome). x.reply) (whole_by σ (Fill u at count byte) refused)),
+      sym (ap (λ (x : Outcome). x.reply) (step_accepted σ (Fill u at count byte) refused)),
       ap (λ x. state_in x (table_alone (g.table b)) (g.area b) (known n)) (sym site) ∙ now.state ∙ all count some ∙ sym filled_after,
     );
     ready = subst (λ x. IsReady x (table_alone (g.table b)) (g.area b) (known n)) site now.ready;

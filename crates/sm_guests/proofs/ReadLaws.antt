@@ -19,7 +19,7 @@ use Rattle.sm_machine.specs.Disks.{bytes_at, is_disk}
 use Rattle.sm_machine.specs.Refusals.{refusal, is_outside, is_out_of_range, named}
 use Rattle.sm_machine.specs.Shapes.{Shape, image_uuid}
 use Rattle.sm_machine.specs.Commits.{own_commits, is_given_up, gives_up}
-use Rattle.sm_machine.specs.Steps.{State, Outcome, accepted, disks_next, read_from, reply_to, shape_after, step_whole}
+use Rattle.sm_machine.specs.Steps.{State, Outcome, accepted, disks_next, read_from, reply_to, shape_after, step}
 use Rattle.sm_machine.specs.declared.replies.Reply.TheVariants.{Bytes}
 use Rattle.sm_machine.proofs.Passed.{passed}
 use Rattle.sm_standing.specs.Images.{image_reads}
@@ -35,7 +35,7 @@ use Rattle.sm_guests.proofs.AskLaws.{within_own}
 use Rattle.sm_guests.proofs.NowLaws.{chain_now, disk_found, disk_own, row_now}
 use Rattle.sm_guests.proofs.OwnLaws.{own_name, own_shown, own_there, own_uuid}
 use Rattle.sm_guests.proofs.SectorLists.{bytes_read}
-use Rattle.sm_ready.proofs.TakenLaws.{whole_by}
+use Rattle.sm_ready.proofs.TakenLaws.{step_accepted}
 use Rattle.sm_guests.proofs.TakenLaws.{whole_still}
 
 pub or_none : (a b : Bool) → (a || b) ≡ false → (a ≡ false) × (b ≡ false)
@@ -95,10 +95,10 @@ pub taken_all : (n : ℕ) (xs ys : List ℕ) → length xs ≡ n → take n (xs 
 taken_all n xs ys long = take-append-le n xs ys (omega (arith, long)) ∙ take_all n xs (omega (arith, long))
 
 -- the machine's step of it
-pub read_still : (σ : State) (u : List ℕ) (sector count : ℕ) → refusal σ.shape (Read u sector count) ≡ None → σ.shape.sequence < 2 ^ 48 → (step_whole σ (Read u sector count)).after ≡ σ
+pub read_still : (σ : State) (u : List ℕ) (sector count : ℕ) → refusal σ.shape (Read u sector count) ≡ None → σ.shape.sequence < 2 ^ 48 → (step σ (Read u sector count)).after ≡ σ
 unfolding disks_next shape_after own_commits is_given_up gives_up
 read_still σ u sector count allowed few = whole_still σ (Read u sector count) allowed few refl refl refl refl
 
-pub read_reply : (σ : State) (u : List ℕ) (sector count : ℕ) → refusal σ.shape (Read u sector count) ≡ None → (step_whole σ (Read u sector count)).reply ≡ Bytes (read_from sector count (find (is_disk u) σ.disks))
+pub read_reply : (σ : State) (u : List ℕ) (sector count : ℕ) → refusal σ.shape (Read u sector count) ≡ None → (step σ (Read u sector count)).reply ≡ Bytes (read_from sector count (find (is_disk u) σ.disks))
 unfolding accepted reply_to
-read_reply σ u sector count allowed = ap (λ (o : Outcome). o.reply) (whole_by σ (Read u sector count) allowed)
+read_reply σ u sector count allowed = ap (λ (o : Outcome). o.reply) (step_accepted σ (Read u sector count) allowed)

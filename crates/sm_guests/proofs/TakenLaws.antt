@@ -27,7 +27,7 @@ use Rattle.sm_machine.specs.Runs.{is_accepted, is_settling}
 use Rattle.sm_machine.specs.Commits.{commits, is_given_up, one_if, own_commits}
 use Rattle.sm_machine.specs.Refusals.{refusal}
 use Rattle.sm_machine.specs.Shapes.{Shape, risen}
-use Rattle.sm_machine.specs.Steps.{State, Outcome, step_whole, given_up, shape_after, shape_next, disks_next, accepted}
+use Rattle.sm_machine.specs.Steps.{State, Outcome, step, given_up, shape_after, shape_next, disks_next, accepted}
 use Rattle.sm_run.specs.Between.{IsBetween}
 use Rattle.sm_standing.specs.Keeping.{IsKept}
 use Rattle.sm_standing.specs.Standing.{disks}
@@ -40,18 +40,18 @@ use Rattle.sm_ready.specs.Stores.{MayShow, StoreLeaves, content_in, store_conten
 use Rattle.sm_ready.specs.declared.memory.Memory.{Memory}
 use Rattle.sm_ready.proofs.CommitLaws.{IsSafe, ready_safe}
 use Rattle.sm_ready.proofs.RestLaws.{agrees_keeps, steady_keeps}
-use Rattle.sm_ready.proofs.TakenLaws.{whole_by}
-use Rattle.sm_ready.specs.Taken.{StoreTakesWhole}
+use Rattle.sm_ready.proofs.TakenLaws.{step_accepted}
+use Rattle.sm_ready.specs.Taken.{StoreTakes}
 use Rattle.sm_guests.specs.Taken.{answered}
 
 -- ---- the step of a command that is not refused
 
 -- one that gives nothing up and makes no commit keeps the number
 pub shape_unnumbered : (σ : State) (c : Command) → refusal σ.shape c ≡ None → σ.shape.sequence < 2 ^ 48 → is_given_up σ.shape c ≡ false → own_commits σ.shape c ≡ 0
-    → (step_whole σ c).after.shape ≡ record (shape_after σ.shape c) { sequence = σ.shape.sequence }
+    → (step σ c).after.shape ≡ record (shape_after σ.shape c) { sequence = σ.shape.sequence }
 unfolding accepted shape_next commits
 shape_unnumbered σ c passes few keeps none =
-    ap (λ (o : Outcome). o.after.shape) (whole_by σ c passes)
+    ap (λ (o : Outcome). o.after.shape) (step_accepted σ c passes)
     ∙ ap₂ (λ (b : Bool) (n : ℕ). let x : Shape = record (given_up b (shape_after σ.shape c)) { sequence = risen σ.shape.sequence (one_if b + n) } in x) keeps none
     ∙ ap (λ (k : ℕ). let x : Shape = record (shape_after σ.shape c) { sequence = k } in x) (omega (arith, few))
 
@@ -97,14 +97,14 @@ module _ {S : Type 0} (g : Ghosts S) (a b : S) (m : Memory) (c : Command) (order
       (λ w. record { table_is = w.2.table_is ∙ stays.table; sectors = subst (λ (x : Site). Allows (area_size x) (g.area a) image) stays.site (Allows-keeps (area_size (g.site b)) image keeps w.2.sectors) }) l
 
   crash : (v : VolumeTable) (image : ℕ → List ℕ) → StoreLeaves g b v image
-      → IsKept (content_in (g.site a) v image) × IsBetween (MayShow (g.site a) (StoreLeaves g a)) (disks (store_content g a)) ((step_whole (store_state g a m) c).after).disks (disks (content_in (g.site a) v image))
+      → IsKept (content_in (g.site a) v image) × IsBetween (MayShow (g.site a) (StoreLeaves g a)) (disks (store_content g a)) ((step (store_state g a m) c).after).disks (disks (content_in (g.site a) v image))
   crash v image l =
       let here = before v image l in
-      subst (λ y. IsKept (content_in (g.site a) y image) × IsBetween (MayShow (g.site a) (StoreLeaves g a)) (disks (store_content g a)) ((step_whole (store_state g a m) c).after).disks (disks (content_in (g.site a) y image))) (sym here.table_is)
+      subst (λ y. IsKept (content_in (g.site a) y image) × IsBetween (MayShow (g.site a) (StoreLeaves g a)) (disks (store_content g a)) ((step (store_state g a m) c).after).disks (disks (content_in (g.site a) y image))) (sym here.table_is)
       (safe.kept image here.sectors, inl (safe.shown image here.sectors))
 
-  pub taken_keeps : (result : Result Reply Failed) → IfOk result (λ r. (r ≡ No NoMemory) ⊎ (r ≡ (step_whole (store_state g a m) c).reply)) → (step_whole (store_state g a m) c).after ≡ store_state g a m
-      → IfOk result (λ r. is_accepted r ≡ true → is_settling c ≡ true → IsSettled (g.area b)) → StoreTakesWhole g c a m b m result
+  pub taken_keeps : (result : Result Reply Failed) → IfOk result (λ r. (r ≡ No NoMemory) ⊎ (r ≡ (step (store_state g a m) c).reply)) → (step (store_state g a m) c).after ≡ store_state g a m
+      → IfOk result (λ r. is_accepted r ≡ true → is_settling c ≡ true → IsSettled (g.area b)) → StoreTakes g c a m b m result
   taken_keeps (Ok r) answer same settled = record {
     reply = ⊎_elim (λ poor. inl (poor, unchanged)) (λ is. inr (is, unchanged ∙ sym same)) answer;
     ready = still;
@@ -115,11 +115,11 @@ module _ {S : Type 0} (g : Ghosts S) (a b : S) (m : Memory) (c : Command) (order
 
 -- a command that changes neither disks nor shape leaves the state
 pub whole_still : (σ : State) (c : Command) → refusal σ.shape c ≡ None → σ.shape.sequence < 2 ^ 48 → is_given_up σ.shape c ≡ false → own_commits σ.shape c ≡ 0 → disks_next σ.disks σ.shape c ≡ σ.disks → shape_after σ.shape c ≡ σ.shape
-    → (step_whole σ c).after ≡ σ
+    → (step σ c).after ≡ σ
 unfolding accepted
 whole_still σ c passes few keeps none same_disks same_shape =
     ap₂ (λ (ds : List Disk) (sh : Shape). let x : State = record { disks = ds; shape = sh } in x)
-    (ap (λ (o : Outcome). o.after.disks) (whole_by σ c passes) ∙ same_disks)
+    (ap (λ (o : Outcome). o.after.disks) (step_accepted σ c passes) ∙ same_disks)
     (shape_unnumbered σ c passes few keeps none ∙ ap (λ (sh : Shape). let x : Shape = record sh { sequence = σ.shape.sequence } in x) same_shape)
 
 -- ---- what a call's one answer is

@@ -8,7 +8,7 @@ ghost use Rattle.sm_ready.specs.Does.{ShapesAs};
 ghost use Rattle.sm_ready.specs.Frames.{HasTrueImages, IsBesideTree};
 ghost use Rattle.sm_ready.specs.Refusing.{IsAllowed};
 ghost use Rattle.sm_ready.specs.Sessions.{IsOrderlyStore, IsTidyStore, IsReadyStore};
-ghost use Rattle.sm_ready.specs.Taken.{StoreTakesWhole};
+ghost use Rattle.sm_ready.specs.Taken.{StoreTakes};
 ghost use Rattle.sm_guests.specs.Taken.{answered};
 
 use crate::writing::write;
@@ -48,7 +48,7 @@ fn fill_with<S: Store>(
     ensures true_still { OnOk result (HasTrueImages S.Store store.new memory.new) }
     ensures shape { OnOk result (ShapesAs S.Store (Fill disk.now sector count byte) store.old memory.old store.new memory.new) }
     ensures taken { S.told → IsReadyStore S.Store store.old memory.old
-        → StoreTakesWhole S.Store (Fill disk.now sector count byte) store.old memory.old store.new memory.new (answered Done result) }
+        → StoreTakes S.Store (Fill disk.now sector count byte) store.old memory.old store.new memory.new (answered Done result) }
 {
     piece.fill(byte);
     let block = u64::from(store.geometry().block);
@@ -98,7 +98,7 @@ pub fn fill<S: Store>(
     ensures true_still { OnOk result (HasTrueImages S.Store store.new memory.new) }
     ensures shape { OnOk result (ShapesAs S.Store (Fill disk.now sector count byte) store.old memory.old store.new memory.new) }
     ensures taken { S.told → IsReadyStore S.Store store.old memory.old
-        → StoreTakesWhole S.Store (Fill disk.now sector count byte) store.old memory.old store.new memory.new (answered Done result) }
+        → StoreTakes S.Store (Fill disk.now sector count byte) store.old memory.old store.new memory.new (answered Done result) }
 {
     // No more buffers are free than the pool has.
     let _free = pool.free();

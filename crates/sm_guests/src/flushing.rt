@@ -8,7 +8,7 @@ ghost use Rattle.sm_ready.specs.Frames.{HasTrueImages};
 ghost use Rattle.sm_ready.specs.Refusing.{IsAllowed};
 ghost use Rattle.sm_ready.specs.Sessions.{IsOrderlyStore, IsTidyStore, IsReadyStore};
 ghost use Rattle.sm_ready.specs.declared.memory.Memory.{Memory};
-ghost use Rattle.sm_ready.specs.Taken.{StoreTakesWhole};
+ghost use Rattle.sm_ready.specs.Taken.{StoreTakes};
 ghost use Rattle.sm_guests.specs.Taken.{answered};
 
 use sm_base::Failed;
@@ -26,7 +26,7 @@ pub fn flush<S: Store>(store: &mut S) -> Result<(), Failed>
     ensures tidy_still { (m : Memory) → IsTidyStore S.Store store.old m → IsTidyStore S.Store store.new m }
     ensures true_still { (m : Memory) → HasTrueImages S.Store store.old m → HasTrueImages S.Store store.new m }
     ensures taken { S.told → (m : Memory) (disk : List ℕ) → IsOrderlyStore S.Store store.old m → IsReadyStore S.Store store.old m
-        → IsAllowed S.Store (Flush disk) store.old m → StoreTakesWhole S.Store (Flush disk) store.old m store.new m (answered Done result) }
+        → IsAllowed S.Store (Flush disk) store.old m → StoreTakes S.Store (Flush disk) store.old m store.new m (answered Done result) }
 {
     store.sync()
 }

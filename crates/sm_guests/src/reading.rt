@@ -8,7 +8,7 @@ ghost use Rattle.sm_machine.specs.Runs.{is_accepted};
 ghost use Rattle.sm_ready.specs.Frames.{HasTrueImages};
 ghost use Rattle.sm_ready.specs.Refusing.{IsAllowed};
 ghost use Rattle.sm_ready.specs.Sessions.{IsOrderlyStore, IsReadyStore};
-ghost use Rattle.sm_ready.specs.Taken.{StoreTakesWhole};
+ghost use Rattle.sm_ready.specs.Taken.{StoreTakes};
 
 use sm_base::{Failed, Refusal};
 use sm_machine::{Bytes, Reply};
@@ -42,7 +42,7 @@ pub fn read<S: Store>(
     ensures true_still { HasTrueImages S.Store store.new memory.now }
     ensures refused { IfOk result (λ r. is_accepted r ≡ false → (t : VolumeTable) (image : ℕ → List ℕ) → S.leaves store.new t image → S.leaves store.old t image) }
     ensures taken { S.told → IsReadyStore S.Store store.old memory.now
-        → StoreTakesWhole S.Store (Read disk.now sector count) store.old memory.now store.new memory.now result }
+        → StoreTakes S.Store (Read disk.now sector count) store.old memory.now store.new memory.now result }
 {
     let Ok(mut bytes) = vec![in alloc; 0; SECTOR * count as usize] else {
         return Ok(Reply::No(Refusal::NoMemory));

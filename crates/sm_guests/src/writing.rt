@@ -8,7 +8,7 @@ ghost use Rattle.sm_ready.specs.Does.{ShapesAs};
 ghost use Rattle.sm_ready.specs.Frames.{HasTrueImages, IsBesideTree};
 ghost use Rattle.sm_ready.specs.Refusing.{IsAllowed};
 ghost use Rattle.sm_ready.specs.Sessions.{IsOrderlyStore, IsTidyStore, IsReadyStore};
-ghost use Rattle.sm_ready.specs.Taken.{StoreTakesWhole};
+ghost use Rattle.sm_ready.specs.Taken.{StoreTakes};
 ghost use Rattle.sm_guests.specs.Taken.{answered};
 
 use sm_base::Failed;
@@ -45,7 +45,7 @@ pub fn write<S: Store>(
     ensures tidy_still { OnOk result (IsTidyStore S.Store store.new memory.new) }
     ensures true_still { OnOk result (HasTrueImages S.Store store.new memory.new) }
     ensures taken { S.told → IsReadyStore S.Store store.old memory.old
-        → StoreTakesWhole S.Store (Write disk.now sector bytes.now) store.old memory.old store.new memory.new (answered Done result) }
+        → StoreTakes S.Store (Write disk.now sector bytes.now) store.old memory.old store.new memory.new (answered Done result) }
 {
     let volume = image_name(&memory.tree, disk);
     let Some(mut row) = memory.tree.take(&volume) else {

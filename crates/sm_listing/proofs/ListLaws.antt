@@ -17,7 +17,7 @@ use Rattle.sm_record.specs.declared.records.Record.{Record}
 use Rattle.sm_machine.specs.Disks.{Disk}
 use Rattle.sm_machine.specs.Shapes.{Shape, DiskRecord, free}
 use Rattle.sm_machine.specs.Commits.{is_given_up, own_commits, gives_up}
-use Rattle.sm_machine.specs.Steps.{State, Outcome, disk_row, step, is_built, with_record, accepted, disks_next, shape_after, reply_to}
+use Rattle.sm_machine.specs.Steps.{State, Outcome, disk_row, step, with_record, accepted, disks_next, shape_after, reply_to}
 use Rattle.sm_machine.specs.Refusals.{refusal, is_reserved, is_unknown, is_taken, is_in_use, is_not_attached, is_read_only, is_raw_disk, is_out_of_range, is_bad_size, is_shrink, is_deep, is_too_many, is_spent, lacks_space, need, named, new_uuid, forked}
 use Rattle.sm_machine.specs.WellFormed.{IsWellFormed}
 use Rattle.sm_machine.specs.declared.commands.Command.TheVariants.{List as ListDisks}
@@ -100,13 +100,13 @@ unfolding refusal is_reserved is_unknown is_taken is_in_use is_not_attached is_r
 never s = ap (λ b. first_some (given b (NoSpace 0 (free s)) ∷ [])) (le-ltb (free s) 0 (omega arith))
 
 step_reply : (σ : State) → (step σ ListDisks).reply ≡ reply.List (map disk_row σ.disks)
-unfolding is_built accepted reply_to
-step_reply σ = ap (λ (o : Outcome). o.reply) (step_by σ ListDisks None refl (never σ.shape))
+unfolding accepted reply_to
+step_reply σ = ap (λ (o : Outcome). o.reply) (step_by σ ListDisks None (never σ.shape))
 
 -- and leaves the state
 pub step_after : (σ : State) → σ.shape.sequence < 2 ^ 48 → (step σ ListDisks).after ≡ σ
-unfolding is_built disks_next shape_after own_commits is_given_up gives_up
-step_after σ few = step_still σ ListDisks refl (never σ.shape) few refl refl refl refl
+unfolding disks_next shape_after own_commits is_given_up gives_up
+step_after σ few = step_still σ ListDisks (never σ.shape) few refl refl refl refl
 
 pub law_list : (s : Site) (t : VolumeTable) (area : Held) (m : Known) (rows : List DiskRow) → rows ≡ listed m.rows m.places → IsOrderly s t m → IsReady s t area m → reply.List rows ≡ (step (state_in s t area m) ListDisks).reply
 law_list s t area m rows is o ready =

@@ -7,7 +7,7 @@ use Rattle.sm_machine.specs.declared.replies.Reply.TheVariants as reply
 use Rattle.sm_machine.specs.Disks.{Disk}
 use Rattle.sm_machine.specs.Shapes.{Shape}
 use Rattle.sm_machine.specs.Refusals.{refusal}
-use Rattle.sm_machine.specs.Steps.{State, reply_to, accepted, unless_refused, step_whole, is_built, if_built, step}
+use Rattle.sm_machine.specs.Steps.{State, reply_to, accepted, unless_refused, step}
 
 -- an accepted command is not answered with a refusal
 accepted_reply : (disks : List Disk) (s : Shape) (c : Command) (r : Refusal) → reply_to disks s c ≡ reply.No r → ⊥
@@ -33,14 +33,6 @@ unfolding accepted
 by_refusal (Some q) σ c r e = refl
 by_refusal None σ c r e = absurd (accepted_reply σ.disks σ.shape c r e)
 
-pub whole_keeps : (σ : State) (c : Command) (r : Refusal) → (step_whole σ c).reply ≡ reply.No r → (step_whole σ c).after ≡ σ
-unfolding step_whole
-whole_keeps σ c r e = by_refusal (refusal σ.shape c) σ c r e
-
-by_built : (b : Bool) (σ : State) (c : Command) (r : Refusal) → (if_built b σ c).reply ≡ reply.No r → (if_built b σ c).after ≡ σ
-by_built true σ c r e = whole_keeps σ c r e
-by_built false σ c r e = refl
-
-pub built_keeps : (σ : State) (c : Command) (r : Refusal) → (step σ c).reply ≡ reply.No r → (step σ c).after ≡ σ
+pub refused_keeps : (σ : State) (c : Command) (r : Refusal) → (step σ c).reply ≡ reply.No r → (step σ c).after ≡ σ
 unfolding step
-built_keeps σ c r e = by_built (is_built σ.shape c) σ c r e
+refused_keeps σ c r e = by_refusal (refusal σ.shape c) σ c r e

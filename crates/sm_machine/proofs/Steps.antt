@@ -12,7 +12,7 @@ use Rattle.sm_machine.specs.Shapes.{Shape, risen, last_sequence}
 use Rattle.sm_machine.specs.Refusals.{refusal, named, new_uuid, forked, images_needed, need, is_reserved, is_unknown, is_taken, is_deep, is_too_many, is_spent, lacks_space}
 use Rattle.sm_machine.specs.Collector.{next_step, collected}
 use Rattle.sm_machine.specs.Commits.{folds, gives_up, is_given_up, commits, own_commits, one_if}
-use Rattle.sm_machine.specs.Steps.{State, accepted, unless_refused, step_whole, is_built, if_built, step, given_up, shape_after, shape_next, delete_shape, attach_shape, resize_shape, fork_shape}
+use Rattle.sm_machine.specs.Steps.{State, accepted, unless_refused, step, given_up, shape_after, shape_next, delete_shape, attach_shape, resize_shape, fork_shape}
 use Rattle.sm_machine.specs.WellFormed.{IsWellFormed}
 use Rattle.sm_machine.proofs.Passed.{IsPassed, passed}
 use Rattle.sm_machine.proofs.Numbers.{risen-up, risen-last}
@@ -103,14 +103,6 @@ unfolding accepted
 by_refusal σ c (Some r) e w = w
 by_refusal σ c None e w = next_keeps σ.shape c w (passed σ.shape c e)
 
-pub whole_keeps_shape : (σ : State) (c : Command) → IsWellFormed σ.shape → IsWellFormed ((step_whole σ c).after.shape)
-unfolding step_whole
-whole_keeps_shape σ c w = by_refusal σ c (refusal σ.shape c) refl w
-
-by_built : (σ : State) (c : Command) (b : Bool) → IsWellFormed σ.shape → IsWellFormed ((if_built b σ c).after.shape)
-by_built σ c true w = whole_keeps_shape σ c w
-by_built σ c false w = w
-
-pub built_keeps_shape : (σ : State) (c : Command) → IsWellFormed σ.shape → IsWellFormed ((step σ c).after.shape)
+pub step_keeps_shape : (σ : State) (c : Command) → IsWellFormed σ.shape → IsWellFormed ((step σ c).after.shape)
 unfolding step
-built_keeps_shape σ c w = by_built σ c (is_built σ.shape c) w
+step_keeps_shape σ c w = by_refusal σ c (refusal σ.shape c) refl w

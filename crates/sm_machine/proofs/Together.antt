@@ -22,7 +22,7 @@ use Rattle.sm_base.specs.declared.operations.Plan.{Plan}
 use Rattle.sm_base.specs.declared.operations.Plan.TheVariants as plan
 use Rattle.sm_machine.specs.Collector.{Pair, next_step, plan_idle, plan_running, plan_copy, copy_or, relink_or, blocked, table_of, next_block, pairs, leaves, fits, target, is_garbage, is_loose, enlarged, collected, copied, turned, linked, given_block}
 use Rattle.sm_machine.specs.Commits.{is_given_up}
-use Rattle.sm_machine.specs.Steps.{State, accepted, unless_refused, step_whole, is_built, if_built, step, given_up, shape_after, shape_next, disks_next, is_record, with_record, fork_disks, fork_records, fork_images, fork_shape, new_image, write_shape, written_image, attach_images, written_disk, grown_disk}
+use Rattle.sm_machine.specs.Steps.{State, accepted, unless_refused, step, given_up, shape_after, shape_next, disks_next, is_record, with_record, fork_disks, fork_records, fork_images, fork_shape, new_image, write_shape, written_image, attach_images, written_disk, grown_disk}
 use Rattle.sm_machine.specs.WellFormed.{IsWellFormed, HasImage, AreDisksOf, record_of}
 use Rattle.common_laws.proofs.Lists.{In-map, In-map_at, In-filter, In-insert, find-some}
 use Rattle.sm_machine.proofs.Changes.{when-key}
@@ -406,17 +406,9 @@ unfolding accepted
 by_refusal σ c (Some r) e w a = a
 by_refusal σ c None e w a = next_together σ.disks σ.shape c w a (passed σ.shape c e)
 
-pub whole_keeps_disks : (σ : State) (c : Command) → IsWellFormed σ.shape → AreDisksOf σ.disks σ.shape → AreDisksOf ((step_whole σ c).after.disks) ((step_whole σ c).after.shape)
-unfolding step_whole
-whole_keeps_disks σ c w a = by_refusal σ c (refusal σ.shape c) refl w a
-
-by_built : (σ : State) (c : Command) (b : Bool) → IsWellFormed σ.shape → AreDisksOf σ.disks σ.shape → AreDisksOf ((if_built b σ c).after.disks) ((if_built b σ c).after.shape)
-by_built σ c true w a = whole_keeps_disks σ c w a
-by_built σ c false w a = a
-
-pub built_keeps_disks : (σ : State) (c : Command) → IsWellFormed σ.shape → AreDisksOf σ.disks σ.shape → AreDisksOf ((step σ c).after.disks) ((step σ c).after.shape)
+pub step_keeps_disks : (σ : State) (c : Command) → IsWellFormed σ.shape → AreDisksOf σ.disks σ.shape → AreDisksOf ((step σ c).after.disks) ((step σ c).after.shape)
 unfolding step
-built_keeps_disks σ c w a = by_built σ c (is_built σ.shape c) w a
+step_keeps_disks σ c w a = by_refusal σ c (refusal σ.shape c) refl w a
 
 -- the collector leaves the disks as they are
 gc_by_refusal : (σ : State) (o : Option Refusal) → (unless_refused o σ Gc).after.disks ≡ σ.disks
@@ -424,6 +416,6 @@ unfolding accepted disks_next
 gc_by_refusal σ (Some r) = refl
 gc_by_refusal σ None = refl
 
-pub collector_keeps : (σ : State) → (step_whole σ Gc).after.disks ≡ σ.disks
-unfolding step_whole
+pub collector_keeps : (σ : State) → (step σ Gc).after.disks ≡ σ.disks
+unfolding step
 collector_keeps σ = gc_by_refusal σ (refusal σ.shape Gc)

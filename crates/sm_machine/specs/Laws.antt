@@ -14,12 +14,12 @@ use Rattle.sm_base.specs.Numbers.{IsGeometry}
 use Rattle.sm_machine.specs.declared.commands.Command.TheVariants.{Gc}
 use Rattle.sm_machine.specs.Shapes.{Shape, ImageRow, Attachment, free, image_uuid, is_image_of, is_vhd, new_shape, on_image, reads_through, refs, thick_in, with_image, without_image}
 use Rattle.sm_machine.specs.Collector.{next_step, is_garbage, is_loose, pairs, leaves, debt, IsLess}
-use Rattle.sm_machine.specs.Steps.{State, Outcome, is_attached, shape_next, step_whole}
+use Rattle.sm_machine.specs.Steps.{State, Outcome, is_attached, shape_next, step}
 use Rattle.sm_machine.specs.WellFormed.{AreDisksOf, IsOperation, IsSize, IsWellFormed}
 
 -- a refused command changes neither disks nor shape
-abbrev pub RefusedKeeps : (State → Command → Outcome) → Type 0
-RefusedKeeps by = (σ : State) (c : Command) (r : Refusal) → (by σ c).reply ≡ reply.No r → (by σ c).after ≡ σ
+abbrev pub RefusedKeeps : Type 0
+RefusedKeeps = (σ : State) (c : Command) (r : Refusal) → (step σ c).reply ≡ reply.No r → (step σ c).after ≡ σ
 
 -- no operation runs; no hidden image is without children, no volume is to be cut, no image may be folded into its parent
 pub record IsDone (s : Shape) : Type 0 where
@@ -42,8 +42,8 @@ abbrev pub NewHasNoDisks : Type 0
 NewHasNoDisks = (extent block entries extents others : ℕ) → AreDisksOf [] (new_shape extent block entries extents others)
 
 -- a step keeps a shape well-formed
-abbrev pub StepKeepsShape : (State → Command → Outcome) → Type 0
-StepKeepsShape by = (σ : State) (c : Command) → IsWellFormed σ.shape → IsWellFormed ((by σ c).after.shape)
+abbrev pub StepKeepsShape : Type 0
+StepKeepsShape = (σ : State) (c : Command) → IsWellFormed σ.shape → IsWellFormed ((step σ c).after.shape)
 
 -- a step that does something
 abbrev pub is_working : Plan → Bool
@@ -56,12 +56,12 @@ abbrev pub StepLowersDebt : Type 0
 StepLowersDebt = (s : Shape) → IsWellFormed s → is_working (next_step s) ≡ true → IsLess (debt (shape_next s Gc)) (debt s)
 
 -- a step keeps disks and shape together
-abbrev pub StepKeepsDisks : (State → Command → Outcome) → Type 0
-StepKeepsDisks by = (σ : State) (c : Command) → IsWellFormed σ.shape → AreDisksOf σ.disks σ.shape → AreDisksOf ((by σ c).after.disks) ((by σ c).after.shape)
+abbrev pub StepKeepsDisks : Type 0
+StepKeepsDisks = (σ : State) (c : Command) → IsWellFormed σ.shape → AreDisksOf σ.disks σ.shape → AreDisksOf ((step σ c).after.disks) ((step σ c).after.shape)
 
 -- no step of the collector changes a disk
 abbrev pub CollectorKeepsDisks : Type 0
-CollectorKeepsDisks = (σ : State) → (step_whole σ Gc).after.disks ≡ σ.disks
+CollectorKeepsDisks = (σ : State) → (step σ Gc).after.disks ≡ σ.disks
 
 -- ---- moments inside a command
 

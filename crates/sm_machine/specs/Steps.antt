@@ -232,31 +232,9 @@ abbrev pub unless_refused : Option Refusal → State → Command → Outcome
 unless_refused (Some r) σ c = refused σ r
 unless_refused None σ c = accepted σ c
 
--- the step of every command
-unfoldable pub step_whole : State → Command → Outcome
-step_whole σ c = unless_refused (refusal σ.shape c) σ c
-
--- whether an operation folds a leaf, and whether a step of the collector begins to
-unfoldable pub is_fold : Op → Bool
-is_fold (op.Leaf leaf parent cursor) = true
-is_fold _ = false
-
-unfoldable pub begins_fold : Plan → Bool
-begins_fold (plan.Leaf leaf parent to) = true
-begins_fold _ = false
-
--- what is built today: all but the folding of leaves
-unfoldable pub is_built : Shape → Command → Bool
-is_built s Gc = not (is_fold s.op || begins_fold (next_step s))
-is_built s _ = true
-
-abbrev pub if_built : Bool → State → Command → Outcome
-if_built true σ c = step_whole σ c
-if_built false σ c = refused σ BadLine
-
--- the step of a command that is built; any other line spells no command yet
+-- the step of a command
 unfoldable pub step : State → Command → Outcome
-step σ c = if_built (is_built σ.shape c) σ c
+step σ c = unless_refused (refusal σ.shape c) σ c
 
 abbrev pub step_or_bad : Option Command → State → Outcome
 step_or_bad None σ = refused σ BadLine

@@ -1,12 +1,10 @@
 //! Laws of the machine. Each function does nothing: its clause is the law, and the check proves it.
 
 ghost use Rattle.sm_machine.specs.Laws.{CollectorKeepsDisks, ExtentsKeepShape, IdleIsDone, NewHasNoDisks, NewIsWellFormed, RefusedKeeps, SizeKeepsShape, StepKeepsDisks, StepKeepsShape, StepLowersDebt, UsesFollow};
-ghost use Rattle.sm_machine.specs.Steps.{step, step_whole};
 
 /// A refused command changes neither disks nor shape.
 pub fn refused_step_keeps()
-    ensures built { RefusedKeeps step }
-    ensures whole { RefusedKeeps step_whole }
+    ensures { RefusedKeeps }
 {}
 
 /// The collector is idle only where no operation runs, no hidden image is without children, no volume
@@ -17,8 +15,7 @@ pub fn idle_is_done()
 
 /// A step keeps a shape well-formed.
 pub fn step_keeps_shape()
-    ensures built { StepKeepsShape step }
-    ensures whole { StepKeepsShape step_whole }
+    ensures { StepKeepsShape }
 {}
 
 /// The shape of a new repository is well-formed, and has no disks.
@@ -35,8 +32,7 @@ pub fn step_lowers_debt()
 /// A step keeps disks and shape together: the disks are those of the records, and each is as large as
 /// its image.
 pub fn step_keeps_disks()
-    ensures built { StepKeepsDisks step }
-    ensures whole { StepKeepsDisks step_whole }
+    ensures { StepKeepsDisks }
 {}
 
 /// No step of the collector changes a disk.

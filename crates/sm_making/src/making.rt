@@ -22,7 +22,7 @@ ghost use Rattle.vg_meta.specs.declared.changes.Change.TheVariants.{Create, Mark
 ghost use Rattle.vg_meta.specs.declared.changes.Tag.TheVariants.{Fresh};
 ghost use Rattle.vg_volumes.specs.Stored.{stored, sectors_in, Stays, OnlyReads, Writes, Counts, Leaves, IsEitherOf, CanCommit, Commits, FailsToCommit};
 ghost use Rattle.sm_machine.specs.Disks.{with_disk};
-ghost use Rattle.sm_machine.specs.Steps.{State, step_whole};
+ghost use Rattle.sm_machine.specs.Steps.{State, step};
 ghost use Rattle.sm_machine.specs.declared.commands.Command.TheVariants as command;
 ghost use Rattle.sm_record.specs.Records.{IsRecord};
 ghost use Rattle.sm_mgt.specs.Places.{HasAllPlaces, place_for};
@@ -233,7 +233,7 @@ fn make_disk<S: Store>(
     ensures true_still { OnOk result (HasTrueImages S.Store store.new memory.new) }
     ensures shape { OnOk result ((σ : State) (d : IsForDisk (S.site store.old) (table_alone (S.table store.old)) (known memory.old) entry.uuid entry.label extents.items)
         → σ.shape ≡ shape_in (S.site store.old) (table_alone (S.table store.old)) (known memory.old)
-        → shape_in (S.site store.old) (table_alone (S.table store.new)) (known memory.new) ≡ (step_whole σ (command.Create entry.uuid d.size true entry.label)).after.shape) }
+        → shape_in (S.site store.old) (table_alone (S.table store.new)) (known memory.new) ≡ (step σ (command.Create entry.uuid d.size true entry.label)).after.shape) }
     ensures done { S.told → IsReadyStore S.Store store.old memory.old
         → HasDone (S.site store.old) (table_alone (S.table store.old)) (table_alone (S.table store.new)) (S.area store.old) (S.area store.new) (known memory.new)
         (StoreLeaves S.Store store.old) (StoreLeaves S.Store store.new) (result ≡ Ok tt)
@@ -289,7 +289,7 @@ pub(crate) fn make_raw<S: Store>(
     ensures true_still { OnOk result (HasTrueImages S.Store store.new memory.new) }
     ensures shape { OnOk result ((σ : State) (d : IsForDisk (S.site store.old) (table_alone (S.table store.old)) (known memory.old) disk label extents.items)
         → σ.shape ≡ shape_in (S.site store.old) (table_alone (S.table store.old)) (known memory.old)
-        → shape_in (S.site store.old) (table_alone (S.table store.new)) (known memory.new) ≡ (step_whole σ (command.Create disk d.size true label)).after.shape) }
+        → shape_in (S.site store.old) (table_alone (S.table store.new)) (known memory.new) ≡ (step σ (command.Create disk d.size true label)).after.shape) }
     ensures done { S.told → IsReadyStore S.Store store.old memory.old → (result ≡ Err fault.NoMemory → ⊥)
         → HasDone (S.site store.old) (table_alone (S.table store.old)) (table_alone (S.table store.new)) (S.area store.old) (S.area store.new) (known memory.new)
         (StoreLeaves S.Store store.old) (StoreLeaves S.Store store.new) (result ≡ Ok tt)

@@ -13,7 +13,7 @@ ghost use Rattle.sm_machine.specs.Runs.{is_accepted};
 ghost use Rattle.sm_ready.specs.Frames.{HasCommits, HasTrueImages};
 ghost use Rattle.sm_ready.specs.Refusing.{IsAllowed};
 ghost use Rattle.sm_ready.specs.Sessions.{IsOrderlyStore, IsTidyStore, IsReadyStore, HasRows, HasTreeRoom, StaysInUse};
-ghost use Rattle.sm_ready.specs.Taken.{StoreTakesWhole};
+ghost use Rattle.sm_ready.specs.Taken.{StoreTakes};
 ghost use Rattle.sm_making.specs.Vhds.{IsVhdOnLeast, HasHead, made_head, made_row, vhd_sectors};
 
 use crate::vhd_making::make_vhd;
@@ -69,7 +69,7 @@ pub fn create_vhd<S: Store>(
     ensures head { IfOk result (λ r. is_accepted r ≡ true → Gives S.Store (Vhd disk.now) (HasHead (sectors_in (stored S.Store store.new) (Vhd disk.now))
         (made_head (S.site store.old) (table_alone (S.table store.old)) disk.now now (vhd_sectors (S.site store.old).geometry.block size))) store.new) }
     ensures taken { S.told → IsReadyStore S.Store store.old memory.old
-        → StoreTakesWhole S.Store (Create disk.now size false label.now) store.old memory.old store.new memory.new result }
+        → StoreTakes S.Store (Create disk.now size false label.now) store.old memory.old store.new memory.new result }
 {
     let geometry = store.geometry();
     let block = u64::from(geometry.block);

@@ -22,7 +22,7 @@ ghost use Rattle.vhd_image.specs.declared.images.Body.TheVariants.{Vhd};
 ghost use Rattle.vhd_volumes.specs.Steps.{Gives};
 ghost use Rattle.vhd_chain.specs.Trees.{with_row};
 ghost use Rattle.sm_machine.specs.Disks.{with_disk};
-ghost use Rattle.sm_machine.specs.Steps.{State, step_whole};
+ghost use Rattle.sm_machine.specs.Steps.{State, step};
 ghost use Rattle.sm_machine.specs.declared.commands.Command.TheVariants as command;
 ghost use Rattle.sm_record.specs.Records.{IsRecord};
 ghost use Rattle.sm_mgt.specs.Places.{place_for};
@@ -138,7 +138,7 @@ fn make_vhd_disk<S: Store>(
         (made_head (S.site store.old) (table_alone (S.table store.old)) entry.uuid now sectors)) store.new) }
     ensures shape { OnOk result ((σ : State) (d : IsForVhd (S.site store.old) (table_alone (S.table store.old)) (known memory.old) entry.uuid entry.label extents.items sectors)
         → σ.shape ≡ shape_in (S.site store.old) (table_alone (S.table store.old)) (known memory.old)
-        → shape_in (S.site store.old) (table_alone (S.table store.new)) (known memory.new) ≡ (step_whole σ (command.Create entry.uuid d.size false entry.label)).after.shape) }
+        → shape_in (S.site store.old) (table_alone (S.table store.new)) (known memory.new) ≡ (step σ (command.Create entry.uuid d.size false entry.label)).after.shape) }
     ensures done { S.told → IsReadyStore S.Store store.old memory.old
         → HasDone (S.site store.old) (table_alone (S.table store.old)) (table_alone (S.table store.new)) (S.area store.old) (S.area store.new) (known memory.new)
         (StoreLeaves S.Store store.old) (StoreLeaves S.Store store.new) (result ≡ Ok tt)
@@ -202,7 +202,7 @@ pub(crate) fn make_vhd<S: Store>(
         (made_head (S.site store.old) (table_alone (S.table store.old)) disk now sectors)) store.new) }
     ensures shape { OnOk result ((σ : State) (d : IsForVhd (S.site store.old) (table_alone (S.table store.old)) (known memory.old) disk label extents.items sectors)
         → σ.shape ≡ shape_in (S.site store.old) (table_alone (S.table store.old)) (known memory.old)
-        → shape_in (S.site store.old) (table_alone (S.table store.new)) (known memory.new) ≡ (step_whole σ (command.Create disk d.size false label)).after.shape) }
+        → shape_in (S.site store.old) (table_alone (S.table store.new)) (known memory.new) ≡ (step σ (command.Create disk d.size false label)).after.shape) }
     ensures done { S.told → IsReadyStore S.Store store.old memory.old → (result ≡ Err fault.NoMemory → ⊥)
         → HasDone (S.site store.old) (table_alone (S.table store.old)) (table_alone (S.table store.new)) (S.area store.old) (S.area store.new) (known memory.new)
         (StoreLeaves S.Store store.old) (StoreLeaves S.Store store.new) (result ≡ Ok tt)

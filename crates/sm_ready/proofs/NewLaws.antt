@@ -24,10 +24,10 @@ use Rattle.vg_meta.proofs.RowLaws.{row_of-put_same, row_of-put_other, names_of-w
 use Rattle.vg_volumes.specs.Sites.{Site, Fits}
 use Rattle.sm_machine.specs.Shapes.{ImageRow, Shape, image_limit, image_uuid, is_image_of, refs}
 use Rattle.sm_machine.specs.Refusals.{refusal}
-use Rattle.sm_machine.specs.Steps.{State, new_image, step_whole}
+use Rattle.sm_machine.specs.Steps.{State, new_image, step}
 use Rattle.sm_machine.specs.declared.commands.Command.{Command}
 use Rattle.sm_machine.specs.declared.commands.Command.TheVariants as command
-use Rattle.sm_machine.proofs.Steps.{whole_keeps_shape}
+use Rattle.sm_machine.proofs.Steps.{step_keeps_shape}
 use Rattle.sm_machine.specs.WellFormed.{IsWellFormed, is_image_name}
 use Rattle.sm_record.specs.Records.{IsRecord}
 use Rattle.sm_record.specs.declared.records.Record.{Record}
@@ -258,7 +258,7 @@ module _ (s : Site) (t : VolumeTable) (m : Known) (own : Name) (es : List ℕ) (
   -- the shape is that of a step of the machine, for each command that makes such a disk
   pub shape_made : (σ : State) (bytes : ℕ) (raw : Bool) → σ.shape ≡ shape_in s t m → refusal (shape_in s t m) (command.Create r.uuid bytes raw r.label) ≡ None → r.origin ≡ None → r.read_only ≡ false
       → machine_row added ≡ new_image (shape_in s t m) r.uuid bytes raw
-      → shape_in s (after begun own) made_known ≡ (step_whole σ (command.Create r.uuid bytes raw r.label)).after.shape
+      → shape_in s (after begun own) made_known ≡ (step σ (command.Create r.uuid bytes raw r.label)).after.shape
   unfolding shape_in
   shape_made σ bytes raw is accepted origin writable row =
       shape_last s begun m own added k r (made own true es) made_is
@@ -267,5 +267,5 @@ module _ (s : Site) (t : VolumeTable) (m : Known) (own : Name) (es : List ℕ) (
 -- ---- what gives the premises of the machine's shape
 
 -- what the machine steps to is well formed
-pub well_target : (s : Site) (t : VolumeTable) (m : Known) (c : Command) (σ : State) (to : Shape) → IsOrderly s t m → σ.shape ≡ shape_in s t m → to ≡ (step_whole σ c).after.shape → ∥ IsWellFormed to ∥₁
-well_target s t m c σ to o is steps = ∥∥₁_map o.well_formed (λ w. subst IsWellFormed (sym steps) (whole_keeps_shape σ c (subst IsWellFormed (sym is) w)))
+pub well_target : (s : Site) (t : VolumeTable) (m : Known) (c : Command) (σ : State) (to : Shape) → IsOrderly s t m → σ.shape ≡ shape_in s t m → to ≡ (step σ c).after.shape → ∥ IsWellFormed to ∥₁
+well_target s t m c σ to o is steps = ∥∥₁_map o.well_formed (λ w. subst IsWellFormed (sym steps) (step_keeps_shape σ c (subst IsWellFormed (sym is) w)))

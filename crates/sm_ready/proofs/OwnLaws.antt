@@ -18,7 +18,7 @@ use Rattle.sm_machine.specs.declared.commands.Command.{Command}
 use Rattle.sm_machine.specs.Commits.{commits, is_given_up, own_commits, one_if}
 use Rattle.sm_machine.specs.Refusals.{named, refusal, is_unknown, of_some}
 use Rattle.sm_machine.specs.Shapes.{DiskRecord, ImageRow, Shape, disk_image, disk_record, image_uuid, is_image_of, risen}
-use Rattle.sm_machine.specs.Steps.{State, accepted, given_up, shape_after, shape_next, step_whole, unless_refused}
+use Rattle.sm_machine.specs.Steps.{State, accepted, given_up, shape_after, shape_next, step, unless_refused}
 use Rattle.sm_machine.specs.WellFormed.{HasRecord, IsWellFormed}
 use Rattle.sm_machine.proofs.Attaches.{is_its_image}
 use Rattle.sm_machine.proofs.Guests.{disk_image_is, disks_own}
@@ -95,8 +95,8 @@ other_image s t m u r w there uuid p i other = by (is_image_of u (machine_row p)
 
 -- ---- the step of a command that is not refused
 
-pub step_shape : (σ : State) (c : Command) → refusal σ.shape c ≡ None → (step_whole σ c).after.shape ≡ shape_next σ.shape c
-unfolding step_whole accepted
+pub step_shape : (σ : State) (c : Command) → refusal σ.shape c ≡ None → (step σ c).after.shape ≡ shape_next σ.shape c
+unfolding step accepted
 step_shape σ c passes = ap (λ x. (unless_refused x σ c).after.shape) passes
 
 -- one that makes no commit and gives no operation up changes no more than its own

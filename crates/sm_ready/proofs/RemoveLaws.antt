@@ -24,14 +24,14 @@ use Rattle.sm_machine.specs.Commits.{commits, own_commits, plan_commits, is_give
 use Rattle.common_laws.proofs.Booleans.{not_false}
 use Rattle.common_laws.specs.Lists.{In}
 use Rattle.sm_machine.specs.Shapes.{Shape, ImageRow, DiskRecord, same_image, is_image as is_image_in, is_parent, is_image_of, refs, risen, without_image, image_uuid, image_limit}
-use Rattle.sm_machine.specs.Steps.{State, step_whole, shape_next, shape_after, unless_refused, accepted}
+use Rattle.sm_machine.specs.Steps.{State, step, shape_next, shape_after, unless_refused, accepted}
 use Rattle.sm_machine.specs.Laws.{IsUnused}
 use Rattle.sm_machine.proofs.Uses.{less_uses}
 use Rattle.sm_machine.specs.WellFormed.{IsWellFormed, is_image_name}
 use Rattle.sm_machine.specs.declared.commands.Command.TheVariants.{Gc}
 use Rattle.common_laws.proofs.Lists.{In-filter, filter-In, In-map_at, In-map}
 use Rattle.sm_machine.proofs.Listed.{map-filter}
-use Rattle.sm_machine.proofs.Steps.{whole_keeps_shape}
+use Rattle.sm_machine.proofs.Steps.{step_keeps_shape}
 use Rattle.sm_base.specs.declared.operations.Op.{Op}
 use Rattle.sm_base.specs.declared.refusals.Refusal.{Refusal}
 use Rattle.sm_machine.specs.Refusals.{refusal}
@@ -89,8 +89,8 @@ abbrev collected_by : Shape → plan_type.Plan → Shape
 collected_by σ p = record (collected p σ) { sequence = risen σ.sequence (0 + plan_commits σ p) }
 
 removed_shape : (σ : State) (x : Name) → refusal σ.shape Gc ≡ None → next_step σ.shape ≡ plan.Remove x
-    → (step_whole σ Gc).after.shape ≡ record σ.shape { images = without_image x σ.shape.images; sequence = risen σ.shape.sequence 1 }
-unfolding step_whole accepted shape_next shape_after commits own_commits plan_commits is_given_up gives_up collected
+    → (step σ Gc).after.shape ≡ record σ.shape { images = without_image x σ.shape.images; sequence = risen σ.shape.sequence 1 }
+unfolding step accepted shape_next shape_after commits own_commits plan_commits is_given_up gives_up collected
 removed_shape σ x taken planned = ap (λ (r : Option Refusal). (unless_refused r σ Gc).after.shape) taken ∙ ap (collected_by σ.shape) planned
 
 images_removed : (rows : List TreeRow) (x : Name) → map machine_row (filter (λ r. not (same_image (row_name r) x)) rows) ≡ without_image x (map machine_row rows)
@@ -195,7 +195,7 @@ shape_with s t m x r o g =
     ap₂ (λ (is : List ImageRow) (rs : List DiskRecord). record (shape_in s t m) { records = rs; images = is; sequence = raised t.sequence }) (images_removed m.rows x) (records_removed s t m x r o g)
 
 pub shape_removed : (s : Site) (t : VolumeTable) (m : Known) (x : Name) (r : TreeRow) (σ : State) → IsOrderly s t m → IsGarbage s t m x r → σ.shape ≡ shape_in s t m
-    → shape_in s (applied t (Remove x)) (without_row x m) ≡ (step_whole σ Gc).after.shape
+    → shape_in s (applied t (Remove x)) (without_row x m) ≡ (step σ Gc).after.shape
 unfolding shape_in
 shape_removed s t m x r σ o g is =
     shape_with s t m x r o g
@@ -223,7 +223,7 @@ orderly_removed s t m x r σ o g is allows =
       entries = names_without t.volumes x (no_journal x g.image) ∙ o.entries;
       places = o.places;
       stands = λ q i. o.stands q (In-filter (λ r. not (same_image (row_name r) x)) m.rows q i).0;
-      well_formed = ∥∥₁_map o.well_formed (λ w. subst IsWellFormed (sym is_it) (whole_keeps_shape σ Gc (subst IsWellFormed (sym is) w)));
+      well_formed = ∥∥₁_map o.well_formed (λ w. subst IsWellFormed (sym is_it) (step_keeps_shape σ Gc (subst IsWellFormed (sym is) w)));
       roomy = idle_roomy (shape_in s (applied t (Remove x)) (without_row x m)) m.op refl g.idle;
       counts = λ n. o.counts n ∙ sym (refs_removed s t m x n r (raised t.sequence) o g) ∙ sym (ap (refs n) (shape_with s t m x r o g));
     }

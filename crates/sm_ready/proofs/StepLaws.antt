@@ -13,7 +13,7 @@ use Rattle.sm_machine.specs.Commits.{commits, own_commits, is_given_up, gives_up
 use Rattle.common_laws.specs.Lists.{In}
 use Rattle.sm_machine.specs.Refusals.{refusal}
 use Rattle.sm_machine.specs.Shapes.{Shape, ImageRow, DiskRecord, risen, with_image, image_uuid}
-use Rattle.sm_machine.specs.Steps.{State, step_whole, shape_next, shape_after, accepted, unless_refused, create_shape, new_image, with_record}
+use Rattle.sm_machine.specs.Steps.{State, step, shape_next, shape_after, accepted, unless_refused, create_shape, new_image, with_record}
 use Rattle.sm_machine.specs.declared.commands.Command.TheVariants.{Create}
 use Rattle.sm_record.specs.declared.records.Record.{Record}
 use Rattle.sm_ready.specs.Known.{Known, machine_row, machine_record, shape_in, is_shown}
@@ -24,8 +24,8 @@ use Rattle.vhd_chain.specs.Trees.{row_name}
 use Rattle.vg_meta.specs.declared.changes.Change.TheVariants as change
 
 created_shape : (σ : State) (u : List ℕ) (bytes : ℕ) (raw : Bool) (label : List ℕ) → refusal σ.shape (Create u bytes raw label) ≡ None
-    → (step_whole σ (Create u bytes raw label)).after.shape ≡ record (create_shape σ.shape u bytes raw label) { sequence = risen σ.shape.sequence 2 }
-unfolding step_whole accepted shape_next shape_after commits own_commits is_given_up gives_up
+    → (step σ (Create u bytes raw label)).after.shape ≡ record (create_shape σ.shape u bytes raw label) { sequence = risen σ.shape.sequence 2 }
+unfolding step accepted shape_next shape_after commits own_commits is_given_up gives_up
 created_shape σ u bytes raw label taken = ap (λ (r : Option Refusal). (unless_refused r σ (Create u bytes raw label)).after.shape) taken
 
 -- the shape after the last commit, where the table from before the command was t0
@@ -38,7 +38,7 @@ risen_twice n = omega arith
 -- it is the machine's, for a raw image and any other
 pub stepped : (s : Site) (t0 : VolumeTable) (m : Known) (own : Name) (es : List ℕ) (added : TreeRow) (r : Record) (σ : State) (bytes : ℕ) (raw : Bool) → σ.shape ≡ shape_in s t0 m
     → refusal σ.shape (Create r.uuid bytes raw r.label) ≡ None → r.origin ≡ None → r.read_only ≡ false → machine_row added ≡ new_image (shape_in s t0 m) r.uuid bytes raw
-    → target s (applied t0 (change.Create own true es)) own added m r ≡ (step_whole σ (Create r.uuid bytes raw r.label)).after.shape
+    → target s (applied t0 (change.Create own true es)) own added m r ≡ (step σ (Create r.uuid bytes raw r.label)).after.shape
 unfolding shape_in
 stepped s t0 m own es added r σ bytes raw is taken origin writable row =
     ap₂ (λ (d : DiskRecord) (k : ℕ). record (shape_in s t0 m) { sequence = k; records = with_record d (shape_in s t0 m).records; images = with_image (machine_row added) (shape_in s t0 m).images })

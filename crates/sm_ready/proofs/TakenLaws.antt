@@ -21,7 +21,7 @@ use Rattle.sm_machine.specs.Runs.{is_accepted, is_settling}
 use Rattle.sm_machine.specs.Commits.{commits, is_given_up, one_if, own_commits}
 use Rattle.sm_machine.specs.Refusals.{refusal}
 use Rattle.sm_machine.specs.Shapes.{Shape, risen}
-use Rattle.sm_machine.specs.Steps.{State, Outcome, step, step_whole, is_built, if_built, given_up, shape_after, shape_next, disks_next, reply_to, accepted, refused, unless_refused}
+use Rattle.sm_machine.specs.Steps.{State, Outcome, step, given_up, shape_after, shape_next, disks_next, reply_to, accepted, refused, unless_refused}
 use Rattle.sm_run.specs.Between.{IsBetween}
 use Rattle.sm_standing.specs.Keeping.{IsKept}
 use Rattle.sm_standing.specs.Standing.{disks}
@@ -30,7 +30,7 @@ use Rattle.sm_ready.specs.Known.{known, shape_in}
 use Rattle.sm_ready.specs.Ready.{IsReady}
 use Rattle.sm_ready.specs.Sessions.{IsOrderlyStore, IsReadyStore, state_in, store_state}
 use Rattle.sm_ready.specs.Stores.{MayShow, StoreLeaves, content_in, store_content}
-use Rattle.sm_ready.specs.Taken.{StoreTakes, StoreTakesTo, StoreTakesWhole}
+use Rattle.sm_ready.specs.Taken.{StoreTakes, StoreTakesTo}
 use Rattle.sm_ready.specs.declared.memory.Memory.{Memory}
 use Rattle.sm_ready.proofs.CommitLaws.{IsSafe, ready_safe}
 use Rattle.sm_ready.proofs.LeaveLaws.{left_choice}
@@ -101,27 +101,21 @@ module _ (o : Outcome) {S : Type 0} (g : Ghosts S) (a b : S) (m n : Memory) (com
 
 -- ---- the step of a command
 
--- one that is not built yet is answered as a line that spells none
-pub step_unbuilt : (σ : State) (c : Command) → is_built σ.shape c ≡ false → step σ c ≡ refused σ BadLine
+-- it is refused, or accepted
+pub step_by : (σ : State) (c : Command) (o : Option Refusal) → refusal σ.shape c ≡ o → step σ c ≡ unless_refused o σ c
 unfolding step
-step_unbuilt σ c unbuilt = ap (λ b. if_built b σ c) unbuilt
+step_by σ c o is = ap (λ x. unless_refused x σ c) is
 
--- one that is built is refused, or accepted
-pub step_by : (σ : State) (c : Command) (o : Option Refusal) → is_built σ.shape c ≡ true → refusal σ.shape c ≡ o → step σ c ≡ unless_refused o σ c
-unfolding step step_whole
-step_by σ c o built is = ap (λ b. if_built b σ c) built ∙ ap (λ x. unless_refused x σ c) is
-
--- one of all commands is accepted where no cause applies
-pub whole_by : (σ : State) (c : Command) → refusal σ.shape c ≡ None → step_whole σ c ≡ accepted σ c
-unfolding step_whole
-whole_by σ c passes = ap (λ x. unless_refused x σ c) passes
+-- accepted where no cause applies
+pub step_accepted : (σ : State) (c : Command) → refusal σ.shape c ≡ None → step σ c ≡ accepted σ c
+step_accepted σ c passes = step_by σ c None passes
 
 -- an accepted one that changes neither disks nor shape, and makes no commit, leaves the state
-pub step_still : (σ : State) (c : Command) → is_built σ.shape c ≡ true → refusal σ.shape c ≡ None → σ.shape.sequence < 2 ^ 48 → disks_next σ.disks σ.shape c ≡ σ.disks → shape_after σ.shape c ≡ σ.shape → is_given_up σ.shape c ≡ false
+pub step_still : (σ : State) (c : Command) → refusal σ.shape c ≡ None → σ.shape.sequence < 2 ^ 48 → disks_next σ.disks σ.shape c ≡ σ.disks → shape_after σ.shape c ≡ σ.shape → is_given_up σ.shape c ≡ false
     → own_commits σ.shape c ≡ 0 → (step σ c).after ≡ σ
 unfolding accepted shape_next commits
-step_still σ c built passes few same_disks same_shape keeps none =
-    ap (λ (x : Outcome). x.after) (step_by σ c None built passes)
+step_still σ c passes few same_disks same_shape keeps none =
+    ap (λ (x : Outcome). x.after) (step_accepted σ c passes)
     ∙ ap₂ (λ (ds : List Disk) (sh : Shape). let x : State = record { disks = ds; shape = record (given_up (is_given_up σ.shape c) sh) { sequence = risen σ.shape.sequence (commits σ.shape c) } } in x) same_disks same_shape
     ∙ ap₂ (λ (b : Bool) (n : ℕ). let x : State = record σ { shape = record (given_up b σ.shape) { sequence = risen σ.shape.sequence (one_if b + n) } } in x) keeps none
     ∙ ap (λ (k : ℕ). let x : State = record σ { shape = record σ.shape { sequence = k } } in x) (omega arith)
@@ -146,7 +140,7 @@ unaccepted q e = true≢false (sym e)
 
 -- to this reply and this state
 module _ {o : Outcome} {S : Type 0} {g : Ghosts S} {a : S} {m : Memory} (h : IsTold g a m) (c : Command) where
-  -- refused, or not built: nothing was done
+  -- refused: nothing was done
   pub taken_refused : (q : Refusal) → o ≡ refused (store_state g a m) q → StoreTakesTo o g c a m a m (Ok (No q))
   taken_refused q is =
       taken_reads o g a a m m c (No q) h.orderly h.usable h.told h.ready h.now (reads_none a) (λ t image l. l) refl
@@ -179,18 +173,11 @@ module _ {o : Outcome} {S : Type 0} {g : Ghosts S} {a : S} {m : Memory} (h : IsT
     pub stopped_by : (f : Failed) → StoreTakesTo o g c a m b n (Err f)
     stopped_by f = taken_failed o g a b m n c (No NoMemory) h.orderly h.usable h.told h.ready h.now ok f stepped
 
--- the same of a command that is built
-module _ {S : Type 0} {g : Ghosts S} {a b : S} {m : Memory} (h : IsTold g a m) (c : Command) (n : Memory) {ok : Type 0} (built : is_built (store_state g a m).shape c ≡ true) (passes : refusal (store_state g a m).shape c ≡ None)
+-- the same of what the machine makes of the command
+module _ {S : Type 0} {g : Ghosts S} {a b : S} {m : Memory} (h : IsTold g a m) (c : Command) (n : Memory) {ok : Type 0} (passes : refusal (store_state g a m).shape c ≡ None)
     (done : HasDone (g.site a) (table_alone (g.table a)) (table_alone (g.table b)) (g.area a) (g.area b) (known n) (StoreLeaves g a) (StoreLeaves g b) ok (disks_next (store_state g a m).disks (store_state g a m).shape c)) where
-  pub taken_accepted : (r : Reply) → r ≡ reply_to (store_state g a m).disks (store_state g a m).shape c → ok → shape_in (g.site a) (table_alone (g.table b)) (known n) ≡ (step_whole (store_state g a m) c).after.shape → StoreTakes g c a m b n (Ok r)
-  unfolding step
-  taken_accepted r replied fine shaped =
-      done_by h c n (step_by (store_state g a m) c None built passes) done r replied fine (shaped ∙ ap (λ x. (if_built x (store_state g a m) c).after.shape) (sym built))
+  pub taken_accepted : (r : Reply) → r ≡ reply_to (store_state g a m).disks (store_state g a m).shape c → ok → shape_in (g.site a) (table_alone (g.table b)) (known n) ≡ (step (store_state g a m) c).after.shape → StoreTakes g c a m b n (Ok r)
+  taken_accepted r replied fine shaped = done_by h c n (step_accepted (store_state g a m) c passes) done r replied fine shaped
 
   pub taken_stopped : (f : Failed) → StoreTakes g c a m b n (Err f)
-  taken_stopped f = stopped_by h c n (step_by (store_state g a m) c None built passes) done f
-
--- what was taken as the machine of all commands has it was taken, once the command is built
-pub taken_built : {S : Type 0} (g : Ghosts S) (a b : S) (m n : Memory) (c : Command) (r : Result Reply Failed) → is_built (store_state g a m).shape c ≡ true → StoreTakesWhole g c a m b n r → StoreTakes g c a m b n r
-unfolding step
-taken_built g a b m n c r built taken = subst (λ x. StoreTakesTo (if_built x (store_state g a m) c) g c a m b n r) (sym built) taken
+  taken_stopped f = stopped_by h c n (step_accepted (store_state g a m) c passes) done f

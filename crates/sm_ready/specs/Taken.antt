@@ -11,7 +11,7 @@ use Rattle.sm_machine.specs.declared.commands.Command.{Command}
 use Rattle.sm_machine.specs.declared.replies.Reply.{Reply}
 use Rattle.sm_machine.specs.declared.replies.Reply.TheVariants.{No}
 use Rattle.sm_machine.specs.Runs.{is_accepted, is_settling}
-use Rattle.sm_machine.specs.Steps.{Outcome, step, step_whole}
+use Rattle.sm_machine.specs.Steps.{Outcome, step}
 use Rattle.sm_run.specs.Between.{IsBetween}
 use Rattle.sm_standing.specs.Keeping.{IsKept}
 use Rattle.sm_standing.specs.Standing.{disks}
@@ -37,10 +37,6 @@ abbrev pub StoreTakesTo : Outcome → {S : Type 0} → Ghosts S → Command → 
 StoreTakesTo o g command old m new n result =
     HasTakenTo o (g.site old) command (table_alone (g.table old)) (g.area old) (known m) (table_alone (g.table new)) (g.area new) (known n) (StoreLeaves g old) (StoreLeaves g new) result
 
--- to what the machine makes of the command, where it is one that is built
+-- to what the machine makes of the command
 abbrev pub StoreTakes : {S : Type 0} → Ghosts S → Command → S → Memory → S → Memory → Result Reply Failed → Type 0
 StoreTakes g command old m new n result = StoreTakesTo (step (store_state g old m) command) g command old m new n result
-
--- to what the machine of all commands makes of it, built or not
-abbrev pub StoreTakesWhole : {S : Type 0} → Ghosts S → Command → S → Memory → S → Memory → Result Reply Failed → Type 0
-StoreTakesWhole g command old m new n result = StoreTakesTo (step_whole (store_state g old m) command) g command old m new n result

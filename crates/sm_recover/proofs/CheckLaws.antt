@@ -2,7 +2,7 @@
 use Rattle.std.proofs.Common.{◌≡◌, ℕ, suc, ◌+◌, ◌<◌, ◌≤◌, inl, inr, Bool, true, false, cond, not, ◌&&◌, ◌||◌, ◌==◌, List, [], ◌∷◌, length, drop, position, slice_get, Option, Some, None, refl, sym, ap, ap₂, ◌∙◌, subst, arith, nat_lt}
 use Rattle.std.specs.List.{filter, find, list_any, position_or_len}
 use Rattle.std.specs.Str.{bytes_eq}
-use Rattle.std.proofs.lemmas.Bool.{true≢false, ltb-true, ltb-false}
+use Rattle.std.proofs.lemmas.Bool.{ltb-true, ltb-false}
 use Rattle.std.proofs.lemmas.Option.{none-some, same_Some}
 use Rattle.sm_base.specs.declared.faults.Place.{Place}
 use Rattle.sm_base.specs.declared.faults.Place.TheVariants as at
@@ -14,12 +14,12 @@ use Rattle.sm_base.specs.Kinds.{is_image as is_data, is_entry}
 use Rattle.vg_meta.specs.Roomy.{RoomyTable, RoomyRow, table_alone, rows_alone}
 use Rattle.common_laws.specs.Lists.{In, given, first_some}
 use Rattle.sm_machine.specs.Shapes.{image_limit}
-use Rattle.sm_standing.specs.Entries.{are_past, folding, has_image, head, is_at_stage, is_coalescing, is_fork_begun, is_fork_made, is_forking, is_inflating, is_old_of, is_past, is_there, making, names_in, second}
-use Rattle.sm_standing.specs.Checks.{first_name, name_in, placed, has_records, record_volume_fault, images, too_many_fault, is_entry_ahead, is_lost, is_orphaned, lesser, entry_ahead_fault, second_entry_fault, lost_entry_fault, old_leaf_fault}
+use Rattle.sm_standing.specs.Entries.{are_past, folding, has_image, head, is_at_stage, is_coalescing, is_folding_leaf, is_fork_begun, is_fork_made, is_forking, is_inflating, is_old_of, is_past, is_there, making, names_in, second}
+use Rattle.sm_standing.specs.Checks.{first_name, name_in, placed, has_records, record_volume_fault, images, too_many_fault, is_lost, is_orphaned, lesser, second_entry_fault, lost_entry_fault, old_leaf_fault}
 use Rattle.sm_standing.specs.Outlines.{Outline}
-use Rattle.sm_standing.proofs.FaultLaws.{named_none}
-use Rattle.sm_standing.proofs.PlainKept.{none_old}
-use Rattle.sm_recover.specs.Faults.{HasTable, has_any, is_any_visible, is_apart, is_begun, is_fork_at_stage, is_making_lost, is_old}
+use Rattle.std.specs.Ordering.{is_lt}
+use Rattle.sm_base.specs.Names.{name_cmp}
+use Rattle.sm_recover.specs.Faults.{HasTable, has_any, is_any_visible, is_apart, is_begun, is_fork_at_stage, is_entry_lost, is_old_besides, is_old_by}
 
 -- ---- the first of the volumes in memory
 
@@ -73,9 +73,9 @@ pub only : {A : Type 0} (o : Option A) → first_some (o ∷ []) ≡ o
 only None = refl
 only (Some x) = refl
 
--- the last of seven checks, where the others pass
-pub last_of : {a b d e f g : Option Place} (o : Option Place) → a ≡ None → b ≡ None → d ≡ None → e ≡ None → f ≡ None → g ≡ None → first_some (a ∷ b ∷ d ∷ e ∷ f ∷ g ∷ o ∷ []) ≡ o
-last_of o is_a is_b is_d is_e is_f is_g = rw (is_a, is_b, is_d, is_e, is_f, is_g) (only o)
+-- the last of six checks, where the others pass
+pub last_of : {a b d e f : Option Place} (o : Option Place) → a ≡ None → b ≡ None → d ≡ None → e ≡ None → f ≡ None → first_some (a ∷ b ∷ d ∷ e ∷ f ∷ o ∷ []) ≡ o
+last_of o is_a is_b is_d is_e is_f = rw (is_a, is_b, is_d, is_e, is_f) (only o)
 
 -- ---- the entries
 
@@ -147,10 +147,6 @@ second_name test hs = ap second (names_passing hs) ∙ behind (filter (λ h. tes
         by true rest = ap (λ ns. g.row.name ∷ ns) rest
         by false rest = rest
 
-pub none_ahead : (x : Outline) → entry_ahead_fault x ≡ None → (r : Row) → In r x.table.volumes → is_entry_ahead r.name ≡ false
-unfolding entry_ahead_fault
-none_ahead x no_entry = named_none at.Journal (λ r. is_entry_ahead r.name) x.table.volumes no_entry
-
 pub second_name_at : (test : Name → Bool) (k : RoomyTable) {hs : List RoomyRow} {o : Option RoomyRow} {answer : Option Name} → hs ≡ k.rows → o ≡ slice_get (filter (λ h. test h.row.name) hs) 1
     → answer ≡ held_name o → answer ≡ second (names_in (table_alone k) test)
 second_name_at test k held found said =
@@ -206,15 +202,15 @@ copy_lost true true true = refl
 copy_lost true true false = refl
 
 -- an entry is lost as the check says it
-lost_as : (t : VolumeTable) (n : Name) → is_entry_ahead n ≡ false → is_making_lost t n ≡ (is_entry n && not (is_at_stage t n && are_past t n))
+lost_as : (t : VolumeTable) (n : Name) → is_entry_lost t n ≡ (is_entry n && not (is_at_stage t n && are_past t n))
 unfolding is_at_stage
-lost_as t (Inflate u e) h = by (is_inflating t u e) (is_past t.sequence u)
+lost_as t (Inflate u e) = by (is_inflating t u e) (is_past t.sequence u)
   where
     by : (a b : Bool) → (not a || not b) ≡ not (a && (b && true))
     by true true = refl
     by true false = refl
     by false b = refl
-lost_as t (Clone d b w) h =
+lost_as t (Clone d b w) =
     by (is_fork_at_stage t d b w) (is_past t.sequence d) (is_past t.sequence b) (is_past t.sequence w)
     ∙ ap (λ x. not (x && (is_past t.sequence d && (is_past t.sequence b && (is_past t.sequence w && true))))) (sym (stage_as t d b w))
   where
@@ -224,40 +220,69 @@ lost_as t (Clone d b w) h =
     by true true false r = refl
     by true true true false = refl
     by true true true true = refl
-lost_as t Mgt h = refl
-lost_as t (Vhd u) h = refl
-lost_as t (Raw u) h = refl
-lost_as t (Old u) h = refl
-lost_as t (Coalesce c p) h = copy_lost (is_coalescing t c p) (is_past t.sequence c) (is_past t.sequence p)
-lost_as t (Relink c p) h = copy_lost (is_coalescing t c p) (is_past t.sequence c) (is_past t.sequence p)
-lost_as t (Leaf l p) h = absurd (true≢false h)
+lost_as t Mgt = refl
+lost_as t (Vhd u) = refl
+lost_as t (Raw u) = refl
+lost_as t (Old u) = refl
+lost_as t (Coalesce c p) = copy_lost (is_coalescing t c p) (is_past t.sequence c) (is_past t.sequence p)
+lost_as t (Relink c p) = copy_lost (is_coalescing t c p) (is_past t.sequence c) (is_past t.sequence p)
+lost_as t (Leaf l p) = copy_lost (is_folding_leaf t l p) (is_past t.sequence l) (is_past t.sequence p)
 
-pub lost_at : (k : RoomyTable) (x : Outline) {hs : List RoomyRow} {o : Option RoomyRow} {answer : Option Place} → x.table ≡ table_alone k → entry_ahead_fault x ≡ None → hs ≡ k.rows
-    → o ≡ find (λ h. is_making_lost (table_alone k) h.row.name) hs → answer ≡ placed at.Journal (held_name o) → answer ≡ lost_entry_fault x
+pub lost_at : (k : RoomyTable) (x : Outline) {hs : List RoomyRow} {o : Option RoomyRow} {answer : Option Place} → x.table ≡ table_alone k → hs ≡ k.rows
+    → o ≡ find (λ h. is_entry_lost (table_alone k) h.row.name) hs → answer ≡ placed at.Journal (held_name o) → answer ≡ lost_entry_fault x
 unfolding lost_entry_fault first_name
-lost_at k x is no_entry held found said =
-    first_at at.Journal (λ t r. is_making_lost t r.name) k is held found said
-    ∙ ap (λ q. placed at.Journal (name_in q)) (find_same (λ r. is_making_lost x.table r.name) (is_lost x.table) x.table.volumes
-    (λ r i. lost_as x.table r.name (none_ahead x no_entry r i)))
+lost_at k x is held found said =
+    first_at at.Journal (λ t r. is_entry_lost t r.name) k is held found said
+    ∙ ap (λ q. placed at.Journal (name_in q)) (find_same (λ r. is_entry_lost x.table r.name) (is_lost x.table) x.table.volumes
+    (λ r i. lost_as x.table r.name))
 
--- an old leaf belongs to no entry, where those of leaves are not there
-old_as : (t : VolumeTable) (n : Name) → ((u : List ℕ) → list_any (is_old_of t u) (folding t) ≡ false) → is_old n ≡ is_orphaned t n
-old_as t (Old u) none = sym (ap not (none u))
-old_as t Mgt none = refl
-old_as t (Vhd u) none = refl
-old_as t (Raw u) none = refl
-old_as t (Clone d b w) none = refl
-old_as t (Inflate u e) none = refl
-old_as t (Coalesce c p) none = refl
-old_as t (Relink c p) none = refl
-old_as t (Leaf l p) none = refl
+-- an old leaf belongs to the one entry of its group, or to none
+old_as : (t : VolumeTable) (n : Name) → second (folding t) ≡ None → is_old_besides t (head (folding t)) n ≡ is_orphaned t n
+old_as t (Old u) one = ap not (by (folding t) one)
+  where
+    last : (b : Bool) → b ≡ (b || false)
+    last true = refl
+    last false = refl
 
-pub old_at : (k : RoomyTable) (x : Outline) {hs : List RoomyRow} {o : Option RoomyRow} {answer : Option Place} → x.table ≡ table_alone k → entry_ahead_fault x ≡ None → hs ≡ k.rows
-    → o ≡ find (λ h. is_old h.row.name) hs → answer ≡ placed at.Image (held_name o) → answer ≡ old_leaf_fault x
+    by : (ns : List Name) → second ns ≡ None → is_old_by t u (head ns) ≡ list_any (is_old_of t u) ns
+    by [] h = refl
+    by (e ∷ []) h = last (is_old_of t u e)
+    by (e ∷ m ∷ ns) h = absurd (none-some m (sym h))
+old_as t Mgt one = refl
+old_as t (Vhd u) one = refl
+old_as t (Raw u) one = refl
+old_as t (Clone d b w) one = refl
+old_as t (Inflate u e) one = refl
+old_as t (Coalesce c p) one = refl
+old_as t (Relink c p) one = refl
+old_as t (Leaf l p) one = refl
+
+-- where no second entry is found there is one of each group at most
+pub lesser_none : (a b : Option Name) → lesser a b ≡ None → (a ≡ None) × (b ≡ None)
+lesser_none None None h = (refl, refl)
+lesser_none None (Some n) h = absurd (none-some n (sym h))
+lesser_none (Some m) None h = absurd (none-some m (sym h))
+lesser_none (Some m) (Some n) h = by (is_lt (name_cmp m n)) h
+  where
+    by : (c : Bool) → cond c (Some m) (Some n) ≡ None → (Some m ≡ None) × (Some n ≡ None)
+    by true is = absurd (none-some m (sym is))
+    by false is = absurd (none-some n (sym is))
+
+pub placed_none : (place : Name → Place) (o : Option Name) → placed place o ≡ None → o ≡ None
+placed_none place None h = refl
+placed_none place (Some n) h = absurd (none-some (place n) (sym h))
+
+pub one_folding : (x : Outline) → second_entry_fault x ≡ None → second (folding x.table) ≡ None
+unfolding second_entry_fault
+one_folding x none = (lesser_none (second (folding x.table)) (second (making x.table)) (placed_none at.Journal _ none)).0
+
+pub old_at : (k : RoomyTable) (x : Outline) {hs : List RoomyRow} {o : Option RoomyRow} {answer : Option Place} → x.table ≡ table_alone k → second_entry_fault x ≡ None → hs ≡ k.rows
+    → o ≡ find (λ h. is_old_besides (table_alone k) (head (folding (table_alone k))) h.row.name) hs → answer ≡ placed at.Image (held_name o) → answer ≡ old_leaf_fault x
 unfolding old_leaf_fault first_name
-old_at k x is no_entry held found said =
-    first_at at.Image (λ t r. is_old r.name) k is held found said
-    ∙ ap (λ q. placed at.Image (name_in q)) (find_same (λ r. is_old r.name) (λ r. is_orphaned x.table r.name) x.table.volumes (λ r i. old_as x.table r.name (λ u. none_old x.table u x.table.volumes (none_ahead x no_entry))))
+old_at k x is no_second held found said =
+    first_at at.Image (λ t r. is_old_besides t (head (folding t)) r.name) k is held found said
+    ∙ ap (λ q. placed at.Image (name_in q)) (find_same (λ r. is_old_besides x.table (head (folding x.table)) r.name) (λ r. is_orphaned x.table r.name) x.table.volumes
+    (λ r i. old_as x.table r.name (one_folding x no_second)))
 
 -- the first name of a group is that of the first volume
 pub first_entry_at : (test : Name → Bool) (k : RoomyTable) {hs : List RoomyRow} {o : Option RoomyRow} {answer : Option Name} → hs ≡ k.rows → o ≡ find (λ h. test h.row.name) hs → answer ≡ held_name o

@@ -18,7 +18,7 @@ use Rattle.common_laws.proofs.Options.{is_some-parts}
 use Rattle.sm_machine.specs.WellFormed.{EndsWithin, HasParent}
 use Rattle.sm_record.specs.declared.records.Record.{Record}
 use Rattle.sm_mgt.specs.Places.{as_reading, is_of, place_count}
-use Rattle.sm_standing.specs.Checks.{entry_link_fault, is_entry_linked, is_misnamed, misnamed_fault, chain_length, is_tree_wrong, tree_fault, is_unrecorded, disk_uuids, disk_fault, faults_today, fault_today_of}
+use Rattle.sm_standing.specs.Checks.{entry_link_fault, is_entry_linked, is_misnamed, misnamed_fault, chain_length, is_tree_wrong, tree_fault, is_unrecorded, disk_uuids, disk_fault, faults_but_leaf, fault_but_leaf_of}
 use Rattle.sm_standing.specs.Entries.{of_row}
 use Rattle.sm_standing.specs.Outlines.{Link, Outline}
 use Rattle.sm_standing.specs.Standing.{standing_volume, uuids}
@@ -41,7 +41,7 @@ use Rattle.sm_recover.proofs.DiskLaws.{records_counted}
 use Rattle.sm_recover.proofs.TableLaws.{image_not_making, short_filtered, short_from, short_in}
 use Rattle.sm_ready.proofs.Orders.{In-tree_row}
 use Rattle.sm_recover.proofs.TreeLaws.{HasParentIn, StandsRight, both_true, ends, parent_in, stands_right}
-use Rattle.sm_recover.proofs.LoadedLaws.{none_among, read_row}
+use Rattle.sm_recover.proofs.LoadedLaws.{named_data, none_among, read_row}
 use Rattle.sm_base.specs.declared.faults.Place.{Place}
 use Rattle.sm_base.specs.declared.faults.Place.TheVariants as at
 
@@ -69,12 +69,12 @@ module _ {S : Type 0} (g : Ghosts S) (store : S) (xs : List TreeRow) (places : L
   t = shortened was
 
   pub are : AreRowsOf t.volumes xs
-  are = are_read ∙ sym (short_filtered c (row_among xs) (λ r making. none_among xs r (λ f. true≢false (sym making ∙ image_not_making r.name f.image))))
+  are = are_read ∙ sym (short_filtered c (row_among xs) (λ r making. none_among xs r (λ f. true≢false (sym making ∙ image_not_making r.name (named_data r.name f.image)))))
 
   pub each : HasEachRow g.told (stored_with g store (shortened was)) t.volumes xs
   each r i = each_read r (short_in c r i)
 
-  module _ (long : length places ≡ place_count) (pass : (x : Outline) → HasTable s.geometry was x → HasLinks xs x → HasPlaces places x → fault_today_of x ≡ None) where
+  module _ (long : length places ≡ place_count) (pass : (x : Outline) → HasTable s.geometry was x → HasLinks xs x → HasPlaces places x → fault_but_leaf_of x ≡ None) where
     abbrev pub seen : Outline
     seen = outline_in s was (begun_with xs places 0)
 
@@ -86,9 +86,9 @@ module _ {S : Type 0} (g : Ghosts S) (store : S) (xs : List TreeRow) (places : L
     unfolding outline_in
     links n = refl
 
-    none : (o : Option Place) → In o (faults_today seen) → o ≡ None
-    unfolding outline_in fault_today_of
-    none = none_first (faults_today seen) (pass seen (record { extent = refl; block = refl; entries = refl; table = refl }) links has)
+    none : (o : Option Place) → In o (faults_but_leaf seen) → o ≡ None
+    unfolding outline_in fault_but_leaf_of
+    none = none_first (faults_but_leaf seen) (pass seen (record { extent = refl; block = refl; entries = refl; table = refl }) links has)
 
     pub named : (r : Row) → In r was.volumes → is_misnamed was r ≡ false
     unfolding outline_in misnamed_fault

@@ -22,13 +22,14 @@ use Rattle.sm_standing.specs.Contents.{taken, is_record_of}
 use Rattle.sm_standing.specs.Checks.{is_unrecorded, disk_place, disk_fault}
 use Rattle.sm_standing.specs.Outlines.{Outline, outline_records}
 use Rattle.sm_standing.specs.Ordered.{Rising, uuid_cmp}
-use Rattle.sm_standing.specs.Entries.{folding, head, image_with, is_visible, making, of_row}
-use Rattle.sm_standing.specs.Plain.{IsKnown, IsPlain, is_known, is_known_name}
+use Rattle.common_laws.proofs.Bytes.{bytes_eq-same}
+use Rattle.sm_standing.specs.Entries.{folding, head, image_with, is_leaf_renamed, is_leaf_swapped, is_visible, making, of_row}
+use Rattle.sm_standing.specs.Plain.{IsKnown, IsPlain, is_known_name}
 use Rattle.sm_standing.specs.Standing.{candidates, in_order, standing_volume, stands_folded, stands_forked, stands_plainly, under, uuids}
 use Rattle.sm_standing.proofs.DisksShown.{In-with_uuid, rising-in_order, stands_listed}
-use Rattle.sm_standing.proofs.PlainDisks.{all-In, plain_stands}
+use Rattle.sm_standing.proofs.PlainDisks.{plain_stands}
 use Rattle.sm_recover.proofs.KnownLaws.{first_folding}
-use Rattle.sm_recover.specs.Faults.{HasPlaces, IsLeast, is_disk_by, is_shown, is_unrecorded_in, unrecorded, lesser}
+use Rattle.sm_recover.specs.Faults.{HasPlaces, IsLeast, is_disk_by, is_disk_if, is_disk_under, is_shown, is_swapping, is_unrecorded_in, unrecorded, lesser}
 use Rattle.common_laws.proofs.Lists.{In-append, In-map, In-filter, filter-In}
 use Rattle.common_laws.proofs.Options.{is_some-parts}
 use Rattle.sm_standing.specs.Checks.{disk_uuids}
@@ -49,11 +50,76 @@ found_either test a b = by (test a) (test b)
 pub own_plain : (t : VolumeTable) → IsPlain t → (u : List ℕ) → is_some (standing_volume t u) ≡ (is_visible t (Vhd u) || is_visible t (Raw u))
 own_plain t plain u = ap is_some (plain_stands t u plain) ∙ found_either (is_visible t) (Vhd u) (Raw u)
 
+module _ (t : VolumeTable) (u : List ℕ) where
+  own : is_some (stands_plainly t u) ≡ is_shown t u
+  own = found_either (is_visible t) (Vhd u) (Raw u)
+
+  swapping : (p : Name) (r w : Bool) → is_some (cond r (Some p) (cond w (Some (Vhd u)) (stands_plainly t u))) ≡ ((r || w) || is_shown t u)
+  swapping p true w = refl
+  swapping p false true = refl
+  swapping p false false = own
+
+  swapped : (l p : List ℕ) → is_some (stands_folded t (Leaf l p) u (stands_plainly t u)) ≡ (is_swapping t (Some (Leaf l p)) u || is_shown t u)
+  swapped l p = by (bytes_eq u l) refl
+    where
+      by : (a : Bool) → bytes_eq u l ≡ a
+          → is_some (cond (a && is_leaf_renamed t l p) (Some (Vhd p)) (cond (a && is_leaf_swapped t l p) (Some (Vhd l)) (stands_plainly t u))) ≡ ((a && (is_leaf_renamed t l p || is_leaf_swapped t l p)) || is_shown t u)
+      by true is =
+          ap (λ v. is_some (cond (is_leaf_renamed t l p) (Some (Vhd p)) (cond (is_leaf_swapped t l p) (Some (Vhd v)) (stands_plainly t u)))) (sym (bytes_eq-same u l is))
+          ∙ swapping (Vhd p) (is_leaf_renamed t l p) (is_leaf_swapped t l p)
+      by false is = own
+
+  folded : (o : Option Name) → is_some (under (λ e. stands_folded t e u) o (stands_plainly t u)) ≡ (is_swapping t o u || is_shown t u)
+  folded None = own
+  folded (Some (Leaf l p)) = swapped l p
+  folded (Some Mgt) = own
+  folded (Some (Vhd v)) = own
+  folded (Some (Raw v)) = own
+  folded (Some (Old v)) = own
+  folded (Some (Clone d b w)) = own
+  folded (Some (Inflate v e)) = own
+  folded (Some (Coalesce c p)) = own
+  folded (Some (Relink c p)) = own
+
+  abbrev alone : Option Name
+  alone = under (λ e. stands_folded t e u) (head (folding t)) (stands_plainly t u)
+
+  abbrev stood : Bool
+  stood = is_swapping t (head (folding t)) u || is_shown t u
+
+  alone_is : is_some alone ≡ stood
+  alone_is = folded (head (folding t))
+
+  forked : (a b w : Bool) (o : Option Name) → is_some (cond a (elim o as (λ _. Option Name) [ None ↦ alone | Some n ↦ Some n ]) (cond (b || w) None alone))
+      ≡ cond a (is_some o || stood) (not b && (not w && stood))
+  forked true b w None = alone_is
+  forked true b w (Some n) = refl
+  forked false true w o = refl
+  forked false false true o = refl
+  forked false false false o = alone_is
+
+  by_making : (o : Option Name) → is_some (under (λ e. stands_forked t e u) o alone) ≡ is_disk_if t stood o u
+  by_making None = alone_is
+  by_making (Some (Clone d b w)) = forked (bytes_eq u d) (bytes_eq u b) (bytes_eq u w) (image_with t b)
+  by_making (Some (Inflate v e)) = alone_is
+  by_making (Some Mgt) = alone_is
+  by_making (Some (Vhd v)) = alone_is
+  by_making (Some (Raw v)) = alone_is
+  by_making (Some (Old v)) = alone_is
+  by_making (Some (Coalesce c p)) = alone_is
+  by_making (Some (Relink c p)) = alone_is
+  by_making (Some (Leaf l p)) = alone_is
+
+  -- whether it is one by the entries
+  pub disk_under : is_some (standing_volume t u) ≡ is_disk_under t (head (folding t)) (head (making t)) u
+  unfolding standing_volume
+  disk_under = by_making (head (making t))
+
 -- the entry of a copy or of a link says nothing of it
-folded_none : (t : VolumeTable) → IsKnown t → (u : List ℕ) (o : Option Name) → under (λ e. stands_folded t e u) (head (folding t)) o ≡ o
-folded_none t known u o = by (head (folding t)) (λ n is. (first_folding t n known is).known)
+swapping_none : (t : VolumeTable) → IsKnown t → (u : List ℕ) → is_swapping t (head (folding t)) u ≡ false
+swapping_none t known u = by (head (folding t)) (λ n is. (first_folding t n known is).known)
   where
-    by : (h : Option Name) → ((n : Name) → h ≡ Some n → is_known_name n ≡ true) → under (λ e. stands_folded t e u) h o ≡ o
+    by : (h : Option Name) → ((n : Name) → h ≡ Some n → is_known_name n ≡ true) → is_swapping t h u ≡ false
     by None each = refl
     by (Some (Leaf l p)) each = absurd (true≢false (sym (each (Leaf l p) refl)))
     by (Some Mgt) each = refl
@@ -67,32 +133,7 @@ folded_none t known u o = by (head (folding t)) (λ n is. (first_folding t n kno
 
 -- whether it is one by the entry of a fork, where no leaf is being folded
 pub disk_by : (t : VolumeTable) → IsKnown t → (u : List ℕ) → is_some (standing_volume t u) ≡ is_disk_by t (head (making t)) u
-unfolding standing_volume
-disk_by t known u =
-    ap (λ o. is_some (under (λ e. stands_forked t e u) (head (making t)) o)) (folded_none t known u (stands_plainly t u)) ∙ by (head (making t))
-  where
-    own : is_some (stands_plainly t u) ≡ is_shown t u
-    own = found_either (is_visible t) (Vhd u) (Raw u)
-
-    forked : (a b w : Bool) (o : Option Name) → is_some (cond a (elim o as (λ _. Option Name) [ None ↦ stands_plainly t u | Some n ↦ Some n ]) (cond (b || w) None (stands_plainly t u)))
-        ≡ cond a (is_some o || is_shown t u) (not b && (not w && is_shown t u))
-    forked true b w None = own
-    forked true b w (Some n) = refl
-    forked false true w o = refl
-    forked false false true o = refl
-    forked false false false o = own
-
-    by : (o : Option Name) → is_some (under (λ e. stands_forked t e u) o (stands_plainly t u)) ≡ is_disk_by t o u
-    by None = own
-    by (Some (Clone d b w)) = forked (bytes_eq u d) (bytes_eq u b) (bytes_eq u w) (image_with t b)
-    by (Some (Inflate v e)) = own
-    by (Some Mgt) = own
-    by (Some (Vhd v)) = own
-    by (Some (Raw v)) = own
-    by (Some (Old v)) = own
-    by (Some (Coalesce c p)) = own
-    by (Some (Relink c p)) = own
-    by (Some (Leaf l p)) = own
+disk_by t known u = disk_under t u ∙ ap (λ b. is_disk_if t (b || is_shown t u) (head (making t)) u) (swapping_none t known u)
 
 pub visible_row : (t : VolumeTable) (n : Name) (r : Row) → rows t n ≡ Some r → is_visible t n ≡ (not r.hidden && not r.fresh)
 visible_row t n r there = ap (of_row (λ r. not r.hidden && not r.fresh)) there
@@ -206,6 +247,7 @@ module _ (t : VolumeTable) (places : List (Option Record)) where
   from_name (Vhd v) u h = let w = given_parts (is_unrecorded_in t places v) v u h in subst Wrong w.1 w.0
   from_name (Raw v) u h = let w = given_parts (is_unrecorded_in t places v) v u h in subst Wrong w.1 w.0
   from_name (Clone v b c) u h = let w = given_parts (is_unrecorded_in t places v) v u h in subst Wrong w.1 w.0
+  from_name (Leaf v p) u h = let w = given_parts (is_unrecorded_in t places v) v u h in subst Wrong w.1 w.0
   from_name _ u h = absurd (let k = h in cc)
 
   at_vhd : (u : List ℕ) → Wrong u → unrecorded t places (Vhd u) ≡ Some u
@@ -225,25 +267,26 @@ unfolding in_order
 in_order-In [] u i = i
 in_order-In (v ∷ us) u i = ⊎_elim (λ is. inl is) (λ j. inr (in_order-In us u j)) (In-with_uuid v u (in_order us) i)
 
-module _ (k : RoomyTable) (places : List (Option Record)) (u : List ℕ) (known : IsKnown (table_alone k)) (wrong : Wrong (table_alone k) places u) where
+module _ (k : RoomyTable) (places : List (Option Record)) (u : List ℕ) (wrong : Wrong (table_alone k) places u) where
   abbrev t : VolumeTable
   t = table_alone k
 
   -- by the name that speaks of it
-  of_name : (n : Name) → is_known_name n ≡ true → In u (candidates n) → unrecorded t places n ≡ Some u
+  of_name : (n : Name) → In u (candidates n) → unrecorded t places n ≡ Some u
   unfolding unrecorded
-  of_name (Vhd v) other (inl is) = subst (λ (x : List ℕ). given (is_unrecorded_in t places x) x ≡ Some u) is (at_vhd t places u wrong)
-  of_name (Raw v) other (inl is) = subst (λ (x : List ℕ). given (is_unrecorded_in t places x) x ≡ Some u) is (at_vhd t places u wrong)
-  of_name (Clone d b w) other (inl is) = subst (λ (x : List ℕ). given (is_unrecorded_in t places x) x ≡ Some u) is (at_vhd t places u wrong)
-  of_name (Vhd v) other (inr i) = absurd i
-  of_name (Raw v) other (inr i) = absurd i
-  of_name (Clone d b w) other (inr i) = absurd i
-  of_name (Leaf l p) other i = absurd (true≢false (sym other))
-  of_name Mgt other i = absurd i
-  of_name (Old v) other i = absurd i
-  of_name (Inflate v e) other i = absurd i
-  of_name (Coalesce c p) other i = absurd i
-  of_name (Relink c p) other i = absurd i
+  of_name (Vhd v) (inl is) = subst (λ (x : List ℕ). given (is_unrecorded_in t places x) x ≡ Some u) is (at_vhd t places u wrong)
+  of_name (Raw v) (inl is) = subst (λ (x : List ℕ). given (is_unrecorded_in t places x) x ≡ Some u) is (at_vhd t places u wrong)
+  of_name (Clone d b w) (inl is) = subst (λ (x : List ℕ). given (is_unrecorded_in t places x) x ≡ Some u) is (at_vhd t places u wrong)
+  of_name (Leaf l p) (inl is) = subst (λ (x : List ℕ). given (is_unrecorded_in t places x) x ≡ Some u) is (at_vhd t places u wrong)
+  of_name (Vhd v) (inr i) = absurd i
+  of_name (Raw v) (inr i) = absurd i
+  of_name (Clone d b w) (inr i) = absurd i
+  of_name (Leaf l p) (inr i) = absurd i
+  of_name Mgt i = absurd i
+  of_name (Old v) i = absurd i
+  of_name (Inflate v e) i = absurd i
+  of_name (Coalesce c p) i = absurd i
+  of_name (Relink c p) i = absurd i
 
   wrong_given : IsGiven (λ h. unrecorded t places h.row.name) k.rows u
   unfolding uuids
@@ -251,18 +294,18 @@ module _ (k : RoomyTable) (places : List (Option Record)) (u : List ℕ) (known 
       let n = is_some-parts (standing_volume t u) (stands t places u wrong) in
       let r = flat_map-In (λ r. candidates r.name) t.volumes u (in_order-In (flat_map (λ (r : Row). candidates r.name) t.volumes) u (stands_listed t u n.0 n.1)) in
       let h = In-map (λ (g : RoomyRow). g.row) k.rows r.0 r.1 in
-      (h.0, h.1, ap (λ (q : Row). unrecorded t places q.name) (sym h.2) ∙ of_name r.0.name (all-In (λ (x : Row). is_known x ≡ true) t.volumes r.0 known r.1) r.2)
+      (h.0, h.1, ap (λ (q : Row). unrecorded t places q.name) (sym h.2) ∙ of_name r.0.name r.2)
 
 -- the least among the volumes so far
 abbrev pub with_unrecorded : VolumeTable → List (Option Record) → Option (List ℕ) → RoomyRow → Option (List ℕ)
 with_unrecorded t places least h = lesser least (unrecorded t places h.row.name)
 
-pub least_unrecorded : (k : RoomyTable) (places : List (Option Record)) → IsKnown (table_alone k)
+pub least_unrecorded : (k : RoomyTable) (places : List (Option Record))
     → IsLeast (λ u. is_unrecorded_in (table_alone k) places u ≡ true) (fold (with_unrecorded (table_alone k) places) None k.rows)
-least_unrecorded k places known =
+least_unrecorded k places =
     let t = table_alone k in
     least_as (λ u. ⊥ ⊎ IsGiven (λ h. unrecorded t places h.row.name) k.rows u) (Wrong t places) (fold (with_unrecorded t places) None k.rows)
-    (λ u. ⊎_elim (λ none. absurd none) (λ g. from_name t places g.0.row.name u g.2)) (λ u wrong. inr (wrong_given k places u known wrong))
+    (λ u. ⊎_elim (λ none. absurd none) (λ g. from_name t places g.0.row.name u g.2)) (λ u wrong. inr (wrong_given k places u wrong))
     (least_fold (λ h. unrecorded t places h.row.name) k.rows (λ u. ⊥) None (λ u never. never))
 
 -- the check of the records, by the least of these UUIDs

@@ -22,7 +22,6 @@ use Rattle.vg_meta.proofs.RowLaws.{row_of-without_other}
 use Rattle.vg_volumes.specs.Sites.{Site}
 use Rattle.sm_standing.specs.Entries.{folding, head, image_with, is_folding, is_making, is_there, making, of_row, second}
 use Rattle.sm_standing.specs.Opened.{under_name}
-use Rattle.sm_standing.specs.Plain.{is_known, is_known_name}
 use Rattle.sm_standing.specs.Undone.{applied_all, base_changes, changes_back, is_longer, undo_changes, undone, wanted}
 use Rattle.sm_standing.specs.Unfolded.{unfolded, without_entry}
 use Rattle.sm_standing.proofs.DisksShown.{row_of-In}
@@ -31,7 +30,7 @@ use Rattle.sm_ready.specs.Cleaned.{HasFewRemovals}
 use Rattle.sm_ready.specs.Runs.{AllMay}
 use Rattle.sm_ready.proofs.RowLaws.{found_in}
 use Rattle.sm_ready.proofs.ShapeLaws.{rising_rows, row_cmp}
-use Rattle.sm_recover.specs.Repairs.{IsEndable, IsUndoable}
+use Rattle.sm_recover.specs.Repairs.{IsEndable, IsOpenable, IsUndoable}
 use Rattle.sm_recover.specs.Steps.{IsPartOf, ends_copy, first_changes, uncopied}
 use Rattle.sm_recover.proofs.CountLaws.{IsLean, IsSmall, names_counted, small_fits, small_next}
 use Rattle.sm_recover.proofs.EntryLaws.{back_image, base_found, undo_allowed, undone_applied}
@@ -158,11 +157,11 @@ module _ (count : ℕ) (few : count ≤ 65536) (e : Name) (r : Row) (not_mgt : e
 
 -- ---- the changes that undo are none of the entry's
 
-all_wanted : (P : Change → Type 0) (b : Bool) (c : Change) → P c → AllByRecursion P (wanted b c)
+pub all_wanted : (P : Change → Type 0) (b : Bool) (c : Change) → P c → AllByRecursion P (wanted b c)
 all_wanted P true c it = (it, tt)
 all_wanted P false c it = tt
 
-all_join : (P : Change → Type 0) (xs ys : List Change) → AllByRecursion P xs → AllByRecursion P ys → AllByRecursion P (xs ++ ys)
+pub all_join : (P : Change → Type 0) (xs ys : List Change) → AllByRecursion P xs → AllByRecursion P ys → AllByRecursion P (xs ++ ys)
 all_join P [] ys front behind = behind
 all_join P (c ∷ xs) ys front behind = (front.0, all_join P xs ys front.1 behind)
 
@@ -215,20 +214,20 @@ module _ (e : Name) (folds : is_folding e ≡ true) where
 
 -- ---- few entries
 
-known_entry : (n : Name) → is_known_name n ≡ true → is_entry n ≡ (is_making n || is_folding n)
-known_entry Mgt h = refl
-known_entry (Vhd u) h = refl
-known_entry (Raw u) h = refl
-known_entry (Clone d b w) h = refl
-known_entry (Inflate u k) h = refl
-known_entry (Coalesce v p) h = refl
-known_entry (Relink v p) h = refl
-known_entry (Leaf l p) h = absurd (true≢false (sym h))
-known_entry (Old u) h = absurd (true≢false (sym h))
+entry_groups : (n : Name) → is_entry n ≡ (is_making n || is_folding n)
+entry_groups Mgt = refl
+entry_groups (Vhd u) = refl
+entry_groups (Raw u) = refl
+entry_groups (Old u) = refl
+entry_groups (Clone d b w) = refl
+entry_groups (Inflate u k) = refl
+entry_groups (Coalesce v p) = refl
+entry_groups (Relink v p) = refl
+entry_groups (Leaf l p) = refl
 
-both_groups : (rs : List Row) → AllByRecursion (λ r. is_known r ≡ true) rs → length (filter is_entry (names_of rs)) ≤ length (filter is_making (names_of rs)) + length (filter is_folding (names_of rs))
-both_groups [] all = omega arith
-both_groups (r ∷ rs) all = by (is_entry r.name) (is_making r.name) (is_folding r.name) (known_entry r.name all.0) (both_groups rs all.1)
+both_groups : (rs : List Row) → length (filter is_entry (names_of rs)) ≤ length (filter is_making (names_of rs)) + length (filter is_folding (names_of rs))
+both_groups [] = omega arith
+both_groups (r ∷ rs) = by (is_entry r.name) (is_making r.name) (is_folding r.name) (entry_groups r.name) (both_groups rs)
   where
     E : List Name
     E = filter is_entry (names_of rs)
@@ -257,7 +256,14 @@ pub endable_small : {s : Site} {t : VolumeTable} → IsEndable s t → IsSmall s
 endable_small {s} {t} c = record {
   table = c.table;
   few_images = c.few_images;
-  few_entries = omega (arith, names_counted t.volumes, both_groups t.volumes c.known, one_at_most (making t) c.one_entry, one_at_most (folding t) c.one_folding);
+  few_entries = omega (arith, names_counted t.volumes, both_groups t.volumes, one_at_most (making t) c.one_entry, one_at_most (folding t) c.one_folding);
+}
+
+pub openable_small : {s : Site} {t : VolumeTable} → IsOpenable s t → IsSmall s.count t
+openable_small {s} {t} c = record {
+  table = c.table;
+  few_images = c.few_images;
+  few_entries = omega (arith, names_counted t.volumes, both_groups t.volumes, one_at_most (making t) c.one_entry, one_at_most (folding t) c.one_folding);
 }
 
 -- ---- in each case

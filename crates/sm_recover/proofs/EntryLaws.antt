@@ -30,7 +30,7 @@ use Rattle.sm_standing.proofs.UndoneLaws.{IsBeingForked, enlarged_or_not, entry_
 use Rattle.sm_ready.specs.Runs.{AllMay}
 use Rattle.sm_ready.proofs.RowLaws.{All-In, found_in}
 use Rattle.sm_recover.specs.Faults.{has_any, is_apart, is_begun, is_fork_at_stage}
-use Rattle.sm_recover.specs.Repairs.{IsEndable, IsUndoable}
+use Rattle.sm_recover.specs.Repairs.{IsEndable, IsOpenable, IsUndoable}
 use Rattle.sm_recover.specs.Steps.{changes_of_base, is_marked}
 use Rattle.sm_recover.proofs.BackLaws.{HasBase, IsGone, May, give_back, remove_one, remove_where, then_may}
 use Rattle.sm_recover.proofs.CheckLaws.{stage_as}
@@ -48,6 +48,9 @@ staged c = record { table = c.table; one_entry = c.one_entry; at_stage = c.at_st
 
 pub staged_end : {s : Site} {t : VolumeTable} → IsEndable s t → IsStaged s t
 staged_end c = record { table = c.table; one_entry = c.one_entry; at_stage = c.at_stage; record_volume = c.record_volume }
+
+pub staged_open : {s : Site} {t : VolumeTable} → IsOpenable s t → IsStaged s t
+staged_open c = record { table = c.table; one_entry = c.one_entry; at_stage = c.at_stage; record_volume = c.record_volume }
 
 -- ---- the entry of a fork
 

@@ -19,7 +19,7 @@ use Rattle.vg_volumes.specs.Sites.{Site}
 use Rattle.vg_volumes.specs.Stored.{Stored}
 use Rattle.vhd_chain.specs.declared.rows.TreeRow.{TreeRow}
 use Rattle.sm_machine.specs.Shapes.{Shape, same_image}
-use Rattle.sm_standing.specs.Checks.{first_fault_today, has_twin, has_uuid, is_misnamed}
+use Rattle.sm_standing.specs.Checks.{first_fault_but_leaf, has_twin, has_uuid, is_misnamed}
 use Rattle.sm_standing.specs.Entries.{are_past, folding, head, is_folding, image_with, is_past, is_there, making, uuids_in}
 use Rattle.sm_standing.specs.Keeping.{HasNoEmptySlot, HoldsWell}
 use Rattle.sm_standing.specs.Opened.{parent_name, under_name}
@@ -30,10 +30,10 @@ use Rattle.sm_standing.specs.Unfolded.{linked_by, linked_up, unfolded, without_e
 use Rattle.sm_standing.proofs.AreaLaws.{area_disks, area_kept}
 use Rattle.sm_standing.proofs.LinkingLaws.{link_kept, link_shown, link_with}
 use Rattle.sm_standing.proofs.NamedLaws.{all_past}
-use Rattle.sm_standing.proofs.PlainKept.{today_known, today_sound}
+use Rattle.sm_standing.proofs.PlainKept.{but_leaf_known, but_leaf_sound}
 use Rattle.sm_standing.proofs.UndoneLaws.{other_undone}
 use Rattle.sm_standing.proofs.UnfoldedLaws.{alone}
-use Rattle.sm_standing.proofs.UnfoldedToday.{unfolded_disks, unfolded_holding, unfolded_sound}
+use Rattle.sm_standing.proofs.UnfoldedButLeaf.{unfolded_disks, unfolded_holding, unfolded_sound}
 use Rattle.sm_ready.specs.Cleaned.{HasFewRemovals, new_count}
 use Rattle.sm_ready.specs.Frames.{HasCommits}
 use Rattle.sm_ready.specs.Repairs.{IsSame, content_of}
@@ -62,12 +62,12 @@ module _ (x : Stored) (c : IsEndable x.site x.table) where
   abbrev less : VolumeTable → Stored
   less u = record { site = x.site; table = u; area = x.area }
 
-  pub first_same : (v : VolumeTable) (image : ℕ → List ℕ) → IsLeftOf x (IsPartOf t (first_changes t)) v image → IsSettled x.area → first_fault_today (content_of x) ≡ None → HoldsWell (content_of x)
+  pub first_same : (v : VolumeTable) (image : ℕ → List ℕ) → IsLeftOf x (IsPartOf t (first_changes t)) v image → IsSettled x.area → first_fault_but_leaf (content_of x) ≡ None → HoldsWell (content_of x)
       → IsSame (content_of x) (content_in x.site v image)
   first_same v image left settled sound well = by (end_case c)
     where
       s : KnownSound (content_of x)
-      s = today_known (content_of x) sound
+      s = but_leaf_known (content_of x) sound
 
       part_at : (o : Option Name) → head (folding t) ≡ o → IsPartOf t (ends_copy o ++ undo_changes (applied_all t (ends_copy o))) v
       part_at o is = subst (λ y. IsPartOf t (ends_copy y ++ undo_changes (applied_all t (ends_copy y))) v) is left.table
@@ -87,7 +87,7 @@ module _ (x : Stored) (c : IsEndable x.site x.table) where
       by : EndCase t → IsSame (content_of x) (content_in x.site v image)
       by (inl none) =
           let quiet = folding_none (folding t) none in
-          left_same x v image c.table (record { table = part_at None none; sectors = left.sectors }) settled (today_sound (content_of x) sound quiet) well.holding
+          left_same x v image c.table (record { table = part_at None none; sectors = left.sectors }) settled (but_leaf_sound (content_of x) sound quiet) well.holding
       by (inr (inl (a, b, f))) = let part = part_at (Some (Coalesce a b)) (ap head f.alone) in copied a b f part.0 part.1
       by (inr (inr (a, b, f))) =
           let part = part_at (Some (Relink a b)) (ap head f.alone) in

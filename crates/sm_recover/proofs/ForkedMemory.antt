@@ -5,6 +5,7 @@ use Rattle.std.specs.Str.{bytes_eq}
 use Rattle.std.proofs.lemmas.Bool.{and_parts, true≢false}
 use Rattle.std.proofs.lemmas.Option.{none-some, same_Some}
 use Rattle.sm_base.specs.Kinds.{is_image}
+use Rattle.sm_machine.specs.WellFormed.{is_image_name}
 use Rattle.sm_base.specs.Names.{IsName}
 use Rattle.sm_base.specs.declared.names.Name.{Name}
 use Rattle.sm_base.specs.declared.names.Name.TheVariants.{Mgt, Vhd, Raw, Old, Clone, Inflate, Coalesce, Relink, Leaf}
@@ -29,7 +30,7 @@ use Rattle.sm_machine.proofs.Changes.{list_any-some}
 use Rattle.sm_machine.specs.WellFormed.{EndsWithin, HasParent}
 use Rattle.sm_record.specs.declared.records.Record.{Record}
 use Rattle.sm_mgt.specs.Places.{place_count}
-use Rattle.sm_standing.specs.Checks.{chain_length, fault_today_of, has_twin, has_uuid, is_entry_linked, is_misnamed}
+use Rattle.sm_standing.specs.Checks.{chain_length, fault_but_leaf_of, has_twin, has_uuid, is_entry_linked, is_misnamed}
 use Rattle.sm_standing.specs.Entries.{are_past, head, image_with, is_filled, is_fork_made, is_past, is_there, is_visible, is_visible_or_gone, making, of_row, uuids_in}
 use Rattle.sm_standing.specs.Opened.{under_name}
 use Rattle.sm_standing.specs.Ordered.{Rising}
@@ -63,7 +64,7 @@ use Rattle.sm_recover.proofs.TreeLaws.{ends}
 use Rattle.sm_recover.proofs.LinkLaws.{unlinked_seen}
 use Rattle.sm_recover.proofs.SeenLaws.{children_counted, volumes_seen}
 use Rattle.sm_recover.proofs.TableLaws.{own_name as own_image}
-use Rattle.sm_recover.proofs.LoadedLaws.{among_is, none_among, read_from}
+use Rattle.sm_recover.proofs.LoadedLaws.{among_is, named_data, none_among, one_of_two, read_from}
 use Rattle.sm_recover.proofs.OpenedWell.{IsBeside}
 use Rattle.sm_recover.proofs.CountLaws.{later_all}
 use Rattle.sm_recover.proofs.RowsLaws.{in_without, kept_all, rising_kept, row_total, without_in, HasVolume, can_give_back, has_volume}
@@ -72,20 +73,20 @@ use Rattle.sm_recover.proofs.UndoneLaws.{IsOther, base_row, back_row, decide, dr
 
 -- ---- an image under another name
 
-named_in : (n : Name) (image : Body) → volume_name (in_volume n image) ≡ n
+pub named_in : (n : Name) (image : Body) → volume_name (in_volume n image) ≡ n
 named_in n (body.Raw v size) = refl
 named_in n (body.Vhd top m) = refl
 
-parent_in_volume : (n : Name) (image : Body) → parent_name (in_volume n image) ≡ parent_name image
+pub parent_in_volume : (n : Name) (image : Body) → parent_name (in_volume n image) ≡ parent_name image
 parent_in_volume n (body.Raw v size) = refl
 parent_in_volume n (body.Vhd top m) = refl
 
-sized_in : (n : Name) (image : Body) → sector_count (in_volume n image) ≡ sector_count image
+pub sized_in : (n : Name) (image : Body) → sector_count (in_volume n image) ≡ sector_count image
 sized_in n (body.Raw v size) = refl
 sized_in n (body.Vhd top m) = refl
 
 -- it is read as it was, under a name of its kind
-read_renamed : (told : Type 0) (g : Geometry) (sectors : ℕ) (h : Held) (n : Name) (d : List ℕ) (image : Body) → IsReadAs told g sectors h n image → IsReadAs told g sectors h (under_name n d) (in_volume (under_name n d) image)
+pub read_renamed : (told : Type 0) (g : Geometry) (sectors : ℕ) (h : Held) (n : Name) (d : List ℕ) (image : Body) → IsReadAs told g sectors h n image → IsReadAs told g sectors h (under_name n d) (in_volume (under_name n d) image)
 read_renamed told g sectors h (Raw v) d image read = record { is = ap (in_volume (Raw d)) read.is; fits = read.fits }
 read_renamed told g sectors h (Vhd v) d (body.Raw of size) read = absurd read.vhd
 read_renamed told g sectors h (Vhd v) d (body.Vhd top m) read =
@@ -103,6 +104,11 @@ read_renamed told g sectors h (Coalesce a p) d image read = absurd read
 read_renamed told g sectors h (Relink a p) d image read = absurd read
 read_renamed told g sectors h (Leaf l p) d image read = absurd read
 
+pub back_named_image : (n : Name) (d : List ℕ) → is_image_name (under_name n d) ≡ true
+unfolding is_image_name
+back_named_image (Raw b) d = refl
+back_named_image _ d = refl
+
 -- what a store with this table holds
 abbrev pub with_table : Stored → VolumeTable → Stored
 with_table x t = record x { table = t }
@@ -117,7 +123,7 @@ row_moved told x t u r y same row = record {
 
 module _ {S : Type 0} (g : Ghosts S) (store : S) (xs : List TreeRow) (places : List (Option Record)) {was : VolumeTable} (c : IsUndoable (g.site store) was) (are_read : AreRowsOf (read_volumes was) xs)
     (each_read : HasEachRow g.told (stored_with g store (shortened was)) (read_volumes was) xs) (long : length places ≡ place_count)
-    (pass : (x : Outline) → HasTable (g.site store).geometry was x → HasLinks xs x → HasPlaces places x → fault_today_of x ≡ None)
+    (pass : (x : Outline) → HasTable (g.site store).geometry was x → HasLinks xs x → HasPlaces places x → fault_but_leaf_of x ≡ None)
     (d b w : List ℕ) (found : head (making was) ≡ Some (Clone d b w)) where
   abbrev now : VolumeTable
   now = undone was
@@ -238,7 +244,7 @@ module _ {S : Type 0} (g : Ghosts S) (store : S) (xs : List TreeRow) (places : L
 
     pub dropped_beside : IsBeside g store was (rows_back was xs) places
     dropped_beside = subst (λ ys. IsBeside g store was ys places) (sym ys_are) (record {
-      are = are ∙ sym (ap (filter_map (row_among xs)) volumes_now ∙ filtered_without (row_among xs) (Clone d b w) was.volumes (λ r is. none_among xs r (λ q. true≢false (sym q.image ∙ ap is_image is))));
+      are = are ∙ sym (ap (filter_map (row_among xs)) volumes_now ∙ filtered_without (row_among xs) (Clone d b w) was.volumes (λ r is. none_among xs r (λ q. true≢false (sym (named_data r.name q.image) ∙ ap is_image is))));
       each = λ r i filled. let v = from_was r i in let y = each r v.0 filled in (y.0, y.1, row_moved g.told held was now r y.0 v.1 y.2);
       named = λ r i. named_still was now r later (λ n gone. gone_still n gone) (named r (from_was r i).0);
       parents = checked.parents g store xs places (staged c) are_read each_read long pass;
@@ -345,7 +351,7 @@ module _ {S : Type 0} (g : Ghosts S) (store : S) (xs : List TreeRow) (places : L
         raw is = ap (is_filled was) is ∙ right_true (is_filled was (Vhd b)) (is_filled was (Raw b)) (unfilled (Vhd b) (sym (ap (has_twin was) is) ∙ from_passed.0)) made.filled
 
     own_read : (y : TreeRow) × (tree_row xs own.name ≡ Some y) × IsRow g.told held own y
-    own_read = each own own_in (record { image = ap is_image own_name ∙ base.image; filled = own_filled })
+    own_read = each own own_in (record { image = ap is_image_name own_name ∙ one_of_two from b from_kind; filled = own_filled })
 
     abbrev y₀ : TreeRow
     y₀ = own_read.0
@@ -414,11 +420,11 @@ module _ {S : Type 0} (g : Ghosts S) (store : S) (xs : List TreeRow) (places : L
 
     among_new : row_among ys back ≡ Some new
     among_new =
-        among_is ys back (record { image = back_image from d; filled = own_filled }) ∙ ap (row_with back) at_new
+        among_is ys back (record { image = back_named_image from d; filled = own_filled }) ∙ ap (row_with back) at_new
         ∙ ap (λ n. let z : TreeRow = record { image = new.image; hidden = false; extents = n } in Some z) (sym own_read.2.extents)
 
     among_other : (r : Row) → r.name ≢ Vhd w → r.name ≢ Vhd d → r.name ≢ from → r.name ≢ to → row_among ys r ≡ row_among xs r
-    among_other r a e h j = ap (λ o. cond (is_image r.name && not r.fresh) (row_with r o) None) (at_other r.name a e h j)
+    among_other r a e h j = ap (λ o. cond (is_image_name r.name && not r.fresh) (row_with r o) None) (at_other r.name a e h j)
 
     back_in : In back now.volumes
     back_in = row_listed now to back turned.there
@@ -543,7 +549,7 @@ module _ {S : Type 0} (g : Ghosts S) (store : S) (xs : List TreeRow) (places : L
         let seen = checked.seen g store xs places (staged c) are_read each_read long pass in
         let entry = checked.linked g store xs places (staged c) are_read each_read long pass f.row (row_listed was (Clone d b w) f.row f.there) in
         let right = unlinked_seen xs seen (checked.links g store xs places (staged c) are_read each_read long pass) (volumes_seen g store (staged c) xs each_read are_read seen refl)
-        (children_counted g store (staged c) xs each_read are_read seen refl (checked.links g store xs places (staged c) are_read each_read long pass)) (Clone d b w) refl in
+        (children_counted g store (staged c) xs each_read are_read seen refl (checked.links g store xs places (staged c) are_read each_read long pass)) (Clone d b w) in
         let same : is_unlinked_in was xs (Clone d b w) ≡ false = right ∙ ap not (ap (is_entry_linked seen) (sym (row_of-name was.volumes (Clone d b w) f.row f.there)) ∙ entry) in
         not_false (is_fork_linked_in xs d b w) (sym (ap (λ x. x && not (is_fork_linked_in xs d b w)) (base_made f from at_base)) ∙ same)
 

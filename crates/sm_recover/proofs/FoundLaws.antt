@@ -1,7 +1,7 @@
 -- What was read of a volume is what the checks look at: the image that the content has there, or that it has none.
 use Rattle.std.proofs.Common.{◌≡◌, inl, inr, ℕ, ◌*◌, ◌<◌, Bool, true, false, cond, not, ◌&&◌, nat_lt, List, Option, Some, None, is_none, refl, sym, ap, ap₂, ◌∙◌, subst, arith, length}
 use Rattle.std.proofs.lemmas.Bool.{true≢false, cond-true, le-ltb, lt-ltb}
-use Rattle.sm_base.specs.Kinds.{is_image}
+use Rattle.sm_machine.specs.WellFormed.{is_image_name}
 use Rattle.sm_base.specs.declared.names.Name.{Name}
 use Rattle.sm_base.specs.declared.names.Name.TheVariants.{Mgt, Vhd, Raw, Old, Clone, Inflate, Coalesce, Relink, Leaf}
 use Rattle.sm_disk.specs.Held.{Held, reads}
@@ -148,7 +148,8 @@ module _ (told : Type 0) (s : Site) (t : VolumeTable) (area : Held) (r : Row) wh
   invalid_read sized there filled none known = ap₂ (λ f w. not f && w) filled (invalid_named r.name sized there filled none known)
 
 -- a volume that has no image in memory is none that the check speaks of
-wrong_kind : (x : Outline) (r : Row) (n : Name) → is_image n ≡ false → is_image_wrong x r n ≡ false
+wrong_kind : (x : Outline) (r : Row) (n : Name) → is_image_name n ≡ false → is_image_wrong x r n ≡ false
+unfolding is_image_name
 wrong_kind x r Mgt other = refl
 wrong_kind x r (Vhd u) other = absurd (true≢false other)
 wrong_kind x r (Raw u) other = absurd (true≢false other)
@@ -160,9 +161,9 @@ wrong_kind x r (Relink a b) other = refl
 wrong_kind x r (Leaf l p) other = refl
 
 pub skipped : (x : Outline) (r : Row) → (IsFilledImage r → ⊥) → is_invalid x r ≡ false
-skipped x r none = by (is_image r.name) r.fresh refl refl
+skipped x r none = by (is_image_name r.name) r.fresh refl refl
   where
-    by : (i f : Bool) → is_image r.name ≡ i → r.fresh ≡ f → is_invalid x r ≡ false
+    by : (i f : Bool) → is_image_name r.name ≡ i → r.fresh ≡ f → is_invalid x r ≡ false
     by false f other fresh = ap (λ w. not r.fresh && w) (wrong_kind x r r.name other) ∙ and_no (not r.fresh)
     by true true image fresh = ap (λ f. not f && is_image_wrong x r r.name) fresh
     by true false image fresh = absurd (none (record { image = image; filled = fresh }))

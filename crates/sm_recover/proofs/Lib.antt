@@ -34,3 +34,10 @@ pub mod LinkUpLaws
 pub mod EndLaws
 pub mod FirstLaws
 pub mod SweptLaws
+pub mod EndingRows
+pub mod MovedRows
+pub mod EndedMemory
+pub mod EndedThen
+pub mod EndedForks
+pub mod CheckedMemory
+pub mod LeafSettled

@@ -1,5 +1,5 @@
 -- The check of the entries by parents and children: what it says by the images in memory.
-use Rattle.std.proofs.Common.{◌≡◌, ◌⊎◌, arith, inl, inr, ⊎_elim, ℕ, zero, suc, ◌+◌, ◌==◌, Bool, true, false, not, ◌&&◌, ◌||◌, List, [], ◌∷◌, ◌++◌, length, filter, Option, Some, None, refl, sym, ap, ap₂, ◌∙◌, nat_le}
+use Rattle.std.proofs.Common.{◌≡◌, ◌⊎◌, arith, inl, inr, ⊎_elim, ℕ, zero, suc, ◌+◌, ◌==◌, Bool, true, false, cond, not, ◌&&◌, ◌||◌, List, [], ◌∷◌, ◌++◌, length, filter, Option, Some, None, refl, sym, ap, ap₂, ◌∙◌, nat_le}
 use Rattle.std.specs.List.{find, list_any}
 use Rattle.std.proofs.lemmas.Bool.{and_parts, le-leb, ne_eqb, true≢false}
 use Rattle.std.proofs.lemmas.List.{length-append}
@@ -9,21 +9,21 @@ use Rattle.sm_base.specs.declared.names.Name.{Name}
 use Rattle.sm_base.specs.declared.names.Name.TheVariants.{Mgt, Vhd, Raw, Old, Clone, Inflate, Coalesce, Relink, Leaf}
 use Rattle.vg_meta.specs.Roomy.{RoomyRow, RoomyTable, table_alone}
 use Rattle.vg_meta.specs.Tables.{Row}
-use Rattle.common_laws.specs.Lists.{In}
+use Rattle.common_laws.specs.Lists.{In, ◌>>=◌}
 use Rattle.common_laws.proofs.Booleans.{or_cases}
 use Rattle.common_laws.proofs.Lists.{In-append, In-filter, In-left, filter-In}
 use Rattle.sm_machine.specs.Shapes.{same_image}
 use Rattle.sm_machine.proofs.Changes.{list_any-some}
 use Rattle.vhd_image.specs.Bodies.{parent_name, sector_count}
-use Rattle.vhd_chain.specs.Trees.{children as children_in, row_name, tree_row}
+use Rattle.vhd_chain.specs.Trees.{children as children_in, parent_of, row_name, tree_row}
 use Rattle.vhd_chain.specs.declared.rows.TreeRow.{TreeRow}
-use Rattle.sm_standing.specs.Checks.{children, children_with, entry_ahead_fault, entry_link_fault, first_name, has_such_parent, has_uuid, is_base_of, is_entry_ahead, is_entry_linked, name_in, of_image, parent_is, placed}
-use Rattle.sm_standing.specs.Entries.{is_fork_made}
+use Rattle.sm_standing.specs.Checks.{children, children_with, entry_link_fault, first_name, has_such_parent, has_uuid, is_base_of, is_entry_linked, is_leaf_linked, name_in, of_image, parent_is, placed}
+use Rattle.sm_standing.specs.Entries.{is_fork_made, is_leaf_copied, is_leaf_renamed, is_leaf_swapped}
 use Rattle.sm_standing.specs.Outlines.{Link, Outline}
 use Rattle.sm_ready.specs.Outlined.{link_in}
 use Rattle.sm_ready.proofs.Orders.{In-tree_row}
-use Rattle.sm_recover.specs.Faults.{HasChildren, HasLinks, HasVolumes, has_one_child, has_parent_in, is_as_large_in, is_copy_in, is_fork_linked_in, is_link_in, is_new_over, is_other_child, is_over, is_unlinked_in}
-use Rattle.sm_recover.proofs.CheckLaws.{find_same, first_at, held_name, none_ahead}
+use Rattle.sm_recover.specs.Faults.{HasChildren, HasLinks, HasVolumes, has_one_child, has_parent_in, is_as_large_in, is_copy_in, is_fork_linked_in, is_leaf_linked_in, is_link_in, is_new_over, is_other_child, is_over, is_parent_named, is_unlinked_in}
+use Rattle.sm_recover.proofs.CheckLaws.{find_same, first_at, held_name}
 use Rattle.sm_recover.proofs.TableLaws.{own_name}
 use Rattle.sm_recover.proofs.TreeLaws.{named_vhd}
 
@@ -192,27 +192,48 @@ module _ (xs : List TreeRow) (x : Outline) (links : HasLinks xs x) (seen : HasVo
         by None = refl
         by (Some y) = ap₂ (λ a b. a && b) (parent_seen p 0 (parent_name y.image) ∙ any_size (parent_name y.image)) (one_child p)
 
-  pub unlinked_seen : HasChildren xs x → (n : Name) → is_entry_ahead n ≡ false → is_unlinked_in x.table xs n ≡ not (is_entry_linked x n)
+    -- ---- the folding of a leaf
+
+    -- the parent is seen
+    above_seen : (l p : List ℕ) → is_parent_named (Vhd p) (parent_of xs (Vhd l)) ≡ parent_is (Vhd p) (x.links (Vhd l))
+    above_seen l p = by (tree_row xs (Vhd l)) ∙ sym (ap (parent_is (Vhd p)) (links (Vhd l)))
+      where
+        named : (o : Option Name) → is_parent_named (Vhd p) o ≡ elim o as (λ _. Bool) [ None ↦ false | Some q ↦ same_image q (Vhd p) ]
+        named None = refl
+        named (Some q) = refl
+
+        by : (o : Option TreeRow) → is_parent_named (Vhd p) (o >>= (λ (y : TreeRow). parent_name y.image)) ≡ parent_is (Vhd p) (link_in o)
+        by None = refl
+        by (Some y) = named (parent_name y.image)
+
+    leaf_seen : (l p : List ℕ) → is_leaf_linked_in x.table xs l p ≡ is_leaf_linked x l p
+    leaf_seen l p =
+        ap₂ (λ a n. cond (is_leaf_copied x.table l p) (a && (n == 1)) (cond (is_leaf_renamed x.table l p) (n == 0) (cond (is_leaf_swapped x.table l p) (length (children_in xs (Vhd l)) == 0) true)))
+        (above_seen l p) (sym (counted.vhd p))
+        ∙ ap (λ n. cond (is_leaf_copied x.table l p) (parent_is (Vhd p) (x.links (Vhd l)) && (length (children x (Vhd p)) == 1))
+        (cond (is_leaf_renamed x.table l p) (length (children x (Vhd p)) == 0) (cond (is_leaf_swapped x.table l p) (n == 0) true))) (sym (counted.vhd l))
+
+  pub unlinked_seen : HasChildren xs x → (n : Name) → is_unlinked_in x.table xs n ≡ not (is_entry_linked x n)
   unfolding is_entry_linked
-  unlinked_seen counted (Clone d b w) h = by (is_fork_made x.table d b w) (is_fork_linked_in xs d b w) ∙ ap (λ p. not (not (is_fork_made x.table d b w) || p)) (fork_seen d b w)
+  unlinked_seen counted (Clone d b w) = by (is_fork_made x.table d b w) (is_fork_linked_in xs d b w) ∙ ap (λ p. not (not (is_fork_made x.table d b w) || p)) (fork_seen d b w)
     where
       by : (p q : Bool) → (p && not q) ≡ not (not p || q)
       by true q = refl
       by false q = refl
-  unlinked_seen counted Mgt h = refl
-  unlinked_seen counted (Vhd u) h = refl
-  unlinked_seen counted (Raw u) h = refl
-  unlinked_seen counted (Old u) h = refl
-  unlinked_seen counted (Inflate u e) h = refl
-  unlinked_seen counted (Coalesce c p) h = ap not (copy_seen counted c p)
-  unlinked_seen counted (Relink c p) h = ap not (link_seen c p)
-  unlinked_seen counted (Leaf l p) h = absurd (true≢false h)
+  unlinked_seen counted Mgt = refl
+  unlinked_seen counted (Vhd u) = refl
+  unlinked_seen counted (Raw u) = refl
+  unlinked_seen counted (Old u) = refl
+  unlinked_seen counted (Inflate u e) = refl
+  unlinked_seen counted (Coalesce c p) = ap not (copy_seen counted c p)
+  unlinked_seen counted (Relink c p) = ap not (link_seen c p)
+  unlinked_seen counted (Leaf l p) = ap not (leaf_seen counted l p)
 
 -- what is found among the volumes is what the check names
 pub links_at : (k : RoomyTable) (xs : List TreeRow) (x : Outline) {hs : List RoomyRow} {o : Option RoomyRow} {answer : Option Place}
-    → x.table ≡ table_alone k → entry_ahead_fault x ≡ None → HasLinks xs x → HasVolumes xs x → HasChildren xs x → hs ≡ k.rows → o ≡ find (λ h. is_unlinked_in (table_alone k) xs h.row.name) hs → answer ≡ placed at.Journal (held_name o) → answer ≡ entry_link_fault x
+    → x.table ≡ table_alone k → HasLinks xs x → HasVolumes xs x → HasChildren xs x → hs ≡ k.rows → o ≡ find (λ h. is_unlinked_in (table_alone k) xs h.row.name) hs → answer ≡ placed at.Journal (held_name o) → answer ≡ entry_link_fault x
 unfolding entry_link_fault first_name
-links_at k xs x is no_entry links seen counted held found said =
+links_at k xs x is links seen counted held found said =
     first_at at.Journal (λ t r. is_unlinked_in t xs r.name) k is held found said
     ∙ ap (λ q. placed at.Journal (name_in q)) (find_same (λ r. is_unlinked_in x.table xs r.name) (λ r. not (is_entry_linked x r.name)) x.table.volumes
-    (λ r i. unlinked_seen xs x links seen counted r.name (none_ahead x no_entry r i)))
+    (λ r i. unlinked_seen xs x links seen counted r.name))

@@ -1,6 +1,6 @@
 -- A link that a stop has cut short, taken up again: memory that is orderly and ready beside the table without the entry is so beside the
 -- table with it, as the collector's operation.
-use Rattle.std.proofs.Common.{◌≡◌, ℕ, ◌≤◌, ◌||◌, Bool, true, false, cond, List, [], ◌∷◌, length, filter, Option, Some, None, refl, sym, ap, ap₂, ◌∙◌, subst, arith}
+use Rattle.std.proofs.Common.{◌≡◌, ℕ, ◌||◌, Bool, true, false, cond, List, [], ◌∷◌, filter, Option, Some, None, refl, sym, ap, ap₂, ◌∙◌, subst}
 use Rattle.std.specs.List.{AllByRecursion}
 use Rattle.std.proofs.lemmas.Bool.{true≢false}
 use Rattle.std.proofs.lemmas.Option.{none-some, same_Some}
@@ -43,7 +43,7 @@ use Rattle.sm_ready.specs.Ready.{IsBelow, IsReady}
 use Rattle.sm_ready.specs.Stores.{content_now}
 use Rattle.sm_ready.proofs.LeftLaws.{left_in, left_now, links_left}
 use Rattle.sm_ready.proofs.Orders.{In-tree_row}
-use Rattle.gc_coalesce.proofs.EntryLaws.{IsReentered, extents_entry, image_entry, orderly_entry, ready_entry}
+use Rattle.gc_abandon.proofs.EntryLaws.{IsReentered, extents_entry, image_entry, orderly_entry, ready_entry}
 use Rattle.sm_recover.specs.Links.{HasLink}
 use Rattle.sm_recover.specs.Linking.{IsLinkBegun, LinkedBy, LinksAll, LinksRest, link_image}
 use Rattle.sm_recover.specs.Repairs.{IsLinkable, IsLinking}

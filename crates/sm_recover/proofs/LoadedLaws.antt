@@ -5,7 +5,10 @@ use Rattle.std.specs.List.{filter_map, cons_option}
 use Rattle.std.proofs.lemmas.List.{map-append}
 use Rattle.std.proofs.lemmas.Option.{none-some, same_Some}
 use Rattle.sm_base.specs.Kinds.{is_image}
+use Rattle.sm_machine.specs.WellFormed.{is_image_name}
 use Rattle.sm_base.specs.declared.names.Name.{Name}
+use Rattle.sm_base.specs.declared.names.Name.TheVariants.{Vhd, Raw}
+use Rattle.std.proofs.lemmas.Bool.{true≢false}
 use Rattle.vg_meta.specs.Tables.{Row}
 use Rattle.vg_meta.specs.Roomy.{RoomyRow, rows_alone}
 use Rattle.vg_meta.proofs.NameLaws.{less_other}
@@ -24,6 +27,18 @@ use Rattle.sm_recover.specs.Loaded.{AreRowsOf, HasEachRow, IsFilledImage, IsRead
 
 -- ---- the row of a volume
 
+-- a VHD or a raw image is one that holds data
+pub named_data : (n : Name) → is_image_name n ≡ true → is_image n ≡ true
+unfolding is_image_name
+named_data (Vhd u) h = refl
+named_data (Raw u) h = refl
+named_data _ h = absurd (true≢false (sym h))
+
+pub one_of_two : (n : Name) (u : List ℕ) → (n ≡ Vhd u) ⊎ (n ≡ Raw u) → is_image_name n ≡ true
+unfolding is_image_name
+one_of_two n u (inl is) = ap is_image_name is
+one_of_two n u (inr is) = ap is_image_name is
+
 -- what a row among some rows is
 pub record IsAmong (xs : List TreeRow) (r : Row) (x : TreeRow) : Type 0 where
   pub filled : IsFilledImage r
@@ -32,13 +47,13 @@ pub record IsAmong (xs : List TreeRow) (r : Row) (x : TreeRow) : Type 0 where
   pub is : x ≡ record { image = found.image; hidden = r.hidden; extents = length r.extents }
 
 pub among_of : (xs : List TreeRow) (r : Row) (x : TreeRow) → row_among xs r ≡ Some x → IsAmong xs r x
-among_of xs r x e = by (is_image r.name) (r.fresh) refl refl e
+among_of xs r x e = by (is_image_name r.name) (r.fresh) refl refl e
   where
     of : (o : Option TreeRow) → tree_row xs r.name ≡ o → row_with r o ≡ Some x → IsFilledImage r → IsAmong xs r x
     of None is e f = absurd (none-some x e)
     of (Some y) is e f = record { filled = f; found = y; there = is; is = sym (same_Some _ x e) }
 
-    by : (i f : Bool) → is_image r.name ≡ i → r.fresh ≡ f → cond (i && not f) (row_with r (tree_row xs r.name)) None ≡ Some x → IsAmong xs r x
+    by : (i f : Bool) → is_image_name r.name ≡ i → r.fresh ≡ f → cond (i && not f) (row_with r (tree_row xs r.name)) None ≡ Some x → IsAmong xs r x
     by false f image fresh e = absurd (none-some x e)
     by true true image fresh e = absurd (none-some x e)
     by true false image fresh e = of (tree_row xs r.name) refl e (record { image = image; filled = fresh })
@@ -51,7 +66,7 @@ read_from xs r x e =
     let a = among_of xs r x e in
     record {
       named = ap row_name a.is ∙ tree_row-name xs r.name a.found a.there;
-      image = a.filled.image;
+      image = named_data r.name a.filled.image;
       filled = a.filled.filled;
       hidden = ap (λ (z : TreeRow). z.hidden) a.is;
       extents = ap (λ (z : TreeRow). z.extents) a.is;
@@ -59,9 +74,9 @@ read_from xs r x e =
 
 -- a volume that has no row
 pub none_among : (xs : List TreeRow) (r : Row) → (IsFilledImage r → ⊥) → row_among xs r ≡ None
-none_among xs r not_filled = by (is_image r.name) (r.fresh) refl refl
+none_among xs r not_filled = by (is_image_name r.name) (r.fresh) refl refl
   where
-    by : (i f : Bool) → is_image r.name ≡ i → r.fresh ≡ f → cond (i && not f) (row_with r (tree_row xs r.name)) None ≡ None
+    by : (i f : Bool) → is_image_name r.name ≡ i → r.fresh ≡ f → cond (i && not f) (row_with r (tree_row xs r.name)) None ≡ None
     by false f image fresh = refl
     by true true image fresh = refl
     by true false image fresh = absurd (not_filled (record { image = image; filled = fresh }))
@@ -117,7 +132,7 @@ module _ {hs : List RoomyRow} {i : ℕ} {h : RoomyRow} (a : IsItem hs i h) where
       front_same : (rs : List Row) → ((q : Row) → In q rs → q.name ≢ h.row.name) → filter_map (row_among (with_row x xs)) rs ≡ filter_map (row_among xs) rs
       front_same [] other = refl
       front_same (q ∷ rs) other =
-          ap₂ cons_option (ap (λ o. cond (is_image q.name && not q.fresh) (row_with q o) None) (other_found q.name (other q (inl refl))))
+          ap₂ cons_option (ap (λ o. cond (is_image_name q.name && not q.fresh) (row_with q o) None) (other_found q.name (other q (inl refl))))
           (front_same rs (λ s there. other s (inr there)))
 
       front : filter_map (row_among (with_row x xs)) (rows_alone (take i hs)) ≡ xs
@@ -190,7 +205,7 @@ module _ {told : Type 0} {held : Stored} {rs : List Row} {xs : List TreeRow} (ar
       }
 
 -- each volume of an image that is not new has one
-pub read_each : {told : Type 0} {held : Stored} (rs : List Row) (xs : List TreeRow) → HasEachRow told held rs xs → (r : Row) → In r rs → is_image r.name ≡ true → r.fresh ≡ false → (x : TreeRow) × (row_among xs r ≡ Some x)
+pub read_each : {told : Type 0} {held : Stored} (rs : List Row) (xs : List TreeRow) → HasEachRow told held rs xs → (r : Row) → In r rs → is_image_name r.name ≡ true → r.fresh ≡ false → (x : TreeRow) × (row_among xs r ≡ Some x)
 read_each rs xs each r i image filled =
     let f : IsFilledImage r = record { image = image; filled = filled } in
     let w = each r i f in

@@ -3,6 +3,7 @@
 use Rattle.std.proofs.Common.{◌≡◌, ◌≢◌, ℕ, ◌*◌, ◌<◌, ◌≤◌, Bool, true, false, not, ◌&&◌, ◌||◌, List, [], length, map, filter, Option, Some, is_some, refl, sym, ap, ap₂, ◌∙◌, subst, subst₂, arith}
 use Rattle.std.proofs.lemmas.Bool.{true≢false}
 use Rattle.std.proofs.Math.Nat.{mul_assoc, le-mul_of_pos_right, le_of_mul-le-mul_right}
+use Rattle.sm_base.specs.Kinds.{is_image}
 use Rattle.sm_base.specs.declared.names.Name.{Name}
 use Rattle.sm_base.specs.declared.names.Name.TheVariants.{Mgt, Vhd, Raw, Old, Clone, Inflate, Coalesce, Relink, Leaf}
 use Rattle.sm_base.specs.declared.operations.Op.TheVariants.{Idle}
@@ -56,7 +57,7 @@ use Rattle.sm_recover.proofs.FoundLaws.{image_short, sectors_by, valid_there}
 use Rattle.sm_recover.proofs.TableLaws.{short_sized}
 use Rattle.sm_recover.proofs.UndoneLaws.{records_undone, undone_checked}
 use Rattle.sm_recover.proofs.HoldingLaws.{holds_each}
-use Rattle.sm_recover.proofs.LoadedLaws.{read_each, read_from, read_row}
+use Rattle.sm_recover.proofs.LoadedLaws.{named_data, read_each, read_from, read_row}
 use Rattle.sm_recover.proofs.ReadLaws.{image_named, some_extents}
 use Rattle.sm_recover.proofs.RemovalLaws.{no_entry}
 
@@ -181,7 +182,7 @@ module _ {S : Type 0} (g : Ghosts S) (store : S) (xs : List TreeRow) (places : L
         let w = read_row are each x i in
         subst (λ k. IsImageRow (shape_in s t (begun_with xs places room)) (machine_row (row_by x.image x.hidden k))) (sym w.row.extents)
         (row_proper g.told s t (begun_with xs places room) (held_in (stored_with g store (undone was)) w.volume.name) w.volume.name x.image x.hidden (length w.volume.extents) w.row.image
-        (some_extents w.volume (All-In IsVolume t.volumes w.volume d.table.volumes.each w.there).kind w.filled.image) w.row.named)
+        (some_extents w.volume (All-In IsVolume t.volumes w.volume d.table.volumes.each w.there).kind (named_data w.volume.name w.filled.image)) w.row.named)
 
     shown : (x : TreeRow) → In x xs → x.hidden ≡ false → is_some (standing_volume t (image_uuid (row_name x))) ≡ true
     shown x i visible =
@@ -189,7 +190,7 @@ module _ {S : Type 0} (g : Ghosts S) (store : S) (xs : List TreeRow) (places : L
         let there = found_in t.volumes d.table.volumes.rising w.volume w.there in
         let hidden : w.volume.hidden ≡ false = sym w.row.hidden ∙ visible in
         subst (λ n. is_some (standing_volume t (image_uuid n)) ≡ true) (sym w.row.named)
-        (uuid_shown t w.volume.name (own_plain t d.plain) (image_named w.volume.name (simple_known_name w.volume.name (plain_simple_name w.volume.name (plain_at w.volume w.there))) w.filled.image)
+        (uuid_shown t w.volume.name (own_plain t d.plain) (image_named w.volume.name (simple_known_name w.volume.name (plain_simple_name w.volume.name (plain_at w.volume w.there))) (named_data w.volume.name w.filled.image))
         (visible_row t w.volume.name w.volume there ∙ ap₂ (λ h d. not h && not d) hidden w.filled.filled))
 
     read : IsRead s t (row_among xs) xs places
@@ -203,7 +204,7 @@ module _ {S : Type 0} (g : Ghosts S) (store : S) (xs : List TreeRow) (places : L
       new_image = λ r i new. plain_image r.name (plain_at r i) (not_records d.table (r, found_in t.volumes d.table.volumes.rising r i, new));
       no_entry = no_entry t d.plain;
       from = read_from xs;
-      all = read_each t.volumes xs each;
+      all = λ r i image filled. read_each t.volumes xs each r i (plain_image r.name (plain_at r i) (λ is. true≢false (sym image ∙ ap is_image is))) filled;
       proper = proper;
       parents = k.parents;
       chains = k.chains;

@@ -1,16 +1,13 @@
 -- The checks one after another: which place is the first, and what is known where none is.
 use Rattle.std.proofs.Common.{◌≡◌, ℕ, zero, suc, ◌+◌, ◌<◌, ◌≤◌, ◌⊎◌, inl, inr, Bool, true, false, cond, not, List, [], ◌∷◌, ◌++◌, length, get_or, Option, Some, None, refl, sym, ap, ◌∙◌, subst, subst₂, arith}
 use Rattle.std.specs.List.{find}
-use Rattle.std.specs.Ordering.{is_lt}
 use Rattle.std.specs.Prelude.{Result, Err, IfErr, IfNone, IfSome}
 use Rattle.std.proofs.lemmas.Bool.{cases_lt, ltb-false, eqb-true}
-use Rattle.std.proofs.lemmas.Option.{none-some, slice_get-get_or, slice_get_within}
+use Rattle.std.proofs.lemmas.Option.{slice_get-get_or, slice_get_within}
 use Rattle.sm_base.specs.declared.faults.OpenFault.{OpenFault}
 use Rattle.sm_base.specs.declared.faults.OpenFault.TheVariants as fault
 use Rattle.sm_base.specs.declared.faults.Place.{Place}
 use Rattle.sm_base.specs.declared.faults.Place.TheVariants as at
-use Rattle.sm_base.specs.Names.{name_cmp}
-use Rattle.sm_base.specs.declared.names.Name.{Name}
 use Rattle.sm_base.specs.declared.names.Name.TheVariants.{Mgt}
 use Rattle.sm_base.specs.declared.sizes.Geometry.{Geometry}
 use Rattle.sm_disk.specs.Held.{Held, reads, Rose}
@@ -28,17 +25,17 @@ use Rattle.sm_record.specs.declared.records.Reading.TheVariants.{Free, Taken, Da
 use Rattle.sm_record.specs.Records.{reading}
 use Rattle.sm_mgt.specs.Places.{Agrees, as_reading, records_held, records_of, IsFirstDamaged, reading_of}
 use Rattle.sm_standing.specs.Contents.{record_count}
-use Rattle.sm_standing.specs.Checks.{has_records, is_lost, is_misnamed, lesser, record_volume_fault, too_many_fault, misnamed_fault, entry_ahead_fault, second_entry_fault, lost_entry_fault, old_leaf_fault, invalid_fault, tree_fault, entry_link_fault, record_fault, record_place, is_damaged, disk_fault, fault_today_of, first_fault_today}
+use Rattle.sm_standing.specs.Checks.{has_records, is_lost, is_misnamed, is_orphaned, record_volume_fault, too_many_fault, misnamed_fault, second_entry_fault, lost_entry_fault, old_leaf_fault, invalid_fault, tree_fault, entry_link_fault, record_fault, record_place, is_damaged, disk_fault, fault_of, first_fault}
 use Rattle.sm_standing.specs.Outlines.{Outline, reading_in, outline}
 use Rattle.sm_standing.proofs.OutlineLaws.{reading_within}
 use Rattle.common_laws.proofs.Lists.{none_first, find_none, In-numbers}
 use Rattle.sm_ready.specs.Stores.{content_in, content_now}
 use Rattle.sm_recover.specs.Faults.{HasTable, HasPlaces, PassImages, table_faults}
-use Rattle.sm_recover.specs.Repairs.{IsEndable, IsOpeningStopped, IsStoppedBy}
+use Rattle.sm_recover.specs.Repairs.{IsOpenable, IsOpeningStopped, IsStoppedBy}
 use Rattle.sm_standing.proofs.FaultLaws.{named_none, none_given}
 use Rattle.sm_standing.specs.Entries.{folding, making, second}
 use Rattle.sm_recover.proofs.CheckLaws.{only}
-use Rattle.sm_standing.proofs.PlainKept.{known_table}
+use Rattle.sm_recover.proofs.CheckLaws.{lesser_none, placed_none}
 use Rattle.sm_recover.proofs.TableLaws.{records_room}
 use Rattle.common_laws.proofs.Booleans.{not_false}
 use Rattle.sm_ready.proofs.LeftLaws.{now_sector}
@@ -46,11 +43,11 @@ use Rattle.sm_ready.proofs.LeftLaws.{now_sector}
 -- ---- the volume of records
 
 -- it has all its sectors
-pub records_fit : {s : Site} {t : VolumeTable} → IsEndable s t → record_count ≤ size_of s t Mgt
+pub records_fit : {s : Site} {t : VolumeTable} → IsOpenable s t → record_count ≤ size_of s t Mgt
 records_fit {s} {t} c = records_room s t c.record_volume
 
 -- a reading is that of the sector that the store holds
-reading_held : {s : Site} {t : VolumeTable} (area : Held) (k : ℕ) → IsEndable s t → k < record_count → reading_in (content_now s t area) k ≡ reading_of (records_held s t area) k
+reading_held : {s : Site} {t : VolumeTable} (area : Held) (k : ℕ) → IsOpenable s t → k < record_count → reading_in (content_now s t area) k ≡ reading_of (records_held s t area) k
 reading_held {s} {t} area k c below = reading_within (content_now s t area) k below ∙ ap reading (now_sector s t area Mgt k (omega (arith, below, records_fit c)))
 
 -- ---- the first of all
@@ -69,39 +66,39 @@ abbrev behind : Outline → List (Option Place)
 behind x = invalid_fault x ∷ tree_fault x ∷ entry_link_fault x ∷ record_fault x ∷ disk_fault x ∷ []
 
 -- a check by the table is the first that fails
-pub today_table : (x : Outline) (place : Place) → first_some (table_faults x) ≡ Some place → fault_today_of x ≡ Some place
-unfolding fault_today_of
-today_table x place h = first_front (table_faults x) (behind x) place h
+pub whole_table : (x : Outline) (place : Place) → first_some (table_faults x) ≡ Some place → fault_of x ≡ Some place
+unfolding fault_of
+whole_table x place h = first_front (table_faults x) (behind x) place h
 
 -- where they pass, it is one of the images, of their parents, of the records, of the disks, or none
-pub today_images : (x : Outline) → first_some (table_faults x) ≡ None → fault_today_of x ≡ first_some (behind x)
-unfolding fault_today_of
-today_images x none = first_behind (table_faults x) (behind x) none
+pub whole_images : (x : Outline) → first_some (table_faults x) ≡ None → fault_of x ≡ first_some (behind x)
+unfolding fault_of
+whole_images x none = first_behind (table_faults x) (behind x) none
 
-pub today_valid : (x : Outline) (place : Place) → first_some (table_faults x) ≡ None → invalid_fault x ≡ Some place → fault_today_of x ≡ Some place
-today_valid x place none h = today_images x none ∙ ap (λ o. first_some (o ∷ tree_fault x ∷ entry_link_fault x ∷ record_fault x ∷ disk_fault x ∷ [])) h
+pub whole_valid : (x : Outline) (place : Place) → first_some (table_faults x) ≡ None → invalid_fault x ≡ Some place → fault_of x ≡ Some place
+whole_valid x place none h = whole_images x none ∙ ap (λ o. first_some (o ∷ tree_fault x ∷ entry_link_fault x ∷ record_fault x ∷ disk_fault x ∷ [])) h
 
-pub today_trees : (x : Outline) (place : Place) → first_some (table_faults x) ≡ None → invalid_fault x ≡ None → tree_fault x ≡ Some place → fault_today_of x ≡ Some place
-today_trees x place none valid h =
-    today_images x none ∙ ap (λ o. first_some (o ∷ tree_fault x ∷ entry_link_fault x ∷ record_fault x ∷ disk_fault x ∷ [])) valid
+pub whole_trees : (x : Outline) (place : Place) → first_some (table_faults x) ≡ None → invalid_fault x ≡ None → tree_fault x ≡ Some place → fault_of x ≡ Some place
+whole_trees x place none valid h =
+    whole_images x none ∙ ap (λ o. first_some (o ∷ tree_fault x ∷ entry_link_fault x ∷ record_fault x ∷ disk_fault x ∷ [])) valid
     ∙ ap (λ o. first_some (o ∷ entry_link_fault x ∷ record_fault x ∷ disk_fault x ∷ [])) h
 
-today_behind : (x : Outline) → first_some (table_faults x) ≡ None → invalid_fault x ≡ None → tree_fault x ≡ None → fault_today_of x ≡ first_some (entry_link_fault x ∷ record_fault x ∷ disk_fault x ∷ [])
-today_behind x none valid trees =
-    today_images x none ∙ ap (λ o. first_some (o ∷ tree_fault x ∷ entry_link_fault x ∷ record_fault x ∷ disk_fault x ∷ [])) valid
+whole_behind : (x : Outline) → first_some (table_faults x) ≡ None → invalid_fault x ≡ None → tree_fault x ≡ None → fault_of x ≡ first_some (entry_link_fault x ∷ record_fault x ∷ disk_fault x ∷ [])
+whole_behind x none valid trees =
+    whole_images x none ∙ ap (λ o. first_some (o ∷ tree_fault x ∷ entry_link_fault x ∷ record_fault x ∷ disk_fault x ∷ [])) valid
     ∙ ap (λ o. first_some (o ∷ entry_link_fault x ∷ record_fault x ∷ disk_fault x ∷ [])) trees
 
-pub today_links : (x : Outline) (place : Place) → first_some (table_faults x) ≡ None → invalid_fault x ≡ None → tree_fault x ≡ None → entry_link_fault x ≡ Some place → fault_today_of x ≡ Some place
-today_links x place none valid trees h = today_behind x none valid trees ∙ ap (λ o. first_some (o ∷ record_fault x ∷ disk_fault x ∷ [])) h
+pub whole_links : (x : Outline) (place : Place) → first_some (table_faults x) ≡ None → invalid_fault x ≡ None → tree_fault x ≡ None → entry_link_fault x ≡ Some place → fault_of x ≡ Some place
+whole_links x place none valid trees h = whole_behind x none valid trees ∙ ap (λ o. first_some (o ∷ record_fault x ∷ disk_fault x ∷ [])) h
 
-today_last : (x : Outline) → first_some (table_faults x) ≡ None → PassImages x → fault_today_of x ≡ first_some (record_fault x ∷ disk_fault x ∷ [])
-today_last x none pass = today_behind x none pass.valid pass.placed ∙ ap (λ o. first_some (o ∷ record_fault x ∷ disk_fault x ∷ [])) pass.linked
+whole_last : (x : Outline) → first_some (table_faults x) ≡ None → PassImages x → fault_of x ≡ first_some (record_fault x ∷ disk_fault x ∷ [])
+whole_last x none pass = whole_behind x none pass.valid pass.placed ∙ ap (λ o. first_some (o ∷ record_fault x ∷ disk_fault x ∷ [])) pass.linked
 
-pub today_records : (x : Outline) (place : Place) → first_some (table_faults x) ≡ None → PassImages x → record_fault x ≡ Some place → fault_today_of x ≡ Some place
-today_records x place none pass h = today_last x none pass ∙ ap (λ o. first_some (o ∷ disk_fault x ∷ [])) h
+pub whole_records : (x : Outline) (place : Place) → first_some (table_faults x) ≡ None → PassImages x → record_fault x ≡ Some place → fault_of x ≡ Some place
+whole_records x place none pass h = whole_last x none pass ∙ ap (λ o. first_some (o ∷ disk_fault x ∷ [])) h
 
-pub today_disks : (x : Outline) → first_some (table_faults x) ≡ None → PassImages x → record_fault x ≡ None → fault_today_of x ≡ disk_fault x
-today_disks x none pass right = today_last x none pass ∙ ap (λ q. first_some (q ∷ disk_fault x ∷ [])) right ∙ only (disk_fault x)
+pub whole_disks : (x : Outline) → first_some (table_faults x) ≡ None → PassImages x → record_fault x ≡ None → fault_of x ≡ disk_fault x
+whole_disks x none pass right = whole_last x none pass ∙ ap (λ q. first_some (q ∷ disk_fault x ∷ [])) right ∙ only (disk_fault x)
 
 -- ---- where the checks by the table pass
 
@@ -117,44 +114,27 @@ records_long : (x : Outline) (o : Option Row) → not (has_records x o) ≡ fals
 records_long x None h = absurd (let e = h in cc)
 records_long x (Some r) h = eqb-true _ _ (not_false _ h)
 
-none_placed : {A : Type 0} (place : A → Place) (o : Option A) → elim o as (λ _. Option Place) [ None ↦ None | Some n ↦ Some (place n) ] ≡ None → o ≡ None
-none_placed place None h = refl
-none_placed place (Some n) h = absurd (none-some (place n) (sym h))
-
-lesser_none : (a b : Option Name) → lesser a b ≡ None → (a ≡ None) × (b ≡ None)
-lesser_none None b is = (refl, is)
-lesser_none (Some x) None is = absurd (none-some x (sym is))
-lesser_none (Some x) (Some y) is = by (is_lt (name_cmp x y)) is
-  where
-    by : (c : Bool) → cond c (Some x) (Some y) ≡ None → (Some x ≡ None) × (Some y ≡ None)
-    by true is = absurd (none-some x (sym is))
-    by false is = absurd (none-some y (sym is))
-
-pub checked_from : (s : Site) (t : VolumeTable) → IsTable s.count t → s.count ≤ 65536 → TablesSay s t None → IsEndable s t
-unfolding record_volume_fault too_many_fault misnamed_fault second_entry_fault lost_entry_fault
+pub checked_from : (s : Site) (t : VolumeTable) → IsTable s.count t → s.count ≤ 65536 → TablesSay s t None → IsOpenable s t
+unfolding record_volume_fault too_many_fault misnamed_fault second_entry_fault lost_entry_fault old_leaf_fault
 checked_from s t table extents none =
     let x : Outline = outline (content_in s t (λ p. [])) in
     let each = none_first (table_faults x) (none x (has_table s t (λ p. []))) in
-    let entries = lesser_none (second (folding t)) (second (making t)) (none_placed at.Journal _ (each (second_entry_fault x) (inr (inr (inr (inr (inl refl))))))) in
+    let entries = lesser_none (second (folding t)) (second (making t)) (placed_none at.Journal _ (each (second_entry_fault x) (inr (inr (inr (inl refl)))))) in
     record {
       table = table;
       few_extents = extents;
-      known = known_table x (each (entry_ahead_fault x) (inr (inr (inr (inl refl))))) (each (old_leaf_fault x) (inr (inr (inr (inr (inr (inr (inl refl))))))));
+      owned = named_none at.Image (λ r. is_orphaned t r.name) t.volumes (each (old_leaf_fault x) (inr (inr (inr (inr (inr (inl refl)))))));
       one_entry = entries.1;
       one_folding = entries.0;
-      at_stage = named_none at.Journal (is_lost t) t.volumes (each (lost_entry_fault x) (inr (inr (inr (inr (inr (inl refl)))))));
+      at_stage = named_none at.Journal (is_lost t) t.volumes (each (lost_entry_fault x) (inr (inr (inr (inr (inl refl))))));
       named = named_none at.Image (is_misnamed t) t.volumes (each (misnamed_fault x) (inr (inr (inl refl))));
       few_images = ltb-false _ _ (none_given _ at.Images (each (too_many_fault x) (inr (inl refl))));
       record_volume = records_long x (rows t Mgt) (none_given _ at.Mgt (each (record_volume_fault x) (inl refl)));
     }
 
--- no entry is there that is neither ended nor undone
-pub none_ahead_of : (x : Outline) → first_some (table_faults x) ≡ None → entry_ahead_fault x ≡ None
-none_ahead_of x none = none_first (table_faults x) none (entry_ahead_fault x) (inr (inr (inr (inl refl))))
-
 -- ---- the records
 
-has_places : {s : Site} {t : VolumeTable} (area : Held) (places : List (Option Record)) → IsEndable s t → Agrees (records_held s t area) places
+has_places : {s : Site} {t : VolumeTable} (area : Held) (places : List (Option Record)) → IsOpenable s t → Agrees (records_held s t area) places
     → HasPlaces places (outline (content_now s t area))
 has_places area places c agrees = record {
   long = agrees.long;
@@ -190,7 +170,7 @@ damaged_test (Taken x) h = refl
 damaged_test Damaged h = absurd (h refl)
 
 -- the first sector that is damaged
-records_wrong : {s : Site} {t : VolumeTable} (area : Held) (k : ℕ) → IsEndable s t → IsFirstDamaged (records_held s t area) k → record_fault (outline (content_now s t area)) ≡ Some (at.Record k)
+records_wrong : {s : Site} {t : VolumeTable} (area : Held) (k : ℕ) → IsOpenable s t → IsFirstDamaged (records_held s t area) k → record_fault (outline (content_now s t area)) ≡ Some (at.Record k)
 unfolding record_fault
 records_wrong {s} {t} area k c first =
     ap record_place (first_number (λ j. is_damaged (reading_in (content_now s t area) j)) 0 record_count k (omega arith) (omega (arith, first.within))
@@ -205,11 +185,11 @@ tables_say s g k kept o same geometry says x has = sym (says x (subst₂ (λ h (
 
 -- of an outline with this table and these places
 pub all_pass : (s : Site) {t u : VolumeTable} (places : List (Option Record)) (o : Option Place) → u ≡ t → TablesSay s t None
-    → ((x : Outline) → x.table ≡ u → HasPlaces places x → o ≡ disk_fault x) → (x : Outline) → HasTable s.geometry t x → PassImages x → HasPlaces places x → fault_today_of x ≡ o
-all_pass s places o same none says x is images has = today_disks x (none x is) images (records_right x places has) ∙ sym (says x (is.table ∙ sym same) has)
+    → ((x : Outline) → x.table ≡ u → HasPlaces places x → o ≡ disk_fault x) → (x : Outline) → HasTable s.geometry t x → PassImages x → HasPlaces places x → fault_of x ≡ o
+all_pass s places o same none says x is images has = whole_disks x (none x is) images (records_right x places has) ∙ sym (says x (is.table ∙ sym same) has)
 
-pub all_say : {s : Site} {t u : VolumeTable} (area : Held) (places : List (Option Record)) (o : Option Place) → IsEndable s t → u ≡ t → Agrees (records_held s t area) places
-    → TablesSay s t None → ((x : Outline) → x.table ≡ u → HasPlaces places x → o ≡ disk_fault x) → PassImages (outline (content_now s t area)) → first_fault_today (content_now s t area) ≡ o
+pub all_say : {s : Site} {t u : VolumeTable} (area : Held) (places : List (Option Record)) (o : Option Place) → IsOpenable s t → u ≡ t → Agrees (records_held s t area) places
+    → TablesSay s t None → ((x : Outline) → x.table ≡ u → HasPlaces places x → o ≡ disk_fault x) → PassImages (outline (content_now s t area)) → first_fault (content_now s t area) ≡ o
 all_say {s} {t} area places o c same agrees none says images =
     all_pass s places o same none says (outline (content_now s t area)) (has_table s t (reads area)) images (has_places area places c agrees)
 
@@ -217,7 +197,7 @@ all_say {s} {t} area places o c same agrees none says images =
 pub not_read : (s : Site) (t : VolumeTable) (told : Type 0) (area : Held) (before now : ℕ) (e : OpenFault) → TablesSay s t None
     → IsStoppedBy told (invalid_fault (outline (content_now s t area))) before now e → IsOpeningStopped told (content_now s t area) before now e
 not_read s t told area before now (fault.Damaged place) none is = λ known.
-    let x = outline (content_now s t area) in today_valid x place (none x (has_table s t (reads area))) (is known)
+    let x = outline (content_now s t area) in whole_valid x place (none x (has_table s t (reads area))) (is known)
 not_read s t told area before now fault.Device none is = is
 not_read s t told area before now fault.NoMemory none is = tt
 not_read s t told area before now fault.NotARepository none is = is
@@ -232,7 +212,7 @@ module _ {S : Type 0} {g : Ghosts S} {a b : S} (only : OnlyReads g a b) (told : 
   damaged_before k = subst (λ (y : Stored). IsFirstDamaged (records_held y.site y.table y.area) k) (stored_as only told)
 
 -- why the records were not read
-pub stopped_by : {s : Site} {t : VolumeTable} (told : Type 0) (area : Held) (before mid now : ℕ) (e : OpenFault) {First : ℕ → Type 0} → IsEndable s t → TablesSay s t None → (told → PassImages (outline (content_now s t area))) → before ≤ mid
+pub stopped_by : {s : Site} {t : VolumeTable} (told : Type 0) (area : Held) (before mid now : ℕ) (e : OpenFault) {First : ℕ → Type 0} → IsOpenable s t → TablesSay s t None → (told → PassImages (outline (content_now s t area))) → before ≤ mid
     → (told → (k : ℕ) → First k → IsFirstDamaged (records_held s t area) k)
     → (e ≡ fault.NoMemory) ⊎ ((e ≡ fault.Device) × Rose mid now) ⊎ ((k : ℕ) × (e ≡ fault.Damaged (at.Record k)) × (told → First k))
     → IsOpeningStopped told (content_now s t area) before now e
@@ -241,7 +221,7 @@ stopped_by {s} {t} told area before mid now e c none images later to_first (inr 
 stopped_by {s} {t} told area before mid now e c none images later to_first (inr (inr (k, is, first))) =
     let x = outline (content_now s t area) in
     subst (IsOpeningStopped told (content_now s t area) before now) (sym is)
-    (λ known. today_records x (at.Record k) (none x (has_table s t (reads area))) (images known) (records_wrong area k c (to_first known k (first known))))
+    (λ known. whole_records x (at.Record k) (none x (has_table s t (reads area))) (images known) (records_wrong area k c (to_first known k (first known))))
 
 pub if_err : {T E : Type 0} (P : E → Type 0) (r : Result T E) (e : E) → r ≡ Err e → P e → IfErr r P
 if_err P r e is p = subst (λ x. IfErr x P) (sym is) p

@@ -27,10 +27,10 @@ use Rattle.common_laws.specs.Lists.{In}
 use Rattle.common_laws.proofs.Lists.{In-map_at}
 use Rattle.sm_machine.specs.Shapes.{same_image}
 use Rattle.sm_machine.specs.WellFormed.{is_image_name}
+use Rattle.sm_recover.proofs.LoadedLaws.{named_data}
 use Rattle.sm_standing.specs.Entries.{making}
 use Rattle.sm_standing.specs.Images.{image_extents}
-use Rattle.sm_standing.specs.Plain.{is_known, is_known_name}
-use Rattle.sm_standing.proofs.PlainDisks.{all-In}
+use Rattle.sm_standing.specs.Plain.{is_known_name}
 use Rattle.vhd_fields.specs.declared.footers.Footer.{Footer}
 use Rattle.vhd_fields.specs.declared.headers.Header.{Header}
 use Rattle.vhd_map.specs.Slots.{slot_of}
@@ -46,8 +46,8 @@ use Rattle.vhd_image.specs.declared.images.Body.TheVariants as body
 use Rattle.sm_ready.proofs.LoadLaws.{at_item, extents_few}
 use Rattle.sm_ready.proofs.RowLaws.{All-In, found_in}
 use Rattle.sm_recover.specs.Loaded.{FailsAt, FailsToRead, IsNoneRead, IsRawRead, IsReadAs, IsRow, as_read, shortened, stored_read}
-use Rattle.sm_recover.specs.Repairs.{IsEndable, IsEndableStore}
-use Rattle.sm_recover.proofs.EntryLaws.{staged_end}
+use Rattle.sm_recover.specs.Repairs.{IsOpenable, IsOpenableStore}
+use Rattle.sm_recover.proofs.EntryLaws.{staged_open}
 use Rattle.sm_recover.proofs.TableLaws.{image_not_making, read_within, short_row}
 
 -- ---- a raw image
@@ -105,7 +105,7 @@ place_in [] i x at = absurd (none-some x at)
 place_in (y ∷ xs) zero x at = inl (sym (same_Some y x at))
 place_in (y ∷ xs) (suc i) x at = inr (place_in xs i x at)
 
-module _ {s : Site} (kept : RoomyTable) {k : RoomyTable} {hs : List RoomyRow} {i : ℕ} {h : RoomyRow} (c : IsEndable s (table_alone kept)) (same : k ≡ kept) (is : hs ≡ k.rows) (within : i < length (rows_alone kept.rows)) (at : h ≡ get_or hs i h) where
+module _ {s : Site} (kept : RoomyTable) {k : RoomyTable} {hs : List RoomyRow} {i : ℕ} {h : RoomyRow} (c : IsOpenable s (table_alone kept)) (same : k ≡ kept) (is : hs ≡ k.rows) (within : i < length (rows_alone kept.rows)) (at : h ≡ get_or hs i h) where
   rows_are : hs ≡ kept.rows
   rows_are = is ∙ ap (λ (x : RoomyTable). x.rows) same
 
@@ -128,11 +128,8 @@ module _ {s : Site} (kept : RoomyTable) {k : RoomyTable} {hs : List RoomyRow} {i
       let long : length (rows_alone kept.rows) ≡ length kept.rows = length-map kept.rows alone in
       extents_few kept c.table rows_are (at_item c.table same is (omega (arith, within, long, ap (λ (xs : List RoomyRow). length xs) rows_are)) at) c.few_extents
 
-  pub row_named : is_image h.row.name ≡ true → is_image_name h.row.name ≡ true
-  row_named image = image_named h.row.name (all-In (λ (x : Row). is_known x ≡ true) (rows_alone kept.rows) h.row c.known row_in) image
-
-  pub row_some : is_image h.row.name ≡ true → 1 ≤ length h.row.extents
-  row_some image = some_extents h.row (All-In IsVolume (rows_alone kept.rows) h.row c.table.volumes.each row_in).kind image
+  pub row_some : is_image_name h.row.name ≡ true → 1 ≤ length h.row.extents
+  row_some image = some_extents h.row (All-In IsVolume (rows_alone kept.rows) h.row c.table.volumes.each row_in).kind (named_data h.row.name image)
 
   pub row_size : length h.row.extents * s.geometry.extent ≡ size_of s (table_alone kept) h.row.name
   row_size = sym (ap (λ o. length (extents_of o) * s.geometry.extent) (found_in (rows_alone kept.rows) c.table.volumes.rising h.row row_in))
@@ -217,7 +214,7 @@ many_is {kept = kept} {n = n} {es = es} is same named extents =
     is ∙ ap (λ (x : RoomyTable). image_extents (making (table_alone x)) n (length es)) same
     ∙ ap₂ (λ (x : Name) (ys : List ℕ). image_extents (making (table_alone kept)) x (length ys)) named extents
 
-module _ {S : Type 0} (g : Ghosts S) (s : S) (r : Row) (c : IsEndableStore g s) (there : In r (table_alone (g.table s)).volumes) (image : is_image r.name ≡ true) where
+module _ {S : Type 0} (g : Ghosts S) (s : S) (r : Row) (c : IsOpenableStore g s) (there : In r (table_alone (g.table s)).volumes) (image : is_image_name r.name ≡ true) where
   abbrev t : VolumeTable
   t = table_alone (g.table s)
 
@@ -226,7 +223,7 @@ module _ {S : Type 0} (g : Ghosts S) (s : S) (r : Row) (c : IsEndableStore g s) 
   many = image_extents (making t) r.name (length r.extents)
 
   within : many ≤ length r.extents
-  within = read_within (staged_end c) r there
+  within = read_within (staged_open c) r there
 
   many_read : length (as_read (making t) r).extents ≡ many
   many_read = length-take-le many r.extents within
@@ -236,7 +233,7 @@ module _ {S : Type 0} (g : Ghosts S) (s : S) (r : Row) (c : IsEndableStore g s) 
 
   extents_short : extents_of (rows (shortened t) r.name) ≡ take many (extents_of (rows t r.name))
   extents_short =
-      ap extents_of (short_row (staged_end c) r.name (image_not_making r.name image) ∙ ap (option_map (as_read (making t))) row_found)
+      ap extents_of (short_row (staged_open c) r.name (image_not_making r.name (named_data r.name image)) ∙ ap (option_map (as_read (making t))) row_found)
       ∙ sym (ap (λ o. take many (extents_of o)) row_found)
 
   same_below : SameBelow (many * (g.site s).geometry.extent) (reads (held_in (stored g s) r.name)) (reads (held_in (stored_read g s) r.name))

@@ -2,7 +2,7 @@
 use Rattle.std.proofs.Common.{◌≡◌, ℕ, Bool, true, false, List, Option, Some, None, length, filter, refl, sym, ap, ◌∙◌, subst}
 use Rattle.std.proofs.lemmas.Bool.{true≢false}
 use Rattle.std.proofs.lemmas.Option.{none-some, same_Some}
-use Rattle.sm_base.specs.Kinds.{is_image}
+use Rattle.sm_machine.specs.WellFormed.{is_image_name}
 use Rattle.sm_base.specs.declared.faults.Place.TheVariants as at
 use Rattle.sm_base.specs.declared.names.Name.{Name}
 use Rattle.sm_base.specs.declared.names.Name.TheVariants.{Mgt, Vhd, Raw, Old, Clone, Inflate, Coalesce, Relink, Leaf}
@@ -31,7 +31,7 @@ use Rattle.common_laws.proofs.Lists.{In-map, In-map_at}
 use Rattle.sm_recover.proofs.EntryLaws.{IsStaged}
 use Rattle.sm_recover.proofs.TableLaws.{found_read, short_sized}
 use Rattle.sm_recover.proofs.FoundLaws.{image_short, invalid_as_read, link_read, skipped, valid_read}
-use Rattle.sm_recover.proofs.LoadedLaws.{among_is, among_of, none_among, read_from, read_row}
+use Rattle.sm_recover.proofs.LoadedLaws.{among_is, among_of, named_data, none_among, read_from, read_row}
 use Rattle.sm_recover.proofs.TreeLaws.{child_seen, count_through, named_raw, named_vhd}
 use Rattle.sm_ready.proofs.RowLaws.{found_in}
 
@@ -49,9 +49,9 @@ module _ {S : Type 0} (g : Ghosts S) (store : S) {t : VolumeTable} (c : IsStaged
   all_valid x has links = none_named at.Image (is_invalid x) x.table.volumes (λ r i. valid r (subst (λ (u : VolumeTable). In r u.volumes) has.table i))
     where
       valid : (r : Row) → In r t.volumes → is_invalid x r ≡ false
-      valid r i = by (is_image r.name) r.fresh refl refl
+      valid r i = by (is_image_name r.name) r.fresh refl refl
         where
-          by : (k f : Bool) → is_image r.name ≡ k → r.fresh ≡ f → is_invalid x r ≡ false
+          by : (k f : Bool) → is_image_name r.name ≡ k → r.fresh ≡ f → is_invalid x r ≡ false
           by true false image fresh =
               let w = each (seen r) (seen_in r i) (record { image = image; filled = fresh }) in
               sym (invalid_as_read (making t) x r) ∙ valid_read g.told (g.site store) (shortened t) (g.area store) (seen r) has w.0.image w.2.image (links r.name ∙ ap link_in w.1)
@@ -83,14 +83,14 @@ module _ {S : Type 0} (g : Ghosts S) (store : S) {t : VolumeTable} (c : IsStaged
       ∙ ap (λ ys. length (filter (is_child_of p) ys)) (sym are)
     where
       one : (r : Row) → In r t.volumes → parent_is p (x.links r.name) ≡ elim (row_among xs (seen r)) as (λ _. Bool) [ None ↦ false | Some y ↦ is_child_of p y ]
-      one r i = ap (parent_is p) (links r.name) ∙ by (is_image r.name) r.fresh refl refl
+      one r i = ap (parent_is p) (links r.name) ∙ by (is_image_name r.name) r.fresh refl refl
         where
           not_filled : (IsFilledImage r → ⊥) → parent_is p (link_in (tree_row xs r.name)) ≡ elim (row_among xs (seen r)) as (λ _. Bool) [ None ↦ false | Some y ↦ is_child_of p y ]
           not_filled none =
               ap (λ o. parent_is p (link_in o)) (unfound are r i none)
               ∙ sym (ap (λ o. elim o as (λ _. Bool) [ None ↦ false | Some y ↦ is_child_of p y ]) (none_among xs (seen r) (λ f. none (record { image = f.image; filled = f.filled }))))
 
-          by : (k f : Bool) → is_image r.name ≡ k → r.fresh ≡ f → parent_is p (link_in (tree_row xs r.name)) ≡ elim (row_among xs (seen r)) as (λ _. Bool) [ None ↦ false | Some y ↦ is_child_of p y ]
+          by : (k f : Bool) → is_image_name r.name ≡ k → r.fresh ≡ f → parent_is p (link_in (tree_row xs r.name)) ≡ elim (row_among xs (seen r)) as (λ _. Bool) [ None ↦ false | Some y ↦ is_child_of p y ]
           by false f image fresh = not_filled (λ w. true≢false (sym w.image ∙ image))
           by true true image fresh = not_filled (λ w. true≢false (sym fresh ∙ w.filled))
           by true false image fresh =
@@ -128,15 +128,16 @@ module _ {S : Type 0} (g : Ghosts S) (store : S) {t : VolumeTable} (c : IsStaged
         let e = each r w.1 filled in
         subst (λ m. link_of (image_of now m) ≡ link_in (tree_row xs m)) (sym (read_from xs r y w.2).named ∙ v.1)
         (ap link_of (sym (image_short (g.site store) t (g.area store) c r.name))
-        ∙ link_read g.told (g.site store) (shortened t) (g.area store) r e.0.image (short_sized c) (found_read c r w.1 filled.image) filled.filled e.2.image told ∙ sym (ap link_in e.1))
+        ∙ link_read g.told (g.site store) (shortened t) (g.area store) r e.0.image (short_sized c) (found_read c r w.1 (named_data r.name filled.image)) filled.filled e.2.image told ∙ sym (ap link_in e.1))
 
-    filled_none : (n : Name) (r : Row) → is_image n ≡ true → rows t n ≡ Some r → r.fresh ≡ false → tree_row xs n ≡ None → ⊥
+    filled_none : (n : Name) (r : Row) → is_image_name n ≡ true → rows t n ≡ Some r → r.fresh ≡ false → tree_row xs n ≡ None → ⊥
     filled_none n r image there filled none =
         let named = row_of-name t.volumes n r there in
-        let w = each (seen r) (seen_in r (row_of-In t.volumes n r there).0) (record { image = ap is_image named ∙ image; filled = filled }) in
+        let w = each (seen r) (seen_in r (row_of-In t.volumes n r there).0) (record { image = ap is_image_name named ∙ image; filled = filled }) in
         none-some w.0 (sym none ∙ ap (tree_row xs) (sym named) ∙ w.1)
 
     no_vhd : (u : List ℕ) (o : Option Row) → rows t (Vhd u) ≡ o → tree_row xs (Vhd u) ≡ None → image_of now (Vhd u) ≡ None
+    unfolding is_image_name
     no_vhd u None there none = none_of_vhd now u there
     no_vhd u (Some r) there none = by r.fresh refl
       where
@@ -145,6 +146,7 @@ module _ {S : Type 0} (g : Ghosts S) (store : S) {t : VolumeTable} (c : IsStaged
         by false filled = absurd (filled_none (Vhd u) r refl there filled none)
 
     no_raw : (u : List ℕ) (o : Option Row) → rows t (Raw u) ≡ o → tree_row xs (Raw u) ≡ None → image_of now (Raw u) ≡ None
+    unfolding is_image_name
     no_raw u None there none = none_of_raw now u there
     no_raw u (Some r) there none = by r.fresh refl
       where

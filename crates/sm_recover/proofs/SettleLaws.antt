@@ -12,15 +12,15 @@ use Rattle.vhd_chain.specs.Trees.{row_name}
 use Rattle.vg_volumes.specs.Stored.{OnlyReads, Stored, stored}
 use Rattle.vg_volumes.specs.declared.stores.Store.{Ghosts}
 use Rattle.sm_machine.specs.Shapes.{Shape}
-use Rattle.sm_standing.specs.Checks.{first_fault_today}
+use Rattle.sm_standing.specs.Checks.{first_fault_but_leaf}
 use Rattle.sm_standing.specs.Entries.{folding, head}
 use Rattle.sm_standing.specs.Keeping.{HoldsWell}
 use Rattle.sm_standing.specs.Opened.{opened}
 use Rattle.sm_standing.specs.Undone.{undone}
 use Rattle.sm_standing.specs.Unfolded.{linked_by, linked_up, unfolded, unfolded_content}
-use Rattle.sm_standing.proofs.PlainKept.{today_known}
-use Rattle.sm_standing.proofs.UndoneToday.{today_opened}
-use Rattle.sm_standing.proofs.UnfoldedToday.{unfolded_opened, unfolded_sound, unfolded_table}
+use Rattle.sm_standing.proofs.PlainKept.{but_leaf_known}
+use Rattle.sm_standing.proofs.UndoneButLeaf.{but_leaf_opened}
+use Rattle.sm_standing.proofs.UnfoldedButLeaf.{unfolded_opened, unfolded_sound, unfolded_table}
 use Rattle.sm_ready.specs.Cleaned.{HasFewRemovals, cleaned}
 use Rattle.sm_ready.specs.Frames.{HasCommits}
 use Rattle.sm_ready.specs.Does.{store_shape}
@@ -40,7 +40,6 @@ use Rattle.sm_recover.specs.Links.{IsLinkRight}
 use Rattle.sm_recover.specs.Loaded.{stored_undone}
 use Rattle.sm_recover.specs.Repairs.{IsChecked, IsCheckedStore, IsEndableStore, IsLinkable}
 use Rattle.sm_recover.specs.Steps.{IsPartOf, first_changes, uncopied}
-use Rattle.sm_recover.specs.Stores.{MayBeRepairedFrom}
 use Rattle.sm_recover.proofs.EndLaws.{first_table, image_not_folding, rows_unfolded}
 use Rattle.sm_recover.proofs.FirstLaws.{few_link, few_rest, first_done, first_same}
 use Rattle.sm_recover.proofs.StepLaws.{part_all}
@@ -48,17 +47,6 @@ use Rattle.sm_recover.proofs.SweptLaws.{opened_shape}
 use Rattle.sm_recover.proofs.UndoLaws.{held_same}
 use Rattle.sm_recover.proofs.UndoneLaws.{undone_checked}
 use Rattle.sm_recover.proofs.UnfoldLaws.{undoable_unfolded}
-
--- what a stop leaves while it is undone
-abbrev pub IsLeftSame : VolumeTable → (ℕ → List ℕ) → Stored → Type 0
-IsLeftSame v image x = IsSettled x.area → first_fault_today (content_of x) ≡ None → HoldsWell (content_of x) → IsSame (content_of x) (content_in x.site v image)
-
-pub undoing_repaired : {S : Type 0} {g : Ghosts S} {a b : S} {v : VolumeTable} {image : ℕ → List ℕ} → OnlyReads g a b → g.told → first_fault_today (store_content g a) ≡ None → IsSettled (g.area a)
-    → IsLeftSame v image (stored g b) → MayBeRepairedFrom (store_content g a) (content_in (g.site a) v image)
-undoing_repaired {v = v} {image = image} r told sound settled left = record {
-  was_sound = sound;
-  repaired = λ well. let w = subst (IsLeftSame v image) (stored_as r told) left settled sound well in record { was_sound = sound; sound = w.kept; same_disks = w.same_disks };
-}
 
 -- behind the links
 pub same_behind : {S : Type 0} {g : Ghosts S} {d e : S} {n : Memory} {v : VolumeTable} {image : ℕ → List ℕ} → g.site e ≡ g.site d → LinksRest g d e n → IsSame (store_content g e) (content_in (g.site e) v image)
@@ -112,7 +100,7 @@ module _ {S : Type 0} {g : Ghosts S} {a b d : S} (r : OnlyReads g a b) (site : g
     area_behind = held_same (g.area b) (g.area d) keeps settled_before (settled settled_before) ∙ area_before
 
     -- what stands then is kept and shows the disks from before
-    pub same_first : first_fault_today (store_content g a) ≡ None → HoldsWell (store_content g a) → IsSame (store_content g a) (store_content g d)
+    pub same_first : first_fault_but_leaf (store_content g a) ≡ None → HoldsWell (store_content g a) → IsSame (store_content g a) (store_content g d)
     same_first sound well =
         subst (λ (x : Stored). IsSame (store_content g a) (content_of x)) (sym stored_first)
         (first_same (stored g a) c (undone (uncopied t)) (reads (g.area a))
@@ -121,7 +109,7 @@ module _ {S : Type 0} {g : Ghosts S} {a b d : S} (r : OnlyReads g a b) (site : g
         stored_first : stored g d ≡ record { site = g.site a; table = undone (uncopied t); area = g.area a }
         stored_first = ap₂ (λ s u. let x : Stored = record { site = s; table = u; area = g.area d } in x) same_site first_behind ∙ ap (λ (h : Held). let x : Stored = record { site = g.site a; table = undone (uncopied t); area = h } in x) area_behind
 
-    pub link_begun : (m : Memory) → first_fault_today (store_content g a) ≡ None → HoldsWell (store_content g a) → IsReady (g.site a) (undone (unfolded t)) (g.area a) (known m) → IsLinkBegun (stored g d) (known m)
+    pub link_begun : (m : Memory) → first_fault_but_leaf (store_content g a) ≡ None → HoldsWell (store_content g a) → IsReady (g.site a) (undone (unfolded t)) (g.area a) (known m) → IsLinkBegun (stored g d) (known m)
     link_begun m sound well ready = record {
       settled = settled settled_before;
       kept = (same_first sound well).kept;
@@ -129,15 +117,12 @@ module _ {S : Type 0} {g : Ghosts S} {a b d : S} (r : OnlyReads g a b) (site : g
           (subst₂ (λ u h. IsReady (g.site a) u h (known m)) (sym less_behind) (sym area_behind) ready);
     }
 
-    -- what a stop leaves of it
-    pub link_repaired : {v : VolumeTable} {image : ℕ → List ℕ} → first_fault_today (store_content g a) ≡ None → (HoldsWell (store_content g a) → IsSame (store_content g d) (content_in (g.site d) v image))
-        → MayBeRepairedFrom (store_content g a) (content_in (g.site a) v image)
-    link_repaired {v} {image} sound left = record {
-      was_sound = sound;
-      repaired = λ well.
-          let w = subst (λ z. IsSame (store_content g d) (content_in z v image)) same_site (left well) in
-          record { was_sound = sound; sound = w.kept; same_disks = w.same_disks ∙ (same_first sound well).same_disks };
-    }
+    -- what has the disks of what stands then has those of what stood
+    pub link_same : {v : VolumeTable} {image : ℕ → List ℕ} → first_fault_but_leaf (store_content g a) ≡ None → HoldsWell (store_content g a) → IsSame (store_content g d) (content_in (g.site d) v image)
+        → IsSame (store_content g a) (content_in (g.site a) v image)
+    link_same {v} {image} sound well left =
+        let w = subst (λ z. IsSame (store_content g d) (content_in z v image)) same_site left in
+        record { kept = w.kept; same_disks = w.same_disks ∙ (same_first sound well).same_disks }
 
   -- e: once the children are linked
   module _ {e : S} (site_then : g.site e ≡ g.site d) (ended : table_alone (g.table e) ≡ unfolded (table_alone (g.table d))) where
@@ -155,13 +140,13 @@ module _ {S : Type 0} {g : Ghosts S} {a b d : S} (r : OnlyReads g a b) (site : g
     start n orderly rest ease = record { orderly = orderly; ready = rest.ready; settled = rest.settled; idle = ease.idle }
 
     -- and the shape that an opening is to make of it is the one that it is to make of what stood first
-    pub opened_behind : (m n : Memory) → first_fault_today (store_content g a) ≡ None → IsSettled (g.area a) → IsOrderly (g.site a) (undone (unfolded t)) (known m) → IsReady (g.site a) (undone (unfolded t)) (g.area a) (known m) → IsAtEase m
+    pub opened_behind : (m n : Memory) → first_fault_but_leaf (store_content g a) ≡ None → IsSettled (g.area a) → IsOrderly (g.site a) (undone (unfolded t)) (known m) → IsReady (g.site a) (undone (unfolded t)) (g.area a) (known m) → IsAtEase m
         → IsAtRest (stored g e) (known n) → n.attached.disks ≡ [] → IsLinkRight t m.tree.rows
         → LinkedBy (head (folding (table_alone (g.table d)))) m.tree.rows (shape_in (g.site d) (unfolded (table_alone (g.table d))) (known m)) (store_shape g e n)
         → opened (content_of (stored g e)) ≡ opened (store_content g a)
     opened_behind m n sound was orderly ready ease rest unattached right linked =
         let x : Stored = record { site = g.site a; table = undone (unfolded t); area = g.area a } in
-        let s = today_known (store_content g a) sound in
+        let s = but_leaf_known (store_content g a) sound in
         let begun : IsAtRest x (known m) = record { orderly = orderly; ready = ready; settled = was; idle = ease.idle } in
         let first = opened_shape x (known m) begun ease.unattached in
         let last = opened_shape (stored g e) (known n) rest unattached in
@@ -170,7 +155,7 @@ module _ {S : Type 0} {g : Ghosts S} {a b d : S} (r : OnlyReads g a b) (site : g
         (subst₂ (λ z u. LinkedBy (head (folding (table_alone (g.table d)))) m.tree.rows (shape_in z u (known m)) (store_shape g e n)) same_site less_behind linked)) in
         last ∙ ap₂ (λ k σ. let y : Shape = record σ { sequence = k } in y) (ap (λ u. (cleaned u).sequence) table_behind) shapes
         ∙ up_numbered (head (folding t)) (shape_in (g.site a) (undone (unfolded t)) (known m)) (cleaned (undone (unfolded t))).sequence
-        ∙ ap (linked_up t) (sym first ∙ today_opened (unfolded_content (store_content g a)) (unfolded_table (store_content g a) s c.table) (g.site a).geometry.in_range (unfolded_sound (store_content g a) s c.table))
+        ∙ ap (linked_up t) (sym first ∙ but_leaf_opened (unfolded_content (store_content g a)) (unfolded_table (store_content g a) s c.table) (g.site a).geometry.in_range (unfolded_sound (store_content g a) s c.table))
         ∙ sym (unfolded_opened (store_content g a) s c.table)
       where
         -- whatever its number is

@@ -9,6 +9,8 @@ use Rattle.std.proofs.lemmas.List.{drop-map, length-map, map-append, take-map, t
 use Rattle.std.proofs.lemmas.Bool.{true≢false}
 use Rattle.std.proofs.lemmas.Option.{slice_get_cases, slice_get-map}
 use Rattle.sm_base.specs.Kinds.{is_image}
+use Rattle.sm_machine.specs.WellFormed.{is_image_name}
+use Rattle.sm_recover.proofs.LoadedLaws.{named_data}
 use Rattle.sm_base.specs.Names.{IsName, name_cmp}
 use Rattle.sm_base.specs.declared.faults.OpenFault.{OpenFault}
 use Rattle.sm_base.specs.declared.faults.Place.TheVariants as at
@@ -34,9 +36,9 @@ use Rattle.sm_ready.proofs.LoadLaws.{IsItem, among, at_item}
 use Rattle.sm_ready.proofs.RowLaws.{All-In}
 use Rattle.sm_recover.specs.Faults.{HasTable}
 use Rattle.sm_recover.specs.Loaded.{FailsAt, FailsToRead, HasEachRow, IsFilledImage, IsNoneRead, IsReadAs, IsRow, as_read, read_volumes, shortened, stored_read}
-use Rattle.sm_recover.specs.Repairs.{IsEndable, IsStoppedBy}
+use Rattle.sm_recover.specs.Repairs.{IsOpenable, IsStoppedBy}
 use Rattle.sm_recover.proofs.FoundLaws.{image_short, invalid_as_read, invalid_read, invalid_short, link_read, skipped, valid_read}
-use Rattle.sm_recover.proofs.EntryLaws.{staged_end}
+use Rattle.sm_recover.proofs.EntryLaws.{staged_open}
 use Rattle.sm_recover.proofs.TableLaws.{found_read, short_sized}
 
 -- ---- the volume that a turn comes to
@@ -108,7 +110,7 @@ item_read ns {hs} {i} {h} item =
     same_names [] = refl
     same_names (g ∷ gs) = ap (λ xs. g.row.name ∷ xs) (same_names gs)
 
-module _ {S : Type 0} {g : Ghosts S} {a b : S} (only : OnlyReads g a b) (c : IsEndable (g.site a) (table_alone (g.table a))) where
+module _ {S : Type 0} {g : Ghosts S} {a b : S} (only : OnlyReads g a b) (c : IsOpenable (g.site a) (table_alone (g.table a))) where
   abbrev t : VolumeTable
   t = table_alone (g.table a)
 
@@ -186,13 +188,13 @@ module _ {S : Type 0} {g : Ghosts S} {a b : S} (only : OnlyReads g a b) (c : IsE
   valid_row : (r : Row) (x : TreeRow) → In r (read_volumes t) → IsFilledImage r → IsRow g.told before r x → g.told → is_invalid seen r ≡ false
   valid_row r x i f row told =
       valid_read g.told (g.site a) u (g.area a) r seen_table x.image row.image
-      (ap link_of (sym (image_short (g.site a) t (g.area a) (staged_end c) r.name)) ∙ link_read g.told (g.site a) u (g.area a) r x.image (short_sized (staged_end c)) (found_read (staged_end c) r i f.image) f.filled row.image told)
+      (ap link_of (sym (image_short (g.site a) t (g.area a) (staged_open c) r.name)) ∙ link_read g.told (g.site a) u (g.area a) r x.image (short_sized (staged_open c)) (found_read (staged_open c) r i (named_data r.name f.image)) f.filled row.image told)
 
   -- one whose image is there or that has none is not wrong
   right_row : (r : Row) → In r (read_volumes t) → (IsFilledImage r → (x : TreeRow) × IsRow g.told before r x) → g.told → is_invalid seen r ≡ false
-  right_row r i row told = by (is_image r.name) r.fresh refl refl
+  right_row r i row told = by (is_image_name r.name) r.fresh refl refl
     where
-      by : (k f : Bool) → is_image r.name ≡ k → r.fresh ≡ f → is_invalid seen r ≡ false
+      by : (k f : Bool) → is_image_name r.name ≡ k → r.fresh ≡ f → is_invalid seen r ≡ false
       by true false image fresh = let f : IsFilledImage r = record { image = image; filled = fresh } in valid_row r (row f).0 i f (row f).1 told
       by false f image fresh = skipped seen r (λ w. true≢false (sym w.image ∙ image))
       by true true image fresh = skipped seen r (λ w. true≢false (sym fresh ∙ w.filled))
@@ -243,8 +245,8 @@ module _ {S : Type 0} {g : Ghosts S} {a b : S} (only : OnlyReads g a b) (c : IsE
         ap (placed at.Image) (sym (first_read (is_invalid seen) t.volumes (invalid_as_read (making t) seen)))
         ∙ ap (λ o. placed at.Image (name_in o)) (first_found (is_invalid seen)
         (λ r there. right_row r (front_in r there) (λ f. let w = each r there f in (w.0, w.2)) told)
-        (invalid_short (g.site a) t (g.area a) (staged_end c) here
-        ∙ invalid_read g.told (g.site a) u (g.area a) here (short_sized (staged_end c)) (found_read (staged_end c) here volume_in filled.image) filled.filled (none_kept here.name (length here.extents) none) told))
+        (invalid_short (g.site a) t (g.area a) (staged_open c) here
+        ∙ invalid_read g.told (g.site a) u (g.area a) here (short_sized (staged_open c)) (found_read (staged_open c) here volume_in (named_data here.name filled.image)) filled.filled (none_kept here.name (length here.extents) none) told))
 
     pub stopped_at : {d : S} (xs : List TreeRow) (e : OpenFault) → HasEachRow g.told before front xs → FailsAt g behind (as_read (making (table_alone (g.table b))) h.row) e b d
         → IsStoppedBy g.told (invalid_fault seen) (g.faults a) (g.faults d) e

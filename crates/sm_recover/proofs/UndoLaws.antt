@@ -19,7 +19,7 @@ use Rattle.sm_standing.specs.PlainSound.{SimpleSound}
 use Rattle.sm_standing.specs.Undone.{applied_all, base_changes, changes_back, is_longer, undo_changes, undone, wanted}
 use Rattle.sm_standing.proofs.PlainDisks.{no_making, simple_folding}
 use Rattle.sm_standing.proofs.PlainKept.{plain_simple}
-use Rattle.sm_standing.proofs.UndoneToday.{undoing_disks, undoing_kept}
+use Rattle.sm_standing.proofs.UndoneButLeaf.{undoing_disks, undoing_kept}
 use Rattle.sm_ready.specs.Cleaned.{HasFewRemovals, new_count}
 use Rattle.sm_ready.specs.Repairs.{IsSame, content_of}
 use Rattle.sm_ready.specs.Stores.{content_in}

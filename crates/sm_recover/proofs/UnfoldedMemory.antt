@@ -13,13 +13,13 @@ use Rattle.vg_volumes.specs.Sites.{Site}
 use Rattle.vg_volumes.specs.declared.stores.Store.{Ghosts}
 use Rattle.sm_record.specs.declared.records.Record.{Record}
 use Rattle.sm_mgt.specs.Places.{place_count}
-use Rattle.sm_standing.specs.Checks.{fault_today_of}
+use Rattle.sm_standing.specs.Checks.{fault_but_leaf_of}
 use Rattle.sm_standing.specs.Entries.{folding, head, image_with, is_folding, making}
 use Rattle.sm_standing.specs.Outlines.{Outline}
 use Rattle.sm_standing.specs.Unfolded.{unfolded}
 use Rattle.sm_standing.proofs.Orders.{In-filter_map}
 use Rattle.sm_standing.proofs.UnfoldedLaws.{In-bare}
-use Rattle.sm_standing.proofs.UnfoldedToday.{unfolded_today}
+use Rattle.sm_standing.proofs.UnfoldedButLeaf.{unfolded_but_leaf}
 use Rattle.vhd_chain.specs.Trees.{tree_row, without as without_row}
 use Rattle.vhd_chain.specs.declared.rows.TreeRow.{TreeRow}
 use Rattle.sm_ready.specs.Outlined.{link_in}
@@ -30,7 +30,7 @@ use Rattle.sm_recover.specs.Loaded.{AreRowsOf, HasEachRow, as_read, read_volumes
 use Rattle.sm_recover.specs.Repairs.{IsEndable, IsUndoable}
 use Rattle.sm_recover.proofs.EntryLaws.{staged, staged_end}
 use Rattle.sm_recover.proofs.ForkedMemory.{row_moved}
-use Rattle.sm_recover.proofs.LoadedLaws.{among_of, none_among, read_from}
+use Rattle.sm_recover.proofs.LoadedLaws.{among_of, named_data, none_among, read_from}
 use Rattle.sm_recover.proofs.MemoryLaws.{beside}
 use Rattle.sm_recover.proofs.OpenedWell.{IsBeside}
 use Rattle.sm_recover.proofs.TableLaws.{filtered_without, image_not_making, short_row}
@@ -86,11 +86,11 @@ no_link t xs are n folds = by (tree_row xs n) refl
         let v = In-tree_row xs n y is in
         let w = In-filter_map (row_among xs) (read_volumes t) y (subst (In y) are v.0) in
         let named : w.0.name ≡ n = sym (read_from xs w.0 y w.2).named ∙ v.1 in
-        absurd (true≢false (sym folds ∙ ap is_folding (sym named) ∙ image_not_folding w.0.name (among_of xs w.0 y w.2).filled.image))
+        absurd (true≢false (sym folds ∙ ap is_folding (sym named) ∙ image_not_folding w.0.name (named_data w.0.name (among_of xs w.0 y w.2).filled.image)))
 
 module _ {S : Type 0} (g : Ghosts S) (store : S) (xs : List TreeRow) (places : List (Option Record)) {t : VolumeTable} (c : IsEndable (g.site store) t) (are : AreRowsOf (read_volumes t) xs)
     (each : HasEachRow g.told (stored_with g store (shortened t)) (read_volumes t) xs) (long : length places ≡ place_count)
-    (pass : (x : Outline) → HasTable (g.site store).geometry t x → HasLinks xs x → HasPlaces places x → fault_today_of x ≡ None) where
+    (pass : (x : Outline) → HasTable (g.site store).geometry t x → HasLinks xs x → HasPlaces places x → fault_but_leaf_of x ≡ None) where
   abbrev u : VolumeTable
   u = unfolded t
 
@@ -103,7 +103,7 @@ module _ {S : Type 0} (g : Ghosts S) (store : S) (xs : List TreeRow) (places : L
   are_bare : AreRowsOf (read_volumes u) xs
   are_bare =
       are ∙ filtered_map (row_among xs) (as_read (making t)) t.volumes
-      ∙ sym (b.given (λ r. row_among xs (as_read (making t) r)) (λ r folds. none_among xs (as_read (making t) r) (λ f. true≢false (sym folds ∙ image_not_folding r.name f.image))))
+      ∙ sym (b.given (λ r. row_among xs (as_read (making t) r)) (λ r folds. none_among xs (as_read (making t) r) (λ f. true≢false (sym folds ∙ image_not_folding r.name (named_data r.name f.image)))))
       ∙ sym (filtered_map (row_among xs) (as_read (making t)) u.volumes) ∙ ap (λ ns. filter_map (row_among xs) (map (as_read ns) u.volumes)) (sym b.making_as)
 
   read_in : (r : Row) → In r (read_volumes u) → In r (read_volumes t)
@@ -119,12 +119,12 @@ module _ {S : Type 0} (g : Ghosts S) (store : S) (xs : List TreeRow) (places : L
   each_bare : HasEachRow g.told (stored_with g store (shortened u)) (read_volumes u) xs
   each_bare r i filled =
       let w = each r (read_in r i) filled in
-      (w.0, w.1, row_moved g.told (stored_with g store t) (shortened t) (shortened u) r w.0 (short_as r.name filled.image) w.2)
+      (w.0, w.1, row_moved g.told (stored_with g store t) (shortened t) (shortened u) r w.0 (short_as r.name (named_data r.name filled.image)) w.2)
 
-  pass_bare : (x : Outline) → HasTable (g.site store).geometry u x → HasLinks xs x → HasPlaces places x → fault_today_of x ≡ None
+  pass_bare : (x : Outline) → HasTable (g.site store).geometry u x → HasLinks xs x → HasPlaces places x → fault_but_leaf_of x ≡ None
   pass_bare x has links in_places =
-      subst (λ v. fault_today_of (record x { table = v }) ≡ None) (sym has.table)
-      (unfolded_today (g.site store).count (record x { table = t }) (λ n folds. links n ∙ no_link t xs are n folds) c.table
+      subst (λ v. fault_but_leaf_of (record x { table = v }) ≡ None) (sym has.table)
+      (unfolded_but_leaf (g.site store).count (record x { table = t }) (λ n folds. links n ∙ no_link t xs are n folds) c.table
       (pass (record x { table = t }) (record { extent = has.extent; block = has.block; entries = has.entries; table = refl }) links (record { long = in_places.long; each = in_places.each })))
 
   back_as : rows_back u xs ≡ rows_back t xs

@@ -5,7 +5,7 @@ use Rattle.std.specs.List.{list_any, slice_get}
 use Rattle.std.specs.Str.{bytes_eq}
 use Rattle.sm_base.specs.declared.faults.Place.{Place}
 use Rattle.sm_base.specs.declared.names.Name.{Name}
-use Rattle.sm_base.specs.declared.names.Name.TheVariants.{Vhd, Raw, Old, Clone, Inflate, Coalesce, Relink}
+use Rattle.sm_base.specs.declared.names.Name.TheVariants.{Vhd, Raw, Old, Clone, Inflate, Coalesce, Relink, Leaf}
 use Rattle.sm_base.specs.declared.sizes.Geometry.{Geometry}
 use Rattle.std.specs.declared.cmp.Ordering.TheVariants.{Less}
 use Rattle.vg_meta.specs.Tables.{Row, VolumeTable}
@@ -14,15 +14,15 @@ use Rattle.sm_machine.specs.Shapes.{chain_limit, same_image}
 use Rattle.common_laws.specs.Lists.{In, given}
 use Rattle.sm_record.specs.declared.records.Record.{Record}
 use Rattle.sm_mgt.specs.Places.{place_count, is_of, as_reading}
-use Rattle.sm_standing.specs.Checks.{record_volume_fault, too_many_fault, misnamed_fault, entry_ahead_fault, second_entry_fault, lost_entry_fault, old_leaf_fault}
+use Rattle.sm_standing.specs.Checks.{record_volume_fault, too_many_fault, misnamed_fault, second_entry_fault, lost_entry_fault, old_leaf_fault}
 use Rattle.sm_standing.specs.Checks.{invalid_fault, tree_fault, entry_link_fault, has_uuid, is_no_larger, children}
 use Rattle.sm_standing.specs.Outlines.{Outline}
-use Rattle.sm_standing.specs.Entries.{folding_uuids, image_with, is_among, is_coalescing, is_fork_made, is_hidden, is_inflating, is_past, is_there, is_visible}
+use Rattle.sm_standing.specs.Entries.{folding_uuids, image_with, is_among, is_coalescing, is_folding_leaf, is_fork_made, is_hidden, is_inflating, is_leaf_copied, is_leaf_renamed, is_leaf_swapped, is_old_of, is_past, is_there, is_visible}
 use Rattle.sm_standing.specs.Ordered.{uuid_cmp}
 use Rattle.sm_standing.specs.Standing.{standing_volume}
 use Rattle.vhd_image.specs.Bodies.{parent_name, sector_count}
 use Rattle.vhd_image.specs.declared.images.Body.{Body}
-use Rattle.vhd_chain.specs.Trees.{chain_length, children as children_in, row_name, tree_row}
+use Rattle.vhd_chain.specs.Trees.{chain_length, children as children_in, parent_of, row_name, tree_row}
 use Rattle.vhd_chain.specs.declared.rows.TreeRow.{TreeRow}
 use Rattle.sm_ready.specs.Outlined.{link_in}
 
@@ -38,7 +38,6 @@ abbrev pub table_faults : Outline → List (Option Place)
 table_faults x = record_volume_fault x
     ∷ too_many_fault x
     ∷ misnamed_fault x
-    ∷ entry_ahead_fault x
     ∷ second_entry_fault x
     ∷ lost_entry_fault x
     ∷ old_leaf_fault x
@@ -74,19 +73,28 @@ is_fork_at_stage t disk base twin =
 abbrev pub is_copy_placed : VolumeTable → List ℕ → List ℕ → Bool
 is_copy_placed t child parent = is_coalescing t child parent && (is_past t.sequence child && is_past t.sequence parent)
 
--- an entry that stands at no stage, or whose UUIDs are still to come; that of the folding of a leaf is not looked at
-abbrev pub is_making_lost : VolumeTable → Name → Bool
-is_making_lost t (Inflate u extents) = not (is_inflating t u extents) || not (is_past t.sequence u)
-is_making_lost t (Clone disk base twin) =
-    not (is_fork_at_stage t disk base twin) || not (is_past t.sequence disk && (is_past t.sequence base && is_past t.sequence twin))
-is_making_lost t (Coalesce child parent) = not (is_copy_placed t child parent)
-is_making_lost t (Relink child parent) = not (is_copy_placed t child parent)
-is_making_lost t _ = false
+-- the folding of a leaf at one of its stages, with UUIDs that are not still to come
+abbrev pub is_leaf_placed : VolumeTable → List ℕ → List ℕ → Bool
+is_leaf_placed t leaf parent = is_folding_leaf t leaf parent && (is_past t.sequence leaf && is_past t.sequence parent)
 
--- the name of an old leaf
-abbrev pub is_old : Name → Bool
-is_old (Old u) = true
-is_old _ = false
+-- an entry that stands at no stage, or whose UUIDs are still to come
+abbrev pub is_entry_lost : VolumeTable → Name → Bool
+is_entry_lost t (Inflate u extents) = not (is_inflating t u extents) || not (is_past t.sequence u)
+is_entry_lost t (Clone disk base twin) =
+    not (is_fork_at_stage t disk base twin) || not (is_past t.sequence disk && (is_past t.sequence base && is_past t.sequence twin))
+is_entry_lost t (Coalesce child parent) = not (is_copy_placed t child parent)
+is_entry_lost t (Relink child parent) = not (is_copy_placed t child parent)
+is_entry_lost t (Leaf leaf parent) = not (is_leaf_placed t leaf parent)
+is_entry_lost t _ = false
+
+-- an old leaf that does not belong to this entry, where there is one
+abbrev pub is_old_by : VolumeTable → List ℕ → Option Name → Bool
+is_old_by t u None = false
+is_old_by t u (Some e) = is_old_of t u e
+
+abbrev pub is_old_besides : VolumeTable → Option Name → Name → Bool
+is_old_besides t e (Old u) = not (is_old_by t u e)
+is_old_besides t e _ = false
 
 -- the checks of the images pass: each is valid, and stands in its tree as it should, also where entries stand
 pub record PassImages (x : Outline) : Type 0 where
@@ -149,11 +157,27 @@ is_copy_in xs child parent = elim (tree_row xs (Vhd child)) [ None ↦ false | S
 abbrev pub is_link_in : List TreeRow → List ℕ → List ℕ → Bool
 is_link_in xs child parent = elim (tree_row xs (Vhd child)) [ None ↦ false | Some y ↦ has_parent_in xs parent (nat_le (sector_count y.image)) y.image ]
 
--- an entry whose images are linked otherwise than it says: of a fork where the base is there, of a copy or of a link
+-- ---- the entry of the folding of a leaf, by the images in memory
+
+-- the parent that an image has is this one
+abbrev pub is_parent_named : Name → Option Name → Bool
+is_parent_named p None = false
+is_parent_named p (Some q) = same_image q p
+
+-- before the swap the leaf has the parent, and no other has; from then on the image that goes on has no children
+abbrev pub is_leaf_linked_in : VolumeTable → List TreeRow → List ℕ → List ℕ → Bool
+is_leaf_linked_in t xs leaf parent =
+    if is_leaf_copied t leaf parent then is_parent_named (Vhd parent) (parent_of xs (Vhd leaf)) && (length (children_in xs (Vhd parent)) == 1)
+    else if is_leaf_renamed t leaf parent then length (children_in xs (Vhd parent)) == 0
+    else if is_leaf_swapped t leaf parent then length (children_in xs (Vhd leaf)) == 0
+    else true
+
+-- an entry whose images are linked otherwise than it says: of a fork where the base is there, of a copy, of a link or of a leaf
 abbrev pub is_unlinked_in : VolumeTable → List TreeRow → Name → Bool
 is_unlinked_in t xs (Clone disk base twin) = is_fork_made t disk base twin && not (is_fork_linked_in xs disk base twin)
 is_unlinked_in t xs (Coalesce child parent) = not (is_copy_in xs child parent)
 is_unlinked_in t xs (Relink child parent) = not (is_link_in xs child parent)
+is_unlinked_in t xs (Leaf leaf parent) = not (is_leaf_linked_in t xs leaf parent)
 is_unlinked_in t xs _ = false
 
 -- a parent that is there in memory, not new, hidden and not larger
@@ -185,22 +209,36 @@ pub record HasPlaces (places : List (Option Record)) (x : Outline) : Type 0 wher
 abbrev pub is_shown : VolumeTable → List ℕ → Bool
 is_shown t u = is_visible t (Vhd u) || is_visible t (Raw u)
 
--- whether a UUID is a disk, by the entry of a fork: the disk stands in the base where that is there, and neither base nor twin is one
+-- whether a UUID is a disk, by the entry of a fork and by whether it is one without it: the disk stands in the base where that is
+-- there, and neither base nor twin is one
+abbrev pub is_disk_if : VolumeTable → Bool → Option Name → List ℕ → Bool
+is_disk_if t alone (Some (Clone disk base twin)) u =
+    if bytes_eq u disk then is_some (image_with t base) || alone
+    else not (bytes_eq u base) && (not (bytes_eq u twin) && alone)
+is_disk_if t alone _ u = alone
+
+-- so where no leaf is being folded
 abbrev pub is_disk_by : VolumeTable → Option Name → List ℕ → Bool
-is_disk_by t (Some (Clone disk base twin)) u =
-    if bytes_eq u disk then is_some (image_with t base) || is_shown t u
-    else not (bytes_eq u base) && (not (bytes_eq u twin) && is_shown t u)
-is_disk_by t _ u = is_shown t u
+is_disk_by t made u = is_disk_if t (is_shown t u) made u
+
+-- the leaf that is being folded is a disk while it is swapped
+abbrev pub is_swapping : VolumeTable → Option Name → List ℕ → Bool
+is_swapping t (Some (Leaf leaf parent)) u = bytes_eq u leaf && (is_leaf_renamed t leaf parent || is_leaf_swapped t leaf parent)
+is_swapping t _ u = false
+
+abbrev pub is_disk_under : VolumeTable → Option Name → Option Name → List ℕ → Bool
+is_disk_under t folded made u = is_disk_if t (is_swapping t folded u || is_shown t u) made u
 
 -- whether a UUID is a disk that has no record or several
 abbrev pub is_unrecorded_in : VolumeTable → List (Option Record) → List ℕ → Bool
 is_unrecorded_in t places u = is_some (standing_volume t u) && not (count_by (is_of u) places == 1)
 
--- the UUID of an image, and that of the disk of a fork, where it is such a disk
+-- the UUID of an image, and that of the disk of a fork or of a leaf's folding, where it is such a disk
 unfoldable pub unrecorded : VolumeTable → List (Option Record) → Name → Option (List ℕ)
 unrecorded t places (Vhd u) = given (is_unrecorded_in t places u) u
 unrecorded t places (Raw u) = given (is_unrecorded_in t places u) u
 unrecorded t places (Clone disk base twin) = given (is_unrecorded_in t places disk) disk
+unrecorded t places (Leaf leaf parent) = given (is_unrecorded_in t places leaf) leaf
 unrecorded t places _ = None
 
 -- the lesser of two UUIDs, where there are two

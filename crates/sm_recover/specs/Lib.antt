@@ -6,3 +6,4 @@ pub mod Backs
 pub mod Loaded
 pub mod Links
 pub mod Linking
+pub mod Ending

@@ -1,7 +1,7 @@
 -- What an opening reads into memory: the images that are not new, each off its volume.
 use Rattle.std.specs.Prelude.{◌≡◌, ℕ, ◌*◌, ◌<◌, ◌≤◌, ◌&&◌, ◌⊎◌, not, true, false, List, length, map, take, Option, None, Some, if◌then◌else◌}
 use Rattle.std.specs.List.{filter_map}
-use Rattle.sm_base.specs.Kinds.{is_image}
+use Rattle.sm_machine.specs.WellFormed.{is_image_name}
 use Rattle.sm_base.specs.declared.faults.OpenFault.{OpenFault}
 use Rattle.sm_base.specs.declared.faults.OpenFault.TheVariants as fault
 use Rattle.sm_base.specs.declared.faults.Place.TheVariants as at
@@ -62,9 +62,9 @@ abbrev pub row_with : Row → Option TreeRow → Option TreeRow
 row_with r None = None
 row_with r (Some x) = Some (record { image = x.image; hidden = r.hidden; extents = length r.extents })
 
--- where the volume is that of an image and not new, it is that of its name
+-- where the volume is that of a VHD or a raw image and not new, it is that of its name
 abbrev pub row_among : List TreeRow → Row → Option TreeRow
-row_among xs r = if is_image r.name && not r.fresh then row_with r (tree_row xs r.name) else None
+row_among xs r = if is_image_name r.name && not r.fresh then row_with r (tree_row xs r.name) else None
 
 -- these are the rows of the volumes, in their order, and no others
 abbrev pub AreRowsOf : List Row → List TreeRow → Type 0
@@ -102,9 +102,9 @@ pub record IsRow (told : Type 0) (x : Stored) (r : Row) (y : TreeRow) : Type 0 w
   pub extents : y.extents ≡ length r.extents
   pub image : IsReadAs told x.site.geometry (length r.extents * x.site.geometry.extent) (held_in x r.name) r.name y.image
 
--- a volume of an image that is not new
+-- a volume of a VHD or a raw image that is not new: an old leaf is not read
 pub record IsFilledImage (r : Row) : Type 0 where
-  pub image : is_image r.name ≡ true
+  pub image : is_image_name r.name ≡ true
   pub filled : r.fresh ≡ false
 
 -- each volume of an image that is not new has its row, as it was read

@@ -4,15 +4,16 @@ ghost use Rattle.std.specs.Prelude.{◌≡◌, ℕ, ◌*◌, ◌<◌, ◌&&◌, 
 ghost use Rattle.std.specs.Option.{option_copied};
 ghost use Rattle.sm_base.specs.Kinds.{is_image};
 ghost use Rattle.common_laws.specs.Lists.{first_some};
-ghost use Rattle.sm_standing.specs.Checks.{record_volume_fault, too_many_fault, misnamed_fault, entry_ahead_fault, second_entry_fault, lost_entry_fault, old_leaf_fault};
-ghost use Rattle.sm_standing.specs.Checks.{is_entry_ahead, is_misnamed as is_misnamed_row, lesser};
+ghost use Rattle.sm_standing.specs.Checks.{record_volume_fault, too_many_fault, misnamed_fault, second_entry_fault, lost_entry_fault, old_leaf_fault};
+ghost use Rattle.sm_standing.specs.Checks.{is_misnamed as is_misnamed_row, lesser};
 ghost use Rattle.sm_standing.specs.Outlines.{Outline};
-ghost use Rattle.sm_standing.specs.Entries.{is_past, base_number, is_coalescing, is_inflating};
+ghost use Rattle.sm_standing.specs.Entries.{is_past, base_number, folding, head, is_coalescing, is_inflating};
 ghost use Rattle.vg_meta.specs.Roomy.{table_alone};
-ghost use Rattle.sm_recover.specs.Faults.{HasTable, is_copy_placed, is_making_lost, is_old, table_faults};
+ghost use Rattle.sm_recover.specs.Faults.{HasTable, is_copy_placed, is_entry_lost, is_leaf_placed, is_old_besides, table_faults};
 
-use crate::entries::{second_entry, second_folding_in};
+use crate::entries::{folding_in, second_entry, second_folding_in};
 use crate::forks::is_forking;
+use crate::leaves::{is_folding_leaf, is_old_of};
 use crate::volumes::{has, is_hidden};
 use sm_base::{Geometry, IMAGE_LIMIT, Name, Place, is_base};
 use uuid::Uuid;
@@ -30,9 +31,6 @@ pub fn table_fault(table: &Table, geometry: &Geometry) -> Option<Place>
         return Some(place);
     }
     if let Some(place) = misnamed_fault(table) {
-        return Some(place);
-    }
-    if let Some(place) = entry_fault(table) {
         return Some(place);
     }
     if let Some(place) = second_fault(table) {
@@ -75,16 +73,6 @@ fn misnamed_fault(table: &Table) -> Option<Place>
     })
 }
 
-/// There is no journal entry of the folding of a leaf.
-fn entry_fault(table: &Table) -> Option<Place>
-    ensures { (x : Outline) → x.table ≡ table_alone table.now → result ≡ entry_ahead_fault x }
-{
-    let volume = first_entry(table.volumes())?;
-    Some(Place::Journal {
-        name: volume.name(),
-    })
-}
-
 /// There is one entry of each group at most.
 fn second_fault(table: &Table) -> Option<Place>
     ensures { (x : Outline) → x.table ≡ table_alone table.now → result ≡ second_entry_fault x }
@@ -107,9 +95,9 @@ fn lesser(first: Option<Name>, second: Option<Name>) -> Option<Name>
     }
 }
 
-/// Each entry stands at a stage of its work, and its UUIDs are not still to come. None of the folding of a leaf is there.
+/// Each entry stands at a stage of its work, and its UUIDs are not still to come.
 fn lost_fault(table: &Table) -> Option<Place>
-    ensures { (x : Outline) → x.table ≡ table_alone table.now → entry_ahead_fault x ≡ None → result ≡ lost_entry_fault x }
+    ensures { (x : Outline) → x.table ≡ table_alone table.now → result ≡ lost_entry_fault x }
 {
     let volume = first_lost(table.volumes(), table)?;
     Some(Place::Journal {
@@ -117,11 +105,11 @@ fn lost_fault(table: &Table) -> Option<Place>
     })
 }
 
-/// There is no old leaf. No entry of the folding of a leaf is there to which one could belong.
+/// Each old leaf belongs to the entry of the folding of a leaf that swaps it. There is one entry of that group at most.
 fn old_fault(table: &Table) -> Option<Place>
-    ensures { (x : Outline) → x.table ≡ table_alone table.now → entry_ahead_fault x ≡ None → result ≡ old_leaf_fault x }
+    ensures { (x : Outline) → x.table ≡ table_alone table.now → second_entry_fault x ≡ None → result ≡ old_leaf_fault x }
 {
-    let volume = first_old(table.volumes())?;
+    let volume = first_orphaned(table.volumes(), table)?;
     Some(Place::Image {
         name: volume.name(),
     })
@@ -142,28 +130,15 @@ fn first_misnamed<'a>(volumes: &'a [Volume], table: &Table) -> Option<&'a Volume
     volumes.iter().find(|volume| is_misnamed(volume, table))
 }
 
-fn first_entry(volumes: &[Volume]) -> Option<&Volume>
-    ensures { option_copied result ≡ find (λ v. is_entry_ahead v.row.name) volumes.now }
-{
-    volumes.iter().find(|volume| is_entry_ahead(&volume.name()))
-}
-
-/// Whether a name is that of an entry whose work is neither ended nor undone here: that of the folding of a leaf.
-fn is_entry_ahead(name: &Name) -> bool
-    ensures { result ≡ is_entry_ahead name.now }
-{
-    matches!(name, Name::Leaf { .. })
-}
-
 fn first_lost<'a>(volumes: &'a [Volume], table: &Table) -> Option<&'a Volume>
-    ensures { option_copied result ≡ find (λ v. is_making_lost (table_alone table.now) v.row.name) volumes.now }
+    ensures { option_copied result ≡ find (λ v. is_entry_lost (table_alone table.now) v.row.name) volumes.now }
 {
     volumes.iter().find(|volume| is_lost(&volume.name(), table))
 }
 
 /// Whether a name is that of an entry that stands at no stage of its work, or whose UUIDs are still to come.
 fn is_lost(name: &Name, table: &Table) -> bool
-    ensures { result ≡ is_making_lost (table_alone table.now) name.now }
+    ensures { result ≡ is_entry_lost (table_alone table.now) name.now }
 {
     match name {
         Name::Inflate { image, extents } => {
@@ -174,6 +149,7 @@ fn is_lost(name: &Name, table: &Table) -> bool
         }
         Name::Coalesce { child, parent } => !is_copy_placed(table, child, parent),
         Name::Relink { child, parent } => !is_copy_placed(table, child, parent),
+        Name::Leaf { leaf, parent } => !is_leaf_placed(table, leaf, parent),
         _ => false,
     }
 }
@@ -205,17 +181,34 @@ fn is_coalescing(table: &Table, child: &Uuid, parent: &Uuid) -> bool
         && (is_hidden(table, &Name::Vhd(*parent)) || is_hidden(table, &Name::Raw(*parent)))
 }
 
-fn first_old(volumes: &[Volume]) -> Option<&Volume>
-    ensures { option_copied result ≡ find (λ v. is_old v.row.name) volumes.now }
+/// Whether the folding of a leaf stands at one of its stages, and its UUIDs are not still to come.
+fn is_leaf_placed(table: &Table, leaf: &Uuid, parent: &Uuid) -> bool
+    ensures { result ≡ is_leaf_placed (table_alone table.now) leaf.now parent.now }
 {
-    volumes.iter().find(|volume| is_old(&volume.name()))
+    is_folding_leaf(table, leaf, parent)
+        && is_past(table.seq(), leaf)
+        && is_past(table.seq(), parent)
 }
 
-/// Whether a name is that of an old leaf.
-fn is_old(name: &Name) -> bool
-    ensures { result ≡ is_old name.now }
+fn first_orphaned<'a>(volumes: &'a [Volume], table: &Table) -> Option<&'a Volume>
+    ensures { option_copied result ≡ find (λ v. is_old_besides (table_alone table.now) (head (folding (table_alone table.now))) v.row.name) volumes.now }
 {
-    matches!(name, Name::Old(_))
+    volumes
+        .iter()
+        .find(|volume| is_orphaned(&volume.name(), table))
+}
+
+/// Whether a name is that of an old leaf, and there is no entry to which it belongs.
+fn is_orphaned(name: &Name, table: &Table) -> bool
+    ensures { result ≡ is_old_besides (table_alone table.now) (head (folding (table_alone table.now))) name.now }
+{
+    let Name::Old(leaf) = name else {
+        return false;
+    };
+    match folding_in(table) {
+        Some(entry) => !is_old_of(table, leaf, &entry),
+        None => true,
+    }
 }
 
 /// Whether a name of an image is not free for it.

@@ -1,17 +1,17 @@
 //! The check that looks at the records beside the table: each disk has exactly one.
 
-ghost use Rattle.std.specs.Prelude.{◌≡◌, Some, is_some, true};
+ghost use Rattle.std.specs.Prelude.{◌≡◌, ◌||◌, Some, is_some, true};
 ghost use Rattle.common_laws.specs.Lists.{given};
-ghost use Rattle.sm_base.specs.declared.names.Name.TheVariants.{Clone};
 ghost use Rattle.sm_machine.specs.Disks.{uuid_before};
 ghost use Rattle.sm_standing.specs.Checks.{disk_fault};
 ghost use Rattle.sm_standing.specs.Outlines.{Outline};
-ghost use Rattle.sm_standing.specs.Plain.{IsKnown};
+ghost use Rattle.sm_standing.specs.Entries.{folding, head};
 ghost use Rattle.sm_standing.specs.Standing.{standing_volume};
 ghost use Rattle.vg_meta.specs.Roomy.{table_alone};
-ghost use Rattle.sm_recover.specs.Faults.{HasPlaces, IsLeast, is_disk_by, is_shown, is_unrecorded_in, lesser, unrecorded};
+ghost use Rattle.sm_recover.specs.Faults.{HasPlaces, IsLeast, is_disk_if, is_shown, is_swapping, is_unrecorded_in, lesser, unrecorded};
 
-use crate::entries::entry_in;
+use crate::entries::{entry_in, folding_in};
+use crate::leaves::{is_leaf_renamed, is_leaf_swapped};
 use crate::volumes::{image_with, is_visible};
 use sm_base::{Name, Place};
 use sm_mgt::Mgt;
@@ -20,43 +20,67 @@ use vg_meta::{Table, Volume};
 
 /// The disk with the least UUID that has no record or several.
 pub fn disk_fault(table: &Table, mgt: &Mgt) -> Option<Place>
-    requires { IsKnown (table_alone table.now) }
     ensures { (x : Outline) → x.table ≡ table_alone table.now → HasPlaces mgt.now x → result ≡ disk_fault x }
 {
     let uuid = least_unrecorded(table, mgt)?;
     Some(Place::Disk { uuid })
 }
 
-/// Whether a UUID is a disk: of a fork whose base is there the disk stands in that, and neither base nor twin is one. No
-/// entry of the folding of a leaf is there.
+/// Whether a UUID is a disk: of a fork whose base is there the disk stands in that, and neither base nor twin is one; a leaf that
+/// is being swapped is one.
 pub fn is_disk(table: &Table, uuid: &Uuid) -> bool
-    requires { IsKnown (table_alone table.now) }
     ensures { result ≡ is_some (standing_volume (table_alone table.now) uuid.now) }
 {
-    let Some(entry) = entry_in(table) else {
-        return is_shown(table, uuid);
-    };
-    is_disk_by(table, &entry, uuid)
-}
-
-/// The same, by the entry that is there.
-fn is_disk_by(table: &Table, entry: &Name, uuid: &Uuid) -> bool
-    ensures { result ≡ is_disk_by (table_alone table.now) (Some entry.now) uuid.now }
-{
-    match entry {
-        Name::Clone { disk, base, twin } => is_disk_forked(table, disk, base, twin, uuid),
-        _ => is_shown(table, uuid),
+    let alone = is_disk_alone(table, uuid);
+    match entry_in(table) {
+        Some(entry) => is_disk_if(table, alone, &entry, uuid),
+        None => alone,
     }
 }
 
-/// The same, by the entry of a fork.
-fn is_disk_forked(table: &Table, disk: &Uuid, base: &Uuid, twin: &Uuid, uuid: &Uuid) -> bool
-    ensures { result ≡ is_disk_by (table_alone table.now) (Some (Clone disk.now base.now twin.now)) uuid.now }
+/// Whether a UUID is a disk where no fork is looked at.
+fn is_disk_alone(table: &Table, uuid: &Uuid) -> bool
+    ensures { result ≡ (is_swapping (table_alone table.now) (head (folding (table_alone table.now))) uuid.now || is_shown (table_alone table.now) uuid.now) }
 {
-    if *uuid == *disk {
-        image_with(table, base).is_some() || is_shown(table, uuid)
-    } else {
-        *uuid != *base && *uuid != *twin && is_shown(table, uuid)
+    is_swapping(table, uuid) || is_shown(table, uuid)
+}
+
+/// Whether a UUID is that of a leaf that is being swapped.
+fn is_swapping(table: &Table, uuid: &Uuid) -> bool
+    ensures { result ≡ is_swapping (table_alone table.now) (head (folding (table_alone table.now))) uuid.now }
+{
+    match folding_in(table) {
+        Some(entry) => is_swapped_by(table, &entry, uuid),
+        None => false,
+    }
+}
+
+/// The same, by the entry that is there.
+fn is_swapped_by(table: &Table, entry: &Name, uuid: &Uuid) -> bool
+    ensures { result ≡ is_swapping (table_alone table.now) (Some entry.now) uuid.now }
+{
+    match entry {
+        Name::Leaf { leaf, parent } => {
+            *uuid == *leaf
+                && (is_leaf_renamed(table, leaf, parent) || is_leaf_swapped(table, leaf, parent))
+        }
+        _ => false,
+    }
+}
+
+/// Whether a UUID is a disk, by the entry of a fork where it is one, and by whether it is one without it.
+fn is_disk_if(table: &Table, alone: bool, entry: &Name, uuid: &Uuid) -> bool
+    ensures { result ≡ is_disk_if (table_alone table.now) alone (Some entry.now) uuid.now }
+{
+    match entry {
+        Name::Clone { disk, base, twin } => {
+            if *uuid == *disk {
+                image_with(table, base).is_some() || alone
+            } else {
+                *uuid != *base && *uuid != *twin && alone
+            }
+        }
+        _ => alone,
     }
 }
 
@@ -68,7 +92,6 @@ fn is_shown(table: &Table, uuid: &Uuid) -> bool
 }
 
 fn least_unrecorded(table: &Table, mgt: &Mgt) -> Option<Uuid>
-    requires { IsKnown (table_alone table.now) }
     ensures { IsLeast (λ u. is_unrecorded_in (table_alone table.now) mgt.now u ≡ true) result }
 {
     let mut least = None;
@@ -78,23 +101,22 @@ fn least_unrecorded(table: &Table, mgt: &Mgt) -> Option<Uuid>
     least
 }
 
-/// The UUID of an image, and that of the disk of a fork, where it is a disk that has no record or several.
+/// The UUID of an image, and that of the disk of a fork or of a leaf's folding, where it is a disk that has no record or several.
 #[tactic(auto, unfolding(crate::specs::Faults::unrecorded))]
 fn unrecorded(volume: &Volume, table: &Table, mgt: &Mgt) -> Option<Uuid>
-    requires { IsKnown (table_alone table.now) }
     ensures { result ≡ unrecorded (table_alone table.now) mgt.now volume.now.row.name }
 {
     match volume.name() {
         Name::Vhd(uuid) => wrong_disk(uuid, table, mgt),
         Name::Raw(uuid) => wrong_disk(uuid, table, mgt),
         Name::Clone { disk, .. } => wrong_disk(disk, table, mgt),
+        Name::Leaf { leaf, .. } => wrong_disk(leaf, table, mgt),
         _ => None,
     }
 }
 
 /// A UUID, where it is a disk that has no record or several.
 fn wrong_disk(uuid: Uuid, table: &Table, mgt: &Mgt) -> Option<Uuid>
-    requires { IsKnown (table_alone table.now) }
     ensures { result ≡ given (is_unrecorded_in (table_alone table.now) mgt.now uuid) uuid }
 {
     if is_disk(table, &uuid) && mgt.count(&uuid) != 1 {

@@ -8,25 +8,31 @@
 //! read off their volumes, an image that is being enlarged in the extents that it had. `Faults` says what each check looks
 //! at, `Repairs` what the checks leave known and why an opening stops, `Links` what they leave known of a link, `Steps` what
 //! changes make one after the other, `Linking` what linking children one after the other leaves, and `Backs` the images in memory
-//! once a fork is undone. What holds for images of any kind is `sm_ready`'s: what holds of a store between two steps, memory at
+//! once a fork is undone; `Ending` has the table and the images in memory once the folding of a leaf is ended. What holds for images of
+//! any kind is `sm_ready`'s: what holds of a store between two steps, memory at
 //! rest beside a store and what each repair makes of it (its `Repairs`), and the table that an opening leaves (its `Cleaned`). The
 //! table without a fork or an enlargement, and the changes that lead to it, are `sm_standing`'s (its `Undone`), and so is the table
-//! without the entry of a copy or of a link (its `Unfolded`). How one child is linked is `gc_coalesce`'s.
+//! without the entry of a copy or of a link (its `Unfolded`), and without the folding of a leaf (its `Leaves`). How one child is linked is `gc_coalesce`'s.
 //!
 //! **What it promises.** All checks come before the first write, in their order, and the first that fails gives the place
 //! (`checks.rt` and `forks.rt` by the table, `loading.rt`, `trees.rt` and `links.rt` by the images, `disks.rt` by the records,
 //! `opening.rt` one after another). Images of every kind pass, visible and hidden, with parents and without: each parent is
 //! there, not new, hidden and not larger, a chain has at most 30 images, and a visible image has no children. A repository is
-//! refused that has old leaves, the journal entry of the folding of a leaf, or two entries of one of the two groups
-//! (`entries.rt`): those of forks and of enlargements, and those of copies and of links. An entry has to stand at its stage: of
+//! refused that has an old leaf of no entry, or two entries of one of the two groups
+//! (`entries.rt`): those of forks and of enlargements, and those of copies, of links and of leaves. An entry has to stand at its stage: of
 //! an enlargement the VHD image is there, not new, in the extents that it had at least; of a fork, whose UUIDs are none of the
 //! other entry's, the disk's image is there and nothing else of it, or the base is there, and the new images that are filled have
 //! it as parent, and nothing else has; of a copy or a link the image is there, hidden, and its parent has the UUID that the entry
-//! says and is hidden: in a copy no other image has that parent, in a link it is not smaller than the image. The images are
+//! says and is hidden: in a copy no other image has that parent, in a link it is not smaller than the image; of the folding of a leaf
+//! leaf, old leaf and parent are there as at one of its four stages, and while the leaf has its parent it is its only child
+//! (`leaves.rt`). The images are
 //! read into memory as they are checked, in order of name, each once, with room for all that may come; one that is being
 //! enlarged is read in the extents that it had, since in those behind them anything may stand. Once all checks passed, memory
 //! is that of the table in which nothing is under way (`memory.rt`): of a fork the new images go, and the base, where it is
-//! there, is the disk's image, shown; of a link the image stands over its parent still. Then the entry of a copy goes, and the fork
+//! there, is the disk's image, shown; of a leaf's folding the image that goes on has the leaf's name, shown; of a link the image stands
+//! over its parent still. Then the folding of a leaf is ended (`folding.rt`), a commit each: where the leaf was renamed an enlargement of
+//! its parent is undone, and the parent takes its name; from then on the image is shown and the old leaf goes; the entry goes last. Then
+//! the entry of a copy goes, and the fork
 //! or the enlargement is undone (`undoing.rt`), a commit each (`steps.rt`): of an enlargement the image's volume is cut to the
 //! extents that it had, where it has more; of a fork the twin's new image is removed, and where the base is there the disk's new
 //! image is removed, and the base is shown and takes the disk's name; the entry goes last. While that is done the entry of a link
@@ -56,7 +62,9 @@
 mod checks;
 mod disks;
 mod entries;
+mod folding;
 mod forks;
+mod leaves;
 mod linking;
 mod links;
 mod loading;

@@ -1,16 +1,20 @@
 //! The check that looks at the images in memory beside the entries. The new images of a fork have the base as parent, and
-//! nothing else has; the child of a copy has the parent, and nothing else has; that of a link has it, and it is as large at least.
+//! nothing else has; the child of a copy has the parent, and nothing else has; that of a link has it, and it is as large at least; that of
+//! a leaf's folding has it, and nothing else has, and once it is swapped the image that goes on has no children.
 
-ghost use Rattle.std.specs.Prelude.{◌≡◌, None, find, nat_le};
+ghost use Rattle.std.specs.Prelude.{◌≡◌, find, nat_le};
+ghost use Rattle.sm_base.specs.declared.names.Name.TheVariants.{Vhd};
 ghost use Rattle.std.specs.List.{list_any};
 ghost use Rattle.std.specs.Option.{option_copied};
-ghost use Rattle.sm_standing.specs.Checks.{entry_ahead_fault, entry_link_fault, has_uuid};
+ghost use Rattle.sm_standing.specs.Checks.{entry_link_fault, has_uuid};
+ghost use Rattle.sm_machine.specs.Shapes.{same_image};
 ghost use Rattle.sm_standing.specs.Outlines.{Outline};
 ghost use Rattle.vg_meta.specs.Roomy.{table_alone};
 ghost use Rattle.sm_recover.specs.Faults.{HasChildren, HasLinks, HasVolumes, has_one_child, has_parent_in, is_as_large_in, is_copy_in};
-ghost use Rattle.sm_recover.specs.Faults.{is_fork_linked_in, is_link_in, is_new_over, is_other_child, is_over, is_unlinked_in};
+ghost use Rattle.sm_recover.specs.Faults.{is_fork_linked_in, is_leaf_linked_in, is_link_in, is_parent_named, is_new_over, is_other_child, is_over, is_unlinked_in};
 
 use crate::forks::is_fork_made;
+use crate::leaves::{is_leaf_copied, is_leaf_renamed, is_leaf_swapped};
 use crate::loading::is_vhd_of;
 use sm_base::{Name, Place};
 use uuid::Uuid;
@@ -18,9 +22,9 @@ use vg_meta::{Table, Volume};
 use vhd_chain::{Tree, TreeRow};
 use vhd_image::Image;
 
-/// The first entry whose images are linked otherwise than it says. None of the folding of a leaf is there.
+/// The first entry whose images are linked otherwise than it says.
 pub fn link_fault(table: &Table, tree: &Tree) -> Option<Place>
-    ensures { (x : Outline) → x.table ≡ table_alone table.now → entry_ahead_fault x ≡ None → HasLinks tree.now.rows x → HasVolumes tree.now.rows x
+    ensures { (x : Outline) → x.table ≡ table_alone table.now → HasLinks tree.now.rows x → HasVolumes tree.now.rows x
         → HasChildren tree.now.rows x → result ≡ entry_link_fault x }
 {
     let volume = first_unlinked(table.volumes(), table, tree)?;
@@ -37,7 +41,8 @@ fn first_unlinked<'a>(volumes: &'a [Volume], table: &Table, tree: &Tree) -> Opti
         .find(|volume| is_unlinked(&volume.name(), table, tree))
 }
 
-/// Whether a name is that of an entry whose images are linked otherwise: of a fork where the base is there, of a copy or of a link.
+/// Whether a name is that of an entry whose images are linked otherwise: of a fork where the base is there, of a copy, of a link or
+/// of a leaf.
 fn is_unlinked(name: &Name, table: &Table, tree: &Tree) -> bool
     ensures { result ≡ is_unlinked_in (table_alone table.now) tree.now.rows name.now }
 {
@@ -47,6 +52,7 @@ fn is_unlinked(name: &Name, table: &Table, tree: &Tree) -> bool
         }
         Name::Coalesce { child, parent } => !is_copy(tree, child, parent),
         Name::Relink { child, parent } => !is_link(tree, child, parent),
+        Name::Leaf { leaf, parent } => !is_leaf_linked(table, tree, leaf, parent),
         _ => false,
     }
 }
@@ -68,6 +74,44 @@ fn is_link(tree: &Tree, child: &Uuid, parent: &Uuid) -> bool
     match tree.get(&Name::Vhd(*child)) {
         Some(row) => has_parent(tree, parent, &row.image, row.image.sectors()),
         None => false,
+    }
+}
+
+/// Whether the leaf has the parent, and no other image has, before the swap; and whether the image that goes on has no children, from
+/// then on.
+fn is_leaf_linked(table: &Table, tree: &Tree, leaf: &Uuid, parent: &Uuid) -> bool
+    ensures { result ≡ is_leaf_linked_in (table_alone table.now) tree.now.rows leaf.now parent.now }
+{
+    let own = Name::Vhd(*leaf);
+    let below = Name::Vhd(*parent);
+    if is_leaf_copied(table, leaf, parent) {
+        is_vhd_image(tree.parent(&own), parent) && tree.child_count(&below) == 1
+    } else if is_leaf_renamed(table, leaf, parent) {
+        tree.child_count(&below) == 0
+    } else if is_leaf_swapped(table, leaf, parent) {
+        tree.child_count(&own) == 0
+    } else {
+        true
+    }
+}
+
+/// Whether there is a name, and it is that of the VHD image of this UUID.
+fn is_vhd_image(name: Option<Name>, uuid: &Uuid) -> bool
+    ensures { result ≡ is_parent_named (Vhd uuid.now) name }
+{
+    match name {
+        Some(name) => is_named(&name, uuid),
+        None => false,
+    }
+}
+
+#[tactic(auto, unfolding(sm_machine::specs::Shapes::same_image))]
+fn is_named(name: &Name, uuid: &Uuid) -> bool
+    ensures { result ≡ same_image name.now (Vhd uuid.now) }
+{
+    match name {
+        Name::Vhd(own) => *own == *uuid,
+        _ => false,
     }
 }
 

@@ -1,4 +1,4 @@
-//! The images are read into memory: each volume of an image that is not new gives a row of the tree. A raw image is read
+//! The images are read into memory: each volume of a VHD or a raw image that is not new gives a row of the tree; an old leaf is not read. A raw image is read
 //! off the table alone; of a VHD image the footer, the header and the table are read, once. An image that is being enlarged is
 //! read in the extents that it had, which the entry says: in those behind them anything may stand.
 
@@ -18,7 +18,7 @@ ghost use Rattle.sm_ready.specs.Stores.{store_content};
 ghost use Rattle.sm_standing.specs.Entries.{making};
 ghost use Rattle.sm_standing.specs.Images.{image_extents};
 ghost use Rattle.sm_recover.specs.Loaded.{AreRowsOf, FailsAt, FailsToRead, HasEachRow, IsFilledImage, IsRawRead, IsReadAs, IsRow, as_read, read_volumes, stored_read};
-ghost use Rattle.sm_recover.specs.Repairs.{IsStoppedBy, IsEndableStore};
+ghost use Rattle.sm_recover.specs.Repairs.{IsOpenableStore, IsStoppedBy};
 
 use crate::entries::entry_in;
 use sm_base::{Geometry, IMAGE_LIMIT, Name, OpenFault, Place};
@@ -35,7 +35,7 @@ use vhd_image::Image;
 /// # Errors
 /// `Damaged` with the first image that is not valid; `Device` where a call of the store failed; `NoMemory`.
 pub fn load<S: Store>(alloc: Global, store: &mut S) -> Result<Tree, OpenFault>
-    requires checked { IsEndableStore S.Store store.old }
+    requires checked { IsOpenableStore S.Store store.old }
     ensures reads { OnlyReads S.Store store.old store.new }
     ensures rows { IfOk result (λ tree. AreRowsOf (read_volumes (table_alone (S.table store.old))) tree.rows) }
     ensures each { IfOk result (λ tree. HasEachRow S.told (stored_read S.Store store.old) (read_volumes (table_alone (S.table store.old))) tree.rows) }
@@ -62,7 +62,7 @@ fn row_at<S: Store>(
     store: &mut S,
     index: usize,
 ) -> Result<Option<TreeRow>, OpenFault>
-    requires checked { IsEndableStore S.Store store.old }
+    requires checked { IsOpenableStore S.Store store.old }
     requires within { index < length (table_alone (S.table store.old)).volumes }
     ensures reads { OnlyReads S.Store store.old store.new }
     ensures some { IfOk result (λ found. IfSome found (λ x. (r : Row) → slice_get (table_alone (S.table store.old)).volumes index ≡ Some r
@@ -72,7 +72,7 @@ fn row_at<S: Store>(
         → FailsAt S.Store (stored_read S.Store store.old) (as_read (making (table_alone (S.table store.old))) r) e store.old store.new) }
 {
     let volume = &store.table().volumes()[index];
-    if volume.is_fresh() || !volume.name().is_image() {
+    if volume.is_fresh() || !is_read(&volume.name()) {
         return Ok(None);
     }
     let name = volume.name();
@@ -84,6 +84,14 @@ fn row_at<S: Store>(
         hidden,
         extents,
     }))
+}
+
+/// Whether a name is that of a VHD or of a raw image.
+#[tactic(auto, unfolding(sm_machine::specs::WellFormed::is_image_name))]
+fn is_read(name: &Name) -> bool
+    ensures { result ≡ is_image_name name.now }
+{
+    matches!(name, Name::Vhd(_) | Name::Raw(_))
 }
 
 /// In how many extents the image of a name lies, where its volume has so many: those that it had, where it is being enlarged.

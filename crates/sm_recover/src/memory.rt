@@ -1,20 +1,50 @@
-//! The images in memory once a fork that a stop has cut short is undone.
+//! The images in memory once the folding of a leaf that a stop has cut short is ended, and once a fork is undone.
 
 ghost use Rattle.std.specs.Prelude.{◌≡◌, ◌+◌, ◌≤◌, IfNone, IfSome, None, Some, length};
-ghost use Rattle.sm_base.specs.declared.names.Name.TheVariants.{Vhd};
+ghost use Rattle.sm_base.specs.declared.names.Name.TheVariants.{Leaf, Vhd};
 ghost use Rattle.sm_base.specs.Names.{IsName};
-ghost use Rattle.sm_standing.specs.Entries.{image_with};
+ghost use Rattle.sm_standing.specs.Entries.{folding, head, image_with};
 ghost use Rattle.sm_standing.specs.Opened.{under_name};
 ghost use Rattle.vg_meta.specs.Roomy.{table_alone};
 ghost use Rattle.vhd_chain.specs.Trees.{tree_row, without};
 ghost use Rattle.sm_recover.specs.Backs.{CanGiveBack, IsFreeAgain, base_back, fork_back, row_back, rows_back};
+ghost use Rattle.sm_recover.specs.Ending.{CanEnd, leaf_back, rows_ended};
 
-use crate::entries::entry_in;
+use crate::entries::{entry_in, folding_in};
+use crate::leaves::is_leaf_renamed;
 use crate::volumes::image_with;
 use sm_base::Name;
 use uuid::Uuid;
 use vg_meta::Table;
 use vhd_chain::{Tree, TreeRow};
+
+/// Gives the image that goes on the leaf's name and shows it, where a leaf is being folded: the parent's once the leaf was renamed, else
+/// the leaf's own. Where none is being folded nothing changes.
+pub fn take_name(tree: &mut Tree, table: &Table)
+    requires { CanEnd (table_alone table.now) (head (folding (table_alone table.now))) tree.old.rows }
+    ensures rows { tree.new.rows ≡ rows_ended (table_alone table.now) tree.old.rows }
+    ensures room { length tree.old.rows + tree.old.spare ≤ length tree.new.rows + tree.new.spare }
+{
+    let Some(entry) = folding_in(table) else {
+        return;
+    };
+    if let Name::Leaf { leaf, parent } = &entry {
+        leaf_back(tree, table, leaf, parent);
+    }
+}
+
+/// The same, by the entry of a leaf.
+fn leaf_back(tree: &mut Tree, table: &Table, leaf: &Uuid, parent: &Uuid)
+    requires { CanEnd (table_alone table.now) (Some (Leaf leaf.now parent.now)) tree.old.rows }
+    ensures rows { tree.new.rows ≡ leaf_back (table_alone table.now) (Some (Leaf leaf.now parent.now)) tree.old.rows }
+    ensures room { length tree.old.rows + tree.old.spare ≤ length tree.new.rows + tree.new.spare }
+{
+    if is_leaf_renamed(table, leaf, parent) {
+        base_back(tree, &Name::Vhd(*parent), Name::Vhd(*leaf));
+    } else {
+        base_back(tree, &Name::Vhd(*leaf), Name::Vhd(*leaf));
+    }
+}
 
 /// Takes the new images of a fork out of the tree, and gives the base the disk's name and shows it, where the base is there.
 /// Where no fork is under way nothing changes.

@@ -5,15 +5,18 @@ ghost use Rattle.std.specs.Prelude.{◌≡◌, ◌≤◌, ◌+◌, None, OnOk, I
 ghost use Rattle.sm_disk.specs.Held.{IsSettled};
 ghost use Rattle.common_laws.specs.Lists.{first_some};
 ghost use Rattle.sm_mgt.specs.Places.{Agrees, place_count, records_of};
-ghost use Rattle.sm_standing.specs.Checks.{first_fault_today};
+ghost use Rattle.sm_standing.specs.Checks.{first_fault};
 ghost use Rattle.vg_volumes.specs.Stored.{OnlyReads};
-ghost use Rattle.sm_recover.specs.Repairs.{IsOpeningStopped, IsEndableStore};
+ghost use Rattle.sm_recover.specs.Ending.{IsEndableThen, IsEndedSo, leaf_ends, unleafed};
+ghost use Rattle.sm_recover.specs.Repairs.{IsOpenableStore, IsOpeningStopped};
+ghost use Rattle.sm_ready.specs.Runs.{AllMay};
+ghost use Rattle.sm_standing.specs.Entries.{folding, head};
 ghost use Rattle.sm_ready.specs.Known.{known};
 ghost use Rattle.sm_ready.specs.Orderly.{IsOrderly};
 ghost use Rattle.sm_ready.specs.Ready.{IsReady};
 ghost use Rattle.sm_ready.specs.Sessions.{IsAtEase, HasRows, HasTreeRoom};
 ghost use Rattle.sm_ready.specs.Stores.{store_content};
-ghost use Rattle.sm_standing.specs.Checks.{fault_today_of};
+ghost use Rattle.sm_standing.specs.Checks.{fault_of};
 ghost use Rattle.sm_standing.specs.Outlines.{Outline};
 ghost use Rattle.sm_standing.specs.Keeping.{HoldsWell};
 ghost use Rattle.sm_standing.specs.Undone.{undone};
@@ -21,7 +24,7 @@ ghost use Rattle.sm_standing.specs.Unfolded.{unfolded};
 ghost use Rattle.sm_machine.specs.Shapes.{image_limit};
 ghost use Rattle.sm_recover.specs.Faults.{HasLinks, HasPlaces, HasTable, PassImages, table_faults};
 ghost use Rattle.sm_recover.specs.Links.{IsLinkRight};
-ghost use Rattle.sm_recover.specs.Loaded.{AreRowsOf, HasEachRow, read_volumes, stored_read, stored_undone};
+ghost use Rattle.sm_recover.specs.Loaded.{AreRowsOf, HasEachRow, read_volumes, stored_read, stored_with};
 ghost use Rattle.vg_meta.specs.Roomy.{table_alone};
 ghost use Rattle.vhd_chain.specs.Reading.{AllAreTrue};
 
@@ -29,7 +32,7 @@ use crate::checks::table_fault;
 use crate::disks::disk_fault;
 use crate::links::link_fault;
 use crate::loading::load;
-use crate::memory::give_back;
+use crate::memory::{give_back, take_name};
 use crate::trees::tree_fault;
 use sm_base::{IMAGE_LIMIT, NoMemory, Op, OpenFault, Place};
 use sm_mgt::Mgt;
@@ -44,20 +47,23 @@ const MOST_ROWS: usize = 505;
 
 /// Checks what stands in a store, takes the memory for all rows that its table and its tree may come to have, and answers
 /// what a session keeps in memory: what stands beside the table without the entries that it may have, as if what they say were
-/// undone; of a link the child stands over its parent still, and both are hidden and of one size. New volumes are no rows of the
+/// ended or undone; of a link the child stands over its parent still, and both are hidden and of one size. New volumes are no rows of the
 /// tree, and records of no disk are in their places.
 pub fn checked_with_room<S: Store>(alloc: Global, store: &mut S) -> Result<Memory, OpenFault>
     ensures reads { OnlyReads S.Store store.old store.new }
-    ensures checked { OnOk result (IsEndableStore S.Store store.old) }
-    ensures sound { OnOk result (S.told → first_fault_today (store_content S.Store store.old) ≡ None) }
-    ensures orderly { IfOk result (λ m. IsOrderly (S.site store.old) (undone (unfolded (table_alone (S.table store.old)))) (known m)) }
+    ensures openable { OnOk result (IsOpenableStore S.Store store.old) }
+    ensures checked { OnOk result (IsEndableThen S.Store store.old) }
+    ensures allowed { OnOk result (AllMay (S.site store.old).count (table_alone (S.table store.old)) (leaf_ends (table_alone (S.table store.old)) (head (folding (table_alone (S.table store.old)))))) }
+    ensures ended { OnOk result (IsEndedSo (table_alone (S.table store.old))) }
+    ensures sound { OnOk result (S.told → first_fault (store_content S.Store store.old) ≡ None) }
+    ensures orderly { IfOk result (λ m. IsOrderly (S.site store.old) (undone (unfolded (unleafed (table_alone (S.table store.old))))) (known m)) }
     ensures ready { IfOk result (λ m. S.told → IsSettled (S.area store.old) → HoldsWell (store_content S.Store store.old)
-        → IsReady (S.site store.old) (undone (unfolded (table_alone (S.table store.old)))) (S.area store.old) (known m)) }
-    ensures linking { IfOk result (λ m. IsLinkRight (table_alone (S.table store.old)) m.tree.rows) }
+        → IsReady (S.site store.old) (undone (unfolded (unleafed (table_alone (S.table store.old))))) (S.area store.old) (known m)) }
+    ensures linking { IfOk result (λ m. IsLinkRight (unleafed (table_alone (S.table store.old))) m.tree.rows) }
     ensures at_ease { IfOk result IsAtEase }
     ensures tree_room { IfOk result HasTreeRoom }
     ensures attachment_room { IfOk result (λ m. image_limit ≤ m.attached.room) }
-    ensures true_images { IfOk result (λ m. S.told → IsSettled (S.area store.old) → AllAreTrue (stored_undone S.Store store.old) m.tree.rows) }
+    ensures true_images { IfOk result (λ m. S.told → IsSettled (S.area store.old) → AllAreTrue (stored_with S.Store store.old (undone (unfolded (unleafed (table_alone (S.table store.old)))))) m.tree.rows) }
     ensures cause { IfErr result (IsOpeningStopped S.told (store_content S.Store store.old) (S.faults store.old) (S.faults store.new)) }
     ensures room { OnOk result (HasRows (S.table store.new)) }
 {
@@ -68,6 +74,7 @@ pub fn checked_with_room<S: Store>(alloc: Global, store: &mut S) -> Result<Memor
     let Ok(attached) = Attachments::new(alloc, IMAGE_LIMIT) else {
         return Err(OpenFault::NoMemory);
     };
+    take_name(&mut tree, store.table());
     give_back(&mut tree, store.table());
     Ok(Memory {
         tree,
@@ -80,10 +87,10 @@ pub fn checked_with_room<S: Store>(alloc: Global, store: &mut S) -> Result<Memor
 /// Checks what stands in a store, and answers the images and the places of the records.
 fn checked<S: Store>(alloc: Global, store: &mut S) -> Result<(Tree, Mgt), OpenFault>
     ensures reads { OnlyReads S.Store store.old store.new }
-    ensures checked { OnOk result (IsEndableStore S.Store store.old) }
-    ensures sound { OnOk result (S.told → first_fault_today (store_content S.Store store.old) ≡ None) }
+    ensures checked { OnOk result (IsOpenableStore S.Store store.old) }
+    ensures sound { OnOk result (S.told → first_fault (store_content S.Store store.old) ≡ None) }
     ensures agrees { S.told → IfOk result (λ p. Agrees (records_of S.Store store.old) p.1) }
-    ensures passed { IfOk result (λ p. (x : Outline) → HasTable (S.site store.old).geometry (table_alone (S.table store.old)) x → HasLinks p.0.rows x → HasPlaces p.1 x → fault_today_of x ≡ None) }
+    ensures passed { IfOk result (λ p. (x : Outline) → HasTable (S.site store.old).geometry (table_alone (S.table store.old)) x → HasLinks p.0.rows x → HasPlaces p.1 x → fault_of x ≡ None) }
     ensures rows { IfOk result (λ p. AreRowsOf (read_volumes (table_alone (S.table store.old))) p.0.rows) }
     ensures each { IfOk result (λ p. HasEachRow S.told (stored_read S.Store store.old) (read_volumes (table_alone (S.table store.old))) p.0.rows) }
     ensures room { IfOk result (λ p. image_limit ≤ length p.0.rows + p.0.spare) }
@@ -101,7 +108,7 @@ fn checked<S: Store>(alloc: Global, store: &mut S) -> Result<(Tree, Mgt), OpenFa
 /// The checks in front of the records, by the table and by the images, which it answers.
 fn checked_images<S: Store>(alloc: Global, store: &mut S) -> Result<Tree, OpenFault>
     ensures reads { OnlyReads S.Store store.old store.new }
-    ensures checked { OnOk result (IsEndableStore S.Store store.old) }
+    ensures checked { OnOk result (IsOpenableStore S.Store store.old) }
     ensures tables { OnOk result ((x : Outline) → HasTable (S.site store.old).geometry (table_alone (S.table store.old)) x → first_some (table_faults x) ≡ None) }
     ensures passed { IfOk result (λ tree. (x : Outline) → HasTable (S.site store.old).geometry (table_alone (S.table store.old)) x → HasLinks tree.rows x → PassImages x) }
     ensures rows { IfOk result (λ tree. AreRowsOf (read_volumes (table_alone (S.table store.old))) tree.rows) }
@@ -125,7 +132,7 @@ fn checked_images<S: Store>(alloc: Global, store: &mut S) -> Result<Tree, OpenFa
 /// The place of the first check by the table that fails. Where none does, what the repairs rest on is known.
 fn first_by_table<S: Store>(store: &S) -> Option<Place>
     ensures says { (x : Outline) → HasTable (S.site store.now).geometry (table_alone (S.table store.now)) x → first_some (table_faults x) ≡ result }
-    ensures checked { IfNone result (IsEndableStore S.Store store.now) }
+    ensures checked { IfNone result (IsOpenableStore S.Store store.now) }
 {
     let geometry = store.geometry();
     let _extents = store.extents();

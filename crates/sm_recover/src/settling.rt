@@ -1,30 +1,37 @@
-//! The checks, and then the repairs: the entry of a copy goes, a fork or an enlargement is undone, the children of a link are linked and
-//! its entry goes, new volumes go, and records of no disk are wiped. Each repair of the table is a commit of its own, so its sequence
-//! number rises by five at most for a fork, by two at most for an enlargement, by one for a copy or a link, and by one for each new
-//! volume.
+//! The checks, and then the repairs: the folding of a leaf is ended, the entry of a copy goes, a fork or an enlargement is undone, the
+//! children of a link are linked and its entry goes, new volumes go, and records of no disk are wiped. Each repair of the table is a
+//! commit of its own, so its sequence number rises by six at most for the folding of a leaf, by five at most for a fork, by two at most
+//! for an enlargement, by one for a copy or a link, and by one for each new volume.
 
 ghost use Rattle.std.specs.Prelude.{◌≡◌, ◌⊎◌, ◌<◌, ◌≤◌, ℕ, None, false, OnOk, OnErr, IfOk, IfErr};
 ghost use Rattle.sm_base.specs.declared.names.Name.TheVariants.{Mgt as mgt_name};
 ghost use Rattle.sm_disk.specs.Held.{IsSettled, Keeps};
 ghost use Rattle.sm_mgt.specs.Places.{place_count};
-ghost use Rattle.sm_standing.specs.Checks.{first_fault_today};
+ghost use Rattle.sm_standing.specs.Checks.{first_fault};
 ghost use Rattle.sm_standing.specs.Opened.{opened};
 ghost use Rattle.sm_standing.specs.Standing.{disks};
 ghost use Rattle.vg_meta.specs.Roomy.{table_alone};
 ghost use Rattle.vg_volumes.specs.Stored.{OnlyReads, Counts, Leaves, WorksOn, stored};
 ghost use Rattle.sm_ready.specs.Cleaned.{cleaned, HasFewRemovals};
 ghost use Rattle.sm_ready.specs.Repairs.{IsAtRest, IsRightAt, IsSame, IsWithoutStrays, LeavesSame, RestsAgain};
-ghost use Rattle.sm_recover.specs.Repairs.{IsCheckedStore, IsOpeningStopped, UnlessDeviceFailed};
+ghost use Rattle.sm_recover.specs.Repairs.{IsCheckedStore, IsEndableStore, IsOpeningStopped, UnlessDeviceFailed};
 ghost use Rattle.sm_machine.specs.Shapes.{image_limit};
 ghost use Rattle.sm_ready.specs.Frames.{HasTrueImages};
 ghost use Rattle.sm_ready.specs.Known.{Known, known, shape_in};
 ghost use Rattle.sm_ready.specs.Sessions.{IsAtEase, HasRows, HasTreeRoom, IsOrderlyStore, IsReadyStore, IsTidyStore};
 ghost use Rattle.sm_ready.specs.Stores.{content_in, store_content};
-ghost use Rattle.sm_recover.specs.Stores.{MayBeRepairedFrom};
+ghost use Rattle.sm_recover.specs.Ending.{HasFewEnds};
+ghost use Rattle.sm_recover.specs.Links.{IsLinkRight};
+ghost use Rattle.sm_recover.specs.Loaded.{stored_undone};
+ghost use Rattle.sm_recover.specs.Stores.{HeldWell, MayBeRepairedFrom};
+ghost use Rattle.sm_standing.specs.Unfolded.{unfolded};
+ghost use Rattle.sm_ready.specs.Orderly.{IsOrderly};
+ghost use Rattle.vhd_chain.specs.Reading.{AllAreTrue};
 ghost use Rattle.sm_standing.specs.Keeping.{HoldsWell};
 ghost use Rattle.sm_standing.specs.Undone.{undone};
-ghost use Rattle.sm_standing.specs.Unfolded.{unfolded};
+ghost use Rattle.sm_standing.specs.Leaves.{ended};
 
+use crate::folding::end_leaf;
 use crate::linking::link_up;
 use crate::opening::checked_with_room;
 use crate::removals::remove_new;
@@ -36,8 +43,8 @@ use sm_ready::Memory;
 use std::alloc::Global;
 use vg_volumes::Store;
 
-/// Checks what stands in a store, all checks before the first write, and then repairs what a stop has left: the entry of a copy goes, a
-/// fork or an enlargement is undone, a link is ended, volumes that are new are removed, and records of no disk are wiped. Answers what
+/// Checks what stands in a store, all checks before the first write, and then repairs what a stop has left: the folding of a leaf is
+/// ended, the entry of a copy goes, a fork or an enlargement is undone, a link is ended, volumes that are new are removed, and records of no disk are wiped. Answers what
 /// a session keeps in memory: the images, the places of the records, no attachment and no operation. Memory is taken before the first
 /// write, and none after it.
 ///
@@ -54,10 +61,10 @@ pub fn settle<S: Store>(alloc: Global, store: &mut S) -> Result<Memory, OpenFaul
     ensures site { S.site store.new ≡ S.site store.old }
     ensures counts { S.faults store.old ≤ S.faults store.new }
     ensures beside { S.told → Keeps (S.beside store.old) (S.beside store.new) }
-    ensures sound { OnOk result (S.told → first_fault_today (store_content S.Store store.old) ≡ None) }
+    ensures sound { OnOk result (S.told → first_fault (store_content S.Store store.old) ≡ None) }
     ensures cause { IfErr result (IsOpeningStopped S.told (store_content S.Store store.old) (S.faults store.old) (S.faults store.new)) }
     ensures refused { IfErr result (λ e. UnlessDeviceFailed e (OnlyReads S.Store store.old store.new)) }
-    ensures unsound { OnErr result (S.told → (first_fault_today (store_content S.Store store.old) ≡ None → ⊥) → Keeps (S.device store.old) (S.device store.new)) }
+    ensures unsound { OnErr result (S.told → (first_fault (store_content S.Store store.old) ≡ None → ⊥) → Keeps (S.device store.old) (S.device store.new)) }
     ensures usable_still { OnOk result (S.failed store.new ≡ false) }
     ensures orderly { IfOk result (λ m. IsOrderlyStore S.Store store.new m) }
     ensures tidy { IfOk result (λ m. IsTidyStore S.Store store.new m) }
@@ -66,9 +73,9 @@ pub fn settle<S: Store>(alloc: Global, store: &mut S) -> Result<Memory, OpenFaul
     ensures tree_room { IfOk result HasTreeRoom }
     ensures attachment_room { IfOk result (λ m. image_limit ≤ m.attached.room) }
     ensures true_images { IfOk result (λ m. HasTrueImages S.Store store.new m) }
-    ensures cleaned { OnOk result (table_alone (S.table store.new) ≡ cleaned (undone (unfolded (table_alone (S.table store.old))))) }
-    ensures few { HasFewRemovals (table_alone (S.table store.old)) (table_alone (S.table store.new)) }
-    ensures few_left { Leaves S.Store store.new (λ t image. HasFewRemovals (table_alone (S.table store.old)) t) }
+    ensures cleaned { OnOk result (table_alone (S.table store.new) ≡ cleaned (undone (ended (table_alone (S.table store.old))))) }
+    ensures few { HasFewEnds (table_alone (S.table store.old)) (table_alone (S.table store.new)) }
+    ensures few_left { Leaves S.Store store.new (λ t image. HasFewEnds (table_alone (S.table store.old)) t) }
     ensures settled { OnOk result (S.told → IsSettled (S.area store.new)) }
     ensures ready { IfOk result (λ m. S.told → HoldsWell (store_content S.Store store.old) → IsReadyStore S.Store store.new m) }
     ensures disks { OnOk result (S.told → HoldsWell (store_content S.Store store.old) → disks (store_content S.Store store.new)
@@ -78,16 +85,51 @@ pub fn settle<S: Store>(alloc: Global, store: &mut S) -> Result<Memory, OpenFaul
     ensures crash { Leaves S.Store store.new (λ t image. S.leaves store.old t image ⊎ MayBeRepairedFrom (store_content S.Store store.old) (content_in (S.site store.old) t image)) }
 {
     let mut memory = checked_with_room(alloc, store)?;
-    let Ok(()) = undo(store) else {
+    let Ok(()) = end_leaf(store) else {
         return Err(OpenFault::Device);
     };
-    let Ok(()) = link_up(store, &mut memory) else {
-        return Err(OpenFault::Device);
-    };
-    let Ok(()) = repair(store, &mut memory) else {
+    let Ok(()) = restore(store, &mut memory) else {
         return Err(OpenFault::Device);
     };
     Ok(memory)
+}
+
+/// The repairs where no leaf is being folded: the entry of a copy goes, a fork or an enlargement is undone, a link is ended, new volumes
+/// go, and records of no disk are wiped.
+fn restore<S: Store>(store: &mut S, memory: &mut Memory) -> Result<(), Failed>
+    requires usable { S.failed store.old ≡ false }
+    requires endable { IsEndableStore S.Store store.old }
+    requires orderly { IsOrderly (S.site store.old) (undone (unfolded (table_alone (S.table store.old)))) (known memory.old) }
+    requires linking { IsLinkRight (table_alone (S.table store.old)) memory.old.tree.rows }
+    requires at_ease { IsAtEase memory.old }
+    requires tree_room { HasTreeRoom memory.old }
+    requires true_now { S.told → IsSettled (S.area store.old) × AllAreTrue (stored_undone S.Store store.old) memory.old.tree.rows }
+    ensures site { S.site store.new ≡ S.site store.old }
+    ensures counts { S.faults store.old ≤ S.faults store.new }
+    ensures beside { S.told → Keeps (S.beside store.old) (S.beside store.new) }
+    ensures cause { Counts S.Store result store.old store.new }
+    ensures usable_still { OnOk result (S.failed store.new ≡ false) }
+    ensures orderly { OnOk result (IsOrderlyStore S.Store store.new memory.new) }
+    ensures tidy { OnOk result (IsTidyStore S.Store store.new memory.new) }
+    ensures at_ease { OnOk result (IsAtEase memory.new) }
+    ensures room { OnOk result (HasRows (S.table store.old) → HasRows (S.table store.new)) }
+    ensures tree_room { OnOk result (HasTreeRoom memory.new) }
+    ensures attachments { OnOk result (memory.old.attached.room ≤ memory.new.attached.room) }
+    ensures true_images { OnOk result (HasTrueImages S.Store store.new memory.new) }
+    ensures cleaned { OnOk result (table_alone (S.table store.new) ≡ cleaned (undone (unfolded (table_alone (S.table store.old))))) }
+    ensures few { HasFewRemovals (table_alone (S.table store.old)) (table_alone (S.table store.new)) }
+    ensures few_left { Leaves S.Store store.new (λ t image. HasFewRemovals (table_alone (S.table store.old)) t) }
+    ensures settled { OnOk result (S.told → IsSettled (S.area store.new)) }
+    ensures ready { OnOk result (S.told → HeldWell S.Store store.old memory.old → IsReadyStore S.Store store.new memory.new) }
+    ensures disks { OnOk result (S.told → HeldWell S.Store store.old memory.old → disks (store_content S.Store store.new) ≡ disks (store_content S.Store store.old)) }
+    ensures opened { OnOk result (S.told → HeldWell S.Store store.old memory.old
+        → shape_in (S.site store.new) (table_alone (S.table store.new)) (known memory.new) ≡ opened (store_content S.Store store.old)) }
+    ensures crash { Leaves S.Store store.new (λ t image. HeldWell S.Store store.old memory.old → IsSame (store_content S.Store store.old) (content_in (S.site store.old) t image)) }
+{
+    undo(store)?;
+    link_up(store, memory)?;
+    repair(store, memory)?;
+    Ok(())
 }
 
 /// Removes the new volumes, and wipes the records of no disk.

@@ -4,7 +4,7 @@
 ghost use Rattle.std.specs.Prelude.{◌≡◌, ◌≤◌, false, None, Some, OnOk};
 ghost use Rattle.sm_base.specs.declared.names.Name.TheVariants.{Clone, Inflate};
 ghost use Rattle.sm_disk.specs.Held.{IsSettled, Keeps};
-ghost use Rattle.sm_standing.specs.Checks.{first_fault_today};
+ghost use Rattle.sm_standing.specs.Checks.{first_fault_but_leaf};
 ghost use Rattle.sm_standing.specs.Entries.{folding, head, of_row};
 ghost use Rattle.sm_standing.specs.Keeping.{HoldsWell};
 ghost use Rattle.sm_standing.specs.Undone.{changes_back, is_longer, undo_changes, undone};
@@ -44,7 +44,7 @@ pub fn undo<S: Store>(store: &mut S) -> Result<(), Failed>
     ensures few_left { Leaves S.Store store.new (λ t image. HasFewRemovals (table_alone (S.table store.old)) t) }
     ensures room { OnOk result (HasRows (S.table store.old) → HasRows (S.table store.new)) }
     ensures settled { OnOk result (S.told → IsSettled (S.area store.old) → IsSettled (S.area store.new)) }
-    ensures crash { Leaves S.Store store.new (λ t image. IsSettled (S.area store.old) → first_fault_today (store_content S.Store store.old) ≡ None
+    ensures crash { Leaves S.Store store.new (λ t image. IsSettled (S.area store.old) → first_fault_but_leaf (store_content S.Store store.old) ≡ None
         → HoldsWell (store_content S.Store store.old) → IsSame (store_content S.Store store.old) (content_in (S.site store.old) t image)) }
 {
     make_first(store)?;
@@ -117,7 +117,7 @@ fn undo_entry<S: Store>(store: &mut S, entry: &Name) -> Result<(), Failed>
 }
 
 /// Cuts the volume of the image that was being enlarged to the extents that it had, where it has more, and removes the entry.
-fn undo_enlargement<S: Store>(store: &mut S, image: Uuid, extents: u32) -> Result<(), Failed>
+pub fn undo_enlargement<S: Store>(store: &mut S, image: Uuid, extents: u32) -> Result<(), Failed>
     requires usable { S.failed store.old ≡ false }
     requires allowed { AllMay (S.site store.old).count (table_alone (S.table store.old)) (changes_back (table_alone (S.table store.old)) (Inflate image extents)) }
     ensures part { MakesPart S.Store (changes_back (table_alone (S.table store.old)) (Inflate image extents)) store.old store.new }
@@ -190,7 +190,7 @@ fn give_back<S: Store>(
 }
 
 /// Whether a volume is there and hidden, where there is a name.
-fn is_marked(table: &Table, name: &Option<Name>) -> bool
+pub fn is_marked(table: &Table, name: &Option<Name>) -> bool
     ensures { result ≡ is_marked (table_alone table.now) name.now }
 {
     let Some(name) = name else {

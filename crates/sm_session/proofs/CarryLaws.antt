@@ -13,7 +13,6 @@ use Rattle.std.proofs.lemmas.Bool.{true≢false}
 use Rattle.vg_volumes.specs.declared.stores.Store.{Ghosts}
 use Rattle.sm_machine.specs.Commits.{folds, gives_up, is_given_up}
 use Rattle.sm_machine.specs.Shapes.{Shape, free}
-use Rattle.sm_machine.specs.Steps.{is_built, is_fold}
 use Rattle.sm_machine.specs.declared.commands.Command.{Command}
 use Rattle.sm_machine.specs.declared.commands.Command.TheVariants as command
 use Rattle.sm_machine.specs.declared.replies.Reply.{Reply}
@@ -21,20 +20,6 @@ use Rattle.sm_ready.specs.Taken.{StoreTakes}
 use Rattle.sm_ready.specs.declared.memory.Memory.{Memory}
 use Rattle.sm_session.specs.Carrying.{is_guests}
 use Rattle.sm_session.proofs.CollectLaws.{never_refused}
-
-folds_none : (o : Op) (u : List ℕ) → is_fold o ≡ false → folds o u ≡ false
-unfolding is_fold folds
-folds_none (op.Leaf leaf parent cursor) u no_fold = absurd (true≢false no_fold)
-folds_none _ u no_fold = refl
-
--- where the collector folds no leaf, nothing is given up
-pub nothing_given_up : (σ : Shape) (c : Command) → is_fold σ.op ≡ false → is_given_up σ c ≡ false
-unfolding is_given_up
-nothing_given_up σ c no_fold = by (gives_up c)
-  where
-    by : (o : Option (List ℕ)) → elim o as (λ _. Bool) [ None ↦ false | Some u ↦ folds σ.op u ] ≡ false
-    by None = refl
-    by (Some u) = folds_none σ.op u no_fold
 
 -- what is told of a command at any result is told of it where it failed
 pub stopped_at : {S : Type 0} (g : Ghosts S) (a b : S) (m n : Memory) (c : Command) (r : Result Reply Failed) (f : Failed) → StoreTakes g c a m b n r → StoreTakes g c a m b n (Err f)
@@ -67,24 +52,6 @@ others_guests command.List no_create no_delete no_label no_resize no_snapshot no
 others_guests command.Stat no_create no_delete no_label no_resize no_snapshot no_clone no_list no_stat no_gc = absurd (no_stat refl)
 others_guests command.Gc no_create no_delete no_label no_resize no_snapshot no_clone no_list no_stat no_gc = absurd (no_gc refl)
 others_guests _ no_create no_delete no_label no_resize no_snapshot no_clone no_list no_stat no_gc = refl
-
--- ---- what is built
-
--- a command that is one that is built
-pub is_on : (σ : Shape) {c k : Command} → c ≡ k → is_built σ k ≡ true → is_built σ c ≡ true
-is_on σ is built = subst (λ x. is_built σ x ≡ true) (sym is) built
-
--- a guest's command is
-pub guests_built : (σ : Shape) (c : Command) → is_guests c ≡ true → is_built σ c ≡ true
-unfolding is_built is_guests
-guests_built σ command.Gc guests = absurd (true≢false (sym guests))
-guests_built σ _ guests = refl
-
--- so is one that a cause refuses: no cause refuses a step of the collector
-pub refused_built : (σ : Shape) (c : Command) (r : Refusal) → refusal σ c ≡ Some r → is_built σ c ≡ true
-unfolding is_built
-refused_built σ command.Gc r is = absurd (none-some r (sym (never_refused σ) ∙ is))
-refused_built σ _ r is = refl
 
 -- ---- want of memory is no cause
 

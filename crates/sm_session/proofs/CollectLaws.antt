@@ -11,17 +11,17 @@ use Rattle.sm_base.specs.declared.operations.Op.TheVariants as op
 use Rattle.sm_base.specs.declared.operations.Plan.{Plan}
 use Rattle.sm_base.specs.declared.operations.Plan.TheVariants as plan
 use Rattle.sm_base.specs.declared.refusals.Refusal.TheVariants.{NoSpace}
-use Rattle.sm_machine.specs.Collector.{IsLess, Pair, blocked, collected, copy_or, debt, fits, is_garbage, is_loose, leaves, next_block, next_step, pairs, plan_copy, plan_idle, plan_running, relink_or, table_of, target, turned}
+use Rattle.sm_machine.specs.Collector.{IsLess, Pair, blocked, collected, copy_or, debt, fits, is_garbage, is_loose, leaves, next_block, next_step, pairs, plan_copy, plan_idle, plan_running, relink_or, table_of, target}
 use Rattle.sm_machine.specs.Commits.{gives_up, is_given_up, own_commits, plan_commits}
 use Rattle.sm_machine.specs.Laws.{is_working}
 use Rattle.sm_machine.specs.Refusals.{refusal, is_reserved, is_unknown, is_taken, is_in_use, is_not_attached, is_read_only, is_raw_disk, is_out_of_range, is_bad_size, is_shrink, is_deep, is_too_many, is_spent, lacks_space, need, named, new_uuid, forked}
 use Rattle.sm_machine.specs.Shapes.{ImageRow, Shape, children, free, thin_in, top}
-use Rattle.sm_machine.specs.Steps.{Outcome, State, accepted, begins_fold, disks_next, is_built, is_fold, reply_to, shape_after, shape_next, step}
+use Rattle.sm_machine.specs.Steps.{Outcome, State, accepted, disks_next, reply_to, shape_after, shape_next, step}
 use Rattle.sm_machine.specs.WellFormed.{IsWellFormed}
 use Rattle.sm_machine.specs.declared.commands.Command.TheVariants.{Gc}
 use Rattle.sm_machine.proofs.Debts.{step_lowers}
-use Rattle.gc_coalesce.specs.Copying.{advanced, copying}
-use Rattle.sm_ready.proofs.TakenLaws.{step_by, step_still}
+use Rattle.gc_coalesce.specs.Copying.{copying}
+use Rattle.sm_ready.proofs.TakenLaws.{step_accepted, step_still}
 use Rattle.sm_session.specs.Carrying.{begins}
 
 -- no cause refuses a step of the collector
@@ -31,14 +31,13 @@ never_refused s = ap (λ b. first_some (given b (NoSpace 0 (free s)) ∷ [])) (l
 
 -- ---- the operation of a step
 
--- blocks are copied while an operation copies, and only the folding of a leaf ends in a swap
+-- blocks are copied while an operation copies
 abbrev Goes : Op → Plan → Type 0
-Goes o (plan.Copy b) = is_fold o ≡ false → copying o ≡ true
-Goes o plan.Swap = is_fold o ≡ true
+Goes o (plan.Copy b) = copying o ≡ true
 Goes o _ = Unit {0}
 
 goes_running : (s : Shape) (o : Op) → Goes o (plan_running s o)
-unfolding plan_running plan_idle is_fold
+unfolding plan_running plan_idle
 goes_running s op.Idle = by_rules (find (is_garbage s) s.images) (find (is_loose s) s.images) (find (fits s) (pairs s)) (find (fits s) (leaves s))
   where
     rests : (ps : List Pair) → Goes op.Idle (blocked s ps)
@@ -67,7 +66,7 @@ goes_running s (op.Copy v p cursor) = by (children v s.images)
   where
     copies : (o : Option ℕ) → Goes (op.Copy v p cursor) (copy_or plan.Turn o)
     copies None = tt
-    copies (Some b) = λ no_fold. refl
+    copies (Some b) = refl
 
     by : (cs : List ImageRow) → Goes (op.Copy v p cursor) (plan_copy s v cursor cs)
     by [] = tt
@@ -80,48 +79,17 @@ goes_running s (op.Relink v p) = by (children v s.images)
 goes_running s (op.Leaf l p cursor) = copies (next_block cursor (table_of l s))
   where
     copies : (o : Option ℕ) → Goes (op.Leaf l p cursor) (copy_or plan.Swap o)
-    copies None = refl
-    copies (Some b) = λ no_fold. absurd (true≢false no_fold)
+    copies None = tt
+    copies (Some b) = refl
 
 goes : (s : Shape) (q : Plan) → next_step s ≡ q → Goes s.op q
 unfolding next_step
 goes s q planned = subst (Goes s.op) planned (goes_running s s.op)
 
--- where no leaf is folded, a block is copied for a hidden image
-pub copy_runs : (s : Shape) (b : ℕ) → next_step s ≡ plan.Copy b → is_fold s.op ≡ false → copying s.op ≡ true
-copy_runs s b planned no_fold = goes s (plan.Copy b) planned no_fold
+pub copy_runs : (s : Shape) (b : ℕ) → next_step s ≡ plan.Copy b → copying s.op ≡ true
+copy_runs s b planned = goes s (plan.Copy b) planned
 
--- no step makes a folding of another operation
-pub turned_folds : (o : Op) → is_fold (turned o) ≡ is_fold o
-unfolding turned is_fold
-turned_folds (op.Copy child parent cursor) = refl
-turned_folds _ = refl
-
-pub advanced_folds : (b : ℕ) (o : Op) → is_fold (advanced b o) ≡ is_fold o
-unfolding is_fold
-advanced_folds b (op.Copy child parent cursor) = refl
-advanced_folds b _ = refl
-
--- ---- which step is built
-
-not_leaf : (q : Plan) → ((leaf parent : Name) (to : ℕ) → q ≡ plan.Leaf leaf parent to → ⊥) → begins_fold q ≡ false
-unfolding begins_fold
-not_leaf (plan.Leaf leaf parent to) no_leaf = absurd (no_leaf leaf parent to refl)
-not_leaf _ no_leaf = refl
-
--- where no leaf is folded, a step that begins to fold none is
-pub gc_built : (s : Shape) (q : Plan) → next_step s ≡ q → is_fold s.op ≡ false → ((leaf parent : Name) (to : ℕ) → q ≡ plan.Leaf leaf parent to → ⊥) → is_built s Gc ≡ true
-unfolding is_built
-gc_built s q planned no_fold no_leaf = ap₂ (λ a b. not (a || b)) no_fold (ap begins_fold planned ∙ not_leaf q no_leaf)
-
-begun_or : (b : Bool) → not (b || true) ≡ false
-begun_or true = refl
-begun_or false = refl
-
--- and one that begins to fold one is not
-pub leaf_unbuilt : (s : Shape) (leaf parent : Name) (to : ℕ) → next_step s ≡ plan.Leaf leaf parent to → is_built s Gc ≡ false
-unfolding is_built begins_fold
-leaf_unbuilt s leaf parent to planned = ap (λ q. not (is_fold s.op || begins_fold q)) planned ∙ begun_or (is_fold s.op)
+-- ---- which steps there are
 
 -- a step of another kind does something
 pub others_work : (q : Plan) → ((needed room : ℕ) → q ≡ plan.Blocked needed room → ⊥) → (q ≡ plan.Idle → ⊥) → is_working q ≡ true
@@ -129,30 +97,41 @@ others_work (plan.Blocked needed room) no_blocked no_idle = absurd (no_blocked n
 others_work plan.Idle no_blocked no_idle = absurd (no_idle refl)
 others_work _ no_blocked no_idle = refl
 
--- and takes no memory
-pub others_spare : (q : Plan) → ((child parent : Name) (to : ℕ) → q ≡ plan.Begin child parent to → ⊥) → begins q ≡ false
+-- and begins nothing
+pub others_spare : (q : Plan) → ((child parent : Name) (to : ℕ) → q ≡ plan.Begin child parent to → ⊥) → ((leaf parent : Name) (to : ℕ) → q ≡ plan.Leaf leaf parent to → ⊥) → begins q ≡ false
 unfolding begins
-others_spare (plan.Begin child parent to) no_begin = absurd (no_begin child parent to refl)
-others_spare _ no_begin = refl
+others_spare (plan.Begin child parent to) no_begin no_leaf = absurd (no_begin child parent to refl)
+others_spare (plan.Leaf leaf parent to) no_begin no_leaf = absurd (no_leaf leaf parent to refl)
+others_spare _ no_begin no_leaf = refl
 
--- a step that is built, does something and begins nothing is one of seven
-pub seven_work : (s : Shape) (q : Plan) → next_step s ≡ q → is_fold s.op ≡ false → is_built s Gc ≡ true → is_working q ≡ true → begins q ≡ false
+-- it is two that begin
+pub starts : (q : Plan) → ((child : Name) × (parent : Name) × (to : ℕ) × (q ≡ plan.Begin child parent to)) ⊎ ((leaf : Name) × (parent : Name) × (to : ℕ) × (q ≡ plan.Leaf leaf parent to)) → begins q ≡ true
+unfolding begins
+starts q (inl is) = ap begins is.3
+starts q (inr is) = ap begins is.3
+
+-- one that begins is one of them
+pub two_begin : (q : Plan) → begins q ≡ true → ((child parent : Name) (to : ℕ) → q ≡ plan.Begin child parent to → ⊥) → ((leaf parent : Name) (to : ℕ) → q ≡ plan.Leaf leaf parent to → ⊥) → ⊥
+two_begin q begun no_begin no_leaf = true≢false (sym begun ∙ others_spare q no_begin no_leaf)
+
+-- a step that does something and begins nothing is one of eight
+pub eight_work : (q : Plan) → is_working q ≡ true → begins q ≡ false
     → ((name : Name) → q ≡ plan.Remove name → ⊥) → ((name : Name) (to : ℕ) → q ≡ plan.Deflate name to → ⊥) → ((b : ℕ) → q ≡ plan.Copy b → ⊥) → (q ≡ plan.Turn → ⊥)
     → ((child : Name) → q ≡ plan.RelinkOne child → ⊥)
-    → (q ≡ plan.Finish → ⊥) → (q ≡ plan.Abandon → ⊥) → ⊥
+    → (q ≡ plan.Finish → ⊥) → (q ≡ plan.Swap → ⊥) → (q ≡ plan.Abandon → ⊥) → ⊥
 unfolding begins
-seven_work s (plan.Remove name) planned no_fold built working no_begin re de co tu li fi ab = re name refl
-seven_work s (plan.Deflate name to) planned no_fold built working no_begin re de co tu li fi ab = de name to refl
-seven_work s (plan.Copy b) planned no_fold built working no_begin re de co tu li fi ab = co b refl
-seven_work s plan.Turn planned no_fold built working no_begin re de co tu li fi ab = tu refl
-seven_work s (plan.RelinkOne child) planned no_fold built working no_begin re de co tu li fi ab = li child refl
-seven_work s plan.Finish planned no_fold built working no_begin re de co tu li fi ab = fi refl
-seven_work s plan.Abandon planned no_fold built working no_begin re de co tu li fi ab = ab refl
-seven_work s plan.Swap planned no_fold built working no_begin re de co tu li fi ab = true≢false (sym (goes s plan.Swap planned) ∙ no_fold)
-seven_work s (plan.Begin child parent to) planned no_fold built working no_begin re de co tu li fi ab = true≢false no_begin
-seven_work s (plan.Leaf leaf parent to) planned no_fold built working no_begin re de co tu li fi ab = true≢false (sym built ∙ leaf_unbuilt s leaf parent to planned)
-seven_work s (plan.Blocked needed room) planned no_fold built working no_begin re de co tu li fi ab = true≢false (sym working)
-seven_work s plan.Idle planned no_fold built working no_begin re de co tu li fi ab = true≢false (sym working)
+eight_work (plan.Remove name) working no_begin re de co tu li fi sw ab = re name refl
+eight_work (plan.Deflate name to) working no_begin re de co tu li fi sw ab = de name to refl
+eight_work (plan.Copy b) working no_begin re de co tu li fi sw ab = co b refl
+eight_work plan.Turn working no_begin re de co tu li fi sw ab = tu refl
+eight_work (plan.RelinkOne child) working no_begin re de co tu li fi sw ab = li child refl
+eight_work plan.Finish working no_begin re de co tu li fi sw ab = fi refl
+eight_work plan.Swap working no_begin re de co tu li fi sw ab = sw refl
+eight_work plan.Abandon working no_begin re de co tu li fi sw ab = ab refl
+eight_work (plan.Begin child parent to) working no_begin re de co tu li fi sw ab = true≢false no_begin
+eight_work (plan.Leaf leaf parent to) working no_begin re de co tu li fi sw ab = true≢false no_begin
+eight_work (plan.Blocked needed room) working no_begin re de co tu li fi sw ab = true≢false (sym working)
+eight_work plan.Idle working no_begin re de co tu li fi sw ab = true≢false (sym working)
 
 -- ---- what a step does
 
@@ -174,14 +153,14 @@ rests q (inl is) = ap is_working is.2
 rests q (inr is) = ap is_working is
 
 -- one that does nothing leaves the state
-pub gc_rests : (σ : State) → is_built σ.shape Gc ≡ true → σ.shape.sequence < 2 ^ 48 → is_working (next_step σ.shape) ≡ false → (step σ Gc).after ≡ σ
+pub gc_rests : (σ : State) → σ.shape.sequence < 2 ^ 48 → is_working (next_step σ.shape) ≡ false → (step σ Gc).after ≡ σ
 unfolding disks_next shape_after own_commits is_given_up gives_up
-gc_rests σ built few rests = step_still σ Gc built (never_refused σ.shape) few refl (rests_shape σ.shape (next_step σ.shape) rests) refl (rests_commits σ.shape (next_step σ.shape) rests)
+gc_rests σ few rests = step_still σ Gc (never_refused σ.shape) few refl (rests_shape σ.shape (next_step σ.shape) rests) refl (rests_commits σ.shape (next_step σ.shape) rests)
 
--- one that is built is answered with itself and the operation from before
-pub gc_reply : (σ : State) → is_built σ.shape Gc ≡ true → (step σ Gc).reply ≡ reply_to σ.disks σ.shape Gc
+-- each is answered with itself and the operation from before
+pub gc_reply : (σ : State) → (step σ Gc).reply ≡ reply_to σ.disks σ.shape Gc
 unfolding accepted
-gc_reply σ built = ap (λ (o : Outcome). o.reply) (step_by σ Gc None built (never_refused σ.shape))
+gc_reply σ = ap (λ (o : Outcome). o.reply) (step_accepted σ Gc (never_refused σ.shape))
 
 -- one that does something lowers the debt
 pub gc_lowers : (s t : Shape) → ∥ IsWellFormed s ∥₁ → t ≡ shape_next s Gc → is_working (next_step s) ≡ true → ∥ IsLess (debt t) (debt s) ∥₁

@@ -3,7 +3,7 @@ use Rattle.std.specs.Prelude.{ℕ, Bool, true, false}
 use Rattle.sm_base.specs.declared.operations.Plan.{Plan}
 use Rattle.sm_base.specs.declared.operations.Plan.TheVariants as plan
 use Rattle.sm_machine.specs.declared.commands.Command.{Command}
-use Rattle.sm_machine.specs.declared.commands.Command.TheVariants.{Create, Delete, Attach, Detach, Snapshot, Clone, Write, Fill, Read, Flush, Gc}
+use Rattle.sm_machine.specs.declared.commands.Command.TheVariants.{Create, Delete, Attach, Detach, Snapshot, Clone, Resize, Write, Fill, Read, Flush, Gc}
 
 -- what a guest's host asks: a disk comes into use and goes out of it, and its sectors are read and written
 unfoldable pub is_guests : Command → Bool
@@ -15,19 +15,21 @@ is_guests (Read u sector count) = true
 is_guests (Flush u) = true
 is_guests _ = false
 
--- a new disk is made and then unmarked, one that goes is removed, the image of one that is attached may get extents under an
--- entry, eight make a disk of another, and a step of the collector may enlarge a volume and put its own entry; nothing else
--- commits
+-- a new disk is made and then unmarked; one that goes is removed; the image of one that is attached may get extents under an entry;
+-- eight make a disk of another; and a step of the collector may enlarge a volume and put its own entry, or put a parent in its leaf's
+-- place. Where a leaf is being folded, a command on its disk gives that up first, by one more. Nothing else commits
 unfoldable pub most_commits : Command → ℕ
 most_commits (Create u size raw label) = 2
-most_commits (Delete u) = 1
-most_commits (Attach u mode) = 3
-most_commits (Snapshot u twin) = 8
-most_commits (Clone u twin) = 8
-most_commits Gc = 4
+most_commits (Delete u) = 2
+most_commits (Attach u mode) = 4
+most_commits (Snapshot u twin) = 9
+most_commits (Clone u twin) = 9
+most_commits (Resize u size) = 1
+most_commits Gc = 5
 most_commits _ = 0
 
 -- a step of the collector begins to copy an image into its parent: no other takes memory
 unfoldable pub begins : Plan → Bool
 begins (plan.Begin child parent to) = true
+begins (plan.Leaf leaf parent to) = true
 begins _ = false

@@ -1,17 +1,17 @@
 //! Carrying out a step of the collector.
 
 ghost use Rattle.std.specs.Prelude.{◌≡◌, ◌≤◌, ◌<◌, ◌+◌, ◌*◌, ℕ, List, true, false, IfOk, OnOk, length};
-ghost use Rattle.std.specs.declared.result.Result.TheVariants.{Ok};
+ghost use Rattle.std.specs.declared.result.Result.TheVariants.{Err, Ok};
 ghost use Rattle.sm_attaching.specs.Attaching.{HasAttachmentRoom};
+ghost use Rattle.sm_base.specs.declared.faults.CallFault.TheVariants as fault;
 ghost use Rattle.sm_base.specs.declared.refusals.Refusal.TheVariants.{NoMemory};
-ghost use Rattle.sm_disk.specs.Held.{Keeps};
+ghost use Rattle.sm_disk.specs.Held.{Keeps, Rose};
 ghost use Rattle.vg_meta.specs.Roomy.{table_alone};
 ghost use Rattle.vg_meta.specs.Tables.{VolumeTable};
 ghost use Rattle.sm_machine.specs.Collector.{IsLess, debt, next_step};
 ghost use Rattle.sm_machine.specs.Laws.{is_working};
 ghost use Rattle.sm_machine.specs.Runs.{is_accepted};
 ghost use Rattle.sm_machine.specs.Shapes.{image_limit};
-ghost use Rattle.sm_machine.specs.Steps.{is_built, is_fold};
 ghost use Rattle.sm_machine.specs.declared.commands.Command.TheVariants as command;
 ghost use Rattle.sm_machine.specs.declared.replies.Reply.TheVariants.{No};
 ghost use Rattle.vg_volumes.specs.Stored.{OnlyReads, Counts, Leaves};
@@ -21,7 +21,8 @@ ghost use Rattle.sm_ready.specs.Sessions.{HasRows, HasTreeRoom, IsOrderlyStore, 
 ghost use Rattle.sm_ready.specs.Taken.{StoreTakes};
 ghost use Rattle.sm_session.specs.Carrying.{begins};
 
-use gc_coalesce::{abandon, begin, copy_block, finish, relink_one, remove, turn};
+use gc_coalesce::{abandon, begin, begin_leaf, copy_block, finish, relink_one, remove, turn};
+use gc_leaf::swap;
 use gc_plan::ChildCounts;
 use sm_base::{CallFault, Failed, Name, Plan, Refusal};
 use sm_machine::Reply;
@@ -31,7 +32,7 @@ use sm_space::deflate;
 use std::alloc::Global;
 use vg_volumes::Store;
 
-/// Takes the collector's next step. One that begins to fold a leaf is not built yet, and is answered as a line that spells none.
+/// Takes the collector's next step.
 pub(crate) fn gc<S: Store>(
     alloc: Global,
     store: &mut S,
@@ -43,7 +44,6 @@ pub(crate) fn gc<S: Store>(
     requires orderly { IsOrderlyStore S.Store store.old memory.old }
     requires tidy { IsTidyStore S.Store store.old memory.old }
     requires tree_room { HasTreeRoom memory.old }
-    requires no_fold { is_fold memory.old.operation ≡ false }
     requires attachment_room { HasAttachmentRoom memory.old }
     requires true_now { HasTrueImages S.Store store.old memory.old }
     requires buffer { (1 < pool.old.free) × (512 * (1 + (S.site store.old).geometry.block) ≤ pool.old.bytes) }
@@ -54,12 +54,11 @@ pub(crate) fn gc<S: Store>(
     ensures beside { S.told → Keeps (S.beside store.old) (S.beside store.new) }
     ensures pool { pool.new ≡ pool.old }
     ensures children { length children.new ≡ length children.old }
-    ensures few { HasCommits 4 (table_alone (S.table store.old)) (table_alone (S.table store.new)) }
-    ensures few_left { Leaves S.Store store.new (λ t image. HasCommits 4 (table_alone (S.table store.old)) t) }
+    ensures few { HasCommits 5 (table_alone (S.table store.old)) (table_alone (S.table store.new)) }
+    ensures few_left { Leaves S.Store store.new (λ t image. HasCommits 5 (table_alone (S.table store.old)) t) }
     ensures usable_still { OnOk result (S.failed store.new ≡ false) }
     ensures orderly_still { OnOk result (IsOrderlyStore S.Store store.new memory.new) }
     ensures tidy_still { OnOk result (IsTidyStore S.Store store.new memory.new) }
-    ensures no_fold_still { OnOk result (is_fold memory.new.operation ≡ false) }
     ensures tree_room_still { OnOk result (HasTreeRoom memory.new) }
     ensures attachment_room_still { OnOk result (HasAttachmentRoom memory.new) }
     ensures true_still { OnOk result (HasTrueImages S.Store store.new memory.new) }
@@ -76,10 +75,7 @@ pub(crate) fn gc<S: Store>(
     let geometry = store.geometry();
     let extents = store.extents();
     let plan = gc_plan::plan(store.table(), memory, children, &geometry, extents);
-    match plan {
-        Plan::Leaf { .. } => Ok(Reply::No(Refusal::BadLine)),
-        _ => collect(alloc, store, memory, pool, plan),
-    }
+    collect(alloc, store, memory, pool, plan)
 }
 
 /// Takes the step that is planned, and answers it with the operation from before. Only one that begins takes memory, and one that is
@@ -95,23 +91,20 @@ fn collect<S: Store>(
     requires orderly { IsOrderlyStore S.Store store.old memory.old }
     requires tidy { IsTidyStore S.Store store.old memory.old }
     requires tree_room { HasTreeRoom memory.old }
-    requires no_fold { is_fold memory.old.operation ≡ false }
     requires attachment_room { HasAttachmentRoom memory.old }
     requires true_now { HasTrueImages S.Store store.old memory.old }
     requires buffer { (1 < pool.old.free) × (512 * (1 + (S.site store.old).geometry.block) ≤ pool.old.bytes) }
     requires planned { next_step (store_shape S.Store store.old memory.old) ≡ plan }
-    requires built { is_built (store_shape S.Store store.old memory.old) command.Gc ≡ true }
     ensures site { S.site store.new ≡ S.site store.old }
     ensures counts { S.faults store.old ≤ S.faults store.new }
     ensures cause { Counts S.Store result store.old store.new }
     ensures beside { S.told → Keeps (S.beside store.old) (S.beside store.new) }
     ensures pool { pool.new ≡ pool.old }
-    ensures few { HasCommits 4 (table_alone (S.table store.old)) (table_alone (S.table store.new)) }
-    ensures few_left { Leaves S.Store store.new (λ t image. HasCommits 4 (table_alone (S.table store.old)) t) }
+    ensures few { HasCommits 5 (table_alone (S.table store.old)) (table_alone (S.table store.new)) }
+    ensures few_left { Leaves S.Store store.new (λ t image. HasCommits 5 (table_alone (S.table store.old)) t) }
     ensures usable_still { OnOk result (S.failed store.new ≡ false) }
     ensures orderly_still { OnOk result (IsOrderlyStore S.Store store.new memory.new) }
     ensures tidy_still { OnOk result (IsTidyStore S.Store store.new memory.new) }
-    ensures no_fold_still { OnOk result (is_fold memory.new.operation ≡ false) }
     ensures tree_room_still { OnOk result (HasTreeRoom memory.new) }
     ensures attachment_room_still { OnOk result (HasAttachmentRoom memory.new) }
     ensures true_still { OnOk result (HasTrueImages S.Store store.new memory.new) }
@@ -126,18 +119,58 @@ fn collect<S: Store>(
 {
     let operation = memory.operation;
     match &plan {
-        Plan::Begin { child, parent, to } => {
-            match begin(alloc, store, memory, child, parent, *to) {
-                Ok(()) => Ok(Reply::Gc(plan, operation)),
-                Err(CallFault::NoMemory) => Ok(Reply::No(Refusal::NoMemory)),
-                Err(CallFault::Device) => Err(Failed),
-            }
-        }
+        Plan::Begin { .. } | Plan::Leaf { .. } => match start(alloc, store, memory, &plan) {
+            Ok(()) => Ok(Reply::Gc(plan, operation)),
+            Err(CallFault::NoMemory) => Ok(Reply::No(Refusal::NoMemory)),
+            Err(CallFault::Device) => Err(Failed),
+        },
         Plan::Blocked { .. } | Plan::Idle => Ok(Reply::Gc(plan, operation)),
         _ => {
             work(store, memory, pool, plan)?;
             Ok(Reply::Gc(plan, operation))
         }
+    }
+}
+
+/// Begins to fold an image into its parent: a hidden one, or the leaf of a disk that is not attached. It alone takes memory.
+fn start<S: Store>(
+    alloc: Global,
+    store: &mut S,
+    memory: &mut Memory,
+    plan: &Plan,
+) -> Result<(), CallFault>
+    requires usable { S.failed store.old ≡ false }
+    requires orderly { IsOrderlyStore S.Store store.old memory.old }
+    requires tidy { IsTidyStore S.Store store.old memory.old }
+    requires tree_room { HasTreeRoom memory.old }
+    requires attachment_room { HasAttachmentRoom memory.old }
+    requires true_now { HasTrueImages S.Store store.old memory.old }
+    requires planned { next_step (store_shape S.Store store.old memory.old) ≡ plan.now }
+    requires working { begins plan.now ≡ true }
+    ensures site { S.site store.new ≡ S.site store.old }
+    ensures counts { S.faults store.old ≤ S.faults store.new }
+    ensures cause { result ≡ Err fault.Device → Rose (S.faults store.old) (S.faults store.new) }
+    ensures beside { S.told → Keeps (S.beside store.old) (S.beside store.new) }
+    ensures few { HasCommits 4 (table_alone (S.table store.old)) (table_alone (S.table store.new)) }
+    ensures few_left { Leaves S.Store store.new (λ t image. HasCommits 4 (table_alone (S.table store.old)) t) }
+    ensures usable_still { OnOk result (S.failed store.new ≡ false) }
+    ensures poor { result ≡ Err fault.NoMemory
+        → OnlyReads S.Store store.old store.new × ((t : VolumeTable) (image : ℕ → List ℕ) → S.leaves store.new t image → S.leaves store.old t image)
+        × (memory.new ≡ memory.old) × (S.failed store.new ≡ false) }
+    ensures true_poor { result ≡ Err fault.NoMemory → HasTrueImages S.Store store.new memory.new }
+    ensures orderly_still { OnOk result (IsOrderlyStore S.Store store.new memory.new) }
+    ensures tidy_still { OnOk result (IsTidyStore S.Store store.new memory.new) }
+    ensures tree_room_still { OnOk result (HasTreeRoom memory.new) }
+    ensures attachment_room_still { HasAttachmentRoom memory.new }
+    ensures true_still { OnOk result (HasTrueImages S.Store store.new memory.new) }
+    ensures room { HasRows (S.table store.old) → OnOk result (HasRows (S.table store.new)) }
+    ensures shape { OnOk result (ShapesAs S.Store command.Gc store.old memory.old store.new memory.new) }
+    ensures done { S.told → IsReadyStore S.Store store.old memory.old → StoreDoes S.Store command.Gc store.old memory.old store.new memory.new (result ≡ Ok tt) }
+{
+    match plan {
+        Plan::Begin { child, parent, to } => begin(alloc, store, memory, child, parent, *to),
+        Plan::Leaf { leaf, parent, to } => begin_leaf(alloc, store, memory, leaf, parent, *to),
+        _ => unreachable!(),
     }
 }
 
@@ -152,12 +185,10 @@ fn work<S: Store>(
     requires orderly { IsOrderlyStore S.Store store.old memory.old }
     requires tidy { IsTidyStore S.Store store.old memory.old }
     requires tree_room { HasTreeRoom memory.old }
-    requires no_fold { is_fold memory.old.operation ≡ false }
     requires attachment_room { HasAttachmentRoom memory.old }
     requires true_now { HasTrueImages S.Store store.old memory.old }
     requires buffer { (1 < pool.old.free) × (512 * (1 + (S.site store.old).geometry.block) ≤ pool.old.bytes) }
     requires planned { next_step (store_shape S.Store store.old memory.old) ≡ plan }
-    requires built { is_built (store_shape S.Store store.old memory.old) command.Gc ≡ true }
     requires working { is_working plan ≡ true }
     requires no_begin { begins plan ≡ false }
     ensures site { S.site store.new ≡ S.site store.old }
@@ -165,12 +196,11 @@ fn work<S: Store>(
     ensures cause { Counts S.Store result store.old store.new }
     ensures beside { S.told → Keeps (S.beside store.old) (S.beside store.new) }
     ensures pool { pool.new ≡ pool.old }
-    ensures few { HasCommits 1 (table_alone (S.table store.old)) (table_alone (S.table store.new)) }
-    ensures few_left { Leaves S.Store store.new (λ t image. HasCommits 1 (table_alone (S.table store.old)) t) }
+    ensures few { HasCommits 5 (table_alone (S.table store.old)) (table_alone (S.table store.new)) }
+    ensures few_left { Leaves S.Store store.new (λ t image. HasCommits 5 (table_alone (S.table store.old)) t) }
     ensures usable_still { OnOk result (S.failed store.new ≡ false) }
     ensures orderly_still { OnOk result (IsOrderlyStore S.Store store.new memory.new) }
     ensures tidy_still { OnOk result (IsTidyStore S.Store store.new memory.new) }
-    ensures no_fold_still { OnOk result (is_fold memory.new.operation ≡ false) }
     ensures tree_room_still { OnOk result (HasTreeRoom memory.new) }
     ensures attachment_room_still { OnOk result (HasAttachmentRoom memory.new) }
     ensures true_still { OnOk result (HasTrueImages S.Store store.new memory.new) }
@@ -191,6 +221,7 @@ fn work<S: Store>(
         Plan::Turn => turn(store, memory),
         Plan::RelinkOne { child } => relink_one(store, memory, &child),
         Plan::Finish => finish(store, memory),
+        Plan::Swap => swap(store, memory),
         Plan::Abandon => abandon(store, memory),
         _ => unreachable!(),
     }

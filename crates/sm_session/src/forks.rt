@@ -7,7 +7,6 @@ ghost use Rattle.sm_disk.specs.Held.{Keeps};
 ghost use Rattle.vg_meta.specs.Roomy.{table_alone};
 ghost use Rattle.vg_meta.specs.Tables.{VolumeTable};
 ghost use Rattle.sm_machine.specs.Runs.{is_accepted};
-ghost use Rattle.sm_machine.specs.Steps.{is_fold};
 ghost use Rattle.vg_volumes.specs.Stored.{OnlyReads, Counts, Leaves};
 ghost use Rattle.sm_ready.specs.Frames.{HasCommits, HasTrueImages};
 ghost use Rattle.sm_ready.specs.Refusing.{IsAllowed};
@@ -36,7 +35,6 @@ pub(crate) fn derive<S: Store>(
     requires orderly { IsOrderlyStore S.Store store.old memory.old }
     requires tidy { IsTidyStore S.Store store.old memory.old }
     requires tree_room { HasTreeRoom memory.old }
-    requires no_fold { is_fold memory.old.operation ≡ false }
     requires attachment_room { HasAttachmentRoom memory.old }
     requires true_now { HasTrueImages S.Store store.old memory.old }
     requires allowed { IsAllowed S.Store (forking disk.now twin.now read_only) store.old memory.old }
@@ -44,12 +42,11 @@ pub(crate) fn derive<S: Store>(
     ensures counts { S.faults store.old ≤ S.faults store.new }
     ensures cause { Counts S.Store result store.old store.new }
     ensures beside { S.told → Keeps (S.beside store.old) (S.beside store.new) }
-    ensures few { HasCommits 8 (table_alone (S.table store.old)) (table_alone (S.table store.new)) }
-    ensures few_left { Leaves S.Store store.new (λ t image. HasCommits 8 (table_alone (S.table store.old)) t) }
+    ensures few { HasCommits 9 (table_alone (S.table store.old)) (table_alone (S.table store.new)) }
+    ensures few_left { Leaves S.Store store.new (λ t image. HasCommits 9 (table_alone (S.table store.old)) t) }
     ensures usable_still { OnOk result (S.failed store.new ≡ false) }
     ensures orderly_still { OnOk result (IsOrderlyStore S.Store store.new memory.new) }
     ensures tidy_still { OnOk result (IsTidyStore S.Store store.new memory.new) }
-    ensures no_fold_still { OnOk result (is_fold memory.new.operation ≡ false) }
     ensures tree_room_still { OnOk result (HasTreeRoom memory.new) }
     ensures attachment_room_still { OnOk result (HasAttachmentRoom memory.new) }
     ensures true_still { OnOk result (HasTrueImages S.Store store.new memory.new) }

@@ -24,12 +24,12 @@
 //! its volume, whether or not the device was kept when it was opened: so a guest may always read and write.
 //!
 //! **The collector.** A step of it is the machine's next one, by table and memory (`gc_plan`). Each kind of step is a function of its
-//! own (`gc_coalesce`; `deflate` of `sm_space`): an image that nothing reads through is removed, a volume is cut to what it needs,
-//! a copy of a hidden image begins, goes on by a block, is given up or ends, and a child is linked. The reply tells the step and the
-//! operation from before it. No step changes a disk. Each but the blocked and the idle one lowers the debt of what is in memory
-//! (`debt` of `sm_machine`), so such steps come to an end; the blocked and the idle one do nothing. Only a step that begins
-//! may find that memory is wanting (`begins`). Leaves are not folded yet: between two steps no operation folds one (`is_fold`), and a
-//! step that would begin to is answered as a line that spells none.
+//! own (`gc_coalesce`; `swap` of `gc_leaf`; `deflate` of `sm_space`): an image that nothing reads through is removed, a volume is cut
+//! to what it needs, a copy of a hidden image or of a disk's leaf begins, goes on by a block, is given up or ends, a child is linked,
+//! and a parent takes its leaf's place. The reply tells the step and the operation from before it. No step changes a disk. Each but the
+//! blocked and the idle one lowers the debt of what is in memory (`debt` of `sm_machine`), so such steps come to an end; the blocked
+//! and the idle one do nothing. Only a step that begins may find that memory is wanting (`begins`). A command on the disk whose leaf is
+//! being folded gives that up by its first commit (`gc_abandon`).
 //!
 //! [`Session::begin`] checks what stands in a store and repairs it first. After a step that failed no further one is
 //! taken.

@@ -6,8 +6,7 @@ ghost use Rattle.sm_attaching.specs.Attaching.{HasAttachmentRoom};
 ghost use Rattle.sm_disk.specs.Held.{IsSettled, Keeps};
 ghost use Rattle.vg_meta.specs.Roomy.{table_alone};
 ghost use Rattle.sm_machine.specs.Shapes.{image_limit};
-ghost use Rattle.sm_machine.specs.Steps.{is_fold};
-ghost use Rattle.sm_ready.specs.Cleaned.{HasFewRemovals};
+ghost use Rattle.sm_recover.specs.Ending.{HasFewEnds};
 ghost use Rattle.sm_recover.specs.Repairs.{IsOpeningStopped, UnlessDeviceFailed};
 ghost use Rattle.sm_recover.specs.Stores.{MayBeRepairedFrom};
 ghost use Rattle.vg_volumes.specs.Stored.{OnlyReads, Leaves};
@@ -19,7 +18,7 @@ ghost use Rattle.sm_ready.specs.Ready.{IsTidy};
 ghost use Rattle.sm_ready.specs.Sessions.{HasRows, HasTreeRoom, IsReadyStore, KeepsAll, store_state};
 ghost use Rattle.sm_ready.specs.Stores.{MayShow, StoreLeaves, content_in, store_content};
 ghost use Rattle.sm_run.specs.Runs.{BeginsSettled};
-ghost use Rattle.sm_standing.specs.Checks.{first_fault_today};
+ghost use Rattle.sm_standing.specs.Checks.{first_fault};
 ghost use Rattle.sm_standing.specs.Keeping.{HoldsWell};
 ghost use Rattle.sm_standing.specs.Opened.{opened};
 ghost use Rattle.sm_standing.specs.Standing.{disks};
@@ -53,8 +52,6 @@ pub struct Session<S: Store> {
     ghost orderly: { broken ≡ false → IsOrderly (S.site store) (table_alone (S.table store)) (known memory) } by { Prim.hlevel (props, IsOrderly-prop) },
     ghost tidy: { broken ≡ false → IsTidy (table_alone (S.table store)) (known memory) } by { Prim.hlevel (props, IsTidy-prop) },
     ghost tree_room: { broken ≡ false → HasTreeRoom memory },
-    // The collector folds no leaf.
-    ghost no_fold: { broken ≡ false → is_fold memory.operation ≡ false },
     // Each image in memory is true of its volume, as many disks may be attached as there may be, and two buffers are free.
     ghost true_images: { broken ≡ false → HasTrueImages S.Store store memory } by { Prim.hlevel props },
     ghost attachment_room: { broken ≡ false → HasAttachmentRoom memory },
@@ -87,10 +84,10 @@ impl<S: Store> Session<S> {
         ensures site { IfOk result (λ s. S.site s.store ≡ S.site store) }
         ensures counts { IfOk result (λ s. S.faults store ≤ S.faults s.store) }
         ensures beside { IfOk result (λ s. S.told → Keeps (S.beside store) (S.beside s.store)) }
-        ensures few { IfOk result (λ s. HasFewRemovals (table_alone (S.table store)) (table_alone (S.table s.store))) }
+        ensures few { IfOk result (λ s. HasFewEnds (table_alone (S.table store)) (table_alone (S.table s.store))) }
         ensures whole { IfOk result (λ s. s.broken ≡ false) }
         ensures now { IfOk result (λ s. s.now ≡ now) }
-        ensures sound { IfOk result (λ s. S.told → first_fault_today (store_content S.Store store) ≡ None) }
+        ensures sound { IfOk result (λ s. S.told → first_fault (store_content S.Store store) ≡ None) }
         ensures ready { IfOk result (λ s. S.told → HoldsWell (store_content S.Store store) → IsReadyStore S.Store s.store s.memory) }
         ensures settled { IfOk result (λ s. S.told → IsSettled (S.area s.store)) }
         ensures disks { IfOk result (λ s. S.told → HoldsWell (store_content S.Store store) → disks (store_content S.Store s.store)
@@ -103,11 +100,11 @@ impl<S: Store> Session<S> {
         ensures site_back { IfErr result (λ e. S.site e.1 ≡ S.site store) }
         ensures counts_back { IfErr result (λ e. S.faults store ≤ S.faults e.1) }
         ensures beside_back { IfErr result (λ e. S.told → Keeps (S.beside store) (S.beside e.1)) }
-        ensures few_back { IfErr result (λ e. HasFewRemovals (table_alone (S.table store)) (table_alone (S.table e.1))) }
-        ensures few_left { IfErr result (λ e. Leaves S.Store e.1 (λ t image. HasFewRemovals (table_alone (S.table store)) t)) }
+        ensures few_back { IfErr result (λ e. HasFewEnds (table_alone (S.table store)) (table_alone (S.table e.1))) }
+        ensures few_left { IfErr result (λ e. Leaves S.Store e.1 (λ t image. HasFewEnds (table_alone (S.table store)) t)) }
         ensures cause { IfErr result (λ e. IsOpeningStopped S.told (store_content S.Store store) (S.faults store) (S.faults e.1) e.0) }
         ensures refused { IfErr result (λ e. UnlessDeviceFailed e.0 (OnlyReads S.Store store e.1)) }
-        ensures unsound_back { IfErr result (λ e. S.told → (first_fault_today (store_content S.Store store) ≡ None → ⊥) → Keeps (S.device store) (S.device e.1)) }
+        ensures unsound_back { IfErr result (λ e. S.told → (first_fault (store_content S.Store store) ≡ None → ⊥) → Keeps (S.device store) (S.device e.1)) }
         ensures crash_back { IfErr result (λ e. Leaves S.Store e.1 (λ t image. S.leaves store t image
             ⊎ MayBeRepairedFrom (store_content S.Store store) (content_in (S.site store) t image))) }
     {

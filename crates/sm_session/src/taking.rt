@@ -11,7 +11,6 @@ ghost use Rattle.sm_machine.specs.Runs.{is_accepted, takes_memory};
 ghost use Rattle.sm_base.specs.declared.refusals.Refusal.TheVariants.{NoMemory};
 ghost use Rattle.sm_machine.specs.declared.replies.Reply.TheVariants.{No};
 ghost use Rattle.sm_machine.specs.Shapes.{image_limit};
-ghost use Rattle.sm_machine.specs.Steps.{is_fold};
 ghost use Rattle.vg_volumes.specs.Stored.{OnlyReads, Counts, Leaves};
 ghost use Rattle.sm_making.specs.Making.{IsOnLeast};
 ghost use Rattle.sm_attaching.specs.Attaching.{HasAttachmentRoom};
@@ -51,7 +50,6 @@ fn carry_out<S: Store>(
     requires orderly { IsOrderlyStore S.Store store.old memory.old }
     requires tidy { IsTidyStore S.Store store.old memory.old }
     requires tree_room { HasTreeRoom memory.old }
-    requires no_fold { is_fold memory.old.operation ≡ false }
     requires attachment_room { HasAttachmentRoom memory.old }
     requires true_now { HasTrueImages S.Store store.old memory.old }
     requires buffer { (1 < pool.old.free) × (512 * (1 + (S.site store.old).geometry.block) ≤ pool.old.bytes) }
@@ -68,7 +66,6 @@ fn carry_out<S: Store>(
     ensures usable_still { OnOk result (S.failed store.new ≡ false) }
     ensures orderly_still { OnOk result (IsOrderlyStore S.Store store.new memory.new) }
     ensures tidy_still { OnOk result (IsTidyStore S.Store store.new memory.new) }
-    ensures no_fold_still { OnOk result (is_fold memory.new.operation ≡ false) }
     ensures tree_room_still { OnOk result (HasTreeRoom memory.new) }
     ensures attachment_room_still { OnOk result (HasAttachmentRoom memory.new) }
     ensures true_still { OnOk result (HasTrueImages S.Store store.new memory.new) }
@@ -122,8 +119,8 @@ fn carry_out<S: Store>(
     }
 }
 
-/// Takes a command. One that a cause refuses is answered with the first of them, and a step of the collector that is not built yet
-/// as a line that spells none. `now` is the stamp of an image that it makes, in seconds since 2000-01-01 00:00 UTC.
+/// Takes a command. One that a cause refuses is answered with the first of them. `now` is the stamp of an image that it makes, in
+/// seconds since 2000-01-01 00:00 UTC.
 pub fn take<S: Store>(
     alloc: Global,
     store: &mut S,
@@ -137,7 +134,6 @@ pub fn take<S: Store>(
     requires orderly { IsOrderlyStore S.Store store.old memory.old }
     requires tidy { IsTidyStore S.Store store.old memory.old }
     requires tree_room { HasTreeRoom memory.old }
-    requires no_fold { is_fold memory.old.operation ≡ false }
     requires attachment_room { HasAttachmentRoom memory.old }
     requires true_now { HasTrueImages S.Store store.old memory.old }
     requires buffer { (1 < pool.old.free) × (512 * (1 + (S.site store.old).geometry.block) ≤ pool.old.bytes) }
@@ -153,7 +149,6 @@ pub fn take<S: Store>(
     ensures usable_still { OnOk result (S.failed store.new ≡ false) }
     ensures orderly_still { OnOk result (IsOrderlyStore S.Store store.new memory.new) }
     ensures tidy_still { OnOk result (IsTidyStore S.Store store.new memory.new) }
-    ensures no_fold_still { OnOk result (is_fold memory.new.operation ≡ false) }
     ensures tree_room_still { OnOk result (HasTreeRoom memory.new) }
     ensures attachment_room_still { OnOk result (HasAttachmentRoom memory.new) }
     ensures true_still { OnOk result (HasTrueImages S.Store store.new memory.new) }

@@ -48,7 +48,8 @@ use Rattle.sm_space.specs.Inflating.{with_extents}
 use Rattle.sm_space.proofs.OrderlyLaws.{refs_turned}
 use Rattle.sm_space.proofs.OwnLaws.{IsOwn, in_rows, named_or_not, only, own, own_size}
 use Rattle.sm_space.proofs.SizedLaws.{In-turned, IsTurned, images_turned, places_turned, shown_turned, sized, turned_other, turned_same}
-use Rattle.sm_space.proofs.TableLaws.{In-with_row, counted}
+use Rattle.gc_abandon.proofs.EntryLaws.{counted}
+use Rattle.sm_space.proofs.TableLaws.{In-with_row}
 
 -- the volume of a VHD image in memory is to be cut to so many extents
 pub record IsToCut (s : Site) (t : VolumeTable) (m : Known) (u : List ℕ) (to : ℕ) (row : TreeRow) : Type 0 where

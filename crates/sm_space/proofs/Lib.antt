@@ -14,3 +14,4 @@ pub mod DeflatingLaws
 pub mod LooseLaws
 pub mod ResizeLaws
 pub mod ResizedLaws
+pub mod KeptRoom

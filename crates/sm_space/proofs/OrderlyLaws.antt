@@ -51,7 +51,8 @@ use Rattle.sm_space.specs.Inflating.{inflated, with_extents}
 use Rattle.sm_space.proofs.OwnLaws as owned
 use Rattle.sm_space.proofs.OwnLaws.{IsOwn, named_or_not}
 use Rattle.sm_space.proofs.SizedLaws.{In-turned, IsTurned, images_turned, places_turned, shown_turned, sized, turned_other, turned_same}
-use Rattle.sm_space.proofs.TableLaws.{In-with_row, changed_between, counted, extents_put, named_put}
+use Rattle.gc_abandon.proofs.EntryLaws.{counted}
+use Rattle.sm_space.proofs.TableLaws.{In-with_row, changed_between, extents_put, named_put}
 
 -- the volume of a VHD image in memory is to get these extents
 pub record IsToGrow (s : Site) (t : VolumeTable) (m : Known) (u es : List ℕ) (row : TreeRow) : Type 0 where

@@ -44,7 +44,7 @@ use Rattle.sm_machine.specs.Steps.{shape_after, shape_next}
 use Rattle.sm_machine.specs.WellFormed.{IsWellFormed}
 use Rattle.sm_machine.proofs.Attaches.{is_its_image}
 use Rattle.sm_machine.proofs.Passed.{passed}
-use Rattle.sm_machine.proofs.Steps.{whole_keeps_shape}
+use Rattle.sm_machine.proofs.Steps.{step_keeps_shape}
 use Rattle.sm_machine.proofs.Uses.{changed_uses}
 use Rattle.sm_ready.specs.Known.{Known, is_shown, machine_row, records_in, shape_in}
 use Rattle.sm_ready.specs.Orderly.{IsOrderly, IsRoomyFor, IsRoomyIn}
@@ -254,7 +254,7 @@ module _ {s : Site} {t : VolumeTable} {m : Known} {u : List ℕ} {bytes : ℕ} {
         places = o.places;
         entries = o.entries;
         stands = λ x i. ⊎_elim (λ old. o.stands x old.0) (λ new. subst (λ (y : TreeRow). StandsIn s.geometry (y.extents * s.geometry.extent) y.image) (sym new) stands) (rows_sized x i);
-        well_formed = ∥∥₁_map o.well_formed (λ w. subst IsWellFormed (step_shape (record { disks = []; shape = σ }) (Resize u bytes) h.passes ∙ sym shape_sized) (whole_keeps_shape (record { disks = []; shape = σ }) (Resize u bytes) w));
+        well_formed = ∥∥₁_map o.well_formed (λ w. subst IsWellFormed (step_shape (record { disks = []; shape = σ }) (Resize u bytes) h.passes ∙ sym shape_sized) (step_keeps_shape (record { disks = []; shape = σ }) (Resize u bytes) w));
         roomy = subst (λ (τ : Shape). IsRoomyIn τ m.op) (sym shape_plain) (roomy_sized m.op o.roomy);
         counts = λ n. o.counts n ∙ sym (uses_same n);
       }

@@ -86,16 +86,6 @@ named_put test r (s ∷ rs) = by (is_lt (name_cmp r.name s.name)) (named_put tes
     by true rest = refl
     by false rest = swap (test s.name) (test r.name) (filter test (names_of (put r rs))) (filter test (names_of rs)) rest
 
--- volumes are counted by their names
-pub counted : (test : Name → Bool) (rs : List Row) → length (filter (λ (r : Row). test r.name) rs) ≡ length (filter test (names_of rs))
-counted test [] = refl
-counted test (r ∷ rs) = by (test r.name) (counted test rs)
-  where
-    by : (b : Bool) → length (filter (λ (r : Row). test r.name) rs) ≡ length (filter test (names_of rs))
-        → length (cond b (r ∷ filter (λ (r : Row). test r.name) rs) (filter (λ (r : Row). test r.name) rs)) ≡ length (cond b (r.name ∷ filter test (names_of rs)) (filter test (names_of rs)))
-    by true rest = ap suc rest
-    by false rest = rest
-
 -- a volume behind such a change is one from before, or one that was changed
 pub In-with_row : (n : Name) (f : Row → Row) (rs : List Row) (r : Row) → In r (with_row n f rs) → (q : Row) × In q rs × ((r ≡ q) ⊎ (r ≡ f q))
 unfolding with_row

@@ -84,6 +84,39 @@ fn prepare<S: Store>(
     Ok(growth)
 }
 
+/// Takes all memory that the volume of the VHD image of this UUID needs for more extents, so that it has so many: the least that are
+/// free. The answer is the change that gives them to the volume.
+///
+/// # Errors
+///
+/// Memory ran out, and nothing was written.
+pub fn plan_growth<S: Store>(
+    alloc: Global,
+    store: &mut S,
+    memory: &Memory,
+    disk: &Uuid,
+    to: u32,
+) -> Result<Change, NoMemory>
+    requires usable { S.failed store.old ≡ false }
+    requires orderly { IsOrderlyStore S.Store store.old memory.now }
+    requires tidy { IsTidyStore S.Store store.old memory.now }
+    requires there { IsBelow memory.now.tree.rows disk.now to }
+    requires free { HasFree (S.site store.old).count (table_alone (S.table store.old)) memory.now.tree.rows disk.now to }
+    ensures reads { OnlyReads S.Store store.old store.new }
+    ensures same { (S.site store.new ≡ S.site store.old) × (S.area store.new ≡ S.area store.old) }
+    ensures table { table_alone (S.table store.new) ≡ table_alone (S.table store.old) }
+    ensures leaves { (t : VolumeTable) (image : ℕ → List ℕ) → S.leaves store.new t image → S.leaves store.old t image }
+    ensures row { OnOk result (0 < (S.table store.new).spare) }
+    ensures growth { IfOk result (λ growth. IsGrowth (S.site store.old).count (table_alone (S.table store.old)) (Vhd disk.now)
+        (to - extents_in (tree_row memory.now.tree.rows (Vhd disk.now))) growth) }
+    ensures places { IfOk result (λ growth. HasRoom (S.table store.new) growth) }
+{
+    let name = Name::Vhd(*disk);
+    let had = extents_of(&memory.tree, &name);
+    let growth = prepare(alloc, store, &name, to - had)?;
+    Ok(growth)
+}
+
 /// Gives the volume its extents, by one commit.
 fn grow<S: Store>(store: &mut S, growth: Change) -> Result<(), Failed>
     requires { CanCommit S.Store growth store.old }
@@ -134,7 +167,11 @@ pub(crate) fn set_extents(memory: &mut Memory, name: &Name, to: u32)
 
 /// Gives the volume of an image its extents, where all memory was taken before: the three commits, and the footer before the
 /// last of them.
-fn enlarge<S: Store>(
+///
+/// # Errors
+///
+/// A call of the store failed; a stop leaves the disks from before.
+pub fn enlarge<S: Store>(
     store: &mut S,
     memory: &mut Memory,
     disk: &Uuid,
@@ -225,9 +262,7 @@ pub fn inflate<S: Store>(
         → HasDone (S.site store.old) (table_alone (S.table store.old)) (table_alone (S.table store.new)) (S.area store.old) (S.area store.new) (known memory.new)
         (StoreLeaves S.Store store.old) (StoreLeaves S.Store store.new) (result ≡ Ok tt) (disks (store_content S.Store store.old)) }
 {
-    let name = Name::Vhd(*disk);
-    let had = extents_of(&memory.tree, &name);
-    let Ok(growth) = prepare(alloc, store, &name, to - had) else {
+    let Ok(growth) = plan_growth(alloc, store, memory, disk, to) else {
         return Err(CallFault::NoMemory);
     };
     let Ok(()) = enlarge(store, memory, disk, to, growth) else {

@@ -5,12 +5,13 @@
 //! **What it promises.** `inflate` gives the volume of a VHD image more extents, the least that are free, and writes the image's
 //! footer at the new end. While it works a journal entry says how many extents the image had, so that a stop at any moment
 //! leaves the disks from before, and the image is read in the extents that it had. Behind the last commit it is read in all of
-//! them. No disk changes. `deflate` cuts the volume of a VHD image to its first extents, where its slots have room in these: it
+//! them. No disk changes. `plan_growth` takes the memory for that and writes nothing, and `enlarge` does the rest: so a caller may give the
+//! folding of a leaf up in between. `deflate` cuts the volume of a VHD image to its first extents, where its slots have room in these: it
 //! writes the image's footer at the end of them and then commits the cut. A stop at any moment leaves the disks from before; in
 //! front of the commit the image is read in the extents that it had, with the footer that it had, and behind it in those that it
 //! has. No disk changes. `resize` makes a VHD disk larger that is not attached, or leaves it as large as it is: a stop at any
 //! moment leaves the disks from before or those from after it, and behind its sync the disk has zeros behind its old sectors. Its
-//! volume gets no extents by it. Images in memory that were true of what their volumes hold are so afterwards: one whose volume
+//! volume gets no extents by it. Where the disk's leaf is being folded, that is given up first (`gc_abandon`). Images in memory that were true of what their volumes hold are so afterwards: one whose volume
 //! has other extents in all of these, the resized one with its new size. A call for which memory is wanting writes nothing.
 //!
 //! **In which units.** Extents are counted; places in a volume are sectors of 512 bytes; the size that `resize` is given, and the
@@ -18,8 +19,8 @@
 //!
 //! **What it costs.** `inflate` makes three commits, and writes one sector beside them. It takes memory before anything is
 //! written: a row of the table for the entry, the list of the new extents, and places for them in the table. `deflate` writes one
-//! sector and makes one commit. It takes no memory. `resize` writes two sectors and makes one sync. It makes no commit and takes
-//! no memory.
+//! sector and makes one commit. It takes no memory. `resize` writes two sectors and makes one sync, and one commit where it gives
+//! a folding up. It takes no memory.
 //!
 //! The definitions are in `specs/`: `Inflating` (what is asked of more extents, and what is made), `Deflating` (of fewer).
 #![tactic(auto)]
@@ -29,5 +30,5 @@ mod inflating;
 mod resizing;
 
 pub use deflating::deflate;
-pub use inflating::inflate;
+pub use inflating::{enlarge, inflate, plan_growth};
 pub use resizing::resize;

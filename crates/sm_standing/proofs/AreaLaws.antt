@@ -45,7 +45,7 @@ extent_some : (c : Content) → IsGeometry c.extent c.block c.entries → 0 < c.
 extent_some c geometry = let least = geometry.extent_least in omega (arith, least)
 
 pub room_there : (c : Content) → IsGeometry c.extent c.block c.entries → first_fault c ≡ None → record_count ≤ size_of c Mgt
-room_there c geometry sound = let s = sound_all c sound in records_fit c s.records_row (extent_some c geometry) s.records_there s.records_extents
+room_there c geometry sound = let s = sound_all (outline c) sound in records_fit c s.records_row (extent_some c geometry) s.records_there s.records_extents
 
 pub records_room : (c : Content) → IsGeometry c.extent c.block c.entries → KnownSound c → record_count ≤ size_of c Mgt
 records_room c geometry s = room_there c geometry (known_sound c s)
@@ -62,8 +62,8 @@ apart_of_none (Relink x y) = refl
 apart_of_none (Leaf x y) = refl
 
 module _ (c : Content) (table : IsTable c.count c.table) (geometry : IsGeometry c.extent c.block c.entries) (sound : first_fault c ≡ None) (area : ℕ → List ℕ) (same : IsSameArea c area) where
-  s : AllSound c
-  s = sound_all c sound
+  s : AllSound (outline c)
+  s = sound_all (outline c) sound
 
   room : record_count ≤ size_of c Mgt
   room = room_there c geometry sound

@@ -1,4 +1,4 @@
--- Where today's checks pass and a disk is being forked: what is left without the fork, and what stands while it is undone.
+-- Where the checks of all but a leaf's folding pass and a disk is being forked: what is left without the fork, and what stands while it is undone.
 use Rattle.std.proofs.Common.{◌≡◌, ◌≢◌, ◌⊎◌, inl, inr, ℕ, ◌≤◌, Bool, true, false, cond, not, ◌&&◌, ◌||◌, List, [], ◌∷◌, Option, Some, None, refl, sym, ap, ap₂, ◌∙◌, subst}
 use Rattle.std.proofs.lemmas.Bool.{true≢false, and_parts, or_from}
 use Rattle.std.proofs.lemmas.Option.{none-some}

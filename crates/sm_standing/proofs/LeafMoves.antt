@@ -1,5 +1,5 @@
--- The commits at the end of a leaf's folding that leave each image where it is: each is allowed, and what it leaves is sound and shows
--- the same disks.
+-- The commits at the end of a leaf's folding that leave each image where it is: each is allowed, and what it leaves is sound and each
+-- disk stands where it stood.
 use Rattle.std.proofs.Common.{◌≡◌, ◌≢◌, ◌⊎◌, inl, inr, ℕ, ◌==◌, ◌&&◌, ◌||◌, not, Bool, true, false, cond, List, [], ◌∷◌, length, Some, None, is_some, refl, sym, ap, ap₂, ◌∙◌, subst, arith, bytes_eq}
 use Rattle.std.specs.List.{filter, list_any}
 use Rattle.std.proofs.lemmas.Bool.{true≢false, and_parts, and_right, eq-eqb, or_right, or_left}
@@ -20,10 +20,9 @@ use Rattle.vg_meta.proofs.ByName.{changes_by_name}
 use Rattle.vg_meta.proofs.ChangeLaws.{IsTable-applied}
 use Rattle.vg_meta.proofs.RowLaws.{names_of-with_row}
 use Rattle.sm_standing.specs.Apart.{is_apart}
-use Rattle.sm_standing.specs.Checks.{children, first_fault, is_leaf_linked, is_orphaned, parent_is}
-use Rattle.sm_standing.specs.Contents.{Content}
+use Rattle.sm_standing.specs.Checks.{children, fault_of, is_leaf_linked, is_orphaned, parent_is}
 use Rattle.sm_standing.specs.Entries.{folding, head, is_among, is_filled, is_folding, is_hidden, is_leaf_copied, is_leaf_folded, is_leaf_renamed, is_leaf_swapped, is_making, is_old_of, is_there, is_visible, of_row}
-use Rattle.sm_standing.specs.Outlines.{outline}
+use Rattle.sm_standing.specs.Outlines.{HasImages, Outline}
 use Rattle.sm_standing.specs.Standing.{stands_plainly}
 use Rattle.sm_standing.specs.Swaps.{HasLeafEntry}
 use Rattle.sm_standing.proofs.ApartLaws.{beside, plainly_by}
@@ -45,7 +44,7 @@ leaf_not_apart leaf = ap (λ b. b || false) (bytes_eq-refl leaf)
 plainly_alike : (t w : VolumeTable) (u : List ℕ) → rows w (Vhd u) ≡ rows t (Vhd u) → rows w (Raw u) ≡ rows t (Raw u) → stands_plainly w u ≡ stands_plainly t u
 plainly_alike t w u v r = ap₂ (plainly_by u) v r
 
-module _ (x : Content) (table : IsTable x.count x.table) (sound : first_fault x ≡ None) (leaf parent : List ℕ) (one : folding x.table ≡ Leaf leaf parent ∷ []) where
+module _ {count : ℕ} (x : Outline) (table : IsTable count x.table) (homes : HasImages x) (sound : fault_of x ≡ None) (leaf parent : List ℕ) (one : folding x.table ≡ Leaf leaf parent ∷ []) where
   abbrev t : VolumeTable
   t = x.table
 
@@ -73,8 +72,8 @@ module _ (x : Content) (table : IsTable x.count x.table) (sound : first_fault x 
   -- ---- the image is shown
 
   module _ (stage : is_leaf_swapped t leaf parent ≡ true) (own : Row) (before : rows t (Vhd leaf) ≡ Some own) where
-    σ : IsSwapped x sound leaf parent one
-    σ = swapped_stage x sound leaf parent one stage
+    σ : IsSwapped x homes sound leaf parent one
+    σ = swapped_stage x homes sound leaf parent one stage
 
     other_parent : Vhd parent ≢ Vhd leaf
     other_parent same = true≢false (sym (ap is_some before) ∙ ap (is_there t) (sym same) ∙ σ.no_parent)
@@ -83,14 +82,14 @@ module _ (x : Content) (table : IsTable x.count x.table) (sound : first_fault x 
     old_row = is_some-parts (rows t (Old leaf)) σ.old
 
     module _ (hid : own.hidden ≡ true) where
-      pub may_show : Permits x.count t (Mark (Vhd leaf) Hidden false)
+      pub may_show : Permits count t (Mark (Vhd leaf) Hidden false)
       may_show = record { row = own; there = before; image = refl; otherwise = hid }
 
       abbrev pub shown : VolumeTable
       shown = applied t (Mark (Vhd leaf) Hidden false)
 
       others : (n : Name) → n ≢ Vhd leaf → rows shown n ≡ rows t n
-      others n away = (changes_by_name x.count t (Mark (Vhd leaf) Hidden false) table may_show).others n away
+      others n away = (changes_by_name count t (Mark (Vhd leaf) Hidden false) table may_show).others n away
 
       names_same : names_of shown.volumes ≡ names_of t.volumes
       names_same = names_of-with_row t.volumes (Vhd leaf) (tagged Hidden false) (λ r. refl)
@@ -100,7 +99,7 @@ module _ (x : Content) (table : IsTable x.count x.table) (sound : first_fault x 
 
       pub shown_row : rows shown (Vhd leaf) ≡ Some (tagged Hidden false own)
       shown_row =
-          let k = (changes_by_name x.count t (Mark (Vhd leaf) Hidden false) table may_show).does in
+          let k = (changes_by_name count t (Mark (Vhd leaf) Hidden false) table may_show).does in
           k.2 ∙ ap (λ (r : Row). Some (tagged Hidden false r)) (same_Some k.0 own (sym k.1 ∙ before))
 
       pub still_swapped : is_leaf_swapped shown leaf parent ≡ true
@@ -113,19 +112,19 @@ module _ (x : Content) (table : IsTable x.count x.table) (sound : first_fault x 
       now_entry : HasLeafEntry shown leaf parent
       now_entry = ap head show_folding ∙ entry
 
-      pub show_steady : IsSteady x leaf parent shown
+      pub show_steady : IsSteady count x leaf parent shown
       show_steady = record {
-        table = IsTable-applied x.count t (Mark (Vhd leaf) Hidden false) table may_show;
+        table = IsTable-applied count t (Mark (Vhd leaf) Hidden false) table may_show;
         later = raised_later t.sequence table.sequence;
         apart = λ n far. others n (not_apart (Vhd leaf) vhd_near n far);
         raw = others (Raw leaf) (λ is. let z = is in cc);
         own = own;
         before = before;
         now = inr shown_row;
-        nobodys = childless_nobodys x sound leaf σ.childless;
+        nobodys = childless_nobodys x homes sound leaf σ.childless;
         few = let same = images_named shown.volumes t.volumes names_same in omega (arith, same);
         names = λ r i. let w = In-map (λ (y : Row). y.name) t.volumes r.name (subst (In r.name) names_same (In-map_at (λ (y : Row). y.name) shown.volumes r i)) in (w.0, w.1, sym w.2);
-        owned = λ u r there. owned u (old_leaf x sound leaf parent one u r (sym (others (Old u) (λ is. let z = is in cc)) ∙ there)).0;
+        owned = λ u r there. owned u (old_leaf x homes sound leaf parent one u r (sym (others (Old u) (λ is. let z = is in cc)) ∙ there)).0;
         staged = λ same. (
           or_right (is_leaf_copied shown leaf parent) _ (or_right (is_leaf_renamed shown leaf parent) _ (or_left (is_leaf_swapped shown leaf parent) _ still_swapped)),
           λ none. linked none,
@@ -141,9 +140,9 @@ module _ (x : Content) (table : IsTable x.count x.table) (sound : first_fault x 
               ∙ ap₂ (λ a b. not ((a && (is_leaf_renamed shown leaf parent || b)) || false)) (bytes_eq-refl leaf) still_swapped
               ∙ ap (λ b. not (b || false)) (or_right (is_leaf_renamed shown leaf parent) true refl)
 
-          linked : length (children (outline (record x { table = shown })) (Vhd leaf)) ≡ 0 → is_leaf_linked (outline (record x { table = shown })) leaf parent ≡ true
+          linked : length (children (record x { table = shown }) (Vhd leaf)) ≡ 0 → is_leaf_linked (record x { table = shown }) leaf parent ≡ true
           linked none =
-              let new = outline (record x { table = shown }) in
+              let new : Outline = record x { table = shown } in
               ap (λ c. cond c (parent_is (Vhd parent) (new.links (Vhd leaf)) && (length (children new (Vhd parent)) == 1))
               (cond (is_leaf_renamed shown leaf parent) (length (children new (Vhd parent)) == 0) (cond (is_leaf_swapped shown leaf parent) (length (children new (Vhd leaf)) == 0) true))) not_copied
               ∙ ap₂ (λ r w. cond r (length (children new (Vhd parent)) == 0) (cond w (length (children new (Vhd leaf)) == 0) true)) (named_renamed shown leaf parent still_swapped) still_swapped
@@ -166,17 +165,17 @@ module _ (x : Content) (table : IsTable x.count x.table) (sound : first_fault x 
     -- ---- the old leaf goes
 
     module _ (vis : own.hidden ≡ false) where
-      pub may_drop : Permits x.count t (Remove (Old leaf))
+      pub may_drop : Permits count t (Remove (Old leaf))
       may_drop = record { row = old_row.0; there = old_row.1; not_mgt = λ is. let z = is in cc }
 
       abbrev pub dropped : VolumeTable
       dropped = applied t (Remove (Old leaf))
 
       kept : (n : Name) → n ≢ Old leaf → rows dropped n ≡ rows t n
-      kept n away = (changes_by_name x.count t (Remove (Old leaf)) table may_drop).others n away
+      kept n away = (changes_by_name count t (Remove (Old leaf)) table may_drop).others n away
 
       dropped_row : rows dropped (Old leaf) ≡ None
-      dropped_row = (changes_by_name x.count t (Remove (Old leaf)) table may_drop).does.2
+      dropped_row = (changes_by_name count t (Remove (Old leaf)) table may_drop).does.2
 
       pub drop_none : is_there dropped (Old leaf) ≡ false
       drop_none = ap is_some dropped_row
@@ -203,16 +202,16 @@ module _ (x : Content) (table : IsTable x.count x.table) (sound : first_fault x 
       old_gone : (r w : Bool) → (is_there dropped (Old leaf) && r) ≡ false
       old_gone r w = ap (λ b. b && r) (ap is_some dropped_row)
 
-      pub drop_steady : IsSteady x leaf parent dropped
+      pub drop_steady : IsSteady count x leaf parent dropped
       drop_steady = record {
-        table = IsTable-applied x.count t (Remove (Old leaf)) table may_drop;
+        table = IsTable-applied count t (Remove (Old leaf)) table may_drop;
         later = raised_later t.sequence table.sequence;
         apart = λ n far. kept n (not_apart (Old leaf) old_near n far);
         raw = kept (Raw leaf) (λ is. let z = is in cc);
         own = own;
         before = before;
         now = inl (vhd_kept leaf ∙ before);
-        nobodys = childless_nobodys x sound leaf σ.childless;
+        nobodys = childless_nobodys x homes sound leaf σ.childless;
         few = count_without (λ r. is_data r.name) (Old leaf) t.volumes;
         names = λ r i. (r, In-bare (Old leaf) t.volumes r i, refl);
         owned = λ u r there. owned u r there (same_or_not u leaf);
@@ -227,11 +226,11 @@ module _ (x : Content) (table : IsTable x.count x.table) (sound : first_fault x 
         where
           owned : (u : List ℕ) (r : Row) → rows dropped (Old u) ≡ Some r → (u ≡ leaf) ⊎ (u ≢ leaf) → is_orphaned dropped (Old u) ≡ false
           owned u r there (inl is) = absurd (none-some r (sym dropped_row ∙ ap (λ v. rows dropped (Old v)) (sym is) ∙ there))
-          owned u r there (inr other) = absurd (other (old_leaf x sound leaf parent one u r (sym (kept (Old u) (λ is. other (let z = is in cc))) ∙ there)).0)
+          owned u r there (inr other) = absurd (other (old_leaf x homes sound leaf parent one u r (sym (kept (Old u) (λ is. other (let z = is in cc))) ∙ there)).0)
 
-          linked : is_leaf_linked (outline (record x { table = dropped })) leaf parent ≡ true
+          linked : is_leaf_linked (record x { table = dropped }) leaf parent ≡ true
           linked =
-              let new = outline (record x { table = dropped }) in
+              let new : Outline = record x { table = dropped } in
               ap (λ c. cond c (parent_is (Vhd parent) (new.links (Vhd leaf)) && (length (children new (Vhd parent)) == 1))
               (cond (is_leaf_renamed dropped leaf parent) (length (children new (Vhd parent)) == 0) (cond (is_leaf_swapped dropped leaf parent) (length (children new (Vhd leaf)) == 0) true))) not_copied
               ∙ ap₂ (λ r w. cond r (length (children new (Vhd parent)) == 0) (cond w (length (children new (Vhd leaf)) == 0) true))
@@ -254,20 +253,20 @@ module _ (x : Content) (table : IsTable x.count x.table) (sound : first_fault x 
   -- ---- the entry goes
 
   module _ (not_renamed : is_leaf_renamed t leaf parent ≡ false) (not_swapped : is_leaf_swapped t leaf parent ≡ false) where
-    placed : IsPlaced x sound leaf parent one
-    placed = placed_stage x sound leaf parent one not_renamed not_swapped
+    placed : IsPlaced x homes sound leaf parent one
+    placed = placed_stage x homes sound leaf parent one not_renamed not_swapped
 
     its_row : (r : Row) × (rows t (Vhd leaf) ≡ Some r) × ((not r.hidden && not r.fresh) ≡ true)
     its_row = of_row_parts (λ r. not r.hidden && not r.fresh) (rows t (Vhd leaf)) placed.shown
 
-    pub may_end : Permits x.count t (Remove e)
-    may_end = let r = entry_row x sound leaf parent one in record { row = r.0; there = r.1; not_mgt = λ is. let z = is in cc }
+    pub may_end : Permits count t (Remove e)
+    may_end = let r = entry_row x homes sound leaf parent one in record { row = r.0; there = r.1; not_mgt = λ is. let z = is in cc }
 
     abbrev pub without_it : VolumeTable
     without_it = applied t (Remove e)
 
     left : (n : Name) → n ≢ e → rows without_it n ≡ rows t n
-    left n away = (changes_by_name x.count t (Remove e) table may_end).others n away
+    left n away = (changes_by_name count t (Remove e) table may_end).others n away
 
     pub folding_gone : folding without_it ≡ []
     folding_gone = none_without is_folding e t.volumes refl one
@@ -277,20 +276,20 @@ module _ (x : Content) (table : IsTable x.count x.table) (sound : first_fault x 
         ap (of_row (λ r. r.hidden && not r.fresh)) its_row.1
         ∙ ap (λ h. h && not its_row.0.fresh) (not_true its_row.0.hidden (and_parts (not its_row.0.hidden) (not its_row.0.fresh) its_row.2).0)
 
-    pub end_steady : IsSteady x leaf parent without_it
+    pub end_steady : IsSteady count x leaf parent without_it
     end_steady = record {
-      table = IsTable-applied x.count t (Remove e) table may_end;
+      table = IsTable-applied count t (Remove e) table may_end;
       later = raised_later t.sequence table.sequence;
       apart = λ n far. left n (not_apart e entry_near n far);
       raw = left (Raw leaf) (λ is. let z = is in cc);
       own = its_row.0;
       before = its_row.1;
       now = inl (left (Vhd leaf) (λ is. let z = is in cc) ∙ its_row.1);
-      nobodys = unhidden_nobodys x sound (Vhd leaf) not_hidden;
+      nobodys = unhidden_nobodys x homes sound (Vhd leaf) not_hidden;
       few = count_without (λ r. is_data r.name) e t.volumes;
       names = λ r i. (r, In-bare e t.volumes r i, refl);
       owned = λ u r there.
-          let k = old_leaf x sound leaf parent one u r (sym (left (Old u) (λ is. let z = is in cc)) ∙ there) in
+          let k = old_leaf x homes sound leaf parent one u r (sym (left (Old u) (λ is. let z = is in cc)) ∙ there) in
           absurd (true≢false (sym k.1 ∙ ap₂ (λ a b. a || b) not_renamed not_swapped));
       staged = λ same. absurd (let z = sym one ∙ sym same ∙ folding_gone in cc);
       stands = λ u.

@@ -3,7 +3,7 @@ use Rattle.std.proofs.Common.{◌≡◌, ◌≢◌, ◌⊎◌, inl, inr, ℕ, �
 use Rattle.std.proofs.Math.Path.{fun_ext}
 use Rattle.std.proofs.lemmas.Bool.{true≢false, and_parts}
 use Rattle.std.proofs.lemmas.Option.{none-some}
-use Rattle.common_laws.specs.Lists.{In}
+use Rattle.common_laws.specs.Lists.{In, ◌>>=◌}
 use Rattle.common_laws.proofs.Booleans.{not_true}
 use Rattle.common_laws.proofs.Bytes.{bytes_eq-refl}
 use Rattle.common_laws.proofs.Lists.{In-map}
@@ -13,11 +13,10 @@ use Rattle.sm_base.specs.declared.names.Name.{Name}
 use Rattle.sm_base.specs.declared.names.Name.TheVariants.{Vhd, Raw, Old, Clone, Inflate, Leaf}
 use Rattle.sm_machine.specs.Disks.{Disk}
 use Rattle.vg_meta.specs.Tables.{VolumeTable, Row, IsTable, IsVolume, name_eq, row_of, rows}
-use Rattle.vg_meta.specs.Changes.{SpeaksOf, applied, cut_to, put, put_some, renamed as renamed_row, without}
+use Rattle.vg_meta.specs.Changes.{applied, cut_to, put, put_some, renamed as renamed_row, without}
 use Rattle.vg_meta.specs.declared.changes.Change.{Change}
 use Rattle.vg_meta.specs.declared.changes.Change.TheVariants.{Mark, Remove, Rename}
 use Rattle.vg_meta.specs.declared.changes.Tag.TheVariants.{Hidden}
-use Rattle.vg_meta.proofs.ByName.{changes_by_name}
 use Rattle.vg_meta.proofs.ChangeLaws.{IsTable-applied}
 use Rattle.vg_meta.proofs.NameLaws.{name_eq-other, name_eq-refl}
 use Rattle.vg_meta.proofs.RowLaws.{All-without, rising-without, row_of-name, row_of-without_other, row_of-without_same}
@@ -28,6 +27,7 @@ use Rattle.sm_standing.specs.Forks.{forked}
 use Rattle.sm_standing.specs.Images.{Image, image_of}
 use Rattle.sm_standing.specs.Leaves.{ended, ended_content, leaf_changes, leaf_gone, parent_changes}
 use Rattle.sm_standing.specs.Opened.{Part, Work, base_back, begun, by_entry, folding_ended, opened, part_of, removed, renamed, repaired, shown, under_name}
+use Rattle.sm_standing.specs.Outlines.{outline}
 use Rattle.sm_standing.specs.PlainSound.{AllSound}
 use Rattle.sm_standing.specs.Standing.{disks}
 use Rattle.sm_standing.specs.Swaps.{swapped}
@@ -38,12 +38,13 @@ use Rattle.sm_standing.proofs.ForkParts.{entry_found}
 use Rattle.sm_standing.proofs.ForkPlaces.{found_kind}
 use Rattle.sm_standing.proofs.ForkTables.{of_row_parts}
 use Rattle.sm_standing.proofs.LeafCorner.{enlarged}
-use Rattle.sm_standing.proofs.LeafEnds.{at_changes, corner_or_not, end_last, end_of, end_permits, ended_images, ends_are, image_by, moved_by, no_changes}
+use Rattle.sm_standing.proofs.LeafContents.{images_at_last, left_at_last}
+use Rattle.sm_standing.proofs.LeafEnds.{at_changes, corner_or_not, ended_folding, ended_making, ended_permits, ended_unmade, ends_are, named_by, no_changes}
 use Rattle.sm_standing.proofs.LeafOpenedEdits.{AreNames, made_beside, names_in, removed_beside, renamed_beside, shown_beside}
 use Rattle.sm_standing.proofs.LeafOpenedParts.{IsOther, made_alike, shown_alike}
-use Rattle.sm_standing.proofs.LeafRename.{parent_among}
-use Rattle.sm_standing.proofs.LeafRuns.{moved}
-use Rattle.sm_standing.proofs.LeafStages.{fork_free, renamed_stage, row_in, swapped_stage}
+use Rattle.sm_standing.proofs.LeafRename.{moved, parent_among}
+use Rattle.sm_standing.proofs.LeafRows.{IsUnsaid, rows_kept}
+use Rattle.sm_standing.proofs.LeafStages.{content_images, fork_free, renamed_stage, row_in, swapped_stage}
 use Rattle.sm_standing.proofs.PartLists.{AreAlike, IsPut, left_alike, removed_alike}
 use Rattle.sm_standing.proofs.PlainDisks.{all-In}
 use Rattle.sm_standing.proofs.PlainKept.{sound_all}
@@ -52,17 +53,6 @@ use Rattle.sm_standing.proofs.UndoneLaws.{IsBeingForked, changes_are, enlarged_o
 use Rattle.sm_standing.proofs.UndoneShape.{left, removed_work, shape_of, undone_work, work_of}
 use Rattle.sm_standing.proofs.UnfoldedShape.{made}
 use Rattle.sm_standing.proofs.VolumeLists.{found_in}
-
--- ---- names that no change of a list speaks of
-
-abbrev IsUnsaid : Name → List Change → Type 0
-IsUnsaid n [] = Unit {0}
-IsUnsaid n (x ∷ xs) = (SpeaksOf x n → ⊥) × IsUnsaid n xs
-
-rows_kept : (count : ℕ) (n : Name) (cs : List Change) (v : VolumeTable) → IsTable count v → AllPermit count v cs → IsUnsaid n cs → rows (applied_all v cs) n ≡ rows v n
-rows_kept count n [] v h may none = refl
-rows_kept count n (x ∷ xs) v h may none =
-    rows_kept count n xs (applied v x) (IsTable-applied count v x h may.0) may.1 none.1 ∙ (changes_by_name count v x h may.0).others n none.0
 
 -- ---- the working copies
 
@@ -92,8 +82,8 @@ module _ (c : Content) (sound : first_fault c ≡ None) (table : IsTable c.count
   abbrev under_way : Option Name
   under_way = head (making t)
 
-  s : AllSound c
-  s = sound_all c sound
+  s : AllSound (outline c)
+  s = sound_all (outline c) sound
 
   cases : (making t ≡ []) ⊎ (((u : List ℕ) × (extents : ℕ) × IsBeingEnlarged t u extents) ⊎ IsBeingForked t)
   cases = enlarged_or_not c.count t table s.one_entry s.at_stage
@@ -107,7 +97,7 @@ module _ (c : Content) (sound : first_fault c ≡ None) (table : IsTable c.count
   IsClear n = IsName n × (b ≢ n) × (a ≢ n) × (n ≢ old) × (n ≢ e)
 
   making_name : (n : Name) → making t ≡ n ∷ [] → IsName n
-  making_name n is = let r = entry_found t n is in subst IsName (row_of-name t.volumes n r.0 r.1) (all-In IsVolume t.volumes r.0 table.volumes.each (row_in c sound n r.0 r.1)).name
+  making_name n is = let r = entry_found t n is in subst IsName (row_of-name t.volumes n r.0 r.1) (all-In IsVolume t.volumes r.0 table.volumes.each (row_in (outline c) (content_images c) sound n r.0 r.1)).name
 
   apart_from : (x u : List ℕ) → is_among us x ≡ true → is_among us u ≡ false → x ≢ u
   apart_from x u near far same = true≢false (sym near ∙ ap (is_among us) same ∙ far)
@@ -131,7 +121,7 @@ module _ (c : Content) (sound : first_fault c ≡ None) (table : IsTable c.count
     raws = let k = making_name (Clone disk base twin) forks in (k.0, k.1)
 
     far : (u : List ℕ) → is_among (forked disk base twin) u ≡ true → is_among us u ≡ false
-    far u is = fork_free c sound leaf parent one disk base twin forks u is
+    far u is = fork_free (outline c) (content_images c) sound leaf parent one disk base twin forks u is
 
     base_clear : IsClear (Vhd base)
     base_clear = far_clear base uuids.1 (far base (base_among disk base twin))
@@ -242,13 +232,13 @@ module _ (c : Content) (sound : first_fault c ≡ None) (table : IsTable c.count
   ends cs is = ap (applied_all t) (ends_are t leaf parent one ∙ is)
 
   permits : (cs : List Change) → leaf_changes t leaf parent ≡ cs → AllPermit c.count t cs
-  permits cs is = subst (AllPermit c.count t) is (end_permits c sound table geometry leaf parent one)
+  permits cs is = subst (AllPermit c.count t) is (ended_permits c.count (outline c) sound table (content_images c) leaf parent one)
 
   same_work : is_leaf_renamed t leaf parent ≡ false → begun d ≡ work_of c (ended t)
   same_work is =
       ap (λ (f : Row → Part). record { sequence = (ended t).sequence; parts = map f (ended t).volumes })
       (fun_ext (λ r. ap (λ (i : Option Image). record { name = r.name; hidden = r.hidden; fresh = r.fresh; extents = length r.extents; image = i })
-      (ended_images c sound table geometry leaf parent one r.name ∙ image_by c sound table geometry leaf parent one r.name false is)))
+      (images_at_last c sound table geometry leaf parent one r.name ∙ ap (λ m. m >>= image_of c) (sym (named_by c.count (outline c) sound table (content_images c) leaf parent one r.name false is)))))
 
   -- what is being made is made of the same images
   made_ended : making (ended t) ≡ making t → (cs : List Change) → leaf_changes t leaf parent ≡ cs → ((n : Name) → IsClear n → IsUnsaid n cs) → (w : Work)
@@ -270,7 +260,7 @@ module _ (c : Content) (sound : first_fault c ≡ None) (table : IsTable c.count
           (ap (λ i. removed (Clone k.0 k.1 k.2) (base_back k.0 i (removed (Vhd k.2) w))) (image_same k.1 (base_clear k.0 k.1 k.2 k.3) (raw_clear k.1 (raws k.0 k.1 k.2 k.3).1)))
 
   still_making : ((extents : ℕ) → is_leaf_renamed t leaf parent ≡ true → making t ≢ Inflate parent extents ∷ []) → making (ended t) ≡ making t
-  still_making free = let k = end_of c sound table geometry leaf parent one in (end_last c sound table geometry leaf parent one).2 ∙ k.same free
+  still_making free = ended_making c.count (outline c) sound table (content_images c) leaf parent one free
 
   unsaid_tail : (m : Bool) (n : Name) → IsClear n → IsUnsaid n (tail_changes m)
   unsaid_tail true n k = (λ is. k.1 (sym is), (k.3, (k.4, tt)))
@@ -278,7 +268,7 @@ module _ (c : Content) (sound : first_fault c ≡ None) (table : IsTable c.count
 
   placed_same : is_leaf_renamed t leaf parent ≡ false → is_leaf_swapped t leaf parent ≡ false → removed e (made t under_way (begun c)) ≡ made (ended t) (head (making (ended t))) (begun d)
   placed_same not_renamed not_swapped =
-      let is = at_changes c sound table geometry leaf parent one (parent_changes t parent under_way) false false refl not_renamed not_swapped in
+      let is = at_changes c.count (outline c) sound table (content_images c) leaf parent one (parent_changes t parent under_way) false false refl not_renamed not_swapped in
       let may = (permits (Remove e ∷ []) is).0 in
       end_beside IsCut (λ n k. k) loose_names (begun c)
       ∙ ap (made t under_way) (removed_work c e t may.row table.volumes.rising may.there ∙ ap (work_of c) (sym (ends (Remove e ∷ []) is)) ∙ sym (same_work not_renamed))
@@ -287,8 +277,8 @@ module _ (c : Content) (sound : first_fault c ≡ None) (table : IsTable c.count
   swapped_same : is_leaf_renamed t leaf parent ≡ false → is_leaf_swapped t leaf parent ≡ true → tail (made t under_way (begun c)) ≡ made (ended t) (head (making (ended t))) (begun d)
   swapped_same not_renamed stage =
       let m = of_row (λ r. r.hidden) (rows t b) in
-      let is = at_changes c sound table geometry leaf parent one (parent_changes t parent under_way) false true refl not_renamed stage in
-      let σ = swapped_stage c sound leaf parent one stage in
+      let is = at_changes c.count (outline c) sound table (content_images c) leaf parent one (parent_changes t parent under_way) false true refl not_renamed stage in
+      let σ = swapped_stage (outline c) (content_images c) sound leaf parent one stage in
       let own = of_row_parts (λ r. not r.fresh) (rows t b) σ.filled in
       tail_beside IsCut (λ n k. k) loose_names (begun c)
       ∙ ap (made t under_way) (tail_work c t table own.0 own.1 m refl (permits (tail_changes m) is) ∙ ap (work_of c) (sym (ends (tail_changes m) is)) ∙ sym (same_work not_renamed))
@@ -319,10 +309,9 @@ module _ (c : Content) (sound : first_fault c ≡ None) (table : IsTable c.count
     all_volumes : again.volumes ≡ put back rest
     all_volumes = ap (λ o. put_some o (renamed_row b) rest) there
 
-    images : (n : Name) → image_of d n ≡ moved c leaf parent (image_of c) n
+    images : (n : Name) → image_of d n ≡ (moved leaf parent n >>= image_of c)
     images n =
-        ended_images c sound table geometry leaf parent one n ∙ image_by c sound table geometry leaf parent one n true stage
-        ∙ sym (moved_by c sound table geometry leaf parent one n (name_eq n b) (name_eq n a))
+        images_at_last c sound table geometry leaf parent one n ∙ ap (λ m. m >>= image_of c) (sym (named_by c.count (outline c) sound table (content_images c) leaf parent one n true stage))
 
     a_b : a ≢ b
     a_b same = none-some own (sym may.0.new_name ∙ ap (rows v) (sym same) ∙ there)
@@ -339,13 +328,13 @@ module _ (c : Content) (sound : first_fault c ≡ None) (table : IsTable c.count
     part_same : (r : Row) → In r rest → part_of d r ≡ part_of c r
     part_same r i =
         ap (with_image_of r)
-        (images r.name ∙ ap₂ (λ p q. cond p (image_of c a) (cond q None (image_of c r.name)))
+        (images r.name ∙ ap₂ (λ p q. cond p (Some a) (cond q None (Some r.name)) >>= image_of c)
         (name_eq-other r.name b (λ same. to_other r i (sym same))) (name_eq-other r.name a (λ same. from_other r i (sym same))))
 
     moved_same : part_of d back ≡ moved_part
     moved_same =
         ap (with_image_of back)
-        (images b ∙ ap (λ p. cond p (image_of c a) (cond (name_eq b a) None (image_of c b))) (name_eq-refl b) ∙ ap (image_of c) (sym (row_of-name v.volumes a own there)))
+        (images b ∙ ap (λ p. cond p (Some a) (cond (name_eq b a) None (Some b)) >>= image_of c) (name_eq-refl b) ∙ ap (image_of c) (sym (row_of-name v.volumes a own there)))
 
     renamed_alike : AreAlike moved_part (work_of d again) (renamed a b (work_of c v))
     renamed_alike = record {
@@ -402,15 +391,15 @@ module _ (c : Content) (sound : first_fault c ≡ None) (table : IsTable c.count
   with_it = ap (λ ns. folded t ns (made t under_way (begun c))) one
 
   without_it : repaired (ended t) (begun d) ≡ left (made (ended t) (head (making (ended t))) (begun d))
-  without_it = ap (λ ns. folded (ended t) ns (made (ended t) (head (making (ended t))) (begun d))) (end_last c sound table geometry leaf parent one).1
+  without_it = ap (λ ns. folded (ended t) ns (made (ended t) (head (making (ended t))) (begun d))) (ended_folding c.count (outline c) sound table (content_images c) leaf parent one)
 
   abbrev SameShapes : Bool → Bool → Type 0
   SameShapes r w = shape_of c (left (made (ended t) (head (making (ended t))) (begun d))) (disks c) ≡ shape_of c (left (by_stage r w (made t under_way (begun c)))) (disks c)
 
   renamed_same : is_leaf_renamed t leaf parent ≡ true → ((extents : ℕ) → making t ≢ Inflate parent extents ∷ []) → (w : Bool) → SameShapes true w
   renamed_same stage free w =
-      let σ = renamed_stage c sound leaf parent one stage in
-      let is = at_changes c sound table geometry leaf parent one [] true (is_leaf_swapped t leaf parent) (no_changes c sound table geometry leaf parent one free) stage refl in
+      let σ = renamed_stage (outline c) (content_images c) sound leaf parent one stage in
+      let is = at_changes c.count (outline c) sound table (content_images c) leaf parent one [] true (is_leaf_swapped t leaf parent) (no_changes c.count (outline c) sound table (content_images c) leaf parent one free) stage refl in
       let own = of_row_parts (λ r. r.hidden && not r.fresh) (rows t a) σ.hidden in
       let flags = and_parts own.0.hidden (not own.0.fresh) own.2 in
       let names = strict_names σ.no_vhd free in
@@ -428,16 +417,15 @@ module _ (c : Content) (sound : first_fault c ≡ None) (table : IsTable c.count
   corner_same : is_leaf_renamed t leaf parent ≡ true → (extents : ℕ) → IsBeingEnlarged t parent extents → (w : Bool) → SameShapes true w
   unfolding undone
   corner_same stage extents h w =
-      let σ = renamed_stage c sound leaf parent one stage in
+      let σ = renamed_stage (outline c) (content_images c) sound leaf parent one stage in
       let first = changes_back t (Inflate parent extents) in
       let v = applied_all t first in
       let first_is = ap (λ ns. parent_changes t parent (head ns)) h.entry ∙ ap (λ k. cond k first []) (bytes_eq-refl parent) in
-      let is = at_changes c sound table geometry leaf parent one first true (is_leaf_swapped t leaf parent) first_is stage refl in
+      let is = at_changes c.count (outline c) sound table (content_images c) leaf parent one first true (is_leaf_swapped t leaf parent) first_is stage refl in
       let k = permits_front c.count t first all_changes (permits (first ++ all_changes) is) table in
       let undone_is : undone t ≡ v = ap (applied_all t) (changes_are t parent extents h) in
-      let last = end_of c sound table geometry leaf parent one in
       let flags = and_parts h.own.hidden (not h.own.fresh) (sym (ap (of_row (λ r. r.hidden && not r.fresh)) h.there) ∙ σ.hidden) in
-      ap (λ ns. shape_of c (left (made (ended t) (head ns) (begun d))) (disks c)) ((end_last c sound table geometry leaf parent one).2 ∙ last.gone extents stage h.entry)
+      ap (λ ns. shape_of c (left (made (ended t) (head ns) (begun d))) (disks c)) (ended_unmade c.count (outline c) sound table (content_images c) leaf parent one extents stage h.entry)
       ∙ alike_shape stage v k.0 k.1 (ends (first ++ all_changes) is ∙ applied_then t first all_changes) (cut_to extents h.own)
       (ap (λ (x : VolumeTable). rows x a) (sym undone_is) ∙ own_undone t parent extents h) flags.0 h.filled None tt (disks c)
       ∙ ap (λ x. shape_of c (left (tail (renamed a b x))) (disks c))
@@ -447,15 +435,15 @@ module _ (c : Content) (sound : first_fault c ≡ None) (table : IsTable c.count
   pub opened_ended : opened (ended_content c) ≡ opened c
   unfolding opened
   opened_ended =
-      let last = (end_last c sound table geometry leaf parent one).0 in
+      let last = left_at_last c sound table geometry leaf parent one in
       ap₂ (shape_of c) without_it last.shown ∙ same (is_leaf_renamed t leaf parent) (is_leaf_swapped t leaf parent) refl refl ∙ ap (λ w. shape_of c w (disks c)) (sym with_it)
     where
       at_once : (w : Bool) → is_leaf_renamed t leaf parent ≡ true → ((extents : ℕ) → making t ≢ Inflate parent extents ∷ []) ⊎ ((extents : ℕ) × (making t ≡ Inflate parent extents ∷ []))
           → SameShapes true w
       at_once w stage (inl free) = renamed_same stage free w
-      at_once w stage (inr k) = corner_same stage k.0 (enlarged c sound table geometry leaf parent one stage k.0 k.1) w
+      at_once w stage (inr k) = corner_same stage k.0 (enlarged (outline c) table (content_images c) sound leaf parent one stage k.0 k.1) w
 
       same : (r w : Bool) → is_leaf_renamed t leaf parent ≡ r → is_leaf_swapped t leaf parent ≡ w → SameShapes r w
-      same true w is_r is_w = at_once w is_r (corner_or_not c sound table geometry leaf parent one)
+      same true w is_r is_w = at_once w is_r (corner_or_not c.count (outline c) sound table (content_images c) leaf parent one)
       same false true is_r is_w = ap (λ x. shape_of c (left x) (disks c)) (sym (swapped_same is_r is_w))
       same false false is_r is_w = ap (λ x. shape_of c (left x) (disks c)) (sym (placed_same is_r is_w))

@@ -1,67 +1,97 @@
 -- A sound repository under the entry of a leaf that is being folded: at which stage it stands, and whose parent an image may be.
-use Rattle.std.proofs.Common.{◌≡◌, ◌≢◌, ◌⊎◌, inl, inr, ℕ, ◌==◌, ◌&&◌, ◌||◌, not, nat_le, Bool, true, false, cond, List, [], ◌∷◌, length, Option, Some, None, is_some, refl, sym, ap, ap₂, ◌∙◌, bytes_eq}
-use Rattle.std.specs.List.{list_any}
-use Rattle.std.proofs.lemmas.Bool.{true≢false, eqb-true, and_parts, or_cases, or_parts, and_right}
+use Rattle.std.proofs.Common.{◌≡◌, ◌≢◌, ◌⊎◌, inl, inr, ℕ, ◌==◌, ◌&&◌, ◌||◌, not, nat_le, Bool, true, false, cond, List, [], ◌∷◌, length, Option, Some, None, is_some, refl, sym, ap, ap₂, ◌∙◌, subst, bytes_eq}
+use Rattle.std.specs.List.{filter, list_any}
+use Rattle.std.proofs.lemmas.Bool.{true≢false, eqb-true, and_parts, or_cases, or_parts, and_right, false_from_ne_true}
 use Rattle.std.proofs.lemmas.Option.{none-some}
 use Rattle.common_laws.specs.Lists.{In, ◌>>=◌}
 use Rattle.common_laws.proofs.Booleans.{not_false, not_true}
 use Rattle.common_laws.proofs.Bytes.{bytes_eq-refl, bytes_eq-same}
+use Rattle.common_laws.proofs.Lists.{filter-In, In-map_at}
+use Rattle.common_laws.proofs.Options.{is_some-parts}
 use Rattle.sm_base.specs.declared.names.Name.{Name}
 use Rattle.sm_base.specs.declared.names.Name.TheVariants.{Mgt, Vhd, Raw, Old, Clone, Inflate, Coalesce, Relink, Leaf}
-use Rattle.vg_meta.specs.Tables.{VolumeTable, Row, rows}
+use Rattle.vg_meta.specs.Tables.{VolumeTable, Row, names_of, rows}
 use Rattle.vg_meta.proofs.RowLaws.{row_of-name}
 use Rattle.sm_machine.specs.Shapes.{same_image}
+use Rattle.sm_machine.specs.WellFormed.{is_image_name}
 use Rattle.sm_standing.specs.Apart.{is_apart}
-use Rattle.sm_standing.specs.Changes.{parent_of}
-use Rattle.sm_standing.specs.Checks.{chain_length, children, first_fault, is_entry_linked, is_leaf_linked, is_linked, is_misplaced, is_no_larger, is_orphaned, is_parent_right, parent_is, tree_wrong_as}
-use Rattle.sm_standing.specs.Contents.{Content}
+use Rattle.sm_standing.specs.Checks.{chain_length, children, fault_of, is_entry_linked, is_leaf_linked, is_linked, is_misplaced, is_no_larger, is_orphaned, is_parent_right, parent_is, tree_wrong_as}
+use Rattle.sm_standing.specs.Contents.{Content, row}
 use Rattle.sm_standing.specs.Entries.{are_past, folding, folding_uuids, head, is_among, is_at_stage, is_filled, is_folding_leaf, is_fork_begun, is_fork_made, is_forking, is_hidden, is_leaf_copied, is_leaf_folded, is_leaf_renamed, is_leaf_swapped, is_old_of, is_there, is_visible, making, uuids_in}
 use Rattle.sm_standing.specs.Forks.{forked}
 use Rattle.sm_standing.specs.Images.{image_of}
-use Rattle.sm_standing.specs.Outlines.{Link, Outline, link_of, outline}
+use Rattle.sm_standing.specs.Outlines.{HasImages, Link, Outline, link_of, outline, parent_in}
 use Rattle.sm_standing.specs.PlainSound.{AllSound}
+use Rattle.sm_standing.specs.Standing.{standing_volume}
 use Rattle.sm_standing.specs.Swaps.{swapped}
-use Rattle.sm_standing.proofs.ApartLaws.{other_among, raw_apart, vhd_apart}
+use Rattle.sm_standing.specs.Undone.{IsBeingEnlarged}
+use Rattle.sm_standing.proofs.ApartLaws.{beside, other_among, raw_apart, stands_beside, stands_making, vhd_apart}
+use Rattle.sm_standing.proofs.Counts.{no_member}
 use Rattle.sm_standing.proofs.DisksShown.{row_of-In}
 use Rattle.sm_standing.proofs.ForkImages.{lost_as, misnamed_as}
-use Rattle.sm_standing.proofs.ForkParents.{is_child, linked_image}
+use Rattle.sm_standing.proofs.ForkLaws.{fork_other}
+use Rattle.sm_standing.proofs.ForkParents.{linked_image, raw_top}
 use Rattle.sm_standing.proofs.ForkParts.{entry_found}
 use Rattle.sm_standing.proofs.ForkTables.{of_row_parts}
-use Rattle.sm_standing.proofs.ImageLaws.{childless_parent, image_there}
+use Rattle.sm_standing.proofs.ImageLaws.{image_there}
 use Rattle.sm_standing.proofs.PlainKept.{sound_all}
 use Rattle.sm_standing.proofs.SwapLaws.{named_renamed}
-use Rattle.sm_standing.proofs.UnfoldedToday.{fold_row}
+use Rattle.sm_standing.proofs.UndoneLaws.{IsBeingForked}
+use Rattle.sm_standing.proofs.UnfoldedButLeaf.{fold_row}
 
-pub empty_list : {A : Type 0} (xs : List A) → length xs ≡ 0 → xs ≡ []
-empty_list [] h = refl
-empty_list (x ∷ xs) h = absurd (let z = h in cc)
+-- any other name has no image
+pub no_image_name : (c : Content) (n : Name) → is_image_name n ≡ false → image_of c n ≡ None
+unfolding image_of is_image_name
+no_image_name c (Vhd u) h = absurd (true≢false h)
+no_image_name c (Raw u) h = absurd (true≢false h)
+no_image_name c _ h = refl
 
--- an image's name is that of a VHD or of a raw one
-pub image_kind : (c : Content) (q : Name) (l : Link) → link_of (image_of c q) ≡ Some l → (u : List ℕ) × ((q ≡ Vhd u) ⊎ (q ≡ Raw u))
-unfolding image_of
-image_kind c (Vhd u) l h = (u, inl refl)
-image_kind c (Raw u) l h = (u, inr refl)
-image_kind c Mgt l h = absurd (none-some l h)
-image_kind c (Old u) l h = absurd (none-some l h)
-image_kind c (Clone x y z) l h = absurd (none-some l h)
-image_kind c (Inflate x y) l h = absurd (none-some l h)
-image_kind c (Coalesce x y) l h = absurd (none-some l h)
-image_kind c (Relink x y) l h = absurd (none-some l h)
-image_kind c (Leaf x y) l h = absurd (none-some l h)
+-- the images of a content
+pub content_images : (c : Content) → HasImages (outline c)
+content_images c = record {
+  named = λ n other. ap link_of (no_image_name c n other);
+  there = λ n i is. let x = linked_image (image_of c n) i is in let r = image_there c n x.0 x.1 in ap is_some r.1;
+  alone = λ u i is. raw_top c u i (row c (Raw u)) refl is;
+}
+
+-- a volume that is there is listed among those of its kind
+pub listed : (v : VolumeTable) (test : Name → Bool) (n : Name) (r : Row) → rows v n ≡ Some r → test n ≡ true → In n (filter test (names_of v.volumes))
+listed v test n r there is =
+    filter-In test (names_of v.volumes) n
+    (subst (λ m. In m (names_of v.volumes)) (row_of-name v.volumes n r there) (In-map_at (λ (y : Row). y.name) v.volumes r (row_of-In v.volumes n r there).0)) is
 
 pub link_some : (o : Option Link) (q : Name) → (o >>= (λ l. l.parent)) ≡ Some q → (i : Link) × (o ≡ Some i) × (i.parent ≡ Some q)
 link_some None q h = absurd (none-some q h)
 link_some (Some i) q h = (i, refl, h)
 
-module _ (x : Content) (sound : first_fault x ≡ None) where
+module _ (o : Outline) (homes : HasImages o) where
+  -- an image's name is that of a VHD or of a raw one
+  pub image_kind : (q : Name) (l : Link) → o.links q ≡ Some l → (u : List ℕ) × ((q ≡ Vhd u) ⊎ (q ≡ Raw u))
+  unfolding is_image_name
+  image_kind (Vhd u) l h = (u, inl refl)
+  image_kind (Raw u) l h = (u, inr refl)
+  image_kind Mgt l h = absurd (none-some l (sym (homes.named Mgt refl) ∙ h))
+  image_kind (Old u) l h = absurd (none-some l (sym (homes.named (Old u) refl) ∙ h))
+  image_kind (Clone x y z) l h = absurd (none-some l (sym (homes.named (Clone x y z) refl) ∙ h))
+  image_kind (Inflate x y) l h = absurd (none-some l (sym (homes.named (Inflate x y) refl) ∙ h))
+  image_kind (Coalesce x y) l h = absurd (none-some l (sym (homes.named (Coalesce x y) refl) ∙ h))
+  image_kind (Relink x y) l h = absurd (none-some l (sym (homes.named (Relink x y) refl) ∙ h))
+  image_kind (Leaf x y) l h = absurd (none-some l (sym (homes.named (Leaf x y) refl) ∙ h))
+
+  -- and that of a VHD where it has a parent
+  child_kind : (m q : Name) (l : Link) → o.links m ≡ Some l → l.parent ≡ Some q → (u : List ℕ) × (m ≡ Vhd u)
+  child_kind m q l at up = let k = image_kind m l at in by k.0 k.1
+    where
+      by : (u : List ℕ) → (m ≡ Vhd u) ⊎ (m ≡ Raw u) → (u : List ℕ) × (m ≡ Vhd u)
+      by u (inl is) = (u, is)
+      by u (inr is) = absurd (none-some q (sym (homes.alone u l (ap o.links (sym is) ∙ at)) ∙ up))
+
+module _ (o : Outline) (homes : HasImages o) (sound : fault_of o ≡ None) where
   abbrev t : VolumeTable
-  t = x.table
+  t = o.table
 
-  abbrev o : Outline
-  o = outline x
-
-  s : AllSound x
-  s = sound_all x sound
+  s : AllSound o
+  s = sound_all o sound
 
   pub row_in : (n : Name) (r : Row) → rows t n ≡ Some r → In r t.volumes
   row_in n r there = (row_of-In t.volumes n r there).0
@@ -74,13 +104,12 @@ module _ (x : Content) (sound : first_fault x ≡ None) where
       (not_false _ (sym (ap (tree_wrong_as o r) named ∙ ap (is_misplaced o r) at) ∙ s.placed r (row_in (Vhd u) r there)))).0
 
   -- a parent is hidden, and an image
-  pub right_parent : (m q : Name) → parent_of x m ≡ Some q → (is_hidden t q ≡ true) × ((l : Link) × (o.links q ≡ Some l))
+  pub right_parent : (m q : Name) → parent_in o m ≡ Some q → (is_hidden t q ≡ true) × ((l : Link) × (o.links q ≡ Some l))
   right_parent m q up =
       let k = link_some (o.links m) q up in
-      let child = is_child x m q k.0 k.1 k.2 in
+      let child = child_kind o homes m q k.0 k.1 k.2 in
       let links = ap o.links (sym child.1) ∙ k.1 in
-      let image = linked_image (image_of x (Vhd child.0)) k.0 links in
-      let there = image_there x (Vhd child.0) image.0 image.1 in
+      let there = is_some-parts (rows t (Vhd child.0)) (homes.there (Vhd child.0) k.0 links) in
       let right = and_parts (is_hidden t q) (is_no_larger k.0.size (o.links q))
       (sym (ap (λ y. elim y as (λ _. Bool) [ None ↦ true | Some p ↦ is_parent_right o k.0.size p ]) k.2) ∙ linked_right child.0 there.0 k.0 there.1 links) in
       (right.0, of k.0.size (o.links q) refl right.1)
@@ -94,24 +123,26 @@ module _ (x : Content) (sound : first_fault x ≡ None) where
 
   -- nobody's parent
   abbrev pub IsNobodys : Name → Type 0
-  IsNobodys n = (m : Name) → parent_of x m ≢ Some n
+  IsNobodys n = (m : Name) → parent_in o m ≢ Some n
 
   pub unhidden_nobodys : (n : Name) → is_hidden t n ≡ false → IsNobodys n
   unhidden_nobodys n h m up = true≢false (sym (right_parent m n up).0 ∙ h)
 
   pub childless_nobodys : (u : List ℕ) → length (children o (Vhd u)) ≡ 0 → IsNobodys (Vhd u)
-  unfolding same_image
+  unfolding same_image children
   childless_nobodys u none m up =
       let k = link_some (o.links m) (Vhd u) up in
-      let i = linked_image (image_of x m) k.0 k.1 in
-      childless_parent x (Vhd u) m i.0 (bytes_eq-refl u) (empty_list (children o (Vhd u)) none) i.1 (i.2 ∙ k.2)
+      let r = is_some-parts (rows t m) (homes.there m k.0 k.1) in
+      let over = ap o.links (row_of-name t.volumes m r.0 r.1) ∙ k.1 in
+      let child = ap (parent_is (Vhd u)) over ∙ ap (λ y. elim y as (λ _. Bool) [ None ↦ false | Some q ↦ same_image q (Vhd u) ]) k.2 ∙ bytes_eq-refl u in
+      no_member (children o (Vhd u)) r.0 none (filter-In (λ q. parent_is (Vhd u) (o.links q.name)) t.volumes r.0 (row_in m r.0 r.1) child)
 
   pub gone_nobodys : (n : Name) → is_there t n ≡ false → IsNobodys n
   gone_nobodys n gone m up = true≢false (sym (hidden_then_there n (right_parent m n up).0) ∙ gone)
 
   -- no image has a parent of these UUIDs
-  pub closed_by : (us : List (List ℕ)) → ((u : List ℕ) → is_among us u ≡ true → IsNobodys (Vhd u) × IsNobodys (Raw u)) → (m q : Name) → parent_of x m ≡ Some q → is_apart us q ≡ true
-  closed_by us none m q up = let k = right_parent m q up in let w = image_kind x q k.1.0 k.1.1 in by w.0 w.1 (is_among us w.0) refl
+  pub closed_by : (us : List (List ℕ)) → ((u : List ℕ) → is_among us u ≡ true → IsNobodys (Vhd u) × IsNobodys (Raw u)) → (m q : Name) → parent_in o m ≡ Some q → is_apart us q ≡ true
+  closed_by us none m q up = let k = right_parent m q up in let w = image_kind o homes q k.1.0 k.1.1 in by w.0 w.1 (is_among us w.0) refl
     where
       by : (u : List ℕ) → (q ≡ Vhd u) ⊎ (q ≡ Raw u) → (b : Bool) → is_among us u ≡ b → is_apart us q ≡ true
       by u (inl is) true at = absurd ((none u at).0 m (up ∙ ap Some is))
@@ -160,6 +191,15 @@ module _ (x : Content) (sound : first_fault x ≡ None) where
         let n = or_parts (is_among (forked d f g) leaf) (is_among (forked d f g) parent || false) (sym (ap (λ ns. list_any (is_among (forked d f g)) (elim (head ns) as (λ _. List (List ℕ)) [ None ↦ [] | Some n ↦ uuids_in n ])) one) ∙ h) in
         let m = or_parts (is_among (forked d f g) parent) false n.1 in
         ap₂ (λ x y. x || (y || false)) (other_among (forked d f g) leaf u n.0 is) (other_among (forked d f g) parent u m.0 is)
+
+    -- where its entry alone decides where a UUID stands, it decides
+    pub stands_near : (making t ≡ []) ⊎ (((v : List ℕ) × (extents : ℕ) × IsBeingEnlarged t v extents) ⊎ IsBeingForked t) → (y : VolumeTable) (u : List ℕ) → making y ≡ making t → is_among (swapped leaf parent) u ≡ true
+        → standing_volume y u ≡ beside y u
+    stands_near (inl none) y u made near = stands_beside y u (made ∙ none)
+    stands_near (inr (inl k)) y u made near = let h = k.2 in stands_making y u (Inflate k.0 k.1) (ap head (made ∙ h.entry))
+    stands_near (inr (inr k)) y u made near =
+        stands_making y u (Clone k.0 k.1 k.2) (ap head (made ∙ k.3))
+        ∙ fork_other y k.0 k.1 k.2 u (beside y u) (false_from_ne_true (is_among (forked k.0 k.1 k.2) u) (λ is. true≢false (sym near ∙ fork_free k.0 k.1 k.2 k.3 u is)))
 
     -- an old leaf is that of the leaf, while it is being swapped
     pub old_leaf : (u : List ℕ) (r : Row) → rows t (Old u) ≡ Some r → (u ≡ leaf) × ((is_leaf_renamed t leaf parent || is_leaf_swapped t leaf parent) ≡ true)

@@ -1,5 +1,5 @@
 -- A step at the end of a leaf's folding that leaves each image where it is: the image is shown, the old leaf goes, or the entry goes.
-use Rattle.std.proofs.Common.{◌≡◌, ◌≢◌, ◌⊎◌, inl, inr, ℕ, zero, suc, ◌*◌, ◌≤◌, ◌==◌, ◌&&◌, ◌||◌, not, nat_le, Bool, true, false, cond, List, [], ◌∷◌, length, Option, Some, None, is_none, is_some, refl, sym, ap, ap₂, ◌∙◌, subst, bytes_eq}
+use Rattle.std.proofs.Common.{◌≡◌, ◌≢◌, ◌⊎◌, inl, inr, ℕ, ◌*◌, ◌≤◌, ◌==◌, ◌&&◌, ◌||◌, not, nat_le, Bool, true, false, cond, List, [], ◌∷◌, length, Option, Some, None, is_none, is_some, refl, sym, ap, ap₂, ◌∙◌, subst, bytes_eq}
 use Rattle.std.proofs.lemmas.Bool.{true≢false, and_parts, and_from, or_right, and_right, false_from_ne_true}
 use Rattle.std.proofs.lemmas.Option.{same_Some}
 use Rattle.common_laws.specs.Lists.{In, ◌>>=◌}
@@ -19,22 +19,22 @@ use Rattle.sm_record.specs.Records.{reading}
 use Rattle.sm_machine.specs.WellFormed.{is_image_name}
 use Rattle.sm_standing.specs.Apart.{is_apart}
 use Rattle.sm_standing.specs.Besides.{PassesAlone, is_settled_name}
-use Rattle.sm_standing.specs.Changes.{parent_of}
-use Rattle.sm_standing.specs.Checks.{chain_length, children, first_fault, images, is_entry_linked, is_image_wrong, is_leaf_linked, is_linked, is_misplaced, is_no_larger, is_orphaned, is_parent_right, parent_is, tree_wrong_as}
+use Rattle.sm_standing.specs.Checks.{chain_length, children, fault_of, images, is_entry_linked, is_image_wrong, is_leaf_linked, is_linked, is_misplaced, is_no_larger, is_orphaned, is_parent_right, parent_is, tree_wrong_as}
 use Rattle.sm_standing.specs.Contents.{Content, sectors_of}
 use Rattle.sm_standing.specs.Entries.{are_past, folding, head, image_with, is_among, is_at_stage, is_folding, is_folding_leaf, is_inflating, is_making, is_past, is_there, making, of_row, uuids_in}
 use Rattle.sm_standing.specs.Images.{Image, image_extents, image_of, raw_image, vhd_image}
-use Rattle.sm_standing.specs.Outlines.{Link, Outline, link_of, outline}
+use Rattle.sm_standing.specs.Outlines.{HasImages, Link, Outline, parent_in}
 use Rattle.sm_standing.specs.PlainSound.{AllSound}
 use Rattle.sm_standing.specs.Readings.{SameReadings}
 use Rattle.sm_standing.specs.Standing.{disks, standing_volume, stands_forked, under}
 use Rattle.sm_standing.proofs.ApartLaws.{beside}
 use Rattle.sm_standing.proofs.Counts.{none_left}
 use Rattle.sm_standing.proofs.DisksShown.{row_of-In}
+use Rattle.sm_standing.proofs.EnlargingLaws.{chain_alike}
 use Rattle.sm_standing.proofs.ForkImages.{lost_as, misnamed_as}
 use Rattle.sm_standing.proofs.ForkPlaces.{under_parent}
 use Rattle.sm_standing.proofs.ImageLaws.{disks_as}
-use Rattle.sm_standing.proofs.LeafStages.{at_stage, closed_by, gone_nobodys, no_twin, IsNobodys}
+use Rattle.sm_standing.proofs.LeafStages.{IsNobodys, at_stage, closed_by, gone_nobodys, image_kind, no_image_name, no_twin}
 use Rattle.sm_standing.proofs.LeafSteps.{IsLeafStep, step_sound}
 use Rattle.sm_standing.proofs.NamedLaws.{all_past}
 use Rattle.sm_standing.proofs.PlainKept.{sound_all}
@@ -42,13 +42,6 @@ use Rattle.sm_standing.proofs.RecordLists.{first_of, record_of_first, records_sa
 use Rattle.sm_standing.proofs.VolumeLists.{found_in}
 
 -- ---- images, by the table
-
--- any other name has no image
-pub no_image_name : (c : Content) (n : Name) → is_image_name n ≡ false → image_of c n ≡ None
-unfolding image_of is_image_name
-no_image_name c (Vhd u) h = absurd (true≢false h)
-no_image_name c (Raw u) h = absurd (true≢false h)
-no_image_name c _ h = refl
 
 module _ (c : Content) (w : VolumeTable) where
   abbrev vhd_by : Name → Option Row → List Name → Option Image
@@ -92,142 +85,170 @@ near_one true h = refl
 near_one false h = absurd (true≢false h)
 
 -- the table w is that of x behind one such commit
-pub record IsSteady (x : Content) (leaf parent : List ℕ) (w : VolumeTable) : Type 0 where
-  pub table : IsTable x.count w
+pub record IsSteady (count : ℕ) (x : Outline) (leaf parent : List ℕ) (w : VolumeTable) : Type 0 where
+  pub table : IsTable count w
   pub later : x.table.sequence ≤ w.sequence
   pub apart : (n : Name) → is_apart (leaf ∷ []) n ≡ true → rows w n ≡ rows x.table n
   pub raw : rows w (Raw leaf) ≡ rows x.table (Raw leaf)
   pub own : Row
   pub before : rows x.table (Vhd leaf) ≡ Some own
   pub now : (rows w (Vhd leaf) ≡ Some own) ⊎ (rows w (Vhd leaf) ≡ Some (tagged Hidden false own))
-  pub nobodys : (m : Name) → parent_of x m ≢ Some (Vhd leaf)
+  pub nobodys : (m : Name) → parent_in x m ≢ Some (Vhd leaf)
   pub few : length (images w) ≤ length (images x.table)
   pub names : (r : Row) → In r w.volumes → (q : Row) × In q x.table.volumes × (q.name ≡ r.name)
   pub owned : (u : List ℕ) (r : Row) → rows w (Old u) ≡ Some r → is_orphaned w (Old u) ≡ false
   pub staged : folding w ≡ folding x.table → (is_folding_leaf w leaf parent ≡ true)
-      × (length (children (outline (record x { table = w })) (Vhd leaf)) ≡ 0 → is_leaf_linked (outline (record x { table = w })) leaf parent ≡ true)
+      × (length (children (record x { table = w }) (Vhd leaf)) ≡ 0 → is_leaf_linked (record x { table = w }) leaf parent ≡ true)
   pub stands : (u : List ℕ) → beside w u ≡ beside x.table u
   pub making : making w ≡ making x.table
   pub folding : (folding w ≡ folding x.table) ⊎ (folding w ≡ [])
 
-module _ (x : Content) (sound : first_fault x ≡ None) (leaf parent : List ℕ) (one : folding x.table ≡ Leaf leaf parent ∷ []) (w : VolumeTable) (k : IsSteady x leaf parent w) where
+-- whatever holds by the tables alone
+module _ {count : ℕ} {x : Outline} {leaf parent : List ℕ} {w : VolumeTable} (k : IsSteady count x leaf parent w) where
+  abbrev earlier : VolumeTable
+  earlier = x.table
+
+  abbrev ones : List (List ℕ)
+  ones = leaf ∷ []
+
+  -- ---- where each UUID stands
+
+  there_same : (u : List ℕ) → (is_there w (Vhd u) ≡ is_there earlier (Vhd u)) × (is_there w (Raw u) ≡ is_there earlier (Raw u))
+  there_same u = by (is_among ones u) refl
+    where
+      shown : (rows w (Vhd leaf) ≡ Some k.own) ⊎ (rows w (Vhd leaf) ≡ Some (tagged Hidden false k.own)) → is_there w (Vhd leaf) ≡ is_there earlier (Vhd leaf)
+      shown (inl is) = ap is_some is ∙ sym (ap is_some k.before)
+      shown (inr is) = ap is_some is ∙ sym (ap is_some k.before)
+
+      by : (c : Bool) → is_among ones u ≡ c → (is_there w (Vhd u) ≡ is_there earlier (Vhd u)) × (is_there w (Raw u) ≡ is_there earlier (Raw u))
+      by true is =
+          let same = among_one leaf u is in (
+            subst (λ v. is_there w (Vhd v) ≡ is_there earlier (Vhd v)) (sym same) (shown k.now),
+            subst (λ v. is_there w (Raw v) ≡ is_there earlier (Raw v)) (sym same) (ap is_some k.raw),
+          )
+      by false is = (ap is_some (k.apart (Vhd u) (ap not is_or)), ap is_some (k.apart (Raw u) (ap not is_or)))
+        where
+          is_or : (bytes_eq leaf u || false) || false ≡ false
+          is_or = ap (λ c. c || false) is
+
+  image_with_same : (u : List ℕ) → image_with w u ≡ image_with earlier u
+  unfolding image_with
+  image_with_same u = let h = there_same u in ap₂ (λ a c. cond a (Some (Vhd u)) (cond c (Some (Raw u)) None)) h.0 h.1
+
+  forked_same : (y : Option Name) (u : List ℕ) (plainly : Option Name) → under (λ e. stands_forked w e u) y plainly ≡ under (λ e. stands_forked earlier e u) y plainly
+  forked_same None u plainly = refl
+  forked_same (Some (Clone d f g)) u plainly =
+      ap (λ i. cond (bytes_eq u d) (elim i as (λ _. Option Name) [ None ↦ plainly | Some n ↦ Some n ]) (cond (bytes_eq u f || bytes_eq u g) None plainly)) (image_with_same f)
+  forked_same (Some _) u plainly = refl
+
+  pub steady_stands : (u : List ℕ) → standing_volume w u ≡ standing_volume earlier u
+  unfolding standing_volume
+  steady_stands u = ap₂ (λ ns p. under (λ e. stands_forked w e u) (head ns) p) k.making (k.stands u) ∙ forked_same (head (making earlier)) u (beside earlier u)
+
+  -- ---- a content with them
+
+  module _ (c : Content) where
+    abbrev a : Content
+    a = record c { table = earlier }
+
+    abbrev b : Content
+    b = record c { table = w }
+
+    -- the same images
+    pub steady_images : (n : Name) → image_of b n ≡ image_of a n
+    unfolding is_image_name
+    steady_images n = by (is_apart ones n) refl n refl
+      where
+        none_of : (m : Name) → is_image_name m ≡ false → image_of b m ≡ image_of a m
+        none_of m h = no_image_name b m h ∙ sym (no_image_name a m h)
+
+        shown : (rows w (Vhd leaf) ≡ Some k.own) ⊎ (rows w (Vhd leaf) ≡ Some (tagged Hidden false k.own)) → image_of b (Vhd leaf) ≡ image_of a (Vhd leaf)
+        shown (inl is) = image_same a w (Vhd leaf) (is ∙ sym k.before) k.making
+        shown (inr is) = image_shown a w leaf k.own k.before is k.making
+
+        by : (c : Bool) → is_apart ones n ≡ c → (m : Name) → n ≡ m → image_of b n ≡ image_of a n
+        by true is m at = image_same a w n (k.apart n is) k.making
+        by false is (Vhd u) at =
+            let same = among_one leaf u (near_one (is_among ones u) (sym (ap (is_apart ones) at) ∙ is)) in
+            let name = at ∙ ap Vhd same in
+            ap (image_of b) name ∙ shown k.now ∙ ap (image_of a) (sym name)
+        by false is (Raw u) at =
+            let same = among_one leaf u (near_one (is_among ones u) (sym (ap (is_apart ones) at) ∙ is)) in
+            let name = at ∙ ap Raw same in
+            ap (image_of b) name ∙ image_same a w (Raw leaf) k.raw k.making ∙ ap (image_of a) (sym name)
+        by false is Mgt at = ap (image_of b) at ∙ none_of Mgt refl ∙ ap (image_of a) (sym at)
+        by false is (Old u) at = ap (image_of b) at ∙ none_of (Old u) refl ∙ ap (image_of a) (sym at)
+        by false is (Clone d f g) at = ap (image_of b) at ∙ none_of (Clone d f g) refl ∙ ap (image_of a) (sym at)
+        by false is (Inflate d f) at = ap (image_of b) at ∙ none_of (Inflate d f) refl ∙ ap (image_of a) (sym at)
+        by false is (Coalesce d f) at = ap (image_of b) at ∙ none_of (Coalesce d f) refl ∙ ap (image_of a) (sym at)
+        by false is (Relink d f) at = ap (image_of b) at ∙ none_of (Relink d f) refl ∙ ap (image_of a) (sym at)
+        by false is (Leaf d f) at = ap (image_of b) at ∙ none_of (Leaf d f) refl ∙ ap (image_of a) (sym at)
+
+    readings : SameReadings a b
+    readings = readings_same a w (k.apart Mgt refl)
+
+    -- the same disks
+    pub steady_disks : disks b ≡ disks a
+    steady_disks = disks_as a b steady_stands steady_images (λ u. record_of_first b u ∙ ap first_of (records_same a b u readings) ∙ sym (record_of_first a u))
+
+module _ {count : ℕ} (x : Outline) (homes : HasImages x) (sound : fault_of x ≡ None) (leaf parent : List ℕ) (one : folding x.table ≡ Leaf leaf parent ∷ []) (w : VolumeTable) (k : IsSteady count x leaf parent w) where
   abbrev t : VolumeTable
   t = x.table
-
-  abbrev b : Content
-  b = record x { table = w }
 
   abbrev us : List (List ℕ)
   us = leaf ∷ []
 
-  abbrev o : Outline
-  o = outline x
-
+  -- each image is linked as before
   abbrev new : Outline
-  new = outline b
+  new = record x { table = w }
 
   s : AllSound x
   s = sound_all x sound
 
-  -- ---- the same images
-
-  pub steady_images : (n : Name) → image_of b n ≡ image_of x n
-  unfolding is_image_name
-  steady_images n = by (is_apart us n) refl n refl
-    where
-      none_of : (m : Name) → is_image_name m ≡ false → image_of b m ≡ image_of x m
-      none_of m h = no_image_name b m h ∙ sym (no_image_name x m h)
-
-      shown : (rows w (Vhd leaf) ≡ Some k.own) ⊎ (rows w (Vhd leaf) ≡ Some (tagged Hidden false k.own)) → image_of b (Vhd leaf) ≡ image_of x (Vhd leaf)
-      shown (inl is) = image_same x w (Vhd leaf) (is ∙ sym k.before) k.making
-      shown (inr is) = image_shown x w leaf k.own k.before is k.making
-
-      by : (c : Bool) → is_apart us n ≡ c → (m : Name) → n ≡ m → image_of b n ≡ image_of x n
-      by true is m at = image_same x w n (k.apart n is) k.making
-      by false is (Vhd u) at =
-          let same = among_one leaf u (near_one (is_among us u) (sym (ap (is_apart us) at) ∙ is)) in
-          let name = at ∙ ap Vhd same in
-          ap (image_of b) name ∙ shown k.now ∙ ap (image_of x) (sym name)
-      by false is (Raw u) at =
-          let same = among_one leaf u (near_one (is_among us u) (sym (ap (is_apart us) at) ∙ is)) in
-          let name = at ∙ ap Raw same in
-          ap (image_of b) name ∙ image_same x w (Raw leaf) k.raw k.making ∙ ap (image_of x) (sym name)
-      by false is Mgt at = ap (image_of b) at ∙ none_of Mgt refl ∙ ap (image_of x) (sym at)
-      by false is (Old u) at = ap (image_of b) at ∙ none_of (Old u) refl ∙ ap (image_of x) (sym at)
-      by false is (Clone d f g) at = ap (image_of b) at ∙ none_of (Clone d f g) refl ∙ ap (image_of x) (sym at)
-      by false is (Inflate d f) at = ap (image_of b) at ∙ none_of (Inflate d f) refl ∙ ap (image_of x) (sym at)
-      by false is (Coalesce d f) at = ap (image_of b) at ∙ none_of (Coalesce d f) refl ∙ ap (image_of x) (sym at)
-      by false is (Relink d f) at = ap (image_of b) at ∙ none_of (Relink d f) refl ∙ ap (image_of x) (sym at)
-      by false is (Leaf d f) at = ap (image_of b) at ∙ none_of (Leaf d f) refl ∙ ap (image_of x) (sym at)
-
-  pub links_same : (n : Name) → new.links n ≡ o.links n
-  links_same n = ap link_of (steady_images n)
-
-  parents_same : (m q : Name) → parent_of b m ≡ Some q → parent_of x m ≡ Some q
-  parents_same m q up = sym (ap (λ (l : Option Link). l >>= (λ (i : Link). i.parent)) (links_same m)) ∙ up
-
   -- ---- the leaf's image passes
 
   raw_gone : is_there t (Raw leaf) ≡ false
-  raw_gone = no_twin x sound leaf k.own k.before
+  raw_gone = no_twin x homes sound leaf k.own k.before
 
-  closed : (m q : Name) → parent_of x m ≡ Some q → is_apart us q ≡ true
-  closed = closed_by x sound us (λ u is.
+  closed : (m q : Name) → parent_in x m ≡ Some q → is_apart us q ≡ true
+  closed = closed_by x homes sound us (λ u is.
       let same = among_one leaf u is in (
-        subst (λ v. IsNobodys x sound (Vhd v)) (sym same) k.nobodys,
-        subst (λ v. IsNobodys x sound (Raw v)) (sym same) (λ m up. raw_nobodys m up),
+        subst (λ v. IsNobodys x homes sound (Vhd v)) (sym same) k.nobodys,
+        subst (λ v. IsNobodys x homes sound (Raw v)) (sym same) (λ m up. raw_nobodys m up),
       ))
     where
-      raw_nobodys : (m : Name) → parent_of x m ≢ Some (Raw leaf)
-      raw_nobodys = gone_nobodys x sound (Raw leaf) raw_gone
-
-  chain_same : (most : ℕ) (n : Name) → chain_length new most n ≡ chain_length o most n
-  unfolding chain_length
-  chain_same zero n = refl
-  chain_same (suc most) n =
-      ap (λ (y : Option Link). elim y as (λ _. ℕ) [ None ↦ 0 | Some i ↦ suc (elim i.parent as (λ _. ℕ) [ None ↦ 0 | Some p ↦ chain_length new most p ]) ]) (links_same n)
-      ∙ by (λ p. chain_same most p) (o.links n)
-    where
-      up : ((p : Name) → chain_length new most p ≡ chain_length o most p) → (y : Option Name)
-          → elim y as (λ _. ℕ) [ None ↦ 0 | Some p ↦ chain_length new most p ] ≡ elim y as (λ _. ℕ) [ None ↦ 0 | Some p ↦ chain_length o most p ]
-      up rest None = refl
-      up rest (Some p) = rest p
-
-      by : ((p : Name) → chain_length new most p ≡ chain_length o most p) → (y : Option Link)
-          → elim y as (λ _. ℕ) [ None ↦ 0 | Some i ↦ suc (elim i.parent as (λ _. ℕ) [ None ↦ 0 | Some p ↦ chain_length new most p ]) ]
-          ≡ elim y as (λ _. ℕ) [ None ↦ 0 | Some i ↦ suc (elim i.parent as (λ _. ℕ) [ None ↦ 0 | Some p ↦ chain_length o most p ]) ]
-      by rest None = refl
-      by rest (Some i) = ap suc (up rest i.parent)
+      raw_nobodys : (m : Name) → parent_in x m ≢ Some (Raw leaf)
+      raw_nobodys = gone_nobodys x homes sound (Raw leaf) raw_gone
 
   no_children : length (children new (Vhd leaf)) ≡ 0
   unfolding children
   no_children =
       ap length (none_left (λ r. parent_is (Vhd leaf) (new.links r.name)) w.volumes (λ r i. false_from_ne_true (parent_is (Vhd leaf) (new.links r.name)) (λ e.
-      k.nobodys r.name (parents_same r.name (Vhd leaf) (under_parent (Vhd leaf) (new.links r.name) e)))))
+      k.nobodys r.name (under_parent (Vhd leaf) (x.links r.name) e))))
 
-  linked_still : (i : Link) → o.links (Vhd leaf) ≡ Some i → is_linked o i ≡ true → is_linked new i ≡ true
+  linked_still : (i : Link) → x.links (Vhd leaf) ≡ Some i → is_linked x i ≡ true → is_linked new i ≡ true
   linked_still i at h = by i.parent refl h
     where
-      by : (y : Option Name) → i.parent ≡ y → elim y as (λ _. Bool) [ None ↦ true | Some p ↦ is_parent_right o i.size p ] ≡ true → elim y as (λ _. Bool) [ None ↦ true | Some p ↦ is_parent_right new i.size p ] ≡ true
+      by : (y : Option Name) → i.parent ≡ y → elim y as (λ _. Bool) [ None ↦ true | Some p ↦ is_parent_right x i.size p ] ≡ true → elim y as (λ _. Bool) [ None ↦ true | Some p ↦ is_parent_right new i.size p ] ≡ true
       by None is f = refl
       by (Some p) is f =
-          ap₂ (λ r l. of_row (λ r. r.hidden && not r.fresh) r && is_no_larger i.size l) (k.apart p (closed (Vhd leaf) p (ap (λ (l : Option Link). l >>= (λ (j : Link). j.parent)) at ∙ is))) (links_same p) ∙ f
+          ap (λ r. of_row (λ r. r.hidden && not r.fresh) r && is_no_larger i.size (x.links p)) (k.apart p (closed (Vhd leaf) p (ap (λ (l : Option Link). l >>= (λ (j : Link). j.parent)) at ∙ is))) ∙ f
 
-  placed_still : (r q : Row) → r.name ≡ Vhd leaf → q.name ≡ Vhd leaf → In q t.volumes → (l : Option Link) → o.links (Vhd leaf) ≡ l → is_misplaced new r l ≡ false
+  placed_still : (r q : Row) → r.name ≡ Vhd leaf → q.name ≡ Vhd leaf → In q t.volumes → (l : Option Link) → x.links (Vhd leaf) ≡ l → is_misplaced new r l ≡ false
   placed_still r q named was i None at = refl
   placed_still r q named was i (Some l) at =
-      let p = and_parts (is_linked o l) (nat_le (chain_length o 31 q.name) 30 && (q.hidden || (length (children o q.name) == 0)))
-      (not_false _ (sym (ap (tree_wrong_as o q) was ∙ ap (is_misplaced o q) at) ∙ s.placed q i)) in
-      let c = and_parts (nat_le (chain_length o 31 q.name) 30) (q.hidden || (length (children o q.name) == 0)) p.1 in
+      let p = and_parts (is_linked x l) (nat_le (chain_length x 31 q.name) 30 && (q.hidden || (length (children x q.name) == 0)))
+      (not_false _ (sym (ap (tree_wrong_as x q) was ∙ ap (is_misplaced x q) at) ∙ s.placed q i)) in
+      let c = and_parts (nat_le (chain_length x 31 q.name) 30) (q.hidden || (length (children x q.name) == 0)) p.1 in
       all_hold (is_linked new l) (nat_le (chain_length new 31 r.name) 30) (r.hidden || (length (children new r.name) == 0)) (linked_still l at p.0)
-      (ap (λ n. nat_le n 30) (chain_same 31 r.name ∙ ap (chain_length o 31) (named ∙ sym was)) ∙ c.0)
+      (ap (λ n. nat_le n 30) (chain_alike x w 31 r.name ∙ ap (chain_length x 31) (named ∙ sym was)) ∙ c.0)
       (or_right r.hidden (length (children new r.name) == 0) (ap (λ n. length (children new n) == 0) named ∙ ap (λ n. n == 0) no_children))
 
   past_still : (n : Name) → are_past t n ≡ true → are_past w n ≡ true
   past_still n h = all_past (uuids_in n) t.sequence w.sequence k.later h
 
   leaf_past : are_past t (Vhd leaf) ≡ true
-  leaf_past = let h = and_parts (is_past t.sequence leaf) (is_past t.sequence parent && true) (at_stage x sound leaf parent one).1 in and_from (is_past t.sequence leaf) true h.0 refl
+  leaf_past = let h = and_parts (is_past t.sequence leaf) (is_past t.sequence parent && true) (at_stage x homes sound leaf parent one).1 in and_from (is_past t.sequence leaf) true h.0 refl
 
   vhd_passes : (r : Row) → In r w.volumes → r.name ≡ Vhd leaf → PassesAlone new r
   unfolding is_entry_linked
@@ -235,9 +256,9 @@ module _ (x : Content) (sound : first_fault x ≡ None) (leaf parent : List ℕ)
     named = ap (misnamed_as w) named ∙ ap₂ (λ a c. a || not c) (ap is_some k.raw ∙ raw_gone) (past_still (Vhd leaf) leaf_past);
     at_stage = ap (lost_as w) named;
     owned = ap (is_orphaned w) named;
-    valid = ap (λ n. not r.fresh && is_image_wrong new r n) named ∙ ap₂ (λ f l. not f && is_none l) (fresh_same k.now) (links_same (Vhd leaf))
-        ∙ sym (ap (λ n. not k.own.fresh && is_image_wrong o k.own n) own_named) ∙ s.valid k.own own_in;
-    placed = ap (tree_wrong_as new r) named ∙ ap (is_misplaced new r) (links_same (Vhd leaf)) ∙ placed_still r k.own named own_named own_in (o.links (Vhd leaf)) refl;
+    valid = ap (λ n. not r.fresh && is_image_wrong new r n) named ∙ ap (λ f. not f && is_none (x.links (Vhd leaf))) (fresh_same k.now)
+        ∙ sym (ap (λ n. not k.own.fresh && is_image_wrong x k.own n) own_named) ∙ s.valid k.own own_in;
+    placed = ap (tree_wrong_as new r) named ∙ placed_still r k.own named own_named own_in (x.links (Vhd leaf)) refl;
     linked = ap (is_entry_linked new) named;
   }
     where
@@ -283,7 +304,7 @@ module _ (x : Content) (sound : first_fault x ≡ None) (leaf parent : List ℕ)
       passes : r.name ≡ Leaf leaf parent → (is_folding_leaf w leaf parent ≡ true) × (length (children new (Vhd leaf)) ≡ 0 → is_leaf_linked new leaf parent ≡ true) → PassesAlone new r
       passes is h = record {
         named = ap (misnamed_as w) is;
-        at_stage = ap (lost_as w) is ∙ ap₂ (λ p q. not (p && q)) h.0 (past_still (Leaf leaf parent) (at_stage x sound leaf parent one).1);
+        at_stage = ap (lost_as w) is ∙ ap₂ (λ p q. not (p && q)) h.0 (past_still (Leaf leaf parent) (at_stage x homes sound leaf parent one).1);
         owned = ap (is_orphaned w) is;
         valid = ap (λ n. not r.fresh && is_image_wrong new r n) is ∙ and_right (not r.fresh) false refl;
         placed = ap (tree_wrong_as new r) is;
@@ -322,43 +343,6 @@ module _ (x : Content) (sound : first_fault x ≡ None) (leaf parent : List ℕ)
   passes r i (Relink a c) named e m = absurd (not_folding r i (ap is_folding named) (λ is. let z = sym named ∙ is in cc))
   passes r i (Leaf a c) named e m = leaf_passes r a c i named
 
-  -- ---- where each UUID stands
-
-  there_same : (u : List ℕ) → (is_there w (Vhd u) ≡ is_there t (Vhd u)) × (is_there w (Raw u) ≡ is_there t (Raw u))
-  there_same u = by (is_among us u) refl
-    where
-      shown : (rows w (Vhd leaf) ≡ Some k.own) ⊎ (rows w (Vhd leaf) ≡ Some (tagged Hidden false k.own)) → is_there w (Vhd leaf) ≡ is_there t (Vhd leaf)
-      shown (inl is) = ap is_some is ∙ sym (ap is_some k.before)
-      shown (inr is) = ap is_some is ∙ sym (ap is_some k.before)
-
-      by : (c : Bool) → is_among us u ≡ c → (is_there w (Vhd u) ≡ is_there t (Vhd u)) × (is_there w (Raw u) ≡ is_there t (Raw u))
-      by true is =
-          let same = among_one leaf u is in (
-            subst (λ v. is_there w (Vhd v) ≡ is_there t (Vhd v)) (sym same) (shown k.now),
-            subst (λ v. is_there w (Raw v) ≡ is_there t (Raw v)) (sym same) (ap is_some k.raw),
-          )
-      by false is = (ap is_some (k.apart (Vhd u) (ap not is_or)), ap is_some (k.apart (Raw u) (ap not is_or)))
-        where
-          is_or : (bytes_eq leaf u || false) || false ≡ false
-          is_or = ap (λ c. c || false) is
-
-  image_with_same : (u : List ℕ) → image_with w u ≡ image_with t u
-  unfolding image_with
-  image_with_same u = let h = there_same u in ap₂ (λ a c. cond a (Some (Vhd u)) (cond c (Some (Raw u)) None)) h.0 h.1
-
-  forked_same : (y : Option Name) (u : List ℕ) (plainly : Option Name) → under (λ e. stands_forked w e u) y plainly ≡ under (λ e. stands_forked t e u) y plainly
-  forked_same None u plainly = refl
-  forked_same (Some (Clone d f g)) u plainly =
-      ap (λ i. cond (bytes_eq u d) (elim i as (λ _. Option Name) [ None ↦ plainly | Some n ↦ Some n ]) (cond (bytes_eq u f || bytes_eq u g) None plainly)) (image_with_same f)
-  forked_same (Some _) u plainly = refl
-
-  pub steady_stands : (u : List ℕ) → standing_volume w u ≡ standing_volume t u
-  unfolding standing_volume
-  steady_stands u = ap₂ (λ ns p. under (λ e. stands_forked w e u) (head ns) p) k.making (k.stands u) ∙ forked_same (head (making t)) u (beside t u)
-
-  readings : SameReadings x b
-  readings = readings_same x w (k.apart Mgt refl)
-
   inflating_same : (u : List ℕ) (extents : ℕ) → is_inflating w u extents ≡ is_inflating t u extents
   inflating_same u extents = by (is_among us u) refl
     where
@@ -370,22 +354,23 @@ module _ (x : Content) (sound : first_fault x ≡ None) (leaf parent : List ℕ)
       by true is = subst (λ v. is_inflating w v extents ≡ is_inflating t v extents) (sym (among_one leaf u is)) (shown k.now)
       by false is = ap (of_row (λ r. not r.fresh && nat_le extents (length r.extents))) (k.apart (Vhd u) (ap (λ c. not (c || false)) is))
 
-  steady_step : IsLeafStep x b leaf parent us
+  steady_step : IsLeafStep x new leaf parent us
   steady_step = record {
     extent = refl;
     block = refl;
     entries = refl;
     later = k.later;
     found = found;
-    apart = record { rows = k.apart; images = λ n apart. steady_images n };
+    rows_apart = k.apart;
+    links_apart = λ n apart. refl;
     within = λ u none. first_none (bytes_eq leaf u) (bytes_eq parent u) none;
     closed = λ m q apart up. closed m q up;
     few = k.few;
-    readings = readings;
-    below = λ r i inside near is. let q = k.names r inside in (q.0, q.1, ap o.links q.2 ∙ sym (links_same r.name) ∙ is, ap (is_apart us) q.2 ∙ near);
+    readings = refl;
+    below = λ r i inside near is. let q = k.names r inside in (q.0, q.1, ap x.links q.2 ∙ is, ap (is_apart us) q.2 ∙ near);
     inflating = λ u extents i. inflating_same u extents;
     volumes = λ r i e m. passes r i r.name refl e m;
-    standing = λ u h. sym (ap is_some (steady_stands u)) ∙ h;
+    standing = λ u h. sym (ap is_some (steady_stands k u)) ∙ h;
     making = k.making;
     folding = k.folding;
   }
@@ -394,8 +379,16 @@ module _ (x : Content) (sound : first_fault x ≡ None) (leaf parent : List ℕ)
       first_none true q h = absurd (true≢false h)
       first_none false q h = refl
 
-  pub steady_sound : first_fault b ≡ None
+  pub steady_sound : fault_of new ≡ None
   steady_sound = step_sound sound one steady_step
 
-  pub steady_disks : disks b ≡ disks x
-  steady_disks = disks_as x b steady_stands steady_images (λ u. record_of_first b u ∙ ap first_of (records_same x b u readings) ∙ sym (record_of_first x u))
+  pub steady_homes : HasImages new
+  steady_homes = record {
+    named = homes.named;
+    there = λ n i is. let u = image_kind x homes n i is in by n u.0 u.1 (homes.there n i is);
+    alone = homes.alone;
+  }
+    where
+      by : (n : Name) (u : List ℕ) → (n ≡ Vhd u) ⊎ (n ≡ Raw u) → is_there t n ≡ true → is_there w n ≡ true
+      by n u (inl is) h = ap (is_there w) is ∙ (there_same k u).0 ∙ ap (is_there t) (sym is) ∙ h
+      by n u (inr is) h = ap (is_there w) is ∙ (there_same k u).1 ∙ ap (is_there t) (sym is) ∙ h

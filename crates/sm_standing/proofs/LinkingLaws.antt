@@ -42,13 +42,13 @@ use Rattle.sm_standing.proofs.ForkParts.{entry_found}
 use Rattle.sm_standing.proofs.ImageLaws.{image_there}
 use Rattle.sm_standing.proofs.NamedLaws.{all_past}
 use Rattle.sm_standing.proofs.PlainDisks.{all-In, no_making, simple_folding}
-use Rattle.sm_standing.proofs.PlainKept.{all-of, known_kept, plain_simple_name, simple_today, today_sound}
+use Rattle.sm_standing.proofs.PlainKept.{all-of, known_kept, plain_simple_name, simple_but_leaf, but_leaf_sound}
 use Rattle.sm_standing.proofs.UndoneLaws.{named_found}
-use Rattle.sm_standing.proofs.UndoneToday.{SpeaksNoFork, today_permits, today_undone, undoing_disks, undoing_hidden, undoing_images, undoing_kept}
+use Rattle.sm_standing.proofs.UndoneButLeaf.{SpeaksNoFork, but_leaf_permits, but_leaf_undone, undoing_disks, undoing_hidden, undoing_images, undoing_kept}
 use Rattle.sm_standing.proofs.UnfoldedContents.{bare, disks_bare, holding_bare, images_bare, sound_bare, sound_with}
 use Rattle.sm_standing.proofs.UnfoldedLaws.{IsFold, alone, bare_at, fold_link, hidden_bare, making_bare}
 use Rattle.sm_standing.proofs.UnfoldedRuns.{IsBesideRun, beside_run, changes_bare, names_run, rise, rise_is, rise_raised, take_permits, take_spares, undo_spares}
-use Rattle.sm_standing.proofs.UnfoldedToday.{fold_permits, fold_row, unfolded_is}
+use Rattle.sm_standing.proofs.UnfoldedButLeaf.{fold_permits, fold_row, unfolded_is}
 
 -- ---- what the entry says
 
@@ -256,7 +256,7 @@ module _ (c : Content) (s : KnownSound c) (child parent : List ℕ) (one : foldi
     changes_d = changes_bare e f t.sequence t
 
     permits_d : AllPermit c.count d.table cs
-    permits_d = subst (AllPermit c.count d.table) changes_d (today_permits d table_d geometry sound_d)
+    permits_d = subst (AllPermit c.count d.table) changes_d (but_leaf_permits d table_d geometry sound_d)
 
     pub link_permits : AllPermit c.count t cs
     link_permits = (beside_run e f c.count t.sequence t cs (undo_spares t) table permits_d).permits
@@ -364,7 +364,7 @@ module _ (c : Content) (s : KnownSound c) (child parent : List ℕ) (one : foldi
           kept_less = undoing_kept d table_d geometry sound_d (holding_bare c e f t.sequence holding) less area k.undoing same
 
           sound_less : SimpleSound (with_table d less area)
-          sound_less = today_sound (with_table d less area) (simple_today (with_table d less area) kept_less.sound k.simple) (simple_folding less.volumes k.simple)
+          sound_less = but_leaf_sound (with_table d less area) (simple_but_leaf (with_table d less area) kept_less.sound k.simple) (simple_folding less.volumes k.simple)
 
           pub link_sound : KnownSound b
           link_sound = sound_with b e f w.sequence with_one (omega arith) stage_still past_still linked_still (λ r i disk base twin is. fork_still r i disk base twin is) sound_less
@@ -399,7 +399,7 @@ module _ (c : Content) (s : KnownSound c) (child parent : List ℕ) (one : foldi
     link_quiet =
         sym (making_bare e f (undone t) (undone t).sequence)
         ∙ ap making (last_same ∙ ap (applied_all d.table) (sym changes_d))
-        ∙ no_making (undone d.table).volumes (today_undone d table_d geometry sound_d).plain
+        ∙ no_making (undone d.table).volumes (but_leaf_undone d table_d geometry sound_d).plain
       where
         last_same : bare_at e (undone t).sequence (undone t) ≡ applied_all d.table cs
         last_same = ap (λ q. bare_at e q (undone t)) (rise_is e f t cs) ∙ sym (beside_run e f c.count t.sequence t cs (undo_spares t) table permits_d).same
@@ -417,4 +417,4 @@ module _ (c : Content) (s : KnownSound c) (child parent : List ℕ) (one : foldi
         run : IsBesideRun e f c.count (raised t.sequence) t cs
         run = beside_run e f c.count (raised t.sequence) t cs (undo_spares t) table
             (subst (AllPermit c.count (bare_at e (raised t.sequence) t)) (changes_bare e f (raised t.sequence) t)
-            (today_permits (bare c e f (raised t.sequence)) (IsTable-applied c.count t (Remove e) table (fold_permits c.count t e one)) geometry (sound_bare c e f (raised t.sequence) one (omega (arith, table.sequence)) s)))
+            (but_leaf_permits (bare c e f (raised t.sequence)) (IsTable-applied c.count t (Remove e) table (fold_permits c.count t e one)) geometry (sound_bare c e f (raised t.sequence) one (omega (arith, table.sequence)) s)))

@@ -1,5 +1,5 @@
 -- A repository in which nothing is under way but that images may be being enlarged, disks forked, and images copied or linked, is
--- sound exactly fact by fact; it is kept where it holds well; and then today's checks pass.
+-- sound exactly fact by fact; it is kept where it holds well; and then the checks of all but a leaf's folding pass.
 use Rattle.std.proofs.Common.{eq-eqb, ◌≡◌, ℕ, ◌≤◌, inl, inr, Bool, true, false, cond, not, ◌&&◌, ◌||◌, ◌==◌, List, [], ◌∷◌, length, Option, Some, None, is_some, refl, sym, ap, ap₂, ◌∙◌, arith, nat_lt}
 use Rattle.std.specs.List.{AllByRecursion, filter, list_any}
 use Rattle.std.proofs.lemmas.Bool.{true≢false, le-ltb, ltb-false, eqb-true}
@@ -14,7 +14,7 @@ use Rattle.sm_base.specs.declared.names.Name.{Name}
 use Rattle.sm_base.specs.declared.names.Name.TheVariants.{Mgt, Vhd, Raw, Old, Clone, Inflate, Coalesce, Relink, Leaf}
 use Rattle.vg_layout.specs.Places.{record_extents}
 use Rattle.sm_base.specs.Kinds.{is_entry}
-use Rattle.vg_meta.specs.Tables.{VolumeTable, Row, names_of}
+use Rattle.vg_meta.specs.Tables.{VolumeTable, Row, names_of, rows}
 use Rattle.vg_meta.proofs.ExtentLaws.{All-weaken}
 use Rattle.vg_meta.proofs.RowLaws.{row_of-name}
 use Rattle.common_laws.specs.Lists.{In, numbers}
@@ -23,7 +23,7 @@ use Rattle.sm_standing.specs.PlainSound.{AllSound, PlainSound, SimpleSound, Know
 use Rattle.sm_standing.specs.Contents.{Content, row, record_count, is_record_of}
 use Rattle.sm_standing.specs.Entries.{are_past, folding, is_at_stage, is_folding, is_making, is_old_of, making, second}
 use Rattle.sm_standing.specs.Standing.{standing_volume, uuids}
-use Rattle.sm_standing.specs.Checks.{placed, has_records, record_volume_fault, images, too_many_fault, misnamed_fault, lesser, second_entry_fault, lost_entry_fault, is_orphaned, old_leaf_fault, invalid_fault, tree_fault, is_entry_linked, entry_link_fault, record_place, record_fault, disk_place, disk_uuids, is_unrecorded, disk_fault, all_faults, faults_today, fault_of, first_fault, is_damaged, is_entry_ahead, entry_ahead_fault, fault_today_of, first_fault_today}
+use Rattle.sm_standing.specs.Checks.{placed, has_records, record_volume_fault, images, too_many_fault, misnamed_fault, lesser, second_entry_fault, lost_entry_fault, is_orphaned, old_leaf_fault, invalid_fault, tree_fault, is_entry_linked, entry_link_fault, record_place, record_fault, disk_place, disk_uuids, is_unrecorded, disk_fault, all_faults, faults_but_leaf, fault_of, first_fault, is_damaged, is_leaf_entry, leaf_entry_fault, fault_but_leaf_of, first_fault_but_leaf}
 use Rattle.sm_standing.specs.Outlines.{Outline, outline, outline_records}
 use Rattle.sm_standing.specs.Keeping.{HasNoEmptySlot, HoldsWell, IsKept}
 use Rattle.common_laws.proofs.Lists.{find_none, none_find, none_first, first_none, numbers-In, In-numbers, In-filter, filter-In}
@@ -49,17 +49,17 @@ not_special _ h = absurd (true≢false (sym h))
 
 -- nor is a known one
 pub record NotAhead (n : Name) : Type 0 where
-  pub no_entry_ahead : is_entry_ahead n ≡ false
+  pub no_leaf_entry : is_leaf_entry n ≡ false
   pub no_old_name : (t : VolumeTable) → is_orphaned t n ≡ false
 
 pub not_ahead : (n : Name) → is_known_name n ≡ true → NotAhead n
-not_ahead Mgt h = record { no_entry_ahead = refl; no_old_name = λ t. refl }
-not_ahead (Raw u) h = record { no_entry_ahead = refl; no_old_name = λ t. refl }
-not_ahead (Vhd u) h = record { no_entry_ahead = refl; no_old_name = λ t. refl }
-not_ahead (Clone disk base twin) h = record { no_entry_ahead = refl; no_old_name = λ t. refl }
-not_ahead (Inflate u extents) h = record { no_entry_ahead = refl; no_old_name = λ t. refl }
-not_ahead (Coalesce child parent) h = record { no_entry_ahead = refl; no_old_name = λ t. refl }
-not_ahead (Relink child parent) h = record { no_entry_ahead = refl; no_old_name = λ t. refl }
+not_ahead Mgt h = record { no_leaf_entry = refl; no_old_name = λ t. refl }
+not_ahead (Raw u) h = record { no_leaf_entry = refl; no_old_name = λ t. refl }
+not_ahead (Vhd u) h = record { no_leaf_entry = refl; no_old_name = λ t. refl }
+not_ahead (Clone disk base twin) h = record { no_leaf_entry = refl; no_old_name = λ t. refl }
+not_ahead (Inflate u extents) h = record { no_leaf_entry = refl; no_old_name = λ t. refl }
+not_ahead (Coalesce child parent) h = record { no_leaf_entry = refl; no_old_name = λ t. refl }
+not_ahead (Relink child parent) h = record { no_leaf_entry = refl; no_old_name = λ t. refl }
 not_ahead _ h = absurd (true≢false (sym h))
 
 -- a simple volume is a known one, and a known one that is no entry of a copy or a link is simple
@@ -203,14 +203,14 @@ plain_sound c s = simple_sound c (plain_is_simple c s)
 pub plain_kept : (c : Content) → PlainSound c → HasNoEmptySlot c → IsKept c
 plain_kept c s = simple_kept c (plain_is_simple c s)
 
--- ---- from today's checks to the facts
+-- ---- from the checks of all but a leaf's folding to the facts
 
-not_old : (t : VolumeTable) (u : List ℕ) (n : Name) → is_entry_ahead n ≡ false → is_old_of t u n ≡ false
+not_old : (t : VolumeTable) (u : List ℕ) (n : Name) → is_leaf_entry n ≡ false → is_old_of t u n ≡ false
 not_old t u (Leaf leaf parent) h = absurd (true≢false h)
 not_old t u _ h = refl
 
 -- no entry takes an old leaf for its own, where no leaf is being folded
-pub none_old : (t : VolumeTable) (u : List ℕ) (rs : List Row) → ((r : Row) → In r rs → is_entry_ahead r.name ≡ false) → list_any (is_old_of t u) (filter is_folding (names_of rs)) ≡ false
+pub none_old : (t : VolumeTable) (u : List ℕ) (rs : List Row) → ((r : Row) → In r rs → is_leaf_entry r.name ≡ false) → list_any (is_old_of t u) (filter is_folding (names_of rs)) ≡ false
 none_old t u [] none = refl
 none_old t u (r ∷ rs) none = by (is_folding r.name) (none_old t u rs (λ s i. none s (inr i)))
   where
@@ -219,7 +219,7 @@ none_old t u (r ∷ rs) none = by (is_folding r.name) (none_old t u rs (λ s i. 
     by false rest = rest
 
 -- so each old leaf is refused
-known_from : (t : VolumeTable) (n : Name) → ((u : List ℕ) → list_any (is_old_of t u) (folding t) ≡ false) → is_entry_ahead n ≡ false → is_orphaned t n ≡ false → is_known_name n ≡ true
+known_from : (t : VolumeTable) (n : Name) → ((u : List ℕ) → list_any (is_old_of t u) (folding t) ≡ false) → is_leaf_entry n ≡ false → is_orphaned t n ≡ false → is_known_name n ≡ true
 known_from t (Old u) none j h = absurd (true≢false (sym (ap not (none u)) ∙ h))
 known_from t (Leaf leaf parent) none j h = absurd (true≢false j)
 known_from t _ none j h = refl
@@ -229,16 +229,16 @@ all-of P [] each = tt
 all-of P (r ∷ rs) each = (each r (inl refl), all-of P rs (λ s h. each s (inr h)))
 
 -- where these two checks pass no leaf is being folded
-pub known_table : (o : Outline) → entry_ahead_fault o ≡ None → old_leaf_fault o ≡ None → IsKnown o.table
-unfolding entry_ahead_fault old_leaf_fault
+pub known_table : (o : Outline) → leaf_entry_fault o ≡ None → old_leaf_fault o ≡ None → IsKnown o.table
+unfolding leaf_entry_fault old_leaf_fault
 known_table o no_entry owned =
-    let none = named_none at.Journal (λ r. is_entry_ahead r.name) o.table.volumes no_entry in
+    let none = named_none at.Journal (λ r. is_leaf_entry r.name) o.table.volumes no_entry in
     all-of (λ r. is_known r ≡ true) o.table.volumes (λ r k.
     known_from o.table r.name (λ u. none_old o.table u o.table.volumes none) (none r k) (named_none at.Image (λ q. is_orphaned o.table q.name) o.table.volumes owned r k))
 
-records_right : (c : Content) (m : Option Row) → row c Mgt ≡ m → not (has_records (outline c) m) ≡ false → (r : Row) × (row c Mgt ≡ Some r) × (length r.extents ≡ record_extents c.extent)
-records_right c None is h = absurd (let e = h in cc)
-records_right c (Some r) is h = (r, is, eqb-true (length r.extents) (record_extents c.extent) (not_false (length r.extents == record_extents c.extent) h))
+records_right : (o : Outline) (m : Option Row) → rows o.table Mgt ≡ m → not (has_records o m) ≡ false → (r : Row) × (rows o.table Mgt ≡ Some r) × (length r.extents ≡ record_extents o.extent)
+records_right o None is h = absurd (let e = h in cc)
+records_right o (Some r) is h = (r, is, eqb-true (length r.extents) (record_extents o.extent) (not_false (length r.extents == record_extents o.extent) h))
 
 record_none : (o : Option ℕ) → record_place o ≡ None → o ≡ None
 record_none None h = refl
@@ -255,8 +255,8 @@ disk_none (Some k) h = absurd (let e = h in cc)
 not_above : (n : ℕ) → nat_lt 500 n ≡ false → n ≤ 500
 not_above n h = ltb-false 500 n h
 
-listed_disk : (c : Content) (u : List ℕ) (n : Name) → standing_volume c.table u ≡ Some n → In u (disk_uuids (outline c))
-listed_disk c u n is = filter-In (λ v. is_some (standing_volume c.table v)) (uuids c.table) u (stands_listed c.table u n is) (ap is_some is)
+listed_disk : (o : Outline) (u : List ℕ) (n : Name) → standing_volume o.table u ≡ Some n → In u (disk_uuids o)
+listed_disk o u n is = filter-In (λ v. is_some (standing_volume o.table v)) (uuids o.table) u (stands_listed o.table u n is) (ap is_some is)
 
 pub lesser_none : (a b : Option Name) → lesser a b ≡ None → (a ≡ None) × (b ≡ None)
 lesser_none None b h = (refl, h)
@@ -267,13 +267,13 @@ lesser_none (Some a) (Some b) h = absurd (by (is_lt (name_cmp a b)) h)
     by true is = none-some a (sym is)
     by false is = none-some b (sym is)
 
--- where today's checks pass, no leaf is being folded, and the repository is sound fact by fact
-pub today_known : (c : Content) → first_fault_today c ≡ None → KnownSound c
-unfolding fault_today_of record_volume_fault too_many_fault misnamed_fault second_entry_fault lost_entry_fault invalid_fault tree_fault entry_link_fault record_fault disk_fault
-today_known c h =
-    let each = none_first (faults_today (outline c)) h in
-    let w = records_right c (row c Mgt) refl (none_given _ at.Mgt (each (record_volume_fault (outline c)) (inl refl))) in
-    let known = known_table (outline c) (each (entry_ahead_fault (outline c)) (inr (inr (inr (inl refl))))) (each (old_leaf_fault (outline c)) (inr (inr (inr (inr (inr (inr (inl refl)))))))) in
+-- where the checks of all but a leaf's folding pass, no leaf is being folded, and the repository is sound fact by fact
+pub but_leaf_known : (c : Content) → first_fault_but_leaf c ≡ None → KnownSound c
+unfolding fault_but_leaf_of record_volume_fault too_many_fault misnamed_fault second_entry_fault lost_entry_fault invalid_fault tree_fault entry_link_fault record_fault disk_fault
+but_leaf_known c h =
+    let each = none_first (faults_but_leaf (outline c)) h in
+    let w = records_right (outline c) (row c Mgt) refl (none_given _ at.Mgt (each (record_volume_fault (outline c)) (inl refl))) in
+    let known = known_table (outline c) (each (leaf_entry_fault (outline c)) (inr (inr (inr (inl refl))))) (each (old_leaf_fault (outline c)) (inr (inr (inr (inr (inr (inr (inl refl)))))))) in
     let entries = lesser_none (second (folding c.table)) (second (making c.table)) (place_none at.Journal _ (each (second_entry_fault (outline c)) (inr (inr (inr (inr (inl refl))))))) in
     record {
       known = known;
@@ -290,32 +290,32 @@ today_known c h =
       linked = λ r h. not_false (is_entry_linked (outline c) r.name) (named_none at.Journal (λ q. not (is_entry_linked (outline c) q.name)) c.table.volumes
           (each (entry_link_fault (outline c)) (inr (inr (inr (inr (inr (inr (inr (inr (inr (inl refl))))))))))) r h);
       right = λ k below. sym (ap is_damaged (reading_within c k below)) ∙ none_find _ (numbers 0 record_count) (record_none _ (each (record_fault (outline c)) (inr (inr (inr (inr (inr (inr (inr (inr (inr (inr (inl refl))))))))))))) k (numbers-In 0 record_count k (omega arith) (omega arith));
-      recorded = λ u n is. ap (λ rs. length (filter (is_record_of u) rs)) (sym (outline_records_same c)) ∙ eqb-true _ 1 (not_false _ (none_find _ (disk_uuids (outline c)) (disk_none _ (each (disk_fault (outline c)) (inr (inr (inr (inr (inr (inr (inr (inr (inr (inr (inr (inl refl)))))))))))))) u (listed_disk c u n is)));
+      recorded = λ u n is. ap (λ rs. length (filter (is_record_of u) rs)) (sym (outline_records_same c)) ∙ eqb-true _ 1 (not_false _ (none_find _ (disk_uuids (outline c)) (disk_none _ (each (disk_fault (outline c)) (inr (inr (inr (inr (inr (inr (inr (inr (inr (inr (inr (inl refl)))))))))))))) u (listed_disk (outline c) u n is)));
     }
 
--- where all checks pass it is sound fact by fact
-pub sound_all : (c : Content) → first_fault c ≡ None → AllSound c
+-- where all checks pass, fact by fact
+pub sound_all : (o : Outline) → fault_of o ≡ None → AllSound o
 unfolding fault_of record_volume_fault too_many_fault misnamed_fault second_entry_fault lost_entry_fault old_leaf_fault invalid_fault tree_fault entry_link_fault record_fault disk_fault
-sound_all c h =
-    let each = none_first (all_faults (outline c)) h in
-    let w = records_right c (row c Mgt) refl (none_given _ at.Mgt (each (record_volume_fault (outline c)) (inl refl))) in
-    let entries = lesser_none (second (folding c.table)) (second (making c.table)) (place_none at.Journal _ (each (second_entry_fault (outline c)) (inr (inr (inr (inl refl)))))) in
+sound_all o h =
+    let each = none_first (all_faults o) h in
+    let w = records_right o (rows o.table Mgt) refl (none_given _ at.Mgt (each (record_volume_fault o) (inl refl))) in
+    let entries = lesser_none (second (folding o.table)) (second (making o.table)) (place_none at.Journal _ (each (second_entry_fault o) (inr (inr (inr (inl refl)))))) in
     record {
       records_row = w.0;
       records_there = w.1;
       records_extents = w.2;
-      few_images = not_above (length (images c.table)) (none_given _ at.Images (each (too_many_fault (outline c)) (inr (inl refl))));
-      named = named_none at.Image _ c.table.volumes (each (misnamed_fault (outline c)) (inr (inr (inl refl))));
+      few_images = not_above (length (images o.table)) (none_given _ at.Images (each (too_many_fault o) (inr (inl refl))));
+      named = named_none at.Image _ o.table.volumes (each (misnamed_fault o) (inr (inr (inl refl))));
       one_folding = entries.0;
       one_entry = entries.1;
-      at_stage = named_none at.Journal _ c.table.volumes (each (lost_entry_fault (outline c)) (inr (inr (inr (inr (inl refl))))));
-      owned = named_none at.Image (λ r. is_orphaned c.table r.name) c.table.volumes (each (old_leaf_fault (outline c)) (inr (inr (inr (inr (inr (inl refl)))))));
-      valid = named_none at.Image _ c.table.volumes (each (invalid_fault (outline c)) (inr (inr (inr (inr (inr (inr (inl refl))))))));
-      placed = named_none at.Tree _ c.table.volumes (each (tree_fault (outline c)) (inr (inr (inr (inr (inr (inr (inr (inl refl)))))))));
-      linked = λ r i. not_false (is_entry_linked (outline c) r.name) (named_none at.Journal (λ q. not (is_entry_linked (outline c) q.name)) c.table.volumes
-          (each (entry_link_fault (outline c)) (inr (inr (inr (inr (inr (inr (inr (inr (inl refl)))))))))) r i);
-      right = λ k below. sym (ap is_damaged (reading_within c k below)) ∙ none_find _ (numbers 0 record_count) (record_none _ (each (record_fault (outline c)) (inr (inr (inr (inr (inr (inr (inr (inr (inr (inl refl)))))))))))) k (numbers-In 0 record_count k (omega arith) (omega arith));
-      recorded = λ u n is. ap (λ rs. length (filter (is_record_of u) rs)) (sym (outline_records_same c)) ∙ eqb-true _ 1 (not_false _ (none_find _ (disk_uuids (outline c)) (disk_none _ (each (disk_fault (outline c)) (inr (inr (inr (inr (inr (inr (inr (inr (inr (inr (inl refl))))))))))))) u (listed_disk c u n is)));
+      at_stage = named_none at.Journal _ o.table.volumes (each (lost_entry_fault o) (inr (inr (inr (inr (inl refl))))));
+      owned = named_none at.Image (λ r. is_orphaned o.table r.name) o.table.volumes (each (old_leaf_fault o) (inr (inr (inr (inr (inr (inl refl)))))));
+      valid = named_none at.Image _ o.table.volumes (each (invalid_fault o) (inr (inr (inr (inr (inr (inr (inl refl))))))));
+      placed = named_none at.Tree _ o.table.volumes (each (tree_fault o) (inr (inr (inr (inr (inr (inr (inr (inl refl)))))))));
+      linked = λ r i. not_false (is_entry_linked o r.name) (named_none at.Journal (λ q. not (is_entry_linked o q.name)) o.table.volumes
+          (each (entry_link_fault o) (inr (inr (inr (inr (inr (inr (inr (inr (inl refl)))))))))) r i);
+      right = λ k below. none_find _ (numbers 0 record_count) (record_none _ (each (record_fault o) (inr (inr (inr (inr (inr (inr (inr (inr (inr (inl refl)))))))))))) k (numbers-In 0 record_count k (omega arith) (omega arith));
+      recorded = λ u n is. eqb-true _ 1 (not_false _ (none_find _ (disk_uuids o) (disk_none _ (each (disk_fault o) (inr (inr (inr (inr (inr (inr (inr (inr (inr (inr (inl refl))))))))))))) u (listed_disk o u n is)));
     }
 
 -- where no entry of a copy or a link is there, at most images are being enlarged or disks forked
@@ -348,8 +348,8 @@ known_sound_simple c s simple = record {
   recorded = s.recorded;
 }
 
-pub today_sound : (c : Content) → first_fault_today c ≡ None → folding c.table ≡ [] → SimpleSound c
-today_sound c h none = let s = today_known c h in known_sound_simple c s (known_is_simple c.table s.known none)
+pub but_leaf_sound : (c : Content) → first_fault_but_leaf c ≡ None → folding c.table ≡ [] → SimpleSound c
+but_leaf_sound c h none = let s = but_leaf_known c h in known_sound_simple c s (known_is_simple c.table s.known none)
 
 -- where no entry is there, nothing is under way
 pub simple_none_plain : (t : VolumeTable) → IsSimple t → making t ≡ [] → IsPlain t
@@ -380,27 +380,30 @@ simple_is_plain c s none = record {
 
 -- ---- and back
 
--- where all checks pass and no leaf is being folded, each of today's passes
-today_pass : (c : Content) → ((o : Option Place) → In o (all_faults (outline c)) → o ≡ None) → IsKnown c.table → (o : Option Place) → In o (faults_today (outline c)) → o ≡ None
-unfolding entry_ahead_fault
-today_pass c each known o (inl is) = each o (inl is)
-today_pass c each known o (inr (inl is)) = each o (inr (inl is))
-today_pass c each known o (inr (inr (inl is))) = each o (inr (inr (inl is)))
-today_pass c each known o (inr (inr (inr (inl is)))) = is ∙ none_named at.Journal _ c.table.volumes (λ r h.
-    (not_ahead r.name (all-In (λ s. is_known s ≡ true) c.table.volumes r known h)).no_entry_ahead)
-today_pass c each known o (inr (inr (inr (inr (inl is))))) = each o (inr (inr (inr (inl is))))
-today_pass c each known o (inr (inr (inr (inr (inr (inl is)))))) = each o (inr (inr (inr (inr (inl is)))))
-today_pass c each known o (inr (inr (inr (inr (inr (inr (inl is))))))) = each o (inr (inr (inr (inr (inr (inl is))))))
-today_pass c each known o (inr (inr (inr (inr (inr (inr (inr (inl is)))))))) = each o (inr (inr (inr (inr (inr (inr (inl is)))))))
-today_pass c each known o (inr (inr (inr (inr (inr (inr (inr (inr (inl is))))))))) = each o (inr (inr (inr (inr (inr (inr (inr (inl is))))))))
-today_pass c each known o (inr (inr (inr (inr (inr (inr (inr (inr (inr (inl is)))))))))) = each o (inr (inr (inr (inr (inr (inr (inr (inr (inl is)))))))))
-today_pass c each known o (inr (inr (inr (inr (inr (inr (inr (inr (inr (inr (inl is))))))))))) = each o (inr (inr (inr (inr (inr (inr (inr (inr (inr (inl is))))))))))
-today_pass c each known o (inr (inr (inr (inr (inr (inr (inr (inr (inr (inr (inr (inl is)))))))))))) = each o (inr (inr (inr (inr (inr (inr (inr (inr (inr (inr (inl is)))))))))))
-today_pass c each known o (inr (inr (inr (inr (inr (inr (inr (inr (inr (inr (inr (inr none)))))))))))) = elim none [ ]
+-- where all checks pass and no leaf is being folded, each of the checks of all but a leaf's folding passes
+but_leaf_pass : (x : Outline) → ((o : Option Place) → In o (all_faults x) → o ≡ None) → IsKnown x.table → (o : Option Place) → In o (faults_but_leaf x) → o ≡ None
+unfolding leaf_entry_fault
+but_leaf_pass x each known o (inl is) = each o (inl is)
+but_leaf_pass x each known o (inr (inl is)) = each o (inr (inl is))
+but_leaf_pass x each known o (inr (inr (inl is))) = each o (inr (inr (inl is)))
+but_leaf_pass x each known o (inr (inr (inr (inl is)))) = is ∙ none_named at.Journal _ x.table.volumes (λ r h.
+    (not_ahead r.name (all-In (λ s. is_known s ≡ true) x.table.volumes r known h)).no_leaf_entry)
+but_leaf_pass x each known o (inr (inr (inr (inr (inl is))))) = each o (inr (inr (inr (inl is))))
+but_leaf_pass x each known o (inr (inr (inr (inr (inr (inl is)))))) = each o (inr (inr (inr (inr (inl is)))))
+but_leaf_pass x each known o (inr (inr (inr (inr (inr (inr (inl is))))))) = each o (inr (inr (inr (inr (inr (inl is))))))
+but_leaf_pass x each known o (inr (inr (inr (inr (inr (inr (inr (inl is)))))))) = each o (inr (inr (inr (inr (inr (inr (inl is)))))))
+but_leaf_pass x each known o (inr (inr (inr (inr (inr (inr (inr (inr (inl is))))))))) = each o (inr (inr (inr (inr (inr (inr (inr (inl is))))))))
+but_leaf_pass x each known o (inr (inr (inr (inr (inr (inr (inr (inr (inr (inl is)))))))))) = each o (inr (inr (inr (inr (inr (inr (inr (inr (inl is)))))))))
+but_leaf_pass x each known o (inr (inr (inr (inr (inr (inr (inr (inr (inr (inr (inl is))))))))))) = each o (inr (inr (inr (inr (inr (inr (inr (inr (inr (inl is))))))))))
+but_leaf_pass x each known o (inr (inr (inr (inr (inr (inr (inr (inr (inr (inr (inr (inl is)))))))))))) = each o (inr (inr (inr (inr (inr (inr (inr (inr (inr (inr (inl is)))))))))))
+but_leaf_pass x each known o (inr (inr (inr (inr (inr (inr (inr (inr (inr (inr (inr (inr none)))))))))))) = elim none [ ]
 
-pub known_today : (c : Content) → first_fault c ≡ None → IsKnown c.table → first_fault_today c ≡ None
-unfolding fault_of fault_today_of
-known_today c sound known = first_none (faults_today (outline c)) (today_pass c (none_first (all_faults (outline c)) sound) known)
+pub outline_but_leaf : (x : Outline) → fault_of x ≡ None → IsKnown x.table → fault_but_leaf_of x ≡ None
+unfolding fault_of fault_but_leaf_of
+outline_but_leaf x sound known = first_none (faults_but_leaf x) (but_leaf_pass x (none_first (all_faults x) sound) known)
 
-pub simple_today : (c : Content) → first_fault c ≡ None → IsSimple c.table → first_fault_today c ≡ None
-simple_today c sound simple = known_today c sound (simple_known c.table simple)
+pub known_but_leaf : (c : Content) → first_fault c ≡ None → IsKnown c.table → first_fault_but_leaf c ≡ None
+known_but_leaf c = outline_but_leaf (outline c)
+
+pub simple_but_leaf : (c : Content) → first_fault c ≡ None → IsSimple c.table → first_fault_but_leaf c ≡ None
+simple_but_leaf c sound simple = known_but_leaf c sound (simple_known c.table simple)

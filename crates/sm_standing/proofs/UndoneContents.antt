@@ -20,18 +20,18 @@ use Rattle.sm_standing.specs.Contents.{Content, record_count, is_record_of, reco
 use Rattle.sm_standing.specs.Enlarging.{HasEntry, IsEnlargingOn}
 use Rattle.sm_standing.specs.Images.{image_of, raw_image, vhd_image}
 use Rattle.sm_standing.specs.Keeping.{HasNoEmptySlot, IsKept}
-use Rattle.sm_standing.specs.Outlines.{outline, link_of}
+use Rattle.sm_standing.specs.Outlines.{Outline, outline, link_of}
 use Rattle.sm_standing.specs.Plain.{IsSimple}
 use Rattle.sm_standing.specs.PlainSound.{PlainSound, SimpleSound}
 use Rattle.sm_standing.specs.Standing.{disks}
 use Rattle.sm_standing.specs.Undone.{IsBeingEnlarged, IsSameArea, undone, undone_at, undone_content_at}
 use Rattle.sm_standing.specs.Worlds.{with_table}
 use Rattle.sm_standing.proofs.EnlargedLaws.{enlarging_disks, enlarging_kept, images_enlarging, outline_enlarging}
-use Rattle.sm_standing.proofs.EnlargingLaws.{enlarging_sound, sound_before}
+use Rattle.sm_standing.proofs.EnlargedOutlines.{sound_with, sound_without}
 use Rattle.sm_standing.proofs.ImageLaws.{disks_as}
 use Rattle.sm_standing.proofs.OutlineLaws.{made-of}
 use Rattle.sm_standing.proofs.PlainDisks.{simple_folding}
-use Rattle.sm_standing.proofs.PlainKept.{plain_kept, simple_sound, simple_today, today_sound, simple_is_plain}
+use Rattle.sm_standing.proofs.PlainKept.{plain_kept, simple_sound, simple_but_leaf, but_leaf_sound, simple_is_plain}
 use Rattle.sm_standing.proofs.UndoneLaws.{cut_later, cut_table, entry_gone, entry_still, entry_there, is_enlarging, other_undone, own_long, own_undone, undone_is, undone_is_table, undone_later, undone_simple, undone_making, undone_stands}
 use Rattle.sm_standing.proofs.WorldLaws.{spot_below}
 
@@ -156,28 +156,21 @@ module _ (c : Content) (u : List ℕ) (extents : ℕ) (w : IsBeingEnlarged c.tab
   -- ---- sound
 
   module _ (sound : first_fault c ≡ None) where
-    pub sound_before_it : first_fault before_it ≡ None
-    sound_before_it = sound_before (outline before_it) c.table u extents now.table (omega arith) (sym (ap fault_of (outline_enlarging before_it c u extents now)) ∙ sound)
+    no_image : (outline c).links entry ≡ None
+    unfolding image_of
+    no_image = refl
+
+    -- with another table of the enlargement each image is linked as before
+    retabled : (v : VolumeTable) → record (outline before_it) { table = v } ≡ record (outline c) { table = v }
+    retabled v = ap (λ (o : Outline). record o { table = v }) (sym (outline_enlarging before_it c u extents now))
 
     pub sound_between : (v : VolumeTable) (area : ℕ → List ℕ) → IsBetween v → IsSameArea c area → first_fault (with_table c v area) ≡ None
     sound_between v area between same =
-        let k = between_enlarging v area between same in
-        ap fault_of (outline_enlarging before_it (with_table c v area) u extents k) ∙ enlarging_sound (outline before_it) v u extents k.table sound_before_it
+        ap fault_of (outline_enlarging before_it (with_table c v area) u extents (between_enlarging v area between same) ∙ retabled v)
+        ∙ sound_with (outline c) sound u extents w no_image v between.later between.volumes
 
     pub sound_undone_at : (sequence : ℕ) → c.table.sequence ≤ sequence → first_fault (undone_content_at sequence c) ≡ None
-    unfolding image_of
-    sound_undone_at sequence later =
-        ap fault_of (outline_at sequence)
-        ∙ sound_before (record (outline before_it) { table = undone_at sequence c.table }) over u extents
-        (is_enlarging c.table u extents w (outline before_it) sequence over no_image (omega arith) (entry_there c.table u extents w)) (omega arith)
-        (enlarging_sound (outline before_it) over u extents (is_enlarging c.table u extents w (outline before_it) c.table.sequence over no_image later (entry_there c.table u extents w)) sound_before_it)
-      where
-        -- with the entry, as late
-        over : VolumeTable
-        over = record c.table { sequence = sequence }
-
-        no_image : (outline before_it).links (Inflate u extents) ≡ None
-        no_image = refl
+    sound_undone_at sequence later = ap fault_of (outline_at sequence ∙ retabled (undone_at sequence c.table)) ∙ sound_without (outline c) sound u extents w no_image sequence later
 
   -- ---- and kept, where nothing else is under way
 
@@ -186,7 +179,7 @@ module _ (c : Content) (u : List ℕ) (extents : ℕ) (w : IsBeingEnlarged c.tab
     sound_undone sequence later =
         let d = undone_content_at sequence c in
         let simple : IsSimple d.table = undone_simple c.table u extents w s.simple in
-        simple_is_plain d (today_sound d (simple_today d (sound_undone_at (simple_sound c s) sequence later) simple) (simple_folding d.table.volumes simple)) (undone_making c.table u extents w)
+        simple_is_plain d (but_leaf_sound d (simple_but_leaf d (sound_undone_at (simple_sound c s) sequence later) simple) (simple_folding d.table.volumes simple)) (undone_making c.table u extents w)
 
     -- whatever a stop leaves while the entry stands is kept
     pub between_kept : HasNoEmptySlot c → (v : VolumeTable) (area : ℕ → List ℕ) → IsBetween v → IsSameArea c area → IsKept (with_table c v area)
@@ -197,7 +190,7 @@ module _ (c : Content) (u : List ℕ) (extents : ℕ) (w : IsBeingEnlarged c.tab
     -- so is what it leaves with this area and the table from before
     pub sound_alike : (area : ℕ → List ℕ) → IsSameArea c area → SimpleSound (with_table c c.table area)
     sound_alike area same =
-        today_sound (with_table c c.table area) (simple_today (with_table c c.table area) (sound_between (simple_sound c s) c.table area between_now same) s.simple) (simple_folding c.table.volumes s.simple)
+        but_leaf_sound (with_table c c.table area) (simple_but_leaf (with_table c c.table area) (sound_between (simple_sound c s) c.table area between_now same) s.simple) (simple_folding c.table.volumes s.simple)
 
     pub holding_alike : (area : ℕ → List ℕ) → IsSameArea c area → HasNoEmptySlot c → HasNoEmptySlot (with_table c c.table area)
     holding_alike area same holding v i is =

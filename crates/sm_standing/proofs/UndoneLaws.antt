@@ -330,7 +330,7 @@ module _ (t : VolumeTable) (u : List ℕ) (extents : ℕ) (w : IsBeingEnlarged t
       over : VolumeTable
       over = record t { sequence = sequence + t.sequence }
 
--- ---- with today's checks of a table
+-- ---- with the checks of all but a leaf's folding of a table
 
 pub head_alone : (ns : List Name) (n : Name) → head ns ≡ Some n → second ns ≡ None → ns ≡ n ∷ []
 head_alone [] n is one = absurd (none-some n is)

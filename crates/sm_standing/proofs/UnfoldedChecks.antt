@@ -16,7 +16,7 @@ use Rattle.vg_meta.specs.Changes.{without}
 use Rattle.vg_meta.specs.Tables.{VolumeTable, Row, rows}
 use Rattle.vg_meta.proofs.RowLaws.{All-without}
 use Rattle.sm_machine.specs.Shapes.{image_limit, same_image}
-use Rattle.sm_standing.specs.Checks.{disk_fault, disk_place, entry_ahead_fault, entry_link_fault, fault_today_of, faults_today, has_records, invalid_fault, is_entry_ahead, is_orphaned, is_unrecorded, lesser, lost_entry_fault, misnamed_fault, old_leaf_fault, placed, record_fault, record_volume_fault, second_entry_fault, too_many_fault, tree_fault, chain_length, children, has_twin, images, is_base_of, is_entry_linked, is_fork_linked, is_image_wrong, is_invalid, is_linked, is_lost, is_misnamed, is_misplaced, is_no_larger, is_parent_right, is_tree_wrong, parent_is, tree_wrong_as}
+use Rattle.sm_standing.specs.Checks.{disk_fault, disk_place, leaf_entry_fault, entry_link_fault, fault_but_leaf_of, faults_but_leaf, has_records, invalid_fault, is_leaf_entry, is_orphaned, is_unrecorded, lesser, lost_entry_fault, misnamed_fault, old_leaf_fault, placed, record_fault, record_volume_fault, second_entry_fault, too_many_fault, tree_fault, chain_length, children, has_twin, images, is_base_of, is_entry_linked, is_fork_linked, is_image_wrong, is_invalid, is_linked, is_lost, is_misnamed, is_misplaced, is_no_larger, is_parent_right, is_tree_wrong, parent_is, tree_wrong_as}
 use Rattle.sm_standing.specs.Entries.{are_past, folding, folding_uuids, head, is_among, is_at_stage, is_folding, is_fork_begun, is_fork_made, is_hidden, making, second, uuids_in}
 use Rattle.sm_standing.specs.Outlines.{Link, Outline, outline_records}
 use Rattle.sm_standing.specs.Plain.{IsKnown, IsSimple, is_known, is_simple, is_simple_name}
@@ -230,14 +230,14 @@ module _ (o : Outline) (quiet : (n : Name) → is_folding n ≡ true → o.links
 
     -- ---- the checks
 
-    -- where today's pass, with this sequence number or a later one
-    module _ (later : t.sequence ≤ sequence) (h : fault_today_of o ≡ None) where
-      each : (x : Option Place) → In x (faults_today o) → x ≡ None
-      unfolding fault_today_of
-      each = none_first (faults_today o) h
+    -- where those of all but a leaf's folding pass, with this sequence number or a later one
+    module _ (later : t.sequence ≤ sequence) (h : fault_but_leaf_of o ≡ None) where
+      each : (x : Option Place) → In x (faults_but_leaf o) → x ≡ None
+      unfolding fault_but_leaf_of
+      each = none_first (faults_but_leaf o) h
 
       simple : IsSimple (bare_at e sequence t)
-      simple = known_bare (known_table o (each (entry_ahead_fault o) (inr (inr (inr (inl refl))))) (each (old_leaf_fault o) (inr (inr (inr (inr (inr (inr (inl refl)))))))))
+      simple = known_bare (known_table o (each (leaf_entry_fault o) (inr (inr (inr (inl refl))))) (each (old_leaf_fault o) (inr (inr (inr (inr (inr (inr (inl refl)))))))))
 
       has_records_too : record_volume_fault less ≡ None
       unfolding record_volume_fault
@@ -254,10 +254,10 @@ module _ (o : Outline) (quiet : (n : Name) → is_folding n ≡ true → o.links
           ∙ misnamed_step (is_data r.name) (has_twin t r.name) (are_past t r.name) (are_past (bare_at e sequence t) r.name) (all_past (uuids_in r.name) t.sequence sequence later)
           (named_none at.Image (is_misnamed t) t.volumes (each (misnamed_fault o) (inr (inr (inl refl)))) r (In-bare e t.volumes r i)))
 
-      ahead : entry_ahead_fault less ≡ None
-      unfolding entry_ahead_fault
-      ahead = none_named at.Journal (λ r. is_entry_ahead r.name) (without e t.volumes) (λ r i.
-          named_none at.Journal (λ q. is_entry_ahead q.name) t.volumes (each (entry_ahead_fault o) (inr (inr (inr (inl refl))))) r (In-bare e t.volumes r i))
+      ahead : leaf_entry_fault less ≡ None
+      unfolding leaf_entry_fault
+      ahead = none_named at.Journal (λ r. is_leaf_entry r.name) (without e t.volumes) (λ r i.
+          named_none at.Journal (λ q. is_leaf_entry q.name) t.volumes (each (leaf_entry_fault o) (inr (inr (inr (inl refl))))) r (In-bare e t.volumes r i))
 
       second_one : second_entry_fault less ≡ None
       unfolding second_entry_fault
@@ -304,7 +304,7 @@ module _ (o : Outline) (quiet : (n : Name) → is_folding n ≡ true → o.links
           ∙ ap (λ g. disk_place (find (is_unrecorded o) (filter g (uuids t)))) (fun_ext (λ v. ap is_some (standing_bare v)))
           ∙ each (disk_fault o) (inr (inr (inr (inr (inr (inr (inr (inr (inr (inr (inr (inl refl))))))))))))
 
-      pass : (x : Option Place) → In x (faults_today less) → x ≡ None
+      pass : (x : Option Place) → In x (faults_but_leaf less) → x ≡ None
       pass x (inl is) = is ∙ has_records_too
       pass x (inr (inl is)) = is ∙ few
       pass x (inr (inr (inl is))) = is ∙ named
@@ -320,6 +320,6 @@ module _ (o : Outline) (quiet : (n : Name) → is_folding n ≡ true → o.links
       pass x (inr (inr (inr (inr (inr (inr (inr (inr (inr (inr (inr (inr none)))))))))))) = absurd none
 
       -- they pass without the entry too
-      pub today_bare : fault_today_of less ≡ None
-      unfolding fault_today_of
-      today_bare = first_none (faults_today less) pass
+      pub but_leaf_bare : fault_but_leaf_of less ≡ None
+      unfolding fault_but_leaf_of
+      but_leaf_bare = first_none (faults_but_leaf less) pass

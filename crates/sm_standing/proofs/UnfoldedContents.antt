@@ -15,7 +15,7 @@ use Rattle.sm_record.specs.declared.records.Reading.TheVariants.{Free}
 use Rattle.sm_record.specs.Records.{reading}
 use Rattle.vhd_layout.specs.Contents.{raw_content}
 use Rattle.vhd_layout.specs.Readings.{image_at}
-use Rattle.sm_standing.specs.Checks.{fault_today_of, has_twin, is_damaged, is_entry_linked, is_image_wrong, is_invalid, is_lost, is_misnamed, is_tree_wrong, tree_wrong_as}
+use Rattle.sm_standing.specs.Checks.{fault_but_leaf_of, has_twin, is_damaged, is_entry_linked, is_image_wrong, is_invalid, is_lost, is_misnamed, is_tree_wrong, tree_wrong_as}
 use Rattle.sm_standing.specs.Contents.{Content, record_count, is_record_of, reading_at, records, sectors_of, taken}
 use Rattle.sm_standing.specs.Entries.{are_past, folding, is_at_stage, is_folding, second, uuids_in}
 use Rattle.sm_standing.specs.Images.{Image, image_extents, image_of, raw_image, vhd_image}
@@ -27,8 +27,8 @@ use Rattle.sm_standing.specs.Standing.{disks}
 use Rattle.sm_standing.proofs.ImageLaws.{disks_as}
 use Rattle.sm_standing.proofs.NamedLaws.{all_past}
 use Rattle.sm_standing.proofs.OutlineLaws.{made-of}
-use Rattle.sm_standing.proofs.PlainKept.{all-of, known_sound, known_today, simple_known_name, today_sound}
-use Rattle.sm_standing.proofs.UnfoldedChecks.{IsApartFork, and_false, images_same, invalid_bare, less, linked_as, lost_step, mgt_same, misnamed_step, none_folding, simple_at, stage_from, standing_bare, today_bare, tree_bare}
+use Rattle.sm_standing.proofs.PlainKept.{all-of, known_sound, known_but_leaf, simple_known_name, but_leaf_sound}
+use Rattle.sm_standing.proofs.UnfoldedChecks.{IsApartFork, and_false, images_same, invalid_bare, less, linked_as, lost_step, mgt_same, misnamed_step, none_folding, simple_at, stage_from, standing_bare, but_leaf_bare, tree_bare}
 use Rattle.sm_standing.proofs.UnfoldedLaws.{IsFold, In-or, bare_at, making_bare, rows_bare, twin_bare}
 
 -- no image has the name of such an entry
@@ -102,7 +102,7 @@ module _ (c : Content) (e : Name) (f : IsFold e) (sequence : ℕ) where
     -- without the entry, with this number or a later one
     pub sound_bare : t.sequence ≤ sequence → KnownSound c → SimpleSound bare
     sound_bare later s =
-        today_sound bare (ap fault_today_of outline_bare ∙ today_bare (outline c) quiet e f sequence one later (known_today c (known_sound c s) s.known)) (none_folding (outline c) quiet e f sequence one)
+        but_leaf_sound bare (ap fault_but_leaf_of outline_bare ∙ but_leaf_bare (outline c) quiet e f sequence one later (known_but_leaf c (known_sound c s) s.known)) (none_folding (outline c) quiet e f sequence one)
 
     abbrev pub IsApart : Name → Type 0
     IsApart n = IsApartFork (outline c) quiet e f sequence one n

@@ -283,23 +283,23 @@ fault_of o = first_some (all_faults o)
 abbrev pub first_fault : Content → Option Place
 first_fault c = fault_of (outline c)
 
--- ---- what can't be repaired yet
+-- ---- where no leaf is being folded
 
--- an entry whose work an opening neither ends nor undoes: that of the folding of a leaf
-abbrev pub is_entry_ahead : Name → Bool
-is_entry_ahead (Leaf leaf parent) = true
-is_entry_ahead _ = false
+-- an entry of the folding of a leaf
+abbrev pub is_leaf_entry : Name → Bool
+is_leaf_entry (Leaf leaf parent) = true
+is_leaf_entry _ = false
 
--- the checks of the program as it is built today: in front of the eighth the first entry of the folding of a leaf is refused. So
--- with the ninth each old leaf is, as it belongs to such an entry
-unfoldable pub entry_ahead_fault : Outline → Option Place
-entry_ahead_fault o = placed at.Journal (first_name (λ r. is_entry_ahead r.name) o.table.volumes)
+-- the checks of repositories in which all but a leaf may be being folded: in front of the eighth the first entry of the folding of a leaf is
+-- refused. So with the ninth each old leaf is, as it belongs to such an entry
+unfoldable pub leaf_entry_fault : Outline → Option Place
+leaf_entry_fault o = placed at.Journal (first_name (λ r. is_leaf_entry r.name) o.table.volumes)
 
-abbrev pub faults_today : Outline → List (Option Place)
-faults_today o = record_volume_fault o
+abbrev pub faults_but_leaf : Outline → List (Option Place)
+faults_but_leaf o = record_volume_fault o
     ∷ too_many_fault o
     ∷ misnamed_fault o
-    ∷ entry_ahead_fault o
+    ∷ leaf_entry_fault o
     ∷ second_entry_fault o
     ∷ lost_entry_fault o
     ∷ old_leaf_fault o
@@ -310,10 +310,10 @@ faults_today o = record_volume_fault o
     ∷ disk_fault o
     ∷ []
 
--- the place of the first of today's checks that fails on an outline
-unfoldable pub fault_today_of : Outline → Option Place
-fault_today_of o = first_some (faults_today o)
+-- the place of the first of the checks of all but a leaf's folding that fails on an outline
+unfoldable pub fault_but_leaf_of : Outline → Option Place
+fault_but_leaf_of o = first_some (faults_but_leaf o)
 
--- the place of the first of today's checks that fails on a content
-abbrev pub first_fault_today : Content → Option Place
-first_fault_today c = fault_today_of (outline c)
+-- the place of the first of the checks of all but a leaf's folding that fails on a content
+abbrev pub first_fault_but_leaf : Content → Option Place
+first_fault_but_leaf c = fault_but_leaf_of (outline c)

@@ -16,6 +16,7 @@ use Rattle.sm_standing.specs.Checks.{first_fault}
 use Rattle.sm_standing.specs.Contents.{Content}
 use Rattle.sm_standing.specs.Entries.{folding, head, is_leaf_renamed, is_leaf_swapped, making, of_row}
 use Rattle.sm_standing.specs.Images.{Image, image_of}
+use Rattle.sm_standing.specs.Outlines.{Outline}
 use Rattle.sm_standing.specs.Undone.{applied_all, changes_back, wanted}
 
 -- ---- the commits
@@ -79,3 +80,7 @@ ended_from t n = from_leaf t (head (folding t)) n
 -- the image that the image of this name was
 abbrev pub image_ended : Content → Name → Option Image
 image_ended c n = ended_from c.table n >>= image_of c
+
+-- the outline with that table: each image under the name that it has then
+abbrev pub ended_outline : Outline → Outline
+ended_outline x = record x { table = ended x.table; links = λ n. ended_from x.table n >>= x.links }

@@ -1,15 +1,18 @@
 -- What the checks of an opening look at (this project's format): the sizes, the table, of each image its size and its
 -- parent, and what each record sector reads as. What a guest wrote, and where an image's blocks stand, is no part of it.
-use Rattle.std.specs.Prelude.{◌≡◌, ℕ, ◌<◌, nat_lt, List, Option, Some, None, if◌then◌else◌}
+use Rattle.std.specs.Prelude.{◌≡◌, ℕ, ◌<◌, nat_lt, true, false, List, Option, Some, None, if◌then◌else◌}
 use Rattle.std.specs.List.{filter_map}
 use Rattle.sm_base.specs.declared.names.Name.{Name}
+use Rattle.sm_base.specs.declared.names.Name.TheVariants.{Raw}
 use Rattle.vg_meta.specs.Tables.{VolumeTable}
 use Rattle.common_laws.specs.Lists.{numbers, ◌>>=◌}
+use Rattle.sm_machine.specs.WellFormed.{is_image_name}
 use Rattle.sm_record.specs.declared.records.Record.{Record}
 use Rattle.sm_record.specs.declared.records.Reading.{Reading}
 use Rattle.sm_record.specs.declared.records.Reading.TheVariants.{Free}
 use Rattle.sm_standing.specs.Contents as content
 use Rattle.sm_standing.specs.Contents.{Content, record_count, taken}
+use Rattle.sm_standing.specs.Entries.{is_there}
 use Rattle.sm_standing.specs.Images.{Image, image_of}
 
 -- an image's size in sectors, and its parent
@@ -29,6 +32,12 @@ pub record Outline : Type 0 where
 -- the parent that the image of a name has
 abbrev pub parent_in : Outline → Name → Option Name
 parent_in o n = o.links n >>= (λ i. i.parent)
+
+-- each image has the name of a VHD or a raw image, and stands in a volume; that of a raw image has no parent
+pub record HasImages (o : Outline) : Type 0 where
+  pub named : (n : Name) → is_image_name n ≡ false → o.links n ≡ None
+  pub there : (n : Name) (i : Link) → o.links n ≡ Some i → is_there o.table n ≡ true
+  pub alone : (u : List ℕ) (i : Link) → o.links (Raw u) ≡ Some i → i.parent ≡ None
 
 -- what the checks look at in an image
 abbrev pub link_of : Option Image → Option Link

@@ -50,7 +50,7 @@ pub use listing::{
     law_disk, law_disks_follow, law_disks_in_order, law_one_disk_changed, law_one_disk_less,
     law_one_disk_more,
 };
-pub use plain::{law_plain_kept, law_today, law_undone};
+pub use plain::{law_but_leaf, law_plain_kept, law_undone};
 pub use swaps::law_swapping;
 pub use unfolding::{law_linking, law_unfolded};
 pub use volumes::{law_same_apart, law_same_volume, law_whole};

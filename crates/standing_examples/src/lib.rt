@@ -21,7 +21,7 @@ pub use faults::{
     example_relink_link, example_second_entry, example_too_many, example_tree,
 };
 pub use outlines::{
-    example_enlarging, example_outline, example_today, example_undone, example_unfolded,
+    example_but_leaf, example_enlarging, example_outline, example_undone, example_unfolded,
 };
 pub use tables::{
     example_coalesce, example_fork_begun, example_fork_ended, example_fork_made,

@@ -1,11 +1,11 @@
 //! What a guest writes is no part of an outline; an image that is being enlarged, and a disk that is being forked, and either
-//! undone; children that are being linked, and the table without that; and what today's checks pass.
+//! undone; children that are being linked, and the table without that; and what the checks of all but a leaf's folding pass.
 
 ghost use Rattle.std.specs.Prelude.{◌≡◌, ◌∷◌, ◌<◌, ℕ, [], List, None, Some, false, take, true};
 ghost use Rattle.sm_base.specs.declared.faults.Place.TheVariants as at;
 ghost use Rattle.sm_base.specs.declared.names.Name.TheVariants.{Vhd, Raw, Old, Clone, Coalesce, Inflate, Leaf, Relink};
 ghost use Rattle.sm_standing.specs.Besides.{IsBeside};
-ghost use Rattle.sm_standing.specs.Checks.{fault_of, fault_today_of, first_fault};
+ghost use Rattle.sm_standing.specs.Checks.{fault_of, fault_but_leaf_of, first_fault};
 ghost use Rattle.sm_standing.specs.Enlarging.{IsEnlarging};
 ghost use Rattle.sm_standing.specs.Outlines.{outline};
 ghost use Rattle.sm_standing.specs.Standing.{standing_volume};
@@ -30,27 +30,27 @@ pub fn example_enlarging()
     ensures beside { IsBeside thin_outline (record thin_outline { table = enlarging_table }) (one ∷ []) }
 {}
 
-/// A raw disk beside a VHD disk passes today's checks. So does a hidden VHD image beside it, and a VHD disk over the raw image where
+/// A raw disk beside a VHD disk passes the checks of all but a leaf's folding. So does a hidden VHD image beside it, and a VHD disk over the raw image where
 /// that is hidden; over a visible one it stops at the tree, and an old leaf stops at the image. The entry of an enlargement passes,
 /// a second one and one at no stage do not, and an entry of the folding of a leaf is named in front of these. The entry of a fork
 /// passes where the base is the only parent of its new images, that of a link where the parent is no smaller than the image, and
 /// that of a copy where the image is its parent's only child.
-pub fn example_today()
-    ensures passes { fault_today_of (mixed_outline false false None) ≡ None }
-    ensures hidden { fault_today_of (mixed_outline false true None) ≡ None }
-    ensures child { fault_today_of (mixed_outline true false (Some (Raw two))) ≡ None }
-    ensures parent { fault_today_of (mixed_outline false false (Some (Raw two))) ≡ Some (at.Tree (Vhd one)) }
-    ensures old { fault_today_of (record thin_outline { table = old_table }) ≡ Some (at.Image (Old one)) }
-    ensures enlarging { fault_today_of (record thin_outline { table = enlarging_table }) ≡ None }
-    ensures second { fault_today_of (record thin_outline { table = entries_table (Inflate one 1 ∷ Inflate one 2 ∷ []) }) ≡ Some (at.Journal (Inflate one 2)) }
-    ensures lost { fault_today_of (record thin_outline { table = entries_table (Inflate one 4 ∷ []) }) ≡ Some (at.Journal (Inflate one 4)) }
-    ensures other { fault_today_of (record thin_outline { table = entries_table (Inflate one 1 ∷ Inflate one 2 ∷ Leaf one two ∷ []) }) ≡ Some (at.Journal (Leaf one two)) }
-    ensures fork { fault_today_of (forking_outline (Some (Vhd two))) ≡ None }
-    ensures unlinked { fault_today_of (forking_outline None) ≡ Some (at.Journal (Clone one two three)) }
-    ensures link { fault_today_of (linking_outline 32) ≡ None }
-    ensures smaller { fault_today_of (linking_outline 24) ≡ Some (at.Journal (Relink two three)) }
-    ensures copy { fault_today_of (copying_outline (Vhd two)) ≡ None }
-    ensures shared { fault_today_of (copying_outline (Vhd three)) ≡ Some (at.Journal (Coalesce two three)) }
+pub fn example_but_leaf()
+    ensures passes { fault_but_leaf_of (mixed_outline false false None) ≡ None }
+    ensures hidden { fault_but_leaf_of (mixed_outline false true None) ≡ None }
+    ensures child { fault_but_leaf_of (mixed_outline true false (Some (Raw two))) ≡ None }
+    ensures parent { fault_but_leaf_of (mixed_outline false false (Some (Raw two))) ≡ Some (at.Tree (Vhd one)) }
+    ensures old { fault_but_leaf_of (record thin_outline { table = old_table }) ≡ Some (at.Image (Old one)) }
+    ensures enlarging { fault_but_leaf_of (record thin_outline { table = enlarging_table }) ≡ None }
+    ensures second { fault_but_leaf_of (record thin_outline { table = entries_table (Inflate one 1 ∷ Inflate one 2 ∷ []) }) ≡ Some (at.Journal (Inflate one 2)) }
+    ensures lost { fault_but_leaf_of (record thin_outline { table = entries_table (Inflate one 4 ∷ []) }) ≡ Some (at.Journal (Inflate one 4)) }
+    ensures other { fault_but_leaf_of (record thin_outline { table = entries_table (Inflate one 1 ∷ Inflate one 2 ∷ Leaf one two ∷ []) }) ≡ Some (at.Journal (Leaf one two)) }
+    ensures fork { fault_but_leaf_of (forking_outline (Some (Vhd two))) ≡ None }
+    ensures unlinked { fault_but_leaf_of (forking_outline None) ≡ Some (at.Journal (Clone one two three)) }
+    ensures link { fault_but_leaf_of (linking_outline 32) ≡ None }
+    ensures smaller { fault_but_leaf_of (linking_outline 24) ≡ Some (at.Journal (Relink two three)) }
+    ensures copy { fault_but_leaf_of (copying_outline (Vhd two)) ≡ None }
+    ensures shared { fault_but_leaf_of (copying_outline (Vhd three)) ≡ Some (at.Journal (Coalesce two three)) }
 {}
 
 /// A thin disk of one extent got two more, and a stop came: it is cut to one extent, and the entry is removed. Where it got none

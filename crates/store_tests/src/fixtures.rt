@@ -1,29 +1,13 @@
-//! Both stores, new, and what is asked before a call of them.
+//! A new store in memory.
 
-ghost use Rattle.std.specs.Prelude.{◌≡◌, ◌≤◌, false, IfOk};
-ghost use Rattle.vg_meta.specs.Roomy.{table_alone};
+ghost use Rattle.std.specs.Prelude.{◌≡◌, false, IfOk};
 ghost use Rattle.vg_memory.specs.Stores.{has_failed};
-ghost use Rattle.vg_volumes.specs.Sites.{size_of};
 
-use sm_base::Name;
-use sm_disk::MemDisk;
 use std::alloc::Global;
 use std::test::Fail;
 use test_support::geometry;
 use vg_layout::record_extents;
 use vg_memory::MemoryStore;
-use vg_store::Group;
-use vg_volumes::Store;
-
-/// The group on a device.
-pub fn opened(alloc: Global, disk: MemDisk) -> Result<Group<MemDisk>, Fail>
-    ensures { IfOk result (λ g. g.failed ≡ false) }
-{
-    match Group::open(alloc, disk) {
-        Ok(group) => Ok(group),
-        Err((_fault, _disk)) => Err(Fail::from("a group")),
-    }
-}
 
 /// A new store in memory of 64 extents. The calls with these numbers fail.
 pub fn plain(alloc: Global, failing: &[u64]) -> Result<MemoryStore, Fail>
@@ -36,15 +20,4 @@ pub fn plain(alloc: Global, failing: &[u64]) -> Result<MemoryStore, Fail>
     let mut store = MemoryStore::new(alloc, geometry, 64)?;
     store.fail(alloc, failing)?;
     Ok(store)
-}
-
-/// The sectors of a volume, or fewer where they pass 2^64 - 1.
-pub fn size<S: Store>(store: &S, name: &Name) -> u64
-    ensures { result ≤ size_of (S.site store.now) (table_alone (S.table store.now)) name.now }
-{
-    let extent = u64::from(store.geometry().extent);
-    match store.table().get(name) {
-        Some(volume) => (volume.extents().len() as u64).saturating_mul(extent),
-        None => 0,
-    }
 }

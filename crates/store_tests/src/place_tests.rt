@@ -2,12 +2,11 @@
 
 ghost use Rattle.std.specs.Prelude.{◌≡◌, false};
 
-use crate::fixtures::size;
 use sm_base::{Failed, Name};
 use sm_disk::{Disk, MemDisk, read_sector};
 use std::alloc::Global;
 use std::test::Fail;
-use test_support::{holds, prepare};
+use test_support::{holds, prepare, size};
 use uuid::Uuid;
 use vg_meta::{Change, Extents};
 use vg_volumes::Store;

@@ -4,12 +4,11 @@ ghost use Rattle.std.specs.Prelude.{◌≡◌, ◌≤◌, ◌<◌, length, IfOk}
 ghost use Rattle.sm_base.specs.Names.{IsUuid};
 ghost use Rattle.sm_record.specs.Records.{IsRecord};
 
-use crate::fixtures::size;
 use sm_base::{Failed, Label, Name, OpenFault, Place};
 use sm_mgt::{Mgt, Record};
 use std::alloc::Global;
 use std::test::Fail;
-use test_support::holds;
+use test_support::{holds, size};
 use uuid::Uuid;
 use vg_volumes::Store;
 

@@ -2,13 +2,12 @@
 
 ghost use Rattle.std.specs.Prelude.{◌≡◌, false};
 
-use crate::fixtures::size;
 use crate::works::{Work, in_group};
 use sm_base::Name;
 use sm_disk::MemDisk;
 use std::alloc::Global;
 use std::test::Fail;
-use test_support::{CHOICES, OPENING_CALLS, holds, prepare};
+use test_support::{CHOICES, OPENING_CALLS, holds, prepare, size};
 use uuid::Uuid;
 use vg_meta::{Change, Extents, Table};
 use vg_volumes::Store;

@@ -2,7 +2,7 @@
 
 ghost use Rattle.std.specs.Prelude.{◌≡◌, false};
 
-use crate::fixtures::{opened, plain};
+use crate::fixtures::plain;
 use crate::journal_tests::{Commit, classes_stand, commit_fails, entries_stand, still_stand};
 use crate::place_tests::{keeps_sectors, sectors_stand};
 use crate::record_tests::{
@@ -12,7 +12,7 @@ use crate::stop_tests::{Left, each_stop_leaves, shows, write_and_commit};
 use sm_disk::MemDisk;
 use std::alloc::Global;
 use std::test::Fail;
-use test_support::{DEVICE_SECTORS, formatted, new_group, stale};
+use test_support::{DEVICE_SECTORS, formatted, new_group, opened, stale};
 use vg_volumes::Store;
 
 /// What is done to a store.

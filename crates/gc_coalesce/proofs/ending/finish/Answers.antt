@@ -9,7 +9,8 @@ use Rattle.sm_ready.proofs.ChainLaws.{err_not_ok}
 use Rattle.sm_ready.proofs.OperationLaws.{WorksAt}
 use Rattle.sm_ready.proofs.RoomLaws.{rows_commits}
 use Rattle.sm_ready.proofs.TakenLaws.{is_told}
-use Rattle.gc_coalesce.proofs.EndingLaws.{can_end, ends, gc_end, gc_failed, orderly_end, shape_end, step_finish, tidy_end, true_end, worked_named}
+use Rattle.gc_abandon.proofs.EndingLaws.{can_end, ends, orderly_end, shape_end, tidy_end, true_end, worked_named}
+use Rattle.gc_coalesce.proofs.EndingLaws.{gc_end, gc_failed, step_finish}
 use Rattle.gc_coalesce.proofs.PlannedLaws.{finish_planned}
 use Rattle.gc_coalesce.proofs.ending.finish.Goals as goal
 

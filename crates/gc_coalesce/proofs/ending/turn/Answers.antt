@@ -5,7 +5,8 @@ use Rattle.sm_ready.proofs.ChainLaws.{err_not_ok}
 use Rattle.sm_ready.proofs.OperationLaws.{WorksAt}
 use Rattle.sm_ready.proofs.RoomLaws.{rows_commits}
 use Rattle.sm_ready.proofs.TakenLaws.{is_told}
-use Rattle.gc_coalesce.proofs.EndingLaws.{can_end, gc_end, gc_failed, orderly_end, shape_end, step_turn, tidy_end, true_end, turns, worked_named}
+use Rattle.gc_abandon.proofs.EndingLaws.{can_end, orderly_end, shape_end, tidy_end, true_end, worked_named}
+use Rattle.gc_coalesce.proofs.EndingLaws.{gc_end, gc_failed, step_turn, turns}
 use Rattle.gc_coalesce.proofs.PlannedLaws.{turn_planned}
 use Rattle.gc_coalesce.proofs.ending.turn.Goals as goal
 

@@ -1,149 +1,56 @@
-use Rattle.std.proofs.Common.{refl, ◌∙◌}
-use Rattle.sm_base.specs.declared.names.Name.TheVariants.{Mgt}
+use Rattle.std.proofs.Common.{◌≡◌, Ok, refl, ◌∙◌}
+use Rattle.std.proofs.lemmas.Result.{on_ok_weaker}
 use Rattle.sm_disk.proofs.HeldLaws.{Keeps-then}
-use Rattle.vg_volumes.proofs.StoredLaws.{stays_from, stays_then, works_keeps, works_then, works_writes}
-use Rattle.sm_ready.specs.Known.{known}
-use Rattle.sm_ready.specs.declared.memory.Memory.{Memory}
+use Rattle.sm_machine.specs.Commits.{gives_up}
+use Rattle.sm_machine.specs.declared.commands.Command.TheVariants as command
 use Rattle.sm_ready.proofs.ChainLaws.{err_not_ok}
-use Rattle.sm_ready.proofs.OwnLaws.{own_name}
-use Rattle.sm_ready.proofs.RoomLaws.{rows_commits, rows_stays}
-use Rattle.sm_ready.proofs.TakenLaws.{is_told}
-use Rattle.sm_changing.proofs.DeleteLaws.{to_delete}
-use Rattle.sm_changing.proofs.DeletedLaws.{can_remove, clear_failed, end_done, end_failed, has_places, known_ended, orderly_end, remove_failed, shape_end, tidy_end, tree_room_less, true_deleted}
+use Rattle.gc_abandon.proofs.AbandonedLaws.{GaveUp, give_up_failed, then_allowed, then_does, then_kept, then_next}
+use Rattle.sm_changing.proofs.deleting.delete.Given.{Over}
 use Rattle.sm_changing.proofs.deleting.delete.Goals as goal
 
-pub remove-requires : goal.remove-requires
-remove-requires g c =
-    let r = c.requires in
-    let d = to_delete _ _ (known c.args.memory.now) c.args.disk.now r.orderly r.tidy r.allowed r.kept_up in
-    can_remove g.S.Store c.args.store.now c.args.memory.now d (own_name _ _ (known c.args.memory.now) c.args.disk.now _ r.orderly d.own c.image_name-name.ensures) r.usable
+pub returns-in_err-give_up-clause-done : goal.returns-in_err-give_up-clause-done
+returns-in_err-give_up-clause-done g c = λ told ready.
+    give_up_failed g.S.Store c.args.store.now c.give_up.new.store c.args.memory.now c.give_up.new.memory c.args.disk.now (command.Delete c.args.disk.now) _ _ c.requires.usable told
+    (λ some. let failed = c.in_err-give_up.was in let fine = (c.give_up.ensures.none some).0 in cc) (λ fine. err_not_ok _ tt c.from_residual.ensures.0 fine) (λ is. c.give_up.ensures.done is told ready)
 
-pub returns-in_err-remove-clause-done : goal.returns-in_err-remove-clause-done
-returns-in_err-remove-clause-done g c = λ told ready.
-    let r = c.requires in
-    let d = to_delete _ _ (known c.args.memory.now) c.args.disk.now r.orderly r.tidy r.allowed r.kept_up in
-    remove_failed
-    (is_told g.S.Store c.args.store.now c.args.memory.now r.orderly r.usable told ready (g.met.S.Store.leaves_now c.args.store.now told r.usable)) d
-    (own_name _ _ (known c.args.memory.now) c.args.disk.now _ r.orderly d.own c.image_name-name.ensures) c.args.memory.now _ (λ fine. err_not_ok _ tt c.from_residual.ensures.0 fine) c.in_err-remove.ensures.fails (c.remove.ensures.crash told)
+-- the operation was given up, or none was there
+gave : (g : Over) (c : goal.After-take_away-arg-2-1 g) → GaveUp g.S.Store c.args.disk.now c.args.store.now c.args.memory.now c.give_up.new.store c.give_up.new.memory
+gave g c = record {
+  site = c.give_up.ensures.site;
+  usable = c.in_ok-give_up.ensures.usable_still;
+  orderly = c.in_ok-give_up.ensures.orderly_still;
+  shape = c.in_ok-give_up.ensures.shape;
+  none = λ no. let same = c.give_up.ensures.none no in (same.1, same.2);
+  done = λ is told ready. let d = c.give_up.ensures.done is told ready in (d.ready c.in_ok-give_up.was, d.settled c.in_ok-give_up.was, d.shown c.in_ok-give_up.was);
+}
 
-pub clear-requires : goal.clear-requires
-clear-requires g c =
-    let r = c.requires in
-    let d = to_delete _ _ (known c.args.memory.now) c.args.disk.now r.orderly r.tidy r.allowed r.kept_up in
-    record { size = has_places g.S.Store c.args.store.now c.args.memory.now d (own_name _ _ (known c.args.memory.now) c.args.disk.now _ r.orderly d.own c.image_name-name.ensures) c.in_ok-remove.ensures.commits }
+-- and so it is behind the work
+gave_then : (g : Over) (c : goal.After-take_away g) → GaveUp g.S.Store c.args.disk.now c.args.store.now c.args.memory.now c.give_up.new.store c.give_up.new.memory
+gave_then g c = record {
+  site = c.give_up.ensures.site;
+  usable = c.in_ok-give_up.ensures.usable_still;
+  orderly = c.in_ok-give_up.ensures.orderly_still;
+  shape = c.in_ok-give_up.ensures.shape;
+  none = λ no. let same = c.give_up.ensures.none no in (same.1, same.2);
+  done = λ is told ready. let d = c.give_up.ensures.done is told ready in (d.ready c.in_ok-give_up.was, d.settled c.in_ok-give_up.was, d.shown c.in_ok-give_up.was);
+}
 
-pub returns-in_err-clear-clause-beside : goal.returns-in_err-clear-clause-beside
-returns-in_err-clear-clause-beside g c = λ told. Keeps-then (c.in_ok-remove.ensures.commits.beside told) (c.clear.ensures.writes.stays.beside told)
+pub take_away-requires-clause-allowed : goal.take_away-requires-clause-allowed
+unfolding gives_up
+take_away-requires-clause-allowed g c = then_allowed (gave g c) (command.Delete c.args.disk.now) refl refl c.requires.allowed
 
-pub returns-in_err-clear-clause-tree_room : goal.returns-in_err-clear-clause-tree_room
-returns-in_err-clear-clause-tree_room g c =
-    let r = c.requires in
-    let d = to_delete _ _ (known c.args.memory.now) c.args.disk.now r.orderly r.tidy r.allowed r.kept_up in
-    let after : Memory = record { tree = c.take.new.self; records = c.clear.new.self; attached = c.args.memory.now.attached; operation = c.args.memory.now.operation } in
-    tree_room_less d (own_name _ _ (known c.args.memory.now) c.args.disk.now _ r.orderly d.own c.image_name-name.ensures) c.args.memory.now after refl _ c.take.ensures.taken c.take.ensures.rows c.take.ensures.some
-
-pub returns-in_err-clear-clause-done : goal.returns-in_err-clear-clause-done
-returns-in_err-clear-clause-done g c = λ told ready.
-    let r = c.requires in
-    let d = to_delete _ _ (known c.args.memory.now) c.args.disk.now r.orderly r.tidy r.allowed r.kept_up in
-    let w = c.clear.ensures.writes in
-    let after : Memory = record { tree = c.take.new.self; records = c.clear.new.self; attached = c.args.memory.now.attached; operation = c.args.memory.now.operation } in
-    clear_failed
-    (is_told g.S.Store c.args.store.now c.args.memory.now r.orderly r.usable told ready (g.met.S.Store.leaves_now c.args.store.now told r.usable)) d
-    (own_name _ _ (known c.args.memory.now) c.args.disk.now _ r.orderly d.own c.image_name-name.ensures) c.in_ok-remove.ensures.commits (c.remove.ensures.crash told)
-    w (g.met.S.Store.leaves_now c.clear.new.store told (w.stays.failed ∙ c.in_ok-remove.ensures.commits.usable)) after _ (λ fine. err_not_ok _ tt c.from_residual-in_err-clear.ensures.0 fine)
-
-pub returns-in_err-sync-clause-beside : goal.returns-in_err-sync-clause-beside
-returns-in_err-sync-clause-beside g c = λ told. Keeps-then (c.in_ok-remove.ensures.commits.beside told) (Keeps-then (c.clear.ensures.writes.stays.beside told) (c.sync.ensures.beside told))
-
-pub returns-in_err-sync-clause-tree_room : goal.returns-in_err-sync-clause-tree_room
-returns-in_err-sync-clause-tree_room g c =
-    let r = c.requires in
-    let d = to_delete _ _ (known c.args.memory.now) c.args.disk.now r.orderly r.tidy r.allowed r.kept_up in
-    let after : Memory = record { tree = c.take.new.self; records = c.clear.new.self; attached = c.args.memory.now.attached; operation = c.args.memory.now.operation } in
-    tree_room_less d (own_name _ _ (known c.args.memory.now) c.args.disk.now _ r.orderly d.own c.image_name-name.ensures) c.args.memory.now after refl _ c.take.ensures.taken c.take.ensures.rows c.take.ensures.some
-
-pub returns-in_err-sync-clause-done : goal.returns-in_err-sync-clause-done
-returns-in_err-sync-clause-done g c = λ told ready.
-    let r = c.requires in
-    let d = to_delete _ _ (known c.args.memory.now) c.args.disk.now r.orderly r.tidy r.allowed r.kept_up in
-    let w = c.clear.ensures.writes in
-    let e = c.sync.ensures in
-    let after : Memory = record { tree = c.take.new.self; records = c.clear.new.self; attached = c.args.memory.now.attached; operation = c.args.memory.now.operation } in
-    end_failed
-    (is_told g.S.Store c.args.store.now c.args.memory.now r.orderly r.usable told ready (g.met.S.Store.leaves_now c.args.store.now told r.usable)) d
-    (own_name _ _ (known c.args.memory.now) c.args.disk.now _ r.orderly d.own c.image_name-name.ensures) c.in_ok-remove.ensures.commits (c.remove.ensures.crash told)
-    w (g.met.S.Store.leaves_now c.clear.new.store told (w.stays.failed ∙ c.in_ok-remove.ensures.commits.usable))
-    (record { site = e.site; table = e.table.0; failed = e.table.1; keeps = e.keeps told; leaves = e.leaves told }) after _ (λ fine. err_not_ok _ tt c.from_residual-in_err-sync.ensures.0 fine)
+pub take_away-requires-clause-kept_up : goal.take_away-requires-clause-kept_up
+unfolding gives_up
+take_away-requires-clause-kept_up g c = then_kept (gave g c) (command.Delete c.args.disk.now) refl
 
 pub returns-clause-beside : goal.returns-clause-beside
-returns-clause-beside g c = λ told. Keeps-then (c.in_ok-remove.ensures.commits.beside told) (Keeps-then (c.clear.ensures.writes.stays.beside told) (c.sync.ensures.beside told))
-
-pub returns-clause-room : goal.returns-clause-room
-returns-clause-room g c = λ had.
-    let r = c.requires in
-    let d = to_delete _ _ (known c.args.memory.now) c.args.disk.now r.orderly r.tidy r.allowed r.kept_up in
-    let e = c.sync.ensures in
-    rows_stays (stays_then c.clear.ensures.writes.stays (stays_from {g = g.S.Store} e.site e.table e.no_less e.counts e.beside))
-    (rows_commits (can_remove g.S.Store c.args.store.now c.args.memory.now d (own_name _ _ (known c.args.memory.now) c.args.disk.now _ r.orderly d.own c.image_name-name.ensures) r.usable) c.in_ok-remove.ensures.commits had)
-
-pub returns-clause-tree_room : goal.returns-clause-tree_room
-returns-clause-tree_room g c =
-    let r = c.requires in
-    let d = to_delete _ _ (known c.args.memory.now) c.args.disk.now r.orderly r.tidy r.allowed r.kept_up in
-    let after : Memory = record { tree = c.take.new.self; records = c.clear.new.self; attached = c.args.memory.now.attached; operation = c.args.memory.now.operation } in
-    tree_room_less d (own_name _ _ (known c.args.memory.now) c.args.disk.now _ r.orderly d.own c.image_name-name.ensures) c.args.memory.now after refl _ c.take.ensures.taken c.take.ensures.rows c.take.ensures.some
-
-pub returns-clause-orderly_still : goal.returns-clause-orderly_still
-returns-clause-orderly_still g c =
-    let r = c.requires in
-    let d = to_delete _ _ (known c.args.memory.now) c.args.disk.now r.orderly r.tidy r.allowed r.kept_up in
-    let name = own_name _ _ (known c.args.memory.now) c.args.disk.now _ r.orderly d.own c.image_name-name.ensures in
-    let after : Memory = record { tree = c.take.new.self; records = c.clear.new.self; attached = c.args.memory.now.attached; operation = c.args.memory.now.operation } in
-    orderly_end g.S.Store c.args.store.now c.args.memory.now d name
-    (c.sync.ensures.site ∙ c.clear.ensures.writes.stays.site ∙ c.in_ok-remove.ensures.commits.site) (c.sync.ensures.table.0 ∙ c.clear.ensures.writes.stays.table ∙ c.in_ok-remove.ensures.commits.table)
-    after (known_ended c.args.memory.now after _ _ _ name c.take.ensures.rows c.in_ok-clear.ensures.places refl refl)
-
-pub returns-clause-tidy_still : goal.returns-clause-tidy_still
-returns-clause-tidy_still g c =
-    let r = c.requires in
-    let d = to_delete _ _ (known c.args.memory.now) c.args.disk.now r.orderly r.tidy r.allowed r.kept_up in
-    let name = own_name _ _ (known c.args.memory.now) c.args.disk.now _ r.orderly d.own c.image_name-name.ensures in
-    let after : Memory = record { tree = c.take.new.self; records = c.clear.new.self; attached = c.args.memory.now.attached; operation = c.args.memory.now.operation } in
-    tidy_end g.S.Store c.args.store.now c.args.memory.now d name
-    (c.sync.ensures.site ∙ c.clear.ensures.writes.stays.site ∙ c.in_ok-remove.ensures.commits.site) (c.sync.ensures.table.0 ∙ c.clear.ensures.writes.stays.table ∙ c.in_ok-remove.ensures.commits.table)
-    after (known_ended c.args.memory.now after _ _ _ name c.take.ensures.rows c.in_ok-clear.ensures.places refl refl)
+returns-clause-beside g c = λ told. Keeps-then (c.give_up.ensures.beside told) (c.take_away.ensures.beside told)
 
 pub returns-clause-shape : goal.returns-clause-shape
-returns-clause-shape g c =
-    let r = c.requires in
-    let d = to_delete _ _ (known c.args.memory.now) c.args.disk.now r.orderly r.tidy r.allowed r.kept_up in
-    let name = own_name _ _ (known c.args.memory.now) c.args.disk.now _ r.orderly d.own c.image_name-name.ensures in
-    let after : Memory = record { tree = c.take.new.self; records = c.clear.new.self; attached = c.args.memory.now.attached; operation = c.args.memory.now.operation } in
-    shape_end g.S.Store c.args.store.now c.args.memory.now d name
-    (c.sync.ensures.site ∙ c.clear.ensures.writes.stays.site ∙ c.in_ok-remove.ensures.commits.site) (c.sync.ensures.table.0 ∙ c.clear.ensures.writes.stays.table ∙ c.in_ok-remove.ensures.commits.table)
-    after (known_ended c.args.memory.now after _ _ _ name c.take.ensures.rows c.in_ok-clear.ensures.places refl refl)
+unfolding gives_up
+returns-clause-shape g c = on_ok_weaker c.take_away.result (λ shaped. shaped ∙ then_next (gave_then g c) (command.Delete c.args.disk.now) refl refl) c.take_away.ensures.shape
 
 pub returns-clause-done : goal.returns-clause-done
 returns-clause-done g c = λ told ready.
-    let r = c.requires in
-    let d = to_delete _ _ (known c.args.memory.now) c.args.disk.now r.orderly r.tidy r.allowed r.kept_up in
-    let name = own_name _ _ (known c.args.memory.now) c.args.disk.now _ r.orderly d.own c.image_name-name.ensures in
-    let w = c.clear.ensures.writes in
-    let e = c.sync.ensures in
-    let after : Memory = record { tree = c.take.new.self; records = c.clear.new.self; attached = c.args.memory.now.attached; operation = c.args.memory.now.operation } in
-    end_done
-    (is_told g.S.Store c.args.store.now c.args.memory.now r.orderly r.usable told ready (g.met.S.Store.leaves_now c.args.store.now told r.usable)) d
-    name c.in_ok-remove.ensures.commits (c.remove.ensures.crash told)
-    w (g.met.S.Store.leaves_now c.clear.new.store told (w.stays.failed ∙ c.in_ok-remove.ensures.commits.usable))
-    (record { site = e.site; table = e.table.0; failed = e.table.1; keeps = e.keeps told; leaves = e.leaves told }) (c.in_ok-sync.ensures.settled told) c.in_ok-clear.ensures.wrote
-    after _ (known_ended c.args.memory.now after _ _ _ name c.take.ensures.rows c.in_ok-clear.ensures.places refl refl)
-
-pub returns-clause-true_still : goal.returns-clause-true_still
-returns-clause-true_still g c =
-    let r = c.requires in
-    let d = to_delete _ _ (known c.args.memory.now) c.args.disk.now r.orderly r.tidy r.allowed r.kept_up in
-    let e = c.sync.ensures in
-    let after : Memory = record { tree = c.take.new.self; records = c.clear.new.self; attached = c.args.memory.now.attached; operation = c.args.memory.now.operation } in
-    true_deleted g.S.Store c.args.store.now c.args.memory.now d (own_name _ _ (known c.args.memory.now) c.args.disk.now _ r.orderly d.own c.image_name-name.ensures) c.in_ok-remove.ensures.commits
-    (works_then (works_writes c.clear.ensures.writes) (works_keeps Mgt (stays_from {g = g.S.Store} e.site e.table e.no_less e.counts e.beside) e.keeps)) after c.take.ensures.rows r.true_now
+    then_does (gave_then g c) c.take_away.new.memory (c.take_away.result ≡ Ok tt) (command.Delete c.args.disk.now) c.requires.orderly c.requires.usable told ready
+    (g.met.S.Store.leaves_now c.args.store.now told c.requires.usable) (g.met.S.Store.leaves_now c.give_up.new.store told c.in_ok-give_up.ensures.usable_still) (c.take_away.ensures.done told)

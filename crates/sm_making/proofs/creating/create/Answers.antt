@@ -4,7 +4,7 @@ use Rattle.sm_base.specs.declared.sizes.Geometry.{Geometry}
 use Rattle.vg_meta.specs.Changes.{AreFree}
 use Rattle.vg_meta.specs.Roomy.{table_alone}
 use Rattle.sm_machine.specs.Refusals.{rounded}
-use Rattle.sm_machine.specs.Steps.{is_built, disks_next, reply_to}
+use Rattle.sm_machine.specs.Steps.{disks_next, reply_to}
 use Rattle.sm_machine.specs.declared.commands.Command.TheVariants.{Create}
 use Rattle.sm_machine.specs.declared.replies.Reply.TheVariants as reply
 use Rattle.sm_ready.specs.Known.{shape_in}
@@ -41,21 +41,21 @@ overflow_mul-result-in-Ok-make_raw g c =
     omega (arith, mul-le-mul many wide)
 
 pub returns-in-Ok-make_raw-clause-taken : goal.returns-in-Ok-make_raw-clause-taken
-unfolding is_built disks_next reply_to rounded shape_in
+unfolding disks_next reply_to rounded shape_in
 returns-in-Ok-make_raw-clause-taken g c = λ told ready.
     let extent = ap (λ (h : Geometry). h.extent) c.geometry-geometry.ensures in
     let need = c.extents_needed-need.ensures.extents ∙ ap (λ n. extents_for n c.args.size) extent in
     let long = c.in-Ok.ensures.fit.many ∙ need in
-    taken_accepted (is_told g.S.Store c.args.store.now c.args.memory.now c.requires.orderly c.requires.usable told ready (g.met.S.Store.leaves_now c.args.store.now told c.requires.usable)) (Create c.args.disk.now c.args.size true c.args.label.now) c.make_raw.new.memory refl c.requires.allowed
+    taken_accepted (is_told g.S.Store c.args.store.now c.args.memory.now c.requires.orderly c.requires.usable told ready (g.met.S.Store.leaves_now c.args.store.now told c.requires.usable)) (Create c.args.disk.now c.args.size true c.args.label.now) c.make_raw.new.memory c.requires.allowed
     (rw long at (c.make_raw.ensures.done told ready (λ poor. let x = sym c.in-Ok-make_raw.is ∙ poor in cc))) _ (ap₂ (λ n m. reply.Size (n * m * 512)) need (c.from.ensures ∙ extent)) c.in-Ok-make_raw.is
     (c.in-Ok-make_raw.ensures.shape (store_state g.S.Store c.args.store.now c.args.memory.now) (record { size = c.args.size; accepted = c.requires.allowed; many = long; extents_free = subst (λ n. AreFree n (table_alone (g.S.Store.table c.args.store.now)).volumes c.in-Ok.found.items) c.extents-extents.ensures.count (rw c.table.ensures.table at c.in-Ok.ensures.free) }) refl)
 
 pub returns-in-Err-Device-clause-taken : goal.returns-in-Err-Device-clause-taken
-unfolding is_built disks_next rounded shape_in
+unfolding disks_next rounded shape_in
 returns-in-Err-Device-clause-taken g c = λ told ready.
     let need = c.extents_needed-need.ensures.extents ∙ ap (λ (h : Geometry). extents_for h.extent c.args.size) c.geometry-geometry.ensures in
     let long = c.in-Ok.ensures.fit.many ∙ need in
-    taken_stopped (is_told g.S.Store c.args.store.now c.args.memory.now c.requires.orderly c.requires.usable told ready (g.met.S.Store.leaves_now c.args.store.now told c.requires.usable)) (Create c.args.disk.now c.args.size true c.args.label.now) c.make_raw.new.memory refl c.requires.allowed
+    taken_stopped (is_told g.S.Store c.args.store.now c.args.memory.now c.requires.orderly c.requires.usable told ready (g.met.S.Store.leaves_now c.args.store.now told c.requires.usable)) (Create c.args.disk.now c.args.size true c.args.label.now) c.make_raw.new.memory c.requires.allowed
     (rw long at (c.make_raw.ensures.done told ready (λ poor. let x = sym c.in-Err-Device.is ∙ poor in let y = c.in-Err-Device.field-0-is in cc))) _
 
 pub returns-in-Err-NoMemory-clause-true_still : goal.returns-in-Err-NoMemory-clause-true_still

@@ -17,7 +17,7 @@ use Rattle.sm_ready.specs.Known.{known, shape_in}
 use Rattle.sm_ready.specs.Sessions.{store_state}
 use Rattle.sm_ready.specs.declared.memory.Memory.{Memory}
 use Rattle.sm_ready.proofs.FrameLaws.{true_reads}
-use Rattle.sm_ready.proofs.TakenLaws.{done_by, is_told, stopped_by, taken_poor, whole_by}
+use Rattle.sm_ready.proofs.TakenLaws.{done_by, is_told, stopped_by, taken_poor, step_accepted}
 use Rattle.sm_making.specs.Vhds.{HasHead, disk_head, image_uid, made_row, vhd_extents, vhd_sectors}
 use Rattle.sm_making.proofs.VhdLaws.{few_sectors, not_many}
 use Rattle.sm_making.proofs.vhd_creating.create_vhd.Goals as goal
@@ -67,7 +67,7 @@ returns-in-Ok-make_vhd-clause-taken g c = λ told ready.
     let is = sectors_are c.args.size c.div_ceil.result c.from-block.result (g.S.Store.site c.args.store.now).geometry c.div_ceil.ensures (c.from-block.ensures ∙ ap (λ (h : Geometry). h.block) c.geometry-geometry.ensures) in
     let σ = store_state g.S.Store c.args.store.now c.args.memory.now in
     let command = Create c.args.disk.now c.args.size false c.args.label.now in
-    done_by (is_told g.S.Store c.args.store.now c.args.memory.now c.requires.orderly c.requires.usable told ready (g.met.S.Store.leaves_now c.args.store.now told c.requires.usable)) command c.make_vhd.new.memory (whole_by σ command c.requires.allowed)
+    done_by (is_told g.S.Store c.args.store.now c.args.memory.now c.requires.orderly c.requires.usable told ready (g.met.S.Store.leaves_now c.args.store.now told c.requires.usable)) command c.make_vhd.new.memory (step_accepted σ command c.requires.allowed)
     (rw is at (c.make_vhd.ensures.done told ready (λ poor. let x = sym c.in-Ok-make_vhd.is ∙ poor in cc))) _ (ap (λ (n : ℕ). reply.Size (n * 512)) is) c.in-Ok-make_vhd.is
     (c.in-Ok-make_vhd.ensures.shape σ (record {
       size = c.args.size;
@@ -88,7 +88,7 @@ returns-in-Err-Device-clause-taken g c = λ told ready.
     let is = sectors_are c.args.size c.div_ceil.result c.from-block.result (g.S.Store.site c.args.store.now).geometry c.div_ceil.ensures (c.from-block.ensures ∙ ap (λ (h : Geometry). h.block) c.geometry-geometry.ensures) in
     let σ = store_state g.S.Store c.args.store.now c.args.memory.now in
     let command = Create c.args.disk.now c.args.size false c.args.label.now in
-    stopped_by (is_told g.S.Store c.args.store.now c.args.memory.now c.requires.orderly c.requires.usable told ready (g.met.S.Store.leaves_now c.args.store.now told c.requires.usable)) command c.make_vhd.new.memory (whole_by σ command c.requires.allowed)
+    stopped_by (is_told g.S.Store c.args.store.now c.args.memory.now c.requires.orderly c.requires.usable told ready (g.met.S.Store.leaves_now c.args.store.now told c.requires.usable)) command c.make_vhd.new.memory (step_accepted σ command c.requires.allowed)
     (rw is at (c.make_vhd.ensures.done told ready (λ poor. let x = sym c.in-Err-Device.is ∙ poor in let y = c.in-Err-Device.field-0-is in cc))) _
 
 pub returns-in-Err-NoMemory-clause-true_still : goal.returns-in-Err-NoMemory-clause-true_still

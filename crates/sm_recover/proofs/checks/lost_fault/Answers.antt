@@ -4,9 +4,9 @@ use Rattle.sm_recover.proofs.CheckLaws.{lost_at}
 use Rattle.sm_recover.proofs.checks.lost_fault.Goals as goal
 
 pub returns-in_err-volume : goal.returns-in_err-volume
-returns-in_err-volume c = λ seen is no_entry.
+returns-in_err-volume c = λ seen is.
     let none : c.from_residual.result ≡ None = search rules in
-    lost_at c.args.table.now seen is no_entry c.volumes.ensures.volumes c.in_err-volume.ensures none
+    lost_at c.args.table.now seen is c.volumes.ensures.volumes c.in_err-volume.ensures none
 
 pub returns : goal.returns
-returns c = λ seen is no_entry. lost_at c.args.table.now seen is no_entry c.volumes.ensures.volumes c.in_ok-volume.ensures (ap (λ n. Some (at.Journal n)) c.name.ensures.name)
+returns c = λ seen is. lost_at c.args.table.now seen is c.volumes.ensures.volumes c.in_ok-volume.ensures (ap (λ n. Some (at.Journal n)) c.name.ensures.name)

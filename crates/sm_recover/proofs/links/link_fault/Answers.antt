@@ -5,10 +5,10 @@ use Rattle.sm_recover.proofs.LinkLaws.{links_at}
 use Rattle.sm_recover.proofs.links.link_fault.Goals as goal
 
 pub returns-in_err-volume : goal.returns-in_err-volume
-returns-in_err-volume c = λ seen is no_entry links volumes counted.
+returns-in_err-volume c = λ seen is links volumes counted.
     let none : c.from_residual.result ≡ None = search rules in
-    links_at c.args.table.now c.args.tree.now.rows seen is no_entry links volumes counted c.volumes.ensures.volumes c.in_err-volume.ensures none
+    links_at c.args.table.now c.args.tree.now.rows seen is links volumes counted c.volumes.ensures.volumes c.in_err-volume.ensures none
 
 pub returns : goal.returns
-returns c = λ seen is no_entry links volumes counted.
-    links_at c.args.table.now c.args.tree.now.rows seen is no_entry links volumes counted c.volumes.ensures.volumes c.in_ok-volume.ensures (ap (λ (n : Name). Some (at.Journal n)) c.name.ensures.name)
+returns c = λ seen is links volumes counted.
+    links_at c.args.table.now c.args.tree.now.rows seen is links volumes counted c.volumes.ensures.volumes c.in_ok-volume.ensures (ap (λ (n : Name). Some (at.Journal n)) c.name.ensures.name)

@@ -4,8 +4,8 @@ use Rattle.vg_meta.specs.Roomy.{table_alone}
 use Rattle.sm_standing.specs.Outlines.{outline}
 use Rattle.sm_ready.specs.Stores.{content_now}
 use Rattle.sm_recover.specs.Repairs.{IsOpeningStopped}
-use Rattle.sm_recover.proofs.OpeningLaws.{has_table, if_err, none_ahead_of, not_read, today_links, today_table, today_trees}
-use Rattle.sm_recover.proofs.EntryLaws.{staged_end}
+use Rattle.sm_recover.proofs.OpeningLaws.{has_table, if_err, not_read, whole_links, whole_table, whole_trees}
+use Rattle.sm_recover.proofs.EntryLaws.{staged_open}
 use Rattle.sm_recover.proofs.SeenLaws.{all_valid, children_counted, links_now, volumes_seen}
 use Rattle.sm_recover.proofs.opening.checked_images.Goals as goal
 
@@ -14,7 +14,7 @@ returns-in-Some-clause-cause g c = λ told.
     let s = g.S.Store.site c.args.store.now in
     let t = table_alone (g.S.Store.table c.args.store.now) in
     let x = outline (content_now s t (g.S.Store.area c.args.store.now)) in
-    today_table x c.in-Some.place (c.in-Some.ensures.says x (has_table s t (reads (g.S.Store.area c.args.store.now))))
+    whole_table x c.in-Some.place (c.in-Some.ensures.says x (has_table s t (reads (g.S.Store.area c.args.store.now))))
 
 pub returns-in_err-tree-clause-cause : goal.returns-in_err-tree-clause-cause
 returns-in_err-tree-clause-cause g c =
@@ -32,10 +32,10 @@ returns-in-Some-tree_fault-clause-cause g c = λ told.
     let x = outline (content_now s t area) in
     let has = has_table s t (reads area) in
     let k = c.in_ok-tree.ensures in
-    let links = links_now g.S.Store c.args.store.now (staged_end c.in_default.ensures.checked) c.in_ok-tree.tree.rows k.each k.rows told in
+    let links = links_now g.S.Store c.args.store.now (staged_open c.in_default.ensures.checked) c.in_ok-tree.tree.rows k.each k.rows told in
     let same : t ≡ table_alone c.table.result.now = sym (ap table_alone c.table.ensures.table ∙ c.load.ensures.reads.stays.table) in
-    today_trees x c.in-Some-tree_fault.place (c.in_default.ensures.says x has) (all_valid g.S.Store c.args.store.now (staged_end c.in_default.ensures.checked) c.in_ok-tree.tree.rows k.each x has links)
-    (sym (c.in-Some-tree_fault.ensures x same links (children_counted g.S.Store c.args.store.now (staged_end c.in_default.ensures.checked) c.in_ok-tree.tree.rows k.each k.rows x refl links)))
+    whole_trees x c.in-Some-tree_fault.place (c.in_default.ensures.says x has) (all_valid g.S.Store c.args.store.now (staged_open c.in_default.ensures.checked) c.in_ok-tree.tree.rows k.each x has links)
+    (sym (c.in-Some-tree_fault.ensures x same links (children_counted g.S.Store c.args.store.now (staged_open c.in_default.ensures.checked) c.in_ok-tree.tree.rows k.each k.rows x refl links)))
 
 pub returns-in-Some-link_fault-clause-cause : goal.returns-in-Some-link_fault-clause-cause
 returns-in-Some-link_fault-clause-cause g c = λ told.
@@ -45,24 +45,24 @@ returns-in-Some-link_fault-clause-cause g c = λ told.
     let x = outline (content_now s t area) in
     let has = has_table s t (reads area) in
     let k = c.in_ok-tree.ensures in
-    let u = staged_end c.in_default.ensures.checked in
+    let u = staged_open c.in_default.ensures.checked in
     let xs = c.in_ok-tree.tree.rows in
     let links = links_now g.S.Store c.args.store.now u xs k.each k.rows told in
     let kept = c.load.ensures.reads.stays.table in
-    today_links x c.in-Some-link_fault.place (c.in_default.ensures.says x has) (all_valid g.S.Store c.args.store.now u xs k.each x has links)
+    whole_links x c.in-Some-link_fault.place (c.in_default.ensures.says x has) (all_valid g.S.Store c.args.store.now u xs k.each x has links)
     (sym (c.in_default-tree_fault.ensures x (sym (ap table_alone c.table.ensures.table ∙ kept)) links (children_counted g.S.Store c.args.store.now u xs k.each k.rows x refl links)))
-    (sym (c.in-Some-link_fault.ensures x (sym (ap table_alone c.table-2.ensures.table ∙ kept)) (none_ahead_of x (c.in_default.ensures.says x has)) links
+    (sym (c.in-Some-link_fault.ensures x (sym (ap table_alone c.table-2.ensures.table ∙ kept)) links
     (volumes_seen g.S.Store c.args.store.now u xs k.each k.rows x refl) (children_counted g.S.Store c.args.store.now u xs k.each k.rows x refl links)))
 
 pub returns-clause-passed : goal.returns-clause-passed
 returns-clause-passed g c = λ x has links.
     let k = c.in_ok-tree.ensures in
-    let u = staged_end c.in_default.ensures.checked in
+    let u = staged_open c.in_default.ensures.checked in
     let xs = c.in_ok-tree.tree.rows in
     let kept = c.load.ensures.reads.stays.table in
     record {
       valid = all_valid g.S.Store c.args.store.now u xs k.each x has links;
       placed = sym (c.in_default-tree_fault.ensures x (has.table ∙ sym (ap table_alone c.table.ensures.table ∙ kept)) links (children_counted g.S.Store c.args.store.now u xs k.each k.rows x has.table links));
-      linked = sym (c.in_default-link_fault.ensures x (has.table ∙ sym (ap table_alone c.table-2.ensures.table ∙ kept)) (none_ahead_of x (c.in_default.ensures.says x has)) links
+      linked = sym (c.in_default-link_fault.ensures x (has.table ∙ sym (ap table_alone c.table-2.ensures.table ∙ kept)) links
           (volumes_seen g.S.Store c.args.store.now u xs k.each k.rows x has.table) (children_counted g.S.Store c.args.store.now u xs k.each k.rows x has.table links));
     }

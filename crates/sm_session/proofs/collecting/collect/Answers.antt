@@ -4,7 +4,7 @@ use Rattle.std.proofs.lemmas.Result.{err_from_is_err_and}
 use Rattle.sm_machine.specs.Collector.{IsLess, debt}
 use Rattle.sm_machine.specs.Laws.{is_working}
 use Rattle.sm_machine.specs.Runs.{is_accepted, is_settling}
-use Rattle.sm_machine.specs.Steps.{is_fold, reply_to}
+use Rattle.sm_machine.specs.Steps.{reply_to}
 use Rattle.sm_machine.specs.declared.commands.Command.TheVariants.{Gc}
 use Rattle.sm_machine.specs.declared.replies.Reply.TheVariants as reply
 use Rattle.sm_ready.specs.Does.{store_shape}
@@ -13,15 +13,14 @@ use Rattle.sm_ready.specs.Sessions.{store_state}
 use Rattle.sm_ready.specs.Taken.{StoreTakes}
 use Rattle.sm_ready.proofs.DoesLaws.{does_err, does_ok}
 use Rattle.sm_ready.proofs.TakenLaws.{is_told, taken_answered, taken_poor}
-use Rattle.sm_session.specs.Carrying.{begins}
-use Rattle.sm_session.proofs.CollectLaws.{gc_lowers, gc_reply, gc_rests, never_refused, others_spare, others_work, rests}
+use Rattle.sm_session.proofs.CollectLaws.{gc_lowers, gc_reply, gc_rests, never_refused, others_spare, others_work, rests, starts}
 use Rattle.sm_session.proofs.collecting.collect.Goals as goal
 
 pub work-requires-clause-working : goal.work-requires-clause-working
 work-requires-clause-working g c = others_work c.args.plan c.in_default.not-Blocked c.in_default.not-Idle
 
 pub work-requires-clause-no_begin : goal.work-requires-clause-no_begin
-work-requires-clause-no_begin g c = others_spare c.args.plan c.in_default.not-Begin
+work-requires-clause-no_begin g c = others_spare c.args.plan c.in_default.not-Begin c.in_default.not-Leaf
 
 pub returns-in_err-work-in_default-clause-lowered : goal.returns-in_err-work-in_default-clause-lowered
 returns-in_err-work-in_default-clause-lowered g c =
@@ -35,7 +34,7 @@ returns-in_err-work-in_default-clause-taken g c = λ told ready.
     let e = err_from_is_err_and c.from_residual.result c.from_residual.ensures.1 in
     let here = is_told g.S.Store c.args.store.now c.args.memory.now c.requires.orderly c.requires.usable told ready (g.met.S.Store.leaves_now c.args.store.now told c.requires.usable) in
     subst (λ r. StoreTakes g.S.Store Gc c.args.store.now c.args.memory.now c.work.new.store c.work.new.memory r) (sym e.1)
-    (does_err here Gc c.work.new.memory c.requires.built (never_refused (store_shape g.S.Store c.args.store.now c.args.memory.now)) (c.work.ensures.done told ready) e.0)
+    (does_err here Gc c.work.new.memory (never_refused (store_shape g.S.Store c.args.store.now c.args.memory.now)) (c.work.ensures.done told ready) e.0)
 
 pub returns-in_ok-work-in_default-clause-refused : goal.returns-in_ok-work-in_default-clause-refused
 unfolding is_accepted
@@ -53,12 +52,11 @@ unfolding reply_to shape_in
 returns-in_ok-work-in_default-clause-taken g c = λ told ready.
     let here = is_told g.S.Store c.args.store.now c.args.memory.now c.requires.orderly c.requires.usable told ready (g.met.S.Store.leaves_now c.args.store.now told c.requires.usable) in
     let replied = ap (λ q. reply.Gc q c.args.memory.now.operation) (sym c.requires.planned) in
-    does_ok here Gc c.work.new.memory c.requires.built (never_refused (store_shape g.S.Store c.args.store.now c.args.memory.now)) (c.work.ensures.done told ready)
+    does_ok here Gc c.work.new.memory (never_refused (store_shape g.S.Store c.args.store.now c.args.memory.now)) (c.work.ensures.done told ready)
     _ replied c.in_ok-work-in_default.was c.work.ensures.site (c.in_ok-work-in_default.ensures.shape told ready)
 
-pub returns-in-Ok-clause-no_fold_still : goal.returns-in-Ok-clause-no_fold_still
-unfolding is_fold
-returns-in-Ok-clause-no_fold_still g c = ap is_fold c.in-Ok.ensures.operation
+pub start-requires-clause-working : goal.start-requires-clause-working
+start-requires-clause-working g c = starts c.args.plan c.in-Begin.is
 
 pub returns-in-Ok-clause-refused : goal.returns-in-Ok-clause-refused
 unfolding is_accepted
@@ -77,12 +75,11 @@ unfolding reply_to shape_in
 returns-in-Ok-clause-taken g c = λ told ready.
     let here = is_told g.S.Store c.args.store.now c.args.memory.now c.requires.orderly c.requires.usable told ready (g.met.S.Store.leaves_now c.args.store.now told c.requires.usable) in
     let replied = ap (λ q. reply.Gc q c.args.memory.now.operation) (sym c.requires.planned) in
-    does_ok here Gc c.begin.new.memory c.requires.built (never_refused (store_shape g.S.Store c.args.store.now c.args.memory.now)) (c.begin.ensures.done told ready)
-    _ replied c.in-Ok.is c.begin.ensures.site c.in-Ok.ensures.shape
+    does_ok here Gc c.start.new.memory (never_refused (store_shape g.S.Store c.args.store.now c.args.memory.now)) (c.start.ensures.done told ready)
+    _ replied c.in-Ok.is c.start.ensures.site c.in-Ok.ensures.shape
 
 pub returns-in-Err-NoMemory-clause-spared : goal.returns-in-Err-NoMemory-clause-spared
-unfolding begins
-returns-in-Err-NoMemory-clause-spared g c = λ poor. ap begins c.in-Begin.is
+returns-in-Err-NoMemory-clause-spared g c = λ poor. starts c.args.plan c.in-Begin.is
 
 pub returns-in-Err-NoMemory-clause-lowered : goal.returns-in-Err-NoMemory-clause-lowered
 unfolding is_accepted
@@ -90,20 +87,20 @@ returns-in-Err-NoMemory-clause-lowered g c = λ yes. absurd (true≢false (sym y
 
 pub returns-in-Err-NoMemory-clause-taken : goal.returns-in-Err-NoMemory-clause-taken
 returns-in-Err-NoMemory-clause-taken g c = λ told ready.
-    let p = c.begin.ensures.poor (c.in-Err-NoMemory.is ∙ ap (λ f. Err f) c.in-Err-NoMemory.field-0-is) in
+    let p = c.start.ensures.poor (c.in-Err-NoMemory.is ∙ ap (λ f. Err f) c.in-Err-NoMemory.field-0-is) in
     let here = is_told g.S.Store c.args.store.now c.args.memory.now c.requires.orderly c.requires.usable told ready (g.met.S.Store.leaves_now c.args.store.now told c.requires.usable) in
-    taken_poor here Gc c.begin.new.memory p.0 p.1 p.2
+    taken_poor here Gc c.start.new.memory p.0 p.1 p.2
 
 pub returns-in-Err-Device-clause-taken : goal.returns-in-Err-Device-clause-taken
 returns-in-Err-Device-clause-taken g c = λ told ready.
     let here = is_told g.S.Store c.args.store.now c.args.memory.now c.requires.orderly c.requires.usable told ready (g.met.S.Store.leaves_now c.args.store.now told c.requires.usable) in
-    does_err here Gc c.begin.new.memory c.requires.built (never_refused (store_shape g.S.Store c.args.store.now c.args.memory.now)) (c.begin.ensures.done told ready) _
+    does_err here Gc c.start.new.memory (never_refused (store_shape g.S.Store c.args.store.now c.args.memory.now)) (c.start.ensures.done told ready) _
 
 pub returns-in-Blocked-clause-taken : goal.returns-in-Blocked-clause-taken
 unfolding is_settling reply_to shape_in
 returns-in-Blocked-clause-taken g c = λ told ready.
     let σ = store_state g.S.Store c.args.store.now c.args.memory.now in
     let replied = ap (λ q. reply.Gc q c.args.memory.now.operation) (sym c.requires.planned) in
-    let still = gc_rests σ c.requires.built c.requires.orderly.table.sequence (ap is_working c.requires.planned ∙ rests c.args.plan c.in-Blocked.is) in
+    let still = gc_rests σ c.requires.orderly.table.sequence (ap is_working c.requires.planned ∙ rests c.args.plan c.in-Blocked.is) in
     let here = is_told g.S.Store c.args.store.now c.args.memory.now c.requires.orderly c.requires.usable told ready (g.met.S.Store.leaves_now c.args.store.now told c.requires.usable) in
-    taken_answered here Gc (inr (replied ∙ sym (gc_reply σ c.requires.built))) still refl
+    taken_answered here Gc (inr (replied ∙ sym (gc_reply σ))) still refl

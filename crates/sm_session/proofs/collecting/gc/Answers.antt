@@ -1,20 +1,15 @@
-use Rattle.std.proofs.Common.{◌≡◌, ℕ, sym, ◌∙◌, subst, arith}
-use Rattle.std.proofs.lemmas.Bool.{true≢false}
+use Rattle.std.proofs.Common.{◌≡◌, ℕ, sym, subst, arith}
 use Rattle.sm_base.specs.declared.operations.Plan.{Plan}
 use Rattle.sm_base.specs.declared.sizes.Geometry.{Geometry}
 use Rattle.vg_meta.specs.Roomy.{RoomyTable, table_alone}
 use Rattle.vg_volumes.specs.declared.stores.Store.{Ghosts}
 use Rattle.sm_machine.specs.Collector.{next_step}
-use Rattle.sm_machine.specs.Runs.{is_accepted}
-use Rattle.sm_machine.specs.declared.commands.Command.TheVariants.{Gc}
 use Rattle.sm_ready.specs.Does.{store_shape}
-use Rattle.sm_ready.specs.Known.{known, shape_in}
+use Rattle.sm_ready.specs.Known.{known}
 use Rattle.sm_ready.specs.Refusing.{Answers}
-use Rattle.sm_ready.specs.Sessions.{IsOrderlyStore, IsTidyStore, store_state}
+use Rattle.sm_ready.specs.Sessions.{IsOrderlyStore, IsTidyStore}
 use Rattle.sm_ready.specs.declared.memory.Memory.{Memory}
-use Rattle.sm_ready.proofs.TakenLaws.{is_told, step_unbuilt, taken_refused}
 use Rattle.gc_plan.proofs.ImageLaws.{few_rows}
-use Rattle.sm_session.proofs.CollectLaws.{gc_built, leaf_unbuilt}
 use Rattle.sm_session.proofs.collecting.gc.Goals as goal
 
 -- what was planned by a store's table and sizes is the next step
@@ -33,22 +28,3 @@ pub collect-requires-clause-planned : goal.collect-requires-clause-planned
 collect-requires-clause-planned g c =
     planned g.S.Store c.args.store.now c.args.memory.now c.geometry-geometry.result c.extents-extents.result c.table.result.now c.plan-plan.result c.geometry-geometry.ensures c.extents-extents.ensures.count c.table.ensures.table
     c.plan-plan.ensures.exact c.requires.orderly c.requires.tidy
-
-pub collect-requires-clause-built : goal.collect-requires-clause-built
-unfolding shape_in
-collect-requires-clause-built g c =
-    let step = planned g.S.Store c.args.store.now c.args.memory.now c.geometry-geometry.result c.extents-extents.result c.table.result.now c.plan-plan.result c.geometry-geometry.ensures c.extents-extents.ensures.count c.table.ensures.table
-    c.plan-plan.ensures.exact c.requires.orderly c.requires.tidy in
-    gc_built (store_shape g.S.Store c.args.store.now c.args.memory.now) c.plan-plan.result step c.requires.no_fold c.in_default.not-Leaf
-
-pub returns-in-Leaf-clause-taken : goal.returns-in-Leaf-clause-taken
-returns-in-Leaf-clause-taken g c = λ told ready.
-    let step = planned g.S.Store c.args.store.now c.args.memory.now c.geometry-geometry.result c.extents-extents.result c.table.result.now c.plan-plan.result c.geometry-geometry.ensures c.extents-extents.ensures.count c.table.ensures.table
-    c.plan-plan.ensures.exact c.requires.orderly c.requires.tidy in
-    taken_refused (is_told g.S.Store c.args.store.now c.args.memory.now c.requires.orderly c.requires.usable told ready (g.met.S.Store.leaves_now c.args.store.now told c.requires.usable)) Gc _
-    (step_unbuilt (store_state g.S.Store c.args.store.now c.args.memory.now) Gc
-    (leaf_unbuilt (store_shape g.S.Store c.args.store.now c.args.memory.now) c.in-Leaf.leaf c.in-Leaf.parent c.in-Leaf.to (step ∙ c.in-Leaf.is)))
-
-pub returns-in-Leaf-clause-lowered : goal.returns-in-Leaf-clause-lowered
-unfolding is_accepted
-returns-in-Leaf-clause-lowered g c = λ yes. absurd (true≢false (sym yes))

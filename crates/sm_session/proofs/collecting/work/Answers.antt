@@ -2,14 +2,14 @@ use Rattle.std.proofs.Common.{◌≡◌, OnOk, sym, ap, ◌∙◌, subst}
 use Rattle.std.proofs.lemmas.Result.{on_ok_weaker}
 use Rattle.sm_machine.specs.Laws.{is_working}
 use Rattle.sm_machine.specs.Shapes.{image_uuid}
-use Rattle.sm_machine.specs.Steps.{disks_next, is_fold, shape_next}
+use Rattle.sm_machine.specs.Steps.{disks_next, shape_next}
 use Rattle.sm_machine.specs.declared.commands.Command.TheVariants.{Gc}
 use Rattle.sm_ready.specs.Does.{ShapesAs, store_shape}
 use Rattle.sm_ready.specs.Known.{shape_in}
 use Rattle.sm_ready.proofs.KeptLaws.{vhd_named}
 use Rattle.sm_space.specs.Deflating.{CanDeflate, deflated}
 use Rattle.sm_space.proofs.LooseLaws.{planned_cut, shape_planned}
-use Rattle.sm_session.proofs.CollectLaws.{advanced_folds, copy_runs, seven_work, turned_folds, work_lowers}
+use Rattle.sm_session.proofs.CollectLaws.{copy_runs, eight_work, work_lowers}
 use Rattle.sm_session.proofs.collecting.work.Given.{Over}
 use Rattle.sm_session.proofs.collecting.work.Goals as goal
 
@@ -25,13 +25,13 @@ deflate-requires-clause-there g c =
 
 pub copy_block-requires-clause-copying : goal.copy_block-requires-clause-copying
 unfolding shape_in
-copy_block-requires-clause-copying g c = copy_runs (store_shape g.S.Store c.args.store.now c.args.memory.now) c.in-Copy.block (c.requires.planned ∙ c.in-Copy.is) c.requires.no_fold
+copy_block-requires-clause-copying g c = copy_runs (store_shape g.S.Store c.args.store.now c.args.memory.now) c.in-Copy.block (c.requires.planned ∙ c.in-Copy.is)
 
 pub unreachable-requires-in_default : goal.unreachable-requires-in_default
 unfolding shape_in
 unreachable-requires-in_default g c =
-    seven_work (store_shape g.S.Store c.args.store.now c.args.memory.now) c.args.plan c.requires.planned c.requires.no_fold c.requires.built c.requires.working c.requires.no_begin
-    c.in_default.not-Remove c.in_default.not-Deflate c.in_default.not-Copy c.in_default.not-Turn c.in_default.not-RelinkOne c.in_default.not-Finish c.in_default.not-Abandon
+    eight_work c.args.plan c.requires.working c.requires.no_begin
+    c.in_default.not-Remove c.in_default.not-Deflate c.in_default.not-Copy c.in_default.not-Turn c.in_default.not-RelinkOne c.in_default.not-Finish c.in_default.not-Swap c.in_default.not-Abandon
 
 -- a cut leaves the machine's shape
 cut_shape : (g : Over) (c : goal.After-deflate g) → OnOk c.deflate.result (ShapesAs g.S.Store Gc c.args.store.now c.args.memory.now c.deflate.new.store c.deflate.new.memory)
@@ -50,21 +50,6 @@ returns-in-Vhd-clause-lowered g c =
 pub returns-in-Vhd-clause-done : goal.returns-in-Vhd-clause-done
 unfolding disks_next
 returns-in-Vhd-clause-done g c = c.deflate.ensures.done
-
-pub returns-in-Copy-clause-no_fold_still : goal.returns-in-Copy-clause-no_fold_still
-returns-in-Copy-clause-no_fold_still g c =
-    on_ok_weaker c.copy_block.result (λ is. ap is_fold is ∙ advanced_folds c.in-Copy.block c.args.memory.now.operation ∙ c.requires.no_fold) c.copy_block.ensures.operation
-
-pub returns-in-Turn-clause-no_fold_still : goal.returns-in-Turn-clause-no_fold_still
-returns-in-Turn-clause-no_fold_still g c = on_ok_weaker c.turn.result (λ is. ap is_fold is ∙ turned_folds c.args.memory.now.operation ∙ c.requires.no_fold) c.turn.ensures.operation
-
-pub returns-in-Finish-clause-no_fold_still : goal.returns-in-Finish-clause-no_fold_still
-unfolding is_fold
-returns-in-Finish-clause-no_fold_still g c = on_ok_weaker c.finish.result (λ is. ap is_fold is) c.finish.ensures.operation
-
-pub returns-in-Abandon-clause-no_fold_still : goal.returns-in-Abandon-clause-no_fold_still
-unfolding is_fold
-returns-in-Abandon-clause-no_fold_still g c = on_ok_weaker c.abandon.result (λ is. ap is_fold is) c.abandon.ensures.operation
 
 pub returns-in-Remove-clause-lowered : goal.returns-in-Remove-clause-lowered
 returns-in-Remove-clause-lowered g c =
@@ -85,3 +70,7 @@ returns-in-Finish-clause-lowered g c =
 pub returns-in-Abandon-clause-lowered : goal.returns-in-Abandon-clause-lowered
 returns-in-Abandon-clause-lowered g c =
     work_lowers (store_shape g.S.Store c.args.store.now c.args.memory.now) _ c.requires.orderly.well_formed (ap is_working c.requires.planned ∙ c.requires.working) c.abandon.result c.abandon.ensures.shape
+
+pub returns-in-Swap-clause-lowered : goal.returns-in-Swap-clause-lowered
+returns-in-Swap-clause-lowered g c =
+    work_lowers (store_shape g.S.Store c.args.store.now c.args.memory.now) _ c.requires.orderly.well_formed (ap is_working c.requires.planned ∙ c.requires.working) c.swap.result c.swap.ensures.shape

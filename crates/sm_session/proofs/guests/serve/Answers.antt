@@ -11,20 +11,15 @@ use Rattle.sm_machine.specs.declared.replies.Reply.TheVariants.{Done, No}
 use Rattle.sm_guests.specs.Taken.{answered}
 use Rattle.sm_ready.specs.Does.{ShapesAs, StoreDoes, store_shape}
 use Rattle.sm_ready.specs.Frames.{HasCommits}
-use Rattle.sm_ready.specs.Known.{shape_in}
 use Rattle.sm_ready.specs.Sessions.{store_state}
 use Rattle.sm_ready.specs.declared.memory.Memory.{Memory}
-use Rattle.sm_ready.specs.Taken.{StoreTakes, StoreTakesWhole}
+use Rattle.sm_ready.specs.Taken.{StoreTakes}
 use Rattle.sm_ready.proofs.DoesLaws.{does_err, does_ok}
 use Rattle.sm_ready.proofs.FrameLaws.{true_reads}
-use Rattle.sm_ready.proofs.TakenLaws.{is_told, taken_built, taken_poor}
+use Rattle.sm_ready.proofs.TakenLaws.{is_told, taken_poor}
 use Rattle.sm_session.specs.Carrying.{most_commits}
-use Rattle.sm_session.proofs.CarryLaws.{guests_built, not_guests, nothing_given_up, of_reply, stopped_at}
+use Rattle.sm_session.proofs.CarryLaws.{not_guests, of_reply, stopped_at}
 use Rattle.sm_session.proofs.guests.serve.Goals as goal
-
-pub attach-requires-clause-kept_up : goal.attach-requires-clause-kept_up
-unfolding shape_in
-attach-requires-clause-kept_up g c = nothing_given_up (store_shape g.S.Store c.args.store.now c.args.memory.now) (command.Attach c.in-Attach.disk c.in-Attach.mode) c.requires.no_fold
 
 pub returns-in-Ok-clause-few : goal.returns-in-Ok-clause-few
 unfolding most_commits
@@ -45,7 +40,7 @@ returns-in-Ok-clause-untouched g c = λ e. absurd (true≢false e)
 pub returns-in-Ok-clause-taken : goal.returns-in-Ok-clause-taken
 unfolding reply_to
 returns-in-Ok-clause-taken g c = λ told ready.
-    does_ok (is_told g.S.Store c.args.store.now c.args.memory.now c.requires.orderly c.requires.usable told ready (g.met.S.Store.leaves_now c.args.store.now told c.requires.usable)) c.args.command.now c.attach.new.memory (guests_built _ c.args.command.now c.requires.guests) c.requires.allowed (subst (λ k. StoreDoes g.S.Store k c.args.store.now c.args.memory.now c.attach.new.store c.attach.new.memory (c.attach.result ≡ Ok tt)) (sym c.in-Attach.is) (c.attach.ensures.done told ready))
+    does_ok (is_told g.S.Store c.args.store.now c.args.memory.now c.requires.orderly c.requires.usable told ready (g.met.S.Store.leaves_now c.args.store.now told c.requires.usable)) c.args.command.now c.attach.new.memory c.requires.allowed (subst (λ k. StoreDoes g.S.Store k c.args.store.now c.args.memory.now c.attach.new.store c.attach.new.memory (c.attach.result ≡ Ok tt)) (sym c.in-Attach.is) (c.attach.ensures.done told ready))
     _ (sym (ap (reply_to (store_state g.S.Store c.args.store.now c.args.memory.now).disks (store_state g.S.Store c.args.store.now c.args.memory.now).shape) c.in-Attach.is)) c.in-Ok.is c.attach.ensures.site (subst (λ k. ShapesAs g.S.Store k c.args.store.now c.args.memory.now c.attach.new.store c.attach.new.memory) (sym c.in-Attach.is) c.in-Ok.ensures.shape)
 
 pub returns-in-Err-NoMemory-clause-true_still : goal.returns-in-Err-NoMemory-clause-true_still
@@ -63,12 +58,12 @@ unfolding most_commits
 returns-in-Err-Device-clause-few_left g c = λ told t image l. subst (λ k. HasCommits (most_commits k) (table_alone (g.S.Store.table c.args.store.now)) t) (sym c.in-Attach.is) (c.attach.ensures.few_left told t image l)
 
 pub returns-in-Err-Device-clause-taken : goal.returns-in-Err-Device-clause-taken
-returns-in-Err-Device-clause-taken g c = λ told ready. does_err (is_told g.S.Store c.args.store.now c.args.memory.now c.requires.orderly c.requires.usable told ready (g.met.S.Store.leaves_now c.args.store.now told c.requires.usable)) c.args.command.now c.attach.new.memory (guests_built _ c.args.command.now c.requires.guests) c.requires.allowed (subst (λ k. StoreDoes g.S.Store k c.args.store.now c.args.memory.now c.attach.new.store c.attach.new.memory (c.attach.result ≡ Ok tt)) (sym c.in-Attach.is) (c.attach.ensures.done told ready)) _
+returns-in-Err-Device-clause-taken g c = λ told ready. does_err (is_told g.S.Store c.args.store.now c.args.memory.now c.requires.orderly c.requires.usable told ready (g.met.S.Store.leaves_now c.args.store.now told c.requires.usable)) c.args.command.now c.attach.new.memory c.requires.allowed (subst (λ k. StoreDoes g.S.Store k c.args.store.now c.args.memory.now c.attach.new.store c.attach.new.memory (c.attach.result ≡ Ok tt)) (sym c.in-Attach.is) (c.attach.ensures.done told ready)) _
 
 pub returns-in_err-detach-in-Detach-clause-taken : goal.returns-in_err-detach-in-Detach-clause-taken
 returns-in_err-detach-in-Detach-clause-taken g c = λ told ready.
     let e = err_from_is_err_and c.from_residual.result c.from_residual.ensures.1 in
-    subst (λ r. StoreTakes g.S.Store c.args.command.now c.args.store.now c.args.memory.now c.detach.new.store c.detach.new.memory r) (sym e.1) (does_err (is_told g.S.Store c.args.store.now c.args.memory.now c.requires.orderly c.requires.usable told ready (g.met.S.Store.leaves_now c.args.store.now told c.requires.usable)) c.args.command.now c.detach.new.memory (guests_built _ c.args.command.now c.requires.guests) c.requires.allowed (subst (λ k. StoreDoes g.S.Store k c.args.store.now c.args.memory.now c.detach.new.store c.detach.new.memory (c.detach.result ≡ Ok tt)) (sym c.in-Detach.is) (c.detach.ensures.done told ready)) e.0)
+    subst (λ r. StoreTakes g.S.Store c.args.command.now c.args.store.now c.args.memory.now c.detach.new.store c.detach.new.memory r) (sym e.1) (does_err (is_told g.S.Store c.args.store.now c.args.memory.now c.requires.orderly c.requires.usable told ready (g.met.S.Store.leaves_now c.args.store.now told c.requires.usable)) c.args.command.now c.detach.new.memory c.requires.allowed (subst (λ k. StoreDoes g.S.Store k c.args.store.now c.args.memory.now c.detach.new.store c.detach.new.memory (c.detach.result ≡ Ok tt)) (sym c.in-Detach.is) (c.detach.ensures.done told ready)) e.0)
 
 pub returns-in_ok-detach-in-Detach-clause-refused : goal.returns-in_ok-detach-in-Detach-clause-refused
 unfolding is_accepted
@@ -81,14 +76,13 @@ returns-in_ok-detach-in-Detach-clause-untouched g c = λ e. absurd (true≢false
 pub returns-in_ok-detach-in-Detach-clause-taken : goal.returns-in_ok-detach-in-Detach-clause-taken
 unfolding reply_to
 returns-in_ok-detach-in-Detach-clause-taken g c = λ told ready.
-    does_ok (is_told g.S.Store c.args.store.now c.args.memory.now c.requires.orderly c.requires.usable told ready (g.met.S.Store.leaves_now c.args.store.now told c.requires.usable)) c.args.command.now c.detach.new.memory (guests_built _ c.args.command.now c.requires.guests) c.requires.allowed (subst (λ k. StoreDoes g.S.Store k c.args.store.now c.args.memory.now c.detach.new.store c.detach.new.memory (c.detach.result ≡ Ok tt)) (sym c.in-Detach.is) (c.detach.ensures.done told ready))
+    does_ok (is_told g.S.Store c.args.store.now c.args.memory.now c.requires.orderly c.requires.usable told ready (g.met.S.Store.leaves_now c.args.store.now told c.requires.usable)) c.args.command.now c.detach.new.memory c.requires.allowed (subst (λ k. StoreDoes g.S.Store k c.args.store.now c.args.memory.now c.detach.new.store c.detach.new.memory (c.detach.result ≡ Ok tt)) (sym c.in-Detach.is) (c.detach.ensures.done told ready))
     _ (sym (ap (reply_to (store_state g.S.Store c.args.store.now c.args.memory.now).disks (store_state g.S.Store c.args.store.now c.args.memory.now).shape) c.in-Detach.is)) c.in_ok-detach-in-Detach.was c.detach.ensures.site (subst (λ k. ShapesAs g.S.Store k c.args.store.now c.args.memory.now c.detach.new.store c.detach.new.memory) (sym c.in-Detach.is) c.in_ok-detach-in-Detach.ensures.shape)
 
 pub returns-in_err-write-in-Write-clause-taken : goal.returns-in_err-write-in-Write-clause-taken
 returns-in_err-write-in-Write-clause-taken g c = λ told ready.
     let e = err_from_is_err_and c.from_residual-in_err-write-in-Write.result c.from_residual-in_err-write-in-Write.ensures.1 in
-    subst (λ r. StoreTakes g.S.Store c.args.command.now c.args.store.now c.args.memory.now c.write.new.store c.write.new.memory r) (sym e.1) (stopped_at g.S.Store c.args.store.now c.write.new.store c.args.memory.now c.write.new.memory c.args.command.now _ e.0 (taken_built g.S.Store c.args.store.now c.write.new.store c.args.memory.now c.write.new.memory c.args.command.now (answered Done c.write.result) (guests_built _ c.args.command.now c.requires.guests)
-    (subst (λ k. StoreTakesWhole g.S.Store k c.args.store.now c.args.memory.now c.write.new.store c.write.new.memory (answered Done c.write.result)) (sym c.in-Write.is) (subst (λ b. StoreTakesWhole g.S.Store (command.Write c.in-Write.disk c.in-Write.sector b) c.args.store.now c.args.memory.now c.write.new.store c.write.new.memory (answered Done c.write.result)) (c.deref.ensures.value ∙ c.bytes.view_is) (c.write.ensures.taken told ready)))))
+    subst (λ r. StoreTakes g.S.Store c.args.command.now c.args.store.now c.args.memory.now c.write.new.store c.write.new.memory r) (sym e.1) (stopped_at g.S.Store c.args.store.now c.write.new.store c.args.memory.now c.write.new.memory c.args.command.now _ e.0 ((subst (λ k. StoreTakes g.S.Store k c.args.store.now c.args.memory.now c.write.new.store c.write.new.memory (answered Done c.write.result)) (sym c.in-Write.is) (subst (λ b. StoreTakes g.S.Store (command.Write c.in-Write.disk c.in-Write.sector b) c.args.store.now c.args.memory.now c.write.new.store c.write.new.memory (answered Done c.write.result)) (c.deref.ensures.value ∙ c.bytes.view_is) (c.write.ensures.taken told ready)))))
 
 pub returns-in_ok-write-in-Write-clause-refused : goal.returns-in_ok-write-in-Write-clause-refused
 unfolding is_accepted
@@ -100,14 +94,12 @@ returns-in_ok-write-in-Write-clause-untouched g c = λ e. absurd (true≢false e
 
 pub returns-in_ok-write-in-Write-clause-taken : goal.returns-in_ok-write-in-Write-clause-taken
 returns-in_ok-write-in-Write-clause-taken g c = λ told ready.
-    subst (λ r. StoreTakes g.S.Store c.args.command.now c.args.store.now c.args.memory.now c.write.new.store c.write.new.memory (answered Done r)) c.in_ok-write-in-Write.was (taken_built g.S.Store c.args.store.now c.write.new.store c.args.memory.now c.write.new.memory c.args.command.now (answered Done c.write.result) (guests_built _ c.args.command.now c.requires.guests)
-    (subst (λ k. StoreTakesWhole g.S.Store k c.args.store.now c.args.memory.now c.write.new.store c.write.new.memory (answered Done c.write.result)) (sym c.in-Write.is) (subst (λ b. StoreTakesWhole g.S.Store (command.Write c.in-Write.disk c.in-Write.sector b) c.args.store.now c.args.memory.now c.write.new.store c.write.new.memory (answered Done c.write.result)) (c.deref.ensures.value ∙ c.bytes.view_is) (c.write.ensures.taken told ready))))
+    subst (λ r. StoreTakes g.S.Store c.args.command.now c.args.store.now c.args.memory.now c.write.new.store c.write.new.memory (answered Done r)) c.in_ok-write-in-Write.was ((subst (λ k. StoreTakes g.S.Store k c.args.store.now c.args.memory.now c.write.new.store c.write.new.memory (answered Done c.write.result)) (sym c.in-Write.is) (subst (λ b. StoreTakes g.S.Store (command.Write c.in-Write.disk c.in-Write.sector b) c.args.store.now c.args.memory.now c.write.new.store c.write.new.memory (answered Done c.write.result)) (c.deref.ensures.value ∙ c.bytes.view_is) (c.write.ensures.taken told ready))))
 
 pub returns-in_err-fill-in-Fill-clause-taken : goal.returns-in_err-fill-in-Fill-clause-taken
 returns-in_err-fill-in-Fill-clause-taken g c = λ told ready.
     let e = err_from_is_err_and c.from_residual-in_err-fill-in-Fill.result c.from_residual-in_err-fill-in-Fill.ensures.1 in
-    subst (λ r. StoreTakes g.S.Store c.args.command.now c.args.store.now c.args.memory.now c.fill.new.store c.fill.new.memory r) (sym e.1) (stopped_at g.S.Store c.args.store.now c.fill.new.store c.args.memory.now c.fill.new.memory c.args.command.now _ e.0 (taken_built g.S.Store c.args.store.now c.fill.new.store c.args.memory.now c.fill.new.memory c.args.command.now (answered Done c.fill.result) (guests_built _ c.args.command.now c.requires.guests)
-    (subst (λ k. StoreTakesWhole g.S.Store k c.args.store.now c.args.memory.now c.fill.new.store c.fill.new.memory (answered Done c.fill.result)) (sym c.in-Fill.is) (c.fill.ensures.taken told ready))))
+    subst (λ r. StoreTakes g.S.Store c.args.command.now c.args.store.now c.args.memory.now c.fill.new.store c.fill.new.memory r) (sym e.1) (stopped_at g.S.Store c.args.store.now c.fill.new.store c.args.memory.now c.fill.new.memory c.args.command.now _ e.0 ((subst (λ k. StoreTakes g.S.Store k c.args.store.now c.args.memory.now c.fill.new.store c.fill.new.memory (answered Done c.fill.result)) (sym c.in-Fill.is) (c.fill.ensures.taken told ready))))
 
 pub returns-in_ok-fill-in-Fill-clause-refused : goal.returns-in_ok-fill-in-Fill-clause-refused
 unfolding is_accepted
@@ -119,14 +111,12 @@ returns-in_ok-fill-in-Fill-clause-untouched g c = λ e. absurd (true≢false e)
 
 pub returns-in_ok-fill-in-Fill-clause-taken : goal.returns-in_ok-fill-in-Fill-clause-taken
 returns-in_ok-fill-in-Fill-clause-taken g c = λ told ready.
-    subst (λ r. StoreTakes g.S.Store c.args.command.now c.args.store.now c.args.memory.now c.fill.new.store c.fill.new.memory (answered Done r)) c.in_ok-fill-in-Fill.was (taken_built g.S.Store c.args.store.now c.fill.new.store c.args.memory.now c.fill.new.memory c.args.command.now (answered Done c.fill.result) (guests_built _ c.args.command.now c.requires.guests)
-    (subst (λ k. StoreTakesWhole g.S.Store k c.args.store.now c.args.memory.now c.fill.new.store c.fill.new.memory (answered Done c.fill.result)) (sym c.in-Fill.is) (c.fill.ensures.taken told ready)))
+    subst (λ r. StoreTakes g.S.Store c.args.command.now c.args.store.now c.args.memory.now c.fill.new.store c.fill.new.memory (answered Done r)) c.in_ok-fill-in-Fill.was ((subst (λ k. StoreTakes g.S.Store k c.args.store.now c.args.memory.now c.fill.new.store c.fill.new.memory (answered Done c.fill.result)) (sym c.in-Fill.is) (c.fill.ensures.taken told ready)))
 
 pub returns-in_err-flush-in-Flush-clause-taken : goal.returns-in_err-flush-in-Flush-clause-taken
 returns-in_err-flush-in-Flush-clause-taken g c = λ told ready.
     let e = err_from_is_err_and c.from_residual-in_err-flush-in-Flush.result c.from_residual-in_err-flush-in-Flush.ensures.1 in
-    subst (λ r. StoreTakes g.S.Store c.args.command.now c.args.store.now c.args.memory.now c.flush.new.store c.args.memory.now r) (sym e.1) (stopped_at g.S.Store c.args.store.now c.flush.new.store c.args.memory.now c.args.memory.now c.args.command.now _ e.0 (taken_built g.S.Store c.args.store.now c.flush.new.store c.args.memory.now c.args.memory.now c.args.command.now (answered Done c.flush.result) (guests_built _ c.args.command.now c.requires.guests)
-    (subst (λ k. StoreTakesWhole g.S.Store k c.args.store.now c.args.memory.now c.flush.new.store c.args.memory.now (answered Done c.flush.result)) (sym c.in-Flush.is) (c.flush.ensures.taken told c.args.memory.now c.in-Flush.disk c.requires.orderly ready (subst (λ k. refusal (store_shape g.S.Store c.args.store.now c.args.memory.now) k ≡ None) c.in-Flush.is c.requires.allowed)))))
+    subst (λ r. StoreTakes g.S.Store c.args.command.now c.args.store.now c.args.memory.now c.flush.new.store c.args.memory.now r) (sym e.1) (stopped_at g.S.Store c.args.store.now c.flush.new.store c.args.memory.now c.args.memory.now c.args.command.now _ e.0 ((subst (λ k. StoreTakes g.S.Store k c.args.store.now c.args.memory.now c.flush.new.store c.args.memory.now (answered Done c.flush.result)) (sym c.in-Flush.is) (c.flush.ensures.taken told c.args.memory.now c.in-Flush.disk c.requires.orderly ready (subst (λ k. refusal (store_shape g.S.Store c.args.store.now c.args.memory.now) k ≡ None) c.in-Flush.is c.requires.allowed)))))
 
 pub returns-in_ok-flush-in-Flush-clause-refused : goal.returns-in_ok-flush-in-Flush-clause-refused
 unfolding is_accepted
@@ -138,13 +128,11 @@ returns-in_ok-flush-in-Flush-clause-untouched g c = λ e. absurd (true≢false e
 
 pub returns-in_ok-flush-in-Flush-clause-taken : goal.returns-in_ok-flush-in-Flush-clause-taken
 returns-in_ok-flush-in-Flush-clause-taken g c = λ told ready.
-    subst (λ r. StoreTakes g.S.Store c.args.command.now c.args.store.now c.args.memory.now c.flush.new.store c.args.memory.now (answered Done r)) c.in_ok-flush-in-Flush.was (taken_built g.S.Store c.args.store.now c.flush.new.store c.args.memory.now c.args.memory.now c.args.command.now (answered Done c.flush.result) (guests_built _ c.args.command.now c.requires.guests)
-    (subst (λ k. StoreTakesWhole g.S.Store k c.args.store.now c.args.memory.now c.flush.new.store c.args.memory.now (answered Done c.flush.result)) (sym c.in-Flush.is) (c.flush.ensures.taken told c.args.memory.now c.in-Flush.disk c.requires.orderly ready (subst (λ k. refusal (store_shape g.S.Store c.args.store.now c.args.memory.now) k ≡ None) c.in-Flush.is c.requires.allowed))))
+    subst (λ r. StoreTakes g.S.Store c.args.command.now c.args.store.now c.args.memory.now c.flush.new.store c.args.memory.now (answered Done r)) c.in_ok-flush-in-Flush.was ((subst (λ k. StoreTakes g.S.Store k c.args.store.now c.args.memory.now c.flush.new.store c.args.memory.now (answered Done c.flush.result)) (sym c.in-Flush.is) (c.flush.ensures.taken told c.args.memory.now c.in-Flush.disk c.requires.orderly ready (subst (λ k. refusal (store_shape g.S.Store c.args.store.now c.args.memory.now) k ≡ None) c.in-Flush.is c.requires.allowed))))
 
 pub returns-in-Read-clause-taken : goal.returns-in-Read-clause-taken
 returns-in-Read-clause-taken g c = λ told ready.
-    taken_built g.S.Store c.args.store.now c.read.new.store c.args.memory.now c.args.memory.now c.args.command.now c.read.result (guests_built _ c.args.command.now c.requires.guests)
-    (subst (λ k. StoreTakesWhole g.S.Store k c.args.store.now c.args.memory.now c.read.new.store c.args.memory.now c.read.result) (sym c.in-Read.is) (c.read.ensures.taken told ready))
+    (subst (λ k. StoreTakes g.S.Store k c.args.store.now c.args.memory.now c.read.new.store c.args.memory.now c.read.result) (sym c.in-Read.is) (c.read.ensures.taken told ready))
 
 pub unreachable-requires : goal.unreachable-requires
 unreachable-requires g c = not_guests c.args.command.now c.requires.guests c.in_default.not-Attach c.in_default.not-Detach c.in_default.not-Write c.in_default.not-Fill c.in_default.not-Read c.in_default.not-Flush

@@ -7,7 +7,7 @@ use Rattle.sm_base.specs.declared.refusals.Refusal.TheVariants.{NoMemory}
 use Rattle.std.specs.Result.{IsOk}
 use Rattle.sm_machine.specs.declared.replies.Reply.TheVariants.{No, Size}
 use Rattle.sm_machine.specs.Runs.{is_accepted, is_settling, takes_memory}
-use Rattle.sm_machine.specs.Steps.{is_built, reply_to}
+use Rattle.sm_machine.specs.Steps.{reply_to}
 use Rattle.sm_machine.specs.declared.commands.Command.TheVariants as command
 use Rattle.sm_listing.proofs.ListLaws.{step_after}
 use Rattle.sm_listing.proofs.StatSteps.{stat_after, stat_reply}
@@ -17,24 +17,19 @@ use Rattle.sm_ready.specs.Known.{known, shape_in}
 use Rattle.sm_ready.specs.Orderly.{IsOrderly}
 use Rattle.sm_ready.specs.Ready.{IsTidy}
 use Rattle.sm_ready.specs.Sessions.{store_state}
-use Rattle.sm_ready.specs.Taken.{StoreTakes, StoreTakesWhole}
+use Rattle.sm_ready.specs.Taken.{StoreTakes}
 use Rattle.sm_ready.proofs.DoesLaws.{does_err, does_ok}
-use Rattle.sm_ready.proofs.TakenLaws.{is_told, taken_answered, taken_built}
+use Rattle.sm_ready.proofs.TakenLaws.{is_told, taken_answered}
 use Rattle.sm_session.specs.Carrying.{most_commits}
-use Rattle.sm_session.proofs.CarryLaws.{is_on, nothing_given_up, of_reply, others_guests}
+use Rattle.sm_session.proofs.CarryLaws.{of_reply, others_guests}
 use Rattle.sm_session.proofs.taking.carry_out.Goals as goal
 
-pub delete-requires-clause-kept_up : goal.delete-requires-clause-kept_up
-unfolding shape_in
-delete-requires-clause-kept_up g c = nothing_given_up (store_shape g.S.Store c.args.store.now c.args.memory.now) (command.Delete c.in-Delete.disk) c.requires.no_fold
-
 pub returns-in_err-delete-in-Delete-clause-taken : goal.returns-in_err-delete-in-Delete-clause-taken
-unfolding is_built
 returns-in_err-delete-in-Delete-clause-taken g c = λ told ready.
     let e = err_from_is_err_and c.from_residual.result c.from_residual.ensures.1 in
     subst (λ k. StoreTakes g.S.Store k c.args.store.now c.args.memory.now c.delete.new.store c.delete.new.memory c.from_residual.result) (sym c.in-Delete.is)
     (subst (λ r. StoreTakes g.S.Store (command.Delete c.in-Delete.disk) c.args.store.now c.args.memory.now c.delete.new.store c.delete.new.memory r) (sym e.1)
-    (does_err (is_told g.S.Store c.args.store.now c.args.memory.now c.requires.orderly c.requires.usable told ready (g.met.S.Store.leaves_now c.args.store.now told c.requires.usable)) (command.Delete c.in-Delete.disk) c.delete.new.memory refl
+    (does_err (is_told g.S.Store c.args.store.now c.args.memory.now c.requires.orderly c.requires.usable told ready (g.met.S.Store.leaves_now c.args.store.now told c.requires.usable)) (command.Delete c.in-Delete.disk) c.delete.new.memory
     (subst (λ k. refusal (store_shape g.S.Store c.args.store.now c.args.memory.now) k ≡ None) c.in-Delete.is c.requires.allowed) (c.delete.ensures.done told ready) e.0))
 
 pub returns-in_ok-delete-in-Delete-clause-refused : goal.returns-in_ok-delete-in-Delete-clause-refused
@@ -46,20 +41,19 @@ unfolding is_accepted
 returns-in_ok-delete-in-Delete-clause-untouched g c = λ e. absurd (true≢false e)
 
 pub returns-in_ok-delete-in-Delete-clause-taken : goal.returns-in_ok-delete-in-Delete-clause-taken
-unfolding is_built reply_to
+unfolding reply_to
 returns-in_ok-delete-in-Delete-clause-taken g c = λ told ready.
-    does_ok (is_told g.S.Store c.args.store.now c.args.memory.now c.requires.orderly c.requires.usable told ready (g.met.S.Store.leaves_now c.args.store.now told c.requires.usable)) c.args.command.now c.delete.new.memory (is_on _ c.in-Delete.is refl) c.requires.allowed
+    does_ok (is_told g.S.Store c.args.store.now c.args.memory.now c.requires.orderly c.requires.usable told ready (g.met.S.Store.leaves_now c.args.store.now told c.requires.usable)) c.args.command.now c.delete.new.memory c.requires.allowed
     (subst (λ k. StoreDoes g.S.Store k c.args.store.now c.args.memory.now c.delete.new.store c.delete.new.memory (c.delete.result ≡ Ok tt)) (sym c.in-Delete.is) (c.delete.ensures.done told ready))
     _ (sym (ap (reply_to (store_state g.S.Store c.args.store.now c.args.memory.now).disks (store_state g.S.Store c.args.store.now c.args.memory.now).shape) c.in-Delete.is)) c.in_ok-delete-in-Delete.was c.delete.ensures.site
     (subst (λ k. ShapesAs g.S.Store k c.args.store.now c.args.memory.now c.delete.new.store c.delete.new.memory) (sym c.in-Delete.is) c.in_ok-delete-in-Delete.ensures.shape)
 
 pub returns-in_err-label-in-Label-clause-taken : goal.returns-in_err-label-in-Label-clause-taken
-unfolding is_built
 returns-in_err-label-in-Label-clause-taken g c = λ told ready.
     let e = err_from_is_err_and c.from_residual-in_err-label-in-Label.result c.from_residual-in_err-label-in-Label.ensures.1 in
     subst (λ k. StoreTakes g.S.Store k c.args.store.now c.args.memory.now c.label.new.store c.label.new.memory c.from_residual-in_err-label-in-Label.result) (sym c.in-Label.is)
     (subst (λ r. StoreTakes g.S.Store (command.Label c.in-Label.disk c.in-Label.text) c.args.store.now c.args.memory.now c.label.new.store c.label.new.memory r) (sym e.1)
-    (does_err (is_told g.S.Store c.args.store.now c.args.memory.now c.requires.orderly c.requires.usable told ready (g.met.S.Store.leaves_now c.args.store.now told c.requires.usable)) (command.Label c.in-Label.disk c.in-Label.text) c.label.new.memory refl
+    (does_err (is_told g.S.Store c.args.store.now c.args.memory.now c.requires.orderly c.requires.usable told ready (g.met.S.Store.leaves_now c.args.store.now told c.requires.usable)) (command.Label c.in-Label.disk c.in-Label.text) c.label.new.memory
     (subst (λ k. refusal (store_shape g.S.Store c.args.store.now c.args.memory.now) k ≡ None) c.in-Label.is c.requires.allowed) (c.label.ensures.done told ready) e.0))
 
 pub returns-in_ok-label-in-Label-clause-refused : goal.returns-in_ok-label-in-Label-clause-refused
@@ -71,18 +65,16 @@ unfolding is_accepted
 returns-in_ok-label-in-Label-clause-untouched g c = λ e. absurd (true≢false e)
 
 pub returns-in_ok-label-in-Label-clause-taken : goal.returns-in_ok-label-in-Label-clause-taken
-unfolding is_built reply_to
+unfolding reply_to
 returns-in_ok-label-in-Label-clause-taken g c = λ told ready.
-    does_ok (is_told g.S.Store c.args.store.now c.args.memory.now c.requires.orderly c.requires.usable told ready (g.met.S.Store.leaves_now c.args.store.now told c.requires.usable)) c.args.command.now c.label.new.memory (is_on _ c.in-Label.is refl) c.requires.allowed
+    does_ok (is_told g.S.Store c.args.store.now c.args.memory.now c.requires.orderly c.requires.usable told ready (g.met.S.Store.leaves_now c.args.store.now told c.requires.usable)) c.args.command.now c.label.new.memory c.requires.allowed
     (subst (λ k. StoreDoes g.S.Store k c.args.store.now c.args.memory.now c.label.new.store c.label.new.memory (c.label.result ≡ Ok tt)) (sym c.in-Label.is) (c.label.ensures.done told ready))
     _ (sym (ap (reply_to (store_state g.S.Store c.args.store.now c.args.memory.now).disks (store_state g.S.Store c.args.store.now c.args.memory.now).shape) c.in-Label.is)) c.in_ok-label-in-Label.was c.label.ensures.stays.site
     (subst (λ k. ShapesAs g.S.Store k c.args.store.now c.args.memory.now c.label.new.store c.label.new.memory) (sym c.in-Label.is) c.in_ok-label-in-Label.ensures.shape)
 
 pub returns-else-raw-clause-taken : goal.returns-else-raw-clause-taken
-unfolding is_built
 returns-else-raw-clause-taken g c = λ told ready.
-    taken_built g.S.Store c.args.store.now c.create_vhd.new.store c.args.memory.now c.create_vhd.new.memory c.args.command.now c.create_vhd.result (is_on _ c.in-Create.is refl)
-    (subst (λ k. StoreTakesWhole g.S.Store k c.args.store.now c.args.memory.now c.create_vhd.new.store c.create_vhd.new.memory c.create_vhd.result)
+    (subst (λ k. StoreTakes g.S.Store k c.args.store.now c.args.memory.now c.create_vhd.new.store c.create_vhd.new.memory c.create_vhd.result)
     (sym (c.in-Create.is ∙ ap (λ b. command.Create c.in-Create.disk c.in-Create.size b c.in-Create.label) c.if-raw.false)) (c.create_vhd.ensures.taken told ready))
 
 pub returns-in-List-clause-taken : goal.returns-in-List-clause-taken
@@ -128,16 +120,11 @@ returns-in_ok-delete-in-Delete-clause-few_left g c = λ told t image l. subst (�
 pub serve-requires-clause-guests : goal.serve-requires-clause-guests
 serve-requires-clause-guests g c = others_guests c.args.command.now c.in_default.not-Create c.in_default.not-Delete c.in_default.not-Label c.in_default.not-Resize c.in_default.not-Snapshot c.in_default.not-Clone c.in_default.not-List c.in_default.not-Stat c.in_default.not-Gc
 
-pub resize-requires-clause-kept_up : goal.resize-requires-clause-kept_up
-unfolding shape_in
-resize-requires-clause-kept_up g c = nothing_given_up (store_shape g.S.Store c.args.store.now c.args.memory.now) (command.Resize c.in-Resize.disk c.in-Resize.size) c.requires.no_fold
-
 pub returns-in_err-bytes-in-Resize-clause-taken : goal.returns-in_err-bytes-in-Resize-clause-taken
-unfolding is_built
 returns-in_err-bytes-in-Resize-clause-taken g c = λ told ready.
     let e = err_from_is_err_and c.from_residual-in_err-bytes-in-Resize.result c.from_residual-in_err-bytes-in-Resize.ensures.1 in
     subst (λ r. StoreTakes g.S.Store c.args.command.now c.args.store.now c.args.memory.now c.resize.new.store c.resize.new.memory r) (sym e.1)
-    (does_err (is_told g.S.Store c.args.store.now c.args.memory.now c.requires.orderly c.requires.usable told ready (g.met.S.Store.leaves_now c.args.store.now told c.requires.usable)) c.args.command.now c.resize.new.memory (is_on _ c.in-Resize.is refl) c.requires.allowed (subst (λ k. StoreDoes g.S.Store k c.args.store.now c.args.memory.now c.resize.new.store c.resize.new.memory (IsOk c.resize.result)) (sym c.in-Resize.is) (c.resize.ensures.done told ready)) e.0)
+    (does_err (is_told g.S.Store c.args.store.now c.args.memory.now c.requires.orderly c.requires.usable told ready (g.met.S.Store.leaves_now c.args.store.now told c.requires.usable)) c.args.command.now c.resize.new.memory c.requires.allowed (subst (λ k. StoreDoes g.S.Store k c.args.store.now c.args.memory.now c.resize.new.store c.resize.new.memory (IsOk c.resize.result)) (sym c.in-Resize.is) (c.resize.ensures.done told ready)) e.0)
 
 pub returns-in_ok-bytes-in-Resize-clause-refused : goal.returns-in_ok-bytes-in-Resize-clause-refused
 unfolding is_accepted
@@ -148,10 +135,10 @@ unfolding is_accepted
 returns-in_ok-bytes-in-Resize-clause-untouched g c = λ e. absurd (true≢false e)
 
 pub returns-in_ok-bytes-in-Resize-clause-taken : goal.returns-in_ok-bytes-in-Resize-clause-taken
-unfolding is_built reply_to shape_in
+unfolding reply_to shape_in
 returns-in_ok-bytes-in-Resize-clause-taken g c = λ told ready.
-    does_ok (is_told g.S.Store c.args.store.now c.args.memory.now c.requires.orderly c.requires.usable told ready (g.met.S.Store.leaves_now c.args.store.now told c.requires.usable)) c.args.command.now c.resize.new.memory (is_on _ c.in-Resize.is refl) c.requires.allowed (subst (λ k. StoreDoes g.S.Store k c.args.store.now c.args.memory.now c.resize.new.store c.resize.new.memory (IsOk c.resize.result)) (sym c.in-Resize.is) (c.resize.ensures.done told ready))
-    _ (ap Size c.in_ok-bytes-in-Resize.ensures.size ∙ sym (ap (reply_to (store_state g.S.Store c.args.store.now c.args.memory.now).disks (store_state g.S.Store c.args.store.now c.args.memory.now).shape) c.in-Resize.is)) (subst IsOk (sym c.in_ok-bytes-in-Resize.was) refl) c.resize.ensures.stays.site
+    does_ok (is_told g.S.Store c.args.store.now c.args.memory.now c.requires.orderly c.requires.usable told ready (g.met.S.Store.leaves_now c.args.store.now told c.requires.usable)) c.args.command.now c.resize.new.memory c.requires.allowed (subst (λ k. StoreDoes g.S.Store k c.args.store.now c.args.memory.now c.resize.new.store c.resize.new.memory (IsOk c.resize.result)) (sym c.in-Resize.is) (c.resize.ensures.done told ready))
+    _ (ap Size c.in_ok-bytes-in-Resize.ensures.size ∙ sym (ap (reply_to (store_state g.S.Store c.args.store.now c.args.memory.now).disks (store_state g.S.Store c.args.store.now c.args.memory.now).shape) c.in-Resize.is)) (subst IsOk (sym c.in_ok-bytes-in-Resize.was) refl) c.resize.ensures.site
     (subst (λ k. ShapesAs g.S.Store k c.args.store.now c.args.memory.now c.resize.new.store c.resize.new.memory) (sym c.in-Resize.is) c.in_ok-bytes-in-Resize.ensures.shape)
 
 pub returns-then-raw-clause-spared : goal.returns-then-raw-clause-spared
@@ -226,3 +213,19 @@ returns-in-Gc-clause-few_left g c = λ told t image l. subst (λ k. HasCommits (
 pub returns-in-Gc-clause-spared : goal.returns-in-Gc-clause-spared
 unfolding takes_memory
 returns-in-Gc-clause-spared g c = of_reply (λ r. r ≡ No NoMemory → takes_memory c.args.command.now ≡ true) c.gc.result (λ r e. subst (λ k. takes_memory k ≡ true) (sym c.in-Gc.is) refl)
+
+pub returns-in_err-bytes-in-Resize-clause-few : goal.returns-in_err-bytes-in-Resize-clause-few
+unfolding most_commits
+returns-in_err-bytes-in-Resize-clause-few g c = subst (λ k. HasCommits (most_commits k) (table_alone (g.S.Store.table c.args.store.now)) (table_alone (g.S.Store.table c.resize.new.store))) (sym c.in-Resize.is) c.resize.ensures.few
+
+pub returns-in_err-bytes-in-Resize-clause-few_left : goal.returns-in_err-bytes-in-Resize-clause-few_left
+unfolding most_commits
+returns-in_err-bytes-in-Resize-clause-few_left g c = λ told t image l. subst (λ k. HasCommits (most_commits k) (table_alone (g.S.Store.table c.args.store.now)) t) (sym c.in-Resize.is) (c.resize.ensures.few_left told t image l)
+
+pub returns-in_ok-bytes-in-Resize-clause-few : goal.returns-in_ok-bytes-in-Resize-clause-few
+unfolding most_commits
+returns-in_ok-bytes-in-Resize-clause-few g c = subst (λ k. HasCommits (most_commits k) (table_alone (g.S.Store.table c.args.store.now)) (table_alone (g.S.Store.table c.resize.new.store))) (sym c.in-Resize.is) c.resize.ensures.few
+
+pub returns-in_ok-bytes-in-Resize-clause-few_left : goal.returns-in_ok-bytes-in-Resize-clause-few_left
+unfolding most_commits
+returns-in_ok-bytes-in-Resize-clause-few_left g c = λ told t image l. subst (λ k. HasCommits (most_commits k) (table_alone (g.S.Store.table c.args.store.now)) t) (sym c.in-Resize.is) (c.resize.ensures.few_left told t image l)

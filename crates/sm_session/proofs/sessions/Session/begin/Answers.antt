@@ -1,12 +1,6 @@
-use Rattle.std.proofs.Common.{ap}
-use Rattle.sm_machine.specs.Steps.{is_fold}
 use Rattle.sm_ready.proofs.ShowLaws.{kept_ready, settled_ready}
 use Rattle.sm_ready.proofs.TakenLaws.{is_told}
 use Rattle.sm_session.proofs.sessions.Session.begin.Goals as goal
-
-pub invariant_of-result-clause-no_fold : goal.invariant_of-result-clause-no_fold
-unfolding is_fold
-invariant_of-result-clause-no_fold g c = λ whole. ap is_fold c.in-Ok-settle.ensures.at_ease.idle
 
 pub returns-in-Ok-settle-clause-kept : goal.returns-in-Ok-settle-clause-kept
 returns-in-Ok-settle-clause-kept g c = λ told holding.

@@ -1,0 +1,91 @@
+-- What was planned for an attachment holds behind the folding of a leaf that is given up, and the table is that without its entry.
+use Rattle.std.proofs.Common.{◌≡◌, ℕ, ◌+◌, ◌-◌, ◌<◌, Bool, true, false, List, [], ◌∷◌, Option, Some, None, refl, sym, ap, ap₂, ◌∙◌, subst, subst₂, arith, cond}
+use Rattle.std.specs.Str.{bytes_eq}
+use Rattle.sm_base.specs.declared.names.Name.{Name}
+use Rattle.sm_base.specs.declared.names.Name.TheVariants.{Leaf, Vhd}
+use Rattle.sm_base.specs.declared.operations.Mode.{Mode}
+use Rattle.sm_base.specs.declared.operations.Mode.TheVariants.{Ro, Rw}
+use Rattle.sm_base.specs.declared.operations.Op.{Op}
+use Rattle.sm_base.specs.declared.operations.Op.TheVariants as op
+use Rattle.vg_meta.specs.Changes.{applied}
+use Rattle.vg_meta.specs.Tables.{VolumeTable}
+use Rattle.vg_meta.specs.declared.changes.Change.{Change}
+use Rattle.vg_meta.specs.declared.changes.Change.TheVariants.{Remove}
+use Rattle.vg_volumes.specs.Stored.{Commits}
+use Rattle.vg_volumes.specs.declared.stores.Store.{Ghosts}
+use Rattle.vhd_chain.specs.Trees.{Tree, tree_row}
+use Rattle.sm_machine.specs.Commits.{folds}
+use Rattle.sm_machine.specs.Refusals.{need}
+use Rattle.sm_machine.specs.Shapes.{Shape, image_uuid}
+use Rattle.sm_machine.specs.declared.commands.Command.TheVariants.{Attach}
+use Rattle.sm_ready.specs.Does.{store_shape}
+use Rattle.sm_ready.specs.Known.{entry_of}
+use Rattle.sm_ready.specs.declared.memory.Memory.{Memory}
+use Rattle.sm_ready.proofs.ChainLaws.{tab}
+use Rattle.gc_abandon.specs.Abandoning.{abandoned, abandoned_where, unfolded_table}
+use Rattle.gc_abandon.proofs.AbandonedLaws.{GaveUp}
+use Rattle.sm_space.specs.Inflating.{IsEnlarged, IsGrowth, extents_in}
+use Rattle.sm_space.proofs.KeptRoom.{KeepsRoom, growth_kept, places_kept}
+use Rattle.sm_attaching.specs.Attaching.{HasGrowth, IsPlanned}
+
+-- ---- the table
+
+-- the table behind it, by the operation
+table_by : {S : Type 0} (g : Ghosts S) (a b : S) (u : List ℕ) (o : Op) → (folds o u ≡ false → b ≡ a) → (folds o u ≡ true → (e : Name) → entry_of o ≡ e ∷ [] → Commits g (Remove e) a b)
+    → tab g b ≡ unfolded_table o u (tab g a)
+unfolding folds
+table_by g a b u (op.Leaf l p cursor) none gone = by (bytes_eq (image_uuid l) u) none gone
+  where
+    by : (f : Bool) → (f ≡ false → b ≡ a) → (f ≡ true → (e : Name) → Leaf (image_uuid l) (image_uuid p) ∷ [] ≡ e ∷ [] → Commits g (Remove e) a b)
+        → tab g b ≡ cond f (applied (tab g a) (Remove (Leaf (image_uuid l) (image_uuid p)))) (tab g a)
+    by false none gone = ap (tab g) (none refl)
+    by true none gone = (gone refl (Leaf (image_uuid l) (image_uuid p)) refl).table
+table_by g a b u op.Idle none gone = ap (tab g) (none refl)
+table_by g a b u (op.Copy v p cursor) none gone = ap (tab g) (none refl)
+table_by g a b u (op.Relink v p) none gone = ap (tab g) (none refl)
+
+pub table_given : {S : Type 0} (g : Ghosts S) (a b : S) (m : Memory) (u : List ℕ) → (folds m.operation u ≡ false → b ≡ a)
+    → (folds m.operation u ≡ true → (e : Name) → entry_of m.operation ≡ e ∷ [] → Commits g (Remove e) a b) → tab g b ≡ unfolded_table m.operation u (tab g a)
+table_given g a b m u none gone = table_by g a b u m.operation none gone
+
+-- ---- the extents that are needed
+
+need_as : (s : Shape) (u : List ℕ) (mode : Mode) → need (abandoned s) (Attach u mode) ≡ need s (Attach u mode)
+unfolding need
+need_as s u Rw = refl
+need_as s u Ro = refl
+
+module _ {S : Type 0} {g : Ghosts S} {u : List ℕ} {a b : S} {m k : Memory} (w : GaveUp g u a m b k) (room : KeepsRoom g a b) (tree : k.tree ≡ m.tree) where
+  need_given : (mode : Mode) → need (store_shape g b k) (Attach u mode) ≡ need (store_shape g a m) (Attach u mode)
+  need_given mode = ap (λ σ. need σ (Attach u mode)) w.shape ∙ by (folds m.operation u)
+    where
+      by : (f : Bool) → need (abandoned_where f (store_shape g a m)) (Attach u mode) ≡ need (store_shape g a m) (Attach u mode)
+      by true = need_as (store_shape g a m) u mode
+      by false = refl
+
+  had_given : extents_in (tree_row k.tree.rows (Vhd u)) ≡ extents_in (tree_row m.tree.rows (Vhd u))
+  had_given = ap (λ (t : Tree). extents_in (tree_row t.rows (Vhd u))) tree
+
+  planned_given : (mode : Mode) (to : ℕ) (growth : Change) → IsPlanned g a m u mode to growth → IsPlanned g b k u mode to growth
+  planned_given mode to growth p =
+      let grows : IsGrowth (g.site b).count (tab g b) (Vhd u) (to - extents_in (tree_row k.tree.rows (Vhd u))) growth =
+      subst₂ (λ n more. IsGrowth n (tab g b) (Vhd u) more growth) (sym (ap (λ s. s.count) w.site)) (ap (λ n. to - n) (sym had_given)) (growth_kept room (g.site a).count (Vhd u) _ growth p.grows) in
+      record {
+        some = subst (λ n. 0 < n) (sym (need_given mode)) p.some;
+        extents = p.extents ∙ sym (ap₂ (λ x y. x + y) had_given (need_given mode));
+        grows = grows;
+        row = let some = p.row in let more = room.spare in omega (arith, some, more);
+        places = places_kept room p.grows p.places;
+      }
+
+  pub growth_given : (mode : Mode) (growth : Option (ℕ × Change)) → HasGrowth g a m u mode growth → HasGrowth g b k u mode growth
+  growth_given mode None none = need_given mode ∙ none
+  growth_given mode (Some (to, growth)) p = planned_given mode to growth p
+
+  pub least_given : (mode : Mode) (next : VolumeTable) → tab g b ≡ unfolded_table m.operation u (tab g a)
+      → (0 < need (store_shape g b k) (Attach u mode) → IsEnlarged (g.site b).count (tab g b) u (extents_in (tree_row k.tree.rows (Vhd u)) + need (store_shape g b k) (Attach u mode)) next)
+      → 0 < need (store_shape g a m) (Attach u mode)
+      → IsEnlarged (g.site a).count (unfolded_table m.operation u (tab g a)) u (extents_in (tree_row m.tree.rows (Vhd u)) + need (store_shape g a m) (Attach u mode)) next
+  least_given mode next table made some =
+      subst₂ (λ n t. IsEnlarged n t u (extents_in (tree_row m.tree.rows (Vhd u)) + need (store_shape g a m) (Attach u mode)) next) (ap (λ s. s.count) w.site) table
+      (subst (λ to. IsEnlarged (g.site b).count (tab g b) u to next) (ap₂ (λ x y. x + y) had_given (need_given mode)) (made (subst (λ n. 0 < n) (sym (need_given mode)) some)))

@@ -1,0 +1,219 @@
+-- While the folding of a leaf is ended: what a stop leaves is kept and shows the same disks, and so does what stands at last.
+use Rattle.std.proofs.Common.{◌≡◌, ◌≢◌, ⊎_elim, ℕ, zero, suc, List, [], length, take, Option, Some, None, refl, sym, ap, ap₂, ◌∙◌, subst, subst₂, arith}
+use Rattle.std.specs.List.{AllByRecursion}
+use Rattle.sm_base.specs.declared.names.Name.{Name}
+use Rattle.sm_base.specs.declared.names.Name.TheVariants.{Mgt, Vhd, Raw, Old, Clone, Inflate, Coalesce, Relink, Leaf}
+use Rattle.sm_disk.specs.Held.{Held, IsSettled, reads}
+use Rattle.vg_meta.specs.Roomy.{table_alone}
+use Rattle.vg_meta.specs.Tables.{VolumeTable}
+use Rattle.vg_volumes.specs.Stored.{OnlyReads, Stored, stored}
+use Rattle.vg_volumes.specs.declared.stores.Store.{Ghosts}
+use Rattle.sm_standing.specs.Checks.{first_fault}
+use Rattle.sm_standing.specs.Entries.{folding, head}
+use Rattle.sm_standing.specs.Keeping.{HoldsWell}
+use Rattle.sm_standing.specs.Leaves.{IsEnding, ended}
+use Rattle.sm_standing.specs.Opened.{opened}
+use Rattle.sm_standing.specs.Plain.{IsKnown}
+use Rattle.sm_standing.specs.Undone.{applied_all, undo_changes, undone}
+use Rattle.sm_standing.specs.Unfolded.{unfolded}
+use Rattle.sm_standing.proofs.AreaLaws.{area_disks, area_kept}
+use Rattle.sm_standing.proofs.LeafContents.{left_kept, left_on_the_way, left_shown}
+use Rattle.sm_standing.proofs.LeafEnds.{ends_are}
+use Rattle.sm_standing.proofs.LeafOpened.{opened_ended}
+use Rattle.sm_standing.proofs.PlainKept.{known_but_leaf, but_leaf_known}
+use Rattle.vhd_chain.specs.Reading.{AllAreTrue}
+use Rattle.sm_ready.specs.Cleaned.{HasFewRemovals, new_count}
+use Rattle.sm_ready.specs.Known.{known}
+use Rattle.sm_ready.specs.Runs.{AllMay}
+use Rattle.sm_ready.specs.Orderly.{IsOrderly}
+use Rattle.sm_ready.specs.Ready.{IsReady}
+use Rattle.sm_ready.specs.Repairs.{IsSame, content_of}
+use Rattle.sm_ready.specs.Stores.{content_in, store_content}
+use Rattle.sm_ready.specs.declared.memory.Memory.{Memory}
+use Rattle.sm_ready.proofs.AgainLaws.{stored_as}
+use Rattle.sm_recover.specs.Ending.{HasFewEnds, IsEndedSo, leaf_ends, unleafed}
+use Rattle.sm_recover.specs.Links.{IsLinkRight}
+use Rattle.sm_recover.specs.Loaded.{stored_undone, stored_with}
+use Rattle.sm_recover.specs.Repairs.{IsEndable, IsEndableStore, IsLeftOf, IsOpenable}
+use Rattle.sm_recover.specs.Steps.{IsPartOf, MakesAll, MakesPart}
+use Rattle.sm_recover.specs.Stores.{HeldWell, MayBeRepairedFrom}
+use Rattle.sm_recover.proofs.EndedThen.{is_unled, known_of, leaf_old, leaf_or_not}
+use Rattle.sm_recover.proofs.EntryLaws.{head_alone}
+use Rattle.sm_recover.proofs.CountLaws.{none_more}
+use Rattle.sm_recover.proofs.StepLaws.{part_all, part_few}
+use Rattle.sm_recover.proofs.UndoLaws.{IsOld, held_same}
+
+none_applied : (t : VolumeTable) (k : ℕ) → applied_all t (take k []) ≡ t
+none_applied t zero = refl
+none_applied t (suc k) = refl
+
+module _ (x : Stored) (c : IsOpenable x.site x.table) (sound : first_fault (content_of x) ≡ None) where
+  abbrev t : VolumeTable
+  t = x.table
+
+  abbrev changes_of : VolumeTable → Type 0
+  changes_of v = IsPartOf t (leaf_ends t (head (folding t))) v
+
+  -- whatever stands on the way
+  pub leaf_same : (v : VolumeTable) (image : ℕ → List ℕ) → IsLeftOf x changes_of v image → IsSettled x.area → HoldsWell (content_of x) → IsSame (content_of x) (content_in x.site v image)
+  leaf_same v image left settled well = ⊎_elim (λ k. on_the_way k.0 k.1 k.2) none (leaf_or_not (head (folding t)))
+    where
+      on_the_way : (l p : List ℕ) → head (folding t) ≡ Some (Leaf l p) → IsSame (content_of x) (content_in x.site v image)
+      on_the_way l p found =
+          let one = head_alone (folding t) (Leaf l p) found c.one_folding in
+          let same = ap (leaf_ends t) found ∙ sym (ends_are t l p one) in
+          let ending : IsEnding t v = subst (λ cs. IsPartOf t cs v) same left.table in
+          let way = left_on_the_way (content_of x) sound c.table x.site.geometry.in_range l p one v ending in
+          record {
+            kept = left_kept (content_of x) v way x.site.geometry.in_range well image (left.sectors settled);
+            same_disks = left_shown (content_of x) v way x.site.geometry.in_range image (left.sectors settled);
+          }
+
+      none : ((l p : List ℕ) → head (folding t) ≢ Some (Leaf l p)) → IsSame (content_of x) (content_in x.site v image)
+      none other =
+          let no = is_unled t [] (head (folding t)) other in
+          let part = subst (λ cs. IsPartOf t cs v) no.nothing left.table in
+          let is : v ≡ t = part.1 ∙ none_applied t part.0 in
+          let s = but_leaf_known (content_of x) (known_but_leaf (content_of x) sound (known_of c other)) in
+          subst (λ u. IsSame (content_of x) (content_in x.site u image)) (sym is) (record {
+            kept = area_kept (content_of x) c.table x.site.geometry.in_range s image (left.sectors settled) well;
+            same_disks = area_disks (content_of x) c.table x.site.geometry.in_range s image (left.sectors settled);
+          })
+
+  abbrev last : Stored
+  last = record { site = x.site; table = unleafed t; area = x.area }
+
+  -- and at last
+  pub last_same : IsSettled x.area → HoldsWell (content_of x) → IsSame (content_of x) (content_of last)
+  last_same = leaf_same (unleafed t) (reads x.area) (record { table = part_all t (leaf_ends t (head (folding t))); sectors = λ settled p below. refl })
+
+  -- an opening makes the same of it
+  pub last_opened : opened (content_of last) ≡ opened (content_of x)
+  unfolding ended
+  last_opened = ⊎_elim (λ k. leaf k.0 k.1 k.2) none (leaf_or_not (head (folding t)))
+    where
+      at : VolumeTable → Stored
+      at v = record { site = x.site; table = v; area = x.area }
+
+      leaf : (l p : List ℕ) → head (folding t) ≡ Some (Leaf l p) → opened (content_of (record x { table = unleafed t })) ≡ opened (content_of x)
+      leaf l p found =
+          let one = head_alone (folding t) (Leaf l p) found c.one_folding in
+          ap (λ cs. opened (content_of (record x { table = applied_all t cs }))) (ap (leaf_ends t) found ∙ sym (ends_are t l p one))
+          ∙ opened_ended (content_of x) sound c.table x.site.geometry.in_range l p one
+
+      none : ((l p : List ℕ) → head (folding t) ≢ Some (Leaf l p)) → opened (content_of (record x { table = unleafed t })) ≡ opened (content_of x)
+      none other = let no = is_unled t [] (head (folding t)) other in ap (λ cs. opened (content_of (record x { table = applied_all t cs }))) no.nothing
+
+-- a: in front of the checks; b: behind them; d: once the folding of a leaf is ended
+module _ {S : Type 0} {g : Ghosts S} {a b : S} (r : OnlyReads g a b) (told : g.told) (c : IsOpenable (g.site a) (table_alone (g.table a))) (sound : first_fault (store_content g a) ≡ None) (was : IsSettled (g.area a)) where
+  pub left_repaired : {v : VolumeTable} {image : ℕ → List ℕ} → IsLeftOf (stored g b) (IsPartOf (table_alone (g.table b)) (leaf_ends (table_alone (g.table b)) (head (folding (table_alone (g.table b)))))) v image
+      → MayBeRepairedFrom (store_content g a) (content_in (g.site a) v image)
+  left_repaired {v} {image} left = record {
+    was_sound = sound;
+    repaired = λ well.
+        let same = leaf_same (stored g a) c sound v image
+        (subst (λ (y : Stored). IsLeftOf y (IsPartOf y.table (leaf_ends y.table (head (folding y.table)))) v image) (stored_as r told) left) was well in
+        record { was_sound = sound; sound = same.kept; same_disks = same.same_disks };
+  }
+
+-- of all changes that end one, none makes a volume new
+ends_old : (t : VolumeTable) (o : Option Name) → AllByRecursion IsOld (leaf_ends t o)
+ends_old t (Some (Leaf l p)) = leaf_old t l p
+ends_old t None = tt
+ends_old t (Some Mgt) = tt
+ends_old t (Some (Vhd v)) = tt
+ends_old t (Some (Raw v)) = tt
+ends_old t (Some (Old v)) = tt
+ends_old t (Some (Clone d b w)) = tt
+ends_old t (Some (Inflate v e)) = tt
+ends_old t (Some (Coalesce v p)) = tt
+ends_old t (Some (Relink v p)) = tt
+
+-- while it is ended
+pub few_ending : {S : Type 0} {g : Ghosts S} {a b : S} → OnlyReads g a b → {v : VolumeTable} → IsEndedSo (table_alone (g.table a))
+    → IsPartOf (table_alone (g.table b)) (leaf_ends (table_alone (g.table b)) (head (folding (table_alone (g.table b))))) v → HasFewEnds (table_alone (g.table a)) v
+few_ending {g = g} {a} {b} r {v} so part =
+    let t = table_alone (g.table a) in
+    let here = subst (λ u. IsPartOf u (leaf_ends u (head (folding u))) v) r.stays.table part in
+    omega (arith, so.few, part_few t (leaf_ends t (head (folding t))) v here)
+
+-- what stands there
+module _ {S : Type 0} {g : Ghosts S} {a b d : S} (r : OnlyReads g a b) (part : MakesPart g (leaf_ends (table_alone (g.table b)) (head (folding (table_alone (g.table b))))) b d)
+    (all : MakesAll g (leaf_ends (table_alone (g.table b)) (head (folding (table_alone (g.table b))))) b d) where
+  abbrev first : VolumeTable
+  first = table_alone (g.table a)
+
+  pub site_then : g.site d ≡ g.site a
+  site_then = part.site ∙ r.stays.site
+
+  pub table_then : table_alone (g.table d) ≡ unleafed first
+  table_then = all.table ∙ ap unleafed r.stays.table
+
+  pub endable_then : IsEndable (g.site a) (unleafed first) → IsEndableStore g d
+  endable_then = subst₂ IsEndable (sym site_then) (sym table_then)
+
+  pub orderly_then : (m : Memory) → IsOrderly (g.site a) (undone (unfolded (unleafed first))) (known m) → IsOrderly (g.site d) (undone (unfolded (table_alone (g.table d)))) (known m)
+  orderly_then m = subst₂ (λ s u. IsOrderly s (undone (unfolded u)) (known m)) (sym site_then) (sym table_then)
+
+  pub linking_then : (m : Memory) → IsLinkRight (unleafed first) m.tree.rows → IsLinkRight (table_alone (g.table d)) m.tree.rows
+  linking_then m = subst (λ u. IsLinkRight u m.tree.rows) (sym table_then)
+
+  pub ended_then : undone (unfolded (table_alone (g.table d))) ≡ undone (unfolded (unleafed first))
+  ended_then = ap (λ u. undone (unfolded u)) table_then
+
+  module _ (told : g.told) (was : IsSettled (g.area a)) where
+    settled_b : IsSettled (g.area b)
+    settled_b = subst IsSettled (sym (ap (λ (x : Stored). x.area) (stored_as r told))) was
+
+    pub settled_then : IsSettled (g.area d)
+    settled_then = all.settled told settled_b
+
+    pub area_then : g.area d ≡ g.area a
+    area_then = held_same (g.area b) (g.area d) (part.keeps told) settled_b settled_then ∙ ap (λ (x : Stored). x.area) (stored_as r told)
+
+    pub stored_then : stored g d ≡ record { site = g.site a; table = unleafed first; area = g.area a }
+    stored_then = ap₂ (λ s u. let x : Stored = record { site = s; table = u; area = g.area d } in x) site_then table_then ∙ ap (λ (h : Held). let x : Stored = record { site = g.site a; table = unleafed first; area = h } in x) area_then
+
+    pub true_then : (m : Memory) → AllAreTrue (stored_with g a (undone (unfolded (unleafed first)))) m.tree.rows → AllAreTrue (stored_undone g d) m.tree.rows
+    true_then m = subst (λ (x : Stored). AllAreTrue (record { site = x.site; table = undone (unfolded x.table); area = x.area }) m.tree.rows) (sym stored_then)
+
+    module _ (c : IsOpenable (g.site a) first) (sound : first_fault (store_content g a) ≡ None) where
+      pub same_then : HoldsWell (store_content g a) → IsSame (store_content g a) (store_content g d)
+      same_then well = subst (λ (x : Stored). IsSame (store_content g a) (content_of x)) (sym stored_then) (last_same (stored g a) c sound was well)
+
+      pub opened_then : opened (store_content g d) ≡ opened (store_content g a)
+      opened_then = ap (λ (x : Stored). opened (content_of x)) stored_then ∙ last_opened (stored g a) c sound
+
+      pub held_then : (m : Memory) → HoldsWell (store_content g a) → IsKnown (unleafed first) → IsReady (g.site a) (undone (unfolded (unleafed first))) (g.area a) (known m) → HeldWell g d m
+      held_then m well known_last ready =
+          let kept = (same_then well).kept in
+          record {
+            settled = settled_then;
+            sound = known_but_leaf (store_content g d) kept.sound (subst IsKnown (sym table_then) known_last);
+            well = record { holding = kept.holding; linking = kept.linking };
+            ready = subst (λ (x : Stored). IsReady x.site (undone (unfolded x.table)) x.area (known m)) (sym stored_then) ready;
+          }
+
+      -- what has the disks of what stands there has those of what stood first
+      pub repaired_then : {v : VolumeTable} {image : ℕ → List ℕ} (m : Memory) → IsKnown (unleafed first) → (HoldsWell (store_content g a) → IsReady (g.site a) (undone (unfolded (unleafed first))) (g.area a) (known m))
+          → (HeldWell g d m → IsSame (store_content g d) (content_in (g.site d) v image)) → MayBeRepairedFrom (store_content g a) (content_in (g.site a) v image)
+      repaired_then {v} {image} m known_last ready left = record {
+        was_sound = sound;
+        repaired = λ well.
+            let w = subst (λ z. IsSame (store_content g d) (content_in z v image)) site_then (left (held_then m well known_last (ready well))) in
+            record { was_sound = sound; sound = w.kept; same_disks = w.same_disks ∙ (same_then well).same_disks };
+      }
+
+  -- how many commits that takes
+  pub few_then : (v : VolumeTable) → IsEndedSo first → AllMay (g.site a).count first (leaf_ends first (head (folding first))) → HasFewRemovals (table_alone (g.table d)) v → HasFewEnds first v
+  few_then v so may few = omega (
+    arith,
+    few,
+    so.few,
+    ap (λ (u : VolumeTable). u.sequence) table_then,
+    ap (λ (u : VolumeTable). new_count u.volumes) table_then,
+    ap (λ u. length (undo_changes u)) table_then,
+    ap (λ u. length (folding u)) table_then,
+    none_more (λ r. r.fresh) (g.site a).count first (leaf_ends first (head (folding first))) may (ends_old first (head (folding first))),
+    part_few first (leaf_ends first (head (folding first))) (unleafed first) (part_all first (leaf_ends first (head (folding first)))),
+  )
