@@ -33,11 +33,11 @@ Adds-more a b c bytes done n s t =
     let P : List ℕ → Type 0 = λ l. Adds a l c in
     subst P (sym (take-add done n bytes)) (Adds-then a b c (take done bytes) (take n (drop done bytes)) s t)
 
--- so many of the bytes were added, and the count of faults has not fallen
+-- so many of the bytes were added, and no call has failed
 pub record HasAdded (had has : Option (List ℕ)) (bytes : List ℕ) (done before now : ℕ) : Type 0 where
   pub within : done ≤ length bytes
   pub added : Adds had (take done bytes) has
-  pub counts : before ≤ now
+  pub calm : now ≡ before
 
 -- sources and sinks in memory
 

@@ -1,5 +1,5 @@
 -- Laws of a window: a device seen through a function of places.
-use Rattle.std.proofs.Common.{ℕ, ◌-◌, ◌<◌}
+use Rattle.std.proofs.Common.{ℕ, ◌<◌}
 use Rattle.sm_disk.specs.Held.{Held, Keeps, HasSectors, moved}
 
 pub Keeps-moved : (place : ℕ → ℕ) {old new : Held} → Keeps old new → Keeps (moved place old) (moved place new)

@@ -3,7 +3,7 @@
 -- A device has at each place a floor, which is the sector there at the last sync, and the values written there
 -- since, in order. A read gives the last of these, or the floor. A crash may leave at each place the floor or any
 -- one of the values: each place chooses by itself. A place is the number of a sector.
-use Rattle.std.specs.Prelude.{◌≡◌, ℕ, ◌+◌, ◌-◌, ◌*◌, ◌%◌, ◌^◌, ◌<◌, ◌≤◌, min, ◌⊎◌, List, [], ◌∷◌, ◌++◌, length, Contains}
+use Rattle.std.specs.Prelude.{◌≡◌, ℕ, ◌+◌, ◌-◌, ◌*◌, ◌%◌, ◌^◌, ◌<◌, ◌≤◌, min, ◌⊎◌, List, [], ◌∷◌, ◌++◌, length, Contains, Result, OnOk, OnErr}
 use Rattle.sm_disk.specs.Sectors.{IsSector, sector}
 
 pub record Held : Type 0 where
@@ -74,6 +74,11 @@ pub record HasSectors (size : ℕ) (h : Held) : Type 0 where
 -- a count of faults that rose, or that is spent: no fault can raise 2^64 - 1
 abbrev pub Rose : ℕ → ℕ → Type 0
 Rose before now = min (before + 1) (2 ^ 64 - 1) ≤ now
+
+-- a call fails only where the count of faults rose, and where it succeeds the count is what it was: so no failed call is
+-- passed over, or tried again
+abbrev pub IsCounted : {T E : Type 0} → Result T E → ℕ → ℕ → Type 0
+IsCounted result before now = OnErr result (Rose before now) × OnOk result (now ≡ before)
 
 -- Whatever happened in between: a crash leaves nothing new but what was written, and so does a read.
 pub record Reaches (W : ℕ → List ℕ → Type 0) (old new : Held) : Type 0 where

@@ -1,16 +1,15 @@
 //! A count of calls that failed.
 
-ghost use Rattle.std.specs.Prelude.{◌≡◌, ◌≤◌, is_err, OnOk, OnErr};
-ghost use Rattle.sm_disk.specs.Held.{Rose};
+ghost use Rattle.std.specs.Prelude.{◌≡◌, ◌≤◌, is_err};
+ghost use Rattle.sm_disk.specs.Held.{IsCounted};
 
 use sm_base::Failed;
 
 /// The answer of a call, which is counted where it fails.
 pub fn answer(faults: &mut u64, fails: bool) -> Result<(), Failed>
     ensures answer { is_err result ≡ fails }
-    ensures unchanged { OnOk result (faults.new ≡ faults.old) }
     ensures counts { faults.old ≤ faults.new }
-    ensures cause { OnErr result (Rose faults.old faults.new) }
+    ensures cause { IsCounted result faults.old faults.new }
 {
     if fails {
         *faults = faults.saturating_add(1);

@@ -1,15 +1,16 @@
 //! A device of sectors, and calls that stand on any device.
 
-ghost use Rattle.std.specs.Prelude.{◌≡◌, ◌≤◌, ◌<◌, ◌*◌, ◌+◌, ℕ, length, OnOk, OnErr, IfOk};
+ghost use Rattle.std.specs.Prelude.{◌≡◌, ◌≤◌, ◌<◌, ◌*◌, ◌+◌, ℕ, length, OnOk, IfOk};
 ghost use Rattle.sm_disk.specs.Sectors.{IsSector};
-ghost use Rattle.sm_disk.specs.Held.{Held, IsWhole, SameHeld, Gave, Torn, Wrote, Keeps, IsSettled, HasSectors, Rose, Reaches, Puts, ReadsElsewhere, reads};
+ghost use Rattle.sm_disk.specs.Held.{Held, IsWhole, SameHeld, Gave, Torn, Wrote, Keeps, IsSettled, HasSectors, IsCounted, Reaches, Puts, ReadsElsewhere, reads};
 
 use sm_base::Failed;
 
 /// A device of sectors of 512 bytes. Places and sizes are in sectors.
 ///
 /// What a call did stands in its clauses. A clause on content holds where the device tells its
-/// content (`told`). A call fails only where the count of faults rose.
+/// content (`told`). A call fails only where the count of faults rose, and where it succeeds the count is what it was: so
+/// whoever stands on a device can't pass over a call that failed, or try it again.
 pub trait Disk {
     /// Whether what the device holds is told: a fact that holds, or one that never does.
     ghost told: { Type 0 };
@@ -34,7 +35,7 @@ pub trait Disk {
         requires { IsWhole at (length to.old) (size self.old) }
         ensures size { size self.new ≡ size self.old }
         ensures counts { faults self.old ≤ faults self.new }
-        ensures cause { OnErr result (Rose (faults self.old) (faults self.new)) }
+        ensures cause { IsCounted result (faults self.old) (faults self.new) }
         ensures same { told → SameHeld (held self.old) (held self.new) }
         ensures gave { OnOk result (told → Gave at (held self.old) to.new) };
 
@@ -44,7 +45,7 @@ pub trait Disk {
         requires { IsWhole at (length from.now) (size self.old) }
         ensures size { size self.new ≡ size self.old }
         ensures counts { faults self.old ≤ faults self.new }
-        ensures cause { OnErr result (Rose (faults self.old) (faults self.new)) }
+        ensures cause { IsCounted result (faults self.old) (faults self.new) }
         ensures torn { told → Torn at from.now (held self.old) (held self.new) }
         ensures wrote { OnOk result (told → Wrote at from.now (held self.old) (held self.new)) };
 
@@ -53,7 +54,7 @@ pub trait Disk {
     fn sync(&mut self) -> Result<(), Failed>
         ensures size { size self.new ≡ size self.old }
         ensures counts { faults self.old ≤ faults self.new }
-        ensures cause { OnErr result (Rose (faults self.old) (faults self.new)) }
+        ensures cause { IsCounted result (faults self.old) (faults self.new) }
         ensures keeps { told → Keeps (held self.old) (held self.new) }
         ensures settled { OnOk result (told → IsSettled (held self.new)) };
 }
@@ -63,7 +64,7 @@ pub fn read_sector<D: Disk>(disk: &mut D, at: u64) -> Result<[u8; 512], Failed>
     requires { at < D.size disk.old }
     ensures size { D.size disk.new ≡ D.size disk.old }
     ensures counts { D.faults disk.old ≤ D.faults disk.new }
-    ensures cause { OnErr result (Rose (D.faults disk.old) (D.faults disk.new)) }
+    ensures cause { IsCounted result (D.faults disk.old) (D.faults disk.new) }
     ensures same { D.told → SameHeld (D.held disk.old) (D.held disk.new) }
     ensures gave { IfOk result (λ sector. D.told → sector ≡ reads (D.held disk.old) at) }
     ensures long { IfOk result (λ sector. length sector ≡ 512) }
@@ -80,7 +81,7 @@ pub fn write_sector<D: Disk>(disk: &mut D, at: u64, from: &[u8; 512]) -> Result<
     requires { at < D.size disk.old }
     ensures size { D.size disk.new ≡ D.size disk.old }
     ensures counts { D.faults disk.old ≤ D.faults disk.new }
-    ensures cause { OnErr result (Rose (D.faults disk.old) (D.faults disk.new)) }
+    ensures cause { IsCounted result (D.faults disk.old) (D.faults disk.new) }
     ensures torn { D.told → Torn at from.now (D.held disk.old) (D.held disk.new) }
     ensures wrote { OnOk result (D.told → Wrote at from.now (D.held disk.old) (D.held disk.new)) }
 {
@@ -93,7 +94,7 @@ pub fn put<D: Disk>(disk: &mut D, at: u64, bytes: &[u8]) -> Result<(), Failed>
     requires { IsWhole at (length bytes.now) (D.size disk.old) }
     ensures size { D.size disk.new ≡ D.size disk.old }
     ensures counts { D.faults disk.old ≤ D.faults disk.new }
-    ensures cause { OnErr result (Rose (D.faults disk.old) (D.faults disk.new)) }
+    ensures cause { IsCounted result (D.faults disk.old) (D.faults disk.new) }
     ensures reaches { D.told → Reaches (Puts at bytes.now) (D.held disk.old) (D.held disk.new) }
     ensures settled { OnOk result (D.told → IsSettled (D.held disk.new)) }
     ensures within { OnOk result (D.told → Gave at (D.held disk.new) bytes.now) }

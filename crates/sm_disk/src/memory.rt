@@ -1,7 +1,7 @@
 //! A device in memory, whose calls fail as they are told to.
 
 ghost use Rattle.std.specs.Prelude.{◌≡◌, ◌≤◌, ◌+◌, ◌-◌, ◌^◌, ◌||◌, min, true, false, length, is_err, Ok, OnOk, OnErr, IfOk};
-ghost use Rattle.sm_disk.specs.Held.{Allows, Gave, HasSectors, IsSettled, IsWhole, Keeps, Rose, SameHeld, Torn, Wrote};
+ghost use Rattle.sm_disk.specs.Held.{Allows, Gave, HasSectors, IsSettled, IsCounted, IsWhole, Keeps, SameHeld, Torn, Wrote};
 ghost use Rattle.sm_disk.specs.Failing.{HasPassed, Names, Stops, comes_late, fails};
 ghost use Rattle.sm_disk.specs.Memory.{IsCrashImage, Memory, held_by, new_memory};
 
@@ -121,10 +121,9 @@ impl Disk for MemDisk {
         requires { IsWhole at (length to.old) self.old.sectors }
         ensures size { self.new.sectors ≡ self.old.sectors }
         ensures counts { self.old.faults ≤ self.new.faults }
-        ensures cause { OnErr result (Rose self.old.faults self.new.faults) }
+        ensures cause { IsCounted result self.old.faults self.new.faults }
         ensures same { SameHeld (held_by self.old.slots) (held_by self.new.slots) }
         ensures gave { OnOk result (Gave at (held_by self.old.slots) to.new) }
-        ensures counted { OnOk result (self.new.faults ≡ self.old.faults) }
         ensures exact { is_err result ≡ fails self.old.orders 0 }
         ensures passed { HasPassed self.old.orders self.new.orders }
         ensures read_calls { self.new.read_calls ≡ min (self.old.read_calls + 1) (2 ^ 64 - 1) }
@@ -141,10 +140,9 @@ impl Disk for MemDisk {
         requires { IsWhole at (length from.now) self.old.sectors }
         ensures size { self.new.sectors ≡ self.old.sectors }
         ensures counts { self.old.faults ≤ self.new.faults }
-        ensures cause { OnErr result (Rose self.old.faults self.new.faults) }
+        ensures cause { IsCounted result self.old.faults self.new.faults }
         ensures torn { Torn at from.now (held_by self.old.slots) (held_by self.new.slots) }
         ensures wrote { OnOk result (Wrote at from.now (held_by self.old.slots) (held_by self.new.slots)) }
-        ensures counted { OnOk result (self.new.faults ≡ self.old.faults) }
         ensures exact { is_err result ≡ (fails self.old.orders 0 || self.new.short) }
         ensures adds { comes_late self.old.orders 0 ≡ false → self.new.short ≡ false
             → Wrote at from.now (held_by self.old.slots) (held_by self.new.slots) }
@@ -160,11 +158,10 @@ impl Disk for MemDisk {
     fn sync(&mut self) -> Result<(), Failed>
         ensures size { self.new.sectors ≡ self.old.sectors }
         ensures counts { self.old.faults ≤ self.new.faults }
-        ensures cause { OnErr result (Rose self.old.faults self.new.faults) }
+        ensures cause { IsCounted result self.old.faults self.new.faults }
         ensures keeps { Keeps (held_by self.old.slots) (held_by self.new.slots) }
         ensures settled { OnOk result (IsSettled (held_by self.new.slots)) }
         ensures unchanged { OnErr result (SameHeld (held_by self.old.slots) (held_by self.new.slots)) }
-        ensures counted { OnOk result (self.new.faults ≡ self.old.faults) }
         ensures exact { is_err result ≡ fails self.old.orders 0 }
         ensures passed { HasPassed self.old.orders self.new.orders }
         ensures read_calls { self.new.read_calls ≡ self.old.read_calls }

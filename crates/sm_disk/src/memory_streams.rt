@@ -1,7 +1,7 @@
 //! A source and a sink in memory, which fail after so many bytes.
 
 ghost use Rattle.std.specs.Prelude.{◌≡◌, ◌≤◌, ◌<◌, ◌-◌, ◌||◌, [], Some, ◌++◌, min, false, length, take, drop, is_err, Ok, OnOk, OnErr, IfOk, IfSome};
-ghost use Rattle.sm_disk.specs.Held.{Rose};
+ghost use Rattle.sm_disk.specs.Held.{IsCounted};
 ghost use Rattle.sm_disk.specs.Streams.{Adds, Takes};
 ghost use Rattle.sm_disk.specs.MemoryStreams.{Basin, Spring, after, at_most, given_by, is_over};
 
@@ -138,7 +138,7 @@ impl Source for MemSource {
         ensures end { IfOk result (λ n. n ≡ 0 → 0 < length to.old → self.old.left ≡ []) }
         ensures unchanged { OnErr result (Some self.new.left ≡ Some self.old.left) }
         ensures counts { self.old.faults ≤ self.new.faults }
-        ensures cause { OnErr result (Rose self.old.faults self.new.faults) }
+        ensures cause { IsCounted result self.old.faults self.new.faults }
         ensures exact { is_err result ≡ is_over self.old.until }
         ensures number { IfOk result (λ n. n ≡ given_by self.old (length to.old)) }
         ensures rest { IfOk result (λ n. self.new
@@ -167,7 +167,7 @@ impl Sink for MemSink {
         ensures adds { IfOk result (λ n. Adds (Some self.old.bytes) (take n from.now) (Some self.new.bytes)) }
         ensures unchanged { OnErr result (Some self.new.bytes ≡ Some self.old.bytes) }
         ensures counts { self.old.faults ≤ self.new.faults }
-        ensures cause { OnErr result (Rose self.old.faults self.new.faults) }
+        ensures cause { IsCounted result self.old.faults self.new.faults }
         ensures exact { is_err result ≡ (is_over self.old.until || self.new.short) }
         ensures number { IfOk result (λ n. n ≡ at_most self.old.until (length from.now)) }
         ensures until { IfOk result (λ n. self.new.until ≡ after self.old.until n) }

@@ -1,7 +1,7 @@
 //! A source and a sink of bytes.
 
 ghost use Rattle.std.specs.Prelude.{◌≡◌, ◌≤◌, ◌<◌, ℕ, List, [], Option, length, take, OnOk, OnErr, IfOk, IfSome};
-ghost use Rattle.sm_disk.specs.Held.{Rose};
+ghost use Rattle.sm_disk.specs.Held.{IsCounted};
 ghost use Rattle.sm_disk.specs.Streams.{Takes, Adds, AddsFront};
 
 use sm_base::Failed;
@@ -23,7 +23,7 @@ pub trait Source {
             → IfSome (content self.old) (λ left. left ≡ [])) }
         ensures unchanged { OnErr result (content self.new ≡ content self.old) }
         ensures counts { faults self.old ≤ faults self.new }
-        ensures cause { OnErr result (Rose (faults self.old) (faults self.new)) };
+        ensures cause { IsCounted result (faults self.old) (faults self.new) };
 }
 
 /// A stream of bytes that is written at its end.
@@ -42,7 +42,7 @@ pub trait Sink {
         ensures adds { IfOk result (λ n. Adds (content self.old) (take n from.now) (content self.new)) }
         ensures unchanged { OnErr result (content self.new ≡ content self.old) }
         ensures counts { faults self.old ≤ faults self.new }
-        ensures cause { OnErr result (Rose (faults self.old) (faults self.new)) };
+        ensures cause { IsCounted result (faults self.old) (faults self.new) };
 }
 
 /// Writes a text whole. Where it fails, the sink has taken a front of it, maybe none.
@@ -50,7 +50,7 @@ pub fn write_all<K: Sink>(sink: &mut K, bytes: &[u8]) -> Result<(), Failed>
     ensures adds { OnOk result (Adds (K.content sink.old) bytes.now (K.content sink.new)) }
     ensures front { OnErr result (AddsFront (K.content sink.old) bytes.now (K.content sink.new)) }
     ensures counts { K.faults sink.old ≤ K.faults sink.new }
-    ensures cause { OnErr result (Rose (K.faults sink.old) (K.faults sink.new)) }
+    ensures cause { IsCounted result (K.faults sink.old) (K.faults sink.new) }
 {
     let mut done = 0;
     while done < bytes.len() {

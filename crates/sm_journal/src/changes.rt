@@ -2,7 +2,7 @@
 
 ghost use Rattle.std.specs.Prelude.{◌≡◌, OnOk, OnErr};
 ghost use Rattle.vg_meta.specs.declared.changes.Change.TheVariants.{Remove, Rename};
-ghost use Rattle.vg_volumes.specs.Stored.{stored, CanCommit, Commits, FailsToCommit, Leaves, IsEitherOf};
+ghost use Rattle.vg_volumes.specs.Stored.{stored, CanCommit, Commits, Counts, FailsToCommit, Leaves, IsEitherOf};
 ghost use Rattle.sm_journal.specs.Entries.{putting};
 
 use sm_base::{Failed, Name};
@@ -25,6 +25,7 @@ pub fn put<S: Store>(store: &mut S, entry: Name) -> Result<(), Failed>
     requires { CanCommit S.Store (putting entry) store.old }
     ensures commits { OnOk result (Commits S.Store (putting entry) store.old store.new) }
     ensures fails { OnErr result (FailsToCommit S.Store store.old store.new) }
+    ensures cause { Counts S.Store result store.old store.new }
     ensures crash { Leaves S.Store store.new (IsEitherOf (stored S.Store store.old) (putting entry)) }
 {
     let change = put_change(store.table(), entry);
@@ -37,6 +38,7 @@ pub fn replace<S: Store>(store: &mut S, from: Name, to: Name) -> Result<(), Fail
     requires { CanCommit S.Store (Rename from to) store.old }
     ensures commits { OnOk result (Commits S.Store (Rename from to) store.old store.new) }
     ensures fails { OnErr result (FailsToCommit S.Store store.old store.new) }
+    ensures cause { Counts S.Store result store.old store.new }
     ensures crash { Leaves S.Store store.new (IsEitherOf (stored S.Store store.old) (Rename from to)) }
 {
     store.commit(Change::Rename { from, to })?;
@@ -48,6 +50,7 @@ pub fn drop_entry<S: Store>(store: &mut S, entry: &Name) -> Result<(), Failed>
     requires { CanCommit S.Store (Remove entry.now) store.old }
     ensures commits { OnOk result (Commits S.Store (Remove entry.now) store.old store.new) }
     ensures fails { OnErr result (FailsToCommit S.Store store.old store.new) }
+    ensures cause { Counts S.Store result store.old store.new }
     ensures crash { Leaves S.Store store.new (IsEitherOf (stored S.Store store.old) (Remove entry.now)) }
 {
     store.commit(Change::Remove { name: *entry })?;

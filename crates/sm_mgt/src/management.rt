@@ -1,6 +1,6 @@
 //! The places of the records, and what is read and written of them.
 
-ghost use Rattle.std.specs.Prelude.{◌≡◌, ◌≤◌, ◌<◌, ◌+◌, ◌*◌, ◌⊎◌, ◌++◌, ℕ, List, Option, Some, None, IsSome, IfSome, length, map, take, drop, OnOk, OnErr, IfOk, IfErr, find, unwrap_or, count_by, position, is_none, is_some, slice_index_or};
+ghost use Rattle.std.specs.Prelude.{◌≡◌, ◌≢◌, ◌≤◌, ◌<◌, ◌+◌, ◌*◌, ◌⊎◌, ◌++◌, ℕ, List, Option, Some, None, IsSome, Err, IfSome, length, map, take, drop, OnOk, OnErr, IfOk, IfErr, find, unwrap_or, count_by, position, is_none, is_some, slice_index_or};
 ghost use Rattle.std.specs.Option.{option_copied};
 ghost use Rattle.std.specs.List.{slice_get, slice_set};
 ghost use Rattle.sm_base.specs.declared.faults.OpenFault.TheVariants.{NoMemory};
@@ -155,6 +155,7 @@ fn places_in(alloc: Global, bytes: &[u8]) -> Result<Vec<Option<Record>>, OpenFau
 fn read_records<S: Store>(alloc: Global, store: &mut S) -> Result<Vec<u8>, OpenFault>
     requires { HasAllPlaces S.Store store.old }
     ensures reads { OnlyReads S.Store store.old store.new }
+    ensures calm { result ≢ Err fault.Device → S.faults store.new ≡ S.faults store.old }
     ensures long { IfOk result (λ bytes. length bytes.items ≡ 512 * place_count) }
     ensures gave { S.told → IfOk result (λ bytes. Gave 0 (records_of S.Store store.old) bytes.items) }
     ensures memory_or_device { IfErr result (λ e. (e ≡ NoMemory) ⊎ ((e ≡ fault.Device) × Faults S.Store store.old store.new)) }
@@ -173,6 +174,7 @@ impl Mgt {
     pub fn load<S: Store>(alloc: Global, store: &mut S) -> Result<Mgt, OpenFault>
         requires { HasAllPlaces S.Store store.old }
         ensures reads { OnlyReads S.Store store.old store.new }
+        ensures calm { result ≢ Err fault.Device → S.faults store.new ≡ S.faults store.old }
         ensures ok { S.told → IfOk result (Agrees (records_of S.Store store.old)) }
         ensures cause { IfErr result (λ e. (e ≡ NoMemory)
             ⊎ ((e ≡ fault.Device) × Faults S.Store store.old store.new)

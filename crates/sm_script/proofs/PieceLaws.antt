@@ -6,7 +6,7 @@ use Rattle.std.proofs.lemmas.List.{take-append-le, take-append-drop, take_more, 
 use Rattle.std.proofs.lemmas.List.Concat.{flat_map-append}
 use Rattle.sm_base.specs.declared.faults.Failed.{Failed}
 use Rattle.std.specs.Prelude.{IsErr, ⊤}
-use Rattle.sm_disk.specs.Held.{Rose}
+use Rattle.sm_disk.specs.Held.{IsCounted, Rose}
 use Rattle.sm_disk.specs.Streams.{Adds, AddsFront}
 use Rattle.sm_disk.proofs.StreamLaws.{Adds-none, Adds-then}
 use Rattle.sm_script.specs.Pieces.{Writes, led}
@@ -22,27 +22,27 @@ Writes-none had before u = record {
   adds = Adds-none had;
   front = tt;
   counts = omega arith;
-  cause = tt;
+  cause = (tt, refl);
 }
 
 -- one text was written, and then another was to be
 pub Writes-after : (first : List ℕ) {second : List ℕ} {had mid has : Option (List ℕ)} {before between now : ℕ} {r : Result ⊤ Failed}
-    → Writes second mid has between now r → Adds had first mid → before ≤ between → Writes (first ++ second) had has before now r
-Writes-after first {second} {had} {mid} {has} {before} {between} {now} {r = Ok v} b added counts = record {
+    → Writes second mid has between now r → Adds had first mid → between ≡ before → Writes (first ++ second) had has before now r
+Writes-after first {second} {had} {mid} {has} {before} {between} {now} {r = Ok v} b added calm = record {
   adds = Adds-then had mid has first second added b.adds;
   front = tt;
-  counts = omega (arith, counts, b.counts);
-  cause = tt;
+  counts = omega (arith, calm, b.counts);
+  cause = (tt, b.cause.1 ∙ calm);
 }
-Writes-after first {second} {had} {mid} {has} {before} {between} {now} {r = Err e} b added counts =
+Writes-after first {second} {had} {mid} {has} {before} {between} {now} {r = Err e} b added calm =
     let n = b.front.0 in
     let within : length first + n ≤ length (first ++ second) = omega (arith, length-append first second, b.front.1) in
     let P : List ℕ → Type 0 = λ t. Adds had t has in
     record {
       adds = tt;
       front = (length first + n, within, subst P (sym (take-append-add first second n)) (Adds-then had mid has first (take n second) added b.front.2));
-      counts = omega (arith, counts, b.counts);
-      cause = omega (arith, counts, b.cause);
+      counts = omega (arith, calm, b.counts);
+      cause = (omega (arith, calm, b.cause.0), tt);
     }
 
 -- the first text of two failed
@@ -57,12 +57,12 @@ Writes-cut first second {had} {has} {before} {now} {r = Err e} fails front count
       adds = tt;
       front = (n, within, subst P (sym (take-append-le n first second front.1)) front.2);
       counts = counts;
-      cause = rose;
+      cause = (rose, tt);
     }
 
 -- a call that writes one text
 pub Writes-one : (text : List ℕ) {had has : Option (List ℕ)} {before now : ℕ} {r : Result ⊤ Failed} → OnOk r (Adds had text has)
-    → OnErr r (AddsFront had text has) → before ≤ now → OnErr r (Rose before now) → Writes text had has before now r
+    → OnErr r (AddsFront had text has) → before ≤ now → IsCounted r before now → Writes text had has before now r
 Writes-one text adds front counts cause = record { adds = adds; front = front; counts = counts; cause = cause }
 
 -- a part for each of a list: the part of the element in this place, between those before and those behind

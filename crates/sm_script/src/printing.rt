@@ -1,7 +1,7 @@
 //! How a reply is printed.
 
 ghost use Rattle.std.specs.Prelude.{◌≤◌, List, ℕ, OnOk, OnErr};
-ghost use Rattle.sm_disk.specs.Held.{Rose};
+ghost use Rattle.sm_disk.specs.Held.{IsCounted};
 ghost use Rattle.sm_disk.specs.Streams.{Adds, AddsFront};
 ghost use Rattle.sm_machine.specs.Replies.{by_spaces, printed, reply_parts};
 ghost use Rattle.sm_machine.specs.declared.replies.Reply.TheVariants as reply;
@@ -27,7 +27,7 @@ pub trait Print {
         ensures adds { OnOk result (Adds (K.content sink.old) (text self.now) (K.content sink.new)) }
         ensures front { OnErr result (AddsFront (K.content sink.old) (text self.now) (K.content sink.new)) }
         ensures counts { K.faults sink.old ≤ K.faults sink.new }
-        ensures cause { OnErr result (Rose (K.faults sink.old) (K.faults sink.new)) };
+        ensures cause { IsCounted result (K.faults sink.old) (K.faults sink.new) };
 }
 
 /// A reply is printed as one line, with its newline.

@@ -154,7 +154,7 @@ HasTorn-more {size} {x} {es} {at} {bytes} {part} {n} {place} {old} {mid} {new} s
 pub record WriteGoes (x : ℕ) (es : List ℕ) (at : ℕ) (bytes : List ℕ) (done count : ℕ) (old new : Memory) : Type 0 where
   pub size_is : new.sectors ≡ old.sectors
   pub quiet : IsQuiet new.orders
-  pub counts : old.faults ≤ new.faults
+  pub calm : new.faults ≡ old.faults
   pub most : done ≤ count
   pub long : 0 < done → new.short ≡ false
   pub wrote : HasWritten x es at bytes done (held_by old.slots) (held_by new.slots)

@@ -1,7 +1,7 @@
 //! A store of volumes in memory.
 
 ghost use Rattle.std.specs.Prelude.{◌≡◌, ◌≤◌, ◌-◌, ◌^◌, ◌↔◌, min, IsTrue, is_err, OnOk, OnErr, IfOk};
-ghost use Rattle.sm_disk.specs.Held.{IsSettled, Keeps, Rose};
+ghost use Rattle.sm_disk.specs.Held.{IsCounted, IsSettled, Keeps};
 ghost use Rattle.sm_disk.specs.Failing.{HasPassed, Names, Stops, fails};
 ghost use Rattle.vg_layout.specs.Places.{record_extents};
 ghost use Rattle.vg_volumes.specs.Sites.{size_of};
@@ -152,7 +152,7 @@ impl MemoryStore {
     pub(crate) fn call(&mut self) -> Result<(), Failed>
         ensures rest { self.new ≡ record self.old { orders = self.new.orders; faults = self.new.faults } }
         ensures counts { self.old.faults ≤ self.new.faults }
-        ensures cause { OnErr result (Rose self.old.faults self.new.faults) }
+        ensures cause { IsCounted result self.old.faults self.new.faults }
         ensures exact { is_err result ≡ fails self.old.orders 0 }
         ensures passed { HasPassed self.old.orders self.new.orders }
     {
@@ -163,7 +163,7 @@ impl MemoryStore {
     pub(crate) fn settle(&mut self) -> Result<(), Failed>
         ensures rest { self.new ≡ record self.old { slots = self.new.slots; orders = self.new.orders; faults = self.new.faults; short = self.new.short } }
         ensures counts { self.old.faults ≤ self.new.faults }
-        ensures cause { OnErr result (Rose self.old.faults self.new.faults) }
+        ensures cause { IsCounted result self.old.faults self.new.faults }
         ensures exact { is_err result ≡ fails self.old.orders 0 }
         ensures passed { HasPassed self.old.orders self.new.orders }
         ensures unchanged { OnErr result (self.new.slots ≡ self.old.slots) }

@@ -1,7 +1,7 @@
 //! The sectors of a volume in the area, one by one.
 
-ghost use Rattle.std.specs.Prelude.{◌≡◌, ◌≤◌, ◌<◌, ◌+◌, ◌-◌, ◌^◌, is_err, length, OnOk, OnErr};
-ghost use Rattle.sm_disk.specs.Held.{IsWhole, SameHeld, Gave, Torn, Wrote, Rose};
+ghost use Rattle.std.specs.Prelude.{◌≡◌, ◌≤◌, ◌<◌, ◌+◌, ◌-◌, ◌^◌, is_err, length, OnOk};
+ghost use Rattle.sm_disk.specs.Held.{IsCounted, IsWhole, SameHeld, Gave, Torn, Wrote};
 ghost use Rattle.sm_disk.specs.Memory.{held_by};
 ghost use Rattle.vg_volumes.specs.Volumes.{spot, span, volume, SameElsewhere, AreIn};
 ghost use Rattle.vg_memory.specs.Stores.{IsQuiet};
@@ -61,7 +61,7 @@ pub(crate) fn write_sectors(
     ensures size { area.new.sectors ≡ area.old.sectors }
     ensures quiet { IsQuiet area.new.orders }
     ensures counts { area.old.faults ≤ area.new.faults }
-    ensures cause { OnErr result (Rose area.old.faults area.new.faults) }
+    ensures cause { IsCounted result area.old.faults area.new.faults }
     ensures torn { Torn at from.now
         (volume extent extents.now (held_by area.old.slots))
         (volume extent extents.now (held_by area.new.slots)) }

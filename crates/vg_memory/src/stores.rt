@@ -1,7 +1,7 @@
 //! The store in memory as a store of volumes.
 
 ghost use Rattle.std.specs.Prelude.{◌≡◌, ◌≤◌, ℕ, List, true, false, ◌||◌, is_err, length, OnOk, OnErr};
-ghost use Rattle.sm_disk.specs.Held.{IsWhole, SameHeld, Gave, Torn, Wrote, Keeps, IsSettled, Rose};
+ghost use Rattle.sm_disk.specs.Held.{IsCounted, IsWhole, SameHeld, Gave, Torn, Wrote, Keeps, IsSettled};
 ghost use Rattle.sm_disk.specs.Failing.{fails};
 ghost use Rattle.vg_meta.specs.Tables.{VolumeTable, rows, extents_of};
 ghost use Rattle.vg_meta.specs.Roomy.{table_alone};
@@ -90,7 +90,7 @@ impl Store for MemoryStore {
         requires fits { Fits (table_alone self.old.table) change }
         ensures site { self.new.site ≡ self.old.site }
         ensures counts { self.old.faults ≤ self.new.faults }
-        ensures cause { OnErr result (Rose self.old.faults self.new.faults) }
+        ensures cause { IsCounted result self.old.faults self.new.faults }
         ensures changed { OnOk result ((table_alone self.new.table ≡ applied (table_alone self.old.table) change) × (has_failed self.new.course ≡ false)) }
         ensures unchanged { OnErr result ((table_alone self.new.table ≡ table_alone self.old.table) × (has_failed self.new.course ≡ true)) }
         ensures room_after { OnOk result (RoomAfter change self.old.table self.new.table) }
@@ -121,7 +121,7 @@ impl Store for MemoryStore {
         ensures table { (table_alone self.new.table ≡ table_alone self.old.table) × (has_failed self.new.course ≡ has_failed self.old.course) }
         ensures no_less { NoLessRoom self.old.table self.new.table }
         ensures counts { self.old.faults ≤ self.new.faults }
-        ensures cause { OnErr result (Rose self.old.faults self.new.faults) }
+        ensures cause { IsCounted result self.old.faults self.new.faults }
         ensures device { Keeps (area_of self.old) (area_of self.new) }
         ensures beside { Keeps beside_none beside_none }
         ensures same { SameHeld (area_of self.old) (area_of self.new) }
@@ -146,7 +146,7 @@ impl Store for MemoryStore {
         ensures table { (table_alone self.new.table ≡ table_alone self.old.table) × (has_failed self.new.course ≡ has_failed self.old.course) }
         ensures no_less { NoLessRoom self.old.table self.new.table }
         ensures counts { self.old.faults ≤ self.new.faults }
-        ensures cause { OnErr result (Rose self.old.faults self.new.faults) }
+        ensures cause { IsCounted result self.old.faults self.new.faults }
         ensures beside { Keeps beside_none beside_none }
         ensures torn { Torn at from.now
             (volume_of self.old.site (table_alone self.old.table) (area_of self.old) volume.now)
@@ -177,7 +177,7 @@ impl Store for MemoryStore {
         ensures table { (table_alone self.new.table ≡ table_alone self.old.table) × (has_failed self.new.course ≡ has_failed self.old.course) }
         ensures no_less { NoLessRoom self.old.table self.new.table }
         ensures counts { self.old.faults ≤ self.new.faults }
-        ensures cause { OnErr result (Rose self.old.faults self.new.faults) }
+        ensures cause { IsCounted result self.old.faults self.new.faults }
         ensures device { Keeps (area_of self.old) (area_of self.new) }
         ensures beside { Keeps beside_none beside_none }
         ensures keeps { Keeps (area_of self.old) (area_of self.new) }

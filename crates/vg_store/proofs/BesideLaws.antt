@@ -2,10 +2,11 @@
 use Rattle.std.proofs.Common.{◌≡◌, ℕ, ◌+◌, ◌-◌, ◌*◌, ◌<◌, ◌≤◌, Bool, true, false, cond, ◌⊎◌, inl, inr, List, [], length, refl, subst, arith}
 use Rattle.std.specs.Prelude.{◌&&◌, ◌||◌, nat_lt, nat_le, ◌≢◌}
 use Rattle.std.proofs.lemmas.Bool.{ltb-true, leb-true}
-use Rattle.sm_disk.specs.Held.{Held, May, Keeps, Reaches, Puts, newest, reads}
+use Rattle.sm_disk.specs.Held.{Held, IsIn, May, Keeps, Reaches, Puts, newest, reads}
 use Rattle.sm_disk.proofs.HeldLaws.{reads-at, may-at}
 use Rattle.vg_layout.specs.Places.{area_place}
 use Rattle.vg_volumes.specs.Volumes.{spot, span, SameElsewhere}
+use Rattle.vg_store.specs.Formats.{IsFormatPlace, IsFormatWrite}
 use Rattle.vg_store.specs.Groups.{area_of, beside_of, is_beside, slots_end}
 use Rattle.vg_store.specs.Runs.{AreOn, SameInFront}
 use Rattle.vg_store.proofs.RunLaws.{spot_on}
@@ -46,20 +47,37 @@ beside_where area p is = by (nat_le slots_end p) (nat_lt p area_place) (nat_le (
 pub beside_kept : (area : ℕ) {old new : Held} → Keeps old new → Keeps (beside_of area old) (beside_of area new)
 beside_kept area {old} {new} k = keeps_beside area old new (λ p is. k.reads p) (λ p v is. k.may p v)
 
--- what is written in front of the slots' end leaves it as it was
+-- what is written at no such place leaves it as it was
+beside_apart : (W : ℕ → List ℕ → Type 0) (area : ℕ) (a b : Held)
+    → ((p : ℕ) (v : List ℕ) → ((slots_end ≤ p) × (p < area_place)) ⊎ (area_place + area ≤ p) → W p v → ⊥) → Reaches W a b → Keeps (beside_of area a) (beside_of area b)
+beside_apart W area a b apart r = keeps_beside area a b (λ p is. gave p (beside_where area p is) (r.gives p)) (λ p v is m. left p v (beside_where area p is) (r.may p v m))
+  where
+    gave : (p : ℕ) → ((slots_end ≤ p) × (p < area_place)) ⊎ (area_place + area ≤ p) → (reads b p ≡ reads a p) ⊎ W p (reads b p) → reads b p ≡ reads a p
+    gave p at (inl same) = same
+    gave p at (inr written) = absurd (apart p (reads b p) at written)
+
+    left : (p : ℕ) (v : List ℕ) → ((slots_end ≤ p) × (p < area_place)) ⊎ (area_place + area ≤ p) → May a p v ⊎ W p v → May a p v
+    left p v at (inl was) = was
+    left p v at (inr written) = absurd (apart p v at written)
+
+-- what is written in front of the slots' end
 pub beside_reached : (area place : ℕ) (a b : Held) (written : List ℕ) → 512 * place + length written ≤ 512 * slots_end → Reaches (Puts place written) a b
     → Keeps (beside_of area a) (beside_of area b)
-beside_reached area place a b written front r = keeps_beside area a b (λ p is. gave p (beside_where area p is) (r.gives p)) (λ p v is m. left p v (beside_where area p is) (r.may p v m))
+beside_reached area place a b written front = beside_apart (Puts place written) area a b (λ p v at put. by p at put.0)
   where
-    gave : (p : ℕ) → ((slots_end ≤ p) × (p < area_place)) ⊎ (area_place + area ≤ p) → (reads b p ≡ reads a p) ⊎ Puts place written p (reads b p) → reads b p ≡ reads a p
-    gave p at (inl same) = same
-    gave p (inl behind) (inr (here, is)) = absurd (omega (arith, here.1, behind.0))
-    gave p (inr past) (inr (here, is)) = absurd (omega (arith, here.1, past))
+    by : (p : ℕ) → ((slots_end ≤ p) × (p < area_place)) ⊎ (area_place + area ≤ p) → IsIn place (length written) p → ⊥
+    by p (inl behind) here = omega (arith, here.1, behind.0)
+    by p (inr past) here = omega (arith, here.1, past)
 
-    left : (p : ℕ) (v : List ℕ) → ((slots_end ≤ p) × (p < area_place)) ⊎ (area_place + area ≤ p) → May a p v ⊎ Puts place written p v → May a p v
-    left p v at (inl was) = was
-    left p v (inl behind) (inr (here, is)) = absurd (omega (arith, here.1, behind.0))
-    left p v (inr past) (inr (here, is)) = absurd (omega (arith, here.1, past))
+-- what a format writes
+pub beside_formatted : (area : ℕ) (a b : Held) → 512 ≤ area → Reaches IsFormatWrite a b → Keeps (beside_of area a) (beside_of area b)
+beside_formatted area a b some = beside_apart IsFormatWrite area a b (λ p v at here. by p at here)
+  where
+    by : (p : ℕ) → ((slots_end ≤ p) × (p < area_place)) ⊎ (area_place + area ≤ p) → IsFormatPlace p → ⊥
+    by p (inl behind) (inl front) = omega (arith, front, behind.0)
+    by p (inl behind) (inr record_at) = omega (arith, record_at.0, behind.1)
+    by p (inr past) (inl front) = omega (arith, front, past)
+    by p (inr past) (inr record_at) = omega (arith, record_at.1, past, some)
 
 -- a place behind the last extent is no place of a volume
 past_elsewhere : (area x : ℕ) (es : List ℕ) (q : ℕ) → AreOn (area_place + area) x es → area ≤ q → (r : ℕ) → r < span x es → spot x es r ≢ q

@@ -4,7 +4,7 @@ use Rattle.std.proofs.lemmas.Bool.{cases_eq}
 use Rattle.std.proofs.lemmas.List.{drop-replicate, take-replicate, length-replicate}
 use Rattle.sm_base.specs.declared.faults.OpenFault.{OpenFault}
 use Rattle.sm_base.specs.declared.faults.OpenFault.TheVariants.{NotARepository}
-use Rattle.sm_disk.specs.Held.{Held, May, Allows, IsSettled, Torn, Wrote, Reaches, Puts, Gave, ReadsElsewhere, reads}
+use Rattle.sm_disk.specs.Held.{Held, IsIn, May, Allows, IsSettled, Torn, Wrote, Reaches, Puts, Gave, ReadsElsewhere, reads}
 use Rattle.sm_disk.proofs.HeldLaws.{gave_one, in_one, reads-elsewhere, reads-settled, reads-wrote, torn_from_wrote}
 use Rattle.sm_disk.proofs.ReachesLaws.{Reaches-torn, Reaches-wider, may_reached}
 use Rattle.sm_disk.proofs.SectorLaws.{sector-one}
@@ -15,7 +15,8 @@ use Rattle.vg_layout.specs.declared.places.Slot.TheVariants.{Zero, One}
 use Rattle.vg_layout.specs.Fields.{slot_number}
 use Rattle.vg_layout.specs.Sectors.{Plate, Pointer, header_sector, label_sector}
 use Rattle.vg_layout.specs.Opening.{plate_of}
-use Rattle.vg_store.specs.Formats.{IsBehindLabel, IsBlank, StandsBehindLabel, IsLaidOut, IsLeftOf}
+use Rattle.vg_store.specs.Groups.{slots_end}
+use Rattle.vg_store.specs.Formats.{IsBehindLabel, IsBlank, IsFormatPlace, IsFormatWrite, StandsBehindLabel, IsLaidOut, IsLeftOf}
 
 -- ---- zeros
 
@@ -55,11 +56,28 @@ pub slot_range : (s : Slot) → (2 ≤ slot_place (slot_number s)) × (slot_plac
 slot_range Zero = (omega arith, omega arith)
 slot_range One = (omega arith, omega arith)
 
-pub torn_behind : (at : ℕ) (bytes : List ℕ) (a b : Held) → 0 < at → Torn at bytes a b → Reaches IsBehindLabel a b
-torn_behind at bytes a b behind t = Reaches-wider (λ q v p. omega (arith, p.0.0)) (Reaches-torn t)
+-- a sector in front of the slots' end, and the sectors of the records, are places of a format
+one_place : (at : ℕ) (bytes : List ℕ) → at < slots_end → length bytes ≡ 512 → (q : ℕ) → IsIn at (length bytes) q → IsFormatPlace q
+one_place at bytes front long q here = inl (omega (arith, front, in_one at (length bytes) q long here))
 
-pub put_behind : (at : ℕ) (bytes : List ℕ) (a b : Held) → 0 < at → Reaches (Puts at bytes) a b → Reaches IsBehindLabel a b
-put_behind at bytes a b behind r = Reaches-wider (λ q v p. omega (arith, p.0.0)) r
+record_places : (bytes : List ℕ) → length bytes ≡ 262144 → (q : ℕ) → IsIn area_place (length bytes) q → IsFormatPlace q
+record_places bytes long q here = inr (here.0, omega (arith, long, here.1))
+
+pub torn_records : (bytes : List ℕ) (a b : Held) → length bytes ≡ 262144 → Torn area_place bytes a b → Reaches IsBehindLabel a b
+torn_records bytes a b long t = Reaches-wider (λ q v p. (omega (arith, p.0.0), record_places bytes long q p.0)) (Reaches-torn t)
+
+pub torn_behind : (at : ℕ) (bytes : List ℕ) (a b : Held) → 0 < at → at < slots_end → length bytes ≡ 512 → Torn at bytes a b → Reaches IsBehindLabel a b
+torn_behind at bytes a b behind front long t = Reaches-wider (λ q v p. (omega (arith, p.0.0), one_place at bytes front long q p.0)) (Reaches-torn t)
+
+pub put_behind : (at : ℕ) (bytes : List ℕ) (a b : Held) → 0 < at → at < slots_end → length bytes ≡ 512 → Reaches (Puts at bytes) a b → Reaches IsBehindLabel a b
+put_behind at bytes a b behind front long r = Reaches-wider (λ q v p. (omega (arith, p.0.0), one_place at bytes front long q p.0)) r
+
+-- the label is written at one, too
+pub put_label : (bytes : List ℕ) (a b : Held) → length bytes ≡ 512 → Reaches (Puts label_place bytes) a b → Reaches IsFormatWrite a b
+put_label bytes a b long r = Reaches-wider (λ q v p. one_place label_place bytes (omega arith) long q p.0) r
+
+pub fills : (a b : Held) → Reaches IsBehindLabel a b → Reaches IsFormatWrite a b
+fills a b r = Reaches-wider (λ q v p. p.1) r
 
 pub filled_after : (a b c d : Held) (h : Pointer) (blank written head : List ℕ) (place : ℕ) → place ≡ slot_place h.slot → 2 ≤ place → place ≤ 1026
     → length blank ≡ 262144 → IsBlank blank → length written ≡ 512 → head ≡ header_sector h → length head ≡ 512
@@ -115,14 +133,14 @@ fill_crash size a b c p h written image some settled none r allowed =
   where
     by : (image label_place ≡ reads b label_place) ⊎ IsBehindLabel label_place (image label_place) → image label_place ≡ zeros
     by (inl same) = same ∙ none
-    by (inr behind) = absurd (omega (arith, behind))
+    by (inr behind) = absurd (omega (arith, behind.0))
 
 pub still_none : (b c : Held) → reads b label_place ≡ zeros → Reaches IsBehindLabel b c → reads c label_place ≡ zeros
 still_none b c none r = by (r.gives label_place)
   where
     by : (reads c label_place ≡ reads b label_place) ⊎ IsBehindLabel label_place (reads c label_place) → reads c label_place ≡ zeros
     by (inl same) = same ∙ none
-    by (inr behind) = absurd (omega (arith, behind))
+    by (inr behind) = absurd (omega (arith, behind.0))
 
 -- what shows all but the label as read shows what was filled
 filled_shown : (c : Held) (h : Pointer) (written : List ℕ) (m : ℕ → List ℕ) (size : ℕ) → area_place + 512 ≤ size → slot_place h.slot ≤ 1026 → 2 ≤ slot_place h.slot

@@ -94,6 +94,7 @@ label_again size p m some f g most least is =
 pub record FitsRecords (size extent : ℕ) : Type 0 where
   pub few : record_extents extent ≤ 16
   pub room : area_place + 512 ≤ size
+  pub large : 512 ≤ extents_on size extent * extent
   pub least : record_extents extent ≤ extents_on size extent
   pub most : extents_on size extent ≤ 65536
 
@@ -118,10 +119,13 @@ fits_records size extent wide enough =
     let some : 0 < extent = omega arith in
     let front : record_extents extent * extent ≤ size - area_place = omega arith in
     let within : record_extents extent ≤ (size - area_place) / extent = (le-div_iff_mul-le some).1 front in
+    let least : record_extents extent ≤ extents_on size extent = omega (arith, within, few) in
+    let more : record_extents extent * extent ≤ extents_on size extent * extent = mul-le-mul_right extent least in
     record {
       few = few;
       room = omega (arith, hold.0);
-      least = omega (arith, within, few);
+      large = omega (arith, hold.0, more);
+      least = least;
       most = omega arith;
     }
 

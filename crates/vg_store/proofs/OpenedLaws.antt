@@ -84,8 +84,8 @@ pub opened_settled : {b c : Held} → IsSettled b → SameHeld b c → IsSettled
 opened_settled s same = still_settled s same
 
 -- and was refused alike
-pub refused_before : (T : Type 0) (size before mid now : ℕ) (a b : Held) (e : OpenFault) → before ≤ mid → (T → Keeps a b)
+pub refused_before : (T : Type 0) (size before mid now : ℕ) (a b : Held) (e : OpenFault) → mid ≡ before → (T → Keeps a b)
     → IsAnswer (λ f. T → IsRefused size (reads b) f) mid now e → IsAnswer (λ f. T → IsRefused size (reads a) f) before now e
-refused_before T size before mid now a b e le k is =
-    answer_from (λ (f : OpenFault). T → IsRefused size (reads b) f) (λ (f : OpenFault). T → IsRefused size (reads a) f) before mid now e le
+refused_before T size before mid now a b e same k is =
+    answer_from (λ (f : OpenFault). T → IsRefused size (reads b) f) (λ (f : OpenFault). T → IsRefused size (reads a) f) before mid now e same
     (λ f refused told. let P : (ℕ → List ℕ) → Type 0 = λ m. IsRefused size m f in subst P (same_image (reads b) (reads a) (k told).reads) (refused told)) is

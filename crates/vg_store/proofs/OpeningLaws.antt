@@ -35,12 +35,12 @@ no_device size m e = go (ltb size 2) (not (bytes_eq (take 8 (m label_place)) lab
     go false false false true x = cc
 
 pub label_answer : (T : Type 0) (before now size : ℕ) (s : List ℕ) (m : ℕ → List ℕ) (e : OpenFault) → (T → s ≡ m label_place)
-    → plate_of size (λ q. s) ≡ Err e → IsAnswer (λ x. T → plate_of size m ≡ Err x) before now e
-label_answer T before now size s m NotARepository is h = λ told. plate_same size (λ q. s) m (sym (is told)) ∙ h
-label_answer T before now size s m (Unsupported version) is h = λ told. plate_same size (λ q. s) m (sym (is told)) ∙ h
-label_answer T before now size s m (Damaged place) is h = λ told. plate_same size (λ q. s) m (sym (is told)) ∙ h
-label_answer T before now size s m Device is h = absurd (no_device size (λ q. s) h)
-label_answer T before now size s m NoMemory is h = tt
+    → now ≡ before → plate_of size (λ q. s) ≡ Err e → IsAnswer (λ x. T → plate_of size m ≡ Err x) before now e
+label_answer T before now size s m NotARepository is calm h = (λ told. plate_same size (λ q. s) m (sym (is told)) ∙ h, calm)
+label_answer T before now size s m (Unsupported version) is calm h = (λ told. plate_same size (λ q. s) m (sym (is told)) ∙ h, calm)
+label_answer T before now size s m (Damaged place) is calm h = (λ told. plate_same size (λ q. s) m (sym (is told)) ∙ h, calm)
+label_answer T before now size s m Device is calm h = absurd (no_device size (λ q. s) h)
+label_answer T before now size s m NoMemory is calm h = calm
 
 no_header_device : (m : ℕ → List ℕ) → pointer_of m ≡ Err Device → ⊥
 unfolding pointer_of
@@ -51,12 +51,12 @@ no_header_device m e = go (is_header_right (m header_place)) e
     go false x = cc
 
 pub header_answer : (T : Type 0) (before now : ℕ) (s : List ℕ) (m : ℕ → List ℕ) (e : OpenFault) → (T → s ≡ m header_place)
-    → pointer_of (λ q. s) ≡ Err e → IsAnswer (λ x. T → pointer_of m ≡ Err x) before now e
-header_answer T before now s m NotARepository is h = λ told. pointer_same (λ q. s) m (sym (is told)) ∙ h
-header_answer T before now s m (Unsupported version) is h = λ told. pointer_same (λ q. s) m (sym (is told)) ∙ h
-header_answer T before now s m (Damaged place) is h = λ told. pointer_same (λ q. s) m (sym (is told)) ∙ h
-header_answer T before now s m Device is h = absurd (no_header_device (λ q. s) h)
-header_answer T before now s m NoMemory is h = tt
+    → now ≡ before → pointer_of (λ q. s) ≡ Err e → IsAnswer (λ x. T → pointer_of m ≡ Err x) before now e
+header_answer T before now s m NotARepository is calm h = (λ told. pointer_same (λ q. s) m (sym (is told)) ∙ h, calm)
+header_answer T before now s m (Unsupported version) is calm h = (λ told. pointer_same (λ q. s) m (sym (is told)) ∙ h, calm)
+header_answer T before now s m (Damaged place) is calm h = (λ told. pointer_same (λ q. s) m (sym (is told)) ∙ h, calm)
+header_answer T before now s m Device is calm h = absurd (no_header_device (λ q. s) h)
+header_answer T before now s m NoMemory is calm h = calm
 
 -- ---- the text
 
@@ -94,13 +94,13 @@ damaged_told count total bytes text at same right short (place, damaged, is) =
 
 -- ---- the first check that fails
 
-pub answer_from : (P Q : OpenFault → Type 0) (before mid now : ℕ) (e : OpenFault) → before ≤ mid → ((x : OpenFault) → P x → Q x)
+pub answer_from : (P Q : OpenFault → Type 0) (before mid now : ℕ) (e : OpenFault) → mid ≡ before → ((x : OpenFault) → P x → Q x)
     → IsAnswer P mid now e → IsAnswer Q before now e
-answer_from P Q before mid now NotARepository le wider is = wider NotARepository is
-answer_from P Q before mid now (Unsupported version) le wider is = wider (Unsupported version) is
-answer_from P Q before mid now (Damaged place) le wider is = wider (Damaged place) is
-answer_from P Q before mid now Device le wider is = omega (arith, le, is)
-answer_from P Q before mid now NoMemory le wider is = tt
+answer_from P Q before mid now NotARepository same wider is = (wider NotARepository is.0, is.1 ∙ same)
+answer_from P Q before mid now (Unsupported version) same wider is = (wider (Unsupported version) is.0, is.1 ∙ same)
+answer_from P Q before mid now (Damaged place) same wider is = (wider (Damaged place) is.0, is.1 ∙ same)
+answer_from P Q before mid now Device same wider is = omega (arith, same, is)
+answer_from P Q before mid now NoMemory same wider is = is ∙ same
 
 pub refused_header : (size : ℕ) (a b : Held) (p : Plate) (e : OpenFault) → SameHeld a b → plate_of size (reads a) ≡ Ok p
     → pointer_of (reads b) ≡ Err e → IsRefused size (reads a) e

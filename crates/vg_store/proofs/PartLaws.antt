@@ -119,7 +119,7 @@ HasTorn-more r s w torn = record {
 -- how far a write came
 pub record WriteGoes (Told : Type 0) (x : ℕ) (es : List ℕ) (at : ℕ) (bytes : List ℕ) (size wide before faults done count : ℕ) (old new : Held) : Type 0 where
   pub size_is : wide ≡ size
-  pub counts : before ≤ faults
+  pub calm : faults ≡ before
   pub most : done ≤ count
   pub wrote : Told → HasWritten x es at bytes done old new
 
@@ -165,7 +165,7 @@ run_read {size} {x} {es} {place} {m} at n old mid xs front part rest run within 
 -- how far a read came
 pub record ReadGoes (Told : Type 0) (x : ℕ) (es : List ℕ) (at : ℕ) (bytes : List ℕ) (size wide before faults done count : ℕ) (old new : Held) : Type 0 where
   pub size_is : wide ≡ size
-  pub counts : before ≤ faults
+  pub calm : faults ≡ before
   pub most : done ≤ count
   pub same : Told → SameHeld old new
   pub gave : Told → GaveFront at (volume x es (area_of old)) bytes done

@@ -10,6 +10,7 @@ use Rattle.vg_meta.specs.Text.{text}
 use Rattle.vg_layout.specs.Places.{area_place, extents_on, header_place, label_place, record_extents, slot_place}
 use Rattle.vg_layout.specs.Sectors.{Plate, Pointer, header_sector, label_sector}
 use Rattle.vg_layout.specs.Opening.{GroupFound, StandsOn, plate_of}
+use Rattle.vg_store.specs.Groups.{slots_end}
 use Rattle.vg_store.specs.declared.formats.FormatFault.{FormatFault}
 use Rattle.vg_store.specs.declared.formats.FormatFault.TheVariants.{TooSmall, Device, NoMemory}
 
@@ -49,9 +50,17 @@ IsFormatFault size least Unchanged before now NoMemory = Unchanged
 abbrev pub IsBlank : List ℕ → Type 0
 IsBlank bytes = (i : ℕ) → 512 * i + 512 ≤ length bytes → sector bytes i ≡ zeros
 
--- a write of anything but the label
+-- a place that a format writes: in front of the slots' end, or that of a record
+abbrev pub IsFormatPlace : ℕ → Type 0
+IsFormatPlace q = (q < slots_end) ⊎ ((area_place ≤ q) × (q < area_place + 512))
+
+-- a write at such a place
+abbrev pub IsFormatWrite : ℕ → List ℕ → Type 0
+IsFormatWrite q v = IsFormatPlace q
+
+-- one of anything but the label
 abbrev pub IsBehindLabel : ℕ → List ℕ → Type 0
-IsBehindLabel q v = label_place < q
+IsBehindLabel q v = (label_place < q) × IsFormatPlace q
 
 -- behind the label stand this header, this text and free records
 pub record StandsBehindLabel (h : Pointer) (written : List ℕ) (image : ℕ → List ℕ) : Type 0 where

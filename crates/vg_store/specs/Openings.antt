@@ -6,13 +6,14 @@ use Rattle.sm_base.specs.declared.faults.Place.TheVariants.{TableSum, Table}
 use Rattle.sm_disk.specs.Held.{Rose}
 use Rattle.vg_meta.specs.Reading.{IsDamagedAt}
 
--- a fact of a refusal by what stands on the device; a fault of the device raised the count, and want of memory is free
+-- a fact of a refusal by what stands on the device; a fault of the device raised the count, and only where it is answered; want
+-- of memory is free
 abbrev pub IsAnswer : (OpenFault → Type 0) → ℕ → ℕ → OpenFault → Type 0
-IsAnswer IsIt before now NotARepository = IsIt NotARepository
-IsAnswer IsIt before now (Unsupported version) = IsIt (Unsupported version)
-IsAnswer IsIt before now (Damaged place) = IsIt (Damaged place)
+IsAnswer IsIt before now NotARepository = IsIt NotARepository × (now ≡ before)
+IsAnswer IsIt before now (Unsupported version) = IsIt (Unsupported version) × (now ≡ before)
+IsAnswer IsIt before now (Damaged place) = IsIt (Damaged place) × (now ≡ before)
 IsAnswer IsIt before now Device = Rose before now
-IsAnswer IsIt before now NoMemory = Unit {0}
+IsAnswer IsIt before now NoMemory = now ≡ before
 
 -- the fifth check fails: the text has not the header's sum, or it spells no table
 pub data IsTextRefused (count total : ℕ) (bytes : List ℕ) : OpenFault → Type 0 where

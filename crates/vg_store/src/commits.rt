@@ -1,7 +1,7 @@
 //! The commit: a change of the table, and the flip to the table that it leaves.
 
 ghost use Rattle.std.specs.Prelude.{◌≡◌, ◌≤◌, ◌<◌, ◌+◌, ◌*◌, ◌^◌, ℕ, List, true, false, OnOk, OnErr, length};
-ghost use Rattle.sm_disk.specs.Held.{Keeps, IsSettled, Rose};
+ghost use Rattle.sm_disk.specs.Held.{IsCounted, IsSettled, Keeps};
 ghost use Rattle.vg_meta.specs.Tables.{VolumeTable};
 ghost use Rattle.vg_meta.specs.Roomy.{table_alone};
 ghost use Rattle.vg_meta.specs.Changes.{Permits, HasRoom, applied};
@@ -48,7 +48,7 @@ impl<D: Disk> Group<D> {
         ensures label { self.new.label ≡ self.old.label }
         ensures size { D.size self.new.disk ≡ D.size self.old.disk }
         ensures counts { D.faults self.old.disk ≤ D.faults self.new.disk }
-        ensures cause { OnErr result (Rose (D.faults self.old.disk) (D.faults self.new.disk)) }
+        ensures cause { IsCounted result (D.faults self.old.disk) (D.faults self.new.disk) }
         ensures changed { OnOk result ((table_alone self.new.table ≡ applied (table_alone self.old.table) change) × (self.new.failed ≡ false)) }
         ensures unchanged { OnErr result ((table_alone self.new.table ≡ table_alone self.old.table) × (self.new.failed ≡ true)) }
         ensures room_after { OnOk result (RoomAfter change self.old.table self.new.table) }

@@ -1,8 +1,8 @@
 //! A table takes effect by one sector, the header, which is written once the text of the table has lasted.
 
-ghost use Rattle.std.specs.Prelude.{ℕ, ◌≡◌, ◌≤◌, ◌<◌, ◌*◌, length, OnOk, OnErr};
+ghost use Rattle.std.specs.Prelude.{ℕ, ◌≡◌, ◌≤◌, ◌<◌, ◌*◌, length, OnOk};
 ghost use Rattle.sm_base.specs.Numbers.{div_up};
-ghost use Rattle.sm_disk.specs.Held.{Keeps, IsSettled, Rose};
+ghost use Rattle.sm_disk.specs.Held.{IsCounted, IsSettled, Keeps};
 ghost use Rattle.vg_layout.specs.Fields.{pointer};
 ghost use Rattle.vg_layout.specs.Places.{area_place};
 ghost use Rattle.vg_store.specs.Groups.{area_of, beside_of, LeavesEither, StandsEither, IsFlipped};
@@ -20,7 +20,7 @@ pub(crate) fn flip<D: Disk>(disk: &mut D, next: &TableHeader, text: &[u8]) -> Re
     requires sectors { length text.now ≡ 512 * div_up next.now.length 512 }
     ensures size { D.size disk.new ≡ D.size disk.old }
     ensures counts { D.faults disk.old ≤ D.faults disk.new }
-    ensures cause { OnErr result (Rose (D.faults disk.old) (D.faults disk.new)) }
+    ensures cause { IsCounted result (D.faults disk.old) (D.faults disk.new) }
     ensures keeps { D.told → Keeps (area_of (D.held disk.old)) (area_of (D.held disk.new)) }
     ensures beside { D.told → (area : ℕ) → Keeps (beside_of area (D.held disk.old)) (beside_of area (D.held disk.new)) }
     ensures settled { OnOk result (D.told → IsSettled (D.held disk.new)) }

@@ -1,16 +1,17 @@
 //! A device is formatted: a new group stands on it, and all that stood there is gone.
 //!
 //! The label is taken away first, and written last, each with a sync. So a device on which this stopped holds what it
-//! held, no repository, or the new group, whole.
+//! held, no repository, or the new group, whole. What is no part of the new group is left as it is.
 
-ghost use Rattle.std.specs.Prelude.{◌≡◌, ◌≤◌, ◌<◌, ◌+◌, ℕ, Err, IfOk, IfErr, OnOk, OnErr, List, take, vec_len};
-ghost use Rattle.sm_disk.specs.Held.{Allows, IsSettled, Reaches, Rose, reads};
+ghost use Rattle.std.specs.Prelude.{◌≡◌, ◌≤◌, ◌<◌, ◌+◌, ◌*◌, ℕ, Err, IfOk, IfErr, OnOk, List, take, vec_len};
+ghost use Rattle.sm_disk.specs.Held.{Allows, IsCounted, IsSettled, Keeps, Reaches, reads};
 ghost use Rattle.std.proofs.Props.{props};
 ghost use Rattle.vg_meta.specs.Text.{text};
 ghost use Rattle.vg_layout.specs.Places.{area_place, extents_on, record_extents};
 ghost use Rattle.vg_layout.specs.Fields.{plate, pointer};
+ghost use Rattle.vg_store.specs.Groups.{beside_of};
 ghost use Rattle.vg_store.specs.declared.formats.FormatFault.TheVariants.{TooSmall};
-ghost use Rattle.vg_store.specs.Formats.{IsBehindLabel, IsBlank, StandsBehindLabel, IsFormatFault, IsFormatted, IsLaidOut, IsLeftByFormat, IsLeftOf, least_size, new_group};
+ghost use Rattle.vg_store.specs.Formats.{IsBehindLabel, IsBlank, StandsBehindLabel, IsFormatFault, IsFormatWrite, IsFormatted, IsLaidOut, IsLeftByFormat, IsLeftOf, least_size, new_group};
 
 use sm_base::{Failed, Geometry, NoMemory};
 use sm_disk::{Disk, put, write_sector};
@@ -63,10 +64,13 @@ pub fn format<D: Disk>(
 ) -> Result<Formatted, FormatFault>
     ensures size { D.size disk.new ≡ D.size disk.old }
     ensures counts { D.faults disk.old ≤ D.faults disk.new }
+    ensures calm { OnOk result (D.faults disk.new ≡ D.faults disk.old) }
     ensures small { D.size disk.old < least_size geometry.extent → result ≡ Err (TooSmall (least_size geometry.extent)) }
     ensures fault { IfErr result (IsFormatFault (D.size disk.old) (least_size geometry.extent) (disk.new ≡ disk.old) (D.faults disk.old) (D.faults disk.new)) }
     ensures extents { IfOk result (λ f. f.extents ≡ extents_on (D.size disk.old) geometry.extent) }
     ensures free { IfOk result (λ f. f.free + record_extents geometry.extent ≡ f.extents) }
+    ensures beside { D.told → Keeps (beside_of (extents_on (D.size disk.old) geometry.extent * geometry.extent) (D.held disk.old))
+        (beside_of (extents_on (D.size disk.old) geometry.extent * geometry.extent) (D.held disk.new)) }
     ensures settled { OnOk result (D.told → IsSettled (D.held disk.new)) }
     ensures formatted { OnOk result (D.told → IsFormatted (D.size disk.old) (D.held disk.new).floor geometry repository) }
     ensures crash { D.told → (image : ℕ → List ℕ) → Allows (D.size disk.old) (D.held disk.new) image → IsLeftByFormat (D.size disk.old) (D.held disk.old) geometry repository image }
@@ -154,7 +158,8 @@ fn lay_out<D: Disk>(disk: &mut D, draft: &Draft) -> Result<(), Failed>
     requires room { area_place + 512 ≤ D.size disk.old }
     ensures size { D.size disk.new ≡ D.size disk.old }
     ensures counts { D.faults disk.old ≤ D.faults disk.new }
-    ensures cause { OnErr result (Rose (D.faults disk.old) (D.faults disk.new)) }
+    ensures cause { IsCounted result (D.faults disk.old) (D.faults disk.new) }
+    ensures reaches { D.told → Reaches IsFormatWrite (D.held disk.old) (D.held disk.new) }
     ensures settled { OnOk result (D.told → IsSettled (D.held disk.new)) }
     ensures laid { OnOk result (D.told → IsLaidOut (plate draft.now.label) (pointer draft.now.header) draft.now.text (D.held disk.new).floor) }
     ensures crash { D.told → (image : ℕ → List ℕ) → Allows (D.size disk.old) (D.held disk.new) image → IsLeftOf (D.size disk.old) (D.held disk.old) (plate draft.now.label) (pointer draft.now.header) draft.now.text image }
@@ -172,7 +177,7 @@ fn fill<D: Disk>(disk: &mut D, draft: &Draft) -> Result<(), Failed>
     requires room { area_place + 512 ≤ D.size disk.old }
     ensures size { D.size disk.new ≡ D.size disk.old }
     ensures counts { D.faults disk.old ≤ D.faults disk.new }
-    ensures cause { OnErr result (Rose (D.faults disk.old) (D.faults disk.new)) }
+    ensures cause { IsCounted result (D.faults disk.old) (D.faults disk.new) }
     ensures reaches { D.told → Reaches IsBehindLabel (D.held disk.old) (D.held disk.new) }
     ensures settled { OnOk result (D.told → IsSettled (D.held disk.new)) }
     ensures filled { OnOk result (D.told → StandsBehindLabel (pointer draft.now.header) draft.now.text (reads (D.held disk.new))) }

@@ -57,7 +57,7 @@ impl<D: Disk> Group<D> {
     /// back.
     pub fn open(alloc: Global, disk: D) -> Result<Group<D>, (OpenFault, D)>
         ensures size { IfOk result (λ g. D.size g.disk ≡ D.size disk) }
-        ensures counts { IfOk result (λ g. D.faults disk ≤ D.faults g.disk) }
+        ensures calm { IfOk result (λ g. D.faults g.disk ≡ D.faults disk) }
         ensures keeps { IfOk result (λ g. D.told → Keeps (D.held disk) (D.held g.disk)) }
         ensures area { IfOk result (λ g. D.told → Keeps (area_of (D.held disk)) (area_of (D.held g.disk))) }
         ensures settled { IfOk result (λ g. D.told → IsSettled (D.held g.disk)) }

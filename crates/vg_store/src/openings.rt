@@ -1,7 +1,7 @@
 //! The first five checks of an opening: the first that fails gives the answer.
 
-ghost use Rattle.std.specs.Prelude.{◌≡◌, ◌≤◌, ◌+◌, ◌*◌, Ok, Err, IfOk, IfErr, OnOk, OnErr, length, take, sum};
-ghost use Rattle.sm_disk.specs.Held.{Rose, SameHeld, reads};
+ghost use Rattle.std.specs.Prelude.{◌≡◌, ◌≤◌, ◌+◌, ◌*◌, Ok, Err, IfOk, IfErr, OnOk, length, take, sum};
+ghost use Rattle.sm_disk.specs.Held.{IsCounted, SameHeld, reads};
 ghost use Rattle.vg_meta.specs.Roomy.{table_alone};
 ghost use Rattle.vg_meta.specs.Reading.{Spells};
 ghost use Rattle.vg_meta.specs.Text.{text};
@@ -20,6 +20,7 @@ use vg_meta::{DecodeFault, Table};
 pub(crate) fn label_on<D: Disk>(disk: &mut D) -> Result<GroupLabel, OpenFault>
     ensures size { D.size disk.new ≡ D.size disk.old }
     ensures counts { D.faults disk.old ≤ D.faults disk.new }
+    ensures calm { OnOk result (D.faults disk.new ≡ D.faults disk.old) }
     ensures same { D.told → SameHeld (D.held disk.old) (D.held disk.new) }
     ensures area { IfOk result (λ l. area_place + l.extents * l.geometry.extent ≤ D.size disk.old) }
     ensures few { IfOk result (λ l. l.extents ≤ 65536) }
@@ -44,6 +45,7 @@ pub(crate) fn header_on<D: Disk>(disk: &mut D) -> Result<TableHeader, OpenFault>
     requires { 2 ≤ D.size disk.old }
     ensures size { D.size disk.new ≡ D.size disk.old }
     ensures counts { D.faults disk.old ≤ D.faults disk.new }
+    ensures calm { OnOk result (D.faults disk.new ≡ D.faults disk.old) }
     ensures same { D.told → SameHeld (D.held disk.old) (D.held disk.new) }
     ensures short { IfOk result (λ h. h.length ≤ 524288) }
     ensures ok { IfOk result (λ h. D.told → pointer_of (reads (D.held disk.old)) ≡ Ok (pointer h)) }
@@ -65,7 +67,7 @@ fn read_text<D: Disk>(disk: &mut D, header: &TableHeader, buffer: &mut [u8]) -> 
     requires fits { header.now.length ≤ 524288 }
     ensures size { D.size disk.new ≡ D.size disk.old }
     ensures counts { D.faults disk.old ≤ D.faults disk.new }
-    ensures cause { OnErr result (Rose (D.faults disk.old) (D.faults disk.new)) }
+    ensures cause { IsCounted result (D.faults disk.old) (D.faults disk.new) }
     ensures same { D.told → SameHeld (D.held disk.old) (D.held disk.new) }
     ensures text { OnOk result (D.told → take header.now.length buffer.new ≡ text_in (reads (D.held disk.old)) (pointer header.now)) }
 {
@@ -91,6 +93,7 @@ pub(crate) fn table_on<D: Disk>(
     requires fits { header.now.length ≤ 524288 }
     ensures size { D.size disk.new ≡ D.size disk.old }
     ensures counts { D.faults disk.old ≤ D.faults disk.new }
+    ensures calm { OnOk result (D.faults disk.new ≡ D.faults disk.old) }
     ensures same { D.told → SameHeld (D.held disk.old) (D.held disk.new) }
     ensures spelled { IfOk result (λ t. Spells extents (text (table_alone t)) (table_alone t)) }
     ensures summed { IfOk result (λ t. sum (text (table_alone t)) ≡ header.now.sum) }
@@ -131,6 +134,7 @@ pub(crate) fn find<D: Disk>(
     requires { length buffer.old ≡ 524288 }
     ensures size { D.size disk.new ≡ D.size disk.old }
     ensures counts { D.faults disk.old ≤ D.faults disk.new }
+    ensures calm { OnOk result (D.faults disk.new ≡ D.faults disk.old) }
     ensures same { D.told → SameHeld (D.held disk.old) (D.held disk.new) }
     ensures label { IfOk result (λ f. D.told → plate_of (D.size disk.old) (reads (D.held disk.old)) ≡ Ok (plate f.label)) }
     ensures header { IfOk result (λ f. D.told → pointer_of (reads (D.held disk.old)) ≡ Ok (pointer f.header)) }

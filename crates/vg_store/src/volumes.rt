@@ -6,8 +6,8 @@
 //! of the volume is what one write of these bytes may leave of a device (`Torn`, `Wrote`), and nothing else on
 //! the device has changed.
 
-ghost use Rattle.std.specs.Prelude.{◌≡◌, ◌≤◌, ◌<◌, ◌+◌, ◌-◌, ◌^◌, length, OnOk, OnErr};
-ghost use Rattle.sm_disk.specs.Held.{IsWhole, SameHeld, Gave, Torn, Wrote, Rose};
+ghost use Rattle.std.specs.Prelude.{◌≡◌, ◌≤◌, ◌<◌, ◌+◌, ◌-◌, ◌^◌, length, OnOk};
+ghost use Rattle.sm_disk.specs.Held.{IsCounted, IsWhole, SameHeld, Gave, Torn, Wrote};
 ghost use Rattle.vg_volumes.specs.Volumes.{span, volume, SameElsewhere};
 ghost use Rattle.vg_store.specs.Groups.{area_of};
 ghost use Rattle.vg_store.specs.Runs.{AreAdjacent, AreOn, IsRun, SameInFront};
@@ -76,7 +76,7 @@ pub(crate) fn read_volume<D: Disk>(
     requires on { AreOn (D.size disk.old) extent extents.now }
     ensures size { D.size disk.new ≡ D.size disk.old }
     ensures counts { D.faults disk.old ≤ D.faults disk.new }
-    ensures cause { OnErr result (Rose (D.faults disk.old) (D.faults disk.new)) }
+    ensures cause { IsCounted result (D.faults disk.old) (D.faults disk.new) }
     ensures same { D.told → SameHeld (D.held disk.old) (D.held disk.new) }
     ensures gave { OnOk result (D.told → Gave at (volume extent extents.now (area_of (D.held disk.old))) to.new) }
 {
@@ -106,7 +106,7 @@ pub(crate) fn write_volume<D: Disk>(
     requires on { AreOn (D.size disk.old) extent extents.now }
     ensures size { D.size disk.new ≡ D.size disk.old }
     ensures counts { D.faults disk.old ≤ D.faults disk.new }
-    ensures cause { OnErr result (Rose (D.faults disk.old) (D.faults disk.new)) }
+    ensures cause { IsCounted result (D.faults disk.old) (D.faults disk.new) }
     ensures torn { D.told → Torn at from.now
         (volume extent extents.now (area_of (D.held disk.old)))
         (volume extent extents.now (area_of (D.held disk.new))) }

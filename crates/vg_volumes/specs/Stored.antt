@@ -1,8 +1,8 @@
 -- What a store holds, and what a call or several did to it, over the whole dictionary of the trait. A store of the
 -- volume group tells nine facts; here they are one state and six relations, so that a contract names the store alone.
-use Rattle.std.specs.Prelude.{◌≡◌, ◌≤◌, ℕ, true, false, List, Result, OnErr}
+use Rattle.std.specs.Prelude.{◌≡◌, ◌≤◌, ℕ, true, false, List, Result}
 use Rattle.sm_base.specs.declared.names.Name.{Name}
-use Rattle.sm_disk.specs.Held.{Held, SameHeld, Keeps, IsSettled, Rose}
+use Rattle.sm_disk.specs.Held.{Held, SameHeld, Keeps, IsCounted, IsSettled, Rose}
 use Rattle.vg_meta.specs.Tables.{VolumeTable, rows, extents_of}
 use Rattle.vg_meta.specs.Roomy.{table_alone}
 use Rattle.vg_meta.specs.declared.changes.Change.{Change}
@@ -68,9 +68,9 @@ pub record WorksOn {S : Type 0} (g : Ghosts S) (name : Name) (old new : S) : Typ
 abbrev pub Faults : {S : Type 0} → Ghosts S → S → S → Type 0
 Faults g old new = Rose (g.faults old) (g.faults new)
 
--- a failed call has its cause in a fault of the device
+-- a call fails only where the device had a fault, and where it succeeds the device had none
 abbrev pub Counts : {S : Type 0} → Ghosts S → {T E : Type 0} → Result T E → S → S → Type 0
-Counts g result old new = OnErr result (Faults g old new)
+Counts g result old new = IsCounted result (g.faults old) (g.faults new)
 
 -- a stop leaves only what is so
 abbrev pub Leaves : {S : Type 0} → Ghosts S → S → (VolumeTable → (ℕ → List ℕ) → Type 0) → Type 0

@@ -15,8 +15,8 @@
 //! Room for rows and extents is asked for before a change: at least so many are spare then. Asking again for what
 //! is spare takes no memory, so a run of any length takes no more than its largest table wants.
 //!
-//! A call fails only where the store's count of faults rose. `commit`, `read`, `write` and `sync` take no
-//! memory.
+//! A call fails only where the store's count of faults rose, and where it succeeds no call of the device has failed (`Counts`):
+//! none is passed over, or tried again. `commit`, `read`, `write` and `sync` take no memory.
 #![tactic(auto)]
 
 mod stores;

@@ -1,7 +1,7 @@
 //! The trait of a store of volumes.
 
 ghost use Rattle.std.specs.Prelude.{◌↔◌, ◌≡◌, ◌≤◌, ◌<◌, ◌+◌, ℕ, List, Bool, true, false, length, OnOk, OnErr, IsTrue};
-ghost use Rattle.sm_disk.specs.Held.{Held, IsWhole, SameHeld, Gave, Torn, Wrote, Keeps, IsSettled, HasSectors, Rose, reads};
+ghost use Rattle.sm_disk.specs.Held.{Held, IsWhole, SameHeld, Gave, Torn, Wrote, Keeps, IsSettled, HasSectors, IsCounted, reads};
 ghost use Rattle.vg_meta.specs.Tables.{VolumeTable, IsTable, rows, extents_of};
 ghost use Rattle.vg_meta.specs.Roomy.{RoomyTable, table_alone, places};
 ghost use Rattle.vg_meta.specs.Changes.{Permits, HasRoom, applied};
@@ -96,7 +96,7 @@ pub trait Store {
         requires fits { Fits (table_alone (table self.old)) change }
         ensures site { site self.new ≡ site self.old }
         ensures counts { faults self.old ≤ faults self.new }
-        ensures cause { OnErr result (Rose (faults self.old) (faults self.new)) }
+        ensures cause { IsCounted result (faults self.old) (faults self.new) }
         ensures changed { OnOk result ((table_alone (table self.new) ≡ applied (table_alone (table self.old)) change) × (failed self.new ≡ false)) }
         ensures unchanged { OnErr result ((table_alone (table self.new) ≡ table_alone (table self.old)) × (failed self.new ≡ true)) }
         ensures room_after { OnOk result (RoomAfter change (table self.old) (table self.new)) }
@@ -113,7 +113,7 @@ pub trait Store {
         ensures table { (table_alone (table self.new) ≡ table_alone (table self.old)) × (failed self.new ≡ failed self.old) }
         ensures no_less { NoLessRoom (table self.old) (table self.new) }
         ensures counts { faults self.old ≤ faults self.new }
-        ensures cause { OnErr result (Rose (faults self.old) (faults self.new)) }
+        ensures cause { IsCounted result (faults self.old) (faults self.new) }
         ensures device { told → Keeps (device self.old) (device self.new) }
         ensures beside { told → Keeps (beside self.old) (beside self.new) }
         ensures same { told → SameHeld (area self.old) (area self.new) }
@@ -127,7 +127,7 @@ pub trait Store {
         ensures table { (table_alone (table self.new) ≡ table_alone (table self.old)) × (failed self.new ≡ failed self.old) }
         ensures no_less { NoLessRoom (table self.old) (table self.new) }
         ensures counts { faults self.old ≤ faults self.new }
-        ensures cause { OnErr result (Rose (faults self.old) (faults self.new)) }
+        ensures cause { IsCounted result (faults self.old) (faults self.new) }
         ensures beside { told → Keeps (beside self.old) (beside self.new) }
         ensures torn { told → Torn at from.now
             (volume_of (site self.old) (table_alone (table self.old)) (area self.old) volume.now)
@@ -144,7 +144,7 @@ pub trait Store {
         ensures table { (table_alone (table self.new) ≡ table_alone (table self.old)) × (failed self.new ≡ failed self.old) }
         ensures no_less { NoLessRoom (table self.old) (table self.new) }
         ensures counts { faults self.old ≤ faults self.new }
-        ensures cause { OnErr result (Rose (faults self.old) (faults self.new)) }
+        ensures cause { IsCounted result (faults self.old) (faults self.new) }
         ensures device { told → Keeps (device self.old) (device self.new) }
         ensures beside { told → Keeps (beside self.old) (beside self.new) }
         ensures keeps { told → Keeps (area self.old) (area self.new) }

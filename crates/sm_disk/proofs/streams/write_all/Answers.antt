@@ -1,4 +1,4 @@
-use Rattle.std.proofs.Common.{arith}
+use Rattle.std.proofs.Common.{arith, ◌∙◌}
 use Rattle.sm_disk.proofs.StreamLaws.{Adds-more}
 use Rattle.sm_disk.proofs.streams.write_all.Goals as goal
 
@@ -11,5 +11,5 @@ loop-done-preserved g c =
     record {
       within = omega (arith, c.split_at.ensures.back_len, within);
       added = Adds-more _ _ _ bytes done _ c.loop-done.invariant.added (rw (← c.split_at.ensures.back) added);
-      counts = omega (arith, c.loop-done.invariant.counts, c.write.ensures.counts);
+      calm = c.in_ok-done.ensures.cause.1 ∙ c.loop-done.invariant.calm;
     }

@@ -15,7 +15,7 @@ loop-image-preserved g c =
     let so_far = c.loop-image.invariant in
     let within : i < length rows = omega arith in
     Writes-same (parts_more (λ r. 32 ∷ image_text r) rows i c.image-item.result within c.image-item.is)
-    (Writes-after (flat_map (λ r. 32 ∷ image_text r) (take i rows)) c.in_ok-write_image.ensures so_far.adds so_far.counts)
+    (Writes-after (flat_map (λ r. 32 ∷ image_text r) (take i rows)) c.in_ok-write_image.ensures so_far.adds so_far.cause.1)
 
 pub returns-in_err-write_image : goal.returns-in_err-write_image
 returns-in_err-write_image g c =
@@ -27,8 +27,8 @@ returns-in_err-write_image g c =
     let within : i < length rows = omega arith in
     Writes-same (parts_at (λ r. 32 ∷ image_text r) rows i row within c.image-item.is ∙ led_map 32 image_text rows)
     (Writes-after (flat_map (λ r. 32 ∷ image_text r) (take i rows))
-    (Writes-cut (32 ∷ image_text row) (flat_map (λ r. 32 ∷ image_text r) (drop (i + 1) rows)) c.from_residual.ensures.0 e.front e.counts e.cause)
-    so_far.adds so_far.counts)
+    (Writes-cut (32 ∷ image_text row) (flat_map (λ r. 32 ∷ image_text r) (drop (i + 1) rows)) c.from_residual.ensures.0 e.front e.counts e.cause.0)
+    so_far.adds so_far.cause.1)
 
 pub returns : goal.returns
 returns g c =

@@ -20,7 +20,7 @@ returns-in_err-write_joined g c =
     let e = c.in_err-write_joined.ensures in
     let rest = op_text s.op ++ (led 32 (codes "images" ∷ decimal (length s.rows.items) ∷ []) ++ led 32 images) in
     Writes-same (ap (λ l. by_spaces l ++ rest) words ∙ whole)
-    (Writes-cut (by_spaces front) rest c.from_residual.ensures.0 e.front e.counts e.cause)
+    (Writes-cut (by_spaces front) rest c.from_residual.ensures.0 e.front e.counts e.cause.0)
 
 pub returns-in_err-write_op : goal.returns-in_err-write_op
 unfolding reply_parts stat_parts
@@ -37,7 +37,7 @@ returns-in_err-write_op g c =
     let rest = (led 32 (codes "images" ∷ decimal (length s.rows.items) ∷ []) ++ led 32 images) in
     Writes-same (ap (λ l. by_spaces l ++ (op_text s.op ++ rest)) words ∙ whole)
     (Writes-after (by_spaces front)
-    (Writes-cut (op_text s.op) rest c.from_residual-in_err-write_op.ensures.0 e.front e.counts e.cause) j.adds j.counts)
+    (Writes-cut (op_text s.op) rest c.from_residual-in_err-write_op.ensures.0 e.front e.counts e.cause.0) j.adds j.cause.1)
 
 pub returns-in_err-write_led : goal.returns-in_err-write_led
 unfolding reply_parts stat_parts
@@ -58,7 +58,7 @@ returns-in_err-write_led g c =
     ∙ ap (λ l. by_spaces l ++ (op_text s.op ++ (led 32 (codes "images" ∷ decimal (length s.rows.items) ∷ []) ++ led 32 images))) words ∙ whole)
     (Writes-after (by_spaces front)
     (Writes-after (op_text s.op)
-    (Writes-cut (led 32 more) (led 32 images) c.from_residual-in_err-write_led.ensures.0 e.front e.counts e.cause) o.adds o.counts) j.adds j.counts)
+    (Writes-cut (led 32 more) (led 32 images) c.from_residual-in_err-write_led.ensures.0 e.front e.counts e.cause.0) o.adds o.cause.1) j.adds j.cause.1)
 
 pub returns : goal.returns
 unfolding reply_parts stat_parts
@@ -80,4 +80,4 @@ returns g c =
     ∙ ap (λ l. by_spaces l ++ (op_text s.op ++ (led 32 (codes "images" ∷ decimal (length s.rows.items) ∷ []) ++ led 32 images))) words ∙ whole)
     (Writes-after (by_spaces front)
     (Writes-after (op_text s.op)
-    (Writes-after (led 32 more) rows l.adds l.counts) o.adds o.counts) j.adds j.counts)
+    (Writes-after (led 32 more) rows l.adds l.cause.1) o.adds o.cause.1) j.adds j.cause.1)

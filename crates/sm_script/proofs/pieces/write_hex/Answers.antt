@@ -18,7 +18,7 @@ loop-done-preserved g c =
     let e = c.in_ok-write_all.ensures in
     let word = c.bytes.ensures ∙ c.hex.ensures in
     Writes-same (hex_step bytes done _ _ _ c.split_at.ensures.back piece.front piece.front_len)
-    (Writes-after (hex_text (take done bytes)) (Writes-same word (Writes-one c.bytes.result.now e.adds tt e.counts tt)) so_far.adds so_far.counts)
+    (Writes-after (hex_text (take done bytes)) (Writes-same word (Writes-one c.bytes.result.now e.adds tt e.counts e.cause)) so_far.adds so_far.cause.1)
 
 pub returns-in_err-write_all : goal.returns-in_err-write_all
 returns-in_err-write_all g c =
@@ -31,7 +31,7 @@ returns-in_err-write_all g c =
     let word = c.bytes.ensures ∙ c.hex.ensures in
     Writes-same (ap (λ l. hex_text (take done bytes) ++ (l ++ rest)) word ∙ hex_around bytes done _ _ _ c.split_at.ensures.back piece.front piece.front_len)
     (Writes-after (hex_text (take done bytes))
-    (Writes-cut c.bytes.result.now rest c.from_residual.ensures.0 e.front e.counts e.cause) so_far.adds so_far.counts)
+    (Writes-cut c.bytes.result.now rest c.from_residual.ensures.0 e.front e.counts e.cause.0) so_far.adds so_far.cause.1)
 
 pub returns : goal.returns
 returns g c =

@@ -10,7 +10,7 @@ returns-in_err-write_all g c =
     let separator = c.args.separator in
     let rest = c.in-Some.rest.now in
     Writes-same (ap (λ first. first ++ led separator rest) c.bytes.ensures ∙ joined_led separator c.in-Some.first.now rest ∙ ap (join_with_byte separator) (sym c.in-Some.ensures.cases.0))
-    (Writes-cut c.bytes.result.now (led separator rest) c.from_residual.ensures.0 e.front e.counts e.cause)
+    (Writes-cut c.bytes.result.now (led separator rest) c.from_residual.ensures.0 e.front e.counts e.cause.0)
 
 pub returns : goal.returns
 returns g c =
@@ -18,4 +18,4 @@ returns g c =
     let separator = c.args.separator in
     let rest = c.in-Some.rest.now in
     Writes-same (ap (λ first. first ++ led separator rest) c.bytes.ensures ∙ joined_led separator c.in-Some.first.now rest ∙ ap (join_with_byte separator) (sym c.in-Some.ensures.cases.0))
-    (Writes-after c.bytes.result.now c.write_led.ensures first.adds first.counts)
+    (Writes-after c.bytes.result.now c.write_led.ensures first.adds first.cause.1)

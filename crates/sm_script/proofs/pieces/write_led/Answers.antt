@@ -14,7 +14,7 @@ loop-word-preserved g c =
     let so_far = c.loop-word.invariant in
     let within : i < length words = omega arith in
     Writes-same (parts_more (λ w. c.args.separator ∷ w) words i c.word-item.result within c.word-item.is)
-    (Writes-after (led c.args.separator (take i words)) c.in_ok-write_after.ensures so_far.adds so_far.counts)
+    (Writes-after (led c.args.separator (take i words)) c.in_ok-write_after.ensures so_far.adds so_far.cause.1)
 
 pub returns-in_err-write_after : goal.returns-in_err-write_after
 returns-in_err-write_after g c =
@@ -26,8 +26,8 @@ returns-in_err-write_after g c =
     let within : i < length words = omega arith in
     Writes-same (parts_at (λ w. c.args.separator ∷ w) words i word within c.word-item.is)
     (Writes-after (led c.args.separator (take i words))
-    (Writes-cut (c.args.separator ∷ word) (led c.args.separator (drop (i + 1) words)) c.from_residual.ensures.0 e.front e.counts e.cause)
-    so_far.adds so_far.counts)
+    (Writes-cut (c.args.separator ∷ word) (led c.args.separator (drop (i + 1) words)) c.from_residual.ensures.0 e.front e.counts e.cause.0)
+    so_far.adds so_far.cause.1)
 
 pub returns : goal.returns
 returns g c =

@@ -7,11 +7,11 @@ pub returns-in_err-write_all : goal.returns-in_err-write_all
 unfolding reply_parts
 returns-in_err-write_all g c =
     let e = c.in_err-write_all.ensures in
-    Writes-cut (codes "ok ") (hex_text c.args.bytes.now) c.from_residual.ensures.0 e.front e.counts e.cause
+    Writes-cut (codes "ok ") (hex_text c.args.bytes.now) c.from_residual.ensures.0 e.front e.counts e.cause.0
 
 pub returns : goal.returns
 unfolding reply_parts
 returns g c =
     let e = c.in_ok-write_all.ensures in
     let bytes = c.deref.ensures.value ∙ c.bytes.view_is in
-    Writes-after (codes "ok ") (Writes-same (ap hex_text bytes) c.write_hex.ensures) e.adds e.counts
+    Writes-after (codes "ok ") (Writes-same (ap hex_text bytes) c.write_hex.ensures) e.adds e.cause.1

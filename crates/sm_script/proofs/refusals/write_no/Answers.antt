@@ -10,7 +10,7 @@ returns-in_err-write_joined g c =
     let e = c.in_err-write_joined.ensures in
     let words : c.text.result ∷ c.text-2.result ∷ [] ≡ codes "no" ∷ c.args.name.now ∷ [] = cc (c.text.ensures, c.text-2.ensures) in
     Writes-same (ap (λ l. by_spaces l ++ led 32 more) words ∙ joined_more 32 (codes "no") (c.args.name.now ∷ []) more)
-    (Writes-cut (by_spaces (c.text.result ∷ c.text-2.result ∷ [])) (led 32 more) c.from_residual.ensures.0 e.front e.counts e.cause)
+    (Writes-cut (by_spaces (c.text.result ∷ c.text-2.result ∷ [])) (led 32 more) c.from_residual.ensures.0 e.front e.counts e.cause.0)
 
 pub returns : goal.returns
 returns g c =
@@ -18,4 +18,4 @@ returns g c =
     let e = c.in_ok-write_joined.ensures in
     let words : c.text.result ∷ c.text-2.result ∷ [] ≡ codes "no" ∷ c.args.name.now ∷ [] = cc (c.text.ensures, c.text-2.ensures) in
     Writes-same (ap (λ l. by_spaces l ++ led 32 more) words ∙ joined_more 32 (codes "no") (c.args.name.now ∷ []) more)
-    (Writes-after (by_spaces (c.text.result ∷ c.text-2.result ∷ [])) c.write_led.ensures e.adds e.counts)
+    (Writes-after (by_spaces (c.text.result ∷ c.text-2.result ∷ [])) c.write_led.ensures e.adds e.cause.1)

@@ -33,7 +33,7 @@ loop-done-preserved c =
     record {
       size_is = c.read.ensures.size ∙ held.size_is;
       quiet = still_quiet held.quiet c.read.ensures.passed;
-      faults_are = c.in-Ok.ensures.counted ∙ held.faults_are;
+      faults_are = c.in-Ok.ensures.cause.1 ∙ held.faults_are;
       most = omega (arith, c.loop-done-test.true);
       same = SameHeld-then held.same c.read.ensures.same;
       gave = GaveFront-more c.args.at c.loop-done.done (held_by c.args.area.now.slots) (held_by c.loop-done.area.slots) c.loop-done.to c.split_at_mut-rest.result.0.now c.read.new.to c.split_at_mut-sector.result.1.now spot

@@ -8,7 +8,7 @@ pub loop-done-init : goal.loop-done-init
 loop-done-init c = record {
   size_is = refl;
   quiet = c.requires.quiet;
-  counts = omega arith;
+  calm = refl;
   most = omega arith;
   long = λ more. absurd (omega arith);
   wrote = HasWritten-none c.args.extent c.args.extents.now c.args.at c.args.from.now (held_by c.args.area.now.slots);
@@ -45,7 +45,7 @@ loop-done-preserved c =
     record {
       size_is = c.write.ensures.size ∙ c.loop-done.invariant.size_is;
       quiet = still_quiet c.loop-done.invariant.quiet c.write.ensures.passed;
-      counts = omega (arith, c.loop-done.invariant.counts, c.write.ensures.counts);
+      calm = c.in_ok-write.ensures.cause.1 ∙ c.loop-done.invariant.calm;
       most = omega (arith, c.loop-done-test.true);
       long = λ more. short_is c.loop-done.area.orders false c.write.new.self.short c.loop-done.invariant.quiet (search rules);
       wrote = HasWritten-more spot piece c.loop-done.invariant.wrote c.in_ok-write.ensures.wrote;

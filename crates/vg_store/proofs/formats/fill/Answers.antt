@@ -2,28 +2,31 @@ use Rattle.std.proofs.Common.{◌≡◌, length, sym, subst, arith}
 use Rattle.sm_disk.proofs.ReachesLaws.{Reaches-then}
 use Rattle.vg_layout.specs.Fields.{pointer}
 use Rattle.vg_store.specs.Formats.{IsBlank}
-use Rattle.vg_store.proofs.FormatLaws.{slot_range, torn_behind, put_behind, filled_after}
+use Rattle.vg_store.proofs.FormatLaws.{slot_range, torn_behind, torn_records, put_behind, filled_after}
 use Rattle.vg_store.proofs.formats.fill.Goals as goal
 
 pub returns-in_err-write-clause-reaches : goal.returns-in_err-write-clause-reaches
-returns-in_err-write-clause-reaches g c = λ told. torn_behind _ _ _ _ (omega arith) (c.write.ensures.torn told)
+returns-in_err-write-clause-reaches g c = λ told. torn_records _ _ _ (omega arith) (c.write.ensures.torn told)
 
 pub returns-in_err-write_sector-clause-reaches : goal.returns-in_err-write_sector-clause-reaches
 returns-in_err-write_sector-clause-reaches g c = λ told.
-    let from = (slot_range c.args.draft.now.header.slot).0 in
-    Reaches-then (torn_behind _ _ _ _ (omega arith) (c.write.ensures.torn told)) (torn_behind _ _ _ _ (omega (arith, c.place.ensures, from)) (c.write_sector.ensures.torn told))
+    let range = slot_range c.args.draft.now.header.slot in
+    Reaches-then (torn_records _ _ _ (omega arith) (c.write.ensures.torn told))
+    (torn_behind _ _ _ _ (omega (arith, c.place.ensures, range.0)) (omega (arith, c.place.ensures, range.1)) (omega arith) (c.write_sector.ensures.torn told))
 
 pub returns-in_err-put-clause-reaches : goal.returns-in_err-put-clause-reaches
 returns-in_err-put-clause-reaches g c = λ told.
-    let from = (slot_range c.args.draft.now.header.slot).0 in
-    Reaches-then (torn_behind _ _ _ _ (omega arith) (c.write.ensures.torn told))
-    (Reaches-then (torn_behind _ _ _ _ (omega (arith, c.place.ensures, from)) (c.write_sector.ensures.torn told)) (put_behind _ _ _ _ (omega arith) (c.put.ensures.reaches told)))
+    let range = slot_range c.args.draft.now.header.slot in
+    Reaches-then (torn_records _ _ _ (omega arith) (c.write.ensures.torn told))
+    (Reaches-then (torn_behind _ _ _ _ (omega (arith, c.place.ensures, range.0)) (omega (arith, c.place.ensures, range.1)) (omega arith) (c.write_sector.ensures.torn told))
+    (put_behind _ _ _ _ (omega arith) (omega arith) (omega arith) (c.put.ensures.reaches told)))
 
 pub returns-clause-reaches : goal.returns-clause-reaches
 returns-clause-reaches g c = λ told.
-    let from = (slot_range c.args.draft.now.header.slot).0 in
-    Reaches-then (torn_behind _ _ _ _ (omega arith) (c.write.ensures.torn told))
-    (Reaches-then (torn_behind _ _ _ _ (omega (arith, c.place.ensures, from)) (c.write_sector.ensures.torn told)) (put_behind _ _ _ _ (omega arith) (c.put.ensures.reaches told)))
+    let range = slot_range c.args.draft.now.header.slot in
+    Reaches-then (torn_records _ _ _ (omega arith) (c.write.ensures.torn told))
+    (Reaches-then (torn_behind _ _ _ _ (omega (arith, c.place.ensures, range.0)) (omega (arith, c.place.ensures, range.1)) (omega arith) (c.write_sector.ensures.torn told))
+    (put_behind _ _ _ _ (omega arith) (omega arith) (omega arith) (c.put.ensures.reaches told)))
 
 pub returns-clause-filled : goal.returns-clause-filled
 returns-clause-filled g c = λ told.

@@ -1,9 +1,10 @@
-use Rattle.std.proofs.Common.{◌≡◌, ◌<◌, ◌^◌, length, take, ap, arith, rules}
+use Rattle.std.proofs.Common.{◌≡◌, ◌<◌, ◌*◌, ◌^◌, length, take, ap, arith, rules}
 use Rattle.vg_meta.specs.Text.{text}
 use Rattle.vg_layout.specs.Fields.{plate, pointer}
 use Rattle.vg_layout.specs.Places.{extents_on}
 use Rattle.vg_layout.specs.Sectors.{Plate}
 use Rattle.vg_store.specs.Formats.{new_group}
+use Rattle.vg_store.proofs.BesideLaws.{beside_formatted}
 use Rattle.vg_store.proofs.NewGroups.{fits_records, formatted_from, left_from, enough_from}
 use Rattle.vg_store.proofs.formats.format.Goals as goal
 
@@ -77,3 +78,17 @@ returns-clause-crash g c = λ told image allowed.
     let long : length d.text ≡ 512 = omega arith in
     let finished = formatted_from size c.args.geometry r d.text (plate d.label) (pointer d.header) enough low sixteen long label header front in
     left_from size (g.D.Disk.held c.args.disk.now) c.args.geometry r d.text (plate d.label) (pointer d.header) image (finished image) (c.lay_out.ensures.crash told image allowed)
+
+pub returns-in_default-lay_out-clause-beside : goal.returns-in_default-lay_out-clause-beside
+returns-in_default-lay_out-clause-beside g c = λ told.
+    let size = g.D.Disk.size c.args.disk.now in
+    let e = c.args.geometry.extent in
+    let enough = enough_from size c.sectors-sectors.result c.record_extents-records.result c.from.result c.from-2.result e c.record_extents-records.ensures c.from.ensures c.from-2.ensures c.sectors-sectors.ensures.size c.if-sectors-least.false in
+    beside_formatted (extents_on size e * e) _ _ (fits_records size e c.args.geometry.in_range.extent_least enough).large (c.lay_out.ensures.reaches told)
+
+pub returns-clause-beside : goal.returns-clause-beside
+returns-clause-beside g c = λ told.
+    let size = g.D.Disk.size c.args.disk.now in
+    let e = c.args.geometry.extent in
+    let enough = enough_from size c.sectors-sectors.result c.record_extents-records.result c.from.result c.from-2.result e c.record_extents-records.ensures c.from.ensures c.from-2.ensures c.sectors-sectors.ensures.size c.if-sectors-least.false in
+    beside_formatted (extents_on size e * e) _ _ (fits_records size e c.args.geometry.in_range.extent_least enough).large (c.lay_out.ensures.reaches told)

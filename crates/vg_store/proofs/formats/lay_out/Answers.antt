@@ -1,6 +1,7 @@
 use Rattle.std.proofs.Common.{◌≡◌, length, refl, arith}
+use Rattle.sm_disk.proofs.ReachesLaws.{Reaches-then}
 use Rattle.vg_layout.specs.Fields.{plate, pointer}
-use Rattle.vg_store.proofs.FormatLaws.{slot_range, clear_crash, fill_crash, still_none, label_crash, laid_after, cleared_reads}
+use Rattle.vg_store.proofs.FormatLaws.{slot_range, fills, put_label, clear_crash, fill_crash, still_none, label_crash, laid_after, cleared_reads}
 use Rattle.vg_store.proofs.formats.lay_out.Goals as goal
 
 pub returns-in_err-put-clause-crash : goal.returns-in_err-put-clause-crash
@@ -38,3 +39,17 @@ returns-clause-laid g c = λ told.
     laid_after (g.D.Disk.size c.args.disk.now) (h c.fill.new.disk) (h c.put-2.new.disk) (plate c.args.draft.now.label) (pointer c.args.draft.now.header) c.args.draft.now.text c.write.new.to c.requires.room
     (slot_range c.args.draft.now.header.slot).1 (slot_range c.args.draft.now.header.slot).0 (c.in_ok-fill.ensures.filled told) c.write.ensures long
     (c.in_ok-put-2.ensures.settled told) (c.in_ok-put-2.ensures.within told) (c.in_ok-put-2.ensures.elsewhere told)
+
+pub returns-in_err-put-clause-reaches : goal.returns-in_err-put-clause-reaches
+returns-in_err-put-clause-reaches g c = λ told. put_label _ _ _ refl (c.put.ensures.reaches told)
+
+pub returns-in_err-fill-clause-reaches : goal.returns-in_err-fill-clause-reaches
+returns-in_err-fill-clause-reaches g c = λ told. Reaches-then (put_label _ _ _ refl (c.put.ensures.reaches told)) (fills _ _ (c.fill.ensures.reaches told))
+
+pub returns-in_err-put-2-clause-reaches : goal.returns-in_err-put-2-clause-reaches
+returns-in_err-put-2-clause-reaches g c = λ told.
+    Reaches-then (put_label _ _ _ refl (c.put.ensures.reaches told)) (Reaches-then (fills _ _ (c.fill.ensures.reaches told)) (put_label _ _ _ (omega arith) (c.put-2.ensures.reaches told)))
+
+pub returns-clause-reaches : goal.returns-clause-reaches
+returns-clause-reaches g c = λ told.
+    Reaches-then (put_label _ _ _ refl (c.put.ensures.reaches told)) (Reaches-then (fills _ _ (c.fill.ensures.reaches told)) (put_label _ _ _ (omega arith) (c.put-2.ensures.reaches told)))

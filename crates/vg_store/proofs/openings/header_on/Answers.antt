@@ -11,7 +11,7 @@ returns-in-Ok-read-clause-ok g c = λ told.
 
 pub returns-in-Err-clause-err : goal.returns-in-Err-clause-err
 returns-in-Err-clause-err g c =
-    header_answer g.D.Disk.told _ _ c.in-Ok.sector (reads (g.D.Disk.held c.args.disk.now)) c.in-Err.fault c.in-Ok.ensures.gave c.in-Err.ensures.err
+    header_answer g.D.Disk.told _ _ c.in-Ok.sector (reads (g.D.Disk.held c.args.disk.now)) c.in-Err.fault c.in-Ok.ensures.gave c.in-Ok.ensures.cause.1 c.in-Err.ensures.err
 
 pub returns-in-Ok-read-clause-short : goal.returns-in-Ok-read-clause-short
 returns-in-Ok-read-clause-short g c = (pointer_right (λ q. c.in-Ok.sector) (pointer c.in-Ok-read.header) c.in-Ok-read.ensures.ok).size

@@ -1,4 +1,4 @@
-use Rattle.std.proofs.Common.{sym, ◌∙◌}
+use Rattle.std.proofs.Common.{refl, sym, ◌∙◌}
 use Rattle.sm_disk.specs.Held.{reads}
 use Rattle.vg_layout.specs.Fields.{plate}
 use Rattle.vg_store.proofs.ImageLaws.{plate_same, plate_few, plate_area}
@@ -6,7 +6,7 @@ use Rattle.vg_store.proofs.OpeningLaws.{too_small, label_answer}
 use Rattle.vg_store.proofs.openings.label_on.Goals as goal
 
 pub returns-then-sectors-lt2-clause-err : goal.returns-then-sectors-lt2-clause-err
-returns-then-sectors-lt2-clause-err g c = λ told. too_small _ _ (rw (← c.sectors-sectors.ensures.size) c.if-sectors-lt2.true)
+returns-then-sectors-lt2-clause-err g c = (λ told. too_small _ _ (rw (← c.sectors-sectors.ensures.size) c.if-sectors-lt2.true), refl)
 
 pub returns-in-Ok-read-clause-ok : goal.returns-in-Ok-read-clause-ok
 returns-in-Ok-read-clause-ok g c = λ told.
@@ -16,7 +16,7 @@ returns-in-Ok-read-clause-ok g c = λ told.
 pub returns-in-Err-clause-err : goal.returns-in-Err-clause-err
 returns-in-Err-clause-err g c =
     rw (← c.sectors-sectors.ensures.size)
-    (label_answer g.D.Disk.told _ _ c.sectors-sectors.result c.in-Ok.sector (reads (g.D.Disk.held c.args.disk.now)) c.in-Err.fault c.in-Ok.ensures.gave c.in-Err.ensures.err)
+    (label_answer g.D.Disk.told _ _ c.sectors-sectors.result c.in-Ok.sector (reads (g.D.Disk.held c.args.disk.now)) c.in-Err.fault c.in-Ok.ensures.gave c.in-Ok.ensures.cause.1 c.in-Err.ensures.err)
 
 pub returns-in-Ok-read-clause-area : goal.returns-in-Ok-read-clause-area
 returns-in-Ok-read-clause-area g c =

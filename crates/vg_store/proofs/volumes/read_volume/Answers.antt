@@ -10,7 +10,7 @@ use Rattle.vg_store.proofs.volumes.read_volume.Goals as goal
 pub loop-done-init : goal.loop-done-init
 loop-done-init g c = record {
   size_is = refl;
-  counts = omega arith;
+  calm = refl;
   most = omega arith;
   same = λ told. SameHeld-none (g.D.Disk.held c.args.disk.now);
   gave = λ told j low. absurd (omega arith);
@@ -31,7 +31,7 @@ loop-done-preserved g c =
     let long : length c.read.new.to ≡ 512 * c.run_at-run.result.sectors = omega (arith, c.read.auto.to, c.split_at_mut-part.ensures.front_len) in
     record {
       size_is = c.read.ensures.size ∙ held.size_is;
-      counts = omega (arith, held.counts, c.read.ensures.counts);
+      calm = c.in_ok-read.ensures.cause.1 ∙ held.calm;
       most = omega (arith, c.run_at-run.ensures.most, c.loop-done-test.true);
       same = λ told. SameHeld-then (held.same told) (c.read.ensures.same told);
       gave = λ told. run_read c.args.at c.loop-done.done (g.D.Disk.held c.args.disk.now) (g.D.Disk.held c.loop-done.disk) c.loop-done.to c.split_at_mut-rest.result.0.now c.read.new.to c.split_at_mut-part.result.1.now run

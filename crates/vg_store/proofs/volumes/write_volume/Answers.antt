@@ -6,7 +6,7 @@ use Rattle.vg_store.proofs.volumes.write_volume.Goals as goal
 pub loop-done-init : goal.loop-done-init
 loop-done-init g c = record {
   size_is = refl;
-  counts = omega arith;
+  calm = refl;
   most = omega arith;
   wrote = λ told. HasWritten-none c.args.extent c.args.extents.now c.args.at c.args.from.now (g.D.Disk.held c.args.disk.now);
 }
@@ -38,7 +38,7 @@ loop-done-preserved g c =
     let piece = piece_from c.split_at.ensures.back c.split_at-in-loop-done.ensures.front c.run_at-run.ensures.most c.loop-done-test.true (omega arith) in
     record {
       size_is = c.write.ensures.size ∙ c.loop-done.invariant.size_is;
-      counts = omega (arith, c.loop-done.invariant.counts, c.write.ensures.counts);
+      calm = c.in_ok-write.ensures.cause.1 ∙ c.loop-done.invariant.calm;
       most = omega (arith, c.run_at-run.ensures.most, c.loop-done-test.true);
       wrote = λ told. HasWritten-more run piece (c.loop-done.invariant.wrote told) (c.in_ok-write.ensures.wrote told) (c.write.ensures.torn told);
     }

@@ -26,4 +26,4 @@ returns-clause-end c = λ none room.
     none_left c.args.self.now (length c.args.to.now) more some room (sym number ∙ none)
 
 pub returns-clause-rest : goal.returns-clause-rest
-returns-clause-rest c = rw (← c.self.view_is, c.after-self-inside.ensures, c.in_ok-answer.ensures.unchanged, drop-drop)
+returns-clause-rest c = rw (← c.self.view_is, c.after-self-inside.ensures, c.in_ok-answer.ensures.cause.1, drop-drop)

@@ -1,6 +1,6 @@
 use Rattle.std.proofs.Common.{◌≡◌, ◌<◌, ◌≤◌, length, refl, sym, ap, ◌∙◌, subst, arith}
 use Rattle.sm_base.specs.declared.names.Name.TheVariants.{Mgt as mgt_name}
-use Rattle.vg_volumes.proofs.StoredLaws.{writes_none, writes_then, writes_as, size_stays, rose_later}
+use Rattle.vg_volumes.proofs.StoredLaws.{writes_none, writes_then, writes_as, size_stays}
 use Rattle.sm_mgt.specs.Places.{place_count}
 use Rattle.sm_mgt.proofs.ClearLaws.{cleared_more, cleared_all, wrote_step, torn_step, has_or_not, TornZeros-wrote, WroteZeros-none, WroteZeros-all, within_all, on_err}
 use Rattle.sm_mgt.proofs.management.Mgt.clear.Goals as goal
@@ -8,6 +8,7 @@ use Rattle.sm_mgt.proofs.management.Mgt.clear.Goals as goal
 pub loop-place-init : goal.loop-place-init
 loop-place-init g c = record {
   memory = refl;
+  calm = refl;
   wrote = writes_none _ _ _ (λ h. WroteZeros-none _ h (λ p below. omega (arith, below.0)));
 }
 
@@ -27,6 +28,7 @@ loop-place-preserved g c =
     let below : c.loop-place.place < length c.args.self.now = omega (arith, long, c.loop-place-test.true, c.len-place-end.ensures, c.self.invariant.long) in
     record {
       memory = cleared_more c.args.uuid.now c.loop-place.place c.args.self.now c.loop-place.self _ below i.memory c.in_ok-clear_at.ensures.places;
+      calm = c.in_ok-clear_at.ensures.cause.1 ∙ i.calm;
       wrote = writes_then (wrote_step c.args.self.now c.loop-place.self c.args.uuid.now c.loop-place.place below i.memory) i.wrote c.in_ok-clear_at.ensures.wrote;
     }
 
@@ -36,10 +38,6 @@ returns-in_err-clear_at-clause-writes g c =
     let long : length c.args.self.now ≡ place_count = sym (ap length c.self.view_is) ∙ c.self.invariant.long in
     let below : c.loop-place.place < length c.args.self.now = omega (arith, long, c.loop-place-test.true, c.len-place-end.ensures, c.self.invariant.long) in
     writes_then (torn_step c.args.self.now c.loop-place.self c.args.uuid.now c.loop-place.place below i.memory) i.wrote c.clear_at.ensures.writes
-
-pub returns-in_err-clear_at-clause-cause : goal.returns-in_err-clear_at-clause-cause
-returns-in_err-clear_at-clause-cause g c =
-    on_err c.from_residual.result (rose_later c.loop-place.invariant.wrote.stays c.in_err-clear_at.ensures.cause)
 
 pub returns-in_err-clear_at-clause-front : goal.returns-in_err-clear_at-clause-front
 returns-in_err-clear_at-clause-front g c =

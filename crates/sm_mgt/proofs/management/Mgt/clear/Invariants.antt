@@ -9,5 +9,6 @@ use Rattle.sm_mgt.proofs.management.Mgt.clear.Given as goal
 abbrev pub invariant-loop-place : goal.invariant-loop-place
 invariant-loop-place g l = record {
   memory : l.self ≡ cleared_to l.uuid l.place l.fn.self;
+  calm : g.S.Store.faults l.store ≡ g.S.Store.faults l.fn.store;
   wrote : Writes g.S.Store mgt_name (WroteZeros (Below (HasRecordAt l.fn.self l.uuid) l.place)) l.fn.store l.store;
 }

@@ -53,7 +53,7 @@ returns-in-Err-clause-err g c =
     let d = g.D.Disk in
     rw (← c.sync.ensures.size)
     (refused_before d.told (d.size c.sync.new.self) (d.faults c.args.disk) (d.faults c.sync.new.self) (d.faults c.find.new.disk) (d.held c.args.disk) (d.held c.sync.new.self) c.in-Err.fault
-    c.sync.ensures.counts (λ told. c.sync.ensures.keeps told) c.in-Err.ensures.err)
+    c.in-Ok-sync.ensures.cause.1 (λ told. c.sync.ensures.keeps told) c.in-Err.ensures.err)
 
 pub returns-in-Ok-find-clause-area : goal.returns-in-Ok-find-clause-area
 returns-in-Ok-find-clause-area g c = λ told. opened_area (c.sync.ensures.keeps told) (c.find.ensures.same told)
@@ -62,4 +62,4 @@ pub returns-in-Ok-find-clause-usable : goal.returns-in-Ok-find-clause-usable
 returns-in-Ok-find-clause-usable g c = refl
 
 pub returns-in_default-sync-clause-err : goal.returns-in_default-sync-clause-err
-returns-in_default-sync-clause-err g c = c.in_default-sync.ensures.cause
+returns-in_default-sync-clause-err g c = c.in_default-sync.ensures.cause.0
