@@ -1,7 +1,7 @@
 -- Pieces of a read: what stays of them where the store was only read, and their bytes in a buffer.
-use Rattle.std.proofs.Common.{◌≡◌, ◌⊎◌, inl, inr, ℕ, ◌+◌, ◌-◌, ◌*◌, ◌<◌, ◌≤◌, Bool, List, length, take, drop, Option, Some, None, sym, ap, subst, ◌∙◌, arith}
+use Rattle.std.proofs.Common.{◌≡◌, ◌⊎◌, inl, inr, ℕ, ◌+◌, ◌-◌, ◌*◌, ◌<◌, ◌≤◌, Bool, List, length, take, drop, replicate, Option, Some, None, sym, ap, subst, ◌∙◌, arith}
 use Rattle.std.specs.Prelude.{IfSome, is_some}
-use Rattle.std.proofs.lemmas.List.{length-take, length-drop}
+use Rattle.std.proofs.lemmas.List.{length-take, length-drop, drop-replicate, take-replicate}
 use Rattle.std.proofs.lemmas.Bool.{cases_lt}
 use Rattle.std.proofs.lemmas.Slice.{between-put_mid, take-put_mid_below}
 use borrow.Rule.Slice.PartMut.{put_mid}
@@ -16,6 +16,13 @@ use Rattle.vhd_image.proofs.ReadLaws.{same-stored, stands-still, true-still}
 use Rattle.vhd_chain.specs.Reading.{own_read, AllStand, AllAreTrue, AreRead}
 use Rattle.vhd_chain.specs.Pieces.{HoldsAll, IsPiece, AreFilled}
 use Rattle.vhd_chain.specs.declared.rows.TreeRow.{TreeRow}
+
+-- ---- a buffer of zeros
+
+-- a sector of it
+pub sector-zeros : (n i : ℕ) → 512 * i + 512 ≤ n → sector (replicate {A = ℕ} n 0) i ≡ zeros
+unfolding sector zeros
+sector-zeros n i within = ap (take 512) (drop-replicate (512 * i) n 0) ∙ take-replicate 512 (n - 512 * i) 0 (omega arith)
 
 -- ---- the store was only read
 

@@ -133,6 +133,7 @@ module _ (x : Stored) (rows : List TreeRow) where
 -- the sectors from this one on, so many of at most so many, are those that are read from `next` on
 pub record IsWalked {S : Type 0} (g : Ghosts S) (rows : List TreeRow) (leaf : Name) (at most : ℕ) (old new : S) (below : ℕ) (next : Name) (sectors : ℕ) : Type 0 where
   pub reads_only : OnlyReads g old new
+  pub calm : g.faults new ≡ g.faults old
   pub some : 1 ≤ sectors
   pub fits : sectors ≤ most
   pub same : g.told → (k : ℕ) → k < sectors → chain_reads (stored g old) rows leaf (at + k) ≡ reads_up (stored g old) rows (30 - below) next (at + k)

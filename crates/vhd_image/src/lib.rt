@@ -13,8 +13,9 @@
 //! image with the map and the held sectors of one that a stop could leave before, and with its size or the new one,
 //! with its parent or the new one, or in all the same (`specs/Changes`). At all sectors but those that they write a
 //! read and a stop give what they gave (`KeepsBut` of `vhd_volumes`). None of them syncs; that is the caller's.
-//! `write` leaves of a VHD image what the crate `vhd_write` says, and of a raw one any of the written sectors. Every
-//! call leaves the table of the store and all other volumes alone (`WorksOn` of `vg_volumes`).
+//! `write` leaves of a VHD image what the crate `vhd_write` says, and of a raw one any of the written sectors; it puts
+//! nothing at any other place of the volume than it has to (`IsPlaceOfWrite`, in `specs/Written`). Every call leaves the
+//! table of the store and all other volumes alone (`WorksOn` of `vg_volumes`).
 //!
 //! **What it costs.** `open` reads two footers at most, the header and each sector of the table once, and takes the
 //! map's memory; no other call takes memory. `read_own` reads two sectors at most. `run` says how far an image holds
@@ -24,7 +25,7 @@
 //!
 //! The definitions are in `specs/`: `Bodies` (an image as contracts see it), `Made` (the fields of a new image),
 //! `Opened` (what reading a volume tells), `Runs` (sectors that an image holds alike), `Changes` and `Links` (what a
-//! change of the head leaves), `Written` (what a write did), `Calls` (what one call did to a store's sectors), and
+//! change of the head leaves), `Written` (what a write did, and where), `Calls` (what one call did to a store's sectors), and
 //! `Steady` (an image that stays true whatever a stop may leave). Which calls keep an image steady is in
 //! `proofs/SteadyStores`, one law a call.
 #![tactic(auto)]

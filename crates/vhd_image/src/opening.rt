@@ -1,6 +1,6 @@
 //! An image that is read off its volume.
 
-ghost use Rattle.std.specs.Prelude.{◌≡◌, ◌<◌, ◌≤◌, ◌⊎◌, ◌*◌, ◌+◌, ◌/◌, ◌↔◌, ◌++◌, ℕ, Some, None, IsTrue, MatchOption, IfSome, OnErr, IfOk, IfErr, length, replicate};
+ghost use Rattle.std.specs.Prelude.{◌≡◌, ◌≢◌, ◌<◌, ◌≤◌, ◌⊎◌, ◌*◌, ◌+◌, ◌/◌, ◌↔◌, ◌++◌, ℕ, Err, Some, None, IsTrue, MatchOption, IfSome, OnErr, IfOk, IfErr, length, replicate};
 ghost use Rattle.sm_base.specs.Numbers.{first};
 ghost use Rattle.sm_base.specs.declared.faults.OpenFault.TheVariants as fault;
 ghost use Rattle.sm_base.specs.declared.faults.Place.TheVariants as at;
@@ -203,6 +203,7 @@ impl Image {
         ensures image { Holds S.Store volume.now (λ h. IfOk result
             (λ image. IfVhd image
             (ReadsAsImage (S.site store.old).geometry (extents * (S.site store.old).geometry.extent) h))) store.old }
+        ensures calm { result ≢ Err fault.Device → S.faults store.new ≡ S.faults store.old }
         ensures cause { IfErr result (λ e. FailsToOpen S.Store volume.now
             (extents * (S.site store.old).geometry.extent) e store.old store.new) }
     {

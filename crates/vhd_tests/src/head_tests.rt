@@ -134,7 +134,7 @@ pub fn use_raw<S: Store>(alloc: Global, store: &mut S) -> Result<(), Fail>
 {
     prepare(alloc, store)?;
     let name = volume(2);
-    put_raw(alloc, store, &name, 7, &[0x66; 512])?;
+    put_raw(store, &name, 7, &[0x66; 512])?;
     holds(
         raw_sector(store, &name, 7)? == Some([0x66; 512]),
         "the sector that was written",

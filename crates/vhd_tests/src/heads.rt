@@ -8,7 +8,7 @@ ghost use Rattle.vg_volumes.specs.Stored.{stored, sectors_in};
 ghost use Rattle.vhd_image.specs.Bodies.{IsVhd, StandsIn, volume_name};
 ghost use Rattle.vhd_image.specs.Made.{MayHave};
 
-use crate::images::{is_size, opened, own_of, write_with_pool};
+use crate::images::{is_size, opened, own_of};
 use crate::volumes::{extents_of, sectors_in};
 use sm_base::{Name, OpenFault};
 use std::alloc::Global;
@@ -195,21 +195,15 @@ pub fn raw_sector<S: Store>(store: &mut S, name: &Name, at: u64) -> Result<Optio
 }
 
 /// Writes a sector of the raw image that is a whole volume.
-pub fn put_raw<S: Store>(
-    alloc: Global,
-    store: &mut S,
-    name: &Name,
-    at: u64,
-    from: &[u8; 512],
-) -> Result<(), Fail>
+pub fn put_raw<S: Store>(store: &mut S, name: &Name, at: u64, from: &[u8; 512]) -> Result<(), Fail>
     requires told { ¬ S.told }
     requires usable { S.failed store.old ≡ false }
 {
     let sectors = sectors_in(store, name)?;
-    if at >= sectors || store.geometry().block != 8 {
-        return Err(Fail::from("a sector of the disk, and blocks of 8 sectors"));
+    if at >= sectors {
+        return Err(Fail::from("a sector of the disk"));
     }
     let mut image = Image::raw(name, sectors);
-    write_with_pool(alloc, store, &mut image, at, from)??;
+    image.write(store, at, from)?;
     Ok(())
 }

@@ -10,7 +10,6 @@ ghost use Rattle.vhd_image.specs.Written.{HasRoomToWrite};
 
 use crate::volumes::{extents_of, sectors_in};
 use sm_base::{Failed, Geometry, Name};
-use sm_pool::Pool;
 use std::alloc::Global;
 use std::test::Fail;
 use uuid::Uuid;
@@ -97,7 +96,6 @@ fn has_room(image: &Image, geometry: &Geometry, sectors: u64, at: u64, length: u
     requires { StandsIn geometry.now sectors image.now }
     ensures whole { OnTrue result (IsWhole at length (sector_count image.now)) }
     ensures room { OnTrue result (HasRoomToWrite geometry.now sectors at length image.now) }
-    ensures block { OnTrue result (geometry.now.block ≡ 8) }
 {
     let Some(map) = image.map() else {
         return false;
@@ -127,36 +125,8 @@ fn has_room(image: &Image, geometry: &Geometry, sectors: u64, at: u64, length: u
     true
 }
 
-/// Writes sectors of the disk into an image, with a pool of one buffer. The buffer is free again.
-pub fn write_with_pool<S: Store>(
-    alloc: Global,
-    store: &mut S,
-    image: &mut Image,
-    at: u64,
-    from: &[u8],
-) -> Result<Result<(), Failed>, Fail>
-    requires told { ¬ S.told }
-    requires usable { S.failed store.old ≡ false }
-    requires stands { StandsIn (S.site store.old).geometry
-        (sectors_in (stored S.Store store.old) (volume_name image.old)) image.old }
-    requires whole { IsWhole at (length from.now) (sector_count image.old) }
-    requires room { HasRoomToWrite (S.site store.old).geometry
-        (sectors_in (stored S.Store store.old) (volume_name image.old)) at (length from.now) image.old }
-    requires block { (S.site store.old).geometry.block ≡ 8 }
-    ensures flag { S.failed store.new ≡ S.failed store.old }
-{
-    let mut pool = Pool::new(alloc, 1, 4608)?;
-    let outcome = image.write(store, &mut pool, at, from);
-    if pool.free() == 1 {
-        Ok(outcome)
-    } else {
-        Err(Fail::from("the buffer is free again"))
-    }
-}
-
 /// Writes sectors of the disk into an image, where they are whole and have room.
 fn write_into<S: Store>(
-    alloc: Global,
     store: &mut S,
     image: &mut Image,
     at: u64,
@@ -173,10 +143,10 @@ fn write_into<S: Store>(
     if !has_room(image, &geometry, sectors, at, from.len()) {
         return Err(Fail::from("whole sectors, and room for them"));
     }
-    write_with_pool(alloc, store, image, at, from)
+    Ok(image.write(store, at, from))
 }
 
-/// Writes sectors of the disk into the image in a volume, with a pool of one buffer. The buffer is free again.
+/// Writes sectors of the disk into the image in a volume.
 pub fn write<S: Store>(
     alloc: Global,
     store: &mut S,
@@ -189,7 +159,7 @@ pub fn write<S: Store>(
     ensures flag { S.failed store.new ≡ S.failed store.old }
 {
     let mut image = opened(alloc, store, name)?;
-    write_into(alloc, store, &mut image, at, from)
+    write_into(store, &mut image, at, from)
 }
 
 /// The slots of the first four blocks of an image, and one more than its highest slot.

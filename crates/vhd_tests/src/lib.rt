@@ -21,7 +21,6 @@
 //!   finds what the image's own call finds. Where no call stops it all sectors are new.
 //! - Each of its calls fails once: the caller is told, and each sector outside the write is as it was.
 //! - A write makes one sync where it needs a bit or a slot, and none where it replaces what is held.
-//! - After each write, done or failed, the pool's one buffer is free.
 //!
 //! The device tells no clause what it holds (`fixtures`), so what is read is compared as the tests run. What a call asks of
 //! sizes and room is tested before it, or follows from what an earlier call ensures.

@@ -1,7 +1,10 @@
 -- The passes behind the sync: bitmaps and the table.
-use Rattle.std.proofs.Common.{◌≡◌, ◌≢◌, ℕ, ◌+◌, ◌-◌, ◌*◌, ◌<◌, ◌≤◌, ◌⊎◌, Bool, true, false, List, length, Option, Some, sym, ap, ◌∙◌, subst, inl, inr, ⊎_elim, arith}
+use Rattle.std.proofs.Common.{◌≡◌, ◌≢◌, ℕ, ◌+◌, ◌-◌, ◌*◌, ◌/◌, ◌%◌, ◌<◌, ◌≤◌, ◌⊎◌, Bool, true, false, eqb, List, length, get_or, replicate, Option, Some, sym, ap, ◌∙◌, subst, inl, inr, ⊎_elim, arith}
 use Rattle.std.specs.Bool.{OnTrue}
+use Rattle.std.specs.Int.{bit_at}
 use Rattle.std.proofs.lemmas.Bool.{cases_lt, cases_eq}
+use Rattle.std.proofs.lemmas.List.{get_or-replicate, get_or_past, length-replicate}
+use Rattle.std.proofs.lemmas.Nat.Bits.{bit_at-zero}
 use Rattle.std.proofs.lemmas.Option.{same_Some}
 use Rattle.sm_base.specs.Numbers.{first as first_of, div_up}
 use Rattle.sm_disk.specs.Held.{Held, IsWhole, Puts, Torn, Wrote, SameHeld, Reaches, reads}
@@ -13,8 +16,17 @@ use Rattle.vhd_map.specs.Bitmaps.{is_set}
 use Rattle.vhd_map.specs.Slots.{slot_of, IsMap}
 use Rattle.vhd_layout.specs.Layouts.{Sectors, Layout, Slots, place, slot_count}
 use Rattle.vhd_layout.proofs.ImageLaws.{place-same, place-within}
-use Rattle.vhd_write.specs.Passes.{HasMoreBits, HasBits, PutsBitsOf, PutsBitsAll, AreSet, IsTableSector, PutsTable}
+use Rattle.vhd_write.specs.Passes.{HasMoreBits, HasBits, PutsBitsOf, PutsBitsAll, AreSet, IsTableSector, PutsEntries}
 use Rattle.vhd_write.specs.Spans.{IsPart}
+use Rattle.vhd_write.specs.WritePlaces.{Touches}
+
+-- a bitmap of zeros has no bit set
+pub is_set-zeros : (n i : ℕ) → is_set (replicate {A = ℕ} n 0) i ≡ false
+unfolding is_set
+is_set-zeros n i = ap (λ (x : ℕ). eqb (bit_at x (7 - i % 8)) 1) (zeros-at n (i / 8)) ∙ ap (λ (x : ℕ). eqb x 1) (bit_at-zero (7 - i % 8))
+  where
+    zeros-at : (n i : ℕ) → get_or (replicate {A = ℕ} n 0) i 0 ≡ 0
+    zeros-at n i = ⊎_elim (λ within. get_or-replicate n i 0 0 within) (λ past. get_or_past (replicate {A = ℕ} n 0) i 0 (rw (length-replicate {A = ℕ} n 0) past)) (cases_lt i n)
 
 pub on_true : {P Q : Type 0} (b : Bool) → (P → Q) → OnTrue b P → OnTrue b Q
 on_true true f p = f p
@@ -41,6 +53,9 @@ one-read p v long w =
 -- ---- one bitmap
 
 module _ (l : Layout) (b at len first count skip : ℕ) (part : IsPart l.block b at len first count skip) where
+  pub part-touches : Touches l at len b
+  part-touches = (first, omega (arith, part.fits, part.some), (omega (arith, part.skipped), omega (arith, part.skipped, part.inside, part.some)))
+
   pub bits-all : (bitmap : List ℕ) → ((i : ℕ) → first ≤ i → i < first + count → is_set bitmap i ≡ true) → HasBits l at len b bitmap
   bits-all bitmap set = λ i within here. let h = part.all i within here in set i h.0 h.1
 
@@ -53,9 +68,9 @@ module _ (l : Layout) (b at len first count skip : ℕ) (part : IsPart l.block b
       (cases_lt i (first + count)))
       (cases_lt i first)
 
-pub bitmap-reaches : (l : Layout) (at len b k p : ℕ) (slot : Option ℕ) (old new : List ℕ) {a y z : Held} → slot ≡ Some k → p ≡ place l k 0 → length new ≡ 512 → old ≡ reads a p → HasMoreBits l at len b old new
+pub bitmap-reaches : (l : Layout) (at len b k p : ℕ) (slot : Option ℕ) (old new : List ℕ) {a y z : Held} → Touches l at len b → slot ≡ Some k → p ≡ place l k 0 → length new ≡ 512 → old ≡ reads a p → HasMoreBits l at len b old new
     → SameHeld a y → Torn p new y z → Reaches (PutsBitsOf l at len slot b (reads a)) a z
-bitmap-reaches l at len b k p slot old new {a} {y} {z} has is long gave more same t =
+bitmap-reaches l at len b k p slot old new {a} {y} {z} touched has is long gave more same t =
     Reaches-then (Reaches-same (PutsBitsOf l at len slot b (reads a)) same) (Reaches-wider go (Reaches-torn t))
   where
     go : (q : ℕ) (v : List ℕ) → Puts p new q v → PutsBitsOf l at len slot b (reads a) q v
@@ -63,7 +78,7 @@ bitmap-reaches l at len b k p slot old new {a} {y} {z} has is long gave more sam
         let one = one-value p q new v long h in
         let was : old ≡ reads a q = gave ∙ ap (reads a) (sym one.0) in
         let M : List ℕ → List ℕ → Type 0 = λ x w. HasMoreBits l at len b x w in
-        (k, has, record { here = one.0 ∙ is; more = subst (λ x. M x v) was (subst (M old) (sym one.1) more) })
+        (k, has, record { touched = touched; here = one.0 ∙ is; more = subst (λ x. M x v) was (subst (M old) (sym one.1) more) })
 
 pub bitmap-done : (l : Layout) (at len b k p : ℕ) (slot : Option ℕ) (r : Sectors) (bitmap : List ℕ) → slot ≡ Some k → p ≡ place l k 0 → r p ≡ bitmap → HasBits l at len b bitmap → AreSet l at len slot b r
 bitmap-done l at len b k p slot r bitmap has is read set = λ j had i within here.
@@ -94,7 +109,7 @@ module _ (l : Layout) (at len : ℕ) (n : List (Option ℕ)) (good : IsMap n) wh
           more-then c (reads a p) (reads y p) v (subst P same g.more) h
 
       go : (p : ℕ) (v : List ℕ) → PutsBitsOf l at len (slot_of n c) c (reads y) p v → PutsBitsAll l at len (slot_of n) (reads a) p v
-      go p v (k, has, h) = (c, k, has, record { here = h.here; more = more p k v has h.here h.more (r.gives p) })
+      go p v (k, has, h) = (c, k, has, record { touched = h.touched; here = h.here; more = more p k v has h.here h.more (r.gives p) })
 
   pub bits-done : (first c : ℕ) {y z : Held} → Reaches (PutsBitsOf l at len (slot_of n c) c (reads y)) y z
       → ((b : ℕ) → first ≤ b → b < c → AreSet l at len (slot_of n b) b (reads y)) → AreSet l at len (slot_of n c) c (reads z)
@@ -116,14 +131,14 @@ pub table-low : (l : Layout) (index : ℕ) → l.first ≡ first_of l.entries �
 unfolding first_of div_up
 table-low l index begins within = omega (arith, begins)
 
-pub table-reaches : (l : Layout) (m : Slots) (index p : ℕ) (v : List ℕ) {y z : Held} → 128 * index < l.entries → p ≡ 3 + index → length v ≡ 512 → IsTableSector l m index v → Torn p v y z → Reaches (PutsTable l m) y z
+pub table-reaches : (l : Layout) (m : Slots) (index p : ℕ) (v : List ℕ) {y z : Held} → 128 * index < l.entries → p ≡ 3 + index → length v ≡ 512 → IsTableSector l m index v → Torn p v y z → Reaches (PutsEntries l m index) y z
 table-reaches l m index p v {y} {z} within is long right t = Reaches-wider go (Reaches-torn t)
   where
-    go : (q : ℕ) (w : List ℕ) → Puts p v q w → PutsTable l m q w
+    go : (q : ℕ) (w : List ℕ) → Puts p v q w → PutsEntries l m index q w
     go q w h =
         let one = one-value p q v w long h in
         let P : List ℕ → Type 0 = λ x. IsTableSector l m index x in
-        record { index = index; within = within; here = one.0 ∙ is; sector = subst P (sym one.1) right }
+        record { within = within; here = one.0 ∙ is; sector = subst P (sym one.1) right }
 
 pub table-done : (l : Layout) (m : Slots) (index p : ℕ) (v : List ℕ) {y z : Held} → p ≡ 3 + index → length v ≡ 512 → IsTableSector l m index v → Wrote p v y z → IsTableSector l m index (reads z (3 + index))
 table-done l m index p v {y} {z} is long right w =

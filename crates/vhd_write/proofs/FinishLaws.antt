@@ -20,7 +20,7 @@ module _ {l l' : Layout} {at len : ℕ} {m : Slots} {a b c : Held} (same : l' �
   rest-bits : (p : ℕ) (v : List ℕ) → PutsBitsAll l at len m (reads b) p v → PutsRest l at len m (reads a) p v
   rest-bits p v (o, k, has, h) =
       let P : List ℕ → Type 0 = λ x. HasMoreBits l at len o x v in
-      inl (o, k, has, record { here = h.here; more = subst P (keeps.reads p) h.more })
+      inl (o, k, has, record { touched = h.touched; here = h.here; more = subst P (keeps.reads p) h.more })
 
   pub goes-bits : Goes (PutsRest l at len m) a c
   goes-bits = record {
@@ -38,9 +38,9 @@ module _ {l l' : Layout} {at len : ℕ} {m : Slots} {a b c : Held} (same : l' �
 
   -- ---- and the table
 
-  module _ {l'' : Layout} {d : Held} (same' : l'' ≡ l') (t : Reaches (PutsTable l'' m) c d) where
-    table-pass : Reaches (PutsTable l m) c d
-    table-pass = subst (λ x. Reaches (PutsTable x m) c d) (same' ∙ same) t
+  module _ {l'' : Layout} {d : Held} (same' : l'' ≡ l') (t : Reaches (PutsTable l'' at len m) c d) where
+    table-pass : Reaches (PutsTable l at len m) c d
+    table-pass = subst (λ x. Reaches (PutsTable x at len m) c d) (same' ∙ same) t
 
     pub goes-table : Goes (PutsRest l at len m) a d
     goes-table = record {
@@ -53,7 +53,7 @@ module _ {l l' : Layout} {at len : ℕ} {m : Slots} {a b c : Held} (same : l' �
 
     -- the table's pass leaves the bitmaps
     bitmap-kept : (k : ℕ) → l.first ≡ first_of l.entries → reads d (place l k 0) ≡ reads c (place l k 0)
-    bitmap-kept k begins = ⊎_elim (λ e. e) (λ h. absurd (omega (arith, h.here, place-first l k 0, table-low l h.index begins h.within))) (table-pass.gives (place l k 0))
+    bitmap-kept k begins = ⊎_elim (λ e. e) (λ h. absurd (omega (arith, h.puts.here, place-first l k 0, table-low l (h.b / 128) begins h.puts.within))) (table-pass.gives (place l k 0))
 
     pub finished-table : {first end : ℕ} {held : Bool} → l.first ≡ first_of l.entries → ((o : ℕ) → first ≤ o → o < end → AreSet l' at len (m o) o (reads c))
         → ((index : ℕ) → first / 128 ≤ index → index ≤ (end - 1) / 128 → IsTableSector l'' m index (reads d (3 + index))) → IsFinished l at len m first end held a d

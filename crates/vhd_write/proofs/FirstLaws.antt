@@ -19,7 +19,7 @@ module _ (l : Layout) (ok : IsLayout l) (at : ℕ) (from : List ℕ) (m : Slots)
   puts_low : (p : ℕ) (x : List ℕ) → PutsData l at from m p x → (l.first ≤ p) × (p < l.sectors - 1)
   puts_low p x (inl (b, k, has, h)) =
       (omega (arith, place-first l k (1 + h.i), h.here), omega (arith, h.here, place-within l k (1 + h.i) (slots.fits b k has).1 (omega (arith, h.within))))
-  puts_low p x (inr f) = (omega (arith, place-first l f.k f.part.j, f.part.here), omega (arith, f.part.here, place-within l f.k f.part.j f.below f.part.within))
+  puts_low p x (inr f) = (omega (arith, place-first l f.k f.j, f.here), omega (arith, f.here, place-within l f.k f.j f.below f.within))
 
   pub first-ends : SameEnds l v w
   first-ends = record {
@@ -36,7 +36,7 @@ module _ (l : Layout) (ok : IsLayout l) (at : ℕ) (from : List ℕ) (m : Slots)
     where
       go : PutsData l at from m (place l k 0) (w (place l k 0)) → ⊥
       go (inl (c, o, had, h)) = let same = place-same l k o 0 (1 + h.i) (omega arith) (omega (arith, h.within)) h.here in omega (arith, same.1)
-      go (inr f) = let same = place-same l k f.k 0 f.part.j (omega arith) f.part.within f.part.here in f.free b (has ∙ ap Some same.0)
+      go (inr f) = let same = place-same l k f.k 0 f.j (omega arith) f.within f.here in f.free b (has ∙ ap Some same.0)
 
   -- a sector of a slot in use
   pub first-data : (b k i : ℕ) → m b ≡ Some k → i < l.block → (w (place l k (1 + i)) ≡ v (place l k (1 + i))) ⊎ Puts at from (b * l.block + i) (w (place l k (1 + i)))
@@ -50,7 +50,7 @@ module _ (l : Layout) (ok : IsLayout l) (at : ℕ) (from : List ℕ) (m : Slots)
           let P : ℕ → Type 0 = λ x. Puts at from (x * l.block + i) (w (place l k (1 + i))) in
           let Q : ℕ → Type 0 = λ x. Puts at from (c * l.block + x) (w (place l k (1 + i))) in
           subst P one (subst Q i_is h.puts)
-      go (inr f) = absurd (let same = place-same l k f.k (1 + i) f.part.j (omega arith) f.part.within f.part.here in f.free b (has ∙ ap Some same.0))
+      go (inr f) = absurd (let same = place-same l k f.k (1 + i) f.j (omega arith) f.within f.here in f.free b (has ∙ ap Some same.0))
 
   -- v names no slot that m has not
   module _ (within : (b : ℕ) → b < entries_in_sectors l → (entry v b ≡ blank) ⊎ (entry v b ≡ code l (m b))) where

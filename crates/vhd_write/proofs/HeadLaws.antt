@@ -1,5 +1,5 @@
 -- What the passes of a write leave of the head: they put nothing there.
-use Rattle.std.proofs.Common.{ℕ, ◌+◌, ◌*◌, ◌<◌, ◌≤◌, List, sym, ◌∙◌, subst, inl, inr, ⊎_elim, arith}
+use Rattle.std.proofs.Common.{ℕ, ◌+◌, ◌*◌, ◌/◌, ◌<◌, ◌≤◌, List, sym, ◌∙◌, subst, inl, inr, ⊎_elim, arith}
 use Rattle.sm_disk.specs.Held.{Held, May, Reaches, reads}
 use Rattle.sm_disk.proofs.HeldLaws.{May-reads}
 use Rattle.vhd_layout.specs.Layouts.{Sectors, Layout, IsLayout, Slots, IsSlots}
@@ -19,9 +19,9 @@ module _ (l : Layout) (ok : IsLayout l) (at : ℕ) (room : l.first + 1 ≤ l.sec
       (omega (arith, front, low, h.here), omega (arith, high, h.here))
   first-inside from m slots p v (inr f) =
       let front = head_in_front l ok in
-      let low = place-first l f.k f.part.j in
-      let high = place-within l f.k f.part.j f.below f.part.within in
-      (omega (arith, front, low, f.part.here), omega (arith, high, f.part.here))
+      let low = place-first l f.k f.j in
+      let high = place-within l f.k f.j f.below f.within in
+      (omega (arith, front, low, f.here), omega (arith, high, f.here))
 
   rest-inside : (len : ℕ) (n : Slots) → IsSlots l n → (r : Sectors) (p : ℕ) (v : List ℕ) → PutsRest l at len n r p v → (3 ≤ p) × (p + 1 < l.sectors)
   rest-inside len n slots r p v (inl (b, k, has, h)) =
@@ -30,8 +30,8 @@ module _ (l : Layout) (ok : IsLayout l) (at : ℕ) (room : l.first + 1 ≤ l.sec
       let high = place-within l k 0 (slots.fits b k has).1 (omega arith) in
       (omega (arith, front, low, h.here), omega (arith, high, h.here))
   rest-inside len n slots r p v (inr h) =
-      let low = table-first l (128 * h.index) ok (in_entries l (128 * h.index) h.within) in
-      (omega (arith, h.here), omega (arith, low, h.here, room))
+      let low = table-first l (128 * (h.b / 128)) ok (in_entries l (128 * (h.b / 128)) h.puts.within) in
+      (omega (arith, h.puts.here), omega (arith, low, h.puts.here, room))
 
   pub heads-first : (from : List ℕ) (m : Slots) → IsSlots l m → {old mid : Held} → Reaches (PutsData l at from m) old mid → KeepsHeads l.sectors old mid
   heads-first from m slots r = KeepsBut-reaches (first-inside from m slots) r

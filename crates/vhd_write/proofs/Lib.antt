@@ -1,13 +1,13 @@
 pub mod BitLaws
-pub mod BufferLaws
 pub mod ExitLaws
 pub mod FinishLaws
 pub mod FirstLaws
 pub mod HeadLaws
 pub mod ImageKept
 pub mod LoopLaws
-pub mod PartLaws
 pub mod MapLaws
+pub mod PartLaws
+pub mod PlaceLaws
 pub mod RestLaws
 pub mod TopLaws
 pub mod WorkLaws

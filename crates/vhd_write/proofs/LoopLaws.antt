@@ -13,7 +13,7 @@ use Rattle.vhd_map.proofs.SlotLemmas.{unused-no_block, least_free_slot-free}
 use Rattle.vhd_layout.specs.Layouts.{Sectors, Layout, Slots, place, slot_count}
 use Rattle.vhd_layout.proofs.ImageLaws.{place-same}
 use Rattle.vhd_volumes.specs.Writes.{with_block}
-use Rattle.vhd_write.specs.Passes.{PutsBlock, PutsData, IsPut, ArePut, IsFull}
+use Rattle.vhd_write.specs.Passes.{PutsSlot, PutsBlock, PutsData, IsPut, ArePut, IsFull}
 use Rattle.vhd_write.specs.Spans.{IsSpan, Given}
 
 -- the first block is before the end
@@ -41,6 +41,30 @@ span-block {block} {at} {count} {first} {end} s b i within here = (low (cases_lt
         let row = mul-le ((at + count - 1) / block + 1) block b block (omega (arith, s.end_is)) (omega arith) in
         absurd (omega (arith, whole, rest, row, here.1, s.some))
 
+-- each of the span's blocks has a written sector
+pub span-touches : {block at count first end : ℕ} → IsSpan block at count first end → (b : ℕ) → first ≤ b → b < end → (i : ℕ) × (i < block) × IsIn at (512 * count) (b * block + i)
+span-touches {block} {at} {count} {first} {end} s b low high = by (cases_lt (b * block) at)
+  where
+    by : (b * block < at) ⊎ (at ≤ b * block) → (i : ℕ) × (i < block) × IsIn at (512 * count) (b * block + i)
+    by (inl before) =
+        let whole = div-add-mod' at block in
+        let rest = mod_below at block (omega (arith, s.block_least)) in
+        let row = mul-le (at / block) block b block (omega (arith, s.first_is, low)) (omega arith) in
+        (at - b * block, omega (arith, whole, rest, row, before), (omega (arith, before), omega (arith, before, s.some)))
+    by (inr from_at) =
+        let whole = div-mul-le_self (at + count - 1) block in
+        let row = mul-le b block ((at + count - 1) / block) block (omega (arith, s.end_is, high)) (omega arith) in
+        (0, omega (arith, s.block_least), (omega (arith, from_at), omega (arith, whole, row, s.some)))
+
+-- so does one of those whose entries a sector of the table has
+pub table-block : {block at count first end : ℕ} → IsSpan block at count first end → (index : ℕ) → first / 128 ≤ index → index ≤ (end - 1) / 128 → (b : ℕ) × (first ≤ b) × (b < end) × (b / 128 ≡ index)
+table-block {block} {at} {count} {first} {end} s index low high =
+    let order = span-order s in
+    ⊎_elim
+    (λ inside. (128 * index, omega (arith, inside), omega (arith, high, order), omega arith))
+    (λ at_first. (first, omega arith, order, omega (arith, low, at_first)))
+    (cases_lt first (128 * index))
+
 -- where nothing is put yet
 pub put-none : {l : Layout} {at count first end : ℕ} {from : List ℕ} (m : List (Option ℕ)) (r : Sectors) → IsSpan l.block at count first end → length from ≡ 512 * count → ArePut l at from (slot_of m) (slot_of m) first r
 put-none {l} {at} {count} {first} {end} {from} m r s long = λ b below. record {
@@ -48,17 +72,26 @@ put-none {l} {at} {count} {first} {end} {from} m r s long = λ b below. record {
   fresh = λ k none has. absurd (none-some k (sym none ∙ has));
 }
 
+-- a part of a slot
+slot-part : (l : Layout) (at : ℕ) (from : List ℕ) (b k p : ℕ) (v : List ℕ) → PutsSlot l at from b k p v → (j : ℕ) × (j < 1 + l.block) × (p ≡ place l k j)
+slot-part l at from b k p v (inl (touched, here)) = (0, omega arith, here)
+slot-part l at from b k p v (inr h) = (1 + h.i, omega (arith, h.within), h.here)
+
 module _ (l : Layout) (at : ℕ) (from : List ℕ) (first c : ℕ) (m n : List (Option ℕ)) (given : Given first c m n) (low : first ≤ c)
     (new_in : slot_of n c ≡ None → least_free_slot n < slot_count l) where
   -- what the step puts is what the pass puts
   step-wider : (p : ℕ) (v : List ℕ) → PutsBlock l at from n c p v → PutsData l at from (slot_of m) p v
   step-wider p v (inl (k, has, h)) = inl (c, k, sym (given.others c (inr (omega arith))) ∙ has, h)
-  step-wider p v (inr (none, part)) = inr (record {
-    k = least_free_slot n;
-    free = λ b has. unused-no_block n (least_free_slot n) (least_free_slot-free n given.good) b (given.grown.keeps b (least_free_slot n) has);
-    below = new_in none;
-    part = part;
-  })
+  step-wider p v (inr (none, h)) =
+      let part = slot-part l at from c (least_free_slot n) p v h in
+      inr (record {
+        k = least_free_slot n;
+        free = λ b has. unused-no_block n (least_free_slot n) (least_free_slot-free n given.good) b (given.grown.keeps b (least_free_slot n) has);
+        below = new_in none;
+        j = part.0;
+        within = part.1;
+        here = part.2;
+      })
 
   pub put-reaches : {x y z : Held} → Reaches (PutsData l at from (slot_of m)) x y → Reaches (PutsBlock l at from n c) y z → Reaches (PutsData l at from (slot_of m)) x z
   put-reaches r s = Reaches-then r (Reaches-wider step-wider s)
@@ -72,7 +105,8 @@ module _ (l : Layout) (at : ℕ) (from : List ℕ) (first c : ℕ) (m n : List (
           let same = place-same l k o j (1 + h.i) within (omega (arith, h.within)) h.here in
           apart (given.good.once b c k has (had ∙ ap Some (sym same.0)))
       go (inr (none, h)) =
-          let same = place-same l k (least_free_slot n) j h.j within h.within h.here in
+          let part = slot-part l at from c (least_free_slot n) (place l k j) (reads z (place l k j)) h in
+          let same = place-same l k (least_free_slot n) j part.0 within part.1 part.2 in
           unused-no_block n (least_free_slot n) (least_free_slot-free n given.good) b (has ∙ ap Some same.0)
 
   put_kept : {y z : Held} {o : Option ℕ} → Reaches (PutsBlock l at from n c) y z → (b : ℕ) → b ≢ c → IsPut l at from o (slot_of n b) b (reads y) → IsPut l at from o (slot_of n b) b (reads z)

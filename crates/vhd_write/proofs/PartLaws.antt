@@ -1,5 +1,5 @@
 -- One block's part of the first pass.
-use Rattle.std.proofs.Common.{◌≡◌, ℕ, ◌+◌, ◌-◌, ◌*◌, ◌<◌, ◌≤◌, ◌⊎◌, true, false, List, length, take, drop, set, Option, Some, None, sym, ap, ap₂, ◌∙◌, subst, subst₂, inl, inr, ⊎_elim, arith}
+use Rattle.std.proofs.Common.{◌≡◌, ℕ, ◌+◌, ◌-◌, ◌*◌, ◌<◌, ◌≤◌, ◌⊎◌, true, false, List, length, take, drop, set, Option, Some, None, refl, sym, ap, ap₂, ◌∙◌, subst, subst₂, inl, inr, ⊎_elim, arith}
 use Rattle.std.proofs.lemmas.Bool.{cases_lt, true≢false}
 use Rattle.std.proofs.lemmas.Option.{none-some, same_Some}
 use Rattle.std.proofs.lemmas.List.{length-take, length-drop}
@@ -7,9 +7,9 @@ use Rattle.sm_base.specs.Numbers.{first as first_of}
 use Rattle.sm_base.specs.declared.sizes.Geometry.{Geometry}
 use Rattle.sm_disk.specs.Held.{Held, IsIn, IsWhole, Puts, Torn, Wrote, Reaches, reads}
 use Rattle.sm_disk.specs.Sectors.{sector}
-use Rattle.sm_disk.proofs.HeldLaws.{reads-wrote}
+use Rattle.sm_disk.proofs.HeldLaws.{in_one, reads-wrote, reads-elsewhere, torn_from_wrote}
 use Rattle.sm_disk.proofs.ReachesLaws.{Reaches-torn, Reaches-wider}
-use Rattle.sm_disk.proofs.SectorLaws.{sector-part, sector-take}
+use Rattle.sm_disk.proofs.SectorLaws.{sector-part}
 use Rattle.vhd_map.specs.Bitmaps.{is_set}
 use Rattle.vhd_map.specs.Places.{spot}
 use Rattle.vhd_map.specs.Slots.{slot_of, top_of, least_free_slot}
@@ -17,8 +17,9 @@ use Rattle.vhd_map.proofs.SlotLemmas.{top_of-past, slot_of-set_same}
 use Rattle.vhd_layout.specs.Layouts.{Sectors, Layout, place, slot_count}
 use Rattle.vhd_layout.proofs.ImageLaws.{place-part, place-within, slots-fit}
 use Rattle.vhd_volumes.specs.Writes.{with_block}
-use Rattle.vhd_write.specs.Passes.{PutsHeld, PutsSlot, HasData, IsNewSlot, IsSlotFilled, IsPut}
+use Rattle.vhd_write.specs.Passes.{PutsHeld, PutsPart, PutsSlot, HasData, IsNewSlot, IsSlotFilled, IsPut}
 use Rattle.vhd_write.specs.Spans.{IsPart}
+use Rattle.vhd_write.proofs.BitLaws.{part-touches, bitmap-wrote}
 use Rattle.vhd_write.proofs.MapLaws.{with_block-new, with_block-held}
 
 -- a place by equal sizes and slot
@@ -51,32 +52,34 @@ part-whole l k j count p len size below fits some long is same =
     let b = place-part l k j in
     record { some = omega arith; whole = omega arith; within = omega (arith, last, a, b, is, same, long) }
 
--- ---- a whole slot
+-- ---- a new slot
 
-pub slot-reaches : (l : Layout) (k p : ℕ) (bytes : List ℕ) {a c : Held} → p ≡ place l k 0 → length bytes ≤ 512 * (1 + l.block) → Torn p bytes a c → Reaches (λ q v. PutsSlot l k q) a c
-slot-reaches l k p bytes is long t = Reaches-wider (λ q v h. go q v h) (Reaches-torn t)
-  where
-    go : (q : ℕ) (v : List ℕ) → Puts p bytes q v → PutsSlot l k q
-    go q v h = record { j = q - place l k 0; within = omega (arith, h.0.0, h.0.1, is, long); here = omega (arith, h.0.0, is, place-part l k (q - place l k 0)) }
+pub part-bitmap : (l : Layout) (k first p : ℕ) (bitmap bytes : List ℕ) {a c : Held} → p ≡ place l k 0 → length bitmap ≡ 512 → Torn p bitmap a c → Reaches (PutsPart l k first bytes) a c
+part-bitmap l k first p bitmap bytes is long t = Reaches-wider (λ q v h. inl (in_one p (length bitmap) q long h.0 ∙ is)) (Reaches-torn t)
 
-slot-read : (l : Layout) (k p size : ℕ) (buffer : List ℕ) {a c : Held} → p ≡ place l k 0 → size ≡ 512 * (1 + l.block) → size ≤ length buffer → Wrote p (take size buffer) a c → (j : ℕ) → j < 1 + l.block → reads c (place l k j) ≡ sector buffer j
-slot-read l k p size buffer {a} {c} is whole long w j within =
-    let part = place-part l k j in
-    let len = length-take size buffer in
-    let here : IsIn p (length (take size buffer)) (place l k j) = (omega (arith, is, part), omega (arith, is, part, len)) in
-    let nth : place l k j - p ≡ j = omega (arith, is, part) in
-    reads-wrote w (place l k j) here ∙ (ap (sector (take size buffer)) nth ∙ sector-take buffer size j (omega arith))
+pub part-data : (l : Layout) (k first p : ℕ) (bytes : List ℕ) {a c : Held} → p ≡ place l k (1 + first) → Torn p bytes a c → Reaches (PutsPart l k first bytes) a c
+part-data l k first p bytes is t = Reaches-wider (λ q v h. inr (subst (λ x. Puts x bytes q v) is h)) (Reaches-torn t)
 
-pub slot-filled : (l : Layout) (k p size first count : ℕ) (buffer bytes : List ℕ) {a c : Held} → p ≡ place l k 0 → size ≡ 512 * (1 + l.block) → size ≤ length buffer → first + count ≤ l.block
-    → ((i : ℕ) → first ≤ i → i < first + count → is_set (sector buffer 0) i ≡ true)
-    → ((i : ℕ) → (i < first) ⊎ (first + count ≤ i) → is_set (sector buffer 0) i ≡ false)
-    → ((j : ℕ) → j < count → sector buffer (1 + first + j) ≡ sector bytes j)
-    → Wrote p (take size buffer) a c → IsSlotFilled l k first count bytes (reads c)
-slot-filled l k p size first count buffer bytes is whole long fits set others data_is w = record {
-  set = λ i low high. ap (λ x. is_set x i) (slot-read l k p size buffer is whole long w 0 (omega arith)) ∙ set i low high;
-  others = λ i within away. ap (λ x. is_set x i) (slot-read l k p size buffer is whole long w 0 (omega arith)) ∙ others i away;
-  bytes_are = λ j below. slot-read l k p size buffer is whole long w (1 + (first + j)) (omega arith) ∙ (ap (sector buffer) (let e : 1 + (first + j) ≡ 1 + first + j = omega arith in e) ∙ data_is j below);
+pub slot-filled : (l : Layout) (k p q first count : ℕ) (bitmap bytes : List ℕ) {a b c : Held} → p ≡ place l k 0 → q ≡ place l k (1 + first) → length bitmap ≡ 512 → length bytes ≡ 512 * count
+    → ((i : ℕ) → first ≤ i → i < first + count → is_set bitmap i ≡ true)
+    → ((i : ℕ) → (i < first) ⊎ (first + count ≤ i) → is_set bitmap i ≡ false)
+    → Wrote p bitmap a b → Wrote q bytes b c → IsSlotFilled l k first count bytes (reads c)
+slot-filled l k p q first count bitmap bytes {a} {b} {c} is there short long set others w x = record {
+  set = λ i low high. ap (λ y. is_set y i) bitmap_is ∙ set i low high;
+  others = λ i within away. ap (λ y. is_set y i) bitmap_is ∙ others i away;
+  bytes_are = λ j below.
+      let base = place-part l k (1 + first) in
+      let part = place-part l k (1 + (first + j)) in
+      let here : IsIn q (length bytes) (place l k (1 + (first + j))) = (omega (arith, there, base, part), omega (arith, there, base, part, long)) in
+      let nth : place l k (1 + (first + j)) - q ≡ j = omega (arith, there, base, part) in
+      reads-wrote x (place l k (1 + (first + j))) here ∙ ap (sector bytes) nth;
 }
+  where
+    bitmap_is : reads c (place l k 0) ≡ bitmap
+    bitmap_is =
+        let base = place-part l k (1 + first) in
+        reads-elsewhere (torn_from_wrote x) (place l k 0) (λ h. omega (arith, h.0, there, base))
+        ∙ (ap (reads b) (sym is) ∙ bitmap-wrote p bitmap short w)
 
 -- ---- the bytes of one block
 
@@ -103,22 +106,22 @@ module _ (l : Layout) (at : ℕ) (from : List ℕ) (b first count skip : ℕ) (p
       let nth : first + (i - first) ≡ i = omega (arith, h.0) in
       (h.0, h.1, puts.1 ∙ (ap (λ x. sector from (b * l.block + x - at)) (sym nth) ∙ sym (part-sector (i - first) (omega (arith, h.0, h.1)))))
 
+  bytes-held : (k p : ℕ) → p ≡ place l k (1 + first) → (q : ℕ) (v : List ℕ) → Puts p part_bytes q v → PutsHeld l at from b k q v
+  bytes-held k p is q v h =
+      let base = place-part l k (1 + first) in
+      let nth : q - p < count = omega (arith, h.0.0, h.0.1, part-long) in
+      let s = part-sector (q - p) nth in
+      record {
+        i = first + (q - p);
+        within = omega (arith, part.fits, nth);
+        here = omega (arith, h.0.0, is, base, place-part l k (1 + (first + (q - p))));
+        puts = (part-in (q - p) nth, h.1 ∙ s);
+      }
+
   -- into a slot
 
   pub held-puts : (k p : ℕ) {a c : Held} → p ≡ place l k (1 + first) → Torn p part_bytes a c → Reaches (PutsHeld l at from b k) a c
-  held-puts k p {a} {c} is t = Reaches-wider (λ q v h. go q v h) (Reaches-torn t)
-    where
-      go : (q : ℕ) (v : List ℕ) → Puts p part_bytes q v → PutsHeld l at from b k q v
-      go q v h =
-          let base = place-part l k (1 + first) in
-          let nth : q - p < count = omega (arith, h.0.0, h.0.1, part-long) in
-          let s = part-sector (q - p) nth in
-          record {
-            i = first + (q - p);
-            within = omega (arith, part.fits, nth);
-            here = omega (arith, h.0.0, is, base, place-part l k (1 + (first + (q - p))));
-            puts = (part-in (q - p) nth, h.1 ∙ s);
-          }
+  held-puts k p is t = Reaches-wider (bytes-held k p is) (Reaches-torn t)
 
   pub held-data : (k p : ℕ) {a c : Held} → p ≡ place l k (1 + first) → Wrote p part_bytes a c → HasData l at from b k (reads c)
   held-data k p {a} {c} is w = λ i v within puts.
@@ -135,7 +138,14 @@ module _ (l : Layout) (at : ℕ) (from : List ℕ) (b first count skip : ℕ) (p
     fresh = λ j none had. absurd (none-some k (sym none ∙ has));
   }
 
-  -- with a whole slot
+  -- into a new slot
+
+  pub new-puts : (k : ℕ) {a c : Held} → Reaches (PutsPart l k first part_bytes) a c → Reaches (PutsSlot l at from b k) a c
+  new-puts k r = Reaches-wider go r
+    where
+      go : (q : ℕ) (v : List ℕ) → PutsPart l k first part_bytes q v → PutsSlot l at from b k q v
+      go q v (inl here) = inl (part-touches l b at (length from) first count skip part, here)
+      go q v (inr h) = inr (bytes-held k (place l k (1 + first)) refl q v h)
 
   pub new-put : (m n : List (Option ℕ)) {r : Sectors} → n ≡ set m b (Some (least_free_slot m)) → b < length m → IsSlotFilled l (least_free_slot m) first count part_bytes r → IsPut l at from (slot_of m b) (slot_of n b) b r
   new-put m n {r} is within filled = record {
@@ -165,5 +175,5 @@ module _ (l : Layout) (at : ℕ) (from : List ℕ) (b first count skip : ℕ) (p
             (cases_lt i (first + count)))
             (cases_lt i first);
         each = λ i small here. let h = part.all i small here in filled.set i h.0 h.1;
-        some = (first, omega (arith, part.fits, part.some), subst (λ x. IsIn at (length from) (b * l.block + x)) (let e : first + 0 ≡ first = omega arith in e) (part-in 0 part.some));
+        some = part-touches l b at (length from) first count skip part;
       }

@@ -48,8 +48,8 @@ module _ (l : Layout) (ok : IsLayout l) (at : ℕ) (from : List ℕ) (m n : Slot
   head_place : (p : ℕ) → (p < 3) ⊎ (p ≡ l.sectors - 1) → p < l.sectors → PutsRest l (at) (length from) n q p (w p) → ⊥
   head_place p (inl front) below (inl (b, k, has, h)) = omega (arith, place-first l k 0, h.here, head_in_front l ok)
   head_place p (inr last) below (inl (b, k, has, h)) = omega (arith, h.here, place-within l k 0 (slots.fits b k has).1 (omega arith))
-  head_place p (inl front) below (inr h) = omega (arith, h.here)
-  head_place p (inr last) below (inr h) = omega (arith, h.here, table_low h.index h.within, image.head.room)
+  head_place p (inl front) below (inr h) = omega (arith, h.puts.here)
+  head_place p (inr last) below (inr h) = omega (arith, h.puts.here, table_low (h.b / 128) h.puts.within, image.head.room)
 
   front_same : (p : ℕ) → p < 3 → w p ≡ r p
   front_same p low =
@@ -76,9 +76,9 @@ module _ (l : Layout) (ok : IsLayout l) (at : ℕ) (from : List ℕ) (m n : Slot
       go : PutsRest l at (length from) n q (3 + b / 128) (w (3 + b / 128)) → entry w b ≡ code l (n b)
       go (inl (c, k, has, h)) = absurd (omega (arith, place-first l k 0, h.here, low))
       go (inr h) =
-          let index : h.index ≡ b / 128 = omega (arith, h.here) in
-          let whole : 128 * h.index + b % 128 ≡ b = omega (arith, index) in
-          h.sector (b % 128) (omega arith) ∙ ap (λ x. code l (n x)) whole
+          let index : h.b / 128 ≡ b / 128 = omega (arith, h.puts.here) in
+          let whole : 128 * (h.b / 128) + b % 128 ≡ b = omega (arith, index) in
+          h.puts.sector (b % 128) (omega arith) ∙ ap (λ x. code l (n x)) whole
 
   pub rest-within : (b : ℕ) → b < entries_in_sectors l → (entry w b ≡ blank) ⊎ (entry w b ≡ code l (n b))
   rest-within b near = ⊎_elim
@@ -92,7 +92,7 @@ module _ (l : Layout) (ok : IsLayout l) (at : ℕ) (from : List ℕ) (m n : Slot
     where
       go : PutsRest l at (length from) n q (place l k (1 + i)) (w (place l k (1 + i))) → ⊥
       go (inl (c, o, had, h)) = let same = place-same l k o (1 + i) 0 (omega arith) (omega arith) h.here in omega (arith, same.1)
-      go (inr h) = omega (arith, h.here, table_low h.index h.within, place-first l k (1 + i))
+      go (inr h) = omega (arith, h.puts.here, table_low (h.b / 128) h.puts.within, place-first l k (1 + i))
 
   pub bits_more : (b k : ℕ) → n b ≡ Some k → HasMoreBits l at (length from) b (q (place l k 0)) (w (place l k 0))
   bits_more b k has = ⊎_elim (λ e i within. inl (ap (λ x. is_set x i) e)) go (rest (place l k 0) (place_in b k 0 has (omega arith)))
@@ -103,7 +103,7 @@ module _ (l : Layout) (ok : IsLayout l) (at : ℕ) (from : List ℕ) (m n : Slot
           let one : c ≡ b = slots.once c b k (had ∙ ap Some (sym same.0)) has in
           let P : ℕ → Type 0 = λ x. HasMoreBits l at (length from) x (q (place l k 0)) (w (place l k 0)) in
           subst P one h.more
-      go (inr h) = absurd (omega (arith, h.here, table_low h.index h.within, place-first l k 0))
+      go (inr h) = absurd (omega (arith, h.puts.here, table_low (h.b / 128) h.puts.within, place-first l k 0))
 
   -- ---- values
 

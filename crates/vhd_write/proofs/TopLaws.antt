@@ -14,15 +14,20 @@ use Rattle.vhd_volumes.specs.Truth.{IsTrueOf, IsStanding, HasRoomFor, layout_in,
 use Rattle.vhd_volumes.specs.Writes.{IsGuarded, KeepsHeads, HasWritten, HasGrown, with_blocks, written_map}
 use Rattle.vhd_write.specs.Passes.{PutsData, ArePut, HasBits, IsFull, IsTableSector, GoesOn, IsFinished}
 use Rattle.vhd_write.specs.Spans.{IsSpan, Given}
+use Rattle.vhd_write.specs.WritePlaces.{IsWritePlace}
 use Rattle.vhd_write.specs.WriteSpans.{IsSpanOf}
 use Rattle.vhd_write.specs.declared.spans.Span.{Span}
 use Rattle.vhd_write.proofs.MapLaws.{with_blocks-held}
 use Rattle.vhd_write.proofs.LoopLaws.{span-order}
 use Rattle.vhd_write.proofs.RestLaws.{AllPut}
+use Rattle.vhd_write.proofs.PlaceLaws.{rest-places}
 use Rattle.vhd_write.proofs.HeadLaws.{heads-first, heads-after}
 use Rattle.vhd_write.proofs.ExitLaws.{ShowsAll, guarded-first, true-first, written-first, shows-first, guarded-after, true-after, written-after, table-after, shows-after, all-put, new-slots}
 
 -- the first pass, behind the reads of the bitmaps
+pub first-places : {l l' : Layout} {s : ℕ} {a b c : Held} (from : List ℕ) (m : Slots) → l' ≡ l → SameHeld a b → Reaches (IsWritePlace l' s from m) b c → Reaches (IsWritePlace l s from m) a c
+first-places {l} {l'} {s} {a} {b} {c} from m e same r = Reaches-then (Reaches-same (IsWritePlace l s from m) same) (subst (λ x. Reaches (IsWritePlace x s from m) b c) e r)
+
 pub first-puts : {l l' : Layout} {s : ℕ} {a b c : Held} (from : List ℕ) (m : Slots) → l' ≡ l → SameHeld a b → Reaches (PutsData l' s from m) b c → Reaches (PutsData l s from m) a c
 first-puts {l} {l'} {s} {a} {b} {c} from m e same r = Reaches-then (Reaches-same (PutsData l s from m) same) (subst (λ x. Reaches (PutsData x s from m) b c) e r)
 
@@ -81,6 +86,19 @@ module _ {geo : Geometry} {n0 : ℕ} {head : Head} {m : List (Option ℕ)} {at :
       sized = λ b slot has. ⊎_elim (λ below. omega (arith, fits.most)) (λ past. stands.sized b slot (sym (given.others b (inr past)) ∙ has)) (cases_lt b span.end);
       room = new-room;
     }
+
+  -- the places that the write may put anything at, by the map that it ends with
+  pub places-now : {old mid : Held} → Reaches (IsWritePlace (layout_in geo head.footer n0) span.sector from (slot_of (with_blocks span.first (span.end - span.first) m))) old mid
+      → Reaches (IsWritePlace (layout_in geo head.footer n0) at from (slot_of (written_map geo.block at (length from) m))) old mid
+  places-now {old} {mid} r = subst₂ (λ s x. Reaches (IsWritePlace l s from (slot_of x)) old mid) fits.sector map-is r
+
+  pub places-then : {l' : Layout} {n : List (Option ℕ)} {old mid new : Held} → l' ≡ layout_in geo head.footer n0 → Given span.first span.end m n
+      → Reaches (IsWritePlace (layout_in geo head.footer n0) span.sector from (slot_of (with_blocks span.first (span.end - span.first) m))) old mid
+      → GoesOn l' span.sector (512 * span.count) (slot_of n) mid new
+      → Reaches (IsWritePlace (layout_in geo head.footer n0) at from (slot_of (written_map geo.block at (length from) m))) old new
+  places-then {l'} {n} {old} {mid} {new} same given r goes = places-now (rest-places l span.sector from (slot_of (with_blocks span.first (span.end - span.first) m)) r
+      (subst (λ x. GoesOn l span.sector (length from) (slot_of x) mid new) given.is
+      (subst₂ (λ y x. GoesOn y span.sector x (slot_of n) mid new) same (sym long) goes)))
 
   module _ {old mid : Held} (was : IsTrueOf (layout_in geo head.footer n0) old head (slot_of m)) (r : Reaches (PutsData (layout_in geo head.footer n0) span.sector from (slot_of m)) old mid) where
     pub guarded-now : IsGuarded l (Puts at from) old mid

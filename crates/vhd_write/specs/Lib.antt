@@ -1,3 +1,4 @@
 pub mod Passes
 pub mod Spans
+pub mod WritePlaces
 pub mod WriteSpans

@@ -6,8 +6,9 @@ use Rattle.vhd_map.specs.Bitmaps.{is_set}
 use Rattle.vhd_map.specs.Places.{word}
 use Rattle.vhd_map.specs.Slots.{slot_of, least_free_slot}
 use Rattle.vhd_layout.specs.Layouts.{Sectors, Layout, Slots, place, code, slot_count}
+use Rattle.vhd_write.specs.WritePlaces.{Touches}
 
--- ---- the first pass: data, and whole new slots
+-- ---- the first pass: data, and the bitmaps of new slots
 
 -- the new bytes of a sector of block b, at their place in slot k
 pub record PutsHeld (l : Layout) (at : ℕ) (from : List ℕ) (b k p : ℕ) (v : List ℕ) : Type 0 where
@@ -16,23 +17,27 @@ pub record PutsHeld (l : Layout) (at : ℕ) (from : List ℕ) (b k p : ℕ) (v :
   pub here : p ≡ place l k (1 + i)
   pub puts : Puts at from (b * l.block + i) v
 
--- some part of slot k
-pub record PutsSlot (l : Layout) (k p : ℕ) : Type 0 where
-  pub j : ℕ
-  pub within : j < 1 + l.block
-  pub here : p ≡ place l k j
+-- a bitmap of slot k, or these bytes in its sectors from `first` on
+abbrev pub PutsPart : Layout → ℕ → ℕ → List ℕ → ℕ → List ℕ → Type 0
+PutsPart l k first bytes p v = (p ≡ place l k 0) ⊎ Puts (place l k (1 + first)) bytes p v
 
--- what the first pass puts for block b: its data where it has a slot, else the map's least free slot
+-- a bitmap of slot k, which touched block b is given, or the new bytes of one of its sectors
+abbrev pub PutsSlot : Layout → ℕ → List ℕ → ℕ → ℕ → ℕ → List ℕ → Type 0
+PutsSlot l at from b k p v = (Touches l at (length from) b × (p ≡ place l k 0)) ⊎ PutsHeld l at from b k p v
+
+-- what the first pass puts for block b: its data where it has a slot, else its bitmap and data in the map's least free slot
 abbrev pub PutsBlock : Layout → ℕ → List ℕ → List (Option ℕ) → ℕ → ℕ → List ℕ → Type 0
 PutsBlock l at from m b p v =
-    ((k : ℕ) × (slot_of m b ≡ Some k) × PutsHeld l at from b k p v) ⊎ ((slot_of m b ≡ None) × PutsSlot l (least_free_slot m) p)
+    ((k : ℕ) × (slot_of m b ≡ Some k) × PutsHeld l at from b k p v) ⊎ ((slot_of m b ≡ None) × PutsSlot l at from b (least_free_slot m) p v)
 
--- what the first pass puts for all blocks: the data of blocks that have a slot, and slots that no block has
+-- what the first pass puts for all blocks: the data of blocks that have a slot, and parts of slots that no block has
 pub record PutsFree (l : Layout) (m : Slots) (p : ℕ) : Type 0 where
   pub k : ℕ
   pub free : (b : ℕ) → m b ≢ Some k
   pub below : k < slot_count l
-  pub part : PutsSlot l k p
+  pub j : ℕ
+  pub within : j < 1 + l.block
+  pub here : p ≡ place l k j
 
 abbrev pub PutsData : Layout → ℕ → List ℕ → Slots → ℕ → List ℕ → Type 0
 PutsData l at from m p v = ((b k : ℕ) × (m b ≡ Some k) × PutsHeld l at from b k p v) ⊎ PutsFree l m p
@@ -75,6 +80,7 @@ abbrev pub HasBits : Layout → ℕ → ℕ → ℕ → List ℕ → Type 0
 HasBits l at len b bitmap = (i : ℕ) → i < l.block → IsIn at len (b * l.block + i) → is_set bitmap i ≡ true
 
 pub record PutsBits (l : Layout) (at len b k : ℕ) (r : Sectors) (p : ℕ) (v : List ℕ) : Type 0 where
+  pub touched : Touches l at len b
   pub here : p ≡ place l k 0
   pub more : HasMoreBits l at len b (r p) v
 
@@ -115,16 +121,21 @@ abbrev pub AreTableSectors : Layout → Slots → ℕ → ℕ → Sectors → Ty
 AreTableSectors l m first end r =
     (index : ℕ) → first / 128 ≤ index → index ≤ (end - 1) / 128 → IsTableSector l m index (r (3 + index))
 
--- one of these at its place
-pub record PutsTable (l : Layout) (m : Slots) (p : ℕ) (v : List ℕ) : Type 0 where
-  pub index : ℕ
+-- this one at its place
+pub record PutsEntries (l : Layout) (m : Slots) (index p : ℕ) (v : List ℕ) : Type 0 where
   pub within : 128 * index < l.entries
   pub here : p ≡ 3 + index
   pub sector : IsTableSector l m index v
 
+-- one with a touched block's entry
+pub record PutsTable (l : Layout) (at len : ℕ) (m : Slots) (p : ℕ) (v : List ℕ) : Type 0 where
+  pub b : ℕ
+  pub touched : Touches l at len b
+  pub puts : PutsEntries l m (b / 128) p v
+
 -- what these two passes put, behind the sync
 abbrev pub PutsRest : Layout → ℕ → ℕ → Slots → Sectors → ℕ → List ℕ → Type 0
-PutsRest l at len m r p v = PutsBitsAll l at len m r p v ⊎ PutsTable l m p v
+PutsRest l at len m r p v = PutsBitsAll l at len m r p v ⊎ PutsTable l at len m p v
 
 -- where nothing was pending as a step began: a stop leaves what a read gave, or what the step puts, and so does a read
 pub record Goes (W : Sectors → ℕ → List ℕ → Type 0) (old new : Held) : Type 0 where

@@ -1,4 +1,4 @@
-//! The first pass: the bytes of each block, into its slot or with a whole new one.
+//! The first pass: the bytes of each block, into its slot or a new one, which gets a bitmap too.
 
 ghost use Rattle.std.specs.Prelude.{◌≡◌, ◌≢◌, ◌⊎◌, ℕ, ◌+◌, ◌-◌, ◌*◌, ◌<◌, ◌≤◌, length, None, Some, slice_set, OnOk, OnErr, IfOk};
 ghost use Rattle.sm_disk.specs.Held.{Reaches};
@@ -7,10 +7,11 @@ ghost use Rattle.vg_volumes.specs.Stored.{stored, WorksOn, Counts};
 ghost use Rattle.vhd_volumes.specs.Steps.{Does, Gives};
 ghost use Rattle.vhd_volumes.specs.Truth.{layout_now, HasRoomIn};
 ghost use Rattle.vhd_volumes.specs.Writes.{HasGrown, with_block, with_blocks};
-ghost use Rattle.vhd_write.specs.Passes.{PutsSlot, PutsBlock, PutsData, IsSlotFilled, IsPut, ArePut};
+ghost use Rattle.vhd_write.specs.Passes.{PutsPart, PutsBlock, PutsData, IsSlotFilled, IsPut, ArePut};
 ghost use Rattle.vhd_write.specs.Spans.{Given};
+ghost use Rattle.vhd_write.specs.WritePlaces.{IsWritePlace};
 
-use crate::buffers::fill;
+use crate::bitmaps::bitmap_of;
 use crate::calls::{place_of, put};
 use crate::spans::{Part, Span, part_of};
 use sm_base::Failed;
@@ -18,49 +19,49 @@ use vg_volumes::Store;
 use vhd_map::Map;
 use vhd_volumes::Head;
 
-/// Writes a whole slot for a block that has none: the least free one, which the map then has for the block.
+/// Writes the bytes of a block that has no slot into the least free one, and a bitmap of just these; the map then has the
+/// slot for the block. What lies beside them in the slot stays.
 fn put_new<S: Store>(
     store: &mut S,
-    buffer: &mut [u8],
     head: &Head,
     map: &mut Map,
     block: u32,
     part: &Part,
     bytes: &[u8],
 ) -> Result<(), Failed>
-    requires buffer { 512 * (1 + (S.site store.old).geometry.block) ≤ length buffer.old }
     requires entries { length map.old ≡ (S.site store.old).geometry.entries }
     requires good { IsMap map.old }
     requires within { block < length map.old }
     requires without { slot_of map.old block ≡ None }
     requires room { HasRoomIn (stored S.Store store.old) head.now.volume (top_of (with_block block map.old)) }
+    requires some { 0 < part.now.count }
     requires part { part.now.first + part.now.count ≤ (S.site store.old).geometry.block }
     requires long { length bytes.now ≡ 512 * part.now.count }
     ensures works { WorksOn S.Store head.now.volume store.old store.new }
     ensures cause { Counts S.Store result store.old store.new }
     ensures put { OnOk result (map.new ≡ slice_set map.old block (Some (least_free_slot map.old))) }
     ensures kept { OnErr result (map.new ≡ map.old) }
-    ensures reaches { Does S.Store head.now.volume (Reaches
-        (λ p v. PutsSlot (layout_now (stored S.Store store.old) head.now)
-        (least_free_slot map.old) p)) store.old store.new }
+    ensures reaches { Does S.Store head.now.volume
+        (Reaches (PutsPart (layout_now (stored S.Store store.old) head.now)
+        (least_free_slot map.old) part.now.first bytes.now)) store.old store.new }
     ensures done { OnOk result (Gives S.Store head.now.volume
         (IsSlotFilled (layout_now (stored S.Store store.old) head.now)
         (least_free_slot map.old) part.now.first part.now.count bytes.now) store.new) }
 {
     let geometry = store.geometry();
     let slot = map.least_free();
-    fill(buffer, part, bytes);
-    let size = 512 * (1 + geometry.block as usize);
+    let bitmap = bitmap_of(part);
     let at = place_of(&geometry, slot, 0);
-    put(store, &head.volume, at, &buffer[..size])?;
+    put(store, &head.volume, at, &bitmap)?;
+    let data = place_of(&geometry, slot, 1 + part.first);
+    put(store, &head.volume, data, bytes)?;
     map.put(block, slot);
     Ok(())
 }
 
-/// Writes the bytes of one block: into its slot, or with a whole slot where it has none.
+/// Writes the bytes of one block: into its slot, or into a new one where it has none.
 fn put_block<S: Store>(
     store: &mut S,
-    buffer: &mut [u8],
     head: &Head,
     map: &mut Map,
     span: &Span,
@@ -69,7 +70,6 @@ fn put_block<S: Store>(
 ) -> Result<(), Failed>
     requires sizes { span.now.block ≡ (S.site store.old).geometry.block }
     requires bytes { length from.now ≡ 512 * span.now.count }
-    requires buffer { 512 * (1 + span.now.block) ≤ length buffer.old }
     requires entries { length map.old ≡ (S.site store.old).geometry.entries }
     requires from_first { span.now.first ≤ block }
     requires to_end { block < span.now.end }
@@ -94,14 +94,13 @@ fn put_block<S: Store>(
         put(store, &head.volume, at, bytes)?;
         return Ok(());
     }
-    put_new(store, buffer, head, map, block, &part, bytes)?;
+    put_new(store, head, map, block, &part, bytes)?;
     Ok(())
 }
 
 /// Writes the bytes, block by block.
 pub(crate) fn put_blocks<S: Store>(
     store: &mut S,
-    buffer: &mut [u8],
     head: &Head,
     map: &mut Map,
     span: &Span,
@@ -109,7 +108,6 @@ pub(crate) fn put_blocks<S: Store>(
 ) -> Result<(), Failed>
     requires sizes { span.now.block ≡ (S.site store.old).geometry.block }
     requires bytes { length from.now ≡ 512 * span.now.count }
-    requires buffer { 512 * (1 + span.now.block) ≤ length buffer.old }
     requires entries { length map.old ≡ (S.site store.old).geometry.entries }
     requires good { IsMap map.old }
     requires within { span.now.end ≤ length map.old }
@@ -122,12 +120,15 @@ pub(crate) fn put_blocks<S: Store>(
     ensures reaches { Does S.Store head.now.volume
         (Reaches (PutsData (layout_now (stored S.Store store.old) head.now) span.now.sector from.now
         (slot_of map.old))) store.old store.new }
+    ensures places { Does S.Store head.now.volume
+        (Reaches (IsWritePlace (layout_now (stored S.Store store.old) head.now) span.now.sector from.now
+        (slot_of (with_blocks span.now.first (span.now.end - span.now.first) map.old)))) store.old store.new }
     ensures done { OnOk result (Gives S.Store head.now.volume
         (ArePut (layout_now (stored S.Store store.old) head.now) span.now.sector from.now (slot_of map.old)
         (slot_of map.new) span.now.end) store.new) }
 {
     for block in span.first..span.end {
-        put_block(store, buffer, head, map, span, block, from)?;
+        put_block(store, head, map, span, block, from)?;
     }
     Ok(())
 }

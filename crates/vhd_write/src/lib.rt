@@ -7,12 +7,17 @@
 //! **In which order.** A write that only replaces sectors that the image holds writes the bytes and is done. Any other
 //! has three passes with a sync behind the first.
 //!
-//! 1. Block by block, in rising order: where the block has a slot the bytes go into it; where it has none the map's
-//!    least free slot is written whole, with a bitmap of the written sectors. No table names that slot yet, and no
-//!    bitmap has a new bit.
+//! 1. Block by block, in rising order: where the block has a slot the bytes go into it; where it has none they go into
+//!    the map's least free slot, whose bitmap is put too, with the bits of just these sectors. No table names that slot
+//!    yet, and no bitmap of a slot in use has a new bit.
 //! 2. After the sync, the bits of the written sectors are set in the bitmaps of blocks that had a slot.
 //! 3. Where a block is new, the sectors of the block allocation table with the blocks' entries are written from the map
 //!    in memory, and not read.
+//!
+//! **What it writes.** Only sectors of the volume that it has to: at every return, all that a stop may leave and a read
+//! gives is what it was, but for the given sectors, with their bytes, in the slots of their blocks; the bitmaps of these
+//! slots; and the sectors of the table with these blocks' entries (`IsWritePlace`, in `specs/WritePlaces`). So what lies
+//! in a new slot beside the given sectors stays as it was on the device. No bit names it, so no read gives it.
 //!
 //! **What a stop may leave.** At every return, whatever a stop may leave of the volume is a valid image, and follows one
 //! that a stop could leave as the call began: each sector of the disk is as it was there, or held with the bytes of this
@@ -21,19 +26,20 @@
 //! the store is synced, which is the caller's. After an `Err` the map may have grown by some of the blocks, and what a read
 //! gives of the written sectors is open.
 //!
-//! **What it costs.** No memory: one buffer of the pool, of a slot's length, is taken and given back on each path. Of the
-//! store: one write for each block touched, one read for each bitmap up to the first that lacks a bit, and then, only
-//! where a bit or a slot was missing, one sync, one read for each block, one write for each bitmap that lacks a bit, and
-//! one write for each sector of the table that has a touched block's entry.
+//! **What it costs.** No memory. Of the store: one write for each block touched, and one more for each of them that is
+//! new; one read for each bitmap up to the first that lacks a bit; and then, only where a bit or a slot was missing, one
+//! sync, one read for each block, and one write for each bitmap that lacks a bit; and where a slot was missing, one write
+//! for each sector of the table that has a touched block's entry. It writes no sector of a slot but the bitmap and those
+//! that are given.
 //!
 //! What each pass puts where is in `specs/Passes`, the numbers of a write are in `specs/Spans`, and in `specs/WriteSpans`
 //! those of a write into a disk. The proofs go over plain volumes: `FirstLaws` and `RestLaws` say what the passes leave of
-//! an image, `HeadLaws` what they leave of its head, and `ExitLaws` what a write leaves at each of its returns.
+//! an image, `HeadLaws` what they leave of its head, `PlaceLaws` that they put nothing elsewhere, and `ExitLaws` what a
+//! write leaves at each of its returns.
 #![tactic(auto)]
 
 mod bitmaps;
 mod blocks;
-mod buffers;
 mod calls;
 mod finish;
 mod spans;

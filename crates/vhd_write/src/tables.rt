@@ -6,7 +6,7 @@ ghost use Rattle.vhd_map.specs.Slots.{slot_of, top_of};
 ghost use Rattle.vg_volumes.specs.Stored.{stored, WorksOn, Counts};
 ghost use Rattle.vhd_volumes.specs.Steps.{Does, Gives};
 ghost use Rattle.vhd_volumes.specs.Truth.{layout_now, HasRoomIn};
-ghost use Rattle.vhd_write.specs.Passes.{IsTableSector, PutsTable, AreTableSectors};
+ghost use Rattle.vhd_write.specs.Passes.{IsTableSector, PutsEntries, PutsTable, AreTableSectors};
 
 use crate::calls::put;
 use crate::spans::Span;
@@ -26,7 +26,8 @@ fn put_entries<S: Store>(store: &mut S, head: &Head, map: &Map, index: u32) -> R
     ensures works { WorksOn S.Store head.now.volume store.old store.new }
     ensures cause { Counts S.Store result store.old store.new }
     ensures reaches { Does S.Store head.now.volume
-        (Reaches (PutsTable (layout_now (stored S.Store store.old) head.now) (slot_of map.now))) store.old store.new }
+        (Reaches (PutsEntries (layout_now (stored S.Store store.old) head.now) (slot_of map.now) index))
+        store.old store.new }
     ensures done { OnOk result (Gives S.Store head.now.volume
         (λ r. IsTableSector (layout_now (stored S.Store store.old) head.now) (slot_of map.now) index
         (r (3 + index))) store.new) }
@@ -46,13 +47,15 @@ pub(crate) fn put_table<S: Store>(
     map: &Map,
     span: &Span,
 ) -> Result<(), Failed>
+    requires sizes { span.now.block ≡ (S.site store.old).geometry.block }
     requires entries { length map.now ≡ (S.site store.old).geometry.entries }
     requires within { span.now.end ≤ length map.now }
     requires room { HasRoomIn (stored S.Store store.old) head.now.volume (top_of map.now) }
     ensures works { WorksOn S.Store head.now.volume store.old store.new }
     ensures cause { Counts S.Store result store.old store.new }
     ensures reaches { Does S.Store head.now.volume
-        (Reaches (PutsTable (layout_now (stored S.Store store.old) head.now) (slot_of map.now))) store.old store.new }
+        (Reaches (PutsTable (layout_now (stored S.Store store.old) head.now) span.now.sector (512 * span.now.count)
+        (slot_of map.now))) store.old store.new }
     ensures done { OnOk result (Gives S.Store head.now.volume
         (AreTableSectors (layout_now (stored S.Store store.old) head.now)
         (slot_of map.now) span.now.first span.now.end) store.new) }

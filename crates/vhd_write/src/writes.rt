@@ -10,13 +10,13 @@ ghost use Rattle.vhd_volumes.specs.Truth.{disk_sectors, disk_blocks, layout_now,
 ghost use Rattle.vhd_volumes.specs.Writes.{IsGuarded, KeepsHeads, HasWritten, HasGrown, with_blocks, written_map};
 ghost use Rattle.vhd_write.specs.Passes.{PutsData, ArePut};
 ghost use Rattle.vhd_write.specs.Spans.{Given};
+ghost use Rattle.vhd_write.specs.WritePlaces.{IsWritePlace};
 ghost use Rattle.vhd_write.specs.WriteSpans.{IsSpanOf, AreFullNow};
 
 use crate::blocks::put_blocks;
 use crate::finish::{finish, is_complete};
 use crate::spans::Span;
 use sm_base::Failed;
-use sm_pool::Pool;
 use vg_volumes::Store;
 use vhd_map::Map;
 use vhd_volumes::Head;
@@ -64,7 +64,6 @@ fn has_slots(map: &Map, span: &Span) -> bool
 /// set.
 fn first_pass<S: Store>(
     store: &mut S,
-    buffer: &mut [u8],
     head: &Head,
     map: &mut Map,
     span: &Span,
@@ -72,7 +71,6 @@ fn first_pass<S: Store>(
 ) -> Result<bool, Failed>
     requires sizes { span.now.block ≡ (S.site store.old).geometry.block }
     requires bytes { length from.now ≡ 512 * span.now.count }
-    requires buffer { 512 * (1 + span.now.block) ≤ length buffer.old }
     requires entries { length map.old ≡ (S.site store.old).geometry.entries }
     requires good { IsMap map.old }
     requires within { span.now.end ≤ length map.old }
@@ -86,35 +84,52 @@ fn first_pass<S: Store>(
     ensures reaches { Does S.Store head.now.volume
         (Reaches (PutsData (layout_now (stored S.Store store.old) head.now) span.now.sector from.now
         (slot_of map.old))) store.old store.new }
+    ensures places { Does S.Store head.now.volume
+        (Reaches (IsWritePlace (layout_now (stored S.Store store.old) head.now) span.now.sector from.now
+        (slot_of (with_blocks span.now.first (span.now.end - span.now.first) map.old)))) store.old store.new }
     ensures done { OnOk result (Gives S.Store head.now.volume
         (ArePut (layout_now (stored S.Store store.old) head.now) span.now.sector from.now (slot_of map.old)
         (slot_of map.new) span.now.end) store.new) }
     ensures full { IfOk result (λ full. OnTrue full (AreFullNow S.Store store.old head.now span.now map.old)) }
 {
     let complete = is_complete(store, head, map, span)?;
-    put_blocks(store, buffer, head, map, span, from)?;
+    put_blocks(store, head, map, span, from)?;
     Ok(complete)
 }
 
-/// The write, with a buffer of a slot's length.
-fn write_with<S: Store>(
+/// Writes whole sectors of a disk, at least one, from its sector `sector` on, into the image with this head and map in
+/// the head's volume. Blocks without a slot are given the least free ones in rising order, for which the volume has
+/// room. Nothing is put but these sectors, bitmaps of their blocks' slots, and their blocks' entries of the table.
+///
+/// At `Ok` a read gives the bytes, and all other sectors as before. At `Failed`, and whenever a stop comes, what a stop
+/// leaves is a valid image that follows one which a stop could leave before: each sector as it was there, or with its
+/// bytes of this write. The copy of the footer, the header and the last sector stay. What was written lasts once the
+/// store is synced.
+///
+/// # Errors
+///
+/// The store failed. The map may name slots then that the table has not: before the image is used again the store is
+/// synced and the image opened.
+pub fn write<S: Store>(
     store: &mut S,
-    buffer: &mut [u8],
     head: &Head,
     map: &mut Map,
     sector: u64,
     from: &[u8],
 ) -> Result<(), Failed>
+    requires usable { S.failed store.old ≡ false }
     requires stands { StandsNow (stored S.Store store.old) head.now map.old }
     requires is_true { S.told → IsTrueNow (stored S.Store store.old) head.now map.old }
     requires whole { IsWhole sector (length from.now) (disk_sectors head.now.footer) }
-    requires buffer { 512 * (1 + (S.site store.old).geometry.block) ≤ length buffer.old }
     requires slots { HasRoomIn (stored S.Store store.old) head.now.volume
         (top_of (written_map (S.site store.old).geometry.block sector (length from.now) map.old)) }
     ensures works { WorksOn S.Store head.now.volume store.old store.new }
     ensures cause { Counts S.Store result store.old store.new }
     ensures guarded { Does S.Store head.now.volume
         (IsGuarded (layout_now (stored S.Store store.old) head.now) (Puts sector from.now)) store.old store.new }
+    ensures places { Does S.Store head.now.volume
+        (Reaches (IsWritePlace (layout_now (stored S.Store store.old) head.now) sector from.now
+        (slot_of (written_map (S.site store.old).geometry.block sector (length from.now) map.old)))) store.old store.new }
     ensures heads { Does S.Store head.now.volume
         (KeepsHeads (sectors_in (stored S.Store store.old) head.now.volume)) store.old store.new }
     ensures grown { HasGrown map.old map.new }
@@ -128,65 +143,10 @@ fn write_with<S: Store>(
 {
     let span = span_of(store, head, sector, from);
     let held = has_slots(map, &span);
-    let complete = first_pass(store, buffer, head, map, &span, from)?;
+    let complete = first_pass(store, head, map, &span, from)?;
     if complete {
         return Ok(());
     }
     finish(store, head, map, &span, held)?;
     Ok(())
-}
-
-/// Writes whole sectors of a disk, at least one, from its sector `sector` on, into the image with this head and map in
-/// the head's volume. Blocks without a slot are given the least free ones in rising order, for which the volume has
-/// room; a buffer of a slot's length is free.
-///
-/// At `Ok` a read gives the bytes, and all other sectors as before. At `Failed`, and whenever a stop comes, what a stop
-/// leaves is a valid image that follows one which a stop could leave before: each sector as it was there, or with its
-/// bytes of this write. The copy of the footer, the header and the last sector stay. What was written lasts once the
-/// store is synced.
-///
-/// # Errors
-///
-/// The store failed. The map may name slots then that the table has not: before the image is used again the store is
-/// synced and the image opened.
-pub fn write<S: Store>(
-    store: &mut S,
-    pool: &mut Pool,
-    head: &Head,
-    map: &mut Map,
-    sector: u64,
-    from: &[u8],
-) -> Result<(), Failed>
-    requires usable { S.failed store.old ≡ false }
-    requires stands { StandsNow (stored S.Store store.old) head.now map.old }
-    requires is_true { S.told → IsTrueNow (stored S.Store store.old) head.now map.old }
-    requires whole { IsWhole sector (length from.now) (disk_sectors head.now.footer) }
-    requires buffer { (0 < pool.old.free) ×
-        (512 * (1 + (S.site store.old).geometry.block) ≤ pool.old.bytes) }
-    requires slots { HasRoomIn (stored S.Store store.old) head.now.volume
-        (top_of (written_map (S.site store.old).geometry.block sector (length from.now) map.old)) }
-    ensures works { WorksOn S.Store head.now.volume store.old store.new }
-    ensures cause { Counts S.Store result store.old store.new }
-    ensures pool { pool.new ≡ pool.old }
-    ensures guarded { Does S.Store head.now.volume
-        (IsGuarded (layout_now (stored S.Store store.old) head.now) (Puts sector from.now)) store.old store.new }
-    ensures heads { Does S.Store head.now.volume
-        (KeepsHeads (sectors_in (stored S.Store store.old) head.now.volume)) store.old store.new }
-    ensures grown { HasGrown map.old map.new }
-    ensures map { OnOk result
-        (map.new ≡ written_map (S.site store.old).geometry.block sector (length from.now) map.old) }
-    ensures still { OnOk result (Holds S.Store head.now.volume
-        (λ h. IsTrueOf (layout_now (stored S.Store store.old) head.now) h head.now (slot_of map.new)) store.new) }
-    ensures written { OnOk result (Does S.Store head.now.volume
-        (HasWritten (layout_now (stored S.Store store.old) head.now) sector from.now) store.old store.new) }
-    ensures stands { OnOk result (StandsNow (stored S.Store store.old) head.now map.new) }
-{
-    // No more buffers are free than the pool has.
-    let _free = pool.free();
-    let Some(mut buffer) = pool.take() else {
-        unreachable!()
-    };
-    let outcome = write_with(store, buffer.bytes_mut(), head, map, sector, from);
-    pool.give(buffer);
-    outcome
 }

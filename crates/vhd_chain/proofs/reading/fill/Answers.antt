@@ -3,8 +3,8 @@ use Rattle.std.specs.Option.{option_copied}
 use Rattle.sm_disk.specs.Sectors.{sector}
 use Rattle.vg_volumes.specs.Stored.{stored}
 use Rattle.vhd_image.specs.declared.images.Body.{Body}
-use Rattle.vhd_write.proofs.BufferLaws.{sector-zeros}
 use Rattle.vhd_chain.specs.Pieces.{AreFilled}
+use Rattle.vhd_chain.proofs.PieceLaws.{sector-zeros}
 use Rattle.vhd_chain.proofs.reading.fill.Goals as goal
 
 pub returns-in-None-clause-filled : goal.returns-in-None-clause-filled

@@ -90,6 +90,7 @@ loop-preserved g c =
     let few : (k : ℕ) → k < run.sectors → k < c.loop.sectors = λ k below. omega (arith, c.within.ensures, c.in_ok-run.ensures.some.1) in
     record {
       reads_only = reads_then c.loop.invariant.reads_only c.run.ensures.reads_only;
+      calm = c.in_ok-run.ensures.cause.1 ∙ c.loop.invariant.calm;
       some = c.in_ok-run.ensures.some.0;
       fits = omega (arith, c.within.ensures, c.in_ok-run.ensures.some.1, c.loop.invariant.fits);
       same = λ told k below. c.loop.invariant.same told k (few k below)

@@ -22,6 +22,7 @@ loop-index-preserved g c =
     let index = c.loop-index.index in
     let geometry = c.args.geometry.now in
     record {
+      calm = c.in_ok-put_sector.ensures.cause.1 ∙ i.calm;
       works = works_then i.works c.put_sector.ensures.works;
       table = λ told. blank-more index (reads (held_in (stored g.S.Store c.loop-index.store) c.args.volume.now)) (reads (held_in (stored g.S.Store c.put_sector.new.store) c.args.volume.now)) c.write_sector.new.to (i.table told) (c.put_sector.ensures.may_put told).others (c.in_ok-put_sector.ensures.put told)
           (λ j small. c.write_sector.ensures j small ∙ ap (code (first geometry.entries) geometry.block) (slot_of-blank_map geometry.entries (128 * index + j) c.args.map.now c.requires.blank));

@@ -14,6 +14,7 @@ use Rattle.vhd_image.proofs.opening.map_in.Goals as goal
 
 pub loop-index-init : goal.loop-index-init
 loop-index-init g c = record {
+  calm = refl;
   only = reads_none _;
   good = IsMap-blank c.args.geometry.now.entries c.args.map c.requires.blank;
   long = ap length c.requires.blank ∙ length-replicate c.args.geometry.now.entries None;
@@ -66,6 +67,7 @@ loop-index-preserved g c =
     let index = c.loop-index.index in
     let bytes = c.in_ok-bytes.bytes in
     record {
+      calm = c.in_ok-bytes.ensures.cause.1 ∙ i.calm;
       only = reads_then i.only c.in_ok-bytes.ensures.reads_only;
       good = row.good;
       long = row.long;

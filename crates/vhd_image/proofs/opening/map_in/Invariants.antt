@@ -9,6 +9,7 @@ use Rattle.vhd_image.proofs.opening.map_in.Given as goal
 -- the map has the entries of the sectors so far, and none behind them
 abbrev pub invariant-loop-index : goal.invariant-loop-index
 invariant-loop-index g l = record {
+  calm : g.S.Store.faults l.store ≡ g.S.Store.faults l.fn.store;
   only : OnlyReads g.S.Store l.fn.store l.store;
   good : IsMap l.map;
   long : length l.map ≡ l.geometry.entries;

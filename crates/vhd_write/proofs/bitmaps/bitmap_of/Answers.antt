@@ -1,5 +1,5 @@
 use Rattle.std.proofs.Common.{◌∙◌}
-use Rattle.vhd_write.proofs.BufferLaws.{is_set-zeros}
+use Rattle.vhd_write.proofs.BitLaws.{is_set-zeros}
 use Rattle.vhd_write.proofs.bitmaps.bitmap_of.Goals as goal
 
 pub returns-clause-others : goal.returns-clause-others

@@ -1,10 +1,10 @@
 use Rattle.std.proofs.Common.{◌≡◌, ◌+◌, None, refl, sym, ◌∙◌, inl, inr, rules, arith}
 use Rattle.sm_disk.proofs.ReachesLaws.{Reaches-wider}
-use Rattle.vhd_map.specs.Slots.{slot_of}
+use Rattle.vhd_map.specs.Slots.{slot_of, least_free_slot}
 use Rattle.vg_volumes.specs.Stored.{stored}
 use Rattle.vhd_volumes.specs.Truth.{layout_now}
 use Rattle.vhd_write.proofs.MapLaws.{with_block-held, with_block-new}
-use Rattle.vhd_write.proofs.PartLaws.{place_is, part_as, held-slot-in, part-whole, part-long, held-puts, held-data, held-put, new-put}
+use Rattle.vhd_write.proofs.PartLaws.{place_is, part_as, held-slot-in, part-whole, part-long, held-puts, held-data, held-put, new-puts, new-put}
 use Rattle.vhd_write.proofs.blocks.put_block.Goals as goal
 
 pub put-requires : goal.put-requires
@@ -46,14 +46,22 @@ returns-in-Some-clause-done g c = λ told.
 
 pub returns-in_err-put_new-clause-reaches : goal.returns-in_err-put_new-clause-reaches
 returns-in_err-put_new-clause-reaches g c = λ told.
-    let none : slot_of c.args.map.now c.args.block ≡ None = search rules in Reaches-wider (λ q v h. inr (none, h)) (c.put_new.ensures.reaches told)
+    let l = layout_now (stored g.S.Store c.args.store.now) c.args.head.now in
+    let p = c.part_of-part.result in
+    let part = part_as c.part_of-part.ensures c.requires.sizes (sym c.requires.bytes) in
+    let none : slot_of c.args.map.now c.args.block ≡ None = search rules in
+    Reaches-wider (λ q v h. inr (none, h)) (new-puts l c.args.span.now.sector c.args.from.now c.args.block p.first p.count p.skip part (least_free_slot c.args.map.now) (c.put_new.ensures.reaches told))
 
 pub returns-clause-put : goal.returns-clause-put
 returns-clause-put g c = let none : slot_of c.args.map.now c.args.block ≡ None = search rules in c.in_ok-put_new.ensures.put ∙ sym (with_block-new c.args.block c.args.map.now none)
 
 pub returns-clause-reaches : goal.returns-clause-reaches
 returns-clause-reaches g c = λ told.
-    let none : slot_of c.args.map.now c.args.block ≡ None = search rules in Reaches-wider (λ q v h. inr (none, h)) (c.put_new.ensures.reaches told)
+    let l = layout_now (stored g.S.Store c.args.store.now) c.args.head.now in
+    let p = c.part_of-part.result in
+    let part = part_as c.part_of-part.ensures c.requires.sizes (sym c.requires.bytes) in
+    let none : slot_of c.args.map.now c.args.block ≡ None = search rules in
+    Reaches-wider (λ q v h. inr (none, h)) (new-puts l c.args.span.now.sector c.args.from.now c.args.block p.first p.count p.skip part (least_free_slot c.args.map.now) (c.put_new.ensures.reaches told))
 
 pub returns-clause-done : goal.returns-clause-done
 returns-clause-done g c = λ told.

@@ -7,7 +7,7 @@ use Rattle.vg_volumes.specs.Stored.{stored, held_in}
 use Rattle.vg_volumes.proofs.StoredLaws.{works_then, size_stays}
 use Rattle.vhd_volumes.specs.Truth.{layout_now}
 use Rattle.vhd_write.proofs.PartLaws.{place_is, part_as, slot-in}
-use Rattle.vhd_write.proofs.BitLaws.{place-low, sector-whole, bits-all, bits-more, bitmap-reaches, bitmap-done, bitmap-wrote}
+use Rattle.vhd_write.proofs.BitLaws.{place-low, sector-whole, part-touches, bits-all, bits-more, bitmap-reaches, bitmap-done, bitmap-wrote}
 use Rattle.vhd_write.proofs.finish.set_bitmap.Goals as goal
 
 pub get-requires : goal.get-requires
@@ -66,7 +66,7 @@ returns-in_err-put-clause-reaches g c = λ told.
     let part = part_as {len' = 512 * s.count} c.part_of-part.ensures c.requires.sizes refl in
     let is = place_is c.place_of-at.result _ (g.S.Store.site c.args.store.now).geometry slot slot 0 c.place_of-at.ensures c.geometry.ensures refl in
     let below = slot-in l c.args.map.now c.args.block slot has c.requires.room in
-    bitmap-reaches l s.sector (512 * s.count) c.args.block slot c.place_of-at.result (slot_of c.args.map.now c.args.block) c.in_ok-bitmap.bitmap c.set_bits.new.bitmap has is c.set_bits.array_long (c.in_ok-bitmap.ensures.gave told)
+    bitmap-reaches l s.sector (512 * s.count) c.args.block slot c.place_of-at.result (slot_of c.args.map.now c.args.block) c.in_ok-bitmap.bitmap c.set_bits.new.bitmap (part-touches l c.args.block s.sector (512 * s.count) p.first p.count p.skip part) has is c.set_bits.array_long (c.in_ok-bitmap.ensures.gave told)
     (bits-more l c.args.block s.sector (512 * s.count) p.first p.count p.skip part c.in_ok-bitmap.bitmap c.set_bits.new.bitmap c.set_bits.ensures.set c.set_bits.ensures.others) (c.get.ensures.same told) (c.put.ensures.torn told)
 
 pub returns-clause-reaches : goal.returns-clause-reaches
@@ -79,7 +79,7 @@ returns-clause-reaches g c = λ told.
     let part = part_as {len' = 512 * s.count} c.part_of-part.ensures c.requires.sizes refl in
     let is = place_is c.place_of-at.result _ (g.S.Store.site c.args.store.now).geometry slot slot 0 c.place_of-at.ensures c.geometry.ensures refl in
     let below = slot-in l c.args.map.now c.args.block slot has c.requires.room in
-    bitmap-reaches l s.sector (512 * s.count) c.args.block slot c.place_of-at.result (slot_of c.args.map.now c.args.block) c.in_ok-bitmap.bitmap c.set_bits.new.bitmap has is c.set_bits.array_long (c.in_ok-bitmap.ensures.gave told)
+    bitmap-reaches l s.sector (512 * s.count) c.args.block slot c.place_of-at.result (slot_of c.args.map.now c.args.block) c.in_ok-bitmap.bitmap c.set_bits.new.bitmap (part-touches l c.args.block s.sector (512 * s.count) p.first p.count p.skip part) has is c.set_bits.array_long (c.in_ok-bitmap.ensures.gave told)
     (bits-more l c.args.block s.sector (512 * s.count) p.first p.count p.skip part c.in_ok-bitmap.bitmap c.set_bits.new.bitmap c.set_bits.ensures.set c.set_bits.ensures.others) (c.get.ensures.same told) (c.put.ensures.torn told)
 
 pub returns-clause-done : goal.returns-clause-done

@@ -1,4 +1,4 @@
-use Rattle.std.proofs.Common.{◌*◌, subst}
+use Rattle.std.proofs.Common.{◌∙◌, ◌*◌, subst}
 use Rattle.sm_disk.specs.Held.{Reaches, reads}
 use Rattle.vhd_map.specs.Slots.{slot_of}
 use Rattle.vg_volumes.specs.Stored.{stored, held_in}
@@ -36,6 +36,7 @@ loop-block-preserved g c =
     let same = works_layout c.args.head.now i.works in
     let step = λ (told : g.S.Store.told). subst (λ x. Reaches (PutsBitsOf x s.sector (512 * s.count) (slot_of n block) block (reads before)) before after) same (c.set_bitmap.ensures.reaches told) in
     record {
+      calm = c.in_ok-set_bitmap.ensures.cause.1 ∙ i.calm;
       works = works_then i.works c.set_bitmap.ensures.works;
       reaches = λ told. bits-reaches l s.sector (512 * s.count) n c.requires.good block (i.reaches told) (step told);
       done = λ told. bits-done l s.sector (512 * s.count) n c.requires.good s.first block (step told) (i.done told)

@@ -6,7 +6,7 @@ use Rattle.vg_volumes.specs.Stored.{stored, held_in}
 use Rattle.vg_volumes.proofs.StoredLaws.{works_then}
 use Rattle.vhd_write.specs.Passes.{ArePut}
 use Rattle.vhd_write.proofs.WorkLaws.{works_layout, works_room}
-use Rattle.vhd_write.proofs.TopLaws.{first-puts}
+use Rattle.vhd_write.proofs.TopLaws.{first-puts, first-places}
 use Rattle.vhd_write.proofs.writes.first_pass.Goals as goal
 
 pub put_blocks-requires-clause-room : goal.put_blocks-requires-clause-room
@@ -28,6 +28,17 @@ returns-in_err-put_blocks-clause-reaches g c = λ told.
 pub returns-clause-reaches : goal.returns-clause-reaches
 returns-clause-reaches g c = λ told.
     first-puts c.args.from.now (slot_of c.args.map.now) (works_layout c.args.head.now c.is_complete.ensures.works) (c.is_complete.ensures.same told) (c.put_blocks.ensures.reaches told)
+
+pub returns-in_err-complete-clause-places : goal.returns-in_err-complete-clause-places
+returns-in_err-complete-clause-places g c = λ told. Reaches-same _ (c.is_complete.ensures.same told)
+
+pub returns-in_err-put_blocks-clause-places : goal.returns-in_err-put_blocks-clause-places
+returns-in_err-put_blocks-clause-places g c = λ told.
+    first-places c.args.from.now _ (works_layout c.args.head.now c.is_complete.ensures.works) (c.is_complete.ensures.same told) (c.put_blocks.ensures.places told)
+
+pub returns-clause-places : goal.returns-clause-places
+returns-clause-places g c = λ told.
+    first-places c.args.from.now _ (works_layout c.args.head.now c.is_complete.ensures.works) (c.is_complete.ensures.same told) (c.put_blocks.ensures.places told)
 
 pub returns-clause-done : goal.returns-clause-done
 returns-clause-done g c = λ told.

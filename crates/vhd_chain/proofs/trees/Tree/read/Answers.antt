@@ -24,8 +24,9 @@ pub loop-done-preserved : goal.loop-done-preserved
 loop-done-preserved g c =
     let sides = c.loop-done.invariant in (
       reads_then sides.0 c.read_on.ensures.reads_only,
+      c.in_ok-done.ensures.cause.1 ∙ sides.1,
       c.in_ok-done.ensures.more.1,
       λ told. read-more (chain_reads (stored g.S.Store c.args.store.now) c.rows-rows.result.now c.args.leaf.now) c.args.sector c.loop-done.done c.in_ok-done.done c.loop-done.to c.read_on.new.to
-          (sides.2 told) c.read_on.ensures.front
+          (sides.3 told) c.read_on.ensures.front
           (λ k from below. c.in_ok-done.ensures.read told k from below ∙ ap (λ (x : Stored). chain_reads x c.rows-rows.result.now c.args.leaf.now (c.args.sector + k)) (same-stored sides.0 told)),
     )

@@ -1,8 +1,8 @@
 use Rattle.vg_volumes.proofs.StoredLaws.{works_then}
 use Rattle.vhd_write.proofs.LoopLaws.{true_on}
 use Rattle.vhd_write.proofs.WorkLaws.{works_layout, works_room}
-use Rattle.vhd_write.proofs.TopLaws.{room-all, new-map, new-room, new-stands, guarded-now, heads-now, still-now, written-now, guarded-then, heads-then, still-then, written-then}
-use Rattle.vhd_write.proofs.writes.write_with.Goals as goal
+use Rattle.vhd_write.proofs.TopLaws.{room-all, new-map, new-room, new-stands, guarded-now, heads-now, places-now, still-now, written-now, guarded-then, heads-then, places-then, still-then, written-then}
+use Rattle.vhd_write.proofs.writes.write.Goals as goal
 
 pub first_pass-requires-clause-slots : goal.first_pass-requires-clause-slots
 first_pass-requires-clause-slots g c = room-all c.args.from.now c.requires.stands c.requires.whole c.requires.slots c.span_of-span.ensures
@@ -65,6 +65,14 @@ returns-then-complete-clause-written g c = λ told.
     written-now c.args.from.now c.requires.stands c.requires.whole c.requires.slots c.span_of-span.ensures (c.requires.is_true told) (c.first_pass.ensures.reaches told)
     c.in_ok-complete.ensures.given (c.in_ok-complete.ensures.done told) told (true_on c.in_ok-complete.complete c.if-complete.true c.in_ok-complete.ensures.full)
 
+pub returns-in_err-complete-clause-places : goal.returns-in_err-complete-clause-places
+returns-in_err-complete-clause-places g c = λ told.
+    places-now c.args.from.now c.requires.stands c.requires.whole c.requires.slots c.span_of-span.ensures (c.first_pass.ensures.places told)
+
+pub returns-then-complete-clause-places : goal.returns-then-complete-clause-places
+returns-then-complete-clause-places g c = λ told.
+    places-now c.args.from.now c.requires.stands c.requires.whole c.requires.slots c.span_of-span.ensures (c.first_pass.ensures.places told)
+
 -- ---- and behind the rest
 
 pub returns-in_err-finish-clause-guarded : goal.returns-in_err-finish-clause-guarded
@@ -96,3 +104,13 @@ pub returns-clause-written : goal.returns-clause-written
 returns-clause-written g c = λ told.
     written-then c.args.from.now c.requires.stands c.requires.whole c.requires.slots c.span_of-span.ensures (c.requires.is_true told) (c.first_pass.ensures.reaches told)
     c.in_ok-complete.ensures.given (c.in_ok-complete.ensures.done told) (works_layout c.args.head.now c.first_pass.ensures.works) c.has_slots-held.ensures.all (c.in_ok-finish.ensures.done told)
+
+pub returns-in_err-finish-clause-places : goal.returns-in_err-finish-clause-places
+returns-in_err-finish-clause-places g c = λ told.
+    places-then c.args.from.now c.requires.stands c.requires.whole c.requires.slots c.span_of-span.ensures (works_layout c.args.head.now c.first_pass.ensures.works) c.in_ok-complete.ensures.given
+    (c.first_pass.ensures.places told) (c.finish.ensures.goes told)
+
+pub returns-clause-places : goal.returns-clause-places
+returns-clause-places g c = λ told.
+    places-then c.args.from.now c.requires.stands c.requires.whole c.requires.slots c.span_of-span.ensures (works_layout c.args.head.now c.first_pass.ensures.works) c.in_ok-complete.ensures.given
+    (c.first_pass.ensures.places told) (c.finish.ensures.goes told)
