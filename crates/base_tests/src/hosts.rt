@@ -1,9 +1,10 @@
 //! The adapters over a file, a reader and a writer, and the clock of images.
 
-use sm_disk::{Disk, Sink, Source};
+use sm_disk::{Disk, Failed, Sink, Source};
 use sm_host::{FileDisk, ReadSource, WriteSink, seconds_since_2000};
 use std::fs;
 use std::fs::File;
+use std::io::{BufWriter, Read};
 use std::test::Fail;
 
 /// A file of three whole sectors and some bytes more.
@@ -36,6 +37,45 @@ fn a_file_is_a_device(rt: HostRuntime) -> Result<(), Fail> {
         && has_lost_its_last(&mut disk);
     fs::remove_file(&rt, path)?;
     assert!(rt; is_whole && is_cut);
+    Ok(())
+}
+
+#[test]
+fn a_device_that_cannot_be_synced_fails(rt: HostRuntime) -> Result<(), Fail> {
+    let file = File::options()
+        .read(true)
+        .write(true)
+        .open(&rt, "/dev/null")?;
+    let mut disk = FileDisk::new(file, 512);
+    let is_written = disk.write(0, &[9; 512]).is_ok();
+    let fails = disk.sync() == Err(Failed) && disk.sync() == Err(Failed);
+    assert!(rt; disk.sectors() == 1 && is_written && fails);
+    Ok(())
+}
+
+/// Whether a source gives four bytes, and then can't be read.
+fn fails_behind_four(source: &mut impl Source) -> bool {
+    let mut eight = [0; 8];
+    let first = source.read(&mut eight) == Ok(4) && eight == *b"list\0\0\0\0";
+    first && source.read(&mut eight) == Err(Failed) && source.read(&mut eight) == Err(Failed)
+}
+
+#[test]
+fn a_reader_that_fails_is_no_end_of_the_source(rt: HostRuntime) -> Result<(), Fail> {
+    let folder = File::open(&rt, "/")?;
+    let mut source = ReadSource::new(b"list".as_slice().chain(folder));
+    let fails = fails_behind_four(&mut source);
+    assert!(rt; fails);
+    Ok(())
+}
+
+#[test]
+fn a_line_that_cannot_be_handed_on_fails(rt: HostRuntime) -> Result<(), Fail> {
+    let full = File::options().write(true).open(&rt, "/dev/full")?;
+    let mut sink = WriteSink::new(BufWriter::new(rt.alloc(), full)?);
+    let is_kept = sink.write(b"ok") == Ok(2);
+    let fails = sink.write(b" 0\n") == Err(Failed);
+    assert!(rt; is_kept && fails);
     Ok(())
 }
 

@@ -10,7 +10,7 @@ use lvhd_command::lvhd;
 use sm_disk::MemDisk;
 use sm_host::{FileDisk, ReadSource, WriteSink, seconds_since_2000};
 use std::fs::{File, TryLockError};
-use std::io::{BufReader, BufWriter, Seek, SeekFrom};
+use std::io::{BufReader, BufWriter, ErrorKind, Seek, SeekFrom};
 use std::os::fd::AsRawFd;
 use std::process::ExitCode;
 use std::time::{SystemTime, UNIX_EPOCH};
@@ -69,7 +69,10 @@ fn now(rt: &HostRuntime) -> u32 {
 /// The arguments behind the program's own name.
 fn arguments(rt: &HostRuntime) -> Result<Vec<String>, u8> {
     let mut arguments = Vec::new(rt.alloc());
-    let all = env::args(rt).map_err(|_| UNREADABLE)?;
+    let all = env::args(rt).map_err(|error| match error.kind() {
+        ErrorKind::OutOfMemory => NO_MEMORY,
+        _ => UNREADABLE,
+    })?;
     for argument in all.skip(1) {
         arguments.push(argument).map_err(|_| NO_MEMORY)?;
     }

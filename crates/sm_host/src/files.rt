@@ -5,8 +5,7 @@ ghost use Rattle.sm_disk.specs.Held.{Held, IsWhole, SameHeld, Gave, Torn, Wrote,
 
 use sm_disk::{Disk, Failed};
 use std::fs::File;
-use std::io;
-use std::io::{Read, Seek, SeekFrom, Write};
+use std::os::unix::fs::FileExt;
 
 /// The whole sectors of a file that is open for reading and writing.
 #[derive(Drop)]
@@ -28,24 +27,6 @@ impl FileDisk {
             sectors: bytes / 512,
             faults: 0,
         }
-    }
-
-    /// Reads from this byte on, until the buffer is full.
-    fn read_from(&mut self, at: u64, to: &mut [u8]) -> io::Result<()>
-        ensures sectors { self.new.sectors ≡ self.old.sectors }
-        ensures faults { self.new.faults ≡ self.old.faults }
-    {
-        self.file.seek(SeekFrom::Start(at))?;
-        self.file.read_exact(to)
-    }
-
-    /// Writes all of these bytes from this byte on.
-    fn write_from(&mut self, at: u64, from: &[u8]) -> io::Result<()>
-        ensures sectors { self.new.sectors ≡ self.old.sectors }
-        ensures faults { self.new.faults ≡ self.old.faults }
-    {
-        self.file.seek(SeekFrom::Start(at))?;
-        self.file.write_all(from)
     }
 
     /// One fault more, up to the last number.
@@ -75,14 +56,14 @@ impl Disk for FileDisk {
     }
 
     fn read(&mut self, at: u64, to: &mut [u8]) -> Result<(), Failed> {
-        if self.read_from(512 * at, to).is_err() {
+        if self.file.read_exact_at(to, 512 * at).is_err() {
             return Err(self.failed());
         }
         Ok(())
     }
 
     fn write(&mut self, at: u64, from: &[u8]) -> Result<(), Failed> {
-        if self.write_from(512 * at, from).is_err() {
+        if self.file.write_all_at(from, 512 * at).is_err() {
             return Err(self.failed());
         }
         Ok(())

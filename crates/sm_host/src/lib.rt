@@ -2,7 +2,7 @@
 //!
 //! Kept here: the file or stream, and the count of its faults; the system's time is only counted anew. Nothing is told of what a file or a stream
 //! holds, since no proof knows that; what is proved is that each call answers `Failed` only where its count
-//! rose, stays within the buffer it was handed, and ends. A device has as many sectors of 512 bytes as its
+//! rose and any other answer only where it did not, stays within the buffer it was handed, and ends. A device has as many sectors of 512 bytes as its
 //! file has whole ones. The calls take no memory.
 //!
 //! That a real file keeps a sector whole, and keeps what was synced, is trusted.

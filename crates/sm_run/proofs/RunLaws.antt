@@ -1,9 +1,8 @@
 -- A run, line by line.
-use Rattle.std.proofs.Common.{◌≡◌, ◌≢◌, ◌⊎◌, inl, inr, ℕ, ◌+◌, ◌≤◌, arith, Bool, true, false, List, [], ◌∷◌, ◌++◌, map, length, take, length-append, append_assoc, Option, Result, Ok, Err, All, refl, sym, ap, ◌∙◌, subst}
+use Rattle.std.proofs.Common.{◌≡◌, ◌≢◌, ◌⊎◌, inl, inr, ℕ, ◌+◌, ◌≤◌, arith, Bool, true, false, List, [], ◌∷◌, ◌++◌, map, length, take, length-append, append_assoc, Option, Result, Ok, Err, refl, sym, ap, ◌∙◌, subst}
 use Rattle.std.specs.Prelude.{⊤, ◌==◌}
 use Rattle.std.proofs.lemmas.Bool.Decides.{nat_tests}
 use Rattle.std.proofs.lemmas.List.{append-nil, length-take, nil_from_length, take_at}
-use Rattle.std.proofs.lemmas.List.Elements.{All-append, All-cons, All-nil}
 use Rattle.sm_disk.specs.Streams.{Takes, Adds}
 use Rattle.sm_disk.proofs.StreamLaws.{Takes-none, Takes-then, Adds-none, Adds-then}
 use Rattle.sm_machine.specs.Disks.{Disk}
@@ -12,7 +11,7 @@ use Rattle.sm_machine.specs.Replies.{printed}
 use Rattle.sm_machine.specs.Runs.{Turn, taken, after_run, replies, settles, face, trail_after, IsAsAfter}
 use Rattle.sm_machine.specs.Steps.{State}
 use Rattle.sm_run.specs.Parts.{front_of, is_in_line, turn_of, HasAnswered}
-use Rattle.sm_run.specs.Runs.{script_limit, ended, lines_of, BeginsSettled, HasRun, HowFar, IsSpared, IsSpent, MayLeave}
+use Rattle.sm_run.specs.Runs.{script_limit, ended, lines_of, AreSpared, BeginsSettled, HasRun, HowFar, IsSpared, IsSpent, MayLeave}
 use Rattle.sm_run.specs.declared.runs.RunFault.{RunFault}
 use Rattle.sm_run.specs.declared.runs.RunFault.TheVariants.{Device, Source, Sink, TooLong}
 use Rattle.sm_run.proofs.Growth.{after, after_run-push, during, settled}
@@ -31,7 +30,7 @@ pub record SoFar (σ σ' : State) (had left had_got got : Option (List ℕ)) (ro
   pub leaves : (ds : List Disk) → may_leave ds → IsAsAfter σ turns ds
   pub ready : is_ready
   pub kept : is_kept
-  pub spared : All IsSpared turns
+  pub spared : AreSpared σ turns
 
 -- ---- one turn more
 
@@ -66,8 +65,14 @@ ended-none : ended [] ≡ []
 unfolding ended
 ended-none = refl
 
-spared-push : (turns : List Turn) (t : Turn) → All IsSpared turns → IsSpared t → All IsSpared (turns ++ t ∷ [])
-spared-push turns t all one = All-append IsSpared turns (t ∷ []) all (All-cons IsSpared t [] one (All-nil IsSpared))
+spared-none : (σ : State) → AreSpared σ []
+unfolding AreSpared
+spared-none σ = tt
+
+spared-push : (σ : State) (turns : List Turn) (t : Turn) → AreSpared σ turns → IsSpared (after_run σ turns) t → AreSpared σ (turns ++ t ∷ [])
+unfolding AreSpared after_run
+spared-push σ [] t all one = (one, tt)
+spared-push σ (s ∷ turns) t all one = (all.0, spared-push ((taken σ s).after) turns t all.1 one)
 
 told_true : (b : Bool) → (b ≡ true) ⊎ (b ≡ false)
 told_true true = inl refl
@@ -115,7 +120,7 @@ so_far-begins σ had had_got room may_leave is_ready is_kept all begins ready ke
   };
   ready = ready;
   kept = kept;
-  spared = All-nil IsSpared;
+  spared = spared-none σ;
 }
 
 -- the disks that a stop leaves are those that are there, but for their sectors
@@ -152,7 +157,7 @@ so_far-more σ σ1 σ2 had left left' had_got got got' room room' leaves1 leaves
       leaves = leaves-after σ σ2 s.turns line got got' leaves1 leaves2 ready2 kept2 s.leaves a;
       ready = a.ready;
       kept = a.kept;
-      spared = spared-push s.turns t s.spared a.spared;
+      spared = spared-push σ s.turns t s.spared a.spared;
     }
 
 -- ---- the ends of a run
@@ -179,7 +184,7 @@ run-level σ σ' result had left left' had_got got room may_leave is_ready is_ke
   leaves = s.leaves;
   ready = λ _. s.ready;
   kept = s.kept;
-  spared = subst (λ ts. All IsSpared ts) (sym (append-nil s.turns)) s.spared;
+  spared = subst (AreSpared σ) (sym (append-nil s.turns)) s.spared;
 }
 
 -- the source failed within a line
@@ -257,7 +262,7 @@ run-cut σ σ1 σ2 Device had left left' had_got got got' room leaves1 leaves2 r
       leaves = leaves-during σ σ2 s.turns line (Err Device) got got' leaves1 leaves2 ready2 kept2 s.leaves a;
       ready = λ other. absurd (other refl);
       kept = a.kept;
-      spared = spared-push s.turns t s.spared a.spared;
+      spared = spared-push σ s.turns t s.spared a.spared;
     }
 run-cut σ σ1 σ2 Sink had left left' had_got got got' room leaves1 leaves2 ready1 kept1 ready2 kept2 line tail s took last answered =
     let a = subst (λ (x : State). HasAnswered x σ2 line (Err Sink) got got' leaves1 leaves2 ready2 kept2) s.state answered in
@@ -281,7 +286,7 @@ run-cut σ σ1 σ2 Sink had left left' had_got got got' room leaves1 leaves2 rea
       leaves = leaves-during σ σ2 s.turns line (Err Sink) got got' leaves1 leaves2 ready2 kept2 s.leaves a;
       ready = λ _. a.ready;
       kept = a.kept;
-      spared = spared-push s.turns t s.spared a.spared;
+      spared = spared-push σ s.turns t s.spared a.spared;
     }
 run-cut σ σ1 σ2 Source had left left' had_got got got' room leaves1 leaves2 ready1 kept1 ready2 kept2 line tail s took last answered = absurd answered.replied
 run-cut σ σ1 σ2 TooLong had left left' had_got got got' room leaves1 leaves2 ready1 kept1 ready2 kept2 line tail s took last answered = absurd answered.replied
@@ -337,7 +342,7 @@ run-last σ σ1 σ2 (Ok _) had left left' had_got got got' room room' leaves1 le
       leaves = leaves-after σ σ2 s.turns line got got' leaves1 leaves2 ready2 kept2 s.leaves a;
       ready = λ _. a.ready;
       kept = a.kept;
-      spared = subst (λ ts. All IsSpared ts) (sym (append-nil (s.turns ++ t ∷ []))) (spared-push s.turns t s.spared a.spared);
+      spared = subst (AreSpared σ) (sym (append-nil (s.turns ++ t ∷ []))) (spared-push σ s.turns t s.spared a.spared);
     }
 
 -- a line of which the buffer keeps nothing is empty
@@ -362,5 +367,5 @@ some-line line buffer r kept is h none =
     let test : (length buffer == 0) ≡ true = ap (λ n. n == 0) long in
     absurd (let clash : false ≡ true = sym h ∙ is ∙ test in cc)
 
-pub ok-not_device : (result : Result ⊤ RunFault) (u : ⊤) → result ≡ Ok u → result ≢ Err Device
-ok-not_device result u is = λ clash. absurd (let both : Ok u ≡ Err Device = sym is ∙ clash in cc)
+pub ok-no_fault : (result : Result ⊤ RunFault) (u : ⊤) (e : RunFault) → result ≡ Ok u → result ≢ Err e
+ok-no_fault result u e is = λ clash. absurd (let both : Ok u ≡ Err e = sym is ∙ clash in cc)

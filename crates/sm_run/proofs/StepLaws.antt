@@ -7,11 +7,11 @@ use Rattle.sm_machine.specs.declared.replies.Reply.{Reply}
 use Rattle.sm_machine.specs.declared.replies.Reply.TheVariants.{No}
 use Rattle.sm_machine.specs.Disks.{Disk}
 use Rattle.sm_machine.specs.Lines.{spelled}
-use Rattle.sm_machine.specs.Runs.{Turn, taken, settles, some_settling, is_accepted, is_settling, takes_memory, face}
+use Rattle.sm_machine.specs.Runs.{Turn, taken, settles, some_settling, is_accepted, is_settling, face}
 use Rattle.sm_machine.specs.Steps.{State, Outcome, refused, step, step_line, step_or_bad}
 use Rattle.sm_run.specs.Between.{IsBetween, IsSettledAs}
 use Rattle.sm_run.specs.Parts.{turn_of, HasStepped}
-use Rattle.sm_run.specs.Runs.{IsSpared}
+use Rattle.sm_run.specs.Runs.{IsSpared, may_want_memory}
 use Rattle.sm_run.specs.declared.steps.StepFault.{StepFault}
 
 -- ---- what a turn gives
@@ -46,11 +46,11 @@ settles-refused σ t r is h = sym (is_accepted-no r) ∙ ap (λ (o : Outcome). i
 
 -- ---- the step of a line
 
-pub spared-ample : (line : List ℕ) → IsSpared (turn_of line false)
-spared-ample line = λ is. absurd (cc)
+pub spared-ample : (σ : State) (line : List ℕ) → IsSpared σ (turn_of line false)
+spared-ample σ line = λ is. absurd (cc)
 
-pub spared-spelled : (line : List ℕ) (command : Command) (poor : Bool) → spelled line ≡ Some command → takes_memory command ≡ true → IsSpared (turn_of line poor)
-spared-spelled line command poor h takes = λ is. (command, h, takes)
+spared-spelled : (σ : State) (line : List ℕ) (command : Command) (poor : Bool) → spelled line ≡ Some command → may_want_memory σ.shape command ≡ true → IsSpared σ (turn_of line poor)
+spared-spelled σ line command poor h may = λ is. (command, h, may)
 
 -- the disks are those that a stop might leave before
 same_between : (σ : State) (before : List Disk → Type 0) (ds : List Disk) → before ds → map face ds ≡ map face σ.disks → IsBetween before σ.disks σ.disks ds
@@ -61,7 +61,7 @@ same_between σ before ds h faces = inl (record {
 
 -- a refused line: the machine is as it was, and a stop leaves nothing new
 pub stepped-refused : (σ σ' : State) (line : List ℕ) (poor : Bool) (r : Refusal) (reply : Reply) (before after : List Disk → Type 0) (is_ready is_kept : Type 0)
-    → IsSpared (turn_of line poor) → taken σ (turn_of line poor) ≡ refused σ r → reply ≡ No r → σ' ≡ σ → is_ready → is_kept
+    → IsSpared σ (turn_of line poor) → taken σ (turn_of line poor) ≡ refused σ r → reply ≡ No r → σ' ≡ σ → is_ready → is_kept
     → ((ds : List Disk) → before ds → map face ds ≡ map face σ.disks) → ((ds : List Disk) → after ds → before ds)
     → HasStepped σ σ' line (Ok reply) before after is_ready is_kept
 stepped-refused σ σ' line poor r reply before after is_ready is_kept spared is says same ready kept faces fewer =
@@ -82,7 +82,7 @@ stepped-refused σ σ' line poor r reply before after is_ready is_kept spared is
 pub stepped-command : (σ σ' : State) (line : List ℕ) (command : Command) (result : Result Reply StepFault) (before after : List Disk → Type 0) (is_ready is_kept : Type 0)
     → spelled line ≡ Some command
     → IfOk result (λ r. ((r ≡ No NoMemory) × (σ' ≡ σ)) ⊎ ((r ≡ (step σ command).reply) × (σ' ≡ (step σ command).after)))
-    → IfOk result (λ r. r ≡ No NoMemory → takes_memory command ≡ true)
+    → IfOk result (λ r. r ≡ No NoMemory → may_want_memory σ.shape command ≡ true)
     → OnOk result is_ready → is_kept
     → IfOk result (λ r. is_accepted r ≡ false → (ds : List Disk) → after ds → before ds)
     → ((ds : List Disk) → after ds → IsBetween before σ.disks ((step σ command).after).disks ds)
@@ -94,7 +94,7 @@ stepped-command σ σ' line command (Err e) before after is_ready is_kept spells
     let is = taken-some σ line command spells in
     record {
       poor = false;
-      spared = spared-ample line;
+      spared = spared-ample σ line;
       reply = tt;
       state = tt;
       ready = tt;
@@ -104,13 +104,13 @@ stepped-command σ σ' line command (Err e) before after is_ready is_kept spells
       settled = tt;
     }
 stepped-command σ σ' line command (Ok r) before after is_ready is_kept spells (inl poor) takes ready kept refuses crash faces settled had =
-    stepped-refused σ σ' line true NoMemory r before after is_ready is_kept (spared-spelled line command true spells (takes poor.0)) (taken-poor σ line)
+    stepped-refused σ σ' line true NoMemory r before after is_ready is_kept (spared-spelled σ line command true spells (takes poor.0)) (taken-poor σ line)
     poor.0 poor.1 ready kept had (refuses (ap is_accepted poor.0 ∙ is_accepted-no NoMemory))
 stepped-command σ σ' line command (Ok r) before after is_ready is_kept spells (inr whole) takes ready kept refuses crash faces settled had =
     let is = taken-some σ line command spells in
     record {
       poor = false;
-      spared = spared-ample line;
+      spared = spared-ample σ line;
       reply = whole.0 ∙ ap (λ (o : Outcome). o.reply) (sym is);
       state = whole.1 ∙ ap (λ (o : Outcome). o.after) (sym is);
       ready = ready;

@@ -52,7 +52,7 @@ turn_of line poor = record { line = line; poor = poor }
 -- a line was stepped: what the machine and what a stop may leave are then
 pub record HasStepped (σ σ' : State) (line : List ℕ) (result : Result Reply StepFault) (before after : List Disk → Type 0) (is_ready is_kept : Type 0) : Type 0 where
   pub poor : Bool
-  pub spared : IsSpared (turn_of line poor)
+  pub spared : IsSpared σ (turn_of line poor)
   pub reply : IfOk result (λ r. r ≡ (taken σ (turn_of line poor)).reply)
   pub state : OnOk result (σ' ≡ (taken σ (turn_of line poor)).after)
   pub ready : OnOk result is_ready
@@ -77,7 +77,7 @@ UnlessDevice _ P = P
 -- a line was stepped and answered
 pub record HasAnswered (σ σ' : State) (line : List ℕ) (result : Result ⊤ RunFault) (had got : Option (List ℕ)) (before after : List Disk → Type 0) (is_ready is_kept : Type 0) : Type 0 where
   pub poor : Bool
-  pub spared : IsSpared (turn_of line poor)
+  pub spared : IsSpared σ (turn_of line poor)
   pub replied : HasReplied result (printed (taken σ (turn_of line poor)).reply) had got
   pub state : UnlessDevice result (σ' ≡ (taken σ (turn_of line poor)).after)
   pub ready : UnlessDevice result is_ready

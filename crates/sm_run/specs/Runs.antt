@@ -1,12 +1,17 @@
 -- A run over a script (this project's format): which lines were read, which of them were answered, and what the sink
 -- got. A script is read byte by byte, and each line's reply goes out whole before the next byte is read. So at every
 -- return all lines that were read whole are answered, but for the last one where its step or its reply failed.
-use Rattle.std.specs.Prelude.{◌≡◌, ◌≢◌, ◌≤◌, ◌^◌, ◌+◌, ◌==◌, ◌⊎◌, ⊤, ℕ, Bool, true, false, List, [], ◌∷◌, ◌++◌, map, length, take, Option, Some, All, IfSome, Result, Ok, Err}
+use Rattle.std.specs.Prelude.{◌≡◌, ◌≢◌, ◌≤◌, ◌^◌, ◌+◌, ◌==◌, ◌⊎◌, ⊤, ℕ, Bool, true, false, List, [], ◌∷◌, ◌++◌, map, length, take, Option, Some, IfSome, Result, Ok, Err}
+use Rattle.sm_base.specs.declared.operations.Plan.{Plan}
+use Rattle.sm_base.specs.declared.operations.Plan.TheVariants as plan
 use Rattle.sm_disk.specs.Streams.{Takes, Adds}
+use Rattle.sm_machine.specs.Collector.{next_step}
 use Rattle.sm_machine.specs.declared.commands.Command.{Command}
+use Rattle.sm_machine.specs.declared.commands.Command.TheVariants.{Gc}
 use Rattle.sm_machine.specs.Disks.{Disk}
 use Rattle.sm_machine.specs.Lines.{lines, spelled}
-use Rattle.sm_machine.specs.Runs.{Turn, after_run, replies, takes_memory, IsAsAfter, IsAsDuring}
+use Rattle.sm_machine.specs.Runs.{Turn, taken, after_run, replies, takes_memory, IsAsAfter, IsAsDuring}
+use Rattle.sm_machine.specs.Shapes.{Shape}
 use Rattle.sm_machine.specs.Steps.{State}
 use Rattle.sm_run.specs.Between.{IsSettledAs}
 use Rattle.sm_run.specs.declared.runs.RunFault.{RunFault}
@@ -35,9 +40,26 @@ lines_of turns = map (λ t. t.line) turns
 abbrev pub IsSpent : Option (List ℕ) → Type 0
 IsSpent content = IfSome content (λ left. left ≡ [])
 
--- a line to which memory was wanting spells a command whose step takes memory
-abbrev pub IsSpared : Turn → Type 0
-IsSpared t = t.poor ≡ true → (c : Command) × (spelled t.line ≡ Some c) × (takes_memory c ≡ true)
+-- a step of the collector begins to fold an image into its parent
+unfoldable pub begins : Plan → Bool
+begins (plan.Begin child parent to) = true
+begins (plan.Leaf leaf parent to) = true
+begins _ = false
+
+-- Whether want of memory may take the place of a command's answer in this shape: its step takes memory, and a step of the
+-- collector begins to fold an image.
+unfoldable pub may_want_memory : Shape → Command → Bool
+may_want_memory s Gc = begins (next_step s)
+may_want_memory s c = takes_memory c
+
+-- a line to which memory was wanting spells a command whose answer it may take the place of in this state
+abbrev pub IsSpared : State → Turn → Type 0
+IsSpared σ t = t.poor ≡ true → (c : Command) × (spelled t.line ≡ Some c) × (may_want_memory σ.shape c ≡ true)
+
+-- so it is of each turn of a run, with the state in front of it
+unfoldable pub AreSpared : State → List Turn → Type 0
+AreSpared σ [] = ⊤
+AreSpared σ (t ∷ turns) = IsSpared σ t × AreSpared ((taken σ t).after) turns
 
 -- the script was read to its end, and every line of it was answered
 pub record IsReadToEnd (bytes : List ℕ) (turns pending : List Turn) (left : Option (List ℕ)) : Type 0 where
@@ -101,4 +123,4 @@ pub record HasRun (σ σ' : State) (result : Result ⊤ RunFault) (had_left left
   pub leaves : (disks : List Disk) → may_leave disks → MayLeave σ turns pending disks
   pub ready : result ≢ Err Device → is_ready
   pub kept : is_kept
-  pub spared : All IsSpared (turns ++ pending)
+  pub spared : AreSpared σ (turns ++ pending)

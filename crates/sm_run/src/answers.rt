@@ -1,7 +1,7 @@
 //! Stepping a line, and sending its reply.
 
 ghost use Rattle.std.specs.Prelude.{◌≡◌, ◌≢◌, ◌≤◌, ◌⊎◌, ℕ, List, true, false, map, Err, IfErr, OnOk, OnErr, option_copied};
-ghost use Rattle.sm_disk.specs.Held.{Keeps, Rose};
+ghost use Rattle.sm_disk.specs.Held.{IsCounted, Keeps, Rose};
 ghost use Rattle.sm_machine.specs.Disks.{Disk};
 ghost use Rattle.sm_machine.specs.Lines.{spelled};
 ghost use Rattle.sm_machine.specs.Runs.{face};
@@ -30,7 +30,7 @@ fn step<M: Steps>(
     ensures site { M.site machine.new ≡ M.site machine.old }
     ensures beside { M.told → Keeps (M.beside machine.old) (M.beside machine.new) }
     ensures counts { M.faults machine.old ≤ M.faults machine.new }
-    ensures device { M.broken machine.old ≡ false → OnErr result (Rose (M.faults machine.old) (M.faults machine.new)) }
+    ensures cause { M.broken machine.old ≡ false → IsCounted result (M.faults machine.old) (M.faults machine.new) }
     ensures going_on { M.broken machine.old ≡ false → OnOk result (M.broken machine.new ≡ false) }
 {
     match command {
@@ -54,7 +54,7 @@ pub fn take_step<M: Steps>(
     ensures site { M.site machine.new ≡ M.site machine.old }
     ensures beside { M.told → Keeps (M.beside machine.old) (M.beside machine.new) }
     ensures counts { M.faults machine.old ≤ M.faults machine.new }
-    ensures device { M.broken machine.old ≡ false → OnErr result (Rose (M.faults machine.old) (M.faults machine.new)) }
+    ensures cause { M.broken machine.old ≡ false → IsCounted result (M.faults machine.old) (M.faults machine.new) }
     ensures going_on { M.broken machine.old ≡ false → OnOk result (M.broken machine.new ≡ false) }
 {
     let Some(room) = line.room.take() else {
@@ -85,6 +85,8 @@ pub fn answer<M: Steps, K: Sink>(
     ensures sink_counts { K.faults sink.old ≤ K.faults sink.new }
     ensures device { M.broken machine.old ≡ false → result ≡ Err Device → Rose (M.faults machine.old) (M.faults machine.new) }
     ensures sink { result ≡ Err SinkFault → Rose (K.faults sink.old) (K.faults sink.new) }
+    ensures calm { M.broken machine.old ≡ false → result ≢ Err Device → M.faults machine.new ≡ M.faults machine.old }
+    ensures sink_calm { result ≢ Err SinkFault → K.faults sink.new ≡ K.faults sink.old }
     ensures going_on { M.broken machine.old ≡ false → result ≢ Err Device → M.broken machine.new ≡ false }
 {
     let Ok(reply) = take_step(alloc, machine, line) else {

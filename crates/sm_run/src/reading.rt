@@ -1,7 +1,7 @@
 //! Reading a line from a source, byte by byte.
 
 ghost use Rattle.std.specs.Prelude.{◌≡◌, ◌≤◌, OnErr, IfOk};
-ghost use Rattle.sm_disk.specs.Held.{Rose};
+ghost use Rattle.sm_disk.specs.Held.{IsCounted};
 ghost use Rattle.sm_run.specs.Parts.{Gives, HasRead};
 
 use crate::buffers::LineBuffer;
@@ -24,7 +24,7 @@ pub fn next_byte<S: Source>(source: &mut S) -> Result<Option<u8>, Failed>
     ensures gives { IfOk result (λ byte. Gives byte (S.content source.old) (S.content source.new)) }
     ensures unchanged { OnErr result (S.content source.new ≡ S.content source.old) }
     ensures counts { S.faults source.old ≤ S.faults source.new }
-    ensures cause { OnErr result (Rose (S.faults source.old) (S.faults source.new)) }
+    ensures cause { IsCounted result (S.faults source.old) (S.faults source.new) }
 {
     let mut byte = [0];
     let count = source.read(&mut byte)?;
@@ -43,7 +43,7 @@ pub fn read_line<S: Source>(
 ) -> Result<Ending, Failed>
     ensures read { HasRead result (S.content source.old) (S.content source.new) room.old room.new line.new }
     ensures counts { S.faults source.old ≤ S.faults source.new }
-    ensures cause { OnErr result (Rose (S.faults source.old) (S.faults source.new)) }
+    ensures cause { IsCounted result (S.faults source.old) (S.faults source.new) }
 {
     line.clear();
     'bytes: loop {

@@ -46,6 +46,9 @@ pub fn run<M: Steps, S: Source, K: Sink>(
         → Rose (M.faults machine.old) (M.faults machine.new) }
     ensures source { result ≡ Err fault.Source → Rose (S.faults source.old) (S.faults source.new) }
     ensures sink { result ≡ Err fault.Sink → Rose (K.faults sink.old) (K.faults sink.new) }
+    ensures calm { M.broken machine.old ≡ false → result ≢ Err fault.Device → M.faults machine.new ≡ M.faults machine.old }
+    ensures source_calm { result ≢ Err fault.Source → S.faults source.new ≡ S.faults source.old }
+    ensures sink_calm { result ≢ Err fault.Sink → K.faults sink.new ≡ K.faults sink.old }
     ensures going_on { M.broken machine.old ≡ false → result ≢ Err fault.Device → M.broken machine.new ≡ false }
     ensures site { M.site machine.new ≡ M.site machine.old }
     ensures beside { M.told → Keeps (M.beside machine.old) (M.beside machine.new) }

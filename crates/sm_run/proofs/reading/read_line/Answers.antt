@@ -1,4 +1,4 @@
-use Rattle.std.proofs.Common.{◌<◌, arith}
+use Rattle.std.proofs.Common.{◌<◌, arith, refl, ◌∙◌}
 use Rattle.std.proofs.lemmas.Bool.Decides.{nat_tests}
 use Rattle.sm_run.proofs.ReadLaws.{reading-begins, reading-goes_on}
 use Rattle.sm_run.proofs.reading.read_line.Goals as goal
@@ -6,7 +6,7 @@ use Rattle.sm_run.proofs.reading.read_line.Goals as goal
 pub bytes-init : goal.bytes-init
 bytes-init g c = record {
   read = reading-begins (g.S.Source.content c.args.source.now) c.args.room.now c.clear.new.self c.clear.ensures;
-  counts = omega arith;
+  calm = refl;
 }
 
 pub bytes-preserved : goal.bytes-preserved
@@ -15,5 +15,5 @@ bytes-preserved g c =
     record {
       read = reading-goes_on _ _ _ c.args.room.now c.bytes.room _ _ c.in-Some.byte c.bytes.invariant.read (rw c.in-Some.is at c.in_ok-byte.ensures.gives)
           (grind (arith, nat_tests, c.if-byte-eq10.false)) some c.push.ensures;
-      counts = omega (arith, c.bytes.invariant.counts, c.next_byte.ensures.counts);
+      calm = c.in_ok-byte.ensures.cause.1 ∙ c.bytes.invariant.calm;
     }

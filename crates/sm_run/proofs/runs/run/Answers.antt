@@ -1,7 +1,7 @@
 use Rattle.std.proofs.Common.{◌∙◌, sym, arith, refl}
 use Rattle.std.proofs.lemmas.Result.{err_from_is_err_and}
 use Rattle.sm_disk.proofs.HeldLaws.{Keeps-none, Keeps-then}
-use Rattle.sm_run.proofs.RunLaws.{empty-buffer, empty-front, ok-not_device, run-cut_line, run-done, run-failed, run-last, run-past, so_far-begins, so_far-faces, so_far-more, some-line}
+use Rattle.sm_run.proofs.RunLaws.{empty-buffer, empty-front, ok-no_fault, run-cut_line, run-done, run-failed, run-last, run-past, so_far-begins, so_far-faces, so_far-more, some-line}
 use Rattle.sm_run.proofs.runs.run.Goals as goal
 
 pub lines-init : goal.lines-init
@@ -11,9 +11,10 @@ lines-init g c = record {
   going_on = λ h. h;
   site = refl;
   beside = λ told. Keeps-none (g.M.Steps.beside c.args.machine.now);
-  device_counts = omega arith;
-  source_counts = omega arith;
-  sink_counts = omega arith;
+  calm = λ _. refl;
+  counts = omega arith;
+  source_calm = refl;
+  sink_calm = refl;
 }
 
 pub returns-in-Err-clause-run : goal.returns-in-Err-clause-run
@@ -53,12 +54,13 @@ lines-preserved g c = record {
       let so = c.lines.invariant.run told ready kept begins in
       so_far-more _ _ _ _ _ _ _ _ _ _ _ (g.M.Steps.leaves c.lines.machine) (g.M.Steps.leaves c.answer-in-Ok-Newline.new.machine) _ _ _ _ r.bytes so r.in_line r.ends.0 r.ends.1
       (c.in_ok-answer-in-Ok-Newline.ensures.answered told so.ready so.kept (so_far-faces _ _ _ _ _ _ _ (g.M.Steps.leaves c.lines.machine) _ _ so) r.bytes r.kept);
-  going_on = λ h. c.answer-in-Ok-Newline.ensures.going_on (c.lines.invariant.going_on h) (ok-not_device _ _ c.in_ok-answer-in-Ok-Newline.was);
+  going_on = λ h. c.answer-in-Ok-Newline.ensures.going_on (c.lines.invariant.going_on h) (ok-no_fault _ _ _ c.in_ok-answer-in-Ok-Newline.was);
   site = c.answer-in-Ok-Newline.ensures.site ∙ c.lines.invariant.site;
   beside = λ told. Keeps-then (c.lines.invariant.beside told) (c.answer-in-Ok-Newline.ensures.beside told);
-  device_counts = omega (arith, c.lines.invariant.device_counts, c.answer-in-Ok-Newline.ensures.counts);
-  source_counts = omega (arith, c.lines.invariant.source_counts, c.read_line.ensures.counts);
-  sink_counts = omega (arith, c.lines.invariant.sink_counts, c.answer-in-Ok-Newline.ensures.sink_counts);
+  calm = λ h. c.answer-in-Ok-Newline.ensures.calm (c.lines.invariant.going_on h) (ok-no_fault _ _ _ c.in_ok-answer-in-Ok-Newline.was) ∙ c.lines.invariant.calm h;
+  counts = omega (arith, c.lines.invariant.counts, c.answer-in-Ok-Newline.ensures.counts);
+  source_calm = c.in-Ok-Newline.ensures.cause.1 ∙ c.lines.invariant.source_calm;
+  sink_calm = c.answer-in-Ok-Newline.ensures.sink_calm (ok-no_fault _ _ _ c.in_ok-answer-in-Ok-Newline.was) ∙ c.lines.invariant.sink_calm;
 }
 
 pub returns-in_err-answer-in-Ok-Newline-clause-run : goal.returns-in_err-answer-in-Ok-Newline-clause-run

@@ -13,9 +13,10 @@ invariant-lines g l = record {
   going_on : g.M.Steps.broken l.fn.machine ≡ false → g.M.Steps.broken l.machine ≡ false;
   site : g.M.Steps.site l.machine ≡ g.M.Steps.site l.fn.machine;
   beside : g.M.Steps.told → Keeps (g.M.Steps.beside l.fn.machine) (g.M.Steps.beside l.machine);
-  device_counts : g.M.Steps.faults l.fn.machine ≤ g.M.Steps.faults l.machine;
-  source_counts : g.S.Source.faults l.fn.source ≤ g.S.Source.faults l.source;
-  sink_counts : g.K.Sink.faults l.fn.sink ≤ g.K.Sink.faults l.sink;
+  calm : g.M.Steps.broken l.fn.machine ≡ false → g.M.Steps.faults l.machine ≡ g.M.Steps.faults l.fn.machine;
+  counts : g.M.Steps.faults l.fn.machine ≤ g.M.Steps.faults l.machine;
+  source_calm : g.S.Source.faults l.source ≡ g.S.Source.faults l.fn.source;
+  sink_calm : g.K.Sink.faults l.sink ≡ g.K.Sink.faults l.fn.sink;
 }
 
 abbrev pub decreases-lines : goal.decreases-lines
