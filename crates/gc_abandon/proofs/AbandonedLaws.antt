@@ -26,6 +26,7 @@ use Rattle.vhd_chain.specs.Trees.{Tree}
 use Rattle.sm_standing.specs.Standing.{disks}
 use Rattle.sm_ready.specs.Does.{IsKeptUp, StoreDoes, store_shape}
 use Rattle.sm_ready.specs.Done.{HasDone}
+use Rattle.sm_ready.specs.Framing.{IsBetweenSteps, StepsOn}
 use Rattle.sm_ready.specs.Known.{Known, entry_of, known, shape_in}
 use Rattle.sm_ready.specs.Orderly.{IsOrderly}
 use Rattle.sm_ready.specs.Ready.{IsReady}
@@ -150,22 +151,20 @@ disks_abandoned ds s Stat = refl
 -- what `give_up` says where it succeeded
 pub record GaveUp {S : Type 0} (g : Ghosts S) (u : List ℕ) (a : S) (m : Memory) (b : S) (k : Memory) : Type 0 where
   pub site : g.site b ≡ g.site a
-  pub usable : g.failed b ≡ false
-  pub orderly : IsOrderlyStore g b k
+  pub session : IsBetweenSteps g b k
   pub shape : store_shape g b k ≡ abandoned_where (folds m.operation u) (store_shape g a m)
   pub none : folds m.operation u ≡ false → (b ≡ a) × (k ≡ m)
   pub done : folds m.operation u ≡ true → g.told → IsReadyStore g a m
       → IsReady (g.site a) (tab g b) (g.area b) (known k) × IsSettled (g.area b) × (disks (content_now (g.site a) (tab g b) (g.area b)) ≡ disks (store_content g a))
 
 -- it is so by the clauses of a call that succeeded
-pub gave_up : {S : Type 0} {g : Ghosts S} {u : List ℕ} {a b : S} {m k : Memory} {fine : Type 0} → g.site b ≡ g.site a → g.failed b ≡ false → IsOrderlyStore g b k
+pub gave_up : {S : Type 0} {g : Ghosts S} {u : List ℕ} {a b : S} {m k : Memory} {fine : Type 0} → StepsOn g 1 a b → IsBetweenSteps g b k
     → store_shape g b k ≡ abandoned_where (folds m.operation u) (store_shape g a m) → (folds m.operation u ≡ false → fine × (b ≡ a) × (k ≡ m))
     → (folds m.operation u ≡ true → g.told → IsReadyStore g a m
     → HasDone (g.site a) (tab g a) (tab g b) (g.area a) (g.area b) (known k) (StoreLeaves g a) (StoreLeaves g b) fine (disks (store_content g a))) → fine → GaveUp g u a m b k
-gave_up site usable orderly shape none done is = record {
-  site = site;
-  usable = usable;
-  orderly = orderly;
+gave_up step session shape none done is = record {
+  site = step.site;
+  session = session;
   shape = shape;
   none = λ no. let same = none no in (same.1, same.2);
   done = λ folded told ready. let d = done folded told ready in (d.ready is, d.settled is, d.shown is);
@@ -205,11 +204,11 @@ module _ {S : Type 0} {g : Ghosts S} {u : List ℕ} {a b : S} {m k : Memory} (w 
         by false is = ap (λ σ. shape_next σ c) (shape_where false is)
 
   -- what it does
-  pub then_does : {e : S} (n : Memory) (ok : Type 0) (c : Command) → IsOrderlyStore g a m → g.failed a ≡ false → g.told → IsReadyStore g a m
+  pub then_does : {e : S} (n : Memory) (ok : Type 0) (c : Command) → IsBetweenSteps g a m → g.told → IsReadyStore g a m
       → ((v : VolumeTable) (image : ℕ → List ℕ) → g.leaves a v image → IsChoiceOf (stored g a) v image)
       → ((v : VolumeTable) (image : ℕ → List ℕ) → g.leaves b v image → IsChoiceOf (stored g b) v image)
       → (IsReadyStore g b k → StoreDoes g c b k e n ok) → StoreDoes g c a m e n ok
-  then_does {e} n ok c o usable told ready now mid_now does = by (folds m.operation u) refl
+  then_does {e} n ok c session told ready now mid_now does = by (folds m.operation u) refl
     where
       by : (f : Bool) → folds m.operation u ≡ f → StoreDoes g c a m e n ok
       by false is =
@@ -219,7 +218,7 @@ module _ {S : Type 0} {g : Ghosts S} {u : List ℕ} {a b : S} {m k : Memory} (w 
           let d = w.done is told ready in
           let made = subst (λ s. IsReady s (tab g b) (g.area b) (known k)) (sym w.site) d.0 in
           let same = ap (λ s. disks (content_now s (tab g b) (g.area b))) w.site ∙ d.2 in
-          then_done (is_told g a m o usable told ready now) (is_told g b k w.orderly w.usable told made mid_now) w.site d.1 same (known n) ok (disks_next (disks (store_content g a)) (store_shape g a m) c)
+          then_done (is_told g a m session.orderly session.usable told ready now) (is_told g b k w.session.orderly w.session.usable told made mid_now) w.site d.1 same (known n) ok (disks_next (disks (store_content g a)) (store_shape g a m) c)
           (subst (λ ds. HasDone (g.site b) (tab g b) (tab g e) (g.area b) (g.area e) (known n) (StoreLeaves g b) (StoreLeaves g e) ok ds)
           (ap₂ (λ ds σ. disks_next ds σ c) same (shape_where true is) ∙ disks_abandoned (disks (store_content g a)) (store_shape g a m) c) (does made))
 

@@ -31,6 +31,7 @@ use Rattle.sm_standing.proofs.UndoneLaws.{named_found}
 use Rattle.sm_ready.specs.Does.{store_shape}
 use Rattle.sm_ready.specs.Done.{HasDone, IsCommit, at_rest}
 use Rattle.sm_ready.specs.Frames.{HasTrueImages}
+use Rattle.sm_ready.specs.Framing.{IsBetweenSteps}
 use Rattle.sm_ready.specs.Known.{Known, entry_of, known, shape_in}
 use Rattle.sm_ready.specs.Orderly.{IsOrderly, IsRoomyIn}
 use Rattle.sm_ready.specs.Ready.{IsBelow, IsReady, IsTidy}
@@ -43,6 +44,7 @@ use Rattle.sm_ready.proofs.FitLaws.{fits_orderly}
 use Rattle.sm_ready.proofs.FrameLaws.{true_kept, volume_commits}
 use Rattle.sm_ready.proofs.OperationLaws.{WorksAt, below_alike, works_there}
 use Rattle.sm_ready.proofs.Orders.{named_row}
+use Rattle.sm_ready.proofs.RoomLaws.{rows_commits}
 use Rattle.sm_ready.proofs.RowLaws.{image_named}
 use Rattle.sm_ready.proofs.TakenLaws.{IsTold}
 use Rattle.gc_abandon.specs.Abandoning.{folding}
@@ -169,6 +171,18 @@ module _ {S : Type 0} (g : Ghosts S) (a : S) (m : Memory) {x : Op} {change : Cha
       volume_commits r h.orderly.table h.permits (λ of.
           true≢false (sym (h.of_entries (row_name r) of) ∙ image-no_entry (row_name r) (image_named (row_name r) (named_row (g.site a) (tab g a) (known m) r h.orderly i)))) c told,
     ))
+
+    -- the session is between two steps, as it was
+    pub between_end : IsBetweenSteps g a m → IsBetweenSteps g b ended
+    between_end i = record {
+      usable = c.usable;
+      orderly = orderly_end;
+      tidy = tidy_end i.tidy;
+      true_images = true_end i.true_images;
+      rows = rows_commits (can_end i.usable) c i.rows;
+      tree_room = i.tree_room;
+      attachment_room = i.attachment_room;
+    }
 
     pub done_end : IsTold g a m → ((v : VolumeTable) (image : ℕ → List ℕ) → g.leaves b v image → IsEitherOf (stored g a) change v image) → (ok : Type 0)
         → HasDone (g.site a) (tab g a) (tab g b) (g.area a) (g.area b) (known ended) (StoreLeaves g a) (StoreLeaves g b) ok (disks (store_content g a))

@@ -1,6 +1,6 @@
 //! The fold of a leaf is given up: the journal entry of the operation goes, by one commit.
 
-ghost use Rattle.std.specs.Prelude.{◌≡◌, ◌≤◌, ℕ, true, false, [], ◌∷◌, OnErr, OnOk};
+ghost use Rattle.std.specs.Prelude.{◌≡◌, ℕ, true, false, [], ◌∷◌, OnErr, OnOk};
 ghost use Rattle.std.specs.declared.result.Result.TheVariants.{Ok};
 ghost use Rattle.sm_base.specs.declared.names.Name.{Name as NameModel};
 ghost use Rattle.sm_base.specs.declared.names.Name.TheVariants.{Leaf};
@@ -8,16 +8,16 @@ ghost use Rattle.sm_base.specs.declared.operations.Op.TheVariants as op;
 ghost use Rattle.sm_disk.specs.Held.{Keeps};
 ghost use Rattle.vg_meta.specs.Roomy.{table_alone};
 ghost use Rattle.vg_meta.specs.declared.changes.Change.TheVariants.{Remove};
-ghost use Rattle.vg_volumes.specs.Stored.{Commits, Counts, Leaves};
+ghost use Rattle.vg_volumes.specs.Stored.{Commits, Counts};
 ghost use Rattle.sm_machine.specs.Commits.{folds};
 ghost use Rattle.sm_machine.specs.Shapes.{image_uuid};
 ghost use Rattle.sm_machine.specs.WellFormed.{is_image_name};
 ghost use Rattle.sm_standing.specs.Standing.{disks};
 ghost use Rattle.sm_ready.specs.Does.{store_shape};
 ghost use Rattle.sm_ready.specs.Done.{HasDone};
-ghost use Rattle.sm_ready.specs.Frames.{HasCommits, HasTrueImages};
+ghost use Rattle.sm_ready.specs.Framing.{IsBetweenSteps, StepsOn};
 ghost use Rattle.sm_ready.specs.Known.{entry_of, known};
-ghost use Rattle.sm_ready.specs.Sessions.{HasRows, IsOrderlyStore, IsReadyStore, IsTidyStore};
+ghost use Rattle.sm_ready.specs.Sessions.{IsReadyStore};
 ghost use Rattle.sm_ready.specs.Stores.{StoreLeaves, store_content};
 ghost use Rattle.gc_abandon.specs.Abandoning.{abandoned, abandoned_where, folding, unfolded};
 
@@ -58,24 +58,14 @@ pub fn leaf_entry(leaf: &Name, parent: &Name) -> Name
 ///
 /// A call of the store failed; a stop leaves the disks from before.
 fn abandon_leaf<S: Store>(store: &mut S, memory: &mut Memory) -> Result<(), Failed>
-    requires usable { S.failed store.old ≡ false }
-    requires orderly { IsOrderlyStore S.Store store.old memory.old }
-    requires true_now { HasTrueImages S.Store store.old memory.old }
+    requires session { IsBetweenSteps S.Store store.old memory.old }
     requires folding { folding memory.old.operation ≡ true }
-    ensures site { S.site store.new ≡ S.site store.old }
-    ensures counts { S.faults store.old ≤ S.faults store.new }
+    ensures step { StepsOn S.Store 1 store.old store.new }
     ensures cause { Counts S.Store result store.old store.new }
-    ensures beside { S.told → Keeps (S.beside store.old) (S.beside store.new) }
-    ensures few { HasCommits 1 (table_alone (S.table store.old)) (table_alone (S.table store.new)) }
-    ensures few_left { Leaves S.Store store.new (λ t image. HasCommits 1 (table_alone (S.table store.old)) t) }
+    ensures session_still { OnOk result (IsBetweenSteps S.Store store.new memory.new) }
     ensures keeps { S.told → Keeps (S.area store.old) (S.area store.new) }
-    ensures usable_still { OnOk result (S.failed store.new ≡ false) }
     ensures operation { OnOk result (memory.new.operation ≡ op.Idle) }
     ensures others { (memory.new.tree ≡ memory.old.tree) × (memory.new.records ≡ memory.old.records) × (memory.new.attached ≡ memory.old.attached) }
-    ensures room { HasRows (S.table store.old) → OnOk result (HasRows (S.table store.new)) }
-    ensures orderly_still { OnOk result (IsOrderlyStore S.Store store.new memory.new) }
-    ensures tidy_still { IsTidyStore S.Store store.old memory.old → OnOk result (IsTidyStore S.Store store.new memory.new) }
-    ensures true_still { OnOk result (HasTrueImages S.Store store.new memory.new) }
     ensures commits { OnOk result ((e : NameModel) → entry_of memory.old.operation ≡ e ∷ [] → Commits S.Store (Remove e) store.old store.new) }
     ensures shape { OnOk result (store_shape S.Store store.new memory.new ≡ abandoned (store_shape S.Store store.old memory.old)) }
     ensures done { S.told → IsReadyStore S.Store store.old memory.old
@@ -109,23 +99,13 @@ fn is_folded(operation: &Op, disk: &Uuid) -> bool
 ///
 /// A call of the store failed; a stop leaves the disks from before.
 pub fn give_up<S: Store>(store: &mut S, memory: &mut Memory, disk: &Uuid) -> Result<(), Failed>
-    requires usable { S.failed store.old ≡ false }
-    requires orderly { IsOrderlyStore S.Store store.old memory.old }
-    requires true_now { HasTrueImages S.Store store.old memory.old }
-    ensures site { S.site store.new ≡ S.site store.old }
-    ensures counts { S.faults store.old ≤ S.faults store.new }
+    requires session { IsBetweenSteps S.Store store.old memory.old }
+    ensures step { StepsOn S.Store 1 store.old store.new }
     ensures cause { Counts S.Store result store.old store.new }
-    ensures beside { S.told → Keeps (S.beside store.old) (S.beside store.new) }
-    ensures few { HasCommits 1 (table_alone (S.table store.old)) (table_alone (S.table store.new)) }
-    ensures few_left { Leaves S.Store store.new (λ t image. HasCommits 1 (table_alone (S.table store.old)) t) }
+    ensures session_still { OnOk result (IsBetweenSteps S.Store store.new memory.new) }
     ensures keeps { S.told → Keeps (S.area store.old) (S.area store.new) }
-    ensures usable_still { OnOk result (S.failed store.new ≡ false) }
     ensures operation { OnOk result (memory.new.operation ≡ unfolded memory.old.operation disk.now) }
     ensures others { (memory.new.tree ≡ memory.old.tree) × (memory.new.records ≡ memory.old.records) × (memory.new.attached ≡ memory.old.attached) }
-    ensures room { HasRows (S.table store.old) → OnOk result (HasRows (S.table store.new)) }
-    ensures orderly_still { OnOk result (IsOrderlyStore S.Store store.new memory.new) }
-    ensures tidy_still { IsTidyStore S.Store store.old memory.old → OnOk result (IsTidyStore S.Store store.new memory.new) }
-    ensures true_still { OnOk result (HasTrueImages S.Store store.new memory.new) }
     ensures none { folds memory.old.operation disk.now ≡ false → (result ≡ Ok tt) × (store.new ≡ store.old) × (memory.new ≡ memory.old) }
     ensures commits { OnOk result (folds memory.old.operation disk.now ≡ true
         → (e : NameModel) → entry_of memory.old.operation ≡ e ∷ [] → Commits S.Store (Remove e) store.old store.new) }

@@ -35,6 +35,8 @@ use Rattle.sm_standing.specs.Standing.{disks}
 use Rattle.sm_ready.specs.Does.{ShapesAs, StoreDoes}
 use Rattle.sm_ready.specs.Done.{HasDone, IsCommit}
 use Rattle.sm_ready.specs.Frames.{HasTrueImages}
+use Rattle.sm_ready.specs.Framing.{IsBetweenSteps}
+use Rattle.sm_ready.proofs.RoomLaws.{rows_commits}
 use Rattle.sm_ready.specs.Known.{Known, is_shown, known, machine_row, shape_in}
 use Rattle.sm_ready.specs.Orderly.{IsOrderly}
 use Rattle.sm_ready.specs.Ready.{IsTidy}
@@ -208,16 +210,16 @@ module _ {S : Type 0} (g : Ghosts S) (a : S) (m : Memory) {x : Name} (h : IsToRe
     memory : known after ≡ without_row x (known m)
     memory = ap (λ rs. let k : Known = record (known m) { rows = rs } in k) (less ∙ rows_less h)
 
-    pub orderly_end : IsOrderlyStore g b after
+    orderly_end : IsOrderlyStore g b after
     orderly_end = subst₂ (λ y z. IsOrderly y z (known after)) (sym c.site) (sym c.table) (subst (IsOrderly (g.site a) (applied (tab g a) (Remove x))) (sym memory) (orderly_less h))
 
-    pub tidy_end : IsTidyStore g b after
+    tidy_end : IsTidyStore g b after
     tidy_end = subst₂ IsTidy (sym c.table) (sym memory) (tidy_less h)
 
     pub shape_end : ShapesAs g Gc a m b after
     shape_end = ap₂ (λ y z. shape_in y z (known after)) c.site c.table ∙ ap (shape_in (g.site a) (applied (tab g a) (Remove x))) memory ∙ shape_less h
 
-    pub true_end : HasTrueImages g a m → HasTrueImages g b after
+    true_end : HasTrueImages g a m → HasTrueImages g b after
     true_end = true_kept g m after c.site (λ told r i.
         let w = In-filter (λ q. not (has_name x q)) m.tree.rows r (subst (In r) less i) in
         (w.0, volume_commits r h.orderly.table (may_go h) (λ same. true≢false (sym w.1 ∙ ap not (name_eq-same (row_name r) x same))) c told))
@@ -226,6 +228,18 @@ module _ {S : Type 0} (g : Ghosts S) (a : S) (m : Memory) {x : Name} (h : IsToRe
     unfolding disks_next
     done_end k stop ok = subst₂ (λ z y. HasDone (g.site a) (tab g a) z (g.area a) (g.area b) y (StoreLeaves g a) (StoreLeaves g b) ok (disks (store_content g a))) (sym c.table) (sym memory)
         (done_less k b ok (commit_made g (Remove x) ok refl refl k.told c stop))
+
+    -- the session is between two steps, as it was
+    pub between_end : HasTreeRoom after → IsBetweenSteps g a m → IsBetweenSteps g b after
+    between_end room i = record {
+      usable = c.usable;
+      orderly = orderly_end;
+      tidy = tidy_end;
+      true_images = true_end i.true_images;
+      rows = rows_commits (can_remove i.usable) c i.rows;
+      tree_room = room;
+      attachment_room = i.attachment_room;
+    }
 
   -- the commit failed
   pub failed_end : IsTold g a m → {b : S} (n : Memory) (ok : Type 0) → (ok → ⊥) → FailsToCommit g a b

@@ -4,15 +4,15 @@
 //! child's size. Neither changes a disk, since the parent is hidden and has no other child. So a stop before the entry leaves the
 //! disks from before, and behind it too, as nothing is copied yet. The entry's commit makes the parent's new footers last.
 
-ghost use Rattle.std.specs.Prelude.{◌≡◌, ◌≤◌, ◌<◌, ℕ, List, IsSome, true, false, OnErr, OnOk};
+ghost use Rattle.std.specs.Prelude.{◌≡◌, ◌<◌, ℕ, List, IsSome, true, OnOk};
 ghost use Rattle.std.specs.declared.result.Result.TheVariants.{Ok, Err};
 ghost use Rattle.sm_base.specs.declared.faults.CallFault.TheVariants as fault;
 ghost use Rattle.sm_base.specs.declared.operations.Op.TheVariants as op;
 ghost use Rattle.vg_meta.specs.Tables.{VolumeTable};
 ghost use Rattle.sm_base.specs.declared.operations.Plan.TheVariants as plan;
-ghost use Rattle.sm_disk.specs.Held.{Keeps, Rose, reads};
+ghost use Rattle.sm_disk.specs.Held.{reads};
 ghost use Rattle.vg_meta.specs.Roomy.{table_alone};
-ghost use Rattle.vg_volumes.specs.Stored.{Counts, Leaves, OnlyReads, Stays};
+ghost use Rattle.vg_volumes.specs.Stored.{Counts, OnlyReads, Stays};
 ghost use Rattle.vhd_chain.specs.Trees.{tree_row};
 ghost use Rattle.sm_machine.specs.Collector.{next_step};
 ghost use Rattle.sm_machine.specs.WellFormed.{is_image_name};
@@ -20,10 +20,11 @@ ghost use Rattle.sm_machine.specs.declared.commands.Command.TheVariants as comma
 ghost use Rattle.sm_standing.specs.Standing.{disks};
 ghost use Rattle.sm_ready.specs.Does.{ShapesAs, StoreDoes, store_shape};
 ghost use Rattle.sm_ready.specs.Done.{HasDone, at_rest};
-ghost use Rattle.sm_ready.specs.Frames.{HasCommits, HasTrueImages, IsBesideTree};
+ghost use Rattle.sm_ready.specs.Frames.{IsBesideTree};
+ghost use Rattle.sm_ready.specs.Framing.{CountsDevice, IsBetweenSteps, StepsOn};
 ghost use Rattle.sm_ready.specs.Known.{known};
 ghost use Rattle.sm_ready.specs.Ready.{IsReady};
-ghost use Rattle.sm_ready.specs.Sessions.{HasRows, HasTreeRoom, IsOrderlyStore, IsReadyStore, IsTidyStore};
+ghost use Rattle.sm_ready.specs.Sessions.{HasRows, IsReadyStore};
 ghost use Rattle.sm_ready.specs.Stores.{StoreLeaves, content_now, store_content};
 ghost use Rattle.gc_coalesce.specs.Beginning.{CanBegin, CanEnter, IsWidened, KeepsExtents, LeavesStill, begins, copy_entry as entry_in, entered, raised, sectors_of};
 ghost use Rattle.gc_coalesce.specs.Copying.{copy_of};
@@ -56,7 +57,7 @@ fn size_of(tree: &Tree, name: &Name) -> u64
 /// stands counts.
 fn make_room<S: Store>(store: &mut S) -> Result<(), NoMemory>
     ensures reads { OnlyReads S.Store store.old store.new }
-    ensures same { S.area store.new ≡ S.area store.old }
+    ensures same { (S.area store.new ≡ S.area store.old) × (S.faults store.new ≡ S.faults store.old) }
     ensures leaves { (t : VolumeTable) (image : ℕ → List ℕ) → S.leaves store.new t image → S.leaves store.old t image }
     ensures room { OnOk result (HasRows (S.table store.new)) }
 {
@@ -73,17 +74,12 @@ fn raise<S: Store>(
     child: &Name,
     parent: &Name,
 ) -> Result<(), Failed>
-    requires usable { S.failed store.old ≡ false }
-    requires orderly { IsOrderlyStore S.Store store.old memory.old }
-    requires tidy { IsTidyStore S.Store store.old memory.old }
-    requires true_now { HasTrueImages S.Store store.old memory.old }
+    requires session { IsBetweenSteps S.Store store.old memory.old }
     requires can { CanEnter (store_shape S.Store store.old memory.old) child.now parent.now }
     ensures stays { Stays S.Store store.old store.new }
     ensures cause { Counts S.Store result store.old store.new }
     ensures others { IsBesideTree memory.old memory.new }
-    ensures orderly_still { OnOk result (IsOrderlyStore S.Store store.new memory.new) }
-    ensures tidy_still { OnOk result (IsTidyStore S.Store store.new memory.new) }
-    ensures true_still { OnOk result (HasTrueImages S.Store store.new memory.new) }
+    ensures session_still { OnOk result (IsBetweenSteps S.Store store.new memory.new) }
     ensures shape { OnOk result (store_shape S.Store store.new memory.new ≡ raised child.now parent.now (store_shape S.Store store.old memory.old)) }
     ensures safe { S.told → IsReadyStore S.Store store.old memory.old
         → LeavesStill (S.site store.old) (table_alone (S.table store.old)) (S.area store.new) (StoreLeaves S.Store store.old) (disks (store_content S.Store store.old)) }
@@ -145,26 +141,14 @@ fn enter<S: Store>(
     child: &Name,
     parent: &Name,
 ) -> Result<(), Failed>
-    requires usable { S.failed store.old ≡ false }
-    requires orderly { IsOrderlyStore S.Store store.old memory.old }
-    requires tidy { IsTidyStore S.Store store.old memory.old }
-    requires true_now { HasTrueImages S.Store store.old memory.old }
+    requires session { IsBetweenSteps S.Store store.old memory.old }
     requires row { 0 < (S.table store.old).spare }
     requires can { CanBegin (store_shape S.Store store.old memory.old) hidden child.now parent.now }
-    ensures site { S.site store.new ≡ S.site store.old }
-    ensures counts { S.faults store.old ≤ S.faults store.new }
+    ensures step { StepsOn S.Store 1 store.old store.new }
     ensures cause { Counts S.Store result store.old store.new }
-    ensures beside { S.told → Keeps (S.beside store.old) (S.beside store.new) }
-    ensures few { HasCommits 1 (table_alone (S.table store.old)) (table_alone (S.table store.new)) }
-    ensures few_left { Leaves S.Store store.new (λ t image. HasCommits 1 (table_alone (S.table store.old)) t) }
-    ensures usable_still { OnOk result (S.failed store.new ≡ false) }
     ensures operation { OnOk result (memory.new.operation ≡ copy_of hidden child.now parent.now 0) }
     ensures others { (memory.new.records ≡ memory.old.records) × (memory.new.attached ≡ memory.old.attached) }
-    ensures room { HasRows (S.table store.old) → OnOk result (HasRows (S.table store.new)) }
-    ensures tree_room { HasTreeRoom memory.old → HasTreeRoom memory.new }
-    ensures orderly_still { OnOk result (IsOrderlyStore S.Store store.new memory.new) }
-    ensures tidy_still { OnOk result (IsTidyStore S.Store store.new memory.new) }
-    ensures true_still { OnOk result (HasTrueImages S.Store store.new memory.new) }
+    ensures session_still { OnOk result (IsBetweenSteps S.Store store.new memory.new) }
     ensures extents { OnOk result (KeepsExtents (table_alone (S.table store.old)) (table_alone (S.table store.new))) }
     ensures shape { OnOk result (store_shape S.Store store.new memory.new ≡ entered hidden child.now parent.now (store_shape S.Store store.old memory.old)) }
     ensures done { S.told → IsReadyStore S.Store store.old memory.old
@@ -189,30 +173,16 @@ fn fold<S: Store>(
     parent: &Name,
     to: u32,
 ) -> Result<(), CallFault>
-    requires usable { S.failed store.old ≡ false }
-    requires orderly { IsOrderlyStore S.Store store.old memory.old }
-    requires tidy { IsTidyStore S.Store store.old memory.old }
-    requires true_now { HasTrueImages S.Store store.old memory.old }
-    requires tree_room { HasTreeRoom memory.old }
+    requires session { IsBetweenSteps S.Store store.old memory.old }
     requires planned { next_step (store_shape S.Store store.old memory.old) ≡ begins hidden child.now parent.now to }
-    ensures site { S.site store.new ≡ S.site store.old }
-    ensures counts { S.faults store.old ≤ S.faults store.new }
-    ensures cause { result ≡ Err fault.Device → Rose (S.faults store.old) (S.faults store.new) }
-    ensures beside { S.told → Keeps (S.beside store.old) (S.beside store.new) }
-    ensures few { HasCommits 4 (table_alone (S.table store.old)) (table_alone (S.table store.new)) }
-    ensures few_left { Leaves S.Store store.new (λ t image. HasCommits 4 (table_alone (S.table store.old)) t) }
-    ensures usable_still { OnOk result (S.failed store.new ≡ false) }
+    ensures step { StepsOn S.Store 4 store.old store.new }
+    ensures cause { CountsDevice S.Store result store.old store.new }
     ensures poor { result ≡ Err fault.NoMemory
         → OnlyReads S.Store store.old store.new × ((t : VolumeTable) (image : ℕ → List ℕ) → S.leaves store.new t image → S.leaves store.old t image)
-        × (memory.new ≡ memory.old) × (S.failed store.new ≡ false) }
-    ensures true_poor { result ≡ Err fault.NoMemory → HasTrueImages S.Store store.new memory.new }
+        × (memory.new ≡ memory.old) }
     ensures operation { OnOk result (memory.new.operation ≡ copy_of hidden child.now parent.now 0) }
     ensures others { (memory.new.records ≡ memory.old.records) × (memory.new.attached ≡ memory.old.attached) }
-    ensures room { HasRows (S.table store.old) → OnOk result (HasRows (S.table store.new)) }
-    ensures tree_room_still { OnOk result (HasTreeRoom memory.new) }
-    ensures orderly_still { OnOk result (IsOrderlyStore S.Store store.new memory.new) }
-    ensures tidy_still { OnOk result (IsTidyStore S.Store store.new memory.new) }
-    ensures true_still { OnOk result (HasTrueImages S.Store store.new memory.new) }
+    ensures session_still { OnOk result (IsBetweenSteps S.Store store.new memory.new) }
     ensures least { OnOk result (IsWidened (S.site store.old).count (table_alone (S.table store.old)) parent.now to (table_alone (S.table store.new))) }
     ensures shape { OnOk result (ShapesAs S.Store command.Gc store.old memory.old store.new memory.new) }
     ensures done { S.told → IsReadyStore S.Store store.old memory.old → StoreDoes S.Store command.Gc store.old memory.old store.new memory.new (result ≡ Ok tt) }
@@ -252,30 +222,16 @@ pub fn begin<S: Store>(
     parent: &Name,
     to: u32,
 ) -> Result<(), CallFault>
-    requires usable { S.failed store.old ≡ false }
-    requires orderly { IsOrderlyStore S.Store store.old memory.old }
-    requires tidy { IsTidyStore S.Store store.old memory.old }
-    requires true_now { HasTrueImages S.Store store.old memory.old }
-    requires tree_room { HasTreeRoom memory.old }
+    requires session { IsBetweenSteps S.Store store.old memory.old }
     requires planned { next_step (store_shape S.Store store.old memory.old) ≡ plan.Begin child.now parent.now to }
-    ensures site { S.site store.new ≡ S.site store.old }
-    ensures counts { S.faults store.old ≤ S.faults store.new }
-    ensures cause { result ≡ Err fault.Device → Rose (S.faults store.old) (S.faults store.new) }
-    ensures beside { S.told → Keeps (S.beside store.old) (S.beside store.new) }
-    ensures few { HasCommits 4 (table_alone (S.table store.old)) (table_alone (S.table store.new)) }
-    ensures few_left { Leaves S.Store store.new (λ t image. HasCommits 4 (table_alone (S.table store.old)) t) }
-    ensures usable_still { OnOk result (S.failed store.new ≡ false) }
+    ensures step { StepsOn S.Store 4 store.old store.new }
+    ensures cause { CountsDevice S.Store result store.old store.new }
     ensures poor { result ≡ Err fault.NoMemory
         → OnlyReads S.Store store.old store.new × ((t : VolumeTable) (image : ℕ → List ℕ) → S.leaves store.new t image → S.leaves store.old t image)
-        × (memory.new ≡ memory.old) × (S.failed store.new ≡ false) }
-    ensures true_poor { result ≡ Err fault.NoMemory → HasTrueImages S.Store store.new memory.new }
+        × (memory.new ≡ memory.old) }
     ensures operation { OnOk result (memory.new.operation ≡ op.Copy child.now parent.now 0) }
     ensures others { (memory.new.records ≡ memory.old.records) × (memory.new.attached ≡ memory.old.attached) }
-    ensures room { HasRows (S.table store.old) → OnOk result (HasRows (S.table store.new)) }
-    ensures tree_room_still { OnOk result (HasTreeRoom memory.new) }
-    ensures orderly_still { OnOk result (IsOrderlyStore S.Store store.new memory.new) }
-    ensures tidy_still { OnOk result (IsTidyStore S.Store store.new memory.new) }
-    ensures true_still { OnOk result (HasTrueImages S.Store store.new memory.new) }
+    ensures session_still { OnOk result (IsBetweenSteps S.Store store.new memory.new) }
     ensures least { OnOk result (IsWidened (S.site store.old).count (table_alone (S.table store.old)) parent.now to (table_alone (S.table store.new))) }
     ensures shape { OnOk result (ShapesAs S.Store command.Gc store.old memory.old store.new memory.new) }
     ensures done { S.told → IsReadyStore S.Store store.old memory.old → StoreDoes S.Store command.Gc store.old memory.old store.new memory.new (result ≡ Ok tt) }
@@ -296,30 +252,16 @@ pub fn begin_leaf<S: Store>(
     parent: &Name,
     to: u32,
 ) -> Result<(), CallFault>
-    requires usable { S.failed store.old ≡ false }
-    requires orderly { IsOrderlyStore S.Store store.old memory.old }
-    requires tidy { IsTidyStore S.Store store.old memory.old }
-    requires true_now { HasTrueImages S.Store store.old memory.old }
-    requires tree_room { HasTreeRoom memory.old }
+    requires session { IsBetweenSteps S.Store store.old memory.old }
     requires planned { next_step (store_shape S.Store store.old memory.old) ≡ plan.Leaf leaf.now parent.now to }
-    ensures site { S.site store.new ≡ S.site store.old }
-    ensures counts { S.faults store.old ≤ S.faults store.new }
-    ensures cause { result ≡ Err fault.Device → Rose (S.faults store.old) (S.faults store.new) }
-    ensures beside { S.told → Keeps (S.beside store.old) (S.beside store.new) }
-    ensures few { HasCommits 4 (table_alone (S.table store.old)) (table_alone (S.table store.new)) }
-    ensures few_left { Leaves S.Store store.new (λ t image. HasCommits 4 (table_alone (S.table store.old)) t) }
-    ensures usable_still { OnOk result (S.failed store.new ≡ false) }
+    ensures step { StepsOn S.Store 4 store.old store.new }
+    ensures cause { CountsDevice S.Store result store.old store.new }
     ensures poor { result ≡ Err fault.NoMemory
         → OnlyReads S.Store store.old store.new × ((t : VolumeTable) (image : ℕ → List ℕ) → S.leaves store.new t image → S.leaves store.old t image)
-        × (memory.new ≡ memory.old) × (S.failed store.new ≡ false) }
-    ensures true_poor { result ≡ Err fault.NoMemory → HasTrueImages S.Store store.new memory.new }
+        × (memory.new ≡ memory.old) }
     ensures operation { OnOk result (memory.new.operation ≡ op.Leaf leaf.now parent.now 0) }
     ensures others { (memory.new.records ≡ memory.old.records) × (memory.new.attached ≡ memory.old.attached) }
-    ensures room { HasRows (S.table store.old) → OnOk result (HasRows (S.table store.new)) }
-    ensures tree_room_still { OnOk result (HasTreeRoom memory.new) }
-    ensures orderly_still { OnOk result (IsOrderlyStore S.Store store.new memory.new) }
-    ensures tidy_still { OnOk result (IsTidyStore S.Store store.new memory.new) }
-    ensures true_still { OnOk result (HasTrueImages S.Store store.new memory.new) }
+    ensures session_still { OnOk result (IsBetweenSteps S.Store store.new memory.new) }
     ensures least { OnOk result (IsWidened (S.site store.old).count (table_alone (S.table store.old)) parent.now to (table_alone (S.table store.new))) }
     ensures shape { OnOk result (ShapesAs S.Store command.Gc store.old memory.old store.new memory.new) }
     ensures done { S.told → IsReadyStore S.Store store.old memory.old → StoreDoes S.Store command.Gc store.old memory.old store.new memory.new (result ≡ Ok tt) }

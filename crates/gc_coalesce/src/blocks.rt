@@ -16,7 +16,6 @@ const SECTOR: usize = 512;
 /// nothing is written.
 fn copy_run<S: Store>(
     store: &mut S,
-    pool: &mut Pool,
     piece: &mut [u8],
     child: &Image,
     parent: &mut Image,
@@ -26,10 +25,8 @@ fn copy_run<S: Store>(
     requires usable { S.failed store.old ≡ false }
     requires can { CanCopy S.Store child.now parent.old block store.old }
     requires inside { part < (S.site store.old).geometry.block }
-    requires buffer { (0 < pool.old.free) × (512 * (1 + (S.site store.old).geometry.block) ≤ pool.old.bytes) }
     requires long { 512 * (S.site store.old).geometry.block ≤ length piece.old }
     ensures cause { Counts S.Store result store.old store.new }
-    ensures pool { pool.new ≡ pool.old }
     ensures copies { Copies S.Store child.now parent.old parent.new store.old store.new }
     ensures inside { IfOk result (λ count. (0 < count) × (part + count ≤ (S.site store.old).geometry.block)) }
     ensures copied { IfOk result (λ count. HasCopied S.Store child.now block (block * (S.site store.old).geometry.block + part) count parent.old parent.new store.old store.new) }
@@ -40,7 +37,7 @@ fn copy_run<S: Store>(
     if run.held {
         let bytes = &mut piece[..SECTOR * run.sectors as usize];
         child.read_held(store, sector, bytes)?;
-        parent.write(store, pool, sector, bytes)?;
+        parent.write(store, sector, bytes)?;
     }
     Ok(run.sectors)
 }
@@ -48,7 +45,6 @@ fn copy_run<S: Store>(
 /// Copies the runs of the block, with a buffer for the bytes of one.
 fn copy_runs<S: Store>(
     store: &mut S,
-    pool: &mut Pool,
     piece: &mut [u8],
     child: &Image,
     parent: &mut Image,
@@ -56,10 +52,8 @@ fn copy_runs<S: Store>(
 ) -> Result<(), Failed>
     requires usable { S.failed store.old ≡ false }
     requires can { CanCopy S.Store child.now parent.old block store.old }
-    requires buffer { (0 < pool.old.free) × (512 * (1 + (S.site store.old).geometry.block) ≤ pool.old.bytes) }
     requires long { 512 * (S.site store.old).geometry.block ≤ length piece.old }
     ensures cause { Counts S.Store result store.old store.new }
-    ensures pool { pool.new ≡ pool.old }
     ensures copies { Copies S.Store child.now parent.old parent.new store.old store.new }
     ensures copied { OnOk result (HasCopied S.Store child.now block (block * (S.site store.old).geometry.block)
         (S.site store.old).geometry.block parent.old parent.new store.old store.new) }
@@ -67,12 +61,12 @@ fn copy_runs<S: Store>(
     let wide = store.geometry().block;
     let mut part = 0;
     while part < wide {
-        part += copy_run(store, pool, piece, child, parent, block, part)?;
+        part += copy_run(store, piece, child, parent, block, part)?;
     }
     Ok(())
 }
 
-/// Copies what the child holds in a block into the parent, run by run, with two buffers of the pool, which it gives back.
+/// Copies what the child holds in a block into the parent, run by run, with a buffer of the pool, which it gives back.
 ///
 /// # Errors
 ///
@@ -86,7 +80,7 @@ pub(crate) fn copy_sectors<S: Store>(
 ) -> Result<(), Failed>
     requires usable { S.failed store.old ≡ false }
     requires can { CanCopy S.Store child.now parent.old block store.old }
-    requires buffers { (1 < pool.old.free) × (512 * (1 + (S.site store.old).geometry.block) ≤ pool.old.bytes) }
+    requires buffer { (0 < pool.old.free) × (512 * (1 + (S.site store.old).geometry.block) ≤ pool.old.bytes) }
     ensures cause { Counts S.Store result store.old store.new }
     ensures pool { pool.new ≡ pool.old }
     ensures copies { Copies S.Store child.now parent.old parent.new store.old store.new }
@@ -98,7 +92,7 @@ pub(crate) fn copy_sectors<S: Store>(
     let Some(mut piece) = pool.take() else {
         unreachable!()
     };
-    let copied = copy_runs(store, pool, piece.bytes_mut(), child, parent, block);
+    let copied = copy_runs(store, piece.bytes_mut(), child, parent, block);
     pool.give(piece);
     copied
 }

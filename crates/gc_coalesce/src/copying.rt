@@ -1,9 +1,8 @@
 //! The sectors that an image holds in one block are copied into its parent: a hidden image, or the leaf of a disk that is not attached.
 
-ghost use Rattle.std.specs.Prelude.{◌≡◌, ◌≤◌, ◌<◌, ◌+◌, ◌*◌, true, false, length, OnErr, OnOk};
+ghost use Rattle.std.specs.Prelude.{◌≡◌, ◌≤◌, ◌<◌, ◌+◌, ◌*◌, true, length, OnOk};
 ghost use Rattle.std.specs.declared.result.Result.TheVariants.{Ok};
 ghost use Rattle.sm_base.specs.declared.operations.Plan.TheVariants as plan;
-ghost use Rattle.sm_disk.specs.Held.{Keeps};
 ghost use Rattle.vg_meta.specs.Roomy.{table_alone};
 ghost use Rattle.vg_volumes.specs.Stored.{Counts, Leaves};
 ghost use Rattle.sm_machine.specs.Collector.{IsLess, debt, next_step};
@@ -12,8 +11,8 @@ ghost use Rattle.sm_ready.specs.Does.{ShapesAs, StoreDoes, store_shape};
 ghost use Rattle.sm_ready.specs.Stores.{content_in, store_content};
 ghost use Rattle.gc_coalesce.specs.Copying.{IsCopyOf, IsMasked, advanced, copying};
 ghost use Rattle.gc_coalesce.specs.Syncing.{CopySynced};
-ghost use Rattle.sm_ready.specs.Frames.{HasCommits, HasTrueImages};
-ghost use Rattle.sm_ready.specs.Sessions.{HasRows, IsOrderlyStore, IsReadyStore, IsTidyStore};
+ghost use Rattle.sm_ready.specs.Framing.{IsBetweenSteps, StepsOn};
+ghost use Rattle.sm_ready.specs.Sessions.{IsReadyStore};
 
 use crate::blocks::copy_sectors;
 use sm_base::{Failed, Name, Op};
@@ -56,7 +55,7 @@ fn behind(operation: Op, block: u32) -> Op
 
 /// Copies what the operation's image holds in a block into the operation's parent, run by run, and the cursor goes on behind the block.
 /// All that was written before is made last first, and then the copy. The parent changes only in sectors that the image holds, and the
-/// debt is less. It makes no commit and takes no memory; two buffers of the pool are borrowed.
+/// debt is less. It makes no commit and takes no memory; a buffer of the pool is borrowed.
 ///
 /// # Errors
 ///
@@ -67,30 +66,19 @@ pub fn copy_block<S: Store>(
     pool: &mut Pool,
     block: u32,
 ) -> Result<(), Failed>
-    requires usable { S.failed store.old ≡ false }
-    requires orderly { IsOrderlyStore S.Store store.old memory.old }
-    requires tidy { IsTidyStore S.Store store.old memory.old }
-    requires true_now { HasTrueImages S.Store store.old memory.old }
-    requires buffer { (1 < pool.old.free) × (512 * (1 + (S.site store.old).geometry.block) ≤ pool.old.bytes) }
+    requires session { IsBetweenSteps S.Store store.old memory.old }
+    requires buffer { (0 < pool.old.free) × (512 * (1 + (S.site store.old).geometry.block) ≤ pool.old.bytes) }
     requires copying { copying memory.old.operation ≡ true }
     requires planned { next_step (store_shape S.Store store.old memory.old) ≡ plan.Copy block }
-    ensures site { S.site store.new ≡ S.site store.old }
-    ensures counts { S.faults store.old ≤ S.faults store.new }
+    ensures step { StepsOn S.Store 0 store.old store.new }
     ensures cause { Counts S.Store result store.old store.new }
-    ensures beside { S.told → Keeps (S.beside store.old) (S.beside store.new) }
-    ensures few { HasCommits 0 (table_alone (S.table store.old)) (table_alone (S.table store.new)) }
-    ensures few_left { Leaves S.Store store.new (λ t image. HasCommits 0 (table_alone (S.table store.old)) t) }
-    ensures usable_still { OnOk result (S.failed store.new ≡ false) }
     ensures pool { pool.new ≡ pool.old }
     ensures table { table_alone (S.table store.new) ≡ table_alone (S.table store.old) }
     ensures images { length memory.new.tree.rows ≡ length memory.old.tree.rows }
     ensures spare { memory.new.tree.spare ≡ memory.old.tree.spare }
     ensures operation { OnOk result (memory.new.operation ≡ advanced block memory.old.operation) }
     ensures others { (memory.new.records ≡ memory.old.records) × (memory.new.attached ≡ memory.old.attached) }
-    ensures room { HasRows (S.table store.old) → OnOk result (HasRows (S.table store.new)) }
-    ensures orderly_still { OnOk result (IsOrderlyStore S.Store store.new memory.new) }
-    ensures tidy_still { OnOk result (IsTidyStore S.Store store.new memory.new) }
-    ensures true_still { OnOk result (HasTrueImages S.Store store.new memory.new) }
+    ensures session_still { OnOk result (IsBetweenSteps S.Store store.new memory.new) }
     ensures lowered { OnOk result (∥ IsLess (debt (store_shape S.Store store.new memory.new)) (debt (store_shape S.Store store.old memory.old)) ∥₁) }
     ensures shape { S.told → IsReadyStore S.Store store.old memory.old → OnOk result (ShapesAs S.Store command.Gc store.old memory.old store.new memory.new) }
     ensures done { S.told → IsReadyStore S.Store store.old memory.old → StoreDoes S.Store command.Gc store.old memory.old store.new memory.new (result ≡ Ok tt) }

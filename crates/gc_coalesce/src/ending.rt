@@ -1,6 +1,6 @@
 //! Entries of the collector's operations: a copy is given up, or its children are linked next; a link has ended. Each is one commit.
 
-ghost use Rattle.std.specs.Prelude.{◌≡◌, ◌≤◌, true, false, [], ◌∷◌, OnErr, OnOk};
+ghost use Rattle.std.specs.Prelude.{◌≡◌, true, false, [], ◌∷◌, OnOk};
 ghost use Rattle.std.specs.declared.result.Result.TheVariants.{Ok};
 ghost use Rattle.sm_base.specs.declared.names.Name.{Name as NameModel};
 ghost use Rattle.sm_base.specs.declared.names.Name.TheVariants.{Coalesce, Relink};
@@ -9,7 +9,7 @@ ghost use Rattle.vg_meta.specs.declared.changes.Change.TheVariants.{Remove};
 ghost use Rattle.sm_ready.specs.Known.{entry_of};
 ghost use Rattle.sm_disk.specs.Held.{Keeps};
 ghost use Rattle.vg_meta.specs.Roomy.{table_alone};
-ghost use Rattle.vg_volumes.specs.Stored.{Counts, Leaves};
+ghost use Rattle.vg_volumes.specs.Stored.{Counts};
 ghost use Rattle.sm_machine.specs.Shapes.{image_uuid};
 ghost use Rattle.sm_machine.specs.WellFormed.{is_image_name};
 ghost use Rattle.sm_base.specs.declared.operations.Plan.TheVariants as plan;
@@ -17,7 +17,8 @@ ghost use Rattle.sm_base.specs.declared.operations.Op.TheVariants as op;
 ghost use Rattle.sm_machine.specs.Collector.{next_step, turned};
 ghost use Rattle.sm_machine.specs.declared.commands.Command.TheVariants as command;
 ghost use Rattle.sm_ready.specs.Does.{ShapesAs, StoreDoes, store_shape};
-ghost use Rattle.sm_ready.specs.Frames.{HasCommits, HasTrueImages};
+ghost use Rattle.sm_ready.specs.Frames.{HasTrueImages};
+ghost use Rattle.sm_ready.specs.Framing.{IsBetweenSteps, StepsOn};
 ghost use Rattle.sm_ready.specs.Sessions.{HasRows, IsOrderlyStore, IsReadyStore, IsTidyStore};
 
 use gc_abandon::uuid_of;
@@ -56,24 +57,14 @@ fn link_entry(child: &Name, parent: &Name) -> Name
 ///
 /// A call of the store failed; a stop leaves the disks from before.
 pub fn abandon<S: Store>(store: &mut S, memory: &mut Memory) -> Result<(), Failed>
-    requires usable { S.failed store.old ≡ false }
-    requires orderly { IsOrderlyStore S.Store store.old memory.old }
-    requires true_now { HasTrueImages S.Store store.old memory.old }
+    requires session { IsBetweenSteps S.Store store.old memory.old }
     requires planned { next_step (store_shape S.Store store.old memory.old) ≡ plan.Abandon }
-    ensures site { S.site store.new ≡ S.site store.old }
-    ensures counts { S.faults store.old ≤ S.faults store.new }
+    ensures step { StepsOn S.Store 1 store.old store.new }
     ensures cause { Counts S.Store result store.old store.new }
-    ensures beside { S.told → Keeps (S.beside store.old) (S.beside store.new) }
-    ensures few { HasCommits 1 (table_alone (S.table store.old)) (table_alone (S.table store.new)) }
-    ensures few_left { Leaves S.Store store.new (λ t image. HasCommits 1 (table_alone (S.table store.old)) t) }
     ensures keeps { S.told → Keeps (S.area store.old) (S.area store.new) }
-    ensures usable_still { OnOk result (S.failed store.new ≡ false) }
     ensures operation { OnOk result (memory.new.operation ≡ op.Idle) }
     ensures others { (memory.new.tree ≡ memory.old.tree) × (memory.new.records ≡ memory.old.records) × (memory.new.attached ≡ memory.old.attached) }
-    ensures room { HasRows (S.table store.old) → OnOk result (HasRows (S.table store.new)) }
-    ensures orderly_still { OnOk result (IsOrderlyStore S.Store store.new memory.new) }
-    ensures tidy_still { IsTidyStore S.Store store.old memory.old → OnOk result (IsTidyStore S.Store store.new memory.new) }
-    ensures true_still { OnOk result (HasTrueImages S.Store store.new memory.new) }
+    ensures session_still { OnOk result (IsBetweenSteps S.Store store.new memory.new) }
     ensures shape { OnOk result (ShapesAs S.Store command.Gc store.old memory.old store.new memory.new) }
     ensures done { S.told → IsReadyStore S.Store store.old memory.old → StoreDoes S.Store command.Gc store.old memory.old store.new memory.new (result ≡ Ok tt) }
 {
@@ -92,24 +83,14 @@ pub fn abandon<S: Store>(store: &mut S, memory: &mut Memory) -> Result<(), Faile
 ///
 /// A call of the store failed; a stop leaves the disks from before.
 pub fn turn<S: Store>(store: &mut S, memory: &mut Memory) -> Result<(), Failed>
-    requires usable { S.failed store.old ≡ false }
-    requires orderly { IsOrderlyStore S.Store store.old memory.old }
-    requires true_now { HasTrueImages S.Store store.old memory.old }
+    requires session { IsBetweenSteps S.Store store.old memory.old }
     requires planned { next_step (store_shape S.Store store.old memory.old) ≡ plan.Turn }
-    ensures site { S.site store.new ≡ S.site store.old }
-    ensures counts { S.faults store.old ≤ S.faults store.new }
+    ensures step { StepsOn S.Store 1 store.old store.new }
     ensures cause { Counts S.Store result store.old store.new }
-    ensures beside { S.told → Keeps (S.beside store.old) (S.beside store.new) }
-    ensures few { HasCommits 1 (table_alone (S.table store.old)) (table_alone (S.table store.new)) }
-    ensures few_left { Leaves S.Store store.new (λ t image. HasCommits 1 (table_alone (S.table store.old)) t) }
     ensures keeps { S.told → Keeps (S.area store.old) (S.area store.new) }
-    ensures usable_still { OnOk result (S.failed store.new ≡ false) }
     ensures operation { OnOk result (memory.new.operation ≡ turned memory.old.operation) }
     ensures others { (memory.new.tree ≡ memory.old.tree) × (memory.new.records ≡ memory.old.records) × (memory.new.attached ≡ memory.old.attached) }
-    ensures room { HasRows (S.table store.old) → OnOk result (HasRows (S.table store.new)) }
-    ensures orderly_still { OnOk result (IsOrderlyStore S.Store store.new memory.new) }
-    ensures tidy_still { IsTidyStore S.Store store.old memory.old → OnOk result (IsTidyStore S.Store store.new memory.new) }
-    ensures true_still { OnOk result (HasTrueImages S.Store store.new memory.new) }
+    ensures session_still { OnOk result (IsBetweenSteps S.Store store.new memory.new) }
     ensures shape { OnOk result (ShapesAs S.Store command.Gc store.old memory.old store.new memory.new) }
     ensures done { S.told → IsReadyStore S.Store store.old memory.old → StoreDoes S.Store command.Gc store.old memory.old store.new memory.new (result ≡ Ok tt) }
 {
@@ -136,12 +117,8 @@ pub fn finish<S: Store>(store: &mut S, memory: &mut Memory) -> Result<(), Failed
     requires orderly { IsOrderlyStore S.Store store.old memory.old }
     requires true_now { HasTrueImages S.Store store.old memory.old }
     requires planned { next_step (store_shape S.Store store.old memory.old) ≡ plan.Finish }
-    ensures site { S.site store.new ≡ S.site store.old }
-    ensures counts { S.faults store.old ≤ S.faults store.new }
+    ensures step { StepsOn S.Store 1 store.old store.new }
     ensures cause { Counts S.Store result store.old store.new }
-    ensures beside { S.told → Keeps (S.beside store.old) (S.beside store.new) }
-    ensures few { HasCommits 1 (table_alone (S.table store.old)) (table_alone (S.table store.new)) }
-    ensures few_left { Leaves S.Store store.new (λ t image. HasCommits 1 (table_alone (S.table store.old)) t) }
     ensures keeps { S.told → Keeps (S.area store.old) (S.area store.new) }
     ensures usable_still { OnOk result (S.failed store.new ≡ false) }
     ensures table { OnOk result ((e : NameModel) → entry_of memory.old.operation ≡ e ∷ [] → table_alone (S.table store.new) ≡ applied (table_alone (S.table store.old)) (Remove e)) }

@@ -5,7 +5,8 @@
 //! **What is kept here.** Nothing: each call works on a store and on what a session has in memory.
 //!
 //! **What it is.** Each call is asked only where it is the machine's next step of the shape in memory (`planned`: `next_step` of
-//! `sm_machine`), and leaves the shape that the machine has behind `gc` (`shape`), its commits counted. That the fold of a leaf is given
+//! `sm_machine`), and leaves the shape that the machine has behind `gc` (`shape`), its commits counted. It is asked between two steps of
+//! a session (`IsBetweenSteps` of `sm_ready`), and leaves the session there where it succeeds. That the fold of a leaf is given
 //! up, as a command on the leaf's disk begins, is no step of the collector: it is in `gc_abandon`.
 //!
 //! **What it promises.** No call changes a disk. At every return, success and failure alike, whatever a stop leaves is kept and shows
@@ -23,7 +24,7 @@
 //! **What it costs.** `remove`, `abandon`, `turn` and `finish` are one commit each. `begin` and `begin_leaf` are one
 //! commit, and three more where the parent gets extents; they alone take memory, all of it before the first write. `copy_block` syncs
 //! before its first write and after its last, and reads and writes each run of held sectors once; a write to sectors that the parent did
-//! not hold makes one sync more (`vhd_write`); it borrows two buffers of the pool. `relink_one` reads two sectors and writes one, between
+//! not hold makes one sync more (`vhd_write`); it borrows a buffer of the pool. `relink_one` reads two sectors and writes one, between
 //! two syncs.
 //!
 //! The definitions are in `specs/`: `Beginning` (when an operation may be entered, and what that makes of the shape), `Copying` (the cursor,

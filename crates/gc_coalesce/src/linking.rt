@@ -1,15 +1,16 @@
 //! A child is linked past the image that goes to that image's parent.
 
-ghost use Rattle.std.specs.Prelude.{◌≡◌, ◌≤◌, false, length, OnErr, OnOk};
+ghost use Rattle.std.specs.Prelude.{◌≡◌, ◌≤◌, false, length, OnOk};
 ghost use Rattle.std.specs.declared.result.Result.TheVariants.{Ok};
 ghost use Rattle.sm_base.specs.declared.operations.Plan.TheVariants as plan;
-ghost use Rattle.sm_disk.specs.Held.{IsSettled, Keeps};
+ghost use Rattle.sm_disk.specs.Held.{IsSettled};
 ghost use Rattle.vg_meta.specs.Roomy.{table_alone};
-ghost use Rattle.vg_volumes.specs.Stored.{Counts, Leaves};
+ghost use Rattle.vg_volumes.specs.Stored.{Counts};
 ghost use Rattle.sm_machine.specs.Collector.{next_step};
 ghost use Rattle.sm_machine.specs.declared.commands.Command.TheVariants as command;
 ghost use Rattle.sm_ready.specs.Does.{ShapesAs, StoreDoes, store_shape};
-ghost use Rattle.sm_ready.specs.Frames.{HasCommits, HasTrueImages};
+ghost use Rattle.sm_ready.specs.Frames.{HasTrueImages};
+ghost use Rattle.sm_ready.specs.Framing.{StepsOn};
 ghost use Rattle.sm_ready.specs.Sessions.{HasRows, IsOrderlyStore, IsReadyStore, IsTidyStore};
 ghost use Rattle.gc_coalesce.specs.Syncing.{LeavesSynced};
 
@@ -28,12 +29,8 @@ pub fn relink_one<S: Store>(store: &mut S, memory: &mut Memory, child: &Name) ->
     requires orderly { IsOrderlyStore S.Store store.old memory.old }
     requires true_now { HasTrueImages S.Store store.old memory.old }
     requires planned { next_step (store_shape S.Store store.old memory.old) ≡ plan.RelinkOne child.now }
-    ensures site { S.site store.new ≡ S.site store.old }
-    ensures counts { S.faults store.old ≤ S.faults store.new }
+    ensures step { StepsOn S.Store 0 store.old store.new }
     ensures cause { Counts S.Store result store.old store.new }
-    ensures beside { S.told → Keeps (S.beside store.old) (S.beside store.new) }
-    ensures few { HasCommits 0 (table_alone (S.table store.old)) (table_alone (S.table store.new)) }
-    ensures few_left { Leaves S.Store store.new (λ t image. HasCommits 0 (table_alone (S.table store.old)) t) }
     ensures usable_still { OnOk result (S.failed store.new ≡ false) }
     ensures table { table_alone (S.table store.new) ≡ table_alone (S.table store.old) }
     ensures images { length memory.new.tree.rows ≡ length memory.old.tree.rows }

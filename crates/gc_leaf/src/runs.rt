@@ -5,7 +5,7 @@ ghost use Rattle.sm_base.specs.declared.names.Name.TheVariants.{Leaf, Old, Vhd};
 ghost use Rattle.sm_disk.specs.Held.{Keeps};
 ghost use Rattle.vg_meta.specs.declared.changes.Change.TheVariants.{Mark, Remove, Rename};
 ghost use Rattle.vg_meta.specs.declared.changes.Tag.TheVariants.{Hidden};
-ghost use Rattle.vg_volumes.specs.Stored.{stored, CanCommit, Commits, FailsToCommit, IsEitherOf, Leaves};
+ghost use Rattle.vg_volumes.specs.Stored.{stored, CanCommit, Commits, Counts, FailsToCommit, IsEitherOf, Leaves};
 ghost use Rattle.sm_ready.specs.Runs.{CanRun, FailsToRun, IsAmong, Runs};
 ghost use Rattle.gc_leaf.specs.Swapping.{swap_changes};
 
@@ -21,6 +21,7 @@ fn commit_one<S: Store>(store: &mut S, change: Change) -> Result<(), Failed>
     ensures fails { OnErr result (FailsToCommit S.Store store.old store.new) }
     ensures keeps { S.told → Keeps (S.area store.old) (S.area store.new) }
     ensures crash { Leaves S.Store store.new (IsEitherOf (stored S.Store store.old) change) }
+    ensures cause { Counts S.Store result store.old store.new }
 {
     store.commit(change)?;
     Ok(())
@@ -33,6 +34,7 @@ fn commit_two<S: Store>(store: &mut S, first: Change, second: Change) -> Result<
     ensures fails { OnErr result (FailsToRun S.Store 2 store.old store.new) }
     ensures keeps { S.told → Keeps (S.area store.old) (S.area store.new) }
     ensures crash { Leaves S.Store store.new (IsAmong (stored S.Store store.old) (first ∷ second ∷ [])) }
+    ensures cause { Counts S.Store result store.old store.new }
 {
     commit_one(store, first)?;
     commit_one(store, second)?;
@@ -51,6 +53,7 @@ fn commit_three<S: Store>(
     ensures fails { OnErr result (FailsToRun S.Store 3 store.old store.new) }
     ensures keeps { S.told → Keeps (S.area store.old) (S.area store.new) }
     ensures crash { Leaves S.Store store.new (IsAmong (stored S.Store store.old) (first ∷ second ∷ third ∷ [])) }
+    ensures cause { Counts S.Store result store.old store.new }
 {
     commit_one(store, first)?;
     commit_two(store, second, third)?;
@@ -95,6 +98,7 @@ pub fn run<S: Store>(store: &mut S, leaf: Uuid, parent: Uuid) -> Result<(), Fail
     ensures fails { OnErr result (FailsToRun S.Store 5 store.old store.new) }
     ensures keeps { S.told → Keeps (S.area store.old) (S.area store.new) }
     ensures crash { Leaves S.Store store.new (IsAmong (stored S.Store store.old) (swap_changes leaf parent)) }
+    ensures cause { Counts S.Store result store.old store.new }
 {
     let away = leaf_away(leaf);
     let named = parent_named(leaf, parent);

@@ -1,20 +1,20 @@
 //! The parent takes the leaf's place.
 
-ghost use Rattle.std.specs.Prelude.{◌≡◌, ◌≤◌, ◌+◌, ℕ, true, false, OnErr, OnOk};
+ghost use Rattle.std.specs.Prelude.{◌≡◌, ◌+◌, ℕ, true, OnErr, OnOk};
 ghost use Rattle.std.specs.declared.result.Result.TheVariants.{Ok};
 ghost use Rattle.sm_base.specs.declared.names.Name.{Name as NameModel};
 ghost use Rattle.sm_base.specs.declared.operations.Op.TheVariants as op;
 ghost use Rattle.sm_base.specs.declared.operations.Plan.TheVariants as plan;
 ghost use Rattle.sm_disk.specs.Held.{Keeps};
 ghost use Rattle.vg_meta.specs.Roomy.{table_alone};
-ghost use Rattle.vg_volumes.specs.Stored.{Counts, Leaves};
+ghost use Rattle.vg_volumes.specs.Stored.{Counts};
 ghost use Rattle.vhd_chain.specs.Trees.{tree_row};
 ghost use Rattle.sm_machine.specs.Collector.{next_step};
 ghost use Rattle.sm_machine.specs.Shapes.{image_uuid, is_vhd};
 ghost use Rattle.sm_machine.specs.declared.commands.Command.TheVariants as command;
 ghost use Rattle.sm_ready.specs.Does.{ShapesAs, StoreDoes, store_shape};
-ghost use Rattle.sm_ready.specs.Frames.{HasCommits, HasTrueImages};
-ghost use Rattle.sm_ready.specs.Sessions.{HasRows, HasTreeRoom, IsOrderlyStore, IsReadyStore, IsTidyStore};
+ghost use Rattle.sm_ready.specs.Framing.{IsBetweenSteps, StepsOn};
+ghost use Rattle.sm_ready.specs.Sessions.{IsReadyStore};
 ghost use Rattle.gc_leaf.specs.Swapping.{CanFold, IsMoved, swapped_rows};
 
 use crate::runs::run;
@@ -60,30 +60,18 @@ fn fold(tree: &mut Tree, leaf: &Name, parent: &Name)
 ///
 /// A call of the store failed: memory is as it was, the store makes no further commit, and a stop leaves the disks from before.
 pub fn swap<S: Store>(store: &mut S, memory: &mut Memory) -> Result<(), Failed>
-    requires usable { S.failed store.old ≡ false }
-    requires orderly { IsOrderlyStore S.Store store.old memory.old }
-    requires tidy { IsTidyStore S.Store store.old memory.old }
-    requires true_now { HasTrueImages S.Store store.old memory.old }
+    requires session { IsBetweenSteps S.Store store.old memory.old }
     requires planned { next_step (store_shape S.Store store.old memory.old) ≡ plan.Swap }
-    ensures site { S.site store.new ≡ S.site store.old }
-    ensures counts { S.faults store.old ≤ S.faults store.new }
+    ensures step { StepsOn S.Store 5 store.old store.new }
     ensures cause { Counts S.Store result store.old store.new }
-    ensures beside { S.told → Keeps (S.beside store.old) (S.beside store.new) }
     ensures keeps { S.told → Keeps (S.area store.old) (S.area store.new) }
-    ensures few { HasCommits 5 (table_alone (S.table store.old)) (table_alone (S.table store.new)) }
-    ensures few_left { Leaves S.Store store.new (λ t image. HasCommits 5 (table_alone (S.table store.old)) t) }
-    ensures usable_still { OnOk result (S.failed store.new ≡ false) }
     ensures stuck { OnErr result (S.failed store.new ≡ true) }
     ensures unchanged { OnErr result (memory.new ≡ memory.old) }
     ensures moved { OnOk result ((leaf parent : NameModel) (cursor : ℕ) → memory.old.operation ≡ op.Leaf leaf parent cursor
         → IsMoved (table_alone (S.table store.old)) (table_alone (S.table store.new)) leaf parent) }
     ensures operation { OnOk result (memory.new.operation ≡ op.Idle) }
     ensures others { (memory.new.records ≡ memory.old.records) × (memory.new.attached ≡ memory.old.attached) }
-    ensures room { HasRows (S.table store.old) → OnOk result (HasRows (S.table store.new)) }
-    ensures tree_room { HasTreeRoom memory.old → HasTreeRoom memory.new }
-    ensures orderly_still { OnOk result (IsOrderlyStore S.Store store.new memory.new) }
-    ensures tidy_still { OnOk result (IsTidyStore S.Store store.new memory.new) }
-    ensures true_still { OnOk result (HasTrueImages S.Store store.new memory.new) }
+    ensures session_still { OnOk result (IsBetweenSteps S.Store store.new memory.new) }
     ensures shape { OnOk result (ShapesAs S.Store command.Gc store.old memory.old store.new memory.new) }
     ensures done { S.told → IsReadyStore S.Store store.old memory.old → StoreDoes S.Store command.Gc store.old memory.old store.new memory.new (result ≡ Ok tt) }
 {

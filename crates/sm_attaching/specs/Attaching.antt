@@ -1,5 +1,5 @@
 -- What attaching asks of memory, and what it leaves alone.
-use Rattle.std.specs.Prelude.{◌≡◌, ℕ, ◌+◌, ◌-◌, ◌<◌, ◌≤◌, true, List, Option, None, Some}
+use Rattle.std.specs.Prelude.{◌≡◌, ℕ, ◌+◌, ◌-◌, ◌<◌, true, List, Option, None, Some}
 use Rattle.common_laws.specs.Lists.{In}
 use Rattle.sm_base.specs.declared.names.Name.TheVariants.{Vhd}
 use Rattle.sm_base.specs.declared.operations.Mode.{Mode}
@@ -10,7 +10,6 @@ use Rattle.vg_volumes.specs.declared.stores.Store.{Ghosts}
 use Rattle.vhd_chain.specs.declared.rows.TreeRow.{TreeRow}
 use Rattle.vhd_chain.specs.Trees.{row_name, tree_row}
 use Rattle.sm_machine.specs.Refusals.{need}
-use Rattle.sm_machine.specs.Shapes.{image_limit}
 use Rattle.sm_machine.specs.WellFormed.{is_image_name}
 use Rattle.sm_machine.specs.declared.commands.Command.TheVariants.{Attach}
 use Rattle.sm_space.specs.Inflating.{IsGrowth, extents_in}
@@ -20,10 +19,6 @@ use Rattle.sm_ready.specs.declared.memory.Memory.{Memory}
 -- each row is that of a VHD or raw image
 abbrev pub AreImages : List TreeRow → Type 0
 AreImages rows = (r : TreeRow) → In r rows → is_image_name (row_name r) ≡ true
-
--- as many disks may be attached, and as many images used, as a repository may have images
-abbrev pub HasAttachmentRoom : Memory → Type 0
-HasAttachmentRoom m = image_limit ≤ m.attached.room
 
 -- the images, the records and the collector's operation stay
 pub record StaysBeside (old new : Memory) : Type 0 where

@@ -1,17 +1,13 @@
 //! Attaching a disk whose image has its extents, and detaching one.
 
-ghost use Rattle.std.specs.Prelude.{◌≡◌, ◌≤◌, ℕ, List, true, false, IfOk, OnOk};
-ghost use Rattle.sm_disk.specs.Held.{Keeps};
-ghost use Rattle.vg_meta.specs.Roomy.{table_alone};
-ghost use Rattle.vg_meta.specs.Tables.{VolumeTable};
-ghost use Rattle.vg_volumes.specs.Sites.{NoLessRoom};
-ghost use Rattle.vg_volumes.specs.Stored.{Counts};
+ghost use Rattle.std.specs.Prelude.{◌≡◌, OnOk};
+ghost use Rattle.vg_volumes.specs.Stored.{Counts, Stays};
 ghost use Rattle.sm_machine.specs.declared.commands.Command.TheVariants as command;
 ghost use Rattle.sm_ready.specs.Refusing.{IsAllowed};
 ghost use Rattle.sm_ready.specs.Does.{IsKeptUp, NeedsNone, ShapesAs, StoreDoes};
-ghost use Rattle.sm_ready.specs.Frames.{HasTrueImages};
-ghost use Rattle.sm_ready.specs.Sessions.{IsOrderlyStore, IsTidyStore, IsReadyStore};
-ghost use Rattle.sm_attaching.specs.Attaching.{HasAttachmentRoom, StaysBeside};
+ghost use Rattle.sm_ready.specs.Framing.{IsBetweenSteps};
+ghost use Rattle.sm_ready.specs.Sessions.{IsReadyStore};
+ghost use Rattle.sm_attaching.specs.Attaching.{StaysBeside};
 
 use crate::chains::{CHAIN_LIMIT, chain_into};
 use sm_base::{Failed, Mode, Name};
@@ -29,26 +25,14 @@ pub(crate) fn note<S: Store>(
     disk: &Uuid,
     mode: Mode,
 ) -> Result<(), Failed>
-    requires usable { S.failed store.old ≡ false }
-    requires orderly { IsOrderlyStore S.Store store.old memory.old }
-    requires tidy { IsTidyStore S.Store store.old memory.old }
-    requires room { HasAttachmentRoom memory.old }
-    requires true_now { HasTrueImages S.Store store.old memory.old }
+    requires session { IsBetweenSteps S.Store store.old memory.old }
     requires allowed { IsAllowed S.Store (command.Attach disk.now mode) store.old memory.old }
     requires kept_up { IsKeptUp S.Store (command.Attach disk.now mode) store.old memory.old }
     requires enough { NeedsNone S.Store (command.Attach disk.now mode) store.old memory.old }
-    ensures site { S.site store.new ≡ S.site store.old }
-    ensures counts { S.faults store.old ≤ S.faults store.new }
+    ensures stays { Stays S.Store store.old store.new }
     ensures cause { Counts S.Store result store.old store.new }
-    ensures beside { S.told → Keeps (S.beside store.old) (S.beside store.new) }
-    ensures table { table_alone (S.table store.new) ≡ table_alone (S.table store.old) }
-    ensures no_less { NoLessRoom (S.table store.old) (S.table store.new) }
+    ensures session_still { IsBetweenSteps S.Store store.new memory.new }
     ensures others { StaysBeside memory.old memory.new }
-    ensures usable_still { S.failed store.new ≡ false }
-    ensures orderly_still { IsOrderlyStore S.Store store.new memory.new }
-    ensures tidy_still { IsTidyStore S.Store store.new memory.new }
-    ensures room_still { HasAttachmentRoom memory.new }
-    ensures true_still { HasTrueImages S.Store store.new memory.new }
     ensures shape { OnOk result (ShapesAs S.Store (command.Attach disk.now mode) store.old memory.old store.new memory.new) }
     ensures done { S.told → IsReadyStore S.Store store.old memory.old
         → StoreDoes S.Store (command.Attach disk.now mode) store.old memory.old store.new memory.new (result ≡ Ok tt) }
@@ -66,24 +50,12 @@ pub(crate) fn note<S: Store>(
 /// # Errors
 /// The sync failed; the disk is attached as before.
 pub fn detach<S: Store>(store: &mut S, memory: &mut Memory, disk: &Uuid) -> Result<(), Failed>
-    requires usable { S.failed store.old ≡ false }
-    requires orderly { IsOrderlyStore S.Store store.old memory.old }
-    requires tidy { IsTidyStore S.Store store.old memory.old }
-    requires room { HasAttachmentRoom memory.old }
-    requires true_now { HasTrueImages S.Store store.old memory.old }
+    requires session { IsBetweenSteps S.Store store.old memory.old }
     requires allowed { IsAllowed S.Store (command.Detach disk.now) store.old memory.old }
-    ensures site { S.site store.new ≡ S.site store.old }
-    ensures counts { S.faults store.old ≤ S.faults store.new }
+    ensures stays { Stays S.Store store.old store.new }
     ensures cause { Counts S.Store result store.old store.new }
-    ensures beside { S.told → Keeps (S.beside store.old) (S.beside store.new) }
-    ensures table { table_alone (S.table store.new) ≡ table_alone (S.table store.old) }
-    ensures no_less { NoLessRoom (S.table store.old) (S.table store.new) }
+    ensures session_still { IsBetweenSteps S.Store store.new memory.new }
     ensures others { StaysBeside memory.old memory.new }
-    ensures usable_still { S.failed store.new ≡ false }
-    ensures orderly_still { IsOrderlyStore S.Store store.new memory.new }
-    ensures tidy_still { IsTidyStore S.Store store.new memory.new }
-    ensures room_still { HasAttachmentRoom memory.new }
-    ensures true_still { HasTrueImages S.Store store.new memory.new }
     ensures shape { OnOk result (ShapesAs S.Store (command.Detach disk.now) store.old memory.old store.new memory.new) }
     ensures done { S.told → IsReadyStore S.Store store.old memory.old
         → StoreDoes S.Store (command.Detach disk.now) store.old memory.old store.new memory.new (result ≡ Ok tt) }

@@ -1,19 +1,18 @@
 //! Attaching a disk, whatever extents its image has.
 
-ghost use Rattle.std.specs.Prelude.{◌≡◌, ◌≤◌, ◌<◌, ◌+◌, ℕ, List, true, false, Ok, Err, IfOk, OnOk};
-ghost use Rattle.sm_base.specs.declared.faults.CallFault.TheVariants as fault;
-ghost use Rattle.sm_disk.specs.Held.{Keeps, Rose};
-ghost use Rattle.vg_meta.specs.Roomy.{table_alone};
+ghost use Rattle.std.specs.Prelude.{◌≡◌, ◌<◌, ◌+◌, ℕ, List, Err, OnOk};
 ghost use Rattle.vg_meta.specs.Tables.{VolumeTable};
-ghost use Rattle.vg_volumes.specs.Stored.{Counts, Leaves, OnlyReads};
+ghost use Rattle.sm_base.specs.declared.faults.CallFault.TheVariants as fault;
+ghost use Rattle.vg_meta.specs.Roomy.{table_alone};
+ghost use Rattle.vg_volumes.specs.Stored.{Counts, OnlyReads};
 ghost use Rattle.sm_machine.specs.declared.commands.Command.TheVariants as command;
 ghost use Rattle.sm_machine.specs.Refusals.{need as needed};
 ghost use Rattle.sm_ready.specs.Refusing.{IsAllowed};
 ghost use Rattle.sm_ready.specs.Does.{IsKeptUp, ShapesAs, StoreDoes, store_shape};
-ghost use Rattle.sm_ready.specs.Frames.{HasCommits, HasTrueImages};
-ghost use Rattle.sm_ready.specs.Sessions.{HasRows, HasTreeRoom, IsOrderlyStore, IsTidyStore, IsReadyStore};
+ghost use Rattle.sm_ready.specs.Framing.{CountsDevice, IsBetweenSteps, StepsOn};
+ghost use Rattle.sm_ready.specs.Sessions.{IsReadyStore};
 ghost use Rattle.sm_space.specs.Inflating.{IsEnlarged, extents_in};
-ghost use Rattle.sm_attaching.specs.Attaching.{HasAttachmentRoom, HasGrowth};
+ghost use Rattle.sm_attaching.specs.Attaching.{HasGrowth};
 ghost use Rattle.gc_abandon.specs.Abandoning.{unfolded, unfolded_table};
 ghost use Rattle.vhd_chain.specs.Trees.{tree_row};
 ghost use Rattle.sm_base.specs.declared.names.Name.TheVariants.{Vhd};
@@ -37,29 +36,14 @@ fn attach_kept<S: Store>(
     mode: Mode,
     growth: Option<(u32, Change)>,
 ) -> Result<(), Failed>
-    requires usable { S.failed store.old ≡ false }
-    requires orderly { IsOrderlyStore S.Store store.old memory.old }
-    requires tidy { IsTidyStore S.Store store.old memory.old }
-    requires tree_room { HasTreeRoom memory.old }
-    requires room { HasAttachmentRoom memory.old }
-    requires true_now { HasTrueImages S.Store store.old memory.old }
+    requires session { IsBetweenSteps S.Store store.old memory.old }
     requires allowed { IsAllowed S.Store (command.Attach disk.now mode) store.old memory.old }
     requires kept_up { IsKeptUp S.Store (command.Attach disk.now mode) store.old memory.old }
     requires growth { HasGrowth S.Store store.old memory.old disk.now mode growth }
-    ensures site { S.site store.new ≡ S.site store.old }
-    ensures counts { S.faults store.old ≤ S.faults store.new }
+    ensures step { StepsOn S.Store 3 store.old store.new }
     ensures cause { Counts S.Store result store.old store.new }
-    ensures beside { S.told → Keeps (S.beside store.old) (S.beside store.new) }
-    ensures few { HasCommits 3 (table_alone (S.table store.old)) (table_alone (S.table store.new)) }
-    ensures few_left { Leaves S.Store store.new (λ t image. HasCommits 3 (table_alone (S.table store.old)) t) }
+    ensures session_still { OnOk result (IsBetweenSteps S.Store store.new memory.new) }
     ensures others { (memory.new.records ≡ memory.old.records) × (memory.new.operation ≡ memory.old.operation) }
-    ensures usable_still { OnOk result (S.failed store.new ≡ false) }
-    ensures orderly_still { OnOk result (IsOrderlyStore S.Store store.new memory.new) }
-    ensures tidy_still { OnOk result (IsTidyStore S.Store store.new memory.new) }
-    ensures tree_room_still { OnOk result (HasTreeRoom memory.new) }
-    ensures room_still { OnOk result (HasAttachmentRoom memory.new) }
-    ensures true_still { OnOk result (HasTrueImages S.Store store.new memory.new) }
-    ensures rows { HasRows (S.table store.old) → OnOk result (HasRows (S.table store.new)) }
     ensures least { OnOk result (0 < needed (store_shape S.Store store.old memory.old) (command.Attach disk.now mode)
         → IsEnlarged (S.site store.old).count (table_alone (S.table store.old)) disk.now
         (extents_in (tree_row memory.old.tree.rows (Vhd disk.now)) + needed (store_shape S.Store store.old memory.old) (command.Attach disk.now mode)) (table_alone (S.table store.new))) }
@@ -84,29 +68,14 @@ fn attach_given<S: Store>(
     mode: Mode,
     growth: Option<(u32, Change)>,
 ) -> Result<(), Failed>
-    requires usable { S.failed store.old ≡ false }
-    requires orderly { IsOrderlyStore S.Store store.old memory.old }
-    requires tidy { IsTidyStore S.Store store.old memory.old }
-    requires tree_room { HasTreeRoom memory.old }
-    requires room { HasAttachmentRoom memory.old }
-    requires true_now { HasTrueImages S.Store store.old memory.old }
+    requires session { IsBetweenSteps S.Store store.old memory.old }
     requires allowed { IsAllowed S.Store (command.Attach disk.now mode) store.old memory.old }
     requires growth { HasGrowth S.Store store.old memory.old disk.now mode growth }
-    ensures site { S.site store.new ≡ S.site store.old }
-    ensures counts { S.faults store.old ≤ S.faults store.new }
+    ensures step { StepsOn S.Store 4 store.old store.new }
     ensures cause { Counts S.Store result store.old store.new }
-    ensures beside { S.told → Keeps (S.beside store.old) (S.beside store.new) }
-    ensures few { HasCommits 4 (table_alone (S.table store.old)) (table_alone (S.table store.new)) }
-    ensures few_left { Leaves S.Store store.new (λ t image. HasCommits 4 (table_alone (S.table store.old)) t) }
+    ensures session_still { OnOk result (IsBetweenSteps S.Store store.new memory.new) }
     ensures others { memory.new.records ≡ memory.old.records }
     ensures operation { OnOk result (memory.new.operation ≡ unfolded memory.old.operation disk.now) }
-    ensures usable_still { OnOk result (S.failed store.new ≡ false) }
-    ensures orderly_still { OnOk result (IsOrderlyStore S.Store store.new memory.new) }
-    ensures tidy_still { OnOk result (IsTidyStore S.Store store.new memory.new) }
-    ensures tree_room_still { OnOk result (HasTreeRoom memory.new) }
-    ensures room_still { OnOk result (HasAttachmentRoom memory.new) }
-    ensures true_still { OnOk result (HasTrueImages S.Store store.new memory.new) }
-    ensures rows { HasRows (S.table store.old) → OnOk result (HasRows (S.table store.new)) }
     ensures least { OnOk result (0 < needed (store_shape S.Store store.old memory.old) (command.Attach disk.now mode)
         → IsEnlarged (S.site store.old).count (unfolded_table memory.old.operation disk.now (table_alone (S.table store.old))) disk.now
         (extents_in (tree_row memory.old.tree.rows (Vhd disk.now)) + needed (store_shape S.Store store.old memory.old) (command.Attach disk.now mode)) (table_alone (S.table store.new))) }
@@ -132,31 +101,16 @@ pub fn attach<S: Store>(
     disk: &Uuid,
     mode: Mode,
 ) -> Result<(), CallFault>
-    requires usable { S.failed store.old ≡ false }
-    requires orderly { IsOrderlyStore S.Store store.old memory.old }
-    requires tidy { IsTidyStore S.Store store.old memory.old }
-    requires tree_room { HasTreeRoom memory.old }
-    requires room { HasAttachmentRoom memory.old }
-    requires true_now { HasTrueImages S.Store store.old memory.old }
+    requires session { IsBetweenSteps S.Store store.old memory.old }
     requires allowed { IsAllowed S.Store (command.Attach disk.now mode) store.old memory.old }
-    ensures site { S.site store.new ≡ S.site store.old }
-    ensures counts { S.faults store.old ≤ S.faults store.new }
-    ensures cause { result ≡ Err fault.Device → Rose (S.faults store.old) (S.faults store.new) }
-    ensures beside { S.told → Keeps (S.beside store.old) (S.beside store.new) }
-    ensures few { HasCommits 4 (table_alone (S.table store.old)) (table_alone (S.table store.new)) }
-    ensures few_left { Leaves S.Store store.new (λ t image. HasCommits 4 (table_alone (S.table store.old)) t) }
+    ensures step { StepsOn S.Store 4 store.old store.new }
+    ensures cause { CountsDevice S.Store result store.old store.new }
+    ensures session_still { OnOk result (IsBetweenSteps S.Store store.new memory.new) }
     ensures poor { result ≡ Err fault.NoMemory
         → OnlyReads S.Store store.old store.new × ((t : VolumeTable) (image : ℕ → List ℕ) → S.leaves store.new t image → S.leaves store.old t image)
-        × (memory.new ≡ memory.old) × (S.failed store.new ≡ false) }
+        × (memory.new ≡ memory.old) }
     ensures others { memory.new.records ≡ memory.old.records }
     ensures operation { OnOk result (memory.new.operation ≡ unfolded memory.old.operation disk.now) }
-    ensures usable_still { OnOk result (S.failed store.new ≡ false) }
-    ensures orderly_still { OnOk result (IsOrderlyStore S.Store store.new memory.new) }
-    ensures tidy_still { OnOk result (IsTidyStore S.Store store.new memory.new) }
-    ensures tree_room_still { OnOk result (HasTreeRoom memory.new) }
-    ensures room_still { OnOk result (HasAttachmentRoom memory.new) }
-    ensures true_still { OnOk result (HasTrueImages S.Store store.new memory.new) }
-    ensures rows { HasRows (S.table store.old) → OnOk result (HasRows (S.table store.new)) }
     ensures least { OnOk result (0 < needed (store_shape S.Store store.old memory.old) (command.Attach disk.now mode)
         → IsEnlarged (S.site store.old).count (unfolded_table memory.old.operation disk.now (table_alone (S.table store.old))) disk.now
         (extents_in (tree_row memory.old.tree.rows (Vhd disk.now)) + needed (store_shape S.Store store.old memory.old) (command.Attach disk.now mode)) (table_alone (S.table store.new))) }

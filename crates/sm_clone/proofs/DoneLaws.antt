@@ -137,55 +137,55 @@ module _ {S : Type 0} {g : Ghosts S} {a : S} {m : Memory} {f : Fork} {p : Parts}
   rest = at_rest (reads (g.area a))
 
   might : MayShow s before was
-  might = might_show g can.usable told
+  might = might_show g can.session.usable told
 
   abbrev table_1 : VolumeTable
-  table_1 = tables.table_1 s t (known m) f.disk f.twin entry.read_only can.orderly can.tidy can.allowed sectors own twins can.extents (twin_uuid can)
+  table_1 = tables.table_1 s t (known m) f.disk f.twin entry.read_only can.session.orderly can.session.tidy can.allowed sectors own twins can.extents (twin_uuid can)
 
   abbrev table_2 : VolumeTable
-  table_2 = tables.table_2 s t (known m) f.disk f.twin entry.read_only can.orderly can.tidy can.allowed sectors own twins can.extents (twin_uuid can)
+  table_2 = tables.table_2 s t (known m) f.disk f.twin entry.read_only can.session.orderly can.session.tidy can.allowed sectors own twins can.extents (twin_uuid can)
 
   abbrev table_3 : VolumeTable
-  table_3 = tables.table_3 s t (known m) f.disk f.twin entry.read_only can.orderly can.tidy can.allowed sectors own twins can.extents (twin_uuid can)
+  table_3 = tables.table_3 s t (known m) f.disk f.twin entry.read_only can.session.orderly can.session.tidy can.allowed sectors own twins can.extents (twin_uuid can)
 
   abbrev table_4 : VolumeTable
-  table_4 = tables.table_4 s t (known m) f.disk f.twin entry.read_only can.orderly can.tidy can.allowed sectors own twins can.extents (twin_uuid can)
+  table_4 = tables.table_4 s t (known m) f.disk f.twin entry.read_only can.session.orderly can.session.tidy can.allowed sectors own twins can.extents (twin_uuid can)
 
   abbrev table_5 : VolumeTable
-  table_5 = tables.table_5 s t (known m) f.disk f.twin entry.read_only can.orderly can.tidy can.allowed sectors own twins can.extents (twin_uuid can)
+  table_5 = tables.table_5 s t (known m) f.disk f.twin entry.read_only can.session.orderly can.session.tidy can.allowed sectors own twins can.extents (twin_uuid can)
 
   abbrev table_6 : VolumeTable
-  table_6 = tables.table_6 s t (known m) f.disk f.twin entry.read_only can.orderly can.tidy can.allowed sectors own twins can.extents (twin_uuid can)
+  table_6 = tables.table_6 s t (known m) f.disk f.twin entry.read_only can.session.orderly can.session.tidy can.allowed sectors own twins can.extents (twin_uuid can)
 
   abbrev table_7 : VolumeTable
-  table_7 = tables.table_7 s t (known m) f.disk f.twin entry.read_only can.orderly can.tidy can.allowed sectors own twins can.extents (twin_uuid can)
+  table_7 = tables.table_7 s t (known m) f.disk f.twin entry.read_only can.session.orderly can.session.tidy can.allowed sectors own twins can.extents (twin_uuid can)
 
   abbrev table_8 : VolumeTable
-  table_8 = tables.table_8 s t (known m) f.disk f.twin entry.read_only can.orderly can.tidy can.allowed sectors own twins can.extents (twin_uuid can)
+  table_8 = tables.table_8 s t (known m) f.disk f.twin entry.read_only can.session.orderly can.session.tidy can.allowed sectors own twins can.extents (twin_uuid can)
 
   -- ---- among the first commits
 
-  safe_front : (v : VolumeTable) (n : Name) → IsMomentTable s t (known m) f.disk f.twin entry.read_only can.orderly can.tidy can.allowed (g.area a) ready k_now can.origin placed v n false
+  safe_front : (v : VolumeTable) (n : Name) → IsMomentTable s t (known m) f.disk f.twin entry.read_only can.session.orderly can.session.tidy can.allowed (g.area a) ready k_now can.origin placed v n false
       → IsSafe s v rest before was
-  safe_front v n h = moment_safe s t (known m) f.disk f.twin entry.read_only can.orderly can.tidy can.allowed (g.area a) ready k_now can.origin placed can.kept_up v n false rest before h
-      (area_front s t (known m) f.disk f.twin entry.read_only can.orderly can.tidy can.allowed (g.area a) ready k_now can.origin placed v n h.same) might
+  safe_front v n h = moment_safe s t (known m) f.disk f.twin entry.read_only can.session.orderly can.session.tidy can.allowed (g.area a) ready k_now can.origin placed can.kept_up v n false rest before h
+      (area_front s t (known m) f.disk f.twin entry.read_only can.session.orderly can.session.tidy can.allowed (g.area a) ready k_now can.origin placed v n h.same) might
 
   all_first : AllSafe s before was t (g.area a) (first_changes fork_now own twins)
   all_first = (
-    ready_safe s t (g.area a) (known m) before can.orderly ready (λ image is. inr (told, can.usable, is)),
+    ready_safe s t (g.area a) (known m) before can.session.orderly ready (λ image is. inr (told, can.session.usable, is)),
     (
-      safe_front table_1 fork_now.own (moment_1 s t (known m) f.disk f.twin entry.read_only can.orderly can.tidy can.allowed can.kept_up sectors own twins can.extents (twin_uuid can)
+      safe_front table_1 fork_now.own (moment_1 s t (known m) f.disk f.twin entry.read_only can.session.orderly can.session.tidy can.allowed can.kept_up sectors own twins can.extents (twin_uuid can)
           (g.area a) ready k_now can.origin placed),
       (
-        safe_front table_2 (base_name fork_now) (moment_2 s t (known m) f.disk f.twin entry.read_only can.orderly can.tidy can.allowed can.kept_up sectors own twins can.extents (twin_uuid can)
+        safe_front table_2 (base_name fork_now) (moment_2 s t (known m) f.disk f.twin entry.read_only can.session.orderly can.session.tidy can.allowed can.kept_up sectors own twins can.extents (twin_uuid can)
             (g.area a) ready k_now can.origin placed),
         (
-          safe_front table_3 (base_name fork_now) (moment_3 s t (known m) f.disk f.twin entry.read_only can.orderly can.tidy can.allowed can.kept_up sectors own twins can.extents (twin_uuid can)
+          safe_front table_3 (base_name fork_now) (moment_3 s t (known m) f.disk f.twin entry.read_only can.session.orderly can.session.tidy can.allowed can.kept_up sectors own twins can.extents (twin_uuid can)
               (g.area a) ready k_now can.origin placed),
           (
-            safe_front table_4 (base_name fork_now) (moment_4 s t (known m) f.disk f.twin entry.read_only can.orderly can.tidy can.allowed can.kept_up sectors own twins can.extents (twin_uuid can)
+            safe_front table_4 (base_name fork_now) (moment_4 s t (known m) f.disk f.twin entry.read_only can.session.orderly can.session.tidy can.allowed can.kept_up sectors own twins can.extents (twin_uuid can)
                 (g.area a) ready k_now can.origin placed),
-            safe_front table_5 (base_name fork_now) (moment_5 s t (known m) f.disk f.twin entry.read_only can.orderly can.tidy can.allowed can.kept_up sectors own twins can.extents (twin_uuid can)
+            safe_front table_5 (base_name fork_now) (moment_5 s t (known m) f.disk f.twin entry.read_only can.session.orderly can.session.tidy can.allowed can.kept_up sectors own twins can.extents (twin_uuid can)
                 (g.area a) ready k_now can.origin placed),
           ),
         ),
@@ -225,10 +225,10 @@ module _ {S : Type 0} {g : Ghosts S} {a : S} {m : Memory} {f : Fork} {p : Parts}
         (subst₂ (λ (x : Site) (y : VolumeTable). IsBesideFork x y f (g.area b) (g.area d) (unwrap_or (place_for m.records entry.uuid) 0) entry) runs.site table_b (middle told)))
 
     safe_5 : IsSafe s table_5 (g.area d) before was
-    safe_5 = moment_safe s t (known m) f.disk f.twin entry.read_only can.orderly can.tidy can.allowed (g.area a) ready k_now can.origin placed can.kept_up table_5 (base_name fork_now) false
-        (g.area d) before (moment_5 s t (known m) f.disk f.twin entry.read_only can.orderly can.tidy can.allowed can.kept_up sectors own twins can.extents (twin_uuid can)
-        (g.area a) ready k_now can.origin placed) (area_fill s t (known m) f.disk f.twin entry.read_only can.orderly can.tidy can.allowed (g.area a) ready k_now can.origin placed table_5 (g.area d)
-        (moment_5 s t (known m) f.disk f.twin entry.read_only can.orderly can.tidy can.allowed can.kept_up sectors own twins can.extents (twin_uuid can)
+    safe_5 = moment_safe s t (known m) f.disk f.twin entry.read_only can.session.orderly can.session.tidy can.allowed (g.area a) ready k_now can.origin placed can.kept_up table_5 (base_name fork_now) false
+        (g.area d) before (moment_5 s t (known m) f.disk f.twin entry.read_only can.session.orderly can.session.tidy can.allowed can.kept_up sectors own twins can.extents (twin_uuid can)
+        (g.area a) ready k_now can.origin placed) (area_fill s t (known m) f.disk f.twin entry.read_only can.session.orderly can.session.tidy can.allowed (g.area a) ready k_now can.origin placed table_5 (g.area d)
+        (moment_5 s t (known m) f.disk f.twin entry.read_only can.session.orderly can.session.tidy can.allowed can.kept_up sectors own twins can.extents (twin_uuid can)
         (g.area a) ready k_now can.origin placed).same middle_now) might
 
     -- a stop, where one of the writes failed
@@ -242,16 +242,16 @@ module _ {S : Type 0} {g : Ghosts S} {a : S} {m : Memory} {f : Fork} {p : Parts}
         (filled : g.told → IsFilled (g.site b) (tab g b) (child_head (g.site b).geometry f.disk now (base_uuid ((tab g b).sequence - 1)) image_base)
         (child_head (g.site b).geometry f.twin now (base_uuid (tab g b).sequence) image_base) (unwrap_or (place_for m.records entry.uuid) 0) entry (g.area b) (g.area d)) where
       abbrev own_image : Body
-      own_image = base_body fork_now (own_of s t (known m) f.disk f.twin entry.read_only can.orderly can.tidy can.allowed).row.image
+      own_image = base_body fork_now (own_of s t (known m) f.disk f.twin entry.read_only can.session.orderly can.session.tidy can.allowed).row.image
 
       image_is : image_base ≡ own_image
       image_is =
           over ∙ ap₂ (λ (y : Fork) (r : TreeRow). base_body y r.image) can.fork
-          (same_Some row (own_of s t (known m) f.disk f.twin entry.read_only can.orderly can.tidy can.allowed).row (sym at ∙ ap (λ (y : Fork). tree_row m.tree.rows y.own) can.fork
-          ∙ found s t (known m) f.disk f.twin entry.read_only can.orderly can.tidy can.allowed))
+          (same_Some row (own_of s t (known m) f.disk f.twin entry.read_only can.session.orderly can.session.tidy can.allowed).row (sym at ∙ ap (λ (y : Fork). tree_row m.tree.rows y.own) can.fork
+          ∙ found s t (known m) f.disk f.twin entry.read_only can.session.orderly can.session.tidy can.allowed))
 
       number_b : (tab g b).sequence ≡ t.sequence + 5
-      number_b = ap (λ (v : VolumeTable). v.sequence) table_b ∙ (tables.stage_5 s t (known m) f.disk f.twin entry.read_only can.orderly can.tidy can.allowed sectors own twins can.extents
+      number_b = ap (λ (v : VolumeTable). v.sequence) table_b ∙ (tables.stage_5 s t (known m) f.disk f.twin entry.read_only can.session.orderly can.session.tidy can.allowed sectors own twins can.extents
           (twin_uuid can)).number
 
       own_head : child_head (g.site b).geometry f.disk now (base_uuid ((tab g b).sequence - 1)) image_base ≡ child_head s.geometry f.disk now (own_uid t) own_image
@@ -281,13 +281,13 @@ module _ {S : Type 0} {g : Ghosts S} {a : S} {m : Memory} {f : Fork} {p : Parts}
       all_last = (
         safe_5,
         (
-          moment_safe s t (known m) f.disk f.twin entry.read_only can.orderly can.tidy can.allowed (g.area a) ready k_now can.origin placed can.kept_up table_6 (base_name fork_now) true end before
-              (moment_6 s t (known m) f.disk f.twin entry.read_only can.orderly can.tidy can.allowed can.kept_up sectors own twins can.extents (twin_uuid can) (g.area a) ready k_now can.origin placed)
-              (ended.area_6 s t (known m) f.disk f.twin entry.read_only can.orderly can.tidy can.allowed can.kept_up sectors own twins can.extents (twin_uuid can)
+          moment_safe s t (known m) f.disk f.twin entry.read_only can.session.orderly can.session.tidy can.allowed (g.area a) ready k_now can.origin placed can.kept_up table_6 (base_name fork_now) true end before
+              (moment_6 s t (known m) f.disk f.twin entry.read_only can.session.orderly can.session.tidy can.allowed can.kept_up sectors own twins can.extents (twin_uuid can) (g.area a) ready k_now can.origin placed)
+              (ended.area_6 s t (known m) f.disk f.twin entry.read_only can.session.orderly can.session.tidy can.allowed can.kept_up sectors own twins can.extents (twin_uuid can)
               (g.area a) ready k_now can.origin placed now (g.area d) middle_now filled_now) might,
-          moment_safe s t (known m) f.disk f.twin entry.read_only can.orderly can.tidy can.allowed (g.area a) ready k_now can.origin placed can.kept_up table_7 (base_name fork_now) true end before
-              (moment_7 s t (known m) f.disk f.twin entry.read_only can.orderly can.tidy can.allowed can.kept_up sectors own twins can.extents (twin_uuid can) (g.area a) ready k_now can.origin placed)
-              (ended.area_7 s t (known m) f.disk f.twin entry.read_only can.orderly can.tidy can.allowed can.kept_up sectors own twins can.extents (twin_uuid can)
+          moment_safe s t (known m) f.disk f.twin entry.read_only can.session.orderly can.session.tidy can.allowed (g.area a) ready k_now can.origin placed can.kept_up table_7 (base_name fork_now) true end before
+              (moment_7 s t (known m) f.disk f.twin entry.read_only can.session.orderly can.session.tidy can.allowed can.kept_up sectors own twins can.extents (twin_uuid can) (g.area a) ready k_now can.origin placed)
+              (ended.area_7 s t (known m) f.disk f.twin entry.read_only can.session.orderly can.session.tidy can.allowed can.kept_up sectors own twins can.extents (twin_uuid can)
               (g.area a) ready k_now can.origin placed now (g.area d) middle_now filled_now) might,
         ),
       )
@@ -301,24 +301,24 @@ module _ {S : Type 0} {g : Ghosts S} {a : S} {m : Memory} {f : Fork} {p : Parts}
       used = used_as fork_now m.attached
 
       uses : IsUsedAs fork_now m.attached used
-      uses = is_used_as fork_now m.attached (base_not_leaf s t (known m) f.disk f.twin entry.read_only can.orderly can.tidy can.allowed) (base_not_own s t
-          (known m) f.disk f.twin entry.read_only can.orderly can.tidy can.allowed)
+      uses = is_used_as fork_now m.attached (base_not_leaf s t (known m) f.disk f.twin entry.read_only can.session.orderly can.session.tidy can.allowed) (base_not_own s t
+          (known m) f.disk f.twin entry.read_only can.session.orderly can.session.tidy can.allowed)
 
       abbrev memory_then : Known
-      memory_then = known_then s t (known m) f.disk f.twin entry.read_only can.orderly can.tidy can.allowed now (length own)
+      memory_then = known_then s t (known m) f.disk f.twin entry.read_only can.session.orderly can.session.tidy can.allowed now (length own)
           (length twins) k_now can.origin placed can.recorded many can.extents.twin_many used uses.disks
 
       orderly_8 : IsOrderly s table_8 memory_then
-      orderly_8 = orderly_then s t (known m) f.disk f.twin entry.read_only can.orderly can.tidy can.allowed can.kept_up now k_now can.origin placed can.recorded own twins many can.extents.twin_many
-          used uses table_8 (forked_table s t (known m) f.disk f.twin entry.read_only can.orderly can.tidy can.allowed sectors own twins can.extents (twin_uuid can)) (tables.stage_8 s t
-          (known m) f.disk f.twin entry.read_only can.orderly can.tidy can.allowed sectors own twins can.extents (twin_uuid can)).number
+      orderly_8 = orderly_then s t (known m) f.disk f.twin entry.read_only can.session.orderly can.session.tidy can.allowed can.kept_up now k_now can.origin placed can.recorded own twins many can.extents.twin_many
+          used uses table_8 (forked_table s t (known m) f.disk f.twin entry.read_only can.session.orderly can.session.tidy can.allowed sectors own twins can.extents (twin_uuid can)) (tables.stage_8 s t
+          (known m) f.disk f.twin entry.read_only can.session.orderly can.session.tidy can.allowed sectors own twins can.extents (twin_uuid can)).number
 
       ready_8 : IsReady s table_8 end memory_then
-      ready_8 = ended.ready_ended s t (known m) f.disk f.twin entry.read_only can.orderly can.tidy can.allowed can.kept_up sectors own twins can.extents (twin_uuid can)
+      ready_8 = ended.ready_ended s t (known m) f.disk f.twin entry.read_only can.session.orderly can.session.tidy can.allowed can.kept_up sectors own twins can.extents (twin_uuid can)
           (g.area a) ready k_now can.origin placed now (g.area d) middle_now filled_now right memory_then refl refl refl
 
       disks_8 : disks (content_now s table_8 end) ≡ then
-      disks_8 = ended.disks_ended s t (known m) f.disk f.twin entry.read_only can.orderly can.tidy can.allowed can.kept_up sectors own twins can.extents (twin_uuid can)
+      disks_8 = ended.disks_ended s t (known m) f.disk f.twin entry.read_only can.session.orderly can.session.tidy can.allowed can.kept_up sectors own twins can.extents (twin_uuid can)
           (g.area a) ready k_now can.origin placed now (g.area d) middle_now filled_now right can.recorded
 
       behind : (image : ℕ → List ℕ) → IsLeft s end image → IsKept (content_in s table_8 image) × IsBetween (MayShow s before) was then (disks (content_in s table_8 image))
@@ -350,7 +350,7 @@ module _ {S : Type 0} {g : Ghosts S} {a : S} {m : Memory} {f : Fork} {p : Parts}
       fork_done {e} n ok last crash rows_are records_are same =
           subst (λ (y : VolumeTable). HasDoneFrom s y (g.area e) (known n) before (StoreLeaves g e) ok was then) (sym table_e) (record {
             ready = λ fine. subst (λ (h : Held). IsReady s table_8 h (known n)) (sym area_e) (ended.ready_ended s t
-                (known m) f.disk f.twin entry.read_only can.orderly can.tidy can.allowed can.kept_up sectors own twins can.extents (twin_uuid can) (g.area a) ready k_now can.origin placed now
+                (known m) f.disk f.twin entry.read_only can.session.orderly can.session.tidy can.allowed can.kept_up sectors own twins can.extents (twin_uuid can) (g.area a) ready k_now can.origin placed now
                 (g.area d) middle_now filled_now right (known n)
                 (rows_are ∙ ap (λ (y : Fork). forked_rows s t y now (length own) (length twins) (tree_row m.tree.rows y.own) m.tree.rows) can.fork)
                 (records_are ∙ ap (λ (r : Record). set m.records (unwrap_or (place_for m.records r.uuid) 0) (Some r)) can.entry_is) same);

@@ -87,7 +87,7 @@ module _ {S : Type 0} {g : Ghosts S} {a : S} {m : Memory} {f : Fork} {p : Parts}
     table_is = table ∙ ap (λ (x : Fork). table_forked t x own twins) can.fork
 
     abbrev memory_then : Known
-    memory_then = known_then s t (known m) f.disk f.twin entry.read_only can.orderly can.tidy can.allowed now (length own) (length twins) k can.origin placed can.recorded taken.own_many taken.twin_many n.attached there.uses.disks
+    memory_then = known_then s t (known m) f.disk f.twin entry.read_only can.session.orderly can.session.tidy can.allowed now (length own) (length twins) k can.origin placed can.recorded taken.own_many taken.twin_many n.attached there.uses.disks
 
     known_is : known n ≡ memory_then
     known_is =
@@ -96,30 +96,30 @@ module _ {S : Type 0} {g : Ghosts S} {a : S} {m : Memory} {f : Fork} {p : Parts}
         ∙ ap (λ (o : Op). let x : Known = record memory_then { op = o } in x) there.others
 
     number : after.sequence ≡ t.sequence + 8
-    number = (stage_8 s t (known m) f.disk f.twin entry.read_only can.orderly can.tidy can.allowed (sectors_of (tree_row m.tree.rows by_number.own)) own twins taken (twin_uuid can)).number
+    number = (stage_8 s t (known m) f.disk f.twin entry.read_only can.session.orderly can.session.tidy can.allowed (sectors_of (tree_row m.tree.rows by_number.own)) own twins taken (twin_uuid can)).number
 
     volumes : IsForkedTable s.count t by_number own twins after
-    volumes = forked_table s t (known m) f.disk f.twin entry.read_only can.orderly can.tidy can.allowed (sectors_of (tree_row m.tree.rows by_number.own)) own twins taken (twin_uuid can)
+    volumes = forked_table s t (known m) f.disk f.twin entry.read_only can.session.orderly can.session.tidy can.allowed (sectors_of (tree_row m.tree.rows by_number.own)) own twins taken (twin_uuid can)
 
     pub orderly_end : IsOrderlyStore g e n
     orderly_end = subst₂ (λ (x : Site) (y : VolumeTable). IsOrderly x y (known n)) (sym site) (sym table_is) (subst (IsOrderly s after) (sym known_is)
-        (orderly_then s t (known m) f.disk f.twin entry.read_only can.orderly can.tidy can.allowed can.kept_up now k can.origin placed can.recorded own twins taken.own_many taken.twin_many n.attached there.uses after volumes number))
+        (orderly_then s t (known m) f.disk f.twin entry.read_only can.session.orderly can.session.tidy can.allowed can.kept_up now k can.origin placed can.recorded own twins taken.own_many taken.twin_many n.attached there.uses after volumes number))
 
     pub tidy_end : IsTidyStore g e n
     tidy_end = subst₂ IsTidy (sym table_is) (sym known_is)
-        (tidy_then s t (known m) f.disk f.twin entry.read_only can.orderly can.tidy can.allowed can.kept_up now k can.origin placed can.recorded own twins taken.own_many taken.twin_many n.attached there.uses after volumes number)
+        (tidy_then s t (known m) f.disk f.twin entry.read_only can.session.orderly can.session.tidy can.allowed can.kept_up now k can.origin placed can.recorded own twins taken.own_many taken.twin_many n.attached there.uses after volumes number)
 
     -- the number that names the base
     number_is : base_number f.base ≡ can.allowed.number
     number_is =
-        let few = (new s t (known m) f.disk f.twin entry.read_only can.orderly can.tidy can.allowed).unspent in
+        let few = (new s t (known m) f.disk f.twin entry.read_only can.session.orderly can.session.tidy can.allowed).unspent in
         ap (λ (x : Fork). base_number x.base) can.fork ∙ number_of_base can.allowed.number (omega (arith, few))
 
     pub shape_end : store_shape g e n ≡ shape_forked (store_shape g a m) (base_number f.base) (forking f.disk f.twin entry.read_only)
     unfolding shape_in
     shape_end =
         ap₂ (λ (x : Site) (y : VolumeTable). shape_in x y (known n)) site table_is ∙ ap (shape_in s after) known_is
-        ∙ shape_then s t (known m) f.disk f.twin entry.read_only can.orderly can.tidy can.allowed now (length own) (length twins) k can.origin placed can.recorded taken.own_many taken.twin_many n.attached there.uses.disks
+        ∙ shape_then s t (known m) f.disk f.twin entry.read_only can.session.orderly can.session.tidy can.allowed now (length own) (length twins) k can.origin placed can.recorded taken.own_many taken.twin_many n.attached there.uses.disks
         after number
         ∙ ap (λ (x : Shape). let y : Shape = record x { sequence = risen t.sequence 8 } in y)
         (sym (forked_after (record (store_shape g a m) { sequence = can.allowed.number }) f.disk f.twin entry.read_only))
@@ -131,15 +131,15 @@ module _ {S : Type 0} {g : Ghosts S} {a : S} {m : Memory} {f : Fork} {p : Parts}
     calls_is = subst (λ (x : Fork). IsForked g a b d e x own twins now image k entry) can.fork calls
 
     pub site_then : g.site e ≡ s
-    site_then = site_end m f.disk f.twin entry.read_only can.orderly can.tidy can.allowed (sectors_of (tree_row m.tree.rows by_number.own)) own twins taken (twin_uuid can) now image k entry calls_is
+    site_then = site_end m f.disk f.twin entry.read_only can.session.orderly can.session.tidy can.allowed (sectors_of (tree_row m.tree.rows by_number.own)) own twins taken (twin_uuid can) now image k entry calls_is
 
     pub table_then : tab g e ≡ table_forked t f own twins
     table_then =
-        table_end m f.disk f.twin entry.read_only can.orderly can.tidy can.allowed (sectors_of (tree_row m.tree.rows by_number.own)) own twins taken (twin_uuid can) now image k entry calls_is
+        table_end m f.disk f.twin entry.read_only can.session.orderly can.session.tidy can.allowed (sectors_of (tree_row m.tree.rows by_number.own)) own twins taken (twin_uuid can) now image k entry calls_is
         ∙ ap (λ (x : Fork). table_forked t x own twins) (sym can.fork)
 
     pub true_end : (r : TreeRow) → tree_row m.tree.rows f.own ≡ Some r → image ≡ base_body f r.image → (n : Memory)
         → n.tree.rows ≡ forked_rows s t f now (length own) (length twins) (tree_row m.tree.rows f.own) m.tree.rows → HasTrueImages g a m → HasTrueImages g e n
-    true_end r at over n rows = true_then m f.disk f.twin entry.read_only can.orderly can.tidy can.allowed (sectors_of (tree_row m.tree.rows by_number.own)) own twins taken (twin_uuid can) now image k entry calls_is
-        (over ∙ ap₂ base_body can.fork (ap (λ (q : TreeRow). q.image) (same_Some r _ (sym (row_is r at) ∙ found s t (known m) f.disk f.twin entry.read_only can.orderly can.tidy can.allowed))))
+    true_end r at over n rows = true_then m f.disk f.twin entry.read_only can.session.orderly can.session.tidy can.allowed (sectors_of (tree_row m.tree.rows by_number.own)) own twins taken (twin_uuid can) now image k entry calls_is
+        (over ∙ ap₂ base_body can.fork (ap (λ (q : TreeRow). q.image) (same_Some r _ (sym (row_is r at) ∙ found s t (known m) f.disk f.twin entry.read_only can.session.orderly can.session.tidy can.allowed))))
         n (rows ∙ ap (λ (x : Fork). forked_rows s t x now (length own) (length twins) (tree_row m.tree.rows x.own) m.tree.rows) can.fork)

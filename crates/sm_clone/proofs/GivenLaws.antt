@@ -13,16 +13,18 @@ use Rattle.sm_machine.specs.Shapes.{Shape, risen}
 use Rattle.sm_machine.specs.Steps.{disks_next, shape_after, shape_next}
 use Rattle.sm_standing.specs.Standing.{disks}
 use Rattle.sm_ready.specs.Does.{StoreDoes, store_shape}
+use Rattle.sm_ready.specs.Framing.{IsBetweenSteps}
 use Rattle.sm_record.specs.Records.{IsRecord}
 use Rattle.sm_record.specs.declared.records.Record.{Record}
 use Rattle.sm_mgt.specs.Places.{place_for, record_in}
 use Rattle.sm_ready.specs.Known.{entry_of, known, shape_in}
 use Rattle.sm_ready.specs.Orderly.{IsOrderly}
 use Rattle.sm_ready.specs.Refusing.{IsAllowed}
-use Rattle.sm_ready.specs.Sessions.{IsOrderlyStore, IsReadyStore, IsTidyStore}
+use Rattle.sm_ready.specs.Sessions.{IsOrderlyStore, IsReadyStore}
 use Rattle.sm_ready.specs.Stores.{content_now}
 use Rattle.sm_ready.specs.declared.memory.Memory.{Memory}
 use Rattle.sm_ready.proofs.ChainLaws.{done_behind, ready_read, tab}
+use Rattle.sm_ready.proofs.FramingLaws.{reads_between}
 use Rattle.sm_space.proofs.KeptRoom.{KeepsRoom, are_free_kept, least_kept}
 use Rattle.gc_abandon.specs.Abandoning.{abandoned_where, is_fork, unfolded, unfolded_table}
 use Rattle.gc_abandon.proofs.AbandonedLaws.{GaveUp, then_does, then_forked, then_kept, then_number, then_orderly, then_unrefused}
@@ -102,16 +104,14 @@ module _ {S : Type 0} {g : Ghosts S} {u : List ℕ} {a b : S} {m k : Memory} (w 
 
   module _ (o : IsOrderlyStore g a m) (room : KeepsRoom g a b) (operation : k.operation ≡ unfolded m.operation u) (others : (k.tree ≡ m.tree) × (k.records ≡ m.records) × (k.attached ≡ m.attached))
       (gone : folds m.operation u ≡ true → (e : Name) → entry_of m.operation ≡ e ∷ [] → Commits g (Remove e) a b) where
-    pub can_given : (twin : List ℕ) (read_only : Bool) (origin entry : Record) (f : Fork) (p : Parts) → IsTidyStore g b k → IsAllowed g (forking u twin read_only) a m
+    pub can_given : (twin : List ℕ) (read_only : Bool) (origin entry : Record) (f : Fork) (p : Parts) → IsAllowed g (forking u twin read_only) a m
         → record_in m.records u ≡ Some origin → IsRecord entry → entry ≡ twin_record u twin read_only origin → f ≡ fork_of (tab g a).sequence m.tree.rows u twin → IsSome (place_for m.records twin)
         → AreForFork (g.site a) (tab g a) (store_shape g a m) u (sectors_of (tree_row m.tree.rows (own_name m.tree.rows u))) p.own.items p.twins.items
         → p.own_map ≡ replicate (g.site a).geometry.entries None → p.twin_map ≡ replicate (g.site a).geometry.entries None → 3 ≤ (g.table a).spare → CanFork g b k f p entry
     unfolding passes_given
-    can_given twin read_only origin entry f p tidy allowed recorded proper entry_is fork place extents own_map twin_map spare =
+    can_given twin read_only origin entry f p allowed recorded proper entry_is fork place extents own_map twin_map spare =
         subst₂ (λ (x : Fork) (y : Record). CanFork g b k x p y) (sym fork) (sym entry_is) (record {
-          usable = w.usable;
-          orderly = w.orderly;
-          tidy = tidy;
+          session = w.session;
           allowed = passes_given twin read_only allowed (then_orderly w o operation others gone) (then_number w o gone);
           kept_up = then_kept w (forking u twin read_only) (gives_disk u twin read_only);
           fork = ap (λ (x : Tree). fork_of (tab g a).sequence x.rows u twin) (sym others.0);
@@ -129,10 +129,10 @@ module _ {S : Type 0} {g : Ghosts S} {u : List ℕ} {a b : S} {m k : Memory} (w 
 
 -- what the rest of the command did, it did from before the call that only read, and from before the folding was given up
 pub done_given : {S : Type 0} {g : Ghosts S} {u : List ℕ} {read_only again : Bool} {a p b e : S} {m k : Memory} (twin : List ℕ) (n : Memory) (fine ok : Type 0)
-    → OnlyReads g a p → g.area p ≡ g.area a → ((t : VolumeTable) (image : ℕ → List ℕ) → g.leaves p t image → g.leaves a t image) → GaveUp g u p m b k → IsOrderlyStore g a m → g.failed a ≡ false → g.told → IsReadyStore g a m
+    → OnlyReads g a p → g.area p ≡ g.area a → ((t : VolumeTable) (image : ℕ → List ℕ) → g.leaves p t image → g.leaves a t image) → GaveUp g u p m b k → IsBetweenSteps g a m → g.told → IsReadyStore g a m
     → ((v : VolumeTable) (image : ℕ → List ℕ) → g.leaves p v image → IsChoiceOf (stored g p) v image) → ((v : VolumeTable) (image : ℕ → List ℕ) → g.leaves b v image → IsChoiceOf (stored g b) v image)
     → again ≡ read_only → (fine → ok) → (IsReadyStore g b k → StoreDoes g (forking u twin again) b k e n ok) → StoreDoes g (forking u twin read_only) a m e n fine
-done_given {g = g} {u = u} {read_only = read_only} {b = b} {e = e} {m = m} {k = k} twin n fine ok reads area fewer w o usable told ready now mid same passes does =
+done_given {g = g} {u = u} {read_only = read_only} {b = b} {e = e} {m = m} {k = k} twin n fine ok reads area fewer w session told ready now mid same passes does =
     done_behind fine (λ (x : Stored). disks_next (disks (content_now x.site x.table x.area)) (shape_in x.site x.table (known m)) (forking u twin read_only)) reads area fewer passes
-    (then_does w n ok (forking u twin read_only) (as_read reads (λ s t. IsOrderly s t (known m)) o) (reads.stays.failed ∙ usable) told (ready_read m reads area ready) now mid
+    (then_does w n ok (forking u twin read_only) (reads_between m reads session) told (ready_read m reads area ready) now mid
     (λ made. subst (λ (r : Bool). StoreDoes g (forking u twin r) b k e n ok) same (does made)))

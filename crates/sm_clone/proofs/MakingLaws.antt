@@ -106,12 +106,12 @@ module _ {S : Type 0} {g : Ghosts S} {a : S} {m : Memory} {f : Fork} {p : Parts}
   sectors = sectors_of (tree_row m.tree.rows f.own)
 
   pub to_fork : IsToFork s.count t fork_now.own (base_name fork_now) (name.Vhd f.disk) (name.Vhd f.twin) (name.Clone f.disk (base_uuid can.allowed.number) f.twin) own twins
-  to_fork = tables.to_fork s t (known m) f.disk f.twin entry.read_only can.orderly can.tidy can.allowed sectors own twins can.extents twin_uuid
+  to_fork = tables.to_fork s t (known m) f.disk f.twin entry.read_only can.session.orderly can.session.tidy can.allowed sectors own twins can.extents twin_uuid
 
   pub can_begin : CanRun g (first_changes f own twins) a
   can_begin = record {
-    usable = can.usable;
-    allowed = subst (λ x. AllMay s.count t (first_changes x own twins)) (sym can.fork) (tables.can_begin s t (known m) f.disk f.twin entry.read_only can.orderly can.tidy can.allowed sectors own twins can.extents twin_uuid);
+    usable = can.session.usable;
+    allowed = subst (λ x. AllMay s.count t (first_changes x own twins)) (sym can.fork) (tables.can_begin s t (known m) f.disk f.twin entry.read_only can.session.orderly can.session.tidy can.allowed sectors own twins can.extents twin_uuid);
     rows = (omega (arith, can.rows), (omega (arith, can.rows), (omega (arith, can.rows), tt)));
   }
 
@@ -121,10 +121,10 @@ module _ {S : Type 0} {g : Ghosts S} {a : S} {m : Memory} {f : Fork} {p : Parts}
   own_is = ap (λ (x : Fork). x.own) can.fork
 
   pub found_not : tree_row m.tree.rows f.own ≡ None → ⊥
-  found_not none = (let x = sym none ∙ ap (tree_row m.tree.rows) own_is ∙ found s t (known m) f.disk f.twin entry.read_only can.orderly can.tidy can.allowed in cc)
+  found_not none = (let x = sym none ∙ ap (tree_row m.tree.rows) own_is ∙ found s t (known m) f.disk f.twin entry.read_only can.session.orderly can.session.tidy can.allowed in cc)
 
   own_image : is_image_name fork_now.own ≡ true
-  own_image = tables.own_image s t (known m) f.disk f.twin entry.read_only can.orderly can.tidy can.allowed sectors own twins can.extents twin_uuid
+  own_image = tables.own_image s t (known m) f.disk f.twin entry.read_only can.session.orderly can.session.tidy can.allowed sectors own twins can.extents twin_uuid
 
   module _ (r : TreeRow) (at : tree_row m.tree.rows f.own ≡ Some r) where
     there : In r m.tree.rows
@@ -133,9 +133,9 @@ module _ {S : Type 0} {g : Ghosts S} {a : S} {m : Memory} {f : Fork} {p : Parts}
     pub size_is : IsDiskSize s.geometry (sector_count (base_body f r.image))
     unfolding shape_in
     size_is = subst (IsDiskSize s.geometry) (sym (sized_in (base_name f) r.image)) (record {
-      whole = ∥∥₁_elim can.orderly.well_formed (hlevel props) (λ w. let z = (w.images (machine_row r) (In-map_at machine_row m.tree.rows r there)).whole in z.1 ∙ ap (λ n. n * s.geometry.block) (sym (blocks z.0 z.1)));
-      least = ∥∥₁_elim can.orderly.well_formed (hlevel props) (λ w. let z = (w.images (machine_row r) (In-map_at machine_row m.tree.rows r there)).whole in omega (arith, blocks z.0 z.1, z.2));
-      most = ∥∥₁_elim can.orderly.well_formed (hlevel props) (λ w. let z = (w.images (machine_row r) (In-map_at machine_row m.tree.rows r there)).whole in omega (arith, blocks z.0 z.1, z.3));
+      whole = ∥∥₁_elim can.session.orderly.well_formed (hlevel props) (λ w. let z = (w.images (machine_row r) (In-map_at machine_row m.tree.rows r there)).whole in z.1 ∙ ap (λ n. n * s.geometry.block) (sym (blocks z.0 z.1)));
+      least = ∥∥₁_elim can.session.orderly.well_formed (hlevel props) (λ w. let z = (w.images (machine_row r) (In-map_at machine_row m.tree.rows r there)).whole in omega (arith, blocks z.0 z.1, z.2));
+      most = ∥∥₁_elim can.session.orderly.well_formed (hlevel props) (λ w. let z = (w.images (machine_row r) (In-map_at machine_row m.tree.rows r there)).whole in omega (arith, blocks z.0 z.1, z.3));
     })
       where
         blocks : (n : ℕ) → sector_count r.image ≡ n * s.geometry.block → sector_count r.image / s.geometry.block ≡ n
@@ -156,7 +156,7 @@ module _ {S : Type 0} {g : Ghosts S} {a : S} {m : Memory} {f : Fork} {p : Parts}
   many : length own + length twins < 2 ^ 32
   many =
       let first = can.extents.own_many ∙ ap (λ n. wanted σ (is_rw (attached_as f.disk σ)) (sectors_of (tree_row m.tree.rows n))) own_is in
-      omega (arith, first, can.extents.twin_many, need_is s t (known m) f.disk f.twin entry.read_only can.orderly can.tidy can.allowed, few s t (known m) f.disk f.twin entry.read_only can.orderly can.tidy can.allowed)
+      omega (arith, first, can.extents.twin_many, need_is s t (known m) f.disk f.twin entry.read_only can.session.orderly can.session.tidy can.allowed, few s t (known m) f.disk f.twin entry.read_only can.session.orderly can.session.tidy can.allowed)
 
   pub few_own : length own < 2 ^ 32
   few_own = omega (arith, many)
@@ -187,29 +187,29 @@ module _ {S : Type 0} {g : Ghosts S} {a : S} {m : Memory} {f : Fork} {p : Parts}
 
     -- the number was raised five times
     pub number_is : (tab g b).sequence ≡ t.sequence + 5
-    number_is = ap (λ (v : VolumeTable). v.sequence) table_is ∙ (tables.stage_5 s t (known m) f.disk f.twin entry.read_only can.orderly can.tidy can.allowed sectors own twins can.extents twin_uuid).number
+    number_is = ap (λ (v : VolumeTable). v.sequence) table_is ∙ (tables.stage_5 s t (known m) f.disk f.twin entry.read_only can.session.orderly can.session.tidy can.allowed sectors own twins can.extents twin_uuid).number
 
     room_at : (n : Name) (r : Row) → rows (table_begun t fork_now own twins) n ≡ Some r → HasRoomFor s.geometry 0 (length r.extents * s.geometry.extent) → HasRoomIn (stored g b) n 0
     room_at n r there room = subst₂ (λ (z : Site) v. HasRoomFor z.geometry 0 (size_of z v n)) (sym begun.site) (sym table_is)
         (subst (λ o. HasRoomFor s.geometry 0 (length (extents_of o) * s.geometry.extent)) (sym there) room)
 
     pub own_room : HasRoomIn (stored g b) (name.Vhd f.disk) 0
-    own_room = room_at (name.Vhd f.disk) _ (tables.stage_5 s t (known m) f.disk f.twin entry.read_only can.orderly can.tidy can.allowed sectors own twins can.extents twin_uuid).leaf
+    own_room = room_at (name.Vhd f.disk) _ (tables.stage_5 s t (known m) f.disk f.twin entry.read_only can.session.orderly can.session.tidy can.allowed sectors own twins can.extents twin_uuid).leaf
         (wanted_room (is_rw (attached_as f.disk σ)) sectors (length own) can.extents.own_many)
 
     pub twin_room : HasRoomIn (stored g b) (name.Vhd f.twin) 0
-    twin_room = room_at (name.Vhd f.twin) _ (tables.stage_5 s t (known m) f.disk f.twin entry.read_only can.orderly can.tidy can.allowed sectors own twins can.extents twin_uuid).twin
+    twin_room = room_at (name.Vhd f.twin) _ (tables.stage_5 s t (known m) f.disk f.twin entry.read_only can.session.orderly can.session.tidy can.allowed sectors own twins can.extents twin_uuid).twin
         (thin_room 0 (length twins) can.extents.twin_many)
 
     pub places : HasAllPlaces g b
     places = subst₂ (λ (z : Site) v. place_count ≤ size_of z v name.Mgt) (sym begun.site) (sym table_is)
-        (subst (λ o. place_count ≤ length (extents_of o) * s.geometry.extent) (sym mgt_same) (mgt_long s t (known m) can.orderly))
+        (subst (λ o. place_count ≤ length (extents_of o) * s.geometry.extent) (sym mgt_same) (mgt_long s t (known m) can.session.orderly))
       where
         no_image : (n : Name) → is_image n ≡ true → name.Mgt ≢ n
         no_image n image is = true≢false (sym image ∙ ap is_image (sym is))
 
         mgt_same : rows (table_begun t fork_now own twins) name.Mgt ≡ rows t name.Mgt
-        mgt_same = (tables.stage_5 s t (known m) f.disk f.twin entry.read_only can.orderly can.tidy can.allowed sectors own twins can.extents twin_uuid).others name.Mgt
+        mgt_same = (tables.stage_5 s t (known m) f.disk f.twin entry.read_only can.session.orderly can.session.tidy can.allowed sectors own twins can.extents twin_uuid).others name.Mgt
             (no_image fork_now.own to_fork.own_image) (no_image (base_name fork_now) to_fork.base_image) (λ is. (let x = is in cc)) (λ is. (let x = is in cc)) (λ is. (let x = is in cc))
 
     -- and once the two images are written
@@ -218,14 +218,14 @@ module _ {S : Type 0} {g : Ghosts S} {a : S} {m : Memory} {f : Fork} {p : Parts}
       usable = stays.failed ∙ begun.usable;
       allowed = subst₂ (λ (z : Site) v. AllMay z.count v (last_changes f)) (sym (stays.site ∙ begun.site)) (sym (stays.table ∙ table_is))
           (subst (λ x. AllMay s.count (table_begun t fork_now own twins) (last_changes x)) (sym can.fork)
-          (tables.can_end s t (known m) f.disk f.twin entry.read_only can.orderly can.tidy can.allowed sectors own twins can.extents twin_uuid));
+          (tables.can_end s t (known m) f.disk f.twin entry.read_only can.session.orderly can.session.tidy can.allowed sectors own twins can.extents twin_uuid));
       rows = tt;
     }
 
   -- ---- memory
 
   pub use_room : image_limit ≤ m.attached.room → HasUseRoom f m.attached
-  use_room room = subst (λ x. HasUseRoom x m.attached) (sym can.fork) (uses.use_room s t (known m) f.disk f.twin entry.read_only can.orderly can.tidy can.allowed room)
+  use_room room = subst (λ x. HasUseRoom x m.attached) (sym can.fork) (uses.use_room s t (known m) f.disk f.twin entry.read_only can.session.orderly can.session.tidy can.allowed room)
 
   pub names : IsName (base_name f) × IsName (name.Vhd f.disk) × IsName (name.Vhd f.twin)
   names = (subst (λ x. IsName (base_name x)) (sym can.fork) to_fork.base_proper, to_fork.leaf_proper, to_fork.twin_proper)
@@ -237,7 +237,7 @@ module _ {S : Type 0} {g : Ghosts S} {a : S} {m : Memory} {f : Fork} {p : Parts}
   base_away = ⊎_elim
       (λ is. ap (tree_row (without fork_now.own m.tree.rows)) (sym is) ∙ tree_row-without_same m.tree.rows fork_now.own)
       (λ other. tree_row-without_other m.tree.rows fork_now.own (base_name fork_now) other
-      ∙ tables.no_base_in s t (known m) f.disk f.twin entry.read_only can.orderly can.tidy can.allowed sectors own twins can.extents twin_uuid)
+      ∙ tables.no_base_in s t (known m) f.disk f.twin entry.read_only can.session.orderly can.session.tidy can.allowed sectors own twins can.extents twin_uuid)
       (name_or_not fork_now.own (base_name fork_now))
 
   pub no_base : tree_row (without f.own m.tree.rows) (base_name f) ≡ None
@@ -247,7 +247,7 @@ module _ {S : Type 0} {g : Ghosts S} {a : S} {m : Memory} {f : Fork} {p : Parts}
   leaf_away = ⊎_elim
       (λ is. ap (tree_row (without fork_now.own m.tree.rows)) (sym is) ∙ tree_row-without_same m.tree.rows fork_now.own)
       (λ other. tree_row-without_other m.tree.rows fork_now.own (name.Vhd f.disk) other
-      ∙ tables.no_leaf_in s t (known m) f.disk f.twin entry.read_only can.orderly can.tidy can.allowed sectors own twins can.extents twin_uuid other)
+      ∙ tables.no_leaf_in s t (known m) f.disk f.twin entry.read_only can.session.orderly can.session.tidy can.allowed sectors own twins can.extents twin_uuid other)
       (name_or_not fork_now.own (name.Vhd f.disk))
 
   pub no_leaf : tree_row (without f.own m.tree.rows) (name.Vhd f.disk) ≡ None
@@ -257,7 +257,7 @@ module _ {S : Type 0} {g : Ghosts S} {a : S} {m : Memory} {f : Fork} {p : Parts}
   twin_away = ⊎_elim
       (λ is. ap (tree_row (without fork_now.own m.tree.rows)) (sym is) ∙ tree_row-without_same m.tree.rows fork_now.own)
       (λ other. tree_row-without_other m.tree.rows fork_now.own (name.Vhd f.twin) other
-      ∙ tables.no_twin_row s t (known m) f.disk f.twin entry.read_only can.orderly can.tidy can.allowed sectors own twins can.extents twin_uuid (name.Vhd f.twin) (vhd_named f.twin) (vhd_uuid f.twin))
+      ∙ tables.no_twin_row s t (known m) f.disk f.twin entry.read_only can.session.orderly can.session.tidy can.allowed sectors own twins can.extents twin_uuid (name.Vhd f.twin) (vhd_named f.twin) (vhd_uuid f.twin))
       (name_or_not fork_now.own (name.Vhd f.twin))
 
   pub no_twin : tree_row (without f.own m.tree.rows) (name.Vhd f.twin) ≡ None
@@ -266,14 +266,14 @@ module _ {S : Type 0} {g : Ghosts S} {a : S} {m : Memory} {f : Fork} {p : Parts}
   -- the three rows have room
   pub three_spare : (n : ℕ) → n ≡ m.tree.spare + 1 → image_limit ≤ length m.tree.rows + m.tree.spare → 3 ≤ n
   three_spare n is room =
-      let more = (new s t (known m) f.disk f.twin entry.read_only can.orderly can.tidy can.allowed).few in
+      let more = (new s t (known m) f.disk f.twin entry.read_only can.session.orderly can.session.tidy can.allowed).few in
       omega (arith, is, room, more, makes_two f.disk f.twin entry.read_only)
 
   -- the tree keeps room for all images
   pub tree_room : (rest next : Tree) (x y z : TreeRow) → rest.rows ≡ without f.own m.tree.rows → rest.spare ≡ m.tree.spare + 1 → next.rows ≡ with_row x (with_row y (with_row z rest.rows)) → next.spare + 3 ≡ rest.spare
       → image_limit ≤ length m.tree.rows + m.tree.spare → image_limit ≤ length next.rows + next.spare
   unfolding shape_in
-  tree_room rest next x y z less more rows spare room = ∥∥₁_elim can.orderly.well_formed (hlevel props) (λ w.
+  tree_room rest next x y z less more rows spare room = ∥∥₁_elim can.session.orderly.well_formed (hlevel props) (λ w.
       let long = ap (λ (qs : List TreeRow). length qs) rows in
       let short = ap (λ (qs : List TreeRow). length qs) less in
       omega (

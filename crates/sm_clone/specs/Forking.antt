@@ -39,9 +39,9 @@ use Rattle.sm_standing.specs.Undone.{applied_all}
 use Rattle.sm_clone.specs.declared.forks.Fork.{Fork}
 use Rattle.sm_clone.specs.declared.preparing.Parts.{Parts}
 use Rattle.sm_ready.specs.Does.{IsKeptUp, store_shape}
+use Rattle.sm_ready.specs.Framing.{IsBetweenSteps}
 use Rattle.sm_ready.specs.Known.{Known, known, shape_in}
 use Rattle.sm_ready.specs.Orderly.{IsOrderly}
-use Rattle.sm_ready.specs.Sessions.{IsOrderlyStore, IsTidyStore}
 use Rattle.sm_ready.specs.declared.memory.Memory.{Memory}
 
 -- the command that makes a disk of another: a snapshot is read-only, and a clone is not
@@ -200,13 +200,11 @@ pub record Passes (s : Site) (t : VolumeTable) (m : Known) (u twin : List ℕ) (
 abbrev pub shape_forked : Shape → ℕ → Command → Shape
 shape_forked σ number c = record (shape_after (record σ { sequence = number }) c) { sequence = risen σ.sequence 8 }
 
--- A fork may be made with these parts: no cause refuses it, no operation is given up, it is of the disk's image and of the number that
--- names its base, its record is the twin's and has a place; the extents are those that it takes, both maps are blank, and three rows
--- are spare.
+-- A fork may be made with these parts, between two steps: no cause refuses it, no operation is given up, it is of the disk's image and
+-- of the number that names its base, its record is the twin's and has a place; the extents are those that it takes, both maps are blank,
+-- and three rows are spare.
 pub record CanFork {S : Type 0} (g : Ghosts S) (store : S) (m : Memory) (f : Fork) (p : Parts) (entry : Record) : Type 0 where
-  pub usable : g.failed store ≡ false
-  pub orderly : IsOrderlyStore g store m
-  pub tidy : IsTidyStore g store m
+  pub session : IsBetweenSteps g store m
   pub allowed : Passes (g.site store) (table_alone (g.table store)) (known m) f.disk f.twin entry.read_only
   pub kept_up : IsKeptUp g (forking f.disk f.twin entry.read_only) store m
   pub fork : f ≡ fork_of allowed.number m.tree.rows f.disk f.twin

@@ -1,20 +1,18 @@
 //! A disk is made of another: by eight commits, and by one more where the folding of its leaf is given up first.
 
-ghost use Rattle.std.specs.Prelude.{◌≡◌, ◌≤◌, ℕ, List, false, Ok, Err, OnOk, Some, length, unwrap_or};
+ghost use Rattle.std.specs.Prelude.{◌≡◌, ℕ, List, Err, OnOk, Some, length, unwrap_or};
+ghost use Rattle.vg_meta.specs.Tables.{VolumeTable};
 ghost use Rattle.std.specs.List.{slice_set};
 ghost use Rattle.sm_base.specs.declared.faults.CallFault.TheVariants as fault;
-ghost use Rattle.sm_disk.specs.Held.{Keeps, Rose};
 ghost use Rattle.vg_meta.specs.Roomy.{table_alone};
-ghost use Rattle.vg_meta.specs.Tables.{VolumeTable};
-ghost use Rattle.vg_volumes.specs.Stored.{Counts, Leaves, OnlyReads};
+ghost use Rattle.vg_volumes.specs.Stored.{Counts, OnlyReads};
 ghost use Rattle.vhd_chain.specs.Trees.{tree_row};
 ghost use Rattle.sm_mgt.specs.Places.{place_for, record_in};
 ghost use Rattle.gc_abandon.specs.Abandoning.{unfolded, unfolded_table};
 ghost use Rattle.sm_ready.specs.Does.{ShapesAs, StoreDoes, store_shape};
-ghost use Rattle.sm_ready.specs.Frames.{HasCommits, HasTrueImages};
+ghost use Rattle.sm_ready.specs.Framing.{CountsDevice, IsBetweenSteps, StepsOn};
 ghost use Rattle.sm_ready.specs.Refusing.{IsAllowed};
-ghost use Rattle.sm_ready.specs.Sessions.{HasRows, HasTreeRoom, IsOrderlyStore, IsReadyStore, IsTidyStore};
-ghost use Rattle.sm_attaching.specs.Attaching.{HasAttachmentRoom};
+ghost use Rattle.sm_ready.specs.Sessions.{IsReadyStore};
 ghost use Rattle.sm_clone.specs.Forking.{CanFork, HasForkedRows, IsForkedOnLeast, fork_of, forked_places, forked_rows, forking, own_name, sectors_of, shape_forked, table_forked};
 ghost use Rattle.sm_standing.specs.Entries.{base_number};
 
@@ -41,23 +39,10 @@ fn make_fork<S: Store>(
     now: u32,
 ) -> Result<(), Failed>
     requires can { CanFork S.Store store.old memory.old fork.now parts entry }
-    requires tree_room { HasTreeRoom memory.old }
-    requires room { HasAttachmentRoom memory.old }
-    requires true_now { HasTrueImages S.Store store.old memory.old }
-    ensures site { S.site store.new ≡ S.site store.old }
-    ensures counts { S.faults store.old ≤ S.faults store.new }
+    ensures step { StepsOn S.Store 8 store.old store.new }
     ensures cause { Counts S.Store result store.old store.new }
-    ensures beside { S.told → Keeps (S.beside store.old) (S.beside store.new) }
-    ensures few { HasCommits 8 (table_alone (S.table store.old)) (table_alone (S.table store.new)) }
-    ensures few_left { Leaves S.Store store.new (λ t image. HasCommits 8 (table_alone (S.table store.old)) t) }
+    ensures session_still { OnOk result (IsBetweenSteps S.Store store.new memory.new) }
     ensures others { memory.new.operation ≡ memory.old.operation }
-    ensures usable_still { OnOk result (S.failed store.new ≡ false) }
-    ensures orderly_still { OnOk result (IsOrderlyStore S.Store store.new memory.new) }
-    ensures tidy_still { OnOk result (IsTidyStore S.Store store.new memory.new) }
-    ensures tree_room_still { OnOk result (HasTreeRoom memory.new) }
-    ensures room_still { OnOk result (HasAttachmentRoom memory.new) }
-    ensures true_still { OnOk result (HasTrueImages S.Store store.new memory.new) }
-    ensures rows { HasRows (S.table store.old) → OnOk result (HasRows (S.table store.new)) }
     ensures table { OnOk result (table_alone (S.table store.new) ≡ table_forked (table_alone (S.table store.old)) fork.now parts.own.items parts.twins.items) }
     ensures images { OnOk result (memory.new.tree.rows ≡ forked_rows (S.site store.old) (table_alone (S.table store.old)) fork.now now
         (length parts.own.items) (length parts.twins.items) (tree_row memory.old.tree.rows fork.now.own) memory.old.tree.rows) }
@@ -110,31 +95,15 @@ pub fn fork<S: Store>(
     read_only: bool,
     now: u32,
 ) -> Result<(), CallFault>
-    requires usable { S.failed store.old ≡ false }
-    requires orderly { IsOrderlyStore S.Store store.old memory.old }
-    requires tidy { IsTidyStore S.Store store.old memory.old }
-    requires tree_room { HasTreeRoom memory.old }
-    requires room { HasAttachmentRoom memory.old }
-    requires true_now { HasTrueImages S.Store store.old memory.old }
+    requires session { IsBetweenSteps S.Store store.old memory.old }
     requires allowed { IsAllowed S.Store (forking disk.now twin.now read_only) store.old memory.old }
-    ensures site { S.site store.new ≡ S.site store.old }
-    ensures counts { S.faults store.old ≤ S.faults store.new }
-    ensures cause { result ≡ Err fault.Device → Rose (S.faults store.old) (S.faults store.new) }
-    ensures beside { S.told → Keeps (S.beside store.old) (S.beside store.new) }
-    ensures few { HasCommits 9 (table_alone (S.table store.old)) (table_alone (S.table store.new)) }
-    ensures few_left { Leaves S.Store store.new (λ t image. HasCommits 9 (table_alone (S.table store.old)) t) }
+    ensures step { StepsOn S.Store 9 store.old store.new }
+    ensures cause { CountsDevice S.Store result store.old store.new }
+    ensures session_still { OnOk result (IsBetweenSteps S.Store store.new memory.new) }
     ensures poor { result ≡ Err fault.NoMemory
         → OnlyReads S.Store store.old store.new × ((t : VolumeTable) (image : ℕ → List ℕ) → S.leaves store.new t image → S.leaves store.old t image)
-        × (memory.new ≡ memory.old) × (S.failed store.new ≡ false) }
-    ensures true_poor { result ≡ Err fault.NoMemory → HasTrueImages S.Store store.new memory.new }
+        × (memory.new ≡ memory.old) }
     ensures operation { OnOk result (memory.new.operation ≡ unfolded memory.old.operation disk.now) }
-    ensures usable_still { OnOk result (S.failed store.new ≡ false) }
-    ensures orderly_still { OnOk result (IsOrderlyStore S.Store store.new memory.new) }
-    ensures tidy_still { OnOk result (IsTidyStore S.Store store.new memory.new) }
-    ensures tree_room_still { OnOk result (HasTreeRoom memory.new) }
-    ensures room_still { OnOk result (HasAttachmentRoom memory.new) }
-    ensures true_still { OnOk result (HasTrueImages S.Store store.new memory.new) }
-    ensures rows { HasRows (S.table store.old) → OnOk result (HasRows (S.table store.new)) }
     ensures least { OnOk result (IsForkedOnLeast (S.site store.old) (unfolded_table memory.old.operation disk.now (table_alone (S.table store.old))) (store_shape S.Store store.old memory.old)
         (fork_of (table_alone (S.table store.old)).sequence memory.old.tree.rows disk.now twin.now)
         (sectors_of (tree_row memory.old.tree.rows (own_name memory.old.tree.rows disk.now))) (table_alone (S.table store.new))) }

@@ -8,8 +8,8 @@ ghost use Rattle.vg_meta.specs.Tables.{VolumeTable, free as free_of};
 ghost use Rattle.vg_volumes.specs.Stored.{OnlyReads};
 ghost use Rattle.sm_mgt.specs.Places.{place_for};
 ghost use Rattle.sm_ready.specs.Does.{store_shape};
+ghost use Rattle.sm_ready.specs.Framing.{IsBetweenSteps};
 ghost use Rattle.sm_ready.specs.Refusing.{IsAllowed};
-ghost use Rattle.sm_ready.specs.Sessions.{IsOrderlyStore, IsTidyStore};
 ghost use Rattle.sm_clone.specs.Forking.{AreForFork, forking, own_name, sectors_of};
 ghost use Rattle.vhd_chain.specs.Trees.{tree_row};
 
@@ -68,10 +68,10 @@ pub fn prepare<S: Store>(
     twin: &Uuid,
     read_only: bool,
 ) -> Result<Parts, NoMemory>
-    requires orderly { IsOrderlyStore S.Store store.old memory.now }
-    requires tidy { IsTidyStore S.Store store.old memory.now }
+    requires session { IsBetweenSteps S.Store store.old memory.now }
     requires allowed { IsAllowed S.Store (forking disk.now twin.now read_only) store.old memory.now }
     ensures reads { OnlyReads S.Store store.old store.new }
+    ensures calm { S.faults store.new ≡ S.faults store.old }
     ensures same { (S.site store.new ≡ S.site store.old) × (S.area store.new ≡ S.area store.old) }
     ensures table { table_alone (S.table store.new) ≡ table_alone (S.table store.old) }
     ensures leaves { (t : VolumeTable) (image : ℕ → List ℕ) → S.leaves store.new t image → S.leaves store.old t image }

@@ -4,7 +4,7 @@ ghost use Rattle.std.specs.Prelude.{◌≡◌, true, false, [], ◌∷◌, OnOk,
 ghost use Rattle.sm_base.specs.declared.names.Name.TheVariants.{Vhd};
 ghost use Rattle.vg_meta.specs.declared.changes.Change.TheVariants.{Create, Mark, Rename};
 ghost use Rattle.vg_meta.specs.declared.changes.Tag.TheVariants.{Fresh, Hidden};
-ghost use Rattle.vg_volumes.specs.Stored.{stored, CanCommit, Commits, FailsToCommit, IsEitherOf, Leaves};
+ghost use Rattle.vg_volumes.specs.Stored.{stored, CanCommit, Commits, Counts, FailsToCommit, IsEitherOf, Leaves};
 ghost use Rattle.sm_journal.specs.Entries.{putting};
 ghost use Rattle.sm_clone.specs.Forking.{base_name, entry_name, first_changes, last_changes};
 ghost use Rattle.sm_ready.specs.Runs.{CanRun, FailsToRun, IsAmong, Runs};
@@ -20,6 +20,7 @@ fn commit_one<S: Store>(store: &mut S, change: Change) -> Result<(), Failed>
     requires { CanCommit S.Store change store.old }
     ensures commits { OnOk result (Commits S.Store change store.old store.new) }
     ensures fails { OnErr result (FailsToCommit S.Store store.old store.new) }
+    ensures cause { Counts S.Store result store.old store.new }
     ensures crash { Leaves S.Store store.new (IsEitherOf (stored S.Store store.old) change) }
 {
     store.commit(change)?;
@@ -31,6 +32,7 @@ fn commit_two<S: Store>(store: &mut S, first: Change, second: Change) -> Result<
     requires { CanRun S.Store (first ∷ second ∷ []) store.old }
     ensures runs { OnOk result (Runs S.Store (first ∷ second ∷ []) store.old store.new) }
     ensures fails { OnErr result (FailsToRun S.Store 2 store.old store.new) }
+    ensures cause { Counts S.Store result store.old store.new }
     ensures crash { Leaves S.Store store.new (IsAmong (stored S.Store store.old) (first ∷ second ∷ [])) }
 {
     commit_one(store, first)?;
@@ -48,6 +50,7 @@ fn commit_three<S: Store>(
     requires { CanRun S.Store (first ∷ second ∷ third ∷ []) store.old }
     ensures runs { OnOk result (Runs S.Store (first ∷ second ∷ third ∷ []) store.old store.new) }
     ensures fails { OnErr result (FailsToRun S.Store 3 store.old store.new) }
+    ensures cause { Counts S.Store result store.old store.new }
     ensures crash { Leaves S.Store store.new (IsAmong (stored S.Store store.old) (first ∷ second ∷ third ∷ [])) }
 {
     commit_one(store, first)?;
@@ -119,6 +122,7 @@ pub fn begin<S: Store>(
     requires { CanRun S.Store (first_changes fork.now own.items twins.items) store.old }
     ensures runs { OnOk result (Runs S.Store (first_changes fork.now own.items twins.items) store.old store.new) }
     ensures fails { OnErr result (FailsToRun S.Store 5 store.old store.new) }
+    ensures cause { Counts S.Store result store.old store.new }
     ensures crash { Leaves S.Store store.new (IsAmong (stored S.Store store.old) (first_changes fork.now own.items twins.items)) }
 {
     let entry = entry_change(store.table(), fork);
@@ -136,6 +140,7 @@ pub fn end<S: Store>(store: &mut S, fork: &Fork) -> Result<(), Failed>
     requires { CanRun S.Store (last_changes fork.now) store.old }
     ensures runs { OnOk result (Runs S.Store (last_changes fork.now) store.old store.new) }
     ensures fails { OnErr result (FailsToRun S.Store 3 store.old store.new) }
+    ensures cause { Counts S.Store result store.old store.new }
     ensures crash { Leaves S.Store store.new (IsAmong (stored S.Store store.old) (last_changes fork.now)) }
 {
     let own = shown_image(fork.disk);

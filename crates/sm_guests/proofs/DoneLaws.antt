@@ -49,7 +49,9 @@ use Rattle.sm_ready.specs.Sessions.{IsOrderlyStore, IsTidyStore, IsReadyStore, s
 use Rattle.sm_ready.specs.Stores.{MayShow, StoreLeaves, content_in, content_now}
 use Rattle.sm_ready.specs.declared.memory.Memory.{Memory}
 use Rattle.sm_ready.specs.Does.{ShapesAs}
-use Rattle.sm_ready.specs.Frames.{HasTrueImages}
+use Rattle.sm_ready.specs.Frames.{HasTrueImages, IsBesideTree}
+use Rattle.sm_ready.specs.Framing.{IsBetweenSteps}
+use Rattle.sm_ready.proofs.RoomLaws.{rows_stays}
 use Rattle.sm_ready.specs.Refusing.{IsAllowed}
 use Rattle.sm_ready.specs.Taken.{StoreTakes}
 use Rattle.sm_ready.proofs.LeftLaws.{IsLeft}
@@ -60,7 +62,8 @@ use Rattle.sm_guests.specs.Taken.{answered}
 use Rattle.sm_ready.proofs.PutBackLaws.{of_rows}
 use Rattle.sm_ready.proofs.TruthLaws.{row_sectors}
 use Rattle.sm_guests.proofs.AskLaws.{room_own, whole_bytes, within_own}
-use Rattle.sm_guests.proofs.OwnLaws.{IsOwn, own_name, own_row}
+use Rattle.sm_guests.proofs.OwnLaws.{IsOwn, own_row}
+use Rattle.sm_guests.specs.Writing.{own_name}
 use Rattle.sm_guests.proofs.ReadLaws.{or_none}
 use Rattle.sm_guests.proofs.ReplacedLaws.{IsLike, orderly_replaced, others, ready_replaced, replaced, shape_replaced, stray_replaced, there_replaced}
 use Rattle.sm_guests.proofs.TakenLaws.{few_numbers, shape_unnumbered}
@@ -141,7 +144,7 @@ module _ {S : Type 0} (g : Ghosts S) (a b : S) (m n : Memory) (u : List ℕ) (at
   like = like_grown r new grown
 
   -- the images are true behind it, where the written one is
-  pub true_after : Holds g (row_name r) (λ x. TrueIn s.geometry (sectors_in (stored g a) (row_name r)) x new) b → HasTrueImages g a m → HasTrueImages g b n
+  true_after : Holds g (row_name r) (λ x. TrueIn s.geometry (sectors_in (stored g a) (row_name r)) x new) b → HasTrueImages g a m → HasTrueImages g b n
   true_after truth was told = ∥∥₁_map (was told) (λ each. subst (AllAreTrue (stored g b)) (sym (ap (λ (k : Known). k.rows) memory)) (λ x i. ⊎_elim
       (λ old. subst₂ (λ y z. TrueIn y.geometry (size_of y z (row_name x)) (volume_of y z (g.area b) (row_name x)) x.image) (sym works.stays.site) (sym works.stays.table)
       (true_keeps s.geometry (size_of s t (row_name x)) (volume_of s t (g.area a) (row_name x)) (volume_of s t (g.area b) (row_name x)) x.image
@@ -164,16 +167,29 @@ module _ {S : Type 0} (g : Ghosts S) (a b : S) (m n : Memory) (u : List ℕ) (at
     shape_now = ap₂ (λ (x : Site) (y : VolumeTable). shape_in x y (known n)) works.stays.site works.stays.table ∙ ap (shape_in s t) memory ∙ shaped
         ∙ sym (write_next (shape_in s t (known m)) u at bytes (few_numbers s t (known m) orderly))
 
-    pub orderly_after : StandsIn s.geometry (size_of s t (row_name r)) new → IsOrderlyStore g b n
+    orderly_after : StandsIn s.geometry (size_of s t (row_name r)) new → IsOrderlyStore g b n
     orderly_after stands =
         subst (λ (x : Site). IsOrderly x (table_alone (g.table b)) (known n)) (sym works.stays.site) (subst (λ (x : VolumeTable). IsOrderly s x (known n)) (sym works.stays.table)
         (subst (IsOrderly s t) (sym memory) (orderly_replaced s t (known m) u r (with_image new r) orderly own like at (length bytes / 512) row
         (subst (λ k. StandsIn s.geometry k new) (row_sectors s t (known m) orderly r own.there) stands))))
 
-    pub tidy_after : IsTidyStore g a m → IsTidyStore g b n
+    tidy_after : IsTidyStore g a m → IsTidyStore g b n
     tidy_after tidy = record {
       none_new = λ x i. tidy.none_new x (subst (λ (y : VolumeTable). In x y.volumes) works.stays.table i);
       no_stray = subst HasNoStray (sym memory) (stray_replaced s t (known m) u r (with_image new r) orderly own like at (length bytes / 512) row tidy.no_stray);
+    }
+
+    -- the session is between two steps, as it was
+    pub between_after : StandsIn s.geometry (size_of s t (row_name r)) new → Holds g (row_name r) (λ x. TrueIn s.geometry (sectors_in (stored g a) (row_name r)) x new) b
+        → IsBesideTree m n → IsBetweenSteps g a m → IsBetweenSteps g b n
+    between_after stands truth beside i = record {
+      usable = works.stays.failed ∙ i.usable;
+      orderly = orderly_after stands;
+      tidy = tidy_after i.tidy;
+      true_images = true_after truth i.true_images;
+      rows = rows_stays works.stays i.rows;
+      tree_room = omega (arith, beside.images, beside.spare, i.tree_room);
+      attachment_room = omega (arith, ap (λ x. x.room) beside.attached, i.attachment_room);
     }
 
   -- ---- told

@@ -36,7 +36,8 @@ use Rattle.sm_guests.proofs.FillLaws.{all_of, fill_allowed, length_all}
 use Rattle.sm_guests.proofs.FillShapes.{GoesOn, allowed_piece, reached_shape, shape_more}
 use Rattle.sm_guests.proofs.FillStates.{Reaches}
 use Rattle.sm_guests.proofs.FillTaken.{IsFilling, fill_done, fill_more, fill_stopped}
-use Rattle.sm_guests.proofs.OwnLaws.{own_name, own_there}
+use Rattle.sm_guests.proofs.OwnLaws.{own_there}
+use Rattle.sm_guests.specs.Writing.{own_name}
 use Rattle.sm_guests.proofs.TakenLaws.{few_numbers}
 use Rattle.sm_guests.proofs.WriteLaws.{own_long}
 

@@ -18,3 +18,4 @@ pub mod FillBetween
 pub mod FillTaken
 pub mod FillBegun
 pub mod FillLoop
+pub mod WritingLaws

@@ -1,5 +1,5 @@
 -- The row of a disk's own image, where a command of the disk is not refused.
-use Rattle.std.proofs.Common.{◌≡◌, ⊎_elim, ℕ, Bool, true, false, cond, if◌then◌else◌, List, map, Option, Some, None, is_some, is_none, refl, sym, ap, ◌∙◌}
+use Rattle.std.proofs.Common.{◌≡◌, ⊎_elim, ℕ, Bool, true, false, cond, List, map, Option, Some, None, is_some, is_none, refl, sym, ap, ◌∙◌}
 use Rattle.std.proofs.Math.Logic.{∥∥₁_elim}
 use Rattle.std.proofs.Props.{props}
 use Rattle.std.proofs.lemmas.Bool.{true≢false}
@@ -8,7 +8,6 @@ use Rattle.std.proofs.lemmas.Slice.Eq.{bytes_eq-Decides}
 use Rattle.std.specs.Str.{bytes_eq}
 use Rattle.common_laws.specs.Lists.{In}
 use Rattle.common_laws.proofs.Lists.{In-map, In-map_at, Distinct-key, find-some}
-use Rattle.sm_base.specs.declared.names.Name.{Name}
 use Rattle.sm_base.specs.declared.names.Name.TheVariants.{Vhd, Raw}
 use Rattle.sm_base.specs.declared.operations.Mode.{Mode}
 use Rattle.sm_base.specs.declared.operations.Mode.TheVariants.{Ro, Rw}
@@ -26,10 +25,7 @@ use Rattle.sm_ready.specs.Orderly.{IsOrderly}
 use Rattle.sm_ready.proofs.CauseLaws.{named_as, vhd_uuid, raw_uuid}
 use Rattle.sm_ready.proofs.Orders.{In-tree_row, named_row}
 use Rattle.sm_ready.proofs.RowLaws.{tree_found}
-
--- the volume of a disk's own image: of its VHD image where it has one, else of its raw one
-abbrev pub own_name : List TreeRow → List ℕ → Name
-own_name rows u = if is_some (tree_row rows (Vhd u)) then Vhd u else Raw u
+use Rattle.sm_guests.specs.Writing.{own_name}
 
 pub own_uuid : (rows : List TreeRow) (u : List ℕ) → image_uuid (own_name rows u) ≡ u
 own_uuid rows u = by (is_some (tree_row rows (Vhd u)))

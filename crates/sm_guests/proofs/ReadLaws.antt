@@ -33,7 +33,8 @@ use Rattle.sm_ready.proofs.ShownLaws.{few_sectors}
 use Rattle.sm_ready.proofs.WrittenLaws.{read_of}
 use Rattle.sm_guests.proofs.AskLaws.{within_own}
 use Rattle.sm_guests.proofs.NowLaws.{chain_now, disk_found, disk_own, row_now}
-use Rattle.sm_guests.proofs.OwnLaws.{own_name, own_shown, own_there, own_uuid}
+use Rattle.sm_guests.proofs.OwnLaws.{own_shown, own_there, own_uuid}
+use Rattle.sm_guests.specs.Writing.{own_name}
 use Rattle.sm_guests.proofs.SectorLists.{bytes_read}
 use Rattle.sm_ready.proofs.TakenLaws.{step_accepted}
 use Rattle.sm_guests.proofs.TakenLaws.{whole_still}

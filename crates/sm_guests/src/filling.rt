@@ -1,13 +1,14 @@
 //! Sectors of a disk are filled with a byte.
 
-ghost use Rattle.std.specs.Prelude.{◌≡◌, ◌<◌, ◌≤◌, ◌+◌, ◌*◌, false, length, OnOk};
+ghost use Rattle.std.specs.Prelude.{◌≡◌, ◌<◌, ◌≤◌, ◌+◌, ◌*◌, length, OnOk};
 ghost use Rattle.vg_volumes.specs.Stored.{Counts, Stays};
 ghost use Rattle.sm_machine.specs.declared.commands.Command.TheVariants.{Fill};
 ghost use Rattle.sm_machine.specs.declared.replies.Reply.TheVariants.{Done};
 ghost use Rattle.sm_ready.specs.Does.{ShapesAs};
-ghost use Rattle.sm_ready.specs.Frames.{HasTrueImages, IsBesideTree};
+ghost use Rattle.sm_ready.specs.Frames.{IsBesideTree};
+ghost use Rattle.sm_ready.specs.Framing.{IsBetweenSteps};
 ghost use Rattle.sm_ready.specs.Refusing.{IsAllowed};
-ghost use Rattle.sm_ready.specs.Sessions.{IsOrderlyStore, IsTidyStore, IsReadyStore};
+ghost use Rattle.sm_ready.specs.Sessions.{IsReadyStore};
 ghost use Rattle.sm_ready.specs.Taken.{StoreTakes};
 ghost use Rattle.sm_guests.specs.Taken.{answered};
 
@@ -25,27 +26,19 @@ const SECTOR: usize = 512;
 fn fill_with<S: Store>(
     store: &mut S,
     memory: &mut Memory,
-    pool: &mut Pool,
     piece: &mut [u8],
     disk: &Uuid,
     sector: u64,
     count: u64,
     byte: u8,
 ) -> Result<(), Failed>
-    requires usable { S.failed store.old ≡ false }
-    requires orderly { IsOrderlyStore S.Store store.old memory.old }
-    requires tidy { IsTidyStore S.Store store.old memory.old }
-    requires true_now { HasTrueImages S.Store store.old memory.old }
+    requires session { IsBetweenSteps S.Store store.old memory.old }
     requires allowed { IsAllowed S.Store (Fill disk.now sector count byte) store.old memory.old }
-    requires buffer { (0 < pool.old.free) × (512 * (1 + (S.site store.old).geometry.block) ≤ pool.old.bytes) }
     requires long { 512 * (S.site store.old).geometry.block ≤ length piece.old }
     ensures stays { Stays S.Store store.old store.new }
     ensures cause { Counts S.Store result store.old store.new }
-    ensures pool { pool.new ≡ pool.old }
     ensures beside_tree { IsBesideTree memory.old memory.new }
-    ensures orderly_still { OnOk result (IsOrderlyStore S.Store store.new memory.new) }
-    ensures tidy_still { OnOk result (IsTidyStore S.Store store.new memory.new) }
-    ensures true_still { OnOk result (HasTrueImages S.Store store.new memory.new) }
+    ensures session_still { OnOk result (IsBetweenSteps S.Store store.new memory.new) }
     ensures shape { OnOk result (ShapesAs S.Store (Fill disk.now sector count byte) store.old memory.old store.new memory.new) }
     ensures taken { S.told → IsReadyStore S.Store store.old memory.old
         → StoreTakes S.Store (Fill disk.now sector count byte) store.old memory.old store.new memory.new (answered Done result) }
@@ -56,20 +49,13 @@ fn fill_with<S: Store>(
     while done < count {
         let at = sector + done;
         let few = (block - at % block).min(count - done);
-        write(
-            store,
-            memory,
-            pool,
-            disk,
-            at,
-            &piece[..SECTOR * few as usize],
-        )?;
+        write(store, memory, disk, at, &piece[..SECTOR * few as usize])?;
         done += few;
     }
     Ok(())
 }
 
-/// Fills so many sectors of a disk, at least one, with a byte, from a sector on. It takes no memory but two buffers of the pool,
+/// Fills so many sectors of a disk, at least one, with a byte, from a sector on. It takes no memory but a buffer of the pool,
 /// which it gives back, and is never refused for space. What it writes lasts once the store is synced.
 ///
 /// # Errors
@@ -83,19 +69,14 @@ pub fn fill<S: Store>(
     count: u64,
     byte: u8,
 ) -> Result<(), Failed>
-    requires usable { S.failed store.old ≡ false }
-    requires orderly { IsOrderlyStore S.Store store.old memory.old }
-    requires tidy { IsTidyStore S.Store store.old memory.old }
-    requires true_now { HasTrueImages S.Store store.old memory.old }
+    requires session { IsBetweenSteps S.Store store.old memory.old }
     requires allowed { IsAllowed S.Store (Fill disk.now sector count byte) store.old memory.old }
-    requires buffers { (1 < pool.old.free) × (512 * (1 + (S.site store.old).geometry.block) ≤ pool.old.bytes) }
+    requires buffer { (0 < pool.old.free) × (512 * (1 + (S.site store.old).geometry.block) ≤ pool.old.bytes) }
     ensures stays { Stays S.Store store.old store.new }
     ensures cause { Counts S.Store result store.old store.new }
     ensures pool { pool.new ≡ pool.old }
     ensures beside_tree { IsBesideTree memory.old memory.new }
-    ensures orderly_still { OnOk result (IsOrderlyStore S.Store store.new memory.new) }
-    ensures tidy_still { OnOk result (IsTidyStore S.Store store.new memory.new) }
-    ensures true_still { OnOk result (HasTrueImages S.Store store.new memory.new) }
+    ensures session_still { OnOk result (IsBetweenSteps S.Store store.new memory.new) }
     ensures shape { OnOk result (ShapesAs S.Store (Fill disk.now sector count byte) store.old memory.old store.new memory.new) }
     ensures taken { S.told → IsReadyStore S.Store store.old memory.old
         → StoreTakes S.Store (Fill disk.now sector count byte) store.old memory.old store.new memory.new (answered Done result) }
@@ -105,16 +86,7 @@ pub fn fill<S: Store>(
     let Some(mut piece) = pool.take() else {
         unreachable!()
     };
-    let filled = fill_with(
-        store,
-        memory,
-        pool,
-        piece.bytes_mut(),
-        disk,
-        sector,
-        count,
-        byte,
-    );
+    let filled = fill_with(store, memory, piece.bytes_mut(), disk, sector, count, byte);
     pool.give(piece);
     filled
 }

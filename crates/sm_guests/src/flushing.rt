@@ -4,9 +4,9 @@ ghost use Rattle.std.specs.Prelude.{◌≡◌, ℕ, false, List};
 ghost use Rattle.vg_volumes.specs.Stored.{Counts, Stays};
 ghost use Rattle.sm_machine.specs.declared.commands.Command.TheVariants.{Flush};
 ghost use Rattle.sm_machine.specs.declared.replies.Reply.TheVariants.{Done};
-ghost use Rattle.sm_ready.specs.Frames.{HasTrueImages};
+ghost use Rattle.sm_ready.specs.Framing.{IsBetweenSteps};
 ghost use Rattle.sm_ready.specs.Refusing.{IsAllowed};
-ghost use Rattle.sm_ready.specs.Sessions.{IsOrderlyStore, IsTidyStore, IsReadyStore};
+ghost use Rattle.sm_ready.specs.Sessions.{IsOrderlyStore, IsReadyStore};
 ghost use Rattle.sm_ready.specs.declared.memory.Memory.{Memory};
 ghost use Rattle.sm_ready.specs.Taken.{StoreTakes};
 ghost use Rattle.sm_guests.specs.Taken.{answered};
@@ -22,9 +22,7 @@ pub fn flush<S: Store>(store: &mut S) -> Result<(), Failed>
     requires usable { S.failed store.old ≡ false }
     ensures stays { Stays S.Store store.old store.new }
     ensures cause { Counts S.Store result store.old store.new }
-    ensures orderly_still { (m : Memory) → IsOrderlyStore S.Store store.old m → IsOrderlyStore S.Store store.new m }
-    ensures tidy_still { (m : Memory) → IsTidyStore S.Store store.old m → IsTidyStore S.Store store.new m }
-    ensures true_still { (m : Memory) → HasTrueImages S.Store store.old m → HasTrueImages S.Store store.new m }
+    ensures session_still { (m : Memory) → IsBetweenSteps S.Store store.old m → IsBetweenSteps S.Store store.new m }
     ensures taken { S.told → (m : Memory) (disk : List ℕ) → IsOrderlyStore S.Store store.old m → IsReadyStore S.Store store.old m
         → IsAllowed S.Store (Flush disk) store.old m → StoreTakes S.Store (Flush disk) store.old m store.new m (answered Done result) }
 {

@@ -3,8 +3,8 @@
 //! **What is kept here.** Nothing: each call works on a store and on what a session has in memory. Of memory only the row of
 //! the disk's own image changes: blocks of it may get slots.
 //!
-//! **What it promises.** Each call takes a command that the machine does not refuse. Whatever a stop would have left before it,
-//! the images in memory stay true of their volumes. Of a store that is ready it answers as the machine says. A write touches no
+//! **What it promises.** Each call takes a command that the machine does not refuse, between two steps of a session (`IsBetweenSteps`
+//! of `sm_ready`), and leaves the session there where it succeeds. Of a store that is ready it answers as the machine says. A write touches no
 //! image but the disk's own, is never refused for space and never wants memory. At every stop, in the middle of a write and
 //! after one that failed, each of its sectors holds what it might have held before or what is written, each other sector what
 //! it might have held before, and the repository opens. What was written lasts once `flush` comes back well. A fill promises
@@ -16,9 +16,9 @@
 //! sync; a first write into blocks makes at most one sync for each sector of the table. A read is one read of the store for
 //! each run of sectors that one image holds, beside one of a bitmap for each VHD image that is asked. A flush is one sync.
 //! A fill costs a write for each block that it reaches. Memory is taken for the answer of a read alone, before the store is
-//! called; a write borrows one buffer of the pool, a fill two.
+//! called; a fill borrows one buffer of the pool.
 //!
-//! The definitions are in `specs/`: `Taken` (what a call answers).
+//! The definitions are in `specs/`: `Taken` (what a call answers) and `Writing` (where a write puts anything).
 #![tactic(auto)]
 
 mod filling;

@@ -1,5 +1,5 @@
 -- What the machine makes of the line that asks for the images: it is answered, and changes nothing.
-use Rattle.std.proofs.Common.{◌≡◌, ◌^◌, ◌<◌, List, [], ◌∷◌, None, ap, arith, refl}
+use Rattle.std.proofs.Common.{◌≡◌, ◌^◌, ◌<◌, [], ◌∷◌, None, ap, arith, refl}
 use Rattle.std.proofs.lemmas.Bool.{le-ltb}
 use Rattle.common_laws.specs.Lists.{first_some, given}
 use Rattle.sm_base.specs.declared.refusals.Refusal.TheVariants.{NoSpace}

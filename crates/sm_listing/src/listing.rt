@@ -4,6 +4,7 @@
 //! place by UUID. Sizes are in bytes.
 
 ghost use Rattle.std.specs.Prelude.{◌≡◌, ◌≤◌, ◌⊎◌, ◌++◌, ◌∷◌, take, drop, length, OnOk, IfOk};
+ghost use Rattle.sm_base.specs.declared.refusals.Refusal.{Refusal};
 ghost use Rattle.sm_base.specs.declared.refusals.Refusal.TheVariants.{NoMemory as NoMemoryRefusal};
 ghost use Rattle.sm_disk.specs.Held.{Held};
 ghost use Rattle.vg_meta.specs.Tables.{VolumeTable};
@@ -116,6 +117,7 @@ fn rows_in(alloc: Global, memory: &Memory) -> Result<DiskRows, NoMemory>
 
 /// The disks, in order of UUID, or want of memory.
 pub fn list(alloc: Global, memory: &Memory) -> Reply
+    ensures poor { (x : Refusal) → result ≡ No x → x ≡ NoMemoryRefusal }
     ensures listed { (s : Site) (t : VolumeTable) (area : Held) → IsOrderly s t (known memory.now) → IsTidy t (known memory.now) → IsReady s t area (known memory.now)
         → (result ≡ No NoMemoryRefusal) ⊎ (result ≡ (step (state_in s t area (known memory.now)) ListDisks).reply) }
 {

@@ -4,6 +4,7 @@
 //! blocks is 0.
 
 ghost use Rattle.std.specs.Prelude.{◌≡◌, ◌⊎◌, List, IfOk};
+ghost use Rattle.sm_base.specs.declared.refusals.Refusal.{Refusal};
 ghost use Rattle.sm_base.specs.declared.refusals.Refusal.TheVariants.{NoMemory as NoMemoryRefusal};
 ghost use Rattle.vg_meta.specs.Roomy.{table_alone};
 ghost use Rattle.vg_volumes.specs.Sites.{Site};
@@ -73,6 +74,7 @@ fn rows_of(alloc: Global, tree: &Tree, attached: &Attachments) -> Result<Vec<Sta
 /// The sequence number, the free extents of `extents` in all, the running operation, and the images in order of name, or want of
 /// memory.
 pub fn stat(alloc: Global, table: &Table, memory: &Memory, extents: u32) -> Reply
+    ensures poor { (x : Refusal) → result ≡ No x → x ≡ NoMemoryRefusal }
     ensures answered { (s : Site) (ds : List Disk) → s.count ≡ extents → IsOrderly s (table_alone table.now) (known memory.now) → IsTidy (table_alone table.now) (known memory.now)
         → (result ≡ No NoMemoryRefusal) ⊎ (result ≡ reply_to ds (shape_in s (table_alone table.now) (known memory.now)) StatImages) }
 {

@@ -1,3 +1,4 @@
 mod FillLaws
+mod MadeBetween
 mod RawLaws
 mod VhdLaws

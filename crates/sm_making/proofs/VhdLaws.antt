@@ -36,6 +36,7 @@ use Rattle.sm_record.specs.declared.records.Record.{Record}
 use Rattle.sm_mgt.specs.Places.{place_for}
 use Rattle.sm_standing.specs.Standing.{disk_in}
 use Rattle.sm_ready.specs.Done.{at_rest}
+use Rattle.sm_ready.specs.Framing.{IsBetweenSteps}
 use Rattle.sm_ready.specs.Known.{Known, known, machine_row, shape_in}
 use Rattle.sm_ready.specs.Orderly.{IsOrderly}
 use Rattle.sm_ready.specs.Ready.{IsTidy}
@@ -119,7 +120,7 @@ vhd_row_is s t m u es uid now size many =
     back : (k : ℕ) → 512 * k / 512 ≡ k
     back k = omega arith
 
-module _ {S : Type 0} {g : Ghosts S} {a : S} {m : Memory} {entry : Record} {es : List ℕ} {sectors : ℕ} (can : CanMakeVhd g a m entry es sectors) (now : ℕ) where
+module _ {S : Type 0} {g : Ghosts S} {a : S} {m : Memory} {entry : Record} {es : List ℕ} {sectors : ℕ} (session : IsBetweenSteps g a m) (can : CanMakeVhd g a m entry es sectors) (now : ℕ) where
   abbrev pub own : Name
   own = name.Vhd entry.uuid
 
@@ -140,15 +141,15 @@ module _ {S : Type 0} {g : Ghosts S} {a : S} {m : Memory} {entry : Record} {es :
       ∙ vhd_row_is (g.site a) (tab g a) (known m) entry.uuid es (image_uid (tab g a)) now size can.disk.many
 
   pub size_is : IsDiskSize (g.site a).geometry sectors
-  size_is = subst (IsDiskSize (g.site a).geometry) (sym can.disk.rounded) (sized (g.site a) (tab g a) (known m) entry.uuid entry.label can.disk.size can.orderly can.tidy can.disk.accepted)
+  size_is = subst (IsDiskSize (g.site a).geometry) (sym can.disk.rounded) (sized (g.site a) (tab g a) (known m) entry.uuid entry.label can.disk.size session.orderly session.tidy can.disk.accepted)
 
   begins : IsToMake (g.site a) (tab g a) (known m) own es added (place_of m entry) entry
   unfolding IsName is_image_name image_uuid images_needed
   begins =
-      let new = new_vhd (g.site a) (tab g a) (known m) entry.uuid entry.label can.disk.size can.orderly can.tidy can.disk.accepted in
+      let new = new_vhd (g.site a) (tab g a) (known m) entry.uuid entry.label can.disk.size session.orderly session.tidy can.disk.accepted in
       record {
-        orderly = can.orderly;
-        tidy = can.tidy;
+        orderly = session.orderly;
+        tidy = session.tidy;
         proper = can.proper.uuid.uuid;
         image = refl;
         uuid = refl;
@@ -163,7 +164,7 @@ module _ {S : Type 0} {g : Ghosts S} {a : S} {m : Memory} {entry : Record} {es :
         stands = made-stands (g.site a).geometry (length es * (g.site a).geometry.extent) now sectors (image_uid (tab g a)) size_is None own (subst (λ n. HasRoomFor (g.site a).geometry 0 (n * (g.site a).geometry.extent)) (sym can.disk.many) (roomy (g.site a)));
         recorded = can.proper;
         placed = some_of (place_for m.records entry.uuid) can.place;
-        well_formed = well_target (g.site a) (tab g a) (known m) (command.Create entry.uuid can.disk.size false entry.label) σ (target (g.site a) t1 own added (known m) entry) can.orderly refl
+        well_formed = well_target (g.site a) (tab g a) (known m) (command.Create entry.uuid can.disk.size false entry.label) σ (target (g.site a) t1 own added (known m) entry) session.orderly refl
             (stepped (g.site a) (tab g a) (known m) own es added entry σ can.disk.size false refl can.disk.accepted (ap (λ (r : Record). r.origin) can.plain) (ap (λ (r : Record). r.read_only) can.plain) (added_is can.disk.size can.disk.rounded));
       }
     where
@@ -175,7 +176,7 @@ module _ {S : Type 0} {g : Ghosts S} {a : S} {m : Memory} {entry : Record} {es :
       some_of (Some k) h = refl
 
   pub makes_vhd : MakesIn g a m own es added (place_of m entry) entry
-  makes_vhd = record { begins = begins; usable = can.usable }
+  makes_vhd = record { begins = begins; usable = session.usable }
 
   -- ---- once the volume is made
 
@@ -189,7 +190,7 @@ module _ {S : Type 0} {g : Ghosts S} {a : S} {m : Memory} {entry : Record} {es :
     -- its unique id is spelled by the number after this commit
     pub head_is : head_now ≡ head
     head_is =
-        let n = numbered (g.site a) (tab g a) (known m) entry.uuid entry.label can.disk.size can.orderly can.tidy can.disk.accepted in
+        let n = numbered (g.site a) (tab g a) (known m) entry.uuid entry.label can.disk.size session.orderly session.tidy can.disk.accepted in
         ap₂ (λ (h : Geometry) (k : ℕ). disk_head h entry.uuid now sectors (base_uuid k)) same_geometry (ap (λ (t : VolumeTable). t.sequence) begun.table ∙ n.0)
 
     pub added_now : Vhd head_now (replicate (g.site b).geometry.entries None) ≡ added.image

@@ -30,7 +30,6 @@ use Rattle.sm_record.specs.Records.{IsRecord, record_sector}
 use Rattle.sm_record.specs.declared.records.Record.{Record}
 use Rattle.sm_mgt.specs.Places.{place_for, records_held}
 use Rattle.sm_ready.specs.Known.{Known, known, shape_in}
-use Rattle.sm_ready.specs.Sessions.{HasTreeRoom, IsOrderlyStore, IsTidyStore}
 use Rattle.sm_ready.specs.declared.memory.Memory.{Memory}
 use Rattle.sm_making.specs.Making.{entry_of}
 
@@ -51,14 +50,10 @@ pub record IsForVhd (s : Site) (t : VolumeTable) (m : Known) (u label es : List 
   pub extents_free : AreFree s.count t.volumes es
 
 -- A VHD disk of so many sectors may be made of a record on these extents, and all memory for it was taken: room for a row in
--- the table and in the tree, and a place for the record.
+-- the table, and a place for the record.
 pub record CanMakeVhd {S : Type 0} (g : Ghosts S) (store : S) (m : Memory) (entry : Record) (es : List ℕ) (sectors : ℕ) : Type 0 where
-  pub usable : g.failed store ≡ false
-  pub orderly : IsOrderlyStore g store m
-  pub tidy : IsTidyStore g store m
   pub disk : IsForVhd (g.site store) (table_alone (g.table store)) (known m) entry.uuid entry.label es sectors
   pub row : 0 < (g.table store).spare
-  pub tree_room : HasTreeRoom m
   pub place : IsSome (place_for m.records entry.uuid)
   pub proper : IsRecord entry
   pub plain : entry ≡ entry_of entry.uuid entry.label

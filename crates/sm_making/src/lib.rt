@@ -2,8 +2,8 @@
 //!
 //! **What is kept here.** Nothing: each call works on a store and on what a session has in memory.
 //!
-//! **What it asks.** No cause refuses the command (`IsAllowed` of `sm_ready`): its caller has asked them. Each image in memory is
-//! true of what its volume holds, where that is told (`HasTrueImages` of `sm_ready`).
+//! **What it asks.** The session is between two steps (`IsBetweenSteps` of `sm_ready`), and no cause refuses the command (`IsAllowed` of
+//! `sm_ready`): its caller has asked them.
 //!
 //! **What it promises.** `create` answers exactly as the machine says, the size of the disk, or that memory is wanting. While a
 //! raw disk is made its volume is marked new, so that a stop before the last commit leaves the disks from before; afterwards
@@ -14,7 +14,8 @@
 //! image and its record are written. The image has no slots and no parent, so the disk reads as zeros; its unique id is spelled by
 //! the table's number after the first commit, and its footers and its header are told byte for byte.
 //!
-//! Each image in memory, the new one too, is true of what its volume holds behind a command that was answered.
+//! Behind a command that was answered the session is between two steps again: each image in memory, the new one too, is true of what
+//! its volume holds.
 //!
 //! **In which units.** Sizes are in bytes where a command gives them, else in sectors of 512 bytes or in extents. A raw disk's
 //! size is rounded up to the extent, a VHD disk's to the block. Times are in seconds since the beginning of the year 2000.

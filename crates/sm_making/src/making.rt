@@ -14,7 +14,6 @@ ghost use Rattle.std.specs.declared.result.Result.TheVariants.{Ok, Err};
 ghost use Rattle.sm_base.specs.declared.faults.CallFault.TheVariants as fault;
 ghost use Rattle.sm_base.specs.Names.{IsUuid};
 ghost use Rattle.sm_base.specs.declared.names.Name.TheVariants.{Raw};
-ghost use Rattle.sm_disk.specs.Held.{Keeps, Rose, IsSettled};
 ghost use Rattle.uuid.specs.Parts.{is_nil_bytes};
 ghost use Rattle.vg_meta.specs.Tables.{VolumeTable, rows, extents_of};
 ghost use Rattle.vg_meta.specs.Roomy.{table_alone};
@@ -25,13 +24,13 @@ ghost use Rattle.sm_machine.specs.Disks.{with_disk};
 ghost use Rattle.sm_machine.specs.Steps.{State, step};
 ghost use Rattle.sm_machine.specs.declared.commands.Command.TheVariants as command;
 ghost use Rattle.sm_record.specs.Records.{IsRecord};
-ghost use Rattle.sm_mgt.specs.Places.{HasAllPlaces, place_for};
+ghost use Rattle.sm_mgt.specs.Places.{place_for};
 ghost use Rattle.sm_standing.specs.Standing.{disks};
 ghost use Rattle.sm_ready.specs.Done.{HasDone};
-ghost use Rattle.sm_ready.specs.Frames.{HasCommits, HasTrueImages};
+ghost use Rattle.sm_ready.specs.Framing.{CountsDevice, IsBetweenSteps, StepsOn};
 ghost use Rattle.sm_ready.specs.Known.{known, shape_in};
 ghost use Rattle.sm_ready.specs.Middle.{IsMiddle};
-ghost use Rattle.sm_ready.specs.Sessions.{IsOrderlyStore, IsTidyStore, IsReadyStore, HasRows, HasTreeRoom, StaysInUse};
+ghost use Rattle.sm_ready.specs.Sessions.{IsOrderlyStore, IsReadyStore, StaysInUse};
 ghost use Rattle.sm_ready.specs.Stores.{StoreLeaves, store_content};
 ghost use Rattle.sm_making.specs.Making.{IsForDisk, table_made, new_disk, entry_of};
 ghost use Rattle.sm_making.specs.Stages.{Anything, HasZeros, IsNewVolume, IsFilled, raw_row};
@@ -70,7 +69,7 @@ fn prepare<S: Store>(
     disk: &Uuid,
 ) -> Result<Vec<u8>, NoMemory>
     ensures reads { OnlyReads S.Store store.old store.new }
-    ensures same { (S.site store.new ≡ S.site store.old) × (S.area store.new ≡ S.area store.old) }
+    ensures same { (S.site store.new ≡ S.site store.old) × (S.area store.new ≡ S.area store.old) × (S.faults store.new ≡ S.faults store.old) }
     ensures table { table_alone (S.table store.new) ≡ table_alone (S.table store.old) }
     ensures leaves { (t : VolumeTable) (image : ℕ → List ℕ) → S.leaves store.new t image → S.leaves store.old t image }
     ensures row { OnOk result (0 < (S.table store.new).spare) }
@@ -92,6 +91,7 @@ pub(crate) fn begin<S: Store>(store: &mut S, name: Name, extents: Vec<u32>) -> R
     ensures commits { OnOk result (Commits S.Store (Create name true extents.items) store.old store.new) }
     ensures fails { OnErr result (FailsToCommit S.Store store.old store.new) }
     ensures crash { Leaves S.Store store.new (IsEitherOf (stored S.Store store.old) (Create name true extents.items)) }
+    ensures cause { Counts S.Store result store.old store.new }
 {
     store.commit(Change::Create {
         name,
@@ -173,6 +173,7 @@ pub(crate) fn end<S: Store>(store: &mut S, name: Name) -> Result<(), Failed>
     ensures commits { OnOk result (Commits S.Store (Mark name Fresh false) store.old store.new) }
     ensures fails { OnErr result (FailsToCommit S.Store store.old store.new) }
     ensures crash { Leaves S.Store store.new (IsEitherOf (stored S.Store store.old) (Mark name Fresh false)) }
+    ensures cause { Counts S.Store result store.old store.new }
 {
     store.commit(Change::Mark {
         name,
@@ -206,31 +207,18 @@ fn make_disk<S: Store>(
     extents: Vec<u32>,
     bytes: &[u8],
 ) -> Result<(), Failed>
-    requires usable { S.failed store.old ≡ false }
-    requires orderly { IsOrderlyStore S.Store store.old memory.old }
-    requires tidy { IsTidyStore S.Store store.old memory.old }
+    requires session { IsBetweenSteps S.Store store.old memory.old }
     requires disk { IsForDisk (S.site store.old) (table_alone (S.table store.old)) (known memory.old) entry.uuid entry.label extents.items }
     requires row { 0 < (S.table store.old).spare }
-    requires tree_room { HasTreeRoom memory.old }
-    requires true_now { HasTrueImages S.Store store.old memory.old }
     requires place { IsSome (place_for memory.old.records entry.uuid) }
     requires bytes { bytes.now ≡ replicate (512 * (S.site store.old).geometry.extent) 0 }
     requires proper { IsRecord entry }
     requires plain { entry ≡ entry_of entry.uuid entry.label }
-    ensures site { S.site store.new ≡ S.site store.old }
-    ensures counts { S.faults store.old ≤ S.faults store.new }
+    ensures step { StepsOn S.Store 2 store.old store.new }
     ensures cause { Counts S.Store result store.old store.new }
-    ensures beside { S.told → Keeps (S.beside store.old) (S.beside store.new) }
     ensures in_use { StaysInUse memory.old memory.new }
-    ensures few { HasCommits 2 (table_alone (S.table store.old)) (table_alone (S.table store.new)) }
-    ensures few_left { Leaves S.Store store.new (λ t image. HasCommits 2 (table_alone (S.table store.old)) t) }
-    ensures usable_still { OnOk result (S.failed store.new ≡ false) }
     ensures table { OnOk result (table_alone (S.table store.new) ≡ table_made (table_alone (S.table store.old)) entry.uuid extents.items) }
-    ensures room { HasRows (S.table store.old) → OnOk result (HasRows (S.table store.new)) }
-    ensures orderly { OnOk result (IsOrderlyStore S.Store store.new memory.new) }
-    ensures tidy { OnOk result (IsTidyStore S.Store store.new memory.new) }
-    ensures tree_room { OnOk result (HasTreeRoom memory.new) }
-    ensures true_still { OnOk result (HasTrueImages S.Store store.new memory.new) }
+    ensures session_still { OnOk result (IsBetweenSteps S.Store store.new memory.new) }
     ensures shape { OnOk result ((σ : State) (d : IsForDisk (S.site store.old) (table_alone (S.table store.old)) (known memory.old) entry.uuid entry.label extents.items)
         → σ.shape ≡ shape_in (S.site store.old) (table_alone (S.table store.old)) (known memory.old)
         → shape_in (S.site store.old) (table_alone (S.table store.new)) (known memory.new) ≡ (step σ (command.Create entry.uuid d.size true entry.label)).after.shape) }
@@ -264,29 +252,16 @@ pub(crate) fn make_raw<S: Store>(
     label: Label,
     extents: Vec<u32>,
 ) -> Result<(), CallFault>
-    requires usable { S.failed store.old ≡ false }
-    requires orderly { IsOrderlyStore S.Store store.old memory.old }
-    requires tidy { IsTidyStore S.Store store.old memory.old }
+    requires session { IsBetweenSteps S.Store store.old memory.old }
     requires disk { IsForDisk (S.site store.old) (table_alone (S.table store.old)) (known memory.old) disk label extents.items }
-    requires tree_room { HasTreeRoom memory.old }
-    requires true_now { HasTrueImages S.Store store.old memory.old }
-    ensures site { S.site store.new ≡ S.site store.old }
-    ensures counts { S.faults store.old ≤ S.faults store.new }
-    ensures cause { result ≡ Err fault.Device → Rose (S.faults store.old) (S.faults store.new) }
-    ensures beside { S.told → Keeps (S.beside store.old) (S.beside store.new) }
+    ensures step { StepsOn S.Store 2 store.old store.new }
+    ensures cause { CountsDevice S.Store result store.old store.new }
     ensures in_use { StaysInUse memory.old memory.new }
-    ensures few { HasCommits 2 (table_alone (S.table store.old)) (table_alone (S.table store.new)) }
-    ensures few_left { Leaves S.Store store.new (λ t image. HasCommits 2 (table_alone (S.table store.old)) t) }
-    ensures usable_still { OnOk result (S.failed store.new ≡ false) }
     ensures poor { result ≡ Err fault.NoMemory
         → OnlyReads S.Store store.old store.new × ((t : VolumeTable) (image : ℕ → List ℕ) → S.leaves store.new t image → S.leaves store.old t image)
-        × (memory.new ≡ memory.old) × (S.failed store.new ≡ false) }
+        × (memory.new ≡ memory.old) }
     ensures table { OnOk result (table_alone (S.table store.new) ≡ table_made (table_alone (S.table store.old)) disk extents.items) }
-    ensures room { HasRows (S.table store.old) → OnOk result (HasRows (S.table store.new)) }
-    ensures orderly { OnOk result (IsOrderlyStore S.Store store.new memory.new) }
-    ensures tidy { OnOk result (IsTidyStore S.Store store.new memory.new) }
-    ensures tree_room { OnOk result (HasTreeRoom memory.new) }
-    ensures true_still { OnOk result (HasTrueImages S.Store store.new memory.new) }
+    ensures session_still { OnOk result (IsBetweenSteps S.Store store.new memory.new) }
     ensures shape { OnOk result ((σ : State) (d : IsForDisk (S.site store.old) (table_alone (S.table store.old)) (known memory.old) disk label extents.items)
         → σ.shape ≡ shape_in (S.site store.old) (table_alone (S.table store.old)) (known memory.old)
         → shape_in (S.site store.old) (table_alone (S.table store.new)) (known memory.new) ≡ (step σ (command.Create disk d.size true label)).after.shape) }

@@ -1,18 +1,20 @@
 //! Making a VHD disk, by a command.
 
-ghost use Rattle.std.specs.Prelude.{◌≡◌, ◌≤◌, ℕ, List, true, false, IfOk, OnOk};
+ghost use Rattle.std.specs.Prelude.{◌≡◌, ℕ, List, true, false, IfOk, OnOk};
+ghost use Rattle.sm_machine.specs.declared.replies.Reply.TheVariants.{No};
+ghost use Rattle.sm_base.specs.declared.refusals.Refusal.TheVariants.{NoMemory};
+ghost use Rattle.sm_base.specs.declared.refusals.Refusal.{Refusal};
 ghost use Rattle.sm_base.specs.declared.names.Name.TheVariants.{Vhd};
-ghost use Rattle.sm_disk.specs.Held.{Keeps};
 ghost use Rattle.vg_meta.specs.Roomy.{table_alone};
 ghost use Rattle.vg_meta.specs.Tables.{VolumeTable};
-ghost use Rattle.vg_volumes.specs.Stored.{stored, sectors_in, OnlyReads, Counts, Leaves};
+ghost use Rattle.vg_volumes.specs.Stored.{stored, sectors_in, OnlyReads, Counts};
 ghost use Rattle.vhd_chain.specs.Trees.{with_row};
 ghost use Rattle.vhd_volumes.specs.Steps.{Gives};
 ghost use Rattle.sm_machine.specs.declared.commands.Command.TheVariants.{Create};
 ghost use Rattle.sm_machine.specs.Runs.{is_accepted};
-ghost use Rattle.sm_ready.specs.Frames.{HasCommits, HasTrueImages};
+ghost use Rattle.sm_ready.specs.Framing.{IsBetweenSteps, StepsOn};
 ghost use Rattle.sm_ready.specs.Refusing.{IsAllowed};
-ghost use Rattle.sm_ready.specs.Sessions.{IsOrderlyStore, IsTidyStore, IsReadyStore, HasRows, HasTreeRoom, StaysInUse};
+ghost use Rattle.sm_ready.specs.Sessions.{IsReadyStore, StaysInUse};
 ghost use Rattle.sm_ready.specs.Taken.{StoreTakes};
 ghost use Rattle.sm_making.specs.Vhds.{IsVhdOnLeast, HasHead, made_head, made_row, vhd_sectors};
 
@@ -40,25 +42,13 @@ pub fn create_vhd<S: Store>(
     label: &Label,
     now: u32,
 ) -> Result<Reply, Failed>
-    requires usable { S.failed store.old ≡ false }
-    requires orderly { IsOrderlyStore S.Store store.old memory.old }
-    requires tidy { IsTidyStore S.Store store.old memory.old }
-    requires tree_room { HasTreeRoom memory.old }
-    requires true_now { HasTrueImages S.Store store.old memory.old }
+    requires session { IsBetweenSteps S.Store store.old memory.old }
     requires allowed { IsAllowed S.Store (Create disk.now size false label.now) store.old memory.old }
-    ensures site { S.site store.new ≡ S.site store.old }
-    ensures counts { S.faults store.old ≤ S.faults store.new }
+    ensures step { StepsOn S.Store 2 store.old store.new }
     ensures cause { Counts S.Store result store.old store.new }
-    ensures beside { S.told → Keeps (S.beside store.old) (S.beside store.new) }
     ensures in_use { StaysInUse memory.old memory.new }
-    ensures few { HasCommits 2 (table_alone (S.table store.old)) (table_alone (S.table store.new)) }
-    ensures few_left { Leaves S.Store store.new (λ t image. HasCommits 2 (table_alone (S.table store.old)) t) }
-    ensures usable_still { OnOk result (S.failed store.new ≡ false) }
-    ensures orderly_still { OnOk result (IsOrderlyStore S.Store store.new memory.new) }
-    ensures tidy_still { OnOk result (IsTidyStore S.Store store.new memory.new) }
-    ensures tree_room_still { OnOk result (HasTreeRoom memory.new) }
-    ensures true_still { OnOk result (HasTrueImages S.Store store.new memory.new) }
-    ensures room { HasRows (S.table store.old) → OnOk result (HasRows (S.table store.new)) }
+    ensures session_still { OnOk result (IsBetweenSteps S.Store store.new memory.new) }
+    ensures poor { IfOk result (λ r. (x : Refusal) → r ≡ No x → x ≡ NoMemory) }
     ensures refused { IfOk result (λ r. is_accepted r ≡ false → (t : VolumeTable) (image : ℕ → List ℕ) → S.leaves store.new t image → S.leaves store.old t image) }
     ensures untouched { IfOk result (λ r. is_accepted r ≡ false → OnlyReads S.Store store.old store.new × (memory.new ≡ memory.old)) }
     ensures least { IfOk result (λ r. is_accepted r ≡ true → IsVhdOnLeast (S.site store.old) (table_alone (S.table store.old)) disk.now (table_alone (S.table store.new))) }

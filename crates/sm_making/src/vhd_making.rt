@@ -9,14 +9,13 @@
 //! for a row. A disk costs two commits, two footers, two sectors of a header, the sectors of a table of T entries (a 128th of
 //! them), and one sector for its record. No sync is needed beside those of the commits.
 
-ghost use Rattle.std.specs.Prelude.{◌≡◌, ◌≤◌, ◌<◌, ◌^◌, ℕ, List, Ok, Err, Some, None, false, IsSome, IfOk, OnOk, replicate, unwrap_or};
+ghost use Rattle.std.specs.Prelude.{◌≡◌, ◌<◌, ◌^◌, ℕ, List, Ok, Err, Some, None, false, IsSome, IfOk, OnOk, replicate, unwrap_or};
 ghost use Rattle.std.specs.List.{slice_set};
 ghost use Rattle.sm_base.specs.declared.faults.CallFault.TheVariants as fault;
 ghost use Rattle.sm_base.specs.declared.names.Name.TheVariants as name;
-ghost use Rattle.sm_disk.specs.Held.{Keeps, Rose};
 ghost use Rattle.vg_meta.specs.Tables.{VolumeTable};
 ghost use Rattle.vg_meta.specs.Roomy.{table_alone};
-ghost use Rattle.vg_volumes.specs.Stored.{stored, sectors_in, Stays, OnlyReads, Counts, Leaves};
+ghost use Rattle.vg_volumes.specs.Stored.{stored, sectors_in, Stays, OnlyReads, Counts};
 ghost use Rattle.vhd_image.specs.Made.{IsDiskSize};
 ghost use Rattle.vhd_image.specs.declared.images.Body.TheVariants.{Vhd};
 ghost use Rattle.vhd_volumes.specs.Steps.{Gives};
@@ -28,10 +27,10 @@ ghost use Rattle.sm_record.specs.Records.{IsRecord};
 ghost use Rattle.sm_mgt.specs.Places.{place_for};
 ghost use Rattle.sm_standing.specs.Standing.{disks};
 ghost use Rattle.sm_ready.specs.Done.{HasDone};
-ghost use Rattle.sm_ready.specs.Frames.{HasCommits, HasTrueImages};
+ghost use Rattle.sm_ready.specs.Framing.{CountsDevice, IsBetweenSteps, StepsOn};
 ghost use Rattle.sm_ready.specs.Known.{known, shape_in};
 ghost use Rattle.sm_ready.specs.Middle.{IsMiddle};
-ghost use Rattle.sm_ready.specs.Sessions.{IsOrderlyStore, IsTidyStore, IsReadyStore, HasRows, HasTreeRoom, StaysInUse};
+ghost use Rattle.sm_ready.specs.Sessions.{IsOrderlyStore, IsReadyStore, StaysInUse};
 ghost use Rattle.sm_ready.specs.Stores.{StoreLeaves, store_content};
 ghost use Rattle.sm_making.specs.Making.{new_disk};
 ghost use Rattle.sm_making.specs.Stages.{IsNewVolume};
@@ -57,7 +56,7 @@ fn prepare_vhd<S: Store>(
     disk: &Uuid,
 ) -> Result<Map, NoMemory>
     ensures reads { OnlyReads S.Store store.old store.new }
-    ensures same { (S.site store.new ≡ S.site store.old) × (S.area store.new ≡ S.area store.old) }
+    ensures same { (S.site store.new ≡ S.site store.old) × (S.area store.new ≡ S.area store.old) × (S.faults store.new ≡ S.faults store.old) }
     ensures table { table_alone (S.table store.new) ≡ table_alone (S.table store.old) }
     ensures leaves { (t : VolumeTable) (image : ℕ → List ℕ) → S.leaves store.new t image → S.leaves store.old t image }
     ensures row { OnOk result (0 < (S.table store.new).spare) }
@@ -116,23 +115,14 @@ fn make_vhd_disk<S: Store>(
     sectors: u64,
     now: u32,
 ) -> Result<(), Failed>
+    requires session { IsBetweenSteps S.Store store.old memory.old }
     requires can { CanMakeVhd S.Store store.old memory.old entry extents.items sectors }
     requires blank { map ≡ replicate (S.site store.old).geometry.entries None }
-    requires true_now { HasTrueImages S.Store store.old memory.old }
-    ensures site { S.site store.new ≡ S.site store.old }
-    ensures counts { S.faults store.old ≤ S.faults store.new }
+    ensures step { StepsOn S.Store 2 store.old store.new }
     ensures cause { Counts S.Store result store.old store.new }
-    ensures beside { S.told → Keeps (S.beside store.old) (S.beside store.new) }
     ensures in_use { StaysInUse memory.old memory.new }
-    ensures few { HasCommits 2 (table_alone (S.table store.old)) (table_alone (S.table store.new)) }
-    ensures few_left { Leaves S.Store store.new (λ t image. HasCommits 2 (table_alone (S.table store.old)) t) }
-    ensures usable_still { OnOk result (S.failed store.new ≡ false) }
     ensures table { OnOk result (table_alone (S.table store.new) ≡ table_with (table_alone (S.table store.old)) (name.Vhd entry.uuid) extents.items) }
-    ensures room { HasRows (S.table store.old) → OnOk result (HasRows (S.table store.new)) }
-    ensures orderly { OnOk result (IsOrderlyStore S.Store store.new memory.new) }
-    ensures tidy { OnOk result (IsTidyStore S.Store store.new memory.new) }
-    ensures tree_room { OnOk result (HasTreeRoom memory.new) }
-    ensures true_still { OnOk result (HasTrueImages S.Store store.new memory.new) }
+    ensures session_still { OnOk result (IsBetweenSteps S.Store store.new memory.new) }
     ensures image { OnOk result (memory.new.tree.rows ≡ with_row (made_row (S.site store.old) (table_alone (S.table store.old)) entry.uuid now sectors) memory.old.tree.rows) }
     ensures head { OnOk result (Gives S.Store (name.Vhd entry.uuid) (HasHead (sectors_in (stored S.Store store.new) (name.Vhd entry.uuid))
         (made_head (S.site store.old) (table_alone (S.table store.old)) entry.uuid now sectors)) store.new) }
@@ -174,29 +164,16 @@ pub(crate) fn make_vhd<S: Store>(
     sectors: u64,
     now: u32,
 ) -> Result<(), CallFault>
-    requires usable { S.failed store.old ≡ false }
-    requires orderly { IsOrderlyStore S.Store store.old memory.old }
-    requires tidy { IsTidyStore S.Store store.old memory.old }
+    requires session { IsBetweenSteps S.Store store.old memory.old }
     requires disk { IsForVhd (S.site store.old) (table_alone (S.table store.old)) (known memory.old) disk label extents.items sectors }
-    requires tree_room { HasTreeRoom memory.old }
-    requires true_now { HasTrueImages S.Store store.old memory.old }
-    ensures site { S.site store.new ≡ S.site store.old }
-    ensures counts { S.faults store.old ≤ S.faults store.new }
-    ensures cause { result ≡ Err fault.Device → Rose (S.faults store.old) (S.faults store.new) }
-    ensures beside { S.told → Keeps (S.beside store.old) (S.beside store.new) }
+    ensures step { StepsOn S.Store 2 store.old store.new }
+    ensures cause { CountsDevice S.Store result store.old store.new }
     ensures in_use { StaysInUse memory.old memory.new }
-    ensures few { HasCommits 2 (table_alone (S.table store.old)) (table_alone (S.table store.new)) }
-    ensures few_left { Leaves S.Store store.new (λ t image. HasCommits 2 (table_alone (S.table store.old)) t) }
-    ensures usable_still { OnOk result (S.failed store.new ≡ false) }
     ensures poor { result ≡ Err fault.NoMemory
         → OnlyReads S.Store store.old store.new × ((t : VolumeTable) (image : ℕ → List ℕ) → S.leaves store.new t image → S.leaves store.old t image)
-        × (memory.new ≡ memory.old) × (S.failed store.new ≡ false) }
+        × (memory.new ≡ memory.old) }
     ensures table { OnOk result (table_alone (S.table store.new) ≡ table_with (table_alone (S.table store.old)) (name.Vhd disk) extents.items) }
-    ensures room { HasRows (S.table store.old) → OnOk result (HasRows (S.table store.new)) }
-    ensures orderly { OnOk result (IsOrderlyStore S.Store store.new memory.new) }
-    ensures tidy { OnOk result (IsTidyStore S.Store store.new memory.new) }
-    ensures tree_room { OnOk result (HasTreeRoom memory.new) }
-    ensures true_still { OnOk result (HasTrueImages S.Store store.new memory.new) }
+    ensures session_still { OnOk result (IsBetweenSteps S.Store store.new memory.new) }
     ensures image { OnOk result (memory.new.tree.rows ≡ with_row (made_row (S.site store.old) (table_alone (S.table store.old)) disk now sectors) memory.old.tree.rows) }
     ensures head { OnOk result (Gives S.Store (name.Vhd disk) (HasHead (sectors_in (stored S.Store store.new) (name.Vhd disk))
         (made_head (S.site store.old) (table_alone (S.table store.old)) disk now sectors)) store.new) }

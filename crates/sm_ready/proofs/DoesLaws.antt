@@ -1,5 +1,5 @@
 -- A command that was done is taken.
-use Rattle.std.proofs.Common.{◌≡◌, true, None, Ok, Err, sym, ap, ◌∙◌}
+use Rattle.std.proofs.Common.{◌≡◌, None, Ok, Err, sym, ap, ◌∙◌}
 use Rattle.sm_base.specs.declared.faults.Failed.{Failed}
 use Rattle.vg_volumes.specs.declared.stores.Store.{Ghosts}
 use Rattle.sm_machine.specs.declared.commands.Command.{Command}

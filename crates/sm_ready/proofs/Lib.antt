@@ -69,3 +69,5 @@ pub mod GrownLaws
 pub mod ApartLaws
 pub mod RunLaws
 pub mod SafeLaws
+pub mod FramingLaws
+pub mod RunSteps

@@ -16,4 +16,5 @@ pub mod Shown
 pub mod Does
 pub mod Refusing
 pub mod Frames
+pub mod Framing
 pub mod Runs

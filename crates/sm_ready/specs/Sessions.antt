@@ -51,6 +51,10 @@ HasRows k = row_limit ≤ length (table_alone k).volumes + k.spare
 abbrev pub HasTreeRoom : Memory → Type 0
 HasTreeRoom m = image_limit ≤ length m.tree.rows + m.tree.spare
 
+-- as many disks may be attached, and as many images used, as a repository may have images
+abbrev pub HasAttachmentRoom : Memory → Type 0
+HasAttachmentRoom m = image_limit ≤ m.attached.room
+
 -- the collector does nothing, and nothing is attached
 pub record IsAtEase (m : Memory) : Type 0 where
   pub idle : m.operation ≡ Idle

@@ -45,7 +45,8 @@
 //!
 //! The definitions are in `specs/`: `Known` (what is in memory, and its shape), `Outlined` (its outline), `Orderly` and `Ready`
 //! (the two invariants), `Shown` (the visible image of a UUID), `Refusing` (when an answer is the machine's), `Stores` (the
-//! content of a store), `Done` (what a call of a step did), `Runs` (commits one after the other), `Repairs` and `Cleaned` (what an opening repairs, and the table that
+//! content of a store), `Framing` (a session between two steps, and what a step did to the store: what each step asks and promises),
+//! `Done` (what a call of a step did), `Runs` (commits one after the other), `Repairs` and `Cleaned` (what an opening repairs, and the table that
 //! it leaves).
 #![tactic(auto)]
 

@@ -279,7 +279,7 @@ module _ {S : Type 0} (g : Ghosts S) where
   pub links_none : (a : S) (m : Memory) → g.failed a ≡ false → IsOrderlyStore g a m → HasTrueImages g a m → LinksSome g a m a m
   links_none a m usable orderly true_images = record {
     site = refl;
-    counts = omega arith;
+    calm = refl;
     usable = usable;
     table = refl;
     room = λ had. had;

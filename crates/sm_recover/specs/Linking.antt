@@ -49,7 +49,7 @@ LinkedBy _ xs before after = after ≡ before
 -- memory was ready it is, and where nothing was pending the disks are the same
 pub record LinksSome {S : Type 0} (g : Ghosts S) (old : S) (m : Memory) (new : S) (n : Memory) : Type 0 where
   pub site : g.site new ≡ g.site old
-  pub counts : g.faults old ≤ g.faults new
+  pub calm : g.faults new ≡ g.faults old
   pub usable : g.failed new ≡ false
   pub table : table_alone (g.table new) ≡ table_alone (g.table old)
   pub room : HasRows (g.table old) → HasRows (g.table new)

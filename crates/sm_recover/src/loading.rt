@@ -2,7 +2,7 @@
 //! off the table alone; of a VHD image the footer, the header and the table are read, once. An image that is being enlarged is
 //! read in the extents that it had, which the entry says: in those behind them anything may stand.
 
-ghost use Rattle.std.specs.Prelude.{◌≡◌, ◌<◌, ◌≤◌, ◌+◌, ◌*◌, length, [], ◌∷◌, true, Some, IfOk, IfErr, IfSome, IfNone, slice_get};
+ghost use Rattle.std.specs.Prelude.{◌≡◌, ◌≢◌, ◌<◌, ◌≤◌, ◌+◌, ◌*◌, length, [], ◌∷◌, true, Some, Err, IfOk, IfErr, IfSome, IfNone, slice_get};
 ghost use Rattle.vg_meta.specs.Roomy.{table_alone};
 ghost use Rattle.vg_meta.specs.Tables.{Row};
 ghost use Rattle.vg_volumes.specs.Stored.{OnlyReads, held_in, sectors_in, stored};
@@ -40,6 +40,7 @@ pub fn load<S: Store>(alloc: Global, store: &mut S) -> Result<Tree, OpenFault>
     ensures rows { IfOk result (λ tree. AreRowsOf (read_volumes (table_alone (S.table store.old))) tree.rows) }
     ensures each { IfOk result (λ tree. HasEachRow S.told (stored_read S.Store store.old) (read_volumes (table_alone (S.table store.old))) tree.rows) }
     ensures room { IfOk result (λ tree. image_limit ≤ length tree.rows + tree.spare) }
+    ensures calm { result ≢ Err fault.Device → S.faults store.new ≡ S.faults store.old }
     ensures cause { IfErr result (IsStoppedBy S.told (invalid_fault (outline (store_content S.Store store.old))) (S.faults store.old) (S.faults store.new)) }
 {
     let mut tree = Tree::new(alloc);
@@ -68,6 +69,7 @@ fn row_at<S: Store>(
     ensures some { IfOk result (λ found. IfSome found (λ x. (r : Row) → slice_get (table_alone (S.table store.old)).volumes index ≡ Some r
         → IsFilledImage r × IsRow S.told (stored_read S.Store store.old) (as_read (making (table_alone (S.table store.old))) r) x)) }
     ensures none { IfOk result (λ found. IfNone found ((r : Row) → slice_get (table_alone (S.table store.old)).volumes index ≡ Some r → IsFilledImage r → ⊥)) }
+    ensures calm { result ≢ Err fault.Device → S.faults store.new ≡ S.faults store.old }
     ensures cause { IfErr result (λ e. (r : Row) → slice_get (table_alone (S.table store.old)).volumes index ≡ Some r
         → FailsAt S.Store (stored_read S.Store store.old) (as_read (making (table_alone (S.table store.old))) r) e store.old store.new) }
 {
@@ -143,6 +145,7 @@ fn image_in<S: Store>(
     ensures reads { OnlyReads S.Store store.old store.new }
     ensures name { IfOk result (λ image. volume_name image ≡ name.now) }
     ensures image { IfOk result (IsReadAs S.told (S.site store.old).geometry (extents * (S.site store.old).geometry.extent) (held_in (stored S.Store store.old) name.now) name.now) }
+    ensures calm { result ≢ Err fault.Device → S.faults store.new ≡ S.faults store.old }
     ensures cause { IfErr result (λ e. FailsToRead S.Store (stored S.Store store.old) name.now (extents * (S.site store.old).geometry.extent) e store.old store.new) }
 {
     match name {

@@ -1,10 +1,11 @@
 //! All checks, one after another, and then the memory of a session: the images that stand, and room for all that may come.
 //! Nothing is written.
 
-ghost use Rattle.std.specs.Prelude.{◌≡◌, ◌≤◌, ◌+◌, None, OnOk, IfOk, IfErr, IfNone, length};
+ghost use Rattle.std.specs.Prelude.{◌≡◌, ◌≢◌, ◌≤◌, ◌+◌, None, Err, OnOk, IfOk, IfErr, IfNone, length};
 ghost use Rattle.sm_disk.specs.Held.{IsSettled};
 ghost use Rattle.common_laws.specs.Lists.{first_some};
 ghost use Rattle.sm_mgt.specs.Places.{Agrees, place_count, records_of};
+ghost use Rattle.sm_base.specs.declared.faults.OpenFault.TheVariants as fault;
 ghost use Rattle.sm_standing.specs.Checks.{first_fault};
 ghost use Rattle.vg_volumes.specs.Stored.{OnlyReads};
 ghost use Rattle.sm_recover.specs.Ending.{IsEndableThen, IsEndedSo, leaf_ends, unleafed};
@@ -64,6 +65,7 @@ pub fn checked_with_room<S: Store>(alloc: Global, store: &mut S) -> Result<Memor
     ensures tree_room { IfOk result HasTreeRoom }
     ensures attachment_room { IfOk result (λ m. image_limit ≤ m.attached.room) }
     ensures true_images { IfOk result (λ m. S.told → IsSettled (S.area store.old) → AllAreTrue (stored_with S.Store store.old (undone (unfolded (unleafed (table_alone (S.table store.old)))))) m.tree.rows) }
+    ensures calm { result ≢ Err fault.Device → S.faults store.new ≡ S.faults store.old }
     ensures cause { IfErr result (IsOpeningStopped S.told (store_content S.Store store.old) (S.faults store.old) (S.faults store.new)) }
     ensures room { OnOk result (HasRows (S.table store.new)) }
 {
@@ -95,6 +97,7 @@ fn checked<S: Store>(alloc: Global, store: &mut S) -> Result<(Tree, Mgt), OpenFa
     ensures each { IfOk result (λ p. HasEachRow S.told (stored_read S.Store store.old) (read_volumes (table_alone (S.table store.old))) p.0.rows) }
     ensures room { IfOk result (λ p. image_limit ≤ length p.0.rows + p.0.spare) }
     ensures long { IfOk result (λ p. length p.1 ≡ place_count) }
+    ensures calm { result ≢ Err fault.Device → S.faults store.new ≡ S.faults store.old }
     ensures cause { IfErr result (IsOpeningStopped S.told (store_content S.Store store.old) (S.faults store.old) (S.faults store.new)) }
 {
     let tree = checked_images(alloc, store)?;
@@ -114,6 +117,7 @@ fn checked_images<S: Store>(alloc: Global, store: &mut S) -> Result<Tree, OpenFa
     ensures rows { IfOk result (λ tree. AreRowsOf (read_volumes (table_alone (S.table store.old))) tree.rows) }
     ensures each { IfOk result (λ tree. HasEachRow S.told (stored_read S.Store store.old) (read_volumes (table_alone (S.table store.old))) tree.rows) }
     ensures room { IfOk result (λ tree. image_limit ≤ length tree.rows + tree.spare) }
+    ensures calm { result ≢ Err fault.Device → S.faults store.new ≡ S.faults store.old }
     ensures cause { IfErr result (IsOpeningStopped S.told (store_content S.Store store.old) (S.faults store.old) (S.faults store.new)) }
 {
     if let Some(place) = first_by_table(store) {
@@ -142,6 +146,7 @@ fn first_by_table<S: Store>(store: &S) -> Option<Place>
 /// Makes room for all rows that the table may come to have. What stands counts, so that no later row takes memory.
 fn make_room<S: Store>(store: &mut S) -> Result<(), NoMemory>
     ensures reads { OnlyReads S.Store store.old store.new }
+    ensures calm { S.faults store.new ≡ S.faults store.old }
     ensures room { OnOk result (HasRows (S.table store.new)) }
 {
     let rows = store.table().volumes().len();

@@ -3,10 +3,11 @@
 //! commit of its own, so its sequence number rises by six at most for the folding of a leaf, by five at most for a fork, by two at most
 //! for an enlargement, by one for a copy or a link, and by one for each new volume.
 
-ghost use Rattle.std.specs.Prelude.{◌≡◌, ◌⊎◌, ◌<◌, ◌≤◌, ℕ, None, false, OnOk, OnErr, IfOk, IfErr};
+ghost use Rattle.std.specs.Prelude.{◌≡◌, ◌≢◌, ◌⊎◌, ◌<◌, ◌≤◌, ℕ, None, Err, false, OnOk, OnErr, IfOk, IfErr};
 ghost use Rattle.sm_base.specs.declared.names.Name.TheVariants.{Mgt as mgt_name};
 ghost use Rattle.sm_disk.specs.Held.{IsSettled, Keeps};
 ghost use Rattle.sm_mgt.specs.Places.{place_count};
+ghost use Rattle.sm_base.specs.declared.faults.OpenFault.TheVariants as fault;
 ghost use Rattle.sm_standing.specs.Checks.{first_fault};
 ghost use Rattle.sm_standing.specs.Opened.{opened};
 ghost use Rattle.sm_standing.specs.Standing.{disks};
@@ -62,6 +63,7 @@ pub fn settle<S: Store>(alloc: Global, store: &mut S) -> Result<Memory, OpenFaul
     ensures counts { S.faults store.old ≤ S.faults store.new }
     ensures beside { S.told → Keeps (S.beside store.old) (S.beside store.new) }
     ensures sound { OnOk result (S.told → first_fault (store_content S.Store store.old) ≡ None) }
+    ensures calm { result ≢ Err fault.Device → S.faults store.new ≡ S.faults store.old }
     ensures cause { IfErr result (IsOpeningStopped S.told (store_content S.Store store.old) (S.faults store.old) (S.faults store.new)) }
     ensures refused { IfErr result (λ e. UnlessDeviceFailed e (OnlyReads S.Store store.old store.new)) }
     ensures unsound { OnErr result (S.told → (first_fault (store_content S.Store store.old) ≡ None → ⊥) → Keeps (S.device store.old) (S.device store.new)) }

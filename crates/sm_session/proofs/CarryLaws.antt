@@ -1,9 +1,7 @@
 -- What a command's own crate tells of it, as a step tells it.
-use Rattle.std.proofs.Common.{◌≡◌, ℕ, Bool, true, false, List, ◌∷◌, length, Option, Some, None, Result, IfOk, Ok, Err, refl, sym, ap, ◌∙◌, subst}
+use Rattle.std.proofs.Common.{◌≡◌, ◌⊎◌, inl, ◌≤◌, ℕ, Bool, true, false, List, ◌∷◌, length, Option, Some, Result, IfOk, OnOk, Ok, Err, refl, sym, ap, ◌∙◌, subst, arith}
 use Rattle.sm_base.specs.declared.faults.Failed.{Failed}
 use Rattle.sm_base.specs.declared.operations.Mode.{Mode}
-use Rattle.sm_base.specs.declared.operations.Op.{Op}
-use Rattle.sm_base.specs.declared.operations.Op.TheVariants as op
 use Rattle.sm_base.specs.declared.refusals.Refusal.{Refusal}
 use Rattle.sm_base.specs.declared.refusals.Refusal.TheVariants.{BadSize, ChainTooLong, InUse, NameTaken, NoMemory, NoSpace, NotAttached, OutOfRange, RawDisk, ReadOnly, ReservedName, SequenceSpent, Shrink, TooMany, UnknownDisk}
 use Rattle.common_laws.specs.Lists.{first_some, given}
@@ -11,15 +9,28 @@ use Rattle.std.proofs.lemmas.Option.{none-some, same_Some}
 use Rattle.sm_machine.specs.Refusals.{fork_depth, images_needed, is_bad_size, is_deep, is_in_use, is_not_attached, is_out_of_range, is_raw_disk, is_read_only, is_reserved, is_shrink, is_spent, is_taken, is_too_many, is_unknown, lacks_space, need, refusal}
 use Rattle.std.proofs.lemmas.Bool.{true≢false}
 use Rattle.vg_volumes.specs.declared.stores.Store.{Ghosts}
-use Rattle.sm_machine.specs.Commits.{folds, gives_up, is_given_up}
+use Rattle.sm_machine.specs.Collector.{next_step}
+use Rattle.sm_machine.specs.Runs.{takes_memory}
+use Rattle.sm_run.specs.Runs.{begins, may_want_memory}
 use Rattle.sm_machine.specs.Shapes.{Shape, free}
 use Rattle.sm_machine.specs.declared.commands.Command.{Command}
 use Rattle.sm_machine.specs.declared.commands.Command.TheVariants as command
 use Rattle.sm_machine.specs.declared.replies.Reply.{Reply}
+use Rattle.sm_machine.specs.declared.replies.Reply.TheVariants.{No}
 use Rattle.sm_ready.specs.Taken.{StoreTakes}
 use Rattle.sm_ready.specs.declared.memory.Memory.{Memory}
 use Rattle.sm_session.specs.Carrying.{is_guests}
-use Rattle.sm_session.proofs.CollectLaws.{never_refused}
+use Rattle.vg_meta.specs.Tables.{VolumeTable}
+use Rattle.vg_volumes.specs.Stored.{IsChoiceOf, OnlyReads, Stays, stored}
+use Rattle.sm_disk.proofs.ReachesLaws.{Reaches-none}
+use Rattle.vg_volumes.proofs.StoredLaws.{stays_none, works_none}
+use Rattle.std.specs.Prelude.{⊤}
+use Rattle.sm_guests.specs.Writing.{WritesOnly}
+use Rattle.sm_ready.specs.Frames.{HasTrueImages}
+use Rattle.sm_ready.specs.Framing.{IsBetweenSteps, StepsOn}
+use Rattle.sm_ready.specs.Sessions.{HasAttachmentRoom, HasRows, HasTreeRoom, IsOrderlyStore, IsTidyStore}
+use Rattle.sm_ready.proofs.FramingLaws.{more_steps, reads_between, stays_steps}
+use Rattle.sm_session.specs.Carrying.{most_commits}
 
 -- what is told of a command at any result is told of it where it failed
 pub stopped_at : {S : Type 0} (g : Ghosts S) (a b : S) (m n : Memory) (c : Command) (r : Result Reply Failed) (f : Failed) → StoreTakes g c a m b n r → StoreTakes g c a m b n (Err f)
@@ -83,7 +94,71 @@ never_for_memory σ c =
     (past (lacks_space σ c) (NoSpace (need σ c) (free σ)) _ refl
     (λ e. none-some NoMemory e))))))))))))))
 
+-- a command's answer may be want of memory where its step takes memory, and where a step of the collector begins to fold an image
+pub may_want : (s : Shape) (c : Command) → takes_memory c ≡ true → (c ≡ command.Gc → begins (next_step s) ≡ true) → may_want_memory s c ≡ true
+unfolding may_want_memory
+may_want s command.Gc takes collects = collects refl
+may_want s _ takes collects = takes
+
 -- what holds of every reply holds of the one that came, if one came
 pub of_reply : (P : Reply → Type 0) (result : Result Reply Failed) → ((r : Reply) → P r) → IfOk result P
 of_reply P (Ok r) all = all r
 of_reply P (Err e) all = tt
+
+-- ---- what a command did to the store, and what it leaves of the session
+
+abbrev is_write : Command → Bool
+is_write (command.Write u sector bytes) = true
+is_write _ = false
+
+abbrev OfWrite : (List ℕ → ℕ → List ℕ → Type 0) → Command → Type 0
+OfWrite P (command.Write u sector bytes) = P u sector bytes
+OfWrite P _ = ⊤
+
+module _ {S : Type 0} {g : Ghosts S} {a b : S} where
+  -- a command that makes so many commits
+  pub steps_by : (c k : Command) (n : ℕ) → c ≡ k → n ≤ most_commits k → StepsOn g n a b → StepsOn g (most_commits c) a b
+  steps_by c k n is few s = subst (λ x. StepsOn g (most_commits x) a b) (sym is) (more_steps few s)
+
+  -- a call that commits nothing
+  pub steps_stay : (most : ℕ) → (g.told → g.failed b ≡ false → (t : VolumeTable) (image : ℕ → List ℕ) → g.leaves b t image → IsChoiceOf (stored g b) t image) → g.failed a ≡ false → Stays g a b → StepsOn g most a b
+  steps_stay most now usable s = more_steps (omega arith) (stays_steps s (λ told. now told (s.failed ∙ usable)))
+
+  -- where memory was wanting
+  pub between_poor : (m n : Memory) → OnlyReads g a b → n ≡ m → IsBetweenSteps g a m → IsBetweenSteps g b n
+  between_poor m n reads same i = subst (IsBetweenSteps g b) (sym same) (reads_between m reads i)
+
+-- no call was made
+pub steps_none : {S : Type 0} (g : Ghosts S) (most : ℕ) (a : S) → (g.told → g.failed a ≡ false → (t : VolumeTable) (image : ℕ → List ℕ) → g.leaves a t image → IsChoiceOf (stored g a) t image) → g.failed a ≡ false → StepsOn g most a a
+steps_none g most a now usable = steps_stay most now usable (stays_none a)
+
+-- a command that is no write writes only what a write would
+pub no_write : (P : List ℕ → ℕ → List ℕ → Type 0) (c k : Command) → c ≡ k → is_write k ≡ false → (u : List ℕ) (sector : ℕ) (bytes : List ℕ) → c ≡ command.Write u sector bytes → P u sector bytes
+no_write P c k is not u sector bytes write = absurd (true≢false (sym (ap is_write (sym is ∙ write)) ∙ not))
+
+-- no call was made
+pub writes_none : {S : Type 0} (g : Ghosts S) (m : Memory) (u : List ℕ) (at : ℕ) (bytes : List ℕ) (a : S) → WritesOnly g m u at bytes a a
+writes_none g m u at bytes a = record { works = works_none _ a; places = λ r is told. Reaches-none _ _ }
+
+-- a write is one of this disk, this place and these bytes
+pub one_write : (P : List ℕ → ℕ → List ℕ → Type 0) (v : List ℕ) (from : ℕ) (put : List ℕ) (u : List ℕ) (at : ℕ) (bytes : List ℕ) → command.Write v from put ≡ command.Write u at bytes → P v from put → P u at bytes
+one_write P v from put u at bytes is made = subst (OfWrite P) is made
+
+-- a call that tells part by part what it leaves of the session
+pub between_parts : {S : Type 0} (g : Ghosts S) (a b : S) (m n : Memory) (r : Result ⊤ Failed) → IsBetweenSteps g a m → OnOk r (g.failed b ≡ false) → OnOk r (IsOrderlyStore g b n)
+    → (IsTidyStore g a m → OnOk r (IsTidyStore g b n)) → OnOk r (HasTrueImages g b n) → (HasRows (g.table a) → OnOk r (HasRows (g.table b))) → HasTreeRoom n → HasAttachmentRoom n → OnOk r (IsBetweenSteps g b n)
+between_parts g a b m n (Ok u) i usable orderly tidy true_images rows tree_room attachment_room = record {
+  usable = usable;
+  orderly = orderly;
+  tidy = tidy i.tidy;
+  true_images = true_images;
+  rows = rows i.rows;
+  tree_room = tree_room;
+  attachment_room = attachment_room;
+}
+between_parts g a b m n (Err e) i usable orderly tidy true_images rows tree_room attachment_room = tt
+
+-- where a command is refused for want of memory alone, it is refused for that or by its first cause
+pub only_poor : (σ : Shape) (c : Command) (r : Result Reply Failed) → IfOk r (λ k. (x : Refusal) → k ≡ No x → x ≡ NoMemory) → IfOk r (λ k. (x : Refusal) → k ≡ No x → (x ≡ NoMemory) ⊎ (refusal σ c ≡ Some x))
+only_poor σ c (Ok k) poor = λ x same. inl (poor x same)
+only_poor σ c (Err e) poor = tt

@@ -1,5 +1,5 @@
 -- What the collector's next step says of the operation, which steps there are, and what is told of them.
-use Rattle.std.proofs.Common.{◌≡◌, ◌⊎◌, inl, inr, ℕ, ◌^◌, ◌<◌, ◌||◌, not, Bool, true, false, List, [], ◌∷◌, ◌++◌, Option, Some, None, Result, OnOk, refl, sym, ap, ap₂, ◌∙◌, subst, arith}
+use Rattle.std.proofs.Common.{◌≡◌, ◌⊎◌, inl, inr, ℕ, ◌^◌, ◌<◌, true, false, List, [], ◌∷◌, ◌++◌, Option, Some, None, Result, OnOk, refl, sym, ap, ◌∙◌, subst, arith}
 use Rattle.std.specs.List.{find}
 use Rattle.std.proofs.lemmas.Bool.{true≢false, le-ltb}
 use Rattle.std.proofs.Math.Logic.{∥∥₁_map}
@@ -22,7 +22,7 @@ use Rattle.sm_machine.specs.declared.commands.Command.TheVariants.{Gc}
 use Rattle.sm_machine.proofs.Debts.{step_lowers}
 use Rattle.gc_coalesce.specs.Copying.{copying}
 use Rattle.sm_ready.proofs.TakenLaws.{step_accepted, step_still}
-use Rattle.sm_session.specs.Carrying.{begins}
+use Rattle.sm_run.specs.Runs.{begins}
 
 -- no cause refuses a step of the collector
 pub never_refused : (s : Shape) → refusal s Gc ≡ None

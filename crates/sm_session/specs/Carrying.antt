@@ -1,7 +1,5 @@
--- The commands of guests, how many commits a command makes at most, and which step of the collector takes memory.
+-- The commands of guests, and how many commits a command makes at most.
 use Rattle.std.specs.Prelude.{ℕ, Bool, true, false}
-use Rattle.sm_base.specs.declared.operations.Plan.{Plan}
-use Rattle.sm_base.specs.declared.operations.Plan.TheVariants as plan
 use Rattle.sm_machine.specs.declared.commands.Command.{Command}
 use Rattle.sm_machine.specs.declared.commands.Command.TheVariants.{Create, Delete, Attach, Detach, Snapshot, Clone, Resize, Write, Fill, Read, Flush, Gc}
 
@@ -27,9 +25,3 @@ most_commits (Clone u twin) = 9
 most_commits (Resize u size) = 1
 most_commits Gc = 5
 most_commits _ = 0
-
--- a step of the collector begins to copy an image into its parent: no other takes memory
-unfoldable pub begins : Plan → Bool
-begins (plan.Begin child parent to) = true
-begins (plan.Leaf leaf parent to) = true
-begins _ = false

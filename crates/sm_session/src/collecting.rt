@@ -2,11 +2,9 @@
 
 ghost use Rattle.std.specs.Prelude.{◌≡◌, ◌≤◌, ◌<◌, ◌+◌, ◌*◌, ℕ, List, true, false, IfOk, OnOk, length};
 ghost use Rattle.std.specs.declared.result.Result.TheVariants.{Err, Ok};
-ghost use Rattle.sm_attaching.specs.Attaching.{HasAttachmentRoom};
 ghost use Rattle.sm_base.specs.declared.faults.CallFault.TheVariants as fault;
+ghost use Rattle.sm_base.specs.declared.refusals.Refusal.{Refusal};
 ghost use Rattle.sm_base.specs.declared.refusals.Refusal.TheVariants.{NoMemory};
-ghost use Rattle.sm_disk.specs.Held.{Keeps, Rose};
-ghost use Rattle.vg_meta.specs.Roomy.{table_alone};
 ghost use Rattle.vg_meta.specs.Tables.{VolumeTable};
 ghost use Rattle.sm_machine.specs.Collector.{IsLess, debt, next_step};
 ghost use Rattle.sm_machine.specs.Laws.{is_working};
@@ -14,12 +12,12 @@ ghost use Rattle.sm_machine.specs.Runs.{is_accepted};
 ghost use Rattle.sm_machine.specs.Shapes.{image_limit};
 ghost use Rattle.sm_machine.specs.declared.commands.Command.TheVariants as command;
 ghost use Rattle.sm_machine.specs.declared.replies.Reply.TheVariants.{No};
-ghost use Rattle.vg_volumes.specs.Stored.{OnlyReads, Counts, Leaves};
+ghost use Rattle.vg_volumes.specs.Stored.{OnlyReads, Counts};
 ghost use Rattle.sm_ready.specs.Does.{ShapesAs, StoreDoes, store_shape};
-ghost use Rattle.sm_ready.specs.Frames.{HasCommits, HasTrueImages};
-ghost use Rattle.sm_ready.specs.Sessions.{HasRows, HasTreeRoom, IsOrderlyStore, IsReadyStore, IsTidyStore};
+ghost use Rattle.sm_ready.specs.Framing.{CountsDevice, IsBetweenSteps, StepsOn};
+ghost use Rattle.sm_ready.specs.Sessions.{IsReadyStore};
 ghost use Rattle.sm_ready.specs.Taken.{StoreTakes};
-ghost use Rattle.sm_session.specs.Carrying.{begins};
+ghost use Rattle.sm_run.specs.Runs.{begins};
 
 use gc_coalesce::{abandon, begin, begin_leaf, copy_block, finish, relink_one, remove, turn};
 use gc_leaf::swap;
@@ -40,31 +38,17 @@ pub(crate) fn gc<S: Store>(
     pool: &mut Pool,
     children: &mut ChildCounts,
 ) -> Result<Reply, Failed>
-    requires usable { S.failed store.old ≡ false }
-    requires orderly { IsOrderlyStore S.Store store.old memory.old }
-    requires tidy { IsTidyStore S.Store store.old memory.old }
-    requires tree_room { HasTreeRoom memory.old }
-    requires attachment_room { HasAttachmentRoom memory.old }
-    requires true_now { HasTrueImages S.Store store.old memory.old }
-    requires buffer { (1 < pool.old.free) × (512 * (1 + (S.site store.old).geometry.block) ≤ pool.old.bytes) }
+    requires session { IsBetweenSteps S.Store store.old memory.old }
+    requires buffer { (0 < pool.old.free) × (512 * (1 + (S.site store.old).geometry.block) ≤ pool.old.bytes) }
     requires children { image_limit ≤ length children.old }
-    ensures site { S.site store.new ≡ S.site store.old }
-    ensures counts { S.faults store.old ≤ S.faults store.new }
+    ensures step { StepsOn S.Store 5 store.old store.new }
     ensures cause { Counts S.Store result store.old store.new }
-    ensures beside { S.told → Keeps (S.beside store.old) (S.beside store.new) }
     ensures pool { pool.new ≡ pool.old }
     ensures children { length children.new ≡ length children.old }
-    ensures few { HasCommits 5 (table_alone (S.table store.old)) (table_alone (S.table store.new)) }
-    ensures few_left { Leaves S.Store store.new (λ t image. HasCommits 5 (table_alone (S.table store.old)) t) }
-    ensures usable_still { OnOk result (S.failed store.new ≡ false) }
-    ensures orderly_still { OnOk result (IsOrderlyStore S.Store store.new memory.new) }
-    ensures tidy_still { OnOk result (IsTidyStore S.Store store.new memory.new) }
-    ensures tree_room_still { OnOk result (HasTreeRoom memory.new) }
-    ensures attachment_room_still { OnOk result (HasAttachmentRoom memory.new) }
-    ensures true_still { OnOk result (HasTrueImages S.Store store.new memory.new) }
-    ensures room { HasRows (S.table store.old) → OnOk result (HasRows (S.table store.new)) }
+    ensures session_still { OnOk result (IsBetweenSteps S.Store store.new memory.new) }
     ensures refused { IfOk result (λ r. is_accepted r ≡ false → (t : VolumeTable) (image : ℕ → List ℕ) → S.leaves store.new t image → S.leaves store.old t image) }
     ensures spared_plan { IfOk result (λ r. r ≡ No NoMemory → begins (next_step (store_shape S.Store store.old memory.old)) ≡ true) }
+    ensures poor { IfOk result (λ r. (x : Refusal) → r ≡ No x → x ≡ NoMemory) }
     ensures untouched { IfOk result (λ r. is_accepted r ≡ false → OnlyReads S.Store store.old store.new × (memory.new ≡ memory.old)) }
     ensures lowered { IfOk result (λ r. is_accepted r ≡ true
         → is_working (next_step (store_shape S.Store store.old memory.old)) ≡ true
@@ -79,7 +63,7 @@ pub(crate) fn gc<S: Store>(
 }
 
 /// Takes the step that is planned, and answers it with the operation from before. Only one that begins takes memory, and one that is
-/// blocked or idle does nothing. Two buffers of the pool are borrowed and given back.
+/// blocked or idle does nothing. A buffer of the pool is borrowed and given back.
 fn collect<S: Store>(
     alloc: Global,
     store: &mut S,
@@ -87,30 +71,16 @@ fn collect<S: Store>(
     pool: &mut Pool,
     plan: Plan,
 ) -> Result<Reply, Failed>
-    requires usable { S.failed store.old ≡ false }
-    requires orderly { IsOrderlyStore S.Store store.old memory.old }
-    requires tidy { IsTidyStore S.Store store.old memory.old }
-    requires tree_room { HasTreeRoom memory.old }
-    requires attachment_room { HasAttachmentRoom memory.old }
-    requires true_now { HasTrueImages S.Store store.old memory.old }
-    requires buffer { (1 < pool.old.free) × (512 * (1 + (S.site store.old).geometry.block) ≤ pool.old.bytes) }
+    requires session { IsBetweenSteps S.Store store.old memory.old }
+    requires buffer { (0 < pool.old.free) × (512 * (1 + (S.site store.old).geometry.block) ≤ pool.old.bytes) }
     requires planned { next_step (store_shape S.Store store.old memory.old) ≡ plan }
-    ensures site { S.site store.new ≡ S.site store.old }
-    ensures counts { S.faults store.old ≤ S.faults store.new }
+    ensures step { StepsOn S.Store 5 store.old store.new }
     ensures cause { Counts S.Store result store.old store.new }
-    ensures beside { S.told → Keeps (S.beside store.old) (S.beside store.new) }
     ensures pool { pool.new ≡ pool.old }
-    ensures few { HasCommits 5 (table_alone (S.table store.old)) (table_alone (S.table store.new)) }
-    ensures few_left { Leaves S.Store store.new (λ t image. HasCommits 5 (table_alone (S.table store.old)) t) }
-    ensures usable_still { OnOk result (S.failed store.new ≡ false) }
-    ensures orderly_still { OnOk result (IsOrderlyStore S.Store store.new memory.new) }
-    ensures tidy_still { OnOk result (IsTidyStore S.Store store.new memory.new) }
-    ensures tree_room_still { OnOk result (HasTreeRoom memory.new) }
-    ensures attachment_room_still { OnOk result (HasAttachmentRoom memory.new) }
-    ensures true_still { OnOk result (HasTrueImages S.Store store.new memory.new) }
-    ensures room { HasRows (S.table store.old) → OnOk result (HasRows (S.table store.new)) }
+    ensures session_still { OnOk result (IsBetweenSteps S.Store store.new memory.new) }
     ensures refused { IfOk result (λ r. is_accepted r ≡ false → (t : VolumeTable) (image : ℕ → List ℕ) → S.leaves store.new t image → S.leaves store.old t image) }
     ensures spared { IfOk result (λ r. r ≡ No NoMemory → begins plan ≡ true) }
+    ensures poor { IfOk result (λ r. (x : Refusal) → r ≡ No x → x ≡ NoMemory) }
     ensures untouched { IfOk result (λ r. is_accepted r ≡ false → OnlyReads S.Store store.old store.new × (memory.new ≡ memory.old)) }
     ensures lowered { IfOk result (λ r. is_accepted r ≡ true → is_working plan ≡ true
         → ∥ IsLess (debt (store_shape S.Store store.new memory.new)) (debt (store_shape S.Store store.old memory.old)) ∥₁) }
@@ -139,31 +109,15 @@ fn start<S: Store>(
     memory: &mut Memory,
     plan: &Plan,
 ) -> Result<(), CallFault>
-    requires usable { S.failed store.old ≡ false }
-    requires orderly { IsOrderlyStore S.Store store.old memory.old }
-    requires tidy { IsTidyStore S.Store store.old memory.old }
-    requires tree_room { HasTreeRoom memory.old }
-    requires attachment_room { HasAttachmentRoom memory.old }
-    requires true_now { HasTrueImages S.Store store.old memory.old }
+    requires session { IsBetweenSteps S.Store store.old memory.old }
     requires planned { next_step (store_shape S.Store store.old memory.old) ≡ plan.now }
     requires working { begins plan.now ≡ true }
-    ensures site { S.site store.new ≡ S.site store.old }
-    ensures counts { S.faults store.old ≤ S.faults store.new }
-    ensures cause { result ≡ Err fault.Device → Rose (S.faults store.old) (S.faults store.new) }
-    ensures beside { S.told → Keeps (S.beside store.old) (S.beside store.new) }
-    ensures few { HasCommits 4 (table_alone (S.table store.old)) (table_alone (S.table store.new)) }
-    ensures few_left { Leaves S.Store store.new (λ t image. HasCommits 4 (table_alone (S.table store.old)) t) }
-    ensures usable_still { OnOk result (S.failed store.new ≡ false) }
+    ensures step { StepsOn S.Store 4 store.old store.new }
+    ensures cause { CountsDevice S.Store result store.old store.new }
+    ensures session_still { OnOk result (IsBetweenSteps S.Store store.new memory.new) }
     ensures poor { result ≡ Err fault.NoMemory
         → OnlyReads S.Store store.old store.new × ((t : VolumeTable) (image : ℕ → List ℕ) → S.leaves store.new t image → S.leaves store.old t image)
-        × (memory.new ≡ memory.old) × (S.failed store.new ≡ false) }
-    ensures true_poor { result ≡ Err fault.NoMemory → HasTrueImages S.Store store.new memory.new }
-    ensures orderly_still { OnOk result (IsOrderlyStore S.Store store.new memory.new) }
-    ensures tidy_still { OnOk result (IsTidyStore S.Store store.new memory.new) }
-    ensures tree_room_still { OnOk result (HasTreeRoom memory.new) }
-    ensures attachment_room_still { HasAttachmentRoom memory.new }
-    ensures true_still { OnOk result (HasTrueImages S.Store store.new memory.new) }
-    ensures room { HasRows (S.table store.old) → OnOk result (HasRows (S.table store.new)) }
+        × (memory.new ≡ memory.old) }
     ensures shape { OnOk result (ShapesAs S.Store command.Gc store.old memory.old store.new memory.new) }
     ensures done { S.told → IsReadyStore S.Store store.old memory.old → StoreDoes S.Store command.Gc store.old memory.old store.new memory.new (result ≡ Ok tt) }
 {
@@ -181,30 +135,15 @@ fn work<S: Store>(
     pool: &mut Pool,
     plan: Plan,
 ) -> Result<(), Failed>
-    requires usable { S.failed store.old ≡ false }
-    requires orderly { IsOrderlyStore S.Store store.old memory.old }
-    requires tidy { IsTidyStore S.Store store.old memory.old }
-    requires tree_room { HasTreeRoom memory.old }
-    requires attachment_room { HasAttachmentRoom memory.old }
-    requires true_now { HasTrueImages S.Store store.old memory.old }
-    requires buffer { (1 < pool.old.free) × (512 * (1 + (S.site store.old).geometry.block) ≤ pool.old.bytes) }
+    requires session { IsBetweenSteps S.Store store.old memory.old }
+    requires buffer { (0 < pool.old.free) × (512 * (1 + (S.site store.old).geometry.block) ≤ pool.old.bytes) }
     requires planned { next_step (store_shape S.Store store.old memory.old) ≡ plan }
     requires working { is_working plan ≡ true }
     requires no_begin { begins plan ≡ false }
-    ensures site { S.site store.new ≡ S.site store.old }
-    ensures counts { S.faults store.old ≤ S.faults store.new }
+    ensures step { StepsOn S.Store 5 store.old store.new }
     ensures cause { Counts S.Store result store.old store.new }
-    ensures beside { S.told → Keeps (S.beside store.old) (S.beside store.new) }
     ensures pool { pool.new ≡ pool.old }
-    ensures few { HasCommits 5 (table_alone (S.table store.old)) (table_alone (S.table store.new)) }
-    ensures few_left { Leaves S.Store store.new (λ t image. HasCommits 5 (table_alone (S.table store.old)) t) }
-    ensures usable_still { OnOk result (S.failed store.new ≡ false) }
-    ensures orderly_still { OnOk result (IsOrderlyStore S.Store store.new memory.new) }
-    ensures tidy_still { OnOk result (IsTidyStore S.Store store.new memory.new) }
-    ensures tree_room_still { OnOk result (HasTreeRoom memory.new) }
-    ensures attachment_room_still { OnOk result (HasAttachmentRoom memory.new) }
-    ensures true_still { OnOk result (HasTrueImages S.Store store.new memory.new) }
-    ensures room { HasRows (S.table store.old) → OnOk result (HasRows (S.table store.new)) }
+    ensures session_still { OnOk result (IsBetweenSteps S.Store store.new memory.new) }
     ensures lowered { OnOk result (∥ IsLess (debt (store_shape S.Store store.new memory.new)) (debt (store_shape S.Store store.old memory.old)) ∥₁) }
     ensures shape { S.told → IsReadyStore S.Store store.old memory.old → OnOk result (ShapesAs S.Store command.Gc store.old memory.old store.new memory.new) }
     ensures done { S.told → IsReadyStore S.Store store.old memory.old → StoreDoes S.Store command.Gc store.old memory.old store.new memory.new (result ≡ Ok tt) }

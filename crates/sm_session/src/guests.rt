@@ -1,18 +1,18 @@
 //! Carrying out what a guest's host asks: a disk comes into use, its sectors are read and written, and it goes out of use.
 
 ghost use Rattle.std.specs.Prelude.{◌≡◌, ◌≤◌, ◌<◌, ◌+◌, ◌*◌, ℕ, List, true, false, IfOk, OnOk};
-ghost use Rattle.sm_attaching.specs.Attaching.{HasAttachmentRoom};
-ghost use Rattle.sm_disk.specs.Held.{Keeps};
-ghost use Rattle.vg_meta.specs.Roomy.{table_alone};
 ghost use Rattle.vg_meta.specs.Tables.{VolumeTable};
 ghost use Rattle.sm_machine.specs.Runs.{is_accepted, takes_memory};
+ghost use Rattle.sm_base.specs.declared.refusals.Refusal.{Refusal};
 ghost use Rattle.sm_base.specs.declared.refusals.Refusal.TheVariants.{NoMemory};
 ghost use Rattle.sm_machine.specs.declared.replies.Reply.TheVariants.{No};
-ghost use Rattle.vg_volumes.specs.Stored.{OnlyReads, Counts, Leaves};
-ghost use Rattle.sm_ready.specs.Frames.{HasCommits, HasTrueImages};
+ghost use Rattle.vg_volumes.specs.Stored.{OnlyReads, Counts};
 ghost use Rattle.sm_ready.specs.Refusing.{IsAllowed};
-ghost use Rattle.sm_ready.specs.Sessions.{HasRows, HasTreeRoom, IsOrderlyStore, IsReadyStore, IsTidyStore};
+ghost use Rattle.sm_ready.specs.Framing.{IsBetweenSteps, StepsOn};
+ghost use Rattle.sm_ready.specs.Sessions.{IsReadyStore};
 ghost use Rattle.sm_ready.specs.Taken.{StoreTakes};
+ghost use Rattle.sm_machine.specs.declared.commands.Command.TheVariants.{Write};
+ghost use Rattle.sm_guests.specs.Writing.{WritesOnly};
 ghost use Rattle.sm_session.specs.Carrying.{is_guests, most_commits};
 
 use sm_attaching::{attach, detach};
@@ -24,8 +24,7 @@ use sm_ready::Memory;
 use std::alloc::Global;
 use vg_volumes::Store;
 
-/// Carries out a guest's command that no cause refuses. A write borrows one buffer of the pool and a
-/// fill two, which they give back.
+/// Carries out a guest's command that no cause refuses. A fill borrows a buffer of the pool, which it gives back.
 pub(crate) fn serve<S: Store>(
     alloc: Global,
     store: &mut S,
@@ -33,32 +32,20 @@ pub(crate) fn serve<S: Store>(
     pool: &mut Pool,
     command: &Command,
 ) -> Result<Reply, Failed>
-    requires usable { S.failed store.old ≡ false }
-    requires orderly { IsOrderlyStore S.Store store.old memory.old }
-    requires tidy { IsTidyStore S.Store store.old memory.old }
-    requires tree_room { HasTreeRoom memory.old }
-    requires attachment_room { HasAttachmentRoom memory.old }
-    requires true_now { HasTrueImages S.Store store.old memory.old }
-    requires buffer { (1 < pool.old.free) × (512 * (1 + (S.site store.old).geometry.block) ≤ pool.old.bytes) }
+    requires session { IsBetweenSteps S.Store store.old memory.old }
+    requires buffer { (0 < pool.old.free) × (512 * (1 + (S.site store.old).geometry.block) ≤ pool.old.bytes) }
     requires guests { is_guests command.now ≡ true }
     requires allowed { IsAllowed S.Store command.now store.old memory.old }
-    ensures site { S.site store.new ≡ S.site store.old }
-    ensures counts { S.faults store.old ≤ S.faults store.new }
+    ensures step { StepsOn S.Store (most_commits command.now) store.old store.new }
     ensures cause { Counts S.Store result store.old store.new }
-    ensures beside { S.told → Keeps (S.beside store.old) (S.beside store.new) }
     ensures pool { pool.new ≡ pool.old }
-    ensures few { HasCommits (most_commits command.now) (table_alone (S.table store.old)) (table_alone (S.table store.new)) }
-    ensures few_left { Leaves S.Store store.new (λ t image. HasCommits (most_commits command.now) (table_alone (S.table store.old)) t) }
-    ensures usable_still { OnOk result (S.failed store.new ≡ false) }
-    ensures orderly_still { OnOk result (IsOrderlyStore S.Store store.new memory.new) }
-    ensures tidy_still { OnOk result (IsTidyStore S.Store store.new memory.new) }
-    ensures tree_room_still { OnOk result (HasTreeRoom memory.new) }
-    ensures attachment_room_still { OnOk result (HasAttachmentRoom memory.new) }
-    ensures true_still { OnOk result (HasTrueImages S.Store store.new memory.new) }
-    ensures room { HasRows (S.table store.old) → OnOk result (HasRows (S.table store.new)) }
+    ensures session_still { OnOk result (IsBetweenSteps S.Store store.new memory.new) }
     ensures refused { IfOk result (λ r. is_accepted r ≡ false → (t : VolumeTable) (image : ℕ → List ℕ) → S.leaves store.new t image → S.leaves store.old t image) }
     ensures spared { IfOk result (λ r. r ≡ No NoMemory → takes_memory command.now ≡ true) }
+    ensures poor { IfOk result (λ r. (x : Refusal) → r ≡ No x → x ≡ NoMemory) }
     ensures untouched { IfOk result (λ r. is_accepted r ≡ false → OnlyReads S.Store store.old store.new × (memory.new ≡ memory.old)) }
+    ensures writes { (u : List ℕ) (sector : ℕ) (bytes : List ℕ) → command.now ≡ Write u sector bytes
+        → WritesOnly S.Store memory.old u sector bytes store.old store.new }
     ensures taken { S.told → IsReadyStore S.Store store.old memory.old
         → StoreTakes S.Store command.now store.old memory.old store.new memory.new result }
 {
@@ -77,7 +64,7 @@ pub(crate) fn serve<S: Store>(
             sector,
             bytes,
         } => {
-            write(store, memory, pool, disk, *sector, &bytes.bytes)?;
+            write(store, memory, disk, *sector, &bytes.bytes)?;
             Ok(Reply::Done)
         }
         Command::Fill {

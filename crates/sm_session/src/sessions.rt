@@ -1,8 +1,8 @@
 //! A repository that is open, and its steps.
 
-ghost use Rattle.std.specs.Prelude.{◌≡◌, ◌≤◌, ◌<◌, ◌+◌, ◌*◌, ◌⊎◌, None, false, IfOk, IfErr, length};
+ghost use Rattle.std.specs.Prelude.{◌≡◌, ◌≢◌, ◌≤◌, ◌<◌, ◌+◌, ◌*◌, ◌⊎◌, None, false, IfOk, IfErr, length};
 ghost use Rattle.std.proofs.Props.{props};
-ghost use Rattle.sm_attaching.specs.Attaching.{HasAttachmentRoom};
+ghost use Rattle.sm_base.specs.declared.faults.OpenFault.TheVariants.{Device};
 ghost use Rattle.sm_disk.specs.Held.{IsSettled, Keeps};
 ghost use Rattle.vg_meta.specs.Roomy.{table_alone};
 ghost use Rattle.sm_machine.specs.Shapes.{image_limit};
@@ -10,12 +10,10 @@ ghost use Rattle.sm_recover.specs.Ending.{HasFewEnds};
 ghost use Rattle.sm_recover.specs.Repairs.{IsOpeningStopped, UnlessDeviceFailed};
 ghost use Rattle.sm_recover.specs.Stores.{MayBeRepairedFrom};
 ghost use Rattle.vg_volumes.specs.Stored.{OnlyReads, Leaves};
-ghost use Rattle.sm_ready.specs.Frames.{HasTrueImages};
+ghost use Rattle.sm_ready.specs.Framing.{IsBetweenSteps};
 ghost use Rattle.sm_ready.specs.Known.{known, shape_in};
-ghost use Rattle.sm_ready.specs.Orderly.{IsOrderly};
-ghost use Rattle.sm_ready.specs.Proper.{IsOrderly-prop, IsTidy-prop};
-ghost use Rattle.sm_ready.specs.Ready.{IsTidy};
-ghost use Rattle.sm_ready.specs.Sessions.{HasRows, HasTreeRoom, IsReadyStore, KeepsAll, store_state};
+ghost use Rattle.sm_ready.specs.Proper.{IsBetweenSteps-prop};
+ghost use Rattle.sm_ready.specs.Sessions.{IsReadyStore, KeepsAll, store_state};
 ghost use Rattle.sm_ready.specs.Stores.{MayShow, StoreLeaves, content_in, store_content};
 ghost use Rattle.sm_run.specs.Runs.{BeginsSettled};
 ghost use Rattle.sm_standing.specs.Checks.{first_fault};
@@ -34,10 +32,10 @@ use sm_run::{StepFault, Steps};
 use std::alloc::Global;
 use vg_volumes::Store;
 
-/// How many buffers a session has: a block and its bitmap each.
-const BUFFERS: usize = 2;
+/// How many buffers a session has: of a block and its bitmap.
+const BUFFERS: usize = 1;
 
-/// A repository that is open: its store, what is in memory of it, buffers for the blocks of guests, the numbers of children that
+/// A repository that is open: its store, what is in memory of it, a buffer for a block of a guest, the numbers of children that
 /// the collector counts, whether a step has failed, and the time at which it was opened, in seconds since 2000-01-01 00:00 UTC:
 /// the stamp of the images that it makes.
 pub struct Session<S: Store> {
@@ -47,24 +45,16 @@ pub struct Session<S: Store> {
     children: ChildCounts,
     broken: bool,
     now: u32,
-    // While no step has failed, table and memory are as they are between two steps, commits may be made, and table and tree
-    // may come to have all their rows without memory for them.
-    ghost orderly: { broken ≡ false → IsOrderly (S.site store) (table_alone (S.table store)) (known memory) } by { Prim.hlevel (props, IsOrderly-prop) },
-    ghost tidy: { broken ≡ false → IsTidy (table_alone (S.table store)) (known memory) } by { Prim.hlevel (props, IsTidy-prop) },
-    ghost tree_room: { broken ≡ false → HasTreeRoom memory },
-    // Each image in memory is true of its volume, as many disks may be attached as there may be, and two buffers are free.
-    ghost true_images: { broken ≡ false → HasTrueImages S.Store store memory } by { Prim.hlevel props },
-    ghost attachment_room: { broken ≡ false → HasAttachmentRoom memory },
-    ghost buffer: { (1 < pool.free) × (512 * (1 + (S.site store).geometry.block) ≤ pool.bytes) },
-    // The children of as many images can be counted as there may be.
+    // While no step has failed, store and memory are as they are between two steps.
+    ghost between: { broken ≡ false → IsBetweenSteps S.Store store memory } by { Prim.hlevel (props, IsBetweenSteps-prop) },
+    // A buffer is free, and the children of as many images can be counted as there may be.
+    ghost buffer: { (0 < pool.free) × (512 * (1 + (S.site store).geometry.block) ≤ pool.bytes) },
     ghost child_counts: { image_limit ≤ length children },
-    ghost usable: { broken ≡ false → S.failed store ≡ false },
-    ghost room: { broken ≡ false → HasRows (S.table store) },
 }
 
-/// The buffers of a session, all free: each holds a block and its bitmap.
+/// The buffer of a session, which is free and holds a block and its bitmap.
 fn buffers<S: Store>(alloc: Global, store: &S) -> Result<Pool, NoMemory>
-    ensures { IfOk result (λ pool. (1 < pool.free) × (512 * (1 + (S.site store.now).geometry.block) ≤ pool.bytes)) }
+    ensures { IfOk result (λ pool. (0 < pool.free) × (512 * (1 + (S.site store.now).geometry.block) ≤ pool.bytes)) }
 {
     let block = store.geometry().block as usize;
     Pool::new(alloc, BUFFERS, SECTOR as usize * (1 + block))
@@ -82,7 +72,7 @@ impl<S: Store> Session<S> {
         requires usable { S.failed store ≡ false }
         requires settled { S.told → IsSettled (S.area store) }
         ensures site { IfOk result (λ s. S.site s.store ≡ S.site store) }
-        ensures counts { IfOk result (λ s. S.faults store ≤ S.faults s.store) }
+        ensures calm { IfOk result (λ s. S.faults s.store ≡ S.faults store) }
         ensures beside { IfOk result (λ s. S.told → Keeps (S.beside store) (S.beside s.store)) }
         ensures few { IfOk result (λ s. HasFewEnds (table_alone (S.table store)) (table_alone (S.table s.store))) }
         ensures whole { IfOk result (λ s. s.broken ≡ false) }
@@ -98,6 +88,7 @@ impl<S: Store> Session<S> {
         ensures begins { IfOk result (λ s. S.told → HoldsWell (store_content S.Store store)
             → BeginsSettled (store_state S.Store s.store s.memory) (MayShow (S.site s.store) (StoreLeaves S.Store s.store))) }
         ensures site_back { IfErr result (λ e. S.site e.1 ≡ S.site store) }
+        ensures calm_back { IfErr result (λ e. e.0 ≢ Device → S.faults e.1 ≡ S.faults store) }
         ensures counts_back { IfErr result (λ e. S.faults store ≤ S.faults e.1) }
         ensures beside_back { IfErr result (λ e. S.told → Keeps (S.beside store) (S.beside e.1)) }
         ensures few_back { IfErr result (λ e. HasFewEnds (table_alone (S.table store)) (table_alone (S.table e.1))) }
@@ -146,19 +137,25 @@ impl<S: Store> Session<S> {
 
 impl<S: Store> Steps for Session<S> {
     ghost use Rattle.std.specs.Prelude.{◌≡◌, false};
+    ghost use Rattle.std.proofs.Common.{refl};
     ghost use Rattle.vg_volumes.specs.Sites.{Site};
     ghost use Rattle.sm_ready.specs.Sessions.{IsReadyStore, KeepsAll, store_state};
     ghost use Rattle.sm_ready.specs.Stores.{MayShow, StoreLeaves};
+    ghost use Rattle.sm_ready.specs.Does.{store_shape};
 
     ghost told = { S.told };
 
     ghost state = { λ s. store_state S.Store s.store s.memory };
+
+    ghost shape = { λ s. store_shape S.Store s.store s.memory };
 
     ghost ready = { λ s. (s.broken ≡ false) × IsReadyStore S.Store s.store s.memory };
 
     ghost kept = { λ s. KeepsAll (S.site s.store) (StoreLeaves S.Store s.store) };
 
     ghost held = { λ s. S.area s.store };
+
+    ghost device = { λ s. S.device s.store };
 
     ghost beside = { λ s. S.beside s.store };
 
@@ -193,4 +190,6 @@ impl<S: Store> Steps for Session<S> {
             }
         }
     }
+
+    ghost is_shape = { λ s. refl };
 }

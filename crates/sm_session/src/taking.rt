@@ -1,25 +1,27 @@
 //! Taking one command.
 
-ghost use Rattle.std.specs.Prelude.{◌≡◌, ◌≤◌, ◌<◌, ◌+◌, ◌*◌, ℕ, List, true, false, IfOk, OnOk, length};
-ghost use Rattle.sm_disk.specs.Held.{Keeps};
+ghost use Rattle.std.specs.Prelude.{◌≡◌, ◌≤◌, ◌<◌, ◌+◌, ◌*◌, ◌⊎◌, ℕ, List, true, false, Ok, Some, IfOk, OnOk, length};
 ghost use Rattle.vg_meta.specs.Roomy.{table_alone};
 ghost use Rattle.vg_meta.specs.Tables.{VolumeTable};
-ghost use Rattle.sm_machine.specs.declared.commands.Command.TheVariants.{Create, Gc};
+ghost use Rattle.sm_machine.specs.declared.commands.Command.TheVariants.{Create, Gc, Write};
 ghost use Rattle.sm_machine.specs.Collector.{IsLess, debt, next_step};
 ghost use Rattle.sm_machine.specs.Laws.{is_working};
+ghost use Rattle.sm_machine.specs.Refusals.{refusal};
 ghost use Rattle.sm_machine.specs.Runs.{is_accepted, takes_memory};
+ghost use Rattle.sm_base.specs.declared.refusals.Refusal.{Refusal};
 ghost use Rattle.sm_base.specs.declared.refusals.Refusal.TheVariants.{NoMemory};
 ghost use Rattle.sm_machine.specs.declared.replies.Reply.TheVariants.{No};
 ghost use Rattle.sm_machine.specs.Shapes.{image_limit};
-ghost use Rattle.vg_volumes.specs.Stored.{OnlyReads, Counts, Leaves};
+ghost use Rattle.vg_volumes.specs.Stored.{OnlyReads, Counts};
 ghost use Rattle.sm_making.specs.Making.{IsOnLeast};
-ghost use Rattle.sm_attaching.specs.Attaching.{HasAttachmentRoom};
 ghost use Rattle.sm_ready.specs.Does.{store_shape};
-ghost use Rattle.sm_ready.specs.Frames.{HasCommits, HasTrueImages};
 ghost use Rattle.sm_ready.specs.Refusing.{IsAllowed, extents_for};
-ghost use Rattle.sm_ready.specs.Sessions.{HasRows, HasTreeRoom, IsOrderlyStore, IsReadyStore, IsTidyStore};
+ghost use Rattle.sm_ready.specs.Framing.{IsBetweenSteps, StepsOn};
+ghost use Rattle.sm_ready.specs.Sessions.{IsReadyStore};
 ghost use Rattle.sm_ready.specs.Taken.{StoreTakes};
-ghost use Rattle.sm_session.specs.Carrying.{begins, most_commits};
+ghost use Rattle.sm_run.specs.Runs.{begins};
+ghost use Rattle.sm_guests.specs.Writing.{WritesOnly};
+ghost use Rattle.sm_session.specs.Carrying.{most_commits};
 
 use crate::collecting::gc;
 use crate::forks::derive;
@@ -46,39 +48,27 @@ fn carry_out<S: Store>(
     command: &Command,
     now: u32,
 ) -> Result<Reply, Failed>
-    requires usable { S.failed store.old ≡ false }
-    requires orderly { IsOrderlyStore S.Store store.old memory.old }
-    requires tidy { IsTidyStore S.Store store.old memory.old }
-    requires tree_room { HasTreeRoom memory.old }
-    requires attachment_room { HasAttachmentRoom memory.old }
-    requires true_now { HasTrueImages S.Store store.old memory.old }
-    requires buffer { (1 < pool.old.free) × (512 * (1 + (S.site store.old).geometry.block) ≤ pool.old.bytes) }
+    requires session { IsBetweenSteps S.Store store.old memory.old }
+    requires buffer { (0 < pool.old.free) × (512 * (1 + (S.site store.old).geometry.block) ≤ pool.old.bytes) }
     requires children { image_limit ≤ length children.old }
     requires allowed { IsAllowed S.Store command.now store.old memory.old }
-    ensures site { S.site store.new ≡ S.site store.old }
-    ensures counts { S.faults store.old ≤ S.faults store.new }
+    ensures step { StepsOn S.Store (most_commits command.now) store.old store.new }
     ensures cause { Counts S.Store result store.old store.new }
-    ensures beside { S.told → Keeps (S.beside store.old) (S.beside store.new) }
     ensures pool { pool.new ≡ pool.old }
     ensures children { length children.new ≡ length children.old }
-    ensures few { HasCommits (most_commits command.now) (table_alone (S.table store.old)) (table_alone (S.table store.new)) }
-    ensures few_left { Leaves S.Store store.new (λ t image. HasCommits (most_commits command.now) (table_alone (S.table store.old)) t) }
-    ensures usable_still { OnOk result (S.failed store.new ≡ false) }
-    ensures orderly_still { OnOk result (IsOrderlyStore S.Store store.new memory.new) }
-    ensures tidy_still { OnOk result (IsTidyStore S.Store store.new memory.new) }
-    ensures tree_room_still { OnOk result (HasTreeRoom memory.new) }
-    ensures attachment_room_still { OnOk result (HasAttachmentRoom memory.new) }
-    ensures true_still { OnOk result (HasTrueImages S.Store store.new memory.new) }
-    ensures room { HasRows (S.table store.old) → OnOk result (HasRows (S.table store.new)) }
+    ensures session_still { OnOk result (IsBetweenSteps S.Store store.new memory.new) }
     ensures refused { IfOk result (λ r. is_accepted r ≡ false → (t : VolumeTable) (image : ℕ → List ℕ) → S.leaves store.new t image → S.leaves store.old t image) }
     ensures spared { IfOk result (λ r. r ≡ No NoMemory → takes_memory command.now ≡ true) }
     ensures spared_gc { command.now ≡ Gc → IfOk result (λ r. r ≡ No NoMemory → begins (next_step (store_shape S.Store store.old memory.old)) ≡ true) }
+    ensures poor { IfOk result (λ r. (x : Refusal) → r ≡ No x → x ≡ NoMemory) }
     ensures untouched { IfOk result (λ r. is_accepted r ≡ false → OnlyReads S.Store store.old store.new × (memory.new ≡ memory.old)) }
     ensures least { (u : List ℕ) (size : ℕ) (label : List ℕ) → command.now ≡ Create u size true label → IfOk result (λ r. is_accepted r ≡ true
         → IsOnLeast (S.site store.old) (table_alone (S.table store.old)) u (extents_for (S.site store.old).geometry.extent size) (table_alone (S.table store.new))) }
     ensures lowered_gc { command.now ≡ Gc → IfOk result (λ r. is_accepted r ≡ true
         → is_working (next_step (store_shape S.Store store.old memory.old)) ≡ true
         → ∥ IsLess (debt (store_shape S.Store store.new memory.new)) (debt (store_shape S.Store store.old memory.old)) ∥₁) }
+    ensures writes { (u : List ℕ) (sector : ℕ) (bytes : List ℕ) → command.now ≡ Write u sector bytes
+        → WritesOnly S.Store memory.old u sector bytes store.old store.new }
     ensures taken { S.told → IsReadyStore S.Store store.old memory.old
         → StoreTakes S.Store command.now store.old memory.old store.new memory.new result }
 {
@@ -130,38 +120,27 @@ pub fn take<S: Store>(
     command: &Command,
     now: u32,
 ) -> Result<Reply, Failed>
-    requires usable { S.failed store.old ≡ false }
-    requires orderly { IsOrderlyStore S.Store store.old memory.old }
-    requires tidy { IsTidyStore S.Store store.old memory.old }
-    requires tree_room { HasTreeRoom memory.old }
-    requires attachment_room { HasAttachmentRoom memory.old }
-    requires true_now { HasTrueImages S.Store store.old memory.old }
-    requires buffer { (1 < pool.old.free) × (512 * (1 + (S.site store.old).geometry.block) ≤ pool.old.bytes) }
+    requires session { IsBetweenSteps S.Store store.old memory.old }
+    requires buffer { (0 < pool.old.free) × (512 * (1 + (S.site store.old).geometry.block) ≤ pool.old.bytes) }
     requires children { image_limit ≤ length children.old }
-    ensures site { S.site store.new ≡ S.site store.old }
-    ensures counts { S.faults store.old ≤ S.faults store.new }
+    ensures step { StepsOn S.Store (most_commits command.now) store.old store.new }
     ensures cause { Counts S.Store result store.old store.new }
-    ensures beside { S.told → Keeps (S.beside store.old) (S.beside store.new) }
     ensures pool { pool.new ≡ pool.old }
     ensures children { length children.new ≡ length children.old }
-    ensures few { HasCommits (most_commits command.now) (table_alone (S.table store.old)) (table_alone (S.table store.new)) }
-    ensures few_left { Leaves S.Store store.new (λ t image. HasCommits (most_commits command.now) (table_alone (S.table store.old)) t) }
-    ensures usable_still { OnOk result (S.failed store.new ≡ false) }
-    ensures orderly_still { OnOk result (IsOrderlyStore S.Store store.new memory.new) }
-    ensures tidy_still { OnOk result (IsTidyStore S.Store store.new memory.new) }
-    ensures tree_room_still { OnOk result (HasTreeRoom memory.new) }
-    ensures attachment_room_still { OnOk result (HasAttachmentRoom memory.new) }
-    ensures true_still { OnOk result (HasTrueImages S.Store store.new memory.new) }
-    ensures room { HasRows (S.table store.old) → OnOk result (HasRows (S.table store.new)) }
+    ensures session_still { OnOk result (IsBetweenSteps S.Store store.new memory.new) }
     ensures refused { IfOk result (λ r. is_accepted r ≡ false → (t : VolumeTable) (image : ℕ → List ℕ) → S.leaves store.new t image → S.leaves store.old t image) }
     ensures spared { IfOk result (λ r. r ≡ No NoMemory → takes_memory command.now ≡ true) }
     ensures spared_gc { command.now ≡ Gc → IfOk result (λ r. r ≡ No NoMemory → begins (next_step (store_shape S.Store store.old memory.old)) ≡ true) }
     ensures untouched { IfOk result (λ r. is_accepted r ≡ false → OnlyReads S.Store store.old store.new × (memory.new ≡ memory.old)) }
+    ensures exact { (x : Refusal) → refusal (store_shape S.Store store.old memory.old) command.now ≡ Some x → result ≡ Ok (No x) }
+    ensures exact_only { IfOk result (λ r. (x : Refusal) → r ≡ No x → (x ≡ NoMemory) ⊎ (refusal (store_shape S.Store store.old memory.old) command.now ≡ Some x)) }
     ensures least { (u : List ℕ) (size : ℕ) (label : List ℕ) → command.now ≡ Create u size true label → IfOk result (λ r. is_accepted r ≡ true
         → IsOnLeast (S.site store.old) (table_alone (S.table store.old)) u (extents_for (S.site store.old).geometry.extent size) (table_alone (S.table store.new))) }
     ensures lowered_gc { command.now ≡ Gc → IfOk result (λ r. is_accepted r ≡ true
         → is_working (next_step (store_shape S.Store store.old memory.old)) ≡ true
         → ∥ IsLess (debt (store_shape S.Store store.new memory.new)) (debt (store_shape S.Store store.old memory.old)) ∥₁) }
+    ensures writes { (u : List ℕ) (sector : ℕ) (bytes : List ℕ) → command.now ≡ Write u sector bytes
+        → WritesOnly S.Store memory.old u sector bytes store.old store.new }
     ensures taken { S.told → IsReadyStore S.Store store.old memory.old
         → StoreTakes S.Store command.now store.old memory.old store.new memory.new result }
 {

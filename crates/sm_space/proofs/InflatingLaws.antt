@@ -1,7 +1,7 @@
 -- The calls of a store that give a volume more extents: what each asks, what a stop leaves at each point, and what is known at
 -- the end.
 use Rattle.std.proofs.Common.{◌≡◌, ℕ, ◌+◌, ◌-◌, ◌*◌, ◌<◌, ◌≤◌, false, List, [], length, Option, refl, sym, ap, ap₂, ◌∙◌, subst, subst₂, inl, inr, ⊎_elim, arith}
-use Rattle.std.proofs.lemmas.List.{length-take}
+use Rattle.std.proofs.lemmas.List.{length-map, length-take}
 use Rattle.sm_base.specs.declared.names.Name.{Name}
 use Rattle.sm_base.specs.declared.names.Name.TheVariants.{Vhd, Inflate}
 use Rattle.sm_disk.specs.Held.{Held, reads}
@@ -40,7 +40,7 @@ use Rattle.sm_ready.specs.Does.{store_shape}
 use Rattle.sm_ready.specs.Known.{Known, known, shape_in}
 use Rattle.sm_ready.specs.Orderly.{IsOrderly}
 use Rattle.sm_ready.specs.Ready.{IsReady, IsTidy}
-use Rattle.sm_ready.specs.Sessions.{IsOrderlyStore, IsReadyStore, IsTidyStore}
+use Rattle.sm_ready.specs.Sessions.{HasTreeRoom, IsOrderlyStore, IsReadyStore, IsTidyStore}
 use Rattle.sm_ready.specs.Stores.{Leaving, MayShow, StoreLeaves, content_in, content_now, store_content}
 use Rattle.sm_ready.specs.declared.memory.Memory.{Memory}
 use Rattle.sm_ready.proofs.ChainLaws.{commit_failed, commit_made, might_show, only_crash, stopped_at, stored_same, tab}
@@ -185,6 +185,10 @@ pub known_after : (m n : Memory) (u : List ℕ) (to sum : ℕ) → sum ≡ to �
 known_after m n u to sum is rows records attached operation =
     ap₂ (λ (rs : List TreeRow) (ps : List (Option Record)). let x : Known = record { rows = rs; places = ps; attached = n.attached; op = n.operation } in x) (rows ∙ ap (λ k. with_extents (Vhd u) k m.tree.rows) (sym is)) records
     ∙ ap₂ (λ (x : Attached) (o : Op). let y : Known = record { rows = with_extents (Vhd u) sum m.tree.rows; places = m.records; attached = x; op = o } in y) attached operation
+
+-- one row has another number of extents: the tree has as many, and room for all
+pub tree_room_sized : (m n : Memory) (k : Name) (to : ℕ) → n.tree.rows ≡ with_extents k to m.tree.rows → n.tree.spare ≡ m.tree.spare → HasTreeRoom m → HasTreeRoom n
+tree_room_sized m n k to rows spare room = let long = ap (λ (rs : List TreeRow). length rs) rows ∙ length-map m.tree.rows _ in omega (arith, long, spare, room)
 
 -- ---- a call for which memory is wanting
 

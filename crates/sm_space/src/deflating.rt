@@ -5,10 +5,9 @@
 //! that footer last before it lets the image end there. No journal entry is needed: at each moment a footer stands at the end
 //! that the table gives.
 
-ghost use Rattle.std.specs.Prelude.{◌≡◌, ◌≤◌, false, OnErr, OnOk};
+ghost use Rattle.std.specs.Prelude.{◌≡◌, OnErr, OnOk};
 ghost use Rattle.std.specs.declared.result.Result.TheVariants.{Ok};
 ghost use Rattle.sm_base.specs.declared.names.Name.TheVariants.{Vhd};
-ghost use Rattle.sm_disk.specs.Held.{Keeps};
 ghost use Rattle.vg_meta.specs.Changes.{applied};
 ghost use Rattle.vg_meta.specs.Roomy.{table_alone};
 ghost use Rattle.vg_meta.specs.declared.changes.Change.TheVariants.{Cut};
@@ -16,9 +15,9 @@ ghost use Rattle.vg_volumes.specs.Stored.{stored, Counts, Leaves, IsEitherOf, Ca
 ghost use Rattle.sm_standing.specs.Standing.{disks};
 ghost use Rattle.sm_ready.specs.Does.{store_shape};
 ghost use Rattle.sm_ready.specs.Done.{HasDone};
-ghost use Rattle.sm_ready.specs.Frames.{HasCommits, HasTrueImages};
+ghost use Rattle.sm_ready.specs.Framing.{IsBetweenSteps, StepsOn};
 ghost use Rattle.sm_ready.specs.Known.{known};
-ghost use Rattle.sm_ready.specs.Sessions.{IsOrderlyStore, IsReadyStore, IsTidyStore, HasRows, HasTreeRoom};
+ghost use Rattle.sm_ready.specs.Sessions.{IsReadyStore};
 ghost use Rattle.sm_ready.specs.Stores.{StoreLeaves, store_content};
 ghost use Rattle.sm_space.specs.Deflating.{CanDeflate, deflated};
 
@@ -41,24 +40,12 @@ pub fn deflate<S: Store>(
     disk: &Uuid,
     to: u32,
 ) -> Result<(), Failed>
-    requires usable { S.failed store.old ≡ false }
-    requires orderly { IsOrderlyStore S.Store store.old memory.old }
-    requires tidy { IsTidyStore S.Store store.old memory.old }
-    requires true_now { HasTrueImages S.Store store.old memory.old }
+    requires session { IsBetweenSteps S.Store store.old memory.old }
     requires there { CanDeflate (store_shape S.Store store.old memory.old) (Vhd disk.now) to }
-    ensures site { S.site store.new ≡ S.site store.old }
-    ensures counts { S.faults store.old ≤ S.faults store.new }
+    ensures step { StepsOn S.Store 1 store.old store.new }
     ensures cause { Counts S.Store result store.old store.new }
-    ensures beside { S.told → Keeps (S.beside store.old) (S.beside store.new) }
-    ensures few { HasCommits 1 (table_alone (S.table store.old)) (table_alone (S.table store.new)) }
-    ensures few_left { Leaves S.Store store.new (λ t image. HasCommits 1 (table_alone (S.table store.old)) t) }
-    ensures usable_still { OnOk result (S.failed store.new ≡ false) }
+    ensures session_still { OnOk result (IsBetweenSteps S.Store store.new memory.new) }
     ensures others { (memory.new.records ≡ memory.old.records) × (memory.new.attached ≡ memory.old.attached) × (memory.new.operation ≡ memory.old.operation) }
-    ensures room { HasRows (S.table store.old) → OnOk result (HasRows (S.table store.new)) }
-    ensures tree_room { HasTreeRoom memory.old → HasTreeRoom memory.new }
-    ensures orderly_still { OnOk result (IsOrderlyStore S.Store store.new memory.new) }
-    ensures tidy_still { OnOk result (IsTidyStore S.Store store.new memory.new) }
-    ensures true_still { OnOk result (HasTrueImages S.Store store.new memory.new) }
     ensures shape { OnOk result (store_shape S.Store store.new memory.new ≡ deflated (Vhd disk.now) to (store_shape S.Store store.old memory.old)) }
     ensures cut { OnOk result (table_alone (S.table store.new) ≡ applied (table_alone (S.table store.old)) (Cut (Vhd disk.now) to)) }
     ensures done { S.told → IsReadyStore S.Store store.old memory.old
@@ -77,6 +64,7 @@ fn cut<S: Store>(store: &mut S, name: &Name, to: u32) -> Result<(), Failed>
     requires { CanCommit S.Store (Cut name.now to) store.old }
     ensures commits { OnOk result (Commits S.Store (Cut name.now to) store.old store.new) }
     ensures fails { OnErr result (FailsToCommit S.Store store.old store.new) }
+    ensures cause { Counts S.Store result store.old store.new }
     ensures crash { Leaves S.Store store.new (IsEitherOf (stored S.Store store.old) (Cut name.now to)) }
 {
     store.commit(Change::Cut {

@@ -5,11 +5,10 @@
 //! these. Then the volume grows, the footer is written at its new end, and the commit that drops the entry makes that footer
 //! last before it lets the image end there.
 
-ghost use Rattle.std.specs.Prelude.{◌≡◌, ◌≤◌, ◌<◌, ◌*◌, ◌-◌, ℕ, List, length, true, false, Some, IsSome, IfOk, OnOk, OnErr};
+ghost use Rattle.std.specs.Prelude.{◌≡◌, ◌≤◌, ◌<◌, ◌*◌, ◌-◌, ℕ, List, length, Some, IsSome, IfOk, OnOk, OnErr};
 ghost use Rattle.std.specs.declared.result.Result.TheVariants.{Ok, Err};
 ghost use Rattle.sm_base.specs.declared.faults.CallFault.TheVariants as fault;
 ghost use Rattle.sm_base.specs.declared.names.Name.TheVariants.{Vhd, Inflate};
-ghost use Rattle.sm_disk.specs.Held.{Keeps, Rose};
 ghost use Rattle.vg_meta.specs.Changes.{HasRoom, Permits};
 ghost use Rattle.vg_meta.specs.Roomy.{table_alone};
 ghost use Rattle.vg_meta.specs.Tables.{VolumeTable, free as free_of};
@@ -25,9 +24,9 @@ ghost use Rattle.sm_standing.specs.Standing.{disks};
 ghost use Rattle.sm_journal.specs.Entries.{putting};
 ghost use Rattle.sm_ready.specs.Does.{store_shape};
 ghost use Rattle.sm_ready.specs.Done.{HasDone};
-ghost use Rattle.sm_ready.specs.Frames.{HasCommits, HasTrueImages};
+ghost use Rattle.sm_ready.specs.Framing.{CountsDevice, IsBetweenSteps, StepsOn};
 ghost use Rattle.sm_ready.specs.Known.{known};
-ghost use Rattle.sm_ready.specs.Sessions.{IsOrderlyStore, IsTidyStore, IsReadyStore, HasRows, HasTreeRoom};
+ghost use Rattle.sm_ready.specs.Sessions.{IsReadyStore};
 ghost use Rattle.sm_ready.specs.Stores.{StoreLeaves, store_content};
 ghost use Rattle.sm_space.specs.Inflating.{CanEnd, IfRow, extents_in, inflated, with_extents, HasFree, IsBelow, IsEnlarged, IsGrowth};
 
@@ -62,6 +61,7 @@ fn prepare<S: Store>(
 ) -> Result<Change, NoMemory>
     requires free { more ≤ length (free_of (S.site store.old).count (table_alone (S.table store.old))) }
     ensures reads { OnlyReads S.Store store.old store.new }
+    ensures calm { S.faults store.new ≡ S.faults store.old }
     ensures same { (S.site store.new ≡ S.site store.old) × (S.area store.new ≡ S.area store.old) }
     ensures table { table_alone (S.table store.new) ≡ table_alone (S.table store.old) }
     ensures leaves { (t : VolumeTable) (image : ℕ → List ℕ) → S.leaves store.new t image → S.leaves store.old t image }
@@ -97,12 +97,11 @@ pub fn plan_growth<S: Store>(
     disk: &Uuid,
     to: u32,
 ) -> Result<Change, NoMemory>
-    requires usable { S.failed store.old ≡ false }
-    requires orderly { IsOrderlyStore S.Store store.old memory.now }
-    requires tidy { IsTidyStore S.Store store.old memory.now }
+    requires session { IsBetweenSteps S.Store store.old memory.now }
     requires there { IsBelow memory.now.tree.rows disk.now to }
     requires free { HasFree (S.site store.old).count (table_alone (S.table store.old)) memory.now.tree.rows disk.now to }
     ensures reads { OnlyReads S.Store store.old store.new }
+    ensures calm { S.faults store.new ≡ S.faults store.old }
     ensures same { (S.site store.new ≡ S.site store.old) × (S.area store.new ≡ S.area store.old) }
     ensures table { table_alone (S.table store.new) ≡ table_alone (S.table store.old) }
     ensures leaves { (t : VolumeTable) (image : ℕ → List ℕ) → S.leaves store.new t image → S.leaves store.old t image }
@@ -122,6 +121,7 @@ fn grow<S: Store>(store: &mut S, growth: Change) -> Result<(), Failed>
     requires { CanCommit S.Store growth store.old }
     ensures commits { OnOk result (Commits S.Store growth store.old store.new) }
     ensures fails { OnErr result (FailsToCommit S.Store store.old store.new) }
+    ensures cause { Counts S.Store result store.old store.new }
     ensures crash { Leaves S.Store store.new (IsEitherOf (stored S.Store store.old) growth) }
 {
     store.commit(growth)?;
@@ -178,28 +178,17 @@ pub fn enlarge<S: Store>(
     to: u32,
     growth: Change,
 ) -> Result<(), Failed>
-    requires usable { S.failed store.old ≡ false }
-    requires orderly { IsOrderlyStore S.Store store.old memory.old }
-    requires tidy { IsTidyStore S.Store store.old memory.old }
-    requires true_now { HasTrueImages S.Store store.old memory.old }
+    requires session { IsBetweenSteps S.Store store.old memory.old }
     requires there { IsBelow memory.old.tree.rows disk.now to }
     requires growth { IsGrowth (S.site store.old).count (table_alone (S.table store.old)) (Vhd disk.now) (to - extents_in (tree_row memory.old.tree.rows (Vhd disk.now))) growth }
     requires row { 0 < (S.table store.old).spare }
     requires places { HasRoom (S.table store.old) growth }
-    ensures site { S.site store.new ≡ S.site store.old }
-    ensures counts { S.faults store.old ≤ S.faults store.new }
+    ensures step { StepsOn S.Store 3 store.old store.new }
     ensures cause { Counts S.Store result store.old store.new }
-    ensures beside { S.told → Keeps (S.beside store.old) (S.beside store.new) }
-    ensures few { HasCommits 3 (table_alone (S.table store.old)) (table_alone (S.table store.new)) }
-    ensures few_left { Leaves S.Store store.new (λ t image. HasCommits 3 (table_alone (S.table store.old)) t) }
-    ensures usable_still { OnOk result (S.failed store.new ≡ false) }
+    ensures session_still { OnOk result (IsBetweenSteps S.Store store.new memory.new) }
     ensures others { (memory.new.records ≡ memory.old.records) × (memory.new.attached ≡ memory.old.attached) × (memory.new.operation ≡ memory.old.operation) }
     ensures rows { OnOk result (memory.new.tree.rows ≡ with_extents (Vhd disk.now) to memory.old.tree.rows) }
     ensures spare { OnOk result (memory.new.tree.spare ≡ memory.old.tree.spare) }
-    ensures room { HasRows (S.table store.old) → OnOk result (HasRows (S.table store.new)) }
-    ensures orderly_still { OnOk result (IsOrderlyStore S.Store store.new memory.new) }
-    ensures tidy_still { OnOk result (IsTidyStore S.Store store.new memory.new) }
-    ensures true_still { OnOk result (HasTrueImages S.Store store.new memory.new) }
     ensures shape { OnOk result (store_shape S.Store store.new memory.new ≡ inflated disk.now to (store_shape S.Store store.old memory.old)) }
     ensures least { OnOk result (IsEnlarged (S.site store.old).count (table_alone (S.table store.old)) disk.now to (table_alone (S.table store.new))) }
     ensures done { S.told → IsReadyStore S.Store store.old memory.old
@@ -232,29 +221,15 @@ pub fn inflate<S: Store>(
     disk: &Uuid,
     to: u32,
 ) -> Result<(), CallFault>
-    requires usable { S.failed store.old ≡ false }
-    requires orderly { IsOrderlyStore S.Store store.old memory.old }
-    requires tidy { IsTidyStore S.Store store.old memory.old }
-    requires true_now { HasTrueImages S.Store store.old memory.old }
-    requires tree_room { HasTreeRoom memory.old }
+    requires session { IsBetweenSteps S.Store store.old memory.old }
     requires there { IsBelow memory.old.tree.rows disk.now to }
     requires free { HasFree (S.site store.old).count (table_alone (S.table store.old)) memory.old.tree.rows disk.now to }
-    ensures site { S.site store.new ≡ S.site store.old }
-    ensures counts { S.faults store.old ≤ S.faults store.new }
-    ensures cause { result ≡ Err fault.Device → Rose (S.faults store.old) (S.faults store.new) }
-    ensures beside { S.told → Keeps (S.beside store.old) (S.beside store.new) }
-    ensures few { HasCommits 3 (table_alone (S.table store.old)) (table_alone (S.table store.new)) }
-    ensures few_left { Leaves S.Store store.new (λ t image. HasCommits 3 (table_alone (S.table store.old)) t) }
+    ensures step { StepsOn S.Store 3 store.old store.new }
+    ensures cause { CountsDevice S.Store result store.old store.new }
+    ensures session_still { OnOk result (IsBetweenSteps S.Store store.new memory.new) }
     ensures poor { result ≡ Err fault.NoMemory
         → OnlyReads S.Store store.old store.new × ((t : VolumeTable) (image : ℕ → List ℕ) → S.leaves store.new t image → S.leaves store.old t image)
-        × (memory.new ≡ memory.old) × (S.failed store.new ≡ false) }
-    ensures true_poor { result ≡ Err fault.NoMemory → HasTrueImages S.Store store.new memory.new }
-    ensures usable_still { OnOk result (S.failed store.new ≡ false) }
-    ensures orderly_still { OnOk result (IsOrderlyStore S.Store store.new memory.new) }
-    ensures tidy_still { OnOk result (IsTidyStore S.Store store.new memory.new) }
-    ensures true_still { OnOk result (HasTrueImages S.Store store.new memory.new) }
-    ensures tree_room_still { OnOk result (HasTreeRoom memory.new) }
-    ensures room { HasRows (S.table store.old) → OnOk result (HasRows (S.table store.new)) }
+        × (memory.new ≡ memory.old) }
     ensures others { (memory.new.records ≡ memory.old.records) × (memory.new.attached ≡ memory.old.attached) × (memory.new.operation ≡ memory.old.operation) }
     ensures shape { OnOk result (store_shape S.Store store.new memory.new ≡ inflated disk.now to (store_shape S.Store store.old memory.old)) }
     ensures least { OnOk result (IsEnlarged (S.site store.old).count (table_alone (S.table store.old)) disk.now to (table_alone (S.table store.new))) }

@@ -1,17 +1,16 @@
 //! A disk gets larger.
 
-ghost use Rattle.std.specs.Prelude.{◌≡◌, ◌≤◌, ◌*◌, false, IfOk, OnOk};
+ghost use Rattle.std.specs.Prelude.{◌≡◌, ◌*◌, false, IfOk, OnOk};
 ghost use Rattle.std.specs.Result.{IsOk};
-ghost use Rattle.sm_disk.specs.Held.{Keeps};
-ghost use Rattle.vg_meta.specs.Roomy.{table_alone};
-ghost use Rattle.vg_volumes.specs.Stored.{Counts, Leaves, Stays};
+ghost use Rattle.vg_volumes.specs.Stored.{Counts, Stays};
 ghost use Rattle.sm_machine.specs.Disks.{sector_bytes};
 ghost use Rattle.sm_machine.specs.Refusals.{rounded as machine_rounded};
 ghost use Rattle.sm_machine.specs.declared.commands.Command.TheVariants as command;
 ghost use Rattle.sm_ready.specs.Does.{IsKeptUp, ShapesAs, StoreDoes, store_shape};
-ghost use Rattle.sm_ready.specs.Frames.{HasCommits, HasTrueImages, IsBesideTree};
+ghost use Rattle.sm_ready.specs.Frames.{IsBesideTree};
+ghost use Rattle.sm_ready.specs.Framing.{IsBetweenSteps, StepsOn};
 ghost use Rattle.sm_ready.specs.Refusing.{IsAllowed};
-ghost use Rattle.sm_ready.specs.Sessions.{HasRows, IsOrderlyStore, IsReadyStore, IsTidyStore};
+ghost use Rattle.sm_ready.specs.Sessions.{IsReadyStore};
 ghost use Rattle.gc_abandon.specs.Abandoning.{unfolded};
 
 use gc_abandon::give_up;
@@ -27,18 +26,13 @@ fn make_larger<S: Store>(
     disk: &Uuid,
     size: u64,
 ) -> Result<u64, Failed>
-    requires usable { S.failed store.old ≡ false }
-    requires orderly { IsOrderlyStore S.Store store.old memory.old }
-    requires tidy { IsTidyStore S.Store store.old memory.old }
-    requires true_now { HasTrueImages S.Store store.old memory.old }
+    requires session { IsBetweenSteps S.Store store.old memory.old }
     requires allowed { IsAllowed S.Store (command.Resize disk.now size) store.old memory.old }
     requires kept_up { IsKeptUp S.Store (command.Resize disk.now size) store.old memory.old }
     ensures stays { Stays S.Store store.old store.new }
     ensures cause { Counts S.Store result store.old store.new }
+    ensures session_still { OnOk result (IsBetweenSteps S.Store store.new memory.new) }
     ensures others { IsBesideTree memory.old memory.new }
-    ensures orderly_still { OnOk result (IsOrderlyStore S.Store store.new memory.new) }
-    ensures tidy_still { OnOk result (IsTidyStore S.Store store.new memory.new) }
-    ensures true_still { OnOk result (HasTrueImages S.Store store.new memory.new) }
     ensures size { IfOk result (λ bytes. bytes ≡ machine_rounded (store_shape S.Store store.old memory.old) false size * sector_bytes) }
     ensures shape { OnOk result (ShapesAs S.Store (command.Resize disk.now size) store.old memory.old store.new memory.new) }
     ensures done { S.told → IsReadyStore S.Store store.old memory.old
@@ -70,24 +64,13 @@ pub fn resize<S: Store>(
     disk: &Uuid,
     size: u64,
 ) -> Result<u64, Failed>
-    requires usable { S.failed store.old ≡ false }
-    requires orderly { IsOrderlyStore S.Store store.old memory.old }
-    requires tidy { IsTidyStore S.Store store.old memory.old }
-    requires true_now { HasTrueImages S.Store store.old memory.old }
+    requires session { IsBetweenSteps S.Store store.old memory.old }
     requires allowed { IsAllowed S.Store (command.Resize disk.now size) store.old memory.old }
-    ensures site { S.site store.new ≡ S.site store.old }
-    ensures counts { S.faults store.old ≤ S.faults store.new }
+    ensures step { StepsOn S.Store 1 store.old store.new }
     ensures cause { Counts S.Store result store.old store.new }
-    ensures beside { S.told → Keeps (S.beside store.old) (S.beside store.new) }
-    ensures few { HasCommits 1 (table_alone (S.table store.old)) (table_alone (S.table store.new)) }
-    ensures few_left { Leaves S.Store store.new (λ t image. HasCommits 1 (table_alone (S.table store.old)) t) }
+    ensures session_still { OnOk result (IsBetweenSteps S.Store store.new memory.new) }
     ensures others { IsBesideTree (record memory.old { operation = memory.new.operation }) memory.new }
     ensures operation { OnOk result (memory.new.operation ≡ unfolded memory.old.operation disk.now) }
-    ensures room { HasRows (S.table store.old) → OnOk result (HasRows (S.table store.new)) }
-    ensures usable_still { OnOk result (S.failed store.new ≡ false) }
-    ensures orderly_still { OnOk result (IsOrderlyStore S.Store store.new memory.new) }
-    ensures tidy_still { OnOk result (IsTidyStore S.Store store.new memory.new) }
-    ensures true_still { OnOk result (HasTrueImages S.Store store.new memory.new) }
     ensures size { IfOk result (λ bytes. bytes ≡ machine_rounded (store_shape S.Store store.old memory.old) false size * sector_bytes) }
     ensures shape { OnOk result (ShapesAs S.Store (command.Resize disk.now size) store.old memory.old store.new memory.new) }
     ensures done { S.told → IsReadyStore S.Store store.old memory.old

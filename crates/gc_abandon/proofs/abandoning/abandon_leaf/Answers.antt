@@ -3,10 +3,10 @@ use Rattle.vg_meta.specs.declared.changes.Change.TheVariants.{Remove}
 use Rattle.vg_volumes.specs.Stored.{Commits}
 use Rattle.sm_ready.specs.Known.{entry_of, known, shape_in}
 use Rattle.sm_ready.proofs.ChainLaws.{err_not_ok}
+use Rattle.sm_ready.proofs.FramingLaws.{commit_steps, failed_steps}
 use Rattle.sm_ready.proofs.OperationLaws.{WorksAt}
-use Rattle.sm_ready.proofs.RoomLaws.{rows_commits}
 use Rattle.sm_ready.proofs.TakenLaws.{is_told}
-use Rattle.gc_abandon.proofs.EndingLaws.{can_end, done_end, ends, failed_end, leaf_folded, only_one, orderly_end, shape_end, tidy_end, true_end, worked_named}
+use Rattle.gc_abandon.proofs.EndingLaws.{between_end, can_end, done_end, ends, failed_end, leaf_folded, only_one, shape_end, worked_named}
 use Rattle.gc_abandon.proofs.abandoning.abandon_leaf.Goals as goal
 
 pub unreachable-requires : goal.unreachable-requires
@@ -15,48 +15,24 @@ unreachable-requires g c =
     c.in_default.not-Leaf w.0 w.1 w.2 w.3
 
 pub leaf_entry-requires-clause-leaf : goal.leaf_entry-requires-clause-leaf
-leaf_entry-requires-clause-leaf g c = worked_named _ _ (known c.args.memory.now) c.in-Leaf.leaf c.requires.orderly (subst (λ x. WorksAt x c.in-Leaf.leaf) (sym c.in-Leaf.is) (inl refl))
+leaf_entry-requires-clause-leaf g c = worked_named _ _ (known c.args.memory.now) c.in-Leaf.leaf c.requires.session.orderly (subst (λ x. WorksAt x c.in-Leaf.leaf) (sym c.in-Leaf.is) (inl refl))
 
 pub leaf_entry-requires-clause-parent : goal.leaf_entry-requires-clause-parent
-leaf_entry-requires-clause-parent g c = worked_named _ _ (known c.args.memory.now) c.in-Leaf.parent c.requires.orderly (subst (λ x. WorksAt x c.in-Leaf.parent) (sym c.in-Leaf.is) (inr refl))
+leaf_entry-requires-clause-parent g c = worked_named _ _ (known c.args.memory.now) c.in-Leaf.parent c.requires.session.orderly (subst (λ x. WorksAt x c.in-Leaf.parent) (sym c.in-Leaf.is) (inr refl))
 
 pub drop_entry-requires : goal.drop_entry-requires
 drop_entry-requires g c =
     let r = c.requires in
-    let h = ends g.S.Store c.args.store.now c.args.memory.now r.orderly c.in-Leaf.is refl c.leaf_entry.ensures in
-    can_end g.S.Store c.args.store.now c.args.memory.now h r.usable
+    let h = ends g.S.Store c.args.store.now c.args.memory.now r.session.orderly c.in-Leaf.is refl c.leaf_entry.ensures in
+    can_end g.S.Store c.args.store.now c.args.memory.now h r.session.usable
 
 pub returns-in_err-drop_entry-clause-done : goal.returns-in_err-drop_entry-clause-done
 returns-in_err-drop_entry-clause-done g c = λ told ready.
     let r = c.requires in
-    let h = ends g.S.Store c.args.store.now c.args.memory.now r.orderly c.in-Leaf.is refl c.leaf_entry.ensures in
+    let h = ends g.S.Store c.args.store.now c.args.memory.now r.session.orderly c.in-Leaf.is refl c.leaf_entry.ensures in
     failed_end g.S.Store c.args.store.now c.args.memory.now h
-    (is_told g.S.Store c.args.store.now c.args.memory.now r.orderly r.usable told ready (g.met.S.Store.leaves_now c.args.store.now told r.usable))
+    (is_told g.S.Store c.args.store.now c.args.memory.now r.session.orderly r.session.usable told ready (g.met.S.Store.leaves_now c.args.store.now told r.session.usable))
     c.args.memory.now _ (λ fine. err_not_ok _ tt c.from_residual.ensures.0 fine) c.in_err-drop_entry.ensures.fails (c.drop_entry.ensures.crash told)
-
-pub returns-clause-room : goal.returns-clause-room
-returns-clause-room g c =
-    let r = c.requires in
-    let h = ends g.S.Store c.args.store.now c.args.memory.now r.orderly c.in-Leaf.is refl c.leaf_entry.ensures in
-    rows_commits (can_end g.S.Store c.args.store.now c.args.memory.now h r.usable) c.in_ok-drop_entry.ensures.commits
-
-pub returns-clause-orderly_still : goal.returns-clause-orderly_still
-returns-clause-orderly_still g c =
-    let r = c.requires in
-    let h = ends g.S.Store c.args.store.now c.args.memory.now r.orderly c.in-Leaf.is refl c.leaf_entry.ensures in
-    orderly_end g.S.Store c.args.store.now c.args.memory.now h c.in_ok-drop_entry.ensures.commits
-
-pub returns-clause-tidy_still : goal.returns-clause-tidy_still
-returns-clause-tidy_still g c =
-    let r = c.requires in
-    let h = ends g.S.Store c.args.store.now c.args.memory.now r.orderly c.in-Leaf.is refl c.leaf_entry.ensures in
-    tidy_end g.S.Store c.args.store.now c.args.memory.now h c.in_ok-drop_entry.ensures.commits
-
-pub returns-clause-true_still : goal.returns-clause-true_still
-returns-clause-true_still g c =
-    let r = c.requires in
-    let h = ends g.S.Store c.args.store.now c.args.memory.now r.orderly c.in-Leaf.is refl c.leaf_entry.ensures in
-    true_end g.S.Store c.args.store.now c.args.memory.now h c.in_ok-drop_entry.ensures.commits r.true_now
 
 pub returns-clause-commits : goal.returns-clause-commits
 returns-clause-commits g c = λ e is.
@@ -66,12 +42,24 @@ pub returns-clause-shape : goal.returns-clause-shape
 unfolding shape_in
 returns-clause-shape g c =
     let r = c.requires in
-    let h = ends g.S.Store c.args.store.now c.args.memory.now r.orderly c.in-Leaf.is refl c.leaf_entry.ensures in
+    let h = ends g.S.Store c.args.store.now c.args.memory.now r.session.orderly c.in-Leaf.is refl c.leaf_entry.ensures in
     shape_end g.S.Store c.args.store.now c.args.memory.now h c.in_ok-drop_entry.ensures.commits
 
 pub returns-clause-done : goal.returns-clause-done
 returns-clause-done g c = λ told ready.
     let r = c.requires in
-    let h = ends g.S.Store c.args.store.now c.args.memory.now r.orderly c.in-Leaf.is refl c.leaf_entry.ensures in
+    let h = ends g.S.Store c.args.store.now c.args.memory.now r.session.orderly c.in-Leaf.is refl c.leaf_entry.ensures in
     done_end g.S.Store c.args.store.now c.args.memory.now h c.in_ok-drop_entry.ensures.commits
-    (is_told g.S.Store c.args.store.now c.args.memory.now r.orderly r.usable told ready (g.met.S.Store.leaves_now c.args.store.now told r.usable)) (c.drop_entry.ensures.crash told) _
+    (is_told g.S.Store c.args.store.now c.args.memory.now r.session.orderly r.session.usable told ready (g.met.S.Store.leaves_now c.args.store.now told r.session.usable)) (c.drop_entry.ensures.crash told) _
+
+pub returns-in_err-drop_entry-clause-step : goal.returns-in_err-drop_entry-clause-step
+returns-in_err-drop_entry-clause-step g c = failed_steps (Remove c.leaf_entry.result) c.in_err-drop_entry.ensures.fails c.drop_entry.ensures.crash
+
+pub returns-clause-step : goal.returns-clause-step
+returns-clause-step g c = commit_steps c.in_ok-drop_entry.ensures.commits c.drop_entry.ensures.crash
+
+pub returns-clause-session_still : goal.returns-clause-session_still
+returns-clause-session_still g c =
+    let r = c.requires in
+    let h = ends g.S.Store c.args.store.now c.args.memory.now r.session.orderly c.in-Leaf.is refl c.leaf_entry.ensures in
+    between_end g.S.Store c.args.store.now c.args.memory.now h c.in_ok-drop_entry.ensures.commits r.session

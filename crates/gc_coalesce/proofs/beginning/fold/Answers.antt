@@ -1,6 +1,5 @@
-use Rattle.std.proofs.Common.{Ok, Err, refl, sym, ap, ap₂, ◌∙◌, subst, subst₂, option_copied}
+use Rattle.std.proofs.Common.{◌≡◌, OnOk, Ok, Err, refl, sym, ap, ap₂, ◌∙◌, subst, subst₂, option_copied, arith}
 use Rattle.std.proofs.lemmas.Result.{err_from_is_err_and}
-use Rattle.sm_disk.proofs.HeldLaws.{Keeps-then}
 use Rattle.vg_meta.specs.Roomy.{table_alone}
 use Rattle.vg_meta.specs.Tables.{VolumeTable}
 use Rattle.vg_volumes.specs.Sites.{Site}
@@ -13,7 +12,7 @@ use Rattle.sm_ready.specs.Known.{known}
 use Rattle.sm_ready.specs.Orderly.{IsOrderly}
 use Rattle.sm_ready.specs.Stores.{content_now}
 use Rattle.sm_ready.proofs.ChainLaws.{done_behind, err_not_ok, ready_read}
-use Rattle.sm_ready.proofs.FrameLaws.{true_reads}
+use Rattle.sm_ready.proofs.FramingLaws.{more_steps, reads_between, stays_now, then_steps}
 use Rattle.sm_space.specs.Inflating.{HasFree, IsBelow, IsEnlarged, inflated}
 use Rattle.sm_space.proofs.InflatingLaws.{only_read}
 use Rattle.gc_coalesce.specs.Beginning.{CanBegin, KeepsExtents, entered}
@@ -22,68 +21,56 @@ use Rattle.gc_coalesce.proofs.BeginSteps.{both_done, can_now, can_then, has_free
 use Rattle.gc_coalesce.proofs.beginning.fold.Goals as goal
 
 pub unreachable-requires : goal.unreachable-requires
-unreachable-requires g c = not_gone _ _ (known c.args.memory.now) c.args.hidden c.args.child.now c.args.parent.now c.args.to c.requires.orderly c.requires.planned (sym c.get.ensures ∙ ap option_copied c.in_default.is)
+unreachable-requires g c = not_gone _ _ (known c.args.memory.now) c.args.hidden c.args.child.now c.args.parent.now c.args.to c.requires.session.orderly c.requires.planned (sym c.get.ensures ∙ ap option_copied c.in_default.is)
 
 -- ---- memory is wanting
-
-pub returns-in_default-make_room-clause-true_poor : goal.returns-in_default-make_room-clause-true_poor
-returns-in_default-make_room-clause-true_poor g c = λ poor. true_reads g.S.Store c.args.memory.now c.args.memory.now refl c.make_room.ensures.reads c.requires.true_now
 
 pub returns-in_default-make_room-clause-done : goal.returns-in_default-make_room-clause-done
 unfolding disks_next
 returns-in_default-make_room-clause-done g c = λ told ready.
     let e = c.make_room.ensures in
-    only_read c.args.memory.now c.requires.orderly c.requires.usable told ready (g.met.S.Store.leaves_now c.args.store.now told c.requires.usable) e.reads e.same e.leaves _ _ (λ fine. absurd (let x = fine in cc))
+    only_read c.args.memory.now c.requires.session.orderly c.requires.session.usable told ready (g.met.S.Store.leaves_now c.args.store.now told c.requires.session.usable) e.reads e.same.0 e.leaves _ _ (λ fine. absurd (let x = fine in cc))
 
 -- ---- the parent has its extents
-
-pub enter-requires-clause-true_now : goal.enter-requires-clause-true_now
-enter-requires-clause-true_now g c = true_reads g.S.Store c.args.memory.now c.args.memory.now refl c.make_room.ensures.reads c.requires.true_now
 
 pub enter-requires-clause-row : goal.enter-requires-clause-row
 enter-requires-clause-row g c =
     let stays = c.make_room.ensures.reads.stays in
     spare_row (g.S.Store.site c.args.store.now) (g.S.Store.table c.make_room.new.store) (known c.args.memory.now)
-    (subst (λ t. IsOrderly (g.S.Store.site c.args.store.now) t (known c.args.memory.now)) (sym stays.table) c.requires.orderly)
-    (idle _ _ (known c.args.memory.now) c.args.hidden c.args.child.now c.args.parent.now c.args.to c.requires.orderly c.requires.planned) c.in-Ok.ensures.room
+    (subst (λ t. IsOrderly (g.S.Store.site c.args.store.now) t (known c.args.memory.now)) (sym stays.table) c.requires.session.orderly)
+    (idle _ _ (known c.args.memory.now) c.args.hidden c.args.child.now c.args.parent.now c.args.to c.requires.session.orderly c.requires.planned) c.in-Ok.ensures.room
 
 pub enter-requires-clause-can : goal.enter-requires-clause-can
 enter-requires-clause-can g c =
     let there = sym c.get.ensures ∙ ap option_copied c.in-Some.is in
     subst (λ σ. CanBegin σ c.args.hidden c.args.child.now c.args.parent.now) (sym (shape_read c.args.memory.now c.make_room.ensures.reads))
-    (can_now _ _ (known c.args.memory.now) c.args.hidden c.args.child.now c.args.parent.now c.args.to c.requires.orderly c.requires.planned c.in-Some.row.now there c.if-to-had.true)
-
-pub returns-in_default-enter-clause-beside : goal.returns-in_default-enter-clause-beside
-returns-in_default-enter-clause-beside g c = λ told. Keeps-then (c.make_room.ensures.reads.stays.beside told) (c.enter.ensures.beside told)
+    (can_now _ _ (known c.args.memory.now) c.args.hidden c.args.child.now c.args.parent.now c.args.to c.requires.session.orderly c.requires.planned c.in-Some.row.now there c.if-to-had.true)
 
 pub returns-in_default-enter-clause-done : goal.returns-in_default-enter-clause-done
 unfolding disks_next
 returns-in_default-enter-clause-done g c = λ told ready.
     let e = c.make_room.ensures in
-    done_behind _ (λ (x : Stored). disks (content_now x.site x.table x.area)) e.reads e.same e.leaves (λ fine. absurd (let x = fine in cc))
-    (c.enter.ensures.done told (ready_read c.args.memory.now e.reads e.same ready))
-
-pub returns-then-to-had-clause-beside : goal.returns-then-to-had-clause-beside
-returns-then-to-had-clause-beside g c = λ told. Keeps-then (c.make_room.ensures.reads.stays.beside told) (c.enter.ensures.beside told)
+    done_behind _ (λ (x : Stored). disks (content_now x.site x.table x.area)) e.reads e.same.0 e.leaves (λ fine. absurd (let x = fine in cc))
+    (c.enter.ensures.done told (ready_read c.args.memory.now e.reads e.same.0 ready))
 
 pub returns-then-to-had-clause-shape : goal.returns-then-to-had-clause-shape
 returns-then-to-had-clause-shape g c =
     let there = sym c.get.ensures ∙ ap option_copied c.in-Some.is in
     c.in-Ok-enter.ensures.shape ∙ ap (entered c.args.hidden c.args.child.now c.args.parent.now) (shape_read c.args.memory.now c.make_room.ensures.reads)
-    ∙ next_now _ _ (known c.args.memory.now) c.args.hidden c.args.child.now c.args.parent.now c.args.to c.requires.orderly c.requires.planned c.in-Some.row.now there c.if-to-had.true
+    ∙ next_now _ _ (known c.args.memory.now) c.args.hidden c.args.child.now c.args.parent.now c.args.to c.requires.session.orderly c.requires.planned c.in-Some.row.now there c.if-to-had.true
 
 pub returns-then-to-had-clause-least : goal.returns-then-to-had-clause-least
 returns-then-to-had-clause-least g c =
     let there = sym c.get.ensures ∙ ap option_copied c.in-Some.is in
-    widened_now _ _ (known c.args.memory.now) c.args.hidden c.args.child.now c.args.parent.now c.args.to c.requires.orderly c.requires.planned c.in-Some.row.now there c.if-to-had.true _
+    widened_now _ _ (known c.args.memory.now) c.args.hidden c.args.child.now c.args.parent.now c.args.to c.requires.session.orderly c.requires.planned c.in-Some.row.now there c.if-to-had.true _
     (subst (λ t. KeepsExtents t (table_alone (g.S.Store.table c.enter.new.store))) c.make_room.ensures.reads.stays.table c.in-Ok-enter.ensures.extents)
 
 pub returns-then-to-had-clause-done : goal.returns-then-to-had-clause-done
 unfolding disks_next
 returns-then-to-had-clause-done g c = λ told ready.
     let e = c.make_room.ensures in
-    done_behind _ (λ (x : Stored). disks (content_now x.site x.table x.area)) e.reads e.same e.leaves (λ fine. c.in-Ok-enter.is)
-    (c.enter.ensures.done told (ready_read c.args.memory.now e.reads e.same ready))
+    done_behind _ (λ (x : Stored). disks (content_now x.site x.table x.area)) e.reads e.same.0 e.leaves (λ fine. c.in-Ok-enter.is)
+    (c.enter.ensures.done told (ready_read c.args.memory.now e.reads e.same.0 ready))
 
 -- ---- it is to gain some
 
@@ -91,83 +78,71 @@ pub uuid_of-requires : goal.uuid_of-requires
 uuid_of-requires g c =
     record {
       image = image_name _ _ (known c.args.memory.now) c.args.hidden c.args.child.now c.args.parent.now c.args.to
-          c.requires.orderly c.requires.planned c.in-Some.row.now (sym c.get.ensures ∙ ap option_copied c.in-Some.is);
+          c.requires.session.orderly c.requires.planned c.in-Some.row.now (sym c.get.ensures ∙ ap option_copied c.in-Some.is);
     }
-
-pub inflate-requires-clause-true_now : goal.inflate-requires-clause-true_now
-inflate-requires-clause-true_now g c = true_reads g.S.Store c.args.memory.now c.args.memory.now refl c.make_room.ensures.reads c.requires.true_now
 
 pub inflate-requires-clause-there : goal.inflate-requires-clause-there
 inflate-requires-clause-there g c =
     subst (λ u. IsBelow c.args.memory.now.tree.rows u c.args.to) (sym c.uuid_of.ensures)
-    (is_below _ _ (known c.args.memory.now) c.args.hidden c.args.child.now c.args.parent.now c.args.to c.requires.orderly c.requires.planned c.in-Some.row.now (sym c.get.ensures ∙ ap option_copied c.in-Some.is) c.if-to-had.false)
+    (is_below _ _ (known c.args.memory.now) c.args.hidden c.args.child.now c.args.parent.now c.args.to c.requires.session.orderly c.requires.planned c.in-Some.row.now (sym c.get.ensures ∙ ap option_copied c.in-Some.is) c.if-to-had.false)
 
 pub inflate-requires-clause-free : goal.inflate-requires-clause-free
 inflate-requires-clause-free g c =
     let stays = c.make_room.ensures.reads.stays in
     subst (λ u. HasFree (g.S.Store.site c.make_room.new.store).count (table_alone (g.S.Store.table c.make_room.new.store)) c.args.memory.now.tree.rows u c.args.to) (sym c.uuid_of.ensures)
     (subst₂ (λ (s : Site) (t : VolumeTable). HasFree s.count t c.args.memory.now.tree.rows (image_uuid c.args.parent.now) c.args.to) (sym stays.site) (sym stays.table)
-    (has_free _ _ (known c.args.memory.now) c.args.hidden c.args.child.now c.args.parent.now c.args.to c.requires.orderly c.requires.planned c.in-Some.row.now (sym c.get.ensures ∙ ap option_copied c.in-Some.is) c.if-to-had.false c.requires.tidy))
-
-pub returns-in_err-inflate-clause-beside : goal.returns-in_err-inflate-clause-beside
-returns-in_err-inflate-clause-beside g c = λ told. Keeps-then (c.make_room.ensures.reads.stays.beside told) (c.inflate.ensures.beside told)
+    (has_free _ _ (known c.args.memory.now) c.args.hidden c.args.child.now c.args.parent.now c.args.to c.requires.session.orderly c.requires.planned c.in-Some.row.now (sym c.get.ensures ∙ ap option_copied c.in-Some.is) c.if-to-had.false c.requires.session.tidy))
 
 pub returns-in_err-inflate-clause-poor : goal.returns-in_err-inflate-clause-poor
 returns-in_err-inflate-clause-poor g c = λ poor.
     let from = err_from_is_err_and c.from_residual.result c.from_residual.ensures.1 in
     let e = c.make_room.ensures in
     let w = c.inflate.ensures.poor (c.in_err-inflate.was ∙ ap Err (sym from.2) ∙ sym from.1 ∙ poor) in
-    (reads_then e.reads w.0, λ t image l. e.leaves t image (w.1 t image l), w.2, w.3)
+    (reads_then e.reads w.0, λ t image l. e.leaves t image (w.1 t image l), w.2)
 
 pub returns-in_err-inflate-clause-done : goal.returns-in_err-inflate-clause-done
 unfolding disks_next
 returns-in_err-inflate-clause-done g c = λ told ready.
     let e = c.make_room.ensures in
-    done_behind _ (λ (x : Stored). disks (content_now x.site x.table x.area)) e.reads e.same e.leaves (λ fine. absurd (err_not_ok _ tt c.from_residual.ensures.0 fine))
-    (c.inflate.ensures.done told (ready_read c.args.memory.now e.reads e.same ready))
+    done_behind _ (λ (x : Stored). disks (content_now x.site x.table x.area)) e.reads e.same.0 e.leaves (λ fine. absurd (err_not_ok _ tt c.from_residual.ensures.0 fine))
+    (c.inflate.ensures.done told (ready_read c.args.memory.now e.reads e.same.0 ready))
 
 -- ---- it has them
 
 pub enter-requires-2-clause-row : goal.enter-requires-2-clause-row
 enter-requires-2-clause-row g c =
-    spare_row (g.S.Store.site c.inflate.new.store) (g.S.Store.table c.inflate.new.store) (known c.inflate.new.memory) c.in_ok-inflate.ensures.orderly_still
-    (c.inflate.ensures.others.2 ∙ idle _ _ (known c.args.memory.now) c.args.hidden c.args.child.now c.args.parent.now c.args.to c.requires.orderly c.requires.planned) (c.in_ok-inflate.ensures.room c.in-Ok.ensures.room)
+    spare_row (g.S.Store.site c.inflate.new.store) (g.S.Store.table c.inflate.new.store) (known c.inflate.new.memory) c.in_ok-inflate.ensures.session_still.orderly
+    (c.inflate.ensures.others.2 ∙ idle _ _ (known c.args.memory.now) c.args.hidden c.args.child.now c.args.parent.now c.args.to c.requires.session.orderly c.requires.planned) c.in_ok-inflate.ensures.session_still.rows
 
 pub enter-requires-2-clause-can : goal.enter-requires-2-clause-can
 enter-requires-2-clause-can g c =
     let there = sym c.get.ensures ∙ ap option_copied c.in-Some.is in
     subst (λ σ. CanBegin σ c.args.hidden c.args.child.now c.args.parent.now)
     (sym (c.in_ok-inflate.ensures.shape ∙ ap₂ (λ u σ. inflated u c.args.to σ) c.uuid_of.ensures (shape_read c.args.memory.now c.make_room.ensures.reads)))
-    (can_then _ _ (known c.args.memory.now) c.args.hidden c.args.child.now c.args.parent.now c.args.to c.requires.orderly c.requires.planned c.in-Some.row.now there c.if-to-had.false)
-
-pub returns-in_default-enter-2-clause-beside : goal.returns-in_default-enter-2-clause-beside
-returns-in_default-enter-2-clause-beside g c = λ told. Keeps-then (c.make_room.ensures.reads.stays.beside told) (Keeps-then (c.inflate.ensures.beside told) (c.enter-2.ensures.beside told))
+    (can_then _ _ (known c.args.memory.now) c.args.hidden c.args.child.now c.args.parent.now c.args.to c.requires.session.orderly c.requires.planned c.in-Some.row.now there c.if-to-had.false)
 
 pub returns-in_default-enter-2-clause-done : goal.returns-in_default-enter-2-clause-done
 unfolding disks_next
 returns-in_default-enter-2-clause-done g c = λ told ready.
     let e = c.make_room.ensures in
     let i = c.in_ok-inflate.ensures in
-    let was = ready_read c.args.memory.now e.reads e.same ready in
-    let h = told_read c.args.memory.now c.requires.orderly c.requires.usable told was e.reads (g.met.S.Store.leaves_now c.make_room.new.store told (e.reads.stays.failed ∙ c.requires.usable)) in
-    done_behind _ (λ (x : Stored). disks (content_now x.site x.table x.area)) e.reads e.same e.leaves (λ fine. absurd (let x = fine in cc))
-    (both_done c.inflate.new.memory h i.site i.orderly_still i.usable_still (g.met.S.Store.leaves_now c.inflate.new.store told i.usable_still) (i.done told was) (refl {a = Ok tt}) _ _ (λ made. c.enter-2.ensures.done told made))
-
-pub returns-clause-beside : goal.returns-clause-beside
-returns-clause-beside g c = λ told. Keeps-then (c.make_room.ensures.reads.stays.beside told) (Keeps-then (c.inflate.ensures.beside told) (c.enter-2.ensures.beside told))
+    let was = ready_read c.args.memory.now e.reads e.same.0 ready in
+    let h = told_read c.args.memory.now c.requires.session.orderly c.requires.session.usable told was e.reads (g.met.S.Store.leaves_now c.make_room.new.store told (e.reads.stays.failed ∙ c.requires.session.usable)) in
+    done_behind _ (λ (x : Stored). disks (content_now x.site x.table x.area)) e.reads e.same.0 e.leaves (λ fine. absurd (let x = fine in cc))
+    (both_done c.inflate.new.memory h i.step.site i.session_still.orderly i.session_still.usable (g.met.S.Store.leaves_now c.inflate.new.store told i.session_still.usable) (i.done told was) (refl {a = Ok tt}) _ _ (λ made. c.enter-2.ensures.done told made))
 
 pub returns-clause-shape : goal.returns-clause-shape
 returns-clause-shape g c =
     let there = sym c.get.ensures ∙ ap option_copied c.in-Some.is in
     c.in-Ok-enter-2.ensures.shape
     ∙ ap (entered c.args.hidden c.args.child.now c.args.parent.now) (c.in_ok-inflate.ensures.shape ∙ ap₂ (λ u σ. inflated u c.args.to σ) c.uuid_of.ensures (shape_read c.args.memory.now c.make_room.ensures.reads))
-    ∙ next_then _ _ (known c.args.memory.now) c.args.hidden c.args.child.now c.args.parent.now c.args.to c.requires.orderly c.requires.planned c.in-Some.row.now there c.if-to-had.false
+    ∙ next_then _ _ (known c.args.memory.now) c.args.hidden c.args.child.now c.args.parent.now c.args.to c.requires.session.orderly c.requires.planned c.in-Some.row.now there c.if-to-had.false
 
 pub returns-clause-least : goal.returns-clause-least
 returns-clause-least g c =
     let there = sym c.get.ensures ∙ ap option_copied c.in-Some.is in
     let stays = c.make_room.ensures.reads.stays in
-    widened_then _ _ (known c.args.memory.now) c.args.hidden c.args.child.now c.args.parent.now c.args.to c.requires.orderly c.requires.planned c.in-Some.row.now there c.if-to-had.false _ _
+    widened_then _ _ (known c.args.memory.now) c.args.hidden c.args.child.now c.args.parent.now c.args.to c.requires.session.orderly c.requires.planned c.in-Some.row.now there c.if-to-had.false _ _
     (subst (λ u. IsEnlarged (g.S.Store.site c.args.store.now).count (table_alone (g.S.Store.table c.args.store.now)) u c.args.to (table_alone (g.S.Store.table c.inflate.new.store))) c.uuid_of.ensures
     (subst₂ (λ (s : Site) (t : VolumeTable). IsEnlarged s.count t c.uuid_of.result c.args.to (table_alone (g.S.Store.table c.inflate.new.store))) stays.site stays.table c.in_ok-inflate.ensures.least))
     c.in-Ok-enter-2.ensures.extents
@@ -177,7 +152,43 @@ unfolding disks_next
 returns-clause-done g c = λ told ready.
     let e = c.make_room.ensures in
     let i = c.in_ok-inflate.ensures in
-    let was = ready_read c.args.memory.now e.reads e.same ready in
-    let h = told_read c.args.memory.now c.requires.orderly c.requires.usable told was e.reads (g.met.S.Store.leaves_now c.make_room.new.store told (e.reads.stays.failed ∙ c.requires.usable)) in
-    done_behind _ (λ (x : Stored). disks (content_now x.site x.table x.area)) e.reads e.same e.leaves (λ fine. c.in-Ok-enter-2.is)
-    (both_done c.inflate.new.memory h i.site i.orderly_still i.usable_still (g.met.S.Store.leaves_now c.inflate.new.store told i.usable_still) (i.done told was) (refl {a = Ok tt}) _ _ (λ made. c.enter-2.ensures.done told made))
+    let was = ready_read c.args.memory.now e.reads e.same.0 ready in
+    let h = told_read c.args.memory.now c.requires.session.orderly c.requires.session.usable told was e.reads (g.met.S.Store.leaves_now c.make_room.new.store told (e.reads.stays.failed ∙ c.requires.session.usable)) in
+    done_behind _ (λ (x : Stored). disks (content_now x.site x.table x.area)) e.reads e.same.0 e.leaves (λ fine. c.in-Ok-enter-2.is)
+    (both_done c.inflate.new.memory h i.step.site i.session_still.orderly i.session_still.usable (g.met.S.Store.leaves_now c.inflate.new.store told i.session_still.usable) (i.done told was) (refl {a = Ok tt}) _ _ (λ made. c.enter-2.ensures.done told made))
+
+-- ---- the frame
+
+pub returns-in_default-make_room-clause-step : goal.returns-in_default-make_room-clause-step
+returns-in_default-make_room-clause-step g c = more_steps (omega arith) (stays_now g.met.S.Store.leaves_now c.requires.session.usable c.make_room.ensures.reads.stays)
+
+pub enter-requires-clause-session : goal.enter-requires-clause-session
+enter-requires-clause-session g c = reads_between c.args.memory.now c.make_room.ensures.reads c.requires.session
+
+pub returns-in_default-enter-clause-step : goal.returns-in_default-enter-clause-step
+returns-in_default-enter-clause-step g c = more_steps (omega arith) (then_steps (stays_now g.met.S.Store.leaves_now c.requires.session.usable c.make_room.ensures.reads.stays) c.enter.ensures.step)
+
+pub returns-then-to-had-clause-step : goal.returns-then-to-had-clause-step
+returns-then-to-had-clause-step g c = more_steps (omega arith) (then_steps (stays_now g.met.S.Store.leaves_now c.requires.session.usable c.make_room.ensures.reads.stays) c.enter.ensures.step)
+
+pub inflate-requires-clause-session : goal.inflate-requires-clause-session
+inflate-requires-clause-session g c = reads_between c.args.memory.now c.make_room.ensures.reads c.requires.session
+
+pub returns-in_err-inflate-clause-step : goal.returns-in_err-inflate-clause-step
+returns-in_err-inflate-clause-step g c = more_steps (omega arith) (then_steps (stays_now g.met.S.Store.leaves_now c.requires.session.usable c.make_room.ensures.reads.stays) c.inflate.ensures.step)
+
+pub returns-in_err-inflate-clause-cause : goal.returns-in_err-inflate-clause-cause
+returns-in_err-inflate-clause-cause g c =
+    let from = err_from_is_err_and c.from_residual.result c.from_residual.ensures.1 in
+    let was = c.in_err-inflate.was ∙ ap Err (sym from.2) ∙ sym from.1 in
+    let steady = c.make_room.ensures.same.1 in
+    let e = c.inflate.ensures.cause in
+    (λ is. omega (arith, steady, e.0 (was ∙ is)), subst (λ r. OnOk r (g.S.Store.faults c.inflate.new.store ≡ g.S.Store.faults c.args.store.now)) (sym from.1) tt, λ is. e.2 (was ∙ is) ∙ steady)
+
+pub returns-in_default-enter-2-clause-step : goal.returns-in_default-enter-2-clause-step
+returns-in_default-enter-2-clause-step g c =
+    then_steps (stays_now g.met.S.Store.leaves_now c.requires.session.usable c.make_room.ensures.reads.stays) (then_steps c.inflate.ensures.step c.enter-2.ensures.step)
+
+pub returns-clause-step : goal.returns-clause-step
+returns-clause-step g c =
+    then_steps (stays_now g.met.S.Store.leaves_now c.requires.session.usable c.make_room.ensures.reads.stays) (then_steps c.inflate.ensures.step c.enter-2.ensures.step)

@@ -27,7 +27,7 @@ returns-in_err-read_held-clause-copies g c = copies_none g.S.Store c.args.child.
 pub write-requires-clause-true_now : goal.write-requires-clause-true_now
 write-requires-clause-true_now g c = λ told. true-still (reads_then c.run.ensures.reads_only c.read_held.ensures.reads_only) c.args.parent.now told (c.requires.can.is_true told)
 
-run_long : (g : Over) (c : goal.After-write-arg-then-run-2-1 g) → length c.read_held.new.to ≡ 512 * c.in_ok-run.run'.sectors
+run_long : (g : Over) (c : goal.After-write-arg-then-run-1 g) → length c.read_held.new.to ≡ 512 * c.in_ok-run.run'.sectors
 run_long g c =
     let some = c.in_ok-run.ensures.some in
     let wide = ap (λ (x : Geometry). x.block) c.geometry-wide.ensures in

@@ -10,7 +10,7 @@ pub loop-part-init : goal.loop-part-init
 loop-part-init g c = record {
   copies = copies_none g.S.Store c.args.child.now c.args.parent.now (reads_none c.args.store.now) c.requires.can.is_true;
   copied = copied_begun g.S.Store c.args.child.now c.args.parent.now c.args.block (c.args.block * (g.S.Store.site c.args.store.now).geometry.block) c.args.store.now c.requires.can.stands c.requires.can.is_true;
-  pool = refl;
+  steady = refl;
   long = refl;
   within = omega arith;
 }
@@ -37,7 +37,7 @@ loop-part-preserved g c =
       copied = copied_then g.S.Store c.args.child.now c.args.parent.now c.loop-part.parent c.args.block (c.args.block * (g.S.Store.site c.args.store.now).geometry.block) c.loop-part.part c.requires.can
           (omega (arith, c.loop-part-test.true, wide)) i.copies i.copied c.copy_run.new.parent c.in_ok-part.field-0
           (subst (λ w. HasCopied g.S.Store c.args.child.now c.args.block (c.args.block * w + c.loop-part.part) c.in_ok-part.field-0 c.loop-part.parent c.copy_run.new.parent c.loop-part.store c.copy_run.new.store) later e.copied);
-      pool = c.copy_run.ensures.pool ∙ i.pool;
+      steady = e.cause.1 ∙ i.steady;
       long = c.copy_run.auto.piece ∙ i.long;
       within = omega (arith, e.inside.1, later, wide);
     }

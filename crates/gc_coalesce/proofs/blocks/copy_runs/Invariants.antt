@@ -7,7 +7,7 @@ abbrev pub invariant-loop-part : goal.invariant-loop-part
 invariant-loop-part g l = record {
   copies : Copies g.S.Store l.child l.fn.parent l.parent l.fn.store l.store;
   copied : HasCopied g.S.Store l.child l.block (l.block * (g.S.Store.site l.fn.store).geometry.block) l.part l.fn.parent l.parent l.fn.store l.store;
-  pool : l.pool ≡ l.fn.pool;
+  steady : g.S.Store.faults l.store ≡ g.S.Store.faults l.fn.store;
   long : length l.piece ≡ length l.fn.piece;
   within : l.part ≤ l.wide;
 }

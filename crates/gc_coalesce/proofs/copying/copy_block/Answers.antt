@@ -1,8 +1,9 @@
-use Rattle.std.proofs.Common.{◌≡◌, length, List, refl, sym, ap, ap₂, ◌∙◌, subst}
+use Rattle.std.proofs.Common.{◌≡◌, length, List, refl, sym, ap, ap₂, ◌∙◌, subst, arith}
 use Rattle.std.specs.Option.{option_copied}
 use Rattle.std.proofs.lemmas.List.{length-map}
 use Rattle.sm_base.specs.Names.{IsName}
-use Rattle.sm_disk.proofs.HeldLaws.{Keeps-then}
+use Rattle.vg_volumes.specs.Stored.{Stays}
+use Rattle.vg_volumes.proofs.StoredLaws.{stays_from, stays_then}
 use Rattle.vg_meta.specs.Roomy.{table_alone}
 use Rattle.vhd_chain.specs.Trees.{tree_row, with_replaced}
 use Rattle.vhd_chain.specs.declared.rows.TreeRow.{TreeRow}
@@ -11,7 +12,8 @@ use Rattle.sm_ready.specs.Known.{Known, known}
 use Rattle.sm_ready.specs.declared.memory.Memory.{Memory}
 use Rattle.sm_ready.proofs.ChainLaws.{err_not_ok}
 use Rattle.sm_ready.proofs.FrameLaws.{true_stays}
-use Rattle.sm_ready.proofs.PutBackLaws.{row_proper}
+use Rattle.sm_ready.proofs.PutBackLaws.{row_proper, spared}
+use Rattle.sm_ready.proofs.RoomLaws.{rows_stays}
 use Rattle.sm_ready.proofs.TakenLaws.{is_told}
 use Rattle.gc_coalesce.specs.Copying.{advanced}
 use Rattle.gc_coalesce.proofs.CopyBlockLaws.{grown_name}
@@ -20,6 +22,7 @@ use Rattle.gc_coalesce.proofs.CopyCrashLaws.{masked_first, never_done}
 use Rattle.gc_coalesce.proofs.CopyMemoryLaws.{with_image}
 use Rattle.gc_coalesce.proofs.CopyPlanLaws.{IsToCopy, named, no_child_left, no_parent, there, to_copy}
 use Rattle.gc_coalesce.proofs.CopyWholeLaws.{IsSync, IsUnderWay, failed_done, failed_masked, synced_beside, synced_masked, unsynced_done, whole_done, whole_lowered, whole_orderly, whole_shape, whole_tidy, whole_true, written_beside}
+use Rattle.sm_ready.proofs.FramingLaws.{stays_now}
 use Rattle.gc_coalesce.proofs.SyncedLaws.{copy_synced, nothing_synced}
 use Rattle.gc_coalesce.proofs.copying.copy_block.Given.{Over}
 use Rattle.gc_coalesce.proofs.copying.copy_block.Goals as goal
@@ -28,27 +31,27 @@ use Rattle.gc_coalesce.proofs.copying.copy_block.Goals as goal
 
 pub returns-in_err-sync-clause-done : goal.returns-in_err-sync-clause-done
 returns-in_err-sync-clause-done g c = λ told ready.
-    never_done {g = g.S.Store} (is_told g.S.Store c.args.store.now c.args.memory.now c.requires.orderly c.requires.usable told ready
-    (g.met.S.Store.leaves_now c.args.store.now told c.requires.usable))
+    never_done {g = g.S.Store} (is_told g.S.Store c.args.store.now c.args.memory.now c.requires.session.orderly c.requires.session.usable told ready
+    (g.met.S.Store.leaves_now c.args.store.now told c.requires.session.usable))
     (record { site = c.sync.ensures.site; table = c.sync.ensures.table.0; failed = c.sync.ensures.table.1; keeps = c.sync.ensures.keeps told; leaves = c.sync.ensures.leaves told })
     (known c.args.memory.now) _ (λ fine. err_not_ok _ tt c.from_residual.ensures.0 fine)
 
 pub returns-in_err-sync-clause-masked : goal.returns-in_err-sync-clause-masked
 returns-in_err-sync-clause-masked g c = λ told ready again t image l.
     masked_first g.S.Store c.args.store.now c.args.memory.now c.images-child.result.0 c.images-child.result.1 c.args.block c.images-child.ensures c.requires.planned
-    (is_told g.S.Store c.args.store.now c.args.memory.now c.requires.orderly c.requires.usable told ready
-    (g.met.S.Store.leaves_now c.args.store.now told c.requires.usable))
-    t image (g.met.S.Store.leaves_now c.args.store.now told c.requires.usable t image (c.sync.ensures.leaves told t image l))
+    (is_told g.S.Store c.args.store.now c.args.memory.now c.requires.session.orderly c.requires.session.usable told ready
+    (g.met.S.Store.leaves_now c.args.store.now told c.requires.session.usable))
+    t image (g.met.S.Store.leaves_now c.args.store.now told c.requires.session.usable t image (c.sync.ensures.leaves told t image l))
 
 -- ---- the rows
 
 pub unreachable-requires : goal.unreachable-requires
 unreachable-requires g c =
-    no_parent c.requires.orderly c.images-child.result.0 c.images-child.result.1 c.images-child.ensures (sym c.take.ensures.taken ∙ c.in_default.is)
+    no_parent c.requires.session.orderly c.images-child.result.0 c.images-child.result.1 c.images-child.ensures (sym c.take.ensures.taken ∙ c.in_default.is)
 
 pub unreachable-requires-in_default-get : goal.unreachable-requires-in_default-get
 unreachable-requires-in_default-get g c =
-    no_child_left c.requires.orderly c.images-child.result.0 c.images-child.result.1 c.images-child.ensures c.take.ensures.rows (sym c.get.ensures ∙ ap option_copied c.in_default-get.is)
+    no_child_left c.requires.session.orderly c.images-child.result.0 c.images-child.result.1 c.images-child.ensures c.take.ensures.rows (sym c.get.ensures ∙ ap option_copied c.in_default-get.is)
 
 -- ---- the copy
 
@@ -56,19 +59,19 @@ pub copy_sectors-copied-requires-clause-can : goal.copy_sectors-copied-requires-
 copy_sectors-copied-requires-clause-can g c =
     can_copy g.S.Store c.sync.new.self c.args.memory.now
     (to_copy_at c.sync.ensures.site c.sync.ensures.table.0
-    (to_copy c.requires.orderly c.images-child.result.0 c.images-child.result.1 c.images-child.ensures c.take.ensures.rows
+    (to_copy c.requires.session.orderly c.images-child.result.0 c.images-child.result.1 c.images-child.ensures c.take.ensures.rows
     c.requires.planned (sym c.take.ensures.taken ∙ c.in-Some.is) (sym c.get.ensures ∙ ap option_copied c.in-Some-get.is)))
-    (true_stays g.S.Store c.args.memory.now c.args.memory.now c.sync.ensures.site c.sync.ensures.table.0 refl c.sync.ensures.keeps c.requires.true_now)
+    (true_stays g.S.Store c.args.memory.now c.args.memory.now c.sync.ensures.site c.sync.ensures.table.0 refl c.sync.ensures.keeps c.requires.session.true_images)
 
 -- the images of the copy: before the row is put back
 abbrev taken : (g : Over) (c : goal.After-add-arg-1 g)
     → IsToCopy (g.S.Store.site c.args.store.now) (table_alone (g.S.Store.table c.args.store.now)) (known c.args.memory.now)
     c.images-child.result.0 c.images-child.result.1 c.images-child.ensures.1 c.args.block c.in-Some-get.from.now c.in-Some.row
-taken g c = to_copy c.requires.orderly c.images-child.result.0 c.images-child.result.1 c.images-child.ensures c.take.ensures.rows
+taken g c = to_copy c.requires.session.orderly c.images-child.result.0 c.images-child.result.1 c.images-child.ensures c.take.ensures.rows
     c.requires.planned (sym c.take.ensures.taken ∙ c.in-Some.is) (sym c.get.ensures ∙ ap option_copied c.in-Some-get.is)
 
 pub add-requires-clause-name : goal.add-requires-clause-name
-add-requires-clause-name g c = subst IsName (sym (grown_name c.in-Some.row.image c.copy_sectors-copied.new.parent c.copy_sectors-copied.ensures.copies.grown)) (row_proper _ _ _ c.requires.orderly c.in-Some.row (there (taken g c)))
+add-requires-clause-name g c = subst IsName (sym (grown_name c.in-Some.row.image c.copy_sectors-copied.new.parent c.copy_sectors-copied.ensures.copies.grown)) (row_proper _ _ _ c.requires.session.orderly c.in-Some.row (there (taken g c)))
 
 pub add-requires-clause-absent : goal.add-requires-clause-absent
 add-requires-clause-absent g c =
@@ -81,9 +84,9 @@ abbrev stopped : (g : Over) (c : goal.After-from_residual-in_err-copied g)
     → IsUnderWay g.S.Store c.args.store.now c.sync.new.self c.copy_sectors-copied.new.store c.args.memory.now
     c.images-child.result.0 c.images-child.result.1 c.images-child.ensures.1 c.args.block c.in-Some-get.from.now c.in-Some.row c.copy_sectors-copied.new.parent
 stopped g c = record {
-  images = to_copy c.requires.orderly c.images-child.result.0 c.images-child.result.1 c.images-child.ensures c.take.ensures.rows
+  images = to_copy c.requires.session.orderly c.images-child.result.0 c.images-child.result.1 c.images-child.ensures c.take.ensures.rows
       c.requires.planned (sym c.take.ensures.taken ∙ c.in-Some.is) (sym c.get.ensures ∙ ap option_copied c.in-Some-get.is);
-  usable = c.requires.usable;
+  usable = c.requires.session.usable;
   sync = let e = c.sync.ensures in record { site = e.site; table = e.table.0; failed = e.table.1; keeps = e.keeps; leaves = e.leaves };
   settled = c.in_ok-sync.ensures.settled;
   copies = c.copy_sectors-copied.ensures.copies;
@@ -93,9 +96,6 @@ stopped g c = record {
 -- what is in memory then
 abbrev stopped_memory : (g : Over) (c : goal.After-from_residual-in_err-copied g) → Memory
 stopped_memory g c = record { tree = c.add.new.self; records = c.args.memory.now.records; attached = c.args.memory.now.attached; operation = c.args.memory.now.operation }
-
-pub returns-in_err-copied-clause-beside : goal.returns-in_err-copied-clause-beside
-returns-in_err-copied-clause-beside g c = λ told. Keeps-then (c.sync.ensures.beside told) (c.copy_sectors-copied.ensures.copies.works.stays.beside told)
 
 stopped_rows : (g : Over) (c : goal.After-from_residual-in_err-copied g)
     → c.add.new.self.rows ≡ with_replaced (with_image c.copy_sectors-copied.new.parent c.in-Some.row) c.args.memory.now.tree.rows
@@ -117,9 +117,9 @@ abbrev unsynced : (g : Over) (c : goal.After-from_residual-in_err-sync-2 g)
     → IsUnderWay g.S.Store c.args.store.now c.sync.new.self c.copy_sectors-copied.new.store c.args.memory.now
     c.images-child.result.0 c.images-child.result.1 c.images-child.ensures.1 c.args.block c.in-Some-get.from.now c.in-Some.row c.copy_sectors-copied.new.parent
 unsynced g c = record {
-  images = to_copy c.requires.orderly c.images-child.result.0 c.images-child.result.1 c.images-child.ensures c.take.ensures.rows
+  images = to_copy c.requires.session.orderly c.images-child.result.0 c.images-child.result.1 c.images-child.ensures c.take.ensures.rows
       c.requires.planned (sym c.take.ensures.taken ∙ c.in-Some.is) (sym c.get.ensures ∙ ap option_copied c.in-Some-get.is);
-  usable = c.requires.usable;
+  usable = c.requires.session.usable;
   sync = let e = c.sync.ensures in record { site = e.site; table = e.table.0; failed = e.table.1; keeps = e.keeps; leaves = e.leaves };
   settled = c.in_ok-sync.ensures.settled;
   copies = c.copy_sectors-copied.ensures.copies;
@@ -132,9 +132,6 @@ unsynced_last g c = let e = c.sync-2.ensures in record { site = e.site; table = 
 -- what is in memory then
 abbrev unsynced_memory : (g : Over) (c : goal.After-from_residual-in_err-sync-2 g) → Memory
 unsynced_memory g c = record { tree = c.add.new.self; records = c.args.memory.now.records; attached = c.args.memory.now.attached; operation = c.args.memory.now.operation }
-
-pub returns-in_err-sync-2-clause-beside : goal.returns-in_err-sync-2-clause-beside
-returns-in_err-sync-2-clause-beside g c = λ told. Keeps-then (c.sync.ensures.beside told) (Keeps-then (c.copy_sectors-copied.ensures.copies.works.stays.beside told) (c.sync-2.ensures.beside told))
 
 unsynced_rows : (g : Over) (c : goal.After-from_residual-in_err-sync-2 g)
     → c.add.new.self.rows ≡ with_replaced (with_image c.copy_sectors-copied.new.parent c.in-Some.row) c.args.memory.now.tree.rows
@@ -154,7 +151,7 @@ returns-in_err-sync-2-clause-masked g c = synced_masked (unsynced g c) (unsynced
 
 pub behind-memory-requires : goal.behind-memory-requires
 behind-memory-requires g c = record {
-  below = cursor_below (to_copy c.requires.orderly c.images-child.result.0 c.images-child.result.1 c.images-child.ensures c.take.ensures.rows
+  below = cursor_below (to_copy c.requires.session.orderly c.images-child.result.0 c.images-child.result.1 c.images-child.ensures c.take.ensures.rows
       c.requires.planned (sym c.take.ensures.taken ∙ c.in-Some.is) (sym c.get.ensures ∙ ap option_copied c.in-Some-get.is));
 }
 
@@ -162,9 +159,9 @@ abbrev lasting : (g : Over) (c : goal.After-memory-1 g)
     → IsUnderWay g.S.Store c.args.store.now c.sync.new.self c.copy_sectors-copied.new.store c.args.memory.now
     c.images-child.result.0 c.images-child.result.1 c.images-child.ensures.1 c.args.block c.in-Some-get.from.now c.in-Some.row c.copy_sectors-copied.new.parent
 lasting g c = record {
-  images = to_copy c.requires.orderly c.images-child.result.0 c.images-child.result.1 c.images-child.ensures c.take.ensures.rows
+  images = to_copy c.requires.session.orderly c.images-child.result.0 c.images-child.result.1 c.images-child.ensures c.take.ensures.rows
       c.requires.planned (sym c.take.ensures.taken ∙ c.in-Some.is) (sym c.get.ensures ∙ ap option_copied c.in-Some-get.is);
-  usable = c.requires.usable;
+  usable = c.requires.session.usable;
   sync = let e = c.sync.ensures in record { site = e.site; table = e.table.0; failed = e.table.1; keeps = e.keeps; leaves = e.leaves };
   settled = c.in_ok-sync.ensures.settled;
   copies = c.copy_sectors-copied.ensures.copies;
@@ -178,9 +175,6 @@ lasting_last g c = let e = c.sync-2.ensures in record { site = e.site; table = e
 abbrev lasting_memory : (g : Over) (c : goal.After-memory-1 g) → Memory
 lasting_memory g c = record { tree = c.add.new.self; records = c.args.memory.now.records; attached = c.args.memory.now.attached; operation = c.behind-memory.result }
 
-pub returns-clause-beside : goal.returns-clause-beside
-returns-clause-beside g c = λ told. Keeps-then (c.sync.ensures.beside told) (Keeps-then (c.copy_sectors-copied.ensures.copies.works.stays.beside told) (c.sync-2.ensures.beside told))
-
 lasting_rows : (g : Over) (c : goal.After-memory-1 g)
     → c.add.new.self.rows ≡ with_replaced (with_image c.copy_sectors-copied.new.parent c.in-Some.row) c.args.memory.now.tree.rows
 lasting_rows g c = back_in_place (lasting g c).images c.copy_sectors-copied.new.parent
@@ -191,15 +185,6 @@ lasting_rest g c = ap (λ o. let k : Known = record (known c.args.memory.now) { 
 
 pub returns-clause-images : goal.returns-clause-images
 returns-clause-images g c = ap (λ (rs : List TreeRow). length rs) (lasting_rows g c) ∙ length-map c.args.memory.now.tree.rows _
-
-pub returns-clause-orderly_still : goal.returns-clause-orderly_still
-returns-clause-orderly_still g c = whole_orderly (lasting g c) (lasting_last g c) (lasting_memory g c) c.in_ok-copied.ensures.copied (lasting_rows g c) (lasting_rest g c)
-
-pub returns-clause-tidy_still : goal.returns-clause-tidy_still
-returns-clause-tidy_still g c = whole_tidy (lasting g c) (lasting_last g c) (lasting_memory g c) c.in_ok-copied.ensures.copied (lasting_rows g c) (lasting_rest g c) c.requires.tidy
-
-pub returns-clause-true_still : goal.returns-clause-true_still
-returns-clause-true_still g c = whole_true (lasting g c) (lasting_last g c) (lasting_memory g c) c.in_ok-copied.ensures.copied (lasting_rows g c) (lasting_rest g c) c.requires.true_now
 
 pub returns-clause-lowered : goal.returns-clause-lowered
 returns-clause-lowered g c = whole_lowered (lasting g c) (lasting_last g c) (lasting_memory g c) c.in_ok-copied.ensures.copied (lasting_rows g c) (lasting_rest g c)
@@ -229,3 +214,44 @@ returns-in_err-sync-2-clause-first g c =
 pub returns-clause-first : goal.returns-clause-first
 returns-clause-first g c =
     copy_synced g.S.Store c.args.memory.now.operation c.images-child.result.0 c.images-child.result.1 c.args.store.now c.sync-2.new.self c.images-child.ensures (synced_beside (lasting g c) (lasting_last g c))
+
+-- ---- the frame
+
+pub returns-in_err-sync-clause-step : goal.returns-in_err-sync-clause-step
+returns-in_err-sync-clause-step g c = let e = c.sync.ensures in stays_now g.met.S.Store.leaves_now c.requires.session.usable (stays_from {g = g.S.Store} e.site e.table e.no_less e.counts e.beside)
+
+pub returns-in_err-copied-clause-step : goal.returns-in_err-copied-clause-step
+returns-in_err-copied-clause-step g c =
+    let e = c.sync.ensures in
+    stays_now g.met.S.Store.leaves_now c.requires.session.usable (stays_then (stays_from {g = g.S.Store} e.site e.table e.no_less e.counts e.beside) c.copy_sectors-copied.ensures.copies.works.stays)
+
+pub returns-in_err-sync-2-clause-step : goal.returns-in_err-sync-2-clause-step
+returns-in_err-sync-2-clause-step g c =
+    let e = c.sync.ensures in
+    let f = c.sync-2.ensures in
+    stays_now g.met.S.Store.leaves_now c.requires.session.usable
+    (stays_then (stays_from {g = g.S.Store} e.site e.table e.no_less e.counts e.beside) (stays_then c.copy_sectors-copied.ensures.copies.works.stays (stays_from {g = g.S.Store} f.site f.table f.no_less f.counts f.beside)))
+
+-- no commit was made
+lasting_stays : (g : Over) (c : goal.After-memory-1 g) → Stays g.S.Store c.args.store.now c.sync-2.new.self
+lasting_stays g c =
+    let e = c.sync.ensures in
+    let f = c.sync-2.ensures in
+    stays_then (stays_from {g = g.S.Store} e.site e.table e.no_less e.counts e.beside) (stays_then c.copy_sectors-copied.ensures.copies.works.stays (stays_from {g = g.S.Store} f.site f.table f.no_less f.counts f.beside))
+
+pub returns-clause-step : goal.returns-clause-step
+returns-clause-step g c = stays_now g.met.S.Store.leaves_now c.requires.session.usable (lasting_stays g c)
+
+pub returns-clause-session_still : goal.returns-clause-session_still
+returns-clause-session_still g c =
+    let i = c.requires.session in
+    let stays = lasting_stays g c in
+    record {
+      usable = stays.failed ∙ i.usable;
+      orderly = whole_orderly (lasting g c) (lasting_last g c) (lasting_memory g c) c.in_ok-copied.ensures.copied (lasting_rows g c) (lasting_rest g c);
+      tidy = whole_tidy (lasting g c) (lasting_last g c) (lasting_memory g c) c.in_ok-copied.ensures.copied (lasting_rows g c) (lasting_rest g c) i.tidy;
+      true_images = whole_true (lasting g c) (lasting_last g c) (lasting_memory g c) c.in_ok-copied.ensures.copied (lasting_rows g c) (lasting_rest g c) i.true_images;
+      rows = rows_stays stays i.rows;
+      tree_room = omega (arith, returns-clause-images g c, spared c.take.ensures.some c.in-Some.is c.add.ensures.spare, i.tree_room);
+      attachment_room = i.attachment_room;
+    }

@@ -6,6 +6,7 @@ use Rattle.vg_meta.specs.declared.changes.Change.TheVariants.{Remove}
 use Rattle.sm_standing.specs.Entries.{head}
 use Rattle.sm_ready.specs.Known.{entry_of, known}
 use Rattle.sm_ready.proofs.ChainLaws.{err_not_ok}
+use Rattle.sm_ready.proofs.FramingLaws.{commit_steps, failed_steps}
 use Rattle.sm_ready.proofs.OperationLaws.{WorksAt}
 use Rattle.sm_ready.proofs.RoomLaws.{rows_commits}
 use Rattle.sm_ready.proofs.TakenLaws.{is_told}
@@ -80,3 +81,9 @@ returns-clause-done g c = λ told ready.
     let h = ends g.S.Store c.args.store.now c.args.memory.now r.orderly c.in-Relink.is refl c.link_entry.ensures in
     gc_end g.S.Store c.args.store.now c.args.memory.now h c.in_ok-drop_entry.ensures.commits
     (is_told g.S.Store c.args.store.now c.args.memory.now r.orderly r.usable told ready (g.met.S.Store.leaves_now c.args.store.now told r.usable)) (c.drop_entry.ensures.crash told) _
+
+pub returns-in_err-drop_entry-clause-step : goal.returns-in_err-drop_entry-clause-step
+returns-in_err-drop_entry-clause-step g c = failed_steps (Remove c.link_entry.result) c.in_err-drop_entry.ensures.fails c.drop_entry.ensures.crash
+
+pub returns-clause-step : goal.returns-clause-step
+returns-clause-step g c = commit_steps c.in_ok-drop_entry.ensures.commits c.drop_entry.ensures.crash

@@ -2,9 +2,8 @@ use Rattle.std.proofs.Common.{inl, ◌≡◌, ◌∙◌, refl, sym, ap, ap₂, s
 use Rattle.std.specs.Prelude.{option_copied, IsSome}
 use Rattle.common_laws.specs.Lists.{In}
 use Rattle.sm_base.specs.Names.{IsName}
-use Rattle.sm_disk.proofs.HeldLaws.{Keeps-then}
 use Rattle.vg_meta.specs.Roomy.{table_alone}
-use Rattle.vg_volumes.proofs.StoredLaws.{stays_from}
+use Rattle.vg_volumes.proofs.StoredLaws.{stays_from, stays_then}
 use Rattle.vg_volumes.specs.Stored.{WorksOn}
 use Rattle.vhd_chain.specs.Trees.{row_name, tree_row, with_replaced}
 use Rattle.vhd_chain.proofs.ByName.{tree_row-without_other, tree_row-without_same}
@@ -19,6 +18,7 @@ use Rattle.sm_ready.proofs.TruthLaws.{row_stands, row_true}
 use Rattle.gc_coalesce.proofs.LinkEnds.{IsRested, IsToLinkIn, links_there, proper, relink_done, relink_failed, relink_unsettled, rest_failed, rested}
 use Rattle.gc_coalesce.proofs.LinkLaws.{above_found, child_found, enough, linked_row, not_parent, orderly_linked, own_vhd, runs, shape_next_linked, tidy_linked, to_link}
 use Rattle.gc_coalesce.proofs.LinkStores.{parent_row, rows_back, rows_length, same_name, true_linked, with_image}
+use Rattle.sm_ready.proofs.FramingLaws.{stays_now}
 use Rattle.gc_coalesce.proofs.SyncedLaws.{synced_again, written_synced}
 use Rattle.gc_coalesce.proofs.linking.relink_one.Given.{Over}
 use Rattle.gc_coalesce.proofs.linking.relink_one.Goals as goal
@@ -108,9 +108,6 @@ unlinked_back g c = rows_back _ _ (known c.args.memory.now) c.args.child.now _ _
     (same_name c.set_parent-linked.result c.in-Some-get.above.now.image c.in-Some.row.image c.set_parent-linked.new.self c.set_parent-linked.ensures.new_parent c.set_parent-linked.ensures.unchanged)
     c.take.ensures.rows c.add.ensures.rows
 
-pub returns-in_err-linked-clause-beside : goal.returns-in_err-linked-clause-beside
-returns-in_err-linked-clause-beside g c = λ told. Keeps-then (c.sync.ensures.beside told) (c.set_parent-linked.ensures.works.stays.beside told)
-
 pub returns-in_err-linked-clause-images : goal.returns-in_err-linked-clause-images
 returns-in_err-linked-clause-images g c = rows_length (with_image c.set_parent-linked.new.self c.in-Some.row) c.args.memory.now.tree.rows (unlinked_back g c)
 
@@ -137,9 +134,6 @@ unsynced_back : (g : Over) (c : goal.After-from_residual-in_err-sync-2 g) → c.
 unsynced_back g c = rows_back _ _ (known c.args.memory.now) c.args.child.now _ _ c.in-Some.row c.set_parent-linked.new.self (unsynced g c)
     (same_name c.set_parent-linked.result c.in-Some-get.above.now.image c.in-Some.row.image c.set_parent-linked.new.self c.set_parent-linked.ensures.new_parent c.set_parent-linked.ensures.unchanged)
     c.take.ensures.rows c.add.ensures.rows
-
-pub returns-in_err-sync-2-clause-beside : goal.returns-in_err-sync-2-clause-beside
-returns-in_err-sync-2-clause-beside g c = λ told. Keeps-then (Keeps-then (c.sync.ensures.beside told) (c.set_parent-linked.ensures.works.stays.beside told)) (c.sync-2.ensures.beside told)
 
 pub returns-in_err-sync-2-clause-images : goal.returns-in_err-sync-2-clause-images
 returns-in_err-sync-2-clause-images g c = rows_length (with_image c.set_parent-linked.new.self c.in-Some.row) c.args.memory.now.tree.rows (unsynced_back g c)
@@ -190,9 +184,6 @@ site_is g c = c.sync-2.ensures.site ∙ c.set_parent-linked.ensures.works.stays.
 
 table_is : (g : Over) (c : goal.After-relinked g) → tab g.S.Store c.sync-2.new.self ≡ tab g.S.Store c.args.store.now
 table_is g c = c.sync-2.ensures.table.0 ∙ c.set_parent-linked.ensures.works.stays.table ∙ c.sync.ensures.table.0
-
-pub returns-clause-beside : goal.returns-clause-beside
-returns-clause-beside g c = λ told. Keeps-then (Keeps-then (c.sync.ensures.beside told) (c.set_parent-linked.ensures.works.stays.beside told)) (c.sync-2.ensures.beside told)
 
 pub returns-clause-images : goal.returns-clause-images
 returns-clause-images g c = rows_length (with_image c.set_parent-linked.new.self c.in-Some.row) c.args.memory.now.tree.rows (lasting_back g c)
@@ -255,3 +246,27 @@ pub returns-clause-first : goal.returns-clause-first
 returns-clause-first g c =
     synced_again g.S.Store c.args.store.now c.sync.new.self c.set_parent-linked.new.store c.args.child.now c.requires.usable g.met.S.Store.leaves_now (lasting_rest g c)
     (subst (λ n. WorksOn g.S.Store n c.sync.new.self c.set_parent-linked.new.store) (lasting g c).named c.set_parent-linked.ensures.works) c.sync-2.new.self c.sync-2.ensures.leaves
+
+-- ---- the frame
+
+pub returns-in_err-sync-clause-step : goal.returns-in_err-sync-clause-step
+returns-in_err-sync-clause-step g c = let e = c.sync.ensures in stays_now g.met.S.Store.leaves_now c.requires.usable (stays_from {g = g.S.Store} e.site e.table e.no_less e.counts e.beside)
+
+pub returns-in_err-linked-clause-step : goal.returns-in_err-linked-clause-step
+returns-in_err-linked-clause-step g c =
+    let e = c.sync.ensures in
+    stays_now g.met.S.Store.leaves_now c.requires.usable (stays_then (stays_from {g = g.S.Store} e.site e.table e.no_less e.counts e.beside) c.set_parent-linked.ensures.works.stays)
+
+pub returns-in_err-sync-2-clause-step : goal.returns-in_err-sync-2-clause-step
+returns-in_err-sync-2-clause-step g c =
+    let e = c.sync.ensures in
+    let f = c.sync-2.ensures in
+    stays_now g.met.S.Store.leaves_now c.requires.usable
+    (stays_then (stays_from {g = g.S.Store} e.site e.table e.no_less e.counts e.beside) (stays_then c.set_parent-linked.ensures.works.stays (stays_from {g = g.S.Store} f.site f.table f.no_less f.counts f.beside)))
+
+pub returns-clause-step : goal.returns-clause-step
+returns-clause-step g c =
+    let e = c.sync.ensures in
+    let f = c.sync-2.ensures in
+    stays_now g.met.S.Store.leaves_now c.requires.usable
+    (stays_then (stays_from {g = g.S.Store} e.site e.table e.no_less e.counts e.beside) (stays_then c.set_parent-linked.ensures.works.stays (stays_from {g = g.S.Store} f.site f.table f.no_less f.counts f.beside)))

@@ -6,6 +6,7 @@ use Rattle.sm_ready.specs.Known.{known}
 use Rattle.sm_ready.specs.Runs.{CanRun, IsAmong, Runs}
 use Rattle.vg_volumes.specs.Stored.{stored}
 use Rattle.sm_ready.proofs.ChainLaws.{err_not_ok}
+use Rattle.sm_ready.proofs.RunSteps.{failed_run, run_steps}
 use Rattle.gc_leaf.specs.Swapping.{IsMoved, swap_changes}
 use Rattle.gc_leaf.proofs.SwapRows.{can_fold, tree_room_then, true_end}
 use Rattle.gc_leaf.proofs.SwapSteps.{swap_planned, to_swap}
@@ -19,29 +20,29 @@ unreachable-requires g c =
     c.in_default.not-Leaf w.0 w.1 w.2 w.3
 
 pub vhd_uuid-requires : goal.vhd_uuid-requires
-vhd_uuid-requires g c = (to_swap _ _ (known c.args.memory.now) _ _ _ c.requires.orderly c.requires.tidy c.requires.planned c.in-Leaf.is).leaf_vhd
+vhd_uuid-requires g c = (to_swap _ _ (known c.args.memory.now) _ _ _ c.requires.session.orderly c.requires.session.tidy c.requires.planned c.in-Leaf.is).leaf_vhd
 
 pub vhd_uuid-requires-2 : goal.vhd_uuid-requires-2
-vhd_uuid-requires-2 g c = (to_swap _ _ (known c.args.memory.now) _ _ _ c.requires.orderly c.requires.tidy c.requires.planned c.in-Leaf.is).parent_vhd
+vhd_uuid-requires-2 g c = (to_swap _ _ (known c.args.memory.now) _ _ _ c.requires.session.orderly c.requires.session.tidy c.requires.planned c.in-Leaf.is).parent_vhd
 
 pub run-requires : goal.run-requires
 run-requires g c =
-    let h = to_swap _ _ (known c.args.memory.now) _ _ _ c.requires.orderly c.requires.tidy c.requires.planned c.in-Leaf.is in
+    let h = to_swap _ _ (known c.args.memory.now) _ _ _ c.requires.session.orderly c.requires.session.tidy c.requires.planned c.in-Leaf.is in
     subst₂ (λ x y. CanRun g.S.Store (swap_changes x y) c.args.store.now) (sym c.vhd_uuid.ensures) (sym c.vhd_uuid-2.ensures)
-    (can_swap g.S.Store c.args.store.now c.args.memory.now h c.requires.usable)
+    (can_swap g.S.Store c.args.store.now c.args.memory.now h c.requires.session.usable)
 
 pub returns-in_err-run-clause-done : goal.returns-in_err-run-clause-done
 returns-in_err-run-clause-done g c = λ told ready.
-    let h = to_swap _ _ (known c.args.memory.now) _ _ _ c.requires.orderly c.requires.tidy c.requires.planned c.in-Leaf.is in
-    failed_end g.S.Store c.args.store.now c.args.memory.now h told c.requires.usable ready c.args.memory.now _ (λ fine. err_not_ok _ tt c.from_residual.ensures.0 fine) c.in_err-run.ensures.fails
+    let h = to_swap _ _ (known c.args.memory.now) _ _ _ c.requires.session.orderly c.requires.session.tidy c.requires.planned c.in-Leaf.is in
+    failed_end g.S.Store c.args.store.now c.args.memory.now h told c.requires.session.usable ready c.args.memory.now _ (λ fine. err_not_ok _ tt c.from_residual.ensures.0 fine) c.in_err-run.ensures.fails
     (λ v image left. subst₂ (λ x y. IsAmong (stored g.S.Store c.args.store.now) (swap_changes x y) v image) c.vhd_uuid.ensures c.vhd_uuid-2.ensures (c.run.ensures.crash told v image left))
 
 pub fold-requires : goal.fold-requires
-fold-requires g c = can_fold c.args.memory.now (to_swap _ _ (known c.args.memory.now) _ _ _ c.requires.orderly c.requires.tidy c.requires.planned c.in-Leaf.is)
+fold-requires g c = can_fold c.args.memory.now (to_swap _ _ (known c.args.memory.now) _ _ _ c.requires.session.orderly c.requires.session.tidy c.requires.planned c.in-Leaf.is)
 
 pub returns-clause-moved : goal.returns-clause-moved
 returns-clause-moved g c = λ leaf parent cursor is.
-    let h = to_swap _ _ (known c.args.memory.now) leaf parent cursor c.requires.orderly c.requires.tidy c.requires.planned is in
+    let h = to_swap _ _ (known c.args.memory.now) leaf parent cursor c.requires.session.orderly c.requires.session.tidy c.requires.planned is in
     let same : op.Leaf c.in-Leaf.leaf c.in-Leaf.parent c.in-Leaf.cursor ≡ op.Leaf leaf parent cursor = sym c.in-Leaf.is ∙ is in
     let first : c.in-Leaf.leaf ≡ leaf = (let z = same in cc) in
     let second : c.in-Leaf.parent ≡ parent = (let z = same in cc) in
@@ -49,38 +50,38 @@ returns-clause-moved g c = λ leaf parent cursor is.
     (c.vhd_uuid-2.ensures ∙ ap image_uuid second) c.in_ok-run.ensures.runs in
     subst (λ t. IsMoved (table_alone (g.S.Store.table c.args.store.now)) t leaf parent) (sym runs.table) (moved_then h)
 
-pub returns-clause-tree_room : goal.returns-clause-tree_room
-returns-clause-tree_room g c =
-    let h = to_swap _ _ (known c.args.memory.now) _ _ _ c.requires.orderly c.requires.tidy c.requires.planned c.in-Leaf.is in
-    tree_room_then c.args.memory.now h c.fold.new.tree c.fold.ensures.rows c.fold.ensures.spare
-
-pub returns-clause-orderly_still : goal.returns-clause-orderly_still
-returns-clause-orderly_still g c =
-    let h = to_swap _ _ (known c.args.memory.now) _ _ _ c.requires.orderly c.requires.tidy c.requires.planned c.in-Leaf.is in
-    let runs = subst₂ (λ x y. Runs g.S.Store (swap_changes x y) c.args.store.now c.run.new.store) c.vhd_uuid.ensures c.vhd_uuid-2.ensures c.in_ok-run.ensures.runs in
-    orderly_end g.S.Store c.args.store.now c.args.memory.now h runs c.fold.new.tree c.fold.ensures.rows
-
-pub returns-clause-tidy_still : goal.returns-clause-tidy_still
-returns-clause-tidy_still g c =
-    let h = to_swap _ _ (known c.args.memory.now) _ _ _ c.requires.orderly c.requires.tidy c.requires.planned c.in-Leaf.is in
-    let runs = subst₂ (λ x y. Runs g.S.Store (swap_changes x y) c.args.store.now c.run.new.store) c.vhd_uuid.ensures c.vhd_uuid-2.ensures c.in_ok-run.ensures.runs in
-    tidy_end g.S.Store c.args.store.now c.args.memory.now h runs c.fold.new.tree c.fold.ensures.rows
-
-pub returns-clause-true_still : goal.returns-clause-true_still
-returns-clause-true_still g c =
-    let h = to_swap _ _ (known c.args.memory.now) _ _ _ c.requires.orderly c.requires.tidy c.requires.planned c.in-Leaf.is in
-    let runs = subst₂ (λ x y. Runs g.S.Store (swap_changes x y) c.args.store.now c.run.new.store) c.vhd_uuid.ensures c.vhd_uuid-2.ensures c.in_ok-run.ensures.runs in
-    true_end g.S.Store c.args.store.now c.run.new.store c.args.memory.now h runs c.fold.new.tree c.fold.ensures.rows c.requires.true_now
-
 pub returns-clause-shape : goal.returns-clause-shape
 returns-clause-shape g c =
-    let h = to_swap _ _ (known c.args.memory.now) _ _ _ c.requires.orderly c.requires.tidy c.requires.planned c.in-Leaf.is in
+    let h = to_swap _ _ (known c.args.memory.now) _ _ _ c.requires.session.orderly c.requires.session.tidy c.requires.planned c.in-Leaf.is in
     let runs = subst₂ (λ x y. Runs g.S.Store (swap_changes x y) c.args.store.now c.run.new.store) c.vhd_uuid.ensures c.vhd_uuid-2.ensures c.in_ok-run.ensures.runs in
     shape_end g.S.Store c.args.store.now c.args.memory.now h runs c.fold.new.tree c.fold.ensures.rows
 
 pub returns-clause-done : goal.returns-clause-done
 returns-clause-done g c = λ told ready.
-    let h = to_swap _ _ (known c.args.memory.now) _ _ _ c.requires.orderly c.requires.tidy c.requires.planned c.in-Leaf.is in
+    let h = to_swap _ _ (known c.args.memory.now) _ _ _ c.requires.session.orderly c.requires.session.tidy c.requires.planned c.in-Leaf.is in
     let runs = subst₂ (λ x y. Runs g.S.Store (swap_changes x y) c.args.store.now c.run.new.store) c.vhd_uuid.ensures c.vhd_uuid-2.ensures c.in_ok-run.ensures.runs in
-    done_end g.S.Store c.args.store.now c.args.memory.now h told c.requires.usable ready runs c.fold.new.tree c.fold.ensures.rows
+    done_end g.S.Store c.args.store.now c.args.memory.now h told c.requires.session.usable ready runs c.fold.new.tree c.fold.ensures.rows
     (λ v image left. subst₂ (λ x y. IsAmong (stored g.S.Store c.args.store.now) (swap_changes x y) v image) c.vhd_uuid.ensures c.vhd_uuid-2.ensures (c.run.ensures.crash told v image left)) _
+
+-- ---- the frame
+
+pub returns-in_err-run-clause-step : goal.returns-in_err-run-clause-step
+returns-in_err-run-clause-step g c = failed_run (swap_changes c.vhd_uuid.result c.vhd_uuid-2.result) c.run.ensures.crash c.in_err-run.ensures.fails
+
+pub returns-clause-step : goal.returns-clause-step
+returns-clause-step g c = run_steps (swap_changes c.vhd_uuid.result c.vhd_uuid-2.result) c.run.ensures.crash c.in_ok-run.ensures.runs
+
+pub returns-clause-session_still : goal.returns-clause-session_still
+returns-clause-session_still g c =
+    let i = c.requires.session in
+    let h = to_swap _ _ (known c.args.memory.now) _ _ _ i.orderly i.tidy c.requires.planned c.in-Leaf.is in
+    let runs = subst₂ (λ x y. Runs g.S.Store (swap_changes x y) c.args.store.now c.run.new.store) c.vhd_uuid.ensures c.vhd_uuid-2.ensures c.in_ok-run.ensures.runs in
+    record {
+      usable = runs.usable;
+      orderly = orderly_end g.S.Store c.args.store.now c.args.memory.now h runs c.fold.new.tree c.fold.ensures.rows;
+      tidy = tidy_end g.S.Store c.args.store.now c.args.memory.now h runs c.fold.new.tree c.fold.ensures.rows;
+      true_images = true_end g.S.Store c.args.store.now c.run.new.store c.args.memory.now h runs c.fold.new.tree c.fold.ensures.rows i.true_images;
+      rows = runs.rows i.rows;
+      tree_room = tree_room_then c.args.memory.now h c.fold.new.tree c.fold.ensures.rows c.fold.ensures.spare i.tree_room;
+      attachment_room = i.attachment_room;
+    }

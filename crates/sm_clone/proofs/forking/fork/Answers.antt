@@ -1,6 +1,5 @@
 use Rattle.std.proofs.Common.{Bool, ℕ, Ok, None, length, replicate, refl, sym, ap, ap₂, ◌∙◌, ◌≡◌, option_copied, subst₂, arith}
 use Rattle.sm_base.specs.Names.{base_uuid}
-use Rattle.sm_disk.proofs.HeldLaws.{Keeps-then}
 use Rattle.vg_meta.specs.Roomy.{RoomyTable, table_alone}
 use Rattle.vg_meta.specs.Tables.{VolumeTable}
 use Rattle.vg_volumes.specs.Sites.{Site}
@@ -12,13 +11,11 @@ use Rattle.sm_record.specs.declared.records.Record.{Record}
 use Rattle.sm_standing.specs.Entries.{base_number}
 use Rattle.sm_standing.specs.Standing.{disks}
 use Rattle.sm_ready.specs.Does.{store_shape}
+use Rattle.sm_ready.specs.Framing.{IsBetweenSteps}
 use Rattle.sm_ready.specs.Known.{known, shape_in}
-use Rattle.sm_ready.specs.Orderly.{IsOrderly}
-use Rattle.sm_ready.specs.Ready.{IsTidy}
-use Rattle.sm_ready.specs.Sessions.{IsOrderlyStore}
 use Rattle.sm_ready.specs.Stores.{content_now}
 use Rattle.sm_ready.proofs.ChainLaws.{done_behind, ready_read}
-use Rattle.sm_ready.proofs.FrameLaws.{true_reads}
+use Rattle.sm_ready.proofs.FramingLaws.{more_steps, reads_between, stays_steps, then_steps}
 use Rattle.sm_ready.proofs.NumberLaws.{number_of_base}
 use Rattle.sm_space.proofs.KeptRoom.{KeepsRoom, keeps_room}
 use Rattle.sm_attaching.proofs.GivenLaws.{table_given}
@@ -36,34 +33,39 @@ pub unreachable-requires : goal.unreachable-requires
 unreachable-requires g c =
     let r = c.requires in
     recorded (g.S.Store.site c.args.store.now) (table_alone (g.S.Store.table c.args.store.now)) (known c.args.memory.now) c.args.disk.now c.args.twin.now c.args.read_only
-    r.orderly r.tidy (passes_now r.orderly r.allowed)
+    r.session.orderly r.session.tidy (passes_now r.session.orderly r.allowed)
     (sym c.find.ensures.found ∙ ap option_copied c.in_default.is)
 
 pub twin_record-entry-requires-clause-not_nil : goal.twin_record-entry-requires-clause-not_nil
 twin_record-entry-requires-clause-not_nil g c =
     let r = c.requires in
     (new (g.S.Store.site c.args.store.now) (table_alone (g.S.Store.table c.args.store.now)) (known c.args.memory.now) c.args.disk.now c.args.twin.now c.args.read_only
-    r.orderly r.tidy (passes_now r.orderly r.allowed)).not_nil
+    r.session.orderly r.session.tidy (passes_now r.session.orderly r.allowed)).not_nil
 
 pub twin_record-entry-requires-clause-named : goal.twin_record-entry-requires-clause-named
 twin_record-entry-requires-clause-named g c =
     let r = c.requires in
-    record_named (g.S.Store.site c.args.store.now) (table_alone (g.S.Store.table c.args.store.now)) (known c.args.memory.now) c.args.disk.now _ r.orderly r.tidy
+    record_named (g.S.Store.site c.args.store.now) (table_alone (g.S.Store.table c.args.store.now)) (known c.args.memory.now) c.args.disk.now _ r.session.orderly r.session.tidy
     (sym c.find.ensures.found ∙ ap option_copied c.in-Some.is)
 
-pub returns-in_default-prepare-clause-true_poor : goal.returns-in_default-prepare-clause-true_poor
-returns-in_default-prepare-clause-true_poor g c = λ poor. true_reads g.S.Store c.args.memory.now c.args.memory.now refl c.prepare.ensures.reads c.requires.true_now
+pub returns-in_default-prepare-clause-step : goal.returns-in_default-prepare-clause-step
+returns-in_default-prepare-clause-step g c =
+    let r = c.prepare.ensures.reads.stays in
+    more_steps (omega arith) (stays_steps r (λ told. g.met.S.Store.leaves_now c.prepare.new.store told (r.failed ∙ c.requires.session.usable)))
 
 pub returns-in_default-prepare-clause-done : goal.returns-in_default-prepare-clause-done
 returns-in_default-prepare-clause-done g c = λ told ready.
     let e = c.prepare.ensures in
-    poor_done c.args.memory.now c.requires.orderly c.requires.usable told ready (g.met.S.Store.leaves_now c.args.store.now told c.requires.usable) e.reads e.same.1 e.leaves _ _ _ (λ fine. absurd (let x = fine in cc))
+    poor_done c.args.memory.now c.requires.session.orderly c.requires.session.usable told ready (g.met.S.Store.leaves_now c.args.store.now told c.requires.session.usable) e.reads e.same.1 e.leaves _ _ _ (λ fine. absurd (let x = fine in cc))
 
-pub give_up-requires-clause-true_now : goal.give_up-requires-clause-true_now
-give_up-requires-clause-true_now g c = true_reads g.S.Store c.args.memory.now c.args.memory.now refl c.prepare.ensures.reads c.requires.true_now
+pub give_up-requires : goal.give_up-requires
+give_up-requires g c = record { session = reads_between c.args.memory.now c.prepare.ensures.reads c.requires.session }
 
-pub returns-in_default-give_up-clause-beside : goal.returns-in_default-give_up-clause-beside
-returns-in_default-give_up-clause-beside g c = λ told. Keeps-then (c.prepare.ensures.reads.stays.beside told) (c.give_up.ensures.beside told)
+pub returns-in_default-give_up-clause-step : goal.returns-in_default-give_up-clause-step
+returns-in_default-give_up-clause-step g c =
+    let r = c.prepare.ensures.reads.stays in
+    let read = stays_steps r (λ told. g.met.S.Store.leaves_now c.prepare.new.store told (r.failed ∙ c.requires.session.usable)) in
+    more_steps (omega arith) (then_steps read c.give_up.ensures.step)
 
 pub returns-in_default-give_up-clause-done : goal.returns-in_default-give_up-clause-done
 returns-in_default-give_up-clause-done g c = λ told ready.
@@ -72,53 +74,59 @@ returns-in_default-give_up-clause-done g c = λ told ready.
     done_behind _ (λ (x : Stored). disks_next (disks (content_now x.site x.table x.area)) (shape_in x.site x.table (known c.args.memory.now)) (forking c.args.disk.now c.args.twin.now c.args.read_only)) e.reads e.same.1 e.leaves
     (λ fine. absurd (let x = fine in cc))
     (give_up_failed g.S.Store c.prepare.new.store c.give_up.new.store c.args.memory.now c.give_up.new.memory c.args.disk.now (forking c.args.disk.now c.args.twin.now c.args.read_only)
-    _ (c.give_up.result ≡ Ok tt) (e.reads.stays.failed ∙ c.requires.usable) told (λ some. let fine = (c.give_up.ensures.none some).0 in cc) (λ fine. cc)
+    _ (c.give_up.result ≡ Ok tt) (e.reads.stays.failed ∙ c.requires.session.usable) told (λ some. let fine = (c.give_up.ensures.none some).0 in cc) (λ fine. cc)
     (λ is. c.give_up.ensures.done is told (ready_read c.args.memory.now e.reads e.same.1 ready)))
 
 -- ---- once it is given up
 
-pub make_fork-requires-clause-can : goal.make_fork-requires-clause-can
-make_fork-requires-clause-can g c =
+pub make_fork-requires : goal.make_fork-requires
+make_fork-requires g c =
     let r = c.requires in
     let reads = c.prepare.ensures.reads in
     let i = c.in-Ok.ensures in
     let v = c.in-Ok-give_up.ensures in
-    let w = gave_up v.site v.usable_still v.orderly_still v.shape v.none v.done refl in
-    let orderly = as_read reads (λ s t. IsOrderly s t (known c.args.memory.now)) r.orderly in
+    let w = gave_up v.step v.session_still v.shape v.none v.done refl in
+    let orderly = (reads_between c.args.memory.now reads r.session).orderly in
     let blank = ap (λ (s : Site). replicate s.geometry.entries None) (sym reads.stays.site) in
-    can_given w orderly (keeps_room g.S.Store c.prepare.new.store c.give_up.new.store c.args.memory.now c.args.disk.now orderly (λ no. (v.none no).1) v.commits) v.operation v.others v.commits
-    c.args.twin.now c.args.read_only _ _ _ c.in-Ok.parts (v.tidy_still (as_read reads (λ s t. IsTidy t (known c.args.memory.now)) r.tidy))
-    (as_read reads (λ s t. refusal (shape_in s t (known c.args.memory.now)) (forking c.args.disk.now c.args.twin.now c.args.read_only) ≡ None) r.allowed)
-    (sym c.find.ensures.found ∙ ap option_copied c.in-Some.is) c.twin_record-entry.ensures.proper c.twin_record-entry.ensures.is
-    (ap₂ (λ n b. let x : Fork = record { disk = c.args.disk.now; own = n; base = b; twin = c.args.twin.now } in x) c.image_name.ensures
-    (c.base_uuid.ensures ∙ ap base_uuid (c.seq.ensures.seq ∙ ap (λ (k : RoomyTable). k.sequence) c.table.ensures.table))) i.place
-    (as_read reads (λ s t. AreForFork s t (shape_in s t (known c.args.memory.now)) c.args.disk.now
-    (sectors_of (tree_row c.args.memory.now.tree.rows (own_name c.args.memory.now.tree.rows c.args.disk.now))) c.in-Ok.parts.own.items c.in-Ok.parts.twins.items) i.extents) (i.own_map ∙ blank) (i.twin_map ∙ blank) i.rows
+    record {
+      can = can_given w orderly (keeps_room g.S.Store c.prepare.new.store c.give_up.new.store c.args.memory.now c.args.disk.now orderly (λ no. (v.none no).1) v.commits) v.operation v.others v.commits
+          c.args.twin.now c.args.read_only _ _ _ c.in-Ok.parts
+          (as_read reads (λ s t. refusal (shape_in s t (known c.args.memory.now)) (forking c.args.disk.now c.args.twin.now c.args.read_only) ≡ None) r.allowed)
+          (sym c.find.ensures.found ∙ ap option_copied c.in-Some.is) c.twin_record-entry.ensures.proper c.twin_record-entry.ensures.is
+          (ap₂ (λ n b. let x : Fork = record { disk = c.args.disk.now; own = n; base = b; twin = c.args.twin.now } in x) c.image_name.ensures
+          (c.base_uuid.ensures ∙ ap base_uuid (c.seq.ensures.seq ∙ ap (λ (k : RoomyTable). k.sequence) c.table.ensures.table))) i.place
+          (as_read reads (λ s t. AreForFork s t (shape_in s t (known c.args.memory.now)) c.args.disk.now
+          (sectors_of (tree_row c.args.memory.now.tree.rows (own_name c.args.memory.now.tree.rows c.args.disk.now))) c.in-Ok.parts.own.items c.in-Ok.parts.twins.items) i.extents) (i.own_map ∙ blank) (i.twin_map ∙ blank) i.rows;
+    }
 
-pub returns-in_default-make_fork-clause-beside : goal.returns-in_default-make_fork-clause-beside
-returns-in_default-make_fork-clause-beside g c = λ told. Keeps-then (c.prepare.ensures.reads.stays.beside told) (Keeps-then (c.give_up.ensures.beside told) (c.make_fork.ensures.beside told))
+pub returns-in_default-make_fork-clause-step : goal.returns-in_default-make_fork-clause-step
+returns-in_default-make_fork-clause-step g c =
+    let r = c.prepare.ensures.reads.stays in
+    let read = stays_steps r (λ told. g.met.S.Store.leaves_now c.prepare.new.store told (r.failed ∙ c.requires.session.usable)) in
+    then_steps read (then_steps c.give_up.ensures.step c.make_fork.ensures.step)
 
 pub returns-in_default-make_fork-clause-done : goal.returns-in_default-make_fork-clause-done
 returns-in_default-make_fork-clause-done g c = λ told ready.
     let e = c.prepare.ensures in
     let v = c.in-Ok-give_up.ensures in
     done_given c.args.twin.now c.make_fork.new.memory _ (c.make_fork.result ≡ Ok tt) e.reads e.same.1 e.leaves
-    (gave_up v.site v.usable_still v.orderly_still v.shape v.none v.done refl) c.requires.orderly c.requires.usable told ready
-    (g.met.S.Store.leaves_now c.prepare.new.store told (e.reads.stays.failed ∙ c.requires.usable)) (g.met.S.Store.leaves_now c.give_up.new.store told v.usable_still)
+    (gave_up v.step v.session_still v.shape v.none v.done refl) c.requires.session told ready
+    (g.met.S.Store.leaves_now c.prepare.new.store told (e.reads.stays.failed ∙ c.requires.session.usable)) (g.met.S.Store.leaves_now c.give_up.new.store told v.session_still.usable)
     (ap (λ (x : Record). x.read_only) c.twin_record-entry.ensures.is) (λ fine. absurd (let x = fine in cc)) (c.make_fork.ensures.done told)
 
 -- ---- at the end
 
 -- it was given up, or none was there
 gave : (g : Over) (c : goal.In-Ok-make_fork g) → GaveUp g.S.Store c.args.disk.now c.prepare.new.store c.args.memory.now c.give_up.new.store c.give_up.new.memory
-gave g c = let v = c.in-Ok-give_up.ensures in gave_up v.site v.usable_still v.orderly_still v.shape v.none v.done refl
+gave g c = let v = c.in-Ok-give_up.ensures in gave_up v.step v.session_still v.shape v.none v.done refl
 
-orderly : (g : Over) (c : goal.In-Ok-make_fork g) → IsOrderlyStore g.S.Store c.prepare.new.store c.args.memory.now
-orderly g c = as_read c.prepare.ensures.reads (λ s t. IsOrderly s t (known c.args.memory.now)) c.requires.orderly
+-- the session, behind the call that only read
+read : (g : Over) (c : goal.In-Ok-make_fork g) → IsBetweenSteps g.S.Store c.prepare.new.store c.args.memory.now
+read g c = reads_between c.args.memory.now c.prepare.ensures.reads c.requires.session
 
 roomy : (g : Over) (c : goal.In-Ok-make_fork g) → KeepsRoom g.S.Store c.prepare.new.store c.give_up.new.store
 roomy g c = let v = c.in-Ok-give_up.ensures in
-    keeps_room g.S.Store c.prepare.new.store c.give_up.new.store c.args.memory.now c.args.disk.now (orderly g c) (λ no. (v.none no).1) v.commits
+    keeps_room g.S.Store c.prepare.new.store c.give_up.new.store c.args.memory.now c.args.disk.now (read g c).orderly (λ no. (v.none no).1) v.commits
 
 table_is : (g : Over) (c : goal.In-Ok-make_fork g)
     → table_alone (g.S.Store.table c.give_up.new.store) ≡ unfolded_table c.args.memory.now.operation c.args.disk.now (table_alone (g.S.Store.table c.prepare.new.store))
@@ -137,21 +145,11 @@ taken : (g : Over) (c : goal.In-Ok-make_fork g)
 taken g c = as_read c.prepare.ensures.reads (λ s t. AreForFork s t (shape_in s t (known c.args.memory.now)) c.args.disk.now
     (sectors_of (tree_row c.args.memory.now.tree.rows (own_name c.args.memory.now.tree.rows c.args.disk.now))) c.in-Ok.parts.own.items c.in-Ok.parts.twins.items) c.in-Ok.ensures.extents
 
-pub returns-clause-beside : goal.returns-clause-beside
-returns-clause-beside g c = λ told. Keeps-then (c.prepare.ensures.reads.stays.beside told) (Keeps-then (c.give_up.ensures.beside told) (c.make_fork.ensures.beside told))
-
-pub returns-clause-few_left : goal.returns-clause-few_left
-returns-clause-few_left g c = λ told t image left.
-    let few = c.make_fork.ensures.few_left told t image left in
-    let one = c.give_up.ensures.few in
-    let same = ap (λ (x : VolumeTable). x.sequence) c.prepare.ensures.table in
-    omega (arith, few, one, same)
-
-pub returns-clause-rows : goal.returns-clause-rows
-returns-clause-rows g c = λ had.
-    let same = ap (λ (x : VolumeTable). length x.volumes) c.prepare.ensures.table in
-    let more = c.prepare.ensures.reads.stays.room.spare_rows in
-    c.in-Ok-make_fork.ensures.rows (c.in-Ok-give_up.ensures.room (omega (arith, had, same, more)))
+pub returns-clause-step : goal.returns-clause-step
+returns-clause-step g c =
+    let r = c.prepare.ensures.reads.stays in
+    let read = stays_steps r (λ told. g.met.S.Store.leaves_now c.prepare.new.store told (r.failed ∙ c.requires.session.usable)) in
+    then_steps read (then_steps c.give_up.ensures.step c.make_fork.ensures.step)
 
 pub returns-clause-least : goal.returns-clause-least
 returns-clause-least g c =
@@ -181,7 +179,7 @@ pub returns-clause-shape : goal.returns-clause-shape
 returns-clause-shape g c =
     let m = c.args.memory.now in
     let stays = c.prepare.ensures.reads.stays in
-    let few = (orderly g c).table.sequence in
+    let few = (read g c).orderly.table.sequence in
     c.in-Ok-make_fork.ensures.shape
     ∙ ap₂ (λ (j : ℕ) (b : Bool). shape_forked (store_shape g.S.Store c.give_up.new.store c.give_up.new.memory) j (forking c.args.disk.now c.args.twin.now b))
     (ap base_number (base_is g c) ∙ number_of_base (g.S.Store.table c.prepare.new.store).sequence few) (ap (λ (x : Record). x.read_only) c.twin_record-entry.ensures.is)
@@ -191,6 +189,6 @@ returns-clause-shape g c =
 pub returns-clause-done : goal.returns-clause-done
 returns-clause-done g c = λ told ready.
     let e = c.prepare.ensures in
-    done_given c.args.twin.now c.make_fork.new.memory _ (c.make_fork.result ≡ Ok tt) e.reads e.same.1 e.leaves (gave g c) c.requires.orderly c.requires.usable told ready
-    (g.met.S.Store.leaves_now c.prepare.new.store told (e.reads.stays.failed ∙ c.requires.usable)) (g.met.S.Store.leaves_now c.give_up.new.store told c.in-Ok-give_up.ensures.usable_still)
+    done_given c.args.twin.now c.make_fork.new.memory _ (c.make_fork.result ≡ Ok tt) e.reads e.same.1 e.leaves (gave g c) c.requires.session told ready
+    (g.met.S.Store.leaves_now c.prepare.new.store told (e.reads.stays.failed ∙ c.requires.session.usable)) (g.met.S.Store.leaves_now c.give_up.new.store told c.in-Ok-give_up.ensures.session_still.usable)
     (ap (λ (x : Record). x.read_only) c.twin_record-entry.ensures.is) (λ fine. c.in-Ok-make_fork.is) (c.make_fork.ensures.done told)

@@ -1,10 +1,7 @@
 use Rattle.std.proofs.Common.{length, ◌≡◌, ap, ap₂, arith, refl, subst, subst₂, sym, unwrap_or, ◌∙◌}
 use Rattle.sm_base.specs.Names.{IsName}
-use Rattle.sm_disk.proofs.HeldLaws.{Keeps-then}
 use Rattle.vg_meta.specs.Roomy.{table_alone}
-use Rattle.vg_meta.specs.Tables.{VolumeTable}
 use Rattle.vg_volumes.specs.Sites.{Site}
-use Rattle.vg_volumes.specs.Stored.{stored}
 use Rattle.vhd_image.specs.Bodies.{sector_count, volume_name}
 use Rattle.vhd_image.specs.Made.{IsDiskSize, IsParentImage}
 use Rattle.vhd_chain.specs.Trees.{row_name, tree_row}
@@ -12,12 +9,14 @@ use Rattle.vhd_chain.specs.declared.rows.TreeRow.{TreeRow}
 use Rattle.sm_mgt.specs.Places.{place_for}
 use Rattle.sm_ready.specs.declared.memory.Memory.{Memory}
 use Rattle.sm_ready.proofs.ChainLaws.{err_not_ok}
-use Rattle.sm_ready.proofs.RunLaws.{few_among}
-use Rattle.sm_clone.specs.Forking.{forked_rows, last_changes}
+use Rattle.sm_ready.proofs.FramingLaws.{more_steps, stays_steps, then_steps}
+use Rattle.sm_ready.proofs.RoomLaws.{rows_stays}
+use Rattle.sm_clone.specs.Forking.{first_changes, forked_rows, last_changes}
 use Rattle.sm_clone.proofs.ForkTrue.{IsForked}
 use Rattle.sm_clone.proofs.ForkedLaws.{IsForkedMemory, orderly_end, shape_end, site_then, table_then, tidy_end, true_end}
 use Rattle.sm_clone.proofs.DoneLaws.{begin_failed, end_failed, fill_failed, fork_done}
 use Rattle.sm_clone.proofs.MakingLaws.{apart, base_named, can_begin, can_end, few_own, few_twins, found_not, images_are, names, names_apart, no_base, no_leaf, no_twin, number_is, own_room, parent_is, places, size_is, three_spare, tree_room, twin_room, use_room}
+use Rattle.sm_ready.proofs.RunSteps.{failed_run, run_steps}
 use Rattle.sm_clone.proofs.forking.make_fork.Given.{Over}
 use Rattle.sm_clone.proofs.forking.make_fork.Goals as goal
 
@@ -32,6 +31,10 @@ overflow_cast-twin_count g c = omega (arith, c.len-twin_count.ensures, c.args.pa
 
 pub begin-requires : goal.begin-requires
 begin-requires g c = can_begin c.requires.can
+
+pub returns-in_err-begin-clause-step : goal.returns-in_err-begin-clause-step
+returns-in_err-begin-clause-step g c =
+    more_steps (omega arith) (failed_run (first_changes c.args.fork.now c.args.parts.own.items c.args.parts.twins.items) c.begin.ensures.crash c.in_err-begin.ensures.fails)
 
 pub returns-in_err-begin-clause-done : goal.returns-in_err-begin-clause-done
 returns-in_err-begin-clause-done g c = λ told ready.
@@ -57,13 +60,11 @@ fill-requires-clause-parent g c = subst (λ (r : TreeRow). IsParentImage r.image
 pub fill-requires-clause-places : goal.fill-requires-clause-places
 fill-requires-clause-places g c = places c.requires.can c.in_ok-begin.ensures.runs
 
-pub returns-in_err-own-clause-beside : goal.returns-in_err-own-clause-beside
-returns-in_err-own-clause-beside g c = λ told. Keeps-then (c.in_ok-begin.ensures.runs.beside told) (c.fill.ensures.stays.beside told)
-
-pub returns-in_err-own-clause-few_left : goal.returns-in_err-own-clause-few_left
-returns-in_err-own-clause-few_left g c = λ told v image left.
-    let is = ap (λ (x : VolumeTable). x.sequence) (g.met.S.Store.leaves_now c.fill.new.store told (c.fill.ensures.stays.failed ∙ c.in_ok-begin.ensures.runs.usable) v image left).table_is in
-    omega (arith, is, ap (λ (x : VolumeTable). x.sequence) c.fill.ensures.stays.table, number_is c.requires.can c.in_ok-begin.ensures.runs)
+pub returns-in_err-own-clause-step : goal.returns-in_err-own-clause-step
+returns-in_err-own-clause-step g c =
+    let s = c.fill.ensures.stays in
+    more_steps (omega arith) (then_steps (run_steps (first_changes c.args.fork.now c.args.parts.own.items c.args.parts.twins.items) c.begin.ensures.crash c.in_ok-begin.ensures.runs)
+    (stays_steps s (λ told. g.met.S.Store.leaves_now c.fill.new.store told (s.failed ∙ c.in_ok-begin.ensures.runs.usable))))
 
 pub returns-in_err-own-clause-done : goal.returns-in_err-own-clause-done
 returns-in_err-own-clause-done g c = λ told ready.
@@ -74,18 +75,12 @@ returns-in_err-own-clause-done g c = λ told ready.
 pub end-requires : goal.end-requires
 end-requires g c = can_end c.requires.can c.in_ok-begin.ensures.runs c.fill.ensures.stays
 
-pub returns-in_err-end-clause-beside : goal.returns-in_err-end-clause-beside
-returns-in_err-end-clause-beside g c = λ told.
-    Keeps-then (c.in_ok-begin.ensures.runs.beside told) (Keeps-then (c.fill.ensures.stays.beside told) (c.in_err-end.ensures.fails.beside told))
-
-pub returns-in_err-end-clause-few_left : goal.returns-in_err-end-clause-few_left
-returns-in_err-end-clause-few_left g c = λ told v image left.
-    omega (
-      arith,
-      few_among (stored g.S.Store c.fill.new.store) (last_changes c.args.fork.now) v image (c.end.ensures.crash told v image left),
-      ap (λ (x : VolumeTable). x.sequence) c.fill.ensures.stays.table,
-      number_is c.requires.can c.in_ok-begin.ensures.runs,
-    )
+pub returns-in_err-end-clause-step : goal.returns-in_err-end-clause-step
+returns-in_err-end-clause-step g c =
+    let s = c.fill.ensures.stays in
+    then_steps (run_steps (first_changes c.args.fork.now c.args.parts.own.items c.args.parts.twins.items) c.begin.ensures.crash c.in_ok-begin.ensures.runs)
+    (then_steps (stays_steps s (λ told. g.met.S.Store.leaves_now c.fill.new.store told (s.failed ∙ c.in_ok-begin.ensures.runs.usable)))
+    (failed_run (last_changes c.args.fork.now) c.end.ensures.crash c.in_err-end.ensures.fails))
 
 pub returns-in_err-end-clause-done : goal.returns-in_err-end-clause-done
 returns-in_err-end-clause-done g c = λ told ready.
@@ -94,7 +89,7 @@ returns-in_err-end-clause-done g c = λ told ready.
     (λ fine. err_not_ok _ tt c.from_residual-in_err-end.ensures.0 fine) c.in_err-end.ensures.fails (c.end.ensures.crash told)
 
 pub add_rows-requires-clause-room : goal.add_rows-requires-clause-room
-add_rows-requires-clause-room g c = three_spare c.requires.can c.take.new.self.spare c.in-Some.ensures.some c.requires.tree_room
+add_rows-requires-clause-room g c = three_spare c.requires.can c.take.new.self.spare c.in-Some.ensures.some c.requires.can.session.tree_room
 
 pub add_rows-requires-clause-names : goal.add_rows-requires-clause-names
 add_rows-requires-clause-names g c =
@@ -125,7 +120,7 @@ add_rows-requires-clause-apart g c =
     (λ is. apart.0 (sym base ∙ is ∙ own), λ is. apart.1 (sym base ∙ is ∙ twin), λ is. apart.2 (sym own ∙ is ∙ twin))
 
 pub note_uses-requires : goal.note_uses-requires
-note_uses-requires g c = record { room = use_room c.requires.can c.requires.room }
+note_uses-requires g c = record { room = use_room c.requires.can c.requires.can.session.attachment_room }
 
 -- ---- at the end
 
@@ -151,36 +146,29 @@ calls : (g : Over) (c : goal.After-note_uses g) → IsForked g.S.Store c.args.st
     c.make_base.new.row.image (unwrap_or (place_for c.args.memory.now.records c.args.entry.uuid) 0) c.args.entry
 calls g c = record { first = c.in_ok-begin.ensures.runs; stays = c.fill.ensures.stays; middle = c.fill.ensures.middle; filled = c.in_ok-own.ensures.filled; last = c.in_ok-end.ensures.runs }
 
-pub returns-clause-beside : goal.returns-clause-beside
-returns-clause-beside g c = λ told.
-    Keeps-then (c.in_ok-begin.ensures.runs.beside told) (Keeps-then (c.fill.ensures.stays.beside told) (c.in_ok-end.ensures.runs.beside told))
+pub returns-clause-step : goal.returns-clause-step
+returns-clause-step g c =
+    let s = c.fill.ensures.stays in
+    then_steps (run_steps (first_changes c.args.fork.now c.args.parts.own.items c.args.parts.twins.items) c.begin.ensures.crash c.in_ok-begin.ensures.runs)
+    (then_steps (stays_steps s (λ told. g.met.S.Store.leaves_now c.fill.new.store told (s.failed ∙ c.in_ok-begin.ensures.runs.usable)))
+    (run_steps (last_changes c.args.fork.now) c.end.ensures.crash c.in_ok-end.ensures.runs))
 
-pub returns-clause-few_left : goal.returns-clause-few_left
-returns-clause-few_left g c = λ told v image left.
-    omega (
-      arith,
-      few_among (stored g.S.Store c.fill.new.store) (last_changes c.args.fork.now) v image (c.end.ensures.crash told v image left),
-      ap (λ (x : VolumeTable). x.sequence) c.fill.ensures.stays.table,
-      number_is c.requires.can c.in_ok-begin.ensures.runs,
-    )
-
-pub returns-clause-orderly_still : goal.returns-clause-orderly_still
-returns-clause-orderly_still g c =
+pub returns-clause-session_still : goal.returns-clause-session_still
+returns-clause-session_still g c =
     let can = c.requires.can in
-    orderly_end can (last g c) c.args.now (site_then can c.args.now c.make_base.new.row.image (calls g c)) (table_then can c.args.now c.make_base.new.row.image (calls g c)) (memory_is g c)
-
-pub returns-clause-tidy_still : goal.returns-clause-tidy_still
-returns-clause-tidy_still g c =
-    let can = c.requires.can in
-    tidy_end can (last g c) c.args.now (site_then can c.args.now c.make_base.new.row.image (calls g c)) (table_then can c.args.now c.make_base.new.row.image (calls g c)) (memory_is g c)
-
-pub returns-clause-tree_room_still : goal.returns-clause-tree_room_still
-returns-clause-tree_room_still g c =
-    tree_room c.requires.can c.take.new.self c.add_rows.new.tree _ _ _ c.take.ensures.rows c.in-Some.ensures.some c.add_rows.ensures.rows c.add_rows.ensures.spare c.requires.tree_room
-
-pub returns-clause-true_still : goal.returns-clause-true_still
-returns-clause-true_still g c =
-    true_end c.requires.can c.args.now c.make_base.new.row.image (calls g c) c.in-Some.base (sym c.take.ensures.taken ∙ c.in-Some.is) (ap (λ (r : TreeRow). r.image) c.make_base.ensures) (last g c) (rows_are g c) c.requires.true_now
+    let i = can.session in
+    let site = site_then can c.args.now c.make_base.new.row.image (calls g c) in
+    let table = table_then can c.args.now c.make_base.new.row.image (calls g c) in
+    record {
+      usable = c.in_ok-end.ensures.runs.usable;
+      orderly = orderly_end can (last g c) c.args.now site table (memory_is g c);
+      tidy = tidy_end can (last g c) c.args.now site table (memory_is g c);
+      true_images = true_end can c.args.now c.make_base.new.row.image (calls g c) c.in-Some.base (sym c.take.ensures.taken ∙ c.in-Some.is) (ap (λ (r : TreeRow). r.image) c.make_base.ensures)
+          (last g c) (rows_are g c) i.true_images;
+      rows = c.in_ok-end.ensures.runs.rows (rows_stays c.fill.ensures.stays (c.in_ok-begin.ensures.runs.rows i.rows));
+      tree_room = tree_room can c.take.new.self c.add_rows.new.tree _ _ _ c.take.ensures.rows c.in-Some.ensures.some c.add_rows.ensures.rows c.add_rows.ensures.spare i.tree_room;
+      attachment_room = let room = i.attachment_room in omega (arith, room, c.note_uses.ensures.room);
+    }
 
 pub returns-clause-images : goal.returns-clause-images
 returns-clause-images g c = rows_are g c

@@ -1,10 +1,7 @@
-use Rattle.std.proofs.Common.{◌≡◌, inl, ◌+◌, ◌*◌, ◌<◌, ◌≤◌, ◌∙◌, refl, sym, ap, subst, subst₂, arith}
+use Rattle.std.proofs.Common.{◌≡◌, inl, ◌∙◌, refl, ap, subst, arith}
 use Rattle.sm_base.specs.declared.sizes.Geometry.{Geometry}
-use Rattle.vg_volumes.proofs.StoredLaws.{rose_later, stays_none, stays_then}
-use Rattle.sm_mgt.proofs.ClearLaws.{on_err}
+use Rattle.vg_volumes.proofs.StoredLaws.{stays_none, stays_then}
 use Rattle.sm_machine.specs.declared.replies.Reply.TheVariants.{Done}
-use Rattle.sm_pool.specs.Buffers.{Buffers}
-use Rattle.vg_volumes.specs.Sites.{Site}
 use Rattle.sm_ready.specs.Does.{store_shape}
 use Rattle.sm_guests.proofs.FillBegun.{fill_begun}
 use Rattle.sm_guests.proofs.FillShapes.{reached_shape}
@@ -17,55 +14,32 @@ use Rattle.sm_guests.proofs.filling.fill_with.Goals as goal
 pub loop-done-init : goal.loop-done-init
 loop-done-init g c = record {
   stays = stays_none c.args.store.now;
-  orderly = c.requires.orderly;
-  tidy = c.requires.tidy;
-  true_now = c.requires.true_now;
+  session = c.requires.session;
+  steady = refl;
   shape = refl;
   beside_tree = beside_none c.args.memory.now;
-  pool = refl;
   fits = omega arith;
   aligned = inl refl;
-  filling = λ told ready. fill_begun g.S.Store c.args.store.now c.args.memory.now c.requires.orderly c.requires.usable told ready c.args.disk.now c.args.sector c.args.count c.args.byte
-      (g.met.S.Store.leaves_now c.args.store.now told c.requires.usable);
+  filling = λ told ready. fill_begun g.S.Store c.args.store.now c.args.memory.now c.requires.session.orderly c.requires.session.usable told ready c.args.disk.now c.args.sector c.args.count c.args.byte
+      (g.met.S.Store.leaves_now c.args.store.now told c.requires.session.usable);
 }
 
 pub overflow_add-at : goal.overflow_add-at
 overflow_add-at g c =
-    let few = few_sectors_to g.S.Store c.args.store.now c.args.memory.now c.args.disk.now c.args.sector c.args.count c.args.byte c.requires.orderly c.requires.allowed in
+    let few = few_sectors_to g.S.Store c.args.store.now c.args.memory.now c.args.disk.now c.args.sector c.args.count c.args.byte c.requires.session.orderly c.requires.allowed in
     omega (arith, few, c.loop-done-test.true)
 
-pub write-requires-clause-usable : goal.write-requires-clause-usable
-write-requires-clause-usable g c = c.loop-done.invariant.stays.failed ∙ c.requires.usable
-
-pub write-requires-clause-orderly : goal.write-requires-clause-orderly
-write-requires-clause-orderly g c = c.loop-done.invariant.orderly
-
-pub write-requires-clause-tidy : goal.write-requires-clause-tidy
-write-requires-clause-tidy g c = c.loop-done.invariant.tidy
-
-pub write-requires-clause-true_now : goal.write-requires-clause-true_now
-write-requires-clause-true_now g c = c.loop-done.invariant.true_now
+pub write-requires-clause-session : goal.write-requires-clause-session
+write-requires-clause-session g c = c.loop-done.invariant.session
 
 pub write-requires-clause-allowed : goal.write-requires-clause-allowed
 write-requires-clause-allowed g c =
-    turn_allowed g.S.Store c.args.store.now c.args.memory.now c.args.disk.now c.args.sector c.args.count c.args.byte c.requires.orderly c.requires.allowed
+    turn_allowed g.S.Store c.args.store.now c.args.memory.now c.args.disk.now c.args.sector c.args.count c.args.byte c.requires.session.orderly c.requires.allowed
     c.loop-done.store c.loop-done.memory c.loop-done.done c.loop-done.invariant.shape c.from-block.result c.min-few.result (c.from-block.ensures ∙ ap (λ (x : Geometry). x.block) c.geometry.ensures) c.loop-done-test.true c.min-few.ensures c.loop-done.invariant.aligned
     c.fill.new.self _ (c.fill.ensures.after (λ y h. h)) c.requires.long
 
-pub write-requires-clause-buffer : goal.write-requires-clause-buffer
-write-requires-clause-buffer g c =
-    let i = c.loop-done.invariant in
-    let site = ap (λ (s : Site). s.geometry.block) i.stays.site in
-    (subst (λ (p : Buffers). 0 < p.free) (sym i.pool) c.requires.buffer.0, subst₂ (λ k (p : Buffers). 512 * (1 + k) ≤ p.bytes) (sym site) (sym i.pool) c.requires.buffer.1)
-
 pub returns-in_err-write-clause-stays : goal.returns-in_err-write-clause-stays
 returns-in_err-write-clause-stays g c = stays_then c.loop-done.invariant.stays c.write.ensures.stays
-
-pub returns-in_err-write-clause-cause : goal.returns-in_err-write-clause-cause
-returns-in_err-write-clause-cause g c = on_err c.from_residual.result (rose_later c.loop-done.invariant.stays c.in_err-write.ensures.cause)
-
-pub returns-in_err-write-clause-pool : goal.returns-in_err-write-clause-pool
-returns-in_err-write-clause-pool g c = c.write.ensures.pool ∙ c.loop-done.invariant.pool
 
 pub returns-in_err-write-clause-beside_tree : goal.returns-in_err-write-clause-beside_tree
 returns-in_err-write-clause-beside_tree g c = beside_then _ _ _ c.loop-done.invariant.beside_tree c.write.ensures.beside_tree
@@ -74,9 +48,9 @@ pub returns-in_err-write-clause-taken : goal.returns-in_err-write-clause-taken
 returns-in_err-write-clause-taken g c = λ told ready.
     let i = c.loop-done.invariant in
     let filling = i.filling told ready in
-    turn_stopped g.S.Store c.args.store.now c.args.memory.now c.args.disk.now c.args.sector c.args.count c.args.byte c.requires.orderly c.requires.allowed
+    turn_stopped g.S.Store c.args.store.now c.args.memory.now c.args.disk.now c.args.sector c.args.count c.args.byte c.requires.session.orderly c.requires.allowed
     c.loop-done.store c.loop-done.memory c.loop-done.done i.shape c.from-block.result c.min-few.result (c.from-block.ensures ∙ ap (λ (x : Geometry). x.block) c.geometry.ensures) c.loop-done-test.true c.min-few.ensures i.aligned
-    c.fill.new.self _ (c.fill.ensures.after (λ y h. h)) c.requires.long c.requires.usable told ready filling i.stays.site c.write.new.store c.write.new.memory
+    c.fill.new.self _ (c.fill.ensures.after (λ y h. h)) c.requires.long c.requires.session.usable told ready filling i.stays.site c.write.new.store c.write.new.memory
     (answered Done c.write.result) (answered Done c.from_residual.result) (answered_err Done c.from_residual.result c.from_residual.ensures.0) (c.write.ensures.taken told filling.ready)
 
 pub loop-done-preserved : goal.loop-done-preserved
@@ -87,53 +61,42 @@ loop-done-preserved g c =
     let filled = c.fill.ensures.after (λ y h. h) in
     record {
       stays = stays_then i.stays c.write.ensures.stays;
-      orderly = e.orderly_still;
-      tidy = e.tidy_still;
-      true_now = e.true_still;
-      shape = turn_shape g.S.Store c.args.store.now c.args.memory.now c.args.disk.now c.args.sector c.args.count c.args.byte c.requires.orderly c.requires.allowed
+      session = e.session_still;
+      steady = e.cause.1 ∙ i.steady;
+      shape = turn_shape g.S.Store c.args.store.now c.args.memory.now c.args.disk.now c.args.sector c.args.count c.args.byte c.requires.session.orderly c.requires.allowed
           c.loop-done.store c.loop-done.memory c.loop-done.done i.shape c.from-block.result c.min-few.result block c.loop-done-test.true c.min-few.ensures i.aligned c.fill.new.self _ filled c.requires.long
-          c.write.new.store c.write.new.memory i.orderly e.shape;
+          c.write.new.store c.write.new.memory i.session.orderly e.shape;
       beside_tree = beside_then _ _ _ i.beside_tree c.write.ensures.beside_tree;
-      pool = c.write.ensures.pool ∙ i.pool;
-      fits = turn_within g.S.Store c.args.store.now c.args.memory.now c.args.disk.now c.args.sector c.args.count c.args.byte c.requires.orderly c.requires.allowed
+      fits = turn_within g.S.Store c.args.store.now c.args.memory.now c.args.disk.now c.args.sector c.args.count c.args.byte c.requires.session.orderly c.requires.allowed
           c.loop-done.store c.loop-done.memory c.loop-done.done i.shape c.from-block.result c.min-few.result block c.loop-done-test.true c.min-few.ensures i.aligned c.fill.new.self _ filled c.requires.long;
-      aligned = turn_aligned g.S.Store c.args.store.now c.args.memory.now c.args.disk.now c.args.sector c.args.count c.args.byte c.requires.orderly c.requires.allowed
+      aligned = turn_aligned g.S.Store c.args.store.now c.args.memory.now c.args.disk.now c.args.sector c.args.count c.args.byte c.requires.session.orderly c.requires.allowed
           c.loop-done.store c.loop-done.memory c.loop-done.done i.shape c.from-block.result c.min-few.result block c.loop-done-test.true c.min-few.ensures i.aligned c.fill.new.self _ filled c.requires.long;
       filling = λ told ready.
           let filling = i.filling told ready in
-          turn_told g.S.Store c.args.store.now c.args.memory.now c.args.disk.now c.args.sector c.args.count c.args.byte c.requires.orderly c.requires.allowed
+          turn_told g.S.Store c.args.store.now c.args.memory.now c.args.disk.now c.args.sector c.args.count c.args.byte c.requires.session.orderly c.requires.allowed
           c.loop-done.store c.loop-done.memory c.loop-done.done i.shape c.from-block.result c.min-few.result block c.loop-done-test.true c.min-few.ensures i.aligned c.fill.new.self _ filled c.requires.long
-          c.requires.usable told ready filling i.stays.site c.write.new.store c.write.new.memory c.write.ensures.stays.site (e.taken told filling.ready);
+          c.requires.session.usable told ready filling i.stays.site c.write.new.store c.write.new.memory c.write.ensures.stays.site (e.taken told filling.ready);
     }
 
 pub returns-clause-stays : goal.returns-clause-stays
 returns-clause-stays g c = c.loop-done.invariant.stays
 
-pub returns-clause-pool : goal.returns-clause-pool
-returns-clause-pool g c = c.loop-done.invariant.pool
-
 pub returns-clause-beside_tree : goal.returns-clause-beside_tree
 returns-clause-beside_tree g c = c.loop-done.invariant.beside_tree
 
-pub returns-clause-orderly_still : goal.returns-clause-orderly_still
-returns-clause-orderly_still g c = c.loop-done.invariant.orderly
-
-pub returns-clause-tidy_still : goal.returns-clause-tidy_still
-returns-clause-tidy_still g c = c.loop-done.invariant.tidy
-
-pub returns-clause-true_still : goal.returns-clause-true_still
-returns-clause-true_still g c = c.loop-done.invariant.true_now
+pub returns-clause-session_still : goal.returns-clause-session_still
+returns-clause-session_still g c = c.loop-done.invariant.session
 
 pub returns-clause-shape : goal.returns-clause-shape
 returns-clause-shape g c =
     let i = c.loop-done.invariant in
     let all : c.loop-done.done ≡ c.args.count = omega (arith, i.fits, c.loop-done-test.false) in
-    all_shaped g.S.Store c.args.store.now c.args.memory.now c.args.disk.now c.args.sector c.args.count c.args.byte c.requires.orderly c.requires.allowed c.loop-done.store c.loop-done.memory
+    all_shaped g.S.Store c.args.store.now c.args.memory.now c.args.disk.now c.args.sector c.args.count c.args.byte c.requires.session.orderly c.requires.allowed c.loop-done.store c.loop-done.memory
     (subst (λ k. store_shape g.S.Store c.loop-done.store c.loop-done.memory ≡ reached_shape (store_shape g.S.Store c.args.store.now c.args.memory.now) c.args.disk.now c.args.sector k) all i.shape)
 
 pub returns-clause-taken : goal.returns-clause-taken
 returns-clause-taken g c = λ told ready.
     let i = c.loop-done.invariant in
     let all : c.loop-done.done ≡ c.args.count = omega (arith, i.fits, c.loop-done-test.false) in
-    told_done g.S.Store c.args.store.now c.args.memory.now c.args.disk.now c.args.sector c.args.count c.args.byte c.requires.orderly c.requires.allowed c.requires.usable told ready c.loop-done.store c.loop-done.memory i.stays.site
+    told_done g.S.Store c.args.store.now c.args.memory.now c.args.disk.now c.args.sector c.args.count c.args.byte c.requires.session.orderly c.requires.allowed c.requires.session.usable told ready c.loop-done.store c.loop-done.memory i.stays.site
     (subst (λ k. IsFilling g.S.Store c.args.disk.now c.args.sector c.args.count c.args.byte c.args.store.now c.args.memory.now k c.loop-done.store c.loop-done.memory) all (i.filling told ready))

@@ -1,9 +1,9 @@
 use Rattle.std.proofs.Common.{◌≡◌, ◌≤◌, ◌-◌}
 use Rattle.vg_volumes.specs.Stored.{Stays}
 use Rattle.sm_ready.specs.Does.{store_shape}
-use Rattle.sm_ready.specs.Frames.{HasTrueImages}
-use Rattle.sm_ready.specs.Sessions.{IsOrderlyStore, IsTidyStore, IsReadyStore}
 use Rattle.sm_ready.specs.Frames.{IsBesideTree}
+use Rattle.sm_ready.specs.Framing.{IsBetweenSteps}
+use Rattle.sm_ready.specs.Sessions.{IsReadyStore}
 use Rattle.sm_guests.proofs.FillLoop.{IsAligned}
 use Rattle.sm_guests.proofs.FillShapes.{reached_shape}
 use Rattle.sm_guests.proofs.FillTaken.{IsFilling}
@@ -13,12 +13,10 @@ use Rattle.sm_guests.proofs.filling.fill_with.Given as goal
 abbrev pub invariant-loop-done : goal.invariant-loop-done
 invariant-loop-done g l = record {
   stays : Stays g.S.Store l.fn.store l.store;
-  orderly : IsOrderlyStore g.S.Store l.store l.memory;
-  tidy : IsTidyStore g.S.Store l.store l.memory;
-  true_now : HasTrueImages g.S.Store l.store l.memory;
+  session : IsBetweenSteps g.S.Store l.store l.memory;
+  steady : g.S.Store.faults l.store ≡ g.S.Store.faults l.fn.store;
   shape : store_shape g.S.Store l.store l.memory ≡ reached_shape (store_shape g.S.Store l.fn.store l.fn.memory) l.disk l.sector l.done;
   beside_tree : IsBesideTree l.fn.memory l.memory;
-  pool : l.pool ≡ l.fn.pool;
   fits : l.done ≤ l.count;
   aligned : IsAligned (g.S.Store.site l.fn.store).geometry.block l.sector l.done l.count;
   filling : g.S.Store.told → IsReadyStore g.S.Store l.fn.store l.fn.memory → IsFilling g.S.Store l.disk l.sector l.count l.byte l.fn.store l.fn.memory l.done l.store l.memory;

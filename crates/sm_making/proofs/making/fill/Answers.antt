@@ -1,13 +1,12 @@
-use Rattle.std.proofs.Common.{◌*◌, length, sym, ap, ap₂, ◌∙◌, subst, arith}
+use Rattle.std.proofs.Common.{◌*◌, length, refl, sym, ap, ap₂, ◌∙◌, subst, arith}
 use Rattle.sm_disk.specs.Held.{IsWhole, Torn, Wrote}
 use Rattle.vg_meta.specs.Roomy.{table_alone}
-use Rattle.vg_volumes.proofs.StoredLaws.{stays_from, size_stays, rose_later, writes_none, writes_then, writes_as, writes_from}
-use Rattle.sm_mgt.proofs.ClearLaws.{on_err}
+use Rattle.vg_volumes.proofs.StoredLaws.{stays_from, size_stays, writes_none, writes_then, writes_as, writes_from}
 use Rattle.sm_making.proofs.FillLaws.{whole_turn, fill_step, all_filled}
 use Rattle.sm_making.proofs.making.fill.Goals as goal
 
 pub loop-index-init : goal.loop-index-init
-loop-index-init g c = record { wrote = writes_none _ _ _ (λ h p below. absurd (omega (arith, below))) }
+loop-index-init g c = record { wrote = writes_none _ _ _ (λ h p below. absurd (omega (arith, below))); steady = refl }
 
 pub write-requires : goal.write-requires
 write-requires g c =
@@ -26,6 +25,7 @@ loop-index-preserved g c =
       wrote = writes_then (fill_step (g.S.Store.site c.args.store.now).geometry.extent c.loop-index.index at c.args.bytes.now
           (ap₂ (λ x y. x * y) c.from.ensures (c.from-extent.ensures ∙ ap (λ s. s.extent) c.geometry.ensures)) c.requires.bytes) c.loop-index.invariant.wrote
           (writes_from {Did = Wrote at c.args.bytes.now} (stays_from w.site w.table w.no_less w.counts w.beside) c.in_ok-write.ensures.wrote w.elsewhere);
+      steady = c.in_ok-write.ensures.cause.1 ∙ c.loop-index.invariant.steady;
     }
 
 pub returns-in_err-write-clause-writes : goal.returns-in_err-write-clause-writes
@@ -34,9 +34,6 @@ returns-in_err-write-clause-writes g c =
     let at = c.from.result * c.from-extent.result in
     writes_then (λ x y z p q. tt) c.loop-index.invariant.wrote
     (writes_from {Did = Torn at c.args.bytes.now} (stays_from w.site w.table w.no_less w.counts w.beside) w.torn w.elsewhere)
-
-pub returns-in_err-write-clause-cause : goal.returns-in_err-write-clause-cause
-returns-in_err-write-clause-cause g c = on_err c.from_residual.result (rose_later c.loop-index.invariant.wrote.stays c.in_err-write.ensures.cause)
 
 pub returns-clause-writes : goal.returns-clause-writes
 returns-clause-writes g c = writes_as (λ x y h. tt) c.loop-index.invariant.wrote

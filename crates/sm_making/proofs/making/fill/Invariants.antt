@@ -1,4 +1,4 @@
-use Rattle.std.proofs.Common.{◌*◌}
+use Rattle.std.proofs.Common.{◌≡◌, ◌*◌}
 use Rattle.vg_volumes.specs.Stored.{Writes}
 use Rattle.sm_making.specs.Stages.{HasZeros}
 use Rattle.sm_making.proofs.making.fill.Given as goal
@@ -7,4 +7,5 @@ use Rattle.sm_making.proofs.making.fill.Given as goal
 abbrev pub invariant-loop-index : goal.invariant-loop-index
 invariant-loop-index g l = record {
   wrote : Writes g.S.Store l.name (HasZeros (l.index * (g.S.Store.site l.fn.store).geometry.extent)) l.fn.store l.store;
+  steady : g.S.Store.faults l.store ≡ g.S.Store.faults l.fn.store;
 }

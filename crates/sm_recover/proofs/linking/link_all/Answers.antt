@@ -25,13 +25,13 @@ pub finish-requires-clause-planned : goal.finish-requires-clause-planned
 finish-requires-clause-planned g c = end_next g.S.Store c.args.child.now c.in_ok-link_children.ensures.some c.requires.links c.in_ok-link_children.ensures.none_left
 
 pub returns-in_err-finish-clause-beside : goal.returns-in_err-finish-clause-beside
-returns-in_err-finish-clause-beside g c = λ told. Keeps-then (c.link_children.ensures.beside told) (c.finish.ensures.beside told)
+returns-in_err-finish-clause-beside g c = λ told. Keeps-then (c.link_children.ensures.beside told) (c.finish.ensures.step.beside told)
 
 pub returns-in_err-finish-clause-few : goal.returns-in_err-finish-clause-few
-returns-in_err-finish-clause-few g c = omega (arith, ap (λ (t : VolumeTable). t.sequence) c.link_children.ensures.table, c.finish.ensures.few)
+returns-in_err-finish-clause-few g c = omega (arith, ap (λ (t : VolumeTable). t.sequence) c.link_children.ensures.table, c.finish.ensures.step.few)
 
 pub returns-in_err-finish-clause-few_left : goal.returns-in_err-finish-clause-few_left
-returns-in_err-finish-clause-few_left g c = λ told t image leaves. omega (arith, ap (λ (t : VolumeTable). t.sequence) c.link_children.ensures.table, c.finish.ensures.few_left told t image leaves)
+returns-in_err-finish-clause-few_left g c = λ told t image leaves. omega (arith, ap (λ (t : VolumeTable). t.sequence) c.link_children.ensures.table, c.finish.ensures.step.few_left told t image leaves)
 
 pub returns-in_err-finish-clause-crash : goal.returns-in_err-finish-clause-crash
 returns-in_err-finish-clause-crash g c = λ told t image leaves settled ready.
@@ -39,13 +39,13 @@ returns-in_err-finish-clause-crash g c = λ told t image leaves settled ready.
     links_stop g.S.Store c.finish.new.memory some told (g.met.S.Store.leaves_now c.link_children.new.store told some.usable) (c.finish.ensures.done told (some.ready told ready)) settled ready leaves
 
 pub returns-clause-beside : goal.returns-clause-beside
-returns-clause-beside g c = λ told. Keeps-then (c.link_children.ensures.beside told) (c.finish.ensures.beside told)
+returns-clause-beside g c = λ told. Keeps-then (c.link_children.ensures.beside told) (c.finish.ensures.step.beside told)
 
 pub returns-clause-few : goal.returns-clause-few
-returns-clause-few g c = omega (arith, ap (λ (t : VolumeTable). t.sequence) c.link_children.ensures.table, c.finish.ensures.few)
+returns-clause-few g c = omega (arith, ap (λ (t : VolumeTable). t.sequence) c.link_children.ensures.table, c.finish.ensures.step.few)
 
 pub returns-clause-few_left : goal.returns-clause-few_left
-returns-clause-few_left g c = λ told t image leaves. omega (arith, ap (λ (t : VolumeTable). t.sequence) c.link_children.ensures.table, c.finish.ensures.few_left told t image leaves)
+returns-clause-few_left g c = λ told t image leaves. omega (arith, ap (λ (t : VolumeTable). t.sequence) c.link_children.ensures.table, c.finish.ensures.step.few_left told t image leaves)
 
 pub returns-clause-crash : goal.returns-clause-crash
 returns-clause-crash g c = λ told t image leaves settled ready.
@@ -76,8 +76,8 @@ returns-clause-all g c =
       rest = λ told settled ready.
           let d = e.done told (some.ready told ready) in
           record {
-            ready = subst (λ z. IsReady z (table_alone (g.S.Store.table new)) (g.S.Store.area new) (known memory)) (sym e.site) (d.ready is);
+            ready = subst (λ z. IsReady z (table_alone (g.S.Store.table new)) (g.S.Store.area new) (known memory)) (sym e.step.site) (d.ready is);
             settled = d.settled is;
-            same_disks = ap (λ z. disks (content_now z (table_alone (g.S.Store.table new)) (g.S.Store.area new))) e.site ∙ d.shown is ∙ some.same_disks told settled ready;
+            same_disks = ap (λ z. disks (content_now z (table_alone (g.S.Store.table new)) (g.S.Store.area new))) e.step.site ∙ d.shown is ∙ some.same_disks told settled ready;
           };
     }

@@ -33,12 +33,12 @@ loop-name-preserved g c =
     let ok = c.in_ok-relink_one.ensures in
     let is : c.relink_one.result ≡ Ok tt = search rules in
     record {
-      site = e.site ∙ i.site;
-      counts = omega (arith, i.counts, e.counts);
+      site = e.step.site ∙ i.site;
+      calm = ok.cause.1 ∙ i.calm;
       usable = ok.usable_still;
       table = e.table ∙ i.table;
       room = λ had. ok.room (i.room had);
-      beside = λ told. Keeps-then (i.beside told) (e.beside told);
+      beside = λ told. Keeps-then (i.beside told) (e.step.beside told);
       settled = λ told was. ok.settled told;
       orderly = ok.orderly_still;
       true_images = ok.true_still;
@@ -51,9 +51,9 @@ loop-name-preserved g c =
       shape = subst (λ x. linked_on x (store_shape g.S.Store c.relink_one.new.store c.relink_one.new.memory) ≡ linked_on x (store_shape g.S.Store c.loop-name.store c.loop-name.memory)) i.operation
           (links_more g.S.Store c.loop-name.store c.loop-name.memory c.args.child.now c.in-Some.name i.orderly (subst (LinksPast c.args.child.now) (sym i.operation) c.requires.links)
           (sym c.in-Some.is ∙ c.least_child.ensures.first) c.relink_one.new.store c.relink_one.new.memory ok.shape) ∙ i.shape;
-      ready = λ told was. subst (λ z. IsReady z (table_alone (g.S.Store.table c.relink_one.new.store)) (g.S.Store.area c.relink_one.new.store) (known c.relink_one.new.memory)) (sym e.site) ((e.done told (i.ready told was)).ready is);
+      ready = λ told was. subst (λ z. IsReady z (table_alone (g.S.Store.table c.relink_one.new.store)) (g.S.Store.area c.relink_one.new.store) (known c.relink_one.new.memory)) (sym e.step.site) ((e.done told (i.ready told was)).ready is);
       same_disks = λ told was ready.
-          ap (λ z. disks (content_now z (table_alone (g.S.Store.table c.relink_one.new.store)) (g.S.Store.area c.relink_one.new.store))) e.site ∙ (e.done told (i.ready told ready)).shown is ∙ i.same_disks told was ready;
+          ap (λ z. disks (content_now z (table_alone (g.S.Store.table c.relink_one.new.store)) (g.S.Store.area c.relink_one.new.store))) e.step.site ∙ (e.done told (i.ready told ready)).shown is ∙ i.same_disks told was ready;
     }
 
 pub returns-in_err-relink_one-clause-crash : goal.returns-in_err-relink_one-clause-crash
@@ -67,4 +67,4 @@ returns-clause-crash g c = λ told t image leaves settled ready.
     links_rest g.S.Store i told (g.met.S.Store.leaves_now c.loop-name.store told i.usable) settled ready leaves
 
 pub returns-in_err-relink_one-clause-beside : goal.returns-in_err-relink_one-clause-beside
-returns-in_err-relink_one-clause-beside g c = λ told. Keeps-then (c.loop-name.invariant.beside told) (c.relink_one.ensures.beside told)
+returns-in_err-relink_one-clause-beside g c = λ told. Keeps-then (c.loop-name.invariant.beside told) (c.relink_one.ensures.step.beside told)

@@ -64,12 +64,14 @@ loop-index-preserved g c =
     omega (arith, c.loop-index-test.true, ap (λ (xs : List RoomyRow). length xs) c.volumes-count.ensures.volumes, ap (λ (k : RoomyTable). length k.rows) c.table.ensures.table) in
     let t = turn i.only c.requires.checked c.loop-index.index below in
     let only = reads_then i.only c.row_at.ensures.reads in
+    let calm = c.in_ok-found.ensures.calm (λ e. cc) ∙ i.calm in
     elim c.match-found.branch [
       | in-Some w ↦
           let found = if_some _ w.in-Some.is c.in_ok-found.ensures.some t.volume.row t.here in
           let row = row_kept_as i.only c.requires.checked t.volume.row w.in-Some.row found.1 in
           let same = ap (λ (z : Tree). z.rows) w.tree-is ∙ w.add.ensures.rows in
           record {
+            calm = calm;
             only = only;
             rows = subst (AreRowsOf (rows_alone (take (c.loop-index.index + 1) (read_rows (g.S.Store.table c.args.store.now))))) (sym same)
                 (rows_some t.item c.loop-index.tree.rows w.in-Some.row i.rows (filled_read (making (table_alone (g.S.Store.table c.args.store.now))) found.0) row.named row.hidden row.extents);
@@ -83,6 +85,7 @@ loop-index-preserved g c =
           let not_filled = if_none _ none c.in_ok-found.ensures.none t.volume.row t.here in
           let same = ap (λ (z : Tree). z.rows) w.tree-is in
           record {
+            calm = calm;
             only = only;
             rows = subst (AreRowsOf (rows_alone (take (c.loop-index.index + 1) (read_rows (g.S.Store.table c.args.store.now))))) (sym same)
                 (rows_none t.item c.loop-index.tree.rows i.rows (λ f. not_filled (read_filled (making (table_alone (g.S.Store.table c.args.store.now))) f)));

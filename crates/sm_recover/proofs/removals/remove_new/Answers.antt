@@ -1,4 +1,4 @@
-use Rattle.std.proofs.Common.{ap, refl, sym, ⊎_elim, ◌∙◌, subst, arith}
+use Rattle.std.proofs.Common.{ap, refl, sym, ⊎_elim, ◌∙◌, subst}
 use Rattle.sm_disk.proofs.HeldLaws.{Keeps-none, Keeps-then}
 use Rattle.vg_meta.specs.Roomy.{table_alone}
 use Rattle.vg_volumes.specs.Stored.{stored}
@@ -22,7 +22,7 @@ loop-name-smaller g c = removed_shorter _ _ c.in-Some.name (new_at c.in-Some.nam
 pub loop-name-init : goal.loop-name-init
 loop-name-init g c = record {
   site = refl;
-  counts = omega arith;
+  calm = refl;
   usable = c.requires.usable;
   checked = c.requires.checked;
   cleaned = refl;
@@ -47,7 +47,7 @@ loop-name-preserved g c =
     let cleaned = cleaned_more (table_alone (g.S.Store.table c.args.store.now)) now.table next.table n i.cleaned new table in
     record {
       site = e.site ∙ i.site;
-      counts = omega (arith, i.counts, e.counts);
+      calm = c.in_ok-commit.ensures.cause.1 ∙ i.calm;
       usable = c.in_ok-commit.ensures.changed.1;
       checked = checked;
       cleaned = cleaned;

@@ -1,4 +1,4 @@
-use Rattle.std.proofs.Common.{◌≡◌, ◌≤◌, false, length}
+use Rattle.std.proofs.Common.{◌≡◌, false, length}
 use Rattle.sm_disk.specs.Held.{Keeps}
 use Rattle.vg_meta.specs.Roomy.{table_alone}
 use Rattle.vg_volumes.specs.Stored.{stored}
@@ -14,7 +14,7 @@ use Rattle.sm_recover.proofs.removals.remove_new.Given as goal
 abbrev pub invariant-loop-name : goal.invariant-loop-name
 invariant-loop-name g l = record {
   site : g.S.Store.site l.store ≡ g.S.Store.site l.fn.store;
-  counts : g.S.Store.faults l.fn.store ≤ g.S.Store.faults l.store;
+  calm : g.S.Store.faults l.store ≡ g.S.Store.faults l.fn.store;
   usable : g.S.Store.failed l.store ≡ false;
   checked : IsChecked (g.S.Store.site l.fn.store) (table_alone (g.S.Store.table l.store));
   cleaned : cleaned (table_alone (g.S.Store.table l.store)) ≡ cleaned (table_alone (g.S.Store.table l.fn.store));

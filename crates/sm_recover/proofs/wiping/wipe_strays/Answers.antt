@@ -1,14 +1,14 @@
-use Rattle.std.proofs.Common.{◌≤◌, arith, inl, sym, subst}
+use Rattle.std.proofs.Common.{◌≤◌, arith, inl, refl, sym, ◌∙◌, subst}
 use Rattle.sm_base.specs.declared.names.Name.TheVariants.{Mgt as mgt_name}
-use Rattle.vg_volumes.proofs.StoredLaws.{writes_none, writes_then, size_stays, rose_later}
+use Rattle.vg_volumes.proofs.StoredLaws.{writes_none, writes_then, size_stays}
 use Rattle.sm_mgt.specs.Places.{place_count}
-use Rattle.sm_mgt.proofs.ClearLaws.{on_err}
 use Rattle.sm_standing.specs.Plain.{IsPlain}
 use Rattle.sm_ready.proofs.WipeLaws.{zeroed_step, right_more, freed_none, freed_then}
 use Rattle.sm_recover.proofs.wiping.wipe_strays.Goals as goal
 
 pub loop-place-init : goal.loop-place-init
 loop-place-init g c = record {
+  calm = refl;
   wrote = writes_none _ _ _ (λ h p v may. inl may);
   agrees = λ told was. was;
   freed = freed_none _ _;
@@ -27,6 +27,7 @@ loop-place-preserved g c =
     let i = c.loop-place.invariant in
     let table = i.wrote.stays.table in
     record {
+      calm = c.in_ok-wipe_stray.ensures.cause.1 ∙ i.calm;
       wrote = writes_then (zeroed_step c.args.mgt.now c.loop-place.mgt table i.freed) i.wrote c.wipe_stray.ensures.writes;
       agrees = λ told was. c.in_ok-wipe_stray.ensures.agrees told (i.agrees told was);
       freed = freed_then c.args.mgt.now c.loop-place.mgt c.wipe_stray.new.mgt table i.freed c.in_ok-wipe_stray.ensures.freed;
@@ -37,7 +38,3 @@ pub returns-in_err-wipe_stray-clause-writes : goal.returns-in_err-wipe_stray-cla
 returns-in_err-wipe_stray-clause-writes g c =
     let i = c.loop-place.invariant in
     writes_then (zeroed_step c.args.mgt.now c.loop-place.mgt i.wrote.stays.table i.freed) i.wrote c.wipe_stray.ensures.writes
-
-pub returns-in_err-wipe_stray-clause-cause : goal.returns-in_err-wipe_stray-clause-cause
-returns-in_err-wipe_stray-clause-cause g c =
-    on_err c.from_residual.result (rose_later c.loop-place.invariant.wrote.stays c.in_err-wipe_stray.ensures.cause)

@@ -21,10 +21,10 @@ planned g a m sizes extents t q same_sizes same_count same_table exact orderly t
 -- the images are few
 pub plan-plan-requires : goal.plan-plan-requires
 plan-plan-requires g c =
-    let few = few_rows (g.S.Store.site c.args.store.now) (table_alone (g.S.Store.table c.args.store.now)) (known c.args.memory.now) c.requires.orderly in
+    let few = few_rows (g.S.Store.site c.args.store.now) (table_alone (g.S.Store.table c.args.store.now)) (known c.args.memory.now) c.requires.session.orderly in
     omega (arith, few, c.requires.children)
 
 pub collect-requires-clause-planned : goal.collect-requires-clause-planned
 collect-requires-clause-planned g c =
     planned g.S.Store c.args.store.now c.args.memory.now c.geometry-geometry.result c.extents-extents.result c.table.result.now c.plan-plan.result c.geometry-geometry.ensures c.extents-extents.ensures.count c.table.ensures.table
-    c.plan-plan.ensures.exact c.requires.orderly c.requires.tidy
+    c.plan-plan.ensures.exact c.requires.session.orderly c.requires.session.tidy

@@ -6,13 +6,10 @@ use Rattle.sm_machine.specs.Shapes.{Shape}
 use Rattle.sm_machine.specs.Steps.{reply_to}
 use Rattle.sm_machine.specs.declared.replies.Reply.TheVariants.{Done}
 use Rattle.sm_clone.specs.Forking.{forking}
-use Rattle.sm_ready.specs.Does.{store_shape}
-use Rattle.sm_ready.specs.Known.{shape_in}
 use Rattle.sm_ready.specs.Sessions.{store_state}
-use Rattle.sm_ready.specs.declared.memory.Memory.{Memory}
 use Rattle.sm_ready.proofs.DoesLaws.{does_err, does_ok}
-use Rattle.sm_ready.proofs.FrameLaws.{true_reads}
 use Rattle.sm_ready.proofs.TakenLaws.{is_told, taken_poor}
+use Rattle.sm_session.proofs.CarryLaws.{between_poor}
 use Rattle.sm_session.proofs.forks.derive.Goals as goal
 
 pub returns-in-Ok-clause-refused : goal.returns-in-Ok-clause-refused
@@ -31,14 +28,14 @@ replied ds σ u twin false = refl
 
 pub returns-in-Ok-clause-taken : goal.returns-in-Ok-clause-taken
 returns-in-Ok-clause-taken g c = λ told ready.
-    does_ok (is_told g.S.Store c.args.store.now c.args.memory.now c.requires.orderly c.requires.usable told ready (g.met.S.Store.leaves_now c.args.store.now told c.requires.usable)) (forking c.args.disk.now c.args.twin.now c.args.read_only) c.fork.new.memory c.requires.allowed (c.fork.ensures.done told ready)
-    _ (sym (replied (store_state g.S.Store c.args.store.now c.args.memory.now).disks (store_state g.S.Store c.args.store.now c.args.memory.now).shape c.args.disk.now c.args.twin.now c.args.read_only)) c.in-Ok.is c.fork.ensures.site c.in-Ok.ensures.shape
-
-pub returns-in-Err-NoMemory-clause-true_still : goal.returns-in-Err-NoMemory-clause-true_still
-returns-in-Err-NoMemory-clause-true_still g c = let p = c.fork.ensures.poor (c.in-Err-NoMemory.is ∙ ap (λ f. Err f) c.in-Err-NoMemory.field-0-is) in true_reads g.S.Store c.args.memory.now c.fork.new.memory (ap (λ (x : Memory). x.tree.rows) p.2) p.0 c.requires.true_now
+    does_ok (is_told g.S.Store c.args.store.now c.args.memory.now c.requires.session.orderly c.requires.session.usable told ready (g.met.S.Store.leaves_now c.args.store.now told c.requires.session.usable)) (forking c.args.disk.now c.args.twin.now c.args.read_only) c.fork.new.memory c.requires.allowed (c.fork.ensures.done told ready)
+    _ (sym (replied (store_state g.S.Store c.args.store.now c.args.memory.now).disks (store_state g.S.Store c.args.store.now c.args.memory.now).shape c.args.disk.now c.args.twin.now c.args.read_only)) c.in-Ok.is c.fork.ensures.step.site c.in-Ok.ensures.shape
 
 pub returns-in-Err-NoMemory-clause-taken : goal.returns-in-Err-NoMemory-clause-taken
-returns-in-Err-NoMemory-clause-taken g c = λ told ready. let p = c.fork.ensures.poor (c.in-Err-NoMemory.is ∙ ap (λ f. Err f) c.in-Err-NoMemory.field-0-is) in taken_poor (is_told g.S.Store c.args.store.now c.args.memory.now c.requires.orderly c.requires.usable told ready (g.met.S.Store.leaves_now c.args.store.now told c.requires.usable)) (forking c.args.disk.now c.args.twin.now c.args.read_only) c.fork.new.memory p.0 p.1 p.2
+returns-in-Err-NoMemory-clause-taken g c = λ told ready. let p = c.fork.ensures.poor (c.in-Err-NoMemory.is ∙ ap (λ f. Err f) c.in-Err-NoMemory.field-0-is) in taken_poor (is_told g.S.Store c.args.store.now c.args.memory.now c.requires.session.orderly c.requires.session.usable told ready (g.met.S.Store.leaves_now c.args.store.now told c.requires.session.usable)) (forking c.args.disk.now c.args.twin.now c.args.read_only) c.fork.new.memory p.0 p.1 p.2
 
 pub returns-in-Err-Device-clause-taken : goal.returns-in-Err-Device-clause-taken
-returns-in-Err-Device-clause-taken g c = λ told ready. does_err (is_told g.S.Store c.args.store.now c.args.memory.now c.requires.orderly c.requires.usable told ready (g.met.S.Store.leaves_now c.args.store.now told c.requires.usable)) (forking c.args.disk.now c.args.twin.now c.args.read_only) c.fork.new.memory c.requires.allowed (c.fork.ensures.done told ready) _
+returns-in-Err-Device-clause-taken g c = λ told ready. does_err (is_told g.S.Store c.args.store.now c.args.memory.now c.requires.session.orderly c.requires.session.usable told ready (g.met.S.Store.leaves_now c.args.store.now told c.requires.session.usable)) (forking c.args.disk.now c.args.twin.now c.args.read_only) c.fork.new.memory c.requires.allowed (c.fork.ensures.done told ready) _
+
+pub returns-in-Err-NoMemory-clause-session_still : goal.returns-in-Err-NoMemory-clause-session_still
+returns-in-Err-NoMemory-clause-session_still g c = let p = c.fork.ensures.poor (c.in-Err-NoMemory.is ∙ ap (λ f. Err f) c.in-Err-NoMemory.field-0-is) in between_poor c.args.memory.now c.fork.new.memory p.0 p.2 c.requires.session

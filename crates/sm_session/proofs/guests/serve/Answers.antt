@@ -1,7 +1,6 @@
-use Rattle.std.proofs.Common.{◌≡◌, true, None, Ok, Err, refl, sym, ap, ◌∙◌, subst}
+use Rattle.std.proofs.Common.{arith, ◌≡◌, true, None, Ok, Err, refl, sym, ap, ◌∙◌, subst}
 use Rattle.std.proofs.lemmas.Bool.{true≢false}
 use Rattle.std.proofs.lemmas.Result.{err_from_is_err_and}
-use Rattle.vg_meta.specs.Roomy.{table_alone}
 use Rattle.sm_machine.specs.Refusals.{refusal}
 use Rattle.sm_base.specs.declared.refusals.Refusal.TheVariants.{NoMemory}
 use Rattle.sm_machine.specs.Runs.{is_accepted, takes_memory}
@@ -9,25 +8,15 @@ use Rattle.sm_machine.specs.Steps.{reply_to}
 use Rattle.sm_machine.specs.declared.commands.Command.TheVariants as command
 use Rattle.sm_machine.specs.declared.replies.Reply.TheVariants.{Done, No}
 use Rattle.sm_guests.specs.Taken.{answered}
+use Rattle.sm_guests.specs.Writing.{WritesOnly}
 use Rattle.sm_ready.specs.Does.{ShapesAs, StoreDoes, store_shape}
-use Rattle.sm_ready.specs.Frames.{HasCommits}
 use Rattle.sm_ready.specs.Sessions.{store_state}
-use Rattle.sm_ready.specs.declared.memory.Memory.{Memory}
 use Rattle.sm_ready.specs.Taken.{StoreTakes}
 use Rattle.sm_ready.proofs.DoesLaws.{does_err, does_ok}
-use Rattle.sm_ready.proofs.FrameLaws.{true_reads}
 use Rattle.sm_ready.proofs.TakenLaws.{is_told, taken_poor}
 use Rattle.sm_session.specs.Carrying.{most_commits}
-use Rattle.sm_session.proofs.CarryLaws.{not_guests, of_reply, stopped_at}
+use Rattle.sm_session.proofs.CarryLaws.{between_poor, no_write, not_guests, of_reply, one_write, steps_by, steps_stay, stopped_at}
 use Rattle.sm_session.proofs.guests.serve.Goals as goal
-
-pub returns-in-Ok-clause-few : goal.returns-in-Ok-clause-few
-unfolding most_commits
-returns-in-Ok-clause-few g c = subst (λ k. HasCommits (most_commits k) (table_alone (g.S.Store.table c.args.store.now)) (table_alone (g.S.Store.table c.attach.new.store))) (sym c.in-Attach.is) c.attach.ensures.few
-
-pub returns-in-Ok-clause-few_left : goal.returns-in-Ok-clause-few_left
-unfolding most_commits
-returns-in-Ok-clause-few_left g c = λ told t image l. subst (λ k. HasCommits (most_commits k) (table_alone (g.S.Store.table c.args.store.now)) t) (sym c.in-Attach.is) (c.attach.ensures.few_left told t image l)
 
 pub returns-in-Ok-clause-refused : goal.returns-in-Ok-clause-refused
 unfolding is_accepted
@@ -40,30 +29,19 @@ returns-in-Ok-clause-untouched g c = λ e. absurd (true≢false e)
 pub returns-in-Ok-clause-taken : goal.returns-in-Ok-clause-taken
 unfolding reply_to
 returns-in-Ok-clause-taken g c = λ told ready.
-    does_ok (is_told g.S.Store c.args.store.now c.args.memory.now c.requires.orderly c.requires.usable told ready (g.met.S.Store.leaves_now c.args.store.now told c.requires.usable)) c.args.command.now c.attach.new.memory c.requires.allowed (subst (λ k. StoreDoes g.S.Store k c.args.store.now c.args.memory.now c.attach.new.store c.attach.new.memory (c.attach.result ≡ Ok tt)) (sym c.in-Attach.is) (c.attach.ensures.done told ready))
-    _ (sym (ap (reply_to (store_state g.S.Store c.args.store.now c.args.memory.now).disks (store_state g.S.Store c.args.store.now c.args.memory.now).shape) c.in-Attach.is)) c.in-Ok.is c.attach.ensures.site (subst (λ k. ShapesAs g.S.Store k c.args.store.now c.args.memory.now c.attach.new.store c.attach.new.memory) (sym c.in-Attach.is) c.in-Ok.ensures.shape)
-
-pub returns-in-Err-NoMemory-clause-true_still : goal.returns-in-Err-NoMemory-clause-true_still
-returns-in-Err-NoMemory-clause-true_still g c = let p = c.attach.ensures.poor (c.in-Err-NoMemory.is ∙ ap (λ f. Err f) c.in-Err-NoMemory.field-0-is) in true_reads g.S.Store c.args.memory.now c.attach.new.memory (ap (λ (x : Memory). x.tree.rows) p.2) p.0 c.requires.true_now
+    does_ok (is_told g.S.Store c.args.store.now c.args.memory.now c.requires.session.orderly c.requires.session.usable told ready (g.met.S.Store.leaves_now c.args.store.now told c.requires.session.usable)) c.args.command.now c.attach.new.memory c.requires.allowed (subst (λ k. StoreDoes g.S.Store k c.args.store.now c.args.memory.now c.attach.new.store c.attach.new.memory (c.attach.result ≡ Ok tt)) (sym c.in-Attach.is) (c.attach.ensures.done told ready))
+    _ (sym (ap (reply_to (store_state g.S.Store c.args.store.now c.args.memory.now).disks (store_state g.S.Store c.args.store.now c.args.memory.now).shape) c.in-Attach.is)) c.in-Ok.is c.attach.ensures.step.site (subst (λ k. ShapesAs g.S.Store k c.args.store.now c.args.memory.now c.attach.new.store c.attach.new.memory) (sym c.in-Attach.is) c.in-Ok.ensures.shape)
 
 pub returns-in-Err-NoMemory-clause-taken : goal.returns-in-Err-NoMemory-clause-taken
-returns-in-Err-NoMemory-clause-taken g c = λ told ready. let p = c.attach.ensures.poor (c.in-Err-NoMemory.is ∙ ap (λ f. Err f) c.in-Err-NoMemory.field-0-is) in taken_poor (is_told g.S.Store c.args.store.now c.args.memory.now c.requires.orderly c.requires.usable told ready (g.met.S.Store.leaves_now c.args.store.now told c.requires.usable)) c.args.command.now c.attach.new.memory p.0 p.1 p.2
-
-pub returns-in-Err-Device-clause-few : goal.returns-in-Err-Device-clause-few
-unfolding most_commits
-returns-in-Err-Device-clause-few g c = subst (λ k. HasCommits (most_commits k) (table_alone (g.S.Store.table c.args.store.now)) (table_alone (g.S.Store.table c.attach.new.store))) (sym c.in-Attach.is) c.attach.ensures.few
-
-pub returns-in-Err-Device-clause-few_left : goal.returns-in-Err-Device-clause-few_left
-unfolding most_commits
-returns-in-Err-Device-clause-few_left g c = λ told t image l. subst (λ k. HasCommits (most_commits k) (table_alone (g.S.Store.table c.args.store.now)) t) (sym c.in-Attach.is) (c.attach.ensures.few_left told t image l)
+returns-in-Err-NoMemory-clause-taken g c = λ told ready. let p = c.attach.ensures.poor (c.in-Err-NoMemory.is ∙ ap (λ f. Err f) c.in-Err-NoMemory.field-0-is) in taken_poor (is_told g.S.Store c.args.store.now c.args.memory.now c.requires.session.orderly c.requires.session.usable told ready (g.met.S.Store.leaves_now c.args.store.now told c.requires.session.usable)) c.args.command.now c.attach.new.memory p.0 p.1 p.2
 
 pub returns-in-Err-Device-clause-taken : goal.returns-in-Err-Device-clause-taken
-returns-in-Err-Device-clause-taken g c = λ told ready. does_err (is_told g.S.Store c.args.store.now c.args.memory.now c.requires.orderly c.requires.usable told ready (g.met.S.Store.leaves_now c.args.store.now told c.requires.usable)) c.args.command.now c.attach.new.memory c.requires.allowed (subst (λ k. StoreDoes g.S.Store k c.args.store.now c.args.memory.now c.attach.new.store c.attach.new.memory (c.attach.result ≡ Ok tt)) (sym c.in-Attach.is) (c.attach.ensures.done told ready)) _
+returns-in-Err-Device-clause-taken g c = λ told ready. does_err (is_told g.S.Store c.args.store.now c.args.memory.now c.requires.session.orderly c.requires.session.usable told ready (g.met.S.Store.leaves_now c.args.store.now told c.requires.session.usable)) c.args.command.now c.attach.new.memory c.requires.allowed (subst (λ k. StoreDoes g.S.Store k c.args.store.now c.args.memory.now c.attach.new.store c.attach.new.memory (c.attach.result ≡ Ok tt)) (sym c.in-Attach.is) (c.attach.ensures.done told ready)) _
 
 pub returns-in_err-detach-in-Detach-clause-taken : goal.returns-in_err-detach-in-Detach-clause-taken
 returns-in_err-detach-in-Detach-clause-taken g c = λ told ready.
     let e = err_from_is_err_and c.from_residual.result c.from_residual.ensures.1 in
-    subst (λ r. StoreTakes g.S.Store c.args.command.now c.args.store.now c.args.memory.now c.detach.new.store c.detach.new.memory r) (sym e.1) (does_err (is_told g.S.Store c.args.store.now c.args.memory.now c.requires.orderly c.requires.usable told ready (g.met.S.Store.leaves_now c.args.store.now told c.requires.usable)) c.args.command.now c.detach.new.memory c.requires.allowed (subst (λ k. StoreDoes g.S.Store k c.args.store.now c.args.memory.now c.detach.new.store c.detach.new.memory (c.detach.result ≡ Ok tt)) (sym c.in-Detach.is) (c.detach.ensures.done told ready)) e.0)
+    subst (λ r. StoreTakes g.S.Store c.args.command.now c.args.store.now c.args.memory.now c.detach.new.store c.detach.new.memory r) (sym e.1) (does_err (is_told g.S.Store c.args.store.now c.args.memory.now c.requires.session.orderly c.requires.session.usable told ready (g.met.S.Store.leaves_now c.args.store.now told c.requires.session.usable)) c.args.command.now c.detach.new.memory c.requires.allowed (subst (λ k. StoreDoes g.S.Store k c.args.store.now c.args.memory.now c.detach.new.store c.detach.new.memory (c.detach.result ≡ Ok tt)) (sym c.in-Detach.is) (c.detach.ensures.done told ready)) e.0)
 
 pub returns-in_ok-detach-in-Detach-clause-refused : goal.returns-in_ok-detach-in-Detach-clause-refused
 unfolding is_accepted
@@ -76,8 +54,8 @@ returns-in_ok-detach-in-Detach-clause-untouched g c = λ e. absurd (true≢false
 pub returns-in_ok-detach-in-Detach-clause-taken : goal.returns-in_ok-detach-in-Detach-clause-taken
 unfolding reply_to
 returns-in_ok-detach-in-Detach-clause-taken g c = λ told ready.
-    does_ok (is_told g.S.Store c.args.store.now c.args.memory.now c.requires.orderly c.requires.usable told ready (g.met.S.Store.leaves_now c.args.store.now told c.requires.usable)) c.args.command.now c.detach.new.memory c.requires.allowed (subst (λ k. StoreDoes g.S.Store k c.args.store.now c.args.memory.now c.detach.new.store c.detach.new.memory (c.detach.result ≡ Ok tt)) (sym c.in-Detach.is) (c.detach.ensures.done told ready))
-    _ (sym (ap (reply_to (store_state g.S.Store c.args.store.now c.args.memory.now).disks (store_state g.S.Store c.args.store.now c.args.memory.now).shape) c.in-Detach.is)) c.in_ok-detach-in-Detach.was c.detach.ensures.site (subst (λ k. ShapesAs g.S.Store k c.args.store.now c.args.memory.now c.detach.new.store c.detach.new.memory) (sym c.in-Detach.is) c.in_ok-detach-in-Detach.ensures.shape)
+    does_ok (is_told g.S.Store c.args.store.now c.args.memory.now c.requires.session.orderly c.requires.session.usable told ready (g.met.S.Store.leaves_now c.args.store.now told c.requires.session.usable)) c.args.command.now c.detach.new.memory c.requires.allowed (subst (λ k. StoreDoes g.S.Store k c.args.store.now c.args.memory.now c.detach.new.store c.detach.new.memory (c.detach.result ≡ Ok tt)) (sym c.in-Detach.is) (c.detach.ensures.done told ready))
+    _ (sym (ap (reply_to (store_state g.S.Store c.args.store.now c.args.memory.now).disks (store_state g.S.Store c.args.store.now c.args.memory.now).shape) c.in-Detach.is)) c.in_ok-detach-in-Detach.was c.detach.ensures.stays.site (subst (λ k. ShapesAs g.S.Store k c.args.store.now c.args.memory.now c.detach.new.store c.detach.new.memory) (sym c.in-Detach.is) c.in_ok-detach-in-Detach.ensures.shape)
 
 pub returns-in_err-write-in-Write-clause-taken : goal.returns-in_err-write-in-Write-clause-taken
 returns-in_err-write-in-Write-clause-taken g c = λ told ready.
@@ -116,7 +94,7 @@ returns-in_ok-fill-in-Fill-clause-taken g c = λ told ready.
 pub returns-in_err-flush-in-Flush-clause-taken : goal.returns-in_err-flush-in-Flush-clause-taken
 returns-in_err-flush-in-Flush-clause-taken g c = λ told ready.
     let e = err_from_is_err_and c.from_residual-in_err-flush-in-Flush.result c.from_residual-in_err-flush-in-Flush.ensures.1 in
-    subst (λ r. StoreTakes g.S.Store c.args.command.now c.args.store.now c.args.memory.now c.flush.new.store c.args.memory.now r) (sym e.1) (stopped_at g.S.Store c.args.store.now c.flush.new.store c.args.memory.now c.args.memory.now c.args.command.now _ e.0 ((subst (λ k. StoreTakes g.S.Store k c.args.store.now c.args.memory.now c.flush.new.store c.args.memory.now (answered Done c.flush.result)) (sym c.in-Flush.is) (c.flush.ensures.taken told c.args.memory.now c.in-Flush.disk c.requires.orderly ready (subst (λ k. refusal (store_shape g.S.Store c.args.store.now c.args.memory.now) k ≡ None) c.in-Flush.is c.requires.allowed)))))
+    subst (λ r. StoreTakes g.S.Store c.args.command.now c.args.store.now c.args.memory.now c.flush.new.store c.args.memory.now r) (sym e.1) (stopped_at g.S.Store c.args.store.now c.flush.new.store c.args.memory.now c.args.memory.now c.args.command.now _ e.0 ((subst (λ k. StoreTakes g.S.Store k c.args.store.now c.args.memory.now c.flush.new.store c.args.memory.now (answered Done c.flush.result)) (sym c.in-Flush.is) (c.flush.ensures.taken told c.args.memory.now c.in-Flush.disk c.requires.session.orderly ready (subst (λ k. refusal (store_shape g.S.Store c.args.store.now c.args.memory.now) k ≡ None) c.in-Flush.is c.requires.allowed)))))
 
 pub returns-in_ok-flush-in-Flush-clause-refused : goal.returns-in_ok-flush-in-Flush-clause-refused
 unfolding is_accepted
@@ -128,7 +106,7 @@ returns-in_ok-flush-in-Flush-clause-untouched g c = λ e. absurd (true≢false e
 
 pub returns-in_ok-flush-in-Flush-clause-taken : goal.returns-in_ok-flush-in-Flush-clause-taken
 returns-in_ok-flush-in-Flush-clause-taken g c = λ told ready.
-    subst (λ r. StoreTakes g.S.Store c.args.command.now c.args.store.now c.args.memory.now c.flush.new.store c.args.memory.now (answered Done r)) c.in_ok-flush-in-Flush.was ((subst (λ k. StoreTakes g.S.Store k c.args.store.now c.args.memory.now c.flush.new.store c.args.memory.now (answered Done c.flush.result)) (sym c.in-Flush.is) (c.flush.ensures.taken told c.args.memory.now c.in-Flush.disk c.requires.orderly ready (subst (λ k. refusal (store_shape g.S.Store c.args.store.now c.args.memory.now) k ≡ None) c.in-Flush.is c.requires.allowed))))
+    subst (λ r. StoreTakes g.S.Store c.args.command.now c.args.store.now c.args.memory.now c.flush.new.store c.args.memory.now (answered Done r)) c.in_ok-flush-in-Flush.was ((subst (λ k. StoreTakes g.S.Store k c.args.store.now c.args.memory.now c.flush.new.store c.args.memory.now (answered Done c.flush.result)) (sym c.in-Flush.is) (c.flush.ensures.taken told c.args.memory.now c.in-Flush.disk c.requires.session.orderly ready (subst (λ k. refusal (store_shape g.S.Store c.args.store.now c.args.memory.now) k ≡ None) c.in-Flush.is c.requires.allowed))))
 
 pub returns-in-Read-clause-taken : goal.returns-in-Read-clause-taken
 returns-in-Read-clause-taken g c = λ told ready.
@@ -144,3 +122,85 @@ returns-in-Err-NoMemory-clause-spared g c = λ e. subst (λ k. takes_memory k �
 pub returns-in-Read-clause-spared : goal.returns-in-Read-clause-spared
 unfolding takes_memory
 returns-in-Read-clause-spared g c = of_reply (λ r. r ≡ No NoMemory → takes_memory c.args.command.now ≡ true) c.read.result (λ r e. subst (λ k. takes_memory k ≡ true) (sym c.in-Read.is) refl)
+
+pub returns-in-Ok-clause-step : goal.returns-in-Ok-clause-step
+unfolding most_commits
+returns-in-Ok-clause-step g c = steps_by c.args.command.now _ 4 c.in-Attach.is (omega arith) c.attach.ensures.step
+
+pub returns-in-Err-NoMemory-clause-step : goal.returns-in-Err-NoMemory-clause-step
+unfolding most_commits
+returns-in-Err-NoMemory-clause-step g c = steps_by c.args.command.now _ 4 c.in-Attach.is (omega arith) c.attach.ensures.step
+
+pub returns-in-Err-Device-clause-step : goal.returns-in-Err-Device-clause-step
+unfolding most_commits
+returns-in-Err-Device-clause-step g c = steps_by c.args.command.now _ 4 c.in-Attach.is (omega arith) c.attach.ensures.step
+
+pub returns-in-Err-NoMemory-clause-session_still : goal.returns-in-Err-NoMemory-clause-session_still
+returns-in-Err-NoMemory-clause-session_still g c = let p = c.attach.ensures.poor (c.in-Err-NoMemory.is ∙ ap (λ f. Err f) c.in-Err-NoMemory.field-0-is) in between_poor c.args.memory.now c.attach.new.memory p.0 p.2 c.requires.session
+
+pub returns-in_err-detach-in-Detach-clause-step : goal.returns-in_err-detach-in-Detach-clause-step
+returns-in_err-detach-in-Detach-clause-step g c = steps_stay (most_commits c.args.command.now) (λ told usable t image. g.met.S.Store.leaves_now c.detach.new.store told usable t image) c.requires.session.usable c.detach.ensures.stays
+
+pub returns-in_ok-detach-in-Detach-clause-step : goal.returns-in_ok-detach-in-Detach-clause-step
+returns-in_ok-detach-in-Detach-clause-step g c = steps_stay (most_commits c.args.command.now) (λ told usable t image. g.met.S.Store.leaves_now c.detach.new.store told usable t image) c.requires.session.usable c.detach.ensures.stays
+
+pub returns-in_err-write-in-Write-clause-step : goal.returns-in_err-write-in-Write-clause-step
+returns-in_err-write-in-Write-clause-step g c = steps_stay (most_commits c.args.command.now) (λ told usable t image. g.met.S.Store.leaves_now c.write.new.store told usable t image) c.requires.session.usable c.write.ensures.stays
+
+pub returns-in_ok-write-in-Write-clause-step : goal.returns-in_ok-write-in-Write-clause-step
+returns-in_ok-write-in-Write-clause-step g c = steps_stay (most_commits c.args.command.now) (λ told usable t image. g.met.S.Store.leaves_now c.write.new.store told usable t image) c.requires.session.usable c.write.ensures.stays
+
+pub returns-in_err-fill-in-Fill-clause-step : goal.returns-in_err-fill-in-Fill-clause-step
+returns-in_err-fill-in-Fill-clause-step g c = steps_stay (most_commits c.args.command.now) (λ told usable t image. g.met.S.Store.leaves_now c.fill.new.store told usable t image) c.requires.session.usable c.fill.ensures.stays
+
+pub returns-in_ok-fill-in-Fill-clause-step : goal.returns-in_ok-fill-in-Fill-clause-step
+returns-in_ok-fill-in-Fill-clause-step g c = steps_stay (most_commits c.args.command.now) (λ told usable t image. g.met.S.Store.leaves_now c.fill.new.store told usable t image) c.requires.session.usable c.fill.ensures.stays
+
+pub returns-in_err-flush-in-Flush-clause-step : goal.returns-in_err-flush-in-Flush-clause-step
+returns-in_err-flush-in-Flush-clause-step g c = steps_stay (most_commits c.args.command.now) (λ told usable t image. g.met.S.Store.leaves_now c.flush.new.store told usable t image) c.requires.session.usable c.flush.ensures.stays
+
+pub returns-in_ok-flush-in-Flush-clause-step : goal.returns-in_ok-flush-in-Flush-clause-step
+returns-in_ok-flush-in-Flush-clause-step g c = steps_stay (most_commits c.args.command.now) (λ told usable t image. g.met.S.Store.leaves_now c.flush.new.store told usable t image) c.requires.session.usable c.flush.ensures.stays
+
+pub returns-in-Read-clause-step : goal.returns-in-Read-clause-step
+returns-in-Read-clause-step g c = steps_stay (most_commits c.args.command.now) (λ told usable t image. g.met.S.Store.leaves_now c.read.new.store told usable t image) c.requires.session.usable c.read.ensures.reads_only.stays
+
+pub returns-in-Ok-clause-writes : goal.returns-in-Ok-clause-writes
+returns-in-Ok-clause-writes g c = no_write _ c.args.command.now _ c.in-Attach.is refl
+
+pub returns-in-Err-NoMemory-clause-writes : goal.returns-in-Err-NoMemory-clause-writes
+returns-in-Err-NoMemory-clause-writes g c = no_write _ c.args.command.now _ c.in-Attach.is refl
+
+pub returns-in-Err-Device-clause-writes : goal.returns-in-Err-Device-clause-writes
+returns-in-Err-Device-clause-writes g c = no_write _ c.args.command.now _ c.in-Attach.is refl
+
+pub returns-in_err-detach-in-Detach-clause-writes : goal.returns-in_err-detach-in-Detach-clause-writes
+returns-in_err-detach-in-Detach-clause-writes g c = no_write _ c.args.command.now _ c.in-Detach.is refl
+
+pub returns-in_ok-detach-in-Detach-clause-writes : goal.returns-in_ok-detach-in-Detach-clause-writes
+returns-in_ok-detach-in-Detach-clause-writes g c = no_write _ c.args.command.now _ c.in-Detach.is refl
+
+pub returns-in_err-fill-in-Fill-clause-writes : goal.returns-in_err-fill-in-Fill-clause-writes
+returns-in_err-fill-in-Fill-clause-writes g c = no_write _ c.args.command.now _ c.in-Fill.is refl
+
+pub returns-in_ok-fill-in-Fill-clause-writes : goal.returns-in_ok-fill-in-Fill-clause-writes
+returns-in_ok-fill-in-Fill-clause-writes g c = no_write _ c.args.command.now _ c.in-Fill.is refl
+
+pub returns-in_err-flush-in-Flush-clause-writes : goal.returns-in_err-flush-in-Flush-clause-writes
+returns-in_err-flush-in-Flush-clause-writes g c = no_write _ c.args.command.now _ c.in-Flush.is refl
+
+pub returns-in_ok-flush-in-Flush-clause-writes : goal.returns-in_ok-flush-in-Flush-clause-writes
+returns-in_ok-flush-in-Flush-clause-writes g c = no_write _ c.args.command.now _ c.in-Flush.is refl
+
+pub returns-in-Read-clause-writes : goal.returns-in-Read-clause-writes
+returns-in-Read-clause-writes g c = no_write _ c.args.command.now _ c.in-Read.is refl
+
+pub returns-in_err-write-in-Write-clause-writes : goal.returns-in_err-write-in-Write-clause-writes
+returns-in_err-write-in-Write-clause-writes g c = λ u sector bytes is.
+    one_write (λ v from put. WritesOnly g.S.Store c.args.memory.now v from put c.args.store.now c.write.new.store) c.in-Write.disk c.in-Write.sector c.in-Write.bytes u sector bytes (sym c.in-Write.is ∙ is)
+    (subst (λ b. WritesOnly g.S.Store c.args.memory.now c.in-Write.disk c.in-Write.sector b c.args.store.now c.write.new.store) (c.deref.ensures.value ∙ c.bytes.view_is) c.write.ensures.writes)
+
+pub returns-in_ok-write-in-Write-clause-writes : goal.returns-in_ok-write-in-Write-clause-writes
+returns-in_ok-write-in-Write-clause-writes g c = λ u sector bytes is.
+    one_write (λ v from put. WritesOnly g.S.Store c.args.memory.now v from put c.args.store.now c.write.new.store) c.in-Write.disk c.in-Write.sector c.in-Write.bytes u sector bytes (sym c.in-Write.is ∙ is)
+    (subst (λ b. WritesOnly g.S.Store c.args.memory.now c.in-Write.disk c.in-Write.sector b c.args.store.now c.write.new.store) (c.deref.ensures.value ∙ c.bytes.view_is) c.write.ensures.writes)

@@ -1,20 +1,30 @@
-use Rattle.std.proofs.Common.{refl}
-use Rattle.sm_disk.proofs.HeldLaws.{Keeps-then}
+use Rattle.std.proofs.Common.{◌∙◌, arith}
 use Rattle.vg_volumes.specs.Stored.{Stored}
 use Rattle.sm_standing.specs.Standing.{disks}
 use Rattle.sm_ready.specs.Stores.{content_now}
 use Rattle.sm_ready.proofs.ChainLaws.{done_behind, ready_read}
-use Rattle.sm_ready.proofs.FrameLaws.{true_reads}
+use Rattle.sm_ready.proofs.FramingLaws.{more_steps, reads_between, stays_steps, then_steps}
 use Rattle.sm_space.proofs.InflatingLaws.{only_read}
 use Rattle.sm_space.proofs.inflating.inflate.Goals as goal
+
+pub returns-in_default-clause-step : goal.returns-in_default-clause-step
+returns-in_default-clause-step g c =
+    let r = c.plan_growth.ensures.reads.stays in
+    more_steps (omega arith) (stays_steps r (λ told. g.met.S.Store.leaves_now c.plan_growth.new.store told (r.failed ∙ c.requires.session.usable)))
 
 pub returns-in_default-clause-done : goal.returns-in_default-clause-done
 returns-in_default-clause-done g c = λ told ready.
     let e = c.plan_growth.ensures in
-    only_read c.args.memory.now c.requires.orderly c.requires.usable told ready (g.met.S.Store.leaves_now c.args.store.now told c.requires.usable) e.reads e.same.1 e.leaves _ _ (λ fine. absurd (let x = fine in cc))
+    let s = c.requires.session in
+    only_read c.args.memory.now s.orderly s.usable told ready (g.met.S.Store.leaves_now c.args.store.now told s.usable) e.reads e.same.1 e.leaves _ _ (λ fine. absurd (let x = fine in cc))
 
-pub returns-in_default-enlarge-clause-beside : goal.returns-in_default-enlarge-clause-beside
-returns-in_default-enlarge-clause-beside g c = λ told. Keeps-then (c.plan_growth.ensures.reads.stays.beside told) (c.enlarge.ensures.beside told)
+pub enlarge-requires-clause-session : goal.enlarge-requires-clause-session
+enlarge-requires-clause-session g c = reads_between c.args.memory.now c.plan_growth.ensures.reads c.requires.session
+
+pub returns-in_default-enlarge-clause-step : goal.returns-in_default-enlarge-clause-step
+returns-in_default-enlarge-clause-step g c =
+    let r = c.plan_growth.ensures.reads.stays in
+    then_steps (stays_steps r (λ told. g.met.S.Store.leaves_now c.plan_growth.new.store told (r.failed ∙ c.requires.session.usable))) c.enlarge.ensures.step
 
 pub returns-in_default-enlarge-clause-done : goal.returns-in_default-enlarge-clause-done
 returns-in_default-enlarge-clause-done g c = λ told ready.
@@ -22,17 +32,13 @@ returns-in_default-enlarge-clause-done g c = λ told ready.
     done_behind _ (λ (x : Stored). disks (content_now x.site x.table x.area)) e.reads e.same.1 e.leaves (λ fine. absurd (let x = fine in cc))
     (c.enlarge.ensures.done told (ready_read c.args.memory.now e.reads e.same.1 ready))
 
-pub returns-clause-beside : goal.returns-clause-beside
-returns-clause-beside g c = λ told. Keeps-then (c.plan_growth.ensures.reads.stays.beside told) (c.enlarge.ensures.beside told)
+pub returns-clause-step : goal.returns-clause-step
+returns-clause-step g c =
+    let r = c.plan_growth.ensures.reads.stays in
+    then_steps (stays_steps r (λ told. g.met.S.Store.leaves_now c.plan_growth.new.store told (r.failed ∙ c.requires.session.usable))) c.enlarge.ensures.step
 
 pub returns-clause-done : goal.returns-clause-done
 returns-clause-done g c = λ told ready.
     let e = c.plan_growth.ensures in
     done_behind _ (λ (x : Stored). disks (content_now x.site x.table x.area)) e.reads e.same.1 e.leaves (λ fine. c.in-Ok-enlarge.is)
     (c.enlarge.ensures.done told (ready_read c.args.memory.now e.reads e.same.1 ready))
-
-pub enlarge-requires-clause-true_now : goal.enlarge-requires-clause-true_now
-enlarge-requires-clause-true_now g c = true_reads g.S.Store c.args.memory.now c.args.memory.now refl c.plan_growth.ensures.reads c.requires.true_now
-
-pub returns-in_default-clause-true_poor : goal.returns-in_default-clause-true_poor
-returns-in_default-clause-true_poor g c = λ poor. true_reads g.S.Store c.args.memory.now c.args.memory.now refl c.plan_growth.ensures.reads c.requires.true_now
