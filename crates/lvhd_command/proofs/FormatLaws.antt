@@ -1,18 +1,20 @@
 -- What formatting did, from what its parts did.
-use Rattle.std.proofs.Common.{◌≡◌, ℕ, ◌+◌, ◌<◌, List, Some, Result, Ok, Err, is_err, cond, arith, sym, ap, subst, ◌∙◌}
+use Rattle.std.proofs.Common.{◌≡◌, ◌≢◌, ℕ, ◌+◌, ◌*◌, ◌<◌, List, Option, Some, Result, Ok, Err, is_err, cond, arith, sym, ap, subst, ◌∙◌}
 use Rattle.std.specs.Prelude.{⊤}
 use Rattle.sm_base.specs.Numbers.{IsGeometry}
 use Rattle.sm_base.specs.declared.faults.Failed.{Failed}
 use Rattle.sm_base.specs.declared.sizes.Geometry.{Geometry}
+use Rattle.sm_disk.specs.Held.{Held, Keeps}
 use Rattle.sm_disk.specs.Streams.{Adds}
 use Rattle.sm_script.specs.Pieces.{Writes}
 use Rattle.vg_layout.specs.Places.{extents_on, record_extents}
 use Rattle.vg_store.specs.Formats.{least_size}
+use Rattle.vg_store.specs.Groups.{beside_of}
 use Rattle.lvhd_command.specs.declared.statuses.Status.{Status}
 use Rattle.lvhd_command.specs.declared.statuses.Status.TheVariants.{Done, Refused, Sink}
 use Rattle.lvhd_command.specs.declared.words.Form.TheVariants.{Format}
 use Rattle.lvhd_command.specs.declared.words.Request.{Request}
-use Rattle.lvhd_command.specs.Formatting.{Sides, Asked, asked, HasSizes, HasFormatted, CannotFormat, IsFormattedLine, IsRefusalLine, IsCutLine, FormatDid}
+use Rattle.lvhd_command.specs.Formatting.{Sides, Asked, asked, HasSizes, HasFormatted, CannotFormat, KeepsBesideNew, IsFormattedLine, IsRefusalLine, IsCutLine, FormatDid}
 use Rattle.lvhd_command.specs.Formatting.CannotFormat.{bad_sizes, too_small}
 use Rattle.lvhd_command.specs.Formatting.IsRefusalLine.{by_size}
 use Rattle.lvhd_command.specs.Formatting.IsCutLine.{of_refusal, of_success}
@@ -22,7 +24,7 @@ use Rattle.lvhd_command.specs.Texts.{line_of, too_small_words, formatted_words}
 said_line : (s : Sides) (a : Asked) (line : List ℕ) (p : Result ⊤ Failed) (status to : Status) → Writes line s.had s.got s.sink_faults s.sink_faults_now p
     → to ≡ cond (is_err p) Sink status → (Adds s.had line s.got → FormatDid s a status) → IsCutLine s a line → FormatDid s a to
 said_line s a line (Ok v) status to w is done cut = subst (λ (x : Status). FormatDid s a x) (sym is) (done w.adds)
-said_line s a line (Err e) status to w is done cut = subst (λ (x : Status). FormatDid s a x) (sym is) (w.cause, (line, cut, w.front))
+said_line s a line (Err e) status to w is done cut = subst (λ (x : Status). FormatDid s a x) (sym is) (w.cause.0, (line, cut, w.front))
 
 pub said_refusal : (s : Sides) (a : Asked) (line : List ℕ) (p : Result ⊤ Failed) (to : Status) → Writes line s.had s.got s.sink_faults s.sink_faults_now p
     → to ≡ cond (is_err p) Sink Refused → s.Unchanged → IsRefusalLine s a line → FormatDid s a to
@@ -54,10 +56,28 @@ can_format size a g sizes large (too_small h other small) =
 pub cannot_as : (size : ℕ) (a b : Request) → a ≡ b → CannotFormat size (asked b) → CannotFormat size (asked a)
 cannot_as size a b same cannot = subst (λ (r : Request). CannotFormat size (asked r)) (sym same) cannot
 
+-- ---- what is no part of the repository, and the sink's count of faults
+
+-- the sizes are those of one geometry alone
+pub beside_sizes : (size : ℕ) (a : Asked) (g : Geometry) (old new : Held) → HasSizes a g
+    → Keeps (beside_of (extents_on size g.extent * g.extent) old) (beside_of (extents_on size g.extent * g.extent) new) → KeepsBesideNew size a old new
+beside_sizes size a g old new sizes k = λ h other.
+    let same : g.extent ≡ h.extent = omega (arith, sizes.extent, other.extent) in
+    subst (λ n. Keeps (beside_of (extents_on size n * n) old) (beside_of (extents_on size n * n) new)) same k
+
+-- a line that went out failed no call
+pub said_calm : (line : List ℕ) (had got : Option (List ℕ)) (before now : ℕ) (p : Result ⊤ Failed) (status to : Status) → Writes line had got before now p
+    → to ≡ cond (is_err p) Sink status → to ≢ Sink → now ≡ before
+said_calm line had got before now (Ok v) status to w is other = w.cause.1
+said_calm line had got before now (Err e) status to w is other = absurd (other is)
+
 -- ---- the words ask for one thing alone
 
 pub same_request : (a b : Request) → Some (Format a) ≡ Some (Format b) → a ≡ b
 same_request a b e = (let x = e in cc)
+
+pub beside_as : (size : ℕ) (a b : Request) (old new : Held) → a ≡ b → KeepsBesideNew size (asked a) old new → KeepsBesideNew size (asked b) old new
+beside_as size a b old new same k = subst (λ (r : Request). KeepsBesideNew size (asked r) old new) same k
 
 pub did_as : (s : Sides) (a b : Request) (status : Status) → a ≡ b → FormatDid s (asked a) status → FormatDid s (asked b) status
 did_as s a b status same did = subst (λ (r : Request). FormatDid s (asked r) status) same did

@@ -1,5 +1,5 @@
 -- What an opened device shows, and what a stop of it may show.
-use Rattle.std.proofs.Common.{◌≡◌, ◌⊎◌, inl, inr, ⊎_elim, ℕ, ◌+◌, ◌≤◌, List, None, Ok, refl, sym, ap, ap₂, subst, ◌∙◌, arith}
+use Rattle.std.proofs.Common.{◌≡◌, ◌≢◌, ◌⊎◌, inl, inr, ⊎_elim, ℕ, ◌+◌, List, None, Ok, refl, sym, ap, ap₂, subst, ◌∙◌, arith}
 use Rattle.std.proofs.Math.Path.{fun_ext}
 use Rattle.sm_base.specs.declared.faults.OpenFault.{OpenFault}
 use Rattle.sm_base.specs.declared.faults.OpenFault.TheVariants as fault
@@ -95,6 +95,12 @@ kept_well size h kept g on =
     let whole = subst IsKept (content_once size (reads h) g k.group on k.stands) k.kept in
     record { holding = whole.holding; linking = whole.linking }
 
+-- it is sound, as a read gives one of the images that the device allows
+pub kept_sound : (size : ℕ) (h : Held) → IsKeptDevice size h → IsSoundOn size (reads h)
+kept_sound size h kept =
+    let k = kept (reads h) (Allows-reads size h) in
+    record { group = k.group; stands = k.stands; sound = k.kept.sound }
+
 pub sound_entry : (size : ℕ) (h now : Held) (site : Site) (at : Pointer) (t : VolumeTable) → Keeps (area_of h) (area_of now) → StandsOn size (reads h) (standing site at t)
     → first_fault (content_now site t (area_of now)) ≡ None → IsSoundOn size (reads h)
 sound_entry size h now site at t k stands sound = record {
@@ -114,21 +120,21 @@ opened_entry size h now site at t made k stands is = record { group = standing s
 -- ---- refusals
 
 pub answer_as : (P Q : OpenFault → Type 0) (before now : ℕ) (e : OpenFault) → ((f : OpenFault) → P f → Q f) → IsAnswer P before now e → IsAnswer Q before now e
-answer_as P Q before now fault.NotARepository h a = h fault.NotARepository a
-answer_as P Q before now (fault.Unsupported v) h a = h (fault.Unsupported v) a
-answer_as P Q before now (fault.Damaged p) h a = h (fault.Damaged p) a
+answer_as P Q before now fault.NotARepository h a = (h fault.NotARepository a.0, a.1)
+answer_as P Q before now (fault.Unsupported v) h a = (h (fault.Unsupported v) a.0, a.1)
+answer_as P Q before now (fault.Damaged p) h a = (h (fault.Damaged p) a.0, a.1)
 answer_as P Q before now fault.Device h a = a
 answer_as P Q before now fault.NoMemory h a = a
 
-pub refused_content : (told : Type 0) (size : ℕ) (h now : Held) (site : Site) (at : Pointer) (t : VolumeTable) (first before after : ℕ) (e : OpenFault) → first ≤ before
+pub refused_content : (told : Type 0) (size : ℕ) (h now : Held) (site : Site) (at : Pointer) (t : VolumeTable) (first before after : ℕ) (e : OpenFault) → before ≡ first → (e ≢ fault.Device → after ≡ before)
     → (told → Keeps (area_of h) (area_of now)) → (told → StandsOn size (reads h) (standing site at t))
     → IsOpeningStopped told (content_now site t (area_of now)) before after e → IsAnswer (λ f. told → IsRefusedOn size (reads h) f) first after e
-refused_content told size h now site at t first before after (fault.Damaged p) counts k stands is = λ it.
-    by_content (standing site at t) p (stands it) (sym (ap first_fault (content_entry site t h now (k it))) ∙ is it)
-refused_content told size h now site at t first before after fault.Device counts k stands is = omega (arith, counts, is)
-refused_content told size h now site at t first before after fault.NoMemory counts k stands is = tt
-refused_content told size h now site at t first before after fault.NotARepository counts k stands is = absurd is
-refused_content told size h now site at t first before after (fault.Unsupported v) counts k stands is = absurd is
+refused_content told size h now site at t first before after (fault.Damaged p) before_is calm k stands is =
+    (λ it. by_content (standing site at t) p (stands it) (sym (ap first_fault (content_entry site t h now (k it))) ∙ is it), calm (λ failed. absurd cc) ∙ before_is)
+refused_content told size h now site at t first before after fault.Device before_is calm k stands is = omega (arith, before_is, is)
+refused_content told size h now site at t first before after fault.NoMemory before_is calm k stands is = calm (λ failed. absurd cc) ∙ before_is
+refused_content told size h now site at t first before after fault.NotARepository before_is calm k stands is = absurd is
+refused_content told size h now site at t first before after (fault.Unsupported v) before_is calm k stands is = absurd is
 
 -- ---- an opening that failed
 

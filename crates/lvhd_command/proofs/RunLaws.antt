@@ -5,6 +5,7 @@ use Rattle.std.specs.Prelude.{⊤}
 use Rattle.sm_base.specs.declared.faults.Failed.{Failed}
 use Rattle.sm_base.specs.declared.faults.OpenFault.{OpenFault}
 use Rattle.sm_base.specs.declared.faults.OpenFault.TheVariants as opening
+use Rattle.sm_base.specs.Kinds.{is_entry}
 use Rattle.sm_disk.specs.Held.{IsSettled, Held, Keeps, reads}
 use Rattle.sm_disk.proofs.HeldLaws.{Allows-keeps, Allows-reads, Keeps-none}
 use Rattle.sm_disk.specs.Streams.{Adds}
@@ -18,16 +19,18 @@ use Rattle.vg_layout.specs.Places.{area_place}
 use Rattle.vg_meta.specs.Tables.{VolumeTable}
 use Rattle.vg_store.specs.Groups.{LeavesGroup, area_of}
 use Rattle.vg_volumes.specs.Sites.{Site, area_size}
-use Rattle.sm_ready.specs.Known.{Known}
+use Rattle.sm_ready.specs.Known.{Known, entry_of, shape_in}
 use Rattle.sm_ready.specs.Orderly.{IsOrderly}
-use Rattle.sm_ready.specs.Ready.{IsReady}
-use Rattle.sm_ready.specs.Sessions.{KeepsAll}
+use Rattle.sm_ready.specs.Ready.{IsReady, IsTidy}
+use Rattle.sm_ready.specs.Sessions.{KeepsAll, state_in}
 use Rattle.sm_ready.specs.Stores.{Left, MayShow, content_in, content_now}
 use Rattle.sm_ready.proofs.RepairLaws.{ready_synced, same_left}
+use Rattle.sm_ready.proofs.StrayLaws.{law_state}
 use Rattle.sm_run.specs.Runs.{HasRun}
 use Rattle.sm_recover.specs.Repairs.{UnlessDeviceFailed}
 use Rattle.sm_run.specs.declared.runs.RunFault.{RunFault}
 use Rattle.sm_standing.specs.Devices.{Shows, content_of}
+use Rattle.sm_standing.specs.Entries.{names_in}
 use Rattle.sm_standing.specs.Shapes.{IsStateOf}
 use Rattle.sm_standing.specs.Standing.{disks}
 use Rattle.lvhd_command.specs.declared.statuses.Status.{Status}
@@ -58,25 +61,41 @@ run_as fewer at keeps r = record {
 
 -- ---- what a read gives at the end
 
+-- the machine's state is what stands, and the journal has the operation's own entry alone
+pub record IsStateWith (site : Site) (t : VolumeTable) (area : Held) (σ : State) : Type 0 where
+  pub state : IsStateOf (content_now site t area) σ
+  pub entries : names_in t is_entry ≡ entry_of σ.shape.op
+
+-- so it is of a session between two steps
+pub session_state : (site : Site) (t : VolumeTable) (area : Held) (m : Known) → IsOrderly site t m → IsTidy t m → IsReady site t area m → IsStateWith site t area (state_in site t area m)
+unfolding shape_in
+session_state site t area m o tidy ready = record { state = law_state site t area m o tidy ready; entries = o.entries }
+
 -- a session's table is the only one that a stop leaves
 abbrev pub IsOneTable : ℕ → Site → Held → VolumeTable → Type 0
 IsOneTable size site after t = (u : VolumeTable) (image : ℕ → List ℕ) → LeavesGroup size after (plate_at site) u image → u ≡ t
 
-reads_as : (size : ℕ) (site : Site) (held after : Held) (t : VolumeTable) (σ : State) → IsGivenBack size site held after → IsOneTable size site after t → IsStateOf (content_now site t (area_of held)) σ
+reads_as : (size : ℕ) (site : Site) (held after : Held) (t : VolumeTable) (σ : State) → IsGivenBack size site held after → IsOneTable size site after t → IsStateWith site t (area_of held) σ
     → ReadsAsState size after σ
-reads_as size site held after t σ back one state =
+reads_as size site held after t σ back one with =
+    let state = with.state in
     let s = back.stands (reads after) (Allows-reads size after) in
     let left : LeavesGroup size after (plate_at site) s.table (extents_in (reads after)) = record { whole = reads after; allowed = Allows-reads size after; pointer = s.pointer; stands = s.stands; sectors = λ q. refl } in
     let content : content_now site t (area_of held) ≡ content_of (standing site s.pointer s.table) (reads after)
     = ap₂ (λ (u : VolumeTable) (image : ℕ → List ℕ). content_in site u image) (sym (one s.table (extents_in (reads after)) left)) (fun_ext (λ q. sym (back.extents.reads q))) in
-    record { group = standing site s.pointer s.table; stands = s.stands; state = subst (λ c. IsStateOf c σ) content state }
+    record {
+      group = standing site s.pointer s.table;
+      stands = s.stands;
+      state = subst (λ c. IsStateOf c σ) content state;
+      entries = subst (λ (u : VolumeTable). names_in u is_entry ≡ entry_of σ.shape.op) (sym (one s.table (extents_in (reads after)) left)) with.entries;
+    }
 
 -- ---- the whole
 
 pub has_run : (s : RunSides) (status : Status) (site : Site) (t : VolumeTable) (held : Held) (start end : State) (result : Result ⊤ RunFault) (Ready : Type 0)
     → IsSoundOn s.size (reads s.old) → Shows s.size (reads s.old) start.disks → IsOpenedOn s.size (reads s.old) start.shape
     → HasRun start end result s.had_left s.left s.had_got s.got (MayShow site (LeavesGroup s.size held (plate_at site))) Ready (KeepsAll site (LeavesGroup s.size held (plate_at site)))
-    → IsGivenBack s.size site held s.new → (Ready → IsOneTable s.size site s.new t) → (Ready → IsStateOf (content_now site t (area_of held)) end) → EndsAs result s.size s.new end status
+    → IsGivenBack s.size site held s.new → (Ready → IsOneTable s.size site s.new t) → (Ready → IsStateWith site t (area_of held) end) → EndsAs result s.size s.new end status
     → plate_of s.size (reads s.old) ≡ Ok (plate_at site) → HasRunOn s status
 has_run s status site t held start end result Ready sound shown opened run back one state ends labelled =
     let always = back.stands in
@@ -99,8 +118,8 @@ has_run s status site t held start end result Ready sound shown opened run back 
 
 pub told_refusal : (e : OpenFault) (had got : Option (List ℕ)) (before now : ℕ) (p : Result ⊤ Failed) (status : Status) → Writes (line_of (fault_words e)) had got before now p
     → status ≡ cond (is_err p) Sink Refused → ToldOf e had got before now status
-told_refusal e had got before now (Ok v) status w is = subst (λ (x : Status). ToldOf e had got before now x) (sym is) w.adds
-told_refusal e had got before now (Err f) status w is = subst (λ (x : Status). ToldOf e had got before now x) (sym is) (w.cause, w.front)
+told_refusal e had got before now (Ok v) status w is = subst (λ (x : Status). ToldOf e had got before now x) (sym is) (w.cause.1, w.adds)
+told_refusal e had got before now (Err f) status w is = subst (λ (x : Status). ToldOf e had got before now x) (sym is) (w.cause.0, w.front)
 
 -- ---- the last sync, failed or not: a stop leaves no more, and reads give the same
 
@@ -135,7 +154,7 @@ shown_settled size site t held after m room o ready k settled back one = λ es o
 pub has_run_sized : (s : RunSides) (status : Status) (other : ℕ) (site : Site) (t : VolumeTable) (held : Held) (start end : State) (result : Result ⊤ RunFault) (Ready told : Type 0) (failed : Bool) → other ≡ s.size
     → IsSoundOn s.size (reads s.old) → Shows s.size (reads s.old) start.disks → IsOpenedOn s.size (reads s.old) start.shape
     → HasRun start end result s.had_left s.left s.had_got s.got (MayShow site (Left told site (LeavesGroup other held (plate_at site)) failed t (area_of held))) Ready (KeepsAll site (Left told site (LeavesGroup other held (plate_at site)) failed t (area_of held)))
-    → IsGivenBack other site held s.new → (Ready → IsOneTable other site s.new t) → (Ready → IsStateOf (content_now site t (area_of held)) end) → EndsAs result s.size s.new end status
+    → IsGivenBack other site held s.new → (Ready → IsOneTable other site s.new t) → (Ready → IsStateWith site t (area_of held) end) → EndsAs result s.size s.new end status
     → plate_of s.size (reads s.old) ≡ Ok (plate_at site) → HasRunOn s status
 has_run_sized s status other site t held start end result Ready told failed is_size sound shown opened run back one state ends labelled =
     let leaves = LeavesGroup other held (plate_at site) in
@@ -168,7 +187,7 @@ ends_early size new end result f status is status_is = subst (λ (r : Result ⊤
 -- ---- not opened
 
 told_said : (s : RunSides) (e : OpenFault) (before now : ℕ) (status : Status) → IsRefusedOn s.size (reads s.old) e → ToldOf e s.had_got s.got before now status → HasSaid s status
-told_said s e before now Refused is t = (e, is, t)
+told_said s e before now Refused is t = (e, is, t.1)
 told_said s e before now Sink is t = (e, is, t.1)
 told_said s e before now Device is t = absurd t
 told_said s e before now Memory is t = absurd t
@@ -185,9 +204,9 @@ pub said_refused : (s : RunSides) (e : OpenFault) (status : Status) (told : Type
     → IsAnswer (λ f. told → IsRefusedOn s.size (reads s.old) f) first last e → HasTold e s.had_got s.got before now status → HasSaid s status
 said_refused s opening.Device status told first last before now it a h = silent s status Device h.0 (λ x. x) h.1
 said_refused s opening.NoMemory status told first last before now it a h = silent s status Memory h.0 (λ x. x) h.1
-said_refused s opening.NotARepository status told first last before now it a h = told_said s opening.NotARepository before now status (a it) h.1
-said_refused s (opening.Unsupported v) status told first last before now it a h = told_said s (opening.Unsupported v) before now status (a it) h.1
-said_refused s (opening.Damaged p) status told first last before now it a h = told_said s (opening.Damaged p) before now status (a it) h.1
+said_refused s opening.NotARepository status told first last before now it a h = told_said s opening.NotARepository before now status (a.0 it) h.1
+said_refused s (opening.Unsupported v) status told first last before now it a h = told_said s (opening.Unsupported v) before now status (a.0 it) h.1
+said_refused s (opening.Damaged p) status told first last before now it a h = told_said s (opening.Damaged p) before now status (a.0 it) h.1
 
 -- ---- a device that is not opened
 
@@ -227,3 +246,36 @@ stayed_poor s source sink device = record {
   said = silent s Memory Memory refl (λ x. x) sink;
   untouched = subst (λ (h : Held). Keeps s.old h) (sym device) (Keeps-none s.old);
 }
+
+-- ---- the counts of faults
+
+-- unless the device failed, an opening that is refused failed no call
+pub refused_calm : (told : Type 0) (size : ℕ) (image : ℕ → List ℕ) (first last : ℕ) (e : OpenFault) (had got : Option (List ℕ)) (before now : ℕ) (status : Status) → IsAnswer (λ f. told → IsRefusedOn size image f) first last e → HasTold e had got before now status → status ≢ Device
+    → last ≡ first
+refused_calm told size image first last opening.Device had got before now status a h other = absurd (other h.0)
+refused_calm told size image first last opening.NoMemory had got before now status a h other = a
+refused_calm told size image first last opening.NotARepository had got before now status a h other = a.1
+refused_calm told size image first last (opening.Unsupported v) had got before now status a h other = a.1
+refused_calm told size image first last (opening.Damaged p) had got before now status a h other = a.1
+
+told_calm : (e : OpenFault) (had got : Option (List ℕ)) (before now : ℕ) (status : Status) → ToldOf e had got before now status → status ≢ Sink → now ≡ before
+told_calm e had got before now Refused t other = t.0
+told_calm e had got before now Sink t other = absurd (other refl)
+told_calm e had got before now Device t other = absurd t
+told_calm e had got before now Memory t other = absurd t
+told_calm e had got before now Done t other = absurd t
+told_calm e had got before now Words t other = absurd t
+told_calm e had got before now Source t other = absurd t
+told_calm e had got before now TooLong t other = absurd t
+
+-- and unless the sink failed, its line went out with no call that failed
+pub refused_sink_calm : (e : OpenFault) (had got : Option (List ℕ)) (before now : ℕ) (status : Status) → HasTold e had got before now status → status ≢ Sink → now ≡ before
+refused_sink_calm opening.Device had got before now status h other = h.2
+refused_sink_calm opening.NoMemory had got before now status h other = h.2
+refused_sink_calm opening.NotARepository had got before now status h other = told_calm opening.NotARepository had got before now status h.1 other
+refused_sink_calm (opening.Unsupported v) had got before now status h other = told_calm (opening.Unsupported v) had got before now status h.1 other
+refused_sink_calm (opening.Damaged p) had got before now status h other = told_calm (opening.Damaged p) had got before now status h.1 other
+
+-- a run that ended early with another status did not end so
+pub ended_not : (result : Result ⊤ RunFault) (f g : RunFault) (status : Status) → result ≡ Err f → status ≡ status_of (Err f) → status ≢ status_of (Err g) → result ≢ Err g
+ended_not result f g status is status_is other = λ ended. other (status_is ∙ ap status_of (sym is ∙ ended))

@@ -2,10 +2,11 @@
 use Rattle.std.specs.Prelude.{◌≡◌, ℕ, ◌+◌, ◌*◌, ◌<◌, List, [], Option}
 use Rattle.sm_base.specs.Numbers.{IsGeometry}
 use Rattle.sm_base.specs.declared.sizes.Geometry.{Geometry}
-use Rattle.sm_disk.specs.Held.{Held, Allows, IsSettled, Rose}
+use Rattle.sm_disk.specs.Held.{Held, Allows, IsSettled, Keeps, Rose}
 use Rattle.sm_disk.specs.Streams.{Adds, AddsFront}
 use Rattle.vg_layout.specs.Places.{extents_on, record_extents}
 use Rattle.vg_store.specs.Formats.{IsFormatted, IsLeftByFormat, least_size}
+use Rattle.vg_store.specs.Groups.{beside_of}
 use Rattle.lvhd_command.specs.declared.words.Request.{Request}
 use Rattle.lvhd_command.specs.declared.statuses.Status.{Status}
 use Rattle.lvhd_command.specs.declared.statuses.Status.TheVariants.{Done, Words, Device, Source, Sink, Refused, Memory, TooLong}
@@ -67,6 +68,11 @@ format_sides size told held faults got sink_faults disk disk' sink sink' = recor
 pub data CannotFormat (size : ℕ) (a : Asked) : Type 0 where
   bad_sizes : IsBadGeometry a → CannotFormat size a
   too_small : (g : Geometry) → HasSizes a g → size < least_size g.extent → CannotFormat size a
+
+-- of each place that is no part of a repository of these sizes a read gives the same, and a stop leaves nothing new
+abbrev pub KeepsBesideNew : ℕ → Asked → Held → Held → Type 0
+KeepsBesideNew size a old new = (g : Geometry) → HasSizes a g
+    → Keeps (beside_of (extents_on size g.extent * g.extent) old) (beside_of (extents_on size g.extent * g.extent) new)
 
 -- a new repository stands, and nothing is pending
 pub record HasFormatted (s : Sides) (a : Asked) (g : Geometry) : Type 0 where

@@ -3,6 +3,7 @@
 use Rattle.std.specs.Prelude.{◌≡◌, ◌≢◌, ◌≤◌, ◌⊎◌, ◌*◌, ℕ, List, [], ⊤, Option, Result, Ok, Err}
 use Rattle.sm_base.specs.declared.faults.OpenFault.{OpenFault}
 use Rattle.sm_base.specs.declared.faults.OpenFault.TheVariants as opening
+use Rattle.sm_base.specs.Kinds.{is_entry}
 use Rattle.sm_disk.specs.Held.{Held, Allows, IsSettled, Keeps, Rose, reads}
 use Rattle.sm_disk.specs.Streams.{Adds, AddsFront}
 use Rattle.sm_machine.specs.Disks.{Disk}
@@ -16,7 +17,9 @@ use Rattle.sm_run.specs.Runs.{HasRun}
 use Rattle.sm_run.specs.declared.runs.RunFault.{RunFault}
 use Rattle.sm_run.specs.declared.runs.RunFault.TheVariants as run
 use Rattle.sm_standing.specs.Devices.{Shows, content_of}
+use Rattle.sm_standing.specs.Entries.{names_in}
 use Rattle.sm_standing.specs.Shapes.{IsStateOf}
+use Rattle.sm_ready.specs.Known.{entry_of}
 use Rattle.lvhd_command.specs.declared.statuses.Status.{Status}
 use Rattle.lvhd_command.specs.declared.statuses.Status.TheVariants.{Done, Words, Device, Source, Sink, Refused, Memory, TooLong}
 use Rattle.lvhd_command.specs.Devices.{IsKeptDevice, MayShowOn, IsSoundOn, IsRefusedOn, IsOpenedOn, plate_at}
@@ -54,11 +57,13 @@ status_of (Err run.Source) = Source
 status_of (Err run.Sink) = Sink
 status_of (Err run.TooLong) = TooLong
 
--- a read gives the machine's state: its disks, and its shape but for attachments and operation
+-- a read gives the machine's state: its disks, and its shape but for attachments and operation; of the entries that a table
+-- may have the operation's own alone is there
 pub record ReadsAsState (size : ℕ) (h : Held) (σ : State) : Type 0 where
   pub group : GroupFound
   pub stands : StandsOn size (reads h) group
   pub state : IsStateOf (content_of group (reads h)) σ
+  pub entries : names_in group.table is_entry ≡ entry_of σ.shape.op
 
 -- a stop shows these disks and no others
 abbrev pub ShowsOnly : ℕ → Held → List Disk → Type 0
@@ -149,7 +154,7 @@ pub record HasStayed (s : RunSides) (status : Status) : Type 0 where
 
 -- the line of a refusal went out, or the sink failed at it
 abbrev pub ToldOf : OpenFault → Option (List ℕ) → Option (List ℕ) → ℕ → ℕ → Status → Type 0
-ToldOf e had got before now Refused = Adds had (line_of (fault_words e)) got
+ToldOf e had got before now Refused = (now ≡ before) × Adds had (line_of (fault_words e)) got
 ToldOf e had got before now Sink = Rose before now × AddsFront had (line_of (fault_words e)) got
 ToldOf e had got before now Device = ⊥
 ToldOf e had got before now Memory = ⊥

@@ -3,7 +3,7 @@
 ghost use Rattle.std.specs.Prelude.{◌≡◌, ◌≢◌, ◌≤◌, is_err, if◌then◌else◌};
 ghost use Rattle.lvhd_command.specs.declared.statuses.Status.TheVariants.{Device, Sink, Source, Words};
 ghost use Rattle.sm_disk.specs.Held.{Rose};
-ghost use Rattle.lvhd_command.specs.Formatting.{FormatDid, CannotFormat, asked, format_sides};
+ghost use Rattle.lvhd_command.specs.Formatting.{FormatDid, CannotFormat, KeepsBesideNew, asked, format_sides};
 
 use crate::statuses::Status;
 use crate::texts::{print_bad_geometry, print_formatted, print_too_small};
@@ -14,7 +14,7 @@ use std::alloc::Global;
 use vg_store::{FormatFault, Formatted, format};
 
 /// Makes a repository of a device, and says so, or says why not. Where none can be made the device is not touched, whatever
-/// the status.
+/// the status, and else what is no part of the repository is left as it is.
 pub fn run_format<D: Disk, K: Sink>(
     alloc: Global,
     disk: &mut D,
@@ -28,6 +28,9 @@ pub fn run_format<D: Disk, K: Sink>(
     ensures source { result ≢ Source }
     ensures device { result ≡ Device → Rose (D.faults disk.old) (D.faults disk.new) }
     ensures sink { result ≡ Sink → Rose (K.faults sink.old) (K.faults sink.new) }
+    ensures calm { result ≢ Device → D.faults disk.new ≡ D.faults disk.old }
+    ensures sink_calm { result ≢ Sink → K.faults sink.new ≡ K.faults sink.old }
+    ensures beside { D.told → KeepsBesideNew (D.size disk.old) (asked request.now) (D.held disk.old) (D.held disk.new) }
     ensures did { FormatDid (format_sides D.size D.told D.held D.faults K.content K.faults disk.old disk.new sink.old sink.new)
         (asked request.now) result }
     ensures cannot_format { CannotFormat (D.size disk.old) (asked request.now) → disk.new ≡ disk.old }

@@ -35,7 +35,7 @@ use vg_store::Group;
 /// the device failed nothing was written, and where a check fails nothing was written whatever the answer.
 pub fn open<D: Disk>(alloc: Global, disk: D, now: u32) -> Result<Session<Group<D>>, (OpenFault, D)>
     ensures size { IfOk result (λ s. D.size s.store.disk ≡ D.size disk) }
-    ensures counts { IfOk result (λ s. D.faults disk ≤ D.faults s.store.disk) }
+    ensures calm { IfOk result (λ s. D.faults s.store.disk ≡ D.faults disk) }
     ensures whole { IfOk result (λ s. s.broken ≡ false) }
     ensures now { IfOk result (λ s. s.now ≡ now) }
     ensures sound { IfOk result (λ s. D.told → IsSoundOn (D.size disk) (reads (D.held disk))) }

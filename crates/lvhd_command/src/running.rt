@@ -44,6 +44,9 @@ pub fn run_script<D: Disk, S: Source, K: Sink>(
     ensures device { result.0 ≡ Device → Rose (D.faults disk) (D.faults result.1) }
     ensures source { result.0 ≡ SourceFailed → Rose (S.faults source.old) (S.faults source.new) }
     ensures sink { result.0 ≡ SinkFailed → Rose (K.faults sink.old) (K.faults sink.new) }
+    ensures calm { result.0 ≢ Device → D.faults result.1 ≡ D.faults disk }
+    ensures source_calm { result.0 ≢ SourceFailed → S.faults source.new ≡ S.faults source.old }
+    ensures sink_calm { result.0 ≢ SinkFailed → K.faults sink.new ≡ K.faults sink.old }
     ensures did { D.told → IsKeptDevice (D.size disk) (D.held disk)
         → RunDid (sides D.size D.held S.content K.content disk result.1 source.old source.new sink.old sink.new) result.0 }
     ensures beside { D.told → KeepsBeside (D.size disk) (D.held disk) (D.held result.1) }
@@ -105,6 +108,7 @@ fn close<D: Disk>(session: Session<Group<D>>) -> (Status, D)
     ensures counts { D.faults session.store.disk ≤ D.faults result.1 }
     ensures status { ((result.0 ≡ Done) × (D.told → IsSettled (D.held result.1))) ⊎ (result.0 ≡ Device) }
     ensures device { result.0 ≡ Device → Rose (D.faults session.store.disk) (D.faults result.1) }
+    ensures calm { result.0 ≢ Device → D.faults result.1 ≡ D.faults session.store.disk }
     ensures keeps { D.told → Keeps (D.held session.store.disk) (D.held result.1) }
     ensures back { D.told → IsGivenBack (D.size session.store.disk) (site_on session.store.label (D.size session.store.disk)) (D.held session.store.disk) (D.held result.1) }
     ensures one { D.told → session.broken ≡ false → (t : VolumeTable) (image : ℕ → List ℕ) → LeavesGroup (D.size session.store.disk) (D.held result.1) (plate session.store.label) t image → t ≡ table_alone session.store.table }

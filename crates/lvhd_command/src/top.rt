@@ -1,13 +1,13 @@
 //! The whole program, over any device, source and sink.
 
-ghost use Rattle.std.specs.Prelude.{◌≡◌, ◌≤◌, ◌⊎◌, None, Some};
+ghost use Rattle.std.specs.Prelude.{◌≡◌, ◌≢◌, ◌≤◌, ◌⊎◌, None, Some};
 ghost use Rattle.sm_base.specs.declared.faults.OpenFault.{OpenFault};
 ghost use Rattle.sm_disk.specs.Held.{Rose, reads};
 ghost use Rattle.lvhd_command.specs.declared.statuses.Status.TheVariants as status;
 ghost use Rattle.lvhd_command.specs.declared.words.Form.TheVariants.{Format, Run};
 ghost use Rattle.lvhd_command.specs.declared.words.Request.{Request};
-ghost use Rattle.lvhd_command.specs.Devices.{IsKeptDevice, IsRefusedOn, IsSoundOn};
-ghost use Rattle.lvhd_command.specs.Formatting.{FormatDid, CannotFormat, asked, format_sides};
+ghost use Rattle.lvhd_command.specs.Devices.{IsKeptDevice, IsRefusedOn};
+ghost use Rattle.lvhd_command.specs.Formatting.{FormatDid, CannotFormat, KeepsBesideNew, asked, format_sides};
 ghost use Rattle.lvhd_command.specs.Running.{RunDid, HasStayed, KeepsBeside, sides};
 ghost use Rattle.lvhd_command.specs.Words.{Asks};
 
@@ -23,8 +23,9 @@ use std::alloc::Global;
 /// handed back at every return. `now` is in seconds since 2000-01-01 00:00 UTC.
 ///
 /// A device on which a check of an opening fails is not opened: one line says why, and nothing is written, whatever the
-/// status. A run touches nothing on the device beside the repository, and
-/// a format that is refused touches nothing at all.
+/// status. Neither a run nor a format touches anything on the device beside the repository, and a format that is refused touches
+/// nothing at all. Status 3 comes exactly where a call of the device failed: no failed call is passed over, or tried again. So it
+/// is of status 4 and the source, and of status 5 and the sink.
 pub fn lvhd<D: Disk, S: Source, K: Sink>(
     alloc: Global,
     words: &[&str],
@@ -42,10 +43,15 @@ pub fn lvhd<D: Disk, S: Source, K: Sink>(
     ensures device { result.0 ≡ status.Device → Rose (D.faults disk) (D.faults result.1) }
     ensures source { result.0 ≡ status.Source → Rose (S.faults source.old) (S.faults source.new) }
     ensures sink { result.0 ≡ status.Sink → Rose (K.faults sink.old) (K.faults sink.new) }
+    ensures calm { result.0 ≢ status.Device → D.faults result.1 ≡ D.faults disk }
+    ensures source_calm { result.0 ≢ status.Source → S.faults source.new ≡ S.faults source.old }
+    ensures sink_calm { result.0 ≢ status.Sink → K.faults sink.new ≡ K.faults sink.old }
     ensures format { (request : Request) → Asks words.now (Some (Format request)) → (source.new ≡ source.old) × FormatDid
         (format_sides D.size D.told D.held D.faults K.content K.faults disk result.1 sink.old sink.new) (asked request) result.0 }
     ensures cannot_format { (request : Request) → Asks words.now (Some (Format request)) → CannotFormat (D.size disk) (asked request)
         → result.1 ≡ disk }
+    ensures format_beside { (request : Request) → Asks words.now (Some (Format request)) → D.told
+        → KeepsBesideNew (D.size disk) (asked request) (D.held disk) (D.held result.1) }
     ensures run { Asks words.now (Some Run) → D.told → IsKeptDevice (D.size disk) (D.held disk)
         → RunDid (sides D.size D.held S.content K.content disk result.1 source.old source.new sink.old sink.new) result.0 }
     ensures beside { Asks words.now (Some Run) → D.told → KeepsBeside (D.size disk) (D.held disk) (D.held result.1) }
@@ -53,7 +59,7 @@ pub fn lvhd<D: Disk, S: Source, K: Sink>(
         → HasStayed (sides D.size D.held S.content K.content disk result.1 source.old source.new sink.old sink.new) result.0 }
     ensures unsound { Asks words.now (Some Run) → D.told → (e : OpenFault) → IsRefusedOn (D.size disk) (reads (D.held disk)) e
         → HasStayed (sides D.size D.held S.content K.content disk result.1 source.old source.new sink.old sink.new) result.0 }
-    ensures complete { Asks words.now (Some Run) → D.told → IsKeptDevice (D.size disk) (D.held disk) → IsSoundOn (D.size disk) (reads (D.held disk))
+    ensures complete { Asks words.now (Some Run) → D.told → IsKeptDevice (D.size disk) (D.held disk)
         → (Rose (D.faults disk) (D.faults result.1) → ⊥) → (Rose (S.faults source.old) (S.faults source.new) → ⊥) → (Rose (K.faults sink.old) (K.faults sink.new) → ⊥)
         → (result.0 ≡ status.Done) ⊎ ((result.0 ≡ status.Memory) ⊎ (result.0 ≡ status.TooLong)) }
 {

@@ -362,22 +362,20 @@ fn stands_each_stop(alloc: Global, new: &MemDisk, run: &Faulty) -> Result<(), Fa
     Err(Fail::from("a run that ends"))
 }
 
-/// Each of those calls fails alone while the rest goes on, and the opening behind it stops at each of its own; the device opens as it
+/// Each of those calls fails alone, which ends the run, and the opening behind it stops at each of its own; the device opens as it
 /// is, too.
 fn stands_each_failure(alloc: Global, new: &MemDisk, run: &Faulty) -> Result<(), Fail> {
     let script = joined(alloc, &[Text(run.before), Text(run.lines)])?;
-    for call in calls(alloc, new, run.before)?..1000 {
+    for call in calls(alloc, new, run.before)?..calls(alloc, new, &script)? {
         let disk = failing(alloc, new, Fault::Call(call))?;
         let (is_done, sink, after) = ran(alloc, disk, &script)?;
+        holds(!is_done, "a failed call that ends the run")?;
         let lines = lines_in(sink.bytes());
         all_show(alloc, run, lines, &after)?;
         opens_at_each_stop(alloc, run, lines, &after.left(alloc, &[0, 1])?)?;
-        if is_done {
-            return Ok(());
-        }
         shows(alloc, run, lines, after)?;
     }
-    Err(Fail::from("a run that ends"))
+    Ok(())
 }
 
 #[test]

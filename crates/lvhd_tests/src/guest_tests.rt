@@ -250,8 +250,8 @@ const WRITTEN: [Piece<'static>; 3] = [
 type Cost<'a> = (&'a [Piece<'a>], u64);
 
 /// A list and a refused line make none, an overwrite of held sectors one read of the block's bitmap and one write, a flush one
-/// sync, and a read of held sectors one of the bitmap and one of the bytes. The first write into a block makes four: its bitmap and
-/// bytes are written, all is made last, and the sector of the table that names the block is read and written.
+/// sync, and a read of held sectors one of the bitmap and one of the bytes. The first write into a block makes five: the bitmap of
+/// its slot and its bytes are written, all is made last, the bitmap is read, and the sector of the table that names the block is written.
 const COSTS: [Cost<'static>; 6] = [
     (&[Text(b"list\n")], 0),
     (
@@ -272,7 +272,7 @@ const COSTS: [Cost<'static>; 6] = [
             Bytes(0xcc, 512),
             Text(b"\n"),
         ],
-        4,
+        5,
     ),
     (&[Text(b"flush 11111111-1111-4111-8111-111111111111\n")], 1),
     (

@@ -2,7 +2,7 @@
 
 use crate::fixtures::{Fault, RUN, Run, failing, run_into};
 use lvhd_command::Status;
-use sm_disk::{MemDisk, MemSink};
+use sm_disk::{Disk, MemDisk, MemSink};
 use std::alloc::Global;
 use std::test::Fail;
 use test_support::holds;
@@ -69,24 +69,29 @@ pub fn is_answered(
     Ok(replies[..] == expected[..])
 }
 
-/// How many calls of the device a run of a script makes: the first call whose failure is not met.
+/// No run of a script here makes so many calls of the device.
+const FAR: u64 = 1000;
+
+/// How many calls of the device a run of a script makes where none fails: a call far behind them is to fail, and syncs follow
+/// until it does.
 pub fn calls(alloc: Global, new: &MemDisk, script: &[u8]) -> Result<u64, Fail> {
-    for call in 0..1000 {
-        let run = Run {
-            words: RUN,
-            script,
-            fault: Fault::Call(call),
-            status: Status::Done,
-            printed: b"",
-        };
-        let disk = failing(alloc, new, run.fault)?;
-        let mut sink = MemSink::new(alloc, None)?;
-        let (status, _after) = run_into(alloc, disk, &run, &mut sink)?;
-        if status == Status::Done {
-            return Ok(call);
+    let run = Run {
+        words: RUN,
+        script,
+        fault: Fault::Call(FAR),
+        status: Status::Done,
+        printed: b"",
+    };
+    let disk = failing(alloc, new, run.fault)?;
+    let mut sink = MemSink::new(alloc, None)?;
+    let (status, mut after) = run_into(alloc, disk, &run, &mut sink)?;
+    holds(status == run.status, "a run that is done")?;
+    for behind in 0..FAR {
+        if after.sync().is_err() {
+            return Ok(FAR.saturating_sub(behind));
         }
     }
-    Err(Fail::from("a run that ends"))
+    Err(Fail::from("a call that fails"))
 }
 
 /// A run of a script on a device that stops at a call: whether it is done, and the device.

@@ -78,7 +78,7 @@ returns-in-Err-begin-clause-refused g c =
     let e = c.in-Ok.ensures in
     let group = c.in-Ok.group in
     refused_content g.D.Disk.told (g.D.Disk.size c.args.disk) (g.D.Disk.held c.args.disk) (g.D.Disk.held group.disk) (site_on group.label (g.D.Disk.size group.disk)) (pointer group.header) (table_alone group.table)
-    (g.D.Disk.faults c.args.disk) (g.D.Disk.faults group.disk) _ c.in-Err-begin.fault e.counts e.area e.stands
+    (g.D.Disk.faults c.args.disk) (g.D.Disk.faults group.disk) _ c.in-Err-begin.fault e.calm (λ other. ap g.D.Disk.faults c.into_disk.ensures.disk ∙ c.in-Err-begin.ensures.calm_back other) e.area e.stands
     (subst (λ d. IsOpeningStopped g.D.Disk.told (content_now (site_on group.label (g.D.Disk.size group.disk)) (table_alone group.table) (area_of (g.D.Disk.held group.disk))) (g.D.Disk.faults group.disk) (g.D.Disk.faults d) c.in-Err-begin.fault)
     (sym c.into_disk.ensures.disk) c.in-Err-begin.ensures.cause)
 

@@ -5,11 +5,11 @@ use Rattle.vg_meta.specs.Roomy.{table_alone}
 use Rattle.vg_store.specs.Groups.{area_of, beside_of}
 use Rattle.vg_volumes.specs.Sites.{Site, area_size}
 use Rattle.sm_ready.specs.Known.{known}
-use Rattle.sm_ready.proofs.StrayLaws.{law_state}
+use Rattle.sm_run.specs.declared.runs.RunFault.TheVariants as fault
 use Rattle.lvhd_command.specs.Devices.{plate_at, site_on}
 use Rattle.lvhd_command.specs.Running.{RunSides, IsGivenBack}
 use Rattle.lvhd_command.proofs.OpenLaws.{kept_well}
-use Rattle.lvhd_command.proofs.RunLaws.{IsOneTable, has_run_sized, back_itself, ok_not_err, ends_done, ends_early, said_refused, has_stayed, stayed_poor, kept_off, left_of, done_not_kept_off}
+use Rattle.lvhd_command.proofs.RunLaws.{IsOneTable, has_run_sized, back_itself, ok_not_err, ends_done, ends_early, ended_not, refused_calm, refused_sink_calm, session_state, said_refused, has_stayed, stayed_poor, kept_off, left_of, done_not_kept_off}
 use Rattle.lvhd_command.proofs.ExactLaws.{never_so, never_poor, sound_or_refused}
 use Rattle.lvhd_command.proofs.UnsoundLaws.{beside_whole, beside_then, beside_last}
 use Rattle.lvhd_command.proofs.running.run_script.Goals as goal
@@ -56,7 +56,7 @@ returns-in-Ok-run-clause-did g c = λ told kept.
     let ready = r.ready (λ failed. ok_not_err c.run.result _ _ c.in-Ok-run.is failed) in
     inl (has_run_sized s c.close.result.0 n site (table_alone m.store.table) (g.D.Disk.held m.store.disk) _ _ c.run.result _ g.D.Disk.told m.store.failed is_size (e.sound told) (e.shown told slots) (e.opened told slots) r
     (c.close.ensures.back told) (λ q. c.close.ensures.one told q.0)
-    (λ q. law_state site (table_alone m.store.table) (area_of (g.D.Disk.held m.store.disk)) (known m.memory) (m.orderly q.0) (m.tidy q.0) q.1)
+    (λ q. session_state site (table_alone m.store.table) (area_of (g.D.Disk.held m.store.disk)) (known m.memory) ((m.between q.0).orderly) ((m.between q.0).tidy) q.1)
     (ends_done s.size n s.new _ c.run.result _ c.close.result.0 g.D.Disk.told told c.in-Ok-run.is is_size c.close.ensures.status (c.close.ensures.shown told ready.0 ready.1)) labelled)
 
 pub returns-clause-did : goal.returns-clause-did
@@ -81,7 +81,7 @@ returns-clause-did g c = λ told kept.
     let back = subst (λ d. IsGivenBack n site (g.D.Disk.held m.store.disk) (g.D.Disk.held d)) (sym c.leave.ensures.disk) (back_itself n site (g.D.Disk.held m.store.disk) (c.leave.ensures.stands told)) in
     inl (has_run_sized s c.status_of_fault.result n site (table_alone m.store.table) (g.D.Disk.held m.store.disk) _ _ c.run.result _ g.D.Disk.told m.store.failed is_size (e.sound told) (e.shown told slots) (e.opened told slots) r
     back (λ q. subst (λ d. IsOneTable n site (g.D.Disk.held d) (table_alone m.store.table)) (sym c.leave.ensures.disk) (c.leave.ensures.one told q.0))
-    (λ q. law_state site (table_alone m.store.table) (area_of (g.D.Disk.held m.store.disk)) (known m.memory) (m.orderly q.0) (m.tidy q.0) q.1)
+    (λ q. session_state site (table_alone m.store.table) (area_of (g.D.Disk.held m.store.disk)) (known m.memory) ((m.between q.0).orderly) ((m.between q.0).tidy) q.1)
     (ends_early s.size s.new _ c.run.result c.in-Err-run.fault c.status_of_fault.result c.in-Err-run.is c.status_of_fault.ensures) labelled)
 
 pub returns-in-Err-clause-unsound : goal.returns-in-Err-clause-unsound
@@ -179,3 +179,33 @@ returns-clause-beside g c = λ told.
     let k = subst (λ n. Keeps (beside_of n (g.D.Disk.held s.store.disk)) (beside_of (area_size site) (g.D.Disk.held m.store.disk))) (ap area_size (sym c.run.ensures.site)) (c.run.ensures.beside told) in
     beside_last size old (g.D.Disk.held m.store.disk) _ (beside_then size old (g.D.Disk.held s.store.disk) (g.D.Disk.held m.store.disk) site labelled (e.beside told) k)
     (subst (λ d. Keeps (g.D.Disk.held m.store.disk) (g.D.Disk.held d)) (sym c.leave.ensures.disk) (Keeps-none (g.D.Disk.held m.store.disk)))
+
+pub returns-in-Err-clause-calm : goal.returns-in-Err-clause-calm
+returns-in-Err-clause-calm g c = λ other. refused_calm g.D.Disk.told _ _ _ _ c.in-Err.fault _ _ _ _ c.refuse.result c.in-Err.ensures.refused c.refuse.ensures other
+
+pub returns-in-Err-clause-sink_calm : goal.returns-in-Err-clause-sink_calm
+returns-in-Err-clause-sink_calm g c = λ other. refused_sink_calm c.in-Err.fault _ _ _ _ c.refuse.result c.refuse.ensures other
+
+pub returns-in-Ok-run-clause-calm : goal.returns-in-Ok-run-clause-calm
+returns-in-Ok-run-clause-calm g c = λ other.
+    let e = c.in-Ok-open.ensures in
+    c.close.ensures.calm other ∙ c.run.ensures.calm e.whole (λ failed. ok_not_err c.run.result _ _ c.in-Ok-run.is failed) ∙ e.calm
+
+pub returns-in-Ok-run-clause-source_calm : goal.returns-in-Ok-run-clause-source_calm
+returns-in-Ok-run-clause-source_calm g c = λ other. c.run.ensures.source_calm (λ failed. ok_not_err c.run.result _ _ c.in-Ok-run.is failed)
+
+pub returns-in-Ok-run-clause-sink_calm : goal.returns-in-Ok-run-clause-sink_calm
+returns-in-Ok-run-clause-sink_calm g c = λ other. c.run.ensures.sink_calm (λ failed. ok_not_err c.run.result _ _ c.in-Ok-run.is failed)
+
+pub returns-clause-calm : goal.returns-clause-calm
+returns-clause-calm g c = λ other.
+    let e = c.in-Ok-open.ensures in
+    ap g.D.Disk.faults c.leave.ensures.disk ∙ c.run.ensures.calm e.whole (ended_not c.run.result c.in-Err-run.fault fault.Device c.status_of_fault.result c.in-Err-run.is c.status_of_fault.ensures other) ∙ e.calm
+
+pub returns-clause-source_calm : goal.returns-clause-source_calm
+returns-clause-source_calm g c = λ other.
+    c.run.ensures.source_calm (ended_not c.run.result c.in-Err-run.fault fault.Source c.status_of_fault.result c.in-Err-run.is c.status_of_fault.ensures other)
+
+pub returns-clause-sink_calm : goal.returns-clause-sink_calm
+returns-clause-sink_calm g c = λ other.
+    c.run.ensures.sink_calm (ended_not c.run.result c.in-Err-run.fault fault.Sink c.status_of_fault.result c.in-Err-run.is c.status_of_fault.ensures other)
