@@ -6,7 +6,8 @@
 //! refusals and all taking of memory: so where memory is wanting all is as it was. `give_up` does so where the running operation folds
 //! the leaf of this disk, and else nothing. It leaves the machine's shape without the operation, one commit later (`abandoned`). What
 //! the command makes of that shape and of its disks the machine makes of those from before: but for a fork, whose base has the number
-//! from before.
+//! from before. It is asked between two steps of a session (`IsBetweenSteps` of `sm_ready`), and leaves the session there where it
+//! succeeds.
 //!
 //! **What it promises.** No disk changes, since what was copied reads alike from leaf and parent. At every return, success and failure
 //! alike, whatever a stop leaves is kept and shows the disks from before (`done`). Behind a call that succeeded table and memory are

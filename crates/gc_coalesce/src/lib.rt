@@ -6,7 +6,8 @@
 //!
 //! **What it is.** Each call is asked only where it is the machine's next step of the shape in memory (`planned`: `next_step` of
 //! `sm_machine`), and leaves the shape that the machine has behind `gc` (`shape`), its commits counted. It is asked between two steps of
-//! a session (`IsBetweenSteps` of `sm_ready`), and leaves the session there where it succeeds. That the fold of a leaf is given
+//! a session (`IsBetweenSteps` of `sm_ready`), and leaves the session there where it succeeds; `relink_one` and `finish`, on which an
+//! opening goes on too, ask less. That the fold of a leaf is given
 //! up, as a command on the leaf's disk begins, is no step of the collector: it is in `gc_abandon`.
 //!
 //! **What it promises.** No call changes a disk. At every return, success and failure alike, whatever a stop leaves is kept and shows

@@ -2,8 +2,8 @@
 //!
 //! **What is kept here.** Nothing: the call works on a store and on what a session has in memory.
 //!
-//! **What it is.** `swap` is asked only where it is the machine's next step of the shape in memory (`planned`: `next_step` of
-//! `sm_machine`): the operation folds a leaf, and no block of the leaf is left to copy. Its five commits, in this order: the leaf's
+//! **What it is.** `swap` is asked only between two steps of a session (`IsBetweenSteps` of `sm_ready`), where it is the machine's
+//! next step of the shape in memory (`planned`: `next_step` of `sm_machine`): the operation folds a leaf, and no block of the leaf is left to copy. Its five commits, in this order: the leaf's
 //! volume becomes an old leaf, which is no image; the parent's gets the leaf's name; it is shown; the old leaf goes; the operation's
 //! entry goes. So a stop among them leaves the entry, by which an opening knows how far they were. `swap` leaves the shape that the
 //! machine has behind `gc` (`shape`), its commits counted.

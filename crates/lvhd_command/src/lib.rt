@@ -18,10 +18,10 @@
 //!
 //! On a device on which a check of an opening fails, kept or not, one line says why, nothing is read of the script, and
 //! nothing is written, whatever the status (`HasStayed`). A kept device that was not opened for another cause shows nothing
-//! new, image by image (`ShowsNothingNew`). The answer is one alone ([`law_exact`]). With the word `format`: exactly when it is refused, and that a stop leaves what was
-//! there, no repository, or the new one whole (`FormatDid`); sizes out of their ranges and a device that is too small leave
-//! it untouched whatever the status (`CannotFormat`). The statuses of a fault have their cause; want of memory has none,
-//! and comes before the first write. What a format leaves is kept and has no disks ([`law_formatted`]), so the premise is
+//! new, image by image (`ShowsNothingNew`). The answer is one alone ([`law_exact`]). With the word `format`: exactly when it is
+//! refused, and that a stop leaves what was there, no repository, or the new one whole (`FormatDid`), and beside the new one what
+//! was there; sizes out of their ranges and a device that is too small leave it untouched whatever the status (`CannotFormat`).
+//! The statuses of a fault come exactly where a call failed; want of memory has no cause, and comes before the first write. What a format leaves is kept and has no disks ([`law_formatted`]), so the premise is
 //! met.
 //!
 //! **What it costs.** `run` takes one line buffer, then the memory of an opening, and what a step takes; the script is read

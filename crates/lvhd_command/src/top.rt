@@ -24,8 +24,8 @@ use std::alloc::Global;
 ///
 /// A device on which a check of an opening fails is not opened: one line says why, and nothing is written, whatever the
 /// status. Neither a run nor a format touches anything on the device beside the repository, and a format that is refused touches
-/// nothing at all. Status 3 comes exactly where a call of the device failed: no failed call is passed over, or tried again. So it
-/// is of status 4 and the source, and of status 5 and the sink.
+/// nothing at all. Status 3 comes exactly where a call of the device failed, status 4 where one of the source did, and status 5
+/// where one of the sink did: no run succeeds over a failed call, whether that is passed over or tried again.
 pub fn lvhd<D: Disk, S: Source, K: Sink>(
     alloc: Global,
     words: &[&str],

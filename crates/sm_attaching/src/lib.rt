@@ -6,8 +6,8 @@
 //! is counted as often as an attached disk uses it. Both sync first, so that nothing is pending behind them; a stop leaves the
 //! disks from before, each sector as it might have been left before the call. Neither changes a disk. `attach` first takes all memory
 //! that it needs, for the extents that the image lacks: where it finds none, all is as it was. Then it gives up the folding of the disk's
-//! own leaf, if there is one (`gc_abandon`), and then it gives the image its extents. `detach` takes no memory. The images in memory stay
-//! true of their volumes, whatever a stop would have left before the call.
+//! own leaf, if there is one (`gc_abandon`), and then it gives the image its extents. `detach` takes no memory. Each is asked
+//! between two steps of a session (`IsBetweenSteps` of `sm_ready`), and leaves the session there where it succeeds.
 //!
 //! **In which units.** Images of a chain are counted, at most 30.
 //!

@@ -2,7 +2,8 @@
 //!
 //! **What is kept here.** Nothing: each call works on a store and on what a session has in memory.
 //!
-//! **What it asks.** No cause refuses the command (`IsAllowed` of `sm_ready`).
+//! **What it asks.** The session is between two steps (`IsBetweenSteps` of `sm_ready`), and no cause refuses the command
+//! (`IsAllowed`).
 //!
 //! **What it promises.** `fork` makes the disk's image a hidden base, and two new images that hold nothing over it: the disk's own
 //! and the twin's. While it works a journal entry names the disk, the base and the twin. A stop before the last commit, which

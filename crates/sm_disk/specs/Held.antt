@@ -75,8 +75,8 @@ pub record HasSectors (size : ℕ) (h : Held) : Type 0 where
 abbrev pub Rose : ℕ → ℕ → Type 0
 Rose before now = min (before + 1) (2 ^ 64 - 1) ≤ now
 
--- a call fails only where the count of faults rose, and where it succeeds the count is what it was: so no failed call is
--- passed over, or tried again
+-- a call fails only where the count of faults rose, and where it succeeds the count is what it was: so nothing
+-- succeeds over a failed call, whether that is passed over or tried again
 abbrev pub IsCounted : {T E : Type 0} → Result T E → ℕ → ℕ → Type 0
 IsCounted result before now = OnErr result (Rose before now) × OnOk result (now ≡ before)
 

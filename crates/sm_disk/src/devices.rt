@@ -10,7 +10,7 @@ use sm_base::Failed;
 ///
 /// What a call did stands in its clauses. A clause on content holds where the device tells its
 /// content (`told`). A call fails only where the count of faults rose, and where it succeeds the count is what it was: so
-/// whoever stands on a device can't pass over a call that failed, or try it again.
+/// whoever stands on a device can't succeed over a call that failed, whether that is passed over or tried again.
 pub trait Disk {
     /// Whether what the device holds is told: a fact that holds, or one that never does.
     ghost told: { Type 0 };

@@ -23,8 +23,8 @@
 //!
 //! **Failures.** A call answers [`Failed`] only where the count of faults of its object rose, or is spent (at
 //! 2^64 - 1, where nothing can raise it), and where it succeeds the count is what it was (`IsCounted`). So no call above can
-//! pass over a failure, or try a call again that failed: Linux may take what it could not write for written, and a second
-//! sync then comes back well. The content is as the clause on the call says, at every return.
+//! succeed over a failed one, whether that is passed over or tried again: Linux may take what it could not write for written,
+//! and a second sync then comes back well. The content is as the clause on the call says, at every return.
 //!
 //! **Costs.** No call of this crate's traits takes memory that its caller sees. A `MemDisk` keeps 512 bytes and its
 //! pending values for each sector that was written, finds a place in logarithmic time, and syncs in one pass.

@@ -1,5 +1,5 @@
--- A session between two steps, and what a step did to the store, at every return. The contract of each command and of each step
--- of the collector begins with these, and then says what is its own.
+-- A session between two steps, and what a step did to the store, at every return. The contract of each command that
+-- writes, and of each step of the collector, begins with these, and then says what is its own.
 use Rattle.std.specs.Prelude.{◌≡◌, ℕ, ◌≤◌, false, Result, Err, OnOk}
 use Rattle.sm_base.specs.declared.faults.CallFault.{CallFault}
 use Rattle.sm_base.specs.declared.faults.CallFault.TheVariants as fault

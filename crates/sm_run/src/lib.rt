@@ -13,8 +13,8 @@
 //! their replies. Where the source failed, or gave a byte past the most of a script, every line that a newline had
 //! ended was answered. Where the device or the sink failed, one line more was read whole: of its reply nothing, or a
 //! front, went out. The machine's state is the one after the turns, or after that line too. Memory is wanting only to
-//! a line that spells a command whose step takes memory (`takes_memory`): no other line is answered so (`IsSpared`), no
-//! `write`, `fill` or `flush`.
+//! a line that spells a command whose step may want it (`may_want_memory`; a `gc` where it begins a folding): no other line is
+//! answered so (`IsSpared`), no `write`, `fill` or `flush`.
 //!
 //! **What a stop may leave.** At every return the disks are those after some prefix of the accepted lines that
 //! reaches at least the last acknowledged flush or changing command, sector by sector (`IsAsAfter`, `IsAsDuring`). A

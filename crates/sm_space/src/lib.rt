@@ -11,8 +11,10 @@
 //! front of the commit the image is read in the extents that it had, with the footer that it had, and behind it in those that it
 //! has. No disk changes. `resize` makes a VHD disk larger that is not attached, or leaves it as large as it is: a stop at any
 //! moment leaves the disks from before or those from after it, and behind its sync the disk has zeros behind its old sectors. Its
-//! volume gets no extents by it. Where the disk's leaf is being folded, that is given up first (`gc_abandon`). Images in memory that were true of what their volumes hold are so afterwards: one whose volume
-//! has other extents in all of these, the resized one with its new size. A call for which memory is wanting writes nothing.
+//! volume gets no extents by it. Where the disk's leaf is being folded, that is given up first (`gc_abandon`). Each call is asked
+//! between two steps of a session (`IsBetweenSteps` of `sm_ready`), and leaves the session there where it succeeds: so an image whose
+//! volume has other extents is true of its volume in all of these, the resized one with its new size. A call for which memory is
+//! wanting writes nothing.
 //!
 //! **In which units.** Extents are counted; places in a volume are sectors of 512 bytes; the size that `resize` is given, and the
 //! one that it answers, rounded up to the block, are in bytes.

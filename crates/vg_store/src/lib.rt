@@ -4,13 +4,13 @@
 //! table's text. Places are in sectors, lengths of a text in bytes.
 //!
 //! **The model** (`specs/Groups.antt`). `Rests` says what a stop leaves in front of the extents while no commit has
-//! failed: the label, the header, and in the header's slot the text of the table. `Leaves` says which table, with
+//! failed: the label, the header, and in the header's slot the text of the table. `LeavesGroup` says which table, with
 //! which sectors of the extents, a stop may leave: those of one image that the device allows and on which a group
 //! stands. `IsStanding` says that on an image some group with this label stands: also after a commit that failed, a
 //! stop leaves nothing else. `area_of` is the device seen from the first extent on.
 //!
 //! A format ([`format`], `specs/Formats.antt`) takes the label away and syncs, writes free records and the new table
-//! and syncs, then writes the label and syncs. `IsFormatted` says what stands afterwards, `IsLeft` what a stop leaves:
+//! and syncs, then writes the label and syncs. `IsFormatted` says what stands afterwards, `IsLeftByFormat` what a stop leaves:
 //! what was there, no repository, or the new group, whole.
 //!
 //! **What it promises.** The opening (`groups.rt`) syncs, so that what it reads lasts, and then makes five checks
