@@ -90,7 +90,7 @@ thick_own s t m u r o h vhd = ∥∥₁_elim o.well_formed (hlevel props) (λ w.
 pub le-div : (a b k : ℕ) → 0 < k → a ≤ b → a / k ≤ b / k
 le-div a b k pos le = (le-div_iff_mul-le {k = k} {x = a / k} {y = b} pos).1 (let e = div-mul-le_self a k in omega (arith, e, le))
 
-blocks_fit : (g : Geometry) (blocks at len : ℕ) → 0 < g.block → 0 < len / 512 → at + len / 512 ≤ blocks * g.block → at / g.block + blocks_touched g.block at len ≤ blocks
+pub blocks_fit : (g : Geometry) (blocks at len : ℕ) → 0 < g.block → 0 < len / 512 → at + len / 512 ≤ blocks * g.block → at / g.block + blocks_touched g.block at len ≤ blocks
 blocks_fit g blocks at len pos some fits =
     let last = (div-lt_iff_lt-mul {x = at + len / 512 - 1} {y = blocks} pos).1 (omega (arith, some, fits)) in
     let low = le-div at (at + len / 512 - 1) g.block pos (omega (arith, some)) in

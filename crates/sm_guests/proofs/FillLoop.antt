@@ -29,7 +29,7 @@ use Rattle.sm_ready.specs.Taken.{StoreTakes}
 use Rattle.sm_ready.specs.declared.memory.Memory.{Memory}
 use Rattle.sm_ready.proofs.Orders.{geometry_of}
 use Rattle.sm_ready.proofs.ShownLaws.{few_sectors}
-use Rattle.sm_ready.specs.Frames.{IsBesideTree}
+use Rattle.sm_ready.specs.Frames.{HasTrueImages, IsBesideTree}
 use Rattle.sm_guests.proofs.DoneLaws.{even, own_write, some_fits, write_next}
 use Rattle.sm_guests.proofs.FillBegun.{sector_had}
 use Rattle.sm_guests.proofs.FillLaws.{all_of, fill_allowed, length_all}
@@ -37,7 +37,8 @@ use Rattle.sm_guests.proofs.FillShapes.{GoesOn, allowed_piece, reached_shape, sh
 use Rattle.sm_guests.proofs.FillStates.{Reaches}
 use Rattle.sm_guests.proofs.FillTaken.{IsFilling, fill_done, fill_more, fill_stopped}
 use Rattle.sm_guests.proofs.OwnLaws.{own_there}
-use Rattle.sm_guests.specs.Writing.{own_name}
+use Rattle.sm_guests.specs.Writing.{WritesOnly, own_name}
+use Rattle.sm_guests.proofs.FillPlaces.{writes_more}
 use Rattle.sm_guests.proofs.TakenLaws.{few_numbers}
 use Rattle.sm_guests.proofs.WriteLaws.{own_long}
 
@@ -71,6 +72,16 @@ fill_next : (σ : Shape) (u : List ℕ) (at count byte : ℕ) → σ.sequence < 
 unfolding shape_next shape_after commits own_commits is_given_up gives_up
 fill_next σ u at count byte few = ap (λ (k : ℕ). let x : Shape = record (write_shape σ u at count) { sequence = k } in x) (omega (arith, few))
 
+-- the row of a disk that a write is not refused to
+own_found : {S : Type 0} (g : Ghosts S) (a : S) (m : Memory) (u : List ℕ) (at : ℕ) (bytes : List ℕ) → IsOrderlyStore g a m → refusal (store_shape g a m) (Write u at bytes) ≡ None
+    → (r : TreeRow) × (tree_row m.tree.rows (own_name m.tree.rows u) ≡ Some r)
+unfolding named
+own_found g a m u at bytes orderly allowed = by (tree_row m.tree.rows (own_name m.tree.rows u)) refl
+  where
+    by : (x : Option TreeRow) → tree_row m.tree.rows (own_name m.tree.rows u) ≡ x → (r : TreeRow) × (tree_row m.tree.rows (own_name m.tree.rows u) ≡ Some r)
+    by None e = absurd (own_there (g.site a) (table_alone (g.table a)) (known m) u orderly (Write u at bytes) refl allowed e)
+    by (Some r) e = (r, e)
+
 module _ {S : Type 0} (g : Ghosts S) (a : S) (m : Memory) (u : List ℕ) (at count byte : ℕ) (orderly : IsOrderlyStore g a m) (allowed : IsAllowed g (Fill u at count byte) a m) where
   writes : refusal (store_shape g a m) (Write u at (all_of count byte)) ≡ None
   writes = fill_allowed (store_shape g a m) u at count byte allowed
@@ -78,14 +89,8 @@ module _ {S : Type 0} (g : Ghosts S) (a : S) (m : Memory) (u : List ℕ) (at cou
   pub some_block : 0 < (g.site a).geometry.block
   some_block = let e = (geometry_of (g.site a) (table_alone (g.table a)) (known m) orderly).block_least in omega (arith, e)
 
-  -- the row of the disk
-  own : (x : Option TreeRow) → tree_row m.tree.rows (own_name m.tree.rows u) ≡ x → (r : TreeRow) × (tree_row m.tree.rows (own_name m.tree.rows u) ≡ Some r)
-  unfolding named
-  own None e = absurd (own_there (g.site a) (table_alone (g.table a)) (known m) u orderly (Write u at (all_of count byte)) refl writes e)
-  own (Some r) e = (r, e)
-
   abbrev row : (r : TreeRow) × (tree_row m.tree.rows (own_name m.tree.rows u) ≡ Some r)
-  row = own (tree_row m.tree.rows (own_name m.tree.rows u)) refl
+  row = own_found g a m u at (all_of count byte) orderly writes
 
   -- there are sectors to fill
   pub some_sectors : 0 < count
@@ -149,6 +154,16 @@ module _ {S : Type 0} (g : Ghosts S) (a : S) (m : Memory) (u : List ℕ) (at cou
         shaped ∙ write_next (store_shape g b n) u (at + done) (take (512 * few) bytes) (few_numbers (g.site b) (table_alone (g.table b)) (known n) still)
         ∙ ap₂ (λ x j. write_shape x u (at + done) j) shape (ap (λ (ys : List ℕ). length ys / 512) piece ∙ length_all few byte)
         ∙ shape_more (store_shape g a m) u at count byte writes done few some_block goes
+
+    -- nothing else was put
+    pub turn_writes : (c : S) → IsOrderlyStore g b n → HasTrueImages g a m → WritesOnly g m u at (all_of count byte) a b → WritesOnly g n u (at + done) (take (512 * few) bytes) b c → WritesOnly g m u at (all_of count byte) a c
+    turn_writes c still true_images front next =
+        let put = own_found g b n u (at + done) (take (512 * few) bytes) still turn_allowed in
+        let h = own_write (g.site a) (table_alone (g.table a)) (known m) u at (all_of count byte) orderly row.0 writes row.1 in
+        let f = some_fits (g.site a) (table_alone (g.table a)) (known m) u row.0 orderly h at (all_of count byte) writes in
+        let e = length_all count byte in
+        writes_more g a b c m n u at done few count byte orderly still true_images row.0 put.0 h (own_write (g.site b) (table_alone (g.table b)) (known n) u (at + done) (take (512 * few) bytes) still put.0 turn_allowed put.1) goes shape
+        (omega (arith, f.1, e)) front (subst (λ ys. WritesOnly g n u (at + done) ys b c) piece next)
 
     -- and so is what is told
     module _ (usable : g.failed a ≡ false) (told : g.told) (ready : IsReadyStore g a m) (filling : IsFilling g u at count byte a m done b n) (site : g.site b ≡ g.site a) (c : S) (k : Memory) where

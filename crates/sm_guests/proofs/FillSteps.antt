@@ -116,6 +116,20 @@ with_blocks_then (b ∷ bs) cs slots = with_blocks_then bs cs _
 
 -- ---- the shape
 
+-- a sector that a block begins with is in it, and the one in front is in the block in front
+pub block_behind : (block at q : ℕ) → 0 < block → at ≡ suc q * block → at / block ≡ suc q
+block_behind block at q pos whole =
+    let low = (le-div_iff_mul-le {k = block} {x = suc q} {y = at} pos).1 (omega (arith, whole)) in
+    let high = (div-lt_iff_lt-mul {x = at} {y = suc (suc q)} pos).1 (omega (arith, whole, pos, suc-mul (suc q) block)) in
+    omega (arith, low, high)
+
+pub block_in_front : (block at q : ℕ) → 0 < block → at ≡ suc q * block → (at - 1) / block ≡ q
+block_in_front block at q pos whole =
+    let e = suc-mul q block in
+    let low = (le-div_iff_mul-le {k = block} {x = q} {y = at - 1} pos).1 (omega (arith, whole, pos, e)) in
+    let high = (div-lt_iff_lt-mul {x = at - 1} {y = suc q} pos).1 (omega (arith, whole, pos)) in
+    omega (arith, low, high)
+
 -- where the second piece begins with a block, the blocks of both are those of one write
 pub blocks_behind : (s : Shape) (at a c q : ℕ) → 0 < s.block → 0 < a → 0 < c → at + a ≡ suc q * s.block → blocks_touched s at (a + c) ≡ blocks_touched s at a ++ blocks_touched s (at + a) c
 blocks_behind s at a c q pos some more whole =
@@ -128,18 +142,11 @@ blocks_behind s at a c q pos some more whole =
     second_count = (at + a + c - 1) / s.block + 1 - suc q
 
     second : (at + a) / s.block ≡ suc q
-    second =
-        let low = (le-div_iff_mul-le {k = s.block} {x = suc q} {y = at + a} pos).1 (omega (arith, whole)) in
-        let high = (div-lt_iff_lt-mul {x = at + a} {y = suc (suc q)} pos).1 (omega (arith, whole, pos, suc-mul (suc q) s.block)) in
-        omega (arith, low, high)
+    second = block_behind s.block (at + a) q pos whole
 
     -- the last sector of the first piece is in the block in front
     last : (at + a - 1) / s.block ≡ q
-    last =
-        let e = suc-mul q s.block in
-        let low = (le-div_iff_mul-le {k = s.block} {x = q} {y = at + a - 1} pos).1 (omega (arith, whole, pos, e)) in
-        let high = (div-lt_iff_lt-mul {x = at + a - 1} {y = suc q} pos).1 (omega (arith, whole, pos, some)) in
-        omega (arith, low, high)
+    last = block_in_front s.block (at + a) q pos whole
 
     low : at / s.block ≤ (at + a - 1) / s.block
     low = le-div at (at + a - 1) s.block pos (omega (arith, some))

@@ -17,5 +17,7 @@ pub mod FillStates
 pub mod FillBetween
 pub mod FillTaken
 pub mod FillBegun
+pub mod PieceLaws
+pub mod FillPlaces
 pub mod FillLoop
 pub mod WritingLaws

@@ -18,7 +18,7 @@ use Rattle.vg_volumes.specs.Sites.{Site, size_of, volume_of}
 use Rattle.vg_volumes.specs.Volumes.{KeepsElsewhere}
 use Rattle.vhd_layout.specs.Layouts.{Sectors}
 use Rattle.vhd_volumes.specs.Truth.{layout_in}
-use Rattle.vhd_volumes.specs.Writes.{IsGuarded, blocks_touched as image_blocks, written_map}
+use Rattle.vhd_volumes.specs.Writes.{IsGuarded, with_blocks as image_with_blocks, written_map}
 use Rattle.vhd_image.specs.Bodies.{sector_count, parent_name, volume_name, own_of}
 use Rattle.vhd_image.specs.Written.{IsWriting, IsBodyWritten, MayHaveGrown, written}
 use Rattle.vhd_image.specs.declared.images.Body.{Body}
@@ -89,10 +89,12 @@ like_grown r b grown = by r.image refl grown
 like_self : (r : TreeRow) → IsLike r r
 like_self r = record { name = refl; hidden = refl; extents = refl; size = refl; parent = refl; places = refl }
 
-touched_alike : (block at n : ℕ) (slots : List (Option ℕ)) → 0 < block → 0 < n / 512 → with_blocks (numbers (at / block) ((at + n / 512 - 1) / block + 1 - at / block)) slots ≡ written_map block at n slots
-touched_alike block at n slots pos some =
-    let low = le-div at (at + n / 512 - 1) block pos (omega (arith, some)) in
-    ap (λ k. with_blocks (numbers (at / block) k) slots) (let e : (at + n / 512 - 1) / block + 1 - at / block ≡ image_blocks block at n = omega (arith, low) in e) ∙ blocks_alike (at / block) (image_blocks block at n) slots
+pub touched_alike : (block at count : ℕ) (slots : List (Option ℕ)) → 0 < block → 0 < count
+    → with_blocks (numbers (at / block) ((at + count - 1) / block + 1 - at / block)) slots ≡ image_with_blocks (at / block) ((at + count - 1) / block - at / block + 1) slots
+touched_alike block at count slots pos some =
+    let low = le-div at (at + count - 1) block pos (omega (arith, some)) in
+    ap (λ k. with_blocks (numbers (at / block) k) slots) (let e : (at + count - 1) / block + 1 - at / block ≡ (at + count - 1) / block - at / block + 1 = omega (arith, low) in e)
+    ∙ blocks_alike (at / block) ((at + count - 1) / block - at / block + 1) slots
 
 -- its row is the machine's
 pub row_written : (s : Site) (t : VolumeTable) (m : Known) (r : TreeRow) (b : Body) (at n : ℕ) (o : IsOrderly s t m) → In r m.rows → 0 < s.geometry.block → 0 < n / 512 → b ≡ written s.geometry.block at n r.image
@@ -112,7 +114,7 @@ row_written s t m r b at n o there pos some is = by r.image refl
         let touched : List (Option ℕ) = with_blocks (blocks_touched (shape_in s t m) at (n / 512)) (slots_of r.image) in
         ap (λ y. machine_row (with_image y r)) (is ∙ ap (written block at n) e)
         ∙ ap (λ y. let x : ImageRow = record (machine_row (with_image y r)) { slots = written_map block at n slots } in x) (sym e)
-        ∙ ap (write true) (sym (touched_alike block at n slots pos some) ∙ ap (λ y. with_blocks (blocks_touched (shape_in s t m) at (n / 512)) (slots_of y)) (sym e))
+        ∙ ap (write true) (sym (touched_alike block at (n / 512) slots pos some) ∙ ap (λ y. with_blocks (blocks_touched (shape_in s t m) at (n / 512)) (slots_of y)) (sym e))
         ∙ sym (ap (λ c. write c touched) (vhd_name s t m r head slots o there e))
 
 -- ---- the written image, as a read gives it

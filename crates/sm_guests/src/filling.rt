@@ -1,6 +1,6 @@
 //! Sectors of a disk are filled with a byte.
 
-ghost use Rattle.std.specs.Prelude.{◌≡◌, ◌<◌, ◌≤◌, ◌+◌, ◌*◌, length, OnOk};
+ghost use Rattle.std.specs.Prelude.{◌≡◌, ◌<◌, ◌≤◌, ◌+◌, ◌*◌, length, replicate, OnOk};
 ghost use Rattle.vg_volumes.specs.Stored.{Counts, Stays};
 ghost use Rattle.sm_machine.specs.declared.commands.Command.TheVariants.{Fill};
 ghost use Rattle.sm_machine.specs.declared.replies.Reply.TheVariants.{Done};
@@ -11,6 +11,7 @@ ghost use Rattle.sm_ready.specs.Refusing.{IsAllowed};
 ghost use Rattle.sm_ready.specs.Sessions.{IsReadyStore};
 ghost use Rattle.sm_ready.specs.Taken.{StoreTakes};
 ghost use Rattle.sm_guests.specs.Taken.{answered};
+ghost use Rattle.sm_guests.specs.Writing.{WritesOnly};
 
 use crate::writing::write;
 use sm_base::Failed;
@@ -37,6 +38,7 @@ fn fill_with<S: Store>(
     requires long { 512 * (S.site store.old).geometry.block ≤ length piece.old }
     ensures stays { Stays S.Store store.old store.new }
     ensures cause { Counts S.Store result store.old store.new }
+    ensures writes { WritesOnly S.Store memory.old disk.now sector (replicate (512 * count) byte) store.old store.new }
     ensures beside_tree { IsBesideTree memory.old memory.new }
     ensures session_still { OnOk result (IsBetweenSteps S.Store store.new memory.new) }
     ensures shape { OnOk result (ShapesAs S.Store (Fill disk.now sector count byte) store.old memory.old store.new memory.new) }
@@ -56,7 +58,8 @@ fn fill_with<S: Store>(
 }
 
 /// Fills so many sectors of a disk, at least one, with a byte, from a sector on. It takes no memory but a buffer of the pool,
-/// which it gives back, and is never refused for space. What it writes lasts once the store is synced.
+/// which it gives back, is never refused for space, and puts nothing anywhere but where a write of all these sectors has to.
+/// What it writes lasts once the store is synced.
 ///
 /// # Errors
 /// A call of the store failed; each sector is as it might have been before, or as it is filled.
@@ -75,6 +78,7 @@ pub fn fill<S: Store>(
     ensures stays { Stays S.Store store.old store.new }
     ensures cause { Counts S.Store result store.old store.new }
     ensures pool { pool.new ≡ pool.old }
+    ensures writes { WritesOnly S.Store memory.old disk.now sector (replicate (512 * count) byte) store.old store.new }
     ensures beside_tree { IsBesideTree memory.old memory.new }
     ensures session_still { OnOk result (IsBetweenSteps S.Store store.new memory.new) }
     ensures shape { OnOk result (ShapesAs S.Store (Fill disk.now sector count byte) store.old memory.old store.new memory.new) }

@@ -1,8 +1,9 @@
 -- What a guest's write into an image did: a raw image takes the bytes into its volume, a VHD image by its blocks.
 use Rattle.std.specs.Prelude.{◌≡◌, ℕ, List, length, Option}
 use Rattle.sm_base.specs.declared.sizes.Geometry.{Geometry}
-use Rattle.sm_disk.specs.Held.{Held, Puts, Torn, Wrote}
+use Rattle.sm_disk.specs.Held.{Held, Puts, Torn, Wrote, Reaches, reads}
 use Rattle.vhd_map.specs.Slots.{slot_of, top_of}
+use Rattle.vhd_layout.specs.Layouts.{Sectors}
 use Rattle.vhd_volumes.specs.Truth.{HasRoomFor, layout_in}
 use Rattle.vhd_volumes.specs.Writes.{HasGrown, HasWritten, IsGuarded, written_map}
 use Rattle.vhd_write.specs.WritePlaces.{IsWritePlace}
@@ -30,11 +31,16 @@ abbrev pub IsWriting : Geometry → ℕ → Body → ℕ → List ℕ → Held �
 IsWriting g sectors (Raw volume size) at bytes old new = Torn at bytes old new
 IsWriting g sectors (Vhd head m) at bytes old new = IsGuarded (layout_in g head.footer sectors) (Puts at bytes) old new
 
--- the write may put these bytes at this place of the volume: into a raw image its own, into a VHD image the given sectors,
--- the bitmaps of their blocks' slots, and the sectors of the table with these blocks' entries
-abbrev pub IsPlaceOfWrite : Geometry → ℕ → Body → ℕ → List ℕ → ℕ → List ℕ → Type 0
-IsPlaceOfWrite g sectors (Raw volume size) at bytes = Puts at bytes
-IsPlaceOfWrite g sectors (Vhd head m) at bytes = IsWritePlace (layout_in g head.footer sectors) at bytes (slot_of (written_map g.block at (length bytes) m))
+-- the write may put these bytes at this place of the volume, where a read gave r as it began
+abbrev pub IsPlaceOfWrite : Geometry → ℕ → Body → ℕ → List ℕ → Sectors → ℕ → List ℕ → Type 0
+IsPlaceOfWrite g sectors (Raw volume size) at bytes r = Puts at bytes
+IsPlaceOfWrite g sectors (Vhd head m) at bytes r =
+    IsWritePlace (layout_in g head.footer sectors) at bytes (slot_of m) (slot_of (written_map g.block at (length bytes) m)) r
+
+-- the write put nothing but that: into a raw image its bytes; into a VHD image the given sectors, the bitmaps of their blocks' slots,
+-- with no new bits but theirs, and sectors of the table, with no new entries but those of the map that it ends with
+abbrev pub BodyKeepsToPlaces : Geometry → ℕ → Body → ℕ → List ℕ → Held → Held → Type 0
+BodyKeepsToPlaces g sectors body at bytes old new = Reaches (IsPlaceOfWrite g sectors body at bytes (reads old)) old new
 
 -- once it is done
 abbrev pub IsBodyWritten : Geometry → ℕ → Body → ℕ → List ℕ → Held → Held → Type 0

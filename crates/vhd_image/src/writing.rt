@@ -1,12 +1,12 @@
 //! A guest's write.
 
 ghost use Rattle.std.specs.Prelude.{◌≡◌, false, length, OnOk, OnErr};
-ghost use Rattle.sm_disk.specs.Held.{IsWhole, Reaches};
+ghost use Rattle.sm_disk.specs.Held.{IsWhole};
 ghost use Rattle.vg_volumes.specs.Stored.{stored, sectors_in, WorksOn, Counts};
 ghost use Rattle.vhd_volumes.specs.Steps.{Holds, Does};
 ghost use Rattle.vhd_volumes.specs.Writes.{KeepsHeads};
 ghost use Rattle.vhd_image.specs.Bodies.{StandsIn, TrueIn, sector_count, volume_name, ImageStands, ImageIsTrue, IfVhdDoes};
-ghost use Rattle.vhd_image.specs.Written.{HasRoomToWrite, IsWriting, IsPlaceOfWrite, IsBodyWritten, MayHaveGrown, written};
+ghost use Rattle.vhd_image.specs.Written.{HasRoomToWrite, IsWriting, BodyKeepsToPlaces, IsBodyWritten, MayHaveGrown, written};
 
 use crate::images::{Body, Image};
 use crate::steps::put_sectors;
@@ -34,11 +34,11 @@ impl Image {
             (IsWriting (S.site store.old).geometry
             (sectors_in (stored S.Store store.old)
             (volume_name self.old)) self.old sector from.now) store.old store.new }
-        // A raw image's sectors with their bytes; in a VHD image these, their blocks' bitmaps and entries.
+        // A raw image's sectors with their bytes; in a VHD image these, and bits and entries of their blocks.
         ensures places { Does S.Store (volume_name self.old)
-            (Reaches (IsPlaceOfWrite (S.site store.old).geometry
+            (BodyKeepsToPlaces (S.site store.old).geometry
             (sectors_in (stored S.Store store.old)
-            (volume_name self.old)) self.old sector from.now)) store.old store.new }
+            (volume_name self.old)) self.old sector from.now) store.old store.new }
         // The copy of the footer, the header and the last sector stay.
         ensures heads { IfVhdDoes S.Store self.old (λ head m. KeepsHeads
             (sectors_in (stored S.Store store.old) head.volume)) store.old store.new }

@@ -2,12 +2,12 @@
 use Rattle.std.proofs.Common.{◌≡◌, ◌≢◌, ℕ, ◌+◌, ◌-◌, ◌*◌, ◌/◌, ◌%◌, ◌<◌, ◌≤◌, ◌⊎◌, Bool, true, false, eqb, List, length, get_or, replicate, Option, Some, sym, ap, ◌∙◌, subst, inl, inr, ⊎_elim, arith}
 use Rattle.std.specs.Bool.{OnTrue}
 use Rattle.std.specs.Int.{bit_at}
-use Rattle.std.proofs.lemmas.Bool.{cases_lt, cases_eq}
+use Rattle.std.proofs.lemmas.Bool.{cases_lt, cases_eq, true≢false}
 use Rattle.std.proofs.lemmas.List.{get_or-replicate, get_or_past, length-replicate}
 use Rattle.std.proofs.lemmas.Nat.Bits.{bit_at-zero}
 use Rattle.std.proofs.lemmas.Option.{same_Some}
 use Rattle.sm_base.specs.Numbers.{first as first_of, div_up}
-use Rattle.sm_disk.specs.Held.{Held, IsWhole, Puts, Torn, Wrote, SameHeld, Reaches, reads}
+use Rattle.sm_disk.specs.Held.{Held, IsIn, IsWhole, Puts, Torn, Wrote, SameHeld, Reaches, reads}
 use Rattle.sm_disk.specs.Sectors.{sector}
 use Rattle.sm_disk.proofs.HeldLaws.{reads-wrote, in_one}
 use Rattle.sm_disk.proofs.ReachesLaws.{Reaches-then, Reaches-wider, Reaches-same, Reaches-torn}
@@ -16,9 +16,9 @@ use Rattle.vhd_map.specs.Bitmaps.{is_set}
 use Rattle.vhd_map.specs.Slots.{slot_of, IsMap}
 use Rattle.vhd_layout.specs.Layouts.{Sectors, Layout, Slots, place, slot_count}
 use Rattle.vhd_layout.proofs.ImageLaws.{place-same, place-within}
-use Rattle.vhd_write.specs.Passes.{HasMoreBits, HasBits, PutsBitsOf, PutsBitsAll, AreSet, IsTableSector, PutsEntries}
+use Rattle.vhd_write.specs.Passes.{IsUnsetBeside, HasBits, PutsBitsOf, PutsBitsAll, AreSet, IsTableSector, PutsEntries}
 use Rattle.vhd_write.specs.Spans.{IsPart}
-use Rattle.vhd_write.specs.WritePlaces.{Touches}
+use Rattle.vhd_write.specs.WritePlaces.{Touches, HasOnlyBits, HasMoreBits}
 
 -- a bitmap of zeros has no bit set
 pub is_set-zeros : (n i : ℕ) → is_set (replicate {A = ℕ} n 0) i ≡ false
@@ -39,7 +39,7 @@ pub sector-whole : (p len size : ℕ) → p < size → len ≡ 512 → IsWhole p
 sector-whole p len size low long = record { some = omega arith; whole = omega (arith, long); within = omega arith }
 
 -- a written value of one sector is that sector
-one-value : (p q : ℕ) (v w : List ℕ) → length v ≡ 512 → Puts p v q w → (q ≡ p) × (w ≡ v)
+pub one-value : (p q : ℕ) (v w : List ℕ) → length v ≡ 512 → Puts p v q w → (q ≡ p) × (w ≡ v)
 one-value p q v w long h =
     let same = in_one p (length v) q long h.0 in
     let nth : q - p ≡ 0 = omega (arith, same) in
@@ -56,15 +56,28 @@ module _ (l : Layout) (b at len first count skip : ℕ) (part : IsPart l.block b
   pub part-touches : Touches l at len b
   part-touches = (first, omega (arith, part.fits, part.some), (omega (arith, part.skipped), omega (arith, part.skipped, part.inside, part.some)))
 
+  -- a bit of the part is that of a given sector
+  bit-in : (i : ℕ) → first ≤ i → i < first + count → (i < l.block) × IsIn at len (b * l.block + i)
+  bit-in i low high = (omega (arith, part.fits, high), (omega (arith, part.skipped), omega (arith, part.skipped, part.inside)))
+
   pub bits-all : (bitmap : List ℕ) → ((i : ℕ) → first ≤ i → i < first + count → is_set bitmap i ≡ true) → HasBits l at len b bitmap
   bits-all bitmap set = λ i within here. let h = part.all i within here in set i h.0 h.1
 
   pub bits-more : (old new : List ℕ) → ((i : ℕ) → first ≤ i → i < first + count → is_set new i ≡ true) → ((i : ℕ) → (i < first) ⊎ (first + count ≤ i) → is_set new i ≡ is_set old i) → HasMoreBits l at len b old new
-  bits-more old new set others = λ i within. ⊎_elim
+  bits-more old new set others = λ i. ⊎_elim
       (λ low. inl (others i (inl low)))
       (λ from_first. ⊎_elim
-      (λ high. inr (set i from_first high, (omega (arith, part.skipped), omega (arith, part.skipped, part.inside))))
+      (λ high. let h = bit-in i from_first high in inr (set i from_first high, h.0, h.1))
       (λ past. inl (others i (inr past)))
+      (cases_lt i (first + count)))
+      (cases_lt i first)
+
+  pub bits-only : (bitmap : List ℕ) → IsUnsetBeside first count bitmap → HasOnlyBits l at len b bitmap
+  bits-only bitmap unset = λ i on. ⊎_elim
+      (λ low. absurd (true≢false (sym on ∙ unset i (inl low))))
+      (λ from_first. ⊎_elim
+      (λ high. bit-in i from_first high)
+      (λ past. absurd (true≢false (sym on ∙ unset i (inr past))))
       (cases_lt i (first + count)))
       (cases_lt i first)
 
@@ -88,12 +101,16 @@ bitmap-done l at len b k p slot r bitmap has is read set = λ j had i within her
 pub bitmap-wrote : (p : ℕ) (v : List ℕ) {a c : Held} → length v ≡ 512 → Wrote p v a c → reads c p ≡ v
 bitmap-wrote p v long w = one-read p v long w
 
+-- and still more bits
+pub more-then : (l : Layout) (at len b : ℕ) (x y z : List ℕ) → HasMoreBits l at len b x y → HasMoreBits l at len b y z → HasMoreBits l at len b x z
+more-then l at len b x y z f g = λ i. ⊎_elim (λ same. ⊎_elim (λ old. inl (same ∙ old)) (λ h. inr (same ∙ h.0, h.1, h.2)) (f i)) (λ h. inr h) (g i)
+
+pub only-then : (l : Layout) (at len b : ℕ) (x y : List ℕ) → HasOnlyBits l at len b x → HasMoreBits l at len b x y → HasOnlyBits l at len b y
+only-then l at len b x y only more = λ i on. ⊎_elim (λ same. only i (sym same ∙ on)) (λ h. (h.1, h.2)) (more i)
+
 -- ---- all bitmaps
 
 module _ (l : Layout) (at len : ℕ) (n : List (Option ℕ)) (good : IsMap n) where
-  more-then : (b : ℕ) (x y z : List ℕ) → HasMoreBits l at len b x y → HasMoreBits l at len b y z → HasMoreBits l at len b x z
-  more-then b x y z f g = λ i within. ⊎_elim (λ same. ⊎_elim (λ old. inl (same ∙ old)) (λ h. inr (same ∙ h.0, h.1)) (f i within)) (λ h. inr h) (g i within)
-
   pub bits-reaches : (c : ℕ) {a y z : Held} → Reaches (PutsBitsAll l at len (slot_of n) (reads a)) a y → Reaches (PutsBitsOf l at len (slot_of n c) c (reads y)) y z → Reaches (PutsBitsAll l at len (slot_of n) (reads a)) a z
   bits-reaches c {a} {y} {z} r s = Reaches-then r (Reaches-wider go s)
     where
@@ -106,7 +123,7 @@ module _ (l : Layout) (at len : ℕ) (n : List (Option ℕ)) (good : IsMap n) wh
           let one = place-same l j k 0 0 (omega arith) (omega arith) (sym g.here ∙ here) in
           let same : b ≡ c = good.once b c j had (has ∙ ap Some (sym one.0)) in
           let P : ℕ → Type 0 = λ x. HasMoreBits l at len x (reads a p) (reads y p) in
-          more-then c (reads a p) (reads y p) v (subst P same g.more) h
+          more-then l at len c (reads a p) (reads y p) v (subst P same g.more) h
 
       go : (p : ℕ) (v : List ℕ) → PutsBitsOf l at len (slot_of n c) c (reads y) p v → PutsBitsAll l at len (slot_of n) (reads a) p v
       go p v (k, has, h) = (c, k, has, record { touched = h.touched; here = h.here; more = more p k v has h.here h.more (r.gives p) })

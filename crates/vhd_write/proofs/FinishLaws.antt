@@ -8,7 +8,8 @@ use Rattle.sm_disk.proofs.ReachesLaws.{may_reached}
 use Rattle.vhd_map.specs.Bitmaps.{is_set}
 use Rattle.vhd_layout.specs.Layouts.{Layout, Slots, place}
 use Rattle.vhd_layout.proofs.ImageLaws.{place-first}
-use Rattle.vhd_write.specs.Passes.{HasMoreBits, PutsBitsAll, AreSet, IsTableSector, PutsTable, PutsRest, Goes, IsFinished}
+use Rattle.vhd_write.specs.Passes.{PutsBitsAll, AreSet, IsTableSector, PutsTable, PutsRest, Goes, IsFinished}
+use Rattle.vhd_write.specs.WritePlaces.{HasMoreBits}
 use Rattle.vhd_write.proofs.BitLaws.{table-low}
 
 module _ {l l' : Layout} {at len : ℕ} {m : Slots} {a b c : Held} (same : l' ≡ l) (keeps : Keeps a b) (settled : IsSettled b) (r : Reaches (PutsBitsAll l' at len m (reads b)) b c) where

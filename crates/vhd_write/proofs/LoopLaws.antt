@@ -74,7 +74,7 @@ put-none {l} {at} {count} {first} {end} {from} m r s long = λ b below. record {
 
 -- a part of a slot
 slot-part : (l : Layout) (at : ℕ) (from : List ℕ) (b k p : ℕ) (v : List ℕ) → PutsSlot l at from b k p v → (j : ℕ) × (j < 1 + l.block) × (p ≡ place l k j)
-slot-part l at from b k p v (inl (touched, here)) = (0, omega arith, here)
+slot-part l at from b k p v (inl (touched, here, only)) = (0, omega arith, here)
 slot-part l at from b k p v (inr h) = (1 + h.i, omega (arith, h.within), h.here)
 
 module _ (l : Layout) (at : ℕ) (from : List ℕ) (first c : ℕ) (m n : List (Option ℕ)) (given : Given first c m n) (low : first ≤ c)
@@ -116,7 +116,7 @@ module _ (l : Layout) (at : ℕ) (from : List ℕ) (first c : ℕ) (m n : List (
         let old = was.fresh k none has in
         let bitmap = kept_place s b k 0 apart has (omega arith) in
         record {
-          only = λ i within on. old.only i within (sym (ap (λ x. is_set x i) bitmap) ∙ on);
+          only = λ i on. old.only i (sym (ap (λ x. is_set x i) bitmap) ∙ on);
           each = λ i within here. ap (λ x. is_set x i) bitmap ∙ old.each i within here;
           some = old.some;
         };

@@ -1,13 +1,12 @@
 -- One block's part of the first pass.
-use Rattle.std.proofs.Common.{◌≡◌, ℕ, ◌+◌, ◌-◌, ◌*◌, ◌<◌, ◌≤◌, ◌⊎◌, true, false, List, length, take, drop, set, Option, Some, None, refl, sym, ap, ap₂, ◌∙◌, subst, subst₂, inl, inr, ⊎_elim, arith}
-use Rattle.std.proofs.lemmas.Bool.{cases_lt, true≢false}
+use Rattle.std.proofs.Common.{◌≡◌, ℕ, ◌+◌, ◌-◌, ◌*◌, ◌<◌, ◌≤◌, true, List, length, take, drop, set, Option, Some, None, refl, sym, ap, ap₂, ◌∙◌, subst, subst₂, inl, inr, arith}
 use Rattle.std.proofs.lemmas.Option.{none-some, same_Some}
 use Rattle.std.proofs.lemmas.List.{length-take, length-drop}
 use Rattle.sm_base.specs.Numbers.{first as first_of}
 use Rattle.sm_base.specs.declared.sizes.Geometry.{Geometry}
 use Rattle.sm_disk.specs.Held.{Held, IsIn, IsWhole, Puts, Torn, Wrote, Reaches, reads}
 use Rattle.sm_disk.specs.Sectors.{sector}
-use Rattle.sm_disk.proofs.HeldLaws.{in_one, reads-wrote, reads-elsewhere, torn_from_wrote}
+use Rattle.sm_disk.proofs.HeldLaws.{reads-wrote, reads-elsewhere, torn_from_wrote}
 use Rattle.sm_disk.proofs.ReachesLaws.{Reaches-torn, Reaches-wider}
 use Rattle.sm_disk.proofs.SectorLaws.{sector-part}
 use Rattle.vhd_map.specs.Bitmaps.{is_set}
@@ -17,9 +16,9 @@ use Rattle.vhd_map.proofs.SlotLemmas.{top_of-past, slot_of-set_same}
 use Rattle.vhd_layout.specs.Layouts.{Sectors, Layout, place, slot_count}
 use Rattle.vhd_layout.proofs.ImageLaws.{place-part, place-within, slots-fit}
 use Rattle.vhd_volumes.specs.Writes.{with_block}
-use Rattle.vhd_write.specs.Passes.{PutsHeld, PutsPart, PutsSlot, HasData, IsNewSlot, IsSlotFilled, IsPut}
+use Rattle.vhd_write.specs.Passes.{PutsHeld, IsUnsetBeside, PutsPart, PutsSlot, HasData, IsNewSlot, IsSlotFilled, IsPut}
 use Rattle.vhd_write.specs.Spans.{IsPart}
-use Rattle.vhd_write.proofs.BitLaws.{part-touches, bitmap-wrote}
+use Rattle.vhd_write.proofs.BitLaws.{one-value, part-touches, bits-only, bitmap-wrote}
 use Rattle.vhd_write.proofs.MapLaws.{with_block-new, with_block-held}
 
 -- a place by equal sizes and slot
@@ -54,19 +53,25 @@ part-whole l k j count p len size below fits some long is same =
 
 -- ---- a new slot
 
-pub part-bitmap : (l : Layout) (k first p : ℕ) (bitmap bytes : List ℕ) {a c : Held} → p ≡ place l k 0 → length bitmap ≡ 512 → Torn p bitmap a c → Reaches (PutsPart l k first bytes) a c
-part-bitmap l k first p bitmap bytes is long t = Reaches-wider (λ q v h. inl (in_one p (length bitmap) q long h.0 ∙ is)) (Reaches-torn t)
+pub part-bitmap : (l : Layout) (k first count p : ℕ) (bitmap bytes : List ℕ) {a c : Held} → p ≡ place l k 0 → length bitmap ≡ 512 → IsUnsetBeside first count bitmap → Torn p bitmap a c → Reaches (PutsPart l k first count bytes) a c
+part-bitmap l k first count p bitmap bytes {a} {c} is long unset t = Reaches-wider go (Reaches-torn t)
+  where
+    go : (q : ℕ) (v : List ℕ) → Puts p bitmap q v → PutsPart l k first count bytes q v
+    go q v h =
+        let one = one-value p q bitmap v long h in
+        let P : List ℕ → Type 0 = λ x. IsUnsetBeside first count x in
+        inl (one.0 ∙ is, subst P (sym one.1) unset)
 
-pub part-data : (l : Layout) (k first p : ℕ) (bytes : List ℕ) {a c : Held} → p ≡ place l k (1 + first) → Torn p bytes a c → Reaches (PutsPart l k first bytes) a c
-part-data l k first p bytes is t = Reaches-wider (λ q v h. inr (subst (λ x. Puts x bytes q v) is h)) (Reaches-torn t)
+pub part-data : (l : Layout) (k first count p : ℕ) (bytes : List ℕ) {a c : Held} → p ≡ place l k (1 + first) → Torn p bytes a c → Reaches (PutsPart l k first count bytes) a c
+part-data l k first count p bytes is t = Reaches-wider (λ q v h. inr (subst (λ x. Puts x bytes q v) is h)) (Reaches-torn t)
 
 pub slot-filled : (l : Layout) (k p q first count : ℕ) (bitmap bytes : List ℕ) {a b c : Held} → p ≡ place l k 0 → q ≡ place l k (1 + first) → length bitmap ≡ 512 → length bytes ≡ 512 * count
     → ((i : ℕ) → first ≤ i → i < first + count → is_set bitmap i ≡ true)
-    → ((i : ℕ) → (i < first) ⊎ (first + count ≤ i) → is_set bitmap i ≡ false)
+    → IsUnsetBeside first count bitmap
     → Wrote p bitmap a b → Wrote q bytes b c → IsSlotFilled l k first count bytes (reads c)
 slot-filled l k p q first count bitmap bytes {a} {b} {c} is there short long set others w x = record {
   set = λ i low high. ap (λ y. is_set y i) bitmap_is ∙ set i low high;
-  others = λ i within away. ap (λ y. is_set y i) bitmap_is ∙ others i away;
+  others = λ i away. ap (λ y. is_set y i) bitmap_is ∙ others i away;
   bytes_are = λ j below.
       let base = place-part l k (1 + first) in
       let part = place-part l k (1 + (first + j)) in
@@ -140,11 +145,11 @@ module _ (l : Layout) (at : ℕ) (from : List ℕ) (b first count skip : ℕ) (p
 
   -- into a new slot
 
-  pub new-puts : (k : ℕ) {a c : Held} → Reaches (PutsPart l k first part_bytes) a c → Reaches (PutsSlot l at from b k) a c
+  pub new-puts : (k : ℕ) {a c : Held} → Reaches (PutsPart l k first count part_bytes) a c → Reaches (PutsSlot l at from b k) a c
   new-puts k r = Reaches-wider go r
     where
-      go : (q : ℕ) (v : List ℕ) → PutsPart l k first part_bytes q v → PutsSlot l at from b k q v
-      go q v (inl here) = inl (part-touches l b at (length from) first count skip part, here)
+      go : (q : ℕ) (v : List ℕ) → PutsPart l k first count part_bytes q v → PutsSlot l at from b k q v
+      go q v (inl (here, unset)) = inl (part-touches l b at (length from) first count skip part, here, bits-only l b at (length from) first count skip part v unset)
       go q v (inr h) = inr (bytes-held k (place l k (1 + first)) refl q v h)
 
   pub new-put : (m n : List (Option ℕ)) {r : Sectors} → n ≡ set m b (Some (least_free_slot m)) → b < length m → IsSlotFilled l (least_free_slot m) first count part_bytes r → IsPut l at from (slot_of m b) (slot_of n b) b r
@@ -167,13 +172,7 @@ module _ (l : Layout) (at : ℕ) (from : List ℕ) (b first count skip : ℕ) (p
 
       new_there : IsNewSlot l at (length from) b (least_free_slot m) r
       new_there = record {
-        only = λ i small is_on. ⊎_elim
-            (λ low. absurd (true≢false (sym is_on ∙ filled.others i small (inl low))))
-            (λ from_first. ⊎_elim
-            (λ high. let nth : first + (i - first) ≡ i = omega arith in subst (λ x. IsIn at (length from) (b * l.block + x)) nth (part-in (i - first) (omega arith)))
-            (λ past. absurd (true≢false (sym is_on ∙ filled.others i small (inr past))))
-            (cases_lt i (first + count)))
-            (cases_lt i first);
+        only = bits-only l b at (length from) first count skip part (r (place l (least_free_slot m) 0)) filled.others;
         each = λ i small here. let h = part.all i small here in filled.set i h.0 h.1;
         some = part-touches l b at (length from) first count skip part;
       }

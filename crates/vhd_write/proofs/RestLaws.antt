@@ -15,7 +15,8 @@ use Rattle.vhd_layout.specs.Images.{IsHead, IsImage, IsValid, EachSlotHolds}
 use Rattle.vhd_layout.specs.Contents.{value}
 use Rattle.vhd_layout.proofs.ImageLaws.{option_cases, place-first, place-within, place-same, place-small, in_entries, table-first, head-kept}
 use Rattle.vhd_volumes.specs.Writes.{Follows}
-use Rattle.vhd_write.specs.Passes.{PutsData, IsPut, HasMoreBits, PutsRest}
+use Rattle.vhd_write.specs.Passes.{PutsData, IsPut, PutsRest}
+use Rattle.vhd_write.specs.WritePlaces.{HasMoreBits}
 use Rattle.vhd_write.proofs.ImageKept.{SameEnds, SameHead, head_in_front, valid-from_image, value-blank, value-set, value-unset, StepsValue, follows-from_values}
 use Rattle.vhd_write.proofs.FirstLaws.{first-ends, first-bitmap, first-data}
 
@@ -95,7 +96,7 @@ module _ (l : Layout) (ok : IsLayout l) (at : ℕ) (from : List ℕ) (m n : Slot
       go (inr h) = omega (arith, h.puts.here, table_low (h.b / 128) h.puts.within, place-first l k (1 + i))
 
   pub bits_more : (b k : ℕ) → n b ≡ Some k → HasMoreBits l at (length from) b (q (place l k 0)) (w (place l k 0))
-  bits_more b k has = ⊎_elim (λ e i within. inl (ap (λ x. is_set x i) e)) go (rest (place l k 0) (place_in b k 0 has (omega arith)))
+  bits_more b k has = ⊎_elim (λ e i. inl (ap (λ x. is_set x i) e)) go (rest (place l k 0) (place_in b k 0 has (omega arith)))
     where
       go : PutsRest l at (length from) n q (place l k 0) (w (place l k 0)) → HasMoreBits l at (length from) b (q (place l k 0)) (w (place l k 0))
       go (inl (c, o, had, h)) =
@@ -141,13 +142,13 @@ module _ (l : Layout) (ok : IsLayout l) (at : ℕ) (from : List ℕ) (m n : Slot
         (λ unset. ⊎_elim
         (λ bits. inl (value-unset l w b k i ok low is unset ∙ sym (value-unset l r b k i ok low was (sym (bits ∙ ap (λ x. is_set x i) bitmap) ∙ unset))))
         (λ h. absurd (true≢false (sym h.0 ∙ unset)))
-        (bits_more b k grown i small))
+        (bits_more b k grown i))
         (cases_Bool (is_set (w (place l k 0)) i)))
         (λ away. ⊎_elim
         (λ bits. inl (held_same k has was is (bits ∙ ap (λ x. is_set x i) bitmap)
         (data_same b k i grown small ∙ ⊎_elim (λ e. e) (λ h. absurd (away h.0)) (first-data l ok at from m image.slots r q first_pass image.head.room b k i has small))))
-        (λ h. absurd (away h.1))
-        (bits_more b k grown i small))
+        (λ h. absurd (away h.2))
+        (bits_more b k grown i))
         (in_or_not at len (b * l.block + i))
 
     -- a block that had none, and whose entry names a slot now
@@ -159,9 +160,9 @@ module _ (l : Layout) (ok : IsLayout l) (at : ℕ) (from : List ℕ) (m n : Slot
         (λ set. ⊎_elim
         (λ here. inr (w (place l k (1 + i)), new_bytes b k i has small here, value-set l w b k i ok low is set))
         (λ away. ⊎_elim
-        (λ bits. absurd (away (new.only i small (sym bits ∙ set))))
-        (λ h. absurd (away h.1))
-        (bits_more b k has i small))
+        (λ bits. absurd (away (new.only i (sym bits ∙ set)).1))
+        (λ h. absurd (away h.2))
+        (bits_more b k has i))
         (in_or_not at len (b * l.block + i)))
         (λ unset. inl (value-unset l w b k i ok low is unset ∙ sym was))
         (cases_Bool (is_set (w (place l k 0)) i))
@@ -188,8 +189,8 @@ module _ (l : Layout) (ok : IsLayout l) (at : ℕ) (from : List ℕ) (m n : Slot
   rest-holds : EachSlotHolds l.block l.entries r → EachSlotHolds l.block l.entries w
   rest-holds h = record { holds = λ b below filled. go b below (in_entries l b below) filled (option_cases (m b)) }
     where
-      still : (b k i : ℕ) → n b ≡ Some k → i < l.block → is_set (q (place l k 0)) i ≡ true → is_set (w (place l k 0)) i ≡ true
-      still b k i has small set = ⊎_elim (λ bits. bits ∙ set) (λ x. x.0) (bits_more b k has i small)
+      still : (b k i : ℕ) → n b ≡ Some k → is_set (q (place l k 0)) i ≡ true → is_set (w (place l k 0)) i ≡ true
+      still b k i has set = ⊎_elim (λ bits. bits ∙ set) (λ x. x.0) (bits_more b k has i)
 
       go : (b : ℕ) → b < l.entries → b < entries_in_sectors l → entry w b ≢ blank → (m b ≡ None) ⊎ ((k : ℕ) × (m b ≡ Some k)) → (i : ℕ) × (i < l.block) × (is_set (w (entry w b)) i ≡ true)
       go b below near filled (inr (k, has)) =
@@ -199,7 +200,7 @@ module _ (l : Layout) (ok : IsLayout l) (at : ℕ) (from : List ℕ) (m n : Slot
           let low = place-small l k ok (image.slots.fits b k has).0 in
           let old = h.holds b below (λ e. omega (arith, low, was, e)) in
           let bitmap : q (place l k 0) ≡ r (place l k 0) = first-bitmap l ok at from m image.slots r q first_pass image.head.room b k has in
-          (old.0, old.1, ap (λ p. is_set (w p) old.0) is ∙ still b k old.0 grown old.1 (ap (λ x. is_set x old.0) bitmap ∙ (ap (λ p. is_set (r p) old.0) (sym was) ∙ old.2)))
+          (old.0, old.1, ap (λ p. is_set (w p) old.0) is ∙ still b k old.0 grown (ap (λ x. is_set x old.0) bitmap ∙ (ap (λ p. is_set (r p) old.0) (sym was) ∙ old.2)))
       go b below near filled (inl none) = ⊎_elim
           (λ empty. absurd (filled empty))
           (λ named. ⊎_elim
@@ -207,7 +208,7 @@ module _ (l : Layout) (ok : IsLayout l) (at : ℕ) (from : List ℕ) (m n : Slot
           (λ has.
           let new = (put.each b).fresh has.0 none has.1 in
           let is : entry w b ≡ place l has.0 0 = named ∙ ap (code l) has.1 in
-          (new.some.0, new.some.1, ap (λ p. is_set (w p) new.some.0) is ∙ still b has.0 new.some.0 has.1 new.some.1 (new.each new.some.0 new.some.1 new.some.2)))
+          (new.some.0, new.some.1, ap (λ p. is_set (w p) new.some.0) is ∙ still b has.0 new.some.0 has.1 (new.each new.some.0 new.some.1 new.some.2)))
           (option_cases (n b)))
           (rest-within b near)
 

@@ -5,7 +5,8 @@ use Rattle.std.specs.Bool.{OnTrue}
 use Rattle.std.proofs.lemmas.Bool.{cases_lt}
 use Rattle.sm_base.specs.declared.sizes.Geometry.{Geometry}
 use Rattle.sm_disk.specs.Held.{Held, IsWhole, Puts, SameHeld, Reaches, reads}
-use Rattle.sm_disk.proofs.ReachesLaws.{Reaches-then, Reaches-same}
+use Rattle.sm_disk.proofs.HeldLaws.{reads-same}
+use Rattle.sm_disk.proofs.ReachesLaws.{Reaches-then, Reaches-wider, Reaches-same}
 use Rattle.vhd_map.specs.Slots.{slot_of, top_of}
 use Rattle.vhd_layout.specs.Layouts.{Layout, Slots, IsLayout, IsSlots, place, entry, code, entries_in_sectors}
 use Rattle.vhd_layout.proofs.ImageLaws.{option_cases, layout-of}
@@ -14,19 +15,21 @@ use Rattle.vhd_volumes.specs.Truth.{IsTrueOf, IsStanding, HasRoomFor, layout_in,
 use Rattle.vhd_volumes.specs.Writes.{IsGuarded, KeepsHeads, HasWritten, HasGrown, with_blocks, written_map}
 use Rattle.vhd_write.specs.Passes.{PutsData, ArePut, HasBits, IsFull, IsTableSector, GoesOn, IsFinished}
 use Rattle.vhd_write.specs.Spans.{IsSpan, Given}
-use Rattle.vhd_write.specs.WritePlaces.{IsWritePlace}
+use Rattle.vhd_write.specs.WritePlaces.{IsWritePlace, KeepsToPlaces}
 use Rattle.vhd_write.specs.WriteSpans.{IsSpanOf}
 use Rattle.vhd_write.specs.declared.spans.Span.{Span}
 use Rattle.vhd_write.proofs.MapLaws.{with_blocks-held}
 use Rattle.vhd_write.proofs.LoopLaws.{span-order}
+use Rattle.vhd_write.proofs.FirstLaws.{first-bitmap}
 use Rattle.vhd_write.proofs.RestLaws.{AllPut}
-use Rattle.vhd_write.proofs.PlaceLaws.{rest-places}
+use Rattle.vhd_write.proofs.PlaceLaws.{places-as, rest-places}
 use Rattle.vhd_write.proofs.HeadLaws.{heads-first, heads-after}
 use Rattle.vhd_write.proofs.ExitLaws.{ShowsAll, guarded-first, true-first, written-first, shows-first, guarded-after, true-after, written-after, table-after, shows-after, all-put, new-slots}
 
 -- the first pass, behind the reads of the bitmaps
-pub first-places : {l l' : Layout} {s : ℕ} {a b c : Held} (from : List ℕ) (m : Slots) → l' ≡ l → SameHeld a b → Reaches (IsWritePlace l' s from m) b c → Reaches (IsWritePlace l s from m) a c
-first-places {l} {l'} {s} {a} {b} {c} from m e same r = Reaches-then (Reaches-same (IsWritePlace l s from m) same) (subst (λ x. Reaches (IsWritePlace x s from m) b c) e r)
+pub first-places : {l l' : Layout} {s : ℕ} {a b c : Held} (from : List ℕ) (m n : Slots) → l' ≡ l → SameHeld a b → KeepsToPlaces l' s from m n b c → KeepsToPlaces l s from m n a c
+first-places {l} {l'} {s} {a} {b} {c} from m n e same r = Reaches-then (Reaches-same (IsWritePlace l s from m n (reads a)) same)
+    (Reaches-wider (places-as l s from m n (λ p. reads-same same p)) (subst (λ x. KeepsToPlaces x s from m n b c) e r))
 
 pub first-puts : {l l' : Layout} {s : ℕ} {a b c : Held} (from : List ℕ) (m : Slots) → l' ≡ l → SameHeld a b → Reaches (PutsData l' s from m) b c → Reaches (PutsData l s from m) a c
 first-puts {l} {l'} {s} {a} {b} {c} from m e same r = Reaches-then (Reaches-same (PutsData l s from m) same) (subst (λ x. Reaches (PutsData x s from m) b c) e r)
@@ -88,17 +91,9 @@ module _ {geo : Geometry} {n0 : ℕ} {head : Head} {m : List (Option ℕ)} {at :
     }
 
   -- the places that the write may put anything at, by the map that it ends with
-  pub places-now : {old mid : Held} → Reaches (IsWritePlace (layout_in geo head.footer n0) span.sector from (slot_of (with_blocks span.first (span.end - span.first) m))) old mid
-      → Reaches (IsWritePlace (layout_in geo head.footer n0) at from (slot_of (written_map geo.block at (length from) m))) old mid
-  places-now {old} {mid} r = subst₂ (λ s x. Reaches (IsWritePlace l s from (slot_of x)) old mid) fits.sector map-is r
-
-  pub places-then : {l' : Layout} {n : List (Option ℕ)} {old mid new : Held} → l' ≡ layout_in geo head.footer n0 → Given span.first span.end m n
-      → Reaches (IsWritePlace (layout_in geo head.footer n0) span.sector from (slot_of (with_blocks span.first (span.end - span.first) m))) old mid
-      → GoesOn l' span.sector (512 * span.count) (slot_of n) mid new
-      → Reaches (IsWritePlace (layout_in geo head.footer n0) at from (slot_of (written_map geo.block at (length from) m))) old new
-  places-then {l'} {n} {old} {mid} {new} same given r goes = places-now (rest-places l span.sector from (slot_of (with_blocks span.first (span.end - span.first) m)) r
-      (subst (λ x. GoesOn l span.sector (length from) (slot_of x) mid new) given.is
-      (subst₂ (λ y x. GoesOn y span.sector x (slot_of n) mid new) same (sym long) goes)))
+  pub places-now : {old mid : Held} → KeepsToPlaces (layout_in geo head.footer n0) span.sector from (slot_of m) (slot_of (with_blocks span.first (span.end - span.first) m)) old mid
+      → KeepsToPlaces (layout_in geo head.footer n0) at from (slot_of m) (slot_of (written_map geo.block at (length from) m)) old mid
+  places-now {old} {mid} p = subst₂ (λ s x. KeepsToPlaces l s from (slot_of m) (slot_of x) old mid) fits.sector map-is p
 
   module _ {old mid : Held} (was : IsTrueOf (layout_in geo head.footer n0) old head (slot_of m)) (r : Reaches (PutsData (layout_in geo head.footer n0) span.sector from (slot_of m)) old mid) where
     pub guarded-now : IsGuarded l (Puts at from) old mid
@@ -136,6 +131,14 @@ module _ {geo : Geometry} {n0 : ℕ} {head : Head} {m : List (Option ℕ)} {at :
       module _ {l' : Layout} (same : l' ≡ layout_in geo head.footer n0) {new : Held} where
         pub guarded-then : GoesOn l' span.sector (512 * span.count) (slot_of n) mid new → IsGuarded l (Puts at from) old new
         guarded-then goes = subst (λ x. IsGuarded l (Puts x from) old new) fits.sector (guarded-after l ok span.sector from head m old was n slots-now mid r puts
+            (subst₂ (λ y x. GoesOn y span.sector x (slot_of n) mid new) same (sym long) goes))
+
+        pub places-then : KeepsToPlaces (layout_in geo head.footer n0) span.sector from (slot_of m) (slot_of (with_blocks span.first (span.end - span.first) m)) old mid
+            → GoesOn l' span.sector (512 * span.count) (slot_of n) mid new
+            → KeepsToPlaces (layout_in geo head.footer n0) at from (slot_of m) (slot_of (written_map geo.block at (length from) m)) old new
+        places-then p goes = subst₂ (λ s x. KeepsToPlaces l s from (slot_of m) (slot_of x) old new) fits.sector (new-map given)
+            (rest-places l span.sector from (slot_of m) (slot_of n) old mid puts (first-bitmap l ok span.sector from (slot_of m) was.now.slots (reads old) (reads mid) (λ p below. r.gives p) was.now.head.room)
+            (subst (λ x. KeepsToPlaces l span.sector from (slot_of m) (slot_of x) old mid) (sym given.is) p)
             (subst₂ (λ y x. GoesOn y span.sector x (slot_of n) mid new) same (sym long) goes))
 
         pub heads-then : GoesOn l' span.sector (512 * span.count) (slot_of n) mid new → KeepsHeads n0 old new

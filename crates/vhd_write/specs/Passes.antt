@@ -6,7 +6,7 @@ use Rattle.vhd_map.specs.Bitmaps.{is_set}
 use Rattle.vhd_map.specs.Places.{word}
 use Rattle.vhd_map.specs.Slots.{slot_of, least_free_slot}
 use Rattle.vhd_layout.specs.Layouts.{Sectors, Layout, Slots, place, code, slot_count}
-use Rattle.vhd_write.specs.WritePlaces.{Touches}
+use Rattle.vhd_write.specs.WritePlaces.{Touches, HasOnlyBits, HasMoreBits}
 
 -- ---- the first pass: data, and the bitmaps of new slots
 
@@ -17,13 +17,17 @@ pub record PutsHeld (l : Layout) (at : ℕ) (from : List ℕ) (b k p : ℕ) (v :
   pub here : p ≡ place l k (1 + i)
   pub puts : Puts at from (b * l.block + i) v
 
--- a bitmap of slot k, or these bytes in its sectors from `first` on
-abbrev pub PutsPart : Layout → ℕ → ℕ → List ℕ → ℕ → List ℕ → Type 0
-PutsPart l k first bytes p v = (p ≡ place l k 0) ⊎ Puts (place l k (1 + first)) bytes p v
+-- a bitmap with no bit set but so many from `first` on
+abbrev pub IsUnsetBeside : ℕ → ℕ → List ℕ → Type 0
+IsUnsetBeside first count bitmap = (i : ℕ) → (i < first) ⊎ (first + count ≤ i) → is_set bitmap i ≡ false
 
--- a bitmap of slot k, which touched block b is given, or the new bytes of one of its sectors
+-- such a bitmap of slot k, or these bytes in its sectors from `first` on
+abbrev pub PutsPart : Layout → ℕ → ℕ → ℕ → List ℕ → ℕ → List ℕ → Type 0
+PutsPart l k first count bytes p v = ((p ≡ place l k 0) × IsUnsetBeside first count v) ⊎ Puts (place l k (1 + first)) bytes p v
+
+-- a bitmap of slot k, which touched block b is given, with bits of given sectors alone, or the new bytes of one of its sectors
 abbrev pub PutsSlot : Layout → ℕ → List ℕ → ℕ → ℕ → ℕ → List ℕ → Type 0
-PutsSlot l at from b k p v = (Touches l at (length from) b × (p ≡ place l k 0)) ⊎ PutsHeld l at from b k p v
+PutsSlot l at from b k p v = (Touches l at (length from) b × (p ≡ place l k 0) × HasOnlyBits l at (length from) b v) ⊎ PutsHeld l at from b k p v
 
 -- what the first pass puts for block b: its data where it has a slot, else its bitmap and data in the map's least free slot
 abbrev pub PutsBlock : Layout → ℕ → List ℕ → List (Option ℕ) → ℕ → ℕ → List ℕ → Type 0
@@ -49,14 +53,14 @@ HasData l at from b k r =
 
 -- slot k holds of block b just the written sectors, and at least one
 pub record IsNewSlot (l : Layout) (at len b k : ℕ) (r : Sectors) : Type 0 where
-  pub only : (i : ℕ) → i < l.block → is_set (r (place l k 0)) i ≡ true → IsIn at len (b * l.block + i)
+  pub only : HasOnlyBits l at len b (r (place l k 0))
   pub each : (i : ℕ) → i < l.block → IsIn at len (b * l.block + i) → is_set (r (place l k 0)) i ≡ true
   pub some : (i : ℕ) × (i < l.block) × IsIn at len (b * l.block + i)
 
 -- slot k holds these bytes in its sectors from `first` on, and the bits of just these
 pub record IsSlotFilled (l : Layout) (k first count : ℕ) (bytes : List ℕ) (r : Sectors) : Type 0 where
   pub set : (i : ℕ) → first ≤ i → i < first + count → is_set (r (place l k 0)) i ≡ true
-  pub others : (i : ℕ) → i < l.block → (i < first) ⊎ (first + count ≤ i) → is_set (r (place l k 0)) i ≡ false
+  pub others : IsUnsetBeside first count (r (place l k 0))
   pub bytes_are : (j : ℕ) → j < count → r (place l k (1 + (first + j))) ≡ sector bytes j
 
 -- block b is put: its bytes stand in its slot, and where it had none the slot is a new one
@@ -69,11 +73,6 @@ abbrev pub ArePut : Layout → ℕ → List ℕ → Slots → Slots → ℕ → 
 ArePut l at from old new end r = (b : ℕ) → b < end → IsPut l at from (old b) (new b) b r
 
 -- ---- the second pass: bitmaps
-
--- a bitmap of block b with more bits set, those of written sectors
-abbrev pub HasMoreBits : Layout → ℕ → ℕ → ℕ → List ℕ → List ℕ → Type 0
-HasMoreBits l at len b old new =
-    (i : ℕ) → i < l.block → (is_set new i ≡ is_set old i) ⊎ ((is_set new i ≡ true) × IsIn at len (b * l.block + i))
 
 -- the bits of the written sectors of block b are set
 abbrev pub HasBits : Layout → ℕ → ℕ → ℕ → List ℕ → Type 0

@@ -3,6 +3,7 @@
 ghost use Rattle.std.specs.Prelude.{◌≡◌, ◌≢◌, ◌⊎◌, ℕ, ◌+◌, ◌<◌, ◌≤◌, true, false};
 ghost use Rattle.std.specs.Bool.{OnTrue, OnFalse};
 ghost use Rattle.vhd_map.specs.Bitmaps.{is_set};
+ghost use Rattle.vhd_write.specs.Passes.{IsUnsetBeside};
 
 use crate::spans::Part;
 use vhd_map::{bit, set_bit};
@@ -41,8 +42,7 @@ pub(crate) fn bitmap_of(part: &Part) -> [u8; 512]
     requires { part.now.first + part.now.count ≤ 4096 }
     ensures set { (i : ℕ) → part.now.first ≤ i → i < part.now.first + part.now.count → is_set result i ≡
         true }
-    ensures others { (i : ℕ) → (i < part.now.first) ⊎ (part.now.first + part.now.count ≤ i) → is_set
-        result i ≡ false }
+    ensures others { IsUnsetBeside part.now.first part.now.count result }
 {
     let mut bitmap = [0; 512];
     set_bits(&mut bitmap, part);

@@ -9,7 +9,7 @@ ghost use Rattle.vhd_volumes.specs.Truth.{layout_now, HasRoomIn};
 ghost use Rattle.vhd_volumes.specs.Writes.{HasGrown, with_block, with_blocks};
 ghost use Rattle.vhd_write.specs.Passes.{PutsPart, PutsBlock, PutsData, IsSlotFilled, IsPut, ArePut};
 ghost use Rattle.vhd_write.specs.Spans.{Given};
-ghost use Rattle.vhd_write.specs.WritePlaces.{IsWritePlace};
+ghost use Rattle.vhd_write.specs.WritePlaces.{KeepsToPlaces};
 
 use crate::bitmaps::bitmap_of;
 use crate::calls::{place_of, put};
@@ -43,7 +43,7 @@ fn put_new<S: Store>(
     ensures kept { OnErr result (map.new ≡ map.old) }
     ensures reaches { Does S.Store head.now.volume
         (Reaches (PutsPart (layout_now (stored S.Store store.old) head.now)
-        (least_free_slot map.old) part.now.first bytes.now)) store.old store.new }
+        (least_free_slot map.old) part.now.first part.now.count bytes.now)) store.old store.new }
     ensures done { OnOk result (Gives S.Store head.now.volume
         (IsSlotFilled (layout_now (stored S.Store store.old) head.now)
         (least_free_slot map.old) part.now.first part.now.count bytes.now) store.new) }
@@ -121,8 +121,8 @@ pub(crate) fn put_blocks<S: Store>(
         (Reaches (PutsData (layout_now (stored S.Store store.old) head.now) span.now.sector from.now
         (slot_of map.old))) store.old store.new }
     ensures places { Does S.Store head.now.volume
-        (Reaches (IsWritePlace (layout_now (stored S.Store store.old) head.now) span.now.sector from.now
-        (slot_of (with_blocks span.now.first (span.now.end - span.now.first) map.old)))) store.old store.new }
+        (KeepsToPlaces (layout_now (stored S.Store store.old) head.now) span.now.sector from.now (slot_of map.old)
+        (slot_of (with_blocks span.now.first (span.now.end - span.now.first) map.old))) store.old store.new }
     ensures done { OnOk result (Gives S.Store head.now.volume
         (ArePut (layout_now (stored S.Store store.old) head.now) span.now.sector from.now (slot_of map.old)
         (slot_of map.new) span.now.end) store.new) }

@@ -16,8 +16,11 @@
 //!
 //! **What it writes.** Only sectors of the volume that it has to: at every return, all that a stop may leave and a read
 //! gives is what it was, but for the given sectors, with their bytes, in the slots of their blocks; the bitmaps of these
-//! slots; and the sectors of the table with these blocks' entries (`IsWritePlace`, in `specs/WritePlaces`). So what lies
-//! in a new slot beside the given sectors stays as it was on the device. No bit names it, so no read gives it.
+//! slots, with the bits of given sectors alone in a new slot, and with more of these in one that a block had; and the
+//! sectors of the table with these blocks' entries, with entries of the map alone (`IsWritePlace`, in
+//! `specs/WritePlaces`). So what lies in a new slot beside the given sectors stays as it was on the device. No bit names
+//! it, so no read gives it. The bits of a bitmap behind those of the block's sectors are unset in a new slot, and stay in
+//! one that a block had.
 //!
 //! **What a stop may leave.** At every return, whatever a stop may leave of the volume is a valid image, and follows one
 //! that a stop could leave as the call began: each sector of the disk is as it was there, or held with the bytes of this

@@ -10,7 +10,7 @@ ghost use Rattle.vhd_volumes.specs.Truth.{disk_sectors, disk_blocks, layout_now,
 ghost use Rattle.vhd_volumes.specs.Writes.{IsGuarded, KeepsHeads, HasWritten, HasGrown, with_blocks, written_map};
 ghost use Rattle.vhd_write.specs.Passes.{PutsData, ArePut};
 ghost use Rattle.vhd_write.specs.Spans.{Given};
-ghost use Rattle.vhd_write.specs.WritePlaces.{IsWritePlace};
+ghost use Rattle.vhd_write.specs.WritePlaces.{KeepsToPlaces};
 ghost use Rattle.vhd_write.specs.WriteSpans.{IsSpanOf, AreFullNow};
 
 use crate::blocks::put_blocks;
@@ -85,8 +85,8 @@ fn first_pass<S: Store>(
         (Reaches (PutsData (layout_now (stored S.Store store.old) head.now) span.now.sector from.now
         (slot_of map.old))) store.old store.new }
     ensures places { Does S.Store head.now.volume
-        (Reaches (IsWritePlace (layout_now (stored S.Store store.old) head.now) span.now.sector from.now
-        (slot_of (with_blocks span.now.first (span.now.end - span.now.first) map.old)))) store.old store.new }
+        (KeepsToPlaces (layout_now (stored S.Store store.old) head.now) span.now.sector from.now (slot_of map.old)
+        (slot_of (with_blocks span.now.first (span.now.end - span.now.first) map.old))) store.old store.new }
     ensures done { OnOk result (Gives S.Store head.now.volume
         (ArePut (layout_now (stored S.Store store.old) head.now) span.now.sector from.now (slot_of map.old)
         (slot_of map.new) span.now.end) store.new) }
@@ -99,7 +99,8 @@ fn first_pass<S: Store>(
 
 /// Writes whole sectors of a disk, at least one, from its sector `sector` on, into the image with this head and map in
 /// the head's volume. Blocks without a slot are given the least free ones in rising order, for which the volume has
-/// room. Nothing is put but these sectors, bitmaps of their blocks' slots, and their blocks' entries of the table.
+/// room. Nothing is put but these sectors, their bits in the bitmaps of their blocks' slots, and their blocks' entries of
+/// the table.
 ///
 /// At `Ok` a read gives the bytes, and all other sectors as before. At `Failed`, and whenever a stop comes, what a stop
 /// leaves is a valid image that follows one which a stop could leave before: each sector as it was there, or with its
@@ -128,8 +129,8 @@ pub fn write<S: Store>(
     ensures guarded { Does S.Store head.now.volume
         (IsGuarded (layout_now (stored S.Store store.old) head.now) (Puts sector from.now)) store.old store.new }
     ensures places { Does S.Store head.now.volume
-        (Reaches (IsWritePlace (layout_now (stored S.Store store.old) head.now) sector from.now
-        (slot_of (written_map (S.site store.old).geometry.block sector (length from.now) map.old)))) store.old store.new }
+        (KeepsToPlaces (layout_now (stored S.Store store.old) head.now) sector from.now (slot_of map.old)
+        (slot_of (written_map (S.site store.old).geometry.block sector (length from.now) map.old))) store.old store.new }
     ensures heads { Does S.Store head.now.volume
         (KeepsHeads (sectors_in (stored S.Store store.old) head.now.volume)) store.old store.new }
     ensures grown { HasGrown map.old map.new }

@@ -1,13 +1,14 @@
 use Rattle.std.proofs.Common.{◌≡◌, inl, ◌∙◌, refl, ap, subst, arith}
 use Rattle.sm_base.specs.declared.sizes.Geometry.{Geometry}
-use Rattle.vg_volumes.proofs.StoredLaws.{stays_none, stays_then}
+use Rattle.sm_disk.proofs.ReachesLaws.{Reaches-none}
+use Rattle.vg_volumes.proofs.StoredLaws.{stays_none, stays_then, works_none}
 use Rattle.sm_machine.specs.declared.replies.Reply.TheVariants.{Done}
 use Rattle.sm_ready.specs.Does.{store_shape}
 use Rattle.sm_guests.proofs.FillBegun.{fill_begun}
 use Rattle.sm_guests.proofs.FillShapes.{reached_shape}
 use Rattle.sm_guests.proofs.FillTaken.{IsFilling}
 use Rattle.sm_guests.proofs.TakenLaws.{answered_err}
-use Rattle.sm_guests.proofs.FillLoop.{all_shaped, beside_none, beside_then, few_sectors_to, told_done, turn_aligned, turn_allowed, turn_shape, turn_stopped, turn_told, turn_within}
+use Rattle.sm_guests.proofs.FillLoop.{all_shaped, beside_none, beside_then, few_sectors_to, told_done, turn_aligned, turn_allowed, turn_shape, turn_stopped, turn_told, turn_within, turn_writes}
 use Rattle.sm_guests.specs.Taken.{answered}
 use Rattle.sm_guests.proofs.filling.fill_with.Goals as goal
 
@@ -19,6 +20,7 @@ loop-done-init g c = record {
   shape = refl;
   beside_tree = beside_none c.args.memory.now;
   fits = omega arith;
+  writes = record { works = works_none _ c.args.store.now; places = λ r is told. Reaches-none _ _ };
   aligned = inl refl;
   filling = λ told ready. fill_begun g.S.Store c.args.store.now c.args.memory.now c.requires.session.orderly c.requires.session.usable told ready c.args.disk.now c.args.sector c.args.count c.args.byte
       (g.met.S.Store.leaves_now c.args.store.now told c.requires.session.usable);
@@ -53,6 +55,13 @@ returns-in_err-write-clause-taken g c = λ told ready.
     c.fill.new.self _ (c.fill.ensures.after (λ y h. h)) c.requires.long c.requires.session.usable told ready filling i.stays.site c.write.new.store c.write.new.memory
     (answered Done c.write.result) (answered Done c.from_residual.result) (answered_err Done c.from_residual.result c.from_residual.ensures.0) (c.write.ensures.taken told filling.ready)
 
+pub returns-in_err-write-clause-writes : goal.returns-in_err-write-clause-writes
+returns-in_err-write-clause-writes g c =
+    let i = c.loop-done.invariant in
+    turn_writes g.S.Store c.args.store.now c.args.memory.now c.args.disk.now c.args.sector c.args.count c.args.byte c.requires.session.orderly c.requires.allowed
+    c.loop-done.store c.loop-done.memory c.loop-done.done i.shape c.from-block.result c.min-few.result (c.from-block.ensures ∙ ap (λ (x : Geometry). x.block) c.geometry.ensures) c.loop-done-test.true c.min-few.ensures i.aligned
+    c.fill.new.self _ (c.fill.ensures.after (λ y h. h)) c.requires.long c.write.new.store i.session.orderly c.requires.session.true_images i.writes c.write.ensures.writes
+
 pub loop-done-preserved : goal.loop-done-preserved
 loop-done-preserved g c =
     let i = c.loop-done.invariant in
@@ -69,6 +78,9 @@ loop-done-preserved g c =
       beside_tree = beside_then _ _ _ i.beside_tree c.write.ensures.beside_tree;
       fits = turn_within g.S.Store c.args.store.now c.args.memory.now c.args.disk.now c.args.sector c.args.count c.args.byte c.requires.session.orderly c.requires.allowed
           c.loop-done.store c.loop-done.memory c.loop-done.done i.shape c.from-block.result c.min-few.result block c.loop-done-test.true c.min-few.ensures i.aligned c.fill.new.self _ filled c.requires.long;
+      writes = turn_writes g.S.Store c.args.store.now c.args.memory.now c.args.disk.now c.args.sector c.args.count c.args.byte c.requires.session.orderly c.requires.allowed
+          c.loop-done.store c.loop-done.memory c.loop-done.done i.shape c.from-block.result c.min-few.result block c.loop-done-test.true c.min-few.ensures i.aligned c.fill.new.self _ filled c.requires.long
+          c.write.new.store i.session.orderly c.requires.session.true_images i.writes c.write.ensures.writes;
       aligned = turn_aligned g.S.Store c.args.store.now c.args.memory.now c.args.disk.now c.args.sector c.args.count c.args.byte c.requires.session.orderly c.requires.allowed
           c.loop-done.store c.loop-done.memory c.loop-done.done i.shape c.from-block.result c.min-few.result block c.loop-done-test.true c.min-few.ensures i.aligned c.fill.new.self _ filled c.requires.long;
       filling = λ told ready.

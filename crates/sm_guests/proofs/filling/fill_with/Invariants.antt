@@ -4,6 +4,8 @@ use Rattle.sm_ready.specs.Does.{store_shape}
 use Rattle.sm_ready.specs.Frames.{IsBesideTree}
 use Rattle.sm_ready.specs.Framing.{IsBetweenSteps}
 use Rattle.sm_ready.specs.Sessions.{IsReadyStore}
+use Rattle.sm_guests.specs.Writing.{WritesOnly}
+use Rattle.sm_guests.proofs.FillLaws.{all_of}
 use Rattle.sm_guests.proofs.FillLoop.{IsAligned}
 use Rattle.sm_guests.proofs.FillShapes.{reached_shape}
 use Rattle.sm_guests.proofs.FillTaken.{IsFilling}
@@ -18,6 +20,7 @@ invariant-loop-done g l = record {
   shape : store_shape g.S.Store l.store l.memory ≡ reached_shape (store_shape g.S.Store l.fn.store l.fn.memory) l.disk l.sector l.done;
   beside_tree : IsBesideTree l.fn.memory l.memory;
   fits : l.done ≤ l.count;
+  writes : WritesOnly g.S.Store l.fn.memory l.disk l.sector (all_of l.count l.byte) l.fn.store l.store;
   aligned : IsAligned (g.S.Store.site l.fn.store).geometry.block l.sector l.done l.count;
   filling : g.S.Store.told → IsReadyStore g.S.Store l.fn.store l.fn.memory → IsFilling g.S.Store l.disk l.sector l.count l.byte l.fn.store l.fn.memory l.done l.store l.memory;
 }

@@ -26,7 +26,7 @@ loop-block-init g c =
       works = works_none c.args.head.now.volume c.args.store.now;
       given = given-none s.first c.args.map.now c.requires.good;
       reaches = λ told. Reaches-none (PutsData l s.sector c.args.from.now (slot_of c.args.map.now)) held;
-      places = λ told. Reaches-none (IsWritePlace l s.sector c.args.from.now (slot_of (with_blocks s.first (s.end - s.first) c.args.map.now))) held;
+      places = λ told. Reaches-none (IsWritePlace l s.sector c.args.from.now (slot_of c.args.map.now) (slot_of (with_blocks s.first (s.end - s.first) c.args.map.now)) (reads held)) held;
       done = λ told. put-none {l = l} {at = s.sector} {count = s.count} {end = s.end} c.args.map.now (reads held) (subst (λ b. IsSpan b s.sector s.count s.first s.end) c.requires.sizes s.in_range) c.requires.bytes;
     }
 
@@ -70,7 +70,7 @@ returns-in_err-put_block-clause-places g c = λ told.
     let more = given-to first (block + 1) c.args.span.now.end c.args.map.now (with_block block c.loop-block.map) (omega (arith, c.loop-block.auto.block)) (omega (arith, c.loop-block-test.true)) next in
     let l = layout_now (stored g.S.Store c.args.store.now) c.args.head.now in
     let step = subst (λ x. Reaches (PutsBlock x c.args.span.now.sector c.args.from.now c.loop-block.map block) (held_in (stored g.S.Store c.loop-block.store) c.args.head.now.volume) (held_in (stored g.S.Store c.put_block.new.store) c.args.head.now.volume)) (works_layout c.args.head.now i.works) (c.put_block.ensures.reaches told) in
-    block-places l c.args.span.now.sector c.args.from.now block c.loop-block.map _ (omega (arith, in_map, i.given.grown.long)) more (i.places told) step
+    block-places l c.args.span.now.sector c.args.from.now block c.args.map.now c.loop-block.map _ i.given.grown (omega (arith, in_map, i.given.grown.long)) more (i.places told) step
 
 pub loop-block-preserved : goal.loop-block-preserved
 loop-block-preserved g c =
@@ -92,7 +92,7 @@ loop-block-preserved g c =
       works = works_then i.works c.put_block.ensures.works;
       given = subst (Given first (block + 1) c.args.map.now) (sym is) next;
       reaches = λ told. put-reaches l c.args.span.now.sector c.args.from.now first block c.args.map.now c.loop-block.map i.given c.loop-block.auto.block new_in (i.reaches told) (step told);
-      places = λ told. block-places l c.args.span.now.sector c.args.from.now block c.loop-block.map _ (omega (arith, in_map, i.given.grown.long)) more (i.places told) (step told);
+      places = λ told. block-places l c.args.span.now.sector c.args.from.now block c.args.map.now c.loop-block.map _ i.given.grown (omega (arith, in_map, i.given.grown.long)) more (i.places told) (step told);
       done = λ told. put-more l c.args.span.now.sector c.args.from.now first block c.args.map.now c.loop-block.map i.given c.loop-block.auto.block new_in is others (step told) (i.done told)
           (subst (λ x. IsPut x c.args.span.now.sector c.args.from.now (slot_of c.loop-block.map block) (slot_of c.put_block.new.map block) block (reads (held_in (stored g.S.Store c.put_block.new.store) c.args.head.now.volume))) (works_layout c.args.head.now i.works) (c.in_ok-put_block.ensures.done told));
     }

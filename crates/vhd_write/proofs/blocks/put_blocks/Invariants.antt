@@ -6,7 +6,7 @@ use Rattle.vhd_volumes.specs.Truth.{layout_now}
 use Rattle.vhd_volumes.specs.Writes.{with_blocks}
 use Rattle.vhd_write.specs.Passes.{PutsData, ArePut}
 use Rattle.vhd_write.specs.Spans.{Given}
-use Rattle.vhd_write.specs.WritePlaces.{IsWritePlace}
+use Rattle.vhd_write.specs.WritePlaces.{KeepsToPlaces}
 use Rattle.vhd_write.proofs.blocks.put_blocks.Given as goal
 
 -- the blocks below the counter are put
@@ -20,8 +20,8 @@ invariant-loop-block g l = record {
       (held_in (stored g.S.Store l.fn.store) l.head.volume)
       (held_in (stored g.S.Store l.store) l.head.volume);
   places : g.S.Store.told
-      → Reaches (IsWritePlace (layout_now (stored g.S.Store l.fn.store) l.head) l.span.sector l.from
-      (slot_of (with_blocks l.span.first (l.span.end - l.span.first) l.fn.map)))
+      → KeepsToPlaces (layout_now (stored g.S.Store l.fn.store) l.head) l.span.sector l.from (slot_of l.fn.map)
+      (slot_of (with_blocks l.span.first (l.span.end - l.span.first) l.fn.map))
       (held_in (stored g.S.Store l.fn.store) l.head.volume)
       (held_in (stored g.S.Store l.store) l.head.volume);
   done : g.S.Store.told

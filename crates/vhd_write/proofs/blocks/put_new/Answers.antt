@@ -59,7 +59,7 @@ returns-in_err-put-clause-reaches g c = λ told.
     let k = least_free_slot c.args.map.now in
     let is = place_is c.place_of-at.result _ (g.S.Store.site c.args.store.now).geometry _ k 0 c.place_of-at.ensures c.geometry-geometry.ensures c.least_free-slot.ensures.least in
     let short : length c.bitmap_of-bitmap.result ≡ 512 = search rules in
-    part-bitmap l k c.args.part.now.first c.place_of-at.result c.bitmap_of-bitmap.result c.args.bytes.now is short (c.put.ensures.torn told)
+    part-bitmap l k c.args.part.now.first c.args.part.now.count c.place_of-at.result c.bitmap_of-bitmap.result c.args.bytes.now is short c.bitmap_of-bitmap.ensures.others (c.put.ensures.torn told)
 
 pub returns-in_err-put-2-clause-reaches : goal.returns-in_err-put-2-clause-reaches
 returns-in_err-put-2-clause-reaches g c = λ told.
@@ -68,8 +68,8 @@ returns-in_err-put-2-clause-reaches g c = λ told.
     let is = place_is c.place_of-at.result _ (g.S.Store.site c.args.store.now).geometry _ k 0 c.place_of-at.ensures c.geometry-geometry.ensures c.least_free-slot.ensures.least in
     let there = place_is c.place_of-data.result _ (g.S.Store.site c.args.store.now).geometry _ k (1 + c.args.part.now.first) c.place_of-data.ensures c.geometry-geometry.ensures c.least_free-slot.ensures.least in
     let short : length c.bitmap_of-bitmap.result ≡ 512 = search rules in
-    Reaches-then (part-bitmap l k c.args.part.now.first c.place_of-at.result c.bitmap_of-bitmap.result c.args.bytes.now is short (c.put.ensures.torn told))
-    (part-data l k c.args.part.now.first c.place_of-data.result c.args.bytes.now there (c.put-2.ensures.torn told))
+    Reaches-then (part-bitmap l k c.args.part.now.first c.args.part.now.count c.place_of-at.result c.bitmap_of-bitmap.result c.args.bytes.now is short c.bitmap_of-bitmap.ensures.others (c.put.ensures.torn told))
+    (part-data l k c.args.part.now.first c.args.part.now.count c.place_of-data.result c.args.bytes.now there (c.put-2.ensures.torn told))
 
 pub returns-clause-reaches : goal.returns-clause-reaches
 returns-clause-reaches g c = λ told.
@@ -78,8 +78,8 @@ returns-clause-reaches g c = λ told.
     let is = place_is c.place_of-at.result _ (g.S.Store.site c.args.store.now).geometry _ k 0 c.place_of-at.ensures c.geometry-geometry.ensures c.least_free-slot.ensures.least in
     let there = place_is c.place_of-data.result _ (g.S.Store.site c.args.store.now).geometry _ k (1 + c.args.part.now.first) c.place_of-data.ensures c.geometry-geometry.ensures c.least_free-slot.ensures.least in
     let short : length c.bitmap_of-bitmap.result ≡ 512 = search rules in
-    Reaches-then (part-bitmap l k c.args.part.now.first c.place_of-at.result c.bitmap_of-bitmap.result c.args.bytes.now is short (c.put.ensures.torn told))
-    (part-data l k c.args.part.now.first c.place_of-data.result c.args.bytes.now there (c.put-2.ensures.torn told))
+    Reaches-then (part-bitmap l k c.args.part.now.first c.args.part.now.count c.place_of-at.result c.bitmap_of-bitmap.result c.args.bytes.now is short c.bitmap_of-bitmap.ensures.others (c.put.ensures.torn told))
+    (part-data l k c.args.part.now.first c.args.part.now.count c.place_of-data.result c.args.bytes.now there (c.put-2.ensures.torn told))
 
 pub returns-clause-done : goal.returns-clause-done
 returns-clause-done g c = λ told.

@@ -34,11 +34,11 @@ returns-in_err-complete-clause-places g c = λ told. Reaches-same _ (c.is_comple
 
 pub returns-in_err-put_blocks-clause-places : goal.returns-in_err-put_blocks-clause-places
 returns-in_err-put_blocks-clause-places g c = λ told.
-    first-places c.args.from.now _ (works_layout c.args.head.now c.is_complete.ensures.works) (c.is_complete.ensures.same told) (c.put_blocks.ensures.places told)
+    first-places c.args.from.now (slot_of c.args.map.now) _ (works_layout c.args.head.now c.is_complete.ensures.works) (c.is_complete.ensures.same told) (c.put_blocks.ensures.places told)
 
 pub returns-clause-places : goal.returns-clause-places
 returns-clause-places g c = λ told.
-    first-places c.args.from.now _ (works_layout c.args.head.now c.is_complete.ensures.works) (c.is_complete.ensures.same told) (c.put_blocks.ensures.places told)
+    first-places c.args.from.now (slot_of c.args.map.now) _ (works_layout c.args.head.now c.is_complete.ensures.works) (c.is_complete.ensures.same told) (c.put_blocks.ensures.places told)
 
 pub returns-clause-done : goal.returns-clause-done
 returns-clause-done g c = λ told.

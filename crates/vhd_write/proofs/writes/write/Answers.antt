@@ -107,10 +107,10 @@ returns-clause-written g c = λ told.
 
 pub returns-in_err-finish-clause-places : goal.returns-in_err-finish-clause-places
 returns-in_err-finish-clause-places g c = λ told.
-    places-then c.args.from.now c.requires.stands c.requires.whole c.requires.slots c.span_of-span.ensures (works_layout c.args.head.now c.first_pass.ensures.works) c.in_ok-complete.ensures.given
-    (c.first_pass.ensures.places told) (c.finish.ensures.goes told)
+    places-then c.args.from.now c.requires.stands c.requires.whole c.requires.slots c.span_of-span.ensures (c.requires.is_true told) (c.first_pass.ensures.reaches told)
+    c.in_ok-complete.ensures.given (c.in_ok-complete.ensures.done told) (works_layout c.args.head.now c.first_pass.ensures.works) (c.first_pass.ensures.places told) (c.finish.ensures.goes told)
 
 pub returns-clause-places : goal.returns-clause-places
 returns-clause-places g c = λ told.
-    places-then c.args.from.now c.requires.stands c.requires.whole c.requires.slots c.span_of-span.ensures (works_layout c.args.head.now c.first_pass.ensures.works) c.in_ok-complete.ensures.given
-    (c.first_pass.ensures.places told) (c.finish.ensures.goes told)
+    places-then c.args.from.now c.requires.stands c.requires.whole c.requires.slots c.span_of-span.ensures (c.requires.is_true told) (c.first_pass.ensures.reaches told)
+    c.in_ok-complete.ensures.given (c.in_ok-complete.ensures.done told) (works_layout c.args.head.now c.first_pass.ensures.works) (c.first_pass.ensures.places told) (c.finish.ensures.goes told)
