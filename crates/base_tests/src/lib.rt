@@ -18,3 +18,5 @@ mod pools;
 mod records;
 #[cfg(test)]
 mod scripts;
+#[cfg(test)]
+mod trials;

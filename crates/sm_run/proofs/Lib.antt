@@ -1,5 +1,6 @@
 pub mod Growth
 pub mod LineLaws
+pub mod PoorLaws
 pub mod ReadLaws
 pub mod StepLaws
 pub mod RunLaws

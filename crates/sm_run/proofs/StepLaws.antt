@@ -7,6 +7,7 @@ use Rattle.sm_machine.specs.declared.replies.Reply.{Reply}
 use Rattle.sm_machine.specs.declared.replies.Reply.TheVariants.{No}
 use Rattle.sm_machine.specs.Disks.{Disk}
 use Rattle.sm_machine.specs.Lines.{spelled}
+use Rattle.sm_machine.specs.Refusals.{refusal}
 use Rattle.sm_machine.specs.Runs.{Turn, taken, settles, some_settling, is_accepted, is_settling, face}
 use Rattle.sm_machine.specs.Steps.{State, Outcome, refused, step, step_line, step_or_bad}
 use Rattle.sm_run.specs.Between.{IsBetween, IsSettledAs}
@@ -49,8 +50,8 @@ settles-refused σ t r is h = sym (is_accepted-no r) ∙ ap (λ (o : Outcome). i
 pub spared-ample : (σ : State) (line : List ℕ) → IsSpared σ (turn_of line false)
 spared-ample σ line = λ is. absurd (cc)
 
-spared-spelled : (σ : State) (line : List ℕ) (command : Command) (poor : Bool) → spelled line ≡ Some command → may_want_memory σ.shape command ≡ true → IsSpared σ (turn_of line poor)
-spared-spelled σ line command poor h may = λ is. (command, h, may)
+spared-spelled : (σ : State) (line : List ℕ) (command : Command) (poor : Bool) → spelled line ≡ Some command → refusal σ.shape command ≡ None → may_want_memory σ.shape command ≡ true → IsSpared σ (turn_of line poor)
+spared-spelled σ line command poor h unrefused may = λ is. (command, h, unrefused, may)
 
 -- the disks are those that a stop might leave before
 same_between : (σ : State) (before : List Disk → Type 0) (ds : List Disk) → before ds → map face ds ≡ map face σ.disks → IsBetween before σ.disks σ.disks ds
@@ -82,7 +83,7 @@ stepped-refused σ σ' line poor r reply before after is_ready is_kept spared is
 pub stepped-command : (σ σ' : State) (line : List ℕ) (command : Command) (result : Result Reply StepFault) (before after : List Disk → Type 0) (is_ready is_kept : Type 0)
     → spelled line ≡ Some command
     → IfOk result (λ r. ((r ≡ No NoMemory) × (σ' ≡ σ)) ⊎ ((r ≡ (step σ command).reply) × (σ' ≡ (step σ command).after)))
-    → IfOk result (λ r. r ≡ No NoMemory → may_want_memory σ.shape command ≡ true)
+    → IfOk result (λ r. r ≡ No NoMemory → (refusal σ.shape command ≡ None) × (may_want_memory σ.shape command ≡ true))
     → OnOk result is_ready → is_kept
     → IfOk result (λ r. is_accepted r ≡ false → (ds : List Disk) → after ds → before ds)
     → ((ds : List Disk) → after ds → IsBetween before σ.disks ((step σ command).after).disks ds)
@@ -104,7 +105,7 @@ stepped-command σ σ' line command (Err e) before after is_ready is_kept spells
       settled = tt;
     }
 stepped-command σ σ' line command (Ok r) before after is_ready is_kept spells (inl poor) takes ready kept refuses crash faces settled had =
-    stepped-refused σ σ' line true NoMemory r before after is_ready is_kept (spared-spelled σ line command true spells (takes poor.0)) (taken-poor σ line)
+    stepped-refused σ σ' line true NoMemory r before after is_ready is_kept (spared-spelled σ line command true spells ((takes poor.0).0) ((takes poor.0).1)) (taken-poor σ line)
     poor.0 poor.1 ready kept had (refuses (ap is_accepted poor.0 ∙ is_accepted-no NoMemory))
 stepped-command σ σ' line command (Ok r) before after is_ready is_kept spells (inr whole) takes ready kept refuses crash faces settled had =
     let is = taken-some σ line command spells in

@@ -1,7 +1,7 @@
 -- A run over a script (this project's format): which lines were read, which of them were answered, and what the sink
 -- got. A script is read byte by byte, and each line's reply goes out whole before the next byte is read. So at every
 -- return all lines that were read whole are answered, but for the last one where its step or its reply failed.
-use Rattle.std.specs.Prelude.{◌≡◌, ◌≢◌, ◌≤◌, ◌^◌, ◌+◌, ◌==◌, ◌⊎◌, ⊤, ℕ, Bool, true, false, List, [], ◌∷◌, ◌++◌, map, length, take, Option, Some, IfSome, Result, Ok, Err}
+use Rattle.std.specs.Prelude.{◌≡◌, ◌≢◌, ◌≤◌, ◌^◌, ◌+◌, ◌==◌, ◌⊎◌, ⊤, ℕ, Bool, true, false, List, [], ◌∷◌, ◌++◌, map, length, take, Option, None, Some, IfSome, Result, Ok, Err}
 use Rattle.sm_base.specs.declared.operations.Plan.{Plan}
 use Rattle.sm_base.specs.declared.operations.Plan.TheVariants as plan
 use Rattle.sm_disk.specs.Streams.{Takes, Adds}
@@ -10,6 +10,7 @@ use Rattle.sm_machine.specs.declared.commands.Command.{Command}
 use Rattle.sm_machine.specs.declared.commands.Command.TheVariants.{Gc}
 use Rattle.sm_machine.specs.Disks.{Disk}
 use Rattle.sm_machine.specs.Lines.{lines, spelled}
+use Rattle.sm_machine.specs.Refusals.{refusal}
 use Rattle.sm_machine.specs.Runs.{Turn, taken, after_run, replies, takes_memory, IsAsAfter, IsAsDuring}
 use Rattle.sm_machine.specs.Shapes.{Shape}
 use Rattle.sm_machine.specs.Steps.{State}
@@ -52,9 +53,10 @@ unfoldable pub may_want_memory : Shape → Command → Bool
 may_want_memory s Gc = begins (next_step s)
 may_want_memory s c = takes_memory c
 
--- a line to which memory was wanting spells a command whose answer it may take the place of in this state
+-- A line to which memory was wanting spells a command that no cause refuses in this state, and whose answer want of memory may
+-- take the place of.
 abbrev pub IsSpared : State → Turn → Type 0
-IsSpared σ t = t.poor ≡ true → (c : Command) × (spelled t.line ≡ Some c) × (may_want_memory σ.shape c ≡ true)
+IsSpared σ t = t.poor ≡ true → (c : Command) × (spelled t.line ≡ Some c) × (refusal σ.shape c ≡ None) × (may_want_memory σ.shape c ≡ true)
 
 -- so it is of each turn of a run, with the state in front of it
 unfoldable pub AreSpared : State → List Turn → Type 0

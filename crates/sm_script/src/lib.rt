@@ -18,9 +18,11 @@
 //! For other words than those of a script, as the program's own, there are [`number_in`] and [`uuid_in`], which
 //! read one, and [`Word`] and [`write_line`], which print a line of them.
 //!
+//! A [`Trial`] draws the lines of a large script from a number, the same for the same number, and takes no memory.
+//!
 //! The definitions of the grammar and of the printed text are those of `sm_machine` (`Lines`, `Replies`). In
 //! `specs/` here: `Cuts` (what stands behind a line's first word), `Pieces` (what a call did that was to write a
-//! text), and `Rooms` (where the room for the bytes of a line is).
+//! text), `Rooms` (where the room for the bytes of a line is), and `Trials` (the lines of a trial).
 #![tactic(auto)]
 
 mod cuts;
@@ -33,6 +35,7 @@ mod printing;
 mod readings;
 mod refusals;
 mod steps;
+mod trials;
 mod words;
 
 pub use fields::{number_in, uuid_in};
@@ -41,4 +44,5 @@ pub use pieces::write_line;
 pub use printing::Print;
 pub use readings::Reading;
 pub use sm_machine::{Bytes, Command, DiskRow, DiskRows, LineBytes, Reply, StatRow, StatRows};
+pub use trials::Trial;
 pub use words::Word;
