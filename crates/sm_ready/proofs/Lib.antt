@@ -54,7 +54,6 @@ pub mod UsedLaws
 pub mod OwnLaws
 pub mod LabelLaws
 pub mod LookLaws
-pub mod TurnLaws
 pub mod NeedLaws
 pub mod MadeLaws
 pub mod StopLaws

@@ -16,7 +16,7 @@ use vhd_chain::{Tree, TreeRow};
 
 /// The disk that a command names, other than by a new UUID.
 #[tactic(auto, unfolding(sm_machine::specs::Refusals::named))]
-pub(crate) fn named(command: &Command) -> Option<Uuid>
+pub fn named(command: &Command) -> Option<Uuid>
     ensures { result ≡ machine.named command.now }
 {
     match command {
@@ -40,7 +40,7 @@ pub(crate) fn named(command: &Command) -> Option<Uuid>
 
 /// The new UUID of a command.
 #[tactic(auto, unfolding(sm_machine::specs::Refusals::new_uuid))]
-pub(crate) fn new_uuid(command: &Command) -> Option<Uuid>
+pub fn new_uuid(command: &Command) -> Option<Uuid>
     ensures { result ≡ machine.new_uuid command.now }
 {
     match command {
@@ -53,7 +53,7 @@ pub(crate) fn new_uuid(command: &Command) -> Option<Uuid>
 
 /// The disk that a command makes another of.
 #[tactic(auto, unfolding(sm_machine::specs::Refusals::forked))]
-pub(crate) fn forked(command: &Command) -> Option<Uuid>
+pub fn forked(command: &Command) -> Option<Uuid>
     ensures { result ≡ machine.forked command.now }
 {
     match command {
@@ -85,7 +85,7 @@ fn visible<'a>(memory: &'a Memory, name: &Name) -> Option<&'a TreeRow>
 
 /// The visible image of a UUID.
 #[tactic(auto, unfolding(crate::specs::Shown::of_shown))]
-pub(crate) fn image<'a>(memory: &'a Memory, disk: &Uuid) -> Option<&'a TreeRow>
+pub fn image<'a>(memory: &'a Memory, disk: &Uuid) -> Option<&'a TreeRow>
     ensures { option_copied result ≡ of_shown (λ r. r) memory.now.tree.rows disk.now }
 {
     let vhd = visible(memory, &Name::Vhd(*disk));
@@ -97,7 +97,7 @@ pub(crate) fn image<'a>(memory: &'a Memory, disk: &Uuid) -> Option<&'a TreeRow>
 
 /// Whether an image is a VHD image.
 #[tactic(auto, unfolding(sm_machine::specs::Shapes::is_vhd))]
-pub(crate) fn is_vhd(row: &TreeRow) -> bool
+pub fn is_vhd(row: &TreeRow) -> bool
     ensures { result ≡ is_vhd_name (row_name row.now) }
 {
     matches!(row.image.name(), Name::Vhd(_))

@@ -23,11 +23,11 @@
 //! that is new goes (`NewVolumeLaws`) and where a record of no disk is wiped (`WipeLaws`); the table is then the one from
 //! before without its new volumes (`CleanLaws`), and the shape the one that an opening is to make (`OpenedLaws`).
 //!
-//! [`refuse`] says why a command is refused, told or not: the first cause in the machine's order, by the table and by what is
-//! in memory (`Answers`). It is asked once, before a command is taken; a command's crate requires that no cause was found
-//! (`IsAllowed`). It takes no memory and makes no call of a store. Sizes are in bytes where a command gives them, else in
+//! Why a command is refused is said by table and memory alone (`Answers`; `sm_refusals` finds it), before a command is taken; a
+//! command's crate requires that no cause was found (`IsAllowed`). Sizes are in bytes where a command gives them, else in
 //! sectors, and [`rounded`] gives these; room is counted in extents: [`need`] gives those that a command takes, and
-//! [`extents_needed`] those of a raw disk. [`image_name`] is the name of a disk's own image.
+//! [`extents_needed`] those of a raw disk. [`image_name`] is the name of a disk's own image; [`named`], [`new_uuid`] and [`forked`] are
+//! the disks of which a command speaks.
 //!
 //! **What a command cites.** What is known where no cause refuses it (`RefusalLaws`), and of the extents that it takes
 //! (`NeedLaws`); what the machine looks up of a disk, by what is in memory (`LookLaws`); what was taken, whether it was
@@ -51,12 +51,9 @@
 #![tactic(auto)]
 
 mod asking;
-mod causes;
 mod memory;
 mod needs;
-mod refusing;
 
-pub use asking::image_name;
+pub use asking::{forked, image, image_name, is_vhd, named, new_uuid};
 pub use memory::Memory;
 pub use needs::{extents_needed, need, rounded};
-pub use refusing::refuse;

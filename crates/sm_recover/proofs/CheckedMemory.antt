@@ -22,9 +22,9 @@ use Rattle.vhd_chain.specs.declared.rows.TreeRow.{TreeRow}
 use Rattle.sm_ready.specs.Stores.{content_now, store_content}
 use Rattle.sm_recover.specs.Backs.{rows_back}
 use Rattle.sm_recover.specs.Ending.{rows_ended, unleafed}
-use Rattle.sm_recover.specs.Faults.{HasLinks, HasPlaces, HasTable}
-use Rattle.sm_recover.specs.Loaded.{AreRowsOf, HasEachRow, read_volumes, shortened, stored_with}
-use Rattle.sm_recover.specs.Repairs.{IsOpenable}
+use Rattle.sm_checks.specs.Faults.{HasLinks, HasPlaces, HasTable}
+use Rattle.sm_checks.specs.Loaded.{AreRowsOf, HasEachRow, read_volumes, shortened, stored_with}
+use Rattle.sm_checks.specs.Openable.{IsOpenable}
 use Rattle.sm_recover.proofs.EndedForks.{ends_back, records_same}
 use Rattle.sm_recover.proofs.EndedMemory as memory
 use Rattle.sm_recover.proofs.EndedThen.{as_was, is_then, of_leaf}

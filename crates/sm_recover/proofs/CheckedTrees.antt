@@ -34,14 +34,14 @@ use Rattle.sm_ready.specs.Known.{machine_row}
 use Rattle.sm_ready.specs.Outlined.{link_in, outline_in}
 use Rattle.sm_ready.proofs.BegunLaws.{begun_with}
 use Rattle.sm_ready.proofs.RowLaws.{found_in}
-use Rattle.sm_recover.specs.Faults.{HasLinks, HasPlaces, HasTable}
-use Rattle.sm_recover.specs.Loaded.{AreRowsOf, HasEachRow, IsReadAs, read_volumes, row_among, shortened, stored_with}
-use Rattle.sm_recover.proofs.EntryLaws.{IsStaged}
-use Rattle.sm_recover.proofs.DiskLaws.{records_counted}
-use Rattle.sm_recover.proofs.TableLaws.{image_not_making, short_filtered, short_from, short_in}
+use Rattle.sm_checks.specs.Faults.{HasLinks, HasPlaces, HasTable}
+use Rattle.sm_checks.specs.Loaded.{AreRowsOf, HasEachRow, IsReadAs, read_volumes, row_among, shortened, stored_with}
+use Rattle.sm_checks.proofs.EntryLaws.{IsStaged}
+use Rattle.sm_checks.proofs.DiskLaws.{records_counted}
+use Rattle.sm_checks.proofs.TableLaws.{image_not_making, short_filtered, short_from, short_in}
 use Rattle.sm_ready.proofs.Orders.{In-tree_row}
-use Rattle.sm_recover.proofs.TreeLaws.{HasParentIn, StandsRight, both_true, ends, parent_in, stands_right}
-use Rattle.sm_recover.proofs.LoadedLaws.{named_data, none_among, read_row}
+use Rattle.sm_checks.proofs.TreeLaws.{HasParentIn, StandsRight, both_true, ends, parent_in, stands_right}
+use Rattle.sm_checks.proofs.LoadedLaws.{named_data, none_among, read_row}
 use Rattle.sm_base.specs.declared.faults.Place.{Place}
 use Rattle.sm_base.specs.declared.faults.Place.TheVariants as at
 

@@ -30,10 +30,12 @@ use Rattle.sm_ready.specs.Cleaned.{HasFewRemovals}
 use Rattle.sm_ready.specs.Runs.{AllMay}
 use Rattle.sm_ready.proofs.RowLaws.{found_in}
 use Rattle.sm_ready.proofs.ShapeLaws.{rising_rows, row_cmp}
-use Rattle.sm_recover.specs.Repairs.{IsEndable, IsOpenable, IsUndoable}
+use Rattle.sm_checks.specs.Openable.{IsOpenable}
+use Rattle.sm_recover.specs.Repairs.{IsEndable, IsUndoable}
 use Rattle.sm_recover.specs.Steps.{IsPartOf, ends_copy, first_changes, uncopied}
 use Rattle.sm_recover.proofs.CountLaws.{IsLean, IsSmall, names_counted, small_fits, small_next}
-use Rattle.sm_recover.proofs.EntryLaws.{back_image, base_found, undo_allowed, undone_applied}
+use Rattle.sm_checks.proofs.EntryLaws.{base_found, undone_applied}
+use Rattle.sm_recover.proofs.UndoTables.{back_image, undo_allowed}
 use Rattle.sm_recover.proofs.StepLaws.{part_few}
 use Rattle.sm_recover.proofs.UndoneLaws.{decide}
 use Rattle.sm_recover.proofs.UnfoldLaws.{HasFolding, changes_same, folding_found, may_end, undoable_unfolded, unfolded_is, unfolded_none}

@@ -22,12 +22,13 @@ use Rattle.vhd_chain.specs.Trees.{without}
 use Rattle.vhd_chain.specs.declared.rows.TreeRow.{TreeRow}
 use Rattle.sm_recover.specs.Backs.{CanGiveBack, IsFreeAgain, entry_back, fork_back, rows_back}
 use Rattle.sm_recover.specs.Ending.{rows_ended, unleafed}
-use Rattle.sm_recover.specs.Faults.{HasLinks, HasPlaces, HasTable}
-use Rattle.sm_recover.specs.Loaded.{AreRowsOf, HasEachRow, read_volumes, shortened, stored_with}
-use Rattle.sm_recover.specs.Repairs.{IsOpenable}
+use Rattle.sm_checks.specs.Faults.{HasLinks, HasPlaces, HasTable}
+use Rattle.sm_checks.specs.Loaded.{AreRowsOf, HasEachRow, read_volumes, shortened, stored_with}
+use Rattle.sm_checks.specs.Openable.{IsOpenable}
 use Rattle.sm_recover.proofs.EndedMemory as memory
 use Rattle.sm_recover.proofs.EndedThen.{as_was, is_then, of_leaf}
-use Rattle.sm_recover.proofs.EntryLaws.{apart_folding, fork_found, staged_end, staged_open}
+use Rattle.sm_checks.proofs.EntryLaws.{apart_folding, fork_found, staged_open}
+use Rattle.sm_recover.proofs.UndoTables.{staged_end}
 use Rattle.sm_recover.proofs.RowsLaws.{can_give_back}
 
 -- a UUID among these is none of which that is said

@@ -46,15 +46,15 @@ use Rattle.sm_ready.specs.Outlined.{link_in}
 use Rattle.sm_ready.proofs.Orders.{In-tree_row}
 use Rattle.sm_ready.proofs.RowLaws.{All-In, found_in}
 use Rattle.sm_recover.specs.Ending.{CanEnd, leaf_back, leaf_ends, unleafed}
-use Rattle.sm_recover.specs.Faults.{HasLinks, HasPlaces, HasTable}
+use Rattle.sm_checks.specs.Faults.{HasLinks, HasPlaces, HasTable}
 use Rattle.sm_recover.specs.Backs.{base_back}
-use Rattle.sm_recover.specs.Loaded.{AreRowsOf, HasEachRow, IsReadAs, as_read, read_volumes, shortened, stored_with}
-use Rattle.sm_recover.specs.Repairs.{IsOpenable}
-use Rattle.sm_recover.proofs.EntryLaws.{IsStaged, head_alone, staged_open}
-use Rattle.sm_recover.proofs.LoadedLaws.{named_data, read_row}
+use Rattle.sm_checks.specs.Loaded.{AreRowsOf, HasEachRow, IsReadAs, as_read, read_volumes, shortened, stored_with}
+use Rattle.sm_checks.specs.Openable.{IsOpenable}
+use Rattle.sm_checks.proofs.EntryLaws.{IsStaged, head_alone, staged_open}
+use Rattle.sm_checks.proofs.LoadedLaws.{named_data, read_row}
 use Rattle.sm_recover.proofs.MovedRows.{AreFound, IsMoved, at_gone, at_other, link_new, moved_are, moved_each, rows_are}
 use Rattle.sm_recover.proofs.RowsLaws.{has_volume, no_row}
-use Rattle.sm_recover.proofs.TableLaws.{found_read, image_not_making, names_mapped, short_in, short_row}
+use Rattle.sm_checks.proofs.TableLaws.{found_read, image_not_making, names_mapped, short_in, short_row}
 
 -- ---- the volumes that are read are found in the table without an enlargement
 

@@ -30,17 +30,18 @@ use Rattle.sm_standing.proofs.PlainKept.{all-of, outline_but_leaf, simple_known}
 use Rattle.vhd_chain.specs.declared.rows.TreeRow.{TreeRow}
 use Rattle.sm_ready.specs.Runs.{AllMay}
 use Rattle.sm_recover.specs.Ending.{CanEnd, IsEndedSo, leaf_back, leaf_ends, rows_ended, unleafed}
-use Rattle.sm_recover.specs.Faults.{HasLinks, HasPlaces, HasTable, table_faults}
-use Rattle.sm_recover.specs.Loaded.{AreRowsOf, HasEachRow, read_volumes, shortened, stored_with}
-use Rattle.sm_recover.specs.Repairs.{IsEndable, IsOpenable}
+use Rattle.sm_checks.specs.Faults.{HasLinks, HasPlaces, HasTable, table_faults}
+use Rattle.sm_checks.specs.Loaded.{AreRowsOf, HasEachRow, read_volumes, shortened, stored_with}
+use Rattle.sm_checks.specs.Openable.{IsOpenable}
+use Rattle.sm_recover.specs.Repairs.{IsEndable}
 use Rattle.sm_recover.proofs.CountLaws.{IsLean, IsSmall, small_fits, small_next}
 use Rattle.sm_recover.proofs.EndLaws.{EndCase, all_join, all_wanted, end_case, openable_small}
 use Rattle.sm_recover.proofs.UndoLaws.{IsOld}
 use Rattle.sm_recover.proofs.UnfoldLaws.{HasFolding, changes_same, folding_none, unfolded_is, unfolded_none}
 use Rattle.sm_recover.proofs.EndedMemory as memory
 use Rattle.sm_recover.proofs.EndingRows.{ended_some}
-use Rattle.sm_recover.proofs.EntryLaws.{staged_open}
-use Rattle.sm_recover.proofs.OpeningLaws.{TablesSay, checked_from}
+use Rattle.sm_checks.proofs.EntryLaws.{staged_open}
+use Rattle.sm_checks.proofs.OpeningLaws.{TablesSay, checked_from}
 
 -- ---- no leaf is being folded
 

@@ -42,12 +42,13 @@ use Rattle.sm_ready.proofs.GoneLaws.{fewer_left}
 use Rattle.sm_ready.proofs.RemoveLaws.{In-without}
 use Rattle.common_laws.proofs.Bytes.{bytes_eq-refl}
 use Rattle.sm_recover.specs.Linking.{LinkedBy}
-use Rattle.sm_recover.specs.Links.{IsLinkRight}
+use Rattle.sm_checks.specs.Links.{IsLinkRight}
 use Rattle.sm_recover.specs.Repairs.{IsChecked, IsEndable, IsLeftOf, IsLinkable, IsUndoable}
 use Rattle.sm_recover.specs.Steps.{IsPartOf, ends_copy, first_changes, uncopied}
 use Rattle.sm_recover.proofs.CountLaws.{later_all}
 use Rattle.sm_recover.proofs.EndLaws.{EndCase, end_case, first_long, first_table, link_behind}
-use Rattle.sm_recover.proofs.EntryLaws.{enlarged_found, fork_found, staged, staged_end, undone_applied}
+use Rattle.sm_checks.proofs.EntryLaws.{enlarged_found, fork_found, undone_applied}
+use Rattle.sm_recover.proofs.UndoTables.{staged, staged_end}
 use Rattle.sm_recover.proofs.StepLaws.{part_all, part_few}
 use Rattle.sm_recover.proofs.UndoLaws.{few_behind, left_same, none_folded}
 use Rattle.sm_recover.proofs.UndoneLaws.{IsOther, back_row, decide, dropped, not_making, row_listed, taken_from, undone_checked, undone_nothing}

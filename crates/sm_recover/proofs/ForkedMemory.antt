@@ -52,23 +52,24 @@ use Rattle.sm_ready.proofs.LoadLaws.{read_rising, tree_cmp}
 use Rattle.sm_ready.proofs.Orders.{In-tree_row}
 use Rattle.sm_ready.proofs.RowLaws.{All-In, found_in}
 use Rattle.sm_recover.specs.Backs.{fork_back, row_back, rows_back}
-use Rattle.sm_recover.specs.Faults.{HasLinks, HasPlaces, HasTable, has_any, has_one, is_any_visible, is_begun, is_disk_by, is_fork_linked_in, is_new_over, is_other_child, is_shown, is_unlinked_in}
-use Rattle.sm_recover.specs.Loaded.{AreRowsOf, HasEachRow, IsReadAs, IsRow, read_volumes, row_among, row_with, shortened, stored_with}
+use Rattle.sm_checks.specs.Faults.{HasLinks, HasPlaces, HasTable, has_any, has_one, is_any_visible, is_begun, is_disk_by, is_fork_linked_in, is_new_over, is_other_child, is_shown, is_unlinked_in}
+use Rattle.sm_checks.specs.Loaded.{AreRowsOf, HasEachRow, IsReadAs, IsRow, read_volumes, row_among, row_with, shortened, stored_with}
 use Rattle.sm_recover.specs.Repairs.{IsUndoable}
 use Rattle.sm_recover.proofs.CheckedTrees as checked
-use Rattle.sm_recover.proofs.DiskLaws.{disk_by, own_plain}
+use Rattle.sm_checks.proofs.DiskLaws.{disk_by, own_plain}
 use Rattle.sm_recover.proofs.BackLaws.{HasBase}
-use Rattle.sm_recover.proofs.EntryLaws.{IsDropped, IsFork, IsMade, IsTakenBack, at_stage, back_image, base_found, base_made, disk_twin, from_not_twin, has_base, made_parts, staged, undoable_small}
+use Rattle.sm_checks.proofs.EntryLaws.{IsFork, IsMade, at_stage, base_found, base_made, disk_twin, made_parts}
+use Rattle.sm_recover.proofs.UndoTables.{IsDropped, IsTakenBack, back_image, from_not_twin, has_base, staged, undoable_small}
 use Rattle.sm_recover.proofs.GiveBackLaws.{free_back, rows_some}
-use Rattle.sm_recover.proofs.TreeLaws.{ends}
-use Rattle.sm_recover.proofs.LinkLaws.{unlinked_seen}
+use Rattle.sm_checks.proofs.TreeLaws.{ends}
+use Rattle.sm_checks.proofs.LinkLaws.{unlinked_seen}
 use Rattle.sm_recover.proofs.SeenLaws.{children_counted, volumes_seen}
-use Rattle.sm_recover.proofs.TableLaws.{own_name as own_image}
-use Rattle.sm_recover.proofs.LoadedLaws.{among_is, named_data, none_among, one_of_two, read_from}
+use Rattle.sm_checks.proofs.TableLaws.{own_name as own_image}
+use Rattle.sm_checks.proofs.LoadedLaws.{among_is, named_data, none_among, one_of_two, read_from}
 use Rattle.sm_recover.proofs.OpenedWell.{IsBeside}
 use Rattle.sm_recover.proofs.CountLaws.{later_all}
 use Rattle.sm_recover.proofs.RowsLaws.{in_without, kept_all, rising_kept, row_total, without_in, HasVolume, can_give_back, has_volume}
-use Rattle.sm_recover.proofs.TableLaws.{In-without, IsWhole, filtered_without, read_whole, whole_alone}
+use Rattle.sm_checks.proofs.TableLaws.{In-without, IsWhole, filtered_without, read_whole, whole_alone}
 use Rattle.sm_recover.proofs.UndoneLaws.{IsOther, base_row, back_row, decide, dropped, fork, row_listed, taken, taken_from, undone_by, undone_checked}
 
 -- ---- an image under another name

@@ -32,13 +32,14 @@ use Rattle.sm_ready.specs.Stores.{content_in, store_content}
 use Rattle.sm_ready.specs.declared.memory.Memory.{Memory}
 use Rattle.sm_ready.proofs.AgainLaws.{stored_as}
 use Rattle.sm_recover.specs.Ending.{HasFewEnds, IsEndedSo, leaf_ends, unleafed}
-use Rattle.sm_recover.specs.Links.{IsLinkRight}
-use Rattle.sm_recover.specs.Loaded.{stored_undone, stored_with}
-use Rattle.sm_recover.specs.Repairs.{IsEndable, IsEndableStore, IsLeftOf, IsOpenable}
+use Rattle.sm_checks.specs.Links.{IsLinkRight}
+use Rattle.sm_checks.specs.Loaded.{stored_undone, stored_with}
+use Rattle.sm_checks.specs.Openable.{IsOpenable}
+use Rattle.sm_recover.specs.Repairs.{IsEndable, IsEndableStore, IsLeftOf}
 use Rattle.sm_recover.specs.Steps.{IsPartOf, MakesAll, MakesPart}
 use Rattle.sm_recover.specs.Stores.{HeldWell, MayBeRepairedFrom}
 use Rattle.sm_recover.proofs.EndedThen.{is_unled, known_of, leaf_old, leaf_or_not}
-use Rattle.sm_recover.proofs.EntryLaws.{head_alone}
+use Rattle.sm_checks.proofs.EntryLaws.{head_alone}
 use Rattle.sm_recover.proofs.CountLaws.{none_more}
 use Rattle.sm_recover.proofs.StepLaws.{part_all, part_few}
 use Rattle.sm_recover.proofs.UndoLaws.{IsOld, held_same}

@@ -1,21 +1,13 @@
-pub mod CheckLaws
-pub mod LinkLaws
-pub mod DiskLaws
 pub mod RemovalLaws
-pub mod OpeningLaws
-pub mod LoadedLaws
 pub mod OpenedWell
 pub mod MemoryLaws
 pub mod RowsLaws
 mod ForkedMemory
-pub mod TableLaws
 pub mod UndoLaws
 pub mod SettleLaws
 pub mod StepLaws
 pub mod CountLaws
 pub mod BackLaws
-pub mod EntryLaws
-pub mod KnownLaws
 pub mod UnfoldLaws
 pub mod UnfoldedMemory
 pub mod LinkedLaws
@@ -23,12 +15,8 @@ pub mod UndoneLaws
 pub mod GiveBackLaws
 mod CheckedTrees
 pub mod TrueLaws
-mod ReadLaws
 mod HoldingLaws
-mod FoundLaws
-mod TreeLaws
 mod SeenLaws
-mod TurnLaws
 pub mod LinkingLaws
 pub mod LinkUpLaws
 pub mod EndLaws
@@ -41,3 +29,4 @@ pub mod EndedThen
 pub mod EndedForks
 pub mod CheckedMemory
 pub mod LeafSettled
+pub mod UndoTables

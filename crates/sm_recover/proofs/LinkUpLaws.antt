@@ -44,7 +44,7 @@ use Rattle.sm_ready.specs.Stores.{content_now}
 use Rattle.sm_ready.proofs.LeftLaws.{left_in, left_now, links_left}
 use Rattle.sm_ready.proofs.Orders.{In-tree_row}
 use Rattle.gc_abandon.proofs.EntryLaws.{IsReentered, extents_entry, image_entry, orderly_entry, ready_entry}
-use Rattle.sm_recover.specs.Links.{HasLink}
+use Rattle.sm_checks.specs.Links.{HasLink}
 use Rattle.sm_recover.specs.Linking.{IsLinkBegun, LinkedBy, LinksAll, LinksRest, link_image}
 use Rattle.sm_recover.specs.Repairs.{IsLinkable, IsLinking}
 use Rattle.sm_recover.proofs.UnfoldLaws.{unfolded_none}

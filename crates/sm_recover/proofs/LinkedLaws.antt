@@ -31,17 +31,18 @@ use Rattle.vhd_chain.proofs.ByName.{tree_row-with_other, tree_row-without_other}
 use Rattle.sm_ready.specs.Outlined.{outline_in}
 use Rattle.sm_ready.proofs.Orders.{In-tree_row}
 use Rattle.sm_recover.specs.Backs.{base_back, entry_back, fork_back, row_back, rows_back}
-use Rattle.sm_recover.specs.Faults.{HasLinks, HasPlaces, HasTable, HasVolumes, has_parent_in, is_as_large_in, is_link_in}
-use Rattle.sm_recover.specs.Links.{IsLinkRight}
-use Rattle.sm_recover.specs.Loaded.{AreRowsOf, HasEachRow, read_volumes, shortened, stored_with}
+use Rattle.sm_checks.specs.Faults.{HasLinks, HasPlaces, HasTable, HasVolumes, has_parent_in, is_as_large_in, is_link_in}
+use Rattle.sm_checks.specs.Links.{IsLinkRight}
+use Rattle.sm_checks.specs.Loaded.{AreRowsOf, HasEachRow, read_volumes, shortened, stored_with}
 use Rattle.sm_recover.specs.Repairs.{IsEndable}
 use Rattle.sm_recover.proofs.CheckedTrees as checked
-use Rattle.sm_recover.proofs.EntryLaws.{apart_folding, base_found, fork_found, staged_end}
+use Rattle.sm_checks.proofs.EntryLaws.{apart_folding, base_found, fork_found}
+use Rattle.sm_recover.proofs.UndoTables.{staged_end}
 use Rattle.sm_recover.proofs.GiveBackLaws.{rows_none, rows_some}
-use Rattle.sm_recover.proofs.LinkLaws.{link_seen}
+use Rattle.sm_checks.proofs.LinkLaws.{link_seen}
 use Rattle.sm_recover.proofs.RowsLaws.{has_volume}
 use Rattle.sm_recover.proofs.SeenLaws.{volumes_seen}
-use Rattle.sm_recover.proofs.KnownLaws.{first_folding}
+use Rattle.sm_checks.proofs.KnownLaws.{first_folding}
 
 -- ---- a name that is none of a fork's
 

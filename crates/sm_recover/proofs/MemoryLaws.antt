@@ -17,15 +17,16 @@ use Rattle.sm_standing.specs.Undone.{IsBeingEnlarged, undone}
 use Rattle.sm_standing.proofs.UndoneLaws.{named_undone, stands_undone, undone_later}
 use Rattle.vhd_chain.specs.declared.rows.TreeRow.{TreeRow}
 use Rattle.sm_recover.specs.Backs.{rows_back}
-use Rattle.sm_recover.specs.Faults.{HasLinks, HasPlaces, HasTable}
-use Rattle.sm_recover.specs.Loaded.{AreRowsOf, HasEachRow, read_volumes, shortened, stored_with}
+use Rattle.sm_checks.specs.Faults.{HasLinks, HasPlaces, HasTable}
+use Rattle.sm_checks.specs.Loaded.{AreRowsOf, HasEachRow, read_volumes, shortened, stored_with}
 use Rattle.sm_recover.specs.Repairs.{IsUndoable}
 use Rattle.sm_recover.proofs.CheckedTrees as checked
-use Rattle.sm_recover.proofs.EntryLaws.{enlarged_found, staged}
+use Rattle.sm_checks.proofs.EntryLaws.{enlarged_found}
+use Rattle.sm_recover.proofs.UndoTables.{staged}
 use Rattle.sm_recover.proofs.ForkedMemory.{dropped_beside, taken_beside}
 use Rattle.sm_recover.proofs.GiveBackLaws.{rows_none, rows_some}
 use Rattle.sm_recover.proofs.OpenedWell.{IsBeside}
-use Rattle.sm_recover.proofs.TableLaws.{shortened_undone, whole_none}
+use Rattle.sm_checks.proofs.TableLaws.{shortened_undone, whole_none}
 use Rattle.sm_recover.proofs.UndoneLaws.{not_making, undone_nothing}
 
 module _ {S : Type 0} (g : Ghosts S) (store : S) (xs : List TreeRow) (places : List (Option Record)) {was : VolumeTable} (c : IsUndoable (g.site store) was) (are_read : AreRowsOf (read_volumes was) xs)

@@ -21,9 +21,9 @@ use Rattle.vhd_chain.proofs.ByName.{tree_row-with_other, tree_row-with_same, tre
 use Rattle.sm_ready.specs.Outlined.{link_in}
 use Rattle.sm_ready.proofs.LoadLaws.{read_rising, tree_cmp}
 use Rattle.sm_recover.specs.Backs.{base_back, row_back}
-use Rattle.sm_recover.specs.Loaded.{AreRowsOf, HasEachRow, IsReadAs, IsRow, row_among, row_with, stored_with}
+use Rattle.sm_checks.specs.Loaded.{AreRowsOf, HasEachRow, IsReadAs, IsRow, row_among, row_with, stored_with}
 use Rattle.sm_recover.proofs.ForkedMemory.{named_in, parent_in_volume, read_renamed, row_moved, sized_in}
-use Rattle.sm_recover.proofs.LoadedLaws.{among_is, among_of, read_from}
+use Rattle.sm_checks.proofs.LoadedLaws.{among_is, among_of, read_from}
 use Rattle.sm_recover.proofs.RowsLaws.{in_without, rising_kept, row_total, without_in}
 use Rattle.sm_recover.proofs.UndoneLaws.{decide}
 

@@ -49,16 +49,16 @@ use Rattle.sm_ready.proofs.NewVolumeLaws.{not_records}
 use Rattle.sm_ready.proofs.NumberLaws.{whole_blocks}
 use Rattle.sm_ready.proofs.RepairLaws.{all_quiet}
 use Rattle.sm_ready.proofs.RowLaws.{All-In, found_in}
-use Rattle.sm_recover.specs.Loaded.{AreRowsOf, HasEachRow, IsReadAs, row_among, shortened, stored_with}
+use Rattle.sm_checks.specs.Loaded.{AreRowsOf, HasEachRow, IsReadAs, row_among, shortened, stored_with}
 use Rattle.sm_recover.specs.Repairs.{IsChecked, IsUndoable}
-use Rattle.sm_recover.proofs.DiskLaws.{own_plain, visible_row}
-use Rattle.sm_recover.proofs.EntryLaws.{staged}
-use Rattle.sm_recover.proofs.FoundLaws.{image_short, sectors_by, valid_there}
-use Rattle.sm_recover.proofs.TableLaws.{short_sized}
+use Rattle.sm_checks.proofs.DiskLaws.{own_plain, visible_row}
+use Rattle.sm_recover.proofs.UndoTables.{staged}
+use Rattle.sm_checks.proofs.FoundLaws.{image_short, sectors_by, valid_there}
+use Rattle.sm_checks.proofs.TableLaws.{short_sized}
 use Rattle.sm_recover.proofs.UndoneLaws.{records_undone, undone_checked}
 use Rattle.sm_recover.proofs.HoldingLaws.{holds_each}
-use Rattle.sm_recover.proofs.LoadedLaws.{named_data, read_each, read_from, read_row}
-use Rattle.sm_recover.proofs.ReadLaws.{image_named, some_extents}
+use Rattle.sm_checks.proofs.LoadedLaws.{named_data, read_each, read_from, read_row}
+use Rattle.sm_checks.proofs.ReadLaws.{image_named, some_extents}
 use Rattle.sm_recover.proofs.RemovalLaws.{no_entry}
 
 -- ---- a raw image is a whole number of blocks

@@ -16,9 +16,9 @@ use Rattle.sm_standing.specs.Entries.{making}
 use Rattle.vhd_chain.specs.Trees.{row_name, tree_row}
 use Rattle.vhd_chain.specs.declared.rows.TreeRow.{TreeRow}
 use Rattle.sm_recover.specs.Backs.{CanGiveBack}
-use Rattle.sm_recover.specs.Loaded.{AreRowsOf, as_read, read_volumes, row_among}
-use Rattle.sm_recover.proofs.EntryLaws.{IsStaged, base_made, fork_found, made_parts}
-use Rattle.sm_recover.proofs.LoadedLaws.{read_from}
+use Rattle.sm_checks.specs.Loaded.{AreRowsOf, as_read, read_volumes, row_among}
+use Rattle.sm_checks.proofs.EntryLaws.{IsStaged, base_made, fork_found, made_parts}
+use Rattle.sm_checks.proofs.LoadedLaws.{read_from}
 use Rattle.std.specs.Cmp.{IsTotalOrder}
 use Rattle.sm_base.proofs.OrderLemmas.{name_cmp_total}
 use Rattle.sm_standing.specs.Ordered.{Rising}

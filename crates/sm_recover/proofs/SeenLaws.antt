@@ -24,15 +24,15 @@ use Rattle.sm_ready.specs.Outlined.{link_in}
 use Rattle.sm_ready.specs.Stores.{content_now}
 use Rattle.sm_ready.proofs.LeftLaws.{new_raw, new_vhd, none_of_raw, none_of_vhd}
 use Rattle.sm_ready.proofs.Orders.{In-tree_row}
-use Rattle.sm_recover.specs.Faults.{HasChildren, HasLinks, HasTable, HasVolumes}
-use Rattle.sm_recover.specs.Loaded.{AreRowsOf, HasEachRow, IsFilledImage, as_read, read_volumes, row_among, shortened, stored_with}
+use Rattle.sm_checks.specs.Faults.{HasChildren, HasLinks, HasTable, HasVolumes}
+use Rattle.sm_checks.specs.Loaded.{AreRowsOf, HasEachRow, IsFilledImage, as_read, read_volumes, row_among, shortened, stored_with}
 use Rattle.sm_standing.specs.Entries.{making}
 use Rattle.common_laws.proofs.Lists.{In-map, In-map_at}
-use Rattle.sm_recover.proofs.EntryLaws.{IsStaged}
-use Rattle.sm_recover.proofs.TableLaws.{found_read, short_sized}
-use Rattle.sm_recover.proofs.FoundLaws.{image_short, invalid_as_read, link_read, skipped, valid_read}
-use Rattle.sm_recover.proofs.LoadedLaws.{among_is, among_of, named_data, none_among, read_from, read_row}
-use Rattle.sm_recover.proofs.TreeLaws.{child_seen, count_through, named_raw, named_vhd}
+use Rattle.sm_checks.proofs.EntryLaws.{IsStaged}
+use Rattle.sm_checks.proofs.TableLaws.{found_read, short_sized}
+use Rattle.sm_checks.proofs.FoundLaws.{image_short, invalid_as_read, link_read, skipped, valid_read}
+use Rattle.sm_checks.proofs.LoadedLaws.{among_is, among_of, named_data, none_among, read_from, read_row}
+use Rattle.sm_checks.proofs.TreeLaws.{child_seen, count_through, named_raw, named_vhd}
 use Rattle.sm_ready.proofs.RowLaws.{found_in}
 
 module _ {S : Type 0} (g : Ghosts S) (store : S) {t : VolumeTable} (c : IsStaged (g.site store) t) (xs : List TreeRow) (each : HasEachRow g.told (stored_with g store (shortened t)) (read_volumes t) xs) where

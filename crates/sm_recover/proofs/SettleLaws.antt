@@ -36,8 +36,8 @@ use Rattle.sm_ready.proofs.CleanLaws.{few_from}
 use Rattle.sm_ready.proofs.Orders.{named_row}
 use Rattle.sm_ready.proofs.RowLaws.{image_named}
 use Rattle.sm_recover.specs.Linking.{IsLinkBegun, LinkedBy, LinksRest}
-use Rattle.sm_recover.specs.Links.{IsLinkRight}
-use Rattle.sm_recover.specs.Loaded.{stored_undone}
+use Rattle.sm_checks.specs.Links.{IsLinkRight}
+use Rattle.sm_checks.specs.Loaded.{stored_undone}
 use Rattle.sm_recover.specs.Repairs.{IsChecked, IsCheckedStore, IsEndableStore, IsLinkable}
 use Rattle.sm_recover.specs.Steps.{IsPartOf, first_changes, uncopied}
 use Rattle.sm_recover.proofs.EndLaws.{first_table, image_not_folding, rows_unfolded}

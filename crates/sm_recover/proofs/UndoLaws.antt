@@ -26,7 +26,8 @@ use Rattle.sm_ready.specs.Stores.{content_in}
 use Rattle.sm_recover.specs.Repairs.{IsLeftOf, IsUndoable}
 use Rattle.sm_recover.specs.Steps.{IsPartOf}
 use Rattle.sm_recover.proofs.CountLaws.{IsLean, IsUnseenBy, none_more}
-use Rattle.sm_recover.proofs.EntryLaws.{back_image, base_found, undo_allowed, undone_applied}
+use Rattle.sm_checks.proofs.EntryLaws.{base_found, undone_applied}
+use Rattle.sm_recover.proofs.UndoTables.{back_image, undo_allowed}
 use Rattle.sm_recover.proofs.StepLaws.{part_all, part_few}
 use Rattle.sm_recover.proofs.UndoneLaws.{undone_checked}
 

@@ -21,8 +21,9 @@ use Rattle.sm_standing.proofs.PlainKept.{all-of, simple_plain_name}
 use Rattle.sm_standing.proofs.UndoneLaws.{images_undone, undone_is_table, undone_plain}
 use Rattle.sm_ready.proofs.RowLaws.{found_in}
 use Rattle.sm_recover.specs.Repairs.{IsChecked, IsUndoable}
-use Rattle.sm_recover.proofs.EntryLaws.{IsDropped, IsFork, IsTakenBack, back_image, base_found, changes_none, changes_some, enlarged_found, fork_found, none_back, some_back, staged, undoable_small, undone_applied}
-use Rattle.sm_recover.proofs.TableLaws.{records_short, shortened_undone}
+use Rattle.sm_checks.proofs.EntryLaws.{IsFork, base_found, changes_none, changes_some, enlarged_found, fork_found, undone_applied}
+use Rattle.sm_recover.proofs.UndoTables.{IsDropped, IsTakenBack, back_image, none_back, some_back, staged, undoable_small}
+use Rattle.sm_checks.proofs.TableLaws.{records_short, shortened_undone}
 
 pub decide : (a b : Name) → (a ≡ b) ⊎ (a ≢ b)
 decide a b = by (name_eq a b) refl

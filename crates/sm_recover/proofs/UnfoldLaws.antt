@@ -35,7 +35,7 @@ use Rattle.sm_ready.proofs.GoneLaws.{fewer_left}
 use Rattle.sm_ready.proofs.RemoveLaws.{In-without}
 use Rattle.sm_ready.proofs.RowLaws.{found_in}
 use Rattle.sm_recover.specs.Repairs.{IsEndable, IsUndoable}
-use Rattle.sm_recover.proofs.EntryLaws.{base_found, head_alone}
+use Rattle.sm_checks.proofs.EntryLaws.{base_found, head_alone}
 
 -- ---- the entry
 

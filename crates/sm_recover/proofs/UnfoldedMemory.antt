@@ -25,15 +25,15 @@ use Rattle.vhd_chain.specs.declared.rows.TreeRow.{TreeRow}
 use Rattle.sm_ready.specs.Outlined.{link_in}
 use Rattle.sm_ready.proofs.Orders.{In-tree_row}
 use Rattle.sm_recover.specs.Backs.{entry_back, fork_back, rows_back}
-use Rattle.sm_recover.specs.Faults.{HasLinks, HasPlaces, HasTable}
-use Rattle.sm_recover.specs.Loaded.{AreRowsOf, HasEachRow, as_read, read_volumes, row_among, shortened, stored_with}
+use Rattle.sm_checks.specs.Faults.{HasLinks, HasPlaces, HasTable}
+use Rattle.sm_checks.specs.Loaded.{AreRowsOf, HasEachRow, as_read, read_volumes, row_among, shortened, stored_with}
 use Rattle.sm_recover.specs.Repairs.{IsEndable, IsUndoable}
-use Rattle.sm_recover.proofs.EntryLaws.{staged, staged_end}
+use Rattle.sm_recover.proofs.UndoTables.{staged, staged_end}
 use Rattle.sm_recover.proofs.ForkedMemory.{row_moved}
-use Rattle.sm_recover.proofs.LoadedLaws.{among_of, named_data, none_among, read_from}
+use Rattle.sm_checks.proofs.LoadedLaws.{among_of, named_data, none_among, read_from}
 use Rattle.sm_recover.proofs.MemoryLaws.{beside}
 use Rattle.sm_recover.proofs.OpenedWell.{IsBeside}
-use Rattle.sm_recover.proofs.TableLaws.{filtered_without, image_not_making, short_row}
+use Rattle.sm_checks.proofs.TableLaws.{filtered_without, image_not_making, short_row}
 use Rattle.sm_recover.proofs.UnfoldLaws.{folding_found, image_same, making_same, still, undoable_unfolded, unfolded_is, unfolded_none}
 
 -- ---- the table without the entry

@@ -23,7 +23,7 @@ use Rattle.sm_ready.specs.Sessions.{HasRows, IsOrderlyStore, IsReadyStore}
 use Rattle.sm_ready.specs.Stores.{store_content}
 use Rattle.sm_ready.specs.declared.memory.Memory.{Memory}
 use Rattle.vhd_chain.specs.declared.rows.TreeRow.{TreeRow}
-use Rattle.sm_recover.specs.Links.{HasLink}
+use Rattle.sm_checks.specs.Links.{HasLink}
 
 -- an operation links the children of an image
 abbrev pub LinksPast : Name → Op → Type 0

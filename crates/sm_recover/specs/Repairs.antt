@@ -3,11 +3,10 @@ use Rattle.std.specs.Prelude.{◌≡◌, ℕ, ◌<◌, ◌≤◌, true, false, L
 use Rattle.common_laws.specs.Lists.{In}
 use Rattle.sm_base.specs.declared.faults.OpenFault.{OpenFault}
 use Rattle.sm_base.specs.declared.faults.OpenFault.TheVariants as fault
-use Rattle.sm_base.specs.declared.faults.Place.{Place}
 use Rattle.sm_base.specs.Kinds.{is_image}
 use Rattle.sm_base.specs.declared.names.Name.{Name}
 use Rattle.sm_base.specs.declared.names.Name.TheVariants.{Mgt, Vhd, Relink}
-use Rattle.sm_disk.specs.Held.{IsSettled, Rose, reads}
+use Rattle.sm_disk.specs.Held.{IsSettled, reads}
 use Rattle.vg_layout.specs.Places.{record_extents}
 use Rattle.vg_meta.specs.Changes.{applied}
 use Rattle.vg_meta.specs.Tables.{VolumeTable, Row, IsTable, rows, extents_of}
@@ -17,12 +16,11 @@ use Rattle.vg_volumes.specs.Sites.{Site, area_size}
 use Rattle.vg_volumes.specs.Stored.{Stored}
 use Rattle.vg_volumes.specs.declared.stores.Store.{Ghosts}
 use Rattle.sm_machine.specs.Shapes.{image_limit}
-use Rattle.sm_standing.specs.Contents.{Content}
-use Rattle.sm_standing.specs.Checks.{images, is_lost, is_misnamed, is_orphaned, has_uuid, first_fault}
+use Rattle.sm_standing.specs.Checks.{images, is_lost, is_misnamed, has_uuid}
 use Rattle.sm_standing.specs.Entries.{are_past, folding, is_there, making, second}
 use Rattle.sm_standing.specs.Plain.{IsKnown, IsPlain, IsSimple}
 use Rattle.vhd_chain.specs.declared.rows.TreeRow.{TreeRow}
-use Rattle.sm_recover.specs.Links.{HasLink}
+use Rattle.sm_checks.specs.Links.{HasLink}
 
 -- what is known of the table in memory once the checks passed, where no fork and no enlargement is under way: new volumes may be
 -- among the others
@@ -32,22 +30,6 @@ pub record IsChecked (s : Site) (t : VolumeTable) : Type 0 where
   pub plain : IsPlain t
   pub few_images : length (images t) ≤ image_limit
   pub record_volume : length (extents_of (rows t Mgt)) ≡ record_extents s.geometry.extent
-
--- what is known of the table in memory once the checks by the table passed: at most one entry of each group is there, each stands at
--- a stage of its work, and each old leaf belongs to one
-pub record IsOpenable (s : Site) (t : VolumeTable) : Type 0 where
-  pub table : IsTable s.count t
-  pub few_extents : s.count ≤ 65536
-  pub owned : (r : Row) → In r t.volumes → is_orphaned t r.name ≡ false
-  pub one_entry : second (making t) ≡ None
-  pub one_folding : second (folding t) ≡ None
-  pub at_stage : (r : Row) → In r t.volumes → is_lost t r ≡ false
-  pub named : (r : Row) → In r t.volumes → is_misnamed t r ≡ false
-  pub few_images : length (images t) ≤ image_limit
-  pub record_volume : length (extents_of (rows t Mgt)) ≡ record_extents s.geometry.extent
-
-abbrev pub IsOpenableStore : {S : Type 0} → Ghosts S → S → Type 0
-IsOpenableStore g s = IsOpenable (g.site s) (table_alone (g.table s))
 
 -- and where no leaf is being folded: beside images, new ones among them, and the volume of records at most one entry says that a disk
 -- is being forked or that an image is being enlarged, and at most one that an image is being copied or that its children are linked
@@ -99,18 +81,6 @@ IsCheckedStore g s = IsChecked (g.site s) (table_alone (g.table s))
 pub record IsLeftOf (x : Stored) (P : VolumeTable → Type 0) (t : VolumeTable) (image : ℕ → List ℕ) : Type 0 where
   pub table : P t
   pub sectors : IsSettled x.area → (p : ℕ) → p < area_size x.site → image p ≡ reads x.area p
-
--- why a step of an opening stopped: the place that its checks name, where the content is told; a fault of the device; memory
-abbrev pub IsStoppedBy : Type 0 → Option Place → ℕ → ℕ → OpenFault → Type 0
-IsStoppedBy told first before now (fault.Damaged place) = told → first ≡ Some place
-IsStoppedBy told first before now fault.Device = Rose before now
-IsStoppedBy told first before now fault.NoMemory = Unit {0}
-IsStoppedBy told first before now fault.NotARepository = ⊥
-IsStoppedBy told first before now (fault.Unsupported version) = ⊥
-
--- why an opening stopped: the first place that is damaged, where the content is told; a fault of the device; memory
-abbrev pub IsOpeningStopped : Type 0 → Content → ℕ → ℕ → OpenFault → Type 0
-IsOpeningStopped told c before now e = IsStoppedBy told (first_fault c) before now e
 
 -- a fact where no call of the device failed
 abbrev pub UnlessDeviceFailed : OpenFault → Type 0 → Type 0

@@ -10,11 +10,10 @@ ghost use Rattle.sm_ready.specs.Runs.{AllMay};
 ghost use Rattle.sm_recover.specs.Ending.{leaf_ends, name_taken, renamed_changes, swapped_changes};
 ghost use Rattle.sm_recover.specs.Steps.{MakesAll, MakesPart};
 
-use crate::entries::{entry_in, folding_in};
-use crate::leaves::{is_leaf_renamed, is_leaf_swapped};
 use crate::steps::commit_where;
 use crate::undoing::{is_marked, undo_enlargement};
 use sm_base::{Failed, Name};
+use sm_checks::{entry_in, folding_in, is_leaf_renamed, is_leaf_swapped};
 use uuid::Uuid;
 use vg_meta::{Change, Tag};
 use vg_volumes::Store;

@@ -4,30 +4,17 @@
 //! the images, the places of the disks' records, no attachment and no operation. Sizes are in sectors of 512 bytes unless a
 //! line says extents; a place of a record is a number from 0 to 511.
 //!
-//! **The model** (`specs/`). `Stores` has what an opening may leave (`IsRepairedFrom`). `Loaded` has the images as they are
-//! read off their volumes, an image that is being enlarged in the extents that it had. `Faults` says what each check looks
-//! at, `Repairs` what the checks leave known and why an opening stops, `Links` what they leave known of a link, `Steps` what
-//! changes make one after the other, `Linking` what linking children one after the other leaves, and `Backs` the images in memory
-//! once a fork is undone; `Ending` has the table and the images in memory once the folding of a leaf is ended. What holds for images of
-//! any kind is `sm_ready`'s: what holds of a store between two steps, memory at
-//! rest beside a store and what each repair makes of it (its `Repairs`), and the table that an opening leaves (its `Cleaned`). The
-//! table without a fork or an enlargement, and the changes that lead to it, are `sm_standing`'s (its `Undone`), and so is the table
-//! without the entry of a copy or of a link (its `Unfolded`), and without the folding of a leaf (its `Leaves`). How one child is linked is `gc_coalesce`'s.
+//! **The model** (`specs/`). `Stores` has what an opening may leave (`IsRepairedFrom`). `Repairs` says what the checks leave known
+//! once what was under way is ended or undone, `Steps` what changes make one after the other, `Linking` what linking children one
+//! after the other leaves, and `Backs` the images in memory once a fork is undone; `Ending` has the table and the images in memory once
+//! the folding of a leaf is ended. What each check looks at is `sm_checks`'. What holds for images of any kind is `sm_ready`'s: what holds
+//! of a store between two steps, memory at rest beside a store and what each repair makes of it (its `Repairs`), and the table that an
+//! opening leaves (its `Cleaned`). The table without a fork or an enlargement, and the changes that lead to it, are `sm_standing`'s (its
+//! `Undone`), and so is the table without the entry of a copy or of a link (its `Unfolded`), and without the folding of a leaf (its
+//! `Leaves`). How one child is linked is `gc_coalesce`'s.
 //!
-//! **What it promises.** All checks come before the first write, in their order, and the first that fails gives the place
-//! (`checks.rt` and `forks.rt` by the table, `loading.rt`, `trees.rt` and `links.rt` by the images, `disks.rt` by the records,
-//! `opening.rt` one after another). Images of every kind pass, visible and hidden, with parents and without: each parent is
-//! there, not new, hidden and not larger, a chain has at most 30 images, and a visible image has no children. A repository is
-//! refused that has an old leaf of no entry, or two entries of one of the two groups
-//! (`entries.rt`): those of forks and of enlargements, and those of copies, of links and of leaves. An entry has to stand at its stage: of
-//! an enlargement the VHD image is there, not new, in the extents that it had at least; of a fork, whose UUIDs are none of the
-//! other entry's, the disk's image is there and nothing else of it, or the base is there, and the new images that are filled have
-//! it as parent, and nothing else has; of a copy or a link the image is there, hidden, and its parent has the UUID that the entry
-//! says and is hidden: in a copy no other image has that parent, in a link it is not smaller than the image; of the folding of a leaf
-//! leaf, old leaf and parent are there as at one of its four stages, and while the leaf has its parent it is its only child
-//! (`leaves.rt`). The images are
-//! read into memory as they are checked, in order of name, each once, with room for all that may come; one that is being
-//! enlarged is read in the extents that it had, since in those behind them anything may stand. Once all checks passed, memory
+//! **What it promises.** All checks of `sm_checks` come before the first write, in their order, and the first that fails gives the place
+//! (`opening.rt`, one after another). Once all checks passed, memory
 //! is that of the table in which nothing is under way (`memory.rt`): of a fork the new images go, and the base, where it is
 //! there, is the disk's image, shown; of a leaf's folding the image that goes on has the leaf's name, shown; of a link the image stands
 //! over its parent still. Then the folding of a leaf is ended (`folding.rt`), a commit each: where the leaf was renamed an enlargement of
@@ -47,35 +34,21 @@
 //! where what stood held well: each slot of a VHD image a sector, and under the entry of a link the parent, with equal bytes,
 //! whatever the image holds. No check sees that.
 //!
-//! **What it costs.** The checks go over the volumes once each, and twice where a volume looks for another, as each image
-//! looks for the entry under which it may lie; the check of trees goes over the images in memory once for each image of
-//! the chain of each VHD image, and three times more, and that of a fork's entry once. They read of each VHD image the footer,
-//! the header and the table, at most 3 sectors and one for each 128 entries, and one more where the last sector holds no footer;
-//! of the records 512 sectors; and they go over the 512 places once for each disk. An opening takes the memory for the 500
-//! images that the tree may come to have before it reads any, and then for each VHD image that of its map, 4 bytes an entry;
-//! `Mgt::load` takes memory for the records; behind the checks it takes that of the 505 rows that a table may come to have,
-//! less those that stand, and of as many attachments as images; nothing else takes any. A repair is at most five commits for a
+//! **What it costs.** That of the checks first. `Mgt::load` reads the 512 sectors of records and takes memory for them; behind the checks
+//! an opening takes that of the 505 rows that a table may come to have, less those that stand, and of as many attachments as images;
+//! nothing else takes any. A repair is at most five commits for a
 //! fork and two for an enlargement, one commit for a copy and for a link, for each child of a link two syncs, two sectors read and one
 //! written, one commit for each new volume, one write for each stray record, and one sync, also where nothing is to repair.
 #![tactic(auto)]
 
-mod checks;
-mod disks;
-mod entries;
 mod folding;
-mod forks;
-mod leaves;
 mod linking;
-mod links;
-mod loading;
 mod memory;
 mod opening;
 mod removals;
 mod settling;
 mod steps;
-mod trees;
 mod undoing;
-mod volumes;
 mod wiping;
 
 pub use settling::settle;

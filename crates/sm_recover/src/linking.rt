@@ -17,9 +17,9 @@ ghost use Rattle.sm_ready.specs.Stores.{content_in, store_content};
 ghost use Rattle.sm_recover.specs.Linking.{IsLinkBegun, LinkedBy, LinksAll, LinksPast, LinksRest, LinksSome, link_image};
 ghost use Rattle.sm_recover.specs.Repairs.{IsLinkable};
 
-use crate::entries::folding_in;
 use gc_coalesce::{finish, relink_one};
 use sm_base::{Failed, Name, Op};
+use sm_checks::folding_in;
 use sm_ready::Memory;
 use vg_meta::Table;
 use vg_volumes::Store;

@@ -10,10 +10,8 @@ ghost use Rattle.vhd_chain.specs.Trees.{tree_row, without};
 ghost use Rattle.sm_recover.specs.Backs.{CanGiveBack, IsFreeAgain, base_back, fork_back, row_back, rows_back};
 ghost use Rattle.sm_recover.specs.Ending.{CanEnd, leaf_back, rows_ended};
 
-use crate::entries::{entry_in, folding_in};
-use crate::leaves::is_leaf_renamed;
-use crate::volumes::image_with;
 use sm_base::Name;
+use sm_checks::{entry_in, folding_in, image_with, is_leaf_renamed};
 use uuid::Uuid;
 use vg_meta::Table;
 use vhd_chain::{Tree, TreeRow};

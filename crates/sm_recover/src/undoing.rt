@@ -19,11 +19,10 @@ ghost use Rattle.sm_ready.specs.Stores.{content_in, store_content};
 ghost use Rattle.sm_recover.specs.Repairs.{IsEndableStore};
 ghost use Rattle.sm_recover.specs.Steps.{MakesAll, MakesPart, changes_of_base, ends_copy, first_changes, is_copy, is_marked, uncopied};
 
-use crate::entries::{entry_in, folding_in};
 use crate::memory::under_name;
 use crate::steps::commit_where;
-use crate::volumes::{has, image_with};
 use sm_base::{Failed, Name};
+use sm_checks::{entry_in, folding_in, has, image_with};
 use uuid::Uuid;
 use vg_meta::{Change, Table, Tag};
 use vg_volumes::Store;

@@ -8,8 +8,8 @@ ghost use Rattle.vg_meta.specs.Roomy.{table_alone};
 ghost use Rattle.vg_volumes.specs.Stored.{Writes, Counts};
 ghost use Rattle.sm_ready.specs.Repairs.{IsRightAt, IsStrayAt, IsWithoutStrays, IsZeroedAt};
 
-use crate::disks::is_disk;
 use sm_base::{Failed, RECORD_LIMIT};
+use sm_checks::is_disk;
 use sm_mgt::Mgt;
 use vg_meta::Table;
 use vg_volumes::Store;

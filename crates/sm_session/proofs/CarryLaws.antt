@@ -1,25 +1,23 @@
 -- What a command's own crate tells of it, as a step tells it.
-use Rattle.std.proofs.Common.{◌≡◌, ◌⊎◌, inl, ◌≤◌, ℕ, Bool, true, false, List, ◌∷◌, length, Option, Some, Result, IfOk, OnOk, Ok, Err, refl, sym, ap, ◌∙◌, subst, arith}
+use Rattle.std.proofs.Common.{◌≡◌, ◌⊎◌, inl, ◌≤◌, ℕ, Bool, true, false, List, Result, IfOk, OnOk, Ok, Err, Some, refl, sym, ◌∙◌, subst, arith}
 use Rattle.sm_base.specs.declared.faults.Failed.{Failed}
 use Rattle.sm_base.specs.declared.operations.Mode.{Mode}
 use Rattle.sm_base.specs.declared.refusals.Refusal.{Refusal}
-use Rattle.sm_base.specs.declared.refusals.Refusal.TheVariants.{BadSize, ChainTooLong, InUse, NameTaken, NoMemory, NoSpace, NotAttached, OutOfRange, RawDisk, ReadOnly, ReservedName, SequenceSpent, Shrink, TooMany, UnknownDisk}
-use Rattle.common_laws.specs.Lists.{first_some, given}
-use Rattle.std.proofs.lemmas.Option.{none-some, same_Some}
-use Rattle.sm_machine.specs.Refusals.{fork_depth, images_needed, is_bad_size, is_deep, is_in_use, is_not_attached, is_out_of_range, is_raw_disk, is_read_only, is_reserved, is_shrink, is_spent, is_taken, is_too_many, is_unknown, lacks_space, need, refusal}
+use Rattle.sm_base.specs.declared.refusals.Refusal.TheVariants.{NoMemory}
+use Rattle.sm_machine.specs.Refusals.{refusal}
 use Rattle.std.proofs.lemmas.Bool.{true≢false}
 use Rattle.vg_volumes.specs.declared.stores.Store.{Ghosts}
 use Rattle.sm_machine.specs.Collector.{next_step}
 use Rattle.sm_machine.specs.Runs.{takes_memory}
 use Rattle.sm_run.specs.Runs.{begins, may_want_memory}
-use Rattle.sm_machine.specs.Shapes.{Shape, free}
+use Rattle.sm_machine.specs.Shapes.{Shape}
 use Rattle.sm_machine.specs.declared.commands.Command.{Command}
 use Rattle.sm_machine.specs.declared.commands.Command.TheVariants as command
 use Rattle.sm_machine.specs.declared.replies.Reply.{Reply}
 use Rattle.sm_machine.specs.declared.replies.Reply.TheVariants.{No}
 use Rattle.sm_ready.specs.Taken.{StoreTakes}
 use Rattle.sm_ready.specs.declared.memory.Memory.{Memory}
-use Rattle.sm_session.specs.Carrying.{is_guests}
+use Rattle.sm_session.specs.Carrying.{WritesOnlyIts, is_guests, most_commits}
 use Rattle.vg_meta.specs.Tables.{VolumeTable}
 use Rattle.vg_volumes.specs.Stored.{IsChoiceOf, OnlyReads, Stays, stored}
 use Rattle.sm_disk.proofs.ReachesLaws.{Reaches-none}
@@ -30,7 +28,6 @@ use Rattle.sm_ready.specs.Frames.{HasTrueImages}
 use Rattle.sm_ready.specs.Framing.{IsBetweenSteps, StepsOn}
 use Rattle.sm_ready.specs.Sessions.{HasAttachmentRoom, HasRows, HasTreeRoom, IsOrderlyStore, IsTidyStore}
 use Rattle.sm_ready.proofs.FramingLaws.{more_steps, reads_between, stays_steps}
-use Rattle.sm_session.specs.Carrying.{most_commits}
 
 -- what is told of a command at any result is told of it where it failed
 pub stopped_at : {S : Type 0} (g : Ghosts S) (a b : S) (m n : Memory) (c : Command) (r : Result Reply Failed) (f : Failed) → StoreTakes g c a m b n r → StoreTakes g c a m b n (Err f)
@@ -64,35 +61,7 @@ others_guests command.Stat no_create no_delete no_label no_resize no_snapshot no
 others_guests command.Gc no_create no_delete no_label no_resize no_snapshot no_clone no_list no_stat no_gc = absurd (no_gc refl)
 others_guests _ no_create no_delete no_label no_resize no_snapshot no_clone no_list no_stat no_gc = refl
 
--- ---- want of memory is no cause
-
-abbrev is_memory : Refusal → Bool
-is_memory NoMemory = true
-is_memory _ = false
-
-past : (b : Bool) (r : Refusal) (rest : List (Option Refusal)) → is_memory r ≡ false → (first_some rest ≡ Some NoMemory → ⊥) → first_some (given b r ∷ rest) ≡ Some NoMemory → ⊥
-past true r rest other on is = true≢false (sym (ap is_memory (same_Some r NoMemory is)) ∙ other)
-past false r rest other on is = on is
-
--- no command is refused for it
-pub never_for_memory : (σ : Shape) (c : Command) → refusal σ c ≡ Some NoMemory → ⊥
-unfolding refusal
-never_for_memory σ c =
-    past (is_reserved c) ReservedName _ refl
-    (past (is_unknown σ c) UnknownDisk _ refl
-    (past (is_taken σ c) NameTaken _ refl
-    (past (is_in_use σ c) InUse _ refl
-    (past (is_not_attached σ c) NotAttached _ refl
-    (past (is_read_only σ c) ReadOnly _ refl
-    (past (is_raw_disk σ c) RawDisk _ refl
-    (past (is_out_of_range σ c) OutOfRange _ refl
-    (past (is_bad_size σ c) BadSize _ refl
-    (past (is_shrink σ c) Shrink _ refl
-    (past (is_deep σ c) (ChainTooLong (fork_depth σ c)) _ refl
-    (past (is_too_many σ c) (TooMany (length σ.images) (images_needed c)) _ refl
-    (past (is_spent σ c) SequenceSpent _ refl
-    (past (lacks_space σ c) (NoSpace (need σ c) (free σ)) _ refl
-    (λ e. none-some NoMemory e))))))))))))))
+-- ---- want of memory
 
 -- a command's answer may be want of memory where its step takes memory, and where a step of the collector begins to fold an image
 pub may_want : (s : Shape) (c : Command) → takes_memory c ≡ true → (c ≡ command.Gc → begins (next_step s) ≡ true) → may_want_memory s c ≡ true
@@ -106,14 +75,6 @@ of_reply P (Ok r) all = all r
 of_reply P (Err e) all = tt
 
 -- ---- what a command did to the store, and what it leaves of the session
-
-abbrev is_write : Command → Bool
-is_write (command.Write u sector bytes) = true
-is_write _ = false
-
-abbrev OfWrite : (List ℕ → ℕ → List ℕ → Type 0) → Command → Type 0
-OfWrite P (command.Write u sector bytes) = P u sector bytes
-OfWrite P _ = ⊤
 
 module _ {S : Type 0} {g : Ghosts S} {a b : S} where
   -- a command that makes so many commits
@@ -132,17 +93,14 @@ module _ {S : Type 0} {g : Ghosts S} {a b : S} where
 pub steps_none : {S : Type 0} (g : Ghosts S) (most : ℕ) (a : S) → (g.told → g.failed a ≡ false → (t : VolumeTable) (image : ℕ → List ℕ) → g.leaves a t image → IsChoiceOf (stored g a) t image) → g.failed a ≡ false → StepsOn g most a a
 steps_none g most a now usable = steps_stay most now usable (stays_none a)
 
--- a command that is no write writes only what a write would
-pub no_write : (P : List ℕ → ℕ → List ℕ → Type 0) (c k : Command) → c ≡ k → is_write k ≡ false → (u : List ℕ) (sector : ℕ) (bytes : List ℕ) → c ≡ command.Write u sector bytes → P u sector bytes
-no_write P c k is not u sector bytes write = absurd (true≢false (sym (ap is_write (sym is ∙ write)) ∙ not))
+-- and nothing was put
+none_put : {S : Type 0} (g : Ghosts S) (m : Memory) (u : List ℕ) (at : ℕ) (bytes : List ℕ) (a : S) → WritesOnly g m u at bytes a a
+none_put g m u at bytes a = record { works = works_none _ a; places = λ r is told. Reaches-none _ _ }
 
--- no call was made
-pub writes_none : {S : Type 0} (g : Ghosts S) (m : Memory) (u : List ℕ) (at : ℕ) (bytes : List ℕ) (a : S) → WritesOnly g m u at bytes a a
-writes_none g m u at bytes a = record { works = works_none _ a; places = λ r is told. Reaches-none _ _ }
-
--- a write is one of this disk, this place and these bytes
-pub one_write : (P : List ℕ → ℕ → List ℕ → Type 0) (v : List ℕ) (from : ℕ) (put : List ℕ) (u : List ℕ) (at : ℕ) (bytes : List ℕ) → command.Write v from put ≡ command.Write u at bytes → P v from put → P u at bytes
-one_write P v from put u at bytes is made = subst (OfWrite P) is made
+pub writes_none : {S : Type 0} (g : Ghosts S) (m : Memory) (c : Command) (a : S) → WritesOnlyIts g m c a a
+writes_none g m (command.Write u at bytes) a = none_put g m u at bytes a
+writes_none g m (command.Fill u at count byte) a = none_put g m u at _ a
+writes_none g m _ a = tt
 
 -- a call that tells part by part what it leaves of the session
 pub between_parts : {S : Type 0} (g : Ghosts S) (a b : S) (m n : Memory) (r : Result ⊤ Failed) → IsBetweenSteps g a m → OnOk r (g.failed b ≡ false) → OnOk r (IsOrderlyStore g b n)

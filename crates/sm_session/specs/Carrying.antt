@@ -1,7 +1,10 @@
--- The commands of guests, and how many commits a command makes at most.
-use Rattle.std.specs.Prelude.{ℕ, Bool, true, false}
+-- The commands of guests, what a command puts, and how many commits it makes at most.
+use Rattle.std.specs.Prelude.{ℕ, ◌*◌, Bool, true, false, replicate, ⊤}
+use Rattle.vg_volumes.specs.declared.stores.Store.{Ghosts}
 use Rattle.sm_machine.specs.declared.commands.Command.{Command}
 use Rattle.sm_machine.specs.declared.commands.Command.TheVariants.{Create, Delete, Attach, Detach, Snapshot, Clone, Resize, Write, Fill, Read, Flush, Gc}
+use Rattle.sm_ready.specs.declared.memory.Memory.{Memory}
+use Rattle.sm_guests.specs.Writing.{WritesOnly}
 
 -- what a guest's host asks: a disk comes into use and goes out of it, and its sectors are read and written
 unfoldable pub is_guests : Command → Bool
@@ -12,6 +15,12 @@ is_guests (Fill u sector count byte) = true
 is_guests (Read u sector count) = true
 is_guests (Flush u) = true
 is_guests _ = false
+
+-- a guest's write or fill works on the volume of its disk's own image alone, and puts there nothing but its bytes and what they need (`WritesOnly`); of another command this says nothing
+abbrev pub WritesOnlyIts : {S : Type 0} → Ghosts S → Memory → Command → S → S → Type 0
+WritesOnlyIts g m (Write u sector bytes) old new = WritesOnly g m u sector bytes old new
+WritesOnlyIts g m (Fill u sector count byte) old new = WritesOnly g m u sector (replicate (512 * count) byte) old new
+WritesOnlyIts g m _ old new = ⊤
 
 -- a new disk is made and then unmarked; one that goes is removed; the image of one that is attached may get extents under an entry;
 -- eight make a disk of another; and a step of the collector may enlarge a volume and put its own entry, or put a parent in its leaf's

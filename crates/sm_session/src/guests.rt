@@ -11,9 +11,7 @@ ghost use Rattle.sm_ready.specs.Refusing.{IsAllowed};
 ghost use Rattle.sm_ready.specs.Framing.{IsBetweenSteps, StepsOn};
 ghost use Rattle.sm_ready.specs.Sessions.{IsReadyStore};
 ghost use Rattle.sm_ready.specs.Taken.{StoreTakes};
-ghost use Rattle.sm_machine.specs.declared.commands.Command.TheVariants.{Write};
-ghost use Rattle.sm_guests.specs.Writing.{WritesOnly};
-ghost use Rattle.sm_session.specs.Carrying.{is_guests, most_commits};
+ghost use Rattle.sm_session.specs.Carrying.{WritesOnlyIts, is_guests, most_commits};
 
 use sm_attaching::{attach, detach};
 use sm_base::{CallFault, Failed, Refusal};
@@ -44,8 +42,7 @@ pub(crate) fn serve<S: Store>(
     ensures spared { IfOk result (λ r. r ≡ No NoMemory → takes_memory command.now ≡ true) }
     ensures poor { IfOk result (λ r. (x : Refusal) → r ≡ No x → x ≡ NoMemory) }
     ensures untouched { IfOk result (λ r. is_accepted r ≡ false → OnlyReads S.Store store.old store.new × (memory.new ≡ memory.old)) }
-    ensures writes { (u : List ℕ) (sector : ℕ) (bytes : List ℕ) → command.now ≡ Write u sector bytes
-        → WritesOnly S.Store memory.old u sector bytes store.old store.new }
+    ensures writes { WritesOnlyIts S.Store memory.old command.now store.old store.new }
     ensures taken { S.told → IsReadyStore S.Store store.old memory.old
         → StoreTakes S.Store command.now store.old memory.old store.new memory.new result }
 {

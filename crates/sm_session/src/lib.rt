@@ -19,7 +19,7 @@
 //!
 //! The commands are those that make disks, also of one another, give them up, rename, resize and list them, the one that tells
 //! of the images, those of guests (`is_guests`): a disk comes into use and goes out of it, and its sectors are read, written,
-//! filled and made last; and the collector's. Why a command is refused is asked once, of `refuse` (`sm_ready`), before the command
+//! filled and made last; and the collector's. Why a command is refused is asked once, of `refuse` (`sm_refusals`), before the command
 //! is carried out: so a command's crate is called only where no cause was found. Between two steps each image in memory is true of
 //! its volume, whether or not the device was kept when it was opened: so a guest may always read and write.
 //!

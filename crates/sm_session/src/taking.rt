@@ -3,7 +3,7 @@
 ghost use Rattle.std.specs.Prelude.{◌≡◌, ◌≤◌, ◌<◌, ◌+◌, ◌*◌, ◌⊎◌, ℕ, List, true, false, Ok, Some, IfOk, OnOk, length};
 ghost use Rattle.vg_meta.specs.Roomy.{table_alone};
 ghost use Rattle.vg_meta.specs.Tables.{VolumeTable};
-ghost use Rattle.sm_machine.specs.declared.commands.Command.TheVariants.{Create, Gc, Write};
+ghost use Rattle.sm_machine.specs.declared.commands.Command.TheVariants.{Create, Gc};
 ghost use Rattle.sm_machine.specs.Collector.{IsLess, debt, next_step};
 ghost use Rattle.sm_machine.specs.Laws.{is_working};
 ghost use Rattle.sm_machine.specs.Refusals.{refusal};
@@ -20,8 +20,7 @@ ghost use Rattle.sm_ready.specs.Framing.{IsBetweenSteps, StepsOn};
 ghost use Rattle.sm_ready.specs.Sessions.{IsReadyStore};
 ghost use Rattle.sm_ready.specs.Taken.{StoreTakes};
 ghost use Rattle.sm_run.specs.Runs.{begins};
-ghost use Rattle.sm_guests.specs.Writing.{WritesOnly};
-ghost use Rattle.sm_session.specs.Carrying.{most_commits};
+ghost use Rattle.sm_session.specs.Carrying.{WritesOnlyIts, most_commits};
 
 use crate::collecting::gc;
 use crate::forks::derive;
@@ -33,7 +32,8 @@ use sm_listing::{list, stat};
 use sm_machine::{Command, Reply};
 use sm_making::{create, create_vhd};
 use sm_pool::Pool;
-use sm_ready::{Memory, refuse};
+use sm_ready::Memory;
+use sm_refusals::refuse;
 use sm_space::resize;
 use std::alloc::Global;
 use vg_volumes::Store;
@@ -67,8 +67,7 @@ fn carry_out<S: Store>(
     ensures lowered_gc { command.now ≡ Gc → IfOk result (λ r. is_accepted r ≡ true
         → is_working (next_step (store_shape S.Store store.old memory.old)) ≡ true
         → ∥ IsLess (debt (store_shape S.Store store.new memory.new)) (debt (store_shape S.Store store.old memory.old)) ∥₁) }
-    ensures writes { (u : List ℕ) (sector : ℕ) (bytes : List ℕ) → command.now ≡ Write u sector bytes
-        → WritesOnly S.Store memory.old u sector bytes store.old store.new }
+    ensures writes { WritesOnlyIts S.Store memory.old command.now store.old store.new }
     ensures taken { S.told → IsReadyStore S.Store store.old memory.old
         → StoreTakes S.Store command.now store.old memory.old store.new memory.new result }
 {
@@ -139,8 +138,7 @@ pub fn take<S: Store>(
     ensures lowered_gc { command.now ≡ Gc → IfOk result (λ r. is_accepted r ≡ true
         → is_working (next_step (store_shape S.Store store.old memory.old)) ≡ true
         → ∥ IsLess (debt (store_shape S.Store store.new memory.new)) (debt (store_shape S.Store store.old memory.old)) ∥₁) }
-    ensures writes { (u : List ℕ) (sector : ℕ) (bytes : List ℕ) → command.now ≡ Write u sector bytes
-        → WritesOnly S.Store memory.old u sector bytes store.old store.new }
+    ensures writes { WritesOnlyIts S.Store memory.old command.now store.old store.new }
     ensures taken { S.told → IsReadyStore S.Store store.old memory.old
         → StoreTakes S.Store command.now store.old memory.old store.new memory.new result }
 {

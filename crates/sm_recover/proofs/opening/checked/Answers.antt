@@ -4,9 +4,9 @@ use Rattle.vg_meta.specs.Roomy.{table_alone}
 use Rattle.vg_volumes.proofs.StoredLaws.{reads_then}
 use Rattle.sm_standing.specs.Outlines.{outline}
 use Rattle.sm_ready.specs.Stores.{content_now}
-use Rattle.sm_recover.specs.Repairs.{IsOpenable, IsOpeningStopped}
-use Rattle.sm_recover.proofs.OpeningLaws.{agrees_before, damaged_before, records_fit, has_table, all_pass, all_say, stopped_by, if_err}
-use Rattle.sm_recover.proofs.EntryLaws.{staged_open}
+use Rattle.sm_checks.specs.Openable.{IsOpenable, IsOpeningStopped}
+use Rattle.sm_checks.proofs.OpeningLaws.{agrees_before, damaged_before, records_fit, has_table, all_pass, all_say, stopped_by, if_err}
+use Rattle.sm_checks.proofs.EntryLaws.{staged_open}
 use Rattle.sm_recover.proofs.SeenLaws.{links_now}
 use Rattle.sm_recover.proofs.opening.checked.Goals as goal
 

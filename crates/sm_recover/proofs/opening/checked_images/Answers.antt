@@ -3,9 +3,9 @@ use Rattle.sm_disk.specs.Held.{reads}
 use Rattle.vg_meta.specs.Roomy.{table_alone}
 use Rattle.sm_standing.specs.Outlines.{outline}
 use Rattle.sm_ready.specs.Stores.{content_now}
-use Rattle.sm_recover.specs.Repairs.{IsOpeningStopped}
-use Rattle.sm_recover.proofs.OpeningLaws.{has_table, if_err, not_read, whole_links, whole_table, whole_trees}
-use Rattle.sm_recover.proofs.EntryLaws.{staged_open}
+use Rattle.sm_checks.specs.Openable.{IsOpeningStopped}
+use Rattle.sm_checks.proofs.OpeningLaws.{has_table, if_err, not_read, whole_links, whole_table, whole_trees}
+use Rattle.sm_checks.proofs.EntryLaws.{staged_open}
 use Rattle.sm_recover.proofs.SeenLaws.{all_valid, children_counted, links_now, volumes_seen}
 use Rattle.sm_recover.proofs.opening.checked_images.Goals as goal
 

@@ -10,8 +10,8 @@ use Rattle.sm_standing.specs.Unfolded.{unfolded}
 use Rattle.sm_base.specs.declared.operations.Op.TheVariants.{Idle}
 use Rattle.sm_recover.specs.Backs.{CanGiveBack, rows_back}
 use Rattle.sm_recover.specs.Ending.{CanEnd, rows_ended, unleafed}
-use Rattle.sm_recover.specs.Links.{IsLinkRight}
-use Rattle.sm_recover.specs.Loaded.{stored_with}
+use Rattle.sm_checks.specs.Links.{IsLinkRight}
+use Rattle.sm_checks.specs.Loaded.{stored_with}
 use Rattle.sm_recover.proofs.CheckedMemory.{agrees_then, back_is, holding_then}
 use Rattle.sm_recover.proofs.EndedForks.{can_back}
 use Rattle.sm_recover.proofs.EndedThen.{can_take, ended_so, is_then, may_end}

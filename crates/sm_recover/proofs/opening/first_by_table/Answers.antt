@@ -1,6 +1,6 @@
 use Rattle.std.proofs.Common.{subst}
 use Rattle.vg_meta.specs.Roomy.{table_alone}
-use Rattle.sm_recover.proofs.OpeningLaws.{TablesSay, tables_say, checked_from, none_only}
+use Rattle.sm_checks.proofs.OpeningLaws.{TablesSay, tables_say, checked_from, none_only}
 use Rattle.sm_recover.proofs.opening.first_by_table.Goals as goal
 
 pub returns-clause-says : goal.returns-clause-says

@@ -3,7 +3,7 @@ use Rattle.std.specs.List.{find}
 use Rattle.vg_meta.specs.Roomy.{RoomyRow, table_alone}
 use Rattle.sm_ready.specs.Repairs.{IsNewVolume}
 use Rattle.sm_ready.proofs.NewVolumeLaws.{new_first, new_none}
-use Rattle.sm_recover.proofs.OpeningLaws.{none_only}
+use Rattle.sm_checks.proofs.OpeningLaws.{none_only}
 use Rattle.sm_recover.proofs.removals.first_new.Goals as goal
 
 pub returns-in_err-volume-clause-none : goal.returns-in_err-volume-clause-none

@@ -2,7 +2,7 @@ use Rattle.std.proofs.Common.{◌∙◌}
 use Rattle.vg_volumes.proofs.StoredLaws.{stays_from, works_keeps, works_then, works_writes}
 use Rattle.sm_base.specs.declared.names.Name.TheVariants.{Mgt}
 use Rattle.vg_meta.specs.Roomy.{table_alone}
-use Rattle.sm_recover.proofs.TableLaws.{records_room}
+use Rattle.sm_checks.proofs.TableLaws.{records_room}
 use Rattle.sm_ready.proofs.AgainLaws.{again_wiped, stop_wiped}
 use Rattle.sm_recover.proofs.settling.tidy_records.Goals as goal
 

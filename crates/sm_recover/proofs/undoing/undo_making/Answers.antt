@@ -3,7 +3,7 @@ use Rattle.vg_meta.specs.Roomy.{table_alone}
 use Rattle.sm_standing.specs.Entries.{head, making}
 use Rattle.sm_ready.specs.Runs.{AllMay}
 use Rattle.sm_recover.specs.Steps.{MakesAll, MakesPart}
-use Rattle.sm_recover.proofs.EntryLaws.{changes_none, changes_some}
+use Rattle.sm_checks.proofs.EntryLaws.{changes_none, changes_some}
 use Rattle.sm_recover.proofs.undoing.undo_making.Goals as goal
 
 pub returns-in_default-clause-all : goal.returns-in_default-clause-all

@@ -8,14 +8,13 @@ use Rattle.sm_machine.specs.Steps.{reply_to}
 use Rattle.sm_machine.specs.declared.commands.Command.TheVariants as command
 use Rattle.sm_machine.specs.declared.replies.Reply.TheVariants.{Done, No}
 use Rattle.sm_guests.specs.Taken.{answered}
-use Rattle.sm_guests.specs.Writing.{WritesOnly}
 use Rattle.sm_ready.specs.Does.{ShapesAs, StoreDoes, store_shape}
 use Rattle.sm_ready.specs.Sessions.{store_state}
 use Rattle.sm_ready.specs.Taken.{StoreTakes}
 use Rattle.sm_ready.proofs.DoesLaws.{does_err, does_ok}
 use Rattle.sm_ready.proofs.TakenLaws.{is_told, taken_poor}
 use Rattle.sm_session.specs.Carrying.{most_commits}
-use Rattle.sm_session.proofs.CarryLaws.{between_poor, no_write, not_guests, of_reply, one_write, steps_by, steps_stay, stopped_at}
+use Rattle.sm_session.proofs.CarryLaws.{between_poor, not_guests, of_reply, steps_by, steps_stay, stopped_at}
 use Rattle.sm_session.proofs.guests.serve.Goals as goal
 
 pub returns-in-Ok-clause-refused : goal.returns-in-Ok-clause-refused
@@ -164,43 +163,3 @@ returns-in_ok-flush-in-Flush-clause-step g c = steps_stay (most_commits c.args.c
 
 pub returns-in-Read-clause-step : goal.returns-in-Read-clause-step
 returns-in-Read-clause-step g c = steps_stay (most_commits c.args.command.now) (λ told usable t image. g.met.S.Store.leaves_now c.read.new.store told usable t image) c.requires.session.usable c.read.ensures.reads_only.stays
-
-pub returns-in-Ok-clause-writes : goal.returns-in-Ok-clause-writes
-returns-in-Ok-clause-writes g c = no_write _ c.args.command.now _ c.in-Attach.is refl
-
-pub returns-in-Err-NoMemory-clause-writes : goal.returns-in-Err-NoMemory-clause-writes
-returns-in-Err-NoMemory-clause-writes g c = no_write _ c.args.command.now _ c.in-Attach.is refl
-
-pub returns-in-Err-Device-clause-writes : goal.returns-in-Err-Device-clause-writes
-returns-in-Err-Device-clause-writes g c = no_write _ c.args.command.now _ c.in-Attach.is refl
-
-pub returns-in_err-detach-in-Detach-clause-writes : goal.returns-in_err-detach-in-Detach-clause-writes
-returns-in_err-detach-in-Detach-clause-writes g c = no_write _ c.args.command.now _ c.in-Detach.is refl
-
-pub returns-in_ok-detach-in-Detach-clause-writes : goal.returns-in_ok-detach-in-Detach-clause-writes
-returns-in_ok-detach-in-Detach-clause-writes g c = no_write _ c.args.command.now _ c.in-Detach.is refl
-
-pub returns-in_err-fill-in-Fill-clause-writes : goal.returns-in_err-fill-in-Fill-clause-writes
-returns-in_err-fill-in-Fill-clause-writes g c = no_write _ c.args.command.now _ c.in-Fill.is refl
-
-pub returns-in_ok-fill-in-Fill-clause-writes : goal.returns-in_ok-fill-in-Fill-clause-writes
-returns-in_ok-fill-in-Fill-clause-writes g c = no_write _ c.args.command.now _ c.in-Fill.is refl
-
-pub returns-in_err-flush-in-Flush-clause-writes : goal.returns-in_err-flush-in-Flush-clause-writes
-returns-in_err-flush-in-Flush-clause-writes g c = no_write _ c.args.command.now _ c.in-Flush.is refl
-
-pub returns-in_ok-flush-in-Flush-clause-writes : goal.returns-in_ok-flush-in-Flush-clause-writes
-returns-in_ok-flush-in-Flush-clause-writes g c = no_write _ c.args.command.now _ c.in-Flush.is refl
-
-pub returns-in-Read-clause-writes : goal.returns-in-Read-clause-writes
-returns-in-Read-clause-writes g c = no_write _ c.args.command.now _ c.in-Read.is refl
-
-pub returns-in_err-write-in-Write-clause-writes : goal.returns-in_err-write-in-Write-clause-writes
-returns-in_err-write-in-Write-clause-writes g c = λ u sector bytes is.
-    one_write (λ v from put. WritesOnly g.S.Store c.args.memory.now v from put c.args.store.now c.write.new.store) c.in-Write.disk c.in-Write.sector c.in-Write.bytes u sector bytes (sym c.in-Write.is ∙ is)
-    (subst (λ b. WritesOnly g.S.Store c.args.memory.now c.in-Write.disk c.in-Write.sector b c.args.store.now c.write.new.store) (c.deref.ensures.value ∙ c.bytes.view_is) c.write.ensures.writes)
-
-pub returns-in_ok-write-in-Write-clause-writes : goal.returns-in_ok-write-in-Write-clause-writes
-returns-in_ok-write-in-Write-clause-writes g c = λ u sector bytes is.
-    one_write (λ v from put. WritesOnly g.S.Store c.args.memory.now v from put c.args.store.now c.write.new.store) c.in-Write.disk c.in-Write.sector c.in-Write.bytes u sector bytes (sym c.in-Write.is ∙ is)
-    (subst (λ b. WritesOnly g.S.Store c.args.memory.now c.in-Write.disk c.in-Write.sector b c.args.store.now c.write.new.store) (c.deref.ensures.value ∙ c.bytes.view_is) c.write.ensures.writes)

@@ -20,7 +20,7 @@ use Rattle.sm_ready.specs.Taken.{StoreTakes}
 use Rattle.sm_ready.proofs.DoesLaws.{does_err, does_ok}
 use Rattle.sm_ready.proofs.TakenLaws.{is_told, taken_answered}
 use Rattle.sm_session.specs.Carrying.{most_commits}
-use Rattle.sm_session.proofs.CarryLaws.{no_write, of_reply, others_guests, steps_by, steps_none, steps_stay}
+use Rattle.sm_session.proofs.CarryLaws.{of_reply, others_guests, steps_by, steps_none, steps_stay}
 use Rattle.sm_session.proofs.taking.carry_out.Goals as goal
 
 pub returns-in_err-delete-in-Delete-clause-taken : goal.returns-in_err-delete-in-Delete-clause-taken
@@ -204,42 +204,3 @@ returns-in-List-clause-step g c = steps_none g.S.Store (most_commits c.args.comm
 
 pub returns-in-Stat-clause-step : goal.returns-in-Stat-clause-step
 returns-in-Stat-clause-step g c = steps_none g.S.Store (most_commits c.args.command.now) c.args.store.now (λ told usable t image. g.met.S.Store.leaves_now c.args.store.now told usable t image) c.requires.session.usable
-
-pub returns-then-raw-clause-writes : goal.returns-then-raw-clause-writes
-returns-then-raw-clause-writes g c = no_write _ c.args.command.now _ c.in-Create.is refl
-
-pub returns-else-raw-clause-writes : goal.returns-else-raw-clause-writes
-returns-else-raw-clause-writes g c = no_write _ c.args.command.now _ c.in-Create.is refl
-
-pub returns-in_err-delete-in-Delete-clause-writes : goal.returns-in_err-delete-in-Delete-clause-writes
-returns-in_err-delete-in-Delete-clause-writes g c = no_write _ c.args.command.now _ c.in-Delete.is refl
-
-pub returns-in_ok-delete-in-Delete-clause-writes : goal.returns-in_ok-delete-in-Delete-clause-writes
-returns-in_ok-delete-in-Delete-clause-writes g c = no_write _ c.args.command.now _ c.in-Delete.is refl
-
-pub returns-in_err-label-in-Label-clause-writes : goal.returns-in_err-label-in-Label-clause-writes
-returns-in_err-label-in-Label-clause-writes g c = no_write _ c.args.command.now _ c.in-Label.is refl
-
-pub returns-in_ok-label-in-Label-clause-writes : goal.returns-in_ok-label-in-Label-clause-writes
-returns-in_ok-label-in-Label-clause-writes g c = no_write _ c.args.command.now _ c.in-Label.is refl
-
-pub returns-in_err-bytes-in-Resize-clause-writes : goal.returns-in_err-bytes-in-Resize-clause-writes
-returns-in_err-bytes-in-Resize-clause-writes g c = no_write _ c.args.command.now _ c.in-Resize.is refl
-
-pub returns-in_ok-bytes-in-Resize-clause-writes : goal.returns-in_ok-bytes-in-Resize-clause-writes
-returns-in_ok-bytes-in-Resize-clause-writes g c = no_write _ c.args.command.now _ c.in-Resize.is refl
-
-pub returns-in-Snapshot-clause-writes : goal.returns-in-Snapshot-clause-writes
-returns-in-Snapshot-clause-writes g c = no_write _ c.args.command.now _ c.in-Snapshot.is refl
-
-pub returns-in-Clone-clause-writes : goal.returns-in-Clone-clause-writes
-returns-in-Clone-clause-writes g c = no_write _ c.args.command.now _ c.in-Clone.is refl
-
-pub returns-in-List-clause-writes : goal.returns-in-List-clause-writes
-returns-in-List-clause-writes g c = no_write _ c.args.command.now _ c.in-List.is refl
-
-pub returns-in-Stat-clause-writes : goal.returns-in-Stat-clause-writes
-returns-in-Stat-clause-writes g c = no_write _ c.args.command.now _ c.in-Stat.is refl
-
-pub returns-in-Gc-clause-writes : goal.returns-in-Gc-clause-writes
-returns-in-Gc-clause-writes g c = no_write _ c.args.command.now _ c.in-Gc.is refl

@@ -5,7 +5,8 @@ use Rattle.sm_ready.specs.Does.{store_shape}
 use Rattle.sm_ready.specs.Sessions.{store_state}
 use Rattle.sm_ready.proofs.TakenLaws.{is_told, step_by, taken_refused}
 use Rattle.sm_session.specs.Carrying.{most_commits}
-use Rattle.sm_session.proofs.CarryLaws.{never_for_memory, only_poor, steps_none, writes_none}
+use Rattle.sm_run.proofs.PoorLaws.{never_for_memory}
+use Rattle.sm_session.proofs.CarryLaws.{only_poor, steps_none, writes_none}
 use Rattle.sm_session.proofs.taking.take.Goals as goal
 
 pub returns-in-Some-clause-least : goal.returns-in-Some-clause-least
@@ -46,7 +47,7 @@ pub returns-in-Some-clause-step : goal.returns-in-Some-clause-step
 returns-in-Some-clause-step g c = steps_none g.S.Store (most_commits c.args.command.now) c.args.store.now (λ told usable t image. g.met.S.Store.leaves_now c.args.store.now told usable t image) c.requires.session.usable
 
 pub returns-in-Some-clause-writes : goal.returns-in-Some-clause-writes
-returns-in-Some-clause-writes g c = λ u sector bytes is. writes_none g.S.Store c.args.memory.now u sector bytes c.args.store.now
+returns-in-Some-clause-writes g c = writes_none g.S.Store c.args.memory.now c.args.command.now c.args.store.now
 
 pub returns-in-Some-clause-exact_only : goal.returns-in-Some-clause-exact_only
 returns-in-Some-clause-exact_only g c = λ x same.

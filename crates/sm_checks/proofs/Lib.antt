@@ -1,0 +1,12 @@
+pub mod CheckLaws
+pub mod LinkLaws
+pub mod DiskLaws
+pub mod OpeningLaws
+pub mod LoadedLaws
+pub mod TableLaws
+pub mod EntryLaws
+pub mod KnownLaws
+pub mod ReadLaws
+pub mod FoundLaws
+pub mod TreeLaws
+pub mod TurnLaws

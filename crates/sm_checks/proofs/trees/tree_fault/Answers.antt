@@ -1,0 +1,14 @@
+use Rattle.std.proofs.Common.{◌≡◌, None, Some, ap, rules}
+use Rattle.sm_base.specs.declared.faults.Place.TheVariants as at
+use Rattle.sm_base.specs.declared.names.Name.{Name}
+use Rattle.sm_checks.proofs.TreeLaws.{trees_at}
+use Rattle.sm_checks.proofs.trees.tree_fault.Goals as goal
+
+pub returns-in_err-volume : goal.returns-in_err-volume
+returns-in_err-volume c = λ seen is links children.
+    let none : c.from_residual.result ≡ None = search rules in
+    trees_at c.args.table.now c.args.tree.now.rows seen is links children c.volumes.ensures.volumes c.in_err-volume.ensures none
+
+pub returns : goal.returns
+returns c = λ seen is links children.
+    trees_at c.args.table.now c.args.tree.now.rows seen is links children c.volumes.ensures.volumes c.in_ok-volume.ensures (ap (λ (n : Name). Some (at.Tree n)) c.name.ensures.name)
