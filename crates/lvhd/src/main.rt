@@ -1,13 +1,14 @@
-//! The program: `lvhd PATH format EXTENT BLOCK ENTRIES UUID`, and `lvhd PATH run`.
+//! The program: `lvhd PATH format EXTENT BLOCK ENTRIES UUID`, `lvhd PATH run`, and `lvhd trial N`.
 //!
 //! The file at PATH is the device; the script comes on standard input, and the replies go to standard output. What is
 //! asked for is done by the proved top call; here the file and the streams are opened, and the status is handed to the
-//! system. The program prints nothing of its own. Where a standard stream is closed, or another run has the file, nothing
-//! is done. Standard input is read in pieces, so behind a fault more of it may have been taken than was answered.
+//! system. The program prints nothing of its own. Where a standard stream is closed, or another run has the file, nothing of `format` and `run`
+//! is done. Standard input is read in pieces, so behind a fault more of it may have been taken than was answered. A trial works
+//! on a device in memory, and opens no file: one that is itself called `trial` is reached as `./trial`.
 #![tactic(auto)]
 
-use lvhd_command::lvhd;
-use sm_disk::MemDisk;
+use lvhd_command::{Status, lvhd};
+use sm_disk::{Disk, MemDisk};
 use sm_host::{FileDisk, ReadSource, WriteSink, seconds_since_2000};
 use std::fs::{File, TryLockError};
 use std::io::{BufReader, BufWriter, ErrorKind, Seek, SeekFrom};
@@ -21,6 +22,12 @@ const UNREADABLE: u8 = 9;
 
 /// Another run has the file.
 const IN_USE: u8 = 11;
+
+/// The word behind which no file is opened, but a device in memory.
+const TRIAL: &str = "trial";
+
+/// The sectors of that device.
+const TRIAL_SECTORS: u64 = 20_480;
 
 /// The descriptors of the standard streams are below this.
 const STREAMS: i32 = 3;
@@ -42,19 +49,28 @@ fn status(rt: &HostRuntime) -> Result<u8, u8> {
     for argument in &arguments {
         words.push(argument.as_str()).map_err(|_| NO_MEMORY)?;
     }
+    let status = match words.split_first() {
+        None => answer(rt, &[], memory(rt, 0)?)?,
+        Some((&TRIAL, _)) => answer(rt, &words, memory(rt, TRIAL_SECTORS)?)?,
+        Some((_, [TRIAL, ..])) => Status::Words,
+        Some((path, words)) => answer(rt, words, device(rt, path)?)?,
+    };
+    Ok(status.code())
+}
+
+/// Does what the words ask for on a device, from standard input to standard output.
+fn answer<D: Disk + Drop>(rt: &HostRuntime, words: &[&str], disk: D) -> Result<Status, u8> {
     let reader = BufReader::new(rt.alloc(), rt.reader()).map_err(|_| NO_MEMORY)?;
     let writer = BufWriter::new(rt.alloc(), io::writer(rt)).map_err(|_| NO_MEMORY)?;
-    let now = now(rt);
     let mut source = ReadSource::new(reader);
     let mut sink = WriteSink::new(writer);
-    let Some((path, words)) = words.split_first() else {
-        let disk = MemDisk::new(rt.alloc(), 0).map_err(|_| NO_MEMORY)?;
-        let (status, _disk) = lvhd(rt.alloc(), &[], now, disk, &mut source, &mut sink);
-        return Ok(status.code());
-    };
-    let disk = device(rt, path)?;
-    let (status, _disk) = lvhd(rt.alloc(), words, now, disk, &mut source, &mut sink);
-    Ok(status.code())
+    let (status, _disk) = lvhd(rt.alloc(), words, now(rt), disk, &mut source, &mut sink);
+    Ok(status)
+}
+
+/// A device in memory.
+fn memory(rt: &HostRuntime, sectors: u64) -> Result<MemDisk, u8> {
+    MemDisk::new(rt.alloc(), sectors).map_err(|_| NO_MEMORY)
 }
 
 /// The seconds since 2000-01-01 00:00 UTC, and 0 where the clock can't be read.

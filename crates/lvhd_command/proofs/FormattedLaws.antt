@@ -1,5 +1,5 @@
 -- A device that was formatted is kept, and has no disks.
-use Rattle.std.proofs.Common.{◌≡◌, ℕ, zero, suc, ◌+◌, ◌*◌, ◌/◌, ◌%◌, ◌<◌, ◌≤◌, inl, inr, false, List, [], ◌∷◌, get_or, Ok, Some, None, refl, sym, ap, subst, ◌∙◌, arith}
+use Rattle.std.proofs.Common.{◌≡◌, ℕ, zero, suc, ◌+◌, ◌*◌, ◌/◌, ◌%◌, ◌<◌, ◌≤◌, inl, inr, false, List, [], ◌∷◌, map, length, sum, get_or, Some, None, refl, sym, ap, ap₂, subst, ◌∙◌, arith}
 use Rattle.std.specs.List.{range_with_len, AllByRecursion}
 use Rattle.std.proofs.Math.Nat.{div-lt_iff_lt-mul, mul-le-mul_right}
 use Rattle.std.proofs.lemmas.List.{append-nil}
@@ -12,15 +12,17 @@ use Rattle.sm_base.proofs.NumberLemmas.{le-div_up}
 use Rattle.sm_disk.specs.Held.{Held, Allows, IsSettled}
 use Rattle.sm_disk.specs.Sectors.{zeros}
 use Rattle.sm_disk.proofs.HeldLaws.{allows_settled, reads-settled}
+use Rattle.sm_base.specs.declared.operations.Op.TheVariants.{Idle}
 use Rattle.sm_machine.specs.Disks.{Disk}
+use Rattle.sm_machine.specs.Shapes.{Shape, new_shape}
 use Rattle.common_laws.specs.Lists.{In}
 use Rattle.sm_record.specs.Records.{reading}
 use Rattle.sm_record.specs.declared.records.Reading.TheVariants.{Free}
 use Rattle.sm_record.proofs.RoundTrips.{reading_zeros}
 use Rattle.vg_meta.specs.Tables.{IsTable, VolumeTable, Row, row_of, name_eq, new_table}
-use Rattle.vg_layout.specs.Places.{area_place, header_place, label_place, record_extents}
+use Rattle.vg_layout.specs.Places.{area_place, extents_on, header_place, label_place, record_extents}
 use Rattle.vg_layout.specs.Sectors.{Plate, Pointer}
-use Rattle.vg_layout.specs.Opening.{GroupFound, StandsOn, plate_of, text_in}
+use Rattle.vg_layout.specs.Opening.{GroupFound, StandsOn, text_in}
 use Rattle.vg_layout.proofs.ImageLaws.{plate_area, plate_few, plate_same, pointer_same, stands_from, stands_once, text_front}
 use Rattle.vg_store.specs.Formats.{IsFormatted, new_group}
 use Rattle.vg_volumes.specs.Volumes.{piece, spot}
@@ -28,6 +30,8 @@ use Rattle.sm_standing.specs.Checks.{is_damaged, is_invalid, is_misnamed, is_tre
 use Rattle.sm_standing.specs.Images.{image_of}
 use Rattle.sm_standing.specs.Outlines.{outline}
 use Rattle.sm_standing.specs.Contents.{Content, row, reading_at, sectors_of}
+use Rattle.sm_standing.specs.Opened.{opened, new_removed}
+use Rattle.sm_standing.specs.Shapes.{disk_record}
 use Rattle.sm_standing.specs.Devices.{IsKeptOn, Shows, content_of}
 use Rattle.sm_standing.specs.Plain.{IsPlain}
 use Rattle.sm_standing.specs.PlainSound.{PlainSound}
@@ -35,7 +39,8 @@ use Rattle.sm_standing.specs.Standing.{standing_volume, disks}
 use Rattle.sm_standing.proofs.DiskLists.{disks_at}
 use Rattle.sm_standing.proofs.PlainDisks.{none_stands, plain_stands}
 use Rattle.sm_standing.proofs.PlainKept.{plain_kept}
-use Rattle.lvhd_command.specs.Devices.{IsKeptDevice, MayShowOn}
+use Rattle.lvhd_command.specs.Devices.{IsKeptDevice, IsOpenedOn, MayShowOn}
+use Rattle.lvhd_command.proofs.OpenLaws.{plate_once}
 
 -- ---- a content with the table of a new group
 
@@ -171,7 +176,7 @@ formatted_same size image other g repository f same =
       records = λ q below. same (area_place + q) (omega (arith, room, below)) ∙ f.records q below;
     }
 
-formatted_allowed : (size : ℕ) (h : Held) (g : Geometry) (repository : List ℕ) → IsFormatted size h.floor g repository → IsSettled h
+pub formatted_allowed : (size : ℕ) (h : Held) (g : Geometry) (repository : List ℕ) → IsFormatted size h.floor g repository → IsSettled h
     → (image : ℕ → List ℕ) → Allows size h image → IsFormatted size image g repository
 formatted_allowed size h g repository f settled image allowed =
     formatted_same size h.floor image g repository f (λ q below. allows_settled size h image settled allowed q below ∙ reads-settled h q (settled q))
@@ -183,9 +188,6 @@ device_kept size h g repository f settled = λ image allowed. formatted_kept siz
 table_disks : (c : Content) (n : ℕ) → c.table ≡ new_table n → disks c ≡ []
 table_disks c n is =
     ap (λ (t : VolumeTable). disks (record { extent = c.extent; block = c.block; entries = c.entries; count = c.count; table = t; area = c.area })) is ∙ new_disks c n
-
-plate_once : (size : ℕ) (m : ℕ → List ℕ) (p q : Plate) → plate_of size m ≡ Ok p → plate_of size m ≡ Ok q → p ≡ q
-plate_once size m p q a b = (let e = sym a ∙ b in cc)
 
 -- where the new group stands, no other does
 table_once : (size : ℕ) (m : ℕ → List ℕ) (p : Plate) (at : Pointer) (t : VolumeTable) (g : GroupFound) → StandsOn size m (record { plate = p; pointer = at; table = t })
@@ -202,3 +204,33 @@ device_empty size h g repository f settled ds m =
     let there = (formatted_allowed size h g repository f settled m.image m.allowed).stands in
     m.shows.shown ∙ table_disks (content_of m.shows.group m.image) (record_extents g.extent)
     (table_once size m.image s.plate s.pointer s.table m.shows.group there m.shows.stands)
+
+-- ---- what an opening makes of it
+
+-- a content with the table of a new group: the shape of a new repository
+abbrev shape_of : Content → ℕ → List Disk → Shape
+shape_of c m ds = record { sequence = 1; extent = c.extent; block = c.block; entries = c.entries; extents = c.count; others = m; records = map disk_record ds; images = []; attached = []; op = Idle }
+
+opened_so : (c : Content) (n : ℕ) → opened (emptied c n) ≡ shape_of c (sum (length (range_with_len 0 n) ∷ [])) (disks (emptied c n))
+unfolding opened new_removed image_of
+opened_so c n = refl
+
+records_alone : (n : ℕ) → sum (length (range_with_len 0 n) ∷ []) ≡ n
+records_alone n = let long = length-range_with_len 0 n in omega (arith, long)
+
+opened_new : (c : Content) (n : ℕ) → opened (emptied c n) ≡ new_shape c.extent c.block c.entries c.count n
+opened_new c n = opened_so c n ∙ ap₂ (λ m ds. shape_of c m ds) (records_alone n) (new_disks c n)
+
+opened_at : Plate → VolumeTable → (ℕ → List ℕ) → Shape
+opened_at p t image = opened (record { extent = p.extent; block = p.block; entries = p.entries; count = p.count; table = t; area = λ q. image (area_place + q) })
+
+-- a device that was formatted: no disks, and that shape
+pub formatted_start : (size : ℕ) (image : ℕ → List ℕ) (g : Geometry) (repository : List ℕ) (ds : List Disk) (shape : Shape) → IsFormatted size image g repository → Shows size image ds → IsOpenedOn size image shape
+    → (ds ≡ []) × (shape ≡ new_shape g.extent g.block g.entries (extents_on size g.extent) (record_extents g.extent))
+unfolding opened_at
+formatted_start size image g repository ds shape f shown o =
+    let s : GroupFound = new_group size g repository in
+    let none : ds ≡ [] = shown.shown ∙ table_disks (content_of shown.group image) (record_extents g.extent) (table_once size image s.plate s.pointer s.table shown.group f.stands shown.stands) in
+    let plate : o.group.plate ≡ s.plate = plate_once size image o.group.plate s.plate o.stands.labelled f.stands.labelled in
+    let table : o.group.table ≡ s.table = table_once size image s.plate s.pointer s.table o.group f.stands o.stands in
+    (none, o.shape_is ∙ ap₂ (λ p t. opened_at p t image) plate table ∙ opened_new (content_of s image) (record_extents g.extent))

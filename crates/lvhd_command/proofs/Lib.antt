@@ -6,3 +6,4 @@ pub mod OpenLaws
 pub mod RunLaws
 pub mod SoundText
 pub mod UnsoundLaws
+pub mod TrialLaws

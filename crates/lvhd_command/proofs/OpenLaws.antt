@@ -14,7 +14,8 @@ use Rattle.vg_meta.specs.Tables.{VolumeTable}
 use Rattle.vg_store.specs.Groups.{GroupStands, LeavesGroup, area_of}
 use Rattle.vg_store.specs.Openings.{IsAnswer}
 use Rattle.vg_volumes.specs.Sites.{Site}
-use Rattle.sm_recover.specs.Repairs.{IsOpeningStopped, UnlessDeviceFailed}
+use Rattle.sm_checks.specs.Openable.{IsOpeningStopped}
+use Rattle.sm_recover.specs.Repairs.{UnlessDeviceFailed}
 use Rattle.sm_recover.specs.Stores.{IsRepairedFrom, MayBeRepairedFrom}
 use Rattle.sm_ready.specs.Sessions.{KeepsAll}
 use Rattle.sm_ready.specs.Stores.{MayShow, content_in, content_now}

@@ -75,7 +75,7 @@ session_state site t area m o tidy ready = record { state = law_state site t are
 abbrev pub IsOneTable : ℕ → Site → Held → VolumeTable → Type 0
 IsOneTable size site after t = (u : VolumeTable) (image : ℕ → List ℕ) → LeavesGroup size after (plate_at site) u image → u ≡ t
 
-reads_as : (size : ℕ) (site : Site) (held after : Held) (t : VolumeTable) (σ : State) → IsGivenBack size site held after → IsOneTable size site after t → IsStateWith site t (area_of held) σ
+pub reads_as : (size : ℕ) (site : Site) (held after : Held) (t : VolumeTable) (σ : State) → IsGivenBack size site held after → IsOneTable size site after t → IsStateWith site t (area_of held) σ
     → ReadsAsState size after σ
 reads_as size site held after t σ back one with =
     let state = with.state in

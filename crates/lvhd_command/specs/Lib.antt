@@ -4,3 +4,4 @@ pub mod Running
 pub mod Statuses
 pub mod Texts
 pub mod Words
+pub mod Trials

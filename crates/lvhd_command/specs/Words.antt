@@ -1,12 +1,13 @@
 -- What the program's words ask for (this project's format): `run`, or `format` with the sizes of an extent and of a block
--- in bytes, the number of entries of a block allocation table, and the repository's UUID. Numbers are decimal.
+-- in bytes, the number of entries of a block allocation table, and the repository's UUID, or `trial` with a number. Numbers
+-- are decimal, and below 2^64.
 use Rattle.std.specs.Prelude.{◌≡◌, ℕ, List, [], ◌∷◌, map, codes, Option, Some, None, if◌then◌else◌}
 use Rattle.std.specs.Borrow.{Bor}
 use Rattle.std.specs.Str.{bytes_eq}
 use Rattle.common_laws.specs.Lists.{◌>>=◌}
 use Rattle.sm_machine.specs.Lines.{number_of, uuid_of}
 use Rattle.lvhd_command.specs.declared.words.Form.{Form}
-use Rattle.lvhd_command.specs.declared.words.Form.TheVariants.{Format, Run}
+use Rattle.lvhd_command.specs.declared.words.Form.TheVariants.{Format, Run, Trial}
 
 abbrev pub format_of : List ℕ → List ℕ → List ℕ → List ℕ → Option Form
 format_of extent block entries repository = do
@@ -16,8 +17,14 @@ format_of extent block entries repository = do
   u ← uuid_of repository
   Some (Format (record { extent = e; block = b; entries = n; repository = u }))
 
+abbrev pub trial_of : List ℕ → Option Form
+trial_of number = do
+  n ← number_of number
+  Some (Trial n)
+
 unfoldable pub form_of : List (List ℕ) → Option Form
 form_of (word ∷ []) = if bytes_eq word (codes "run") then Some Run else None
+form_of (word ∷ number ∷ []) = if bytes_eq word (codes "trial") then trial_of number else None
 form_of (word ∷ extent ∷ block ∷ entries ∷ repository ∷ []) =
     if bytes_eq word (codes "format") then format_of extent block entries repository else None
 form_of _ = None

@@ -1,12 +1,13 @@
-//! The program, over any device, source and sink: a repository is made of a device, or a script is answered on it.
+//! The program, over any device, source and sink: a repository is made of a device, a script is answered on it, or the lines that a
+//! number draws are tried on a new one.
 //!
 //! **What is kept here.** Nothing. [`lvhd`] takes the words, the device, the source of the script and the sink of the
 //! replies, and hands the device back at every return. A device is counted in sectors of 512 bytes.
 //!
 //! **The model** (`specs/`). `Words` says what the words ask for, `Texts` the lines that the program prints of itself,
 //! `Statuses` the exit status. `Devices`: a device is kept where each image that a stop may leave of it opens again
-//! (`IsKeptDevice`), and it may show the disks of each such image (`MayShowOn`). `Formatting` and `Running` say by status
-//! what each word did.
+//! (`IsKeptDevice`), and it may show the disks of each such image (`MayShowOn`). `Formatting`, `Running` and `Trials` say by
+//! status what each word did.
 //!
 //! **What it promises.** [`lvhd`] on a device that tells its content and is kept, with the word `run`, at every return: the
 //! device is kept; what the sink got are the machine's replies to the lines that were read, and a front of one more; and
@@ -21,8 +22,15 @@
 //! new, image by image (`ShowsNothingNew`). The answer is one alone ([`law_exact`]). With the word `format`: exactly when it is
 //! refused, and that a stop leaves what was there, no repository, or the new one whole (`FormatDid`), and beside the new one what
 //! was there; sizes out of their ranges and a device that is too small leave it untouched whatever the status (`CannotFormat`).
-//! The statuses of a fault come exactly where a call failed; want of memory has no cause, and comes before the first write. What a format leaves is kept and has no disks ([`law_formatted`]), so the premise is
-//! met.
+//! What a format leaves is kept and has no disks ([`law_formatted`]), so the premise is met.
+//!
+//! With the word `trial`: at status 0 one line was printed, whose numbers are those of the machine's replies and shape over the 20,000
+//! lines that the number draws, stepped on a new repository on this device, where nothing is pending; with another status a stop leaves what was
+//! there, no repository, or a device that is kept (`TrialDid`). Nothing beside the new repository changes, and a device that is too small
+//! stays as it is.
+//!
+//! The statuses of a fault come exactly where a call failed. Want of memory has no cause; it comes before the first write but in a trial, which
+//! it may end at any line.
 //!
 //! **What it costs.** `run` takes one line buffer, then the memory of an opening, and what a step takes; the script is read
 //! byte by byte.
@@ -35,6 +43,7 @@ mod running;
 mod statuses;
 mod texts;
 mod top;
+mod trials;
 mod words;
 
 pub use formatting::run_format;
@@ -43,4 +52,5 @@ pub use opening::open;
 pub use running::run_script;
 pub use statuses::Status;
 pub use top::lvhd;
+pub use trials::run_trial;
 pub use words::{Form, Request};

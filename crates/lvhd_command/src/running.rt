@@ -69,7 +69,7 @@ pub fn run_script<D: Disk, S: Source, K: Sink>(
 }
 
 /// Says why a repository is not opened, where there is a line for it.
-fn refuse<K: Sink>(fault: &OpenFault, sink: &mut K) -> Status
+pub(crate) fn refuse<K: Sink>(fault: &OpenFault, sink: &mut K) -> Status
     ensures { HasTold fault.now (K.content sink.old) (K.content sink.new) (K.faults sink.old) (K.faults sink.new) result }
 {
     match fault {
@@ -94,7 +94,7 @@ fn status_of_fault(fault: RunFault) -> Status
 }
 
 /// The device of a session, as it is. No call is made on it.
-fn leave<D: Disk>(session: Session<Group<D>>) -> D
+pub(crate) fn leave<D: Disk>(session: Session<Group<D>>) -> D
     ensures disk { result ≡ session.store.disk }
     ensures stands { D.told → (image : ℕ → List ℕ) → Allows (D.size session.store.disk) (D.held session.store.disk) image → GroupStands (D.size session.store.disk) image (plate session.store.label) }
     ensures one { D.told → session.broken ≡ false → (t : VolumeTable) (image : ℕ → List ℕ) → LeavesGroup (D.size session.store.disk) (D.held session.store.disk) (plate session.store.label) t image → t ≡ table_alone session.store.table }
@@ -103,7 +103,7 @@ fn leave<D: Disk>(session: Session<Group<D>>) -> D
 }
 
 /// Makes all that was written last, and hands the device back.
-fn close<D: Disk>(session: Session<Group<D>>) -> (Status, D)
+pub(crate) fn close<D: Disk>(session: Session<Group<D>>) -> (Status, D)
     ensures size { D.size result.1 ≡ D.size session.store.disk }
     ensures counts { D.faults session.store.disk ≤ D.faults result.1 }
     ensures status { ((result.0 ≡ Done) × (D.told → IsSettled (D.held result.1))) ⊎ (result.0 ≡ Device) }

@@ -3,11 +3,13 @@
 ghost use Rattle.std.specs.Prelude.{◌≡◌, ◌≢◌, ◌≤◌, ◌∷◌, ◌++◌, [], codes};
 ghost use Rattle.sm_base.specs.declared.faults.OpenFault.TheVariants.{Device, NoMemory};
 ghost use Rattle.sm_script.specs.Pieces.{Writes};
+ghost use Rattle.lvhd_command.specs.Trials.{summary_words};
 ghost use Rattle.lvhd_command.specs.Texts.{line_of, place_words, fault_words, bad_geometry_words, too_small_words, formatted_words};
 
 use sm_base::{Failed, OpenFault, Place};
 use sm_disk::Sink;
 use sm_script::{Word, write_line};
+use sm_trial::{Ending, Tally};
 
 /// Prints that a repository was made.
 pub fn print_formatted<K: Sink>(sink: &mut K, extents: u32, free: u32) -> Result<(), Failed>
@@ -41,6 +43,37 @@ pub fn print_too_small<K: Sink>(sink: &mut K, sectors: u64) -> Result<(), Failed
         Word::text(b"error"),
         Word::text(b"TooSmall"),
         Word::number(sectors),
+    ];
+    write_line(sink, &words)
+}
+
+/// Prints what a trial counted, once all its lines were stepped.
+pub fn print_summary<K: Sink>(
+    sink: &mut K,
+    number: u64,
+    tally: &Tally,
+    ending: &Ending,
+) -> Result<(), Failed>
+    ensures { Writes (line_of (summary_words number tally.now ending.now.disks ending.now.images ending.now.free))
+        (K.content sink.old) (K.content sink.new) (K.faults sink.old) (K.faults sink.new) result }
+{
+    let words = [
+        Word::text(b"trial"),
+        Word::number(number),
+        Word::text(b"lines"),
+        Word::text(b"20000"),
+        Word::text(b"ok"),
+        Word::count(tally.accepted),
+        Word::text(b"no"),
+        Word::count(tally.refused),
+        Word::text(b"disks"),
+        Word::number(ending.disks),
+        Word::text(b"images"),
+        Word::number(ending.images),
+        Word::text(b"free"),
+        Word::count(ending.free),
+        Word::text(b"sum"),
+        Word::number(tally.sum),
     ];
     write_line(sink, &words)
 }

@@ -1,30 +1,33 @@
 //! The whole program, over any device, source and sink.
 
-ghost use Rattle.std.specs.Prelude.{◌≡◌, ◌≢◌, ◌≤◌, ◌⊎◌, None, Some};
+ghost use Rattle.std.specs.Prelude.{◌≡◌, ◌≢◌, ◌≤◌, ◌<◌, ◌⊎◌, ℕ, None, Some};
 ghost use Rattle.sm_base.specs.declared.faults.OpenFault.{OpenFault};
 ghost use Rattle.sm_disk.specs.Held.{Rose, reads};
 ghost use Rattle.lvhd_command.specs.declared.statuses.Status.TheVariants as status;
-ghost use Rattle.lvhd_command.specs.declared.words.Form.TheVariants.{Format, Run};
+ghost use Rattle.lvhd_command.specs.declared.words.Form.TheVariants.{Format, Run, Trial};
 ghost use Rattle.lvhd_command.specs.declared.words.Request.{Request};
 ghost use Rattle.lvhd_command.specs.Devices.{IsKeptDevice, IsRefusedOn};
 ghost use Rattle.lvhd_command.specs.Formatting.{FormatDid, CannotFormat, KeepsBesideNew, asked, format_sides};
 ghost use Rattle.lvhd_command.specs.Running.{RunDid, HasStayed, KeepsBeside, sides};
+ghost use Rattle.lvhd_command.specs.Trials.{IsLabelledForTrial, TrialDid, trial_asked, trial_least};
 ghost use Rattle.lvhd_command.specs.Words.{Asks};
 
 use crate::formatting::run_format;
 use crate::running::run_script;
 use crate::statuses::Status;
+use crate::trials::run_trial;
 use crate::words::Form;
 use sm_disk::{Disk, Sink, Source};
 use std::alloc::Global;
 
 /// Does what the words ask for, on a device: `format EXTENT BLOCK ENTRIES UUID` makes a repository of it, and `run` opens
-/// the repository on it and answers the script that the source gives, one line of the sink for each line. The device is
+/// the repository on it and answers the script that the source gives, one line of the sink for each line; `trial N` makes a
+/// repository of it, steps the 20,000 lines that the number draws, and prints one line of what was counted. The device is
 /// handed back at every return. `now` is in seconds since 2000-01-01 00:00 UTC.
 ///
 /// A device on which a check of an opening fails is not opened: one line says why, and nothing is written, whatever the
-/// status. Neither a run nor a format touches anything on the device beside the repository, and a format that is refused touches
-/// nothing at all. Status 3 comes exactly where a call of the device failed, status 4 where one of the source did, and status 5
+/// status. No word touches anything on the device beside the repository, and a format or a trial that is refused touches nothing
+/// at all. Status 3 comes exactly where a call of the device failed, status 4 where one of the source did, and status 5
 /// where one of the sink did: no run succeeds over a failed call, whether that is passed over or tried again.
 pub fn lvhd<D: Disk, S: Source, K: Sink>(
     alloc: Global,
@@ -62,6 +65,16 @@ pub fn lvhd<D: Disk, S: Source, K: Sink>(
     ensures complete { Asks words.now (Some Run) → D.told → IsKeptDevice (D.size disk) (D.held disk)
         → (Rose (D.faults disk) (D.faults result.1) → ⊥) → (Rose (S.faults source.old) (S.faults source.new) → ⊥) → (Rose (K.faults sink.old) (K.faults sink.new) → ⊥)
         → (result.0 ≡ status.Done) ⊎ ((result.0 ≡ status.Memory) ⊎ (result.0 ≡ status.TooLong)) }
+    ensures trial { (number : ℕ) → Asks words.now (Some (Trial number)) → (source.new ≡ source.old) × (D.told → TrialDid
+        (format_sides D.size D.told D.held D.faults K.content K.faults disk result.1 sink.old sink.new) number result.0) }
+    ensures trial_label { (number : ℕ) → Asks words.now (Some (Trial number)) → D.told → result.0 ≡ status.Done
+        → IsLabelledForTrial (D.size disk) (D.held result.1) }
+    ensures cannot_try { (number : ℕ) → Asks words.now (Some (Trial number)) → D.size disk < trial_least → result.1 ≡ disk }
+    ensures trial_beside { (number : ℕ) → Asks words.now (Some (Trial number)) → D.told
+        → KeepsBesideNew (D.size disk) trial_asked (D.held disk) (D.held result.1) }
+    ensures complete_trial { (number : ℕ) → Asks words.now (Some (Trial number)) → D.told → trial_least ≤ D.size disk
+        → (Rose (D.faults disk) (D.faults result.1) → ⊥) → (Rose (K.faults sink.old) (K.faults sink.new) → ⊥)
+        → (result.0 ≡ status.Done) ⊎ (result.0 ≡ status.Memory) }
 {
     match Form::read(words) {
         None => (Status::Words, disk),
@@ -71,5 +84,6 @@ pub fn lvhd<D: Disk, S: Source, K: Sink>(
             (status, disk)
         }
         Some(Form::Run) => run_script(alloc, now, disk, source, sink),
+        Some(Form::Trial { number }) => run_trial(alloc, number, now, disk, sink),
     }
 }

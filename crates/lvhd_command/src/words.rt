@@ -1,7 +1,7 @@
 //! The program's words.
 
 ghost use Rattle.std.specs.Prelude.{◌≡◌, map};
-ghost use Rattle.lvhd_command.specs.Words.{form_of, format_of};
+ghost use Rattle.lvhd_command.specs.Words.{form_of, format_of, trial_of};
 
 use sm_script::{number_in, uuid_in};
 use uuid::Uuid;
@@ -23,6 +23,8 @@ pub enum Form {
     Format(Request),
     /// Read a script and answer it.
     Run,
+    /// Step the lines that a number draws on a new repository, and count the replies.
+    Trial { number: u64 },
 }
 
 impl Form {
@@ -35,6 +37,13 @@ impl Form {
             [word] => {
                 if word.as_bytes() == b"run".as_slice() {
                     Some(Form::Run)
+                } else {
+                    None
+                }
+            }
+            [word, number] => {
+                if word.as_bytes() == b"trial".as_slice() {
+                    trial_form(number)
                 } else {
                     None
                 }
@@ -61,4 +70,13 @@ fn format_form(extent: &str, block: &str, entries: &str, repository: &str) -> Op
         entries: number_in(entries.as_bytes())?,
         repository: uuid_in(repository.as_bytes())?,
     }))
+}
+
+/// The word of `trial` behind the first.
+fn trial_form(number: &str) -> Option<Form>
+    ensures { result ≡ trial_of number.now }
+{
+    Some(Form::Trial {
+        number: number_in(number.as_bytes())?,
+    })
 }

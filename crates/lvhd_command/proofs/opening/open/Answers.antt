@@ -7,7 +7,7 @@ use Rattle.vg_layout.specs.Opening.{IsRefused}
 use Rattle.vg_meta.specs.Roomy.{table_alone}
 use Rattle.vg_store.specs.Groups.{LeavesGroup, area_of, beside_of}
 use Rattle.vg_volumes.specs.Sites.{Site, area_size}
-use Rattle.sm_recover.specs.Repairs.{IsOpeningStopped}
+use Rattle.sm_checks.specs.Openable.{IsOpeningStopped}
 use Rattle.sm_ready.specs.Stores.{content_now}
 use Rattle.lvhd_command.specs.Devices.{IsRefusedOn, site_on, plate_at}
 use Rattle.lvhd_command.specs.Devices.IsRefusedOn.{by_group}

@@ -1,8 +1,11 @@
-use Rattle.std.proofs.Common.{refl, sym, ap, ◌∙◌, Some}
+use Rattle.std.proofs.Common.{refl, sym, ap, subst, arith, ◌∙◌, Some}
 use Rattle.lvhd_command.specs.declared.words.Form.{Form}
 use Rattle.lvhd_command.proofs.ExactLaws.{completes}
 use Rattle.lvhd_command.proofs.FormatLaws.{same_request, beside_as, did_as, cannot_as}
 use Rattle.lvhd_command.proofs.OpenLaws.{kept_sound}
+use Rattle.lvhd_command.specs.Formatting.{Sides, format_sides}
+use Rattle.lvhd_command.specs.Trials.{TrialDid}
+use Rattle.lvhd_command.proofs.TrialLaws.{same_number, trial_completes}
 use Rattle.lvhd_command.proofs.top.lvhd.Goals as goal
 
 pub returns-in-Some-Format-clause-format : goal.returns-in-Some-Format-clause-format
@@ -27,3 +30,22 @@ returns-in-Some-Run-clause-complete g c = λ is told kept d s k.
     (λ e. d (c.run_script.ensures.device e))
     (λ e. s (c.run_script.ensures.source e))
     (λ e. k (c.run_script.ensures.sink e))
+
+pub returns-in-Some-Trial-clause-trial : goal.returns-in-Some-Trial-clause-trial
+returns-in-Some-Trial-clause-trial g c = λ number is.
+    let here = c.in-Some-Trial.is ∙ ap (λ (f : Form). Some f) c.in-Some-Trial.field-0-is in
+    let s : Sides = format_sides g.D.Disk.size g.D.Disk.told g.D.Disk.held g.D.Disk.faults g.K.Sink.content g.K.Sink.faults c.args.disk c.run_trial.result.1 c.args.sink.now c.run_trial.new.sink in
+    (refl, λ told. subst (λ n. TrialDid s n c.run_trial.result.0) (same_number c.in-Some-Trial.number number (sym here ∙ c.read.ensures ∙ is)) (c.run_trial.ensures.did told))
+
+pub returns-in-Some-Trial-clause-complete_trial : goal.returns-in-Some-Trial-clause-complete_trial
+returns-in-Some-Trial-clause-complete_trial g c = λ number is told large d k.
+    trial_completes _ c.in-Some-Trial.number c.run_trial.result.0 (c.run_trial.ensures.did told) (λ small. absurd (omega (arith, large, small))) (λ e. d (c.run_trial.ensures.device e)) (λ e. k (c.run_trial.ensures.sink e))
+
+pub returns-in-Some-Trial-clause-trial_label : goal.returns-in-Some-Trial-clause-trial_label
+returns-in-Some-Trial-clause-trial_label g c = λ number is told done. c.run_trial.ensures.label told done
+
+pub returns-in-Some-Trial-clause-trial_beside : goal.returns-in-Some-Trial-clause-trial_beside
+returns-in-Some-Trial-clause-trial_beside g c = λ number is told. c.run_trial.ensures.beside told
+
+pub returns-in-Some-Trial-clause-cannot_try : goal.returns-in-Some-Trial-clause-cannot_try
+returns-in-Some-Trial-clause-cannot_try g c = λ number is small. c.run_trial.ensures.small small

@@ -1,0 +1,104 @@
+use Rattle.std.proofs.Common.{◌≡◌, ◌<◌, ◌^◌, inl, sym, ap, ◌∙◌, subst, subst₂}
+use Rattle.sm_machine.specs.Steps.{State}
+use Rattle.sm_ready.specs.Known.{known, shape_in}
+use Rattle.sm_ready.specs.Sessions.{state_in}
+use Rattle.vg_meta.specs.Roomy.{table_alone}
+use Rattle.vg_store.specs.Groups.{area_of, beside_of}
+use Rattle.vg_store.proofs.BesideLaws.{beside_kept}
+use Rattle.sm_disk.specs.Held.{Keeps}
+use Rattle.sm_disk.proofs.HeldLaws.{Keeps-then}
+use Rattle.vg_volumes.specs.Sites.{Site, area_size}
+use Rattle.lvhd_command.specs.Devices.{IsKeptDevice, plate_at, site_on}
+use Rattle.lvhd_command.specs.Trials.{HasPlate, RestsAs}
+use Rattle.lvhd_command.proofs.OpenLaws.{kept_device}
+use Rattle.lvhd_command.proofs.TrialLaws.{call_failed, call_not_done, counted_still, counted_words, session_said}
+use Rattle.lvhd_command.proofs.trials.try_session.Goals as goal
+
+pub returns-in-Err-clause-tried : goal.returns-in-Err-clause-tried
+returns-in-Err-clause-tried g c = λ told ready keeps.
+    let whole = c.requires.whole in
+    let m = c.try_lines.new.machine in
+    let n = g.D.Disk.size m.store.disk in
+    let is_size : n ≡ g.D.Disk.size c.args.session.store.disk = ap (λ (x : Site). x.sectors) c.try_lines.ensures.site in
+    let k = c.try_lines.ensures.kept told (whole, ready) keeps in
+    call_failed _ _ _ _ _ c.in-Err.why c.status_of_call.result c.status_of_call.ensures
+    (subst (λ d. IsKeptDevice (g.D.Disk.size c.args.session.store.disk) (g.D.Disk.held d)) (sym c.leave.ensures.disk)
+    (subst (λ z. IsKeptDevice z (g.D.Disk.held m.store.disk)) is_size
+    (kept_device n (g.D.Disk.held m.store.disk) (site_on m.store.label n) (c.leave.ensures.stands told) (λ u image l. k u image (inl l)))))
+
+pub returns-in-Err-count_all-clause-tried : goal.returns-in-Err-count_all-clause-tried
+returns-in-Err-count_all-clause-tried g c = λ told ready keeps.
+    let whole = c.requires.whole in
+    let m = c.count_all.new.machine in
+    let n = g.D.Disk.size m.store.disk in
+    let is_size : n ≡ g.D.Disk.size c.args.session.store.disk = ap (λ (x : Site). x.sectors) (c.count_all.ensures.site ∙ c.try_lines.ensures.site) in
+    let tried = c.in-Ok.ensures.tried told (whole, ready) keeps in
+    let k = c.count_all.ensures.kept told tried.1 (c.try_lines.ensures.kept told (whole, ready) keeps) in
+    call_failed _ _ _ _ _ c.in-Err-count_all.why c.status_of_call-in-Err-count_all.result c.status_of_call-in-Err-count_all.ensures
+    (subst (λ d. IsKeptDevice (g.D.Disk.size c.args.session.store.disk) (g.D.Disk.held d)) (sym c.leave-in-Err-count_all.ensures.disk)
+    (subst (λ z. IsKeptDevice z (g.D.Disk.held m.store.disk)) is_size
+    (kept_device n (g.D.Disk.held m.store.disk) (site_on m.store.label n) (c.leave-in-Err-count_all.ensures.stands told) (λ u image l. k u image (inl l)))))
+
+pub returns-clause-tried : goal.returns-clause-tried
+unfolding shape_in
+returns-clause-tried g c = λ told ready keeps.
+    let whole = c.requires.whole in
+    let first = c.try_lines.new.machine in
+    let m = c.count_all.new.machine in
+    let n = g.D.Disk.size m.store.disk in
+    let size = g.D.Disk.size c.args.session.store.disk in
+    let is_size : n ≡ size = ap (λ (x : Site). x.sectors) (c.count_all.ensures.site ∙ c.try_lines.ensures.site) in
+    let tried = c.in-Ok.ensures.tried told (whole, ready) keeps in
+    let k = c.count_all.ensures.kept told tried.1 (c.try_lines.ensures.kept told (whole, ready) keeps) in
+    let counted = c.in-Ok-count_all.ensures.counted told tried.1 in
+    let σ : State = state_in (site_on first.store.label (g.D.Disk.size first.store.disk)) (table_alone first.store.table) (area_of (g.D.Disk.held first.store.disk)) (known first.memory) in
+    let last : State = state_in (site_on m.store.label n) (table_alone m.store.table) (area_of (g.D.Disk.held m.store.disk)) (known m.memory) in
+    let few : σ.shape.sequence < 2 ^ 48 = ((first.between tried.1.0).orderly).table.sequence in
+    session_said _ _ _ _ _ _ _ c.say.result.0 c.say.ensures.said
+    (λ other. record {
+      end = σ;
+      tally = c.in-Ok.tally;
+      tried = tried.0;
+      text_is = counted_words c.args.number c.in-Ok.tally σ last c.in-Ok-count_all.ending counted.0;
+      rests = subst (λ (x : State). RestsAs size (g.D.Disk.held c.say.result.1) x)
+          (counted_still σ last c.in-Ok-count_all.ending few counted.0)
+          (subst (λ z. RestsAs z (g.D.Disk.held c.say.result.1) last) is_size (c.say.ensures.rests told counted.1.1 k other));
+    })
+    (subst (λ z. IsKeptDevice z (g.D.Disk.held c.say.result.1)) is_size (c.say.ensures.kept told k))
+
+pub returns-in-Err-clause-label : goal.returns-in-Err-clause-label
+returns-in-Err-clause-label g c = λ told done. absurd (call_not_done c.in-Err.why c.status_of_call.result c.status_of_call.ensures done)
+
+pub returns-in-Err-count_all-clause-label : goal.returns-in-Err-count_all-clause-label
+returns-in-Err-count_all-clause-label g c = λ told done. absurd (call_not_done c.in-Err-count_all.why c.status_of_call-in-Err-count_all.result c.status_of_call-in-Err-count_all.ensures done)
+
+pub returns-clause-label : goal.returns-clause-label
+returns-clause-label g c = λ told done. subst (λ (x : Site). HasPlate x.sectors (g.D.Disk.held c.say.result.1) (plate_at x)) (c.count_all.ensures.site ∙ c.try_lines.ensures.site) (c.say.ensures.label told)
+
+pub returns-in-Err-clause-beside : goal.returns-in-Err-clause-beside
+returns-in-Err-clause-beside g c = λ told.
+    let s = c.args.session in
+    let m = c.try_lines.new.machine in
+    let n = area_size (site_on s.store.label (g.D.Disk.size s.store.disk)) in
+    subst (λ d. Keeps (beside_of n (g.D.Disk.held s.store.disk)) (beside_of n (g.D.Disk.held d))) (sym c.leave.ensures.disk)
+    (subst (λ k. Keeps (beside_of n (g.D.Disk.held s.store.disk)) (beside_of k (g.D.Disk.held m.store.disk))) (ap area_size c.try_lines.ensures.site) (c.try_lines.ensures.beside told))
+
+pub returns-in-Err-count_all-clause-beside : goal.returns-in-Err-count_all-clause-beside
+returns-in-Err-count_all-clause-beside g c = λ told.
+    let s = c.args.session in
+    let first = c.try_lines.new.machine in
+    let m = c.count_all.new.machine in
+    let n = area_size (site_on s.store.label (g.D.Disk.size s.store.disk)) in
+    let a = subst (λ k. Keeps (beside_of n (g.D.Disk.held s.store.disk)) (beside_of k (g.D.Disk.held first.store.disk))) (ap area_size c.try_lines.ensures.site) (c.try_lines.ensures.beside told) in
+    let b = subst₂ (λ j k. Keeps (beside_of j (g.D.Disk.held first.store.disk)) (beside_of k (g.D.Disk.held m.store.disk))) (ap area_size c.try_lines.ensures.site) (ap area_size (c.count_all.ensures.site ∙ c.try_lines.ensures.site)) (c.count_all.ensures.beside told) in
+    subst (λ d. Keeps (beside_of n (g.D.Disk.held s.store.disk)) (beside_of n (g.D.Disk.held d))) (sym c.leave-in-Err-count_all.ensures.disk) (Keeps-then a b)
+
+pub returns-clause-beside : goal.returns-clause-beside
+returns-clause-beside g c = λ told.
+    let s = c.args.session in
+    let first = c.try_lines.new.machine in
+    let m = c.count_all.new.machine in
+    let n = area_size (site_on s.store.label (g.D.Disk.size s.store.disk)) in
+    let a = subst (λ k. Keeps (beside_of n (g.D.Disk.held s.store.disk)) (beside_of k (g.D.Disk.held first.store.disk))) (ap area_size c.try_lines.ensures.site) (c.try_lines.ensures.beside told) in
+    let b = subst₂ (λ j k. Keeps (beside_of j (g.D.Disk.held first.store.disk)) (beside_of k (g.D.Disk.held m.store.disk))) (ap area_size c.try_lines.ensures.site) (ap area_size (c.count_all.ensures.site ∙ c.try_lines.ensures.site)) (c.count_all.ensures.beside told) in
+    Keeps-then (Keeps-then a b) (beside_kept n (c.say.ensures.keeps told))
