@@ -1,4 +1,4 @@
-//! What tests of several crates share: devices, groups, what is asked before a commit, work on a group by hand, and the choices of a stop.
+//! What tests of several crates share: devices, groups, what is asked before a commit, and the choices of a stop.
 //!
 //! **What is kept here.** Nothing. Only tests stand on this crate. Bytes that are worked by hand stand in the tests.
 #![tactic(auto)]
@@ -12,4 +12,4 @@ pub use devices::{
     CHOICES, DEVICE_SECTORS, OPENING_CALLS, REPOSITORY, STALE, formatted, geometry, holds,
     new_group, spoil, stale,
 };
-pub use groups::{Step, opened, size, worked};
+pub use groups::{opened, size};

@@ -1,0 +1,128 @@
+//! Changes of a volume group's table that a case commits by hand.
+
+ghost use Rattle.std.specs.Prelude.{◌≡◌, false, IfOk, OnOk};
+ghost use Rattle.vg_meta.specs.Roomy.{table_alone};
+ghost use Rattle.vg_meta.specs.Changes.{Permits, HasRoom};
+ghost use Rattle.vg_volumes.specs.Sites.{Fits};
+ghost use Rattle.vg_volumes.specs.Stored.{CanCommit};
+
+use case_text::{Commit, Wrong, found, numbers_of};
+use sm_base::Name;
+use sm_disk::MemDisk;
+use std::alloc::Global;
+use vg_meta::{Change, Extents, Tag};
+use vg_store::Group;
+use vg_volumes::Store;
+
+/// The group on a device.
+pub fn opened(alloc: Global, disk: MemDisk) -> Result<Group<MemDisk>, Wrong>
+    ensures { IfOk result (λ g. g.failed ≡ false) }
+{
+    match Group::open(alloc, disk) {
+        Ok(group) => Ok(group),
+        Err((_fault, _disk)) => Err(found(alloc, "a group that does not open")),
+    }
+}
+
+/// The name that is spelled so.
+pub fn name_of(alloc: Global, text: &str) -> Result<Name, Wrong> {
+    match Name::read(text.as_bytes()) {
+        Some(name) => Ok(name),
+        None => Err(found(alloc, "no name of a volume")),
+    }
+}
+
+/// The change that makes a volume on these extents; a fresh one is marked as new.
+fn made(alloc: Global, text: &str, fresh: bool, extents: Vec<u32>) -> Result<Change, Wrong> {
+    Ok(Change::Create {
+        name: name_of(alloc, text)?,
+        fresh,
+        extents: Extents::new(extents),
+    })
+}
+
+/// The change that gives an image a mark, or takes it.
+fn marked(alloc: Global, text: &str, tag: Tag, on: bool) -> Result<Change, Wrong> {
+    Ok(Change::Mark {
+        name: name_of(alloc, text)?,
+        tag,
+        on,
+    })
+}
+
+/// The change that gives an image more extents.
+fn grown(alloc: Global, text: &str, extents: &str) -> Result<Change, Wrong> {
+    Ok(Change::Grow {
+        name: name_of(alloc, text)?,
+        extents: Extents::new(numbers_of(alloc, extents)?),
+    })
+}
+
+/// The change that a case commits.
+fn change_of(alloc: Global, commit: Commit<'_>) -> Result<Change, Wrong> {
+    match commit {
+        Commit::Put(entry) => made(alloc, entry, false, Vec::new(alloc)),
+        Commit::Make { image, extents, .. } => {
+            made(alloc, image, true, numbers_of(alloc, extents)?)
+        }
+        Commit::Rename { from, to } => Ok(Change::Rename {
+            from: name_of(alloc, from)?,
+            to: name_of(alloc, to)?,
+        }),
+        Commit::Hide(image) => marked(alloc, image, Tag::Hidden, true),
+        Commit::Show(image) => marked(alloc, image, Tag::Hidden, false),
+        Commit::Remove(volume) => Ok(Change::Remove {
+            name: name_of(alloc, volume)?,
+        }),
+        Commit::Grow { image, extents } => grown(alloc, image, extents),
+    }
+}
+
+/// Makes room for a change, and tests that a commit may do it.
+fn prepare<S: Store>(alloc: Global, store: &mut S, change: &Change) -> Result<(), Wrong>
+    ensures usable { S.failed store.new ≡ S.failed store.old }
+    ensures allowed { OnOk result (Permits (S.site store.new).count (table_alone (S.table store.new)) change.now) }
+    ensures room { OnOk result (HasRoom (S.table store.new) change.now) }
+    ensures fits { OnOk result (Fits (table_alone (S.table store.new)) change.now) }
+    ensures can { OnOk result (S.failed store.old ≡ false → CanCommit S.Store change.now store.new) }
+{
+    store.reserve_for(change)?;
+    if !store.is_ready(change) {
+        return Err(found(alloc, "a commit that is not allowed"));
+    }
+    Ok(())
+}
+
+/// Does a change, where it may be done.
+fn commit<S: Store>(alloc: Global, store: &mut S, change: Change) -> Result<(), Wrong>
+    requires { S.failed store.old ≡ false }
+{
+    prepare(alloc, store, &change)?;
+    store.commit(change)?;
+    Ok(())
+}
+
+/// Does a change of the group on a device.
+fn changed(alloc: Global, disk: MemDisk, change: Change) -> Result<MemDisk, Wrong> {
+    let mut group = opened(alloc, disk)?;
+    let done = commit(alloc, &mut group, change);
+    let disk = group.into_disk();
+    done?;
+    Ok(disk)
+}
+
+/// What is left of a device at least once a change was committed on it. Nothing is pending on it, and no call was counted.
+pub fn committed(alloc: Global, disk: &MemDisk, commit: Commit<'_>) -> Result<MemDisk, Wrong> {
+    let change = change_of(alloc, commit)?;
+    let mut disk = changed(alloc, disk.left(alloc, &[])?, change)?;
+    if let Commit::Make {
+        image,
+        stands: true,
+        ..
+    } = commit
+    {
+        let change = marked(alloc, image, Tag::Fresh, false)?;
+        disk = changed(alloc, disk, change)?;
+    }
+    Ok(disk.left(alloc, &[])?)
+}
