@@ -4,6 +4,7 @@ tables of sectors, images are rows, and nothing is on a device.
 
     model.py script SEED LINES                             a random script over eight disks
     model.py replies EXTENT BLOCK ENTRIES SECTORS < script  what a run answers on a new repository
+    model.py trial N                                        what `lvhd trial N` prints
 """
 import itertools
 import random
@@ -456,7 +457,57 @@ def random_lines(draw):
                 yield line
 
 
+def trial_lines(number):
+    """The 20,000 lines that a trial draws from its number."""
+    state = number
+
+    def draw(below):
+        nonlocal state
+        state = (state * 6364136223846793005 + 1442695040888963407) % 2**64
+        return (state >> 33) % below
+
+    def size():
+        return 4096 * (1 + draw(64))
+
+    def disk():
+        return f"00000000-0000-4000-8000-0000000000{draw(12):02d}"
+
+    for _ in range(20000):
+        kind, one = draw(16), disk()
+        if kind == 0:
+            yield f"create {one} {size()} vhd t"
+        elif kind in (1, 2):
+            yield f"{'snapshot' if kind == 1 else 'clone'} {one} {disk()}"
+        elif kind in (4, 5):
+            yield f"attach {one} {'rw' if kind == 4 else 'ro'}"
+        elif kind == 7:
+            yield f"resize {one} {size()}"
+        elif kind in (8, 9, 10):
+            sector, count = draw(512), 1 + draw(16)
+            yield f"fill {one} {sector} {count} {draw(256):02x}"
+        elif kind == 11:
+            sector = draw(512)
+            yield f"read {one} {sector} {1 + draw(4)}"
+        elif kind in (3, 6, 12):
+            yield f"{ {3: 'delete', 6: 'detach', 12: 'flush'}[kind]} {one}"
+        else:
+            yield "gc"
+
+
+def trial(number):
+    """The one line that a trial prints, on 20,480 sectors."""
+    machine = Machine(16384, 4096, 64, 20480)
+    replies = [machine.answer(line) for line in trial_lines(number)]
+    accepted = sum(reply.startswith("ok") for reply in replies)
+    total = sum(sum(reply.encode()) + ord("\n") for reply in replies)
+    disks, images, free = len(machine.disks), len(machine.images), machine.free()
+    return f"trial {number} lines 20000 ok {accepted} no {20000 - accepted} disks {disks} images {images} free {free} sum {total}"
+
+
 def main():
+    if sys.argv[1] == "trial":
+        print(trial(int(sys.argv[2])))
+        return
     if sys.argv[1] == "script":
         draw = random.Random(int(sys.argv[2]))
         for line in itertools.islice(random_lines(draw), int(sys.argv[3])):

@@ -1,0 +1,40 @@
+# What the examples share whose lines are shown beside their replies. Sourced, with `root` set.
+program="$root/crates/lvhd/out/lvhd"
+work=$(mktemp -d)
+trap 'rm -rf "$work"' EXIT
+repository=99999999-9999-4999-8999-999999999999
+# The UUIDs that A to E stand for, in the lines that are given to the program.
+long() {
+    sed -E 's/ A( |$)/ 11111111-1111-4111-8111-111111111111\1/; s/ B( |$)/ 22222222-2222-4222-8222-222222222222\1/
+        s/ C( |$)/ 33333333-3333-4333-8333-333333333333\1/; s/ D( |$)/ 44444444-4444-4444-8444-444444444444\1/
+        s/ E( |$)/ 55555555-5555-4555-8555-555555555555\1/'
+}
+# The letters in what it prints; #N for the UUID of the base image with the number N, and a sector of one byte as that byte and two points.
+short() {
+    sed -E 's/11111111-1111-4111-8111-111111111111/A/g; s/22222222-2222-4222-8222-222222222222/B/g; s/33333333-3333-4333-8333-333333333333/C/g
+        s/44444444-4444-4444-8444-444444444444/D/g; s/55555555-5555-4555-8555-555555555555/E/g
+        s/(([0-9a-f]{2})\2{511})/\2../g' | awk -v base=6c766864-0000-8000-8000- '
+        function number(digits, i, sum) {
+            for (i = 1; i <= length(digits); i++) sum = 16 * sum + index("0123456789abcdef", substr(digits, i, 1)) - 1
+            return sum
+        }
+        {
+            while ((at = index($0, base)) > 0) $0 = substr($0, 1, at - 1) "#" number(substr($0, at + 24, 12)) substr($0, at + 36)
+            print
+        }'
+}
+# A new repository of so many bytes, with extents of 16 KiB, blocks of 4 KiB and 64 entries, so that a VHD disk has 256 KiB at most.
+formatted() {
+    truncate -s "$2" "$1"
+    "$program" "$1" format 16384 4096 64 "$repository"
+}
+# Runs the lines of standard input, and prints each with its reply, and a status that is not 0.
+shown() {
+    cat >"$work/lines"
+    long <"$work/lines" >"$work/script"
+    status=0
+    "$program" "$1" run <"$work/script" >"$work/answers" || status=$?
+    short <"$work/lines" >"$work/asked"
+    short <"$work/answers" | awk 'NR == FNR { asked[NR] = $0; next } { printf "%-37s %s\n", asked[FNR], $0 }' "$work/asked" -
+    [ "$status" -eq 0 ] || echo "status $status"
+}
