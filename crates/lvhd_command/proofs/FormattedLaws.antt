@@ -30,8 +30,8 @@ use Rattle.sm_standing.specs.Checks.{is_damaged, is_invalid, is_misnamed, is_tre
 use Rattle.sm_standing.specs.Images.{image_of}
 use Rattle.sm_standing.specs.Outlines.{outline}
 use Rattle.sm_standing.specs.Contents.{Content, row, reading_at, sectors_of}
-use Rattle.sm_standing.specs.Opened.{opened, new_removed}
-use Rattle.sm_standing.specs.Shapes.{disk_record}
+use Rattle.sm_standing.specs.Opened.{cleaned, end_changes, ended, opened, undo_changes, undone}
+use Rattle.sm_standing.specs.Shapes.{disk_record, row_of as image_row_of, shape}
 use Rattle.sm_standing.specs.Devices.{IsKeptOn, Shows, content_of}
 use Rattle.sm_standing.specs.Plain.{IsPlain}
 use Rattle.sm_standing.specs.PlainSound.{PlainSound}
@@ -212,7 +212,7 @@ abbrev shape_of : Content → ℕ → List Disk → Shape
 shape_of c m ds = record { sequence = 1; extent = c.extent; block = c.block; entries = c.entries; extents = c.count; others = m; records = map disk_record ds; images = []; attached = []; op = Idle }
 
 opened_so : (c : Content) (n : ℕ) → opened (emptied c n) ≡ shape_of c (sum (length (range_with_len 0 n) ∷ [])) (disks (emptied c n))
-unfolding opened new_removed image_of
+unfolding opened ended end_changes undone undo_changes cleaned shape image_row_of image_of
 opened_so c n = refl
 
 records_alone : (n : ℕ) → sum (length (range_with_len 0 n) ∷ []) ≡ n

@@ -1,33 +1,27 @@
 -- The entry of a table in which a fork or an enlargement is under way: what the checks by the table leave known of it, and that
 -- the changes that undo it are allowed, each in its turn.
-use Rattle.std.proofs.Common.{◌≡◌, ◌≢◌, ◌⊎◌, inl, inr, ⊎_elim, ℕ, ◌≤◌, ◌||◌, Bool, true, false, cond, not, ◌&&◌, List, [], ◌∷◌, ◌++◌, length, filter, Option, Some, None, is_some, refl, sym, ap, ◌∙◌, subst, subst₂, arith}
+use Rattle.std.proofs.Common.{◌≡◌, ◌≢◌, ◌⊎◌, inl, inr, ⊎_elim, ℕ, ◌||◌, Bool, true, false, cond, not, ◌&&◌, List, [], ◌∷◌, length, Some, None, is_some, refl, sym, ap, ◌∙◌, subst, subst₂}
 use Rattle.std.specs.Str.{bytes_eq}
-use Rattle.std.proofs.lemmas.Bool.{and_parts, ltb-true, true≢false}
+use Rattle.std.proofs.lemmas.Bool.{and_parts, true≢false}
 use Rattle.std.proofs.lemmas.Option.{none-some, same_Some}
 use Rattle.common_laws.specs.Lists.{In}
 use Rattle.common_laws.proofs.Booleans.{not_false, not_true}
 use Rattle.common_laws.proofs.Bytes.{bytes_eq-refl}
 use Rattle.common_laws.proofs.Lists.{In-filter, In-map}
-use Rattle.common_laws.proofs.Options.{is_some-parts, none_of_some}
-use Rattle.sm_base.specs.Kinds.{is_image, is_entry}
+use Rattle.common_laws.proofs.Options.{is_some-parts}
+use Rattle.sm_base.specs.Kinds.{is_entry}
 use Rattle.sm_base.specs.Names.{IsName}
 use Rattle.sm_base.specs.declared.names.Name.{Name}
-use Rattle.sm_base.specs.declared.names.Name.TheVariants.{Mgt, Vhd, Raw, Old, Clone, Inflate, Coalesce, Relink, Leaf}
-use Rattle.vg_meta.specs.Changes.{Permits, applied}
+use Rattle.sm_base.specs.declared.names.Name.TheVariants.{Mgt, Vhd, Raw, Old, Clone, Inflate}
 use Rattle.vg_layout.specs.Places.{record_extents}
 use Rattle.vg_meta.specs.Tables.{IsTable, IsVolume, Row, VolumeTable, extents_of, names_of, rows}
 use Rattle.vg_meta.specs.declared.changes.Change.{Change}
-use Rattle.vg_meta.specs.declared.changes.Change.TheVariants.{Cut, Remove}
-use Rattle.vg_meta.proofs.ByName.{changes_by_name}
 use Rattle.vg_volumes.specs.Sites.{Site}
 use Rattle.sm_standing.specs.Checks.{is_lost}
-use Rattle.sm_standing.specs.Entries.{are_past, head, image_with, is_at_stage, is_filled, is_fork_made, is_forking, is_making, is_there, is_visible_or_gone, making, of_row, second}
-use Rattle.sm_standing.specs.Opened.{under_name}
-use Rattle.sm_standing.specs.Undone.{IsBeingEnlarged, applied_all, base_changes, changes_back, is_longer, undo_changes, undone, wanted}
-use Rattle.sm_standing.specs.Plain.{is_simple, is_simple_name}
-use Rattle.sm_standing.proofs.PlainDisks.{all-In}
-use Rattle.sm_standing.proofs.UndoneLaws.{IsBeingForked, enlarged_or_not, entry_row}
-use Rattle.sm_ready.specs.Runs.{AllMay}
+use Rattle.sm_standing.specs.Entries.{are_past, head, image_with, is_at_stage, is_filled, is_fork_made, is_forking, is_making, is_there, is_visible_or_gone, making, second}
+use Rattle.sm_standing.specs.Opened.{applied_all, changes_back, undo_changes, undone}
+use Rattle.sm_standing.specs.Undone.{IsBeingEnlarged}
+use Rattle.sm_standing.proofs.UndoneLaws.{IsBeingForked, enlarged_or_not}
 use Rattle.sm_ready.proofs.RowLaws.{All-In, found_in}
 use Rattle.sm_checks.specs.Faults.{has_any, is_apart, is_begun, is_fork_at_stage}
 use Rattle.sm_checks.specs.Openable.{IsOpenable}

@@ -22,6 +22,7 @@ use Rattle.vhd_image.specs.declared.images.Body.TheVariants as body
 use Rattle.sm_standing.specs.Checks.{is_image_wrong, is_invalid, is_oversize}
 use Rattle.sm_standing.specs.Contents.{sectors_of}
 use Rattle.sm_standing.specs.Images.{image_of, raw_image}
+use Rattle.sm_standing.specs.Opened.{undone}
 use Rattle.sm_standing.specs.Outlines.{Link, Outline, link_of, outline}
 use Rattle.sm_standing.specs.Volumes.{IsAtSize}
 use Rattle.sm_standing.proofs.ImageSectors.{image_same}
@@ -30,7 +31,6 @@ use Rattle.sm_ready.specs.Stores.{content_now}
 use Rattle.sm_ready.proofs.LeftLaws.{now_sector, raw_of, size_there, vhd_of}
 use Rattle.sm_checks.specs.Faults.{HasTable}
 use Rattle.sm_checks.specs.Loaded.{IsFilledImage, IsNoneRead, IsReadAs, as_read, shortened}
-use Rattle.sm_standing.specs.Undone.{undone}
 use Rattle.sm_standing.proofs.UndoneContents.{images_undone_at}
 use Rattle.sm_checks.proofs.EntryLaws.{IsStaged}
 use Rattle.sm_checks.proofs.TableLaws.{Cases, cases, other_extents, other_whole, records_room, shortened_undone}

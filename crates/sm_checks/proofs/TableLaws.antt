@@ -21,7 +21,8 @@ use Rattle.common_laws.proofs.Lists.{In-map}
 use Rattle.sm_machine.specs.Shapes.{same_image}
 use Rattle.sm_standing.specs.Entries.{head, is_making, making}
 use Rattle.sm_standing.specs.Images.{image_extents}
-use Rattle.sm_standing.specs.Undone.{IsBeingEnlarged, applied_all, undone}
+use Rattle.sm_standing.specs.Opened.{applied_all, undone}
+use Rattle.sm_standing.specs.Undone.{IsBeingEnlarged}
 use Rattle.sm_standing.proofs.UndoneLaws.{undone_making, undone_volumes}
 use Rattle.vg_volumes.specs.Sites.{Site, size_of}
 use Rattle.vg_meta.specs.Tables.{extents_of}

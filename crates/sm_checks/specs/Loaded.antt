@@ -14,7 +14,7 @@ use Rattle.vg_meta.specs.Roomy.{table_alone}
 use Rattle.common_laws.specs.Lists.{In}
 use Rattle.sm_standing.specs.Entries.{head, making}
 use Rattle.sm_standing.specs.Images.{image_extents}
-use Rattle.sm_standing.specs.Undone.{applied_all, changes_back, undone}
+use Rattle.sm_standing.specs.Opened.{applied_all, changes_back, undone}
 use Rattle.sm_standing.specs.Unfolded.{unfolded}
 use Rattle.vg_volumes.specs.Stored.{Faults, Stored, held_in}
 use Rattle.vg_volumes.specs.declared.stores.Store.{Ghosts}

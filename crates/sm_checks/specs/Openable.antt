@@ -1,28 +1,20 @@
 -- What the checks by the table leave known of it, and why an opening stops.
-use Rattle.std.specs.Prelude.{◌≡◌, ℕ, ◌<◌, ◌≤◌, true, false, List, length, Option, Some, None}
+use Rattle.std.specs.Prelude.{◌≡◌, ℕ, ◌≤◌, false, length, Option, Some, None}
 use Rattle.common_laws.specs.Lists.{In}
 use Rattle.sm_base.specs.declared.faults.OpenFault.{OpenFault}
 use Rattle.sm_base.specs.declared.faults.OpenFault.TheVariants as fault
 use Rattle.sm_base.specs.declared.faults.Place.{Place}
-use Rattle.sm_base.specs.Kinds.{is_image}
-use Rattle.sm_base.specs.declared.names.Name.{Name}
-use Rattle.sm_base.specs.declared.names.Name.TheVariants.{Mgt, Vhd, Relink}
-use Rattle.sm_disk.specs.Held.{IsSettled, Rose, reads}
+use Rattle.sm_base.specs.declared.names.Name.TheVariants.{Mgt}
+use Rattle.sm_disk.specs.Held.{Rose}
 use Rattle.vg_layout.specs.Places.{record_extents}
-use Rattle.vg_meta.specs.Changes.{applied}
 use Rattle.vg_meta.specs.Tables.{VolumeTable, Row, IsTable, rows, extents_of}
-use Rattle.vg_meta.specs.declared.changes.Change.TheVariants.{Remove}
 use Rattle.vg_meta.specs.Roomy.{table_alone}
-use Rattle.vg_volumes.specs.Sites.{Site, area_size}
-use Rattle.vg_volumes.specs.Stored.{Stored}
+use Rattle.vg_volumes.specs.Sites.{Site}
 use Rattle.vg_volumes.specs.declared.stores.Store.{Ghosts}
 use Rattle.sm_machine.specs.Shapes.{image_limit}
 use Rattle.sm_standing.specs.Contents.{Content}
-use Rattle.sm_standing.specs.Checks.{images, is_lost, is_misnamed, is_orphaned, has_uuid, first_fault}
-use Rattle.sm_standing.specs.Entries.{are_past, folding, is_there, making, second}
-use Rattle.sm_standing.specs.Plain.{IsKnown, IsPlain, IsSimple}
-use Rattle.vhd_chain.specs.declared.rows.TreeRow.{TreeRow}
-use Rattle.sm_checks.specs.Links.{HasLink}
+use Rattle.sm_standing.specs.Checks.{images, is_lost, is_misnamed, is_orphaned, first_fault}
+use Rattle.sm_standing.specs.Entries.{folding, making, second}
 
 -- what is known of the table in memory once the checks by the table passed: at most one entry of each group is there, each stands at
 -- a stage of its work, and each old leaf belongs to one

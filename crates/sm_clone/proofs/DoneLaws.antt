@@ -30,8 +30,8 @@ use Rattle.sm_refs.proofs.NameLemmas.{other_name, same_name-refl}
 use Rattle.sm_mgt.specs.Places.{place_for}
 use Rattle.sm_run.specs.Between.{IsBetween}
 use Rattle.sm_standing.specs.Keeping.{IsKept}
+use Rattle.sm_standing.specs.Opened.{applied_all}
 use Rattle.sm_standing.specs.Standing.{disks}
-use Rattle.sm_standing.specs.Undone.{applied_all}
 use Rattle.sm_ready.specs.Done.{HasDoneFrom, at_rest}
 use Rattle.sm_ready.specs.Does.{store_shape}
 use Rattle.sm_ready.specs.Known.{Known, known}

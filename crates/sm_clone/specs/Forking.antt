@@ -35,7 +35,7 @@ use Rattle.sm_record.specs.declared.records.Reading.TheVariants.{Taken}
 use Rattle.sm_mgt.specs.Places.{place_count, place_for, records_held, record_in}
 use Rattle.sm_refs.specs.Attached.{Attached, HoldsChain, count_of}
 use Rattle.sm_journal.specs.Entries.{putting}
-use Rattle.sm_standing.specs.Undone.{applied_all}
+use Rattle.sm_standing.specs.Opened.{applied_all}
 use Rattle.sm_clone.specs.declared.forks.Fork.{Fork}
 use Rattle.sm_clone.specs.declared.preparing.Parts.{Parts}
 use Rattle.sm_ready.specs.Does.{IsKeptUp, store_shape}

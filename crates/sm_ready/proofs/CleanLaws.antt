@@ -8,8 +8,9 @@ use Rattle.vg_meta.specs.declared.changes.Change.TheVariants.{Remove}
 use Rattle.vg_meta.specs.Changes.{applied, without, raised}
 use Rattle.common_laws.specs.Lists.{In}
 use Rattle.sm_machine.specs.Shapes.{risen, last_sequence}
-use Rattle.sm_ready.specs.Cleaned.{cleaned, filled, new_count, HasFewRemovals}
+use Rattle.sm_ready.specs.Cleaned.{HasFewRemovals}
 use Rattle.sm_ready.specs.Repairs.{IsNewVolume}
+use Rattle.sm_standing.specs.Opened.{cleaned, filled, new_count}
 
 -- ---- one new volume less
 

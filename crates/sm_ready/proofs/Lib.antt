@@ -35,7 +35,6 @@ pub mod CleanLaws
 pub mod RowRoomLaws
 pub mod WipeLaws
 pub mod AgainLaws
-pub mod OpenedLaws
 pub mod LoadLaws
 pub mod NumberLaws
 pub mod BegunLaws

@@ -1,14 +1,12 @@
 -- A volume that is new, where new volumes are removed one after another: it may go, and it is beside the images.
-use Rattle.std.proofs.Common.{◌≡◌, ◌≢◌, ℕ, ◌<◌, true, false, not, List, length, Some, None, sym, ap, ◌∙◌, subst, subst₂, arith}
-use Rattle.std.specs.List.{AllByRecursion, find}
-use Rattle.std.specs.declared.cmp.Ordering.TheVariants.{Less}
+use Rattle.std.proofs.Common.{◌≡◌, ◌≢◌, ℕ, ◌<◌, true, false, not, length, Some, None, sym, ap, ◌∙◌, subst, subst₂, arith}
+use Rattle.std.specs.List.{find}
 use Rattle.std.proofs.lemmas.Bool.{and_parts, true≢false}
 use Rattle.sm_base.specs.declared.names.Name.{Name}
 use Rattle.sm_base.specs.declared.names.Name.TheVariants.{Mgt}
-use Rattle.sm_base.specs.Names.{name_cmp}
 use Rattle.vg_meta.specs.Changes.{applied, Permits}
 use Rattle.vg_meta.specs.Roomy.{RoomyTable, RoomyRow, table_alone, rows_alone}
-use Rattle.vg_meta.specs.Tables.{VolumeTable, Row, IsTable, IsVolume, names_of, suits}
+use Rattle.vg_meta.specs.Tables.{VolumeTable, Row, IsTable, IsVolume, suits}
 use Rattle.vg_meta.specs.declared.changes.Change.TheVariants.{Remove}
 use Rattle.vg_meta.proofs.NameLaws.{name_eq-true}
 use Rattle.vg_meta.proofs.RowLaws.{row_of-name, All-row_of}
@@ -22,11 +20,7 @@ use Rattle.sm_ready.specs.Known.{Known}
 use Rattle.sm_ready.specs.Orderly.{IsOrderly}
 use Rattle.sm_ready.specs.Repairs.{IsNewVolume}
 use Rattle.sm_ready.proofs.GoneLaws.{IsBeside}
-use Rattle.sm_ready.proofs.RowLaws.{All-In, In-names, found_in}
-
--- the first of a rising list is before each other
-pub less_at : (n : Name) (rs : List Row) (r : Row) → AllByRecursion (λ (m : Name). name_cmp n m ≡ Less) (names_of rs) → In r rs → name_cmp n r.name ≡ Less
-less_at n rs r all i = All-In (λ m. name_cmp n m ≡ Less) (names_of rs) r.name all (In-names rs r i)
+use Rattle.sm_ready.proofs.RowLaws.{found_in}
 
 -- ---- it may go
 

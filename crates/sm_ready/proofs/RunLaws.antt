@@ -11,7 +11,7 @@ use Rattle.vg_meta.specs.declared.changes.Change.TheVariants.{Create, Remove, Re
 use Rattle.vg_volumes.specs.Sites.{Site, RoomAfter}
 use Rattle.vg_volumes.specs.Stored.{CanCommit, Commits, FailsToCommit, IsChoiceOf, Stored, stored}
 use Rattle.vg_volumes.specs.declared.stores.Store.{Ghosts}
-use Rattle.sm_standing.specs.Undone.{applied_all}
+use Rattle.sm_standing.specs.Opened.{applied_all}
 use Rattle.sm_ready.specs.Done.{at_rest}
 use Rattle.sm_ready.proofs.ChainLaws.{tab}
 use Rattle.sm_ready.proofs.CommitLaws.{rested}

@@ -9,12 +9,12 @@ use Rattle.vg_volumes.specs.Sites.{Site}
 use Rattle.sm_machine.specs.Disks.{Disk}
 use Rattle.sm_run.specs.Between.{IsBetween, IsStill}
 use Rattle.sm_standing.specs.Keeping.{IsKept}
+use Rattle.sm_standing.specs.Opened.{applied_all}
 use Rattle.sm_standing.specs.Standing.{disks}
 use Rattle.sm_ready.specs.Done.{at_rest}
 use Rattle.sm_ready.specs.Stores.{Leaving, MayShow, content_in}
 use Rattle.sm_ready.proofs.CommitLaws.{IsSafe}
 use Rattle.sm_ready.proofs.LeftLaws.{IsLeft}
-use Rattle.sm_standing.specs.Undone.{applied_all}
 use Rattle.sm_ready.specs.Runs.{IsAmong}
 
 module _ (s : Site) (before : Leaving) (was : List Disk) where

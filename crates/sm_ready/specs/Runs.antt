@@ -9,7 +9,7 @@ use Rattle.vg_meta.specs.declared.changes.Change.TheVariants.{Create, Remove, Re
 use Rattle.vg_volumes.specs.Sites.{Fits}
 use Rattle.vg_volumes.specs.Stored.{Stored, Faults, IsChoiceOf, IsEitherOf}
 use Rattle.vg_volumes.specs.declared.stores.Store.{Ghosts}
-use Rattle.sm_standing.specs.Undone.{applied_all}
+use Rattle.sm_standing.specs.Opened.{applied_all}
 use Rattle.sm_ready.specs.Done.{at_rest}
 use Rattle.sm_ready.specs.Frames.{HasCommits}
 use Rattle.sm_ready.specs.Sessions.{HasRows}

@@ -14,8 +14,7 @@ use Rattle.vg_meta.specs.declared.changes.Change.TheVariants.{Mark, Remove, Rena
 use Rattle.vg_meta.specs.declared.changes.Tag.TheVariants.{Hidden}
 use Rattle.vg_meta.proofs.ByName.{changes_by_name}
 use Rattle.sm_standing.specs.Entries.{image_with, is_there}
-use Rattle.sm_standing.specs.Opened.{under_name}
-use Rattle.sm_standing.specs.Undone.{applied_all, base_changes, changes_back, wanted}
+use Rattle.sm_standing.specs.Opened.{applied_all, base_changes, changes_back, under_name, wanted}
 use Rattle.sm_ready.specs.Runs.{AllMay}
 use Rattle.sm_ready.proofs.RunLaws.{applied_append}
 use Rattle.sm_recover.specs.Steps.{changes_of_base, is_marked}

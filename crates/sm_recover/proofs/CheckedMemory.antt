@@ -12,7 +12,7 @@ use Rattle.sm_standing.specs.Checks.{fault_of, first_fault}
 use Rattle.sm_standing.specs.Keeping.{HasNoEmptySlot, HoldsWell}
 use Rattle.sm_standing.specs.Outlines.{Outline}
 use Rattle.sm_standing.specs.Contents.{Content}
-use Rattle.sm_standing.specs.Leaves.{ended}
+use Rattle.sm_standing.specs.Opened.{ended}
 use Rattle.sm_standing.specs.Plain.{IsKnown}
 use Rattle.sm_standing.specs.Unfolded.{unfolded, unfolded_content}
 use Rattle.sm_standing.proofs.LeafContents.{left_at_last}

@@ -1,6 +1,6 @@
 -- What the checks say of the images as they are read, and of the places of the records.
 use Rattle.std.proofs.Common.{◌≡◌, ◌⊎◌, inl, inr, ℕ, ◌*◌, ◌≤◌, true, false, not, ◌&&◌, List, length, map, filter, Option, Some, None, is_some, refl, sym, ap, ◌∙◌, subst, arith}
-use Rattle.std.proofs.lemmas.Bool.{true≢false, eqb-true}
+use Rattle.std.proofs.lemmas.Bool.{true≢false}
 use Rattle.std.proofs.lemmas.List.Sums.{length-filter}
 use Rattle.std.proofs.lemmas.Option.{none-some, get_or_from_slice_get}
 use Rattle.sm_base.specs.declared.names.Name.{Name}
@@ -12,19 +12,17 @@ use Rattle.vg_volumes.specs.Sites.{Site}
 use Rattle.vg_volumes.specs.Stored.{held_in}
 use Rattle.vg_volumes.specs.declared.stores.Store.{Ghosts}
 use Rattle.common_laws.specs.Lists.{In}
-use Rattle.common_laws.proofs.Booleans.{not_false}
-use Rattle.common_laws.proofs.Lists.{In-map_at, filter-In, none_find, none_first}
+use Rattle.common_laws.proofs.Lists.{In-map_at}
 use Rattle.common_laws.proofs.Options.{is_some-parts}
 use Rattle.sm_machine.specs.WellFormed.{EndsWithin, HasParent}
 use Rattle.sm_record.specs.declared.records.Record.{Record}
 use Rattle.sm_mgt.specs.Places.{as_reading, is_of, place_count}
-use Rattle.sm_standing.specs.Checks.{entry_link_fault, is_entry_linked, is_misnamed, misnamed_fault, chain_length, is_tree_wrong, tree_fault, is_unrecorded, disk_uuids, disk_fault, faults_but_leaf, fault_but_leaf_of}
+use Rattle.sm_standing.specs.Checks.{is_entry_linked, is_misnamed, chain_length, is_tree_wrong, PassesButLeaf}
 use Rattle.sm_standing.specs.Entries.{of_row}
+use Rattle.sm_standing.specs.PlainSound.{AllSound}
 use Rattle.sm_standing.specs.Outlines.{Link, Outline}
-use Rattle.sm_standing.specs.Standing.{standing_volume, uuids}
-use Rattle.sm_standing.proofs.DisksShown.{stands_listed}
-use Rattle.sm_standing.proofs.FaultLaws.{named_none}
-use Rattle.sm_standing.proofs.PlainKept.{disk_none}
+use Rattle.sm_standing.specs.Standing.{standing_volume}
+use Rattle.sm_standing.proofs.PlainKept.{sound_all}
 use Rattle.sm_standing.proofs.WalkLaws.{length_top}
 use Rattle.vhd_chain.specs.Trees.{row_name, tree_row}
 use Rattle.vhd_chain.specs.declared.rows.TreeRow.{TreeRow}
@@ -42,8 +40,6 @@ use Rattle.sm_checks.proofs.TableLaws.{image_not_making, short_filtered, short_f
 use Rattle.sm_ready.proofs.Orders.{In-tree_row}
 use Rattle.sm_checks.proofs.TreeLaws.{HasParentIn, StandsRight, both_true, ends, parent_in, stands_right}
 use Rattle.sm_checks.proofs.LoadedLaws.{named_data, none_among, read_row}
-use Rattle.sm_base.specs.declared.faults.Place.{Place}
-use Rattle.sm_base.specs.declared.faults.Place.TheVariants as at
 
 -- a raw one has no parent, and each other is a VHD image
 raw_or_vhd : (told : Type 0) (g : Geometry) (h : Held) (n : Name) (image : Body) (sectors : ℕ) → IsReadAs told g sectors h n image → (parent_name image ≡ None) ⊎ ((u : List ℕ) × (n ≡ Vhd u))
@@ -74,7 +70,7 @@ module _ {S : Type 0} (g : Ghosts S) (store : S) (xs : List TreeRow) (places : L
   pub each : HasEachRow g.told (stored_with g store (shortened was)) t.volumes xs
   each r i = each_read r (short_in c r i)
 
-  module _ (long : length places ≡ place_count) (pass : (x : Outline) → HasTable s.geometry was x → HasLinks xs x → HasPlaces places x → fault_but_leaf_of x ≡ None) where
+  module _ (long : length places ≡ place_count) (pass : (x : Outline) → HasTable s.geometry was x → HasLinks xs x → HasPlaces places x → PassesButLeaf x) where
     abbrev pub seen : Outline
     seen = outline_in s was (begun_with xs places 0)
 
@@ -86,30 +82,28 @@ module _ {S : Type 0} (g : Ghosts S) (store : S) (xs : List TreeRow) (places : L
     unfolding outline_in
     links n = refl
 
-    none : (o : Option Place) → In o (faults_but_leaf seen) → o ≡ None
-    unfolding outline_in fault_but_leaf_of
-    none = none_first (faults_but_leaf seen) (pass seen (record { extent = refl; block = refl; entries = refl; table = refl }) links has)
+    sound : AllSound seen
+    unfolding outline_in
+    sound = let whole = pass seen (record { extent = refl; block = refl; entries = refl; table = refl }) links has in sound_all seen whole.sound
 
     pub named : (r : Row) → In r was.volumes → is_misnamed was r ≡ false
-    unfolding outline_in misnamed_fault
-    named = named_none at.Image (is_misnamed was) was.volumes (none (misnamed_fault seen) (inr (inr (inl refl))))
+    unfolding outline_in
+    named = sound.named
 
     placed_at : (r : Row) → In r was.volumes → is_tree_wrong seen r ≡ false
-    unfolding outline_in tree_fault
-    placed_at = named_none at.Tree (is_tree_wrong seen) was.volumes (none (tree_fault seen) (inr (inr (inr (inr (inr (inr (inr (inr (inl refl))))))))))
+    unfolding outline_in
+    placed_at = sound.placed
 
     -- the images of a fork are linked as its entry says
     pub linked : (r : Row) → In r was.volumes → is_entry_linked seen r.name ≡ true
-    unfolding outline_in entry_link_fault
-    linked r i = not_false _ (named_none at.Journal (λ r. not (is_entry_linked seen r.name)) was.volumes (none (entry_link_fault seen) (inr (inr (inr (inr (inr (inr (inr (inr (inr (inl refl))))))))))) r i)
+    unfolding outline_in
+    linked = sound.linked
 
     pub recorded : (u : List ℕ) → is_some (standing_volume was u) ≡ true → length (filter (is_of u) places) ≡ 1
-    unfolding outline_in disk_fault
+    unfolding outline_in
     recorded u stands =
         let n = is_some-parts (standing_volume was u) stands in
-        let listed = filter-In (λ v. is_some (standing_volume was v)) (uuids was) u (stands_listed was u n.0 n.1) stands in
-        length-filter (is_of u) places ∙ sym (records_counted seen places u has)
-        ∙ eqb-true _ 1 (not_false _ (none_find (is_unrecorded seen) (disk_uuids seen) (disk_none _ (none (disk_fault seen) (inr (inr (inr (inr (inr (inr (inr (inr (inr (inr (inr (inl refl)))))))))))))) u listed))
+        length-filter (is_of u) places ∙ sym (records_counted seen places u has) ∙ sound.recorded u n.0 n.1
 
     -- its link is seen by its name
     pub found_link : (x : TreeRow) → In x xs → link_in (tree_row xs (row_name x)) ≡ link_in (Some x)

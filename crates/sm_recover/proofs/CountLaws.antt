@@ -18,7 +18,7 @@ use Rattle.vg_meta.proofs.RowLaws.{row_of-name}
 use Rattle.vg_volumes.specs.Sites.{text_limit}
 use Rattle.sm_machine.specs.Shapes.{image_limit}
 use Rattle.sm_standing.specs.Checks.{images}
-use Rattle.sm_standing.specs.Undone.{applied_all}
+use Rattle.sm_standing.specs.Opened.{applied_all}
 use Rattle.sm_ready.specs.Runs.{AllMay}
 use Rattle.sm_ready.proofs.FitLaws.{fits_entries}
 use Rattle.sm_ready.proofs.GoneLaws.{fewer_left}

@@ -21,8 +21,7 @@ use Rattle.vg_meta.proofs.ChangeLaws.{IsTable-applied}
 use Rattle.vg_meta.proofs.RowLaws.{row_of-without_other}
 use Rattle.vg_volumes.specs.Sites.{Site}
 use Rattle.sm_standing.specs.Entries.{folding, head, image_with, is_folding, is_making, is_there, making, of_row, second}
-use Rattle.sm_standing.specs.Opened.{under_name}
-use Rattle.sm_standing.specs.Undone.{applied_all, base_changes, changes_back, is_longer, undo_changes, undone, wanted}
+use Rattle.sm_standing.specs.Opened.{applied_all, base_changes, changes_back, is_longer, under_name, undo_changes, undone, wanted}
 use Rattle.sm_standing.specs.Unfolded.{unfolded, without_entry}
 use Rattle.sm_standing.proofs.DisksShown.{row_of-In}
 use Rattle.sm_standing.proofs.Orders.{rising_ext}

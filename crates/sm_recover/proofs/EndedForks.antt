@@ -14,7 +14,7 @@ use Rattle.sm_record.specs.declared.records.Record.{Record}
 use Rattle.sm_mgt.specs.Places.{place_count}
 use Rattle.sm_standing.specs.Checks.{fault_of}
 use Rattle.sm_standing.specs.Entries.{folding, head, image_with, is_among, is_leaf_renamed, making, uuids_in}
-use Rattle.sm_standing.specs.Leaves.{ended}
+use Rattle.sm_standing.specs.Opened.{ended}
 use Rattle.sm_standing.specs.Outlines.{Outline}
 use Rattle.sm_standing.proofs.LeafEnds.{corner_or_not, ended_making, ended_unmade}
 use Rattle.sm_standing.proofs.LeafRows.{ended_other, ended_same, same_making}

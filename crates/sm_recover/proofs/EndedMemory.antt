@@ -24,9 +24,10 @@ use Rattle.sm_mgt.specs.Places.{as_reading, place_count}
 use Rattle.sm_standing.specs.Checks.{fault_of}
 use Rattle.sm_standing.specs.Entries.{are_past, folding, head, is_at_stage, is_filled, is_folding, is_folding_leaf, is_hidden, is_leaf_copied, is_leaf_folded, is_leaf_renamed, is_leaf_swapped, is_there, is_visible, making}
 use Rattle.sm_standing.specs.Plain.{IsSimple}
-use Rattle.sm_standing.specs.Undone.{AllPermit, applied_all}
+use Rattle.sm_standing.specs.Undone.{AllPermit}
 use Rattle.sm_standing.specs.Images.{image_extents}
-use Rattle.sm_standing.specs.Leaves.{ended, ended_from, ended_outline, from_leaf, leaf_changes}
+use Rattle.sm_standing.specs.Leaves.{ended_from, ended_outline, from_leaf}
+use Rattle.sm_standing.specs.Opened.{applied_all, ended, leaf_changes}
 use Rattle.sm_standing.specs.Outlines.{HasImages, Link, Outline}
 use Rattle.sm_standing.proofs.DisksShown.{row_of-In}
 use Rattle.sm_standing.proofs.ForkTables.{of_row_parts}

@@ -18,12 +18,13 @@ use Rattle.vg_volumes.specs.Sites.{Site}
 use Rattle.vg_volumes.specs.declared.stores.Store.{Ghosts}
 use Rattle.sm_record.specs.declared.records.Record.{Record}
 use Rattle.sm_mgt.specs.Places.{place_count}
-use Rattle.sm_standing.specs.Checks.{fault_of, fault_but_leaf_of, is_orphaned, lost_entry_fault, misnamed_fault, old_leaf_fault, record_volume_fault, second_entry_fault, too_many_fault}
+use Rattle.sm_standing.specs.Checks.{fault_of, PassesButLeaf, is_orphaned, lost_entry_fault, misnamed_fault, old_leaf_fault, record_volume_fault, second_entry_fault, too_many_fault}
 use Rattle.sm_standing.specs.Entries.{folding, head, is_folding, is_leaf_renamed, is_leaf_swapped, is_old_of, making, of_row, second}
-use Rattle.sm_standing.specs.Leaves.{changes_ending, end_changes, ended, ended_outline, leaf_changes, leaf_gone, parent_changes}
+use Rattle.sm_standing.specs.Leaves.{ended_outline}
+use Rattle.sm_standing.specs.Opened.{applied_all, changes_back, changes_ending, end_changes, ended, is_longer, leaf_changes, leaf_gone, parent_changes, undo_changes, wanted}
 use Rattle.sm_standing.specs.Outlines.{Outline}
 use Rattle.sm_standing.specs.Plain.{IsKnown, is_known, is_known_name}
-use Rattle.sm_standing.specs.Undone.{AllPermit, applied_all, changes_back, is_longer, undo_changes, wanted}
+use Rattle.sm_standing.specs.Undone.{AllPermit}
 use Rattle.sm_standing.specs.Unfolded.{unfolded}
 use Rattle.sm_standing.proofs.LeafEnds.{ends_are}
 use Rattle.sm_standing.proofs.PlainKept.{all-of, outline_but_leaf, simple_known}
@@ -234,7 +235,7 @@ pub record IsThen {S : Type 0} (g : Ghosts S) (store : S) (xs ys : List TreeRow)
   pub checked : IsEndable (g.site store) u
   pub are : AreRowsOf (read_volumes u) ys
   pub each : HasEachRow g.told (stored_with g store (shortened u)) (read_volumes u) ys
-  pub pass : (x : Outline) → HasTable (g.site store).geometry u x → HasLinks ys x → HasPlaces places x → fault_but_leaf_of x ≡ None
+  pub pass : (x : Outline) → HasTable (g.site store).geometry u x → HasLinks ys x → HasPlaces places x → PassesButLeaf x
 
 module _ {S : Type 0} (g : Ghosts S) (store : S) (xs : List TreeRow) (places : List (Option Record)) {t : VolumeTable} (c : IsOpenable (g.site store) t) (are : AreRowsOf (read_volumes t) xs)
     (each : HasEachRow g.told (stored_with g store (shortened t)) (read_volumes t) xs) (long : length places ≡ place_count)

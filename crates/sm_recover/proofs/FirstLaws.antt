@@ -19,14 +19,14 @@ use Rattle.vg_volumes.specs.Sites.{Site}
 use Rattle.vg_volumes.specs.Stored.{Stored}
 use Rattle.vhd_chain.specs.declared.rows.TreeRow.{TreeRow}
 use Rattle.sm_machine.specs.Shapes.{Shape, same_image}
-use Rattle.sm_standing.specs.Checks.{first_fault_but_leaf, has_twin, has_uuid, is_misnamed}
+use Rattle.sm_standing.specs.Checks.{IsSoundButLeaf, has_twin, has_uuid, is_misnamed}
 use Rattle.sm_standing.specs.Entries.{are_past, folding, head, is_folding, image_with, is_past, is_there, making, uuids_in}
 use Rattle.sm_standing.specs.Keeping.{HasNoEmptySlot, HoldsWell}
-use Rattle.sm_standing.specs.Opened.{parent_name, under_name}
+use Rattle.sm_standing.specs.Opened.{applied_all, linked_by, linked_up, new_count, parent_name, under_name, undo_changes, undone}
 use Rattle.sm_standing.specs.PlainSound.{KnownSound, SimpleSound}
 use Rattle.sm_standing.specs.Standing.{disks}
-use Rattle.sm_standing.specs.Undone.{IsBeingEnlarged, applied_all, undo_changes, undone}
-use Rattle.sm_standing.specs.Unfolded.{linked_by, linked_up, unfolded, without_entry}
+use Rattle.sm_standing.specs.Undone.{IsBeingEnlarged}
+use Rattle.sm_standing.specs.Unfolded.{unfolded, without_entry}
 use Rattle.sm_standing.proofs.AreaLaws.{area_disks, area_kept}
 use Rattle.sm_standing.proofs.LinkingLaws.{link_kept, link_shown, link_with}
 use Rattle.sm_standing.proofs.NamedLaws.{all_past}
@@ -34,7 +34,7 @@ use Rattle.sm_standing.proofs.PlainKept.{but_leaf_known, but_leaf_sound}
 use Rattle.sm_standing.proofs.UndoneLaws.{other_undone}
 use Rattle.sm_standing.proofs.UnfoldedLaws.{alone}
 use Rattle.sm_standing.proofs.UnfoldedButLeaf.{unfolded_disks, unfolded_holding, unfolded_sound}
-use Rattle.sm_ready.specs.Cleaned.{HasFewRemovals, new_count}
+use Rattle.sm_ready.specs.Cleaned.{HasFewRemovals}
 use Rattle.sm_ready.specs.Frames.{HasCommits}
 use Rattle.sm_ready.specs.Repairs.{IsSame, content_of}
 use Rattle.sm_ready.specs.Stores.{content_in}
@@ -63,7 +63,7 @@ module _ (x : Stored) (c : IsEndable x.site x.table) where
   abbrev less : VolumeTable → Stored
   less u = record { site = x.site; table = u; area = x.area }
 
-  pub first_same : (v : VolumeTable) (image : ℕ → List ℕ) → IsLeftOf x (IsPartOf t (first_changes t)) v image → IsSettled x.area → first_fault_but_leaf (content_of x) ≡ None → HoldsWell (content_of x)
+  pub first_same : (v : VolumeTable) (image : ℕ → List ℕ) → IsLeftOf x (IsPartOf t (first_changes t)) v image → IsSettled x.area → IsSoundButLeaf (content_of x) → HoldsWell (content_of x)
       → IsSame (content_of x) (content_in x.site v image)
   first_same v image left settled sound well = by (end_case c)
     where

@@ -30,13 +30,12 @@ use Rattle.sm_machine.proofs.Changes.{list_any-some}
 use Rattle.sm_machine.specs.WellFormed.{EndsWithin, HasParent}
 use Rattle.sm_record.specs.declared.records.Record.{Record}
 use Rattle.sm_mgt.specs.Places.{place_count}
-use Rattle.sm_standing.specs.Checks.{chain_length, fault_but_leaf_of, has_twin, has_uuid, is_entry_linked, is_misnamed}
+use Rattle.sm_standing.specs.Checks.{chain_length, PassesButLeaf, has_twin, has_uuid, is_entry_linked, is_misnamed}
 use Rattle.sm_standing.specs.Entries.{are_past, head, image_with, is_filled, is_fork_made, is_past, is_there, is_visible, is_visible_or_gone, making, of_row, uuids_in}
-use Rattle.sm_standing.specs.Opened.{under_name}
+use Rattle.sm_standing.specs.Opened.{applied_all, base_changes, changes_back, under_name, undone, wanted}
 use Rattle.sm_standing.specs.Ordered.{Rising}
 use Rattle.sm_standing.specs.Outlines.{Link, Outline}
 use Rattle.sm_standing.specs.Standing.{standing_volume}
-use Rattle.sm_standing.specs.Undone.{applied_all, base_changes, changes_back, undone, wanted}
 use Rattle.sm_standing.proofs.PlainKept.{simple_known}
 use Rattle.sm_standing.proofs.NamedLaws.{all_past, named_still, past_later}
 use Rattle.sm_standing.proofs.Orders.{In-filter_map, filter_map-In, In-insert, new-insert, old-insert, rising-insert, rising_ext}
@@ -124,7 +123,7 @@ row_moved told x t u r y same row = record {
 
 module _ {S : Type 0} (g : Ghosts S) (store : S) (xs : List TreeRow) (places : List (Option Record)) {was : VolumeTable} (c : IsUndoable (g.site store) was) (are_read : AreRowsOf (read_volumes was) xs)
     (each_read : HasEachRow g.told (stored_with g store (shortened was)) (read_volumes was) xs) (long : length places ≡ place_count)
-    (pass : (x : Outline) → HasTable (g.site store).geometry was x → HasLinks xs x → HasPlaces places x → fault_but_leaf_of x ≡ None)
+    (pass : (x : Outline) → HasTable (g.site store).geometry was x → HasLinks xs x → HasPlaces places x → PassesButLeaf x)
     (d b w : List ℕ) (found : head (making was) ≡ Some (Clone d b w)) where
   abbrev now : VolumeTable
   now = undone was

@@ -11,18 +11,19 @@ use Rattle.vg_volumes.specs.declared.stores.Store.{Ghosts}
 use Rattle.sm_standing.specs.Checks.{first_fault}
 use Rattle.sm_standing.specs.Entries.{folding, head}
 use Rattle.sm_standing.specs.Keeping.{HoldsWell}
-use Rattle.sm_standing.specs.Leaves.{IsEnding, ended}
-use Rattle.sm_standing.specs.Opened.{opened}
+use Rattle.sm_standing.specs.Leaves.{IsEnding}
+use Rattle.sm_standing.specs.Opened.{applied_all, ended, new_count, opened, undo_changes, undone}
 use Rattle.sm_standing.specs.Plain.{IsKnown}
-use Rattle.sm_standing.specs.Undone.{applied_all, undo_changes, undone}
 use Rattle.sm_standing.specs.Unfolded.{unfolded}
 use Rattle.sm_standing.proofs.AreaLaws.{area_disks, area_kept}
 use Rattle.sm_standing.proofs.LeafContents.{left_kept, left_on_the_way, left_shown}
-use Rattle.sm_standing.proofs.LeafEnds.{ends_are}
-use Rattle.sm_standing.proofs.LeafOpened.{opened_ended}
+use Rattle.sm_standing.proofs.LeafEnds.{ended_folding, ends_are}
+use Rattle.sm_standing.proofs.LeafStages.{content_images}
+use Rattle.sm_standing.proofs.OpenedLaws.{opened_ended}
+use Rattle.sm_standing.specs.Outlines.{outline}
 use Rattle.sm_standing.proofs.PlainKept.{known_but_leaf, but_leaf_known}
 use Rattle.vhd_chain.specs.Reading.{AllAreTrue}
-use Rattle.sm_ready.specs.Cleaned.{HasFewRemovals, new_count}
+use Rattle.sm_ready.specs.Cleaned.{HasFewRemovals}
 use Rattle.sm_ready.specs.Known.{known}
 use Rattle.sm_ready.specs.Runs.{AllMay}
 use Rattle.sm_ready.specs.Orderly.{IsOrderly}
@@ -100,7 +101,7 @@ module _ (x : Stored) (c : IsOpenable x.site x.table) (sound : first_fault (cont
       leaf l p found =
           let one = head_alone (folding t) (Leaf l p) found c.one_folding in
           ap (λ cs. opened (content_of (record x { table = applied_all t cs }))) (ap (leaf_ends t) found ∙ sym (ends_are t l p one))
-          ∙ opened_ended (content_of x) sound c.table x.site.geometry.in_range l p one
+          ∙ opened_ended (content_of x) l p one (ended_folding x.site.count (outline (content_of x)) sound c.table (content_images (content_of x)) l p one)
 
       none : ((l p : List ℕ) → head (folding t) ≢ Some (Leaf l p)) → opened (content_of (record x { table = unleafed t })) ≡ opened (content_of x)
       none other = let no = is_unled t [] (head (folding t)) other in ap (λ cs. opened (content_of (record x { table = applied_all t cs }))) no.nothing

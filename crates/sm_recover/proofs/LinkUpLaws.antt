@@ -26,9 +26,10 @@ use Rattle.sm_standing.specs.Checks.{has_uuid}
 use Rattle.sm_standing.specs.Entries.{folding, head, names_in}
 use Rattle.sm_standing.specs.Images.{Image, image_of}
 use Rattle.sm_standing.specs.Keeping.{IsKept}
+use Rattle.sm_standing.specs.Opened.{linked_past}
 use Rattle.sm_standing.specs.Outlines.{Link, link_of}
 use Rattle.sm_standing.specs.Plain.{is_plain, is_plain_name}
-use Rattle.sm_standing.specs.Unfolded.{linked_past, unfolded, without_entry}
+use Rattle.sm_standing.specs.Unfolded.{unfolded, without_entry}
 use Rattle.sm_standing.proofs.UnfoldedLaws.{alone}
 use Rattle.sm_ready.specs.Known.{Known, entry_of, known, machine_row, shape_in}
 use Rattle.sm_ready.specs.Does.{store_shape}

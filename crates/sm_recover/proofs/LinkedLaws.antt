@@ -17,7 +17,7 @@ use Rattle.vg_volumes.specs.declared.stores.Store.{Ghosts}
 use Rattle.sm_machine.specs.Shapes.{same_image}
 use Rattle.sm_record.specs.declared.records.Record.{Record}
 use Rattle.sm_mgt.specs.Places.{place_count}
-use Rattle.sm_standing.specs.Checks.{fault_but_leaf_of, has_twin, has_uuid, is_entry_linked}
+use Rattle.sm_standing.specs.Checks.{PassesButLeaf, has_twin, has_uuid, is_entry_linked}
 use Rattle.sm_standing.specs.Entries.{are_past, folding_uuids, head, image_with, is_among, is_at_stage, is_hidden, is_there, making, of_row, uuids_in}
 use Rattle.sm_standing.specs.Opened.{parent_name as parent_of, under_name}
 use Rattle.sm_standing.specs.Outlines.{Outline}
@@ -186,7 +186,7 @@ hidden_row t n r there is = (and_parts r.hidden (not r.fresh) (sym (ap (of_row (
 
 module _ {S : Type 0} (g : Ghosts S) (store : S) (xs : List TreeRow) (places : List (Option Record)) {t : VolumeTable} (c : IsEndable (g.site store) t) (are : AreRowsOf (read_volumes t) xs)
     (each : HasEachRow g.told (stored_with g store (shortened t)) (read_volumes t) xs) (long : length places ≡ place_count)
-    (pass : (x : Outline) → HasTable (g.site store).geometry t x → HasLinks xs x → HasPlaces places x → fault_but_leaf_of x ≡ None) where
+    (pass : (x : Outline) → HasTable (g.site store).geometry t x → HasLinks xs x → HasPlaces places x → PassesButLeaf x) where
   abbrev seen : Outline
   seen = checked.seen g store xs places (staged_end c) are each long pass
 

@@ -37,9 +37,9 @@ use Rattle.sm_machine.proofs.Debts.{is_itself, parent_apart}
 use Rattle.sm_machine.proofs.ImageNames.{other_image, same_image-sound}
 use Rattle.sm_run.specs.Between.{IsBetween}
 use Rattle.sm_standing.specs.Keeping.{IsKept}
+use Rattle.sm_standing.specs.Opened.{linked_past, past_parent}
 use Rattle.sm_standing.specs.Ordered.{Rising, disk_cmp}
 use Rattle.sm_standing.specs.Standing.{disks}
-use Rattle.sm_standing.specs.Unfolded.{linked_past, past_parent}
 use Rattle.sm_standing.proofs.DiskLists.{rising-disks}
 use Rattle.sm_standing.proofs.DisksShown.{disk_cmp_total}
 use Rattle.sm_disk.proofs.HeldLaws.{Keeps-none}

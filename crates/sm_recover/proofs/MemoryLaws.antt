@@ -9,11 +9,12 @@ use Rattle.vg_volumes.specs.declared.stores.Store.{Ghosts}
 use Rattle.common_laws.specs.Lists.{In}
 use Rattle.sm_record.specs.declared.records.Record.{Record}
 use Rattle.sm_mgt.specs.Places.{place_count}
-use Rattle.sm_standing.specs.Checks.{fault_but_leaf_of, is_misnamed}
+use Rattle.sm_standing.specs.Checks.{PassesButLeaf, is_misnamed}
 use Rattle.sm_standing.specs.Entries.{head, image_with, making}
+use Rattle.sm_standing.specs.Opened.{undone}
 use Rattle.sm_standing.specs.Outlines.{Outline}
 use Rattle.sm_standing.specs.Standing.{standing_volume}
-use Rattle.sm_standing.specs.Undone.{IsBeingEnlarged, undone}
+use Rattle.sm_standing.specs.Undone.{IsBeingEnlarged}
 use Rattle.sm_standing.proofs.UndoneLaws.{named_undone, stands_undone, undone_later}
 use Rattle.vhd_chain.specs.declared.rows.TreeRow.{TreeRow}
 use Rattle.sm_recover.specs.Backs.{rows_back}
@@ -31,7 +32,7 @@ use Rattle.sm_recover.proofs.UndoneLaws.{not_making, undone_nothing}
 
 module _ {S : Type 0} (g : Ghosts S) (store : S) (xs : List TreeRow) (places : List (Option Record)) {was : VolumeTable} (c : IsUndoable (g.site store) was) (are_read : AreRowsOf (read_volumes was) xs)
     (each_read : HasEachRow g.told (stored_with g store (shortened was)) (read_volumes was) xs) (long : length places ≡ place_count)
-    (pass : (x : Outline) → HasTable (g.site store).geometry was x → HasLinks xs x → HasPlaces places x → fault_but_leaf_of x ≡ None) where
+    (pass : (x : Outline) → HasTable (g.site store).geometry was x → HasLinks xs x → HasPlaces places x → PassesButLeaf x) where
   named : (r : Row) → In r was.volumes → is_misnamed was r ≡ false
   named = checked.named g store xs places (staged c) are_read each_read long pass
 

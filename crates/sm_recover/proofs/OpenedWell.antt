@@ -26,8 +26,8 @@ use Rattle.sm_standing.specs.Plain.{is_plain, is_plain_name}
 use Rattle.sm_standing.specs.Standing.{standing_volume}
 use Rattle.sm_standing.proofs.PlainDisks.{all-In}
 use Rattle.sm_standing.proofs.PlainKept.{plain_simple_name, simple_known_name}
-use Rattle.sm_standing.specs.Undone.{undone}
 use Rattle.sm_standing.specs.Keeping.{HasNoEmptySlot, IsHolding}
+use Rattle.sm_standing.specs.Opened.{undone}
 use Rattle.vhd_layout.specs.Contents.{content_at}
 use Rattle.vhd_volumes.specs.declared.heads.Head.{Head}
 use Rattle.vhd_volumes.specs.Truth.{IsStanding}

@@ -12,16 +12,15 @@ use Rattle.vhd_chain.specs.Trees.{row_name}
 use Rattle.vg_volumes.specs.Stored.{OnlyReads, Stored, stored}
 use Rattle.vg_volumes.specs.declared.stores.Store.{Ghosts}
 use Rattle.sm_machine.specs.Shapes.{Shape}
-use Rattle.sm_standing.specs.Checks.{first_fault_but_leaf}
+use Rattle.sm_standing.specs.Checks.{IsSoundButLeaf}
 use Rattle.sm_standing.specs.Entries.{folding, head}
 use Rattle.sm_standing.specs.Keeping.{HoldsWell}
-use Rattle.sm_standing.specs.Opened.{opened}
-use Rattle.sm_standing.specs.Undone.{undone}
-use Rattle.sm_standing.specs.Unfolded.{linked_by, linked_up, unfolded, unfolded_content}
+use Rattle.sm_standing.specs.Opened.{cleaned, linked_by, linked_up, opened, undone}
+use Rattle.sm_standing.specs.Unfolded.{unfolded, unfolded_content}
 use Rattle.sm_standing.proofs.PlainKept.{but_leaf_known}
 use Rattle.sm_standing.proofs.UndoneButLeaf.{but_leaf_opened}
 use Rattle.sm_standing.proofs.UnfoldedButLeaf.{unfolded_opened, unfolded_sound, unfolded_table}
-use Rattle.sm_ready.specs.Cleaned.{HasFewRemovals, cleaned}
+use Rattle.sm_ready.specs.Cleaned.{HasFewRemovals}
 use Rattle.sm_ready.specs.Frames.{HasCommits}
 use Rattle.sm_ready.specs.Does.{store_shape}
 use Rattle.sm_ready.specs.Known.{known, shape_in}
@@ -100,7 +99,7 @@ module _ {S : Type 0} {g : Ghosts S} {a b d : S} (r : OnlyReads g a b) (site : g
     area_behind = held_same (g.area b) (g.area d) keeps settled_before (settled settled_before) ∙ area_before
 
     -- what stands then is kept and shows the disks from before
-    pub same_first : first_fault_but_leaf (store_content g a) ≡ None → HoldsWell (store_content g a) → IsSame (store_content g a) (store_content g d)
+    pub same_first : IsSoundButLeaf (store_content g a) → HoldsWell (store_content g a) → IsSame (store_content g a) (store_content g d)
     same_first sound well =
         subst (λ (x : Stored). IsSame (store_content g a) (content_of x)) (sym stored_first)
         (first_same (stored g a) c (undone (uncopied t)) (reads (g.area a))
@@ -109,7 +108,7 @@ module _ {S : Type 0} {g : Ghosts S} {a b d : S} (r : OnlyReads g a b) (site : g
         stored_first : stored g d ≡ record { site = g.site a; table = undone (uncopied t); area = g.area a }
         stored_first = ap₂ (λ s u. let x : Stored = record { site = s; table = u; area = g.area d } in x) same_site first_behind ∙ ap (λ (h : Held). let x : Stored = record { site = g.site a; table = undone (uncopied t); area = h } in x) area_behind
 
-    pub link_begun : (m : Memory) → first_fault_but_leaf (store_content g a) ≡ None → HoldsWell (store_content g a) → IsReady (g.site a) (undone (unfolded t)) (g.area a) (known m) → IsLinkBegun (stored g d) (known m)
+    pub link_begun : (m : Memory) → IsSoundButLeaf (store_content g a) → HoldsWell (store_content g a) → IsReady (g.site a) (undone (unfolded t)) (g.area a) (known m) → IsLinkBegun (stored g d) (known m)
     link_begun m sound well ready = record {
       settled = settled settled_before;
       kept = (same_first sound well).kept;
@@ -118,7 +117,7 @@ module _ {S : Type 0} {g : Ghosts S} {a b d : S} (r : OnlyReads g a b) (site : g
     }
 
     -- what has the disks of what stands then has those of what stood
-    pub link_same : {v : VolumeTable} {image : ℕ → List ℕ} → first_fault_but_leaf (store_content g a) ≡ None → HoldsWell (store_content g a) → IsSame (store_content g d) (content_in (g.site d) v image)
+    pub link_same : {v : VolumeTable} {image : ℕ → List ℕ} → IsSoundButLeaf (store_content g a) → HoldsWell (store_content g a) → IsSame (store_content g d) (content_in (g.site d) v image)
         → IsSame (store_content g a) (content_in (g.site a) v image)
     link_same {v} {image} sound well left =
         let w = subst (λ z. IsSame (store_content g d) (content_in z v image)) same_site left in
@@ -140,7 +139,7 @@ module _ {S : Type 0} {g : Ghosts S} {a b d : S} (r : OnlyReads g a b) (site : g
     start n orderly rest ease = record { orderly = orderly; ready = rest.ready; settled = rest.settled; idle = ease.idle }
 
     -- and the shape that an opening is to make of it is the one that it is to make of what stood first
-    pub opened_behind : (m n : Memory) → first_fault_but_leaf (store_content g a) ≡ None → IsSettled (g.area a) → IsOrderly (g.site a) (undone (unfolded t)) (known m) → IsReady (g.site a) (undone (unfolded t)) (g.area a) (known m) → IsAtEase m
+    pub opened_behind : (m n : Memory) → IsSoundButLeaf (store_content g a) → IsSettled (g.area a) → IsOrderly (g.site a) (undone (unfolded t)) (known m) → IsReady (g.site a) (undone (unfolded t)) (g.area a) (known m) → IsAtEase m
         → IsAtRest (stored g e) (known n) → n.attached.disks ≡ [] → IsLinkRight t m.tree.rows
         → LinkedBy (head (folding (table_alone (g.table d)))) m.tree.rows (shape_in (g.site d) (unfolded (table_alone (g.table d))) (known m)) (store_shape g e n)
         → opened (content_of (stored g e)) ≡ opened (store_content g a)

@@ -9,7 +9,7 @@ use Rattle.vg_volumes.specs.Stored.{CanCommit, Commits, Stored, stored}
 use Rattle.vg_volumes.specs.Commits.{IsBefore}
 use Rattle.vg_volumes.specs.Sites.{area_size}
 use Rattle.vg_volumes.specs.declared.stores.Store.{Ghosts}
-use Rattle.sm_standing.specs.Undone.{applied_all}
+use Rattle.sm_standing.specs.Opened.{applied_all}
 use Rattle.sm_ready.proofs.ChainLaws.{tab}
 use Rattle.sm_ready.proofs.RoomLaws.{rows_commits}
 use Rattle.sm_recover.specs.Repairs.{IsLeftOf}

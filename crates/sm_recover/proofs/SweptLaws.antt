@@ -1,22 +1,31 @@
 -- What an opening makes of a store beside which memory is at rest, as a shape: that in memory, with the number that the table has once the
 -- new volumes are gone.
-use Rattle.std.proofs.Common.{◌≡◌, ◌⊎◌, inl, inr, ℕ, zero, suc, ◌≤◌, Bool, true, false, List, [], ◌∷◌, length, refl, sym, ap, ap₂, ◌∙◌, arith}
+use Rattle.std.proofs.Common.{◌≡◌, ◌⊎◌, inl, inr, ℕ, zero, suc, ◌≤◌, Bool, true, false, List, [], ◌∷◌, length, map, refl, sym, ap, ap₂, ◌∙◌, subst, arith}
 use Rattle.common_laws.specs.Lists.{In}
 use Rattle.sm_base.specs.declared.names.Name.{Name}
+use Rattle.sm_base.specs.declared.operations.Op.TheVariants.{Idle}
+use Rattle.sm_disk.specs.Held.{Held, reads}
 use Rattle.sm_disk.proofs.HeldLaws.{Keeps-none}
 use Rattle.vg_meta.specs.Changes.{applied}
 use Rattle.vg_meta.specs.Tables.{Row}
 use Rattle.vg_meta.specs.declared.changes.Change.TheVariants.{Remove}
 use Rattle.vg_volumes.specs.Stored.{Stored}
-use Rattle.sm_standing.specs.Opened.{opened}
-use Rattle.sm_ready.specs.Cleaned.{cleaned}
+use Rattle.sm_standing.specs.Images.{image_of}
+use Rattle.sm_standing.specs.Opened.{cleaned, opened}
+use Rattle.sm_standing.specs.Shapes.{shape, unattached}
+use Rattle.sm_standing.specs.Standing.{disks}
+use Rattle.sm_standing.proofs.OpenedLaws.{opened_simple, shape_same}
+use Rattle.sm_standing.proofs.UndoneLaws.{undone_none}
 use Rattle.sm_ready.specs.Known.{Known, shape_in}
 use Rattle.sm_ready.specs.Repairs.{IsAtRest, IsNewVolume, RestsAgain, content_of}
 use Rattle.sm_ready.proofs.AgainLaws.{again_less, again_none, again_then}
 use Rattle.sm_ready.proofs.CleanLaws.{cleaned_all, cleaned_more}
 use Rattle.sm_ready.proofs.NewVolumeLaws.{removed_shorter}
-use Rattle.sm_ready.proofs.OpenedLaws.{shape_opened}
+use Rattle.sm_ready.proofs.Orders.{none_making}
+use Rattle.sm_ready.proofs.RemoveLaws.{none_folding}
 use Rattle.sm_ready.proofs.RowLaws.{found_in}
+use Rattle.sm_ready.proofs.ShapeLaws.{law_shape}
+use Rattle.sm_ready.specs.Stores.{content_now}
 
 -- none is new, or one is
 some_new : (rs : List Row) → ((r : Row) → In r rs → r.fresh ≡ false) ⊎ ((r : Row) × In r rs × (r.fresh ≡ true))
@@ -39,6 +48,7 @@ pub record IsSweptOf (x : Stored) (m : Known) : Type 0 where
   pub none_new : (r : Row) → In r now.table.volumes → r.fresh ≡ false
   pub site : now.site ≡ x.site
   pub table : cleaned now.table ≡ cleaned x.table
+  pub area : now.area ≡ x.area
 
 module _ (x : Stored) (m : Known) (rest : IsAtRest x m) where
   new_at : (r : Row) → In r x.table.volumes → r.fresh ≡ true → IsNewVolume x.table r.name
@@ -57,29 +67,69 @@ module _ (x : Stored) (m : Known) (rest : IsAtRest x m) where
     none_new = behind.none_new;
     site = behind.site;
     table = behind.table ∙ cleaned_more x.table x.table (less n).table n refl new refl;
+    area = behind.area;
   }
 
 swept_of : (k : ℕ) (x : Stored) (m : Known) → length x.table.volumes ≤ k → IsAtRest x m → IsSweptOf x m
 swept_of zero x m short rest = by (some_new x.table.volumes)
   where
     by : ((r : Row) → In r x.table.volumes → r.fresh ≡ false) ⊎ ((r : Row) × In r x.table.volumes × (r.fresh ≡ true)) → IsSweptOf x m
-    by (inl none) = record { now = x; again = again_none x m; none_new = none; site = refl; table = refl }
+    by (inl none) = record { now = x; again = again_none x m; none_new = none; site = refl; table = refl; area = refl }
     by (inr w) = absurd (let fewer = removed_shorter x.table (less x m rest w.0.name).table w.0.name (new_at x m rest w.0 w.1 w.2) refl in omega (arith, fewer, short))
 swept_of (suc k) x m short rest = by (some_new x.table.volumes) (λ y fewer again. swept_of k y m fewer again)
   where
     by : ((r : Row) → In r x.table.volumes → r.fresh ≡ false) ⊎ ((r : Row) × In r x.table.volumes × (r.fresh ≡ true)) → ((y : Stored) → length y.table.volumes ≤ k → IsAtRest y m → IsSweptOf y m) → IsSweptOf x m
-    by (inl none) further = record { now = x; again = again_none x m; none_new = none; site = refl; table = refl }
+    by (inl none) further = record { now = x; again = again_none x m; none_new = none; site = refl; table = refl; area = refl }
     by (inr w) further =
         let n = w.0.name in
         let new = new_at x m rest w.0 w.1 w.2 in
         next_less x m rest n new (further (less x m rest n) (let fewer = removed_shorter x.table (less x m rest n).table n new refl in omega (arith, fewer, short)) ((first_less x m rest n new).rest rest))
 
-pub opened_shape : (x : Stored) (m : Known) → IsAtRest x m → m.attached.disks ≡ [] → opened (content_of x) ≡ record (shape_in x.site x.table m) { sequence = (cleaned x.table).sequence }
-unfolding shape_in
-opened_shape x m rest unattached =
-    let w = swept_of (length x.table.volumes) x m (omega arith) rest in
-    let y = w.now in
-    let again = w.again.rest rest in
-    let table : y.table ≡ cleaned x.table = cleaned_all y.site.count x.table y.table again.orderly.table w.none_new w.table in
-    sym (shape_opened x.area y.area m m rest.orderly rest.idle w.site table again.orderly again.ready w.none_new unattached rest.idle (w.again.same_disks rest) (w.again.same_images rest))
-    ∙ ap₂ (λ z u. shape_in z u m) w.site table
+-- the store without its new volumes
+abbrev swept : Stored → Stored
+swept x = record x { table = cleaned x.table }
+
+module _ (x : Stored) (m : Known) (rest : IsAtRest x m) where
+  w : IsSweptOf x m
+  w = swept_of (length x.table.volumes) x m (omega arith) rest
+
+  is_swept : (let v = w in v.now) ≡ swept x
+  is_swept =
+      let v = w in
+      let y = v.now in
+      let o = (v.again.rest rest).orderly in
+      ap₂ (λ s u. let z : Stored = record { site = s; table = u; area = y.area } in z) v.site (cleaned_all y.site.count x.table y.table o.table v.none_new v.table)
+      ∙ ap (λ (h : Held). let z : Stored = record { site = x.site; table = cleaned x.table; area = h } in z) v.area
+
+  again : RestsAgain x (swept x) m m
+  again = subst (λ z. RestsAgain x z m m) is_swept (let v = w in v.again)
+
+  none_new : (r : Row) → In r (cleaned x.table).volumes → r.fresh ≡ false
+  none_new = subst (λ (z : Stored). (r : Row) → In r z.table.volumes → r.fresh ≡ false) is_swept (let v = w in v.none_new)
+
+  opened_swept : opened (content_of x) ≡ shape (content_of (swept x))
+  opened_swept =
+      opened_simple (content_of x) (none_folding x.site x.table m rest.orderly rest.idle)
+      ∙ ap (λ t. shape (content_now x.site (cleaned t) x.area)) (undone_none x.table (none_making x.site x.table m rest.orderly))
+
+  -- the shape of what is in memory is that of the store
+  detached : (z : Stored) (k : Known) → k.attached.disks ≡ [] → k.op ≡ Idle → shape_in z.site z.table k ≡ unattached (shape_in z.site z.table k)
+  unfolding shape_in
+  detached z k attached idle = λ i. record (shape_in z.site z.table k) { attached = map (λ a. record { disk = a.0; mode = a.1 }) (attached i); op = idle i }
+
+  pub opened_shape : m.attached.disks ≡ [] → opened (content_of x) ≡ record (shape_in x.site x.table m) { sequence = (cleaned x.table).sequence }
+  unfolding shape_in
+  opened_shape attached =
+      let r = again.rest rest in
+      opened_swept ∙ law_shape x.site (cleaned x.table) x.area m none_new r.orderly r.ready ∙ sym (detached (swept x) m attached rest.idle)
+
+  -- memory that is ready beside the store once the new volumes and the records of no disk are gone has the shape that an opening is to make
+  pub shape_opened : (z : Stored) (k : Known) → RestsAgain x z m k → z.site ≡ x.site → z.table ≡ cleaned x.table → ((r : Row) → In r z.table.volumes → r.fresh ≡ false) → k.attached.disks ≡ [] → k.op ≡ Idle
+      → shape_in z.site z.table k ≡ opened (content_of x)
+  shape_opened z k then site table old attached idle =
+      let r = then.rest rest in
+      let is : z ≡ record { site = x.site; table = cleaned x.table; area = z.area } = ap₂ (λ s u. let y : Stored = record { site = s; table = u; area = z.area } in y) site table in
+      detached z k attached idle ∙ sym (law_shape z.site z.table z.area k old r.orderly r.ready) ∙ ap (λ y. shape (content_of y)) is
+      ∙ shape_same (content_of (swept x)) (reads z.area) (ap (λ y. disks (content_of y)) (sym is) ∙ then.same_disks rest ∙ sym (again.same_disks rest))
+      (λ n. ap (λ y. image_of (content_of y) n) (sym is) ∙ then.same_images rest n ∙ sym (again.same_images rest n))
+      ∙ sym opened_swept

@@ -17,7 +17,7 @@ use Rattle.common_laws.specs.Lists.{In}
 use Rattle.sm_machine.specs.WellFormed.{IsWellFormed, is_image_name}
 use Rattle.vhd_chain.specs.Trees.{row_name}
 use Rattle.vhd_chain.specs.declared.rows.TreeRow.{TreeRow}
-use Rattle.sm_ready.specs.Cleaned.{cleaned, filled}
+use Rattle.sm_standing.specs.Opened.{cleaned, filled}
 use Rattle.sm_ready.specs.Frames.{HasTrueImages}
 use Rattle.sm_ready.specs.Known.{known, row_face, shape_in, tree_face}
 use Rattle.sm_ready.specs.Sessions.{IsOrderlyStore}

@@ -15,12 +15,12 @@ use Rattle.vg_volumes.specs.Sites.{Site}
 use Rattle.vg_volumes.specs.Stored.{Stored}
 use Rattle.sm_standing.specs.Entries.{folding, head, image_with, is_there, making, of_row}
 use Rattle.sm_standing.specs.Keeping.{HasNoEmptySlot}
+use Rattle.sm_standing.specs.Opened.{applied_all, base_changes, changes_back, is_longer, new_count, undo_changes, undone, wanted}
 use Rattle.sm_standing.specs.PlainSound.{SimpleSound}
-use Rattle.sm_standing.specs.Undone.{applied_all, base_changes, changes_back, is_longer, undo_changes, undone, wanted}
 use Rattle.sm_standing.proofs.PlainDisks.{no_making, simple_folding}
 use Rattle.sm_standing.proofs.PlainKept.{plain_simple}
 use Rattle.sm_standing.proofs.UndoneButLeaf.{undoing_disks, undoing_kept}
-use Rattle.sm_ready.specs.Cleaned.{HasFewRemovals, new_count}
+use Rattle.sm_ready.specs.Cleaned.{HasFewRemovals}
 use Rattle.sm_ready.specs.Repairs.{IsSame, content_of}
 use Rattle.sm_ready.specs.Stores.{content_in}
 use Rattle.sm_recover.specs.Repairs.{IsLeftOf, IsUndoable}

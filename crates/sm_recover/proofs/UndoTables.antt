@@ -15,8 +15,8 @@ use Rattle.vg_meta.specs.declared.changes.Change.TheVariants.{Cut, Remove}
 use Rattle.vg_meta.proofs.ByName.{changes_by_name}
 use Rattle.vg_volumes.specs.Sites.{Site}
 use Rattle.sm_standing.specs.Entries.{head, image_with, is_making, is_there, making, of_row, second}
-use Rattle.sm_standing.specs.Opened.{under_name}
-use Rattle.sm_standing.specs.Undone.{IsBeingEnlarged, applied_all, base_changes, changes_back, is_longer, undo_changes, wanted}
+use Rattle.sm_standing.specs.Opened.{applied_all, base_changes, changes_back, is_longer, under_name, undo_changes, wanted}
+use Rattle.sm_standing.specs.Undone.{IsBeingEnlarged}
 use Rattle.sm_standing.specs.Plain.{is_simple, is_simple_name}
 use Rattle.sm_standing.proofs.PlainDisks.{all-In}
 use Rattle.sm_standing.proofs.UndoneLaws.{entry_row}

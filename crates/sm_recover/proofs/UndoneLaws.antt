@@ -12,9 +12,9 @@ use Rattle.vg_meta.proofs.NameLaws.{name_eq-false, name_eq-true}
 use Rattle.vg_volumes.specs.Sites.{Site}
 use Rattle.sm_machine.specs.Shapes.{image_limit}
 use Rattle.sm_standing.specs.Entries.{head, image_with, is_making, making}
-use Rattle.sm_standing.specs.Opened.{under_name}
+use Rattle.sm_standing.specs.Opened.{applied_all, changes_back, under_name, undone}
 use Rattle.sm_standing.specs.Plain.{is_plain, is_plain_name, is_simple}
-use Rattle.sm_standing.specs.Undone.{IsBeingEnlarged, applied_all, changes_back, undone}
+use Rattle.sm_standing.specs.Undone.{IsBeingEnlarged}
 use Rattle.sm_standing.proofs.DisksShown.{row_of-In}
 use Rattle.sm_standing.proofs.PlainDisks.{all-In}
 use Rattle.sm_standing.proofs.PlainKept.{all-of, simple_plain_name}

@@ -21,10 +21,9 @@ use Rattle.vg_meta.proofs.NameLaws.{name_eq-true}
 use Rattle.vg_meta.proofs.RowLaws.{row_of-without_other, row_of-without_same}
 use Rattle.vg_volumes.specs.Sites.{Site}
 use Rattle.sm_standing.specs.Entries.{are_past, folding, folding_uuids, head, image_with, is_among, is_at_stage, is_folding, is_fork_begun, is_fork_made, is_forking, is_inflating, is_making, making, of_row, second, uuids_in}
-use Rattle.sm_standing.specs.Opened.{under_name}
+use Rattle.sm_standing.specs.Opened.{base_changes, changes_back, is_longer, under_name, undo_changes, wanted}
 use Rattle.vg_meta.specs.declared.changes.Tag.TheVariants.{Hidden}
 use Rattle.sm_standing.specs.Plain.{is_known, is_known_name, is_simple, is_simple_name}
-use Rattle.sm_standing.specs.Undone.{base_changes, changes_back, is_longer, undo_changes, wanted}
 use Rattle.sm_standing.specs.Unfolded.{unfolded, without_entry}
 use Rattle.sm_standing.proofs.NamedLaws.{all_past}
 use Rattle.sm_standing.proofs.PlainDisks.{all-In}

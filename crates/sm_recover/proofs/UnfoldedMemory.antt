@@ -13,7 +13,7 @@ use Rattle.vg_volumes.specs.Sites.{Site}
 use Rattle.vg_volumes.specs.declared.stores.Store.{Ghosts}
 use Rattle.sm_record.specs.declared.records.Record.{Record}
 use Rattle.sm_mgt.specs.Places.{place_count}
-use Rattle.sm_standing.specs.Checks.{fault_but_leaf_of}
+use Rattle.sm_standing.specs.Checks.{PassesButLeaf}
 use Rattle.sm_standing.specs.Entries.{folding, head, image_with, is_folding, making}
 use Rattle.sm_standing.specs.Outlines.{Outline}
 use Rattle.sm_standing.specs.Unfolded.{unfolded}
@@ -90,7 +90,7 @@ no_link t xs are n folds = by (tree_row xs n) refl
 
 module _ {S : Type 0} (g : Ghosts S) (store : S) (xs : List TreeRow) (places : List (Option Record)) {t : VolumeTable} (c : IsEndable (g.site store) t) (are : AreRowsOf (read_volumes t) xs)
     (each : HasEachRow g.told (stored_with g store (shortened t)) (read_volumes t) xs) (long : length places ≡ place_count)
-    (pass : (x : Outline) → HasTable (g.site store).geometry t x → HasLinks xs x → HasPlaces places x → fault_but_leaf_of x ≡ None) where
+    (pass : (x : Outline) → HasTable (g.site store).geometry t x → HasLinks xs x → HasPlaces places x → PassesButLeaf x) where
   abbrev u : VolumeTable
   u = unfolded t
 
@@ -121,9 +121,9 @@ module _ {S : Type 0} (g : Ghosts S) (store : S) (xs : List TreeRow) (places : L
       let w = each r (read_in r i) filled in
       (w.0, w.1, row_moved g.told (stored_with g store t) (shortened t) (shortened u) r w.0 (short_as r.name (named_data r.name filled.image)) w.2)
 
-  pass_bare : (x : Outline) → HasTable (g.site store).geometry u x → HasLinks xs x → HasPlaces places x → fault_but_leaf_of x ≡ None
+  pass_bare : (x : Outline) → HasTable (g.site store).geometry u x → HasLinks xs x → HasPlaces places x → PassesButLeaf x
   pass_bare x has links in_places =
-      subst (λ v. fault_but_leaf_of (record x { table = v }) ≡ None) (sym has.table)
+      subst (λ v. PassesButLeaf (record x { table = v })) (sym has.table)
       (unfolded_but_leaf (g.site store).count (record x { table = t }) (λ n folds. links n ∙ no_link t xs are n folds) c.table
       (pass (record x { table = t }) (record { extent = has.extent; block = has.block; entries = has.entries; table = refl }) links (record { long = in_places.long; each = in_places.each })))
 

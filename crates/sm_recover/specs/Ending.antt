@@ -11,10 +11,8 @@ use Rattle.vg_volumes.specs.declared.stores.Store.{Ghosts}
 use Rattle.vg_meta.specs.declared.changes.Change.TheVariants.{Mark, Rename}
 use Rattle.vg_meta.specs.declared.changes.Tag.TheVariants.{Hidden}
 use Rattle.sm_standing.specs.Entries.{folding, head, is_leaf_renamed, making}
-use Rattle.sm_standing.specs.Leaves.{end_changes, ended, leaf_changes, leaf_gone, parent_changes}
-use Rattle.sm_standing.specs.Undone.{applied_all, undo_changes, wanted}
+use Rattle.sm_standing.specs.Opened.{applied_all, end_changes, ended, leaf_changes, leaf_gone, new_count, parent_changes, undo_changes, wanted}
 use Rattle.sm_standing.specs.Unfolded.{unfolded}
-use Rattle.sm_ready.specs.Cleaned.{new_count}
 use Rattle.vhd_chain.specs.Trees.{tree_row, without}
 use Rattle.vhd_chain.specs.declared.rows.TreeRow.{TreeRow}
 use Rattle.sm_recover.specs.Backs.{base_back}

@@ -12,8 +12,9 @@ use Rattle.vg_volumes.specs.Stored.{Stored}
 use Rattle.vg_volumes.specs.declared.stores.Store.{Ghosts}
 use Rattle.sm_machine.specs.Shapes.{Shape, risen}
 use Rattle.sm_standing.specs.Keeping.{IsKept}
+use Rattle.sm_standing.specs.Opened.{linked_past}
 use Rattle.sm_standing.specs.Standing.{disks}
-use Rattle.sm_standing.specs.Unfolded.{linked_past, unfolded}
+use Rattle.sm_standing.specs.Unfolded.{unfolded}
 use Rattle.sm_ready.specs.Does.{store_shape}
 use Rattle.sm_ready.specs.Known.{Known, entry_of}
 use Rattle.sm_ready.specs.Ready.{IsReady}

@@ -11,8 +11,7 @@ use Rattle.vg_meta.specs.declared.changes.Tag.TheVariants.{Hidden}
 use Rattle.vg_volumes.specs.Stored.{Leaves, stored}
 use Rattle.vg_volumes.specs.declared.stores.Store.{Ghosts}
 use Rattle.sm_standing.specs.Entries.{folding, head, of_row}
-use Rattle.sm_standing.specs.Opened.{under_name}
-use Rattle.sm_standing.specs.Undone.{applied_all, undo_changes, wanted}
+use Rattle.sm_standing.specs.Opened.{applied_all, under_name, undo_changes, wanted}
 use Rattle.sm_ready.specs.Sessions.{HasRows}
 use Rattle.sm_recover.specs.Repairs.{IsLeftOf}
 

@@ -4,10 +4,10 @@ use Rattle.sm_standing.specs.Contents.{Content}
 use Rattle.sm_disk.specs.Held.{IsSettled}
 use Rattle.vg_meta.specs.Roomy.{table_alone}
 use Rattle.vg_volumes.specs.declared.stores.Store.{Ghosts}
-use Rattle.sm_standing.specs.Checks.{first_fault, first_fault_but_leaf}
+use Rattle.sm_standing.specs.Checks.{first_fault, IsSoundButLeaf}
 use Rattle.sm_standing.specs.Keeping.{HoldsWell, IsKept}
+use Rattle.sm_standing.specs.Opened.{undone}
 use Rattle.sm_standing.specs.Standing.{disks}
-use Rattle.sm_standing.specs.Undone.{undone}
 use Rattle.sm_standing.specs.Unfolded.{unfolded}
 use Rattle.sm_ready.specs.Known.{known}
 use Rattle.sm_ready.specs.Ready.{IsReady}
@@ -29,6 +29,6 @@ pub record MayBeRepairedFrom (old new : Content) : Type 0 where
 -- a store in which no leaf is being folded held well what no opening tests, and memory is as the sectors say once all is undone
 pub record HeldWell {S : Type 0} (g : Ghosts S) (s : S) (m : Memory) : Type 0 where
   pub settled : IsSettled (g.area s)
-  pub sound : first_fault_but_leaf (store_content g s) ≡ None
+  pub sound : IsSoundButLeaf (store_content g s)
   pub well : HoldsWell (store_content g s)
   pub ready : IsReady (g.site s) (undone (unfolded (table_alone (g.table s)))) (g.area s) (known m)

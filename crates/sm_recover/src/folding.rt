@@ -3,7 +3,7 @@
 
 ghost use Rattle.std.specs.Prelude.{◌≡◌, false, OnOk, Some};
 ghost use Rattle.sm_standing.specs.Entries.{folding, head, making};
-ghost use Rattle.sm_standing.specs.Leaves.{leaf_changes, leaf_gone, parent_changes};
+ghost use Rattle.sm_standing.specs.Opened.{leaf_changes, leaf_gone, parent_changes};
 ghost use Rattle.vg_meta.specs.Roomy.{table_alone};
 ghost use Rattle.vg_volumes.specs.Stored.{Counts};
 ghost use Rattle.sm_ready.specs.Runs.{AllMay};

@@ -20,7 +20,7 @@ ghost use Rattle.sm_ready.specs.Stores.{store_content};
 ghost use Rattle.sm_standing.specs.Checks.{fault_of};
 ghost use Rattle.sm_standing.specs.Outlines.{Outline};
 ghost use Rattle.sm_standing.specs.Keeping.{HoldsWell};
-ghost use Rattle.sm_standing.specs.Undone.{undone};
+ghost use Rattle.sm_standing.specs.Opened.{undone};
 ghost use Rattle.sm_standing.specs.Unfolded.{unfolded};
 ghost use Rattle.sm_machine.specs.Shapes.{image_limit};
 ghost use Rattle.sm_checks.specs.Faults.{HasLinks, HasPlaces, HasTable, PassImages, table_faults};

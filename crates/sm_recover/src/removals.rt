@@ -7,13 +7,14 @@ ghost use Rattle.common_laws.specs.Lists.{In};
 ghost use Rattle.vg_meta.specs.Roomy.{table_alone};
 ghost use Rattle.vg_meta.specs.Tables.{Row};
 ghost use Rattle.vg_volumes.specs.Stored.{Counts, Leaves, stored};
-ghost use Rattle.sm_ready.specs.Cleaned.{cleaned, HasFewRemovals};
+ghost use Rattle.sm_ready.specs.Cleaned.{HasFewRemovals};
 ghost use Rattle.sm_ready.specs.Repairs.{IsAtRest, IsNewVolume, IsSame, RestsAgain};
 ghost use Rattle.sm_recover.specs.Repairs.{IsCheckedStore};
 ghost use Rattle.sm_ready.specs.Known.{Known};
 ghost use Rattle.sm_ready.specs.Orderly.{IsOrderly};
 ghost use Rattle.sm_ready.specs.Sessions.{HasRows};
 ghost use Rattle.sm_ready.specs.Stores.{content_in, store_content};
+ghost use Rattle.sm_standing.specs.Opened.{cleaned};
 
 use sm_base::{Failed, Name};
 use vg_meta::{Change, Table, Volume};

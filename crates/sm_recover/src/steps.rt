@@ -3,7 +3,7 @@
 ghost use Rattle.std.specs.Prelude.{◌≡◌, false, OnOk};
 ghost use Rattle.sm_ready.specs.Runs.{AllMay};
 ghost use Rattle.sm_recover.specs.Steps.{MakesAll, MakesPart};
-ghost use Rattle.sm_standing.specs.Undone.{wanted};
+ghost use Rattle.sm_standing.specs.Opened.{wanted};
 ghost use Rattle.vg_meta.specs.Changes.{HasRoom};
 ghost use Rattle.vg_meta.specs.Roomy.{table_alone};
 ghost use Rattle.vg_volumes.specs.Stored.{Counts};

@@ -4,10 +4,10 @@
 ghost use Rattle.std.specs.Prelude.{◌≡◌, ◌≤◌, false, None, Some, OnOk};
 ghost use Rattle.sm_base.specs.declared.names.Name.TheVariants.{Clone, Inflate};
 ghost use Rattle.sm_disk.specs.Held.{IsSettled, Keeps};
-ghost use Rattle.sm_standing.specs.Checks.{first_fault_but_leaf};
+ghost use Rattle.sm_standing.specs.Checks.{IsSoundButLeaf};
 ghost use Rattle.sm_standing.specs.Entries.{folding, head, of_row};
 ghost use Rattle.sm_standing.specs.Keeping.{HoldsWell};
-ghost use Rattle.sm_standing.specs.Undone.{changes_back, is_longer, undo_changes, undone};
+ghost use Rattle.sm_standing.specs.Opened.{changes_back, is_longer, undo_changes, undone};
 ghost use Rattle.vg_meta.specs.Roomy.{table_alone};
 ghost use Rattle.vg_meta.specs.Tables.{rows};
 ghost use Rattle.vg_volumes.specs.Stored.{Counts, Leaves};
@@ -43,7 +43,7 @@ pub fn undo<S: Store>(store: &mut S) -> Result<(), Failed>
     ensures few_left { Leaves S.Store store.new (λ t image. HasFewRemovals (table_alone (S.table store.old)) t) }
     ensures room { OnOk result (HasRows (S.table store.old) → HasRows (S.table store.new)) }
     ensures settled { OnOk result (S.told → IsSettled (S.area store.old) → IsSettled (S.area store.new)) }
-    ensures crash { Leaves S.Store store.new (λ t image. IsSettled (S.area store.old) → first_fault_but_leaf (store_content S.Store store.old) ≡ None
+    ensures crash { Leaves S.Store store.new (λ t image. IsSettled (S.area store.old) → IsSoundButLeaf (store_content S.Store store.old)
         → HoldsWell (store_content S.Store store.old) → IsSame (store_content S.Store store.old) (content_in (S.site store.old) t image)) }
 {
     make_first(store)?;

@@ -16,3 +16,5 @@ pub mod RemovedExample
 pub mod BetweenFooters
 pub mod RaisedExample
 pub mod ChainExample
+pub mod LeftShapes
+pub mod RelinkLeft

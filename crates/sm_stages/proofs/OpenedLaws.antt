@@ -13,7 +13,7 @@ use Rattle.sm_standing.specs.Contents.{records, is_record_of}
 use Rattle.sm_standing.specs.Entries.{image_with}
 use Rattle.standing_examples.specs.SmallContents.{record_row}
 use Rattle.sm_standing.specs.Images.{Image, image_of}
-use Rattle.sm_standing.specs.Opened.{Part, Work, begun, repaired, new_removed, extents_besides, in_name_order, row_of_part, opened}
+use Rattle.sm_stages.specs.ByParts.{Part, Work, begun, repaired, new_removed, extents_besides, in_name_order, row_of_part, opened_by_parts}
 use Rattle.sm_standing.specs.Shapes.{disk_record, image_row, shape, row_of as shape_row}
 use Rattle.sm_standing.specs.Standing.{standing_volume, disks, disk_at, uuids, with_uuid, in_order}
 use Rattle.sm_standing.specs.Forks.{IsForking}
@@ -44,8 +44,8 @@ made_from w ds = record {
   op = Idle;
 }
 
-pub opened_made : (t : VolumeTable) (area : ℕ → List ℕ) → opened (content_with t area) ≡ made_from (repaired t (begun (content_with t area))) (disks (content_with t area))
-unfolding opened made_from
+pub opened_made : (t : VolumeTable) (area : ℕ → List ℕ) → opened_by_parts (content_with t area) ≡ made_from (repaired t (begun (content_with t area))) (disks (content_with t area))
+unfolding opened_by_parts made_from
 opened_made t area = refl
 
 abbrev pub volume : Name → Bool → Bool → Option Image → Part
@@ -105,7 +105,7 @@ one_left sequence i = record { sequence = sequence; parts = records_part ∷ vol
 
 -- an opening of a table on an area whose parts these are, which leaves one image
 opened_one : (t : VolumeTable) (area : ℕ → List ℕ) (w : Work) (sequence : ℕ) (i : Image) (sectors : List (List ℕ)) → begun (content_with t area) ≡ w → repaired t w ≡ one_left sequence i
-    → disks (content_with t area) ≡ disk_of first_record sectors ∷ [] → opened (content_with t area) ≡ one_disk_shape sequence i
+    → disks (content_with t area) ≡ disk_of first_record sectors ∷ [] → opened_by_parts (content_with t area) ≡ one_disk_shape sequence i
 opened_one t area w sequence i sectors begins leaves shows =
     opened_made t area
     ∙ ap (λ v. made_from (repaired t v) (disks (content_with t area))) begins
@@ -128,9 +128,9 @@ fork_entry = entry_part (Clone first base second)
 undone : (s t : VolumeTable) (rs : List Record) (m : Name) (parts : Option Image → Work) (sequence : ℕ) → s ≡ t
     → IsForking unforked (content_with s (fork_area rs)) first base second (Vhd first) m
     → begun (content_with t (fork_area rs)) ≡ parts (image_of (content_with t (fork_area rs)) m)
-    → ((i : Image) → repaired t (parts (Some i)) ≡ one_left sequence i) → opened (content_with s (fork_area rs)) ≡ one_disk_shape sequence (top 17)
+    → ((i : Image) → repaired t (parts (Some i)) ≡ one_left sequence i) → opened_by_parts (content_with s (fork_area rs)) ≡ one_disk_shape sequence (top 17)
 undone s t rs m parts sequence is forks begins leaves =
-    ap (λ l. opened (content_with l (fork_area rs))) is
+    ap (λ l. opened_by_parts (content_with l (fork_area rs))) is
     ∙ opened_one t (fork_area rs) (parts (Some (top 17))) sequence (top 17) (written 17)
     (begins ∙ ap parts (sym (ap (λ l. image_of (content_with l (fork_area rs)) m) is) ∙ forks.image ∙ unforked_image)) (leaves (top 17))
     (sym (ap (λ l. disks (content_with l (fork_area rs))) is)
@@ -150,7 +150,7 @@ repaired_1 : (i : Image) → repaired fork_1 (parts_1 (Some i)) ≡ one_left 6 i
 unfolding new_removed row_of name_eq image_with
 repaired_1 i = refl
 
-pub opened_1 : opened (forking_at 1) ≡ one_disk_shape 6 (top 17)
+pub opened_1 : opened_by_parts (forking_at 1) ≡ one_disk_shape 6 (top 17)
 opened_1 = undone (fork_after 1) fork_1 (first_record ∷ []) (Vhd first) parts_1 6 is_fork_1 moment_1 begun_1 repaired_1
 
 -- it is the base, hidden or not
@@ -166,7 +166,7 @@ repaired_2 : (i : Image) → repaired fork_2 (base_parts 6 false (Some i)) ≡ o
 unfolding new_removed row_of name_eq image_with
 repaired_2 i = refl
 
-pub opened_2 : opened (forking_at 2) ≡ one_disk_shape 8 (top 17)
+pub opened_2 : opened_by_parts (forking_at 2) ≡ one_disk_shape 8 (top 17)
 opened_2 = undone (fork_after 2) fork_2 (first_record ∷ []) (Vhd base) (base_parts 6 false) 8 is_fork_2 moment_2 begun_2 repaired_2
 
 begun_3 : begun (content_with fork_3 early) ≡ base_parts 7 true (image_of (content_with fork_3 early) (Vhd base))
@@ -178,7 +178,7 @@ repaired_3 : (i : Image) → repaired fork_3 (base_parts 7 true (Some i)) ≡ on
 unfolding new_removed row_of name_eq image_with
 repaired_3 i = refl
 
-pub opened_3 : opened (forking_at 3) ≡ one_disk_shape 10 (top 17)
+pub opened_3 : opened_by_parts (forking_at 3) ≡ one_disk_shape 10 (top 17)
 opened_3 = undone (fork_after 3) fork_3 (first_record ∷ []) (Vhd base) (base_parts 7 true) 10 is_fork_3 moment_3 begun_3 repaired_3
 
 -- the disk's new image is there
@@ -194,7 +194,7 @@ repaired_4 : (o : Option Image) (i : Image) → repaired fork_4 (parts_4 o (Some
 unfolding new_removed row_of name_eq image_with
 repaired_4 o i = refl
 
-pub opened_4 : opened (forking_at 4) ≡ one_disk_shape 12 (top 17)
+pub opened_4 : opened_by_parts (forking_at 4) ≡ one_disk_shape 12 (top 17)
 opened_4 =
     let o = image_of (content_with fork_4 early) (Vhd first) in
     undone (fork_after 4) fork_4 (first_record ∷ []) (Vhd base) (parts_4 o) 12 is_fork_4 moment_4 begun_4 (repaired_4 o)
@@ -214,7 +214,7 @@ repaired_5 : (o p : Option Image) (i : Image) → repaired fork_5 (both_parts 9 
 unfolding new_removed row_of name_eq image_with
 repaired_5 o p i = refl
 
-pub opened_5 : opened (forking_at 5) ≡ one_disk_shape 14 (top 17)
+pub opened_5 : opened_by_parts (forking_at 5) ≡ one_disk_shape 14 (top 17)
 opened_5 =
     let o = image_of (content_with fork_5 early) (Vhd first) in
     let p = image_of (content_with fork_5 early) (Vhd second) in
@@ -230,7 +230,7 @@ repaired_6 : (o p : Option Image) (i : Image) → repaired fork_6 (both_parts 10
 unfolding new_removed row_of name_eq image_with
 repaired_6 o p i = refl
 
-pub opened_6 : opened (filled_at 6) ≡ one_disk_shape 15 (top 17)
+pub opened_6 : opened_by_parts (filled_at 6) ≡ one_disk_shape 15 (top 17)
 opened_6 =
     let o = image_of (content_with fork_6 late) (Vhd first) in
     let p = image_of (content_with fork_6 late) (Vhd second) in
@@ -245,7 +245,7 @@ repaired_7 : (o p : Option Image) (i : Image) → repaired fork_7 (both_parts 11
 unfolding new_removed row_of name_eq image_with
 repaired_7 o p i = refl
 
-pub opened_7 : opened (filled_at 7) ≡ one_disk_shape 16 (top 17)
+pub opened_7 : opened_by_parts (filled_at 7) ≡ one_disk_shape 16 (top 17)
 opened_7 =
     let o = image_of (content_with fork_7 late) (Vhd first) in
     let p = image_of (content_with fork_7 late) (Vhd second) in
@@ -311,9 +311,9 @@ swap_repaired_1 : (i : Image) → repaired swap_1 (with_entry 5 (volume (Old fir
 unfolding new_removed row_of name_eq image_with
 swap_repaired_1 i = refl
 
-pub swap_opened_1 : opened (swapping_at 1) ≡ one_disk_shape 9 (top 34)
+pub swap_opened_1 : opened_by_parts (swapping_at 1) ≡ one_disk_shape 9 (top 34)
 swap_opened_1 =
-    ap (λ t. opened (content_with t swap_area)) is_swap_1
+    ap (λ t. opened_by_parts (content_with t swap_area)) is_swap_1
     ∙ opened_one swap_1 swap_area (with_entry 5 (volume (Old first) false false None ∷ volume (Vhd base) true false (Some (top 34)) ∷ leaf_entry ∷ [])) 9 (top 34) (written 34)
     (swap_begun_1 ∙ ap (λ o. with_entry 5 (volume (Old first) false false None ∷ volume (Vhd base) true false o ∷ leaf_entry ∷ [])) swap_image_1) (swap_repaired_1 (top 34))
     (sym (ap (λ t. disks (content_with t swap_area)) is_swap_1) ∙ swap_disks_1)
@@ -330,9 +330,9 @@ swap_repaired_2 : (i : Image) → repaired swap_2 (with_entry 6 (volume (Old fir
 unfolding new_removed row_of name_eq image_with
 swap_repaired_2 i = refl
 
-pub swap_opened_2 : opened (swapping_at 2) ≡ one_disk_shape 9 (top 34)
+pub swap_opened_2 : opened_by_parts (swapping_at 2) ≡ one_disk_shape 9 (top 34)
 swap_opened_2 =
-    ap (λ t. opened (content_with t swap_area)) is_swap_2
+    ap (λ t. opened_by_parts (content_with t swap_area)) is_swap_2
     ∙ opened_one swap_2 swap_area (with_entry 6 (volume (Old first) false false None ∷ volume (Vhd first) true false (Some (top 34)) ∷ leaf_entry ∷ [])) 9 (top 34) (written 34)
     (swap_begun_2 ∙ ap (λ o. with_entry 6 (volume (Old first) false false None ∷ volume (Vhd first) true false o ∷ leaf_entry ∷ [])) swap_image_2) (swap_repaired_2 (top 34))
     (sym (ap (λ t. disks (content_with t swap_area)) is_swap_2) ∙ swap_disks_2)
@@ -349,9 +349,9 @@ swap_repaired_3 : (i : Image) → repaired swap_3 (with_entry 7 (volume (Old fir
 unfolding new_removed row_of name_eq image_with
 swap_repaired_3 i = refl
 
-pub swap_opened_3 : opened (swapping_at 3) ≡ one_disk_shape 9 (top 34)
+pub swap_opened_3 : opened_by_parts (swapping_at 3) ≡ one_disk_shape 9 (top 34)
 swap_opened_3 =
-    ap (λ t. opened (content_with t swap_area)) is_swap_3
+    ap (λ t. opened_by_parts (content_with t swap_area)) is_swap_3
     ∙ opened_one swap_3 swap_area (with_entry 7 (volume (Old first) false false None ∷ volume (Vhd first) false false (Some (top 34)) ∷ leaf_entry ∷ [])) 9 (top 34) (written 34)
     (swap_begun_3 ∙ ap (λ o. with_entry 7 (volume (Old first) false false None ∷ volume (Vhd first) false false o ∷ leaf_entry ∷ [])) swap_image_3) (swap_repaired_3 (top 34))
     (sym (ap (λ t. disks (content_with t swap_area)) is_swap_3) ∙ swap_disks_3)
@@ -368,9 +368,9 @@ swap_repaired_4 : (i : Image) → repaired swap_4 (with_entry 8 (volume (Vhd fir
 unfolding new_removed row_of name_eq image_with
 swap_repaired_4 i = refl
 
-pub swap_opened_4 : opened (swapping_at 4) ≡ one_disk_shape 9 (top 34)
+pub swap_opened_4 : opened_by_parts (swapping_at 4) ≡ one_disk_shape 9 (top 34)
 swap_opened_4 =
-    ap (λ t. opened (content_with t swap_area)) is_swap_4
+    ap (λ t. opened_by_parts (content_with t swap_area)) is_swap_4
     ∙ opened_one swap_4 swap_area (with_entry 8 (volume (Vhd first) false false (Some (top 34)) ∷ leaf_entry ∷ [])) 9 (top 34) (written 34)
     (swap_begun_4 ∙ ap (λ o. with_entry 8 (volume (Vhd first) false false o ∷ leaf_entry ∷ [])) swap_image_4) (swap_repaired_4 (top 34))
     (sym (ap (λ t. disks (content_with t swap_area)) is_swap_4) ∙ swap_disks_4)
@@ -387,9 +387,9 @@ swap_repaired_5 : (i : Image) → repaired swap_5 (with_entry 9 (volume (Vhd fir
 unfolding new_removed row_of name_eq image_with
 swap_repaired_5 i = refl
 
-pub swap_opened_5 : opened (swapping_at 5) ≡ one_disk_shape 9 (top 34)
+pub swap_opened_5 : opened_by_parts (swapping_at 5) ≡ one_disk_shape 9 (top 34)
 swap_opened_5 =
-    ap (λ t. opened (content_with t swap_area)) is_swap_5
+    ap (λ t. opened_by_parts (content_with t swap_area)) is_swap_5
     ∙ opened_one swap_5 swap_area (with_entry 9 (volume (Vhd first) false false (Some (top 34)) ∷ [])) 9 (top 34) (written 34)
     (swap_begun_5 ∙ ap (λ o. with_entry 9 (volume (Vhd first) false false o ∷ [])) swap_image_5) (swap_repaired_5 (top 34))
     (sym (ap (λ t. disks (content_with t swap_area)) is_swap_5) ∙ swap_disks_5)

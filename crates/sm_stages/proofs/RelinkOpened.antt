@@ -12,7 +12,7 @@ use Rattle.vhd_fields.specs.ParentNames.{IsParent}
 use Rattle.layout_examples.specs.SmallImages.{table_of, empty}
 use Rattle.sm_standing.specs.Entries.{making, image_with}
 use Rattle.sm_standing.specs.Images.{Image, image_of, image_extents}
-use Rattle.sm_standing.specs.Opened.{Work, begun, repaired, new_removed, opened}
+use Rattle.sm_stages.specs.ByParts.{Work, begun, repaired, new_removed, opened_by_parts}
 use Rattle.sm_standing.specs.Standing.{disks}
 use Rattle.sm_stages.specs.Moments.{top, empty_over}
 use Rattle.sm_stages.specs.Opened.{relinked_shape}
@@ -28,7 +28,7 @@ unfolding IsParent IsName
 second_named = (record { long = refl; bytes = all_bytes second refl }, refl)
 
 -- an image with another parent
-abbrev under_parent : Option Name → Image → Image
+abbrev pub under_parent : Option Name → Image → Image
 under_parent p i = record i { parent = p }
 
 -- the disk's image over the hidden one, in a table that has its row
@@ -60,13 +60,13 @@ base_image =
     (λ s below. area_first (top_image 17) (empty_child (Vhd second)) (empty_child (Vhd base)) (first_record ∷ []) (32 * 16 + s) s refl below) (top_valid 17)
 
 -- each with its parent written out
-first_linked : image_of relinking (Vhd first) ≡ Some (under_parent (Some (Vhd second)) (empty_over second))
+pub first_linked : image_of relinking (Vhd first) ≡ Some (under_parent (Some (Vhd second)) (empty_over second))
 first_linked = first_image ∙ ap (λ p. Some (under_parent p (empty_over second))) over_second
 
-second_linked : image_of relinking (Vhd second) ≡ Some (under_parent (Some (Vhd base)) (empty_over base))
+pub second_linked : image_of relinking (Vhd second) ≡ Some (under_parent (Some (Vhd base)) (empty_over base))
 second_linked = second_image ∙ ap (λ p. Some (under_parent p (empty_over base))) (child_parent (Vhd base) (table_of []) empty base_named refl)
 
-base_linked : image_of relinking (Vhd base) ≡ Some (under_parent None (top 17))
+pub base_linked : image_of relinking (Vhd base) ≡ Some (under_parent None (top 17))
 base_linked = base_image ∙ ap (λ p. Some (under_parent p (top 17))) (top_parent 17)
 
 abbrev parts : Option Image → Option Image → Option Image → Work
@@ -95,7 +95,7 @@ begun_linked =
     ∙ ap (λ o. parts o (image_of relinking (Vhd second)) (image_of relinking (Vhd base))) first_linked
     ∙ ap₂ (λ p q. parts (Some (under_parent (Some (Vhd second)) (empty_over second))) p q) second_linked base_linked
 
-pub relink_opened : opened relinking ≡ relinked_shape (disks relinking)
+pub relink_opened : opened_by_parts relinking ≡ relinked_shape (disks relinking)
 relink_opened =
     opened_made relink_table relinking.area
     ∙ ap (λ w. made_from (repaired relink_table w) (disks relinking)) begun_linked

@@ -8,12 +8,13 @@
 //! of a relink that stopped is what it should be.
 //!
 //! The definitions are in `specs/`: `WorkedImages` (images byte for byte), `Worked` (contents and commits), `Moments` (what
-//! those images say, and the disks), `Opened` (shapes).
+//! those images say, and the disks), `Opened` (shapes), `ByParts` (what an opening makes, by edits of a working copy of the
+//! volumes: a second description, made by itself, beside the commits that define it).
 //!
 //! All are examples. They meet the hypotheses of the laws commit by commit (`moments`, `volumes`), on an image that is removed and
 //! on one that grows (`changes`), and on reads through chains (`chains`); they read images, disks and checks off worked bytes
-//! (`bytes`), and compute what an opening makes of a fork, of a swap and of a relink that stopped, and that its checks pass
-//! (`openings`). Only the examples of `ready_examples` stand on this crate.
+//! (`bytes`), and compute what an opening makes of a fork, of a swap and of a relink that stopped, by both descriptions, and that
+//! its checks pass (`openings`). Only the examples of `ready_examples` stand on this crate.
 #![tactic(auto)]
 
 mod bytes;
@@ -28,7 +29,7 @@ pub use chains::{example_copy_below, example_guest_write, example_relink, exampl
 pub use changes::{example_raised, example_removed};
 pub use moments::{example_fork, example_fork_volumes, example_swap};
 pub use openings::{
-    example_fork_sound, example_fork_undone, example_relink_ended, example_relink_sound,
-    example_swap_done, example_swap_sound,
+    example_by_parts, example_fork_sound, example_fork_undone, example_relink_ended,
+    example_relink_sound, example_swap_done, example_swap_sound,
 };
 pub use volumes::example_same_volume;

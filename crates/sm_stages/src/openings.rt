@@ -5,6 +5,7 @@ ghost use Rattle.sm_standing.specs.Checks.{first_fault};
 ghost use Rattle.sm_standing.specs.Opened.{opened};
 ghost use Rattle.sm_standing.specs.Shapes.{shape};
 ghost use Rattle.sm_standing.specs.Standing.{disks};
+ghost use Rattle.sm_stages.specs.ByParts.{opened_by_parts};
 ghost use Rattle.sm_stages.specs.Moments.{top, written, disk_of};
 ghost use Rattle.sm_stages.specs.Opened.{one_disk_shape, relinked_shape};
 ghost use Rattle.sm_stages.specs.Worked.{first_record, unforked, forking_at, filled_at, uncopied, swapping_at, relinking, relinked_at};
@@ -66,4 +67,22 @@ pub fn example_relink_sound()
 /// A relink that stopped: the disk is linked to the parent of the hidden image, which stays without children.
 pub fn example_relink_ended()
     ensures { opened relinking ≡ relinked_shape (disks relinking) }
+{}
+
+/// By edits of a working copy of the volumes, in the order in which the format lists the repairs, the same comes out at each of
+/// these moments as by commits.
+pub fn example_by_parts()
+    ensures fork_1 { opened_by_parts (forking_at 1) ≡ opened (forking_at 1) }
+    ensures fork_2 { opened_by_parts (forking_at 2) ≡ opened (forking_at 2) }
+    ensures fork_3 { opened_by_parts (forking_at 3) ≡ opened (forking_at 3) }
+    ensures fork_4 { opened_by_parts (forking_at 4) ≡ opened (forking_at 4) }
+    ensures fork_5 { opened_by_parts (forking_at 5) ≡ opened (forking_at 5) }
+    ensures fork_6 { opened_by_parts (filled_at 6) ≡ opened (filled_at 6) }
+    ensures fork_7 { opened_by_parts (filled_at 7) ≡ opened (filled_at 7) }
+    ensures swap_1 { opened_by_parts (swapping_at 1) ≡ opened (swapping_at 1) }
+    ensures swap_2 { opened_by_parts (swapping_at 2) ≡ opened (swapping_at 2) }
+    ensures swap_3 { opened_by_parts (swapping_at 3) ≡ opened (swapping_at 3) }
+    ensures swap_4 { opened_by_parts (swapping_at 4) ≡ opened (swapping_at 4) }
+    ensures swap_5 { opened_by_parts (swapping_at 5) ≡ opened (swapping_at 5) }
+    ensures relink { opened_by_parts relinking ≡ opened relinking }
 {}

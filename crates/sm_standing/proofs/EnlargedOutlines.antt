@@ -6,8 +6,9 @@ use Rattle.sm_base.specs.declared.names.Name.TheVariants.{Inflate}
 use Rattle.vg_meta.specs.Tables.{VolumeTable}
 use Rattle.sm_standing.specs.Checks.{fault_of}
 use Rattle.sm_standing.specs.Enlarging.{HasEntry, IsEnlarging}
+use Rattle.sm_standing.specs.Opened.{undone}
 use Rattle.sm_standing.specs.Outlines.{Outline}
-use Rattle.sm_standing.specs.Undone.{IsBeingEnlarged, undone, undone_at}
+use Rattle.sm_standing.specs.Undone.{IsBeingEnlarged, undone_at}
 use Rattle.sm_standing.proofs.EnlargingLaws.{enlarging_sound, sound_before}
 use Rattle.sm_standing.proofs.UndoneLaws.{entry_there, is_enlarging}
 

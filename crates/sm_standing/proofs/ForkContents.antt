@@ -1,5 +1,5 @@
 -- What stands while a fork is undone, and behind it: the images, and that each check passes.
-use Rattle.std.proofs.Common.{◌≡◌, ◌⊎◌, inl, inr, ℕ, zero, suc, ◌*◌, ◌<◌, ◌≤◌, Bool, true, false, not, ◌&&◌, ◌||◌, ◌==◌, List, [], ◌∷◌, length, nat_le, nat_lt, Option, Some, None, is_some, is_none, refl, sym, ap, ap₂, ◌∙◌, subst, arith, bytes_eq}
+use Rattle.std.proofs.Common.{◌≡◌, ◌⊎◌, inl, inr, ℕ, zero, suc, ◌*◌, ◌<◌, ◌≤◌, Bool, true, false, not, ◌&&◌, ◌||◌, ◌==◌, List, [], ◌∷◌, length, nat_le, nat_lt, Option, Some, None, is_none, refl, sym, ap, ap₂, ◌∙◌, subst, arith, bytes_eq}
 use Rattle.std.specs.List.{filter, list_any}
 use Rattle.sm_base.specs.Kinds.{is_image as is_data, is_entry}
 use Rattle.sm_base.specs.Numbers.{IsGeometry}
@@ -24,7 +24,7 @@ use Rattle.sm_standing.specs.Besides.{PassesAlone, is_settled_name}
 use Rattle.sm_standing.specs.Changes.{parent_of}
 use Rattle.sm_standing.specs.Checks.{chain_length, children, children_with, has_twin, is_base_of, is_damaged, is_entry_linked, is_fork_linked, is_image_wrong, is_linked, is_misplaced, is_no_larger, is_orphaned, is_parent_right, parent_is, tree_wrong_as}
 use Rattle.sm_standing.specs.Contents.{Content, record_count, record_of, row, sectors_of, size_of}
-use Rattle.sm_standing.specs.Entries.{are_past, folding, folding_uuids, head, image_with, is_among, is_at_stage, is_fork_begun, is_fork_made, is_forking, is_filled, is_hidden, is_making, is_past, is_there, is_visible_or_gone, making, of_row, second, uuids_in}
+use Rattle.sm_standing.specs.Entries.{are_past, folding, folding_uuids, head, image_with, is_among, is_at_stage, is_fork_begun, is_fork_made, is_forking, is_hidden, is_making, is_past, making, of_row, second, uuids_in}
 use Rattle.sm_standing.specs.Forks.{IsForkPlace, IsForking, forked}
 use Rattle.sm_standing.specs.Images.{Image, image_of}
 use Rattle.sm_standing.specs.Keeping.{HasNoEmptySlot, IsHolding}
@@ -39,7 +39,8 @@ use Rattle.sm_standing.specs.Worlds.{with_table}
 use Rattle.sm_standing.proofs.ApartLaws.{beside, plainly_same, stands_beside, stands_making}
 use Rattle.sm_standing.proofs.BesideLaws.{IsAlikeApart, by_name, chain_alike, parent_alike}
 use Rattle.sm_standing.proofs.DisksShown.{row_of-In}
-use Rattle.sm_standing.proofs.ForkLaws.{IsUnforked, base_among, disk_among, fork_disk, fork_new, fork_other, forking_disks, twin_among, which}
+use Rattle.sm_standing.proofs.ForkNames.{AreNamed, IsThree, base_old, entry_speaks, named_so, new_speaks, raw_speaks, vhd_speaks}
+use Rattle.sm_standing.proofs.ForkLaws.{IsUnforked, fork_disk, fork_new, fork_other, forking_disks, which}
 use Rattle.sm_standing.proofs.ForkParents.{linked_image, linked_then, no_entry_link, parent_right, parents}
 use Rattle.sm_standing.proofs.ForkParts.{IsForkPart, entry_found, kept_as, part_now}
 use Rattle.sm_standing.proofs.ForkTables.{IsForkStage, IsNew, only_entry, simple_row}
@@ -67,39 +68,8 @@ module _ (c : Content) (disk base twin : List ℕ) (n : Name) (table : IsTable c
   abbrev o : Outline
   o = outline c
 
-  abbrev IsThree : List ℕ → Type 0
-  IsThree u = (u ≡ disk) ⊎ ((u ≡ base) ⊎ (u ≡ twin))
-
-  among : (u : List ℕ) → IsThree u → is_among us u ≡ true
-  among u (inl is) = ap (is_among us) is ∙ disk_among disk base twin
-  among u (inr (inl is)) = ap (is_among us) is ∙ base_among disk base twin
-  among u (inr (inr is)) = ap (is_among us) is ∙ twin_among disk base twin
-
-  pub vhd_speaks : (u : List ℕ) → IsThree u → is_apart us (Vhd u) ≡ false
-  vhd_speaks u k = ap (λ b. not (b || false)) (among u k)
-
-  pub raw_speaks : (u : List ℕ) → IsThree u → is_apart us (Raw u) ≡ false
-  raw_speaks u k = ap (λ b. not (b || false)) (among u k)
-
-  pub old_speaks : (u : List ℕ) → IsThree u → is_apart us (Old u) ≡ false
-  old_speaks u k = ap (λ b. not (b || false)) (among u k)
-
-  pub entry_speaks : is_apart us e ≡ false
-  entry_speaks = ap (λ b. not (b || (is_among us base || (is_among us twin || false)))) (disk_among disk base twin)
-
-  pub new_speaks : (x : Name) → (x ≡ Vhd disk) ⊎ (x ≡ Vhd twin) → is_apart us x ≡ false
-  new_speaks x (inl is) = ap (is_apart us) is ∙ vhd_speaks disk (inl refl)
-  new_speaks x (inr is) = ap (is_apart us) is ∙ vhd_speaks twin (inr (inr refl))
-
   extent_some : 0 < c.extent
   extent_some = let least = geometry.extent_least in omega (arith, least)
-
-  -- a base is none of the new images
-  pub base_old : (x : Name) → (x ≡ Vhd base) ⊎ (x ≡ Raw base) → (x ≡ Vhd disk) ⊎ (x ≡ Vhd twin) → ⊥
-  base_old x (inl is) (inl k) = σ.disk_base (let z = sym k ∙ is in cc)
-  base_old x (inl is) (inr k) = σ.base_twin (let z = sym is ∙ k in cc)
-  base_old x (inr is) (inl k) = let z = sym k ∙ is in cc
-  base_old x (inr is) (inr k) = let z = sym k ∙ is in cc
 
   module _ (v : VolumeTable) (m : Name) (hidden : Bool) (p : IsForkPart c.count c.table disk base twin n σ.own v m hidden) (area : ℕ → List ℕ) (same : IsSameArea c area) where
     abbrev d : Content
@@ -244,11 +214,11 @@ module _ (c : Content) (disk base twin : List ℕ) (n : Name) (table : IsTable c
 
         of_settled : is_apart us x ≡ true → (is_apart us q ≡ true) ⊎ ((q ≡ n) × ((n ≡ Vhd base) ⊎ (n ≡ Raw base)) × ((x ≡ Vhd disk) ⊎ (x ≡ Vhd twin))) → is_apart us q ≡ true
         of_settled apart (inl is) = is
-        of_settled apart (inr k) = absurd (true≢false (sym apart ∙ new_speaks x k.2))
+        of_settled apart (inr k) = absurd (true≢false (sym apart ∙ new_speaks disk base twin x k.2))
 
         of_image : (is_apart us q ≡ true) ⊎ ((q ≡ n) × ((n ≡ Vhd base) ⊎ (n ≡ Raw base)) × ((n ≡ Vhd disk) ⊎ (n ≡ Vhd twin))) → is_apart us q ≡ true
         of_image (inl is) = is
-        of_image (inr k) = absurd (base_old n k.1 k.2)
+        of_image (inr k) = absurd (base_old disk base twin c.table n σ n k.1 k.2)
 
         of_new : hidden ≡ true → m ≡ n → (is_apart us q ≡ true) ⊎ ((q ≡ n) × ((n ≡ Vhd base) ⊎ (n ≡ Raw base)) × ((x ≡ Vhd disk) ⊎ (x ≡ Vhd twin)))
             → (is_apart us q ≡ true) ⊎ ((q ≡ m) × (hidden ≡ true) × (m ≡ n) × ((n ≡ Vhd base) ⊎ (n ≡ Raw base)) × ((x ≡ Vhd disk) ⊎ (x ≡ Vhd twin)))
@@ -302,7 +272,7 @@ module _ (c : Content) (disk base twin : List ℕ) (n : Name) (table : IsTable c
       where
         by : (is_apart us q ≡ true) ⊎ ((q ≡ n) × ((n ≡ Vhd base) ⊎ (n ≡ Raw base)) × ((x ≡ Vhd disk) ⊎ (x ≡ Vhd twin))) → is_apart us q ≡ true
         by (inl is) = is
-        by (inr k) = absurd (true≢false (sym apart ∙ new_speaks x k.2))
+        by (inr k) = absurd (true≢false (sym apart ∙ new_speaks disk base twin x k.2))
 
     pub alike : IsAlikeApart o od us
     alike = record {
@@ -343,7 +313,7 @@ module _ (c : Content) (disk base twin : List ℕ) (n : Name) (table : IsTable c
       where
         by : (q : Name) → (is_apart us q ≡ true) ⊎ ((q ≡ n) × ((n ≡ Vhd base) ⊎ (n ≡ Raw base)) × ((n ≡ Vhd disk) ⊎ (n ≡ Vhd twin))) → chain_length od k q ≡ chain_length o k q
         by q (inl is) = chain_alike o od us alike k q is
-        by q (inr z) = absurd (base_old n z.1 z.2)
+        by q (inr z) = absurd (base_old disk base twin c.table n σ n z.1 z.2)
 
     chain_new : (k : ℕ) (x : Name) → od.links x ≡ o.links x → m ≡ n → chain_length od (suc k) x ≡ chain_length o (suc k) x
     chain_new k x links here = chain_step k x x links (λ q i at up. by q (parents c disk base twin n entry s σ x q i at up))
@@ -371,225 +341,10 @@ module _ (c : Content) (disk base twin : List ℕ) (n : Name) (table : IsTable c
         by None up = ap (λ w. elim w as (λ _. Bool) [ None ↦ true | Some q ↦ is_parent_right od i.size q ]) up
         by (Some q) up = ap (λ w. elim w as (λ _. Bool) [ None ↦ true | Some q ↦ is_parent_right od i.size q ]) up ∙ of q up (parents_now y q i (links ∙ at) up)
 
-    -- ---- what is not there
+    -- ---- names, and the numbers in them
 
-    absent : (x : Name) → is_apart us x ≡ false → (x ≡ e → ⊥) → (x ≡ m → ⊥) → ((r : Row) → IsNew disk base twin m x hidden r → ⊥) → rows v x ≡ None
-    absent x speaks no_entry no_image no_new = by (option_cases (rows v x))
-      where
-        of : (r : Row) → ((x ≡ e) × (making v ≡ e ∷ [])) ⊎ ((x ≡ m) ⊎ (IsNew disk base twin m x hidden r × (m ≡ n) × (rows c.table x ≡ Some r))) → ⊥
-        of r (inl k) = no_entry k.0
-        of r (inr (inl is)) = no_image is
-        of r (inr (inr k)) = no_new r k.0
-
-        by : (rows v x ≡ None) ⊎ ((r : Row) × (rows v x ≡ Some r)) → rows v x ≡ None
-        by (inl is) = is
-        by (inr k) = absurd (of k.0 (p.volumes x k.0 k.1 speaks))
-
-    raw_new : (u : List ℕ) (r : Row) → IsNew disk base twin m (Raw u) hidden r → ⊥
-    raw_new u r new = by new.name
-      where
-        by : (Raw u ≡ Vhd disk) ⊎ (Raw u ≡ Vhd twin) → ⊥
-        by (inl is) = let z = is in cc
-        by (inr is) = let z = is in cc
-
-    old_new : (u : List ℕ) (r : Row) → IsNew disk base twin m (Old u) hidden r → ⊥
-    old_new u r new = by new.name
-      where
-        by : (Old u ≡ Vhd disk) ⊎ (Old u ≡ Vhd twin) → ⊥
-        by (inl is) = let z = is in cc
-        by (inr is) = let z = is in cc
-
-    base_new : (r : Row) → IsNew disk base twin m (Vhd base) hidden r → ⊥
-    base_new r new = base_old (Vhd base) (inl refl) new.name
-
-    -- the image's name is one of four
-    old_m : (u : List ℕ) → Old u ≡ m → ⊥
-    old_m u is = by p.place
-      where
-        by : ((hidden ≡ false) × ((m ≡ Vhd disk) ⊎ (m ≡ Raw disk))) ⊎ ((m ≡ n) × ((m ≡ Vhd base) ⊎ (m ≡ Raw base))) → ⊥
-        by (inl (_, inl at)) = let z = is ∙ at in cc
-        by (inl (_, inr at)) = let z = is ∙ at in cc
-        by (inr (_, inl at)) = let z = is ∙ at in cc
-        by (inr (_, inr at)) = let z = is ∙ at in cc
-
-    no_old : (u : List ℕ) → IsThree u → rows v (Old u) ≡ None
-    no_old u k = absent (Old u) (old_speaks u k) (λ is. (let z = is in cc)) (old_m u) (old_new u)
-
-    raw_twin_m : Raw twin ≡ m → ⊥
-    raw_twin_m is = by p.place
-      where
-        by : ((hidden ≡ false) × ((m ≡ Vhd disk) ⊎ (m ≡ Raw disk))) ⊎ ((m ≡ n) × ((m ≡ Vhd base) ⊎ (m ≡ Raw base))) → ⊥
-        by (inl (_, inl at)) = let z = is ∙ at in cc
-        by (inl (_, inr at)) = σ.disk_twin (let z = is ∙ at in cc)
-        by (inr (_, inl at)) = let z = is ∙ at in cc
-        by (inr (_, inr at)) = σ.base_twin (let z = is ∙ at in cc)
-
-    no_raw_twin : rows v (Raw twin) ≡ None
-    no_raw_twin = absent (Raw twin) (raw_speaks twin (inr (inr refl))) (λ is. (let z = is in cc)) raw_twin_m (raw_new twin)
-
-    image_row : rows v m ≡ Some (record { name = m; hidden = hidden; fresh = false; extents = σ.own.extents })
-    image_row = p.there ∙ ap (λ f. Some (record { name = m; hidden = hidden; fresh = f; extents = σ.own.extents })) σ.filled
-
-    row_as : (x : Name) → m ≡ x → rows v x ≡ Some (record { name = m; hidden = hidden; fresh = false; extents = σ.own.extents })
-    row_as x is = ap (rows v) (sym is) ∙ image_row
-
-    -- where the image has the disk's name, nothing has the base's UUID or the twin's
-    module _ (free : hidden ≡ false) (at_disk : (m ≡ Vhd disk) ⊎ (m ≡ Raw disk)) where
-      not_hidden : (x : Name) (r : Row) → IsNew disk base twin m x hidden r → ⊥
-      not_hidden x r new = true≢false (sym new.over ∙ free)
-
-      base_m : (x : Name) → (x ≡ Vhd base) ⊎ (x ≡ Raw base) → x ≡ m → ⊥
-      base_m x k is = by k at_disk
-        where
-          by : (x ≡ Vhd base) ⊎ (x ≡ Raw base) → (m ≡ Vhd disk) ⊎ (m ≡ Raw disk) → ⊥
-          by (inl a) (inl b) = σ.disk_base (let z = sym b ∙ sym is ∙ a in cc)
-          by (inr a) (inr b) = σ.disk_base (let z = sym b ∙ sym is ∙ a in cc)
-          by (inl a) (inr b) = let z = sym b ∙ sym is ∙ a in cc
-          by (inr a) (inl b) = let z = sym b ∙ sym is ∙ a in cc
-
-      twin_m : Vhd twin ≡ m → ⊥
-      twin_m is = by at_disk
-        where
-          by : (m ≡ Vhd disk) ⊎ (m ≡ Raw disk) → ⊥
-          by (inl b) = σ.disk_twin (let z = sym b ∙ sym is in cc)
-          by (inr b) = let z = sym b ∙ sym is in cc
-
-      pub no_vhd_base : rows v (Vhd base) ≡ None
-      no_vhd_base = absent (Vhd base) (vhd_speaks base (inr (inl refl))) (λ is. (let z = is in cc)) (base_m (Vhd base) (inl refl)) (not_hidden (Vhd base))
-
-      pub no_raw_base : rows v (Raw base) ≡ None
-      no_raw_base = absent (Raw base) (raw_speaks base (inr (inl refl))) (λ is. (let z = is in cc)) (base_m (Raw base) (inr refl)) (not_hidden (Raw base))
-
-      pub no_vhd_twin : rows v (Vhd twin) ≡ None
-      no_vhd_twin = absent (Vhd twin) (vhd_speaks twin (inr (inr refl))) (λ is. (let z = is in cc)) twin_m (not_hidden (Vhd twin))
-
-      no_raw_disk : m ≡ Vhd disk → rows v (Raw disk) ≡ None
-      no_raw_disk at = absent (Raw disk) (raw_speaks disk (inl refl)) (λ is. (let z = is in cc)) (λ is. (let z = is ∙ at in cc)) (not_hidden (Raw disk))
-
-      no_vhd_disk : m ≡ Raw disk → rows v (Vhd disk) ≡ None
-      no_vhd_disk at = absent (Vhd disk) (vhd_speaks disk (inl refl)) (λ is. (let z = is in cc)) (λ is. (let z = is ∙ at in cc)) (not_hidden (Vhd disk))
-
-      shown_row : (x : Name) → m ≡ x → rows v x ≡ Some (record { name = m; hidden = false; fresh = false; extents = σ.own.extents })
-      shown_row x is = row_as x is ∙ ap (λ h. Some (record { name = m; hidden = h; fresh = false; extents = σ.own.extents })) free
-
-      pub begun_now : is_fork_begun v disk base twin ≡ true
-      begun_now = by at_disk
-        where
-          by : (m ≡ Vhd disk) ⊎ (m ≡ Raw disk) → is_fork_begun v disk base twin ≡ true
-          by (inl at) = rw (no_vhd_base, no_raw_base, no_old base (inr (inl refl)), no_vhd_twin, no_raw_twin, no_old twin (inr (inr refl)), shown_row (Vhd disk) at, no_raw_disk at, no_old disk (inl refl)) refl
-          by (inr at) = rw (no_vhd_base, no_raw_base, no_old base (inr (inl refl)), no_vhd_twin, no_raw_twin, no_old twin (inr (inr refl)), shown_row (Raw disk) at, no_vhd_disk at, no_old disk (inl refl)) refl
-
-      pub not_made : is_fork_made v disk base twin ≡ false
-      not_made = rw (no_vhd_base, no_raw_base) refl
-
-      pub no_base_image : image_with v base ≡ None
-      unfolding image_with
-      no_base_image = rw (no_vhd_base, no_raw_base) refl
-
-      pub stands_shown : stands_plainly v disk ≡ Some m
-      stands_shown = by at_disk
-        where
-          by : (m ≡ Vhd disk) ⊎ (m ≡ Raw disk) → stands_plainly v disk ≡ Some m
-          by (inl at) = rw (shown_row (Vhd disk) at) (ap Some (sym at))
-          by (inr at) = rw (no_vhd_disk at, shown_row (Raw disk) at) (ap Some (sym at))
-
-      pub no_base_stands : stands_plainly v base ≡ None
-      no_base_stands = rw (no_vhd_base, no_raw_base) refl
-
-      pub no_twin_stands : stands_plainly v twin ≡ None
-      no_twin_stands = rw (no_vhd_twin, no_raw_twin) refl
-
-    -- where it has the base's, the new images may be there
-    module _ (here : m ≡ n) (at_base : (m ≡ Vhd base) ⊎ (m ≡ Raw base)) where
-      disk_m : Raw disk ≡ m → ⊥
-      disk_m is = by at_base
-        where
-          by : (m ≡ Vhd base) ⊎ (m ≡ Raw base) → ⊥
-          by (inl b) = let z = is ∙ b in cc
-          by (inr b) = σ.disk_base (let z = is ∙ b in cc)
-
-      no_disk_raw : rows v (Raw disk) ≡ None
-      no_disk_raw = absent (Raw disk) (raw_speaks disk (inl refl)) (λ is. (let z = is in cc)) disk_m (raw_new disk)
-
-      other_raw : m ≡ Vhd base → rows v (Raw base) ≡ None
-      other_raw at = absent (Raw base) (raw_speaks base (inr (inl refl))) (λ is. (let z = is in cc)) (λ is. (let z = is ∙ at in cc)) (raw_new base)
-
-      other_vhd : m ≡ Raw base → rows v (Vhd base) ≡ None
-      other_vhd at = absent (Vhd base) (vhd_speaks base (inr (inl refl))) (λ is. (let z = is in cc)) (λ is. (let z = is ∙ at in cc)) base_new
-
-      -- a new image that is there is visible, and the base hidden
-      child : (x : Name) → (x ≡ Vhd disk) ⊎ (x ≡ Vhd twin) → (rows v x ≡ None) ⊎ ((r : Row) × (rows v x ≡ Some r) × (r.hidden ≡ false) × (hidden ≡ true))
-      child x k = by (option_cases (rows v x))
-        where
-          other_entry : (x ≡ Vhd disk) ⊎ (x ≡ Vhd twin) → x ≡ e → ⊥
-          other_entry (inl is) at = let z = sym is ∙ at in cc
-          other_entry (inr is) at = let z = sym is ∙ at in cc
-
-          of : (r : Row) → rows v x ≡ Some r → ((x ≡ e) × (making v ≡ e ∷ [])) ⊎ ((x ≡ m) ⊎ (IsNew disk base twin m x hidden r × (m ≡ n) × (rows c.table x ≡ Some r))) → (r : Row) × (rows v x ≡ Some r) × (r.hidden ≡ false) × (hidden ≡ true)
-          of r at (inl z) = absurd (other_entry k z.0)
-          of r at (inr (inl is)) = absurd (base_old x (subst (λ y. (y ≡ Vhd base) ⊎ (y ≡ Raw base)) (sym is) at_base) k)
-          of r at (inr (inr z)) = let one = z.0 in (r, at, one.shown, one.over)
-
-          by : (rows v x ≡ None) ⊎ ((r : Row) × (rows v x ≡ Some r)) → (rows v x ≡ None) ⊎ ((r : Row) × (rows v x ≡ Some r) × (r.hidden ≡ false) × (hidden ≡ true))
-          by (inl is) = inl is
-          by (inr z) = inr (of z.0 z.1 (p.volumes x z.0 z.1 (new_speaks x k)))
-
-      filled_base : (is_filled v (Vhd base) || is_filled v (Raw base)) ≡ true
-      filled_base = by at_base
-        where
-          by : (m ≡ Vhd base) ⊎ (m ≡ Raw base) → (is_filled v (Vhd base) || is_filled v (Raw base)) ≡ true
-          by (inl at) = rw (row_as (Vhd base) at) refl
-          by (inr at) = rw (other_vhd at, row_as (Raw base) at) refl
-
-      hidden_base : hidden ≡ true → (is_hidden v (Vhd base) || is_hidden v (Raw base)) ≡ true
-      hidden_base over = by at_base
-        where
-          as_hidden : (x : Name) → m ≡ x → rows v x ≡ Some (record { name = m; hidden = true; fresh = false; extents = σ.own.extents })
-          as_hidden x is = row_as x is ∙ ap (λ h. Some (record { name = m; hidden = h; fresh = false; extents = σ.own.extents })) over
-
-          by : (m ≡ Vhd base) ⊎ (m ≡ Raw base) → (is_hidden v (Vhd base) || is_hidden v (Raw base)) ≡ true
-          by (inl at) = rw (as_hidden (Vhd base) at) refl
-          by (inr at) = rw (other_vhd at, as_hidden (Raw base) at) refl
-
-      visible_child : (x : Name) → (rows v x ≡ None) ⊎ ((r : Row) × (rows v x ≡ Some r) × (r.hidden ≡ false) × (hidden ≡ true)) → is_visible_or_gone v x ≡ true
-      visible_child x (inl none) = ap (λ o. is_none o || of_row (λ r. not r.hidden) o) none
-      visible_child x (inr k) = ap (λ o. is_none o || of_row (λ r. not r.hidden) o) k.1 ∙ ap not k.2
-
-      neither : (rows v (Vhd disk) ≡ None) ⊎ ((r : Row) × (rows v (Vhd disk) ≡ Some r) × (r.hidden ≡ false) × (hidden ≡ true)) → (rows v (Vhd twin) ≡ None) ⊎ ((r : Row) × (rows v (Vhd twin) ≡ Some r) × (r.hidden ≡ false) × (hidden ≡ true))
-          → ((not (is_there v (Vhd disk)) && not (is_there v (Vhd twin))) || (is_hidden v (Vhd base) || is_hidden v (Raw base))) ≡ true
-      neither (inl a) (inl b) = ap₂ (λ x y. (not (is_some x) && not (is_some y)) || (is_hidden v (Vhd base) || is_hidden v (Raw base))) a b
-      neither (inr k) b = or_right (not (is_there v (Vhd disk)) && not (is_there v (Vhd twin))) (is_hidden v (Vhd base) || is_hidden v (Raw base)) (hidden_base k.3)
-      neither (inl a) (inr k) = or_right (not (is_there v (Vhd disk)) && not (is_there v (Vhd twin))) (is_hidden v (Vhd base) || is_hidden v (Raw base)) (hidden_base k.3)
-
-      pub made_now : is_fork_made v disk base twin ≡ true
-      made_now =
-          let on_disk = child (Vhd disk) (inl refl) in
-          let on_twin = child (Vhd twin) (inr refl) in
-          ap (λ b. b && (not (is_there v (Raw disk)) && (not (is_there v (Raw twin)) && (is_visible_or_gone v (Vhd disk) && (is_visible_or_gone v (Vhd twin)
-          && ((not (is_there v (Vhd disk)) && not (is_there v (Vhd twin))) || (is_hidden v (Vhd base) || is_hidden v (Raw base)))))))) filled_base
-          ∙ ap₂ (λ x y. not (is_some x) && (not (is_some y) && (is_visible_or_gone v (Vhd disk) && (is_visible_or_gone v (Vhd twin)
-          && ((not (is_there v (Vhd disk)) && not (is_there v (Vhd twin))) || (is_hidden v (Vhd base) || is_hidden v (Raw base))))))) no_disk_raw no_raw_twin
-          ∙ ap₂ (λ x y. x && (y && ((not (is_there v (Vhd disk)) && not (is_there v (Vhd twin))) || (is_hidden v (Vhd base) || is_hidden v (Raw base))))) (visible_child (Vhd disk) on_disk) (visible_child (Vhd twin) on_twin)
-          ∙ neither on_disk on_twin
-
-      pub base_image : image_with v base ≡ Some m
-      unfolding image_with
-      base_image = by at_base
-        where
-          by : (m ≡ Vhd base) ⊎ (m ≡ Raw base) → image_with v base ≡ Some m
-          by (inl at) = rw (row_as (Vhd base) at) (ap Some (sym at))
-          by (inr at) = rw (other_vhd at, row_as (Raw base) at) (ap Some (sym at))
-
-    -- ---- names and numbers
-
-    m_speaks : is_apart us m ≡ false
-    m_speaks = by p.place
-      where
-        by : ((hidden ≡ false) × ((m ≡ Vhd disk) ⊎ (m ≡ Raw disk))) ⊎ ((m ≡ n) × ((m ≡ Vhd base) ⊎ (m ≡ Raw base))) → is_apart us m ≡ false
-        by (inl (_, inl at)) = ap (is_apart us) at ∙ vhd_speaks disk (inl refl)
-        by (inl (_, inr at)) = ap (is_apart us) at ∙ raw_speaks disk (inl refl)
-        by (inr (_, inl at)) = ap (is_apart us) at ∙ vhd_speaks base (inr (inl refl))
-        by (inr (_, inr at)) = ap (is_apart us) at ∙ raw_speaks base (inr (inl refl))
+    named_now : AreNamed disk base twin n v m hidden
+    named_now = named_so disk base twin c.table n σ c.count v m hidden p
 
     entry_then : (r : Row) × (rows c.table e ≡ Some r)
     entry_then = entry_found c.table e entry
@@ -605,13 +360,13 @@ module _ (c : Content) (disk base twin : List ℕ) (n : Name) (table : IsTable c
     entry_past : are_past v e ≡ true
     entry_past = all_past (disk ∷ base ∷ twin ∷ []) c.table.sequence v.sequence p.later stage_then.1
 
-    past_now : (u : List ℕ) → IsThree u → (is_past v.sequence u && true) ≡ true
+    past_now : (u : List ℕ) → IsThree disk base twin u → (is_past v.sequence u && true) ≡ true
     past_now u k =
         let first = and_parts (is_past v.sequence disk) (is_past v.sequence base && (is_past v.sequence twin && true)) entry_past in
         let second = and_parts (is_past v.sequence base) (is_past v.sequence twin && true) first.1 in
         by first.0 second.0 second.1 k
       where
-        by : is_past v.sequence disk ≡ true → is_past v.sequence base ≡ true → (is_past v.sequence twin && true) ≡ true → IsThree u → (is_past v.sequence u && true) ≡ true
+        by : is_past v.sequence disk ≡ true → is_past v.sequence base ≡ true → (is_past v.sequence twin && true) ≡ true → IsThree disk base twin u → (is_past v.sequence u && true) ≡ true
         by d b t (inl is) = ap (λ x. is_past v.sequence x && true) is ∙ ap (λ x. x && true) d
         by d b t (inr (inl is)) = ap (λ x. is_past v.sequence x && true) is ∙ ap (λ x. x && true) b
         by d b t (inr (inr is)) = ap (λ x. is_past v.sequence x && true) is ∙ t
@@ -624,19 +379,6 @@ module _ (c : Content) (disk base twin : List ℕ) (n : Name) (table : IsTable c
         by (inl (_, inr at)) = ap (are_past v) at ∙ past_now disk (inl refl)
         by (inr (_, inl at)) = ap (are_past v) at ∙ past_now base (inr (inl refl))
         by (inr (_, inr at)) = ap (are_past v) at ∙ past_now base (inr (inl refl))
-
-    m_alone : has_twin v m ≡ false
-    m_alone = by p.place
-      where
-        by : ((hidden ≡ false) × ((m ≡ Vhd disk) ⊎ (m ≡ Raw disk))) ⊎ ((m ≡ n) × ((m ≡ Vhd base) ⊎ (m ≡ Raw base))) → has_twin v m ≡ false
-        by (inl (free, inl at)) = ap (has_twin v) at ∙ ap (λ o. is_some o) (no_raw_disk free (inl at) at)
-        by (inl (free, inr at)) = ap (has_twin v) at ∙ ap (λ o. is_some o) (no_vhd_disk free (inr at) at)
-        by (inr (here, inl at)) = ap (has_twin v) at ∙ ap (λ o. is_some o) (other_raw here (inl at) at)
-        by (inr (here, inr at)) = ap (has_twin v) at ∙ ap (λ o. is_some o) (other_vhd here (inr at) at)
-
-    new_alone : (x : Name) → m ≡ n → (m ≡ Vhd base) ⊎ (m ≡ Raw base) → (x ≡ Vhd disk) ⊎ (x ≡ Vhd twin) → has_twin v x ≡ false
-    new_alone x here at_base (inl is) = ap (has_twin v) is ∙ ap (λ o. is_some o) (no_disk_raw here at_base)
-    new_alone x here at_base (inr is) = ap (has_twin v) is ∙ ap (λ o. is_some o) no_raw_twin
 
     new_past : (x : Name) → (x ≡ Vhd disk) ⊎ (x ≡ Vhd twin) → are_past v x ≡ true
     new_past x (inl is) = ap (are_past v) is ∙ past_now disk (inl refl)
@@ -704,7 +446,7 @@ module _ (c : Content) (disk base twin : List ℕ) (n : Name) (table : IsTable c
         of r (parents_now r.name m w.0 w.1 w.2))
       where
         of : (r : Row) → (is_apart us m ≡ true) ⊎ ((m ≡ m) × (hidden ≡ true) × (m ≡ n) × ((n ≡ Vhd base) ⊎ (n ≡ Raw base)) × ((r.name ≡ Vhd disk) ⊎ (r.name ≡ Vhd twin))) → ⊥
-        of r (inl apart) = true≢false (sym apart ∙ m_speaks)
+        of r (inl apart) = true≢false (sym apart ∙ named_now.speaks)
         of r (inr k) = true≢false (sym k.1 ∙ is)
 
     new_childless : (x : Name) → (x ≡ Vhd disk) ⊎ (x ≡ Vhd twin) → (length (children od x) == 0) ≡ true
@@ -715,16 +457,16 @@ module _ (c : Content) (disk base twin : List ℕ) (n : Name) (table : IsTable c
         of r (parents_now r.name x w.0 w.1 w.2))
       where
         of : (r : Row) → (is_apart us x ≡ true) ⊎ ((x ≡ m) × (hidden ≡ true) × (m ≡ n) × ((n ≡ Vhd base) ⊎ (n ≡ Raw base)) × ((r.name ≡ Vhd disk) ⊎ (r.name ≡ Vhd twin))) → ⊥
-        of r (inl apart) = true≢false (sym apart ∙ new_speaks x new)
-        of r (inr k) = base_old n k.3 (subst (λ y. (y ≡ Vhd disk) ⊎ (y ≡ Vhd twin)) (k.0 ∙ k.2) new)
+        of r (inl apart) = true≢false (sym apart ∙ new_speaks disk base twin x new)
+        of r (inr k) = base_old disk base twin c.table n σ n k.3 (subst (λ y. (y ≡ Vhd disk) ⊎ (y ≡ Vhd twin)) (k.0 ∙ k.2) new)
 
     pass_image : PassesAlone od (kept_as σ.own m hidden)
-    pass_image = pass_moved n m σ.own (kept_as σ.own m hidden) kinds σ.there p.there refl refl refl m_alone m_past (m_childless hidden refl) (chain_kept 31)
+    pass_image = pass_moved n m σ.own (kept_as σ.own m hidden) kinds σ.there p.there refl refl refl named_now.alone m_past (m_childless hidden refl) (chain_kept 31)
 
     pass_new : (x : Name) (r : Row) → rows v x ≡ Some r → IsNew disk base twin m x hidden r → m ≡ n → rows c.table x ≡ Some r → PassesAlone od r
     pass_new x r there new here was =
         let named = row_of-name v.volumes x r there in
-        pass_moved x x r r (new_alike x new.name) was there named refl refl (new_alone x here new.base_is new.name) (new_past x new.name)
+        pass_moved x x r r (new_alike x new.name) was there named refl refl (named_now.new_alone x here new.base_is new.name) (new_past x new.name)
         (or_right r.hidden (length (children od r.name) == 0) (ap (λ y. length (children od y) == 0) named ∙ new_childless x new.name))
         (chain_new 30 x (ap link_of (image_new x r new was there)) here)
 
@@ -759,8 +501,8 @@ module _ (c : Content) (disk base twin : List ℕ) (n : Name) (table : IsTable c
         (ap (λ ns. not (list_any (is_among (disk ∷ base ∷ twin ∷ [])) (elim (head ns) as (λ _. List (List ℕ)) [ None ↦ [] | Some x ↦ uuids_in x ]))) folding_none) (by p.place))))
       where
         by : ((hidden ≡ false) × ((m ≡ Vhd disk) ⊎ (m ≡ Raw disk))) ⊎ ((m ≡ n) × ((m ≡ Vhd base) ⊎ (m ≡ Raw base))) → (is_fork_begun v disk base twin || is_fork_made v disk base twin) ≡ true
-        by (inl k) = ap (λ b. b || is_fork_made v disk base twin) (begun_now k.0 k.1)
-        by (inr k) = or_right (is_fork_begun v disk base twin) (is_fork_made v disk base twin) (made_now k.0 k.1)
+        by (inl k) = ap (λ b. b || is_fork_made v disk base twin) (named_now.begun k.0 k.1)
+        by (inr k) = or_right (is_fork_begun v disk base twin) (is_fork_made v disk base twin) (named_now.made k.0 k.1)
 
     linked_entry : is_fork_linked od disk base twin ≡ true
     unfolding children same_image
@@ -784,8 +526,8 @@ module _ (c : Content) (disk base twin : List ℕ) (n : Name) (table : IsTable c
             of (inr z) = true≢false (sym h ∙ new_name r z.4)
 
         of_children : (r : Row) → In r (children od (Vhd base)) ⊎ In r (children od (Raw base)) → not (same_image r.name (Vhd disk) || same_image r.name (Vhd twin)) ≡ true → ⊥
-        of_children r (inl i) h = of_child r (Vhd base) (vhd_speaks base (inr (inl refl))) i h
-        of_children r (inr i) h = of_child r (Raw base) (raw_speaks base (inr (inl refl))) i h
+        of_children r (inl i) h = of_child r (Vhd base) (vhd_speaks disk base twin base (inr (inl refl))) i h
+        of_children r (inr i) h = of_child r (Raw base) (raw_speaks disk base twin base (inr (inl refl))) i h
 
         no_others : (length (filter (λ r. not (same_image r.name (Vhd disk) || same_image r.name (Vhd twin))) (children_with od base)) == 0) ≡ true
         no_others = nothing_in (filter (λ r. not (same_image r.name (Vhd disk) || same_image r.name (Vhd twin))) (children_with od base)) (λ r i.
@@ -810,9 +552,9 @@ module _ (c : Content) (disk base twin : List ℕ) (n : Name) (table : IsTable c
         based at_base x new h = from (option_cases (rows v x))
           where
             of : (r : Row) → rows v x ≡ Some r → Source x r → is_base_of base (od.links x) ≡ true
-            of r there (settled apart was) = absurd (true≢false (sym apart ∙ new_speaks x new))
+            of r there (settled apart was) = absurd (true≢false (sym apart ∙ new_speaks disk base twin x new))
             of r there (the_entry is made) = ap (λ y. is_base_of base (od.links y)) is ∙ ap (is_base_of base) (no_entry_link d disk base twin)
-            of r there (the_image is row_is) = absurd (base_old m at_base (subst (λ y. (y ≡ Vhd disk) ⊎ (y ≡ Vhd twin)) is new))
+            of r there (the_image is row_is) = absurd (base_old disk base twin c.table n σ m at_base (subst (λ y. (y ≡ Vhd disk) ⊎ (y ≡ Vhd twin)) is new))
             of r there (a_new one here was) = ap (is_base_of base) (ap link_of (image_new x r one was there)) ∙ h
 
             from : (rows v x ≡ None) ⊎ ((r : Row) × (rows v x ≡ Some r)) → is_base_of base (od.links x) ≡ true
@@ -820,7 +562,7 @@ module _ (c : Content) (disk base twin : List ℕ) (n : Name) (table : IsTable c
             from (inr k) = of k.0 k.1 (source x k.0 k.1)
 
         by : ((hidden ≡ false) × ((m ≡ Vhd disk) ⊎ (m ≡ Raw disk))) ⊎ ((m ≡ n) × ((m ≡ Vhd base) ⊎ (m ≡ Raw base))) → is_fork_linked od disk base twin ≡ true
-        by (inl k) = ap (λ b. not b || (is_base_of base (od.links (Vhd disk)) && (is_base_of base (od.links (Vhd twin)) && last))) (not_made k.0 k.1)
+        by (inl k) = ap (λ b. not b || (is_base_of base (od.links (Vhd disk)) && (is_base_of base (od.links (Vhd twin)) && last))) (named_now.not_made k.0 k.1)
         by (inr k) =
             let first = and_parts (is_base_of base (o.links (Vhd disk))) _ (linked_then c disk base twin n entry s σ (made_then k.0 k.1)) in
             let second = and_parts (is_base_of base (o.links (Vhd twin))) _ first.1 in
@@ -843,7 +585,7 @@ module _ (c : Content) (disk base twin : List ℕ) (n : Name) (table : IsTable c
     settled_name x r was apart = by x (is_making x) refl refl (simple_row disk base twin c.table s.simple entry x r was) apart
       where
         no_entry : (y : Name) → x ≡ y → is_making y ≡ true → ⊥
-        no_entry y is made = true≢false (sym apart ∙ ap (is_apart us) (only_entry disk base twin c.table s.simple entry x r was (ap is_making is ∙ made)) ∙ entry_speaks)
+        no_entry y is made = true≢false (sym apart ∙ ap (is_apart us) (only_entry disk base twin c.table s.simple entry x r was (ap is_making is ∙ made)) ∙ entry_speaks disk base twin)
 
         by : (y : Name) (b : Bool) → is_making y ≡ b → x ≡ y → is_simple_name y ≡ true → is_apart us y ≡ true → is_settled_name us y ≡ true
         by Mgt b made is simple away = refl
@@ -875,12 +617,12 @@ module _ (c : Content) (disk base twin : List ℕ) (n : Name) (table : IsTable c
       where
         forked_by : ((hidden ≡ false) × ((m ≡ Vhd disk) ⊎ (m ≡ Raw disk))) ⊎ ((m ≡ n) × ((m ≡ Vhd base) ⊎ (m ≡ Raw base)))
             → elim (image_with v base) as (λ _. Option Name) [ None ↦ beside v disk | Some b ↦ Some b ] ≡ Some m
-        forked_by (inl k) = ap (λ x. elim x as (λ _. Option Name) [ None ↦ beside v disk | Some b ↦ Some b ]) (no_base_image k.0 k.1) ∙ beside_plain disk ∙ stands_shown k.0 k.1
-        forked_by (inr k) = ap (λ x. elim x as (λ _. Option Name) [ None ↦ beside v disk | Some b ↦ Some b ]) (base_image k.0 k.1)
+        forked_by (inl k) = ap (λ x. elim x as (λ _. Option Name) [ None ↦ beside v disk | Some b ↦ Some b ]) (named_now.no_base k.0 k.1) ∙ beside_plain disk ∙ named_now.disk_stands k.0 k.1
+        forked_by (inr k) = ap (λ x. elim x as (λ _. Option Name) [ None ↦ beside v disk | Some b ↦ Some b ]) (named_now.has_base k.0 k.1)
 
         by : (making v ≡ e ∷ []) ⊎ ((making v ≡ []) × (hidden ≡ false) × ((m ≡ Vhd disk) ⊎ (m ≡ Raw disk))) → standing_volume v disk ≡ Some m
         by (inl is) = stands_making v disk e (ap head is) ∙ fork_disk v disk base twin (beside v disk) ∙ forked_by p.place
-        by (inr k) = stands_beside v disk k.0 ∙ beside_plain disk ∙ stands_shown k.1 k.2
+        by (inr k) = stands_beside v disk k.0 ∙ beside_plain disk ∙ named_now.disk_stands k.1 k.2
 
     pub stands_base : standing_volume v base ≡ None
     stands_base = by p.entries
@@ -888,7 +630,7 @@ module _ (c : Content) (disk base twin : List ℕ) (n : Name) (table : IsTable c
         by : (making v ≡ e ∷ []) ⊎ ((making v ≡ []) × (hidden ≡ false) × ((m ≡ Vhd disk) ⊎ (m ≡ Raw disk))) → standing_volume v base ≡ None
         by (inl is) =
             stands_making v base e (ap head is) ∙ fork_new v disk base twin base (beside v base) (bytes_eq-apart base disk (λ at. σ.disk_base (sym at))) (ap (λ b. b || bytes_eq base twin) (bytes_eq-refl base))
-        by (inr k) = stands_beside v base k.0 ∙ beside_plain base ∙ no_base_stands k.1 k.2
+        by (inr k) = stands_beside v base k.0 ∙ beside_plain base ∙ named_now.base_fails k.1 k.2
 
     pub stands_twin : standing_volume v twin ≡ None
     stands_twin = by p.entries
@@ -897,7 +639,7 @@ module _ (c : Content) (disk base twin : List ℕ) (n : Name) (table : IsTable c
         by (inl is) =
             stands_making v twin e (ap head is)
             ∙ fork_new v disk base twin twin (beside v twin) (bytes_eq-apart twin disk (λ at. σ.disk_twin (sym at))) (or_right (bytes_eq twin base) (bytes_eq twin twin) (bytes_eq-refl twin))
-        by (inr k) = stands_beside v twin k.0 ∙ beside_plain twin ∙ no_twin_stands k.1 k.2
+        by (inr k) = stands_beside v twin k.0 ∙ beside_plain twin ∙ named_now.twin_fails k.1 k.2
 
     pub stands_apart : (u : List ℕ) → is_among us u ≡ false → standing_volume v u ≡ stands_plainly v u
     stands_apart u other = by p.entries
@@ -987,9 +729,12 @@ module _ (c : Content) (disk base twin : List ℕ) (n : Name) (table : IsTable c
     part_place : IsForkPlace v disk base m
     part_place = by p.place
       where
+        names : AreNamed disk base twin n v m hidden
+        names = named_now v m hidden p area same
+
         by : ((hidden ≡ false) × ((m ≡ Vhd disk) ⊎ (m ≡ Raw disk))) ⊎ ((m ≡ n) × ((m ≡ Vhd base) ⊎ (m ≡ Raw base))) → IsForkPlace v disk base m
-        by (inl k) = inl (no_base_image v m hidden p area same k.0 k.1, stands_shown v m hidden p area same k.0 k.1)
-        by (inr k) = inr (base_image v m hidden p area same k.0 k.1)
+        by (inl k) = inl (names.no_base k.0 k.1, names.disk_stands k.0 k.1)
+        by (inr k) = inr (names.has_base k.0 k.1)
 
     record_same : (u : List ℕ) → record_of (with_table c v area) u ≡ record_of c u
     record_same u = record_of_first (with_table c v area) u ∙ ap first_of (records_same c (with_table c v area) u (readings_alike v m hidden p area same)) ∙ sym (record_of_first c u)

@@ -14,8 +14,8 @@ use Rattle.vg_meta.proofs.RowLaws.{row_of-name}
 use Rattle.sm_standing.specs.Apart.{is_apart}
 use Rattle.sm_standing.specs.Entries.{head, image_with, is_among, is_fork_made, is_there, making, of_row}
 use Rattle.sm_standing.specs.Forks.{forked}
-use Rattle.sm_standing.specs.Opened.{under_name}
-use Rattle.sm_standing.specs.Undone.{AllPermit, applied_all, base_changes, changes_back, undo_changes, wanted}
+use Rattle.sm_standing.specs.Opened.{applied_all, base_changes, changes_back, under_name, undo_changes, wanted}
+use Rattle.sm_standing.specs.Undone.{AllPermit}
 use Rattle.sm_standing.proofs.DisksShown.{row_of-In}
 use Rattle.sm_standing.proofs.ForkLaws.{base_among, disk_among, twin_among}
 use Rattle.sm_standing.proofs.ForkParts.{IsForkPart, entry_found, ended_making, may_end, may_remove, may_rename, may_show, part_ended, part_now, part_removed, part_renamed, part_shown, removed_making, removed_others, removed_row, renamed_making, shown_making, shown_others}

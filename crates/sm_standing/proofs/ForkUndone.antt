@@ -1,4 +1,4 @@
--- Where the checks of all but a leaf's folding pass and a disk is being forked: what is left without the fork, and what stands while it is undone.
+-- Where all checks pass, no leaf is being folded and a disk is being forked: what is left without the fork, and what stands while it is undone.
 use Rattle.std.proofs.Common.{◌≡◌, ◌≢◌, ◌⊎◌, inl, inr, ℕ, ◌≤◌, Bool, true, false, cond, not, ◌&&◌, ◌||◌, List, [], ◌∷◌, Option, Some, None, refl, sym, ap, ap₂, ◌∙◌, subst}
 use Rattle.std.proofs.lemmas.Bool.{true≢false, and_parts, or_from}
 use Rattle.std.proofs.lemmas.Option.{none-some}
@@ -18,13 +18,14 @@ use Rattle.sm_standing.specs.Entries.{are_past, head, image_with, is_at_stage, i
 use Rattle.sm_standing.specs.Forks.{forked}
 use Rattle.sm_standing.specs.Images.{image_of}
 use Rattle.sm_standing.specs.Keeping.{HasNoEmptySlot, IsKept}
-use Rattle.sm_standing.specs.Opened.{under_name}
+use Rattle.sm_standing.specs.Opened.{under_name, undo_changes, undone}
 use Rattle.sm_standing.specs.PlainSound.{PlainSound, SimpleSound}
 use Rattle.sm_standing.specs.Standing.{disks}
-use Rattle.sm_standing.specs.Undone.{AllPermit, IsSameArea, IsUndoing, from_base, from_entry, image_back, named_back, row_back, undo_changes, undone, undone_content, undone_from}
+use Rattle.sm_standing.specs.Undone.{AllPermit, IsSameArea, IsUndoing, from_base, from_entry, image_back, named_back, row_back, undone_content, undone_from}
 use Rattle.sm_standing.specs.Worlds.{with_table}
 use Rattle.sm_standing.proofs.DisksShown.{row_of-In}
-use Rattle.sm_standing.proofs.ForkContents.{entry_speaks, image_kept, images_apart, no_image, part_disks, part_holding, part_sound, raw_speaks, vhd_speaks}
+use Rattle.sm_standing.proofs.ForkContents.{image_kept, images_apart, no_image, part_disks, part_holding, part_sound}
+use Rattle.sm_standing.proofs.ForkNames.{entry_speaks, raw_speaks, vhd_speaks}
 use Rattle.sm_standing.proofs.ForkParts.{IsForkPart, entry_found, kept_as, part_now}
 use Rattle.sm_standing.proofs.ForkRuns.{IsLast, IsPart, fork_run, run_last, run_permits, run_taken}
 use Rattle.sm_standing.proofs.ForkTables.{IsForkStage, IsNew, fork_stage}
@@ -120,13 +121,13 @@ module _ (c : Content) (table : IsTable c.count c.table) (geometry : IsGeometry 
   from_is x = ap (λ ns. elim (head ns) as (λ _. Option Name) [ None ↦ Some x | Some y ↦ from_entry t y x ]) entry
 
   speaks_e : is_apart us e ≡ false
-  speaks_e = entry_speaks c disk base twin n table geometry room entry s its_stage
+  speaks_e = entry_speaks disk base twin
 
   speaks_vhd : (u : List ℕ) → (u ≡ disk) ⊎ ((u ≡ base) ⊎ (u ≡ twin)) → is_apart us (Vhd u) ≡ false
-  speaks_vhd = vhd_speaks c disk base twin n table geometry room entry s its_stage
+  speaks_vhd = vhd_speaks disk base twin
 
   speaks_raw : (u : List ℕ) → (u ≡ disk) ⊎ ((u ≡ base) ⊎ (u ≡ twin)) → is_apart us (Raw u) ≡ false
-  speaks_raw = raw_speaks c disk base twin n table geometry room entry s its_stage
+  speaks_raw = raw_speaks disk base twin
 
   other_than : (x y : Name) → is_apart us x ≡ true → is_apart us y ≡ false → name_eq x y ≡ false
   other_than x y apart speaks = name_eq-other x y (λ same. true≢false (sym apart ∙ ap (is_apart us) same ∙ speaks))

@@ -18,10 +18,11 @@ use Rattle.sm_standing.specs.Contents.{Content, record_count, size_of}
 use Rattle.sm_standing.specs.Entries.{folding, is_folding}
 use Rattle.sm_standing.specs.Images.{Image, image_of}
 use Rattle.sm_standing.specs.Keeping.{HasNoEmptySlot, HoldsWell, IsHolding, IsKept}
-use Rattle.sm_standing.specs.Leaves.{IsEnding, ended, ended_content, image_ended}
+use Rattle.sm_standing.specs.Leaves.{IsEnding, ended_content, image_ended}
+use Rattle.sm_standing.specs.Opened.{ended, undone}
 use Rattle.sm_standing.specs.Outlines.{Outline, link_of, outline}
 use Rattle.sm_standing.specs.Standing.{disks}
-use Rattle.sm_standing.specs.Undone.{IsBeingEnlarged, IsSameArea, undone}
+use Rattle.sm_standing.specs.Undone.{IsBeingEnlarged, IsSameArea}
 use Rattle.sm_standing.specs.Worlds.{with_table}
 use Rattle.sm_standing.proofs.AreaLaws.{disks_there, kept_there, room_there}
 use Rattle.sm_standing.proofs.EnlargedLaws.{images_enlarging}

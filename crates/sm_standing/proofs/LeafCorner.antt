@@ -15,10 +15,10 @@ use Rattle.sm_machine.specs.WellFormed.{is_image_name}
 use Rattle.sm_standing.specs.Checks.{fault_of}
 use Rattle.sm_standing.specs.Enlarging.{IsEnlarging}
 use Rattle.sm_standing.specs.Entries.{folding, head, is_leaf_renamed, is_leaf_swapped, is_there, making, of_row}
-use Rattle.sm_standing.specs.Leaves.{leaf_changes, leaf_gone, parent_changes}
+use Rattle.sm_standing.specs.Opened.{changes_back, is_longer, leaf_changes, leaf_gone, parent_changes, undone, wanted}
 use Rattle.sm_standing.specs.Outlines.{HasImages, Link, Outline}
 use Rattle.sm_standing.specs.Standing.{standing_volume}
-use Rattle.sm_standing.specs.Undone.{IsBeingEnlarged, changes_back, is_longer, undone, wanted}
+use Rattle.sm_standing.specs.Undone.{IsBeingEnlarged}
 use Rattle.sm_standing.proofs.EnlargedOutlines.{sound_with, sound_without}
 use Rattle.sm_standing.proofs.EnlargingLaws.{folding_same, renamed_alike, stands_alike}
 use Rattle.sm_standing.proofs.ForkRuns.{AllRun}

@@ -13,12 +13,13 @@ use Rattle.vg_meta.specs.declared.changes.Change.{Change}
 use Rattle.vg_meta.specs.declared.changes.Change.TheVariants.{Cut, Mark, Remove, Rename}
 use Rattle.vg_meta.specs.declared.changes.Tag.TheVariants.{Hidden}
 use Rattle.vg_meta.specs.Tables.{VolumeTable, Row, IsTable, names_of, rows}
-use Rattle.sm_standing.specs.Checks.{fault_of, fault_but_leaf_of, is_orphaned}
+use Rattle.sm_standing.specs.Checks.{fault_of, PassesButLeaf, is_orphaned}
 use Rattle.sm_standing.specs.Entries.{folding, head, is_folding, is_leaf_renamed, is_leaf_swapped, is_old_of, making, of_row}
-use Rattle.sm_standing.specs.Leaves.{IsEnding, changes_ending, end_changes, ended, ended_from, ended_outline, from_leaf, leaf_changes, leaf_gone, parent_changes}
+use Rattle.sm_standing.specs.Leaves.{IsEnding, ended_from, ended_outline, from_leaf}
+use Rattle.sm_standing.specs.Opened.{applied_all, changes_back, changes_ending, end_changes, ended, is_longer, leaf_changes, leaf_gone, parent_changes, wanted}
 use Rattle.sm_standing.specs.Outlines.{HasImages, Outline}
 use Rattle.sm_standing.specs.Plain.{IsSimple, is_simple, is_simple_name}
-use Rattle.sm_standing.specs.Undone.{AllPermit, IsBeingEnlarged, applied_all, changes_back, is_longer, wanted}
+use Rattle.sm_standing.specs.Undone.{AllPermit, IsBeingEnlarged}
 use Rattle.sm_standing.proofs.ForkRuns.{AllRun, run_last, run_permits, run_taken}
 use Rattle.sm_standing.proofs.ForkTables.{of_row_parts}
 use Rattle.sm_standing.proofs.LeafCorner.{corner_run}
@@ -225,8 +226,8 @@ module _ (count : ℕ) (x : Outline) (sound : fault_of x ≡ None) (table : IsTa
       let p = (end_last Nothing nothing).0 in
       subst (λ f. HasImages (record x { table = ended t; links = λ n. f n >>= x.links })) (fun_ext k.as_ended) p.homes
 
-  -- none of the checks of all but a leaf's folding fails
-  pub ended_but_leaf : fault_but_leaf_of (ended_outline x) ≡ None
+  -- no leaf is being folded any more
+  pub ended_but_leaf : PassesButLeaf (ended_outline x)
   ended_but_leaf = outline_but_leaf (ended_outline x) ended_sound (simple_known (ended t) ended_simple)
 
   pub ended_making : ((extents : ℕ) → is_leaf_renamed t leaf parent ≡ true → making t ≢ Inflate parent extents ∷ []) → making (ended t) ≡ making t

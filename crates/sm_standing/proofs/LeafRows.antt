@@ -24,12 +24,11 @@ use Rattle.sm_machine.proofs.ImageNames.{same_image-sound}
 use Rattle.sm_standing.specs.Checks.{fault_of}
 use Rattle.sm_standing.specs.Entries.{folding, head, is_leaf_renamed, is_leaf_swapped, is_making, is_there, making, of_row}
 use Rattle.sm_standing.specs.Images.{image_extents}
-use Rattle.sm_standing.specs.Leaves.{ended, leaf_changes, leaf_gone, parent_changes}
+use Rattle.sm_standing.specs.Opened.{applied_all, changes_back, ended, leaf_changes, leaf_gone, parent_changes, undone, wanted}
 use Rattle.sm_standing.specs.Outlines.{HasImages, Outline}
 use Rattle.sm_standing.specs.Plain.{IsSimple, is_simple, is_simple_name}
-use Rattle.sm_standing.specs.Undone.{AllPermit, IsBeingEnlarged, applied_all, changes_back, undone, wanted}
+use Rattle.sm_standing.specs.Undone.{AllPermit, IsBeingEnlarged}
 use Rattle.sm_standing.proofs.DisksShown.{row_of-In}
-use Rattle.sm_standing.proofs.ForkOpened.{applied_then, permits_front}
 use Rattle.sm_standing.proofs.ForkTables.{of_row_parts}
 use Rattle.sm_standing.proofs.LeafCorner.{enlarged}
 use Rattle.sm_standing.proofs.LeafEnds.{at_changes, corner_or_not, ended_making, ended_permits, ended_simple, ended_unmade, ends_are, no_changes}
@@ -37,6 +36,16 @@ use Rattle.sm_standing.proofs.LeafRename.{at_size}
 use Rattle.sm_standing.proofs.LeafStages.{IsRenamed, listed, placed_stage, renamed_stage}
 use Rattle.sm_standing.proofs.PlainDisks.{all-In}
 use Rattle.sm_standing.proofs.UndoneLaws.{changes_are, other_undone, own_undone, undone_is_table}
+
+-- ---- runs of changes that are allowed
+
+pub permits_front : (count : ℕ) (t : VolumeTable) (xs ys : List Change) → AllPermit count t (xs ++ ys) → IsTable count t → IsTable count (applied_all t xs) × AllPermit count (applied_all t xs) ys
+permits_front count t [] ys may table = (table, may)
+permits_front count t (x ∷ xs) ys may table = permits_front count (applied t x) xs ys may.1 (IsTable-applied count t x table may.0)
+
+pub applied_then : (t : VolumeTable) (xs ys : List Change) → applied_all t (xs ++ ys) ≡ applied_all (applied_all t xs) ys
+applied_then t [] ys = refl
+applied_then t (x ∷ xs) ys = applied_then (applied t x) xs ys
 
 -- ---- names that no change of a list speaks of
 

@@ -12,9 +12,9 @@ use Rattle.vg_meta.specs.declared.changes.Tag.TheVariants.{Hidden}
 use Rattle.vg_meta.specs.Tables.{VolumeTable, Row, IsTable, rows}
 use Rattle.sm_standing.specs.Checks.{fault_of}
 use Rattle.sm_standing.specs.Entries.{folding, is_leaf_renamed, is_leaf_swapped, is_there, making}
-use Rattle.sm_standing.specs.Leaves.{leaf_gone}
+use Rattle.sm_standing.specs.Opened.{leaf_gone, undone, wanted}
 use Rattle.sm_standing.specs.Outlines.{HasImages, Outline}
-use Rattle.sm_standing.specs.Undone.{IsBeingEnlarged, undone, wanted}
+use Rattle.sm_standing.specs.Undone.{IsBeingEnlarged}
 use Rattle.sm_standing.proofs.ForkRuns.{AllRun}
 use Rattle.sm_standing.proofs.LeafMoves.{drop_folding, drop_none, drop_steady, end_steady, folding_gone, may_drop, may_end, may_show, show_folding, show_steady, shown_row, still_swapped}
 use Rattle.sm_standing.proofs.LeafRename.{its, leaf_row, may_rename, moved, now_swapped, rename_homes, rename_sound, renamed_folding, renamed_making, renamed_table}

@@ -9,7 +9,8 @@ use Rattle.vg_meta.specs.Tables.{VolumeTable, IsTable, name_eq}
 use Rattle.vg_meta.proofs.NameLaws.{name_eq-false, name_eq-true}
 use Rattle.sm_standing.specs.Checks.{fault_of}
 use Rattle.sm_standing.specs.Entries.{folding, head, is_leaf_renamed}
-use Rattle.sm_standing.specs.Leaves.{ended, ended_from}
+use Rattle.sm_standing.specs.Leaves.{ended_from}
+use Rattle.sm_standing.specs.Opened.{ended}
 use Rattle.sm_standing.specs.Outlines.{HasImages, Outline}
 use Rattle.sm_standing.specs.Standing.{standing_volume}
 use Rattle.sm_standing.proofs.LeafCorner.{cut_stands}

@@ -18,7 +18,6 @@ pub mod UndoneLaws
 pub mod EnlargedOutlines
 pub mod UndoneContents
 pub mod AreaLaws
-pub mod UndoneShape
 pub mod UndoneButLeaf
 pub mod VolumeLists
 pub mod DiskChanges
@@ -32,16 +31,15 @@ pub mod ForkSound
 pub mod ForkTables
 pub mod ForkParts
 pub mod ForkParents
+pub mod ForkNames
 pub mod ForkContents
 pub mod ForkRuns
 pub mod ForkUndone
-pub mod PartLists
-pub mod ForkOpened
 pub mod SwapLaws
+pub mod OpenedLaws
 pub mod UnfoldedLaws
 pub mod UnfoldedChecks
 pub mod UnfoldedContents
-pub mod UnfoldedShape
 pub mod UnfoldedRuns
 pub mod UnfoldedButLeaf
 pub mod LinkingLaws
@@ -54,8 +52,5 @@ pub mod LeafCorner
 pub mod LeafEnds
 pub mod LeafContents
 pub mod LeafSteps
-pub mod LeafOpenedEdits
-pub mod LeafOpenedParts
-pub mod LeafOpened
 pub mod LeafRows
 pub mod LeafStands

@@ -28,12 +28,12 @@ use Rattle.sm_standing.specs.Entries.{are_past, folding, folding_uuids, head, im
 use Rattle.sm_standing.specs.Forks.{forked}
 use Rattle.sm_standing.specs.Images.{Image, image_of}
 use Rattle.sm_standing.specs.Keeping.{HasNoEmptySlot, HasParentAlike, HoldsWell, IsKept}
-use Rattle.sm_standing.specs.Opened.{parent_name}
+use Rattle.sm_standing.specs.Opened.{applied_all, parent_name, undo_changes, undone}
 use Rattle.sm_standing.specs.Outlines.{Link, link_of, outline}
 use Rattle.sm_standing.specs.Plain.{IsSimple, is_plain_name, is_simple_name}
 use Rattle.sm_standing.specs.PlainSound.{KnownSound, SimpleSound}
 use Rattle.sm_standing.specs.Standing.{disks}
-use Rattle.sm_standing.specs.Undone.{AllPermit, IsSameArea, IsUndoing, applied_all, undo_changes, undone}
+use Rattle.sm_standing.specs.Undone.{AllPermit, IsSameArea, IsUndoing}
 use Rattle.sm_standing.specs.Unfolded.{IsLinking, unfolded}
 use Rattle.sm_standing.specs.Worlds.{with_table}
 use Rattle.sm_standing.proofs.DisksShown.{row_of-In}

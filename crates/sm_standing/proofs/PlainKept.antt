@@ -1,5 +1,5 @@
 -- A repository in which nothing is under way but that images may be being enlarged, disks forked, and images copied or linked, is
--- sound exactly fact by fact; it is kept where it holds well; and then the checks of all but a leaf's folding pass.
+-- sound exactly fact by fact; it is kept where it holds well.
 use Rattle.std.proofs.Common.{eq-eqb, ◌≡◌, ℕ, ◌≤◌, inl, inr, Bool, true, false, cond, not, ◌&&◌, ◌||◌, ◌==◌, List, [], ◌∷◌, length, Option, Some, None, is_some, refl, sym, ap, ap₂, ◌∙◌, arith, nat_lt}
 use Rattle.std.specs.List.{AllByRecursion, filter, list_any}
 use Rattle.std.proofs.lemmas.Bool.{true≢false, le-ltb, ltb-false, eqb-true}
@@ -23,7 +23,7 @@ use Rattle.sm_standing.specs.PlainSound.{AllSound, PlainSound, SimpleSound, Know
 use Rattle.sm_standing.specs.Contents.{Content, row, record_count, is_record_of}
 use Rattle.sm_standing.specs.Entries.{are_past, folding, is_at_stage, is_folding, is_making, is_old_of, making, second}
 use Rattle.sm_standing.specs.Standing.{standing_volume, uuids}
-use Rattle.sm_standing.specs.Checks.{placed, has_records, record_volume_fault, images, too_many_fault, misnamed_fault, lesser, second_entry_fault, lost_entry_fault, is_orphaned, old_leaf_fault, invalid_fault, tree_fault, is_entry_linked, entry_link_fault, record_place, record_fault, disk_place, disk_uuids, is_unrecorded, disk_fault, all_faults, faults_but_leaf, fault_of, first_fault, is_damaged, is_leaf_entry, leaf_entry_fault, fault_but_leaf_of, first_fault_but_leaf}
+use Rattle.sm_standing.specs.Checks.{placed, has_records, record_volume_fault, images, too_many_fault, misnamed_fault, lesser, second_entry_fault, lost_entry_fault, is_orphaned, old_leaf_fault, invalid_fault, tree_fault, is_entry_linked, entry_link_fault, record_place, record_fault, disk_place, disk_uuids, is_unrecorded, disk_fault, all_faults, PassesButLeaf, fault_of, first_fault, is_damaged, is_leaf_entry, IsSoundButLeaf}
 use Rattle.sm_standing.specs.Outlines.{Outline, outline, outline_records}
 use Rattle.sm_standing.specs.Keeping.{HasNoEmptySlot, HoldsWell, IsKept}
 use Rattle.common_laws.proofs.Lists.{find_none, none_find, none_first, first_none, numbers-In, In-numbers, In-filter, filter-In}
@@ -203,7 +203,7 @@ plain_sound c s = simple_sound c (plain_is_simple c s)
 pub plain_kept : (c : Content) → PlainSound c → HasNoEmptySlot c → IsKept c
 plain_kept c s = simple_kept c (plain_is_simple c s)
 
--- ---- from the checks of all but a leaf's folding to the facts
+-- ---- from the checks to the facts
 
 not_old : (t : VolumeTable) (u : List ℕ) (n : Name) → is_leaf_entry n ≡ false → is_old_of t u n ≡ false
 not_old t u (Leaf leaf parent) h = absurd (true≢false h)
@@ -227,14 +227,6 @@ known_from t _ none j h = refl
 pub all-of : (P : Row → Type 0) (rs : List Row) → ((r : Row) → In r rs → P r) → AllByRecursion P rs
 all-of P [] each = tt
 all-of P (r ∷ rs) each = (each r (inl refl), all-of P rs (λ s h. each s (inr h)))
-
--- where these two checks pass no leaf is being folded
-pub known_table : (o : Outline) → leaf_entry_fault o ≡ None → old_leaf_fault o ≡ None → IsKnown o.table
-unfolding leaf_entry_fault old_leaf_fault
-known_table o no_entry owned =
-    let none = named_none at.Journal (λ r. is_leaf_entry r.name) o.table.volumes no_entry in
-    all-of (λ r. is_known r ≡ true) o.table.volumes (λ r k.
-    known_from o.table r.name (λ u. none_old o.table u o.table.volumes none) (none r k) (named_none at.Image (λ q. is_orphaned o.table q.name) o.table.volumes owned r k))
 
 records_right : (o : Outline) (m : Option Row) → rows o.table Mgt ≡ m → not (has_records o m) ≡ false → (r : Row) × (rows o.table Mgt ≡ Some r) × (length r.extents ≡ record_extents o.extent)
 records_right o None is h = absurd (let e = h in cc)
@@ -267,32 +259,6 @@ lesser_none (Some a) (Some b) h = absurd (by (is_lt (name_cmp a b)) h)
     by true is = none-some a (sym is)
     by false is = none-some b (sym is)
 
--- where the checks of all but a leaf's folding pass, no leaf is being folded, and the repository is sound fact by fact
-pub but_leaf_known : (c : Content) → first_fault_but_leaf c ≡ None → KnownSound c
-unfolding fault_but_leaf_of record_volume_fault too_many_fault misnamed_fault second_entry_fault lost_entry_fault invalid_fault tree_fault entry_link_fault record_fault disk_fault
-but_leaf_known c h =
-    let each = none_first (faults_but_leaf (outline c)) h in
-    let w = records_right (outline c) (row c Mgt) refl (none_given _ at.Mgt (each (record_volume_fault (outline c)) (inl refl))) in
-    let known = known_table (outline c) (each (leaf_entry_fault (outline c)) (inr (inr (inr (inl refl))))) (each (old_leaf_fault (outline c)) (inr (inr (inr (inr (inr (inr (inl refl)))))))) in
-    let entries = lesser_none (second (folding c.table)) (second (making c.table)) (place_none at.Journal _ (each (second_entry_fault (outline c)) (inr (inr (inr (inr (inl refl))))))) in
-    record {
-      known = known;
-      records_row = w.0;
-      records_there = w.1;
-      records_extents = w.2;
-      few_images = not_above (length (images c.table)) (none_given _ at.Images (each (too_many_fault (outline c)) (inr (inl refl))));
-      named = named_none at.Image _ c.table.volumes (each (misnamed_fault (outline c)) (inr (inr (inl refl))));
-      one_folding = entries.0;
-      one_entry = entries.1;
-      at_stage = named_none at.Journal _ c.table.volumes (each (lost_entry_fault (outline c)) (inr (inr (inr (inr (inr (inl refl)))))));
-      valid = named_none at.Image _ c.table.volumes (each (invalid_fault (outline c)) (inr (inr (inr (inr (inr (inr (inr (inl refl)))))))));
-      placed = named_none at.Tree _ c.table.volumes (each (tree_fault (outline c)) (inr (inr (inr (inr (inr (inr (inr (inr (inl refl))))))))));
-      linked = λ r h. not_false (is_entry_linked (outline c) r.name) (named_none at.Journal (λ q. not (is_entry_linked (outline c) q.name)) c.table.volumes
-          (each (entry_link_fault (outline c)) (inr (inr (inr (inr (inr (inr (inr (inr (inr (inl refl))))))))))) r h);
-      right = λ k below. sym (ap is_damaged (reading_within c k below)) ∙ none_find _ (numbers 0 record_count) (record_none _ (each (record_fault (outline c)) (inr (inr (inr (inr (inr (inr (inr (inr (inr (inr (inl refl))))))))))))) k (numbers-In 0 record_count k (omega arith) (omega arith));
-      recorded = λ u n is. ap (λ rs. length (filter (is_record_of u) rs)) (sym (outline_records_same c)) ∙ eqb-true _ 1 (not_false _ (none_find _ (disk_uuids (outline c)) (disk_none _ (each (disk_fault (outline c)) (inr (inr (inr (inr (inr (inr (inr (inr (inr (inr (inr (inl refl)))))))))))))) u (listed_disk (outline c) u n is)));
-    }
-
 -- where all checks pass, fact by fact
 pub sound_all : (o : Outline) → fault_of o ≡ None → AllSound o
 unfolding fault_of record_volume_fault too_many_fault misnamed_fault second_entry_fault lost_entry_fault old_leaf_fault invalid_fault tree_fault entry_link_fault record_fault disk_fault
@@ -316,6 +282,32 @@ sound_all o h =
           (each (entry_link_fault o) (inr (inr (inr (inr (inr (inr (inr (inr (inl refl)))))))))) r i);
       right = λ k below. none_find _ (numbers 0 record_count) (record_none _ (each (record_fault o) (inr (inr (inr (inr (inr (inr (inr (inr (inr (inl refl)))))))))))) k (numbers-In 0 record_count k (omega arith) (omega arith));
       recorded = λ u n is. eqb-true _ 1 (not_false _ (none_find _ (disk_uuids o) (disk_none _ (each (disk_fault o) (inr (inr (inr (inr (inr (inr (inr (inr (inr (inr (inl refl))))))))))))) u (listed_disk o u n is)));
+    }
+
+-- where no entry of the folding of a leaf is there besides, no old leaf is either
+pub known_table : (o : Outline) → PassesButLeaf o → IsKnown o.table
+known_table o h =
+    let s = sound_all o h.sound in
+    all-of (λ r. is_known r ≡ true) o.table.volumes (λ r k. known_from o.table r.name (λ u. none_old o.table u o.table.volumes h.no_leaf) (h.no_leaf r k) (s.owned r k))
+
+pub but_leaf_known : (c : Content) → IsSoundButLeaf c → KnownSound c
+but_leaf_known c h =
+    let s = sound_all (outline c) h.sound in
+    record {
+      known = known_table (outline c) h;
+      records_row = s.records_row;
+      records_there = s.records_there;
+      records_extents = s.records_extents;
+      few_images = s.few_images;
+      named = s.named;
+      one_folding = s.one_folding;
+      one_entry = s.one_entry;
+      at_stage = s.at_stage;
+      valid = s.valid;
+      placed = s.placed;
+      linked = s.linked;
+      right = λ k below. sym (ap is_damaged (reading_within c k below)) ∙ s.right k below;
+      recorded = λ u n is. ap (λ rs. length (filter (is_record_of u) rs)) (sym (outline_records_same c)) ∙ s.recorded u n is;
     }
 
 -- where no entry of a copy or a link is there, at most images are being enlarged or disks forked
@@ -348,7 +340,7 @@ known_sound_simple c s simple = record {
   recorded = s.recorded;
 }
 
-pub but_leaf_sound : (c : Content) → first_fault_but_leaf c ≡ None → folding c.table ≡ [] → SimpleSound c
+pub but_leaf_sound : (c : Content) → IsSoundButLeaf c → folding c.table ≡ [] → SimpleSound c
 but_leaf_sound c h none = let s = but_leaf_known c h in known_sound_simple c s (known_is_simple c.table s.known none)
 
 -- where no entry is there, nothing is under way
@@ -380,30 +372,11 @@ simple_is_plain c s none = record {
 
 -- ---- and back
 
--- where all checks pass and no leaf is being folded, each of the checks of all but a leaf's folding passes
-but_leaf_pass : (x : Outline) → ((o : Option Place) → In o (all_faults x) → o ≡ None) → IsKnown x.table → (o : Option Place) → In o (faults_but_leaf x) → o ≡ None
-unfolding leaf_entry_fault
-but_leaf_pass x each known o (inl is) = each o (inl is)
-but_leaf_pass x each known o (inr (inl is)) = each o (inr (inl is))
-but_leaf_pass x each known o (inr (inr (inl is))) = each o (inr (inr (inl is)))
-but_leaf_pass x each known o (inr (inr (inr (inl is)))) = is ∙ none_named at.Journal _ x.table.volumes (λ r h.
-    (not_ahead r.name (all-In (λ s. is_known s ≡ true) x.table.volumes r known h)).no_leaf_entry)
-but_leaf_pass x each known o (inr (inr (inr (inr (inl is))))) = each o (inr (inr (inr (inl is))))
-but_leaf_pass x each known o (inr (inr (inr (inr (inr (inl is)))))) = each o (inr (inr (inr (inr (inl is)))))
-but_leaf_pass x each known o (inr (inr (inr (inr (inr (inr (inl is))))))) = each o (inr (inr (inr (inr (inr (inl is))))))
-but_leaf_pass x each known o (inr (inr (inr (inr (inr (inr (inr (inl is)))))))) = each o (inr (inr (inr (inr (inr (inr (inl is)))))))
-but_leaf_pass x each known o (inr (inr (inr (inr (inr (inr (inr (inr (inl is))))))))) = each o (inr (inr (inr (inr (inr (inr (inr (inl is))))))))
-but_leaf_pass x each known o (inr (inr (inr (inr (inr (inr (inr (inr (inr (inl is)))))))))) = each o (inr (inr (inr (inr (inr (inr (inr (inr (inl is)))))))))
-but_leaf_pass x each known o (inr (inr (inr (inr (inr (inr (inr (inr (inr (inr (inl is))))))))))) = each o (inr (inr (inr (inr (inr (inr (inr (inr (inr (inl is))))))))))
-but_leaf_pass x each known o (inr (inr (inr (inr (inr (inr (inr (inr (inr (inr (inr (inl is)))))))))))) = each o (inr (inr (inr (inr (inr (inr (inr (inr (inr (inr (inl is)))))))))))
-but_leaf_pass x each known o (inr (inr (inr (inr (inr (inr (inr (inr (inr (inr (inr (inr none)))))))))))) = elim none [ ]
+pub outline_but_leaf : (x : Outline) → fault_of x ≡ None → IsKnown x.table → PassesButLeaf x
+outline_but_leaf x sound known = record { sound = sound; no_leaf = λ r h. (not_ahead r.name (all-In (λ s. is_known s ≡ true) x.table.volumes r known h)).no_leaf_entry }
 
-pub outline_but_leaf : (x : Outline) → fault_of x ≡ None → IsKnown x.table → fault_but_leaf_of x ≡ None
-unfolding fault_of fault_but_leaf_of
-outline_but_leaf x sound known = first_none (faults_but_leaf x) (but_leaf_pass x (none_first (all_faults x) sound) known)
-
-pub known_but_leaf : (c : Content) → first_fault c ≡ None → IsKnown c.table → first_fault_but_leaf c ≡ None
+pub known_but_leaf : (c : Content) → first_fault c ≡ None → IsKnown c.table → IsSoundButLeaf c
 known_but_leaf c = outline_but_leaf (outline c)
 
-pub simple_but_leaf : (c : Content) → first_fault c ≡ None → IsSimple c.table → first_fault_but_leaf c ≡ None
+pub simple_but_leaf : (c : Content) → first_fault c ≡ None → IsSimple c.table → IsSoundButLeaf c
 simple_but_leaf c sound simple = known_but_leaf c sound (simple_known c.table simple)

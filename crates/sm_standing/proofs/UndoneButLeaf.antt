@@ -1,4 +1,4 @@
--- Where the checks of all but a leaf's folding pass: what an enlargement or a fork that was cut short, where there is one, leaves of a content, and what
+-- Where all checks pass and no leaf is being folded: what an enlargement or a fork that was cut short, where there is one, leaves of a content, and what
 -- stands while it is undone.
 use Rattle.std.proofs.Common.{◌≡◌, ◌⊎◌, inl, inr, ℕ, zero, suc, ◌≤◌, Bool, true, false, not, ◌&&◌, List, [], ◌∷◌, ◌++◌, take, Option, None, Some, refl, sym, ap, ◌∙◌, subst}
 use Rattle.std.proofs.lemmas.Bool.{true≢false}
@@ -17,23 +17,23 @@ use Rattle.sm_standing.specs.Entries.{head, is_hidden, is_making, making, of_row
 use Rattle.sm_standing.specs.Forks.{forked}
 use Rattle.sm_standing.specs.Images.{image_of}
 use Rattle.sm_standing.specs.Keeping.{HasNoEmptySlot, IsKept}
-use Rattle.sm_standing.specs.Opened.{opened}
+use Rattle.sm_standing.specs.Opened.{applied_all, changes_back, is_longer, opened, undo_changes, undone, wanted}
 use Rattle.sm_standing.specs.Outlines.{outline}
 use Rattle.sm_standing.specs.PlainSound.{PlainSound, SimpleSound}
 use Rattle.sm_standing.specs.Standing.{disks}
-use Rattle.sm_standing.specs.Undone.{AllPermit, IsBeingEnlarged, IsSameArea, IsUndoing, applied_all, changes_back, from_entry, image_back, is_longer, row_back, undo_changes, undone, undone_content, undone_from, wanted}
+use Rattle.sm_standing.specs.Undone.{AllPermit, IsBeingEnlarged, IsSameArea, IsUndoing, from_entry, image_back, row_back, undone_content, undone_from}
 use Rattle.sm_standing.specs.Worlds.{with_table}
 use Rattle.sm_standing.proofs.AreaLaws.{area_disks, area_images, area_kept, records_room}
 use Rattle.sm_standing.proofs.EnlargedLaws.{images_enlarging}
 use Rattle.sm_standing.proofs.EnlargingLaws.{hidden_alike}
 use Rattle.sm_standing.proofs.ForkContents.{images_apart}
-use Rattle.sm_standing.proofs.ForkOpened.{fork_opened}
 use Rattle.sm_standing.proofs.ForkRuns.{AllRun, run_permits, run_taken}
 use Rattle.sm_standing.proofs.ForkUndone.{fork_parts, its_stage, n as n_of, fork_disks, fork_holding, fork_images, fork_kept, fork_permits, fork_rows, fork_table, fork_undone, fork_undone_disks}
+use Rattle.sm_standing.proofs.OpenedLaws.{opened_undone}
+use Rattle.sm_standing.proofs.PlainDisks.{no_folding, no_making, simple_folding}
 use Rattle.sm_standing.proofs.PlainKept.{simple_is_known, simple_is_plain, simple_well}
 use Rattle.sm_standing.proofs.UndoneContents.{IsBetween, before_it, between_enlarging, now, between_cut, between_disks, between_kept, between_now, disks_undone_at, holding_undone, images_undone_at, sound_undone, undone_disks, undone_kept}
 use Rattle.sm_standing.proofs.UndoneLaws.{IsBeingForked, changes_are, cut_table, enlarged_or_not, may_cut, may_remove, undone_is, undone_is_table, undone_later, undone_none}
-use Rattle.sm_standing.proofs.UndoneShape.{opened_undone}
 
 -- the commits that undo an enlargement, and others behind them: each is allowed in its turn
 module _ (count : ℕ) (t : VolumeTable) (u : List ℕ) (extents : ℕ) (w : IsBeingEnlarged t u extents) (P L : VolumeTable → Type 0) (first : P t) (next : P (cut_table t u extents w)) where
@@ -123,12 +123,9 @@ module _ (c : Content) (table : IsTable c.count c.table) (geometry : IsGeometry 
       by (inr (inr k)) = fork_undone_disks c table geometry room s k.0 k.1 k.2 k.3
 
   pub but_leaf_opened : opened (undone_content c) ≡ opened c
-  but_leaf_opened = by either
-    where
-      by : (making c.table ≡ []) ⊎ (((u : List ℕ) × (extents : ℕ) × IsBeingEnlarged c.table u extents) ⊎ IsBeingForked c.table) → opened (undone_content c) ≡ opened c
-      by (inl none) = ap opened (as_it_was none)
-      by (inr (inl k)) = opened_undone c k.0 k.1 k.2 table geometry room s
-      by (inr (inr k)) = fork_opened c table geometry room s k.0 k.1 k.2 k.3
+  but_leaf_opened =
+      let plain = (let d = but_leaf_undone in d.plain) in
+      opened_undone c (simple_folding c.table.volumes s.simple) (no_folding (undone c.table).volumes plain) (no_making (undone c.table).volumes plain)
 
   -- ---- whatever a stop leaves while it is undone
 

@@ -20,11 +20,12 @@ use Rattle.sm_standing.specs.Contents.{Content, record_count, is_record_of, reco
 use Rattle.sm_standing.specs.Enlarging.{HasEntry, IsEnlargingOn}
 use Rattle.sm_standing.specs.Images.{image_of, raw_image, vhd_image}
 use Rattle.sm_standing.specs.Keeping.{HasNoEmptySlot, IsKept}
+use Rattle.sm_standing.specs.Opened.{undone}
 use Rattle.sm_standing.specs.Outlines.{Outline, outline, link_of}
 use Rattle.sm_standing.specs.Plain.{IsSimple}
 use Rattle.sm_standing.specs.PlainSound.{PlainSound, SimpleSound}
 use Rattle.sm_standing.specs.Standing.{disks}
-use Rattle.sm_standing.specs.Undone.{IsBeingEnlarged, IsSameArea, undone, undone_at, undone_content_at}
+use Rattle.sm_standing.specs.Undone.{IsBeingEnlarged, IsSameArea, undone_at, undone_content_at}
 use Rattle.sm_standing.specs.Worlds.{with_table}
 use Rattle.sm_standing.proofs.EnlargedLaws.{enlarging_disks, enlarging_kept, images_enlarging, outline_enlarging}
 use Rattle.sm_standing.proofs.EnlargedOutlines.{sound_with, sound_without}

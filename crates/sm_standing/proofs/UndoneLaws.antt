@@ -24,11 +24,11 @@ use Rattle.sm_standing.specs.Checks.{has_twin, images, is_lost, is_misnamed}
 use Rattle.sm_standing.specs.Enlarging.{HasEntry, IsAtLeast, IsEnlarging}
 use Rattle.sm_standing.specs.Enlarging.HasEntry.{here, next}
 use Rattle.sm_standing.specs.Entries.{are_past, head, image_with, is_at_stage, is_inflating, is_making, is_there, making, of_row, second}
-use Rattle.sm_standing.specs.Opened.{under_name}
+use Rattle.sm_standing.specs.Opened.{applied_all, base_changes, changes_back, is_longer, under_name, undo_changes, undone, wanted}
 use Rattle.sm_standing.specs.Outlines.{Outline}
 use Rattle.sm_standing.specs.Plain.{IsPlain, IsSimple, is_simple, is_simple_name}
 use Rattle.sm_standing.specs.Standing.{standing_volume}
-use Rattle.sm_standing.specs.Undone.{IsBeingEnlarged, applied_all, base_changes, changes_back, is_longer, undo_changes, undone, undone_at, wanted}
+use Rattle.sm_standing.specs.Undone.{IsBeingEnlarged, undone_at}
 use Rattle.sm_standing.proofs.DisksShown.{row_of-In}
 use Rattle.sm_standing.proofs.EnlargingLaws.{count_same, into, stands_alike}
 use Rattle.sm_standing.proofs.NamedLaws.{named_still}
@@ -330,7 +330,7 @@ module _ (t : VolumeTable) (u : List ℕ) (extents : ℕ) (w : IsBeingEnlarged t
       over : VolumeTable
       over = record t { sequence = sequence + t.sequence }
 
--- ---- with the checks of all but a leaf's folding of a table
+-- ---- with the checks of a table in which no leaf is being folded
 
 pub head_alone : (ns : List Name) (n : Name) → head ns ≡ Some n → second ns ≡ None → ns ≡ n ∷ []
 head_alone [] n is one = absurd (none-some n is)

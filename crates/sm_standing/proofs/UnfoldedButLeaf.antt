@@ -1,37 +1,36 @@
--- Where the checks of all but a leaf's folding pass: what is left of a content without the entry of a copy or of a link, where there is one.
+-- Where all checks pass and no leaf is being folded: what is left of a content without the entry of a copy or of a link, where there is one.
 use Rattle.std.proofs.Common.{◌≡◌, ◌⊎◌, inl, inr, ℕ, true, false, List, [], ◌∷◌, Some, None, refl, sym, ap, ◌∙◌, subst}
 use Rattle.std.proofs.lemmas.Bool.{true≢false}
 use Rattle.common_laws.specs.Lists.{In}
-use Rattle.common_laws.proofs.Lists.{In-filter, In-map, none_first}
+use Rattle.common_laws.proofs.Lists.{In-filter, In-map}
 use Rattle.sm_base.specs.Numbers.{IsGeometry}
-use Rattle.sm_base.specs.declared.faults.Place.TheVariants as at
 use Rattle.sm_base.specs.declared.names.Name.{Name}
-use Rattle.sm_base.specs.declared.names.Name.TheVariants.{Vhd, Coalesce, Relink, Leaf}
+use Rattle.sm_base.specs.declared.names.Name.TheVariants.{Coalesce, Relink, Leaf}
 use Rattle.vg_meta.specs.Changes.{Permits, applied, raised}
 use Rattle.vg_meta.specs.declared.changes.Change.TheVariants.{Remove}
 use Rattle.vg_meta.specs.Tables.{VolumeTable, Row, IsTable, names_of, rows}
 use Rattle.vg_meta.proofs.ChangeLaws.{IsTable-applied}
-use Rattle.sm_standing.specs.Checks.{leaf_entry_fault, fault_but_leaf_of, faults_but_leaf, lesser, old_leaf_fault, second_entry_fault}
+use Rattle.sm_standing.specs.Checks.{PassesButLeaf}
 use Rattle.sm_standing.specs.Contents.{Content}
 use Rattle.sm_standing.specs.Entries.{folding, head, is_folding, making, second}
 use Rattle.sm_standing.specs.Images.{image_of}
 use Rattle.sm_standing.specs.Keeping.{HasNoEmptySlot, IsKept}
-use Rattle.sm_standing.specs.Opened.{opened, parent_name}
+use Rattle.sm_standing.specs.Opened.{ended, linked_up, opened}
 use Rattle.sm_standing.specs.Outlines.{Outline}
 use Rattle.sm_standing.specs.Plain.{IsKnown, is_known, is_known_name}
 use Rattle.sm_standing.specs.PlainSound.{KnownSound, SimpleSound}
 use Rattle.sm_standing.specs.Standing.{disks}
 use Rattle.sm_standing.specs.Undone.{IsSameArea}
-use Rattle.sm_standing.specs.Unfolded.{linked_by, linked_past, linked_up, unfolded, unfolded_content, without_entry}
+use Rattle.sm_standing.specs.Unfolded.{unfolded, unfolded_content, without_entry}
 use Rattle.sm_standing.specs.Worlds.{with_table}
 use Rattle.sm_standing.proofs.AreaLaws.{area_disks, area_kept}
-use Rattle.sm_standing.proofs.PlainDisks.{all-In}
-use Rattle.sm_standing.proofs.PlainKept.{known_is_simple, known_sound_simple, known_table, lesser_none, place_none, simple_is_known, simple_well}
+use Rattle.sm_standing.proofs.OpenedLaws.{ended_is, opened_unfolded}
+use Rattle.sm_standing.proofs.PlainDisks.{all-In, simple_folding}
+use Rattle.sm_standing.proofs.PlainKept.{sound_all, known_is_simple, known_sound_simple, known_table, simple_is_known, simple_well}
 use Rattle.sm_standing.proofs.UndoneLaws.{head_alone, named_found, raised_later}
 use Rattle.sm_standing.proofs.UnfoldedChecks.{but_leaf_bare}
 use Rattle.sm_standing.proofs.UnfoldedContents.{bare, disks_bare, holding_bare, images_bare, sound_bare}
 use Rattle.sm_standing.proofs.UnfoldedLaws.{IsFold, fold_copy, fold_link, making_bare, rows_bare}
-use Rattle.sm_standing.proofs.UnfoldedShape.{opened_copy, opened_link}
 
 -- ---- which entry there is
 
@@ -87,24 +86,19 @@ fold_permits count t e one =
 
 -- ---- the checks
 
-pub but_leaf_folds : (o : Outline) → fault_but_leaf_of o ≡ None → IsKnown o.table × (second (folding o.table) ≡ None)
-unfolding fault_but_leaf_of second_entry_fault
-but_leaf_folds o h =
-    let each = none_first (faults_but_leaf o) h in (
-      known_table o (each (leaf_entry_fault o) (inr (inr (inr (inl refl))))) (each (old_leaf_fault o) (inr (inr (inr (inr (inr (inr (inl refl)))))))),
-      (lesser_none (second (folding o.table)) (second (making o.table)) (place_none at.Journal (lesser (second (folding o.table)) (second (making o.table))) (each (second_entry_fault o) (inr (inr (inr (inr (inl refl)))))))).0,
-    )
+pub but_leaf_folds : (o : Outline) → PassesButLeaf o → IsKnown o.table × (second (folding o.table) ≡ None)
+but_leaf_folds o h = (known_table o h, (sound_all o h.sound).one_folding)
 
--- those of all but a leaf's folding pass without the entry too, on whatever has no image of such a name
-pub unfolded_but_leaf : (count : ℕ) (o : Outline) → ((n : Name) → is_folding n ≡ true → o.links n ≡ None) → IsTable count o.table → fault_but_leaf_of o ≡ None
-    → fault_but_leaf_of (record o { table = unfolded o.table }) ≡ None
+-- they pass without the entry too, on whatever has no image of such a name
+pub unfolded_but_leaf : (count : ℕ) (o : Outline) → ((n : Name) → is_folding n ≡ true → o.links n ≡ None) → IsTable count o.table → PassesButLeaf o
+    → PassesButLeaf (record o { table = unfolded o.table })
 unfolded_but_leaf count o quiet table h = by (fold_or_not o.table (let k = but_leaf_folds o h in fold_cases o.table k.0 k.1))
   where
-    by : (folding o.table ≡ []) ⊎ HasFold o.table → fault_but_leaf_of (record o { table = unfolded o.table }) ≡ None
-    by (inl none) = ap (λ t. fault_but_leaf_of (record o { table = t })) (unfolded_none o.table none) ∙ h
+    by : (folding o.table ≡ []) ⊎ HasFold o.table → PassesButLeaf (record o { table = unfolded o.table })
+    by (inl none) = subst (λ t. PassesButLeaf (record o { table = t })) (sym (unfolded_none o.table none)) h
     by (inr k) =
-        ap (λ t. fault_but_leaf_of (record o { table = t })) (unfolded_is o.table k.0 k.2)
-        ∙ but_leaf_bare o quiet k.0 k.1 (raised o.table.sequence) k.2 (raised_later o.table.sequence table.sequence) h
+        subst (λ t. PassesButLeaf (record o { table = t })) (sym (unfolded_is o.table k.0 k.2))
+        (but_leaf_bare o quiet k.0 k.1 (raised o.table.sequence) k.2 (raised_later o.table.sequence table.sequence) h)
 
 -- ---- the content
 
@@ -157,18 +151,12 @@ module _ (c : Content) (s : KnownSound c) where
     unfolded_table = by_case (λ x. IsTable c.count x.table) (λ none. table) (λ e f one. IsTable-applied c.count t (Remove e) table (fold_permits c.count t e one))
 
     pub unfolded_opened : opened c ≡ linked_up t (opened (unfolded_content c))
-    unfolded_opened = by cases
+    unfolded_opened = opened_unfolded c (by cases) (simple_folding (unfolded t).volumes (let d = unfolded_sound in d.simple))
       where
-        by : FoldCases t → opened c ≡ linked_up t (opened (unfolded_content c))
-        by (inl none) = sym (ap (λ ns. linked_by t (head ns) (opened (unfolded_content c))) none ∙ ap (λ x. opened (at_table x)) (unfolded_none t none))
-        by (inr (child, parent, inl one)) =
-            let r = fold_row t (Coalesce child parent) one in
-            opened_copy c (Coalesce child parent) (fold_copy child parent) one r.0 r.1 table.volumes.rising refl
-            ∙ sym (ap (λ ns. linked_by t (head ns) (opened (unfolded_content c))) one ∙ ap (λ x. opened (at_table x)) (unfolded_is t (Coalesce child parent) one))
-        by (inr (child, parent, inr one)) =
-            let r = fold_row t (Relink child parent) one in
-            opened_link c (Relink child parent) (fold_link child parent) one r.0 r.1 table.volumes.rising child (parent_name t parent) refl
-            ∙ sym (ap (λ ns. linked_by t (head ns) (opened (unfolded_content c))) one ∙ ap (λ x. linked_past (Vhd child) (parent_name t parent) (opened (at_table x))) (unfolded_is t (Relink child parent) one))
+        by : FoldCases t → ended t ≡ unfolded t
+        by (inl none) = ended_is t [] none ∙ sym (unfolded_none t none)
+        by (inr (child, parent, inl one)) = ended_is t (Coalesce child parent ∷ []) one ∙ sym (unfolded_is t (Coalesce child parent) one)
+        by (inr (child, parent, inr one)) = ended_is t (Relink child parent ∷ []) one ∙ sym (unfolded_is t (Relink child parent) one)
 
     module _ (geometry : IsGeometry c.extent c.block c.entries) (area : ℕ → List ℕ) (same : IsSameArea c area) where
       pub unfolded_kept : HasNoEmptySlot c → IsKept (with_table c (unfolded t) area)

@@ -16,7 +16,7 @@ use Rattle.vg_meta.specs.Changes.{without}
 use Rattle.vg_meta.specs.Tables.{VolumeTable, Row, rows}
 use Rattle.vg_meta.proofs.RowLaws.{All-without}
 use Rattle.sm_machine.specs.Shapes.{image_limit, same_image}
-use Rattle.sm_standing.specs.Checks.{disk_fault, disk_place, leaf_entry_fault, entry_link_fault, fault_but_leaf_of, faults_but_leaf, has_records, invalid_fault, is_leaf_entry, is_orphaned, is_unrecorded, lesser, lost_entry_fault, misnamed_fault, old_leaf_fault, placed, record_fault, record_volume_fault, second_entry_fault, too_many_fault, tree_fault, chain_length, children, has_twin, images, is_base_of, is_entry_linked, is_fork_linked, is_image_wrong, is_invalid, is_linked, is_lost, is_misnamed, is_misplaced, is_no_larger, is_parent_right, is_tree_wrong, parent_is, tree_wrong_as}
+use Rattle.sm_standing.specs.Checks.{all_faults, fault_of, disk_fault, disk_place, entry_link_fault, PassesButLeaf, has_records, invalid_fault, is_orphaned, is_unrecorded, lesser, lost_entry_fault, misnamed_fault, old_leaf_fault, placed, record_fault, record_volume_fault, second_entry_fault, too_many_fault, tree_fault, chain_length, children, has_twin, images, is_base_of, is_entry_linked, is_fork_linked, is_image_wrong, is_invalid, is_linked, is_lost, is_misnamed, is_misplaced, is_no_larger, is_parent_right, is_tree_wrong, parent_is, tree_wrong_as}
 use Rattle.sm_standing.specs.Entries.{are_past, folding, folding_uuids, head, is_among, is_at_stage, is_folding, is_fork_begun, is_fork_made, is_hidden, making, second, uuids_in}
 use Rattle.sm_standing.specs.Outlines.{Link, Outline, outline_records}
 use Rattle.sm_standing.specs.Plain.{IsKnown, IsSimple, is_known, is_simple, is_simple_name}
@@ -230,14 +230,14 @@ module _ (o : Outline) (quiet : (n : Name) → is_folding n ≡ true → o.links
 
     -- ---- the checks
 
-    -- where those of all but a leaf's folding pass, with this sequence number or a later one
-    module _ (later : t.sequence ≤ sequence) (h : fault_but_leaf_of o ≡ None) where
-      each : (x : Option Place) → In x (faults_but_leaf o) → x ≡ None
-      unfolding fault_but_leaf_of
-      each = none_first (faults_but_leaf o) h
+    -- where they pass and no leaf is being folded, with this sequence number or a later one
+    module _ (later : t.sequence ≤ sequence) (h : PassesButLeaf o) where
+      each : (x : Option Place) → In x (all_faults o) → x ≡ None
+      unfolding fault_of
+      each = none_first (all_faults o) h.sound
 
       simple : IsSimple (bare_at e sequence t)
-      simple = known_bare (known_table o (each (leaf_entry_fault o) (inr (inr (inr (inl refl))))) (each (old_leaf_fault o) (inr (inr (inr (inr (inr (inr (inl refl)))))))))
+      simple = known_bare (known_table o h)
 
       has_records_too : record_volume_fault less ≡ None
       unfolding record_volume_fault
@@ -254,23 +254,18 @@ module _ (o : Outline) (quiet : (n : Name) → is_folding n ≡ true → o.links
           ∙ misnamed_step (is_data r.name) (has_twin t r.name) (are_past t r.name) (are_past (bare_at e sequence t) r.name) (all_past (uuids_in r.name) t.sequence sequence later)
           (named_none at.Image (is_misnamed t) t.volumes (each (misnamed_fault o) (inr (inr (inl refl)))) r (In-bare e t.volumes r i)))
 
-      ahead : leaf_entry_fault less ≡ None
-      unfolding leaf_entry_fault
-      ahead = none_named at.Journal (λ r. is_leaf_entry r.name) (without e t.volumes) (λ r i.
-          named_none at.Journal (λ q. is_leaf_entry q.name) t.volumes (each (leaf_entry_fault o) (inr (inr (inr (inl refl))))) r (In-bare e t.volumes r i))
-
       second_one : second_entry_fault less ≡ None
       unfolding second_entry_fault
       second_one =
           ap₂ (λ ns ms. placed at.Journal (lesser (second ns) (second ms))) none_folding (making_bare e f t sequence)
-          ∙ ap (placed at.Journal) (lesser_none (second (folding t)) (second (making t)) (place_none at.Journal (lesser (second (folding t)) (second (making t))) (each (second_entry_fault o) (inr (inr (inr (inr (inl refl)))))))).1
+          ∙ ap (placed at.Journal) (lesser_none (second (folding t)) (second (making t)) (place_none at.Journal (lesser (second (folding t)) (second (making t))) (each (second_entry_fault o) (inr (inr (inr (inl refl))))))).1
 
       lost : lost_entry_fault less ≡ None
       unfolding lost_entry_fault
       lost = none_named at.Journal (is_lost (bare_at e sequence t)) (without e t.volumes) (λ r i.
           lost_step (is_entry r.name) (is_at_stage t r.name) (are_past t r.name) (is_at_stage (bare_at e sequence t) r.name) (are_past (bare_at e sequence t) r.name)
           (stage_to r.name (simple_at simple r i)) (all_past (uuids_in r.name) t.sequence sequence later)
-          (named_none at.Journal (is_lost t) t.volumes (each (lost_entry_fault o) (inr (inr (inr (inr (inr (inl refl))))))) r (In-bare e t.volumes r i)))
+          (named_none at.Journal (is_lost t) t.volumes (each (lost_entry_fault o) (inr (inr (inr (inr (inl refl)))))) r (In-bare e t.volumes r i)))
 
       old : old_leaf_fault less ≡ None
       unfolding old_leaf_fault
@@ -280,46 +275,45 @@ module _ (o : Outline) (quiet : (n : Name) → is_folding n ≡ true → o.links
       valid : invalid_fault less ≡ None
       unfolding invalid_fault
       valid = none_named at.Image (is_invalid less) (without e t.volumes) (λ r i.
-          invalid_bare r ∙ named_none at.Image (is_invalid o) t.volumes (each (invalid_fault o) (inr (inr (inr (inr (inr (inr (inr (inl refl))))))))) r (In-bare e t.volumes r i))
+          invalid_bare r ∙ named_none at.Image (is_invalid o) t.volumes (each (invalid_fault o) (inr (inr (inr (inr (inr (inr (inl refl)))))))) r (In-bare e t.volumes r i))
 
       tree : tree_fault less ≡ None
       unfolding tree_fault
       tree = none_named at.Tree (is_tree_wrong less) (without e t.volumes) (λ r i.
-          tree_bare r ∙ named_none at.Tree (is_tree_wrong o) t.volumes (each (tree_fault o) (inr (inr (inr (inr (inr (inr (inr (inr (inl refl)))))))))) r (In-bare e t.volumes r i))
+          tree_bare r ∙ named_none at.Tree (is_tree_wrong o) t.volumes (each (tree_fault o) (inr (inr (inr (inr (inr (inr (inr (inl refl))))))))) r (In-bare e t.volumes r i))
 
       linked : entry_link_fault less ≡ None
       unfolding entry_link_fault
       linked = none_named at.Journal (λ r. not (is_entry_linked less r.name)) (without e t.volumes) (λ r i.
           ap not (linked_as r.name (simple_at simple r i))
-          ∙ named_none at.Journal (λ q. not (is_entry_linked o q.name)) t.volumes (each (entry_link_fault o) (inr (inr (inr (inr (inr (inr (inr (inr (inr (inl refl))))))))))) r (In-bare e t.volumes r i))
+          ∙ named_none at.Journal (λ q. not (is_entry_linked o q.name)) t.volumes (each (entry_link_fault o) (inr (inr (inr (inr (inr (inr (inr (inr (inl refl)))))))))) r (In-bare e t.volumes r i))
 
       right : record_fault less ≡ None
       unfolding record_fault
-      right = each (record_fault o) (inr (inr (inr (inr (inr (inr (inr (inr (inr (inr (inl refl)))))))))))
+      right = each (record_fault o) (inr (inr (inr (inr (inr (inr (inr (inr (inr (inl refl))))))))))
 
       recorded : disk_fault less ≡ None
       unfolding disk_fault outline_records
       recorded =
           ap (λ us. disk_place (find (is_unrecorded o) (filter (λ v. is_some (standing_volume (bare_at e sequence t) v)) us))) uuids_bare
           ∙ ap (λ g. disk_place (find (is_unrecorded o) (filter g (uuids t)))) (fun_ext (λ v. ap is_some (standing_bare v)))
-          ∙ each (disk_fault o) (inr (inr (inr (inr (inr (inr (inr (inr (inr (inr (inr (inl refl))))))))))))
+          ∙ each (disk_fault o) (inr (inr (inr (inr (inr (inr (inr (inr (inr (inr (inl refl)))))))))))
 
-      pass : (x : Option Place) → In x (faults_but_leaf less) → x ≡ None
+      pass : (x : Option Place) → In x (all_faults less) → x ≡ None
       pass x (inl is) = is ∙ has_records_too
       pass x (inr (inl is)) = is ∙ few
       pass x (inr (inr (inl is))) = is ∙ named
-      pass x (inr (inr (inr (inl is)))) = is ∙ ahead
-      pass x (inr (inr (inr (inr (inl is))))) = is ∙ second_one
-      pass x (inr (inr (inr (inr (inr (inl is)))))) = is ∙ lost
-      pass x (inr (inr (inr (inr (inr (inr (inl is))))))) = is ∙ old
-      pass x (inr (inr (inr (inr (inr (inr (inr (inl is)))))))) = is ∙ valid
-      pass x (inr (inr (inr (inr (inr (inr (inr (inr (inl is))))))))) = is ∙ tree
-      pass x (inr (inr (inr (inr (inr (inr (inr (inr (inr (inl is)))))))))) = is ∙ linked
-      pass x (inr (inr (inr (inr (inr (inr (inr (inr (inr (inr (inl is))))))))))) = is ∙ right
-      pass x (inr (inr (inr (inr (inr (inr (inr (inr (inr (inr (inr (inl is)))))))))))) = is ∙ recorded
-      pass x (inr (inr (inr (inr (inr (inr (inr (inr (inr (inr (inr (inr none)))))))))))) = absurd none
+      pass x (inr (inr (inr (inl is)))) = is ∙ second_one
+      pass x (inr (inr (inr (inr (inl is))))) = is ∙ lost
+      pass x (inr (inr (inr (inr (inr (inl is)))))) = is ∙ old
+      pass x (inr (inr (inr (inr (inr (inr (inl is))))))) = is ∙ valid
+      pass x (inr (inr (inr (inr (inr (inr (inr (inl is)))))))) = is ∙ tree
+      pass x (inr (inr (inr (inr (inr (inr (inr (inr (inl is))))))))) = is ∙ linked
+      pass x (inr (inr (inr (inr (inr (inr (inr (inr (inr (inl is)))))))))) = is ∙ right
+      pass x (inr (inr (inr (inr (inr (inr (inr (inr (inr (inr (inl is))))))))))) = is ∙ recorded
+      pass x (inr (inr (inr (inr (inr (inr (inr (inr (inr (inr (inr none))))))))))) = absurd none
 
       -- they pass without the entry too
-      pub but_leaf_bare : fault_but_leaf_of less ≡ None
-      unfolding fault_but_leaf_of
-      but_leaf_bare = first_none (faults_but_leaf less) pass
+      pub but_leaf_bare : PassesButLeaf less
+      unfolding fault_of
+      but_leaf_bare = record { sound = first_none (all_faults less) pass; no_leaf = λ r i. h.no_leaf r (In-bare e t.volumes r i) }

@@ -1,6 +1,6 @@
 -- The content without the entry of a copy or of a link, beside the one with it: the same images, records and disks; and it is sound
 -- where that is, and that where the entry stands at its stage.
-use Rattle.std.proofs.Common.{◌≡◌, ◌⊎◌, inl, inr, ℕ, ◌*◌, ◌≤◌, true, false, cond, not, ◌&&◌, ◌||◌, List, [], ◌∷◌, length, Option, Some, None, refl, sym, ap, ap₂, ◌∙◌, arith, nat_lt}
+use Rattle.std.proofs.Common.{◌≡◌, ◌⊎◌, inl, inr, ℕ, ◌*◌, ◌≤◌, true, false, cond, not, ◌&&◌, ◌||◌, List, [], ◌∷◌, length, Option, Some, None, refl, sym, ap, ap₂, ◌∙◌, arith, nat_lt, subst}
 use Rattle.std.specs.List.{filter, filter_map, find}
 use Rattle.std.proofs.Math.Path.{fun_ext}
 use Rattle.std.proofs.lemmas.Bool.{true≢false}
@@ -15,7 +15,7 @@ use Rattle.sm_record.specs.declared.records.Reading.TheVariants.{Free}
 use Rattle.sm_record.specs.Records.{reading}
 use Rattle.vhd_layout.specs.Contents.{raw_content}
 use Rattle.vhd_layout.specs.Readings.{image_at}
-use Rattle.sm_standing.specs.Checks.{fault_but_leaf_of, has_twin, is_damaged, is_entry_linked, is_image_wrong, is_invalid, is_lost, is_misnamed, is_tree_wrong, tree_wrong_as}
+use Rattle.sm_standing.specs.Checks.{PassesButLeaf, has_twin, is_damaged, is_entry_linked, is_image_wrong, is_invalid, is_lost, is_misnamed, is_tree_wrong, tree_wrong_as}
 use Rattle.sm_standing.specs.Contents.{Content, record_count, is_record_of, reading_at, records, sectors_of, taken}
 use Rattle.sm_standing.specs.Entries.{are_past, folding, is_at_stage, is_folding, second, uuids_in}
 use Rattle.sm_standing.specs.Images.{Image, image_extents, image_of, raw_image, vhd_image}
@@ -102,7 +102,7 @@ module _ (c : Content) (e : Name) (f : IsFold e) (sequence : ℕ) where
     -- without the entry, with this number or a later one
     pub sound_bare : t.sequence ≤ sequence → KnownSound c → SimpleSound bare
     sound_bare later s =
-        but_leaf_sound bare (ap fault_but_leaf_of outline_bare ∙ but_leaf_bare (outline c) quiet e f sequence one later (known_but_leaf c (known_sound c s) s.known)) (none_folding (outline c) quiet e f sequence one)
+        but_leaf_sound bare (subst PassesButLeaf (sym outline_bare) (but_leaf_bare (outline c) quiet e f sequence one later (known_but_leaf c (known_sound c s) s.known))) (none_folding (outline c) quiet e f sequence one)
 
     abbrev pub IsApart : Name → Type 0
     IsApart n = IsApartFork (outline c) quiet e f sequence one n

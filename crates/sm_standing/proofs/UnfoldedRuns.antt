@@ -18,9 +18,9 @@ use Rattle.vg_meta.proofs.ChangeLaws.{IsTable-applied, tagged_name}
 use Rattle.vg_meta.proofs.NameLaws.{less_from, name_eq-true}
 use Rattle.vg_meta.proofs.RowLaws.{All-names, All-put, All-rows, All-without, IsRising, names_of-with_row, rising-without, row_of-put_other, row_of-with_row_other, row_of-without_other}
 use Rattle.sm_standing.specs.Entries.{head, image_with, is_folding, is_there, making, of_row}
-use Rattle.sm_standing.specs.Opened.{under_name}
+use Rattle.sm_standing.specs.Opened.{applied_all, base_changes, changes_back, is_longer, under_name, undo_changes, wanted}
 use Rattle.sm_standing.specs.Plain.{is_plain_name}
-use Rattle.sm_standing.specs.Undone.{AllPermit, applied_all, base_changes, changes_back, is_longer, undo_changes, wanted}
+use Rattle.sm_standing.specs.Undone.{AllPermit}
 use Rattle.sm_standing.proofs.UnfoldedLaws.{IsFold, bare_at, image_bare, image_apart, making_bare, other_name, rows_bare}
 
 -- a change that speaks of no such entry, and gives no name but that of an image

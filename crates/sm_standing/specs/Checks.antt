@@ -13,7 +13,7 @@
 --       images; a visible one has no children.
 --   12. The entries' conditions on parents and children hold.
 --   13. Each record sector is free or right, and each disk has exactly one record.
-use Rattle.std.specs.Prelude.{ℕ, zero, suc, ◌*◌, ◌==◌, ◌&&◌, ◌||◌, not, nat_lt, nat_le, Bool, true, false, List, [], ◌∷◌, ◌++◌, length, Option, Some, None, is_some, is_none, if◌then◌else◌}
+use Rattle.std.specs.Prelude.{◌≡◌, ℕ, zero, suc, ◌*◌, ◌==◌, ◌&&◌, ◌||◌, not, nat_lt, nat_le, Bool, true, false, List, [], ◌∷◌, ◌++◌, length, Option, Some, None, is_some, is_none, if◌then◌else◌}
 use Rattle.std.specs.List.{filter, find, list_any}
 use Rattle.std.specs.Ordering.{is_lt}
 use Rattle.sm_base.specs.Names.{name_cmp}
@@ -25,7 +25,7 @@ use Rattle.vg_layout.specs.Places.{record_extents}
 use Rattle.sm_base.specs.Kinds.{is_image as is_data, is_entry}
 use Rattle.vg_meta.specs.Tables.{VolumeTable, Row, rows}
 use Rattle.vg_volumes.specs.Volumes.{span}
-use Rattle.common_laws.specs.Lists.{given, first_some, numbers}
+use Rattle.common_laws.specs.Lists.{In, given, first_some, numbers}
 use Rattle.sm_machine.specs.Shapes.{same_image, image_limit, chain_limit}
 use Rattle.sm_record.specs.declared.records.Reading.{Reading}
 use Rattle.sm_record.specs.declared.records.Reading.TheVariants.{Free, Taken, Damaged}
@@ -68,7 +68,13 @@ too_many_fault o = given (nat_lt image_limit (length (images o.table))) at.Image
 abbrev pub has_twin : VolumeTable → Name → Bool
 has_twin t (Vhd u) = is_there t (Raw u)
 has_twin t (Raw u) = is_there t (Vhd u)
-has_twin t _ = false
+has_twin t Mgt = false
+has_twin t (Old u) = false
+has_twin t (Clone disk base twin) = false
+has_twin t (Inflate image extents) = false
+has_twin t (Coalesce child parent) = false
+has_twin t (Relink child parent) = false
+has_twin t (Leaf leaf parent) = false
 
 abbrev pub is_misnamed : VolumeTable → Row → Bool
 is_misnamed t r = is_data r.name && (has_twin t r.name || not (are_past t r.name))
@@ -97,7 +103,14 @@ lost_entry_fault o = placed at.Journal (first_name (is_lost o.table) o.table.vol
 
 abbrev pub is_orphaned : VolumeTable → Name → Bool
 is_orphaned t (Old u) = not (list_any (is_old_of t u) (folding t))
-is_orphaned t _ = false
+is_orphaned t Mgt = false
+is_orphaned t (Vhd u) = false
+is_orphaned t (Raw u) = false
+is_orphaned t (Clone disk base twin) = false
+is_orphaned t (Inflate image extents) = false
+is_orphaned t (Coalesce child parent) = false
+is_orphaned t (Relink child parent) = false
+is_orphaned t (Leaf leaf parent) = false
 
 unfoldable pub old_leaf_fault : Outline → Option Place
 old_leaf_fault o = placed at.Image (first_name (λ r. is_orphaned o.table r.name) o.table.volumes)
@@ -111,7 +124,13 @@ is_oversize extent block entries r = nat_lt (entries * block) (span extent r.ext
 abbrev pub is_image_wrong : Outline → Row → Name → Bool
 is_image_wrong o r (Vhd u) = is_none (o.links (Vhd u))
 is_image_wrong o r (Raw u) = is_oversize o.extent o.block o.entries r
-is_image_wrong o r _ = false
+is_image_wrong o r Mgt = false
+is_image_wrong o r (Old u) = false
+is_image_wrong o r (Clone disk base twin) = false
+is_image_wrong o r (Inflate image extents) = false
+is_image_wrong o r (Coalesce child parent) = false
+is_image_wrong o r (Relink child parent) = false
+is_image_wrong o r (Leaf leaf parent) = false
 
 abbrev pub is_invalid : Outline → Row → Bool
 is_invalid o r = not r.fresh && is_image_wrong o r r.name
@@ -163,7 +182,14 @@ is_misplaced o r (Some i) = not (is_linked o i
 -- the check speaks of VHD images alone
 abbrev pub tree_wrong_as : Outline → Row → Name → Bool
 tree_wrong_as o r (Vhd u) = is_misplaced o r (o.links (Vhd u))
-tree_wrong_as o r _ = false
+tree_wrong_as o r Mgt = false
+tree_wrong_as o r (Raw u) = false
+tree_wrong_as o r (Old u) = false
+tree_wrong_as o r (Clone disk base twin) = false
+tree_wrong_as o r (Inflate image extents) = false
+tree_wrong_as o r (Coalesce child parent) = false
+tree_wrong_as o r (Relink child parent) = false
+tree_wrong_as o r (Leaf leaf parent) = false
 
 abbrev pub is_tree_wrong : Outline → Row → Bool
 is_tree_wrong o r = tree_wrong_as o r r.name
@@ -288,32 +314,20 @@ first_fault c = fault_of (outline c)
 -- an entry of the folding of a leaf
 abbrev pub is_leaf_entry : Name → Bool
 is_leaf_entry (Leaf leaf parent) = true
-is_leaf_entry _ = false
+is_leaf_entry Mgt = false
+is_leaf_entry (Vhd u) = false
+is_leaf_entry (Raw u) = false
+is_leaf_entry (Old u) = false
+is_leaf_entry (Clone disk base twin) = false
+is_leaf_entry (Inflate image extents) = false
+is_leaf_entry (Coalesce child parent) = false
+is_leaf_entry (Relink child parent) = false
 
--- the checks of repositories in which all but a leaf may be being folded: in front of the eighth the first entry of the folding of a leaf is
--- refused. So with the ninth each old leaf is, as it belongs to such an entry
-unfoldable pub leaf_entry_fault : Outline → Option Place
-leaf_entry_fault o = placed at.Journal (first_name (λ r. is_leaf_entry r.name) o.table.volumes)
+-- no check fails on an outline, and no entry of the folding of a leaf is there. So no volume is an old leaf, as that belongs to such an entry
+pub record PassesButLeaf (o : Outline) : Type 0 where
+  pub sound : fault_of o ≡ None
+  pub no_leaf : (r : Row) → In r o.table.volumes → is_leaf_entry r.name ≡ false
 
-abbrev pub faults_but_leaf : Outline → List (Option Place)
-faults_but_leaf o = record_volume_fault o
-    ∷ too_many_fault o
-    ∷ misnamed_fault o
-    ∷ leaf_entry_fault o
-    ∷ second_entry_fault o
-    ∷ lost_entry_fault o
-    ∷ old_leaf_fault o
-    ∷ invalid_fault o
-    ∷ tree_fault o
-    ∷ entry_link_fault o
-    ∷ record_fault o
-    ∷ disk_fault o
-    ∷ []
-
--- the place of the first of the checks of all but a leaf's folding that fails on an outline
-unfoldable pub fault_but_leaf_of : Outline → Option Place
-fault_but_leaf_of o = first_some (faults_but_leaf o)
-
--- the place of the first of the checks of all but a leaf's folding that fails on a content
-abbrev pub first_fault_but_leaf : Content → Option Place
-first_fault_but_leaf c = fault_but_leaf_of (outline c)
+-- no check fails on a content, and no leaf is being folded in it
+abbrev pub IsSoundButLeaf : Content → Type 0
+IsSoundButLeaf c = PassesButLeaf (outline c)

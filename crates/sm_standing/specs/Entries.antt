@@ -52,13 +52,24 @@ abbrev pub is_folding : Name → Bool
 is_folding (Coalesce child parent) = true
 is_folding (Relink child parent) = true
 is_folding (Leaf leaf parent) = true
-is_folding _ = false
+is_folding Mgt = false
+is_folding (Vhd u) = false
+is_folding (Raw u) = false
+is_folding (Old u) = false
+is_folding (Clone disk base twin) = false
+is_folding (Inflate image extents) = false
 
 -- forking and enlarging
 abbrev pub is_making : Name → Bool
 is_making (Clone disk base twin) = true
 is_making (Inflate image extents) = true
-is_making _ = false
+is_making Mgt = false
+is_making (Vhd u) = false
+is_making (Raw u) = false
+is_making (Old u) = false
+is_making (Coalesce child parent) = false
+is_making (Relink child parent) = false
+is_making (Leaf leaf parent) = false
 
 -- the names of volumes that pass a test, in order
 abbrev pub names_in : VolumeTable → (Name → Bool) → List Name
@@ -178,4 +189,11 @@ is_at_stage t (Leaf leaf parent) = is_folding_leaf t leaf parent
 -- the old leaf of a swap that is under way
 abbrev pub is_old_of : VolumeTable → List ℕ → Name → Bool
 is_old_of t u (Leaf leaf parent) = bytes_eq leaf u && (is_leaf_renamed t leaf parent || is_leaf_swapped t leaf parent)
-is_old_of t u _ = false
+is_old_of t u Mgt = false
+is_old_of t u (Vhd v) = false
+is_old_of t u (Raw v) = false
+is_old_of t u (Old v) = false
+is_old_of t u (Clone disk base twin) = false
+is_old_of t u (Inflate image extents) = false
+is_old_of t u (Coalesce child parent) = false
+is_old_of t u (Relink child parent) = false

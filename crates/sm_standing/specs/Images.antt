@@ -3,7 +3,7 @@
 -- parent: a turn. A sector past an image's own size is zeros. A raw image holds each of its sectors.
 use Rattle.std.specs.Prelude.{ℕ, ◌*◌, zero, suc, nat_lt, List, length, map, [], Option, Some, None, if◌then◌else◌}
 use Rattle.sm_base.specs.declared.names.Name.{Name}
-use Rattle.sm_base.specs.declared.names.Name.TheVariants.{Vhd, Raw, Inflate}
+use Rattle.sm_base.specs.declared.names.Name.TheVariants.{Mgt, Vhd, Raw, Old, Clone, Inflate, Coalesce, Relink, Leaf}
 use Rattle.sm_disk.specs.Sectors.{zeros}
 use Rattle.vg_meta.specs.Tables.{Row}
 use Rattle.common_laws.specs.Lists.{numbers, ◌>>=◌}
@@ -23,7 +23,14 @@ image_extents entries n all = elim (head entries) [ None ↦ all | Some e ↦ en
   where
     entry_extents : Name → Name → ℕ → ℕ
     entry_extents (Inflate u extents) n all = if same_image (Vhd u) n then extents else all
-    entry_extents _ n all = all
+    entry_extents Mgt n all = all
+    entry_extents (Vhd u) n all = all
+    entry_extents (Raw u) n all = all
+    entry_extents (Old u) n all = all
+    entry_extents (Clone disk base twin) n all = all
+    entry_extents (Coalesce child parent) n all = all
+    entry_extents (Relink child parent) n all = all
+    entry_extents (Leaf leaf parent) n all = all
 
 -- a VHD image as it lies in its volume, where it is valid
 unfoldable pub vhd_image : Content → Name → Row → Option Image
@@ -41,7 +48,13 @@ image_of c (Raw u) = do
 image_of c (Vhd u) = do
   r ← row c (Vhd u)
   if r.fresh then None else vhd_image c (Vhd u) r
-image_of c _ = None
+image_of c Mgt = None
+image_of c (Old u) = None
+image_of c (Clone disk base twin) = None
+image_of c (Inflate image extents) = None
+image_of c (Coalesce child parent) = None
+image_of c (Relink child parent) = None
+image_of c (Leaf leaf parent) = None
 
 -- what an image does with a sector: it answers, or sends up
 pub data ImageAnswer : Type 0 where

@@ -1,168 +1,176 @@
--- What an opening makes of a content (this project's format), as a shape: the repairs line by line, then the shape of
--- what is left. Each cut, removal, renaming and mark raises the table's sequence number by one, up to the last. Here
--- a repair is an edit of a working copy: the sequence number, and a row for each volume with what its image says.
+-- What an opening makes of a content (this project's format): the commits of each repair, and the shape of what stands behind them.
 --   1. An image that was being enlarged is cut to the extents that it had; the entry goes.
---   2. A fork: the twin goes; where the base is there the disk's new image goes, and the base is unmarked and takes
---      the disk's name, keeping its kind; the entry goes.
---   3. A relink: each child is linked to the parent; the entry goes.
+--   2. A fork: the twin goes; where the base is there the disk's new image goes, and the base is shown and takes the disk's name, keeping
+--      its kind; the entry goes.
+--   3. A link: each child is linked to the parent; the entry goes.
 --   4. A copy: the entry goes.
---   5. A leaf: where it was renamed the parent takes its name; where the parent has its name that is unmarked, and the
---      old leaf goes; the entry goes.
---   6. Each volume marked new goes. Stray records are cleared, which no shape shows.
-use Rattle.std.specs.Prelude.{ℕ, ◌&&◌, not, nat_lt, Bool, false, List, [], ◌∷◌, length, map, Option, Some, None, if◌then◌else◌}
-use Rattle.std.specs.List.{filter, filter_map, list_any, sum}
+--   5. A leaf: where it was renamed the parent takes its name; where the parent has its name that is shown, and the old leaf goes; the entry goes.
+--   6. Each new volume goes.
+-- Repairs 3 to 5 are made first, then 1 and 2, then 6. Each commit raises the sequence number by one, up to the last. Records of no disk are
+-- cleared, which no shape shows.
+use Rattle.std.specs.Prelude.{ℕ, not, nat_lt, Bool, false, List, [], ◌∷◌, ◌++◌, length, map, Option, None, Some, if◌then◌else◌}
+use Rattle.std.specs.List.{filter}
+use Rattle.std.specs.Str.{bytes_eq}
 use Rattle.sm_base.specs.declared.names.Name.{Name}
-use Rattle.sm_base.specs.declared.names.Name.TheVariants.{Vhd, Raw, Old, Clone, Inflate, Coalesce, Relink, Leaf}
-use Rattle.sm_base.specs.declared.operations.Op.TheVariants.{Idle}
-use Rattle.vg_meta.specs.Tables.{Row, VolumeTable, name_eq}
-use Rattle.common_laws.specs.Lists.{when}
-use Rattle.sm_machine.specs.Shapes.{Shape, ImageRow, risen, same_image, with_image}
+use Rattle.sm_base.specs.declared.names.Name.TheVariants.{Mgt, Vhd, Raw, Old, Clone, Inflate, Coalesce, Relink, Leaf}
+use Rattle.vg_meta.specs.Changes.{applied}
+use Rattle.vg_meta.specs.Tables.{Row, VolumeTable, name_eq, rows}
+use Rattle.vg_meta.specs.declared.changes.Change.{Change}
+use Rattle.vg_meta.specs.declared.changes.Change.TheVariants.{Cut, Mark, Remove, Rename}
+use Rattle.vg_meta.specs.declared.changes.Tag.TheVariants.{Hidden}
+use Rattle.sm_machine.specs.Shapes.{ImageRow, Shape, risen}
 use Rattle.sm_standing.specs.Contents.{Content}
-use Rattle.sm_standing.specs.Entries.{folding, making, head, image_with, is_leaf_renamed, is_leaf_swapped}
-use Rattle.sm_standing.specs.Images.{Image, image_of}
-use Rattle.sm_standing.specs.Shapes.{disk_record}
-use Rattle.sm_standing.specs.Standing.{disks}
+use Rattle.sm_standing.specs.Entries.{folding, head, image_with, is_leaf_renamed, is_leaf_swapped, is_there, making, of_row}
+use Rattle.sm_standing.specs.Shapes.{shape}
 
--- a volume of the working copy: its name, marks and number of extents, and what its image says where it has one
-pub record Part : Type 0 where
-  pub name : Name
-  pub hidden : Bool
-  pub fresh : Bool
-  pub extents : ℕ
-  pub image : Option Image
+-- the table behind some commits, made one after the other
+abbrev pub applied_all : VolumeTable → List Change → VolumeTable
+applied_all t [] = t
+applied_all t (c ∷ cs) = applied_all (applied t c) cs
 
-pub record Work : Type 0 where
-  pub sequence : ℕ
-  pub parts : List Part
+-- a commit where it is wanted
+abbrev pub wanted : Bool → Change → List Change
+wanted b c = if b then c ∷ [] else []
 
-abbrev pub part_of : Content → Row → Part
-part_of c r = record { name = r.name; hidden = r.hidden; fresh = r.fresh; extents = length r.extents; image = image_of c r.name }
+-- ---- repairs 1 and 2: what is being made is undone
 
-abbrev pub begun : Content → Work
-begun c = record { sequence = c.table.sequence; parts = map (part_of c) c.table.volumes }
-
--- ---- the edits
-
-abbrev pub is_part : Name → Part → Bool
-is_part n p = name_eq p.name n
-
-abbrev pub has_part : Name → Work → Bool
-has_part n w = list_any (is_part n) w.parts
-
--- a commit more
-abbrev pub committed : Work → List Part → Work
-committed w parts = record { sequence = risen w.sequence 1; parts = parts }
-
--- one volume less, where it is there
-abbrev pub removed : Name → Work → Work
-removed n w = when (has_part n w) (λ v. committed v (filter (λ p. not (is_part n p)) v.parts)) w
-
-abbrev pub part_cut : ℕ → Part → Part
-part_cut e p = record p { extents = e }
-
--- cut to so many extents, where it has more
-abbrev pub cut : Name → ℕ → Work → Work
-cut n e w = when (list_any (λ p. is_part n p && nat_lt e p.extents) w.parts)
-    (λ v. committed v (map (λ p. when (is_part n p) (part_cut e) p) v.parts)) w
-
--- not hidden, where it is hidden
-abbrev pub shown : Name → Work → Work
-shown n w = when (list_any (λ p. is_part n p && p.hidden) w.parts)
-    (λ v. committed v (map (λ p. when (is_part n p) (λ q. record q { hidden = false }) p) v.parts)) w
-
--- another name
-abbrev pub renamed : Name → Name → Work → Work
-renamed n m w = committed w (map (λ p. when (is_part n p) (λ q. record q { name = m }) p) w.parts)
-
--- the children of one image linked to another, without a commit
-abbrev pub has_parent : Name → Option Image → Bool
-has_parent n None = false
-has_parent n (Some i) = elim i.parent [ None ↦ false | Some p ↦ same_image p n ]
-
-abbrev pub linked_image : Name → Option Image → Option Image
-linked_image m None = None
-linked_image m (Some i) = Some (record i { parent = Some m })
-
-abbrev pub linked : Name → Name → Work → Work
-linked n m w = record w { parts = map (λ p. when (has_parent n p.image) (λ q. record q { image = linked_image m q.image }) p) w.parts }
-
--- ---- the repairs
-
-abbrev pub enlarging_undone : Name → Work → Work
-enlarging_undone (Inflate u extents) w = removed (Inflate u extents) (cut (Vhd u) extents w)
-enlarging_undone _ w = w
+-- a volume of more extents than this
+abbrev pub is_longer : ℕ → Row → Bool
+is_longer extents r = nat_lt extents (length r.extents)
 
 -- the base takes the disk's name, and keeps its kind
 abbrev pub under_name : Name → List ℕ → Name
 under_name (Raw b) u = Raw u
-under_name _ u = Vhd u
+under_name Mgt u = Vhd u
+under_name (Vhd v) u = Vhd u
+under_name (Old v) u = Vhd u
+under_name (Clone disk base twin) u = Vhd u
+under_name (Inflate image extents) u = Vhd u
+under_name (Coalesce child parent) u = Vhd u
+under_name (Relink child parent) u = Vhd u
+under_name (Leaf leaf parent) u = Vhd u
 
-abbrev pub base_back : List ℕ → Option Name → Work → Work
-base_back disk None w = w
-base_back disk (Some base) w = renamed base (under_name base disk) (shown base (removed (Vhd disk) w))
+-- the base of a fork is the disk's image again: its new image goes, and the base is shown and takes its name, of the same kind
+abbrev pub base_changes : VolumeTable → List ℕ → Option Name → List Change
+base_changes t disk None = []
+base_changes t disk (Some base) = wanted (is_there t (Vhd disk)) (Remove (Vhd disk)) ++ (wanted (of_row (λ r. r.hidden) (rows t base)) (Mark base Hidden false) ++ Rename base (under_name base disk) ∷ [])
 
-abbrev pub forking_undone : VolumeTable → Name → Work → Work
-forking_undone t (Clone disk base twin) w = removed (Clone disk base twin) (base_back disk (image_with t base) (removed (Vhd twin) w))
-forking_undone t _ w = w
+-- the commits that undo the work of an entry. An enlargement: the image is cut to the extents that it had, where it has more. A fork: the twin
+-- goes, where it is there, and the base is the disk's image again, where an image has its UUID. The entry goes
+abbrev pub changes_back : VolumeTable → Name → List Change
+changes_back t (Inflate u extents) = wanted (of_row (is_longer extents) (rows t (Vhd u))) (Cut (Vhd u) extents) ++ Remove (Inflate u extents) ∷ []
+changes_back t (Clone disk base twin) = wanted (is_there t (Vhd twin)) (Remove (Vhd twin)) ++ (base_changes t disk (image_with t base) ++ Remove (Clone disk base twin) ∷ [])
+changes_back t Mgt = []
+changes_back t (Vhd u) = []
+changes_back t (Raw u) = []
+changes_back t (Old u) = []
+changes_back t (Coalesce child parent) = []
+changes_back t (Relink child parent) = []
+changes_back t (Leaf leaf parent) = []
 
+-- the commits that undo an enlargement or a fork, whose entry is the first of its group, in the order in which an opening makes them
+unfoldable pub undo_changes : VolumeTable → List Change
+undo_changes t = elim (head (making t)) [ None ↦ [] | Some n ↦ changes_back t n ]
+
+-- the table without the enlargement or the fork
+unfoldable pub undone : VolumeTable → VolumeTable
+undone t = applied_all t (undo_changes t)
+
+-- ---- repairs 3 to 5: what is being folded is ended
+
+-- the parent that is to take the leaf's name is not being enlarged any more: repair 1 finds its image by name
+abbrev pub parent_changes : VolumeTable → List ℕ → Option Name → List Change
+parent_changes t parent (Some (Inflate u extents)) = if bytes_eq u parent then changes_back t (Inflate u extents) else []
+parent_changes t parent None = []
+parent_changes t parent (Some Mgt) = []
+parent_changes t parent (Some (Vhd u)) = []
+parent_changes t parent (Some (Raw u)) = []
+parent_changes t parent (Some (Old u)) = []
+parent_changes t parent (Some (Clone disk base twin)) = []
+parent_changes t parent (Some (Coalesce child above)) = []
+parent_changes t parent (Some (Relink child above)) = []
+parent_changes t parent (Some (Leaf leaf above)) = []
+
+-- once the parent has the leaf's name and is shown
+abbrev pub leaf_gone : List ℕ → List ℕ → List Change
+leaf_gone leaf parent = Remove (Old leaf) ∷ Remove (Leaf leaf parent) ∷ []
+
+-- the commits that end the folding of a leaf. Where the leaf was renamed its parent takes its name. From then on that image is shown where it
+-- is hidden, and the old leaf goes. At each stage the entry goes
+abbrev pub leaf_changes : VolumeTable → List ℕ → List ℕ → List Change
+leaf_changes t leaf parent =
+    if is_leaf_renamed t leaf parent then parent_changes t parent (head (making t)) ++ (Rename (Vhd parent) (Vhd leaf) ∷ Mark (Vhd leaf) Hidden false ∷ leaf_gone leaf parent)
+    else if is_leaf_swapped t leaf parent then wanted (of_row (λ r. r.hidden) (rows t (Vhd leaf))) (Mark (Vhd leaf) Hidden false) ++ leaf_gone leaf parent
+    else Remove (Leaf leaf parent) ∷ []
+
+-- of a copy and of a link the entry goes
+abbrev pub changes_ending : VolumeTable → Option Name → List Change
+changes_ending t None = []
+changes_ending t (Some (Leaf leaf parent)) = leaf_changes t leaf parent
+changes_ending t (Some Mgt) = Remove Mgt ∷ []
+changes_ending t (Some (Vhd u)) = Remove (Vhd u) ∷ []
+changes_ending t (Some (Raw u)) = Remove (Raw u) ∷ []
+changes_ending t (Some (Old u)) = Remove (Old u) ∷ []
+changes_ending t (Some (Clone disk base twin)) = Remove (Clone disk base twin) ∷ []
+changes_ending t (Some (Inflate image extents)) = Remove (Inflate image extents) ∷ []
+changes_ending t (Some (Coalesce child parent)) = Remove (Coalesce child parent) ∷ []
+changes_ending t (Some (Relink child parent)) = Remove (Relink child parent) ∷ []
+
+-- the commits that end a copy, a link or the folding of a leaf, whose entry is the first of its group, in the order in which an opening makes them
+unfoldable pub end_changes : VolumeTable → List Change
+end_changes t = changes_ending t (head (folding t))
+
+-- the table without the entry of a copy, of a link or of the folding of a leaf
+unfoldable pub ended : VolumeTable → VolumeTable
+ended t = applied_all t (end_changes t)
+
+-- the image that has the UUID of an entry's parent
 abbrev pub parent_name : VolumeTable → List ℕ → Name
 parent_name t u = elim (image_with t u) [ None ↦ Vhd u | Some n ↦ n ]
 
-abbrev pub leaf_done : VolumeTable → List ℕ → List ℕ → Work → Work
-leaf_done t leaf parent w =
-    if is_leaf_renamed t leaf parent then removed (Old leaf) (shown (Vhd leaf) (renamed (Vhd parent) (Vhd leaf) w))
-    else if is_leaf_swapped t leaf parent then removed (Old leaf) (shown (Vhd leaf) w)
-    else w
+-- an image that reads through the one reads through the other
+abbrev pub past_parent : Name → Name → Option Name → Option Name
+past_parent v p None = None
+past_parent v p (Some n) = if name_eq n v then Some p else Some n
 
-abbrev pub folding_ended : VolumeTable → Name → Work → Work
-folding_ended t (Relink child parent) w = removed (Relink child parent) (linked (Vhd child) (parent_name t parent) w)
-folding_ended t (Coalesce child parent) w = removed (Coalesce child parent) w
-folding_ended t (Leaf leaf parent) w = removed (Leaf leaf parent) (leaf_done t leaf parent w)
-folding_ended t _ w = w
+abbrev pub linked_past : Name → Name → Shape → Shape
+linked_past v p s = record s { images = map (λ (i : ImageRow). record i { parent = past_parent v p i.parent }) s.images }
 
-abbrev pub by_entry : (Name → Work → Work) → Option Name → Work → Work
-by_entry f None w = w
-by_entry f (Some e) w = f e w
+abbrev pub linked_by : VolumeTable → Option Name → Shape → Shape
+linked_by t (Some (Relink child parent)) s = linked_past (Vhd child) (parent_name t parent) s
+linked_by t None s = s
+linked_by t (Some Mgt) s = s
+linked_by t (Some (Vhd u)) s = s
+linked_by t (Some (Raw u)) s = s
+linked_by t (Some (Old u)) s = s
+linked_by t (Some (Clone disk base twin)) s = s
+linked_by t (Some (Inflate image extents)) s = s
+linked_by t (Some (Coalesce child parent)) s = s
+linked_by t (Some (Leaf leaf parent)) s = s
 
--- each volume that is new goes, one commit each
-unfoldable pub new_removed : List Part → Work → Work
-new_removed [] w = w
-new_removed (p ∷ parts) w = new_removed parts (when p.fresh (removed p.name) w)
+-- a shape in which each child of an image has that image's parent for its own, where the table has an entry that links the image's children
+abbrev pub linked_up : VolumeTable → Shape → Shape
+linked_up t s = linked_by t (head (folding t)) s
 
-abbrev pub repaired : VolumeTable → Work → Work
-repaired t w =
-    let made = by_entry (forking_undone t) (head (making t)) (by_entry enlarging_undone (head (making t)) w) in
-    let folded = by_entry (folding_ended t) (head (folding t)) made in
-    new_removed folded.parts folded
+-- ---- repair 6: each new volume goes
 
--- ---- the shape of what is left
+-- how many of these volumes are new, and those that are not
+abbrev pub new_count : List Row → ℕ
+new_count rs = length (filter (λ r. r.fresh) rs)
 
-abbrev pub part_row : Part → Image → ImageRow
-part_row p i = record { name = p.name; hidden = p.hidden; parent = i.parent; size = i.size; slots = i.slots; extents = p.extents }
+abbrev pub filled : List Row → List Row
+filled rs = filter (λ r. not r.fresh) rs
 
-abbrev pub row_of_part : Part → Option ImageRow
-row_of_part p = elim p.image [ None ↦ None | Some i ↦ Some (part_row p i) ]
+-- the table without its new volumes, and its sequence number raised by one for each of them, up to the last
+unfoldable pub cleaned : VolumeTable → VolumeTable
+cleaned t = record { sequence = risen t.sequence (new_count t.volumes); volumes = filled t.volumes }
 
-abbrev pub in_name_order : List ImageRow → List ImageRow
-in_name_order [] = []
-in_name_order (r ∷ rs) = with_image r (in_name_order rs)
+-- ---- what an opening makes of a content
 
-abbrev pub extents_besides : Part → ℕ
-extents_besides p = elim p.image [ None ↦ p.extents | Some i ↦ 0 ]
+abbrev pub on_table : Content → VolumeTable → Content
+on_table c t = record c { table = t }
 
--- what an opening makes of a content
+-- what an opening makes of a content: its shape with the table behind these commits, in which what is being folded is ended, what is being made
+-- is undone and each new volume goes, and with the children of an image that is being linked past linked to that image's parent
 unfoldable pub opened : Content → Shape
-opened c =
-    let w = repaired c.table (begun c) in
-    record {
-      sequence = w.sequence;
-      extent = c.extent;
-      block = c.block;
-      entries = c.entries;
-      extents = c.count;
-      others = sum (map extents_besides w.parts);
-      records = map disk_record (disks c);
-      images = in_name_order (filter_map row_of_part w.parts);
-      attached = [];
-      op = Idle;
-    }
+opened c = linked_up c.table (shape (on_table c (cleaned (undone (ended c.table)))))

@@ -4,14 +4,19 @@
 use Rattle.std.specs.Prelude.{◌≡◌, Bool, true, false}
 use Rattle.std.specs.List.{AllByRecursion}
 use Rattle.sm_base.specs.declared.names.Name.{Name}
-use Rattle.sm_base.specs.declared.names.Name.TheVariants.{Mgt, Vhd, Raw, Clone, Inflate, Coalesce, Relink}
+use Rattle.sm_base.specs.declared.names.Name.TheVariants.{Mgt, Vhd, Raw, Old, Clone, Inflate, Coalesce, Relink, Leaf}
 use Rattle.vg_meta.specs.Tables.{Row, VolumeTable}
 
 abbrev pub is_plain_name : Name → Bool
 is_plain_name Mgt = true
 is_plain_name (Vhd u) = true
 is_plain_name (Raw u) = true
-is_plain_name _ = false
+is_plain_name (Old u) = false
+is_plain_name (Clone disk base twin) = false
+is_plain_name (Inflate image extents) = false
+is_plain_name (Coalesce child parent) = false
+is_plain_name (Relink child parent) = false
+is_plain_name (Leaf leaf parent) = false
 
 abbrev pub is_plain : Row → Bool
 is_plain r = is_plain_name r.name
@@ -26,7 +31,10 @@ is_simple_name (Vhd u) = true
 is_simple_name (Raw u) = true
 is_simple_name (Clone disk base twin) = true
 is_simple_name (Inflate image extents) = true
-is_simple_name _ = false
+is_simple_name (Old u) = false
+is_simple_name (Coalesce child parent) = false
+is_simple_name (Relink child parent) = false
+is_simple_name (Leaf leaf parent) = false
 
 abbrev pub is_simple : Row → Bool
 is_simple r = is_simple_name r.name

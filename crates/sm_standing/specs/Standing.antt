@@ -8,7 +8,7 @@ use Rattle.std.specs.List.{filter_map, find, flat_map}
 use Rattle.std.specs.Str.{bytes_eq}
 use Rattle.common_laws.specs.Lists.{In, ◌>>=◌}
 use Rattle.sm_base.specs.declared.names.Name.{Name}
-use Rattle.sm_base.specs.declared.names.Name.TheVariants.{Vhd, Raw, Clone, Leaf}
+use Rattle.sm_base.specs.declared.names.Name.TheVariants.{Mgt, Vhd, Raw, Old, Clone, Inflate, Coalesce, Relink, Leaf}
 use Rattle.vg_meta.specs.Tables.{VolumeTable}
 use Rattle.sm_machine.specs.Disks.{Disk, uuid_before}
 use Rattle.sm_record.specs.declared.records.Record.{Record}
@@ -26,7 +26,14 @@ stands_forked t (Clone disk base twin) u plainly =
     if bytes_eq u disk then elim (image_with t base) [ None ↦ plainly | Some b ↦ Some b ]
     else if bytes_eq u base || bytes_eq u twin then None
     else plainly
-stands_forked t _ u plainly = plainly
+stands_forked t Mgt u plainly = plainly
+stands_forked t (Vhd v) u plainly = plainly
+stands_forked t (Raw v) u plainly = plainly
+stands_forked t (Old v) u plainly = plainly
+stands_forked t (Inflate image extents) u plainly = plainly
+stands_forked t (Coalesce child parent) u plainly = plainly
+stands_forked t (Relink child parent) u plainly = plainly
+stands_forked t (Leaf leaf parent) u plainly = plainly
 
 -- under the entry of a leaf
 abbrev pub stands_folded : VolumeTable → Name → List ℕ → Option Name → Option Name
@@ -34,7 +41,14 @@ stands_folded t (Leaf leaf parent) u plainly =
     if bytes_eq u leaf && is_leaf_renamed t leaf parent then Some (Vhd parent)
     else if bytes_eq u leaf && is_leaf_swapped t leaf parent then Some (Vhd leaf)
     else plainly
-stands_folded t _ u plainly = plainly
+stands_folded t Mgt u plainly = plainly
+stands_folded t (Vhd v) u plainly = plainly
+stands_folded t (Raw v) u plainly = plainly
+stands_folded t (Old v) u plainly = plainly
+stands_folded t (Clone disk base twin) u plainly = plainly
+stands_folded t (Inflate image extents) u plainly = plainly
+stands_folded t (Coalesce child parent) u plainly = plainly
+stands_folded t (Relink child parent) u plainly = plainly
 
 abbrev pub under : (Name → Option Name → Option Name) → Option Name → Option Name → Option Name
 under f None plainly = plainly
@@ -53,7 +67,11 @@ candidates (Vhd u) = u ∷ []
 candidates (Raw u) = u ∷ []
 candidates (Clone disk base twin) = disk ∷ []
 candidates (Leaf leaf parent) = leaf ∷ []
-candidates _ = []
+candidates Mgt = []
+candidates (Old u) = []
+candidates (Inflate image extents) = []
+candidates (Coalesce child parent) = []
+candidates (Relink child parent) = []
 
 -- a UUID put in its place, once
 unfoldable pub with_uuid : List ℕ → List (List ℕ) → List (List ℕ)

@@ -1,58 +1,23 @@
--- A table as an opening leaves it of an enlargement or a fork that a stop has cut short (this project's format). An enlargement:
--- the volume of the image is cut to the extents that it had, where it has more, and the entry goes. A fork: the twin's new image
--- goes; where an image has the base's UUID, the disk's new image goes, and the base is shown and takes the disk's name, of the same
--- kind; and the entry goes. Each is one commit.
-use Rattle.std.specs.Prelude.{◌≡◌, ℕ, ◌*◌, ◌<◌, ◌≤◌, ◌||◌, Bool, false, nat_lt, List, [], ◌∷◌, ◌++◌, length, take, Option, None, Some, if◌then◌else◌}
+-- An enlargement or a fork that a stop has cut short is undone (this project's format): the tables in between, the names that its images
+-- had, and a content with the table that is left. The commits are those of the repairs 1 and 2 of an opening (`Opened`).
+use Rattle.std.specs.Prelude.{◌≡◌, ℕ, ◌*◌, ◌<◌, ◌≤◌, ◌||◌, false, List, [], ◌∷◌, length, take, Option, None, Some, if◌then◌else◌}
 use Rattle.common_laws.specs.Lists.{◌>>=◌}
 use Rattle.sm_base.specs.declared.names.Name.{Name}
-use Rattle.sm_base.specs.declared.names.Name.TheVariants.{Vhd, Clone, Inflate}
+use Rattle.sm_base.specs.declared.names.Name.TheVariants.{Mgt, Vhd, Raw, Old, Clone, Inflate, Coalesce, Relink, Leaf}
 use Rattle.vg_meta.specs.Changes.{Permits, applied}
 use Rattle.vg_meta.specs.Tables.{Row, VolumeTable, name_eq, rows}
 use Rattle.vg_meta.specs.declared.changes.Change.{Change}
-use Rattle.vg_meta.specs.declared.changes.Change.TheVariants.{Cut, Mark, Remove, Rename}
-use Rattle.vg_meta.specs.declared.changes.Tag.TheVariants.{Hidden}
 use Rattle.sm_standing.specs.Contents.{Content}
-use Rattle.sm_standing.specs.Entries.{head, image_with, is_there, making, of_row}
+use Rattle.sm_standing.specs.Entries.{head, image_with, making}
 use Rattle.sm_standing.specs.Images.{Image, image_of}
-use Rattle.sm_standing.specs.Opened.{under_name}
-
--- a volume of more extents than this
-abbrev pub is_longer : ℕ → Row → Bool
-is_longer extents r = nat_lt extents (length r.extents)
+use Rattle.sm_standing.specs.Opened.{applied_all, under_name, undo_changes, undone}
 
 -- ---- the commits
-
--- the table behind some changes, made one after the other
-abbrev pub applied_all : VolumeTable → List Change → VolumeTable
-applied_all t [] = t
-applied_all t (c ∷ cs) = applied_all (applied t c) cs
 
 -- each of them is allowed in its turn
 abbrev pub AllPermit : ℕ → VolumeTable → List Change → Type 0
 AllPermit count t [] = Unit {0}
 AllPermit count t (c ∷ cs) = Permits count t c × AllPermit count (applied t c) cs
-
--- a change where it is wanted
-abbrev pub wanted : Bool → Change → List Change
-wanted b c = if b then c ∷ [] else []
-
--- the base of a fork is the disk's image again: its new image goes, and the base is shown and takes its name, of the same kind
-abbrev pub base_changes : VolumeTable → List ℕ → Option Name → List Change
-base_changes t disk None = []
-base_changes t disk (Some base) = wanted (is_there t (Vhd disk)) (Remove (Vhd disk)) ++ (wanted (of_row (λ r. r.hidden) (rows t base)) (Mark base Hidden false) ++ Rename base (under_name base disk) ∷ [])
-
--- the changes that undo the work of an entry
-abbrev pub changes_back : VolumeTable → Name → List Change
-changes_back t (Inflate u extents) = wanted (of_row (is_longer extents) (rows t (Vhd u))) (Cut (Vhd u) extents) ++ Remove (Inflate u extents) ∷ []
-changes_back t (Clone disk base twin) = wanted (is_there t (Vhd twin)) (Remove (Vhd twin)) ++ (base_changes t disk (image_with t base) ++ Remove (Clone disk base twin) ∷ [])
-changes_back t _ = []
-
-unfoldable pub undo_changes : VolumeTable → List Change
-undo_changes t = elim (head (making t)) [ None ↦ [] | Some n ↦ changes_back t n ]
-
--- the table without the enlargement or the fork
-unfoldable pub undone : VolumeTable → VolumeTable
-undone t = applied_all t (undo_changes t)
 
 -- one of the tables that stand while it is undone
 abbrev pub IsUndoing : VolumeTable → VolumeTable → Type 0
@@ -67,7 +32,14 @@ from_base disk (Some base) n = if name_eq n (under_name base disk) then Some bas
 
 abbrev pub from_entry : VolumeTable → Name → Name → Option Name
 from_entry t (Clone disk base twin) n = if name_eq n (Clone disk base twin) || name_eq n (Vhd twin) then None else from_base disk (image_with t base) n
-from_entry t _ n = Some n
+from_entry t Mgt n = Some n
+from_entry t (Vhd u) n = Some n
+from_entry t (Raw u) n = Some n
+from_entry t (Old u) n = Some n
+from_entry t (Inflate image extents) n = Some n
+from_entry t (Coalesce child parent) n = Some n
+from_entry t (Relink child parent) n = Some n
+from_entry t (Leaf leaf parent) n = Some n
 
 -- the name that the volume of this name had, where it is none that went
 unfoldable pub undone_from : VolumeTable → Name → Option Name

@@ -4,13 +4,15 @@
 //! Kept here: nothing; no call touches a device or takes memory, and nothing but more examples stands on this crate. Each
 //! example is the contract of a function that does nothing: where each UUID stands in worked tables at each moment of a fork,
 //! a copy and a fold (`tables`), for each check of an opening contents that fail it (`faults`), a guest's write that no
-//! check sees, an enlargement undone and a link's entry taken away (`outlines`), and the empty repository, which is sound,
-//! kept and without disks (`empty`). The contents are in `specs/`: `SmallContents`, `SmallTables` and `FaultyContents`. Sizes
-//! are in sectors of 512 bytes, room in extents.
+//! check sees, an enlargement undone and a link's entry taken away (`outlines`), two works beside each other that leave the
+//! same table whichever is undone or ended first (`orders`), and the empty repository, which is sound, kept and without disks
+//! (`empty`). The contents are in `specs/`: `SmallContents`, `SmallTables`, `SmallOrders` and `FaultyContents`. Sizes are in
+//! sectors of 512 bytes, room in extents.
 #![tactic(auto)]
 
 mod empty;
 mod faults;
+mod orders;
 mod outlines;
 mod tables;
 
@@ -20,6 +22,7 @@ pub use faults::{
     example_lost_entry, example_misnamed, example_old_leaf, example_record, example_record_volume,
     example_relink_link, example_second_entry, example_too_many, example_tree,
 };
+pub use orders::{example_ended_first, example_undone_first};
 pub use outlines::{
     example_but_leaf, example_enlarging, example_outline, example_undone, example_unfolded,
 };

@@ -1,15 +1,16 @@
 //! What a guest writes is no part of an outline; an image that is being enlarged, and a disk that is being forked, and either
-//! undone; children that are being linked, and the table without that; and what the checks of all but a leaf's folding pass.
+//! undone; children that are being linked, and the table without that; and what the checks say where no leaf is being folded.
 
 ghost use Rattle.std.specs.Prelude.{◌≡◌, ◌∷◌, ◌<◌, ℕ, [], List, None, Some, false, take, true};
 ghost use Rattle.sm_base.specs.declared.faults.Place.TheVariants as at;
 ghost use Rattle.sm_base.specs.declared.names.Name.TheVariants.{Vhd, Raw, Old, Clone, Coalesce, Inflate, Leaf, Relink};
 ghost use Rattle.sm_standing.specs.Besides.{IsBeside};
-ghost use Rattle.sm_standing.specs.Checks.{fault_of, fault_but_leaf_of, first_fault};
+ghost use Rattle.sm_standing.specs.Checks.{fault_of, PassesButLeaf, first_fault};
 ghost use Rattle.sm_standing.specs.Enlarging.{IsEnlarging};
+ghost use Rattle.sm_standing.specs.Opened.{applied_all, undo_changes, undone};
 ghost use Rattle.sm_standing.specs.Outlines.{outline};
 ghost use Rattle.sm_standing.specs.Standing.{standing_volume};
-ghost use Rattle.sm_standing.specs.Undone.{IsBeingEnlarged, applied_all, undo_changes, undone, undone_from};
+ghost use Rattle.sm_standing.specs.Undone.{IsBeingEnlarged, undone_from};
 ghost use Rattle.sm_standing.specs.Unfolded.{unfolded};
 ghost use Rattle.standing_examples.specs.SmallContents.{lone_raw, one, two, three, four, record_row, sized_row};
 ghost use Rattle.standing_examples.specs.SmallOutlines.{thin_outline, thin_table, enlarging_table, entries_table, old_table, mixed_outline, forking_table, forking_outline, linking_images, linking_outline, linking_table, copying_outline};
@@ -30,27 +31,28 @@ pub fn example_enlarging()
     ensures beside { IsBeside thin_outline (record thin_outline { table = enlarging_table }) (one ∷ []) }
 {}
 
-/// A raw disk beside a VHD disk passes the checks of all but a leaf's folding. So does a hidden VHD image beside it, and a VHD disk over the raw image where
-/// that is hidden; over a visible one it stops at the tree, and an old leaf stops at the image. The entry of an enlargement passes,
-/// a second one and one at no stage do not, and an entry of the folding of a leaf is named in front of these. The entry of a fork
-/// passes where the base is the only parent of its new images, that of a link where the parent is no smaller than the image, and
-/// that of a copy where the image is its parent's only child.
+/// A raw disk beside a VHD disk passes all checks, and no leaf is being folded there. A hidden VHD image beside it passes too, and a VHD disk over the raw
+/// image where that is hidden; over a visible one it stops at the tree, and an old leaf stops at the image. The entry of an enlargement
+/// passes, a second one and one at no stage do not, whatever entry of the other group is beside them. The entry of a fork passes where
+/// the base is the only parent of its new images, that of a link where the parent is no smaller than the image, and that of a copy
+/// where the image is its parent's only child.
 pub fn example_but_leaf()
-    ensures passes { fault_but_leaf_of (mixed_outline false false None) ≡ None }
-    ensures hidden { fault_but_leaf_of (mixed_outline false true None) ≡ None }
-    ensures child { fault_but_leaf_of (mixed_outline true false (Some (Raw two))) ≡ None }
-    ensures parent { fault_but_leaf_of (mixed_outline false false (Some (Raw two))) ≡ Some (at.Tree (Vhd one)) }
-    ensures old { fault_but_leaf_of (record thin_outline { table = old_table }) ≡ Some (at.Image (Old one)) }
-    ensures enlarging { fault_but_leaf_of (record thin_outline { table = enlarging_table }) ≡ None }
-    ensures second { fault_but_leaf_of (record thin_outline { table = entries_table (Inflate one 1 ∷ Inflate one 2 ∷ []) }) ≡ Some (at.Journal (Inflate one 2)) }
-    ensures lost { fault_but_leaf_of (record thin_outline { table = entries_table (Inflate one 4 ∷ []) }) ≡ Some (at.Journal (Inflate one 4)) }
-    ensures other { fault_but_leaf_of (record thin_outline { table = entries_table (Inflate one 1 ∷ Inflate one 2 ∷ Leaf one two ∷ []) }) ≡ Some (at.Journal (Leaf one two)) }
-    ensures fork { fault_but_leaf_of (forking_outline (Some (Vhd two))) ≡ None }
-    ensures unlinked { fault_but_leaf_of (forking_outline None) ≡ Some (at.Journal (Clone one two three)) }
-    ensures link { fault_but_leaf_of (linking_outline 32) ≡ None }
-    ensures smaller { fault_but_leaf_of (linking_outline 24) ≡ Some (at.Journal (Relink two three)) }
-    ensures copy { fault_but_leaf_of (copying_outline (Vhd two)) ≡ None }
-    ensures shared { fault_but_leaf_of (copying_outline (Vhd three)) ≡ Some (at.Journal (Coalesce two three)) }
+    ensures passes { fault_of (mixed_outline false false None) ≡ None }
+    ensures quiet { PassesButLeaf (mixed_outline false false None) }
+    ensures hidden { fault_of (mixed_outline false true None) ≡ None }
+    ensures child { fault_of (mixed_outline true false (Some (Raw two))) ≡ None }
+    ensures parent { fault_of (mixed_outline false false (Some (Raw two))) ≡ Some (at.Tree (Vhd one)) }
+    ensures old { fault_of (record thin_outline { table = old_table }) ≡ Some (at.Image (Old one)) }
+    ensures enlarging { fault_of (record thin_outline { table = enlarging_table }) ≡ None }
+    ensures second { fault_of (record thin_outline { table = entries_table (Inflate one 1 ∷ Inflate one 2 ∷ []) }) ≡ Some (at.Journal (Inflate one 2)) }
+    ensures lost { fault_of (record thin_outline { table = entries_table (Inflate one 4 ∷ []) }) ≡ Some (at.Journal (Inflate one 4)) }
+    ensures other { fault_of (record thin_outline { table = entries_table (Inflate one 1 ∷ Inflate one 2 ∷ Leaf one two ∷ []) }) ≡ Some (at.Journal (Inflate one 2)) }
+    ensures fork { fault_of (forking_outline (Some (Vhd two))) ≡ None }
+    ensures unlinked { fault_of (forking_outline None) ≡ Some (at.Journal (Clone one two three)) }
+    ensures link { fault_of (linking_outline 32) ≡ None }
+    ensures smaller { fault_of (linking_outline 24) ≡ Some (at.Journal (Relink two three)) }
+    ensures copy { fault_of (copying_outline (Vhd two)) ≡ None }
+    ensures shared { fault_of (copying_outline (Vhd three)) ≡ Some (at.Journal (Coalesce two three)) }
 {}
 
 /// A thin disk of one extent got two more, and a stop came: it is cut to one extent, and the entry is removed. Where it got none

@@ -1,7 +1,7 @@
 use Rattle.std.proofs.Common.{◌++◌}
 use Rattle.vg_meta.specs.Roomy.{table_alone}
 use Rattle.sm_standing.specs.Entries.{head, making}
-use Rattle.sm_standing.specs.Leaves.{leaf_gone, parent_changes}
+use Rattle.sm_standing.specs.Opened.{leaf_gone, parent_changes}
 use Rattle.sm_recover.specs.Ending.{name_taken}
 use Rattle.sm_recover.proofs.StepLaws.{front_part, then_part}
 use Rattle.sm_recover.proofs.folding.end_renamed.Goals as goal

@@ -3,8 +3,7 @@ use Rattle.sm_base.specs.declared.names.Name.TheVariants.{Vhd}
 use Rattle.vg_meta.specs.Roomy.{table_alone}
 use Rattle.vg_meta.specs.declared.changes.Change.TheVariants.{Mark}
 use Rattle.vg_meta.specs.declared.changes.Tag.TheVariants.{Hidden}
-use Rattle.sm_standing.specs.Leaves.{leaf_gone}
-use Rattle.sm_standing.specs.Undone.{wanted}
+use Rattle.sm_standing.specs.Opened.{leaf_gone, wanted}
 use Rattle.sm_recover.specs.Steps.{MakesPart, is_marked}
 use Rattle.sm_recover.proofs.StepLaws.{front_part, then_part}
 use Rattle.sm_recover.proofs.folding.end_swapped.Goals as goal

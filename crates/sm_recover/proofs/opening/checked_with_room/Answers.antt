@@ -5,7 +5,7 @@ use Rattle.vhd_chain.specs.Reading.{AllAreTrue}
 use Rattle.sm_ready.specs.Orderly.{IsOrderly}
 use Rattle.sm_ready.specs.Ready.{IsReady}
 use Rattle.sm_standing.specs.Entries.{folding, head}
-use Rattle.sm_standing.specs.Undone.{undone}
+use Rattle.sm_standing.specs.Opened.{undone}
 use Rattle.sm_standing.specs.Unfolded.{unfolded}
 use Rattle.sm_base.specs.declared.operations.Op.TheVariants.{Idle}
 use Rattle.sm_recover.specs.Backs.{CanGiveBack, rows_back}

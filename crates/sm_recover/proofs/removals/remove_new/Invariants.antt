@@ -5,10 +5,11 @@ use Rattle.vg_volumes.specs.Stored.{stored}
 use Rattle.sm_ready.specs.Known.{Known}
 use Rattle.sm_ready.specs.Orderly.{IsOrderly}
 use Rattle.sm_ready.specs.Sessions.{HasRows}
-use Rattle.sm_ready.specs.Cleaned.{cleaned, HasFewRemovals}
+use Rattle.sm_ready.specs.Cleaned.{HasFewRemovals}
 use Rattle.sm_ready.specs.Repairs.{RestsAgain}
 use Rattle.sm_recover.specs.Repairs.{IsChecked}
 use Rattle.sm_recover.proofs.removals.remove_new.Given as goal
+use Rattle.sm_standing.specs.Opened.{cleaned}
 
 -- some new volumes are gone, and memory that was at rest is so
 abbrev pub invariant-loop-name : goal.invariant-loop-name

@@ -1,11 +1,12 @@
 use Rattle.std.proofs.Common.{◌≤◌, ap, sym, subst, ◌∙◌}
 use Rattle.sm_disk.proofs.HeldLaws.{Keeps-then}
 use Rattle.vg_meta.specs.Roomy.{table_alone}
+use Rattle.vg_volumes.specs.Stored.{stored}
 use Rattle.vg_volumes.proofs.StoredLaws.{reads_none}
-use Rattle.sm_ready.specs.Cleaned.{cleaned}
+use Rattle.sm_standing.specs.Opened.{cleaned}
 use Rattle.sm_ready.specs.Known.{known}
 use Rattle.sm_ready.specs.Sessions.{IsAtEase}
-use Rattle.sm_ready.proofs.OpenedLaws.{shape_opened}
+use Rattle.sm_recover.proofs.SweptLaws.{shape_opened}
 use Rattle.sm_recover.proofs.SettleLaws.{area_behind, checked_behind, few_all, few_linking, link_begun, link_same, linkable_behind, opened_behind, orderly_behind, same_behind, same_first, start, table_behind, true_behind}
 use Rattle.sm_recover.proofs.settling.restore.Goals as goal
 
@@ -124,8 +125,8 @@ returns-clause-opened g c = λ told h.
     let rest = l.rest told (link_begun r u.site u.undone c.requires.endable told (u.keeps told) h.settled (u.settled told) c.args.memory.now h.sound h.well h.ready) in
     let begun = start r u.site u.undone c.requires.endable c.link_up.ensures.site l.unfolded c.link_up.new.memory l.orderly rest l.at_ease in
     let q : IsAtEase c.repair.new.memory = record { idle = c.repair.ensures.operation ∙ l.at_ease.idle; unattached = ap (λ a. a.disks) c.repair.ensures.attached ∙ l.at_ease.unattached } in
-    shape_opened (g.S.Store.area c.link_up.new.store) (g.S.Store.area c.repair.new.store) (known c.link_up.new.memory) _ l.orderly l.at_ease.idle c.repair.ensures.site
-    e.cleaned e.orderly (returns-clause-ready g c told h) e.tidy.none_new q.unattached q.idle ((e.rest told).same_disks begun) ((e.rest told).same_images begun)
+    shape_opened (stored g.S.Store c.link_up.new.store) (known c.link_up.new.memory) begun (stored g.S.Store c.repair.new.store) (known c.repair.new.memory)
+    (e.rest told) e.site e.cleaned e.tidy.none_new q.unattached q.idle
     ∙ opened_behind r u.site u.undone c.requires.endable c.link_up.ensures.site l.unfolded c.args.memory.now c.link_up.new.memory h.sound h.settled c.requires.orderly h.ready c.requires.at_ease begun l.at_ease.unattached c.requires.linking l.shape
 
 pub returns-clause-crash : goal.returns-clause-crash

@@ -2,8 +2,7 @@ use Rattle.std.proofs.Common.{inr, ap, sym, subst₂, ◌∙◌, arith}
 use Rattle.sm_disk.proofs.HeldLaws.{Keeps-then}
 use Rattle.vg_meta.specs.Roomy.{table_alone}
 use Rattle.sm_standing.specs.Entries.{folding, head}
-use Rattle.sm_standing.specs.Undone.{undone}
-use Rattle.sm_ready.specs.Cleaned.{cleaned}
+use Rattle.sm_standing.specs.Opened.{cleaned, undone}
 use Rattle.sm_ready.specs.Runs.{AllMay}
 use Rattle.sm_recover.specs.Ending.{leaf_ends}
 use Rattle.sm_recover.proofs.LeafSettled.{endable_then, ended_then, few_ending, few_then, held_then, left_repaired, linking_then, opened_then, orderly_then, repaired_then, same_then, settled_then, true_then}

@@ -1,6 +1,6 @@
 use Rattle.std.proofs.Common.{◌≡◌, true, sym, subst, rules}
 use Rattle.vg_meta.specs.Roomy.{table_alone}
-use Rattle.sm_standing.specs.Undone.{wanted}
+use Rattle.sm_standing.specs.Opened.{wanted}
 use Rattle.sm_ready.specs.Runs.{AllMay}
 use Rattle.sm_recover.specs.Steps.{MakesAll}
 use Rattle.sm_recover.proofs.StepLaws.{one_all}

@@ -3,8 +3,7 @@ use Rattle.sm_base.specs.declared.names.Name.TheVariants.{Vhd}
 use Rattle.vg_meta.specs.declared.changes.Change.{Change}
 use Rattle.vg_meta.specs.declared.changes.Change.TheVariants.{Mark, Remove, Rename}
 use Rattle.vg_meta.specs.declared.changes.Tag.TheVariants.{Hidden}
-use Rattle.sm_standing.specs.Opened.{under_name}
-use Rattle.sm_standing.specs.Undone.{wanted}
+use Rattle.sm_standing.specs.Opened.{under_name, wanted}
 use Rattle.sm_recover.specs.Steps.{MakesPart, changes_of_base}
 use Rattle.sm_recover.proofs.StepLaws.{front_part, then_part}
 use Rattle.sm_recover.proofs.undoing.give_back.Goals as goal

@@ -1,7 +1,7 @@
 use Rattle.std.proofs.Common.{subst}
 use Rattle.vg_meta.specs.Roomy.{table_alone}
 use Rattle.sm_standing.specs.Entries.{folding, head}
-use Rattle.sm_standing.specs.Undone.{undo_changes}
+use Rattle.sm_standing.specs.Opened.{undo_changes}
 use Rattle.sm_recover.specs.Steps.{MakesPart, ends_copy, uncopied}
 use Rattle.sm_recover.proofs.StepLaws.{front_part, then_part}
 use Rattle.sm_recover.proofs.undoing.make_first.Goals as goal

@@ -5,7 +5,7 @@ use Rattle.vg_meta.specs.Tables.{rows}
 use Rattle.vg_meta.specs.declared.changes.Change.{Change}
 use Rattle.vg_meta.specs.declared.changes.Change.TheVariants.{Cut, Remove}
 use Rattle.sm_standing.specs.Entries.{of_row}
-use Rattle.sm_standing.specs.Undone.{is_longer, wanted}
+use Rattle.sm_standing.specs.Opened.{is_longer, wanted}
 use Rattle.sm_recover.specs.Steps.{MakesPart}
 use Rattle.sm_recover.proofs.StepLaws.{front_part, then_part}
 use Rattle.sm_recover.proofs.undoing.undo_enlargement.Goals as goal

@@ -3,7 +3,7 @@ use Rattle.sm_base.specs.declared.names.Name.TheVariants.{Vhd, Clone}
 use Rattle.vg_meta.specs.Roomy.{table_alone}
 use Rattle.vg_meta.specs.declared.changes.Change.{Change}
 use Rattle.vg_meta.specs.declared.changes.Change.TheVariants.{Remove}
-use Rattle.sm_standing.specs.Undone.{changes_back, wanted}
+use Rattle.sm_standing.specs.Opened.{changes_back, wanted}
 use Rattle.sm_recover.specs.Steps.{MakesPart, changes_of_base}
 use Rattle.sm_recover.proofs.BackLaws.{planned}
 use Rattle.sm_recover.proofs.StepLaws.{front_part, then_part}

@@ -1,4 +1,5 @@
-use Rattle.sm_stages.proofs.OpenedLaws.{unforked_shape, opened_1, opened_2, opened_3, opened_4, opened_5, opened_6, opened_7}
+use Rattle.sm_stages.proofs.LeftShapes.{opened_1, opened_2, opened_3, opened_4, opened_5, opened_6, opened_7}
+use Rattle.sm_stages.proofs.OpenedLaws.{unforked_shape}
 use Rattle.sm_stages.proofs.openings.example_fork_undone.Goals as goal
 
 pub returns : goal.returns

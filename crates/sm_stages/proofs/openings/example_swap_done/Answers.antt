@@ -1,4 +1,5 @@
-use Rattle.sm_stages.proofs.OpenedLaws.{swap_opened_1, swap_opened_2, swap_opened_3, swap_opened_4, swap_opened_5, swap_disks_0, swap_disks_5}
+use Rattle.sm_stages.proofs.LeftShapes.{swap_opened_1, swap_opened_2, swap_opened_3, swap_opened_4, swap_opened_5}
+use Rattle.sm_stages.proofs.OpenedLaws.{swap_disks_0, swap_disks_5}
 use Rattle.sm_stages.proofs.openings.example_swap_done.Goals as goal
 
 pub returns : goal.returns

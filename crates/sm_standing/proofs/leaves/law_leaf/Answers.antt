@@ -1,8 +1,8 @@
 use Rattle.sm_standing.specs.Outlines.{outline}
 use Rattle.sm_standing.proofs.LeafContents.{images_at_last, left_at_last, left_kept, left_on_the_way, left_shown}
 use Rattle.sm_standing.proofs.LeafEnds.{ended_folding, ended_making, ended_permits, ended_simple, ended_unmade, ends_are, few_ends}
-use Rattle.sm_standing.proofs.LeafOpened.{opened_ended}
 use Rattle.sm_standing.proofs.LeafStages.{content_images}
+use Rattle.sm_standing.proofs.OpenedLaws.{opened_ended}
 use Rattle.sm_standing.proofs.leaves.law_leaf.Goals as goal
 
 pub returns-clause-changes : goal.returns-clause-changes
@@ -52,4 +52,4 @@ pub returns-clause-disks : goal.returns-clause-disks
 returns-clause-disks c = λ x leaf parent i. let p = left_at_last x i.sound i.table i.sizes leaf parent i.entry in p.shown
 
 pub returns-clause-opened : goal.returns-clause-opened
-returns-clause-opened c = λ x leaf parent i. opened_ended x i.sound i.table i.sizes leaf parent i.entry
+returns-clause-opened c = λ x leaf parent i. opened_ended x leaf parent i.entry (ended_folding x.count (outline x) i.sound i.table (content_images x) leaf parent i.entry)

@@ -1,4 +1,4 @@
-use Rattle.sm_standing.proofs.PlainKept.{known_kept, known_sound, known_but_leaf, simple_is_plain, simple_well, but_leaf_known, but_leaf_sound}
+use Rattle.sm_standing.proofs.PlainKept.{known_kept, known_but_leaf, simple_is_plain, simple_well, but_leaf_known, but_leaf_sound}
 use Rattle.sm_standing.proofs.plain.law_but_leaf.Goals as goal
 
 pub returns-clause-known : goal.returns-clause-known
@@ -6,9 +6,6 @@ returns-clause-known c = λ b h. (but_leaf_known b h).known
 
 pub returns-clause-facts : goal.returns-clause-facts
 returns-clause-facts c = but_leaf_sound
-
-pub returns-clause-all : goal.returns-clause-all
-returns-clause-all c = λ b h. known_sound b (but_leaf_known b h)
 
 pub returns-clause-kept : goal.returns-clause-kept
 returns-clause-kept c = λ b h. known_kept b (but_leaf_known b h)

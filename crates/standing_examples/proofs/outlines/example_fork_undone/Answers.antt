@@ -3,7 +3,8 @@ use Rattle.sm_base.specs.Names.{name_cmp, spelling}
 use Rattle.vg_meta.specs.Changes.{put, with_row, without}
 use Rattle.vg_meta.specs.Tables.{row_of, name_eq}
 use Rattle.sm_standing.specs.Entries.{image_with}
-use Rattle.sm_standing.specs.Undone.{undo_changes, undone, undone_from}
+use Rattle.sm_standing.specs.Opened.{undo_changes, undone}
+use Rattle.sm_standing.specs.Undone.{undone_from}
 use Rattle.standing_examples.proofs.outlines.example_fork_undone.Goals as goal
 
 pub returns-clause-undone : goal.returns-clause-undone

@@ -2,7 +2,7 @@ use Rattle.std.proofs.Common.{refl, arith}
 use Rattle.sm_base.specs.declared.names.Name.TheVariants.{Vhd}
 use Rattle.vg_meta.specs.Changes.{with_row, without}
 use Rattle.vg_meta.specs.Tables.{row_of, name_eq}
-use Rattle.sm_standing.specs.Undone.{undo_changes, undone}
+use Rattle.sm_standing.specs.Opened.{undo_changes, undone}
 use Rattle.standing_examples.specs.SmallContents.{sized_row}
 use Rattle.standing_examples.proofs.outlines.example_undone.Goals as goal
 
