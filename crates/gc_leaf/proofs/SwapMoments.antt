@@ -43,7 +43,8 @@ use Rattle.sm_ready.proofs.KeptLaws.{law_kept}
 use Rattle.sm_ready.proofs.LeftLaws.{IsLeft, extent_some, left_in, left_now, mgt_long, none_of_vhd, now_sector, place_reads, ready_places}
 use Rattle.sm_ready.proofs.Orders.{geometry_of, whole}
 use Rattle.sm_ready.proofs.RowLaws.{found_in}
-use Rattle.sm_ready.proofs.SafeLaws.{AllSafe}
+use Rattle.sm_calls.specs.Calls.{GoesWell, ShowsBetween, commits}
+use Rattle.sm_calls.proofs.StoreLaws.{safe_fine}
 use Rattle.gc_leaf.specs.Moments.{IsSwapMoment, IsSwapStage}
 use Rattle.gc_leaf.specs.Swapping.{front_changes}
 use Rattle.gc_leaf.proofs.SwapCopied.{hidden_away, leaf_image, parent_image, stands_none, swappable}
@@ -476,18 +477,25 @@ module _ {s : Site} {t : VolumeTable} {m : Known} {l p : Name} {cursor : ℕ} (h
           };
     }
 
-  pub all_safe : (old : Held) → IsReady s t old m → (before : Leaving) → MayShow s before (disks (content_now s t old)) → ((image : ℕ → List ℕ) → IsBefore (area_size s) t old t image → before t image)
-      → AllSafe s before (disks (content_now s t old)) t old (front_changes leaf parent)
-  all_safe old ready before might stays = (
-    ready_safe s t old m before h.orderly ready stays,
-    (
-      moment_safe (table_1 h) (Vhd parent) entry moment_1 refl old ready before might,
-      (
-        moment_safe (table_2 h) (Vhd leaf) entry moment_2 refl old ready before might,
-        (moment_safe (table_3 h) (Vhd leaf) entry moment_3 refl old ready before might, moment_safe (table_4 h) (Vhd leaf) entry moment_4 refl old ready before might),
-      ),
-    ),
-  )
+  -- whatever a stop leaves in front of the last commit is fine
+  pub front_fine : (old : Held) → IsReady s t old m → (before : Leaving) → MayShow s before (disks (content_now s t old)) → ((image : ℕ → List ℕ) → IsBefore (area_size s) t old t image → before t image)
+      → GoesWell (ShowsBetween s before (disks (content_now s t old)) (disks (content_now s t old))) (λ x. x ≡ record { site = s; table = table_4 h; area = at_rest (reads old) }) (record { site = s; table = t; area = old })
+      (commits (front_changes leaf parent))
+  front_fine old ready before might stays =
+      let was = disks (content_now s t old) in
+      record {
+        first = safe_fine was (ready_safe s t old m before h.orderly ready stays);
+        next = (
+          safe_fine was (moment_safe (table_1 h) (Vhd parent) entry moment_1 refl old ready before might),
+          (
+            safe_fine was (moment_safe (table_2 h) (Vhd leaf) entry moment_2 refl old ready before might),
+            (
+              safe_fine was (moment_safe (table_3 h) (Vhd leaf) entry moment_3 refl old ready before might),
+              (safe_fine was (moment_safe (table_4 h) (Vhd leaf) entry moment_4 refl old ready before might), refl),
+            ),
+          ),
+        );
+      }
 
   -- and behind the last commit the disks are those from before
   pub disks_then : (old : Held) → IsReady s t old m → disks (content_now s (table_then h) (at_rest (reads old))) ≡ disks (content_now s t old)

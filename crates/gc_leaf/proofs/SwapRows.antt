@@ -25,12 +25,12 @@ use Rattle.vhd_chain.specs.declared.rows.TreeRow.{TreeRow}
 use Rattle.sm_machine.specs.Shapes.{image_uuid}
 use Rattle.sm_ready.specs.Frames.{HasTrueImages}
 use Rattle.sm_ready.specs.Known.{known, machine_row, shape_in}
-use Rattle.sm_ready.specs.Runs.{Runs}
 use Rattle.sm_ready.specs.Sessions.{HasTreeRoom}
 use Rattle.sm_ready.specs.declared.memory.Memory.{Memory}
 use Rattle.sm_ready.proofs.ChainLaws.{tab}
 use Rattle.sm_ready.proofs.FrameLaws.{KeepsVolume, true_turned}
 use Rattle.sm_ready.proofs.RestLaws.{true_keeps}
+use Rattle.sm_calls.specs.Calls.{DoesRun, commits}
 use Rattle.gc_leaf.specs.Swapping.{CanFold, swap_changes, swapped_rows}
 use Rattle.gc_leaf.proofs.SwapEnds.{folded_extents, other_extents, parent_at}
 use Rattle.gc_leaf.proofs.SwapMemory.{folded, in_then, leaf_found, others, parent_found, parent_leaf, parent_row, rows_then}
@@ -97,7 +97,7 @@ module _ {s : Site} {t : VolumeTable} (m : Memory) {l p : Name} {cursor : ℕ} (
       ))
 
 module _ {S : Type 0} (g : Ghosts S) (a b : S) (m : Memory) {l p : Name} {cursor : ℕ} (h : IsToSwap (g.site a) (tab g a) (known m) l p cursor)
-    (runs : Runs g (swap_changes (image_uuid l) (image_uuid p)) a b) where
+    (run : DoesRun g (commits (swap_changes (image_uuid l) (image_uuid p))) a b (Unit {0})) where
   abbrev s : Site
   s = g.site a
 
@@ -112,22 +112,22 @@ module _ {S : Type 0} (g : Ghosts S) (a b : S) (m : Memory) {l p : Name} {cursor
 
   other_kept : g.told → (r : TreeRow) (i : In r m.tree.rows) → (row_name r ≡ l → ⊥) → (row_name r ≡ p → ⊥) → KeepsVolume g a b r
   other_kept told r i not_leaf not_parent =
-      let at = ap (λ v. extents_of (rows v (row_name r))) runs.table ∙ other_extents h r i not_leaf not_parent in
+      let at = ap (λ v. extents_of (rows v (row_name r))) (run.table tt) ∙ other_extents h r i not_leaf not_parent in
       record {
-        size = ap₂ (λ (x : Site) (es : List ℕ). span x.geometry.extent es) runs.site at;
-        keeps = subst₂ (λ (x : Site) (es : List ℕ). Keeps (volume extent (had r) (g.area a)) (volume x.geometry.extent es (g.area b))) (sym runs.site) (sym at)
-            (Keeps-volume extent (had r) (runs.keeps told));
+        size = ap₂ (λ (x : Site) (es : List ℕ). span x.geometry.extent es) run.site at;
+        keeps = subst₂ (λ (x : Site) (es : List ℕ). Keeps (volume extent (had r) (g.area a)) (volume x.geometry.extent es (g.area b))) (sym run.site) (sym at)
+            (Keeps-volume extent (had r) (run.keeps tt told));
       }
 
   folded_true : g.told → ImageIsTrue (stored g a) (parent_row h).image → ImageIsTrue (stored g b) (folded h).image
   folded_true told was =
-      let at = ap (λ v. extents_of (rows v (row_name (folded h)))) runs.table ∙ folded_extents h in
+      let at = ap (λ v. extents_of (rows v (row_name (folded h)))) (run.table tt) ∙ folded_extents h in
       let es = had (parent_row h) in
-      subst₂ (λ (x : Site) (fs : List ℕ). TrueIn x.geometry (span x.geometry.extent fs) (volume x.geometry.extent fs (g.area b)) (folded h).image) (sym runs.site) (sym at)
+      subst₂ (λ (x : Site) (fs : List ℕ). TrueIn x.geometry (span x.geometry.extent fs) (volume x.geometry.extent fs (g.area b)) (folded h).image) (sym run.site) (sym at)
       (true_under s.geometry (span extent es) (volume extent es (g.area b)) l (parent_row h).image
-      (true_keeps s.geometry (span extent es) (volume extent es (g.area a)) (volume extent es (g.area b)) (parent_row h).image (Keeps-volume extent es (runs.keeps told)) was))
+      (true_keeps s.geometry (span extent es) (volume extent es (g.area a)) (volume extent es (g.area b)) (parent_row h).image (Keeps-volume extent es (run.keeps tt told)) was))
 
   pub true_end : (tree : Tree) → tree.rows ≡ swapped_rows l (tree_row m.tree.rows p) p m.tree.rows → HasTrueImages g a m → HasTrueImages g b (record m { tree = tree; operation = Idle })
-  true_end tree is = true_turned g m (record m { tree = tree; operation = Idle }) runs.site (λ told each r i. ⊎_elim
+  true_end tree is = true_turned g m (record m { tree = tree; operation = Idle }) run.site (λ told each r i. ⊎_elim
       (λ same. inr (subst (λ (q : TreeRow). ImageIsTrue (stored g b) q.image) (sym same) (folded_true told (each (parent_row h) (parent_at h).0))))
       (λ w. inl (w.0, other_kept told r w.0 w.1 w.2)) (in_then h r (subst (In r) (is ∙ rows_is m h) i)))

@@ -1,7 +1,5 @@
--- What a stop leaves among the calls of a fork, and what was done once all of them succeeded.
-use Rattle.std.proofs.Common.{◌≡◌, ◌≢◌, inl, inr, ⊎_elim, ℕ, ◌+◌, ◌-◌, true, false, List, [], ◌∷◌, length, unwrap_or, IsSome, Option, None, Some, refl, sym, ap, ap₂, ◌∙◌, subst, subst₂, arith}
-use Rattle.std.proofs.Math.ListN.{set}
-use Rattle.std.proofs.lemmas.Bool.{true≢false}
+-- The calls of a fork as one run: what each part of them did, why each moment is fine, and what was done once all of them succeeded.
+use Rattle.std.proofs.Common.{◌≡◌, ◌≢◌, inr, ℕ, ◌-◌, true, false, List, [], ◌∷◌, ◌++◌, length, unwrap_or, Option, Some, refl, sym, ap, ap₂, ◌∙◌, subst, subst₂, arith}
 use Rattle.std.proofs.lemmas.Option.{same_Some}
 use Rattle.std.proofs.lemmas.Map.Entries.{lookup_head, lookup_tail}
 use Rattle.sm_base.specs.Names.{base_uuid}
@@ -9,16 +7,12 @@ use Rattle.sm_base.specs.declared.names.Name.{Name}
 use Rattle.sm_base.specs.declared.names.Name.TheVariants.{Vhd}
 use Rattle.sm_disk.specs.Held.{Held, reads}
 use Rattle.vg_meta.specs.Tables.{VolumeTable}
-use Rattle.vg_meta.specs.declared.changes.Change.TheVariants.{Mark, Remove}
-use Rattle.vg_meta.specs.declared.changes.Tag.TheVariants.{Fresh}
-use Rattle.vg_volumes.specs.Commits.{IsBefore}
-use Rattle.vg_volumes.specs.Sites.{Site, area_size}
-use Rattle.vg_volumes.specs.Stored.{IsChoiceOf, Stays, Stored, stored}
+use Rattle.vg_volumes.specs.Sites.{Site}
+use Rattle.vg_volumes.specs.Stored.{IsChoiceOf, Stays, stored}
 use Rattle.vg_volumes.specs.declared.stores.Store.{Ghosts}
 use Rattle.vhd_chain.specs.Trees.{tree_row}
 use Rattle.vhd_chain.specs.declared.rows.TreeRow.{TreeRow}
 use Rattle.vhd_image.specs.declared.images.Body.{Body}
-use Rattle.vhd_volumes.specs.declared.heads.Head.{Head}
 use Rattle.sm_machine.specs.Disks.{Disk}
 use Rattle.sm_machine.specs.Refusals.{wanted}
 use Rattle.sm_machine.specs.Shapes.{attached_as, is_rw}
@@ -28,31 +22,26 @@ use Rattle.sm_record.specs.declared.records.Record.{Record}
 use Rattle.sm_refs.specs.Attached.{Attached, count_of, same_name, tally}
 use Rattle.sm_refs.proofs.NameLemmas.{other_name, same_name-refl}
 use Rattle.sm_mgt.specs.Places.{place_for}
-use Rattle.sm_run.specs.Between.{IsBetween}
-use Rattle.sm_standing.specs.Keeping.{IsKept}
-use Rattle.sm_standing.specs.Opened.{applied_all}
 use Rattle.sm_standing.specs.Standing.{disks}
 use Rattle.sm_ready.specs.Done.{HasDoneFrom, at_rest}
 use Rattle.sm_ready.specs.Does.{store_shape}
 use Rattle.sm_ready.specs.Known.{Known, known}
 use Rattle.sm_ready.specs.Orderly.{IsOrderly}
-use Rattle.sm_ready.specs.Ready.{IsReady}
-use Rattle.sm_ready.specs.Runs.{FailsToRun, IsAmong, Runs}
 use Rattle.sm_ready.specs.Sessions.{IsReadyStore}
-use Rattle.sm_ready.specs.Stores.{Leaving, MayShow, StoreLeaves, content_in, content_now, store_content}
+use Rattle.sm_ready.specs.Stores.{Leaving, MayShow, StoreLeaves, store_content}
 use Rattle.sm_ready.specs.declared.memory.Memory.{Memory}
-use Rattle.sm_ready.proofs.ChainLaws.{might_show, only_crash, stopped_at, tab}
-use Rattle.sm_ready.proofs.CommitLaws.{IsSafe, already, law_settled, ready_safe, rested, volume_rested}
-use Rattle.sm_ready.proofs.KeptLaws.{law_kept}
-use Rattle.sm_ready.proofs.LeftLaws.{IsLeft, left_in, ready_places}
-use Rattle.sm_ready.proofs.SafeLaws.{AllSafe, among_ended, among_safe}
-use Rattle.sm_clone.specs.Forking.{CanFork, IsBesideFork, IsFilled, IsUsedAs, base_body, base_name, child_head, entry_name, first_changes, fork_of, forked_rows, forking, last_changes, own_uid, sectors_of, twin_record, twin_uid}
+use Rattle.sm_ready.proofs.ChainLaws.{might_show, tab}
+use Rattle.sm_ready.proofs.CommitLaws.{IsSafe, ready_safe}
+use Rattle.sm_calls.specs.Calls.{Call, DoesRun, GoesWell, IsFine, IsReadyWith, ShowsBetween, commits}
+use Rattle.sm_calls.proofs.StoreLaws.{law_run, ready_fine, run_front, run_then, run_works, safe_fine}
+use Rattle.sm_clone.specs.Forking.{CanFork, IsBesideFork, IsFilled, IsUsedAs, base_body, base_name, child_head, fill_call, first_changes, fork_calls, fork_of, forking, last_changes, own_uid, sectors_of, table_begun, twin_record, twin_uid}
 use Rattle.sm_clone.specs.declared.forks.Fork.{Fork}
 use Rattle.sm_clone.specs.declared.preparing.Parts.{Parts}
 use Rattle.sm_clone.proofs.AreaLaws.{area_fill, area_front}
 use Rattle.sm_clone.proofs.EndedLaws as ended
 use Rattle.sm_clone.proofs.ForkOrderly.{forked_table, orderly_then}
 use Rattle.sm_clone.proofs.ForkRows.{base_not_leaf, base_not_own}
+use Rattle.sm_clone.proofs.ForkedLaws.{IsForkedMemory, known_is, placed}
 use Rattle.sm_clone.proofs.MakingLaws.{twin_uuid}
 use Rattle.sm_clone.proofs.MomentLaws.{IsMomentTable, moment_safe}
 use Rattle.sm_clone.proofs.PassedLaws.{found, own as own_of}
@@ -91,6 +80,34 @@ module _ (f : Fork) (a : Attached) where
     others = λ n not_base not_leaf not_own. next_count n (base_name f) c leaf_on not_base ∙ next_count n (Vhd f.disk) c own_on not_leaf ∙ next_count n f.own 0 a.counts not_own;
   }
 
+-- ---- the run, call by call
+
+module _ {S : Type 0} {g : Ghosts S} {a : S} {f : Fork} {own twins : List ℕ} (now : ℕ) (image : Body) (k : ℕ) (entry : Record) where
+  -- one of the first commits failed
+  pub run_begun : {b : S} → DoesRun g (commits (first_changes f own twins)) a b ⊥ → DoesRun g (fork_calls (g.site a) (tab g a) f own twins now image k entry) a b ⊥
+  run_begun begun = run_front (commits (first_changes f own twins)) (fill_call (g.site a) (table_begun (tab g a) f own twins) f now image k entry ∷ commits (last_changes f)) begun
+
+  module _ {b d : S} (begun : DoesRun g (commits (first_changes f own twins)) a b (Unit {0})) (stays : Stays g b d) (middle : g.told → IsBesideFork (g.site b) (tab g b) f (g.area b) (g.area d) k entry)
+      (now_left : g.told → g.failed d ≡ false → (v : VolumeTable) (leaves : ℕ → List ℕ) → g.leaves d v leaves → IsChoiceOf (stored g d) v leaves) where
+    filled_run : {ok : Type 0} → (ok → g.told → IsFilled (g.site b) (tab g b) (child_head (g.site b).geometry f.disk now (base_uuid ((tab g b).sequence - 1)) image)
+        (child_head (g.site b).geometry f.twin now (base_uuid (tab g b).sequence) image) k entry (g.area b) (g.area d)) → DoesRun g (commits (first_changes f own twins) ++ fill_call (g.site a) (table_begun (tab g a) f own twins) f now image k entry ∷ []) a d ok
+    filled_run filled = run_then (commits (first_changes f own twins)) (fill_call (g.site a) (table_begun (tab g a) f own twins) f now image k entry ∷ []) tt begun
+        (run_works (begun.usable tt) stays
+        (λ told. subst₂ (λ (x : Site) (y : VolumeTable). IsBesideFork x y f (g.area b) (g.area d) k entry) begun.site (begun.table tt) (middle told))
+        (λ ok told. subst₂ (λ (x : Site) (y : VolumeTable). IsFilled x y (child_head x.geometry f.disk now (base_uuid (y.sequence - 1)) image) (child_head x.geometry f.twin now (base_uuid y.sequence) image)
+        k entry (g.area b) (g.area d)) begun.site (begun.table tt) (filled ok told))
+        (λ told. now_left told (stays.failed ∙ begun.usable tt)))
+
+    -- one of the writes failed
+    pub run_filled : DoesRun g (fork_calls (g.site a) (tab g a) f own twins now image k entry) a d ⊥
+    run_filled = run_front (commits (first_changes f own twins) ++ fill_call (g.site a) (table_begun (tab g a) f own twins) f now image k entry ∷ []) (commits (last_changes f)) (filled_run (λ never. absurd never))
+
+    -- all but the last commits were made, and these succeeded or not
+    pub run_ended : {e : S} {ok : Type 0} → (g.told → IsFilled (g.site b) (tab g b) (child_head (g.site b).geometry f.disk now (base_uuid ((tab g b).sequence - 1)) image)
+        (child_head (g.site b).geometry f.twin now (base_uuid (tab g b).sequence) image) k entry (g.area b) (g.area d))
+        → DoesRun g (commits (last_changes f)) d e ok → DoesRun g (fork_calls (g.site a) (tab g a) f own twins now image k entry) a e ok
+    run_ended filled ended = run_then (commits (first_changes f own twins) ++ fill_call (g.site a) (table_begun (tab g a) f own twins) f now image k entry ∷ []) (commits (last_changes f)) tt (filled_run {ok = Unit {0}} (λ fine. filled)) ended
+
 module _ {S : Type 0} {g : Ghosts S} {a : S} {m : Memory} {f : Fork} {p : Parts} {entry : Record} (can : CanFork g a m f p entry) (told : g.told) (ready : IsReadyStore g a m) where
   abbrev s : Site
   s = g.site a
@@ -112,17 +129,10 @@ module _ {S : Type 0} {g : Ghosts S} {a : S} {m : Memory} {f : Fork} {p : Parts}
   fork_now = fork_of can.allowed.number m.tree.rows f.disk f.twin
 
   abbrev k_now : ℕ
-  k_now = unwrap_or (place_for m.records f.twin) 0
+  k_now = unwrap_or (place_for m.records entry.uuid) 0
 
   abbrev entry_now : Record
   entry_now = twin_record f.disk f.twin entry.read_only can.origin
-
-  placed : place_for m.records f.twin ≡ Some k_now
-  placed = by (place_for m.records f.twin) can.place
-    where
-      by : (x : Option ℕ) → IsSome x → x ≡ Some (unwrap_or x 0)
-      by None h = absurd (let y = h in cc)
-      by (Some j) h = refl
 
   abbrev before : Leaving
   before = StoreLeaves g a
@@ -165,210 +175,132 @@ module _ {S : Type 0} {g : Ghosts S} {a : S} {m : Memory} {f : Fork} {p : Parts}
 
   -- ---- among the first commits
 
-  safe_front : (v : VolumeTable) (n : Name) → IsMomentTable s t (known m) f.disk f.twin entry.read_only can.session.orderly can.session.tidy can.allowed (g.area a) ready k_now can.origin placed v n false
+  safe_front : (v : VolumeTable) (n : Name) → IsMomentTable s t (known m) f.disk f.twin entry.read_only can.session.orderly can.session.tidy can.allowed (g.area a) ready k_now can.origin (placed can) v n false
       → IsSafe s v rest before was
-  safe_front v n h = moment_safe s t (known m) f.disk f.twin entry.read_only can.session.orderly can.session.tidy can.allowed (g.area a) ready k_now can.origin placed can.kept_up v n false rest before h
-      (area_front s t (known m) f.disk f.twin entry.read_only can.session.orderly can.session.tidy can.allowed (g.area a) ready k_now can.origin placed v n h.same) might
+  safe_front v n h = moment_safe s t (known m) f.disk f.twin entry.read_only can.session.orderly can.session.tidy can.allowed (g.area a) ready k_now can.origin (placed can) can.kept_up v n false rest before h
+      (area_front s t (known m) f.disk f.twin entry.read_only can.session.orderly can.session.tidy can.allowed (g.area a) ready k_now can.origin (placed can) v n h.same) might
 
-  all_first : AllSafe s before was t (g.area a) (first_changes fork_now own twins)
-  all_first = (
-    ready_safe s t (g.area a) (known m) before can.session.orderly ready (λ image is. inr (told, can.session.usable, is)),
-    (
-      safe_front table_1 fork_now.own (moment_1 s t (known m) f.disk f.twin entry.read_only can.session.orderly can.session.tidy can.allowed can.kept_up sectors own twins can.extents (twin_uuid can)
-          (g.area a) ready k_now can.origin placed),
-      (
-        safe_front table_2 (base_name fork_now) (moment_2 s t (known m) f.disk f.twin entry.read_only can.session.orderly can.session.tidy can.allowed can.kept_up sectors own twins can.extents (twin_uuid can)
-            (g.area a) ready k_now can.origin placed),
-        (
-          safe_front table_3 (base_name fork_now) (moment_3 s t (known m) f.disk f.twin entry.read_only can.session.orderly can.session.tidy can.allowed can.kept_up sectors own twins can.extents (twin_uuid can)
-              (g.area a) ready k_now can.origin placed),
-          (
-            safe_front table_4 (base_name fork_now) (moment_4 s t (known m) f.disk f.twin entry.read_only can.session.orderly can.session.tidy can.allowed can.kept_up sectors own twins can.extents (twin_uuid can)
-                (g.area a) ready k_now can.origin placed),
-            safe_front table_5 (base_name fork_now) (moment_5 s t (known m) f.disk f.twin entry.read_only can.session.orderly can.session.tidy can.allowed can.kept_up sectors own twins can.extents (twin_uuid can)
-                (g.area a) ready k_now can.origin placed),
-          ),
-        ),
-      ),
-    ),
-  )
+  -- ---- what it makes
 
-  -- a stop among them, where one of them failed
-  pub begin_failed : {x : S} (n : Known) (ok : Type 0) → (ok → ⊥) → FailsToRun g 5 a x → ((v : VolumeTable) (image : ℕ → List ℕ) → g.leaves x v image
-      → IsAmong (stored g a) (first_changes f own twins) v image)
-      → HasDoneFrom s (tab g x) (g.area x) n before (StoreLeaves g x) ok was then
-  begin_failed {x} n ok never fails crash = only_crash never (λ v image l. ⊎_elim
-      (λ left. let c = among_safe s before was t (g.area a) (first_changes fork_now own twins) all_first v image (subst (λ (y : Fork). IsAmong (stored g a)
-      (first_changes y own twins) v image) can.fork (crash v image left)) in (c.0, inl c.1))
-      (λ w. absurd (true≢false (sym fails.stuck ∙ w.1))) l)
+  abbrev own_image : Body
+  own_image = base_body fork_now (own_of s t (known m) f.disk f.twin entry.read_only can.session.orderly can.session.tidy can.allowed).row.image
 
-  -- ---- while it is written
+  many : length own ≡ wanted (store_shape g a m) (is_rw (attached_as f.disk (store_shape g a m))) (sectors_of (tree_row m.tree.rows fork_now.own))
+  many = can.extents.own_many ∙ ap (λ (y : Fork). wanted (store_shape g a m) (is_rw (attached_as f.disk (store_shape g a m))) (sectors_of (tree_row m.tree.rows y.own))) can.fork
 
-  module _ {b d : S} (runs : Runs g (first_changes f own twins) a b) (stays : Stays g b d)
-      (middle : g.told → IsBesideFork (g.site b) (tab g b) f (g.area b) (g.area d) (unwrap_or (place_for m.records entry.uuid) 0) entry) where
-    table_b : tab g b ≡ table_5
-    table_b = runs.table ∙ ap (λ (y : Fork). applied_all t (first_changes y own twins)) can.fork
+  right : IsRecord entry_now
+  right = subst IsRecord can.entry_is can.proper
 
-    area_b : g.area b ≡ rest
-    area_b = rested (g.area a) (g.area b) (runs.keeps told) (runs.settled told)
+  module _ (now : ℕ) where
+    abbrev calls : List Call
+    calls = fork_calls s t fork_now own twins now own_image k_now entry_now
 
-    site_d : g.site d ≡ s
-    site_d = stays.site ∙ runs.site
-
-    table_d : tab g d ≡ table_5
-    table_d = stays.table ∙ table_b
-
-    middle_now : IsBesideFork s table_5 fork_now rest (g.area d) k_now entry_now
-    middle_now =
-        subst (λ (h : Held). IsBesideFork s table_5 fork_now h (g.area d) k_now entry_now) area_b
-        (subst₂ (λ (y : Fork) (r : Record). IsBesideFork s table_5 y (g.area b) (g.area d) (unwrap_or (place_for m.records r.uuid) 0) r) can.fork can.entry_is
-        (subst₂ (λ (x : Site) (y : VolumeTable). IsBesideFork x y f (g.area b) (g.area d) (unwrap_or (place_for m.records entry.uuid) 0) entry) runs.site table_b (middle told)))
-
-    safe_5 : IsSafe s table_5 (g.area d) before was
-    safe_5 = moment_safe s t (known m) f.disk f.twin entry.read_only can.session.orderly can.session.tidy can.allowed (g.area a) ready k_now can.origin placed can.kept_up table_5 (base_name fork_now) false
-        (g.area d) before (moment_5 s t (known m) f.disk f.twin entry.read_only can.session.orderly can.session.tidy can.allowed can.kept_up sectors own twins can.extents (twin_uuid can)
-        (g.area a) ready k_now can.origin placed) (area_fill s t (known m) f.disk f.twin entry.read_only can.session.orderly can.session.tidy can.allowed (g.area a) ready k_now can.origin placed table_5 (g.area d)
-        (moment_5 s t (known m) f.disk f.twin entry.read_only can.session.orderly can.session.tidy can.allowed can.kept_up sectors own twins can.extents (twin_uuid can)
-        (g.area a) ready k_now can.origin placed).same middle_now) might
-
-    -- a stop, where one of the writes failed
-    pub fill_failed : (n : Known) (ok : Type 0) → (ok → ⊥) → ((v : VolumeTable) (image : ℕ → List ℕ) → g.leaves d v image → IsChoiceOf (stored g d) v image)
-        → HasDoneFrom s (tab g d) (g.area d) n before (StoreLeaves g d) ok was then
-    fill_failed n ok never choice = stopped_at g n ok then never site_d table_d safe_5 choice
+    abbrev memory_then : (used : Attached) → IsUsedAs fork_now m.attached used → Known
+    memory_then used uses = known_then s t (known m) f.disk f.twin entry.read_only can.session.orderly can.session.tidy can.allowed now (length own)
+        (length twins) k_now can.origin (placed can) can.recorded many can.extents.twin_many used uses.disks
 
     -- ---- among the last commits
 
-    module _ (now : ℕ) (image_base : Body) (row : TreeRow) (at : tree_row m.tree.rows f.own ≡ Some row) (over : image_base ≡ base_body f row.image)
-        (filled : g.told → IsFilled (g.site b) (tab g b) (child_head (g.site b).geometry f.disk now (base_uuid ((tab g b).sequence - 1)) image_base)
-        (child_head (g.site b).geometry f.twin now (base_uuid (tab g b).sequence) image_base) (unwrap_or (place_for m.records entry.uuid) 0) entry (g.area b) (g.area d)) where
-      abbrev own_image : Body
-      own_image = base_body fork_now (own_of s t (known m) f.disk f.twin entry.read_only can.session.orderly can.session.tidy can.allowed).row.image
+    module _ (area : Held) (did : IsBesideFork s table_5 fork_now rest area k_now entry_now) where
+      safe_5 : IsSafe s table_5 area before was
+      safe_5 = moment_safe s t (known m) f.disk f.twin entry.read_only can.session.orderly can.session.tidy can.allowed (g.area a) ready k_now can.origin (placed can) can.kept_up table_5 (base_name fork_now) false
+          area before (moment_5 s t (known m) f.disk f.twin entry.read_only can.session.orderly can.session.tidy can.allowed can.kept_up sectors own twins can.extents (twin_uuid can)
+          (g.area a) ready k_now can.origin (placed can)) (area_fill s t (known m) f.disk f.twin entry.read_only can.session.orderly can.session.tidy can.allowed (g.area a) ready k_now can.origin (placed can) table_5 area
+          (moment_5 s t (known m) f.disk f.twin entry.read_only can.session.orderly can.session.tidy can.allowed can.kept_up sectors own twins can.extents (twin_uuid can)
+          (g.area a) ready k_now can.origin (placed can)).same did) might
 
-      image_is : image_base ≡ own_image
+      module _ (done : IsFilled s table_5 (child_head s.geometry f.disk now (base_uuid (table_5.sequence - 1)) own_image) (child_head s.geometry f.twin now (base_uuid table_5.sequence) own_image) k_now entry_now rest area) where
+        filled : IsFilled s table_5 (child_head s.geometry f.disk now (own_uid t) own_image) (child_head s.geometry f.twin now (twin_uid t) own_image) k_now entry_now rest area
+        filled =
+            let number = (tables.stage_5 s t (known m) f.disk f.twin entry.read_only can.session.orderly can.session.tidy can.allowed sectors own twins can.extents (twin_uuid can)).number in
+            subst₂ (λ (i j : List ℕ). IsFilled s table_5 (child_head s.geometry f.disk now i own_image) (child_head s.geometry f.twin now j own_image) k_now entry_now rest area)
+            (ap base_uuid (omega (arith, number))) (ap base_uuid number) done
+
+        abbrev end : Held
+        end = at_rest (reads area)
+
+        safe_6 : IsSafe s table_6 end before was
+        safe_6 = moment_safe s t (known m) f.disk f.twin entry.read_only can.session.orderly can.session.tidy can.allowed (g.area a) ready k_now can.origin (placed can) can.kept_up table_6 (base_name fork_now) true end before
+            (moment_6 s t (known m) f.disk f.twin entry.read_only can.session.orderly can.session.tidy can.allowed can.kept_up sectors own twins can.extents (twin_uuid can) (g.area a) ready k_now can.origin (placed can))
+            (ended.area_6 s t (known m) f.disk f.twin entry.read_only can.session.orderly can.session.tidy can.allowed can.kept_up sectors own twins can.extents (twin_uuid can)
+            (g.area a) ready k_now can.origin (placed can) now area did filled) might
+
+        safe_7 : IsSafe s table_7 end before was
+        safe_7 = moment_safe s t (known m) f.disk f.twin entry.read_only can.session.orderly can.session.tidy can.allowed (g.area a) ready k_now can.origin (placed can) can.kept_up table_7 (base_name fork_now) true end before
+            (moment_7 s t (known m) f.disk f.twin entry.read_only can.session.orderly can.session.tidy can.allowed can.kept_up sectors own twins can.extents (twin_uuid can) (g.area a) ready k_now can.origin (placed can))
+            (ended.area_7 s t (known m) f.disk f.twin entry.read_only can.session.orderly can.session.tidy can.allowed can.kept_up sectors own twins can.extents (twin_uuid can)
+            (g.area a) ready k_now can.origin (placed can) now area did filled) might
+
+        module _ (used : Attached) (uses : IsUsedAs fork_now m.attached used) where
+          orderly_8 : IsOrderly s table_8 (memory_then used uses)
+          orderly_8 = orderly_then s t (known m) f.disk f.twin entry.read_only can.session.orderly can.session.tidy can.allowed can.kept_up now k_now can.origin (placed can) can.recorded own twins many can.extents.twin_many
+              used uses table_8 (forked_table s t (known m) f.disk f.twin entry.read_only can.session.orderly can.session.tidy can.allowed sectors own twins can.extents (twin_uuid can)) (tables.stage_8 s t
+              (known m) f.disk f.twin entry.read_only can.session.orderly can.session.tidy can.allowed sectors own twins can.extents (twin_uuid can)).number
+
+          last_ready : IsReadyWith (memory_then used uses) then (record { site = s; table = table_8; area = end })
+          last_ready = record {
+            ready = ended.ready_ended s t (known m) f.disk f.twin entry.read_only can.session.orderly can.session.tidy can.allowed can.kept_up sectors own twins can.extents (twin_uuid can)
+                (g.area a) ready k_now can.origin (placed can) now area did filled right (memory_then used uses) refl refl refl;
+            settled = λ p. refl;
+            shown = ended.disks_ended s t (known m) f.disk f.twin entry.read_only can.session.orderly can.session.tidy can.allowed can.kept_up sectors own twins can.extents (twin_uuid can)
+                (g.area a) ready k_now can.origin (placed can) now area did filled right can.recorded;
+          }
+
+          last_fine : IsFine (ShowsBetween s before was then) (record { site = s; table = table_8; area = end })
+          last_fine = ready_fine s table_8 (memory_then used uses) (reads area) before was then orderly_8 last_ready.ready last_ready.shown
+
+    -- ---- each moment is fine
+
+    module _ (used : Attached) (uses : IsUsedAs fork_now m.attached used) where
+      well : GoesWell (ShowsBetween s before was then) (IsReadyWith (memory_then used uses) then) (stored g a) calls
+      well = record {
+        first = safe_fine then (ready_safe s t (g.area a) (known m) before can.session.orderly ready (λ image is. inr (told, can.session.usable, is)));
+        next = (
+          safe_fine then (safe_front table_1 fork_now.own (moment_1 s t (known m) f.disk f.twin entry.read_only can.session.orderly can.session.tidy can.allowed can.kept_up sectors own twins can.extents (twin_uuid can)
+              (g.area a) ready k_now can.origin (placed can))),
+          (
+            safe_fine then (safe_front table_2 (base_name fork_now) (moment_2 s t (known m) f.disk f.twin entry.read_only can.session.orderly can.session.tidy can.allowed can.kept_up sectors own twins can.extents
+                (twin_uuid can) (g.area a) ready k_now can.origin (placed can))),
+            (
+              safe_fine then (safe_front table_3 (base_name fork_now) (moment_3 s t (known m) f.disk f.twin entry.read_only can.session.orderly can.session.tidy can.allowed can.kept_up sectors own twins can.extents
+                  (twin_uuid can) (g.area a) ready k_now can.origin (placed can))),
+              (
+                safe_fine then (safe_front table_4 (base_name fork_now) (moment_4 s t (known m) f.disk f.twin entry.read_only can.session.orderly can.session.tidy can.allowed can.kept_up sectors own twins can.extents
+                    (twin_uuid can) (g.area a) ready k_now can.origin (placed can))),
+                (
+                  safe_fine then (safe_front table_5 (base_name fork_now) (moment_5 s t (known m) f.disk f.twin entry.read_only can.session.orderly can.session.tidy can.allowed can.kept_up sectors own twins can.extents
+                      (twin_uuid can) (g.area a) ready k_now can.origin (placed can))),
+                  (
+                    λ area did. safe_fine then (safe_5 area did),
+                    λ area did done. (safe_fine then (safe_6 area did done), (safe_fine then (safe_7 area did done), (last_fine area did done used uses, last_ready area did done used uses))),
+                  ),
+                ),
+              ),
+            ),
+          ),
+        );
+      }
+
+    -- ---- over the store
+
+    module _ (image : Body) (row : TreeRow) (at : tree_row m.tree.rows f.own ≡ Some row) (over : image ≡ base_body f row.image) where
+      image_is : image ≡ own_image
       image_is =
           over ∙ ap₂ (λ (y : Fork) (r : TreeRow). base_body y r.image) can.fork
           (same_Some row (own_of s t (known m) f.disk f.twin entry.read_only can.session.orderly can.session.tidy can.allowed).row (sym at ∙ ap (λ (y : Fork). tree_row m.tree.rows y.own) can.fork
           ∙ found s t (known m) f.disk f.twin entry.read_only can.session.orderly can.session.tidy can.allowed))
 
-      number_b : (tab g b).sequence ≡ t.sequence + 5
-      number_b = ap (λ (v : VolumeTable). v.sequence) table_b ∙ (tables.stage_5 s t (known m) f.disk f.twin entry.read_only can.session.orderly can.session.tidy can.allowed sectors own twins can.extents
-          (twin_uuid can)).number
+      run_now : {z : S} {ok : Type 0} → DoesRun g (fork_calls s t f own twins now image k_now entry) a z ok → DoesRun g calls a z ok
+      run_now {z} {ok} run = subst (λ (r : Record). DoesRun g (fork_calls s t fork_now own twins now own_image k_now r) a z ok) can.entry_is
+          (subst₂ (λ (y : Fork) (x : Body). DoesRun g (fork_calls s t y own twins now x k_now entry) a z ok) can.fork image_is run)
 
-      own_head : child_head (g.site b).geometry f.disk now (base_uuid ((tab g b).sequence - 1)) image_base ≡ child_head s.geometry f.disk now (own_uid t) own_image
-      own_head = ap₂ (λ (x : Site) (j : ℕ). child_head x.geometry f.disk now (base_uuid j) image_base) runs.site (omega (arith, number_b))
-          ∙ ap (λ (y : Body). child_head s.geometry f.disk now (own_uid t) y) image_is
-
-      twin_head : child_head (g.site b).geometry f.twin now (base_uuid (tab g b).sequence) image_base ≡ child_head s.geometry f.twin now (twin_uid t) own_image
-      twin_head = ap₂ (λ (x : Site) (j : ℕ). child_head x.geometry f.twin now (base_uuid j) image_base) runs.site number_b
-          ∙ ap (λ (y : Body). child_head s.geometry f.twin now (twin_uid t) y) image_is
-
-      filled_now : IsFilled s table_5 (child_head s.geometry f.disk now (own_uid t) own_image) (child_head s.geometry f.twin now (twin_uid t) own_image) k_now entry_now rest (g.area d)
-      filled_now =
-          subst₂ (λ (h : Held) (r : Record). IsFilled s table_5 (child_head s.geometry f.disk now (own_uid t) own_image) (child_head s.geometry f.twin now (twin_uid t) own_image)
-          (unwrap_or (place_for m.records r.uuid) 0) r h (g.area d)) area_b can.entry_is
-          (subst₂ (λ (x y : Head). IsFilled s table_5 x y (unwrap_or (place_for m.records entry.uuid) 0) entry (g.area b) (g.area d)) own_head twin_head
-          (subst₂ (λ (x : Site) (y : VolumeTable). IsFilled x y (child_head (g.site b).geometry f.disk now (base_uuid ((tab g b).sequence - 1)) image_base)
-          (child_head (g.site b).geometry f.twin now (base_uuid (tab g b).sequence) image_base) (unwrap_or (place_for m.records entry.uuid) 0) entry (g.area b) (g.area d)) runs.site table_b
-          (filled told)))
-
-      abbrev end : Held
-      end = at_rest (reads (g.area d))
-
-      right : IsRecord entry_now
-      right = subst IsRecord can.entry_is can.proper
-
-      all_last : AllSafe s before was table_5 (g.area d) (Mark (Vhd f.disk) Fresh false ∷ Mark (Vhd f.twin) Fresh false ∷ [])
-      all_last = (
-        safe_5,
-        (
-          moment_safe s t (known m) f.disk f.twin entry.read_only can.session.orderly can.session.tidy can.allowed (g.area a) ready k_now can.origin placed can.kept_up table_6 (base_name fork_now) true end before
-              (moment_6 s t (known m) f.disk f.twin entry.read_only can.session.orderly can.session.tidy can.allowed can.kept_up sectors own twins can.extents (twin_uuid can) (g.area a) ready k_now can.origin placed)
-              (ended.area_6 s t (known m) f.disk f.twin entry.read_only can.session.orderly can.session.tidy can.allowed can.kept_up sectors own twins can.extents (twin_uuid can)
-              (g.area a) ready k_now can.origin placed now (g.area d) middle_now filled_now) might,
-          moment_safe s t (known m) f.disk f.twin entry.read_only can.session.orderly can.session.tidy can.allowed (g.area a) ready k_now can.origin placed can.kept_up table_7 (base_name fork_now) true end before
-              (moment_7 s t (known m) f.disk f.twin entry.read_only can.session.orderly can.session.tidy can.allowed can.kept_up sectors own twins can.extents (twin_uuid can) (g.area a) ready k_now can.origin placed)
-              (ended.area_7 s t (known m) f.disk f.twin entry.read_only can.session.orderly can.session.tidy can.allowed can.kept_up sectors own twins can.extents (twin_uuid can)
-              (g.area a) ready k_now can.origin placed now (g.area d) middle_now filled_now) might,
-        ),
-      )
-
-      -- ---- behind the last
-
-      many : length own ≡ wanted (store_shape g a m) (is_rw (attached_as f.disk (store_shape g a m))) (sectors_of (tree_row m.tree.rows fork_now.own))
-      many = can.extents.own_many ∙ ap (λ (y : Fork). wanted (store_shape g a m) (is_rw (attached_as f.disk (store_shape g a m))) (sectors_of (tree_row m.tree.rows y.own))) can.fork
-
-      abbrev used : Attached
-      used = used_as fork_now m.attached
-
-      uses : IsUsedAs fork_now m.attached used
-      uses = is_used_as fork_now m.attached (base_not_leaf s t (known m) f.disk f.twin entry.read_only can.session.orderly can.session.tidy can.allowed) (base_not_own s t
-          (known m) f.disk f.twin entry.read_only can.session.orderly can.session.tidy can.allowed)
-
-      abbrev memory_then : Known
-      memory_then = known_then s t (known m) f.disk f.twin entry.read_only can.session.orderly can.session.tidy can.allowed now (length own)
-          (length twins) k_now can.origin placed can.recorded many can.extents.twin_many used uses.disks
-
-      orderly_8 : IsOrderly s table_8 memory_then
-      orderly_8 = orderly_then s t (known m) f.disk f.twin entry.read_only can.session.orderly can.session.tidy can.allowed can.kept_up now k_now can.origin placed can.recorded own twins many can.extents.twin_many
-          used uses table_8 (forked_table s t (known m) f.disk f.twin entry.read_only can.session.orderly can.session.tidy can.allowed sectors own twins can.extents (twin_uuid can)) (tables.stage_8 s t
-          (known m) f.disk f.twin entry.read_only can.session.orderly can.session.tidy can.allowed sectors own twins can.extents (twin_uuid can)).number
-
-      ready_8 : IsReady s table_8 end memory_then
-      ready_8 = ended.ready_ended s t (known m) f.disk f.twin entry.read_only can.session.orderly can.session.tidy can.allowed can.kept_up sectors own twins can.extents (twin_uuid can)
-          (g.area a) ready k_now can.origin placed now (g.area d) middle_now filled_now right memory_then refl refl refl
-
-      disks_8 : disks (content_now s table_8 end) ≡ then
-      disks_8 = ended.disks_ended s t (known m) f.disk f.twin entry.read_only can.session.orderly can.session.tidy can.allowed can.kept_up sectors own twins can.extents (twin_uuid can)
-          (g.area a) ready k_now can.origin placed now (g.area d) middle_now filled_now right can.recorded
-
-      behind : (image : ℕ → List ℕ) → IsLeft s end image → IsKept (content_in s table_8 image) × IsBetween (MayShow s before) was then (disks (content_in s table_8 image))
-      behind image left = (
-        law_kept s table_8 end memory_then image orderly_8 ready_8.firm (left_in s table_8 memory_then end image orderly_8 left) (ready_places s table_8 end memory_then image orderly_8 ready_8 left),
-        inr (already (MayShow s before) then (disks (content_in s table_8 image)) (law_settled s table_8 end memory_then image orderly_8 ready_8 (volume_rested s table_8 (reads (g.area d))) left
-            ∙ disks_8)),
-      )
-
-      stored_d : stored g d ≡ record { site = s; table = table_5; area = g.area d }
-      stored_d = ap₂ (λ (x : Site) (y : VolumeTable). let z : Stored = record { site = x; table = y; area = g.area d } in z) site_d table_d
-
-      among_last : (v : VolumeTable) (image : ℕ → List ℕ) → IsAmong (stored g d) (last_changes f) v image
-          → IsKept (content_in s v image) × IsBetween (MayShow s before) was then (disks (content_in s v image))
-      among_last v image i =
-          among_ended s before was then (Remove (entry_name fork_now)) table_5 (g.area d) (Mark (Vhd f.disk) Fresh false ∷ Mark (Vhd f.twin) Fresh false ∷ []) all_last behind v image
-          (subst₂ (λ (z : Stored) (y : Fork). IsAmong z (last_changes y) v image) stored_d can.fork i)
-
-      -- a stop among them, where one of them failed
-      pub end_failed : {x : S} (n : Known) (ok : Type 0) → (ok → ⊥) → FailsToRun g 3 d x → ((v : VolumeTable) (image : ℕ → List ℕ) → g.leaves x v image → IsAmong (stored g d) (last_changes f) v image)
-          → HasDoneFrom s (tab g x) (g.area x) n before (StoreLeaves g x) ok was then
-      end_failed {x} n ok never fails crash = only_crash never (λ v image l. ⊎_elim (λ left. among_last v image (crash v image left)) (λ w. absurd (true≢false (sym fails.stuck ∙ w.1))) l)
+      -- one of the calls failed
+      pub fork_failed : {z : S} (n : Known) (ok : Type 0) → (ok → ⊥) → DoesRun g (fork_calls s t f own twins now image k_now entry) a z ⊥ → HasDoneFrom s (tab g z) (g.area z) n before (StoreLeaves g z) ok was then
+      fork_failed n ok never run = law_run n told (run_now run) (well (used_as fork_now m.attached)
+          (is_used_as fork_now m.attached (base_not_leaf s t (known m) f.disk f.twin entry.read_only can.session.orderly can.session.tidy can.allowed)
+          (base_not_own s t (known m) f.disk f.twin entry.read_only can.session.orderly can.session.tidy can.allowed))) (λ fine. absurd (never fine))
 
       -- all of them succeeded: the store is ready, and shows the machine's disks
-      pub fork_done : {e : S} (n : Memory) (ok : Type 0) → Runs g (last_changes f) d e → ((v : VolumeTable) (image : ℕ → List ℕ) → g.leaves e v image → IsAmong (stored g d) (last_changes f) v image)
-          → n.tree.rows ≡ forked_rows s t f now (length own) (length twins) (tree_row m.tree.rows f.own) m.tree.rows
-          → n.records ≡ set m.records (unwrap_or (place_for m.records entry.uuid) 0) (Some entry) → n.operation ≡ m.operation
-          → HasDoneFrom s (tab g e) (g.area e) (known n) before (StoreLeaves g e) ok was then
-      fork_done {e} n ok last crash rows_are records_are same =
-          subst (λ (y : VolumeTable). HasDoneFrom s y (g.area e) (known n) before (StoreLeaves g e) ok was then) (sym table_e) (record {
-            ready = λ fine. subst (λ (h : Held). IsReady s table_8 h (known n)) (sym area_e) (ended.ready_ended s t
-                (known m) f.disk f.twin entry.read_only can.session.orderly can.session.tidy can.allowed can.kept_up sectors own twins can.extents (twin_uuid can) (g.area a) ready k_now can.origin placed now
-                (g.area d) middle_now filled_now right (known n)
-                (rows_are ∙ ap (λ (y : Fork). forked_rows s t y now (length own) (length twins) (tree_row m.tree.rows y.own) m.tree.rows) can.fork)
-                (records_are ∙ ap (λ (r : Record). set m.records (unwrap_or (place_for m.records r.uuid) 0) (Some r)) can.entry_is) same);
-            settled = λ fine. last.settled told;
-            shown = λ fine. ap (λ (h : Held). disks (content_now s table_8 h)) area_e ∙ disks_8;
-            crash = λ v image l. ⊎_elim (λ left. among_last v image (crash v image left)) (λ w. stopped v image w.2) l;
-          })
-        where
-          table_e : tab g e ≡ table_8
-          table_e = last.table ∙ ap₂ (λ (v : VolumeTable) (y : Fork). applied_all v (last_changes y)) table_d can.fork
-
-          area_e : g.area e ≡ end
-          area_e = rested (g.area d) (g.area e) (last.keeps told) (last.settled told)
-
-          stopped : (v : VolumeTable) (image : ℕ → List ℕ) → IsBefore (area_size (g.site e)) (tab g e) (g.area e) v image
-              → IsKept (content_in s v image) × IsBetween (MayShow s before) was then (disks (content_in s v image))
-          stopped v image w =
-              let here : IsBefore (area_size s) table_8 end v image =
-              subst₂ (λ (x : Site) (y : VolumeTable). IsBefore (area_size x) y end v image) (last.site
-              ∙ site_d) table_e (subst (λ (h : Held). IsBefore (area_size (g.site e)) (tab g e) h v image) area_e w) in
-              subst (λ (y : VolumeTable). IsKept (content_in s y image) × IsBetween (MayShow s before) was then (disks (content_in s y image))) (sym here.table_is) (behind image here.sectors)
+      pub fork_done : {z : S} (n : Memory) (ok : Type 0) → DoesRun g (fork_calls s t f own twins now image k_now entry) a z (Unit {0})
+          → (memory : IsForkedMemory s t m n f (length own) (length twins) entry now) → HasDoneFrom s (tab g z) (g.area z) (known n) before (StoreLeaves g z) ok was then
+      fork_done n ok run memory = law_run (known n) told (run_now run) (well n.attached (subst (λ (x : Fork). IsUsedAs x m.attached n.attached) can.fork memory.uses)) (λ fine. (tt, known_is can n now run.site (run.table tt) memory))

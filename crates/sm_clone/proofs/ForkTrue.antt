@@ -1,6 +1,6 @@
 -- The images in memory are true once a fork is made: the base and the others in volumes that kept what they hold, and the two over it
 -- in those that were written.
-use Rattle.std.proofs.Common.{◌≡◌, ◌≢◌, ◌⊎◌, ⊎_elim, inl, inr, ℕ, ◌+◌, ◌-◌, false, Bool, List, length, replicate, Some, None, refl, sym, ap, ap₂, ◌∙◌, subst, subst₂, arith}
+use Rattle.std.proofs.Common.{◌≡◌, ◌≢◌, ◌⊎◌, ⊎_elim, inl, inr, ℕ, ◌+◌, false, Bool, List, length, replicate, Some, None, refl, sym, ap, ap₂, ◌∙◌, subst, subst₂, arith}
 use Rattle.std.proofs.lemmas.Bool.{true≢false}
 use Rattle.std.proofs.lemmas.Option.{none-some}
 use Rattle.common_laws.specs.Lists.{In}
@@ -12,7 +12,7 @@ use Rattle.sm_disk.specs.Held.{Held, Keeps, reads}
 use Rattle.sm_disk.proofs.HeldLaws.{Keeps-then}
 use Rattle.vg_meta.specs.Tables.{VolumeTable, extents_of, rows}
 use Rattle.vg_volumes.specs.Sites.{Site, size_of, volume_of}
-use Rattle.vg_volumes.specs.Stored.{Stays, stored}
+use Rattle.vg_volumes.specs.Stored.{Stored, stored}
 use Rattle.vg_volumes.specs.Volumes.{span, volume}
 use Rattle.vg_volumes.specs.declared.stores.Store.{Ghosts}
 use Rattle.vg_volumes.proofs.VolumeLaws.{Keeps-volume}
@@ -25,37 +25,26 @@ use Rattle.vhd_chain.specs.Trees.{row_name, tree_row}
 use Rattle.vhd_chain.specs.declared.rows.TreeRow.{TreeRow}
 use Rattle.sm_machine.specs.WellFormed.{is_image_name}
 use Rattle.sm_record.specs.declared.records.Record.{Record}
-use Rattle.sm_standing.specs.Opened.{applied_all}
 use Rattle.sm_ready.specs.Done.{at_rest}
 use Rattle.sm_ready.specs.Frames.{HasTrueImages}
 use Rattle.sm_ready.specs.Known.{known, shape_in}
-use Rattle.sm_ready.specs.Runs.{Runs}
 use Rattle.sm_ready.specs.Sessions.{IsOrderlyStore, IsTidyStore}
 use Rattle.sm_ready.specs.declared.memory.Memory.{Memory}
 use Rattle.sm_ready.proofs.ChainLaws.{tab}
-use Rattle.sm_ready.proofs.CommitLaws.{rested}
 use Rattle.sm_ready.proofs.FrameLaws.{KeepsVolume, not_mgt, true_turned}
 use Rattle.sm_ready.proofs.MadeLaws.{steady_new}
 use Rattle.sm_ready.proofs.Orders.{named_row}
-use Rattle.sm_ready.proofs.RestLaws.{true_keeps}
+use Rattle.sm_ready.proofs.RestLaws.{keeps_rest, true_keeps}
 use Rattle.sm_ready.proofs.ShapeLaws.{mgt_image}
 use Rattle.sm_ready.proofs.TruthLaws.{row_found}
+use Rattle.sm_calls.specs.Calls.{DoesRun}
 use Rattle.sm_space.proofs.OwnLaws.{named_or_not}
-use Rattle.sm_clone.specs.Forking.{AreForFork, IsBesideFork, IsFilled, IsMade, Passes, base_body, base_name, child_head, entry_name, first_changes, fork_of, last_changes, own_uid, table_begun, table_forked, twin_uid}
+use Rattle.sm_clone.specs.Forking.{AreForFork, IsMade, Passes, base_body, base_name, child_head, entry_name, fork_calls, fork_of, own_uid, table_begun, table_forked, twin_uid}
 use Rattle.sm_clone.specs.declared.forks.Fork.{Fork}
 use Rattle.sm_clone.proofs.ForkRows.{base_image, base_named, base_not_leaf, base_not_twin, by_row, no_base_then, no_leaf_row, no_twin_row}
 use Rattle.sm_clone.proofs.PassedLaws.{own, own_is}
 use Rattle.sm_clone.proofs.ShapeLaws.{rows_then}
 use Rattle.sm_clone.proofs.TableLaws.{hidden_row, own_there, stage_5, stage_8}
-
--- the calls of a fork, each of which succeeded: five commits, the writes, and three commits
-pub record IsForked {S : Type 0} (g : Ghosts S) (a b d e : S) (f : Fork) (own twins : List ℕ) (now : ℕ) (image : Body) (k : ℕ) (entry : Record) : Type 0 where
-  pub first : Runs g (first_changes f own twins) a b
-  pub stays : Stays g b d
-  pub middle : g.told → IsBesideFork (g.site b) (tab g b) f (g.area b) (g.area d) k entry
-  pub filled : g.told → IsFilled (g.site b) (tab g b) (child_head (g.site b).geometry f.disk now (base_uuid ((tab g b).sequence - 1)) image)
-      (child_head (g.site b).geometry f.twin now (base_uuid (tab g b).sequence) image) k entry (g.area b) (g.area d)
-  pub last : Runs g (last_changes f) d e
 
 -- an image is as true of a volume under another name
 true_under : (g : Geometry) (n : ℕ) (h : Held) (to : Name) (b : Body) → TrueIn g n h b → TrueIn g n h (in_volume to b)
@@ -66,10 +55,11 @@ entry_no_image : (d b w : List ℕ) → is_image_name (name.Clone d b w) ≡ fal
 unfolding is_image_name
 entry_no_image d b w = refl
 
-module _ {S : Type 0} {g : Ghosts S} {a b d e : S} (m : Memory) (u twin : List ℕ) (read_only : Bool) (o : IsOrderlyStore g a m) (tidy : IsTidyStore g a m)
+module _ {S : Type 0} {g : Ghosts S} {a e : S} (m : Memory) (u twin : List ℕ) (read_only : Bool) (o : IsOrderlyStore g a m) (tidy : IsTidyStore g a m)
     (passes : Passes (g.site a) (tab g a) (known m) u twin read_only)
     (sectors : ℕ) (own_es twins : List ℕ) (taken : AreForFork (g.site a) (tab g a) (shape_in (g.site a) (tab g a) (known m)) u sectors own_es twins) (proper : IsUuid twin)
-    (now : ℕ) (image : Body) (k : ℕ) (entry : Record) (w : IsForked g a b d e (fork_of passes.number m.tree.rows u twin) own_es twins now image k entry) where
+    (now : ℕ) (image : Body) (k : ℕ) (entry : Record)
+    (run : DoesRun g (fork_calls (g.site a) (tab g a) (fork_of passes.number m.tree.rows u twin) own_es twins now image k entry) a e (Unit {0})) where
   abbrev s : Site
   s = g.site a
 
@@ -88,20 +78,24 @@ module _ {S : Type 0} {g : Ghosts S} {a b d e : S} (m : Memory) (u twin : List �
   row_there : In row m.tree.rows
   row_there = (own s t (known m) u twin read_only o tidy passes).there
 
-  pub site_end : g.site e ≡ s
-  site_end = w.last.site ∙ w.stays.site ∙ w.first.site
+  abbrev rest : Held
+  rest = at_rest (reads (g.area a))
 
-  pub table_end : tab g e ≡ table_forked t f own_es twins
-  table_end = w.last.table ∙ ap (λ v. applied_all v (last_changes f)) (w.stays.table ∙ w.first.table)
+  abbrev begun : VolumeTable
+  begun = table_begun t f own_es twins
+
+  -- what it holds then
+  area_end : (told : g.told) → g.area e ≡ at_rest (reads (run.ran tt told).0)
+  area_end told = ap (λ (x : Stored). x.area) (run.ran tt told).3
 
   -- ---- a volume that keeps what it holds
 
-  kept_over : (n : Name) (es : List ℕ) → extents_of (rows (tab g b) n) ≡ es → n ≢ name.Vhd u → n ≢ name.Vhd twin → n ≢ name.Mgt → g.told → Keeps (volume extent es (g.area a)) (volume extent es (g.area e))
+  kept_over : (n : Name) (es : List ℕ) → extents_of (rows begun n) ≡ es → n ≢ name.Vhd u → n ≢ name.Vhd twin → n ≢ name.Mgt → g.told → Keeps (volume extent es (g.area a)) (volume extent es (g.area e))
   kept_over n es at not_leaf not_twin not_records told =
-      Keeps-then (Keeps-volume extent es (w.first.keeps told))
-      (Keeps-then (subst₂ (λ (x : Site) (fs : List ℕ). Keeps (volume x.geometry.extent fs (g.area b)) (volume x.geometry.extent fs (g.area d))) w.first.site at
-      ((w.middle told).others n not_leaf not_twin not_records))
-      (Keeps-volume extent es (w.last.keeps told)))
+      let ran = run.ran tt told in
+      Keeps-then (Keeps-volume extent es (keeps_rest (g.area a)))
+      (Keeps-then (subst (λ (fs : List ℕ). Keeps (volume extent fs rest) (volume extent fs ran.0)) at (ran.1.others n not_leaf not_twin not_records))
+      (subst (λ (h : Held). Keeps (volume extent es ran.0) (volume extent es h)) (sym (area_end told)) (Keeps-volume extent es (keeps_rest ran.0))))
 
   -- that of another image
   module _ (r : TreeRow) (i : In r m.tree.rows) (away : row_name r ≢ f.own) where
@@ -123,13 +117,12 @@ module _ {S : Type 0} {g : Ghosts S} {a b d e : S} (m : Memory) (u twin : List �
 
     other_kept : g.told → KeepsVolume g a e r
     other_kept told =
-        let at_b = ap (λ v. extents_of (rows v (row_name r))) w.first.table
-        ∙ ap extents_of ((stage_5 s t (known m) u twin read_only o tidy passes sectors own_es twins taken proper).others (row_name r) away not_base not_leaf not_twin not_entry) in
-        let at_e = ap (λ v. extents_of (rows v (row_name r))) table_end
+        let at_b = ap extents_of ((stage_5 s t (known m) u twin read_only o tidy passes sectors own_es twins taken proper).others (row_name r) away not_base not_leaf not_twin not_entry) in
+        let at_e = ap (λ v. extents_of (rows v (row_name r))) (run.table tt)
         ∙ ap extents_of ((stage_8 s t (known m) u twin read_only o tidy passes sectors own_es twins taken proper).others (row_name r) away not_base not_leaf not_twin not_entry) in
         record {
-          size = ap₂ (λ (x : Site) (fs : List ℕ). span x.geometry.extent fs) site_end at_e;
-          keeps = subst₂ (λ (x : Site) (fs : List ℕ). Keeps (volume extent (extents_of (rows t (row_name r))) (g.area a)) (volume x.geometry.extent fs (g.area e))) (sym site_end) (sym at_e)
+          size = ap₂ (λ (x : Site) (fs : List ℕ). span x.geometry.extent fs) run.site at_e;
+          keeps = subst₂ (λ (x : Site) (fs : List ℕ). Keeps (volume extent (extents_of (rows t (row_name r))) (g.area a)) (volume x.geometry.extent fs (g.area e))) (sym run.site) (sym at_e)
               (kept_over (row_name r) (extents_of (rows t (row_name r))) at_b not_leaf not_twin (not_mgt s t (known m) o r i) told);
         }
 
@@ -143,10 +136,10 @@ module _ {S : Type 0} {g : Ghosts S} {a b d e : S} (m : Memory) (u twin : List �
 
   base_true : g.told → ImageIsTrue (stored g a) row.image → ImageIsTrue (stored g e) (base_body f row.image)
   base_true told was =
-      let at_b = ap (λ v. extents_of (rows v (base_name f))) w.first.table ∙ base_at (table_begun t f own_es twins) (stage_5 s t (known m) u twin read_only o tidy passes sectors own_es twins taken proper).base in
-      let at_e = ap (λ v. extents_of (rows v (base_name f))) table_end ∙ base_at (table_forked t f own_es twins) (stage_8 s t (known m) u twin read_only o tidy passes sectors own_es twins taken proper).base in
+      let at_b = base_at begun (stage_5 s t (known m) u twin read_only o tidy passes sectors own_es twins taken proper).base in
+      let at_e = ap (λ v. extents_of (rows v (base_name f))) (run.table tt) ∙ base_at (table_forked t f own_es twins) (stage_8 s t (known m) u twin read_only o tidy passes sectors own_es twins taken proper).base in
       subst (λ (n : Name). TrueIn (g.site e).geometry (size_of (g.site e) (tab g e) n) (volume_of (g.site e) (tab g e) (g.area e) n) (base_body f row.image)) (sym (base_named s t (known m) u twin read_only o tidy passes))
-      (subst₂ (λ (x : Site) (fs : List ℕ). TrueIn x.geometry (span x.geometry.extent fs) (volume x.geometry.extent fs (g.area e)) (base_body f row.image)) (sym site_end) (sym at_e)
+      (subst₂ (λ (x : Site) (fs : List ℕ). TrueIn x.geometry (span x.geometry.extent fs) (volume x.geometry.extent fs (g.area e)) (base_body f row.image)) (sym run.site) (sym at_e)
       (true_under s.geometry (span extent had) (volume extent had (g.area e)) (base_name f) row.image
       (true_keeps s.geometry (span extent had) (volume extent had (g.area a)) (volume extent had (g.area e)) row.image
       (kept_over (base_name f) had at_b (base_not_leaf s t (known m) u twin read_only o tidy passes) (base_not_twin s t (known m) u twin read_only o tidy passes)
@@ -155,38 +148,38 @@ module _ {S : Type 0} {g : Ghosts S} {a b d e : S} (m : Memory) (u twin : List �
 
   -- ---- those that were written
 
-  made_true : (v es uid : List ℕ) → extents_of (rows (tab g b) (name.Vhd v)) ≡ es → extents_of (rows (tab g e) (name.Vhd v)) ≡ es → g.told
-      → IsMade (g.site b) (tab g b) (g.area d) (child_head (g.site b).geometry v now uid image) → ImageIsTrue (stored g e) (Vhd (child_head s.geometry v now uid image) (replicate s.geometry.entries None))
-  made_true v es uid at_b at_e told is =
+  made_true : (v es uid : List ℕ) (area : Held) → extents_of (rows begun (name.Vhd v)) ≡ es → extents_of (rows (tab g e) (name.Vhd v)) ≡ es → g.area e ≡ at_rest (reads area)
+      → IsMade s begun area (child_head s.geometry v now uid image) → ImageIsTrue (stored g e) (Vhd (child_head s.geometry v now uid image) (replicate s.geometry.entries None))
+  made_true v es uid area at_b at_e held is =
       subst₂ (λ (x : Site) (fs : List ℕ). TrueIn x.geometry (span x.geometry.extent fs) (volume x.geometry.extent fs (g.area e)) (Vhd (child_head s.geometry v now uid image) (replicate s.geometry.entries None)))
-      (sym site_end) (sym at_e)
-      (subst (λ (h : Held). TrueIn s.geometry (span extent es) (volume extent es h) (Vhd (child_head s.geometry v now uid image) (replicate s.geometry.entries None)))
-      (sym (rested (g.area d) (g.area e) (w.last.keeps told) (w.last.settled told)))
-      (body_true s.geometry (span extent es) (volume extent es (at_rest (reads (g.area d)))) (Vhd (child_head s.geometry v now uid image) (replicate s.geometry.entries None))
-      (subst₂ (λ (x : Site) (fs : List ℕ). IsSteadyIn x.geometry (span x.geometry.extent fs) (volume x.geometry.extent fs (at_rest (reads (g.area d)))) (child_head x.geometry v now uid image) (replicate x.geometry.entries None))
-      w.first.site at_b
-      (steady_new (g.site b) (tab g b) (g.area d) (size_of (g.site b) (tab g b) (name.Vhd v)) (child_head (g.site b).geometry v now uid image) (name.Vhd v) is))))
+      (sym run.site) (sym at_e)
+      (subst (λ (h : Held). TrueIn s.geometry (span extent es) (volume extent es h) (Vhd (child_head s.geometry v now uid image) (replicate s.geometry.entries None))) (sym held)
+      (body_true s.geometry (span extent es) (volume extent es (at_rest (reads area))) (Vhd (child_head s.geometry v now uid image) (replicate s.geometry.entries None))
+      (subst (λ (fs : List ℕ). IsSteadyIn s.geometry (span extent fs) (volume extent fs (at_rest (reads area))) (child_head s.geometry v now uid image) (replicate s.geometry.entries None)) at_b
+      (steady_new s begun area (size_of s begun (name.Vhd v)) (child_head s.geometry v now uid image) (name.Vhd v) is))))
 
   -- the table's number at the writes
-  number_b : (tab g b).sequence ≡ t.sequence + 5
-  number_b = ap (λ (v : VolumeTable). v.sequence) w.first.table ∙ (stage_5 s t (known m) u twin read_only o tidy passes sectors own_es twins taken proper).number
+  number : begun.sequence ≡ t.sequence + 5
+  number = (stage_5 s t (known m) u twin read_only o tidy passes sectors own_es twins taken proper).number
 
   leaf_true : g.told → ImageIsTrue (stored g e) (Vhd (child_head s.geometry u now (own_uid t) image) (replicate s.geometry.entries None))
   leaf_true told =
-      made_true u own_es (own_uid t) (ap (λ v. extents_of (rows v (name.Vhd u))) w.first.table ∙ ap extents_of (stage_5 s t (known m) u twin read_only o tidy passes sectors own_es twins taken proper).leaf)
-      (ap (λ v. extents_of (rows v (name.Vhd u))) table_end ∙ ap extents_of (stage_8 s t (known m) u twin read_only o tidy passes sectors own_es twins taken proper).leaf) told
-      (subst (λ (uid : List ℕ). IsMade (g.site b) (tab g b) (g.area d) (child_head (g.site b).geometry u now uid image)) (ap base_uuid (let n = number_b in omega (arith, n))) (w.filled told).own_image)
+      let ran = run.ran tt told in
+      made_true u own_es (own_uid t) ran.0 (ap extents_of (stage_5 s t (known m) u twin read_only o tidy passes sectors own_es twins taken proper).leaf)
+      (ap (λ v. extents_of (rows v (name.Vhd u))) (run.table tt) ∙ ap extents_of (stage_8 s t (known m) u twin read_only o tidy passes sectors own_es twins taken proper).leaf) (area_end told)
+      (subst (λ (uid : List ℕ). IsMade s begun ran.0 (child_head s.geometry u now uid image)) (ap base_uuid (let n = number in omega (arith, n))) ran.2.own_image)
 
   twin_true : g.told → ImageIsTrue (stored g e) (Vhd (child_head s.geometry twin now (twin_uid t) image) (replicate s.geometry.entries None))
   twin_true told =
-      made_true twin twins (twin_uid t) (ap (λ v. extents_of (rows v (name.Vhd twin))) w.first.table ∙ ap extents_of (stage_5 s t (known m) u twin read_only o tidy passes sectors own_es twins taken proper).twin)
-      (ap (λ v. extents_of (rows v (name.Vhd twin))) table_end ∙ ap extents_of (stage_8 s t (known m) u twin read_only o tidy passes sectors own_es twins taken proper).twin) told
-      (subst (λ (uid : List ℕ). IsMade (g.site b) (tab g b) (g.area d) (child_head (g.site b).geometry twin now uid image)) (ap base_uuid number_b) (w.filled told).twin_image)
+      let ran = run.ran tt told in
+      made_true twin twins (twin_uid t) ran.0 (ap extents_of (stage_5 s t (known m) u twin read_only o tidy passes sectors own_es twins taken proper).twin)
+      (ap (λ v. extents_of (rows v (name.Vhd twin))) (run.table tt) ∙ ap extents_of (stage_8 s t (known m) u twin read_only o tidy passes sectors own_es twins taken proper).twin) (area_end told)
+      (subst (λ (uid : List ℕ). IsMade s begun ran.0 (child_head s.geometry twin now uid image)) (ap base_uuid number) ran.2.twin_image)
 
   -- ---- all images
 
   pub true_then : image ≡ base_body f row.image → (n : Memory) → n.tree.rows ≡ rows_then s t (known m) u twin read_only o tidy passes now (length own_es) (length twins) → HasTrueImages g a m → HasTrueImages g e n
-  true_then over n is = true_turned g m n site_end (λ told each r i.
+  true_then over n is = true_turned g m n run.site (λ told each r i.
       by_row s t (known m) u twin read_only o tidy passes now (length own_es) (length twins) (λ (q : TreeRow). (In q m.tree.rows × KeepsVolume g a e q) ⊎ ImageIsTrue (stored g e) q.image)
       (inr (base_true told (each row row_there)))
       (inr (subst (λ (x : Body). ImageIsTrue (stored g e) (Vhd (child_head s.geometry u now (own_uid t) x) (replicate s.geometry.entries None))) over (leaf_true told)))

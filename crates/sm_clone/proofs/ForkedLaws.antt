@@ -22,11 +22,12 @@ use Rattle.sm_ready.specs.Sessions.{IsOrderlyStore, IsTidyStore}
 use Rattle.sm_ready.specs.declared.memory.Memory.{Memory}
 use Rattle.sm_ready.proofs.ChainLaws.{tab}
 use Rattle.sm_ready.proofs.NumberLaws.{number_of_base}
-use Rattle.sm_clone.specs.Forking.{AreForFork, CanFork, IsUsedAs, base_body, fork_of, forked_rows, forking, sectors_of, shape_forked, table_forked}
+use Rattle.sm_calls.specs.Calls.{DoesRun}
+use Rattle.sm_clone.specs.Forking.{AreForFork, CanFork, IsUsedAs, base_body, fork_calls, fork_of, forked_rows, forking, sectors_of, shape_forked, table_forked}
 use Rattle.sm_clone.specs.declared.forks.Fork.{Fork}
 use Rattle.sm_clone.specs.declared.preparing.Parts.{Parts}
 use Rattle.sm_clone.proofs.ForkOrderly.{IsForkedTable, forked_table, orderly_then, tidy_then}
-use Rattle.sm_clone.proofs.ForkTrue.{IsForked, site_end, table_end, true_then}
+use Rattle.sm_clone.proofs.ForkTrue.{true_then}
 use Rattle.sm_clone.proofs.MakingLaws.{twin_uuid}
 use Rattle.sm_clone.proofs.PassedLaws.{forked_after, found, new}
 use Rattle.sm_clone.proofs.ShapeLaws.{known_then, shape_then}
@@ -77,7 +78,7 @@ module _ {S : Type 0} {g : Ghosts S} {a : S} {m : Memory} {f : Fork} {p : Parts}
   row_is r at = ap (λ (x : Fork). tree_row m.tree.rows x.own) (sym can.fork) ∙ at
 
   module _ {e : S} (n : Memory) (now : ℕ) (site : g.site e ≡ s) (table : tab g e ≡ table_forked t f own twins) (memory : IsForkedMemory s t m n f (length own) (length twins) entry now) where
-    there : IsForkedMemory s t m n by_number (length own) (length twins) entry now
+    pub there : IsForkedMemory s t m n by_number (length own) (length twins) entry now
     there = subst (λ (x : Fork). IsForkedMemory s t m n x (length own) (length twins) entry now) can.fork memory
 
     abbrev after : VolumeTable
@@ -89,7 +90,7 @@ module _ {S : Type 0} {g : Ghosts S} {a : S} {m : Memory} {f : Fork} {p : Parts}
     abbrev memory_then : Known
     memory_then = known_then s t (known m) f.disk f.twin entry.read_only can.session.orderly can.session.tidy can.allowed now (length own) (length twins) k can.origin placed can.recorded taken.own_many taken.twin_many n.attached there.uses.disks
 
-    known_is : known n ≡ memory_then
+    pub known_is : known n ≡ memory_then
     known_is =
         ap₂ (λ (rs : List TreeRow) (ps : List (Option Record)). let x : Known = record { rows = rs; places = ps; attached = n.attached; op = n.operation } in x) there.rows
         (there.records ∙ ap (λ (r : Record). set m.records k (Some r)) can.entry_is)
@@ -126,20 +127,10 @@ module _ {S : Type 0} {g : Ghosts S} {a : S} {m : Memory} {f : Fork} {p : Parts}
         ∙ ap (λ j. shape_forked (store_shape g a m) j (forking f.disk f.twin entry.read_only)) (sym number_is)
 
   -- over the calls
-  module _ {b d e : S} (now : ℕ) (image : Body) (calls : IsForked g a b d e f own twins now image k entry) where
-    calls_is : IsForked g a b d e by_number own twins now image k entry
-    calls_is = subst (λ (x : Fork). IsForked g a b d e x own twins now image k entry) can.fork calls
-
-    pub site_then : g.site e ≡ s
-    site_then = site_end m f.disk f.twin entry.read_only can.session.orderly can.session.tidy can.allowed (sectors_of (tree_row m.tree.rows by_number.own)) own twins taken (twin_uuid can) now image k entry calls_is
-
-    pub table_then : tab g e ≡ table_forked t f own twins
-    table_then =
-        table_end m f.disk f.twin entry.read_only can.session.orderly can.session.tidy can.allowed (sectors_of (tree_row m.tree.rows by_number.own)) own twins taken (twin_uuid can) now image k entry calls_is
-        ∙ ap (λ (x : Fork). table_forked t x own twins) (sym can.fork)
-
+  module _ {e : S} (now : ℕ) (image : Body) (run : DoesRun g (fork_calls s t f own twins now image k entry) a e (Unit {0})) where
     pub true_end : (r : TreeRow) → tree_row m.tree.rows f.own ≡ Some r → image ≡ base_body f r.image → (n : Memory)
         → n.tree.rows ≡ forked_rows s t f now (length own) (length twins) (tree_row m.tree.rows f.own) m.tree.rows → HasTrueImages g a m → HasTrueImages g e n
-    true_end r at over n rows = true_then m f.disk f.twin entry.read_only can.session.orderly can.session.tidy can.allowed (sectors_of (tree_row m.tree.rows by_number.own)) own twins taken (twin_uuid can) now image k entry calls_is
+    true_end r at over n rows = true_then m f.disk f.twin entry.read_only can.session.orderly can.session.tidy can.allowed (sectors_of (tree_row m.tree.rows by_number.own)) own twins taken (twin_uuid can) now image k entry
+        (subst (λ (x : Fork). DoesRun g (fork_calls s t x own twins now image k entry) a e (Unit {0})) can.fork run)
         (over ∙ ap₂ base_body can.fork (ap (λ (q : TreeRow). q.image) (same_Some r _ (sym (row_is r at) ∙ found s t (known m) f.disk f.twin entry.read_only can.session.orderly can.session.tidy can.allowed))))
         n (rows ∙ ap (λ (x : Fork). forked_rows s t x now (length own) (length twins) (tree_row m.tree.rows x.own) m.tree.rows) can.fork)

@@ -34,13 +34,14 @@ use Rattle.sm_machine.specs.WellFormed.{is_image_name}
 use Rattle.sm_mgt.specs.Places.{HasAllPlaces, place_count}
 use Rattle.sm_record.specs.declared.records.Record.{Record}
 use Rattle.sm_ready.specs.Known.{known, machine_row, shape_in}
-use Rattle.sm_ready.specs.Runs.{AllMay, CanRun, Runs}
+use Rattle.sm_ready.specs.Runs.{AllMay}
 use Rattle.sm_ready.specs.declared.memory.Memory.{Memory}
 use Rattle.sm_ready.proofs.CauseLaws.{vhd_uuid}
 use Rattle.sm_ready.proofs.ChainLaws.{tab}
 use Rattle.sm_ready.proofs.LeftLaws.{mgt_long}
 use Rattle.sm_ready.proofs.Orders.{In-tree_row}
 use Rattle.sm_ready.proofs.RemoveLaws.{name_or_not}
+use Rattle.sm_calls.specs.Calls.{CanRun, DoesRun, commits}
 use Rattle.sm_clone.specs.Forking.{CanFork, HasUseRoom, base_body, base_name, base_row, child_head, child_row, first_changes, fork_of, forked_rows, last_changes, own_name, own_uid, sectors_of, table_begun, twin_uid}
 use Rattle.sm_clone.specs.declared.forks.Fork.{Fork}
 use Rattle.sm_clone.specs.declared.preparing.Parts.{Parts}
@@ -108,11 +109,11 @@ module _ {S : Type 0} {g : Ghosts S} {a : S} {m : Memory} {f : Fork} {p : Parts}
   pub to_fork : IsToFork s.count t fork_now.own (base_name fork_now) (name.Vhd f.disk) (name.Vhd f.twin) (name.Clone f.disk (base_uuid can.allowed.number) f.twin) own twins
   to_fork = tables.to_fork s t (known m) f.disk f.twin entry.read_only can.session.orderly can.session.tidy can.allowed sectors own twins can.extents twin_uuid
 
-  pub can_begin : CanRun g (first_changes f own twins) a
+  pub can_begin : CanRun g (commits (first_changes f own twins)) a
   can_begin = record {
     usable = can.session.usable;
     allowed = subst (λ x. AllMay s.count t (first_changes x own twins)) (sym can.fork) (tables.can_begin s t (known m) f.disk f.twin entry.read_only can.session.orderly can.session.tidy can.allowed sectors own twins can.extents twin_uuid);
-    rows = (omega (arith, can.rows), (omega (arith, can.rows), (omega (arith, can.rows), tt)));
+    room = (omega (arith, can.rows), (tt, (tt, (omega (arith, can.rows), (omega (arith, can.rows), tt)))));
   }
 
   -- ---- the disk's image
@@ -181,9 +182,9 @@ module _ {S : Type 0} {g : Ghosts S} {a : S} {m : Memory} {f : Fork} {p : Parts}
 
   -- ---- behind the first commits
 
-  module _ {b : S} (begun : Runs g (first_changes f own twins) a b) where
+  module _ {b : S} (begun : DoesRun g (commits (first_changes f own twins)) a b (Unit {0})) where
     table_is : tab g b ≡ table_begun t fork_now own twins
-    table_is = begun.table ∙ ap (λ x. table_begun t x own twins) can.fork
+    table_is = begun.table tt ∙ ap (λ x. table_begun t x own twins) can.fork
 
     -- the number was raised five times
     pub number_is : (tab g b).sequence ≡ t.sequence + 5
@@ -213,13 +214,13 @@ module _ {S : Type 0} {g : Ghosts S} {a : S} {m : Memory} {f : Fork} {p : Parts}
             (no_image fork_now.own to_fork.own_image) (no_image (base_name fork_now) to_fork.base_image) (λ is. (let x = is in cc)) (λ is. (let x = is in cc)) (λ is. (let x = is in cc))
 
     -- and once the two images are written
-    pub can_end : {d : S} → Stays g b d → CanRun g (last_changes f) d
+    pub can_end : {d : S} → Stays g b d → CanRun g (commits (last_changes f)) d
     can_end {d} stays = record {
-      usable = stays.failed ∙ begun.usable;
+      usable = stays.failed ∙ begun.usable tt;
       allowed = subst₂ (λ (z : Site) v. AllMay z.count v (last_changes f)) (sym (stays.site ∙ begun.site)) (sym (stays.table ∙ table_is))
           (subst (λ x. AllMay s.count (table_begun t fork_now own twins) (last_changes x)) (sym can.fork)
           (tables.can_end s t (known m) f.disk f.twin entry.read_only can.session.orderly can.session.tidy can.allowed sectors own twins can.extents twin_uuid));
-      rows = tt;
+      room = (tt, (tt, (tt, tt)));
     }
 
   -- ---- memory

@@ -1,5 +1,5 @@
 -- What making a disk of another asks of table and memory, and what it makes of them (this project's format).
-use Rattle.std.specs.Prelude.{◌≡◌, ◌≢◌, ◌⊎◌, ℕ, ◌+◌, ◌<◌, ◌≤◌, IsSome, Bool, true, false, is_some, List, [], ◌∷◌, ◌++◌, length, replicate, unwrap_or, Option, None, Some, if◌then◌else◌}
+use Rattle.std.specs.Prelude.{◌≡◌, ◌≢◌, ◌⊎◌, ℕ, ◌+◌, ◌-◌, ◌<◌, ◌≤◌, IsSome, Bool, true, false, is_some, List, [], ◌∷◌, ◌++◌, length, replicate, unwrap_or, Option, None, Some, if◌then◌else◌}
 use Rattle.std.specs.List.{slice_set}
 use Rattle.sm_base.specs.Names.{base_uuid}
 use Rattle.sm_base.specs.declared.names.Name.{Name}
@@ -43,6 +43,7 @@ use Rattle.sm_ready.specs.Framing.{IsBetweenSteps}
 use Rattle.sm_ready.specs.Known.{Known, known, shape_in}
 use Rattle.sm_ready.specs.Orderly.{IsOrderly}
 use Rattle.sm_ready.specs.declared.memory.Memory.{Memory}
+use Rattle.sm_calls.specs.Calls.{Call, Work, commits}
 
 -- the command that makes a disk of another: a snapshot is read-only, and a clone is not
 abbrev pub forking : List ℕ → List ℕ → Bool → Command
@@ -170,6 +171,15 @@ pub record IsFilled (s : Site) (t : VolumeTable) (own twin : Head) (k : ℕ) (r 
   pub between : Held
   pub kept : Keeps (records_held s t old) between
   pub wrote : Wrote k (record_sector r) between (records_held s t new)
+
+-- the call that writes the two images over this one and the twin's record, behind the first commits
+abbrev pub fill_call : Site → VolumeTable → Fork → ℕ → Body → ℕ → Record → Call
+fill_call s t f now image k r = Work (λ old new. IsBesideFork s t f old new k r)
+    (λ old new. IsFilled s t (child_head s.geometry f.disk now (base_uuid (t.sequence - 1)) image) (child_head s.geometry f.twin now (base_uuid t.sequence) image) k r old new)
+
+-- the calls of a fork: five commits, the writes, and three commits
+abbrev pub fork_calls : Site → VolumeTable → Fork → List ℕ → List ℕ → ℕ → Body → ℕ → Record → List Call
+fork_calls s t f own twins now image k r = commits (first_changes f own twins) ++ fill_call s (table_begun t f own twins) f now image k r ∷ commits (last_changes f)
 
 -- ---- what was made
 

@@ -16,7 +16,7 @@
 //! **What it costs.** Eight commits, one more where a folding is given up, and the writes of two images without slots and of one
 //! record. Memory is taken before anything is written: two maps of T entries, the lists of the extents, and three rows of the table.
 //!
-//! The definitions are in `specs/`: `Forking` (what is asked, and what is made).
+//! The definitions are in `specs/`: `Forking` (what is asked, by which calls it is done, and what is made).
 #![tactic(auto)]
 
 mod filling;

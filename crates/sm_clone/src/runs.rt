@@ -1,62 +1,20 @@
 //! Commits, made one after the other.
 
-ghost use Rattle.std.specs.Prelude.{◌≡◌, true, false, [], ◌∷◌, OnOk, OnErr};
+ghost use Rattle.std.specs.Prelude.{◌≡◌, true, false, OnOk, OnErr};
 ghost use Rattle.sm_base.specs.declared.names.Name.TheVariants.{Vhd};
 ghost use Rattle.vg_meta.specs.declared.changes.Change.TheVariants.{Create, Mark, Rename};
 ghost use Rattle.vg_meta.specs.declared.changes.Tag.TheVariants.{Fresh, Hidden};
-ghost use Rattle.vg_volumes.specs.Stored.{stored, CanCommit, Commits, Counts, FailsToCommit, IsEitherOf, Leaves};
+ghost use Rattle.vg_volumes.specs.Stored.{Counts};
 ghost use Rattle.sm_journal.specs.Entries.{putting};
 ghost use Rattle.sm_clone.specs.Forking.{base_name, entry_name, first_changes, last_changes};
-ghost use Rattle.sm_ready.specs.Runs.{CanRun, FailsToRun, IsAmong, Runs};
+ghost use Rattle.sm_calls.specs.Calls.{CanRun, DoesRun, commits};
 
 use crate::forks::Fork;
 use sm_base::{Failed, Name};
+use sm_calls::{commit_three, commit_two};
 use uuid::Uuid;
 use vg_meta::{Change, Extents, Table, Tag};
 use vg_volumes::Store;
-
-/// Makes a change, by one commit.
-fn commit_one<S: Store>(store: &mut S, change: Change) -> Result<(), Failed>
-    requires { CanCommit S.Store change store.old }
-    ensures commits { OnOk result (Commits S.Store change store.old store.new) }
-    ensures fails { OnErr result (FailsToCommit S.Store store.old store.new) }
-    ensures cause { Counts S.Store result store.old store.new }
-    ensures crash { Leaves S.Store store.new (IsEitherOf (stored S.Store store.old) change) }
-{
-    store.commit(change)?;
-    Ok(())
-}
-
-/// Makes two changes, by a commit each.
-fn commit_two<S: Store>(store: &mut S, first: Change, second: Change) -> Result<(), Failed>
-    requires { CanRun S.Store (first ∷ second ∷ []) store.old }
-    ensures runs { OnOk result (Runs S.Store (first ∷ second ∷ []) store.old store.new) }
-    ensures fails { OnErr result (FailsToRun S.Store 2 store.old store.new) }
-    ensures cause { Counts S.Store result store.old store.new }
-    ensures crash { Leaves S.Store store.new (IsAmong (stored S.Store store.old) (first ∷ second ∷ [])) }
-{
-    commit_one(store, first)?;
-    commit_one(store, second)?;
-    Ok(())
-}
-
-/// Makes three changes, by a commit each.
-fn commit_three<S: Store>(
-    store: &mut S,
-    first: Change,
-    second: Change,
-    third: Change,
-) -> Result<(), Failed>
-    requires { CanRun S.Store (first ∷ second ∷ third ∷ []) store.old }
-    ensures runs { OnOk result (Runs S.Store (first ∷ second ∷ third ∷ []) store.old store.new) }
-    ensures fails { OnErr result (FailsToRun S.Store 3 store.old store.new) }
-    ensures cause { Counts S.Store result store.old store.new }
-    ensures crash { Leaves S.Store store.new (IsAmong (stored S.Store store.old) (first ∷ second ∷ third ∷ [])) }
-{
-    commit_one(store, first)?;
-    commit_two(store, second, third)?;
-    Ok(())
-}
 
 /// The change that makes the entry of a fork.
 fn entry_change(table: &Table, fork: &Fork) -> Change
@@ -119,11 +77,10 @@ pub fn begin<S: Store>(
     own: Vec<u32>,
     twins: Vec<u32>,
 ) -> Result<(), Failed>
-    requires { CanRun S.Store (first_changes fork.now own.items twins.items) store.old }
-    ensures runs { OnOk result (Runs S.Store (first_changes fork.now own.items twins.items) store.old store.new) }
-    ensures fails { OnErr result (FailsToRun S.Store 5 store.old store.new) }
+    requires { CanRun S.Store (commits (first_changes fork.now own.items twins.items)) store.old }
+    ensures run { OnOk result (DoesRun S.Store (commits (first_changes fork.now own.items twins.items)) store.old store.new (Unit {0})) }
+    ensures cut { OnErr result (DoesRun S.Store (commits (first_changes fork.now own.items twins.items)) store.old store.new ⊥) }
     ensures cause { Counts S.Store result store.old store.new }
-    ensures crash { Leaves S.Store store.new (IsAmong (stored S.Store store.old) (first_changes fork.now own.items twins.items)) }
 {
     let entry = entry_change(store.table(), fork);
     let moved = moved_image(fork);
@@ -137,11 +94,10 @@ pub fn begin<S: Store>(
 
 /// Takes the marks of the two new volumes away and drops the entry, by three commits.
 pub fn end<S: Store>(store: &mut S, fork: &Fork) -> Result<(), Failed>
-    requires { CanRun S.Store (last_changes fork.now) store.old }
-    ensures runs { OnOk result (Runs S.Store (last_changes fork.now) store.old store.new) }
-    ensures fails { OnErr result (FailsToRun S.Store 3 store.old store.new) }
+    requires { CanRun S.Store (commits (last_changes fork.now)) store.old }
+    ensures run { OnOk result (DoesRun S.Store (commits (last_changes fork.now)) store.old store.new (Unit {0})) }
+    ensures cut { OnErr result (DoesRun S.Store (commits (last_changes fork.now)) store.old store.new ⊥) }
     ensures cause { Counts S.Store result store.old store.new }
-    ensures crash { Leaves S.Store store.new (IsAmong (stored S.Store store.old) (last_changes fork.now)) }
 {
     let own = shown_image(fork.disk);
     let twin = shown_image(fork.twin);

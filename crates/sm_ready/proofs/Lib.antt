@@ -66,6 +66,4 @@ pub mod RaisedLaws
 pub mod GrownLaws
 pub mod ApartLaws
 pub mod RunLaws
-pub mod SafeLaws
 pub mod FramingLaws
-pub mod RunSteps

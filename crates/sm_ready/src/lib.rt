@@ -40,13 +40,13 @@
 //! `RowRoomLaws`); what is asked of the visible image of a UUID (`ShownLaws`); a list in order with one element more
 //! (`InsertLaws`); a row that was taken out of the tree, changed and put back (`PutBackLaws`); that an image stands in its volume
 //! and is true of it (`TruthLaws`), and stays so (`FrameLaws`); a visible image at which the operation does not work (`ApartLaws`);
-//! a disk that grows, as the disks show it (`RaisedLaws`), and what a stop leaves of it (`GrownLaws`); commits made one after the
-//! other (`RunLaws`), and such whose moments are safe (`SafeLaws`).
+//! a disk that grows, as the disks show it (`RaisedLaws`), and what a stop leaves of it (`GrownLaws`); changes made one after the
+//! other (`RunLaws`).
 //!
 //! The definitions are in `specs/`: `Known` (what is in memory, and its shape), `Outlined` (its outline), `Orderly` and `Ready`
 //! (the two invariants), `Shown` (the visible image of a UUID), `Refusing` (when an answer is the machine's), `Stores` (the
 //! content of a store), `Framing` (a session between two steps, and what a step did to the store: what each step asks and promises),
-//! `Done` (what a call of a step did), `Runs` (commits one after the other), `Repairs` and `Cleaned` (what an opening repairs, and the table that
+//! `Done` (what a call of a step did), `Runs` (changes allowed one after the other), `Repairs` and `Cleaned` (what an opening repairs, and the table that
 //! it leaves).
 #![tactic(auto)]
 

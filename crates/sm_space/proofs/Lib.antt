@@ -10,6 +10,8 @@ pub mod EndLaws
 pub mod FooterLaws
 pub mod InflatingLaws
 pub mod TrueLaws
+pub mod WritingLaws
+pub mod GrowthLaws
 pub mod DeflatingLaws
 pub mod LooseLaws
 pub mod ResizeLaws

@@ -1,9 +1,16 @@
--- What cutting the volume of a VHD image to its first extents asks, and what it makes of the shape (this project's format).
-use Rattle.std.specs.Prelude.{◌≡◌, ℕ, ◌<◌, ◌≤◌, false}
+-- What cutting the volume of a VHD image to its first extents asks, by which calls it is done, and what it makes of the shape (this
+-- project's format).
+use Rattle.std.specs.Prelude.{◌≡◌, ℕ, ◌<◌, ◌≤◌, false, List, [], ◌∷◌, Option}
 use Rattle.common_laws.specs.Lists.{In}
 use Rattle.sm_base.specs.declared.names.Name.{Name}
 use Rattle.sm_base.specs.declared.operations.Op.TheVariants as op
 use Rattle.sm_base.specs.declared.operations.Plan.TheVariants as plan
+use Rattle.vg_meta.specs.Tables.{VolumeTable}
+use Rattle.vg_meta.specs.declared.changes.Change.TheVariants.{Cut}
+use Rattle.vg_volumes.specs.Sites.{Site}
+use Rattle.vhd_chain.specs.declared.rows.TreeRow.{TreeRow}
+use Rattle.sm_calls.specs.Calls.{Call, Commit}
+use Rattle.sm_space.specs.Inflating.{footer_call}
 use Rattle.sm_machine.specs.Collector.{collected, is_written}
 use Rattle.sm_machine.specs.Shapes.{ImageRow, Shape, risen, thin_in, top}
 
@@ -21,3 +28,7 @@ pub record CanDeflate (s : Shape) (n : Name) (to : ℕ) : Type 0 where
 -- the shape, once the volume is cut to so many: what the machine's collector makes of it, by one commit
 abbrev pub deflated : Name → ℕ → Shape → Shape
 deflated n to s = record (collected (plan.Deflate n to) s) { sequence = risen s.sequence 1 }
+
+-- the calls that cut a volume to so many extents: the footer is written at the end of these, and then the volume is cut
+abbrev pub cut_calls : Site → VolumeTable → Name → Option TreeRow → ℕ → List Call
+cut_calls s t n o to = footer_call s t n o to ∷ Commit (Cut n to) ∷ []

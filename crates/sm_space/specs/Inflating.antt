@@ -1,18 +1,25 @@
 -- What giving more extents to the volume of a VHD image asks, and what it makes of table and memory (this project's format).
-use Rattle.std.specs.Prelude.{◌≡◌, ℕ, ◌+◌, ◌-◌, ◌*◌, ◌<◌, ◌≤◌, List, length, Option, Some, None}
+use Rattle.std.specs.Prelude.{◌≡◌, ℕ, ◌+◌, ◌-◌, ◌*◌, ◌<◌, ◌≤◌, List, [], ◌∷◌, length, Option, Some, None}
 use Rattle.common_laws.specs.Lists.{change}
 use Rattle.sm_base.specs.declared.names.Name.{Name}
 use Rattle.sm_base.specs.declared.names.Name.TheVariants.{Vhd}
-use Rattle.vg_meta.specs.Tables.{Row, VolumeTable, rows, free as free_of}
-use Rattle.vg_meta.specs.Changes.{AreFree, grown, with_row}
+use Rattle.sm_disk.specs.Held.{Held}
+use Rattle.vg_meta.specs.Roomy.{table_alone}
+use Rattle.vg_meta.specs.Tables.{Row, VolumeTable, extents_of, rows, free as free_of}
+use Rattle.vg_meta.specs.Changes.{AreFree, applied, grown, with_row}
 use Rattle.vg_meta.specs.declared.changes.Change.{Change}
-use Rattle.vg_meta.specs.declared.changes.Change.TheVariants.{Grow}
+use Rattle.vg_meta.specs.declared.changes.Change.TheVariants.{Grow, Remove}
 use Rattle.vg_extents.specs.Fits.{AreLeastFree}
 use Rattle.vhd_chain.specs.declared.rows.TreeRow.{TreeRow}
 use Rattle.vhd_chain.specs.Trees.{has_name, row_name, tree_row}
-use Rattle.vg_volumes.specs.Stored.{stored, sectors_in}
+use Rattle.vg_volumes.specs.Sites.{Site, size_of, volume_of}
+use Rattle.vg_volumes.specs.Volumes.{KeepsElsewhere}
 use Rattle.vg_volumes.specs.declared.stores.Store.{Ghosts}
-use Rattle.vhd_image.specs.Bodies.{IsVhd, top_slot}
+use Rattle.vhd_image.specs.Bodies.{IfVhd, IsVhd, top_slot}
+use Rattle.vhd_image.specs.Changes.{EndsAt, StaysTrueIn}
+use Rattle.vhd_volumes.specs.Writes.{KeepsBut}
+use Rattle.sm_journal.specs.Entries.{putting}
+use Rattle.sm_calls.specs.Calls.{Call, Commit, Work}
 use Rattle.vhd_volumes.specs.Truth.{HasRoomFor}
 use Rattle.sm_machine.specs.Shapes.{Shape, on_image, risen}
 
@@ -43,14 +50,38 @@ abbrev pub IfRow : Option TreeRow → (TreeRow → Type 0) → Type 0
 IfRow None P = Unit {0}
 IfRow (Some r) P = P r
 
--- the row of this name has a VHD image of the volume of this name, which has room in the first so many extents of it
-pub record CanEnd {S : Type 0} (g : Ghosts S) (x : S) (rows : List TreeRow) (n : Name) (to : ℕ) : Type 0 where
+-- the row of this name has a VHD image of the volume of this name, which has room in the first so many extents of it, by site and table
+pub record CanEndIn (s : Site) (t : VolumeTable) (rows : List TreeRow) (n : Name) (to : ℕ) : Type 0 where
   pub row : TreeRow
   pub there : tree_row rows n ≡ Some row
   pub named : row_name row ≡ n
   pub vhd : IsVhd row.image
-  pub within : to * (g.site x).geometry.extent ≤ sectors_in (stored g x) n
-  pub room : HasRoomFor (g.site x).geometry (top_slot row.image) (to * (g.site x).geometry.extent)
+  pub within : to * s.geometry.extent ≤ size_of s t n
+  pub room : HasRoomFor s.geometry (top_slot row.image) (to * s.geometry.extent)
+
+-- in a store the row of this name has a VHD image of the volume of this name, which has room in the first so many extents of it
+abbrev pub CanEnd : {S : Type 0} → Ghosts S → S → List TreeRow → Name → ℕ → Type 0
+CanEnd g x rows n to = CanEndIn (g.site x) (table_alone (g.table x)) rows n to
+
+-- A footer was to be written into the last of so many extents of a volume: the other volumes are kept, this one keeps all but that sector,
+-- and its image stays true.
+pub record WritesEnd (s : Site) (t : VolumeTable) (n : Name) (o : Option TreeRow) (to : ℕ) (old new : Held) : Type 0 where
+  pub beside : KeepsElsewhere s.geometry.extent (extents_of (rows t n)) old new
+  pub others : KeepsBut (λ p. p ≡ to * s.geometry.extent - 1) (volume_of s t old n) (volume_of s t new n)
+  pub stays : IfRow o (λ r. IfVhd r.image (λ head slots. StaysTrueIn s.geometry head slots (volume_of s t old n) (volume_of s t new n)))
+
+-- a footer was written into the last of so many extents of a volume: the image ends there
+abbrev pub EndsIn : Site → VolumeTable → Name → Option TreeRow → ℕ → Held → Held → Type 0
+EndsIn s t n o to old new = IfRow o (λ r. IfVhd r.image (λ head slots. EndsAt s.geometry (to * s.geometry.extent) head slots (volume_of s t old n) (volume_of s t new n)))
+
+-- the call that writes a footer into the last of so many extents of a volume
+abbrev pub footer_call : Site → VolumeTable → Name → Option TreeRow → ℕ → Call
+footer_call s t n o to = Work (WritesEnd s t n o to) (EndsIn s t n o to)
+
+-- the calls that give a volume more extents: an entry is made, the volume grows, the footer is written at its new end, and the entry goes
+abbrev pub growth_calls : Site → VolumeTable → Name → Change → Name → Option TreeRow → ℕ → List Call
+growth_calls s t entry growth n o to =
+    Commit (putting entry) ∷ Commit growth ∷ footer_call s (applied (applied t (putting entry)) growth) n o to ∷ Commit (Remove entry) ∷ []
 
 -- the images in memory, once the volume of this name has so many extents
 abbrev pub with_extents : Name → ℕ → List TreeRow → List TreeRow

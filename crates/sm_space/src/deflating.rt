@@ -11,7 +11,8 @@ ghost use Rattle.sm_base.specs.declared.names.Name.TheVariants.{Vhd};
 ghost use Rattle.vg_meta.specs.Changes.{applied};
 ghost use Rattle.vg_meta.specs.Roomy.{table_alone};
 ghost use Rattle.vg_meta.specs.declared.changes.Change.TheVariants.{Cut};
-ghost use Rattle.vg_volumes.specs.Stored.{stored, Counts, Leaves, IsEitherOf, CanCommit, Commits, FailsToCommit};
+ghost use Rattle.vg_volumes.specs.Stored.{Counts};
+ghost use Rattle.vhd_chain.specs.Trees.{tree_row};
 ghost use Rattle.sm_standing.specs.Standing.{disks};
 ghost use Rattle.sm_ready.specs.Does.{store_shape};
 ghost use Rattle.sm_ready.specs.Done.{HasDone};
@@ -19,14 +20,38 @@ ghost use Rattle.sm_ready.specs.Framing.{IsBetweenSteps, StepsOn};
 ghost use Rattle.sm_ready.specs.Known.{known};
 ghost use Rattle.sm_ready.specs.Sessions.{IsReadyStore};
 ghost use Rattle.sm_ready.specs.Stores.{StoreLeaves, store_content};
-ghost use Rattle.sm_space.specs.Deflating.{CanDeflate, deflated};
+ghost use Rattle.sm_calls.specs.Calls.{CanRun, DoesRun};
+ghost use Rattle.sm_space.specs.Deflating.{CanDeflate, cut_calls, deflated};
+ghost use Rattle.sm_space.specs.Inflating.{CanEnd};
 
 use crate::inflating::{end_image, set_extents};
 use sm_base::{Failed, Name};
+use sm_calls::commit;
 use sm_ready::Memory;
 use uuid::Uuid;
 use vg_meta::Change;
 use vg_volumes::Store;
+use vhd_chain::Tree;
+
+/// Writes the footer where the image is to end, and cuts the volume there.
+fn run_cut<S: Store>(store: &mut S, tree: &Tree, name: &Name, to: u32) -> Result<(), Failed>
+    requires can { CanRun S.Store
+        (cut_calls (S.site store.old) (table_alone (S.table store.old)) name.now (tree_row tree.now.rows name.now) to) store.old }
+    requires image { CanEnd S.Store store.old tree.now.rows name.now to }
+    ensures run { OnOk result (DoesRun S.Store
+        (cut_calls (S.site store.old) (table_alone (S.table store.old)) name.now (tree_row tree.now.rows name.now) to) store.old store.new (Unit {0})) }
+    ensures cut { OnErr result (DoesRun S.Store
+        (cut_calls (S.site store.old) (table_alone (S.table store.old)) name.now (tree_row tree.now.rows name.now) to) store.old store.new ⊥) }
+    ensures cause { Counts S.Store result store.old store.new }
+{
+    let shorter = Change::Cut {
+        name: *name,
+        keep: to,
+    };
+    end_image(store, tree, name, to)?;
+    commit(store, shorter)?;
+    Ok(())
+}
 
 /// Cuts the volume of the VHD image of this UUID, visible or hidden, to its first so many extents, in which its slots have
 /// room. The image is the same. It takes no memory.
@@ -53,23 +78,7 @@ pub fn deflate<S: Store>(
         (StoreLeaves S.Store store.old) (StoreLeaves S.Store store.new) (result ≡ Ok tt) (disks (store_content S.Store store.old)) }
 {
     let name = Name::Vhd(*disk);
-    end_image(store, &memory.tree, &name, to)?;
-    cut(store, &name, to)?;
+    run_cut(store, &memory.tree, &name, to)?;
     set_extents(memory, &name, to);
-    Ok(())
-}
-
-/// Cuts the volume to its first extents, by one commit.
-fn cut<S: Store>(store: &mut S, name: &Name, to: u32) -> Result<(), Failed>
-    requires { CanCommit S.Store (Cut name.now to) store.old }
-    ensures commits { OnOk result (Commits S.Store (Cut name.now to) store.old store.new) }
-    ensures fails { OnErr result (FailsToCommit S.Store store.old store.new) }
-    ensures cause { Counts S.Store result store.old store.new }
-    ensures crash { Leaves S.Store store.new (IsEitherOf (stored S.Store store.old) (Cut name.now to)) }
-{
-    store.commit(Change::Cut {
-        name: *name,
-        keep: to,
-    })?;
     Ok(())
 }

@@ -9,15 +9,14 @@ ghost use Rattle.std.specs.Prelude.{◌≡◌, ◌≤◌, ◌<◌, ◌*◌, ◌-
 ghost use Rattle.std.specs.declared.result.Result.TheVariants.{Ok, Err};
 ghost use Rattle.sm_base.specs.declared.faults.CallFault.TheVariants as fault;
 ghost use Rattle.sm_base.specs.declared.names.Name.TheVariants.{Vhd, Inflate};
-ghost use Rattle.vg_meta.specs.Changes.{HasRoom, Permits};
+ghost use Rattle.vg_meta.specs.Changes.{HasRoom, Permits, applied};
 ghost use Rattle.vg_meta.specs.Roomy.{table_alone};
 ghost use Rattle.vg_meta.specs.Tables.{VolumeTable, free as free_of};
-ghost use Rattle.vg_meta.specs.declared.changes.Change.TheVariants.{Grow, Remove};
-ghost use Rattle.vg_volumes.specs.Stored.{stored, sectors_in, OnlyReads, WorksOn, Counts, Leaves, IsEitherOf, CanCommit, Commits, FailsToCommit};
+ghost use Rattle.vg_meta.specs.declared.changes.Change.TheVariants.{Grow};
+ghost use Rattle.vg_volumes.specs.Stored.{OnlyReads, WorksOn, Counts};
 ghost use Rattle.vhd_volumes.specs.Steps.{Does};
-ghost use Rattle.vhd_volumes.specs.Truth.{HasRoomFor};
 ghost use Rattle.vhd_volumes.specs.Writes.{KeepsBut};
-ghost use Rattle.vhd_image.specs.Bodies.{IsVhd, IfVhdDoes, top_slot, volume_name};
+ghost use Rattle.vhd_image.specs.Bodies.{IfVhdDoes};
 ghost use Rattle.vhd_image.specs.Changes.{StaysTrueIn, EndsAt};
 ghost use Rattle.vhd_chain.specs.Trees.{tree_row};
 ghost use Rattle.sm_standing.specs.Standing.{disks};
@@ -28,9 +27,11 @@ ghost use Rattle.sm_ready.specs.Framing.{CountsDevice, IsBetweenSteps, StepsOn};
 ghost use Rattle.sm_ready.specs.Known.{known};
 ghost use Rattle.sm_ready.specs.Sessions.{IsReadyStore};
 ghost use Rattle.sm_ready.specs.Stores.{StoreLeaves, store_content};
-ghost use Rattle.sm_space.specs.Inflating.{CanEnd, IfRow, extents_in, inflated, with_extents, HasFree, IsBelow, IsEnlarged, IsGrowth};
+ghost use Rattle.sm_calls.specs.Calls.{CanRun, DoesRun};
+ghost use Rattle.sm_space.specs.Inflating.{CanEnd, CanEndIn, IfRow, growth_calls, extents_in, inflated, with_extents, HasFree, IsBelow, IsEnlarged, IsGrowth};
 
 use sm_base::{CallFault, Failed, Name, NoMemory};
+use sm_calls::commit;
 use sm_journal::{drop_entry, put};
 use sm_ready::Memory;
 use std::alloc::Global;
@@ -116,18 +117,6 @@ pub fn plan_growth<S: Store>(
     Ok(growth)
 }
 
-/// Gives the volume its extents, by one commit.
-fn grow<S: Store>(store: &mut S, growth: Change) -> Result<(), Failed>
-    requires { CanCommit S.Store growth store.old }
-    ensures commits { OnOk result (Commits S.Store growth store.old store.new) }
-    ensures fails { OnErr result (FailsToCommit S.Store store.old store.new) }
-    ensures cause { Counts S.Store result store.old store.new }
-    ensures crash { Leaves S.Store store.new (IsEitherOf (stored S.Store store.old) growth) }
-{
-    store.commit(growth)?;
-    Ok(())
-}
-
 /// Writes the footer of an image into the last sector of the first so many extents of its volume.
 pub(crate) fn end_image<S: Store>(
     store: &mut S,
@@ -165,6 +154,33 @@ pub(crate) fn set_extents(memory: &mut Memory, name: &Name, to: u32)
     memory.tree.add(row);
 }
 
+/// Makes the entry, gives the volume its extents, writes the footer at the new end, and drops the entry.
+fn run_growth<S: Store>(
+    store: &mut S,
+    tree: &Tree,
+    name: &Name,
+    entry: Name,
+    to: u32,
+    growth: Change,
+) -> Result<(), Failed>
+    requires can { CanRun S.Store
+        (growth_calls (S.site store.old) (table_alone (S.table store.old)) entry growth name.now (tree_row tree.now.rows name.now) to) store.old }
+    requires image { CanEndIn (S.site store.old) (applied (applied (table_alone (S.table store.old)) (putting entry)) growth) tree.now.rows name.now to }
+    ensures run { OnOk result (DoesRun S.Store
+        (growth_calls (S.site store.old) (table_alone (S.table store.old)) entry growth name.now (tree_row tree.now.rows name.now) to)
+        store.old store.new (Unit {0})) }
+    ensures cut { OnErr result (DoesRun S.Store
+        (growth_calls (S.site store.old) (table_alone (S.table store.old)) entry growth name.now (tree_row tree.now.rows name.now) to)
+        store.old store.new ⊥) }
+    ensures cause { Counts S.Store result store.old store.new }
+{
+    put(store, entry)?;
+    commit(store, growth)?;
+    end_image(store, tree, name, to)?;
+    drop_entry(store, &entry)?;
+    Ok(())
+}
+
 /// Gives the volume of an image its extents, where all memory was taken before: the three commits, and the footer before the
 /// last of them.
 ///
@@ -200,10 +216,7 @@ pub fn enlarge<S: Store>(
         image: *disk,
         extents: extents_of(&memory.tree, &name),
     };
-    put(store, entry)?;
-    grow(store, growth)?;
-    end_image(store, &memory.tree, &name, to)?;
-    drop_entry(store, &entry)?;
+    run_growth(store, &memory.tree, &name, entry, to, growth)?;
     set_extents(memory, &name, to);
     Ok(())
 }

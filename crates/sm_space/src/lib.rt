@@ -24,7 +24,8 @@
 //! sector and makes one commit. It takes no memory. `resize` writes two sectors and makes one sync, and one commit where it gives
 //! a folding up. It takes no memory.
 //!
-//! The definitions are in `specs/`: `Inflating` (what is asked of more extents, and what is made), `Deflating` (of fewer).
+//! The definitions are in `specs/`: `Inflating` (what is asked of more extents, by which calls they are given, and what is made),
+//! `Deflating` (of fewer).
 #![tactic(auto)]
 
 mod deflating;

@@ -9,14 +9,12 @@ use Rattle.vhd_chain.specs.declared.rows.TreeRow.{TreeRow}
 use Rattle.sm_mgt.specs.Places.{place_for}
 use Rattle.sm_ready.specs.declared.memory.Memory.{Memory}
 use Rattle.sm_ready.proofs.ChainLaws.{err_not_ok}
-use Rattle.sm_ready.proofs.FramingLaws.{more_steps, stays_steps, then_steps}
-use Rattle.sm_ready.proofs.RoomLaws.{rows_stays}
-use Rattle.sm_clone.specs.Forking.{first_changes, forked_rows, last_changes}
-use Rattle.sm_clone.proofs.ForkTrue.{IsForked}
-use Rattle.sm_clone.proofs.ForkedLaws.{IsForkedMemory, orderly_end, shape_end, site_then, table_then, tidy_end, true_end}
-use Rattle.sm_clone.proofs.DoneLaws.{begin_failed, end_failed, fill_failed, fork_done}
+use Rattle.sm_calls.specs.Calls.{DoesRun}
+use Rattle.sm_clone.specs.Forking.{fork_calls, forked_rows}
+use Rattle.sm_clone.proofs.ForkedLaws.{IsForkedMemory, orderly_end, shape_end, tidy_end, true_end}
+use Rattle.sm_calls.proofs.StoreLaws.{run_steps}
+use Rattle.sm_clone.proofs.DoneLaws.{fork_done, fork_failed, run_begun, run_ended, run_filled}
 use Rattle.sm_clone.proofs.MakingLaws.{apart, base_named, can_begin, can_end, few_own, few_twins, found_not, images_are, names, names_apart, no_base, no_leaf, no_twin, number_is, own_room, parent_is, places, size_is, three_spare, tree_room, twin_room, use_room}
-use Rattle.sm_ready.proofs.RunSteps.{failed_run, run_steps}
 use Rattle.sm_clone.proofs.forking.make_fork.Given.{Over}
 use Rattle.sm_clone.proofs.forking.make_fork.Goals as goal
 
@@ -33,60 +31,57 @@ pub begin-requires : goal.begin-requires
 begin-requires g c = can_begin c.requires.can
 
 pub returns-in_err-begin-clause-step : goal.returns-in_err-begin-clause-step
-returns-in_err-begin-clause-step g c =
-    more_steps (omega arith) (failed_run (first_changes c.args.fork.now c.args.parts.own.items c.args.parts.twins.items) c.begin.ensures.crash c.in_err-begin.ensures.fails)
+returns-in_err-begin-clause-step g c = run_steps (run_begun c.args.now c.make_base.new.row.image (unwrap_or (place_for c.args.memory.now.records c.args.entry.uuid) 0) c.args.entry c.in_err-begin.ensures.cut)
 
 pub returns-in_err-begin-clause-done : goal.returns-in_err-begin-clause-done
 returns-in_err-begin-clause-done g c = λ told ready.
-    begin_failed c.requires.can told ready _ _ (λ fine. err_not_ok _ tt c.from_residual.ensures.0 fine) c.in_err-begin.ensures.fails (c.begin.ensures.crash told)
+    fork_failed c.requires.can told ready c.args.now c.make_base.new.row.image c.in-Some.base (sym c.take.ensures.taken ∙ c.in-Some.is) (ap (λ (r : TreeRow). r.image) c.make_base.ensures) _ _
+    (λ fine. err_not_ok _ tt c.from_residual.ensures.0 fine) (run_begun c.args.now c.make_base.new.row.image (unwrap_or (place_for c.args.memory.now.records c.args.entry.uuid) 0) c.args.entry c.in_err-begin.ensures.cut)
 
 pub fill-requires-clause-own_room : goal.fill-requires-clause-own_room
-fill-requires-clause-own_room g c = own_room c.requires.can c.in_ok-begin.ensures.runs
+fill-requires-clause-own_room g c = own_room c.requires.can c.in_ok-begin.ensures.run
 
 pub fill-requires-clause-twin_room : goal.fill-requires-clause-twin_room
-fill-requires-clause-twin_room g c = twin_room c.requires.can c.in_ok-begin.ensures.runs
+fill-requires-clause-twin_room g c = twin_room c.requires.can c.in_ok-begin.ensures.run
 
 pub fill-requires-clause-apart : goal.fill-requires-clause-apart
 fill-requires-clause-apart g c = apart c.requires.can
 
 pub fill-requires-clause-size : goal.fill-requires-clause-size
 fill-requires-clause-size g c =
-    subst₂ (λ (z : Site) (r : TreeRow). IsDiskSize z.geometry (sector_count r.image)) (sym c.in_ok-begin.ensures.runs.site) (sym c.make_base.ensures)
+    subst₂ (λ (z : Site) (r : TreeRow). IsDiskSize z.geometry (sector_count r.image)) (sym c.in_ok-begin.ensures.run.site) (sym c.make_base.ensures)
     (size_is c.requires.can c.in-Some.base (sym c.take.ensures.taken ∙ c.in-Some.is))
 
 pub fill-requires-clause-parent : goal.fill-requires-clause-parent
 fill-requires-clause-parent g c = subst (λ (r : TreeRow). IsParentImage r.image) (sym c.make_base.ensures) (parent_is c.requires.can c.in-Some.base (sym c.take.ensures.taken ∙ c.in-Some.is))
 
 pub fill-requires-clause-places : goal.fill-requires-clause-places
-fill-requires-clause-places g c = places c.requires.can c.in_ok-begin.ensures.runs
+fill-requires-clause-places g c = places c.requires.can c.in_ok-begin.ensures.run
 
 pub returns-in_err-own-clause-step : goal.returns-in_err-own-clause-step
 returns-in_err-own-clause-step g c =
-    let s = c.fill.ensures.stays in
-    more_steps (omega arith) (then_steps (run_steps (first_changes c.args.fork.now c.args.parts.own.items c.args.parts.twins.items) c.begin.ensures.crash c.in_ok-begin.ensures.runs)
-    (stays_steps s (λ told. g.met.S.Store.leaves_now c.fill.new.store told (s.failed ∙ c.in_ok-begin.ensures.runs.usable))))
+    run_steps (run_filled c.args.now c.make_base.new.row.image (unwrap_or (place_for c.args.memory.now.records c.args.entry.uuid) 0) c.args.entry c.in_ok-begin.ensures.run c.fill.ensures.stays c.fill.ensures.middle (g.met.S.Store.leaves_now c.fill.new.store))
 
 pub returns-in_err-own-clause-done : goal.returns-in_err-own-clause-done
 returns-in_err-own-clause-done g c = λ told ready.
-    let begun = c.in_ok-begin.ensures.runs in
-    fill_failed c.requires.can told ready begun c.fill.ensures.stays c.fill.ensures.middle _ _ (λ fine. err_not_ok _ tt c.from_residual-in_err-own.ensures.0 fine)
-    (g.met.S.Store.leaves_now c.fill.new.store told (c.fill.ensures.stays.failed ∙ begun.usable))
+    fork_failed c.requires.can told ready c.args.now c.make_base.new.row.image c.in-Some.base (sym c.take.ensures.taken ∙ c.in-Some.is) (ap (λ (r : TreeRow). r.image) c.make_base.ensures) _ _
+    (λ fine. err_not_ok _ tt c.from_residual-in_err-own.ensures.0 fine)
+    (run_filled c.args.now c.make_base.new.row.image (unwrap_or (place_for c.args.memory.now.records c.args.entry.uuid) 0) c.args.entry c.in_ok-begin.ensures.run c.fill.ensures.stays c.fill.ensures.middle (g.met.S.Store.leaves_now c.fill.new.store))
 
 pub end-requires : goal.end-requires
-end-requires g c = can_end c.requires.can c.in_ok-begin.ensures.runs c.fill.ensures.stays
+end-requires g c = can_end c.requires.can c.in_ok-begin.ensures.run c.fill.ensures.stays
 
 pub returns-in_err-end-clause-step : goal.returns-in_err-end-clause-step
 returns-in_err-end-clause-step g c =
-    let s = c.fill.ensures.stays in
-    then_steps (run_steps (first_changes c.args.fork.now c.args.parts.own.items c.args.parts.twins.items) c.begin.ensures.crash c.in_ok-begin.ensures.runs)
-    (then_steps (stays_steps s (λ told. g.met.S.Store.leaves_now c.fill.new.store told (s.failed ∙ c.in_ok-begin.ensures.runs.usable)))
-    (failed_run (last_changes c.args.fork.now) c.end.ensures.crash c.in_err-end.ensures.fails))
+    run_steps (run_ended c.args.now c.make_base.new.row.image (unwrap_or (place_for c.args.memory.now.records c.args.entry.uuid) 0) c.args.entry c.in_ok-begin.ensures.run c.fill.ensures.stays c.fill.ensures.middle (g.met.S.Store.leaves_now c.fill.new.store)
+    c.in_ok-own.ensures.filled c.in_err-end.ensures.cut)
 
 pub returns-in_err-end-clause-done : goal.returns-in_err-end-clause-done
 returns-in_err-end-clause-done g c = λ told ready.
-    end_failed c.requires.can told ready c.in_ok-begin.ensures.runs c.fill.ensures.stays c.fill.ensures.middle c.args.now c.make_base.new.row.image c.in-Some.base
-    (sym c.take.ensures.taken ∙ c.in-Some.is) (ap (λ (r : TreeRow). r.image) c.make_base.ensures) c.in_ok-own.ensures.filled _ _
-    (λ fine. err_not_ok _ tt c.from_residual-in_err-end.ensures.0 fine) c.in_err-end.ensures.fails (c.end.ensures.crash told)
+    fork_failed c.requires.can told ready c.args.now c.make_base.new.row.image c.in-Some.base (sym c.take.ensures.taken ∙ c.in-Some.is) (ap (λ (r : TreeRow). r.image) c.make_base.ensures) _ _
+    (λ fine. err_not_ok _ tt c.from_residual-in_err-end.ensures.0 fine)
+    (run_ended c.args.now c.make_base.new.row.image (unwrap_or (place_for c.args.memory.now.records c.args.entry.uuid) 0) c.args.entry c.in_ok-begin.ensures.run c.fill.ensures.stays c.fill.ensures.middle (g.met.S.Store.leaves_now c.fill.new.store)
+    c.in_ok-own.ensures.filled c.in_err-end.ensures.cut)
 
 pub add_rows-requires-clause-room : goal.add_rows-requires-clause-room
 add_rows-requires-clause-room g c = three_spare c.requires.can c.take.new.self.spare c.in-Some.ensures.some c.requires.can.session.tree_room
@@ -131,7 +126,7 @@ last g c = record { tree = c.add_rows.new.tree; records = c.fill.new.records; at
 rows_are : (g : Over) (c : goal.After-note_uses g) → c.add_rows.new.tree.rows ≡ forked_rows (g.S.Store.site c.args.store.now) (table_alone (g.S.Store.table c.args.store.now)) c.args.fork.now c.args.now
     (length c.args.parts.own.items) (length c.args.parts.twins.items) (tree_row c.args.memory.now.tree.rows c.args.fork.now.own) c.args.memory.now.tree.rows
 rows_are g c =
-    let begun = c.in_ok-begin.ensures.runs in
+    let begun = c.in_ok-begin.ensures.run in
     let own : c.len-own_count.result ≡ length c.args.parts.own.items = omega (arith, c.len-own_count.ensures, c.args.parts.own.ok.0) in
     let twins : c.len-twin_count.result ≡ length c.args.parts.twins.items = omega (arith, c.len-twin_count.ensures, c.args.parts.twins.ok.0) in
     images_are c.requires.can c.args.now (table_alone (g.S.Store.table c.begin.new.store)).sequence _ _ (g.S.Store.site c.begin.new.store) c.in-Some.base c.make_base.new.row c.shown_row-own.result c.shown_row-twin.result _ _
@@ -142,30 +137,25 @@ memory_is : (g : Over) (c : goal.After-note_uses g) → IsForkedMemory (g.S.Stor
     (length c.args.parts.own.items) (length c.args.parts.twins.items) c.args.entry c.args.now
 memory_is g c = record { rows = rows_are g c; records = c.in_ok-own.ensures.kept; uses = c.note_uses.ensures.uses; others = refl }
 
-calls : (g : Over) (c : goal.After-note_uses g) → IsForked g.S.Store c.args.store.now c.begin.new.store c.fill.new.store c.end.new.store c.args.fork.now c.args.parts.own.items c.args.parts.twins.items c.args.now
-    c.make_base.new.row.image (unwrap_or (place_for c.args.memory.now.records c.args.entry.uuid) 0) c.args.entry
-calls g c = record { first = c.in_ok-begin.ensures.runs; stays = c.fill.ensures.stays; middle = c.fill.ensures.middle; filled = c.in_ok-own.ensures.filled; last = c.in_ok-end.ensures.runs }
+run : (g : Over) (c : goal.After-note_uses g) → DoesRun g.S.Store (fork_calls (g.S.Store.site c.args.store.now) (table_alone (g.S.Store.table c.args.store.now)) c.args.fork.now c.args.parts.own.items
+    c.args.parts.twins.items c.args.now c.make_base.new.row.image (unwrap_or (place_for c.args.memory.now.records c.args.entry.uuid) 0) c.args.entry) c.args.store.now c.end.new.store (Unit {0})
+run g c = run_ended c.args.now c.make_base.new.row.image (unwrap_or (place_for c.args.memory.now.records c.args.entry.uuid) 0) c.args.entry c.in_ok-begin.ensures.run c.fill.ensures.stays c.fill.ensures.middle
+    (g.met.S.Store.leaves_now c.fill.new.store) c.in_ok-own.ensures.filled c.in_ok-end.ensures.run
 
 pub returns-clause-step : goal.returns-clause-step
-returns-clause-step g c =
-    let s = c.fill.ensures.stays in
-    then_steps (run_steps (first_changes c.args.fork.now c.args.parts.own.items c.args.parts.twins.items) c.begin.ensures.crash c.in_ok-begin.ensures.runs)
-    (then_steps (stays_steps s (λ told. g.met.S.Store.leaves_now c.fill.new.store told (s.failed ∙ c.in_ok-begin.ensures.runs.usable)))
-    (run_steps (last_changes c.args.fork.now) c.end.ensures.crash c.in_ok-end.ensures.runs))
+returns-clause-step g c = run_steps (run g c)
 
 pub returns-clause-session_still : goal.returns-clause-session_still
 returns-clause-session_still g c =
     let can = c.requires.can in
     let i = can.session in
-    let site = site_then can c.args.now c.make_base.new.row.image (calls g c) in
-    let table = table_then can c.args.now c.make_base.new.row.image (calls g c) in
     record {
-      usable = c.in_ok-end.ensures.runs.usable;
-      orderly = orderly_end can (last g c) c.args.now site table (memory_is g c);
-      tidy = tidy_end can (last g c) c.args.now site table (memory_is g c);
-      true_images = true_end can c.args.now c.make_base.new.row.image (calls g c) c.in-Some.base (sym c.take.ensures.taken ∙ c.in-Some.is) (ap (λ (r : TreeRow). r.image) c.make_base.ensures)
+      usable = (run g c).usable tt;
+      orderly = orderly_end can (last g c) c.args.now (run g c).site ((run g c).table tt) (memory_is g c);
+      tidy = tidy_end can (last g c) c.args.now (run g c).site ((run g c).table tt) (memory_is g c);
+      true_images = true_end can c.args.now c.make_base.new.row.image (run g c) c.in-Some.base (sym c.take.ensures.taken ∙ c.in-Some.is) (ap (λ (r : TreeRow). r.image) c.make_base.ensures)
           (last g c) (rows_are g c) i.true_images;
-      rows = c.in_ok-end.ensures.runs.rows (rows_stays c.fill.ensures.stays (c.in_ok-begin.ensures.runs.rows i.rows));
+      rows = (run g c).rows tt i.rows;
       tree_room = tree_room can c.take.new.self c.add_rows.new.tree _ _ _ c.take.ensures.rows c.in-Some.ensures.some c.add_rows.ensures.rows c.add_rows.ensures.spare i.tree_room;
       attachment_room = let room = i.attachment_room in omega (arith, room, c.note_uses.ensures.room);
     }
@@ -176,10 +166,9 @@ returns-clause-images g c = rows_are g c
 pub returns-clause-shape : goal.returns-clause-shape
 returns-clause-shape g c =
     let can = c.requires.can in
-    shape_end can (last g c) c.args.now (site_then can c.args.now c.make_base.new.row.image (calls g c)) (table_then can c.args.now c.make_base.new.row.image (calls g c)) (memory_is g c)
+    shape_end can (last g c) c.args.now (run g c).site ((run g c).table tt) (memory_is g c)
 
 pub returns-clause-done : goal.returns-clause-done
 returns-clause-done g c = λ told ready.
-    fork_done c.requires.can told ready c.in_ok-begin.ensures.runs c.fill.ensures.stays c.fill.ensures.middle c.args.now c.make_base.new.row.image c.in-Some.base
-    (sym c.take.ensures.taken ∙ c.in-Some.is) (ap (λ (r : TreeRow). r.image) c.make_base.ensures) c.in_ok-own.ensures.filled (last g c) _
-    c.in_ok-end.ensures.runs (c.end.ensures.crash told) (rows_are g c) c.in_ok-own.ensures.kept refl
+    fork_done c.requires.can told ready c.args.now c.make_base.new.row.image c.in-Some.base (sym c.take.ensures.taken ∙ c.in-Some.is) (ap (λ (r : TreeRow). r.image) c.make_base.ensures) (last g c) _
+    (run g c) (memory_is g c)

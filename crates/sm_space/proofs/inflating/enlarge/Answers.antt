@@ -1,225 +1,111 @@
-use Rattle.std.proofs.Common.{◌+◌, ◌≤◌, false, [], length, sym, ap, ◌∙◌, subst, arith}
-use Rattle.sm_base.specs.declared.names.Name.TheVariants.{Inflate, Vhd}
-use Rattle.vg_meta.specs.Changes.{HasRoom}
-use Rattle.vg_meta.specs.declared.changes.Change.TheVariants.{Create, Remove}
-use Rattle.vg_volumes.specs.Stored.{CanCommit, Commits, IsEitherOf, stored}
-use Rattle.sm_refs.specs.Attached.{Attached}
-use Rattle.sm_machine.specs.Shapes.{image_limit}
+use Rattle.std.proofs.Common.{ℕ, ◌+◌, List, length, ◌≡◌, sym, ap, ◌∙◌, subst, subst₂}
+use Rattle.sm_base.specs.declared.names.Name.{Name}
+use Rattle.sm_base.specs.declared.names.Name.TheVariants.{Vhd, Inflate}
+use Rattle.vg_meta.specs.Changes.{HasRoom, applied}
+use Rattle.vg_meta.specs.Roomy.{table_alone}
+use Rattle.vg_meta.specs.declared.changes.Change.{Change}
+use Rattle.vg_volumes.specs.declared.stores.Store.{Ghosts}
+use Rattle.vhd_chain.specs.Trees.{tree_row}
+use Rattle.vhd_chain.specs.declared.rows.TreeRow.{TreeRow}
 use Rattle.sm_journal.specs.Entries.{putting}
 use Rattle.sm_ready.proofs.ChainLaws.{err_not_ok}
-use Rattle.sm_ready.proofs.FramingLaws.{commit_steps, failed_steps, more_steps, stays_steps, then_steps}
-use Rattle.sm_ready.proofs.RoomLaws.{rows_commits, rows_stays}
-use Rattle.sm_space.specs.Inflating.{extents_in}
-use Rattle.sm_space.proofs.InflatingLaws.{can_drop, can_end, can_grow, can_note, drop_failed, end_failed, enlarged_end, grow_failed, grows_in, inflated_done, known_after, least_is, note_failed, orderly_end, shape_end, sum_is, tidy_end, tree_room_sized}
-use Rattle.sm_space.proofs.TrueLaws.{true_enlarged}
+use Rattle.sm_calls.specs.Calls.{CanRun, DoesRun}
+use Rattle.sm_calls.proofs.StoreLaws.{run_steps}
+use Rattle.sm_space.specs.Inflating.{CanEndIn, extents_in, growth_calls}
+use Rattle.sm_space.proofs.GrowthLaws.{can_calls, done, enlarged_end, image_there, session_end, shape_end}
+use Rattle.sm_space.proofs.InflatingLaws.{grows_in, known_after, least_is, sum_is}
 use Rattle.sm_space.proofs.inflating.enlarge.Goals as goal
 
-pub put-requires : goal.put-requires
-put-requires g c =
+-- the run, with the entry and the growth as they are
+run_is : {S : Type 0} {g : Ghosts S} {a z : S} {ok : Type 0} {k had : ℕ} {x growth : Change} (entry : ℕ → Name) (n : Name) (rs : List TreeRow) (to : ℕ) → k ≡ had → x ≡ growth
+    → DoesRun g (growth_calls (g.site a) (table_alone (g.table a)) (entry k) x n (tree_row rs n) to) a z ok → DoesRun g (growth_calls (g.site a) (table_alone (g.table a)) (entry had) growth n (tree_row rs n) to) a z ok
+run_is {g = g} {a} {z} {ok} entry n rs to is same run = subst₂ (λ j y. DoesRun g (growth_calls (g.site a) (table_alone (g.table a)) (entry j) y n (tree_row rs n) to) a z ok) is same run
+
+pub run_growth-requires-clause-can : goal.run_growth-requires-clause-can
+run_growth-requires-clause-can g c =
     let r = c.requires in
-    let store = c.args.store.now in
-    let memory = c.args.memory.now in
+    let a = c.args.store.now in
+    let m = c.args.memory.now in
     let u = c.args.disk.now in
-    let es = r.growth.extents in
-    let h = grows_in g.S.Store store memory u c.args.to c.args.growth r.session.orderly r.session.tidy r.session.usable r.there r.growth in
-    let had = c.extents_of.ensures ∙ ap extents_in r.there.there in
-    subst (λ n. CanCommit g.S.Store (Create (Inflate u n) false []) store) (sym had) (can_note h r.row)
+    let h = grows_in g.S.Store a m u c.args.to c.args.growth r.session.orderly r.session.tidy r.session.usable r.there r.growth in
+    let sum = sum_is g.S.Store a m u c.args.to c.args.growth r.session.orderly r.session.tidy r.session.usable r.there r.growth in
+    subst₂ (λ k x. CanRun g.S.Store (growth_calls (g.S.Store.site a) (table_alone (g.S.Store.table a)) (Inflate u k) x (Vhd u) (tree_row m.tree.rows (Vhd u)) c.args.to) a)
+    (sym (c.extents_of.ensures ∙ ap extents_in r.there.there)) (sym r.growth.is) (can_calls h c.args.to sum r.row (subst (HasRoom (g.S.Store.table a)) r.growth.is r.places))
 
-pub returns-in_err-put-clause-step : goal.returns-in_err-put-clause-step
-returns-in_err-put-clause-step g c = more_steps (omega arith) (failed_steps (putting (Inflate c.args.disk.now c.extents_of.result)) c.in_err-put.ensures.fails c.put.ensures.crash)
-
-pub returns-in_err-put-clause-done : goal.returns-in_err-put-clause-done
-returns-in_err-put-clause-done g c =
+pub run_growth-requires-clause-image : goal.run_growth-requires-clause-image
+run_growth-requires-clause-image g c =
     let r = c.requires in
-    let store = c.args.store.now in
-    let memory = c.args.memory.now in
+    let a = c.args.store.now in
+    let m = c.args.memory.now in
     let u = c.args.disk.now in
-    let es = r.growth.extents in
-    let h = grows_in g.S.Store store memory u c.args.to c.args.growth r.session.orderly r.session.tidy r.session.usable r.there r.growth in
-    let had = c.extents_of.ensures ∙ ap extents_in r.there.there in
-    λ told ready. note_failed h told ready _ _ (λ fine. err_not_ok _ tt c.from_residual.ensures.0 fine) c.in_err-put.ensures.fails
-    (λ v image l. subst (λ n. IsEitherOf (stored g.S.Store store) (Create (Inflate u n) false []) v image) had (c.put.ensures.crash told v image l))
+    let h = grows_in g.S.Store a m u c.args.to c.args.growth r.session.orderly r.session.tidy r.session.usable r.there r.growth in
+    let sum = sum_is g.S.Store a m u c.args.to c.args.growth r.session.orderly r.session.tidy r.session.usable r.there r.growth in
+    subst₂ (λ k x. CanEndIn (g.S.Store.site a) (applied (applied (table_alone (g.S.Store.table a)) (putting (Inflate u k))) x) m.tree.rows (Vhd u) c.args.to)
+    (sym (c.extents_of.ensures ∙ ap extents_in r.there.there)) (sym r.growth.is) (image_there h c.args.to sum)
 
-pub grow-requires : goal.grow-requires
-grow-requires g c =
+pub returns-in_err-run_growth-clause-step : goal.returns-in_err-run_growth-clause-step
+returns-in_err-run_growth-clause-step g c = run_steps c.in_err-run_growth.ensures.cut
+
+pub returns-in_err-run_growth-clause-done : goal.returns-in_err-run_growth-clause-done
+returns-in_err-run_growth-clause-done g c =
     let r = c.requires in
-    let store = c.args.store.now in
-    let memory = c.args.memory.now in
+    let a = c.args.store.now in
+    let m = c.args.memory.now in
     let u = c.args.disk.now in
-    let es = r.growth.extents in
-    let h = grows_in g.S.Store store memory u c.args.to c.args.growth r.session.orderly r.session.tidy r.session.usable r.there r.growth in
-    let had = c.extents_of.ensures ∙ ap extents_in r.there.there in
-    let c1 = subst (λ n. Commits g.S.Store (Create (Inflate u n) false []) store c.put.new.store) had c.in_ok-put.ensures.commits in
-    subst (λ x. CanCommit g.S.Store x c.put.new.store) (sym r.growth.is) (can_grow h c1 (subst (HasRoom (g.S.Store.table store)) r.growth.is r.places))
-
-pub returns-in_err-grow-clause-step : goal.returns-in_err-grow-clause-step
-returns-in_err-grow-clause-step g c =
-    more_steps (omega arith) (then_steps (commit_steps c.in_ok-put.ensures.commits c.put.ensures.crash) (failed_steps c.args.growth c.in_err-grow.ensures.fails c.grow.ensures.crash))
-
-pub returns-in_err-grow-clause-done : goal.returns-in_err-grow-clause-done
-returns-in_err-grow-clause-done g c =
-    let r = c.requires in
-    let store = c.args.store.now in
-    let memory = c.args.memory.now in
-    let u = c.args.disk.now in
-    let es = r.growth.extents in
-    let h = grows_in g.S.Store store memory u c.args.to c.args.growth r.session.orderly r.session.tidy r.session.usable r.there r.growth in
-    let had = c.extents_of.ensures ∙ ap extents_in r.there.there in
-    let c1 = subst (λ n. Commits g.S.Store (Create (Inflate u n) false []) store c.put.new.store) had c.in_ok-put.ensures.commits in
-    λ told ready. grow_failed h told ready c1 _ _ (λ fine. err_not_ok _ tt c.from_residual-in_err-grow.ensures.0 fine) c.in_err-grow.ensures.fails
-    (λ v image l. subst (λ x. IsEitherOf (stored g.S.Store c.put.new.store) x v image) r.growth.is (c.grow.ensures.crash told v image l))
-
-pub end_image-requires : goal.end_image-requires
-end_image-requires g c =
-    let r = c.requires in
-    let store = c.args.store.now in
-    let memory = c.args.memory.now in
-    let u = c.args.disk.now in
-    let es = r.growth.extents in
-    let h = grows_in g.S.Store store memory u c.args.to c.args.growth r.session.orderly r.session.tidy r.session.usable r.there r.growth in
-    let had = c.extents_of.ensures ∙ ap extents_in r.there.there in
-    let c1 = subst (λ n. Commits g.S.Store (Create (Inflate u n) false []) store c.put.new.store) had c.in_ok-put.ensures.commits in
-    let c2 = subst (λ x. Commits g.S.Store x c.put.new.store c.grow.new.store) r.growth.is c.in_ok-grow.ensures.commits in
-    let sum = sum_is g.S.Store store memory u c.args.to c.args.growth r.session.orderly r.session.tidy r.session.usable r.there r.growth in
-    record { image = can_end h c1 c2 c.args.to sum }
-
-pub returns-in_err-end_image-clause-step : goal.returns-in_err-end_image-clause-step
-returns-in_err-end_image-clause-step g c =
-    let w = c.end_image.ensures.works.stays in
-    let ended = stays_steps w (λ told. g.met.S.Store.leaves_now c.end_image.new.store told (w.failed ∙ c.in_ok-grow.ensures.commits.usable)) in
-    more_steps (omega arith) (then_steps (commit_steps c.in_ok-put.ensures.commits c.put.ensures.crash) (then_steps (commit_steps c.in_ok-grow.ensures.commits c.grow.ensures.crash) ended))
-
-pub returns-in_err-end_image-clause-done : goal.returns-in_err-end_image-clause-done
-returns-in_err-end_image-clause-done g c =
-    let r = c.requires in
-    let store = c.args.store.now in
-    let memory = c.args.memory.now in
-    let u = c.args.disk.now in
-    let es = r.growth.extents in
-    let h = grows_in g.S.Store store memory u c.args.to c.args.growth r.session.orderly r.session.tidy r.session.usable r.there r.growth in
-    let had = c.extents_of.ensures ∙ ap extents_in r.there.there in
-    let c1 = subst (λ n. Commits g.S.Store (Create (Inflate u n) false []) store c.put.new.store) had c.in_ok-put.ensures.commits in
-    let c2 = subst (λ x. Commits g.S.Store x c.put.new.store c.grow.new.store) r.growth.is c.in_ok-grow.ensures.commits in
-    let sum = sum_is g.S.Store store memory u c.args.to c.args.growth r.session.orderly r.session.tidy r.session.usable r.there r.growth in
-    let e = c.end_image.ensures in
-    λ told ready. end_failed h told ready c1 c2 c.args.to sum e.works e.others _ _ (λ fine. err_not_ok _ tt c.from_residual-in_err-end_image.ensures.0 fine)
-    (g.met.S.Store.leaves_now c.end_image.new.store told (e.works.stays.failed ∙ c.in_ok-grow.ensures.commits.usable))
-
-pub drop_entry-requires : goal.drop_entry-requires
-drop_entry-requires g c =
-    let r = c.requires in
-    let store = c.args.store.now in
-    let memory = c.args.memory.now in
-    let u = c.args.disk.now in
-    let es = r.growth.extents in
-    let h = grows_in g.S.Store store memory u c.args.to c.args.growth r.session.orderly r.session.tidy r.session.usable r.there r.growth in
-    let had = c.extents_of.ensures ∙ ap extents_in r.there.there in
-    let c1 = subst (λ n. Commits g.S.Store (Create (Inflate u n) false []) store c.put.new.store) had c.in_ok-put.ensures.commits in
-    let c2 = subst (λ x. Commits g.S.Store x c.put.new.store c.grow.new.store) r.growth.is c.in_ok-grow.ensures.commits in
-    subst (λ n. CanCommit g.S.Store (Remove (Inflate u n)) c.end_image.new.store) (sym had) (can_drop h c1 c2 c.end_image.ensures.works.stays)
-
-pub returns-in_err-drop_entry-clause-step : goal.returns-in_err-drop_entry-clause-step
-returns-in_err-drop_entry-clause-step g c =
-    let w = c.end_image.ensures.works.stays in
-    let ended = stays_steps w (λ told. g.met.S.Store.leaves_now c.end_image.new.store told (w.failed ∙ c.in_ok-grow.ensures.commits.usable)) in
-    let failed = failed_steps (Remove (Inflate c.args.disk.now c.extents_of.result)) c.in_err-drop_entry.ensures.fails c.drop_entry.ensures.crash in
-    then_steps (commit_steps c.in_ok-put.ensures.commits c.put.ensures.crash) (then_steps (commit_steps c.in_ok-grow.ensures.commits c.grow.ensures.crash) (then_steps ended failed))
-
-pub returns-in_err-drop_entry-clause-done : goal.returns-in_err-drop_entry-clause-done
-returns-in_err-drop_entry-clause-done g c =
-    let r = c.requires in
-    let store = c.args.store.now in
-    let memory = c.args.memory.now in
-    let u = c.args.disk.now in
-    let es = r.growth.extents in
-    let h = grows_in g.S.Store store memory u c.args.to c.args.growth r.session.orderly r.session.tidy r.session.usable r.there r.growth in
-    let had = c.extents_of.ensures ∙ ap extents_in r.there.there in
-    let c1 = subst (λ n. Commits g.S.Store (Create (Inflate u n) false []) store c.put.new.store) had c.in_ok-put.ensures.commits in
-    let c2 = subst (λ x. Commits g.S.Store x c.put.new.store c.grow.new.store) r.growth.is c.in_ok-grow.ensures.commits in
-    let sum = sum_is g.S.Store store memory u c.args.to c.args.growth r.session.orderly r.session.tidy r.session.usable r.there r.growth in
-    let e = c.end_image.ensures in
-    λ told ready. drop_failed h told ready c1 c2 c.args.to sum e.works e.others e.stays c.in_ok-end_image.ensures.ends _ _ (λ fine. err_not_ok _ tt c.from_residual-in_err-drop_entry.ensures.0 fine)
-    c.in_err-drop_entry.ensures.fails (λ v image l. subst (λ n. IsEitherOf (stored g.S.Store c.end_image.new.store) (Remove (Inflate u n)) v image) had (c.drop_entry.ensures.crash told v image l))
+    let h = grows_in g.S.Store a m u c.args.to c.args.growth r.session.orderly r.session.tidy r.session.usable r.there r.growth in
+    let sum = sum_is g.S.Store a m u c.args.to c.args.growth r.session.orderly r.session.tidy r.session.usable r.there r.growth in
+    let run = run_is (Inflate u) (Vhd u) m.tree.rows c.args.to (c.extents_of.ensures ∙ ap extents_in r.there.there) r.growth.is c.in_err-run_growth.ensures.cut in
+    λ told ready. done h c.args.to sum told ready _ run (λ fine. absurd (err_not_ok _ tt c.from_residual.ensures.0 fine))
 
 pub returns-clause-step : goal.returns-clause-step
-returns-clause-step g c =
-    let w = c.end_image.ensures.works.stays in
-    let ended = stays_steps w (λ told. g.met.S.Store.leaves_now c.end_image.new.store told (w.failed ∙ c.in_ok-grow.ensures.commits.usable)) in
-    then_steps (commit_steps c.in_ok-put.ensures.commits c.put.ensures.crash) (then_steps (commit_steps c.in_ok-grow.ensures.commits c.grow.ensures.crash) (then_steps ended (commit_steps c.in_ok-drop_entry.ensures.commits c.drop_entry.ensures.crash)))
+returns-clause-step g c = run_steps c.in_ok-run_growth.ensures.run
 
 pub returns-clause-session_still : goal.returns-clause-session_still
 returns-clause-session_still g c =
     let r = c.requires in
-    let store = c.args.store.now in
-    let memory = c.args.memory.now in
+    let a = c.args.store.now in
+    let m = c.args.memory.now in
     let u = c.args.disk.now in
-    let es = r.growth.extents in
-    let h = grows_in g.S.Store store memory u c.args.to c.args.growth r.session.orderly r.session.tidy r.session.usable r.there r.growth in
-    let had = c.extents_of.ensures ∙ ap extents_in r.there.there in
-    let c1 = subst (λ n. Commits g.S.Store (Create (Inflate u n) false []) store c.put.new.store) had c.in_ok-put.ensures.commits in
-    let c2 = subst (λ x. Commits g.S.Store x c.put.new.store c.grow.new.store) r.growth.is c.in_ok-grow.ensures.commits in
-    let c3 = subst (λ n. Commits g.S.Store (Remove (Inflate u n)) c.end_image.new.store c.drop_entry.new.store) had c.in_ok-drop_entry.ensures.commits in
-    let sum = sum_is g.S.Store store memory u c.args.to c.args.growth r.session.orderly r.session.tidy r.session.usable r.there r.growth in
+    let h = grows_in g.S.Store a m u c.args.to c.args.growth r.session.orderly r.session.tidy r.session.usable r.there r.growth in
+    let sum = sum_is g.S.Store a m u c.args.to c.args.growth r.session.orderly r.session.tidy r.session.usable r.there r.growth in
+    let run = run_is (Inflate u) (Vhd u) m.tree.rows c.args.to (c.extents_of.ensures ∙ ap extents_in r.there.there) r.growth.is c.in_ok-run_growth.ensures.run in
     let o = c.set_extents.ensures.others in
-    let is = known_after memory c.set_extents.new.memory u c.args.to (r.there.row.extents + length es) sum c.set_extents.ensures.rows o.0 o.1 o.2 in
-    let works = c.end_image.ensures.works in
-    let room = subst (HasRoom (g.S.Store.table store)) r.growth.is r.places in
-    record {
-      usable = c3.usable;
-      orderly = orderly_end h c1 c2 works.stays c3 c.set_extents.new.memory is;
-      tidy = tidy_end h c1 c2 works.stays c3 c.set_extents.new.memory is;
-      true_images = true_enlarged h c1 c2 works c3 c.args.to sum c.in_ok-end_image.ensures.ends c.set_extents.new.memory c.set_extents.ensures.rows r.session.true_images;
-      rows = rows_commits (can_drop h c1 c2 works.stays) c3 (rows_stays works.stays (rows_commits (can_grow h c1 room) c2 (rows_commits (can_note h r.row) c1 r.session.rows)));
-      tree_room = tree_room_sized memory c.set_extents.new.memory (Vhd u) c.args.to c.set_extents.ensures.rows c.set_extents.ensures.spare r.session.tree_room;
-      attachment_room = subst (λ (x : Attached). image_limit ≤ x.room) (sym o.1) r.session.attachment_room;
-    }
+    let is = known_after m c.set_extents.new.memory u c.args.to (r.there.row.extents + length r.growth.extents) sum c.set_extents.ensures.rows o.0 o.1 o.2 in
+    session_end h c.args.to sum run tt c.set_extents.new.memory r.session c.set_extents.ensures.rows c.set_extents.ensures.spare o.1 is
 
 pub returns-clause-shape : goal.returns-clause-shape
 returns-clause-shape g c =
     let r = c.requires in
-    let store = c.args.store.now in
-    let memory = c.args.memory.now in
+    let a = c.args.store.now in
+    let m = c.args.memory.now in
     let u = c.args.disk.now in
-    let es = r.growth.extents in
-    let h = grows_in g.S.Store store memory u c.args.to c.args.growth r.session.orderly r.session.tidy r.session.usable r.there r.growth in
-    let had = c.extents_of.ensures ∙ ap extents_in r.there.there in
-    let c1 = subst (λ n. Commits g.S.Store (Create (Inflate u n) false []) store c.put.new.store) had c.in_ok-put.ensures.commits in
-    let c2 = subst (λ x. Commits g.S.Store x c.put.new.store c.grow.new.store) r.growth.is c.in_ok-grow.ensures.commits in
-    let c3 = subst (λ n. Commits g.S.Store (Remove (Inflate u n)) c.end_image.new.store c.drop_entry.new.store) had c.in_ok-drop_entry.ensures.commits in
-    let sum = sum_is g.S.Store store memory u c.args.to c.args.growth r.session.orderly r.session.tidy r.session.usable r.there r.growth in
+    let h = grows_in g.S.Store a m u c.args.to c.args.growth r.session.orderly r.session.tidy r.session.usable r.there r.growth in
+    let sum = sum_is g.S.Store a m u c.args.to c.args.growth r.session.orderly r.session.tidy r.session.usable r.there r.growth in
+    let run = run_is (Inflate u) (Vhd u) m.tree.rows c.args.to (c.extents_of.ensures ∙ ap extents_in r.there.there) r.growth.is c.in_ok-run_growth.ensures.run in
     let o = c.set_extents.ensures.others in
-    let is = known_after memory c.set_extents.new.memory u c.args.to (r.there.row.extents + length es) sum c.set_extents.ensures.rows o.0 o.1 o.2 in
-    shape_end h c1 c2 c.end_image.ensures.works.stays c3 c.set_extents.new.memory c.args.to sum is
+    let is = known_after m c.set_extents.new.memory u c.args.to (r.there.row.extents + length r.growth.extents) sum c.set_extents.ensures.rows o.0 o.1 o.2 in
+    shape_end h c.args.to sum run tt c.set_extents.new.memory is
 
 pub returns-clause-least : goal.returns-clause-least
 returns-clause-least g c =
     let r = c.requires in
-    let store = c.args.store.now in
-    let memory = c.args.memory.now in
+    let a = c.args.store.now in
+    let m = c.args.memory.now in
     let u = c.args.disk.now in
-    let es = r.growth.extents in
-    let h = grows_in g.S.Store store memory u c.args.to c.args.growth r.session.orderly r.session.tidy r.session.usable r.there r.growth in
-    let had = c.extents_of.ensures ∙ ap extents_in r.there.there in
-    let c1 = subst (λ n. Commits g.S.Store (Create (Inflate u n) false []) store c.put.new.store) had c.in_ok-put.ensures.commits in
-    let c2 = subst (λ x. Commits g.S.Store x c.put.new.store c.grow.new.store) r.growth.is c.in_ok-grow.ensures.commits in
-    let c3 = subst (λ n. Commits g.S.Store (Remove (Inflate u n)) c.end_image.new.store c.drop_entry.new.store) had c.in_ok-drop_entry.ensures.commits in
-    enlarged_end h c1 c2 c.end_image.ensures.works.stays c3 c.args.to (least_is g.S.Store store memory u c.args.to c.args.growth r.session.orderly r.session.tidy r.session.usable r.there r.growth)
+    let h = grows_in g.S.Store a m u c.args.to c.args.growth r.session.orderly r.session.tidy r.session.usable r.there r.growth in
+    let sum = sum_is g.S.Store a m u c.args.to c.args.growth r.session.orderly r.session.tidy r.session.usable r.there r.growth in
+    let run = run_is (Inflate u) (Vhd u) m.tree.rows c.args.to (c.extents_of.ensures ∙ ap extents_in r.there.there) r.growth.is c.in_ok-run_growth.ensures.run in
+    enlarged_end h c.args.to sum run tt c.set_extents.new.memory (least_is g.S.Store a m u c.args.to c.args.growth r.session.orderly r.session.tidy r.session.usable r.there r.growth)
 
 pub returns-clause-done : goal.returns-clause-done
 returns-clause-done g c =
     let r = c.requires in
-    let store = c.args.store.now in
-    let memory = c.args.memory.now in
+    let a = c.args.store.now in
+    let m = c.args.memory.now in
     let u = c.args.disk.now in
-    let es = r.growth.extents in
-    let h = grows_in g.S.Store store memory u c.args.to c.args.growth r.session.orderly r.session.tidy r.session.usable r.there r.growth in
-    let had = c.extents_of.ensures ∙ ap extents_in r.there.there in
-    let c1 = subst (λ n. Commits g.S.Store (Create (Inflate u n) false []) store c.put.new.store) had c.in_ok-put.ensures.commits in
-    let c2 = subst (λ x. Commits g.S.Store x c.put.new.store c.grow.new.store) r.growth.is c.in_ok-grow.ensures.commits in
-    let c3 = subst (λ n. Commits g.S.Store (Remove (Inflate u n)) c.end_image.new.store c.drop_entry.new.store) had c.in_ok-drop_entry.ensures.commits in
-    let sum = sum_is g.S.Store store memory u c.args.to c.args.growth r.session.orderly r.session.tidy r.session.usable r.there r.growth in
+    let h = grows_in g.S.Store a m u c.args.to c.args.growth r.session.orderly r.session.tidy r.session.usable r.there r.growth in
+    let sum = sum_is g.S.Store a m u c.args.to c.args.growth r.session.orderly r.session.tidy r.session.usable r.there r.growth in
+    let run = run_is (Inflate u) (Vhd u) m.tree.rows c.args.to (c.extents_of.ensures ∙ ap extents_in r.there.there) r.growth.is c.in_ok-run_growth.ensures.run in
     let o = c.set_extents.ensures.others in
-    let is = known_after memory c.set_extents.new.memory u c.args.to (r.there.row.extents + length es) sum c.set_extents.ensures.rows o.0 o.1 o.2 in
-    let e = c.end_image.ensures in
-    λ told ready. inflated_done h told ready c1 c2 c.args.to sum e.works e.others e.stays c.in_ok-end_image.ensures.ends _ _ c3
-    (λ v image l. subst (λ n. IsEitherOf (stored g.S.Store c.end_image.new.store) (Remove (Inflate u n)) v image) had (c.drop_entry.ensures.crash told v image l)) is
+    let is = known_after m c.set_extents.new.memory u c.args.to (r.there.row.extents + length r.growth.extents) sum c.set_extents.ensures.rows o.0 o.1 o.2 in
+    λ told ready. done h c.args.to sum told ready _ run (λ fine. (tt, is))
