@@ -1,3 +1,4 @@
 pub mod EntryLaws
 pub mod EndingLaws
 pub mod AbandonedLaws
+pub mod TableLaws

@@ -35,7 +35,13 @@ pub fn uuid_of(name: &Name) -> Uuid
 {
     match *name {
         Name::Vhd(uuid) | Name::Raw(uuid) => uuid,
-        _ => unreachable!(),
+        Name::Mgt
+        | Name::Old(_)
+        | Name::Clone { .. }
+        | Name::Inflate { .. }
+        | Name::Coalesce { .. }
+        | Name::Relink { .. }
+        | Name::Leaf { .. } => unreachable!(),
     }
 }
 

@@ -3,17 +3,17 @@ use Rattle.std.proofs.Common.{◌≡◌, suc, ℕ, ◌+◌, ◌<◌, ◌≤◌, 
 use Rattle.std.specs.List.{AllByRecursion}
 use Rattle.std.specs.List.Sorted.{IsStrictlySortedBy}
 use Rattle.std.specs.declared.cmp.Ordering.TheVariants.{Less}
-use Rattle.std.proofs.lemmas.Bool.{true≢false}
 use Rattle.sm_base.specs.Kinds.{is_entry, is_image}
 use Rattle.sm_base.specs.Names.{name_cmp}
 use Rattle.sm_base.specs.declared.names.Name.{Name}
-use Rattle.sm_base.specs.declared.names.Name.TheVariants.{Mgt, Vhd, Raw, Old}
+use Rattle.sm_base.specs.declared.names.Name.TheVariants.{Mgt}
 use Rattle.sm_base.specs.declared.operations.Op.TheVariants as op
 use Rattle.vg_meta.specs.Roomy.{RoomyTable, table_alone}
 use Rattle.vg_meta.specs.Tables.{Row, names_of}
 use Rattle.vg_meta.proofs.NameLaws.{less_other}
 use Rattle.vg_meta.proofs.RowLaws.{IsRising}
 use Rattle.vg_volumes.specs.Sites.{Site}
+use Rattle.sm_ready.proofs.FitLaws.{the_records}
 use Rattle.sm_ready.specs.Known.{Known, entry_of}
 use Rattle.sm_ready.specs.Orderly.{IsOrderly}
 use Rattle.sm_ready.specs.Sessions.{HasRows}
@@ -23,13 +23,6 @@ image_rows rs = filter (λ r. is_image r.name) rs
 
 abbrev entries : List Row → List Name
 entries rs = filter is_entry (names_of rs)
-
-the_records : (n : Name) → is_image n ≡ false → is_entry n ≡ false → n ≡ Mgt
-the_records Mgt e f = refl
-the_records (Vhd u) e f = absurd (true≢false e)
-the_records (Raw u) e f = absurd (true≢false e)
-the_records (Old u) e f = absurd (true≢false e)
-the_records _ e f = absurd (true≢false f)
 
 -- beside images and entries there is the volume of records alone
 one_more : (most : ℕ) (r : Row) (rs : List Row) → (r.name ≡ Mgt → suc (length rs) ≤ length (image_rows rs) + length (entries rs) + most) → length rs ≤ length (image_rows rs) + length (entries rs) + most

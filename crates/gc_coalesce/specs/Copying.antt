@@ -32,7 +32,7 @@ abbrev pub IsParentMasked : Content → Content → Name → Name → Type 0
 IsParentMasked was now child parent = (v p q : Image) → image_of was child ≡ Some v → image_of was parent ≡ Some p → image_of now parent ≡ Some q
     → (k : ℕ) → (q.own k ≡ p.own k) ⊎ ((bytes : List ℕ) × (v.own k ≡ Some bytes) × (q.own k ≡ Some bytes))
 
--- so of the parent of a copy that runs
+-- of each sector the parent of a copy that runs holds what it held, or what the child holds of it
 abbrev pub IsMasked : Op → Content → Content → Type 0
 IsMasked (op.Copy child parent cursor) was now = IsParentMasked was now child parent
 IsMasked (op.Leaf leaf parent cursor) was now = IsParentMasked was now leaf parent

@@ -18,7 +18,7 @@ IsReadBeside x n image = (p : ℕ) → p < area_size x.site → IsElsewhere x.si
 abbrev pub LeavesSynced : {S : Type 0} → Ghosts S → Name → S → S → Type 0
 LeavesSynced g n old new = Leaves g new (λ t image. g.leaves old t image ⊎ IsReadBeside (stored g old) n image)
 
--- so of a copy, whose parent alone is written
+-- where a copy runs, whatever a stop leaves was left before, or holds beside the copy's parent what a read gave: the parent alone is written
 abbrev pub CopySynced : {S : Type 0} → Ghosts S → Op → S → S → Type 0
 CopySynced g (op.Copy child parent cursor) old new = LeavesSynced g parent old new
 CopySynced g (op.Leaf leaf parent cursor) old new = LeavesSynced g parent old new

@@ -19,7 +19,8 @@ use Rattle.vhd_chain.specs.declared.rows.TreeRow.{TreeRow}
 abbrev pub front_changes : List ℕ → List ℕ → List Change
 front_changes leaf parent = Rename (Vhd leaf) (Old leaf) ∷ Rename (Vhd parent) (Vhd leaf) ∷ Mark (Vhd leaf) Hidden false ∷ Remove (Old leaf) ∷ []
 
--- and then the entry
+-- the changes that end the folding of a leaf: the leaf becomes an old leaf; the parent gets the leaf's name, and is not hidden; the old
+-- leaf goes, and then the entry
 abbrev pub swap_changes : List ℕ → List ℕ → List Change
 swap_changes leaf parent = Rename (Vhd leaf) (Old leaf) ∷ Rename (Vhd parent) (Vhd leaf) ∷ Mark (Vhd leaf) Hidden false
     ∷ Remove (Old leaf) ∷ Remove (Leaf leaf parent) ∷ []

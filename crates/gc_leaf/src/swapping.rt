@@ -32,7 +32,14 @@ fn vhd_uuid(name: &Name) -> Uuid
 {
     match *name {
         Name::Vhd(uuid) => uuid,
-        _ => unreachable!(),
+        Name::Mgt
+        | Name::Raw(_)
+        | Name::Old(_)
+        | Name::Clone { .. }
+        | Name::Inflate { .. }
+        | Name::Coalesce { .. }
+        | Name::Relink { .. }
+        | Name::Leaf { .. } => unreachable!(),
     }
 }
 

@@ -23,7 +23,17 @@ use vhd_chain::TreeRow;
 pub(crate) fn is_vhd(row: &TreeRow) -> bool
     ensures { result ≡ is_vhd_name (row_name row.now) }
 {
-    matches!(row.image.name(), Name::Vhd(_))
+    match row.image.name() {
+        Name::Vhd(_) => true,
+        Name::Mgt
+        | Name::Raw(_)
+        | Name::Old(_)
+        | Name::Clone { .. }
+        | Name::Inflate { .. }
+        | Name::Coalesce { .. }
+        | Name::Relink { .. }
+        | Name::Leaf { .. } => false,
+    }
 }
 
 /// How the disk that has an image's UUID is attached.
@@ -33,7 +43,13 @@ fn mode(memory: &Memory, row: &TreeRow) -> Option<Mode>
     match row.image.name() {
         Name::Vhd(disk) => memory.attached.mode(&disk),
         Name::Raw(disk) => memory.attached.mode(&disk),
-        _ => None,
+        Name::Mgt
+        | Name::Old(_)
+        | Name::Clone { .. }
+        | Name::Inflate { .. }
+        | Name::Coalesce { .. }
+        | Name::Relink { .. }
+        | Name::Leaf { .. } => None,
     }
 }
 

@@ -19,6 +19,7 @@ pub record Asked : Type 0 where
   pub entries : ℕ
   pub repository : List ℕ
 
+-- the sizes and the UUID that a request asks for
 abbrev pub asked : Request → Asked
 asked r = record { extent = r.extent; block = r.block; entries = r.entries; repository = r.repository }
 
@@ -107,6 +108,7 @@ pub data IsCutLine (s : Sides) (a : Asked) (line : List ℕ) : Type 0 where
   of_refusal : s.Unchanged → IsRefusalLine s a line → IsCutLine s a line
   of_success : (g : Geometry) → HasFormatted s a g → IsFormattedLine s g line → IsCutLine s a line
 
+-- what a format did to the device and to the sink, by its status
 abbrev pub FormatDid : Sides → Asked → Status → Type 0
 FormatDid s a Done = (g : Geometry) × HasFormatted s a g × ((line : List ℕ) × IsFormattedLine s g line × Adds s.had line s.got)
 FormatDid s a Refused = s.Unchanged × ((line : List ℕ) × IsRefusalLine s a line × Adds s.had line s.got)

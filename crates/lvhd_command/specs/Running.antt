@@ -79,7 +79,7 @@ EndsAs (Err f) size new end status = status ≡ status_of (Err f)
 abbrev pub HasLabel : ℕ → Held → Held → Type 0
 HasLabel size old new = (image : ℕ → List ℕ) → Allows size new image → plate_of size image ≡ plate_of size (reads old)
 
--- or it is an image that the device allowed before
+-- each image that the device allows now is one that it allowed before, or the label stands on it that a read gave at the entry
 abbrev pub MayHaveLabel : ℕ → Held → Held → Type 0
 MayHaveLabel size old new = (image : ℕ → List ℕ) → Allows size new image → Allows size old image ⊎ (plate_of size image ≡ plate_of size (reads old))
 

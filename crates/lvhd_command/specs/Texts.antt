@@ -9,6 +9,7 @@ use Rattle.sm_base.specs.declared.faults.Place.{Place}
 use Rattle.sm_base.specs.declared.faults.Place.TheVariants as at
 use Rattle.sm_machine.specs.Replies.{by_spaces}
 
+-- a line: its words with one space between two, and a newline
 unfoldable pub line_of : List (List ℕ) → List ℕ
 line_of words = by_spaces words ++ 10 ∷ []
 

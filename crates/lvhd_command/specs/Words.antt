@@ -22,6 +22,7 @@ trial_of number = do
   n ← number_of number
   Some (Trial n)
 
+-- what the words of the command line ask for, if anything
 unfoldable pub form_of : List (List ℕ) → Option Form
 form_of (word ∷ []) = if bytes_eq word (codes "run") then Some Run else None
 form_of (word ∷ number ∷ []) = if bytes_eq word (codes "trial") then trial_of number else None

@@ -4,6 +4,7 @@ use Rattle.std.proofs.Math.Logic.{∥∥₁_elim}
 use Rattle.std.proofs.Props.{props}
 use Rattle.std.proofs.lemmas.Bool.{true≢false}
 use Rattle.common_laws.specs.Lists.{In, insert_by, numbers}
+use Rattle.sm_base.specs.Limits.{extent_limit}
 use Rattle.sm_base.specs.Kinds.{is_entry}
 use Rattle.sm_base.specs.Names.{IsName, name_cmp, spelling, uuid_text}
 use Rattle.std.specs.List.Sorted.{IsStrictlySortedBy}
@@ -38,7 +39,7 @@ use Rattle.ready_examples.proofs.TableSteps.{each, below_by, distinct_by, first_
 
 -- ---- too large a group
 
-pub wide_only : 65537 ≤ 65536 → IsOrderly (site_of 65537) plain_table plain_known
+pub wide_only : 65537 ≤ extent_limit → IsOrderly (site_of 65537) plain_table plain_known
 wide_only h = orderly_with 65537 first_slot (codes "b") (lit≤ tt) refl h first_stands
 
 -- ---- a place too few

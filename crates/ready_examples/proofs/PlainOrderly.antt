@@ -3,6 +3,7 @@ use Rattle.std.proofs.Common.{◌≡◌, inl, inr, ℕ, ◌*◌, ◌<◌, ◌≤
 use Rattle.std.proofs.lemmas.Option.{none-some}
 use Rattle.std.specs.List.{AllByRecursion}
 use Rattle.std.specs.List.Sorted.{IsStrictlySortedBy}
+use Rattle.sm_base.specs.Limits.{extent_limit}
 use Rattle.sm_base.specs.Kinds.{is_image}
 use Rattle.sm_base.specs.Names.{IsName, name_cmp, spelling, uuid_text, base_uuid}
 use Rattle.sm_base.specs.Numbers.{thick, thin, first as first_sector, div_up}
@@ -185,7 +186,7 @@ pub first_stands : AreStanding first_slot
 first_stands = stand_right first_slot refl (front_within (Some 0 ∷ []) 63 (lit≤ tt)) first_room
 
 -- orderly where the group is small and the images stand
-pub orderly_with : (count : ℕ) (slots : List (Option ℕ)) (label : List ℕ) → 64 ≤ count → length slots ≡ 64 → count ≤ 65536 → AreStanding slots → IsOrderly (site_of count) plain_table (known_with slots label)
+pub orderly_with : (count : ℕ) (slots : List (Option ℕ)) (label : List ℕ) → 64 ≤ count → length slots ≡ 64 → count ≤ extent_limit → AreStanding slots → IsOrderly (site_of count) plain_table (known_with slots label)
 unfolding record_extents div_up refs row_of name_eq numbers shape_in
 orderly_with count slots label many long most stands = record {
   table = plain_is_table count many;

@@ -1,6 +1,7 @@
 //! Memory that fails one field of the invariant of table and memory, or of the one between two commands.
 
 ghost use Rattle.std.specs.Prelude.{◌≡◌, ◌≤◌, ◌*◌, length};
+ghost use Rattle.sm_base.specs.Limits.{extent_limit};
 ghost use Rattle.sm_base.specs.Kinds.{is_entry};
 ghost use Rattle.sm_base.specs.declared.names.Name.{Name};
 ghost use Rattle.common_laws.specs.Lists.{In};
@@ -22,7 +23,7 @@ ghost use Rattle.ready_examples.specs.WorkedRows.{site, site_of, sizes};
 /// The group has an extent more than a group may have.
 pub fn example_wide()
     ensures fails { ¬ IsOrderly (site_of 65537) plain_table plain_known }
-    ensures only { 65537 ≤ 65536 → IsOrderly (site_of 65537) plain_table plain_known }
+    ensures only { 65537 ≤ extent_limit → IsOrderly (site_of 65537) plain_table plain_known }
 {}
 
 /// Memory has a place too few.

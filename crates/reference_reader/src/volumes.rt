@@ -112,7 +112,11 @@ fn suits(volume: &Volume) -> bool
     match volume.name {
         Name::Mgt => no_marks,
         Name::Vhd(_) | Name::Raw(_) | Name::Old(_) => !no_extents,
-        _ => no_marks && no_extents,
+        Name::Clone { .. }
+        | Name::Inflate { .. }
+        | Name::Coalesce { .. }
+        | Name::Relink { .. }
+        | Name::Leaf { .. } => no_marks && no_extents,
     }
 }
 

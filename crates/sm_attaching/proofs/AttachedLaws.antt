@@ -51,8 +51,9 @@ use Rattle.sm_ready.proofs.OwnLaws.{IsOwn, next_shape, own_image, own_name, own_
 use Rattle.sm_ready.proofs.RefusalLaws.{few_rows}
 use Rattle.sm_ready.proofs.UsedLaws.{orderly_used, with_attached}
 use Rattle.sm_attaching.specs.Attaching.{AreImages}
-use Rattle.sm_attaching.proofs.ChainLaws.{differ_by_place, rest_differs, rest_there}
-use Rattle.sm_attaching.proofs.UseLaws.{In_has, attachment, has_In, has_alike, mode_alike, no_more, others_alike}
+use Rattle.sm_ready.proofs.ChainNames.{rest_differs, rest_there}
+use Rattle.sm_attaching.proofs.ChainLaws.{differ_by_place}
+use Rattle.sm_ready.proofs.UseLaws.{In_has, attachment, has_In, has_alike, mode_alike, no_more, others_alike}
 
 pub images_all : (s : Site) (t : VolumeTable) (m : Known) → IsOrderly s t m → AreImages m.rows
 images_all s t m o r i = named_row s t m r o i

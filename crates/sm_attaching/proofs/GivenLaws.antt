@@ -1,25 +1,17 @@
--- What was planned for an attachment holds behind the folding of a leaf that is given up, and the table is that without its entry.
-use Rattle.std.proofs.Common.{◌≡◌, ℕ, ◌+◌, ◌-◌, ◌<◌, Bool, true, false, List, [], ◌∷◌, Option, Some, None, refl, sym, ap, ap₂, ◌∙◌, subst, subst₂, arith, cond}
-use Rattle.std.specs.Str.{bytes_eq}
-use Rattle.sm_base.specs.declared.names.Name.{Name}
-use Rattle.sm_base.specs.declared.names.Name.TheVariants.{Leaf, Vhd}
+-- What was planned for an attachment holds behind the folding of a leaf that is given up.
+use Rattle.std.proofs.Common.{◌≡◌, ℕ, ◌+◌, ◌-◌, ◌<◌, Bool, true, false, List, Option, Some, None, refl, sym, ap, ap₂, ◌∙◌, subst, subst₂, arith}
+use Rattle.sm_base.specs.declared.names.Name.TheVariants.{Vhd}
 use Rattle.sm_base.specs.declared.operations.Mode.{Mode}
 use Rattle.sm_base.specs.declared.operations.Mode.TheVariants.{Ro, Rw}
-use Rattle.sm_base.specs.declared.operations.Op.{Op}
-use Rattle.sm_base.specs.declared.operations.Op.TheVariants as op
-use Rattle.vg_meta.specs.Changes.{applied}
 use Rattle.vg_meta.specs.Tables.{VolumeTable}
 use Rattle.vg_meta.specs.declared.changes.Change.{Change}
-use Rattle.vg_meta.specs.declared.changes.Change.TheVariants.{Remove}
-use Rattle.vg_volumes.specs.Stored.{Commits}
 use Rattle.vg_volumes.specs.declared.stores.Store.{Ghosts}
 use Rattle.vhd_chain.specs.Trees.{Tree, tree_row}
 use Rattle.sm_machine.specs.Commits.{folds}
 use Rattle.sm_machine.specs.Refusals.{need}
-use Rattle.sm_machine.specs.Shapes.{Shape, image_uuid}
+use Rattle.sm_machine.specs.Shapes.{Shape}
 use Rattle.sm_machine.specs.declared.commands.Command.TheVariants.{Attach}
 use Rattle.sm_ready.specs.Does.{store_shape}
-use Rattle.sm_ready.specs.Known.{entry_of}
 use Rattle.sm_ready.specs.declared.memory.Memory.{Memory}
 use Rattle.sm_ready.proofs.ChainLaws.{tab}
 use Rattle.gc_abandon.specs.Abandoning.{abandoned, abandoned_where, unfolded_table}
@@ -27,26 +19,6 @@ use Rattle.gc_abandon.proofs.AbandonedLaws.{GaveUp}
 use Rattle.sm_space.specs.Inflating.{IsEnlarged, IsGrowth, extents_in}
 use Rattle.sm_space.proofs.KeptRoom.{KeepsRoom, growth_kept, places_kept}
 use Rattle.sm_attaching.specs.Attaching.{HasGrowth, IsPlanned}
-
--- ---- the table
-
--- the table behind it, by the operation
-table_by : {S : Type 0} (g : Ghosts S) (a b : S) (u : List ℕ) (o : Op) → (folds o u ≡ false → b ≡ a) → (folds o u ≡ true → (e : Name) → entry_of o ≡ e ∷ [] → Commits g (Remove e) a b)
-    → tab g b ≡ unfolded_table o u (tab g a)
-unfolding folds
-table_by g a b u (op.Leaf l p cursor) none gone = by (bytes_eq (image_uuid l) u) none gone
-  where
-    by : (f : Bool) → (f ≡ false → b ≡ a) → (f ≡ true → (e : Name) → Leaf (image_uuid l) (image_uuid p) ∷ [] ≡ e ∷ [] → Commits g (Remove e) a b)
-        → tab g b ≡ cond f (applied (tab g a) (Remove (Leaf (image_uuid l) (image_uuid p)))) (tab g a)
-    by false none gone = ap (tab g) (none refl)
-    by true none gone = (gone refl (Leaf (image_uuid l) (image_uuid p)) refl).table
-table_by g a b u op.Idle none gone = ap (tab g) (none refl)
-table_by g a b u (op.Copy v p cursor) none gone = ap (tab g) (none refl)
-table_by g a b u (op.Relink v p) none gone = ap (tab g) (none refl)
-
-pub table_given : {S : Type 0} (g : Ghosts S) (a b : S) (m : Memory) (u : List ℕ) → (folds m.operation u ≡ false → b ≡ a)
-    → (folds m.operation u ≡ true → (e : Name) → entry_of m.operation ≡ e ∷ [] → Commits g (Remove e) a b) → tab g b ≡ unfolded_table m.operation u (tab g a)
-table_given g a b m u none gone = table_by g a b u m.operation none gone
 
 -- ---- the extents that are needed
 

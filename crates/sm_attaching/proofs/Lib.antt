@@ -1,5 +1,4 @@
 pub mod ChainLaws
-pub mod UseLaws
 pub mod AttachedLaws
 pub mod GrowLaws
 pub mod LackLaws

@@ -9,8 +9,8 @@ ghost use Rattle.sm_ready.specs.Framing.{IsBetweenSteps};
 ghost use Rattle.sm_ready.specs.Sessions.{IsReadyStore};
 ghost use Rattle.sm_attaching.specs.Attaching.{StaysBeside};
 
-use crate::chains::{CHAIN_LIMIT, chain_into};
-use sm_base::{Failed, Mode, Name};
+use crate::chains::chain_into;
+use sm_base::{CHAIN_LIMIT, Failed, Mode, Name};
 use sm_ready::{Memory, image_name};
 use uuid::Uuid;
 use vg_volumes::Store;
@@ -38,7 +38,7 @@ pub(crate) fn note<S: Store>(
         → StoreDoes S.Store (command.Attach disk.now mode) store.old memory.old store.new memory.new (result ≡ Ok tt) }
 {
     store.sync()?;
-    let mut names = [Name::Mgt; CHAIN_LIMIT];
+    let mut names = [Name::Mgt; CHAIN_LIMIT as usize];
     let leaf = image_name(&memory.tree, disk);
     let count = chain_into(&memory.tree, &leaf, &mut names);
     memory.attached.enter(*disk, mode, &names[..count]);
@@ -61,7 +61,7 @@ pub fn detach<S: Store>(store: &mut S, memory: &mut Memory, disk: &Uuid) -> Resu
         → StoreDoes S.Store (command.Detach disk.now) store.old memory.old store.new memory.new (result ≡ Ok tt) }
 {
     store.sync()?;
-    let mut names = [Name::Mgt; CHAIN_LIMIT];
+    let mut names = [Name::Mgt; CHAIN_LIMIT as usize];
     let leaf = image_name(&memory.tree, disk);
     let count = chain_into(&memory.tree, &leaf, &mut names);
     memory.attached.leave(disk, &names[..count]);

@@ -5,11 +5,8 @@ ghost use Rattle.sm_machine.specs.Shapes.{chain, chain_limit};
 ghost use Rattle.sm_ready.specs.Known.{machine_row};
 ghost use Rattle.sm_attaching.specs.Attaching.{AreImages};
 
-use sm_base::Name;
+use sm_base::{CHAIN_LIMIT, Name};
 use vhd_chain::Tree;
-
-/// How many images a chain has at most.
-pub(crate) const CHAIN_LIMIT: usize = 30;
 
 /// Puts the names of a chain from this one up into `to`, which has room for 30, and answers how many there are.
 pub(crate) fn chain_into(tree: &Tree, leaf: &Name, to: &mut [Name]) -> usize
@@ -20,7 +17,7 @@ pub(crate) fn chain_into(tree: &Tree, leaf: &Name, to: &mut [Name]) -> usize
 {
     let mut next = Some(*leaf);
     let mut count = 0;
-    while count < CHAIN_LIMIT {
+    while count < CHAIN_LIMIT as usize {
         let Some(name) = next else {
             break;
         };

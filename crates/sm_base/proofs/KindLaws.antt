@@ -1,5 +1,5 @@
 -- The three cases of a name: the records, an image, or a journal entry.
-use Rattle.std.proofs.Common.{◌≡◌, ◌⊎◌, inl, inr, true, false, refl}
+use Rattle.std.proofs.Common.{◌≡◌, ◌⊎◌, inl, inr, ⊎_elim, true, false, refl}
 use Rattle.sm_base.specs.declared.names.Name.{Name}
 use Rattle.sm_base.specs.declared.names.Name.TheVariants.{Mgt, Vhd, Raw, Old}
 use Rattle.sm_base.specs.Kinds.{is_image, is_entry}
@@ -11,6 +11,10 @@ kind_cases (Vhd u) = inr (inl refl)
 kind_cases (Raw u) = inr (inl refl)
 kind_cases (Old u) = inr (inl refl)
 kind_cases _ = inr (inr refl)
+
+-- what follows for the records, for each image and for each entry follows for each name
+pub by_kind : {P : Type 0} (n : Name) → (n ≡ Mgt → P) → (is_image n ≡ true → P) → (is_entry n ≡ true → P) → P
+by_kind n records image entry = ⊎_elim records (⊎_elim image entry) (kind_cases n)
 
 -- an image is no entry
 pub image-no_entry : (n : Name) → is_image n ≡ true → is_entry n ≡ false

@@ -1,7 +1,7 @@
 -- What a volume is, by its name: the records of the disks, an image, or a journal entry.
 use Rattle.std.specs.Prelude.{Bool, true, false}
 use Rattle.sm_base.specs.declared.names.Name.{Name}
-use Rattle.sm_base.specs.declared.names.Name.TheVariants.{Mgt, Vhd, Raw, Old}
+use Rattle.sm_base.specs.declared.names.Name.TheVariants.{Mgt, Vhd, Raw, Old, Clone, Inflate, Coalesce, Relink, Leaf}
 use Rattle.sm_base.specs.declared.kinds.Kind.{Kind}
 use Rattle.sm_base.specs.declared.kinds.Kind.TheVariants.{Records, VhdImage, RawImage, OldLeaf, Entry}
 
@@ -11,22 +11,32 @@ kind Mgt = Records
 kind (Vhd u) = VhdImage
 kind (Raw u) = RawImage
 kind (Old u) = OldLeaf
-kind _ = Entry
+kind (Clone disk base twin) = Entry
+kind (Inflate image extents) = Entry
+kind (Coalesce child parent) = Entry
+kind (Relink child parent) = Entry
+kind (Leaf leaf parent) = Entry
 
 -- an image holds the data of a disk
 abbrev pub holds_data : Kind → Bool
 holds_data VhdImage = true
 holds_data RawImage = true
 holds_data OldLeaf = true
-holds_data _ = false
+holds_data Records = false
+holds_data Entry = false
 
+-- whether the volume of a name is an image
 abbrev pub is_image : Name → Bool
 is_image n = holds_data (kind n)
 
--- a journal entry says all in its name
+-- a journal entry holds nothing: it says all in its name
 abbrev pub is_kind_of_entry : Kind → Bool
 is_kind_of_entry Entry = true
-is_kind_of_entry _ = false
+is_kind_of_entry Records = false
+is_kind_of_entry VhdImage = false
+is_kind_of_entry RawImage = false
+is_kind_of_entry OldLeaf = false
 
+-- whether the volume of a name is a journal entry
 abbrev pub is_entry : Name → Bool
 is_entry n = is_kind_of_entry (kind n)

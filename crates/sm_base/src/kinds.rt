@@ -42,13 +42,19 @@ impl Name {
     pub fn is_image(&self) -> bool
         ensures image { result ≡ is_image self.now }
     {
-        matches!(self.kind(), Kind::VhdImage | Kind::RawImage | Kind::OldLeaf)
+        match self.kind() {
+            Kind::VhdImage | Kind::RawImage | Kind::OldLeaf => true,
+            Kind::Records | Kind::Entry => false,
+        }
     }
 
     /// Whether a volume of this name is a journal entry.
     pub fn is_entry(&self) -> bool
         ensures entry { result ≡ is_entry self.now }
     {
-        matches!(self.kind(), Kind::Entry)
+        match self.kind() {
+            Kind::Entry => true,
+            Kind::Records | Kind::VhdImage | Kind::RawImage | Kind::OldLeaf => false,
+        }
     }
 }

@@ -10,10 +10,11 @@
 //! of the definitions; a label is made exactly from a label's text.
 //!
 //! The definitions are in `specs/`: `Names` (the spelling of each name, their order, and the UUIDs of base
-//! images), `Kinds` (what a volume is, by its name), `Numbers` (the sectors and extents of an image), `Labels`, `Refusals`, and two that only this
-//! crate needs, `LabelBytes` and `Texts`. What crates above cite is in `proofs/`: `NameLemmas` (length and
-//! bytes of a spelling), `ReadLemmas` (a spelling is of one name), `OrderLemmas`, `BaseLemmas`,
-//! `NumberLemmas`, and `TextLemmas` (a UUID's text).
+//! images), `Kinds` (what a volume is, by its name), `Limits`, `Numbers` (the sectors and extents of an
+//! image), `Labels`, `Refusals`, and two that only this crate needs, `LabelBytes` and `Texts`. What crates
+//! above cite is in `proofs/`: `KindLaws` (a name is that of the records, of an image or of an entry),
+//! `NameLemmas` (length and bytes of a spelling), `ReadLemmas` (a spelling is of one name), `OrderLemmas`,
+//! `BaseLemmas`, `NumberLemmas`, and `TextLemmas` (a UUID's text).
 #![tactic(auto)]
 
 mod faults;
@@ -30,7 +31,8 @@ pub use faults::{CallFault, Failed, NoMemory, OpenFault, Place};
 pub use kinds::Kind;
 pub use labels::Label;
 pub use limits::{
-    EXTENT_LIMIT, IMAGE_LIMIT, LAST_SEQUENCE, RECORD_LIMIT, SECTOR, SPENT_SEQUENCE, TEXT_LIMIT,
+    CHAIN_LIMIT, EXTENT_LIMIT, IMAGE_LIMIT, LAST_SEQUENCE, RECORD_LIMIT, SECTOR, SPENT_SEQUENCE,
+    TEXT_LIMIT,
 };
 pub use names::{Name, base_uuid, is_base};
 pub use operations::{Mode, Op, Plan};

@@ -6,6 +6,9 @@ pub const SECTOR: u64 = 512;
 /// The most images.
 pub const IMAGE_LIMIT: usize = 500;
 
+/// The most images of a chain.
+pub const CHAIN_LIMIT: u32 = 30;
+
 /// The places of disks' records, one sector each.
 pub const RECORD_LIMIT: u32 = 512;
 

@@ -4,6 +4,7 @@ use Rattle.std.specs.List.{find}
 use Rattle.std.specs.Prelude.{Result, Err, IfErr, IfNone, IfSome}
 use Rattle.std.proofs.lemmas.Bool.{cases_lt, ltb-false, eqb-true}
 use Rattle.std.proofs.lemmas.Option.{slice_get-get_or, slice_get_within}
+use Rattle.sm_base.specs.Limits.{extent_limit}
 use Rattle.sm_base.specs.declared.faults.OpenFault.{OpenFault}
 use Rattle.sm_base.specs.declared.faults.OpenFault.TheVariants as fault
 use Rattle.sm_base.specs.declared.faults.Place.{Place}
@@ -114,7 +115,7 @@ records_long : (x : Outline) (o : Option Row) → not (has_records x o) ≡ fals
 records_long x None h = absurd (let e = h in cc)
 records_long x (Some r) h = eqb-true _ _ (not_false _ h)
 
-pub checked_from : (s : Site) (t : VolumeTable) → IsTable s.count t → s.count ≤ 65536 → TablesSay s t None → IsOpenable s t
+pub checked_from : (s : Site) (t : VolumeTable) → IsTable s.count t → s.count ≤ extent_limit → TablesSay s t None → IsOpenable s t
 unfolding record_volume_fault too_many_fault misnamed_fault second_entry_fault lost_entry_fault old_leaf_fault
 checked_from s t table extents none =
     let x : Outline = outline (content_in s t (λ p. [])) in

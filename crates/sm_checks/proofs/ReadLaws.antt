@@ -43,12 +43,13 @@ use Rattle.vhd_image.specs.Bodies.{IfVhd, volume_name}
 use Rattle.vhd_image.specs.Opened.{ReadsAsImage}
 use Rattle.vhd_image.specs.declared.images.Body.{Body}
 use Rattle.vhd_image.specs.declared.images.Body.TheVariants as body
+use Rattle.sm_ready.proofs.EntryKinds.{image_not_making}
 use Rattle.sm_ready.proofs.LoadLaws.{at_item, extents_few}
 use Rattle.sm_ready.proofs.RowLaws.{All-In, found_in}
 use Rattle.sm_checks.specs.Loaded.{FailsAt, FailsToRead, IsNoneRead, IsRawRead, IsReadAs, IsRow, as_read, shortened, stored_read}
 use Rattle.sm_checks.specs.Openable.{IsOpenable, IsOpenableStore}
 use Rattle.sm_checks.proofs.EntryLaws.{staged_open}
-use Rattle.sm_checks.proofs.TableLaws.{image_not_making, read_within, short_row}
+use Rattle.sm_checks.proofs.TableLaws.{read_within, short_row}
 
 -- ---- a raw image
 

@@ -31,23 +31,13 @@ use Rattle.sm_base.specs.Kinds.{is_image}
 use Rattle.sm_base.proofs.NumberLemmas.{le-div_up}
 use Rattle.vg_layout.specs.Places.{record_extents}
 use Rattle.std.proofs.lemmas.Option.{none-some, same_Some}
+use Rattle.sm_ready.proofs.EntryKinds.{image_not_making}
 use Rattle.sm_ready.proofs.RowLaws.{found_in}
 use Rattle.sm_standing.proofs.PlainDisks.{all-In}
 use Rattle.sm_checks.specs.Loaded.{as_read, read_volumes, shortened, shortened_by}
 use Rattle.sm_checks.proofs.EntryLaws.{IsStaged, changes_some, enlarged_found, head_alone, undone_applied}
 
 -- an image is no entry
-pub image_not_making : (n : Name) → is_image n ≡ true → is_making n ≡ false
-image_not_making (Vhd u) image = refl
-image_not_making (Raw u) image = refl
-image_not_making (Old u) image = refl
-image_not_making Mgt image = absurd (true≢false (sym image))
-image_not_making (Clone d b w) image = absurd (true≢false (sym image))
-image_not_making (Inflate u e) image = absurd (true≢false (sym image))
-image_not_making (Coalesce v p) image = absurd (true≢false (sym image))
-image_not_making (Relink v p) image = absurd (true≢false (sym image))
-image_not_making (Leaf l p) image = absurd (true≢false (sym image))
-
 -- ---- a volume as its image is read
 
 -- an entry speaks of the image of a name by it

@@ -13,7 +13,7 @@ use Rattle.vg_meta.specs.Roomy.{RoomyRow, RoomyTable, table_alone}
 use Rattle.vg_meta.specs.Tables.{Row, name_eq}
 use Rattle.common_laws.specs.Lists.{In}
 use Rattle.common_laws.proofs.Lists.{In-map}
-use Rattle.sm_machine.specs.Shapes.{ImageRow, parent_of, same_image}
+use Rattle.sm_machine.specs.Shapes.{ImageRow, parent_of, same_image, chain_limit}
 use Rattle.sm_machine.specs.WellFormed.{EndsWithin}
 use Rattle.sm_machine.proofs.Chains.{parent_of-some}
 use Rattle.vhd_image.specs.Bodies.{parent_name, sector_count}
@@ -164,7 +164,7 @@ both_true false b h = absurd (true≢false (sym h))
 -- an image that stands as it should has its parent in memory, and a short chain
 pub record StandsRight (x : Outline) (n : Name) (l : Link) : Type 0 where
   pub linked : is_linked x l ≡ true
-  pub short : chain_length x 31 n ≤ 30
+  pub short : chain_length x (suc chain_limit) n ≤ chain_limit
 
 pub stands_right : (x : Outline) (r : Row) (u : List ℕ) (l : Link) → x.links (Vhd u) ≡ Some l → r.name ≡ Vhd u → is_tree_wrong x r ≡ false → StandsRight x (Vhd u) l
 stands_right x r u l is named right =

@@ -5,7 +5,7 @@ use Rattle.std.specs.List.{list_any, slice_get}
 use Rattle.std.specs.Str.{bytes_eq}
 use Rattle.sm_base.specs.declared.faults.Place.{Place}
 use Rattle.sm_base.specs.declared.names.Name.{Name}
-use Rattle.sm_base.specs.declared.names.Name.TheVariants.{Vhd, Raw, Old, Clone, Inflate, Coalesce, Relink, Leaf}
+use Rattle.sm_base.specs.declared.names.Name.TheVariants.{Mgt, Vhd, Raw, Old, Clone, Inflate, Coalesce, Relink, Leaf}
 use Rattle.sm_base.specs.declared.sizes.Geometry.{Geometry}
 use Rattle.std.specs.declared.cmp.Ordering.TheVariants.{Less}
 use Rattle.vg_meta.specs.Tables.{Row, VolumeTable}
@@ -85,7 +85,10 @@ is_entry_lost t (Clone disk base twin) =
 is_entry_lost t (Coalesce child parent) = not (is_copy_placed t child parent)
 is_entry_lost t (Relink child parent) = not (is_copy_placed t child parent)
 is_entry_lost t (Leaf leaf parent) = not (is_leaf_placed t leaf parent)
-is_entry_lost t _ = false
+is_entry_lost t Mgt = false
+is_entry_lost t (Vhd u) = false
+is_entry_lost t (Raw u) = false
+is_entry_lost t (Old u) = false
 
 -- an old leaf that does not belong to this entry, where there is one
 abbrev pub is_old_by : VolumeTable → List ℕ → Option Name → Bool
@@ -94,7 +97,14 @@ is_old_by t u (Some e) = is_old_of t u e
 
 abbrev pub is_old_besides : VolumeTable → Option Name → Name → Bool
 is_old_besides t e (Old u) = not (is_old_by t u e)
-is_old_besides t e _ = false
+is_old_besides t e Mgt = false
+is_old_besides t e (Vhd u) = false
+is_old_besides t e (Raw u) = false
+is_old_besides t e (Clone disk base twin) = false
+is_old_besides t e (Inflate image extents) = false
+is_old_besides t e (Coalesce child parent) = false
+is_old_besides t e (Relink child parent) = false
+is_old_besides t e (Leaf leaf parent) = false
 
 -- the checks of the images pass: each is valid, and stands in its tree as it should, also where entries stand
 pub record PassImages (x : Outline) : Type 0 where
@@ -178,7 +188,11 @@ is_unlinked_in t xs (Clone disk base twin) = is_fork_made t disk base twin && no
 is_unlinked_in t xs (Coalesce child parent) = not (is_copy_in xs child parent)
 is_unlinked_in t xs (Relink child parent) = not (is_link_in xs child parent)
 is_unlinked_in t xs (Leaf leaf parent) = not (is_leaf_linked_in t xs leaf parent)
-is_unlinked_in t xs _ = false
+is_unlinked_in t xs Mgt = false
+is_unlinked_in t xs (Vhd u) = false
+is_unlinked_in t xs (Raw u) = false
+is_unlinked_in t xs (Old u) = false
+is_unlinked_in t xs (Inflate image extents) = false
 
 -- a parent that is there in memory, not new, hidden and not larger
 abbrev pub is_parent_right_in : VolumeTable → List TreeRow → ℕ → Name → Bool
@@ -198,7 +212,14 @@ is_misplaced_in t xs r (Some y) = not (is_linked_in t xs y.image
 -- the check speaks of VHD images alone
 abbrev pub tree_wrong_in : VolumeTable → List TreeRow → Row → Name → Bool
 tree_wrong_in t xs r (Vhd u) = is_misplaced_in t xs r (tree_row xs (Vhd u))
-tree_wrong_in t xs r _ = false
+tree_wrong_in t xs r Mgt = false
+tree_wrong_in t xs r (Raw u) = false
+tree_wrong_in t xs r (Old u) = false
+tree_wrong_in t xs r (Clone disk base twin) = false
+tree_wrong_in t xs r (Inflate image extents) = false
+tree_wrong_in t xs r (Coalesce child parent) = false
+tree_wrong_in t xs r (Relink child parent) = false
+tree_wrong_in t xs r (Leaf leaf parent) = false
 
 -- an outline with these places of records
 pub record HasPlaces (places : List (Option Record)) (x : Outline) : Type 0 where
@@ -215,7 +236,15 @@ abbrev pub is_disk_if : VolumeTable → Bool → Option Name → List ℕ → Bo
 is_disk_if t alone (Some (Clone disk base twin)) u =
     if bytes_eq u disk then is_some (image_with t base) || alone
     else not (bytes_eq u base) && (not (bytes_eq u twin) && alone)
-is_disk_if t alone _ u = alone
+is_disk_if t alone None u = alone
+is_disk_if t alone (Some Mgt) u = alone
+is_disk_if t alone (Some (Vhd own)) u = alone
+is_disk_if t alone (Some (Raw own)) u = alone
+is_disk_if t alone (Some (Old own)) u = alone
+is_disk_if t alone (Some (Inflate image extents)) u = alone
+is_disk_if t alone (Some (Coalesce child parent)) u = alone
+is_disk_if t alone (Some (Relink child parent)) u = alone
+is_disk_if t alone (Some (Leaf leaf parent)) u = alone
 
 -- so where no leaf is being folded
 abbrev pub is_disk_by : VolumeTable → Option Name → List ℕ → Bool
@@ -224,7 +253,15 @@ is_disk_by t made u = is_disk_if t (is_shown t u) made u
 -- the leaf that is being folded is a disk while it is swapped
 abbrev pub is_swapping : VolumeTable → Option Name → List ℕ → Bool
 is_swapping t (Some (Leaf leaf parent)) u = bytes_eq u leaf && (is_leaf_renamed t leaf parent || is_leaf_swapped t leaf parent)
-is_swapping t _ u = false
+is_swapping t None u = false
+is_swapping t (Some Mgt) u = false
+is_swapping t (Some (Vhd own)) u = false
+is_swapping t (Some (Raw own)) u = false
+is_swapping t (Some (Old own)) u = false
+is_swapping t (Some (Clone disk base twin)) u = false
+is_swapping t (Some (Inflate image extents)) u = false
+is_swapping t (Some (Coalesce child parent)) u = false
+is_swapping t (Some (Relink child parent)) u = false
 
 abbrev pub is_disk_under : VolumeTable → Option Name → Option Name → List ℕ → Bool
 is_disk_under t folded made u = is_disk_if t (is_swapping t folded u || is_shown t u) made u
@@ -239,7 +276,11 @@ unrecorded t places (Vhd u) = given (is_unrecorded_in t places u) u
 unrecorded t places (Raw u) = given (is_unrecorded_in t places u) u
 unrecorded t places (Clone disk base twin) = given (is_unrecorded_in t places disk) disk
 unrecorded t places (Leaf leaf parent) = given (is_unrecorded_in t places leaf) leaf
-unrecorded t places _ = None
+unrecorded t places Mgt = None
+unrecorded t places (Old u) = None
+unrecorded t places (Inflate image extents) = None
+unrecorded t places (Coalesce child parent) = None
+unrecorded t places (Relink child parent) = None
 
 -- the lesser of two UUIDs, where there are two
 abbrev pub lesser : Option (List ℕ) → Option (List ℕ) → Option (List ℕ)

@@ -21,6 +21,6 @@ pub record HasLink (xs : List TreeRow) (v p : Name) : Type 0 where
   pub parent_hidden : parent.hidden ≡ true
   pub same_size : sector_count parent.image ≡ sector_count child.image
 
--- so where the entry of a link is there
+-- where the entry of a link is there, the image that goes is linked to its parent as the entry says
 abbrev pub IsLinkRight : VolumeTable → List TreeRow → Type 0
 IsLinkRight t xs = (child parent : List ℕ) → head (folding t) ≡ Some (Relink child parent) → HasLink xs (Vhd child) (parent_name t parent)

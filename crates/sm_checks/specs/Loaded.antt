@@ -6,7 +6,7 @@ use Rattle.sm_base.specs.declared.faults.OpenFault.{OpenFault}
 use Rattle.sm_base.specs.declared.faults.OpenFault.TheVariants as fault
 use Rattle.sm_base.specs.declared.faults.Place.TheVariants as at
 use Rattle.sm_base.specs.declared.names.Name.{Name}
-use Rattle.sm_base.specs.declared.names.Name.TheVariants.{Vhd, Raw, Inflate}
+use Rattle.sm_base.specs.declared.names.Name.TheVariants.{Mgt, Vhd, Raw, Old, Clone, Inflate, Coalesce, Relink, Leaf}
 use Rattle.sm_base.specs.declared.sizes.Geometry.{Geometry}
 use Rattle.sm_disk.specs.Held.{Held}
 use Rattle.vg_meta.specs.Tables.{Row, VolumeTable}
@@ -38,7 +38,15 @@ read_volumes t = map (as_read (making t)) t.volumes
 -- the table without an enlargement: the entry of a fork stays
 abbrev pub shortened_by : VolumeTable → Option Name → VolumeTable
 shortened_by t (Some (Inflate u extents)) = applied_all t (changes_back t (Inflate u extents))
-shortened_by t _ = t
+shortened_by t None = t
+shortened_by t (Some Mgt) = t
+shortened_by t (Some (Vhd u)) = t
+shortened_by t (Some (Raw u)) = t
+shortened_by t (Some (Old u)) = t
+shortened_by t (Some (Clone disk base twin)) = t
+shortened_by t (Some (Coalesce child parent)) = t
+shortened_by t (Some (Relink child parent)) = t
+shortened_by t (Some (Leaf leaf parent)) = t
 
 unfoldable pub shortened : VolumeTable → VolumeTable
 shortened t = shortened_by t (head (making t))
@@ -47,7 +55,7 @@ shortened t = shortened_by t (head (making t))
 abbrev pub stored_with : {S : Type 0} → Ghosts S → S → VolumeTable → Stored
 stored_with g s t = record { site = g.site s; table = t; area = g.area s }
 
--- and by that table
+-- what a store holds, by its table without an enlargement
 abbrev pub stored_read : {S : Type 0} → Ghosts S → S → Stored
 stored_read g s = stored_with g s (shortened (table_alone (g.table s)))
 
@@ -87,13 +95,25 @@ pub record IsVhdRead (told : Type 0) (g : Geometry) (sectors : ℕ) (h : Held) (
 abbrev pub IsReadAs : Type 0 → Geometry → ℕ → Held → Name → Body → Type 0
 IsReadAs told g sectors h (Raw u) image = IsRawRead g sectors (Raw u) image
 IsReadAs told g sectors h (Vhd u) image = IsVhdRead told g sectors h image
-IsReadAs told g sectors h _ image = ⊥
+IsReadAs told g sectors h Mgt image = ⊥
+IsReadAs told g sectors h (Old u) image = ⊥
+IsReadAs told g sectors h (Clone disk base twin) image = ⊥
+IsReadAs told g sectors h (Inflate grown extents) image = ⊥
+IsReadAs told g sectors h (Coalesce child parent) image = ⊥
+IsReadAs told g sectors h (Relink child parent) image = ⊥
+IsReadAs told g sectors h (Leaf leaf parent) image = ⊥
 
 -- there is no such image: a raw one would have too many blocks; no valid VHD image is there, where the content is told
 abbrev pub IsNoneRead : Type 0 → Geometry → ℕ → Held → Name → Type 0
 IsNoneRead told g sectors h (Raw u) = g.entries * g.block < sectors
 IsNoneRead told g sectors h (Vhd u) = told → HasNoImage g sectors h
-IsNoneRead told g sectors h _ = ⊥
+IsNoneRead told g sectors h Mgt = ⊥
+IsNoneRead told g sectors h (Old u) = ⊥
+IsNoneRead told g sectors h (Clone disk base twin) = ⊥
+IsNoneRead told g sectors h (Inflate image extents) = ⊥
+IsNoneRead told g sectors h (Coalesce child parent) = ⊥
+IsNoneRead told g sectors h (Relink child parent) = ⊥
+IsNoneRead told g sectors h (Leaf leaf parent) = ⊥
 
 -- the row of a volume, as it was read off what a store holds
 pub record IsRow (told : Type 0) (x : Stored) (r : Row) (y : TreeRow) : Type 0 where

@@ -1,6 +1,7 @@
 -- What the checks by the table leave known of it, and why an opening stops.
 use Rattle.std.specs.Prelude.{◌≡◌, ℕ, ◌≤◌, false, length, Option, Some, None}
 use Rattle.common_laws.specs.Lists.{In}
+use Rattle.sm_base.specs.Limits.{extent_limit}
 use Rattle.sm_base.specs.declared.faults.OpenFault.{OpenFault}
 use Rattle.sm_base.specs.declared.faults.OpenFault.TheVariants as fault
 use Rattle.sm_base.specs.declared.faults.Place.{Place}
@@ -20,7 +21,7 @@ use Rattle.sm_standing.specs.Entries.{folding, making, second}
 -- a stage of its work, and each old leaf belongs to one
 pub record IsOpenable (s : Site) (t : VolumeTable) : Type 0 where
   pub table : IsTable s.count t
-  pub few_extents : s.count ≤ 65536
+  pub few_extents : s.count ≤ extent_limit
   pub owned : (r : Row) → In r t.volumes → is_orphaned t r.name ≡ false
   pub one_entry : second (making t) ≡ None
   pub one_folding : second (folding t) ≡ None
@@ -29,6 +30,7 @@ pub record IsOpenable (s : Site) (t : VolumeTable) : Type 0 where
   pub few_images : length (images t) ≤ image_limit
   pub record_volume : length (extents_of (rows t Mgt)) ≡ record_extents s.geometry.extent
 
+-- what is known of the table of a store once the checks by the table passed
 abbrev pub IsOpenableStore : {S : Type 0} → Ghosts S → S → Type 0
 IsOpenableStore g s = IsOpenable (g.site s) (table_alone (g.table s))
 

@@ -64,7 +64,14 @@ fn is_swapped_by(table: &Table, entry: &Name, uuid: &Uuid) -> bool
             *uuid == *leaf
                 && (is_leaf_renamed(table, leaf, parent) || is_leaf_swapped(table, leaf, parent))
         }
-        _ => false,
+        Name::Mgt
+        | Name::Vhd(_)
+        | Name::Raw(_)
+        | Name::Old(_)
+        | Name::Clone { .. }
+        | Name::Inflate { .. }
+        | Name::Coalesce { .. }
+        | Name::Relink { .. } => false,
     }
 }
 
@@ -80,7 +87,14 @@ fn is_disk_if(table: &Table, alone: bool, entry: &Name, uuid: &Uuid) -> bool
                 *uuid != *base && *uuid != *twin && alone
             }
         }
-        _ => alone,
+        Name::Mgt
+        | Name::Vhd(_)
+        | Name::Raw(_)
+        | Name::Old(_)
+        | Name::Inflate { .. }
+        | Name::Coalesce { .. }
+        | Name::Relink { .. }
+        | Name::Leaf { .. } => alone,
     }
 }
 
@@ -111,7 +125,11 @@ fn unrecorded(volume: &Volume, table: &Table, mgt: &Mgt) -> Option<Uuid>
         Name::Raw(uuid) => wrong_disk(uuid, table, mgt),
         Name::Clone { disk, .. } => wrong_disk(disk, table, mgt),
         Name::Leaf { leaf, .. } => wrong_disk(leaf, table, mgt),
-        _ => None,
+        Name::Mgt
+        | Name::Old(_)
+        | Name::Inflate { .. }
+        | Name::Coalesce { .. }
+        | Name::Relink { .. } => None,
     }
 }
 

@@ -62,7 +62,16 @@ fn making_place(volumes: &[Volume]) -> Option<usize>
 fn is_making(name: &Name) -> bool
     ensures { result ≡ is_making name.now }
 {
-    matches!(name, Name::Clone { .. } | Name::Inflate { .. })
+    match name {
+        Name::Clone { .. } | Name::Inflate { .. } => true,
+        Name::Mgt
+        | Name::Vhd(_)
+        | Name::Raw(_)
+        | Name::Old(_)
+        | Name::Coalesce { .. }
+        | Name::Relink { .. }
+        | Name::Leaf { .. } => false,
+    }
 }
 
 fn second_folding(volumes: &[Volume]) -> Option<&Volume>
@@ -87,8 +96,13 @@ fn folding_place(volumes: &[Volume]) -> Option<usize>
 fn is_folding(name: &Name) -> bool
     ensures { result ≡ is_folding name.now }
 {
-    matches!(
-        name,
-        Name::Coalesce { .. } | Name::Relink { .. } | Name::Leaf { .. }
-    )
+    match name {
+        Name::Coalesce { .. } | Name::Relink { .. } | Name::Leaf { .. } => true,
+        Name::Mgt
+        | Name::Vhd(_)
+        | Name::Raw(_)
+        | Name::Old(_)
+        | Name::Clone { .. }
+        | Name::Inflate { .. } => false,
+    }
 }

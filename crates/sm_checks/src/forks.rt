@@ -29,11 +29,16 @@ fn is_apart(table: &Table, disk: &Uuid, base: &Uuid, twin: &Uuid) -> bool
     let Some(entry) = folding_in(table) else {
         return true;
     };
-    let (child, parent) = match &entry {
-        Name::Coalesce { child, parent } => (*child, *parent),
-        Name::Relink { child, parent } => (*child, *parent),
-        Name::Leaf { leaf, parent } => (*leaf, *parent),
-        _ => return true,
+    let (child, parent) = match entry {
+        Name::Coalesce { child, parent } => (child, parent),
+        Name::Relink { child, parent } => (child, parent),
+        Name::Leaf { leaf, parent } => (leaf, parent),
+        Name::Mgt
+        | Name::Vhd(_)
+        | Name::Raw(_)
+        | Name::Old(_)
+        | Name::Clone { .. }
+        | Name::Inflate { .. } => return true,
     };
     !is_among(&child, disk, base, twin) && !is_among(&parent, disk, base, twin)
 }

@@ -65,6 +65,13 @@ pub fn is_old_of(table: &Table, leaf: &Uuid, entry: &Name) -> bool
             *own == *leaf
                 && (is_leaf_renamed(table, own, parent) || is_leaf_swapped(table, own, parent))
         }
-        _ => false,
+        Name::Mgt
+        | Name::Vhd(_)
+        | Name::Raw(_)
+        | Name::Old(_)
+        | Name::Clone { .. }
+        | Name::Inflate { .. }
+        | Name::Coalesce { .. }
+        | Name::Relink { .. } => false,
     }
 }

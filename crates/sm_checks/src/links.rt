@@ -53,7 +53,7 @@ fn is_unlinked(name: &Name, table: &Table, tree: &Tree) -> bool
         Name::Coalesce { child, parent } => !is_copy(tree, child, parent),
         Name::Relink { child, parent } => !is_link(tree, child, parent),
         Name::Leaf { leaf, parent } => !is_leaf_linked(table, tree, leaf, parent),
-        _ => false,
+        Name::Mgt | Name::Vhd(_) | Name::Raw(_) | Name::Old(_) | Name::Inflate { .. } => false,
     }
 }
 
@@ -111,7 +111,14 @@ fn is_named(name: &Name, uuid: &Uuid) -> bool
 {
     match name {
         Name::Vhd(own) => *own == *uuid,
-        _ => false,
+        Name::Mgt
+        | Name::Raw(_)
+        | Name::Old(_)
+        | Name::Clone { .. }
+        | Name::Inflate { .. }
+        | Name::Coalesce { .. }
+        | Name::Relink { .. }
+        | Name::Leaf { .. } => false,
     }
 }
 
@@ -195,6 +202,12 @@ fn has_uuid(name: &Name, uuid: &Uuid) -> bool
     match name {
         Name::Vhd(own) => *own == *uuid,
         Name::Raw(own) => *own == *uuid,
-        _ => false,
+        Name::Mgt
+        | Name::Old(_)
+        | Name::Clone { .. }
+        | Name::Inflate { .. }
+        | Name::Coalesce { .. }
+        | Name::Relink { .. }
+        | Name::Leaf { .. } => false,
     }
 }

@@ -93,7 +93,16 @@ fn row_at<S: Store>(
 fn is_read(name: &Name) -> bool
     ensures { result ≡ is_image_name name.now }
 {
-    matches!(name, Name::Vhd(_) | Name::Raw(_))
+    match name {
+        Name::Vhd(_) | Name::Raw(_) => true,
+        Name::Mgt
+        | Name::Old(_)
+        | Name::Clone { .. }
+        | Name::Inflate { .. }
+        | Name::Coalesce { .. }
+        | Name::Relink { .. }
+        | Name::Leaf { .. } => false,
+    }
 }
 
 /// In how many extents the image of a name lies, where its volume has so many: those that it had, where it is being enlarged.
@@ -118,7 +127,14 @@ fn extents_by(entry: &Name, name: &Name, all: u32) -> u32
                 all
             }
         }
-        _ => all,
+        Name::Mgt
+        | Name::Vhd(_)
+        | Name::Raw(_)
+        | Name::Old(_)
+        | Name::Clone { .. }
+        | Name::Coalesce { .. }
+        | Name::Relink { .. }
+        | Name::Leaf { .. } => all,
     }
 }
 
@@ -126,9 +142,16 @@ fn extents_by(entry: &Name, name: &Name, all: u32) -> u32
 pub fn is_vhd_of(name: &Name, image: &Uuid) -> bool
     ensures { result ≡ same_image (Vhd image.now) name.now }
 {
-    match name {
-        Name::Vhd(uuid) => *image == *uuid,
-        _ => false,
+    match *name {
+        Name::Vhd(uuid) => *image == uuid,
+        Name::Mgt
+        | Name::Raw(_)
+        | Name::Old(_)
+        | Name::Clone { .. }
+        | Name::Inflate { .. }
+        | Name::Coalesce { .. }
+        | Name::Relink { .. }
+        | Name::Leaf { .. } => false,
     }
 }
 
@@ -148,9 +171,16 @@ fn image_in<S: Store>(
     ensures calm { result ≢ Err fault.Device → S.faults store.new ≡ S.faults store.old }
     ensures cause { IfErr result (λ e. FailsToRead S.Store (stored S.Store store.old) name.now (extents * (S.site store.old).geometry.extent) e store.old store.new) }
 {
-    match name {
+    match *name {
         Name::Vhd(_) => Image::open(alloc, store, name, extents),
-        _ => raw_in(&store.geometry(), name, extents),
+        Name::Mgt
+        | Name::Raw(_)
+        | Name::Old(_)
+        | Name::Clone { .. }
+        | Name::Inflate { .. }
+        | Name::Coalesce { .. }
+        | Name::Relink { .. }
+        | Name::Leaf { .. } => raw_in(&store.geometry(), name, extents),
     }
 }
 

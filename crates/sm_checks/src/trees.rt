@@ -10,13 +10,10 @@ ghost use Rattle.sm_ready.specs.Outlined.{link_in};
 ghost use Rattle.sm_checks.specs.Faults.{HasChildren, HasLinks, is_linked_in, tree_wrong_in};
 
 use crate::volumes::is_hidden;
-use sm_base::{Name, Place};
+use sm_base::{CHAIN_LIMIT, Name, Place};
 use vg_meta::{Table, Volume};
 use vhd_chain::Tree;
 use vhd_image::Image;
-
-/// How many images a chain has at most.
-const CHAIN_LIMIT: u32 = 30;
 
 /// The first VHD image that does not stand in its tree as it should: its parent is there, not new, hidden and not larger; its
 /// chain has at most 30 images; and where it is visible it has no children.

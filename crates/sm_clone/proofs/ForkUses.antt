@@ -21,7 +21,7 @@ use Rattle.sm_machine.proofs.Forks.{IsForkable, fork_keeps}
 use Rattle.sm_machine.proofs.Guests.{disk_image_is, disks_own}
 use Rattle.sm_machine.proofs.ImageNames.{other_image, same_image-refl}
 use Rattle.sm_machine.proofs.Swaps.{In-without, In-without_kept}
-use Rattle.sm_attaching.proofs.ChainLaws.{rest, rest_more, rest_none}
+use Rattle.sm_ready.proofs.ChainNames.{rest, rest_more, rest_none}
 use Rattle.sm_clone.proofs.UseLaws.{based}
 
 -- a chain that ends within so many images is the same where more may follow

@@ -6,7 +6,7 @@ use Rattle.std.proofs.lemmas.Bool.{true≢false, lt-ltb}
 use Rattle.sm_base.specs.Kinds.{is_image, is_entry}
 use Rattle.sm_base.specs.Names.{IsName, name_cmp}
 use Rattle.sm_base.specs.declared.names.Name.{Name}
-use Rattle.sm_base.specs.declared.names.Name.TheVariants.{Mgt, Vhd, Raw, Old}
+use Rattle.sm_base.specs.declared.names.Name.TheVariants.{Mgt}
 use Rattle.sm_base.proofs.KindLaws.{image-no_entry}
 use Rattle.vg_meta.specs.Tables.{IsTable, Row, VolumeTable, extents_in, is_one_of, name_eq, names_of, row_of, rows}
 use Rattle.vg_meta.specs.Changes.{AreFree, Permits, applied, made, put, put_some, renamed, tagged, with_row, without}
@@ -18,6 +18,7 @@ use Rattle.vg_meta.proofs.ExtentLaws.{distinct-times, times, times-append, times
 use Rattle.vg_meta.proofs.FreeLaws.{all_at, all_from}
 use Rattle.vg_meta.proofs.NameLaws.{name_eq-false, name_eq-true}
 use Rattle.vg_meta.proofs.RowLaws.{names_of-with_row, row_of-put_same, row_of-with_row_same, row_of-without_other}
+use Rattle.sm_ready.proofs.EntryKinds.{image_not_folding, image_not_making}
 use Rattle.sm_ready.proofs.RemoveLaws.{name_or_not}
 use Rattle.sm_space.proofs.TableLaws.{named_put}
 use Rattle.sm_standing.specs.Entries.{folding, is_folding, is_making, making, names_in}
@@ -96,22 +97,6 @@ names_less test n r (s ∷ rs) is there = by (λ h. names_less test n r rs is h)
         → length (filter test (names_of (cond b rs (s ∷ without n rs)))) + 1 ≡ length (filter test (names_of (s ∷ rs)))
     by rest true same h = omega (arith, ap (λ c. length (cond c (s.name ∷ filter test (names_of rs)) (filter test (names_of rs)))) (ap test (name_eq-true s.name n same) ∙ is))
     by rest false other h = alike (test s.name) (filter test (names_of (without n rs))) (filter test (names_of rs)) (rest h)
-
--- ---- kinds
-
-image_making : (n : Name) → is_image n ≡ true → is_making n ≡ false
-image_making Mgt e = refl
-image_making (Vhd u) e = refl
-image_making (Raw u) e = refl
-image_making (Old u) e = refl
-image_making _ e = absurd (true≢false (sym e))
-
-image_folding : (n : Name) → is_image n ≡ true → is_folding n ≡ false
-image_folding Mgt e = refl
-image_folding (Vhd u) e = refl
-image_folding (Raw u) e = refl
-image_folding (Old u) e = refl
-image_folding _ e = absurd (true≢false (sym e))
 
 -- ---- before the first commit
 
@@ -293,8 +278,8 @@ module _ (count : ℕ) (t : VolumeTable) (o b l w e : Name) (own twins : List �
     twin = c.others w (⊎_elim (λ is. own_twin (sym is)) (λ is. h.base_twin (sym is))) ∙ stage_1.twin;
     entry = c.others e (⊎_elim (λ is. unlike o h.own_image (sym is)) (λ is. unlike b h.base_image (sym is))) ∙ stage_1.entry;
     others = λ n own base leaf twin entry. c.others n (⊎_elim own base) ∙ stage_1.others n own base leaf twin entry;
-    making = moved_names is_making (image_making b h.base_image) (image_making o h.own_image) ∙ stage_1.making;
-    folding = moved_names is_folding (image_folding b h.base_image) (image_folding o h.own_image) ∙ stage_1.folding;
+    making = moved_names is_making (image_not_making b h.base_image) (image_not_making o h.own_image) ∙ stage_1.making;
+    folding = moved_names is_folding (image_not_folding b h.base_image) (image_not_folding o h.own_image) ∙ stage_1.folding;
     images = omega (
       arith,
       ap (λ vs. length (filter is_image (names_of vs))) moved_volumes,
@@ -381,8 +366,8 @@ module _ (count : ℕ) (t : VolumeTable) (o b l w e : Name) (own twins : List �
         twin = c.others w (λ is. h.leaf_twin (sym is)) ∙ stage_3.twin;
         entry = c.others e (λ is. unlike l h.leaf_image (sym is)) ∙ stage_3.entry;
         others = λ n own base leaf twin entry. c.others n leaf ∙ stage_3.others n own base leaf twin entry;
-        making = names is_making (image_making l h.leaf_image) ∙ stage_3.making;
-        folding = names is_folding (image_folding l h.leaf_image) ∙ stage_3.folding;
+        making = names is_making (image_not_making l h.leaf_image) ∙ stage_3.making;
+        folding = names is_folding (image_not_folding l h.leaf_image) ∙ stage_3.folding;
         images = omega (arith, names_more is_image leaf_row table_3.volumes, stage_3.images);
         entries = omega (arith, ap (λ (ns : List Name). length ns) (names is_entry (image-no_entry l h.leaf_image)), stage_3.entries);
         extents = λ x. omega (arith, times-put x table_3.volumes leaf_row, stage_3.extents x);
@@ -410,8 +395,8 @@ module _ (count : ℕ) (t : VolumeTable) (o b l w e : Name) (own twins : List �
         twin = c.does.1;
         entry = c.others e (λ is. unlike w h.twin_image (sym is)) ∙ stage_4.entry;
         others = λ n own base leaf twin entry. c.others n twin ∙ stage_4.others n own base leaf twin entry;
-        making = names is_making (image_making w h.twin_image) ∙ stage_4.making;
-        folding = names is_folding (image_folding w h.twin_image) ∙ stage_4.folding;
+        making = names is_making (image_not_making w h.twin_image) ∙ stage_4.making;
+        folding = names is_folding (image_not_folding w h.twin_image) ∙ stage_4.folding;
         images = omega (arith, names_more is_image twin_row table_4.volumes, stage_4.images);
         entries = omega (arith, ap (λ (ns : List Name). length ns) (names is_entry (image-no_entry w h.twin_image)), stage_4.entries);
         extents = λ x. omega (arith, times-put x table_4.volumes twin_row, stage_4.extents x, times-append x own twins);

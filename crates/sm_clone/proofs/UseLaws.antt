@@ -27,8 +27,8 @@ use Rattle.sm_ready.proofs.CauseLaws.{vhd_uuid}
 use Rattle.sm_ready.proofs.Orders.{named_row}
 use Rattle.sm_ready.proofs.RowLaws.{tree_found}
 use Rattle.sm_ready.proofs.OnceLaws.{any_In}
-use Rattle.sm_attaching.proofs.ChainLaws.{rest_there}
-use Rattle.sm_attaching.proofs.UseLaws.{In_has, has_In}
+use Rattle.sm_ready.proofs.ChainNames.{rest_there}
+use Rattle.sm_ready.proofs.UseLaws.{In_has, has_In}
 use Rattle.sm_clone.specs.Forking.{HasUseRoom, Passes, base_name, fork_of}
 use Rattle.sm_clone.specs.declared.forks.Fork.{Fork}
 use Rattle.sm_clone.proofs.PassedLaws.{makes_two, new, own, own_is}

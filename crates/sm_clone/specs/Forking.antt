@@ -71,7 +71,7 @@ abbrev pub first_changes : Fork → List ℕ → List ℕ → List Change
 first_changes f own twins = putting (entry_name f) ∷ Rename f.own (base_name f) ∷ Mark (base_name f) Hidden true
     ∷ Create (name.Vhd f.disk) true own ∷ Create (name.Vhd f.twin) true twins ∷ []
 
--- and those behind them: both images are no longer new; the entry is gone
+-- the changes behind the writes: both images are no longer new; the entry is gone
 abbrev pub last_changes : Fork → List Change
 last_changes f = Mark (name.Vhd f.disk) Fresh false ∷ Mark (name.Vhd f.twin) Fresh false ∷ Remove (entry_name f) ∷ []
 
@@ -101,6 +101,7 @@ pub record AreForFork (s : Site) (t : VolumeTable) (σ : Shape) (u : List ℕ) (
 abbrev pub base_body : Fork → Body → Body
 base_body f b = in_volume (base_name f) b
 
+-- the row of the disk's image once it is the base: hidden, in as many extents
 abbrev pub base_row : Fork → TreeRow → TreeRow
 base_row f r = record { image = base_body f r.image; hidden = true; extents = r.extents }
 

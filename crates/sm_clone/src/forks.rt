@@ -28,7 +28,13 @@ fn renamed(name: &Name, uuid: &Uuid) -> Name
     match name {
         Name::Vhd(_) => Name::Vhd(*uuid),
         Name::Raw(_) => Name::Raw(*uuid),
-        _ => *name,
+        Name::Mgt
+        | Name::Old(_)
+        | Name::Clone { .. }
+        | Name::Inflate { .. }
+        | Name::Coalesce { .. }
+        | Name::Relink { .. }
+        | Name::Leaf { .. } => *name,
     }
 }
 

@@ -6,6 +6,7 @@
 use Rattle.std.specs.Prelude.{◌≡◌, ℕ, ◌+◌, ◌-◌, ◌*◌, ◌%◌, ◌^◌, ◌<◌, ◌≤◌, min, ◌⊎◌, List, [], ◌∷◌, ◌++◌, length, Contains, Result, OnOk, OnErr}
 use Rattle.sm_disk.specs.Sectors.{IsSector, sector}
 
+-- at each place its floor and what was written since, in order
 pub record Held : Type 0 where
   pub floor : ℕ → List ℕ
   pub pending : ℕ → List (List ℕ)
@@ -53,6 +54,7 @@ pub record Wrote (at : ℕ) (bytes : List ℕ) (old new : Held) : Type 0 where
 abbrev pub Gave : ℕ → Held → List ℕ → Type 0
 Gave at h bytes = (p : ℕ) → IsIn at (length bytes) p → sector bytes (p - at) ≡ reads h p
 
+-- at each place the same floor and the same pending values
 pub record SameHeld (old new : Held) : Type 0 where
   pub floor : (p : ℕ) → new.floor p ≡ old.floor p
   pub pending : (p : ℕ) → new.pending p ≡ old.pending p

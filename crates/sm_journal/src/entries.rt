@@ -24,17 +24,31 @@ pub struct Entries {
 fn is_operation_entry(volume: &Volume) -> bool
     ensures { result ≡ is_operation volume.now.row.name }
 {
-    matches!(
-        volume.name(),
-        Name::Coalesce { .. } | Name::Relink { .. } | Name::Leaf { .. }
-    )
+    match volume.name() {
+        Name::Coalesce { .. } | Name::Relink { .. } | Name::Leaf { .. } => true,
+        Name::Mgt
+        | Name::Vhd(_)
+        | Name::Raw(_)
+        | Name::Old(_)
+        | Name::Clone { .. }
+        | Name::Inflate { .. } => false,
+    }
 }
 
 /// Whether the volume is the entry of a call.
 fn is_call_entry(volume: &Volume) -> bool
     ensures { result ≡ is_call volume.now.row.name }
 {
-    matches!(volume.name(), Name::Clone { .. } | Name::Inflate { .. })
+    match volume.name() {
+        Name::Clone { .. } | Name::Inflate { .. } => true,
+        Name::Mgt
+        | Name::Vhd(_)
+        | Name::Raw(_)
+        | Name::Old(_)
+        | Name::Coalesce { .. }
+        | Name::Relink { .. }
+        | Name::Leaf { .. } => false,
+    }
 }
 
 /// The first entry of a collector's operation.

@@ -14,7 +14,7 @@ use Rattle.sm_base.specs.declared.operations.Mode.TheVariants.{Rw}
 use Rattle.sm_base.specs.declared.operations.Op.{Op}
 use Rattle.sm_base.specs.declared.operations.Op.TheVariants as op
 use Rattle.common_laws.specs.Lists.{In, Distinct, Sorted}
-use Rattle.sm_machine.specs.Shapes.{Shape, ImageRow, DiskRecord, Attachment, last_sequence, same_image, is_image, image_uuid, is_vhd, renamed, disk_image, disk_record, parent_of, chain, with_image, without_image, attached_as, is_rw, image_extents, free, thick_in}
+use Rattle.sm_machine.specs.Shapes.{Shape, ImageRow, DiskRecord, Attachment, last_sequence, same_image, is_image, image_uuid, is_vhd, renamed, disk_image, disk_record, parent_of, chain, with_image, without_image, attached_as, is_rw, image_extents, free, thick_in, chain_limit}
 use Rattle.sm_machine.specs.Refusals.{depth, with_image_of, fork_need, wanted}
 use Rattle.sm_machine.specs.Commits.{folds}
 use Rattle.sm_machine.specs.Steps.{with_record, child_image, fork_images, fork_records, fork_shape}
@@ -39,7 +39,7 @@ pub record IsForkable (s : Shape) (u twin : List ℕ) : Type 0 where
   pub not_base : is_base twin ≡ false
   pub not_taken : is_some (disk_record twin s) || list_any (λ (i : ImageRow). i.hidden && bytes_eq (image_uuid i.name) twin) s.images ≡ false
   pub is_known : is_none (disk_record u s) ≡ false
-  pub not_deep : nat_le 30 (depth u s) ≡ false
+  pub not_deep : nat_le chain_limit (depth u s) ≡ false
   pub not_many : nat_lt 500 (length s.images + 2) ≡ false
   pub not_spent : nat_le (2 ^ 48 - 16) s.sequence ≡ false
   pub has_space : nat_lt (free s) (with_image_of (fork_need s u) (disk_image u s)) ≡ false

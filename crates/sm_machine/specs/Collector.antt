@@ -174,6 +174,7 @@ copied (op.Copy child parent cursor) b s = record s { images = on_image parent (
 copied (op.Leaf leaf parent cursor) b s = record s { images = on_image parent (given_block b) s.images; op = op.Leaf leaf parent (b + 1) }
 copied _ b s = s
 
+-- a copy whose blocks are all copied goes on by linking the children
 unfoldable pub turned : Op → Op
 turned (op.Copy child parent cursor) = op.Relink child parent
 turned o = o
@@ -243,6 +244,7 @@ items_left s (op.Copy child parent cursor) = count_blocks (drop cursor (table_of
 items_left s (op.Relink child parent) = length (children child s.images)
 items_left s (op.Leaf leaf parent cursor) = count_blocks (drop cursor (table_of leaf s))
 
+-- how much the collector has left to do: images first, then the phase, then what is left of the phase, then the extents in use
 unfoldable pub debt : Shape → Debt
 debt s = record { images = length s.images; phase = phase s s.op; left = items_left s s.op; used = s.others + image_extents s.images }
 

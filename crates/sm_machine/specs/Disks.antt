@@ -12,6 +12,7 @@ use Rattle.common_laws.specs.Lists.{change, insert_by}
 abbrev pub sector_bytes : ℕ
 sector_bytes = 512
 
+-- a disk as its users see it: its label, the disk that it was made of, whether it is a snapshot, and its sectors
 pub record Disk : Type 0 where
   pub uuid : List ℕ
   pub label : List ℕ

@@ -37,7 +37,7 @@ IdleIsDone = (s : Shape) → next_step s ≡ plan.Idle → IsDone s
 abbrev pub NewIsWellFormed : Type 0
 NewIsWellFormed = (extent block entries extents others m : ℕ) → IsGeometry extent block entries → extent ≡ m * block → others ≤ extents → IsWellFormed (new_shape extent block entries extents others)
 
--- and it has no disks
+-- a new repository has no disks
 abbrev pub NewHasNoDisks : Type 0
 NewHasNoDisks = (extent block entries extents others : ℕ) → AreDisksOf [] (new_shape extent block entries extents others)
 

@@ -24,10 +24,11 @@ unfoldable pub hex_text : List ℕ → List ℕ
 hex_text [] = []
 hex_text (byte ∷ bytes) = hex_digit lower (byte / 16) ∷ hex_digit lower (byte % 16) ∷ hex_text bytes
 
--- parts separated by commas (2c hex), and by spaces (20 hex)
+-- parts separated by commas (2c hex)
 abbrev pub by_commas : List (List ℕ) → List ℕ
 by_commas = join_with_byte 44
 
+-- parts separated by spaces (20 hex)
 abbrev pub by_spaces : List (List ℕ) → List ℕ
 by_spaces = join_with_byte 32
 
@@ -35,10 +36,12 @@ by_spaces = join_with_byte 32
 abbrev pub dash : List ℕ
 dash = codes "-"
 
+-- a UUID's text, or `-` where there is none
 abbrev pub uuid_or_dash : Option (List ℕ) → List ℕ
 uuid_or_dash None = dash
 uuid_or_dash (Some u) = uuid_text u
 
+-- a name's spelling, or `-` where there is none
 abbrev pub name_or_dash : Option Name → List ℕ
 name_or_dash None = dash
 name_or_dash (Some n) = spelling n
@@ -48,6 +51,7 @@ abbrev pub access : Bool → List ℕ
 access true = codes "ro"
 access false = codes "rw"
 
+-- `h` for a hidden image, `v` for a visible one
 abbrev pub visibility : Bool → List ℕ
 visibility true = codes "h"
 visibility false = codes "v"

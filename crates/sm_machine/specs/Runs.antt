@@ -98,6 +98,7 @@ pub record Face : Type 0 where
   pub read_only : Bool
   pub size : ℕ
 
+-- what a disk is, but for its sectors
 abbrev pub face : Disk → Face
 face d = record { uuid = d.uuid; label = d.label; origin = d.origin; read_only = d.read_only; size = length d.sectors }
 
@@ -117,6 +118,6 @@ pub record IsFrom (trail : List State) (last : State) (disks : List Disk) : Type
 unfoldable pub IsAsAfter : State → List Turn → List Disk → Type 0
 IsAsAfter σ turns disks = IsFrom (trail_of σ turns) (after_run σ turns) disks
 
--- the same where one more line may have been taken, whose reply is not yet acknowledged
+-- the disks as after a run, where one more line may have been taken, whose reply is not yet acknowledged
 unfoldable pub IsAsDuring : State → List Turn → Turn → List Disk → Type 0
 IsAsDuring σ turns t disks = let new : State = (taken (after_run σ turns) t).after in IsFrom (trail_of σ turns ++ new ∷ []) new disks

@@ -9,7 +9,7 @@ use Rattle.std.specs.Str.{bytes_eq}
 use Rattle.sm_base.specs.Names.{name_cmp}
 use Rattle.sm_base.specs.Numbers.{thin, thick}
 use Rattle.sm_base.specs.declared.names.Name.{Name}
-use Rattle.sm_base.specs.declared.names.Name.TheVariants.{Vhd, Raw}
+use Rattle.sm_base.specs.declared.names.Name.TheVariants.{Mgt, Vhd, Raw, Old, Clone, Inflate, Coalesce, Relink, Leaf}
 use Rattle.sm_base.specs.declared.operations.Mode.{Mode}
 use Rattle.sm_base.specs.declared.operations.Mode.TheVariants.{Ro, Rw}
 use Rattle.sm_base.specs.declared.operations.Op.{Op}
@@ -68,13 +68,15 @@ new_shape extent block entries extents others = record {
   op = Idle;
 }
 
--- the limits: images of a repository, images of a chain, sectors of one read
+-- the most images of a repository
 abbrev pub image_limit : ℕ
 image_limit = 500
 
+-- the most images of a chain
 abbrev pub chain_limit : ℕ
 chain_limit = 30
 
+-- the most sectors of one read
 abbrev pub read_limit : ℕ
 read_limit = 128
 
@@ -92,23 +94,65 @@ risen sequence commits = min (sequence + commits) last_sequence
 unfoldable pub same_image : Name → Name → Bool
 same_image (Vhd u) (Vhd v) = bytes_eq u v
 same_image (Raw u) (Raw v) = bytes_eq u v
-same_image _ _ = false
+same_image (Vhd u) Mgt = false
+same_image (Vhd u) (Raw v) = false
+same_image (Vhd u) (Old v) = false
+same_image (Vhd u) (Clone disk base twin) = false
+same_image (Vhd u) (Inflate image extents) = false
+same_image (Vhd u) (Coalesce child parent) = false
+same_image (Vhd u) (Relink child parent) = false
+same_image (Vhd u) (Leaf leaf parent) = false
+same_image (Raw u) Mgt = false
+same_image (Raw u) (Vhd v) = false
+same_image (Raw u) (Old v) = false
+same_image (Raw u) (Clone disk base twin) = false
+same_image (Raw u) (Inflate image extents) = false
+same_image (Raw u) (Coalesce child parent) = false
+same_image (Raw u) (Relink child parent) = false
+same_image (Raw u) (Leaf leaf parent) = false
+same_image Mgt n = false
+same_image (Old u) n = false
+same_image (Clone disk base twin) n = false
+same_image (Inflate image extents) n = false
+same_image (Coalesce child parent) n = false
+same_image (Relink child parent) n = false
+same_image (Leaf leaf parent) n = false
 
 -- the UUID in the name of an image
 unfoldable pub image_uuid : Name → List ℕ
 image_uuid (Vhd u) = u
 image_uuid (Raw u) = u
-image_uuid _ = []
+image_uuid Mgt = []
+image_uuid (Old u) = []
+image_uuid (Clone disk base twin) = []
+image_uuid (Inflate image extents) = []
+image_uuid (Coalesce child parent) = []
+image_uuid (Relink child parent) = []
+image_uuid (Leaf leaf parent) = []
 
+-- whether a name is that of a VHD image
 unfoldable pub is_vhd : Name → Bool
 is_vhd (Vhd u) = true
-is_vhd _ = false
+is_vhd Mgt = false
+is_vhd (Raw u) = false
+is_vhd (Old u) = false
+is_vhd (Clone disk base twin) = false
+is_vhd (Inflate image extents) = false
+is_vhd (Coalesce child parent) = false
+is_vhd (Relink child parent) = false
+is_vhd (Leaf leaf parent) = false
 
 -- the same kind of image under another UUID
 unfoldable pub renamed : Name → List ℕ → Name
 renamed (Vhd u) v = Vhd v
 renamed (Raw u) v = Raw v
-renamed n v = n
+renamed Mgt v = Mgt
+renamed (Old u) v = Old u
+renamed (Clone disk base twin) v = Clone disk base twin
+renamed (Inflate image extents) v = Inflate image extents
+renamed (Coalesce child parent) v = Coalesce child parent
+renamed (Relink child parent) v = Relink child parent
+renamed (Leaf leaf parent) v = Leaf leaf parent
 
 -- ---- a table
 

@@ -4,7 +4,7 @@ use Rattle.std.specs.Ordering.{is_lt}
 use Rattle.sm_base.specs.Names.{name_cmp, base_uuid}
 use Rattle.sm_base.specs.Numbers.{IsGeometry}
 use Rattle.sm_base.specs.declared.names.Name.{Name}
-use Rattle.sm_base.specs.declared.names.Name.TheVariants.{Vhd, Raw}
+use Rattle.sm_base.specs.declared.names.Name.TheVariants.{Mgt, Vhd, Raw, Old, Clone, Inflate, Coalesce, Relink, Leaf}
 use Rattle.sm_base.specs.declared.operations.Mode.TheVariants.{Rw}
 use Rattle.sm_base.specs.declared.operations.Op.{Op}
 use Rattle.sm_base.specs.declared.operations.Op.TheVariants as op
@@ -18,12 +18,25 @@ use Rattle.sm_machine.specs.Shapes.{Shape, ImageRow, DiskRecord, Attachment, ima
 unfoldable pub is_image_name : Name → Bool
 is_image_name (Vhd u) = true
 is_image_name (Raw u) = true
-is_image_name _ = false
+is_image_name Mgt = false
+is_image_name (Old u) = false
+is_image_name (Clone disk base twin) = false
+is_image_name (Inflate image extents) = false
+is_image_name (Coalesce child parent) = false
+is_image_name (Relink child parent) = false
+is_image_name (Leaf leaf parent) = false
 
 -- the entries of an image's table: one for each block that it may have, and none for a raw image
 unfoldable pub table_length : Shape → Name → ℕ
 table_length s (Vhd u) = s.entries
-table_length s _ = 0
+table_length s Mgt = 0
+table_length s (Raw u) = 0
+table_length s (Old u) = 0
+table_length s (Clone disk base twin) = 0
+table_length s (Inflate image extents) = 0
+table_length s (Coalesce child parent) = 0
+table_length s (Relink child parent) = 0
+table_length s (Leaf leaf parent) = 0
 
 -- a size is a whole number of blocks, from 1 to the number of entries
 abbrev pub IsSize : Shape → ℕ → Type 0

@@ -1,6 +1,7 @@
 -- A new raw disk: what is known before its volume is made, and the disk that its zeros and its record are.
 use Rattle.std.proofs.Common.{◌≡◌, ◌≢◌, ℕ, ◌*◌, ◌<◌, ◌≤◌, ◌==◌, ◌||◌, true, false, List, [], length, unwrap_or, Option, Some, None, IsSome, refl, sym, ap, ap₂, ◌∙◌, subst, subst₂, arith}
 use Rattle.std.proofs.lemmas.Bool.{eqb-false, or_parts}
+use Rattle.sm_base.specs.Limits.{extent_limit}
 use Rattle.sm_base.proofs.NumberLemmas.{div_up-pos}
 use Rattle.sm_base.specs.Names.{IsName}
 use Rattle.sm_base.specs.declared.names.Name.TheVariants.{Raw}
@@ -60,7 +61,7 @@ module _ (s : Site) (t : VolumeTable) (m : Known) (u label : List ℕ) (size : �
   unfolding new_uuid
   new = new_passed s t m (command.Create u size true label) u o tidy refl accepted
 
-  pub enough : extents_for s.geometry.extent size ≤ 65536
+  pub enough : extents_for s.geometry.extent size ≤ extent_limit
   unfolding need shape_in
   enough = let most = new.enough in omega (arith, most, length-free s.count t o.table.volumes.distinct, o.few_extents)
 

@@ -2,6 +2,7 @@
 use Rattle.std.proofs.Common.{◌≡◌, ◌≢◌, ℕ, ◌+◌, ◌-◌, ◌*◌, ◌/◌, ◌^◌, ◌<◌, ◌≤◌, ◌==◌, true, false, nat_lt, List, [], length, min, replicate, unwrap_or, Option, Some, None, IsSome, refl, sym, ap, ap₂, ◌∙◌, subst, subst₂, arith}
 use Rattle.std.proofs.Math.Nat.{le_of_mul-le-mul_right, mul-div_cancel, mul-le-mul}
 use Rattle.std.proofs.lemmas.Bool.{eqb-false, ltb-false, or_parts}
+use Rattle.sm_base.specs.Limits.{extent_limit}
 use Rattle.sm_base.proofs.NumberLemmas.{div_up-le, div_up-pos, first-le, le-div_up}
 use Rattle.sm_base.specs.Names.{IsName, base_uuid}
 use Rattle.sm_base.specs.Numbers.{div_up, first, thin}
@@ -65,7 +66,7 @@ pub some_extents : (s : Site) → 0 < vhd_extents s.geometry
 unfolding thin
 some_extents s = let g = s.geometry.in_range.extent_least in div_up-pos (first s.geometry.entries + 0 * (1 + s.geometry.block) + 1) s.geometry.extent (omega (arith, g)) (omega arith)
 
-pub not_many : (s : Site) → vhd_extents s.geometry ≤ 65536
+pub not_many : (s : Site) → vhd_extents s.geometry ≤ extent_limit
 unfolding thin
 not_many s =
     let g = s.geometry.in_range in

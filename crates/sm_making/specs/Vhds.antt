@@ -70,10 +70,11 @@ image_uid t = base_uuid (t.sequence + 1)
 abbrev pub disk_head : Geometry → List ℕ → ℕ → ℕ → List ℕ → Head
 disk_head g u now sectors uid = new_head g (name.Vhd u) now sectors uid None
 
--- the same by a table: of a disk whose volume is to be made, and of one whose volume was
+-- the head of a new disk's image, by the table in front of the commit that makes its volume
 abbrev pub made_head : Site → VolumeTable → List ℕ → ℕ → ℕ → Head
 made_head s t u now sectors = disk_head s.geometry u now sectors (image_uid t)
 
+-- the head of a new disk's image, by the table in which its volume was made
 abbrev pub begun_head : Site → VolumeTable → List ℕ → ℕ → ℕ → Head
 begun_head s t u now sectors = disk_head s.geometry u now sectors (base_uuid t.sequence)
 

@@ -11,6 +11,7 @@
 ghost use Rattle.std.specs.Prelude.{◌≡◌, ◌≤◌, ◌<◌, ◌+◌, ◌*◌, ℕ, List, Some, None, true, false, IsSome, IfOk, OnOk, OnErr, length, replicate, unwrap_or};
 ghost use Rattle.std.specs.List.{slice_set};
 ghost use Rattle.std.specs.declared.result.Result.TheVariants.{Ok, Err};
+ghost use Rattle.sm_base.specs.Limits.{extent_limit};
 ghost use Rattle.sm_base.specs.declared.faults.CallFault.TheVariants as fault;
 ghost use Rattle.sm_base.specs.Names.{IsUuid};
 ghost use Rattle.sm_base.specs.declared.names.Name.TheVariants.{Raw};
@@ -104,7 +105,7 @@ pub(crate) fn begin<S: Store>(store: &mut S, name: Name, extents: Vec<u32>) -> R
 /// Writes zeros into so many extents of a volume, which are all that it has. The zeros are those of one extent.
 fn fill<S: Store>(store: &mut S, name: &Name, extents: u32, bytes: &[u8]) -> Result<(), Failed>
     requires extents { length (extents_of (rows (table_alone (S.table store.old)) name.now)) ≡ extents }
-    requires few { extents ≤ 65536 }
+    requires few { extents ≤ extent_limit }
     requires bytes { bytes.now ≡ replicate (512 * (S.site store.old).geometry.extent) 0 }
     ensures writes { Writes S.Store name.now Anything store.old store.new }
     ensures filled { OnOk result (Writes S.Store name.now (HasZeros (sectors_in (stored S.Store store.old) name.now)) store.old store.new) }
@@ -151,7 +152,7 @@ fn fill_disk<S: Store>(
 ) -> Result<(), Failed>
     requires orderly { IsOrderlyStore S.Store store.old memory.old }
     requires new { IsNewVolume (table_alone (S.table store.old)) (Raw entry.uuid) extents }
-    requires few { extents ≤ 65536 }
+    requires few { extents ≤ extent_limit }
     requires bytes { bytes.now ≡ replicate (512 * (S.site store.old).geometry.extent) 0 }
     requires room { IsSome (place_for memory.old.records entry.uuid) }
     requires proper { IsRecord entry }

@@ -27,7 +27,7 @@ reading_of held k = reading (reads held k)
 abbrev pub records_held : Site → VolumeTable → Held → Held
 records_held site t area = volume_of site t area Mgt
 
--- that of a store
+-- what a store's volume of records holds
 abbrev pub records_of : {S : Type 0} → Ghosts S → S → Held
 records_of g s = held_in (stored g s) Mgt
 

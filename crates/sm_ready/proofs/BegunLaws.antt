@@ -4,6 +4,7 @@ use Rattle.std.proofs.lemmas.Bool.{true≢false, ltb-true}
 use Rattle.std.proofs.lemmas.List.{length-map}
 use Rattle.std.proofs.lemmas.Slice.Eq.{bytes_eq-Decides}
 use Rattle.std.specs.Str.{bytes_eq}
+use Rattle.sm_base.specs.Limits.{extent_limit}
 use Rattle.sm_base.specs.Kinds.{is_entry, is_image}
 use Rattle.sm_base.specs.Names.{base_uuid}
 use Rattle.sm_base.specs.Numbers.{IsGeometry}
@@ -55,7 +56,7 @@ begun_with xs places room = record { rows = xs; places = places; attached = reco
 pub record IsRead (s : Site) (t : VolumeTable) (read : Row → Option TreeRow) (xs : List TreeRow) (places : List (Option Record)) : Type 0 where
   pub rows_are : xs ≡ filter_map read t.volumes
   pub table : IsTable s.count t
-  pub few_extents : s.count ≤ 65536
+  pub few_extents : s.count ≤ extent_limit
   pub record_volume : length (extents_of (rows t Mgt)) ≡ record_extents s.geometry.extent
   pub few : length (images t) ≤ image_limit
   pub named : (r : Row) → In r t.volumes → is_misnamed t r ≡ false

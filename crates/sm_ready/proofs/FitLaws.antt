@@ -1,12 +1,14 @@
 -- The text of a table of few images and of one journal entry at most fits its slot, so that of a table of which memory is
 -- orderly.
-use Rattle.std.proofs.Common.{◌≡◌, suc, ℕ, ◌+◌, ◌*◌, ◌≤◌, Bool, true, false, cond, List, [], ◌∷◌, length, filter, refl, sym, ap, subst, arith, length-append}
+use Rattle.std.proofs.Common.{◌≡◌, suc, ℕ, ◌+◌, ◌*◌, ◌≤◌, Bool, true, false, cond, List, [], ◌∷◌, length, filter, refl, sym, ap, ◌∙◌, subst, arith, length-append}
 use Rattle.std.specs.List.{AllByRecursion, flat_map}
 use Rattle.std.specs.List.Sorted.{IsStrictlySortedBy}
 use Rattle.std.specs.declared.cmp.Ordering.TheVariants.{Less}
 use Rattle.std.proofs.lemmas.Bool.{true≢false}
+use Rattle.sm_base.proofs.KindLaws.{by_kind}
+use Rattle.sm_base.specs.Limits.{extent_limit}
 use Rattle.sm_base.specs.declared.names.Name.{Name}
-use Rattle.sm_base.specs.declared.names.Name.TheVariants.{Mgt, Vhd, Raw, Old}
+use Rattle.sm_base.specs.declared.names.Name.TheVariants.{Mgt}
 use Rattle.sm_base.specs.declared.operations.Op.{Op}
 use Rattle.sm_base.specs.declared.operations.Op.TheVariants as op
 use Rattle.sm_base.specs.Kinds.{is_image, is_entry}
@@ -55,12 +57,9 @@ step true false r rs most none rest = omega (arith, rest)
 step false true r rs most none rest = omega (arith, rest)
 step false false r rs most none rest = none refl refl
 
-the_records : (n : Name) → is_image n ≡ false → is_entry n ≡ false → n ≡ Mgt
-the_records Mgt e f = refl
-the_records (Vhd u) e f = absurd (true≢false e)
-the_records (Raw u) e f = absurd (true≢false e)
-the_records (Old u) e f = absurd (true≢false e)
-the_records _ e f = absurd (true≢false f)
+-- what is neither an image nor an entry has the records
+pub the_records : (n : Name) → is_image n ≡ false → is_entry n ≡ false → n ≡ Mgt
+the_records n no_image no_entry = by_kind n (λ is. is) (λ image. absurd (true≢false (sym image ∙ no_image))) (λ entry. absurd (true≢false (sym entry ∙ no_entry)))
 
 -- behind the volume of records all are images or entries
 behind : (rs : List Row) → AllByRecursion (λ (m : Name). name_cmp Mgt m ≡ Less) (names_of rs) → length rs ≤ length (image_rows rs) + length (entries rs) + 0
@@ -82,12 +81,12 @@ one_entry (op.Relink v p) = omega arith
 one_entry (op.Leaf l p cursor) = omega arith
 
 -- a table of few images and of few entries
-pub fits_entries : (count : ℕ) (t : VolumeTable) → IsTable count t → count ≤ 65536 → length (images t) ≤ image_limit → length (names_in t is_entry) ≤ 4 → length (text t) ≤ text_limit
+pub fits_entries : (count : ℕ) (t : VolumeTable) → IsTable count t → count ≤ extent_limit → length (images t) ≤ image_limit → length (names_in t is_entry) ≤ 4 → length (text t) ≤ text_limit
 fits_entries count t table extents few entries =
     omega (arith, length-text t, long_volumes t.volumes table.volumes.each, one_other t.volumes table.volumes.rising, entries, few, used-le count t.volumes table.volumes, extents)
 
 -- and of one entry at most
-pub fits_few : (count : ℕ) (t : VolumeTable) → IsTable count t → count ≤ 65536 → length (images t) ≤ image_limit → length (names_in t is_entry) ≤ 1 → length (text t) ≤ text_limit
+pub fits_few : (count : ℕ) (t : VolumeTable) → IsTable count t → count ≤ extent_limit → length (images t) ≤ image_limit → length (names_in t is_entry) ≤ 1 → length (text t) ≤ text_limit
 fits_few count t table extents few one = fits_entries count t table extents few (omega (arith, one))
 
 pub fits_orderly : (s : Site) (t : VolumeTable) (m : Known) → IsOrderly s t m → length (text t) ≤ text_limit

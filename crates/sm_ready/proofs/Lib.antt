@@ -67,3 +67,6 @@ pub mod GrownLaws
 pub mod ApartLaws
 pub mod RunLaws
 pub mod FramingLaws
+pub mod ChainNames
+pub mod UseLaws
+pub mod EntryKinds

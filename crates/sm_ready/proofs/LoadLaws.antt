@@ -8,6 +8,7 @@ use Rattle.std.proofs.lemmas.Bool.{true≢false}
 use Rattle.std.proofs.lemmas.List.{append-nil, map-append, take-append-drop}
 use Rattle.std.proofs.lemmas.List.Elements.{filter_map-append}
 use Rattle.std.proofs.lemmas.Option.{none-some, same_Some}
+use Rattle.sm_base.specs.Limits.{extent_limit}
 use Rattle.sm_base.specs.Kinds.{is_image}
 use Rattle.sm_base.specs.Names.{IsName, name_cmp}
 use Rattle.sm_base.specs.declared.names.Name.{Name}
@@ -118,7 +119,7 @@ module _ {count : ℕ} (kept : RoomyTable) {hs : List RoomyRow} {i : ℕ} {h : R
   there : In h.row (rows_alone kept.rows)
   there = subst (λ xs. In h.row (rows_alone xs)) is (item_in a)
 
-  pub extents_few : count ≤ 65536 → length h.row.extents < 2 ^ 32
+  pub extents_few : count ≤ extent_limit → length h.row.extents < 2 ^ 32
   extents_few few = omega (arith, one_within (rows_alone kept.rows) h.row there, used-le count (rows_alone kept.rows) table.volumes, few)
 
   pub item_named : {x : TreeRow} → IsReadFrom h.row x → IsName (row_name x)

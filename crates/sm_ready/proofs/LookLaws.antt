@@ -26,7 +26,7 @@ use Rattle.sm_refs.proofs.NameLemmas.{uuid_from_same, same_uuid-refl}
 use Rattle.vhd_image.specs.Bodies.{parent_name, sector_count}
 use Rattle.vhd_chain.specs.Trees.{chain_length, row_name, tree_row}
 use Rattle.vhd_chain.specs.declared.rows.TreeRow.{TreeRow}
-use Rattle.sm_machine.specs.Shapes.{Attachment, DiskRecord, ImageRow, attached_as, chain, disk_image, disk_record, is_image_of, mode_in, parent_of}
+use Rattle.sm_machine.specs.Shapes.{Attachment, DiskRecord, ImageRow, attached_as, chain, disk_image, disk_record, is_image_of, mode_in, parent_of, chain_limit}
 use Rattle.sm_machine.specs.WellFormed.{EndsWithin, IsWellFormed}
 use Rattle.sm_machine.proofs.Chains.{parent_of-in}
 use Rattle.sm_machine.proofs.Guests.{disks_own, disk_image_is}
@@ -178,6 +178,6 @@ module _ (s : Site) (t : VolumeTable) (m : Known) (o : IsOrderly s t m) (w : IsW
           ap suc (subst (λ n. chain_length m.rows (suc k) n ≡ length (chain k n (map machine_row m.rows))) named (rest q.0 q.1 more))
 
 -- the chain of an image is as long as in memory
-pub chain_found : (s : Site) (t : VolumeTable) (m : Known) (r : TreeRow) → IsOrderly s t m → In r m.rows → chain_length m.rows 31 (row_name r) ≡ length (chain 30 (row_name r) (shape_in s t m).images)
+pub chain_found : (s : Site) (t : VolumeTable) (m : Known) (r : TreeRow) → IsOrderly s t m → In r m.rows → chain_length m.rows (suc chain_limit) (row_name r) ≡ length (chain chain_limit (row_name r) (shape_in s t m).images)
 unfolding shape_in
 chain_found s t m r o i = ∥∥₁_elim o.well_formed (hlevel props) (λ w. chain_alike s t m o w 30 r i (w.chains (machine_row r) (In-map_at machine_row m.rows r i)))

@@ -7,6 +7,7 @@ use Rattle.std.proofs.lemmas.Bool.{or_parts, ltb-false, cases_lt}
 use Rattle.std.proofs.lemmas.Nat.{mul-le}
 use Rattle.common_laws.specs.Lists.{In}
 use Rattle.common_laws.proofs.Lists.{find-some}
+use Rattle.sm_base.specs.Limits.{extent_limit}
 use Rattle.sm_base.specs.Numbers.{IsGeometry, div_up, first, thin, thick}
 use Rattle.sm_base.specs.declared.operations.Mode.TheVariants.{Ro, Rw}
 use Rattle.sm_base.proofs.NumberLemmas.{blocks-le, div_up-le, image_fits}
@@ -60,7 +61,7 @@ module _ (σ : Shape) (w : IsWellFormed σ) where
       by true = omega (arith, thick_row i at, few_thin)
       by false = omega (arith, few_thin)
 
-  few_raw : (size : ℕ) → σ.extents ≤ 65536 → ((size == 0) || nat_lt (σ.entries * σ.block) (rounded σ true size) || nat_lt (σ.extents * σ.extent) (rounded σ true size)) ≡ false → new_extents σ true size < 2 ^ 32
+  few_raw : (size : ℕ) → σ.extents ≤ extent_limit → ((size == 0) || nat_lt (σ.entries * σ.block) (rounded σ true size) || nat_lt (σ.extents * σ.extent) (rounded σ true size)) ≡ false → new_extents σ true size < 2 ^ 32
   unfolding rounded
   few_raw size most good =
       let n = new_extents σ true size in
@@ -70,7 +71,7 @@ module _ (σ : Shape) (w : IsWellFormed σ) where
         | inr under ↦ omega (arith, under, most)
       ]
 
-  few_need : (c : Command) → σ.extents ≤ 65536 → is_bad_size σ c ≡ false → need σ c < 2 ^ 32
+  few_need : (c : Command) → σ.extents ≤ extent_limit → is_bad_size σ c ≡ false → need σ c < 2 ^ 32
   unfolding need is_bad_size
   few_need (Create u size true label) most good = few_raw size most good
   few_need (Create u size false label) most good = omega (arith, few_thin)

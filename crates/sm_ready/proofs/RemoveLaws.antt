@@ -52,7 +52,7 @@ use Rattle.sm_ready.specs.Ready.{IsBelow, IsReady}
 use Rattle.sm_standing.proofs.ImageSectors.{vhd_same, raw_same}
 use Rattle.sm_ready.proofs.LeftLaws.{left_in, links_left, left_now, none_of_vhd, none_of_raw}
 use Rattle.sm_ready.proofs.Orders.{geometry_of, rowed, whole, none_making, none_of, In-tree_row}
-use Rattle.sm_ready.proofs.SoundLaws.{folding_journal}
+use Rattle.sm_ready.proofs.EntryKinds.{folding_journal}
 use Rattle.sm_ready.proofs.ShapeLaws.{HasNoNew, any_filter, shown_same}
 use Rattle.sm_standing.proofs.DisksShown.{row_of-In}
 use Rattle.sm_ready.specs.Known.{Known, machine_row, shape_in, entry_of, row_face, tree_face, records_in, shown_places}

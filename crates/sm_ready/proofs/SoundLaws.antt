@@ -31,6 +31,7 @@ use Rattle.sm_standing.proofs.DisksShown.{row_of-In}
 use Rattle.vg_meta.proofs.NameLaws.{less_other}
 use Rattle.sm_machine.proofs.Chains.{parent_of-in}
 use Rattle.sm_base.proofs.NumberLemmas.{le-div_up}
+use Rattle.sm_ready.proofs.EntryKinds.{folding_journal}
 use Rattle.sm_ready.proofs.BaseLaws.{base_of_number, base_number_fits}
 use Rattle.sm_ready.proofs.OnceLaws.{recorded_once}
 use Rattle.sm_standing.specs.Standing.{standing_volume, uuids}
@@ -130,17 +131,6 @@ other_linked c (Inflate u k) e = refl
 other_linked c (Coalesce a b) e = absurd (true≢false e)
 other_linked c (Relink a b) e = absurd (true≢false e)
 other_linked c (Leaf a b) e = absurd (true≢false e)
-
-pub folding_journal : (n : Name) → is_folding n ≡ true → is_entry n ≡ true
-folding_journal Mgt e = absurd (true≢false (sym e))
-folding_journal (Vhd u) e = absurd (true≢false (sym e))
-folding_journal (Raw u) e = absurd (true≢false (sym e))
-folding_journal (Old u) e = absurd (true≢false (sym e))
-folding_journal (Clone d b k) e = refl
-folding_journal (Inflate u k) e = refl
-folding_journal (Coalesce a b) e = refl
-folding_journal (Relink a b) e = refl
-folding_journal (Leaf a b) e = refl
 
 filter_within : {A : Type 0} (f g : A → Bool) → ((x : A) → f x ≡ true → g x ≡ true) → (xs : List A) → filter f xs ≡ filter f (filter g xs)
 filter_within f g within [] = refl

@@ -1,5 +1,6 @@
 -- What holds of the table and of memory between two steps, told or not.
 use Rattle.std.specs.Prelude.{◌≡◌, ◌*◌, ◌≤◌, max, true, false, length}
+use Rattle.sm_base.specs.Limits.{extent_limit}
 use Rattle.sm_base.specs.declared.names.Name.{Name}
 use Rattle.sm_base.specs.declared.names.Name.TheVariants.{Mgt}
 use Rattle.sm_base.specs.declared.operations.Op.{Op}
@@ -39,7 +40,7 @@ IsRoomy s = IsRoomyIn s s.op
 -- shape is well formed, and each image is counted as often as something uses it
 pub record IsOrderly (s : Site) (t : VolumeTable) (m : Known) : Type 0 where
   pub table : IsTable s.count t
-  pub few_extents : s.count ≤ 65536
+  pub few_extents : s.count ≤ extent_limit
   pub record_volume : length (extents_of (rows t Mgt)) ≡ record_extents s.geometry.extent
   -- new volumes may stand beside the images
   pub few : length (table_images t) ≤ image_limit

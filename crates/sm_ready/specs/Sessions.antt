@@ -32,6 +32,7 @@ IsReadyStore g s m = IsReady (g.site s) (table_alone (g.table s)) (g.area s) (kn
 abbrev pub state_in : Site → VolumeTable → Held → Known → State
 state_in s t area m = record { disks = disks (content_now s t area); shape = shape_in s t m }
 
+-- the disks and the shape of a store and of the memory beside it
 abbrev pub store_state : {S : Type 0} → Ghosts S → S → Memory → State
 store_state g s m = state_in (g.site s) (table_alone (g.table s)) (g.area s) (known m)
 

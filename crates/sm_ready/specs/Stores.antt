@@ -38,6 +38,7 @@ Leaving = VolumeTable → (ℕ → List ℕ) → Type 0
 abbrev pub Left : Type 0 → Site → Leaving → Bool → VolumeTable → Held → Leaving
 Left told s leaves failed t area u image = leaves u image ⊎ (told × (failed ≡ false) × IsBefore (area_size s) t area u image)
 
+-- what a stop of a store may leave
 abbrev pub StoreLeaves : {S : Type 0} → Ghosts S → S → Leaving
 StoreLeaves g s = Left g.told (g.site s) (g.leaves s) (g.failed s) (table_alone (g.table s)) (g.area s)
 

@@ -100,5 +100,15 @@ pub fn image<'a>(memory: &'a Memory, disk: &Uuid) -> Option<&'a TreeRow>
 pub fn is_vhd(row: &TreeRow) -> bool
     ensures { result ≡ is_vhd_name (row_name row.now) }
 {
-    matches!(row.image.name(), Name::Vhd(_))
+    match row.image.name() {
+        Name::Vhd(_) => true,
+        Name::Mgt
+        | Name::Raw(_)
+        | Name::Old(_)
+        | Name::Clone { .. }
+        | Name::Inflate { .. }
+        | Name::Coalesce { .. }
+        | Name::Relink { .. }
+        | Name::Leaf { .. } => false,
+    }
 }

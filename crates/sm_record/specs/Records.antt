@@ -40,6 +40,7 @@ pub record IsRecord (r : Record) : Type 0 where
 
 -- ---- the sector of a record, field by field
 
+-- so many zeros
 abbrev pub zeros : ℕ → List ℕ
 zeros n = replicate n 0
 
@@ -77,6 +78,7 @@ record_sector r = fields r ++ to_be_bytes w32 (sum (fields r))
 abbrev pub at : ℕ → ℕ → List ℕ → List ℕ
 at offset count sector = take count (drop offset sector)
 
+-- bytes that are all zeros
 abbrev pub is_zeros : List ℕ → Bool
 is_zeros bytes = list_all (λ b. b == 0) bytes
 

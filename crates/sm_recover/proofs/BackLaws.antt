@@ -2,6 +2,7 @@
 use Rattle.std.proofs.Common.{◌≡◌, ◌≢◌, ◌⊎◌, inl, inr, ℕ, ◌≤◌, Bool, true, false, List, [], ◌∷◌, ◌++◌, Option, Some, None, is_some, refl, sym, ap, ap₂, ◌∙◌, subst}
 use Rattle.std.proofs.lemmas.Bool.{true≢false}
 use Rattle.std.proofs.lemmas.Option.{same_Some}
+use Rattle.sm_base.specs.Limits.{extent_limit}
 use Rattle.sm_base.specs.Kinds.{is_image}
 use Rattle.sm_base.specs.Names.{IsName}
 use Rattle.sm_base.specs.declared.names.Name.{Name}
@@ -30,7 +31,7 @@ pub record HasBase (t : VolumeTable) (disk : List ℕ) (from : Name) (r : Row) :
   pub named : IsName (under_name from disk)
   pub kind : (under_name from disk ≡ Vhd disk) ⊎ ((under_name from disk ≡ Raw disk) × (rows t (Raw disk) ≡ None))
 
-module _ (count : ℕ) (extents : count ≤ 65536) where
+module _ (count : ℕ) (extents : count ≤ extent_limit) where
   -- ---- one volume less, where it is there
 
   pub record IsGone (t u : VolumeTable) (n : Name) : Type 0 where

@@ -1,6 +1,6 @@
 -- What the checks say of the images as they are read, and of the places of the records.
-use Rattle.std.proofs.Common.{◌≡◌, ◌⊎◌, inl, inr, ℕ, ◌*◌, ◌≤◌, true, false, not, ◌&&◌, List, length, map, filter, Option, Some, None, is_some, refl, sym, ap, ◌∙◌, subst, arith}
-use Rattle.std.proofs.lemmas.Bool.{true≢false}
+use Rattle.std.proofs.Common.{suc, ◌≡◌, ◌⊎◌, inl, inr, ℕ, ◌*◌, ◌≤◌, true, false, not, ◌&&◌, List, length, map, filter, Option, Some, None, is_some, refl, sym, ap, ◌∙◌, subst, arith}
+use Rattle.std.proofs.lemmas.Bool.{true≢false, eqb-true}
 use Rattle.std.proofs.lemmas.List.Sums.{length-filter}
 use Rattle.std.proofs.lemmas.Option.{none-some, get_or_from_slice_get}
 use Rattle.sm_base.specs.declared.names.Name.{Name}
@@ -14,6 +14,7 @@ use Rattle.vg_volumes.specs.declared.stores.Store.{Ghosts}
 use Rattle.common_laws.specs.Lists.{In}
 use Rattle.common_laws.proofs.Lists.{In-map_at}
 use Rattle.common_laws.proofs.Options.{is_some-parts}
+use Rattle.sm_machine.specs.Shapes.{chain_limit}
 use Rattle.sm_machine.specs.WellFormed.{EndsWithin, HasParent}
 use Rattle.sm_record.specs.declared.records.Record.{Record}
 use Rattle.sm_mgt.specs.Places.{as_reading, is_of, place_count}
@@ -28,6 +29,7 @@ use Rattle.vhd_chain.specs.Trees.{row_name, tree_row}
 use Rattle.vhd_chain.specs.declared.rows.TreeRow.{TreeRow}
 use Rattle.vhd_image.specs.Bodies.{parent_name, sector_count}
 use Rattle.vhd_image.specs.declared.images.Body.{Body}
+use Rattle.sm_ready.proofs.EntryKinds.{image_not_making}
 use Rattle.sm_ready.specs.Known.{machine_row}
 use Rattle.sm_ready.specs.Outlined.{link_in, outline_in}
 use Rattle.sm_ready.proofs.BegunLaws.{begun_with}
@@ -36,7 +38,7 @@ use Rattle.sm_checks.specs.Faults.{HasLinks, HasPlaces, HasTable}
 use Rattle.sm_checks.specs.Loaded.{AreRowsOf, HasEachRow, IsReadAs, read_volumes, row_among, shortened, stored_with}
 use Rattle.sm_checks.proofs.EntryLaws.{IsStaged}
 use Rattle.sm_checks.proofs.DiskLaws.{records_counted}
-use Rattle.sm_checks.proofs.TableLaws.{image_not_making, short_filtered, short_from, short_in}
+use Rattle.sm_checks.proofs.TableLaws.{short_filtered, short_from, short_in}
 use Rattle.sm_ready.proofs.Orders.{In-tree_row}
 use Rattle.sm_checks.proofs.TreeLaws.{HasParentIn, StandsRight, both_true, ends, parent_in, stands_right}
 use Rattle.sm_checks.proofs.LoadedLaws.{named_data, none_among, read_row}
@@ -151,12 +153,12 @@ module _ {S : Type 0} (g : Ghosts S) (store : S) (xs : List TreeRow) (places : L
         }
 
     -- each chain is short, and ends
-    pub short : (x : TreeRow) → In x xs → chain_length seen 31 (row_name x) ≤ 30
+    pub short : (x : TreeRow) → In x xs → chain_length seen (suc chain_limit) (row_name x) ≤ chain_limit
     short x i = by (parent_name x.image) refl
       where
         by : (o : Option Name) → parent_name x.image ≡ o → chain_length seen 31 (row_name x) ≤ 30
         by None is = let one = length_top seen 30 (row_name x) (link_of x) (link_seen x i) is in omega (arith, one)
         by (Some p) is = (stands_in_tree x p i is).short
 
-    pub chains : (x : TreeRow) → In x xs → EndsWithin 30 (Some (row_name x)) (map machine_row xs)
+    pub chains : (x : TreeRow) → In x xs → EndsWithin chain_limit (Some (row_name x)) (map machine_row xs)
     chains x i = ends xs seen links found_link (λ y p j is. let h = parent_there y p j is in (h.row, h.there)) 30 (row_name x) (link_of x) (link_seen x i) (short x i)

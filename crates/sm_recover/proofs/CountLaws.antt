@@ -4,6 +4,7 @@ use Rattle.std.specs.List.{AllByRecursion}
 use Rattle.std.specs.Ordering.{is_lt}
 use Rattle.std.proofs.lemmas.Bool.{true≢false}
 use Rattle.std.proofs.lemmas.Option.{none-some, same_Some}
+use Rattle.sm_base.specs.Limits.{extent_limit}
 use Rattle.sm_base.specs.Kinds.{is_entry, is_image}
 use Rattle.sm_base.specs.Names.{name_cmp}
 use Rattle.sm_base.specs.declared.names.Name.{Name}
@@ -127,7 +128,7 @@ names_counted (r ∷ rs) = by (is_entry r.name) (names_counted rs)
     by true rest = ap suc rest
     by false rest = rest
 
-pub small_fits : {count : ℕ} {t : VolumeTable} → count ≤ 65536 → IsSmall count t → length (text t) ≤ text_limit
+pub small_fits : {count : ℕ} {t : VolumeTable} → count ≤ extent_limit → IsSmall count t → length (text t) ≤ text_limit
 small_fits {count} {t} extents small = fits_entries count t small.table extents small.few_images (omega (arith, names_counted t.volumes, small.few_entries))
 
 image_no_entry : (n : Name) → is_image n ≡ true → is_entry n ≡ false
@@ -169,7 +170,7 @@ may_join count t [] ys may rest = rest
 may_join count t (c ∷ xs) ys may rest = (may.0, may.1, may_join count (applied t c) xs ys may.2 rest)
 
 -- one change
-pub may_one : {count : ℕ} {t : VolumeTable} (c : Change) → count ≤ 65536 → IsSmall count t → Permits count t c → IsLean c → AllMay count t (c ∷ [])
+pub may_one : {count : ℕ} {t : VolumeTable} (c : Change) → count ≤ extent_limit → IsSmall count t → Permits count t c → IsLean c → AllMay count t (c ∷ [])
 may_one c extents small allowed lean = (allowed, small_fits extents (small_next c small allowed lean), tt)
 
 -- ---- sequence numbers never fall

@@ -6,6 +6,7 @@ use Rattle.std.proofs.lemmas.Bool.{true≢false}
 use Rattle.std.proofs.lemmas.Option.{none-some, same_Some}
 use Rattle.common_laws.specs.Lists.{In}
 use Rattle.common_laws.proofs.Lists.{In-filter}
+use Rattle.sm_base.specs.Limits.{extent_limit}
 use Rattle.sm_base.specs.Kinds.{is_image, is_entry}
 use Rattle.sm_base.specs.declared.names.Name.{Name}
 use Rattle.sm_base.specs.declared.names.Name.TheVariants.{Mgt, Vhd, Raw, Old, Clone, Inflate, Coalesce, Relink, Leaf}
@@ -25,6 +26,7 @@ use Rattle.sm_standing.specs.Opened.{applied_all, base_changes, changes_back, is
 use Rattle.sm_standing.specs.Unfolded.{unfolded, without_entry}
 use Rattle.sm_standing.proofs.DisksShown.{row_of-In}
 use Rattle.sm_standing.proofs.Orders.{rising_ext}
+use Rattle.sm_ready.proofs.EntryKinds.{image_not_folding}
 use Rattle.sm_ready.specs.Cleaned.{HasFewRemovals}
 use Rattle.sm_ready.specs.Runs.{AllMay}
 use Rattle.sm_ready.proofs.RowLaws.{found_in}
@@ -117,7 +119,7 @@ pub record IsBehind (count : ℕ) (e : Name) (r : Row) (t : VolumeTable) (cs : L
   pub there : rows (applied_all t cs) e ≡ Some r
   pub less : applied (applied_all t cs) (Remove e) ≡ applied_all (applied t (Remove e)) cs
 
-module _ (count : ℕ) (few : count ≤ 65536) (e : Name) (r : Row) (not_mgt : e ≢ Mgt) where
+module _ (count : ℕ) (few : count ≤ extent_limit) (e : Name) (r : Row) (not_mgt : e ≢ Mgt) where
   one_beside : (t : VolumeTable) (c : Change) → IsBeside e c → IsSmall count t → rows t e ≡ Some r → Permits count (applied t (Remove e)) c
       → Permits count t c × (rows (applied t c) e ≡ Some r) × (applied (applied t c) (Remove e) ≡ applied (applied t (Remove e)) c)
   one_beside t c beside small there a =
@@ -165,17 +167,6 @@ all_wanted P false c it = tt
 pub all_join : (P : Change → Type 0) (xs ys : List Change) → AllByRecursion P xs → AllByRecursion P ys → AllByRecursion P (xs ++ ys)
 all_join P [] ys front behind = behind
 all_join P (c ∷ xs) ys front behind = (front.0, all_join P xs ys front.1 behind)
-
-pub image_not_folding : (n : Name) → is_image n ≡ true → is_folding n ≡ false
-image_not_folding (Vhd u) h = refl
-image_not_folding (Raw u) h = refl
-image_not_folding (Old u) h = refl
-image_not_folding Mgt h = refl
-image_not_folding (Clone d b w) h = refl
-image_not_folding (Inflate u k) h = refl
-image_not_folding (Coalesce v p) h = absurd (true≢false (sym h))
-image_not_folding (Relink v p) h = absurd (true≢false (sym h))
-image_not_folding (Leaf l p) h = absurd (true≢false (sym h))
 
 module _ (e : Name) (folds : is_folding e ≡ true) where
   away : (n : Name) → is_folding n ≡ false → e ≡ n → ⊥

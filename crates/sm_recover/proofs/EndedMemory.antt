@@ -43,6 +43,7 @@ use Rattle.std.specs.List.{slice_index_or}
 use Rattle.vhd_chain.specs.Trees.{tree_row}
 use Rattle.vhd_chain.specs.declared.rows.TreeRow.{TreeRow}
 use Rattle.vhd_chain.proofs.ByName.{tree_row-without_other}
+use Rattle.sm_ready.proofs.EntryKinds.{image_not_making}
 use Rattle.sm_ready.specs.Outlined.{link_in}
 use Rattle.sm_ready.proofs.Orders.{In-tree_row}
 use Rattle.sm_ready.proofs.RowLaws.{All-In, found_in}
@@ -55,7 +56,7 @@ use Rattle.sm_checks.proofs.EntryLaws.{IsStaged, head_alone, staged_open}
 use Rattle.sm_checks.proofs.LoadedLaws.{named_data, read_row}
 use Rattle.sm_recover.proofs.MovedRows.{AreFound, IsMoved, at_gone, at_other, link_new, moved_are, moved_each, rows_are}
 use Rattle.sm_recover.proofs.RowsLaws.{has_volume, no_row}
-use Rattle.sm_checks.proofs.TableLaws.{found_read, image_not_making, names_mapped, short_in, short_row}
+use Rattle.sm_checks.proofs.TableLaws.{found_read, names_mapped, short_in, short_row}
 
 -- ---- the volumes that are read are found in the table without an enlargement
 

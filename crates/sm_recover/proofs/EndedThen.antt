@@ -7,6 +7,7 @@ use Rattle.std.proofs.lemmas.Option.{none-some}
 use Rattle.common_laws.specs.Lists.{In, first_some}
 use Rattle.common_laws.proofs.Booleans.{not_false}
 use Rattle.common_laws.proofs.Lists.{In-map_at, filter-In}
+use Rattle.sm_base.specs.Limits.{extent_limit}
 use Rattle.sm_base.specs.declared.names.Name.{Name}
 use Rattle.sm_base.specs.declared.names.Name.TheVariants.{Mgt, Vhd, Raw, Old, Clone, Inflate, Coalesce, Relink, Leaf}
 use Rattle.vg_meta.specs.Changes.{applied}
@@ -193,7 +194,7 @@ pub leaf_old : (t : VolumeTable) (l p : List ℕ) → AllByRecursion IsOld (leaf
 leaf_old = of_changes IsOld (λ n k. (tt, λ r. refl)) (λ n. (tt, tt)) (λ n. (tt, λ r. refl)) (λ u v. ((refl, refl), λ r named. refl))
 
 -- so each is allowed in its turn
-all_may : {count : ℕ} → count ≤ 65536 → (t : VolumeTable) (cs : List Change) → IsSmall count t → AllPermit count t cs → AllByRecursion IsLean cs → AllMay count t cs
+all_may : {count : ℕ} → count ≤ extent_limit → (t : VolumeTable) (cs : List Change) → IsSmall count t → AllPermit count t cs → AllByRecursion IsLean cs → AllMay count t cs
 all_may extents t [] small permits lean = tt
 all_may extents t (c ∷ cs) small permits lean =
     let next = small_next c small permits.0 lean.0 in

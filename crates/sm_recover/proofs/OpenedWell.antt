@@ -15,7 +15,7 @@ use Rattle.vg_volumes.specs.Stored.{held_in, sectors_in}
 use Rattle.vg_volumes.specs.Volumes.{volume}
 use Rattle.vg_volumes.specs.declared.stores.Store.{Ghosts}
 use Rattle.common_laws.specs.Lists.{In}
-use Rattle.sm_machine.specs.Shapes.{image_uuid, is_vhd}
+use Rattle.sm_machine.specs.Shapes.{image_uuid, is_vhd, chain_limit}
 use Rattle.sm_machine.specs.WellFormed.{IsImageRow, EndsWithin, HasParent, is_image_name, table_length}
 use Rattle.sm_record.specs.declared.records.Record.{Record}
 use Rattle.sm_mgt.specs.Places.{Agrees, records_held, is_of, place_count}
@@ -145,7 +145,7 @@ pub record IsBeside {S : Type 0} (g : Ghosts S) (store : S) (was : VolumeTable) 
   pub each : HasEachRow g.told (stored_with g store (undone was)) (undone was).volumes ys
   pub named : (r : Row) → In r (undone was).volumes → is_misnamed (undone was) r ≡ false
   pub parents : (x : TreeRow) (p : Name) → In x ys → parent_name x.image ≡ Some p → HasParent (map machine_row ys) (machine_row x) p
-  pub chains : (x : TreeRow) → In x ys → EndsWithin 30 (Some (row_name x)) (map machine_row ys)
+  pub chains : (x : TreeRow) → In x ys → EndsWithin chain_limit (Some (row_name x)) (map machine_row ys)
   pub recorded : (u : List ℕ) → is_some (standing_volume (undone was) u) ≡ true → length (filter (is_of u) places) ≡ 1
   -- each VHD image of it stood before in as many extents
   pub source : (u : List ℕ) (r : Row) → rows (undone was) (Vhd u) ≡ Some r → r.fresh ≡ false

@@ -20,6 +20,7 @@ use Rattle.sm_standing.specs.Unfolded.{unfolded, unfolded_content}
 use Rattle.sm_standing.proofs.PlainKept.{but_leaf_known}
 use Rattle.sm_standing.proofs.UndoneButLeaf.{but_leaf_opened}
 use Rattle.sm_standing.proofs.UnfoldedButLeaf.{unfolded_opened, unfolded_sound, unfolded_table}
+use Rattle.sm_ready.proofs.EntryKinds.{image_not_folding}
 use Rattle.sm_ready.specs.Cleaned.{HasFewRemovals}
 use Rattle.sm_ready.specs.Frames.{HasCommits}
 use Rattle.sm_ready.specs.Does.{store_shape}
@@ -39,7 +40,7 @@ use Rattle.sm_checks.specs.Links.{IsLinkRight}
 use Rattle.sm_checks.specs.Loaded.{stored_undone}
 use Rattle.sm_recover.specs.Repairs.{IsChecked, IsCheckedStore, IsEndableStore, IsLinkable}
 use Rattle.sm_recover.specs.Steps.{IsPartOf, first_changes, uncopied}
-use Rattle.sm_recover.proofs.EndLaws.{first_table, image_not_folding, rows_unfolded}
+use Rattle.sm_recover.proofs.EndLaws.{first_table, rows_unfolded}
 use Rattle.sm_recover.proofs.FirstLaws.{few_link, few_rest, first_done, first_same}
 use Rattle.sm_recover.proofs.StepLaws.{part_all}
 use Rattle.sm_recover.proofs.SweptLaws.{opened_shape}

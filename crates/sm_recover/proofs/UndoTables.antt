@@ -4,6 +4,7 @@ use Rattle.std.proofs.lemmas.Bool.{ltb-true, true≢false}
 use Rattle.std.proofs.lemmas.Option.{none-some}
 use Rattle.common_laws.specs.Lists.{In}
 use Rattle.common_laws.proofs.Options.{none_of_some}
+use Rattle.sm_base.specs.Limits.{extent_limit}
 use Rattle.sm_base.specs.Kinds.{is_image, is_entry}
 use Rattle.sm_base.specs.Names.{IsName}
 use Rattle.sm_base.specs.declared.names.Name.{Name}
@@ -99,7 +100,7 @@ pub back_not_twin : (n : Name) (d w : List ℕ) → d ≢ w → under_name n d �
 back_not_twin (Raw b) d w other is = let x = is in cc
 back_not_twin _ d w other is = other (vhd_same is)
 
-module _ (count : ℕ) (extents : count ≤ 65536) {t : VolumeTable} {d b w : List ℕ} (f : IsFork t d b w) (small : IsSmall count t) where
+module _ (count : ℕ) (extents : count ≤ extent_limit) {t : VolumeTable} {d b w : List ℕ} (f : IsFork t d b w) (small : IsSmall count t) where
   abbrev twin_back : List Change
   twin_back = wanted (is_there t (Vhd w)) (Remove (Vhd w))
 
@@ -181,7 +182,7 @@ module _ (count : ℕ) (extents : count ≤ 65536) {t : VolumeTable} {d b w : Li
 
 -- ---- and an enlargement
 
-module _ (count : ℕ) (extents : count ≤ 65536) {t : VolumeTable} {u : List ℕ} {e : ℕ} (w : IsBeingEnlarged t u e) (small : IsSmall count t) where
+module _ (count : ℕ) (extents : count ≤ extent_limit) {t : VolumeTable} {u : List ℕ} {e : ℕ} (w : IsBeingEnlarged t u e) (small : IsSmall count t) where
   pub enlargement_back : AllMay count t (changes_back t (Inflate u e))
   enlargement_back = subst (λ o. AllMay count t (wanted (of_row (is_longer e) o) (Cut (Vhd u) e) ++ Remove (Inflate u e) ∷ [])) (sym w.there) (by (is_longer e w.own) refl)
     where

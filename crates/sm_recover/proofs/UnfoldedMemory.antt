@@ -22,6 +22,7 @@ use Rattle.sm_standing.proofs.UnfoldedLaws.{In-bare}
 use Rattle.sm_standing.proofs.UnfoldedButLeaf.{unfolded_but_leaf}
 use Rattle.vhd_chain.specs.Trees.{tree_row, without as without_row}
 use Rattle.vhd_chain.specs.declared.rows.TreeRow.{TreeRow}
+use Rattle.sm_ready.proofs.EntryKinds.{image_not_folding, image_not_making}
 use Rattle.sm_ready.specs.Outlined.{link_in}
 use Rattle.sm_ready.proofs.Orders.{In-tree_row}
 use Rattle.sm_recover.specs.Backs.{entry_back, fork_back, rows_back}
@@ -33,21 +34,10 @@ use Rattle.sm_recover.proofs.ForkedMemory.{row_moved}
 use Rattle.sm_checks.proofs.LoadedLaws.{among_of, named_data, none_among, read_from}
 use Rattle.sm_recover.proofs.MemoryLaws.{beside}
 use Rattle.sm_recover.proofs.OpenedWell.{IsBeside}
-use Rattle.sm_checks.proofs.TableLaws.{filtered_without, image_not_making, short_row}
+use Rattle.sm_checks.proofs.TableLaws.{filtered_without, short_row}
 use Rattle.sm_recover.proofs.UnfoldLaws.{folding_found, image_same, making_same, still, undoable_unfolded, unfolded_is, unfolded_none}
 
 -- ---- the table without the entry
-
-image_not_folding : (n : Name) → is_image n ≡ true → is_folding n ≡ false
-image_not_folding (Vhd u) image = refl
-image_not_folding (Raw u) image = refl
-image_not_folding (Old u) image = refl
-image_not_folding Mgt image = absurd (true≢false (sym image))
-image_not_folding (Clone d b w) image = absurd (true≢false (sym image))
-image_not_folding (Inflate u e) image = absurd (true≢false (sym image))
-image_not_folding (Coalesce v p) image = absurd (true≢false (sym image))
-image_not_folding (Relink v p) image = absurd (true≢false (sym image))
-image_not_folding (Leaf l p) image = absurd (true≢false (sym image))
 
 -- what is the same in it
 pub record IsBare (t u : VolumeTable) : Type 0 where

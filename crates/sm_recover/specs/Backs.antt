@@ -3,7 +3,7 @@
 use Rattle.std.specs.Prelude.{◌≡◌, ℕ, false, List, Option, None, Some}
 use Rattle.sm_base.specs.Names.{IsName}
 use Rattle.sm_base.specs.declared.names.Name.{Name}
-use Rattle.sm_base.specs.declared.names.Name.TheVariants.{Vhd, Raw, Clone}
+use Rattle.sm_base.specs.declared.names.Name.TheVariants.{Mgt, Vhd, Raw, Old, Clone, Inflate, Coalesce, Relink, Leaf}
 use Rattle.vg_meta.specs.Tables.{VolumeTable}
 use Rattle.sm_standing.specs.Entries.{head, image_with, making}
 use Rattle.sm_standing.specs.Opened.{under_name}
@@ -25,7 +25,15 @@ fork_back (Some from) disk xs = base_back from (under_name from disk) (without (
 
 abbrev pub entry_back : VolumeTable → Option Name → List TreeRow → List TreeRow
 entry_back t (Some (Clone disk base twin)) xs = fork_back (image_with t base) disk (without (Vhd twin) xs)
-entry_back t _ xs = xs
+entry_back t None xs = xs
+entry_back t (Some Mgt) xs = xs
+entry_back t (Some (Vhd u)) xs = xs
+entry_back t (Some (Raw u)) xs = xs
+entry_back t (Some (Old u)) xs = xs
+entry_back t (Some (Inflate image extents)) xs = xs
+entry_back t (Some (Coalesce child parent)) xs = xs
+entry_back t (Some (Relink child parent)) xs = xs
+entry_back t (Some (Leaf leaf parent)) xs = xs
 
 -- the rows in memory once the table's fork is undone
 unfoldable pub rows_back : VolumeTable → List TreeRow → List TreeRow
@@ -37,6 +45,6 @@ pub record IsFreeAgain (disk : List ℕ) (xs : List TreeRow) : Type 0 where
   pub raw_name : IsName (Raw disk)
   pub no_raw : tree_row xs (Raw disk) ≡ None
 
--- so where the entry of a fork is there
+-- where the entry of a fork and its base are there, the disk's names are free again
 abbrev pub CanGiveBack : VolumeTable → List TreeRow → Type 0
 CanGiveBack t xs = (disk base twin : List ℕ) → head (making t) ≡ Some (Clone disk base twin) → (from : Name) → image_with t base ≡ Some from → IsFreeAgain disk xs

@@ -3,7 +3,7 @@
 use Rattle.std.specs.Prelude.{◌≡◌, ℕ, ◌+◌, ◌≤◌, true, false, List, [], ◌∷◌, ◌++◌, length, Option, None, Some, if◌then◌else◌}
 use Rattle.sm_base.specs.Names.{IsName}
 use Rattle.sm_base.specs.declared.names.Name.{Name}
-use Rattle.sm_base.specs.declared.names.Name.TheVariants.{Vhd, Leaf}
+use Rattle.sm_base.specs.declared.names.Name.TheVariants.{Mgt, Vhd, Raw, Old, Clone, Inflate, Coalesce, Relink, Leaf}
 use Rattle.vg_meta.specs.Roomy.{table_alone}
 use Rattle.vg_meta.specs.Tables.{VolumeTable}
 use Rattle.vg_meta.specs.declared.changes.Change.{Change}
@@ -33,7 +33,15 @@ swapped_changes t leaf parent = wanted (is_marked t (Some (Vhd leaf))) (Mark (Vh
 -- the changes that end it, where its entry is there
 abbrev pub leaf_ends : VolumeTable → Option Name → List Change
 leaf_ends t (Some (Leaf leaf parent)) = leaf_changes t leaf parent
-leaf_ends t _ = []
+leaf_ends t None = []
+leaf_ends t (Some Mgt) = []
+leaf_ends t (Some (Vhd u)) = []
+leaf_ends t (Some (Raw u)) = []
+leaf_ends t (Some (Old u)) = []
+leaf_ends t (Some (Clone disk base twin)) = []
+leaf_ends t (Some (Inflate image extents)) = []
+leaf_ends t (Some (Coalesce child parent)) = []
+leaf_ends t (Some (Relink child parent)) = []
 
 -- the table without it
 abbrev pub unleafed : VolumeTable → VolumeTable
@@ -43,7 +51,15 @@ unleafed t = applied_all t (leaf_ends t (head (folding t)))
 abbrev pub leaf_back : VolumeTable → Option Name → List TreeRow → List TreeRow
 leaf_back t (Some (Leaf leaf parent)) xs =
     if is_leaf_renamed t leaf parent then base_back (Vhd parent) (Vhd leaf) xs else base_back (Vhd leaf) (Vhd leaf) xs
-leaf_back t _ xs = xs
+leaf_back t None xs = xs
+leaf_back t (Some Mgt) xs = xs
+leaf_back t (Some (Vhd u)) xs = xs
+leaf_back t (Some (Raw u)) xs = xs
+leaf_back t (Some (Old u)) xs = xs
+leaf_back t (Some (Clone disk base twin)) xs = xs
+leaf_back t (Some (Inflate image extents)) xs = xs
+leaf_back t (Some (Coalesce child parent)) xs = xs
+leaf_back t (Some (Relink child parent)) xs = xs
 
 -- the rows in memory without it
 unfoldable pub rows_ended : VolumeTable → List TreeRow → List TreeRow
@@ -52,7 +68,15 @@ rows_ended t xs = leaf_back t (head (folding t)) xs
 -- the leaf's name is one, and no row has it while it is free
 abbrev pub CanEnd : VolumeTable → Option Name → List TreeRow → Type 0
 CanEnd t (Some (Leaf leaf parent)) xs = IsName (Vhd leaf) × (is_leaf_renamed t leaf parent ≡ true → tree_row (without (Vhd parent) xs) (Vhd leaf) ≡ None)
-CanEnd t _ xs = Unit {0}
+CanEnd t None xs = Unit {0}
+CanEnd t (Some Mgt) xs = Unit {0}
+CanEnd t (Some (Vhd u)) xs = Unit {0}
+CanEnd t (Some (Raw u)) xs = Unit {0}
+CanEnd t (Some (Old u)) xs = Unit {0}
+CanEnd t (Some (Clone disk base twin)) xs = Unit {0}
+CanEnd t (Some (Inflate image extents)) xs = Unit {0}
+CanEnd t (Some (Coalesce child parent)) xs = Unit {0}
+CanEnd t (Some (Relink child parent)) xs = Unit {0}
 
 -- of a store: what is known of its table without it
 abbrev pub IsEndableThen : {S : Type 0} → Ghosts S → S → Type 0

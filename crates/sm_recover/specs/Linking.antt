@@ -1,7 +1,7 @@
 -- The children of an image that goes are linked, one after the other, to the image's parent.
 use Rattle.std.specs.Prelude.{◌≡◌, ◌≤◌, false, List, [], ◌∷◌, length, Option, Some, None}
 use Rattle.sm_base.specs.declared.names.Name.{Name}
-use Rattle.sm_base.specs.declared.names.Name.TheVariants.{Vhd, Relink}
+use Rattle.sm_base.specs.declared.names.Name.TheVariants.{Mgt, Vhd, Raw, Old, Clone, Inflate, Coalesce, Relink, Leaf}
 use Rattle.sm_base.specs.declared.operations.Op.{Op}
 use Rattle.sm_base.specs.declared.operations.Op.TheVariants as op
 use Rattle.sm_disk.specs.Held.{IsSettled, Keeps}
@@ -39,12 +39,28 @@ linked_on _ s = s
 -- the image whose children are being linked, by the entry of a link
 abbrev pub link_image : Option Name → Option Name
 link_image (Some (Relink child parent)) = Some (Vhd child)
-link_image _ = None
+link_image None = None
+link_image (Some Mgt) = None
+link_image (Some (Vhd u)) = None
+link_image (Some (Raw u)) = None
+link_image (Some (Old u)) = None
+link_image (Some (Clone disk base twin)) = None
+link_image (Some (Inflate image extents)) = None
+link_image (Some (Coalesce child parent)) = None
+link_image (Some (Leaf leaf parent)) = None
 
 -- the parent of an image in memory, where the entry of a link stands
 abbrev pub LinkedBy : Option Name → List TreeRow → Shape → Shape → Type 0
 LinkedBy (Some (Relink child parent)) xs before after = (p : Name) → HasLink xs (Vhd child) p → after ≡ linked_past (Vhd child) p before
-LinkedBy _ xs before after = after ≡ before
+LinkedBy None xs before after = after ≡ before
+LinkedBy (Some Mgt) xs before after = after ≡ before
+LinkedBy (Some (Vhd u)) xs before after = after ≡ before
+LinkedBy (Some (Raw u)) xs before after = after ≡ before
+LinkedBy (Some (Old u)) xs before after = after ≡ before
+LinkedBy (Some (Clone disk base twin)) xs before after = after ≡ before
+LinkedBy (Some (Inflate image extents)) xs before after = after ≡ before
+LinkedBy (Some (Coalesce child parent)) xs before after = after ≡ before
+LinkedBy (Some (Leaf leaf parent)) xs before after = after ≡ before
 
 -- some were linked: the table stays, memory is orderly and true beside the store, and what is to come leads to the same shape. Where
 -- memory was ready it is, and where nothing was pending the disks are the same
@@ -75,7 +91,7 @@ pub record IsLinkBegun (x : Stored) (m : Known) : Type 0 where
   pub kept : IsKept (content_of x)
   pub ready : IsReady x.site (unfolded x.table) x.area m
 
--- and behind the last
+-- what is told of a store and of memory behind the last link: memory is ready, nothing is pending, and the disks are the same
 pub record LinksRest {S : Type 0} (g : Ghosts S) (old new : S) (n : Memory) : Type 0 where
   pub ready : IsReadyStore g new n
   pub settled : IsSettled (g.area new)

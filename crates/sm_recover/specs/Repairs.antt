@@ -1,11 +1,12 @@
 -- What the steps of an opening tell each other: what the checks leave known, and why they stopped.
 use Rattle.std.specs.Prelude.{◌≡◌, ℕ, ◌<◌, ◌≤◌, true, false, List, length, Option, Some, None}
 use Rattle.common_laws.specs.Lists.{In}
+use Rattle.sm_base.specs.Limits.{extent_limit}
 use Rattle.sm_base.specs.declared.faults.OpenFault.{OpenFault}
 use Rattle.sm_base.specs.declared.faults.OpenFault.TheVariants as fault
 use Rattle.sm_base.specs.Kinds.{is_image}
 use Rattle.sm_base.specs.declared.names.Name.{Name}
-use Rattle.sm_base.specs.declared.names.Name.TheVariants.{Mgt, Vhd, Relink}
+use Rattle.sm_base.specs.declared.names.Name.TheVariants.{Mgt, Vhd, Raw, Old, Clone, Inflate, Coalesce, Relink, Leaf}
 use Rattle.sm_disk.specs.Held.{IsSettled, reads}
 use Rattle.vg_layout.specs.Places.{record_extents}
 use Rattle.vg_meta.specs.Changes.{applied}
@@ -26,7 +27,7 @@ use Rattle.sm_checks.specs.Links.{HasLink}
 -- among the others
 pub record IsChecked (s : Site) (t : VolumeTable) : Type 0 where
   pub table : IsTable s.count t
-  pub few_extents : s.count ≤ 65536
+  pub few_extents : s.count ≤ extent_limit
   pub plain : IsPlain t
   pub few_images : length (images t) ≤ image_limit
   pub record_volume : length (extents_of (rows t Mgt)) ≡ record_extents s.geometry.extent
@@ -35,7 +36,7 @@ pub record IsChecked (s : Site) (t : VolumeTable) : Type 0 where
 -- is being forked or that an image is being enlarged, and at most one that an image is being copied or that its children are linked
 pub record IsEndable (s : Site) (t : VolumeTable) : Type 0 where
   pub table : IsTable s.count t
-  pub few_extents : s.count ≤ 65536
+  pub few_extents : s.count ≤ extent_limit
   pub known : IsKnown t
   pub one_entry : second (making t) ≡ None
   pub one_folding : second (folding t) ≡ None
@@ -44,6 +45,7 @@ pub record IsEndable (s : Site) (t : VolumeTable) : Type 0 where
   pub few_images : length (images t) ≤ image_limit
   pub record_volume : length (extents_of (rows t Mgt)) ≡ record_extents s.geometry.extent
 
+-- what is known of the table of a store before what is under way is ended
 abbrev pub IsEndableStore : {S : Type 0} → Ghosts S → S → Type 0
 IsEndableStore g s = IsEndable (g.site s) (table_alone (g.table s))
 
@@ -52,7 +54,7 @@ IsEndableStore g s = IsEndable (g.site s) (table_alone (g.table s))
 -- at a stage of its work
 pub record IsUndoable (s : Site) (t : VolumeTable) : Type 0 where
   pub table : IsTable s.count t
-  pub few_extents : s.count ≤ 65536
+  pub few_extents : s.count ≤ extent_limit
   pub simple : IsSimple t
   pub one_entry : second (making t) ≡ None
   pub at_stage : (r : Row) → In r t.volumes → is_lost t r ≡ false
@@ -71,7 +73,14 @@ pub record IsLinking (s : Site) (t : VolumeTable) (child parent : List ℕ) : Ty
 abbrev pub IsLinkable : Site → VolumeTable → List TreeRow → Option Name → Type 0
 IsLinkable s t xs None = Unit {0}
 IsLinkable s t xs (Some (Relink child parent)) = IsLinking s t child parent × (n : Name) × HasLink xs (Vhd child) n × (has_uuid parent n ≡ true)
-IsLinkable s t xs (Some n) = ⊥
+IsLinkable s t xs (Some Mgt) = ⊥
+IsLinkable s t xs (Some (Vhd u)) = ⊥
+IsLinkable s t xs (Some (Raw u)) = ⊥
+IsLinkable s t xs (Some (Old u)) = ⊥
+IsLinkable s t xs (Some (Clone disk base twin)) = ⊥
+IsLinkable s t xs (Some (Inflate image extents)) = ⊥
+IsLinkable s t xs (Some (Coalesce child parent)) = ⊥
+IsLinkable s t xs (Some (Leaf leaf parent)) = ⊥
 
 -- of a store: what is known of its table once what was under way is ended or undone
 abbrev pub IsCheckedStore : {S : Type 0} → Ghosts S → S → Type 0

@@ -1,7 +1,7 @@
 -- Changes of a table, made one after the other by a commit each: what all of them make, and what stands while they are made.
 use Rattle.std.specs.Prelude.{◌≡◌, ℕ, ◌≤◌, Bool, true, false, List, [], ◌∷◌, ◌++◌, take, Option, None, Some}
 use Rattle.sm_base.specs.declared.names.Name.{Name}
-use Rattle.sm_base.specs.declared.names.Name.TheVariants.{Vhd, Coalesce}
+use Rattle.sm_base.specs.declared.names.Name.TheVariants.{Mgt, Vhd, Raw, Old, Clone, Inflate, Coalesce, Relink, Leaf}
 use Rattle.sm_disk.specs.Held.{Keeps, IsSettled}
 use Rattle.vg_meta.specs.Roomy.{table_alone}
 use Rattle.vg_meta.specs.Tables.{VolumeTable, rows}
@@ -28,7 +28,7 @@ pub record MakesPart {S : Type 0} (g : Ghosts S) (cs : List Change) (old new : S
   pub part : IsPartOf (table_alone (g.table old)) cs (table_alone (g.table new))
   pub left : Leaves g new (IsLeftOf (stored g old) (IsPartOf (table_alone (g.table old)) cs))
 
--- and all of them were made
+-- all of these changes were made
 pub record MakesAll {S : Type 0} (g : Ghosts S) (cs : List Change) (old new : S) : Type 0 where
   pub usable : g.failed new ≡ false
   pub table : table_alone (g.table new) ≡ applied_all (table_alone (g.table old)) cs
@@ -49,7 +49,14 @@ is_marked t (Some n) = of_row (λ r. r.hidden) (rows t n)
 -- the change that takes away the entry of a copy, where it is one
 abbrev pub is_copy : Name → Bool
 is_copy (Coalesce child parent) = true
-is_copy _ = false
+is_copy Mgt = false
+is_copy (Vhd u) = false
+is_copy (Raw u) = false
+is_copy (Old u) = false
+is_copy (Clone disk base twin) = false
+is_copy (Inflate image extents) = false
+is_copy (Relink child parent) = false
+is_copy (Leaf leaf parent) = false
 
 abbrev pub ends_copy : Option Name → List Change
 ends_copy None = []

@@ -113,6 +113,13 @@ pub fn under_name(base: &Name, disk: &Uuid) -> Name
 {
     match base {
         Name::Raw(_) => Name::Raw(*disk),
-        _ => Name::Vhd(*disk),
+        Name::Mgt
+        | Name::Vhd(_)
+        | Name::Old(_)
+        | Name::Clone { .. }
+        | Name::Inflate { .. }
+        | Name::Coalesce { .. }
+        | Name::Relink { .. }
+        | Name::Leaf { .. } => Name::Vhd(*disk),
     }
 }

@@ -81,7 +81,17 @@ fn end_copy<S: Store>(store: &mut S) -> Result<(), Failed>
 fn is_copy(name: &Name) -> bool
     ensures { result ≡ is_copy name.now }
 {
-    matches!(name, Name::Coalesce { .. })
+    match name {
+        Name::Coalesce { .. } => true,
+        Name::Mgt
+        | Name::Vhd(_)
+        | Name::Raw(_)
+        | Name::Old(_)
+        | Name::Clone { .. }
+        | Name::Inflate { .. }
+        | Name::Relink { .. }
+        | Name::Leaf { .. } => false,
+    }
 }
 
 /// Undoes the fork or the enlargement whose entry is there.
@@ -110,7 +120,13 @@ fn undo_entry<S: Store>(store: &mut S, entry: &Name) -> Result<(), Failed>
     match entry {
         Name::Inflate { image, extents } => undo_enlargement(store, *image, *extents)?,
         Name::Clone { disk, base, twin } => undo_fork(store, disk, base, twin)?,
-        _ => (),
+        Name::Mgt
+        | Name::Vhd(_)
+        | Name::Raw(_)
+        | Name::Old(_)
+        | Name::Coalesce { .. }
+        | Name::Relink { .. }
+        | Name::Leaf { .. } => (),
     }
     Ok(())
 }

@@ -11,7 +11,7 @@ ghost use Rattle.sm_machine.specs.Shapes.{attached_as, disk_image, disk_record, 
 ghost use Rattle.sm_ready.specs.Known.{Known, has_image as has_image_in, known, shape_in};
 ghost use Rattle.sm_ready.specs.Refusing.{IsSiteOf, Measures, Recalls};
 
-use sm_base::{Geometry, IMAGE_LIMIT, Mode, Name, SECTOR, SPENT_SEQUENCE, is_base};
+use sm_base::{CHAIN_LIMIT, Geometry, IMAGE_LIMIT, Mode, Name, SECTOR, SPENT_SEQUENCE, is_base};
 use sm_machine::{Command, LineBytes};
 use sm_ready::{Memory, forked, image, is_vhd, named, new_uuid, rounded};
 use uuid::Uuid;
@@ -19,9 +19,6 @@ use vg_meta::Table;
 
 /// The most sectors of one read.
 const READ_LIMIT: u64 = 128;
-
-/// The most images of a chain.
-const CHAIN_LIMIT: u32 = 30;
 
 /// Whether the new UUID is nil or has the form that base images have.
 #[tactic(auto, unfolding(sm_machine::specs::Refusals::is_reserved))]

@@ -22,7 +22,7 @@ pub record IsAlready (before : List Disk → Type 0) (new : List Disk) (ds : Lis
 abbrev pub IsBetween : (List Disk → Type 0) → List Disk → List Disk → List Disk → Type 0
 IsBetween before old new ds = IsStill before old ds ⊎ IsAlready before new ds
 
--- these very disks
+-- disks that have the faces of others, and in each sector what those have
 pub record IsSettledAs (new : List Disk) (ds : List Disk) : Type 0 where
   pub faces : map face ds ≡ map face new
   pub sectors : (u : List ℕ) (k : ℕ) (bytes : List ℕ) → HasSector ds u k bytes → HasSector new u k bytes

@@ -3,10 +3,10 @@ use Rattle.std.proofs.Common.{◌≡◌, ◌≢◌, ℕ, ◌<◌, ◌≤◌, Boo
 use Rattle.std.specs.Str.{bytes_eq}
 use Rattle.std.proofs.lemmas.Bool.Decides.{nat_tests}
 use Rattle.std.proofs.lemmas.Slice.Eq.{bytes_eq-Decides}
-use Rattle.sm_machine.specs.Lines.{after_write, spelled, spelled_words, words}
+use Rattle.sm_machine.specs.Lines.{after_write, spelled, spelled_words, words, line_limit}
 
 -- a line that is too long
-pub spelled-long : (line : List ℕ) → 65536 < length line → spelled line ≡ None
+pub spelled-long : (line : List ℕ) → line_limit < length line → spelled line ≡ None
 unfolding spelled
 spelled-long line long = by (nat_le (length line) 65536) (grind (arith, nat_tests))
   where
@@ -15,7 +15,7 @@ spelled-long line long = by (nat_le (length line) 65536) (grind (arith, nat_test
     by false e = refl
 
 -- another line spells what its words do
-pub spelled-short : (line verb : List ℕ) (rest : List (List ℕ)) → length line ≤ 65536 → words line ≡ verb ∷ rest → spelled_words (verb ∷ rest) ≡ spelled line
+pub spelled-short : (line verb : List ℕ) (rest : List (List ℕ)) → length line ≤ line_limit → words line ≡ verb ∷ rest → spelled_words (verb ∷ rest) ≡ spelled line
 unfolding spelled
 spelled-short line verb rest short e =
     ap spelled_words (sym e) ∙ by (nat_le (length line) 65536) (grind (arith, nat_tests))
@@ -66,5 +66,5 @@ spelled_words-none verb rest n1 n2 n3 n4 n5 n6 n7 n8 n9 n10 n11 n12 n13 n14 n15 
     rw (← create, ← delete, ← attach, ← detach, ← snapshot, ← copy, ← resize, ← label, ← write, ← fill, ← read, ← flush, ← gc, ← list, ← stat) refl
 
 -- what stands behind the first word is no longer than the line
-pub behind_within : (line verb more : List ℕ) → line ≡ verb ++ more → length line ≤ 65536 → length more ≤ 65536
+pub behind_within : (line verb more : List ℕ) → line ≡ verb ++ more → length line ≤ line_limit → length more ≤ line_limit
 behind_within line verb more bytes short = omega (arith, ap length bytes, length-append verb more)

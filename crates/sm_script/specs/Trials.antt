@@ -18,19 +18,23 @@ drawn below x = (x / 2 ^ 33) % below
 unfoldable pub disk_numbered : ℕ → List ℕ
 disk_numbered i = 0 ∷ 0 ∷ 0 ∷ 0 ∷ 0 ∷ 0 ∷ 64 ∷ 0 ∷ 128 ∷ 0 ∷ 0 ∷ 0 ∷ 0 ∷ 0 ∷ 0 ∷ (16 * (i / 10) + i % 10) ∷ []
 
--- the words that a state gives: a disk, a size in bytes, a sector, some sectors, few sectors, a byte
+-- the word that a state gives for a disk: the UUID of one of twelve
 abbrev pub disk_word : ℕ → List ℕ
 disk_word x = uuid_text (disk_numbered (drawn 12 x))
 
+-- the word that a state gives for a size in bytes: one to 64 times 4,096
 abbrev pub size_word : ℕ → List ℕ
 size_word x = decimal (4096 * (1 + drawn 64 x))
 
+-- the word that a state gives for a sector: one of the first 512
 abbrev pub sector_word : ℕ → List ℕ
 sector_word x = decimal (drawn 512 x)
 
+-- the word that a state gives for a number of sectors: from one to the most that is asked for
 abbrev pub count_word : ℕ → ℕ → List ℕ
 count_word most x = decimal (1 + drawn most x)
 
+-- the word that a state gives for a byte: two hexadecimal digits
 abbrev pub byte_word : ℕ → List ℕ
 byte_word x = hex_text (drawn 256 x ∷ [])
 
@@ -64,13 +68,15 @@ drawn_line kind u =
     else if kind == 12 then record { verb = codes "flush"; rest = disk_word u ∷ []; next = u }
     else record { verb = codes "gc"; rest = []; next = u }
 
+-- the line of one of 16 kinds that is drawn from a state
 abbrev pub drawn_from : ℕ → Drawn
 drawn_from x = drawn_line (drawn 16 (stirred x)) (stirred (stirred x))
 
--- a line, its words behind one space each, and the state behind it
+-- the text of the line that is drawn from a state: its words, with one space between two
 abbrev pub line_drawn : ℕ → List ℕ
 line_drawn x = (drawn_from x).verb ++ led 32 (drawn_from x).rest
 
+-- the state behind the line that is drawn from a state
 abbrev pub state_drawn : ℕ → ℕ
 state_drawn x = (drawn_from x).next
 
@@ -79,9 +85,10 @@ unfoldable pub lines_drawn : ℕ → ℕ → List (List ℕ)
 lines_drawn zero x = []
 lines_drawn (suc count) x = line_drawn x ∷ lines_drawn count (state_drawn x)
 
--- the lines of the trial of a number
+-- how many lines a trial has
 abbrev pub trial_count : ℕ
 trial_count = 20000
 
+-- the lines of the trial of a number
 abbrev pub trial_lines : ℕ → List (List ℕ)
 trial_lines n = lines_drawn trial_count n

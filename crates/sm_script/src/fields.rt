@@ -6,7 +6,7 @@ ghost use Rattle.std.specs.Prelude.{◌≡◌, ◌<◌, ◌≤◌, ◌/◌, ◌%
 ghost use Rattle.std.specs.Char.{is_ascii_digit};
 ghost use Rattle.std.specs.List.{list_all};
 ghost use Rattle.std.specs.Result.{result_ok};
-ghost use Rattle.sm_machine.specs.Lines.{byte_of, hex_bytes, is_number, is_raw_of, mode_of, number_of, sectors_of, uuid_of};
+ghost use Rattle.sm_machine.specs.Lines.{byte_of, hex_bytes, is_number, is_raw_of, mode_of, number_of, sectors_of, uuid_of, line_limit};
 
 use hex::FromHexError;
 use sm_base::Mode;
@@ -93,7 +93,7 @@ pub fn byte_in(word: &[u8]) -> Option<u8>
 /// The bytes of whole sectors, at least one: 1,024 hexadecimal digits for each. They take the place of what the room
 /// held. Where the word spells none, the room is given back.
 pub fn sectors_in(word: &[u8], mut room: LineBytes) -> Result<LineBytes, LineBytes>
-    requires { length word.now < 65536 }
+    requires { length word.now < line_limit }
     ensures { result_ok result ≡ sectors_of word.now }
 {
     if word.is_empty() || word.len() % 1024 != 0 {

@@ -1,7 +1,7 @@
 //! What stands behind a line's first word, read as the parts of a command.
 
 ghost use Rattle.std.specs.Prelude.{◌≡◌, ◌≤◌, length, option_copied};
-ghost use Rattle.sm_machine.specs.Lines.{after_attach, after_create, after_disk, after_fill, after_label, after_read, after_resize, after_twin, after_write, alone};
+ghost use Rattle.sm_machine.specs.Lines.{after_attach, after_create, after_disk, after_fill, after_label, after_read, after_resize, after_twin, after_write, alone, line_limit};
 ghost use Rattle.sm_machine.specs.declared.commands.Command.TheVariants.{Clone, Delete, Detach, Flush, Snapshot};
 ghost use Rattle.sm_script.specs.Cuts.{behind, words_behind};
 
@@ -149,7 +149,7 @@ pub fn lone(command: Command, rest: Option<&[u8]>) -> Option<Command>
 
 /// A disk, a sector, and the bytes of whole sectors, which take the place of what the room held.
 pub fn write(rest: Option<&[u8]>, room: LineBytes) -> Reading
-    requires { length (behind (option_copied rest)) ≤ 65536 }
+    requires { length (behind (option_copied rest)) ≤ line_limit }
     ensures { result ≡ after_write (words_behind (option_copied rest.entry)) }
 {
     let Some((disk, sector, digits)) = three(rest) else {

@@ -3,7 +3,7 @@
 ghost use Rattle.std.specs.Prelude.{◌≡◌, ◌≤◌, ◌+◌, ◌*◌, ◌^◌, ◌<◌, length, sum, IfOk};
 ghost use Rattle.sm_machine.specs.Replies.{printed};
 ghost use Rattle.sm_machine.specs.Runs.{is_accepted};
-ghost use Rattle.sm_trial.specs.Counts.{reply_most};
+ghost use Rattle.sm_trial.specs.Counts.{reply_most, reply_limit};
 
 use sm_base::NoMemory;
 use sm_disk::MemSink;
@@ -23,7 +23,7 @@ const REPLY: usize = 65536;
 
 /// The sum of so many bytes at most.
 fn sum_of(bytes: &[u8]) -> u64
-    requires { length bytes.now ≤ 65536 }
+    requires { length bytes.now ≤ reply_limit }
     ensures is { result ≡ sum bytes.now }
     ensures few { result ≤ reply_most }
 {

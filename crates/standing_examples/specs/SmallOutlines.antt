@@ -3,7 +3,7 @@
 -- linked to it.
 use Rattle.std.specs.Prelude.{ℕ, Bool, ◌==◌, false, true, bytes_eq, List, [], ◌∷◌, ◌++◌, map, Option, None, Some, if◌then◌else◌}
 use Rattle.sm_base.specs.declared.names.Name.{Name}
-use Rattle.sm_base.specs.declared.names.Name.TheVariants.{Vhd, Raw, Old, Clone, Inflate, Coalesce, Relink}
+use Rattle.sm_base.specs.declared.names.Name.TheVariants.{Mgt, Vhd, Raw, Old, Clone, Inflate, Coalesce, Relink, Leaf}
 use Rattle.vg_meta.specs.Tables.{Row, VolumeTable}
 use Rattle.sm_record.specs.declared.records.Reading.{Reading}
 use Rattle.sm_record.specs.declared.records.Reading.TheVariants.{Free, Taken}
@@ -16,7 +16,14 @@ thin_table = record { sequence = 4; volumes = record_row (0 ∷ 1 ∷ 2 ∷ 3 �
 
 abbrev pub thin_links : Name → Option Link
 thin_links (Vhd u) = Some (record { size = 32; parent = None })
-thin_links _ = None
+thin_links Mgt = None
+thin_links (Raw u) = None
+thin_links (Old u) = None
+thin_links (Clone disk base twin) = None
+thin_links (Inflate image extents) = None
+thin_links (Coalesce child into) = None
+thin_links (Relink child into) = None
+thin_links (Leaf leaf into) = None
 
 abbrev pub one_record : ℕ → Reading
 one_record k = if k == 0 then Taken (record { uuid = one; label = []; origin = None; read_only = false }) else Free
@@ -48,7 +55,13 @@ mixed_table raw_hidden vhd_hidden = record { sequence = 6; volumes = image_row r
 abbrev pub mixed_links : Option Name → Name → Option Link
 mixed_links parent (Vhd u) = Some (record { size = 32; parent = parent })
 mixed_links parent (Raw u) = Some (record { size = 32; parent = None })
-mixed_links parent _ = None
+mixed_links parent Mgt = None
+mixed_links parent (Old u) = None
+mixed_links parent (Clone disk base twin) = None
+mixed_links parent (Inflate image extents) = None
+mixed_links parent (Coalesce child into) = None
+mixed_links parent (Relink child into) = None
+mixed_links parent (Leaf leaf into) = None
 
 abbrev pub two_records : ℕ → Reading
 two_records k = if k == 1 then Taken (record { uuid = two; label = []; origin = None; read_only = false }) else one_record k
@@ -67,7 +80,14 @@ forking_table = record {
 -- the disk's new image may have another parent than the base
 abbrev pub forking_links : Option Name → Name → Option Link
 forking_links parent (Vhd u) = if bytes_eq u two then Some (record { size = 32; parent = None }) else if bytes_eq u one then Some (record { size = 32; parent = parent }) else None
-forking_links parent _ = None
+forking_links parent Mgt = None
+forking_links parent (Raw u) = None
+forking_links parent (Old u) = None
+forking_links parent (Clone disk base twin) = None
+forking_links parent (Inflate image extents) = None
+forking_links parent (Coalesce child into) = None
+forking_links parent (Relink child into) = None
+forking_links parent (Leaf leaf into) = None
 
 abbrev pub forking_outline : Option Name → Outline
 forking_outline parent = record { extent = 32; block = 8; entries = 64; table = forking_table; links = forking_links parent; readings = one_record }
@@ -83,7 +103,14 @@ folding_table entry = record { sequence = 8; volumes = image_row false entry [] 
 -- the disk may have another parent, and the image three may be smaller
 abbrev pub folding_links : Name → ℕ → Name → Option Link
 folding_links parent size (Vhd u) = if bytes_eq u one then Some (record { size = 32; parent = Some parent }) else if bytes_eq u two then Some (record { size = 32; parent = Some (Vhd three) }) else Some (record { size = size; parent = None })
-folding_links parent size _ = None
+folding_links parent size Mgt = None
+folding_links parent size (Raw u) = None
+folding_links parent size (Old u) = None
+folding_links parent size (Clone disk base twin) = None
+folding_links parent size (Inflate image extents) = None
+folding_links parent size (Coalesce child into) = None
+folding_links parent size (Relink child into) = None
+folding_links parent size (Leaf leaf into) = None
 
 abbrev pub folding_outline : Name → Name → ℕ → Outline
 folding_outline entry parent size = record { extent = 32; block = 8; entries = 64; table = folding_table entry; links = folding_links parent size; readings = one_record }

@@ -5,6 +5,7 @@ use Rattle.std.proofs.lemmas.Bool.{and_parts, leb-true}
 use Rattle.std.proofs.lemmas.Grind.{div_ceil_times}
 use Rattle.std.specs.Int.{is_power_of_two}
 use Rattle.std.specs.Str.{bytes_eq}
+use Rattle.sm_base.specs.Limits.{extent_limit}
 use Rattle.sm_base.proofs.NumberLemmas.{div_up-div_ceil}
 use Rattle.sm_base.specs.Numbers.{div_up}
 use Rattle.sm_base.specs.declared.faults.OpenFault.{OpenFault}
@@ -63,7 +64,7 @@ plate_right size m p e = go (ltb size 2) (not (bytes_eq (take 8 (m label_place))
         subst (IsRightPlate size) same is
 
 -- a group has at most 65,536 extents
-pub plate_few : (size : ℕ) (m : ℕ → List ℕ) (p : Plate) → plate_of size m ≡ Ok p → p.count ≤ 65536
+pub plate_few : (size : ℕ) (m : ℕ → List ℕ) (p : Plate) → plate_of size m ≡ Ok p → p.count ≤ extent_limit
 unfolding extents_on
 plate_few size m p e = omega (arith, (plate_right size m p e).most)
 
@@ -91,7 +92,7 @@ pub pointer_once : (size : ℕ) (m : ℕ → List ℕ) (p : Plate) (h k : Pointe
 pointer_once size m p h k t u a b = ok_same (pointer_of m) h k a.headed b.headed
 
 -- a device shows one table
-pub stands_once : (size : ℕ) (m : ℕ → List ℕ) (p : Plate) (h k : Pointer) (t u : VolumeTable) → p.count ≤ 65536
+pub stands_once : (size : ℕ) (m : ℕ → List ℕ) (p : Plate) (h k : Pointer) (t u : VolumeTable) → p.count ≤ extent_limit
     → StandsOn size m (record { plate = p; pointer = h; table = t }) → StandsOn size m (record { plate = p; pointer = k; table = u }) → t ≡ u
 stands_once size m p h k t u few a b =
     let same : h ≡ k = ok_same (pointer_of m) h k a.headed b.headed in

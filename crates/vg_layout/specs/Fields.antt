@@ -6,6 +6,7 @@ use Rattle.vg_layout.specs.declared.places.Slot.{Slot}
 use Rattle.vg_layout.specs.declared.places.Slot.TheVariants.{Zero, One}
 use Rattle.vg_layout.specs.Sectors.{Plate, Pointer}
 
+-- the fields of a label in memory
 abbrev pub plate : GroupLabel → Plate
 plate l = record {
   extent = l.geometry.extent;
@@ -20,5 +21,6 @@ abbrev pub slot_number : Slot → ℕ
 slot_number Zero = 0
 slot_number One = 1
 
+-- the fields of a header in memory
 abbrev pub pointer : TableHeader → Pointer
 pointer h = record { slot = slot_number h.slot; size = h.length; total = h.sum }

@@ -6,6 +6,7 @@
 --   2,050 to 4,095  not used
 --   4,096 on        the extents
 use Rattle.std.specs.Prelude.{ℕ, zero, suc, ◌+◌, ◌-◌, ◌/◌, ◌==◌, min, List, [], ◌++◌, take, if◌then◌else◌}
+use Rattle.sm_base.specs.Limits.{extent_limit}
 use Rattle.sm_base.specs.Numbers.{div_up}
 
 abbrev pub label_place : ℕ
@@ -27,7 +28,7 @@ area_place = 4096
 
 -- the number of extents that a device of so many sectors has: whole ones, at most 65,536
 unfoldable pub extents_on : ℕ → ℕ → ℕ
-extents_on size extent = min ((size - area_place) / extent) 65536
+extents_on size extent = min ((size - area_place) / extent) extent_limit
 
 -- the extents of the volume of records, which has 512 sectors' worth of them
 unfoldable pub record_extents : ℕ → ℕ

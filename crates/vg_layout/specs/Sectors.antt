@@ -53,6 +53,7 @@ label_front p =
     ++ (number p.count
     ++ replicate 464 0))))))
 
+-- the sector of a label: its fields and their sum
 unfoldable pub label_sector : Plate → List ℕ
 label_sector p = sealed (label_front p)
 
@@ -65,6 +66,7 @@ header_front h =
     ++ (number h.total
     ++ replicate 488 0)))
 
+-- the sector of a header: its fields and their sum
 unfoldable pub header_sector : Pointer → List ℕ
 header_sector h = sealed (header_front h)
 
@@ -78,6 +80,7 @@ plate_in sector = record {
   identity = take 16 (drop 12 sector);
 }
 
+-- the fields of a header, as a sector has them
 unfoldable pub pointer_in : List ℕ → Pointer
 pointer_in sector = record { slot = number_at 8 sector; size = number_at 12 sector; total = number_at 16 sector }
 

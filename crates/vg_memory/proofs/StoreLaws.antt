@@ -3,6 +3,7 @@ use Rattle.std.proofs.Common.{◌≡◌, ℕ, ◌+◌, ◌*◌, ◌<◌, ◌≤�
 use Rattle.std.specs.Prelude.{slice_index, slice_get}
 use Rattle.std.proofs.lemmas.Option.{slice_get-get_or}
 use Rattle.std.proofs.Math.Nat.{mul-le-mul_right}
+use Rattle.sm_base.specs.Limits.{extent_limit}
 use Rattle.sm_base.specs.declared.names.Name.{Name}
 use Rattle.vg_meta.specs.Tables.{Row, VolumeTable, IsTable, new_table, IsSpread, rows, extents_of}
 use Rattle.vg_meta.specs.Roomy.{RoomyTable, table_alone}
@@ -57,7 +58,7 @@ new_quiet : (sectors : ℕ) → IsQuiet (new_memory sectors).orders
 unfolding fails
 new_quiet sectors = λ k. refl
 
-pub kept_new : (extent count r : ℕ) (table : RoomyTable) (area : Memory) → count ≤ 65536 → r ≤ count → table_alone table ≡ new_table r → area ≡ new_memory (count * extent)
+pub kept_new : (extent count r : ℕ) (table : RoomyTable) (area : Memory) → count ≤ extent_limit → r ≤ count → table_alone table ≡ new_table r → area ≡ new_memory (count * extent)
     → HoldsGroup extent count table area
 kept_new extent count r table area few fits is blank = record {
   few = few;

@@ -1,5 +1,6 @@
 -- What a store of volumes in memory stands for (this project's fake of a store).
 use Rattle.std.specs.Prelude.{◌≡◌, ℕ, ◌+◌, ◌*◌, ◌≤◌, Bool, true, false, ◌⊎◌, List, []}
+use Rattle.sm_base.specs.Limits.{extent_limit}
 use Rattle.sm_base.specs.declared.sizes.Geometry.{Geometry}
 use Rattle.sm_disk.specs.Sectors.{zeros}
 use Rattle.sm_disk.specs.Held.{Held, Allows, IsSettled}
@@ -72,7 +73,7 @@ pub record IsCommitStopped (change : Change) (old new : StoreInMemory) : Type 0 
 -- what is always true of a store: the table is on its extents, and the area has just their sectors and never fails by
 -- an order
 pub record HoldsGroup (extent count : ℕ) (table : RoomyTable) (area : Memory) : Type 0 where
-  pub few : count ≤ 65536
+  pub few : count ≤ extent_limit
   pub sectors : area.sectors ≡ count * extent
   pub spread : IsTable count (table_alone table)
   pub quiet : IsQuiet area.orders

@@ -1,6 +1,7 @@
 //! A store of volumes in memory.
 
 ghost use Rattle.std.specs.Prelude.{◌≡◌, ◌≤◌, ◌-◌, ◌^◌, ◌↔◌, min, IsTrue, is_err, OnOk, OnErr, IfOk};
+ghost use Rattle.sm_base.specs.Limits.{extent_limit};
 ghost use Rattle.sm_disk.specs.Held.{IsCounted, IsSettled, Keeps};
 ghost use Rattle.sm_disk.specs.Failing.{HasPassed, Names, Stops, fails};
 ghost use Rattle.vg_layout.specs.Places.{record_extents};
@@ -83,7 +84,7 @@ impl MemoryStore {
     /// Want of memory.
     pub fn new(alloc: Global, geometry: Geometry, extents: u32) -> Result<MemoryStore, NoMemory>
         requires records { record_extents geometry.extent ≤ extents }
-        requires few { extents ≤ 65536 }
+        requires few { extents ≤ extent_limit }
         ensures new { IfOk result (λ s. IsNewStore geometry extents s) }
     {
         let table = Table::formatted(alloc, record_extents(&geometry))?;

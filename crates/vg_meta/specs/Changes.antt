@@ -34,13 +34,15 @@ abbrev pub tagged : Tag → Bool → Row → Row
 tagged Hidden on r = record r { hidden = on }
 tagged Fresh on r = record r { fresh = on }
 
--- the volume with more extents at its end, with only its first ones, and under another name
+-- a volume with more extents at its end
 abbrev pub grown : List ℕ → Row → Row
 grown more r = record r { extents = r.extents ++ more }
 
+-- a volume with so many of its first extents alone
 abbrev pub cut_to : ℕ → Row → Row
 cut_to keep r = record r { extents = take keep r.extents }
 
+-- a volume under another name
 abbrev pub renamed : Name → Row → Row
 renamed to r = record r { name = to }
 

@@ -31,6 +31,7 @@ unfoldable pub places_in : List RoomyRow → Name → ℕ
 places_in [] n = 0
 places_in (h ∷ hs) n = if name_eq h.row.name n then h.spare else places_in hs n
 
+-- the spare places of the volume of this name in a table
 abbrev pub places : RoomyTable → Name → ℕ
 places k = places_in k.rows
 

@@ -16,6 +16,7 @@ pub record IsCut (count number : ℕ) (bytes : List ℕ) (left : ℕ) : Type 0 w
   pub none : (r : Row) (more : List ℕ) → length r.extents < 2 ^ 32 → AreVolumes count (front ++ r ∷ []) → rest ≢ volume_text r ++ more
   pub rest_length : left ≡ length rest
 
+-- why the reading of so many volumes stopped: behind fewer of them none stands, so many bytes from the end, or memory was wanting
 abbrev pub StopsReading : ℕ → ℕ → List ℕ → Stopped → Type 0
 StopsReading count number bytes (Damaged left) = IsCut count number bytes left
 StopsReading count number bytes NoMemory = Unit {0}

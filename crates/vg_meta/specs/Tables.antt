@@ -78,6 +78,7 @@ unfoldable pub row_of : List Row → Rows
 row_of [] n = None
 row_of (r ∷ rs) n = if name_eq r.name n then Some r else row_of rs n
 
+-- the volumes of a table by their names
 abbrev pub rows : VolumeTable → Rows
 rows t = row_of t.volumes
 

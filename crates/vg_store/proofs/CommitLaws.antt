@@ -1,6 +1,7 @@
 -- What a crash leaves at each stage of a commit.
 use Rattle.std.proofs.Common.{◌≡◌, ℕ, ◌+◌, ◌-◌, ◌*◌, ◌<◌, ◌≤◌, ◌⊎◌, inl, inr, List, length, take, Ok, refl, sym, ap, subst, ◌∙◌, arith}
 use Rattle.std.proofs.lemmas.Bool.{cases_eq}
+use Rattle.sm_base.specs.Limits.{extent_limit}
 use Rattle.sm_base.specs.Numbers.{div_up}
 use Rattle.sm_disk.specs.Held.{Held, May, Allows, IsIn, IsSettled, Reaches, Puts, Gave, ReadsElsewhere, Keeps, reads}
 use Rattle.sm_disk.proofs.HeldLaws.{may_settled, reads-settled, May-reads, in_one}
@@ -66,7 +67,7 @@ area_kept wide area place a b written m fits front r allowed = λ q below. by q 
     by q (inr (here, is)) = absurd (omega (arith, here.1))
 
 -- what a stop leaves, where each image that is allowed stands as before
-pub before_from : (size area : ℕ) (a b : Held) (p : Plate) (at : Pointer) (t u : VolumeTable) (image : ℕ → List ℕ) → p.count ≤ 65536
+pub before_from : (size area : ℕ) (a b : Held) (p : Plate) (at : Pointer) (t u : VolumeTable) (image : ℕ → List ℕ) → p.count ≤ extent_limit
     → (l : LeavesGroup size b p u image) → StandsOn size l.whole (record { plate = p; pointer = at; table = t })
     → Allows area (area_of a) (λ q. l.whole (area_place + q)) → IsBefore area t (area_of a) u image
 before_from size area a b p at t u image few l stands choices = record {

@@ -11,6 +11,7 @@ use Rattle.std.proofs.lemmas.List.{append-nil, drop-drop}
 use Rattle.std.proofs.lemmas.List.FromFn.{length-range_with_len}
 use Rattle.std.proofs.lemmas.Nat.{from_be_bytes-to_be_bytes_4}
 use Rattle.std.proofs.lemmas.Slice.Eq.{bytes_eq-Decides}
+use Rattle.sm_base.specs.Limits.{extent_limit}
 use Rattle.sm_base.specs.Numbers.{div_up, IsGeometry}
 use Rattle.sm_base.specs.Names.{spelling}
 use Rattle.sm_base.specs.declared.names.Name.TheVariants.{Mgt}
@@ -96,7 +97,7 @@ pub record FitsRecords (size extent : ℕ) : Type 0 where
   pub room : area_place + 512 ≤ size
   pub large : 512 ≤ extents_on size extent * extent
   pub least : record_extents extent ≤ extents_on size extent
-  pub most : extents_on size extent ≤ 65536
+  pub most : extents_on size extent ≤ extent_limit
 
 records_hold : (extent : ℕ) → 32 ≤ extent → (512 ≤ record_extents extent * extent) × (record_extents extent * extent < 512 + extent)
 unfolding record_extents
@@ -177,7 +178,7 @@ pub record IsForNew (size : ℕ) (g : Geometry) (repository written : List ℕ) 
   pub long : length written ≡ 512
   pub text : take (length (text (new_table (record_extents g.extent)))) written ≡ text (new_table (record_extents g.extent))
 
-new_fields : (size : ℕ) (g : Geometry) (repository : List ℕ) → extents_on size g.extent ≤ 65536 → length repository ≡ 16
+new_fields : (size : ℕ) (g : Geometry) (repository : List ℕ) → extents_on size g.extent ≤ extent_limit → length repository ≡ 16
     → IsFields (new_group size g repository).plate
 new_fields size g repository few long = record {
   extent = omega (arith, g.in_range.extent_most);

@@ -1,5 +1,6 @@
 -- What stands on the device of an open volume group, and what a stop may leave of it (this project's format).
 use Rattle.std.specs.Prelude.{◌≡◌, ℕ, ◌+◌, ◌-◌, ◌*◌, ◌^◌, ◌<◌, ◌≤◌, ◌⊎◌, Bool, ◌&&◌, ◌||◌, nat_lt, nat_le, if◌then◌else◌, List, [], length, take, sum, Ok}
+use Rattle.sm_base.specs.Limits.{extent_limit}
 use Rattle.sm_base.specs.Numbers.{div_up}
 use Rattle.sm_disk.specs.Held.{Held, May, Allows, moved}
 use Rattle.vg_meta.specs.Tables.{VolumeTable}
@@ -56,7 +57,7 @@ pub record IsGroup (size : ℕ) (h : Held) (p : Plate) (at : Pointer) (t : Volum
   pub rests : Rests size h p at bytes
   pub summed : sum bytes ≡ at.total
   pub spelled : Spells p.count bytes t
-  pub few : p.count ≤ 65536
+  pub few : p.count ≤ extent_limit
 
 -- a header of the other slot, and sectors that begin with its text, which spells the next table
 pub record IsNext (p : Plate) (at next : Pointer) (u : VolumeTable) (written : List ℕ) : Type 0 where

@@ -2,6 +2,7 @@
 
 ghost use Rattle.std.specs.Prelude.{◌≡◌, ◌≤◌, ◌+◌, ◌*◌, ℕ, List, false, IfOk, IfErr, sum, vec_len};
 ghost use Rattle.std.proofs.Props.{props};
+ghost use Rattle.sm_base.specs.Limits.{extent_limit};
 ghost use Rattle.sm_disk.specs.Held.{Allows, Keeps, IsSettled, reads};
 ghost use Rattle.vg_meta.specs.Roomy.{table_alone};
 ghost use Rattle.vg_meta.specs.Tables.{VolumeTable};
@@ -34,7 +35,7 @@ pub struct Group<D: Disk> {
     pub(crate) buffer: Vec<u8>,
     pub(crate) failed: bool,
     // The extents are few, and on the device.
-    ghost few: { label.extents ≤ 65536 },
+    ghost few: { label.extents ≤ extent_limit },
     ghost area: { area_place + label.extents * label.geometry.extent ≤ D.size disk },
     // A text of any table fits.
     ghost room: { vec_len buffer ≡ 524288 },

@@ -1,6 +1,7 @@
 //! The first five checks of an opening: the first that fails gives the answer.
 
 ghost use Rattle.std.specs.Prelude.{◌≡◌, ◌≤◌, ◌+◌, ◌*◌, Ok, Err, IfOk, IfErr, OnOk, length, take, sum};
+ghost use Rattle.sm_base.specs.Limits.{extent_limit};
 ghost use Rattle.sm_disk.specs.Held.{IsCounted, SameHeld, reads};
 ghost use Rattle.vg_meta.specs.Roomy.{table_alone};
 ghost use Rattle.vg_meta.specs.Reading.{Spells};
@@ -23,7 +24,7 @@ pub(crate) fn label_on<D: Disk>(disk: &mut D) -> Result<GroupLabel, OpenFault>
     ensures calm { OnOk result (D.faults disk.new ≡ D.faults disk.old) }
     ensures same { D.told → SameHeld (D.held disk.old) (D.held disk.new) }
     ensures area { IfOk result (λ l. area_place + l.extents * l.geometry.extent ≤ D.size disk.old) }
-    ensures few { IfOk result (λ l. l.extents ≤ 65536) }
+    ensures few { IfOk result (λ l. l.extents ≤ extent_limit) }
     ensures ok { IfOk result (λ l. D.told → plate_of (D.size disk.old) (reads (D.held disk.old)) ≡ Ok (plate l)) }
     ensures err { IfErr result (IsAnswer (λ e. D.told → plate_of (D.size disk.old) (reads (D.held disk.old)) ≡ Err e) (D.faults disk.old) (D.faults disk.new)) }
 {
@@ -138,7 +139,7 @@ pub(crate) fn find<D: Disk>(
     ensures same { D.told → SameHeld (D.held disk.old) (D.held disk.new) }
     ensures label { IfOk result (λ f. D.told → plate_of (D.size disk.old) (reads (D.held disk.old)) ≡ Ok (plate f.label)) }
     ensures header { IfOk result (λ f. D.told → pointer_of (reads (D.held disk.old)) ≡ Ok (pointer f.header)) }
-    ensures few { IfOk result (λ f. f.label.extents ≤ 65536) }
+    ensures few { IfOk result (λ f. f.label.extents ≤ extent_limit) }
     ensures area { IfOk result (λ f. area_place + f.label.extents * f.label.geometry.extent ≤ D.size disk.old) }
     ensures spelled { IfOk result (λ f. Spells f.label.extents (text (table_alone f.table)) (table_alone f.table)) }
     ensures summed { IfOk result (λ f. sum (text (table_alone f.table)) ≡ f.header.sum) }

@@ -18,6 +18,7 @@ pub record Stored : Type 0 where
   pub table : VolumeTable
   pub area : Held
 
+-- what a store holds
 abbrev pub stored : {S : Type 0} → Ghosts S → S → Stored
 stored g s = record { site = g.site s; table = table_alone (g.table s); area = g.area s }
 
@@ -46,20 +47,20 @@ pub record Stays {S : Type 0} (g : Ghosts S) (old new : S) : Type 0 where
   pub faults : g.faults old ≤ g.faults new
   pub beside : g.told → Keeps (g.beside old) (g.beside new)
 
--- and nothing was written
+-- the store stays, and nothing was written
 pub record OnlyReads {S : Type 0} (g : Ghosts S) (old new : S) : Type 0 where
   pub stays : Stays g old new
   pub device : g.told → Keeps (g.device old) (g.device new)
   pub held : g.told → SameHeld (g.area old) (g.area new)
   pub leaves : g.told → (t : VolumeTable) (image : ℕ → List ℕ) → g.leaves new t image → g.leaves old t image
 
--- and this alone may have happened to this volume, and nothing to the others
+-- the store stays, this alone may have happened to this volume, and nothing to the others
 pub record Writes {S : Type 0} (g : Ghosts S) (name : Name) (Did : Held → Held → Type 0) (old new : S) : Type 0 where
   pub stays : Stays g old new
   pub did : g.told → Did (held_in (stored g old) name) (held_in (stored g new) name)
   pub beside : g.told → SameBeside name (stored g old) (stored g new)
 
--- and this volume alone was written, and what was written before may have been made last
+-- the store stays, this volume alone was written, and what was written before may have been made last
 pub record WorksOn {S : Type 0} (g : Ghosts S) (name : Name) (old new : S) : Type 0 where
   pub stays : Stays g old new
   pub elsewhere : g.told → KeepsBeside name (stored g old) (stored g new)

@@ -1,6 +1,7 @@
 //! The trait of a store of volumes.
 
 ghost use Rattle.std.specs.Prelude.{◌↔◌, ◌≡◌, ◌≤◌, ◌<◌, ◌+◌, ℕ, List, Bool, true, false, length, OnOk, OnErr, IsTrue};
+ghost use Rattle.sm_base.specs.Limits.{extent_limit};
 ghost use Rattle.sm_disk.specs.Held.{Held, IsWhole, SameHeld, Gave, Torn, Wrote, Keeps, IsSettled, HasSectors, IsCounted, reads};
 ghost use Rattle.vg_meta.specs.Tables.{VolumeTable, IsTable, rows, extents_of};
 ghost use Rattle.vg_meta.specs.Roomy.{RoomyTable, table_alone, places};
@@ -49,7 +50,7 @@ pub trait Store {
     /// The number of extents, at most 65,536.
     fn extents(&self) -> u32
         ensures count { result ≡ (site self.now).count }
-        ensures few { (site self.now).count ≤ 65536 }
+        ensures few { (site self.now).count ≤ extent_limit }
         ensures sectors { told → HasSectors (area_size (site self.now)) (area self.now) };
 
     /// The table of volumes.

@@ -1,5 +1,6 @@
 -- The children of an image, and the chain from one up.
 use Rattle.std.proofs.Common.{◌≡◌, ◌≢◌, ℕ, suc, ◌+◌, ◌-◌, ◌<◌, ◌≤◌, true, false, List, ◌∷◌, length, get_or, drop, Option, Some, None, refl, sym, ap, ◌∙◌, arith}
+use Rattle.sm_machine.specs.Shapes.{chain_limit}
 use Rattle.sm_base.specs.declared.names.Name.{Name}
 use Rattle.vg_meta.specs.Tables.{name_eq}
 use Rattle.vg_meta.proofs.NameLaws.{name_eq-refl, name_eq-other}
@@ -76,22 +77,24 @@ chain_up rs most n r p h k =
     sym (ap (λ (o : Option TreeRow). elim o [ None ↦ 0 | Some r ↦ suc (elim (parent_name r.image) [ None ↦ 0 | Some p ↦ chain_length rs most p ]) ]) h)
     ∙ sym (ap (λ (o : Option Name). suc (elim o [ None ↦ 0 | Some p ↦ chain_length rs most p ])) k)
 
-left : (b : ℕ) → b < 31 → 31 - b ≡ suc (30 - b)
+-- one more than a chain has may be counted
+abbrev pub most_counted : ℕ
+most_counted = suc chain_limit
+
+left : (b : ℕ) → b < most_counted → most_counted - b ≡ suc (most_counted - (b + 1))
 left b lt = omega arith
 
 -- a chain that ends at a name, and one that goes on
-pub ends_below : (rs : List TreeRow) (b : ℕ) (n : Name) → b < 31 → None ≡ tree_row rs n → chain_length rs (31 - b) n ≡ 0
-ends_below rs b n lt h = rw (left b lt) (chain_none rs (30 - b) n h)
+pub ends_below : (rs : List TreeRow) (b : ℕ) (n : Name) → b < most_counted → None ≡ tree_row rs n → chain_length rs (most_counted - b) n ≡ 0
+ends_below rs b n lt h = rw (left b lt) (chain_none rs (most_counted - (b + 1)) n h)
 
-pub ends_at : (rs : List TreeRow) (b : ℕ) (n : Name) (r : TreeRow) → b < 31 → Some r ≡ tree_row rs n → None ≡ parent_name r.image → chain_length rs (31 - b) n ≡ 1
-ends_at rs b n r lt h k = rw (left b lt) (chain_top rs (30 - b) n r h k)
+pub ends_at : (rs : List TreeRow) (b : ℕ) (n : Name) (r : TreeRow) → b < most_counted → Some r ≡ tree_row rs n → None ≡ parent_name r.image → chain_length rs (most_counted - b) n ≡ 1
+ends_at rs b n r lt h k = rw (left b lt) (chain_top rs (most_counted - (b + 1)) n r h k)
 
-pub goes_on : (rs : List TreeRow) (b : ℕ) (n : Name) (r : TreeRow) (p : Name) → b < 31 → Some r ≡ tree_row rs n → Some p ≡ parent_name r.image
-    → chain_length rs (31 - b) n ≡ suc (chain_length rs (31 - (b + 1)) p)
-goes_on rs b n r p lt h k =
-    let e : 30 - b ≡ 31 - (b + 1) = omega arith in
-    ap (λ (m : ℕ). chain_length rs m n) (left b lt) ∙ chain_up rs (30 - b) n r p h k ∙ ap (λ (m : ℕ). suc (chain_length rs m p)) e
+pub goes_on : (rs : List TreeRow) (b : ℕ) (n : Name) (r : TreeRow) (p : Name) → b < most_counted → Some r ≡ tree_row rs n → Some p ≡ parent_name r.image
+    → chain_length rs (most_counted - b) n ≡ suc (chain_length rs (most_counted - (b + 1)) p)
+goes_on rs b n r p lt h k = ap (λ (m : ℕ). chain_length rs m n) (left b lt) ∙ chain_up rs (most_counted - (b + 1)) n r p h k
 
-pub full : (rs : List TreeRow) (b : ℕ) (n : Name) → 31 ≤ b → chain_length rs (31 - b) n ≡ 0
+pub full : (rs : List TreeRow) (b : ℕ) (n : Name) → most_counted ≤ b → chain_length rs (most_counted - b) n ≡ 0
 unfolding chain_length
-full rs b n le = let e : 31 - b ≡ 0 = omega arith in ap (λ (m : ℕ). chain_length rs m n) e
+full rs b n le = let e : most_counted - b ≡ 0 = omega arith in ap (λ (m : ℕ). chain_length rs m n) e

@@ -2,6 +2,7 @@
 use Rattle.std.proofs.Common.{◌≡◌, ◌⊎◌, inl, inr, ℕ, zero, suc, ◌+◌, ◌-◌, ◌<◌, ◌≤◌, true, false, nat_lt, if◌then◌else◌, List, Option, Some, None, refl, sym, ap, subst, ◌∙◌, arith}
 use Rattle.std.specs.Prelude.{is_some}
 use Rattle.std.proofs.lemmas.Bool.{cond-true, cond-false, cases_lt, lt-ltb, le-ltb}
+use Rattle.sm_machine.specs.Shapes.{chain_limit}
 use Rattle.common_laws.specs.Lists.{In, ◌>>=◌}
 use Rattle.sm_base.specs.declared.names.Name.{Name}
 use Rattle.sm_disk.specs.Sectors.{zeros}
@@ -94,21 +95,21 @@ module _ (x : Stored) (rows : List TreeRow) where
   zeros_none zero n at s h le = walk_zero n s
   zeros_none (suc most) n at s h le = step most n s (here zeros) (none_answers x rows n at s h le)
 
-  left : (b : ℕ) → b < 30 → 30 - b ≡ suc (29 - b)
+  left : (b : ℕ) → b < chain_limit → chain_limit - b ≡ suc (chain_limit - (b + 1))
   left b lt = omega arith
 
-  module _ (below : ℕ) (few : below < 30) (n : Name) (at s : ℕ) (b : Body) (here_is : Some b ≡ reaching rows n at) (within : s < sector_count b) where
+  module _ (below : ℕ) (few : below < chain_limit) (n : Name) (at s : ℕ) (b : Body) (here_is : Some b ≡ reaching rows n at) (within : s < sector_count b) where
     turn : (own : Option (List ℕ)) (parent : Option Name) → own_read x b s ≡ own → parent_name b ≡ parent
-        → reads_up x rows (30 - below) n s ≡ elim (held_or own parent) [ here v ↦ v | up p ↦ reads_up x rows (29 - below) p s ]
+        → reads_up x rows (chain_limit - below) n s ≡ elim (held_or own parent) [ here v ↦ v | up p ↦ reads_up x rows (chain_limit - (below + 1)) p s ]
     turn own parent e1 e2 =
         ap (λ (m : ℕ). reads_up x rows m n s) (left below few)
-        ∙ step (29 - below) n s (held_or own parent) (image_answers x rows n at s b here_is within ∙ ap (λ o. held_or o (parent_name b)) e1 ∙ ap (held_or own) e2)
+        ∙ step (chain_limit - (below + 1)) n s (held_or own parent) (image_answers x rows n at s b here_is within ∙ ap (λ o. held_or o (parent_name b)) e1 ∙ ap (held_or own) e2)
 
     -- an image that holds the sector
-    pub turn_held : is_some (own_read x b s) ≡ true → own_read x b s ≡ Some (reads_up x rows (30 - below) n s)
+    pub turn_held : is_some (own_read x b s) ≡ true → own_read x b s ≡ Some (reads_up x rows (chain_limit - below) n s)
     turn_held held = go (own_read x b s) refl held
       where
-        go : (o : Option (List ℕ)) → own_read x b s ≡ o → is_some o ≡ true → own_read x b s ≡ Some (reads_up x rows (30 - below) n s)
+        go : (o : Option (List ℕ)) → own_read x b s ≡ o → is_some o ≡ true → own_read x b s ≡ Some (reads_up x rows (chain_limit - below) n s)
         go None e h = absurd cc
         go (Some v) e h = e ∙ ap Some (sym (turn (Some v) (parent_name b) e refl))
 
@@ -120,13 +121,11 @@ module _ (x : Stored) (rows : List TreeRow) where
         go (Some v) h = absurd cc
 
     -- one that does not, without a parent and with one
-    pub turn_top : is_some (own_read x b s) ≡ false → None ≡ parent_name b → reads_up x rows (30 - below) n s ≡ zeros
+    pub turn_top : is_some (own_read x b s) ≡ false → None ≡ parent_name b → reads_up x rows (chain_limit - below) n s ≡ zeros
     turn_top held top = turn None None (own_none held) (sym top)
 
-    pub turn_up : (p : Name) → is_some (own_read x b s) ≡ false → Some p ≡ parent_name b → reads_up x rows (30 - below) n s ≡ reads_up x rows (30 - (below + 1)) p s
-    turn_up p held e =
-        let less : 29 - below ≡ 30 - (below + 1) = omega arith in
-        turn None (Some p) (own_none held) (sym e) ∙ ap (λ (m : ℕ). reads_up x rows m p s) less
+    pub turn_up : (p : Name) → is_some (own_read x b s) ≡ false → Some p ≡ parent_name b → reads_up x rows (chain_limit - below) n s ≡ reads_up x rows (chain_limit - (below + 1)) p s
+    turn_up p held e = turn None (Some p) (own_none held) (sym e)
 
 -- ---- what the loop keeps
 
@@ -136,4 +135,4 @@ pub record IsWalked {S : Type 0} (g : Ghosts S) (rows : List TreeRow) (leaf : Na
   pub calm : g.faults new ≡ g.faults old
   pub some : 1 ≤ sectors
   pub fits : sectors ≤ most
-  pub same : g.told → (k : ℕ) → k < sectors → chain_reads (stored g old) rows leaf (at + k) ≡ reads_up (stored g old) rows (30 - below) next (at + k)
+  pub same : g.told → (k : ℕ) → k < sectors → chain_reads (stored g old) rows leaf (at + k) ≡ reads_up (stored g old) rows (chain_limit - below) next (at + k)

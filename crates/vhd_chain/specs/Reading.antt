@@ -41,7 +41,7 @@ chain_reads x rows n s = reads_up x rows chain_limit n s
 abbrev pub AllStand : Stored → List TreeRow → Type 0
 AllStand x rows = (r : TreeRow) → In r rows → ImageStands x r.image
 
--- and is true of what its volume holds
+-- each image among the rows is true of what its volume holds
 abbrev pub AllAreTrue : Stored → List TreeRow → Type 0
 AllAreTrue x rows = (r : TreeRow) → In r rows → ImageIsTrue x r.image
 

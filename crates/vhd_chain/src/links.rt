@@ -1,12 +1,13 @@
 //! Parents and children among the rows.
 
-ghost use Rattle.std.specs.Prelude.{◌≡◌, ◌↔◌, IsTrue, Some, length};
+ghost use Rattle.std.specs.Prelude.{◌≡◌, ◌↔◌, IsTrue, Some, length, suc};
 ghost use Rattle.std.specs.Option.{option_copied};
+ghost use Rattle.sm_machine.specs.Shapes.{chain_limit};
 ghost use Rattle.vhd_image.specs.Bodies.{parent_name};
 ghost use Rattle.vhd_chain.specs.Trees.{tree_row, children, first_name, chain_length};
 
 use crate::rows::{TreeRow, place};
-use sm_base::Name;
+use sm_base::{CHAIN_LIMIT, Name};
 
 /// The row of this name.
 pub fn named<'a>(rows: &'a [TreeRow], name: &Name) -> Option<&'a TreeRow>
@@ -51,12 +52,12 @@ pub fn first_child(rows: &[TreeRow], parent: &Name) -> Option<Name>
     None
 }
 
-/// The number of images of the chain from this name up, counted up to 31.
+/// The number of images of the chain from this name up, counted up to one more than a chain has.
 pub fn chain(rows: &[TreeRow], name: &Name) -> u32
-    ensures { result ≡ chain_length rows.now 31 name.now }
+    ensures { result ≡ chain_length rows.now (suc chain_limit) name.now }
 {
     let mut next = *name;
-    for below in 0..31 {
+    for below in 0..CHAIN_LIMIT + 1 {
         let Some(row) = named(rows, &next) else {
             return below;
         };
@@ -65,5 +66,5 @@ pub fn chain(rows: &[TreeRow], name: &Name) -> u32
         };
         next = parent;
     }
-    31
+    CHAIN_LIMIT + 1
 }

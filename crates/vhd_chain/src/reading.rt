@@ -12,12 +12,9 @@ ghost use Rattle.vhd_chain.specs.Reading.{chain_reads, AllStand, AllAreTrue, Are
 use crate::links::named;
 use crate::rows::TreeRow;
 use crate::trees::Tree;
-use sm_base::{Failed, Name};
+use sm_base::{CHAIN_LIMIT, Failed, Name};
 use vg_volumes::Store;
 use vhd_image::Image;
-
-/// How many images of a chain are read.
-const CHAIN_LIMIT: u32 = 30;
 
 /// Sectors of a disk from one on that one image holds; where there is none, they are zeros.
 #[derive(Drop)]

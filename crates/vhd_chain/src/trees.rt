@@ -1,8 +1,9 @@
 //! The tree of the images.
 
-ghost use Rattle.std.specs.Prelude.{◌≡◌, ◌≤◌, ◌<◌, ◌+◌, [], None, Some, IsSome, IfSome, IfNone, OnOk, OnErr, length};
+ghost use Rattle.std.specs.Prelude.{◌≡◌, ◌≤◌, ◌<◌, ◌+◌, [], None, Some, IsSome, IfSome, IfNone, OnOk, OnErr, length, suc};
 ghost use Rattle.std.specs.Option.{option_copied};
 ghost use Rattle.sm_base.specs.Names.{IsName};
+ghost use Rattle.sm_machine.specs.Shapes.{chain_limit};
 ghost use Rattle.vhd_chain.specs.Trees.{AreOrdered, tree_row, row_name, with_row, without, with_replaced, parent_of, children, first_name, IsLeastName, chain_length};
 
 use crate::links::{chain, count_children, first_child, named};
@@ -137,7 +138,7 @@ impl Tree {
     /// How many images are in the chain from this name up, counted up to 31. A parent that is not there is not
     /// counted.
     pub fn depth(&self, name: &Name) -> u32
-        ensures { result ≡ chain_length self.now.rows 31 name.now }
+        ensures { result ≡ chain_length self.now.rows (suc chain_limit) name.now }
     {
         chain(&self.rows, name)
     }

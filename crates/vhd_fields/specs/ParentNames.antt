@@ -6,7 +6,7 @@ use Rattle.std.specs.Option.{option_or}
 use Rattle.std.specs.Str.{bytes_eq}
 use Rattle.uuid.specs.Text.{parsed}
 use Rattle.sm_base.specs.declared.names.Name.{Name}
-use Rattle.sm_base.specs.declared.names.Name.TheVariants.{Vhd, Raw}
+use Rattle.sm_base.specs.declared.names.Name.TheVariants.{Mgt, Vhd, Raw, Old, Clone, Inflate, Coalesce, Relink, Leaf}
 use Rattle.sm_base.specs.Names.{IsName, spelling}
 
 -- ASCII characters in UTF-16 big-endian: a zero byte before each
@@ -29,7 +29,13 @@ parent_bytes (Some name) = utf16 (spelling name) ++ replicate (512 - 2 * length 
 abbrev pub is_image : Name → Bool
 is_image (Vhd u) = true
 is_image (Raw u) = true
-is_image name = false
+is_image Mgt = false
+is_image (Old u) = false
+is_image (Clone disk base twin) = false
+is_image (Inflate image extents) = false
+is_image (Coalesce child parent) = false
+is_image (Relink child parent) = false
+is_image (Leaf leaf parent) = false
 
 -- no parent, or one that is a VHD or raw image
 unfoldable pub IsParent : Option Name → Type 0

@@ -84,5 +84,14 @@ fn text_of(field: &[u8; 512]) -> [u8; 40]
 fn is_image(name: &Name) -> bool
     ensures { result ≡ is_image name.now }
 {
-    matches!(name, Name::Vhd(_) | Name::Raw(_))
+    match name {
+        Name::Vhd(_) | Name::Raw(_) => true,
+        Name::Mgt
+        | Name::Old(_)
+        | Name::Clone { .. }
+        | Name::Inflate { .. }
+        | Name::Coalesce { .. }
+        | Name::Relink { .. }
+        | Name::Leaf { .. } => false,
+    }
 }

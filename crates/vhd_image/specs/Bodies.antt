@@ -13,32 +13,32 @@ use Rattle.vhd_volumes.specs.Writes.{own_in}
 use Rattle.vhd_image.specs.declared.images.Body.{Body}
 use Rattle.vhd_image.specs.declared.images.Body.TheVariants.{Raw, Vhd}
 
--- the name of its volume
+-- the name of an image's volume
 abbrev pub volume_name : Body → Name
 volume_name (Raw volume sectors) = volume
 volume_name (Vhd head m) = head.volume
 
--- its size in sectors
+-- the size of an image in sectors
 abbrev pub sector_count : Body → ℕ
 sector_count (Raw volume sectors) = sectors
 sector_count (Vhd head m) = disk_sectors head.footer
 
--- the volume of its parent, or none
+-- the volume of an image's parent, or none
 abbrev pub parent_name : Body → Option Name
 parent_name (Raw volume sectors) = None
 parent_name (Vhd head m) = head.header.parent
 
--- its map, or none where it is raw
+-- the map of an image, or none where it is raw
 abbrev pub map_of : Body → Option (List (Option ℕ))
 map_of (Raw volume sectors) = None
 map_of (Vhd head m) = Some m
 
--- one more than its highest slot, else 0
+-- one more than the highest slot of an image, or 0 where it has none
 abbrev pub top_slot : Body → ℕ
 top_slot (Raw volume sectors) = 0
 top_slot (Vhd head m) = top_of m
 
--- the same image in a volume of another name
+-- an image as it is in a volume of another name
 abbrev pub in_volume : Name → Body → Body
 in_volume to (Raw volume sectors) = Raw to sectors
 in_volume to (Vhd head m) = Vhd (record head { volume = to }) m
@@ -70,11 +70,11 @@ own_of g sectors (Vhd head m) v s = own_in (layout_in g head.footer sectors) v s
 
 -- ---- the same in its volume of a store
 
--- the image stands there
+-- an image stands in its volume of a store
 abbrev pub ImageStands : Stored → Body → Type 0
 ImageStands x body = StandsIn x.site.geometry (sectors_in x (volume_name body)) body
 
--- and is true of what the volume holds
+-- an image is true of what its volume of a store holds
 abbrev pub ImageIsTrue : Stored → Body → Type 0
 ImageIsTrue x body = TrueIn x.site.geometry (sectors_in x (volume_name body)) (held_in x (volume_name body)) body
 
@@ -86,6 +86,6 @@ own_now x body v s = own_of x.site.geometry (sectors_in x (volume_name body)) bo
 abbrev pub IfVhdHolds : {S : Type 0} → Ghosts S → Body → (Head → List (Option ℕ) → Held → Type 0) → S → Type 0
 IfVhdHolds g body P s = g.told → IfVhd body (λ head m. P head m (held_in (stored g s) head.volume))
 
--- and this happened to it
+-- where an image is a VHD image and the store tells its content: this happened to what its volume holds
 abbrev pub IfVhdDoes : {S : Type 0} → Ghosts S → Body → (Head → List (Option ℕ) → Held → Held → Type 0) → S → S → Type 0
 IfVhdDoes g body P old new = g.told → IfVhd body (λ head m. P head m (held_in (stored g old) head.volume) (held_in (stored g new) head.volume))

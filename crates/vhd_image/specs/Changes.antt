@@ -54,11 +54,11 @@ pub record StaysTrue (g : Geometry) (sectors : ℕ) (head : Head) (m : List (Opt
   pub same : ChangesBy (layout_in g head.footer sectors) (IsSameImage (layout_in g head.footer sectors)) old new
   pub true_now : IsTrueIn g sectors new head m
 
--- so in whichever first sectors of its volume it was true
+-- in whichever first sectors of its volume the image was true, it says what it said, whatever a stop may leave, and is true as before
 abbrev pub StaysTrueIn : Geometry → Head → List (Option ℕ) → Held → Held → Type 0
 StaysTrueIn g head m old new = (part : ℕ) → IsTrueIn g part old head m → StaysTrue g part head m old new
 
--- and there it ends now after so many sectors
+-- in whichever first sectors of its volume the image was true, it ends now after so many sectors
 abbrev pub EndsAt : Geometry → ℕ → Head → List (Option ℕ) → Held → Held → Type 0
 EndsAt g sectors head m old new = (part : ℕ) → IsTrueIn g part old head m → ReadsAsImage g sectors new head m
 

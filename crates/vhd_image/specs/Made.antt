@@ -75,7 +75,7 @@ new_footer now sectors uid parent = record {
   uid = uid;
 }
 
--- its head
+-- the head of a new image in a volume: made now, of so many sectors, with a unique id and perhaps a parent
 abbrev pub new_head : Geometry → Name → ℕ → ℕ → List ℕ → Option Body → Head
 new_head g volume now sectors uid parent = record { volume = volume; footer = new_footer now sectors uid parent; header = new_header g parent }
 

@@ -45,7 +45,7 @@ LayoutOf = (extent block entries blocks sectors : ℕ) → IsGeometry extent blo
 abbrev pub SlotsFit : Type 0
 SlotsFit = (l : Layout) (top : ℕ) → l.first + top * (1 + l.block) + 1 ≤ l.sectors → top ≤ slot_count l
 
--- and only there
+-- so many slots have room only where so many slots and the footer have room behind the table
 abbrev pub SlotsNeed : Type 0
 SlotsNeed = (l : Layout) (top : ℕ) → l.first + 1 ≤ l.sectors → top ≤ slot_count l → l.first + top * (1 + l.block) + 1 ≤ l.sectors
 
@@ -59,6 +59,7 @@ pub record SameHead (footer footer' : Footer) (header header' : Header) (blocks 
   pub headers : header ≡ header'
   pub sizes : blocks ≡ blocks'
 
+-- two heads of which the same sectors are true are the same
 abbrev pub OneHead : Type 0
 OneHead = (block entries blocks blocks' sectors : ℕ) (v : Sectors) (footer footer' : Footer) (header header' : Header) → 8 ≤ block → IsHead (layout_of block entries blocks sectors) v footer header → IsHead (layout_of block entries blocks' sectors) v footer' header' → SameHead footer footer' header header' blocks blocks'
 

@@ -50,7 +50,13 @@ fn is_parent(name: &Name) -> bool
 {
     match name {
         Name::Vhd(_) | Name::Raw(_) => is_name(name),
-        _ => false,
+        Name::Mgt
+        | Name::Old(_)
+        | Name::Clone { .. }
+        | Name::Inflate { .. }
+        | Name::Coalesce { .. }
+        | Name::Relink { .. }
+        | Name::Leaf { .. } => false,
     }
 }
 

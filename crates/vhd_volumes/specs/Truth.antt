@@ -69,10 +69,10 @@ layout_now x head = layout_in x.site.geometry head.footer (sectors_in x head.vol
 abbrev pub HasRoomIn : Stored → Name → ℕ → Type 0
 HasRoomIn x volume slots = HasRoomFor x.site.geometry slots (sectors_in x volume)
 
--- the image stands there
+-- an image stands in its volume of a store
 abbrev pub StandsNow : Stored → Head → List (Option ℕ) → Type 0
 StandsNow x head m = IsStanding x.site.geometry (sectors_in x head.volume) head m
 
--- and is true of what the volume holds
+-- an image is true of what its volume of a store holds
 abbrev pub IsTrueNow : Stored → Head → List (Option ℕ) → Type 0
 IsTrueNow x head m = IsTrueIn x.site.geometry (sectors_in x head.volume) (held_in x head.volume) head m

@@ -7,7 +7,8 @@ use Rattle.sm_space.proofs.KeptRoom.{KeepsRoom, keeps_room}
 use Rattle.sm_ready.proofs.ChainLaws.{err_not_ok}
 use Rattle.sm_ready.proofs.FramingLaws.{more_steps, then_steps}
 use Rattle.gc_abandon.proofs.AbandonedLaws.{GaveUp, gave_up, give_up_failed, then_allowed, then_does, then_kept, then_next}
-use Rattle.sm_attaching.proofs.GivenLaws.{growth_given, least_given, table_given}
+use Rattle.sm_attaching.proofs.GivenLaws.{growth_given, least_given}
+use Rattle.gc_abandon.proofs.TableLaws.{table_given}
 use Rattle.sm_attaching.proofs.enlarging.attach_given.Given.{Over}
 use Rattle.sm_attaching.proofs.enlarging.attach_given.Goals as goal
 

@@ -1,4 +1,4 @@
-use Rattle.std.proofs.Common.{ap, sym, ◌∙◌}
+use Rattle.std.proofs.Common.{ap, arith, sym, ◌∙◌}
 use Rattle.sm_base.specs.declared.names.Name.TheVariants.{Vhd}
 use Rattle.sm_machine.specs.Shapes.{same_image}
 use Rattle.sm_checks.proofs.ReadLaws.{not_vhd}
@@ -8,5 +8,5 @@ pub returns-in-Vhd : goal.returns-in-Vhd
 unfolding same_image
 returns-in-Vhd c = c.eq.ensures ∙ sym (ap (same_image (Vhd c.args.image.now)) c.in-Vhd.is)
 
-pub returns-in_default : goal.returns-in_default
-returns-in_default c = sym (not_vhd c.args.image.now c.args.name.now c.in_default.not-Vhd)
+pub returns-in-Mgt : goal.returns-in-Mgt
+returns-in-Mgt c = sym (not_vhd c.args.image.now c.args.name.now (λ v is. grind (arith, is, c.in-Mgt.is)))

@@ -18,7 +18,7 @@ use Rattle.sm_ready.proofs.ChainLaws.{done_behind, ready_read}
 use Rattle.sm_ready.proofs.FramingLaws.{more_steps, reads_between, stays_steps, then_steps}
 use Rattle.sm_ready.proofs.NumberLaws.{number_of_base}
 use Rattle.sm_space.proofs.KeptRoom.{KeepsRoom, keeps_room}
-use Rattle.sm_attaching.proofs.GivenLaws.{table_given}
+use Rattle.gc_abandon.proofs.TableLaws.{table_given}
 use Rattle.gc_abandon.specs.Abandoning.{unfolded_table}
 use Rattle.gc_abandon.proofs.AbandonedLaws.{GaveUp, gave_up, give_up_failed}
 use Rattle.sm_clone.specs.Forking.{AreForFork, HasForkedRows, IsForkedOnLeast, fork_of, forked_rows, forking, own_name, sectors_of, shape_forked, table_forked}

@@ -1,5 +1,6 @@
 use Rattle.std.proofs.Common.{◌≡◌, ℕ, ◌+◌, ◌-◌, ◌<◌, Some, sym, ap, subst, ◌∙◌, arith}
 use Rattle.std.proofs.lemmas.Bool.{OnTrue_at}
+use Rattle.sm_machine.specs.Shapes.{chain_limit}
 use Rattle.vg_volumes.specs.Sites.{Site}
 use Rattle.vg_volumes.specs.Stored.{stored}
 use Rattle.vg_volumes.proofs.StoredLaws.{reads_then}
@@ -17,7 +18,7 @@ returns-in_default-clause-piece g c = λ told.
     let x = stored g.S.Store c.args.store.now in
     zeros-piece x (chain_reads x c.args.rows.now c.args.leaf.now) c.args.sector c.zeros.result.sectors _ c.zeros.ensures.image
     (λ k below. c.loop.invariant.same told k (omega (arith, below, c.zeros.ensures.sectors))
-    ∙ zeros_none x c.args.rows.now (30 - c.loop.counter) c.loop.next c.args.sector (c.args.sector + k) c.in_default.ensures (omega arith))
+    ∙ zeros_none x c.args.rows.now (chain_limit - c.loop.counter) c.loop.next c.args.sector (c.args.sector + k) c.in_default.ensures (omega arith))
 
 pub run-requires-clause-stands : goal.run-requires-clause-stands
 run-requires-clause-stands g c =
@@ -101,6 +102,6 @@ loop-preserved g c =
 pub returns-clause-piece : goal.returns-clause-piece
 returns-clause-piece g c = λ told.
     let x = stored g.S.Store c.args.store.now in
-    let done : 30 - c.loop.counter ≡ 0 = omega arith in
+    let done : chain_limit - c.loop.counter ≡ 0 = omega arith in
     zeros-piece x (chain_reads x c.args.rows.now c.args.leaf.now) c.args.sector c.zeros-2.result.sectors _ c.zeros-2.ensures.image
-    (λ k below. c.loop.invariant.same told k (omega (arith, below, c.zeros-2.ensures.sectors)) ∙ walk_ends x c.args.rows.now (30 - c.loop.counter) done c.loop.next (c.args.sector + k))
+    (λ k below. c.loop.invariant.same told k (omega (arith, below, c.zeros-2.ensures.sectors)) ∙ walk_ends x c.args.rows.now (chain_limit - c.loop.counter) done c.loop.next (c.args.sector + k))
