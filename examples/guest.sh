@@ -1,6 +1,6 @@
 #!/bin/sh
-# A guest's disk on a real file: a VHD disk of 64 KiB is made, attached, written, read, flushed and detached; a second run enlarges
-# it and reads it again. Prints each reply, cut after 24 characters.
+# A guest's disk on a real file: a VHD disk of 64 KiB is made, attached, written, read, flushed, enlarged, written behind its old end
+# and detached; a second run enlarges it again and reads it. Prints each reply, cut after 24 characters.
 set -e
 root=$(cd "$(dirname "$0")/.." && pwd)
 program="$root/crates/lvhd/out/lvhd"
@@ -27,6 +27,9 @@ truncate -s 3M "$work/repo.img"
     echo "fill $disk 100 28 5a"
     echo "read $disk 127 1"
     echo "delete $disk"
+    echo "resize $disk 98304"
+    echo "write $disk 190 $(sector 77)"
+    echo "read $disk 190 1"
     echo "detach $disk"
     echo "detach $disk"
 } >"$work/script"
@@ -36,6 +39,8 @@ truncate -s 3M "$work/repo.img"
     echo "attach $disk ro"
     echo "read $disk 7 1"
     echo "read $disk 8 1"
+    echo "resize $disk 135168"
+    echo "read $disk 190 1"
     echo "read $disk 255 1"
     echo "write $disk 7 $(sector ef)"
     echo "detach $disk"

@@ -2,8 +2,9 @@
 # A test of the limits, on real files, each run under a limit on memory of 64 MiB: 500 disks made in one run, and one more,
 # which is refused; 20,000 accepted lines in one run over three disks; 500 VHD disks made and all attached; 20,000 writes, fills
 # and reads of one disk; a fill over a whole disk of 8,192 blocks; a chain of 30 images that is read 200 times, and one more, which
-# is refused; clones until 500 images stand, and one more; and 120 snapshots of one disk made and given up while it is written, and
-# what they leave collected. Prints each reply once, at most 24 characters of it, with how often it came.
+# is refused; clones until 500 images stand, and one more; 120 snapshots of one disk made and given up while it is written, and
+# what they leave collected; and a disk of one block enlarged by one block 2,000 times while it is attached and written. Prints each reply
+# once, at most 24 characters of it, with how often it came.
 set -e
 root=$(cd "$(dirname "$0")/.." && pwd)
 program="$root/crates/lvhd/out/lvhd"
@@ -119,3 +120,20 @@ counted "$work/collected.img" "$work/script"
     echo "attach $disk ro"
     echo "read $disk 0 128"
 } | (ulimit -v 65536; "$program" "$work/collected.img" run) | cksum
+# A disk of one block is enlarged by one block 2,000 times while it is attached, and its last sector is written each time.
+truncate -s 12M "$work/grown.img"
+"$program" "$work/grown.img" format 16384 4096 2048 "$repository"
+awk -v disk="$disk" 'BEGIN {
+    print "create " disk " 4096 vhd guest"
+    print "attach " disk " rw"
+    for (i = 2; i <= 2001; i++) {
+        print "resize " disk " " i * 4096
+        print "fill " disk " " i * 8 - 1 " 1 5a"
+    }
+    print "stat"
+    print "read " disk " 16007 1"
+}' >"$work/script"
+(ulimit -v 65536; "$program" "$work/grown.img" run <"$work/script") >"$work/replies"
+grep -c '^ok' "$work/replies"
+sed -n 4001p "$work/replies"
+tail -n 2 "$work/replies" | cut -c1-24

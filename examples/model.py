@@ -172,6 +172,15 @@ class Machine:
             self.operation = None
             self.commit(1)
 
+    def lacking(self, name, size):
+        """The extents that an image lacks for being written to in each block of so many sectors."""
+        return max(0, self.thick(size) - self.images[name].extents) if is_vhd(name) else 0
+
+    def enlarge(self, image, need):
+        if need:
+            image.extents += need
+            self.commit(3)
+
     # ---- calls
 
     def create(self, disk, size, kind, label):
@@ -201,12 +210,10 @@ class Machine:
         self.test(mode == "rw" and self.disks[disk].read_only, "ReadOnly")
         name = self.own(disk)
         image = self.images[name]
-        need = max(0, self.thick(image.size) - image.extents) if mode == "rw" and is_vhd(name) else 0
+        need = self.lacking(name, image.size) if mode == "rw" else 0
         self.test_room(need)
         self.give_up(name)
-        if need:
-            image.extents += need
-            self.commit(3)
+        self.enlarge(image, need)
         self.attached[disk] = mode
         return "ok"
 
@@ -241,14 +248,18 @@ class Machine:
 
     def resize(self, disk, size):
         self.test_names(disk, None)
-        self.test(disk in self.attached, "InUse")
+        self.test(self.attached.get(disk) == "ro", "InUse")
         self.test(self.disks[disk].read_only, "ReadOnly")
         name = self.own(disk)
+        image = self.images[name]
         self.test(not is_vhd(name), "RawDisk")
         size = self.test_size(size, False)
-        self.test(size < self.images[name].size, "Shrink")
+        self.test(size < image.size, "Shrink")
+        need = self.lacking(name, size) if disk in self.attached else 0
+        self.test_room(need)
         self.give_up(name)
-        self.images[name].size = size
+        self.enlarge(image, need)
+        image.size = size
         return f"ok {size * 512}"
 
     def label(self, disk, text):

@@ -28,6 +28,7 @@ resize C 131072
 attach A ro
 attach A ro
 delete A
+resize A 131072
 fill A 0 1 5a
 read A 0 0
 read A 0 129

@@ -30,8 +30,12 @@ void *realloc(void *p, size_t n) { static void *(*to)(void *, size_t); if (!to) 
 __attribute__((destructor)) static void tell(void) { char *path = getenv("ASKED"); FILE *f = path ? fopen(path, "w") : 0; if (f) { fprintf(f, "%ld", asked); fclose(f); } }
 """
 A, B, C, E = (f"{digit * 8}-{digit * 4}-4{digit * 3}-8{digit * 3}-{digit * 12}" for digit in "1234")
-SPARED = ("create", "attach", "snapshot", "clone", "read", "list", "stat")
+SPARED = ("create", "attach", "snapshot", "clone", "resize", "read", "list", "stat")
 SCRIPTS = {
+    "an attached disk grows": [
+        f"create {A} 65536 vhd x", f"attach {A} rw", f"fill {A} 0 1 aa", f"resize {A} 69632", f"resize {A} 131072", f"fill {A} 127 2 bb", "stat",
+        f"resize {A} 262144", f"fill {A} 255 2 cc", f"detach {A}", f"resize {A} 262144", f"attach {A} ro", f"resize {A} 262144", f"read {A} 0 1", "stat",
+    ],
     "a snapshot of an attached disk": [
         f"create {A} 65536 vhd x", f"attach {A} rw", "stat", f"attach {A} rw", f"snapshot {A} {B}", f"attach {B} ro", "stat", f"fill {B} 0 1 aa",
         f"detach {B}", f"attach {B} rw", "list",

@@ -52,9 +52,18 @@ refusal_abandoned s (Attach u Ro) own = refl
 refusal_abandoned s (Resize u size) own = refl
 refusal_abandoned s _ own = absurd (true≢false (sym own))
 
+-- the extents that it takes
+pub need_abandoned : (s : Shape) (c : Command) → is_own c ≡ true → need (abandoned s) c ≡ need s c
+unfolding need rounded
+need_abandoned s (Delete u) own = refl
+need_abandoned s (Attach u Rw) own = refl
+need_abandoned s (Attach u Ro) own = refl
+need_abandoned s (Resize u size) own = refl
+need_abandoned s _ own = absurd (true≢false (sym own))
+
 -- its own commits
 own_abandoned : (s : Shape) (c : Command) → is_own c ≡ true → own_commits (abandoned s) c ≡ own_commits s c
-unfolding own_commits need
+unfolding own_commits need rounded
 own_abandoned s (Delete u) own = refl
 own_abandoned s (Attach u Rw) own = refl
 own_abandoned s (Attach u Ro) own = refl

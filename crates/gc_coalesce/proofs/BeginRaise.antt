@@ -1,23 +1,19 @@
 -- A hidden VHD image, to which the images that read through it are as large as it gets, gets a greater size: memory and shape with it.
-use Rattle.std.proofs.Common.{◌≡◌, ◌≢◌, ◌⊎◌, ⊎_elim, ℕ, ◌*◌, ◌/◌, ◌≤◌, not, ◌&&◌, true, false, List, map, Option, Some, None, refl, sym, ap, ap₂, ◌∙◌, subst, arith}
+use Rattle.std.proofs.Common.{◌≡◌, ◌≢◌, ◌⊎◌, ⊎_elim, ℕ, ◌*◌, ◌/◌, ◌≤◌, not, ◌&&◌, true, false, List, map, Some, None, refl, sym, ap, ap₂, ◌∙◌, subst, arith}
 use Rattle.std.proofs.Math.Logic.{∥∥₁_elim, ∥∥₁_map}
 use Rattle.std.proofs.Math.Nat.{mul-div_cancel}
 use Rattle.std.proofs.Props.{props}
 use Rattle.std.specs.Str.{bytes_eq}
 use Rattle.common_laws.specs.Lists.{In, when}
 use Rattle.common_laws.proofs.Lists.{In-map_at}
-use Rattle.sm_base.specs.declared.names.Name.{Name}
 use Rattle.sm_base.specs.declared.names.Name.TheVariants.{Vhd}
 use Rattle.sm_base.specs.declared.operations.Op.TheVariants as op
 use Rattle.vg_meta.specs.Tables.{VolumeTable}
 use Rattle.vg_volumes.specs.Sites.{Site}
-use Rattle.vhd_image.specs.Bodies.{IsVhd, StandsIn, parent_name, sector_count, volume_name}
+use Rattle.vhd_image.specs.Bodies.{IsVhd, StandsIn, sector_count}
 use Rattle.vhd_image.specs.Changes.{resized}
 use Rattle.vhd_image.specs.Made.{IsDiskSize}
-use Rattle.vhd_image.specs.declared.images.Body.{Body}
-use Rattle.vhd_image.specs.declared.images.Body.TheVariants as body
 use Rattle.vhd_image.proofs.ChangeLaws.{resize-stands}
-use Rattle.vhd_chain.specs.Reading.{slots_of}
 use Rattle.vhd_chain.specs.Trees.{row_name, tree_row, with_replaced}
 use Rattle.vhd_chain.specs.declared.rows.TreeRow.{TreeRow}
 use Rattle.sm_machine.specs.Laws.{IsSeenAlike, MayGrow}
@@ -38,11 +34,7 @@ use Rattle.sm_ready.proofs.PutBackLaws.{any_replaced, face_replaced, map_replace
 use Rattle.sm_ready.proofs.ShapeLaws.{shown_same}
 use Rattle.sm_ready.proofs.SoundLaws.{sound}
 use Rattle.sm_ready.proofs.TruthLaws.{row_found}
-use Rattle.sm_space.proofs.ResizeLaws.{sized}
-
-name_of : (k : ℕ) (b : Body) → volume_name (resized k b) ≡ volume_name b
-name_of k (body.Raw n size) = refl
-name_of k (body.Vhd head slots) = refl
+use Rattle.sm_space.proofs.ResizeLaws.{image_sized, sized, sized_name}
 
 -- the image of u, which is hidden and may have this size
 pub record IsToRaise (s : Site) (t : VolumeTable) (m : Known) (u : List ℕ) (size : ℕ) (own : TreeRow) : Type 0 where
@@ -67,7 +59,7 @@ module _ {s : Site} {t : VolumeTable} {m : Known} {u : List ℕ} {size : ℕ} {o
   found = ap (tree_row m.rows) (sym h.named) ∙ row_found s t m h.orderly own h.there
 
   pub same_name : row_name (sized size own) ≡ row_name own
-  same_name = name_of size own.image
+  same_name = sized_name size own.image
 
   pub own_head : HasHead own
   own_head = vhd_row s t m own u h.orderly h.there h.named
@@ -76,16 +68,6 @@ module _ {s : Site} {t : VolumeTable} {m : Known} {u : List ℕ} {size : ℕ} {o
   own_vhd = subst IsVhd (sym own_head.is) tt
 
   -- ---- its row
-
-  parts : (b : Body) → IsVhd b → (sector_count (resized size b) ≡ size) × (parent_name (resized size b) ≡ parent_name b) × (slots_of (resized size b) ≡ slots_of b)
-  parts (body.Raw n k) vhd = absurd vhd
-  parts (body.Vhd head slots) vhd = (omega arith, refl, refl)
-
-  row_sized : machine_row next ≡ record (machine_row own) { size = size }
-  row_sized =
-      let is = parts own.image own_vhd in
-      ap₂ (λ (n : Name) (p : Option Name). let i : ImageRow = record { name = n; hidden = own.hidden; parent = p; size = sector_count next.image; slots = slots_of next.image; extents = own.extents } in i) same_name is.1
-      ∙ ap₂ (λ (k : ℕ) (l : List (Option ℕ)). let i : ImageRow = record (machine_row own) { size = k; slots = l } in i) is.0 is.2
 
   abbrev with_size : ImageRow → ImageRow
   with_size i = record i { size = size }
@@ -98,7 +80,7 @@ module _ {s : Site} {t : VolumeTable} {m : Known} {u : List ℕ} {size : ℕ} {o
 
   images_raised : map machine_row after.rows ≡ on_image (Vhd u) with_size (map machine_row m.rows)
   images_raised = map_replaced s t m h.orderly own next h.there same_name machine_row on
-      (row_sized ∙ sym (ap (λ b. when b with_size (machine_row own)) own_named))
+      (image_sized size own own_vhd ∙ sym (ap (λ b. when b with_size (machine_row own)) own_named))
       (λ p i other. sym (ap (λ b. when b with_size (machine_row p)) (other_image (row_name p) (Vhd u) (λ is. other (is ∙ sym h.named)))))
 
   shown_raised : (v : List ℕ) → is_shown after.rows v ≡ is_shown m.rows v

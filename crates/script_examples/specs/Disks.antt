@@ -66,7 +66,7 @@ grown =
     line (codes "create 11111111-1111-4111-8111-111111111111 4096 vhd x") (codes "ok 4096") ∷
     line (codes "attach 11111111-1111-4111-8111-111111111111 rw") (codes "ok") ∷
     line (codes "fill 11111111-1111-4111-8111-111111111111 0 8 aa") (codes "ok") ∷
-    line (codes "resize 11111111-1111-4111-8111-111111111111 8192") (codes "no InUse") ∷
+    line (codes "resize 11111111-1111-4111-8111-111111111111 8192") (codes "ok 8192") ∷
     line (codes "detach 11111111-1111-4111-8111-111111111111") (codes "ok") ∷
     line (codes "resize 11111111-1111-4111-8111-111111111111 4097") (codes "ok 8192") ∷
     line (codes "attach 11111111-1111-4111-8111-111111111111 ro") (codes "ok") ∷

@@ -85,3 +85,21 @@ fork_room =
     line (codes "clone 11111111-1111-4111-8111-111111111111 33333333-3333-4333-8333-333333333333") (codes "ok") ∷
     line (codes "attach 11111111-1111-4111-8111-111111111111 ro") (codes "ok") ∷
     []
+
+-- a disk that is attached for writing grows
+abbrev pub attached_grows : Script
+attached_grows =
+    line (codes "create 11111111-1111-4111-8111-111111111111 65536 vhd x") (codes "ok 65536") ∷
+    line (codes "attach 11111111-1111-4111-8111-111111111111 rw") (codes "ok") ∷
+    line (codes "resize 11111111-1111-4111-8111-111111111111 131072") (codes "ok 131072") ∷
+    line (codes "stat") (codes "ok seq 9 free 38 op none images 1 VHD-11111111-1111-4111-8111-111111111111,v,-,131072,0,10,1") ∷
+    line (codes "fill 11111111-1111-4111-8111-111111111111 255 1 aa") (codes "ok") ∷
+    line (codes "create 33333333-3333-4333-8333-333333333333 262144 raw x") (codes "ok 262144") ∷
+    line (codes "create 55555555-5555-4555-8555-555555555555 262144 raw x") (codes "ok 262144") ∷
+    line (codes "create 66666666-6666-4666-8666-666666666666 98304 raw x") (codes "ok 98304") ∷
+    line (codes "resize 11111111-1111-4111-8111-111111111111 262144") (codes "no NoSpace need 9 free 0") ∷
+    line (codes "resize 11111111-1111-4111-8111-111111111111 262145") (codes "no BadSize") ∷
+    line (codes "detach 11111111-1111-4111-8111-111111111111") (codes "ok") ∷
+    line (codes "attach 11111111-1111-4111-8111-111111111111 ro") (codes "ok") ∷
+    line (codes "resize 11111111-1111-4111-8111-111111111111 135168") (codes "no InUse") ∷
+    []

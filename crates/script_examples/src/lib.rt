@@ -14,7 +14,7 @@ ghost use Rattle.script_examples.specs.Texts.{answered, long_line, poor_once, st
 ghost use Rattle.script_examples.specs.RawDisks.{raw_disks};
 ghost use Rattle.script_examples.specs.Disks.{empty, grown, one_disk, order, refused, reserved, sizes, spent};
 ghost use Rattle.script_examples.specs.Crowds.{crowded_from, crowded};
-ghost use Rattle.script_examples.specs.Guests.{fork_room, snapshot_of_attached, guest_writes, shared_base, no_room, raw_base};
+ghost use Rattle.script_examples.specs.Guests.{attached_grows, fork_room, snapshot_of_attached, guest_writes, shared_base, no_room, raw_base};
 ghost use Rattle.script_examples.specs.Collecting.{coalesce, given_up, fold, blocked};
 ghost use Rattle.script_examples.specs.Scripts.{IsAnswered, after, new, spent_from};
 
@@ -71,6 +71,11 @@ pub fn script_guest_writes()
 /// A disk and its snapshot part from their base.
 pub fn script_shared_base()
     ensures replies { IsAnswered new shared_base }
+{}
+
+/// A disk that is attached for writing grows.
+pub fn script_attached_grows()
+    ensures replies { IsAnswered new attached_grows }
 {}
 
 /// A third disk finds no room to be written to.

@@ -1,5 +1,5 @@
 -- A disk is attached, or detached: the images of its chain are counted, and the shape is the machine's.
-use Rattle.std.proofs.Common.{◌≡◌, ◌≢◌, inl, inr, ℕ, ◌+◌, ◌<◌, ◌≤◌, Bool, true, false, not, cond, if◌then◌else◌, List, [], ◌∷◌, ◌++◌, map, length, Option, Some, None, refl, sym, ap, ap₂, ◌∙◌, subst, subst₂, arith, ⊎_elim}
+use Rattle.std.proofs.Common.{◌≡◌, ◌≢◌, inl, inr, ℕ, ◌+◌, ◌<◌, ◌≤◌, Bool, true, false, not, cond, if◌then◌else◌, List, [], ◌∷◌, ◌++◌, map, length, Option, Some, None, refl, sym, ap, ap₂, ◌∙◌, subst, arith, ⊎_elim}
 use Rattle.std.specs.Prelude.{AllPairs, nat_lt, is_none, is_some}
 use Rattle.std.proofs.Math.Logic.{∥∥₁_elim}
 use Rattle.std.proofs.Props.{props}
@@ -10,13 +10,11 @@ use Rattle.std.proofs.lemmas.List.{length-map, map_push}
 use Rattle.sm_base.specs.declared.names.Name.{Name}
 use Rattle.sm_base.specs.declared.operations.Mode.{Mode}
 use Rattle.sm_base.specs.declared.operations.Mode.TheVariants.{Ro, Rw}
-use Rattle.sm_disk.specs.Held.{Keeps}
 use Rattle.common_laws.specs.Lists.{◌>>=◌, In, Distinct, change, when}
 use Rattle.common_laws.proofs.Bytes.{bytes_eq-same}
 use Rattle.common_laws.proofs.Lists.{In-map, In-map_at, find-some}
 use Rattle.vg_meta.specs.Tables.{VolumeTable}
 use Rattle.vg_volumes.specs.Sites.{Site}
-use Rattle.vg_volumes.specs.Stored.{Stays}
 use Rattle.vg_volumes.specs.declared.stores.Store.{Ghosts}
 use Rattle.vhd_chain.specs.Trees.{row_name, tree_row}
 use Rattle.sm_base.specs.declared.names.Name.TheVariants.{Vhd, Raw}
@@ -39,11 +37,8 @@ use Rattle.sm_machine.proofs.Uses.{attached_uses, detached_uses}
 use Rattle.sm_ready.specs.Framing.{IsBetweenSteps}
 use Rattle.sm_ready.specs.Known.{Known, known, machine_row, shape_in}
 use Rattle.sm_ready.specs.Orderly.{IsOrderly}
-use Rattle.sm_ready.specs.Ready.{IsTidy}
 use Rattle.sm_ready.specs.declared.memory.Memory.{Memory}
 use Rattle.sm_ready.proofs.ChainLaws.{tab}
-use Rattle.sm_ready.proofs.FrameLaws.{true_stays}
-use Rattle.sm_ready.proofs.RoomLaws.{rows_stays}
 use Rattle.sm_ready.proofs.NewLaws.{well_target}
 use Rattle.sm_ready.proofs.OnceLaws.{any_In}
 use Rattle.sm_ready.proofs.Orders.{named_row}
@@ -309,16 +304,4 @@ module _ {S : Type 0} {g : Ghosts S} {a : S} (m : Memory) where
     rows = i.rows;
     tree_room = i.tree_room;
     attachment_room = let room = i.attachment_room in omega (arith, room, more);
-  }
-
-  -- a sync
-  pub between_synced : {b : S} → Stays g a b → (g.told → Keeps (g.area a) (g.area b)) → IsBetweenSteps g a m → IsBetweenSteps g b m
-  between_synced stays keeps i = record {
-    usable = stays.failed ∙ i.usable;
-    orderly = subst₂ (λ s t. IsOrderly s t (known m)) (sym stays.site) (sym stays.table) i.orderly;
-    tidy = subst (λ t. IsTidy t (known m)) (sym stays.table) i.tidy;
-    true_images = true_stays g m m stays.site stays.table refl keeps i.true_images;
-    rows = rows_stays stays i.rows;
-    tree_room = i.tree_room;
-    attachment_room = i.attachment_room;
   }

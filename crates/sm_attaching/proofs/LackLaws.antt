@@ -1,8 +1,7 @@
 -- The image of a disk that lacks extents for being written to: it is a VHD image, and the extents that it lacks are free.
-use Rattle.std.proofs.Common.{◌≡◌, ℕ, ◌+◌, ◌-◌, ◌<◌, ◌≤◌, ◌^◌, Bool, true, false, List, Some, None, is_some, refl, sym, ap, ◌∙◌, subst, arith, ⊎_elim}
+use Rattle.std.proofs.Common.{◌≡◌, ℕ, ◌+◌, ◌-◌, ◌<◌, ◌≤◌, ◌^◌, Bool, true, false, List, Some, None, is_some, refl, sym, ap, ◌∙◌, subst, arith}
 use Rattle.std.proofs.Math.Logic.{∥∥₁_elim}
 use Rattle.std.proofs.Props.{props}
-use Rattle.std.proofs.lemmas.Bool.{true≢false, ltb-false}
 use Rattle.common_laws.proofs.Lists.{In-map_at}
 use Rattle.sm_base.specs.declared.names.Name.TheVariants.{Vhd}
 use Rattle.sm_base.specs.declared.operations.Mode.{Mode}
@@ -12,22 +11,18 @@ use Rattle.vg_volumes.specs.Sites.{Site}
 use Rattle.vhd_chain.specs.Trees.{row_name, tree_row}
 use Rattle.sm_machine.specs.declared.commands.Command.TheVariants.{Attach}
 use Rattle.sm_machine.specs.Commits.{is_given_up}
-use Rattle.sm_machine.specs.Refusals.{lacking, lacks_space, need, refusal, with_image_of}
-use Rattle.sm_machine.specs.Shapes.{Shape, free, is_image_of, is_vhd, thick_in}
+use Rattle.sm_machine.specs.Refusals.{lacking, need, refusal, with_image_of}
+use Rattle.sm_machine.specs.Shapes.{Shape, is_image_of, is_vhd, thick_in}
 use Rattle.sm_machine.specs.Steps.{shape_next}
 use Rattle.sm_machine.proofs.Attaches.{is_its_image}
-use Rattle.sm_machine.proofs.Passed.{passed}
 use Rattle.sm_ready.specs.Known.{Known, machine_row, shape_in}
 use Rattle.sm_ready.specs.Orderly.{IsOrderly}
 use Rattle.sm_ready.specs.Ready.{IsTidy}
-use Rattle.sm_ready.proofs.CauseLaws.{named_as}
 use Rattle.sm_ready.proofs.NeedLaws.{thick_row}
-use Rattle.sm_ready.proofs.Orders.{named_row}
 use Rattle.sm_ready.proofs.OwnLaws.{IsOwn, own_image}
-use Rattle.sm_ready.proofs.RowLaws.{tree_found}
-use Rattle.sm_ready.proofs.SumLaws.{free_counted}
 use Rattle.sm_space.specs.Inflating.{HasFree, IsBelow, extents_in, inflated}
 use Rattle.sm_attaching.proofs.AttachedLaws.{own_attach}
+use Rattle.sm_space.proofs.PlanLaws as plan
 use Rattle.sm_attaching.proofs.GrowLaws as grow
 
 -- the machine's image of a row that is a disk's own
@@ -52,28 +47,20 @@ module _ (s : Site) (t : VolumeTable) (m : Known) (u : List ℕ) (o : IsOrderly 
       by true is = is
       by false is = absurd (omega (arith, lacks, ap (λ c. elim c as (λ _. ℕ) [ true ↦ thick_in (shape_in s t m) (machine_row own.row).size - own.row.extents | false ↦ 0 ]) is))
 
-  named : row_name own.row ≡ Vhd u
-  unfolding is_vhd
-  named = ⊎_elim (λ is. is) (λ raw. absurd (true≢false (sym vhd ∙ ap is_vhd raw))) (named_as (row_name own.row) u (named_row s t m own.row o own.there) own.uuid)
+  had : extents_in (tree_row m.rows (Vhd u)) ≡ own.row.extents
+  had = plan.had s t m u (Attach u Rw) o passes own vhd some
 
   found : tree_row m.rows (Vhd u) ≡ Some own.row
-  unfolding shape_in
-  found = ∥∥₁_elim o.well_formed (hlevel props) (λ w. ap (tree_row m.rows) (sym named) ∙ tree_found m.rows own.row w.one_image own.there)
-
-  had : extents_in (tree_row m.rows (Vhd u)) ≡ own.row.extents
-  had = ap extents_in found
+  found = plan.found s t m u (Attach u Rw) o passes own vhd some
 
   abbrev to : ℕ
   to = extents_in (tree_row m.rows (Vhd u)) + need (shape_in s t m) (Attach u Rw)
 
   below : IsBelow m.rows u to
-  below = record { row = own.row; there = found; below = omega (arith, had, some) }
+  below = plan.below s t m u (Attach u Rw) o passes own vhd some
 
   enough : IsTidy t m → HasFree s.count t m.rows u to
-  unfolding lacks_space
-  enough tidy =
-      let space = ltb-false (free (shape_in s t m)) (need (shape_in s t m) (Attach u Rw)) (passed (shape_in s t m) (Attach u Rw) passes).space in
-      omega (arith, space, free_counted s t m tidy.none_new o)
+  enough = plan.enough s t m u (Attach u Rw) o passes own vhd some
 
   grown : inflated u to (shape_in s t m) ≡ inflated u (own.row.extents + lacking (shape_in s t m) (machine_row own.row)) (shape_in s t m)
   grown = ap (λ k. inflated u k (shape_in s t m)) (omega (arith, had, needed))

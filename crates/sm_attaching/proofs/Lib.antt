@@ -2,4 +2,3 @@ pub mod ChainLaws
 pub mod AttachedLaws
 pub mod GrowLaws
 pub mod LackLaws
-pub mod GivenLaws

@@ -12,7 +12,7 @@ ghost use Rattle.sm_ready.specs.Does.{IsKeptUp, ShapesAs, StoreDoes, store_shape
 ghost use Rattle.sm_ready.specs.Framing.{CountsDevice, IsBetweenSteps, StepsOn};
 ghost use Rattle.sm_ready.specs.Sessions.{IsReadyStore};
 ghost use Rattle.sm_space.specs.Inflating.{IsEnlarged, extents_in};
-ghost use Rattle.sm_attaching.specs.Attaching.{HasGrowth};
+ghost use Rattle.sm_space.specs.Growing.{HasGrowth};
 ghost use Rattle.gc_abandon.specs.Abandoning.{unfolded, unfolded_table};
 ghost use Rattle.vhd_chain.specs.Trees.{tree_row};
 ghost use Rattle.sm_base.specs.declared.names.Name.TheVariants.{Vhd};
@@ -39,7 +39,7 @@ fn attach_kept<S: Store>(
     requires session { IsBetweenSteps S.Store store.old memory.old }
     requires allowed { IsAllowed S.Store (command.Attach disk.now mode) store.old memory.old }
     requires kept_up { IsKeptUp S.Store (command.Attach disk.now mode) store.old memory.old }
-    requires growth { HasGrowth S.Store store.old memory.old disk.now mode growth }
+    requires growth { HasGrowth S.Store store.old memory.old (command.Attach disk.now mode) disk.now growth }
     ensures step { StepsOn S.Store 3 store.old store.new }
     ensures cause { Counts S.Store result store.old store.new }
     ensures session_still { OnOk result (IsBetweenSteps S.Store store.new memory.new) }
@@ -70,7 +70,7 @@ fn attach_given<S: Store>(
 ) -> Result<(), Failed>
     requires session { IsBetweenSteps S.Store store.old memory.old }
     requires allowed { IsAllowed S.Store (command.Attach disk.now mode) store.old memory.old }
-    requires growth { HasGrowth S.Store store.old memory.old disk.now mode growth }
+    requires growth { HasGrowth S.Store store.old memory.old (command.Attach disk.now mode) disk.now growth }
     ensures step { StepsOn S.Store 4 store.old store.new }
     ensures cause { Counts S.Store result store.old store.new }
     ensures session_still { OnOk result (IsBetweenSteps S.Store store.new memory.new) }

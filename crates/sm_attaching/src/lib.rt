@@ -15,7 +15,7 @@
 //! images for each image of the chain. Detaching also takes one step for each attached disk, and for each image in use for each image
 //! of the chain.
 //!
-//! The definitions are in `specs/`: `Attaching` (what is asked of memory, and what is planned of extents).
+//! The definitions are in `specs/`: `Attaching` (what is asked of memory, and what is left alone).
 #![tactic(auto)]
 
 mod attaching;

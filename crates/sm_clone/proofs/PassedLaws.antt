@@ -69,6 +69,11 @@ thin_is s t m g is = ap (λ (x : Geometry). thin x.extent x.block x.entries 0) i
 
 -- ---- where no cause refuses it
 
+-- a fork is given no size
+pub no_size : (σ : Shape) (u twin : List ℕ) → is_bad_size σ (Snapshot u twin) ≡ false
+unfolding is_bad_size
+no_size σ u twin = refl
+
 -- where nothing was given up, the number is the table's
 pub passes_now : {s : Site} {t : VolumeTable} {m : Known} {u twin : List ℕ} {read_only : Bool}
     → IsOrderly s t m → refusal (shape_in s t m) (forking u twin read_only) ≡ None → Passes s t m u twin read_only

@@ -1,25 +1,27 @@
 -- A larger disk keeps a shape well-formed, and so does one that is attached.
-use Rattle.std.proofs.Common.{◌≡◌, ℕ, ◌+◌, ◌≤◌, Bool, true, false, not, ◌&&◌, List, map, Option, Some, None, refl, sym, ap, ◌∙◌, subst, arith}
+use Rattle.std.proofs.Common.{◌≡◌, ℕ, ◌+◌, ◌-◌, ◌<◌, ◌≤◌, Bool, true, false, not, ◌&&◌, List, [], ◌∷◌, map, Option, Some, None, refl, sym, ap, ◌∙◌, subst, inl, inr, arith}
 use Rattle.std.specs.Prelude.{nat_lt}
 use Rattle.std.specs.Str.{bytes_eq}
 use Rattle.std.proofs.lemmas.Bool.{ltb-false}
-use Rattle.common_laws.proofs.Options.{none_of_some}
+use Rattle.std.specs.List.{find}
+use Rattle.sm_base.specs.declared.operations.Mode.TheVariants.{Rw}
 use Rattle.sm_base.specs.declared.names.Name.{Name}
 use Rattle.sm_base.specs.declared.operations.Op.{Op}
 use Rattle.sm_base.specs.declared.operations.Op.TheVariants as op
 use Rattle.sm_machine.specs.declared.commands.Command.TheVariants.{Resize}
 use Rattle.common_laws.specs.Lists.{In, when}
-use Rattle.sm_machine.specs.Shapes.{Shape, ImageRow, Attachment, image_uuid, is_vhd, is_image_of, attached_as, thick_in}
-use Rattle.sm_machine.specs.Refusals.{of_some, rounded, is_in_use, is_raw_disk, is_bad_size, is_shrink}
+use Rattle.sm_machine.specs.Shapes.{Shape, ImageRow, Attachment, image_uuid, is_vhd, is_image_of, attached_as, free, image_extents, is_ro, is_rw, thick_in}
+use Rattle.sm_machine.specs.Refusals.{of_some, rounded, is_in_use, is_raw_disk, is_bad_size, is_shrink, lacking_larger, lacks_space, need, with_image_of}
 use Rattle.sm_machine.specs.Commits.{folds}
 use Rattle.sm_machine.specs.Steps.{resize_shape}
 use Rattle.sm_machine.specs.WellFormed.{IsWellFormed, IsImageRow, IsSize, HasParent, IsOnlyChild, IsOperation}
-use Rattle.common_laws.proofs.Lists.{Distinct-key}
+use Rattle.common_laws.proofs.Lists.{Distinct-key, find-none, find-some}
+use Rattle.sm_machine.proofs.Collects.{attached_mode}
 use Rattle.sm_machine.proofs.Changes.{when-key}
 use Rattle.sm_machine.proofs.Create.{new_size}
 use Rattle.sm_machine.proofs.Passed.{IsPassed}
-use Rattle.sm_machine.proofs.Mapped.{keeps_mapped, extents-map_same, attachments_mapped, only_mapped, link_mapped}
-use Rattle.sm_machine.proofs.Guests.{disks_own, disk_image_is, mode_none}
+use Rattle.sm_machine.proofs.Mapped.{keeps_mapped, extents-change_one, attachments_mapped, only_mapped, link_mapped}
+use Rattle.sm_machine.proofs.Guests.{disks_own, disk_image_is}
 
 -- the image of a leaf that is not the disk's
 pub not_its_leaf : (u : List ℕ) (y : ImageRow) (l : Name) → y.name ≡ l → bytes_eq (image_uuid l) u ≡ false → is_image_of u y ≡ false
@@ -46,7 +48,7 @@ module _ (s : Shape) (w : IsWellFormed s) (u : List ℕ) (bytes : ℕ) (p : IsPa
   size' = rounded s false bytes
 
   abbrev to_size : ImageRow → ImageRow
-  to_size i = record i { size = size' }
+  to_size i = record i { size = size'; extents = i.extents + lacking_larger s u size' i }
 
   abbrev on_resize : ImageRow → ImageRow
   on_resize y = when (is_image_of u y) to_size y
@@ -54,9 +56,40 @@ module _ (s : Shape) (w : IsWellFormed s) (u : List ℕ) (bytes : ℕ) (p : IsPa
   resized_key : {B : Type 0} (k : ImageRow → B) → ((y : ImageRow) → k (to_size y) ≡ k y) → (y : ImageRow) → k (on_resize y) ≡ k y
   resized_key k h y = when-key k to_size h (is_image_of u y) y
 
-  not_in_use : attached_as u s ≡ None
+  not_ro : is_ro (attached_as u s) ≡ false
   unfolding is_in_use
-  not_in_use = none_of_some (attached_as u s) p.in_use
+  not_ro = p.in_use
+
+  abbrev larger_by : Bool → Bool → ImageRow → ℕ
+  larger_by rw vhd y = elim rw [ true ↦ elim vhd [ true ↦ thick_in s size' - y.extents | false ↦ 0 ] | false ↦ 0 ]
+
+  -- no other image is the disk's
+  one_own : (y q : ImageRow) → In y s.images → In q s.images → is_image_of u y ≡ true → is_image_of u q ≡ true → y ≡ q
+  one_own y q h k e f = Distinct-key (λ (i : ImageRow). image_uuid i.name) s.images y q w.one_image h k ((disks_own s w u y e).1 ∙ sym (disks_own s w u q f).1)
+
+  -- the extents that it takes are free
+  enough : (y : ImageRow) → In y s.images → is_image_of u y ≡ true → lacking_larger s u size' y ≤ free s
+  unfolding lacks_space need
+  enough y h e = ltb-false (free s) (lacking_larger s u size' y) (subst (λ (o : Option ImageRow). nat_lt (free s) (with_image_of (lacking_larger s u size') o) ≡ false) (disk_image_is s w u y h e) p.space)
+
+  room_by : (o : Option ImageRow) → find (is_image_of u) s.images ≡ o → s.others + image_extents (map on_resize s.images) ≤ s.extents
+  unfolding free image_extents
+  room_by (Some own) f =
+      let there = find-some (is_image_of u) s.images own f in
+      let e : image_extents (map on_resize s.images) + own.extents ≡ image_extents s.images + (own.extents + lacking_larger s u size' own) =
+      extents-change_one (is_image_of u) to_size s.images own w.one_image there.0 there.1 (λ y h q. one_own y own h there.0 q there.1) in
+      let h : lacking_larger s u size' own ≤ s.extents - (s.others + image_extents s.images) = enough own there.0 there.1 in
+      let r : s.others + image_extents s.images ≤ s.extents = w.room in
+      omega arith
+  room_by None f = subst (λ (n : ℕ). s.others + n ≤ s.extents) (sym (none_change s.images (λ y h. find-none (is_image_of u) s.images y f h))) w.room
+    where
+      none_change : (xs : List ImageRow) → ((y : ImageRow) → In y xs → is_image_of u y ≡ false) → image_extents (map on_resize xs) ≡ image_extents xs
+      none_change [] none = refl
+      none_change (x ∷ xs) none =
+          let here : on_resize x ≡ x = when_not (is_image_of u x) to_size x (none x (inl refl)) in
+          let one : (on_resize x).extents ≡ x.extents = ap (λ (i : ImageRow). i.extents) here in
+          let rest : image_extents (map on_resize xs) ≡ image_extents xs = none_change xs (λ y h. none y (inr h)) in
+          omega arith
 
   is_good : IsSize s size'
   unfolding is_bad_size
@@ -76,7 +109,7 @@ module _ (s : Shape) (w : IsWellFormed s) (u : List ℕ) (bytes : ℕ) (p : IsPa
 
   good_by : (y : ImageRow) (c : Bool) → is_image_of u y ≡ c → In y s.images → IsImageRow s (when c to_size y)
   good_by y true e h = let g : IsImageRow s y = w.images y h in
-      record { named = g.named; whole = is_good; volume = g.volume; table = g.table; raw = λ v. (let q : is_vhd y.name ≡ true = is_no_raw y h e in cc) }
+      record { named = g.named; whole = is_good; volume = (let v : 0 < y.extents = g.volume in omega arith); table = g.table; raw = λ v. (let q : is_vhd y.name ≡ true = is_no_raw y h e in cc) }
   good_by y false e h = w.images y h
 
   grown_by : (y : ImageRow) (c : Bool) → is_image_of u y ≡ c → In y s.images → y.size ≤ (when c to_size y).size
@@ -89,9 +122,18 @@ module _ (s : Shape) (w : IsWellFormed s) (u : List ℕ) (bytes : ℕ) (p : IsPa
       let b : y.size ≤ (on_resize y).size = grown_by y (is_image_of u y) refl h in
       omega arith
 
-  thick_by : (a : Attachment) (y : ImageRow) (c : Bool) → is_image_of u y ≡ c → In a s.attached → image_uuid y.name ≡ a.disk → thick_in s y.size ≤ y.extents → thick_in s (when c to_size y).size ≤ (when c to_size y).extents
-  thick_by a y true e h q l = absurd (mode_none u s.attached not_in_use a h (sym q ∙ (disks_own s w u y e).1))
-  thick_by a y false e h q l = l
+  -- its disk is attached for writing
+  is_rw_of : (a : Attachment) → In a s.attached → a.mode ≡ Rw → a.disk ≡ u → is_rw (attached_as u s) ≡ true
+  is_rw_of a h m e = ap is_rw (attached_mode s w a u h e ∙ ap Some m)
+
+  thick_larger : (y : ImageRow) (a c : Bool) → a ≡ true → c ≡ true → thick_in s size' ≤ y.extents + larger_by a c y
+  thick_larger y true true e f = omega arith
+  thick_larger y true false e f = cc
+  thick_larger y false c e f = cc
+
+  thick_by : (a : Attachment) (y : ImageRow) (c : Bool) → is_image_of u y ≡ c → In a s.attached → a.mode ≡ Rw → image_uuid y.name ≡ a.disk → is_vhd y.name ≡ true → thick_in s y.size ≤ y.extents → thick_in s (when c to_size y).size ≤ (when c to_size y).extents
+  thick_by a y true e h m q v l = thick_larger y (is_rw (attached_as u s)) (is_vhd y.name) (is_rw_of a h m (sym q ∙ (disks_own s w u y e).1)) v
+  thick_by a y false e h m q v l = l
 
   same_of : (y : ImageRow) → is_image_of u y ≡ false → (on_resize y).size ≡ y.size
   same_of y e = ap (λ (i : ImageRow). i.size) (when_not (is_image_of u y) to_size y e)
@@ -119,9 +161,9 @@ module _ (s : Shape) (w : IsWellFormed s) (u : List ℕ) (bytes : ℕ) (p : IsPa
 
   pub resize_keeps : (o : Op) → IsOperation (resized o) o → IsWellFormed (record (resize_shape s u bytes) { op = o })
   resize_keeps o operation = keeps_mapped s w on_resize (resized_key (λ (i : ImageRow). i.name) (λ y. refl)) (resized_key (λ (i : ImageRow). i.hidden) (λ y. refl)) (resized_key (λ (i : ImageRow). i.parent) (λ y. refl)) s.attached o
-      (subst (λ (n : ℕ). s.others + n ≤ s.extents) (sym (extents-map_same on_resize (resized_key (λ (i : ImageRow). i.extents) (λ y. refl)) s.images)) w.room)
+      (room_by (find (is_image_of u) s.images) refl)
       (λ y h. good_by y (is_image_of u y) refl h)
       sizes_good
       (attachments_mapped s w on_resize (resized_key (λ (i : ImageRow). i.name) (λ y. refl)) (resized_key (λ (i : ImageRow). i.hidden) (λ y. refl)) (resized_key (λ (i : ImageRow). i.parent) (λ y. refl)) s.attached o refl
-      (λ a y h m k hid e v l. thick_by a y (is_image_of u y) refl h e l))
+      (λ a y h m k hid e v l. thick_by a y (is_image_of u y) refl h m e v l))
       operation

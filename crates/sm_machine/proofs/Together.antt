@@ -17,7 +17,7 @@ use Rattle.sm_machine.specs.declared.commands.Command.TheVariants.{Create, Delet
 use Rattle.common_laws.specs.Lists.{In, insert_by, change, when}
 use Rattle.sm_machine.specs.Disks.{Disk, sector_bytes, filled, cut_sectors, sectors_of_bytes, overwritten, is_disk, with_disk, on_disk}
 use Rattle.sm_machine.specs.Shapes.{Shape, ImageRow, DiskRecord, image_uuid, is_image, on_image, children, top, thin_in, with_image, is_image_of, disk_image, disk_record}
-use Rattle.sm_machine.specs.Refusals.{of_some, refusal, rounded, lacking, new_uuid, is_taken, is_shrink, is_outside, is_out_of_range}
+use Rattle.sm_machine.specs.Refusals.{of_some, refusal, rounded, lacking, lacking_larger, new_uuid, is_taken, is_shrink, is_outside, is_out_of_range}
 use Rattle.sm_base.specs.declared.operations.Plan.{Plan}
 use Rattle.sm_base.specs.declared.operations.Plan.TheVariants as plan
 use Rattle.sm_machine.specs.Collector.{Pair, next_step, plan_idle, plan_running, plan_copy, copy_or, relink_or, blocked, table_of, next_block, pairs, leaves, fits, target, is_garbage, is_loose, enlarged, collected, copied, turned, linked, given_block}
@@ -286,7 +286,7 @@ module _ (disks : List Disk) (s : Shape) (w : IsWellFormed s) (a : AreDisksOf di
     larger = rounded s false bytes
 
     abbrev to_larger : ImageRow → ImageRow
-    to_larger i = record i { size = larger }
+    to_larger i = record i { size = larger; extents = i.extents + lacking_larger s u larger i }
 
     not_smaller : (i : ImageRow) → disk_image u s ≡ Some i → i.size ≤ larger
     unfolding is_shrink

@@ -66,6 +66,7 @@ unfoldable pub own_commits : Shape → Command → ℕ
 own_commits s (Create u size raw label) = 2
 own_commits s (Delete u) = 1
 own_commits s (Attach u Rw) = growth_commits (nat_lt 0 (need s (Attach u Rw)))
+own_commits s (Resize u size) = growth_commits (nat_lt 0 (need s (Resize u size)))
 own_commits s (Snapshot u twin) = 8
 own_commits s (Clone u twin) = 8
 own_commits s Gc = plan_commits s (next_step s)

@@ -14,7 +14,7 @@ use Rattle.sm_base.specs.Numbers.{IsGeometry}
 use Rattle.sm_machine.specs.declared.commands.Command.TheVariants.{Gc}
 use Rattle.sm_machine.specs.Shapes.{Shape, ImageRow, Attachment, free, image_uuid, is_image_of, is_vhd, new_shape, on_image, reads_through, refs, thick_in, with_image, without_image}
 use Rattle.sm_machine.specs.Collector.{next_step, is_garbage, is_loose, pairs, leaves, debt, IsLess}
-use Rattle.sm_machine.specs.Steps.{State, Outcome, is_attached, shape_next, step}
+use Rattle.sm_machine.specs.Steps.{State, is_attached, shape_next, step}
 use Rattle.sm_machine.specs.WellFormed.{AreDisksOf, IsOperation, IsSize, IsWellFormed}
 
 -- a refused command changes neither disks nor shape

@@ -65,11 +65,11 @@ is_unknown s c = of_some (λ u. is_none (disk_record u s)) (named c)
 unfoldable pub is_taken : Shape → Command → Bool
 is_taken s c = of_some (λ u. is_some (disk_record u s) || list_any (λ i. i.hidden && bytes_eq (image_uuid i.name) u) s.images) (new_uuid c)
 
--- attach, delete, resize: the disk is attached
+-- attach, delete: the disk is attached; resize: it is attached for reading alone
 unfoldable pub is_in_use : Shape → Command → Bool
 is_in_use s (Attach u mode) = is_some (attached_as u s)
 is_in_use s (Delete u) = is_some (attached_as u s)
-is_in_use s (Resize u size) = is_some (attached_as u s)
+is_in_use s (Resize u size) = is_ro (attached_as u s)
 is_in_use s _ = false
 
 -- write, fill, read, flush, detach: the disk is not attached
@@ -162,9 +162,17 @@ wanted s false size = thin_in s 0
 abbrev pub fork_need : Shape → List ℕ → ImageRow → ℕ
 fork_need s u i = wanted s (is_rw (attached_as u s)) i.size + thin_in s 0
 
--- the extents that a VHD image lacks for being written to
+-- the extents that a VHD image lacks for a slot in each block of so many sectors
+abbrev pub lacking_for : Shape → ℕ → ImageRow → ℕ
+lacking_for s size i = elim (is_vhd i.name) [ true ↦ thick_in s size - i.extents | false ↦ 0 ]
+
+-- and for being written to
 abbrev pub lacking : Shape → ImageRow → ℕ
-lacking s i = elim (is_vhd i.name) [ true ↦ thick_in s i.size - i.extents | false ↦ 0 ]
+lacking s i = lacking_for s i.size i
+
+-- those that it lacks for a greater size: none where its disk is not attached for writing
+abbrev pub lacking_larger : Shape → List ℕ → ℕ → ImageRow → ℕ
+lacking_larger s u size i = elim (is_rw (attached_as u s)) [ true ↦ lacking_for s size i | false ↦ 0 ]
 
 abbrev pub with_image_of : (ImageRow → ℕ) → Option ImageRow → ℕ
 with_image_of f None = 0
@@ -179,11 +187,12 @@ new_extents s false bytes = thin_in s 0
 unfoldable pub need : Shape → Command → ℕ
 need s (Create u size raw label) = new_extents s raw size
 need s (Attach u Rw) = with_image_of (lacking s) (disk_image u s)
+need s (Resize u size) = with_image_of (lacking_larger s u (rounded s false size)) (disk_image u s)
 need s (Snapshot u twin) = with_image_of (fork_need s u) (disk_image u s)
 need s (Clone u twin) = with_image_of (fork_need s u) (disk_image u s)
 need s _ = 0
 
--- create, snapshot, clone, attach for writing: more extents are needed than are free
+-- create, snapshot, clone, attach for writing, resize of a disk attached for writing: more extents are needed than are free
 unfoldable pub lacks_space : Shape → Command → Bool
 lacks_space s c = nat_lt (free s) (need s c)
 

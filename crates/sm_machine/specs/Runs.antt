@@ -37,7 +37,6 @@ replies σ (t ∷ turns) = printed ((taken σ t).reply) ++ replies ((taken σ t)
 unfoldable pub takes_memory : Command → Bool
 takes_memory (Delete u) = false
 takes_memory (Detach u) = false
-takes_memory (Resize u size) = false
 takes_memory (Label u text) = false
 takes_memory (Write u sector bytes) = false
 takes_memory (Fill u sector count byte) = false

@@ -1,7 +1,7 @@
 -- One step of the machine: a command turns disks and shape into a reply, new disks and a new shape (this project's
 -- format). A refused command changes nothing. Want of memory is no answer of the machine: a line that finds no memory is
 -- one that the machine has not stepped on.
-use Rattle.std.specs.Prelude.{ℕ, ◌+◌, ◌-◌, ◌*◌, ◌/◌, ◌||◌, not, Bool, true, false, List, [], ◌∷◌, ◌++◌, length, map, replicate, Option, Some, None}
+use Rattle.std.specs.Prelude.{ℕ, ◌+◌, ◌-◌, ◌*◌, ◌/◌, not, Bool, true, false, List, [], ◌∷◌, ◌++◌, length, map, replicate, Option, Some, None}
 use Rattle.std.specs.List.{filter, find}
 use Rattle.std.specs.Str.{bytes_eq}
 use Rattle.sm_base.specs.Names.{base_uuid}
@@ -9,10 +9,7 @@ use Rattle.sm_base.specs.declared.names.Name.{Name}
 use Rattle.sm_base.specs.declared.names.Name.TheVariants.{Vhd, Raw}
 use Rattle.sm_base.specs.declared.operations.Mode.{Mode}
 use Rattle.sm_base.specs.declared.operations.Mode.TheVariants.{Ro, Rw}
-use Rattle.sm_base.specs.declared.operations.Op.{Op}
 use Rattle.sm_base.specs.declared.operations.Op.TheVariants as op
-use Rattle.sm_base.specs.declared.operations.Plan.{Plan}
-use Rattle.sm_base.specs.declared.operations.Plan.TheVariants as plan
 use Rattle.sm_base.specs.declared.refusals.Refusal.{Refusal}
 use Rattle.sm_base.specs.declared.refusals.Refusal.TheVariants.{BadLine}
 use Rattle.sm_machine.specs.declared.commands.Command.{Command}
@@ -26,7 +23,7 @@ use Rattle.sm_machine.specs.Lines.{spelled}
 use Rattle.common_laws.specs.Lists.{change, insert_by, numbers}
 use Rattle.sm_machine.specs.Disks.{Disk, sector_bytes, uuid_before, filled, sectors_of_bytes, overwritten, bytes_at, is_disk, with_disk, on_disk}
 use Rattle.sm_machine.specs.Shapes.{Shape, ImageRow, DiskRecord, Attachment, risen, is_vhd, renamed, count_blocks, is_image_of, disk_image, attached_as, is_rw, refs, free, with_image, without_image}
-use Rattle.sm_machine.specs.Refusals.{refusal, rounded, new_extents, wanted, lacking}
+use Rattle.sm_machine.specs.Refusals.{refusal, rounded, new_extents, wanted, lacking, lacking_larger}
 use Rattle.sm_machine.specs.Collector.{with_block, next_step, collected}
 use Rattle.sm_machine.specs.Commits.{commits, is_given_up}
 
@@ -122,7 +119,7 @@ abbrev pub detach_shape : Shape → List ℕ → Shape
 detach_shape s u = record s { attached = filter (λ a. not (is_attached u a)) s.attached }
 
 abbrev pub resize_shape : Shape → List ℕ → ℕ → Shape
-resize_shape s u bytes = record s { images = change (is_image_of u) (λ i. record i { size = rounded s false bytes }) s.images }
+resize_shape s u bytes = record s { images = change (is_image_of u) (λ i. record i { size = rounded s false bytes; extents = i.extents + lacking_larger s u (rounded s false bytes) i }) s.images }
 
 abbrev pub label_shape : Shape → List ℕ → List ℕ → Shape
 label_shape s u text = record s { records = change (is_record u) (λ r. record r { label = text }) s.records }

@@ -13,11 +13,11 @@ use Rattle.sm_base.specs.declared.operations.Mode.TheVariants.{Ro, Rw}
 use Rattle.sm_base.proofs.NumberLemmas.{blocks-le, div_up-le, image_fits}
 use Rattle.vg_meta.specs.Tables.{VolumeTable}
 use Rattle.vg_volumes.specs.Sites.{Site}
-use Rattle.sm_machine.specs.Refusals.{fork_need, is_bad_size, lacking, need, new_extents, rounded, wanted, with_image_of}
+use Rattle.sm_machine.specs.Refusals.{fork_need, is_bad, is_bad_size, lacking, lacking_larger, need, new_extents, rounded, wanted, with_image_of}
 use Rattle.sm_machine.specs.Shapes.{ImageRow, Shape, attached_as, disk_image, is_image_of, is_rw, is_vhd, thick_in, thin_in}
 use Rattle.sm_machine.specs.WellFormed.{IsWellFormed}
 use Rattle.sm_machine.specs.declared.commands.Command.{Command}
-use Rattle.sm_machine.specs.declared.commands.Command.TheVariants.{Create, Attach, Snapshot, Clone}
+use Rattle.sm_machine.specs.declared.commands.Command.TheVariants.{Create, Attach, Resize, Snapshot, Clone}
 use Rattle.sm_ready.specs.Known.{Known, shape_in}
 use Rattle.sm_ready.specs.Orderly.{IsOrderly}
 
@@ -30,6 +30,12 @@ thin_few extent block entries slots g within =
 pub thick_few : (extent block entries sectors : ℕ) → IsGeometry extent block entries → sectors ≤ entries * block → thick extent block entries sectors ≤ 2 ^ 27
 unfolding thick
 thick_few extent block entries sectors g within = thin_few extent block entries (div_up sectors block) g (blocks-le sectors block entries (omega (arith, g.block_least)) within)
+
+-- a VHD disk's size that is not bad is within the blocks of a table
+pub is_within : (σ : Shape) (size : ℕ) → is_bad σ false size ≡ false → rounded σ false size ≤ σ.entries * σ.block
+is_within σ size good =
+    let n = rounded σ false size in
+    ltb-false (σ.entries * σ.block) n (or_parts (size == 0) _ (or_parts ((size == 0) || nat_lt (σ.entries * σ.block) n) _ good).0).1
 
 module _ (σ : Shape) (w : IsWellFormed σ) where
   few_of : (f : ImageRow → ℕ) (u : List ℕ) → ((i : ImageRow) → In i σ.images → f i < 2 ^ 32) → with_image_of f (disk_image u σ) < 2 ^ 32
@@ -50,6 +56,14 @@ module _ (σ : Shape) (w : IsWellFormed σ) where
       by : (b : Bool) → elim b as (λ _. ℕ) [ true ↦ thick_in σ i.size - i.extents | false ↦ 0 ] < 2 ^ 32
       by true = omega (arith, thick_row i at)
       by false = omega arith
+
+  few_larger : (u : List ℕ) (size : ℕ) → size ≤ σ.entries * σ.block → (i : ImageRow) → lacking_larger σ u size i < 2 ^ 32
+  few_larger u size within i = by (is_rw (attached_as u σ)) (is_vhd i.name)
+    where
+      by : (a b : Bool) → elim a as (λ _. ℕ) [ true ↦ elim b as (λ _. ℕ) [ true ↦ thick_in σ size - i.extents | false ↦ 0 ] | false ↦ 0 ] < 2 ^ 32
+      by true true = omega (arith, thick_few σ.extent σ.block σ.entries size w.geometry within)
+      by true false = omega arith
+      by false b = omega arith
 
   few_thin : thin_in σ 0 ≤ 2 ^ 27
   few_thin = thin_few σ.extent σ.block σ.entries 0 w.geometry (omega arith)
@@ -77,6 +91,7 @@ module _ (σ : Shape) (w : IsWellFormed σ) where
   few_need (Create u size false label) most good = omega (arith, few_thin)
   few_need (Attach u Rw) most good = few_of (lacking σ) u few_lacking
   few_need (Attach u Ro) most good = omega arith
+  few_need (Resize u size) most good = few_of (lacking_larger σ u (rounded σ false size)) u (λ i at. few_larger u (rounded σ false size) (is_within σ size good) i)
   few_need (Snapshot u twin) most good = few_of (fork_need σ u) u (few_fork u)
   few_need (Clone u twin) most good = few_of (fork_need σ u) u (few_fork u)
   few_need _ most good = omega arith

@@ -38,6 +38,10 @@ Sizes says sizes answer = (s : Site) (t : VolumeTable) (m : Known) → s.geometr
 abbrev pub Measures : {A : Type 0} → (Shape → A) → Geometry → Known → A → Type 0
 Measures says sizes m answer = (s : Site) (t : VolumeTable) → s.geometry ≡ sizes → IsOrderly s t m → IsTidy t m → answer ≡ says (shape_in s t m)
 
+-- what is answered are the extents that a command takes, where its size is not bad
+abbrev pub Needs : Command → Geometry → Known → ℕ → Type 0
+Needs c sizes m answer = (s : Site) (t : VolumeTable) → s.geometry ≡ sizes → IsOrderly s t m → IsTidy t m → is_bad_size (shape_in s t m) c ≡ false → answer ≡ need (shape_in s t m) c
+
 -- what is answered by sizes, the number of extents, table and memory is what the machine says of the shape of what is in memory,
 -- where table and memory are orderly and tidy
 abbrev pub Answers : {A : Type 0} → (Shape → A) → Geometry → ℕ → VolumeTable → Known → A → Type 0

@@ -4,8 +4,7 @@ ghost use Rattle.std.specs.Prelude.{◌≡◌, ◌≤◌, ◌<◌, ◌*◌, ◌^
 ghost use Rattle.sm_machine.specs.Refusals as machine;
 ghost use Rattle.sm_machine.specs.Shapes.{attached_as, disk_image, is_rw, thick_in, thin_in};
 ghost use Rattle.sm_ready.specs.Known.{known, machine_row};
-ghost use Rattle.sm_ready.specs.Refusing.{Measures, Sizes, extents_for};
-ghost use Rattle.vhd_image.specs.Bodies.{sector_count};
+ghost use Rattle.sm_ready.specs.Refusing.{Measures, Needs, Sizes, extents_for};
 
 use crate::asking::{image, is_vhd};
 use crate::memory::Memory;
@@ -51,12 +50,12 @@ fn thin(geometry: &Geometry) -> u64
     geometry.thin(0)
 }
 
-/// The extents that a VHD image lacks for being written to; a raw one lacks none.
-fn lacking(geometry: &Geometry, row: &TreeRow) -> u64
-    ensures { sector_count row.now.image ≤ geometry.now.entries * geometry.now.block → Sizes (λ σ. machine.lacking σ (machine_row row.now)) geometry.now result }
+/// The extents that a VHD image lacks for a slot in each block of so many sectors; a raw one lacks none.
+fn lacking_for(geometry: &Geometry, row: &TreeRow, sectors: u64) -> u64
+    ensures { sectors ≤ geometry.now.entries * geometry.now.block → Sizes (λ σ. machine.lacking_for σ sectors (machine_row row.now)) geometry.now result }
 {
     if is_vhd(row) {
-        thick(geometry, row.image.sectors()).saturating_sub(u64::from(row.extents))
+        thick(geometry, sectors).saturating_sub(u64::from(row.extents))
     } else {
         0
     }
@@ -67,7 +66,22 @@ fn lacking_of(memory: &Memory, geometry: &Geometry, disk: &Uuid) -> u64
     ensures { Measures (λ σ. machine.with_image_of (machine.lacking σ) (disk_image disk.now σ)) geometry.now (known memory.now) result }
 {
     match image(memory, disk) {
-        Some(row) => lacking(geometry, row),
+        Some(row) => lacking_for(geometry, row, row.image.sectors()),
+        None => 0,
+    }
+}
+
+/// The extents that a disk's image lacks for so many sectors: none where the disk is not attached for writing.
+fn lacking_larger(memory: &Memory, geometry: &Geometry, disk: &Uuid, sectors: u64) -> u64
+    ensures { sectors ≤ geometry.now.entries * geometry.now.block
+        → Measures (λ σ. machine.with_image_of (machine.lacking_larger σ disk.now sectors) (disk_image disk.now σ)) geometry.now (known memory.now) result }
+{
+    let Some(row) = image(memory, disk) else {
+        return 0;
+    };
+    match memory.attached.mode(disk) {
+        Some(Mode::Rw) => lacking_for(geometry, row, sectors),
+        Some(Mode::Ro) => 0,
         None => 0,
     }
 }
@@ -94,9 +108,9 @@ fn fork_need(memory: &Memory, geometry: &Geometry, disk: &Uuid) -> u64
     }
 }
 
-/// The extents that a command takes.
+/// The extents that a command takes whose size is not bad.
 pub fn need(memory: &Memory, geometry: &Geometry, command: &Command) -> u64
-    ensures { Measures (λ σ. machine.need σ command.now) geometry.now (known memory.now) result }
+    ensures { Needs command.now geometry.now (known memory.now) result }
 {
     match command {
         Command::Create { size, raw, .. } => {
@@ -110,6 +124,10 @@ pub fn need(memory: &Memory, geometry: &Geometry, command: &Command) -> u64
             Mode::Ro => 0,
             Mode::Rw => lacking_of(memory, geometry, disk),
         },
+        Command::Resize { disk, size } => {
+            let sectors = rounded(geometry, false, *size);
+            lacking_larger(memory, geometry, disk, sectors)
+        }
         Command::Snapshot { disk, .. } => fork_need(memory, geometry, disk),
         Command::Clone { disk, .. } => fork_need(memory, geometry, disk),
         _ => 0,

@@ -72,14 +72,25 @@ fn is_attached(memory: &Memory, disk: &Uuid) -> bool
     memory.attached.mode(disk).is_some()
 }
 
-/// Attach, delete, resize: whether the disk is attached.
+/// Whether a disk is attached for reading alone.
+fn is_only_read(memory: &Memory, disk: &Uuid) -> bool
+    ensures { Recalls (λ σ. is_ro (attached_as disk.now σ)) (known memory.now) result }
+{
+    match memory.attached.mode(disk) {
+        Some(Mode::Ro) => true,
+        Some(Mode::Rw) => false,
+        None => false,
+    }
+}
+
+/// Attach, delete: whether the disk is attached; resize: whether it is attached for reading alone.
 pub(crate) fn is_in_use(memory: &Memory, command: &Command) -> bool
     ensures { Recalls (λ σ. machine.is_in_use σ command.now) (known memory.now) result }
 {
     match command {
         Command::Attach { disk, .. } => is_attached(memory, disk),
         Command::Delete { disk } => is_attached(memory, disk),
-        Command::Resize { disk, .. } => is_attached(memory, disk),
+        Command::Resize { disk, .. } => is_only_read(memory, disk),
         _ => false,
     }
 }
@@ -104,17 +115,6 @@ fn is_snapshot(memory: &Memory, disk: &Uuid) -> bool
 {
     match memory.records.find(disk) {
         Some(record) => record.read_only,
-        None => false,
-    }
-}
-
-/// Whether a disk is attached for reading alone.
-fn is_only_read(memory: &Memory, disk: &Uuid) -> bool
-    ensures { Recalls (λ σ. is_ro (attached_as disk.now σ)) (known memory.now) result }
-{
-    match memory.attached.mode(disk) {
-        Some(Mode::Ro) => true,
-        Some(Mode::Rw) => false,
         None => false,
     }
 }

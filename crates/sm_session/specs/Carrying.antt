@@ -22,15 +22,15 @@ WritesOnlyIts g m (Write u sector bytes) old new = WritesOnly g m u sector bytes
 WritesOnlyIts g m (Fill u sector count byte) old new = WritesOnly g m u sector (replicate (512 * count) byte) old new
 WritesOnlyIts g m _ old new = ⊤
 
--- a new disk is made and then unmarked; one that goes is removed; the image of one that is attached may get extents under an entry;
--- eight make a disk of another; and a step of the collector may enlarge a volume and put its own entry, or put a parent in its leaf's
--- place. Where a leaf is being folded, a command on its disk gives that up first, by one more. Nothing else commits
+-- a new disk is made and then unmarked; one that goes is removed; the image of one that is attached, or that gets larger while it is
+-- attached, may get extents under an entry; eight make a disk of another; and a step of the collector may enlarge a volume and put
+-- its own entry, or put a parent in its leaf's place. Where a leaf is being folded, a command on its disk gives that up first, by one more. Nothing else commits
 unfoldable pub most_commits : Command → ℕ
 most_commits (Create u size raw label) = 2
 most_commits (Delete u) = 2
 most_commits (Attach u mode) = 4
 most_commits (Snapshot u twin) = 9
 most_commits (Clone u twin) = 9
-most_commits (Resize u size) = 1
+most_commits (Resize u size) = 4
 most_commits Gc = 5
 most_commits _ = 0

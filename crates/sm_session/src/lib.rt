@@ -39,6 +39,7 @@ mod collecting;
 mod forks;
 mod guests;
 mod sessions;
+mod sizes;
 mod taking;
 
 pub use sessions::Session;

@@ -25,6 +25,7 @@ ghost use Rattle.sm_session.specs.Carrying.{WritesOnlyIts, most_commits};
 use crate::collecting::gc;
 use crate::forks::derive;
 use crate::guests::serve;
+use crate::sizes::raise;
 use gc_plan::ChildCounts;
 use sm_base::Failed;
 use sm_changing::{delete, label};
@@ -34,7 +35,6 @@ use sm_making::{create, create_vhd};
 use sm_pool::Pool;
 use sm_ready::Memory;
 use sm_refusals::refuse;
-use sm_space::resize;
 use std::alloc::Global;
 use vg_volumes::Store;
 
@@ -92,10 +92,7 @@ fn carry_out<S: Store>(
             label(store, memory, disk, text)?;
             Ok(Reply::Done)
         }
-        Command::Resize { disk, size } => {
-            let bytes = resize(store, memory, disk, *size)?;
-            Ok(Reply::Size(bytes))
-        }
+        Command::Resize { disk, size } => raise(alloc, store, memory, disk, *size),
         Command::Snapshot { disk, twin } => derive(alloc, store, memory, disk, twin, true, now),
         Command::Clone { disk, twin } => derive(alloc, store, memory, disk, twin, false, now),
         Command::List => Ok(list(alloc, memory)),

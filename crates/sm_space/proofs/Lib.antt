@@ -17,3 +17,8 @@ pub mod LooseLaws
 pub mod ResizeLaws
 pub mod ResizedLaws
 pub mod KeptRoom
+pub mod GrowLaws
+pub mod GivenLaws
+pub mod PlanLaws
+pub mod LargerLaws
+pub mod SyncedLaws

@@ -1,5 +1,5 @@
--- A disk that is not attached gets a greater size: memory and shape with it.
-use Rattle.std.proofs.Common.{◌≡◌, ◌≢◌, ◌⊎◌, inl, inr, ⊎_elim, ℕ, ◌*◌, ◌/◌, ◌≤◌, not, max, ◌&&◌, nat_lt, ◌==◌, Bool, true, false, List, [], map, Option, Some, None, refl, sym, ap, ap₂, ◌∙◌, subst, arith}
+-- A disk whose image has its extents gets a greater size: memory and shape with it.
+use Rattle.std.proofs.Common.{◌≡◌, ◌≢◌, ◌⊎◌, inl, inr, ⊎_elim, ℕ, ◌+◌, ◌*◌, ◌/◌, ◌≤◌, not, max, ◌&&◌, nat_lt, ◌==◌, Bool, true, false, List, [], map, Option, Some, None, refl, sym, ap, ap₂, ◌∙◌, subst, arith}
 use Rattle.std.proofs.Math.Logic.{∥∥₁_elim, ∥∥₁_map}
 use Rattle.std.proofs.Math.Nat.{le_of_mul-le-mul_right, mul-div_cancel}
 use Rattle.std.proofs.Props.{props}
@@ -16,12 +16,10 @@ use Rattle.sm_base.specs.declared.operations.Op.TheVariants as op
 use Rattle.common_laws.specs.Lists.{In, change, when}
 use Rattle.common_laws.proofs.Booleans.{not_false}
 use Rattle.common_laws.proofs.Bytes.{bytes_eq-refl}
-use Rattle.sm_base.specs.declared.operations.Mode.{Mode}
 use Rattle.sm_disk.specs.Held.{Held}
 use Rattle.sm_standing.specs.Checks.{fault_of}
 use Rattle.sm_ready.specs.Outlined.{outline_in}
-use Rattle.sm_ready.specs.Ready.{IsFirm, is_written_as, is_written_in}
-use Rattle.sm_machine.proofs.Chains.{find_image-in}
+use Rattle.sm_ready.specs.Ready.{IsFirm}
 use Rattle.common_laws.proofs.Lists.{In-map, In-map_at}
 use Rattle.vg_meta.specs.Tables.{VolumeTable}
 use Rattle.vg_volumes.specs.Sites.{Site}
@@ -35,17 +33,19 @@ use Rattle.vhd_chain.specs.Reading.{slots_of}
 use Rattle.vhd_chain.specs.Trees.{row_name, tree_row, with_replaced}
 use Rattle.vhd_chain.specs.declared.rows.TreeRow.{TreeRow}
 use Rattle.sm_machine.specs.declared.commands.Command.TheVariants.{Resize}
-use Rattle.sm_machine.specs.Commits.{folds, gives_up, is_given_up, own_commits}
+use Rattle.sm_machine.specs.Commits.{folds, gives_up, growth_commits, is_given_up, own_commits}
 use Rattle.sm_machine.specs.Collector.{count_either}
 use Rattle.sm_machine.specs.Laws.{IsSeenAlike}
-use Rattle.sm_machine.specs.Refusals.{is_bad_size, is_in_use, is_raw_disk, is_shrink, named, of_some, refusal, rounded}
-use Rattle.sm_machine.specs.Shapes.{DiskRecord, ImageRow, Shape, attached_as, is_rw, image_uuid, is_image_of, is_vhd, refs, thin_in, top}
+use Rattle.sm_machine.specs.Refusals.{is_bad_size, is_raw_disk, is_shrink, lacking_larger, named, need, of_some, refusal, rounded, with_image_of}
+use Rattle.sm_machine.specs.Shapes.{DiskRecord, ImageRow, Shape, image_uuid, is_image_of, is_vhd, refs, thin_in, top}
 use Rattle.sm_machine.specs.Steps.{shape_after, shape_next}
 use Rattle.sm_machine.specs.WellFormed.{IsWellFormed}
 use Rattle.sm_machine.proofs.Attaches.{is_its_image}
+use Rattle.sm_machine.proofs.Guests.{disk_image_is}
 use Rattle.sm_machine.proofs.Passed.{passed}
 use Rattle.sm_machine.proofs.Steps.{step_keeps_shape}
 use Rattle.sm_machine.proofs.Uses.{changed_uses}
+use Rattle.sm_space.proofs.GrowLaws.{map_alike}
 use Rattle.sm_ready.specs.Known.{Known, is_shown, machine_row, records_in, shape_in}
 use Rattle.sm_ready.specs.Orderly.{IsOrderly, IsRoomyFor, IsRoomyIn}
 use Rattle.sm_ready.specs.Ready.{IsTidy}
@@ -64,21 +64,20 @@ use Rattle.sm_ready.proofs.ShapeLaws.{shown_same}
 abbrev pub sized : ℕ → TreeRow → TreeRow
 sized sectors r = record r { image = resized sectors r.image }
 
-sized_name : (sectors : ℕ) (b : Body) → volume_name (resized sectors b) ≡ volume_name b
+pub sized_name : (sectors : ℕ) (b : Body) → volume_name (resized sectors b) ≡ volume_name b
 sized_name sectors (body.Raw n k) = refl
 sized_name sectors (body.Vhd head m) = refl
 
-sized_parent : (sectors : ℕ) (b : Body) → parent_name (resized sectors b) ≡ parent_name b
-sized_parent sectors (body.Raw n k) = refl
-sized_parent sectors (body.Vhd head m) = refl
+pub sized_parts : (sectors : ℕ) (b : Body) → IsVhd b → (sector_count (resized sectors b) ≡ sectors) × (parent_name (resized sectors b) ≡ parent_name b) × (slots_of (resized sectors b) ≡ slots_of b)
+sized_parts sectors (body.Raw n k) vhd = absurd vhd
+sized_parts sectors (body.Vhd head m) vhd = (omega arith, refl, refl)
 
-sized_slots : (sectors : ℕ) (b : Body) → slots_of (resized sectors b) ≡ slots_of b
-sized_slots sectors (body.Raw n k) = refl
-sized_slots sectors (body.Vhd head m) = refl
-
-sized_count : (sectors : ℕ) (b : Body) → IsVhd b → sector_count (resized sectors b) ≡ sectors
-sized_count sectors (body.Raw n k) vhd = absurd vhd
-sized_count sectors (body.Vhd head m) vhd = omega arith
+-- the machine's image of a row that gets this size, shown or hidden
+pub image_sized : (sectors : ℕ) (r : TreeRow) → IsVhd r.image → machine_row (sized sectors r) ≡ record (machine_row r) { size = sectors }
+image_sized sectors r vhd =
+    let is = sized_parts sectors r.image vhd in
+    ap₂ (λ (n : Name) (p : Option Name). let i : ImageRow = record { name = n; hidden = r.hidden; parent = p; size = sector_count (sized sectors r).image; slots = slots_of (sized sectors r).image; extents = r.extents } in i) (sized_name sectors r.image) is.1
+    ∙ ap₂ (λ (k : ℕ) (l : List (Option ℕ)). let i : ImageRow = record (machine_row r) { size = k; slots = l } in i) is.0 is.2
 
 -- the disk that gets a size: its visible image is in this row
 pub record IsToResize (s : Site) (t : VolumeTable) (m : Known) (u : List ℕ) (bytes : ℕ) (r : TreeRow) : Type 0 where
@@ -88,6 +87,7 @@ pub record IsToResize (s : Site) (t : VolumeTable) (m : Known) (u : List ℕ) (b
   pub uuid : image_uuid (row_name r) ≡ u
   pub passes : refusal (shape_in s t m) (Resize u bytes) ≡ None
   pub kept_up : is_given_up (shape_in s t m) (Resize u bytes) ≡ false
+  pub enough : need (shape_in s t m) (Resize u bytes) ≡ 0
 
 -- the name by which its image is looked up
 abbrev pub own_name : List TreeRow → List ℕ → Name
@@ -107,8 +107,8 @@ module _ (s : Site) (t : VolumeTable) (m : Known) (u : List ℕ) (bytes : ℕ) (
   pub none_found : x ≡ None → ⊥
   none_found none = none-some has.row (sym none ∙ is_found)
 
-  pub to_resize : (r : TreeRow) → x ≡ Some r → is_given_up (shape_in s t m) (Resize u bytes) ≡ false → IsToResize s t m u bytes r
-  to_resize r is kept_up =
+  pub to_resize : (r : TreeRow) → x ≡ Some r → is_given_up (shape_in s t m) (Resize u bytes) ≡ false → need (shape_in s t m) (Resize u bytes) ≡ 0 → IsToResize s t m u bytes r
+  to_resize r is kept_up enough =
       let same : has.row ≡ r = same_Some has.row r (sym is_found ∙ is) in
       record {
         orderly = o;
@@ -117,6 +117,7 @@ module _ (s : Site) (t : VolumeTable) (m : Known) (u : List ℕ) (bytes : ℕ) (
         uuid = subst (λ (q : TreeRow). image_uuid (row_name q) ≡ u) same has.uuid;
         passes = passes;
         kept_up = kept_up;
+        enough = enough;
       }
 
 module _ {s : Site} {t : VolumeTable} {m : Known} {u : List ℕ} {bytes : ℕ} {own : TreeRow} (h : IsToResize s t m u bytes own) where
@@ -158,11 +159,6 @@ module _ {s : Site} {t : VolumeTable} {m : Known} {u : List ℕ} {bytes : ℕ} {
   unfolding is_shrink
   no_less = ltb-false sectors (sector_count own.image) (sym (ap (of_some (λ (i : ImageRow). nat_lt sectors i.size)) (own_image s t m u h.orderly has_own)) ∙ (passed σ (Resize u bytes) h.passes).shrink)
 
-  row_sized : machine_row next ≡ record (machine_row own) { size = sectors }
-  row_sized =
-      ap₂ (λ (n : Name) (p : Option Name). let i : ImageRow = record { name = n; hidden = own.hidden; parent = p; size = sector_count next.image; slots = slots_of next.image; extents = own.extents } in i) (sized_name sectors own.image) (sized_parent sectors own.image)
-      ∙ ap₂ (λ (k : ℕ) (l : List (Option ℕ)). let i : ImageRow = record (machine_row own) { size = k; slots = l } in i) (sized_count sectors own.image own_vhd) (sized_slots sectors own.image)
-
   -- ---- its rows
 
   abbrev with_size : ImageRow → ImageRow
@@ -170,7 +166,7 @@ module _ {s : Site} {t : VolumeTable} {m : Known} {u : List ℕ} {bytes : ℕ} {
 
   images_sized : IsWellFormed σ → map machine_row grown.rows ≡ change (is_image_of u) with_size (map machine_row m.rows)
   images_sized w = map_replaced s t m h.orderly own next h.there (sized_name sectors own.image) machine_row (λ y. when (is_image_of u y) with_size y)
-      (row_sized ∙ sym (ap (λ b. when b with_size (machine_row own)) own_is)) (λ p i other. sym (ap (λ b. when b with_size (machine_row p)) (other_image s t m u own w h.there h.uuid p i other)))
+      (image_sized sectors own own_vhd ∙ sym (ap (λ b. when b with_size (machine_row own)) own_is)) (λ p i other. sym (ap (λ b. when b with_size (machine_row p)) (other_image s t m u own w h.there h.uuid p i other)))
 
   shown_sized : (v : List ℕ) → is_shown grown.rows v ≡ is_shown m.rows v
   shown_sized v = any_replaced s t m h.orderly own next h.there (sized_name sectors own.image) (λ x. is_image_of v (machine_row x)) (ap (λ n. not own.hidden && bytes_eq (image_uuid n) v) (sized_name sectors own.image))
@@ -182,10 +178,23 @@ module _ {s : Site} {t : VolumeTable} {m : Known} {u : List ℕ} {bytes : ℕ} {
   shape_plain : shape_in s t grown ≡ record σ { images = change (is_image_of u) with_size σ.images }
   shape_plain = ∥∥₁_elim h.orderly.well_formed (hlevel props) shape_with
 
+  -- its image lacks no extents
+  lacks_none : IsWellFormed σ → (y : ImageRow) → In y σ.images → is_image_of u y ≡ true → lacking_larger σ u sectors y ≡ 0
+  unfolding need
+  lacks_none w y i own = sym (ap (with_image_of (lacking_larger σ u sectors)) (disk_image_is σ w u y i own)) ∙ h.enough
+
+  images_alike : IsWellFormed σ → change (is_image_of u) with_size σ.images ≡ change (is_image_of u) (λ y. let x : ImageRow = record y { size = sectors; extents = y.extents + lacking_larger σ u sectors y } in x) σ.images
+  images_alike w = map_alike _ _ σ.images (λ y i. by y i (is_image_of u y) refl)
+    where
+      by : (y : ImageRow) → In y σ.images → (b : Bool) → is_image_of u y ≡ b → when b with_size y ≡ when b (λ z. let x : ImageRow = record z { size = sectors; extents = z.extents + lacking_larger σ u sectors z } in x) y
+      by y i true own = ap (λ k. let x : ImageRow = record y { size = sectors; extents = k } in x) (let none = lacks_none w y i own in omega (arith, none))
+      by y i false own = refl
+
   -- the shape is the machine's
   pub shape_sized : shape_in s t grown ≡ shape_next σ (Resize u bytes)
   unfolding shape_after own_commits
-  shape_sized = ∥∥₁_elim h.orderly.well_formed (hlevel props) (λ w. shape_with w ∙ sym (next_shape σ (Resize u bytes) w h.kept_up refl))
+  shape_sized = ∥∥₁_elim h.orderly.well_formed (hlevel props) (λ w. shape_with w ∙ ap (λ is. let x : Shape = record σ { images = is } in x) (images_alike w)
+      ∙ sym (next_shape σ (Resize u bytes) w h.kept_up (ap (λ k. growth_commits (nat_lt 0 k)) h.enough)))
 
   seen_alike : IsSeenAlike (λ y. when (is_image_of u y) with_size y)
   seen_alike = record { name = λ y. name_by (is_image_of u y) y; hidden = λ y. hidden_by (is_image_of u y) y; parent = λ y. parent_by (is_image_of u y) y }
@@ -309,16 +318,3 @@ module _ {s : Site} {t : VolumeTable} {m : Known} {u : List ℕ} {bytes : ℕ} {
       relink_large s t area m h.orderly firm w v p c q is
       (was_there c in_c (λ same. works_apart v (subst (λ o. WorksAt o v) (sym is) (inl refl)) (sym named_c ∙ same)))
       (was_there q in_q (λ same. works_apart p (subst (λ o. WorksAt o p) (sym is) (inr refl)) (sym named_q ∙ same))) named_c named_q)))
-
-  -- and nothing is written to the disk's image
-  pub not_written : is_written_in (shape_in s t m) (row_name own) ≡ false
-  unfolding is_written_in is_in_use shape_in
-  not_written = ∥∥₁_elim h.orderly.well_formed (hlevel props) (λ w.
-      let i = In-map_at machine_row m.rows own h.there in
-      ap (is_written_as (shape_in s t m) (row_name own)) (find_image-in (shape_in s t m).images (machine_row own) w.one_image i (w.images (machine_row own) i).named)
-      ∙ ap₂ (λ (b : Bool) (v : List ℕ). not b && is_rw (attached_as v (shape_in s t m))) h.shown h.uuid
-      ∙ none_rw (attached_as u (shape_in s t m)) (passed (shape_in s t m) (Resize u bytes) h.passes).in_use)
-    where
-      none_rw : (x : Option Mode) → is_some x ≡ false → is_rw x ≡ false
-      none_rw None e = refl
-      none_rw (Some a) e = absurd (true≢false e)

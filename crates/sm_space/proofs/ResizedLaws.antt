@@ -24,8 +24,7 @@ use Rattle.vg_volumes.proofs.StoredLaws.{held_stays, size_stays}
 use Rattle.vg_volumes.proofs.VolumeLaws.{Keeps-volume}
 use Rattle.vhd_volumes.specs.Steps.{Holds}
 use Rattle.vhd_volumes.specs.Truth.{layout_in, layout_now}
-use Rattle.vhd_volumes.specs.declared.heads.Head.{Head}
-use Rattle.vhd_image.specs.Bodies.{IfVhd, IfVhdDoes, ImageIsTrue, StandsIn, TrueIn, parent_name, sector_count, volume_name}
+use Rattle.vhd_image.specs.Bodies.{IfVhd, IfVhdDoes, ImageIsTrue, StandsIn, TrueIn, parent_name, volume_name}
 use Rattle.vhd_image.specs.Changes.{ChangesBy, IsResized, resized}
 use Rattle.vhd_image.specs.Steady.{IsSteady}
 use Rattle.vhd_image.specs.declared.images.Body.{Body}
@@ -40,6 +39,7 @@ use Rattle.sm_machine.specs.Refusals.{rounded}
 use Rattle.sm_machine.specs.Steps.{disks_next as machine_disks, grown_disk}
 use Rattle.sm_mgt.specs.Places.{records_held}
 use Rattle.sm_run.specs.Between.{IsBetween}
+use Rattle.sm_standing.specs.Contents.{sectors_of}
 use Rattle.sm_standing.specs.Images.{image_of}
 use Rattle.sm_standing.specs.Keeping.{IsKept}
 use Rattle.sm_standing.specs.Outlines.{Link, link_of}
@@ -56,7 +56,7 @@ use Rattle.sm_ready.proofs.ChainLaws.{only_crash, tab}
 use Rattle.sm_ready.proofs.FrameLaws.{KeepsVolume, not_mgt, true_turned, volume_stays, volume_then, volume_works}
 use Rattle.sm_ready.proofs.GrownLaws.{IsGrowing, Resizes, grown_now, grown_stop, growing, others_same}
 use Rattle.sm_ready.proofs.LeaveLaws.{left_choice}
-use Rattle.sm_ready.proofs.LeftLaws.{IsLeft, IsVhdIn, extent_some, image_still, left_in, left_now, links_left, now_sector, size_there, vhd_in}
+use Rattle.sm_ready.proofs.LeftLaws.{IsLeft, IsVhdIn, extent_some, left_in, left_now, left_volume, links_left, now_sector, size_there, vhd_in}
 use Rattle.sm_ready.proofs.OperationLaws.{below_alike}
 use Rattle.sm_ready.proofs.PutBackLaws.{put_back}
 use Rattle.sm_ready.proofs.RepairLaws.{all_quiet}
@@ -67,18 +67,11 @@ use Rattle.sm_ready.proofs.StopLaws.{image_by_sectors, name_or_not}
 use Rattle.sm_ready.proofs.SyncLaws.{IsSynced}
 use Rattle.sm_ready.proofs.TakenLaws.{IsTold}
 use Rattle.sm_ready.proofs.TruthLaws.{row_sectors}
-use Rattle.sm_space.proofs.ResizeLaws.{IsToResize, found, grown, named_vhd, no_less, not_written, orderly_sized, own_vhd, rows_sized, sectors, sized, sound_sized, works_apart}
-
-resized_name : (k : ℕ) (b : Body) → volume_name (resized k b) ≡ volume_name b
-resized_name k (body.Raw n size) = refl
-resized_name k (body.Vhd head m) = refl
-
-resized_count : (k : ℕ) (b : Body) → (head : Head) (m : List (Option ℕ)) → b ≡ body.Vhd head m → (sector_count (resized k b) ≡ k) × (parent_name (resized k b) ≡ parent_name b)
-resized_count k b head m is = subst (λ x. (sector_count (resized k x) ≡ k) × (parent_name (resized k x) ≡ parent_name x)) (sym is) (omega arith, refl)
+use Rattle.sm_space.proofs.ResizeLaws.{IsToResize, found, grown, named_vhd, no_less, orderly_sized, own_vhd, rows_sized, sectors, sized, sized_name, sized_parts, sound_sized, works_apart}
 
 -- the name stays, whether the call succeeded or failed
 pub same_name : {T E : Type 0} (result : Result T E) (k : ℕ) (old new : Body) → OnOk result (new ≡ resized k old) → OnErr result (new ≡ old) → volume_name new ≡ volume_name old
-same_name (Ok x) k old new ok err = ap volume_name ok ∙ resized_name k old
+same_name (Ok x) k old new ok err = ap volume_name ok ∙ sized_name k old
 same_name (Err x) k old new ok err = ap volume_name err
 
 pub never_ok : {T E : Type 0} (result : Result T E) → IsErr result → IsOk result → ⊥
@@ -143,7 +136,7 @@ module _ {S : Type 0} (g : Ghosts S) (a b : S) (m : Memory) (u : List ℕ) (byte
     true_own new is truth told =
         let now = subst (TrueIn s.geometry (sectors_in (stored g a) (row_name r)) (held_in (stored g b) (row_name r))) is (truth told) in
         let kept : KeepsVolume g b e r = volume_stays r site table (keeps told) in
-        subst (λ n. TrueIn (g.site e).geometry (sectors_in (stored g e) n) (held_in (stored g e) n) next.image) (sym (resized_name size r.image))
+        subst (λ n. TrueIn (g.site e).geometry (sectors_in (stored g e) n) (held_in (stored g e) n) next.image) (sym (sized_name size r.image))
         (subst₂ (λ (x : Site) k. TrueIn x.geometry k (held_in (stored g e) (row_name r)) next.image) (sym (site ∙ works.stays.site)) (sym (kept.size ∙ size_stays {g = g} (row_name r) works.stays))
         (true_keeps s.geometry (sectors_in (stored g a) (row_name r)) (held_in (stored g b) (row_name r)) (held_in (stored g e) (row_name r)) next.image kept.keeps now))
 
@@ -163,7 +156,7 @@ module _ {S : Type 0} (g : Ghosts S) (a b : S) (m : Memory) (u : List ℕ) (byte
         let was = subst (λ k. IsSteady s.geometry k (volume_of s t (g.area a) (row_name r)) r.image) (sym long) (ready.firm.images r h.there) in
         let now = steady_set_size g told {a = a} {b = b} {c = e} stays (keeps told) settled size r.image new (own_vhd h) works changes is truth was in
         subst (λ k. IsSteady s.geometry k (volume_of s t (g.area e) (row_name r)) next.image) long
-        (subst (λ x. IsSteady s.geometry (size_of s t x) (volume_of s t (g.area e) x) next.image) (resized_name size r.image)
+        (subst (λ x. IsSteady s.geometry (size_of s t x) (volume_of s t (g.area e) x) next.image) (sized_name size r.image)
         (subst₂ (λ (x : Site) (y : VolumeTable). IsSteady x.geometry (size_of x y (volume_name next.image)) (volume_of x y (g.area e) (volume_name next.image)) next.image) (site ∙ works.stays.site) (table ∙ works.stays.table)
         (subst (λ x. IsSteady (g.site e).geometry (size_of (g.site e) (tab g e) (volume_name x)) (volume_of (g.site e) (tab g e) (g.area e) (volume_name x)) x) is now)))
 
@@ -222,16 +215,16 @@ module _ {S : Type 0} (g : Ghosts S) (a b : S) (m : Memory) (u : List ℕ) (byte
     module _ (stands : StandsIn s.geometry (r.extents * s.geometry.extent) next.image) where
       sized_link : link_in (tree_row (with_replaced next m.tree.rows) (Vhd u)) ≡ Some (record { size = size; parent = parent_name r.image })
       sized_link =
-          let at_name = resized_name size r.image ∙ named_vhd h in
-          let two = resized_count size r.image at.head at.slots image_is in
-          ap link_in (ap (tree_row (with_replaced next m.tree.rows)) (sym at_name) ∙ tree_row-replaced_same m.tree.rows next r (ap (tree_row m.tree.rows) (resized_name size r.image) ∙ found h))
+          let at_name = sized_name size r.image ∙ named_vhd h in
+          let two = sized_parts size r.image (own_vhd h) in
+          ap link_in (ap (tree_row (with_replaced next m.tree.rows)) (sym at_name) ∙ tree_row-replaced_same m.tree.rows next r (ap (tree_row m.tree.rows) (sized_name size r.image) ∙ found h))
           ∙ ap₂ (λ (k : ℕ) (p : Option Name). let l : Link = record { size = k; parent = p } in Some l) two.0 two.1
 
       stopped : (image : ℕ → List ℕ) → IsLeft s (g.area b) image
           → IsKept (content_in s t image) × IsBetween (MayShow s (StoreLeaves g a)) (disks (content_now s t (g.area a))) (on_disk u (grown_disk size) (disks (content_now s t (g.area a)))) (disks (content_in s t image))
       stopped image left =
           grown_stop s t (known m) (g.area a) u r size image h.orderly i.ready (grows image left) (no_less h) (with_replaced next m.tree.rows)
-          (λ n other. tree_row-replaced_other m.tree.rows next n (λ same. other (sym same ∙ resized_name size r.image ∙ named_vhd h))) sized_link
+          (λ n other. tree_row-replaced_other m.tree.rows next n (λ same. other (sym same ∙ sized_name size r.image ∙ named_vhd h))) sized_link
           (sound_sized h (g.area a) i.ready.firm (orderly_sized h stands)) (StoreLeaves g a)
           (λ other is. inr (i.told, i.usable, record { table_is = refl; sectors = is }))
 
@@ -265,7 +258,7 @@ module _ {S : Type 0} (g : Ghosts S) (a b : S) (m : Memory) (u : List ℕ) (byte
         resized_unsettled n ok never = only_crash never end_crash
 
         -- all lasts
-        module _ (settled : IsSettled (g.area e)) (steady : IsSteady s.geometry (r.extents * s.geometry.extent) (volume_of s t (g.area e) (row_name r)) next.image) where
+        module _ (rested : IsSettled (g.area a)) (settled : IsSettled (g.area e)) (steady : IsSteady s.geometry (r.extents * s.geometry.extent) (volume_of s t (g.area e) (row_name r)) next.image) where
           kept : (n : Name) → n ≢ row_name r → Keeps (volume_of s t (g.area a) n) (volume_of s t (g.area e) n)
           kept n other = Keeps-then (others i.told n other) (Keeps-volume s.geometry.extent (extents_of (rows t n)) y.keeps)
 
@@ -282,7 +275,7 @@ module _ {S : Type 0} (g : Ghosts S) (a b : S) (m : Memory) (u : List ℕ) (byte
               images = λ x j. ⊎_elim
                   (λ was. steady_keeps s.geometry (x.extents * s.geometry.extent) (volume_of s t (g.area a) (row_name x)) (volume_of s t (g.area e) (row_name x)) x.image (kept (row_name x) was.1) (i.ready.firm.images x was.0))
                   (λ is. subst (λ (q : TreeRow). IsSteady s.geometry (q.extents * s.geometry.extent) (volume_of s t (g.area e) (row_name q)) q.image) (sym is)
-                  (subst (λ n. IsSteady s.geometry (r.extents * s.geometry.extent) (volume_of s t (g.area e) n) next.image) (sym (resized_name size r.image)) steady)) (rows_sized h x j);
+                  (subst (λ n. IsSteady s.geometry (r.extents * s.geometry.extent) (volume_of s t (g.area e) n) next.image) (sym (sized_name size r.image)) steady)) (rows_sized h x j);
               quiet = λ x j _. all_quiet s t (g.area e) settled (row_name x);
               below = below_alike (content_now s t (g.area a)) (content_now s t (g.area e)) m.operation refl refl (λ n w. image_other n (works_apart h n w)) i.ready.firm.below;
             };
@@ -310,7 +303,8 @@ module _ {S : Type 0} (g : Ghosts S) (a b : S) (m : Memory) (u : List ℕ) (byte
           earlier_same : (n : Name) → image_of (content_in s t end.earlier) n ≡ image_of (content_now s t (g.area a)) n
           earlier_same n = by_name n
               (λ same. ap (image_of (content_in s t end.earlier)) same
-              ∙ image_still s t (g.area a) (known m) end.earlier (row_name r) h.orderly i.ready.firm (left_in s t (known m) (g.area a) end.earlier h.orderly end.might) (not_written h)
+              ∙ image_by_sectors s t (known m) (reads (g.area a)) end.earlier (row_name r) (rows t (row_name r)) h.orderly refl
+              (λ k below. all_quiet s t (g.area a) rested (row_name r) k (sectors_of (content_in s t end.earlier) (row_name r) k) (left_volume s t (known m) (g.area a) end.earlier (row_name r) h.orderly end.might k below) ∙ sym (now_sector s t (g.area a) (row_name r) k below))
               ∙ sym (ap (image_of (content_now s t (g.area a))) same))
               (λ other. sym (others_same s t (known m) (g.area a) u r size (reads (g.area e)) h.orderly i.ready end n (λ same. other (same ∙ sym (named_vhd h)))) ∙ image_other n other)
             where

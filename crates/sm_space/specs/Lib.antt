@@ -1,2 +1,3 @@
 pub mod Deflating
 pub mod Inflating
+pub mod Growing

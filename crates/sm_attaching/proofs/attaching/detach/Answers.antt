@@ -13,7 +13,8 @@ use Rattle.sm_ready.proofs.RepairLaws.{ready_synced}
 use Rattle.sm_ready.proofs.SyncLaws.{synced, synced_failed}
 use Rattle.sm_ready.proofs.TakenLaws.{is_told}
 use Rattle.sm_ready.proofs.UsedLaws.{ready_used, with_attached}
-use Rattle.sm_attaching.proofs.AttachedLaws.{between_synced, between_used, chain_is, counted_in, detach_disks, detached_orderly, detached_shape, differ, images_all, mode_was, own_detach}
+use Rattle.sm_space.proofs.SyncedLaws.{between_synced}
+use Rattle.sm_attaching.proofs.AttachedLaws.{between_used, chain_is, counted_in, detach_disks, detached_orderly, detached_shape, differ, images_all, mode_was, own_detach}
 use Rattle.sm_attaching.proofs.ChainLaws.{In-at}
 use Rattle.sm_attaching.proofs.attaching.detach.Goals as goal
 

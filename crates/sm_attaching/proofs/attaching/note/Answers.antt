@@ -12,7 +12,8 @@ use Rattle.sm_ready.proofs.RepairLaws.{ready_synced}
 use Rattle.sm_ready.proofs.SyncLaws.{synced, synced_failed}
 use Rattle.sm_ready.proofs.TakenLaws.{is_told}
 use Rattle.sm_ready.proofs.UsedLaws.{ready_used, with_attached}
-use Rattle.sm_attaching.proofs.AttachedLaws.{attach_disks, attached_orderly, attached_shape, between_synced, between_used, chain_is, differ, few_uses, images_all, mode_none_yet, own_attach, room_for_chain, room_for_one, unattached}
+use Rattle.sm_space.proofs.SyncedLaws.{between_synced}
+use Rattle.sm_attaching.proofs.AttachedLaws.{attach_disks, attached_orderly, attached_shape, between_used, chain_is, differ, few_uses, images_all, mode_none_yet, own_attach, room_for_chain, room_for_one, unattached}
 use Rattle.sm_attaching.proofs.attaching.note.Goals as goal
 
 pub chain_into-count-requires-clause-images : goal.chain_into-count-requires-clause-images

@@ -7,8 +7,8 @@ use Rattle.sm_space.proofs.KeptRoom.{KeepsRoom, keeps_room}
 use Rattle.sm_ready.proofs.ChainLaws.{err_not_ok}
 use Rattle.sm_ready.proofs.FramingLaws.{more_steps, then_steps}
 use Rattle.gc_abandon.proofs.AbandonedLaws.{GaveUp, gave_up, give_up_failed, then_allowed, then_does, then_kept, then_next}
-use Rattle.sm_attaching.proofs.GivenLaws.{growth_given, least_given}
 use Rattle.gc_abandon.proofs.TableLaws.{table_given}
+use Rattle.sm_space.proofs.GivenLaws.{growth_given, least_given}
 use Rattle.sm_attaching.proofs.enlarging.attach_given.Given.{Over}
 use Rattle.sm_attaching.proofs.enlarging.attach_given.Goals as goal
 
@@ -43,14 +43,14 @@ unfolding gives_up
 attach_kept-requires-clause-kept_up g c = then_kept (gave g c) (command.Attach c.args.disk.now c.args.mode) refl
 
 pub attach_kept-requires-clause-growth : goal.attach_kept-requires-clause-growth
-attach_kept-requires-clause-growth g c = growth_given (gave g c) (roomy g c) c.give_up.ensures.others.0 c.args.mode c.args.growth c.requires.growth
+attach_kept-requires-clause-growth g c = growth_given (gave g c) (roomy g c) c.give_up.ensures.others.0 (command.Attach c.args.disk.now c.args.mode) refl c.args.growth c.requires.growth
 
 pub returns-clause-step : goal.returns-clause-step
 returns-clause-step g c = then_steps c.give_up.ensures.step c.attach_kept.ensures.step
 
 pub returns-clause-least : goal.returns-clause-least
 returns-clause-least g c = on_ok_weaker c.attach_kept.result
-    (least_given (gave_then g c) (roomy_then g c) c.give_up.ensures.others.0 c.args.mode (table_alone (g.S.Store.table c.attach_kept.new.store))
+    (least_given (gave_then g c) (roomy_then g c) c.give_up.ensures.others.0 (command.Attach c.args.disk.now c.args.mode) refl (table_alone (g.S.Store.table c.attach_kept.new.store))
     (table_given g.S.Store c.args.store.now c.give_up.new.store c.args.memory.now c.args.disk.now (λ no. (c.give_up.ensures.none no).1) c.in_ok-give_up.ensures.commits)) c.attach_kept.ensures.least
 
 pub returns-clause-shape : goal.returns-clause-shape

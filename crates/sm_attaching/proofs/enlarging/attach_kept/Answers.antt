@@ -15,12 +15,12 @@ use Rattle.sm_ready.proofs.TakenLaws.{is_told}
 use Rattle.sm_ready.proofs.ThenLaws.{then_done}
 use Rattle.sm_space.specs.Inflating.{IsBelow, inflated}
 use Rattle.sm_standing.specs.Standing.{disks}
-use Rattle.sm_attaching.specs.Attaching.{HasGrowth}
+use Rattle.sm_space.specs.Growing.{HasGrowth}
 use Rattle.sm_attaching.proofs.LackLaws.{allowed_then, is_below, needs_none_then, next_then}
 use Rattle.sm_attaching.proofs.enlarging.attach_kept.Goals as goal
 
 pub note-requires-clause-enough : goal.note-requires-clause-enough
-note-requires-clause-enough g c = subst (HasGrowth g.S.Store c.args.store.now c.args.memory.now c.args.disk.now c.args.mode) c.in_default.is c.requires.growth
+note-requires-clause-enough g c = subst (HasGrowth g.S.Store c.args.store.now c.args.memory.now (command.Attach c.args.disk.now c.args.mode) c.args.disk.now) c.in_default.is c.requires.growth
 
 pub returns-in_err-note-clause-step : goal.returns-in_err-note-clause-step
 returns-in_err-note-clause-step g c = let n = c.note.ensures in more_steps (omega arith) (stays_steps n.stays (λ told. g.met.S.Store.leaves_now c.note.new.store told n.session_still.usable))
@@ -30,7 +30,7 @@ returns-in_default-clause-step g c = let n = c.note.ensures in more_steps (omega
 
 pub enlarge-requires : goal.enlarge-requires
 enlarge-requires g c =
-    let p = subst (HasGrowth g.S.Store c.args.store.now c.args.memory.now c.args.disk.now c.args.mode) c.in-Some.is c.requires.growth in
+    let p = subst (HasGrowth g.S.Store c.args.store.now c.args.memory.now (command.Attach c.args.disk.now c.args.mode) c.args.disk.now) c.in-Some.is c.requires.growth in
     record {
       session = c.requires.session;
       there = subst (λ k. IsBelow c.args.memory.now.tree.rows c.args.disk.now k) (sym p.extents) (is_below (g.S.Store.site c.args.store.now) (table_alone (g.S.Store.table c.args.store.now)) (known c.args.memory.now) c.args.disk.now c.args.mode c.requires.session.orderly c.requires.allowed p.some);
@@ -41,7 +41,7 @@ enlarge-requires g c =
 
 pub note-requires-2-clause-allowed : goal.note-requires-2-clause-allowed
 note-requires-2-clause-allowed g c =
-    let p = subst (HasGrowth g.S.Store c.args.store.now c.args.memory.now c.args.disk.now c.args.mode) c.in-Some.is c.requires.growth in
+    let p = subst (HasGrowth g.S.Store c.args.store.now c.args.memory.now (command.Attach c.args.disk.now c.args.mode) c.args.disk.now) c.in-Some.is c.requires.growth in
     let now = c.in_ok-enlarge.ensures.shape ∙ ap (λ k. inflated c.args.disk.now k (store_shape g.S.Store c.args.store.now c.args.memory.now)) p.extents in
     ap (λ σ. refusal σ (command.Attach c.args.disk.now c.args.mode)) now ∙ allowed_then (g.S.Store.site c.args.store.now) (table_alone (g.S.Store.table c.args.store.now)) (known c.args.memory.now) c.args.disk.now c.args.mode c.requires.session.orderly c.requires.allowed p.some
 
@@ -51,7 +51,7 @@ note-requires-2-clause-kept_up g c = ap (λ σ. is_given_up σ (command.Attach c
 
 pub note-requires-2-clause-enough : goal.note-requires-2-clause-enough
 note-requires-2-clause-enough g c =
-    let p = subst (HasGrowth g.S.Store c.args.store.now c.args.memory.now c.args.disk.now c.args.mode) c.in-Some.is c.requires.growth in
+    let p = subst (HasGrowth g.S.Store c.args.store.now c.args.memory.now (command.Attach c.args.disk.now c.args.mode) c.args.disk.now) c.in-Some.is c.requires.growth in
     let now = c.in_ok-enlarge.ensures.shape ∙ ap (λ k. inflated c.args.disk.now k (store_shape g.S.Store c.args.store.now c.args.memory.now)) p.extents in
     ap (λ σ. needed σ (command.Attach c.args.disk.now c.args.mode)) now ∙ needs_none_then (g.S.Store.site c.args.store.now) (table_alone (g.S.Store.table c.args.store.now)) (known c.args.memory.now) c.args.disk.now c.args.mode c.requires.session.orderly c.requires.allowed p.some
 
@@ -61,7 +61,7 @@ returns-clause-step g c =
 
 pub returns-clause-shape : goal.returns-clause-shape
 returns-clause-shape g c =
-    let p = subst (HasGrowth g.S.Store c.args.store.now c.args.memory.now c.args.disk.now c.args.mode) c.in-Some.is c.requires.growth in
+    let p = subst (HasGrowth g.S.Store c.args.store.now c.args.memory.now (command.Attach c.args.disk.now c.args.mode) c.args.disk.now) c.in-Some.is c.requires.growth in
     let now = c.in_ok-enlarge.ensures.shape ∙ ap (λ k. inflated c.args.disk.now k (store_shape g.S.Store c.args.store.now c.args.memory.now)) p.extents in
     c.in_ok-note-2.ensures.shape ∙ ap (λ σ. shape_next σ (command.Attach c.args.disk.now c.args.mode)) now ∙ next_then (g.S.Store.site c.args.store.now) (table_alone (g.S.Store.table c.args.store.now)) (known c.args.memory.now) c.args.disk.now c.args.mode c.requires.session.orderly c.requires.allowed p.some c.requires.kept_up
 

@@ -3,13 +3,13 @@ use Rattle.vg_meta.specs.Roomy.{table_alone}
 use Rattle.vg_meta.specs.Tables.{free as free_of}
 use Rattle.vg_volumes.proofs.StoredLaws.{reads_room}
 use Rattle.sm_ready.specs.Known.{known}
-use Rattle.sm_clone.proofs.PassedLaws.{enough, few, for_fork, need_is, passes_now, thin_is}
+use Rattle.sm_clone.proofs.PassedLaws.{enough, few, for_fork, need_is, no_size, passes_now, thin_is}
 use Rattle.sm_clone.proofs.preparing.prepare.Goals as goal
 
 pub overflow_cast-all : goal.overflow_cast-all
 overflow_cast-all g c =
     let r = c.requires in
-    let all = c.need-all.ensures (g.S.Store.site c.args.store.now) (table_alone (g.S.Store.table c.args.store.now)) (sym c.geometry-geometry.ensures) r.session.orderly r.session.tidy in
+    let all = c.need-all.ensures (g.S.Store.site c.args.store.now) (table_alone (g.S.Store.table c.args.store.now)) (sym c.geometry-geometry.ensures) r.session.orderly r.session.tidy (no_size _ _ _) in
     let low = few (g.S.Store.site c.args.store.now) (table_alone (g.S.Store.table c.args.store.now)) (known c.args.memory.now) c.args.disk.now c.args.twin.now c.args.read_only
     r.session.orderly r.session.tidy (passes_now r.session.orderly r.allowed) in
     omega (arith, low, all)
@@ -17,7 +17,7 @@ overflow_cast-all g c =
 pub overflow_cast-more : goal.overflow_cast-more
 overflow_cast-more g c =
     let r = c.requires in
-    let all = c.need-all.ensures (g.S.Store.site c.args.store.now) (table_alone (g.S.Store.table c.args.store.now)) (sym c.geometry-geometry.ensures) r.session.orderly r.session.tidy in
+    let all = c.need-all.ensures (g.S.Store.site c.args.store.now) (table_alone (g.S.Store.table c.args.store.now)) (sym c.geometry-geometry.ensures) r.session.orderly r.session.tidy (no_size _ _ _) in
     let is = need_is (g.S.Store.site c.args.store.now) (table_alone (g.S.Store.table c.args.store.now)) (known c.args.memory.now) c.args.disk.now c.args.twin.now c.args.read_only
     r.session.orderly r.session.tidy (passes_now r.session.orderly r.allowed) in
     let more = c.thin-more.ensures ∙ thin_is (g.S.Store.site c.args.store.now) (table_alone (g.S.Store.table c.args.store.now)) (known c.args.memory.now) _ c.geometry-geometry.ensures in
@@ -28,7 +28,7 @@ overflow_cast-more g c =
 pub overflow_sub-all : goal.overflow_sub-all
 overflow_sub-all g c =
     let r = c.requires in
-    let all = c.need-all.ensures (g.S.Store.site c.args.store.now) (table_alone (g.S.Store.table c.args.store.now)) (sym c.geometry-geometry.ensures) r.session.orderly r.session.tidy in
+    let all = c.need-all.ensures (g.S.Store.site c.args.store.now) (table_alone (g.S.Store.table c.args.store.now)) (sym c.geometry-geometry.ensures) r.session.orderly r.session.tidy (no_size _ _ _) in
     let is = need_is (g.S.Store.site c.args.store.now) (table_alone (g.S.Store.table c.args.store.now)) (known c.args.memory.now) c.args.disk.now c.args.twin.now c.args.read_only
     r.session.orderly r.session.tidy (passes_now r.session.orderly r.allowed) in
     let more = c.thin-more.ensures ∙ thin_is (g.S.Store.site c.args.store.now) (table_alone (g.S.Store.table c.args.store.now)) (known c.args.memory.now) _ c.geometry-geometry.ensures in
@@ -37,7 +37,7 @@ overflow_sub-all g c =
 pub split_fit-requires-clause-few : goal.split_fit-requires-clause-few
 split_fit-requires-clause-few g c =
     let r = c.requires in
-    let all = c.need-all.ensures (g.S.Store.site c.args.store.now) (table_alone (g.S.Store.table c.args.store.now)) (sym c.geometry-geometry.ensures) r.session.orderly r.session.tidy in
+    let all = c.need-all.ensures (g.S.Store.site c.args.store.now) (table_alone (g.S.Store.table c.args.store.now)) (sym c.geometry-geometry.ensures) r.session.orderly r.session.tidy (no_size _ _ _) in
     let is = need_is (g.S.Store.site c.args.store.now) (table_alone (g.S.Store.table c.args.store.now)) (known c.args.memory.now) c.args.disk.now c.args.twin.now c.args.read_only
     r.session.orderly r.session.tidy (passes_now r.session.orderly r.allowed) in
     let more = c.thin-more.ensures ∙ thin_is (g.S.Store.site c.args.store.now) (table_alone (g.S.Store.table c.args.store.now)) (known c.args.memory.now) _ c.geometry-geometry.ensures in
@@ -48,7 +48,7 @@ split_fit-requires-clause-few g c =
 pub split_fit-requires-clause-enough : goal.split_fit-requires-clause-enough
 split_fit-requires-clause-enough g c =
     let r = c.requires in
-    let all = c.need-all.ensures (g.S.Store.site c.args.store.now) (table_alone (g.S.Store.table c.args.store.now)) (sym c.geometry-geometry.ensures) r.session.orderly r.session.tidy in
+    let all = c.need-all.ensures (g.S.Store.site c.args.store.now) (table_alone (g.S.Store.table c.args.store.now)) (sym c.geometry-geometry.ensures) r.session.orderly r.session.tidy (no_size _ _ _) in
     let is = need_is (g.S.Store.site c.args.store.now) (table_alone (g.S.Store.table c.args.store.now)) (known c.args.memory.now) c.args.disk.now c.args.twin.now c.args.read_only
     r.session.orderly r.session.tidy (passes_now r.session.orderly r.allowed) in
     let more = c.thin-more.ensures ∙ thin_is (g.S.Store.site c.args.store.now) (table_alone (g.S.Store.table c.args.store.now)) (known c.args.memory.now) _ c.geometry-geometry.ensures in
@@ -65,7 +65,7 @@ returns-clause-reads g c = let e = c.reserve_rows.ensures in reads_room e.same e
 pub returns-clause-extents : goal.returns-clause-extents
 returns-clause-extents g c =
     let r = c.requires in
-    let all = c.need-all.ensures (g.S.Store.site c.args.store.now) (table_alone (g.S.Store.table c.args.store.now)) (sym c.geometry-geometry.ensures) r.session.orderly r.session.tidy in
+    let all = c.need-all.ensures (g.S.Store.site c.args.store.now) (table_alone (g.S.Store.table c.args.store.now)) (sym c.geometry-geometry.ensures) r.session.orderly r.session.tidy (no_size _ _ _) in
     let more = c.thin-more.ensures ∙ thin_is (g.S.Store.site c.args.store.now) (table_alone (g.S.Store.table c.args.store.now)) (known c.args.memory.now) _ c.geometry-geometry.ensures in
     let e = c.in_ok-own.ensures in
     for_fork (g.S.Store.site c.args.store.now) (table_alone (g.S.Store.table c.args.store.now)) (known c.args.memory.now) c.args.disk.now c.args.twin.now c.args.read_only

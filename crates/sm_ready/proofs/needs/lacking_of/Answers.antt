@@ -13,7 +13,7 @@ returns-in-Some c = λ s t same o tidy.
     let m = known c.args.memory.now in
     let there = sym c.image.ensures ∙ ap option_copied c.in-Some.is in
     let size = subst (λ (g : Geometry). sector_count c.in-Some.row.now.image ≤ g.entries * g.block) same (shown_size s t m c.in-Some.row.now o (shown_in m.rows c.args.disk.now _ there)) in
-    c.lacking.ensures size s t m same ∙ sym (ap (with_image_of (lacking (shape_in s t m))) (image_is s t m c.args.disk.now _ o there))
+    (rw c.sectors.ensures at c.lacking_for.ensures) size s t m same ∙ sym (ap (with_image_of (lacking (shape_in s t m))) (image_is s t m c.args.disk.now _ o there))
 
 pub returns-in-None : goal.returns-in-None
 returns-in-None c = λ s t same o tidy.

@@ -25,7 +25,7 @@ returns-in-Delete c = λ s t o tidy. c.is_attached-in-Delete.ensures s t o tidy 
 
 pub returns-in-Resize : goal.returns-in-Resize
 unfolding is_in_use
-returns-in-Resize c = λ s t o tidy. c.is_attached-in-Resize.ensures s t o tidy ∙ sym (ap (is_in_use (shape_in s t (known c.args.memory.now))) c.in-Resize.is)
+returns-in-Resize c = λ s t o tidy. c.is_only_read.ensures s t o tidy ∙ sym (ap (is_in_use (shape_in s t (known c.args.memory.now))) c.in-Resize.is)
 
 pub returns-in_default : goal.returns-in_default
 returns-in_default c = λ s t o tidy. other (shape_in s t (known c.args.memory.now)) c.args.command.now c.in_default.not-Attach c.in_default.not-Delete c.in_default.not-Resize

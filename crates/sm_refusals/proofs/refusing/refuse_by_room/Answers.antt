@@ -33,7 +33,7 @@ unfolding lacks_space
 returns-then-from-need c = λ s same o tidy good.
     let t = table_alone c.args.table.now in
     let m = known c.args.memory.now in
-    let needed = c.need-need.ensures s t same.same_sizes o tidy in
+    let needed = c.need-need.ensures s t same.same_sizes o tidy good in
     let left = c.free-free.ensures.free ∙ ap (λ n. length (free_of n t)) (sym same.same_count) ∙ sym (free_counted s t m tidy.none_new o) in
     let counted = c.count_of-then-from-need.ensures (omega (arith, needed, need_few s t m c.args.command.now o good)) in
     ap₂ (λ n k. Some (NoSpace n k)) (counted ∙ needed) left
@@ -44,6 +44,6 @@ unfolding lacks_space
 returns c = λ s same o tidy good.
     let t = table_alone c.args.table.now in
     let m = known c.args.memory.now in
-    let needed = c.need-need.ensures s t same.same_sizes o tidy in
+    let needed = c.need-need.ensures s t same.same_sizes o tidy good in
     let left = c.free-free.ensures.free ∙ ap (λ n. length (free_of n t)) (sym same.same_count) ∙ sym (free_counted s t m tidy.none_new o) in
     passed_by _ _ _ _ (sym (c.is_deep.ensures s _ o tidy) ∙ c.if-is_deep.false) (passed_by _ _ _ _ (sym (c.is_too_many.ensures s _ o tidy) ∙ c.if-is_too_many.false) (passed_by _ _ _ _ (sym (c.is_spent.ensures s _) ∙ c.if-is_spent.false) (passed_by _ _ _ _ (le-ltb (free (shape_in s t m)) (need (shape_in s t m) c.args.command.now) (omega (arith, needed, left, c.from.ensures, c.if-from-need.false))) refl)))

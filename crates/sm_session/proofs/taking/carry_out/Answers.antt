@@ -4,8 +4,7 @@ use Rattle.std.proofs.lemmas.Result.{err_from_is_err_and}
 use Rattle.vg_meta.specs.Roomy.{table_alone}
 use Rattle.sm_machine.specs.Refusals.{refusal}
 use Rattle.sm_base.specs.declared.refusals.Refusal.TheVariants.{NoMemory}
-use Rattle.std.specs.Result.{IsOk}
-use Rattle.sm_machine.specs.declared.replies.Reply.TheVariants.{No, Size}
+use Rattle.sm_machine.specs.declared.replies.Reply.TheVariants.{No}
 use Rattle.sm_machine.specs.Runs.{is_accepted, is_settling, takes_memory}
 use Rattle.sm_machine.specs.Steps.{reply_to}
 use Rattle.sm_machine.specs.declared.commands.Command.TheVariants as command
@@ -87,27 +86,6 @@ returns-in-List-clause-taken g c = λ told ready.
 pub serve-requires-clause-guests : goal.serve-requires-clause-guests
 serve-requires-clause-guests g c = others_guests c.args.command.now c.in_default.not-Create c.in_default.not-Delete c.in_default.not-Label c.in_default.not-Resize c.in_default.not-Snapshot c.in_default.not-Clone c.in_default.not-List c.in_default.not-Stat c.in_default.not-Gc
 
-pub returns-in_err-bytes-in-Resize-clause-taken : goal.returns-in_err-bytes-in-Resize-clause-taken
-returns-in_err-bytes-in-Resize-clause-taken g c = λ told ready.
-    let e = err_from_is_err_and c.from_residual-in_err-bytes-in-Resize.result c.from_residual-in_err-bytes-in-Resize.ensures.1 in
-    subst (λ r. StoreTakes g.S.Store c.args.command.now c.args.store.now c.args.memory.now c.resize.new.store c.resize.new.memory r) (sym e.1)
-    (does_err (is_told g.S.Store c.args.store.now c.args.memory.now c.requires.session.orderly c.requires.session.usable told ready (g.met.S.Store.leaves_now c.args.store.now told c.requires.session.usable)) c.args.command.now c.resize.new.memory c.requires.allowed (subst (λ k. StoreDoes g.S.Store k c.args.store.now c.args.memory.now c.resize.new.store c.resize.new.memory (IsOk c.resize.result)) (sym c.in-Resize.is) (c.resize.ensures.done told ready)) e.0)
-
-pub returns-in_ok-bytes-in-Resize-clause-refused : goal.returns-in_ok-bytes-in-Resize-clause-refused
-unfolding is_accepted
-returns-in_ok-bytes-in-Resize-clause-refused g c = λ e. absurd (true≢false e)
-
-pub returns-in_ok-bytes-in-Resize-clause-untouched : goal.returns-in_ok-bytes-in-Resize-clause-untouched
-unfolding is_accepted
-returns-in_ok-bytes-in-Resize-clause-untouched g c = λ e. absurd (true≢false e)
-
-pub returns-in_ok-bytes-in-Resize-clause-taken : goal.returns-in_ok-bytes-in-Resize-clause-taken
-unfolding reply_to shape_in
-returns-in_ok-bytes-in-Resize-clause-taken g c = λ told ready.
-    does_ok (is_told g.S.Store c.args.store.now c.args.memory.now c.requires.session.orderly c.requires.session.usable told ready (g.met.S.Store.leaves_now c.args.store.now told c.requires.session.usable)) c.args.command.now c.resize.new.memory c.requires.allowed (subst (λ k. StoreDoes g.S.Store k c.args.store.now c.args.memory.now c.resize.new.store c.resize.new.memory (IsOk c.resize.result)) (sym c.in-Resize.is) (c.resize.ensures.done told ready))
-    _ (ap Size c.in_ok-bytes-in-Resize.ensures.size ∙ sym (ap (reply_to (store_state g.S.Store c.args.store.now c.args.memory.now).disks (store_state g.S.Store c.args.store.now c.args.memory.now).shape) c.in-Resize.is)) (subst IsOk (sym c.in_ok-bytes-in-Resize.was) refl) c.resize.ensures.step.site
-    (subst (λ k. ShapesAs g.S.Store k c.args.store.now c.args.memory.now c.resize.new.store c.resize.new.memory) (sym c.in-Resize.is) c.in_ok-bytes-in-Resize.ensures.shape)
-
 pub returns-then-raw-clause-spared : goal.returns-then-raw-clause-spared
 unfolding takes_memory
 returns-then-raw-clause-spared g c = of_reply (λ r. r ≡ No NoMemory → takes_memory c.args.command.now ≡ true) c.create.result (λ r e. subst (λ k. takes_memory k ≡ true) (sym c.in-Create.is) refl)
@@ -119,6 +97,14 @@ returns-else-raw-clause-spared g c = of_reply (λ r. r ≡ No NoMemory → takes
 pub returns-in-List-clause-spared : goal.returns-in-List-clause-spared
 unfolding takes_memory
 returns-in-List-clause-spared g c = λ e. subst (λ k. takes_memory k ≡ true) (sym c.in-List.is) refl
+
+pub returns-in-Resize-clause-spared : goal.returns-in-Resize-clause-spared
+unfolding takes_memory
+returns-in-Resize-clause-spared g c = of_reply (λ r. r ≡ No NoMemory → takes_memory c.args.command.now ≡ true) c.raise.result (λ r e. subst (λ k. takes_memory k ≡ true) (sym c.in-Resize.is) refl)
+
+pub returns-in-Resize-clause-taken : goal.returns-in-Resize-clause-taken
+returns-in-Resize-clause-taken g c = λ told ready.
+    subst (λ k. StoreTakes g.S.Store k c.args.store.now c.args.memory.now c.raise.new.store c.raise.new.memory c.raise.result) (sym c.in-Resize.is) (c.raise.ensures.taken told ready)
 
 pub returns-in-Snapshot-clause-spared : goal.returns-in-Snapshot-clause-spared
 unfolding takes_memory
@@ -173,13 +159,9 @@ pub returns-in_ok-delete-in-Delete-clause-step : goal.returns-in_ok-delete-in-De
 unfolding most_commits
 returns-in_ok-delete-in-Delete-clause-step g c = steps_by c.args.command.now _ 2 c.in-Delete.is (omega arith) c.delete.ensures.step
 
-pub returns-in_err-bytes-in-Resize-clause-step : goal.returns-in_err-bytes-in-Resize-clause-step
+pub returns-in-Resize-clause-step : goal.returns-in-Resize-clause-step
 unfolding most_commits
-returns-in_err-bytes-in-Resize-clause-step g c = steps_by c.args.command.now _ 1 c.in-Resize.is (omega arith) c.resize.ensures.step
-
-pub returns-in_ok-bytes-in-Resize-clause-step : goal.returns-in_ok-bytes-in-Resize-clause-step
-unfolding most_commits
-returns-in_ok-bytes-in-Resize-clause-step g c = steps_by c.args.command.now _ 1 c.in-Resize.is (omega arith) c.resize.ensures.step
+returns-in-Resize-clause-step g c = steps_by c.args.command.now _ 4 c.in-Resize.is (omega arith) c.raise.ensures.step
 
 pub returns-in-Snapshot-clause-step : goal.returns-in-Snapshot-clause-step
 unfolding most_commits

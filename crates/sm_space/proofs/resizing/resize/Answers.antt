@@ -1,55 +1,47 @@
-use Rattle.std.proofs.Common.{◌≡◌, ◌*◌, IfOk, refl, ◌∙◌, subst}
-use Rattle.std.proofs.lemmas.Result.{on_ok_weaker}
+use Rattle.std.proofs.Common.{◌∙◌, refl, sym, subst}
 use Rattle.std.specs.Result.{IsOk}
-use Rattle.sm_base.specs.Numbers.{div_up}
-use Rattle.vg_volumes.specs.Sites.{Site}
-use Rattle.sm_machine.specs.Disks.{sector_bytes}
-use Rattle.sm_machine.specs.Refusals.{rounded}
-use Rattle.sm_machine.specs.Commits.{gives_up}
+use Rattle.vg_volumes.specs.Stored.{Stored}
 use Rattle.sm_machine.specs.declared.commands.Command.TheVariants as command
-use Rattle.sm_ready.specs.Known.{shape_in}
-use Rattle.sm_ready.proofs.FramingLaws.{stays_steps, then_steps}
-use Rattle.gc_abandon.proofs.AbandonedLaws.{GaveUp, gave_up, give_up_failed, then_allowed, then_does, then_kept, then_next}
-use Rattle.sm_space.proofs.ResizedLaws.{never_ok}
-use Rattle.sm_space.proofs.resizing.resize.Given.{Over}
+use Rattle.sm_machine.specs.Steps.{disks_next}
+use Rattle.sm_standing.specs.Standing.{disks}
+use Rattle.sm_ready.specs.Known.{known, shape_in}
+use Rattle.sm_ready.specs.Does.{store_shape}
+use Rattle.sm_ready.specs.Stores.{content_now, store_content}
+use Rattle.sm_ready.proofs.ChainLaws.{done_behind, might_show, only_crash, ready_read, still_before}
+use Rattle.sm_ready.proofs.FramingLaws.{reads_between, stays_steps, then_steps}
+use Rattle.sm_space.proofs.InflatingLaws.{only_read}
 use Rattle.sm_space.proofs.resizing.resize.Goals as goal
 
-pub returns-in_err-give_up-clause-done : goal.returns-in_err-give_up-clause-done
-returns-in_err-give_up-clause-done g c = λ told ready.
-    give_up_failed g.S.Store c.args.store.now c.give_up.new.store c.args.memory.now c.give_up.new.memory c.args.disk.now (command.Resize c.args.disk.now c.args.size) _ _ c.requires.session.usable told
-    (λ some. let failed = c.in_err-give_up.was in let fine = (c.give_up.ensures.none some).0 in cc) (λ fine. never_ok _ c.from_residual.ensures.0 fine) (λ is. c.give_up.ensures.done is told ready)
+-- nothing was written
+pub returns-in_default-clause-done : goal.returns-in_default-clause-done
+returns-in_default-clause-done g c = λ told ready.
+    let e = c.plan_larger.ensures in
+    let r = c.requires.session in
+    only_crash (λ fine. let x = fine in cc) (λ v image l.
+    let w = (only_read c.args.memory.now r.orderly r.usable told ready (g.met.S.Store.leaves_now c.args.store.now told r.usable) e.reads e.same.1 e.leaves (known c.args.memory.now) ⊥ (λ fine. fine)).crash v image l in
+    (w.0, still_before (disks_next (disks (store_content g.S.Store c.args.store.now)) (store_shape g.S.Store c.args.store.now c.args.memory.now) (command.Resize c.args.disk.now c.args.size)) _ (might_show g.S.Store r.usable told) w.1))
 
--- the operation was given up, or none was there
-gave : (g : Over) (c : goal.After-make_larger-arg-2-1 g) → GaveUp g.S.Store c.args.disk.now c.args.store.now c.args.memory.now c.give_up.new.store c.give_up.new.memory
-gave g c = let v = c.in_ok-give_up.ensures in gave_up c.give_up.ensures.step v.session_still v.shape c.give_up.ensures.none c.give_up.ensures.done c.in_ok-give_up.was
+pub resize_given-requires-clause-session : goal.resize_given-requires-clause-session
+resize_given-requires-clause-session g c = reads_between c.args.memory.now c.plan_larger.ensures.reads c.requires.session
 
--- and so it is behind the work
-gave_then : (g : Over) (c : goal.After-make_larger g) → GaveUp g.S.Store c.args.disk.now c.args.store.now c.args.memory.now c.give_up.new.store c.give_up.new.memory
-gave_then g c = let v = c.in_ok-give_up.ensures in gave_up c.give_up.ensures.step v.session_still v.shape c.give_up.ensures.none c.give_up.ensures.done c.in_ok-give_up.was
+pub returns-in_default-resize_given-clause-step : goal.returns-in_default-resize_given-clause-step
+returns-in_default-resize_given-clause-step g c =
+    let r = c.plan_larger.ensures.reads.stays in
+    then_steps (stays_steps r (λ told. g.met.S.Store.leaves_now c.plan_larger.new.store told (r.failed ∙ c.requires.session.usable))) c.resize_given.ensures.step
 
-pub make_larger-requires-clause-allowed : goal.make_larger-requires-clause-allowed
-unfolding gives_up
-make_larger-requires-clause-allowed g c = then_allowed (gave g c) (command.Resize c.args.disk.now c.args.size) refl refl c.requires.allowed
-
-pub make_larger-requires-clause-kept_up : goal.make_larger-requires-clause-kept_up
-unfolding gives_up
-make_larger-requires-clause-kept_up g c = then_kept (gave g c) (command.Resize c.args.disk.now c.args.size) refl
+pub returns-in_default-resize_given-clause-done : goal.returns-in_default-resize_given-clause-done
+returns-in_default-resize_given-clause-done g c = λ told ready.
+    let e = c.plan_larger.ensures in
+    done_behind _ (λ (x : Stored). disks_next (disks (content_now x.site x.table x.area)) (shape_in x.site x.table (known c.args.memory.now)) (command.Resize c.args.disk.now c.args.size)) e.reads e.same.1 e.leaves (λ fine. absurd (let x = fine in cc))
+    (c.resize_given.ensures.done told (ready_read c.args.memory.now e.reads e.same.1 ready))
 
 pub returns-clause-step : goal.returns-clause-step
 returns-clause-step g c =
-    let s = c.make_larger.ensures.stays in
-    then_steps c.give_up.ensures.step (stays_steps s (λ told. g.met.S.Store.leaves_now c.make_larger.new.store told (s.failed ∙ c.in_ok-give_up.ensures.session_still.usable)))
-
-pub returns-clause-size : goal.returns-clause-size
-unfolding shape_in rounded
-returns-clause-size g c =
-    subst (λ (s : Site). IfOk c.make_larger.result (λ bytes. bytes ≡ div_up c.args.size (sector_bytes * s.geometry.block) * s.geometry.block * sector_bytes)) c.give_up.ensures.step.site c.make_larger.ensures.size
-
-pub returns-clause-shape : goal.returns-clause-shape
-unfolding gives_up
-returns-clause-shape g c = on_ok_weaker c.make_larger.result (λ shaped. shaped ∙ then_next (gave_then g c) (command.Resize c.args.disk.now c.args.size) refl refl) c.make_larger.ensures.shape
+    let r = c.plan_larger.ensures.reads.stays in
+    then_steps (stays_steps r (λ told. g.met.S.Store.leaves_now c.plan_larger.new.store told (r.failed ∙ c.requires.session.usable))) c.resize_given.ensures.step
 
 pub returns-clause-done : goal.returns-clause-done
 returns-clause-done g c = λ told ready.
-    then_does (gave_then g c) c.make_larger.new.memory (IsOk c.make_larger.result) (command.Resize c.args.disk.now c.args.size) c.requires.session told ready
-    (g.met.S.Store.leaves_now c.args.store.now told c.requires.session.usable) (g.met.S.Store.leaves_now c.give_up.new.store told c.in_ok-give_up.ensures.session_still.usable) (c.make_larger.ensures.done told)
+    let e = c.plan_larger.ensures in
+    done_behind _ (λ (x : Stored). disks_next (disks (content_now x.site x.table x.area)) (shape_in x.site x.table (known c.args.memory.now)) (command.Resize c.args.disk.now c.args.size)) e.reads e.same.1 e.leaves (λ fine. subst IsOk (sym c.in-Ok-resize_given.is) refl)
+    (c.resize_given.ensures.done told (ready_read c.args.memory.now e.reads e.same.1 ready))

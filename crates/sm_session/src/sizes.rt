@@ -1,0 +1,48 @@
+//! Carrying out what makes a disk larger.
+
+ghost use Rattle.std.specs.Prelude.{◌≡◌, ℕ, List, false, IfOk, OnOk};
+ghost use Rattle.vg_meta.specs.Tables.{VolumeTable};
+ghost use Rattle.sm_base.specs.declared.refusals.Refusal.{Refusal};
+ghost use Rattle.sm_base.specs.declared.refusals.Refusal.TheVariants.{NoMemory};
+ghost use Rattle.sm_machine.specs.declared.commands.Command.TheVariants as command;
+ghost use Rattle.sm_machine.specs.declared.replies.Reply.TheVariants.{No};
+ghost use Rattle.sm_machine.specs.Runs.{is_accepted};
+ghost use Rattle.vg_volumes.specs.Stored.{OnlyReads, Counts};
+ghost use Rattle.sm_ready.specs.Refusing.{IsAllowed};
+ghost use Rattle.sm_ready.specs.Framing.{IsBetweenSteps, StepsOn};
+ghost use Rattle.sm_ready.specs.Sessions.{IsReadyStore};
+ghost use Rattle.sm_ready.specs.Taken.{StoreTakes};
+
+use sm_base::{CallFault, Failed, Refusal};
+use sm_machine::Reply;
+use sm_ready::Memory;
+use sm_space::resize;
+use std::alloc::Global;
+use uuid::Uuid;
+use vg_volumes::Store;
+
+/// Makes a disk larger, where no cause refuses it. The size is in bytes.
+pub(crate) fn raise<S: Store>(
+    alloc: Global,
+    store: &mut S,
+    memory: &mut Memory,
+    disk: &Uuid,
+    size: u64,
+) -> Result<Reply, Failed>
+    requires session { IsBetweenSteps S.Store store.old memory.old }
+    requires allowed { IsAllowed S.Store (command.Resize disk.now size) store.old memory.old }
+    ensures step { StepsOn S.Store 4 store.old store.new }
+    ensures cause { Counts S.Store result store.old store.new }
+    ensures session_still { OnOk result (IsBetweenSteps S.Store store.new memory.new) }
+    ensures refused { IfOk result (λ r. is_accepted r ≡ false → (t : VolumeTable) (image : ℕ → List ℕ) → S.leaves store.new t image → S.leaves store.old t image) }
+    ensures poor { IfOk result (λ r. (x : Refusal) → r ≡ No x → x ≡ NoMemory) }
+    ensures untouched { IfOk result (λ r. is_accepted r ≡ false → OnlyReads S.Store store.old store.new × (memory.new ≡ memory.old)) }
+    ensures taken { S.told → IsReadyStore S.Store store.old memory.old
+        → StoreTakes S.Store (command.Resize disk.now size) store.old memory.old store.new memory.new result }
+{
+    match resize(alloc, store, memory, disk, size) {
+        Ok(bytes) => Ok(Reply::Size(bytes)),
+        Err(CallFault::NoMemory) => Ok(Reply::No(Refusal::NoMemory)),
+        Err(CallFault::Device) => Err(Failed),
+    }
+}
