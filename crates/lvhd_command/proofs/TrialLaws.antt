@@ -13,8 +13,8 @@ use Rattle.sm_disk.specs.Held.{Held, Allows, reads}
 use Rattle.sm_disk.specs.Streams.{Adds}
 use Rattle.sm_disk.proofs.HeldLaws.{Allows-reads}
 use Rattle.sm_disk.proofs.StreamLaws.{Adds-none}
-use Rattle.sm_listing.proofs.ListLaws.{step_after}
-use Rattle.sm_listing.proofs.StatSteps.{stat_after}
+use Rattle.cmd_list.proofs.ListLaws.{step_after}
+use Rattle.cmd_list.proofs.StatSteps.{stat_after}
 use Rattle.sm_machine.specs.Disks.{Disk}
 use Rattle.sm_machine.specs.Shapes.{Shape, new_shape}
 use Rattle.sm_machine.specs.declared.commands.Command.TheVariants.{Stat as StatImages}

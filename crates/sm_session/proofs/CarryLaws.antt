@@ -23,7 +23,7 @@ use Rattle.vg_volumes.specs.Stored.{IsChoiceOf, OnlyReads, Stays, stored}
 use Rattle.sm_disk.proofs.ReachesLaws.{Reaches-none}
 use Rattle.vg_volumes.proofs.StoredLaws.{stays_none, works_none}
 use Rattle.std.specs.Prelude.{⊤}
-use Rattle.sm_guests.specs.Writing.{WritesOnly}
+use Rattle.cmd_guest.specs.Writing.{WritesOnly}
 use Rattle.sm_ready.specs.Frames.{HasTrueImages}
 use Rattle.sm_ready.specs.Framing.{IsBetweenSteps, StepsOn}
 use Rattle.sm_ready.specs.Sessions.{HasAttachmentRoom, HasRows, HasTreeRoom, IsOrderlyStore, IsTidyStore}

@@ -4,7 +4,7 @@ use Rattle.vg_volumes.specs.declared.stores.Store.{Ghosts}
 use Rattle.sm_machine.specs.declared.commands.Command.{Command}
 use Rattle.sm_machine.specs.declared.commands.Command.TheVariants.{Create, Delete, Attach, Detach, Snapshot, Clone, Resize, Write, Fill, Read, Flush, Gc}
 use Rattle.sm_ready.specs.declared.memory.Memory.{Memory}
-use Rattle.sm_guests.specs.Writing.{WritesOnly}
+use Rattle.cmd_guest.specs.Writing.{WritesOnly}
 
 -- what a guest's host asks: a disk comes into use and goes out of it, and its sectors are read and written
 unfoldable pub is_guests : Command → Bool

@@ -13,9 +13,9 @@ ghost use Rattle.sm_ready.specs.Sessions.{IsReadyStore};
 ghost use Rattle.sm_ready.specs.Taken.{StoreTakes};
 ghost use Rattle.sm_session.specs.Carrying.{WritesOnlyIts, is_guests, most_commits};
 
-use sm_attaching::{attach, detach};
+use cmd_attach::{attach, detach};
+use cmd_guest::{fill, flush, read, write};
 use sm_base::{CallFault, Failed, Refusal};
-use sm_guests::{fill, flush, read, write};
 use sm_machine::{Command, Reply};
 use sm_pool::Pool;
 use sm_ready::Memory;

@@ -22,7 +22,7 @@
 //! repository in which nothing is under way, or an enlargement or a fork alone (`plain`), or a copy or a link
 //! (`unfolding`), or the folding of a leaf (`leaves`), of outlines and the first check that fails (`faults`), of what a volume says under whatever name it
 //! stands (`volumes`), and of the moments of a fork (`forks`) and of a swap (`swaps`). That their hypotheses can be met is
-//! shown in the crate standing_examples.
+//! shown in the crate examples_standing.
 #![tactic(auto)]
 
 mod chains;

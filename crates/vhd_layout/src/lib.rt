@@ -7,7 +7,7 @@
 //! stop may leave is said above, of each volume that it may leave: it holds a valid image.
 //!
 //! A public function has an empty body; its contract is a law of the definitions ([`laws`]). None of them costs
-//! anything. Images that the definitions accept and refuse are in the crate layout_examples.
+//! anything. Images that the definitions accept and refuse are in the crate examples_vhd.
 #![tactic(auto)]
 
 pub mod laws;

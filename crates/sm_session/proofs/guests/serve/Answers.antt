@@ -7,7 +7,7 @@ use Rattle.sm_machine.specs.Runs.{is_accepted, takes_memory}
 use Rattle.sm_machine.specs.Steps.{reply_to}
 use Rattle.sm_machine.specs.declared.commands.Command.TheVariants as command
 use Rattle.sm_machine.specs.declared.replies.Reply.TheVariants.{Done, No}
-use Rattle.sm_guests.specs.Taken.{answered}
+use Rattle.cmd_guest.specs.Taken.{answered}
 use Rattle.sm_ready.specs.Does.{ShapesAs, StoreDoes, store_shape}
 use Rattle.sm_ready.specs.Sessions.{store_state}
 use Rattle.sm_ready.specs.Taken.{StoreTakes}

@@ -8,8 +8,8 @@ use Rattle.sm_machine.specs.declared.replies.Reply.TheVariants.{No}
 use Rattle.sm_machine.specs.Runs.{is_accepted, is_settling, takes_memory}
 use Rattle.sm_machine.specs.Steps.{reply_to}
 use Rattle.sm_machine.specs.declared.commands.Command.TheVariants as command
-use Rattle.sm_listing.proofs.ListLaws.{step_after}
-use Rattle.sm_listing.proofs.StatSteps.{stat_after, stat_reply}
+use Rattle.cmd_list.proofs.ListLaws.{step_after}
+use Rattle.cmd_list.proofs.StatSteps.{stat_after, stat_reply}
 use Rattle.sm_ready.specs.Does.{ShapesAs, StoreDoes, store_shape}
 use Rattle.sm_ready.specs.Known.{known, shape_in}
 use Rattle.sm_ready.specs.Orderly.{IsOrderly}

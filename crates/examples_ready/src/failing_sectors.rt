@@ -1,0 +1,57 @@
+//! Memory and sectors that fail one field of the invariant of the sectors.
+
+ghost use Rattle.std.specs.Prelude.{◌≡◌, ◌*◌, false};
+ghost use Rattle.common_laws.specs.Lists.{In};
+ghost use Rattle.sm_mgt.specs.Places.{Agrees, records_held};
+ghost use Rattle.vg_volumes.specs.Sites.{volume_of};
+ghost use Rattle.vhd_chain.specs.Trees.{row_name};
+ghost use Rattle.vhd_chain.specs.declared.rows.TreeRow.{TreeRow};
+ghost use Rattle.vhd_image.specs.Steady.{IsSteady};
+ghost use Rattle.vhd_volumes.specs.Steady.{IsQuiet};
+ghost use Rattle.sm_ready.specs.Known.{shape_in};
+ghost use Rattle.sm_ready.specs.Orderly.{IsOrderly};
+ghost use Rattle.sm_ready.specs.Ready.{IsBelow, IsReady, is_written_in};
+ghost use Rattle.sm_ready.specs.Stores.{content_now};
+ghost use Rattle.examples_ready.specs.FailingMemory.{forgotten_known, relabelled_known};
+ghost use Rattle.examples_ready.specs.FailingSectors.{uncopied_area, unsynced_area};
+ghost use Rattle.examples_ready.specs.Repositories.{copy, copy_table, copy_known, link, link_table, link_known, plain_table, plain_known, plain_area, written_area};
+ghost use Rattle.examples_ready.specs.WorkedRows.{site, sizes};
+
+/// The volume names a slot that memory does not.
+pub fn example_forgotten()
+    ensures orderly { IsOrderly site plain_table forgotten_known }
+    ensures fails { ¬ IsReady site plain_table plain_area forgotten_known }
+    ensures only { ((r : TreeRow) → In r forgotten_known.rows → IsSteady sizes (r.extents * 32) (volume_of site plain_table plain_area (row_name r)) r.image) → IsReady site plain_table plain_area forgotten_known }
+{}
+
+/// A sector is pending in an image that no guest writes to.
+pub fn example_loose()
+    ensures fails { ¬ IsReady site plain_table written_area plain_known }
+    ensures only { ((r : TreeRow) → In r plain_known.rows → is_written_in (shape_in site plain_table plain_known) (row_name r) ≡ false → IsQuiet (volume_of site plain_table written_area (row_name r))) → IsReady site plain_table written_area plain_known }
+{}
+
+/// The cursor of a copy is past a block that the parent holds otherwise.
+pub fn example_uncopied()
+    ensures fails { ¬ IsReady site copy_table uncopied_area copy_known }
+    ensures only { IsBelow (content_now site copy_table uncopied_area) copy → IsReady site copy_table uncopied_area copy_known }
+{}
+
+/// The copy was turned into a link, and the parent holds a block otherwise.
+pub fn example_unheld()
+    ensures orderly { IsOrderly site link_table link_known }
+    ensures fails { ¬ IsReady site link_table uncopied_area link_known }
+    ensures only { IsBelow (content_now site link_table uncopied_area) link → IsReady site link_table uncopied_area link_known }
+{}
+
+/// Memory has a label that was not written.
+pub fn example_relabelled()
+    ensures orderly { IsOrderly site plain_table relabelled_known }
+    ensures fails { ¬ IsReady site plain_table plain_area relabelled_known }
+    ensures only { Agrees (records_held site plain_table plain_area) relabelled_known.places → IsReady site plain_table plain_area relabelled_known }
+{}
+
+/// A record was written, and not synced.
+pub fn example_unsynced()
+    ensures fails { ¬ IsReady site plain_table unsynced_area plain_known }
+    ensures only { IsQuiet (records_held site plain_table unsynced_area) → IsReady site plain_table unsynced_area plain_known }
+{}

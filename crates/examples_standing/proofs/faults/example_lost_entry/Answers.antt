@@ -1,0 +1,30 @@
+use Rattle.std.proofs.Common.{refl}
+use Rattle.sm_base.specs.Names.{is_base}
+use Rattle.vg_meta.specs.Tables.{row_of, name_eq}
+use Rattle.sm_standing.specs.Entries.{is_at_stage, image_with}
+use Rattle.sm_standing.specs.Checks.{first_name, record_volume_fault, misnamed_fault, second_entry_fault, lost_entry_fault, old_leaf_fault, invalid_fault}
+use Rattle.examples_standing.proofs.faults.example_lost_entry.Goals as goal
+
+pub returns-clause-alone : goal.returns-clause-alone
+unfolding first_name record_volume_fault misnamed_fault second_entry_fault lost_entry_fault old_leaf_fault invalid_fault is_at_stage image_with row_of name_eq is_base
+returns-clause-alone c = λ area. refl
+
+pub returns-clause-ahead : goal.returns-clause-ahead
+unfolding first_name record_volume_fault misnamed_fault second_entry_fault lost_entry_fault old_leaf_fault invalid_fault is_at_stage image_with row_of name_eq is_base
+returns-clause-ahead c = λ area. refl
+
+pub returns-clause-past : goal.returns-clause-past
+unfolding first_name record_volume_fault misnamed_fault second_entry_fault lost_entry_fault old_leaf_fault invalid_fault is_at_stage image_with row_of name_eq is_base
+returns-clause-past c = λ area. refl
+
+pub returns-clause-beside : goal.returns-clause-beside
+unfolding first_name record_volume_fault misnamed_fault second_entry_fault lost_entry_fault old_leaf_fault invalid_fault is_at_stage image_with row_of name_eq is_base
+returns-clause-beside c = λ area. refl
+
+pub returns-clause-apart : goal.returns-clause-apart
+unfolding first_name record_volume_fault misnamed_fault second_entry_fault lost_entry_fault old_leaf_fault invalid_fault is_at_stage image_with row_of name_eq is_base
+returns-clause-apart c = λ area. refl
+
+pub returns-clause-old_leaf : goal.returns-clause-old_leaf
+unfolding first_name record_volume_fault misnamed_fault second_entry_fault lost_entry_fault old_leaf_fault invalid_fault is_at_stage image_with row_of name_eq is_base
+returns-clause-old_leaf c = λ area. refl

@@ -1,6 +1,0 @@
-use Rattle.std.proofs.Common.{arith}
-use Rattle.layout_examples.proofs.SmallImageLaws.{first_64}
-use Rattle.layout_examples.proofs.no_room.Goals as goal
-
-pub returns : goal.returns
-returns c = λ v h. omega (arith, first_64, h.4.head.room)

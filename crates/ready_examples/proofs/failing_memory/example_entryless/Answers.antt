@@ -1,8 +1,0 @@
-use Rattle.ready_examples.proofs.MemoryFails.{entryless_fails, entryless_only}
-use Rattle.ready_examples.proofs.failing_memory.example_entryless.Goals as goal
-
-pub returns : goal.returns
-returns c = record {
-  fails = λ o. entryless_fails o.entries;
-  only = entryless_only;
-}

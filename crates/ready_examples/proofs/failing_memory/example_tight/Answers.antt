@@ -1,8 +1,0 @@
-use Rattle.ready_examples.proofs.RoomFails.{tight_fails, tight_only}
-use Rattle.ready_examples.proofs.failing_memory.example_tight.Goals as goal
-
-pub returns : goal.returns
-returns c = record {
-  fails = λ o. tight_fails o.roomy;
-  only = tight_only;
-}

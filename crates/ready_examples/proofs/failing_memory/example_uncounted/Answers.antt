@@ -1,8 +1,0 @@
-use Rattle.ready_examples.proofs.MemoryFails.{uncounted_fails, uncounted_only}
-use Rattle.ready_examples.proofs.failing_memory.example_uncounted.Goals as goal
-
-pub returns : goal.returns
-returns c = record {
-  fails = λ o. uncounted_fails o.counts;
-  only = uncounted_only;
-}

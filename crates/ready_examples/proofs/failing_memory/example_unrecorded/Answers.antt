@@ -1,8 +1,0 @@
-use Rattle.ready_examples.proofs.MemoryFails.{unrecorded_fails, unrecorded_only}
-use Rattle.ready_examples.proofs.failing_memory.example_unrecorded.Goals as goal
-
-pub returns : goal.returns
-returns c = record {
-  fails = λ o. unrecorded_fails o.well_formed;
-  only = unrecorded_only;
-}

@@ -1,9 +1,0 @@
-use Rattle.std.proofs.Common.{arith}
-use Rattle.ready_examples.proofs.MemoryFails.{wide_only}
-use Rattle.ready_examples.proofs.failing_memory.example_wide.Goals as goal
-
-pub returns : goal.returns
-returns c = record {
-  fails = λ o. let few = o.few_extents in omega (arith, few);
-  only = wide_only;
-}

@@ -1,9 +1,0 @@
-use Rattle.ready_examples.proofs.SectorFails.{forgotten_orderly, forgotten_fails, forgotten_only}
-use Rattle.ready_examples.proofs.failing_sectors.example_forgotten.Goals as goal
-
-pub returns : goal.returns
-returns c = record {
-  orderly = forgotten_orderly;
-  fails = λ r. forgotten_fails r.firm.images;
-  only = forgotten_only;
-}

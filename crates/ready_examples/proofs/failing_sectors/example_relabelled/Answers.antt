@@ -1,9 +1,0 @@
-use Rattle.ready_examples.proofs.SectorFails.{relabelled_orderly, relabelled_fails, relabelled_only}
-use Rattle.ready_examples.proofs.failing_sectors.example_relabelled.Goals as goal
-
-pub returns : goal.returns
-returns c = record {
-  orderly = relabelled_orderly;
-  fails = λ r. relabelled_fails r.records;
-  only = relabelled_only;
-}

@@ -1,8 +1,0 @@
-use Rattle.ready_examples.proofs.SectorFails.{uncopied_fails, uncopied_only}
-use Rattle.ready_examples.proofs.failing_sectors.example_uncopied.Goals as goal
-
-pub returns : goal.returns
-returns c = record {
-  fails = λ r. uncopied_fails r.firm.below;
-  only = uncopied_only;
-}

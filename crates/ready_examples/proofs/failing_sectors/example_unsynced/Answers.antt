@@ -1,8 +1,0 @@
-use Rattle.ready_examples.proofs.SectorFails.{unsynced_fails, unsynced_only}
-use Rattle.ready_examples.proofs.failing_sectors.example_unsynced.Goals as goal
-
-pub returns : goal.returns
-returns c = record {
-  fails = λ r. unsynced_fails r.recorded;
-  only = unsynced_only;
-}

@@ -1,9 +1,0 @@
-use Rattle.ready_examples.proofs.TableFails.{begun_orderly, begun_fails, begun_only}
-use Rattle.ready_examples.proofs.failing_tables.example_begun.Goals as goal
-
-pub returns : goal.returns
-returns c = record {
-  orderly = begun_orderly;
-  fails = λ o. begun_fails o.none_new;
-  only = begun_only;
-}

@@ -1,8 +1,0 @@
-use Rattle.ready_examples.proofs.TableFails.{hidden_fails, hidden_only}
-use Rattle.ready_examples.proofs.failing_tables.example_hidden.Goals as goal
-
-pub returns : goal.returns
-returns c = record {
-  fails = λ o. hidden_fails o.images;
-  only = hidden_only;
-}

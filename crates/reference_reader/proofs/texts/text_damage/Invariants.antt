@@ -1,6 +1,0 @@
-use Rattle.reference_reader.specs.SoFar.{seen}
-use Rattle.reference_reader.proofs.TextLaws.{IsRead}
-use Rattle.reference_reader.proofs.texts.text_damage.Given as goal
-
-abbrev pub invariant-loop : goal.invariant-loop
-invariant-loop l = IsRead l.count l.initial.rest l.rest (seen l.before) l.met.items l.counter

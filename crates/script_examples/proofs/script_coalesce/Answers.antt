@@ -1,8 +1,0 @@
-use Rattle.std.proofs.Common.{refl}
-use Rattle.script_examples.proofs.Opener.{opener}
-use Rattle.script_examples.proofs.script_coalesce.Goals as goal
-
--- both sides compute to the same texts
-pub returns : goal.returns
-unfolding opener
-returns c = record { replies = refl }

@@ -1,8 +1,0 @@
-use Rattle.std.proofs.Common.{refl}
-use Rattle.script_examples.proofs.Opener.{opener}
-use Rattle.script_examples.proofs.script_lines.Goals as goal
-
--- both sides compute to the same
-pub returns : goal.returns
-unfolding opener
-returns c = record { empty = refl; one = refl; two = refl; spaces = refl; long = refl }

@@ -1,8 +1,0 @@
-use Rattle.std.proofs.Common.{refl}
-use Rattle.script_examples.proofs.Opener.{opener}
-use Rattle.script_examples.proofs.script_trail.Goals as goal
-
--- both sides compute to the same
-pub returns : goal.returns
-unfolding opener
-returns c = record { none = refl; lists = refl; settled = refl; refused = refl }

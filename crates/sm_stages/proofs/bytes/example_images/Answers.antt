@@ -1,5 +1,0 @@
-use Rattle.sm_stages.proofs.WorkedDisks.{fresh_there, written_there}
-use Rattle.sm_stages.proofs.bytes.example_images.Goals as goal
-
-pub returns : goal.returns
-returns c = record { fresh = fresh_there; written = written_there }

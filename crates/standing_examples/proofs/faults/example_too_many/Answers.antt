@@ -1,8 +1,0 @@
-use Rattle.standing_examples.proofs.FaultExamples.{crowd_many, crowd_most}
-use Rattle.standing_examples.proofs.faults.example_too_many.Goals as goal
-
-pub returns-clause-many : goal.returns-clause-many
-returns-clause-many c = crowd_many
-
-pub returns-clause-most : goal.returns-clause-most
-returns-clause-most c = crowd_most

@@ -1,0 +1,89 @@
+//! What an opening of a volume group answers, read off all bytes of the device.
+
+ghost use Rattle.std.specs.Prelude.{◌≡◌, ◌≤◌, ◌<◌, ◌/◌, ◌+◌, ◌*◌, ◌⊎◌, true, false, length, sum, IfSome, IfNone, IfOk};
+ghost use Rattle.sm_disk.specs.Sectors.{sector as sector_of};
+ghost use Rattle.tests_reader.specs.Answers.{IsFault, IsTextFault};
+ghost use Rattle.vg_layout.specs.Opening.{is_header_right as is_header_right_of, text_in};
+ghost use Rattle.vg_layout.specs.Sectors.{pointer_in};
+
+use crate::bytes::{number, sum_between};
+use crate::heads::{is_header_right, label_fault};
+use crate::texts::text_damage;
+use sm_base::{OpenFault, Place};
+use std::alloc::{AllocError, Global};
+
+/// The bytes in front of slot 0.
+const FRONT: usize = 1024;
+
+/// The bytes of a slot.
+const SLOT: usize = 524_288;
+
+/// The text that a header names; `None` where the header is not right, or the device ends in the slots.
+pub fn text_of<'a>(device: &'a [u8], header: &[u8; 512]) -> Option<&'a [u8]>
+    ensures right { IfSome result (λ text. is_header_right_of header.now ≡ true) }
+    ensures text { IfSome result (λ text. text.now ≡ text_in (sector_of device.now) (pointer_in header.now)) }
+    ensures few { IfSome result (λ text. length text.now ≤ 524288) }
+    ensures none { IfNone result ((is_header_right_of header.now ≡ false) ⊎ (length device.now < 1049600)) }
+{
+    if !is_header_right(header) || device.len() < FRONT + 2 * SLOT {
+        return None;
+    }
+    let begin = FRONT + number(header, 8) as usize * SLOT;
+    let end = begin + number(header, 12) as usize;
+    Some(&device[begin..end])
+}
+
+/// Why a table is refused whose text has this sum by its header, where extents are counted up to `count`.
+fn text_fault(
+    alloc: Global,
+    text: &[u8],
+    sum: u32,
+    count: u32,
+) -> Result<Option<OpenFault>, AllocError>
+    requires { length text.now ≤ 524288 }
+    ensures { IfOk result (IsTextFault count sum text.now) }
+{
+    if sum_between(text, 0, text.len()) != sum {
+        return Ok(Some(OpenFault::Damaged {
+            place: Place::TableSum,
+        }));
+    }
+    let Some(at) = text_damage(alloc, text, count)? else {
+        return Ok(None);
+    };
+    Ok(Some(OpenFault::Damaged {
+        place: Place::Table { at: at as u32 },
+    }))
+}
+
+/// A sector of a device.
+#[tactic(auto, unfolding(sm_disk::specs::Sectors::sector))]
+fn sector(device: &[u8], at: usize) -> [u8; 512]
+    requires { 512 * at + 512 ≤ length device.now }
+    ensures { result ≡ sector_of device.now at }
+{
+    let mut sector = [0; 512];
+    sector.copy_from_slice(&device[512 * at..512 * at + 512]);
+    sector
+}
+
+/// Why an opening refuses the device with these bytes, or `None` where a group stands on it.
+pub fn opening_fault(alloc: Global, device: &[u8]) -> Result<Option<OpenFault>, AllocError>
+    ensures { IfOk result (IsFault (length device.now / 512) (sector_of device.now)) }
+{
+    let sectors = (device.len() / 512) as u64;
+    if sectors < 2 {
+        return Ok(Some(OpenFault::NotARepository));
+    }
+    let label = sector(device, 0);
+    if let Some(fault) = label_fault(sectors, &label) {
+        return Ok(Some(fault));
+    }
+    let header = sector(device, 1);
+    let Some(text) = text_of(device, &header) else {
+        return Ok(Some(OpenFault::Damaged {
+            place: Place::Header,
+        }));
+    };
+    text_fault(alloc, text, number(&header, 16), number(&label, 40))
+}
