@@ -166,11 +166,11 @@ fork_need s u i = wanted s (is_rw (attached_as u s)) i.size + thin_in s 0
 abbrev pub lacking_for : Shape → ℕ → ImageRow → ℕ
 lacking_for s size i = elim (is_vhd i.name) [ true ↦ thick_in s size - i.extents | false ↦ 0 ]
 
--- and for being written to
+-- the extents that an image lacks for being written to in each of its blocks
 abbrev pub lacking : Shape → ImageRow → ℕ
 lacking s i = lacking_for s i.size i
 
--- those that it lacks for a greater size: none where its disk is not attached for writing
+-- the extents that an image lacks for being written to in each block of a greater size: none where its disk is not attached for writing
 abbrev pub lacking_larger : Shape → List ℕ → ℕ → ImageRow → ℕ
 lacking_larger s u size i = elim (is_rw (attached_as u s)) [ true ↦ lacking_for s size i | false ↦ 0 ]
 

@@ -21,7 +21,7 @@ pub record IsPlanned {S : Type 0} (g : Ghosts S) (x : S) (m : Memory) (c : Comma
   pub row : 0 < (g.table x).spare
   pub places : HasRoom (g.table x) growth
 
--- or it needs none
+-- the extents that the command needs for the image of this disk are planned, or it needs none
 abbrev pub HasGrowth : {S : Type 0} → Ghosts S → S → Memory → Command → List ℕ → Option (ℕ × Change) → Type 0
 HasGrowth g x m c u None = NeedsNone g c x m
 HasGrowth g x m c u (Some p) = IsPlanned g x m c u p.0 p.1

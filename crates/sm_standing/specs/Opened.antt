@@ -6,8 +6,8 @@
 --   4. A copy: the entry goes.
 --   5. A leaf: where it was renamed the parent takes its name; where the parent has its name that is shown, and the old leaf goes; the entry goes.
 --   6. Each new volume goes.
--- Repairs 3 to 5 are made first, then 1 and 2, then 6. Each commit raises the sequence number by one, up to the last. Records of no disk are
--- cleared, which no shape shows.
+-- Here 3 to 5 stand first, then 1 and 2, then 6; the program ends a link behind 1 and 2, which leaves the same. Each commit raises
+-- the sequence number by one, up to the last. Records of no disk are cleared, which no shape shows.
 use Rattle.std.specs.Prelude.{ℕ, not, nat_lt, Bool, false, List, [], ◌∷◌, ◌++◌, length, map, Option, None, Some, if◌then◌else◌}
 use Rattle.std.specs.List.{filter}
 use Rattle.std.specs.Str.{bytes_eq}
