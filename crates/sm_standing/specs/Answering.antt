@@ -5,6 +5,7 @@ use Rattle.std.specs.Prelude.{◌≡◌, ◌≢◌, ℕ, zero, suc, List, Option
 use Rattle.sm_base.specs.declared.names.Name.{Name}
 use Rattle.sm_standing.specs.Images.{ImageAnswer, here, up}
 
+-- at one sector, what each image does by its name: it answers, or sends up
 abbrev pub ImageAnswers : Type 0
 ImageAnswers = Name → ImageAnswer
 

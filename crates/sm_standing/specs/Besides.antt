@@ -30,6 +30,8 @@ is_settled_name us (Coalesce child parent) = false
 is_settled_name us (Relink child parent) = false
 is_settled_name us (Leaf leaf parent) = false
 
+-- An outline beside another that speaks of some UUIDs besides: whatever speaks of none of them is as it was, and each other volume
+-- passes the checks by itself.
 pub record IsBeside (a b : Outline) (us : List (List ℕ)) : Type 0 where
   pub extent : b.extent ≡ a.extent
   pub block : b.block ≡ a.block

@@ -132,9 +132,11 @@ is_image_wrong o r (Coalesce child parent) = false
 is_image_wrong o r (Relink child parent) = false
 is_image_wrong o r (Leaf leaf parent) = false
 
+-- an image that is not new and fails the check of each image by itself
 abbrev pub is_invalid : Outline → Row → Bool
 is_invalid o r = not r.fresh && is_image_wrong o r r.name
 
+-- the first image, by name, that fails the check of each image by itself
 unfoldable pub invalid_fault : Outline → Option Place
 invalid_fault o = placed at.Image (first_name (is_invalid o) o.table.volumes)
 
@@ -191,9 +193,11 @@ tree_wrong_as o r (Coalesce child parent) = false
 tree_wrong_as o r (Relink child parent) = false
 tree_wrong_as o r (Leaf leaf parent) = false
 
+-- a VHD image that is linked wrongly, whose chain is too long, or that is visible and has children
 abbrev pub is_tree_wrong : Outline → Row → Bool
 is_tree_wrong o r = tree_wrong_as o r r.name
 
+-- the first image, by name, that fails the check of parents and children
 unfoldable pub tree_fault : Outline → Option Place
 tree_fault o = placed at.Tree (first_name (is_tree_wrong o) o.table.volumes)
 
@@ -253,6 +257,7 @@ is_entry_linked o (Raw u) = true
 is_entry_linked o (Old u) = true
 is_entry_linked o (Inflate image extents) = true
 
+-- the first journal entry, by name, whose images are not linked as its stage wants
 unfoldable pub entry_link_fault : Outline → Option Place
 entry_link_fault o = placed at.Journal (first_name (λ r. not (is_entry_linked o r.name)) o.table.volumes)
 
@@ -281,6 +286,7 @@ abbrev pub disk_place : Option (List ℕ) → Option Place
 disk_place None = None
 disk_place (Some u) = Some (at.Disk u)
 
+-- the first disk, by UUID, that has no record, or more than one
 unfoldable pub disk_fault : Outline → Option Place
 disk_fault o = disk_place (find (is_unrecorded o) (disk_uuids o))
 

@@ -27,10 +27,11 @@ pub record Content : Type 0 where
 abbrev pub row : Content → Name → Option Row
 row c n = rows c.table n
 
--- its sectors, and how many they are
+-- the sectors of the volume of a name, from its first on; none where there is no such volume
 unfoldable pub sectors_of : Content → Name → ℕ → List ℕ
 sectors_of c n = piece c.extent (extents_of (row c n)) c.area
 
+-- how many sectors the volume of a name has
 abbrev pub size_of : Content → Name → ℕ
 size_of c n = span c.extent (extents_of (row c n))
 

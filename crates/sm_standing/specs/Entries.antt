@@ -16,21 +16,23 @@ abbrev pub of_row : (Row → Bool) → Option Row → Bool
 of_row test None = false
 of_row test (Some r) = test r
 
+-- whether a volume of this name is there
 abbrev pub is_there : VolumeTable → Name → Bool
 is_there t n = is_some (rows t n)
 
--- it is there, and not new
+-- whether the volume of a name is there, and not new
 abbrev pub is_filled : VolumeTable → Name → Bool
 is_filled t n = of_row (λ r. not r.fresh) (rows t n)
 
--- it is there, not new, and hidden; and the same, visible
+-- whether the volume of a name is there, not new, and hidden
 abbrev pub is_hidden : VolumeTable → Name → Bool
 is_hidden t n = of_row (λ r. r.hidden && not r.fresh) (rows t n)
 
+-- whether the volume of a name is there, not new, and not hidden
 abbrev pub is_visible : VolumeTable → Name → Bool
 is_visible t n = of_row (λ r. not r.hidden && not r.fresh) (rows t n)
 
--- it is not there, or visible
+-- whether the volume of a name is not there, or not hidden
 abbrev pub is_visible_or_gone : VolumeTable → Name → Bool
 is_visible_or_gone t n = is_none (rows t n) || of_row (λ r. not r.hidden) (rows t n)
 
@@ -75,17 +77,20 @@ is_making (Leaf leaf parent) = false
 abbrev pub names_in : VolumeTable → (Name → Bool) → List Name
 names_in t test = filter test (names_of t.volumes)
 
--- the entries of each group, in order of name
+-- the entries of what is being folded, in order of name
 abbrev pub folding : VolumeTable → List Name
 folding t = names_in t is_folding
 
+-- the entries of what is being made, a fork or an enlargement, in order of name
 abbrev pub making : VolumeTable → List Name
 making t = names_in t is_making
 
+-- the first of some names
 abbrev pub head : List Name → Option Name
 head [] = None
 head (n ∷ ns) = Some n
 
+-- the second of some names
 abbrev pub second : List Name → Option Name
 second [] = None
 second (n ∷ ns) = head ns
@@ -156,20 +161,24 @@ is_forking t disk base twin =
 abbrev pub is_coalescing : VolumeTable → List ℕ → List ℕ → Bool
 is_coalescing t child parent = is_hidden t (Vhd child) && (is_hidden t (Vhd parent) || is_hidden t (Raw parent))
 
--- folding a leaf: before the swap, after the leaf was renamed, after the parent took its name, after the old leaf is gone
+-- the folding of a leaf, before its swap: the leaf is there, and its parent hidden
 abbrev pub is_leaf_copied : VolumeTable → List ℕ → List ℕ → Bool
 is_leaf_copied t leaf parent = is_visible t (Vhd leaf) && (is_hidden t (Vhd parent) && not (is_there t (Old leaf)))
 
+-- the folding of a leaf, after the leaf became an old leaf: no image has its name
 abbrev pub is_leaf_renamed : VolumeTable → List ℕ → List ℕ → Bool
 is_leaf_renamed t leaf parent =
     is_there t (Old leaf) && (is_hidden t (Vhd parent) && (not (is_there t (Vhd leaf)) && not (is_there t (Raw leaf))))
 
+-- the folding of a leaf, after the parent took its name: the old leaf is still there
 abbrev pub is_leaf_swapped : VolumeTable → List ℕ → List ℕ → Bool
 is_leaf_swapped t leaf parent = is_there t (Old leaf) && (is_filled t (Vhd leaf) && not (is_there t (Vhd parent)))
 
+-- the folding of a leaf, after the old leaf is gone
 abbrev pub is_leaf_folded : VolumeTable → List ℕ → List ℕ → Bool
 is_leaf_folded t leaf parent = is_visible t (Vhd leaf) && (not (is_there t (Old leaf)) && not (is_there t (Vhd parent)))
 
+-- the folding of a leaf stands at one of its four stages
 abbrev pub is_folding_leaf : VolumeTable → List ℕ → List ℕ → Bool
 is_folding_leaf t leaf parent =
     is_leaf_copied t leaf parent || (is_leaf_renamed t leaf parent || (is_leaf_swapped t leaf parent || is_leaf_folded t leaf parent))

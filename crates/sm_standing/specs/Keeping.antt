@@ -34,6 +34,7 @@ pub record HoldsWell (c : Content) : Type 0 where
   pub holding : HasNoEmptySlot c
   pub linking : HasParentAlike c
 
+-- all checks of an opening pass, and what no opening tests holds too
 pub record IsKept (c : Content) : Type 0 where
   pub sound : first_fault c ≡ None
   pub holding : HasNoEmptySlot c

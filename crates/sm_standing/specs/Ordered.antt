@@ -12,9 +12,10 @@ abbrev pub Rising : {K : Type 0} → (K → K → Ordering) → List K → Type 
 Rising {K} R [] = Unit {0}
 Rising {K} R (x ∷ xs) = ((y : K) → In y xs → R x y ≡ Less) × Rising R xs
 
--- UUIDs by their bytes, and disks by their UUID
+-- UUIDs are ordered by their bytes
 abbrev pub uuid_cmp : List ℕ → List ℕ → Ordering
 uuid_cmp = slice_cmp nat_cmp
 
+-- disks are ordered by their UUID
 abbrev pub disk_cmp : Disk → Disk → Ordering
 disk_cmp d e = uuid_cmp d.uuid e.uuid

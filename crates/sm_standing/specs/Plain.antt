@@ -21,6 +21,7 @@ is_plain_name (Leaf leaf parent) = false
 abbrev pub is_plain : Row → Bool
 is_plain r = is_plain_name r.name
 
+-- a table of plain volumes: the records and images, and no old leaf nor journal entry
 abbrev pub IsPlain : VolumeTable → Type 0
 IsPlain t = AllByRecursion (λ r. is_plain r ≡ true) t.volumes
 
@@ -39,6 +40,7 @@ is_simple_name (Leaf leaf parent) = false
 abbrev pub is_simple : Row → Bool
 is_simple r = is_simple_name r.name
 
+-- a table of plain volumes and of the entries of a fork or of an enlargement
 abbrev pub IsSimple : VolumeTable → Type 0
 IsSimple t = AllByRecursion (λ r. is_simple r ≡ true) t.volumes
 
@@ -51,5 +53,6 @@ is_known_name n = is_simple_name n
 abbrev pub is_known : Row → Bool
 is_known r = is_known_name r.name
 
+-- a table without an old leaf and without the entry of a leaf that is being folded
 abbrev pub IsKnown : VolumeTable → Type 0
 IsKnown t = AllByRecursion (λ r. is_known r ≡ true) t.volumes

@@ -15,6 +15,7 @@ use Rattle.sm_standing.specs.Entries.{folding, making, second}
 use Rattle.sm_standing.specs.Outlines.{Outline, outline, outline_records}
 use Rattle.sm_standing.specs.Standing.{standing_volume}
 
+-- all checks of an opening pass, fact by fact, where nothing is under way
 pub record PlainSound (c : Content) : Type 0 where
   pub plain : IsPlain c.table
   pub records_row : Row
@@ -27,6 +28,7 @@ pub record PlainSound (c : Content) : Type 0 where
   pub right : (k : ℕ) → k < record_count → is_damaged (reading_at c k) ≡ false
   pub recorded : (u : List ℕ) (n : Name) → standing_volume c.table u ≡ Some n → length (filter (is_record_of u) (records c)) ≡ 1
 
+-- all checks of an opening pass, fact by fact, where no more is under way than a fork or an enlargement
 pub record SimpleSound (c : Content) : Type 0 where
   pub simple : IsSimple c.table
   pub records_row : Row
@@ -42,6 +44,7 @@ pub record SimpleSound (c : Content) : Type 0 where
   pub right : (k : ℕ) → k < record_count → is_damaged (reading_at c k) ≡ false
   pub recorded : (u : List ℕ) (n : Name) → standing_volume c.table u ≡ Some n → length (filter (is_record_of u) (records c)) ≡ 1
 
+-- all checks of an opening pass, fact by fact, where anything is under way but the folding of a leaf
 pub record KnownSound (c : Content) : Type 0 where
   pub known : IsKnown c.table
   pub records_row : Row

@@ -90,6 +90,7 @@ uuids t = in_order (flat_map (λ r. candidates r.name) t.volumes)
 abbrev pub disk_in : Content → List ℕ → Record → Name → Disk
 disk_in c u r n = record { uuid = u; label = r.label; origin = r.origin; read_only = r.read_only; sectors = sectors_read c n }
 
+-- the disk of a UUID, where a volume stands for it and it has a record
 unfoldable pub disk_at : Content → List ℕ → Option Disk
 disk_at c u = do
   n ← standing_volume c.table u

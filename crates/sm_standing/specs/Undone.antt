@@ -49,6 +49,7 @@ undone_from t n = elim (head (making t)) [ None ↦ Some n | Some e ↦ from_ent
 abbrev pub named_back : Name → Name → Row → Row
 named_back n was r = if name_eq n was then r else record { name = n; hidden = false; fresh = r.fresh; extents = r.extents }
 
+-- the volume of a name once a fork or an enlargement is undone, by the table from before
 abbrev pub row_back : VolumeTable → Name → Option Row
 row_back t n = undone_from t n >>= (λ was. rows t was >>= (λ r. Some (named_back n was r)))
 
