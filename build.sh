@@ -24,7 +24,7 @@ progress() {
     began=$(date +%s)
     count=0
     while read -r mark crate; do
-        [ "$mark" = '==' ] || continue
+        [ "$mark" = '==' ] && [ "$crate" != summary ] || continue
         count=$((count + 1))
         echo "build: $crate is done, crate $count of $1, after $((($(date +%s) - began) / 60)) minutes" >&2
     done
