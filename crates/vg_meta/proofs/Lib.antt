@@ -16,6 +16,7 @@ pub mod ReadLaws
 pub mod ReadSteps
 pub mod RoomLaws
 pub mod RowLaws
+pub mod SegmentLaws
 pub mod SpliceLaws
 pub mod TakenLaws
 pub mod WriteLaws

@@ -5,6 +5,7 @@ pub mod Held
 pub mod Roomy
 pub mod Proper
 pub mod Reading
+pub mod Segments
 pub mod Stopped
 pub mod Tables
 pub mod Taken

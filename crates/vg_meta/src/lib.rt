@@ -6,7 +6,8 @@
 //!
 //! **The model** (`specs/`). `Tables` says what a table is, `Changes` which changes are allowed and what table each
 //! leaves, `Text` how a table is spelled, number by number, and `Reading` where a text that spells none goes
-//! wrong first. `Roomy` has beside the table the rows, and the extents of each volume, that may still be added
+//! wrong first. `Segments` says extents as the fewest runs of consecutive ones, there and back; no text uses it yet.
+//! `Roomy` has beside the table the rows, and the extents of each volume, that may still be added
 //! without memory.
 //!
 //! **What it promises.** A table is at all times a table: names rise, and no extent belongs to two volumes.

@@ -2,7 +2,7 @@ use Rattle.std.proofs.Common.{length, List, ℕ, ap, arith}
 use Rattle.vg_meta.specs.declared.changes.Change.{Change}
 use Rattle.vg_meta.specs.Tables.{Row}
 use Rattle.vg_meta.specs.Roomy.{rows_alone}
-use Rattle.vg_meta.specs.Changes.{changed, made, renamed, grown, cut_to, tagged}
+use Rattle.vg_meta.specs.Changes.{changed, made, grown, cut_to, tagged}
 use Rattle.vg_meta.specs.Text.{volume_text}
 use Rattle.vg_meta.specs.Writing.{volumes_text}
 use Rattle.vg_meta.proofs.GrowthLaws.{volumes-put}

@@ -1,4 +1,4 @@
-use Rattle.std.proofs.Common.{sym, ◌∙◌}
+use Rattle.std.proofs.Common.{sym}
 use Rattle.vg_meta.proofs.EditLaws.{places_none}
 use Rattle.vg_meta.proofs.tables.Table.places.Goals as goal
 
