@@ -1,15 +1,16 @@
 -- Free and used extents together are all.
-use Rattle.std.proofs.Common.{◌≡◌, ℕ, zero, suc, ◌+◌, ◌<◌, ◌≤◌, Bool, true, false, not, cond, ltb, eqb, List, [], ◌∷◌, ◌++◌, length, get_or, take, refl, sym, ap, subst, ◌∙◌, arith, ⊎_elim}
+use Rattle.std.proofs.Common.{◌≡◌, ℕ, zero, suc, ◌+◌, ◌-◌, ◌<◌, ◌≤◌, Bool, true, false, not, cond, ltb, eqb, List, [], ◌∷◌, ◌++◌, length, get_or, take, Result, Ok, Err, IfOk, Vec, Global, refl, sym, ap, subst, ◌∙◌, arith, ⊎_elim}
 use Rattle.std.specs.List.{filter, count_by, range_with_len, IsDistinct, AllByRecursion}
 use Rattle.std.proofs.lemmas.Bool.Decides.{nat_tests}
 use Rattle.std.proofs.lemmas.List.Sums.{sum_by-append}
 use Rattle.std.proofs.lemmas.Bool.{cond_both, not-true, cond-false, cases_Bool, le-ltb}
-use Rattle.std.proofs.lemmas.List.{append-nil, length-append, length-take-le, take-append-le, take_all, length-take}
+use Rattle.std.proofs.lemmas.List.{append-nil, length-append, take-append-le, take_all, length-take, take-take}
 use Rattle.std.proofs.lemmas.List.Elements.{filter-append}
-use Rattle.std.specs.Prelude.{Result, Ok, Err, IfOk}
 use Rattle.common_laws.proofs.Lists.{take_next}
 use Rattle.vg_meta.specs.Taken.{IsMarked}
-use Rattle.vg_extents.specs.Fits.{AreLeastFree}
+use Rattle.vg_extents.specs.Fits.{AreLeastFree, IsShortOf}
+use Rattle.vg_extents.specs.declared.faults.FitFault.{FitFault}
+use Rattle.vg_extents.specs.declared.faults.FitFault.TheVariants.{NoSpace, NoMemory}
 use Rattle.vg_meta.specs.Tables.{Row, VolumeTable, used, free, extents_in, is_one_of}
 use Rattle.vg_meta.specs.Roomy.{RoomyRow, rows_alone}
 use Rattle.vg_meta.specs.Changes.{AreFree}
@@ -55,6 +56,10 @@ one_more us n once =
     ⊎_elim (λ (there : is_one_of us n ≡ true). rw there (let some = used-times n us there in omega arith))
     (λ (none : is_one_of us n ≡ false). rw none (let gone = unused-times n us none in omega arith)) (cases_Bool (is_one_of us n))
 
+one_at_most : (b : Bool) (n : ℕ) → length (cond b (n ∷ []) []) ≤ 1
+one_at_most true n = omega arith
+one_at_most false n = omega arith
+
 -- together they are all
 pub others_and_low : (us : List ℕ) (n : ℕ) → IsDistinct eqb us → length (others us n) + low n us ≡ n
 others_and_low us zero distinct = omega (arith, low-zero us)
@@ -73,26 +78,39 @@ without_mark marks n = filter (λ (e : ℕ). not (get_or marks e false)) (range_
 push : (marks : List Bool) (n : ℕ) → without_mark marks (n + 1) ≡ without_mark marks n ++ cond (not (get_or marks n false)) (n ∷ []) []
 push marks n = ap (filter (λ (e : ℕ). not (get_or marks e false))) (first-push n) ∙ filter-append (λ (e : ℕ). not (get_or marks e false)) (range_with_len 0 n) (n ∷ [])
 
-pub found_full : (marks : List Bool) (need n : ℕ) (found : List ℕ) → need ≤ length found → found ≡ take need (without_mark marks n) → found ≡ take need (without_mark marks (n + 1))
-found_full marks need n found full is =
-    let enough : need ≤ length (without_mark marks n) = omega (arith, ap length is, length-take need (without_mark marks n)) in
-    is ∙ sym (ap (take need) (push marks n) ∙ take-append-le need (without_mark marks n) (cond (not (get_or marks n false)) (n ∷ []) []) enough)
+-- one extent further, which has a mark
+pub found_marked : (marks : List Bool) (n : ℕ) (found : List ℕ) → get_or marks n false ≡ true → found ≡ without_mark marks n → found ≡ without_mark marks (n + 1)
+found_marked marks n found marked is =
+    is ∙ sym (push marks n ∙ ap (λ (b : Bool). without_mark marks n ++ cond (not b) (n ∷ []) []) marked ∙ append-nil (without_mark marks n))
 
-pub found_marked : (marks : List Bool) (need n : ℕ) (found : List ℕ) → get_or marks n false ≡ true → found ≡ take need (without_mark marks n) → found ≡ take need (without_mark marks (n + 1))
-found_marked marks need n found take_next is =
-    let same : without_mark marks (n + 1) ≡ without_mark marks n =
-    push marks n ∙ ap (λ (b : Bool). without_mark marks n ++ cond (not b) (n ∷ []) []) take_next ∙ append-nil (without_mark marks n) in
-    is ∙ ap (take need) (sym same)
+-- one extent further, which has none
+pub found_more : (marks : List Bool) (n : ℕ) (found now : List ℕ) → get_or marks n false ≡ false → found ≡ without_mark marks n → now ≡ found ++ n ∷ [] → now ≡ without_mark marks (n + 1)
+found_more marks n found now fresh is added =
+    added ∙ ap (λ (l : List ℕ). l ++ n ∷ []) is ∙ sym (push marks n ∙ ap (λ (b : Bool). without_mark marks n ++ cond (not b) (n ∷ []) []) fresh)
 
-pub found_more : (marks : List Bool) (need n : ℕ) (found now : List ℕ) → length found < need → get_or marks n false ≡ false → found ≡ take need (without_mark marks n)
-    → now ≡ found ++ n ∷ [] → now ≡ take need (without_mark marks (n + 1))
-found_more marks need n found now few fresh is added =
-    let all = without_mark marks n in
-    let short : length all < need = omega (arith, ap length is, length-take need all) in
-    let whole : found ≡ all = is ∙ take_all need all (omega arith) in
-    let same : without_mark marks (n + 1) ≡ all ++ n ∷ [] =
-    push marks n ∙ ap (λ (b : Bool). all ++ cond (not b) (n ∷ []) []) fresh in
-    added ∙ ap (λ (l : List ℕ). l ++ n ∷ []) whole ∙ sym (ap (take need) same ∙ take_all need (all ++ n ∷ []) (omega (arith, length-append all (n ∷ []))))
+-- what is found further on stands behind what was found
+found_front : (marks : List Bool) (n k : ℕ) → take (length (without_mark marks n)) (without_mark marks (n + k)) ≡ without_mark marks n
+found_front marks n zero =
+    let same : n + 0 ≡ n = omega arith in
+    ap (λ (m : ℕ). take (length (without_mark marks n)) (without_mark marks m)) same ∙ take_all (length (without_mark marks n)) (without_mark marks n) (omega arith)
+found_front marks n (suc k) =
+    let found = without_mark marks n in
+    let next : n + suc k ≡ n + k + 1 = omega arith in
+    let front = found_front marks n k in
+    let short : length found ≤ length (without_mark marks (n + k)) = omega (arith, ap length front, length-take (length found) (without_mark marks (n + k))) in
+    ap (λ (m : ℕ). take (length found) (without_mark marks m)) next ∙ ap (take (length found)) (push marks (n + k))
+    ∙ take-append-le (length found) (without_mark marks (n + k)) (cond (not (get_or marks (n + k) false)) ((n + k) ∷ []) []) short ∙ front
+
+-- as many are found as are needed
+pub found_full : (marks : List Bool) (need n m : ℕ) (found : List ℕ) → n ≤ m → found ≡ without_mark marks n → length found ≡ need → found ≡ take need (without_mark marks m)
+found_full marks need n m found le is full =
+    let last : n + (m - n) ≡ m = omega (arith, le) in
+    is ∙ sym (found_front marks n (m - n)) ∙ ap (λ (k : ℕ). take (length (without_mark marks n)) (without_mark marks k)) last
+    ∙ ap (λ (k : ℕ). take k (without_mark marks m)) (sym (ap length is) ∙ full)
+
+-- all were looked at, and no more are found than are needed
+pub found_all : (marks : List Bool) (need n : ℕ) (found : List ℕ) → found ≡ without_mark marks n → length found ≤ need → found ≡ take need (without_mark marks n)
+found_all marks need n found is few = is ∙ sym (take_all need (without_mark marks n) (omega (arith, ap length is)))
 
 -- ---- volumes
 
@@ -128,18 +146,40 @@ unmarked_others us marks (suc n) m le =
     (push marks n ∙ ap (λ (l : List ℕ). l ++ cond (not (get_or marks n false)) (n ∷ []) []) ih
     ∙ ap (λ (b : Bool). others us n ++ cond (not b) (n ∷ []) []) same ∙ sym (others-push us n))
 
-pub ok_from : {A E : Type 0} (r : Result A E) (P Q : A → Type 0) → ((v : A) → P v → Q v) → IfOk r P → IfOk r Q
-ok_from (Ok v) P Q f h = f v h
-ok_from (Err e) P Q f h = tt
-
 -- what is told of a table
 pub length-free : (count : ℕ) (t : VolumeTable) → IsDistinct eqb (used t) → length (free count t) + low count (used t) ≡ count
 unfolding free
 length-free count t distinct = others_and_low (used t) count distinct
 
-pub least_free : (count need : ℕ) (t : VolumeTable) (es : List ℕ) → es ≡ take need (others (used t) count) → need ≤ length (free count t) → AreLeastFree count need t es
+-- there are no more than all
+pub length-free-le : (count : ℕ) (t : VolumeTable) → length (free count t) ≤ count
 unfolding free
-least_free count need t es is enough = record { least = is; many = ap length is ∙ length-take-le need (others (used t) count) enough }
+length-free-le count t = few count
+  where
+    few : (n : ℕ) → length (others (used t) n) ≤ n
+    few zero = omega arith
+    few (suc n) =
+        let next : suc n ≡ n + 1 = omega arith in
+        subst (λ (k : ℕ). length (others (used t) k) ≤ k) (sym next)
+        (omega (arith, ap length (others-push (used t) n), length-append (others (used t) n) (cond (not (is_one_of (used t) n)) (n ∷ []) []), one_at_most (not (is_one_of (used t) n)) n, few n))
+
+-- fewer than are needed of the least ones: fewer than are needed of all
+pub short_of : (need : ℕ) (free : List ℕ) (e : FitFault) → IsShortOf need (length (take need free)) e → IsShortOf need (length free) e
+short_of need free (NoSpace needed left) short = (short.0, omega (arith, short.1, short.2, length-take need free), short.2)
+short_of need free NoMemory short = tt
+
+-- of those that were looked for the least are the least of all
+pub least_taken : {es fs : List ℕ} (count need : ℕ) (t : VolumeTable) → fs ≡ take need (free count t) → es ≡ take need fs → es ≡ take need (free count t)
+least_taken count need t is least = least ∙ ap (take need) is ∙ take-take need need (free count t) (omega arith)
+
+pub least_free : {E : Type 0} {fs : List ℕ} (count need : ℕ) (t : VolumeTable) → fs ≡ take need (free count t) → (r : Result (Vec ℕ Global) E)
+    → IfOk r (λ v. v.items ≡ take need fs) → IfOk r (λ v. length v.items ≡ need) → IfOk r (λ v. AreLeastFree count need t v.items)
+least_free count need t is (Ok v) least many = record { least = least_taken count need t is least; many = many }
+least_free count need t is (Err e) least many = tt
+
+pub others_free : (count : ℕ) (t : VolumeTable) → others (used t) count ≡ free count t
+unfolding free
+others_free count t = refl
 
 -- ---- the least free extents are free
 
@@ -171,7 +211,8 @@ distinct-take zero xs h = tt
 distinct-take (suc n) [] h = tt
 distinct-take (suc n) (x ∷ xs) h = (All-take (λ (y : ℕ). eqb x y ≡ false) n xs h.0, distinct-take n xs h.1)
 
-pub AreFree-least : (count need : ℕ) (t : VolumeTable) (es : List ℕ) → es ≡ take need (others (used t) count) → AreFree count t.volumes es
+pub AreFree-least : (count need : ℕ) (t : VolumeTable) (es : List ℕ) → es ≡ take need (free count t) → AreFree count t.volumes es
+unfolding free
 AreFree-least count need t es is =
     let all = range_with_len 0 count in
     let p : ℕ → Bool = λ e. not (is_one_of (used t) e) in

@@ -9,7 +9,11 @@ pub record AreLeastFree (count need : ℕ) (t : VolumeTable) (es : List ℕ) : T
   pub least : es ≡ take need (free count t)
   pub many : length es ≡ need
 
--- fewer are free than are needed; want of memory is free
+-- fewer extents are free than are needed, and the fault says how many of each; want of memory is free
+abbrev pub IsShortOf : ℕ → ℕ → FitFault → Type 0
+IsShortOf need there (NoSpace needed left) = (needed ≡ need) × (left ≡ there) × (left < need)
+IsShortOf need there NoMemory = Unit {0}
+
+-- fewer extents of a table are free than are needed, and the fault says how many of each; want of memory is free
 abbrev pub IsShort : ℕ → ℕ → VolumeTable → FitFault → Type 0
-IsShort count need t (NoSpace needed left) = (needed ≡ need) × (left ≡ length (free count t)) × (left < need)
-IsShort count need t NoMemory = Unit {0}
+IsShort count need t = IsShortOf need (length (free count t))

@@ -8,7 +8,7 @@ ghost use Rattle.vg_meta.specs.Roomy.{table_alone, rows_alone};
 ghost use Rattle.vg_extents.specs.Fits.{AreLeastFree, IsShort};
 
 use crate::faults::FitFault;
-use crate::marks::{mark_all, unmarked};
+use crate::runs::Runs;
 use sm_base::NoMemory;
 use std::alloc::Global;
 use vg_meta::{Table, Volume};
@@ -31,12 +31,8 @@ pub fn first_fit(
     ensures free { IfOk result (λ v. AreFree extents (table_alone table.now).volumes v.items) }
     ensures short { IfErr result (IsShort extents need (table_alone table.now)) }
 {
-    let free = free(table, extents);
-    if need > free {
-        return Err(FitFault::NoSpace { need, free });
-    }
-    match least(alloc, table.volumes(), extents, need) {
-        Ok(found) => Ok(found),
+    match Runs::least_of(alloc, table, extents, need) {
+        Ok(runs) => runs.first(alloc, need),
         Err(NoMemory) => Err(FitFault::NoMemory),
     }
 }
@@ -58,15 +54,4 @@ fn used_below(volumes: &[Volume], count: u32) -> u32
         total += low(volume.extents(), count) as u32;
     }
     total
-}
-
-// The least extents below a count that no volume has, at most so many.
-fn least(alloc: Global, volumes: &[Volume], count: u32, need: u32) -> Result<Vec<u32>, NoMemory>
-    ensures { IfOk result (λ v. v.items ≡ take need (filter (λ e. not (is_one_of (extents_in (rows_alone volumes.now)) e)) (range_with_len 0 count))) }
-{
-    let Ok(mut marks) = vec![in alloc; false; count as usize] else {
-        return Err(NoMemory);
-    };
-    mark_all(&mut marks, volumes);
-    unmarked(alloc, &marks, need)
 }

@@ -1,7 +1,6 @@
 //! One mark for each extent of a group: whether a volume has it.
 
-ghost use Rattle.std.specs.Prelude.{◌≡◌, ◌++◌, ℕ, List, not, filter, take, length, ◌<◌, ◌^◌, IfOk, slice_index_or, false};
-ghost use Rattle.std.specs.List.{range_with_len};
+ghost use Rattle.std.specs.Prelude.{◌≡◌, ◌++◌, ℕ, List, length, IfOk};
 ghost use Rattle.vg_meta.specs.Tables.{extents_in};
 ghost use Rattle.vg_meta.specs.Roomy.{rows_alone};
 ghost use Rattle.vg_meta.specs.Taken.{IsMarked};
@@ -23,8 +22,8 @@ fn mark(marks: &mut [bool], extents: &[u32])
     }
 }
 
-/// Marks the extents of volumes.
-pub fn mark_all(marks: &mut [bool], volumes: &[Volume])
+// Marks the extents of volumes.
+fn mark_all(marks: &mut [bool], volumes: &[Volume])
     ensures { (us : List ℕ) → IsMarked us marks.old → IsMarked (us ++ extents_in (rows_alone volumes.now)) marks.new }
 {
     for volume in volumes {
@@ -32,22 +31,14 @@ pub fn mark_all(marks: &mut [bool], volumes: &[Volume])
     }
 }
 
-/// The least extents without a mark, at most so many.
-pub fn unmarked(alloc: Global, marks: &[bool], need: u32) -> Result<Vec<u32>, NoMemory>
-    requires { length marks.now < 2 ^ 32 }
-    ensures { IfOk result (λ v. v.items ≡ take need (filter (λ e. not (slice_index_or marks.now e false)) (range_with_len 0 (length marks.now)))) }
+/// One mark for each extent below a count: whether a volume has it.
+pub fn marked(alloc: Global, volumes: &[Volume], count: u32) -> Result<Vec<bool>, NoMemory>
+    ensures marks { IfOk result (λ marks. IsMarked (extents_in (rows_alone volumes.now)) marks.items) }
+    ensures many { IfOk result (λ marks. length marks.items ≡ count) }
 {
-    let mut found = Vec::new(alloc);
-    for extent in 0..marks.len() as u32 {
-        if found.len() >= need as usize {
-            continue;
-        }
-        if marks[extent as usize] {
-            continue;
-        }
-        if found.push(extent).is_err() {
-            return Err(NoMemory);
-        }
-    }
-    Ok(found)
+    let Ok(mut marks) = vec![in alloc; false; count as usize] else {
+        return Err(NoMemory);
+    };
+    mark_all(&mut marks, volumes);
+    Ok(marks)
 }
