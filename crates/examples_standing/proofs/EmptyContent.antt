@@ -50,14 +50,18 @@ sixteen = refl
 pub empty_sound : (extents : List ℕ) → length extents ≡ 16 → PlainSound (empty_content extents)
 unfolding row_of name_eq
 empty_sound extents long = record {
-  plain = empty_is_plain extents;
+  only = empty_is_plain extents;
   records_row = record_row extents;
   records_there = refl;
   records_extents = long ∙ sym sixteen;
   few_images = omega arith;
   named = each_alone extents (λ r. is_misnamed (empty_content extents).table r ≡ false) refl;
+  one_folding = refl;
+  one_entry = refl;
+  at_stage = each_alone extents (λ r. is_lost (empty_content extents).table r ≡ false) refl;
   valid = each_alone extents (λ r. is_invalid (outline (empty_content extents)) r ≡ false) refl;
   placed = each_alone extents (λ r. is_tree_wrong (outline (empty_content extents)) r ≡ false) refl;
+  linked = each_alone extents (λ r. is_entry_linked (outline (empty_content extents)) r.name ≡ true) refl;
   right = λ k below. ap is_damaged (free_everywhere extents k);
   recorded = λ u n is. absurd (none-some n (sym (nowhere extents u) ∙ is));
 }

@@ -95,14 +95,18 @@ free_at c n some room free k below = ap reading (free_sector c n some room free 
 
 new_sound : (c : Content) (n : ℕ) → 0 < c.extent → 512 ≤ n * c.extent → n ≡ record_extents c.extent → AreFree c.area → PlainSound (emptied c n)
 new_sound c n some room long free = record {
-  plain = new_plain n;
+  only = new_plain n;
   records_row = record { name = Mgt; hidden = false; fresh = false; extents = range_with_len 0 n };
   records_there = records_there c n;
   records_extents = length-range_with_len 0 n ∙ long;
   few_images = omega arith;
   named = each_alone n (λ r. is_misnamed (new_table n) r ≡ false) refl;
+  one_folding = refl;
+  one_entry = refl;
+  at_stage = each_alone n (λ r. is_lost (new_table n) r ≡ false) refl;
   valid = each_alone n (λ r. is_invalid (outline (emptied c n)) r ≡ false) refl;
   placed = each_alone n (λ r. is_tree_wrong (outline (emptied c n)) r ≡ false) refl;
+  linked = each_alone n (λ r. is_entry_linked (outline (emptied c n)) r.name ≡ true) refl;
   right = λ k below. ap is_damaged (free_at c n some room free k below);
   recorded = λ u m is. absurd (none-some m (sym (nowhere n u) ∙ is));
 }

@@ -484,7 +484,7 @@ module _ (c : Content) (disk base twin : List ℕ) (n : Name) (table : IsTable c
         m_simple (inr k) = ap is_simple_name k.3
 
         each : (r : Row) → Source r.name r → is_simple r ≡ true
-        each r (settled apart was) = simple_row disk base twin c.table s.simple entry r.name r was
+        each r (settled apart was) = simple_row disk base twin c.table s.only entry r.name r was
         each r (the_entry is made) = ap is_simple_name is
         each r (the_image is row_is) = ap is_simple_name is ∙ m_simple kinds
         each r (a_new new here was) = new_simple r.name new.name
@@ -582,10 +582,10 @@ module _ (c : Content) (disk base twin : List ℕ) (n : Name) (table : IsTable c
 
     -- a volume that speaks of none of them is that of the records, or an image
     settled_name : (x : Name) (r : Row) → rows c.table x ≡ Some r → is_apart us x ≡ true → is_settled_name us x ≡ true
-    settled_name x r was apart = by x (is_making x) refl refl (simple_row disk base twin c.table s.simple entry x r was) apart
+    settled_name x r was apart = by x (is_making x) refl refl (simple_row disk base twin c.table s.only entry x r was) apart
       where
         no_entry : (y : Name) → x ≡ y → is_making y ≡ true → ⊥
-        no_entry y is made = true≢false (sym apart ∙ ap (is_apart us) (only_entry disk base twin c.table s.simple entry x r was (ap is_making is ∙ made)) ∙ entry_speaks disk base twin)
+        no_entry y is made = true≢false (sym apart ∙ ap (is_apart us) (only_entry disk base twin c.table s.only entry x r was (ap is_making is ∙ made)) ∙ entry_speaks disk base twin)
 
         by : (y : Name) (b : Bool) → is_making y ≡ b → x ≡ y → is_simple_name y ≡ true → is_apart us y ≡ true → is_settled_name us y ≡ true
         by Mgt b made is simple away = refl
@@ -672,12 +672,13 @@ module _ (c : Content) (disk base twin : List ℕ) (n : Name) (table : IsTable c
 
     pub part_sound : SimpleSound (with_table c v area)
     part_sound = record {
-      simple = simple_now v m hidden p area same;
+      only = simple_now v m hidden p area same;
       records_row = s.records_row;
       records_there = p.apart Mgt refl ∙ s.records_there;
       records_extents = s.records_extents;
       few_images = let few = p.few in let all = s.few_images in omega (arith, few, all);
       named = λ r i. (passes v m hidden p area same r i).named;
+      one_folding = ap second (simple_folding v.volumes (simple_now v m hidden p area same));
       one_entry = by p.entries;
       at_stage = λ r i. (passes v m hidden p area same r i).at_stage;
       valid = λ r i. (passes v m hidden p area same r i).valid;

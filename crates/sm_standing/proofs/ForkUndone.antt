@@ -52,7 +52,7 @@ module _ (c : Content) (table : IsTable c.count c.table) (geometry : IsGeometry 
       (sym (ap (λ x. is_entry x && not (is_at_stage t x && are_past t x)) named) ∙ s.at_stage k.0 (row_of-In t.volumes e k.0 k.1).0))).0
 
   pub stage : (n : Name) × IsForkStage t disk base twin n
-  stage = fork_stage disk base twin t s.simple entry s.named at_stage
+  stage = fork_stage disk base twin t s.only entry s.named at_stage
 
   -- the name of the disk's image
   abbrev pub n : Name

@@ -290,7 +290,7 @@ module _ (c : Content) (s : KnownSound c) (child parent : List ℕ) (one : foldi
           there = run.there ∙ own.1;
           later = let more = rise_later t.sequence (take k cs) table.sequence in omega (arith, number, more);
           names = names_run IsFrom (λ n is. inl is) t (take k cs) spare (all-of (λ r. IsFrom r.name) t.volumes (λ r i. inr (In-map_at (λ (r : Row). r.name) t.volumes r i)));
-          simple = subst IsSimple (sym same) (names_run (λ n. is_simple_name n ≡ true) plain_simple_name d.table (take k cs) spare sound_d.simple);
+          simple = subst IsSimple (sym same) (names_run (λ n. is_simple_name n ≡ true) plain_simple_name d.table (take k cs) spare sound_d.only);
           undoing = (k, same ∙ ap (λ xs. applied_all d.table (take k xs)) (sym changes_d));
         }
 
@@ -399,7 +399,7 @@ module _ (c : Content) (s : KnownSound c) (child parent : List ℕ) (one : foldi
     link_quiet =
         sym (making_bare e f (undone t) (undone t).sequence)
         ∙ ap making (last_same ∙ ap (applied_all d.table) (sym changes_d))
-        ∙ no_making (undone d.table).volumes (but_leaf_undone d table_d geometry sound_d).plain
+        ∙ no_making (undone d.table).volumes (but_leaf_undone d table_d geometry sound_d).only
       where
         last_same : bare_at e (undone t).sequence (undone t) ≡ applied_all d.table cs
         last_same = ap (λ q. bare_at e q (undone t)) (rise_is e f t cs) ∙ sym (beside_run e f c.count t.sequence t cs (undo_spares t) table permits_d).same

@@ -1,6 +1,6 @@
 -- A repository in which nothing is under way but that images may be being enlarged, disks forked, and images copied or linked, is
 -- sound exactly fact by fact; it is kept where it holds well.
-use Rattle.std.proofs.Common.{eq-eqb, ◌≡◌, ℕ, ◌≤◌, inl, inr, Bool, true, false, cond, not, ◌&&◌, ◌||◌, ◌==◌, List, [], ◌∷◌, length, Option, Some, None, is_some, refl, sym, ap, ap₂, ◌∙◌, arith, nat_lt}
+use Rattle.std.proofs.Common.{eq-eqb, ◌≡◌, ℕ, ◌≤◌, inl, inr, Bool, true, false, cond, not, ◌||◌, ◌==◌, List, [], ◌∷◌, length, Option, Some, None, is_some, refl, sym, ap, ap₂, ◌∙◌, arith, nat_lt}
 use Rattle.std.specs.List.{AllByRecursion, filter, list_any}
 use Rattle.std.proofs.lemmas.Bool.{true≢false, le-ltb, ltb-false, eqb-true}
 use Rattle.std.proofs.lemmas.Option.{none-some}
@@ -19,9 +19,9 @@ use Rattle.vg_meta.proofs.ExtentLaws.{All-weaken}
 use Rattle.vg_meta.proofs.RowLaws.{row_of-name}
 use Rattle.common_laws.specs.Lists.{In, numbers}
 use Rattle.sm_standing.specs.Plain.{is_plain, is_plain_name, IsPlain, is_simple, is_simple_name, IsSimple, is_known, is_known_name, IsKnown}
-use Rattle.sm_standing.specs.PlainSound.{AllSound, PlainSound, SimpleSound, KnownSound}
+use Rattle.sm_standing.specs.PlainSound.{AllSound, KnownSound, PlainSound, SimpleSound, SoundBy}
 use Rattle.sm_standing.specs.Contents.{Content, row, record_count, is_record_of}
-use Rattle.sm_standing.specs.Entries.{are_past, folding, is_at_stage, is_folding, is_making, is_old_of, making, second}
+use Rattle.sm_standing.specs.Entries.{folding, is_folding, is_making, is_old_of, making, second}
 use Rattle.sm_standing.specs.Standing.{standing_volume, uuids}
 use Rattle.sm_standing.specs.Checks.{placed, has_records, record_volume_fault, images, too_many_fault, misnamed_fault, lesser, second_entry_fault, lost_entry_fault, is_orphaned, old_leaf_fault, invalid_fault, tree_fault, is_entry_linked, entry_link_fault, record_place, record_fault, disk_place, disk_uuids, is_unrecorded, disk_fault, all_faults, PassesButLeaf, fault_of, first_fault, is_damaged, is_leaf_entry, IsSoundButLeaf}
 use Rattle.sm_standing.specs.Outlines.{Outline, outline, outline_records}
@@ -30,7 +30,7 @@ use Rattle.common_laws.proofs.Lists.{find_none, none_find, none_first, first_non
 use Rattle.sm_standing.proofs.OutlineLaws.{reading_within, outline_records_same}
 use Rattle.sm_standing.proofs.DisksShown.{stands_listed, row_of-In}
 use Rattle.sm_standing.proofs.FaultLaws.{given_none, none_given, named_none, none_named}
-use Rattle.sm_standing.proofs.PlainDisks.{all-In, no_making, simple_folding}
+use Rattle.sm_standing.proofs.PlainDisks.{all-In}
 
 -- ---- each check of a plain row, by its name
 
@@ -106,7 +106,7 @@ records_fault o None s is long = absurd (let e = is in cc)
 records_fault o (Some r) s is long = ap not (eq-eqb (length r.extents) (record_extents o.extent) (let same : r ≡ s = (let e = is in cc) in ap (λ t. length t.extents) same ∙ long))
 
 known_row : (c : Content) → KnownSound c → (r : Row) → In r c.table.volumes → is_known r ≡ true
-known_row c s r h = all-In (λ r. is_known r ≡ true) c.table.volumes r s.known h
+known_row c s r h = all-In (λ r. is_known r ≡ true) c.table.volumes r s.only h
 
 not_below : (n : ℕ) → n ≤ 500 → nat_lt 500 n ≡ false
 not_below n h = le-ltb 500 n h
@@ -142,15 +142,16 @@ pub known_sound : (c : Content) → KnownSound c → first_fault c ≡ None
 unfolding fault_of
 known_sound c s = first_none (all_faults (outline c)) (checks_pass c s)
 
-pub simple_is_known : (c : Content) → SimpleSound c → KnownSound c
-simple_is_known c s = record {
-  known = simple_known c.table s.simple;
+-- the facts with another test of the names
+abbrev as_tested : {p q : Name → Bool} (c : Content) → SoundBy p c → AllByRecursion (λ r. q r.name ≡ true) c.table.volumes → SoundBy q c
+as_tested c s only = record {
+  only = only;
   records_row = s.records_row;
   records_there = s.records_there;
   records_extents = s.records_extents;
   few_images = s.few_images;
   named = s.named;
-  one_folding = ap second (simple_folding c.table.volumes s.simple);
+  one_folding = s.one_folding;
   one_entry = s.one_entry;
   at_stage = s.at_stage;
   valid = s.valid;
@@ -159,6 +160,9 @@ simple_is_known c s = record {
   right = s.right;
   recorded = s.recorded;
 }
+
+pub simple_is_known : (c : Content) → SimpleSound c → KnownSound c
+simple_is_known c s = as_tested c s (simple_known c.table s.only)
 
 pub simple_sound : (c : Content) → SimpleSound c → first_fault c ≡ None
 simple_sound c s = known_sound c (simple_is_known c s)
@@ -176,26 +180,12 @@ pub known_kept : (c : Content) → KnownSound c → HoldsWell c → IsKept c
 known_kept c s well = record { sound = known_sound c s; holding = well.holding; linking = well.linking }
 
 pub simple_kept : (c : Content) → SimpleSound c → HasNoEmptySlot c → IsKept c
-simple_kept c s holding = known_kept c (simple_is_known c s) (simple_well c s.simple holding)
+simple_kept c s holding = known_kept c (simple_is_known c s) (simple_well c s.only holding)
 
 -- ---- where nothing is under way
 
 pub plain_is_simple : (c : Content) → PlainSound c → SimpleSound c
-plain_is_simple c s = record {
-  simple = plain_simple c.table s.plain;
-  records_row = s.records_row;
-  records_there = s.records_there;
-  records_extents = s.records_extents;
-  few_images = s.few_images;
-  named = s.named;
-  one_entry = ap second (no_making c.table.volumes s.plain);
-  at_stage = λ r h. ap (λ b. b && not (is_at_stage c.table r.name && are_past c.table r.name)) (not_special r.name (all-In (λ r. is_plain r ≡ true) c.table.volumes r s.plain h)).no_journal;
-  valid = s.valid;
-  placed = s.placed;
-  linked = λ r h. (not_special r.name (all-In (λ r. is_plain r ≡ true) c.table.volumes r s.plain h)).linked (outline c);
-  right = s.right;
-  recorded = s.recorded;
-}
+plain_is_simple c s = as_tested c s (plain_simple c.table s.only)
 
 pub plain_sound : (c : Content) → PlainSound c → first_fault c ≡ None
 plain_sound c s = simple_sound c (plain_is_simple c s)
@@ -294,7 +284,7 @@ pub but_leaf_known : (c : Content) → IsSoundButLeaf c → KnownSound c
 but_leaf_known c h =
     let s = sound_all (outline c) h.sound in
     record {
-      known = known_table (outline c) h;
+      only = known_table (outline c) h;
       records_row = s.records_row;
       records_there = s.records_there;
       records_extents = s.records_extents;
@@ -324,24 +314,10 @@ known_is_simple t known none = each t.volumes known none
         by false is h rest = (known_simple_name r.name all.0 is, rest h)
 
 pub known_sound_simple : (c : Content) → KnownSound c → IsSimple c.table → SimpleSound c
-known_sound_simple c s simple = record {
-  simple = simple;
-  records_row = s.records_row;
-  records_there = s.records_there;
-  records_extents = s.records_extents;
-  few_images = s.few_images;
-  named = s.named;
-  one_entry = s.one_entry;
-  at_stage = s.at_stage;
-  valid = s.valid;
-  placed = s.placed;
-  linked = s.linked;
-  right = s.right;
-  recorded = s.recorded;
-}
+known_sound_simple = as_tested
 
 pub but_leaf_sound : (c : Content) → IsSoundButLeaf c → folding c.table ≡ [] → SimpleSound c
-but_leaf_sound c h none = let s = but_leaf_known c h in known_sound_simple c s (known_is_simple c.table s.known none)
+but_leaf_sound c h none = let s = but_leaf_known c h in known_sound_simple c s (known_is_simple c.table s.only none)
 
 -- where no entry is there, nothing is under way
 pub simple_none_plain : (t : VolumeTable) → IsSimple t → making t ≡ [] → IsPlain t
@@ -357,18 +333,7 @@ simple_none_plain t simple none = each t.volumes simple none
         by false is h rest = (simple_plain_name r.name all.0 is, rest h)
 
 pub simple_is_plain : (c : Content) → SimpleSound c → making c.table ≡ [] → PlainSound c
-simple_is_plain c s none = record {
-  plain = simple_none_plain c.table s.simple none;
-  records_row = s.records_row;
-  records_there = s.records_there;
-  records_extents = s.records_extents;
-  few_images = s.few_images;
-  named = s.named;
-  valid = s.valid;
-  placed = s.placed;
-  right = s.right;
-  recorded = s.recorded;
-}
+simple_is_plain c s none = as_tested c s (simple_none_plain c.table s.only none)
 
 -- ---- and back
 

@@ -124,8 +124,8 @@ module _ (c : Content) (table : IsTable c.count c.table) (geometry : IsGeometry 
 
   pub but_leaf_opened : opened (undone_content c) ≡ opened c
   but_leaf_opened =
-      let plain = (let d = but_leaf_undone in d.plain) in
-      opened_undone c (simple_folding c.table.volumes s.simple) (no_folding (undone c.table).volumes plain) (no_making (undone c.table).volumes plain)
+      let plain = (let d = but_leaf_undone in d.only) in
+      opened_undone c (simple_folding c.table.volumes s.only) (no_folding (undone c.table).volumes plain) (no_making (undone c.table).volumes plain)
 
   -- ---- whatever a stop leaves while it is undone
 
@@ -187,7 +187,7 @@ module _ (c : Content) (table : IsTable c.count c.table) (geometry : IsGeometry 
       step u extents w (inr (inr is)) = at (undone c.table) is (undone_kept c u extents w table geometry room s holding area same)
 
       by : (making c.table ≡ []) ⊎ (((u : List ℕ) × (extents : ℕ) × IsBeingEnlarged c.table u extents) ⊎ IsBeingForked c.table) → IsKept (with_table c v area)
-      by (inl none) = at c.table (all_one none v undoing) (area_kept c table geometry (simple_is_known c s) area same (simple_well c s.simple holding))
+      by (inl none) = at c.table (all_one none v undoing) (area_kept c table geometry (simple_is_known c s) area same (simple_well c s.only holding))
       by (inr (inl k)) = step k.0 k.1 k.2 (step_of k.0 k.1 k.2 v undoing)
       by (inr (inr k)) = fork_kept c table geometry room s k.0 k.1 k.2 k.3 holding v area undoing same
 

@@ -179,7 +179,7 @@ module _ (c : Content) (u : List ℕ) (extents : ℕ) (w : IsBeingEnlarged c.tab
     pub sound_undone : (sequence : ℕ) → c.table.sequence ≤ sequence → PlainSound (undone_content_at sequence c)
     sound_undone sequence later =
         let d = undone_content_at sequence c in
-        let simple : IsSimple d.table = undone_simple c.table u extents w s.simple in
+        let simple : IsSimple d.table = undone_simple c.table u extents w s.only in
         simple_is_plain d (but_leaf_sound d (simple_but_leaf d (sound_undone_at (simple_sound c s) sequence later) simple) (simple_folding d.table.volumes simple)) (undone_making c.table u extents w)
 
     -- whatever a stop leaves while the entry stands is kept
@@ -191,7 +191,7 @@ module _ (c : Content) (u : List ℕ) (extents : ℕ) (w : IsBeingEnlarged c.tab
     -- so is what it leaves with this area and the table from before
     pub sound_alike : (area : ℕ → List ℕ) → IsSameArea c area → SimpleSound (with_table c c.table area)
     sound_alike area same =
-        but_leaf_sound (with_table c c.table area) (simple_but_leaf (with_table c c.table area) (sound_between (simple_sound c s) c.table area between_now same) s.simple) (simple_folding c.table.volumes s.simple)
+        but_leaf_sound (with_table c c.table area) (simple_but_leaf (with_table c c.table area) (sound_between (simple_sound c s) c.table area between_now same) s.only) (simple_folding c.table.volumes s.only)
 
     pub holding_alike : (area : ℕ → List ℕ) → IsSameArea c area → HasNoEmptySlot c → HasNoEmptySlot (with_table c c.table area)
     holding_alike area same holding v i is =

@@ -110,7 +110,7 @@ module _ (c : Content) (s : KnownSound c) where
   now e f = bare c e f (raised t.sequence)
 
   pub cases : FoldCases t
-  cases = fold_cases t s.known s.one_folding
+  cases = fold_cases t s.only s.one_folding
 
   either : (folding t ≡ []) ⊎ HasFold t
   either = fold_or_not t cases
@@ -141,7 +141,7 @@ module _ (c : Content) (s : KnownSound c) where
   module _ (table : IsTable c.count c.table) where
     pub unfolded_sound : SimpleSound (unfolded_content c)
     unfolded_sound =
-        by_case SimpleSound (λ none. known_sound_simple c s (known_is_simple t s.known none))
+        by_case SimpleSound (λ none. known_sound_simple c s (known_is_simple t s.only none))
         (λ e f one. sound_bare c e f (raised t.sequence) one (raised_later t.sequence table.sequence) s)
 
     pub unfolded_disks : disks (unfolded_content c) ≡ disks c
@@ -151,7 +151,7 @@ module _ (c : Content) (s : KnownSound c) where
     unfolded_table = by_case (λ x. IsTable c.count x.table) (λ none. table) (λ e f one. IsTable-applied c.count t (Remove e) table (fold_permits c.count t e one))
 
     pub unfolded_opened : opened c ≡ linked_up t (opened (unfolded_content c))
-    unfolded_opened = opened_unfolded c (by cases) (simple_folding (unfolded t).volumes (let d = unfolded_sound in d.simple))
+    unfolded_opened = opened_unfolded c (by cases) (simple_folding (unfolded t).volumes (let d = unfolded_sound in d.only))
       where
         by : FoldCases t → ended t ≡ unfolded t
         by (inl none) = ended_is t [] none ∙ sym (unfolded_none t none)
@@ -162,7 +162,7 @@ module _ (c : Content) (s : KnownSound c) where
       pub unfolded_kept : HasNoEmptySlot c → IsKept (with_table c (unfolded t) area)
       unfolded_kept holding =
           let d = unfolded_sound in
-          area_kept (unfolded_content c) unfolded_table geometry (simple_is_known (unfolded_content c) d) area same (simple_well (unfolded_content c) d.simple (unfolded_holding holding))
+          area_kept (unfolded_content c) unfolded_table geometry (simple_is_known (unfolded_content c) d) area same (simple_well (unfolded_content c) d.only (unfolded_holding holding))
 
       pub unfolded_shown : disks (with_table c (unfolded t) area) ≡ disks c
       unfolded_shown = area_disks (unfolded_content c) unfolded_table geometry (simple_is_known (unfolded_content c) unfolded_sound) area same ∙ unfolded_disks

@@ -102,7 +102,7 @@ module _ (c : Content) (e : Name) (f : IsFold e) (sequence : ℕ) where
     -- without the entry, with this number or a later one
     pub sound_bare : t.sequence ≤ sequence → KnownSound c → SimpleSound bare
     sound_bare later s =
-        but_leaf_sound bare (subst PassesButLeaf (sym outline_bare) (but_leaf_bare (outline c) quiet e f sequence one later (known_but_leaf c (known_sound c s) s.known))) (none_folding (outline c) quiet e f sequence one)
+        but_leaf_sound bare (subst PassesButLeaf (sym outline_bare) (but_leaf_bare (outline c) quiet e f sequence one later (known_but_leaf c (known_sound c s) s.only))) (none_folding (outline c) quiet e f sequence one)
 
     abbrev pub IsApart : Name → Type 0
     IsApart n = IsApartFork (outline c) quiet e f sequence one n
@@ -111,7 +111,7 @@ module _ (c : Content) (e : Name) (f : IsFold e) (sequence : ℕ) where
     pub sound_with : sequence ≤ t.sequence → is_at_stage t e ≡ true → are_past t e ≡ true → is_entry_linked (outline c) e ≡ true → ((r : Row) → In r t.volumes → IsApart r.name)
         → SimpleSound bare → KnownSound c
     sound_with later stage past linked apart s = record {
-      known = all-of (λ r. is_known r ≡ true) t.volumes (λ r i. each (λ x. is_known x ≡ true) r (λ is. ap is_known_name is ∙ f.known) (λ j. simple_known_name r.name (at_simple s r j)) (In-or e t.volumes r i));
+      only = all-of (λ r. is_known r ≡ true) t.volumes (λ r i. each (λ x. is_known x ≡ true) r (λ is. ap is_known_name is ∙ f.known) (λ j. simple_known_name r.name (at_simple s r j)) (In-or e t.volumes r i));
       records_row = s.records_row;
       records_there = sym mgt_is ∙ s.records_there;
       records_extents = s.records_extents;
@@ -143,7 +143,7 @@ module _ (c : Content) (e : Name) (f : IsFold e) (sequence : ℕ) where
         entry_is n simple = ap (λ y. is_entry_linked y n) outline_bare ∙ linked_as (outline c) quiet e f sequence n simple
 
         at_simple : SimpleSound bare → (r : Row) → In r (without e t.volumes) → is_simple_name r.name ≡ true
-        at_simple s r j = simple_at (outline c) quiet e f sequence one s.simple r j
+        at_simple s r j = simple_at (outline c) quiet e f sequence one s.only r j
 
         each : (P : Row → Type 0) (r : Row) → (r.name ≡ e → P r) → (In r (without e t.volumes) → P r) → (r.name ≡ e) ⊎ In r (without e t.volumes) → P r
         each P r at other (inl is) = at is

@@ -1,10 +1,11 @@
 //! What an outline depends on, its first fault, and the longest chain that passes.
 
-ghost use Rattle.std.specs.Prelude.{◌≡◌, ◌++◌, ◌∷◌, ℕ, List, None, Option, Some, false, true};
+ghost use Rattle.std.specs.Prelude.{◌≡◌, ◌++◌, ◌∷◌, ℕ, List, None, Option, Some, false, suc, true};
 ghost use Rattle.sm_base.specs.declared.faults.Place.{Place};
 ghost use Rattle.sm_base.specs.declared.names.Name.TheVariants.{Vhd};
 ghost use Rattle.common_laws.specs.Lists.{In};
 ghost use Rattle.vg_meta.specs.Tables.{Row, VolumeTable};
+ghost use Rattle.sm_machine.specs.Shapes.{chain_limit};
 ghost use Rattle.sm_standing.specs.Besides.{IsBeside};
 ghost use Rattle.sm_standing.specs.Checks.{all_faults, fault_of, first_fault, is_linked, chain_length, is_tree_wrong};
 ghost use Rattle.sm_standing.specs.Contents.{Content};
@@ -28,8 +29,8 @@ pub fn law_first_fault()
 
 /// A hidden image that is linked rightly has a chain of 30 images or fewer: with 31 it is refused.
 pub fn law_longest_chain()
-    ensures most { (o : Outline) (r : Row) (u : List ℕ) (i : Link) → r.name ≡ Vhd u → r.hidden ≡ true → o.links (Vhd u) ≡ Some i → is_linked o i ≡ true → chain_length o 31 (Vhd u) ≡ 30 → is_tree_wrong o r ≡ false }
-    ensures more { (o : Outline) (r : Row) (u : List ℕ) (i : Link) → r.name ≡ Vhd u → r.hidden ≡ true → o.links (Vhd u) ≡ Some i → is_linked o i ≡ true → chain_length o 31 (Vhd u) ≡ 31 → is_tree_wrong o r ≡ true }
+    ensures most { (o : Outline) (r : Row) (u : List ℕ) (i : Link) → r.name ≡ Vhd u → r.hidden ≡ true → o.links (Vhd u) ≡ Some i → is_linked o i ≡ true → chain_length o (suc chain_limit) (Vhd u) ≡ chain_limit → is_tree_wrong o r ≡ false }
+    ensures more { (o : Outline) (r : Row) (u : List ℕ) (i : Link) → r.name ≡ Vhd u → r.hidden ≡ true → o.links (Vhd u) ≡ Some i → is_linked o i ≡ true → chain_length o (suc chain_limit) (Vhd u) ≡ suc chain_limit → is_tree_wrong o r ≡ true }
 {}
 
 /// While an image is being enlarged no check fails that did not fail before, and each disk stands where it stood.

@@ -2,7 +2,7 @@ use Rattle.sm_standing.proofs.PlainKept.{known_kept, known_but_leaf, simple_is_p
 use Rattle.sm_standing.proofs.plain.law_but_leaf.Goals as goal
 
 pub returns-clause-known : goal.returns-clause-known
-returns-clause-known c = λ b h. (but_leaf_known b h).known
+returns-clause-known c = λ b h. (but_leaf_known b h).only
 
 pub returns-clause-facts : goal.returns-clause-facts
 returns-clause-facts c = but_leaf_sound

@@ -20,7 +20,7 @@ pub returns-clause-sound : goal.returns-clause-sound
 returns-clause-sound c = λ x h table geometry holding child parent one w area undoing same.
     let s = but_leaf_known x h in
     let k = link_sound x s child parent one table geometry w (link_with x s child parent one table geometry w undoing) area same holding in
-    known_but_leaf (with_table x w area) (known_sound (with_table x w area) k) k.known
+    known_but_leaf (with_table x w area) (known_sound (with_table x w area) k) k.only
 
 pub returns-clause-kept : goal.returns-clause-kept
 returns-clause-kept c = λ x h table geometry well child parent one w area undoing same.

@@ -18,13 +18,13 @@ pub returns-clause-none : goal.returns-clause-none
 returns-clause-none c = λ x none. unfolded_none x.table none
 
 pub returns-clause-sound : goal.returns-clause-sound
-returns-clause-sound c = λ x h table. let s = unfolded_sound x (but_leaf_known x h) table in simple_but_leaf (unfolded_content x) (simple_sound (unfolded_content x) s) s.simple
+returns-clause-sound c = λ x h table. let s = unfolded_sound x (but_leaf_known x h) table in simple_but_leaf (unfolded_content x) (simple_sound (unfolded_content x) s) s.only
 
 pub returns-clause-simple : goal.returns-clause-simple
-returns-clause-simple c = λ x h table. (unfolded_sound x (but_leaf_known x h) table).simple
+returns-clause-simple c = λ x h table. (unfolded_sound x (but_leaf_known x h) table).only
 
 pub returns-clause-quiet : goal.returns-clause-quiet
-returns-clause-quiet c = λ x h table. simple_folding (unfolded x.table).volumes (unfolded_sound x (but_leaf_known x h) table).simple
+returns-clause-quiet c = λ x h table. simple_folding (unfolded x.table).volumes (unfolded_sound x (but_leaf_known x h) table).only
 
 pub returns-clause-making : goal.returns-clause-making
 returns-clause-making c = λ x h. unfolded_making x (but_leaf_known x h)
