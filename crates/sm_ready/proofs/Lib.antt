@@ -64,6 +64,8 @@ pub mod TruthLaws
 pub mod PutBackLaws
 pub mod RaisedLaws
 pub mod GrownLaws
+pub mod SizedRows
+pub mod GrownStores
 pub mod ApartLaws
 pub mod RunLaws
 pub mod FramingLaws

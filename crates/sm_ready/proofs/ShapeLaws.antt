@@ -509,15 +509,23 @@ plainly_stands s t m u o =
     ap (λ (ns : List Name). under (λ e. stands_forked t e u) (head ns) (under (λ e. stands_folded t e u) (head (folding t)) (stands_plainly t u))) (none_making s t m o)
     ∙ under_plainly t u (head (folding t)) (stands_plainly t u) (λ l. no_old s t m l o)
 
-pub visible_row : (s : Site) (t : VolumeTable) (m : Known) (r : TreeRow) → IsOrderly s t m → IsWellFormed (shape_in s t m) → In r m.rows → r.hidden ≡ false → is_visible t (row_name r) ≡ true
+-- the image of a row is visible in the table where it is not hidden
+pub seen_row : (s : Site) (t : VolumeTable) (m : Known) (r : TreeRow) → IsOrderly s t m → IsWellFormed (shape_in s t m) → In r m.rows → is_visible t (row_name r) ≡ not r.hidden
 unfolding shape_in
-visible_row s t m r o w i shown =
+seen_row s t m r o w i =
     let found = tree_found m.rows r w.one_image i in
     let image = image_named (row_name r) (named_row s t m r o i) in
     let v = volume_there s t m r o image found in
     let x = rowed s t m (row_name r) v.row o image v.there v.filled in
     ap (of_row (λ q. not q.hidden && not q.fresh)) v.there
-    ∙ ap₂ (λ (a b : Bool). not a && not b) (sym x.hidden ∙ ap (λ (q : TreeRow). q.hidden) (same_Some x.row r (sym x.found ∙ found)) ∙ shown) x.filled
+    ∙ ap₂ (λ (a b : Bool). not a && not b) (sym x.hidden ∙ ap (λ (q : TreeRow). q.hidden) (same_Some x.row r (sym x.found ∙ found))) x.filled ∙ and_true (not r.hidden)
+  where
+    and_true : (b : Bool) → (b && true) ≡ b
+    and_true true = refl
+    and_true false = refl
+
+pub visible_row : (s : Site) (t : VolumeTable) (m : Known) (r : TreeRow) → IsOrderly s t m → IsWellFormed (shape_in s t m) → In r m.rows → r.hidden ≡ false → is_visible t (row_name r) ≡ true
+visible_row s t m r o w i shown = seen_row s t m r o w i ∙ ap not shown
 
 stands_visible : (t : VolumeTable) (n : Name) (u : List ℕ) → is_image_name n ≡ true → image_uuid n ≡ u → is_visible t n ≡ true → (x : Name) × (stands_plainly t u ≡ Some x)
 unfolding is_image_name image_uuid

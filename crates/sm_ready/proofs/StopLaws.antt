@@ -104,8 +104,8 @@ name_or_not n x = by (name_eq n x) refl
 abbrev pub link_at : ℕ → Option Name → Link
 link_at size parent = record { size = size; parent = parent }
 
--- an image of the area that is one that a stop might have left before, but in the volume of x, a visible image
-module _ (s : Site) (t : VolumeTable) (m : Known) (old : Held) (x : Name) (image earlier : Sectors) (r : TreeRow) (o : IsOrderly s t m) (ready : IsReady s t old m) (there : In r m.rows) (shown : r.hidden ≡ false) (named : row_name r ≡ x)
+-- an image of the area that is one that a stop might have left before, but in the volume of an image, x
+module _ (s : Site) (t : VolumeTable) (m : Known) (old : Held) (x : Name) (image earlier : Sectors) (r : TreeRow) (o : IsOrderly s t m) (ready : IsReady s t old m) (there : In r m.rows) (named : row_name r ≡ x)
     (might : IsLeft s old earlier) (others : (n : Name) → n ≢ x → (p : ℕ) → p < size_of s t n → sectors_of (content_in s t image) n p ≡ sectors_of (content_in s t earlier) n p) where
   same_readings : SameReadings (content_in s t earlier) (content_in s t image)
   same_readings k below = ap reading (others Mgt record_apart k (omega (arith, below, mgt_long s t m o)))
@@ -132,8 +132,9 @@ module _ (s : Site) (t : VolumeTable) (m : Known) (old : Held) (x : Name) (image
       by None e l = absurd (none-some (link_at i.size i.parent) (sym l))
       by (Some q) e l = (q, e, same_Some (link_at i.size i.parent) (link_at (sector_count q.image) (parent_name q.image)) l)
 
-  pub childless : (n : Name) (i : Image) → image_of (content_in s t earlier) n ≡ Some i → i.parent ≢ Some x
-  childless n i is parent =
+  -- a visible image is nobody's parent in it
+  pub childless : r.hidden ≡ false → (n : Name) (i : Image) → image_of (content_in s t earlier) n ≡ Some i → i.parent ≢ Some x
+  childless shown n i is parent =
       let q = row_beside n i is in
       visible_apart s t m r q.0 o there shown (In-tree_row m.rows n q.0 q.1).0 (sym (ap (λ (z : Link). z.parent) q.2) ∙ parent ∙ ap Some (sym named))
 
@@ -159,13 +160,13 @@ pub record IsStopped (s : Site) (t : VolumeTable) (m : Known) (old : Held) (x : 
 module _ (s : Site) (t : VolumeTable) (m : Known) (old : Held) (x : Name) (u : List ℕ) (W : ℕ → List ℕ → Type 0) (image : Sectors) (o : IsOrderly s t m) (ready : IsReady s t old m) (h : IsStopped s t m old x W image)
     (owner : (v : List ℕ) → standing_volume t v ≡ Some x → v ≡ u) where
   no_child : (n : Name) (i : Image) → image_of (content_in s t h.earlier) n ≡ Some i → i.parent ≢ Some x
-  no_child = childless s t m old x image h.earlier h.row o ready h.there h.shown h.named h.might h.others
+  no_child = childless s t m old x image h.earlier h.row o ready h.there h.named h.might h.others h.shown
 
   recorded : (v : List ℕ) → record_of (content_in s t image) v ≡ record_of (content_in s t h.earlier) v
-  recorded = recorded_beside s t m old x image h.earlier h.row o ready h.there h.shown h.named h.might h.others
+  recorded = recorded_beside s t m old x image h.earlier h.row o ready h.there h.named h.might h.others
 
   others_same : (n : Name) → n ≢ x → image_of (content_in s t image) n ≡ image_of (content_in s t h.earlier) n
-  others_same = image_beside s t m old x image h.earlier h.row o ready h.there h.shown h.named h.might h.others
+  others_same = image_beside s t m old x image h.earlier h.row o ready h.there h.named h.might h.others
 
   written_over : IsWrittenOver (content_in s t h.earlier) (content_in s t image) x W
   written_over = record {
@@ -191,7 +192,7 @@ module _ (s : Site) (t : VolumeTable) (m : Known) (old : Held) (x : Name) (u : L
 
   outline_same : outline (content_in s t image) ≡ outline (content_in s t h.earlier)
   outline_same = ap₂ (λ (ls : Name → Option Link) (rs : ℕ → Reading). let l : Outline = record { extent = s.geometry.extent; block = s.geometry.block; entries = s.geometry.entries; table = t; links = ls; readings = rs } in l)
-      (fun_ext link_same) (fun_ext (reading_beside s t m old x image h.earlier h.row o ready h.there h.shown h.named h.might h.others))
+      (fun_ext link_same) (fun_ext (reading_beside s t m old x image h.earlier h.row o ready h.there h.named h.might h.others))
 
   -- the disks are those from after it, but sectors that a stop might have left before
   pub stop_between : (ds : List Disk) (before : Leaving) → HasBytes (disks (content_now s t old)) ds u W → ((other : Sectors) → IsLeft s old other → before t other)
