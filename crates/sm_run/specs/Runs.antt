@@ -1,16 +1,16 @@
 -- A run over a script (this project's format): which lines were read, which of them were answered, and what the sink
 -- got. A script is read byte by byte, and each line's reply goes out whole before the next byte is read. So at every
 -- return all lines that were read whole are answered, but for the last one where its step or its reply failed.
-use Rattle.std.specs.Prelude.{◌≡◌, ◌≢◌, ◌≤◌, ◌^◌, ◌+◌, ◌==◌, ◌⊎◌, ⊤, ℕ, Bool, true, false, List, [], ◌∷◌, ◌++◌, map, length, take, Option, None, Some, IfSome, Result, Ok, Err}
+use Rattle.std.specs.Prelude.{◌≡◌, ◌≢◌, ◌≤◌, ◌^◌, ◌+◌, ◌==◌, ◌⊎◌, ⊤, ℕ, Bool, true, false, nat_lt, List, [], ◌∷◌, ◌++◌, map, length, take, Option, None, Some, IfSome, Result, Ok, Err}
 use Rattle.sm_base.specs.declared.operations.Plan.{Plan}
 use Rattle.sm_base.specs.declared.operations.Plan.TheVariants as plan
 use Rattle.sm_disk.specs.Streams.{Takes, Adds}
 use Rattle.sm_machine.specs.Collector.{next_step}
 use Rattle.sm_machine.specs.declared.commands.Command.{Command}
-use Rattle.sm_machine.specs.declared.commands.Command.TheVariants.{Gc}
+use Rattle.sm_machine.specs.declared.commands.Command.TheVariants.{Gc, Resize}
 use Rattle.sm_machine.specs.Disks.{Disk}
 use Rattle.sm_machine.specs.Lines.{lines, spelled}
-use Rattle.sm_machine.specs.Refusals.{refusal}
+use Rattle.sm_machine.specs.Refusals.{need, refusal}
 use Rattle.sm_machine.specs.Runs.{Turn, taken, after_run, replies, takes_memory, IsAsAfter, IsAsDuring}
 use Rattle.sm_machine.specs.Shapes.{Shape}
 use Rattle.sm_machine.specs.Steps.{State}
@@ -47,10 +47,11 @@ begins (plan.Begin child parent to) = true
 begins (plan.Leaf leaf parent to) = true
 begins _ = false
 
--- Whether want of memory may take the place of a command's answer in this shape: its step takes memory, and a step of the
--- collector begins to fold an image.
+-- Whether want of memory may take the place of a command's answer in this shape: its step takes memory, a step of the collector begins
+-- to fold an image, and a disk that gets larger needs extents for that.
 unfoldable pub may_want_memory : Shape → Command → Bool
 may_want_memory s Gc = begins (next_step s)
+may_want_memory s (Resize u size) = nat_lt 0 (need s (Resize u size))
 may_want_memory s c = takes_memory c
 
 -- A line to which memory was wanting spells a command that no cause refuses in this state, and whose answer want of memory may

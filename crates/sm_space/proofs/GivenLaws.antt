@@ -1,23 +1,14 @@
 -- What was planned of extents for a command holds behind the folding of a leaf that is given up.
-use Rattle.std.proofs.Common.{◌≡◌, ℕ, ◌+◌, ◌-◌, ◌<◌, Bool, true, false, List, [], ◌∷◌, Option, Some, None, refl, sym, ap, ap₂, ◌∙◌, subst, subst₂, arith, cond}
-use Rattle.std.specs.Str.{bytes_eq}
-use Rattle.sm_base.specs.declared.names.Name.{Name}
-use Rattle.sm_base.specs.declared.names.Name.TheVariants.{Leaf, Vhd}
-use Rattle.sm_base.specs.declared.operations.Op.{Op}
-use Rattle.sm_base.specs.declared.operations.Op.TheVariants as op
-use Rattle.vg_meta.specs.Changes.{applied}
+use Rattle.std.proofs.Common.{◌≡◌, ℕ, ◌+◌, ◌-◌, ◌<◌, Bool, true, false, List, Option, Some, None, refl, sym, ap, ap₂, ◌∙◌, subst, subst₂, arith}
+use Rattle.sm_base.specs.declared.names.Name.TheVariants.{Vhd}
 use Rattle.vg_meta.specs.Tables.{VolumeTable}
 use Rattle.vg_meta.specs.declared.changes.Change.{Change}
-use Rattle.vg_meta.specs.declared.changes.Change.TheVariants.{Remove}
-use Rattle.vg_volumes.specs.Stored.{Commits}
 use Rattle.vg_volumes.specs.declared.stores.Store.{Ghosts}
 use Rattle.vhd_chain.specs.Trees.{Tree, tree_row}
 use Rattle.sm_machine.specs.Commits.{folds}
 use Rattle.sm_machine.specs.Refusals.{need}
-use Rattle.sm_machine.specs.Shapes.{image_uuid}
 use Rattle.sm_machine.specs.declared.commands.Command.{Command}
 use Rattle.sm_ready.specs.Does.{store_shape}
-use Rattle.sm_ready.specs.Known.{entry_of}
 use Rattle.sm_ready.specs.declared.memory.Memory.{Memory}
 use Rattle.sm_ready.proofs.ChainLaws.{tab}
 use Rattle.gc_abandon.specs.Abandoning.{abandoned_where, is_own, unfolded_table}

@@ -1,5 +1,5 @@
 -- A disk whose image has its extents gets a greater size: memory and shape with it.
-use Rattle.std.proofs.Common.{◌≡◌, ◌≢◌, ◌⊎◌, inl, inr, ⊎_elim, ℕ, ◌+◌, ◌*◌, ◌/◌, ◌≤◌, not, max, ◌&&◌, nat_lt, ◌==◌, Bool, true, false, List, [], map, Option, Some, None, refl, sym, ap, ap₂, ◌∙◌, subst, arith}
+use Rattle.std.proofs.Common.{◌≡◌, ◌≢◌, inl, inr, ⊎_elim, ℕ, ◌+◌, ◌*◌, ◌/◌, ◌≤◌, not, max, nat_lt, ◌==◌, Bool, true, false, List, [], map, Option, Some, None, refl, sym, ap, ◌∙◌, subst, arith}
 use Rattle.std.proofs.Math.Logic.{∥∥₁_elim, ∥∥₁_map}
 use Rattle.std.proofs.Math.Nat.{le_of_mul-le-mul_right, mul-div_cancel}
 use Rattle.std.proofs.Props.{props}
@@ -23,61 +23,35 @@ use Rattle.sm_ready.specs.Ready.{IsFirm}
 use Rattle.common_laws.proofs.Lists.{In-map, In-map_at}
 use Rattle.vg_meta.specs.Tables.{VolumeTable}
 use Rattle.vg_volumes.specs.Sites.{Site}
-use Rattle.vhd_image.specs.Bodies.{IsVhd, StandsIn, parent_name, sector_count, volume_name}
-use Rattle.vhd_image.specs.Changes.{resized}
+use Rattle.vhd_image.specs.Bodies.{IsVhd, StandsIn, sector_count}
 use Rattle.vhd_image.specs.Made.{IsDiskSize}
-use Rattle.vhd_image.proofs.ChangeLaws.{resize-stands}
-use Rattle.vhd_image.specs.declared.images.Body.{Body}
-use Rattle.vhd_image.specs.declared.images.Body.TheVariants as body
-use Rattle.vhd_chain.specs.Reading.{slots_of}
 use Rattle.vhd_chain.specs.Trees.{row_name, tree_row, with_replaced}
 use Rattle.vhd_chain.specs.declared.rows.TreeRow.{TreeRow}
 use Rattle.sm_machine.specs.declared.commands.Command.TheVariants.{Resize}
 use Rattle.sm_machine.specs.Commits.{folds, gives_up, growth_commits, is_given_up, own_commits}
 use Rattle.sm_machine.specs.Collector.{count_either}
-use Rattle.sm_machine.specs.Laws.{IsSeenAlike}
 use Rattle.sm_machine.specs.Refusals.{is_bad_size, is_raw_disk, is_shrink, lacking_larger, named, need, of_some, refusal, rounded, with_image_of}
-use Rattle.sm_machine.specs.Shapes.{DiskRecord, ImageRow, Shape, image_uuid, is_image_of, is_vhd, refs, thin_in, top}
+use Rattle.sm_machine.specs.Shapes.{ImageRow, Shape, image_uuid, is_image_of, is_vhd, thin_in, top}
 use Rattle.sm_machine.specs.Steps.{shape_after, shape_next}
 use Rattle.sm_machine.specs.WellFormed.{IsWellFormed}
 use Rattle.sm_machine.proofs.Attaches.{is_its_image}
+use Rattle.sm_machine.proofs.Changes.{when-key}
 use Rattle.sm_machine.proofs.Guests.{disk_image_is}
 use Rattle.sm_machine.proofs.Passed.{passed}
 use Rattle.sm_machine.proofs.Steps.{step_keeps_shape}
-use Rattle.sm_machine.proofs.Uses.{changed_uses}
 use Rattle.sm_space.proofs.GrowLaws.{map_alike}
-use Rattle.sm_ready.specs.Known.{Known, is_shown, machine_row, records_in, shape_in}
+use Rattle.sm_ready.specs.Known.{Known, machine_row, shape_in}
 use Rattle.sm_ready.specs.Orderly.{IsOrderly, IsRoomyFor, IsRoomyIn}
-use Rattle.sm_ready.specs.Ready.{IsTidy}
 use Rattle.sm_ready.proofs.KeptLaws.{vhd_named}
-use Rattle.sm_ready.proofs.Orders.{HasHead, geometry_of, vhd_row}
+use Rattle.sm_ready.proofs.Orders.{HasHead, vhd_row}
 use Rattle.sm_ready.proofs.OwnLaws.{IsOwn, next_shape, other_image, own_image, own_name as named_own, own_row, step_shape}
-use Rattle.sm_ready.proofs.PutBackLaws.{any_replaced, face_replaced, map_replaced, of_rows}
+use Rattle.sm_ready.proofs.SizedRows.{orderly_sized, rows_sized, sized, sized_name, stands_sized}
+use Rattle.sm_ready.proofs.SizedRows as in_rows
 use Rattle.sm_ready.proofs.TruthLaws.{row_found}
 use Rattle.sm_ready.proofs.ApartLaws as apart
 use Rattle.sm_ready.proofs.KeptLaws.{relink_large}
 use Rattle.sm_ready.proofs.OperationLaws.{WorksAt}
 use Rattle.sm_ready.proofs.SoundLaws.{sound}
-use Rattle.sm_ready.proofs.ShapeLaws.{shown_same}
-
--- the row with an image of this size
-abbrev pub sized : ℕ → TreeRow → TreeRow
-sized sectors r = record r { image = resized sectors r.image }
-
-pub sized_name : (sectors : ℕ) (b : Body) → volume_name (resized sectors b) ≡ volume_name b
-sized_name sectors (body.Raw n k) = refl
-sized_name sectors (body.Vhd head m) = refl
-
-pub sized_parts : (sectors : ℕ) (b : Body) → IsVhd b → (sector_count (resized sectors b) ≡ sectors) × (parent_name (resized sectors b) ≡ parent_name b) × (slots_of (resized sectors b) ≡ slots_of b)
-sized_parts sectors (body.Raw n k) vhd = absurd vhd
-sized_parts sectors (body.Vhd head m) vhd = (omega arith, refl, refl)
-
--- the machine's image of a row that gets this size, shown or hidden
-pub image_sized : (sectors : ℕ) (r : TreeRow) → IsVhd r.image → machine_row (sized sectors r) ≡ record (machine_row r) { size = sectors }
-image_sized sectors r vhd =
-    let is = sized_parts sectors r.image vhd in
-    ap₂ (λ (n : Name) (p : Option Name). let i : ImageRow = record { name = n; hidden = r.hidden; parent = p; size = sector_count (sized sectors r).image; slots = slots_of (sized sectors r).image; extents = r.extents } in i) (sized_name sectors r.image) is.1
-    ∙ ap₂ (λ (k : ℕ) (l : List (Option ℕ)). let i : ImageRow = record (machine_row r) { size = k; slots = l } in i) is.0 is.2
 
 -- the disk that gets a size: its visible image is in this row
 pub record IsToResize (s : Site) (t : VolumeTable) (m : Known) (u : List ℕ) (bytes : ℕ) (r : TreeRow) : Type 0 where
@@ -164,16 +138,8 @@ module _ {s : Site} {t : VolumeTable} {m : Known} {u : List ℕ} {bytes : ℕ} {
   abbrev with_size : ImageRow → ImageRow
   with_size i = record i { size = sectors }
 
-  images_sized : IsWellFormed σ → map machine_row grown.rows ≡ change (is_image_of u) with_size (map machine_row m.rows)
-  images_sized w = map_replaced s t m h.orderly own next h.there (sized_name sectors own.image) machine_row (λ y. when (is_image_of u y) with_size y)
-      (image_sized sectors own own_vhd ∙ sym (ap (λ b. when b with_size (machine_row own)) own_is)) (λ p i other. sym (ap (λ b. when b with_size (machine_row p)) (other_image s t m u own w h.there h.uuid p i other)))
-
-  shown_sized : (v : List ℕ) → is_shown grown.rows v ≡ is_shown m.rows v
-  shown_sized v = any_replaced s t m h.orderly own next h.there (sized_name sectors own.image) (λ x. is_image_of v (machine_row x)) (ap (λ n. not own.hidden && bytes_eq (image_uuid n) v) (sized_name sectors own.image))
-
   shape_with : IsWellFormed σ → shape_in s t grown ≡ record σ { images = change (is_image_of u) with_size σ.images }
-  unfolding shape_in
-  shape_with w = ap₂ (λ (rs : List DiskRecord) (xs : List ImageRow). record σ { records = rs; images = xs }) (ap (λ ps. records_in ps) (shown_same grown.rows m.rows m.places shown_sized)) (images_sized w)
+  shape_with w = in_rows.shape_sized s t m h.orderly own h.there sectors (is_image_of u) own_vhd own_is (λ p i other. other_image s t m u own w h.there h.uuid p i other)
 
   shape_plain : shape_in s t grown ≡ record σ { images = change (is_image_of u) with_size σ.images }
   shape_plain = ∥∥₁_elim h.orderly.well_formed (hlevel props) shape_with
@@ -196,21 +162,6 @@ module _ {s : Site} {t : VolumeTable} {m : Known} {u : List ℕ} {bytes : ℕ} {
   shape_sized = ∥∥₁_elim h.orderly.well_formed (hlevel props) (λ w. shape_with w ∙ ap (λ is. let x : Shape = record σ { images = is } in x) (images_alike w)
       ∙ sym (next_shape σ (Resize u bytes) w h.kept_up (ap (λ k. growth_commits (nat_lt 0 k)) h.enough)))
 
-  seen_alike : IsSeenAlike (λ y. when (is_image_of u y) with_size y)
-  seen_alike = record { name = λ y. name_by (is_image_of u y) y; hidden = λ y. hidden_by (is_image_of u y) y; parent = λ y. parent_by (is_image_of u y) y }
-    where
-      name_by : (b : Bool) (y : ImageRow) → (when b with_size y).name ≡ y.name
-      name_by true y = refl
-      name_by false y = refl
-
-      hidden_by : (b : Bool) (y : ImageRow) → (when b with_size y).hidden ≡ y.hidden
-      hidden_by true y = refl
-      hidden_by false y = refl
-
-      parent_by : (b : Bool) (y : ImageRow) → (when b with_size y).parent ≡ y.parent
-      parent_by true y = refl
-      parent_by false y = refl
-
   roomy_for : (v p : Name) → IsRoomyFor σ v p → IsRoomyFor (record σ { images = change (is_image_of u) with_size σ.images }) v p
   roomy_for v p room i q hi hq is under vhd =
       let y = In-map (λ x. when (is_image_of u x) with_size x) σ.images i hi in
@@ -219,24 +170,12 @@ module _ {s : Site} {t : VolumeTable} {m : Known} {u : List ℕ} {bytes : ℕ} {
     where
       by : (a b : Bool) (y z : ImageRow) → In y σ.images → In z σ.images → i ≡ when a with_size y → q ≡ when b with_size z → thin_in σ (max (top q.slots) (count_either q.slots i.slots)) ≤ q.extents
       by a b y z hy hz iy qz =
-          let slots_i : i.slots ≡ y.slots = ap (λ (x : ImageRow). x.slots) iy ∙ slots_by a y in
-          let slots_q : q.slots ≡ z.slots = ap (λ (x : ImageRow). x.slots) qz ∙ slots_by b z in
-          let extents_q : q.extents ≡ z.extents = ap (λ (x : ImageRow). x.extents) qz ∙ extents_by b z in
-          let h = room y z hy hz (sym (ap (λ (x : ImageRow). x.name) iy ∙ name_by a y) ∙ is) (sym (ap (λ (x : ImageRow). x.name) qz ∙ name_by b z) ∙ under) vhd in
+          let slots_i : i.slots ≡ y.slots = ap (λ (x : ImageRow). x.slots) iy ∙ when-key (λ (x : ImageRow). x.slots) with_size (λ x. refl) a y in
+          let slots_q : q.slots ≡ z.slots = ap (λ (x : ImageRow). x.slots) qz ∙ when-key (λ (x : ImageRow). x.slots) with_size (λ x. refl) b z in
+          let extents_q : q.extents ≡ z.extents = ap (λ (x : ImageRow). x.extents) qz ∙ when-key (λ (x : ImageRow). x.extents) with_size (λ x. refl) b z in
+          let h = room y z hy hz (sym (ap (λ (x : ImageRow). x.name) iy ∙ when-key (λ (x : ImageRow). x.name) with_size (λ x. refl) a y) ∙ is) (sym (ap (λ (x : ImageRow). x.name) qz ∙ when-key (λ (x : ImageRow). x.name) with_size (λ x. refl) b z) ∙ under) vhd in
           subst (λ k. thin_in σ (max (top q.slots) (count_either q.slots i.slots)) ≤ k) (sym extents_q)
           (subst (λ (l : List (Option ℕ)). thin_in σ (max (top l) (count_either l i.slots)) ≤ z.extents) (sym slots_q) (subst (λ (l : List (Option ℕ)). thin_in σ (max (top z.slots) (count_either z.slots l)) ≤ z.extents) (sym slots_i) h))
-        where
-          slots_by : (c : Bool) (x : ImageRow) → (when c with_size x).slots ≡ x.slots
-          slots_by true x = refl
-          slots_by false x = refl
-
-          extents_by : (c : Bool) (x : ImageRow) → (when c with_size x).extents ≡ x.extents
-          extents_by true x = refl
-          extents_by false x = refl
-
-          name_by : (c : Bool) (x : ImageRow) → (when c with_size x).name ≡ x.name
-          name_by true x = refl
-          name_by false x = refl
 
   roomy_sized : (o : Op) → IsRoomyIn σ o → IsRoomyIn (record σ { images = change (is_image_of u) with_size σ.images }) o
   roomy_sized op.Idle room = tt
@@ -244,36 +183,12 @@ module _ {s : Site} {t : VolumeTable} {m : Known} {u : List ℕ} {bytes : ℕ} {
   roomy_sized (op.Relink v p) room = tt
   roomy_sized (op.Leaf l p cursor) room = roomy_for l p room
 
-  -- a row of it is one from before of another name, or the new one
-  pub rows_sized : (x : TreeRow) → In x grown.rows → (In x m.rows × (row_name x ≢ row_name own)) ⊎ (x ≡ next)
-  rows_sized = of_rows s t m h.orderly own next h.there (sized_name sectors own.image)
-
   -- memory is orderly with it
-  pub orderly_sized : StandsIn s.geometry (own.extents * s.geometry.extent) next.image → IsOrderly s t grown
+  pub orderly_grown : StandsIn s.geometry (own.extents * s.geometry.extent) next.image → IsOrderly s t grown
   unfolding shape_in
-  orderly_sized stands =
-      let o = h.orderly in
-      record {
-        table = o.table;
-        few_extents = o.few_extents;
-        record_volume = o.record_volume;
-        few = o.few;
-        new_named = o.new_named;
-        images = λ n is. o.images n is ∙ sym (face_replaced s t m o own next h.there (sized_name sectors own.image) refl refl n);
-        places = o.places;
-        entries = o.entries;
-        stands = λ x i. ⊎_elim (λ old. o.stands x old.0) (λ new. subst (λ (y : TreeRow). StandsIn s.geometry (y.extents * s.geometry.extent) y.image) (sym new) stands) (rows_sized x i);
-        well_formed = ∥∥₁_map o.well_formed (λ w. subst IsWellFormed (step_shape (record { disks = []; shape = σ }) (Resize u bytes) h.passes ∙ sym shape_sized) (step_keeps_shape (record { disks = []; shape = σ }) (Resize u bytes) w));
-        roomy = subst (λ (τ : Shape). IsRoomyIn τ m.op) (sym shape_plain) (roomy_sized m.op o.roomy);
-        counts = λ n. o.counts n ∙ sym (uses_same n);
-      }
-    where
-      uses_same : (n : Name) → refs n (shape_in s t grown) ≡ refs n σ
-      uses_same n = ap (refs n) shape_plain ∙ changed_uses σ (λ y. when (is_image_of u y) with_size y) n seen_alike
-
-  -- no record is stray
-  pub tidy_sized : IsTidy t m → IsTidy t grown
-  tidy_sized tidy = record { none_new = tidy.none_new; no_stray = λ r i. shown_sized r.uuid ∙ tidy.no_stray r i }
+  orderly_grown stands = orderly_sized s t m h.orderly own h.there sectors (is_image_of u) shape_plain stands
+      (∥∥₁_map h.orderly.well_formed (λ w. subst IsWellFormed (step_shape (record { disks = []; shape = σ }) (Resize u bytes) h.passes ∙ sym shape_sized) (step_keeps_shape (record { disks = []; shape = σ }) (Resize u bytes) w)))
+      (subst (λ (τ : Shape). IsRoomyIn τ m.op) (sym shape_plain) (roomy_sized m.op h.orderly.roomy))
 
   -- the size is a disk's
   pub size_proper : IsDiskSize s.geometry sectors
@@ -291,10 +206,8 @@ module _ {s : Site} {t : VolumeTable} {m : Known} {u : List ℕ} {bytes : ℕ} {
       }
 
   -- and the image stands with it
-  pub stands_sized : StandsIn s.geometry (own.extents * s.geometry.extent) next.image
-  stands_sized = subst (λ b. StandsIn s.geometry (own.extents * s.geometry.extent) (resized sectors b)) (sym own_head.is)
-      (resize-stands s.geometry (own.extents * s.geometry.extent) own_head.head own_head.slots sectors (geometry_of s t m h.orderly) size_proper (subst (λ b. sector_count b ≤ sectors) own_head.is no_less)
-      (subst (StandsIn s.geometry (own.extents * s.geometry.extent)) own_head.is (h.orderly.stands own h.there)))
+  pub stands_grown : StandsIn s.geometry (own.extents * s.geometry.extent) next.image
+  stands_grown = stands_sized s t m h.orderly own h.there sectors own_head size_proper no_less
 
   -- ---- the operation works at other images
 
@@ -308,7 +221,7 @@ module _ {s : Site} {t : VolumeTable} {m : Known} {u : List ℕ} {bytes : ℕ} {
   was_there x i other =
       let z = In-map machine_row grown.rows x i in
       ⊎_elim (λ old. subst (λ y. In y (map machine_row m.rows)) (sym z.2) (In-map_at machine_row m.rows z.0 old.0))
-      (λ new. absurd (other (ap (λ (y : ImageRow). y.name) z.2 ∙ ap row_name new ∙ sized_name sectors own.image))) (rows_sized z.0 z.1)
+      (λ new. absurd (other (ap (λ (y : ImageRow). y.name) z.2 ∙ ap row_name new ∙ sized_name sectors own.image))) (rows_sized s t m h.orderly own h.there sectors z.0 z.1)
 
   -- no check fails of memory with the new size
   pub sound_sized : (area : Held) → IsFirm s t area m → IsOrderly s t grown → fault_of (outline_in s t grown) ≡ None

@@ -1,6 +1,6 @@
 //! A disk gets larger.
 
-ghost use Rattle.std.specs.Prelude.{◌≡◌, ◌<◌, ◌+◌, ◌*◌, ℕ, List, false, Err, IfOk, OnOk};
+ghost use Rattle.std.specs.Prelude.{◌≡◌, ◌<◌, ◌+◌, ◌*◌, ℕ, List, false, Err, IfOk, OnErr, OnOk};
 ghost use Rattle.std.specs.Result.{IsOk};
 ghost use Rattle.sm_base.specs.declared.faults.CallFault.TheVariants as fault;
 ghost use Rattle.sm_base.specs.declared.names.Name.TheVariants.{Vhd};
@@ -168,6 +168,7 @@ fn plan_larger<S: Store>(
     ensures table { table_alone (S.table store.new) ≡ table_alone (S.table store.old) }
     ensures leaves { (t : VolumeTable) (image : ℕ → List ℕ) → S.leaves store.new t image → S.leaves store.old t image }
     ensures growth { IfOk result (λ growth. HasGrowth S.Store store.new memory.now (command.Resize disk.now size) disk.now growth) }
+    ensures wants { OnErr result (0 < needed (store_shape S.Store store.old memory.now) (command.Resize disk.now size)) }
 {
     let geometry = store.geometry();
     let lacking = need(memory, &geometry, &Command::Resize { disk: *disk, size });
@@ -190,7 +191,7 @@ fn plan_larger<S: Store>(
 ///
 /// # Errors
 ///
-/// `NoMemory` where memory ran out, and nothing was written; `Device` where a call of the store failed: a stop leaves the disk of the
+/// `NoMemory` where memory ran out for the extents that the image lacks, and nothing was written; `Device` where a call of the store failed: a stop leaves the disk of the
 /// one size or of the other.
 pub fn resize<S: Store>(
     alloc: Global,
@@ -207,6 +208,7 @@ pub fn resize<S: Store>(
     ensures poor { result ≡ Err fault.NoMemory
         → OnlyReads S.Store store.old store.new × ((t : VolumeTable) (image : ℕ → List ℕ) → S.leaves store.new t image → S.leaves store.old t image)
         × (memory.new ≡ memory.old) }
+    ensures wants { result ≡ Err fault.NoMemory → 0 < needed (store_shape S.Store store.old memory.old) (command.Resize disk.now size) }
     ensures others { (memory.new.records ≡ memory.old.records) × (memory.new.attached ≡ memory.old.attached) }
     ensures tree { OnOk result (IsBesideTree (record memory.old { operation = memory.new.operation }) memory.new) }
     ensures operation { OnOk result (memory.new.operation ≡ unfolded memory.old.operation disk.now) }

@@ -4,6 +4,7 @@ use Rattle.std.proofs.lemmas.Bool.{true≢false}
 use Rattle.vg_meta.specs.Roomy.{table_alone}
 use Rattle.sm_machine.specs.declared.commands.Command.TheVariants as command
 use Rattle.sm_machine.proofs.Passed.{passed}
+use Rattle.sm_mgt.proofs.ClearLaws.{on_err}
 use Rattle.sm_ready.specs.Known.{known, shape_in}
 use Rattle.sm_base.specs.declared.names.Name.TheVariants.{Vhd}
 use Rattle.vhd_chain.specs.Trees.{tree_row}
@@ -69,3 +70,8 @@ returns-clause-growth g c =
       row = e.row;
       places = e.places;
     }
+
+pub returns-in_err-growth-clause-wants : goal.returns-in_err-growth-clause-wants
+returns-in_err-growth-clause-wants g c =
+    let is = c.need-lacking.ensures (g.S.Store.site c.args.store.now) (table_alone (g.S.Store.table c.args.store.now)) (sym c.geometry-geometry.ensures) c.requires.session.orderly c.requires.session.tidy (passed _ (command.Resize c.args.disk.now c.args.size) c.requires.allowed).bad_size in
+    on_err c.from_residual.result (subst (λ n. 0 < n) is (positive c.need-lacking.result c.if-lacking-eq0.false))

@@ -15,8 +15,10 @@ use Rattle.sm_ready.proofs.PutBackLaws.{row_proper, spared}
 use Rattle.sm_ready.proofs.RoomLaws.{rows_stays}
 use Rattle.sm_ready.proofs.TakenLaws.{is_told}
 use Rattle.sm_ready.proofs.TruthLaws.{row_stands, row_true}
-use Rattle.sm_space.proofs.ResizeLaws.{grown, named_here, no_less, none_found, orderly_sized, own_vhd, sectors, shape_sized, size_proper, stands_sized, tidy_sized, to_resize}
-use Rattle.sm_space.proofs.ResizedLaws.{IsToResizeIn, beside_resized, bytes_fit, changes_as, memory_resized, never_ok, resized_done, resized_failed, resized_unsettled, rows_back, same_name, steady_resized, true_resized, with_image}
+use Rattle.sm_ready.proofs.GrownStores.{true_sized}
+use Rattle.sm_ready.proofs.SizedRows.{beside_resized, rows_back, same_name, tidy_sized, with_image}
+use Rattle.sm_space.proofs.ResizeLaws.{grown, named_here, no_less, none_found, orderly_grown, own_vhd, sectors, shape_sized, size_proper, stands_grown, to_resize}
+use Rattle.sm_space.proofs.ResizedLaws.{IsToResizeIn, bytes_fit, changes_as, memory_resized, never_ok, resized_done, resized_failed, resized_unsettled}
 use Rattle.sm_space.proofs.resizing.set_sizes.Given.{Over}
 use Rattle.sm_space.proofs.resizing.set_sizes.Goals as goal
 
@@ -61,9 +63,9 @@ unwritten g c = to_resize _ _ (known c.args.memory.now) c.args.disk.now c.args.s
 
 pub returns-in_err-sized-clause-others : goal.returns-in_err-sized-clause-others
 returns-in_err-sized-clause-others g c = beside_resized c.args.memory.now _ (with_image c.set_size-sized.new.self c.in-Some.row) (
-    rows_back g.S.Store c.args.store.now c.args.memory.now c.args.disk.now c.args.size c.in-Some.row c.set_size-sized.new.self (unwritten g c)
-    (named_here _ _ (known c.args.memory.now) c.args.disk.now c.args.size _ _ c.requires.session.orderly c.requires.allowed c.image_name-name.ensures c.take.ensures.taken c.in-Some.row c.in-Some.is)
+    rows_back _ _ (known c.args.memory.now) c.requires.session.orderly c.in-Some.row (unwritten g c).there c.set_size-sized.new.self
     (same_name c.set_size-sized.result c.rounded-sectors.result c.in-Some.row.image c.set_size-sized.new.self c.set_size-sized.ensures.new_size c.set_size-sized.ensures.unchanged)
+    (named_here _ _ (known c.args.memory.now) c.args.disk.now c.args.size _ _ c.requires.session.orderly c.requires.allowed c.image_name-name.ensures c.take.ensures.taken c.in-Some.row c.in-Some.is)
     c.take.ensures.rows c.add.ensures.rows
     ) (spared c.take.ensures.some c.in-Some.is c.add.ensures.spare) refl refl refl
 
@@ -72,7 +74,7 @@ returns-in_err-sized-clause-done g c = λ told ready.
     resized_failed g.S.Store c.args.store.now c.set_size-sized.new.store c.args.memory.now c.args.disk.now c.args.size c.in-Some.row (unwritten g c) c.set_size-sized.ensures.works
     (is_told g.S.Store c.args.store.now c.args.memory.now c.requires.session.orderly c.requires.session.usable told ready (g.met.S.Store.leaves_now c.args.store.now told c.requires.session.usable))
     (changes_as g.S.Store c.args.store.now c.set_size-sized.new.store c.in-Some.row.image (c.rounded-sectors.ensures _ _ (known c.args.memory.now) (sym c.geometry.ensures)) c.set_size-sized.ensures.changes) (g.met.S.Store.leaves_now c.set_size-sized.new.store told (c.set_size-sized.ensures.works.stays.failed ∙ c.requires.session.usable))
-    (stands_sized (unwritten g c)) _ _ (λ fine. never_ok _ c.from_residual.ensures.0 fine)
+    (stands_grown (unwritten g c)) _ _ (λ fine. never_ok _ c.from_residual.ensures.0 fine)
 
 -- the disk, in the row that was taken out: where the sync failed
 abbrev unsynced : (g : Over) (c : goal.After-from_residual-in_err-sync g) → IsToResizeIn g.S.Store c.args.store.now c.args.memory.now c.args.disk.now c.args.size c.in-Some.row
@@ -83,9 +85,9 @@ returns-in_err-sync-clause-stays g c = let e = c.sync.ensures in stays_then c.se
 
 pub returns-in_err-sync-clause-others : goal.returns-in_err-sync-clause-others
 returns-in_err-sync-clause-others g c = beside_resized c.args.memory.now _ (with_image c.set_size-sized.new.self c.in-Some.row) (
-    rows_back g.S.Store c.args.store.now c.args.memory.now c.args.disk.now c.args.size c.in-Some.row c.set_size-sized.new.self (unsynced g c)
-    (named_here _ _ (known c.args.memory.now) c.args.disk.now c.args.size _ _ c.requires.session.orderly c.requires.allowed c.image_name-name.ensures c.take.ensures.taken c.in-Some.row c.in-Some.is)
+    rows_back _ _ (known c.args.memory.now) c.requires.session.orderly c.in-Some.row (unsynced g c).there c.set_size-sized.new.self
     (same_name c.set_size-sized.result c.rounded-sectors.result c.in-Some.row.image c.set_size-sized.new.self c.set_size-sized.ensures.new_size c.set_size-sized.ensures.unchanged)
+    (named_here _ _ (known c.args.memory.now) c.args.disk.now c.args.size _ _ c.requires.session.orderly c.requires.allowed c.image_name-name.ensures c.take.ensures.taken c.in-Some.row c.in-Some.is)
     c.take.ensures.rows c.add.ensures.rows
     ) (spared c.take.ensures.some c.in-Some.is c.add.ensures.spare) refl refl refl
 
@@ -94,7 +96,7 @@ returns-in_err-sync-clause-done g c = λ told ready.
     resized_unsettled g.S.Store c.args.store.now c.set_size-sized.new.store c.args.memory.now c.args.disk.now c.args.size c.in-Some.row (unsynced g c) c.set_size-sized.ensures.works
     (is_told g.S.Store c.args.store.now c.args.memory.now c.requires.session.orderly c.requires.session.usable told ready (g.met.S.Store.leaves_now c.args.store.now told c.requires.session.usable))
     (changes_as g.S.Store c.args.store.now c.set_size-sized.new.store c.in-Some.row.image (c.rounded-sectors.ensures _ _ (known c.args.memory.now) (sym c.geometry.ensures)) c.set_size-sized.ensures.changes) (g.met.S.Store.leaves_now c.set_size-sized.new.store told (c.set_size-sized.ensures.works.stays.failed ∙ c.requires.session.usable))
-    (stands_sized (unsynced g c)) c.sync.new.self
+    (stands_grown (unsynced g c)) c.sync.new.self
     (record { site = c.sync.ensures.site; table = c.sync.ensures.table.0; failed = c.sync.ensures.table.1; keeps = c.sync.ensures.keeps told; leaves = c.sync.ensures.leaves told })
     _ _ (λ fine. never_ok _ c.from_residual-in_err-sync.ensures.0 fine)
 
@@ -108,9 +110,9 @@ new_is g c = c.in_ok-sized.ensures.new_size ∙ ap (λ k. resized k c.in-Some.ro
 
 memory_is : (g : Over) (c : goal.In_ok-sync g) → record (known c.args.memory.now) { rows = c.add.new.self.rows } ≡ grown (lasting g c)
 memory_is g c = memory_resized g.S.Store c.args.store.now c.args.memory.now c.args.disk.now c.args.size c.in-Some.row c.set_size-sized.new.self (lasting g c) c.add.new.self.rows (
-    rows_back g.S.Store c.args.store.now c.args.memory.now c.args.disk.now c.args.size c.in-Some.row c.set_size-sized.new.self (lasting g c)
-    (named_here _ _ (known c.args.memory.now) c.args.disk.now c.args.size _ _ c.requires.session.orderly c.requires.allowed c.image_name-name.ensures c.take.ensures.taken c.in-Some.row c.in-Some.is)
+    rows_back _ _ (known c.args.memory.now) c.requires.session.orderly c.in-Some.row (lasting g c).there c.set_size-sized.new.self
     (same_name c.set_size-sized.result c.rounded-sectors.result c.in-Some.row.image c.set_size-sized.new.self c.set_size-sized.ensures.new_size c.set_size-sized.ensures.unchanged)
+    (named_here _ _ (known c.args.memory.now) c.args.disk.now c.args.size _ _ c.requires.session.orderly c.requires.allowed c.image_name-name.ensures c.take.ensures.taken c.in-Some.row c.in-Some.is)
     c.take.ensures.rows c.add.ensures.rows
     ) (new_is g c)
 
@@ -119,9 +121,9 @@ returns-clause-stays g c = let e = c.sync.ensures in stays_then c.set_size-sized
 
 pub returns-clause-others : goal.returns-clause-others
 returns-clause-others g c = beside_resized c.args.memory.now _ (with_image c.set_size-sized.new.self c.in-Some.row) (
-    rows_back g.S.Store c.args.store.now c.args.memory.now c.args.disk.now c.args.size c.in-Some.row c.set_size-sized.new.self (lasting g c)
-    (named_here _ _ (known c.args.memory.now) c.args.disk.now c.args.size _ _ c.requires.session.orderly c.requires.allowed c.image_name-name.ensures c.take.ensures.taken c.in-Some.row c.in-Some.is)
+    rows_back _ _ (known c.args.memory.now) c.requires.session.orderly c.in-Some.row (lasting g c).there c.set_size-sized.new.self
     (same_name c.set_size-sized.result c.rounded-sectors.result c.in-Some.row.image c.set_size-sized.new.self c.set_size-sized.ensures.new_size c.set_size-sized.ensures.unchanged)
+    (named_here _ _ (known c.args.memory.now) c.args.disk.now c.args.size _ _ c.requires.session.orderly c.requires.allowed c.image_name-name.ensures c.take.ensures.taken c.in-Some.row c.in-Some.is)
     c.take.ensures.rows c.add.ensures.rows
     ) (spared c.take.ensures.some c.in-Some.is c.add.ensures.spare) refl refl refl
 
@@ -137,14 +139,14 @@ returns-clause-session_still g c =
     record {
       usable = stays.failed ∙ r.usable;
       orderly = subst (λ k. IsOrderly (g.S.Store.site c.sync.new.self) (table_alone (g.S.Store.table c.sync.new.self)) k) (sym (memory_is g c))
-          (subst₂ (λ s t. IsOrderly s t (grown (lasting g c))) (sym stays.site) (sym stays.table) (orderly_sized (lasting g c) (stands_sized (lasting g c))));
+          (subst₂ (λ s t. IsOrderly s t (grown (lasting g c))) (sym stays.site) (sym stays.table) (orderly_grown (lasting g c) (stands_grown (lasting g c))));
       tidy = subst (λ k. IsTidy (table_alone (g.S.Store.table c.sync.new.self)) k) (sym (memory_is g c))
-          (subst (λ t. IsTidy t (grown (lasting g c))) (sym stays.table) (tidy_sized (lasting g c) r.tidy));
+          (subst (λ t. IsTidy t (grown (lasting g c))) (sym stays.table) (tidy_sized _ _ (known c.args.memory.now) r.orderly c.in-Some.row (lasting g c).there (sectors (lasting g c)) r.tidy));
       true_images =
-          true_resized g.S.Store c.args.store.now c.set_size-sized.new.store c.args.memory.now c.args.disk.now c.args.size c.in-Some.row (lasting g c) c.set_size-sized.ensures.works
-          c.sync.new.self c.sync.ensures.site c.sync.ensures.table.0 c.sync.ensures.keeps
-          (record { tree = c.add.new.self; records = c.args.memory.now.records; attached = c.args.memory.now.attached; operation = c.args.memory.now.operation }) c.set_size-sized.new.self
-          (ap (λ (k : Known). k.rows) (memory_is g c)) (new_is g c) c.in_ok-sized.ensures.true_after r.true_images;
+          true_sized g.S.Store c.args.store.now c.set_size-sized.new.store c.args.memory.now (sectors (lasting g c)) c.in-Some.row r.orderly (lasting g c).there c.set_size-sized.ensures.works
+          c.sync.new.self c.sync.ensures.site c.sync.ensures.table.0 c.sync.ensures.keeps c.set_size-sized.new.self (new_is g c) c.in_ok-sized.ensures.true_after
+          (record { tree = c.add.new.self; records = c.args.memory.now.records; attached = c.args.memory.now.attached; operation = c.args.memory.now.operation })
+          (ap (λ (k : Known). k.rows) (memory_is g c)) r.true_images;
       rows = rows_stays stays r.rows;
       tree_room = let room = r.tree_room in omega (arith, others.images, others.spare, room);
       attachment_room = r.attachment_room;
@@ -161,11 +163,9 @@ returns-clause-done g c = λ told ready.
     resized_done g.S.Store c.args.store.now c.set_size-sized.new.store c.args.memory.now c.args.disk.now c.args.size c.in-Some.row (lasting g c) c.set_size-sized.ensures.works
     (is_told g.S.Store c.args.store.now c.args.memory.now c.requires.session.orderly c.requires.session.usable told ready (g.met.S.Store.leaves_now c.args.store.now told c.requires.session.usable))
     (changes_as g.S.Store c.args.store.now c.set_size-sized.new.store c.in-Some.row.image (c.rounded-sectors.ensures _ _ (known c.args.memory.now) (sym c.geometry.ensures)) c.set_size-sized.ensures.changes) (g.met.S.Store.leaves_now c.set_size-sized.new.store told (c.set_size-sized.ensures.works.stays.failed ∙ c.requires.session.usable))
-    (stands_sized (lasting g c)) c.sync.new.self
+    (stands_grown (lasting g c)) c.sync.new.self
     (record { site = c.sync.ensures.site; table = c.sync.ensures.table.0; failed = c.sync.ensures.table.1; keeps = c.sync.ensures.keeps told; leaves = c.sync.ensures.leaves told })
     (c.requires.settled told)
     (c.in_ok-sync.ensures.settled told)
-    (steady_resized g.S.Store c.args.store.now c.set_size-sized.new.store c.args.memory.now c.args.disk.now c.args.size c.in-Some.row (lasting g c) c.set_size-sized.ensures.works
-    c.sync.new.self c.sync.ensures.site c.sync.ensures.table.0 c.sync.ensures.keeps told (let e = c.sync.ensures in stays_from {g = g.S.Store} e.site e.table e.no_less e.counts e.beside) (c.in_ok-sync.ensures.settled told)
-    c.set_size-sized.new.self (new_is g c) c.in_ok-sized.ensures.true_after (changes_as g.S.Store c.args.store.now c.set_size-sized.new.store c.in-Some.row.image (c.rounded-sectors.ensures _ _ (known c.args.memory.now) (sym c.geometry.ensures)) c.set_size-sized.ensures.changes) ready)
+    c.set_size-sized.new.self (new_is g c) c.in_ok-sized.ensures.true_after
     _ (memory_is g c) _
