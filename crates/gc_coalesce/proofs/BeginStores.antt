@@ -1,30 +1,26 @@
 -- The parent of a copy that is to begin gets its child's size, as a session tells it: what a store and memory are behind the footers.
-use Rattle.std.proofs.Common.{◌≡◌, ◌≢◌, inl, inr, ⊎_elim, ℕ, ◌*◌, List, length, Some, refl, sym, ap, ap₂, ◌∙◌, subst, subst₂}
+use Rattle.std.proofs.Common.{◌≡◌, ◌≢◌, inr, ⊎_elim, ℕ, List, Some, refl, sym, ap, ap₂, ◌∙◌, subst, subst₂}
 use Rattle.std.specs.Option.{IsSome}
 use Rattle.std.proofs.lemmas.Option.{same_Some}
 use Rattle.common_laws.specs.Lists.{In}
 use Rattle.common_laws.proofs.Lists.{In-map}
 use Rattle.sm_base.specs.declared.names.Name.{Name}
 use Rattle.sm_base.specs.declared.names.Name.TheVariants.{Vhd}
-use Rattle.vg_meta.specs.Tables.{VolumeTable, extents_of, rows}
-use Rattle.vg_volumes.specs.Sites.{Site, volume_of}
-use Rattle.vg_volumes.specs.Stored.{WorksOn, held_in, sectors_in, stored}
-use Rattle.vg_volumes.specs.Volumes.{KeepsElsewhere}
+use Rattle.vg_meta.specs.Tables.{VolumeTable}
+use Rattle.vg_volumes.specs.Sites.{Site}
+use Rattle.vg_volumes.specs.Stored.{WorksOn, sectors_in, stored}
 use Rattle.vg_volumes.specs.declared.stores.Store.{Ghosts}
-use Rattle.vg_volumes.proofs.StoredLaws.{held_stays, size_stays}
 use Rattle.vhd_volumes.specs.Steps.{Holds}
-use Rattle.vhd_volumes.specs.Truth.{IsTrueIn, layout_in, layout_now}
-use Rattle.vhd_image.specs.Bodies.{IfVhd, IfVhdDoes, ImageIsTrue, TrueIn, volume_name}
-use Rattle.vhd_image.specs.Changes.{ChangesBy, IsResized, resized, with_size}
+use Rattle.vhd_volumes.specs.Truth.{layout_now}
+use Rattle.vhd_image.specs.Bodies.{IfVhdDoes, TrueIn}
+use Rattle.vhd_image.specs.Changes.{ChangesBy, IsResized, resized}
 use Rattle.vhd_image.specs.declared.images.Body.{Body}
-use Rattle.vhd_image.specs.declared.images.Body.TheVariants as body
-use Rattle.vhd_chain.specs.Trees.{row_name, tree_row, with_replaced, with_row, without}
+use Rattle.vhd_chain.specs.Trees.{row_name, tree_row, with_replaced}
 use Rattle.vhd_chain.specs.declared.rows.TreeRow.{TreeRow}
 use Rattle.sm_machine.specs.Laws.{MayGrow}
 use Rattle.sm_machine.specs.Shapes.{ImageRow, Shape, image_uuid, is_vhd, on_image}
 use Rattle.sm_standing.specs.Standing.{disks}
 use Rattle.sm_ready.specs.Done.{at_rest}
-use Rattle.sm_ready.specs.Frames.{HasTrueImages}
 use Rattle.sm_ready.specs.Known.{Known, known, machine_row, shape_in}
 use Rattle.sm_ready.specs.Orderly.{IsOrderly}
 use Rattle.sm_ready.specs.Ready.{IsReady}
@@ -32,22 +28,18 @@ use Rattle.sm_ready.specs.Stores.{StoreLeaves, content_now, store_content}
 use Rattle.sm_ready.specs.declared.memory.Memory.{Memory}
 use Rattle.sm_ready.proofs.ChainLaws.{tab}
 use Rattle.sm_ready.proofs.CommitLaws.{ready_safe}
-use Rattle.sm_ready.proofs.FrameLaws.{true_turned, volume_works}
 use Rattle.sm_ready.proofs.KeptLaws.{vhd_named}
-use Rattle.sm_ready.proofs.LeftLaws.{IsVhdIn, size_there, vhd_in}
-use Rattle.sm_ready.proofs.Orders.{In-tree_row, named_row}
-use Rattle.sm_ready.proofs.PutBackLaws.{put_back}
+use Rattle.sm_ready.proofs.Orders.{In-tree_row}
 use Rattle.sm_ready.proofs.RepairLaws.{ready_synced}
 use Rattle.sm_ready.proofs.RestLaws.{keeps_rest}
-use Rattle.sm_ready.proofs.RowLaws.{HasVolume, image_named, volume_there}
 use Rattle.sm_ready.proofs.TakenLaws.{IsTold}
 use Rattle.sm_ready.proofs.TruthLaws.{row_found}
 use Rattle.sm_disk.specs.Held.{reads}
-use Rattle.sm_space.proofs.ResizeLaws.{sized}
-use Rattle.sm_space.proofs.ResizedLaws.{with_image}
+use Rattle.sm_ready.proofs.GrownStores.{grows, steady_sized}
+use Rattle.sm_ready.proofs.SizedRows.{sized}
 use Rattle.gc_coalesce.specs.Beginning.{CanEnter, LeavesStill, raised, sectors_of}
 use Rattle.gc_coalesce.proofs.BeginLeft.{Raises, disks_now, leaves_still, ready_raised}
-use Rattle.gc_coalesce.proofs.BeginRaise.{IsToRaise, found, rows_raised, same_name, shape_raised}
+use Rattle.gc_coalesce.proofs.BeginRaise.{IsToRaise, shape_raised}
 use Rattle.gc_coalesce.proofs.BeginShapes.{may_grow, parent_hidden, raised_same, size_is}
 
 -- ---- the two images in memory
@@ -123,12 +115,6 @@ module _ (s : Site) (t : VolumeTable) (m : Known) (v p : Name) (o : IsOrderly s 
         ∙ ap₂ (λ (n : Name) (j : ℕ). let x : Shape = record (shape_in s t m) { images = on_image n (λ i. record i { size = j }) (shape_in s t m).images } in x)
         (sym (vhd_parent (λ same. differs (same ∙ sym is)))) (is ∙ child_sectors ∙ sym (size_is (shape_in s t m) v p o.well_formed h))
 
--- ---- a row is put back with its image
-
-module _ (s : Site) (t : VolumeTable) (m : Known) (o : IsOrderly s t m) (r : TreeRow) (there : In r m.rows) (new : Body) (same : volume_name new ≡ row_name r) where
-  pub rows_back : {name : Name} {mid now : List TreeRow} → name ≡ row_name r → mid ≡ without name m.rows → now ≡ with_row (with_image new r) mid → now ≡ with_replaced (with_image new r) m.rows
-  rows_back named taken added = added ∙ ap (with_row (with_image new r)) (taken ∙ ap (λ n. without n m.rows) named) ∙ put_back s t m o r (with_image new r) there same
-
 -- where nothing is written, a stop leaves the disks from before, and memory is ready once nothing is pending
 pub safe_ready : {S : Type 0} {g : Ghosts S} {a : S} {m : Memory} → IsTold g a m → LeavesStill (g.site a) (tab g a) (g.area a) (StoreLeaves g a) (disks (store_content g a)) × IsReady (g.site a) (tab g a) (at_rest (reads (g.area a))) (known m)
 safe_ready {g = g} {a} {m} i =
@@ -146,63 +132,11 @@ module _ {S : Type 0} (g : Ghosts S) (a b : S) (m : Memory) (u : List ℕ) (size
   abbrev t : VolumeTable
   t = tab g a
 
-  abbrev next : TreeRow
-  next = sized size r
-
-  -- images are true
-  true_own : (new : Body) → new ≡ resized size r.image → Holds g (row_name r) (λ x. TrueIn (g.site a).geometry (sectors_in (stored g a) (row_name r)) x new) b → g.told → ImageIsTrue (stored g b) (resized size r.image)
-  true_own new is truth told =
-      subst (λ n. TrueIn (g.site b).geometry (sectors_in (stored g b) n) (held_in (stored g b) n) next.image) (sym (same_name h))
-      (subst₂ (λ (x : Site) k. TrueIn x.geometry k (held_in (stored g b) (row_name r)) next.image) (sym works.stays.site) (sym (size_stays {g = g} (row_name r) works.stays))
-      (subst (TrueIn s.geometry (sectors_in (stored g a) (row_name r)) (held_in (stored g b) (row_name r))) is (truth told)))
-
-  pub true_raised : (n : Memory) (new : Body) → n.tree.rows ≡ with_replaced (sized size r) m.tree.rows → new ≡ resized size r.image → Holds g (row_name r) (λ x. TrueIn (g.site a).geometry (sectors_in (stored g a) (row_name r)) x new) b
-      → HasTrueImages g a m → HasTrueImages g b n
-  true_raised n new rows is truth = true_turned g m n works.stays.site (λ told each x i. ⊎_elim
-      (λ was. inl (was.0, volume_works x h.orderly.table was.1 works told))
-      (λ own. inr (subst (λ (q : TreeRow). ImageIsTrue (stored g b) q.image) (sym own) (true_own new is truth told)))
-      (rows_raised h x (subst (In x) rows i)))
-
   -- ---- what is told
 
   module _ (i : IsTold g a m) (changes : IfVhdDoes g r.image (λ head slots. ChangesBy (layout_now (stored g a) head) (IsResized (layout_now (stored g a) head) size)) a b) where
-    v : HasVolume t (row_name r)
-    v = volume_there s t (known m) r h.orderly (image_named (row_name r) (named_row s t (known m) r h.orderly h.there)) (row_found s t (known m) h.orderly r h.there)
-
-    there : rows t (Vhd u) ≡ Some v.row
-    there = ap (rows t) (sym h.named) ∙ v.there
-
-    at : IsVhdIn s t (g.area a) (known m) u v.row
-    at = vhd_in s t (g.area a) (known m) u v.row h.orderly i.ready.firm there v.filled
-
-    same_row : at.at.row ≡ r
-    same_row = same_Some at.at.row r (sym at.at.found ∙ found h)
-
-    image_is : r.image ≡ body.Vhd at.head at.slots
-    image_is = ap (λ (q : TreeRow). q.image) (sym same_row) ∙ at.is
-
-    volume_is : at.head.volume ≡ Vhd u
-    volume_is = sym (ap volume_name image_is) ∙ h.named
-
-    abbrev count : ℕ
-    count = length v.row.extents * s.geometry.extent
-
-    changed : ChangesBy (layout_in s.geometry at.head.footer count) (IsResized (layout_in s.geometry at.head.footer count) size) (volume_of s t (g.area a) (Vhd u)) (volume_of s t (g.area b) (Vhd u))
-    changed =
-        subst (λ x. ChangesBy (layout_in s.geometry at.head.footer count) (IsResized (layout_in s.geometry at.head.footer count) size) (volume_of s t (g.area a) (Vhd u)) x) (held_stays {g = g} (Vhd u) works.stays)
-        (subst (λ k. ChangesBy (layout_in s.geometry at.head.footer k) (IsResized (layout_in s.geometry at.head.footer k) size) (held_in (stored g a) (Vhd u)) (held_in (stored g b) (Vhd u))) (size_there s t (Vhd u) v.row there)
-        (subst (λ n. ChangesBy (layout_in s.geometry at.head.footer (sectors_in (stored g a) n)) (IsResized (layout_in s.geometry at.head.footer (sectors_in (stored g a) n)) size) (held_in (stored g a) n) (held_in (stored g b) n)) volume_is
-        (subst (λ x. IfVhd x (λ head slots. ChangesBy (layout_now (stored g a) head) (IsResized (layout_now (stored g a) head) size) (held_in (stored g a) head.volume) (held_in (stored g b) head.volume))) image_is (changes i.told))))
-
-    raises : Raises s t (known m) (g.area a) (g.area b) u size r v.row
-    raises = record {
-      to_raise = h;
-      ready = i.ready;
-      there = there;
-      at = at;
-      keeps = subst (λ n. KeepsElsewhere s.geometry.extent (extents_of (rows t n)) (g.area a) (g.area b)) h.named (works.elsewhere i.told);
-      changes = changed;
-    }
+    raises : Raises s t (known m) (g.area a) (g.area b) u size r
+    raises = record { to_raise = h; ready = i.ready; keeps = works.elsewhere i.told; grows = grows g a b m size r h.orderly h.there works u h.named i changes }
 
     -- whatever a stop leaves shows the disks from before
     pub raise_safe : LeavesStill (g.site a) (tab g a) (g.area b) (StoreLeaves g a) (disks (store_content g a))
@@ -212,13 +146,7 @@ module _ {S : Type 0} (g : Ghosts S) (a b : S) (m : Memory) (u : List ℕ) (size
     pub raise_ready : (new : Body) → new ≡ resized size r.image → Holds g (row_name r) (λ x. TrueIn (g.site a).geometry (sectors_in (stored g a) (row_name r)) x new) b
         → IsReady (g.site a) (tab g a) (at_rest (reads (g.area b))) (record (known m) { rows = with_replaced (sized size r) m.tree.rows })
         × (disks (content_now (g.site a) (tab g a) (g.area b)) ≡ disks (store_content g a))
-    unfolding raises at
-    raise_ready new is truth = (ready_raised raises truth_here, disks_now raises)
-      where
-        truth_here : IsTrueIn s.geometry count (volume_of s t (g.area b) (Vhd u)) (with_size at.head size) at.slots
-        truth_here =
-            subst (λ x. TrueIn s.geometry count (volume_of s t (g.area b) (Vhd u)) (resized size x)) image_is
-            (subst (λ x. TrueIn s.geometry count x (resized size r.image)) (held_stays {g = g} (Vhd u) works.stays)
-            (subst (λ k. TrueIn s.geometry k (held_in (stored g b) (Vhd u)) (resized size r.image)) (size_there s t (Vhd u) v.row there)
-            (subst (λ n. TrueIn s.geometry (sectors_in (stored g a) n) (held_in (stored g b) n) (resized size r.image)) h.named
-            (subst (TrueIn s.geometry (sectors_in (stored g a) (row_name r)) (held_in (stored g b) (row_name r))) is (truth i.told)))))
+    raise_ready new is truth = (
+      ready_raised raises (steady_sized g a b m size r h.orderly h.there works u h.named i changes (at_rest (reads (g.area b))) (keeps_rest (g.area b)) (λ p. refl) new is truth),
+      disks_now raises,
+    )

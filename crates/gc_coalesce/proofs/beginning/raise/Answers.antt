@@ -17,9 +17,11 @@ use Rattle.sm_ready.proofs.PutBackLaws.{row_proper, spared}
 use Rattle.sm_ready.proofs.RoomLaws.{rows_stays}
 use Rattle.sm_ready.proofs.TakenLaws.{is_told}
 use Rattle.sm_ready.proofs.TruthLaws.{row_stands, row_true}
-use Rattle.sm_space.proofs.ResizedLaws.{beside_resized, same_name as name_kept, with_image}
-use Rattle.gc_coalesce.proofs.BeginRaise.{IsToRaise, after, no_less, orderly_raised, own_vhd, size_proper, tidy_raised}
-use Rattle.gc_coalesce.proofs.BeginStores.{child_some, none_raised, parent_some, raise_ready, raise_safe, raised_is, rows_back, safe_ready, to_raise, true_raised}
+use Rattle.sm_disk.proofs.HeldLaws.{Keeps-none}
+use Rattle.sm_ready.proofs.GrownStores.{true_sized}
+use Rattle.sm_ready.proofs.SizedRows.{beside_resized, rows_back, same_name as name_kept, tidy_sized, with_image}
+use Rattle.gc_coalesce.proofs.BeginRaise.{IsToRaise, after, no_less, orderly_raised, own_vhd, size_proper}
+use Rattle.gc_coalesce.proofs.BeginStores.{child_some, none_raised, parent_some, raise_ready, raise_safe, raised_is, safe_ready, to_raise}
 use Rattle.gc_coalesce.proofs.beginning.raise.Given.{Over}
 use Rattle.gc_coalesce.proofs.beginning.raise.Goals as goal
 
@@ -129,10 +131,10 @@ returns-clause-session_still g c =
       orderly = subst (λ k. IsOrderly (g.S.Store.site c.set_size-sized.new.store) (table_alone (g.S.Store.table c.set_size-sized.new.store)) k) (sym (memory_is g c))
           (subst₂ (λ s t. IsOrderly s t (after (written g c))) (sym stays.site) (sym stays.table) (orderly_raised (written g c)));
       tidy = subst (λ k. IsTidy (table_alone (g.S.Store.table c.set_size-sized.new.store)) k) (sym (memory_is g c))
-          (subst (λ t. IsTidy t (after (written g c))) (sym stays.table) (tidy_raised (written g c) i.tidy));
-      true_images = true_raised g.S.Store c.args.store.now c.set_size-sized.new.store c.args.memory.now _ c.size_of-sectors.result c.in-Some.row (written g c) c.set_size-sized.ensures.works
-          (record { tree = c.add.new.self; records = c.args.memory.now.records; attached = c.args.memory.now.attached; operation = c.args.memory.now.operation }) c.set_size-sized.new.self
-          (rows_sized g c) c.in_ok-sized.ensures.new_size c.in_ok-sized.ensures.true_after i.true_images;
+          (subst (λ t. IsTidy t (after (written g c))) (sym stays.table) (tidy_sized _ _ (known c.args.memory.now) i.orderly c.in-Some.row (written g c).there c.size_of-sectors.result i.tidy));
+      true_images = true_sized g.S.Store c.args.store.now c.set_size-sized.new.store c.args.memory.now c.size_of-sectors.result c.in-Some.row i.orderly (written g c).there c.set_size-sized.ensures.works
+          c.set_size-sized.new.store refl refl (λ told. Keeps-none _) c.set_size-sized.new.self c.in_ok-sized.ensures.new_size c.in_ok-sized.ensures.true_after
+          (record { tree = c.add.new.self; records = c.args.memory.now.records; attached = c.args.memory.now.attached; operation = c.args.memory.now.operation }) (rows_sized g c) i.true_images;
       rows = rows_stays stays i.rows;
       tree_room = omega (arith, beside.images, beside.spare, i.tree_room);
       attachment_room = i.attachment_room;
