@@ -63,12 +63,6 @@ others_guests _ no_create no_delete no_label no_resize no_snapshot no_clone no_l
 
 -- ---- want of memory
 
--- a command's answer may be want of memory where its step takes memory, and where a step of the collector begins to fold an image
-pub may_want : (s : Shape) (c : Command) → takes_memory c ≡ true → (c ≡ command.Gc → begins (next_step s) ≡ true) → may_want_memory s c ≡ true
-unfolding may_want_memory
-may_want s command.Gc takes collects = collects refl
-may_want s _ takes collects = takes
-
 -- what holds of every reply holds of the one that came, if one came
 pub of_reply : (P : Reply → Type 0) (result : Result Reply Failed) → ((r : Reply) → P r) → IfOk result P
 of_reply P (Ok r) all = all r

@@ -2,7 +2,9 @@
 
 ghost use Rattle.std.specs.Prelude.{◌≡◌, ◌≤◌, ◌<◌, ◌+◌, ◌*◌, ℕ, List, true, false, IfOk, OnOk};
 ghost use Rattle.vg_meta.specs.Tables.{VolumeTable};
-ghost use Rattle.sm_machine.specs.Runs.{is_accepted, takes_memory};
+ghost use Rattle.sm_machine.specs.Runs.{is_accepted};
+ghost use Rattle.sm_run.specs.Runs.{may_want_memory};
+ghost use Rattle.sm_ready.specs.Does.{store_shape};
 ghost use Rattle.sm_base.specs.declared.refusals.Refusal.{Refusal};
 ghost use Rattle.sm_base.specs.declared.refusals.Refusal.TheVariants.{NoMemory};
 ghost use Rattle.sm_machine.specs.declared.replies.Reply.TheVariants.{No};
@@ -39,7 +41,7 @@ pub(crate) fn serve<S: Store>(
     ensures pool { pool.new ≡ pool.old }
     ensures session_still { OnOk result (IsBetweenSteps S.Store store.new memory.new) }
     ensures refused { IfOk result (λ r. is_accepted r ≡ false → (t : VolumeTable) (image : ℕ → List ℕ) → S.leaves store.new t image → S.leaves store.old t image) }
-    ensures spared { IfOk result (λ r. r ≡ No NoMemory → takes_memory command.now ≡ true) }
+    ensures spared { IfOk result (λ r. r ≡ No NoMemory → may_want_memory (store_shape S.Store store.old memory.old) command.now ≡ true) }
     ensures poor { IfOk result (λ r. (x : Refusal) → r ≡ No x → x ≡ NoMemory) }
     ensures untouched { IfOk result (λ r. is_accepted r ≡ false → OnlyReads S.Store store.old store.new × (memory.new ≡ memory.old)) }
     ensures writes { WritesOnlyIts S.Store memory.old command.now store.old store.new }

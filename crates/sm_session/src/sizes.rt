@@ -1,6 +1,6 @@
 //! Carrying out what makes a disk larger.
 
-ghost use Rattle.std.specs.Prelude.{◌≡◌, ℕ, List, false, IfOk, OnOk};
+ghost use Rattle.std.specs.Prelude.{◌≡◌, ℕ, List, true, false, IfOk, OnOk};
 ghost use Rattle.vg_meta.specs.Tables.{VolumeTable};
 ghost use Rattle.sm_base.specs.declared.refusals.Refusal.{Refusal};
 ghost use Rattle.sm_base.specs.declared.refusals.Refusal.TheVariants.{NoMemory};
@@ -8,6 +8,8 @@ ghost use Rattle.sm_machine.specs.declared.commands.Command.TheVariants as comma
 ghost use Rattle.sm_machine.specs.declared.replies.Reply.TheVariants.{No};
 ghost use Rattle.sm_machine.specs.Runs.{is_accepted};
 ghost use Rattle.vg_volumes.specs.Stored.{OnlyReads, Counts};
+ghost use Rattle.sm_run.specs.Runs.{may_want_memory};
+ghost use Rattle.sm_ready.specs.Does.{store_shape};
 ghost use Rattle.sm_ready.specs.Refusing.{IsAllowed};
 ghost use Rattle.sm_ready.specs.Framing.{IsBetweenSteps, StepsOn};
 ghost use Rattle.sm_ready.specs.Sessions.{IsReadyStore};
@@ -35,6 +37,7 @@ pub(crate) fn raise<S: Store>(
     ensures cause { Counts S.Store result store.old store.new }
     ensures session_still { OnOk result (IsBetweenSteps S.Store store.new memory.new) }
     ensures refused { IfOk result (λ r. is_accepted r ≡ false → (t : VolumeTable) (image : ℕ → List ℕ) → S.leaves store.new t image → S.leaves store.old t image) }
+    ensures spared { IfOk result (λ r. r ≡ No NoMemory → may_want_memory (store_shape S.Store store.old memory.old) (command.Resize disk.now size) ≡ true) }
     ensures poor { IfOk result (λ r. (x : Refusal) → r ≡ No x → x ≡ NoMemory) }
     ensures untouched { IfOk result (λ r. is_accepted r ≡ false → OnlyReads S.Store store.old store.new × (memory.new ≡ memory.old)) }
     ensures taken { S.told → IsReadyStore S.Store store.old memory.old

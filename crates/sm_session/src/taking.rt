@@ -7,7 +7,7 @@ ghost use Rattle.sm_machine.specs.declared.commands.Command.TheVariants.{Create,
 ghost use Rattle.sm_machine.specs.Collector.{IsLess, debt, next_step};
 ghost use Rattle.sm_machine.specs.Laws.{is_working};
 ghost use Rattle.sm_machine.specs.Refusals.{refusal};
-ghost use Rattle.sm_machine.specs.Runs.{is_accepted, takes_memory};
+ghost use Rattle.sm_machine.specs.Runs.{is_accepted};
 ghost use Rattle.sm_base.specs.declared.refusals.Refusal.{Refusal};
 ghost use Rattle.sm_base.specs.declared.refusals.Refusal.TheVariants.{NoMemory};
 ghost use Rattle.sm_machine.specs.declared.replies.Reply.TheVariants.{No};
@@ -19,7 +19,7 @@ ghost use Rattle.sm_ready.specs.Refusing.{IsAllowed, extents_for};
 ghost use Rattle.sm_ready.specs.Framing.{IsBetweenSteps, StepsOn};
 ghost use Rattle.sm_ready.specs.Sessions.{IsReadyStore};
 ghost use Rattle.sm_ready.specs.Taken.{StoreTakes};
-ghost use Rattle.sm_run.specs.Runs.{begins};
+ghost use Rattle.sm_run.specs.Runs.{may_want_memory};
 ghost use Rattle.sm_session.specs.Carrying.{WritesOnlyIts, most_commits};
 
 use crate::collecting::gc;
@@ -58,8 +58,7 @@ fn carry_out<S: Store>(
     ensures children { length children.new ≡ length children.old }
     ensures session_still { OnOk result (IsBetweenSteps S.Store store.new memory.new) }
     ensures refused { IfOk result (λ r. is_accepted r ≡ false → (t : VolumeTable) (image : ℕ → List ℕ) → S.leaves store.new t image → S.leaves store.old t image) }
-    ensures spared { IfOk result (λ r. r ≡ No NoMemory → takes_memory command.now ≡ true) }
-    ensures spared_gc { command.now ≡ Gc → IfOk result (λ r. r ≡ No NoMemory → begins (next_step (store_shape S.Store store.old memory.old)) ≡ true) }
+    ensures spared { IfOk result (λ r. r ≡ No NoMemory → may_want_memory (store_shape S.Store store.old memory.old) command.now ≡ true) }
     ensures poor { IfOk result (λ r. (x : Refusal) → r ≡ No x → x ≡ NoMemory) }
     ensures untouched { IfOk result (λ r. is_accepted r ≡ false → OnlyReads S.Store store.old store.new × (memory.new ≡ memory.old)) }
     ensures least { (u : List ℕ) (size : ℕ) (label : List ℕ) → command.now ≡ Create u size true label → IfOk result (λ r. is_accepted r ≡ true
@@ -125,8 +124,7 @@ pub fn take<S: Store>(
     ensures children { length children.new ≡ length children.old }
     ensures session_still { OnOk result (IsBetweenSteps S.Store store.new memory.new) }
     ensures refused { IfOk result (λ r. is_accepted r ≡ false → (t : VolumeTable) (image : ℕ → List ℕ) → S.leaves store.new t image → S.leaves store.old t image) }
-    ensures spared { IfOk result (λ r. r ≡ No NoMemory → takes_memory command.now ≡ true) }
-    ensures spared_gc { command.now ≡ Gc → IfOk result (λ r. r ≡ No NoMemory → begins (next_step (store_shape S.Store store.old memory.old)) ≡ true) }
+    ensures spared { IfOk result (λ r. r ≡ No NoMemory → may_want_memory (store_shape S.Store store.old memory.old) command.now ≡ true) }
     ensures untouched { IfOk result (λ r. is_accepted r ≡ false → OnlyReads S.Store store.old store.new × (memory.new ≡ memory.old)) }
     ensures exact { (x : Refusal) → refusal (store_shape S.Store store.old memory.old) command.now ≡ Some x → result ≡ Ok (No x) }
     ensures exact_only { IfOk result (λ r. (x : Refusal) → r ≡ No x → (x ≡ NoMemory) ⊎ (refusal (store_shape S.Store store.old memory.old) command.now ≡ Some x)) }

@@ -4,6 +4,7 @@ use Rattle.std.proofs.lemmas.Result.{err_from_is_err_and}
 use Rattle.sm_machine.specs.Refusals.{refusal}
 use Rattle.sm_base.specs.declared.refusals.Refusal.TheVariants.{NoMemory}
 use Rattle.sm_machine.specs.Runs.{is_accepted, takes_memory}
+use Rattle.sm_run.specs.Runs.{may_want_memory}
 use Rattle.sm_machine.specs.Steps.{reply_to}
 use Rattle.sm_machine.specs.declared.commands.Command.TheVariants as command
 use Rattle.sm_machine.specs.declared.replies.Reply.TheVariants.{Done, No}
@@ -115,12 +116,12 @@ pub unreachable-requires : goal.unreachable-requires
 unreachable-requires g c = not_guests c.args.command.now c.requires.guests c.in_default.not-Attach c.in_default.not-Detach c.in_default.not-Write c.in_default.not-Fill c.in_default.not-Read c.in_default.not-Flush
 
 pub returns-in-Err-NoMemory-clause-spared : goal.returns-in-Err-NoMemory-clause-spared
-unfolding takes_memory
-returns-in-Err-NoMemory-clause-spared g c = λ e. subst (λ k. takes_memory k ≡ true) (sym c.in-Attach.is) refl
+unfolding may_want_memory takes_memory
+returns-in-Err-NoMemory-clause-spared g c = λ e. subst (λ k. may_want_memory (store_shape g.S.Store c.args.store.now c.args.memory.now) k ≡ true) (sym c.in-Attach.is) refl
 
 pub returns-in-Read-clause-spared : goal.returns-in-Read-clause-spared
-unfolding takes_memory
-returns-in-Read-clause-spared g c = of_reply (λ r. r ≡ No NoMemory → takes_memory c.args.command.now ≡ true) c.read.result (λ r e. subst (λ k. takes_memory k ≡ true) (sym c.in-Read.is) refl)
+unfolding may_want_memory takes_memory
+returns-in-Read-clause-spared g c = of_reply (λ r. r ≡ No NoMemory → may_want_memory (store_shape g.S.Store c.args.store.now c.args.memory.now) c.args.command.now ≡ true) c.read.result (λ r e. subst (λ k. may_want_memory (store_shape g.S.Store c.args.store.now c.args.memory.now) k ≡ true) (sym c.in-Read.is) refl)
 
 pub returns-in-Ok-clause-step : goal.returns-in-Ok-clause-step
 unfolding most_commits

@@ -1,6 +1,7 @@
 use Rattle.std.proofs.Common.{Err, refl, sym, ap, ◌∙◌, subst}
 use Rattle.std.specs.Result.{IsOk}
-use Rattle.std.proofs.lemmas.Bool.{true≢false}
+use Rattle.std.proofs.lemmas.Bool.{lt-ltb, true≢false}
+use Rattle.sm_run.specs.Runs.{may_want_memory}
 use Rattle.sm_machine.specs.Runs.{is_accepted}
 use Rattle.sm_machine.specs.Steps.{reply_to}
 use Rattle.sm_machine.specs.declared.commands.Command.TheVariants as command
@@ -33,3 +34,7 @@ returns-in-Err-Device-clause-taken g c = λ told ready. does_err (is_told g.S.St
 
 pub returns-in-Err-NoMemory-clause-session_still : goal.returns-in-Err-NoMemory-clause-session_still
 returns-in-Err-NoMemory-clause-session_still g c = let p = c.resize.ensures.poor (c.in-Err-NoMemory.is ∙ ap (λ f. Err f) c.in-Err-NoMemory.field-0-is) in between_poor c.args.memory.now c.resize.new.memory p.0 p.2 c.requires.session
+
+pub returns-in-Err-NoMemory-clause-spared : goal.returns-in-Err-NoMemory-clause-spared
+unfolding may_want_memory
+returns-in-Err-NoMemory-clause-spared g c = λ _. lt-ltb 0 _ (c.resize.ensures.wants (c.in-Err-NoMemory.is ∙ ap (λ f. Err f) c.in-Err-NoMemory.field-0-is))

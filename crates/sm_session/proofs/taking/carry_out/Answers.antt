@@ -1,4 +1,4 @@
-use Rattle.std.proofs.Common.{arith, ◌≡◌, ◌⊎◌, ⊎_elim, inl, inr, true, None, Ok, refl, sym, ap, ◌∙◌, subst}
+use Rattle.std.proofs.Common.{arith, ◌≡◌, ◌⊎◌, ⊎_elim, inl, inr, true, None, IfOk, Ok, refl, sym, ap, ◌∙◌, subst}
 use Rattle.std.proofs.lemmas.Bool.{true≢false}
 use Rattle.std.proofs.lemmas.Result.{err_from_is_err_and}
 use Rattle.vg_meta.specs.Roomy.{table_alone}
@@ -6,6 +6,7 @@ use Rattle.sm_machine.specs.Refusals.{refusal}
 use Rattle.sm_base.specs.declared.refusals.Refusal.TheVariants.{NoMemory}
 use Rattle.sm_machine.specs.declared.replies.Reply.TheVariants.{No}
 use Rattle.sm_machine.specs.Runs.{is_accepted, is_settling, takes_memory}
+use Rattle.sm_run.specs.Runs.{may_want_memory}
 use Rattle.sm_machine.specs.Steps.{reply_to}
 use Rattle.sm_machine.specs.declared.commands.Command.TheVariants as command
 use Rattle.cmd_list.proofs.ListLaws.{step_after}
@@ -87,44 +88,43 @@ pub serve-requires-clause-guests : goal.serve-requires-clause-guests
 serve-requires-clause-guests g c = others_guests c.args.command.now c.in_default.not-Create c.in_default.not-Delete c.in_default.not-Label c.in_default.not-Resize c.in_default.not-Snapshot c.in_default.not-Clone c.in_default.not-List c.in_default.not-Stat c.in_default.not-Gc
 
 pub returns-then-raw-clause-spared : goal.returns-then-raw-clause-spared
-unfolding takes_memory
-returns-then-raw-clause-spared g c = of_reply (λ r. r ≡ No NoMemory → takes_memory c.args.command.now ≡ true) c.create.result (λ r e. subst (λ k. takes_memory k ≡ true) (sym c.in-Create.is) refl)
+unfolding may_want_memory takes_memory
+returns-then-raw-clause-spared g c = of_reply (λ r. r ≡ No NoMemory → may_want_memory (store_shape g.S.Store c.args.store.now c.args.memory.now) c.args.command.now ≡ true) c.create.result (λ r e. subst (λ k. may_want_memory (store_shape g.S.Store c.args.store.now c.args.memory.now) k ≡ true) (sym c.in-Create.is) refl)
 
 pub returns-else-raw-clause-spared : goal.returns-else-raw-clause-spared
-unfolding takes_memory
-returns-else-raw-clause-spared g c = of_reply (λ r. r ≡ No NoMemory → takes_memory c.args.command.now ≡ true) c.create_vhd.result (λ r e. subst (λ k. takes_memory k ≡ true) (sym c.in-Create.is) refl)
+unfolding may_want_memory takes_memory
+returns-else-raw-clause-spared g c = of_reply (λ r. r ≡ No NoMemory → may_want_memory (store_shape g.S.Store c.args.store.now c.args.memory.now) c.args.command.now ≡ true) c.create_vhd.result (λ r e. subst (λ k. may_want_memory (store_shape g.S.Store c.args.store.now c.args.memory.now) k ≡ true) (sym c.in-Create.is) refl)
 
 pub returns-in-List-clause-spared : goal.returns-in-List-clause-spared
-unfolding takes_memory
-returns-in-List-clause-spared g c = λ e. subst (λ k. takes_memory k ≡ true) (sym c.in-List.is) refl
+unfolding may_want_memory takes_memory
+returns-in-List-clause-spared g c = λ e. subst (λ k. may_want_memory (store_shape g.S.Store c.args.store.now c.args.memory.now) k ≡ true) (sym c.in-List.is) refl
 
 pub returns-in-Resize-clause-spared : goal.returns-in-Resize-clause-spared
-unfolding takes_memory
-returns-in-Resize-clause-spared g c = of_reply (λ r. r ≡ No NoMemory → takes_memory c.args.command.now ≡ true) c.raise.result (λ r e. subst (λ k. takes_memory k ≡ true) (sym c.in-Resize.is) refl)
+returns-in-Resize-clause-spared g c = subst (λ k. IfOk c.raise.result (λ r. r ≡ No NoMemory → may_want_memory (store_shape g.S.Store c.args.store.now c.args.memory.now) k ≡ true)) (sym c.in-Resize.is) c.raise.ensures.spared
 
 pub returns-in-Resize-clause-taken : goal.returns-in-Resize-clause-taken
 returns-in-Resize-clause-taken g c = λ told ready.
     subst (λ k. StoreTakes g.S.Store k c.args.store.now c.args.memory.now c.raise.new.store c.raise.new.memory c.raise.result) (sym c.in-Resize.is) (c.raise.ensures.taken told ready)
 
 pub returns-in-Snapshot-clause-spared : goal.returns-in-Snapshot-clause-spared
-unfolding takes_memory
-returns-in-Snapshot-clause-spared g c = of_reply (λ r. r ≡ No NoMemory → takes_memory c.args.command.now ≡ true) c.derive.result (λ r e. subst (λ k. takes_memory k ≡ true) (sym c.in-Snapshot.is) refl)
+unfolding may_want_memory takes_memory
+returns-in-Snapshot-clause-spared g c = of_reply (λ r. r ≡ No NoMemory → may_want_memory (store_shape g.S.Store c.args.store.now c.args.memory.now) c.args.command.now ≡ true) c.derive.result (λ r e. subst (λ k. may_want_memory (store_shape g.S.Store c.args.store.now c.args.memory.now) k ≡ true) (sym c.in-Snapshot.is) refl)
 
 pub returns-in-Snapshot-clause-taken : goal.returns-in-Snapshot-clause-taken
 returns-in-Snapshot-clause-taken g c = λ told ready.
     subst (λ k. StoreTakes g.S.Store k c.args.store.now c.args.memory.now c.derive.new.store c.derive.new.memory c.derive.result) (sym c.in-Snapshot.is) (c.derive.ensures.taken told ready)
 
 pub returns-in-Clone-clause-spared : goal.returns-in-Clone-clause-spared
-unfolding takes_memory
-returns-in-Clone-clause-spared g c = of_reply (λ r. r ≡ No NoMemory → takes_memory c.args.command.now ≡ true) c.derive-in-Clone.result (λ r e. subst (λ k. takes_memory k ≡ true) (sym c.in-Clone.is) refl)
+unfolding may_want_memory takes_memory
+returns-in-Clone-clause-spared g c = of_reply (λ r. r ≡ No NoMemory → may_want_memory (store_shape g.S.Store c.args.store.now c.args.memory.now) c.args.command.now ≡ true) c.derive-in-Clone.result (λ r e. subst (λ k. may_want_memory (store_shape g.S.Store c.args.store.now c.args.memory.now) k ≡ true) (sym c.in-Clone.is) refl)
 
 pub returns-in-Clone-clause-taken : goal.returns-in-Clone-clause-taken
 returns-in-Clone-clause-taken g c = λ told ready.
     subst (λ k. StoreTakes g.S.Store k c.args.store.now c.args.memory.now c.derive-in-Clone.new.store c.derive-in-Clone.new.memory c.derive-in-Clone.result) (sym c.in-Clone.is) (c.derive-in-Clone.ensures.taken told ready)
 
 pub returns-in-Stat-clause-spared : goal.returns-in-Stat-clause-spared
-unfolding takes_memory
-returns-in-Stat-clause-spared g c = λ e. subst (λ k. takes_memory k ≡ true) (sym c.in-Stat.is) refl
+unfolding may_want_memory takes_memory
+returns-in-Stat-clause-spared g c = λ e. subst (λ k. may_want_memory (store_shape g.S.Store c.args.store.now c.args.memory.now) k ≡ true) (sym c.in-Stat.is) refl
 
 pub returns-in-Stat-clause-taken : goal.returns-in-Stat-clause-taken
 unfolding is_settling shape_in
@@ -140,8 +140,8 @@ returns-in-Stat-clause-taken g c = λ told ready.
     (⊎_elim (λ poor. inl poor) (λ is. inr (is ∙ sym (stat_reply σ))) answered) (stat_after σ c.requires.session.orderly.table.sequence) refl)
 
 pub returns-in-Gc-clause-spared : goal.returns-in-Gc-clause-spared
-unfolding takes_memory
-returns-in-Gc-clause-spared g c = of_reply (λ r. r ≡ No NoMemory → takes_memory c.args.command.now ≡ true) c.gc.result (λ r e. subst (λ k. takes_memory k ≡ true) (sym c.in-Gc.is) refl)
+unfolding may_want_memory
+returns-in-Gc-clause-spared g c = subst (λ k. IfOk c.gc.result (λ r. r ≡ No NoMemory → may_want_memory (store_shape g.S.Store c.args.store.now c.args.memory.now) k ≡ true)) (sym c.in-Gc.is) c.gc.ensures.spared_plan
 
 pub returns-then-raw-clause-step : goal.returns-then-raw-clause-step
 unfolding most_commits

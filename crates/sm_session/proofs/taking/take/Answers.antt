@@ -28,11 +28,6 @@ returns-in-Some-clause-spared g c = λ e.
     let is = (rw c.table.ensures.table at c.in-Some.ensures.exact) (g.S.Store.site c.args.store.now) (record { same_sizes = sym c.geometry-geometry.ensures; same_count = sym c.extents-extents.ensures.count }) c.requires.session.orderly c.requires.session.tidy in
     absurd (never_for_memory (store_shape g.S.Store c.args.store.now c.args.memory.now) c.args.command.now (sym is ∙ (let x = e in cc)))
 
-pub returns-in-Some-clause-spared_gc : goal.returns-in-Some-clause-spared_gc
-returns-in-Some-clause-spared_gc g c = λ collects e.
-    let is = (rw c.table.ensures.table at c.in-Some.ensures.exact) (g.S.Store.site c.args.store.now) (record { same_sizes = sym c.geometry-geometry.ensures; same_count = sym c.extents-extents.ensures.count }) c.requires.session.orderly c.requires.session.tidy in
-    absurd (never_for_memory (store_shape g.S.Store c.args.store.now c.args.memory.now) c.args.command.now (sym is ∙ (let x = e in cc)))
-
 pub returns-in-Some-clause-lowered_gc : goal.returns-in-Some-clause-lowered_gc
 unfolding is_accepted
 returns-in-Some-clause-lowered_gc g c = λ collects yes. absurd (true≢false (sym yes))

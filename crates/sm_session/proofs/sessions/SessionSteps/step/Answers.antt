@@ -7,7 +7,6 @@ use Rattle.sm_ready.specs.Sessions.{IsReadyStore, KeepsAll}
 use Rattle.sm_ready.specs.Stores.{StoreLeaves}
 use Rattle.sm_ready.proofs.ShowLaws.{faces_ready, settled_ready}
 use Rattle.sm_ready.proofs.TakenLaws.{IsTold, is_told}
-use Rattle.sm_session.proofs.CarryLaws.{may_want}
 use Rattle.sm_session.proofs.sessions.SessionSteps.step.Given.{Over}
 use Rattle.sm_session.proofs.sessions.SessionSteps.step.Goals as goal
 
@@ -37,7 +36,3 @@ returns-in-Ok-clause-settled g c = λ told ready accepted settling. settled_read
 
 pub returns-in-Ok-clause-lasting : goal.returns-in-Ok-clause-lasting
 returns-in-Ok-clause-lasting g c = λ told ready accepted settling. (c.in-Ok.ensures.taken told ready.1).settled accepted settling
-
-pub returns-in-Ok-clause-spared : goal.returns-in-Ok-clause-spared
-returns-in-Ok-clause-spared g c = λ poor.
-    may_want (store_shape g.S.Store c.args.self.now.store c.args.self.now.memory) c.args.command.now (c.in-Ok.ensures.spared poor) (λ collects. c.in-Ok.ensures.spared_gc collects poor)
