@@ -11,7 +11,7 @@ fail() {
 }
 
 command -v rt >/dev/null ||
-    fail "the command rt is missing: install the toolchain rattle-kit-13f (logic dac8208d650f15bf), with rt on the PATH"
+    fail "the command rt is missing: install the toolchain rattle-kit-13b or 13f (logic dac8208d650f15bf), with rt on the PATH"
 [ -w "$root/crates/$name" ] || fail "$root can't be written: copy the repository to a folder of your own"
 memory=$(awk '$1 == "MemAvailable:" { print int($2 / 1024) }' /proc/meminfo)
 [ "${memory:-4096}" -ge 4096 ] || fail "proving takes 4 GiB of memory, and $memory MiB are free: close other programs first"

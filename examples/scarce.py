@@ -60,10 +60,14 @@ def run(path, script, shim, refused=None):
 
 
 def is_spared(machine, line):
-    """Whether want of memory may take the place of the machine's answer: a `gc` only where it begins to fold an image, and no refused line."""
-    answer = copy.deepcopy(machine).answer(line)
+    """Whether want of memory may take the place of the machine's answer: a `gc` only where it begins to fold an image, a `resize` only
+    where it needs extents, and no refused line."""
+    after = copy.deepcopy(machine)
+    answer = after.answer(line)
     if line == "gc":
         return answer.startswith(("ok gc begin", "ok gc leaf"))
+    if line.startswith("resize"):
+        return answer.startswith("ok") and after.images[after.own(line.split(" ")[1])].extents > machine.images[machine.own(line.split(" ")[1])].extents
     return line.split(" ")[0] in SPARED and answer.startswith("ok")
 
 
