@@ -7,6 +7,7 @@ pub mod ImageKept
 pub mod LoopLaws
 pub mod MapLaws
 pub mod PartLaws
+pub mod PayloadLaws
 pub mod PlaceLaws
 pub mod RestLaws
 pub mod TopLaws

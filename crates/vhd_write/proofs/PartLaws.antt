@@ -1,7 +1,6 @@
 -- One block's part of the first pass.
-use Rattle.std.proofs.Common.{◌≡◌, ℕ, ◌+◌, ◌-◌, ◌*◌, ◌<◌, ◌≤◌, true, List, length, take, drop, set, Option, Some, None, refl, sym, ap, ap₂, ◌∙◌, subst, subst₂, inl, inr, arith}
+use Rattle.std.proofs.Common.{◌≡◌, ℕ, ◌+◌, ◌-◌, ◌*◌, ◌^◌, ◌<◌, ◌≤◌, true, List, length, set, Option, Some, None, refl, sym, ap, ap₂, ◌∙◌, subst, subst₂, inl, inr, arith}
 use Rattle.std.proofs.lemmas.Option.{none-some, same_Some}
-use Rattle.std.proofs.lemmas.List.{length-take, length-drop}
 use Rattle.sm_base.specs.Numbers.{first as first_of}
 use Rattle.sm_base.specs.declared.sizes.Geometry.{Geometry}
 use Rattle.sm_disk.specs.Held.{Held, IsIn, IsWhole, Puts, Torn, Wrote, Reaches, reads}
@@ -12,18 +11,28 @@ use Rattle.sm_disk.proofs.SectorLaws.{sector-part}
 use Rattle.vhd_map.specs.Bitmaps.{is_set}
 use Rattle.vhd_map.specs.Places.{spot}
 use Rattle.vhd_map.specs.Slots.{slot_of, top_of, least_free_slot}
+use Rattle.vhd_map.proofs.Spots.{first-most, spot-part, spot-small}
 use Rattle.vhd_map.proofs.SlotLemmas.{top_of-past, slot_of-set_same}
 use Rattle.vhd_layout.specs.Layouts.{Sectors, Layout, place, slot_count}
 use Rattle.vhd_layout.proofs.ImageLaws.{place-part, place-within, slots-fit}
 use Rattle.vhd_volumes.specs.Writes.{with_block}
 use Rattle.vhd_write.specs.Passes.{PutsHeld, IsUnsetBeside, PutsPart, PutsSlot, HasData, IsNewSlot, IsSlotFilled, IsPut}
+use Rattle.vhd_write.specs.Payloads.{piece_of}
 use Rattle.vhd_write.specs.Spans.{IsPart}
 use Rattle.vhd_write.proofs.BitLaws.{one-value, part-touches, bits-only, bitmap-wrote}
 use Rattle.vhd_write.proofs.MapLaws.{with_block-new, with_block-held}
+use Rattle.vhd_write.proofs.PayloadLaws.{length-piece}
 
 -- a place by equal sizes and slot
 pub place_is : (p : ℕ) (g g' : Geometry) (s k j : ℕ) → p ≡ spot (first_of g.entries) g.block s j → g ≡ g' → s ≡ k → p ≡ spot (first_of g'.entries) g'.block k j
 place_is p g g' s k j is e1 e2 = is ∙ ap₂ (λ (x : Geometry) (y : ℕ). spot (first_of x.entries) x.block y j) e1 e2
+
+-- behind a part of a slot no place is numbered too high
+pub place-low-enough : (g : Geometry) (slot j count p : ℕ) → p ≡ spot (first_of g.entries) g.block slot j → slot < g.entries → j + count ≤ 1 + g.block → p + count < 2 ^ 64
+place-low-enough g slot j count p is below fits =
+    let small = spot-small (first_of g.entries) g.block slot (first-most g.entries g.in_range.entries_most) g.in_range.block_most (omega (arith, below, g.in_range.entries_most)) in
+    let part = spot-part (first_of g.entries) g.block slot j in
+    omega (arith, is, small, part, fits, g.in_range.block_most)
 
 -- a slot that the map has after all has room
 pub slot-in : (l : Layout) (n : List (Option ℕ)) (b k : ℕ) → slot_of n b ≡ Some k → l.first + top_of n * (1 + l.block) + 1 ≤ l.sectors → k < slot_count l
@@ -90,10 +99,10 @@ slot-filled l k p q first count bitmap bytes {a} {b} {c} is there short long set
 
 module _ (l : Layout) (at : ℕ) (from : List ℕ) (b first count skip : ℕ) (part : IsPart l.block b at (length from) first count skip) where
   abbrev pub part_bytes : List ℕ
-  part_bytes = take (512 * (skip + count) - 512 * skip) (drop (512 * skip) from)
+  part_bytes = piece_of skip count from
 
   pub part-long : length part_bytes ≡ 512 * count
-  part-long = omega (arith, part.inside, length-take (512 * (skip + count) - 512 * skip) (drop (512 * skip) from), length-drop (512 * skip) from)
+  part-long = length-piece skip count from part.inside
 
   -- the part's sector j is one of the written ones
   pub part-in : (j : ℕ) → j < count → IsIn at (length from) (b * l.block + (first + j))
@@ -102,7 +111,7 @@ module _ (l : Layout) (at : ℕ) (from : List ℕ) (b first count skip : ℕ) (p
   part-sector : (j : ℕ) → j < count → sector part_bytes j ≡ sector from (b * l.block + (first + j) - at)
   part-sector j below =
       let nth : skip + j ≡ b * l.block + (first + j) - at = omega (arith, part.skipped) in
-      sector-part from skip (512 * (skip + count) - 512 * skip) j (omega arith) ∙ ap (sector from) nth
+      sector-part from skip (512 * count) j (omega arith) ∙ ap (sector from) nth
 
   -- a sector that is written is the part's
   written : (i : ℕ) (v : List ℕ) → i < l.block → Puts at from (b * l.block + i) v → (first ≤ i) × (i < first + count) × (v ≡ sector part_bytes (i - first))

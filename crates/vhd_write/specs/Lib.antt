@@ -1,4 +1,5 @@
 pub mod Passes
+pub mod Payloads
 pub mod Spans
 pub mod WritePlaces
 pub mod WriteSpans

@@ -8,11 +8,13 @@ ghost use Rattle.vhd_volumes.specs.Steps.{Does, Gives};
 ghost use Rattle.vhd_volumes.specs.Truth.{layout_now, HasRoomIn};
 ghost use Rattle.vhd_volumes.specs.Writes.{HasGrown, with_block, with_blocks};
 ghost use Rattle.vhd_write.specs.Passes.{PutsPart, PutsBlock, PutsData, IsSlotFilled, IsPut, ArePut};
+ghost use Rattle.vhd_write.specs.Payloads.{piece_of};
 ghost use Rattle.vhd_write.specs.Spans.{Given};
 ghost use Rattle.vhd_write.specs.WritePlaces.{KeepsToPlaces};
 
 use crate::bitmaps::bitmap_of;
-use crate::calls::{place_of, put};
+use crate::calls::{place_of, put, put_piece};
+use crate::payloads::Payload;
 use crate::spans::{Part, Span, part_of};
 use sm_base::Failed;
 use vg_volumes::Store;
@@ -27,7 +29,7 @@ fn put_new<S: Store>(
     map: &mut Map,
     block: u32,
     part: &Part,
-    bytes: &[u8],
+    from: &Payload<'_>,
 ) -> Result<(), Failed>
     requires entries { length map.old ≡ (S.site store.old).geometry.entries }
     requires good { IsMap map.old }
@@ -36,17 +38,19 @@ fn put_new<S: Store>(
     requires room { HasRoomIn (stored S.Store store.old) head.now.volume (top_of (with_block block map.old)) }
     requires some { 0 < part.now.count }
     requires part { part.now.first + part.now.count ≤ (S.site store.old).geometry.block }
-    requires long { length bytes.now ≡ 512 * part.now.count }
+    requires inside { 512 * (part.now.skip + part.now.count) ≤ length from.now }
     ensures works { WorksOn S.Store head.now.volume store.old store.new }
     ensures cause { Counts S.Store result store.old store.new }
     ensures put { OnOk result (map.new ≡ slice_set map.old block (Some (least_free_slot map.old))) }
     ensures kept { OnErr result (map.new ≡ map.old) }
     ensures reaches { Does S.Store head.now.volume
         (Reaches (PutsPart (layout_now (stored S.Store store.old) head.now)
-        (least_free_slot map.old) part.now.first part.now.count bytes.now)) store.old store.new }
+        (least_free_slot map.old) part.now.first part.now.count
+        (piece_of part.now.skip part.now.count from.now))) store.old store.new }
     ensures done { OnOk result (Gives S.Store head.now.volume
         (IsSlotFilled (layout_now (stored S.Store store.old) head.now)
-        (least_free_slot map.old) part.now.first part.now.count bytes.now) store.new) }
+        (least_free_slot map.old) part.now.first part.now.count
+        (piece_of part.now.skip part.now.count from.now)) store.new) }
 {
     let geometry = store.geometry();
     let slot = map.least_free();
@@ -54,7 +58,8 @@ fn put_new<S: Store>(
     let at = place_of(&geometry, slot, 0);
     put(store, &head.volume, at, &bitmap)?;
     let data = place_of(&geometry, slot, 1 + part.first);
-    put(store, &head.volume, data, bytes)?;
+    let count = part.count as u64;
+    put_piece(store, &head.volume, data, from, part.skip, count)?;
     map.put(block, slot);
     Ok(())
 }
@@ -66,7 +71,7 @@ fn put_block<S: Store>(
     map: &mut Map,
     span: &Span,
     block: u32,
-    from: &[u8],
+    from: &Payload<'_>,
 ) -> Result<(), Failed>
     requires sizes { span.now.block ≡ (S.site store.old).geometry.block }
     requires bytes { length from.now ≡ 512 * span.now.count }
@@ -88,13 +93,13 @@ fn put_block<S: Store>(
 {
     let geometry = store.geometry();
     let part = part_of(span, block);
-    let bytes = &from[512 * part.skip..512 * (part.skip + part.count as usize)];
+    let count = part.count as u64;
     if let Some(slot) = map.slot(block) {
         let at = place_of(&geometry, slot, 1 + part.first);
-        put(store, &head.volume, at, bytes)?;
+        put_piece(store, &head.volume, at, from, part.skip, count)?;
         return Ok(());
     }
-    put_new(store, head, map, block, &part, bytes)?;
+    put_new(store, head, map, block, &part, from)?;
     Ok(())
 }
 
@@ -104,7 +109,7 @@ pub(crate) fn put_blocks<S: Store>(
     head: &Head,
     map: &mut Map,
     span: &Span,
-    from: &[u8],
+    from: &Payload<'_>,
 ) -> Result<(), Failed>
     requires sizes { span.now.block ≡ (S.site store.old).geometry.block }
     requires bytes { length from.now ≡ 512 * span.now.count }

@@ -1,12 +1,14 @@
 //! Calls of a store on the sectors of one volume, and the place of a slot.
 
-ghost use Rattle.std.specs.Prelude.{◌≡◌, ℕ, ◌+◌, ◌*◌, ◌<◌, ◌≤◌, length, OnOk, OnErr, IfOk};
+ghost use Rattle.std.specs.Prelude.{◌≡◌, ℕ, ◌+◌, ◌*◌, ◌/◌, ◌^◌, ◌<◌, ◌≤◌, length, OnOk, OnErr, IfOk};
 ghost use Rattle.sm_base.specs.Numbers.{first};
 ghost use Rattle.sm_disk.specs.Held.{IsWhole, SameHeld, Torn, Wrote, Keeps, IsSettled};
 ghost use Rattle.vhd_map.specs.Places.{spot};
 ghost use Rattle.vg_volumes.specs.Stored.{stored, sectors_in, WorksOn, Counts};
 ghost use Rattle.vhd_volumes.specs.Steps.{Holds, Does, Gives};
+ghost use Rattle.vhd_write.specs.Payloads.{piece_of};
 
+use crate::payloads::Payload;
 use sm_base::{Failed, Geometry, Name};
 use vg_volumes::Store;
 
@@ -35,6 +37,57 @@ pub(crate) fn put<S: Store>(
 {
     store.write(volume, at, from)?;
     Ok(())
+}
+
+/// Writes so many sectors of the bytes, behind so many of them, to the volume's sectors from `at` on: as many in a call of the
+/// store as stand in memory in one piece.
+pub(crate) fn put_piece<S: Store>(
+    store: &mut S,
+    volume: &Name,
+    at: u64,
+    from: &Payload<'_>,
+    skip: u64,
+    count: u64,
+) -> Result<(), Failed>
+    requires whole { IsWhole at (512 * count) (sectors_in (stored S.Store store.old) volume.now) }
+    requires low { at + count < 2 ^ 64 }
+    requires inside { 512 * (skip + count) ≤ length from.now }
+    ensures works { WorksOn S.Store volume.now store.old store.new }
+    ensures cause { Counts S.Store result store.old store.new }
+    ensures torn { Does S.Store volume.now (Torn at (piece_of skip count from.now)) store.old store.new }
+    ensures wrote { OnOk result (Does S.Store volume.now (Wrote at (piece_of skip count from.now)) store.old store.new) }
+{
+    // No more sectors are asked for than there are.
+    let _all = from.sectors();
+    let mut done = 0;
+    while done < count {
+        let run = from.run(skip + done, count - done);
+        put(store, volume, at + done, run)?;
+        done += run.len() as u64 / 512;
+    }
+    Ok(())
+}
+
+/// Writes the bytes, whole sectors and at least one, to the volume's sectors from `at` on.
+///
+/// # Errors
+///
+/// The store failed; any of the sectors may be written.
+pub fn put_payload<S: Store>(
+    store: &mut S,
+    volume: &Name,
+    at: u64,
+    from: &Payload<'_>,
+) -> Result<(), Failed>
+    requires whole { IsWhole at (length from.now) (sectors_in (stored S.Store store.old) volume.now) }
+    requires low { at + length from.now / 512 < 2 ^ 64 }
+    ensures works { WorksOn S.Store volume.now store.old store.new }
+    ensures cause { Counts S.Store result store.old store.new }
+    ensures torn { Does S.Store volume.now (Torn at from.now) store.old store.new }
+    ensures wrote { OnOk result (Does S.Store volume.now (Wrote at from.now) store.old store.new) }
+{
+    let count = from.sectors();
+    put_piece(store, volume, at, from, 0, count)
 }
 
 /// Reads one sector of the volume.

@@ -1,8 +1,10 @@
 //! The guest's write into the own image of a disk.
 //!
-//! **What is kept here.** Nothing: one call, [`write`], over any store of volumes. It puts whole sectors of a disk into
-//! the VHD image in a volume, whose head and map are in memory. Sectors of 512 bytes are counted from the disk's begin,
-//! and places from the volume's; blocks and slots are counted from 0.
+//! **What is kept here.** Nothing. [`write`], over any store of volumes, puts whole sectors of a disk into the VHD image
+//! in a volume, whose head and map are in memory; [`put_payload`] puts them into a volume as they are. The bytes are a
+//! [`Payload`]: given ones, or one byte over and over, of which only a piece is in memory. A contract sees the list of
+//! them. Sectors of 512 bytes are counted from the disk's begin, and places from the volume's; blocks and slots are
+//! counted from 0.
 //!
 //! **In which order.** A write that only replaces sectors that the image holds writes the bytes and is done. Any other
 //! has three passes with a sync behind the first.
@@ -32,11 +34,13 @@
 //! **What it costs.** No memory. Of the store: one write for each block touched, and one more for each of them that is
 //! new; one read for each bitmap up to the first that lacks a bit; and then, only where a bit or a slot was missing, one
 //! sync, one read for each block, and one write for each bitmap that lacks a bit; and where a slot was missing, one write
-//! for each sector of the table that has a touched block's entry. It writes no sector of a slot but the bitmap and those
-//! that are given.
+//! for each sector of the table that has a touched block's entry. So a write of any length makes one sync at most. It
+//! writes no sector of a slot but the bitmap and those that are given. Of a byte that is repeated, a piece of less than a
+//! block is written as often as the block takes it. `put_payload` is one write of given bytes, and of a byte that is
+//! repeated one for each piece, without a sync.
 //!
-//! What each pass puts where is in `specs/Passes`, the numbers of a write are in `specs/Spans`, and in `specs/WriteSpans`
-//! those of a write into a disk. The proofs go over plain volumes: `FirstLaws` and `RestLaws` say what the passes leave of
+//! What each pass puts where is in `specs/Passes`, the bytes of a write are in `specs/Payloads`, its numbers in
+//! `specs/Spans`, and in `specs/WriteSpans` those of a write into a disk. The proofs go over plain volumes: `FirstLaws` and `RestLaws` say what the passes leave of
 //! an image, `HeadLaws` what they leave of its head, `PlaceLaws` that they put nothing elsewhere, and `ExitLaws` what a
 //! write leaves at each of its returns.
 #![tactic(auto)]
@@ -45,8 +49,11 @@ mod bitmaps;
 mod blocks;
 mod calls;
 mod finish;
+mod payloads;
 mod spans;
 mod tables;
 mod writes;
 
+pub use calls::put_payload;
+pub use payloads::Payload;
 pub use writes::write;

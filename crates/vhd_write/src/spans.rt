@@ -27,7 +27,7 @@ pub(crate) struct Part {
     /// How many they are.
     pub count: u32,
     /// How many sectors of the bytes stand in front of theirs.
-    pub skip: usize,
+    pub skip: u64,
 }
 
 /// The sectors of a block that the write touches.
@@ -43,6 +43,6 @@ pub(crate) fn part_of(span: &Span, block: u32) -> Part
     Part {
         first: (first - begin) as u32,
         count: (past - first) as u32,
-        skip: (first - span.sector) as usize,
+        skip: first - span.sector,
     }
 }

@@ -15,6 +15,7 @@ ghost use Rattle.vhd_write.specs.WriteSpans.{IsSpanOf, AreFullNow};
 
 use crate::blocks::put_blocks;
 use crate::finish::{finish, is_complete};
+use crate::payloads::Payload;
 use crate::spans::Span;
 use sm_base::Failed;
 use vg_volumes::Store;
@@ -22,7 +23,7 @@ use vhd_map::Map;
 use vhd_volumes::Head;
 
 /// The sectors of a write of these bytes, from the disk's sector `sector` on.
-fn span_of<S: Store>(store: &S, head: &Head, sector: u64, from: &[u8]) -> Span
+fn span_of<S: Store>(store: &S, head: &Head, sector: u64, from: &Payload<'_>) -> Span
     requires whole { IsWhole sector (length from.now) (disk_sectors head.now.footer) }
     requires size { head.now.footer.current ≡
         512 * (disk_blocks (S.site store.now).geometry head.now.footer * (S.site store.now).geometry.block) }
@@ -31,7 +32,7 @@ fn span_of<S: Store>(store: &S, head: &Head, sector: u64, from: &[u8]) -> Span
 {
     let block = store.geometry().block;
     let size = u64::from(block);
-    let count = from.len() as u64 / 512;
+    let count = from.sectors();
     let last = (sector + count - 1) / size;
     Span {
         block,
@@ -67,7 +68,7 @@ fn first_pass<S: Store>(
     head: &Head,
     map: &mut Map,
     span: &Span,
-    from: &[u8],
+    from: &Payload<'_>,
 ) -> Result<bool, Failed>
     requires sizes { span.now.block ≡ (S.site store.old).geometry.block }
     requires bytes { length from.now ≡ 512 * span.now.count }
@@ -116,7 +117,7 @@ pub fn write<S: Store>(
     head: &Head,
     map: &mut Map,
     sector: u64,
-    from: &[u8],
+    from: &Payload<'_>,
 ) -> Result<(), Failed>
     requires usable { S.failed store.old ≡ false }
     requires stands { StandsNow (stored S.Store store.old) head.now map.old }
