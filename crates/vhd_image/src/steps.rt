@@ -1,7 +1,7 @@
 //! One sector of a volume, read or written.
 
 ghost use Rattle.std.specs.Prelude.{◌≡◌, ◌<◌, length, OnOk, OnErr, IfOk};
-ghost use Rattle.sm_disk.specs.Held.{IsWhole, Gave, Torn, Wrote};
+ghost use Rattle.sm_disk.specs.Held.{IsWhole, Gave};
 ghost use Rattle.vg_volumes.specs.Stored.{stored, sectors_in, OnlyReads, WorksOn, Counts};
 ghost use Rattle.vhd_volumes.specs.Steps.{Does, Gives, Holds};
 ghost use Rattle.vhd_image.specs.Calls.{MayPut};
@@ -54,23 +54,6 @@ pub(crate) fn put_sector<S: Store>(
     ensures cause { Counts S.Store result store.old store.new }
     ensures may_put { Does S.Store volume.now (MayPut at from.now) store.old store.new }
     ensures put { OnOk result (Gives S.Store volume.now (λ r. r at ≡ from.now) store.new) }
-{
-    store.write(volume, at, from)?;
-    Ok(())
-}
-
-/// Writes whole sectors of a volume.
-pub(crate) fn put_sectors<S: Store>(
-    store: &mut S,
-    volume: &Name,
-    at: u64,
-    from: &[u8],
-) -> Result<(), Failed>
-    requires { IsWhole at (length from.now) (sectors_in (stored S.Store store.old) volume.now) }
-    ensures works { WorksOn S.Store volume.now store.old store.new }
-    ensures cause { Counts S.Store result store.old store.new }
-    ensures torn { Does S.Store volume.now (Torn at from.now) store.old store.new }
-    ensures wrote { OnOk result (Does S.Store volume.now (Wrote at from.now) store.old store.new) }
 {
     store.write(volume, at, from)?;
     Ok(())

@@ -9,9 +9,9 @@ ghost use Rattle.vhd_image.specs.Bodies.{StandsIn, TrueIn, sector_count, volume_
 ghost use Rattle.vhd_image.specs.Written.{HasRoomToWrite, IsWriting, BodyKeepsToPlaces, IsBodyWritten, MayHaveGrown, written};
 
 use crate::images::{Body, Image};
-use crate::steps::put_sectors;
 use sm_base::Failed;
 use vg_volumes::Store;
+use vhd_write::{Payload, put_payload};
 
 impl Image {
     /// Writes whole sectors of the disk into the image, at least one, from a sector of the disk on. A block that has no
@@ -21,7 +21,12 @@ impl Image {
     /// # Errors
     ///
     /// The store failed; in memory some of the blocks may have their new slots.
-    pub fn write<S: Store>(&mut self, store: &mut S, sector: u64, from: &[u8]) -> Result<(), Failed>
+    pub fn write<S: Store>(
+        &mut self,
+        store: &mut S,
+        sector: u64,
+        from: &Payload<'_>,
+    ) -> Result<(), Failed>
         requires usable { S.failed store.old ≡ false }
         requires stands { ImageStands (stored S.Store store.old) self.old }
         requires true_now { S.told → ImageIsTrue (stored S.Store store.old) self.old }
@@ -55,8 +60,10 @@ impl Image {
             (volume_name self.old)) self.old sector from.now) store.old store.new) }
     {
         match &mut self.body {
-            Body::Raw { volume, .. } => {
-                put_sectors(store, volume, sector, from)?;
+            Body::Raw { volume, sectors } => {
+                // A disk's sectors are counted by a u64.
+                let _sectors = *sectors;
+                put_payload(store, volume, sector, from)?;
                 Ok(())
             }
             Body::Vhd { head, map } => {
