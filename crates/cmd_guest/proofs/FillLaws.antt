@@ -1,5 +1,6 @@
 -- A fill is the write of so many equal bytes.
-use Rattle.std.proofs.Common.{◌≡◌, ℕ, zero, suc, ◌+◌, ◌*◌, ◌/◌, ◌%◌, ◌==◌, ◌||◌, not, Bool, true, false, List, [], ◌∷◌, ◌++◌, length, drop, replicate, None, refl, sym, ap, ap₂, ◌∙◌, arith}
+use Rattle.std.proofs.Common.{◌≡◌, ℕ, zero, suc, ◌+◌, ◌*◌, ◌/◌, ◌%◌, ◌==◌, ◌||◌, not, Bool, true, false, List, [], ◌∷◌, ◌++◌, length, drop, replicate, None, refl, sym, ap, ap₂, ◌∙◌, subst, arith}
+use Rattle.std.specs.Prelude.{Result}
 use Rattle.std.proofs.lemmas.List.{take-replicate}
 use Rattle.std.proofs.lemmas.List.{length-replicate, replicate-append-replicate}
 use Rattle.std.proofs.Math.Seq.{drop-append_seam}
@@ -7,11 +8,19 @@ use Rattle.common_laws.specs.Lists.{first_some, given}
 use Rattle.sm_machine.specs.Commits.{commits, own_commits, is_given_up, gives_up}
 use Rattle.sm_machine.specs.Disks.{cut_sectors, filled, on_disk}
 use Rattle.sm_machine.specs.Refusals.{refusal, is_reserved, is_unknown, is_taken, is_in_use, is_not_attached, is_read_only, is_raw_disk, is_out_of_range, is_outside, is_bad_size, is_shrink, is_deep, is_too_many, is_spent, lacks_space, need, named, new_uuid, forked, images_needed}
+use Rattle.sm_machine.specs.Runs.{is_settling}
 use Rattle.sm_machine.specs.Shapes.{Shape, free, risen}
+use Rattle.sm_base.specs.declared.faults.Failed.{Failed}
 use Rattle.sm_base.specs.declared.refusals.Refusal.TheVariants.{UnknownDisk, NotAttached, ReadOnly, OutOfRange, NoSpace}
 use Rattle.sm_machine.specs.Steps.{State, Outcome, accepted, disks_next, reply_to, shape_after, shape_next, step, write_shape, written_disk}
 use Rattle.sm_machine.specs.declared.commands.Command.TheVariants.{Fill, Write}
+use Rattle.sm_machine.specs.declared.replies.Reply.{Reply}
 use Rattle.sm_machine.specs.declared.replies.Reply.TheVariants.{Done}
+use Rattle.sm_ready.specs.Refusing.{IsAllowed}
+use Rattle.sm_ready.specs.Sessions.{store_state}
+use Rattle.sm_ready.specs.Taken.{StoreTakes, StoreTakesTo}
+use Rattle.sm_ready.specs.declared.memory.Memory.{Memory}
+use Rattle.vg_volumes.specs.declared.stores.Store.{Ghosts}
 use Rattle.sm_ready.proofs.TakenLaws.{step_accepted}
 
 drop_all_of : (n byte : ℕ) → drop 512 (replicate (512 + 512 * n) byte) ≡ replicate (512 * n) byte
@@ -57,3 +66,16 @@ fill_is σ u at n byte allowed =
     ∙ ap₂ (λ (ss : List (List ℕ)) (k : ℕ). let x : Outcome = record { reply = Done; after = record { disks = on_disk u (written_disk at ss) σ.disks; shape = record (write_shape σ.shape u at k) { sequence = risen σ.shape.sequence 0 } } } in x)
     (sym (filled_cut n byte) ∙ ap (λ k. cut_sectors k (all_of n byte)) (sym (length_all n byte))) (sym (length_all n byte))
     ∙ sym (step_accepted σ (Write u at (all_of n byte)) (fill_allowed σ.shape u at n byte allowed))
+
+-- the shape behind it
+pub fill_next : (s : Shape) (u : List ℕ) (at n byte : ℕ) → shape_next s (Write u at (all_of n byte)) ≡ shape_next s (Fill u at n byte)
+unfolding shape_next shape_after commits own_commits is_given_up gives_up
+fill_next s u at n byte = ap (λ (k : ℕ). let x : Shape = record (write_shape s u at k) { sequence = risen s.sequence 0 } in x) (length_all n byte)
+
+-- a store that took the write took the fill
+pub fill_taken : {S : Type 0} (g : Ghosts S) (a b : S) (m k : Memory) (u : List ℕ) (at n byte : ℕ) (result : Result Reply Failed) → IsAllowed g (Fill u at n byte) a m
+    → StoreTakes g (Write u at (all_of n byte)) a m b k result → StoreTakes g (Fill u at n byte) a m b k result
+unfolding is_settling
+fill_taken g a b m k u at n byte result allowed taken =
+    subst (λ (o : Outcome). StoreTakesTo o g (Fill u at n byte) a m b k result) (sym (fill_is (store_state g a m) u at n byte allowed))
+    (record { reply = taken.reply; ready = taken.ready; settled = taken.settled; crash = taken.crash })

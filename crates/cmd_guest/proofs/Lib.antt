@@ -10,14 +10,4 @@ pub mod DiskLaws
 pub mod WriteLaws
 pub mod DoneLaws
 pub mod FillLaws
-pub mod FillSteps
-pub mod FillAllowed
-pub mod FillShapes
-pub mod FillStates
-pub mod FillBetween
-pub mod FillTaken
-pub mod FillBegun
-pub mod PieceLaws
-pub mod FillPlaces
-pub mod FillLoop
 pub mod WritingLaws

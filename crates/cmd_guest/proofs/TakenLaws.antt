@@ -132,10 +132,6 @@ pub answered_all : {U : Type 0} (P : Reply → Type 0) (r : Reply) (result : Res
 answered_all P r (Ok x) h = h
 answered_all P r (Err e) h = tt
 
-pub answered_err : {U : Type 0} (r : Reply) (result : Result U Failed) → IsErr result → IsErr (answered r result)
-answered_err r (Ok x) failed = failed
-answered_err r (Err e) failed = failed
-
 -- a call that failed answered nothing
 pub err_if : {T E : Type 0} (P : T → Type 0) (result : Result T E) → IsErr result → IfOk result P
 err_if P (Ok x) h = absurd (true≢false (sym h))

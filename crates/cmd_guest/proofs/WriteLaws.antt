@@ -36,7 +36,7 @@ use Rattle.sm_machine.specs.Refusals.{refusal, named}
 use Rattle.sm_machine.specs.declared.commands.Command.{Command}
 use Rattle.sm_run.specs.Between.{IsBetween}
 use Rattle.sm_standing.specs.Contents.{record_of}
-use Rattle.sm_standing.specs.Images.{Image, image_of, image_reads, sectors_read}
+use Rattle.sm_standing.specs.Images.{Image, image_of, sectors_read}
 use Rattle.sm_standing.specs.Keeping.{IsKept}
 use Rattle.sm_standing.specs.Standing.{disks, standing_volume}
 use Rattle.sm_standing.proofs.DiskLists.{disk_parts, disks_at}
@@ -61,8 +61,6 @@ use Rattle.cmd_guest.proofs.DiskLaws.{IsWritten, disks_written, has_bytes, over}
 use Rattle.cmd_guest.proofs.NowLaws.{IsNow, disk_found, disk_own, row_now, row_read, stands_in}
 use Rattle.cmd_guest.proofs.OwnLaws.{IsOwn}
 use Rattle.cmd_guest.proofs.ReplacedLaws.{IsLike, image_other, others, replaced}
-use Rattle.cmd_guest.proofs.SectorLists.{length_read}
-use Rattle.sm_ready.proofs.WrittenLaws.{read_of}
 
 -- ---- the written image, in memory
 
@@ -168,12 +166,6 @@ module _ (s : Site) (t : VolumeTable) (m : Known) (u : List ℕ) (r : TreeRow) (
         let p = disk_parts (content_now s t old) e.uuid e (disks_at (content_now s t old) e i) in
         let same : p.name ≡ row_name r = same_Some p.name (row_name r) (sym p.standing ∙ ap (standing_volume t) uuid ∙ stands_in s t old m o ready w u r h.there h.shown h.uuid) in
         ap (λ (d : Disk). d.sectors) p.made ∙ ap (sectors_read (content_now s t old)) same)
-
-    -- the disk is as long as to where is written
-    pub own_long : (e : Disk) → In e (disks (content_now s t old)) → e.uuid ≡ u → at + n ≤ length e.sectors
-    own_long e i uuid =
-        let long = ap (λ (ss : List (List ℕ)). length ss) (each_own e i uuid ∙ read_of (content_now s t old) (row_name r) was.image was.there) ∙ length_read (image_reads (content_now s t old) (row_name r)) was.image.size in
-        omega (arith, long, fits, was.size)
 
     pub bytes_next : HasBytes (disks (content_now s t old)) (on_disk u (over at (length bytes / 512) bytes) (disks (content_now s t old))) u (Puts at bytes)
     bytes_next = has_bytes (content_now s t old) (row_name r) u at (length bytes / 512) bytes was.image was.there (omega (arith, fits, was.size)) each_own own_disk.0 own_disk.1 own_disk.2 even

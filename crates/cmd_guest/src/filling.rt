@@ -13,17 +13,18 @@ ghost use Rattle.sm_ready.specs.Taken.{StoreTakes};
 ghost use Rattle.cmd_guest.specs.Taken.{answered};
 ghost use Rattle.cmd_guest.specs.Writing.{WritesOnly};
 
-use crate::writing::write;
+use crate::writing::put;
 use sm_base::Failed;
 use sm_pool::Pool;
 use sm_ready::Memory;
 use uuid::Uuid;
 use vg_volumes::Store;
+use vhd_write::Payload;
 
 /// The bytes of a sector.
 const SECTOR: usize = 512;
 
-/// The fill, piece by piece, from bytes that are as many as the sectors of a block; each piece lies within one block.
+/// The fill: one write of so many sectors of the byte, of which a piece of a block is in memory.
 fn fill_with<S: Store>(
     store: &mut S,
     memory: &mut Memory,
@@ -46,15 +47,9 @@ fn fill_with<S: Store>(
         → StoreTakes S.Store (Fill disk.now sector count byte) store.old memory.old store.new memory.new (answered Done result) }
 {
     piece.fill(byte);
-    let block = u64::from(store.geometry().block);
-    let mut done = 0;
-    while done < count {
-        let at = sector + done;
-        let few = (block - at % block).min(count - done);
-        write(store, memory, disk, at, &piece[..SECTOR * few as usize])?;
-        done += few;
-    }
-    Ok(())
+    let block = &piece[..SECTOR * store.geometry().block as usize];
+    let from = Payload::repeated(block, byte, count);
+    put(store, memory, disk, sector, &from)
 }
 
 /// Fills so many sectors of a disk, at least one, with a byte, from a sector on. It takes no memory but a buffer of the pool,

@@ -12,11 +12,11 @@
 //!
 //! **In which units.** Disks are in sectors of 512 bytes, and so are the blocks of the pool's buffers.
 //!
-//! **What it costs.** A write over blocks that have slots is one write of the store for each run of sectors in a block, and no
-//! sync; a first write into blocks makes at most one sync for each sector of the table. A read is one read of the store for
+//! **What it costs.** A write over sectors that the disk's image holds is one read of a bitmap and one write of the store for each block,
+//! and no sync; any other makes one sync, whatever its length (`vhd_write`). A read is one read of the store for
 //! each run of sectors that one image holds, beside one of a bitmap for each VHD image that is asked. A flush is one sync.
-//! A fill costs a write for each block that it reaches. Memory is taken for the answer of a read alone, before the store is
-//! called; a fill borrows one buffer of the pool.
+//! A fill is one write of all its sectors, and costs what that costs: the bytes of a block are put by one call, from a buffer of the pool
+//! that it borrows. Memory is taken for the answer of a read alone, before the store is called.
 //!
 //! The definitions are in `specs/`: `Taken` (what a call answers) and `Writing` (where a write puts anything).
 #![tactic(auto)]

@@ -17,6 +17,35 @@ use sm_base::Failed;
 use sm_ready::{Memory, image_name};
 use uuid::Uuid;
 use vg_volumes::Store;
+use vhd_write::Payload;
+
+/// Writes the bytes to a disk, from a sector on.
+pub(crate) fn put<S: Store>(
+    store: &mut S,
+    memory: &mut Memory,
+    disk: &Uuid,
+    sector: u64,
+    from: &Payload<'_>,
+) -> Result<(), Failed>
+    requires session { IsBetweenSteps S.Store store.old memory.old }
+    requires allowed { IsAllowed S.Store (Write disk.now sector from.now) store.old memory.old }
+    ensures stays { Stays S.Store store.old store.new }
+    ensures cause { Counts S.Store result store.old store.new }
+    ensures writes { WritesOnly S.Store memory.old disk.now sector from.now store.old store.new }
+    ensures beside_tree { IsBesideTree memory.old memory.new }
+    ensures session_still { OnOk result (IsBetweenSteps S.Store store.new memory.new) }
+    ensures shape { OnOk result (ShapesAs S.Store (Write disk.now sector from.now) store.old memory.old store.new memory.new) }
+    ensures taken { S.told → IsReadyStore S.Store store.old memory.old
+        → StoreTakes S.Store (Write disk.now sector from.now) store.old memory.old store.new memory.new (answered Done result) }
+{
+    let volume = image_name(&memory.tree, disk);
+    let Some(mut row) = memory.tree.take(&volume) else {
+        unreachable!()
+    };
+    let written = row.image.write(store, sector, from);
+    memory.tree.add(row);
+    written
+}
 
 /// Writes whole sectors of a disk, at least one, from a sector on. It takes no memory, is never refused for space, and puts nothing
 /// anywhere but where it has to. What it writes lasts once the store is synced.
@@ -41,11 +70,5 @@ pub fn write<S: Store>(
     ensures taken { S.told → IsReadyStore S.Store store.old memory.old
         → StoreTakes S.Store (Write disk.now sector bytes.now) store.old memory.old store.new memory.new (answered Done result) }
 {
-    let volume = image_name(&memory.tree, disk);
-    let Some(mut row) = memory.tree.take(&volume) else {
-        unreachable!()
-    };
-    let written = row.image.write(store, sector, bytes);
-    memory.tree.add(row);
-    written
+    put(store, memory, disk, sector, &Payload::given(bytes))
 }
