@@ -8,6 +8,7 @@ use sm_base::Failed;
 use sm_pool::Pool;
 use vg_volumes::Store;
 use vhd_image::Image;
+use vhd_write::Payload;
 
 /// The bytes of a sector.
 const SECTOR: usize = 512;
@@ -37,7 +38,7 @@ fn copy_run<S: Store>(
     if run.held {
         let bytes = &mut piece[..SECTOR * run.sectors as usize];
         child.read_held(store, sector, bytes)?;
-        parent.write(store, sector, bytes)?;
+        parent.write(store, sector, &Payload::given(bytes))?;
     }
     Ok(run.sectors)
 }

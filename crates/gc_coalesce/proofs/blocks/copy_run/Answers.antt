@@ -27,40 +27,38 @@ returns-in_err-read_held-clause-copies g c = copies_none g.S.Store c.args.child.
 pub write-requires-clause-true_now : goal.write-requires-clause-true_now
 write-requires-clause-true_now g c = λ told. true-still (reads_then c.run.ensures.reads_only c.read_held.ensures.reads_only) c.args.parent.now told (c.requires.can.is_true told)
 
-run_long : (g : Over) (c : goal.After-write-arg-then-run-1 g) → length c.read_held.new.to ≡ 512 * c.in_ok-run.run'.sectors
-run_long g c =
-    let some = c.in_ok-run.ensures.some in
-    let wide = ap (λ (x : Geometry). x.block) c.geometry-wide.ensures in
-    c.read_held.auto.to ∙ length-take-le (512 * c.in_ok-run.run'.sectors) c.args.piece.now (omega (arith, some.0, some.1, wide, c.requires.long))
-
 pub write-requires-clause-room : goal.write-requires-clause-room
 write-requires-clause-room g c =
     let some = c.in_ok-run.ensures.some in
+    let wide = ap (λ (x : Geometry). x.block) c.geometry-wide.ensures in
+    let long : length c.given.result ≡ 512 * c.in_ok-run.run'.sectors = ap length c.given.ensures ∙ c.read_held.auto.to ∙ length-take-le (512 * c.in_ok-run.run'.sectors) c.args.piece.now (omega (arith, some.0, some.1, wide, c.requires.long)) in
     room_read g.S.Store c.args.parent.now c.args.block c.args.part c.in_ok-run.run'.sectors c.geometry-wide.result.block _ (reads_then c.run.ensures.reads_only c.read_held.ensures.reads_only) (ap
     (λ (x : Geometry). x.block) c.geometry-wide.ensures)
-    some.0 (omega (arith, some.0, some.1)) (run_long g c) c.requires.can.room
+    some.0 (omega (arith, some.0, some.1)) long c.requires.can.room
 
 pub returns-in_err-write-clause-copies : goal.returns-in_err-write-clause-copies
 returns-in_err-write-clause-copies g c =
-    copies_write g.S.Store c.args.child.now c.args.parent.now c.write.new.self c.args.block (c.args.block * c.geometry-wide.result.block + c.args.part) c.read_held.new.to
+    copies_write g.S.Store c.args.child.now c.args.parent.now c.write.new.self c.args.block (c.args.block * c.geometry-wide.result.block + c.args.part) c.given.result
     (reads_then c.run.ensures.reads_only c.read_held.ensures.reads_only)
-    (λ told. subst (λ (x : Stored). HoldsBytes (own_read x c.args.child.now) (c.args.block * c.geometry-wide.result.block + c.args.part) c.read_held.new.to)
-    (same-stored c.run.ensures.reads_only told) (c.in_ok-read_held.ensures.gave told))
+    (λ told. subst (λ (x : Stored). HoldsBytes (own_read x c.args.child.now) (c.args.block * c.geometry-wide.result.block + c.args.part) c.given.result)
+    (same-stored c.run.ensures.reads_only told)
+    (rw c.given.ensures (c.in_ok-read_held.ensures.gave told)))
     c.write.ensures.works c.write.ensures.guarded c.write.ensures.grown
 
 pub returns-in_ok-write-clause-copies : goal.returns-in_ok-write-clause-copies
 returns-in_ok-write-clause-copies g c =
-    copies_write g.S.Store c.args.child.now c.args.parent.now c.write.new.self c.args.block (c.args.block * c.geometry-wide.result.block + c.args.part) c.read_held.new.to
+    copies_write g.S.Store c.args.child.now c.args.parent.now c.write.new.self c.args.block (c.args.block * c.geometry-wide.result.block + c.args.part) c.given.result
     (reads_then c.run.ensures.reads_only c.read_held.ensures.reads_only)
-    (λ told. subst (λ (x : Stored). HoldsBytes (own_read x c.args.child.now) (c.args.block * c.geometry-wide.result.block + c.args.part) c.read_held.new.to)
-    (same-stored c.run.ensures.reads_only told) (c.in_ok-read_held.ensures.gave told))
+    (λ told. subst (λ (x : Stored). HoldsBytes (own_read x c.args.child.now) (c.args.block * c.geometry-wide.result.block + c.args.part) c.given.result)
+    (same-stored c.run.ensures.reads_only told)
+    (rw c.given.ensures (c.in_ok-read_held.ensures.gave told)))
     c.write.ensures.works c.write.ensures.guarded c.write.ensures.grown
 
-run_long_now : (g : Over) (c : goal.In_ok-write g) → length c.read_held.new.to ≡ 512 * c.in_ok-run.run'.sectors
+run_long_now : (g : Over) (c : goal.In_ok-write g) → length c.given.result ≡ 512 * c.in_ok-run.run'.sectors
 run_long_now g c =
     let some = c.in_ok-run.ensures.some in
     let wide = ap (λ (x : Geometry). x.block) c.geometry-wide.ensures in
-    c.read_held.auto.to ∙ length-take-le (512 * c.in_ok-run.run'.sectors) c.args.piece.now (omega (arith, some.0, some.1, wide, c.requires.long))
+    ap length c.given.ensures ∙ c.read_held.auto.to ∙ length-take-le (512 * c.in_ok-run.run'.sectors) c.args.piece.now (omega (arith, some.0, some.1, wide, c.requires.long))
 
 pub returns-in_ok-write-clause-copied : goal.returns-in_ok-write-clause-copied
 returns-in_ok-write-clause-copied g c =
@@ -68,10 +66,11 @@ returns-in_ok-write-clause-copied g c =
     let wide = ap (λ (x : Geometry). x.block) c.geometry-wide.ensures in
     let e = c.in_ok-write.ensures in
     subst (λ w. HasCopied g.S.Store c.args.child.now c.args.block (c.args.block * w + c.args.part) c.in_ok-run.run'.sectors c.args.parent.now c.write.new.self c.args.store.now c.write.new.store) wide
-    (copied_write g.S.Store c.args.child.now c.args.parent.now c.write.new.self c.args.block (c.args.block * c.geometry-wide.result.block + c.args.part) c.read_held.new.to
+    (copied_write g.S.Store c.args.child.now c.args.parent.now c.write.new.self c.args.block (c.args.block * c.geometry-wide.result.block + c.args.part) c.given.result
     (reads_then c.run.ensures.reads_only c.read_held.ensures.reads_only)
-    (λ told. subst (λ (x : Stored). HoldsBytes (own_read x c.args.child.now) (c.args.block * c.geometry-wide.result.block + c.args.part) c.read_held.new.to)
-    (same-stored c.run.ensures.reads_only told) (c.in_ok-read_held.ensures.gave told))
+    (λ told. subst (λ (x : Stored). HoldsBytes (own_read x c.args.child.now) (c.args.block * c.geometry-wide.result.block + c.args.part) c.given.result)
+    (same-stored c.run.ensures.reads_only told)
+    (rw c.given.ensures (c.in_ok-read_held.ensures.gave told)))
     c.write.ensures.works c.in_ok-run.run'.sectors c.requires.can.size
     (let all : c.args.block * c.geometry-wide.result.block ≡ c.args.block * (g.S.Store.site c.args.store.now).geometry.block = ap (λ w. c.args.block * w) wide in omega (arith, some.0, some.1, c.requires.can.within, wide, all))
     (run_long_now g c)
