@@ -1,3 +1,4 @@
+pub mod ApartLaws
 pub mod CallLaws
 pub mod SpotLaws
 pub mod StoredLaws

@@ -1,0 +1,4 @@
+pub mod SpotLaws
+pub mod EntryLaws
+pub mod TrueLaws
+pub mod LightLaws

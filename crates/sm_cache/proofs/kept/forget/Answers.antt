@@ -1,0 +1,18 @@
+use Rattle.std.proofs.Common.{◌≡◌, ap, ◌∙◌, arith}
+use Rattle.lru.specs.LruCache.{lru_cache}
+use Rattle.sm_cache.specs.Kept.{others, same_spot}
+use Rattle.sm_cache.proofs.EntryLaws.{others_more, others_none}
+use Rattle.sm_cache.proofs.kept.forget.Goals as goal
+
+pub loop-done-init : goal.loop-done-init
+loop-done-init c = ap (λ es. lru_cache es c.args.kept.now.cap) (others_none c.args.volume.now c.args.at c.args.kept.now.entries)
+
+pub loop-done-preserved : goal.loop-done-preserved
+unfolding same_spot
+loop-done-preserved c =
+    others_more c.args.volume.now c.args.at c.loop-done.done c.args.kept.now c.loop-done.kept c.pop.new.self c.loop-done.invariant c.len-len.ensures.valid.0 c.pop.ensures.entries
+
+pub returns : goal.returns
+returns c =
+    let all : c.loop-done.done ≡ c.args.sectors = omega (arith, c.loop-done-test.false, c.loop-done.auto.done-end) in
+    c.loop-done.invariant ∙ ap (λ n. lru_cache (others c.args.volume.now c.args.at n c.args.kept.now.entries) c.args.kept.now.cap) all
