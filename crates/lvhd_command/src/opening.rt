@@ -1,14 +1,17 @@
 //! A device is opened.
 
-ghost use Rattle.std.specs.Prelude.{◌≡◌, ◌≤◌, List, false, Ok, IfOk, IfErr};
+ghost use Rattle.std.specs.Prelude.{◌≡◌, ◌≤◌, ◌*◌, ℕ, List, false, Ok, IfOk, IfErr};
 ghost use Rattle.sm_base.specs.declared.faults.OpenFault.{OpenFault};
-ghost use Rattle.sm_disk.specs.Held.{Keeps, reads};
+ghost use Rattle.sm_disk.specs.Held.{Allows, Keeps, IsSettled, reads};
 ghost use Rattle.sm_machine.specs.Disks.{Disk};
 ghost use Rattle.sm_standing.specs.Devices.{Shows};
 ghost use Rattle.sm_standing.specs.Standing.{disks};
 ghost use Rattle.vg_meta.specs.Roomy.{table_alone};
-ghost use Rattle.vg_layout.specs.Opening.{plate_of};
-ghost use Rattle.vg_store.specs.Groups.{area_of};
+ghost use Rattle.vg_meta.specs.Tables.{VolumeTable};
+ghost use Rattle.vg_layout.specs.Fields.{plate, pointer};
+ghost use Rattle.vg_layout.specs.Opening.{IsRefused, StandsOn, plate_of};
+ghost use Rattle.vg_volumes.specs.Commits.{IsBefore};
+ghost use Rattle.vg_store.specs.Groups.{GroupStands, LeavesGroup, area_of};
 ghost use Rattle.vg_store.specs.Openings.{IsAnswer};
 ghost use Rattle.sm_ready.specs.Known.{known, shape_in};
 ghost use Rattle.sm_ready.specs.Ready.{IsReady};
@@ -20,10 +23,14 @@ ghost use Rattle.lvhd_command.specs.Devices.{HoldsWellOn, IsKeptDevice, IsSoundO
 ghost use Rattle.lvhd_command.specs.Running.{ShowsNothingNew, KeepsBeside, MayHaveLabel};
 
 use sm_base::OpenFault;
+use sm_cache::Cache;
 use sm_disk::Disk;
 use sm_session::Session;
 use std::alloc::Global;
 use vg_store::Group;
+
+/// How many sectors of the repository are kept in memory, at most.
+const KEPT_SECTORS: usize = 1_024;
 
 /// Opens the repository on a device: it is synced, all checks are made, and what a stop has left is repaired. `now` is in
 /// seconds since 2000-01-01 00:00 UTC. What is promised of the sectors and of the disks rests on what no check sees: that each
@@ -33,26 +40,30 @@ use vg_store::Group;
 /// # Errors
 /// The answer of the first check that fails, a fault of the device, or want of memory, with the device. Unless a call of
 /// the device failed nothing was written, and where a check fails nothing was written whatever the answer.
-pub fn open<D: Disk>(alloc: Global, disk: D, now: u32) -> Result<Session<Group<D>>, (OpenFault, D)>
-    ensures size { IfOk result (λ s. D.size s.store.disk ≡ D.size disk) }
-    ensures calm { IfOk result (λ s. D.faults s.store.disk ≡ D.faults disk) }
+pub fn open<D: Disk>(
+    alloc: Global,
+    disk: D,
+    now: u32,
+) -> Result<Session<Cache<Group<D>>>, (OpenFault, D)>
+    ensures size { IfOk result (λ s. D.size s.store.inner.disk ≡ D.size disk) }
+    ensures calm { IfOk result (λ s. D.faults s.store.inner.disk ≡ D.faults disk) }
     ensures whole { IfOk result (λ s. s.broken ≡ false) }
     ensures now { IfOk result (λ s. s.now ≡ now) }
     ensures sound { IfOk result (λ s. D.told → IsSoundOn (D.size disk) (reads (D.held disk))) }
     ensures ready { IfOk result (λ s. D.told → HoldsWellOn (D.size disk) (reads (D.held disk))
-        → IsReady (site_on s.store.label (D.size s.store.disk)) (table_alone s.store.table) (area_of (D.held s.store.disk)) (known s.memory)) }
+        → IsReady (site_on s.store.inner.label (D.size s.store.inner.disk)) (table_alone s.store.inner.table) (area_of (D.held s.store.inner.disk)) (known s.memory)) }
     ensures shown { IfOk result (λ s. D.told → HoldsWellOn (D.size disk) (reads (D.held disk))
-        → Shows (D.size disk) (reads (D.held disk)) (disks (content_now (site_on s.store.label (D.size s.store.disk)) (table_alone s.store.table) (area_of (D.held s.store.disk))))) }
+        → Shows (D.size disk) (reads (D.held disk)) (disks (content_now (site_on s.store.inner.label (D.size s.store.inner.disk)) (table_alone s.store.inner.table) (area_of (D.held s.store.inner.disk))))) }
     ensures opened { IfOk result (λ s. D.told → HoldsWellOn (D.size disk) (reads (D.held disk))
-        → IsOpenedOn (D.size disk) (reads (D.held disk)) (shape_in (site_on s.store.label (D.size s.store.disk)) (table_alone s.store.table) (known s.memory))) }
-    ensures label { IfOk result (λ s. D.told → plate_of (D.size disk) (reads (D.held disk)) ≡ Ok (plate_at (site_on s.store.label (D.size s.store.disk)))) }
+        → IsOpenedOn (D.size disk) (reads (D.held disk)) (shape_in (site_on s.store.inner.label (D.size s.store.inner.disk)) (table_alone s.store.inner.table) (known s.memory))) }
+    ensures label { IfOk result (λ s. D.told → plate_of (D.size disk) (reads (D.held disk)) ≡ Ok (plate_at (site_on s.store.inner.label (D.size s.store.inner.disk)))) }
     ensures kept { IfOk result (λ s. D.told → HoldsWellOn (D.size disk) (reads (D.held disk))
-        → KeepsAll (site_on s.store.label (D.size s.store.disk))
-        (group_leaves D.told (D.size s.store.disk) (D.held s.store.disk) s.store.label s.store.failed (table_alone s.store.table))) }
+        → KeepsAll (site_on s.store.inner.label (D.size s.store.inner.disk))
+        (group_leaves D.told (D.size s.store.inner.disk) (D.held s.store.inner.disk) s.store.inner.label s.store.inner.failed (table_alone s.store.inner.table))) }
     ensures begins { IfOk result (λ s. D.told → HoldsWellOn (D.size disk) (reads (D.held disk))
-        → BeginsSettled (state_in (site_on s.store.label (D.size s.store.disk)) (table_alone s.store.table) (area_of (D.held s.store.disk)) (known s.memory))
-        (MayShow (site_on s.store.label (D.size s.store.disk)) (group_leaves D.told (D.size s.store.disk) (D.held s.store.disk) s.store.label s.store.failed (table_alone s.store.table)))) }
-    ensures beside { IfOk result (λ s. D.told → KeepsBeside (D.size disk) (D.held disk) (D.held s.store.disk)) }
+        → BeginsSettled (state_in (site_on s.store.inner.label (D.size s.store.inner.disk)) (table_alone s.store.inner.table) (area_of (D.held s.store.inner.disk)) (known s.memory))
+        (MayShow (site_on s.store.inner.label (D.size s.store.inner.disk)) (group_leaves D.told (D.size s.store.inner.disk) (D.held s.store.inner.disk) s.store.inner.label s.store.inner.failed (table_alone s.store.inner.table)))) }
+    ensures beside { IfOk result (λ s. D.told → KeepsBeside (D.size disk) (D.held disk) (D.held s.store.inner.disk)) }
     ensures size_back { IfErr result (λ e. D.size e.1 ≡ D.size disk) }
     ensures counts_back { IfErr result (λ e. D.faults disk ≤ D.faults e.1) }
     ensures refused { IfErr result (λ e. IsAnswer (λ f. D.told → IsRefusedOn (D.size disk) (reads (D.held disk)) f) (D.faults disk) (D.faults e.1) e.0) }
@@ -65,12 +76,51 @@ pub fn open<D: Disk>(alloc: Global, disk: D, now: u32) -> Result<Session<Group<D
     ensures shown_back { IfErr result (λ e. D.told → HoldsWellOn (D.size disk) (reads (D.held disk))
         → ShowsNothingNew (D.size disk) (D.held disk) (D.held e.1)) }
 {
-    let group = match Group::open(alloc, disk) {
-        Ok(group) => group,
+    let cache = match open_group(alloc, disk) {
+        Ok(cache) => cache,
         Err((fault, disk)) => return Err((fault, disk)),
     };
-    match Session::begin(alloc, group, now) {
+    match Session::begin(alloc, cache, now) {
         Ok(session) => Ok(session),
-        Err((fault, group)) => Err((fault, group.into_disk())),
+        Err((fault, cache)) => Err((fault, into_disk(cache))),
     }
+}
+
+/// Opens the volume group on a device, by the first five checks, with room for the sectors that are kept of it.
+///
+/// # Errors
+/// The answer of the first check that fails, a fault of the device, or want of memory, with the device. Nothing was written.
+fn open_group<D: Disk>(alloc: Global, disk: D) -> Result<Cache<Group<D>>, (OpenFault, D)>
+    ensures size { IfOk result (λ c. D.size c.inner.disk ≡ D.size disk) }
+    ensures calm { IfOk result (λ c. D.faults c.inner.disk ≡ D.faults disk) }
+    ensures keeps { IfOk result (λ c. D.told → Keeps (D.held disk) (D.held c.inner.disk)) }
+    ensures area { IfOk result (λ c. D.told → Keeps (area_of (D.held disk)) (area_of (D.held c.inner.disk))) }
+    ensures settled { IfOk result (λ c. D.told → IsSettled (D.held c.inner.disk)) }
+    ensures usable { IfOk result (λ c. c.inner.failed ≡ false) }
+    ensures stands { IfOk result (λ c. D.told → StandsOn (D.size disk) (reads (D.held disk))
+        (record { plate = plate c.inner.label; pointer = pointer c.inner.header; table = table_alone c.inner.table })) }
+    ensures size_back { IfErr result (λ e. D.size e.1 ≡ D.size disk) }
+    ensures counts_back { IfErr result (λ e. D.faults disk ≤ D.faults e.1) }
+    ensures keeps_back { IfErr result (λ e. D.told → Keeps (D.held disk) (D.held e.1)) }
+    ensures err { IfErr result (λ e. IsAnswer (λ f. D.told → IsRefused (D.size disk) (reads (D.held disk)) f) (D.faults disk) (D.faults e.1) e.0) }
+{
+    let group = match Group::open(alloc, disk) {
+        Ok(group) => group,
+        Err(back) => return Err(back),
+    };
+    match Cache::new(alloc, group, KEPT_SECTORS) {
+        Ok(cache) => Ok(cache),
+        Err(group) => Err((OpenFault::NoMemory, group.into_disk())),
+    }
+}
+
+/// The device below, as it is. No call is made on it.
+pub(crate) fn into_disk<D: Disk>(cache: Cache<Group<D>>) -> D
+    ensures disk { result ≡ cache.inner.disk }
+    ensures leaves { D.told → cache.inner.failed ≡ false → (t : VolumeTable) (image : ℕ → List ℕ)
+        → LeavesGroup (D.size result) (D.held result) (plate cache.inner.label) t image
+        → IsBefore (cache.inner.label.extents * cache.inner.label.geometry.extent) (table_alone cache.inner.table) (area_of (D.held result)) t image }
+    ensures stands { D.told → (image : ℕ → List ℕ) → Allows (D.size result) (D.held result) image → GroupStands (D.size result) image (plate cache.inner.label) }
+{
+    cache.into_inner().into_disk()
 }

@@ -16,10 +16,11 @@ ghost use Rattle.lvhd_command.specs.Devices.{IsKeptDevice, IsRefusedOn, site_on}
 ghost use Rattle.lvhd_command.specs.Running.{RunDid, HasStayed, IsGivenBack, KeepsBeside, ShowsOnly, HasTold, sides, status_of};
 
 use crate::formatting::said;
-use crate::opening::open;
+use crate::opening::{into_disk, open};
 use crate::statuses::Status;
 use crate::texts::print_fault;
 use sm_base::OpenFault;
+use sm_cache::Cache;
 use sm_disk::{Disk, Sink, Source};
 use sm_run::{LineBuffer, RunFault, run};
 use sm_session::Session;
@@ -94,26 +95,26 @@ fn status_of_fault(fault: RunFault) -> Status
 }
 
 /// The device of a session, as it is. No call is made on it.
-pub(crate) fn leave<D: Disk>(session: Session<Group<D>>) -> D
-    ensures disk { result ≡ session.store.disk }
-    ensures stands { D.told → (image : ℕ → List ℕ) → Allows (D.size session.store.disk) (D.held session.store.disk) image → GroupStands (D.size session.store.disk) image (plate session.store.label) }
-    ensures one { D.told → session.broken ≡ false → (t : VolumeTable) (image : ℕ → List ℕ) → LeavesGroup (D.size session.store.disk) (D.held session.store.disk) (plate session.store.label) t image → t ≡ table_alone session.store.table }
+pub(crate) fn leave<D: Disk>(session: Session<Cache<Group<D>>>) -> D
+    ensures disk { result ≡ session.store.inner.disk }
+    ensures stands { D.told → (image : ℕ → List ℕ) → Allows (D.size session.store.inner.disk) (D.held session.store.inner.disk) image → GroupStands (D.size session.store.inner.disk) image (plate session.store.inner.label) }
+    ensures one { D.told → session.broken ≡ false → (t : VolumeTable) (image : ℕ → List ℕ) → LeavesGroup (D.size session.store.inner.disk) (D.held session.store.inner.disk) (plate session.store.inner.label) t image → t ≡ table_alone session.store.inner.table }
 {
-    session.into_store().into_disk()
+    into_disk(session.into_store())
 }
 
 /// Makes all that was written last, and hands the device back.
-pub(crate) fn close<D: Disk>(session: Session<Group<D>>) -> (Status, D)
-    ensures size { D.size result.1 ≡ D.size session.store.disk }
-    ensures counts { D.faults session.store.disk ≤ D.faults result.1 }
+pub(crate) fn close<D: Disk>(session: Session<Cache<Group<D>>>) -> (Status, D)
+    ensures size { D.size result.1 ≡ D.size session.store.inner.disk }
+    ensures counts { D.faults session.store.inner.disk ≤ D.faults result.1 }
     ensures status { ((result.0 ≡ Done) × (D.told → IsSettled (D.held result.1))) ⊎ (result.0 ≡ Device) }
-    ensures device { result.0 ≡ Device → Rose (D.faults session.store.disk) (D.faults result.1) }
-    ensures calm { result.0 ≢ Device → D.faults result.1 ≡ D.faults session.store.disk }
-    ensures keeps { D.told → Keeps (D.held session.store.disk) (D.held result.1) }
-    ensures back { D.told → IsGivenBack (D.size session.store.disk) (site_on session.store.label (D.size session.store.disk)) (D.held session.store.disk) (D.held result.1) }
-    ensures one { D.told → session.broken ≡ false → (t : VolumeTable) (image : ℕ → List ℕ) → LeavesGroup (D.size session.store.disk) (D.held result.1) (plate session.store.label) t image → t ≡ table_alone session.store.table }
-    ensures shown { D.told → session.broken ≡ false → IsReady (site_on session.store.label (D.size session.store.disk)) (table_alone session.store.table) (area_of (D.held session.store.disk)) (known session.memory)
-        → IsSettled (D.held result.1) → ShowsOnly (D.size session.store.disk) (D.held result.1) (disks (content_now (site_on session.store.label (D.size session.store.disk)) (table_alone session.store.table) (area_of (D.held session.store.disk)))) }
+    ensures device { result.0 ≡ Device → Rose (D.faults session.store.inner.disk) (D.faults result.1) }
+    ensures calm { result.0 ≢ Device → D.faults result.1 ≡ D.faults session.store.inner.disk }
+    ensures keeps { D.told → Keeps (D.held session.store.inner.disk) (D.held result.1) }
+    ensures back { D.told → IsGivenBack (D.size session.store.inner.disk) (site_on session.store.inner.label (D.size session.store.inner.disk)) (D.held session.store.inner.disk) (D.held result.1) }
+    ensures one { D.told → session.broken ≡ false → (t : VolumeTable) (image : ℕ → List ℕ) → LeavesGroup (D.size session.store.inner.disk) (D.held result.1) (plate session.store.inner.label) t image → t ≡ table_alone session.store.inner.table }
+    ensures shown { D.told → session.broken ≡ false → IsReady (site_on session.store.inner.label (D.size session.store.inner.disk)) (table_alone session.store.inner.table) (area_of (D.held session.store.inner.disk)) (known session.memory)
+        → IsSettled (D.held result.1) → ShowsOnly (D.size session.store.inner.disk) (D.held result.1) (disks (content_now (site_on session.store.inner.label (D.size session.store.inner.disk)) (table_alone session.store.inner.table) (area_of (D.held session.store.inner.disk)))) }
 {
     let mut disk = leave(session);
     match disk.sync() {

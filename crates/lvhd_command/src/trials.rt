@@ -22,6 +22,7 @@ use crate::running::{close, leave, refuse};
 use crate::statuses::Status;
 use crate::texts::{print_summary, print_too_small};
 use sm_base::{CallFault, Geometry};
+use sm_cache::Cache;
 use sm_disk::{Disk, Sink};
 use sm_session::Session;
 use sm_trial::{Ending, Tally, count_all, try_lines};
@@ -85,28 +86,28 @@ pub fn run_trial<D: Disk, K: Sink>(
 fn try_session<D: Disk, K: Sink>(
     alloc: Global,
     number: u64,
-    session: Session<Group<D>>,
+    session: Session<Cache<Group<D>>>,
     sink: &mut K,
 ) -> (Status, D)
     requires whole { session.broken ≡ false }
-    ensures size { D.size result.1 ≡ D.size session.store.disk }
-    ensures counts { D.faults session.store.disk ≤ D.faults result.1 }
+    ensures size { D.size result.1 ≡ D.size session.store.inner.disk }
+    ensures counts { D.faults session.store.inner.disk ≤ D.faults result.1 }
     ensures sink_counts { K.faults sink.old ≤ K.faults sink.new }
     ensures few { (result.0 ≡ Done) ⊎ ((result.0 ≡ Device) ⊎ ((result.0 ≡ SinkFailed) ⊎ (result.0 ≡ Memory))) }
-    ensures device { result.0 ≡ Device → Rose (D.faults session.store.disk) (D.faults result.1) }
+    ensures device { result.0 ≡ Device → Rose (D.faults session.store.inner.disk) (D.faults result.1) }
     ensures sink { result.0 ≡ SinkFailed → Rose (K.faults sink.old) (K.faults sink.new) }
-    ensures calm { result.0 ≢ Device → D.faults result.1 ≡ D.faults session.store.disk }
+    ensures calm { result.0 ≢ Device → D.faults result.1 ≡ D.faults session.store.inner.disk }
     ensures sink_calm { result.0 ≢ SinkFailed → K.faults sink.new ≡ K.faults sink.old }
     ensures tried { D.told
-        → IsReady (site_on session.store.label (D.size session.store.disk)) (table_alone session.store.table) (area_of (D.held session.store.disk)) (known session.memory)
-        → KeepsAll (site_on session.store.label (D.size session.store.disk))
-        (group_leaves D.told (D.size session.store.disk) (D.held session.store.disk) session.store.label session.store.failed (table_alone session.store.table))
-        → SessionTried (D.size session.store.disk) (D.held result.1) (K.content sink.old) (K.content sink.new)
-        (state_in (site_on session.store.label (D.size session.store.disk)) (table_alone session.store.table) (area_of (D.held session.store.disk)) (known session.memory)) number result.0 }
-    ensures label { D.told → result.0 ≡ Done → HasPlate (D.size session.store.disk) (D.held result.1)
-        (plate_at (site_on session.store.label (D.size session.store.disk))) }
-    ensures beside { D.told → Keeps (beside_of (area_size (site_on session.store.label (D.size session.store.disk))) (D.held session.store.disk))
-        (beside_of (area_size (site_on session.store.label (D.size session.store.disk))) (D.held result.1)) }
+        → IsReady (site_on session.store.inner.label (D.size session.store.inner.disk)) (table_alone session.store.inner.table) (area_of (D.held session.store.inner.disk)) (known session.memory)
+        → KeepsAll (site_on session.store.inner.label (D.size session.store.inner.disk))
+        (group_leaves D.told (D.size session.store.inner.disk) (D.held session.store.inner.disk) session.store.inner.label session.store.inner.failed (table_alone session.store.inner.table))
+        → SessionTried (D.size session.store.inner.disk) (D.held result.1) (K.content sink.old) (K.content sink.new)
+        (state_in (site_on session.store.inner.label (D.size session.store.inner.disk)) (table_alone session.store.inner.table) (area_of (D.held session.store.inner.disk)) (known session.memory)) number result.0 }
+    ensures label { D.told → result.0 ≡ Done → HasPlate (D.size session.store.inner.disk) (D.held result.1)
+        (plate_at (site_on session.store.inner.label (D.size session.store.inner.disk))) }
+    ensures beside { D.told → Keeps (beside_of (area_size (site_on session.store.inner.label (D.size session.store.inner.disk))) (D.held session.store.inner.disk))
+        (beside_of (area_size (site_on session.store.inner.label (D.size session.store.inner.disk))) (D.held result.1)) }
 {
     let mut session = session;
     let tally = match try_lines(alloc, &mut session, number) {
@@ -132,34 +133,34 @@ fn status_of_call(why: CallFault) -> Status
 
 /// Makes all last, and then prints what was counted.
 fn say<D: Disk, K: Sink>(
-    session: Session<Group<D>>,
+    session: Session<Cache<Group<D>>>,
     number: u64,
     tally: &Tally,
     ending: &Ending,
     sink: &mut K,
 ) -> (Status, D)
     requires whole { session.broken ≡ false }
-    ensures size { D.size result.1 ≡ D.size session.store.disk }
-    ensures counts { D.faults session.store.disk ≤ D.faults result.1 }
+    ensures size { D.size result.1 ≡ D.size session.store.inner.disk }
+    ensures counts { D.faults session.store.inner.disk ≤ D.faults result.1 }
     ensures sink_counts { K.faults sink.old ≤ K.faults sink.new }
     ensures said { SaysTrial (line_of (summary_words number tally.now ending.now.disks ending.now.images ending.now.free))
         (K.content sink.old) (K.content sink.new) result.0 }
-    ensures device { result.0 ≡ Device → Rose (D.faults session.store.disk) (D.faults result.1) }
+    ensures device { result.0 ≡ Device → Rose (D.faults session.store.inner.disk) (D.faults result.1) }
     ensures sink { result.0 ≡ SinkFailed → Rose (K.faults sink.old) (K.faults sink.new) }
-    ensures calm { result.0 ≢ Device → D.faults result.1 ≡ D.faults session.store.disk }
+    ensures calm { result.0 ≢ Device → D.faults result.1 ≡ D.faults session.store.inner.disk }
     ensures sink_calm { result.0 ≢ SinkFailed → K.faults sink.new ≡ K.faults sink.old }
-    ensures label { D.told → HasPlate (D.size session.store.disk) (D.held result.1)
-        (plate_at (site_on session.store.label (D.size session.store.disk))) }
-    ensures keeps { D.told → Keeps (D.held session.store.disk) (D.held result.1) }
-    ensures kept { D.told → KeepsAll (site_on session.store.label (D.size session.store.disk))
-        (group_leaves D.told (D.size session.store.disk) (D.held session.store.disk) session.store.label session.store.failed (table_alone session.store.table))
-        → IsKeptDevice (D.size session.store.disk) (D.held result.1) }
+    ensures label { D.told → HasPlate (D.size session.store.inner.disk) (D.held result.1)
+        (plate_at (site_on session.store.inner.label (D.size session.store.inner.disk))) }
+    ensures keeps { D.told → Keeps (D.held session.store.inner.disk) (D.held result.1) }
+    ensures kept { D.told → KeepsAll (site_on session.store.inner.label (D.size session.store.inner.disk))
+        (group_leaves D.told (D.size session.store.inner.disk) (D.held session.store.inner.disk) session.store.inner.label session.store.inner.failed (table_alone session.store.inner.table))
+        → IsKeptDevice (D.size session.store.inner.disk) (D.held result.1) }
     ensures rests { D.told
-        → IsReady (site_on session.store.label (D.size session.store.disk)) (table_alone session.store.table) (area_of (D.held session.store.disk)) (known session.memory)
-        → KeepsAll (site_on session.store.label (D.size session.store.disk))
-        (group_leaves D.told (D.size session.store.disk) (D.held session.store.disk) session.store.label session.store.failed (table_alone session.store.table))
-        → result.0 ≢ Device → RestsAs (D.size session.store.disk) (D.held result.1)
-        (state_in (site_on session.store.label (D.size session.store.disk)) (table_alone session.store.table) (area_of (D.held session.store.disk)) (known session.memory)) }
+        → IsReady (site_on session.store.inner.label (D.size session.store.inner.disk)) (table_alone session.store.inner.table) (area_of (D.held session.store.inner.disk)) (known session.memory)
+        → KeepsAll (site_on session.store.inner.label (D.size session.store.inner.disk))
+        (group_leaves D.told (D.size session.store.inner.disk) (D.held session.store.inner.disk) session.store.inner.label session.store.inner.failed (table_alone session.store.inner.table))
+        → result.0 ≢ Device → RestsAs (D.size session.store.inner.disk) (D.held result.1)
+        (state_in (site_on session.store.inner.label (D.size session.store.inner.disk)) (table_alone session.store.inner.table) (area_of (D.held session.store.inner.disk)) (known session.memory)) }
 {
     let (status, disk) = close(session);
     match status {

@@ -34,40 +34,40 @@ returns-in-Ok-begin-clause-size g c = ap (λ (s : Site). s.sectors) c.in-Ok-begi
 pub returns-in-Ok-begin-clause-sound : goal.returns-in-Ok-begin-clause-sound
 returns-in-Ok-begin-clause-sound g c = λ told.
     let e = c.in-Ok.ensures in
-    let group = c.in-Ok.group in
+    let group = c.in-Ok.cache.inner in
     sound_entry (g.D.Disk.size c.args.disk) (g.D.Disk.held c.args.disk) (g.D.Disk.held group.disk) (site_on group.label (g.D.Disk.size group.disk)) (pointer group.header) (table_alone group.table)
     (e.area told) (e.stands told) (c.in-Ok-begin.ensures.sound told)
 
 pub returns-in-Ok-begin-clause-shown : goal.returns-in-Ok-begin-clause-shown
 returns-in-Ok-begin-clause-shown g c = λ told holding.
     let e = c.in-Ok.ensures in
-    let group = c.in-Ok.group in
+    let group = c.in-Ok.cache.inner in
     shown_entry (g.D.Disk.size c.args.disk) (g.D.Disk.held c.args.disk) (g.D.Disk.held group.disk) (site_on group.label (g.D.Disk.size group.disk)) (pointer group.header) (table_alone group.table) _
     (e.area told) (e.stands told) (c.in-Ok-begin.ensures.disks told (well_entry (g.D.Disk.size c.args.disk) (g.D.Disk.held c.args.disk) (g.D.Disk.held group.disk) (site_on group.label (g.D.Disk.size group.disk)) (pointer group.header) (table_alone group.table) (e.area told) (e.stands told) holding))
 
 pub returns-in-Ok-begin-clause-opened : goal.returns-in-Ok-begin-clause-opened
 returns-in-Ok-begin-clause-opened g c = λ told holding.
     let e = c.in-Ok.ensures in
-    let group = c.in-Ok.group in
+    let group = c.in-Ok.cache.inner in
     opened_entry (g.D.Disk.size c.args.disk) (g.D.Disk.held c.args.disk) (g.D.Disk.held group.disk) (site_on group.label (g.D.Disk.size group.disk)) (pointer group.header) (table_alone group.table) _
     (e.area told) (e.stands told) (c.in-Ok-begin.ensures.opened told (well_entry (g.D.Disk.size c.args.disk) (g.D.Disk.held c.args.disk) (g.D.Disk.held group.disk) (site_on group.label (g.D.Disk.size group.disk)) (pointer group.header) (table_alone group.table) (e.area told) (e.stands told) holding))
 
 pub returns-in-Ok-begin-clause-ready : goal.returns-in-Ok-begin-clause-ready
 returns-in-Ok-begin-clause-ready g c = λ told holding.
     let e = c.in-Ok.ensures in
-    let group = c.in-Ok.group in
+    let group = c.in-Ok.cache.inner in
     c.in-Ok-begin.ensures.ready told (well_entry (g.D.Disk.size c.args.disk) (g.D.Disk.held c.args.disk) (g.D.Disk.held group.disk) (site_on group.label (g.D.Disk.size group.disk)) (pointer group.header) (table_alone group.table) (e.area told) (e.stands told) holding)
 
 pub returns-in-Ok-begin-clause-kept : goal.returns-in-Ok-begin-clause-kept
 returns-in-Ok-begin-clause-kept g c = λ told holding.
     let e = c.in-Ok.ensures in
-    let group = c.in-Ok.group in
+    let group = c.in-Ok.cache.inner in
     c.in-Ok-begin.ensures.kept told (well_entry (g.D.Disk.size c.args.disk) (g.D.Disk.held c.args.disk) (g.D.Disk.held group.disk) (site_on group.label (g.D.Disk.size group.disk)) (pointer group.header) (table_alone group.table) (e.area told) (e.stands told) holding)
 
 pub returns-in-Ok-begin-clause-begins : goal.returns-in-Ok-begin-clause-begins
 returns-in-Ok-begin-clause-begins g c = λ told holding.
     let e = c.in-Ok.ensures in
-    let group = c.in-Ok.group in
+    let group = c.in-Ok.cache.inner in
     c.in-Ok-begin.ensures.begins told (well_entry (g.D.Disk.size c.args.disk) (g.D.Disk.held c.args.disk) (g.D.Disk.held group.disk) (site_on group.label (g.D.Disk.size group.disk)) (pointer group.header) (table_alone group.table) (e.area told) (e.stands told) holding)
 
 pub returns-in-Err-begin-clause-size_back : goal.returns-in-Err-begin-clause-size_back
@@ -76,7 +76,7 @@ returns-in-Err-begin-clause-size_back g c = ap g.D.Disk.size c.into_disk.ensures
 pub returns-in-Err-begin-clause-refused : goal.returns-in-Err-begin-clause-refused
 returns-in-Err-begin-clause-refused g c =
     let e = c.in-Ok.ensures in
-    let group = c.in-Ok.group in
+    let group = c.in-Ok.cache.inner in
     refused_content g.D.Disk.told (g.D.Disk.size c.args.disk) (g.D.Disk.held c.args.disk) (g.D.Disk.held group.disk) (site_on group.label (g.D.Disk.size group.disk)) (pointer group.header) (table_alone group.table)
     (g.D.Disk.faults c.args.disk) (g.D.Disk.faults group.disk) _ c.in-Err-begin.fault e.calm (λ other. ap g.D.Disk.faults c.into_disk.ensures.disk ∙ c.in-Err-begin.ensures.calm_back other) e.area e.stands
     (subst (λ d. IsOpeningStopped g.D.Disk.told (content_now (site_on group.label (g.D.Disk.size group.disk)) (table_alone group.table) (area_of (g.D.Disk.held group.disk))) (g.D.Disk.faults group.disk) (g.D.Disk.faults d) c.in-Err-begin.fault)
@@ -86,8 +86,8 @@ pub returns-in-Err-begin-clause-kept_back : goal.returns-in-Err-begin-clause-kep
 returns-in-Err-begin-clause-kept_back g c = λ told kept.
     let holding = kept_well (g.D.Disk.size c.args.disk) (g.D.Disk.held c.args.disk) kept in
     let e = c.in-Ok.ensures in
-    let group = c.in-Ok.group in
-    let back = c.in-Err-begin.group in
+    let group = c.in-Ok.cache.inner in
+    let back = c.in-Err-begin.cache.inner in
     let d = c.into_disk.result in
     let size = g.D.Disk.size c.args.disk in
     let site : Site = site_on group.label (g.D.Disk.size group.disk) in
@@ -102,8 +102,8 @@ returns-in-Err-begin-clause-kept_back g c = λ told kept.
 pub returns-in-Err-begin-clause-shown_back : goal.returns-in-Err-begin-clause-shown_back
 returns-in-Err-begin-clause-shown_back g c = λ told holding.
     let e = c.in-Ok.ensures in
-    let group = c.in-Ok.group in
-    let back = c.in-Err-begin.group in
+    let group = c.in-Ok.cache.inner in
+    let back = c.in-Err-begin.cache.inner in
     let d = c.into_disk.result in
     let size = g.D.Disk.size c.args.disk in
     let site : Site = site_on group.label (g.D.Disk.size group.disk) in
@@ -128,12 +128,12 @@ returns-in-Err-clause-beside_back g c = λ told. beside_whole (g.D.Disk.size c.a
 pub returns-in-Ok-begin-clause-beside : goal.returns-in-Ok-begin-clause-beside
 returns-in-Ok-begin-clause-beside g c = λ told.
     let e = c.in-Ok.ensures in
-    let group = c.in-Ok.group in
+    let group = c.in-Ok.cache.inner in
     let s = c.in-Ok-begin.session in
     let site : Site = site_on group.label (g.D.Disk.size group.disk) in
-    let same : area_size (site_on s.store.label (g.D.Disk.size s.store.disk)) ≡ area_size site = ap area_size c.in-Ok-begin.ensures.site in
-    let k = subst (λ n. Keeps (beside_of (area_size site) (g.D.Disk.held group.disk)) (beside_of n (g.D.Disk.held s.store.disk))) same (c.in-Ok-begin.ensures.beside told) in
-    beside_then (g.D.Disk.size c.args.disk) (g.D.Disk.held c.args.disk) (g.D.Disk.held group.disk) (g.D.Disk.held s.store.disk) site (e.stands told).labelled
+    let same : area_size (site_on s.store.inner.label (g.D.Disk.size s.store.inner.disk)) ≡ area_size site = ap area_size c.in-Ok-begin.ensures.site in
+    let k = subst (λ n. Keeps (beside_of (area_size site) (g.D.Disk.held group.disk)) (beside_of n (g.D.Disk.held s.store.inner.disk))) same (c.in-Ok-begin.ensures.beside told) in
+    beside_then (g.D.Disk.size c.args.disk) (g.D.Disk.held c.args.disk) (g.D.Disk.held group.disk) (g.D.Disk.held s.store.inner.disk) site (e.stands told).labelled
     (beside_whole (g.D.Disk.size c.args.disk) (g.D.Disk.held c.args.disk) (g.D.Disk.held group.disk) (e.keeps told)) k
 
 pub returns-in-Err-begin-clause-untouched : goal.returns-in-Err-begin-clause-untouched
@@ -145,10 +145,10 @@ returns-in-Err-begin-clause-untouched g c = λ told.
 pub returns-in-Err-begin-clause-beside_back : goal.returns-in-Err-begin-clause-beside_back
 returns-in-Err-begin-clause-beside_back g c = λ told.
     let e = c.in-Ok.ensures in
-    let group = c.in-Ok.group in
+    let group = c.in-Ok.cache.inner in
     let site : Site = site_on group.label (g.D.Disk.size group.disk) in
     let beside = subst (λ x. Keeps (beside_of (area_size site) (g.D.Disk.held group.disk)) (beside_of (area_size site) (g.D.Disk.held x))) (sym c.into_disk.ensures.disk)
-    (subst (λ n. Keeps (beside_of (area_size site) (g.D.Disk.held group.disk)) (beside_of n (g.D.Disk.held c.in-Err-begin.group.disk))) (ap area_size c.in-Err-begin.ensures.site_back) (c.in-Err-begin.ensures.beside_back told)) in
+    (subst (λ n. Keeps (beside_of (area_size site) (g.D.Disk.held group.disk)) (beside_of n (g.D.Disk.held c.in-Err-begin.cache.inner.disk))) (ap area_size c.in-Err-begin.ensures.site_back) (c.in-Err-begin.ensures.beside_back told)) in
     beside_then (g.D.Disk.size c.args.disk) (g.D.Disk.held c.args.disk) (g.D.Disk.held group.disk) (g.D.Disk.held c.into_disk.result) site (e.stands told).labelled
     (beside_whole (g.D.Disk.size c.args.disk) (g.D.Disk.held c.args.disk) (g.D.Disk.held group.disk) (e.keeps told))
     beside
@@ -156,7 +156,7 @@ returns-in-Err-begin-clause-beside_back g c = λ told.
 pub returns-in-Err-begin-clause-unsound : goal.returns-in-Err-begin-clause-unsound
 returns-in-Err-begin-clause-unsound g c = λ told f refused.
     let e = c.in-Ok.ensures in
-    let group = c.in-Ok.group in
+    let group = c.in-Ok.cache.inner in
     let never = never_sound (g.D.Disk.size c.args.disk) (g.D.Disk.held c.args.disk) (g.D.Disk.held group.disk) (site_on group.label (g.D.Disk.size group.disk)) (pointer group.header) (table_alone group.table) f
     (e.area told) (e.stands told) refused in
     subst (λ x. Keeps (g.D.Disk.held c.args.disk) (g.D.Disk.held x)) (sym c.into_disk.ensures.disk) (Keeps-then (e.keeps told) (c.in-Err-begin.ensures.unsound_back told never))
@@ -171,8 +171,8 @@ returns-in-Err-clause-label_back g c = λ told image allowed. inl (Allows-keeps 
 pub returns-in-Err-begin-clause-label_back : goal.returns-in-Err-begin-clause-label_back
 returns-in-Err-begin-clause-label_back g c = λ told image allowed.
     let e = c.in-Ok.ensures in
-    let group = c.in-Ok.group in
-    let back = c.in-Err-begin.group in
+    let group = c.in-Ok.cache.inner in
+    let back = c.in-Err-begin.cache.inner in
     let d = c.into_disk.result in
     let size = g.D.Disk.size c.args.disk in
     let site : Site = site_on group.label (g.D.Disk.size group.disk) in

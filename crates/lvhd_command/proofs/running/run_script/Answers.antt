@@ -47,16 +47,16 @@ returns-in-Ok-run-clause-did g c = λ told kept.
     } in
     let e = c.in-Ok-open.ensures in
     let m = c.run.new.machine in
-    let n = g.D.Disk.size m.store.disk in
-    let site : Site = site_on m.store.label n in
+    let n = g.D.Disk.size m.store.inner.disk in
+    let site : Site = site_on m.store.inner.label n in
     let is_size : n ≡ s.size = ap (λ (x : Site). x.sectors) c.run.ensures.site ∙ e.size in
     let labelled = e.label told ∙ ap (λ (x : Site). Ok (plate_at x)) (sym c.run.ensures.site) in
     let slots = kept_well (g.D.Disk.size c.args.disk) (g.D.Disk.held c.args.disk) kept in
     let r = c.run.ensures.run told (e.whole, e.ready told slots) (e.kept told slots) (e.begins told slots) in
     let ready = r.ready (λ failed. ok_not_err c.run.result _ _ c.in-Ok-run.is failed) in
-    inl (has_run_sized s c.close.result.0 n site (table_alone m.store.table) (g.D.Disk.held m.store.disk) _ _ c.run.result _ g.D.Disk.told m.store.failed is_size (e.sound told) (e.shown told slots) (e.opened told slots) r
+    inl (has_run_sized s c.close.result.0 n site (table_alone m.store.inner.table) (g.D.Disk.held m.store.inner.disk) _ _ c.run.result _ g.D.Disk.told m.store.inner.failed is_size (e.sound told) (e.shown told slots) (e.opened told slots) r
     (c.close.ensures.back told) (λ q. c.close.ensures.one told q.0)
-    (λ q. session_state site (table_alone m.store.table) (area_of (g.D.Disk.held m.store.disk)) (known m.memory) ((m.between q.0).orderly) ((m.between q.0).tidy) q.1)
+    (λ q. session_state site (table_alone m.store.inner.table) (area_of (g.D.Disk.held m.store.inner.disk)) (known m.memory) ((m.between q.0).orderly) ((m.between q.0).tidy) q.1)
     (ends_done s.size n s.new _ c.run.result _ c.close.result.0 g.D.Disk.told told c.in-Ok-run.is is_size c.close.ensures.status (c.close.ensures.shown told ready.0 ready.1)) labelled)
 
 pub returns-clause-did : goal.returns-clause-did
@@ -72,16 +72,16 @@ returns-clause-did g c = λ told kept.
     } in
     let e = c.in-Ok-open.ensures in
     let m = c.run.new.machine in
-    let n = g.D.Disk.size m.store.disk in
-    let site : Site = site_on m.store.label n in
+    let n = g.D.Disk.size m.store.inner.disk in
+    let site : Site = site_on m.store.inner.label n in
     let is_size : n ≡ s.size = ap (λ (x : Site). x.sectors) c.run.ensures.site ∙ e.size in
     let labelled = e.label told ∙ ap (λ (x : Site). Ok (plate_at x)) (sym c.run.ensures.site) in
     let slots = kept_well (g.D.Disk.size c.args.disk) (g.D.Disk.held c.args.disk) kept in
     let r = c.run.ensures.run told (e.whole, e.ready told slots) (e.kept told slots) (e.begins told slots) in
-    let back = subst (λ d. IsGivenBack n site (g.D.Disk.held m.store.disk) (g.D.Disk.held d)) (sym c.leave.ensures.disk) (back_itself n site (g.D.Disk.held m.store.disk) (c.leave.ensures.stands told)) in
-    inl (has_run_sized s c.status_of_fault.result n site (table_alone m.store.table) (g.D.Disk.held m.store.disk) _ _ c.run.result _ g.D.Disk.told m.store.failed is_size (e.sound told) (e.shown told slots) (e.opened told slots) r
-    back (λ q. subst (λ d. IsOneTable n site (g.D.Disk.held d) (table_alone m.store.table)) (sym c.leave.ensures.disk) (c.leave.ensures.one told q.0))
-    (λ q. session_state site (table_alone m.store.table) (area_of (g.D.Disk.held m.store.disk)) (known m.memory) ((m.between q.0).orderly) ((m.between q.0).tidy) q.1)
+    let back = subst (λ d. IsGivenBack n site (g.D.Disk.held m.store.inner.disk) (g.D.Disk.held d)) (sym c.leave.ensures.disk) (back_itself n site (g.D.Disk.held m.store.inner.disk) (c.leave.ensures.stands told)) in
+    inl (has_run_sized s c.status_of_fault.result n site (table_alone m.store.inner.table) (g.D.Disk.held m.store.inner.disk) _ _ c.run.result _ g.D.Disk.told m.store.inner.failed is_size (e.sound told) (e.shown told slots) (e.opened told slots) r
+    back (λ q. subst (λ d. IsOneTable n site (g.D.Disk.held d) (table_alone m.store.inner.table)) (sym c.leave.ensures.disk) (c.leave.ensures.one told q.0))
+    (λ q. session_state site (table_alone m.store.inner.table) (area_of (g.D.Disk.held m.store.inner.disk)) (known m.memory) ((m.between q.0).orderly) ((m.between q.0).tidy) q.1)
     (ends_early s.size s.new _ c.run.result c.in-Err-run.fault c.status_of_fault.result c.in-Err-run.is c.status_of_fault.ensures) labelled)
 
 pub returns-in-Err-clause-unsound : goal.returns-in-Err-clause-unsound
@@ -161,10 +161,10 @@ returns-in-Ok-run-clause-beside g c = λ told.
     let s = c.in-Ok-open.session in
     let m = c.run.new.machine in
     let e = c.in-Ok-open.ensures in
-    let site : Site = site_on m.store.label (g.D.Disk.size m.store.disk) in
+    let site : Site = site_on m.store.inner.label (g.D.Disk.size m.store.inner.disk) in
     let labelled = e.label told ∙ ap (λ (x : Site). Ok (plate_at x)) (sym c.run.ensures.site) in
-    let k = subst (λ n. Keeps (beside_of n (g.D.Disk.held s.store.disk)) (beside_of (area_size site) (g.D.Disk.held m.store.disk))) (ap area_size (sym c.run.ensures.site)) (c.run.ensures.beside told) in
-    beside_last size old (g.D.Disk.held m.store.disk) _ (beside_then size old (g.D.Disk.held s.store.disk) (g.D.Disk.held m.store.disk) site labelled (e.beside told) k)
+    let k = subst (λ n. Keeps (beside_of n (g.D.Disk.held s.store.inner.disk)) (beside_of (area_size site) (g.D.Disk.held m.store.inner.disk))) (ap area_size (sym c.run.ensures.site)) (c.run.ensures.beside told) in
+    beside_last size old (g.D.Disk.held m.store.inner.disk) _ (beside_then size old (g.D.Disk.held s.store.inner.disk) (g.D.Disk.held m.store.inner.disk) site labelled (e.beside told) k)
     (c.close.ensures.keeps told)
 
 pub returns-clause-beside : goal.returns-clause-beside
@@ -174,11 +174,11 @@ returns-clause-beside g c = λ told.
     let s = c.in-Ok-open.session in
     let m = c.run.new.machine in
     let e = c.in-Ok-open.ensures in
-    let site : Site = site_on m.store.label (g.D.Disk.size m.store.disk) in
+    let site : Site = site_on m.store.inner.label (g.D.Disk.size m.store.inner.disk) in
     let labelled = e.label told ∙ ap (λ (x : Site). Ok (plate_at x)) (sym c.run.ensures.site) in
-    let k = subst (λ n. Keeps (beside_of n (g.D.Disk.held s.store.disk)) (beside_of (area_size site) (g.D.Disk.held m.store.disk))) (ap area_size (sym c.run.ensures.site)) (c.run.ensures.beside told) in
-    beside_last size old (g.D.Disk.held m.store.disk) _ (beside_then size old (g.D.Disk.held s.store.disk) (g.D.Disk.held m.store.disk) site labelled (e.beside told) k)
-    (subst (λ d. Keeps (g.D.Disk.held m.store.disk) (g.D.Disk.held d)) (sym c.leave.ensures.disk) (Keeps-none (g.D.Disk.held m.store.disk)))
+    let k = subst (λ n. Keeps (beside_of n (g.D.Disk.held s.store.inner.disk)) (beside_of (area_size site) (g.D.Disk.held m.store.inner.disk))) (ap area_size (sym c.run.ensures.site)) (c.run.ensures.beside told) in
+    beside_last size old (g.D.Disk.held m.store.inner.disk) _ (beside_then size old (g.D.Disk.held s.store.inner.disk) (g.D.Disk.held m.store.inner.disk) site labelled (e.beside told) k)
+    (subst (λ d. Keeps (g.D.Disk.held m.store.inner.disk) (g.D.Disk.held d)) (sym c.leave.ensures.disk) (Keeps-none (g.D.Disk.held m.store.inner.disk)))
 
 pub returns-in-Err-clause-calm : goal.returns-in-Err-clause-calm
 returns-in-Err-clause-calm g c = λ other. refused_calm g.D.Disk.told _ _ _ _ c.in-Err.fault _ _ _ _ c.refuse.result c.in-Err.ensures.refused c.refuse.ensures other

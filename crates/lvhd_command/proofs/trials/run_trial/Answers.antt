@@ -33,7 +33,7 @@ returns-in-Ok-open-clause-did g c = λ told.
     let slots : HoldsWellOn (g.D.Disk.size c.format.new.disk) (reads h) = kept_well _ h (subst (λ n. IsKeptDevice n h) (sym c.format.ensures.size) kept) in
     let e = c.in-Ok-open.ensures in
     let s = c.in-Ok-open.session in
-    let start : State = state_in (site_on s.store.label (g.D.Disk.size s.store.disk)) (table_alone s.store.table) (area_of (g.D.Disk.held s.store.disk)) (known s.memory) in
+    let start : State = state_in (site_on s.store.inner.label (g.D.Disk.size s.store.inner.disk)) (table_alone s.store.inner.table) (area_of (g.D.Disk.held s.store.inner.disk)) (known s.memory) in
     trial_did _ c.args.number start c.try_session.result.0
     (start_is size (reads h) made _ start (formatted_allowed size h made _ formatted settled (reads h) (Allows-reads size h)) (record { extent = sizes.0; block = sizes.1; entries = sizes.2 })
     (subst (λ n. Shows n (reads h) start.disks) c.format.ensures.size (e.shown told slots)) (subst (λ n. IsOpenedOn n (reads h) start.shape) c.format.ensures.size (e.opened told slots)))
@@ -82,7 +82,7 @@ returns-in-Ok-open-clause-label g c = λ told done other sized.
     let e = c.in-Ok-open.ensures in
     let s = c.in-Ok-open.session in
     let is_size = e.size ∙ c.format.ensures.size in
-    let p : Plate = plate_at (site_on s.store.label (g.D.Disk.size s.store.disk)) in
+    let p : Plate = plate_at (site_on s.store.inner.label (g.D.Disk.size s.store.inner.disk)) in
     let f = formatted_allowed size h made _ (c.in-Ok.ensures.formatted told) (c.in-Ok.ensures.settled told) (reads h) (Allows-reads size h) in
     let here = plate_once size (reads h) p (new_group size made _).plate (sym (ap (λ n. plate_of n (reads h)) c.format.ensures.size) ∙ e.label told) f.stands.labelled in
     let same = same_plate size made other _ _ (record { extent = sizes.0; block = sizes.1; entries = sizes.2 }) sized c.from_bytes.ensures in
@@ -104,11 +104,11 @@ returns-in-Ok-open-clause-beside g c = λ told.
     let e = c.in-Ok-open.ensures in
     let s = c.in-Ok-open.session in
     let n = g.D.Disk.size c.format.new.disk in
-    let p : Plate = plate_at (site_on s.store.label (g.D.Disk.size s.store.disk)) in
+    let p : Plate = plate_at (site_on s.store.inner.label (g.D.Disk.size s.store.inner.disk)) in
     let f = formatted_allowed size h made _ (c.in-Ok.ensures.formatted told) (c.in-Ok.ensures.settled told) (reads h) (Allows-reads size h) in
     let labelled = ap (λ k. plate_of k (reads h)) c.format.ensures.size ∙ f.stands.labelled in
     let here = plate_once n (reads h) p (new_group size made _).plate (e.label told) labelled in
-    let last = subst (λ (q : Plate). Keeps (beside_of (q.count * q.extent) (g.D.Disk.held s.store.disk)) (beside_of (q.count * q.extent) (g.D.Disk.held c.try_session.result.1))) here (c.try_session.ensures.beside told) in
+    let last = subst (λ (q : Plate). Keeps (beside_of (q.count * q.extent) (g.D.Disk.held s.store.inner.disk)) (beside_of (q.count * q.extent) (g.D.Disk.held c.try_session.result.1))) here (c.try_session.ensures.beside told) in
     beside_sizes _ _ made _ _ (record { extent = sizes.0; block = sizes.1; entries = sizes.2 }) (Keeps-then (c.format.ensures.beside told) (Keeps-then (e.beside told (new_group size made _).plate labelled) last))
 
 pub returns-in-Err-clause-beside : goal.returns-in-Err-clause-beside

@@ -22,16 +22,16 @@ returns-in-Done-clause-sink_calm g c = λ other. said_calm _ _ _ _ _ c.print_sum
 pub returns-in-Done-clause-kept : goal.returns-in-Done-clause-kept
 returns-in-Done-clause-kept g c = λ told keeps.
     let s = c.args.session in
-    let size = g.D.Disk.size s.store.disk in
-    let site : Site = site_on s.store.label size in
+    let size = g.D.Disk.size s.store.inner.disk in
+    let site : Site = site_on s.store.inner.label size in
     let back = c.close-status.ensures.back told in
     kept_device size (g.D.Disk.held c.close-status.result.1) site back.stands (λ u image l. keeps u image (inl (back.fewer u image l)))
 
 pub returns-in_default-clause-kept : goal.returns-in_default-clause-kept
 returns-in_default-clause-kept g c = λ told keeps.
     let s = c.args.session in
-    let size = g.D.Disk.size s.store.disk in
-    let site : Site = site_on s.store.label size in
+    let size = g.D.Disk.size s.store.inner.disk in
+    let site : Site = site_on s.store.inner.label size in
     let back = c.close-status.ensures.back told in
     kept_device size (g.D.Disk.held c.close-status.result.1) site back.stands (λ u image l. keeps u image (inl (back.fewer u image l)))
 
@@ -42,8 +42,8 @@ done_settled status P is (inr failed) = absurd (let x = sym is ∙ failed in (le
 pub returns-in-Done-clause-rests : goal.returns-in-Done-clause-rests
 returns-in-Done-clause-rests g c = λ told ready keeps other.
     let s = c.args.session in
-    let size = g.D.Disk.size s.store.disk in
-    let site : Site = site_on s.store.label size in
+    let size = g.D.Disk.size s.store.inner.disk in
+    let site : Site = site_on s.store.inner.label size in
     let e = c.close-status.ensures in
     let back = e.back told in
     let whole = c.requires.whole in
@@ -51,8 +51,8 @@ returns-in-Done-clause-rests g c = λ told ready keeps other.
     record {
       settled = settled;
       only = e.shown told whole ready settled;
-      reads = reads_as size site (g.D.Disk.held s.store.disk) (g.D.Disk.held c.close-status.result.1) (table_alone s.store.table) _ back (e.one told whole)
-          (session_state site (table_alone s.store.table) (area_of (g.D.Disk.held s.store.disk)) (known s.memory) ((s.between whole).orderly) ((s.between whole).tidy) ready);
+      reads = reads_as size site (g.D.Disk.held s.store.inner.disk) (g.D.Disk.held c.close-status.result.1) (table_alone s.store.inner.table) _ back (e.one told whole)
+          (session_state site (table_alone s.store.inner.table) (area_of (g.D.Disk.held s.store.inner.disk)) (known s.memory) ((s.between whole).orderly) ((s.between whole).tidy) ready);
       kept = returns-in-Done-clause-kept g c told keeps;
     }
 

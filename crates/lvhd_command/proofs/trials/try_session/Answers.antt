@@ -18,26 +18,26 @@ pub returns-in-Err-clause-tried : goal.returns-in-Err-clause-tried
 returns-in-Err-clause-tried g c = λ told ready keeps.
     let whole = c.requires.whole in
     let m = c.try_lines.new.machine in
-    let n = g.D.Disk.size m.store.disk in
-    let is_size : n ≡ g.D.Disk.size c.args.session.store.disk = ap (λ (x : Site). x.sectors) c.try_lines.ensures.site in
+    let n = g.D.Disk.size m.store.inner.disk in
+    let is_size : n ≡ g.D.Disk.size c.args.session.store.inner.disk = ap (λ (x : Site). x.sectors) c.try_lines.ensures.site in
     let k = c.try_lines.ensures.kept told (whole, ready) keeps in
     call_failed _ _ _ _ _ c.in-Err.why c.status_of_call.result c.status_of_call.ensures
-    (subst (λ d. IsKeptDevice (g.D.Disk.size c.args.session.store.disk) (g.D.Disk.held d)) (sym c.leave.ensures.disk)
-    (subst (λ z. IsKeptDevice z (g.D.Disk.held m.store.disk)) is_size
-    (kept_device n (g.D.Disk.held m.store.disk) (site_on m.store.label n) (c.leave.ensures.stands told) (λ u image l. k u image (inl l)))))
+    (subst (λ d. IsKeptDevice (g.D.Disk.size c.args.session.store.inner.disk) (g.D.Disk.held d)) (sym c.leave.ensures.disk)
+    (subst (λ z. IsKeptDevice z (g.D.Disk.held m.store.inner.disk)) is_size
+    (kept_device n (g.D.Disk.held m.store.inner.disk) (site_on m.store.inner.label n) (c.leave.ensures.stands told) (λ u image l. k u image (inl l)))))
 
 pub returns-in-Err-count_all-clause-tried : goal.returns-in-Err-count_all-clause-tried
 returns-in-Err-count_all-clause-tried g c = λ told ready keeps.
     let whole = c.requires.whole in
     let m = c.count_all.new.machine in
-    let n = g.D.Disk.size m.store.disk in
-    let is_size : n ≡ g.D.Disk.size c.args.session.store.disk = ap (λ (x : Site). x.sectors) (c.count_all.ensures.site ∙ c.try_lines.ensures.site) in
+    let n = g.D.Disk.size m.store.inner.disk in
+    let is_size : n ≡ g.D.Disk.size c.args.session.store.inner.disk = ap (λ (x : Site). x.sectors) (c.count_all.ensures.site ∙ c.try_lines.ensures.site) in
     let tried = c.in-Ok.ensures.tried told (whole, ready) keeps in
     let k = c.count_all.ensures.kept told tried.1 (c.try_lines.ensures.kept told (whole, ready) keeps) in
     call_failed _ _ _ _ _ c.in-Err-count_all.why c.status_of_call-in-Err-count_all.result c.status_of_call-in-Err-count_all.ensures
-    (subst (λ d. IsKeptDevice (g.D.Disk.size c.args.session.store.disk) (g.D.Disk.held d)) (sym c.leave-in-Err-count_all.ensures.disk)
-    (subst (λ z. IsKeptDevice z (g.D.Disk.held m.store.disk)) is_size
-    (kept_device n (g.D.Disk.held m.store.disk) (site_on m.store.label n) (c.leave-in-Err-count_all.ensures.stands told) (λ u image l. k u image (inl l)))))
+    (subst (λ d. IsKeptDevice (g.D.Disk.size c.args.session.store.inner.disk) (g.D.Disk.held d)) (sym c.leave-in-Err-count_all.ensures.disk)
+    (subst (λ z. IsKeptDevice z (g.D.Disk.held m.store.inner.disk)) is_size
+    (kept_device n (g.D.Disk.held m.store.inner.disk) (site_on m.store.inner.label n) (c.leave-in-Err-count_all.ensures.stands told) (λ u image l. k u image (inl l)))))
 
 pub returns-clause-tried : goal.returns-clause-tried
 unfolding shape_in
@@ -45,14 +45,14 @@ returns-clause-tried g c = λ told ready keeps.
     let whole = c.requires.whole in
     let first = c.try_lines.new.machine in
     let m = c.count_all.new.machine in
-    let n = g.D.Disk.size m.store.disk in
-    let size = g.D.Disk.size c.args.session.store.disk in
+    let n = g.D.Disk.size m.store.inner.disk in
+    let size = g.D.Disk.size c.args.session.store.inner.disk in
     let is_size : n ≡ size = ap (λ (x : Site). x.sectors) (c.count_all.ensures.site ∙ c.try_lines.ensures.site) in
     let tried = c.in-Ok.ensures.tried told (whole, ready) keeps in
     let k = c.count_all.ensures.kept told tried.1 (c.try_lines.ensures.kept told (whole, ready) keeps) in
     let counted = c.in-Ok-count_all.ensures.counted told tried.1 in
-    let σ : State = state_in (site_on first.store.label (g.D.Disk.size first.store.disk)) (table_alone first.store.table) (area_of (g.D.Disk.held first.store.disk)) (known first.memory) in
-    let last : State = state_in (site_on m.store.label n) (table_alone m.store.table) (area_of (g.D.Disk.held m.store.disk)) (known m.memory) in
+    let σ : State = state_in (site_on first.store.inner.label (g.D.Disk.size first.store.inner.disk)) (table_alone first.store.inner.table) (area_of (g.D.Disk.held first.store.inner.disk)) (known first.memory) in
+    let last : State = state_in (site_on m.store.inner.label n) (table_alone m.store.inner.table) (area_of (g.D.Disk.held m.store.inner.disk)) (known m.memory) in
     let few : σ.shape.sequence < 2 ^ 48 = ((first.between tried.1.0).orderly).table.sequence in
     session_said _ _ _ _ _ _ _ c.say.result.0 c.say.ensures.said
     (λ other. record {
@@ -79,26 +79,26 @@ pub returns-in-Err-clause-beside : goal.returns-in-Err-clause-beside
 returns-in-Err-clause-beside g c = λ told.
     let s = c.args.session in
     let m = c.try_lines.new.machine in
-    let n = area_size (site_on s.store.label (g.D.Disk.size s.store.disk)) in
-    subst (λ d. Keeps (beside_of n (g.D.Disk.held s.store.disk)) (beside_of n (g.D.Disk.held d))) (sym c.leave.ensures.disk)
-    (subst (λ k. Keeps (beside_of n (g.D.Disk.held s.store.disk)) (beside_of k (g.D.Disk.held m.store.disk))) (ap area_size c.try_lines.ensures.site) (c.try_lines.ensures.beside told))
+    let n = area_size (site_on s.store.inner.label (g.D.Disk.size s.store.inner.disk)) in
+    subst (λ d. Keeps (beside_of n (g.D.Disk.held s.store.inner.disk)) (beside_of n (g.D.Disk.held d))) (sym c.leave.ensures.disk)
+    (subst (λ k. Keeps (beside_of n (g.D.Disk.held s.store.inner.disk)) (beside_of k (g.D.Disk.held m.store.inner.disk))) (ap area_size c.try_lines.ensures.site) (c.try_lines.ensures.beside told))
 
 pub returns-in-Err-count_all-clause-beside : goal.returns-in-Err-count_all-clause-beside
 returns-in-Err-count_all-clause-beside g c = λ told.
     let s = c.args.session in
     let first = c.try_lines.new.machine in
     let m = c.count_all.new.machine in
-    let n = area_size (site_on s.store.label (g.D.Disk.size s.store.disk)) in
-    let a = subst (λ k. Keeps (beside_of n (g.D.Disk.held s.store.disk)) (beside_of k (g.D.Disk.held first.store.disk))) (ap area_size c.try_lines.ensures.site) (c.try_lines.ensures.beside told) in
-    let b = subst₂ (λ j k. Keeps (beside_of j (g.D.Disk.held first.store.disk)) (beside_of k (g.D.Disk.held m.store.disk))) (ap area_size c.try_lines.ensures.site) (ap area_size (c.count_all.ensures.site ∙ c.try_lines.ensures.site)) (c.count_all.ensures.beside told) in
-    subst (λ d. Keeps (beside_of n (g.D.Disk.held s.store.disk)) (beside_of n (g.D.Disk.held d))) (sym c.leave-in-Err-count_all.ensures.disk) (Keeps-then a b)
+    let n = area_size (site_on s.store.inner.label (g.D.Disk.size s.store.inner.disk)) in
+    let a = subst (λ k. Keeps (beside_of n (g.D.Disk.held s.store.inner.disk)) (beside_of k (g.D.Disk.held first.store.inner.disk))) (ap area_size c.try_lines.ensures.site) (c.try_lines.ensures.beside told) in
+    let b = subst₂ (λ j k. Keeps (beside_of j (g.D.Disk.held first.store.inner.disk)) (beside_of k (g.D.Disk.held m.store.inner.disk))) (ap area_size c.try_lines.ensures.site) (ap area_size (c.count_all.ensures.site ∙ c.try_lines.ensures.site)) (c.count_all.ensures.beside told) in
+    subst (λ d. Keeps (beside_of n (g.D.Disk.held s.store.inner.disk)) (beside_of n (g.D.Disk.held d))) (sym c.leave-in-Err-count_all.ensures.disk) (Keeps-then a b)
 
 pub returns-clause-beside : goal.returns-clause-beside
 returns-clause-beside g c = λ told.
     let s = c.args.session in
     let first = c.try_lines.new.machine in
     let m = c.count_all.new.machine in
-    let n = area_size (site_on s.store.label (g.D.Disk.size s.store.disk)) in
-    let a = subst (λ k. Keeps (beside_of n (g.D.Disk.held s.store.disk)) (beside_of k (g.D.Disk.held first.store.disk))) (ap area_size c.try_lines.ensures.site) (c.try_lines.ensures.beside told) in
-    let b = subst₂ (λ j k. Keeps (beside_of j (g.D.Disk.held first.store.disk)) (beside_of k (g.D.Disk.held m.store.disk))) (ap area_size c.try_lines.ensures.site) (ap area_size (c.count_all.ensures.site ∙ c.try_lines.ensures.site)) (c.count_all.ensures.beside told) in
+    let n = area_size (site_on s.store.inner.label (g.D.Disk.size s.store.inner.disk)) in
+    let a = subst (λ k. Keeps (beside_of n (g.D.Disk.held s.store.inner.disk)) (beside_of k (g.D.Disk.held first.store.inner.disk))) (ap area_size c.try_lines.ensures.site) (c.try_lines.ensures.beside told) in
+    let b = subst₂ (λ j k. Keeps (beside_of j (g.D.Disk.held first.store.inner.disk)) (beside_of k (g.D.Disk.held m.store.inner.disk))) (ap area_size c.try_lines.ensures.site) (ap area_size (c.count_all.ensures.site ∙ c.try_lines.ensures.site)) (c.count_all.ensures.beside told) in
     Keeps-then (Keeps-then a b) (beside_kept n (c.say.ensures.keeps told))
