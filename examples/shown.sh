@@ -28,12 +28,12 @@ formatted() {
     truncate -s "$2" "$1"
     "$program" "$1" format 16384 4096 64 "$repository"
 }
-# Runs the lines of standard input, and prints each with its reply, and a status that is not 0.
+# Runs the lines of standard input on a path, or on `span` and two paths, and prints each with its reply, and a status that is not 0.
 shown() {
     cat >"$work/lines"
     long <"$work/lines" >"$work/script"
     status=0
-    "$program" "$1" run <"$work/script" >"$work/answers" || status=$?
+    "$program" "$@" run <"$work/script" >"$work/answers" || status=$?
     short <"$work/lines" >"$work/asked"
     short <"$work/answers" | awk 'NR == FNR { asked[NR] = $0; next } { printf "%-37s %s\n", asked[FNR], $0 }' "$work/asked" -
     [ "$status" -eq 0 ] || echo "status $status"

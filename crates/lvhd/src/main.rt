@@ -1,6 +1,7 @@
-//! The program: `lvhd PATH format EXTENT BLOCK ENTRIES UUID`, `lvhd PATH run`, and `lvhd trial N`.
+//! The program: `lvhd PATH format EXTENT BLOCK ENTRIES UUID`, `lvhd PATH run`, the same with `span PATH PATH2` in place of PATH,
+//! and `lvhd trial N`.
 //!
-//! The file at PATH is the device; the script comes on standard input, and the replies go to standard output. What is
+//! The file at PATH is the device, or the file at PATH with that at PATH2 behind it, each of them locked; the script comes on standard input, and the replies go to standard output. What is
 //! asked for is done by the proved top call; here the file and the streams are opened, and the status is handed to the
 //! system. The program prints nothing of its own. Where a standard stream is closed, or another run has the file, nothing of `format` and `run`
 //! is done. Standard input is read in pieces, so behind a fault more of it may have been taken than was answered. A trial works
@@ -10,6 +11,7 @@
 use lvhd_command::{Status, lvhd};
 use sm_disk::{Disk, MemDisk};
 use sm_host::{FileDisk, ReadSource, WriteSink, seconds_since_2000};
+use sm_span::Span;
 use std::fs::{File, TryLockError};
 use std::io::{BufReader, BufWriter, ErrorKind, Seek, SeekFrom};
 use std::os::fd::AsRawFd;
@@ -17,16 +19,19 @@ use std::process::ExitCode;
 use std::time::{SystemTime, UNIX_EPOCH};
 use std::{env, io};
 
-/// The words, the file or its length could not be read, or a standard stream is closed.
+/// The words, a file or its length could not be read, two files have too many sectors together, or a standard stream is closed.
 const UNREADABLE: u8 = 9;
 
-/// Another run has the file.
+/// Another run has the file, or it is named twice.
 const IN_USE: u8 = 11;
 
 /// The word behind which no file is opened, but a device in memory.
 const TRIAL: &str = "trial";
 
-/// The sectors of that device.
+/// The word behind which two paths stand, of the files that are one device.
+const SPAN: &str = "span";
+
+/// The sectors of the device of a trial.
 const TRIAL_SECTORS: u64 = 20_480;
 
 /// The descriptors of the standard streams are below this.
@@ -52,7 +57,9 @@ fn status(rt: &HostRuntime) -> Result<u8, u8> {
     let status = match words.split_first() {
         None => answer(rt, &[], memory(rt, 0)?)?,
         Some((&TRIAL, _)) => answer(rt, &words, memory(rt, TRIAL_SECTORS)?)?,
-        Some((_, [TRIAL, ..])) => Status::Words,
+        Some((&SPAN, [_, _, TRIAL, ..])) => Status::Words,
+        Some((&SPAN, [first, second, words @ ..])) => answer(rt, words, span(rt, first, second)?)?,
+        Some((&SPAN, _)) | Some((_, [TRIAL, ..])) => Status::Words,
         Some((path, words)) => answer(rt, words, device(rt, path)?)?,
     };
     Ok(status.code())
@@ -112,4 +119,12 @@ fn device(rt: &HostRuntime, path: &str) -> Result<FileDisk, u8> {
     })?;
     let bytes = file.seek(SeekFrom::End(0)).map_err(|_| UNREADABLE)?;
     Ok(FileDisk::new(file, bytes))
+}
+
+/// The device that two files are, the second behind the first. A file that is named twice, by another path too, is refused as one
+/// that another run has: its lock is taken once.
+fn span(rt: &HostRuntime, first: &str, second: &str) -> Result<Span<FileDisk, FileDisk>, u8> {
+    let first = device(rt, first)?;
+    let second = device(rt, second)?;
+    Span::new(first, second).map_err(|_| UNREADABLE)
 }
