@@ -17,6 +17,7 @@ use uuid::Uuid;
 use vg_volumes::Store;
 use vhd_image::Image;
 use vhd_map::Map;
+use vhd_write::Payload;
 
 /// Why the image in a volume is not opened, if it is not.
 pub fn opening_fault<S: Store>(
@@ -210,6 +211,6 @@ pub fn put_raw<S: Store>(store: &mut S, name: &Name, at: u64, from: &[u8; 512]) 
         return Err(Fail::from("a sector of the disk"));
     }
     let mut image = Image::raw(name, sectors);
-    image.write(store, at, from)?;
+    image.write(store, at, &Payload::given(from))?;
     Ok(())
 }

@@ -16,6 +16,7 @@ use uuid::Uuid;
 use vg_volumes::Store;
 use vhd_image::Image;
 use vhd_map::Map;
+use vhd_write::Payload;
 
 /// Whether so many sectors are whole blocks of a disk. The blocks have 8 sectors, and the images 64 entries.
 pub fn is_size(geometry: &Geometry, sectors: u64) -> bool
@@ -143,7 +144,7 @@ fn write_into<S: Store>(
     if !has_room(image, &geometry, sectors, at, from.len()) {
         return Err(Fail::from("whole sectors, and room for them"));
     }
-    Ok(image.write(store, at, from))
+    Ok(image.write(store, at, &Payload::given(from)))
 }
 
 /// Writes sectors of the disk into the image in a volume.
