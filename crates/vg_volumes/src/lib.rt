@@ -16,7 +16,8 @@
 //! is spare takes no memory, so a run of any length takes no more than its largest table wants.
 //!
 //! A call fails only where the store's count of faults rose, and where it succeeds no call of the device has failed (`Counts`):
-//! it can't succeed over a failed one, whether that is passed over or tried again. `commit`, `read`, `write` and `sync` take no memory.
+//! it can't succeed over a failed one, whether that is passed over or tried again. `commit`, `read`, `write` and `sync`
+//! never fail for want of memory.
 #![tactic(auto)]
 
 mod stores;
