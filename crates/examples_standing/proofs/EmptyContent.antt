@@ -1,5 +1,5 @@
 -- The empty repository is sound, and has no disks.
-use Rattle.std.proofs.Common.{◌≡◌, ℕ, inl, inr, List, [], ◌∷◌, length, arith, false, None, refl, sym, ap, subst, ◌∙◌}
+use Rattle.std.proofs.Common.{true, ◌≡◌, ℕ, inl, inr, List, [], ◌∷◌, length, arith, false, None, refl, sym, ap, subst, ◌∙◌}
 use Rattle.std.proofs.lemmas.Option.{none-some}
 use Rattle.sm_base.specs.declared.names.Name.TheVariants.{Vhd}
 use Rattle.sm_disk.specs.Sectors.{zeros}
@@ -12,7 +12,7 @@ use Rattle.common_laws.specs.Lists.{In}
 use Rattle.sm_record.specs.declared.records.Reading.TheVariants.{Free}
 use Rattle.sm_record.proofs.RoundTrips.{reading_zeros}
 use Rattle.sm_standing.specs.Contents.{reading_at, sectors_of}
-use Rattle.sm_standing.specs.Checks.{is_damaged, is_invalid, is_misnamed, is_tree_wrong}
+use Rattle.sm_standing.specs.Checks.{is_entry_linked, is_lost, is_damaged, is_invalid, is_misnamed, is_tree_wrong}
 use Rattle.sm_standing.specs.Images.{image_of}
 use Rattle.sm_standing.specs.Outlines.{outline}
 use Rattle.examples_standing.specs.SmallContents.{record_row, empty_content}
@@ -49,6 +49,7 @@ sixteen = refl
 -- sixteen extents of 16 KiB hold 512 records
 pub empty_sound : (extents : List ℕ) → length extents ≡ 16 → PlainSound (empty_content extents)
 unfolding row_of name_eq
+unfolding is_entry_linked
 empty_sound extents long = record {
   only = empty_is_plain extents;
   records_row = record_row extents;

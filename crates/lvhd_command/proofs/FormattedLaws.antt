@@ -1,5 +1,5 @@
 -- A device that was formatted is kept, and has no disks.
-use Rattle.std.proofs.Common.{◌≡◌, ℕ, zero, suc, ◌+◌, ◌*◌, ◌/◌, ◌%◌, ◌<◌, ◌≤◌, inl, inr, false, List, [], ◌∷◌, map, length, sum, get_or, Some, None, refl, sym, ap, ap₂, subst, ◌∙◌, arith}
+use Rattle.std.proofs.Common.{true, ◌≡◌, ℕ, zero, suc, ◌+◌, ◌*◌, ◌/◌, ◌%◌, ◌<◌, ◌≤◌, inl, inr, false, List, [], ◌∷◌, map, length, sum, get_or, Some, None, refl, sym, ap, ap₂, subst, ◌∙◌, arith}
 use Rattle.std.specs.List.{range_with_len, AllByRecursion}
 use Rattle.std.proofs.Math.Nat.{div-lt_iff_lt-mul, mul-le-mul_right}
 use Rattle.std.proofs.lemmas.List.{append-nil}
@@ -26,7 +26,7 @@ use Rattle.vg_layout.specs.Opening.{GroupFound, StandsOn, text_in}
 use Rattle.vg_layout.proofs.ImageLaws.{plate_area, plate_few, plate_same, pointer_same, stands_from, stands_once, text_front}
 use Rattle.vg_store.specs.Formats.{IsFormatted, new_group}
 use Rattle.vg_volumes.specs.Volumes.{piece, spot}
-use Rattle.sm_standing.specs.Checks.{is_damaged, is_invalid, is_misnamed, is_tree_wrong}
+use Rattle.sm_standing.specs.Checks.{is_entry_linked, is_lost, is_damaged, is_invalid, is_misnamed, is_tree_wrong}
 use Rattle.sm_standing.specs.Images.{image_of}
 use Rattle.sm_standing.specs.Outlines.{outline}
 use Rattle.sm_standing.specs.Contents.{Content, row, reading_at, sectors_of}
@@ -94,6 +94,7 @@ free_at c n some room free k below = ap reading (free_sector c n some room free 
 -- ---- it is sound, and has no disks
 
 new_sound : (c : Content) (n : ℕ) → 0 < c.extent → 512 ≤ n * c.extent → n ≡ record_extents c.extent → AreFree c.area → PlainSound (emptied c n)
+unfolding is_entry_linked
 new_sound c n some room long free = record {
   only = new_plain n;
   records_row = record { name = Mgt; hidden = false; fresh = false; extents = range_with_len 0 n };
