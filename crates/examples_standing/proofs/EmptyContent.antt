@@ -48,8 +48,7 @@ sixteen = refl
 
 -- sixteen extents of 16 KiB hold 512 records
 pub empty_sound : (extents : List ℕ) → length extents ≡ 16 → PlainSound (empty_content extents)
-unfolding row_of name_eq
-unfolding is_entry_linked
+unfolding row_of name_eq is_entry_linked
 empty_sound extents long = record {
   only = empty_is_plain extents;
   records_row = record_row extents;
