@@ -12,8 +12,8 @@
 //!
 //! **In which units.** Disks are in sectors of 512 bytes, and so are the blocks of the pool's buffers.
 //!
-//! **What it costs.** A write over sectors that the disk's image holds is one read of a bitmap and one write of the store for each block,
-//! and no sync; any other makes one sync, whatever its length (`vhd_write`). A read is one read of the store for
+//! **What it costs.** A write of a raw disk makes writes of the store alone. A write over sectors that a VHD image holds is one read of a
+//! bitmap and one write for each block, and no sync; any other makes one sync, whatever its length (`vhd_write`). A read is one read of the store for
 //! each run of sectors that one image holds, beside one of a bitmap for each VHD image that is asked. A flush is one sync.
 //! A fill is one write of all its sectors, and costs what that costs: the bytes of a block are put by one call, from a buffer of the pool
 //! that it borrows. Memory is taken for the answer of a read alone, before the store is called.

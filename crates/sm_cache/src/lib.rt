@@ -13,9 +13,9 @@
 //!
 //! **What a stop may leave.** What the store below may leave: its `leaves` is this one's.
 //!
-//! **What it costs.** One look-up for each sector of a read or a write that is looked for, and no call beside the one of the store below. An
-//! entry takes some 600 bytes, taken when it is made; where there is no memory for it the read goes on without. `Cache::new` takes the
-//! room of the look-ups. No other call takes memory but what the store below takes.
+//! **What it costs.** A read of one sector is one look-up, a write one for each of its sectors, and there is no call beside the one of the
+//! store below. `Cache::new` takes the room of the look-ups. A read that makes an entry takes some 600 bytes for it, and goes on without
+//! where there are none; no other call takes memory beside what the store below takes.
 #![tactic(auto)]
 
 mod caches;

@@ -47,8 +47,8 @@ begins (plan.Begin child parent to) = true
 begins (plan.Leaf leaf parent to) = true
 begins _ = false
 
--- Whether want of memory may take the place of a command's answer in this shape: its step takes memory, a step of the collector begins
--- to fold an image, and a disk that gets larger needs extents for that.
+-- Whether want of memory may take the place of a command's answer in this shape: of a step of the collector only where it begins to fold
+-- an image, of a resize only where the disk needs extents for it, and of any other command where its step takes memory.
 unfoldable pub may_want_memory : Shape → Command → Bool
 may_want_memory s Gc = begins (next_step s)
 may_want_memory s (Resize u size) = nat_lt 0 (need s (Resize u size))

@@ -12,7 +12,7 @@
 //! other ([`law_images`]). Content is told where both parts tell theirs.
 //!
 //! **Failures.** The count of faults is the sum of the two as a whole number, which no number of bits bounds, so it never wraps.
-//! Where one part's count is spent, at 2^64 - 1, the sum is spent too ([`law_spent`]). Exactly one part's count rose where a call failed.
+//! Where one part's count is spent, at 2^64 - 1, the sum is spent too ([`law_spent`]). Where a call failed, a call of exactly one part did, whose count rose or was spent.
 //!
 //! **Costs.** No memory, and at most one call of each part.
 #![tactic(auto)]

@@ -15,8 +15,8 @@ use Rattle.sm_standing.specs.Entries.{folding, making, second}
 use Rattle.sm_standing.specs.Outlines.{Outline, outline, outline_records}
 use Rattle.sm_standing.specs.Standing.{standing_volume}
 
--- All checks of an opening pass, fact by fact, and the name of each volume passes a test: so none of the facts that such names have by
--- themselves is asked.
+-- All checks of an opening pass, fact by fact, and the name of each volume passes a test, which no old leaf passes: so that none is left
+-- without its entry is not asked.
 pub record SoundBy (test : Name → Bool) (c : Content) : Type 0 where
   pub only : AllByRecursion (λ r. test r.name ≡ true) c.table.volumes
   pub records_row : Row
