@@ -6,12 +6,14 @@ use Rattle.std.proofs.lemmas.List.{append-nil}
 use Rattle.std.proofs.lemmas.Map.Steps.{length-le_from_distinct_below}
 use Rattle.byteorder.specs.Endian.{big_bytes}
 use Rattle.vg_meta.specs.Tables.{Row, extents_in, AreVolumes}
-use Rattle.vg_meta.specs.Text.{text, volume_text}
-use Rattle.vg_meta.specs.Reading.{Spells, IsDamagedAt, no_sequence, no_volume, bytes_follow}
+use Rattle.vg_meta.specs.Text.{volume_by}
+use Rattle.vg_meta.specs.declared.grammars.Grammar.{Grammar}
+use Rattle.vg_meta.specs.Reading.{SpellsBy, IsDamagedBy, no_sequence, no_volume, bytes_follow}
 use Rattle.vg_meta.specs.Stopped.{IsCut}
 use Rattle.vg_meta.proofs.ExtentLaws.{times, times-first}
 use Rattle.vg_meta.proofs.ChangeLaws.{once_from}
 use Rattle.vg_meta.proofs.ReadLaws.{number_same}
+use Rattle.vg_meta.proofs.WriteLaws.{text-parts}
 
 -- ---- how many extents a table has
 
@@ -28,34 +30,34 @@ used-le count rs v =
 
 -- ---- places
 
-pub damaged_first : (count : ℕ) (bytes : List ℕ) → length bytes < 8 → IsDamagedAt count bytes 0
-damaged_first count bytes short =
+pub damaged_first : {g : Grammar} (count : ℕ) (bytes : List ℕ) → length bytes < 8 → IsDamagedBy g count bytes 0
+damaged_first {g = g} count bytes short =
     no_sequence (λ s rest small e. absurd (omega (arith, ap length e, length-append (big_bytes 8 s) rest)))
 
-pub damaged_sequence : (count : ℕ) (bytes : List ℕ) (s : ℕ) (rest : List ℕ) → bytes ≡ big_bytes 8 s ++ rest → s < 2 ^ 64 → 2 ^ 48 ≤ s → IsDamagedAt count bytes 0
-damaged_sequence count bytes s rest read fits large =
+pub damaged_sequence : {g : Grammar} (count : ℕ) (bytes : List ℕ) (s : ℕ) (rest : List ℕ) → bytes ≡ big_bytes 8 s ++ rest → s < 2 ^ 64 → 2 ^ 48 ≤ s → IsDamagedBy g count bytes 0
+damaged_sequence {g = g} count bytes s rest read fits large =
     no_sequence (λ t more small e. let same = number_same 8 s t rest more fits (omega arith) (sym read ∙ e) in absurd (omega (arith, same.0)))
 
 joined : (s n : ℕ) (bytes rest behind tail : List ℕ) → bytes ≡ big_bytes 8 s ++ rest → rest ≡ big_bytes 4 n ++ behind → behind ≡ tail
     → bytes ≡ big_bytes 8 s ++ (big_bytes 4 n ++ tail)
 joined s n bytes rest behind tail a b c = a ∙ ap (λ (l : List ℕ). big_bytes 8 s ++ l) (b ∙ ap (λ (l : List ℕ). big_bytes 4 n ++ l) c)
 
-pub damaged_volume : (count s n left : ℕ) (bytes rest behind : List ℕ) → bytes ≡ big_bytes 8 s ++ rest → rest ≡ big_bytes 4 n ++ behind → s < 2 ^ 48 → n < 2 ^ 32
-    → IsCut count n behind left → IsDamagedAt count bytes (length bytes - left)
-damaged_volume count s n left bytes rest behind a b small few cut =
-    subst (λ (k : ℕ). IsDamagedAt count bytes (length bytes - k)) (sym cut.rest_length)
+pub damaged_volume : {g : Grammar} (count s n left : ℕ) (bytes rest behind : List ℕ) → bytes ≡ big_bytes 8 s ++ rest → rest ≡ big_bytes 4 n ++ behind → s < 2 ^ 48 → n < 2 ^ 32
+    → IsCut g count n behind left → IsDamagedBy g count bytes (length bytes - left)
+damaged_volume {g = g} count s n left bytes rest behind a b small few cut =
+    subst (λ (k : ℕ). IsDamagedBy g count bytes (length bytes - k)) (sym cut.rest_length)
     (no_volume s n cut.front cut.rest (record {
-      spelled = joined s n bytes rest behind (flat_map volume_text cut.front ++ cut.rest) a b cut.spelled;
+      spelled = joined s n bytes rest behind (flat_map (volume_by g) cut.front ++ cut.rest) a b cut.spelled;
       sequence_fits = small;
       number_fits = few;
       volumes = cut.volumes;
     }) cut.fewer cut.none)
 
-pub damaged_end : (count s n : ℕ) (bytes rest behind left : List ℕ) (rs : List Row) → bytes ≡ big_bytes 8 s ++ rest → rest ≡ big_bytes 4 n ++ behind → s < 2 ^ 48 → n < 2 ^ 32
-    → behind ≡ flat_map volume_text rs ++ left → AreVolumes count rs → length rs ≡ n → 0 < length left → IsDamagedAt count bytes (length bytes - length left)
-damaged_end count s n bytes rest behind left rs a b small few read v many some =
+pub damaged_end : {g : Grammar} (count s n : ℕ) (bytes rest behind left : List ℕ) (rs : List Row) → bytes ≡ big_bytes 8 s ++ rest → rest ≡ big_bytes 4 n ++ behind → s < 2 ^ 48 → n < 2 ^ 32
+    → behind ≡ flat_map (volume_by g) rs ++ left → AreVolumes count rs → length rs ≡ n → 0 < length left → IsDamagedBy g count bytes (length bytes - length left)
+damaged_end {g = g} count s n bytes rest behind left rs a b small few read v many some =
     bytes_follow s n rs left (record {
-      spelled = joined s n bytes rest behind (flat_map volume_text rs ++ left) a b read;
+      spelled = joined s n bytes rest behind (flat_map (volume_by g) rs ++ left) a b read;
       sequence_fits = small;
       number_fits = few;
       volumes = v;
@@ -63,12 +65,12 @@ damaged_end count s n bytes rest behind left rs a b small few read v many some =
 
 -- ---- the whole
 
-pub spells_whole : (count s n : ℕ) (bytes rest behind left : List ℕ) (rs : List Row) → bytes ≡ big_bytes 8 s ++ rest → rest ≡ big_bytes 4 n ++ behind → s < 2 ^ 48 → n < 2 ^ 32
-    → count < 2 ^ 32 → behind ≡ flat_map volume_text rs ++ left → AreVolumes count rs → length rs ≡ n → left ≡ [] → Spells count bytes (record { sequence = s; volumes = rs })
-unfolding text
-spells_whole count s n bytes rest behind left rs a b small few low read v many none = record {
-  spelled = joined s n bytes rest behind (flat_map volume_text rs) a b (read ∙ ap (λ (l : List ℕ). flat_map volume_text rs ++ l) none ∙ append-nil (flat_map volume_text rs))
-      ∙ ap (λ (k : ℕ). big_bytes 8 s ++ (big_bytes 4 k ++ flat_map volume_text rs)) (sym many);
+pub spells_whole : {g : Grammar} (count s n : ℕ) (bytes rest behind left : List ℕ) (rs : List Row) → bytes ≡ big_bytes 8 s ++ rest → rest ≡ big_bytes 4 n ++ behind → s < 2 ^ 48 → n < 2 ^ 32
+    → count < 2 ^ 32 → behind ≡ flat_map (volume_by g) rs ++ left → AreVolumes count rs → length rs ≡ n → left ≡ [] → SpellsBy g count bytes (record { sequence = s; volumes = rs })
+spells_whole {g = g} count s n bytes rest behind left rs a b small few low read v many none = record {
+  spelled = joined s n bytes rest behind (flat_map (volume_by g) rs) a b (read ∙ ap (λ (l : List ℕ). flat_map (volume_by g) rs ++ l) none ∙ append-nil (flat_map (volume_by g) rs))
+      ∙ ap (λ (k : ℕ). big_bytes 8 s ++ (big_bytes 4 k ++ flat_map (volume_by g) rs)) (sym many)
+      ∙ sym (text-parts g (record { sequence = s; volumes = rs }));
   table = record { sequence = small; volumes = v };
   fits = record { volumes = omega (arith, many); extents = omega (arith, used-le count rs v) };
 }

@@ -8,6 +8,7 @@ pub mod FreeLaws
 pub mod GrowthLaws
 pub mod LengthLaws
 pub mod NameLaws
+pub mod NumberLaws
 pub mod Places
 pub mod PushLaws
 pub mod PutLaws
@@ -17,6 +18,8 @@ pub mod ReadSteps
 pub mod RoomLaws
 pub mod RowLaws
 pub mod SegmentLaws
+pub mod SegmentSteps
+pub mod SegmentTextLaws
 pub mod SpliceLaws
 pub mod TakenLaws
 pub mod WriteLaws

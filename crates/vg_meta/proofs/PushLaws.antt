@@ -1,5 +1,5 @@
 -- One more volume behind those that were read.
-use Rattle.std.proofs.Common.{◌≡◌, ℕ, zero, suc, ◌+◌, ◌-◌, ◌<◌, ◌^◌, Bool, List, [], ◌∷◌, ◌++◌, length, take, Some, sym, ap, subst, ◌∙◌, arith}
+use Rattle.std.proofs.Common.{◌≡◌, ℕ, zero, suc, ◌+◌, ◌-◌, ◌<◌, ◌^◌, Bool, List, [], ◌∷◌, ◌++◌, length, take, Some, sym, ap, subst, ◌∙◌, arith, length-append}
 use Rattle.std.specs.Prelude.{slice_get, ◌↔◌, IsTrue}
 use Rattle.std.specs.List.{AllByRecursion}
 use Rattle.std.specs.List.Sorted.{IsStrictlySortedBy}
@@ -15,13 +15,17 @@ use Rattle.vg_meta.specs.Tables.{Row, extents_in, IsVolume, AreVolumes}
 use Rattle.vg_meta.specs.Roomy.{RoomyRow, rows_alone}
 use Rattle.vg_meta.proofs.NameLaws.{less_from}
 use Rattle.vg_meta.proofs.RowLaws.{IsRising, All-names, All-rows}
-use Rattle.vg_meta.specs.Text.{volume_text}
+use Rattle.vg_meta.specs.Text.{volume_by, volume_text}
+use Rattle.vg_meta.specs.declared.grammars.Grammar.TheVariants.{Listed}
+use Rattle.vg_meta.specs.declared.grammars.Grammar.{Grammar}
+use Rattle.vg_meta.specs.Segments.{AreFew}
 use Rattle.vg_meta.proofs.FreeLaws.{all_from}
-use Rattle.vg_meta.proofs.ReadLaws.{volume_same}
+use Rattle.vg_meta.proofs.ReadLaws.{volume_same_by}
 use Rattle.vg_meta.proofs.ExtentLaws.{All-weaken, Once, times-append}
 use Rattle.vg_meta.proofs.ChangeLaws.{once_from, volumes_from}
 use Rattle.vg_meta.proofs.Places.{All-push}
 use Rattle.vg_meta.proofs.WriteLaws.{flat_map-push}
+use Rattle.vg_meta.proofs.DecodeLaws.{used-le}
 
 -- ---- behind the last name
 
@@ -115,12 +119,27 @@ next_from count rs r v = record {
 }
 
 -- the volume that was read is the one that goes on with the others, where any does
-pub read_is_next : (bytes : List ℕ) (count : ℕ) (rs : List Row) (v : Row) (after : List ℕ) → count < 2 ^ 32 → IsVolume v → length v.extents < 2 ^ 32
-    → AllByRecursion (λ (e : ℕ). e < 2 ^ 32) v.extents → bytes ≡ volume_text v ++ after
-    → (r : Row) (rest : List ℕ) → length r.extents < 2 ^ 32 → AreVolumes count (rs ++ r ∷ []) → bytes ≡ volume_text r ++ rest → IsNext count rs v
-read_is_next bytes count rs v after small is few fit read r rest short vs e =
+pub read_is_next_by : (g : Grammar) (bytes : List ℕ) (count : ℕ) (rs : List Row) (v : Row) (after : List ℕ) → count < 2 ^ 32 → IsVolume v → length v.extents < 2 ^ 32
+    → AllByRecursion (λ (e : ℕ). e < 2 ^ 32) v.extents → bytes ≡ volume_by g v ++ after
+    → (r : Row) (rest : List ℕ) → length r.extents < 2 ^ 32 → AreVolumes count (rs ++ r ∷ []) → bytes ≡ volume_by g r ++ rest → IsNext count rs v
+read_is_next_by g bytes count rs v after small is few fit read r rest short vs e =
     let next = next_from count rs r vs in
     let low : AllByRecursion (λ (x : ℕ). x < 2 ^ 32) r.extents =
     all_from (λ (x : ℕ). x < 2 ^ 32) r.extents (λ x k. let b = next.extents.below x (omega (arith, times-append x (extents_in rs) r.extents)) in omega arith) in
-    let same : v ≡ r = volume_same bytes v r after rest is.name next.volume.name few short fit low read e in
+    let same : v ≡ r = volume_same_by g bytes v r after rest is.name next.volume.name few short fit low read e in
     subst (λ (x : Row). IsNext count rs x) (sym same) next
+
+-- the same where the extents are listed
+pub read_is_next : (bytes : List ℕ) (count : ℕ) (rs : List Row) (v : Row) (after : List ℕ) → count < 2 ^ 32 → IsVolume v → length v.extents < 2 ^ 32
+    → AllByRecursion (λ (e : ℕ). e < 2 ^ 32) v.extents → bytes ≡ volume_text v ++ after
+    → (r : Row) (rest : List ℕ) → length r.extents < 2 ^ 32 → AreVolumes count (rs ++ r ∷ []) → bytes ≡ volume_text r ++ rest → IsNext count rs v
+read_is_next = read_is_next_by Listed
+
+-- the extents of one more volume are few enough, and below the count
+pub next_few : (count : ℕ) (rs : List Row) (r : Row) → AreVolumes count (rs ++ r ∷ []) → AreFew count r.extents
+next_few count rs r vs =
+    let next = next_from count rs r vs in
+    record {
+      below = all_from (λ (x : ℕ). x < count) r.extents (λ x k. next.extents.below x (omega (arith, times-append x (extents_in rs) r.extents)));
+      few = omega (arith, used-le count (rs ++ r ∷ []) vs, ap length (flat_map-push (λ (x : Row). x.extents) rs r), length-append (extents_in rs) r.extents);
+    }

@@ -5,13 +5,14 @@ use Rattle.std.specs.List.Sorted.{IsStrictlySortedBy}
 use Rattle.std.proofs.lemmas.List.{take_at, length-replicate}
 use Rattle.vg_meta.specs.Tables.{Row, AreVolumes, extents_in}
 use Rattle.vg_meta.specs.Roomy.{RoomyRow, rows_alone}
-use Rattle.vg_meta.specs.Text.{volume_text}
+use Rattle.vg_meta.specs.Text.{volume_by}
+use Rattle.vg_meta.specs.declared.grammars.Grammar.{Grammar}
 use Rattle.vg_meta.specs.Taken.{IsMarked}
 use Rattle.vg_meta.proofs.WriteLaws.{flat_map-push}
 
 -- so many volumes were read
-pub record Read (count : ℕ) (bytes rest : List ℕ) (vs : List RoomyRow) (marks : List Bool) (number : ℕ) : Type 0 where
-  pub read : bytes ≡ flat_map volume_text (rows_alone vs) ++ rest
+pub record Read (g : Grammar) (count : ℕ) (bytes rest : List ℕ) (vs : List RoomyRow) (marks : List Bool) (number : ℕ) : Type 0 where
+  pub read : bytes ≡ flat_map (volume_by g) (rows_alone vs) ++ rest
   pub many : length vs ≡ number
   pub volumes : AreVolumes count (rows_alone vs)
   pub long : length marks ≡ count
@@ -26,23 +27,23 @@ pub no_volumes : (count : ℕ) → AreVolumes count []
 unfolding IsStrictlySortedBy IsDistinct
 no_volumes count = record { each = tt; rising = tt; below = tt; distinct = tt }
 
-pub read_first : (count : ℕ) (bytes : List ℕ) (vs : List RoomyRow) (marks : List Bool) → vs ≡ [] → marks ≡ replicate count false → Read count bytes bytes vs marks 0
-read_first count bytes vs marks none fresh =
+pub read_first : (g : Grammar) (count : ℕ) (bytes : List ℕ) (vs : List RoomyRow) (marks : List Bool) → vs ≡ [] → marks ≡ replicate count false → Read g count bytes bytes vs marks 0
+read_first g count bytes vs marks none fresh =
     rw (none, fresh) (record { read = refl; many = refl; volumes = no_volumes count; long = length-replicate count false; marked = λ e _. no_marks count e })
 
 pub rows-push : (vs : List RoomyRow) (v : RoomyRow) → rows_alone (vs ++ v ∷ []) ≡ rows_alone vs ++ v.row ∷ []
 rows-push [] v = refl
 rows-push (x ∷ vs) v = ap (λ (l : List Row). x.row ∷ l) (rows-push vs v)
 
-pub read_more : (count : ℕ) (bytes rest after : List ℕ) (vs now : List RoomyRow) (v : RoomyRow) (marks new : List Bool) (i : ℕ) → Read count bytes rest vs marks i
-    → now ≡ vs ++ v ∷ [] → rest ≡ volume_text v.row ++ after → AreVolumes count (rows_alone vs ++ v.row ∷ []) → length new ≡ count
-    → IsMarked (extents_in (rows_alone vs) ++ v.row.extents) new → Read count bytes after now new (i + 1)
-read_more count bytes rest after vs now v marks new i r is text volumes long marked =
+pub read_more : (g : Grammar) (count : ℕ) (bytes rest after : List ℕ) (vs now : List RoomyRow) (v : RoomyRow) (marks new : List Bool) (i : ℕ) → Read g count bytes rest vs marks i
+    → now ≡ vs ++ v ∷ [] → rest ≡ volume_by g v.row ++ after → AreVolumes count (rows_alone vs ++ v.row ∷ []) → length new ≡ count
+    → IsMarked (extents_in (rows_alone vs) ++ v.row.extents) new → Read g count bytes after now new (i + 1)
+read_more g count bytes rest after vs now v marks new i r is text volumes long marked =
     let rows : rows_alone now ≡ rows_alone vs ++ v.row ∷ [] = ap rows_alone is ∙ rows-push vs v in
     record {
-      read = r.read ∙ ap (λ (l : List ℕ). flat_map volume_text (rows_alone vs) ++ l) text
-          ∙ sym (append_assoc (flat_map volume_text (rows_alone vs)) (volume_text v.row) after)
-          ∙ ap (λ (l : List ℕ). l ++ after) (sym (ap (flat_map volume_text) rows ∙ flat_map-push volume_text (rows_alone vs) v.row));
+      read = r.read ∙ ap (λ (l : List ℕ). flat_map (volume_by g) (rows_alone vs) ++ l) text
+          ∙ sym (append_assoc (flat_map (volume_by g) (rows_alone vs)) (volume_by g v.row) after)
+          ∙ ap (λ (l : List ℕ). l ++ after) (sym (ap (flat_map (volume_by g)) rows ∙ flat_map-push (volume_by g) (rows_alone vs) v.row));
       many = ap length is ∙ omega (arith, length-append vs (v ∷ []), r.many);
       volumes = rw rows volumes;
       long = long;

@@ -1,8 +1,11 @@
 -- Extents and their segments: the one from the other, there and back.
-use Rattle.std.proofs.Common.{◌≡◌, ℕ, zero, suc, ◌+◌, ◌≤◌, ◌==◌, cond, true, false, List, [], ◌∷◌, ◌++◌, length, refl, sym, ap, subst, ◌∙◌, arith}
+use Rattle.std.proofs.Common.{◌≡◌, ◌≢◌, ℕ, zero, suc, ◌+◌, ◌-◌, ◌≤◌, ◌<◌, ◌==◌, eqb, cond, true, false, List, [], ◌∷◌, ◌++◌, length, drop, Some, refl, sym, ap, subst, ◌∙◌, arith, append_assoc}
+use Rattle.std.specs.Prelude.{slice_get}
 use Rattle.std.specs.List.{range_with_len}
-use Rattle.std.proofs.lemmas.Bool.{eqb-true, eq-eqb, true≢false}
-use Rattle.vg_meta.specs.Segments.{Segment, joined, segments, spread_all, AreMaximal, GoesOnElsewhere}
+use Rattle.std.proofs.lemmas.Bool.{eqb-true, eq-eqb, ne_eqb, true≢false}
+use Rattle.std.proofs.lemmas.Grind.{flat_map-append}
+use Rattle.std.proofs.lemmas.List.{append-nil, drop_all, length-drop}
+use Rattle.vg_meta.specs.Segments.{Segment, joined, segments, spread_all, AreMaximal, GoesOnElsewhere, CountsUp}
 
 abbrev one : ℕ → Segment
 one e = record { first = e; count = 1 }
@@ -96,3 +99,188 @@ pub few-segments : (es : List ℕ) → length (segments es) ≤ length es
 unfolding segments
 few-segments [] = omega arith
 few-segments (e ∷ es) = omega (arith, few-joined e (segments es), few-segments es)
+
+none-joined : (e : ℕ) (ss : List Segment) → 0 < length (joined e ss)
+unfolding joined
+none-joined e [] = omega arith
+none-joined e (s ∷ ss) = elim (s.first == e + 1) as (λ b. 0 < length (cond b (record { first = e; count = s.count + 1 } ∷ ss) (record { first = e; count = 1 } ∷ s ∷ ss))) [
+  | true ↦ omega arith
+  | false ↦ omega arith
+]
+
+-- no extents have no segments, and others have some
+pub none-segments : (es : List ℕ) → eqb (length (segments es)) 0 ≡ eqb (length es) 0
+unfolding segments
+none-segments [] = refl
+none-segments (e ∷ es) =
+    ne_eqb (length (joined e (segments es))) 0 (λ same. absurd (omega (arith, same, none-joined e (segments es))))
+    ∙ sym (ne_eqb (length (e ∷ es)) 0 (λ same. absurd (omega (arith, same))))
+
+-- ---- a run in front
+
+elsewhere_joined : (s : Segment) (e : ℕ) (ss : List Segment) → e ≢ s.first + s.count → GoesOnElsewhere s (joined e ss)
+unfolding joined
+elsewhere_joined s e [] h = h
+elsewhere_joined s e (t ∷ ss) h = elim (t.first == e + 1) as (λ b. GoesOnElsewhere s (cond b (record { first = e; count = t.count + 1 } ∷ ss) (record { first = e; count = 1 } ∷ t ∷ ss))) [
+  | true ↦ h
+  | false ↦ h
+]
+
+pub segments-run : (a n : ℕ) (es : List ℕ) → 1 ≤ n → ((e : ℕ) → slice_get es 0 ≡ Some e → e ≢ a + n)
+    → segments (range_with_len a n ++ es) ≡ record { first = a; count = n } ∷ segments es
+unfolding segments
+segments-run a zero es some h = absurd (omega arith)
+segments-run a (suc n) [] some h = run_in_front a n [] [] refl tt
+segments-run a (suc n) (e ∷ es) some h =
+    run_in_front a n (e ∷ es) (segments (e ∷ es)) refl (elsewhere_joined (record { first = a; count = suc n }) e (segments es) (h e refl))
+
+drop_first : (n : ℕ) (es : List ℕ) (e : ℕ) → slice_get (drop n es) 0 ≡ Some e → slice_get es n ≡ Some e
+drop_first zero es e h = h
+drop_first (suc n) [] e h = absurd cc
+drop_first (suc n) (x ∷ es) e h = drop_first n es e h
+
+front_first : (es ms : List ℕ) (e : ℕ) → 0 < length es → slice_get (es ++ ms) 0 ≡ Some e → slice_get es 0 ≡ Some e
+front_first [] ms e some h = absurd (omega arith)
+front_first (x ∷ es) ms e some h = h
+
+-- the first segment ends among the extents in front
+pub first_in_front : (a n : ℕ) (es ms : List ℕ) → CountsUp a n es → 1 ≤ n → 0 < length (drop n es)
+    → segments (es ++ ms) ≡ record { first = a; count = n } ∷ segments (drop n es ++ ms)
+first_in_front a n es ms c some left =
+    ap (λ (l : List ℕ). segments (l ++ ms)) c.run
+    ∙ ap segments (append_assoc (range_with_len a n) (drop n es) ms)
+    ∙ segments-run a n (drop n es ++ ms) some (λ e h. c.ends e (drop_first n es e (front_first (drop n es) ms e left h)))
+
+range-append : (a n m : ℕ) → range_with_len a (n + m) ≡ range_with_len a n ++ range_with_len (a + n) m
+range-append a zero m =
+    let less : 0 + m ≡ m = omega arith in
+    let here : a + 0 ≡ a = omega arith in
+    rw (less, here) refl
+range-append a (suc n) m =
+    let more : suc n + m ≡ suc (n + m) = omega arith in
+    let from : a + 1 + n ≡ a + suc n = omega arith in
+    rw more (ap (λ (l : List ℕ). a ∷ l) (range-append (a + 1) n m ∙ ap (λ (x : ℕ). range_with_len (a + 1) n ++ range_with_len x m) from))
+
+-- or it goes on into those behind
+pub first_in_both : (a n k : ℕ) (es ms : List ℕ) → CountsUp a n es → drop n es ≡ [] → CountsUp (a + n) k ms → 1 ≤ n + k
+    → segments (es ++ ms) ≡ record { first = a; count = n + k } ∷ segments (drop n es ++ drop k ms)
+first_in_both a n k es ms c none d some =
+    let front : es ≡ range_with_len a n = c.run ∙ ap (λ (l : List ℕ). range_with_len a n ++ l) none ∙ append-nil (range_with_len a n) in
+    let next : (e : ℕ) → slice_get (drop k ms) 0 ≡ Some e → e ≢ a + (n + k) = λ e h same. d.ends e (drop_first k ms e h) (omega (arith, same)) in
+    ap (λ (l : List ℕ). segments (l ++ ms)) front
+    ∙ ap (λ (l : List ℕ). segments (range_with_len a n ++ l)) d.run
+    ∙ ap segments (sym (append_assoc (range_with_len a n) (range_with_len (a + n) k) (drop k ms)))
+    ∙ ap (λ (l : List ℕ). segments (l ++ drop k ms)) (sym (range-append a n k))
+    ∙ segments-run a (n + k) (drop k ms) some next
+    ∙ ap (λ (l : List ℕ). record { first = a; count = n + k } ∷ segments (l ++ drop k ms)) (sym none)
+
+-- extents that begin with a number count up from it
+starts : (a n : ℕ) (es : List ℕ) → slice_get es 0 ≡ Some a → CountsUp a n es → 1 ≤ n
+starts a zero es first c = absurd (c.ends a first (omega arith))
+starts a (suc n) es first c = omega arith
+
+-- the first segment, where it ends among the extents in front
+pub split_front : (es ms behind : List ℕ) (a n : ℕ) → slice_get (es ++ ms) 0 ≡ Some a → CountsUp a n es → n < length es → behind ≡ drop n es
+    → segments (es ++ ms) ≡ record { first = a; count = n } ∷ segments (behind ++ ms)
+split_front es ms behind a n first c less is =
+    let left : 0 < length (drop n es) = omega (arith, length-drop n es) in
+    first_in_front a n es ms c (starts a n es (front_first es ms a (omega arith) first) c) left
+    ∙ ap (λ (l : List ℕ). record { first = a; count = n } ∷ segments (l ++ ms)) (sym is)
+
+-- and where it goes on into those behind
+pub split_both : (es ms behind left : List ℕ) (a n k : ℕ) → slice_get (es ++ ms) 0 ≡ Some a → CountsUp a n es → length es ≤ n → behind ≡ drop n es
+    → CountsUp (a + n) k ms → left ≡ drop k ms → segments (es ++ ms) ≡ record { first = a; count = n + k } ∷ segments (behind ++ left)
+split_both es ms behind left a n k first c all is d is_left =
+    first_in_both a n k es ms c (drop_all n es all) d (some es first c)
+    ∙ ap (λ (l : List ℕ). record { first = a; count = n + k } ∷ segments (l ++ drop k ms)) (sym is)
+    ∙ ap (λ (l : List ℕ). record { first = a; count = n + k } ∷ segments (behind ++ l)) (sym is_left)
+  where
+    some : (es : List ℕ) → slice_get (es ++ ms) 0 ≡ Some a → CountsUp a n es → 1 ≤ n + k
+    some [] first c =
+        let none : n ≡ 0 = omega (arith, c.within) in
+        let here : a + n ≡ a = omega (arith, none) in
+        let there = starts a k ms first (subst (λ (x : ℕ). CountsUp x k ms) here d) in
+        omega (arith, there)
+    some (e ∷ es) first c = let one = starts a n (e ∷ es) first c in omega (arith, one)
+
+-- ---- a run behind
+
+-- the last segment does not end at this extent
+abbrev pub EndElsewhere : List Segment → ℕ → Type 0
+EndElsewhere [] f = Unit {0}
+EndElsewhere (s ∷ []) f = f ≢ s.first + s.count
+EndElsewhere (s ∷ t ∷ ss) f = EndElsewhere (t ∷ ss) f
+
+pub maximal-push : (ss : List Segment) (s : Segment) → AreMaximal ss → 1 ≤ s.count → EndElsewhere ss s.first → AreMaximal (ss ++ s ∷ [])
+maximal-push [] s m some apart = (some, tt, tt)
+maximal-push (t ∷ []) s m some apart = (m.0, apart, (some, tt, tt))
+maximal-push (t ∷ u ∷ ss) s m some apart = (m.0, m.1, maximal-push (u ∷ ss) s m.2 some apart)
+
+-- what stands behind maximal segments
+pub maximal_behind : (ss : List Segment) (s : Segment) (more : List Segment) → AreMaximal (ss ++ s ∷ more) → (1 ≤ s.count) × EndElsewhere ss s.first
+maximal_behind [] s more m = (m.0, tt)
+maximal_behind (t ∷ []) s more m = (m.2.0, m.1)
+maximal_behind (t ∷ u ∷ ss) s more m = maximal_behind (u ∷ ss) s more m.2
+
+end_joined : (e f : ℕ) (s : Segment) (ss : List Segment) → EndElsewhere (joined e (s ∷ ss)) f → EndElsewhere (s ∷ ss) f
+unfolding joined
+end_joined e f s ss = (elim (s.first == e + 1) as (λ b. (s.first == e + 1) ≡ b → EndElsewhere (cond b (record { first = e; count = s.count + 1 } ∷ ss) (record { first = e; count = 1 } ∷ s ∷ ss)) f → EndElsewhere (s ∷ ss) f) [
+  | true ↦ λ h. on ss (eqb-true s.first (e + 1) h)
+  | false ↦ λ h apart. apart
+]) refl
+  where
+    on : (ss : List Segment) → s.first ≡ e + 1 → EndElsewhere (record { first = e; count = s.count + 1 } ∷ ss) f → EndElsewhere (s ∷ ss) f
+    on [] next apart = λ same. apart (omega (arith, same, next))
+    on (t ∷ ts) next apart = apart
+
+joined_end : (e f : ℕ) (s : Segment) (ss : List Segment) → EndElsewhere (s ∷ ss) f → EndElsewhere (joined e (s ∷ ss)) f
+unfolding joined
+joined_end e f s ss = (elim (s.first == e + 1) as (λ b. (s.first == e + 1) ≡ b → EndElsewhere (s ∷ ss) f → EndElsewhere (cond b (record { first = e; count = s.count + 1 } ∷ ss) (record { first = e; count = 1 } ∷ s ∷ ss)) f) [
+  | true ↦ λ h. on ss (eqb-true s.first (e + 1) h)
+  | false ↦ λ h apart. apart
+]) refl
+  where
+    on : (ss : List Segment) → s.first ≡ e + 1 → EndElsewhere (s ∷ ss) f → EndElsewhere (record { first = e; count = s.count + 1 } ∷ ss) f
+    on [] next apart = λ same. apart (omega (arith, same, next))
+    on (t ∷ ts) next apart = apart
+
+-- the segments of extents, of which there is one at least
+some_segments : (e : ℕ) (es : List ℕ) (P : List Segment → Type 0) → ((s : Segment) (ss : List Segment) → segments (e ∷ es) ≡ s ∷ ss → P (s ∷ ss)) → P (segments (e ∷ es))
+some_segments e es P each = by (segments (e ∷ es)) refl
+  where
+    by : (ss : List Segment) → segments (e ∷ es) ≡ ss → P (segments (e ∷ es))
+    by [] is = absurd (true≢false (sym (ap (λ (l : List Segment). eqb (length l) 0) is) ∙ none-segments (e ∷ es) ∙ ne_eqb (length (e ∷ es)) 0 (λ same. absurd (omega (arith, same)))))
+    by (s ∷ ss) is = subst P (sym is) (each s ss is)
+
+last_index : (e f : ℕ) (es : List ℕ) → length (e ∷ f ∷ es) - 1 ≡ suc (length (f ∷ es) - 1)
+last_index e f es = omega arith
+
+-- the last segment ends where the extents end
+pub end_last : (es : List ℕ) (f : ℕ) → EndElsewhere (segments es) f → (e : ℕ) → slice_get es (length es - 1) ≡ Some e → f ≢ e + 1
+unfolding segments joined
+end_last [] f apart e last = absurd cc
+end_last (x ∷ []) f apart e last = let same : x ≡ e = cc in subst (λ (y : ℕ). f ≢ y + 1) same apart
+end_last (x ∷ y ∷ es) f apart e last =
+    end_last (y ∷ es) f (some_segments y es (λ ss. EndElsewhere (joined x ss) f → EndElsewhere ss f) (λ s ss _. end_joined x f s ss) apart) e
+    (subst (λ (k : ℕ). slice_get (x ∷ y ∷ es) k ≡ Some e) (last_index x y es) last)
+
+pub last_end : (es : List ℕ) (f : ℕ) → ((e : ℕ) → slice_get es (length es - 1) ≡ Some e → f ≢ e + 1) → EndElsewhere (segments es) f
+unfolding segments joined
+last_end [] f apart = tt
+last_end (x ∷ []) f apart = apart x refl
+last_end (x ∷ y ∷ es) f apart =
+    some_segments y es (λ ss. EndElsewhere ss f → EndElsewhere (joined x ss) f) (λ s ss _. joined_end x f s ss)
+    (last_end (y ∷ es) f (λ e last. apart e (subst (λ (k : ℕ). slice_get (x ∷ y ∷ es) k ≡ Some e) (sym (last_index x y es)) last)))
+
+pub spread-push : (ss : List Segment) (s : Segment) → spread_all (ss ++ s ∷ []) ≡ spread_all ss ++ range_with_len s.first s.count
+spread-push ss s =
+    flat_map-append (λ (t : Segment). range_with_len t.first t.count) ss (s ∷ []) ∙ ap (λ (l : List ℕ). spread_all ss ++ l) (append-nil (range_with_len s.first s.count))
+
+-- one more segment behind extents that do not end where it begins
+pub segments-push : (es : List ℕ) (a n : ℕ) → 1 ≤ n → ((e : ℕ) → slice_get es (length es - 1) ≡ Some e → a ≢ e + 1)
+    → segments (es ++ range_with_len a n) ≡ segments es ++ record { first = a; count = n } ∷ []
+segments-push es a n some apart =
+    let s : Segment = record { first = a; count = n } in
+    let maximal = maximal-push (segments es) s (maximal-segments es) some (last_end es a apart) in
+    ap (λ (l : List ℕ). segments (l ++ range_with_len a n)) (sym (spread-segments es))
+    ∙ ap segments (sym (spread-push (segments es) s)) ∙ segments-spread (segments es ++ s ∷ []) maximal

@@ -10,16 +10,17 @@ use Rattle.sm_base.specs.declared.names.Name.{Name}
 use Rattle.sm_base.specs.Names.{name_cmp}
 use Rattle.vg_meta.specs.Tables.{Row, VolumeTable, row_of, name_eq, extents_in}
 use Rattle.vg_meta.specs.Roomy.{RoomyRow, rows_alone, IsPlace, IsSlot}
-use Rattle.vg_meta.specs.Text.{volume_text, text, HasText}
+use Rattle.vg_meta.specs.Text.{volume_by, text_by, HasText}
+use Rattle.vg_meta.specs.declared.grammars.Grammar.{Grammar}
 use Rattle.vg_meta.specs.declared.changes.Tag.{Tag}
 use Rattle.vg_meta.specs.declared.changes.Change.{Change}
 use Rattle.vg_meta.specs.declared.changes.Change.TheVariants.{Create, Remove, Rename, Grow, Cut, Mark}
 use Rattle.vg_meta.specs.Changes.{put, without, with_row, put_some, changed, made, renamed, grown, cut_to, tagged, AllowsIn, AllowsRemove, AllowsRename}
-use Rattle.vg_meta.specs.Writing.{WritesText, HaveRoom, volumes_text}
+use Rattle.vg_meta.specs.Writing.{WritesText, HaveRoom, volumes_by}
 use Rattle.vg_meta.proofs.NameLaws.{name_eq-same}
 use Rattle.vg_meta.proofs.EditLaws.{held_name}
 use Rattle.vg_meta.proofs.PutLaws.{put_in_front, put_in_back}
-use Rattle.vg_meta.proofs.WriteLaws.{puts_then, few_each, length-text}
+use Rattle.vg_meta.proofs.WriteLaws.{puts_then, few_each, length-text_by}
 
 -- ---- room for pieces
 
@@ -28,51 +29,51 @@ extents-both [] ys = omega arith
 extents-both (x ∷ xs) ys =
     omega (arith, extents-both xs ys, length-append x.extents (extents_in (xs ++ ys)), length-append x.extents (extents_in xs))
 
-texts-both : (xs ys : List Row) → length (volumes_text (xs ++ ys)) ≡ length (volumes_text xs) + length (volumes_text ys)
-texts-both xs ys = ap length (flat_map-append volume_text xs ys) ∙ length-append (volumes_text xs) (volumes_text ys)
+texts-both : (g : Grammar) (xs ys : List Row) → length (volumes_by g (xs ++ ys)) ≡ length (volumes_by g xs) + length (volumes_by g ys)
+texts-both g xs ys = ap length (flat_map-append (volume_by g) xs ys) ∙ length-append (volumes_by g xs) (volumes_by g ys)
 
-pub room_front : (xs ys : List Row) (at size : ℕ) → HaveRoom (xs ++ ys) at size → HaveRoom xs at size
-room_front xs ys at size h = record {
+pub room_front : {g : Grammar} (xs ys : List Row) (at size : ℕ) → HaveRoom g (xs ++ ys) at size → HaveRoom g xs at size
+room_front {g = g} xs ys at size h = record {
   few = omega (arith, extents-both xs ys, h.few);
-  room = omega (arith, texts-both xs ys, h.room);
+  room = omega (arith, texts-both g xs ys, h.room);
 }
 
-pub room_back : (xs ys : List Row) (at end size : ℕ) → HaveRoom (xs ++ ys) at size → end ≡ at + length (volumes_text xs) → HaveRoom ys end size
-room_back xs ys at end size h is = record {
+pub room_back : {g : Grammar} (xs ys : List Row) (at end size : ℕ) → HaveRoom g (xs ++ ys) at size → end ≡ at + length (volumes_by g xs) → HaveRoom g ys end size
+room_back {g = g} xs ys at end size h is = record {
   few = omega (arith, extents-both xs ys, h.few);
-  room = omega (arith, texts-both xs ys, h.room, is);
+  room = omega (arith, texts-both g xs ys, h.room, is);
 }
 
-pub room_as : (xs ys : List Row) (at size : ℕ) → xs ≡ ys → HaveRoom ys at size → HaveRoom xs at size
-room_as xs ys at size e h = subst (λ (l : List Row). HaveRoom l at size) (sym e) h
+pub room_as : {g : Grammar} (xs ys : List Row) (at size : ℕ) → xs ≡ ys → HaveRoom g ys at size → HaveRoom g xs at size
+room_as {g = g} xs ys at size e h = subst (λ (l : List Row). HaveRoom g l at size) (sym e) h
 
-pub few_all : (hs : List RoomyRow) (at size : ℕ) → HaveRoom (rows_alone hs) at size → AllByRecursion (λ (v : RoomyRow). length v.row.extents < 2 ^ 32) hs
-few_all hs at size h = few_each hs h.few
+pub few_all : {g : Grammar} (hs : List RoomyRow) (at size : ℕ) → HaveRoom g (rows_alone hs) at size → AllByRecursion (λ (v : RoomyRow). length v.row.extents < 2 ^ 32) hs
+few_all {g = g} hs at size h = few_each hs h.few
 
 -- ---- pieces one behind the other
 
-pub puts_as : (xs ys : List Row) (at end : ℕ) (old new : List ℕ) → xs ≡ ys → WritesText at (volumes_text xs) old new end → WritesText at (volumes_text ys) old new end
-puts_as xs ys at end old new e p = subst (λ (l : List Row). WritesText at (volumes_text l) old new end) e p
+pub puts_as : (g : Grammar) (xs ys : List Row) (at end : ℕ) (old new : List ℕ) → xs ≡ ys → WritesText at (volumes_by g xs) old new end → WritesText at (volumes_by g ys) old new end
+puts_as g xs ys at end old new e p = subst (λ (l : List Row). WritesText at (volumes_by g l) old new end) e p
 
-pub rows_then : (xs ys : List Row) (at middle end : ℕ) (old half new : List ℕ) → at ≤ length old → WritesText at (volumes_text xs) old half middle
-    → WritesText middle (volumes_text ys) half new end → WritesText at (volumes_text (xs ++ ys)) old new end
-rows_then xs ys at middle end old half new within p q =
-    subst (λ (t : List ℕ). WritesText at t old new end) (sym (flat_map-append volume_text xs ys))
-    (puts_then at middle end (volumes_text xs) (volumes_text ys) old half new within p q)
+pub rows_then : (g : Grammar) (xs ys : List Row) (at middle end : ℕ) (old half new : List ℕ) → at ≤ length old → WritesText at (volumes_by g xs) old half middle
+    → WritesText middle (volumes_by g ys) half new end → WritesText at (volumes_by g (xs ++ ys)) old new end
+rows_then g xs ys at middle end old half new within p q =
+    subst (λ (t : List ℕ). WritesText at t old new end) (sym (flat_map-append (volume_by g) xs ys))
+    (puts_then at middle end (volumes_by g xs) (volumes_by g ys) old half new within p q)
 
-pub rows_between : (xs ys : List Row) (r : Row) (at first second end : ℕ) (old one two new : List ℕ) → at ≤ length old
-    → WritesText at (volumes_text xs) old one first → WritesText first (volume_text r) one two second → WritesText second (volumes_text ys) two new end
-    → WritesText at (volumes_text (xs ++ r ∷ ys)) old new end
-rows_between xs ys r at first second end old one two new within a b c =
-    let ab = puts_then at first second (volumes_text xs) (volume_text r) old one two within a b in
-    let abc = puts_then at second end (volumes_text xs ++ volume_text r) (volumes_text ys) old two new within ab c in
+pub rows_between : (g : Grammar) (xs ys : List Row) (r : Row) (at first second end : ℕ) (old one two new : List ℕ) → at ≤ length old
+    → WritesText at (volumes_by g xs) old one first → WritesText first (volume_by g r) one two second → WritesText second (volumes_by g ys) two new end
+    → WritesText at (volumes_by g (xs ++ r ∷ ys)) old new end
+rows_between g xs ys r at first second end old one two new within a b c =
+    let ab = puts_then at first second (volumes_by g xs) (volume_by g r) old one two within a b in
+    let abc = puts_then at second end (volumes_by g xs ++ volume_by g r) (volumes_by g ys) old two new within ab c in
     subst (λ (t : List ℕ). WritesText at t old new end)
-    (append_assoc (volumes_text xs) (volume_text r) (volumes_text ys) ∙ sym (flat_map-append volume_text xs (r ∷ ys))) abc
+    (append_assoc (volumes_by g xs) (volume_by g r) (volumes_by g ys) ∙ sym (flat_map-append (volume_by g) xs (r ∷ ys))) abc
 
 -- few extents behind the front and one more
-pub few_behind : (xs : List Row) (r : Row) (ys : List RoomyRow) (at size : ℕ) → HaveRoom (xs ++ r ∷ rows_alone ys) at size
+pub few_behind : {g : Grammar} (xs : List Row) (r : Row) (ys : List RoomyRow) (at size : ℕ) → HaveRoom g (xs ++ r ∷ rows_alone ys) at size
     → AllByRecursion (λ (v : RoomyRow). length v.row.extents < 2 ^ 32) ys
-few_behind xs r ys at size h =
+few_behind {g = g} xs r ys at size h =
     few_each ys (omega (arith, extents-both xs (r ∷ rows_alone ys), length-append r.extents (extents_in (rows_alone ys)), h.few))
 
 -- ---- the volumes as pieces
@@ -202,8 +203,8 @@ count_same count rs change (inr (inr (inl (name, keep, is)))) a = rw is (sym (le
 count_same count rs change (inr (inr (inr (name, tag, on, is)))) a = rw is (sym (length-with_row rs name (tagged tag on)))
 
 -- a text that has room has room for its volumes behind the two numbers in front
-pub room_behind : (t : VolumeTable) (at size : ℕ) → HasText t → length (text t) ≤ size → at ≡ 12 → HaveRoom t.volumes at size
-room_behind t at size h fits is = record {
+pub room_behind : {g : Grammar} (t : VolumeTable) (at size : ℕ) → HasText t → length (text_by g t) ≤ size → at ≡ 12 → HaveRoom g t.volumes at size
+room_behind {g = g} t at size h fits is = record {
   few = h.extents;
-  room = omega (arith, length-text t, fits, is);
+  room = omega (arith, length-text_by g t, fits, is);
 }

@@ -11,7 +11,9 @@ use Rattle.sm_base.proofs.TextLemmas.{placed-placed, placed-zero}
 use Rattle.vg_meta.specs.Tables.{Row, VolumeTable, extents_in}
 use Rattle.vg_meta.specs.Roomy.{RoomyRow, rows_alone}
 use Rattle.sm_base.specs.Names.{spelling}
-use Rattle.vg_meta.specs.Text.{flags_of, extents_text, volume_text, text}
+use Rattle.vg_meta.specs.Text.{flags_of, extents_text, extents_by, volume_by, volume_text, text, segmented_text, text_by}
+use Rattle.vg_meta.specs.declared.grammars.Grammar.{Grammar}
+use Rattle.vg_meta.specs.declared.grammars.Grammar.TheVariants.{Listed, Segmented}
 use Rattle.vg_meta.specs.Writing.{WritesText}
 
 -- nothing is written
@@ -71,13 +73,16 @@ extents_written es ms count at first second end old one two new within is a b c 
     subst (λ (t : List ℕ). WritesText at t old new end) regroup abc
 
 -- volumes are written as their rows
-pub flat_map-rows : (hs : List RoomyRow) → flat_map volume_text (rows_alone hs) ≡ flat_map (λ (v : RoomyRow). volume_text v.row) hs
-flat_map-rows [] = refl
-flat_map-rows (h ∷ hs) = ap (λ (l : List ℕ). volume_text h.row ++ l) (flat_map-rows hs)
+pub flat_map-rows : (g : Grammar) (hs : List RoomyRow) → flat_map (volume_by g) (rows_alone hs) ≡ flat_map (λ (v : RoomyRow). volume_by g v.row) hs
+flat_map-rows g [] = refl
+flat_map-rows g (h ∷ hs) = ap (λ (l : List ℕ). volume_by g h.row ++ l) (flat_map-rows g hs)
+
+pub length-volume_by : (g : Grammar) (r : Row) → length (volume_by g r) ≡ 2 + length (spelling r.name) + length (extents_by g r.extents)
+unfolding volume_by
+length-volume_by g r = omega (arith, length-append (spelling r.name) (flags_of r.hidden r.fresh ∷ extents_by g r.extents))
 
 pub length-volume_text : (r : Row) → length (volume_text r) ≡ 2 + length (spelling r.name) + length (extents_text r.extents)
-unfolding volume_text
-length-volume_text r = omega (arith, length-append (spelling r.name) (flags_of r.hidden r.fresh ∷ extents_text r.extents))
+length-volume_text r = length-volume_by Listed r
 
 pub length-extents_text : (es : List ℕ) → length (extents_text es) ≡ 4 + 4 * length es
 length-extents_text es = omega (arith, numbers es)
@@ -87,12 +92,12 @@ length-extents_text es = omega (arith, numbers es)
     numbers (e ∷ es) = omega (arith, numbers es)
 
 -- a volume is written in four parts
-pub volume_written : (r : Row) (at first second third end : ℕ) (old one two three new : List ℕ) (size name flags extents : List ℕ) → at ≤ length old
-    → size ≡ length (spelling r.name) ∷ [] → name ≡ spelling r.name → flags ≡ flags_of r.hidden r.fresh ∷ [] → extents ≡ extents_text r.extents
+pub volume_written : (g : Grammar) (r : Row) (at first second third end : ℕ) (old one two three new : List ℕ) (size name flags extents : List ℕ) → at ≤ length old
+    → size ≡ length (spelling r.name) ∷ [] → name ≡ spelling r.name → flags ≡ flags_of r.hidden r.fresh ∷ [] → extents ≡ extents_by g r.extents
     → WritesText at size old one first → WritesText first name one two second → WritesText second flags two three third → WritesText third extents three new end
-    → WritesText at (volume_text r) old new end
-unfolding volume_text
-volume_written r at first second third end old one two three new size name flags extents within size_is name_is flags_is extents_is a b c d =
+    → WritesText at (volume_by g r) old new end
+unfolding volume_by
+volume_written g r at first second third end old one two three new size name flags extents within size_is name_is flags_is extents_is a b c d =
     let ab = puts_then at first second size name old one two within a b in
     let abc = puts_then at second third (size ++ name) flags old two three within ab c in
     let abcd = puts_then at third end ((size ++ name) ++ flags) extents old three new within abc d in
@@ -102,17 +107,24 @@ volume_written r at first second third end old one two three new size name flags
 
 -- ---- the whole text
 
-pub length-text : (t : VolumeTable) → length (text t) ≡ 12 + length (flat_map volume_text t.volumes)
-unfolding text
-length-text t = omega arith
+pub text-parts : (g : Grammar) (t : VolumeTable) → text_by g t ≡ big_bytes 8 t.sequence ++ (big_bytes 4 (length t.volumes) ++ flat_map (volume_by g) t.volumes)
+unfolding text segmented_text
+text-parts Listed t = refl
+text-parts Segmented t = refl
 
-pub text_written : (t : VolumeTable) (first second end : ℕ) (old one two new : List ℕ) → WritesText 0 (big_bytes 8 t.sequence) old one first
-    → WritesText first (big_bytes 4 (length t.volumes)) one two second → WritesText second (flat_map volume_text t.volumes) two new end
-    → WritesText 0 (text t) old new end
-unfolding text
-text_written t first second end old one two new a b c =
+pub length-text_by : (g : Grammar) (t : VolumeTable) → length (text_by g t) ≡ 12 + length (flat_map (volume_by g) t.volumes)
+length-text_by g t = ap length (text-parts g t) ∙ omega arith
+
+pub length-text : (t : VolumeTable) → length (text t) ≡ 12 + length (flat_map volume_text t.volumes)
+length-text t = length-text_by Listed t
+
+pub text_written : (g : Grammar) (t : VolumeTable) (first second end : ℕ) (old one two new : List ℕ) → WritesText 0 (big_bytes 8 t.sequence) old one first
+    → WritesText first (big_bytes 4 (length t.volumes)) one two second → WritesText second (flat_map (volume_by g) t.volumes) two new end
+    → WritesText 0 (text_by g t) old new end
+text_written g t first second end old one two new a b c =
     let ab = puts_then 0 first second (big_bytes 8 t.sequence) (big_bytes 4 (length t.volumes)) old one two (omega arith) a b in
-    puts_then 0 second end (big_bytes 8 t.sequence ++ big_bytes 4 (length t.volumes)) (flat_map volume_text t.volumes) old two new (omega arith) ab c
+    subst (λ (l : List ℕ). WritesText 0 l old new end) (sym (text-parts g t))
+    (puts_then 0 second end (big_bytes 8 t.sequence ++ big_bytes 4 (length t.volumes)) (flat_map (volume_by g) t.volumes) old two new (omega arith) ab c)
 
 pub text_in_front : (t old new : List ℕ) (end : ℕ) → WritesText 0 t old new end → new ≡ t ++ drop (length t) old
 text_in_front t old new end p = p.written ∙ placed-zero t old

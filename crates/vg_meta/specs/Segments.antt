@@ -1,6 +1,6 @@
 -- Extents by segments (this project's format): a segment is a first extent, and how many follow one another from it on.
-use Rattle.std.specs.Prelude.{◌≢◌, ℕ, ◌+◌, ◌≤◌, ◌==◌, if◌then◌else◌, List, [], ◌∷◌}
-use Rattle.std.specs.List.{flat_map, range_with_len}
+use Rattle.std.specs.Prelude.{◌≡◌, ◌≢◌, ℕ, ◌+◌, ◌-◌, ◌<◌, ◌≤◌, ◌==◌, if◌then◌else◌, List, [], ◌∷◌, ◌++◌, length, drop, Some, slice_get}
+use Rattle.std.specs.List.{flat_map, range_with_len, AllByRecursion}
 
 -- so many extents that follow one another, from a first one on
 pub record Segment : Type 0 where
@@ -30,3 +30,22 @@ GoesOnElsewhere s (t ∷ ss) = t.first ≢ s.first + s.count
 abbrev pub AreMaximal : List Segment → Type 0
 AreMaximal [] = Unit {0}
 AreMaximal (s ∷ ss) = (1 ≤ s.count) × GoesOnElsewhere s ss × AreMaximal ss
+
+-- the first so many of the extents count up from a number one by one, and the next of them does not
+pub record CountsUp (from many : ℕ) (es : List ℕ) : Type 0 where
+  pub within : many ≤ length es
+  pub run : es ≡ range_with_len from many ++ drop many es
+  pub ends : (e : ℕ) → slice_get es many ≡ Some e → e ≢ from + many
+
+-- a segment that may stand behind extents, where extents are counted up to a count: it has one extent or more, and it ends within the
+-- count, leaves no more extents than the count, and does not begin where the extents end
+pub record GoesOn (count : ℕ) (es : List ℕ) (first many : ℕ) : Type 0 where
+  pub some : 1 ≤ many
+  pub below : first + many ≤ count
+  pub few : length es + many ≤ count
+  pub apart : (e : ℕ) → slice_get es (length es - 1) ≡ Some e → first ≢ e + 1
+
+-- extents that a volume of a table may have, where they are counted up to a count: each is below it, and there are no more than that
+pub record AreFew (count : ℕ) (es : List ℕ) : Type 0 where
+  pub below : AllByRecursion (λ e. e < count) es
+  pub few : length es ≤ count

@@ -1,11 +1,16 @@
 -- The text of a table (this project's format). All numbers are big-endian. The text has the sequence number in
 -- 8 bytes, at most 2^48 - 1, the number of volumes in 4 bytes, and the volumes. A volume has the length of its
--- name in 1 byte, its name, its flags in 1 byte (1 hidden, 2 fresh, or their sum), the number of its extents in
--- 4 bytes, and each extent in 4 bytes.
-use Rattle.std.specs.Prelude.{ℕ, ◌<◌, ◌^◌, List, ◌∷◌, ◌++◌, length, Bool, true, false}
+-- name in 1 byte, its name, its flags in 1 byte (1 hidden, 2 fresh, or their sum), and its extents, in one of two
+-- grammars. Listed, they are the number of the extents in 4 bytes, and each extent in 4 bytes. By segments, they are
+-- the number of segments in 4 bytes, and each segment, its first extent and the number of its extents in 4 bytes each;
+-- no segment is empty, and none begins where the one before it in the same volume ended.
+use Rattle.std.specs.Prelude.{ℕ, ◌<◌, ◌^◌, List, [], ◌∷◌, ◌++◌, length, Bool, true, false}
 use Rattle.std.specs.List.{flat_map}
 use Rattle.byteorder.specs.Endian.{big_bytes}
 use Rattle.sm_base.specs.Names.{spelling}
+use Rattle.vg_meta.specs.declared.grammars.Grammar.{Grammar}
+use Rattle.vg_meta.specs.declared.grammars.Grammar.TheVariants.{Listed, Segmented}
+use Rattle.vg_meta.specs.Segments.{Segment, segments}
 use Rattle.vg_meta.specs.Tables.{Row, VolumeTable, used}
 
 -- the flags
@@ -15,17 +20,39 @@ flags_of true false = 1
 flags_of false true = 2
 flags_of true true = 3
 
--- extents
+-- extents, listed
 abbrev pub extents_text : List ℕ → List ℕ
 extents_text es = big_bytes 4 (length es) ++ flat_map (big_bytes 4) es
 
--- a volume
-unfoldable pub volume_text : Row → List ℕ
-volume_text r = length (spelling r.name) ∷ spelling r.name ++ (flags_of r.hidden r.fresh ∷ extents_text r.extents)
+-- of each segment its first extent, and how many it has
+abbrev pub numbers_of : List Segment → List ℕ
+numbers_of ss = flat_map (λ s. s.first ∷ s.count ∷ []) ss
 
--- a table
+-- extents by a grammar
+abbrev pub extents_by : Grammar → List ℕ → List ℕ
+extents_by Listed es = extents_text es
+extents_by Segmented es = big_bytes 4 (length (segments es)) ++ flat_map (big_bytes 4) (numbers_of (segments es))
+
+-- a volume by a grammar
+unfoldable pub volume_by : Grammar → Row → List ℕ
+volume_by g r = length (spelling r.name) ∷ spelling r.name ++ (flags_of r.hidden r.fresh ∷ extents_by g r.extents)
+
+-- a volume, its extents listed
+abbrev pub volume_text : Row → List ℕ
+volume_text r = volume_by Listed r
+
+-- a table, its extents listed
 unfoldable pub text : VolumeTable → List ℕ
 text t = big_bytes 8 t.sequence ++ (big_bytes 4 (length t.volumes) ++ flat_map volume_text t.volumes)
+
+-- a table, its extents by segments
+unfoldable pub segmented_text : VolumeTable → List ℕ
+segmented_text t = big_bytes 8 t.sequence ++ (big_bytes 4 (length t.volumes) ++ flat_map (volume_by Segmented) t.volumes)
+
+-- a table by a grammar
+abbrev pub text_by : Grammar → VolumeTable → List ℕ
+text_by Listed t = text t
+text_by Segmented t = segmented_text t
 
 -- the numbers of volumes and of extents have room in their bytes
 pub record HasText (t : VolumeTable) : Type 0 where

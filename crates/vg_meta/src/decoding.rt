@@ -5,11 +5,15 @@ ghost use Rattle.std.specs.List.{AllByRecursion};
 ghost use Rattle.byteorder.specs.Endian.{big_bytes};
 ghost use Rattle.sm_base.specs.declared.names.Name.{Name};
 ghost use Rattle.sm_base.specs.Names.{IsName, spelling};
+ghost use Rattle.vg_meta.specs.Segments.{AreFew};
 ghost use Rattle.vg_meta.specs.Tables.{Row, IsVolume};
-ghost use Rattle.vg_meta.specs.Text.{flags_of, extents_text, volume_text};
+ghost use Rattle.vg_meta.specs.declared.grammars.Grammar.TheVariants.{Segmented};
+ghost use Rattle.vg_meta.specs.Text.{flags_of, extents_text, extents_by, volume_by};
 ghost use Rattle.vg_meta.specs.Unread.{IsUnread};
 
 use crate::allowed::suits_kind;
+use crate::grammars::Grammar;
+use crate::segments::{Segment, goes_on, push_all};
 use crate::volumes::Volume;
 use byteorder::{BigEndian, ByteOrder};
 use sm_base::Name;
@@ -83,7 +87,7 @@ pub enum Unread {
 }
 
 // Extents behind their number; damaged exactly where no extents stand so.
-fn extents_at(alloc: Global, bytes: &[u8]) -> Result<(Vec<u32>, &[u8]), Unread>
+fn listed_at(alloc: Global, bytes: &[u8]) -> Result<(Vec<u32>, &[u8]), Unread>
     ensures few { IfOk result (λ x. length x.0.items < 2 ^ 32) }
     ensures fit { IfOk result (λ x. AllByRecursion (λ e. e < 2 ^ 32) x.0.items) }
     ensures extents { IfOk result (λ x. bytes.now ≡ extents_text x.0.items ++ x.1.now) }
@@ -105,13 +109,77 @@ fn extents_at(alloc: Global, bytes: &[u8]) -> Result<(Vec<u32>, &[u8]), Unread>
     Ok((extents, rest))
 }
 
-/// A volume with what its kind has; damaged exactly where no volume stands so.
-pub fn volume_at(alloc: Global, bytes: &[u8]) -> Result<(Volume, &[u8]), Unread>
+// A segment: its first extent and how many it has; `None` exactly where the two numbers are not there.
+fn segment_at(bytes: &[u8]) -> Option<(Segment, &[u8])>
+    ensures segment { IfSome result (λ x. bytes.now ≡ big_bytes 4 x.0.first ++ (big_bytes 4 x.0.count ++ x.1.now)) }
+    ensures fits { IfSome result (λ x. (x.0.first < 2 ^ 32) × (x.0.count < 2 ^ 32)) }
+    ensures none { IfNone result (length bytes.now < 8) }
+{
+    if bytes.len() < 8 {
+        return None;
+    }
+    let (first, behind) = number_at(bytes)?;
+    let (count, rest) = number_at(behind)?;
+    Some((Segment { first, count }, rest))
+}
+
+// Extents by segments behind the number of these, where extents are counted up to a count; damaged exactly where none
+// stand so that a volume may have. No more extents are taken than the count.
+fn segmented_at(alloc: Global, bytes: &[u8], count: u32) -> Result<(Vec<u32>, &[u8]), Unread>
+    ensures few { IfOk result (λ x. AreFew count x.0.items) }
+    ensures extents { IfOk result (λ x. bytes.now ≡ extents_by Segmented x.0.items ++ x.1.now) }
+    ensures damaged { IfErr result (λ e. IsUnread e ((es rest : List ℕ) → AreFew count es → bytes.now ≢ extents_by Segmented es ++ rest)) }
+{
+    let Some((number, mut rest)) = number_at(bytes) else {
+        return Err(Unread::Damaged);
+    };
+    let mut extents = Vec::new(alloc);
+    for _ in 0..number {
+        let Some((segment, after)) = segment_at(rest) else {
+            return Err(Unread::Damaged);
+        };
+        if !goes_on(&extents, segment, count) {
+            return Err(Unread::Damaged);
+        }
+        if push_all(&mut extents, segment).is_err() {
+            return Err(Unread::NoMemory);
+        }
+        rest = after;
+    }
+    Ok((extents, rest))
+}
+
+// Extents by a grammar, where they are counted up to a count; damaged exactly where none stand so that a volume may have.
+fn extents_at(
+    alloc: Global,
+    grammar: Grammar,
+    bytes: &[u8],
+    count: u32,
+) -> Result<(Vec<u32>, &[u8]), Unread>
+    ensures few { IfOk result (λ x. length x.0.items < 2 ^ 32) }
+    ensures fit { IfOk result (λ x. AllByRecursion (λ e. e < 2 ^ 32) x.0.items) }
+    ensures extents { IfOk result (λ x. bytes.now ≡ extents_by grammar x.0.items ++ x.1.now) }
+    ensures damaged { IfErr result (λ e. IsUnread e ((es rest : List ℕ) → AreFew count es → bytes.now ≢ extents_by grammar es ++ rest)) }
+{
+    match grammar {
+        Grammar::Listed => listed_at(alloc, bytes),
+        Grammar::Segmented => segmented_at(alloc, bytes, count),
+    }
+}
+
+/// A volume with what its kind has, where extents are counted up to a count; damaged exactly where no volume stands so that
+/// a table may have.
+pub fn volume_at(
+    alloc: Global,
+    grammar: Grammar,
+    bytes: &[u8],
+    count: u32,
+) -> Result<(Volume, &[u8]), Unread>
     ensures volume { IfOk result (λ x. IsVolume x.0.row) }
     ensures few { IfOk result (λ x. length x.0.row.extents < 2 ^ 32) }
     ensures fit { IfOk result (λ x. AllByRecursion (λ e. e < 2 ^ 32) x.0.row.extents) }
-    ensures text { IfOk result (λ x. bytes.now ≡ volume_text x.0.row ++ x.1.now) }
-    ensures damaged { IfErr result (λ e. IsUnread e ((r : Row) (rest : List ℕ) → IsVolume r → length r.extents < 2 ^ 32 → bytes.now ≢ volume_text r ++ rest)) }
+    ensures text { IfOk result (λ x. bytes.now ≡ volume_by grammar x.0.row ++ x.1.now) }
+    ensures damaged { IfErr result (λ e. IsUnread e ((r : Row) (rest : List ℕ) → IsVolume r → AreFew count r.extents → bytes.now ≢ volume_by grammar r ++ rest)) }
 {
     let Some((name, behind)) = name_at(bytes) else {
         return Err(Unread::Damaged);
@@ -119,7 +187,7 @@ pub fn volume_at(alloc: Global, bytes: &[u8]) -> Result<(Volume, &[u8]), Unread>
     let Some((hidden, fresh, rest)) = marks_at(behind) else {
         return Err(Unread::Damaged);
     };
-    let (extents, after) = match extents_at(alloc, rest) {
+    let (extents, after) = match extents_at(alloc, grammar, rest, count) {
         Ok(read) => read,
         Err(unread) => return Err(unread),
     };

@@ -1,13 +1,17 @@
 //! Writing the text of a table.
 
-ghost use Rattle.std.specs.Prelude.{◌≡◌, ◌≤◌, ◌<◌, ◌+◌, ◌-◌, ◌^◌, ◌++◌, min, length};
+ghost use Rattle.std.specs.Prelude.{◌≡◌, ◌≤◌, ◌<◌, ◌+◌, ◌-◌, ◌*◌, ◌^◌, ◌++◌, min, length};
 ghost use Rattle.std.specs.List.{flat_map, AllByRecursion};
 ghost use Rattle.byteorder.specs.Endian.{big_bytes};
 ghost use Rattle.vg_meta.specs.Roomy.{rows_alone};
-ghost use Rattle.vg_meta.specs.Text.{flags_of, extents_text, volume_text};
+ghost use Rattle.vg_meta.specs.Segments.{segments};
+ghost use Rattle.vg_meta.specs.Text.{flags_of, extents_text, extents_by, numbers_of, volume_by, volume_text};
 ghost use Rattle.vg_meta.specs.Writing.{WritesText};
+ghost use Rattle.vg_meta.specs.declared.grammars.Grammar.TheVariants.{Segmented};
 
 use crate::entries::Entry;
+use crate::grammars::Grammar;
+use crate::segments::{Segment, count_segments, split_segment};
 use crate::volumes::Volume;
 use byteorder::{BigEndian, ByteOrder};
 
@@ -63,8 +67,8 @@ fn put_numbers(to: &mut [u8], at: usize, numbers: &[u32]) -> usize
     end
 }
 
-// Writes extents, which stand in two slices, at a place, and answers the place behind them.
-fn put_extents(to: &mut [u8], at: usize, extents: &[u32], more: &[u32]) -> usize
+// Writes extents, which stand in two slices, at a place, listed, and answers the place behind them.
+fn put_listed(to: &mut [u8], at: usize, extents: &[u32], more: &[u32]) -> usize
     requires few { length (extents.now ++ more.now) < 2 ^ 32 }
     requires room { at + length (extents_text (extents.now ++ more.now)) ≤ length to.old }
     ensures { WritesText at (extents_text (extents.now ++ more.now)) to.old to.new result }
@@ -75,11 +79,57 @@ fn put_extents(to: &mut [u8], at: usize, extents: &[u32], more: &[u32]) -> usize
     put_numbers(to, more_at, more)
 }
 
-/// Writes a volume at a place, and answers the place behind it.
-pub fn put_entry(to: &mut [u8], at: usize, entry: &Entry) -> usize
+// Writes a segment at a place, and answers the place behind it.
+fn put_segment(to: &mut [u8], at: usize, segment: Segment) -> usize
+    requires { at + 8 ≤ length to.old }
+    ensures { WritesText at (big_bytes 4 segment.first ++ big_bytes 4 segment.count) to.old to.new result }
+{
+    let count_at = put_number(to, at, segment.first);
+    put_number(to, count_at, segment.count)
+}
+
+// Writes the segments of extents, which stand in two slices, at a place, and answers the place behind them.
+fn put_segments(to: &mut [u8], at: usize, extents: &[u32], more: &[u32]) -> usize
+    requires few { length (extents.now ++ more.now) < 2 ^ 32 }
+    requires room { at + 8 * length (segments (extents.now ++ more.now)) ≤ length to.old }
+    ensures { WritesText at (flat_map (big_bytes 4) (numbers_of (segments (extents.now ++ more.now)))) to.old to.new result }
+{
+    let mut end = at;
+    let mut rest = (extents, more);
+    while let Some((segment, extents, more)) = split_segment(rest.0, rest.1) {
+        end = put_segment(to, end, segment);
+        rest = (extents, more);
+    }
+    end
+}
+
+// Writes extents, which stand in two slices, at a place by segments, and answers the place behind them.
+fn put_segmented(to: &mut [u8], at: usize, extents: &[u32], more: &[u32]) -> usize
+    requires few { length (extents.now ++ more.now) < 2 ^ 32 }
+    requires room { at + length (extents_by Segmented (extents.now ++ more.now)) ≤ length to.old }
+    ensures { WritesText at (extents_by Segmented (extents.now ++ more.now)) to.old to.new result }
+{
+    let segments_at = put_number(to, at, count_segments(extents, more) as u32);
+    put_segments(to, segments_at, extents, more)
+}
+
+// Writes extents, which stand in two slices, at a place by a grammar, and answers the place behind them.
+fn put_extents(to: &mut [u8], at: usize, grammar: Grammar, extents: &[u32], more: &[u32]) -> usize
+    requires few { length (extents.now ++ more.now) < 2 ^ 32 }
+    requires room { at + length (extents_by grammar (extents.now ++ more.now)) ≤ length to.old }
+    ensures { WritesText at (extents_by grammar (extents.now ++ more.now)) to.old to.new result }
+{
+    match grammar {
+        Grammar::Listed => put_listed(to, at, extents, more),
+        Grammar::Segmented => put_segmented(to, at, extents, more),
+    }
+}
+
+/// Writes a volume at a place by a grammar, and answers the place behind it.
+pub fn put_entry(to: &mut [u8], at: usize, grammar: Grammar, entry: &Entry) -> usize
     requires few { length entry.now.extents < 2 ^ 32 }
-    requires room { at + length (volume_text entry.now) ≤ length to.old }
-    ensures { WritesText at (volume_text entry.now) to.old to.new result }
+    requires room { at + length (volume_by grammar entry.now) ≤ length to.old }
+    ensures { WritesText at (volume_by grammar entry.now) to.old to.new result }
 {
     let mut name = [0; 128];
     let size = entry.name().spell(&mut name);
@@ -88,27 +138,27 @@ pub fn put_entry(to: &mut [u8], at: usize, entry: &Entry) -> usize
     let marks = flags(entry.is_hidden(), entry.is_fresh());
     let extents_at = put_bytes(to, flags_at, &[marks]);
     let (extents, more) = entry.extents();
-    put_extents(to, extents_at, extents, more)
+    put_extents(to, extents_at, grammar, extents, more)
 }
 
 // Writes a volume that is there at a place, and answers the place behind it.
-fn put_volume(to: &mut [u8], at: usize, volume: &Volume) -> usize
+fn put_volume(to: &mut [u8], at: usize, grammar: Grammar, volume: &Volume) -> usize
     requires few { length volume.now.row.extents < 2 ^ 32 }
-    requires room { at + length (volume_text volume.now.row) ≤ length to.old }
-    ensures { WritesText at (volume_text volume.now.row) to.old to.new result }
+    requires room { at + length (volume_by grammar volume.now.row) ≤ length to.old }
+    ensures { WritesText at (volume_by grammar volume.now.row) to.old to.new result }
 {
-    put_entry(to, at, &Entry::of(volume))
+    put_entry(to, at, grammar, &Entry::of(volume))
 }
 
-/// Writes volumes at a place, and answers the place behind them.
-pub fn put_volumes(to: &mut [u8], at: usize, volumes: &[Volume]) -> usize
+/// Writes volumes at a place by a grammar, and answers the place behind them.
+pub fn put_volumes(to: &mut [u8], at: usize, grammar: Grammar, volumes: &[Volume]) -> usize
     requires few { AllByRecursion (λ v. length v.row.extents < 2 ^ 32) volumes.now }
-    requires room { at + length (flat_map volume_text (rows_alone volumes.now)) ≤ length to.old }
-    ensures { WritesText at (flat_map volume_text (rows_alone volumes.now)) to.old to.new result }
+    requires room { at + length (flat_map (volume_by grammar) (rows_alone volumes.now)) ≤ length to.old }
+    ensures { WritesText at (flat_map (volume_by grammar) (rows_alone volumes.now)) to.old to.new result }
 {
     let mut end = at;
     for volume in volumes {
-        end = put_volume(to, end, volume);
+        end = put_volume(to, end, grammar, volume);
     }
     end
 }

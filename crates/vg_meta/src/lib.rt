@@ -6,7 +6,8 @@
 //!
 //! **The model** (`specs/`). `Tables` says what a table is, `Changes` which changes are allowed and what table each
 //! leaves, `Text` how a table is spelled, number by number, and `Reading` where a text that spells none goes
-//! wrong first. `Segments` says extents as the fewest runs of consecutive ones, there and back; no text uses it yet.
+//! wrong first. Both go by a [`Grammar`]: extents are listed one by one, as a group writes them, or by `Segments`, the
+//! fewest runs of consecutive ones, there and back; nothing writes these to a device yet.
 //! `Roomy` has beside the table the rows, and the extents of each volume, that may still be added
 //! without memory.
 //!
@@ -14,7 +15,8 @@
 //! [`Table::allows`] answers exactly whether a change is allowed, [`Table::fits`] whether the text is then short
 //! enough, and [`Table::apply`] leaves exactly the changed table, without memory where room was made before. [`Table::encode_changed`] writes the text of the table that a
 //! change would leave, and leaves the table as it is. [`Table::decode`] reads exactly the texts that
-//! [`Table::encode`] writes; of other bytes it says where the first part stands that does not fit. Lengths and
+//! [`Table::encode`] writes; of other bytes it says where the first part stands that does not fit. [`Table::encode_by`],
+//! [`Table::encode_changed_by`] and [`Table::decode_by`] do the same by either grammar. Lengths and
 //! places are in bytes, extents are counted. Finding a volume costs a pass over the names, and writing or reading
 //! a text costs one pass.
 #![tactic(auto)]
@@ -27,14 +29,17 @@ mod encoding;
 mod entries;
 mod faults;
 mod free;
+mod grammars;
 mod lengths;
 mod names;
 mod reading;
+mod segments;
 mod splices;
 mod tables;
 mod volumes;
 
 pub use changes::{Change, Extents, Tag};
 pub use faults::DecodeFault;
+pub use grammars::Grammar;
 pub use tables::Table;
 pub use volumes::Volume;

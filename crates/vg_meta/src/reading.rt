@@ -7,12 +7,13 @@ ghost use Rattle.std.specs.declared.cmp.Ordering.TheVariants.{Less};
 ghost use Rattle.sm_base.specs.Names.{name_cmp};
 ghost use Rattle.vg_meta.specs.Tables.{Row, AreVolumes, names_of, extents_in};
 ghost use Rattle.vg_meta.specs.Roomy.{rows_alone};
-ghost use Rattle.vg_meta.specs.Text.{volume_text};
+ghost use Rattle.vg_meta.specs.Text.{volume_by};
 ghost use Rattle.vg_meta.specs.Taken.{IsMarked, are_new};
 ghost use Rattle.vg_meta.specs.Unread.{IsUnread};
 ghost use Rattle.vg_meta.specs.Stopped.{StopsReading};
 
 use crate::decoding::{Unread, volume_at};
+use crate::grammars::Grammar;
 use crate::volumes::Volume;
 use sm_base::Name;
 use std::alloc::Global;
@@ -48,6 +49,7 @@ fn follows(volumes: &[Volume], name: &Name) -> bool
 // the volumes so far.
 fn next_volume<'a>(
     alloc: Global,
+    grammar: Grammar,
     volumes: &[Volume],
     met: &mut [bool],
     bytes: &'a [u8],
@@ -55,13 +57,13 @@ fn next_volume<'a>(
     requires so_far { AreVolumes (length met.old) (rows_alone volumes.now) }
     requires marked { IsMarked (extents_in (rows_alone volumes.now)) met.old }
     requires count { length met.old < 2 ^ 32 }
-    ensures text { IfOk result (λ x. bytes.now ≡ volume_text x.0.row ++ x.1.now) }
+    ensures text { IfOk result (λ x. bytes.now ≡ volume_by grammar x.0.row ++ x.1.now) }
     ensures few { IfOk result (λ x. length x.0.row.extents < 2 ^ 32) }
     ensures volumes { IfOk result (λ x. AreVolumes (length met.old) (rows_alone volumes.now ++ x.0.row ∷ [])) }
     ensures marks { IfOk result (λ x. IsMarked (extents_in (rows_alone volumes.now) ++ x.0.row.extents) met.new) }
-    ensures damaged { IfErr result (λ e. IsUnread e ((r : Row) (rest : List ℕ) → length r.extents < 2 ^ 32 → AreVolumes (length met.old) (rows_alone volumes.now ++ r ∷ []) → bytes.now ≢ volume_text r ++ rest)) }
+    ensures damaged { IfErr result (λ e. IsUnread e ((r : Row) (rest : List ℕ) → length r.extents < 2 ^ 32 → AreVolumes (length met.old) (rows_alone volumes.now ++ r ∷ []) → bytes.now ≢ volume_by grammar r ++ rest)) }
 {
-    let (volume, rest) = match volume_at(alloc, bytes) {
+    let (volume, rest) = match volume_at(alloc, grammar, bytes, met.len() as u32) {
         Ok(read) => read,
         Err(unread) => return Err(unread),
     };
@@ -86,14 +88,15 @@ pub enum Stopped {
 /// So many volumes, whose extents are below a count, and the bytes behind them.
 pub fn volumes_at(
     alloc: Global,
+    grammar: Grammar,
     bytes: &[u8],
     number: u32,
     count: u32,
 ) -> Result<(Vec<Volume>, &[u8]), Stopped>
-    ensures text { IfOk result (λ x. bytes.now ≡ flat_map volume_text (rows_alone x.0.items) ++ x.1.now) }
+    ensures text { IfOk result (λ x. bytes.now ≡ flat_map (volume_by grammar) (rows_alone x.0.items) ++ x.1.now) }
     ensures number { IfOk result (λ x. length x.0.items ≡ number) }
     ensures volumes { IfOk result (λ x. AreVolumes count (rows_alone x.0.items)) }
-    ensures damaged { IfErr result (λ e. StopsReading count number bytes.now e) }
+    ensures damaged { IfErr result (λ e. StopsReading grammar count number bytes.now e) }
 {
     let Ok(mut met) = vec![in alloc; false; count as usize] else {
         return Err(Stopped::NoMemory);
@@ -101,7 +104,7 @@ pub fn volumes_at(
     let mut volumes = Vec::new(alloc);
     let mut rest = bytes;
     for _ in 0..number {
-        let (volume, after) = match next_volume(alloc, &volumes, &mut met, rest) {
+        let (volume, after) = match next_volume(alloc, grammar, &volumes, &mut met, rest) {
             Ok(read) => read,
             Err(Unread::Damaged) => return Err(Stopped::Damaged { left: rest.len() }),
             Err(Unread::NoMemory) => return Err(Stopped::NoMemory),

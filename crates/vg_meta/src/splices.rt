@@ -8,12 +8,13 @@ ghost use Rattle.std.specs.Prelude.{◌≡◌, ◌<◌, ◌+◌, ◌^◌, ◌++�
 ghost use Rattle.vg_meta.specs.Tables.{row_of};
 ghost use Rattle.vg_meta.specs.Roomy.{rows_alone};
 ghost use Rattle.vg_meta.specs.Changes.{put, without, with_row, put_some, renamed, grown, cut_to, tagged, changed, AllowsIn, raised as raised_of};
-ghost use Rattle.vg_meta.specs.Writing.{WritesText, HaveRoom, volumes_text};
+ghost use Rattle.vg_meta.specs.Writing.{WritesText, HaveRoom, volumes_by};
 
 use crate::changes::{Change, Tag};
 use crate::edits::slot;
 use crate::encoding::{put_entry, put_volumes};
 use crate::entries::Entry;
+use crate::grammars::Grammar;
 use crate::volumes::{Volume, place};
 use sm_base::{LAST_SEQUENCE, Name};
 
@@ -44,10 +45,16 @@ pub fn changed_count(volumes: &[Volume], change: &Change) -> usize
 }
 
 /// Writes the volumes that a change leaves at a place, and answers the place behind them. It takes no memory.
-pub fn put_changed(to: &mut [u8], at: usize, volumes: &[Volume], change: &Change) -> usize
+pub fn put_changed(
+    to: &mut [u8],
+    at: usize,
+    grammar: Grammar,
+    volumes: &[Volume],
+    change: &Change,
+) -> usize
     requires allowed { AllowsIn (2 ^ 32) (rows_alone volumes.now) change.now }
-    requires room { HaveRoom (changed (rows_alone volumes.now) change.now) at (length to.old) }
-    ensures { WritesText at (volumes_text (changed (rows_alone volumes.now) change.now)) to.old to.new result }
+    requires room { HaveRoom grammar (changed (rows_alone volumes.now) change.now) at (length to.old) }
+    ensures { WritesText at (volumes_by grammar (changed (rows_alone volumes.now) change.now)) to.old to.new result }
 {
     match change {
         Change::Create {
@@ -56,66 +63,100 @@ pub fn put_changed(to: &mut [u8], at: usize, volumes: &[Volume], change: &Change
             extents,
         } => {
             let entry = Entry::made(*name, *fresh, extents.as_slice());
-            put_created(to, at, volumes, &entry)
+            put_created(to, at, grammar, volumes, &entry)
         }
-        Change::Remove { name } => put_removed(to, at, volumes, name),
-        Change::Rename { from, to: other } => put_renamed(to, at, volumes, from, other),
-        Change::Grow { name, extents } => put_grown(to, at, volumes, name, extents.as_slice()),
-        Change::Cut { name, keep } => put_cut(to, at, volumes, name, *keep as usize),
-        Change::Mark { name, tag, on } => put_marked(to, at, volumes, name, *tag, *on),
+        Change::Remove { name } => put_removed(to, at, grammar, volumes, name),
+        Change::Rename { from, to: other } => put_renamed(to, at, grammar, volumes, from, other),
+        Change::Grow { name, extents } => put_grown(
+            to,
+            at,
+            grammar,
+            volumes,
+            name,
+            extents.as_slice(),
+        ),
+        Change::Cut { name, keep } => put_cut(to, at, grammar, volumes, name, *keep as usize),
+        Change::Mark { name, tag, on } => put_marked(to, at, grammar, volumes, name, *tag, *on),
     }
 }
 
 // Writes a volume between others.
-fn put_between(to: &mut [u8], at: usize, front: &[Volume], entry: &Entry, back: &[Volume]) -> usize
-    requires { HaveRoom (rows_alone front.now ++ entry.now ∷ rows_alone back.now) at (length to.old) }
-    ensures { WritesText at (volumes_text (rows_alone front.now ++ entry.now ∷ rows_alone back.now)) to.old to.new result }
+fn put_between(
+    to: &mut [u8],
+    at: usize,
+    grammar: Grammar,
+    front: &[Volume],
+    entry: &Entry,
+    back: &[Volume],
+) -> usize
+    requires { HaveRoom grammar (rows_alone front.now ++ entry.now ∷ rows_alone back.now) at (length to.old) }
+    ensures { WritesText at (volumes_by grammar (rows_alone front.now ++ entry.now ∷ rows_alone back.now)) to.old to.new result }
 {
-    let entry_at = put_volumes(to, at, front);
-    let back_at = put_entry(to, entry_at, entry);
-    put_volumes(to, back_at, back)
+    let entry_at = put_volumes(to, at, grammar, front);
+    let back_at = put_entry(to, entry_at, grammar, entry);
+    put_volumes(to, back_at, grammar, back)
 }
 
 // Writes a volume in the stead of the one at an index.
-fn put_in_stead(to: &mut [u8], at: usize, volumes: &[Volume], index: usize, entry: &Entry) -> usize
+fn put_in_stead(
+    to: &mut [u8],
+    at: usize,
+    grammar: Grammar,
+    volumes: &[Volume],
+    index: usize,
+    entry: &Entry,
+) -> usize
     requires within { index < length volumes.now }
-    requires room { HaveRoom (rows_alone (take index volumes.now) ++ entry.now ∷ rows_alone (drop (index + 1) volumes.now)) at (length to.old) }
-    ensures { WritesText at (volumes_text (rows_alone (take index volumes.now) ++ entry.now ∷ rows_alone (drop (index + 1) volumes.now))) to.old to.new result }
+    requires room { HaveRoom grammar (rows_alone (take index volumes.now) ++ entry.now ∷ rows_alone (drop (index + 1) volumes.now)) at (length to.old) }
+    ensures { WritesText at (volumes_by grammar (rows_alone (take index volumes.now) ++ entry.now ∷ rows_alone (drop (index + 1) volumes.now))) to.old to.new result }
 {
     let (front, _) = volumes.split_at(index);
     let (_, back) = volumes.split_at(index + 1);
-    put_between(to, at, front, entry, back)
+    put_between(to, at, grammar, front, entry, back)
 }
 
 // Writes the volumes with one more, in order of name.
-fn put_created(to: &mut [u8], at: usize, volumes: &[Volume], entry: &Entry) -> usize
-    requires { HaveRoom (put entry.now (rows_alone volumes.now)) at (length to.old) }
-    ensures { WritesText at (volumes_text (put entry.now (rows_alone volumes.now))) to.old to.new result }
+fn put_created(
+    to: &mut [u8],
+    at: usize,
+    grammar: Grammar,
+    volumes: &[Volume],
+    entry: &Entry,
+) -> usize
+    requires { HaveRoom grammar (put entry.now (rows_alone volumes.now)) at (length to.old) }
+    ensures { WritesText at (volumes_by grammar (put entry.now (rows_alone volumes.now))) to.old to.new result }
 {
     let (front, back) = volumes.split_at(slot(volumes, &entry.name()));
-    put_between(to, at, front, entry, back)
+    put_between(to, at, grammar, front, entry, back)
 }
 
 // Writes the volumes without one.
-fn put_removed(to: &mut [u8], at: usize, volumes: &[Volume], name: &Name) -> usize
+fn put_removed(to: &mut [u8], at: usize, grammar: Grammar, volumes: &[Volume], name: &Name) -> usize
     requires there { IsSome (row_of (rows_alone volumes.now) name.now) }
-    requires room { HaveRoom (without name.now (rows_alone volumes.now)) at (length to.old) }
-    ensures { WritesText at (volumes_text (without name.now (rows_alone volumes.now))) to.old to.new result }
+    requires room { HaveRoom grammar (without name.now (rows_alone volumes.now)) at (length to.old) }
+    ensures { WritesText at (volumes_by grammar (without name.now (rows_alone volumes.now))) to.old to.new result }
 {
     let Some(index) = place(volumes, name) else {
         unreachable!()
     };
     let (front, _) = volumes.split_at(index);
     let (_, back) = volumes.split_at(index + 1);
-    let back_at = put_volumes(to, at, front);
-    put_volumes(to, back_at, back)
+    let back_at = put_volumes(to, at, grammar, front);
+    put_volumes(to, back_at, grammar, back)
 }
 
 // Writes the volumes with one under another name, in order of name.
-fn put_renamed(to: &mut [u8], at: usize, volumes: &[Volume], from: &Name, other: &Name) -> usize
+fn put_renamed(
+    to: &mut [u8],
+    at: usize,
+    grammar: Grammar,
+    volumes: &[Volume],
+    from: &Name,
+    other: &Name,
+) -> usize
     requires there { IsSome (row_of (rows_alone volumes.now) from.now) }
-    requires room { HaveRoom (put_some (row_of (rows_alone volumes.now) from.now) (renamed other.now) (without from.now (rows_alone volumes.now))) at (length to.old) }
-    ensures { WritesText at (volumes_text (put_some (row_of (rows_alone volumes.now) from.now) (renamed other.now) (without from.now (rows_alone volumes.now)))) to.old to.new result }
+    requires room { HaveRoom grammar (put_some (row_of (rows_alone volumes.now) from.now) (renamed other.now) (without from.now (rows_alone volumes.now))) at (length to.old) }
+    ensures { WritesText at (volumes_by grammar (put_some (row_of (rows_alone volumes.now) from.now) (renamed other.now) (without from.now (rows_alone volumes.now)))) to.old to.new result }
 {
     let Some(index) = place(volumes, from) else {
         unreachable!()
@@ -125,56 +166,71 @@ fn put_renamed(to: &mut [u8], at: usize, volumes: &[Volume], from: &Name, other:
     let entry = Entry::renamed(&volumes[index], *other);
     let in_front = slot(front, other);
     if in_front < front.len() {
-        let back_at = put_created(to, at, front, &entry);
-        put_volumes(to, back_at, back)
+        let back_at = put_created(to, at, grammar, front, &entry);
+        put_volumes(to, back_at, grammar, back)
     } else {
-        let back_at = put_volumes(to, at, front);
-        put_created(to, back_at, back, &entry)
+        let back_at = put_volumes(to, at, grammar, front);
+        put_created(to, back_at, grammar, back, &entry)
     }
 }
 
 // Writes the volumes with more extents at the end of one.
-fn put_grown(to: &mut [u8], at: usize, volumes: &[Volume], name: &Name, extents: &[u32]) -> usize
+fn put_grown(
+    to: &mut [u8],
+    at: usize,
+    grammar: Grammar,
+    volumes: &[Volume],
+    name: &Name,
+    extents: &[u32],
+) -> usize
     requires there { IsSome (row_of (rows_alone volumes.now) name.now) }
-    requires room { HaveRoom (with_row name.now (grown extents.now) (rows_alone volumes.now)) at (length to.old) }
-    ensures { WritesText at (volumes_text (with_row name.now (grown extents.now) (rows_alone volumes.now))) to.old to.new result }
+    requires room { HaveRoom grammar (with_row name.now (grown extents.now) (rows_alone volumes.now)) at (length to.old) }
+    ensures { WritesText at (volumes_by grammar (with_row name.now (grown extents.now) (rows_alone volumes.now))) to.old to.new result }
 {
     let Some(index) = place(volumes, name) else {
         unreachable!()
     };
     let entry = Entry::grown(&volumes[index], extents);
-    put_in_stead(to, at, volumes, index, &entry)
+    put_in_stead(to, at, grammar, volumes, index, &entry)
 }
 
 // Writes the volumes with only the first extents of one.
-fn put_cut(to: &mut [u8], at: usize, volumes: &[Volume], name: &Name, keep: usize) -> usize
+fn put_cut(
+    to: &mut [u8],
+    at: usize,
+    grammar: Grammar,
+    volumes: &[Volume],
+    name: &Name,
+    keep: usize,
+) -> usize
     requires there { IsSome (row_of (rows_alone volumes.now) name.now) }
-    requires room { HaveRoom (with_row name.now (cut_to keep) (rows_alone volumes.now)) at (length to.old) }
-    ensures { WritesText at (volumes_text (with_row name.now (cut_to keep) (rows_alone volumes.now))) to.old to.new result }
+    requires room { HaveRoom grammar (with_row name.now (cut_to keep) (rows_alone volumes.now)) at (length to.old) }
+    ensures { WritesText at (volumes_by grammar (with_row name.now (cut_to keep) (rows_alone volumes.now))) to.old to.new result }
 {
     let Some(index) = place(volumes, name) else {
         unreachable!()
     };
     let entry = Entry::cut(&volumes[index], keep);
-    put_in_stead(to, at, volumes, index, &entry)
+    put_in_stead(to, at, grammar, volumes, index, &entry)
 }
 
 // Writes the volumes with a mark of one set or taken away.
 fn put_marked(
     to: &mut [u8],
     at: usize,
+    grammar: Grammar,
     volumes: &[Volume],
     name: &Name,
     tag: Tag,
     on: bool,
 ) -> usize
     requires there { IsSome (row_of (rows_alone volumes.now) name.now) }
-    requires room { HaveRoom (with_row name.now (tagged tag on) (rows_alone volumes.now)) at (length to.old) }
-    ensures { WritesText at (volumes_text (with_row name.now (tagged tag on) (rows_alone volumes.now))) to.old to.new result }
+    requires room { HaveRoom grammar (with_row name.now (tagged tag on) (rows_alone volumes.now)) at (length to.old) }
+    ensures { WritesText at (volumes_by grammar (with_row name.now (tagged tag on) (rows_alone volumes.now))) to.old to.new result }
 {
     let Some(index) = place(volumes, name) else {
         unreachable!()
     };
     let entry = Entry::marked(&volumes[index], tag, on);
-    put_in_stead(to, at, volumes, index, &entry)
+    put_in_stead(to, at, grammar, volumes, index, &entry)
 }

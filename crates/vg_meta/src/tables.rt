@@ -5,9 +5,9 @@ ghost use Rattle.sm_base.specs.declared.names.Name.{Name};
 ghost use Rattle.std.specs.List.{range_with_len};
 ghost use Rattle.vg_meta.specs.Tables.{IsTable, rows, new_table};
 ghost use Rattle.vg_meta.specs.Roomy.{table_alone, places, IsHeld, IsPlace};
-ghost use Rattle.vg_meta.specs.Text.{text, HasText};
-ghost use Rattle.vg_meta.specs.Reading.{Spells, told as told_of};
-ghost use Rattle.vg_meta.specs.Faults.{IsDecodeFault};
+ghost use Rattle.vg_meta.specs.Text.{text, text_by, HasText};
+ghost use Rattle.vg_meta.specs.Reading.{Spells, SpellsBy, told as told_of};
+ghost use Rattle.vg_meta.specs.Faults.{IsDecodeFault, IsDecodeFaultBy};
 ghost use Rattle.vg_meta.specs.Changes.{Permits, HasRoom, applied, spare_after, places_after};
 
 use crate::allowed::is_allowed;
@@ -16,6 +16,7 @@ use crate::decoding::{long_number_at, number_at};
 use crate::edits::{apply_to, reserve_for};
 use crate::encoding::{put_number, put_sequence, put_volumes, volumes_length};
 use crate::faults::DecodeFault;
+use crate::grammars::Grammar;
 use crate::lengths::changed_length;
 use crate::reading::{Stopped, volumes_at};
 use crate::splices::{changed_count, put_changed, raised};
@@ -194,20 +195,30 @@ impl Table {
         changed_length(&self.volumes, change) <= TEXT_LIMIT as usize - 12
     }
 
-    /// Writes the text to the buffer's beginning, and answers its length in bytes. The bytes past it stay.
+    /// Writes the text to the buffer's beginning, its extents listed, and answers its length in bytes. The bytes past it stay.
     pub fn encode(&self, to: &mut [u8]) -> usize
         requires fits { length (text (table_alone self.now)) ≤ length to.old }
         requires numbers { HasText (table_alone self.now) }
         ensures text { to.new ≡ text (table_alone self.now) ++ drop (length (text (table_alone self.now))) to.old }
         ensures length { result ≡ length (text (table_alone self.now)) }
     {
-        let number_at = put_sequence(to, 0, self.seq);
-        let volumes_at = put_number(to, number_at, self.volumes.len() as u32);
-        put_volumes(to, volumes_at, &self.volumes)
+        self.encode_by(Grammar::Listed, to)
     }
 
-    /// Writes the text of the table that a change leaves to the buffer's beginning, and answers its length in bytes.
-    /// The bytes past it stay, and so does this table. It takes no memory.
+    /// Writes the text by a grammar to the buffer's beginning, and answers its length in bytes. The bytes past it stay.
+    pub fn encode_by(&self, grammar: Grammar, to: &mut [u8]) -> usize
+        requires fits { length (text_by grammar (table_alone self.now)) ≤ length to.old }
+        requires numbers { HasText (table_alone self.now) }
+        ensures text { to.new ≡ text_by grammar (table_alone self.now) ++ drop (length (text_by grammar (table_alone self.now))) to.old }
+        ensures length { result ≡ length (text_by grammar (table_alone self.now)) }
+    {
+        let number_at = put_sequence(to, 0, self.seq);
+        let volumes_at = put_number(to, number_at, self.volumes.len() as u32);
+        put_volumes(to, volumes_at, grammar, &self.volumes)
+    }
+
+    /// Writes the text of the table that a change leaves to the buffer's beginning, its extents listed, and answers its length
+    /// in bytes. The bytes past it stay, and so does this table. It takes no memory.
     pub fn encode_changed(&self, change: &Change, to: &mut [u8]) -> usize
         requires allowed { Permits (2 ^ 32) (table_alone self.now) change.now }
         requires fits { length (text (applied (table_alone self.now) change.now)) ≤ length to.old }
@@ -215,17 +226,44 @@ impl Table {
         ensures text { to.new ≡ text (applied (table_alone self.now) change.now) ++ drop (length (text (applied (table_alone self.now) change.now))) to.old }
         ensures length { result ≡ length (text (applied (table_alone self.now) change.now)) }
     {
+        self.encode_changed_by(Grammar::Listed, change, to)
+    }
+
+    /// Writes the text by a grammar of the table that a change leaves to the buffer's beginning, and answers its length in
+    /// bytes. The bytes past it stay, and so does this table. It takes no memory.
+    pub fn encode_changed_by(&self, grammar: Grammar, change: &Change, to: &mut [u8]) -> usize
+        requires allowed { Permits (2 ^ 32) (table_alone self.now) change.now }
+        requires fits { length (text_by grammar (applied (table_alone self.now) change.now)) ≤ length to.old }
+        requires numbers { HasText (applied (table_alone self.now) change.now) }
+        ensures text { to.new ≡ text_by grammar (applied (table_alone self.now) change.now) ++ drop (length (text_by grammar (applied (table_alone self.now) change.now))) to.old }
+        ensures length { result ≡ length (text_by grammar (applied (table_alone self.now) change.now)) }
+    {
         let count_at = put_sequence(to, 0, raised(self.seq));
         let count = changed_count(&self.volumes, change);
         let volumes_at = put_number(to, count_at, count as u32);
-        put_changed(to, volumes_at, &self.volumes, change)
+        put_changed(to, volumes_at, grammar, &self.volumes, change)
     }
 
-    /// The table that the bytes spell, where extents are counted up to `extents`. The cost is that of going over
+    /// The table that the bytes spell, its extents listed, where extents are counted up to `extents`. The cost is that of going over
     /// the bytes once, with one mark in memory for each of the `extents`.
     pub fn decode(alloc: Global, bytes: &[u8], extents: u32) -> Result<Table, DecodeFault>
         ensures spells { IfOk result (λ t. Spells extents bytes.now (table_alone t)) }
         ensures fault { IfErr result (IsDecodeFault extents bytes.now) }
+    {
+        Table::decode_by(alloc, Grammar::Listed, bytes, extents)
+    }
+
+    /// The table that the bytes spell by a grammar, where extents are counted up to `extents`. The cost is that of going over
+    /// the bytes once and over the table's extents, with one mark in memory for each of the `extents`. No volume ever has more
+    /// extents in memory than that.
+    pub fn decode_by(
+        alloc: Global,
+        grammar: Grammar,
+        bytes: &[u8],
+        extents: u32,
+    ) -> Result<Table, DecodeFault>
+        ensures spells { IfOk result (λ t. SpellsBy grammar extents bytes.now (table_alone t)) }
+        ensures fault { IfErr result (IsDecodeFaultBy grammar extents bytes.now) }
     {
         let Some((seq, rest)) = long_number_at(bytes) else {
             return Err(DecodeFault::Damaged { at: 0 });
@@ -236,7 +274,7 @@ impl Table {
         let Some((number, rest)) = number_at(rest) else {
             return Err(DecodeFault::Damaged { at: 8 });
         };
-        let (volumes, rest) = match volumes_at(alloc, rest, number, extents) {
+        let (volumes, rest) = match volumes_at(alloc, grammar, rest, number, extents) {
             Ok(read) => read,
             Err(Stopped::Damaged { left }) => {
                 let at = told(bytes.len() - left);

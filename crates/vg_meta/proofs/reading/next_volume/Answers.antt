@@ -9,14 +9,21 @@ use Rattle.vg_meta.specs.Roomy.{RoomyRow, rows_alone}
 use Rattle.vg_meta.specs.Taken.{are_new}
 use Rattle.vg_meta.proofs.ChangeLaws.{once_from}
 use Rattle.vg_meta.proofs.TakenLaws.{new_once, once_new}
-use Rattle.vg_meta.proofs.PushLaws.{All-held, All-held_back, volumes_push, read_is_next}
+use Rattle.vg_meta.proofs.PushLaws.{All-held, All-held_back, volumes_push, next_from, next_few, read_is_next_by}
+use Rattle.vg_meta.proofs.ReadLaws.{unread_from}
 use Rattle.vg_meta.proofs.reading.next_volume.Goals as goal
+
+pub returns-in-Err-clause-damaged : goal.returns-in-Err-clause-damaged
+returns-in-Err-clause-damaged c =
+    unread_from c.in-Err.unread _ _
+    (λ none r rest few vs e. none r rest (next_from (length c.args.met.now) (rows_alone c.args.volumes.now) r vs).volume
+    (next_few (length c.args.met.now) (rows_alone c.args.volumes.now) r vs) e) c.in-Err.ensures.damaged
 
 pub returns-then-not-follows-clause-damaged : goal.returns-then-not-follows-clause-damaged
 returns-then-not-follows-clause-damaged c = λ r rest few vs e.
     let rs = rows_alone c.args.volumes.now in
     let v = c.in-Ok.read.0.row in
-    let next = read_is_next c.args.bytes.now (length c.args.met.now) rs v c.in-Ok.read.1.now c.requires.count c.in-Ok.ensures.volume c.in-Ok.ensures.few c.in-Ok.ensures.fit
+    let next = read_is_next_by c.args.grammar c.args.bytes.now (length c.args.met.now) rs v c.in-Ok.read.1.now c.requires.count c.in-Ok.ensures.volume c.in-Ok.ensures.few c.in-Ok.ensures.fit
     c.in-Ok.ensures.text r rest few vs e in
     let behind = All-held_back (λ (s : Row). name_cmp s.name v.name ≡ Less) c.args.volumes.now next.behind in
     iff_false c.follows.ensures c.if-not-follows.true
@@ -26,7 +33,7 @@ pub returns-then-not-meet-clause-damaged : goal.returns-then-not-meet-clause-dam
 returns-then-not-meet-clause-damaged c = λ r rest few vs e.
     let rs = rows_alone c.args.volumes.now in
     let v = c.in-Ok.read.0.row in
-    let next = read_is_next c.args.bytes.now (length c.args.met.now) rs v c.in-Ok.read.1.now c.requires.count c.in-Ok.ensures.volume c.in-Ok.ensures.few c.in-Ok.ensures.fit
+    let next = read_is_next_by c.args.grammar c.args.bytes.now (length c.args.met.now) rs v c.in-Ok.read.1.now c.requires.count c.in-Ok.ensures.volume c.in-Ok.ensures.few c.in-Ok.ensures.fit
     c.in-Ok.ensures.text r rest few vs e in
     let new = once_new (length c.args.met.now) (extents_in rs) v.extents next.extents in
     true≢false (sym new ∙ ap (are_new (length c.args.met.now) (extents_in rs)) (sym c.extents.ensures.extents) ∙ sym (c.meet.ensures.new (extents_in rs) c.requires.marked) ∙ c.if-not-meet.true)

@@ -8,7 +8,7 @@ use Rattle.vg_meta.proofs.reading.volumes_at.Goals as goal
 pub loop-init : goal.loop-init
 loop-init c =
     let none : c.in-Ok.met.items ≡ replicate c.args.count false = search rules in
-    read_first c.args.count c.args.bytes.now c.new-volumes.result.items c.in-Ok.met.items c.new-volumes.ensures.items none
+    read_first c.args.grammar c.args.count c.args.bytes.now c.new-volumes.result.items c.in-Ok.met.items c.new-volumes.ensures.items none
 
 pub loop-preserved : goal.loop-preserved
 loop-preserved c =
@@ -25,6 +25,6 @@ loop-preserved c =
     (subst (λ (hs : List RoomyRow). AreVolumes (length c.deref_mut.result.now) (rows_alone hs ++ v.row ∷ [])) c.deref.ensures.value c.in-Ok-next_volume.ensures.volumes) in
     let marked : IsMarked (extents_in (rows_alone vs) ++ v.row.extents) ws =
     subst (λ (hs : List RoomyRow). IsMarked (extents_in (rows_alone hs) ++ v.row.extents) ws) c.deref.ensures.value c.in-Ok-next_volume.ensures.marks in
-    subst (λ (marks : List Bool). Read c.args.count c.args.bytes.now c.in-Ok-next_volume.read.1.now c.push.new.self.items marks (c.loop.counter + 1)) (sym kept)
-    (read_more c.args.count c.args.bytes.now c.loop.rest.now c.in-Ok-next_volume.read.1.now vs c.push.new.self.items v c.loop.met.items ws c.loop.counter
+    subst (λ (marks : List Bool). Read c.args.grammar c.args.count c.args.bytes.now c.in-Ok-next_volume.read.1.now c.push.new.self.items marks (c.loop.counter + 1)) (sym kept)
+    (read_more c.args.grammar c.args.count c.args.bytes.now c.loop.rest.now c.in-Ok-next_volume.read.1.now vs c.push.new.self.items v c.loop.met.items ws c.loop.counter
     c.loop.invariant pushed c.in-Ok-next_volume.ensures.text volumes (same ∙ count) marked)

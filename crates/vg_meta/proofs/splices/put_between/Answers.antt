@@ -14,5 +14,5 @@ put_volumes-requires-clause-few c =
 
 pub returns : goal.returns
 returns c =
-    rows_between (rows_alone c.args.front.now) (rows_alone c.args.back.now) c.args.entry.now c.args.at _ _ _ c.args.to.now _ _ _
+    rows_between c.args.grammar (rows_alone c.args.front.now) (rows_alone c.args.back.now) c.args.entry.now c.args.at _ _ _ c.args.to.now _ _ _
     (omega (arith, c.requires.room)) c.put_volumes-entry_at.ensures c.put_entry-back_at.ensures c.put_volumes.ensures

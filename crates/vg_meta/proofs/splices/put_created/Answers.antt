@@ -14,6 +14,6 @@ put_between-requires c =
 pub returns : goal.returns
 returns c =
     let hs = c.args.volumes.now in
-    puts_as _ (put c.args.entry.now (rows_alone hs)) c.args.at _ c.args.to.now _
+    puts_as c.args.grammar _ (put c.args.entry.now (rows_alone hs)) c.args.at _ c.args.to.now _
     (pieces c.split_at.result.0.now c.split_at.result.1.now (take c.slot.result hs) (drop c.slot.result hs) c.args.entry.now c.split_at.ensures.front c.split_at.ensures.back
     ∙ c.slot.ensures.place c.args.entry.now (sym c.name.ensures)) c.put_between.ensures

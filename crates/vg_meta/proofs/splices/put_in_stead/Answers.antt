@@ -14,5 +14,5 @@ pub returns : goal.returns
 returns c =
     let front = take c.args.index c.args.volumes.now in
     let back = drop (c.args.index + 1) c.args.volumes.now in
-    puts_as _ (rows_alone front ++ c.args.entry.now ∷ rows_alone back) c.args.at _ c.args.to.now _
+    puts_as c.args.grammar _ (rows_alone front ++ c.args.entry.now ∷ rows_alone back) c.args.at _ c.args.to.now _
     (pieces c.split_at.result.0.now c.split_at-2.result.1.now front back c.args.entry.now c.split_at.ensures.front c.split_at-2.ensures.back) c.put_between.ensures

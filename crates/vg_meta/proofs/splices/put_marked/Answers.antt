@@ -11,6 +11,6 @@ put_in_stead-requires-clause-room c =
 
 pub returns : goal.returns
 returns c =
-    puts_as _ (with_row c.args.name.now (tagged c.args.tag c.args.on) (rows_alone c.args.volumes.now)) c.args.at _ c.args.to.now _
+    puts_as c.args.grammar _ (with_row c.args.name.now (tagged c.args.tag c.args.on) (rows_alone c.args.volumes.now)) c.args.at _ c.args.to.now _
     (with_place c.args.volumes.now c.args.name.now (tagged c.args.tag c.args.on) c.in-Some.index c.index-volumes-index.result c.marked-entry.result
     c.in-Some.ensures.found c.index-volumes-index.is c.marked-entry.ensures) c.put_in_stead.ensures

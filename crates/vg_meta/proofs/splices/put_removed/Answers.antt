@@ -53,7 +53,7 @@ returns c =
     let front = c.split_at.result.0.now in
     let back = c.split_at-2.result.1.now in
     let hs = c.args.volumes.now in
-    puts_as _ (without c.args.name.now (rows_alone hs)) c.args.at _ c.args.to.now _
+    puts_as c.args.grammar _ (without c.args.name.now (rows_alone hs)) c.args.at _ c.args.to.now _
     (two_pieces front back (take c.in-Some.index hs) (drop (c.in-Some.index + 1) hs) c.split_at.ensures.front c.split_at-2.ensures.back
     ∙ without_place hs c.args.name.now c.in-Some.index c.in-Some.ensures.found)
-    (rows_then (rows_alone front) (rows_alone back) c.args.at _ _ c.args.to.now _ _ (omega (arith, c.requires.room)) c.put_volumes-back_at.ensures c.put_volumes.ensures)
+    (rows_then c.args.grammar (rows_alone front) (rows_alone back) c.args.at _ _ c.args.to.now _ _ (omega (arith, c.requires.room)) c.put_volumes-back_at.ensures c.put_volumes.ensures)

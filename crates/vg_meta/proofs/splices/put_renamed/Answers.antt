@@ -83,8 +83,8 @@ returns-then-in_front-front c =
     moved_front c.args.volumes.now c.args.from.now c.args.other.now c.in-Some.index c.slot-in_front.result c.index-volumes-index.result c.renamed-entry.result
     c.split_at.result.0.now c.split_at-2.result.1.now c.split_at.ensures.front c.split_at-2.ensures.back
     c.in-Some.ensures.found c.index-volumes-index.is c.renamed-entry.ensures c.slot-in_front.ensures.slot c.if-in_front-front.true in
-    puts_as _ left c.args.at _ c.args.to.now _ whole
-    (rows_then first second c.args.at _ _ c.args.to.now _ _ (omega (arith, c.requires.room)) c.put_created-back_at.ensures c.put_volumes.ensures)
+    puts_as c.args.grammar _ left c.args.at _ c.args.to.now _ whole
+    (rows_then c.args.grammar first second c.args.at _ _ c.args.to.now _ _ (omega (arith, c.requires.room)) c.put_created-back_at.ensures c.put_volumes.ensures)
 
 pub returns-else-in_front-front : goal.returns-else-in_front-front
 returns-else-in_front-front c =
@@ -95,5 +95,5 @@ returns-else-in_front-front c =
     moved_back c.args.volumes.now c.args.from.now c.args.other.now c.in-Some.index c.slot-in_front.result c.index-volumes-index.result c.renamed-entry.result
     c.split_at.result.0.now c.split_at-2.result.1.now c.split_at.ensures.front c.split_at-2.ensures.back
     c.in-Some.ensures.found c.index-volumes-index.is c.renamed-entry.ensures c.slot-in_front.ensures.slot (omega (arith, c.if-in_front-front.false)) in
-    puts_as _ left c.args.at _ c.args.to.now _ whole
-    (rows_then first second c.args.at _ _ c.args.to.now _ _ (omega (arith, c.requires.room)) c.put_volumes-back_at.ensures c.put_created.ensures)
+    puts_as c.args.grammar _ left c.args.at _ c.args.to.now _ whole
+    (rows_then c.args.grammar first second c.args.at _ _ c.args.to.now _ _ (omega (arith, c.requires.room)) c.put_volumes-back_at.ensures c.put_created.ensures)

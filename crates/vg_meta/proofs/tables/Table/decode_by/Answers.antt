@@ -6,9 +6,9 @@ use Rattle.vg_meta.specs.Stopped.{IsCut}
 use Rattle.vg_meta.proofs.WriteLaws.{length-rows}
 use Rattle.vg_meta.proofs.ByName.{IsTable-wider}
 use Rattle.vg_meta.proofs.DecodeLaws.{damaged_first, damaged_sequence, damaged_volume, damaged_end, spells_whole}
-use Rattle.vg_meta.specs.Reading.{no_number, Spells}
+use Rattle.vg_meta.specs.Reading.{no_number, SpellsBy}
 use Rattle.vg_meta.specs.Tables.{VolumeTable}
-use Rattle.vg_meta.proofs.tables.Table.decode.Goals as goal
+use Rattle.vg_meta.proofs.tables.Table.decode_by.Goals as goal
 
 pub returns-in_default-clause-fault : goal.returns-in_default-clause-fault
 returns-in_default-clause-fault c = (0, damaged_first c.args.extents c.args.bytes.now c.in_default.ensures.none, refl)
@@ -23,7 +23,7 @@ returns-in_default-number_at-clause-fault c =
 
 pub returns-in-Err-Damaged-clause-fault : goal.returns-in-Err-Damaged-clause-fault
 returns-in-Err-Damaged-clause-fault c =
-    let cut : IsCut c.args.extents c.in-Some-number_at.number c.in-Some-number_at.rest.now c.in-Err-Damaged.left = rw c.in-Err-Damaged.field-0-is at c.in-Err-Damaged.ensures.damaged in (
+    let cut : IsCut c.args.grammar c.args.extents c.in-Some-number_at.number c.in-Some-number_at.rest.now c.in-Err-Damaged.left = rw c.in-Err-Damaged.field-0-is at c.in-Err-Damaged.ensures.damaged in (
       length c.args.bytes.now - c.in-Err-Damaged.left,
       damaged_volume c.args.extents c.in-Some.seq c.in-Some-number_at.number c.in-Err-Damaged.left c.args.bytes.now c.in-Some.rest.now c.in-Some-number_at.rest.now
           c.in-Some.ensures.number c.in-Some-number_at.ensures.number (omega arith) c.in-Some-number_at.ensures.fits cut,
@@ -41,7 +41,7 @@ returns-then-not-is_empty-clause-fault c =
       c.told-at-then-not-is_empty.ensures,
     )
 
-whole : (c : goal.Else-not-is_empty) → (let t : VolumeTable = record { sequence = c.in-Some.seq; volumes = rows_alone c.in-Ok.read.0.items } in Spells c.args.extents c.args.bytes.now t)
+whole : (c : goal.Else-not-is_empty) → (let t : VolumeTable = record { sequence = c.in-Some.seq; volumes = rows_alone c.in-Ok.read.0.items } in SpellsBy c.args.grammar c.args.extents c.args.bytes.now t)
 whole c =
     spells_whole c.args.extents c.in-Some.seq c.in-Some-number_at.number c.args.bytes.now c.in-Some.rest.now c.in-Some-number_at.rest.now c.in-Ok.read.1.now (rows_alone c.in-Ok.read.0.items)
     c.in-Some.ensures.number c.in-Some-number_at.ensures.number (omega arith) c.in-Some-number_at.ensures.fits (omega arith) c.in-Ok.ensures.text c.in-Ok.ensures.volumes

@@ -1,6 +1,6 @@
 use Rattle.std.proofs.Common.{arith}
 use Rattle.vg_meta.proofs.ReadLaws.{extents_cut}
-use Rattle.vg_meta.proofs.decoding.extents_at.Goals as goal
+use Rattle.vg_meta.proofs.decoding.listed_at.Goals as goal
 
 pub returns-in_default-number_at-clause-damaged : goal.returns-in_default-number_at-clause-damaged
 returns-in_default-number_at-clause-damaged c =

@@ -1,6 +1,6 @@
 use Rattle.std.proofs.Common.{length-append, sym, arith}
 use Rattle.vg_meta.proofs.WriteLaws.{extents_written}
-use Rattle.vg_meta.proofs.encoding.put_extents.Goals as goal
+use Rattle.vg_meta.proofs.encoding.put_listed.Goals as goal
 
 pub overflow_add-count : goal.overflow_add-count
 overflow_add-count c = omega (arith, length-append c.args.extents.now c.args.more.now, c.requires.few)
