@@ -22,4 +22,5 @@ pub mod SegmentSteps
 pub mod SegmentTextLaws
 pub mod SpliceLaws
 pub mod TakenLaws
+pub mod TextLaws
 pub mod WriteLaws

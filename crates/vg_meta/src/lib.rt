@@ -16,9 +16,10 @@
 //! enough, and [`Table::apply`] leaves exactly the changed table, without memory where room was made before. [`Table::encode_changed`] writes the text of the table that a
 //! change would leave, and leaves the table as it is. [`Table::decode`] reads exactly the texts that
 //! [`Table::encode`] writes; of other bytes it says where the first part stands that does not fit. [`Table::encode_by`],
-//! [`Table::encode_changed_by`] and [`Table::decode_by`] do the same by either grammar. Lengths and
-//! places are in bytes, extents are counted. Finding a volume costs a pass over the names, and writing or reading
-//! a text costs one pass.
+//! [`Table::encode_changed_by`] and [`Table::decode_by`] do the same by either grammar, of which [`law_one_spelling`],
+//! [`law_segments`] and [`law_length`] say what they have in common. Lengths and
+//! places are in bytes, extents are counted. Finding a volume costs a pass over the names, reading a text one over it, and writing
+//! it one over the extents, by segments two.
 #![tactic(auto)]
 
 mod allowed;
@@ -30,6 +31,7 @@ mod entries;
 mod faults;
 mod free;
 mod grammars;
+mod laws;
 mod lengths;
 mod names;
 mod reading;
@@ -41,5 +43,6 @@ mod volumes;
 pub use changes::{Change, Extents, Tag};
 pub use faults::DecodeFault;
 pub use grammars::Grammar;
+pub use laws::{example_new_table, law_length, law_one_spelling, law_segments};
 pub use tables::Table;
 pub use volumes::Volume;
