@@ -135,9 +135,9 @@ pub read_is_next : (bytes : List ℕ) (count : ℕ) (rs : List Row) (v : Row) (a
     → (r : Row) (rest : List ℕ) → length r.extents < 2 ^ 32 → AreVolumes count (rs ++ r ∷ []) → bytes ≡ volume_text r ++ rest → IsNext count rs v
 read_is_next = read_is_next_by Listed
 
--- the extents of one more volume are few enough, and below the count
-pub next_few : (count : ℕ) (rs : List Row) (r : Row) → AreVolumes count (rs ++ r ∷ []) → AreFew count r.extents
-next_few count rs r vs =
+-- the extents of one more volume are below the count, and no more than are left
+pub next_few : (count most : ℕ) (rs : List Row) (r : Row) → length (extents_in rs) + most ≡ count → AreVolumes count (rs ++ r ∷ []) → AreFew count most r.extents
+next_few count most rs r left vs =
     let next = next_from count rs r vs in
     record {
       below = all_from (λ (x : ℕ). x < count) r.extents (λ x k. next.extents.below x (omega (arith, times-append x (extents_in rs) r.extents)));

@@ -35,6 +35,12 @@ pub rows-push : (vs : List RoomyRow) (v : RoomyRow) → rows_alone (vs ++ v ∷ 
 rows-push [] v = refl
 rows-push (x ∷ vs) v = ap (λ (l : List Row). x.row ∷ l) (rows-push vs v)
 
+-- one more volume has so many extents more
+pub extents-push : (vs : List RoomyRow) (v : RoomyRow) → length (extents_in (rows_alone (vs ++ v ∷ []))) ≡ length (extents_in (rows_alone vs)) + length v.row.extents
+extents-push [] v = omega (arith, length-append v.row.extents [])
+extents-push (x ∷ vs) v =
+    omega (arith, extents-push vs v, length-append x.row.extents (extents_in (rows_alone (vs ++ v ∷ []))), length-append x.row.extents (extents_in (rows_alone vs)))
+
 pub read_more : (g : Grammar) (count : ℕ) (bytes rest after : List ℕ) (vs now : List RoomyRow) (v : RoomyRow) (marks new : List Bool) (i : ℕ) → Read g count bytes rest vs marks i
     → now ≡ vs ++ v ∷ [] → rest ≡ volume_by g v.row ++ after → AreVolumes count (rows_alone vs ++ v.row ∷ []) → length new ≡ count
     → IsMarked (extents_in (rows_alone vs) ++ v.row.extents) new → Read g count bytes after now new (i + 1)

@@ -53,24 +53,24 @@ numbers-push (t ∷ ss) a n =
 -- ---- reading
 
 -- so many of the segments were read, which are those of these extents
-pub record ReadSegments (count : ℕ) (bytes : List ℕ) (number : ℕ) (rest es : List ℕ) (i : ℕ) : Type 0 where
+pub record ReadSegments (count most : ℕ) (bytes : List ℕ) (number : ℕ) (rest es : List ℕ) (i : ℕ) : Type 0 where
   pub read : bytes ≡ big_bytes 4 number ++ (flat_map (big_bytes 4) (numbers_of (segments es)) ++ rest)
   pub many : length (segments es) ≡ i
-  pub few : AreFew count es
+  pub few : AreFew count most es
 
-pub segments_first : (count : ℕ) (bytes : List ℕ) (number : ℕ) (rest es : List ℕ) → es ≡ [] → bytes ≡ big_bytes 4 number ++ rest → ReadSegments count bytes number rest es 0
+pub segments_first : (count most : ℕ) (bytes : List ℕ) (number : ℕ) (rest es : List ℕ) → es ≡ [] → bytes ≡ big_bytes 4 number ++ rest → ReadSegments count most bytes number rest es 0
 unfolding segments
-segments_first count bytes number rest es none read =
-    subst (λ (l : List ℕ). ReadSegments count bytes number rest l 0) (sym none) (record { read = read; many = refl; few = record { below = tt; few = omega arith } })
+segments_first count most bytes number rest es none read =
+    subst (λ (l : List ℕ). ReadSegments count most bytes number rest l 0) (sym none) (record { read = read; many = refl; few = record { below = tt; few = omega arith } })
 
 all_both : (P : ℕ → Type 0) (xs ys : List ℕ) → AllByRecursion P xs → AllByRecursion P ys → AllByRecursion P (xs ++ ys)
 all_both P [] ys a b = b
 all_both P (x ∷ xs) ys a b = (a.0, all_both P xs ys a.1 b)
 
-pub segments_more : (count : ℕ) (bytes : List ℕ) (number : ℕ) (rest after es now : List ℕ) (first many i : ℕ) → ReadSegments count bytes number rest es i
-    → GoesOn count es first many → rest ≡ big_bytes 4 first ++ (big_bytes 4 many ++ after) → now ≡ es ++ range_with_len first many
-    → ReadSegments count bytes number after now (i + 1)
-segments_more count bytes number rest after es now first many i r g next is =
+pub segments_more : (count most : ℕ) (bytes : List ℕ) (number : ℕ) (rest after es now : List ℕ) (first many i : ℕ) → ReadSegments count most bytes number rest es i
+    → GoesOn count most es first many → rest ≡ big_bytes 4 first ++ (big_bytes 4 many ++ after) → now ≡ es ++ range_with_len first many
+    → ReadSegments count most bytes number after now (i + 1)
+segments_more count most bytes number rest after es now first many i r g next is =
     let s : Segment = record { first = first; count = many } in
     let pushed : segments now ≡ segments es ++ s ∷ [] = ap segments is ∙ segments-push es first many g.some g.apart in
     let text = flat_map (big_bytes 4) (numbers_of (segments es)) in
@@ -88,9 +88,9 @@ segments_more count bytes number rest after es now first many i r g next is =
       };
     }
 
-pub segments_read : (count : ℕ) (bytes : List ℕ) (number : ℕ) (rest es : List ℕ) (i : ℕ) → ReadSegments count bytes number rest es i → i ≡ number
+pub segments_read : (count most : ℕ) (bytes : List ℕ) (number : ℕ) (rest es : List ℕ) (i : ℕ) → ReadSegments count most bytes number rest es i → i ≡ number
     → bytes ≡ extents_by Segmented es ++ rest
-segments_read count bytes number rest es i r all =
+segments_read count most bytes number rest es i r all =
     let text = flat_map (big_bytes 4) (numbers_of (segments es)) in
     r.read ∙ ap (λ (n : ℕ). big_bytes 4 n ++ (text ++ rest)) (sym (r.many ∙ all)) ∙ sym (append_assoc (big_bytes 4 (length (segments es))) text rest)
 

@@ -116,17 +116,17 @@ segmented_same es fs x y few small p q e =
 -- ---- what stands behind the segments that were read
 
 -- a segment that goes on with extents begins the bytes
-pub record IsNext (count : ℕ) (es left : List ℕ) : Type 0 where
+pub record IsNext (count most : ℕ) (es left : List ℕ) : Type 0 where
   pub first : ℕ
   pub many : ℕ
   pub behind : List ℕ
   pub spelled : left ≡ big_bytes 4 first ++ (big_bytes 4 many ++ behind)
   pub first_fits : first < 2 ^ 32
   pub many_fits : many < 2 ^ 32
-  pub goes_on : GoesOn count es first many
+  pub goes_on : GoesOn count most es first many
 
-pub long_next : (count : ℕ) (es left : List ℕ) → IsNext count es left → 8 ≤ length left
-long_next count es left n =
+pub long_next : (count most : ℕ) (es left : List ℕ) → IsNext count most es left → 8 ≤ length left
+long_next count most es left n =
     omega (
       arith,
       ap length n.spelled,
@@ -137,12 +137,12 @@ long_next count es left n =
     )
 
 -- the segment that was read is the one that goes on, where any does
-pub goes_on_there : (count : ℕ) (es left after : List ℕ) (first many : ℕ) → IsNext count es left → left ≡ big_bytes 4 first ++ (big_bytes 4 many ++ after)
-    → first < 2 ^ 32 → many < 2 ^ 32 → GoesOn count es first many
-goes_on_there count es left after first many n read low small =
+pub goes_on_there : (count most : ℕ) (es left after : List ℕ) (first many : ℕ) → IsNext count most es left → left ≡ big_bytes 4 first ++ (big_bytes 4 many ++ after)
+    → first < 2 ^ 32 → many < 2 ^ 32 → GoesOn count most es first many
+goes_on_there count most es left after first many n read low small =
     let a = number_same 4 n.first first (big_bytes 4 n.many ++ n.behind) (big_bytes 4 many ++ after) n.first_fits low (sym n.spelled ∙ read) in
     let b = number_same 4 n.many many n.behind after n.many_fits small a.1 in
-    subst (λ (k : ℕ). GoesOn count es first k) b.0 (subst (λ (f : ℕ). GoesOn count es f n.many) a.0 n.goes_on)
+    subst (λ (k : ℕ). GoesOn count most es first k) b.0 (subst (λ (f : ℕ). GoesOn count most es f n.many) a.0 n.goes_on)
 
 weaker : (count : ℕ) (es : List ℕ) → count < 2 ^ 32 → AllByRecursion (λ e. e < count) es → AllByRecursion (λ e. e < 2 ^ 32) es
 weaker count [] small all = tt
@@ -157,21 +157,21 @@ run_below a zero count ys some all = absurd (omega arith)
 run_below a (suc zero) count ys some all = omega (arith, all.0)
 run_below a (suc (suc n)) count ys some all = let rest = run_below (a + 1) (suc n) count ys (omega arith) all.1 in omega (arith, rest)
 
-pub next_segment : (bytes left : List ℕ) (number count : ℕ) (es : List ℕ) → count < 2 ^ 32 → AreFew count es → number < 2 ^ 32 → length (segments es) < number
+pub next_segment : (bytes left : List ℕ) (number count most : ℕ) (es : List ℕ) → count < 2 ^ 32 → most ≤ count → AreFew count most es → number < 2 ^ 32 → length (segments es) < number
     → bytes ≡ big_bytes 4 number ++ (flat_map (big_bytes 4) (numbers_of (segments es)) ++ left)
-    → (all rest : List ℕ) → AreFew count all → bytes ≡ extents_by Segmented all ++ rest → IsNext count es left
-next_segment bytes left number count es small few fits fewer read all rest among e =
-    let n = number_same 4 number (length (segments all)) _ _ fits (omega (arith, few-segments all, among.few, small)) (sym read ∙ e ∙ split all rest) in
-    let f = follows (segments es) (segments all) left rest (omega (arith, n.0, fewer)) (small-segments es (omega (arith, few.few, small)) (weaker count es small few.below))
-    (small-segments all (omega (arith, among.few, small)) (weaker count all small among.below)) n.1 in
-    go f.more f.whole f.left (omega (arith, n.0, fewer)) (small-segments all (omega (arith, among.few, small)) (weaker count all small among.below))
+    → (all rest : List ℕ) → AreFew count most all → bytes ≡ extents_by Segmented all ++ rest → IsNext count most es left
+next_segment bytes left number count most es small under few fits fewer read all rest among e =
+    let n = number_same 4 number (length (segments all)) _ _ fits (omega (arith, few-segments all, among.few, under, small)) (sym read ∙ e ∙ split all rest) in
+    let f = follows (segments es) (segments all) left rest (omega (arith, n.0, fewer)) (small-segments es (omega (arith, few.few, under, small)) (weaker count es small few.below))
+    (small-segments all (omega (arith, among.few, under, small)) (weaker count all small among.below)) n.1 in
+    go f.more f.whole f.left (omega (arith, n.0, fewer)) (small-segments all (omega (arith, among.few, under, small)) (weaker count all small among.below))
   where
     small_at : (ss : List Segment) (m : Segment) (more : List Segment) → AreSmall (ss ++ m ∷ more) → (m.first < 2 ^ 32) × (m.count < 2 ^ 32)
     small_at [] m more h = h.0
     small_at (s ∷ ss) m more h = small_at ss m more h.1
 
     go : (more : List Segment) → segments all ≡ segments es ++ more → left ≡ flat_map (big_bytes 4) (numbers_of more) ++ rest → length (segments es) < length (segments all)
-        → AreSmall (segments all) → IsNext count es left
+        → AreSmall (segments all) → IsNext count most es left
     go [] whole behind some low = absurd (omega (arith, ap length whole, length-append (segments es) [], some))
     go (m ∷ more) whole behind some low =
         let text = flat_map (λ (s : Segment). range_with_len s.first s.count) in

@@ -11,6 +11,6 @@ abbrev pub IsDecodeFaultBy : Grammar → ℕ → List ℕ → DecodeFault → Ty
 IsDecodeFaultBy g count bytes (Damaged at) = (place : ℕ) × IsDamagedBy g count bytes place × (at ≡ told place)
 IsDecodeFaultBy g count bytes NoMemory = Unit {0}
 
--- the same of a text whose extents are listed
+-- the bytes are damaged as a text whose extents are listed, first at a place, which is told; want of memory is free
 abbrev pub IsDecodeFault : ℕ → List ℕ → DecodeFault → Type 0
 IsDecodeFault count bytes fault = IsDecodeFaultBy Listed count bytes fault

@@ -37,13 +37,15 @@ pub data IsDamagedBy (g : Grammar) (count : ℕ) (bytes : List ℕ) : ℕ → Ty
       → length front ≡ number → rest ≢ []
       → IsDamagedBy g count bytes (length bytes - length rest)
 
--- the same of a text whose extents are listed
+-- the bytes are the text of the table, its extents listed
 abbrev pub Spells : ℕ → List ℕ → VolumeTable → Type 0
 Spells count bytes t = SpellsBy Listed count bytes t
 
+-- behind a sequence number and a number of volumes stand these volumes, their extents listed, which are those of a table so far, and the rest
 abbrev pub Begins : ℕ → List ℕ → ℕ → ℕ → List Row → List ℕ → Type 0
 Begins count bytes sequence number front rest = BeginsBy Listed count bytes sequence number front rest
 
+-- the first place that is damaged of a text whose extents are listed
 abbrev pub IsDamagedAt : ℕ → List ℕ → ℕ → Type 0
 IsDamagedAt count bytes place = IsDamagedBy Listed count bytes place
 

@@ -37,15 +37,16 @@ pub record CountsUp (from many : ℕ) (es : List ℕ) : Type 0 where
   pub run : es ≡ range_with_len from many ++ drop many es
   pub ends : (e : ℕ) → slice_get es many ≡ Some e → e ≢ from + many
 
--- a segment that may stand behind extents, where extents are counted up to a count: it has one extent or more, and it ends within the
--- count, leaves no more extents than the count, and does not begin where the extents end
-pub record GoesOn (count : ℕ) (es : List ℕ) (first many : ℕ) : Type 0 where
+-- a segment that may stand behind extents, where extents are counted up to a count and a volume may have so many: it has one extent or
+-- more, ends within the count, leaves no more extents than the volume may have, and does not begin where the extents end
+pub record GoesOn (count most : ℕ) (es : List ℕ) (first many : ℕ) : Type 0 where
   pub some : 1 ≤ many
   pub below : first + many ≤ count
-  pub few : length es + many ≤ count
+  pub few : length es + many ≤ most
   pub apart : (e : ℕ) → slice_get es (length es - 1) ≡ Some e → first ≢ e + 1
 
--- extents that a volume of a table may have, where they are counted up to a count: each is below it, and there are no more than that
-pub record AreFew (count : ℕ) (es : List ℕ) : Type 0 where
+-- extents that a volume of a table may have, where they are counted up to a count and it may have so many: each is below the count, and there
+-- are no more than that many
+pub record AreFew (count most : ℕ) (es : List ℕ) : Type 0 where
   pub below : AllByRecursion (λ e. e < count) es
-  pub few : length es ≤ count
+  pub few : length es ≤ most

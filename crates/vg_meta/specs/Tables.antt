@@ -54,6 +54,7 @@ names_of rs = map (λ r. r.name) rs
 abbrev pub extents_in : List Row → List ℕ
 extents_in rs = flat_map (λ r. r.extents) rs
 
+-- the extents of all volumes of a table
 abbrev pub used : VolumeTable → List ℕ
 used t = extents_in t.volumes
 

@@ -1,6 +1,6 @@
 //! Reading the text of a table from left to right. Each reader answers what it read and the bytes behind it.
 
-ghost use Rattle.std.specs.Prelude.{◌≡◌, ◌≢◌, ◌<◌, ◌^◌, ◌++◌, ◌∷◌, ℕ, Bool, List, length, IfSome, IfNone, IfOk, IfErr};
+ghost use Rattle.std.specs.Prelude.{◌≡◌, ◌≢◌, ◌<◌, ◌≤◌, ◌^◌, ◌++◌, ◌∷◌, ℕ, Bool, List, length, IfSome, IfNone, IfOk, IfErr};
 ghost use Rattle.std.specs.List.{AllByRecursion};
 ghost use Rattle.byteorder.specs.Endian.{big_bytes};
 ghost use Rattle.sm_base.specs.declared.names.Name.{Name};
@@ -124,11 +124,17 @@ fn segment_at(bytes: &[u8]) -> Option<(Segment, &[u8])>
 }
 
 // Extents by segments behind the number of these, where extents are counted up to a count; damaged exactly where none
-// stand so that a volume may have. No more extents are taken than the count.
-fn segmented_at(alloc: Global, bytes: &[u8], count: u32) -> Result<(Vec<u32>, &[u8]), Unread>
-    ensures few { IfOk result (λ x. AreFew count x.0.items) }
+// stand so, or more than a volume may have. No more than these are taken.
+fn segmented_at(
+    alloc: Global,
+    bytes: &[u8],
+    count: u32,
+    most: u32,
+) -> Result<(Vec<u32>, &[u8]), Unread>
+    requires { most ≤ count }
+    ensures few { IfOk result (λ x. AreFew count most x.0.items) }
     ensures extents { IfOk result (λ x. bytes.now ≡ extents_by Segmented x.0.items ++ x.1.now) }
-    ensures damaged { IfErr result (λ e. IsUnread e ((es rest : List ℕ) → AreFew count es → bytes.now ≢ extents_by Segmented es ++ rest)) }
+    ensures damaged { IfErr result (λ e. IsUnread e ((es rest : List ℕ) → AreFew count most es → bytes.now ≢ extents_by Segmented es ++ rest)) }
 {
     let Some((number, mut rest)) = number_at(bytes) else {
         return Err(Unread::Damaged);
@@ -138,7 +144,7 @@ fn segmented_at(alloc: Global, bytes: &[u8], count: u32) -> Result<(Vec<u32>, &[
         let Some((segment, after)) = segment_at(rest) else {
             return Err(Unread::Damaged);
         };
-        if !goes_on(&extents, segment, count) {
+        if !goes_on(&extents, segment, count, most) {
             return Err(Unread::Damaged);
         }
         if push_all(&mut extents, segment).is_err() {
@@ -149,37 +155,41 @@ fn segmented_at(alloc: Global, bytes: &[u8], count: u32) -> Result<(Vec<u32>, &[
     Ok((extents, rest))
 }
 
-// Extents by a grammar, where they are counted up to a count; damaged exactly where none stand so that a volume may have.
+// Extents by a grammar, where they are counted up to a count; damaged exactly where none stand so, or more than a volume may have.
 fn extents_at(
     alloc: Global,
     grammar: Grammar,
     bytes: &[u8],
     count: u32,
+    most: u32,
 ) -> Result<(Vec<u32>, &[u8]), Unread>
+    requires { most ≤ count }
     ensures few { IfOk result (λ x. length x.0.items < 2 ^ 32) }
     ensures fit { IfOk result (λ x. AllByRecursion (λ e. e < 2 ^ 32) x.0.items) }
     ensures extents { IfOk result (λ x. bytes.now ≡ extents_by grammar x.0.items ++ x.1.now) }
-    ensures damaged { IfErr result (λ e. IsUnread e ((es rest : List ℕ) → AreFew count es → bytes.now ≢ extents_by grammar es ++ rest)) }
+    ensures damaged { IfErr result (λ e. IsUnread e ((es rest : List ℕ) → AreFew count most es → bytes.now ≢ extents_by grammar es ++ rest)) }
 {
     match grammar {
         Grammar::Listed => listed_at(alloc, bytes),
-        Grammar::Segmented => segmented_at(alloc, bytes, count),
+        Grammar::Segmented => segmented_at(alloc, bytes, count, most),
     }
 }
 
 /// A volume with what its kind has, where extents are counted up to a count; damaged exactly where no volume stands so that
-/// a table may have.
+/// has no more extents than it may.
 pub fn volume_at(
     alloc: Global,
     grammar: Grammar,
     bytes: &[u8],
     count: u32,
+    most: u32,
 ) -> Result<(Volume, &[u8]), Unread>
+    requires { most ≤ count }
     ensures volume { IfOk result (λ x. IsVolume x.0.row) }
     ensures few { IfOk result (λ x. length x.0.row.extents < 2 ^ 32) }
     ensures fit { IfOk result (λ x. AllByRecursion (λ e. e < 2 ^ 32) x.0.row.extents) }
     ensures text { IfOk result (λ x. bytes.now ≡ volume_by grammar x.0.row ++ x.1.now) }
-    ensures damaged { IfErr result (λ e. IsUnread e ((r : Row) (rest : List ℕ) → IsVolume r → AreFew count r.extents → bytes.now ≢ volume_by grammar r ++ rest)) }
+    ensures damaged { IfErr result (λ e. IsUnread e ((r : Row) (rest : List ℕ) → IsVolume r → AreFew count most r.extents → bytes.now ≢ volume_by grammar r ++ rest)) }
 {
     let Some((name, behind)) = name_at(bytes) else {
         return Err(Unread::Damaged);
@@ -187,7 +197,7 @@ pub fn volume_at(
     let Some((hidden, fresh, rest)) = marks_at(behind) else {
         return Err(Unread::Damaged);
     };
-    let (extents, after) = match extents_at(alloc, grammar, rest, count) {
+    let (extents, after) = match extents_at(alloc, grammar, rest, count, most) {
         Ok(read) => read,
         Err(unread) => return Err(unread),
     };

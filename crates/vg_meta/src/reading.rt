@@ -1,6 +1,6 @@
 //! Reading the volumes of a table: each is judged by those in front of it.
 
-ghost use Rattle.std.specs.Prelude.{◌≡◌, ◌≢◌, ◌<◌, ◌^◌, ◌++◌, ◌∷◌, ◌↔◌, [], ℕ, List, length, IsTrue, IfOk, IfErr};
+ghost use Rattle.std.specs.Prelude.{◌≡◌, ◌≢◌, ◌<◌, ◌≤◌, ◌+◌, ◌^◌, ◌++◌, ◌∷◌, ◌↔◌, [], ℕ, List, length, IsTrue, IfOk, IfErr};
 ghost use Rattle.std.specs.List.{AllByRecursion, flat_map};
 ghost use Rattle.std.specs.List.Sorted.{IsStrictlySortedBy};
 ghost use Rattle.std.specs.declared.cmp.Ordering.TheVariants.{Less};
@@ -45,25 +45,27 @@ fn follows(volumes: &[Volume], name: &Name) -> bool
     }
 }
 
-// The next volume, whose extents are marked as met; damaged exactly where none stands there that goes on with
-// the volumes so far.
+// The next volume, whose extents are marked as met, where so many are left for it; damaged exactly where none stands there
+// that goes on with the volumes so far.
 fn next_volume<'a>(
     alloc: Global,
     grammar: Grammar,
     volumes: &[Volume],
     met: &mut [bool],
+    left: u32,
     bytes: &'a [u8],
 ) -> Result<(Volume, &'a [u8]), Unread>
     requires so_far { AreVolumes (length met.old) (rows_alone volumes.now) }
     requires marked { IsMarked (extents_in (rows_alone volumes.now)) met.old }
     requires count { length met.old < 2 ^ 32 }
+    requires left { length (extents_in (rows_alone volumes.now)) + left ≡ length met.old }
     ensures text { IfOk result (λ x. bytes.now ≡ volume_by grammar x.0.row ++ x.1.now) }
-    ensures few { IfOk result (λ x. length x.0.row.extents < 2 ^ 32) }
+    ensures few { IfOk result (λ x. length x.0.row.extents ≤ left) }
     ensures volumes { IfOk result (λ x. AreVolumes (length met.old) (rows_alone volumes.now ++ x.0.row ∷ [])) }
     ensures marks { IfOk result (λ x. IsMarked (extents_in (rows_alone volumes.now) ++ x.0.row.extents) met.new) }
     ensures damaged { IfErr result (λ e. IsUnread e ((r : Row) (rest : List ℕ) → length r.extents < 2 ^ 32 → AreVolumes (length met.old) (rows_alone volumes.now ++ r ∷ []) → bytes.now ≢ volume_by grammar r ++ rest)) }
 {
-    let (volume, rest) = match volume_at(alloc, grammar, bytes, met.len() as u32) {
+    let (volume, rest) = match volume_at(alloc, grammar, bytes, met.len() as u32, left) {
         Ok(read) => read,
         Err(unread) => return Err(unread),
     };
@@ -103,12 +105,14 @@ pub fn volumes_at(
     };
     let mut volumes = Vec::new(alloc);
     let mut rest = bytes;
+    let mut left = count;
     for _ in 0..number {
-        let (volume, after) = match next_volume(alloc, grammar, &volumes, &mut met, rest) {
+        let (volume, after) = match next_volume(alloc, grammar, &volumes, &mut met, left, rest) {
             Ok(read) => read,
             Err(Unread::Damaged) => return Err(Stopped::Damaged { left: rest.len() }),
             Err(Unread::NoMemory) => return Err(Stopped::NoMemory),
         };
+        left -= volume.extents().len() as u32;
         if volumes.push(volume).is_err() {
             return Err(Stopped::NoMemory);
         }

@@ -75,20 +75,19 @@ pub fn count_segments(extents: &[u32], more: &[u32]) -> usize
     count
 }
 
-/// Whether a segment may stand behind extents, where extents are counted up to `count`.
-pub fn goes_on(extents: &[u32], segment: Segment, count: u32) -> bool
+/// Whether a segment may stand behind extents, where extents are counted up to `count` and the volume may have `most`.
+pub fn goes_on(extents: &[u32], segment: Segment, count: u32, most: u32) -> bool
     requires { length extents.now < 2 ^ 32 }
-    ensures { IsTrue result ↔ GoesOn count extents.now segment.first segment.count }
+    ensures { IsTrue result ↔ GoesOn count most extents.now segment.first segment.count }
 {
     let begins_elsewhere = match extents.last() {
         Some(last) => u64::from(*last) + 1 != u64::from(segment.first),
         None => true,
     };
-    let room = u64::from(count);
     begins_elsewhere
         && segment.count > 0
-        && u64::from(segment.first) + u64::from(segment.count) <= room
-        && extents.len() as u64 + u64::from(segment.count) <= room
+        && u64::from(segment.first) + u64::from(segment.count) <= u64::from(count)
+        && extents.len() as u64 + u64::from(segment.count) <= u64::from(most)
 }
 
 /// The extents of a segment at the end of others.

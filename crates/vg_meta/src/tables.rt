@@ -254,8 +254,8 @@ impl Table {
     }
 
     /// The table that the bytes spell by a grammar, where extents are counted up to `extents`. The cost is that of going over
-    /// the bytes once and over the table's extents, with one mark in memory for each of the `extents`. No volume ever has more
-    /// extents in memory than that.
+    /// the bytes once and over the table's extents, with one mark in memory for each of the `extents`. By segments no more
+    /// extents than that are ever in memory, whatever the bytes.
     pub fn decode_by(
         alloc: Global,
         grammar: Grammar,

@@ -7,30 +7,30 @@ use Rattle.vg_meta.proofs.SegmentSteps.{segments_first, segments_more}
 use Rattle.vg_meta.proofs.decoding.segmented_at.Goals as goal
 
 pub loop-init : goal.loop-init
-loop-init c = segments_first c.args.count c.args.bytes.now c.in-Some.number c.in-Some.rest.now c.new-extents.result.items c.new-extents.ensures.items c.in-Some.ensures.number
+loop-init c = segments_first c.args.count c.args.most c.args.bytes.now c.in-Some.number c.in-Some.rest.now c.new-extents.result.items c.new-extents.ensures.items c.in-Some.ensures.number
 
 pub returns-in_default-segment_at-clause-damaged : goal.returns-in_default-segment_at-clause-damaged
 returns-in_default-segment_at-clause-damaged c = λ all rest among e.
     let es = c.loop.extents.items in
-    let n = next_segment c.args.bytes.now c.loop.rest.now c.in-Some.number c.args.count es (omega arith) c.loop.invariant.few c.in-Some.ensures.fits
+    let n = next_segment c.args.bytes.now c.loop.rest.now c.in-Some.number c.args.count c.args.most es (omega arith) (omega (arith, c.requires)) c.loop.invariant.few c.in-Some.ensures.fits
     (omega (arith, c.loop.invariant.many, c.loop-test.true)) c.loop.invariant.read all rest among e in
-    absurd (omega (arith, long_next c.args.count es c.loop.rest.now n, c.in_default-segment_at.ensures.none))
+    absurd (omega (arith, long_next c.args.count c.args.most es c.loop.rest.now n, c.in_default-segment_at.ensures.none))
 
 pub returns-then-not-goes_on-clause-damaged : goal.returns-then-not-goes_on-clause-damaged
 returns-then-not-goes_on-clause-damaged c = λ all rest among e.
     let es = c.loop.extents.items in
     let s = c.in-Some-segment_at.segment in
-    let n = next_segment c.args.bytes.now c.loop.rest.now c.in-Some.number c.args.count es (omega arith) c.loop.invariant.few c.in-Some.ensures.fits
+    let n = next_segment c.args.bytes.now c.loop.rest.now c.in-Some.number c.args.count c.args.most es (omega arith) (omega (arith, c.requires)) c.loop.invariant.few c.in-Some.ensures.fits
     (omega (arith, c.loop.invariant.many, c.loop-test.true)) c.loop.invariant.read all rest among e in
-    let goes = goes_on_there c.args.count es c.loop.rest.now c.in-Some-segment_at.after.now s.first s.count n c.in-Some-segment_at.ensures.segment
+    let goes = goes_on_there c.args.count c.args.most es c.loop.rest.now c.in-Some-segment_at.after.now s.first s.count n c.in-Some-segment_at.ensures.segment
     c.in-Some-segment_at.ensures.fits.0 c.in-Some-segment_at.ensures.fits.1 in
-    iff_false c.goes_on.ensures c.if-not-goes_on.true (subst (λ (l : List ℕ). GoesOn c.args.count l s.first s.count) (sym c.deref.ensures.value) goes)
+    iff_false c.goes_on.ensures c.if-not-goes_on.true (subst (λ (l : List ℕ). GoesOn c.args.count c.args.most l s.first s.count) (sym c.deref.ensures.value) goes)
 
 pub loop-preserved : goal.loop-preserved
 loop-preserved c =
     let es = c.loop.extents.items in
     let s = c.in-Some-segment_at.segment in
-    let goes = subst (λ (l : List ℕ). GoesOn c.args.count l s.first s.count) c.deref.ensures.value (c.goes_on.ensures.0 c.if-not-goes_on.false) in
+    let goes = subst (λ (l : List ℕ). GoesOn c.args.count c.args.most l s.first s.count) c.deref.ensures.value (c.goes_on.ensures.0 c.if-not-goes_on.false) in
     let pushed : c.push_all.new.extents.items ≡ es ++ range_with_len s.first s.count = search rules in
-    segments_more c.args.count c.args.bytes.now c.in-Some.number c.loop.rest.now c.in-Some-segment_at.after.now es c.push_all.new.extents.items s.first s.count c.loop.counter
+    segments_more c.args.count c.args.most c.args.bytes.now c.in-Some.number c.loop.rest.now c.in-Some-segment_at.after.now es c.push_all.new.extents.items s.first s.count c.loop.counter
     c.loop.invariant goes c.in-Some-segment_at.ensures.segment pushed

@@ -2,4 +2,4 @@ use Rattle.vg_meta.proofs.SegmentSteps.{ReadSegments}
 use Rattle.vg_meta.proofs.decoding.segmented_at.Given as goal
 
 abbrev pub invariant-loop : goal.invariant-loop
-invariant-loop l = ReadSegments l.count l.bytes l.number l.rest l.extents.items l.counter
+invariant-loop l = ReadSegments l.count l.most l.bytes l.number l.rest l.extents.items l.counter

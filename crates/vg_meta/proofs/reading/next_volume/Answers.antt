@@ -17,7 +17,7 @@ pub returns-in-Err-clause-damaged : goal.returns-in-Err-clause-damaged
 returns-in-Err-clause-damaged c =
     unread_from c.in-Err.unread _ _
     (λ none r rest few vs e. none r rest (next_from (length c.args.met.now) (rows_alone c.args.volumes.now) r vs).volume
-    (next_few (length c.args.met.now) (rows_alone c.args.volumes.now) r vs) e) c.in-Err.ensures.damaged
+    (next_few (length c.args.met.now) c.args.left (rows_alone c.args.volumes.now) r c.requires.left vs) e) c.in-Err.ensures.damaged
 
 pub returns-then-not-follows-clause-damaged : goal.returns-then-not-follows-clause-damaged
 returns-then-not-follows-clause-damaged c = λ r rest few vs e.
@@ -49,3 +49,8 @@ returns-clause-volumes c =
     volumes_push (length c.args.met.now) rs v c.requires.so_far c.in-Ok.ensures.volume
     (All-held (λ (s : Row). name_cmp s.name v.name ≡ Less) c.args.volumes.now behind)
     (new_once (length c.args.met.now) (extents_in rs) v.extents (once_from (length c.args.met.now) rs c.requires.so_far) new)
+
+pub returns-clause-few : goal.returns-clause-few
+returns-clause-few c =
+    let v = c.in-Ok.read.0.row in
+    (next_few (length c.args.met.now) c.args.left (rows_alone c.args.volumes.now) v c.requires.left (returns-clause-volumes c)).few
