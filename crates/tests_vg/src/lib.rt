@@ -1,4 +1,4 @@
-//! Tests of the table of volumes, of extents, of the device's layout, of the store in memory and of the volume group.
+//! Tests of the table of volumes and of its text by either grammar, of extents, of the device's layout, of the store in memory and of the volume group.
 //!
 //! **What is kept here.** Nothing. Expected bytes are worked by hand from the tables of offsets. Tests stand in a crate of
 //! their own, since a library with tests is proved once more for them.
@@ -16,5 +16,7 @@ mod layouts;
 mod memory_stores;
 #[cfg(test)]
 mod sectors;
+#[cfg(test)]
+mod segments;
 #[cfg(test)]
 mod tables;

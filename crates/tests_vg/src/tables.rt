@@ -222,8 +222,8 @@ fn volumes_are_found_by_name(rt: HostRuntime) -> Result<(), Fail> {
     is_found(&Table::decode(rt.alloc(), &bytes, 4)?)
 }
 
-// So many bytes, each of them ff.
-fn filled(alloc: Global, size: usize) -> Result<Vec<u8>, Fail>
+/// So many bytes, each of them ff.
+pub fn filled(alloc: Global, size: usize) -> Result<Vec<u8>, Fail>
     ensures size { IfOk result (λ v. length v.items ≡ size) }
     ensures short { IfOk result (λ v. size < 2 ^ 32) }
 {
@@ -243,8 +243,8 @@ fn buffer(alloc: Global, table: &Table) -> Result<Vec<u8>, Fail>
     Ok(bytes)
 }
 
-// The most bytes that a change adds to a text.
-fn growth(change: &Change) -> usize
+/// The most bytes that a change adds to a text.
+pub fn growth(change: &Change) -> usize
     ensures { growth_of change.now ≤ result }
 {
     match change {
