@@ -26,6 +26,7 @@ module _ {S : Type 0} {g : Ghosts S} where
     site = refl;
     table = refl;
     failed = refl;
+    version = refl;
     room = NoLessRoom-none (g.table s);
     faults = omega arith;
     beside = λ told. Keeps-none (g.beside s);
@@ -36,15 +37,16 @@ module _ {S : Type 0} {g : Ghosts S} where
     site = q.site ∙ p.site;
     table = q.table ∙ p.table;
     failed = q.failed ∙ p.failed;
+    version = q.version ∙ p.version;
     room = NoLessRoom-then p.room q.room;
     faults = omega (arith, p.faults, q.faults);
     beside = λ told. Keeps-then (p.beside told) (q.beside told);
   }
 
   -- a call that commits nothing, as the trait tells it
-  pub stays_from : {a b : S} → g.site b ≡ g.site a → (table_alone (g.table b) ≡ table_alone (g.table a)) × (g.failed b ≡ g.failed a) → NoLessRoom (g.table a) (g.table b)
+  pub stays_from : {a b : S} → g.site b ≡ g.site a → (table_alone (g.table b) ≡ table_alone (g.table a)) × (g.failed b ≡ g.failed a) × (g.version b ≡ g.version a) → NoLessRoom (g.table a) (g.table b)
       → g.faults a ≤ g.faults b → (g.told → Keeps (g.beside a) (g.beside b)) → Stays g a b
-  stays_from site (table, failed) room faults beside = record { site = site; table = table; failed = failed; room = room; faults = faults; beside = beside }
+  stays_from site (table, failed, version) room faults beside = record { site = site; table = table; failed = failed; version = version; room = room; faults = faults; beside = beside }
 
   -- a volume has as many sectors as before
   pub size_stays : (name : Name) {a b : S} → Stays g a b → sectors_in (stored g b) name ≡ sectors_in (stored g a) name
@@ -67,14 +69,15 @@ module _ {S : Type 0} {g : Ghosts S} where
   }
 
   -- a call that makes room alone, as the trait tells it
-  pub reads_room : {a b : S} → (g.site b ≡ g.site a) × (g.area b ≡ g.area a) × (g.failed b ≡ g.failed a) × (g.faults b ≡ g.faults a)
+  pub reads_room : {a b : S} → (g.site b ≡ g.site a) × (g.area b ≡ g.area a) × (g.failed b ≡ g.failed a) × (g.faults b ≡ g.faults a) × (g.version b ≡ g.version a)
       → (g.device b ≡ g.device a) × (g.beside b ≡ g.beside a) → table_alone (g.table b) ≡ table_alone (g.table a) → NoLessRoom (g.table a) (g.table b)
       → ((t : VolumeTable) (image : ℕ → List ℕ) → g.leaves b t image → g.leaves a t image) → OnlyReads g a b
-  reads_room {a} {b} (site, area, failed, faults) (device, beside) table room leaves = record {
+  reads_room {a} {b} (site, area, failed, faults, version) (device, beside) table room leaves = record {
     stays = record {
       site = site;
       table = table;
       failed = failed;
+      version = version;
       room = room;
       faults = omega (arith, faults);
       beside = λ told. subst (λ (h : Held). Keeps (g.beside a) h) (sym beside) (Keeps-none (g.beside a));

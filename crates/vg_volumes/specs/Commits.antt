@@ -3,6 +3,10 @@ use Rattle.std.specs.Prelude.{◌≡◌, ℕ, ◌<◌, ◌⊎◌, List}
 use Rattle.sm_disk.specs.Held.{Held, Allows, reads}
 use Rattle.vg_meta.specs.Tables.{VolumeTable}
 
+-- the version of a repository by which commits are made
+abbrev pub current_version : ℕ
+current_version = 1
+
 -- this table, and of the area any choice sector by sector
 pub record IsBefore (size : ℕ) (table : VolumeTable) (area : Held) (left : VolumeTable) (image : ℕ → List ℕ) : Type 0 where
   pub table_is : left ≡ table

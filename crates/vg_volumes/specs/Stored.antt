@@ -43,6 +43,7 @@ pub record Stays {S : Type 0} (g : Ghosts S) (old new : S) : Type 0 where
   pub site : g.site new ≡ g.site old
   pub table : table_alone (g.table new) ≡ table_alone (g.table old)
   pub failed : g.failed new ≡ g.failed old
+  pub version : g.version new ≡ g.version old
   pub room : NoLessRoom (g.table old) (g.table new)
   pub faults : g.faults old ≤ g.faults new
   pub beside : g.told → Keeps (g.beside old) (g.beside new)

@@ -12,6 +12,10 @@
 //! A store stands on a device, and may share it with what is no part of it: no call changes a place `beside` the
 //! store, and a read and a sync change nothing of the whole `device`.
 //!
+//! Commits are made by the current version of the format alone (`CURRENT_VERSION`, today the only one). A store of an earlier version
+//! answers its table and its sectors, and `upgrade` takes it over: the table and the extents stay, and what a stop leaves in between
+//! might have been left before.
+//!
 //! Room for rows and extents is asked for before a change: at least so many are spare then. Asking again for what
 //! is spare takes no memory, so a run of any length takes no more than its largest table wants.
 //!
@@ -22,4 +26,4 @@
 
 mod stores;
 
-pub use stores::Store;
+pub use stores::{CURRENT_VERSION, Store};

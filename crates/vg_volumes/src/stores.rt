@@ -1,18 +1,21 @@
 //! The trait of a store of volumes.
 
-ghost use Rattle.std.specs.Prelude.{◌↔◌, ◌≡◌, ◌≤◌, ◌<◌, ◌+◌, ℕ, List, Bool, true, false, length, OnOk, OnErr, IsTrue};
+ghost use Rattle.std.specs.Prelude.{◌↔◌, ◌≡◌, ◌≤◌, ◌<◌, ◌+◌, ℕ, List, Bool, true, false, length, IsOk, OnOk, OnErr, IsTrue};
 ghost use Rattle.sm_base.specs.Limits.{extent_limit};
 ghost use Rattle.sm_disk.specs.Held.{Held, IsWhole, SameHeld, Gave, Torn, Wrote, Keeps, IsSettled, HasSectors, IsCounted, reads};
 ghost use Rattle.vg_meta.specs.Tables.{VolumeTable, IsTable, rows, extents_of};
 ghost use Rattle.vg_meta.specs.Roomy.{RoomyTable, table_alone, places};
 ghost use Rattle.vg_meta.specs.Changes.{Permits, HasRoom, applied};
-ghost use Rattle.vg_volumes.specs.Commits.{IsBefore, IsEither};
+ghost use Rattle.vg_volumes.specs.Commits.{IsBefore, IsEither, current_version};
 ghost use Rattle.vg_volumes.specs.Sites.{Site, area_size, size_of, volume_of, Fits, NoLessRoom, RoomAfter};
 ghost use Rattle.vg_volumes.specs.Volumes.{SameElsewhere};
 
 use sm_base::{Failed, Geometry, Name, NoMemory};
 use uuid::Uuid;
 use vg_meta::{Change, Table};
+
+/// The version of a repository by which commits are made.
+pub const CURRENT_VERSION: u32 = 1;
 
 /// A store of volumes. Clauses on content hold where the store tells its content (`told`).
 pub trait Store {
@@ -34,8 +37,11 @@ pub trait Store {
     /// What is held of the device's places that are no part of the store.
     ghost beside: { Self → Held };
 
-    /// A commit of this store has failed.
+    /// No commit may be made: one has failed, or the repository is of an earlier version.
     ghost failed: { Self → Bool };
+
+    /// The version of the repository.
+    ghost version: { Self → ℕ };
 
     /// What a stop may leave: a table, and the sectors of the area.
     ghost leaves: { Self → VolumeTable → (ℕ → List ℕ) → Type 0 };
@@ -62,10 +68,33 @@ pub trait Store {
     fn repository(&self) -> Uuid
         ensures { result ≡ (site self.now).identity };
 
+    /// The version of the repository: the current one, or an earlier one.
+    fn version(&self) -> u32
+        ensures { result ≡ version self.now };
+
+    /// Takes a repository of an earlier version over to the current one: the table stays, and of the extents nothing is written. Where the
+    /// version is current no call is made. It takes no memory. At `Failed` the version is what it was.
+    fn upgrade(&mut self) -> Result<(), Failed>
+        ensures site { site self.new ≡ site self.old }
+        ensures table { table_alone (table self.new) ≡ table_alone (table self.old) }
+        ensures no_less { NoLessRoom (table self.old) (table self.new) }
+        ensures counts { faults self.old ≤ faults self.new }
+        ensures cause { IsCounted result (faults self.old) (faults self.new) }
+        ensures current { OnOk result (version self.new ≡ current_version) }
+        ensures usable { OnOk result (version self.old < current_version → failed self.new ≡ false) }
+        ensures unchanged { OnErr result ((version self.new ≡ version self.old) × (failed self.new ≡ failed self.old)) }
+        ensures succeeds { version self.old ≡ current_version → IsOk result }
+        ensures same { version self.old ≡ current_version → (area self.new ≡ area self.old) × (failed self.new ≡ failed self.old) }
+        ensures device { version self.old ≡ current_version → device self.new ≡ device self.old }
+        ensures beside { told → Keeps (beside self.old) (beside self.new) }
+        ensures keeps { told → Keeps (area self.old) (area self.new) }
+        ensures leaves { told → (t : VolumeTable) (image : ℕ → List ℕ) → leaves self.new t image → leaves self.old t image }
+        ensures settled { OnOk result (told → version self.old < current_version → IsSettled (area self.new)) };
+
     /// Makes room for a change, so that its commit takes no memory. What is spare counts: a change that has room
     /// takes none.
     fn reserve_for(&mut self, change: &Change) -> Result<(), NoMemory>
-        ensures same { (site self.new ≡ site self.old) × (area self.new ≡ area self.old) × (failed self.new ≡ failed self.old) × (faults self.new ≡ faults self.old) }
+        ensures same { (site self.new ≡ site self.old) × (area self.new ≡ area self.old) × (failed self.new ≡ failed self.old) × (faults self.new ≡ faults self.old) × (version self.new ≡ version self.old) }
         ensures device { (device self.new ≡ device self.old) × (beside self.new ≡ beside self.old) }
         ensures table { table_alone (table self.new) ≡ table_alone (table self.old) }
         ensures leaves { (t : VolumeTable) (image : ℕ → List ℕ) → leaves self.new t image → leaves self.old t image }
@@ -75,7 +104,7 @@ pub trait Store {
     /// Makes room for rows: at `Ok` at least so many are spare. What is spare counts, so a step that adds several
     /// volumes asks for all of them at once.
     fn reserve_rows(&mut self, rows: usize) -> Result<(), NoMemory>
-        ensures same { (site self.new ≡ site self.old) × (area self.new ≡ area self.old) × (failed self.new ≡ failed self.old) × (faults self.new ≡ faults self.old) }
+        ensures same { (site self.new ≡ site self.old) × (area self.new ≡ area self.old) × (failed self.new ≡ failed self.old) × (faults self.new ≡ faults self.old) × (version self.new ≡ version self.old) }
         ensures device { (device self.new ≡ device self.old) × (beside self.new ≡ beside self.old) }
         ensures table { table_alone (table self.new) ≡ table_alone (table self.old) }
         ensures leaves { (t : VolumeTable) (image : ℕ → List ℕ) → leaves self.new t image → leaves self.old t image }
@@ -111,7 +140,7 @@ pub trait Store {
     fn read(&mut self, volume: &Name, at: u64, to: &mut [u8]) -> Result<(), Failed>
         requires { IsWhole at (length to.old) (size_of (site self.old) (table_alone (table self.old)) volume.now) }
         ensures site { site self.new ≡ site self.old }
-        ensures table { (table_alone (table self.new) ≡ table_alone (table self.old)) × (failed self.new ≡ failed self.old) }
+        ensures table { (table_alone (table self.new) ≡ table_alone (table self.old)) × (failed self.new ≡ failed self.old) × (version self.new ≡ version self.old) }
         ensures no_less { NoLessRoom (table self.old) (table self.new) }
         ensures counts { faults self.old ≤ faults self.new }
         ensures cause { IsCounted result (faults self.old) (faults self.new) }
@@ -125,7 +154,7 @@ pub trait Store {
     fn write(&mut self, volume: &Name, at: u64, from: &[u8]) -> Result<(), Failed>
         requires { IsWhole at (length from.now) (size_of (site self.old) (table_alone (table self.old)) volume.now) }
         ensures site { site self.new ≡ site self.old }
-        ensures table { (table_alone (table self.new) ≡ table_alone (table self.old)) × (failed self.new ≡ failed self.old) }
+        ensures table { (table_alone (table self.new) ≡ table_alone (table self.old)) × (failed self.new ≡ failed self.old) × (version self.new ≡ version self.old) }
         ensures no_less { NoLessRoom (table self.old) (table self.new) }
         ensures counts { faults self.old ≤ faults self.new }
         ensures cause { IsCounted result (faults self.old) (faults self.new) }
@@ -142,7 +171,7 @@ pub trait Store {
     /// Makes all that was written last.
     fn sync(&mut self) -> Result<(), Failed>
         ensures site { site self.new ≡ site self.old }
-        ensures table { (table_alone (table self.new) ≡ table_alone (table self.old)) × (failed self.new ≡ failed self.old) }
+        ensures table { (table_alone (table self.new) ≡ table_alone (table self.old)) × (failed self.new ≡ failed self.old) × (version self.new ≡ version self.old) }
         ensures no_less { NoLessRoom (table self.old) (table self.new) }
         ensures counts { faults self.old ≤ faults self.new }
         ensures cause { IsCounted result (faults self.old) (faults self.new) }
@@ -152,7 +181,17 @@ pub trait Store {
         ensures leaves { told → (t : VolumeTable) (image : ℕ → List ℕ) → leaves self.new t image → leaves self.old t image }
         ensures settled { OnOk result (told → IsSettled (area self.new)) };
 
-    /// While no commit has failed, a stop leaves the one table, and of the area a choice sector by sector.
+    /// No version is later than the current one.
+    ghost versions: { (s : Self) → version s ≤ current_version };
+
+    /// A commit is made by the current version alone.
+    ghost current: { (s : Self) → failed s ≡ false → version s ≡ current_version };
+
+    /// By an earlier version no commit is made: a stop leaves the one table, and of the area a choice sector by sector.
+    ghost leaves_old: { (s : Self) → told → version s < current_version → (t : VolumeTable) (image : ℕ → List ℕ) → leaves s t image
+        → IsBefore (area_size (site s)) (table_alone (table s)) (area s) t image };
+
+    /// While a commit may be made, too, a stop leaves the one table, and of the area a choice sector by sector.
     ghost leaves_now: { (s : Self) → told → failed s ≡ false → (t : VolumeTable) (image : ℕ → List ℕ) → leaves s t image
         → IsBefore (area_size (site s)) (table_alone (table s)) (area s) t image };
 
