@@ -6,7 +6,7 @@ ghost use Rattle.sm_disk.specs.Failing.{fails};
 ghost use Rattle.vg_meta.specs.Tables.{VolumeTable, rows, extents_of};
 ghost use Rattle.vg_meta.specs.Roomy.{table_alone};
 ghost use Rattle.vg_meta.specs.Changes.{Permits, HasRoom, applied};
-ghost use Rattle.vg_volumes.specs.Commits.{IsEither};
+ghost use Rattle.vg_volumes.specs.Commits.{IsEither, current_version};
 ghost use Rattle.vg_volumes.specs.Sites.{area_size, size_of, volume_of, Fits, NoLessRoom, RoomAfter};
 ghost use Rattle.vg_volumes.specs.Volumes.{SameElsewhere};
 ghost use Rattle.vg_memory.specs.Stores.{LeavesMemory, HavePassed, IsCommitStopped, area_of, beside_none, has_failed};
@@ -17,9 +17,11 @@ use sm_base::{Failed, Geometry, Name, NoMemory};
 use sm_disk::Disk;
 use uuid::Uuid;
 use vg_meta::{Change, Table};
-use vg_volumes::Store;
+use vg_volumes::{CURRENT_VERSION, Store};
 
 impl Store for MemoryStore {
+    ghost use Rattle.std.proofs.Common.{refl};
+    ghost use Rattle.std.proofs.Math.Nat.{le_refl, lt_irrefl};
     ghost use Rattle.vg_memory.specs.Laws.{leaves_one, leaves_reads};
 
     ghost told = { Unit {0} };
@@ -35,6 +37,8 @@ impl Store for MemoryStore {
     ghost beside = { λ s. beside_none };
 
     ghost failed = { λ s. has_failed s.course };
+
+    ghost version = { λ s. current_version };
 
     ghost leaves = { λ s t image. LeavesMemory s t image };
 
@@ -55,6 +59,14 @@ impl Store for MemoryStore {
 
     fn repository(&self) -> Uuid {
         self.identity
+    }
+
+    fn version(&self) -> u32 {
+        CURRENT_VERSION
+    }
+
+    fn upgrade(&mut self) -> Result<(), Failed> {
+        Ok(())
     }
 
     fn reserve_for(&mut self, change: &Change) -> Result<(), NoMemory> {
@@ -118,7 +130,7 @@ impl Store for MemoryStore {
     fn read(&mut self, volume: &Name, at: u64, to: &mut [u8]) -> Result<(), Failed>
         requires { IsWhole at (length to.old) (size_of self.old.site (table_alone self.old.table) volume.now) }
         ensures site { self.new.site ≡ self.old.site }
-        ensures table { (table_alone self.new.table ≡ table_alone self.old.table) × (has_failed self.new.course ≡ has_failed self.old.course) }
+        ensures table { (table_alone self.new.table ≡ table_alone self.old.table) × (has_failed self.new.course ≡ has_failed self.old.course) × (current_version ≡ current_version) }
         ensures no_less { NoLessRoom self.old.table self.new.table }
         ensures counts { self.old.faults ≤ self.new.faults }
         ensures cause { IsCounted result self.old.faults self.new.faults }
@@ -143,7 +155,7 @@ impl Store for MemoryStore {
     fn write(&mut self, volume: &Name, at: u64, from: &[u8]) -> Result<(), Failed>
         requires { IsWhole at (length from.now) (size_of self.old.site (table_alone self.old.table) volume.now) }
         ensures site { self.new.site ≡ self.old.site }
-        ensures table { (table_alone self.new.table ≡ table_alone self.old.table) × (has_failed self.new.course ≡ has_failed self.old.course) }
+        ensures table { (table_alone self.new.table ≡ table_alone self.old.table) × (has_failed self.new.course ≡ has_failed self.old.course) × (current_version ≡ current_version) }
         ensures no_less { NoLessRoom self.old.table self.new.table }
         ensures counts { self.old.faults ≤ self.new.faults }
         ensures cause { IsCounted result self.old.faults self.new.faults }
@@ -174,7 +186,7 @@ impl Store for MemoryStore {
 
     fn sync(&mut self) -> Result<(), Failed>
         ensures site { self.new.site ≡ self.old.site }
-        ensures table { (table_alone self.new.table ≡ table_alone self.old.table) × (has_failed self.new.course ≡ has_failed self.old.course) }
+        ensures table { (table_alone self.new.table ≡ table_alone self.old.table) × (has_failed self.new.course ≡ has_failed self.old.course) × (current_version ≡ current_version) }
         ensures no_less { NoLessRoom self.old.table self.new.table }
         ensures counts { self.old.faults ≤ self.new.faults }
         ensures cause { IsCounted result self.old.faults self.new.faults }
@@ -190,6 +202,12 @@ impl Store for MemoryStore {
     {
         self.settle()
     }
+
+    ghost versions = { λ s. le_refl current_version };
+
+    ghost current = { λ s usable. refl };
+
+    ghost leaves_old = { λ s told old. absurd (lt_irrefl current_version old) };
 
     ghost leaves_now = { λ s told usable t image left. leaves_one s t image usable left };
 
