@@ -6,9 +6,12 @@ use sm_base::{Failed, Geometry, Name, NoMemory};
 use sm_disk::Disk;
 use uuid::Uuid;
 use vg_meta::{Change, Table};
-use vg_volumes::Store;
+use vg_volumes::{CURRENT_VERSION, Store};
 
 impl<D: Disk> Store for Group<D> {
+    ghost use Rattle.std.proofs.Common.{refl};
+    ghost use Rattle.std.proofs.Math.Nat.{le_refl, lt_irrefl};
+    ghost use Rattle.vg_volumes.specs.Commits.{current_version};
     ghost use Rattle.std.specs.Prelude.{ℕ, ◌*◌, List};
     ghost use Rattle.vg_meta.specs.Roomy.{table_alone};
     ghost use Rattle.vg_layout.specs.Fields.{plate, pointer};
@@ -30,6 +33,8 @@ impl<D: Disk> Store for Group<D> {
 
     ghost failed = { λ g. g.failed };
 
+    ghost version = { λ g. current_version };
+
     ghost leaves = { λ g t image. LeavesGroup (D.size g.disk) (D.held g.disk) (plate g.label) t image };
 
     ghost faults = { λ g. D.faults g.disk };
@@ -49,6 +54,14 @@ impl<D: Disk> Store for Group<D> {
 
     fn repository(&self) -> Uuid {
         self.label.repository
+    }
+
+    fn version(&self) -> u32 {
+        CURRENT_VERSION
+    }
+
+    fn upgrade(&mut self) -> Result<(), Failed> {
+        Ok(())
     }
 
     fn reserve_for(&mut self, change: &Change) -> Result<(), NoMemory> {
@@ -100,6 +113,12 @@ impl<D: Disk> Store for Group<D> {
     fn sync(&mut self) -> Result<(), Failed> {
         self.disk.sync()
     }
+
+    ghost versions = { λ s. le_refl current_version };
+
+    ghost current = { λ s usable. refl };
+
+    ghost leaves_old = { λ s told old. absurd (lt_irrefl current_version old) };
 
     ghost leaves_now = { λ s told usable t image left. leaves_one (D.size s.disk) (s.label.extents * s.label.geometry.extent) (D.held s.disk) (plate s.label) (pointer s.header) (table_alone s.table) t (text (table_alone s.table)) image s.area (s.rests told usable) s.summed s.spelled left };
 
