@@ -1,11 +1,11 @@
 //! The cache as a store of volumes: the clauses of the trait, said of the store below, and then those on the entries.
 
-ghost use Rattle.std.specs.Prelude.{◌≡◌, ◌≢◌, ◌≤◌, ◌⊎◌, ℕ, List, true, false, length, IsOk, OnOk, OnErr};
+ghost use Rattle.std.specs.Prelude.{◌≡◌, ◌≢◌, ◌<◌, ◌≤◌, ◌⊎◌, ℕ, List, true, false, length, IsOk, OnOk, OnErr};
 ghost use Rattle.sm_disk.specs.Held.{Held, IsWhole, SameHeld, Gave, Torn, Wrote, Keeps, IsSettled, IsCounted};
 ghost use Rattle.vg_meta.specs.Tables.{VolumeTable, rows, extents_of};
 ghost use Rattle.vg_meta.specs.Roomy.{RoomyTable, table_alone};
 ghost use Rattle.vg_meta.specs.Changes.{Permits, HasRoom, applied};
-ghost use Rattle.vg_volumes.specs.Commits.{IsEither};
+ghost use Rattle.vg_volumes.specs.Commits.{IsEither, current_version};
 ghost use Rattle.vg_volumes.specs.Sites.{Site, area_size, size_of, volume_of, Fits, NoLessRoom, RoomAfter};
 ghost use Rattle.vg_volumes.specs.Volumes.{SameElsewhere};
 ghost use Rattle.sm_cache.specs.Kept.{HasEntry, HasNoEntry, dropped, emptied, in_front, with_entry};
@@ -34,6 +34,8 @@ impl<S: Store> Store for Cache<S> {
 
     ghost failed = { λ c. S.failed c.inner };
 
+    ghost version = { λ c. S.version c.inner };
+
     ghost leaves = { λ c t image. S.leaves c.inner t image };
 
     ghost faults = { λ c. S.faults c.inner };
@@ -54,9 +56,34 @@ impl<S: Store> Store for Cache<S> {
         self.inner.repository()
     }
 
+    fn version(&self) -> u32 {
+        self.inner.version()
+    }
+
+    fn upgrade(&mut self) -> Result<(), Failed>
+        ensures site { S.site self.new.inner ≡ S.site self.old.inner }
+        ensures table { table_alone (S.table self.new.inner) ≡ table_alone (S.table self.old.inner) }
+        ensures no_less { NoLessRoom (S.table self.old.inner) (S.table self.new.inner) }
+        ensures counts { S.faults self.old.inner ≤ S.faults self.new.inner }
+        ensures cause { IsCounted result (S.faults self.old.inner) (S.faults self.new.inner) }
+        ensures current { OnOk result (S.version self.new.inner ≡ current_version) }
+        ensures usable { OnOk result (S.version self.old.inner < current_version → S.failed self.new.inner ≡ false) }
+        ensures unchanged { OnErr result ((S.version self.new.inner ≡ S.version self.old.inner) × (S.failed self.new.inner ≡ S.failed self.old.inner)) }
+        ensures succeeds { S.version self.old.inner ≡ current_version → IsOk result }
+        ensures same { S.version self.old.inner ≡ current_version → (S.area self.new.inner ≡ S.area self.old.inner) × (S.failed self.new.inner ≡ S.failed self.old.inner) }
+        ensures device { S.version self.old.inner ≡ current_version → S.device self.new.inner ≡ S.device self.old.inner }
+        ensures beside { S.told → Keeps (S.beside self.old.inner) (S.beside self.new.inner) }
+        ensures keeps { S.told → Keeps (S.area self.old.inner) (S.area self.new.inner) }
+        ensures leaves { S.told → (t : VolumeTable) (image : ℕ → List ℕ) → S.leaves self.new.inner t image → S.leaves self.old.inner t image }
+        ensures settled { OnOk result (S.told → S.version self.old.inner < current_version → IsSettled (S.area self.new.inner)) }
+        ensures kept { self.new.kept ≡ self.old.kept }
+    {
+        self.inner.upgrade()
+    }
+
     fn reserve_for(&mut self, change: &Change) -> Result<(), NoMemory>
         ensures site { S.site self.new.inner ≡ S.site self.old.inner }
-        ensures same { (S.area self.new.inner ≡ S.area self.old.inner) × (S.failed self.new.inner ≡ S.failed self.old.inner) × (S.faults self.new.inner ≡ S.faults self.old.inner) }
+        ensures same { (S.area self.new.inner ≡ S.area self.old.inner) × (S.failed self.new.inner ≡ S.failed self.old.inner) × (S.faults self.new.inner ≡ S.faults self.old.inner) × (S.version self.new.inner ≡ S.version self.old.inner) }
         ensures device { (S.device self.new.inner ≡ S.device self.old.inner) × (S.beside self.new.inner ≡ S.beside self.old.inner) }
         ensures table { table_alone (S.table self.new.inner) ≡ table_alone (S.table self.old.inner) }
         ensures leaves { (t : VolumeTable) (image : ℕ → List ℕ) → S.leaves self.new.inner t image → S.leaves self.old.inner t image }
@@ -69,7 +96,7 @@ impl<S: Store> Store for Cache<S> {
 
     fn reserve_rows(&mut self, rows: usize) -> Result<(), NoMemory>
         ensures site { S.site self.new.inner ≡ S.site self.old.inner }
-        ensures same { (S.area self.new.inner ≡ S.area self.old.inner) × (S.failed self.new.inner ≡ S.failed self.old.inner) × (S.faults self.new.inner ≡ S.faults self.old.inner) }
+        ensures same { (S.area self.new.inner ≡ S.area self.old.inner) × (S.failed self.new.inner ≡ S.failed self.old.inner) × (S.faults self.new.inner ≡ S.faults self.old.inner) × (S.version self.new.inner ≡ S.version self.old.inner) }
         ensures device { (S.device self.new.inner ≡ S.device self.old.inner) × (S.beside self.new.inner ≡ S.beside self.old.inner) }
         ensures table { table_alone (S.table self.new.inner) ≡ table_alone (S.table self.old.inner) }
         ensures leaves { (t : VolumeTable) (image : ℕ → List ℕ) → S.leaves self.new.inner t image → S.leaves self.old.inner t image }
@@ -120,7 +147,7 @@ impl<S: Store> Store for Cache<S> {
     fn read(&mut self, volume: &Name, at: u64, to: &mut [u8]) -> Result<(), Failed>
         requires { IsWhole at (length to.old) (size_of (S.site self.old.inner) (table_alone (S.table self.old.inner)) volume.now) }
         ensures site { S.site self.new.inner ≡ S.site self.old.inner }
-        ensures table { (table_alone (S.table self.new.inner) ≡ table_alone (S.table self.old.inner)) × (S.failed self.new.inner ≡ S.failed self.old.inner) }
+        ensures table { (table_alone (S.table self.new.inner) ≡ table_alone (S.table self.old.inner)) × (S.failed self.new.inner ≡ S.failed self.old.inner) × (S.version self.new.inner ≡ S.version self.old.inner) }
         ensures no_less { NoLessRoom (S.table self.old.inner) (S.table self.new.inner) }
         ensures counts { S.faults self.old.inner ≤ S.faults self.new.inner }
         ensures cause { IsCounted result (S.faults self.old.inner) (S.faults self.new.inner) }
@@ -154,7 +181,7 @@ impl<S: Store> Store for Cache<S> {
     fn write(&mut self, volume: &Name, at: u64, from: &[u8]) -> Result<(), Failed>
         requires { IsWhole at (length from.now) (size_of (S.site self.old.inner) (table_alone (S.table self.old.inner)) volume.now) }
         ensures site { S.site self.new.inner ≡ S.site self.old.inner }
-        ensures table { (table_alone (S.table self.new.inner) ≡ table_alone (S.table self.old.inner)) × (S.failed self.new.inner ≡ S.failed self.old.inner) }
+        ensures table { (table_alone (S.table self.new.inner) ≡ table_alone (S.table self.old.inner)) × (S.failed self.new.inner ≡ S.failed self.old.inner) × (S.version self.new.inner ≡ S.version self.old.inner) }
         ensures no_less { NoLessRoom (S.table self.old.inner) (S.table self.new.inner) }
         ensures counts { S.faults self.old.inner ≤ S.faults self.new.inner }
         ensures cause { IsCounted result (S.faults self.old.inner) (S.faults self.new.inner) }
@@ -182,7 +209,7 @@ impl<S: Store> Store for Cache<S> {
 
     fn sync(&mut self) -> Result<(), Failed>
         ensures site { S.site self.new.inner ≡ S.site self.old.inner }
-        ensures table { (table_alone (S.table self.new.inner) ≡ table_alone (S.table self.old.inner)) × (S.failed self.new.inner ≡ S.failed self.old.inner) }
+        ensures table { (table_alone (S.table self.new.inner) ≡ table_alone (S.table self.old.inner)) × (S.failed self.new.inner ≡ S.failed self.old.inner) × (S.version self.new.inner ≡ S.version self.old.inner) }
         ensures no_less { NoLessRoom (S.table self.old.inner) (S.table self.new.inner) }
         ensures counts { S.faults self.old.inner ≤ S.faults self.new.inner }
         ensures cause { IsCounted result (S.faults self.old.inner) (S.faults self.new.inner) }
@@ -195,6 +222,12 @@ impl<S: Store> Store for Cache<S> {
     {
         self.inner.sync()
     }
+
+    ghost versions = { λ c. S.versions c.inner };
+
+    ghost current = { λ c usable. S.current c.inner usable };
+
+    ghost leaves_old = { λ c told old t image left. S.leaves_old c.inner told old t image left };
 
     ghost leaves_now = { λ c told usable t image left. S.leaves_now c.inner told usable t image left };
 
