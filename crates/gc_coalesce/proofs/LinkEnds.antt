@@ -52,7 +52,7 @@ pub record IsRested {S : Type 0} (g : Ghosts S) (a b : S) : Type 0 where
   pub settled : g.told → IsSettled (g.area b)
 
 -- by what the trait says of a sync
-pub rested : {S : Type 0} (g : Ghosts S) (a b : S) → g.site b ≡ g.site a → (tab g b ≡ tab g a) × (g.failed b ≡ g.failed a) → (g.told → Keeps (g.area a) (g.area b))
+pub rested : {S : Type 0} (g : Ghosts S) (a b : S) → g.site b ≡ g.site a → (tab g b ≡ tab g a) × (g.failed b ≡ g.failed a) × (g.version b ≡ g.version a) → (g.told → Keeps (g.area a) (g.area b))
     → (g.told → (t : VolumeTable) (image : ℕ → List ℕ) → g.leaves b t image → g.leaves a t image) → (g.told → IsSettled (g.area b)) → IsRested g a b
 rested g a b site table keeps leaves settled = record {
   site = site;
