@@ -99,10 +99,11 @@ fn a_fault_of_the_device(rt: HostRuntime) -> Result<(), Fail> {
     is_refused(rt.alloc(), disk, OpenFault::Device)
 }
 
-/// The sizes of a new group of 18 extents.
+/// The sizes of a new group of 18 extents, and the version that its label has.
 fn shows<S: Store>(store: &mut S) -> Result<(), Fail> {
     let is_right = store.extents() == 18
         && store.geometry().extent == 32
+        && store.version() == 1
         && store.repository() == Uuid::from_bytes(REPOSITORY)
         && store.table().seq() == 1
         && store.table().volumes().len() == 1;
