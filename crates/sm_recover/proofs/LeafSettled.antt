@@ -6,7 +6,7 @@ use Rattle.sm_base.specs.declared.names.Name.TheVariants.{Mgt, Vhd, Raw, Old, Cl
 use Rattle.sm_disk.specs.Held.{Held, IsSettled, reads}
 use Rattle.vg_meta.specs.Roomy.{table_alone}
 use Rattle.vg_meta.specs.Tables.{VolumeTable}
-use Rattle.vg_volumes.specs.Stored.{OnlyReads, Stored, stored}
+use Rattle.vg_volumes.specs.Stored.{Stored, stored}
 use Rattle.vg_volumes.specs.declared.stores.Store.{Ghosts}
 use Rattle.sm_standing.specs.Checks.{first_fault}
 use Rattle.sm_standing.specs.Entries.{folding, head}
@@ -31,18 +31,18 @@ use Rattle.sm_ready.specs.Ready.{IsReady}
 use Rattle.sm_ready.specs.Repairs.{IsSame, content_of}
 use Rattle.sm_ready.specs.Stores.{content_in, store_content}
 use Rattle.sm_ready.specs.declared.memory.Memory.{Memory}
-use Rattle.sm_ready.proofs.AgainLaws.{stored_as}
 use Rattle.sm_recover.specs.Ending.{HasFewEnds, IsEndedSo, leaf_ends, unleafed}
 use Rattle.sm_checks.specs.Links.{IsLinkRight}
 use Rattle.sm_checks.specs.Loaded.{stored_undone, stored_with}
 use Rattle.sm_checks.specs.Openable.{IsOpenable}
-use Rattle.sm_recover.specs.Repairs.{IsEndable, IsEndableStore, IsLeftOf}
+use Rattle.sm_recover.specs.Repairs.{IsEndable, IsEndableStore, IsLeftOf, StandsAs}
 use Rattle.sm_recover.specs.Steps.{IsPartOf, MakesAll, MakesPart}
 use Rattle.sm_recover.specs.Stores.{HeldWell, MayBeRepairedFrom}
 use Rattle.sm_recover.proofs.EndedThen.{is_unled, known_of, leaf_old, leaf_or_not}
 use Rattle.sm_checks.proofs.EntryLaws.{head_alone}
 use Rattle.sm_recover.proofs.CountLaws.{none_more}
 use Rattle.sm_recover.proofs.StepLaws.{part_all, part_few}
+use Rattle.sm_recover.proofs.TakenOver.{same_stored}
 use Rattle.sm_recover.proofs.UndoLaws.{IsOld, held_same}
 
 none_applied : (t : VolumeTable) (k : ℕ) → applied_all t (take k []) ≡ t
@@ -106,15 +106,15 @@ module _ (x : Stored) (c : IsOpenable x.site x.table) (sound : first_fault (cont
       none : ((l p : List ℕ) → head (folding t) ≢ Some (Leaf l p)) → opened (content_of (record x { table = unleafed t })) ≡ opened (content_of x)
       none other = let no = is_unled t [] (head (folding t)) other in ap (λ cs. opened (content_of (record x { table = applied_all t cs }))) no.nothing
 
--- a: in front of the checks; b: behind them; d: once the folding of a leaf is ended
-module _ {S : Type 0} {g : Ghosts S} {a b : S} (r : OnlyReads g a b) (told : g.told) (c : IsOpenable (g.site a) (table_alone (g.table a))) (sound : first_fault (store_content g a) ≡ None) (was : IsSettled (g.area a)) where
+-- a: in front of the checks; b: once the repository was taken over; d: once the folding of a leaf is ended
+module _ {S : Type 0} {g : Ghosts S} {a b : S} (r : StandsAs g a b) (told : g.told) (c : IsOpenable (g.site a) (table_alone (g.table a))) (sound : first_fault (store_content g a) ≡ None) (was : IsSettled (g.area a)) where
   pub left_repaired : {v : VolumeTable} {image : ℕ → List ℕ} → IsLeftOf (stored g b) (IsPartOf (table_alone (g.table b)) (leaf_ends (table_alone (g.table b)) (head (folding (table_alone (g.table b)))))) v image
       → MayBeRepairedFrom (store_content g a) (content_in (g.site a) v image)
   left_repaired {v} {image} left = record {
     was_sound = sound;
     repaired = λ well.
         let same = leaf_same (stored g a) c sound v image
-        (subst (λ (y : Stored). IsLeftOf y (IsPartOf y.table (leaf_ends y.table (head (folding y.table)))) v image) (stored_as r told) left) was well in
+        (subst (λ (y : Stored). IsLeftOf y (IsPartOf y.table (leaf_ends y.table (head (folding y.table)))) v image) (same_stored r told was) left) was well in
         record { was_sound = sound; sound = same.kept; same_disks = same.same_disks };
   }
 
@@ -132,24 +132,24 @@ ends_old t (Some (Coalesce v p)) = tt
 ends_old t (Some (Relink v p)) = tt
 
 -- while it is ended
-pub few_ending : {S : Type 0} {g : Ghosts S} {a b : S} → OnlyReads g a b → {v : VolumeTable} → IsEndedSo (table_alone (g.table a))
+pub few_ending : {S : Type 0} {g : Ghosts S} {a b : S} → StandsAs g a b → {v : VolumeTable} → IsEndedSo (table_alone (g.table a))
     → IsPartOf (table_alone (g.table b)) (leaf_ends (table_alone (g.table b)) (head (folding (table_alone (g.table b))))) v → HasFewEnds (table_alone (g.table a)) v
 few_ending {g = g} {a} {b} r {v} so part =
     let t = table_alone (g.table a) in
-    let here = subst (λ u. IsPartOf u (leaf_ends u (head (folding u))) v) r.stays.table part in
+    let here = subst (λ u. IsPartOf u (leaf_ends u (head (folding u))) v) r.table part in
     omega (arith, so.few, part_few t (leaf_ends t (head (folding t))) v here)
 
 -- what stands there
-module _ {S : Type 0} {g : Ghosts S} {a b d : S} (r : OnlyReads g a b) (part : MakesPart g (leaf_ends (table_alone (g.table b)) (head (folding (table_alone (g.table b))))) b d)
+module _ {S : Type 0} {g : Ghosts S} {a b d : S} (r : StandsAs g a b) (part : MakesPart g (leaf_ends (table_alone (g.table b)) (head (folding (table_alone (g.table b))))) b d)
     (all : MakesAll g (leaf_ends (table_alone (g.table b)) (head (folding (table_alone (g.table b))))) b d) where
   abbrev first : VolumeTable
   first = table_alone (g.table a)
 
   pub site_then : g.site d ≡ g.site a
-  site_then = part.site ∙ r.stays.site
+  site_then = part.site ∙ r.site
 
   pub table_then : table_alone (g.table d) ≡ unleafed first
-  table_then = all.table ∙ ap unleafed r.stays.table
+  table_then = all.table ∙ ap unleafed r.table
 
   pub endable_then : IsEndable (g.site a) (unleafed first) → IsEndableStore g d
   endable_then = subst₂ IsEndable (sym site_then) (sym table_then)
@@ -165,13 +165,13 @@ module _ {S : Type 0} {g : Ghosts S} {a b d : S} (r : OnlyReads g a b) (part : M
 
   module _ (told : g.told) (was : IsSettled (g.area a)) where
     settled_b : IsSettled (g.area b)
-    settled_b = subst IsSettled (sym (ap (λ (x : Stored). x.area) (stored_as r told))) was
+    settled_b = subst IsSettled (sym (ap (λ (x : Stored). x.area) (same_stored r told was))) was
 
     pub settled_then : IsSettled (g.area d)
     settled_then = all.settled told settled_b
 
     pub area_then : g.area d ≡ g.area a
-    area_then = held_same (g.area b) (g.area d) (part.keeps told) settled_b settled_then ∙ ap (λ (x : Stored). x.area) (stored_as r told)
+    area_then = held_same (g.area b) (g.area d) (part.keeps told) settled_b settled_then ∙ ap (λ (x : Stored). x.area) (same_stored r told was)
 
     pub stored_then : stored g d ≡ record { site = g.site a; table = unleafed first; area = g.area a }
     stored_then = ap₂ (λ s u. let x : Stored = record { site = s; table = u; area = g.area d } in x) site_then table_then ∙ ap (λ (h : Held). let x : Stored = record { site = g.site a; table = unleafed first; area = h } in x) area_then

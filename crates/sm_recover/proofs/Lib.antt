@@ -28,5 +28,6 @@ pub mod EndedMemory
 pub mod EndedThen
 pub mod EndedForks
 pub mod CheckedMemory
+pub mod TakenOver
 pub mod LeafSettled
 pub mod UndoTables

@@ -91,6 +91,12 @@ pub record IsLeftOf (x : Stored) (P : VolumeTable → Type 0) (t : VolumeTable) 
   pub table : P t
   pub sectors : IsSettled x.area → (p : ℕ) → p < area_size x.site → image p ≡ reads x.area p
 
+-- what stands in a store is as it was: the table, and where nothing was pending the sectors
+pub record StandsAs {S : Type 0} (g : Ghosts S) (old new : S) : Type 0 where
+  pub site : g.site new ≡ g.site old
+  pub table : table_alone (g.table new) ≡ table_alone (g.table old)
+  pub area : g.told → IsSettled (g.area old) → g.area new ≡ g.area old
+
 -- a fact where no call of the device failed
 abbrev pub UnlessDeviceFailed : OpenFault → Type 0 → Type 0
 UnlessDeviceFailed fault.Device Fact = Unit {0}

@@ -1,21 +1,24 @@
-//! The checks, and then the repairs: the folding of a leaf is ended, the entry of a copy goes, a fork or an enlargement is undone, the
-//! children of a link are linked and its entry goes, new volumes go, and records of no disk are wiped. Each repair of the table is a
-//! commit of its own, so its sequence number rises by six at most for the folding of a leaf, by five at most for a fork, by two at most
-//! for an enlargement, by one for a copy or a link, and by one for each new volume.
+//! The checks; then a repository of an earlier version is taken over; then the repairs: the folding of a leaf is ended, the entry of a
+//! copy goes, a fork or an enlargement is undone, the children of a link are linked and its entry goes, new volumes go, and records of no
+//! disk are wiped. Each repair of the table is a commit of its own, so its sequence number rises by six at most for the folding of a leaf,
+//! by five at most for a fork, by two at most for an enlargement, by one for a copy or a link, and by one for each new volume.
 
-ghost use Rattle.std.specs.Prelude.{◌≡◌, ◌≢◌, ◌⊎◌, ◌<◌, ◌≤◌, ℕ, None, Err, false, OnOk, OnErr, IfOk, IfErr};
+ghost use Rattle.std.specs.Prelude.{◌≡◌, ◌≢◌, ◌⊎◌, ◌<◌, ◌≤◌, ℕ, List, None, Err, false, OnOk, OnErr, IfOk, IfErr};
 ghost use Rattle.sm_base.specs.declared.names.Name.TheVariants.{Mgt as mgt_name};
-ghost use Rattle.sm_disk.specs.Held.{IsSettled, Keeps};
+ghost use Rattle.sm_disk.specs.Held.{IsSettled, Keeps, Rose};
 ghost use Rattle.sm_mgt.specs.Places.{place_count};
 ghost use Rattle.sm_base.specs.declared.faults.OpenFault.TheVariants as fault;
 ghost use Rattle.sm_standing.specs.Checks.{first_fault};
 ghost use Rattle.sm_standing.specs.Standing.{disks};
 ghost use Rattle.vg_meta.specs.Roomy.{table_alone};
+ghost use Rattle.vg_meta.specs.Tables.{VolumeTable};
+ghost use Rattle.vg_volumes.specs.Commits.{current_version};
+ghost use Rattle.vg_volumes.specs.Sites.{NoLessRoom};
 ghost use Rattle.vg_volumes.specs.Stored.{OnlyReads, Counts, Leaves, WorksOn, stored};
 ghost use Rattle.sm_ready.specs.Cleaned.{HasFewRemovals};
 ghost use Rattle.sm_ready.specs.Repairs.{IsAtRest, IsRightAt, IsSame, IsWithoutStrays, LeavesSame, RestsAgain};
 ghost use Rattle.sm_checks.specs.Openable.{IsOpeningStopped};
-ghost use Rattle.sm_recover.specs.Repairs.{IsCheckedStore, IsEndableStore, UnlessDeviceFailed};
+ghost use Rattle.sm_recover.specs.Repairs.{IsCheckedStore, IsEndableStore, StandsAs, UnlessDeviceFailed};
 ghost use Rattle.sm_machine.specs.Shapes.{image_limit};
 ghost use Rattle.sm_ready.specs.Frames.{HasTrueImages};
 ghost use Rattle.sm_ready.specs.Known.{Known, known, shape_in};
@@ -43,10 +46,10 @@ use sm_ready::Memory;
 use std::alloc::Global;
 use vg_volumes::Store;
 
-/// Checks what stands in a store, all checks before the first write, and then repairs what a stop has left: the folding of a leaf is
-/// ended, the entry of a copy goes, a fork or an enlargement is undone, a link is ended, volumes that are new are removed, and records of no disk are wiped. Answers what
-/// a session keeps in memory: the images, the places of the records, no attachment and no operation. Memory is taken before the first
-/// write, and none after it.
+/// Checks what stands in a store, all checks before the first write. Then a repository of an earlier version is taken over, and what a
+/// stop has left is repaired: the folding of a leaf is ended, the entry of a copy goes, a fork or an enlargement is undone, a link is ended,
+/// volumes that are new are removed, and records of no disk are wiped. Answers what a session keeps in memory: the images, the places of the
+/// records, no attachment and no operation. Memory is taken before the first write, and none after it.
 ///
 /// No check can see whether each slot of a VHD image holds a sector, nor whether under the entry of a link the parent holds whatever
 /// the image holds, as no check reads bitmaps. What is promised of the sectors and of the disks rests on it: it is so in each content
@@ -56,7 +59,7 @@ use vg_volumes::Store;
 /// `Damaged` with the first place at which the checks fail, and nothing was written; `Device` where a call of the
 /// store failed; `NoMemory`, and nothing was written. Where a check fails nothing was written, whatever the answer.
 pub fn settle<S: Store>(alloc: Global, store: &mut S) -> Result<Memory, OpenFault>
-    requires usable { S.failed store.old ≡ false }
+    requires usable { S.version store.old ≡ current_version → S.failed store.old ≡ false }
     requires settled { S.told → IsSettled (S.area store.old) }
     ensures site { S.site store.new ≡ S.site store.old }
     ensures counts { S.faults store.old ≤ S.faults store.new }
@@ -86,6 +89,7 @@ pub fn settle<S: Store>(alloc: Global, store: &mut S) -> Result<Memory, OpenFaul
     ensures crash { Leaves S.Store store.new (λ t image. S.leaves store.old t image ⊎ MayBeRepairedFrom (store_content S.Store store.old) (content_in (S.site store.old) t image)) }
 {
     let mut memory = checked_with_room(alloc, store)?;
+    take_over(store)?;
     let Ok(()) = end_leaf(store) else {
         return Err(OpenFault::Device);
     };
@@ -93,6 +97,26 @@ pub fn settle<S: Store>(alloc: Global, store: &mut S) -> Result<Memory, OpenFaul
         return Err(OpenFault::Device);
     };
     Ok(memory)
+}
+
+/// A repository of an earlier version is taken over to the current one.
+fn take_over<S: Store>(store: &mut S) -> Result<(), OpenFault>
+    requires usable { S.version store.old ≡ current_version → S.failed store.old ≡ false }
+    ensures site { S.site store.new ≡ S.site store.old }
+    ensures table { table_alone (S.table store.new) ≡ table_alone (S.table store.old) }
+    ensures no_less { NoLessRoom (S.table store.old) (S.table store.new) }
+    ensures counts { S.faults store.old ≤ S.faults store.new }
+    ensures calm { result ≢ Err fault.Device → S.faults store.new ≡ S.faults store.old }
+    ensures cause { IfErr result (λ e. (e ≡ fault.Device) × Rose (S.faults store.old) (S.faults store.new)) }
+    ensures beside { S.told → Keeps (S.beside store.old) (S.beside store.new) }
+    ensures leaves { S.told → (t : VolumeTable) (image : ℕ → List ℕ) → S.leaves store.new t image → S.leaves store.old t image }
+    ensures usable_still { OnOk result (S.failed store.new ≡ false) }
+    ensures stands { OnOk result (StandsAs S.Store store.old store.new) }
+{
+    let Ok(()) = store.upgrade() else {
+        return Err(OpenFault::Device);
+    };
+    Ok(())
 }
 
 /// The repairs where no leaf is being folded: the entry of a copy goes, a fork or an enlargement is undone, a link is ended, new volumes
