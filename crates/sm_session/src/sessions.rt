@@ -5,6 +5,7 @@ ghost use Rattle.std.proofs.Props.{props};
 ghost use Rattle.sm_base.specs.declared.faults.OpenFault.TheVariants.{Device};
 ghost use Rattle.sm_disk.specs.Held.{IsSettled, Keeps};
 ghost use Rattle.vg_meta.specs.Roomy.{table_alone};
+ghost use Rattle.vg_volumes.specs.Commits.{current_version};
 ghost use Rattle.sm_machine.specs.Shapes.{image_limit};
 ghost use Rattle.sm_recover.specs.Ending.{HasFewEnds};
 ghost use Rattle.sm_checks.specs.Openable.{IsOpeningStopped};
@@ -70,7 +71,7 @@ impl<S: Store> Session<S> {
     /// Why there is no session, with the store: `Damaged` with the first place at which the checks fail; `Device` where
     /// a call of the store failed; `NoMemory`. Unless a call of the store failed, nothing was written.
     pub fn begin(alloc: Global, store: S, now: u32) -> Result<Session<S>, (OpenFault, S)>
-        requires usable { S.failed store ≡ false }
+        requires usable { S.version store ≡ current_version → S.failed store ≡ false }
         requires settled { S.told → IsSettled (S.area store) }
         ensures site { IfOk result (λ s. S.site s.store ≡ S.site store) }
         ensures calm { IfOk result (λ s. S.faults s.store ≡ S.faults store) }

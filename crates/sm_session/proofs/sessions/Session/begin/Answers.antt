@@ -1,6 +1,15 @@
 use Rattle.sm_ready.proofs.ShowLaws.{kept_ready, settled_ready}
 use Rattle.sm_ready.proofs.TakenLaws.{is_told}
+use Rattle.sm_recover.proofs.TakenOver.{one_table}
 use Rattle.sm_session.proofs.sessions.Session.begin.Goals as goal
+
+pub returns-in_default-clause-few_left : goal.returns-in_default-clause-few_left
+returns-in_default-clause-few_left g c = λ told.
+    one_table g.S.Store c.args.store (g.met.S.Store.versions c.args.store) c.requires.usable (g.met.S.Store.leaves_old c.args.store told) (g.met.S.Store.leaves_now c.args.store told)
+
+pub returns-in_default-new-clause-few_left : goal.returns-in_default-new-clause-few_left
+returns-in_default-new-clause-few_left g c = λ told.
+    one_table g.S.Store c.args.store (g.met.S.Store.versions c.args.store) c.requires.usable (g.met.S.Store.leaves_old c.args.store told) (g.met.S.Store.leaves_now c.args.store told)
 
 pub returns-in-Ok-settle-clause-kept : goal.returns-in-Ok-settle-clause-kept
 returns-in-Ok-settle-clause-kept g c = λ told holding.
