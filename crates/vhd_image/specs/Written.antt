@@ -1,7 +1,7 @@
 -- What a guest's write into an image did: a raw image takes the bytes into its volume, a VHD image by its blocks.
 use Rattle.std.specs.Prelude.{◌≡◌, ℕ, List, length, Option}
 use Rattle.sm_base.specs.declared.sizes.Geometry.{Geometry}
-use Rattle.sm_disk.specs.Held.{Held, Puts, Torn, Wrote, Reaches, reads}
+use Rattle.sm_disk.specs.Held.{Held, IsIn, Puts, Torn, Wrote, Reaches, reads}
 use Rattle.vhd_map.specs.Slots.{slot_of, top_of}
 use Rattle.vhd_layout.specs.Layouts.{Sectors}
 use Rattle.vhd_volumes.specs.Truth.{HasRoomFor, layout_in}
@@ -35,7 +35,7 @@ IsWriting g sectors (Vhd head m) at bytes old new = IsGuarded (layout_in g head.
 abbrev pub IsPlaceOfWrite : Geometry → ℕ → Body → ℕ → List ℕ → Sectors → ℕ → List ℕ → Type 0
 IsPlaceOfWrite g sectors (Raw volume size) at bytes r = Puts at bytes
 IsPlaceOfWrite g sectors (Vhd head m) at bytes r =
-    IsWritePlace (layout_in g head.footer sectors) at bytes (slot_of m) (slot_of (written_map g.block at (length bytes) m)) r
+    IsWritePlace (layout_in g head.footer sectors) (Puts at bytes) (IsIn at (length bytes)) (slot_of m) (slot_of (written_map g.block at (length bytes) m)) r
 
 -- the write put nothing but that: into a raw image its bytes; into a VHD image the given sectors, the bitmaps of their blocks' slots,
 -- with no new bits but theirs, and sectors of the table, with no new entries but those of the map that it ends with
@@ -45,4 +45,4 @@ BodyKeepsToPlaces g sectors body at bytes old new = Reaches (IsPlaceOfWrite g se
 -- once it is done
 abbrev pub IsBodyWritten : Geometry → ℕ → Body → ℕ → List ℕ → Held → Held → Type 0
 IsBodyWritten g sectors (Raw volume size) at bytes old new = Wrote at bytes old new
-IsBodyWritten g sectors (Vhd head m) at bytes old new = HasWritten (layout_in g head.footer sectors) at bytes old new
+IsBodyWritten g sectors (Vhd head m) at bytes old new = HasWritten (layout_in g head.footer sectors) (Puts at bytes) old new

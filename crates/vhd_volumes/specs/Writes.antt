@@ -1,6 +1,6 @@
 -- What a guest's write does to an image, and what a stop may leave of it at any moment.
 use Rattle.std.specs.Prelude.{◌≡◌, ℕ, ◌+◌, ◌-◌, ◌/◌, ◌<◌, ◌≤◌, ◌⊎◌, zero, suc, List, length, Option, None, Some, slice_set}
-use Rattle.sm_disk.specs.Held.{Held, Allows, Puts, reads}
+use Rattle.sm_disk.specs.Held.{Held, Allows, reads}
 use Rattle.vg_volumes.specs.Volumes.{KeepsAt}
 use Rattle.vhd_map.specs.Slots.{slot_of, least_free_slot}
 use Rattle.vhd_layout.specs.Layouts.{Sectors, Layout}
@@ -41,11 +41,10 @@ KeepsBut W old new = KeepsAt (λ p. W p → ⊥) old new
 abbrev pub KeepsHeads : ℕ → Held → Held → Type 0
 KeepsHeads sectors old new = KeepsBut (λ p. (3 ≤ p) × (p + 1 < sectors)) old new
 
--- what a read gives once these bytes were written from this sector of the disk on: in the written sectors the bytes, and
--- elsewhere what it gave
-pub record HasWritten (l : Layout) (at : ℕ) (bytes : List ℕ) (old new : Held) : Type 0 where
-  pub inside : (s : ℕ) (value : List ℕ) → Puts at bytes s value → own_in l (reads new) s ≡ Some value
-  pub outside : (s : ℕ) → ((value : List ℕ) → Puts at bytes s value → ⊥) → own_in l (reads new) s ≡ own_in l (reads old) s
+-- what a read gives once all was written that W says: in the written sectors their bytes, and elsewhere what it gave
+pub record HasWritten (l : Layout) (W : ℕ → List ℕ → Type 0) (old new : Held) : Type 0 where
+  pub inside : (s : ℕ) (value : List ℕ) → W s value → own_in l (reads new) s ≡ Some value
+  pub outside : (s : ℕ) → ((value : List ℕ) → W s value → ⊥) → own_in l (reads new) s ≡ own_in l (reads old) s
 
 -- the map once a block has a slot: a block that has none gets the least free one
 unfoldable pub with_block : ℕ → List (Option ℕ) → List (Option ℕ)

@@ -53,17 +53,17 @@ one-read p v long w =
 -- ---- one bitmap
 
 module _ (l : Layout) (b at len first count skip : ℕ) (part : IsPart l.block b at len first count skip) where
-  pub part-touches : Touches l at len b
+  pub part-touches : Touches l (IsIn at len) b
   part-touches = (first, omega (arith, part.fits, part.some), (omega (arith, part.skipped), omega (arith, part.skipped, part.inside, part.some)))
 
   -- a bit of the part is that of a given sector
   bit-in : (i : ℕ) → first ≤ i → i < first + count → (i < l.block) × IsIn at len (b * l.block + i)
   bit-in i low high = (omega (arith, part.fits, high), (omega (arith, part.skipped), omega (arith, part.skipped, part.inside)))
 
-  pub bits-all : (bitmap : List ℕ) → ((i : ℕ) → first ≤ i → i < first + count → is_set bitmap i ≡ true) → HasBits l at len b bitmap
+  pub bits-all : (bitmap : List ℕ) → ((i : ℕ) → first ≤ i → i < first + count → is_set bitmap i ≡ true) → HasBits l (IsIn at len) b bitmap
   bits-all bitmap set = λ i within here. let h = part.all i within here in set i h.0 h.1
 
-  pub bits-more : (old new : List ℕ) → ((i : ℕ) → first ≤ i → i < first + count → is_set new i ≡ true) → ((i : ℕ) → (i < first) ⊎ (first + count ≤ i) → is_set new i ≡ is_set old i) → HasMoreBits l at len b old new
+  pub bits-more : (old new : List ℕ) → ((i : ℕ) → first ≤ i → i < first + count → is_set new i ≡ true) → ((i : ℕ) → (i < first) ⊎ (first + count ≤ i) → is_set new i ≡ is_set old i) → HasMoreBits l (IsIn at len) b old new
   bits-more old new set others = λ i. ⊎_elim
       (λ low. inl (others i (inl low)))
       (λ from_first. ⊎_elim
@@ -72,7 +72,7 @@ module _ (l : Layout) (b at len first count skip : ℕ) (part : IsPart l.block b
       (cases_lt i (first + count)))
       (cases_lt i first)
 
-  pub bits-only : (bitmap : List ℕ) → IsUnsetBeside first count bitmap → HasOnlyBits l at len b bitmap
+  pub bits-only : (bitmap : List ℕ) → IsUnsetBeside first count bitmap → HasOnlyBits l (IsIn at len) b bitmap
   bits-only bitmap unset = λ i on. ⊎_elim
       (λ low. absurd (true≢false (sym on ∙ unset i (inl low))))
       (λ from_first. ⊎_elim
@@ -81,20 +81,20 @@ module _ (l : Layout) (b at len first count skip : ℕ) (part : IsPart l.block b
       (cases_lt i (first + count)))
       (cases_lt i first)
 
-pub bitmap-reaches : (l : Layout) (at len b k p : ℕ) (slot : Option ℕ) (old new : List ℕ) {a y z : Held} → Touches l at len b → slot ≡ Some k → p ≡ place l k 0 → length new ≡ 512 → old ≡ reads a p → HasMoreBits l at len b old new
-    → SameHeld a y → Torn p new y z → Reaches (PutsBitsOf l at len slot b (reads a)) a z
-bitmap-reaches l at len b k p slot old new {a} {y} {z} touched has is long gave more same t =
-    Reaches-then (Reaches-same (PutsBitsOf l at len slot b (reads a)) same) (Reaches-wider go (Reaches-torn t))
+pub bitmap-reaches : (l : Layout) (M : ℕ → Type 0) (b k p : ℕ) (slot : Option ℕ) (old new : List ℕ) {a y z : Held} → Touches l M b → slot ≡ Some k → p ≡ place l k 0 → length new ≡ 512 → old ≡ reads a p → HasMoreBits l M b old new
+    → SameHeld a y → Torn p new y z → Reaches (PutsBitsOf l M slot b (reads a)) a z
+bitmap-reaches l M b k p slot old new {a} {y} {z} touched has is long gave more same t =
+    Reaches-then (Reaches-same (PutsBitsOf l M slot b (reads a)) same) (Reaches-wider go (Reaches-torn t))
   where
-    go : (q : ℕ) (v : List ℕ) → Puts p new q v → PutsBitsOf l at len slot b (reads a) q v
+    go : (q : ℕ) (v : List ℕ) → Puts p new q v → PutsBitsOf l M slot b (reads a) q v
     go q v h =
         let one = one-value p q new v long h in
         let was : old ≡ reads a q = gave ∙ ap (reads a) (sym one.0) in
-        let M : List ℕ → List ℕ → Type 0 = λ x w. HasMoreBits l at len b x w in
-        (k, has, record { touched = touched; here = one.0 ∙ is; more = subst (λ x. M x v) was (subst (M old) (sym one.1) more) })
+        let N : List ℕ → List ℕ → Type 0 = λ x w. HasMoreBits l M b x w in
+        (k, has, record { touched = touched; here = one.0 ∙ is; more = subst (λ x. N x v) was (subst (N old) (sym one.1) more) })
 
-pub bitmap-done : (l : Layout) (at len b k p : ℕ) (slot : Option ℕ) (r : Sectors) (bitmap : List ℕ) → slot ≡ Some k → p ≡ place l k 0 → r p ≡ bitmap → HasBits l at len b bitmap → AreSet l at len slot b r
-bitmap-done l at len b k p slot r bitmap has is read set = λ j had i within here.
+pub bitmap-done : (l : Layout) (M : ℕ → Type 0) (b k p : ℕ) (slot : Option ℕ) (r : Sectors) (bitmap : List ℕ) → slot ≡ Some k → p ≡ place l k 0 → r p ≡ bitmap → HasBits l M b bitmap → AreSet l M slot b r
+bitmap-done l M b k p slot r bitmap has is read set = λ j had i within here.
     let same = same_Some k j (sym has ∙ had) in
     ap (λ x. is_set (r (place l x 0)) i) (sym same) ∙ (ap (λ x. is_set (r x) i) (sym is) ∙ (ap (λ x. is_set x i) read ∙ set i within here))
 
@@ -102,37 +102,34 @@ pub bitmap-wrote : (p : ℕ) (v : List ℕ) {a c : Held} → length v ≡ 512 �
 bitmap-wrote p v long w = one-read p v long w
 
 -- and still more bits
-pub more-then : (l : Layout) (at len b : ℕ) (x y z : List ℕ) → HasMoreBits l at len b x y → HasMoreBits l at len b y z → HasMoreBits l at len b x z
-more-then l at len b x y z f g = λ i. ⊎_elim (λ same. ⊎_elim (λ old. inl (same ∙ old)) (λ h. inr (same ∙ h.0, h.1, h.2)) (f i)) (λ h. inr h) (g i)
+pub more-then : (l : Layout) (M : ℕ → Type 0) (b : ℕ) (x y z : List ℕ) → HasMoreBits l M b x y → HasMoreBits l M b y z → HasMoreBits l M b x z
+more-then l M b x y z f g = λ i. ⊎_elim (λ same. ⊎_elim (λ old. inl (same ∙ old)) (λ h. inr (same ∙ h.0, h.1, h.2)) (f i)) (λ h. inr h) (g i)
 
-pub only-then : (l : Layout) (at len b : ℕ) (x y : List ℕ) → HasOnlyBits l at len b x → HasMoreBits l at len b x y → HasOnlyBits l at len b y
-only-then l at len b x y only more = λ i on. ⊎_elim (λ same. only i (sym same ∙ on)) (λ h. (h.1, h.2)) (more i)
+pub only-then : (l : Layout) (M : ℕ → Type 0) (b : ℕ) (x y : List ℕ) → HasOnlyBits l M b x → HasMoreBits l M b x y → HasOnlyBits l M b y
+only-then l M b x y only more = λ i on. ⊎_elim (λ same. only i (sym same ∙ on)) (λ h. (h.1, h.2)) (more i)
 
 -- ---- all bitmaps
 
-module _ (l : Layout) (at len : ℕ) (n : List (Option ℕ)) (good : IsMap n) where
-  pub bits-reaches : (c : ℕ) {a y z : Held} → Reaches (PutsBitsAll l at len (slot_of n) (reads a)) a y → Reaches (PutsBitsOf l at len (slot_of n c) c (reads y)) y z → Reaches (PutsBitsAll l at len (slot_of n) (reads a)) a z
+module _ (l : Layout) (M : ℕ → Type 0) (n : List (Option ℕ)) (good : IsMap n) where
+  pub bits-reaches : (c : ℕ) {a y z : Held} → Reaches (PutsBitsAll l M (slot_of n) (reads a)) a y → Reaches (PutsBitsOf l M (slot_of n c) c (reads y)) y z → Reaches (PutsBitsAll l M (slot_of n) (reads a)) a z
   bits-reaches c {a} {y} {z} r s = Reaches-then r (Reaches-wider go s)
     where
-      M : ℕ → List ℕ → List ℕ → Type 0
-      M b x w = HasMoreBits l at len b x w
-
-      more : (p k : ℕ) (v : List ℕ) → slot_of n c ≡ Some k → p ≡ place l k 0 → HasMoreBits l at len c (reads y p) v → (reads y p ≡ reads a p) ⊎ PutsBitsAll l at len (slot_of n) (reads a) p (reads y p) → HasMoreBits l at len c (reads a p) v
-      more p k v has here h (inl same) = let P : List ℕ → Type 0 = λ x. HasMoreBits l at len c x v in subst P same h
+      more : (p k : ℕ) (v : List ℕ) → slot_of n c ≡ Some k → p ≡ place l k 0 → HasMoreBits l M c (reads y p) v → (reads y p ≡ reads a p) ⊎ PutsBitsAll l M (slot_of n) (reads a) p (reads y p) → HasMoreBits l M c (reads a p) v
+      more p k v has here h (inl same) = let P : List ℕ → Type 0 = λ x. HasMoreBits l M c x v in subst P same h
       more p k v has here h (inr (b, j, had, g)) =
           let one = place-same l j k 0 0 (omega arith) (omega arith) (sym g.here ∙ here) in
           let same : b ≡ c = good.once b c j had (has ∙ ap Some (sym one.0)) in
-          let P : ℕ → Type 0 = λ x. HasMoreBits l at len x (reads a p) (reads y p) in
-          more-then l at len c (reads a p) (reads y p) v (subst P same g.more) h
+          let P : ℕ → Type 0 = λ x. HasMoreBits l M x (reads a p) (reads y p) in
+          more-then l M c (reads a p) (reads y p) v (subst P same g.more) h
 
-      go : (p : ℕ) (v : List ℕ) → PutsBitsOf l at len (slot_of n c) c (reads y) p v → PutsBitsAll l at len (slot_of n) (reads a) p v
+      go : (p : ℕ) (v : List ℕ) → PutsBitsOf l M (slot_of n c) c (reads y) p v → PutsBitsAll l M (slot_of n) (reads a) p v
       go p v (k, has, h) = (c, k, has, record { touched = h.touched; here = h.here; more = more p k v has h.here h.more (r.gives p) })
 
-  pub bits-done : (first c : ℕ) {y z : Held} → Reaches (PutsBitsOf l at len (slot_of n c) c (reads y)) y z
-      → ((b : ℕ) → first ≤ b → b < c → AreSet l at len (slot_of n b) b (reads y)) → AreSet l at len (slot_of n c) c (reads z)
-      → (b : ℕ) → first ≤ b → b < c + 1 → AreSet l at len (slot_of n b) b (reads z)
+  pub bits-done : (first c : ℕ) {y z : Held} → Reaches (PutsBitsOf l M (slot_of n c) c (reads y)) y z
+      → ((b : ℕ) → first ≤ b → b < c → AreSet l M (slot_of n b) b (reads y)) → AreSet l M (slot_of n c) c (reads z)
+      → (b : ℕ) → first ≤ b → b < c + 1 → AreSet l M (slot_of n b) b (reads z)
   bits-done first c {y} {z} s before here = λ b low high. ⊎_elim
-      (λ same. subst (λ x. AreSet l at len (slot_of n x) x (reads z)) (sym same) here)
+      (λ same. subst (λ x. AreSet l M (slot_of n x) x (reads z)) (sym same) here)
       (λ apart k has i within there.
       ap (λ x. is_set x i) (kept b k apart has) ∙ before b low (omega arith) k has i within there)
       (cases_eq b c)

@@ -2,6 +2,7 @@ pub mod BitLaws
 pub mod ExitLaws
 pub mod FinishLaws
 pub mod FirstLaws
+pub mod GivenLaws
 pub mod HeadLaws
 pub mod ImageKept
 pub mod LoopLaws

@@ -5,7 +5,7 @@ use Rattle.std.proofs.lemmas.Bool.{cases_lt, cases_eq, true≢false}
 use Rattle.std.proofs.Math.Nat.{div-mul-le_self}
 use Rattle.std.proofs.lemmas.Nat.{le-div, mul-le, mod_below, div-add-mod'}
 use Rattle.std.proofs.lemmas.Option.{none-some}
-use Rattle.sm_disk.specs.Held.{Held, IsIn, Reaches, reads}
+use Rattle.sm_disk.specs.Held.{Held, IsIn, Puts, Reaches, reads}
 use Rattle.sm_disk.proofs.ReachesLaws.{Reaches-then, Reaches-wider}
 use Rattle.vhd_map.specs.Bitmaps.{is_set}
 use Rattle.vhd_map.specs.Slots.{slot_of, least_free_slot}
@@ -66,24 +66,24 @@ table-block {block} {at} {count} {first} {end} s index low high =
     (cases_lt first (128 * index))
 
 -- where nothing is put yet
-pub put-none : {l : Layout} {at count first end : ℕ} {from : List ℕ} (m : List (Option ℕ)) (r : Sectors) → IsSpan l.block at count first end → length from ≡ 512 * count → ArePut l at from (slot_of m) (slot_of m) first r
-put-none {l} {at} {count} {first} {end} {from} m r s long = λ b below. record {
+pub put-none : {l : Layout} {at count first end : ℕ} (from : List ℕ) (m : List (Option ℕ)) (r : Sectors) → IsSpan l.block at count first end → length from ≡ 512 * count → ArePut l (Puts at from) (IsIn at (length from)) (slot_of m) (slot_of m) first r
+put-none {l} {at} {count} {first} {end} from m r s long = λ b below. record {
   data_is = λ k has i v within puts. absurd (let here = span-block s b i within (puts.0.0, omega (arith, long, puts.0.1)) in omega (arith, here.0));
   fresh = λ k none has. absurd (none-some k (sym none ∙ has));
 }
 
 -- a part of a slot
-slot-part : (l : Layout) (at : ℕ) (from : List ℕ) (b k p : ℕ) (v : List ℕ) → PutsSlot l at from b k p v → (j : ℕ) × (j < 1 + l.block) × (p ≡ place l k j)
-slot-part l at from b k p v (inl (touched, here, only)) = (0, omega arith, here)
-slot-part l at from b k p v (inr h) = (1 + h.i, omega (arith, h.within), h.here)
+slot-part : (l : Layout) (W : ℕ → List ℕ → Type 0) (M : ℕ → Type 0) (b k p : ℕ) (v : List ℕ) → PutsSlot l W M b k p v → (j : ℕ) × (j < 1 + l.block) × (p ≡ place l k j)
+slot-part l W M b k p v (inl (touched, here, only)) = (0, omega arith, here)
+slot-part l W M b k p v (inr h) = (1 + h.i, omega (arith, h.within), h.here)
 
-module _ (l : Layout) (at : ℕ) (from : List ℕ) (first c : ℕ) (m n : List (Option ℕ)) (given : Given first c m n) (low : first ≤ c)
+module _ (l : Layout) (W : ℕ → List ℕ → Type 0) (M : ℕ → Type 0) (first c : ℕ) (m n : List (Option ℕ)) (given : Given first c m n) (low : first ≤ c)
     (new_in : slot_of n c ≡ None → least_free_slot n < slot_count l) where
   -- what the step puts is what the pass puts
-  step-wider : (p : ℕ) (v : List ℕ) → PutsBlock l at from n c p v → PutsData l at from (slot_of m) p v
+  step-wider : (p : ℕ) (v : List ℕ) → PutsBlock l W M n c p v → PutsData l W (slot_of m) p v
   step-wider p v (inl (k, has, h)) = inl (c, k, sym (given.others c (inr (omega arith))) ∙ has, h)
   step-wider p v (inr (none, h)) =
-      let part = slot-part l at from c (least_free_slot n) p v h in
+      let part = slot-part l W M c (least_free_slot n) p v h in
       inr (record {
         k = least_free_slot n;
         free = λ b has. unused-no_block n (least_free_slot n) (least_free_slot-free n given.good) b (given.grown.keeps b (least_free_slot n) has);
@@ -93,23 +93,23 @@ module _ (l : Layout) (at : ℕ) (from : List ℕ) (first c : ℕ) (m n : List (
         here = part.2;
       })
 
-  pub put-reaches : {x y z : Held} → Reaches (PutsData l at from (slot_of m)) x y → Reaches (PutsBlock l at from n c) y z → Reaches (PutsData l at from (slot_of m)) x z
+  pub put-reaches : {x y z : Held} → Reaches (PutsData l W (slot_of m)) x y → Reaches (PutsBlock l W M n c) y z → Reaches (PutsData l W (slot_of m)) x z
   put-reaches r s = Reaches-then r (Reaches-wider step-wider s)
 
   -- another block's slot keeps what it has
-  kept_place : {y z : Held} → Reaches (PutsBlock l at from n c) y z → (b k j : ℕ) → b ≢ c → slot_of n b ≡ Some k → j < 1 + l.block → reads z (place l k j) ≡ reads y (place l k j)
+  kept_place : {y z : Held} → Reaches (PutsBlock l W M n c) y z → (b k j : ℕ) → b ≢ c → slot_of n b ≡ Some k → j < 1 + l.block → reads z (place l k j) ≡ reads y (place l k j)
   kept_place {y} {z} s b k j apart has within = ⊎_elim (λ e. e) (λ h. absurd (go h)) (s.gives (place l k j))
     where
-      go : PutsBlock l at from n c (place l k j) (reads z (place l k j)) → ⊥
+      go : PutsBlock l W M n c (place l k j) (reads z (place l k j)) → ⊥
       go (inl (o, had, h)) =
           let same = place-same l k o j (1 + h.i) within (omega (arith, h.within)) h.here in
           apart (given.good.once b c k has (had ∙ ap Some (sym same.0)))
       go (inr (none, h)) =
-          let part = slot-part l at from c (least_free_slot n) (place l k j) (reads z (place l k j)) h in
+          let part = slot-part l W M c (least_free_slot n) (place l k j) (reads z (place l k j)) h in
           let same = place-same l k (least_free_slot n) j part.0 within part.1 part.2 in
           unused-no_block n (least_free_slot n) (least_free_slot-free n given.good) b (has ∙ ap Some same.0)
 
-  put_kept : {y z : Held} {o : Option ℕ} → Reaches (PutsBlock l at from n c) y z → (b : ℕ) → b ≢ c → IsPut l at from o (slot_of n b) b (reads y) → IsPut l at from o (slot_of n b) b (reads z)
+  put_kept : {y z : Held} {o : Option ℕ} → Reaches (PutsBlock l W M n c) y z → (b : ℕ) → b ≢ c → IsPut l W M o (slot_of n b) b (reads y) → IsPut l W M o (slot_of n b) b (reads z)
   put_kept {y} {z} {o} s b apart was = record {
     data_is = λ k has i v within puts. kept_place s b k (1 + i) apart has (omega arith) ∙ was.data_is k has i v within puts;
     fresh = λ k none has.
@@ -122,12 +122,12 @@ module _ (l : Layout) (at : ℕ) (from : List ℕ) (first c : ℕ) (m n : List (
         };
   }
 
-  pub put-more : {y z : Held} {n' : List (Option ℕ)} → n' ≡ with_block c n → ((b : ℕ) → b ≢ c → slot_of n' b ≡ slot_of n b) → Reaches (PutsBlock l at from n c) y z
-      → ArePut l at from (slot_of m) (slot_of n) c (reads y) → IsPut l at from (slot_of n c) (slot_of n' c) c (reads z)
-      → ArePut l at from (slot_of m) (slot_of n') (c + 1) (reads z)
+  pub put-more : {y z : Held} {n' : List (Option ℕ)} → n' ≡ with_block c n → ((b : ℕ) → b ≢ c → slot_of n' b ≡ slot_of n b) → Reaches (PutsBlock l W M n c) y z
+      → ArePut l W M (slot_of m) (slot_of n) c (reads y) → IsPut l W M (slot_of n c) (slot_of n' c) c (reads z)
+      → ArePut l W M (slot_of m) (slot_of n') (c + 1) (reads z)
   put-more {y} {z} {n'} is others s before here = λ b below. ⊎_elim
-      (λ same. subst (λ x. IsPut l at from (slot_of m x) (slot_of n' x) x (reads z)) (sym same) (subst (λ o. IsPut l at from o (slot_of n' c) c (reads z)) (given.others c (inr (omega arith))) here))
-      (λ apart. subst (λ o. IsPut l at from (slot_of m b) o b (reads z)) (sym (others b apart)) (put_kept s b apart (before b (omega arith))))
+      (λ same. subst (λ x. IsPut l W M (slot_of m x) (slot_of n' x) x (reads z)) (sym same) (subst (λ o. IsPut l W M o (slot_of n' c) c (reads z)) (given.others c (inr (omega arith))) here))
+      (λ apart. subst (λ o. IsPut l W M (slot_of m b) o b (reads z)) (sym (others b apart)) (put_kept s b apart (before b (omega arith))))
       (cases_eq b c)
 
 -- one block more that is full
@@ -135,8 +135,8 @@ pub full-more : (P : ℕ → Type 0) (first c : ℕ) → ((b : ℕ) → first �
 full-more P first c before here = λ b low high. ⊎_elim (λ same. subst P (sym same) here) (λ apart. before b low (omega arith)) (cases_eq b c)
 
 -- a full block by equal reads
-pub full-as : {told : Type 0} (l : Layout) (at len b : ℕ) (m : Slots) {r r' : Sectors} → IsFull told l at len m b r → (told → (p : ℕ) → r p ≡ r' p) → IsFull told l at len m b r'
-full-as {told} l at len b m {r} {r'} (k, has, bits) same =
+pub full-as : {told : Type 0} (l : Layout) (M : ℕ → Type 0) (b : ℕ) (m : Slots) {r r' : Sectors} → IsFull told l M m b r → (told → (p : ℕ) → r p ≡ r' p) → IsFull told l M m b r'
+full-as {told} l M b m {r} {r'} (k, has, bits) same =
     (k, has, λ t i within here. sym (ap (λ x. is_set x i) (same t (place l k 0))) ∙ bits t i within here)
 
 -- what holds on a test that is true

@@ -120,7 +120,7 @@ module _ (l : Layout) (at : ℕ) (from : List ℕ) (b first count skip : ℕ) (p
       let nth : first + (i - first) ≡ i = omega (arith, h.0) in
       (h.0, h.1, puts.1 ∙ (ap (λ x. sector from (b * l.block + x - at)) (sym nth) ∙ sym (part-sector (i - first) (omega (arith, h.0, h.1)))))
 
-  bytes-held : (k p : ℕ) → p ≡ place l k (1 + first) → (q : ℕ) (v : List ℕ) → Puts p part_bytes q v → PutsHeld l at from b k q v
+  bytes-held : (k p : ℕ) → p ≡ place l k (1 + first) → (q : ℕ) (v : List ℕ) → Puts p part_bytes q v → PutsHeld l (Puts at from) b k q v
   bytes-held k p is q v h =
       let base = place-part l k (1 + first) in
       let nth : q - p < count = omega (arith, h.0.0, h.0.1, part-long) in
@@ -134,10 +134,10 @@ module _ (l : Layout) (at : ℕ) (from : List ℕ) (b first count skip : ℕ) (p
 
   -- into a slot
 
-  pub held-puts : (k p : ℕ) {a c : Held} → p ≡ place l k (1 + first) → Torn p part_bytes a c → Reaches (PutsHeld l at from b k) a c
+  pub held-puts : (k p : ℕ) {a c : Held} → p ≡ place l k (1 + first) → Torn p part_bytes a c → Reaches (PutsHeld l (Puts at from) b k) a c
   held-puts k p is t = Reaches-wider (bytes-held k p is) (Reaches-torn t)
 
-  pub held-data : (k p : ℕ) {a c : Held} → p ≡ place l k (1 + first) → Wrote p part_bytes a c → HasData l at from b k (reads c)
+  pub held-data : (k p : ℕ) {a c : Held} → p ≡ place l k (1 + first) → Wrote p part_bytes a c → HasData l (Puts at from) b k (reads c)
   held-data k p {a} {c} is w = λ i v within puts.
       let h = written i v within puts in
       let base = place-part l k (1 + first) in
@@ -146,25 +146,25 @@ module _ (l : Layout) (at : ℕ) (from : List ℕ) (b first count skip : ℕ) (p
       let nth : place l k (1 + i) - p ≡ i - first = omega (arith, is, base, there, h.0) in
       reads-wrote w (place l k (1 + i)) here ∙ (ap (sector part_bytes) nth ∙ sym h.2)
 
-  pub held-put : (k : ℕ) (m : List (Option ℕ)) {r : Sectors} → slot_of m b ≡ Some k → HasData l at from b k r → IsPut l at from (slot_of m b) (slot_of m b) b r
+  pub held-put : (k : ℕ) (m : List (Option ℕ)) {r : Sectors} → slot_of m b ≡ Some k → HasData l (Puts at from) b k r → IsPut l (Puts at from) (IsIn at (length from)) (slot_of m b) (slot_of m b) b r
   held-put k m {r} has is = record {
-    data_is = λ j had. subst (λ x. HasData l at from b x r) (same_Some k j (sym has ∙ had)) is;
+    data_is = λ j had. subst (λ x. HasData l (Puts at from) b x r) (same_Some k j (sym has ∙ had)) is;
     fresh = λ j none had. absurd (none-some k (sym none ∙ has));
   }
 
   -- into a new slot
 
-  pub new-puts : (k : ℕ) {a c : Held} → Reaches (PutsPart l k first count part_bytes) a c → Reaches (PutsSlot l at from b k) a c
+  pub new-puts : (k : ℕ) {a c : Held} → Reaches (PutsPart l k first count part_bytes) a c → Reaches (PutsSlot l (Puts at from) (IsIn at (length from)) b k) a c
   new-puts k r = Reaches-wider go r
     where
-      go : (q : ℕ) (v : List ℕ) → PutsPart l k first count part_bytes q v → PutsSlot l at from b k q v
+      go : (q : ℕ) (v : List ℕ) → PutsPart l k first count part_bytes q v → PutsSlot l (Puts at from) (IsIn at (length from)) b k q v
       go q v (inl (here, unset)) = inl (part-touches l b at (length from) first count skip part, here, bits-only l b at (length from) first count skip part v unset)
       go q v (inr h) = inr (bytes-held k (place l k (1 + first)) refl q v h)
 
-  pub new-put : (m n : List (Option ℕ)) {r : Sectors} → n ≡ set m b (Some (least_free_slot m)) → b < length m → IsSlotFilled l (least_free_slot m) first count part_bytes r → IsPut l at from (slot_of m b) (slot_of n b) b r
+  pub new-put : (m n : List (Option ℕ)) {r : Sectors} → n ≡ set m b (Some (least_free_slot m)) → b < length m → IsSlotFilled l (least_free_slot m) first count part_bytes r → IsPut l (Puts at from) (IsIn at (length from)) (slot_of m b) (slot_of n b) b r
   new-put m n {r} is within filled = record {
-    data_is = λ j had. subst (λ x. HasData l at from b x r) (slot_is j had) bytes_there;
-    fresh = λ j none had. subst (λ x. IsNewSlot l at (length from) b x r) (slot_is j had) new_there;
+    data_is = λ j had. subst (λ x. HasData l (Puts at from) b x r) (slot_is j had) bytes_there;
+    fresh = λ j none had. subst (λ x. IsNewSlot l (IsIn at (length from)) b x r) (slot_is j had) new_there;
   }
     where
       k : ℕ
@@ -173,13 +173,13 @@ module _ (l : Layout) (at : ℕ) (from : List ℕ) (b first count skip : ℕ) (p
       slot_is : (j : ℕ) → slot_of n b ≡ Some j → least_free_slot m ≡ j
       slot_is j had = same_Some (least_free_slot m) j (sym (ap (λ x. slot_of x b) is ∙ slot_of-set_same m b (least_free_slot m) within) ∙ had)
 
-      bytes_there : HasData l at from b (least_free_slot m) r
+      bytes_there : HasData l (Puts at from) b (least_free_slot m) r
       bytes_there i v small puts =
           let h = written i v small puts in
           let nth : first + (i - first) ≡ i = omega (arith, h.0) in
           ap (λ x. r (place l (least_free_slot m) (1 + x))) (sym nth) ∙ (filled.bytes_are (i - first) (omega (arith, h.0, h.1)) ∙ sym h.2)
 
-      new_there : IsNewSlot l at (length from) b (least_free_slot m) r
+      new_there : IsNewSlot l (IsIn at (length from)) b (least_free_slot m) r
       new_there = record {
         only = bits-only l b at (length from) first count skip part (r (place l (least_free_slot m) 0)) filled.others;
         each = λ i small here. let h = part.all i small here in filled.set i h.0 h.1;

@@ -3,9 +3,6 @@
 use Rattle.std.proofs.Common.{◌≡◌, ◌≢◌, ℕ, ◌+◌, ◌-◌, ◌*◌, ◌/◌, ◌%◌, ◌<◌, ◌⊎◌, ◌==◌, if◌then◌else◌, true, List, length, Some, None, refl, sym, ap, ◌∙◌, subst, inl, inr, ⊎_elim, eq-eqb, arith}
 use Rattle.std.proofs.lemmas.Bool.{cases_eq, cases_Bool, cond-true, cond-false, ne_eqb, true≢false}
 use Rattle.std.proofs.lemmas.Option.{none-some}
-use Rattle.sm_disk.specs.Held.{IsIn, Puts}
-use Rattle.sm_disk.specs.Sectors.{sector}
-use Rattle.sm_disk.proofs.HeldLaws.{in_or_not}
 use Rattle.vhd_fields.specs.declared.footers.Footer.{Footer}
 use Rattle.vhd_fields.specs.declared.headers.Header.{Header}
 use Rattle.vhd_map.specs.Bitmaps.{is_set}
@@ -18,22 +15,20 @@ use Rattle.vhd_volumes.specs.Writes.{Follows}
 use Rattle.vhd_write.specs.Passes.{PutsData, IsPut, PutsRest}
 use Rattle.vhd_write.specs.WritePlaces.{HasMoreBits}
 use Rattle.vhd_write.proofs.ImageKept.{SameEnds, SameHead, head_in_front, valid-from_image, value-blank, value-set, value-unset, StepsValue, follows-from_values}
+use Rattle.vhd_write.proofs.GivenLaws.{IsGivenBy}
 use Rattle.vhd_write.proofs.FirstLaws.{first-ends, first-bitmap, first-data}
 
 -- two facts of the map: it has grown, and each block is put
-pub record AllPut (l : Layout) (at : ℕ) (from : List ℕ) (m n : Slots) (q : Sectors) : Type 0 where
+pub record AllPut (l : Layout) (W : ℕ → List ℕ → Type 0) (M : ℕ → Type 0) (m n : Slots) (q : Sectors) : Type 0 where
   pub grown : (b k : ℕ) → m b ≡ Some k → n b ≡ Some k
-  pub each : (b : ℕ) → IsPut l at from (m b) (n b) b q
+  pub each : (b : ℕ) → IsPut l W M (m b) (n b) b q
 
-module _ (l : Layout) (ok : IsLayout l) (at : ℕ) (from : List ℕ) (m n : Slots) (slots : IsSlots l n) (footer : Footer) (header : Header) (r q w : Sectors) (image : IsImage l r footer header m)
-    (first_pass : (p : ℕ) → p < l.sectors → (q p ≡ r p) ⊎ PutsData l at from m p (q p))
-    (put : AllPut l at from m n q)
-    (rest : (p : ℕ) → p < l.sectors → (w p ≡ q p) ⊎ PutsRest l at (length from) n q p (w p)) where
-  abbrev len : ℕ
-  len = length from
-
+module _ (l : Layout) (ok : IsLayout l) (W : ℕ → List ℕ → Type 0) (M : ℕ → Type 0) (given : IsGivenBy W M) (m n : Slots) (slots : IsSlots l n) (footer : Footer) (header : Header) (r q w : Sectors) (image : IsImage l r footer header m)
+    (first_pass : (p : ℕ) → p < l.sectors → (q p ≡ r p) ⊎ PutsData l W m p (q p))
+    (put : AllPut l W M m n q)
+    (rest : (p : ℕ) → p < l.sectors → (w p ≡ q p) ⊎ PutsRest l M n q p (w p)) where
   ends : SameEnds l r q
-  ends = first-ends l ok at from m image.slots r q first_pass image.head.room
+  ends = first-ends l ok W m image.slots r q first_pass image.head.room
 
   place_in : (b k j : ℕ) → n b ≡ Some k → j < 1 + l.block → place l k j < l.sectors
   place_in b k j has within = omega (arith, place-within l k j (slots.fits b k has).1 within)
@@ -46,7 +41,7 @@ module _ (l : Layout) (ok : IsLayout l) (at : ℕ) (from : List ℕ) (m n : Slot
       omega (arith, low)
 
   -- the head is as it was
-  head_place : (p : ℕ) → (p < 3) ⊎ (p ≡ l.sectors - 1) → p < l.sectors → PutsRest l (at) (length from) n q p (w p) → ⊥
+  head_place : (p : ℕ) → (p < 3) ⊎ (p ≡ l.sectors - 1) → p < l.sectors → PutsRest l M n q p (w p) → ⊥
   head_place p (inl front) below (inl (b, k, has, h)) = omega (arith, place-first l k 0, h.here, head_in_front l ok)
   head_place p (inr last) below (inl (b, k, has, h)) = omega (arith, h.here, place-within l k 0 (slots.fits b k has).1 (omega arith))
   head_place p (inl front) below (inr h) = omega (arith, h.puts.here)
@@ -74,7 +69,7 @@ module _ (l : Layout) (ok : IsLayout l) (at : ℕ) (from : List ℕ) (m n : Slot
       low : 3 + b / 128 < l.first
       low = table-first l b ok near
 
-      go : PutsRest l at (length from) n q (3 + b / 128) (w (3 + b / 128)) → entry w b ≡ code l (n b)
+      go : PutsRest l M n q (3 + b / 128) (w (3 + b / 128)) → entry w b ≡ code l (n b)
       go (inl (c, k, has, h)) = absurd (omega (arith, place-first l k 0, h.here, low))
       go (inr h) =
           let index : h.b / 128 ≡ b / 128 = omega (arith, h.puts.here) in
@@ -91,30 +86,33 @@ module _ (l : Layout) (ok : IsLayout l) (at : ℕ) (from : List ℕ) (m n : Slot
   pub data_same : (b k i : ℕ) → n b ≡ Some k → i < l.block → w (place l k (1 + i)) ≡ q (place l k (1 + i))
   data_same b k i has within = ⊎_elim (λ e. e) (λ h. absurd (go h)) (rest (place l k (1 + i)) (place_in b k (1 + i) has (omega arith)))
     where
-      go : PutsRest l at (length from) n q (place l k (1 + i)) (w (place l k (1 + i))) → ⊥
+      go : PutsRest l M n q (place l k (1 + i)) (w (place l k (1 + i))) → ⊥
       go (inl (c, o, had, h)) = let same = place-same l k o (1 + i) 0 (omega arith) (omega arith) h.here in omega (arith, same.1)
       go (inr h) = omega (arith, h.puts.here, table_low (h.b / 128) h.puts.within, place-first l k (1 + i))
 
-  pub bits_more : (b k : ℕ) → n b ≡ Some k → HasMoreBits l at (length from) b (q (place l k 0)) (w (place l k 0))
+  pub bits_more : (b k : ℕ) → n b ≡ Some k → HasMoreBits l M b (q (place l k 0)) (w (place l k 0))
   bits_more b k has = ⊎_elim (λ e i. inl (ap (λ x. is_set x i) e)) go (rest (place l k 0) (place_in b k 0 has (omega arith)))
     where
-      go : PutsRest l at (length from) n q (place l k 0) (w (place l k 0)) → HasMoreBits l at (length from) b (q (place l k 0)) (w (place l k 0))
+      go : PutsRest l M n q (place l k 0) (w (place l k 0)) → HasMoreBits l M b (q (place l k 0)) (w (place l k 0))
       go (inl (c, o, had, h)) =
           let same = place-same l k o 0 0 (omega arith) (omega arith) h.here in
           let one : c ≡ b = slots.once c b k (had ∙ ap Some (sym same.0)) has in
-          let P : ℕ → Type 0 = λ x. HasMoreBits l at (length from) x (q (place l k 0)) (w (place l k 0)) in
+          let P : ℕ → Type 0 = λ x. HasMoreBits l M x (q (place l k 0)) (w (place l k 0)) in
           subst P one h.more
       go (inr h) = absurd (omega (arith, h.puts.here, table_low (h.b / 128) h.puts.within, place-first l k 0))
 
   -- ---- values
 
-  new_bytes : (b k i : ℕ) → n b ≡ Some k → i < l.block → IsIn at len (b * l.block + i) → Puts at from (b * l.block + i) (w (place l k (1 + i)))
+  new_bytes : (b k i : ℕ) → n b ≡ Some k → i < l.block → M (b * l.block + i) → W (b * l.block + i) (w (place l k (1 + i)))
   new_bytes b k i has within here =
-      (here, data_same b k i has within ∙ (put.each b).data_is k has i (sector from (b * l.block + i - at)) within (here, refl))
+      let some = given.some (b * l.block + i) here in
+      let is : w (place l k (1 + i)) ≡ some.0 = data_same b k i has within ∙ (put.each b).data_is k has i some.0 within some.1 in
+      let P : List ℕ → Type 0 = λ x. W (b * l.block + i) x in
+      subst P (sym is) some.1
 
   module _ (b i : ℕ) (below : b < l.entries) (small : i < l.block) where
     abbrev Goal : Type 0
-    Goal = (value w b i ≡ value r b i) ⊎ ((bytes : List ℕ) × Puts at from (b * l.block + i) bytes × (value w b i ≡ Some bytes))
+    Goal = (value w b i ≡ value r b i) ⊎ ((bytes : List ℕ) × W (b * l.block + i) bytes × (value w b i ≡ Some bytes))
 
     near : b < entries_in_sectors l
     near = in_entries l b below
@@ -134,7 +132,7 @@ module _ (l : Layout) (ok : IsLayout l) (at : ℕ) (from : List ℕ) (m n : Slot
         let grown = put.grown b k has in
         let was : entry r b ≡ code l (Some k) = image.table b near ∙ ap (code l) has in
         let is : entry w b ≡ code l (Some k) = ⊎_elim (λ e. e ∙ ap (code l) has) (λ e. e ∙ ap (code l) grown) (entry_is b near) in
-        let bitmap : q (place l k 0) ≡ r (place l k 0) = first-bitmap l ok at from m image.slots r q first_pass image.head.room b k has in
+        let bitmap : q (place l k 0) ≡ r (place l k 0) = first-bitmap l ok W m image.slots r q first_pass image.head.room b k has in
         ⊎_elim
         (λ here.
         ⊎_elim
@@ -146,10 +144,10 @@ module _ (l : Layout) (ok : IsLayout l) (at : ℕ) (from : List ℕ) (m n : Slot
         (cases_Bool (is_set (w (place l k 0)) i)))
         (λ away. ⊎_elim
         (λ bits. inl (held_same k has was is (bits ∙ ap (λ x. is_set x i) bitmap)
-        (data_same b k i grown small ∙ ⊎_elim (λ e. e) (λ h. absurd (away h.0)) (first-data l ok at from m image.slots r q first_pass image.head.room b k i has small))))
+        (data_same b k i grown small ∙ ⊎_elim (λ e. e) (λ h. absurd (away (given.inside (b * l.block + i) _ h))) (first-data l ok W m image.slots r q first_pass image.head.room b k i has small))))
         (λ h. absurd (away h.2))
         (bits_more b k grown i))
-        (in_or_not at len (b * l.block + i))
+        (given.either (b * l.block + i))
 
     -- a block that had none, and whose entry names a slot now
     fresh : (k : ℕ) → m b ≡ None → n b ≡ Some k → value r b i ≡ None → entry w b ≡ code l (Some k) → Goal
@@ -163,7 +161,7 @@ module _ (l : Layout) (ok : IsLayout l) (at : ℕ) (from : List ℕ) (m n : Slot
         (λ bits. absurd (away (new.only i (sym bits ∙ set)).1))
         (λ h. absurd (away h.2))
         (bits_more b k has i))
-        (in_or_not at len (b * l.block + i)))
+        (given.either (b * l.block + i)))
         (λ unset. inl (value-unset l w b k i ok low is unset ∙ sym was))
         (cases_Bool (is_set (w (place l k 0)) i))
 
@@ -181,7 +179,7 @@ module _ (l : Layout) (ok : IsLayout l) (at : ℕ) (from : List ℕ) (m n : Slot
     one_value : Goal
     one_value = ⊎_elim without (λ has. held has.0 has.1) (option_cases (m b))
 
-  pub rest-values : StepsValue l (Puts at from) r w
+  pub rest-values : StepsValue l (W) r w
   rest-values b i below small = one_value b i below small
 
   -- ---- each slot holds a sector
@@ -199,7 +197,7 @@ module _ (l : Layout) (ok : IsLayout l) (at : ℕ) (from : List ℕ) (m n : Slot
           let is : entry w b ≡ place l k 0 = ⊎_elim (λ e. e ∙ ap (code l) has) (λ e. e ∙ ap (code l) grown) (entry_is b near) in
           let low = place-small l k ok (image.slots.fits b k has).0 in
           let old = h.holds b below (λ e. omega (arith, low, was, e)) in
-          let bitmap : q (place l k 0) ≡ r (place l k 0) = first-bitmap l ok at from m image.slots r q first_pass image.head.room b k has in
+          let bitmap : q (place l k 0) ≡ r (place l k 0) = first-bitmap l ok W m image.slots r q first_pass image.head.room b k has in
           (old.0, old.1, ap (λ p. is_set (w p) old.0) is ∙ still b k old.0 grown (ap (λ x. is_set x old.0) bitmap ∙ (ap (λ p. is_set (r p) old.0) (sym was) ∙ old.2)))
       go b below near filled (inl none) = ⊎_elim
           (λ empty. absurd (filled empty))
@@ -246,7 +244,7 @@ module _ (l : Layout) (ok : IsLayout l) (at : ℕ) (from : List ℕ) (m n : Slot
     };
   } in image')
 
-  pub rest-follows : Follows l (Puts at from) r w
+  pub rest-follows : Follows l (W) r w
   rest-follows = follows-from_values ok rest-head (valid-from_image l ok image) rest-values rest-holds
 
   -- ---- all of it is written

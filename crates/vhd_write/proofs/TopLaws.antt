@@ -4,7 +4,7 @@ use Rattle.std.proofs.Common.{◌≡◌, ◌≢◌, ℕ, ◌+◌, ◌-◌, ◌*�
 use Rattle.std.specs.Bool.{OnTrue}
 use Rattle.std.proofs.lemmas.Bool.{cases_lt}
 use Rattle.sm_base.specs.declared.sizes.Geometry.{Geometry}
-use Rattle.sm_disk.specs.Held.{Held, IsWhole, Puts, SameHeld, Reaches, reads}
+use Rattle.sm_disk.specs.Held.{Held, IsIn, IsWhole, Puts, SameHeld, Reaches, reads}
 use Rattle.sm_disk.proofs.HeldLaws.{reads-same}
 use Rattle.sm_disk.proofs.ReachesLaws.{Reaches-then, Reaches-wider, Reaches-same}
 use Rattle.vhd_map.specs.Slots.{slot_of, top_of}
@@ -20,6 +20,7 @@ use Rattle.vhd_write.specs.WriteSpans.{IsSpanOf}
 use Rattle.vhd_write.specs.declared.spans.Span.{Span}
 use Rattle.vhd_write.proofs.MapLaws.{with_blocks-held}
 use Rattle.vhd_write.proofs.LoopLaws.{span-order}
+use Rattle.vhd_write.proofs.GivenLaws.{IsGivenBy, IsWithin, given-puts, span-within}
 use Rattle.vhd_write.proofs.FirstLaws.{first-bitmap}
 use Rattle.vhd_write.proofs.RestLaws.{AllPut}
 use Rattle.vhd_write.proofs.PlaceLaws.{places-as, rest-places}
@@ -27,12 +28,12 @@ use Rattle.vhd_write.proofs.HeadLaws.{heads-first, heads-after}
 use Rattle.vhd_write.proofs.ExitLaws.{ShowsAll, guarded-first, true-first, written-first, shows-first, guarded-after, true-after, written-after, table-after, shows-after, all-put, new-slots}
 
 -- the first pass, behind the reads of the bitmaps
-pub first-places : {l l' : Layout} {s : ℕ} {a b c : Held} (from : List ℕ) (m n : Slots) → l' ≡ l → SameHeld a b → KeepsToPlaces l' s from m n b c → KeepsToPlaces l s from m n a c
-first-places {l} {l'} {s} {a} {b} {c} from m n e same r = Reaches-then (Reaches-same (IsWritePlace l s from m n (reads a)) same)
-    (Reaches-wider (places-as l s from m n (λ p. reads-same same p)) (subst (λ x. KeepsToPlaces x s from m n b c) e r))
+pub first-places : {l l' : Layout} {a b c : Held} (W : ℕ → List ℕ → Type 0) (M : ℕ → Type 0) (m n : Slots) → l' ≡ l → SameHeld a b → KeepsToPlaces l' W M m n b c → KeepsToPlaces l W M m n a c
+first-places {l} {l'} {a} {b} {c} W M m n e same r = Reaches-then (Reaches-same (IsWritePlace l W M m n (reads a)) same)
+    (Reaches-wider (places-as l W M m n (λ p. reads-same same p)) (subst (λ x. KeepsToPlaces x W M m n b c) e r))
 
-pub first-puts : {l l' : Layout} {s : ℕ} {a b c : Held} (from : List ℕ) (m : Slots) → l' ≡ l → SameHeld a b → Reaches (PutsData l' s from m) b c → Reaches (PutsData l s from m) a c
-first-puts {l} {l'} {s} {a} {b} {c} from m e same r = Reaches-then (Reaches-same (PutsData l s from m) same) (subst (λ x. Reaches (PutsData x s from m) b c) e r)
+pub first-puts : {l l' : Layout} {a b c : Held} (W : ℕ → List ℕ → Type 0) (m : Slots) → l' ≡ l → SameHeld a b → Reaches (PutsData l' W m) b c → Reaches (PutsData l W m) a c
+first-puts {l} {l'} {a} {b} {c} W m e same r = Reaches-then (Reaches-same (PutsData l W m) same) (subst (λ x. Reaches (PutsData x W m) b c) e r)
 
 -- a block's entry: it had a slot, or its sector of the table was written
 entry-cases : (held : Bool) (first end : ℕ) (m n : List (Option ℕ)) (T : ℕ → Type 0) → OnTrue held ((b : ℕ) → first ≤ b → b < end → slot_of m b ≢ None) → HasGrown m n
@@ -57,8 +58,14 @@ module _ {geo : Geometry} {n0 : ℕ} {head : Head} {m : List (Option ℕ)} {at :
   spans : IsSpan geo.block span.sector span.count span.first span.end
   spans = subst (λ b. IsSpan b span.sector span.count span.first span.end) fits.block span.in_range
 
-  within : 512 * span.sector + length from ≤ 512 * (disk_blocks geo head.footer * geo.block)
-  within = omega (arith, whole.within, stands.size, fits.sector)
+  by : IsGivenBy (Puts span.sector from) (IsIn span.sector (length from))
+  by = given-puts span.sector from
+
+  in_span : IsWithin l (IsIn span.sector (length from)) span.first span.end
+  in_span = span-within l from spans long
+
+  within : (s : ℕ) → IsIn span.sector (length from) s → s < disk_blocks geo head.footer * geo.block
+  within s here = omega (arith, here.1, whole.within, stands.size, fits.sector)
 
   -- the blocks that the write touches
   map-is : with_blocks span.first (span.end - span.first) m ≡ written_map geo.block at (length from) m
@@ -91,72 +98,72 @@ module _ {geo : Geometry} {n0 : ℕ} {head : Head} {m : List (Option ℕ)} {at :
     }
 
   -- the places that the write may put anything at, by the map that it ends with
-  pub places-now : {old mid : Held} → KeepsToPlaces (layout_in geo head.footer n0) span.sector from (slot_of m) (slot_of (with_blocks span.first (span.end - span.first) m)) old mid
-      → KeepsToPlaces (layout_in geo head.footer n0) at from (slot_of m) (slot_of (written_map geo.block at (length from) m)) old mid
-  places-now {old} {mid} p = subst₂ (λ s x. KeepsToPlaces l s from (slot_of m) (slot_of x) old mid) fits.sector map-is p
+  pub places-now : {old mid : Held} → KeepsToPlaces (layout_in geo head.footer n0) (Puts span.sector from) (IsIn span.sector (length from)) (slot_of m) (slot_of (with_blocks span.first (span.end - span.first) m)) old mid
+      → KeepsToPlaces (layout_in geo head.footer n0) (Puts at from) (IsIn at (length from)) (slot_of m) (slot_of (written_map geo.block at (length from) m)) old mid
+  places-now {old} {mid} p = subst₂ (λ s x. KeepsToPlaces l (Puts s from) (IsIn s (length from)) (slot_of m) (slot_of x) old mid) fits.sector map-is p
 
-  module _ {old mid : Held} (was : IsTrueOf (layout_in geo head.footer n0) old head (slot_of m)) (r : Reaches (PutsData (layout_in geo head.footer n0) span.sector from (slot_of m)) old mid) where
+  module _ {old mid : Held} (was : IsTrueOf (layout_in geo head.footer n0) old head (slot_of m)) (r : Reaches (PutsData (layout_in geo head.footer n0) (Puts span.sector from) (slot_of m)) old mid) where
     pub guarded-now : IsGuarded l (Puts at from) old mid
-    guarded-now = subst (λ x. IsGuarded l (Puts x from) old mid) fits.sector (guarded-first l ok span.sector from head m old was r)
+    guarded-now = subst (λ x. IsGuarded l (Puts x from) old mid) fits.sector (guarded-first l ok (Puts span.sector from) (IsIn span.sector (length from)) by head m old was r)
 
     pub heads-now : KeepsHeads n0 old mid
-    heads-now = heads-first l ok span.sector was.now.head.room from (slot_of m) was.now.slots r
+    heads-now = heads-first l ok was.now.head.room (Puts span.sector from) (slot_of m) was.now.slots r
 
-    module _ {n : List (Option ℕ)} (given : Given span.first span.end m n) (put : ArePut (layout_in geo head.footer n0) span.sector from (slot_of m) (slot_of n) span.end (reads mid)) where
+    module _ {n : List (Option ℕ)} (given : Given span.first span.end m n) (put : ArePut (layout_in geo head.footer n0) (Puts span.sector from) (IsIn span.sector (length from)) (slot_of m) (slot_of n) span.end (reads mid)) where
       -- ---- all bits were set already
 
-      module _ {told : Type 0} (tells : told) (full : (b : ℕ) → span.first ≤ b → b < span.end → IsFull told (layout_in geo head.footer n0) span.sector (512 * span.count) (slot_of m) b (reads old)) where
+      module _ {told : Type 0} (tells : told) (full : (b : ℕ) → span.first ≤ b → b < span.end → IsFull told (layout_in geo head.footer n0) (IsIn span.sector (512 * span.count)) (slot_of m) b (reads old)) where
         same-map : n ≡ m
         same-map = given.is ∙ with_blocks-held span.first (span.end - span.first) m (λ b low high. let f = full b low (omega arith) in (f.0, f.1))
 
         pub still-now : IsTrueOf l mid head (slot_of n)
-        still-now = subst (λ x. IsTrueOf l mid head (slot_of x)) (sym same-map) (true-first l ok span.sector from head m old was r)
+        still-now = subst (λ x. IsTrueOf l mid head (slot_of x)) (sym same-map) (true-first l ok (Puts span.sector from) (IsIn span.sector (length from)) by head m old was r)
 
-        shows : ShowsAll l span.sector from (slot_of m) (reads mid)
-        shows = shows-first l ok span.sector from head m old was r spans long
-            (λ b low high. let f = full b low high in (f.0, f.1, subst (λ x. HasBits l span.sector x b (reads old (place l f.0 0))) (sym long) (f.2 tells)))
-            (subst (λ x. ArePut l span.sector from (slot_of m) (slot_of x) span.end (reads mid)) same-map put)
+        shows : ShowsAll l (Puts span.sector from) (IsIn span.sector (length from)) (slot_of m) (reads mid)
+        shows = shows-first l ok (Puts span.sector from) (IsIn span.sector (length from)) by head m old was r in_span
+            (λ b low high. let f = full b low high in (f.0, f.1, subst (λ x. HasBits l (IsIn span.sector x) b (reads old (place l f.0 0))) (sym long) (f.2 tells)))
+            (subst (λ x. ArePut l (Puts span.sector from) (IsIn span.sector (length from)) (slot_of m) (slot_of x) span.end (reads mid)) same-map put)
 
-        pub written-now : HasWritten l at from old mid
-        written-now = subst (λ x. HasWritten l x from old mid) fits.sector (written-first l ok span.sector from head m old was r within shows)
+        pub written-now : HasWritten l (Puts at from) old mid
+        written-now = subst (λ x. HasWritten l (Puts x from) old mid) fits.sector (written-first l ok (Puts span.sector from) (IsIn span.sector (length from)) by head m old was r within shows)
 
       -- ---- behind the sync
 
       slots-now : IsSlots l (slot_of n)
       slots-now = new-slots l m n was.now.slots given fits.most (given.grown.long ∙ stands.entries) (new-room given)
 
-      puts : AllPut l span.sector from (slot_of m) (slot_of n) (reads mid)
-      puts = all-put l span.sector from m n (reads mid) spans long given put
+      puts : AllPut l (Puts span.sector from) (IsIn span.sector (length from)) (slot_of m) (slot_of n) (reads mid)
+      puts = all-put l (Puts span.sector from) (IsIn span.sector (length from)) by m n (reads mid) in_span given put
 
       module _ {l' : Layout} (same : l' ≡ layout_in geo head.footer n0) {new : Held} where
-        pub guarded-then : GoesOn l' span.sector (512 * span.count) (slot_of n) mid new → IsGuarded l (Puts at from) old new
-        guarded-then goes = subst (λ x. IsGuarded l (Puts x from) old new) fits.sector (guarded-after l ok span.sector from head m old was n slots-now mid r puts
-            (subst₂ (λ y x. GoesOn y span.sector x (slot_of n) mid new) same (sym long) goes))
+        pub guarded-then : GoesOn l' (IsIn span.sector (512 * span.count)) (slot_of n) mid new → IsGuarded l (Puts at from) old new
+        guarded-then goes = subst (λ x. IsGuarded l (Puts x from) old new) fits.sector (guarded-after l ok (Puts span.sector from) (IsIn span.sector (length from)) by head m old was n slots-now mid r puts
+            (subst₂ (λ y x. GoesOn y (IsIn span.sector x) (slot_of n) mid new) same (sym long) goes))
 
-        pub places-then : KeepsToPlaces (layout_in geo head.footer n0) span.sector from (slot_of m) (slot_of (with_blocks span.first (span.end - span.first) m)) old mid
-            → GoesOn l' span.sector (512 * span.count) (slot_of n) mid new
-            → KeepsToPlaces (layout_in geo head.footer n0) at from (slot_of m) (slot_of (written_map geo.block at (length from) m)) old new
-        places-then p goes = subst₂ (λ s x. KeepsToPlaces l s from (slot_of m) (slot_of x) old new) fits.sector (new-map given)
-            (rest-places l span.sector from (slot_of m) (slot_of n) old mid puts (first-bitmap l ok span.sector from (slot_of m) was.now.slots (reads old) (reads mid) (λ p below. r.gives p) was.now.head.room)
-            (subst (λ x. KeepsToPlaces l span.sector from (slot_of m) (slot_of x) old mid) (sym given.is) p)
-            (subst₂ (λ y x. GoesOn y span.sector x (slot_of n) mid new) same (sym long) goes))
+        pub places-then : KeepsToPlaces (layout_in geo head.footer n0) (Puts span.sector from) (IsIn span.sector (length from)) (slot_of m) (slot_of (with_blocks span.first (span.end - span.first) m)) old mid
+            → GoesOn l' (IsIn span.sector (512 * span.count)) (slot_of n) mid new
+            → KeepsToPlaces (layout_in geo head.footer n0) (Puts at from) (IsIn at (length from)) (slot_of m) (slot_of (written_map geo.block at (length from) m)) old new
+        places-then p goes = subst₂ (λ s x. KeepsToPlaces l (Puts s from) (IsIn s (length from)) (slot_of m) (slot_of x) old new) fits.sector (new-map given)
+            (rest-places l (Puts span.sector from) (IsIn span.sector (length from)) (slot_of m) (slot_of n) old mid puts (first-bitmap l ok (Puts span.sector from) (slot_of m) was.now.slots (reads old) (reads mid) (λ p below. r.gives p) was.now.head.room)
+            (subst (λ x. KeepsToPlaces l (Puts span.sector from) (IsIn span.sector (length from)) (slot_of m) (slot_of x) old mid) (sym given.is) p)
+            (subst₂ (λ y x. GoesOn y (IsIn span.sector x) (slot_of n) mid new) same (sym long) goes))
 
-        pub heads-then : GoesOn l' span.sector (512 * span.count) (slot_of n) mid new → KeepsHeads n0 old new
-        heads-then goes = heads-after l ok span.sector was.now.head.room (512 * span.count) (slot_of n) slots-now heads-now
-            (subst (λ y. GoesOn y span.sector (512 * span.count) (slot_of n) mid new) same goes)
+        pub heads-then : GoesOn l' (IsIn span.sector (512 * span.count)) (slot_of n) mid new → KeepsHeads n0 old new
+        heads-then goes = heads-after l ok was.now.head.room (IsIn span.sector (512 * span.count)) (slot_of n) slots-now heads-now
+            (subst (λ y. GoesOn y (IsIn span.sector (512 * span.count)) (slot_of n) mid new) same goes)
 
-        module _ {held : Bool} (had : OnTrue held ((b : ℕ) → span.first ≤ b → b < span.end → slot_of m b ≢ None)) (done : IsFinished l' span.sector (512 * span.count) (slot_of n) span.first span.end held mid new) where
-          finished : IsFinished l span.sector (length from) (slot_of n) span.first span.end held mid new
-          finished = subst₂ (λ y x. IsFinished y span.sector x (slot_of n) span.first span.end held mid new) same (sym long) done
+        module _ {held : Bool} (had : OnTrue held ((b : ℕ) → span.first ≤ b → b < span.end → slot_of m b ≢ None)) (done : IsFinished l' (IsIn span.sector (512 * span.count)) (slot_of n) span.first span.end held mid new) where
+          finished : IsFinished l (IsIn span.sector (length from)) (slot_of n) span.first span.end held mid new
+          finished = subst₂ (λ y x. IsFinished y (IsIn span.sector x) (slot_of n) span.first span.end held mid new) same (sym long) done
 
           table : (b : ℕ) → b < entries_in_sectors l → entry (reads new) b ≡ code l (slot_of n b)
-          table = table-after l ok span.sector from head m old was n slots-now mid r puts finished.goes given
+          table = table-after l ok (Puts span.sector from) (IsIn span.sector (length from)) by head m old was n slots-now mid r puts finished.goes given
               (entry-cases held span.first span.end m n (λ index. IsTableSector l (slot_of n) index (reads new (3 + index))) had given.grown finished.table)
 
           pub still-then : IsTrueOf l new head (slot_of n)
-          still-then = true-after l ok span.sector from head m old was n slots-now mid r puts finished.goes table
+          still-then = true-after l ok (Puts span.sector from) (IsIn span.sector (length from)) by head m old was n slots-now mid r puts finished.goes table
 
-          pub written-then : HasWritten l at from old new
-          written-then = subst (λ x. HasWritten l x from old new) fits.sector
-              (written-after l ok span.sector from head m old was n slots-now mid r puts finished.goes table within
-              (shows-after l ok span.sector from head m old was n slots-now mid r puts finished.goes spans long given finished.bits))
+          pub written-then : HasWritten l (Puts at from) old new
+          written-then = subst (λ x. HasWritten l (Puts x from) old new) fits.sector
+              (written-after l ok (Puts span.sector from) (IsIn span.sector (length from)) by head m old was n slots-now mid r puts finished.goes table within
+              (shows-after l ok (Puts span.sector from) (IsIn span.sector (length from)) by head m old was n slots-now mid r puts finished.goes in_span given finished.bits))

@@ -1,7 +1,7 @@
 -- The span of a write into a disk.
 use Rattle.std.specs.Prelude.{◌≡◌, ℕ, ◌*◌, ◌/◌, ◌<◌, ◌≤◌, Bool, List, Option}
 use Rattle.sm_base.specs.declared.sizes.Geometry.{Geometry}
-use Rattle.sm_disk.specs.Held.{Held, reads}
+use Rattle.sm_disk.specs.Held.{Held, IsIn, reads}
 use Rattle.vg_volumes.specs.Stored.{stored, held_in}
 use Rattle.vg_volumes.specs.declared.stores.Store.{Ghosts}
 use Rattle.vhd_fields.specs.declared.footers.Footer.{Footer}
@@ -22,7 +22,7 @@ pub record IsSpanOf (g : Geometry) (footer : Footer) (at len : ℕ) (span : Span
 -- by this map block b has a slot of the image in the store, with the bits of the written sectors all set
 abbrev pub IsFullNow : {S : Type 0} → Ghosts S → S → Head → Span → List (Option ℕ) → ℕ → Type 0
 IsFullNow g s head span m b =
-    IsFull g.told (layout_now (stored g s) head) span.sector (512 * span.count) (slot_of m) b (reads (held_in (stored g s) head.volume))
+    IsFull g.told (layout_now (stored g s) head) (IsIn span.sector (512 * span.count)) (slot_of m) b (reads (held_in (stored g s) head.volume))
 
 -- so has each block of the span
 abbrev pub AreFullNow : {S : Type 0} → Ghosts S → S → Head → Span → List (Option ℕ) → Type 0
@@ -30,8 +30,8 @@ AreFullNow g s head span m = (b : ℕ) → span.first ≤ b → b < span.end →
 
 -- in each block of the span the bits of the written sectors are set
 abbrev pub AreSetIn : Layout → Span → Slots → Sectors → Type 0
-AreSetIn l span m r = AreAllSet l span.sector (512 * span.count) m span.first span.end r
+AreSetIn l span m r = AreAllSet l (IsIn span.sector (512 * span.count)) m span.first span.end r
 
 -- the write with this span is finished
 abbrev pub IsFinishedIn : Layout → Span → Slots → Bool → Held → Held → Type 0
-IsFinishedIn l span m held old new = IsFinished l span.sector (512 * span.count) m span.first span.end held old new
+IsFinishedIn l span m held old new = IsFinished l (IsIn span.sector (512 * span.count)) m span.first span.end held old new

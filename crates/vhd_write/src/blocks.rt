@@ -1,7 +1,7 @@
 //! The first pass: the bytes of each block, into its slot or a new one, which gets a bitmap too.
 
 ghost use Rattle.std.specs.Prelude.{◌≡◌, ◌≢◌, ◌⊎◌, ℕ, ◌+◌, ◌-◌, ◌*◌, ◌<◌, ◌≤◌, length, None, Some, slice_set, OnOk, OnErr, IfOk};
-ghost use Rattle.sm_disk.specs.Held.{Reaches};
+ghost use Rattle.sm_disk.specs.Held.{IsIn, Puts, Reaches};
 ghost use Rattle.vhd_map.specs.Slots.{slot_of, top_of, least_free_slot, IsMap};
 ghost use Rattle.vg_volumes.specs.Stored.{stored, WorksOn, Counts};
 ghost use Rattle.vhd_volumes.specs.Steps.{Does, Gives};
@@ -85,10 +85,12 @@ fn put_block<S: Store>(
     ensures put { OnOk result (map.new ≡ with_block block map.old) }
     ensures kept { OnErr result (map.new ≡ map.old) }
     ensures reaches { Does S.Store head.now.volume
-        (Reaches (PutsBlock (layout_now (stored S.Store store.old) head.now) span.now.sector from.now map.old block))
+        (Reaches (PutsBlock (layout_now (stored S.Store store.old) head.now) (Puts span.now.sector from.now)
+        (IsIn span.now.sector (length from.now)) map.old block))
         store.old store.new }
     ensures done { OnOk result (Gives S.Store head.now.volume
-        (IsPut (layout_now (stored S.Store store.old) head.now) span.now.sector from.now (slot_of map.old block)
+        (IsPut (layout_now (stored S.Store store.old) head.now) (Puts span.now.sector from.now)
+        (IsIn span.now.sector (length from.now)) (slot_of map.old block)
         (slot_of map.new block) block) store.new) }
 {
     let geometry = store.geometry();
@@ -123,13 +125,15 @@ pub(crate) fn put_blocks<S: Store>(
     ensures grown { HasGrown map.old map.new }
     ensures given { OnOk result (Given span.now.first span.now.end map.old map.new) }
     ensures reaches { Does S.Store head.now.volume
-        (Reaches (PutsData (layout_now (stored S.Store store.old) head.now) span.now.sector from.now
+        (Reaches (PutsData (layout_now (stored S.Store store.old) head.now) (Puts span.now.sector from.now)
         (slot_of map.old))) store.old store.new }
     ensures places { Does S.Store head.now.volume
-        (KeepsToPlaces (layout_now (stored S.Store store.old) head.now) span.now.sector from.now (slot_of map.old)
+        (KeepsToPlaces (layout_now (stored S.Store store.old) head.now) (Puts span.now.sector from.now)
+        (IsIn span.now.sector (length from.now)) (slot_of map.old)
         (slot_of (with_blocks span.now.first (span.now.end - span.now.first) map.old))) store.old store.new }
     ensures done { OnOk result (Gives S.Store head.now.volume
-        (ArePut (layout_now (stored S.Store store.old) head.now) span.now.sector from.now (slot_of map.old)
+        (ArePut (layout_now (stored S.Store store.old) head.now) (Puts span.now.sector from.now)
+        (IsIn span.now.sector (length from.now)) (slot_of map.old)
         (slot_of map.new) span.now.end) store.new) }
 {
     for block in span.first..span.end {

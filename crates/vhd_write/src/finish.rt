@@ -2,7 +2,7 @@
 
 ghost use Rattle.std.specs.Prelude.{◌≡◌, ◌≢◌, ℕ, ◌+◌, ◌-◌, ◌*◌, ◌/◌, ◌<◌, ◌≤◌, length, None, Some, false, OnOk, OnErr, IfOk};
 ghost use Rattle.std.specs.Bool.{OnTrue, OnFalse};
-ghost use Rattle.sm_disk.specs.Held.{SameHeld};
+ghost use Rattle.sm_disk.specs.Held.{IsIn, SameHeld};
 ghost use Rattle.vhd_map.specs.Slots.{slot_of, top_of, IsMap};
 ghost use Rattle.vg_volumes.specs.Stored.{stored, WorksOn, Counts};
 ghost use Rattle.vhd_write.specs.WriteSpans.{IsFullNow, AreFullNow, AreSetIn, IsFinishedIn};
@@ -88,10 +88,10 @@ fn set_bitmap<S: Store>(
     ensures works { WorksOn S.Store head.now.volume store.old store.new }
     ensures cause { Counts S.Store result store.old store.new }
     ensures reaches { Does S.Store head.now.volume
-        (SetsBits (layout_now (stored S.Store store.old) head.now) span.now.sector (512 * span.now.count)
+        (SetsBits (layout_now (stored S.Store store.old) head.now) (IsIn span.now.sector (512 * span.now.count))
         (slot_of map.now block) block) store.old store.new }
     ensures done { OnOk result (Gives S.Store head.now.volume
-        (AreSet (layout_now (stored S.Store store.old) head.now) span.now.sector (512 * span.now.count)
+        (AreSet (layout_now (stored S.Store store.old) head.now) (IsIn span.now.sector (512 * span.now.count))
         (slot_of map.now block) block) store.new) }
 {
     let Some(slot) = map.slot(block) else {
@@ -118,7 +118,7 @@ fn set_bitmaps<S: Store>(store: &mut S, head: &Head, map: &Map, span: &Span) -> 
     ensures works { WorksOn S.Store head.now.volume store.old store.new }
     ensures cause { Counts S.Store result store.old store.new }
     ensures reaches { Does S.Store head.now.volume
-        (SetsAllBits (layout_now (stored S.Store store.old) head.now) span.now.sector (512 * span.now.count)
+        (SetsAllBits (layout_now (stored S.Store store.old) head.now) (IsIn span.now.sector (512 * span.now.count))
         (slot_of map.now)) store.old store.new }
     ensures done { OnOk result (Gives S.Store head.now.volume
         (AreSetIn (layout_now (stored S.Store store.old) head.now) span.now (slot_of map.now)) store.new) }
@@ -145,7 +145,7 @@ pub(crate) fn finish<S: Store>(
     ensures works { WorksOn S.Store head.now.volume store.old store.new }
     ensures cause { Counts S.Store result store.old store.new }
     ensures goes { Does S.Store head.now.volume
-        (GoesOn (layout_now (stored S.Store store.old) head.now) span.now.sector (512 * span.now.count)
+        (GoesOn (layout_now (stored S.Store store.old) head.now) (IsIn span.now.sector (512 * span.now.count))
         (slot_of map.now)) store.old store.new }
     ensures done { OnOk result (Does S.Store head.now.volume
         (IsFinishedIn (layout_now (stored S.Store store.old) head.now) span.now

@@ -1,7 +1,7 @@
 //! The third pass: the table, from the map in memory.
 
 ghost use Rattle.std.specs.Prelude.{◌≡◌, ◌≢◌, ℕ, ◌+◌, ◌-◌, ◌*◌, ◌/◌, ◌<◌, ◌≤◌, length, OnOk, OnErr, IfOk};
-ghost use Rattle.sm_disk.specs.Held.{Reaches, reads};
+ghost use Rattle.sm_disk.specs.Held.{IsIn, Reaches, reads};
 ghost use Rattle.vhd_map.specs.Slots.{slot_of, top_of};
 ghost use Rattle.vg_volumes.specs.Stored.{stored, WorksOn, Counts};
 ghost use Rattle.vhd_volumes.specs.Steps.{Does, Gives};
@@ -54,7 +54,7 @@ pub(crate) fn put_table<S: Store>(
     ensures works { WorksOn S.Store head.now.volume store.old store.new }
     ensures cause { Counts S.Store result store.old store.new }
     ensures reaches { Does S.Store head.now.volume
-        (Reaches (PutsTable (layout_now (stored S.Store store.old) head.now) span.now.sector (512 * span.now.count)
+        (Reaches (PutsTable (layout_now (stored S.Store store.old) head.now) (IsIn span.now.sector (512 * span.now.count))
         (slot_of map.now))) store.old store.new }
     ensures done { OnOk result (Gives S.Store head.now.volume
         (AreTableSectors (layout_now (stored S.Store store.old) head.now)

@@ -2,7 +2,7 @@
 
 ghost use Rattle.std.specs.Prelude.{◌≡◌, ◌≢◌, ℕ, ◌+◌, ◌-◌, ◌*◌, ◌/◌, ◌<◌, ◌≤◌, length, None, Some, true, false, OnOk, OnErr, IfOk};
 ghost use Rattle.std.specs.Bool.{OnTrue};
-ghost use Rattle.sm_disk.specs.Held.{IsWhole, Puts, Reaches};
+ghost use Rattle.sm_disk.specs.Held.{IsIn, IsWhole, Puts, Reaches};
 ghost use Rattle.vhd_map.specs.Slots.{slot_of, top_of, IsMap};
 ghost use Rattle.vg_volumes.specs.Stored.{stored, sectors_in, WorksOn, Counts};
 ghost use Rattle.vhd_volumes.specs.Steps.{Holds, Does, Gives};
@@ -83,13 +83,15 @@ fn first_pass<S: Store>(
     ensures grown { HasGrown map.old map.new }
     ensures given { OnOk result (Given span.now.first span.now.end map.old map.new) }
     ensures reaches { Does S.Store head.now.volume
-        (Reaches (PutsData (layout_now (stored S.Store store.old) head.now) span.now.sector from.now
+        (Reaches (PutsData (layout_now (stored S.Store store.old) head.now) (Puts span.now.sector from.now)
         (slot_of map.old))) store.old store.new }
     ensures places { Does S.Store head.now.volume
-        (KeepsToPlaces (layout_now (stored S.Store store.old) head.now) span.now.sector from.now (slot_of map.old)
+        (KeepsToPlaces (layout_now (stored S.Store store.old) head.now) (Puts span.now.sector from.now)
+        (IsIn span.now.sector (length from.now)) (slot_of map.old)
         (slot_of (with_blocks span.now.first (span.now.end - span.now.first) map.old))) store.old store.new }
     ensures done { OnOk result (Gives S.Store head.now.volume
-        (ArePut (layout_now (stored S.Store store.old) head.now) span.now.sector from.now (slot_of map.old)
+        (ArePut (layout_now (stored S.Store store.old) head.now) (Puts span.now.sector from.now)
+        (IsIn span.now.sector (length from.now)) (slot_of map.old)
         (slot_of map.new) span.now.end) store.new) }
     ensures full { IfOk result (λ full. OnTrue full (AreFullNow S.Store store.old head.now span.now map.old)) }
 {
@@ -130,7 +132,8 @@ pub fn write<S: Store>(
     ensures guarded { Does S.Store head.now.volume
         (IsGuarded (layout_now (stored S.Store store.old) head.now) (Puts sector from.now)) store.old store.new }
     ensures places { Does S.Store head.now.volume
-        (KeepsToPlaces (layout_now (stored S.Store store.old) head.now) sector from.now (slot_of map.old)
+        (KeepsToPlaces (layout_now (stored S.Store store.old) head.now) (Puts sector from.now)
+        (IsIn sector (length from.now)) (slot_of map.old)
         (slot_of (written_map (S.site store.old).geometry.block sector (length from.now) map.old))) store.old store.new }
     ensures heads { Does S.Store head.now.volume
         (KeepsHeads (sectors_in (stored S.Store store.old) head.now.volume)) store.old store.new }
@@ -140,7 +143,7 @@ pub fn write<S: Store>(
     ensures still { OnOk result (Holds S.Store head.now.volume
         (λ h. IsTrueOf (layout_now (stored S.Store store.old) head.now) h head.now (slot_of map.new)) store.new) }
     ensures written { OnOk result (Does S.Store head.now.volume
-        (HasWritten (layout_now (stored S.Store store.old) head.now) sector from.now) store.old store.new) }
+        (HasWritten (layout_now (stored S.Store store.old) head.now) (Puts sector from.now)) store.old store.new) }
     ensures stands { OnOk result (StandsNow (stored S.Store store.old) head.now map.new) }
 {
     let span = span_of(store, head, sector, from);

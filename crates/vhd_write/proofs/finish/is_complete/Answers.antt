@@ -1,5 +1,5 @@
 use Rattle.std.proofs.Common.{◌∙◌, ◌≡◌, ◌*◌, true, subst, rules}
-use Rattle.sm_disk.specs.Held.{reads}
+use Rattle.sm_disk.specs.Held.{IsIn, reads}
 use Rattle.vhd_map.specs.Slots.{slot_of}
 use Rattle.sm_disk.proofs.HeldLaws.{SameHeld-then, reads-same}
 use Rattle.vg_volumes.specs.Stored.{stored, held_in}
@@ -22,11 +22,11 @@ loop-block-preserved g c =
     let s = c.args.span.now in
     let r = reads (held_in (stored g.S.Store c.loop-block.store) c.args.head.now.volume) in
     let set : c.in_ok-is_full.field-0 ≡ true = search rules in
-    let there = true_on {P = IsFull g.S.Store.told (layout_now (stored g.S.Store c.loop-block.store) c.args.head.now) c.args.span.now.sector (512 * c.args.span.now.count) (slot_of c.args.map.now) c.loop-block.block (reads (held_in (stored g.S.Store c.loop-block.store) c.args.head.now.volume))} c.in_ok-is_full.field-0 set c.in_ok-is_full.ensures.full in
-    let here = full-as (layout_now (stored g.S.Store c.args.store.now) c.args.head.now) s.sector (512 * s.count) c.loop-block.block (slot_of c.args.map.now) (subst (λ x. IsFull g.S.Store.told x s.sector (512 * s.count) (slot_of c.args.map.now) c.loop-block.block r) (works_layout c.args.head.now i.works) there) (λ told p. reads-same (i.same told) p) in
+    let there = true_on {P = IsFull g.S.Store.told (layout_now (stored g.S.Store c.loop-block.store) c.args.head.now) (IsIn c.args.span.now.sector (512 * c.args.span.now.count)) (slot_of c.args.map.now) c.loop-block.block (reads (held_in (stored g.S.Store c.loop-block.store) c.args.head.now.volume))} c.in_ok-is_full.field-0 set c.in_ok-is_full.ensures.full in
+    let here = full-as (layout_now (stored g.S.Store c.args.store.now) c.args.head.now) (IsIn s.sector (512 * s.count)) c.loop-block.block (slot_of c.args.map.now) (subst (λ x. IsFull g.S.Store.told x (IsIn s.sector (512 * s.count)) (slot_of c.args.map.now) c.loop-block.block r) (works_layout c.args.head.now i.works) there) (λ told p. reads-same (i.same told) p) in
     record {
       calm = c.in_ok-is_full.ensures.cause.1 ∙ i.calm;
       works = works_then i.works c.is_full.ensures.works;
       same = λ told. SameHeld-then (i.same told) (c.is_full.ensures.same told);
-      full = full-more (λ b. IsFull g.S.Store.told (layout_now (stored g.S.Store c.args.store.now) c.args.head.now) s.sector (512 * s.count) (slot_of c.args.map.now) b (reads (held_in (stored g.S.Store c.args.store.now) c.args.head.now.volume))) s.first c.loop-block.block i.full here;
+      full = full-more (λ b. IsFull g.S.Store.told (layout_now (stored g.S.Store c.args.store.now) c.args.head.now) (IsIn s.sector (512 * s.count)) (slot_of c.args.map.now) b (reads (held_in (stored g.S.Store c.args.store.now) c.args.head.now.volume))) s.first c.loop-block.block i.full here;
     }

@@ -1,5 +1,5 @@
 use Rattle.std.proofs.Common.{◌*◌, refl, sym, ap, ◌∙◌, subst}
-use Rattle.sm_disk.specs.Held.{reads}
+use Rattle.sm_disk.specs.Held.{IsIn, reads}
 use Rattle.vg_volumes.specs.Stored.{stored, held_in}
 use Rattle.vhd_volumes.specs.Truth.{layout_now}
 use Rattle.vhd_write.specs.Passes.{HasBits}
@@ -32,7 +32,7 @@ returns-clause-full g c =
     on_true c.has_bits.result (λ set. (
       slot,
       has,
-      λ told. subst (λ x. HasBits l s.sector (512 * s.count) c.args.block x)
+      λ told. subst (λ x. HasBits l (IsIn s.sector (512 * s.count)) c.args.block x)
           (c.in_ok-bitmap.ensures.gave told ∙ ap (reads (held_in (stored g.S.Store c.args.store.now) c.args.head.now.volume)) is)
           (bits-all l c.args.block s.sector (512 * s.count) p.first p.count p.skip part c.in_ok-bitmap.bitmap set),
     )) c.has_bits.ensures.all

@@ -1,5 +1,5 @@
 use Rattle.std.proofs.Common.{◌≡◌, ℕ, ◌+◌, ◌*◌, ◌<◌, ◌≤◌, true, refl, sym, ◌∙◌, arith}
-use Rattle.sm_disk.specs.Held.{reads}
+use Rattle.sm_disk.specs.Held.{IsIn, reads}
 use Rattle.vhd_map.specs.Slots.{slot_of}
 use Rattle.sm_disk.proofs.HeldLaws.{reads-same}
 use Rattle.vhd_map.specs.Bitmaps.{is_set}
@@ -34,7 +34,7 @@ returns-then-has_bits-clause-done g c = λ told.
     let below = slot-in l c.args.map.now c.args.block slot has c.requires.room in
     let set : (i : ℕ) → p.first ≤ i → i < p.first + p.count → is_set c.in_ok-bitmap.bitmap i ≡ true = c.if-has_bits.ensures.all in
     let read : reads (held_in (stored g.S.Store c.get.new.store) c.args.head.now.volume) c.place_of-at.result ≡ c.in_ok-bitmap.bitmap = reads-same (c.get.ensures.same told) c.place_of-at.result ∙ sym (c.in_ok-bitmap.ensures.gave told) in
-    bitmap-done l s.sector (512 * s.count) c.args.block slot c.place_of-at.result (slot_of c.args.map.now c.args.block) (reads (held_in (stored g.S.Store c.get.new.store) c.args.head.now.volume)) c.in_ok-bitmap.bitmap has is read
+    bitmap-done l (IsIn s.sector (512 * s.count)) c.args.block slot c.place_of-at.result (slot_of c.args.map.now c.args.block) (reads (held_in (stored g.S.Store c.get.new.store) c.args.head.now.volume)) c.in_ok-bitmap.bitmap has is read
     (bits-all l c.args.block s.sector (512 * s.count) p.first p.count p.skip part c.in_ok-bitmap.bitmap set)
 
 pub put-requires : goal.put-requires
@@ -66,7 +66,7 @@ returns-in_err-put-clause-reaches g c = λ told.
     let part = part_as {len' = 512 * s.count} c.part_of-part.ensures c.requires.sizes refl in
     let is = place_is c.place_of-at.result _ (g.S.Store.site c.args.store.now).geometry slot slot 0 c.place_of-at.ensures c.geometry.ensures refl in
     let below = slot-in l c.args.map.now c.args.block slot has c.requires.room in
-    bitmap-reaches l s.sector (512 * s.count) c.args.block slot c.place_of-at.result (slot_of c.args.map.now c.args.block) c.in_ok-bitmap.bitmap c.set_bits.new.bitmap (part-touches l c.args.block s.sector (512 * s.count) p.first p.count p.skip part) has is c.set_bits.array_long (c.in_ok-bitmap.ensures.gave told)
+    bitmap-reaches l (IsIn s.sector (512 * s.count)) c.args.block slot c.place_of-at.result (slot_of c.args.map.now c.args.block) c.in_ok-bitmap.bitmap c.set_bits.new.bitmap (part-touches l c.args.block s.sector (512 * s.count) p.first p.count p.skip part) has is c.set_bits.array_long (c.in_ok-bitmap.ensures.gave told)
     (bits-more l c.args.block s.sector (512 * s.count) p.first p.count p.skip part c.in_ok-bitmap.bitmap c.set_bits.new.bitmap c.set_bits.ensures.set c.set_bits.ensures.others) (c.get.ensures.same told) (c.put.ensures.torn told)
 
 pub returns-clause-reaches : goal.returns-clause-reaches
@@ -79,7 +79,7 @@ returns-clause-reaches g c = λ told.
     let part = part_as {len' = 512 * s.count} c.part_of-part.ensures c.requires.sizes refl in
     let is = place_is c.place_of-at.result _ (g.S.Store.site c.args.store.now).geometry slot slot 0 c.place_of-at.ensures c.geometry.ensures refl in
     let below = slot-in l c.args.map.now c.args.block slot has c.requires.room in
-    bitmap-reaches l s.sector (512 * s.count) c.args.block slot c.place_of-at.result (slot_of c.args.map.now c.args.block) c.in_ok-bitmap.bitmap c.set_bits.new.bitmap (part-touches l c.args.block s.sector (512 * s.count) p.first p.count p.skip part) has is c.set_bits.array_long (c.in_ok-bitmap.ensures.gave told)
+    bitmap-reaches l (IsIn s.sector (512 * s.count)) c.args.block slot c.place_of-at.result (slot_of c.args.map.now c.args.block) c.in_ok-bitmap.bitmap c.set_bits.new.bitmap (part-touches l c.args.block s.sector (512 * s.count) p.first p.count p.skip part) has is c.set_bits.array_long (c.in_ok-bitmap.ensures.gave told)
     (bits-more l c.args.block s.sector (512 * s.count) p.first p.count p.skip part c.in_ok-bitmap.bitmap c.set_bits.new.bitmap c.set_bits.ensures.set c.set_bits.ensures.others) (c.get.ensures.same told) (c.put.ensures.torn told)
 
 pub returns-clause-done : goal.returns-clause-done
@@ -92,5 +92,5 @@ returns-clause-done g c = λ told.
     let part = part_as {len' = 512 * s.count} c.part_of-part.ensures c.requires.sizes refl in
     let is = place_is c.place_of-at.result _ (g.S.Store.site c.args.store.now).geometry slot slot 0 c.place_of-at.ensures c.geometry.ensures refl in
     let below = slot-in l c.args.map.now c.args.block slot has c.requires.room in
-    bitmap-done l s.sector (512 * s.count) c.args.block slot c.place_of-at.result (slot_of c.args.map.now c.args.block) (reads (held_in (stored g.S.Store c.put.new.store) c.args.head.now.volume)) c.set_bits.new.bitmap has is (bitmap-wrote c.place_of-at.result c.set_bits.new.bitmap c.set_bits.array_long (c.in_ok-put.ensures.wrote told))
+    bitmap-done l (IsIn s.sector (512 * s.count)) c.args.block slot c.place_of-at.result (slot_of c.args.map.now c.args.block) (reads (held_in (stored g.S.Store c.put.new.store) c.args.head.now.volume)) c.set_bits.new.bitmap has is (bitmap-wrote c.place_of-at.result c.set_bits.new.bitmap c.set_bits.array_long (c.in_ok-put.ensures.wrote told))
     (bits-all l c.args.block s.sector (512 * s.count) p.first p.count p.skip part c.set_bits.new.bitmap c.set_bits.ensures.set)

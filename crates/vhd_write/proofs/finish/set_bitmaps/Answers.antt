@@ -1,5 +1,5 @@
 use Rattle.std.proofs.Common.{◌∙◌, ◌*◌, subst}
-use Rattle.sm_disk.specs.Held.{Reaches, reads}
+use Rattle.sm_disk.specs.Held.{IsIn, Reaches, reads}
 use Rattle.vhd_map.specs.Slots.{slot_of}
 use Rattle.vg_volumes.specs.Stored.{stored, held_in}
 use Rattle.vg_volumes.proofs.StoredLaws.{works_then}
@@ -21,8 +21,8 @@ returns-in_err-set_bitmap-clause-reaches g c = λ told.
     let n = c.args.map.now in
     let before = held_in (stored g.S.Store c.loop-block.store) c.args.head.now.volume in
     let after = held_in (stored g.S.Store c.set_bitmap.new.store) c.args.head.now.volume in
-    let step = subst (λ x. Reaches (PutsBitsOf x s.sector (512 * s.count) (slot_of n block) block (reads before)) before after) (works_layout c.args.head.now i.works) (c.set_bitmap.ensures.reaches told) in
-    bits-reaches l s.sector (512 * s.count) n c.requires.good block (i.reaches told) step
+    let step = subst (λ x. Reaches (PutsBitsOf x (IsIn s.sector (512 * s.count)) (slot_of n block) block (reads before)) before after) (works_layout c.args.head.now i.works) (c.set_bitmap.ensures.reaches told) in
+    bits-reaches l (IsIn s.sector (512 * s.count)) n c.requires.good block (i.reaches told) step
 
 pub loop-block-preserved : goal.loop-block-preserved
 loop-block-preserved g c =
@@ -34,11 +34,11 @@ loop-block-preserved g c =
     let before = held_in (stored g.S.Store c.loop-block.store) c.args.head.now.volume in
     let after = held_in (stored g.S.Store c.set_bitmap.new.store) c.args.head.now.volume in
     let same = works_layout c.args.head.now i.works in
-    let step = λ (told : g.S.Store.told). subst (λ x. Reaches (PutsBitsOf x s.sector (512 * s.count) (slot_of n block) block (reads before)) before after) same (c.set_bitmap.ensures.reaches told) in
+    let step = λ (told : g.S.Store.told). subst (λ x. Reaches (PutsBitsOf x (IsIn s.sector (512 * s.count)) (slot_of n block) block (reads before)) before after) same (c.set_bitmap.ensures.reaches told) in
     record {
       calm = c.in_ok-set_bitmap.ensures.cause.1 ∙ i.calm;
       works = works_then i.works c.set_bitmap.ensures.works;
-      reaches = λ told. bits-reaches l s.sector (512 * s.count) n c.requires.good block (i.reaches told) (step told);
-      done = λ told. bits-done l s.sector (512 * s.count) n c.requires.good s.first block (step told) (i.done told)
-          (subst (λ x. AreSet x s.sector (512 * s.count) (slot_of n block) block (reads after)) same (c.in_ok-set_bitmap.ensures.done told));
+      reaches = λ told. bits-reaches l (IsIn s.sector (512 * s.count)) n c.requires.good block (i.reaches told) (step told);
+      done = λ told. bits-done l (IsIn s.sector (512 * s.count)) n c.requires.good s.first block (step told) (i.done told)
+          (subst (λ x. AreSet x (IsIn s.sector (512 * s.count)) (slot_of n block) block (reads after)) same (c.in_ok-set_bitmap.ensures.done told));
     }
