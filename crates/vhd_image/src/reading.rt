@@ -19,6 +19,7 @@ use sm_base::{Failed, Geometry};
 use vg_volumes::Store;
 use vhd_map::{Map, bit};
 use vhd_volumes::Head;
+use vhd_write::alike;
 
 /// Sectors of a disk from one on: an image holds each of them, or none.
 #[derive(Clone, Copy)]
@@ -46,15 +47,9 @@ fn marked_run(bits: &[u8; 512], part: u32, most: u32) -> Run
     ensures alike { (i : ℕ) → i < result.sectors → is_set bits.now (part + i) ≡ result.held }
     ensures longest { result.sectors < most → is_set bits.now (part + result.sectors) ≡ not result.held }
 {
-    let held = bit(bits, part);
-    for sectors in 1..most {
-        if bit(bits, part + sectors) != held {
-            return Run { held, sectors };
-        }
-    }
     Run {
-        held,
-        sectors: most,
+        held: bit(bits, part),
+        sectors: alike(bits, part, most),
     }
 }
 

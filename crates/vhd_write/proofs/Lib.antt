@@ -1,4 +1,5 @@
 pub mod BitLaws
+pub mod BlockLaws
 pub mod ExitLaws
 pub mod FinishLaws
 pub mod FirstLaws
@@ -7,6 +8,7 @@ pub mod HeadLaws
 pub mod ImageKept
 pub mod LoopLaws
 pub mod MapLaws
+pub mod MarkLaws
 pub mod PartLaws
 pub mod PayloadLaws
 pub mod PlaceLaws

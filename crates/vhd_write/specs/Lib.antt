@@ -1,3 +1,4 @@
+pub mod Marks
 pub mod Passes
 pub mod Payloads
 pub mod Spans

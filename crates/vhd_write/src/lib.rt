@@ -49,11 +49,15 @@ mod bitmaps;
 mod blocks;
 mod calls;
 mod finish;
+mod marked;
+mod marks;
 mod payloads;
 mod spans;
 mod tables;
 mod writes;
 
 pub use calls::put_payload;
+pub use marked::write_marked;
+pub use marks::{alike, put_marked};
 pub use payloads::Payload;
 pub use writes::write;

@@ -43,7 +43,7 @@ impl<'a> Model for Payload<'a> {
 }
 
 /// So many sectors of some bytes, behind so many of them.
-fn part(bytes: &[u8], skip: u64, count: u64) -> &[u8]
+pub(crate) fn part(bytes: &[u8], skip: u64, count: u64) -> &[u8]
     requires inside { 512 * (skip + count) ≤ length bytes.now }
     ensures { result.now ≡ piece_of skip count bytes.now }
 {

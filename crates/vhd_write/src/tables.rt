@@ -16,10 +16,15 @@ use vhd_map::Map;
 use vhd_volumes::Head;
 
 /// The entries of one sector of the table.
-const PER_SECTOR: u32 = 128;
+pub(crate) const PER_SECTOR: u32 = 128;
 
 /// Writes one sector of the table.
-fn put_entries<S: Store>(store: &mut S, head: &Head, map: &Map, index: u32) -> Result<(), Failed>
+pub(crate) fn put_entries<S: Store>(
+    store: &mut S,
+    head: &Head,
+    map: &Map,
+    index: u32,
+) -> Result<(), Failed>
     requires entries { length map.now ≡ (S.site store.old).geometry.entries }
     requires within { 128 * index < length map.now }
     requires room { HasRoomIn (stored S.Store store.old) head.now.volume (top_of map.now) }
