@@ -24,6 +24,17 @@ pub(crate) fn has_bits(bitmap: &[u8; 512], part: &Part) -> bool
     true
 }
 
+/// Sets the bits of so many sectors of a block, from one of them on.
+pub fn mark(bitmap: &mut [u8; 512], first: u32, count: u32)
+    requires { first + count ≤ 4096 }
+    ensures set { (i : ℕ) → first ≤ i → i < first + count → is_set bitmap.new i ≡ true }
+    ensures others { (i : ℕ) → (i < first) ⊎ (first + count ≤ i) → is_set bitmap.new i ≡ is_set bitmap.old i }
+{
+    for i in first..first + count {
+        set_bit(bitmap, i);
+    }
+}
+
 /// Sets the bits of the part's sectors.
 pub(crate) fn set_bits(bitmap: &mut [u8; 512], part: &Part)
     requires { part.now.first + part.now.count ≤ 4096 }
@@ -32,9 +43,7 @@ pub(crate) fn set_bits(bitmap: &mut [u8; 512], part: &Part)
     ensures others { (i : ℕ) → (i < part.now.first) ⊎ (part.now.first + part.now.count ≤ i) → is_set
         bitmap.new i ≡ is_set bitmap.old i }
 {
-    for i in part.first..part.first + part.count {
-        set_bit(bitmap, i);
-    }
+    mark(bitmap, part.first, part.count);
 }
 
 /// A bitmap of the part's bits alone.

@@ -56,6 +56,7 @@ mod spans;
 mod tables;
 mod writes;
 
+pub use bitmaps::mark;
 pub use calls::put_payload;
 pub use marked::write_marked;
 pub use marks::{alike, put_marked};

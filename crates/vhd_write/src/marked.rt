@@ -121,7 +121,7 @@ fn is_marked<S: Store>(
 }
 
 /// The second pass: sets the bits of the marked sectors in the bitmap of their block's slot, where one is unset.
-fn mark<S: Store>(
+fn set_marks<S: Store>(
     store: &mut S,
     head: &Head,
     map: &Map,
@@ -179,7 +179,7 @@ fn end_block<S: Store>(
         store.old store.new) }
 {
     settle(store, &head.volume)?;
-    mark(store, head, map, block, marks)?;
+    set_marks(store, head, map, block, marks)?;
     if held {
         return Ok(());
     }

@@ -13,34 +13,34 @@ use Rattle.vhd_write.proofs.MarkLaws.{marks-touch}
 use Rattle.vhd_write.proofs.WorkLaws.{works_layout, works_room}
 use Rattle.vhd_write.proofs.marked.end_block.Goals as goal
 
-pub mark-requires-clause-some : goal.mark-requires-clause-some
-mark-requires-clause-some g c = subst (λ (x : Site). HasMark x.geometry.block c.args.marks.now) (sym c.settle.ensures.works.stays.site) c.requires.some
+pub set_marks-requires-clause-some : goal.set_marks-requires-clause-some
+set_marks-requires-clause-some g c = subst (λ (x : Site). HasMark x.geometry.block c.args.marks.now) (sym c.settle.ensures.works.stays.site) c.requires.some
 
 -- ---- the store
 
-pub returns-in_err-mark-clause-works : goal.returns-in_err-mark-clause-works
-returns-in_err-mark-clause-works g c = works_then c.settle.ensures.works c.mark.ensures.works
+pub returns-in_err-set_marks-clause-works : goal.returns-in_err-set_marks-clause-works
+returns-in_err-set_marks-clause-works g c = works_then c.settle.ensures.works c.set_marks.ensures.works
 
 pub returns-then-held-clause-works : goal.returns-then-held-clause-works
-returns-then-held-clause-works g c = works_then c.settle.ensures.works c.mark.ensures.works
+returns-then-held-clause-works g c = works_then c.settle.ensures.works c.set_marks.ensures.works
 
 pub returns-in_err-put_entries-clause-works : goal.returns-in_err-put_entries-clause-works
-returns-in_err-put_entries-clause-works g c = works_then (works_then c.settle.ensures.works c.mark.ensures.works) c.put_entries.ensures.works
+returns-in_err-put_entries-clause-works g c = works_then (works_then c.settle.ensures.works c.set_marks.ensures.works) c.put_entries.ensures.works
 
 pub returns-clause-works : goal.returns-clause-works
-returns-clause-works g c = works_then (works_then c.settle.ensures.works c.mark.ensures.works) c.put_entries.ensures.works
+returns-clause-works g c = works_then (works_then c.settle.ensures.works c.set_marks.ensures.works) c.put_entries.ensures.works
 
 -- ---- what the volume holds behind the bitmap
 
-pub returns-in_err-mark-clause-goes : goal.returns-in_err-mark-clause-goes
-returns-in_err-mark-clause-goes g c = λ told.
+pub returns-in_err-set_marks-clause-goes : goal.returns-in_err-set_marks-clause-goes
+returns-in_err-set_marks-clause-goes g c = λ told.
     let l = layout_now (stored g.S.Store c.args.store.now) c.args.head.now in
     let M = IsMarkedIn l.block c.args.block c.args.marks.now in
     let m = slot_of c.args.map.now in
     let before = held_in (stored g.S.Store c.settle.new.store) c.args.head.now.volume in
-    let after = held_in (stored g.S.Store c.mark.new.store) c.args.head.now.volume in
+    let after = held_in (stored g.S.Store c.set_marks.new.store) c.args.head.now.volume in
     let same = works_layout c.args.head.now c.settle.ensures.works in
-    let bits = bits-one c.args.block (subst (λ x. Reaches (PutsBitsOf x (IsMarkedIn x.block c.args.block c.args.marks.now) (m c.args.block) c.args.block (reads before)) before after) same (c.mark.ensures.reaches told)) in
+    let bits = bits-one c.args.block (subst (λ x. Reaches (PutsBitsOf x (IsMarkedIn x.block c.args.block c.args.marks.now) (m c.args.block) c.args.block (reads before)) before after) same (c.set_marks.ensures.reaches told)) in
     inr (goes-bits refl (c.settle.ensures.keeps told) (c.in_ok-settle.ensures.settled told) bits)
 
 pub returns-then-held-clause-done : goal.returns-then-held-clause-done
@@ -49,10 +49,10 @@ returns-then-held-clause-done g c = λ told.
     let M = IsMarkedIn l.block c.args.block c.args.marks.now in
     let m = slot_of c.args.map.now in
     let before = held_in (stored g.S.Store c.settle.new.store) c.args.head.now.volume in
-    let after = held_in (stored g.S.Store c.mark.new.store) c.args.head.now.volume in
+    let after = held_in (stored g.S.Store c.set_marks.new.store) c.args.head.now.volume in
     let same = works_layout c.args.head.now c.settle.ensures.works in
-    let bits = bits-one c.args.block (subst (λ x. Reaches (PutsBitsOf x (IsMarkedIn x.block c.args.block c.args.marks.now) (m c.args.block) c.args.block (reads before)) before after) same (c.mark.ensures.reaches told)) in
-    let set = only-one (λ b. AreSet l M (m b) b (reads after)) c.args.block (subst (λ x. AreSet x (IsMarkedIn x.block c.args.block c.args.marks.now) (m c.args.block) c.args.block (reads after)) same (c.in_ok-mark.ensures.done told)) in
+    let bits = bits-one c.args.block (subst (λ x. Reaches (PutsBitsOf x (IsMarkedIn x.block c.args.block c.args.marks.now) (m c.args.block) c.args.block (reads before)) before after) same (c.set_marks.ensures.reaches told)) in
+    let set = only-one (λ b. AreSet l M (m b) b (reads after)) c.args.block (subst (λ x. AreSet x (IsMarkedIn x.block c.args.block c.args.marks.now) (m c.args.block) c.args.block (reads after)) same (c.in_ok-set_marks.ensures.done told)) in
     finished-bits refl (c.settle.ensures.keeps told) (c.in_ok-settle.ensures.settled told) bits set c.if-held.true
 
 pub returns-then-held-clause-goes : goal.returns-then-held-clause-goes
@@ -66,11 +66,11 @@ returns-in_err-put_entries-clause-goes g c = λ told.
     let M = IsMarkedIn l.block c.args.block c.args.marks.now in
     let m = slot_of c.args.map.now in
     let before = held_in (stored g.S.Store c.settle.new.store) c.args.head.now.volume in
-    let after = held_in (stored g.S.Store c.mark.new.store) c.args.head.now.volume in
+    let after = held_in (stored g.S.Store c.set_marks.new.store) c.args.head.now.volume in
     let same = works_layout c.args.head.now c.settle.ensures.works in
-    let bits = bits-one c.args.block (subst (λ x. Reaches (PutsBitsOf x (IsMarkedIn x.block c.args.block c.args.marks.now) (m c.args.block) c.args.block (reads before)) before after) same (c.mark.ensures.reaches told)) in
+    let bits = bits-one c.args.block (subst (λ x. Reaches (PutsBitsOf x (IsMarkedIn x.block c.args.block c.args.marks.now) (m c.args.block) c.args.block (reads before)) before after) same (c.set_marks.ensures.reaches told)) in
     let last = held_in (stored g.S.Store c.put_entries.new.store) c.args.head.now.volume in
-    let then = works_layout c.args.head.now c.mark.ensures.works ∙ same in
+    let then = works_layout c.args.head.now c.set_marks.ensures.works ∙ same in
     let table = entries-touch l M m c.args.block (marks-touch l c.args.block c.args.marks.now c.requires.some) (subst (λ x. Reaches (PutsEntries x m (c.args.block / 128)) after last) then (c.put_entries.ensures.reaches told)) in
     inr (goes-table refl (c.settle.ensures.keeps told) (c.in_ok-settle.ensures.settled told) bits refl table)
 
@@ -80,12 +80,12 @@ returns-clause-done g c = λ told.
     let M = IsMarkedIn l.block c.args.block c.args.marks.now in
     let m = slot_of c.args.map.now in
     let before = held_in (stored g.S.Store c.settle.new.store) c.args.head.now.volume in
-    let after = held_in (stored g.S.Store c.mark.new.store) c.args.head.now.volume in
+    let after = held_in (stored g.S.Store c.set_marks.new.store) c.args.head.now.volume in
     let same = works_layout c.args.head.now c.settle.ensures.works in
-    let bits = bits-one c.args.block (subst (λ x. Reaches (PutsBitsOf x (IsMarkedIn x.block c.args.block c.args.marks.now) (m c.args.block) c.args.block (reads before)) before after) same (c.mark.ensures.reaches told)) in
-    let set = only-one (λ b. AreSet l M (m b) b (reads after)) c.args.block (subst (λ x. AreSet x (IsMarkedIn x.block c.args.block c.args.marks.now) (m c.args.block) c.args.block (reads after)) same (c.in_ok-mark.ensures.done told)) in
+    let bits = bits-one c.args.block (subst (λ x. Reaches (PutsBitsOf x (IsMarkedIn x.block c.args.block c.args.marks.now) (m c.args.block) c.args.block (reads before)) before after) same (c.set_marks.ensures.reaches told)) in
+    let set = only-one (λ b. AreSet l M (m b) b (reads after)) c.args.block (subst (λ x. AreSet x (IsMarkedIn x.block c.args.block c.args.marks.now) (m c.args.block) c.args.block (reads after)) same (c.in_ok-set_marks.ensures.done told)) in
     let last = held_in (stored g.S.Store c.put_entries.new.store) c.args.head.now.volume in
-    let then = works_layout c.args.head.now c.mark.ensures.works ∙ same in
+    let then = works_layout c.args.head.now c.set_marks.ensures.works ∙ same in
     let table = entries-touch l M m c.args.block (marks-touch l c.args.block c.args.marks.now c.requires.some) (subst (λ x. Reaches (PutsEntries x m (c.args.block / 128)) after last) then (c.put_entries.ensures.reaches told)) in
     finished-table refl (c.settle.ensures.keeps told) (c.in_ok-settle.ensures.settled told) bits refl table refl set
     (one-index c.args.block (λ index. IsTableSector l m index (reads last (3 + index))) (subst (λ x. IsTableSector x m (c.args.block / 128) (reads last (3 + c.args.block / 128))) then (c.in_ok-put_entries.ensures.done told)))

@@ -1,7 +1,7 @@
 use Rattle.std.proofs.Common.{ap, ◌∙◌, inl, inr, ⊎_elim, arith}
 use Rattle.std.proofs.lemmas.Bool.{cases_eq}
 use Rattle.vhd_map.specs.Bitmaps.{is_set}
-use Rattle.vhd_write.proofs.bitmaps.set_bits.Goals as goal
+use Rattle.vhd_write.proofs.bitmaps.mark.Goals as goal
 
 pub loop-i-preserved : goal.loop-i-preserved
 loop-i-preserved c =

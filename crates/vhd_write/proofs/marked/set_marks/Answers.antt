@@ -11,7 +11,7 @@ use Rattle.vhd_write.specs.Marks.{IsMarkedIn}
 use Rattle.vhd_write.proofs.BitLaws.{place-low, sector-whole, bitmap-reaches, bitmap-done, bitmap-wrote}
 use Rattle.vhd_write.proofs.MarkLaws.{marks-all, marks-more, marks-touch}
 use Rattle.vhd_write.proofs.PartLaws.{place_is, slot-in}
-use Rattle.vhd_write.proofs.marked.mark.Goals as goal
+use Rattle.vhd_write.proofs.marked.set_marks.Goals as goal
 
 pub get-requires : goal.get-requires
 get-requires g c =
