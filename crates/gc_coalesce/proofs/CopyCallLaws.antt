@@ -25,7 +25,8 @@ use Rattle.sm_ready.proofs.Orders.{geometry_of}
 use Rattle.sm_ready.proofs.PutBackLaws.{put_back}
 use Rattle.sm_ready.proofs.RestLaws.{true_keeps}
 use Rattle.sm_ready.proofs.TruthLaws.{row_sectors, row_stands, row_true}
-use Rattle.gc_coalesce.specs.Blocks.{CanCopy, Copies, HasCopied, HasRoomForBlock}
+use Rattle.vhd_image.specs.Written.{HasRoomForBlock}
+use Rattle.gc_coalesce.specs.Blocks.{CanCopy, Copies, HasCopied}
 use Rattle.gc_coalesce.proofs.CopyMemoryLaws.{block_room, may_name, rows_behind, with_image}
 use Rattle.gc_coalesce.proofs.CopyPlanLaws.{IsToCopy, apart, child_named, child_there, named, same_size, there}
 use Rattle.gc_coalesce.proofs.CopyReadyLaws.{block_within, child_head, child_slot}

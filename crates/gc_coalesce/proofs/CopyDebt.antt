@@ -12,7 +12,7 @@ use Rattle.sm_machine.specs.Shapes.{Shape}
 use Rattle.sm_machine.proofs.Debts.{step_lowers}
 use Rattle.sm_machine.proofs.Tables.{count-next}
 use Rattle.sm_ready.specs.Known.{Known, shape_in}
-use Rattle.gc_coalesce.specs.Blocks.{MayHaveSlot}
+use Rattle.vhd_image.specs.Written.{MayHaveSlot}
 use Rattle.gc_coalesce.specs.Copying.{advanced, copy_of}
 use Rattle.gc_coalesce.proofs.CopyKinds.{advanced_is, block_of}
 use Rattle.gc_coalesce.proofs.CopyMemoryLaws.{behind, shape_copied, still_is}

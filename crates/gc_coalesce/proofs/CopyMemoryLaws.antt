@@ -43,7 +43,7 @@ use Rattle.sm_ready.proofs.OwnLaws.{next_shape}
 use Rattle.sm_ready.proofs.PutBackLaws.{any_replaced, face_replaced, map_replaced, of_rows}
 use Rattle.sm_ready.proofs.ShapeLaws.{shown_same}
 use Rattle.sm_ready.proofs.TruthLaws.{row_found}
-use Rattle.gc_coalesce.specs.Blocks.{HasRoomForBlock, MayHaveSlot, with_slot}
+use Rattle.vhd_image.specs.Written.{HasRoomForBlock, MayHaveSlot, with_slot}
 use Rattle.gc_coalesce.proofs.CopyPlanLaws.{IsToCopy, apart, child_named, child_there, child_vhd, copies_only, copy_runs, has_slot, named, there}
 use Rattle.gc_coalesce.specs.Copying.{advanced, copy_of}
 use Rattle.gc_coalesce.proofs.CopyKinds.{advanced_is, copied_of, its_entry, leaf_of, roomy_in, roomy_of, runs}

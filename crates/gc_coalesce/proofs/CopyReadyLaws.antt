@@ -53,7 +53,8 @@ use Rattle.sm_ready.proofs.StopLaws.{image_by_sectors}
 use Rattle.sm_ready.proofs.SyncLaws.{IsSynced}
 use Rattle.sm_ready.proofs.TakenLaws.{IsTold}
 use Rattle.sm_ready.proofs.TruthLaws.{row_sectors}
-use Rattle.gc_coalesce.specs.Blocks.{Copies, HasCopied, IsMaskedBy, MayHaveSlot, own_held, with_slot}
+use Rattle.vhd_image.specs.Written.{MayHaveSlot, with_slot}
+use Rattle.gc_coalesce.specs.Blocks.{Copies, HasCopied, IsMaskedBy, own_held}
 use Rattle.gc_coalesce.specs.Copying.{advanced}
 use Rattle.gc_coalesce.proofs.CopyBlockLaws.{add_one, grown_count, own_grown}
 use Rattle.gc_coalesce.proofs.CopyCrashLaws.{crash_synced, keeps_parent, left_copied, masked_parent}

@@ -1,33 +1,29 @@
 -- What copying the sectors that an image holds in one block into another image asks of a store, and what it leaves (this project's format).
-use Rattle.std.specs.Prelude.{◌≡◌, ◌⊎◌, ℕ, ◌+◌, ◌*◌, ◌<◌, ◌≤◌, List, Option, Some}
+use Rattle.std.specs.Prelude.{◌≡◌, ◌⊎◌, ℕ, ◌+◌, ◌*◌, ◌<◌, ◌≤◌, false, if◌then◌else◌, List, Option, None, Some}
 use Rattle.sm_base.specs.declared.sizes.Geometry.{Geometry}
 use Rattle.sm_disk.specs.Held.{Held, May, reads}
+use Rattle.sm_disk.specs.Sectors.{sector}
+use Rattle.vhd_map.specs.Bitmaps.{is_set}
 use Rattle.vg_volumes.specs.Stored.{stored, sectors_in, held_in, WorksOn}
 use Rattle.vg_volumes.specs.declared.stores.Store.{Ghosts}
-use Rattle.vhd_map.specs.Slots.{top_of}
 use Rattle.vhd_volumes.specs.Steps.{Does, Holds}
-use Rattle.vhd_volumes.specs.Truth.{HasRoomFor, layout_in}
-use Rattle.vhd_volumes.specs.Writes.{IsGuarded, with_block}
+use Rattle.vhd_volumes.specs.Truth.{layout_in}
+use Rattle.vhd_volumes.specs.Writes.{IsGuarded}
 use Rattle.vhd_image.specs.Bodies.{ImageIsTrue, ImageStands, StandsIn, TrueIn, own_of, sector_count, volume_name}
 use Rattle.vhd_image.specs.Steady.{AreApart}
-use Rattle.vhd_image.specs.Written.{MayHaveGrown}
+use Rattle.vhd_image.specs.Written.{HasRoomForBlock, MayHaveGrown, MayHaveSlot}
 use Rattle.vhd_image.specs.declared.images.Body.{Body}
 use Rattle.vhd_image.specs.declared.images.Body.TheVariants.{Raw, Vhd}
 use Rattle.vhd_chain.specs.Reading.{own_read}
 
--- the image once a block has a slot
-abbrev pub with_slot : ℕ → Body → Body
-with_slot b (Raw volume size) = Raw volume size
-with_slot b (Vhd head m) = Vhd head (with_block b m)
+-- Of so many sectors from `base` on those are marked that an image holds, each with its bytes at its place among those of all. `own` is
+-- what the image holds.
+abbrev pub AreGathered : (ℕ → Option (List ℕ)) → ℕ → List ℕ → List ℕ → ℕ → Type 0
+AreGathered own base marks bytes count = (i : ℕ) → i < count → own (base + i) ≡ (if is_set marks i then Some (sector bytes i) else None)
 
--- the block has room for a slot
-abbrev pub HasRoomForBlock : Geometry → ℕ → ℕ → Body → Type 0
-HasRoomForBlock g sectors b (Raw volume size) = Unit {0}
-HasRoomForBlock g sectors b (Vhd head m) = HasRoomFor g (top_of (with_block b m)) sectors
-
--- the image is as it was, or the block has a slot
-abbrev pub MayHaveSlot : ℕ → Body → Body → Type 0
-MayHaveSlot b old new = (new ≡ old) ⊎ (new ≡ with_slot b old)
+-- from one sector on none is marked
+abbrev pub AreUnmarkedFrom : ℕ → List ℕ → Type 0
+AreUnmarkedFrom from marks = (i : ℕ) → from ≤ i → is_set marks i ≡ false
 
 -- what a stop leaves of an image's sectors: of each what it could leave before, or what another image holds of it
 abbrev pub IsMaskedBy : Geometry → ℕ → Body → (ℕ → Option (List ℕ)) → Held → Held → Type 0
