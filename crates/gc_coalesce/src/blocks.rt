@@ -137,7 +137,13 @@ pub(crate) fn copy_sectors<S: Store>(
         unreachable!()
     };
     let wide = store.geometry().block as usize;
-    let copied = copy_held(store, &mut piece.bytes_mut()[..SECTOR * wide], child, parent, block);
+    let copied = copy_held(
+        store,
+        &mut piece.bytes_mut()[..SECTOR * wide],
+        child,
+        parent,
+        block,
+    );
     pool.give(piece);
     copied
 }

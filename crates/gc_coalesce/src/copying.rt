@@ -53,7 +53,7 @@ fn behind(operation: Op, block: u32) -> Op
     }
 }
 
-/// Copies what the operation's image holds in a block into the operation's parent, run by run, and the cursor goes on behind the block.
+/// Copies what the operation's image holds in a block into the operation's parent by one write, and the cursor goes on behind the block.
 /// All that was written before is made last first, and then the copy. The parent changes only in sectors that the image holds, and the
 /// debt is less. It makes no commit and takes no memory; a buffer of the pool is borrowed.
 ///

@@ -24,9 +24,9 @@
 //!
 //! **What it costs.** `remove`, `abandon`, `turn` and `finish` are one commit each. `begin` and `begin_leaf` are one
 //! commit, and three more where the parent gets extents; they alone take memory, all of it before the first write. `copy_block` syncs
-//! before its first write and after its last, and reads and writes each run of held sectors once; a write to sectors that the parent did
-//! not hold makes one sync more (`vhd_write`); it borrows a buffer of the pool. `relink_one` reads two sectors and writes one, between
-//! two syncs.
+//! before its first write and after its last, and reads and writes each run of held sectors once; where the parent did not hold one of them
+//! it makes one sync more, however many runs there are (`write_marked` of `vhd_image`); it borrows a buffer of the pool. `relink_one` reads two
+//! sectors and writes one, between two syncs.
 //!
 //! The definitions are in `specs/`: `Beginning` (when an operation may be entered, and what that makes of the shape), `Copying` (the cursor,
 //! and what a copy leaves of the parent), `Blocks` (one block of the child in the parent).

@@ -1,10 +1,9 @@
 -- What a write of the marked sectors of a block leaves of an image of either kind.
-use Rattle.std.proofs.Common.{◌≡◌, ℕ, ◌+◌, ◌*◌, ◌<◌, ◌≤◌, nat_lt, cond, List, Option, Some, None, refl, sym, ap, ◌∙◌, subst, subst₂, inl, inr, ⊎_elim, arith}
+use Rattle.std.proofs.Common.{◌≡◌, ℕ, ◌+◌, ◌*◌, ◌<◌, ◌≤◌, nat_lt, cond, List, Option, Some, None, sym, ap, ◌∙◌, subst₂, ⊎_elim, arith}
 use Rattle.std.proofs.lemmas.Bool.{lt-ltb}
 use Rattle.sm_base.specs.declared.names.Name.{Name}
 use Rattle.sm_base.specs.declared.sizes.Geometry.{Geometry}
 use Rattle.sm_disk.specs.Held.{Held, Reaches, reads}
-use Rattle.sm_disk.specs.Sectors.{sector}
 use Rattle.vhd_volumes.specs.Truth.{layout_in}
 use Rattle.vhd_volumes.specs.Writes.{HasWritten}
 use Rattle.vhd_volumes.specs.declared.heads.Head.{Head}

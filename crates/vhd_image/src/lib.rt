@@ -22,7 +22,8 @@
 //! sectors alike, for one sector read at most, and `read_held` then reads so many in one call of the store. `make`
 //! writes four sectors and those of the table; `set_size` writes two sectors; `set_parent` reads two and writes one;
 //! `end` writes one. `write` is one write of a raw image's volume, or of a byte that is repeated one for each piece of it that is in
-//! memory, and for a VHD image costs what `vhd_write` says: one sync at most, whatever its length.
+//! memory, and for a VHD image costs what `vhd_write` says: one sync at most, whatever its length. So does `write_marked`, which puts some sectors
+//! of one block: one write for each run of them, and one sync at most.
 //!
 //! The definitions are in `specs/`: `Bodies` (an image as contracts see it), `Made` (the fields of a new image),
 //! `Opened` (what reading a volume tells), `Runs` (sectors that an image holds alike), `Changes` and `Links` (what a

@@ -1,13 +1,12 @@
 -- A write into one block.
-use Rattle.std.proofs.Common.{◌≡◌, ◌≢◌, ℕ, ◌+◌, ◌-◌, ◌*◌, ◌/◌, ◌<◌, ◌≤◌, ◌⊎◌, Bool, true, false, List, length, Option, Some, None, is_some, refl, sym, ap, ◌∙◌, subst, inl, inr, ⊎_elim, arith}
-use Rattle.std.proofs.lemmas.Bool.{cases_eq, true≢false}
+use Rattle.std.proofs.Common.{◌≡◌, ℕ, ◌+◌, ◌-◌, ◌*◌, ◌/◌, ◌<◌, ◌≤◌, ◌⊎◌, Bool, List, length, Option, Some, None, is_some, refl, sym, ap, ◌∙◌, subst, inl, inr, ⊎_elim, arith}
+use Rattle.std.proofs.lemmas.Bool.{cases_eq}
 use Rattle.std.proofs.lemmas.Nat.{mul-add-lt}
 use Rattle.std.proofs.lemmas.Option.{none-some}
 use Rattle.sm_base.specs.declared.sizes.Geometry.{Geometry}
 use Rattle.sm_disk.specs.Held.{Held, Reaches, SameHeld, reads}
 use Rattle.sm_disk.proofs.ReachesLaws.{Reaches-none, Reaches-same, Reaches-then, Reaches-wider}
 use Rattle.vhd_map.specs.Slots.{slot_of, top_of, least_free_slot, IsMap}
-use Rattle.vhd_map.proofs.SlotLemmas.{slot_of-set_same}
 use Rattle.vhd_layout.specs.Layouts.{Layout, Sectors, Slots, IsLayout, IsSlots, entry, code, entries_in_sectors, place, slot_count}
 use Rattle.vhd_layout.proofs.ImageLaws.{layout-of, option_cases}
 use Rattle.vhd_volumes.specs.declared.heads.Head.{Head}

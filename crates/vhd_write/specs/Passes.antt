@@ -1,6 +1,6 @@
 -- What the passes of a write put where. `M` says which sectors of the disk are given, `W` which bytes the write puts at which of them;
 -- `r` is what a read gives.
-use Rattle.std.specs.Prelude.{◌≡◌, ◌≢◌, ℕ, ◌+◌, ◌-◌, ◌*◌, ◌/◌, ◌<◌, ◌≤◌, ◌⊎◌, Bool, true, false, List, length, Option, None, Some}
+use Rattle.std.specs.Prelude.{◌≡◌, ◌≢◌, ℕ, ◌+◌, ◌-◌, ◌*◌, ◌/◌, ◌<◌, ◌≤◌, ◌⊎◌, Bool, true, false, List, Option, None, Some}
 use Rattle.sm_disk.specs.Held.{Held, Keeps, May, Puts, Reaches, reads}
 use Rattle.sm_disk.specs.Sectors.{sector}
 use Rattle.vhd_map.specs.Bitmaps.{is_set}

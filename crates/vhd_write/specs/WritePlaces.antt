@@ -1,6 +1,6 @@
 -- Where a write may put anything, and what. `M` says which sectors of the disk are given, `W` which bytes it puts at which of them; `m` is
 -- the map that it begins with, `n` the one that it ends with, and `r` what a read gave as it began.
-use Rattle.std.specs.Prelude.{◌≡◌, ℕ, ◌+◌, ◌*◌, ◌/◌, ◌<◌, ◌⊎◌, true, List, length, None, Some}
+use Rattle.std.specs.Prelude.{◌≡◌, ℕ, ◌+◌, ◌*◌, ◌/◌, ◌<◌, ◌⊎◌, true, List, None, Some}
 use Rattle.sm_disk.specs.Held.{Held, Reaches, reads}
 use Rattle.vhd_map.specs.Bitmaps.{is_set}
 use Rattle.vhd_map.specs.Places.{word}

@@ -3,7 +3,7 @@
 //! **What is kept here.** Nothing. [`write`], over any store of volumes, puts whole sectors of a disk into the VHD image
 //! in a volume, whose head and map are in memory; [`put_payload`] puts them into a volume as they are. The bytes are a
 //! [`Payload`]: given ones, or one byte over and over, of which only a piece is in memory. A contract sees the list of
-//! them. Sectors of 512 bytes are counted from the disk's begin, and places from the volume's; blocks and slots are
+//! them. [`write_marked`] puts into the image those sectors of one block that a bitmap marks, of the bytes of the whole block. Sectors of 512 bytes are counted from the disk's begin, and places from the volume's; blocks and slots are
 //! counted from 0.
 //!
 //! **In which order.** A write that only replaces sectors that the image holds writes the bytes and is done. Any other
@@ -39,10 +39,14 @@
 //! block is written as often as the block takes it. `put_payload` is one write of given bytes, and of a byte that is
 //! repeated one for each piece, without a sync.
 //!
-//! What each pass puts where is in `specs/Passes`, the bytes of a write are in `specs/Payloads`, its numbers in
+//! **Marked sectors.** `write_marked` has the same passes for one block: the runs of its marked sectors are put, one write of the store each, then
+//! all is made last once, and then come the bitmap and the entry. So any number of runs costs one sync at most, and what a stop leaves, what is put
+//! where and what a read gives is said by the same definitions: which sectors are given, and which bytes go where, are their parameters.
+//!
+//! What each pass puts where is in `specs/Passes`, the bytes of a write are in `specs/Payloads`, marked sectors in `specs/Marks`, a write's numbers in
 //! `specs/Spans`, and in `specs/WriteSpans` those of a write into a disk. The proofs go over plain volumes: `FirstLaws` and `RestLaws` say what the passes leave of
 //! an image, `HeadLaws` what they leave of its head, `PlaceLaws` that they put nothing elsewhere, and `ExitLaws` what a
-//! write leaves at each of its returns.
+//! write leaves at each of its returns; `BlockLaws` has it of marked sectors.
 #![tactic(auto)]
 
 mod bitmaps;

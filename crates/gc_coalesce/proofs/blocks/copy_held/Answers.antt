@@ -1,8 +1,7 @@
-use Rattle.std.proofs.Common.{◌≡◌, ℕ, ◌+◌, ◌-◌, ◌*◌, ◌<◌, ◌≤◌, None, List, ap, ◌∙◌, arith}
+use Rattle.std.proofs.Common.{◌≡◌, ◌+◌, ◌-◌, ◌*◌, ap, ◌∙◌, arith}
 use Rattle.vg_volumes.specs.Stored.{stored}
 use Rattle.vhd_chain.specs.Reading.{own_read}
 use Rattle.vhd_image.proofs.ReadLaws.{true-still}
-use Rattle.gc_coalesce.specs.Blocks.{AreGathered}
 use Rattle.gc_coalesce.proofs.CopyBlockLaws.{copied_none, copied_put, copies_none, copies_put, none_fact, some_fact}
 use Rattle.gc_coalesce.proofs.blocks.copy_held.Goals as goal
 

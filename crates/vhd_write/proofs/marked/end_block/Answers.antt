@@ -1,4 +1,4 @@
-use Rattle.std.proofs.Common.{◌≡◌, ℕ, ◌+◌, ◌/◌, refl, sym, ap, ◌∙◌, inr, subst, arith}
+use Rattle.std.proofs.Common.{◌+◌, ◌/◌, refl, sym, ◌∙◌, inr, subst}
 use Rattle.sm_disk.specs.Held.{Reaches, reads}
 use Rattle.vhd_map.specs.Slots.{slot_of}
 use Rattle.vg_volumes.specs.Sites.{Site}
@@ -10,7 +10,7 @@ use Rattle.vhd_write.specs.Passes.{AreSet, IsTableSector, PutsBitsOf, PutsEntrie
 use Rattle.vhd_write.proofs.BlockLaws.{bits-one, entries-touch, only-one, one-index}
 use Rattle.vhd_write.proofs.FinishLaws.{goes-bits, finished-bits, goes-table, finished-table}
 use Rattle.vhd_write.proofs.MarkLaws.{marks-touch}
-use Rattle.vhd_write.proofs.WorkLaws.{works_layout, works_room}
+use Rattle.vhd_write.proofs.WorkLaws.{works_layout}
 use Rattle.vhd_write.proofs.marked.end_block.Goals as goal
 
 pub set_marks-requires-clause-some : goal.set_marks-requires-clause-some

@@ -1,4 +1,4 @@
-use Rattle.std.proofs.Common.{◌≡◌, ◌+◌, ◌*◌, ◌/◌, ◌<◌, length, refl, sym, ap, ◌∙◌, inr, subst, subst₂, arith}
+use Rattle.std.proofs.Common.{◌≡◌, ◌/◌, ◌<◌, length, refl, sym, ap, ◌∙◌, inr, subst₂, arith}
 use Rattle.sm_base.specs.declared.sizes.Geometry.{Geometry}
 use Rattle.sm_disk.specs.Held.{Reaches, reads}
 use Rattle.sm_disk.proofs.ReachesLaws.{Reaches-then}

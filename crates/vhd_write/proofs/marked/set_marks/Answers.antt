@@ -1,8 +1,7 @@
-use Rattle.std.proofs.Common.{◌≡◌, ◌<◌, ℕ, true, refl, sym, ap, ◌∙◌, arith}
+use Rattle.std.proofs.Common.{◌≡◌, refl, sym, ap, ◌∙◌, arith}
 use Rattle.sm_base.specs.declared.sizes.Geometry.{Geometry}
 use Rattle.sm_disk.specs.Held.{reads}
 use Rattle.sm_disk.proofs.HeldLaws.{reads-same}
-use Rattle.vhd_map.specs.Bitmaps.{is_set}
 use Rattle.vhd_map.specs.Slots.{slot_of}
 use Rattle.vg_volumes.specs.Stored.{stored, held_in}
 use Rattle.vg_volumes.proofs.StoredLaws.{works_then, size_stays}

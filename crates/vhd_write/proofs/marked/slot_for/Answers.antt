@@ -1,4 +1,4 @@
-use Rattle.std.proofs.Common.{◌≡◌, ◌+◌, length, Option, None, Some, ap, refl, sym, ◌∙◌, rules, arith}
+use Rattle.std.proofs.Common.{◌≡◌, None, Some, ap, refl, sym, ◌∙◌, rules, arith}
 use Rattle.std.proofs.lemmas.Option.{none-some}
 use Rattle.sm_base.specs.declared.sizes.Geometry.{Geometry}
 use Rattle.sm_disk.specs.Held.{reads}
@@ -57,8 +57,7 @@ returns-in_err-put-clause-reaches g c = λ told.
 
 pub returns-clause-put : goal.returns-clause-put
 returns-clause-put g c =
-    let none : slot_of c.args.map.now c.args.block ≡ None = search rules in
-    (
+    let none : slot_of c.args.map.now c.args.block ≡ None = search rules in (
       (let e : c.put-2.new.self ≡ with_block c.args.block c.args.map.now = c.put-2.ensures ∙ ap (λ k. slice_set c.args.map.now c.args.block (Some k)) c.least_free-slot.ensures.least ∙ sym (with_block-new c.args.block c.args.map.now none) in e),
       (let e : slot_of c.put-2.new.self c.args.block ≡ Some c.least_free-slot.result = ap (λ n. slot_of n c.args.block) c.put-2.ensures ∙ slot_of-set_same c.args.map.now c.args.block c.least_free-slot.result c.requires.within in e),
     )

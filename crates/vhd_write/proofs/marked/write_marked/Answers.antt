@@ -113,7 +113,7 @@ returns-then-complete-clause-still g c = λ told.
     let then = works_layout c.args.head.now c.is_marked.ensures.works in
     let r = puts-first c.args.block c.args.marks.now c.args.bytes.now c.args.map.now then (c.is_marked.ensures.same told) (c.put_sectors.ensures.reaches told) in
     let put = subst (λ n. IsPut l W M (slot_of c.args.map.now c.args.block) (slot_of n c.args.block) c.args.block (reads (held_in (stored g.S.Store c.put_sectors.new.store) c.args.head.now.volume))) c.in_ok-put_sectors.ensures.put
-        (put-first c.args.block c.args.marks.now c.args.bytes.now _ _ _ then (c.in_ok-put_sectors.ensures.done told)) in
+    (put-first c.args.block c.args.marks.now c.args.bytes.now _ _ _ then (c.in_ok-put_sectors.ensures.done told)) in
     subst (λ n. IsTrueOf l (held_in (stored g.S.Store c.put_sectors.new.store) c.args.head.now.volume) c.args.head.now (slot_of n)) (sym c.in_ok-put_sectors.ensures.put)
     (block-still c.requires.stands c.slot.ensures.map c.args.block c.args.marks.now c.args.bytes.now c.requires.within c.requires.slots was r put told (true_on c.in_ok-complete.complete c.if-complete.true c.in_ok-complete.ensures.full))
 
@@ -126,7 +126,7 @@ returns-then-complete-clause-written g c = λ told.
     let then = works_layout c.args.head.now c.is_marked.ensures.works in
     let r = puts-first c.args.block c.args.marks.now c.args.bytes.now c.args.map.now then (c.is_marked.ensures.same told) (c.put_sectors.ensures.reaches told) in
     let put = subst (λ n. IsPut l W M (slot_of c.args.map.now c.args.block) (slot_of n c.args.block) c.args.block (reads (held_in (stored g.S.Store c.put_sectors.new.store) c.args.head.now.volume))) c.in_ok-put_sectors.ensures.put
-        (put-first c.args.block c.args.marks.now c.args.bytes.now _ _ _ then (c.in_ok-put_sectors.ensures.done told)) in
+    (put-first c.args.block c.args.marks.now c.args.bytes.now _ _ _ then (c.in_ok-put_sectors.ensures.done told)) in
     block-written c.requires.stands c.slot.ensures.map c.args.block c.args.marks.now c.args.bytes.now c.requires.within c.requires.slots was r put told (true_on c.in_ok-complete.complete c.if-complete.true c.in_ok-complete.ensures.full)
 
 pub returns-then-complete-clause-stands : goal.returns-then-complete-clause-stands
@@ -146,7 +146,7 @@ returns-in_err-end_block-clause-guarded g c = λ told.
     let then = works_layout c.args.head.now c.is_marked.ensures.works in
     let r = puts-first c.args.block c.args.marks.now c.args.bytes.now c.args.map.now then (c.is_marked.ensures.same told) (c.put_sectors.ensures.reaches told) in
     let put = subst (λ n. IsPut l W M (slot_of c.args.map.now c.args.block) (slot_of n c.args.block) c.args.block (reads (held_in (stored g.S.Store c.put_sectors.new.store) c.args.head.now.volume))) c.in_ok-put_sectors.ensures.put
-        (put-first c.args.block c.args.marks.now c.args.bytes.now _ _ _ then (c.in_ok-put_sectors.ensures.done told)) in
+    (put-first c.args.block c.args.marks.now c.args.bytes.now _ _ _ then (c.in_ok-put_sectors.ensures.done told)) in
     guarded-on c.requires.stands c.slot.ensures.map c.args.block c.args.marks.now c.args.bytes.now c.requires.within c.requires.slots was r put (works_layout c.args.head.now (works_then c.is_marked.ensures.works c.put_sectors.ensures.works)) (subst (λ n. GoesOn (layout_now (stored g.S.Store c.put_sectors.new.store) c.args.head.now) (IsMarkedIn (layout_now (stored g.S.Store c.put_sectors.new.store) c.args.head.now).block c.args.block c.args.marks.now) (slot_of n) (held_in (stored g.S.Store c.put_sectors.new.store) c.args.head.now.volume) (held_in (stored g.S.Store c.end_block.new.store) c.args.head.now.volume)) c.in_ok-put_sectors.ensures.put (c.end_block.ensures.goes told))
 
 pub returns-in_err-end_block-clause-heads : goal.returns-in_err-end_block-clause-heads
@@ -158,7 +158,7 @@ returns-in_err-end_block-clause-heads g c = λ told.
     let then = works_layout c.args.head.now c.is_marked.ensures.works in
     let r = puts-first c.args.block c.args.marks.now c.args.bytes.now c.args.map.now then (c.is_marked.ensures.same told) (c.put_sectors.ensures.reaches told) in
     let put = subst (λ n. IsPut l W M (slot_of c.args.map.now c.args.block) (slot_of n c.args.block) c.args.block (reads (held_in (stored g.S.Store c.put_sectors.new.store) c.args.head.now.volume))) c.in_ok-put_sectors.ensures.put
-        (put-first c.args.block c.args.marks.now c.args.bytes.now _ _ _ then (c.in_ok-put_sectors.ensures.done told)) in
+    (put-first c.args.block c.args.marks.now c.args.bytes.now _ _ _ then (c.in_ok-put_sectors.ensures.done told)) in
     heads-on c.requires.stands c.slot.ensures.map c.args.block c.args.marks.now c.args.bytes.now c.requires.within c.requires.slots was r put (works_layout c.args.head.now (works_then c.is_marked.ensures.works c.put_sectors.ensures.works)) (subst (λ n. GoesOn (layout_now (stored g.S.Store c.put_sectors.new.store) c.args.head.now) (IsMarkedIn (layout_now (stored g.S.Store c.put_sectors.new.store) c.args.head.now).block c.args.block c.args.marks.now) (slot_of n) (held_in (stored g.S.Store c.put_sectors.new.store) c.args.head.now.volume) (held_in (stored g.S.Store c.end_block.new.store) c.args.head.now.volume)) c.in_ok-put_sectors.ensures.put (c.end_block.ensures.goes told))
 
 pub returns-in_err-end_block-clause-places : goal.returns-in_err-end_block-clause-places
@@ -170,7 +170,7 @@ returns-in_err-end_block-clause-places g c = λ told.
     let then = works_layout c.args.head.now c.is_marked.ensures.works in
     let r = puts-first c.args.block c.args.marks.now c.args.bytes.now c.args.map.now then (c.is_marked.ensures.same told) (c.put_sectors.ensures.reaches told) in
     let put = subst (λ n. IsPut l W M (slot_of c.args.map.now c.args.block) (slot_of n c.args.block) c.args.block (reads (held_in (stored g.S.Store c.put_sectors.new.store) c.args.head.now.volume))) c.in_ok-put_sectors.ensures.put
-        (put-first c.args.block c.args.marks.now c.args.bytes.now _ _ _ then (c.in_ok-put_sectors.ensures.done told)) in
+    (put-first c.args.block c.args.marks.now c.args.bytes.now _ _ _ then (c.in_ok-put_sectors.ensures.done told)) in
     keeps-on c.requires.stands c.slot.ensures.map c.args.block c.args.marks.now c.args.bytes.now c.requires.within c.requires.slots was r put (works_layout c.args.head.now (works_then c.is_marked.ensures.works c.put_sectors.ensures.works)) (subst (λ n. GoesOn (layout_now (stored g.S.Store c.put_sectors.new.store) c.args.head.now) (IsMarkedIn (layout_now (stored g.S.Store c.put_sectors.new.store) c.args.head.now).block c.args.block c.args.marks.now) (slot_of n) (held_in (stored g.S.Store c.put_sectors.new.store) c.args.head.now.volume) (held_in (stored g.S.Store c.end_block.new.store) c.args.head.now.volume)) c.in_ok-put_sectors.ensures.put (c.end_block.ensures.goes told))
 
 pub returns-clause-guarded : goal.returns-clause-guarded
@@ -182,7 +182,7 @@ returns-clause-guarded g c = λ told.
     let then = works_layout c.args.head.now c.is_marked.ensures.works in
     let r = puts-first c.args.block c.args.marks.now c.args.bytes.now c.args.map.now then (c.is_marked.ensures.same told) (c.put_sectors.ensures.reaches told) in
     let put = subst (λ n. IsPut l W M (slot_of c.args.map.now c.args.block) (slot_of n c.args.block) c.args.block (reads (held_in (stored g.S.Store c.put_sectors.new.store) c.args.head.now.volume))) c.in_ok-put_sectors.ensures.put
-        (put-first c.args.block c.args.marks.now c.args.bytes.now _ _ _ then (c.in_ok-put_sectors.ensures.done told)) in
+    (put-first c.args.block c.args.marks.now c.args.bytes.now _ _ _ then (c.in_ok-put_sectors.ensures.done told)) in
     guarded-on c.requires.stands c.slot.ensures.map c.args.block c.args.marks.now c.args.bytes.now c.requires.within c.requires.slots was r put (works_layout c.args.head.now (works_then c.is_marked.ensures.works c.put_sectors.ensures.works)) (subst (λ n. GoesOn (layout_now (stored g.S.Store c.put_sectors.new.store) c.args.head.now) (IsMarkedIn (layout_now (stored g.S.Store c.put_sectors.new.store) c.args.head.now).block c.args.block c.args.marks.now) (slot_of n) (held_in (stored g.S.Store c.put_sectors.new.store) c.args.head.now.volume) (held_in (stored g.S.Store c.end_block.new.store) c.args.head.now.volume)) c.in_ok-put_sectors.ensures.put (c.end_block.ensures.goes told))
 
 pub returns-clause-heads : goal.returns-clause-heads
@@ -194,7 +194,7 @@ returns-clause-heads g c = λ told.
     let then = works_layout c.args.head.now c.is_marked.ensures.works in
     let r = puts-first c.args.block c.args.marks.now c.args.bytes.now c.args.map.now then (c.is_marked.ensures.same told) (c.put_sectors.ensures.reaches told) in
     let put = subst (λ n. IsPut l W M (slot_of c.args.map.now c.args.block) (slot_of n c.args.block) c.args.block (reads (held_in (stored g.S.Store c.put_sectors.new.store) c.args.head.now.volume))) c.in_ok-put_sectors.ensures.put
-        (put-first c.args.block c.args.marks.now c.args.bytes.now _ _ _ then (c.in_ok-put_sectors.ensures.done told)) in
+    (put-first c.args.block c.args.marks.now c.args.bytes.now _ _ _ then (c.in_ok-put_sectors.ensures.done told)) in
     heads-on c.requires.stands c.slot.ensures.map c.args.block c.args.marks.now c.args.bytes.now c.requires.within c.requires.slots was r put (works_layout c.args.head.now (works_then c.is_marked.ensures.works c.put_sectors.ensures.works)) (subst (λ n. GoesOn (layout_now (stored g.S.Store c.put_sectors.new.store) c.args.head.now) (IsMarkedIn (layout_now (stored g.S.Store c.put_sectors.new.store) c.args.head.now).block c.args.block c.args.marks.now) (slot_of n) (held_in (stored g.S.Store c.put_sectors.new.store) c.args.head.now.volume) (held_in (stored g.S.Store c.end_block.new.store) c.args.head.now.volume)) c.in_ok-put_sectors.ensures.put (c.end_block.ensures.goes told))
 
 pub returns-clause-places : goal.returns-clause-places
@@ -206,7 +206,7 @@ returns-clause-places g c = λ told.
     let then = works_layout c.args.head.now c.is_marked.ensures.works in
     let r = puts-first c.args.block c.args.marks.now c.args.bytes.now c.args.map.now then (c.is_marked.ensures.same told) (c.put_sectors.ensures.reaches told) in
     let put = subst (λ n. IsPut l W M (slot_of c.args.map.now c.args.block) (slot_of n c.args.block) c.args.block (reads (held_in (stored g.S.Store c.put_sectors.new.store) c.args.head.now.volume))) c.in_ok-put_sectors.ensures.put
-        (put-first c.args.block c.args.marks.now c.args.bytes.now _ _ _ then (c.in_ok-put_sectors.ensures.done told)) in
+    (put-first c.args.block c.args.marks.now c.args.bytes.now _ _ _ then (c.in_ok-put_sectors.ensures.done told)) in
     keeps-on c.requires.stands c.slot.ensures.map c.args.block c.args.marks.now c.args.bytes.now c.requires.within c.requires.slots was r put (works_layout c.args.head.now (works_then c.is_marked.ensures.works c.put_sectors.ensures.works)) (subst (λ n. GoesOn (layout_now (stored g.S.Store c.put_sectors.new.store) c.args.head.now) (IsMarkedIn (layout_now (stored g.S.Store c.put_sectors.new.store) c.args.head.now).block c.args.block c.args.marks.now) (slot_of n) (held_in (stored g.S.Store c.put_sectors.new.store) c.args.head.now.volume) (held_in (stored g.S.Store c.end_block.new.store) c.args.head.now.volume)) c.in_ok-put_sectors.ensures.put (c.end_block.ensures.goes told))
 
 pub returns-clause-still : goal.returns-clause-still
@@ -218,7 +218,7 @@ returns-clause-still g c = λ told.
     let then = works_layout c.args.head.now c.is_marked.ensures.works in
     let r = puts-first c.args.block c.args.marks.now c.args.bytes.now c.args.map.now then (c.is_marked.ensures.same told) (c.put_sectors.ensures.reaches told) in
     let put = subst (λ n. IsPut l W M (slot_of c.args.map.now c.args.block) (slot_of n c.args.block) c.args.block (reads (held_in (stored g.S.Store c.put_sectors.new.store) c.args.head.now.volume))) c.in_ok-put_sectors.ensures.put
-        (put-first c.args.block c.args.marks.now c.args.bytes.now _ _ _ then (c.in_ok-put_sectors.ensures.done told)) in
+    (put-first c.args.block c.args.marks.now c.args.bytes.now _ _ _ then (c.in_ok-put_sectors.ensures.done told)) in
     let had : c.is_some-held.result ≡ is_some (slot_of c.args.map.now c.args.block) = search rules in
     subst (λ n. IsTrueOf l (held_in (stored g.S.Store c.end_block.new.store) c.args.head.now.volume) c.args.head.now (slot_of n)) (sym c.in_ok-put_sectors.ensures.put)
     (still-on c.requires.stands c.slot.ensures.map c.args.block c.args.marks.now c.args.bytes.now c.requires.within c.requires.slots was r put (works_layout c.args.head.now (works_then c.is_marked.ensures.works c.put_sectors.ensures.works)) had (subst (λ n. IsFinished (layout_now (stored g.S.Store c.put_sectors.new.store) c.args.head.now) (IsMarkedIn (layout_now (stored g.S.Store c.put_sectors.new.store) c.args.head.now).block c.args.block c.args.marks.now) (slot_of n) c.args.block (c.args.block + 1) c.is_some-held.result (held_in (stored g.S.Store c.put_sectors.new.store) c.args.head.now.volume) (held_in (stored g.S.Store c.end_block.new.store) c.args.head.now.volume)) c.in_ok-put_sectors.ensures.put (c.in_ok-end_block.ensures.done told)))
@@ -232,6 +232,6 @@ returns-clause-written g c = λ told.
     let then = works_layout c.args.head.now c.is_marked.ensures.works in
     let r = puts-first c.args.block c.args.marks.now c.args.bytes.now c.args.map.now then (c.is_marked.ensures.same told) (c.put_sectors.ensures.reaches told) in
     let put = subst (λ n. IsPut l W M (slot_of c.args.map.now c.args.block) (slot_of n c.args.block) c.args.block (reads (held_in (stored g.S.Store c.put_sectors.new.store) c.args.head.now.volume))) c.in_ok-put_sectors.ensures.put
-        (put-first c.args.block c.args.marks.now c.args.bytes.now _ _ _ then (c.in_ok-put_sectors.ensures.done told)) in
+    (put-first c.args.block c.args.marks.now c.args.bytes.now _ _ _ then (c.in_ok-put_sectors.ensures.done told)) in
     let had : c.is_some-held.result ≡ is_some (slot_of c.args.map.now c.args.block) = search rules in
     written-on c.requires.stands c.slot.ensures.map c.args.block c.args.marks.now c.args.bytes.now c.requires.within c.requires.slots was r put (works_layout c.args.head.now (works_then c.is_marked.ensures.works c.put_sectors.ensures.works)) had (subst (λ n. IsFinished (layout_now (stored g.S.Store c.put_sectors.new.store) c.args.head.now) (IsMarkedIn (layout_now (stored g.S.Store c.put_sectors.new.store) c.args.head.now).block c.args.block c.args.marks.now) (slot_of n) c.args.block (c.args.block + 1) c.is_some-held.result (held_in (stored g.S.Store c.put_sectors.new.store) c.args.head.now.volume) (held_in (stored g.S.Store c.end_block.new.store) c.args.head.now.volume)) c.in_ok-put_sectors.ensures.put (c.in_ok-end_block.ensures.done told))
