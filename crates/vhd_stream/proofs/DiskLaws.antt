@@ -146,12 +146,12 @@ module _ (c : Content) (whole : (p : ℕ) → IsLong (c.area p)) where
 
 -- ---- the sectors of an image
 
-same-numbers : (a n : ℕ) → numbers a n ≡ range_with_len a n
+pub same-numbers : (a n : ℕ) → numbers a n ≡ range_with_len a n
 unfolding numbers
 same-numbers a zero = refl
 same-numbers a (suc n) = ap (λ (l : List ℕ). a ∷ l) (same-numbers (a + 1) n)
 
-sectors-are : (c : Content) (n : Name) (i : Image) → image_of c n ≡ Some i → sectors_read c n ≡ map (image_reads c n) (range_with_len 0 i.size)
+pub sectors-are : (c : Content) (n : Name) (i : Image) → image_of c n ≡ Some i → sectors_read c n ≡ map (image_reads c n) (range_with_len 0 i.size)
 unfolding sectors_read
 sectors-are c n i is =
     ap (λ (o : Option Image). elim o as (λ _. List (List ℕ)) [ None ↦ [] | Some j ↦ map (image_reads c n) (numbers 0 j.size) ]) is ∙ ap (map (image_reads c n)) (same-numbers 0 i.size)

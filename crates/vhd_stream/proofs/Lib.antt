@@ -1,6 +1,13 @@
+pub mod BlockLaws
 pub mod DiskLaws
 pub mod ExportLaws
+pub mod ExportSteps
 pub mod ImageLaws
+pub mod KnownLaws
+pub mod KnownSteps
 pub mod PieceLaws
+pub mod RangeLaws
+pub mod SendLaws
 pub mod StandingLaws
 pub mod TableLaws
+pub mod TableSteps

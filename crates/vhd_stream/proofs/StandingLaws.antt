@@ -99,7 +99,7 @@ either true b h = absurd (let clash : true ≡ false = h in cc clash)
 either false b h = (refl, h)
 
 -- an image without the block holds nothing of it, or ends in front of it
-without : (c : Content) (n : Name) (i : Image) (b j : ℕ) → image_of c n ≡ Some i → j < c.block → b < c.entries → has_block c.block n i b ≡ false
+without : (c : Content) (n : Name) (i : Image) (b j : ℕ) → image_of c n ≡ Some i → j < c.block → b < c.entries → has_block c.block n i.size i.slots b ≡ false
     → (i.own (b * c.block + j) ≡ None) ⊎ (i.size ≤ b * c.block + j)
 unfolding has_block is_vhd
 without c (Vhd u) i b j is part within none = inl (vhd-none c u i b j (vhd-is c u i is) part within none)
@@ -113,7 +113,7 @@ settled : (Name → List ℕ) → ImageAnswer → List ℕ
 settled f a = elim a [ here bytes ↦ bytes | up p ↦ f p ]
 
 there-next : ℕ → Content → Name → ℕ → Option Image → Bool
-there-next most c n b o = elim o [ None ↦ false | Some i ↦ has_block c.block n i b || above most c b i.parent ]
+there-next most c n b o = elim o [ None ↦ false | Some i ↦ has_block c.block n i.size i.slots b || above most c b i.parent ]
 
 none-here : (s : ℕ) → answer_of s None ≡ here zeros
 unfolding answer_of
@@ -148,7 +148,7 @@ not-there (suc most) c n b j part within none = by (λ p h. not-there most c p b
     by : Below → (o : Option Image) → image_of c n ≡ o → walk (suc most) (λ m. answer_of (b * c.block + j) (image_of c m)) n ≡ zeros
     by ih None is = ap (λ o. settled rest (answer_of (b * c.block + j) o)) is ∙ ap (settled rest) (none-here (b * c.block + j))
     by ih (Some i) is =
-        let parts = either (has_block c.block n i b) (above most c b i.parent) (ap (there-next most c n b) (sym is) ∙ none) in
+        let parts = either (has_block c.block n i.size i.slots b) (above most c b i.parent) (ap (there-next most c n b) (sym is) ∙ none) in
         in-bounds ih i is parts.1 (without c n i b j is part within parts.0) (cases_lt (b * c.block + j) i.size)
 
 -- so a sector of a block that is in no image of a chain

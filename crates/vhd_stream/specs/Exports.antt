@@ -2,7 +2,7 @@
 -- Specification 1.0, 'Dynamic Hard Disk Image'). It has a footer, a header, the table, the blocks that are there in order and without
 -- gaps, and the footer again. A block is there where an image of the disk's chain has a slot for it, or where a raw image of the chain
 -- reaches it.
-use Rattle.std.specs.Prelude.{◌≡◌, ℕ, zero, suc, ◌+◌, ◌-◌, ◌*◌, ◌/◌, nat_lt, Bool, false, ◌&&◌, ◌||◌, List, [], ◌∷◌, ◌++◌, length, map, take, drop, replicate, None, Some, is_some, if◌then◌else◌}
+use Rattle.std.specs.Prelude.{◌≡◌, ℕ, zero, suc, ◌+◌, ◌-◌, ◌*◌, ◌/◌, nat_lt, Bool, false, ◌&&◌, ◌||◌, List, [], ◌∷◌, ◌++◌, length, map, take, drop, replicate, Option, None, Some, is_some, if◌then◌else◌}
 use Rattle.std.specs.List.{concat, flat_map, range_with_len}
 use Rattle.byteorder.specs.Endian.{big_bytes}
 use Rattle.sm_base.specs.Numbers.{div_up}
@@ -16,7 +16,7 @@ use Rattle.vhd_image.specs.Made.{new_footer, no_uid}
 use Rattle.vhd_map.specs.Places.{blank}
 use Rattle.vhd_map.specs.Slots.{slot_of}
 use Rattle.sm_standing.specs.Contents.{Content}
-use Rattle.sm_standing.specs.Images.{Image, image_of, sectors_read}
+use Rattle.sm_standing.specs.Images.{image_of, sectors_read}
 use Rattle.sm_standing.specs.Standing.{standing_volume}
 use Rattle.vhd_stream.specs.Files.{File}
 
@@ -82,16 +82,16 @@ exported x uuid now =
 
 -- ---- of a disk
 
--- an image has block b: a VHD image has a slot for it, and a raw one reaches it
-unfoldable pub has_block : ℕ → Name → Image → ℕ → Bool
-has_block block n i b = if is_vhd n then is_some (slot_of i.slots b) else nat_lt (b * block) i.size
+-- an image of so many sectors and with these slots has block b: a VHD image has a slot for it, and a raw one reaches it
+unfoldable pub has_block : ℕ → Name → ℕ → List (Option ℕ) → ℕ → Bool
+has_block block n size slots b = if is_vhd n then is_some (slot_of slots b) else nat_lt (b * block) size
 
 -- some image of the chain of an image has block b, of so many images at most
 unfoldable pub is_there : ℕ → Content → Name → ℕ → Bool
 is_there zero c n b = false
 is_there (suc most) c n b = elim (image_of c n) [
   | None ↦ false
-  | Some i ↦ has_block c.block n i b || (elim i.parent [ None ↦ false | Some p ↦ is_there most c p b ])
+  | Some i ↦ has_block c.block n i.size i.slots b || (elim i.parent [ None ↦ false | Some p ↦ is_there most c p b ])
 ]
 
 -- the disk of an image by its blocks
