@@ -1,6 +1,7 @@
 //! The disks that a script leaves behind each of its lines, as its lines and their replies say.
 
-use case_text::{Command, Step, Wrong, differs, found, is_filled, piece};
+use case_text::{Step, piece};
+use case_words::{Command, Wrong, differs, found, is_filled};
 use std::alloc::{AllocError, Global};
 
 /// A disk. Its texts are those of the script.

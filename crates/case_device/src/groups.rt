@@ -6,19 +6,22 @@ ghost use Rattle.vg_meta.specs.Changes.{Permits, HasRoom};
 ghost use Rattle.vg_volumes.specs.Sites.{Fits};
 ghost use Rattle.vg_volumes.specs.Stored.{CanCommit};
 
-use case_text::{Commit, Wrong, found, numbers_of};
+use crate::devices::Device;
+use case_text::Commit;
+use case_words::{Wrong, found, numbers_of};
 use sm_base::Name;
 use sm_disk::MemDisk;
+use sm_span::Span;
 use std::alloc::Global;
 use vg_meta::{Change, Extents, Tag};
 use vg_store::Group;
 use vg_volumes::Store;
 
 /// The group on a device.
-pub fn opened(alloc: Global, disk: MemDisk) -> Result<Group<MemDisk>, Wrong>
+pub fn opened(alloc: Global, device: Device) -> Result<Group<Span<MemDisk, MemDisk>>, Wrong>
     ensures { IfOk result (λ g. g.failed ≡ false) }
 {
-    match Group::open(alloc, disk) {
+    match Group::open(alloc, device.span(alloc)?) {
         Ok(group) => Ok(group),
         Err((_fault, _disk)) => Err(found(alloc, "a group that does not open")),
     }
@@ -103,18 +106,18 @@ fn commit<S: Store>(alloc: Global, store: &mut S, change: Change) -> Result<(), 
 }
 
 /// Does a change of the group on a device.
-fn changed(alloc: Global, disk: MemDisk, change: Change) -> Result<MemDisk, Wrong> {
-    let mut group = opened(alloc, disk)?;
+fn changed(alloc: Global, device: Device, change: Change) -> Result<Device, Wrong> {
+    let mut group = opened(alloc, device)?;
     let done = commit(alloc, &mut group, change);
-    let disk = group.into_disk();
+    let device = Device::of(group.into_disk());
     done?;
-    Ok(disk)
+    Ok(device)
 }
 
 /// What is left of a device at least once a change was committed on it. Nothing is pending on it, and no call was counted.
-pub fn committed(alloc: Global, disk: &MemDisk, commit: Commit<'_>) -> Result<MemDisk, Wrong> {
+pub fn committed(alloc: Global, device: &Device, commit: Commit<'_>) -> Result<Device, Wrong> {
     let change = change_of(alloc, commit)?;
-    let mut disk = changed(alloc, disk.left(alloc, &[])?, change)?;
+    let mut device = changed(alloc, device.copy(alloc)?, change)?;
     if let Commit::Make {
         image,
         stands: true,
@@ -122,7 +125,7 @@ pub fn committed(alloc: Global, disk: &MemDisk, commit: Commit<'_>) -> Result<Me
     } = commit
     {
         let change = marked(alloc, image, Tag::Fresh, false)?;
-        disk = changed(alloc, disk, change)?;
+        device = changed(alloc, device, change)?;
     }
-    Ok(disk.left(alloc, &[])?)
+    device.copy(alloc)
 }

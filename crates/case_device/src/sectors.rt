@@ -1,9 +1,10 @@
 //! Bytes of a device that a case writes over or asks for.
 
+use crate::devices::Device;
 use crate::groups::{name_of, opened};
-use case_text::{At, Place, Site, Wrong, bytes_of, found};
+use case_text::{At, Place, Site};
+use case_words::{Wrong, bytes_of, found};
 use sm_base::Name;
-use sm_disk::{Disk, MemDisk, read_sector, write_sector};
 use std::alloc::Global;
 use vg_volumes::Store;
 
@@ -33,24 +34,6 @@ enum Sums {
 struct Summed {
     sector: u64,
     sums: Sums,
-}
-
-/// A sector of the device.
-fn read(alloc: Global, disk: &mut MemDisk, at: u64) -> Result<[u8; 512], Wrong> {
-    if at >= disk.sectors() {
-        return Err(found(alloc, "no such sector of the device"));
-    }
-    Ok(read_sector(disk, at)?)
-}
-
-/// Writes a sector of the device, so that it lasts.
-fn write(alloc: Global, disk: &mut MemDisk, at: u64, sector: &[u8; 512]) -> Result<(), Wrong> {
-    if at >= disk.sectors() {
-        return Err(found(alloc, "no such sector of the device"));
-    }
-    write_sector(disk, at, sector)?;
-    disk.sync()?;
-    Ok(())
 }
 
 /// The number in four bytes of a sector.
@@ -88,7 +71,7 @@ fn slot_of(header: &[u8; 512]) -> u64 {
 }
 
 /// The sum of the table's text.
-fn text_sum(alloc: Global, disk: &mut MemDisk, header: &[u8; 512]) -> Result<u32, Wrong> {
+fn text_sum(alloc: Global, disk: &mut Device, header: &[u8; 512]) -> Result<u32, Wrong> {
     let slot = slot_of(header);
     let mut left = number_at(header, 12) as usize;
     let mut sum = 0u32;
@@ -96,7 +79,7 @@ fn text_sum(alloc: Global, disk: &mut MemDisk, header: &[u8; 512]) -> Result<u32
         if left == 0 {
             break;
         }
-        let sector = read(alloc, disk, slot.saturating_add(index))?;
+        let sector = disk.read(alloc, slot.saturating_add(index))?;
         sum = sum.wrapping_add(sum_front(&sector, left));
         left = left.saturating_sub(512);
     }
@@ -104,43 +87,43 @@ fn text_sum(alloc: Global, disk: &mut MemDisk, header: &[u8; 512]) -> Result<u32
 }
 
 /// Makes the sum over the bytes in front of a sector's last four right.
-fn seal(alloc: Global, disk: &mut MemDisk, at: u64) -> Result<(), Wrong> {
-    let mut sector = read(alloc, disk, at)?;
+fn seal(alloc: Global, disk: &mut Device, at: u64) -> Result<(), Wrong> {
+    let mut sector = disk.read(alloc, at)?;
     let sum = sum_front(&sector, 508);
     put_at(&mut sector, 508, &sum.to_be_bytes());
-    write(alloc, disk, at, &sector)
+    disk.write(alloc, at, &sector)
 }
 
 /// Makes the sums of the table right.
-fn seal_table(alloc: Global, disk: &mut MemDisk) -> Result<(), Wrong> {
-    let mut header = read(alloc, disk, 1)?;
+fn seal_table(alloc: Global, disk: &mut Device) -> Result<(), Wrong> {
+    let mut header = disk.read(alloc, 1)?;
     let sum = text_sum(alloc, disk, &header)?;
     put_at(&mut header, 16, &sum.to_be_bytes());
-    write(alloc, disk, 1, &header)?;
+    disk.write(alloc, 1, &header)?;
     seal(alloc, disk, 1)
 }
 
 /// Makes the checksum of a footer right.
-fn seal_footer(alloc: Global, disk: &mut MemDisk, at: u64) -> Result<(), Wrong> {
-    let mut sector = read(alloc, disk, at)?;
+fn seal_footer(alloc: Global, disk: &mut Device, at: u64) -> Result<(), Wrong> {
+    let mut sector = disk.read(alloc, at)?;
     put_at(&mut sector, 64, &[0; 4]);
     let sum = sum_front(&sector, 512);
     put_at(&mut sector, 64, &(!sum).to_be_bytes());
-    write(alloc, disk, at, &sector)
+    disk.write(alloc, at, &sector)
 }
 
 /// Makes the checksum of a header of two sectors right.
-fn seal_header(alloc: Global, disk: &mut MemDisk, at: u64) -> Result<(), Wrong> {
-    let mut sector = read(alloc, disk, at)?;
-    let next = read(alloc, disk, at.saturating_add(1))?;
+fn seal_header(alloc: Global, disk: &mut Device, at: u64) -> Result<(), Wrong> {
+    let mut sector = disk.read(alloc, at)?;
+    let next = disk.read(alloc, at.saturating_add(1))?;
     put_at(&mut sector, 36, &[0; 4]);
     let sum = sum_front(&sector, 512).wrapping_add(sum_front(&next, 512));
     put_at(&mut sector, 36, &(!sum).to_be_bytes());
-    write(alloc, disk, at, &sector)
+    disk.write(alloc, at, &sector)
 }
 
 /// Makes the sums over a sector right.
-fn make_right(alloc: Global, disk: &mut MemDisk, at: Summed) -> Result<(), Wrong> {
+fn make_right(alloc: Global, disk: &mut Device, at: Summed) -> Result<(), Wrong> {
     match at.sums {
         Sums::Nothing => Err(found(alloc, "no sum stands over this place")),
         Sums::Own => seal(alloc, disk, at.sector),
@@ -160,9 +143,9 @@ fn list_of<S: Store>(alloc: Global, store: &S, name: &Name) -> Result<Vec<u32>, 
 }
 
 /// The extents of a volume in the group on a device, and the sectors of one.
-fn extents_of(alloc: Global, disk: &MemDisk, volume: &str) -> Result<(Vec<u32>, u64), Wrong> {
+fn extents_of(alloc: Global, disk: &Device, volume: &str) -> Result<(Vec<u32>, u64), Wrong> {
     let name = name_of(alloc, volume)?;
-    let group = opened(alloc, disk.left(alloc, &[])?)?;
+    let group = opened(alloc, disk.copy(alloc)?)?;
     let extent = u64::from(group.geometry().extent);
     let list = list_of(alloc, &group, &name);
     let _disk = group.into_disk();
@@ -180,7 +163,7 @@ fn image_sums(at: u64, size: u64) -> Sums {
 }
 
 /// A sector of a volume.
-fn volume_sector(alloc: Global, disk: &MemDisk, volume: &str, at: At) -> Result<Summed, Wrong> {
+fn volume_sector(alloc: Global, disk: &Device, volume: &str, at: At) -> Result<Summed, Wrong> {
     let (extents, extent) = extents_of(alloc, disk, volume)?;
     let size = extent.saturating_mul(extents.len() as u64);
     let at = match at {
@@ -200,11 +183,11 @@ fn volume_sector(alloc: Global, disk: &MemDisk, volume: &str, at: At) -> Result<
 }
 
 /// The sector that a case names.
-fn sector_of(alloc: Global, disk: &mut MemDisk, site: Site<'_>) -> Result<Summed, Wrong> {
+fn sector_of(alloc: Global, disk: &mut Device, site: Site<'_>) -> Result<Summed, Wrong> {
     let (sector, sums) = match site {
         Site::Label => (0, Sums::Own),
         Site::Header => (1, Sums::Table),
-        Site::Text => (slot_of(&read(alloc, disk, 1)?), Sums::Table),
+        Site::Text => (slot_of(&disk.read(alloc, 1)?), Sums::Table),
         Site::Record(number) => (number.saturating_add(FRONT), Sums::Own),
         Site::Sector(at) => (at, Sums::Nothing),
         Site::Volume { name, at } => return volume_sector(alloc, disk, name, at),
@@ -224,16 +207,16 @@ fn fitting(alloc: Global, words: &str, offset: usize) -> Result<Vec<u8>, Wrong> 
 /// Writes bytes over at a place, and makes right the sums over it where that is asked for.
 pub fn set(
     alloc: Global,
-    disk: &mut MemDisk,
+    disk: &mut Device,
     place: Place<'_>,
     words: &str,
     seals: bool,
 ) -> Result<(), Wrong> {
     let at = sector_of(alloc, disk, place.site)?;
     let bytes = fitting(alloc, words, place.offset)?;
-    let mut sector = read(alloc, disk, at.sector)?;
+    let mut sector = disk.read(alloc, at.sector)?;
     put_at(&mut sector, place.offset, &bytes);
-    write(alloc, disk, at.sector, &sector)?;
+    disk.write(alloc, at.sector, &sector)?;
     if seals {
         return make_right(alloc, disk, at);
     }
@@ -251,10 +234,10 @@ fn other_byte(sector: &[u8; 512], from: usize, wanted: &[u8]) -> Option<(usize, 
 }
 
 /// Whether a device has bytes at a place.
-pub fn has(alloc: Global, disk: &mut MemDisk, place: Place<'_>, words: &str) -> Result<(), Wrong> {
+pub fn has(alloc: Global, disk: &mut Device, place: Place<'_>, words: &str) -> Result<(), Wrong> {
     let at = sector_of(alloc, disk, place.site)?;
     let bytes = fitting(alloc, words, place.offset)?;
-    let sector = read(alloc, disk, at.sector)?;
+    let sector = disk.read(alloc, at.sector)?;
     if let Some((at, byte)) = other_byte(&sector, place.offset, &bytes) {
         let text = format!(in alloc; "byte {at} of these is {byte:02x}")?;
         return Err(found(alloc, text.as_str()));

@@ -1,13 +1,12 @@
 //! A case as it is worked: its device, and the book of the disks on it.
 
 use crate::calls::{calls, costs};
-use crate::devices::{device, formatted, misspelled, refused};
-use crate::probes::{Answered, probe};
-use crate::tester::Tester;
-use case_device::{Book, committed, has, set};
-use case_text::{Act, Entry, File, Script, Step, Units, Wrong, compare, differs, found, text_of};
+use crate::devices::{device, formatted, misspelled, refused, tried};
+use case_device::{Book, Device, committed, has, set};
+use case_runs::{Answered, Tester, probe};
+use case_text::{Act, Entry, File, Script, Step, Units, compare, text_of};
+use case_words::{Wrong, found};
 use lvhd_command::Status;
-use sm_disk::MemDisk;
 use std::alloc::Global;
 
 /// What the case knows of the disks on its device.
@@ -22,7 +21,7 @@ pub struct Known<'a> {
 /// A case as it is worked.
 #[derive(Drop)]
 pub struct Bench<'a> {
-    pub disk: MemDisk,
+    pub disk: Device,
     pub known: Known<'a>,
     /// How many calls of the device the last line made of which that was asked.
     pub cost: Option<u64>,
@@ -30,7 +29,7 @@ pub struct Bench<'a> {
 
 impl<'a> Bench<'a> {
     /// A case on a device as each case begins on.
-    pub fn new(alloc: Global, usual: &MemDisk) -> Result<Bench<'a>, Wrong> {
+    pub fn new(alloc: Global, usual: &Device) -> Result<Bench<'a>, Wrong> {
         let known = Known {
             book: Book::new(alloc)?,
             units: Units {
@@ -40,7 +39,7 @@ impl<'a> Bench<'a> {
             is_held: true,
         };
         Ok(Bench {
-            disk: usual.left(alloc, &[])?,
+            disk: usual.copy(alloc)?,
             known,
             cost: None,
         })
@@ -72,7 +71,7 @@ impl<'a> Known<'a> {
 /// Runs a script on a device: it is answered as it is to be, to its end. Answers what was printed.
 pub fn answered(
     tester: &mut Tester,
-    disk: &mut MemDisk,
+    disk: &mut Device,
     steps: &[Step<'_>],
     is_open: bool,
     units: Units,
@@ -87,7 +86,7 @@ pub fn answered(
 /// Runs a script on a device as [`answered`] does, and adds it to the book.
 pub fn followed<'a>(
     tester: &mut Tester,
-    disk: &mut MemDisk,
+    disk: &mut Device,
     known: &mut Known<'a>,
     steps: &[Step<'a>],
     is_open: bool,
@@ -141,6 +140,10 @@ fn handle(alloc: Global, bench: &mut Bench<'_>, act: Act<'_>) -> Result<(), Wron
             bench.disk = device(alloc, sectors, is_stale)?;
             Ok(())
         }
+        Act::Border(sectors) => {
+            bench.disk = bench.disk.bordered(alloc, sectors)?;
+            Ok(())
+        }
         Act::Set {
             place,
             bytes,
@@ -172,6 +175,7 @@ pub fn perform<'a>(
         Act::Refused(line) => refused(tester, &bench.disk, line),
         Act::Format { words, line, units } => format(tester, bench, words, line, units),
         Act::Words(words) => misspelled(tester, &mut bench.disk, words),
+        Act::Trial { number, line } => tried(tester, &mut bench.disk, number, line),
         Act::Shows => shows(tester, bench),
         Act::Calls(number) => calls(tester, bench, file.steps(entry.script), number),
         Act::Costs(cost) => costs(tester, bench, file.steps(entry.script), cost),

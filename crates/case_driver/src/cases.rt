@@ -2,9 +2,10 @@
 
 use crate::bench::{Bench, perform};
 use crate::faults::each;
-use crate::tester::{Tester, count};
-use case_text::{Act, File, Head, Kind, Wrong};
-use sm_disk::MemDisk;
+use case_device::Device;
+use case_runs::{Tester, count};
+use case_text::{Act, File, Head, Kind};
+use case_words::Wrong;
 use std::alloc::{AllocError, Global};
 
 /// What is said of a case, and whether that is well.
@@ -42,7 +43,7 @@ fn work_on<'a>(
 /// Works a case, behind the parts that it begins with.
 fn work<'a>(
     tester: &mut Tester,
-    usual: &MemDisk,
+    usual: &Device,
     file: &File<'a>,
     head: &Head<'a>,
 ) -> Result<(), Wrong> {
@@ -105,7 +106,7 @@ fn judged(
 /// Works a case of a file, and answers what is said of it.
 pub fn verdict<'a>(
     tester: &mut Tester,
-    usual: &MemDisk,
+    usual: &Device,
     name: &str,
     file: &File<'a>,
     head: &Head<'a>,

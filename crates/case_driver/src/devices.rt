@@ -1,9 +1,10 @@
 //! Devices, formats and refusals.
 
-use crate::tester::{Outcome, RUN, Streams, Tester, WHOLE};
-use case_text::{Wrong, differs, found};
+use case_device::{Choice, Device};
+use case_runs::{Outcome, RUN, Streams, Tester, WHOLE};
+use case_text::Part;
+use case_words::{Wrong, differs, found};
 use lvhd_command::Status;
-use sm_disk::{Disk, MemDisk, read_sector, write_sector};
 use std::alloc::Global;
 
 /// A case begins on a device of so many sectors: 64 extents of 32 behind the front of the volume group.
@@ -23,47 +24,38 @@ const FULL: Streams = Streams {
 const STALE: [u8; 512] = [0xee; 512];
 
 /// Writes stale bytes into the sectors of a device from this one on, so that they last.
-fn spoil(disk: &mut MemDisk, from: u64) -> Result<(), Wrong> {
+fn spoil(alloc: Global, disk: &mut Device, from: u64) -> Result<(), Wrong> {
     for at in from..disk.sectors() {
-        if at < disk.sectors() {
-            write_sector(disk, at, &STALE)?;
-        }
+        disk.put(alloc, at, &STALE)?;
     }
-    disk.sync()?;
-    Ok(())
+    disk.settle()
 }
 
 /// A device of so many sectors, of stale bytes or of zeros.
-pub fn device(alloc: Global, sectors: u64, is_stale: bool) -> Result<MemDisk, Wrong> {
-    let mut disk = MemDisk::new(alloc, sectors)?;
+pub fn device(alloc: Global, sectors: u64, is_stale: bool) -> Result<Device, Wrong> {
+    let mut disk = Device::new(alloc, sectors)?;
     if is_stale {
-        spoil(&mut disk, 0)?;
+        spoil(alloc, &mut disk, 0)?;
     }
     Ok(disk)
 }
 
 /// The device that a case begins on: a repository on 6,144 sectors, over stale bytes.
-pub fn usual_device(tester: &mut Tester) -> Result<MemDisk, Wrong> {
-    let mut disk = MemDisk::new(tester.alloc, USUAL_SECTORS)?;
+pub fn usual_device(tester: &mut Tester) -> Result<Device, Wrong> {
+    let mut disk = Device::new(tester.alloc, USUAL_SECTORS)?;
     let words = "16384 4096 64 99999999-9999-4999-8999-999999999999";
     formatted(tester, &mut disk, words, "ok extents 64 free 48")?;
-    spoil(&mut disk, USUAL_FREE)?;
-    Ok(disk.left(tester.alloc, &[])?)
-}
-
-/// Whether two devices have the same sector at a place.
-fn same_at(one: &mut MemDisk, other: &mut MemDisk, at: u64) -> Result<bool, Wrong> {
-    if at >= one.sectors().min(other.sectors()) {
-        return Ok(false);
-    }
-    let sector = read_sector(one, at)?;
-    Ok(sector == read_sector(other, at)?)
+    spoil(tester.alloc, &mut disk, USUAL_FREE)?;
+    disk.copy(tester.alloc)
 }
 
 /// Whether two devices have the same sectors.
-pub fn same_sectors(one: &mut MemDisk, other: &mut MemDisk) -> Result<bool, Wrong> {
-    for at in 0..one.sectors().max(other.sectors()) {
-        if !same_at(one, other, at)? {
+pub fn same_sectors(alloc: Global, one: &mut Device, other: &mut Device) -> Result<bool, Wrong> {
+    if one.sectors() != other.sectors() {
+        return Ok(false);
+    }
+    for at in 0..one.sectors() {
+        if one.read(alloc, at)? != other.read(alloc, at)? {
             return Ok(false);
         }
     }
@@ -71,10 +63,10 @@ pub fn same_sectors(one: &mut MemDisk, other: &mut MemDisk) -> Result<bool, Wron
 }
 
 /// Whether a device is as it was, by what a stop leaves at least and by what it leaves of one value more.
-fn stayed(alloc: Global, before: &mut MemDisk, after: &MemDisk) -> Result<(), Wrong> {
-    let mut least = after.left(alloc, &[])?;
-    let mut next = after.left(alloc, &[1])?;
-    if same_sectors(before, &mut least)? && same_sectors(before, &mut next)? {
+fn stayed(alloc: Global, before: &mut Device, after: &Device) -> Result<(), Wrong> {
+    let mut least = after.copy(alloc)?;
+    let mut next = after.left(alloc, Choice::both(&[1]))?;
+    if same_sectors(alloc, before, &mut least)? && same_sectors(alloc, before, &mut next)? {
         return Ok(());
     }
     Err(found(alloc, "the device is not as it was"))
@@ -85,8 +77,8 @@ fn ends(
     tester: &Tester,
     outcome: &Outcome,
     wanted: &str,
-    before: &mut MemDisk,
-    after: &MemDisk,
+    before: &mut Device,
+    after: &Device,
 ) -> Result<(), Wrong> {
     let got = outcome.printed.as_str();
     if got.strip_suffix("\n").unwrap_or("") != wanted {
@@ -102,7 +94,7 @@ fn ends(
 /// Runs the program with words, over a script of one line.
 fn run_words(
     tester: &mut Tester,
-    disk: &mut MemDisk,
+    disk: &mut Device,
     words: &str,
     streams: Streams,
 ) -> Result<Outcome, Wrong> {
@@ -124,30 +116,30 @@ fn fills(tester: &Tester, outcome: &Outcome, line: &str) -> Result<(), Wrong> {
 /// is as it was each time.
 fn format_refused(
     tester: &mut Tester,
-    disk: &mut MemDisk,
-    before: &mut MemDisk,
+    disk: &mut Device,
+    before: &mut Device,
     words: &str,
     line: &str,
 ) -> Result<(), Wrong> {
-    disk.fail(tester.alloc, &[0])?;
+    disk.fail(tester.alloc, Part::First, 0)?;
     let outcome = run_words(tester, disk, words, WHOLE)?;
     ends(tester, &outcome, line, before, disk)?;
     let outcome = run_words(tester, disk, words, FULL)?;
     fills(tester, &outcome, line)?;
-    *disk = disk.left(tester.alloc, &[])?;
+    *disk = disk.copy(tester.alloc)?;
     stayed(tester.alloc, before, disk)
 }
 
 /// Runs `format` with these words behind it, which prints this line. Where the line is an error, the device is as it was.
 pub fn formatted(
     tester: &mut Tester,
-    disk: &mut MemDisk,
+    disk: &mut Device,
     words: &str,
     line: &str,
 ) -> Result<(), Wrong> {
     let alloc = tester.alloc;
     let words = format!(in alloc; "format {words}")?;
-    let mut before = disk.left(alloc, &[])?;
+    let mut before = disk.copy(alloc)?;
     if line.starts_with("error ") {
         return format_refused(tester, disk, &mut before, words.as_str(), line);
     }
@@ -155,9 +147,23 @@ pub fn formatted(
     ends(tester, &outcome, line, &mut before, disk)
 }
 
+/// Runs a trial by a number, which prints this line.
+pub fn tried(
+    tester: &mut Tester,
+    disk: &mut Device,
+    number: &str,
+    line: &str,
+) -> Result<(), Wrong> {
+    let alloc = tester.alloc;
+    let words = format!(in alloc; "trial {number}")?;
+    let mut before = disk.copy(alloc)?;
+    let outcome = run_words(tester, disk, words.as_str(), WHOLE)?;
+    ends(tester, &outcome, line, &mut before, disk)
+}
+
 /// Runs words that spell no form: nothing is printed, and the device is as it was.
-pub fn misspelled(tester: &mut Tester, disk: &mut MemDisk, words: &str) -> Result<(), Wrong> {
-    let mut before = disk.left(tester.alloc, &[])?;
+pub fn misspelled(tester: &mut Tester, disk: &mut Device, words: &str) -> Result<(), Wrong> {
+    let mut before = disk.copy(tester.alloc)?;
     let outcome = run_words(tester, disk, words, WHOLE)?;
     tester.ended(&outcome, Status::Words)?;
     if !outcome.printed.is_empty() {
@@ -166,17 +172,18 @@ pub fn misspelled(tester: &mut Tester, disk: &mut MemDisk, words: &str) -> Resul
     stayed(tester.alloc, &mut before, disk)
 }
 
-/// Opens a copy of a device, of which this call fails, for a run that is refused: nothing is printed at the fault, or else this line.
+/// Opens a copy of a device, of a part of which this call fails, for a run that is refused: nothing is printed at the fault, or else this line.
 /// Answers whether the call was met.
 fn refused_at(
     tester: &mut Tester,
-    disk: &MemDisk,
-    before: &mut MemDisk,
+    disk: &Device,
+    before: &mut Device,
     wanted: &str,
+    part: Part,
     call: u64,
 ) -> Result<bool, Wrong> {
-    let mut copy = disk.left(tester.alloc, &[])?;
-    copy.fail(tester.alloc, &[call])?;
+    let mut copy = disk.copy(tester.alloc)?;
+    copy.fail(tester.alloc, part, call)?;
     let outcome = tester.run(&mut copy, "list\n")?;
     if outcome.status != Status::Device {
         ends(tester, &outcome, wanted, before, &copy)?;
@@ -197,27 +204,42 @@ fn refused_at(
 /// The same with a sink that is full after three bytes.
 fn refused_full(
     tester: &mut Tester,
-    disk: &MemDisk,
-    before: &mut MemDisk,
+    disk: &Device,
+    before: &mut Device,
     wanted: &str,
 ) -> Result<(), Wrong> {
-    let mut copy = disk.left(tester.alloc, &[])?;
+    let mut copy = disk.copy(tester.alloc)?;
     let outcome = tester.run_with(&mut copy, RUN, "list\n", FULL)?;
     fills(tester, &outcome, wanted)?;
     stayed(tester.alloc, before, &copy)
 }
 
-/// A run on a device is refused by a line: with each call of the opening failing in turn, with none, and with a full sink. The device
-/// is as it was each time.
-pub fn refused(tester: &mut Tester, disk: &MemDisk, wanted: &str) -> Result<(), Wrong> {
-    if !wanted.starts_with("error ") {
-        return Err(differs(tester.alloc, "a refusal", "an error", wanted));
-    }
-    let mut before = disk.left(tester.alloc, &[])?;
+/// A run on a device is refused by a line: with each call of a part of it failing in turn, and with none.
+fn refused_within(
+    tester: &mut Tester,
+    disk: &Device,
+    before: &mut Device,
+    wanted: &str,
+    part: Part,
+) -> Result<(), Wrong> {
     for call in 0..1000 {
-        if !refused_at(tester, disk, &mut before, wanted, call)? {
-            return refused_full(tester, disk, &mut before, wanted);
+        if !refused_at(tester, disk, before, wanted, part, call)? {
+            return Ok(());
         }
     }
     Err(found(tester.alloc, "an opening that does not end"))
+}
+
+/// A run on a device is refused by a line: with each call of the opening failing in turn, with none, and with a full sink. The device
+/// is as it was each time.
+pub fn refused(tester: &mut Tester, disk: &Device, wanted: &str) -> Result<(), Wrong> {
+    if !wanted.starts_with("error ") {
+        return Err(differs(tester.alloc, "a refusal", "an error", wanted));
+    }
+    let mut before = disk.copy(tester.alloc)?;
+    refused_within(tester, disk, &mut before, wanted, Part::First)?;
+    if disk.has_border() {
+        refused_within(tester, disk, &mut before, wanted, Part::Second)?;
+    }
+    refused_full(tester, disk, &mut before, wanted)
 }

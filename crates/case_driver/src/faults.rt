@@ -1,17 +1,18 @@
 //! Faults of a run, each in turn, and what is done on what each leaves.
 
 use crate::bench::{Bench, answered, followed};
-use crate::calls::{are_calls, calls_of, calls_within};
+use crate::choices::{Chosen, choices_of, left_by};
 use crate::devices::same_sectors;
-use crate::probes::{Answered, collects, probe, probe_copy};
-use crate::tester::{Outcome, RUN, Streams, Tester, WHOLE, count};
-use case_device::Book;
-use case_text::{
-    Act, CHOICES, Entry, FIRST_VALUES, Fault, File, Left, Script, Step, Wrong, differs, found,
-    text_of, trial_of,
+use case_device::{Book, Choice, Device};
+use case_runs::{
+    Answered, Outcome, RUN, Streams, Tester, WHOLE, are_calls, calls_of, calls_within, collects,
+    count, probe, probe_copy,
 };
+use case_text::{
+    Act, Entry, FIRST_VALUES, Fault, File, Left, Part, Script, Step, text_of, trial_of,
+};
+use case_words::{Wrong, differs, found};
 use lvhd_command::Status;
-use sm_disk::MemDisk;
 use std::alloc::{AllocError, Global};
 
 /// An opening makes fewer calls of the device than this.
@@ -25,8 +26,15 @@ struct Sound<'a> {
     printed: &'a str,
     /// So many of its lines stand before the first whose faults are tried.
     from: usize,
-    /// How many calls of the device come before the first line is read, and before the reply to each line.
-    calls: &'a [u64],
+    calls: &'a Calls,
+}
+
+/// How many calls of each part of the device come before the first line is read, and before the reply to each line; none are known of a
+/// second part without sectors.
+#[derive(Drop)]
+struct Calls {
+    first: Vec<u64>,
+    second: Vec<u64>,
 }
 
 /// What is done on what a fault leaves.
@@ -65,7 +73,7 @@ fn is_front_of_lines(whole: &str, printed: &str) -> bool {
 /// The streams of a run with a fault.
 fn streams_of(fault: Fault, number: u64) -> Streams {
     match fault {
-        Fault::Stop | Fault::Fail => WHOLE,
+        Fault::Stop(_) | Fault::Fail(_) => WHOLE,
         Fault::Sink => Streams {
             room: Some(number as usize),
             ..WHOLE
@@ -79,11 +87,11 @@ fn streams_of(fault: Fault, number: u64) -> Streams {
 }
 
 /// The device of a case, which fails as it is told.
-fn disturbed(alloc: Global, disk: &MemDisk, fault: Fault, number: u64) -> Result<MemDisk, Wrong> {
-    let mut disk = disk.left(alloc, &[])?;
+fn disturbed(alloc: Global, disk: &Device, fault: Fault, number: u64) -> Result<Device, Wrong> {
+    let mut disk = disk.copy(alloc)?;
     match fault {
-        Fault::Stop => disk.stop(number),
-        Fault::Fail => disk.fail(alloc, &[number])?,
+        Fault::Stop(part) => disk.stop(part, number),
+        Fault::Fail(part) => disk.fail(alloc, part, number)?,
         Fault::Sink | Fault::Source { .. } => {}
     }
     Ok(disk)
@@ -91,7 +99,15 @@ fn disturbed(alloc: Global, disk: &MemDisk, fault: Fault, number: u64) -> Result
 
 /// How many lines a script has.
 fn lines_of(sound: &Sound<'_>) -> usize {
-    sound.calls.len().saturating_sub(1)
+    sound.calls.first.len().saturating_sub(1)
+}
+
+/// The calls of the part of the device whose fault is tried.
+fn calls_tried<'a>(sound: &Sound<'a>) -> &'a [u64] {
+    match sound.fault.part() {
+        Part::First => &sound.calls.first,
+        Part::Second => &sound.calls.second,
+    }
 }
 
 /// How many lines are answered before a call of the device, and whether the first could be read.
@@ -108,7 +124,7 @@ fn lines_before(calls: &[u64], number: u64) -> (usize, bool) {
 /// How many lines are answered and read at a fault.
 fn wanted_at(sound: &Sound<'_>, number: u64, printed: &str) -> Answered {
     let (lines, is_read) = match sound.fault {
-        Fault::Stop | Fault::Fail => lines_before(sound.calls, number),
+        Fault::Stop(_) | Fault::Fail(_) => lines_before(calls_tried(sound), number),
         Fault::Sink => (lines_within(printed, usize::MAX), true),
         Fault::Source { .. } => (lines_within(sound.text, number as usize), false),
     };
@@ -134,7 +150,7 @@ fn is_right(sound: &Sound<'_>, number: u64, lines: usize, printed: &str) -> bool
 /// The status of a run whose fault was met.
 fn status_of(fault: Fault) -> Status {
     match fault {
-        Fault::Stop | Fault::Fail => Status::Device,
+        Fault::Stop(_) | Fault::Fail(_) => Status::Device,
         Fault::Sink => Status::Sink,
         Fault::Source { .. } => Status::Source,
     }
@@ -168,20 +184,20 @@ fn judged(
     Ok(answered)
 }
 
-/// An opening of what is left stops at a call, and the disks then read as they do without that. Answers whether it came to its end.
+/// An opening of what is left stops at a call of a part, and the disks then read as they do without that. Answers whether it came to its end.
 fn stopped_again(
     tester: &mut Tester,
     book: &Book<'_>,
     answered: Answered,
-    image: &MemDisk,
-    call: u64,
+    image: &Device,
+    at: (Part, u64),
     wanted: &str,
 ) -> Result<bool, Wrong> {
     count(&mut tester.counts.openings);
-    let mut copy = image.left(tester.alloc, &[])?;
-    copy.stop(call);
+    let mut copy = image.copy(tester.alloc)?;
+    copy.stop(at.0, at.1);
     let outcome = tester.run(&mut copy, "")?;
-    let mut left = copy.left(tester.alloc, &[3])?;
+    let mut left = copy.left(tester.alloc, Choice::both(&[3]))?;
     let got = probe(tester, book, answered, &mut left)?;
     if got.as_str() != wanted {
         return Err(found(tester.alloc, "a stopped opening changes the disks"));
@@ -190,11 +206,28 @@ fn stopped_again(
 }
 
 /// Whether an image is that of which an opening was stopped last.
-fn is_stopped(tester: &mut Tester, image: &mut MemDisk) -> Result<bool, Wrong> {
+fn is_stopped(tester: &mut Tester, image: &mut Device) -> Result<bool, Wrong> {
     match &mut tester.stopped {
-        Some(last) => same_sectors(last, image),
+        Some(last) => same_sectors(tester.alloc, last, image),
         None => Ok(false),
     }
+}
+
+/// An opening of an image stops at each of its calls of a part, and the disks read as they do without that.
+fn stop_part(
+    tester: &mut Tester,
+    book: &Book<'_>,
+    answered: Answered,
+    image: &Device,
+    part: Part,
+    wanted: &str,
+) -> Result<(), Wrong> {
+    for call in 0..MOST_CALLS {
+        if stopped_again(tester, book, answered, image, (part, call), wanted)? {
+            return Ok(());
+        }
+    }
+    Err(found(tester.alloc, "an opening that does not end"))
 }
 
 /// An opening of an image stops at each of its calls, and the disks read as they do without that.
@@ -202,15 +235,15 @@ fn stop_each(
     tester: &mut Tester,
     book: &Book<'_>,
     answered: Answered,
-    image: &MemDisk,
+    image: &Device,
 ) -> Result<(), Wrong> {
     let wanted = probe_copy(tester, book, answered, image)?;
-    for call in 0..MOST_CALLS {
-        if stopped_again(tester, book, answered, image, call, wanted.as_str())? {
-            return Ok(());
-        }
+    let wanted = wanted.as_str();
+    stop_part(tester, book, answered, image, Part::First, wanted)?;
+    if image.has_border() {
+        stop_part(tester, book, answered, image, Part::Second, wanted)?;
     }
-    Err(found(tester.alloc, "an opening that does not end"))
+    Ok(())
 }
 
 /// An opening of what is left stops at each of its calls, and the disks read as they do without that. Where the fault before left the
@@ -219,13 +252,13 @@ fn again(
     tester: &mut Tester,
     book: &Book<'_>,
     answered: Answered,
-    image: &mut MemDisk,
+    image: &mut Device,
 ) -> Result<(), Wrong> {
     if is_stopped(tester, image)? {
         return Ok(());
     }
     stop_each(tester, book, answered, image)?;
-    tester.stopped = Some(image.left(tester.alloc, &[])?);
+    tester.stopped = Some(image.copy(tester.alloc)?);
     Ok(())
 }
 
@@ -234,10 +267,10 @@ fn probe_choices(
     tester: &mut Tester,
     book: &Book<'_>,
     answered: Answered,
-    disk: &MemDisk,
+    disk: &Device,
 ) -> Result<(), Wrong> {
-    for choice in CHOICES.iter() {
-        let mut left = disk.left(tester.alloc, choice)?;
+    for chosen in choices_of(tester.alloc, disk)? {
+        let mut left = left_by(tester.alloc, disk, chosen)?;
         let _text = probe(tester, book, answered, &mut left)?;
     }
     Ok(())
@@ -256,7 +289,7 @@ fn stopped_pending(
     let mut disk = disturbed(tester.alloc, &rest.bench.disk, sound.fault, met.number)?;
     let streams = streams_of(sound.fault, met.number);
     let _outcome = tester.run_with(&mut disk, RUN, sound.text, streams)?;
-    disk.stop(call);
+    disk.stop(sound.fault.part(), call);
     let outcome = tester.run(&mut disk, "")?;
     probe_choices(tester, &rest.bench.known.book, met.answered, &disk)?;
     Ok(outcome.status == Status::Done)
@@ -270,7 +303,7 @@ fn again_pending(
     rest: &Rest<'_>,
     met: Met,
 ) -> Result<(), Wrong> {
-    if sound.fault == Fault::Stop || met.is_over {
+    if matches!(sound.fault, Fault::Stop(_)) || met.is_over {
         return Ok(());
     }
     for call in 0..MOST_CALLS {
@@ -286,7 +319,7 @@ fn run_on(
     tester: &mut Tester,
     rest: &Rest<'_>,
     script: Script,
-    left: &mut MemDisk,
+    left: &mut Device,
 ) -> Result<(), Wrong> {
     let steps = rest.file.steps(script);
     let units = rest.bench.known.units;
@@ -313,16 +346,16 @@ fn made(
     wanted: u64,
 ) -> Result<(), Wrong> {
     let streams = streams_of(sound.fault, met.number);
-    let calls = calls_of(tester, &rest.bench.disk, sound.text, streams)?;
+    let calls = calls_of(tester, &rest.bench.disk, Part::First, sound.text, streams)?;
     are_calls(tester.alloc, wanted, calls)
 }
 
 /// Whether an entry is done on what a choice leaves. What is done once for each fault is done on what the first values leave.
-fn is_done_on(act: Act<'_>, choice: usize) -> bool {
+fn is_done_on(act: Act<'_>, chosen: Chosen) -> bool {
     match act {
         Act::Shows | Act::Run | Act::Answered(_) => true,
-        Act::Again(Left::Choice(one)) => choice == one,
-        _ => choice == FIRST_VALUES,
+        Act::Again(Left::Choice(one)) => chosen == Chosen::both(one),
+        _ => chosen == Chosen::both(FIRST_VALUES),
     }
 }
 
@@ -333,7 +366,7 @@ fn do_on(
     rest: &Rest<'_>,
     entry: &Entry<'_>,
     met: Met,
-    left: &mut MemDisk,
+    left: &mut Device,
 ) -> Result<(), Wrong> {
     let book = &rest.bench.known.book;
     match entry.act {
@@ -352,8 +385,11 @@ fn do_on(
 }
 
 /// What was found at a fault, in a line.
-fn at_fault(alloc: Global, number: u64, choice: usize, wrong: Wrong) -> Wrong {
-    match format!(in alloc; "at fault {number}, choice {choice}") {
+fn at_fault(alloc: Global, number: u64, chosen: Chosen, wrong: Wrong) -> Wrong {
+    let Ok(choice) = chosen.told(alloc) else {
+        return Wrong::Memory;
+    };
+    match format!(in alloc; "at fault {number}, {choice}") {
         Ok(head) => wrong.under(alloc, head.as_str()),
         Err(_) => Wrong::Memory,
     }
@@ -365,38 +401,30 @@ fn on_choice(
     sound: &Sound<'_>,
     rest: &Rest<'_>,
     met: Met,
-    choice: usize,
-    disk: &MemDisk,
+    chosen: Chosen,
+    disk: &Device,
 ) -> Result<(), Wrong> {
     for entry in rest.entries {
-        if is_done_on(entry.act, choice) {
-            let mut left = left_by(tester.alloc, disk, choice)?;
+        if is_done_on(entry.act, chosen) {
+            let mut left = left_by(tester.alloc, disk, chosen)?;
             if let Err(wrong) = do_on(tester, sound, rest, entry, met, &mut left) {
-                return Err(at_fault(tester.alloc, met.number, choice, wrong.at(entry.line)));
+                return Err(at_fault(tester.alloc, met.number, chosen, wrong.at(entry.line)));
             }
         }
     }
     Ok(())
 }
 
-/// What a choice leaves of a device.
-fn left_by(alloc: Global, disk: &MemDisk, choice: usize) -> Result<MemDisk, Wrong> {
-    match CHOICES.get(choice) {
-        Some(choice) => Ok(disk.left(alloc, choice)?),
-        None => Err(found(alloc, "no such choice")),
-    }
-}
-
-/// Does the rest of a case on what each of five choices leaves of a device.
+/// Does the rest of a case on what each of five choices, or of five for each part, leaves of a device.
 fn on_each_choice(
     tester: &mut Tester,
     sound: &Sound<'_>,
     rest: &Rest<'_>,
     met: Met,
-    disk: &MemDisk,
+    disk: &Device,
 ) -> Result<(), Wrong> {
-    for choice in 0..CHOICES.len() {
-        on_choice(tester, sound, rest, met, choice, disk)?;
+    for chosen in choices_of(tester.alloc, disk)? {
+        on_choice(tester, sound, rest, met, chosen, disk)?;
     }
     Ok(())
 }
@@ -404,7 +432,7 @@ fn on_each_choice(
 /// The first fault that is not met, since the run comes to its end before it.
 fn end_of(sound: &Sound<'_>) -> u64 {
     match sound.fault {
-        Fault::Stop | Fault::Fail => match sound.calls.last() {
+        Fault::Stop(_) | Fault::Fail(_) => match calls_tried(sound).last() {
             Some(calls) => calls.saturating_add(1),
             None => 0,
         },
@@ -461,14 +489,14 @@ fn on_fault(
     sound: &Sound<'_>,
     rest: &Rest<'_>,
     met: Met,
-    disk: &mut MemDisk,
+    disk: &mut Device,
 ) -> Result<(), Wrong> {
     if met.answered.lines < sound.from {
         return Ok(());
     }
     count(&mut tester.counts.faults);
     on_each_choice(tester, sound, rest, met, disk)?;
-    if sound.fault == Fault::Fail {
+    if matches!(sound.fault, Fault::Fail(_)) {
         let book = &rest.bench.known.book;
         if let Err(wrong) = probe(tester, book, met.answered, disk) {
             return Err(at_number(tester.alloc, met.number, wrong));
@@ -525,6 +553,9 @@ fn try_faults(
     rest: &Rest<'_>,
     only: Option<u64>,
 ) -> Result<(), Wrong> {
+    if sound.fault.part() == Part::Second && sound.calls.second.is_empty() {
+        return Err(found(tester.alloc, "no second part"));
+    }
     let before = tester.counts.faults;
     try_named(tester, sound, rest, only)?;
     if tester.counts.faults > before {
@@ -563,23 +594,32 @@ fn first_run<'a>(
     steps: &[Step<'a>],
     is_open: bool,
 ) -> Result<String, Wrong> {
-    let mut copy = bench.disk.left(tester.alloc, &[])?;
+    let mut copy = bench.disk.copy(tester.alloc)?;
     followed(tester, &mut copy, &mut bench.known, steps, is_open)
 }
 
-/// How many calls of the device come before the first line of a script is read, and before the reply to each. The last call of each
-/// run is its end.
+/// How many calls of a part of the device come before the first line of a script is read, and before the reply to each. The last call of
+/// each run is its end.
 fn calls_before(
     tester: &mut Tester,
-    disk: &MemDisk,
+    disk: &Device,
+    part: Part,
     steps: &[Step<'_>],
 ) -> Result<Vec<u64>, Wrong> {
     let mut all = Vec::new(tester.alloc);
     for count in 0..steps.len().saturating_add(1) {
-        let calls = calls_within(tester, disk, steps, count)?;
+        let calls = calls_within(tester, disk, part, steps, count)?;
         all.push(calls.saturating_sub(1))?;
     }
     Ok(all)
+}
+
+/// The same of the second part, of which nothing is known where it has no sectors.
+fn calls_behind(tester: &mut Tester, disk: &Device, steps: &[Step<'_>]) -> Result<Vec<u64>, Wrong> {
+    if !disk.has_border() {
+        return Ok(Vec::new(tester.alloc));
+    }
+    calls_before(tester, disk, Part::Second, steps)
 }
 
 /// A run without a fault is answered as it is to be, and then its faults are tried: what stands behind it in the case is done on what
@@ -597,9 +637,12 @@ pub fn each<'a>(
     tester.stopped = None;
     let printed = first_run(tester, bench, steps, script.is_open)?;
     let text = text_of(tester.alloc, steps, steps.len(), script.is_open)?;
-    let calls = calls_before(tester, &bench.disk, steps)?;
+    let calls = Calls {
+        first: calls_before(tester, &bench.disk, Part::First, steps)?,
+        second: calls_behind(tester, &bench.disk, steps)?,
+    };
     let sound = Sound {
-        fault: Fault::Stop,
+        fault: Fault::Stop(Part::First),
         text: text.as_str(),
         printed: printed.as_str(),
         from: script.from,

@@ -11,10 +11,9 @@
 mod bench;
 mod calls;
 mod cases;
+mod choices;
 mod devices;
 mod faults;
 mod printing;
-mod probes;
-mod tester;
 
 pub use printing::work_through;

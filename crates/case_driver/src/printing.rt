@@ -2,9 +2,10 @@
 
 use crate::cases::{Said, verdict};
 use crate::devices::usual_device;
-use crate::tester::{Counts, Tester};
-use case_text::{File, Kind, Written, read};
-use sm_disk::MemDisk;
+use case_device::Device;
+use case_runs::{Counts, Tester};
+use case_text::{File, Kind, read};
+use case_words::Written;
 use std::process::ExitCode;
 use std::rt::{Env, Files};
 use std::{env, fs, io};
@@ -30,7 +31,7 @@ fn refuse(rt: &(impl Print + Eprint + AllocGlobal), what: &str) -> io::Result<bo
 fn work_cases(
     rt: &(impl Print + Eprint + AllocGlobal),
     tester: &mut Tester,
-    usual: &MemDisk,
+    usual: &Device,
     name: &str,
     file: &File<'_>,
 ) -> io::Result<bool> {
@@ -48,7 +49,7 @@ fn work_cases(
 fn work_text(
     rt: &(impl Print + Eprint + AllocGlobal),
     tester: &mut Tester,
-    usual: &MemDisk,
+    usual: &Device,
     name: &str,
     text: &str,
 ) -> io::Result<bool> {
@@ -80,7 +81,7 @@ fn tell(rt: &(impl Print + Eprint + AllocGlobal), name: &str, counts: Counts) ->
 /// Works through a file, and answers whether all is well.
 fn work_file(
     rt: &(impl Files + Print + Eprint + AllocGlobal),
-    usual: &MemDisk,
+    usual: &Device,
     name: &str,
     is_told: bool,
 ) -> io::Result<bool> {
@@ -100,7 +101,7 @@ fn work_file(
 /// Works through the files that the arguments name, and answers whether all is well.
 fn work_files(
     rt: &(impl Env + Files + Print + Eprint + AllocGlobal),
-    usual: &MemDisk,
+    usual: &Device,
 ) -> io::Result<bool> {
     let mut is_well = true;
     let mut is_told = false;

@@ -1,8 +1,8 @@
 //! What the lines at the margin of a case say.
 
-use crate::commands::cut;
 use crate::places::{Place, number_of, place_of};
 use crate::scripts::Units;
+use case_words::cut;
 
 /// A change of the volumes' table, committed by hand. Volumes are named as they are spelled, extents are their numbers.
 #[derive(Clone, Copy)]
@@ -69,6 +69,8 @@ pub enum Act<'a> {
         sectors: u64,
         is_stale: bool,
     },
+    /// The device is two from here on, the first of so many sectors.
+    Border(u64),
     /// The words of a format, and what it prints.
     Format {
         words: &'a str,
@@ -77,6 +79,11 @@ pub enum Act<'a> {
     },
     /// Words that spell no form.
     Words(&'a str),
+    /// A trial by this number, and the line that it prints.
+    Trial {
+        number: &'a str,
+        line: &'a str,
+    },
     /// The script is answered.
     Run,
     /// An opening is refused by this line.
@@ -160,6 +167,13 @@ fn format<'a>(words: &'a str) -> Result<Act<'a>, &'static str> {
             units: units_of(words),
         }),
         None => Err("no line that the format prints"),
+    }
+}
+
+fn trial<'a>(words: &'a str) -> Result<Act<'a>, &'static str> {
+    match words.split_once(" => ") {
+        Some((number, line)) => Ok(Act::Trial { number, line }),
+        None => Err("no line that the trial prints"),
     }
 }
 
@@ -290,7 +304,9 @@ pub fn act_of<'a>(line: &'a str) -> Result<Act<'a>, &'static str> {
     match word {
         "after" => Ok(Act::After(words)),
         "device" => device(words),
+        "border" => Ok(Act::Border(number_of(words)?)),
         "format" => format(words),
+        "trial" => trial(words),
         "words" => Ok(Act::Words(words)),
         "run" => Ok(run(words)),
         "again" => again(words),

@@ -4,8 +4,7 @@ use crate::acts::{Act, Left, act_of};
 use crate::faults::{Fault, trial_of};
 use crate::pieces::piece;
 use crate::scripts::{Script, Step};
-use crate::spelling::{Line, times_of};
-use crate::wrong::{Wrong, found};
+use case_words::{Line, Wrong, found, times_of};
 use std::alloc::{AllocError, Global};
 
 /// What a head begins.
@@ -95,7 +94,7 @@ fn fault_trouble(words: &str) -> Option<&'static str> {
 fn goes_on(words: &str) -> bool {
     for one in words.split(", ") {
         if let Ok(trial) = trial_of(one) {
-            if trial.fault != Fault::Stop {
+            if !matches!(trial.fault, Fault::Stop(_)) {
                 return true;
             }
         }
@@ -107,7 +106,7 @@ fn goes_on(words: &str) -> bool {
 fn is_of_device(words: &str) -> bool {
     for one in words.split(", ") {
         if let Ok(trial) = trial_of(one) {
-            if trial.fault == Fault::Stop || trial.fault == Fault::Fail {
+            if trial.fault.is_of_device() {
                 return true;
             }
         }

@@ -1,6 +1,6 @@
 //! Places on the device, as a case names them.
 
-use crate::commands::cut;
+use case_words::cut;
 
 /// A sector of a volume.
 #[derive(Clone, Copy)]

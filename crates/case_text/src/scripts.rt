@@ -1,7 +1,6 @@
 //! The script of a run: its lines, and what each is to be answered.
 
-use crate::commands::Command;
-use crate::wrong::{Wrong, differs};
+use case_words::{Command, Wrong, differs};
 use std::alloc::{AllocError, Global};
 
 /// A line of a script.

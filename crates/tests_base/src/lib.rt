@@ -19,4 +19,6 @@ mod records;
 #[cfg(test)]
 mod scripts;
 #[cfg(test)]
+mod spans;
+#[cfg(test)]
 mod trials;

@@ -1,9 +1,9 @@
 //! What is left of a device is opened, and its disks are read and held against the book.
 
 use crate::tester::{Tester, count};
-use case_device::{Book, Disk};
-use case_text::{Wrong, differs, found, is_met};
-use sm_disk::MemDisk;
+use case_device::{Book, Device, Disk};
+use case_text::is_met;
+use case_words::{Wrong, differs, found};
 use std::alloc::{AllocError, Global};
 
 /// The collector's steps at the end of a case, more than there are.
@@ -182,7 +182,7 @@ pub fn probe(
     tester: &mut Tester,
     book: &Book<'_>,
     answered: Answered,
-    disk: &mut MemDisk,
+    disk: &mut Device,
 ) -> Result<String, Wrong> {
     let alloc = tester.alloc;
     count(&mut tester.counts.images);
@@ -203,9 +203,9 @@ pub fn probe_copy(
     tester: &mut Tester,
     book: &Book<'_>,
     answered: Answered,
-    image: &MemDisk,
+    image: &Device,
 ) -> Result<String, Wrong> {
-    let mut copy = image.left(tester.alloc, &[])?;
+    let mut copy = image.copy(tester.alloc)?;
     probe(tester, book, answered, &mut copy)
 }
 
@@ -230,7 +230,7 @@ fn ends_met(wanted: &str, got: &str) -> bool {
 }
 
 /// Collects on a device: the images are told of so at the end.
-fn collect(tester: &mut Tester, disk: &mut MemDisk, wanted: &str) -> Result<(), Wrong> {
+fn collect(tester: &mut Tester, disk: &mut Device, wanted: &str) -> Result<(), Wrong> {
     let script = collection(tester.alloc)?;
     let text = tester.printed(disk, script.as_str())?;
     let images = text.lines().last().unwrap_or("");
@@ -245,7 +245,7 @@ pub fn collects(
     tester: &mut Tester,
     book: &Book<'_>,
     answered: Answered,
-    left: &mut MemDisk,
+    left: &mut Device,
     wanted: &str,
 ) -> Result<(), Wrong> {
     let before = probe_copy(tester, book, answered, left)?;

@@ -1,8 +1,9 @@
 //! Runs of the program on a device in memory.
 
-use case_text::{Wrong, differs};
+use case_device::Device;
+use case_words::{Wrong, differs};
 use lvhd_command::{Status, lvhd};
-use sm_disk::{MemDisk, MemSink, MemSource};
+use sm_disk::{MemSink, MemSource};
 use std::alloc::Global;
 use std::mem;
 
@@ -29,7 +30,7 @@ pub struct Tester {
     pub alloc: Global,
     pub counts: Counts,
     /// The image of which an opening was stopped last at each of its calls. The program does the same on the same image.
-    pub stopped: Option<MemDisk>,
+    pub stopped: Option<Device>,
 }
 
 /// The source of a run, and the room of its sink, in bytes.
@@ -92,7 +93,7 @@ impl Tester {
     /// Runs the program on a device.
     pub fn run_with(
         &mut self,
-        disk: &mut MemDisk,
+        disk: &mut Device,
         words: &[&str],
         script: &str,
         streams: Streams,
@@ -101,9 +102,10 @@ impl Tester {
         let piece = streams.piece.max(1);
         let mut source = MemSource::new(self.alloc, script.as_bytes(), piece, streams.until)?;
         let mut sink = MemSink::new(self.alloc, streams.room)?;
-        let taken = mem::replace(disk, MemDisk::new(self.alloc, 0)?);
-        let (status, after) = lvhd(self.alloc, words, 0, taken, &mut source, &mut sink);
-        *disk = after;
+        let taken = mem::replace(disk, Device::new(self.alloc, 0)?);
+        let span = taken.span(self.alloc)?;
+        let (status, after) = lvhd(self.alloc, words, 0, span, &mut source, &mut sink);
+        *disk = Device::of(after);
         Ok(Outcome {
             status,
             printed: text_of(self.alloc, &sink)?,
@@ -111,12 +113,12 @@ impl Tester {
     }
 
     /// Runs a script on a device.
-    pub fn run(&mut self, disk: &mut MemDisk, script: &str) -> Result<Outcome, Wrong> {
+    pub fn run(&mut self, disk: &mut Device, script: &str) -> Result<Outcome, Wrong> {
         self.run_with(disk, RUN, script, WHOLE)
     }
 
     /// Runs a script on a device to its end, and answers what is printed.
-    pub fn printed(&mut self, disk: &mut MemDisk, script: &str) -> Result<String, Wrong> {
+    pub fn printed(&mut self, disk: &mut Device, script: &str) -> Result<String, Wrong> {
         let outcome = self.run(disk, script)?;
         self.ended(&outcome, Status::Done)?;
         Ok(outcome.printed)
