@@ -4,7 +4,8 @@ use crate::large::large_text;
 use std::alloc::Global;
 use std::process::Abort;
 use std::test::Fail;
-use vg_extents::{FitFault, first_fit, free};
+use tests_support::holds;
+use vg_extents::{FitFault, Runs, first_fit, free};
 use vg_meta::Table;
 
 /// Two volumes: the records on extents 0 and 1, and an image on 6 and 3.
@@ -39,6 +40,40 @@ fn the_least_extents_are_found(rt: HostRuntime) -> Result<(), Fail> {
     }
     for (count, left, need) in [(8, 4, 5), (5, 2, 3), (2, 0, 1)] {
         lacks(&rt, rt.alloc(), &table, count, left, need);
+    }
+    Ok(())
+}
+
+/// Runs give these free extents of a count, each number of them from the least on, and no more.
+fn runs_give(alloc: Global, table: &Table, count: u32, want: &[u32]) -> Result<(), Fail> {
+    let runs = Runs::of(alloc, table, count)?;
+    let free = runs.free();
+    holds(free as usize == want.len(), "as many as are free")?;
+    for need in 0..free {
+        let found = runs.first(alloc, need)?;
+        let is_front = want.get(..need as usize) == Some(found.as_slice());
+        holds(is_front, "the least")?;
+    }
+    holds(runs.first(alloc, free)?.as_slice() == want, "all")?;
+    let need = free.saturating_add(1);
+    let fault = FitFault::NoSpace { need, free };
+    holds(runs.first(alloc, need).err() == Some(fault), "one more")
+}
+
+/// Runs of two and more, of one, at the end and none.
+#[test]
+fn free_extents_are_kept_as_runs(rt: HostRuntime) -> Result<(), Fail> {
+    let table = Table::decode(rt.alloc(), SMALL, 8)?;
+    let rows = [
+        (12, &[2, 4, 5, 7, 8, 9, 10, 11][..]),
+        (8, &[2, 4, 5, 7]),
+        (6, &[2, 4, 5]),
+        (4, &[2]),
+        (2, &[]),
+        (0, &[]),
+    ];
+    for (count, want) in rows {
+        runs_give(rt.alloc(), &table, count, want)?;
     }
     Ok(())
 }

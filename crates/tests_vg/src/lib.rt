@@ -1,9 +1,12 @@
-//! Tests of the table of volumes and of its text by either grammar, of extents, of the device's layout, of the store in memory and of the volume group.
+//! Tests of the table of volumes and of its text by either grammar, of extents, of the device's layout, of the store in memory,
+//! of the volume group and of the cache.
 //!
 //! **What is kept here.** Nothing. Expected bytes are worked by hand from the tables of offsets. Tests stand in a crate of
 //! their own, since a library with tests is proved once more for them.
 #![tactic(auto)]
 
+#[cfg(test)]
+mod caches;
 #[cfg(test)]
 mod extents;
 #[cfg(test)]

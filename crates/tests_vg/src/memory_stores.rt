@@ -1,5 +1,8 @@
 //! Each public call of the store in memory at work, with values worked by hand.
 
+ghost use Rattle.std.specs.Prelude.{◌≡◌, false, IfOk};
+ghost use Rattle.vg_memory.specs.Stores.{has_failed};
+
 use crate::groups::asks_often;
 use sm_base::{Failed, Geometry, Name};
 use std::alloc::Global;
@@ -11,12 +14,14 @@ use vg_memory::{MemoryStore, Store};
 use vg_meta::{Change, Extents};
 
 /// The first image.
-fn first() -> Name {
+pub fn first() -> Name {
     Name::Vhd(Uuid::from_bytes([1; 16]))
 }
 
 /// A store of 24 extents of 32 sectors. The records have the first 16.
-fn new(alloc: Global) -> Result<MemoryStore, Fail> {
+pub fn new(alloc: Global) -> Result<MemoryStore, Fail>
+    ensures { IfOk result (λ s. has_failed s.course ≡ false) }
+{
     let geometry = Geometry::of(16_384, 4096, 100).ok_or("a geometry")?;
     if record_extents(&geometry) > 24 {
         return Err("room for the records".into());
