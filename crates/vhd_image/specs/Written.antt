@@ -77,7 +77,7 @@ IsPlaceOfMarks g sectors (Raw volume size) b marks bytes r = PutsMarkedIn g.bloc
 IsPlaceOfMarks g sectors (Vhd head m) b marks bytes r =
     IsWritePlace (layout_in g head.footer sectors) (PutsMarkedIn g.block b marks bytes) (IsMarkedIn g.block b marks) (slot_of m) (slot_of (with_block b m)) r
 
--- it put nothing but that: the marked sectors; in a VHD image also the bitmap of their block's slot, with no new bits but theirs, and the
+-- the write of the marked sectors of a block put nothing but these; in a VHD image also the bitmap of their block's slot, with no new bits but theirs, and the
 -- sector of the table with the block's entry
 abbrev pub MarksKeepToPlaces : Geometry → ℕ → Body → ℕ → List ℕ → List ℕ → Held → Held → Type 0
 MarksKeepToPlaces g sectors body b marks bytes old new = Reaches (IsPlaceOfMarks g sectors body b marks bytes (reads old)) old new

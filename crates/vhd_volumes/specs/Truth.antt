@@ -13,10 +13,11 @@ use Rattle.vhd_layout.specs.Layouts.{Sectors, Layout, layout_of, entry, code, en
 use Rattle.vhd_layout.specs.Images.{IsImage, IsValid}
 use Rattle.vhd_volumes.specs.declared.heads.Head.{Head}
 
--- the sectors of the disk, and its blocks
+-- the sectors of a disk, by its footer
 abbrev pub disk_sectors : Footer → ℕ
 disk_sectors footer = footer.current / 512
 
+-- the blocks of a disk, by its footer
 abbrev pub disk_blocks : Geometry → Footer → ℕ
 disk_blocks g footer = disk_sectors footer / g.block
 
