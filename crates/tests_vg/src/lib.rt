@@ -1,5 +1,5 @@
-//! Tests of the table of volumes and of its text by either grammar, of extents, of the device's layout, of the store in memory,
-//! of the volume group and of the cache.
+//! Tests of the table of volumes, of its text by either grammar and of its free extents; of the sectors in front of a device's
+//! extents; of how a volume group is formatted and opened; of the store in memory; and of which sectors a cache keeps.
 //!
 //! **What is kept here.** Nothing. Expected bytes are worked by hand from the tables of offsets. Tests stand in a crate of
 //! their own, since a library with tests is proved once more for them.

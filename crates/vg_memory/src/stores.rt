@@ -130,7 +130,7 @@ impl Store for MemoryStore {
     fn read(&mut self, volume: &Name, at: u64, to: &mut [u8]) -> Result<(), Failed>
         requires { IsWhole at (length to.old) (size_of self.old.site (table_alone self.old.table) volume.now) }
         ensures site { self.new.site ≡ self.old.site }
-        ensures table { (table_alone self.new.table ≡ table_alone self.old.table) × (has_failed self.new.course ≡ has_failed self.old.course) × (current_version ≡ current_version) }
+        ensures table { (table_alone self.new.table ≡ table_alone self.old.table) × (has_failed self.new.course ≡ has_failed self.old.course) }
         ensures no_less { NoLessRoom self.old.table self.new.table }
         ensures counts { self.old.faults ≤ self.new.faults }
         ensures cause { IsCounted result self.old.faults self.new.faults }
@@ -155,7 +155,7 @@ impl Store for MemoryStore {
     fn write(&mut self, volume: &Name, at: u64, from: &[u8]) -> Result<(), Failed>
         requires { IsWhole at (length from.now) (size_of self.old.site (table_alone self.old.table) volume.now) }
         ensures site { self.new.site ≡ self.old.site }
-        ensures table { (table_alone self.new.table ≡ table_alone self.old.table) × (has_failed self.new.course ≡ has_failed self.old.course) × (current_version ≡ current_version) }
+        ensures table { (table_alone self.new.table ≡ table_alone self.old.table) × (has_failed self.new.course ≡ has_failed self.old.course) }
         ensures no_less { NoLessRoom self.old.table self.new.table }
         ensures counts { self.old.faults ≤ self.new.faults }
         ensures cause { IsCounted result self.old.faults self.new.faults }
@@ -186,7 +186,7 @@ impl Store for MemoryStore {
 
     fn sync(&mut self) -> Result<(), Failed>
         ensures site { self.new.site ≡ self.old.site }
-        ensures table { (table_alone self.new.table ≡ table_alone self.old.table) × (has_failed self.new.course ≡ has_failed self.old.course) × (current_version ≡ current_version) }
+        ensures table { (table_alone self.new.table ≡ table_alone self.old.table) × (has_failed self.new.course ≡ has_failed self.old.course) }
         ensures no_less { NoLessRoom self.old.table self.new.table }
         ensures counts { self.old.faults ≤ self.new.faults }
         ensures cause { IsCounted result self.old.faults self.new.faults }

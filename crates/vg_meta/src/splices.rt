@@ -1,8 +1,8 @@
 //! Writing the text of the volumes that a change would leave, while the volumes stay as they are.
 //!
 //! The changed list is written in pieces: the volumes in front of the one that comes, goes or changes, that one,
-//! and those behind it. A change of name has two such places. Nothing takes memory. The cost is that of going over
-//! the names at most three times, and over the extents once.
+//! and those behind it. A change of name has two such places. Nothing takes memory: the text is put into bytes that
+//! are there, and all beside it stays.
 
 ghost use Rattle.std.specs.Prelude.{◌≡◌, ◌<◌, ◌+◌, ◌^◌, ◌++◌, ◌∷◌, take, drop, IsSome, length};
 ghost use Rattle.vg_meta.specs.Tables.{row_of};

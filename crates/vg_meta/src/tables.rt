@@ -244,8 +244,8 @@ impl Table {
         put_changed(to, volumes_at, grammar, &self.volumes, change)
     }
 
-    /// The table that the bytes spell, its extents listed, where extents are counted up to `extents`. The cost is that of going over
-    /// the bytes once, with one mark in memory for each of the `extents`.
+    /// The table that the bytes spell, its extents listed, where extents are counted up to `extents`. Else the first place at which
+    /// the bytes are damaged, or want of memory.
     pub fn decode(alloc: Global, bytes: &[u8], extents: u32) -> Result<Table, DecodeFault>
         ensures spells { IfOk result (λ t. Spells extents bytes.now (table_alone t)) }
         ensures fault { IfErr result (IsDecodeFault extents bytes.now) }
@@ -253,9 +253,9 @@ impl Table {
         Table::decode_by(alloc, Grammar::Listed, bytes, extents)
     }
 
-    /// The table that the bytes spell by a grammar, where extents are counted up to `extents`. The cost is that of going over
-    /// the bytes once and over the table's extents, with one mark in memory for each of the `extents`. By segments no more
-    /// extents than that are ever in memory, whatever the bytes.
+    /// The table that the bytes spell by a grammar, where extents are counted up to `extents`: each of its extents is below that
+    /// number, and none stands twice, so that they are no more than that. Else the first place at which the bytes are damaged,
+    /// or want of memory.
     pub fn decode_by(
         alloc: Global,
         grammar: Grammar,
