@@ -1,24 +1,37 @@
 -- What an image shows in front of the extents depends on those sectors alone.
-use Rattle.std.proofs.Common.{◌≡◌, ℕ, zero, suc, ◌+◌, ◌-◌, ◌*◌, ◌<◌, ◌≤◌, List, ◌++◌, length, take, drop, sum, Ok, refl, sym, ap, ap₂, subst, ◌∙◌, arith, ◌⊎◌, inl, inr}
+use Rattle.std.proofs.Common.{◌≡◌, ℕ, zero, suc, ◌+◌, ◌-◌, ◌*◌, ◌<◌, ◌≤◌, List, ◌++◌, length, take, drop, sum, Ok, refl, sym, ap, ap₂, subst, ◌∙◌, arith}
 use Rattle.std.proofs.Math.Seq.{take-add}
 use Rattle.std.proofs.lemmas.List.{take-take, length-drop}
 use Rattle.sm_disk.proofs.SectorLaws.{sector-drop}
 use Rattle.sm_base.specs.Numbers.{div_up}
 use Rattle.sm_disk.specs.Sectors.{sector}
 use Rattle.vg_meta.specs.Tables.{VolumeTable}
-use Rattle.vg_meta.specs.Reading.{Spells}
-use Rattle.vg_layout.specs.Places.{area_place, label_place, header_place, slot_place, run_of, slot_text}
-use Rattle.vg_layout.specs.Sectors.{Plate, Pointer}
-use Rattle.vg_layout.specs.Opening.{StandsOn, plate_of, pointer_of, text_in}
-pub use Rattle.vg_layout.proofs.StandingLaws.{IsRightPointer, pointer_right, plate_few, plate_area, pointer_once, stands_once}
+use Rattle.vg_meta.specs.Reading.{SpellsBy}
+use Rattle.vg_layout.specs.Places.{Frame, IsApart, frame_of, label_place, slot_place, run_of, slot_text}
+use Rattle.vg_layout.specs.Sectors.{Plate, Pointer, plate_in, version_in}
+use Rattle.vg_layout.specs.Opening.{StandsOn, frame_in, grammar_of, version_of, plate_of, pointer_by, pointer_of, text_in}
+use Rattle.vg_layout.proofs.FrameLaws.{sectors_most, slot_front}
+pub use Rattle.vg_layout.proofs.StandingLaws.{IsRightPointer, pointer_right, plate_apart, plate_few, plate_area, pointer_once, stands_once}
 
 pub plate_same : (size : ℕ) (f m : ℕ → List ℕ) → m label_place ≡ f label_place → plate_of size m ≡ plate_of size f
 unfolding plate_of
 plate_same size f m e = ap (λ s. plate_of size (λ q. s)) e
 
-pub pointer_same : (f m : ℕ → List ℕ) → m header_place ≡ f header_place → pointer_of m ≡ pointer_of f
+-- the label says the frame and the grammar
+pub frame_same : (f m : ℕ → List ℕ) → m label_place ≡ f label_place → frame_in m ≡ frame_in f
+frame_same f m e = ap (λ (s : List ℕ). frame_of (version_in s) (plate_in s).layout) e
+
+pub spells_same : (f m : ℕ → List ℕ) (count : ℕ) (bytes : List ℕ) (t : VolumeTable) → m label_place ≡ f label_place
+    → SpellsBy (grammar_of (version_of f)) count bytes t → SpellsBy (grammar_of (version_of m)) count bytes t
+spells_same f m count bytes t e = subst (λ (s : List ℕ). SpellsBy (grammar_of (version_in s)) count bytes t) (sym e)
+
+pub pointer_seen : (m : ℕ → List ℕ) (f : Frame) → frame_in m ≡ f → pointer_of m ≡ pointer_by f (m f.header)
 unfolding pointer_of
-pointer_same f m e = ap (λ s. pointer_of (λ q. s)) e
+pointer_seen m f e = ap (λ (g : Frame). pointer_by g (m g.header)) e
+
+pub pointer_same : (f m : ℕ → List ℕ) → m label_place ≡ f label_place → m (frame_in f).header ≡ f (frame_in f).header → pointer_of m ≡ pointer_of f
+unfolding pointer_of
+pointer_same f m label header = pointer_seen m (frame_in f) (frame_same f m label) ∙ ap (pointer_by (frame_in f)) header
 
 pub run_same : (f m : ℕ → List ℕ) (at n : ℕ) → ((q : ℕ) → at ≤ q → q < at + n → m q ≡ f q) → run_of m at n ≡ run_of f at n
 unfolding run_of
@@ -26,25 +39,22 @@ run_same f m at zero same = refl
 run_same f m at (suc n) same =
     ap₂ (λ (x y : List ℕ). x ++ y) (same at (omega arith) (omega arith)) (run_same f m (at + 1) n (λ q a b. same q (omega arith) (omega arith)))
 
-pub text_same : (f m : ℕ → List ℕ) (h : Pointer)
-    → ((q : ℕ) → slot_place h.slot ≤ q → q < slot_place h.slot + div_up h.size 512 → m q ≡ f q) → text_in m h ≡ text_in f h
+pub text_same : (f m : ℕ → List ℕ) (h : Pointer) → m label_place ≡ f label_place
+    → ((q : ℕ) → slot_place (frame_in f) h.slot ≤ q → q < slot_place (frame_in f) h.slot + div_up h.size 512 → m q ≡ f q) → text_in m h ≡ text_in f h
 unfolding slot_text
-text_same f m h same = ap (take h.size) (run_same f m (slot_place h.slot) (div_up h.size 512) same)
+text_same f m h label same =
+    ap (λ (g : Frame). slot_text g m h.slot h.size) (frame_same f m label)
+    ∙ ap (take h.size) (run_same f m (slot_place (frame_in f) h.slot) (div_up h.size 512) same)
 
 pub stands_from : (size : ℕ) (m : ℕ → List ℕ) (p : Plate) (h : Pointer) (t : VolumeTable) (bytes : List ℕ)
-    → plate_of size m ≡ Ok p → pointer_of m ≡ Ok h → text_in m h ≡ bytes → sum bytes ≡ h.total → Spells p.count bytes t
+    → plate_of size m ≡ Ok p → pointer_of m ≡ Ok h → text_in m h ≡ bytes → sum bytes ≡ h.total → SpellsBy (grammar_of (version_of m)) p.count bytes t
     → StandsOn size m (record { plate = p; pointer = h; table = t })
 stands_from size m p h t bytes labelled headed is total spells = record {
   labelled = labelled;
   headed = headed;
   summed = ap sum is ∙ total;
-  spelled = let P : List ℕ → Type 0 = λ b. Spells p.count b t in subst P (sym is) spells;
+  spelled = let P : List ℕ → Type 0 = λ b. SpellsBy (grammar_of (version_of m)) p.count b t in subst P (sym is) spells;
 }
-
--- at most 1,024 sectors hold a text
-pub sectors_most : (size : ℕ) → size ≤ 524288 → div_up size 512 ≤ 1024
-unfolding div_up
-sectors_most size h = omega arith
 
 pub sectors_hold : (size : ℕ) → size ≤ 512 * div_up size 512
 unfolding div_up
@@ -66,26 +76,18 @@ run_written m at (suc n) bytes long same =
 
 -- and the text is their first ones
 pub text_written : (m : ℕ → List ℕ) (h : Pointer) (bytes : List ℕ) → 512 * div_up h.size 512 ≤ length bytes
-    → ((i : ℕ) → i < div_up h.size 512 → m (slot_place h.slot + i) ≡ sector bytes i) → text_in m h ≡ take h.size bytes
+    → ((i : ℕ) → i < div_up h.size 512 → m (slot_place (frame_in m) h.slot + i) ≡ sector bytes i) → text_in m h ≡ take h.size bytes
 unfolding slot_text
 text_written m h bytes long same =
-    ap (take h.size) (run_written m (slot_place h.slot) (div_up h.size 512) bytes long same) ∙ take-take h.size (512 * div_up h.size 512) bytes (sectors_hold h.size)
+    ap (take h.size) (run_written m (slot_place (frame_in m) h.slot) (div_up h.size 512) bytes long same) ∙ take-take h.size (512 * div_up h.size 512) bytes (sectors_hold h.size)
 
--- the two slots
-pub slots_apart : (slot : ℕ) → slot ≤ 1
-    → ((slot_place slot ≡ 2) × (slot_place (1 - slot) ≡ 1026)) ⊎ ((slot_place slot ≡ 1026) × (slot_place (1 - slot) ≡ 2))
-slots_apart zero h = inl (refl, refl)
-slots_apart (suc zero) h = inr (refl, refl)
-slots_apart (suc (suc n)) h = absurd (omega arith)
+-- label, header and the text that the header names stand in front of the extents
+pub pointer_front : (from : ℕ) (f m : ℕ → List ℕ) → IsApart (frame_in f) from → ((q : ℕ) → q < from → m q ≡ f q) → pointer_of m ≡ pointer_of f
+pointer_front from f m apart same = pointer_same f m (same label_place (omega (arith, apart.front.0))) (same (frame_in f).header apart.front.0)
 
--- the text that a header names stands in front of the extents
-pub text_front : (f m : ℕ → List ℕ) (h : Pointer) → pointer_of f ≡ Ok h → ((q : ℕ) → q < area_place → m q ≡ f q) → text_in m h ≡ text_in f h
-text_front f m h headed same =
+pub text_front : (from : ℕ) (f m : ℕ → List ℕ) (h : Pointer) → IsApart (frame_in f) from → pointer_of f ≡ Ok h → ((q : ℕ) → q < from → m q ≡ f q) → text_in m h ≡ text_in f h
+text_front from f m h apart headed same =
     let right = pointer_right f h headed in
-    let few = sectors_most h.size right.size in
-    text_same f m h (λ q from below. same q (low (slots_apart h.slot right.slot) q below few))
-  where
-    low : ((slot_place h.slot ≡ 2) × (slot_place (1 - h.slot) ≡ 1026)) ⊎ ((slot_place h.slot ≡ 1026) × (slot_place (1 - h.slot) ≡ 2))
-        → (q : ℕ) → q < slot_place h.slot + div_up h.size 512 → div_up h.size 512 ≤ 1024 → q < area_place
-    low (inl (own, other)) q below few = omega (arith, own, below, few)
-    low (inr (own, other)) q below few = omega (arith, own, below, few)
+    let few = sectors_most (frame_in f) h.size right.size in
+    let front = slot_front h.slot right.slot apart in
+    text_same f m h (same label_place (omega (arith, apart.front.0))) (λ q at below. same q (omega (arith, below, few, front)))

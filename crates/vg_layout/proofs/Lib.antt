@@ -1,5 +1,5 @@
+pub mod FrameLaws
 pub mod ImageLaws
 pub mod RoundTrips
 pub mod SectorLaws
-pub mod Spellings
 pub mod StandingLaws

@@ -1,12 +1,86 @@
--- What is written of a header is read as that header.
-use Rattle.std.proofs.Common.{◌≡◌, ℕ, ◌<◌, ◌≤◌, ◌^◌, true, List, refl, ap, ◌∙◌, Ok, arith}
-use Rattle.std.proofs.lemmas.Bool.{le-leb}
+-- What is written of a label and of a header is read as that label and that header.
+use Rattle.std.proofs.Common.{◌≡◌, ℕ, ◌+◌, ◌<◌, ◌≤◌, ◌^◌, true, List, ◌++◌, length, take, drop, replicate, sum, refl, sym, ap, ◌∙◌, append_assoc, Ok, arith}
+use Rattle.std.proofs.Math.Seq.{drop-append-add, take-append_seam}
+use Rattle.std.proofs.lemmas.Bool.{le-leb, le-ltb}
+use Rattle.std.proofs.lemmas.List.{drop-drop}
 use Rattle.std.proofs.lemmas.Nat.{from_be_bytes-to_be_bytes_4}
 use Rattle.std.proofs.lemmas.Slice.Eq.{bytes_eq-Decides}
+use Rattle.std.specs.Int.{w32, from_be_bytes}
 use Rattle.std.specs.Str.{bytes_eq}
-use Rattle.vg_layout.specs.Places.{header_place}
-use Rattle.vg_layout.specs.Sectors.{Pointer, number_at, sealed, header_front, header_sector, pointer_in}
-use Rattle.vg_layout.specs.Opening.{pointer_of, is_header_right, text_limit}
+use Rattle.sm_base.specs.Numbers.{IsGeometry}
+use Rattle.vg_layout.specs.Places.{extents_on, label_place, record_extents, slot_bytes}
+use Rattle.vg_layout.specs.Sectors.{Plate, Pointer, number, number_at, label_cookie, sealed, label_front, label_sector, plate_in, version_in, header_front, header_sector, pointer_in}
+use Rattle.vg_layout.specs.Opening.{frame_in, is_header_right, is_version, plate_of, pointer_by, pointer_of}
+use Rattle.vg_layout.proofs.SectorLaws.{label_right}
+
+-- ---- a label
+
+-- the fields of a label are numbers of four bytes, and its UUID has 16 bytes
+pub record IsFields (p : Plate) : Type 0 where
+  pub extent : p.extent < 2 ^ 32
+  pub block : p.block < 2 ^ 32
+  pub entries : p.entries < 2 ^ 32
+  pub count : p.count < 2 ^ 32
+  pub layout : p.layout < 2 ^ 32
+  pub identity : length p.identity ≡ 16
+
+-- what stands behind the UUID
+behind : ℕ → Plate → List ℕ
+behind v p = (number p.extent ++ (number p.block ++ (number p.entries ++ (number p.count ++ (number p.layout ++ replicate 460 0))))) ++ number (sum (label_front v p))
+
+from_identity : (v : ℕ) (p : Plate) → drop 12 (label_sector v p) ≡ p.identity ++ behind v p
+unfolding label_sector label_front sealed behind
+from_identity v p =
+    append_assoc p.identity (number p.extent ++ (number p.block ++ (number p.entries ++ (number p.count ++ (number p.layout ++ replicate 460 0))))) (number (sum (label_front v p)))
+
+number_behind : (v : ℕ) (p : Plate) (n : ℕ) → length p.identity ≡ 16 → number_at (28 + n) (label_sector v p) ≡ number_at n (behind v p)
+number_behind v p n long =
+    let from : 28 + n ≡ 12 + (16 + n) = omega arith in
+    let to : 16 + n ≡ length p.identity + n = omega (arith, long) in
+    ap (λ l. from_be_bytes w32 (take 4 l))
+    (ap (λ k. drop k (label_sector v p)) from ∙ sym (drop-drop (16 + n) 12 (label_sector v p)) ∙ ap (drop (16 + n)) (from_identity v p)
+    ∙ ap (λ k. drop k (p.identity ++ behind v p)) to ∙ drop-append-add p.identity (behind v p) n)
+
+identity_again : (v : ℕ) (p : Plate) → length p.identity ≡ 16 → take 16 (drop 12 (label_sector v p)) ≡ p.identity
+identity_again v p long =
+    ap (take 16) (from_identity v p) ∙ ap (λ k. take k (p.identity ++ behind v p)) (sym long) ∙ take-append_seam p.identity (behind v p)
+
+pub plate_again : (v : ℕ) (p : Plate) → IsFields p → plate_in (label_sector v p) ≡ p
+unfolding plate_in behind
+plate_again v p f =
+    let s = label_sector v p in
+    let extent : number_at 28 s ≡ p.extent = number_behind v p 0 f.identity ∙ from_be_bytes-to_be_bytes_4 p.extent f.extent in
+    let block : number_at 32 s ≡ p.block = number_behind v p 4 f.identity ∙ from_be_bytes-to_be_bytes_4 p.block f.block in
+    let entries : number_at 36 s ≡ p.entries = number_behind v p 8 f.identity ∙ from_be_bytes-to_be_bytes_4 p.entries f.entries in
+    let count : number_at 40 s ≡ p.count = number_behind v p 12 f.identity ∙ from_be_bytes-to_be_bytes_4 p.count f.count in
+    let layout : number_at 44 s ≡ p.layout = number_behind v p 16 f.identity ∙ from_be_bytes-to_be_bytes_4 p.layout f.layout in
+    let identity = identity_again v p f.identity in
+    rw (extent, block, entries, count, layout, identity) refl
+
+pub cookie_again : (v : ℕ) (p : Plate) → bytes_eq (take 8 (label_sector v p)) label_cookie ≡ true
+unfolding label_sector label_front sealed
+cookie_again v p = (bytes_eq-Decides (take 8 (label_sector v p)) label_cookie).1 refl
+
+pub version_again : (v : ℕ) (p : Plate) → v < 2 ^ 32 → version_in (label_sector v p) ≡ v
+unfolding label_sector label_front sealed
+version_again v p low = from_be_bytes-to_be_bytes_4 v low
+
+-- the sizes of a label are in their ranges, and its layout and its extents in theirs
+pub record HasSizes (size version : ℕ) (p : Plate) : Type 0 where
+  pub layout : p.layout < version
+  pub sizes : IsGeometry p.extent p.block p.entries
+  pub most : p.count ≤ extents_on p.layout size p.extent
+  pub least : record_extents p.extent ≤ p.count
+
+pub label_again : (size v : ℕ) (p : Plate) (m : ℕ → List ℕ) → 2 ≤ size → is_version v ≡ true → v < 2 ^ 32 → IsFields p → HasSizes size v p
+    → m label_place ≡ label_sector v p → plate_of size m ≡ Ok p
+unfolding plate_of
+label_again size v p m some version low f g is =
+    let again = version_again v p low in
+    let right = label_right size v (label_sector v p) p again (plate_again v p f) refl g.layout g.sizes g.most g.least in
+    rw (is, le-ltb size 2 some, cookie_again v p, again, version, right, plate_again v p f) refl
+
+-- ---- a header
 
 pub pointer_again : (h : Pointer) → h.slot < 2 ^ 32 → h.size < 2 ^ 32 → h.total < 2 ^ 32 → pointer_in (header_sector h) ≡ h
 unfolding pointer_in header_sector header_front sealed
@@ -19,10 +93,10 @@ pointer_again h a b c =
     ∙ ap (λ (x : ℕ). let p : Pointer = record { slot = h.slot; size = x; total = number_at 16 s } in p) size
     ∙ ap (λ (x : ℕ). let p : Pointer = record { slot = h.slot; size = h.size; total = x } in p) total
 
-pub header_again : (h : Pointer) (image : ℕ → List ℕ) → h.slot ≤ 1 → h.size ≤ text_limit → h.total < 2 ^ 32
-    → image header_place ≡ header_sector h → pointer_of image ≡ Ok h
-unfolding pointer_of is_header_right
-header_again h image slot size total is =
-    let fields = pointer_again h (omega arith) (omega arith) total in
+pub header_again : (h : Pointer) (image : ℕ → List ℕ) → h.slot ≤ 1 → h.size ≤ slot_bytes (frame_in image) → h.size < 2 ^ 32 → h.total < 2 ^ 32
+    → image (frame_in image).header ≡ header_sector h → pointer_of image ≡ Ok h
+unfolding pointer_of pointer_by is_header_right
+header_again h image slot size small total is =
+    let fields = pointer_again h (omega arith) small total in
     let same : bytes_eq (header_sector h) (header_sector h) ≡ true = (bytes_eq-Decides (header_sector h) (header_sector h)).1 refl in
-    rw (is, fields, same, le-leb h.slot 1 slot, le-leb h.size text_limit size) refl
+    rw (is, fields, same, le-leb h.slot 1 slot, le-leb h.size (slot_bytes (frame_in image)) size) refl

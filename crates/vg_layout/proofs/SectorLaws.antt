@@ -1,13 +1,13 @@
 -- The tests of a label and of a table header, in the words of the program.
-use Rattle.std.proofs.Common.{◌≡◌, ℕ, ◌≤◌, Bool, true, false, ◌&&◌, leb, List, [], ◌++◌, refl, append_assoc}
-use Rattle.std.proofs.lemmas.Bool.{and_parts, leb-true, le-leb}
+use Rattle.std.proofs.Common.{◌≡◌, ℕ, ◌<◌, ◌≤◌, Bool, true, false, ◌&&◌, leb, ltb, List, [], ◌++◌, refl, append_assoc, arith}
+use Rattle.std.proofs.lemmas.Bool.{and_parts, eqb-true, leb-false, leb-true, le-leb, le-ltb, lt-ltb}
 use Rattle.std.proofs.lemmas.Slice.Eq.{bytes_eq-Decides}
 use Rattle.std.specs.Int.{is_power_of_two}
 use Rattle.std.specs.Str.{bytes_eq}
 use Rattle.sm_base.specs.Numbers.{IsGeometry}
-use Rattle.vg_layout.specs.Places.{extents_on, record_extents}
-use Rattle.vg_layout.specs.Sectors.{Plate, number_at, label_sector, header_sector, plate_in, pointer_in, is_geometry}
-use Rattle.vg_layout.specs.Opening.{is_label_right, is_header_right, text_limit}
+use Rattle.vg_layout.specs.Places.{Frame, extents_on, record_extents, slot_bytes}
+use Rattle.vg_layout.specs.Sectors.{Plate, number_at, label_sector, header_sector, plate_in, pointer_in, version_in, is_geometry}
+use Rattle.vg_layout.specs.Opening.{is_label_right, is_header_right, is_version}
 
 -- ---- the ranges of the three sizes
 
@@ -48,34 +48,52 @@ geometry_false extent block entries none = go (is_geometry extent block entries)
 
 -- ---- tests
 
+pub and_wrong : (a b : Bool) → b ≡ false → (a && b) ≡ false
+and_wrong true b wrong = wrong
+and_wrong false b wrong = refl
+
 none_right : (a b : Bool) → (a && (false && b)) ≡ false
 none_right true b = refl
 none_right false b = refl
 
-pub wrong_geometry : (size : ℕ) (sector : List ℕ) → is_geometry (number_at 28 sector) (number_at 32 sector) (number_at 36 sector) ≡ false
-    → is_label_right size sector ≡ false
+none_behind : (a b c : Bool) → (a && (b && (false && c))) ≡ false
+none_behind true b c = none_right b c
+none_behind false b c = refl
+
+-- a layout that is none, or sizes out of their ranges
+pub wrong_fields : (size : ℕ) (sector : List ℕ) → is_version (version_in sector) ≡ true
+    → (leb (number_at 44 sector) 1 && is_geometry (number_at 28 sector) (number_at 32 sector) (number_at 36 sector)) ≡ false → is_label_right size sector ≡ false
 unfolding is_label_right plate_in
-wrong_geometry size sector h =
-    let p = plate_in sector in
-    rw h (none_right (bytes_eq sector (label_sector p)) (leb p.count (extents_on size p.extent) && leb (record_extents p.extent) p.count))
+wrong_fields size sector version h = by (leb (number_at 44 sector) 1) refl h
+  where
+    p : Plate
+    p = plate_in sector
 
-pub label_right : (size : ℕ) (sector : List ℕ) (p : Plate) → plate_in sector ≡ p → sector ≡ label_sector p → IsGeometry p.extent p.block p.entries
-    → p.count ≤ extents_on size p.extent → record_extents p.extent ≤ p.count → is_label_right size sector ≡ true
+    by : (b : Bool) → leb (number_at 44 sector) 1 ≡ b → (b && is_geometry p.extent p.block p.entries) ≡ false → is_label_right size sector ≡ false
+    by false none wrong =
+        let one = eqb-true (version_in sector) 1 version in
+        let high : ltb p.layout (version_in sector) ≡ false = le-ltb p.layout (version_in sector) (omega (arith, one, leb-false _ _ none)) in
+        rw high (none_right (bytes_eq sector (label_sector (version_in sector) p)) (is_geometry p.extent p.block p.entries && (leb p.count (extents_on p.layout size p.extent) && leb (record_extents p.extent) p.count)))
+    by true some wrong =
+        rw wrong (none_behind (bytes_eq sector (label_sector (version_in sector) p)) (ltb p.layout (version_in sector)) (leb p.count (extents_on p.layout size p.extent) && leb (record_extents p.extent) p.count))
+
+pub label_right : (size version : ℕ) (sector : List ℕ) (p : Plate) → version_in sector ≡ version → plate_in sector ≡ p → sector ≡ label_sector version p → p.layout < version
+    → IsGeometry p.extent p.block p.entries → p.count ≤ extents_on p.layout size p.extent → record_extents p.extent ≤ p.count → is_label_right size sector ≡ true
 unfolding is_label_right
-label_right size sector p fields same g most least =
-    let eq : bytes_eq sector (label_sector p) ≡ true = (bytes_eq-Decides sector (label_sector p)).1 same in
-    rw (fields, eq, geometry_true p.extent p.block p.entries g, le-leb p.count (extents_on size p.extent) most, le-leb (record_extents p.extent) p.count least) refl
+label_right size version sector p is fields same layout g most least =
+    let eq : bytes_eq sector (label_sector version p) ≡ true = (bytes_eq-Decides sector (label_sector version p)).1 same in
+    rw (is, fields, eq, lt-ltb p.layout version layout, geometry_true p.extent p.block p.entries g, le-leb p.count (extents_on p.layout size p.extent) most, le-leb (record_extents p.extent) p.count least) refl
 
-pub wrong_slot : (sector : List ℕ) → leb (number_at 8 sector) 1 ≡ false → is_header_right sector ≡ false
+pub wrong_slot : (f : Frame) (sector : List ℕ) → leb (number_at 8 sector) 1 ≡ false → is_header_right f sector ≡ false
 unfolding is_header_right pointer_in
-wrong_slot sector h =
+wrong_slot f sector h =
     let there = pointer_in sector in
-    rw h (none_right (bytes_eq sector (header_sector there)) (leb there.size text_limit))
+    rw h (none_right (bytes_eq sector (header_sector there)) (leb there.size (slot_bytes f)))
 
 -- ---- fields that are written one behind the other
 
 pub five : (a b c d e : List ℕ) → (((([] ++ a) ++ b) ++ c) ++ d) ++ e ≡ a ++ (b ++ (c ++ (d ++ e)))
 five a b c d e = simp append_assoc
 
-pub eight : (a b c d e f g h : List ℕ) → ((((((([] ++ a) ++ b) ++ c) ++ d) ++ e) ++ f) ++ g) ++ h ≡ a ++ (b ++ (c ++ (d ++ (e ++ (f ++ (g ++ h))))))
-eight a b c d e f g h = simp append_assoc
+pub nine : (a b c d e f g h i : List ℕ) → (((((((([] ++ a) ++ b) ++ c) ++ d) ++ e) ++ f) ++ g) ++ h) ++ i ≡ a ++ (b ++ (c ++ (d ++ (e ++ (f ++ (g ++ (h ++ i)))))))
+nine a b c d e f g h i = simp append_assoc

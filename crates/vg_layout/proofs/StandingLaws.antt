@@ -1,7 +1,7 @@
 -- What an image shows of a label and a header that are right; it shows one pointer and one table alone.
-use Rattle.std.proofs.Common.{◌≡◌, ℕ, ◌+◌, ◌-◌, ◌*◌, ◌/◌, ◌<◌, ◌≤◌, Bool, true, false, cond, not, leb, ltb, eqb, List, take, Result, Ok, Err, refl, subst, arith}
+use Rattle.std.proofs.Common.{◌≡◌, ℕ, ◌+◌, ◌-◌, ◌*◌, ◌/◌, ◌<◌, ◌≤◌, Bool, true, false, cond, not, leb, ltb, eqb, List, take, Result, Ok, Err, refl, sym, ap, subst, ◌∙◌, arith}
 use Rattle.std.proofs.Math.Nat.{mul-le-mul_right, div-mul-le_self}
-use Rattle.std.proofs.lemmas.Bool.{and_parts, leb-true}
+use Rattle.std.proofs.lemmas.Bool.{and_parts, eqb-true, leb-true, ltb-true}
 use Rattle.std.proofs.lemmas.Grind.{div_ceil_times}
 use Rattle.std.specs.Int.{is_power_of_two}
 use Rattle.std.specs.Str.{bytes_eq}
@@ -12,64 +12,90 @@ use Rattle.sm_base.specs.declared.faults.OpenFault.{OpenFault}
 use Rattle.sm_base.specs.declared.faults.OpenFault.TheVariants.{Damaged, NotARepository, Unsupported}
 use Rattle.sm_base.specs.declared.faults.Place.TheVariants.{Header, Label}
 use Rattle.vg_meta.specs.Tables.{VolumeTable}
-use Rattle.vg_meta.specs.Reading.{Spells}
-use Rattle.vg_layout.specs.Places.{area_place, record_extents, label_place, header_place, extents_on}
-use Rattle.vg_layout.specs.Sectors.{Plate, Pointer, number_at, label_cookie, label_sector, is_geometry, plate_in, pointer_in}
-use Rattle.vg_layout.specs.Opening.{StandsOn, plate_of, pointer_of, is_label_right, is_header_right, text_in, text_limit}
-use Rattle.vg_layout.proofs.Spellings.{spells_once}
+use Rattle.vg_meta.specs.Reading.{SpellsBy}
+use Rattle.vg_meta.proofs.TextLaws.{spells_once}
+use Rattle.vg_layout.specs.Places.{Frame, IsApart, frame_of, area_place, record_extents, label_place, extents_on, most_extents, slot_bytes}
+use Rattle.vg_layout.specs.Sectors.{Plate, Pointer, label_cookie, label_sector, is_geometry, plate_in, pointer_in, version_in}
+use Rattle.vg_layout.specs.Opening.{StandsOn, frame_in, grammar_of, version_of, plate_of, pointer_by, pointer_of, is_version, is_label_right, is_header_right, text_in}
+use Rattle.vg_layout.proofs.FrameLaws.{frame_apart}
 
-pub record IsRightPointer (h : Pointer) : Type 0 where
+pub record IsRightPointer (f : Frame) (h : Pointer) : Type 0 where
   pub slot : h.slot ≤ 1
-  pub size : h.size ≤ 524288
+  pub size : h.size ≤ slot_bytes f
 
-pub pointer_right : (m : ℕ → List ℕ) (h : Pointer) → pointer_of m ≡ Ok h → IsRightPointer h
-unfolding pointer_of is_header_right
-pointer_right m h e = go (is_header_right (m header_place)) refl e
+pub pointer_right_by : (f : Frame) (sector : List ℕ) (h : Pointer) → pointer_by f sector ≡ Ok h → IsRightPointer f h
+unfolding pointer_by is_header_right
+pointer_right_by f sector h e = go (is_header_right f sector) refl e
   where
-    go : (b : Bool) → is_header_right (m header_place) ≡ b → cond b (Ok (pointer_in (m header_place))) (Err (Damaged Header)) ≡ Ok h → IsRightPointer h
+    go : (b : Bool) → is_header_right f sector ≡ b → cond b (Ok (pointer_in sector)) (Err (Damaged Header)) ≡ Ok h → IsRightPointer f h
     go false r x = absurd cc
     go true r x =
-        let p = pointer_in (m header_place) in
+        let p = pointer_in sector in
         let same : p ≡ h = cc in
         let a = and_parts _ _ r in
-        let b = and_parts (leb p.slot 1) (leb p.size text_limit) a.1 in
-        let right : IsRightPointer p = record { slot = leb-true _ _ b.0; size = leb-true _ _ b.1 } in
-        subst IsRightPointer same right
+        let b = and_parts (leb p.slot 1) (leb p.size (slot_bytes f)) a.1 in
+        let right : IsRightPointer f p = record { slot = leb-true _ _ b.0; size = leb-true _ _ b.1 } in
+        subst (IsRightPointer f) same right
 
--- what the checks of a label say of its numbers
-pub record IsRightPlate (size : ℕ) (p : Plate) : Type 0 where
-  pub most : p.count ≤ extents_on size p.extent
+pub pointer_right : (m : ℕ → List ℕ) (h : Pointer) → pointer_of m ≡ Ok h → IsRightPointer (frame_in m) h
+unfolding pointer_of
+pointer_right m h e = pointer_right_by (frame_in m) (m (frame_in m).header) h e
+
+-- what the checks of a label say of its version and of its fields
+pub record IsRightPlate (size : ℕ) (m : ℕ → List ℕ) (p : Plate) : Type 0 where
+  pub version : is_version (version_of m) ≡ true
+  pub fields : plate_in (m label_place) ≡ p
+  pub layout : p.layout < version_of m
+  pub most : p.count ≤ extents_on p.layout size p.extent
   pub least : record_extents p.extent ≤ p.count
   pub extent : 32 ≤ p.extent
 
-plate_right : (size : ℕ) (m : ℕ → List ℕ) (p : Plate) → plate_of size m ≡ Ok p → IsRightPlate size p
+pub plate_right : (size : ℕ) (m : ℕ → List ℕ) (p : Plate) → plate_of size m ≡ Ok p → IsRightPlate size m p
 unfolding plate_of is_label_right is_geometry
-plate_right size m p e = go (ltb size 2) (not (bytes_eq (take 8 (m label_place)) label_cookie)) (not (eqb (number_at 8 (m label_place)) 1)) (is_label_right size (m label_place)) refl e
+plate_right size m p e = go (ltb size 2) (not (bytes_eq (take 8 (m label_place)) label_cookie)) (is_version (version_of m)) refl (is_label_right size (m label_place)) refl e
   where
-    go : (a b c d : Bool) → is_label_right size (m label_place) ≡ d
-        → cond a (Err NotARepository) (cond b (Err NotARepository) (cond c (Err (Unsupported (number_at 8 (m label_place)))) (cond d (Ok (plate_in (m label_place))) (Err (Damaged Label))))) ≡ Ok p → IsRightPlate size p
-    go true b c d r x = absurd cc
-    go false true c d r x = absurd cc
-    go false false true d r x = absurd cc
-    go false false false false r x = absurd cc
-    go false false false true r x =
+    go : (a b c : Bool) → is_version (version_of m) ≡ c → (d : Bool) → is_label_right size (m label_place) ≡ d
+        → cond a (Err NotARepository) (cond b (Err NotARepository) (cond (not c) (Err (Unsupported (version_of m))) (cond d (Ok (plate_in (m label_place))) (Err (Damaged Label))))) ≡ Ok p → IsRightPlate size m p
+    go true b c v d r x = absurd cc
+    go false true c v d r x = absurd cc
+    go false false false v d r x = absurd cc
+    go false false true v false r x = absurd cc
+    go false false true v true r x =
         let q = plate_in (m label_place) in
         let same : q ≡ p = cc in
-        let right = and_parts (bytes_eq (m label_place) (label_sector q)) _ r in
-        let sizes = and_parts (is_geometry q.extent q.block q.entries) _ right.1 in
-        let counts = and_parts (leb q.count (extents_on size q.extent)) _ sizes.1 in
+        let right = and_parts (bytes_eq (m label_place) (label_sector (version_of m) q)) _ r in
+        let layouts = and_parts (ltb q.layout (version_of m)) _ right.1 in
+        let sizes = and_parts (is_geometry q.extent q.block q.entries) _ layouts.1 in
+        let counts = and_parts (leb q.count (extents_on q.layout size q.extent)) _ sizes.1 in
         let powers = and_parts (is_power_of_two q.extent) _ sizes.0 in
         let wide = and_parts (leb 32 q.extent) _ powers.1 in
-        let is : IsRightPlate size q = record { most = leb-true _ _ counts.0; least = leb-true _ _ counts.1; extent = leb-true _ _ wide.0 } in
-        subst (IsRightPlate size) same is
+        let is : IsRightPlate size m q =
+        record { version = v; fields = refl; layout = ltb-true _ _ layouts.0; most = leb-true _ _ counts.0; least = leb-true _ _ counts.1; extent = leb-true _ _ wide.0 } in
+        subst (IsRightPlate size m) same is
+
+-- the version is the one that an opening takes
+pub plate_version : (size : ℕ) (m : ℕ → List ℕ) (p : Plate) → plate_of size m ≡ Ok p → version_of m ≡ 1
+plate_version size m p e = eqb-true (version_of m) 1 (plate_right size m p e).version
+
+-- the label says the frame
+pub plate_frame : (size : ℕ) (m : ℕ → List ℕ) (p : Plate) → plate_of size m ≡ Ok p → frame_in m ≡ frame_of (version_of m) p.layout
+plate_frame size m p e = ap (λ (q : Plate). frame_of (version_of m) q.layout) (plate_right size m p e).fields
+
+-- whose parts stand apart in front of the extents
+pub plate_apart : (size : ℕ) (m : ℕ → List ℕ) (p : Plate) → plate_of size m ≡ Ok p → IsApart (frame_in m) (area_place p.layout)
+plate_apart size m p e = subst (λ (f : Frame). IsApart f (area_place p.layout)) (sym (plate_frame size m p e)) (frame_apart (version_of m) p.layout)
 
 -- a group has at most 65,536 extents
 pub plate_few : (size : ℕ) (m : ℕ → List ℕ) (p : Plate) → plate_of size m ≡ Ok p → p.count ≤ extent_limit
-unfolding extents_on
-plate_few size m p e = omega (arith, (plate_right size m p e).most)
+unfolding extents_on most_extents
+plate_few size m p e =
+    let right = plate_right size m p e in
+    let narrow : p.layout ≡ 0 = omega (arith, right.layout, plate_version size m p e) in
+    let most : p.count ≤ extents_on 0 size p.extent = subst (λ (l : ℕ). p.count ≤ extents_on l size p.extent) narrow right.most in
+    omega (arith, most)
 
 -- and they are on the device
-pub plate_area : (size : ℕ) (m : ℕ → List ℕ) (p : Plate) → plate_of size m ≡ Ok p → area_place + p.count * p.extent ≤ size
+pub plate_area : (size : ℕ) (m : ℕ → List ℕ) (p : Plate) → plate_of size m ≡ Ok p → area_place p.layout + p.count * p.extent ≤ size
 unfolding extents_on record_extents
 plate_area size m p e =
     let r = plate_right size m p e in
@@ -78,9 +104,9 @@ plate_area size m p e =
     let rounded = (div_ceil_times 512 p.extent some).0 in
     let enough : 512 ≤ div_up 512 p.extent * p.extent = rw (← up) rounded in
     let least : div_up 512 p.extent * p.extent ≤ p.count * p.extent = mul-le-mul_right p.extent r.least in
-    let few : p.count ≤ (size - area_place) / p.extent = omega (arith, r.most) in
-    let most : p.count * p.extent ≤ (size - area_place) / p.extent * p.extent = mul-le-mul_right p.extent few in
-    let whole = div-mul-le_self (size - area_place) p.extent in
+    let few : p.count ≤ (size - area_place p.layout) / p.extent = omega (arith, r.most) in
+    let most : p.count * p.extent ≤ (size - area_place p.layout) / p.extent * p.extent = mul-le-mul_right p.extent few in
+    let whole = div-mul-le_self (size - area_place p.layout) p.extent in
     omega (arith, enough, least, most, whole)
 
 ok_same : (r : Result Pointer OpenFault) (h k : Pointer) → r ≡ Ok h → r ≡ Ok k → h ≡ k
@@ -96,5 +122,5 @@ pub stands_once : (size : ℕ) (m : ℕ → List ℕ) (p : Plate) (h k : Pointer
     → StandsOn size m (record { plate = p; pointer = h; table = t }) → StandsOn size m (record { plate = p; pointer = k; table = u }) → t ≡ u
 stands_once size m p h k t u few a b =
     let same : h ≡ k = ok_same (pointer_of m) h k a.headed b.headed in
-    let P : Pointer → Type 0 = λ x. Spells p.count (text_in m x) t in
-    spells_once p.count (text_in m k) t u (omega arith) (subst P same a.spelled) b.spelled
+    let P : Pointer → Type 0 = λ x. SpellsBy (grammar_of (version_of m)) p.count (text_in m x) t in
+    spells_once (grammar_of (version_of m)) p.count (text_in m k) t u (omega arith) (subst P same a.spelled) b.spelled

@@ -1,10 +1,23 @@
--- What the program's label and table header stand for: their fields, as the format has them.
+-- What the program's label, table header and frame stand for: their fields, as the format has them.
 use Rattle.std.specs.Prelude.{ℕ}
 use Rattle.vg_layout.specs.declared.labels.GroupLabel.{GroupLabel}
 use Rattle.vg_layout.specs.declared.headers.TableHeader.{TableHeader}
+use Rattle.vg_layout.specs.declared.places.Frame.{Frame as FrameHere}
+use Rattle.vg_layout.specs.declared.places.Layout.{Layout}
+use Rattle.vg_layout.specs.declared.places.Layout.TheVariants.{Narrow, Wide}
 use Rattle.vg_layout.specs.declared.places.Slot.{Slot}
 use Rattle.vg_layout.specs.declared.places.Slot.TheVariants.{Zero, One}
+use Rattle.vg_layout.specs.Places.{Frame}
 use Rattle.vg_layout.specs.Sectors.{Plate, Pointer}
+
+-- the number of a layout
+abbrev pub layout_number : Layout → ℕ
+layout_number Narrow = 0
+layout_number Wide = 1
+
+-- the places of a frame in memory
+abbrev pub places_in : FrameHere → Frame
+places_in f = record { header = f.header; first = f.first; second = f.second; room = f.room }
 
 -- the fields of a label in memory
 abbrev pub plate : GroupLabel → Plate
@@ -13,6 +26,7 @@ plate l = record {
   block = l.geometry.block;
   entries = l.geometry.entries;
   count = l.extents;
+  layout = layout_number l.layout;
   identity = l.repository;
 }
 

@@ -1,19 +1,21 @@
 -- The label and the table header, field by field (this project's format). Numbers are big-endian, of 4 bytes. A
 -- sum is the sum of bytes as a 32-bit number.
---   Label: 0 the letters LVHDREPO; 8 the version, 1; 12 the repository's UUID; 28 extent, 32 block, both in
---   sectors; 36 the entries of each block allocation table; 40 the number of extents; 44 zeros; 508 the sum
---   of bytes 0 to 507.
+--   Label: 0 the letters LVHDREPO; 8 the version; 12 the repository's UUID; 28 extent, 32 block, both in
+--   sectors; 36 the entries of each block allocation table; 40 the number of extents; 44 the layout, which is 0 in
+--   version 1; 48 zeros; 508 the sum of bytes 0 to 507.
 --   Table header: 0 the letters LVHDTABL; 8 the slot; 12 the length of the text in bytes; 16 the sum of the
 --   text; 20 zeros; 508 the sum of bytes 0 to 507.
 use Rattle.std.specs.Prelude.{ℕ, ◌&&◌, nat_le, Bool, List, ◌++◌, take, drop, replicate, sum, codes}
 use Rattle.std.specs.Int.{w32, to_be_bytes, from_be_bytes, is_power_of_two}
 
--- the numbers and the UUID that a repository is formatted with, and the number of its extents
+-- what a label says beside its version: the numbers and the UUID that a repository is formatted with, the number of its extents,
+-- and its layout
 pub record Plate : Type 0 where
   pub extent : ℕ
   pub block : ℕ
   pub entries : ℕ
   pub count : ℕ
+  pub layout : ℕ
   pub identity : List ℕ
 
 -- where the text of the table stands
@@ -41,21 +43,22 @@ header_cookie = codes "LVHDTABL"
 unfoldable pub sealed : List ℕ → List ℕ
 sealed front = front ++ number (sum front)
 
--- bytes 0 to 507 of a label
-unfoldable pub label_front : Plate → List ℕ
-label_front p =
+-- bytes 0 to 507 of a label of a version
+unfoldable pub label_front : ℕ → Plate → List ℕ
+label_front version p =
     label_cookie
-    ++ (number 1
+    ++ (number version
     ++ (p.identity
     ++ (number p.extent
     ++ (number p.block
     ++ (number p.entries
     ++ (number p.count
-    ++ replicate 464 0))))))
+    ++ (number p.layout
+    ++ replicate 460 0)))))))
 
--- the sector of a label: its fields and their sum
-unfoldable pub label_sector : Plate → List ℕ
-label_sector p = sealed (label_front p)
+-- the sector of a label of a version: its fields and their sum
+unfoldable pub label_sector : ℕ → Plate → List ℕ
+label_sector version p = sealed (label_front version p)
 
 -- bytes 0 to 507 of a table header
 unfoldable pub header_front : Pointer → List ℕ
@@ -70,13 +73,18 @@ header_front h =
 unfoldable pub header_sector : Pointer → List ℕ
 header_sector h = sealed (header_front h)
 
--- the fields that stand at a label's and at a header's offsets
+-- the version that stands in a label
+abbrev pub version_in : List ℕ → ℕ
+version_in sector = number_at 8 sector
+
+-- the fields that stand at a label's offsets
 unfoldable pub plate_in : List ℕ → Plate
 plate_in sector = record {
   extent = number_at 28 sector;
   block = number_at 32 sector;
   entries = number_at 36 sector;
   count = number_at 40 sector;
+  layout = number_at 44 sector;
   identity = take 16 (drop 12 sector);
 }
 

@@ -41,9 +41,9 @@ pub(crate) fn put_number(to: &mut [u8], at: usize, value: u32) -> usize
     put(to, at, &value.to_be_bytes())
 }
 
-/// The sum of bytes. A text of a table is no longer than this asks.
+/// The sum of bytes. No slot of a table's text is longer than this asks.
 pub fn sum_of(bytes: &[u8]) -> u32
-    requires { length bytes.now ≤ 524288 }
+    requires { length bytes.now ≤ 8519680 }
     ensures { result ≡ sum bytes.now }
 {
     bytes.iter().map(|byte| u32::from(*byte)).sum()

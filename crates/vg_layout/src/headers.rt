@@ -1,13 +1,13 @@
 //! The table header: the sector that says where the text of the table stands.
 
 ghost use Rattle.std.specs.Prelude.{◌≡◌, true, false, nat_le, Ok, Err, IfOk, IfErr, IfSome, IfNone};
-ghost use Rattle.vg_layout.specs.Fields.{pointer, slot_number};
-ghost use Rattle.vg_layout.specs.Opening.{is_header_right, pointer_of};
+ghost use Rattle.vg_layout.specs.Fields.{places_in, pointer, slot_number};
+ghost use Rattle.vg_layout.specs.Opening.{is_header_right, pointer_by};
 ghost use Rattle.vg_layout.specs.Sectors.{header_sector, pointer_in, number_at};
 
 use crate::bytes::{number_at, put, put_number, seal};
-use crate::places::Slot;
-use sm_base::{OpenFault, Place, TEXT_LIMIT};
+use crate::places::{Frame, Slot};
+use sm_base::{OpenFault, Place};
 
 /// Where the text of the table stands.
 #[derive(Clone, Copy, PartialEq, Eq)]
@@ -21,17 +21,17 @@ pub struct TableHeader {
 }
 
 impl TableHeader {
-    /// What a table header says: the fourth check of an opening.
+    /// What the sector of a table header says in a frame: the fourth check of an opening.
     ///
     /// # Errors
     ///
     /// A damaged header, where the sector is not that of its fields, or a field is out of its range.
-    #[tactic(auto, unfolding(crate::specs::Opening::pointer_of, crate::specs::Opening::is_header_right))]
-    pub fn read(bytes: &[u8; 512]) -> Result<TableHeader, OpenFault>
-        ensures ok { IfOk result (λ h. pointer_of (λ p. bytes.now) ≡ Ok (pointer h)) }
-        ensures err { IfErr result (λ e. pointer_of (λ p. bytes.now) ≡ Err e) }
+    #[tactic(auto, unfolding(crate::specs::Opening::pointer_by, crate::specs::Opening::is_header_right))]
+    pub fn read(frame: &Frame, bytes: &[u8; 512]) -> Result<TableHeader, OpenFault>
+        ensures ok { IfOk result (λ h. pointer_by (places_in frame.now) bytes.now ≡ Ok (pointer h)) }
+        ensures err { IfErr result (λ e. pointer_by (places_in frame.now) bytes.now ≡ Err e) }
     {
-        match TableHeader::right(bytes) {
+        match TableHeader::right(frame, bytes) {
             Some(header) => Ok(header),
             None => Err(OpenFault::Damaged {
                 place: Place::Header,
@@ -39,17 +39,17 @@ impl TableHeader {
         }
     }
 
-    // The header, where it is right.
+    // The header, where it is right in a frame.
     #[tactic(auto, unfolding(crate::specs::Opening::is_header_right))]
-    fn right(bytes: &[u8; 512]) -> Option<TableHeader>
-        ensures right { IfSome result (λ h. is_header_right bytes.now ≡ true) }
+    fn right(frame: &Frame, bytes: &[u8; 512]) -> Option<TableHeader>
+        ensures right { IfSome result (λ h. is_header_right (places_in frame.now) bytes.now ≡ true) }
         ensures fields { IfSome result (λ h. pointer_in bytes.now ≡ pointer h) }
-        ensures none { IfNone result (is_header_right bytes.now ≡ false) }
+        ensures none { IfNone result (is_header_right (places_in frame.now) bytes.now ≡ false) }
     {
         let header = TableHeader::fields_of(bytes)?;
         let mut written = [0; 512];
         header.write(&mut written);
-        if *bytes == written && header.length <= TEXT_LIMIT {
+        if *bytes == written && u64::from(header.length) <= frame.slot_bytes() {
             Some(header)
         } else {
             None

@@ -2,8 +2,9 @@
 //!
 //! **What is kept here.** Nothing: a sector of 512 bytes goes in and its fields come out, or fields go in and
 //! their sector comes out. Offsets and lengths are in bytes, places in sectors. The [`GroupLabel`] in sector 0
-//! says the sizes, the number of extents and the repository's UUID. The [`TableHeader`] in sector 1 says in which
-//! of two slots the text of the table stands, how long it is, and its sum.
+//! says the sizes, the number of extents, their [`Layout`] and the repository's UUID. The [`TableHeader`] says in which
+//! of two slots the text of the table stands, how long it is, and its sum. Header and slots have their places in a
+//! [`Frame`], which version and layout say.
 //!
 //! **The model** (`specs/`). `Places` says where each part stands, `Sectors` spells the two sectors field by field,
 //! and `Opening` has the first five checks of an opening as one relation: what stands on a device
@@ -23,5 +24,4 @@ mod places;
 pub use bytes::sum_of;
 pub use headers::TableHeader;
 pub use labels::GroupLabel;
-pub use places::{AREA, HEADER, LABEL, Slot, extents_on, record_extents};
-pub use sm_base::TEXT_LIMIT;
+pub use places::{Frame, LABEL, Layout, Slot, extents_on, record_extents};
