@@ -180,7 +180,7 @@ module _ (s : Site) (t : VolumeTable) (m : Known) (k : Bool) (v p : Name) (h : I
   pub tidy_put : IsTidy (applied t (Create (copy_entry k v p) false [])) (record m { op = copy_of k v p 0 })
   tidy_put = entries.tidy_entry s t next m (copy_of k v p 0) put_table h.tidy
 
-  pub fits_put : Fits t (Create (copy_entry k v p) false [])
+  pub fits_put : Fits s.count t (Create (copy_entry k v p) false [])
   fits_put = fits_orderly s next after orderly_put
 
   pub shape_put : shape_in s (applied t (Create (copy_entry k v p) false [])) (record m { op = copy_of k v p 0 }) ≡ record (shape_in s t m) { sequence = risen t.sequence 1; op = copy_of k v p 0 }
@@ -209,7 +209,7 @@ module _ {S : Type 0} {g : Ghosts S} {a b : S} (n : Memory) {k : Bool} {v p : Na
     usable = stays.failed ∙ usable;
     allowed = permits_put;
     room = row;
-    fits = subst (λ y. Fits y change) (sym stays.table) (fits_put (g.site a) (tab g a) (known n) k v p h);
+    fits = subst (λ y. Fits (g.site a).count y change) (sym stays.table) (fits_put (g.site a) (tab g a) (known n) k v p h);
   }
 
   module _ {x : S} (c : Commits g (Create (copy_entry k v p) false []) b x) (l : Memory) (is : known l ≡ after (g.site a) (tab g a) (known n) k v p h) where

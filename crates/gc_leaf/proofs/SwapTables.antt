@@ -94,7 +94,7 @@ module _ {s : Site} {t : VolumeTable} {m : Known} {l p : Name} {cursor : ℕ} (h
   pub leaf_parent : Vhd leaf ≢ Vhd parent
   leaf_parent is = apart h (let x = is in cc)
 
-  fits : (x : VolumeTable) → IsTable s.count x → length (table_images x) ≤ image_limit → names_in x is_entry ≡ entry → length (text x) ≤ text_limit
+  fits : (x : VolumeTable) → IsTable s.count x → length (table_images x) ≤ image_limit → names_in x is_entry ≡ entry → length (text x) ≤ text_limit s.count
   fits x table few one = fits_few s.count x table h.orderly.few_extents few (omega (arith, ap (λ (ns : List Name). length ns) one))
 
   -- ---- each table

@@ -117,7 +117,7 @@ impl<S: Store> Store for Cache<S> {
         requires usable { S.failed self.old.inner ≡ false }
         requires allowed { Permits (S.site self.old.inner).count (table_alone (S.table self.old.inner)) change }
         requires room { HasRoom (S.table self.old.inner) change }
-        requires fits { Fits (table_alone (S.table self.old.inner)) change }
+        requires fits { Fits (S.site self.old.inner).count (table_alone (S.table self.old.inner)) change }
         ensures site { S.site self.new.inner ≡ S.site self.old.inner }
         ensures counts { S.faults self.old.inner ≤ S.faults self.new.inner }
         ensures cause { IsCounted result (S.faults self.old.inner) (S.faults self.new.inner) }

@@ -328,7 +328,7 @@ module _ (s : Site) (t : VolumeTable) (m : Known) (u twin : List ℕ) (read_only
       let more = (new s t m u twin read_only o tidy passes).few in
       omega (arith, counted is_image v.volumes, counted is_image t.volumes, few, images_counted s t m tidy.none_new o, more, makes_two u twin read_only)
 
-  fits_in : (v : VolumeTable) → IsTable s.count v → length (names_in v is_image) ≤ length (names_in t is_image) + 2 → length (names_in v is_entry) ≤ length (names_in t is_entry) + 1 → length (text v) ≤ text_limit
+  fits_in : (v : VolumeTable) → IsTable s.count v → length (names_in v is_image) ≤ length (names_in t is_image) + 2 → length (names_in v is_entry) ≤ length (names_in t is_entry) + 1 → length (text v) ≤ text_limit s.count
   fits_in v table few entries =
       fits_entries s.count v table o.few_extents (few_images v few) (omega (arith, entries, ap (λ (ns : List Name). length ns) o.entries, few_entries m.op))
 

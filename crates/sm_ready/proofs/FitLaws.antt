@@ -81,13 +81,13 @@ one_entry (op.Relink v p) = omega arith
 one_entry (op.Leaf l p cursor) = omega arith
 
 -- a table of few images and of few entries
-pub fits_entries : (count : ℕ) (t : VolumeTable) → IsTable count t → count ≤ extent_limit → length (images t) ≤ image_limit → length (names_in t is_entry) ≤ 4 → length (text t) ≤ text_limit
+pub fits_entries : (count : ℕ) (t : VolumeTable) → IsTable count t → count ≤ extent_limit → length (images t) ≤ image_limit → length (names_in t is_entry) ≤ 4 → length (text t) ≤ text_limit count
 fits_entries count t table extents few entries =
     omega (arith, length-text t, long_volumes t.volumes table.volumes.each, one_other t.volumes table.volumes.rising, entries, few, used-le count t.volumes table.volumes, extents)
 
 -- and of one entry at most
-pub fits_few : (count : ℕ) (t : VolumeTable) → IsTable count t → count ≤ extent_limit → length (images t) ≤ image_limit → length (names_in t is_entry) ≤ 1 → length (text t) ≤ text_limit
+pub fits_few : (count : ℕ) (t : VolumeTable) → IsTable count t → count ≤ extent_limit → length (images t) ≤ image_limit → length (names_in t is_entry) ≤ 1 → length (text t) ≤ text_limit count
 fits_few count t table extents few one = fits_entries count t table extents few (omega (arith, one))
 
-pub fits_orderly : (s : Site) (t : VolumeTable) (m : Known) → IsOrderly s t m → length (text t) ≤ text_limit
+pub fits_orderly : (s : Site) (t : VolumeTable) (m : Known) → IsOrderly s t m → length (text t) ≤ text_limit s.count
 fits_orderly s t m o = fits_few s.count t o.table o.few_extents o.few (omega (arith, ap (λ (ns : List Name). length ns) o.entries, one_entry m.op))

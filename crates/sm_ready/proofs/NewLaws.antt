@@ -157,7 +157,7 @@ module _ (s : Site) (t : VolumeTable) (m : Known) (own : Name) (es : List ℕ) (
   pub orderly_begun : IsOrderly s begun m
   orderly_begun = orderly_new s t m own es b.orderly b.tidy.none_new allowed b.image is_new.few is_new.right
 
-  pub fits_begun : Fits t (Create own true es)
+  pub fits_begun : Fits s.count t (Create own true es)
   fits_begun = fits_orderly s begun m orderly_begun
 
   pub there : rows begun own ≡ Some (made own true es)
@@ -249,7 +249,7 @@ module _ (s : Site) (t : VolumeTable) (m : Known) (own : Name) (es : List ℕ) (
   pub orderly_made : IsOrderly s (after begun own) made_known
   orderly_made = orderly_last s begun m own added k r (made own true es) made_is stepped_is
 
-  pub fits_made : Fits begun (Mark own Fresh false)
+  pub fits_made : Fits s.count begun (Mark own Fresh false)
   fits_made = fits_orderly s (after begun own) made_known orderly_made
 
   pub tidy_made : IsTidy (after begun own) made_known

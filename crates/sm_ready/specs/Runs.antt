@@ -11,7 +11,7 @@ use Rattle.sm_ready.specs.Done.{at_rest}
 -- each of these changes is allowed in its turn, and the text of the table after it fits
 abbrev pub AllMay : ℕ → VolumeTable → List Change → Type 0
 AllMay count t [] = Unit {0}
-AllMay count t (c ∷ cs) = Permits count t c × Fits t c × AllMay count (applied t c) cs
+AllMay count t (c ∷ cs) = Permits count t c × Fits count t c × AllMay count (applied t c) cs
 
 -- a store once a commit was made: the changed table, and what a read gave, with nothing pending
 abbrev pub committed : Stored → Change → Stored

@@ -128,7 +128,7 @@ names_counted (r ∷ rs) = by (is_entry r.name) (names_counted rs)
     by true rest = ap suc rest
     by false rest = rest
 
-pub small_fits : {count : ℕ} {t : VolumeTable} → count ≤ extent_limit → IsSmall count t → length (text t) ≤ text_limit
+pub small_fits : {count : ℕ} {t : VolumeTable} → count ≤ extent_limit → IsSmall count t → length (text t) ≤ text_limit count
 small_fits {count} {t} extents small = fits_entries count t small.table extents small.few_images (omega (arith, names_counted t.volumes, small.few_entries))
 
 image_no_entry : (n : Name) → is_image n ≡ true → is_entry n ≡ false

@@ -46,5 +46,5 @@ no_entry t plain = none_of (names_in t is_entry) (λ n i.
     let r = In-map (λ (r : Row). r.name) t.volumes n w.0 in
     true≢false (sym w.1 ∙ ap is_entry r.2 ∙ (not_special r.0.name (all-In (λ (x : Row). is_plain x ≡ true) t.volumes r.0 plain r.1)).no_journal))
 
-pub text_fits : {s : Site} {t : VolumeTable} → IsChecked s t → length (text t) ≤ text_limit
+pub text_fits : {s : Site} {t : VolumeTable} → IsChecked s t → length (text t) ≤ text_limit s.count
 text_fits {s} {t} c = fits_few s.count t c.table c.few_extents c.few_images (omega (arith, ap (λ (ns : List Name). length ns) (no_entry t c.plain)))

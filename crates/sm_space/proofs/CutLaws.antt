@@ -244,5 +244,5 @@ module _ (s : Site) (t : VolumeTable) (m : Known) (u : List ℕ) (to : ℕ) (row
   pub tidy_cut : IsTidy cut after
   tidy_cut = record { none_new = none_new; no_stray = λ r i. shown_turned (Vhd u) to r.uuid m.rows ∙ h.tidy.no_stray r i }
 
-  pub fits_cut : Fits t (Cut (Vhd u) to)
+  pub fits_cut : Fits s.count t (Cut (Vhd u) to)
   fits_cut = fits_orderly s cut after orderly_cut

@@ -263,7 +263,7 @@ module _ (s : Site) (t : VolumeTable) (m : Known) (u es : List ℕ) (row : TreeR
   few_images : length (table_images t) ≡ length (names_in t is_image)
   few_images = counted is_image t.volumes
 
-  fits_in : (v : VolumeTable) → IsTable s.count v → length (names_in v is_image) ≤ length (names_in t is_image) → length (names_in v is_entry) ≤ 2 → length (text v) ≤ text_limit
+  fits_in : (v : VolumeTable) → IsTable s.count v → length (names_in v is_image) ≤ length (names_in t is_image) → length (names_in v is_entry) ≤ 2 → length (text v) ≤ text_limit s.count
   fits_in v table few entries = fits_entries s.count v table h.orderly.few_extents (omega (arith, counted is_image v.volumes, few, few_images, h.orderly.few)) (omega (arith, entries))
 
   noted_entries : length (names_in noted is_entry) ≤ 2
@@ -272,16 +272,16 @@ module _ (s : Site) (t : VolumeTable) (m : Known) (u es : List ℕ) (row : TreeR
   noted_images : length (names_in noted is_image) ≤ length (names_in t is_image)
   noted_images = omega (arith, named_put is_image (made entry false []) t.volumes)
 
-  pub fits_noted : Fits t (Create entry false [])
+  pub fits_noted : Fits s.count t (Create entry false [])
   fits_noted = fits_in noted noted_table noted_images noted_entries
 
   larger_names : names_of larger.volumes ≡ names_of noted.volumes
   larger_names = names_of-with_row noted.volumes (Vhd u) (grown es) (λ r. refl)
 
-  pub fits_larger : Fits noted (Grow (Vhd u) es)
+  pub fits_larger : Fits s.count noted (Grow (Vhd u) es)
   fits_larger = fits_in larger larger_table (subst (λ ns. length (filter is_image ns) ≤ length (names_in t is_image)) (sym larger_names) noted_images) (subst (λ ns. length (filter is_entry ns) ≤ 2) (sym larger_names) noted_entries)
 
-  pub fits_ended : Fits larger (Remove entry)
+  pub fits_ended : Fits s.count larger (Remove entry)
   fits_ended = fits_in ended ended_table (omega (arith, ap (λ ns. length (filter is_image ns)) ended_names)) (omega (arith, ap (λ ns. length (filter is_entry ns)) ended_names, few_entries))
 
   -- ---- the shape

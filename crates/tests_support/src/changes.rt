@@ -15,7 +15,7 @@ pub fn prepare<S: Store>(store: &mut S, change: &Change) -> Result<(), Fail>
     ensures usable { S.failed store.new ≡ S.failed store.old }
     ensures allowed { OnOk result (Permits (S.site store.new).count (table_alone (S.table store.new)) change.now) }
     ensures room { OnOk result (HasRoom (S.table store.new) change.now) }
-    ensures fits { OnOk result (Fits (table_alone (S.table store.new)) change.now) }
+    ensures fits { OnOk result (Fits (S.site store.new).count (table_alone (S.table store.new)) change.now) }
     ensures can { OnOk result (S.failed store.old ≡ false → CanCommit S.Store change.now store.new) }
 {
     store.reserve_rows(1)?;

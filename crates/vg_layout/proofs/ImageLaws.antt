@@ -39,12 +39,14 @@ run_same f m at zero same = refl
 run_same f m at (suc n) same =
     ap₂ (λ (x y : List ℕ). x ++ y) (same at (omega arith) (omega arith)) (run_same f m (at + 1) n (λ q a b. same q (omega arith) (omega arith)))
 
+pub slot_same : (f : Frame) (k m : ℕ → List ℕ) (slot size : ℕ) → ((q : ℕ) → slot_place f slot ≤ q → q < slot_place f slot + div_up size 512 → m q ≡ k q)
+    → slot_text f m slot size ≡ slot_text f k slot size
+unfolding slot_text
+slot_same f k m slot size same = ap (take size) (run_same k m (slot_place f slot) (div_up size 512) same)
+
 pub text_same : (f m : ℕ → List ℕ) (h : Pointer) → m label_place ≡ f label_place
     → ((q : ℕ) → slot_place (frame_in f) h.slot ≤ q → q < slot_place (frame_in f) h.slot + div_up h.size 512 → m q ≡ f q) → text_in m h ≡ text_in f h
-unfolding slot_text
-text_same f m h label same =
-    ap (λ (g : Frame). slot_text g m h.slot h.size) (frame_same f m label)
-    ∙ ap (take h.size) (run_same f m (slot_place (frame_in f) h.slot) (div_up h.size 512) same)
+text_same f m h label same = ap (λ (g : Frame). slot_text g m h.slot h.size) (frame_same f m label) ∙ slot_same (frame_in f) f m h.slot h.size same
 
 pub stands_from : (size : ℕ) (m : ℕ → List ℕ) (p : Plate) (h : Pointer) (t : VolumeTable) (bytes : List ℕ)
     → plate_of size m ≡ Ok p → pointer_of m ≡ Ok h → text_in m h ≡ bytes → sum bytes ≡ h.total → SpellsBy (grammar_of (version_of m)) p.count bytes t
@@ -75,11 +77,15 @@ run_written m at (suc n) bytes long same =
     ap₂ (λ (x y : List ℕ). x ++ y) first rest ∙ sym (take-add 512 (512 * n) bytes) ∙ ap (λ k. take k bytes) whole
 
 -- and the text is their first ones
+pub slot_written : (f : Frame) (m : ℕ → List ℕ) (slot size : ℕ) (bytes : List ℕ) → 512 * div_up size 512 ≤ length bytes
+    → ((i : ℕ) → i < div_up size 512 → m (slot_place f slot + i) ≡ sector bytes i) → slot_text f m slot size ≡ take size bytes
+unfolding slot_text
+slot_written f m slot size bytes long same =
+    ap (take size) (run_written m (slot_place f slot) (div_up size 512) bytes long same) ∙ take-take size (512 * div_up size 512) bytes (sectors_hold size)
+
 pub text_written : (m : ℕ → List ℕ) (h : Pointer) (bytes : List ℕ) → 512 * div_up h.size 512 ≤ length bytes
     → ((i : ℕ) → i < div_up h.size 512 → m (slot_place (frame_in m) h.slot + i) ≡ sector bytes i) → text_in m h ≡ take h.size bytes
-unfolding slot_text
-text_written m h bytes long same =
-    ap (take h.size) (run_written m (slot_place (frame_in m) h.slot) (div_up h.size 512) bytes long same) ∙ take-take h.size (512 * div_up h.size 512) bytes (sectors_hold h.size)
+text_written m h bytes long same = slot_written (frame_in m) m h.slot h.size bytes long same
 
 -- label, header and the text that the header names stand in front of the extents
 pub pointer_front : (from : ℕ) (f m : ℕ → List ℕ) → IsApart (frame_in f) from → ((q : ℕ) → q < from → m q ≡ f q) → pointer_of m ≡ pointer_of f

@@ -12,7 +12,8 @@ use Rattle.sm_base.specs.declared.faults.OpenFault.{OpenFault}
 use Rattle.sm_base.specs.declared.faults.OpenFault.TheVariants.{Damaged, NotARepository, Unsupported}
 use Rattle.sm_base.specs.declared.faults.Place.TheVariants.{Header, Label}
 use Rattle.vg_meta.specs.Tables.{VolumeTable}
-use Rattle.vg_meta.specs.Reading.{SpellsBy}
+use Rattle.vg_meta.specs.Reading.{Spells, SpellsBy}
+use Rattle.vg_meta.specs.declared.grammars.Grammar.TheVariants.{Listed}
 use Rattle.vg_meta.proofs.TextLaws.{spells_once}
 use Rattle.vg_layout.specs.Places.{Frame, IsApart, frame_of, area_place, record_extents, label_place, extents_on, most_extents, slot_bytes}
 use Rattle.vg_layout.specs.Sectors.{Plate, Pointer, label_cookie, label_sector, is_geometry, plate_in, pointer_in, version_in}
@@ -76,6 +77,16 @@ plate_right size m p e = go (ltb size 2) (not (bytes_eq (take 8 (m label_place))
 -- the version is the one that an opening takes
 pub plate_version : (size : ℕ) (m : ℕ → List ℕ) (p : Plate) → plate_of size m ≡ Ok p → version_of m ≡ 1
 plate_version size m p e = eqb-true (version_of m) 1 (plate_right size m p e).version
+
+-- by which extents are listed
+pub spells_listed : (size : ℕ) (m : ℕ → List ℕ) (p : Plate) (bytes : List ℕ) (t : VolumeTable) → plate_of size m ≡ Ok p → Spells p.count bytes t
+    → SpellsBy (grammar_of (version_of m)) p.count bytes t
+unfolding grammar_of
+spells_listed size m p bytes t e = subst (λ (v : ℕ). SpellsBy (grammar_of v) p.count bytes t) (sym (plate_version size m p e))
+
+pub grammar_listed : (size : ℕ) (m : ℕ → List ℕ) (p : Plate) → plate_of size m ≡ Ok p → grammar_of (version_of m) ≡ Listed
+unfolding grammar_of
+grammar_listed size m p e = ap grammar_of (plate_version size m p e)
 
 -- the label says the frame
 pub plate_frame : (size : ℕ) (m : ℕ → List ℕ) (p : Plate) → plate_of size m ≡ Ok p → frame_in m ≡ frame_of (version_of m) p.layout

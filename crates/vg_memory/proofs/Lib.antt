@@ -1,3 +1,2 @@
 pub mod SectorWrites
 pub mod StoreLaws
-pub mod TextLaws

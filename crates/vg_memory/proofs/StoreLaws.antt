@@ -69,7 +69,7 @@ kept_new extent count r table area few fits is blank = record {
 
 pub new_store : (g : Geometry) (count sectors : ℕ) (id : List ℕ) (table : RoomyTable) (area calls : Memory) → id ≡ zero_bytes → table_alone table ≡ new_table (record_extents g.extent)
     → area ≡ new_memory sectors → calls ≡ new_memory 0
-    → IsNewStore g count (record { site = record { geometry = g; count = count; identity = id; sectors = count * g.extent }; table = table; slots = area.slots; course = Sound; orders = calls.orders; faults = calls.faults + area.faults; short = area.short })
+    → IsNewStore g count (record { site = record { geometry = g; count = count; layout = 0; identity = id; sectors = count * g.extent }; table = table; slots = area.slots; course = Sound; orders = calls.orders; faults = calls.faults + area.faults; short = area.short })
 unfolding slot_at
 new_store g count sectors id table area calls nil is blank none = record {
   geometry = refl;

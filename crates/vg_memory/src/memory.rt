@@ -7,10 +7,10 @@ ghost use Rattle.sm_disk.specs.Failing.{HasPassed, Names, Stops, fails};
 ghost use Rattle.vg_layout.specs.Places.{record_extents};
 ghost use Rattle.vg_volumes.specs.Sites.{size_of};
 ghost use Rattle.vg_memory.specs.Stores.{IsNewStore, area_of, has_failed};
-ghost use Rattle.vg_memory.specs.Accepting.{CanCommit, IsTaken};
+ghost use Rattle.vg_memory.specs.Accepting.{CanCommit};
 ghost use Rattle.vg_meta.specs.Roomy.{table_alone};
 
-use crate::accepting::{has_room, is_short};
+use crate::accepting::has_room;
 use sm_base::{Failed, Geometry, Name, NoMemory};
 use sm_disk::{Disk, MemDisk};
 use std::alloc::Global;
@@ -18,6 +18,7 @@ use std::marker::Model;
 use uuid::Uuid;
 use vg_layout::record_extents;
 use vg_meta::{Change, Table};
+use vg_volumes::text_limit;
 
 /// How the commits of a store have gone.
 #[derive(Drop)]
@@ -63,7 +64,7 @@ impl Model for MemoryStore {
     ghost Value = { StoreInMemory };
 
     ghost view = { λ s. record {
-      site = record { geometry = s.geometry; count = s.extents; identity = s.identity; sectors = s.extents * s.geometry.extent };
+      site = record { geometry = s.geometry; count = s.extents; layout = 0; identity = s.identity; sectors = s.extents * s.geometry.extent };
       table = s.table;
       slots = s.area.slots;
       course = s.course;
@@ -126,15 +127,14 @@ impl MemoryStore {
     }
 
     /// Whether `commit` takes a change: no commit has failed, the change is allowed, there is room for it, and the text
-    /// of the table stays short enough even if the change adds 122 bytes to it, and 4 for each extent.
+    /// of the table that it leaves is short enough.
     pub fn accepts(&self, change: &Change) -> bool
-        ensures taken { IsTrue result ↔ IsTaken self.now change.now }
-        ensures can { IsTrue result → CanCommit self.now change.now }
+        ensures can { IsTrue result ↔ CanCommit self.now change.now }
     {
         if self.course.has_failed() || !self.table.allows(change, self.extents) {
             return false;
         }
-        has_room(&self.table, change) && is_short(&self.table, change)
+        has_room(&self.table, change) && self.table.fits(change, text_limit(self.extents))
     }
 
     /// The sectors of a volume, at most 2^64 - 1, and 0 where there is none of the name.

@@ -17,7 +17,7 @@ use sm_base::{Failed, Geometry, Name, NoMemory};
 use sm_disk::Disk;
 use uuid::Uuid;
 use vg_meta::{Change, Table};
-use vg_volumes::{CURRENT_VERSION, Store};
+use vg_volumes::{CURRENT_VERSION, Store, text_limit};
 
 impl Store for MemoryStore {
     ghost use Rattle.std.proofs.Common.{refl};
@@ -92,14 +92,14 @@ impl Store for MemoryStore {
     fn is_ready(&self, change: &Change) -> bool {
         self.table.allows(change, self.extents())
             && self.table.has_room(change)
-            && self.table.fits(change)
+            && self.table.fits(change, text_limit(self.extents))
     }
 
     fn commit(&mut self, change: Change) -> Result<(), Failed>
         requires usable { has_failed self.old.course ≡ false }
         requires allowed { Permits self.old.site.count (table_alone self.old.table) change }
         requires room { HasRoom self.old.table change }
-        requires fits { Fits (table_alone self.old.table) change }
+        requires fits { Fits self.old.site.count (table_alone self.old.table) change }
         ensures site { self.new.site ≡ self.old.site }
         ensures counts { self.old.faults ≤ self.new.faults }
         ensures cause { IsCounted result self.old.faults self.new.faults }

@@ -21,7 +21,7 @@ use crate::lengths::changed_length;
 use crate::reading::{Stopped, volumes_at};
 use crate::splices::{changed_count, put_changed, raised};
 use crate::volumes::{Volume, named, place};
-use sm_base::{LAST_SEQUENCE, Name, NoMemory, TEXT_LIMIT};
+use sm_base::{LAST_SEQUENCE, Name, NoMemory};
 use std::alloc::Global;
 use std::marker::Model;
 
@@ -187,12 +187,12 @@ impl Table {
         volumes_length(&self.volumes).saturating_add(12)
     }
 
-    /// Whether the text of the table that a change leaves has at most 524,288 bytes. It writes nothing, and takes no
+    /// Whether the text of the table that a change leaves has at most so many bytes. It writes nothing, and takes no
     /// memory.
-    pub fn fits(&self, change: &Change) -> bool
-        ensures fits { IsTrue result ↔ (length (text (applied (table_alone self.now) change.now)) ≤ 524288) }
+    pub fn fits(&self, change: &Change, limit: u32) -> bool
+        ensures fits { IsTrue result ↔ (length (text (applied (table_alone self.now) change.now)) ≤ limit) }
     {
-        changed_length(&self.volumes, change) <= TEXT_LIMIT as usize - 12
+        changed_length(&self.volumes, change).saturating_add(12) <= limit as usize
     }
 
     /// Writes the text to the buffer's beginning, its extents listed, and answers its length in bytes. The bytes past it stay.

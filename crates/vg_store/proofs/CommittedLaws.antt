@@ -9,6 +9,8 @@ use Rattle.vg_meta.specs.Tables.{VolumeTable}
 use Rattle.vg_meta.specs.Roomy.{RoomyTable, places}
 use Rattle.vg_meta.specs.Text.{text}
 use Rattle.vg_meta.specs.Reading.{Spells}
+use Rattle.vg_meta.specs.declared.grammars.Grammar.{Grammar}
+use Rattle.vg_meta.specs.declared.grammars.Grammar.TheVariants.{Listed}
 use Rattle.vg_meta.specs.declared.changes.Change.{Change}
 use Rattle.vg_meta.specs.Changes.{applied, spare_after, places_after}
 use Rattle.vg_meta.specs.Changes as changes
@@ -16,11 +18,14 @@ use Rattle.vg_meta.proofs.ChangeLaws.{IsTable-applied}
 use Rattle.vg_meta.proofs.CommitLaws.{HasText-short}
 use Rattle.vg_meta.proofs.WriteLaws.{length-text}
 use Rattle.vg_layout.specs.Sectors.{Plate, Pointer}
-use Rattle.vg_layout.specs.Opening.{StandsOn}
-use Rattle.vg_volumes.specs.Sites.{Fits, RoomAfter}
-use Rattle.vg_store.specs.Groups.{Rests, IsGroup, IsNext, GroupStands}
+use Rattle.vg_layout.specs.Places.{Frame, frame_of, slot_bytes}
+use Rattle.vg_layout.specs.Opening.{StandsOn, frame_in}
+use Rattle.vg_volumes.specs.Commits.{current_version}
+use Rattle.vg_volumes.specs.Sites.{RoomAfter, text_limit}
+use Rattle.vg_store.specs.Groups.{Rests, IsGroup, IsNext, IsNextOf, GroupStands}
 use Rattle.vg_store.specs.Heads.{IsPointerOf}
-use Rattle.vg_store.proofs.ImageLaws.{plate_few, sectors_most, sectors_hold}
+use Rattle.vg_store.proofs.ImageLaws.{frame_room, grammar_listed, plate_few, sectors_most, sectors_hold, spells_listed}
+use Rattle.vg_store.proofs.OpeningLaws.{frame_found}
 
 -- ---- the text of the next table
 
@@ -39,56 +44,82 @@ head_from u at rest buffer is size total fits =
 pub long_as_before : (bytes old new : List ℕ) → length bytes ≤ length old → new ≡ bytes ++ drop (length bytes) old → length new ≡ length old
 long_as_before bytes old new fits is = ap length is ∙ omega (arith, length-append bytes (drop (length bytes) old), length-drop (length bytes) old)
 
+-- ---- the frame by which commits are made
+
+pub slot_few : (layout : ℕ) (f : Frame) → f ≡ frame_of current_version layout → slot_bytes f ≤ 8519680
+slot_few layout f is = subst (λ (k : Frame). slot_bytes k ≤ 8519680) (sym is) (frame_room current_version layout)
+
+limit_fits : (count layout : ℕ) → text_limit count ≤ slot_bytes (frame_of current_version layout)
+unfolding frame_of
+limit_fits count layout = omega arith
+
+-- a text within the limit fits a slot
+pub fits_slot : (count layout length : ℕ) (f : Frame) → f ≡ frame_of current_version layout → length ≤ text_limit count → length ≤ slot_bytes f
+fits_slot count layout length f is few = subst (λ (k : Frame). length ≤ slot_bytes k) (sym is) (omega (arith, few, limit_fits count layout))
+
 -- ---- the flip
 
 pub group_from : (size : ℕ) (h : Held) (p : Plate) (at : Pointer) (t : VolumeTable) → Rests size h p at (text t) → sum (text t) ≡ at.total → Spells p.count (text t) t
     → IsGroup size h p at t (text t)
-group_from size h p at t rests summed spelled = record { rests = rests; summed = summed; spelled = spelled; few = plate_few size h.floor p rests.labelled }
+group_from size h p at t rests summed spelled = record { rests = rests; summed = summed; spelled = spells_listed size h.floor p (text t) t rests.labelled spelled; few = plate_few size h.floor p rests.labelled }
 
 -- a buffer that was written to shows what was written
 pub buffer_shown : (n : ℕ) (old new : List ℕ) → length new ≡ n → take n (new ++ drop (length new) old) ≡ new
 buffer_shown n old new long = take_at new (drop (length new) old) n long
 
 -- its first sectors
-pub record IsFront (sectors size : ℕ) (buffer written : List ℕ) : Type 0 where
+pub record IsFront (f : Frame) (sectors size : ℕ) (buffer written : List ℕ) : Type 0 where
   pub count : sectors ≡ div_ceil size 512
-  pub long : length buffer ≡ 524288
+  pub long : length buffer ≡ slot_bytes f
   pub front : written ≡ take (512 * sectors) buffer
 
-pub front_reach : (size sectors : ℕ) → size ≤ 524288 → sectors ≡ div_ceil size 512 → (sectors ≡ div_up size 512) × (512 * sectors ≤ 524288)
-front_reach size sectors short count =
+pub front_reach : (f : Frame) (size sectors : ℕ) → size ≤ slot_bytes f → sectors ≡ div_ceil size 512 → (sectors ≡ div_up size 512) × (512 * sectors ≤ slot_bytes f)
+front_reach f size sectors short count =
     let up = div_up-div_ceil size 512 (omega arith) in
-    (omega (arith, up, count), omega (arith, up, count, sectors_most size short))
+    (omega (arith, up, count), omega (arith, up, count, sectors_most f size short))
 
-pub front_long : (size sectors : ℕ) (buffer written : List ℕ) → size ≤ 524288 → IsFront sectors size buffer written → length written ≡ 512 * div_up size 512
-front_long size sectors buffer written short f =
-    let reach = front_reach size sectors short f.count in
-    ap length f.front ∙ omega (arith, length-take (512 * sectors) buffer, f.long, reach.0, reach.1)
+pub front_long : (f : Frame) (size sectors : ℕ) (buffer written : List ℕ) → size ≤ slot_bytes f → IsFront f sectors size buffer written → length written ≡ 512 * div_up size 512
+front_long f size sectors buffer written short front =
+    let reach = front_reach f size sectors short front.count in
+    ap length front.front ∙ omega (arith, length-take (512 * sectors) buffer, front.long, reach.0, reach.1)
 
 -- the sectors that the text of the changed table reaches are those of a next table
-pub next_from : (p : Plate) (at next : Pointer) (t : VolumeTable) (change : Change) (bytes buffer written : List ℕ) (sectors : ℕ)
-    → Spells p.count bytes t → changes.Permits p.count t change → Fits t change → next.slot ≡ 1 - at.slot → IsPointerOf (applied t change) next buffer
-    → IsFront sectors next.size buffer written → IsNext p at next (applied t change) written
-next_from p at next t change bytes buffer written sectors spells allowed fits slot head f = record {
+pub next_from : (f : Frame) (p : Plate) (at next : Pointer) (t : VolumeTable) (change : Change) (bytes buffer written : List ℕ) (sectors : ℕ)
+    → slot_bytes f ≤ 8519680 → Spells p.count bytes t → changes.Permits p.count t change → length (text (applied t change)) ≤ slot_bytes f → next.slot ≡ 1 - at.slot
+    → IsPointerOf (applied t change) next buffer → IsFront f sectors next.size buffer written → IsNext f Listed p at next (applied t change) written
+next_from f p at next t change bytes buffer written sectors few spells allowed fits slot head front = record {
   slot = slot;
   size = short;
   total_fits = head.total_fits;
-  long = front_long next.size sectors buffer written short f;
+  long = front_long f next.size sectors buffer written short front;
   total = ap sum same ∙ sym head.total;
   spelled = let P : List ℕ → Type 0 = λ b. Spells p.count b (applied t change) in subst P (sym same) spelled;
 }
   where
-    short : next.size ≤ 524288
+    short : next.size ≤ slot_bytes f
     short = omega (arith, head.size, fits)
 
     within : next.size ≤ 512 * sectors
-    within = omega (arith, sectors_hold next.size, (front_reach next.size sectors short f.count).0)
+    within = omega (arith, sectors_hold next.size, (front_reach f next.size sectors short front.count).0)
 
     same : take next.size written ≡ text (applied t change)
-    same = ap (take next.size) f.front ∙ take-take next.size (512 * sectors) buffer within ∙ head.begins
+    same = ap (take next.size) front.front ∙ take-take next.size (512 * sectors) buffer within ∙ head.begins
 
     spelled : Spells p.count (text (applied t change)) (applied t change)
-    spelled = record { spelled = refl; table = IsTable-applied p.count t change spells.table allowed; fits = HasText-short (applied t change) (omega (arith, fits)) }
+    spelled = record { spelled = refl; table = IsTable-applied p.count t change spells.table allowed; fits = HasText-short (applied t change) (omega (arith, fits, few)) }
+
+-- of the group that stands
+pub next_of : (size : ℕ) (h : Held) (f : Frame) (p : Plate) (at next : Pointer) (t u : VolumeTable) (bytes written : List ℕ) → f ≡ frame_of current_version p.layout
+    → IsGroup size h p at t bytes → IsNext f Listed p at next u written → IsNextOf size h f p at t bytes next u written
+next_of size h f p at next t u bytes written is group next_is = record {
+  group = group;
+  frame = frame;
+  is_next = subst (λ (g : Grammar). IsNext (frame_in h.floor) g p at next u written) (sym (grammar_listed size h.floor p group.rests.labelled))
+      (subst (λ (k : Frame). IsNext k Listed p at next u written) frame next_is);
+}
+  where
+    frame : f ≡ frame_in h.floor
+    frame = is ∙ sym (frame_found size h.floor p group.rests.labelled)
 
 -- after a flip that failed a group with the label stands wherever a stop leaves an image
 pub either_stands : (size : ℕ) (image : ℕ → List ℕ) (p : Plate) (at next : Pointer) (t u : VolumeTable)
@@ -104,13 +135,13 @@ spelled_again count bytes u v same s =
     let Q : List ℕ → Type 0 = λ b. Spells count b u in
     subst P (sym same) (subst Q s.spelled s)
 
-pub group_flipped : (size now : ℕ) (h : Held) (p : Plate) (next : Pointer) (u v : VolumeTable) (bytes : List ℕ) → now ≡ size → v ≡ u
+pub group_flipped : (size now : ℕ) (h : Held) (p : Plate) (next : Pointer) (u v : VolumeTable) (bytes : List ℕ) → now ≡ size → v ≡ u → bytes ≡ text u
     → IsGroup size h p next u bytes → IsGroup now h p next v (text v)
-group_flipped size now h p next u v bytes same table g =
+group_flipped size now h p next u v bytes same table spelled g =
     let P : ℕ → Type 0 = λ n. IsGroup n h p next v (text v) in
     let Q : VolumeTable → Type 0 = λ w. IsGroup size h p next w (text w) in
     let R : List ℕ → Type 0 = λ b. IsGroup size h p next u b in
-    subst P (sym same) (subst Q (sym table) (subst R g.spelled.spelled g))
+    subst P (sym same) (subst Q (sym table) (subst R spelled g))
 
 pub room_after : (change : Change) (old new : RoomyTable) → new.spare ≡ spare_after old.spare change
     → ((n : _) → places_after (places old) change n ≤ places new n) → RoomAfter change old new

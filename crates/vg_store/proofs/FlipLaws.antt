@@ -1,42 +1,93 @@
 -- Where the two writes of a flip go.
-use Rattle.std.proofs.Common.{◌≡◌, ℕ, ◌+◌, ◌*◌, ◌%◌, ◌<◌, ◌≤◌, arith}
+use Rattle.std.proofs.Common.{◌≡◌, ◌≢◌, ℕ, zero, suc, ◌+◌, ◌*◌, ◌%◌, ◌<◌, ◌≤◌, ◌⊎◌, inl, inr, List, sym, ap, subst, ◌∙◌, ◌-◌, arith}
 use Rattle.sm_base.specs.Numbers.{div_up}
-use Rattle.sm_disk.specs.Held.{IsWhole}
-use Rattle.vg_store.specs.Groups.{slots_end}
-use Rattle.vg_layout.specs.Places.{area_place, slot_place}
+use Rattle.sm_disk.specs.Held.{Held, IsIn, IsWhole, Puts, Reaches}
+use Rattle.sm_disk.proofs.HeldLaws.{in_one}
+use Rattle.vg_layout.specs.Places.{Frame, IsApart, area_place, frame_of, old_frame, slot_bytes, slot_place}
 use Rattle.vg_layout.specs.declared.places.Slot.{Slot}
 use Rattle.vg_layout.specs.declared.places.Slot.TheVariants.{Zero, One}
 use Rattle.vg_layout.specs.Fields.{slot_number}
-use Rattle.vg_store.proofs.ImageLaws.{sectors_most, sectors_hold}
+use Rattle.vg_volumes.specs.Commits.{current_version}
+use Rattle.vg_layout.specs.Opening.{frame_in}
+use Rattle.vg_layout.specs.Sectors.{Plate, Pointer}
+use Rattle.vg_meta.specs.Tables.{VolumeTable}
+use Rattle.vg_store.specs.Groups.{IsFrameOf, IsNextOf, slots_end}
+use Rattle.vg_store.proofs.CommitLaws.{IsStaged, IsStep}
+use Rattle.vg_store.proofs.ImageLaws.{frame_apart, plate_area, sectors_most, sectors_hold, slot_front}
 
-slot_most : (s : Slot) → slot_place (slot_number s) ≤ 1026
-slot_most Zero = omega arith
-slot_most One = omega arith
+-- the frame by which commits are made
+pub current_frame : (layout : ℕ) → IsFrameOf (frame_of current_version layout) layout
+unfolding frame_of
+current_frame layout = record { apart = frame_apart current_version layout; header = λ q past below is. omega (arith, past, is); slots = λ s q low past below. by s q low past }
+  where
+    by : (s q : ℕ) → s ≤ 1 → slots_end ≤ q → (q < slot_place old_frame s) ⊎ (slot_place old_frame s + 1024 ≤ q)
+    by zero q low past = inr (omega (arith, past))
+    by (suc zero) q low past = inr (omega (arith, past))
+    by (suc (suc s)) q low past = absurd (omega (arith, low))
 
-pub in_front : (s : Slot) (place len size : ℕ) → place ≡ slot_place (slot_number s) → len ≡ 512 * div_up size 512 → size ≤ 524288
-    → 512 * place + len ≤ 512 * area_place
-in_front s place len size is long most =
-    let few = sectors_most size most in
-    let last = slot_most s in
-    omega (arith, is, long, few, last)
+pub current_of : (layout : ℕ) (f : Frame) → f ≡ frame_of current_version layout → IsFrameOf f layout
+current_of layout f is = subst (λ (k : Frame). IsFrameOf k layout) (sym is) (current_frame layout)
 
--- the sectors of a text end within its slot
-pub in_slots : (s : Slot) (place len size : ℕ) → place ≡ slot_place (slot_number s) → len ≡ 512 * div_up size 512 → size ≤ 524288
-    → 512 * place + len ≤ 512 * slots_end
-in_slots s place len size is long most =
-    let few = sectors_most size most in
-    let last = slot_most s in
-    omega (arith, is, long, few, last)
+slot_low : (s : Slot) → slot_number s ≤ 1
+slot_low Zero = omega arith
+slot_low One = omega arith
+
+-- what is written into a slot of a frame ends in front of each place that the slot does
+pub in_front : (f : Frame) (from : ℕ) (s : Slot) (place len size : ℕ) → IsApart f from → place ≡ slot_place f (slot_number s) → len ≡ 512 * div_up size 512 → size ≤ slot_bytes f
+    → 512 * place + len ≤ 512 * from
+in_front f from s place len size apart is long most =
+    let few = sectors_most f size most in
+    let front = slot_front (slot_number s) (slot_low s) apart in
+    omega (arith, is, long, few, front)
+
+-- and lies beside no group
+pub slot_clear : (f : Frame) (layout : ℕ) (s : Slot) (place len size : ℕ) → IsFrameOf f layout → place ≡ slot_place f (slot_number s) → len ≡ 512 * div_up size 512 → size ≤ slot_bytes f
+    → (q : ℕ) → slots_end ≤ q → q < area_place layout → IsIn place len q → ⊥
+slot_clear f layout s place len size own is long most q past below here = by (own.slots (slot_number s) q (slot_low s) past below)
+  where
+    by : (q < slot_place f (slot_number s)) ⊎ (slot_place f (slot_number s) + f.room ≤ q) → ⊥
+    by (inl before) = omega (arith, is, before, here.0)
+    by (inr behind) = omega (arith, is, behind, here.1, long, sectors_most f size most)
+
+-- nor does what is written at the header
+pub header_clear : (f : Frame) (layout len : ℕ) → IsFrameOf f layout → len ≡ 512 → (q : ℕ) → slots_end ≤ q → q < area_place layout → IsIn f.header len q → ⊥
+header_clear f layout len own long q past below here = own.header q past below (in_one f.header len q long here)
+
+pub header_front : (f : Frame) (from len : ℕ) → IsApart f from → len ≡ 512 → 512 * f.header + len ≤ 512 * from
+header_front f from len apart long = omega (arith, apart.front.0, long)
 
 whole : (len n : ℕ) → len ≡ 512 * n → len % 512 ≡ 0
 whole len n e = omega (arith, e)
 
-pub whole_from : (s : Slot) (place len size wide : ℕ) → place ≡ slot_place (slot_number s) → len ≡ 512 * div_up size 512 → size ≤ 524288
-    → 0 < size → area_place ≤ wide → IsWhole place len wide
-whole_from s place len size wide is long most some room =
-    let front = in_front s place len size is long most in
+pub whole_from : (f : Frame) (s : Slot) (place len size wide : ℕ) → IsApart f wide → place ≡ slot_place f (slot_number s) → len ≡ 512 * div_up size 512 → size ≤ slot_bytes f
+    → 0 < size → IsWhole place len wide
+whole_from f s place len size wide apart is long most some =
+    let front = in_front f wide s place len size apart is long most in
     let holds = sectors_hold size in
-    record { some = omega (arith, long, holds); whole = whole len (div_up size 512) long; within = omega (arith, front) }
+    record { some = omega (arith, long, holds, some); whole = whole len (div_up size 512) long; within = omega (arith, front) }
 
-pub len_most : (len size : ℕ) → len ≡ 512 * div_up size 512 → size ≤ 524288 → len ≤ 524288
-len_most len size long most = let few = sectors_most size most in omega (arith, long, few)
+pub len_most : (f : Frame) (len size : ℕ) → len ≡ 512 * div_up size 512 → size ≤ slot_bytes f → len ≤ slot_bytes f
+len_most f len size long most = let few = sectors_most f size most in omega (arith, long, few)
+
+-- ---- the next table of a group
+
+module _ {size : ℕ} {a : Held} {f : Frame} {p : Plate} {at : Pointer} {t : VolumeTable} {bytes : List ℕ} {next : Pointer} {u : VolumeTable} {written : List ℕ} (n : IsNextOf size a f p at t bytes next u written) where
+  -- the device reaches to the extents
+  pub reaches_area : area_place p.layout ≤ size
+  reaches_area = omega (arith, plate_area size a.floor p n.group.rests.labelled)
+
+  -- a place of the other slot
+  pub other_place : (place : ℕ) → place ≡ slot_place f next.slot → place ≡ slot_place (frame_in a.floor) (1 - at.slot)
+  other_place place is = is ∙ ap (λ (k : Frame). slot_place k next.slot) n.frame ∙ ap (slot_place (frame_in a.floor)) n.is_next.slot
+
+  pub in_slot : (len : ℕ) → len ≤ slot_bytes f → len ≤ slot_bytes (frame_in a.floor)
+  in_slot len = subst (λ (k : Frame). len ≤ slot_bytes k) n.frame
+
+  pub step_of : {b : Held} (place : ℕ) → place ≡ slot_place f next.slot → IsStaged a b place written → IsStep size a b p at next t u bytes written place
+  step_of place is staged = record { group = n.group; staged = staged; is_next = n.is_next; is_place = is ∙ ap (λ (k : Frame). slot_place k next.slot) n.frame }
+
+  pub header_puts : {b c : Held} (head : List ℕ) → Reaches (Puts f.header head) b c → Reaches (Puts (frame_in a.floor).header head) b c
+  header_puts {b} {c} head = subst (λ (k : Frame). Reaches (Puts k.header head) b c) n.frame
+
+  pub header_staged : {b c : Held} {head : List ℕ} → IsStaged b c f.header head → IsStaged b c (frame_in a.floor).header head
+  header_staged {b} {c} {head} = subst (λ (k : Frame). IsStaged b c k.header head) n.frame

@@ -9,14 +9,15 @@ use Rattle.sm_disk.proofs.HeldLaws.{gave_one, in_one, reads-elsewhere, reads-set
 use Rattle.sm_disk.proofs.ReachesLaws.{Reaches-torn, Reaches-wider, may_reached}
 use Rattle.sm_disk.proofs.SectorLaws.{sector-one}
 use Rattle.sm_disk.specs.Sectors.{sector, zeros}
-use Rattle.vg_layout.specs.Places.{area_place, header_place, label_place, slot_place}
+use Rattle.vg_layout.specs.Places.{area_place, frame_of, label_place, new_layout, slot_place}
 use Rattle.vg_layout.specs.declared.places.Slot.{Slot}
 use Rattle.vg_layout.specs.declared.places.Slot.TheVariants.{Zero, One}
 use Rattle.vg_layout.specs.Fields.{slot_number}
 use Rattle.vg_layout.specs.Sectors.{Plate, Pointer, header_sector, label_sector}
 use Rattle.vg_layout.specs.Opening.{plate_of}
+use Rattle.vg_volumes.specs.Commits.{current_version}
 use Rattle.vg_store.specs.Groups.{slots_end}
-use Rattle.vg_store.specs.Formats.{IsBehindLabel, IsBlank, IsFormatPlace, IsFormatWrite, StandsBehindLabel, IsLaidOut, IsLeftOf}
+use Rattle.vg_store.specs.Formats.{IsBehindLabel, IsBlank, IsFormatPlace, IsFormatWrite, StandsBehindLabel, IsLaidOut, IsLeftOf, new_frame}
 
 -- ---- zeros
 
@@ -52,7 +53,16 @@ no_label size m is = rw is (by (ltb size 2))
 
 -- ---- the sectors behind the label
 
-pub slot_range : (s : Slot) → (2 ≤ slot_place (slot_number s)) × (slot_place (slot_number s) ≤ 1026)
+pub area_new : area_place new_layout ≡ 4096
+unfolding area_place
+area_new = refl
+
+pub header_new : new_frame.header ≡ 1
+unfolding frame_of
+header_new = refl
+
+pub slot_range : (s : Slot) → (2 ≤ slot_place new_frame (slot_number s)) × (slot_place new_frame (slot_number s) ≤ 1026)
+unfolding frame_of
 slot_range Zero = (omega arith, omega arith)
 slot_range One = (omega arith, omega arith)
 
@@ -60,11 +70,13 @@ slot_range One = (omega arith, omega arith)
 one_place : (at : ℕ) (bytes : List ℕ) → at < slots_end → length bytes ≡ 512 → (q : ℕ) → IsIn at (length bytes) q → IsFormatPlace q
 one_place at bytes front long q here = inl (omega (arith, front, in_one at (length bytes) q long here))
 
-record_places : (bytes : List ℕ) → length bytes ≡ 262144 → (q : ℕ) → IsIn area_place (length bytes) q → IsFormatPlace q
+record_places : (bytes : List ℕ) → length bytes ≡ 262144 → (q : ℕ) → IsIn (area_place new_layout) (length bytes) q → IsFormatPlace q
 record_places bytes long q here = inr (here.0, omega (arith, long, here.1))
 
-pub torn_records : (bytes : List ℕ) (a b : Held) → length bytes ≡ 262144 → Torn area_place bytes a b → Reaches IsBehindLabel a b
-torn_records bytes a b long t = Reaches-wider (λ q v p. (omega (arith, p.0.0), record_places bytes long q p.0)) (Reaches-torn t)
+pub torn_records : (from : ℕ) (bytes : List ℕ) (a b : Held) → from ≡ area_place new_layout → length bytes ≡ 262144 → Torn from bytes a b → Reaches IsBehindLabel a b
+torn_records from bytes a b is long torn =
+    let t : Torn (area_place new_layout) bytes a b = subst (λ (x : ℕ). Torn x bytes a b) is torn in
+    Reaches-wider (λ q v p. (omega (arith, p.0.0, area_new), record_places bytes long q p.0)) (Reaches-torn t)
 
 pub torn_behind : (at : ℕ) (bytes : List ℕ) (a b : Held) → 0 < at → at < slots_end → length bytes ≡ 512 → Torn at bytes a b → Reaches IsBehindLabel a b
 torn_behind at bytes a b behind front long t = Reaches-wider (λ q v p. (omega (arith, p.0.0), one_place at bytes front long q p.0)) (Reaches-torn t)
@@ -79,26 +91,32 @@ put_label bytes a b long r = Reaches-wider (λ q v p. one_place label_place byte
 pub fills : (a b : Held) → Reaches IsBehindLabel a b → Reaches IsFormatWrite a b
 fills a b r = Reaches-wider (λ q v p. p.1) r
 
-pub filled_after : (a b c d : Held) (h : Pointer) (blank written head : List ℕ) (place : ℕ) → place ≡ slot_place h.slot → 2 ≤ place → place ≤ 1026
+pub filled_after : (a b c d : Held) (h : Pointer) (blank written head : List ℕ) (from place top : ℕ) → from ≡ area_place new_layout → place ≡ slot_place new_frame h.slot → 2 ≤ place → place ≤ 1026 → top ≡ new_frame.header
     → length blank ≡ 262144 → IsBlank blank → length written ≡ 512 → head ≡ header_sector h → length head ≡ 512
-    → Wrote area_place blank a b → Wrote place written b c → Gave header_place d head → ReadsElsewhere header_place (length head) c d
+    → Wrote from blank a b → Wrote place written b c → Gave top d head → ReadsElsewhere top (length head) c d
     → StandsBehindLabel h written (reads d)
-filled_after a b c d h blank written head place is from to long each short head_is head_long first second gave elsewhere = record {
-  header = sym (gave_one header_place d head head_long gave) ∙ head_is;
-  text = ap (reads d) (sym is) ∙ elsewhere place (λ i. omega (arith, in_one header_place (length head) place head_long i)) ∙ text;
-  records = λ q below. elsewhere (area_place + q) (λ i. omega (arith, in_one header_place (length head) (area_place + q) head_long i)) ∙ record_at q below;
+filled_after a b c d h blank written head from place top at_extents is least to top_is long each short head_is head_long first second gave elsewhere = record {
+  header = ap (reads d) (sym top_is) ∙ sym (gave_one top d head head_long gave) ∙ head_is;
+  text = ap (reads d) (sym is) ∙ elsewhere place (λ i. omega (arith, in_one top (length head) place head_long i, one, least)) ∙ text;
+  records = λ q below. elsewhere (area_place new_layout + q) (λ i. omega (arith, in_one top (length head) (area_place new_layout + q) head_long i, one, area_new)) ∙ record_at q below;
 }
   where
+    one : top ≡ 1
+    one = top_is ∙ header_new
+
+    records_written : Wrote (area_place new_layout) blank a b
+    records_written = subst (λ (x : ℕ). Wrote x blank a b) at_extents first
+
     text : reads c place ≡ written
     text =
         let none : place - place ≡ 0 = omega arith in
         reads-wrote second place (omega arith, omega (arith, short)) ∙ ap (λ i. sector written i) none ∙ sector-one written short
 
-    record_at : (q : ℕ) → q < 512 → reads c (area_place + q) ≡ zeros
+    record_at : (q : ℕ) → q < 512 → reads c (area_place new_layout + q) ≡ zeros
     record_at q below =
-        let back : (area_place + q) - area_place ≡ q = omega arith in
-        reads-elsewhere (torn_from_wrote second) (area_place + q) (λ i. omega (arith, in_one place (length written) (area_place + q) short i, to))
-        ∙ reads-wrote first (area_place + q) (omega arith, omega (arith, long, below)) ∙ ap (λ i. sector blank i) back ∙ each q (omega (arith, long, below))
+        let back : (area_place new_layout + q) - area_place new_layout ≡ q = omega arith in
+        reads-elsewhere (torn_from_wrote second) (area_place new_layout + q) (λ i. omega (arith, in_one place (length written) (area_place new_layout + q) short i, to, area_new))
+        ∙ reads-wrote records_written (area_place new_layout + q) (omega arith, omega (arith, long, below)) ∙ ap (λ i. sector blank i) back ∙ each q (omega (arith, long, below))
 
 -- ---- what a stop leaves
 
@@ -143,18 +161,18 @@ still_none b c none r = by (r.gives label_place)
     by (inr behind) = absurd (omega (arith, behind.0))
 
 -- what shows all but the label as read shows what was filled
-filled_shown : (c : Held) (h : Pointer) (written : List ℕ) (m : ℕ → List ℕ) (size : ℕ) → area_place + 512 ≤ size → slot_place h.slot ≤ 1026 → 2 ≤ slot_place h.slot
+filled_shown : (c : Held) (h : Pointer) (written : List ℕ) (m : ℕ → List ℕ) (size : ℕ) → area_place new_layout + 512 ≤ size → slot_place new_frame h.slot ≤ 1026 → 2 ≤ slot_place new_frame h.slot
     → ((q : ℕ) → 0 < q → q < size → m q ≡ reads c q) → StandsBehindLabel h written (reads c) → StandsBehindLabel h written m
 filled_shown c h written m size room low high same f = record {
-  header = same header_place (omega arith) (omega arith) ∙ f.header;
-  text = same (slot_place h.slot) (omega arith) (omega arith) ∙ f.text;
-  records = λ q below. same (area_place + q) (omega arith) (omega arith) ∙ f.records q below;
+  header = same new_frame.header (omega (arith, header_new)) (omega (arith, header_new, room)) ∙ f.header;
+  text = same (slot_place new_frame h.slot) (omega (arith, high)) (omega (arith, low, room, area_new)) ∙ f.text;
+  records = λ q below. same (area_place new_layout + q) (omega (arith, area_new)) (omega (arith, room, below)) ∙ f.records q below;
 }
 
 -- while the new label is being written
-pub label_crash : (size : ℕ) (a c d : Held) (p : Plate) (h : Pointer) (written head : List ℕ) (image : ℕ → List ℕ) → area_place + 512 ≤ size
-    → slot_place h.slot ≤ 1026 → 2 ≤ slot_place h.slot → IsSettled c → reads c label_place ≡ zeros → StandsBehindLabel h written (reads c)
-    → head ≡ label_sector p → length head ≡ 512 → Reaches (Puts label_place head) c d → Allows size d image → IsLeftOf size a p h written image
+pub label_crash : (size : ℕ) (a c d : Held) (p : Plate) (h : Pointer) (written head : List ℕ) (image : ℕ → List ℕ) → area_place new_layout + 512 ≤ size
+    → slot_place new_frame h.slot ≤ 1026 → 2 ≤ slot_place new_frame h.slot → IsSettled c → reads c label_place ≡ zeros → StandsBehindLabel h written (reads c)
+    → head ≡ label_sector current_version p → length head ≡ 512 → Reaches (Puts label_place head) c d → Allows size d image → IsLeftOf size a p h written image
 label_crash size a c d p h written head image room low high settled none f is long r allowed =
     by (may_reached settled r label_place (image label_place) (allowed label_place (omega arith)))
   where
@@ -172,8 +190,8 @@ label_crash size a c d p h written head image room low high settled none f is lo
 
 -- ---- the end
 
-pub laid_after : (size : ℕ) (c d : Held) (p : Plate) (h : Pointer) (written head : List ℕ) → area_place + 512 ≤ size
-    → slot_place h.slot ≤ 1026 → 2 ≤ slot_place h.slot → StandsBehindLabel h written (reads c) → head ≡ label_sector p → length head ≡ 512
+pub laid_after : (size : ℕ) (c d : Held) (p : Plate) (h : Pointer) (written head : List ℕ) → area_place new_layout + 512 ≤ size
+    → slot_place new_frame h.slot ≤ 1026 → 2 ≤ slot_place new_frame h.slot → StandsBehindLabel h written (reads c) → head ≡ label_sector current_version p → length head ≡ 512
     → IsSettled d → Gave label_place d head → ReadsElsewhere label_place (length head) c d → IsLaidOut p h written d.floor
 laid_after size c d p h written head room low high f is long settled gave elsewhere = record {
   label = floor_reads label_place ∙ sym (gave_one label_place d head long gave) ∙ is;

@@ -10,7 +10,7 @@ use Rattle.vg_layout.specs.Sectors.{Plate, Pointer}
 use Rattle.vg_layout.specs.Opening.{StandsOn, IsRefused, plate_of, pointer_of, text_in}
 use Rattle.vg_store.specs.Groups.{Rests, IsGroup, GroupStands, area_of}
 use Rattle.vg_store.specs.Openings.{IsAnswer}
-use Rattle.vg_store.proofs.ImageLaws.{stands_from, plate_few}
+use Rattle.vg_store.proofs.ImageLaws.{spells_listed, stands_from, plate_few}
 use Rattle.vg_store.proofs.CommitLaws.{stands_now}
 use Rattle.vg_store.proofs.OpeningLaws.{answer_from}
 
@@ -54,12 +54,12 @@ opened_group size now b c p at t bytes is s same f =
     subst G (sym is) (record {
       rests = opened_rests size b c p at t bytes s same f;
       summed = f.summed;
-      spelled = f.spelled;
+      spelled = spells_listed size c.floor p bytes t (opened_rests size b c p at t bytes s same f).labelled f.spelled;
       few = plate_few size (reads b) p f.labelled;
     })
 
 -- on each image that may be left, a group that stands does
-pub group_stands : (size area : ℕ) (c : Held) (p : Plate) (at : Pointer) (t : VolumeTable) (bytes : List ℕ) (image : ℕ → List ℕ) → area_place + area ≤ size
+pub group_stands : (size area : ℕ) (c : Held) (p : Plate) (at : Pointer) (t : VolumeTable) (bytes : List ℕ) (image : ℕ → List ℕ) → area_place p.layout + area ≤ size
     → IsGroup size c p at t bytes → Allows size c image → GroupStands size image p
 group_stands size area c p at t bytes image fits g allowed = record {
   pointer = at;
@@ -72,13 +72,13 @@ pub opened_before : (size : ℕ) (a b : Held) (p : Plate) (at : Pointer) (t : Vo
     → StandsOn size (reads a) (record { plate = p; pointer = at; table = t })
 opened_before size a b p at t bytes k f =
     let P : (ℕ → List ℕ) → Type 0 = λ m. StandsOn size m (record { plate = p; pointer = at; table = t }) in
-    subst P (same_image (reads b) (reads a) k.reads) (stands_from size (reads b) p at t bytes f.labelled f.headed f.text f.summed f.spelled)
+    subst P (same_image (reads b) (reads a) k.reads) (stands_from size (reads b) p at t bytes f.labelled f.headed f.text f.summed (spells_listed size (reads b) p bytes t f.labelled f.spelled))
 
 pub opened_keeps : {a b c : Held} → Keeps a b → SameHeld b c → Keeps a c
 opened_keeps k same = Keeps-then k (Keeps-same same)
 
-pub opened_area : {a b c : Held} → Keeps a b → SameHeld b c → Keeps (area_of a) (area_of c)
-opened_area k same = let all = opened_keeps k same in record { reads = λ q. all.reads (area_place + q); may = λ q v m. all.may (area_place + q) v m }
+pub opened_area : {a b c : Held} (layout : ℕ) → Keeps a b → SameHeld b c → Keeps (area_of layout a) (area_of layout c)
+opened_area layout k same = let all = opened_keeps k same in record { reads = λ q. all.reads (area_place layout + q); may = λ q v m. all.may (area_place layout + q) v m }
 
 pub opened_settled : {b c : Held} → IsSettled b → SameHeld b c → IsSettled c
 opened_settled s same = still_settled s same

@@ -1,5 +1,5 @@
 -- What an opening answers of one sector that it read.
-use Rattle.std.proofs.Common.{◌≡◌, ℕ, ◌+◌, ◌-◌, ◌*◌, ◌<◌, ◌≤◌, Bool, true, false, cond, not, eqb, ltb, List, ◌++◌, length, take, sum, Ok, Err, refl, sym, ap, subst, ◌∙◌, arith}
+use Rattle.std.proofs.Common.{◌≡◌, ℕ, ◌+◌, ◌-◌, ◌*◌, ◌<◌, ◌≤◌, Bool, true, false, cond, not, eqb, ltb, List, ◌++◌, length, take, sum, Result, Ok, Err, refl, sym, ap, subst, ◌∙◌, arith}
 use Rattle.std.proofs.lemmas.List.{take-append-le}
 use Rattle.std.proofs.lemmas.Bool.{lt-ltb}
 use Rattle.std.specs.Str.{bytes_eq}
@@ -10,12 +10,15 @@ use Rattle.sm_base.specs.Numbers.{div_up}
 use Rattle.sm_disk.specs.Held.{Held, Gave, SameHeld, reads}
 use Rattle.sm_disk.proofs.HeldLaws.{SameHeld-then, reads-same}
 use Rattle.sm_disk.specs.Sectors.{sector}
-use Rattle.vg_meta.specs.Reading.{IsDamagedAt, no_sequence, no_number, no_volume, bytes_follow, told}
-use Rattle.vg_layout.specs.Places.{label_place, header_place, slot_place, slot_text}
+use Rattle.vg_meta.specs.declared.grammars.Grammar.{Grammar}
+use Rattle.vg_meta.specs.declared.grammars.Grammar.TheVariants.{Listed}
+use Rattle.vg_meta.specs.Reading.{IsDamagedBy, no_sequence, no_number, no_volume, bytes_follow, told}
+use Rattle.vg_layout.specs.Places.{Frame, frame_of, old_frame, label_place, slot_place, slot_text}
 use Rattle.vg_layout.specs.Sectors.{Plate, Pointer, number_at, label_cookie, plate_in, pointer_in}
-use Rattle.vg_layout.specs.Opening.{IsRefused, by_header, by_sum, by_text, plate_of, pointer_of, is_label_right, is_header_right, text_in}
+use Rattle.vg_layout.specs.Opening.{IsRefused, by_header, by_sum, by_text, frame_in, grammar_of, version_of, plate_of, pointer_by, pointer_of, is_label_right, is_header_right, text_in}
+use Rattle.vg_volumes.specs.Commits.{current_version}
 use Rattle.vg_store.specs.Openings.{IsAnswer, IsTextRefused, by_sum as sum_wrong, by_text as text_wrong}
-use Rattle.vg_store.proofs.ImageLaws.{plate_same, pointer_same, text_same, text_written, sectors_hold}
+use Rattle.vg_store.proofs.ImageLaws.{grammar_listed, plate_frame, plate_same, plate_version, pointer_seen, slot_same, slot_written, sectors_hold}
 
 pub too_small : (size : ℕ) (m : ℕ → List ℕ) → size < 2 → plate_of size m ≡ Err NotARepository
 unfolding plate_of
@@ -42,54 +45,67 @@ label_answer T before now size s m (Damaged place) is calm h = (λ told. plate_s
 label_answer T before now size s m Device is calm h = absurd (no_device size (λ q. s) h)
 label_answer T before now size s m NoMemory is calm h = calm
 
-no_header_device : (m : ℕ → List ℕ) → pointer_of m ≡ Err Device → ⊥
-unfolding pointer_of
-no_header_device m e = go (is_header_right (m header_place)) e
+no_header_device : (f : Frame) (s : List ℕ) → pointer_by f s ≡ Err Device → ⊥
+unfolding pointer_by
+no_header_device f s e = go (is_header_right f s) e
   where
-    go : (a : Bool) → cond a (Ok (pointer_in (m header_place))) (Err (Damaged Header)) ≡ Err Device → ⊥
+    go : (a : Bool) → cond a (Ok (pointer_in s)) (Err (Damaged Header)) ≡ Err Device → ⊥
     go true x = cc
     go false x = cc
 
-pub header_answer : (T : Type 0) (before now : ℕ) (s : List ℕ) (m : ℕ → List ℕ) (e : OpenFault) → (T → s ≡ m header_place)
-    → now ≡ before → pointer_of (λ q. s) ≡ Err e → IsAnswer (λ x. T → pointer_of m ≡ Err x) before now e
-header_answer T before now s m NotARepository is calm h = (λ told. pointer_same (λ q. s) m (sym (is told)) ∙ h, calm)
-header_answer T before now s m (Unsupported version) is calm h = (λ told. pointer_same (λ q. s) m (sym (is told)) ∙ h, calm)
-header_answer T before now s m (Damaged place) is calm h = (λ told. pointer_same (λ q. s) m (sym (is told)) ∙ h, calm)
-header_answer T before now s m Device is calm h = absurd (no_header_device (λ q. s) h)
-header_answer T before now s m NoMemory is calm h = calm
+pub header_answer : (T : Type 0) (before now : ℕ) (f : Frame) (s v : List ℕ) (e : OpenFault) → (T → s ≡ v)
+    → now ≡ before → pointer_by f s ≡ Err e → IsAnswer (λ x. T → pointer_by f v ≡ Err x) before now e
+header_answer T before now f s v NotARepository is calm h = (λ told. ap (pointer_by f) (sym (is told)) ∙ h, calm)
+header_answer T before now f s v (Unsupported version) is calm h = (λ told. ap (pointer_by f) (sym (is told)) ∙ h, calm)
+header_answer T before now f s v (Damaged place) is calm h = (λ told. ap (pointer_by f) (sym (is told)) ∙ h, calm)
+header_answer T before now f s v Device is calm h = absurd (no_header_device f s h)
+header_answer T before now f s v NoMemory is calm h = calm
+
+pub frame_old : (layout : ℕ) → old_frame ≡ frame_of current_version layout
+unfolding frame_of
+frame_old layout = refl
+
+-- the current version has one frame for each layout
+pub frame_any : (layout other : ℕ) → frame_of current_version layout ≡ frame_of current_version other
+unfolding frame_of
+frame_any layout other = refl
+
+-- the frame by which a group is read that an opening takes
+pub frame_found : (size : ℕ) (m : ℕ → List ℕ) (p : Plate) → plate_of size m ≡ Ok p → frame_in m ≡ frame_of current_version p.layout
+frame_found size m p e = plate_frame size m p e ∙ ap (λ (v : ℕ). frame_of v p.layout) (plate_version size m p e)
 
 -- ---- the text
 
-pub none_text : (m : ℕ → List ℕ) (h : Pointer) (bytes : List ℕ) → h.size ≡ 0 → take h.size bytes ≡ text_in m h
+pub none_text : (f : Frame) (m : ℕ → List ℕ) (slot size : ℕ) (bytes : List ℕ) → size ≡ 0 → take size bytes ≡ slot_text f m slot size
 unfolding slot_text
-none_text m h bytes e = rw e refl
+none_text f m slot size bytes e = rw e refl
 
-pub text_read : (h : Pointer) (held : Held) (front back : List ℕ) (at : ℕ) → at ≡ slot_place h.slot → length front ≡ 512 * div_up h.size 512
-    → Gave at held front → take h.size (front ++ back) ≡ text_in (reads held) h
-text_read h held front back at is long gave =
-    let holds = sectors_hold h.size in
-    let short : h.size ≤ length front = omega (arith, long, holds) in
-    take-append-le h.size front back short ∙ sym (text_written (reads held) h front (omega (arith, long)) same)
+pub text_read : (f : Frame) (slot size : ℕ) (held : Held) (front back : List ℕ) (at : ℕ) → at ≡ slot_place f slot → length front ≡ 512 * div_up size 512
+    → Gave at held front → take size (front ++ back) ≡ slot_text f (reads held) slot size
+text_read f slot size held front back at is long gave =
+    let holds = sectors_hold size in
+    let short : size ≤ length front = omega (arith, long, holds) in
+    take-append-le size front back short ∙ sym (slot_written f (reads held) slot size front (omega (arith, long)) same)
   where
-    same : (i : ℕ) → i < div_up h.size 512 → reads held (slot_place h.slot + i) ≡ sector front i
+    same : (i : ℕ) → i < div_up size 512 → reads held (slot_place f slot + i) ≡ sector front i
     same i below =
-        let there : slot_place h.slot + i ≡ at + i = ap (λ x. x + i) (sym is) in
+        let there : slot_place f slot + i ≡ at + i = ap (λ x. x + i) (sym is) in
         let back_to : (at + i) - at ≡ i = omega arith in
         ap (reads held) there ∙ sym (gave (at + i) (omega arith, omega (arith, long, below))) ∙ ap (λ k. sector front k) back_to
 
-damaged_most : (count : ℕ) (bytes : List ℕ) (place : ℕ) → IsDamagedAt count bytes place → place ≤ 8 + length bytes
-damaged_most count bytes _ (no_sequence none) = omega arith
-damaged_most count bytes _ (no_number sequence rest fits spelled short) = omega arith
-damaged_most count bytes _ (no_volume sequence number front rest begins fewer none) = omega arith
-damaged_most count bytes _ (bytes_follow sequence number front rest begins all more) = omega arith
+damaged_most : (g : Grammar) (count : ℕ) (bytes : List ℕ) (place : ℕ) → IsDamagedBy g count bytes place → place ≤ 8 + length bytes
+damaged_most g count bytes _ (no_sequence none) = omega arith
+damaged_most g count bytes _ (no_number sequence rest fits spelled short) = omega arith
+damaged_most g count bytes _ (no_volume sequence number front rest begins fewer none) = omega arith
+damaged_most g count bytes _ (bytes_follow sequence number front rest begins all more) = omega arith
 
-pub damaged_told : (count total : ℕ) (bytes text : List ℕ) (at : ℕ) → bytes ≡ text → sum text ≡ total → length bytes ≤ 524288
-    → (place : ℕ) × IsDamagedAt count bytes place × (at ≡ told place) → IsTextRefused count total text (Damaged (Table at))
-damaged_told count total bytes text at same right short (place, damaged, is) =
-    let most = damaged_most count bytes place damaged in
+pub damaged_told : (g : Grammar) (count total : ℕ) (bytes text : List ℕ) (at : ℕ) → bytes ≡ text → sum text ≡ total → length bytes ≤ 8519680
+    → (place : ℕ) × IsDamagedBy g count bytes place × (at ≡ told place) → IsTextRefused g count total text (Damaged (Table at))
+damaged_told g count total bytes text at same right short (place, damaged, is) =
+    let most = damaged_most g count bytes place damaged in
     let place_is : place ≡ at = omega (arith, is, most, short) in
-    let P : ℕ → Type 0 = λ x. IsTextRefused count total text (Damaged (Table x)) in
-    let Q : List ℕ → Type 0 = λ b. IsDamagedAt count b place in
+    let P : ℕ → Type 0 = λ x. IsTextRefused g count total text (Damaged (Table x)) in
+    let Q : List ℕ → Type 0 = λ b. IsDamagedBy g count b place in
     subst P place_is (text_wrong place right (subst Q same damaged))
 
 -- ---- the first check that fails
@@ -102,19 +118,31 @@ answer_from P Q before mid now (Damaged place) same wider is = (wider (Damaged p
 answer_from P Q before mid now Device same wider is = omega (arith, same, is)
 answer_from P Q before mid now NoMemory same wider is = is ∙ same
 
-pub refused_header : (size : ℕ) (a b : Held) (p : Plate) (e : OpenFault) → SameHeld a b → plate_of size (reads a) ≡ Ok p
-    → pointer_of (reads b) ≡ Err e → IsRefused size (reads a) e
-refused_header size a b p e same label header = by_header p e label (sym (pointer_same (reads a) (reads b) (reads-same same header_place)) ∙ header)
+-- the device shows the pointer that was read behind the label
+pub pointer_there : (size : ℕ) (a b : Held) (p : Plate) (f : Frame) (r : Result Pointer OpenFault) → SameHeld a b → plate_of size (reads a) ≡ Ok p → f ≡ frame_of current_version p.layout
+    → pointer_by f (reads b f.header) ≡ r → pointer_of (reads a) ≡ r
+pointer_there size a b p f r same label is header =
+    pointer_seen (reads a) f (frame_found size (reads a) p label ∙ sym is) ∙ ap (pointer_by f) (sym (reads-same same f.header)) ∙ header
+
+-- and the text that was read behind the header
+pub text_there : (size : ℕ) (a c : Held) (p : Plate) (f : Frame) (h : Pointer) → SameHeld a c → plate_of size (reads a) ≡ Ok p → f ≡ frame_of current_version p.layout
+    → text_in (reads a) h ≡ slot_text f (reads c) h.slot h.size
+text_there size a c p f h same label is =
+    ap (λ (k : Frame). slot_text k (reads a) h.slot h.size) (frame_found size (reads a) p label ∙ sym is) ∙ sym (slot_same f (reads a) (reads c) h.slot h.size (λ q from below. reads-same same q))
+
+pub refused_header : (size : ℕ) (a b : Held) (p : Plate) (f : Frame) (e : OpenFault) → SameHeld a b → plate_of size (reads a) ≡ Ok p → f ≡ frame_of current_version p.layout
+    → pointer_by f (reads b f.header) ≡ Err e → IsRefused size (reads a) e
+refused_header size a b p f e same label is header = by_header p e label (pointer_there size a b p f (Err e) same label is header)
 
 text_refused : (size : ℕ) (m : ℕ → List ℕ) (p : Plate) (h : Pointer) (e : OpenFault) → plate_of size m ≡ Ok p → pointer_of m ≡ Ok h
-    → IsTextRefused p.count h.total (text_in m h) e → IsRefused size m e
+    → IsTextRefused (grammar_of (version_of m)) p.count h.total (text_in m h) e → IsRefused size m e
 text_refused size m p h _ label header (sum_wrong other) = by_sum p h label header other
 text_refused size m p h _ label header (text_wrong place right damaged) = by_text p h place label header right damaged
 
-pub refused_text : (size : ℕ) (a b c : Held) (p : Plate) (h : Pointer) (e : OpenFault) → SameHeld a b → SameHeld b c → plate_of size (reads a) ≡ Ok p
-    → pointer_of (reads b) ≡ Ok h → IsTextRefused p.count h.total (text_in (reads c) h) e → IsRefused size (reads a) e
-refused_text size a b c p h e same again label header wrong =
-    let all = SameHeld-then same again in
-    let texts : text_in (reads c) h ≡ text_in (reads a) h = text_same (reads a) (reads c) h (λ q from below. reads-same all q) in
-    let P : List ℕ → Type 0 = λ b. IsTextRefused p.count h.total b e in
-    text_refused size (reads a) p h e label (sym (pointer_same (reads a) (reads b) (reads-same same header_place)) ∙ header) (subst P texts wrong)
+pub refused_text : (size : ℕ) (a b c : Held) (p : Plate) (f : Frame) (h : Pointer) (e : OpenFault) → SameHeld a b → SameHeld b c → plate_of size (reads a) ≡ Ok p → f ≡ frame_of current_version p.layout
+    → pointer_by f (reads b f.header) ≡ Ok h → IsTextRefused Listed p.count h.total (slot_text f (reads c) h.slot h.size) e → IsRefused size (reads a) e
+refused_text size a b c p f h e same again label is header wrong =
+    let texts = text_there size a c p f h (SameHeld-then same again) label is in
+    text_refused size (reads a) p h e label (pointer_there size a b p f (Ok h) same label is header)
+    (subst (λ (g : Grammar). IsTextRefused g p.count h.total (text_in (reads a) h) e) (sym (grammar_listed size (reads a) p label))
+    (subst (λ (b : List ℕ). IsTextRefused Listed p.count h.total b e) (sym texts) wrong))

@@ -78,24 +78,24 @@ piece_torn {at} {bytes} {part} {n} {m} {old} {mid} {new} s front torn = record {
           piece_added at n m p bytes part (old.pending p) (mid.pending p) (new.pending p) s past (omega (arith, here.1, piece_long s)) (front.above p past) more,
         )
 
-SameInFront-then : {a b c : Held} → SameInFront a b → SameInFront b c → SameInFront a c
+SameInFront-then : {l : ℕ} {a b c : Held} → SameInFront l a b → SameInFront l b c → SameInFront l a c
 SameInFront-then s t = record { floor = λ p low. t.floor p low ∙ s.floor p low; pending = λ p low. t.pending p low ∙ s.pending p low }
 
 -- the first n sectors of a volume's bytes were written, and nothing else
-pub record HasWritten (x : ℕ) (es : List ℕ) (at : ℕ) (bytes : List ℕ) (n : ℕ) (old new : Held) : Type 0 where
-  pub front : WroteFront at bytes n (volume x es (area_of old)) (volume x es (area_of new))
-  pub elsewhere : SameElsewhere x es (area_of old) (area_of new)
-  pub before : SameInFront old new
+pub record HasWritten (l x : ℕ) (es : List ℕ) (at : ℕ) (bytes : List ℕ) (n : ℕ) (old new : Held) : Type 0 where
+  pub front : WroteFront at bytes n (volume x es (area_of l old)) (volume x es (area_of l new))
+  pub elsewhere : SameElsewhere x es (area_of l old) (area_of l new)
+  pub before : SameInFront l old new
 
-pub HasWritten-none : (x : ℕ) (es : List ℕ) (at : ℕ) (bytes : List ℕ) (h : Held) → HasWritten x es at bytes 0 h h
-HasWritten-none x es at bytes h = record {
-  front = WroteFront-none at bytes (volume x es (area_of h));
+pub HasWritten-none : (l x : ℕ) (es : List ℕ) (at : ℕ) (bytes : List ℕ) (h : Held) → HasWritten l x es at bytes 0 h h
+HasWritten-none l x es at bytes h = record {
+  front = WroteFront-none at bytes (volume x es (area_of l h));
   elsewhere = record { floor = λ p _. refl; pending = λ p _. refl };
   before = record { floor = λ p _. refl; pending = λ p _. refl };
 }
 
-pub HasWritten-more : {size x : ℕ} {es : List ℕ} {at : ℕ} {bytes part : List ℕ} {n place m : ℕ} {old mid new : Held} → IsPart size x es (at + n) place m → IsPiece bytes part n m
-    → HasWritten x es at bytes n old mid → Wrote place part mid new → Torn place part mid new → HasWritten x es at bytes (n + m) old new
+pub HasWritten-more : {l size x : ℕ} {es : List ℕ} {at : ℕ} {bytes part : List ℕ} {n place m : ℕ} {old mid new : Held} → IsPart l size x es (at + n) place m → IsPiece bytes part n m
+    → HasWritten l x es at bytes n old mid → Wrote place part mid new → Torn place part mid new → HasWritten l x es at bytes (n + m) old new
 HasWritten-more r s w wrote torn = record {
   front = piece_wrote s w.front (run_wrote r (piece_long s) wrote);
   elsewhere = SameElsewhere-then w.elsewhere (run_elsewhere r (piece_long s) torn);
@@ -103,13 +103,13 @@ HasWritten-more r s w wrote torn = record {
 }
 
 -- some of a volume's bytes were written, and nothing else
-pub record HasTorn (x : ℕ) (es : List ℕ) (at : ℕ) (bytes : List ℕ) (old new : Held) : Type 0 where
-  pub torn : Torn at bytes (volume x es (area_of old)) (volume x es (area_of new))
-  pub elsewhere : SameElsewhere x es (area_of old) (area_of new)
-  pub before : SameInFront old new
+pub record HasTorn (l x : ℕ) (es : List ℕ) (at : ℕ) (bytes : List ℕ) (old new : Held) : Type 0 where
+  pub torn : Torn at bytes (volume x es (area_of l old)) (volume x es (area_of l new))
+  pub elsewhere : SameElsewhere x es (area_of l old) (area_of l new)
+  pub before : SameInFront l old new
 
-pub HasTorn-more : {size x : ℕ} {es : List ℕ} {at : ℕ} {bytes part : List ℕ} {n place m : ℕ} {old mid new : Held} → IsPart size x es (at + n) place m → IsPiece bytes part n m
-    → HasWritten x es at bytes n old mid → Torn place part mid new → HasTorn x es at bytes old new
+pub HasTorn-more : {l size x : ℕ} {es : List ℕ} {at : ℕ} {bytes part : List ℕ} {n place m : ℕ} {old mid new : Held} → IsPart l size x es (at + n) place m → IsPiece bytes part n m
+    → HasWritten l x es at bytes n old mid → Torn place part mid new → HasTorn l x es at bytes old new
 HasTorn-more r s w torn = record {
   torn = piece_torn s w.front (run_torn r (piece_long s) torn);
   elsewhere = SameElsewhere-then w.elsewhere (run_elsewhere r (piece_long s) torn);
@@ -117,11 +117,11 @@ HasTorn-more r s w torn = record {
 }
 
 -- how far a write came
-pub record WriteGoes (Told : Type 0) (x : ℕ) (es : List ℕ) (at : ℕ) (bytes : List ℕ) (size wide before faults done count : ℕ) (old new : Held) : Type 0 where
+pub record WriteGoes (Told : Type 0) (l x : ℕ) (es : List ℕ) (at : ℕ) (bytes : List ℕ) (size wide before faults done count : ℕ) (old new : Held) : Type 0 where
   pub size_is : wide ≡ size
   pub calm : faults ≡ before
   pub most : done ≤ count
-  pub wrote : Told → HasWritten x es at bytes done old new
+  pub wrote : Told → HasWritten l x es at bytes done old new
 
 -- ---- reads
 
@@ -154,18 +154,18 @@ piece_gave at h xs part rest n m within long front gave = λ j low. by j low (ca
         ∙ gave (at + j) (omega arith, omega arith)
 
 -- and after a read of one more run
-pub run_read : {size x : ℕ} {es : List ℕ} {place m : ℕ} (at n : ℕ) (old mid : Held) (xs front part rest : List ℕ) → IsPart size x es (at + n) place m
+pub run_read : {l size x : ℕ} {es : List ℕ} {place m : ℕ} (at n : ℕ) (old mid : Held) (xs front part rest : List ℕ) → IsPart l size x es (at + n) place m
     → 512 * n ≤ length xs → front ≡ take (512 * n) xs → length part ≡ 512 * m → SameHeld old mid → Gave place mid part
-    → GaveFront at (volume x es (area_of old)) xs n → GaveFront at (volume x es (area_of old)) (front ++ (part ++ rest)) (n + m)
-run_read {size} {x} {es} {place} {m} at n old mid xs front part rest run within is long same gave before = λ j low.
+    → GaveFront at (volume x es (area_of l old)) xs n → GaveFront at (volume x es (area_of l old)) (front ++ (part ++ rest)) (n + m)
+run_read {l} {size} {x} {es} {place} {m} at n old mid xs front part rest run within is long same gave before = λ j low.
     ap (λ l. sector (l ++ (part ++ rest)) j) is
-    ∙ piece_gave at (volume x es (area_of old)) xs part rest n m within long before
+    ∙ piece_gave at (volume x es (area_of l old)) xs part rest n m within long before
     (run_gave old part run long (λ p here. gave p here ∙ reads-same same p)) j low
 
 -- how far a read came
-pub record ReadGoes (Told : Type 0) (x : ℕ) (es : List ℕ) (at : ℕ) (bytes : List ℕ) (size wide before faults done count : ℕ) (old new : Held) : Type 0 where
+pub record ReadGoes (Told : Type 0) (l x : ℕ) (es : List ℕ) (at : ℕ) (bytes : List ℕ) (size wide before faults done count : ℕ) (old new : Held) : Type 0 where
   pub size_is : wide ≡ size
   pub calm : faults ≡ before
   pub most : done ≤ count
   pub same : Told → SameHeld old new
-  pub gave : Told → GaveFront at (volume x es (area_of old)) bytes done
+  pub gave : Told → GaveFront at (volume x es (area_of l old)) bytes done

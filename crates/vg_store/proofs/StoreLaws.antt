@@ -13,9 +13,9 @@ use Rattle.vg_store.specs.Groups.{area_of}
 use Rattle.vg_store.specs.Runs.{AreOn}
 
 -- the extents of a volume of a table stand on a device that has all extents
-pub extents_on_device : (size count x : ℕ) (t : VolumeTable) (n : Name) (r : Row) (es : List ℕ) → IsTable count t → area_place + count * x ≤ size
-    → rows t n ≡ Some r → es ≡ r.extents → AreOn size x es
-extents_on_device size count x t n r es table fits there is = subst (AreOn size x) (ap extents_of there ∙ sym is) (record {
+pub extents_on_device : (l size count x : ℕ) (t : VolumeTable) (n : Name) (r : Row) (es : List ℕ) → IsTable count t → area_place l + count * x ≤ size
+    → rows t n ≡ Some r → es ≡ r.extents → AreOn l size x es
+extents_on_device l size count x t n r es table fits there is = subst (AreOn l size x) (ap extents_of there ∙ sym is) (record {
   within = λ i below. within i (s.below n i (slice_index own i) (found i below));
   once = λ i j i_below j_below same. s.same_place n i j (slice_index own i) (found i i_below) (found j j_below ∙ ap Some (sym same));
 })
@@ -29,11 +29,11 @@ extents_on_device size count x t n r es table fits there is = subst (AreOn size 
     found : (i : ℕ) → i < length own → slice_get own i ≡ Some (slice_index own i)
     found i below = slice_get-get_or own i 0 below
 
-    within : (i : ℕ) → slice_index own i < count → area_place + (slice_index own i + 1) * x ≤ size
+    within : (i : ℕ) → slice_index own i < count → area_place l + (slice_index own i + 1) * x ≤ size
     within i low =
         let most : slice_index own i + 1 ≤ count = omega arith in
         omega (arith, fits, mul-le-mul_right x most)
 
 -- the extents hold sectors
-pub area_sectors : (size area : ℕ) (h : Held) → area_place + area ≤ size → HasSectors size h → HasSectors area (area_of h)
-area_sectors size area h fits s = HasSectors-moved (λ q. area_place + q) (λ q below. omega (arith, fits, below)) s
+pub area_sectors : (l size area : ℕ) (h : Held) → area_place l + area ≤ size → HasSectors size h → HasSectors area (area_of l h)
+area_sectors l size area h fits s = HasSectors-moved (λ q. area_place l + q) (λ q below. omega (arith, fits, below)) s

@@ -7,11 +7,11 @@ ghost use Rattle.std.specs.Prelude.{◌≡◌, ◌≤◌, ◌<◌, ◌+◌, ◌*
 ghost use Rattle.sm_disk.specs.Held.{Allows, IsCounted, IsSettled, Keeps, Reaches, reads};
 ghost use Rattle.std.proofs.Props.{props};
 ghost use Rattle.vg_meta.specs.Text.{text};
-ghost use Rattle.vg_layout.specs.Places.{area_place, extents_on, record_extents};
-ghost use Rattle.vg_layout.specs.Fields.{plate, pointer};
+ghost use Rattle.vg_layout.specs.Places.{area_place, extents_on, new_layout, record_extents};
+ghost use Rattle.vg_layout.specs.Fields.{places_in, plate, pointer};
 ghost use Rattle.vg_store.specs.Groups.{beside_of};
 ghost use Rattle.vg_store.specs.declared.formats.FormatFault.TheVariants.{TooSmall};
-ghost use Rattle.vg_store.specs.Formats.{IsBehindLabel, IsBlank, StandsBehindLabel, IsFormatFault, IsFormatWrite, IsFormatted, IsLaidOut, IsLeftByFormat, IsLeftOf, least_size, new_group};
+ghost use Rattle.vg_store.specs.Formats.{IsBehindLabel, IsBlank, StandsBehindLabel, IsFormatFault, IsFormatWrite, IsFormatted, IsLaidOut, IsLeftByFormat, IsLeftOf, least_size, new_frame, new_group};
 
 use sm_base::{Failed, Geometry, NoMemory};
 use sm_disk::{Disk, put, write_sector};
@@ -19,9 +19,13 @@ use std::alloc::Global;
 use thiserror::Error;
 use uuid::Uuid;
 use vg_layout::{
-    AREA, GroupLabel, HEADER, LABEL, Slot, TableHeader, extents_on, record_extents, sum_of,
+    Frame, GroupLabel, LABEL, Layout, Slot, TableHeader, extents_on, record_extents, sum_of,
 };
 use vg_meta::Table;
+use vg_volumes::CURRENT_VERSION;
+
+/// The layout of a new group.
+const LAYOUT: Layout = Layout::Narrow;
 
 /// The bytes of all records.
 const RECORDS: usize = 512 * 512;
@@ -67,17 +71,17 @@ pub fn format<D: Disk>(
     ensures calm { OnOk result (D.faults disk.new ≡ D.faults disk.old) }
     ensures small { D.size disk.old < least_size geometry.extent → result ≡ Err (TooSmall (least_size geometry.extent)) }
     ensures fault { IfErr result (IsFormatFault (D.size disk.old) (least_size geometry.extent) (disk.new ≡ disk.old) (D.faults disk.old) (D.faults disk.new)) }
-    ensures extents { IfOk result (λ f. f.extents ≡ extents_on (D.size disk.old) geometry.extent) }
+    ensures extents { IfOk result (λ f. f.extents ≡ extents_on new_layout (D.size disk.old) geometry.extent) }
     ensures free { IfOk result (λ f. f.free + record_extents geometry.extent ≡ f.extents) }
-    ensures beside { D.told → Keeps (beside_of (extents_on (D.size disk.old) geometry.extent * geometry.extent) (D.held disk.old))
-        (beside_of (extents_on (D.size disk.old) geometry.extent * geometry.extent) (D.held disk.new)) }
+    ensures beside { D.told → Keeps (beside_of new_layout (extents_on new_layout (D.size disk.old) geometry.extent * geometry.extent) (D.held disk.old))
+        (beside_of new_layout (extents_on new_layout (D.size disk.old) geometry.extent * geometry.extent) (D.held disk.new)) }
     ensures settled { OnOk result (D.told → IsSettled (D.held disk.new)) }
     ensures formatted { OnOk result (D.told → IsFormatted (D.size disk.old) (D.held disk.new).floor geometry repository) }
     ensures crash { D.told → (image : ℕ → List ℕ) → Allows (D.size disk.old) (D.held disk.new) image → IsLeftByFormat (D.size disk.old) (D.held disk.old) geometry repository image }
 {
     let sectors = disk.sectors();
     let records = record_extents(&geometry);
-    let least = AREA + u64::from(records) * u64::from(geometry.extent);
+    let least = LAYOUT.area() + u64::from(records) * u64::from(geometry.extent);
     if sectors < least {
         return Err(FormatFault::TooSmall { sectors: least });
     }
@@ -130,7 +134,8 @@ impl Draft {
         };
         let label = GroupLabel {
             geometry,
-            extents: extents_on(sectors, &geometry),
+            extents: extents_on(sectors, LAYOUT, &geometry),
+            layout: LAYOUT,
             repository,
         };
         Ok(Draft {
@@ -155,7 +160,7 @@ fn blank_bytes(alloc: Global, bytes: usize) -> Result<Vec<u8>, NoMemory>
 
 // Takes the label away, fills the sectors behind it, and writes the new label, each with a sync.
 fn lay_out<D: Disk>(disk: &mut D, draft: &Draft) -> Result<(), Failed>
-    requires room { area_place + 512 ≤ D.size disk.old }
+    requires room { area_place new_layout + 512 ≤ D.size disk.old }
     ensures size { D.size disk.new ≡ D.size disk.old }
     ensures counts { D.faults disk.old ≤ D.faults disk.new }
     ensures cause { IsCounted result (D.faults disk.old) (D.faults disk.new) }
@@ -167,14 +172,14 @@ fn lay_out<D: Disk>(disk: &mut D, draft: &Draft) -> Result<(), Failed>
     put(disk, LABEL, &[0; 512])?;
     fill(disk, draft)?;
     let mut sector = [0; 512];
-    draft.label.write(&mut sector);
+    draft.label.write(CURRENT_VERSION, &mut sector);
     put(disk, LABEL, &sector)?;
     Ok(())
 }
 
 // Writes the records, the text into the slot of its header and the header, and syncs.
 fn fill<D: Disk>(disk: &mut D, draft: &Draft) -> Result<(), Failed>
-    requires room { area_place + 512 ≤ D.size disk.old }
+    requires room { area_place new_layout + 512 ≤ D.size disk.old }
     ensures size { D.size disk.new ≡ D.size disk.old }
     ensures counts { D.faults disk.old ≤ D.faults disk.new }
     ensures cause { IsCounted result (D.faults disk.old) (D.faults disk.new) }
@@ -182,10 +187,11 @@ fn fill<D: Disk>(disk: &mut D, draft: &Draft) -> Result<(), Failed>
     ensures settled { OnOk result (D.told → IsSettled (D.held disk.new)) }
     ensures filled { OnOk result (D.told → StandsBehindLabel (pointer draft.now.header) draft.now.text (reads (D.held disk.new))) }
 {
-    disk.write(AREA, &draft.records)?;
-    write_sector(disk, draft.header.slot.place(), &draft.text)?;
+    let frame = Frame::of(CURRENT_VERSION, LAYOUT);
+    disk.write(LAYOUT.area(), &draft.records)?;
+    write_sector(disk, draft.header.slot.place(&frame), &draft.text)?;
     let mut sector = [0; 512];
     draft.header.write(&mut sector);
-    put(disk, HEADER, &sector)?;
+    put(disk, frame.header, &sector)?;
     Ok(())
 }

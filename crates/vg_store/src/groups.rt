@@ -8,10 +8,10 @@ ghost use Rattle.vg_meta.specs.Roomy.{table_alone};
 ghost use Rattle.vg_meta.specs.Tables.{VolumeTable};
 ghost use Rattle.vg_meta.specs.Text.{text};
 ghost use Rattle.vg_meta.specs.Reading.{Spells};
-ghost use Rattle.vg_layout.specs.Fields.{plate, pointer};
+ghost use Rattle.vg_layout.specs.Fields.{layout_number, plate, pointer};
 ghost use Rattle.vg_layout.specs.Opening.{StandsOn, IsRefused};
-ghost use Rattle.vg_layout.specs.Places.{area_place};
-ghost use Rattle.vg_volumes.specs.Commits.{IsBefore};
+ghost use Rattle.vg_layout.specs.Places.{area_place, frame_of, slot_bytes};
+ghost use Rattle.vg_volumes.specs.Commits.{IsBefore, current_version};
 ghost use Rattle.vg_store.specs.Groups.{Rests, GroupStands, LeavesGroup, area_of};
 ghost use Rattle.vg_store.specs.Openings.{IsAnswer};
 ghost use Rattle.vg_meta.specs.Proper.{IsName-prop};
@@ -22,8 +22,9 @@ use sm_base::{Geometry, OpenFault};
 use sm_disk::Disk;
 use std::alloc::Global;
 use uuid::Uuid;
-use vg_layout::{GroupLabel, TEXT_LIMIT, TableHeader};
+use vg_layout::{Frame, GroupLabel, Layout, TableHeader};
 use vg_meta::Table;
+use vg_volumes::CURRENT_VERSION;
 
 /// A volume group on a device. Its table stands in memory; while no commit has failed, the label, the header
 /// and the text of this very table are the only ones that a stop may leave.
@@ -36,9 +37,9 @@ pub struct Group<D: Disk> {
     pub(crate) failed: bool,
     // The extents are few, and on the device.
     ghost few: { label.extents ≤ extent_limit },
-    ghost area: { area_place + label.extents * label.geometry.extent ≤ D.size disk },
-    // A text of any table fits.
-    ghost room: { vec_len buffer ≡ 524288 },
+    ghost area: { area_place (layout_number label.layout) + label.extents * label.geometry.extent ≤ D.size disk },
+    // The buffer has the bytes of a slot.
+    ghost room: { vec_len buffer ≡ slot_bytes (frame_of current_version (layout_number label.layout)) },
     // The table has a text, with the header's sum.
     ghost spelled: { Spells label.extents (text (table_alone table)) (table_alone table) } by { Prim.hlevel (props, IsName-prop) },
     ghost summed: { sum (text (table_alone table)) ≡ header.sum },
@@ -60,7 +61,7 @@ impl<D: Disk> Group<D> {
         ensures size { IfOk result (λ g. D.size g.disk ≡ D.size disk) }
         ensures calm { IfOk result (λ g. D.faults g.disk ≡ D.faults disk) }
         ensures keeps { IfOk result (λ g. D.told → Keeps (D.held disk) (D.held g.disk)) }
-        ensures area { IfOk result (λ g. D.told → Keeps (area_of (D.held disk)) (area_of (D.held g.disk))) }
+        ensures area { IfOk result (λ g. D.told → Keeps (area_of (layout_number g.label.layout) (D.held disk)) (area_of (layout_number g.label.layout) (D.held g.disk))) }
         ensures settled { IfOk result (λ g. D.told → IsSettled (D.held g.disk)) }
         ensures usable { IfOk result (λ g. g.failed ≡ false) }
         ensures stands { IfOk result (λ g. D.told → StandsOn (D.size disk) (reads (D.held disk)) (record { plate = plate g.label; pointer = pointer g.header; table = table_alone g.table })) }
@@ -70,7 +71,8 @@ impl<D: Disk> Group<D> {
         ensures err { IfErr result (λ e. IsAnswer (λ f. D.told → IsRefused (D.size disk) (reads (D.held disk)) f) (D.faults disk) (D.faults e.1) e.0) }
     {
         let mut disk = disk;
-        let Ok(mut buffer) = vec![in alloc; 0u8; TEXT_LIMIT as usize] else {
+        let bytes = Frame::of(CURRENT_VERSION, Layout::Narrow).slot_bytes();
+        let Ok(mut buffer) = vec![in alloc; 0u8; bytes as usize] else {
             return Err((OpenFault::NoMemory, disk));
         };
         let Ok(()) = disk.sync() else {
@@ -128,7 +130,7 @@ impl<D: Disk> Group<D> {
         ensures disk { result ≡ self.disk }
         ensures leaves { D.told → self.failed ≡ false → (t : VolumeTable) (image : ℕ → List ℕ)
             → LeavesGroup (D.size result) (D.held result) (plate self.label) t image
-            → IsBefore (self.label.extents * self.label.geometry.extent) (table_alone self.table) (area_of (D.held result)) t image }
+            → IsBefore (self.label.extents * self.label.geometry.extent) (table_alone self.table) (area_of (layout_number self.label.layout) (D.held result)) t image }
         ensures stands { D.told → (image : ℕ → List ℕ) → Allows (D.size result) (D.held result) image → GroupStands (D.size result) image (plate self.label) }
     {
         let Group {

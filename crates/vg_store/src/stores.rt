@@ -6,7 +6,7 @@ use sm_base::{Failed, Geometry, Name, NoMemory};
 use sm_disk::Disk;
 use uuid::Uuid;
 use vg_meta::{Change, Table};
-use vg_volumes::{CURRENT_VERSION, Store};
+use vg_volumes::{CURRENT_VERSION, Store, text_limit};
 
 impl<D: Disk> Store for Group<D> {
     ghost use Rattle.std.proofs.Common.{refl};
@@ -14,22 +14,23 @@ impl<D: Disk> Store for Group<D> {
     ghost use Rattle.vg_volumes.specs.Commits.{current_version};
     ghost use Rattle.std.specs.Prelude.{ℕ, ◌*◌, List};
     ghost use Rattle.vg_meta.specs.Roomy.{table_alone};
-    ghost use Rattle.vg_layout.specs.Fields.{plate, pointer};
+    ghost use Rattle.vg_layout.specs.Fields.{layout_number, plate, pointer};
+    ghost use Rattle.vg_layout.proofs.StandingLaws.{spells_listed};
     ghost use Rattle.vg_store.specs.Groups.{LeavesGroup, area_of, beside_of};
     ghost use Rattle.vg_meta.specs.Text.{text};
     ghost use Rattle.vg_store.specs.Leaving.{leaves_one, leaves_reads};
 
     ghost told = { D.told };
 
-    ghost site = { λ g. record { geometry = g.label.geometry; count = g.label.extents; identity = g.label.repository; sectors = D.size g.disk } };
+    ghost site = { λ g. record { geometry = g.label.geometry; count = g.label.extents; layout = layout_number g.label.layout; identity = g.label.repository; sectors = D.size g.disk } };
 
     ghost table = { λ g. g.table };
 
-    ghost area = { λ g. area_of (D.held g.disk) };
+    ghost area = { λ g. area_of (layout_number g.label.layout) (D.held g.disk) };
 
     ghost device = { λ g. D.held g.disk };
 
-    ghost beside = { λ g. beside_of (g.label.extents * g.label.geometry.extent) (D.held g.disk) };
+    ghost beside = { λ g. beside_of (layout_number g.label.layout) (g.label.extents * g.label.geometry.extent) (D.held g.disk) };
 
     ghost failed = { λ g. g.failed };
 
@@ -87,7 +88,7 @@ impl<D: Disk> Store for Group<D> {
     fn is_ready(&self, change: &Change) -> bool {
         self.table.allows(change, self.extents())
             && self.table.has_room(change)
-            && self.table.fits(change)
+            && self.table.fits(change, text_limit(self.extents()))
     }
 
     fn commit(&mut self, change: Change) -> Result<(), Failed> {
@@ -99,7 +100,14 @@ impl<D: Disk> Store for Group<D> {
             unreachable!()
         };
         let extent = self.label.geometry.extent;
-        read_volume(&mut self.disk, extent, volume.extents(), at, to)
+        read_volume(
+            &mut self.disk,
+            self.label.layout,
+            extent,
+            volume.extents(),
+            at,
+            to,
+        )
     }
 
     fn write(&mut self, volume: &Name, at: u64, from: &[u8]) -> Result<(), Failed> {
@@ -107,7 +115,14 @@ impl<D: Disk> Store for Group<D> {
             unreachable!()
         };
         let extent = self.label.geometry.extent;
-        write_volume(&mut self.disk, extent, volume.extents(), at, from)
+        write_volume(
+            &mut self.disk,
+            self.label.layout,
+            extent,
+            volume.extents(),
+            at,
+            from,
+        )
     }
 
     fn sync(&mut self) -> Result<(), Failed> {
@@ -120,7 +135,7 @@ impl<D: Disk> Store for Group<D> {
 
     ghost leaves_old = { λ s told old. absurd (lt_irrefl current_version old) };
 
-    ghost leaves_now = { λ s told usable t image left. leaves_one (D.size s.disk) (s.label.extents * s.label.geometry.extent) (D.held s.disk) (plate s.label) (pointer s.header) (table_alone s.table) t (text (table_alone s.table)) image s.area (s.rests told usable) s.summed s.spelled left };
+    ghost leaves_now = { λ s told usable t image left. leaves_one (D.size s.disk) (s.label.extents * s.label.geometry.extent) (D.held s.disk) (plate s.label) (pointer s.header) (table_alone s.table) t (text (table_alone s.table)) image s.area (s.rests told usable) s.summed (spells_listed (D.size s.disk) (D.held s.disk).floor (plate s.label) (text (table_alone s.table)) (table_alone s.table) (s.rests told usable).labelled s.spelled) left };
 
-    ghost leaves_read = { λ s told usable. leaves_reads (D.size s.disk) (D.held s.disk) (plate s.label) (pointer s.header) (table_alone s.table) (text (table_alone s.table)) (s.rests told usable) s.summed s.spelled };
+    ghost leaves_read = { λ s told usable. leaves_reads (D.size s.disk) (D.held s.disk) (plate s.label) (pointer s.header) (table_alone s.table) (text (table_alone s.table)) (s.rests told usable) s.summed (spells_listed (D.size s.disk) (D.held s.disk).floor (plate s.label) (text (table_alone s.table)) (table_alone s.table) (s.rests told usable).labelled s.spelled) };
 }

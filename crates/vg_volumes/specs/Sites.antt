@@ -10,10 +10,12 @@ use Rattle.vg_meta.specs.declared.changes.Change.{Change}
 use Rattle.vg_meta.specs.Changes.{applied, spare_after, places_after}
 use Rattle.vg_volumes.specs.Volumes.{span, volume}
 
--- the sizes, the number of extents, the repository's UUID, and the sectors of the device that all stands on
+-- the sizes, the number of extents, the number of the layout by which they stand on the device, the repository's UUID, and the sectors of
+-- the device
 pub record Site : Type 0 where
   pub geometry : Geometry
   pub count : ℕ
+  pub layout : ℕ
   pub identity : List ℕ
   pub sectors : ℕ
 
@@ -29,13 +31,13 @@ size_of s t n = span s.geometry.extent (extents_of (rows t n))
 abbrev pub volume_of : Site → VolumeTable → Held → Name → Held
 volume_of s t area n = volume s.geometry.extent (extents_of (rows t n)) area
 
--- the most bytes that the table's text may have
-abbrev pub text_limit : ℕ
-text_limit = 524288
+-- the most bytes that a table's text may have where a group has so many extents: those of a slot, whatever their number
+abbrev pub text_limit : ℕ → ℕ
+text_limit count = 524288
 
--- the text of the table after a change fits its slot
-abbrev pub Fits : VolumeTable → Change → Type 0
-Fits t change = length (text (applied t change)) ≤ text_limit
+-- the text of the table after a change is within the limit for so many extents
+abbrev pub Fits : ℕ → VolumeTable → Change → Type 0
+Fits count t change = length (text (applied t change)) ≤ text_limit count
 
 -- no spare number is lower than before
 pub record NoLessRoom (old new : RoomyTable) : Type 0 where

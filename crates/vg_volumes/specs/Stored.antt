@@ -91,7 +91,7 @@ pub record CanCommit {S : Type 0} (g : Ghosts S) (change : Change) (s : S) : Typ
   pub usable : g.failed s ≡ false
   pub allowed : Permits (g.site s).count (table_alone (g.table s)) change
   pub room : HasRoom (g.table s) change
-  pub fits : Fits (table_alone (g.table s)) change
+  pub fits : Fits (g.site s).count (table_alone (g.table s)) change
 
 -- a commit that succeeded
 pub record Commits {S : Type 0} (g : Ghosts S) (change : Change) (old new : S) : Type 0 where

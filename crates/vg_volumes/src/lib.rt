@@ -26,4 +26,4 @@
 
 mod stores;
 
-pub use stores::{CURRENT_VERSION, Store};
+pub use stores::{CURRENT_VERSION, Store, text_limit};

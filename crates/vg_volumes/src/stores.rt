@@ -7,22 +7,30 @@ ghost use Rattle.vg_meta.specs.Tables.{VolumeTable, IsTable, rows, extents_of};
 ghost use Rattle.vg_meta.specs.Roomy.{RoomyTable, table_alone, places};
 ghost use Rattle.vg_meta.specs.Changes.{Permits, HasRoom, applied};
 ghost use Rattle.vg_volumes.specs.Commits.{IsBefore, IsEither, current_version};
-ghost use Rattle.vg_volumes.specs.Sites.{Site, area_size, size_of, volume_of, Fits, NoLessRoom, RoomAfter};
+ghost use Rattle.vg_volumes.specs.Sites.{Site, area_size, size_of, volume_of, Fits, NoLessRoom, RoomAfter, text_limit};
 ghost use Rattle.vg_volumes.specs.Volumes.{SameElsewhere};
 
-use sm_base::{Failed, Geometry, Name, NoMemory};
+use sm_base::{Failed, Geometry, Name, NoMemory, TEXT_LIMIT};
 use uuid::Uuid;
 use vg_meta::{Change, Table};
 
 /// The version of a repository by which commits are made.
 pub const CURRENT_VERSION: u32 = 1;
 
+/// The most bytes that a table's text may have where a group has so many extents: the same for any number of them.
+pub fn text_limit(extents: u32) -> u32
+    ensures { result ≡ text_limit extents }
+{
+    let _any = extents;
+    TEXT_LIMIT
+}
+
 /// A store of volumes. Clauses on content hold where the store tells its content (`told`).
 pub trait Store {
     /// Whether what the store holds is told: a fact that holds, or one that never does.
     ghost told: { Type 0 };
 
-    /// What never changes: the sizes, the number of extents, the repository's UUID, and how large the device is.
+    /// What never changes: the sizes, the number of extents and their layout, the repository's UUID, and how large the device is.
     ghost site: { Self → Site };
 
     /// The table, and beside it the spare numbers.
@@ -115,7 +123,7 @@ pub trait Store {
     /// its slot. No call is made on the device.
     fn is_ready(&self, change: &Change) -> bool
         ensures ready { IsTrue result ↔ (Permits (site self.now).count (table_alone (table self.now)) change.now
-            × HasRoom (table self.now) change.now × Fits (table_alone (table self.now)) change.now) };
+            × HasRoom (table self.now) change.now × Fits (site self.now).count (table_alone (table self.now)) change.now) };
 
     /// Changes the table. At `Ok` the change has taken effect and nothing is pending. At `Failed` the store
     /// still answers the earlier table and reads as before, and no further commit is made.
@@ -123,7 +131,7 @@ pub trait Store {
         requires usable { failed self.old ≡ false }
         requires allowed { Permits (site self.old).count (table_alone (table self.old)) change }
         requires room { HasRoom (table self.old) change }
-        requires fits { Fits (table_alone (table self.old)) change }
+        requires fits { Fits (site self.old).count (table_alone (table self.old)) change }
         ensures site { site self.new ≡ site self.old }
         ensures counts { faults self.old ≤ faults self.new }
         ensures cause { IsCounted result (faults self.old) (faults self.new) }

@@ -8,7 +8,7 @@ use Rattle.vg_store.proofs.CommittedLaws.{head_from, long_as_before}
 use Rattle.vg_store.proofs.commits.next_header.Goals as goal
 
 pub encode_changed-length-requires-clause-numbers : goal.encode_changed-length-requires-clause-numbers
-encode_changed-length-requires-clause-numbers c = HasText-short (applied (table_alone c.args.table.now) c.args.change.now) (omega (arith, c.requires.fits))
+encode_changed-length-requires-clause-numbers c = HasText-short (applied (table_alone c.args.table.now) c.args.change.now) (omega (arith, c.requires.fits, c.requires.few))
 
 pub returns-clause-head : goal.returns-clause-head
 returns-clause-head c =
@@ -18,5 +18,5 @@ returns-clause-head c =
 
 pub returns-clause-long : goal.returns-clause-long
 returns-clause-long c =
-    let fits : length (text (applied (table_alone c.args.table.now) c.args.change.now)) ≤ length c.args.buffer.now = omega (arith, c.requires.fits, c.requires.room) in
+    let fits : length (text (applied (table_alone c.args.table.now) c.args.change.now)) ≤ length c.args.buffer.now = c.requires.fits in
     long_as_before (text (applied (table_alone c.args.table.now) c.args.change.now)) c.args.buffer.now c.encode_changed-length.new.to fits c.encode_changed-length.ensures.text

@@ -1,25 +1,27 @@
-use Rattle.std.proofs.Common.{◌≡◌, ◌<◌, ◌*◌, ◌^◌, length, take, ap, arith, rules}
+use Rattle.std.proofs.Common.{◌≡◌, ◌<◌, ◌≤◌, ◌*◌, ◌^◌, length, take, ap, arith, rules}
 use Rattle.vg_meta.specs.Text.{text}
 use Rattle.vg_layout.specs.Fields.{plate, pointer}
-use Rattle.vg_layout.specs.Places.{extents_on}
+use Rattle.vg_layout.specs.Places.{extents_on, new_layout}
 use Rattle.vg_layout.specs.Sectors.{Plate}
 use Rattle.vg_store.specs.Formats.{new_group}
 use Rattle.vg_store.proofs.BesideLaws.{beside_formatted}
-use Rattle.vg_store.proofs.NewGroups.{fits_records, formatted_from, left_from, enough_from}
+use Rattle.std.proofs.lemmas.Nat.{mul-le}
+use Rattle.vg_store.proofs.FormatLaws.{area_new}
+use Rattle.vg_store.proofs.NewGroups.{fits_records, records_few, formatted_from, left_from, enough_from}
 use Rattle.vg_store.proofs.formats.format.Goals as goal
 
 pub lay_out-requires : goal.lay_out-requires
 lay_out-requires g c =
     let size = g.D.Disk.size c.args.disk.now in
     let e = c.args.geometry.extent in
-    let enough = enough_from size c.sectors-sectors.result c.record_extents-records.result c.from.result c.from-2.result e c.record_extents-records.ensures c.from.ensures c.from-2.ensures c.sectors-sectors.ensures.size c.if-sectors-least.false in
+    let enough = enough_from size c.sectors-sectors.result c.area.result c.record_extents-records.result c.from.result c.from-2.result e c.area.ensures c.record_extents-records.ensures c.from.ensures c.from-2.ensures c.sectors-sectors.ensures.size c.if-sectors-least.false in
     record { room = (fits_records size e c.args.geometry.in_range.extent_least enough).room }
 
 pub returns-in_default-lay_out-clause-crash : goal.returns-in_default-lay_out-clause-crash
 returns-in_default-lay_out-clause-crash g c = λ told image allowed.
     let size = g.D.Disk.size c.args.disk.now in
     let e = c.args.geometry.extent in
-    let enough = enough_from size c.sectors-sectors.result c.record_extents-records.result c.from.result c.from-2.result e c.record_extents-records.ensures c.from.ensures c.from-2.ensures c.sectors-sectors.ensures.size c.if-sectors-least.false in
+    let enough = enough_from size c.sectors-sectors.result c.area.result c.record_extents-records.result c.from.result c.from-2.result e c.area.ensures c.record_extents-records.ensures c.from.ensures c.from-2.ensures c.sectors-sectors.ensures.size c.if-sectors-least.false in
     let d = c.in-Ok.draft in
     let r = c.args.repository in
     let label : plate d.label ≡ (new_group size c.args.geometry r).plate = rw (← c.sectors-sectors.ensures.size) c.in-Ok.ensures.label in
@@ -35,23 +37,23 @@ pub overflow_sub-result : goal.overflow_sub-result
 overflow_sub-result g c =
     let size = g.D.Disk.size c.args.disk.now in
     let e = c.args.geometry.extent in
-    let enough = enough_from size c.sectors-sectors.result c.record_extents-records.result c.from.result c.from-2.result e c.record_extents-records.ensures c.from.ensures c.from-2.ensures c.sectors-sectors.ensures.size c.if-sectors-least.false in
-    let count : c.in-Ok.draft.label.extents ≡ extents_on size e = rw (← c.sectors-sectors.ensures.size) (ap (λ (p : Plate). p.count) c.in-Ok.ensures.label) in
+    let enough = enough_from size c.sectors-sectors.result c.area.result c.record_extents-records.result c.from.result c.from-2.result e c.area.ensures c.record_extents-records.ensures c.from.ensures c.from-2.ensures c.sectors-sectors.ensures.size c.if-sectors-least.false in
+    let count : c.in-Ok.draft.label.extents ≡ extents_on new_layout size e = rw (← c.sectors-sectors.ensures.size) (ap (λ (p : Plate). p.count) c.in-Ok.ensures.label) in
     omega (arith, (fits_records size e c.args.geometry.in_range.extent_least enough).least, count, c.record_extents-records.ensures)
 
 pub returns-clause-free : goal.returns-clause-free
 returns-clause-free g c =
     let size = g.D.Disk.size c.args.disk.now in
     let e = c.args.geometry.extent in
-    let enough = enough_from size c.sectors-sectors.result c.record_extents-records.result c.from.result c.from-2.result e c.record_extents-records.ensures c.from.ensures c.from-2.ensures c.sectors-sectors.ensures.size c.if-sectors-least.false in
-    let count : c.in-Ok.draft.label.extents ≡ extents_on size e = rw (← c.sectors-sectors.ensures.size) (ap (λ (p : Plate). p.count) c.in-Ok.ensures.label) in
+    let enough = enough_from size c.sectors-sectors.result c.area.result c.record_extents-records.result c.from.result c.from-2.result e c.area.ensures c.record_extents-records.ensures c.from.ensures c.from-2.ensures c.sectors-sectors.ensures.size c.if-sectors-least.false in
+    let count : c.in-Ok.draft.label.extents ≡ extents_on new_layout size e = rw (← c.sectors-sectors.ensures.size) (ap (λ (p : Plate). p.count) c.in-Ok.ensures.label) in
     omega (arith, (fits_records size e c.args.geometry.in_range.extent_least enough).least, count, c.record_extents-records.ensures)
 
 pub returns-clause-formatted : goal.returns-clause-formatted
 returns-clause-formatted g c = λ told.
     let size = g.D.Disk.size c.args.disk.now in
     let e = c.args.geometry.extent in
-    let enough = enough_from size c.sectors-sectors.result c.record_extents-records.result c.from.result c.from-2.result e c.record_extents-records.ensures c.from.ensures c.from-2.ensures c.sectors-sectors.ensures.size c.if-sectors-least.false in
+    let enough = enough_from size c.sectors-sectors.result c.area.result c.record_extents-records.result c.from.result c.from-2.result e c.area.ensures c.record_extents-records.ensures c.from.ensures c.from-2.ensures c.sectors-sectors.ensures.size c.if-sectors-least.false in
     let d = c.in-Ok.draft in
     let r = c.args.repository in
     let label : plate d.label ≡ (new_group size c.args.geometry r).plate = rw (← c.sectors-sectors.ensures.size) c.in-Ok.ensures.label in
@@ -67,7 +69,7 @@ pub returns-clause-crash : goal.returns-clause-crash
 returns-clause-crash g c = λ told image allowed.
     let size = g.D.Disk.size c.args.disk.now in
     let e = c.args.geometry.extent in
-    let enough = enough_from size c.sectors-sectors.result c.record_extents-records.result c.from.result c.from-2.result e c.record_extents-records.ensures c.from.ensures c.from-2.ensures c.sectors-sectors.ensures.size c.if-sectors-least.false in
+    let enough = enough_from size c.sectors-sectors.result c.area.result c.record_extents-records.result c.from.result c.from-2.result e c.area.ensures c.record_extents-records.ensures c.from.ensures c.from-2.ensures c.sectors-sectors.ensures.size c.if-sectors-least.false in
     let d = c.in-Ok.draft in
     let r = c.args.repository in
     let label : plate d.label ≡ (new_group size c.args.geometry r).plate = rw (← c.sectors-sectors.ensures.size) c.in-Ok.ensures.label in
@@ -83,12 +85,19 @@ pub returns-in_default-lay_out-clause-beside : goal.returns-in_default-lay_out-c
 returns-in_default-lay_out-clause-beside g c = λ told.
     let size = g.D.Disk.size c.args.disk.now in
     let e = c.args.geometry.extent in
-    let enough = enough_from size c.sectors-sectors.result c.record_extents-records.result c.from.result c.from-2.result e c.record_extents-records.ensures c.from.ensures c.from-2.ensures c.sectors-sectors.ensures.size c.if-sectors-least.false in
-    beside_formatted (extents_on size e * e) _ _ (fits_records size e c.args.geometry.in_range.extent_least enough).large (c.lay_out.ensures.reaches told)
+    let enough = enough_from size c.sectors-sectors.result c.area.result c.record_extents-records.result c.from.result c.from-2.result e c.area.ensures c.record_extents-records.ensures c.from.ensures c.from-2.ensures c.sectors-sectors.ensures.size c.if-sectors-least.false in
+    beside_formatted (extents_on new_layout size e * e) _ _ (fits_records size e c.args.geometry.in_range.extent_least enough).large (c.lay_out.ensures.reaches told)
 
 pub returns-clause-beside : goal.returns-clause-beside
 returns-clause-beside g c = λ told.
     let size = g.D.Disk.size c.args.disk.now in
     let e = c.args.geometry.extent in
-    let enough = enough_from size c.sectors-sectors.result c.record_extents-records.result c.from.result c.from-2.result e c.record_extents-records.ensures c.from.ensures c.from-2.ensures c.sectors-sectors.ensures.size c.if-sectors-least.false in
-    beside_formatted (extents_on size e * e) _ _ (fits_records size e c.args.geometry.in_range.extent_least enough).large (c.lay_out.ensures.reaches told)
+    let enough = enough_from size c.sectors-sectors.result c.area.result c.record_extents-records.result c.from.result c.from-2.result e c.area.ensures c.record_extents-records.ensures c.from.ensures c.from-2.ensures c.sectors-sectors.ensures.size c.if-sectors-least.false in
+    beside_formatted (extents_on new_layout size e * e) _ _ (fits_records size e c.args.geometry.in_range.extent_least enough).large (c.lay_out.ensures.reaches told)
+
+pub overflow_add-least : goal.overflow_add-least
+overflow_add-least g c =
+    let e = c.args.geometry.extent in
+    let few = records_few e c.args.geometry.in_range.extent_least in
+    let most : c.from.result * c.from-2.result ≤ 16 * 8192 = mul-le c.from.result c.from-2.result 16 8192 (omega (arith, few, c.record_extents-records.ensures, c.from.ensures)) (omega (arith, c.from-2.ensures, c.args.geometry.in_range.extent_most)) in
+    omega (arith, most, c.area.ensures, area_new)

@@ -3,6 +3,7 @@ use Rattle.sm_disk.proofs.HeldLaws.{SameHeld-none, SameHeld-then}
 use Rattle.sm_disk.proofs.FrontLaws.{gave_from_front}
 use Rattle.vg_volumes.specs.Volumes.{volume}
 use Rattle.vg_store.specs.Groups.{area_of}
+use Rattle.vg_layout.specs.Fields.{layout_number}
 use Rattle.vg_store.proofs.RunLaws.{IsPart, part_whole}
 use Rattle.vg_store.proofs.PartLaws.{run_read}
 use Rattle.vg_store.proofs.volumes.read_volume.Goals as goal
@@ -18,7 +19,7 @@ loop-done-init g c = record {
 
 pub read-requires : goal.read-requires
 read-requires g c =
-    let run : IsPart (g.D.Disk.size c.args.disk.now) c.args.extent c.args.extents.now (c.args.at + c.loop-done.done) c.run_at-run.result.place c.run_at-run.result.sectors =
+    let run : IsPart (layout_number c.args.layout) (g.D.Disk.size c.args.disk.now) c.args.extent c.args.extents.now (c.args.at + c.loop-done.done) c.run_at-run.result.place c.run_at-run.result.sectors =
     record { on = c.requires.on; run = c.run_at-run.ensures.run } in
     part_whole _ _ run c.split_at_mut-part.ensures.front_len c.loop-done.invariant.size_is
 
@@ -26,7 +27,7 @@ pub loop-done-preserved : goal.loop-done-preserved
 loop-done-preserved g c =
     let held = c.loop-done.invariant in
     let front = c.split_at_mut-rest.ensures in
-    let run : IsPart (g.D.Disk.size c.args.disk.now) c.args.extent c.args.extents.now (c.args.at + c.loop-done.done) c.run_at-run.result.place c.run_at-run.result.sectors =
+    let run : IsPart (layout_number c.args.layout) (g.D.Disk.size c.args.disk.now) c.args.extent c.args.extents.now (c.args.at + c.loop-done.done) c.run_at-run.result.place c.run_at-run.result.sectors =
     record { on = c.requires.on; run = c.run_at-run.ensures.run } in
     let long : length c.read.new.to ≡ 512 * c.run_at-run.result.sectors = omega (arith, c.read.auto.to, c.split_at_mut-part.ensures.front_len) in
     record {
@@ -45,5 +46,5 @@ pub returns-clause-gave : goal.returns-clause-gave
 returns-clause-gave g c = λ told.
     let whole : length c.args.to.now % 512 ≡ 0 = c.requires.whole.whole in
     let long : length c.loop-done.to ≡ 512 * c.loop-done.done = omega (arith, whole, c.loop-done.auto.to, c.loop-done.invariant.most, c.loop-done-test.false) in
-    gave_from_front c.args.at (volume c.args.extent c.args.extents.now (area_of (g.D.Disk.held c.args.disk.now))) c.loop-done.to c.loop-done.done long
+    gave_from_front c.args.at (volume c.args.extent c.args.extents.now (area_of (layout_number c.args.layout) (g.D.Disk.held c.args.disk.now))) c.loop-done.to c.loop-done.done long
     (c.loop-done.invariant.gave told)

@@ -15,5 +15,8 @@ returns c =
     c.changed_length.ensures ∙ ap (λ (hs : List RoomyRow). min (length (volumes_text (changed (rows_alone hs) change))) (2 ^ 64 - 1)) rows_are in
     let all = length-text (applied (table_alone k) change) in
     record {
-      fits = (λ h. let low = leb-true c.changed_length.result 524276 h in omega (arith, size, all, low), λ h. le-leb c.changed_length.result 524276 (omega (arith, size, all, h)));
+      fits = (
+        λ h. let low = leb-true c.saturating_add.result c.args.limit h in omega (arith, size, all, c.saturating_add.ensures, low),
+        λ h. le-leb c.saturating_add.result c.args.limit (omega (arith, size, all, c.saturating_add.ensures, h)),
+      );
     }

@@ -2,7 +2,7 @@ use Rattle.std.proofs.Common.{◌*◌}
 use Rattle.vg_meta.specs.Roomy.{table_alone}
 use Rattle.vg_meta.specs.Text.{text}
 use Rattle.vg_layout.specs.Fields.{plate, pointer}
-use Rattle.vg_store.proofs.ImageLaws.{plate_few}
+use Rattle.vg_store.proofs.CommittedLaws.{group_from}
 use Rattle.vg_store.proofs.CommitLaws.{leaves_before}
 use Rattle.vg_store.proofs.groups.Group.into_disk.Goals as goal
 
@@ -11,4 +11,4 @@ returns-clause-leaves g c = λ told usable u image left.
     let s = c.args.self in
     let rests = s.rests told usable in
     leaves_before (g.D.Disk.size s.disk) (s.label.extents * s.label.geometry.extent) (g.D.Disk.held s.disk) (plate s.label) (pointer s.header) (table_alone s.table) u (text (table_alone s.table)) image s.area
-    (record { rests = rests; summed = s.summed; spelled = s.spelled; few = plate_few _ _ (plate s.label) rests.labelled }) left
+    (group_from (g.D.Disk.size s.disk) (g.D.Disk.held s.disk) (plate s.label) (pointer s.header) (table_alone s.table) rests s.summed s.spelled) left

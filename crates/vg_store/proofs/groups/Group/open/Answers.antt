@@ -1,8 +1,9 @@
-use Rattle.std.proofs.Common.{◌≤◌, ◌+◌, ◌*◌, refl}
+use Rattle.std.proofs.Common.{◌≤◌, ◌+◌, ◌*◌, ◌∙◌, ap, sym, refl}
 use Rattle.vg_meta.specs.Roomy.{table_alone}
 use Rattle.vg_meta.specs.Text.{text}
-use Rattle.vg_layout.specs.Fields.{plate, pointer}
-use Rattle.vg_layout.specs.Places.{area_place}
+use Rattle.vg_layout.specs.Fields.{layout_number, plate, pointer}
+use Rattle.vg_layout.specs.Places.{area_place, slot_bytes}
+use Rattle.vg_store.proofs.OpeningLaws.{frame_any, frame_old}
 use Rattle.vg_store.specs.Groups.{IsGroup}
 use Rattle.vg_store.proofs.OpenedLaws.{IsFound, opened_group, group_stands, opened_before, opened_keeps, opened_area, opened_settled, refused_before}
 use Rattle.vg_store.proofs.groups.Group.open.Goals as goal
@@ -14,7 +15,7 @@ invariant_of-result g c =
     let h = c.in-Ok-find.field-0.header in
     let t = table_alone c.in-Ok-find.field-0.table in
     let size = d.size c.find.new.disk in
-    let fits : area_place + l.extents * l.geometry.extent ≤ size = rw c.find.ensures.size c.in-Ok-find.ensures.area in
+    let fits : area_place (layout_number l.layout) + l.extents * l.geometry.extent ≤ size = rw c.find.ensures.size c.in-Ok-find.ensures.area in
     let group : d.told → IsGroup size (d.held c.find.new.disk) (plate l) (pointer h) t (text t) =
     λ told. opened_group (d.size c.sync.new.self) size (d.held c.sync.new.self) (d.held c.find.new.disk) (plate l) (pointer h) t (text t) c.find.ensures.size
     (c.in-Ok-sync.ensures.settled told) (c.find.ensures.same told)
@@ -23,7 +24,7 @@ invariant_of-result g c =
     record {
       few = c.in-Ok-find.ensures.few;
       area = fits;
-      room = c.in-Ok.ensures.len;
+      room = c.in-Ok.ensures.len ∙ c.slot_bytes-bytes.ensures ∙ ap slot_bytes (c.of.ensures ∙ frame_any 0 (layout_number l.layout));
       spelled = c.in-Ok-find.ensures.spelled;
       summed = c.in-Ok-find.ensures.summed;
       rests = λ told usable. (group told).rests;
@@ -56,10 +57,13 @@ returns-in-Err-clause-err g c =
     c.in-Ok-sync.ensures.cause.1 (λ told. c.sync.ensures.keeps told) c.in-Err.ensures.err)
 
 pub returns-in-Ok-find-clause-area : goal.returns-in-Ok-find-clause-area
-returns-in-Ok-find-clause-area g c = λ told. opened_area (c.sync.ensures.keeps told) (c.find.ensures.same told)
+returns-in-Ok-find-clause-area g c = λ told. opened_area (layout_number c.in-Ok-find.field-0.label.layout) (c.sync.ensures.keeps told) (c.find.ensures.same told)
 
 pub returns-in-Ok-find-clause-usable : goal.returns-in-Ok-find-clause-usable
 returns-in-Ok-find-clause-usable g c = refl
 
 pub returns-in_default-sync-clause-err : goal.returns-in_default-sync-clause-err
 returns-in_default-sync-clause-err g c = c.in_default-sync.ensures.cause.0
+
+pub find-requires : goal.find-requires
+find-requires g c = c.deref_mut.ensures.len ∙ c.in-Ok.ensures.len ∙ c.slot_bytes-bytes.ensures ∙ ap slot_bytes (c.of.ensures ∙ sym (frame_old 0))

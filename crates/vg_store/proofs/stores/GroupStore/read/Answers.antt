@@ -1,5 +1,5 @@
 use Rattle.std.proofs.Common.{◌*◌, arith}
-use Rattle.vg_layout.specs.Fields.{plate}
+use Rattle.vg_layout.specs.Fields.{layout_number, plate}
 use Rattle.vg_meta.specs.Roomy.{table_alone}
 use Rattle.sm_disk.proofs.HeldLaws.{Keeps-same}
 use Rattle.vg_store.proofs.BesideLaws.{beside_kept}
@@ -10,7 +10,7 @@ use Rattle.vg_store.proofs.stores.GroupStore.read.Goals as goal
 pub read_volume-requires-clause-on : goal.read_volume-requires-clause-on
 read_volume-requires-clause-on g c =
     let s = c.args.self.now in
-    extents_on_device (g.D.Disk.size s.disk) s.label.extents s.label.geometry.extent (table_alone s.table) c.args.volume.now c.in-Some.volume.now.row c.extents.result.now
+    extents_on_device (layout_number s.label.layout) (g.D.Disk.size s.disk) s.label.extents s.label.geometry.extent (table_alone s.table) c.args.volume.now c.in-Some.volume.now.row c.extents.result.now
     s.spelled.table s.area c.in-Some.ensures.found.row c.extents.ensures.extents
 
 pub invariant_of-self : goal.invariant_of-self
@@ -23,9 +23,9 @@ invariant_of-self g c =
       room = s.room;
       spelled = s.spelled;
       summed = s.summed;
-      rests = λ told usable. rests_still same (no_more-same (c.read_volume.ensures.same told)) (s.rests told usable);
-      stands = λ told. stands_still (g.D.Disk.held s.disk) (g.D.Disk.held c.read_volume.new.disk) (plate s.label) same (no_more-same (c.read_volume.ensures.same told)) (s.stands told);
+      rests = λ told usable. rests_still same (no_more-same (layout_number s.label.layout) (c.read_volume.ensures.same told)) (s.rests told usable);
+      stands = λ told. stands_still (g.D.Disk.held s.disk) (g.D.Disk.held c.read_volume.new.disk) (plate s.label) same (no_more-same (layout_number s.label.layout) (c.read_volume.ensures.same told)) (s.stands told);
     }
 
 pub returns-clause-beside : goal.returns-clause-beside
-returns-clause-beside g c = λ told. beside_kept (c.args.self.now.label.extents * c.args.self.now.label.geometry.extent) (Keeps-same (c.read_volume.ensures.same told))
+returns-clause-beside g c = λ told. beside_kept (layout_number c.args.self.now.label.layout) (c.args.self.now.label.extents * c.args.self.now.label.geometry.extent) (Keeps-same (c.read_volume.ensures.same told))

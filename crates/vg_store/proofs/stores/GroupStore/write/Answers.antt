@@ -1,5 +1,5 @@
 use Rattle.std.proofs.Common.{◌+◌, ◌*◌, arith}
-use Rattle.vg_layout.specs.Fields.{plate}
+use Rattle.vg_layout.specs.Fields.{layout_number, plate}
 use Rattle.vg_layout.specs.Places.{area_place}
 use Rattle.vg_meta.specs.Roomy.{table_alone}
 use Rattle.vg_store.proofs.BesideLaws.{beside_written}
@@ -10,7 +10,7 @@ use Rattle.vg_store.proofs.stores.GroupStore.write.Goals as goal
 pub write_volume-requires-clause-on : goal.write_volume-requires-clause-on
 write_volume-requires-clause-on g c =
     let s = c.args.self.now in
-    extents_on_device (g.D.Disk.size s.disk) s.label.extents s.label.geometry.extent (table_alone s.table) c.args.volume.now c.in-Some.volume.now.row c.extents.result.now
+    extents_on_device (layout_number s.label.layout) (g.D.Disk.size s.disk) s.label.extents s.label.geometry.extent (table_alone s.table) c.args.volume.now c.in-Some.volume.now.row c.extents.result.now
     s.spelled.table s.area c.in-Some.ensures.found.row c.extents.ensures.extents
 
 pub invariant_of-self : goal.invariant_of-self
@@ -30,8 +30,8 @@ invariant_of-self g c =
 pub returns-clause-beside : goal.returns-clause-beside
 returns-clause-beside g c = λ told.
     let s = c.args.self.now in
-    let on = extents_on_device (area_place + s.label.extents * s.label.geometry.extent) s.label.extents s.label.geometry.extent (table_alone s.table) c.args.volume.now c.in-Some.volume.now.row c.extents.result.now
+    let on = extents_on_device (layout_number s.label.layout) (area_place (layout_number s.label.layout) + s.label.extents * s.label.geometry.extent) s.label.extents s.label.geometry.extent (table_alone s.table) c.args.volume.now c.in-Some.volume.now.row c.extents.result.now
     s.spelled.table (omega arith) c.in-Some.ensures.found.row c.extents.ensures.extents
     in
-    beside_written (s.label.extents * s.label.geometry.extent) s.label.geometry.extent c.extents.result.now (g.D.Disk.held s.disk) (g.D.Disk.held c.write_volume.new.disk) on
+    beside_written (layout_number s.label.layout) (s.label.extents * s.label.geometry.extent) s.label.geometry.extent c.extents.result.now (g.D.Disk.held s.disk) (g.D.Disk.held c.write_volume.new.disk) on
     (c.write_volume.ensures.front told) (c.write_volume.ensures.elsewhere told)
