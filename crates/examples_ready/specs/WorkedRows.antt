@@ -36,7 +36,7 @@ sizes = record { extent = 32; block = 8; entries = 64; in_range = sizes_in_range
 
 -- a group of so many extents, and one of 64
 abbrev pub site_of : ℕ → Site
-site_of count = record { geometry = sizes; count = count; identity = replicate 16 9; sectors = 8192 }
+site_of count = record { geometry = sizes; count = count; layout = 0; identity = replicate 16 9; sectors = 8192 }
 
 abbrev pub site : Site
 site = site_of 64

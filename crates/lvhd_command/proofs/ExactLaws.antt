@@ -11,10 +11,10 @@ use Rattle.sm_run.specs.declared.runs.RunFault.{RunFault}
 use Rattle.sm_run.specs.declared.runs.RunFault.TheVariants as run
 use Rattle.sm_standing.specs.Checks.{first_fault}
 use Rattle.sm_standing.specs.Devices.{content_of}
-use Rattle.vg_layout.specs.Opening.{GroupFound, StandsOn, IsRefused, by_label, by_header, by_sum, by_text, plate_of, pointer_of, text_in}
+use Rattle.vg_layout.specs.Opening.{GroupFound, StandsOn, IsRefused, by_label, by_header, by_sum, by_text, grammar_of, plate_of, pointer_of, text_in, version_of}
 use Rattle.vg_layout.specs.Sectors.{Plate, Pointer}
 use Rattle.vg_layout.proofs.StandingLaws.{plate_few}
-use Rattle.vg_meta.specs.Reading.{IsDamagedAt}
+use Rattle.vg_meta.specs.Reading.{IsDamagedBy}
 use Rattle.lvhd_command.proofs.DamagedOnce.{damaged_once}
 use Rattle.lvhd_command.proofs.SoundText.{not_damaged}
 use Rattle.lvhd_command.specs.declared.statuses.Status.{Status}
@@ -44,8 +44,8 @@ stands_or_refused size image g _ s (by_text p h place labelled headed summed dam
     let plates : p ≡ g.plate = plate_once size image p g.plate labelled s.labelled in
     let pointers : h ≡ g.pointer = one_pointer image h g.pointer headed s.headed in
     let few = plate_few size image g.plate s.labelled in
-    not_damaged g.plate.count (text_in image g.pointer) g.table place (omega (arith, few)) s.spelled
-    (subst₂ (λ (q : Plate) (k : Pointer). IsDamagedAt q.count (text_in image k) place) plates pointers damaged)
+    not_damaged (grammar_of (version_of image)) g.plate.count (text_in image g.pointer) g.table place (omega (arith, few)) s.spelled
+    (subst₂ (λ (q : Plate) (k : Pointer). IsDamagedBy (grammar_of (version_of image)) q.count (text_in image k) place) plates pointers damaged)
 
 none_found : (size : ℕ) (image : ℕ → List ℕ) (g h : GroupFound) (p : Place) → StandsOn size image g → StandsOn size image h
     → first_fault (content_of g image) ≡ None → first_fault (content_of h image) ≡ Some p → ⊥
@@ -70,11 +70,11 @@ summed_or_not : (image : ℕ → List ℕ) (h k : Pointer) → pointer_of image 
 summed_or_not image h k a b wrong right = wrong (subst (λ (x : Pointer). sum (text_in image x) ≡ x.total) (one_pointer image k h b a) right)
 
 one_text : (size : ℕ) (image : ℕ → List ℕ) (p q : Plate) (h k : Pointer) (a b : ℕ) → plate_of size image ≡ Ok p → plate_of size image ≡ Ok q → pointer_of image ≡ Ok h → pointer_of image ≡ Ok k
-    → IsDamagedAt p.count (text_in image h) a → IsDamagedAt q.count (text_in image k) b → a ≡ b
+    → IsDamagedBy (grammar_of (version_of image)) p.count (text_in image h) a → IsDamagedBy (grammar_of (version_of image)) q.count (text_in image k) b → a ≡ b
 one_text size image p q h k a b is_p is_q is_h is_k one other =
     let few = plate_few size image q is_q in
-    damaged_once q.count (text_in image k) a b (omega (arith, few))
-    (subst₂ (λ (x : Plate) (y : Pointer). IsDamagedAt x.count (text_in image y) a) (plate_once size image p q is_p is_q) (one_pointer image h k is_h is_k) one) other
+    damaged_once (grammar_of (version_of image)) q.count (text_in image k) a b (omega (arith, few))
+    (subst₂ (λ (x : Plate) (y : Pointer). IsDamagedBy (grammar_of (version_of image)) x.count (text_in image y) a) (plate_once size image p q is_p is_q) (one_pointer image h k is_h is_k) one) other
 
 group_once : (size : ℕ) (image : ℕ → List ℕ) (e f : OpenFault) → IsRefused size image e → IsRefused size image f → e ≡ f
 group_once size image _ _ (by_label e a) (by_label f b) = one_plate size image e f a b

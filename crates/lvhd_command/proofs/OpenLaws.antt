@@ -32,9 +32,9 @@ use Rattle.lvhd_command.specs.Running.{IsLeftBefore, ShowsNothingNew}
 
 -- ---- a group on an image
 
--- the sectors of the extents of an image
-abbrev pub extents_in : (ℕ → List ℕ) → ℕ → List ℕ
-extents_in image q = image (area_place + q)
+-- the sectors of the extents of an image, by a layout
+abbrev pub extents_in : ℕ → (ℕ → List ℕ) → ℕ → List ℕ
+extents_in layout image q = image (area_place layout + q)
 
 -- the sizes and the number of a site, with this pointer and table
 abbrev pub standing : Site → Pointer → VolumeTable → GroupFound
@@ -65,28 +65,28 @@ shown_standing size m site at t ds stands s = s.shown ∙ ap disks (content_once
 abbrev pub StandsAlways : ℕ → Held → Site → Type 0
 StandsAlways size h site = (image : ℕ → List ℕ) → Allows size h image → GroupStands size image (plate_at site)
 
-pub left_of : (size : ℕ) (h : Held) (site : Site) (image : ℕ → List ℕ) → Allows size h image → (s : GroupStands size image (plate_at site)) → LeavesGroup size h (plate_at site) s.table (extents_in image)
+pub left_of : (size : ℕ) (h : Held) (site : Site) (image : ℕ → List ℕ) → Allows size h image → (s : GroupStands size image (plate_at site)) → LeavesGroup size h (plate_at site) s.table (extents_in site.layout image)
 left_of size h site image allowed s = record { whole = image; allowed = allowed; pointer = s.pointer; stands = s.stands; sectors = λ q. refl }
 
 pub kept_device : (size : ℕ) (h : Held) (site : Site) → StandsAlways size h site → KeepsAll site (LeavesGroup size h (plate_at site)) → IsKeptDevice size h
 kept_device size h site always keeps = λ image allowed.
     let s = always image allowed in
-    record { group = standing site s.pointer s.table; stands = s.stands; kept = keeps s.table (extents_in image) (left_of size h site image allowed s) }
+    record { group = standing site s.pointer s.table; stands = s.stands; kept = keeps s.table (extents_in site.layout image) (left_of size h site image allowed s) }
 
 pub shown_device : (size : ℕ) (h : Held) (site : Site) (ds : List Disk) → StandsAlways size h site → MayShowOn size h ds → MayShow site (LeavesGroup size h (plate_at site)) ds
 shown_device size h site ds always m =
     let s = always m.image m.allowed in
-    record { table = s.table; image = extents_in m.image; left = left_of size h site m.image m.allowed s; shown = shown_standing size m.image site s.pointer s.table ds s.stands m.shows }
+    record { table = s.table; image = extents_in site.layout m.image; left = left_of size h site m.image m.allowed s; shown = shown_standing size m.image site s.pointer s.table ds s.stands m.shows }
 
 -- ---- what stands as a read gives it at the entry
 
 -- the extents read as they did
-content_entry : (s : Site) (t : VolumeTable) (h now : Held) → Keeps (area_of h) (area_of now) → content_now s t (area_of now) ≡ content_in s t (extents_in (reads h))
+content_entry : (s : Site) (t : VolumeTable) (h now : Held) → Keeps (area_of s.layout h) (area_of s.layout now) → content_now s t (area_of s.layout now) ≡ content_in s t (extents_in s.layout (reads h))
 content_entry s t h now k = ap (content_in s t) (fun_ext (λ q. k.reads q))
 
 -- what no opening tests holds of the content where it holds on the device
-pub well_entry : (size : ℕ) (h now : Held) (site : Site) (at : Pointer) (t : VolumeTable) → Keeps (area_of h) (area_of now) → StandsOn size (reads h) (standing site at t)
-    → HoldsWellOn size (reads h) → HoldsWell (content_now site t (area_of now))
+pub well_entry : (size : ℕ) (h now : Held) (site : Site) (at : Pointer) (t : VolumeTable) → Keeps (area_of site.layout h) (area_of site.layout now) → StandsOn size (reads h) (standing site at t)
+    → HoldsWellOn size (reads h) → HoldsWell (content_now site t (area_of site.layout now))
 well_entry size h now site at t k stands holding = subst HoldsWell (sym (content_entry site t h now k)) (holding (standing site at t) stands)
 
 -- and it holds on a device that is kept
@@ -102,20 +102,20 @@ kept_sound size h kept =
     let k = kept (reads h) (Allows-reads size h) in
     record { group = k.group; stands = k.stands; sound = k.kept.sound }
 
-pub sound_entry : (size : ℕ) (h now : Held) (site : Site) (at : Pointer) (t : VolumeTable) → Keeps (area_of h) (area_of now) → StandsOn size (reads h) (standing site at t)
-    → first_fault (content_now site t (area_of now)) ≡ None → IsSoundOn size (reads h)
+pub sound_entry : (size : ℕ) (h now : Held) (site : Site) (at : Pointer) (t : VolumeTable) → Keeps (area_of site.layout h) (area_of site.layout now) → StandsOn size (reads h) (standing site at t)
+    → first_fault (content_now site t (area_of site.layout now)) ≡ None → IsSoundOn size (reads h)
 sound_entry size h now site at t k stands sound = record {
   group = standing site at t;
   stands = stands;
   sound = sym (ap first_fault (content_entry site t h now k)) ∙ sound;
 }
 
-pub shown_entry : (size : ℕ) (h now : Held) (site : Site) (at : Pointer) (t : VolumeTable) (ds : List Disk) → Keeps (area_of h) (area_of now) → StandsOn size (reads h) (standing site at t)
-    → ds ≡ disks (content_now site t (area_of now)) → Shows size (reads h) ds
+pub shown_entry : (size : ℕ) (h now : Held) (site : Site) (at : Pointer) (t : VolumeTable) (ds : List Disk) → Keeps (area_of site.layout h) (area_of site.layout now) → StandsOn size (reads h) (standing site at t)
+    → ds ≡ disks (content_now site t (area_of site.layout now)) → Shows size (reads h) ds
 shown_entry size h now site at t ds k stands shown = record { group = standing site at t; stands = stands; shown = shown ∙ ap disks (content_entry site t h now k) }
 
-pub opened_entry : (size : ℕ) (h now : Held) (site : Site) (at : Pointer) (t : VolumeTable) (made : Shape) → Keeps (area_of h) (area_of now) → StandsOn size (reads h) (standing site at t)
-    → made ≡ opened (content_now site t (area_of now)) → IsOpenedOn size (reads h) made
+pub opened_entry : (size : ℕ) (h now : Held) (site : Site) (at : Pointer) (t : VolumeTable) (made : Shape) → Keeps (area_of site.layout h) (area_of site.layout now) → StandsOn size (reads h) (standing site at t)
+    → made ≡ opened (content_now site t (area_of site.layout now)) → IsOpenedOn size (reads h) made
 opened_entry size h now site at t made k stands is = record { group = standing site at t; stands = stands; shape_is = is ∙ ap opened (content_entry site t h now k) }
 
 -- ---- refusals
@@ -128,8 +128,8 @@ answer_as P Q before now fault.Device h a = a
 answer_as P Q before now fault.NoMemory h a = a
 
 pub refused_content : (told : Type 0) (size : ℕ) (h now : Held) (site : Site) (at : Pointer) (t : VolumeTable) (first before after : ℕ) (e : OpenFault) → before ≡ first → (e ≢ fault.Device → after ≡ before)
-    → (told → Keeps (area_of h) (area_of now)) → (told → StandsOn size (reads h) (standing site at t))
-    → IsOpeningStopped told (content_now site t (area_of now)) before after e → IsAnswer (λ f. told → IsRefusedOn size (reads h) f) first after e
+    → (told → Keeps (area_of site.layout h) (area_of site.layout now)) → (told → StandsOn size (reads h) (standing site at t))
+    → IsOpeningStopped told (content_now site t (area_of site.layout now)) before after e → IsAnswer (λ f. told → IsRefusedOn size (reads h) f) first after e
 refused_content told size h now site at t first before after (fault.Damaged p) before_is calm k stands is =
     (λ it. by_content (standing site at t) p (stands it) (sym (ap first_fault (content_entry site t h now (k it))) ∙ is it), calm (λ failed. absurd cc) ∙ before_is)
 refused_content told size h now site at t first before after fault.Device before_is calm k stands is = omega (arith, before_is, is)
@@ -155,9 +155,9 @@ failed_kept size entry h site old t image k kept (inl was) =
 failed_kept size entry h site old t image k kept (inr new) = new.sound
 
 -- an image on which the group is as what it leaves says was left before, or shows the disks of the entry
-failed_shown : (size : ℕ) (entry h : Held) (site : Site) (at now : Pointer) (first t : VolumeTable) (image : ℕ → List ℕ) → Keeps entry h → Keeps (area_of entry) (area_of h)
+failed_shown : (size : ℕ) (entry h : Held) (site : Site) (at now : Pointer) (first t : VolumeTable) (image : ℕ → List ℕ) → Keeps entry h → Keeps (area_of site.layout entry) (area_of site.layout h)
     → StandsOn size (reads entry) (standing site at first) → StandsOn size image (standing site now t)
-    → LeavesGroup size h (plate_at site) t (extents_in image) ⊎ IsRepairedFrom (content_now site first (area_of h)) (content_in site t (extents_in image))
+    → LeavesGroup size h (plate_at site) t (extents_in site.layout image) ⊎ IsRepairedFrom (content_now site first (area_of site.layout h)) (content_in site t (extents_in site.layout image))
     → IsLeftBefore size entry image ⊎ ((ds : List Disk) → Shows size image ds → Shows size (reads entry) ds)
 failed_shown size entry h site at now first t image k ka stands here (inl was) = inl (record {
   before = was.whole;
@@ -165,7 +165,7 @@ failed_shown size entry h site at now first t image k ka stands here (inl was) =
   same = λ g on. (
     standing site was.pointer t,
     was.stands,
-    sym (same_extents size h site t (extents_in image) was) ∙ content_once size image g (standing site now t) on here,
+    sym (same_extents size h site t (extents_in site.layout image) was) ∙ content_once size image g (standing site now t) on here,
   );
 })
 failed_shown size entry h site at now first t image k ka stands here (inr new) = inr (λ ds s.
@@ -174,26 +174,27 @@ failed_shown size entry h site at now first t image k ka stands here (inr new) =
 -- whatever a stop leaves of the group is what it might have left at the entry, or the repository under repair
 abbrev pub LeavesRepaired : ℕ → Held → Held → Site → Site → VolumeTable → Type 0
 LeavesRepaired size h last site now first = (t : VolumeTable) (image : ℕ → List ℕ) → LeavesGroup size last (plate_at now) t image
-    → LeavesGroup size h (plate_at site) t image ⊎ IsRepairedFrom (content_now site first (area_of h)) (content_in site t image)
+    → LeavesGroup size h (plate_at site) t image ⊎ IsRepairedFrom (content_now site first (area_of site.layout h)) (content_in site t image)
 
 pub kept_back : (size : ℕ) (entry h last : Held) (site now : Site) (first : VolumeTable) → now ≡ site → Keeps entry h → StandsAlways size last now
     → LeavesRepaired size h last site now first → IsKeptDevice size entry → IsKeptDevice size last
 kept_back size entry h last site now first same k always left kept =
     kept_device size last now always (λ t image l. subst (λ (x : Site). IsKept (content_in x t image)) (sym same)
-    (failed_kept size entry h site (content_now site first (area_of h)) t image k kept (left t image l)))
+    (failed_kept size entry h site (content_now site first (area_of site.layout h)) t image k kept (left t image l)))
 
-pub shown_back : (size : ℕ) (entry h last : Held) (site now : Site) (at : Pointer) (first : VolumeTable) → now ≡ site → Keeps entry h → Keeps (area_of entry) (area_of h)
+pub shown_back : (size : ℕ) (entry h last : Held) (site now : Site) (at : Pointer) (first : VolumeTable) → now ≡ site → Keeps entry h → Keeps (area_of site.layout entry) (area_of site.layout h)
     → StandsOn size (reads entry) (standing site at first) → StandsAlways size last now → LeavesRepaired size h last site now first
     → ShowsNothingNew size entry last
 shown_back size entry h last site now at first same k ka stands always left = λ image allowed.
     let s = always image allowed in
     failed_shown size entry h site at s.pointer first s.table image k ka stands
     (subst (λ (x : Site). StandsOn size image (standing x s.pointer s.table)) same s.stands)
-    (left s.table (extents_in image) (left_of size last now image allowed s))
+    (subst (λ (x : Site). LeavesGroup size h (plate_at site) s.table (extents_in x.layout image) ⊎ IsRepairedFrom (content_now site first (area_of site.layout h)) (content_in site s.table (extents_in x.layout image))) same
+    (left s.table (extents_in now.layout image) (left_of size last now image allowed s)))
 
 -- the same, where each side tells the size of its device, and what no opening tests held
-pub repaired_sized : (size before after : ℕ) (h last : Held) (site now : Site) (first : VolumeTable) → before ≡ size → after ≡ size → HoldsWell (content_now site first (area_of h))
-    → ((t : VolumeTable) (image : ℕ → List ℕ) → LeavesGroup after last (plate_at now) t image → LeavesGroup before h (plate_at site) t image ⊎ MayBeRepairedFrom (content_now site first (area_of h)) (content_in site t image))
+pub repaired_sized : (size before after : ℕ) (h last : Held) (site now : Site) (first : VolumeTable) → before ≡ size → after ≡ size → HoldsWell (content_now site first (area_of site.layout h))
+    → ((t : VolumeTable) (image : ℕ → List ℕ) → LeavesGroup after last (plate_at now) t image → LeavesGroup before h (plate_at site) t image ⊎ MayBeRepairedFrom (content_now site first (area_of site.layout h)) (content_in site t image))
     → LeavesRepaired size h last site now first
 repaired_sized size before after h last site now first is_before is_after holding left = λ t image l.
     ⊎_elim (λ was. inl (subst (λ n. LeavesGroup n h (plate_at site) t image) is_before was)) (λ new. inr (new.repaired holding))

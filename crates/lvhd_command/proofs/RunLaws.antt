@@ -75,19 +75,19 @@ session_state site t area m o tidy ready = record { state = law_state site t are
 abbrev pub IsOneTable : ℕ → Site → Held → VolumeTable → Type 0
 IsOneTable size site after t = (u : VolumeTable) (image : ℕ → List ℕ) → LeavesGroup size after (plate_at site) u image → u ≡ t
 
-pub reads_as : (size : ℕ) (site : Site) (held after : Held) (t : VolumeTable) (σ : State) → IsGivenBack size site held after → IsOneTable size site after t → IsStateWith site t (area_of held) σ
+pub reads_as : (size : ℕ) (site : Site) (held after : Held) (t : VolumeTable) (σ : State) → IsGivenBack size site held after → IsOneTable size site after t → IsStateWith site t (area_of site.layout held) σ
     → ReadsAsState size after σ
 reads_as size site held after t σ back one with =
     let state = with.state in
     let s = back.stands (reads after) (Allows-reads size after) in
-    let left : LeavesGroup size after (plate_at site) s.table (extents_in (reads after)) = record { whole = reads after; allowed = Allows-reads size after; pointer = s.pointer; stands = s.stands; sectors = λ q. refl } in
-    let content : content_now site t (area_of held) ≡ content_of (standing site s.pointer s.table) (reads after)
-    = ap₂ (λ (u : VolumeTable) (image : ℕ → List ℕ). content_in site u image) (sym (one s.table (extents_in (reads after)) left)) (fun_ext (λ q. sym (back.extents.reads q))) in
+    let left : LeavesGroup size after (plate_at site) s.table (extents_in site.layout (reads after)) = record { whole = reads after; allowed = Allows-reads size after; pointer = s.pointer; stands = s.stands; sectors = λ q. refl } in
+    let content : content_now site t (area_of site.layout held) ≡ content_of (standing site s.pointer s.table) (reads after)
+    = ap₂ (λ (u : VolumeTable) (image : ℕ → List ℕ). content_in site u image) (sym (one s.table (extents_in site.layout (reads after)) left)) (fun_ext (λ q. sym (back.extents.reads q))) in
     record {
       group = standing site s.pointer s.table;
       stands = s.stands;
       state = subst (λ c. IsStateOf c σ) content state;
-      entries = subst (λ (u : VolumeTable). names_in u is_entry ≡ entry_of σ.shape.op) (sym (one s.table (extents_in (reads after)) left)) with.entries;
+      entries = subst (λ (u : VolumeTable). names_in u is_entry ≡ entry_of σ.shape.op) (sym (one s.table (extents_in site.layout (reads after)) left)) with.entries;
     }
 
 -- ---- the whole
@@ -95,7 +95,7 @@ reads_as size site held after t σ back one with =
 pub has_run : (s : RunSides) (status : Status) (site : Site) (t : VolumeTable) (held : Held) (start end : State) (result : Result ⊤ RunFault) (Ready : Type 0)
     → IsSoundOn s.size (reads s.old) → Shows s.size (reads s.old) start.disks → IsOpenedOn s.size (reads s.old) start.shape
     → HasRun start end result s.had_left s.left s.had_got s.got (MayShow site (LeavesGroup s.size held (plate_at site))) Ready (KeepsAll site (LeavesGroup s.size held (plate_at site)))
-    → IsGivenBack s.size site held s.new → (Ready → IsOneTable s.size site s.new t) → (Ready → IsStateWith site t (area_of held) end) → EndsAs result s.size s.new end status
+    → IsGivenBack s.size site held s.new → (Ready → IsOneTable s.size site s.new t) → (Ready → IsStateWith site t (area_of site.layout held) end) → EndsAs result s.size s.new end status
     → plate_of s.size (reads s.old) ≡ Ok (plate_at site) → HasRunOn s status
 has_run s status site t held start end result Ready sound shown opened run back one state ends labelled =
     let always = back.stands in
@@ -131,30 +131,30 @@ pub kept_back_after : (size : ℕ) (site : Site) (held after : Held) → Keeps h
 kept_back_after size site held after k always = record {
   stands = λ image allowed. always image (Allows-keeps size image k allowed);
   fewer = λ t image l. fewer_after size site held after t image k l;
-  extents = record { reads = λ q. k.reads (area_place + q); may = λ q v m. k.may (area_place + q) v m };
+  extents = record { reads = λ q. k.reads (area_place site.layout + q); may = λ q v m. k.may (area_place site.layout + q) v m };
 }
 
 pub one_after : (size : ℕ) (site : Site) (held after : Held) (t : VolumeTable) → Keeps held after → IsOneTable size site held t → IsOneTable size site after t
 one_after size site held after t k one = λ u image l. one u image (fewer_after size site held after u image k l)
 
 -- where nothing is pending then, a stop of the device shows the disks that a read of the session gave
-pub shown_settled : (size : ℕ) (site : Site) (t : VolumeTable) (held after : Held) (m : Known) → area_place + area_size site ≤ size → IsOrderly site t m → IsReady site t (area_of held) m
-    → Keeps held after → IsSettled after → IsGivenBack size site held after → IsOneTable size site after t → ShowsOnly size after (disks (content_now site t (area_of held)))
+pub shown_settled : (size : ℕ) (site : Site) (t : VolumeTable) (held after : Held) (m : Known) → area_place site.layout + area_size site ≤ size → IsOrderly site t m → IsReady site t (area_of site.layout held) m
+    → Keeps held after → IsSettled after → IsGivenBack size site held after → IsOneTable size site after t → ShowsOnly size after (disks (content_now site t (area_of site.layout held)))
 shown_settled size site t held after m room o ready k settled back one = λ es on.
     let s = back.stands on.image on.allowed in
-    let left : LeavesGroup size after (plate_at site) s.table (extents_in on.image) = record { whole = on.image; allowed = on.allowed; pointer = s.pointer; stands = s.stands; sectors = λ q. refl } in
-    let area_settled : IsSettled (area_of after) = λ q. settled (area_place + q) in
-    let still = ready_synced site t (area_of held) (area_of after) m ready back.extents area_settled in
-    let is = (same_left site t (area_of after) m (extents_in on.image) o still area_settled (λ q below. on.allowed (area_place + q) (omega (arith, room, below)))).same_disks in
+    let left : LeavesGroup size after (plate_at site) s.table (extents_in site.layout on.image) = record { whole = on.image; allowed = on.allowed; pointer = s.pointer; stands = s.stands; sectors = λ q. refl } in
+    let area_settled : IsSettled (area_of site.layout after) = λ q. settled (area_place site.layout + q) in
+    let still = ready_synced site t (area_of site.layout held) (area_of site.layout after) m ready back.extents area_settled in
+    let is = (same_left site t (area_of site.layout after) m (extents_in site.layout on.image) o still area_settled (λ q below. on.allowed (area_place site.layout + q) (omega (arith, room, below)))).same_disks in
     shown_standing size on.image site s.pointer s.table es s.stands on.shows
-    ∙ ap (λ (u : VolumeTable). disks (content_in site u (extents_in on.image))) (one s.table (extents_in on.image) left) ∙ is
+    ∙ ap (λ (u : VolumeTable). disks (content_in site u (extents_in site.layout on.image))) (one s.table (extents_in site.layout on.image) left) ∙ is
     ∙ ap (λ (image : ℕ → List ℕ). disks (content_in site t image)) (fun_ext (λ q. back.extents.reads q))
 
 -- the same, where the session tells the size of its device, and of what a stop may leave more than the group does
 pub has_run_sized : (s : RunSides) (status : Status) (other : ℕ) (site : Site) (t : VolumeTable) (held : Held) (start end : State) (result : Result ⊤ RunFault) (Ready told : Type 0) (failed : Bool) → other ≡ s.size
     → IsSoundOn s.size (reads s.old) → Shows s.size (reads s.old) start.disks → IsOpenedOn s.size (reads s.old) start.shape
-    → HasRun start end result s.had_left s.left s.had_got s.got (MayShow site (Left told site (LeavesGroup other held (plate_at site)) failed t (area_of held))) Ready (KeepsAll site (Left told site (LeavesGroup other held (plate_at site)) failed t (area_of held)))
-    → IsGivenBack other site held s.new → (Ready → IsOneTable other site s.new t) → (Ready → IsStateWith site t (area_of held) end) → EndsAs result s.size s.new end status
+    → HasRun start end result s.had_left s.left s.had_got s.got (MayShow site (Left told site (LeavesGroup other held (plate_at site)) failed t (area_of site.layout held))) Ready (KeepsAll site (Left told site (LeavesGroup other held (plate_at site)) failed t (area_of site.layout held)))
+    → IsGivenBack other site held s.new → (Ready → IsOneTable other site s.new t) → (Ready → IsStateWith site t (area_of site.layout held) end) → EndsAs result s.size s.new end status
     → plate_of s.size (reads s.old) ≡ Ok (plate_at site) → HasRunOn s status
 has_run_sized s status other site t held start end result Ready told failed is_size sound shown opened run back one state ends labelled =
     let leaves = LeavesGroup other held (plate_at site) in

@@ -6,6 +6,7 @@ use Rattle.sm_base.specs.declared.faults.Place.{Place}
 use Rattle.sm_disk.specs.Held.{Held, Allows}
 use Rattle.sm_machine.specs.Disks.{Disk}
 use Rattle.vg_layout.specs.Opening.{GroupFound, StandsOn, IsRefused}
+use Rattle.vg_layout.specs.Fields.{layout_number}
 use Rattle.vg_layout.specs.Sectors.{Plate}
 use Rattle.vg_layout.specs.declared.labels.GroupLabel.{GroupLabel}
 use Rattle.vg_meta.specs.Tables.{VolumeTable}
@@ -51,12 +52,12 @@ pub data IsRefusedOn (size : ℕ) (image : ℕ → List ℕ) : OpenFault → Typ
 
 -- what never changes of the group with this label on a device of so many sectors
 abbrev pub site_on : GroupLabel → ℕ → Site
-site_on l size = record { geometry = l.geometry; count = l.extents; identity = l.repository; sectors = size }
+site_on l size = record { geometry = l.geometry; count = l.extents; layout = layout_number l.layout; identity = l.repository; sectors = size }
 
 -- what the label of such a group says
 abbrev pub plate_at : Site → Plate
-plate_at s = record { extent = s.geometry.extent; block = s.geometry.block; entries = s.geometry.entries; count = s.count; identity = s.identity }
+plate_at s = record { extent = s.geometry.extent; block = s.geometry.block; entries = s.geometry.entries; count = s.count; layout = s.layout; identity = s.identity }
 
 -- what a stop may leave of a group on this device: a table, and the sectors of the extents
 abbrev pub group_leaves : Type 0 → ℕ → Held → GroupLabel → Bool → VolumeTable → Leaving
-group_leaves told size h l failed t = Left told (site_on l size) (LeavesGroup size h (plate_at (site_on l size))) failed t (area_of h)
+group_leaves told size h l failed t = Left told (site_on l size) (LeavesGroup size h (plate_at (site_on l size))) failed t (area_of (layout_number l.layout) h)

@@ -113,7 +113,7 @@ HasSaid s TooLong = ⊥
 pub record IsGivenBack (size : ℕ) (site : Site) (held after : Held) : Type 0 where
   pub stands : (image : ℕ → List ℕ) → Allows size after image → GroupStands size image (plate_at site)
   pub fewer : (t : VolumeTable) (image : ℕ → List ℕ) → LeavesGroup size after (plate_at site) t image → LeavesGroup size held (plate_at site) t image
-  pub extents : Keeps (area_of held) (area_of after)
+  pub extents : Keeps (area_of site.layout held) (area_of site.layout after)
 
 -- A stop could have left, at the entry, an image on which the group has the same table and the same extents.
 pub record IsLeftBefore (size : ℕ) (old : Held) (image : ℕ → List ℕ) : Type 0 where
@@ -129,7 +129,7 @@ ShowsNothingNew size old new = (image : ℕ → List ℕ) → Allows size new im
 -- of each place that is no part of the group that stood at the entry a read gives the same, and a stop leaves nothing new
 abbrev pub KeepsBeside : ℕ → Held → Held → Type 0
 KeepsBeside size old new = (p : Plate) → plate_of size (reads old) ≡ Ok p
-    → Keeps (beside_of (p.count * p.extent) old) (beside_of (p.count * p.extent) new)
+    → Keeps (beside_of p.layout (p.count * p.extent) old) (beside_of p.layout (p.count * p.extent) new)
 
 -- the repository was not opened: nothing was read of the source, a stop shows nothing new, and unless a call of the device
 -- failed nothing was written

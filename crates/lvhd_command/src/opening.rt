@@ -8,7 +8,7 @@ ghost use Rattle.sm_standing.specs.Devices.{Shows};
 ghost use Rattle.sm_standing.specs.Standing.{disks};
 ghost use Rattle.vg_meta.specs.Roomy.{table_alone};
 ghost use Rattle.vg_meta.specs.Tables.{VolumeTable};
-ghost use Rattle.vg_layout.specs.Fields.{plate, pointer};
+ghost use Rattle.vg_layout.specs.Fields.{layout_number, plate, pointer};
 ghost use Rattle.vg_layout.specs.Opening.{IsRefused, StandsOn, plate_of};
 ghost use Rattle.vg_volumes.specs.Commits.{IsBefore};
 ghost use Rattle.vg_store.specs.Groups.{GroupStands, LeavesGroup, area_of};
@@ -51,9 +51,9 @@ pub fn open<D: Disk>(
     ensures now { IfOk result (λ s. s.now ≡ now) }
     ensures sound { IfOk result (λ s. D.told → IsSoundOn (D.size disk) (reads (D.held disk))) }
     ensures ready { IfOk result (λ s. D.told → HoldsWellOn (D.size disk) (reads (D.held disk))
-        → IsReady (site_on s.store.inner.label (D.size s.store.inner.disk)) (table_alone s.store.inner.table) (area_of (D.held s.store.inner.disk)) (known s.memory)) }
+        → IsReady (site_on s.store.inner.label (D.size s.store.inner.disk)) (table_alone s.store.inner.table) (area_of (layout_number s.store.inner.label.layout) (D.held s.store.inner.disk)) (known s.memory)) }
     ensures shown { IfOk result (λ s. D.told → HoldsWellOn (D.size disk) (reads (D.held disk))
-        → Shows (D.size disk) (reads (D.held disk)) (disks (content_now (site_on s.store.inner.label (D.size s.store.inner.disk)) (table_alone s.store.inner.table) (area_of (D.held s.store.inner.disk))))) }
+        → Shows (D.size disk) (reads (D.held disk)) (disks (content_now (site_on s.store.inner.label (D.size s.store.inner.disk)) (table_alone s.store.inner.table) (area_of (layout_number s.store.inner.label.layout) (D.held s.store.inner.disk))))) }
     ensures opened { IfOk result (λ s. D.told → HoldsWellOn (D.size disk) (reads (D.held disk))
         → IsOpenedOn (D.size disk) (reads (D.held disk)) (shape_in (site_on s.store.inner.label (D.size s.store.inner.disk)) (table_alone s.store.inner.table) (known s.memory))) }
     ensures label { IfOk result (λ s. D.told → plate_of (D.size disk) (reads (D.held disk)) ≡ Ok (plate_at (site_on s.store.inner.label (D.size s.store.inner.disk)))) }
@@ -61,7 +61,7 @@ pub fn open<D: Disk>(
         → KeepsAll (site_on s.store.inner.label (D.size s.store.inner.disk))
         (group_leaves D.told (D.size s.store.inner.disk) (D.held s.store.inner.disk) s.store.inner.label s.store.inner.failed (table_alone s.store.inner.table))) }
     ensures begins { IfOk result (λ s. D.told → HoldsWellOn (D.size disk) (reads (D.held disk))
-        → BeginsSettled (state_in (site_on s.store.inner.label (D.size s.store.inner.disk)) (table_alone s.store.inner.table) (area_of (D.held s.store.inner.disk)) (known s.memory))
+        → BeginsSettled (state_in (site_on s.store.inner.label (D.size s.store.inner.disk)) (table_alone s.store.inner.table) (area_of (layout_number s.store.inner.label.layout) (D.held s.store.inner.disk)) (known s.memory))
         (MayShow (site_on s.store.inner.label (D.size s.store.inner.disk)) (group_leaves D.told (D.size s.store.inner.disk) (D.held s.store.inner.disk) s.store.inner.label s.store.inner.failed (table_alone s.store.inner.table)))) }
     ensures beside { IfOk result (λ s. D.told → KeepsBeside (D.size disk) (D.held disk) (D.held s.store.inner.disk)) }
     ensures size_back { IfErr result (λ e. D.size e.1 ≡ D.size disk) }
@@ -94,7 +94,7 @@ fn open_group<D: Disk>(alloc: Global, disk: D) -> Result<Cache<Group<D>>, (OpenF
     ensures size { IfOk result (λ c. D.size c.inner.disk ≡ D.size disk) }
     ensures calm { IfOk result (λ c. D.faults c.inner.disk ≡ D.faults disk) }
     ensures keeps { IfOk result (λ c. D.told → Keeps (D.held disk) (D.held c.inner.disk)) }
-    ensures area { IfOk result (λ c. D.told → Keeps (area_of (D.held disk)) (area_of (D.held c.inner.disk))) }
+    ensures area { IfOk result (λ c. D.told → Keeps (area_of (layout_number c.inner.label.layout) (D.held disk)) (area_of (layout_number c.inner.label.layout) (D.held c.inner.disk))) }
     ensures settled { IfOk result (λ c. D.told → IsSettled (D.held c.inner.disk)) }
     ensures usable { IfOk result (λ c. c.inner.failed ≡ false) }
     ensures stands { IfOk result (λ c. D.told → StandsOn (D.size disk) (reads (D.held disk))
@@ -119,7 +119,7 @@ pub(crate) fn into_disk<D: Disk>(cache: Cache<Group<D>>) -> D
     ensures disk { result ≡ cache.inner.disk }
     ensures leaves { D.told → cache.inner.failed ≡ false → (t : VolumeTable) (image : ℕ → List ℕ)
         → LeavesGroup (D.size result) (D.held result) (plate cache.inner.label) t image
-        → IsBefore (cache.inner.label.extents * cache.inner.label.geometry.extent) (table_alone cache.inner.table) (area_of (D.held result)) t image }
+        → IsBefore (cache.inner.label.extents * cache.inner.label.geometry.extent) (table_alone cache.inner.table) (area_of (layout_number cache.inner.label.layout) (D.held result)) t image }
     ensures stands { D.told → (image : ℕ → List ℕ) → Allows (D.size result) (D.held result) image → GroupStands (D.size result) image (plate cache.inner.label) }
 {
     cache.into_inner().into_disk()

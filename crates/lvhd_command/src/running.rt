@@ -7,7 +7,7 @@ ghost use Rattle.sm_ready.specs.Known.{known};
 ghost use Rattle.sm_ready.specs.Ready.{IsReady};
 ghost use Rattle.sm_ready.specs.Stores.{content_now};
 ghost use Rattle.sm_standing.specs.Standing.{disks};
-ghost use Rattle.vg_layout.specs.Fields.{plate};
+ghost use Rattle.vg_layout.specs.Fields.{layout_number, plate};
 ghost use Rattle.vg_meta.specs.Roomy.{table_alone};
 ghost use Rattle.vg_meta.specs.Tables.{VolumeTable};
 ghost use Rattle.vg_store.specs.Groups.{GroupStands, LeavesGroup, area_of};
@@ -113,8 +113,8 @@ pub(crate) fn close<D: Disk>(session: Session<Cache<Group<D>>>) -> (Status, D)
     ensures keeps { D.told → Keeps (D.held session.store.inner.disk) (D.held result.1) }
     ensures back { D.told → IsGivenBack (D.size session.store.inner.disk) (site_on session.store.inner.label (D.size session.store.inner.disk)) (D.held session.store.inner.disk) (D.held result.1) }
     ensures one { D.told → session.broken ≡ false → (t : VolumeTable) (image : ℕ → List ℕ) → LeavesGroup (D.size session.store.inner.disk) (D.held result.1) (plate session.store.inner.label) t image → t ≡ table_alone session.store.inner.table }
-    ensures shown { D.told → session.broken ≡ false → IsReady (site_on session.store.inner.label (D.size session.store.inner.disk)) (table_alone session.store.inner.table) (area_of (D.held session.store.inner.disk)) (known session.memory)
-        → IsSettled (D.held result.1) → ShowsOnly (D.size session.store.inner.disk) (D.held result.1) (disks (content_now (site_on session.store.inner.label (D.size session.store.inner.disk)) (table_alone session.store.inner.table) (area_of (D.held session.store.inner.disk)))) }
+    ensures shown { D.told → session.broken ≡ false → IsReady (site_on session.store.inner.label (D.size session.store.inner.disk)) (table_alone session.store.inner.table) (area_of (layout_number session.store.inner.label.layout) (D.held session.store.inner.disk)) (known session.memory)
+        → IsSettled (D.held result.1) → ShowsOnly (D.size session.store.inner.disk) (D.held result.1) (disks (content_now (site_on session.store.inner.label (D.size session.store.inner.disk)) (table_alone session.store.inner.table) (area_of (layout_number session.store.inner.label.layout) (D.held session.store.inner.disk)))) }
 {
     let mut disk = leave(session);
     match disk.sync() {

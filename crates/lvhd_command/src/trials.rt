@@ -8,6 +8,7 @@ ghost use Rattle.sm_ready.specs.Sessions.{KeepsAll, state_in};
 ghost use Rattle.sm_base.specs.declared.faults.CallFault.TheVariants as fault;
 ghost use Rattle.sm_script.specs.Pieces.{Writes};
 ghost use Rattle.vg_meta.specs.Roomy.{table_alone};
+ghost use Rattle.vg_layout.specs.Fields.{layout_number};
 ghost use Rattle.vg_store.specs.Groups.{area_of, beside_of};
 ghost use Rattle.vg_volumes.specs.Sites.{area_size};
 ghost use Rattle.lvhd_command.specs.declared.statuses.Status.TheVariants.{Device, Done, Memory, Sink as SinkFailed, Source, Words};
@@ -99,15 +100,15 @@ fn try_session<D: Disk, K: Sink>(
     ensures calm { result.0 ≢ Device → D.faults result.1 ≡ D.faults session.store.inner.disk }
     ensures sink_calm { result.0 ≢ SinkFailed → K.faults sink.new ≡ K.faults sink.old }
     ensures tried { D.told
-        → IsReady (site_on session.store.inner.label (D.size session.store.inner.disk)) (table_alone session.store.inner.table) (area_of (D.held session.store.inner.disk)) (known session.memory)
+        → IsReady (site_on session.store.inner.label (D.size session.store.inner.disk)) (table_alone session.store.inner.table) (area_of (layout_number session.store.inner.label.layout) (D.held session.store.inner.disk)) (known session.memory)
         → KeepsAll (site_on session.store.inner.label (D.size session.store.inner.disk))
         (group_leaves D.told (D.size session.store.inner.disk) (D.held session.store.inner.disk) session.store.inner.label session.store.inner.failed (table_alone session.store.inner.table))
         → SessionTried (D.size session.store.inner.disk) (D.held result.1) (K.content sink.old) (K.content sink.new)
-        (state_in (site_on session.store.inner.label (D.size session.store.inner.disk)) (table_alone session.store.inner.table) (area_of (D.held session.store.inner.disk)) (known session.memory)) number result.0 }
+        (state_in (site_on session.store.inner.label (D.size session.store.inner.disk)) (table_alone session.store.inner.table) (area_of (layout_number session.store.inner.label.layout) (D.held session.store.inner.disk)) (known session.memory)) number result.0 }
     ensures label { D.told → result.0 ≡ Done → HasPlate (D.size session.store.inner.disk) (D.held result.1)
         (plate_at (site_on session.store.inner.label (D.size session.store.inner.disk))) }
-    ensures beside { D.told → Keeps (beside_of (area_size (site_on session.store.inner.label (D.size session.store.inner.disk))) (D.held session.store.inner.disk))
-        (beside_of (area_size (site_on session.store.inner.label (D.size session.store.inner.disk))) (D.held result.1)) }
+    ensures beside { D.told → Keeps (beside_of (layout_number session.store.inner.label.layout) (area_size (site_on session.store.inner.label (D.size session.store.inner.disk))) (D.held session.store.inner.disk))
+        (beside_of (layout_number session.store.inner.label.layout) (area_size (site_on session.store.inner.label (D.size session.store.inner.disk))) (D.held result.1)) }
 {
     let mut session = session;
     let tally = match try_lines(alloc, &mut session, number) {
@@ -156,11 +157,11 @@ fn say<D: Disk, K: Sink>(
         (group_leaves D.told (D.size session.store.inner.disk) (D.held session.store.inner.disk) session.store.inner.label session.store.inner.failed (table_alone session.store.inner.table))
         → IsKeptDevice (D.size session.store.inner.disk) (D.held result.1) }
     ensures rests { D.told
-        → IsReady (site_on session.store.inner.label (D.size session.store.inner.disk)) (table_alone session.store.inner.table) (area_of (D.held session.store.inner.disk)) (known session.memory)
+        → IsReady (site_on session.store.inner.label (D.size session.store.inner.disk)) (table_alone session.store.inner.table) (area_of (layout_number session.store.inner.label.layout) (D.held session.store.inner.disk)) (known session.memory)
         → KeepsAll (site_on session.store.inner.label (D.size session.store.inner.disk))
         (group_leaves D.told (D.size session.store.inner.disk) (D.held session.store.inner.disk) session.store.inner.label session.store.inner.failed (table_alone session.store.inner.table))
         → result.0 ≢ Device → RestsAs (D.size session.store.inner.disk) (D.held result.1)
-        (state_in (site_on session.store.inner.label (D.size session.store.inner.disk)) (table_alone session.store.inner.table) (area_of (D.held session.store.inner.disk)) (known session.memory)) }
+        (state_in (site_on session.store.inner.label (D.size session.store.inner.disk)) (table_alone session.store.inner.table) (area_of (layout_number session.store.inner.label.layout) (D.held session.store.inner.disk)) (known session.memory)) }
 {
     let (status, disk) = close(session);
     match status {

@@ -16,7 +16,7 @@ content_of g image = record {
   entries = g.plate.entries;
   count = g.plate.count;
   table = g.table;
-  area = λ p. image (area_place + p);
+  area = λ p. image (area_place g.plate.layout + p);
 }
 
 -- a repository stands on the device, and it is kept

@@ -5,7 +5,7 @@ ghost use Rattle.std.specs.List.{list_all};
 ghost use Rattle.std.specs.Str.{bytes_eq};
 ghost use Rattle.sm_disk.specs.Sectors.{IsSector};
 ghost use Rattle.vg_layout.specs.Opening.{is_header_right as is_header_right_of, is_label_right as is_label_right_of, plate_of};
-ghost use Rattle.vg_layout.specs.Places.{extents_on, record_extents};
+ghost use Rattle.vg_layout.specs.Places.{area_place, extents_on, most_extents, old_frame, record_extents};
 ghost use Rattle.vg_layout.specs.Sectors.{header_cookie, header_sector, is_geometry as is_geometry_of, label_cookie, label_sector, number_at, plate_in, pointer_in};
 
 use crate::bytes::{are_zeros, number, sum_between};
@@ -14,7 +14,7 @@ use sm_base::{OpenFault, Place};
 /// The sectors in front of the extents.
 const AREA: u64 = 4096;
 
-/// The most bytes of a table's text.
+/// The most bytes of a table's text, which are those of a slot.
 const TEXT_LIMIT: u32 = 524_288;
 
 /// Whether the three sizes are in their ranges.
@@ -32,11 +32,11 @@ fn is_geometry(extent: u32, block: u32, entries: u32) -> bool
     block <= extent && 1 <= entries && entries <= 1_044_480
 }
 
-/// The most extents of a device of so many sectors: whole ones, and few.
-#[tactic(auto, unfolding(vg_layout::specs::Places::extents_on))]
+/// The most extents of a device of so many sectors in the narrow layout: whole ones, and few.
+#[tactic(auto, unfolding(vg_layout::specs::Places::extents_on, vg_layout::specs::Places::area_place, vg_layout::specs::Places::most_extents))]
 fn most_on(sectors: u64, extent: u32) -> u32
     requires { 0 < extent }
-    ensures { result ≡ extents_on sectors extent }
+    ensures { result ≡ extents_on 0 sectors extent }
 {
     let whole = sectors.saturating_sub(AREA) / u64::from(extent);
     whole.min(65_536) as u32
@@ -51,10 +51,10 @@ fn least_for(extent: u32) -> u32
     512_u32.div_ceil(extent)
 }
 
-/// Whether so many extents are on a device of so many sectors, and the records have room in them.
+/// Whether so many extents are on a device of so many sectors in the narrow layout, and the records have room in them.
 fn are_on(sectors: u64, extent: u32, count: u32) -> bool
     requires { 0 < extent }
-    ensures { result ≡ (nat_le count (extents_on sectors extent) && nat_le (record_extents extent) count) }
+    ensures { result ≡ (nat_le count (extents_on 0 sectors extent) && nat_le (record_extents extent) count) }
 {
     let most = most_on(sectors, extent);
     let least = least_for(extent);
@@ -88,10 +88,10 @@ fn is_filled(sector: &[u8; 512], from: usize) -> bool
 fn is_label_spelled(label: &[u8; 512]) -> bool
     requires cookie { take 8 label.now ≡ label_cookie }
     requires version { number_at 8 label.now ≡ 1 }
-    ensures { result ≡ bytes_eq label.now (label_sector (plate_in label.now)) }
+    ensures { result ≡ bytes_eq label.now (label_sector 1 (plate_in label.now)) }
 {
     law_sector(label);
-    is_filled(label, 44)
+    is_filled(label, 48)
 }
 
 /// Whether each field of a label is right behind its letters and its version.
@@ -102,7 +102,10 @@ fn is_label_right(sectors: u64, label: &[u8; 512]) -> bool
     ensures { result ≡ is_label_right_of sectors label.now }
 {
     let extent = number(label, 28);
-    if !is_label_spelled(label) || !is_geometry(extent, number(label, 32), number(label, 36)) {
+    if !is_label_spelled(label) || number(label, 44) != 0 {
+        return false;
+    }
+    if !is_geometry(extent, number(label, 32), number(label, 36)) {
         return false;
     }
     are_on(sectors, extent, number(label, 40))
@@ -144,10 +147,10 @@ fn is_header_spelled(header: &[u8; 512]) -> bool
     begins_with(header, b"LVHDTABL") && is_filled(header, 20)
 }
 
-/// Whether each field of a table header is right.
+/// Whether each field of a table header of version 1 is right.
 #[tactic(auto, unfolding(vg_layout::specs::Opening::is_header_right, vg_layout::specs::Sectors::pointer_in))]
 pub fn is_header_right(header: &[u8; 512]) -> bool
-    ensures exact { result ≡ is_header_right_of header.now }
+    ensures exact { result ≡ is_header_right_of old_frame header.now }
     ensures slot { IsTrue result → number_at 8 header.now ≤ 1 }
     ensures few { IsTrue result → number_at 12 header.now ≤ 524288 }
 {

@@ -3,8 +3,9 @@
 ghost use Rattle.std.specs.Prelude.{◌≡◌, ◌≤◌, ◌<◌, ◌/◌, ◌+◌, ◌*◌, ◌⊎◌, true, false, length, sum, IfSome, IfNone, IfOk};
 ghost use Rattle.sm_disk.specs.Sectors.{sector as sector_of};
 ghost use Rattle.tests_reader.specs.Answers.{IsFault, IsTextFault};
-ghost use Rattle.vg_layout.specs.Opening.{is_header_right as is_header_right_of, text_in};
-ghost use Rattle.vg_layout.specs.Sectors.{pointer_in};
+ghost use Rattle.vg_layout.specs.Opening.{is_header_right as is_header_right_of};
+ghost use Rattle.vg_layout.specs.Places.{old_frame, slot_text};
+ghost use Rattle.vg_layout.specs.Sectors.{number_at};
 
 use crate::bytes::{number, sum_between};
 use crate::heads::{is_header_right, label_fault};
@@ -18,12 +19,12 @@ const FRONT: usize = 1024;
 /// The bytes of a slot.
 const SLOT: usize = 524_288;
 
-/// The text that a header names; `None` where the header is not right, or the device ends in the slots.
+/// The text that a header of version 1 names; `None` where the header is not right, or the device ends in the slots.
 pub fn text_of<'a>(device: &'a [u8], header: &[u8; 512]) -> Option<&'a [u8]>
-    ensures right { IfSome result (λ text. is_header_right_of header.now ≡ true) }
-    ensures text { IfSome result (λ text. text.now ≡ text_in (sector_of device.now) (pointer_in header.now)) }
+    ensures right { IfSome result (λ text. is_header_right_of old_frame header.now ≡ true) }
+    ensures text { IfSome result (λ text. text.now ≡ slot_text old_frame (sector_of device.now) (number_at 8 header.now) (number_at 12 header.now)) }
     ensures few { IfSome result (λ text. length text.now ≤ 524288) }
-    ensures none { IfNone result ((is_header_right_of header.now ≡ false) ⊎ (length device.now < 1049600)) }
+    ensures none { IfNone result ((is_header_right_of old_frame header.now ≡ false) ⊎ (length device.now < 1049600)) }
 {
     if !is_header_right(header) || device.len() < FRONT + 2 * SLOT {
         return None;

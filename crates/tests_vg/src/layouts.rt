@@ -5,7 +5,7 @@ use sm_base::{Geometry, OpenFault, Place};
 use std::process::Abort;
 use std::test::Fail;
 use uuid::Uuid;
-use vg_layout::{GroupLabel, Slot, TableHeader, extents_on, record_extents};
+use vg_layout::{Frame, GroupLabel, Layout, Slot, TableHeader, extents_on, record_extents};
 
 /// A sector with one byte changed, and this sum.
 fn with(parts: &[Part], at: usize, byte: u8, sum: u16) -> [u8; 512] {
@@ -20,9 +20,10 @@ fn labels(rt: HostRuntime) -> Result<(), Fail> {
     let label = GroupLabel {
         geometry: Geometry::of(32 * 512, 8 * 512, 64).ok_or("a geometry")?,
         extents: 64,
+        layout: Layout::Narrow,
         repository: Uuid::from_bytes(REPOSITORY),
     };
-    label.write(&mut written);
+    label.write(1, &mut written);
     assert!(rt; written == sector(&LABEL));
     // 6,144 sectors hold 64 extents.
     assert!(rt; GroupLabel::read(6144, &written) == Ok(label));
@@ -47,6 +48,8 @@ fn wrong_labels(rt: HostRuntime) {
         (39, 0, 3069),
         (43, 15, 3084),
         (44, 1, 3134),
+        (47, 1, 3134),
+        (48, 1, 3134),
         (507, 1, 3134),
         (11, 1, 3134),
     ];
@@ -70,6 +73,11 @@ fn wrong_labels(rt: HostRuntime) {
     is_refused(&rt, 1, &right, OpenFault::NotARepository, 512);
 }
 
+/// The places of version 1.
+fn frame() -> Frame {
+    Frame::of(1, Layout::Narrow)
+}
+
 #[test]
 fn headers(rt: HostRuntime) {
     let mut written = [0xff; 512];
@@ -80,13 +88,13 @@ fn headers(rt: HostRuntime) {
     };
     header.write(&mut written);
     assert!(rt; written == sector(&HEADER));
-    assert!(rt; TableHeader::read(&written) == Ok(header));
+    assert!(rt; TableHeader::read(&frame(), &written) == Ok(header));
 }
 
 /// A header is damaged.
 fn is_damaged(rt: &impl Abort, header: &[u8; 512], at: usize) {
     assert!(rt;
-        TableHeader::read(header) == Err(damaged(Place::Header)),
+        TableHeader::read(&frame(), header) == Err(damaged(Place::Header)),
         "at {at}"
     );
 }
@@ -107,29 +115,81 @@ fn wrong_headers(rt: HostRuntime) {
     }
 }
 
-/// Where the slots begin, and how many extents there are.
-fn places(rt: &impl Abort, small: &Geometry, large: &Geometry) {
-    assert!(rt; Slot::Zero.other() == Slot::One);
-    assert!(rt; Slot::One.other().place() == 2);
-    assert!(rt; Slot::One.place() == 1026);
-    assert!(rt; record_extents(small) == 16);
-    assert!(rt; record_extents(large) == 1);
-    let rows = [
-        (0, 0),
-        (4096, 0),
-        (4607, 15),
-        (4608, 16),
-        (u64::MAX, 65_536),
+/// Where the header and the two slots begin in a frame, and how many bytes a slot has.
+fn stand_at(rt: &impl Abort, frame: &Frame, places: [u64; 3], bytes: u64) {
+    let there = [
+        frame.header,
+        Slot::Zero.place(frame),
+        Slot::One.place(frame),
     ];
+    assert!(rt; there == places, "at {places:?}");
+    assert!(rt; frame.slot_bytes() == bytes, "of {bytes}");
+}
+
+#[test]
+fn frames(rt: HostRuntime) {
+    stand_at(&rt, &frame(), [1, 2, 1026], 524_288);
+    stand_at(&rt, &Frame::of(1, Layout::Wide), [1, 2, 1026], 524_288);
+    stand_at(
+        &rt,
+        &Frame::of(2, Layout::Narrow),
+        [2050, 2051, 2],
+        1_047_040,
+    );
+    stand_at(
+        &rt,
+        &Frame::of(2, Layout::Wide),
+        [2050, 4096, 20_736],
+        8_519_680,
+    );
+    assert!(rt; Slot::Zero.other() == Slot::One);
+    assert!(rt; Slot::One.other() == Slot::Zero);
+}
+
+/// How many extents there are on devices of so many sectors.
+fn count(rt: &impl Abort, layout: Layout, geometry: &Geometry, rows: [(u64, u32); 6]) {
     for (sectors, count) in rows {
-        assert!(rt; extents_on(sectors, small) == count, "of {sectors}");
+        assert!(rt;
+            extents_on(sectors, layout, geometry) == count,
+            "of {sectors}"
+        );
     }
 }
 
 #[test]
-fn slots_and_extents(rt: HostRuntime) -> Result<(), Fail> {
+fn extents(rt: HostRuntime) -> Result<(), Fail> {
     let small = Geometry::of(32 * 512, 8 * 512, 64).ok_or("a geometry")?;
     let large = Geometry::of(8192 * 512, 8 * 512, 64).ok_or("a geometry")?;
-    places(&rt, &small, &large);
+    let narrow = [
+        (0, 0),
+        (4096, 0),
+        (4607, 15),
+        (4608, 16),
+        (2_101_248, 65_536),
+        (u64::MAX, 65_536),
+    ];
+    count(&rt, Layout::Narrow, &small, narrow);
+    let wide = [
+        (37_376, 0),
+        (37_407, 0),
+        (37_408, 1),
+        (2_134_560, 65_537),
+        (33_591_808, 1_048_576),
+        (u64::MAX, 1_048_576),
+    ];
+    count(&rt, Layout::Wide, &small, wide);
+    assert!(rt; Layout::Narrow.area() == 4096);
+    assert!(rt; Layout::Wide.area() == 37_376);
+    assert!(rt; record_extents(&small) == 16);
+    assert!(rt; record_extents(&large) == 1);
     Ok(())
+}
+
+#[test]
+fn layouts(rt: HostRuntime) {
+    assert!(rt; Layout::of(0) == Some(Layout::Narrow));
+    assert!(rt; Layout::of(1) == Some(Layout::Wide));
+    assert!(rt; Layout::of(2).is_none());
+    assert!(rt; Layout::Narrow.number() == 0);
+    assert!(rt; Layout::Wide.number() == 1);
 }

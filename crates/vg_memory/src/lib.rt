@@ -13,8 +13,7 @@
 //! each failure is counted. A write that was told to fail leaves all its sectors pending, as a device in memory does: a
 //! stop then leaves any of them.
 //!
-//! **Before a commit** `accepts` tests whether a change is taken. It reckons with the longest text that a
-//! change may leave, so near the limit of the text it may refuse what a commit would take.
+//! **Before a commit** `accepts` tests whether a change is taken: exactly what a commit would take.
 //!
 //! **Costs.** A read or a write finds the volume by a pass over the names, and each of its sectors in logarithmic time.
 //! Only a write takes memory, for the values that are pending.

@@ -21,7 +21,7 @@ use Rattle.sm_base.specs.declared.faults.Place.TheVariants.{Label}
 use Rattle.sm_disk.specs.Sectors.{zeros}
 use Rattle.vg_layout.specs.Opening.{GroupFound, is_label_right, plate_of}
 use Rattle.vg_layout.specs.Places.{area_place, label_place}
-use Rattle.vg_layout.specs.Sectors.{Plate, is_geometry, label_cookie, label_sector, number_at, plate_in}
+use Rattle.vg_layout.specs.Sectors.{Plate, is_geometry, label_cookie, label_sector, number_at, plate_in, version_in}
 use Rattle.vg_layout.proofs.StandingLaws.{plate_area}
 use Rattle.vg_meta.specs.Tables.{IsTable, IsVolume, Row, VolumeTable}
 use Rattle.vg_volumes.specs.Volumes.{piece}
@@ -250,8 +250,9 @@ plate-geometry size m p e =
     go false false false true r x =
         let q = plate_in (m label_place) in
         let same : q ≡ p = cc in
-        let right = and_parts (bytes_eq (m label_place) (label_sector q)) _ r in
-        let sizes = (and_parts (is_geometry q.extent q.block q.entries) _ right.1).0 in
+        let right = and_parts (bytes_eq (m label_place) (label_sector (version_in (m label_place)) q)) _ r in
+        let layouts = and_parts (nat_lt q.layout (version_in (m label_place))) _ right.1 in
+        let sizes = (and_parts (is_geometry q.extent q.block q.entries) _ layouts.1).0 in
         let p1 = and_parts (is_power_of_two q.extent) _ sizes in
         let p2 = and_parts (nat_le 32 q.extent) _ p1.1 in
         let p3 = and_parts (nat_le q.extent 8192) _ p2.1 in
@@ -297,7 +298,7 @@ module _ (size : ℕ) (image : ℕ → List ℕ) (g : GroupFound) (s : IsSoundIm
       by : (p < c.count * c.extent) ⊎ (c.count * c.extent ≤ p) → IsLong (cond (nat_lt p (c.count * c.extent)) (c.area p) zeros)
       by (inl below) =
           let room = plate_area size image g.plate s.stands.labelled in
-          subst (λ b. IsLong (cond b (c.area p) zeros)) (sym (lt-ltb p (c.count * c.extent) below)) (s.sectors (area_place + p) (omega (arith, room, below))).long
+          subst (λ b. IsLong (cond b (c.area p) zeros)) (sym (lt-ltb p (c.count * c.extent) below)) (s.sectors (area_place g.plate.layout + p) (omega (arith, room, below))).long
       by (inr past) = subst (λ b. IsLong (cond b (c.area p) zeros)) (sym (le-ltb p (c.count * c.extent) past)) long-zeros
 
   long-sectors : (n : Name) → All IsLong (sectors_read c n)

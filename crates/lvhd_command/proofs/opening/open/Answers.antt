@@ -2,7 +2,7 @@ use Rattle.std.proofs.Common.{◌≡◌, inl, inr, Ok, refl, sym, ap, ◌∙◌,
 use Rattle.sm_base.specs.declared.faults.OpenFault.{OpenFault}
 use Rattle.sm_disk.specs.Held.{Keeps, reads}
 use Rattle.sm_disk.proofs.HeldLaws.{Allows-keeps, Keeps-then}
-use Rattle.vg_layout.specs.Fields.{plate, pointer}
+use Rattle.vg_layout.specs.Fields.{layout_number, plate, pointer}
 use Rattle.vg_layout.specs.Opening.{IsRefused}
 use Rattle.vg_meta.specs.Roomy.{table_alone}
 use Rattle.vg_store.specs.Groups.{LeavesGroup, area_of, beside_of}
@@ -12,7 +12,7 @@ use Rattle.sm_ready.specs.Stores.{content_now}
 use Rattle.lvhd_command.specs.Devices.{IsRefusedOn, site_on, plate_at}
 use Rattle.lvhd_command.specs.Devices.IsRefusedOn.{by_group}
 use Rattle.lvhd_command.proofs.OpenLaws.{StandsAlways, sound_entry, shown_entry, opened_entry, answer_as, refused_content, kept_back, shown_back, repaired_sized, always_sized, unless, unless_from, kept_well, well_entry}
-use Rattle.lvhd_command.proofs.UnsoundLaws.{beside_whole, beside_then, never_sound}
+use Rattle.lvhd_command.proofs.UnsoundLaws.{beside_at, beside_whole, beside_then, never_sound}
 use Rattle.lvhd_command.proofs.opening.open.Goals as goal
 
 pub returns-in-Err-clause-refused : goal.returns-in-Err-clause-refused
@@ -79,7 +79,7 @@ returns-in-Err-begin-clause-refused g c =
     let group = c.in-Ok.cache.inner in
     refused_content g.D.Disk.told (g.D.Disk.size c.args.disk) (g.D.Disk.held c.args.disk) (g.D.Disk.held group.disk) (site_on group.label (g.D.Disk.size group.disk)) (pointer group.header) (table_alone group.table)
     (g.D.Disk.faults c.args.disk) (g.D.Disk.faults group.disk) _ c.in-Err-begin.fault e.calm (λ other. ap g.D.Disk.faults c.into_disk.ensures.disk ∙ c.in-Err-begin.ensures.calm_back other) e.area e.stands
-    (subst (λ d. IsOpeningStopped g.D.Disk.told (content_now (site_on group.label (g.D.Disk.size group.disk)) (table_alone group.table) (area_of (g.D.Disk.held group.disk))) (g.D.Disk.faults group.disk) (g.D.Disk.faults d) c.in-Err-begin.fault)
+    (subst (λ d. IsOpeningStopped g.D.Disk.told (content_now (site_on group.label (g.D.Disk.size group.disk)) (table_alone group.table) (area_of (layout_number group.label.layout) (g.D.Disk.held group.disk))) (g.D.Disk.faults group.disk) (g.D.Disk.faults d) c.in-Err-begin.fault)
     (sym c.into_disk.ensures.disk) c.in-Err-begin.ensures.cause)
 
 pub returns-in-Err-begin-clause-kept_back : goal.returns-in-Err-begin-clause-kept_back
@@ -131,8 +131,8 @@ returns-in-Ok-begin-clause-beside g c = λ told.
     let group = c.in-Ok.cache.inner in
     let s = c.in-Ok-begin.session in
     let site : Site = site_on group.label (g.D.Disk.size group.disk) in
-    let same : area_size (site_on s.store.inner.label (g.D.Disk.size s.store.inner.disk)) ≡ area_size site = ap area_size c.in-Ok-begin.ensures.site in
-    let k = subst (λ n. Keeps (beside_of (area_size site) (g.D.Disk.held group.disk)) (beside_of n (g.D.Disk.held s.store.inner.disk))) same (c.in-Ok-begin.ensures.beside told) in
+    let same : site_on s.store.inner.label (g.D.Disk.size s.store.inner.disk) ≡ site = c.in-Ok-begin.ensures.site in
+    let k = subst (λ (n : Site). Keeps (beside_at site (g.D.Disk.held group.disk)) (beside_at n (g.D.Disk.held s.store.inner.disk))) same (c.in-Ok-begin.ensures.beside told) in
     beside_then (g.D.Disk.size c.args.disk) (g.D.Disk.held c.args.disk) (g.D.Disk.held group.disk) (g.D.Disk.held s.store.inner.disk) site (e.stands told).labelled
     (beside_whole (g.D.Disk.size c.args.disk) (g.D.Disk.held c.args.disk) (g.D.Disk.held group.disk) (e.keeps told)) k
 
@@ -147,8 +147,8 @@ returns-in-Err-begin-clause-beside_back g c = λ told.
     let e = c.in-Ok.ensures in
     let group = c.in-Ok.cache.inner in
     let site : Site = site_on group.label (g.D.Disk.size group.disk) in
-    let beside = subst (λ x. Keeps (beside_of (area_size site) (g.D.Disk.held group.disk)) (beside_of (area_size site) (g.D.Disk.held x))) (sym c.into_disk.ensures.disk)
-    (subst (λ n. Keeps (beside_of (area_size site) (g.D.Disk.held group.disk)) (beside_of n (g.D.Disk.held c.in-Err-begin.cache.inner.disk))) (ap area_size c.in-Err-begin.ensures.site_back) (c.in-Err-begin.ensures.beside_back told)) in
+    let beside = subst (λ x. Keeps (beside_at site (g.D.Disk.held group.disk)) (beside_at site (g.D.Disk.held x))) (sym c.into_disk.ensures.disk)
+    (subst (λ (n : Site). Keeps (beside_at site (g.D.Disk.held group.disk)) (beside_at n (g.D.Disk.held c.in-Err-begin.cache.inner.disk))) c.in-Err-begin.ensures.site_back (c.in-Err-begin.ensures.beside_back told)) in
     beside_then (g.D.Disk.size c.args.disk) (g.D.Disk.held c.args.disk) (g.D.Disk.held group.disk) (g.D.Disk.held c.into_disk.result) site (e.stands told).labelled
     (beside_whole (g.D.Disk.size c.args.disk) (g.D.Disk.held c.args.disk) (g.D.Disk.held group.disk) (e.keeps told))
     beside

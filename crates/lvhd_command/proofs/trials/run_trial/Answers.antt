@@ -10,6 +10,7 @@ use Rattle.vg_meta.specs.Roomy.{table_alone}
 use Rattle.vg_layout.specs.Sectors.{Plate}
 use Rattle.vg_layout.specs.Opening.{plate_of}
 use Rattle.vg_store.specs.Formats.{new_group}
+use Rattle.vg_layout.specs.Fields.{layout_number}
 use Rattle.vg_store.specs.Groups.{area_of, beside_of}
 use Rattle.vg_store.specs.Openings.{IsAnswer}
 use Rattle.lvhd_command.specs.Devices.{HoldsWellOn, IsKeptDevice, IsOpenedOn, IsRefusedOn, plate_at, site_on}
@@ -33,7 +34,7 @@ returns-in-Ok-open-clause-did g c = λ told.
     let slots : HoldsWellOn (g.D.Disk.size c.format.new.disk) (reads h) = kept_well _ h (subst (λ n. IsKeptDevice n h) (sym c.format.ensures.size) kept) in
     let e = c.in-Ok-open.ensures in
     let s = c.in-Ok-open.session in
-    let start : State = state_in (site_on s.store.inner.label (g.D.Disk.size s.store.inner.disk)) (table_alone s.store.inner.table) (area_of (g.D.Disk.held s.store.inner.disk)) (known s.memory) in
+    let start : State = state_in (site_on s.store.inner.label (g.D.Disk.size s.store.inner.disk)) (table_alone s.store.inner.table) (area_of (layout_number s.store.inner.label.layout) (g.D.Disk.held s.store.inner.disk)) (known s.memory) in
     trial_did _ c.args.number start c.try_session.result.0
     (start_is size (reads h) made _ start (formatted_allowed size h made _ formatted settled (reads h) (Allows-reads size h)) (record { extent = sizes.0; block = sizes.1; entries = sizes.2 })
     (subst (λ n. Shows n (reads h) start.disks) c.format.ensures.size (e.shown told slots)) (subst (λ n. IsOpenedOn n (reads h) start.shape) c.format.ensures.size (e.opened told slots)))
@@ -108,7 +109,7 @@ returns-in-Ok-open-clause-beside g c = λ told.
     let f = formatted_allowed size h made _ (c.in-Ok.ensures.formatted told) (c.in-Ok.ensures.settled told) (reads h) (Allows-reads size h) in
     let labelled = ap (λ k. plate_of k (reads h)) c.format.ensures.size ∙ f.stands.labelled in
     let here = plate_once n (reads h) p (new_group size made _).plate (e.label told) labelled in
-    let last = subst (λ (q : Plate). Keeps (beside_of (q.count * q.extent) (g.D.Disk.held s.store.inner.disk)) (beside_of (q.count * q.extent) (g.D.Disk.held c.try_session.result.1))) here (c.try_session.ensures.beside told) in
+    let last = subst (λ (q : Plate). Keeps (beside_of q.layout (q.count * q.extent) (g.D.Disk.held s.store.inner.disk)) (beside_of q.layout (q.count * q.extent) (g.D.Disk.held c.try_session.result.1))) here (c.try_session.ensures.beside told) in
     beside_sizes _ _ made _ _ (record { extent = sizes.0; block = sizes.1; entries = sizes.2 }) (Keeps-then (c.format.ensures.beside told) (Keeps-then (e.beside told (new_group size made _).plate labelled) last))
 
 pub returns-in-Err-clause-beside : goal.returns-in-Err-clause-beside

@@ -1,5 +1,6 @@
 use Rattle.std.proofs.Common.{◌≡◌, ◌⊎◌, inl, inr, sym, ◌∙◌}
 use Rattle.vg_meta.specs.Roomy.{table_alone}
+use Rattle.vg_layout.specs.Fields.{layout_number}
 use Rattle.vg_store.specs.Groups.{area_of}
 use Rattle.vg_volumes.specs.Sites.{Site}
 use Rattle.sm_ready.specs.Known.{known}
@@ -52,7 +53,7 @@ returns-in-Done-clause-rests g c = λ told ready keeps other.
       settled = settled;
       only = e.shown told whole ready settled;
       reads = reads_as size site (g.D.Disk.held s.store.inner.disk) (g.D.Disk.held c.close-status.result.1) (table_alone s.store.inner.table) _ back (e.one told whole)
-          (session_state site (table_alone s.store.inner.table) (area_of (g.D.Disk.held s.store.inner.disk)) (known s.memory) ((s.between whole).orderly) ((s.between whole).tidy) ready);
+          (session_state site (table_alone s.store.inner.table) (area_of (layout_number s.store.inner.label.layout) (g.D.Disk.held s.store.inner.disk)) (known s.memory) ((s.between whole).orderly) ((s.between whole).tidy) ready);
       kept = returns-in-Done-clause-kept g c told keeps;
     }
 

@@ -3,6 +3,8 @@ use Rattle.sm_machine.specs.Steps.{State}
 use Rattle.sm_ready.specs.Known.{known, shape_in}
 use Rattle.sm_ready.specs.Sessions.{state_in}
 use Rattle.vg_meta.specs.Roomy.{table_alone}
+use Rattle.vg_layout.specs.Fields.{layout_number}
+use Rattle.lvhd_command.proofs.UnsoundLaws.{beside_at}
 use Rattle.vg_store.specs.Groups.{area_of, beside_of}
 use Rattle.vg_store.proofs.BesideLaws.{beside_kept}
 use Rattle.sm_disk.specs.Held.{Keeps}
@@ -51,8 +53,8 @@ returns-clause-tried g c = λ told ready keeps.
     let tried = c.in-Ok.ensures.tried told (whole, ready) keeps in
     let k = c.count_all.ensures.kept told tried.1 (c.try_lines.ensures.kept told (whole, ready) keeps) in
     let counted = c.in-Ok-count_all.ensures.counted told tried.1 in
-    let σ : State = state_in (site_on first.store.inner.label (g.D.Disk.size first.store.inner.disk)) (table_alone first.store.inner.table) (area_of (g.D.Disk.held first.store.inner.disk)) (known first.memory) in
-    let last : State = state_in (site_on m.store.inner.label n) (table_alone m.store.inner.table) (area_of (g.D.Disk.held m.store.inner.disk)) (known m.memory) in
+    let σ : State = state_in (site_on first.store.inner.label (g.D.Disk.size first.store.inner.disk)) (table_alone first.store.inner.table) (area_of (layout_number first.store.inner.label.layout) (g.D.Disk.held first.store.inner.disk)) (known first.memory) in
+    let last : State = state_in (site_on m.store.inner.label n) (table_alone m.store.inner.table) (area_of (layout_number m.store.inner.label.layout) (g.D.Disk.held m.store.inner.disk)) (known m.memory) in
     let few : σ.shape.sequence < 2 ^ 48 = ((first.between tried.1.0).orderly).table.sequence in
     session_said _ _ _ _ _ _ _ c.say.result.0 c.say.ensures.said
     (λ other. record {
@@ -79,26 +81,26 @@ pub returns-in-Err-clause-beside : goal.returns-in-Err-clause-beside
 returns-in-Err-clause-beside g c = λ told.
     let s = c.args.session in
     let m = c.try_lines.new.machine in
-    let n = area_size (site_on s.store.inner.label (g.D.Disk.size s.store.inner.disk)) in
-    subst (λ d. Keeps (beside_of n (g.D.Disk.held s.store.inner.disk)) (beside_of n (g.D.Disk.held d))) (sym c.leave.ensures.disk)
-    (subst (λ k. Keeps (beside_of n (g.D.Disk.held s.store.inner.disk)) (beside_of k (g.D.Disk.held m.store.inner.disk))) (ap area_size c.try_lines.ensures.site) (c.try_lines.ensures.beside told))
+    let n : Site = (site_on s.store.inner.label (g.D.Disk.size s.store.inner.disk)) in
+    subst (λ d. Keeps (beside_at n (g.D.Disk.held s.store.inner.disk)) (beside_at n (g.D.Disk.held d))) (sym c.leave.ensures.disk)
+    (subst (λ (k : Site). Keeps (beside_at n (g.D.Disk.held s.store.inner.disk)) (beside_at k (g.D.Disk.held m.store.inner.disk))) c.try_lines.ensures.site (c.try_lines.ensures.beside told))
 
 pub returns-in-Err-count_all-clause-beside : goal.returns-in-Err-count_all-clause-beside
 returns-in-Err-count_all-clause-beside g c = λ told.
     let s = c.args.session in
     let first = c.try_lines.new.machine in
     let m = c.count_all.new.machine in
-    let n = area_size (site_on s.store.inner.label (g.D.Disk.size s.store.inner.disk)) in
-    let a = subst (λ k. Keeps (beside_of n (g.D.Disk.held s.store.inner.disk)) (beside_of k (g.D.Disk.held first.store.inner.disk))) (ap area_size c.try_lines.ensures.site) (c.try_lines.ensures.beside told) in
-    let b = subst₂ (λ j k. Keeps (beside_of j (g.D.Disk.held first.store.inner.disk)) (beside_of k (g.D.Disk.held m.store.inner.disk))) (ap area_size c.try_lines.ensures.site) (ap area_size (c.count_all.ensures.site ∙ c.try_lines.ensures.site)) (c.count_all.ensures.beside told) in
-    subst (λ d. Keeps (beside_of n (g.D.Disk.held s.store.inner.disk)) (beside_of n (g.D.Disk.held d))) (sym c.leave-in-Err-count_all.ensures.disk) (Keeps-then a b)
+    let n : Site = (site_on s.store.inner.label (g.D.Disk.size s.store.inner.disk)) in
+    let a = subst (λ (k : Site). Keeps (beside_at n (g.D.Disk.held s.store.inner.disk)) (beside_at k (g.D.Disk.held first.store.inner.disk))) c.try_lines.ensures.site (c.try_lines.ensures.beside told) in
+    let b = subst₂ (λ (j k : Site). Keeps (beside_at j (g.D.Disk.held first.store.inner.disk)) (beside_at k (g.D.Disk.held m.store.inner.disk))) c.try_lines.ensures.site (c.count_all.ensures.site ∙ c.try_lines.ensures.site) (c.count_all.ensures.beside told) in
+    subst (λ d. Keeps (beside_at n (g.D.Disk.held s.store.inner.disk)) (beside_at n (g.D.Disk.held d))) (sym c.leave-in-Err-count_all.ensures.disk) (Keeps-then a b)
 
 pub returns-clause-beside : goal.returns-clause-beside
 returns-clause-beside g c = λ told.
     let s = c.args.session in
     let first = c.try_lines.new.machine in
     let m = c.count_all.new.machine in
-    let n = area_size (site_on s.store.inner.label (g.D.Disk.size s.store.inner.disk)) in
-    let a = subst (λ k. Keeps (beside_of n (g.D.Disk.held s.store.inner.disk)) (beside_of k (g.D.Disk.held first.store.inner.disk))) (ap area_size c.try_lines.ensures.site) (c.try_lines.ensures.beside told) in
-    let b = subst₂ (λ j k. Keeps (beside_of j (g.D.Disk.held first.store.inner.disk)) (beside_of k (g.D.Disk.held m.store.inner.disk))) (ap area_size c.try_lines.ensures.site) (ap area_size (c.count_all.ensures.site ∙ c.try_lines.ensures.site)) (c.count_all.ensures.beside told) in
-    Keeps-then (Keeps-then a b) (beside_kept n (c.say.ensures.keeps told))
+    let n : Site = (site_on s.store.inner.label (g.D.Disk.size s.store.inner.disk)) in
+    let a = subst (λ (k : Site). Keeps (beside_at n (g.D.Disk.held s.store.inner.disk)) (beside_at k (g.D.Disk.held first.store.inner.disk))) c.try_lines.ensures.site (c.try_lines.ensures.beside told) in
+    let b = subst₂ (λ (j k : Site). Keeps (beside_at j (g.D.Disk.held first.store.inner.disk)) (beside_at k (g.D.Disk.held m.store.inner.disk))) c.try_lines.ensures.site (c.count_all.ensures.site ∙ c.try_lines.ensures.site) (c.count_all.ensures.beside told) in
+    Keeps-then (Keeps-then a b) (beside_kept n.layout (area_size n) (c.say.ensures.keeps told))
