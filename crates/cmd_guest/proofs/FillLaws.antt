@@ -1,18 +1,20 @@
 -- A fill is the write of so many equal bytes.
-use Rattle.std.proofs.Common.{◌≡◌, ℕ, zero, suc, ◌+◌, ◌*◌, ◌/◌, ◌%◌, ◌==◌, ◌||◌, not, Bool, true, false, List, [], ◌∷◌, ◌++◌, length, drop, replicate, None, refl, sym, ap, ap₂, ◌∙◌, subst, arith}
+use Rattle.std.proofs.Common.{◌≡◌, ℕ, zero, suc, ◌+◌, ◌*◌, ◌/◌, ◌%◌, ◌==◌, ◌<◌, nat_lt, ◌||◌, not, Bool, true, false, List, [], ◌∷◌, ◌++◌, length, drop, replicate, None, refl, sym, ap, ap₂, ◌∙◌, subst, arith}
 use Rattle.std.specs.Prelude.{Result}
+use Rattle.std.proofs.lemmas.Bool.{true≢false}
 use Rattle.std.proofs.lemmas.List.{take-replicate}
 use Rattle.std.proofs.lemmas.List.{length-replicate, replicate-append-replicate}
 use Rattle.std.proofs.Math.Seq.{drop-append_seam}
 use Rattle.common_laws.specs.Lists.{first_some, given}
 use Rattle.sm_machine.specs.Commits.{commits, own_commits, is_given_up, gives_up}
 use Rattle.sm_machine.specs.Disks.{cut_sectors, filled, on_disk}
-use Rattle.sm_machine.specs.Refusals.{refusal, is_reserved, is_unknown, is_taken, is_in_use, is_not_attached, is_read_only, is_raw_disk, is_out_of_range, is_outside, is_bad_size, is_shrink, is_deep, is_too_many, is_spent, lacks_space, need, named, new_uuid, forked, images_needed}
+use Rattle.sm_machine.specs.Refusals.{refusal, is_reserved, is_unknown, is_taken, is_in_use, is_not_attached, is_read_only, is_raw_disk, is_out_of_range, is_outside, is_bad_size, is_shrink, is_deep, is_too_many, is_spent, lacks_space, need, named, new_uuid, forked, images_needed, of_some}
 use Rattle.sm_machine.specs.Runs.{is_settling}
-use Rattle.sm_machine.specs.Shapes.{Shape, free, risen}
+use Rattle.sm_machine.specs.Shapes.{Shape, disk_image, free, risen}
 use Rattle.sm_base.specs.declared.faults.Failed.{Failed}
 use Rattle.sm_base.specs.declared.refusals.Refusal.TheVariants.{UnknownDisk, NotAttached, ReadOnly, OutOfRange, NoSpace}
 use Rattle.sm_machine.specs.Steps.{State, Outcome, accepted, disks_next, reply_to, shape_after, shape_next, step, write_shape, written_disk}
+use Rattle.sm_machine.proofs.Passed.{passed}
 use Rattle.sm_machine.specs.declared.commands.Command.TheVariants.{Fill, Write}
 use Rattle.sm_machine.specs.declared.replies.Reply.{Reply}
 use Rattle.sm_machine.specs.declared.replies.Reply.TheVariants.{Done}
@@ -58,6 +60,15 @@ fill_allowed s u at n byte allowed =
 
     range : (is_outside s u at (length (all_of n byte) / 512) || not (length (all_of n byte) % 512 == 0)) ≡ is_outside s u at n
     range = ap₂ (λ k m. is_outside s u at k || not (m == 0)) (length_all n byte) even ∙ or_false (is_outside s u at n)
+
+-- it has a sector at least
+pub fill_some : (s : Shape) (u : List ℕ) (at n byte : ℕ) → refusal s (Fill u at n byte) ≡ None → 0 < n
+unfolding is_out_of_range
+fill_some s u at n byte allowed = by n (of_some (λ i. nat_lt i.size (at + n)) (disk_image u s)) (passed s (Fill u at n byte) allowed).out_of_range
+  where
+    by : (k : ℕ) (past : Bool) → ((k == 0) || past) ≡ false → 0 < k
+    by zero past e = absurd (true≢false e)
+    by (suc k) past e = omega arith
 
 pub fill_is : (σ : State) (u : List ℕ) (at n byte : ℕ) → refusal σ.shape (Fill u at n byte) ≡ None → step σ (Fill u at n byte) ≡ step σ (Write u at (all_of n byte))
 unfolding accepted disks_next shape_next shape_after reply_to commits own_commits is_given_up gives_up

@@ -24,7 +24,8 @@ use vhd_write::Payload;
 /// The bytes of a sector.
 const SECTOR: usize = 512;
 
-/// The fill: one write of so many sectors of the byte, of which a piece of a block is in memory.
+/// The fill: one write of so many sectors of the byte. The buffer gets the byte in as many sectors as one block takes of them at
+/// most, so that a short fill goes over few of its bytes.
 fn fill_with<S: Store>(
     store: &mut S,
     memory: &mut Memory,
@@ -46,9 +47,10 @@ fn fill_with<S: Store>(
     ensures taken { S.told → IsReadyStore S.Store store.old memory.old
         → StoreTakes S.Store (Fill disk.now sector count byte) store.old memory.old store.new memory.new (answered Done result) }
 {
+    let most = count.min(u64::from(store.geometry().block));
+    let piece = &mut piece[..SECTOR * most as usize];
     piece.fill(byte);
-    let block = &piece[..SECTOR * store.geometry().block as usize];
-    let from = Payload::repeated(block, byte, count);
+    let from = Payload::repeated(piece, byte, count);
     put(store, memory, disk, sector, &from)
 }
 
