@@ -1,15 +1,12 @@
--- What a write of the marked sectors of a block leaves of an image of either kind.
-use Rattle.std.proofs.Common.{◌≡◌, ℕ, ◌+◌, ◌*◌, ◌<◌, ◌≤◌, nat_lt, cond, List, Option, Some, None, sym, ap, ◌∙◌, subst₂, ⊎_elim, arith}
+-- What a write of the marked sectors of a block leaves of a raw image.
+use Rattle.std.proofs.Common.{◌≡◌, ℕ, ◌+◌, ◌*◌, ◌<◌, ◌≤◌, nat_lt, cond, List, Some, None, sym, ap, ◌∙◌, subst₂, ⊎_elim, arith}
 use Rattle.std.proofs.lemmas.Bool.{lt-ltb}
 use Rattle.sm_base.specs.declared.names.Name.{Name}
 use Rattle.sm_base.specs.declared.sizes.Geometry.{Geometry}
 use Rattle.sm_disk.specs.Held.{Held, Reaches, reads}
-use Rattle.vhd_volumes.specs.Truth.{layout_in}
-use Rattle.vhd_volumes.specs.Writes.{HasWritten}
-use Rattle.vhd_volumes.specs.declared.heads.Head.{Head}
 use Rattle.vhd_write.specs.Marks.{HasMarked, PutsMarked, PutsMarkedIn}
 use Rattle.vhd_image.specs.Written.{HasPut}
-use Rattle.vhd_image.specs.declared.images.Body.TheVariants.{Raw, Vhd}
+use Rattle.vhd_image.specs.declared.images.Body.TheVariants.{Raw}
 
 pub raw_put : (g : Geometry) (n : ℕ) (volume : Name) (size block at count : ℕ) (marks bytes : List ℕ) {old new : Held} → at ≡ block * g.block → count ≡ g.block → block * g.block + g.block ≤ size
     → Reaches (PutsMarked count at marks bytes) old new → HasMarked at marks bytes 0 count (reads new) → HasPut g n (Raw volume size) (PutsMarkedIn g.block block marks bytes) old new
@@ -20,6 +17,3 @@ raw_put g n volume size block at count marks bytes {old} {new} is wide within re
       ap (λ c. cond c (Some (reads new s)) None) (lt-ltb s size low) ∙ ap Some read;
   outside = λ s none. ap (λ x. cond (nat_lt s size) (Some x) None) (⊎_elim (λ same. same) (λ h. absurd (none (reads new s) (subst₂ (λ k p. PutsMarked k p marks bytes s (reads new s)) wide is h))) (reaches.gives s));
 }
-
-pub vhd_put : (g : Geometry) (n : ℕ) (head : Head) (m : List (Option ℕ)) (W : ℕ → List ℕ → Type 0) {old new : Held} → HasWritten (layout_in g head.footer n) W old new → HasPut g n (Vhd head m) W old new
-vhd_put g n head m W h = record { inside = h.inside; outside = h.outside }

@@ -1,11 +1,11 @@
 -- What a guest's write into an image did: a raw image takes the bytes into its volume, a VHD image by its blocks.
-use Rattle.std.specs.Prelude.{◌≡◌, ◌⊎◌, ℕ, List, length, Option, Some}
+use Rattle.std.specs.Prelude.{◌≡◌, ◌⊎◌, ℕ, List, length, Option}
 use Rattle.sm_base.specs.declared.sizes.Geometry.{Geometry}
 use Rattle.sm_disk.specs.Held.{Held, IsIn, Puts, Torn, Wrote, Reaches, reads}
 use Rattle.vhd_map.specs.Slots.{slot_of, top_of}
 use Rattle.vhd_layout.specs.Layouts.{Sectors}
 use Rattle.vhd_volumes.specs.Truth.{HasRoomFor, layout_in}
-use Rattle.vhd_volumes.specs.Writes.{HasGrown, HasWritten, IsGuarded, with_block, written_map}
+use Rattle.vhd_volumes.specs.Writes.{HasGrown, HasWritten, IsGuarded, IsPutOver, with_block, written_map}
 use Rattle.vhd_write.specs.Marks.{IsMarkedIn, PutsMarkedIn}
 use Rattle.vhd_write.specs.WritePlaces.{IsWritePlace}
 use Rattle.vhd_image.specs.Bodies.{own_of}
@@ -44,7 +44,7 @@ IsPlaceOfWrite g sectors (Vhd head m) at bytes r =
 abbrev pub BodyKeepsToPlaces : Geometry → ℕ → Body → ℕ → List ℕ → Held → Held → Type 0
 BodyKeepsToPlaces g sectors body at bytes old new = Reaches (IsPlaceOfWrite g sectors body at bytes (reads old)) old new
 
--- once it is done
+-- once the write is done: a raw image's volume has the bytes pending, a VHD image holds them, and of each other sector what it held
 abbrev pub IsBodyWritten : Geometry → ℕ → Body → ℕ → List ℕ → Held → Held → Type 0
 IsBodyWritten g sectors (Raw volume size) at bytes old new = Wrote at bytes old new
 IsBodyWritten g sectors (Vhd head m) at bytes old new = HasWritten (layout_in g head.footer sectors) (Puts at bytes) old new
@@ -82,7 +82,6 @@ IsPlaceOfMarks g sectors (Vhd head m) b marks bytes r =
 abbrev pub MarksKeepToPlaces : Geometry → ℕ → Body → ℕ → List ℕ → List ℕ → Held → Held → Type 0
 MarksKeepToPlaces g sectors body b marks bytes old new = Reaches (IsPlaceOfMarks g sectors body b marks bytes (reads old)) old new
 
--- once all is put that W says: the image holds these bytes, and of each other sector what it held
-pub record HasPut (g : Geometry) (sectors : ℕ) (body : Body) (W : ℕ → List ℕ → Type 0) (old new : Held) : Type 0 where
-  pub inside : (s : ℕ) (v : List ℕ) → W s v → own_of g sectors body (reads new) s ≡ Some v
-  pub outside : (s : ℕ) → ((v : List ℕ) → W s v → ⊥) → own_of g sectors body (reads new) s ≡ own_of g sectors body (reads old) s
+-- once all is put that W says: the image, raw or VHD, holds these bytes, and of each other sector what it held
+abbrev pub HasPut : Geometry → ℕ → Body → (ℕ → List ℕ → Type 0) → Held → Held → Type 0
+HasPut g sectors body W old new = IsPutOver W (own_of g sectors body (reads old)) (own_of g sectors body (reads new))

@@ -41,10 +41,16 @@ KeepsBut W old new = KeepsAt (λ p. W p → ⊥) old new
 abbrev pub KeepsHeads : ℕ → Held → Held → Type 0
 KeepsHeads sectors old new = KeepsBut (λ p. (3 ≤ p) × (p + 1 < sectors)) old new
 
--- what a read gives once all was written that W says: in the written sectors their bytes, and elsewhere what it gave
-pub record HasWritten (l : Layout) (W : ℕ → List ℕ → Type 0) (old new : Held) : Type 0 where
-  pub inside : (s : ℕ) (value : List ℕ) → W s value → own_in l (reads new) s ≡ Some value
-  pub outside : (s : ℕ) → ((value : List ℕ) → W s value → ⊥) → own_in l (reads new) s ≡ own_in l (reads old) s
+-- What an image holds of the disk's sectors, `old` before a write of all that W says and `new` behind it: the written sectors with
+-- their bytes, and of each other sector what it held.
+pub record IsPutOver (W : ℕ → List ℕ → Type 0) (old new : ℕ → Option (List ℕ)) : Type 0 where
+  pub inside : (s : ℕ) (value : List ℕ) → W s value → new s ≡ Some value
+  pub outside : (s : ℕ) → ((value : List ℕ) → W s value → ⊥) → new s ≡ old s
+
+-- once all was written that W says, a read gives it of the VHD image in the volume: the written sectors with their bytes, and of each
+-- other sector what it held
+abbrev pub HasWritten : Layout → (ℕ → List ℕ → Type 0) → Held → Held → Type 0
+HasWritten l W old new = IsPutOver W (own_in l (reads old)) (own_in l (reads new))
 
 -- the map once a block has a slot: a block that has none gets the least free one
 unfoldable pub with_block : ℕ → List (Option ℕ) → List (Option ℕ)

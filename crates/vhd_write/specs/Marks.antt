@@ -33,7 +33,7 @@ HasMarked at marks bytes from until r = (i : ℕ) → from ≤ i → i < until �
 abbrev pub IsMarkedIn : ℕ → ℕ → List ℕ → ℕ → Type 0
 IsMarkedIn block b marks = IsMarked block (b * block) marks
 
--- these with their bytes
+-- the marked sectors of a block of the disk, each with its bytes
 abbrev pub PutsMarkedIn : ℕ → ℕ → List ℕ → List ℕ → ℕ → List ℕ → Type 0
 PutsMarkedIn block b marks bytes = PutsMarked block (b * block) marks bytes
 

@@ -4,7 +4,7 @@ use Rattle.sm_disk.specs.Held.{Reaches}
 use Rattle.vg_volumes.specs.Stored.{stored, sectors_in, held_in}
 use Rattle.vhd_write.specs.Marks.{PutsMarked}
 use Rattle.vhd_image.specs.Bodies.{sector_count, volume_name}
-use Rattle.vhd_image.proofs.MarkedLaws.{raw_put, vhd_put}
+use Rattle.vhd_image.proofs.MarkedLaws.{raw_put}
 use Rattle.vhd_image.proofs.images.Image.write_marked.Goals as goal
 use Rattle.vhd_image.proofs.images.Image.write_marked.Goals.{in-Raw+in_ok-put_marked-in-Raw, in-Vhd+in_ok-write_marked-in-Vhd}
 
@@ -34,5 +34,5 @@ returns-clause-written g c =
           let size = ap sector_count (sym c.self.view_is ∙ w.in-Raw.is) in
           raw_put (g.S.Store.site c.args.store.now).geometry (sectors_in (stored g.S.Store c.args.store.now) w.in-Raw.volume) w.in-Raw.volume w.in-Raw.sectors c.args.block (c.args.block * w.geometry.result.block) (length c.args.bytes.now / 512) c.args.marks.now c.args.bytes.now
           at count (omega (arith, size, c.requires.within)) (w.put_marked.ensures.reaches told) (w.in_ok-put_marked-in-Raw.ensures.done told))
-      | in-Vhd+in_ok-write_marked-in-Vhd w ↦ rw (w.result-is, w.store-is, sym c.self.view_is ∙ w.in-Vhd.is) (λ told. vhd_put _ _ w.in-Vhd.head w.in-Vhd.map _ (w.in_ok-write_marked-in-Vhd.ensures.written told))
+      | in-Vhd+in_ok-write_marked-in-Vhd w ↦ rw (w.result-is, w.store-is, sym c.self.view_is ∙ w.in-Vhd.is) (λ told. w.in_ok-write_marked-in-Vhd.ensures.written told)
     ]
