@@ -1,6 +1,6 @@
 -- Entries in their order: without those of some sectors, with one of them in front, with one more.
-use Rattle.std.proofs.Common.{◌≡◌, inl, inr, ℕ, ◌+◌, ◌-◌, Bool, true, false, not, cond, ◌&&◌, List, [], ◌∷◌, take, Option, Some, None, is_some, refl, sym, ap, ap₂, subst, ◌∙◌}
-use Rattle.std.specs.List.{AllByRecursion, IsDistinct, filter}
+use Rattle.std.proofs.Common.{◌≡◌, inl, inr, ℕ, ◌+◌, ◌-◌, Bool, true, false, not, cond, ◌&&◌, ◌||◌, List, [], ◌∷◌, take, Option, Some, None, is_some, refl, sym, ap, ap₂, subst, ◌∙◌}
+use Rattle.std.specs.List.{AllByRecursion, IsDistinct, filter, list_any}
 use Rattle.std.specs.Map.{keys_of, lookup, lookup_entry, remove_entry}
 use Rattle.std.specs.Option.{option_map_or}
 use Rattle.std.proofs.lemmas.Bool.{false≢true}
@@ -61,6 +61,19 @@ removed_one volume at (e ∷ es) apart = by (removed_one volume at es apart.1) (
     by ih false h = ap (λ l. e ∷ l) ih ∙ ap (λ b. cond (not b) (e ∷ rest) rest) (sym (among false h))
 
 -- ---- without the entries of some sectors
+
+-- where none of the entries is of these sectors
+pub others_all : (volume : Name) (at many : ℕ) (es : Entries) → list_any (λ e. is_among volume at many e.0) es ≡ false → es ≡ others volume at many es
+others_all volume at many [] none = refl
+others_all volume at many (e ∷ es) none = by (is_among volume at many e.0) refl none (others_all volume at many es)
+  where
+    rest : Entries
+    rest = others volume at many es
+
+    by : (b : Bool) → is_among volume at many e.0 ≡ b → (b || list_any (λ f. is_among volume at many f.0) es) ≡ false
+        → (list_any (λ f. is_among volume at many f.0) es ≡ false → es ≡ rest) → (e ∷ es) ≡ cond (not (is_among volume at many e.0)) (e ∷ rest) rest
+    by true is none ih = absurd (false≢true (sym none))
+    by false is none ih = ap (λ l. e ∷ l) (ih none) ∙ ap (λ b. cond (not b) (e ∷ rest) rest) (sym is)
 
 pub others_none : (volume : Name) (at : ℕ) (es : Entries) → es ≡ others volume at 0 es
 others_none volume at es = sym (filter_all (λ e. not (is_among volume at 0 e.0)) es (λ e there. ap not (among_none volume at e.0)))

@@ -1,6 +1,6 @@
 -- Two sectors are one exactly where `==` says so, and which sectors are among some.
 use Rattle.std.proofs.Common.{◌≡◌, ◌⊎◌, inl, inr, ℕ, ◌+◌, ◌≤◌, ◌<◌, Bool, true, false, not, ◌&&◌, refl, sym, ap, ap₂, subst, ◌∙◌, rules, arith}
-use Rattle.std.specs.Prelude.{nat_le, nat_lt}
+use Rattle.std.specs.Prelude.{◌↔◌, IsTrue, nat_le, nat_lt}
 use Rattle.std.specs.Cmp.{IsEquivalence}
 use Rattle.std.proofs.lemmas.Bool.{and_from, and_parts, leb-true, le-leb, ltb-true, lt-ltb, cases_lt, false≢true}
 use Rattle.sm_base.specs.declared.names.Name.{Name}
@@ -38,6 +38,11 @@ same_truth : (a b : Bool) → (a ≡ true → b ≡ true) → (b ≡ true → a 
 same_truth true b f g = sym (f refl)
 same_truth false true f g = g refl
 same_truth false false f g = refl
+
+-- an answer that is true exactly for the sectors among these
+pub among_told : (volume : Name) (at many : ℕ) (k : Spot) (b : Bool) → IsTrue b ↔ ((k.volume ≡ volume) × (at ≤ k.at) × (k.at < at + many)) → is_among volume at many k ≡ b
+among_told volume at many k true told = let p = told.0 refl in among_from volume at many k p.0 p.1 p.2
+among_told volume at many k false told = same_truth (is_among volume at many k) false (λ h. absurd (false≢true (told.1 (among_parts volume at many k h)))) (λ h. absurd (false≢true h))
 
 -- among one sector is this sector alone
 pub among_one : (volume : Name) (at : ℕ) (k : Spot) → same_spot (spot_of volume at) k ≡ is_among volume at 1 k

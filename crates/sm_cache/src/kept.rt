@@ -1,8 +1,9 @@
 //! The sectors that are kept, the one that was used last first.
 
-ghost use Rattle.std.specs.Prelude.{◌≡◌, ◌≢◌, ◌⊎◌, ◌+◌, ◌/◌, ◌<◌, ◌^◌, ℕ, List, IsTrue, false, length, OnOk, OnErr};
+ghost use Rattle.std.specs.Prelude.{◌≡◌, ◌≢◌, ◌⊎◌, ◌↔◌, ◌+◌, ◌/◌, ◌<◌, ◌≤◌, ◌^◌, ℕ, List, IsTrue, false, length, OnOk, OnErr};
 ghost use Rattle.lru.specs.LruCache.{lru_cache};
-ghost use Rattle.sm_cache.specs.Kept.{HasEntry, HasNoEntry, dropped, in_front, others, with_entry};
+ghost use Rattle.std.specs.List.{list_any};
+ghost use Rattle.sm_cache.specs.Kept.{HasEntry, HasNoEntry, dropped, in_front, is_among, others, with_entry};
 
 use crate::keys::Spot;
 use lru::LruCache;
@@ -91,12 +92,37 @@ fn renew(kept: &mut LruCache<Spot, [u8; 512]>, volume: &Name, at: u64, from: &[u
     }
 }
 
-/// Drops the entries of so many sectors of a volume from one on.
+/// Whether a sector is one of so many of a volume from one on.
+fn is_one_of(spot: &Spot, volume: &Name, at: u64, sectors: usize) -> bool
+    requires { at + sectors < 2 ^ 64 }
+    ensures { IsTrue result ↔ ((spot.now.volume ≡ volume.now) × (at ≤ spot.now.at) × (spot.now.at < at + sectors)) }
+{
+    spot.volume == *volume && at <= spot.at && spot.at < at + sectors as u64
+}
+
+/// Whether one of so many sectors of a volume from one on has an entry.
+fn has_among(kept: &LruCache<Spot, [u8; 512]>, volume: &Name, at: u64, sectors: usize) -> bool
+    requires { at + sectors < 2 ^ 64 }
+    ensures { result ≡ list_any (λ e. is_among volume.now at sectors e.0) kept.now.entries }
+{
+    for (spot, _) in kept.iter() {
+        if is_one_of(spot, volume, at, sectors) {
+            return true;
+        }
+    }
+    false
+}
+
+/// Drops the entries of so many sectors of a volume from one on. Where there are fewer entries than sectors these are looked over first,
+/// since a long write is mostly of sectors that have none.
 #[tactic(auto, unfolding(crate::specs::Kept::same_spot))]
 fn forget(kept: &mut LruCache<Spot, [u8; 512]>, volume: &Name, at: u64, sectors: usize)
     requires { at + sectors < 2 ^ 64 }
     ensures { kept.new ≡ lru_cache (others volume.now at sectors kept.old.entries) kept.old.cap }
 {
+    if kept.len() < sectors && !has_among(kept, volume, at, sectors) {
+        return;
+    }
     for done in 0..sectors {
         // `len` is called for its clause that no sector has two entries.
         let _len = kept.len();

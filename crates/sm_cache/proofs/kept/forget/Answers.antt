@@ -1,8 +1,12 @@
-use Rattle.std.proofs.Common.{◌≡◌, ap, ◌∙◌, arith}
+use Rattle.std.proofs.Common.{◌≡◌, ap, sym, ◌∙◌, arith}
 use Rattle.lru.specs.LruCache.{lru_cache}
 use Rattle.sm_cache.specs.Kept.{others, same_spot}
-use Rattle.sm_cache.proofs.EntryLaws.{others_more, others_none}
+use Rattle.sm_cache.proofs.EntryLaws.{others_all, others_more, others_none}
 use Rattle.sm_cache.proofs.kept.forget.Goals as goal
+
+pub returns-then-not-has_among : goal.returns-then-not-has_among
+returns-then-not-has_among c = ap (λ es. lru_cache es c.args.kept.now.cap)
+    (others_all c.args.volume.now c.args.at c.args.sectors c.args.kept.now.entries (sym c.has_among.ensures ∙ c.if-not-has_among.true))
 
 pub loop-done-init : goal.loop-done-init
 loop-done-init c = ap (λ es. lru_cache es c.args.kept.now.cap) (others_none c.args.volume.now c.args.at c.args.kept.now.entries)
