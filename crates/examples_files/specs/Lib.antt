@@ -1,1 +1,2 @@
 pub mod SmallFiles
+pub mod TakenFiles

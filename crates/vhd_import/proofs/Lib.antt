@@ -1,0 +1,10 @@
+pub mod AgreeLaws
+pub mod BytesLaws
+pub mod HeadLaws
+pub mod MadeLaws
+pub mod PutLaws
+pub mod ReadLaws
+pub mod RoomLaws
+pub mod TableLaws
+pub mod TakenLaws
+pub mod TestLaws

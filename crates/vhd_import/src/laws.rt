@@ -1,0 +1,32 @@
+//! What follows from the definitions of an import.
+
+ghost use Rattle.std.specs.Prelude.{◌≡◌, ◌^◌, ◌<◌, ◌≤◌, ℕ, List, ◌++◌, length};
+ghost use Rattle.sm_machine.specs.Disks.{Disk};
+ghost use Rattle.vhd_stream.specs.Files.{File, FileOf};
+ghost use Rattle.vhd_stream.specs.Laws.{IsExported};
+ghost use Rattle.vhd_import.specs.Laws.{AgreeUpTo, HasRoomFor};
+ghost use Rattle.vhd_import.specs.Puts.{put_at};
+ghost use Rattle.vhd_import.specs.Room.{Target, used};
+ghost use Rattle.vhd_import.specs.Verdicts.{Made, denial_at, verdict_of};
+
+/// Bytes of which a disk is made are a VHD file that stands by itself, and hold the sectors of the disk.
+pub fn law_made()
+    ensures holds { (t : Target) (bytes : List ℕ) (sectors : List (List ℕ)) → verdict_of t bytes ≡ Made sectors → FileOf bytes sectors }
+{}
+
+/// Of a VHD file of at most 2^42 bytes a disk with its sectors is made, where the repository has room for it. The file that a disk of a
+/// sound image is exported as is one.
+pub fn law_taken()
+    ensures made { (t : Target) (bytes : List ℕ) (sectors : List (List ℕ))
+        → FileOf bytes sectors → HasRoomFor t sectors → length bytes ≤ 2 ^ 42 → verdict_of t bytes ≡ Made sectors }
+    ensures exported { (t : Target) (size : ℕ) (image : ℕ → List ℕ) (d : Disk) (bytes : List ℕ)
+        → IsExported size image d bytes → HasRoomFor t d.sectors → length bytes ≤ 2 ^ 42 → verdict_of t bytes ≡ Made d.sectors }
+{}
+
+/// What a sector decides, what it puts on the disk, and how many slots are taken then depend on the sectors up to it alone.
+pub fn law_front()
+    ensures agree { (t : Target) (k : ℕ) (x y : File) → AgreeUpTo k x y → denial_at t x k ≡ denial_at t y k }
+    ensures denial { (t : Target) (front rest : File) (k : ℕ) → k < length front → denial_at t (front ++ rest) k ≡ denial_at t front k }
+    ensures put { (front rest : File) (k : ℕ) → k < length front → put_at (front ++ rest) k ≡ put_at front k }
+    ensures slots { (t : Target) (front rest : File) (count : ℕ) → count ≤ length front → used t (front ++ rest) count ≡ used t front count }
+{}
