@@ -20,7 +20,7 @@ pub fn taken_files()
 /// Files of which none is made: nothing at all, files that end too early, a differencing one, and files of which a part is wrong.
 pub fn refused_files()
     ensures empty { verdict_of small_target [] ≡ Denied (Cut 0) }
-    ensures in_header { verdict_of small_target (take 1024 (concat small_file)) ≡ Denied (Cut 2) }
+    ensures in_header { verdict_of small_target (take 1000 (concat small_file)) ≡ Denied (Cut 1) }
     ensures in_block { verdict_of small_target (take 10000 (concat small_file)) ≡ Denied (Cut 19) }
     ensures differencing { verdict_of small_target (concat differencing_file) ≡ Denied Differencing }
     ensures no_header { verdict_of small_target (concat (take 1 small_file ++ (plain_sector ∷ drop 2 small_file))) ≡ Denied (BadFile 1) }
