@@ -1,6 +1,9 @@
 pub mod AgreeLaws
+pub mod ApartLaws
 pub mod BytesLaws
+pub mod EntryLaws
 pub mod HeadLaws
+pub mod KeptLaws
 pub mod MadeLaws
 pub mod PutLaws
 pub mod ReadLaws

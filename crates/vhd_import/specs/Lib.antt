@@ -1,3 +1,5 @@
+pub mod Apart
+pub mod Entries
 pub mod Heads
 pub mod Laws
 pub mod Puts

@@ -1,9 +1,11 @@
 //! What follows from the definitions of an import.
 
 ghost use Rattle.std.specs.Prelude.{◌≡◌, ◌^◌, ◌<◌, ◌≤◌, ℕ, List, ◌++◌, length};
+ghost use Rattle.sm_base.specs.Numbers.{div_up};
 ghost use Rattle.sm_machine.specs.Disks.{Disk};
-ghost use Rattle.vhd_stream.specs.Files.{File, FileOf};
+ghost use Rattle.vhd_stream.specs.Files.{File, FileLayout, FileOf, entry};
 ghost use Rattle.vhd_stream.specs.Laws.{IsExported};
+ghost use Rattle.vhd_import.specs.Entries.{entries_from, table_entry};
 ghost use Rattle.vhd_import.specs.Laws.{AgreeUpTo, HasRoomFor};
 ghost use Rattle.vhd_import.specs.Puts.{put_at};
 ghost use Rattle.vhd_import.specs.Room.{Target, used};
@@ -29,4 +31,11 @@ pub fn law_front()
     ensures denial { (t : Target) (front rest : File) (k : ℕ) → k < length front → denial_at t (front ++ rest) k ≡ denial_at t front k }
     ensures put { (front rest : File) (k : ℕ) → k < length front → put_at (front ++ rest) k ≡ put_at front k }
     ensures slots { (t : Target) (front rest : File) (count : ℕ) → count ≤ length front → used t (front ++ rest) count ≡ used t front count }
+{}
+
+/// What is kept of a table that was read is what the file says, in which the table stands behind so many sectors.
+pub fn law_table()
+    ensures { (f : FileLayout) (front sectors rest : File)
+        → length front ≡ f.table → length sectors ≡ div_up f.entries 128 → f.blocks ≤ f.entries
+        → entries_from (table_entry sectors) 0 f.blocks ≡ entries_from (entry f (front ++ (sectors ++ rest))) 0 f.blocks }
 {}

@@ -1,26 +1,32 @@
 //! What an import answers to a VHD file.
 //!
-//! **What is kept here.** Nothing: a file is read once, from its begin, a sector at a time ([`read_sector`]). No call here makes a
-//! disk, and no word of the program asks for an import yet.
+//! **What is kept here.** Nothing: a file is read once, from its begin, a sector at a time ([`read_sector`]), and of its table the
+//! entries are kept that name a place ([`read_table`], [`sort_entries`]). No call here makes a disk, and no word of the program asks
+//! for an import yet.
 //!
 //! **The model** (`specs/`). A file is a list of sectors of 512 bytes, as in `vhd_stream`. `Verdicts` says what an import answers to
 //! bytes (`verdict_of`): the sectors of a disk, why the file is not taken, or that it is longer than is read. Each sector may
 //! decide a denial (`denial_at`), and the end of the file may; the first one counts. `Heads` says what the first sectors say of a file,
 //! `Tables` when its table is wrong, `Puts` what each sector puts on the disk, and `Room` how many extents a repository needs for it
-//! (`used`). The disk that is made is `imported`. Sizes are in sectors, in blocks of the file or of the repository, and in extents.
+//! (`used`). `Entries` says what is kept of a table. The disk that is made is `imported`. Sizes are in sectors, in blocks of the file or
+//! of the repository, and in extents.
 //!
-//! **What it promises.** Laws alone, and that a sector is read as it came. What is made of bytes is what they hold as a VHD file
+//! **What it promises.** Laws, and that a sector and a table are read as they came, in whatever pieces: the table is right exactly where
+//! `sort_entries` says so. What is made of bytes is what they hold as a VHD file
 //! (`law_made`). Each VHD file that the repository has room for is taken, with the sectors that it holds, so also the file that a disk was
 //! exported as (`law_taken`). What a sector decides depends on the sectors up to it alone (`law_front`), so that it may be answered
 //! before the next one is read.
 //!
-//! **What it costs.** A sector is read by as many calls of the source as it comes in pieces. No call takes memory.
+//! **What it costs.** A sector is read by as many calls of the source as it comes in pieces. Memory is taken for the entries of a table that
+//! name a place, eight bytes each; they are sorted in place.
 #![tactic(auto)]
 
 mod denials;
 mod laws;
 mod reading;
+mod tables;
 
 pub use denials::Denial;
-pub use laws::{law_front, law_made, law_taken};
+pub use laws::{law_front, law_made, law_table, law_taken};
 pub use reading::{Part, read_sector};
+pub use tables::{Entry, TableFault, read_table, sort_entries};
