@@ -20,7 +20,7 @@ use Rattle.vhd_import.specs.declared.tables.TableFault.TheVariants.{End, NoMemor
 use Rattle.vhd_import.specs.Entries.{HasLeftTable, HasReadWhole, IsPart, IsPartRead, IsTableRead, entries_from, entry_for, table_entry}
 use Rattle.vhd_import.proofs.TestLaws.{filter_map-same}
 
-numbers-append : (a n m : ℕ) → numbers a (n + m) ≡ numbers a n ++ numbers (a + n) m
+pub numbers-append : (a n m : ℕ) → numbers a (n + m) ≡ numbers a n ++ numbers (a + n) m
 unfolding numbers
 numbers-append a zero m = let e : zero + m ≡ m = omega arith in let d : a + zero ≡ a = omega arith in rw (e, d) refl
 numbers-append a (suc n) m =

@@ -8,6 +8,7 @@ pub mod MadeLaws
 pub mod PutLaws
 pub mod ReadLaws
 pub mod RoomLaws
+pub mod StepLaws
 pub mod TableLaws
 pub mod TakenLaws
 pub mod TestLaws

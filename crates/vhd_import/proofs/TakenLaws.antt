@@ -1,10 +1,11 @@
 -- Each file that a repository has room for is taken, with the sectors that it holds.
 use Rattle.std.proofs.Common.{◌≡◌, ◌⊎◌, inl, inr, ℕ, ◌+◌, ◌-◌, ◌*◌, ◌/◌, ◌%◌, ◌<◌, ◌≤◌, ◌^◌, Bool, true, false, not, ◌&&◌, List, [], ◌∷◌, ◌++◌, length, map, Option, Some, None, Result, Ok, refl, sym, ap, ◌∙◌, arith, subst}
 use Rattle.std.specs.Prelude.{nat_lt, ◌==◌, is_some, min}
-use Rattle.std.specs.List.{range_with_len}
+use Rattle.std.specs.List.{concat, range_with_len}
 use Rattle.std.specs.Option.{option_map_or}
 use Rattle.std.specs.Result.{result_ok}
 use Rattle.std.proofs.lemmas.Bool.Decides.{nat_tests}
+use Rattle.std.proofs.lemmas.List.Elements.{recursion_from_All}
 use Rattle.std.proofs.lemmas.List.FromFn.{fill_by_all}
 use Rattle.common_laws.specs.Lists.{In, first_some, given, numbers}
 use Rattle.common_laws.proofs.Lists.{In-map, In-numbers, first_none}
@@ -13,7 +14,7 @@ use Rattle.vhd_fields.specs.declared.footers.Footer.{Footer}
 use Rattle.sm_base.specs.Numbers.{div_up}
 use Rattle.sm_machine.specs.Disks.{cut_sectors}
 use Rattle.vhd_fields.specs.Footers.{footer_read, footer_tests}
-use Rattle.vhd_stream.specs.Files.{File, FileLayout, FileOf, IsDynamic, IsFixed, file_sector, layout_of, sector_at, table_end}
+use Rattle.vhd_stream.specs.Files.{File, FileLayout, FileOf, IsCutInto, IsDynamic, IsFixed, file_sector, layout_of, sector_at, table_end}
 use Rattle.vhd_import.specs.declared.denials.Denial.{Denial}
 use Rattle.vhd_import.specs.declared.denials.Denial.TheVariants.{BadFile, BadSize, Differencing}
 use Rattle.vhd_import.specs.Heads.{footer_at, header_at, is_dynamic, is_kind, layout_at, size_at}
@@ -21,7 +22,7 @@ use Rattle.vhd_import.specs.Laws.{HasRoomFor}
 use Rattle.vhd_import.specs.Room.{Target, is_too_large}
 use Rattle.vhd_import.specs.Tables.{is_table_wrong}
 use Rattle.vhd_import.specs.Verdicts.{Denied, Made, Verdict, denial_at, denial_at_end, dynamic_denials, ends_as, fixed_denials, is_footed, is_whole, sector_limit, sectors_of, verdict, verdict_of, wrong_table}
-use Rattle.vhd_import.proofs.BytesLaws.{are-cut, cut-is}
+use Rattle.vhd_import.proofs.BytesLaws.{are-cut, cut-is, cut-joined, length-joined}
 use Rattle.vhd_import.proofs.HeadLaws.{end-of-header, header-is}
 use Rattle.vhd_import.proofs.MadeLaws.{IsUndenied, made, made-holds}
 use Rattle.vhd_import.proofs.PutLaws.{known, not-dynamic, puts-dynamic, puts-fixed}
@@ -151,3 +152,22 @@ made-file t bytes sectors h =
     let file : File = cut_sectors (min (length bytes / 512) sector_limit) bytes in
     let m = made t file (nat_lt 0 (length bytes % 512)) (nat_lt (512 * sector_limit) (length bytes)) sectors h in
     record { file = file; cut = cut-is bytes m.whole m.short; is = made-holds t file sectors m.undenied m.sectors_are }
+
+-- ---- one disk
+
+same-file : (bytes : List ℕ) (x y : File) → IsCutInto bytes x → IsCutInto bytes y → x ≡ y
+same-file bytes x y cx cy =
+    let wx = recursion_from_All (λ s. length s ≡ 512) x cx.whole in
+    let wy = recursion_from_All (λ s. length s ≡ 512) y cy.whole in
+    let lx : length bytes ≡ 512 * length x = ap (λ (b : List ℕ). length b) cx.joined ∙ length-joined x wx in
+    let ly : length bytes ≡ 512 * length y = ap (λ (b : List ℕ). length b) cy.joined ∙ length-joined y wy in
+    let count : length x ≡ length y = omega (arith, lx, ly) in
+    sym (cut-joined x wx) ∙ ap (cut_sectors (length x)) (sym cx.joined ∙ cy.joined) ∙ ap (λ n. cut_sectors n (concat y)) count ∙ cut-joined y wy
+
+sectors-held : (file : File) (sectors : List (List ℕ)) → IsDynamic file sectors ⊎ IsFixed file sectors → sectors_of file ≡ sectors
+sectors-held file sectors (inl d) = dynamic-sectors file sectors d
+sectors-held file sectors (inr d) = fixed-sectors file sectors d
+
+-- a VHD file holds one disk
+pub one-disk : (bytes : List ℕ) (a b : List (List ℕ)) → FileOf bytes a → FileOf bytes b → a ≡ b
+one-disk bytes a b x y = sym (sectors-held x.file a x.is) ∙ ap sectors_of (same-file bytes x.file y.file x.cut y.cut) ∙ sectors-held y.file b y.is
