@@ -1,6 +1,7 @@
 -- What the first sectors of a file say, where they read.
-use Rattle.std.proofs.Common.{◌≡◌, inl, inr, ℕ, ◌+◌, ◌/◌, ◌%◌, ◌<◌, ◌≤◌, Bool, true, false, List, [], ◌∷◌, ◌++◌, Option, Some, None, Result, Ok, refl, sym, ap, ◌∙◌, arith}
+use Rattle.std.proofs.Common.{◌≡◌, inl, inr, ℕ, ◌+◌, ◌/◌, ◌%◌, ◌<◌, ◌≤◌, Bool, true, false, ◌&&◌, List, [], ◌∷◌, ◌++◌, Option, Some, None, Result, Ok, refl, sym, ap, ◌∙◌, arith}
 use Rattle.std.specs.Prelude.{nat_le, ◌==◌, is_some, if◌then◌else◌}
+use Rattle.std.specs.Int.{is_power_of_two}
 use Rattle.std.specs.Result.{result_ok}
 use Rattle.std.proofs.lemmas.Bool.{and_parts}
 use Rattle.std.proofs.lemmas.Bool.Decides.{nat_tests}
@@ -12,7 +13,7 @@ use Rattle.vhd_fields.specs.declared.faults.FieldFault.TheVariants.{Field}
 use Rattle.vhd_fields.specs.declared.footers.Footer.{Footer}
 use Rattle.vhd_fields.specs.declared.headers.Header.{Header}
 use Rattle.vhd_fields.specs.Fields.{first_fault, number_at, unless_fault}
-use Rattle.vhd_fields.specs.Headers.{header_fault, header_fields, header_read, header_tests, is_entries, is_table_offset}
+use Rattle.vhd_fields.specs.Headers.{header_fault, header_fields, header_read, header_tests, is_block, is_entries, is_table_offset}
 use Rattle.vhd_stream.specs.Files.{File, FileLayout, layout_of, sector_at, table_end}
 use Rattle.vhd_import.specs.Heads.{footer_at, header_at, is_kind, layout_at, without_parent}
 use Rattle.vhd_import.proofs.TestLaws.{is-given, read-ok, same_some}
@@ -103,6 +104,17 @@ table-behind bytes h reads =
     let low : 1536 ≤ number_at 16 8 bytes = let t : nat_le 1536 (number_at 16 8 bytes) ≡ true = (and_parts (number_at 16 8 bytes % 512 == 0) (nat_le 1536 (number_at 16 8 bytes)) offset).1 in grind (arith, nat_tests) in
     let some : 1 ≤ number_at 28 4 bytes = let t : nat_le 1 (number_at 28 4 bytes) ≡ true = (and_parts (nat_le 1 (number_at 28 4 bytes)) (nat_le (number_at 28 4 bytes) 1044480) many).0 in grind (arith, nat_tests) in
     (omega (arith, low, at), omega (arith, some, count))
+
+-- a block has some sectors
+pub block-some : (bytes : List ℕ) (h : Header) → header_read bytes ≡ Ok h → 0 < h.block / 512
+unfolding header_tests header_fields
+block-some bytes h reads =
+    let parts = read-fields (header_fault bytes) (header_fields bytes) h reads in
+    let n : ℕ = number_at 32 4 bytes in
+    let good : is_block n ≡ true = passes (header_tests bytes) parts.0 (is_block n, Field 32) (inr (inr (inr (inr (inr (inl refl)))))) in
+    let at : n ≡ h.block = ap (λ (x : Header). x.block) parts.1 in
+    let low : 4096 ≤ n = let t : nat_le 4096 n ≡ true = (and_parts (is_power_of_two n) (nat_le 4096 n) (and_parts (is_power_of_two n && nat_le 4096 n) (nat_le n 2097152) good).0).1 in grind (arith, nat_tests) in
+    omega (arith, low, at)
 
 -- the table of a file ends behind its footer and header
 pub end-behind : (file : File) (f : FileLayout) → layout_at file ≡ Some f → 4 ≤ table_end f

@@ -1,5 +1,6 @@
 pub mod AgreeLaws
 pub mod ApartLaws
+pub mod BeginningLaws
 pub mod BytesLaws
 pub mod EntryLaws
 pub mod HeadLaws

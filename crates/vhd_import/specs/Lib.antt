@@ -1,4 +1,5 @@
 pub mod Apart
+pub mod Beginnings
 pub mod Entries
 pub mod Heads
 pub mod Laws

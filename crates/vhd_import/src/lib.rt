@@ -12,7 +12,8 @@
 //! of the repository, and in extents.
 //!
 //! **What it promises.** Laws, and that a sector and a table are read as they came, in whatever pieces: the table is right exactly where
-//! `sort_entries` says so. What is made of bytes is what they hold as a VHD file, which is one disk (`law_made`). Each VHD file that the
+//! `sort_entries` says so. What the first sectors and the last one say is told as the definitions have it (`beginning_of`, `numbers_of`,
+//! `is_footed`, `is_too_large`). What is made of bytes is what they hold as a VHD file, which is one disk (`law_made`). Each VHD file that the
 //! repository has room for is taken, with the sectors that it holds, so also the file that a disk was exported as (`law_taken`). What a
 //! sector decides depends on the sectors up to it alone (`law_front`), so that it may be answered before the next one is read. For who
 //! reads a file there are the entries of its table (`law_table`), what each sector puts (`law_put`), and how many slots that takes
@@ -23,11 +24,13 @@
 #![tactic(auto)]
 
 mod denials;
+mod heads;
 mod laws;
 mod reading;
 mod tables;
 
 pub use denials::Denial;
+pub use heads::{Beginning, FileNumbers, beginning_of, is_footed, is_too_large, numbers_of};
 pub use laws::{law_front, law_made, law_put, law_table, law_taken, law_used};
 pub use reading::{Part, read_sector};
 pub use tables::{Entry, TableFault, read_table, sort_entries};
