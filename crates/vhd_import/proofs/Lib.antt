@@ -2,6 +2,7 @@ pub mod AgreeLaws
 pub mod ApartLaws
 pub mod BeginningLaws
 pub mod BytesLaws
+pub mod DiskLaws
 pub mod EntryLaws
 pub mod HeadLaws
 pub mod KeptLaws

@@ -1,9 +1,10 @@
 //! What follows from the definitions of an import.
 
-ghost use Rattle.std.specs.Prelude.{◌≡◌, ◌≢◌, ◌+◌, ◌^◌, ◌<◌, ◌≤◌, ℕ, List, ◌++◌, length, None, Some, true, false};
+ghost use Rattle.std.specs.Prelude.{◌≡◌, ◌≢◌, ◌+◌, ◌*◌, ◌^◌, ◌<◌, ◌≤◌, ℕ, List, ◌++◌, length, None, Some, true, false};
 ghost use Rattle.sm_base.specs.Numbers.{div_up};
+ghost use Rattle.sm_disk.specs.Sectors.{zeros};
 ghost use Rattle.sm_machine.specs.Disks.{Disk};
-ghost use Rattle.vhd_stream.specs.Files.{File, FileLayout, FileOf, IsThere, entry};
+ghost use Rattle.vhd_stream.specs.Files.{File, FileLayout, FileOf, IsThere, entry, sector_at};
 ghost use Rattle.vhd_stream.specs.Laws.{IsExported};
 ghost use Rattle.vhd_import.specs.Entries.{entries_from, table_entry};
 ghost use Rattle.vhd_import.specs.Heads.{is_dynamic, layout_at};
@@ -11,7 +12,7 @@ ghost use Rattle.vhd_import.specs.Laws.{AgreeUpTo, HasRoomFor};
 ghost use Rattle.vhd_import.specs.Puts.{block_put, has_sector, put_at};
 ghost use Rattle.vhd_import.specs.Room.{Target, filled_at, used};
 ghost use Rattle.vhd_import.specs.Tables.{is_table_wrong};
-ghost use Rattle.vhd_import.specs.Verdicts.{Made, denial_at, verdict_of};
+ghost use Rattle.vhd_import.specs.Verdicts.{Made, denial_at, imported, verdict_of};
 
 /// Bytes of which a disk is made are a VHD file that stands by itself, and hold the sectors of the disk. A VHD file holds one disk.
 pub fn law_made()
@@ -60,4 +61,14 @@ pub fn law_used()
         → used t file (k + 1) ≡ used t file k }
     ensures more { (t : Target) (file : File) (k b : ℕ) → filled_at t file k ≡ Some b → b < t.entries
         → ((j : ℕ) → j < k → filled_at t file j ≢ Some b) → used t file (k + 1) ≡ used t file k + 1 }
+{}
+
+/// The disk that is made of a file is whole blocks of the repository: the sectors that the file holds, and then zeros.
+pub fn law_imported()
+    ensures size { (block : ℕ) (uuid : List ℕ) (sectors : List (List ℕ)) → 0 < block
+        → length (imported block uuid sectors).sectors ≡ div_up (length sectors) block * block }
+    ensures front { (block : ℕ) (uuid : List ℕ) (sectors : List (List ℕ)) (s : ℕ) → s < length sectors
+        → sector_at (imported block uuid sectors).sectors s ≡ sector_at sectors s }
+    ensures rest { (block : ℕ) (uuid : List ℕ) (sectors : List (List ℕ)) (s : ℕ) → length sectors ≤ s
+        → s < div_up (length sectors) block * block → sector_at (imported block uuid sectors).sectors s ≡ zeros }
 {}

@@ -17,7 +17,7 @@
 //! repository has room for is taken, with the sectors that it holds, so also the file that a disk was exported as (`law_taken`). What a
 //! sector decides depends on the sectors up to it alone (`law_front`), so that it may be answered before the next one is read. For who
 //! reads a file there are the entries of its table (`law_table`), what each sector puts (`law_put`), and how many slots that takes
-//! (`law_used`).
+//! (`law_used`). The disk that is made is whole blocks (`law_imported`).
 //!
 //! **What it costs.** A sector is read by as many calls of the source as it comes in pieces. Memory is taken for the entries of a table that
 //! name a place, eight bytes each; they are sorted in place.
@@ -31,6 +31,6 @@ mod tables;
 
 pub use denials::Denial;
 pub use heads::{Beginning, FileNumbers, beginning_of, is_footed, is_too_large, numbers_of};
-pub use laws::{law_front, law_made, law_put, law_table, law_taken, law_used};
+pub use laws::{law_front, law_imported, law_made, law_put, law_table, law_taken, law_used};
 pub use reading::{Part, read_sector};
 pub use tables::{Entry, TableFault, read_table, sort_entries};
