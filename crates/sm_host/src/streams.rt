@@ -6,6 +6,9 @@ ghost use Rattle.sm_disk.specs.Held.{Rose};
 use sm_disk::{Failed, Sink, Source};
 use std::io::{Read, Write};
 
+/// The bytes of a sector.
+const SECTOR: usize = 512;
+
 /// A reader as a source, as standard input.
 #[derive(Drop)]
 pub struct ReadSource<R> {
@@ -38,8 +41,8 @@ impl<R: Read> Source for ReadSource<R> {
     }
 }
 
-/// A writer as a sink, as standard output. A piece that ends with a newline is handed on to the system before
-/// the call returns, so over a buffered writer a line goes out whole.
+/// A writer as a sink, as standard output. A piece that ends with a newline, or has the bytes of a sector or more, is handed on to
+/// the system before the call returns: so over a buffered writer a line goes out whole, and of a file nothing is kept back.
 #[derive(Drop)]
 pub struct WriteSink<W> {
     writer: W,
@@ -62,7 +65,7 @@ impl<W: Write> Sink for WriteSink<W> {
 
     fn write(&mut self, from: &[u8]) -> Result<usize, Failed> {
         if self.writer.write_all(from).is_err()
-            || (from.ends_with(b"\n") && self.writer.flush().is_err())
+            || ((from.ends_with(b"\n") || from.len() >= SECTOR) && self.writer.flush().is_err())
         {
             self.faults = self.faults.saturating_add(1);
             return Err(Failed);

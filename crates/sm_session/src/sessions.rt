@@ -121,6 +121,22 @@ impl<S: Store> Session<S> {
         }
     }
 
+    /// The store and what is in memory of it, as they are. No call is made.
+    pub fn into_parts(self) -> (S, Memory)
+        ensures store { result.0 ≡ self.store }
+        ensures memory { result.1 ≡ self.memory }
+    {
+        let Session {
+            store,
+            memory,
+            pool: _,
+            children: _,
+            broken: _,
+            now: _,
+        } = self;
+        (store, memory)
+    }
+
     /// The store, as it is. No call is made on it.
     pub fn into_store(self) -> S
         ensures store { result ≡ self.store }
