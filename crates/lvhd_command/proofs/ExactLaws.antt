@@ -18,7 +18,7 @@ use Rattle.vg_meta.specs.Reading.{IsDamagedBy}
 use Rattle.lvhd_command.proofs.DamagedOnce.{damaged_once}
 use Rattle.lvhd_command.proofs.SoundText.{not_damaged}
 use Rattle.lvhd_command.specs.declared.statuses.Status.{Status}
-use Rattle.lvhd_command.specs.declared.statuses.Status.TheVariants.{Done, Words, Device, Source, Sink, Refused, Memory, TooLong}
+use Rattle.lvhd_command.specs.declared.statuses.Status.TheVariants.{Done, Words, Device, Source, Sink, Refused, Memory, TooLong, Denied}
 use Rattle.lvhd_command.specs.Devices.{IsSoundOn, IsRefusedOn, by_group, by_content}
 use Rattle.lvhd_command.specs.Running.{RunSides, RunDid, HasSaid, EndsAs, status_of}
 use Rattle.lvhd_command.proofs.OpenLaws.{plate_once, content_once}
@@ -135,6 +135,21 @@ never_refused s status (inr not) sound is =
     let said : HasSaid s Refused = subst (λ (x : Status). HasSaid s x) is not.said in
     sound_or_refused s.size (reads s.old) said.0 sound said.1
 
+-- nor denied, whatever stands there
+never_by : (f : RunFault) → Denied ≡ status_of (Err f) → ⊥
+never_by run.Device is = absurd cc
+never_by run.Source is = absurd cc
+never_by run.Sink is = absurd cc
+never_by run.TooLong is = absurd cc
+
+ends_not_denied : (result : Result ⊤ RunFault) (size : ℕ) (new : Held) (end : State) → EndsAs result size new end Denied → ⊥
+ends_not_denied (Ok u) size new end ends = ⊎_elim (λ done. let x : Denied ≡ Done = done.0 in absurd cc) (λ failed. let x : Denied ≡ Device = failed in absurd cc) ends
+ends_not_denied (Err f) size new end ends = never_by f ends
+
+never_denied : (s : RunSides) → RunDid s Denied → ⊥
+never_denied s (inl did) = ends_not_denied did.result s.size s.new did.end did.ends
+never_denied s (inr not) = not.said
+
 -- and with no fault of the device, the source and the sink it is done, or memory or the script's length ends it
 pub completes : (s : RunSides) (status : Status) → RunDid s status → IsSoundOn s.size (reads s.old)
     → (status ≡ Words → ⊥) → (status ≡ Device → ⊥) → (status ≡ Source → ⊥) → (status ≡ Sink → ⊥) → (status ≡ Done) ⊎ ((status ≡ Memory) ⊎ (status ≡ TooLong))
@@ -146,3 +161,4 @@ completes s Sink did sound words device source sink = absurd (sink refl)
 completes s Refused did sound words device source sink = absurd (never_refused s Refused did sound refl)
 completes s Memory did sound words device source sink = inr (inl refl)
 completes s TooLong did sound words device source sink = inr (inr refl)
+completes s Denied did sound words device source sink = absurd (never_denied s did)

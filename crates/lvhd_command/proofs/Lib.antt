@@ -1,5 +1,6 @@
 pub mod DamagedOnce
 pub mod ExactLaws
+pub mod ExportLaws
 pub mod FormatLaws
 pub mod FormattedLaws
 pub mod OpenLaws

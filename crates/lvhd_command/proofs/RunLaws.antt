@@ -29,13 +29,14 @@ use Rattle.sm_ready.proofs.StrayLaws.{law_state}
 use Rattle.sm_run.specs.Runs.{HasRun}
 use Rattle.sm_recover.specs.Repairs.{UnlessDeviceFailed}
 use Rattle.sm_run.specs.declared.runs.RunFault.{RunFault}
-use Rattle.sm_standing.specs.Devices.{Shows, content_of}
+use Rattle.sm_standing.specs.Devices.{Shows}
 use Rattle.sm_standing.specs.Entries.{names_in}
 use Rattle.sm_standing.specs.Shapes.{IsStateOf}
 use Rattle.sm_standing.specs.Standing.{disks}
 use Rattle.lvhd_command.specs.declared.statuses.Status.{Status}
-use Rattle.lvhd_command.specs.declared.statuses.Status.TheVariants.{Done, Words, Device, Source, Sink, Refused, Memory, TooLong}
+use Rattle.lvhd_command.specs.declared.statuses.Status.TheVariants.{Done, Words, Device, Source, Sink, Refused, Memory, TooLong, Denied}
 use Rattle.lvhd_command.specs.Devices.{IsOpenedOn, IsSoundOn, IsRefusedOn, plate_at}
+use Rattle.lvhd_command.specs.Exporting.{StandsAs}
 use Rattle.lvhd_command.specs.Running.{RunSides, HasRunOn, HasStayed, ReadsAsState, EndsAs, ShowsOnly, IsGivenBack, ToldOf, HasTold, HasSaid, status_of}
 use Rattle.lvhd_command.specs.Texts.{line_of, fault_words}
 use Rattle.lvhd_command.proofs.OpenLaws.{standing, extents_in, StandsAlways, kept_device, shown_device, shown_standing}
@@ -75,19 +76,34 @@ session_state site t area m o tidy ready = record { state = law_state site t are
 abbrev pub IsOneTable : ℕ → Site → Held → VolumeTable → Type 0
 IsOneTable size site after t = (u : VolumeTable) (image : ℕ → List ℕ) → LeavesGroup size after (plate_at site) u image → u ≡ t
 
+-- what stands on a device that was given back, as a read gives it: the session's content, with its table
+pub record StandsBack (size : ℕ) (site : Site) (held after : Held) (t : VolumeTable) : Type 0 where
+  pub content : StandsAs size after (content_now site t (area_of site.layout held))
+  pub table_is : content.group.table ≡ t
+
+pub stands_back : (size : ℕ) (site : Site) (held after : Held) (t : VolumeTable) → IsGivenBack size site held after → IsOneTable size site after t → StandsBack size site held after t
+stands_back size site held after t back one =
+    let s = back.stands (reads after) (Allows-reads size after) in
+    let left : LeavesGroup size after (plate_at site) s.table (extents_in site.layout (reads after)) = record { whole = reads after; allowed = Allows-reads size after; pointer = s.pointer; stands = s.stands; sectors = λ q. refl } in
+    let table : s.table ≡ t = one s.table (extents_in site.layout (reads after)) left in
+    record {
+      content = record {
+        group = standing site s.pointer s.table;
+        stands = s.stands;
+        content_is = ap₂ (λ (u : VolumeTable) (image : ℕ → List ℕ). content_in site u image) (sym table) (fun_ext (λ q. sym (back.extents.reads q)));
+      };
+      table_is = table;
+    }
+
 pub reads_as : (size : ℕ) (site : Site) (held after : Held) (t : VolumeTable) (σ : State) → IsGivenBack size site held after → IsOneTable size site after t → IsStateWith site t (area_of site.layout held) σ
     → ReadsAsState size after σ
 reads_as size site held after t σ back one with =
-    let state = with.state in
-    let s = back.stands (reads after) (Allows-reads size after) in
-    let left : LeavesGroup size after (plate_at site) s.table (extents_in site.layout (reads after)) = record { whole = reads after; allowed = Allows-reads size after; pointer = s.pointer; stands = s.stands; sectors = λ q. refl } in
-    let content : content_now site t (area_of site.layout held) ≡ content_of (standing site s.pointer s.table) (reads after)
-    = ap₂ (λ (u : VolumeTable) (image : ℕ → List ℕ). content_in site u image) (sym (one s.table (extents_in site.layout (reads after)) left)) (fun_ext (λ q. sym (back.extents.reads q))) in
+    let b = stands_back size site held after t back one in
     record {
-      group = standing site s.pointer s.table;
-      stands = s.stands;
-      state = subst (λ c. IsStateOf c σ) content state;
-      entries = subst (λ (u : VolumeTable). names_in u is_entry ≡ entry_of σ.shape.op) (sym (one s.table (extents_in site.layout (reads after)) left)) with.entries;
+      group = b.content.group;
+      stands = b.content.stands;
+      state = subst (λ c. IsStateOf c σ) b.content.content_is with.state;
+      entries = subst (λ (u : VolumeTable). names_in u is_entry ≡ entry_of σ.shape.op) (sym b.table_is) with.entries;
     }
 
 -- ---- the whole
@@ -124,7 +140,7 @@ told_refusal e had got before now (Err f) status w is = subst (λ (x : Status). 
 -- ---- the last sync, failed or not: a stop leaves no more, and reads give the same
 
 -- what a stop leaves of the group after a sync it might have left before
-fewer_after : (size : ℕ) (site : Site) (held after : Held) (t : VolumeTable) (image : ℕ → List ℕ) → Keeps held after → LeavesGroup size after (plate_at site) t image → LeavesGroup size held (plate_at site) t image
+pub fewer_after : (size : ℕ) (site : Site) (held after : Held) (t : VolumeTable) (image : ℕ → List ℕ) → Keeps held after → LeavesGroup size after (plate_at site) t image → LeavesGroup size held (plate_at site) t image
 fewer_after size site held after t image k l = record { whole = l.whole; allowed = Allows-keeps size l.whole k l.allowed; pointer = l.pointer; stands = l.stands; sectors = l.sectors }
 
 pub kept_back_after : (size : ℕ) (site : Site) (held after : Held) → Keeps held after → StandsAlways size held site → IsGivenBack size site held after
@@ -195,6 +211,7 @@ told_said s e before now Done is t = absurd t
 told_said s e before now Words is t = absurd t
 told_said s e before now Source is t = absurd t
 told_said s e before now TooLong is t = absurd t
+told_said s e before now Denied is t = absurd t
 
 silent : (s : RunSides) (status : Status) (to : Status) → status ≡ to → (Adds s.had_got [] s.got → HasSaid s to) → s.got ≡ s.had_got → HasSaid s status
 silent s status to is say same =
@@ -267,6 +284,7 @@ told_calm e had got before now Done t other = absurd t
 told_calm e had got before now Words t other = absurd t
 told_calm e had got before now Source t other = absurd t
 told_calm e had got before now TooLong t other = absurd t
+told_calm e had got before now Denied t other = absurd t
 
 -- and unless the sink failed, its line went out with no call that failed
 pub refused_sink_calm : (e : OpenFault) (had got : Option (List ℕ)) (before now : ℕ) (status : Status) → HasTold e had got before now status → status ≢ Sink → now ≡ before

@@ -29,7 +29,7 @@ use Rattle.vg_layout.specs.Places.{record_extents}
 use Rattle.vg_store.specs.Formats.{IsFormatted, IsLeftByFormat, least_size}
 use Rattle.vg_store.specs.Openings.{IsAnswer}
 use Rattle.lvhd_command.specs.declared.statuses.Status.{Status}
-use Rattle.lvhd_command.specs.declared.statuses.Status.TheVariants.{Done, Words, Device, Source, Sink, Refused, Memory, TooLong}
+use Rattle.lvhd_command.specs.declared.statuses.Status.TheVariants.{Done, Words, Device, Source, Sink, Refused, Memory, TooLong, Denied}
 use Rattle.lvhd_command.specs.declared.words.Form.TheVariants.{Trial}
 use Rattle.lvhd_command.specs.Devices.{IsKeptDevice, IsOpenedOn, IsRefusedOn, IsSoundOn}
 use Rattle.lvhd_command.specs.Formatting.{HasSizes, Sides}
@@ -88,6 +88,7 @@ session_said size h had got start number text Refused says tried kept = absurd s
 session_said size h had got start number text Words says tried kept = absurd says
 session_said size h had got start number text Source says tried kept = absurd says
 session_said size h had got start number text TooLong says tried kept = absurd says
+session_said size h had got start number text Denied says tried kept = absurd says
 
 -- counting changes nothing
 pub counted_still : (σ σ' : State) (e : Counted) → σ.shape.sequence < 2 ^ 48 → HasCounted σ σ' e → σ' ≡ σ
@@ -124,6 +125,7 @@ trial_did s number start status is t = by status (subst (λ (x : State). Session
     by Words h = absurd h
     by Source h = absurd h
     by TooLong h = absurd h
+    by Denied h = absurd h
 
 -- what a format left
 left_one : (size : ℕ) (old : Held) (image : ℕ → List ℕ) (g : Geometry) (repository : List ℕ) → IsLeftByFormat size old g repository image
@@ -160,6 +162,7 @@ trial_completes s number Sink did large device sink = absurd (sink refl)
 trial_completes s number Words did large device sink = absurd did
 trial_completes s number Source did large device sink = absurd did
 trial_completes s number TooLong did large device sink = absurd did
+trial_completes s number Denied did large device sink = absurd did
 
 -- the words ask for one number alone
 pub same_number : (a b : ℕ) → Some (Trial a) ≡ Some (Trial b) → a ≡ b

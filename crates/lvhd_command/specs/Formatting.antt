@@ -9,7 +9,7 @@ use Rattle.vg_store.specs.Formats.{IsFormatted, IsLeftByFormat, least_size}
 use Rattle.vg_store.specs.Groups.{beside_of}
 use Rattle.lvhd_command.specs.declared.words.Request.{Request}
 use Rattle.lvhd_command.specs.declared.statuses.Status.{Status}
-use Rattle.lvhd_command.specs.declared.statuses.Status.TheVariants.{Done, Words, Device, Source, Sink, Refused, Memory, TooLong}
+use Rattle.lvhd_command.specs.declared.statuses.Status.TheVariants.{Done, Words, Device, Source, Sink, Refused, Memory, TooLong, Denied}
 use Rattle.lvhd_command.specs.Texts.{line_of, bad_geometry_words, too_small_words, formatted_words}
 
 -- what was asked for: sizes in bytes, a number of entries, and the repository
@@ -118,3 +118,4 @@ FormatDid s a Memory = s.Unchanged × Adds s.had [] s.got
 FormatDid s a Words = ⊥
 FormatDid s a Source = ⊥
 FormatDid s a TooLong = ⊥
+FormatDid s a Denied = ⊥

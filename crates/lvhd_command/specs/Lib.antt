@@ -1,4 +1,5 @@
 pub mod Devices
+pub mod Exporting
 pub mod Formatting
 pub mod Running
 pub mod Statuses

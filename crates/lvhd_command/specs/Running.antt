@@ -21,7 +21,7 @@ use Rattle.sm_standing.specs.Entries.{names_in}
 use Rattle.sm_standing.specs.Shapes.{IsStateOf}
 use Rattle.sm_ready.specs.Known.{entry_of}
 use Rattle.lvhd_command.specs.declared.statuses.Status.{Status}
-use Rattle.lvhd_command.specs.declared.statuses.Status.TheVariants.{Done, Words, Device, Source, Sink, Refused, Memory, TooLong}
+use Rattle.lvhd_command.specs.declared.statuses.Status.TheVariants.{Done, Words, Device, Source, Sink, Refused, Memory, TooLong, Denied}
 use Rattle.lvhd_command.specs.Devices.{IsKeptDevice, MayShowOn, IsSoundOn, IsRefusedOn, IsOpenedOn, plate_at}
 use Rattle.lvhd_command.specs.Texts.{line_of, fault_words}
 
@@ -107,6 +107,7 @@ HasSaid s Done = ⊥
 HasSaid s Words = ⊥
 HasSaid s Source = ⊥
 HasSaid s TooLong = ⊥
+HasSaid s Denied = ⊥
 
 -- a device that a session gave back, beside what the session held last: a group stands on whatever a stop leaves, which the
 -- session might have left too, and the extents read as they did
@@ -162,6 +163,7 @@ ToldOf e had got before now Done = ⊥
 ToldOf e had got before now Words = ⊥
 ToldOf e had got before now Source = ⊥
 ToldOf e had got before now TooLong = ⊥
+ToldOf e had got before now Denied = ⊥
 
 -- what was said of a refusal: nothing of a fault of the device and of want of memory
 abbrev pub HasTold : OpenFault → Option (List ℕ) → Option (List ℕ) → ℕ → ℕ → Status → Type 0

@@ -1,7 +1,7 @@
 -- The exit status of the program (this project's format).
 use Rattle.std.specs.Prelude.{ℕ}
 use Rattle.lvhd_command.specs.declared.statuses.Status.{Status}
-use Rattle.lvhd_command.specs.declared.statuses.Status.TheVariants.{Done, Words, Device, Source, Sink, Refused, Memory, TooLong}
+use Rattle.lvhd_command.specs.declared.statuses.Status.TheVariants.{Done, Words, Device, Source, Sink, Refused, Memory, TooLong, Denied}
 
 -- the exit status of each outcome
 abbrev pub status_code : Status → ℕ
@@ -13,3 +13,4 @@ status_code Sink = 5
 status_code Refused = 6
 status_code Memory = 7
 status_code TooLong = 8
+status_code Denied = 10

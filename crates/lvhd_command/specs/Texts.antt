@@ -43,6 +43,10 @@ bad_geometry_words = codes "error" ∷ codes "BadGeometry" ∷ []
 unfoldable pub too_small_words : ℕ → List (List ℕ)
 too_small_words sectors = codes "error" ∷ codes "TooSmall" ∷ decimal sectors ∷ []
 
+-- no disk has the UUID that was asked for
+unfoldable pub unknown_words : List (List ℕ)
+unknown_words = codes "error" ∷ codes "UnknownDisk" ∷ []
+
 -- a new repository, with its extents and how many of them are free
 unfoldable pub formatted_words : ℕ → ℕ → List (List ℕ)
 formatted_words extents free = codes "ok" ∷ codes "extents" ∷ decimal extents ∷ codes "free" ∷ decimal free ∷ []

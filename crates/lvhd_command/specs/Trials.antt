@@ -17,7 +17,7 @@ use Rattle.vg_layout.specs.Sectors.{Plate}
 use Rattle.vg_layout.specs.Places.{extents_on, new_layout, record_extents}
 use Rattle.vg_store.specs.Formats.{new_group}
 use Rattle.lvhd_command.specs.declared.statuses.Status.{Status}
-use Rattle.lvhd_command.specs.declared.statuses.Status.TheVariants.{Done, Words, Device, Source, Sink, Refused, Memory, TooLong}
+use Rattle.lvhd_command.specs.declared.statuses.Status.TheVariants.{Done, Words, Device, Source, Sink, Refused, Memory, TooLong, Denied}
 use Rattle.lvhd_command.specs.Devices.{IsKeptDevice}
 use Rattle.lvhd_command.specs.Formatting.{Asked, HasSizes, Sides}
 use Rattle.lvhd_command.specs.Running.{ReadsAsState, ShowsOnly}
@@ -81,6 +81,7 @@ TrialDid s number Memory = IsLeftByTrial s × Adds s.had [] s.got
 TrialDid s number Words = ⊥
 TrialDid s number Source = ⊥
 TrialDid s number TooLong = ⊥
+TrialDid s number Denied = ⊥
 
 -- what was said of a trial once all lines were stepped: the line, a front of it, or nothing
 abbrev pub SaysTrial : List ℕ → Option (List ℕ) → Option (List ℕ) → Status → Type 0
@@ -92,6 +93,7 @@ SaysTrial text had got Refused = ⊥
 SaysTrial text had got Words = ⊥
 SaysTrial text had got Source = ⊥
 SaysTrial text had got TooLong = ⊥
+SaysTrial text had got Denied = ⊥
 
 -- what the lines of a number did on an open repository, by the status
 abbrev pub SessionTried : ℕ → Held → Option (List ℕ) → Option (List ℕ) → State → ℕ → Status → Type 0
@@ -103,6 +105,7 @@ SessionTried size h had got start number Refused = ⊥
 SessionTried size h had got start number Words = ⊥
 SessionTried size h had got start number Source = ⊥
 SessionTried size h had got start number TooLong = ⊥
+SessionTried size h had got start number Denied = ⊥
 
 -- on each image that the device allows stands this label
 abbrev pub HasPlate : ℕ → Held → Plate → Type 0

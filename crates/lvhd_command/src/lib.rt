@@ -1,13 +1,13 @@
 //! The program, over any device, source and sink: a repository is made of a device, a script is answered on it, or the lines that a
-//! number draws are tried on a new one.
+//! number draws are tried on a new one, or a disk is sent as a VHD file.
 //!
 //! **What is kept here.** Nothing. [`lvhd`] takes the words, the device, the source of the script and the sink of the
 //! replies, and hands the device back at every return. A device is counted in sectors of 512 bytes.
 //!
 //! **The model** (`specs/`). `Words` says what the words ask for, `Texts` the lines that the program prints of itself,
 //! `Statuses` the exit status. `Devices`: a device is kept where each image that a stop may leave of it opens again
-//! (`IsKeptDevice`), and it may show the disks of each such image (`MayShowOn`). `Formatting`, `Running` and `Trials` say by
-//! status what each word did.
+//! (`IsKeptDevice`), and it may show the disks of each such image (`MayShowOn`). `Formatting`, `Running`, `Trials` and
+//! `Exporting` say by status what each word did.
 //!
 //! **What it promises.** [`lvhd`] on a device that tells its content and is kept, with the word `run`, at every return: the
 //! device is kept; what the sink got are the machine's replies to the lines that were read, and a front of one more; and
@@ -29,13 +29,19 @@
 //! there, no repository, or a device that is kept (`TrialDid`). Nothing beside the new repository changes, and a device that is too small
 //! stays as it is.
 //!
-//! The statuses of a fault come exactly where a call failed. Want of memory has no cause; it comes before the first write but in a trial, which
-//! it may end at any line.
+//! With the word `export`, on a device that is kept: at status 0 the sink got the file of the disk, by `ExportOf` of what a read of
+//! the device gives now, and read as the standard says this file holds the sectors of the disk (`IsFileOf`); with another status a front of
+//! it, or the line that says why not, or a front of that (`ExportDid`). The device is kept, and as an opening leaves it, with the disks
+//! that it had, in the shape that an opening makes (`IsAsOpened`). What is printed of a refusal is so whatever the device holds (`ExportSaid`).
+//!
+//! The statuses of a fault come exactly where a call failed. Want of memory has no cause; it comes before the first write but in an export,
+//! whose opening may have made its repairs by then, and in a trial, which it may end at any line.
 //!
 //! **What it costs.** `run` takes one line buffer, then the memory of an opening, and what a step takes; the script is read
-//! byte by byte.
+//! byte by byte. `export` takes the memory of an opening, and that of one block and its bitmap.
 #![tactic(auto)]
 
+mod exporting;
 mod formatting;
 mod laws;
 mod opening;
@@ -46,6 +52,7 @@ mod top;
 mod trials;
 mod words;
 
+pub use exporting::run_export;
 pub use formatting::run_format;
 pub use laws::{law_exact, law_formatted};
 pub use opening::open;
@@ -53,4 +60,4 @@ pub use running::run_script;
 pub use statuses::Status;
 pub use top::lvhd;
 pub use trials::run_trial;
-pub use words::{Form, Request};
+pub use words::{Form, Request, Wanted};

@@ -22,6 +22,8 @@ pub enum Status {
     Memory,
     /// The source gave a byte past the most of a script.
     TooLong,
+    /// The repository was opened, and what was asked of it was refused: one line says why.
+    Denied,
 }
 
 impl Status {
@@ -38,6 +40,7 @@ impl Status {
             Status::Refused => 6,
             Status::Memory => 7,
             Status::TooLong => 8,
+            Status::Denied => 10,
         }
     }
 }

@@ -4,7 +4,7 @@ ghost use Rattle.std.specs.Prelude.{◌≡◌, ◌≢◌, ◌≤◌, ◌∷◌, 
 ghost use Rattle.sm_base.specs.declared.faults.OpenFault.TheVariants.{Device, NoMemory};
 ghost use Rattle.sm_script.specs.Pieces.{Writes};
 ghost use Rattle.lvhd_command.specs.Trials.{summary_words};
-ghost use Rattle.lvhd_command.specs.Texts.{line_of, place_words, fault_words, bad_geometry_words, too_small_words, formatted_words};
+ghost use Rattle.lvhd_command.specs.Texts.{line_of, place_words, fault_words, bad_geometry_words, too_small_words, formatted_words, unknown_words};
 
 use sm_base::{Failed, OpenFault, Place};
 use sm_disk::Sink;
@@ -121,6 +121,14 @@ fn print_damaged<K: Sink>(sink: &mut K, place: &Place) -> Result<(), Failed>
         Place::Record { index } => print_part(sink, Word::text(b"record"), Word::count(*index)),
         Place::Disk { uuid } => print_part(sink, Word::text(b"disk"), Word::uuid(uuid)),
     }
+}
+
+/// Prints that no disk has the UUID that was asked for.
+pub fn print_unknown<K: Sink>(sink: &mut K) -> Result<(), Failed>
+    ensures { Writes (line_of unknown_words)
+        (K.content sink.old) (K.content sink.new) (K.faults sink.old) (K.faults sink.new) result }
+{
+    write_line(sink, &[Word::text(b"error"), Word::text(b"UnknownDisk")])
 }
 
 /// Prints a damage with one word for its place.

@@ -1,17 +1,23 @@
 //! The whole program, over any device, source and sink.
 
-ghost use Rattle.std.specs.Prelude.{◌≡◌, ◌≢◌, ◌≤◌, ◌<◌, ◌⊎◌, ℕ, None, Some};
+ghost use Rattle.std.specs.Prelude.{◌≡◌, ◌≢◌, ◌≤◌, ◌<◌, ◌⊎◌, ℕ, List, None, Some};
+ghost use Rattle.common_laws.specs.Lists.{In};
 ghost use Rattle.sm_base.specs.declared.faults.OpenFault.{OpenFault};
 ghost use Rattle.sm_disk.specs.Held.{Rose, reads};
+ghost use Rattle.sm_machine.specs.Disks.{Disk as DiskOf};
+ghost use Rattle.sm_standing.specs.Devices.{Shows};
 ghost use Rattle.lvhd_command.specs.declared.statuses.Status.TheVariants as status;
-ghost use Rattle.lvhd_command.specs.declared.words.Form.TheVariants.{Format, Run, Trial};
+ghost use Rattle.lvhd_command.specs.declared.words.Form.TheVariants.{Format, Run, Trial, Export};
 ghost use Rattle.lvhd_command.specs.declared.words.Request.{Request};
+ghost use Rattle.lvhd_command.specs.declared.words.Wanted.{Wanted};
 ghost use Rattle.lvhd_command.specs.Devices.{IsKeptDevice, IsRefusedOn};
+ghost use Rattle.lvhd_command.specs.Exporting.{ExportDid, ExportSaid, IsAsOpened, IsUnknown, export_sides};
 ghost use Rattle.lvhd_command.specs.Formatting.{FormatDid, CannotFormat, KeepsBesideNew, asked, format_sides};
 ghost use Rattle.lvhd_command.specs.Running.{RunDid, HasStayed, KeepsBeside, sides};
 ghost use Rattle.lvhd_command.specs.Trials.{IsLabelledForTrial, TrialDid, trial_asked, trial_least};
 ghost use Rattle.lvhd_command.specs.Words.{Asks};
 
+use crate::exporting::run_export;
 use crate::formatting::run_format;
 use crate::running::run_script;
 use crate::statuses::Status;
@@ -22,7 +28,8 @@ use std::alloc::Global;
 
 /// Does what the words ask for, on a device: `format EXTENT BLOCK ENTRIES UUID` makes a repository of it, and `run` opens
 /// the repository on it and answers the script that the source gives, one line of the sink for each line; `trial N` makes a
-/// repository of it, steps the 20,000 lines that the number draws, and prints one line of what was counted. The device is
+/// repository of it, steps the 20,000 lines that the number draws, and prints one line of what was counted; `export U` opens
+/// the repository and sends the disk with this UUID to the sink as a dynamic VHD file, or says in one line that no disk has it. The device is
 /// handed back at every return. `now` is in seconds since 2000-01-01 00:00 UTC.
 ///
 /// A device on which a check of an opening fails is not opened: one line says why, and nothing is written, whatever the
@@ -75,6 +82,24 @@ pub fn lvhd<D: Disk, S: Source, K: Sink>(
     ensures complete_trial { (number : ℕ) → Asks words.now (Some (Trial number)) → D.told → trial_least ≤ D.size disk
         → (Rose (D.faults disk) (D.faults result.1) → ⊥) → (Rose (K.faults sink.old) (K.faults sink.new) → ⊥)
         → (result.0 ≡ status.Done) ⊎ (result.0 ≡ status.Memory) }
+    ensures export { (wanted : Wanted) → Asks words.now (Some (Export wanted)) → (source.new ≡ source.old) × (D.told → IsKeptDevice (D.size disk) (D.held disk)
+        → ExportDid (export_sides D.size D.held K.content disk result.1 sink.old sink.new) wanted.disk now result.0) }
+    ensures export_said { (wanted : Wanted) → Asks words.now (Some (Export wanted)) → D.told
+        → ExportSaid (export_sides D.size D.held K.content disk result.1 sink.old sink.new) result.0 }
+    ensures export_kept { (wanted : Wanted) → Asks words.now (Some (Export wanted)) → D.told → IsKeptDevice (D.size disk) (D.held disk) → IsKeptDevice (D.size disk) (D.held result.1) }
+    ensures export_opened { (wanted : Wanted) → Asks words.now (Some (Export wanted)) → D.told → IsKeptDevice (D.size disk) (D.held disk)
+        → IsAsOpened (D.size disk) (D.held disk) (D.held result.1) result.0 }
+    ensures export_beside { (wanted : Wanted) → Asks words.now (Some (Export wanted)) → D.told → KeepsBeside (D.size disk) (D.held disk) (D.held result.1) }
+    ensures export_unsound { (wanted : Wanted) → Asks words.now (Some (Export wanted)) → D.told → (e : OpenFault) → IsRefusedOn (D.size disk) (reads (D.held disk)) e
+        → HasStayed (export_sides D.size D.held K.content disk result.1 sink.old sink.new) result.0 }
+    ensures complete_export { (wanted : Wanted) (ds : List DiskOf) (d : DiskOf) → Asks words.now (Some (Export wanted)) → D.told → IsKeptDevice (D.size disk) (D.held disk)
+        → Shows (D.size disk) (reads (D.held disk)) ds → In d ds → d.uuid ≡ wanted.disk
+        → (Rose (D.faults disk) (D.faults result.1) → ⊥) → (Rose (K.faults sink.old) (K.faults sink.new) → ⊥)
+        → (result.0 ≡ status.Done) ⊎ (result.0 ≡ status.Memory) }
+    ensures complete_unknown { (wanted : Wanted) → Asks words.now (Some (Export wanted)) → D.told → IsKeptDevice (D.size disk) (D.held disk)
+        → IsUnknown (export_sides D.size D.held K.content disk result.1 sink.old sink.new) wanted.disk
+        → (Rose (D.faults disk) (D.faults result.1) → ⊥) → (Rose (K.faults sink.old) (K.faults sink.new) → ⊥)
+        → (result.0 ≡ status.Denied) ⊎ (result.0 ≡ status.Memory) }
 {
     match Form::read(words) {
         None => (Status::Words, disk),
@@ -85,5 +110,6 @@ pub fn lvhd<D: Disk, S: Source, K: Sink>(
         }
         Some(Form::Run) => run_script(alloc, now, disk, source, sink),
         Some(Form::Trial { number }) => run_trial(alloc, number, now, disk, sink),
+        Some(Form::Export(wanted)) => run_export(alloc, &wanted, now, disk, sink),
     }
 }

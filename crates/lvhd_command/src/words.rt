@@ -1,7 +1,7 @@
 //! The program's words.
 
 ghost use Rattle.std.specs.Prelude.{◌≡◌, map};
-ghost use Rattle.lvhd_command.specs.Words.{form_of, format_of, trial_of};
+ghost use Rattle.lvhd_command.specs.Words.{export_of, form_of, format_of, trial_of};
 
 use sm_script::{number_in, uuid_in};
 use uuid::Uuid;
@@ -16,6 +16,12 @@ pub struct Request {
     pub repository: Uuid,
 }
 
+/// Which disk is to be sent as a file.
+#[derive(Clone, Copy)]
+pub struct Wanted {
+    pub disk: Uuid,
+}
+
 /// What the words ask for.
 #[derive(Clone, Copy)]
 pub enum Form {
@@ -25,6 +31,8 @@ pub enum Form {
     Run,
     /// Step the lines that a number draws on a new repository, and count the replies.
     Trial { number: u64 },
+    /// Send a disk as a VHD file.
+    Export(Wanted),
 }
 
 impl Form {
@@ -41,9 +49,11 @@ impl Form {
                     None
                 }
             }
-            [word, number] => {
+            [word, second] => {
                 if word.as_bytes() == b"trial".as_slice() {
-                    trial_form(number)
+                    trial_form(second)
+                } else if word.as_bytes() == b"export".as_slice() {
+                    export_form(second)
                 } else {
                     None
                 }
@@ -79,4 +89,13 @@ fn trial_form(number: &str) -> Option<Form>
     Some(Form::Trial {
         number: number_in(number.as_bytes())?,
     })
+}
+
+/// The word of `export` behind the first.
+fn export_form(disk: &str) -> Option<Form>
+    ensures { result ≡ export_of disk.now }
+{
+    Some(Form::Export(Wanted {
+        disk: uuid_in(disk.as_bytes())?,
+    }))
 }
