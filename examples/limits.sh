@@ -2,7 +2,7 @@
 # A test of the limits, on real files, each run under a limit on memory of 64 MiB: 500 disks made in one run, and one more,
 # which is refused; 20,000 accepted lines in one run over three disks; 500 VHD disks made and all attached; 20,000 writes, fills
 # and reads of one disk; a fill over a whole disk of 8,192 blocks; a chain of 30 images that is read 200 times, and one more, which
-# is refused; clones until 500 images stand, and one more; 120 snapshots of one disk made and given up while it is written, and
+# is refused; that disk of 8,192 blocks sent as a VHD file through a chain of 30 images; clones until 500 images stand, and one more; 120 snapshots of one disk made and given up while it is written, and
 # what they leave collected; and a disk of one block enlarged by one block 2,000 times while it is attached and written. Prints each reply
 # once, at most 24 characters of it, with how often it came.
 set -e
@@ -78,6 +78,10 @@ truncate -s 48M "$work/whole.img"
     echo "read $disk 65535 1"
 } >"$work/script"
 counted "$work/whole.img" "$work/script"
+# The same disk at the end of a chain of 30 images, sent as a file: its bytes, 3 sectors, 64 of the table, 9 for each block, and one.
+awk -v disk="$disk" 'BEGIN { for (i = 1; i <= 29; i++) printf "snapshot %s 22222222-2222-4222-8222-%012d\n", disk, i }' >"$work/script"
+counted "$work/whole.img" "$work/script"
+(ulimit -v 65536; "$program" "$work/whole.img" export "$disk") | wc -c
 # A chain of 30 images, and one more, which is refused; it is read 200 times.
 truncate -s 4M "$work/chain.img"
 "$program" "$work/chain.img" format 16384 4096 64 "$repository"

@@ -4,11 +4,14 @@ tables of sectors, images are rows, and nothing is on a device.
 
     model.py script SEED LINES                             a random script over eight disks
     model.py replies EXTENT BLOCK ENTRIES SECTORS < script  what a run answers on a new repository
+    model.py files EXTENT BLOCK ENTRIES SECTORS TO < script  what each disk is exported as behind it, with the stamp 0, into TO/UUID.vhd
     model.py trial N                                        what `lvhd trial N` prints
 """
 import itertools
+import pathlib
 import random
 import re
+import struct
 import sys
 
 UUID = re.compile(r"[0-9a-fA-F]{8}(-[0-9a-fA-F]{4}){3}-[0-9a-fA-F]{12}$")
@@ -303,6 +306,28 @@ class Machine:
         self.test(disk not in self.attached, "NotAttached")
         return "ok"
 
+    # ---- disks as VHD files
+
+    def has_block(self, name, block):
+        return block in self.images[name].slots if is_vhd(name) else block * self.block < self.images[name].size
+
+    def file(self, disk, stamp):
+        """The file that a disk is exported as: footer, header, table, and each block that an image of its chain has, in rising order."""
+        name = self.own(disk)
+        size = self.images[name].size
+        blocks = size // self.block
+        there = [block for block in range(blocks) if any(self.has_block(image, block) for image in self.chain(name))]
+        front = 3 + up(blocks, 128)
+        entries = [0xFFFFFFFF] * (128 * up(blocks, 128))
+        for count, block in enumerate(there):
+            entries[block] = front + count * (1 + self.block)
+        footer = vhd_footer(size, bytes.fromhex(disk.replace("-", "")), stamp)
+        parts = [footer, vhd_header(blocks, self.block * 512), struct.pack(f">{len(entries)}I", *entries)]
+        for block in there:
+            parts.append((b"\xff" * (self.block // 8)).ljust(512, b"\0"))
+            parts += [self.read_sector(name, sector) for sector in range(block * self.block, (block + 1) * self.block)]
+        return b"".join([*parts, footer])
+
     # ---- what stands
 
     def list(self):
@@ -422,6 +447,35 @@ class Machine:
         return f"ok gc blocked need {min(needs)} free {self.free()}" if needs else "ok gc idle"
 
 
+def geometry(sectors):
+    """Cylinders, heads and sectors of a track, by the appendix of the VHD specification."""
+    sectors = min(sectors, 65535 * 16 * 255)
+    track, heads = 255, 16
+    if sectors < 65535 * 16 * 63:
+        track = 17
+        heads = max(4, up(sectors // track, 1024))
+        for longer in (31, 63):
+            if sectors // track >= heads * 1024 or heads > 16:
+                track, heads = longer, 16
+    return sectors // track // heads, heads, track
+
+
+def summed(data, at):
+    """The bytes with their checksum at its place: the complement of the sum of all others."""
+    return data[:at] + struct.pack(">I", ~sum(data) % 2**32) + data[at + 4 :]
+
+
+def vhd_footer(sectors, unique_id, stamp):
+    size = sectors * 512
+    fields = b"conectix" + struct.pack(">IIQI4sIIQQHBBII", 2, 0x10000, 512, stamp, b"lvhd", 0x10000, 0, size, size, *geometry(sectors), 3, 0)
+    return summed((fields + unique_id).ljust(512, b"\0"), 64)
+
+
+def vhd_header(blocks, block):
+    fields = b"cxsparse" + struct.pack(">QQIIII", 2**64 - 1, 1536, 0x10000, blocks, block, 0)
+    return summed(fields.ljust(1024, b"\0"), 36)
+
+
 DISKS = [f"00000000-0000-4000-8000-0000000000{number:02d}" for number in range(8)]
 SPARE = "00000000-0000-4000-8000-000000000099"
 
@@ -525,8 +579,13 @@ def main():
             print(line)
         return
     machine = Machine(*map(int, sys.argv[2:6]))
-    for line in sys.stdin.read().split("\n")[:-1]:
-        print(machine.answer(line))
+    replies = [machine.answer(line) for line in sys.stdin.read().split("\n")[:-1]]
+    if sys.argv[1] == "files":
+        for disk in machine.disks:
+            pathlib.Path(sys.argv[6], f"{disk}.vhd").write_bytes(machine.file(disk, 0))
+        return
+    for reply in replies:
+        print(reply)
 
 
 main()
