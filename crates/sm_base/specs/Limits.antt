@@ -3,4 +3,4 @@ use Rattle.std.specs.Prelude.{ℕ}
 
 -- the most extents of a volume group
 abbrev pub extent_limit : ℕ
-extent_limit = 65536
+extent_limit = 1048576

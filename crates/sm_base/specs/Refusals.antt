@@ -1,9 +1,9 @@
 -- The numbers of the refusals, which are the order of their tests (this project's format).
 use Rattle.std.specs.Prelude.{ℕ}
 use Rattle.sm_base.specs.declared.refusals.Refusal.{Refusal}
-use Rattle.sm_base.specs.declared.refusals.Refusal.TheVariants.{BadLine, ReservedName, UnknownDisk, NameTaken, InUse, NotAttached, ReadOnly, RawDisk, OutOfRange, BadSize, Shrink, ChainTooLong, TooMany, SequenceSpent, NoSpace, NoMemory}
+use Rattle.sm_base.specs.declared.refusals.Refusal.TheVariants.{BadLine, ReservedName, UnknownDisk, NameTaken, InUse, NotAttached, ReadOnly, RawDisk, OutOfRange, BadSize, Shrink, ChainTooLong, TooMany, SequenceSpent, NoSpace, NoMemory, Differencing, BadFile, Cut}
 
--- from 1 to 16
+-- from 1 to 19
 abbrev pub number_of : Refusal → ℕ
 number_of BadLine = 1
 number_of ReservedName = 2
@@ -21,3 +21,6 @@ number_of (TooMany have need) = 13
 number_of SequenceSpent = 14
 number_of (NoSpace need free) = 15
 number_of NoMemory = 16
+number_of Differencing = 17
+number_of (BadFile sector) = 18
+number_of (Cut sector) = 19

@@ -24,7 +24,7 @@ pub enum CallFault {
 pub enum Place {
     /// The label, in sector 0 of the device.
     Label,
-    /// The table's header, in sector 1.
+    /// The table's header, in sector 2,050, or in sector 1 where the repository is of version 1.
     Header,
     /// The sum of the table's text.
     TableSum,

@@ -30,10 +30,7 @@ mod texts;
 pub use faults::{CallFault, Failed, NoMemory, OpenFault, Place};
 pub use kinds::Kind;
 pub use labels::Label;
-pub use limits::{
-    CHAIN_LIMIT, EXTENT_LIMIT, IMAGE_LIMIT, LAST_SEQUENCE, RECORD_LIMIT, SECTOR, SPENT_SEQUENCE,
-    TEXT_LIMIT,
-};
+pub use limits::{CHAIN_LIMIT, IMAGE_LIMIT, LAST_SEQUENCE, RECORD_LIMIT, SECTOR, SPENT_SEQUENCE};
 pub use names::{Name, base_uuid, is_base};
 pub use operations::{Mode, Op, Plan};
 pub use refusals::Refusal;

@@ -12,12 +12,6 @@ pub const CHAIN_LIMIT: u32 = 30;
 /// The places of disks' records, one sector each.
 pub const RECORD_LIMIT: u32 = 512;
 
-/// The most extents of a volume group.
-pub const EXTENT_LIMIT: u64 = 65_536;
-
-/// The most bytes of the text of a table.
-pub const TEXT_LIMIT: u32 = 524_288;
-
 /// The last sequence number of a table, which a change leaves.
 pub const LAST_SEQUENCE: u64 = (1 << 48) - 1;
 

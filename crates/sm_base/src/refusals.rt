@@ -38,10 +38,16 @@ pub enum Refusal {
     NoSpace { need: u32, free: u32 },
     /// Memory ran out before the first write of the step.
     NoMemory,
+    /// The file that is imported is that of a differencing disk.
+    Differencing,
+    /// What the file says in this sector, counted from its begin, is wrong.
+    BadFile { sector: u64 },
+    /// The file ended too early, behind so many whole sectors.
+    Cut { sector: u64 },
 }
 
 impl Refusal {
-    /// The refusal's number, from 1 to 16 in the order of the tests.
+    /// The refusal's number, from 1 to 19 in the order of the tests.
     pub fn number(&self) -> u8
         ensures { result ≡ number_of self.now }
     {
@@ -62,6 +68,9 @@ impl Refusal {
             Refusal::SequenceSpent => 14,
             Refusal::NoSpace { .. } => 15,
             Refusal::NoMemory => 16,
+            Refusal::Differencing => 17,
+            Refusal::BadFile { .. } => 18,
+            Refusal::Cut { .. } => 19,
         }
     }
 }

@@ -12,7 +12,7 @@ use Rattle.sm_base.specs.declared.operations.Op.TheVariants as op
 use Rattle.sm_base.specs.declared.operations.Plan.{Plan}
 use Rattle.sm_base.specs.declared.operations.Plan.TheVariants as plan
 use Rattle.sm_base.specs.declared.refusals.Refusal.{Refusal}
-use Rattle.sm_base.specs.declared.refusals.Refusal.TheVariants.{BadLine, ReservedName, UnknownDisk, NameTaken, InUse, NotAttached, ReadOnly, RawDisk, OutOfRange, BadSize, Shrink, ChainTooLong, TooMany, SequenceSpent, NoSpace, NoMemory}
+use Rattle.sm_base.specs.declared.refusals.Refusal.TheVariants.{BadLine, ReservedName, UnknownDisk, NameTaken, InUse, NotAttached, ReadOnly, RawDisk, OutOfRange, BadSize, Shrink, ChainTooLong, TooMany, SequenceSpent, NoSpace, NoMemory, Differencing, BadFile, Cut}
 use Rattle.sm_machine.specs.Stats.{Stats}
 use Rattle.sm_machine.specs.declared.replies.DiskRow.{DiskRow}
 use Rattle.sm_machine.specs.declared.replies.StatRow.{StatRow}
@@ -111,6 +111,9 @@ refusal_parts (TooMany have need) = codes "TooMany" ∷ codes "have" ∷ decimal
 refusal_parts SequenceSpent = codes "SequenceSpent" ∷ []
 refusal_parts (NoSpace need free) = codes "NoSpace" ∷ codes "need" ∷ decimal need ∷ codes "free" ∷ decimal free ∷ []
 refusal_parts NoMemory = codes "NoMemory" ∷ []
+refusal_parts Differencing = codes "Differencing" ∷ []
+refusal_parts (BadFile sector) = codes "BadFile" ∷ codes "sector" ∷ decimal sector ∷ []
+refusal_parts (Cut sector) = codes "Cut" ∷ codes "sector" ∷ decimal sector ∷ []
 
 -- the images and the room
 unfoldable pub stat_parts : Stats → List (List ℕ)

@@ -54,6 +54,21 @@ pub fn write_refusal<K: Sink>(sink: &mut K, refusal: &Refusal) -> Result<(), Fai
             write_no(sink, b"NoSpace", &numbers)
         }
         Refusal::NoMemory => write_no(sink, b"NoMemory", &[]),
+        Refusal::Differencing => write_no(sink, b"Differencing", &[]),
+        Refusal::BadFile { sector } => {
+            write_no(
+                sink,
+                b"BadFile",
+                &[Word::text(b"sector"), Word::number(*sector)],
+            )
+        }
+        Refusal::Cut { sector } => {
+            write_no(
+                sink,
+                b"Cut",
+                &[Word::text(b"sector"), Word::number(*sector)],
+            )
+        }
     }
 }
 

@@ -194,6 +194,9 @@ fn refusals(rt: HostRuntime) {
         (Refusal::SequenceSpent, 14),
         (Refusal::NoSpace { need: 5, free: 3 }, 15),
         (Refusal::NoMemory, 16),
+        (Refusal::Differencing, 17),
+        (Refusal::BadFile { sector: 0 }, 18),
+        (Refusal::Cut { sector: 19 }, 19),
     ];
     for (refusal, number) in rows {
         assert!(rt; refusal.number() == number);

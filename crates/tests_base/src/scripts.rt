@@ -344,6 +344,12 @@ fn refusals(rt: HostRuntime) -> Result<(), Fail> {
             "no NoSpace need 12 free 0\n",
         ),
         (Refusal::NoMemory, "no NoMemory\n"),
+        (Refusal::Differencing, "no Differencing\n"),
+        (Refusal::BadFile { sector: 3 }, "no BadFile sector 3\n"),
+        (
+            Refusal::Cut { sector: 8589934592 },
+            "no Cut sector 8589934592\n",
+        ),
     ];
     for (refusal, text) in rows {
         prints(&rt, rt.alloc(), Reply::No(refusal), text)?;

@@ -76,3 +76,21 @@ returns-in-NoSpace g c =
 pub returns-in-NoMemory : goal.returns-in-NoMemory
 unfolding reply_parts refusal_parts
 returns-in-NoMemory g c = Writes-same (ap (λ r. by_spaces (reply_parts (reply.No r))) (sym c.in-NoMemory.is)) c.write_no-in-NoMemory.ensures
+
+pub returns-in-Differencing : goal.returns-in-Differencing
+unfolding reply_parts refusal_parts
+returns-in-Differencing g c = Writes-same (ap (λ r. by_spaces (reply_parts (reply.No r))) (sym c.in-Differencing.is)) c.write_no-in-Differencing.ensures
+
+pub returns-in-BadFile : goal.returns-in-BadFile
+unfolding reply_parts refusal_parts
+returns-in-BadFile g c =
+    let k = c.in-BadFile in
+    let words : c.text-in-BadFile.result ∷ c.number.result ∷ [] ≡ codes "sector" ∷ decimal k.sector ∷ [] = cc (c.text-in-BadFile.ensures, c.number.ensures) in
+    Writes-same (ap (λ l. by_spaces (codes "no" ∷ codes "BadFile" ∷ l)) words ∙ ap (λ r. by_spaces (reply_parts (reply.No r))) (sym k.is)) c.write_no-in-BadFile.ensures
+
+pub returns-in-Cut : goal.returns-in-Cut
+unfolding reply_parts refusal_parts
+returns-in-Cut g c =
+    let k = c.in-Cut in
+    let words : c.text-in-Cut.result ∷ c.number-in-Cut.result ∷ [] ≡ codes "sector" ∷ decimal k.sector ∷ [] = cc (c.text-in-Cut.ensures, c.number-in-Cut.ensures) in
+    Writes-same (ap (λ l. by_spaces (codes "no" ∷ codes "Cut" ∷ l)) words ∙ ap (λ r. by_spaces (reply_parts (reply.No r))) (sym k.is)) c.write_no-in-Cut.ensures
