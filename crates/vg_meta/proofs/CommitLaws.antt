@@ -2,35 +2,25 @@
 use Rattle.std.proofs.Common.{ℕ, ◌<◌, ◌≤◌, ◌^◌, List, [], ◌∷◌, length, arith, length-append}
 use Rattle.vg_meta.specs.declared.changes.Change.{Change}
 use Rattle.vg_meta.specs.declared.changes.Change.TheVariants.{Create, Remove, Rename, Grow, Cut, Mark}
-use Rattle.vg_meta.specs.Tables.{Row, VolumeTable, extents_in}
+use Rattle.vg_meta.specs.Tables.{Row, VolumeTable, IsTable}
 use Rattle.vg_meta.specs.Text.{text, volume_text, HasText}
 use Rattle.vg_meta.specs.Writing.{volumes_text}
 use Rattle.vg_meta.specs.Changes.{AreFree, AllowsIn, Permits}
 use Rattle.vg_meta.proofs.ExtentLaws.{All-weaken}
-use Rattle.vg_meta.proofs.WriteLaws.{length-text, length-volume_text, length-extents_text}
+use Rattle.vg_meta.proofs.DecodeLaws.{used-le}
+use Rattle.vg_meta.proofs.WriteLaws.{length-text, length-volume_text}
 
--- ---- a short text is of few volumes and extents
+-- ---- a short text is of few volumes
 
 volumes_most : (rs : List Row) → length rs ≤ length (volumes_text rs)
 volumes_most [] = omega arith
 volumes_most (r ∷ rs) = omega (arith, length-append (volume_text r) (volumes_text rs), length-volume_text r, volumes_most rs)
 
-extents_most : (rs : List Row) → length (extents_in rs) ≤ length (volumes_text rs)
-extents_most [] = omega arith
-extents_most (r ∷ rs) =
-    omega (
-      arith,
-      length-append (volume_text r) (volumes_text rs),
-      length-append r.extents (extents_in rs),
-      length-volume_text r,
-      length-extents_text r.extents,
-      extents_most rs,
-    )
-
-pub HasText-short : (t : VolumeTable) → length (text t) < 2 ^ 32 → HasText t
-HasText-short t short = record {
+-- a table of few extents whose text is short has few volumes, too
+pub HasText-few : (count : ℕ) (t : VolumeTable) → IsTable count t → count < 2 ^ 32 → length (text t) < 2 ^ 32 → HasText t
+HasText-few count t table few short = record {
   volumes = omega (arith, length-text t, volumes_most t.volumes, short);
-  extents = omega (arith, length-text t, extents_most t.volumes, short);
+  extents = omega (arith, used-le count t.volumes table.volumes, few);
 }
 
 -- ---- a change that is allowed below a count is allowed below a greater one

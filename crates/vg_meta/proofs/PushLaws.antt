@@ -16,7 +16,7 @@ use Rattle.vg_meta.specs.Roomy.{RoomyRow, rows_alone}
 use Rattle.vg_meta.proofs.NameLaws.{less_from}
 use Rattle.vg_meta.proofs.RowLaws.{IsRising, All-names, All-rows}
 use Rattle.vg_meta.specs.Text.{volume_by, volume_text}
-use Rattle.vg_meta.specs.declared.grammars.Grammar.TheVariants.{Listed}
+use Rattle.vg_meta.specs.declared.grammars.Grammar.TheVariants.{Segmented}
 use Rattle.vg_meta.specs.declared.grammars.Grammar.{Grammar}
 use Rattle.vg_meta.specs.Segments.{AreFew}
 use Rattle.vg_meta.proofs.FreeLaws.{all_from}
@@ -133,7 +133,7 @@ read_is_next_by g bytes count rs v after small is few fit read r rest short vs e
 pub read_is_next : (bytes : List ℕ) (count : ℕ) (rs : List Row) (v : Row) (after : List ℕ) → count < 2 ^ 32 → IsVolume v → length v.extents < 2 ^ 32
     → AllByRecursion (λ (e : ℕ). e < 2 ^ 32) v.extents → bytes ≡ volume_text v ++ after
     → (r : Row) (rest : List ℕ) → length r.extents < 2 ^ 32 → AreVolumes count (rs ++ r ∷ []) → bytes ≡ volume_text r ++ rest → IsNext count rs v
-read_is_next = read_is_next_by Listed
+read_is_next = read_is_next_by Segmented
 
 -- the extents of one more volume are below the count, and no more than are left
 pub next_few : (count most : ℕ) (rs : List Row) (r : Row) → length (extents_in rs) + most ≡ count → AreVolumes count (rs ++ r ∷ []) → AreFew count most r.extents

@@ -9,7 +9,7 @@ use Rattle.sm_base.specs.Kinds.{is_image, is_entry}
 use Rattle.sm_base.specs.Names.{IsName, spelling}
 use Rattle.sm_base.proofs.ReadLemmas.{spelling-injective}
 use Rattle.vg_meta.specs.Tables.{Row, IsVolume, suits}
-use Rattle.vg_meta.specs.Text.{flags_of, extents_text, extents_by, volume_by, volume_text}
+use Rattle.vg_meta.specs.Text.{flags_of, listed_extents, extents_by, volume_by, volume_text}
 use Rattle.vg_meta.specs.declared.decoding.Unread.{Unread}
 use Rattle.vg_meta.specs.declared.grammars.Grammar.{Grammar}
 use Rattle.vg_meta.specs.declared.grammars.Grammar.TheVariants.{Listed, Segmented}
@@ -17,17 +17,17 @@ use Rattle.vg_meta.specs.declared.decoding.Unread.TheVariants.{Damaged, NoMemory
 use Rattle.vg_meta.specs.Unread.{IsUnread}
 use Rattle.vg_meta.proofs.SegmentLaws.{none-segments}
 use Rattle.vg_meta.proofs.SegmentTextLaws.{segmented_same, segments_many}
-use Rattle.vg_meta.proofs.WriteLaws.{length-extents_text}
+use Rattle.vg_meta.proofs.WriteLaws.{length-listed_extents}
 
 -- extents whose number passes the bytes that there are
 pub extents_cut : (bytes left : List ℕ) (count : ℕ) (taken : List ℕ) → bytes ≡ big_bytes 4 count ++ (flat_map (big_bytes 4) taken ++ left)
     → count < 2 ^ 32 → length taken < count → length left < 4
-    → (es rest : List ℕ) → length es < 2 ^ 32 → bytes ≢ extents_text es ++ rest
+    → (es rest : List ℕ) → length es < 2 ^ 32 → bytes ≢ listed_extents es ++ rest
 extents_cut bytes left count taken read fits few short es rest small e =
     let both : big_bytes 4 count ++ (flat_map (big_bytes 4) taken ++ left) ≡ big_bytes 4 (length es) ++ (flat_map (big_bytes 4) es ++ rest) =
     sym read ∙ e ∙ append_assoc (big_bytes 4 (length es)) (flat_map (big_bytes 4) es) rest in
     let same = number_same 4 count (length es) (flat_map (big_bytes 4) taken ++ left) (flat_map (big_bytes 4) es ++ rest) fits small both in
-    absurd (omega (arith, same.0, ap length same.1, length-append (flat_map (big_bytes 4) taken) left, length-append (flat_map (big_bytes 4) es) rest, length-extents_text taken, length-extents_text es))
+    absurd (omega (arith, same.0, ap length same.1, length-append (flat_map (big_bytes 4) taken) left, length-append (flat_map (big_bytes 4) es) rest, length-listed_extents taken, length-listed_extents es))
 
 -- extents read in one way
 numbers_same : (xs ys x y : List ℕ) → length xs ≡ length ys → AllByRecursion (λ (e : ℕ). e < 2 ^ 32) xs → AllByRecursion (λ (e : ℕ). e < 2 ^ 32) ys
@@ -40,14 +40,14 @@ numbers_same (a ∷ xs) (b ∷ ys) x y long p q e =
     let rest = numbers_same xs ys x y (omega arith) p.1 q.1 first.1 in
     (ap₂ (λ (h : ℕ) (t : List ℕ). h ∷ t) first.0 rest.0, rest.1)
 
-pub count_same : (xs ys x y : List ℕ) → length xs < 2 ^ 32 → length ys < 2 ^ 32 → extents_text xs ++ x ≡ extents_text ys ++ y
+pub count_same : (xs ys x y : List ℕ) → length xs < 2 ^ 32 → length ys < 2 ^ 32 → listed_extents xs ++ x ≡ listed_extents ys ++ y
     → (length xs ≡ length ys) × (flat_map (big_bytes 4) xs ++ x ≡ flat_map (big_bytes 4) ys ++ y)
 count_same xs ys x y few small e =
     number_same 4 (length xs) (length ys) (flat_map (big_bytes 4) xs ++ x) (flat_map (big_bytes 4) ys ++ y) few small
     (sym (append_assoc (big_bytes 4 (length xs)) (flat_map (big_bytes 4) xs) x) ∙ e ∙ append_assoc (big_bytes 4 (length ys)) (flat_map (big_bytes 4) ys) y)
 
 pub extents_same : (xs ys x y : List ℕ) → length xs < 2 ^ 32 → length ys < 2 ^ 32 → AllByRecursion (λ (e : ℕ). e < 2 ^ 32) xs → AllByRecursion (λ (e : ℕ). e < 2 ^ 32) ys
-    → extents_text xs ++ x ≡ extents_text ys ++ y → (xs ≡ ys) × (x ≡ y)
+    → listed_extents xs ++ x ≡ listed_extents ys ++ y → (xs ≡ ys) × (x ≡ y)
 extents_same xs ys x y few small p q e =
     let s = count_same xs ys x y few small e in numbers_same xs ys x y s.0 p q s.1
 
@@ -188,34 +188,34 @@ pub unread_from : (e : Unread) (P Q : Type 0) → (P → Q) → IsUnread e P →
 unread_from Damaged P Q f p = f p
 unread_from NoMemory P Q f p = tt
 
--- ---- the same of a text whose extents are listed
+-- ---- the same of a text by segments
 
 pub no_name : (bytes : List ℕ) → ((n : Name) (rest : List ℕ) → IsName n → bytes ≢ length (spelling n) ∷ spelling n ++ rest)
     → (r : Row) (rest : List ℕ) → IsVolume r → length r.extents < 2 ^ 32 → bytes ≢ volume_text r ++ rest
-no_name = no_name_by Listed
+no_name = no_name_by Segmented
 
 pub no_marks : (bytes : List ℕ) (n : Name) (behind : List ℕ) → IsName n → bytes ≡ length (spelling n) ∷ spelling n ++ behind
     → ((hidden fresh : Bool) (rest : List ℕ) → behind ≢ flags_of hidden fresh ∷ rest)
     → (r : Row) (rest : List ℕ) → IsVolume r → length r.extents < 2 ^ 32 → bytes ≢ volume_text r ++ rest
-no_marks = no_marks_by Listed
+no_marks = no_marks_by Segmented
 
 pub no_extents : (bytes : List ℕ) (n : Name) (hidden fresh : Bool) (left : List ℕ) → Fronts bytes n hidden fresh left
-    → ((es rest : List ℕ) → length es < 2 ^ 32 → left ≢ extents_text es ++ rest)
+    → ((es rest : List ℕ) → length es < 2 ^ 32 → left ≢ extents_by Segmented es ++ rest)
     → (r : Row) (rest : List ℕ) → IsVolume r → length r.extents < 2 ^ 32 → bytes ≢ volume_text r ++ rest
 no_extents bytes n hidden fresh left f none r rest v few e =
-    none r.extents rest few (front_same Listed bytes n hidden fresh left f r rest v.name e).3
+    none r.extents rest few (front_same Segmented bytes n hidden fresh left f r rest v.name e).3
 
 pub no_kind : (bytes : List ℕ) (n : Name) (hidden fresh : Bool) (left es after : List ℕ) → Fronts bytes n hidden fresh left
-    → left ≡ extents_text es ++ after → length es < 2 ^ 32
+    → left ≡ extents_by Segmented es ++ after → length es < 2 ^ 32
     → (let r : Row = record { name = n; hidden = hidden; fresh = fresh; extents = es } in suits r ≡ false)
     → (r : Row) (rest : List ℕ) → IsVolume r → length r.extents < 2 ^ 32 → bytes ≢ volume_text r ++ rest
-no_kind = no_kind_by Listed
+no_kind = no_kind_by Segmented
 
 pub volume_same : (bytes : List ℕ) (a b : Row) (x y : List ℕ) → IsName a.name → IsName b.name → length a.extents < 2 ^ 32 → length b.extents < 2 ^ 32
     → AllByRecursion (λ (e : ℕ). e < 2 ^ 32) a.extents → AllByRecursion (λ (e : ℕ). e < 2 ^ 32) b.extents
     → bytes ≡ volume_text a ++ x → bytes ≡ volume_text b ++ y → a ≡ b
-volume_same = volume_same_by Listed
+volume_same = volume_same_by Segmented
 
-pub volume_read : (bytes : List ℕ) (n : Name) (hidden fresh : Bool) (left es after : List ℕ) → Fronts bytes n hidden fresh left → left ≡ extents_text es ++ after
+pub volume_read : (bytes : List ℕ) (n : Name) (hidden fresh : Bool) (left es after : List ℕ) → Fronts bytes n hidden fresh left → left ≡ extents_by Segmented es ++ after
     → (let r : Row = record { name = n; hidden = hidden; fresh = fresh; extents = es } in bytes ≡ volume_text r ++ after)
-volume_read = volume_read_by Listed
+volume_read = volume_read_by Segmented

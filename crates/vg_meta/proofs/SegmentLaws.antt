@@ -1,11 +1,11 @@
 -- Extents and their segments: the one from the other, there and back.
-use Rattle.std.proofs.Common.{◌≡◌, ◌≢◌, ℕ, zero, suc, ◌+◌, ◌-◌, ◌≤◌, ◌<◌, ◌==◌, eqb, cond, true, false, List, [], ◌∷◌, ◌++◌, length, drop, Some, refl, sym, ap, subst, ◌∙◌, arith, append_assoc}
+use Rattle.std.proofs.Common.{◌≡◌, ◌≢◌, ℕ, zero, suc, ◌+◌, ◌-◌, ◌≤◌, ◌<◌, ◌==◌, eqb, cond, true, false, List, [], ◌∷◌, ◌++◌, get_or, length, drop, Option, None, Some, refl, sym, ap, subst, ◌∙◌, arith, append_assoc}
 use Rattle.std.specs.Prelude.{slice_get}
 use Rattle.std.specs.List.{range_with_len}
 use Rattle.std.proofs.lemmas.Bool.{eqb-true, eq-eqb, ne_eqb, true≢false}
 use Rattle.std.proofs.lemmas.Grind.{flat_map-append}
-use Rattle.std.proofs.lemmas.List.{append-nil, drop_all, length-drop}
-use Rattle.vg_meta.specs.Segments.{Segment, joined, segments, spread_all, AreMaximal, GoesOnElsewhere, CountsUp}
+use Rattle.std.proofs.lemmas.List.{append-nil, drop_all, drop_more, length-drop}
+use Rattle.vg_meta.specs.Segments.{Segment, joined, segments, follows, beginnings, spread_all, AreMaximal, GoesOnElsewhere, CountsUp}
 
 abbrev one : ℕ → Segment
 one e = record { first = e; count = 1 }
@@ -84,6 +84,71 @@ segments-spread (s ∷ ss) m = by (segments-spread ss m.2) s.count refl m.0
         ap (λ (k : ℕ). segments (range_with_len s.first k ++ spread_all ss)) is
         ∙ run_in_front s.first n (spread_all ss) ss rest (subst (λ k. GoesOnElsewhere (record { first = s.first; count = k }) ss) is m.1)
         ∙ ap (λ (k : ℕ). record { first = s.first; count = k } ∷ ss) (sym is)
+
+-- ---- where they begin
+
+-- extents begin with the first of their segments
+begin-joined : (e : ℕ) (ss : List Segment) → (t : Segment) × (ts : List Segment) × (joined e ss ≡ t ∷ ts) × (t.first ≡ e)
+unfolding joined
+begin-joined e [] = (one e, [], refl, refl)
+begin-joined e (s ∷ ss) = (elim (s.first == e + 1) as (λ b. (t : Segment) × (ts : List Segment) × (cond b (record { first = e; count = s.count + 1 } ∷ ss) (record { first = e; count = 1 } ∷ s ∷ ss) ≡ t ∷ ts) × (t.first ≡ e)) [
+  | true ↦ (record { first = e; count = s.count + 1 }, ss, refl, refl)
+  | false ↦ (one e, s ∷ ss, refl, refl)
+])
+
+length-joined : (e : ℕ) (t : Segment) (ts : List Segment) → length (joined e (t ∷ ts)) ≡ cond (t.first == e + 1) 0 1 + length (t ∷ ts)
+unfolding joined
+length-joined e t ts = elim (t.first == e + 1) as (λ b. length (cond b (record { first = e; count = t.count + 1 } ∷ ts) (record { first = e; count = 1 } ∷ t ∷ ts)) ≡ cond b 0 1 + length (t ∷ ts)) [
+  | true ↦ omega arith
+  | false ↦ omega arith
+]
+
+beginnings_behind : (e : ℕ) (es : List ℕ) → length (segments (e ∷ es)) ≡ suc (beginnings (Some e) es)
+unfolding segments beginnings
+beginnings_behind e [] = ap length (joined_alone e [] tt)
+beginnings_behind e (x ∷ xs) =
+    let b = begin-joined x (segments xs) in
+    let rest : length (b.0 ∷ b.1) ≡ suc (beginnings (Some x) xs) = sym (ap length b.2) ∙ beginnings_behind x xs in
+    ap (λ ss. length (joined e ss)) b.2 ∙ length-joined e b.0 b.1 ∙ ap (λ (n : ℕ). cond (n == e + 1) 0 1 + length (b.0 ∷ b.1)) b.3 ∙ omega (arith, rest)
+
+-- as many segments as extents that do not follow the one in front of them
+pub length-segments : (es : List ℕ) → length (segments es) ≡ beginnings None es
+unfolding segments beginnings
+length-segments [] = refl
+length-segments (e ∷ es) = beginnings_behind e es ∙ omega arith
+
+-- the last of extents, or what was the last in front of them
+abbrev pub last_behind : Option ℕ → List ℕ → Option ℕ
+last_behind last [] = last
+last_behind last (e ∷ es) = last_behind (Some e) es
+
+pub beginnings-append : (last : Option ℕ) (es ms : List ℕ) → beginnings last (es ++ ms) ≡ beginnings last es + beginnings (last_behind last es) ms
+unfolding beginnings
+beginnings-append last [] ms = omega arith
+beginnings-append last (e ∷ es) ms = omega (arith, beginnings-append (Some e) es ms)
+
+-- counted as far as the extents were seen, one further
+pub begun_more : (es : List ℕ) (i : ℕ) (last next : Option ℕ) (count more total : ℕ) → i < length es → next ≡ Some (get_or es i 0)
+    → more ≡ count + cond (follows last (get_or es i 0)) 0 1 → count + beginnings last (drop i es) ≡ total → more + beginnings next (drop (i + 1) es) ≡ total
+unfolding beginnings
+begun_more es i last next count more total within is one so_far =
+    let e = get_or es i 0 in
+    let here : beginnings last (drop i es) ≡ cond (follows last e) 0 1 + beginnings (Some e) (drop (i + 1) es) = ap (beginnings last) (drop_more es i 0 within) in
+    let rest : beginnings next (drop (i + 1) es) ≡ beginnings (Some e) (drop (i + 1) es) = ap (λ (o : Option ℕ). beginnings o (drop (i + 1) es)) is in
+    omega (arith, here, rest, one, so_far)
+
+pub begun_all : (es : List ℕ) (i : ℕ) (last : Option ℕ) → length es ≤ i → beginnings last (drop i es) ≡ 0
+unfolding beginnings
+begun_all es i last all = ap (beginnings last) (drop_all i es all)
+
+-- the last of extents is what stands at their end
+last_of : (e : ℕ) (es : List ℕ) → last_behind (Some e) es ≡ slice_get (e ∷ es) (length es)
+last_of e [] = refl
+last_of e (x ∷ xs) = last_of x xs
+
+pub last_at : (es : List ℕ) → last_behind None es ≡ slice_get es (length es - 1)
+last_at [] = refl
+last_at (e ∷ es) = let same : length es ≡ length (e ∷ es) - 1 = omega arith in last_of e es ∙ ap (slice_get (e ∷ es)) same
 
 -- ---- how many
 

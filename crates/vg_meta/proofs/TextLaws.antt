@@ -12,11 +12,11 @@ use Rattle.vg_meta.specs.declared.grammars.Grammar.{Grammar}
 use Rattle.vg_meta.specs.declared.grammars.Grammar.TheVariants.{Listed, Segmented}
 use Rattle.vg_meta.specs.Reading.{SpellsBy}
 use Rattle.vg_meta.specs.Tables.{Row, VolumeTable, IsVolume, IsTable, extents_in, used}
-use Rattle.vg_meta.specs.Text.{text_by, extents_by, volume_by, volume_text}
+use Rattle.vg_meta.specs.Text.{text_by, extents_by, volume_by}
 use Rattle.vg_meta.proofs.ReadLaws.{number_same, parts_same, volume_same_by}
 use Rattle.vg_meta.proofs.SegmentLaws.{few-segments}
 use Rattle.vg_meta.proofs.SegmentTextLaws.{length-segmented}
-use Rattle.vg_meta.proofs.WriteLaws.{text-parts, length-text_by, length-volume_by, length-extents_text}
+use Rattle.vg_meta.proofs.WriteLaws.{text-parts, length-text_by, length-volume_by, length-listed_extents}
 
 -- ---- one table
 
@@ -77,19 +77,19 @@ spells_once g count bytes t u few s r =
 
 -- ---- how long
 
-segmented_most : (rs : List Row) → length (flat_map (volume_by Segmented) rs) ≤ length (flat_map volume_text rs) + 4 * length (extents_in rs)
+segmented_most : (rs : List Row) → length (flat_map (volume_by Segmented) rs) ≤ length (flat_map (volume_by Listed) rs) + 4 * length (extents_in rs)
 segmented_most [] = omega arith
 segmented_most (r ∷ rs) =
     omega (
       arith,
       segmented_most rs,
       length-append (volume_by Segmented r) (flat_map (volume_by Segmented) rs),
-      length-append (volume_text r) (flat_map volume_text rs),
+      length-append (volume_by Listed r) (flat_map (volume_by Listed) rs),
       length-append r.extents (extents_in rs),
       length-volume_by Segmented r,
       length-volume_by Listed r,
       length-segmented r.extents,
-      length-extents_text r.extents,
+      length-listed_extents r.extents,
       few-segments r.extents,
     )
 
@@ -97,7 +97,7 @@ pub length-against : (t : VolumeTable) → length (text_by Segmented t) ≤ leng
 length-against t = omega (arith, length-text_by Segmented t, length-text_by Listed t, segmented_most t.volumes)
 
 extents_most : (g : Grammar) (es : List ℕ) → length (extents_by g es) ≤ 4 + 8 * length es
-extents_most Listed es = omega (arith, length-extents_text es)
+extents_most Listed es = omega (arith, length-listed_extents es)
 extents_most Segmented es = omega (arith, length-segmented es, few-segments es)
 
 image_spelling : (n : Name) → is_image n ≡ true → length (spelling n) ≤ 40
@@ -171,16 +171,16 @@ unfolding images others
 length-most g count t is = omega (arith, length-text_by g t, volumes_most g t.volumes is.volumes.each)
 
 -- an extent has 4 bytes where it is listed
-listed_least : (rs : List Row) → 4 * length (extents_in rs) ≤ length (flat_map volume_text rs)
+listed_least : (rs : List Row) → 4 * length (extents_in rs) ≤ length (flat_map (volume_by Listed) rs)
 listed_least [] = omega arith
 listed_least (r ∷ rs) =
     omega (
       arith,
       listed_least rs,
-      length-append (volume_text r) (flat_map volume_text rs),
+      length-append (volume_by Listed r) (flat_map (volume_by Listed) rs),
       length-append r.extents (extents_in rs),
       length-volume_by Listed r,
-      length-extents_text r.extents,
+      length-listed_extents r.extents,
     )
 
 -- so by segments a text is never more than twice as long

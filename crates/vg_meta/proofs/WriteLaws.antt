@@ -11,7 +11,7 @@ use Rattle.sm_base.proofs.TextLemmas.{placed-placed, placed-zero}
 use Rattle.vg_meta.specs.Tables.{Row, VolumeTable, extents_in}
 use Rattle.vg_meta.specs.Roomy.{RoomyRow, rows_alone}
 use Rattle.sm_base.specs.Names.{spelling}
-use Rattle.vg_meta.specs.Text.{flags_of, extents_text, extents_by, volume_by, volume_text, text, segmented_text, text_by}
+use Rattle.vg_meta.specs.Text.{flags_of, listed_extents, extents_by, volume_by, volume_text, text, listed_text, text_by}
 use Rattle.vg_meta.specs.declared.grammars.Grammar.{Grammar}
 use Rattle.vg_meta.specs.declared.grammars.Grammar.TheVariants.{Listed, Segmented}
 use Rattle.vg_meta.specs.Writing.{WritesText}
@@ -62,11 +62,11 @@ whole_text f (y ∷ xs) (suc i) h = ap (λ (l : List ℕ). f y ++ l) (whole_text
 -- extents are written in two slices
 pub extents_written : (es ms : List ℕ) (count at first second end : ℕ) (old one two new : List ℕ) → at ≤ length old → count ≡ length (es ++ ms)
     → WritesText at (big_bytes 4 count) old one first → WritesText first (flat_map (big_bytes 4) es) one two second → WritesText second (flat_map (big_bytes 4) ms) two new end
-    → WritesText at (extents_text (es ++ ms)) old new end
+    → WritesText at (listed_extents (es ++ ms)) old new end
 extents_written es ms count at first second end old one two new within is a b c =
     let ab = puts_then at first second (big_bytes 4 count) (flat_map (big_bytes 4) es) old one two within a b in
     let abc = puts_then at second end (big_bytes 4 count ++ flat_map (big_bytes 4) es) (flat_map (big_bytes 4) ms) old two new within ab c in
-    let regroup : (big_bytes 4 count ++ flat_map (big_bytes 4) es) ++ flat_map (big_bytes 4) ms ≡ extents_text (es ++ ms) =
+    let regroup : (big_bytes 4 count ++ flat_map (big_bytes 4) es) ++ flat_map (big_bytes 4) ms ≡ listed_extents (es ++ ms) =
     append_assoc (big_bytes 4 count) (flat_map (big_bytes 4) es) (flat_map (big_bytes 4) ms)
     ∙ ap (λ (l : List ℕ). big_bytes 4 count ++ l) (sym (flat_map-append (big_bytes 4) es ms))
     ∙ ap (λ (n : ℕ). big_bytes 4 n ++ flat_map (big_bytes 4) (es ++ ms)) is in
@@ -81,11 +81,11 @@ pub length-volume_by : (g : Grammar) (r : Row) → length (volume_by g r) ≡ 2 
 unfolding volume_by
 length-volume_by g r = omega (arith, length-append (spelling r.name) (flags_of r.hidden r.fresh ∷ extents_by g r.extents))
 
-pub length-volume_text : (r : Row) → length (volume_text r) ≡ 2 + length (spelling r.name) + length (extents_text r.extents)
-length-volume_text r = length-volume_by Listed r
+pub length-volume_text : (r : Row) → length (volume_text r) ≡ 2 + length (spelling r.name) + length (extents_by Segmented r.extents)
+length-volume_text r = length-volume_by Segmented r
 
-pub length-extents_text : (es : List ℕ) → length (extents_text es) ≡ 4 + 4 * length es
-length-extents_text es = omega (arith, numbers es)
+pub length-listed_extents : (es : List ℕ) → length (listed_extents es) ≡ 4 + 4 * length es
+length-listed_extents es = omega (arith, numbers es)
   where
     numbers : (es : List ℕ) → length (flat_map (big_bytes 4) es) ≡ 4 * length es
     numbers [] = refl
@@ -108,7 +108,7 @@ volume_written g r at first second third end old one two three new size name fla
 -- ---- the whole text
 
 pub text-parts : (g : Grammar) (t : VolumeTable) → text_by g t ≡ big_bytes 8 t.sequence ++ (big_bytes 4 (length t.volumes) ++ flat_map (volume_by g) t.volumes)
-unfolding text segmented_text
+unfolding text listed_text
 text-parts Listed t = refl
 text-parts Segmented t = refl
 
@@ -116,7 +116,7 @@ pub length-text_by : (g : Grammar) (t : VolumeTable) → length (text_by g t) �
 length-text_by g t = ap length (text-parts g t) ∙ omega arith
 
 pub length-text : (t : VolumeTable) → length (text t) ≡ 12 + length (flat_map volume_text t.volumes)
-length-text t = length-text_by Listed t
+length-text t = length-text_by Segmented t
 
 pub text_written : (g : Grammar) (t : VolumeTable) (first second end : ℕ) (old one two new : List ℕ) → WritesText 0 (big_bytes 8 t.sequence) old one first
     → WritesText first (big_bytes 4 (length t.volumes)) one two second → WritesText second (flat_map (volume_by g) t.volumes) two new end

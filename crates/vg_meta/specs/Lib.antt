@@ -1,6 +1,5 @@
 pub mod Changes
 pub mod Faults
-pub mod Growth
 pub mod Held
 pub mod Roomy
 pub mod Proper

@@ -7,7 +7,7 @@ use Rattle.std.specs.Prelude.{◌≡◌, ◌≢◌, ℕ, ◌-◌, ◌<◌, ◌^�
 use Rattle.std.specs.List.{flat_map}
 use Rattle.byteorder.specs.Endian.{big_bytes}
 use Rattle.vg_meta.specs.declared.grammars.Grammar.{Grammar}
-use Rattle.vg_meta.specs.declared.grammars.Grammar.TheVariants.{Listed}
+use Rattle.vg_meta.specs.declared.grammars.Grammar.TheVariants.{Segmented}
 use Rattle.vg_meta.specs.Tables.{Row, VolumeTable, IsTable, AreVolumes}
 use Rattle.vg_meta.specs.Text.{text_by, volume_by, HasText}
 
@@ -37,17 +37,17 @@ pub data IsDamagedBy (g : Grammar) (count : ℕ) (bytes : List ℕ) : ℕ → Ty
       → length front ≡ number → rest ≢ []
       → IsDamagedBy g count bytes (length bytes - length rest)
 
--- the bytes are the text of the table, its extents listed
+-- the bytes are the text of the table, its extents by segments
 abbrev pub Spells : ℕ → List ℕ → VolumeTable → Type 0
-Spells count bytes t = SpellsBy Listed count bytes t
+Spells count bytes t = SpellsBy Segmented count bytes t
 
--- behind a sequence number and a number of volumes stand these volumes, their extents listed, which are those of a table so far, and the rest
+-- behind a sequence number and a number of volumes stand these volumes, their extents by segments, which are those of a table so far, and the rest
 abbrev pub Begins : ℕ → List ℕ → ℕ → ℕ → List Row → List ℕ → Type 0
-Begins count bytes sequence number front rest = BeginsBy Listed count bytes sequence number front rest
+Begins count bytes sequence number front rest = BeginsBy Segmented count bytes sequence number front rest
 
--- the first place that is damaged of a text whose extents are listed
+-- the first place that is damaged of a text by segments
 abbrev pub IsDamagedAt : ℕ → List ℕ → ℕ → Type 0
-IsDamagedAt count bytes place = IsDamagedBy Listed count bytes place
+IsDamagedAt count bytes place = IsDamagedBy Segmented count bytes place
 
 -- a place as it is told, in 32 bits: the places past them are told as the last
 abbrev pub told : ℕ → ℕ

@@ -1,5 +1,5 @@
 -- Extents by segments (this project's format): a segment is a first extent, and how many follow one another from it on.
-use Rattle.std.specs.Prelude.{◌≡◌, ◌≢◌, ℕ, ◌+◌, ◌-◌, ◌<◌, ◌≤◌, ◌==◌, if◌then◌else◌, List, [], ◌∷◌, ◌++◌, length, drop, Some, slice_get}
+use Rattle.std.specs.Prelude.{◌≡◌, ◌≢◌, ℕ, ◌+◌, ◌-◌, ◌<◌, ◌≤◌, ◌==◌, if◌then◌else◌, Bool, false, List, [], ◌∷◌, ◌++◌, length, drop, Option, None, Some, slice_get}
 use Rattle.std.specs.List.{flat_map, range_with_len, AllByRecursion}
 
 -- so many extents that follow one another, from a first one on
@@ -20,6 +20,16 @@ joined e (s ∷ ss) = if s.first == e + 1 then record { first = e; count = s.cou
 unfoldable pub segments : List ℕ → List Segment
 segments [] = []
 segments (e ∷ es) = joined e (segments es)
+
+-- an extent follows the one in front of it, where there is one
+abbrev pub follows : Option ℕ → ℕ → Bool
+follows None e = false
+follows (Some last) e = e == last + 1
+
+-- so many extents do not follow the one in front of them: a segment begins at each of these
+unfoldable pub beginnings : Option ℕ → List ℕ → ℕ
+beginnings last [] = 0
+beginnings last (e ∷ es) = (if follows last e then 0 else 1) + beginnings (Some e) es
 
 -- what stands behind a segment does not begin where this one ends
 abbrev pub GoesOnElsewhere : Segment → List Segment → Type 0

@@ -21,8 +21,8 @@ flags_of false true = 2
 flags_of true true = 3
 
 -- extents, listed
-abbrev pub extents_text : List ℕ → List ℕ
-extents_text es = big_bytes 4 (length es) ++ flat_map (big_bytes 4) es
+abbrev pub listed_extents : List ℕ → List ℕ
+listed_extents es = big_bytes 4 (length es) ++ flat_map (big_bytes 4) es
 
 -- of each segment its first extent, and how many it has
 abbrev pub numbers_of : List Segment → List ℕ
@@ -30,29 +30,29 @@ numbers_of ss = flat_map (λ s. s.first ∷ s.count ∷ []) ss
 
 -- extents by a grammar
 abbrev pub extents_by : Grammar → List ℕ → List ℕ
-extents_by Listed es = extents_text es
+extents_by Listed es = listed_extents es
 extents_by Segmented es = big_bytes 4 (length (segments es)) ++ flat_map (big_bytes 4) (numbers_of (segments es))
 
 -- a volume by a grammar
 unfoldable pub volume_by : Grammar → Row → List ℕ
 volume_by g r = length (spelling r.name) ∷ spelling r.name ++ (flags_of r.hidden r.fresh ∷ extents_by g r.extents)
 
--- a volume, its extents listed
+-- a volume, its extents by segments
 abbrev pub volume_text : Row → List ℕ
-volume_text r = volume_by Listed r
+volume_text r = volume_by Segmented r
 
--- a table, its extents listed
+-- a table, its extents by segments: the text that is written
 unfoldable pub text : VolumeTable → List ℕ
 text t = big_bytes 8 t.sequence ++ (big_bytes 4 (length t.volumes) ++ flat_map volume_text t.volumes)
 
--- a table, its extents by segments
-unfoldable pub segmented_text : VolumeTable → List ℕ
-segmented_text t = big_bytes 8 t.sequence ++ (big_bytes 4 (length t.volumes) ++ flat_map (volume_by Segmented) t.volumes)
+-- a table, its extents listed: the text of version 1
+unfoldable pub listed_text : VolumeTable → List ℕ
+listed_text t = big_bytes 8 t.sequence ++ (big_bytes 4 (length t.volumes) ++ flat_map (volume_by Listed) t.volumes)
 
 -- a table by a grammar
 abbrev pub text_by : Grammar → VolumeTable → List ℕ
-text_by Listed t = text t
-text_by Segmented t = segmented_text t
+text_by Listed t = listed_text t
+text_by Segmented t = text t
 
 -- the numbers of volumes and of extents have room in their bytes
 pub record HasText (t : VolumeTable) : Type 0 where

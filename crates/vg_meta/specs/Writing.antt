@@ -15,7 +15,7 @@ pub record WritesText (at : ℕ) (text old new : List ℕ) (end : ℕ) : Type 0 
 abbrev pub volumes_by : Grammar → List Row → List ℕ
 volumes_by g rs = flat_map (volume_by g) rs
 
--- the texts of volumes, their extents listed, one behind the other
+-- the texts of volumes, their extents by segments, one behind the other
 abbrev pub volumes_text : List Row → List ℕ
 volumes_text rs = flat_map volume_text rs
 

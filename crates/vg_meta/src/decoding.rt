@@ -8,7 +8,7 @@ ghost use Rattle.sm_base.specs.Names.{IsName, spelling};
 ghost use Rattle.vg_meta.specs.Segments.{AreFew};
 ghost use Rattle.vg_meta.specs.Tables.{Row, IsVolume};
 ghost use Rattle.vg_meta.specs.declared.grammars.Grammar.TheVariants.{Segmented};
-ghost use Rattle.vg_meta.specs.Text.{flags_of, extents_text, extents_by, volume_by};
+ghost use Rattle.vg_meta.specs.Text.{flags_of, listed_extents, extents_by, volume_by};
 ghost use Rattle.vg_meta.specs.Unread.{IsUnread};
 
 use crate::allowed::suits_kind;
@@ -90,8 +90,8 @@ pub enum Unread {
 fn listed_at(alloc: Global, bytes: &[u8]) -> Result<(Vec<u32>, &[u8]), Unread>
     ensures few { IfOk result (λ x. length x.0.items < 2 ^ 32) }
     ensures fit { IfOk result (λ x. AllByRecursion (λ e. e < 2 ^ 32) x.0.items) }
-    ensures extents { IfOk result (λ x. bytes.now ≡ extents_text x.0.items ++ x.1.now) }
-    ensures damaged { IfErr result (λ e. IsUnread e ((es rest : List ℕ) → length es < 2 ^ 32 → bytes.now ≢ extents_text es ++ rest)) }
+    ensures extents { IfOk result (λ x. bytes.now ≡ listed_extents x.0.items ++ x.1.now) }
+    ensures damaged { IfErr result (λ e. IsUnread e ((es rest : List ℕ) → length es < 2 ^ 32 → bytes.now ≢ listed_extents es ++ rest)) }
 {
     let Some((count, mut rest)) = number_at(bytes) else {
         return Err(Unread::Damaged);

@@ -5,7 +5,7 @@ ghost use Rattle.std.specs.List.{flat_map, AllByRecursion};
 ghost use Rattle.byteorder.specs.Endian.{big_bytes};
 ghost use Rattle.vg_meta.specs.Roomy.{rows_alone};
 ghost use Rattle.vg_meta.specs.Segments.{segments};
-ghost use Rattle.vg_meta.specs.Text.{flags_of, extents_text, extents_by, numbers_of, volume_by, volume_text};
+ghost use Rattle.vg_meta.specs.Text.{flags_of, listed_extents, extents_by, numbers_of, volume_by, volume_text};
 ghost use Rattle.vg_meta.specs.Writing.{WritesText};
 ghost use Rattle.vg_meta.specs.declared.grammars.Grammar.TheVariants.{Segmented};
 
@@ -70,8 +70,8 @@ fn put_numbers(to: &mut [u8], at: usize, numbers: &[u32]) -> usize
 // Writes extents, which stand in two slices, at a place, listed, and answers the place behind them.
 fn put_listed(to: &mut [u8], at: usize, extents: &[u32], more: &[u32]) -> usize
     requires few { length (extents.now ++ more.now) < 2 ^ 32 }
-    requires room { at + length (extents_text (extents.now ++ more.now)) ≤ length to.old }
-    ensures { WritesText at (extents_text (extents.now ++ more.now)) to.old to.new result }
+    requires room { at + length (listed_extents (extents.now ++ more.now)) ≤ length to.old }
+    ensures { WritesText at (listed_extents (extents.now ++ more.now)) to.old to.new result }
 {
     let count = extents.len() + more.len();
     let extents_at = put_number(to, at, count as u32);
@@ -169,7 +169,7 @@ pub fn volumes_length(volumes: &[Volume]) -> usize
 {
     let mut total: usize = 0;
     for volume in volumes {
-        total = total.saturating_add(volume.text_length());
+        total = total.saturating_add(Entry::of(volume).text_length());
     }
     total
 }

@@ -5,6 +5,7 @@ ghost use Rattle.vg_meta.specs.Text.{volume_text};
 ghost use Rattle.vg_meta.specs.Changes.{made, grown, cut_to, renamed, tagged};
 
 use crate::changes::Tag;
+use crate::segments::count_segments;
 use crate::volumes::Volume;
 use sm_base::Name;
 use std::marker::Model;
@@ -129,8 +130,8 @@ impl<'a> Entry<'a> {
     {
         let mut name = [0; 128];
         let size = self.name.spell(&mut name);
-        let extents = self.extents.len().saturating_add(self.more.len());
-        extents.saturating_mul(4).saturating_add(size + 6)
+        let segments = count_segments(self.extents, self.more);
+        segments.saturating_mul(8).saturating_add(size + 6)
     }
 
     /// The extents, in two slices.

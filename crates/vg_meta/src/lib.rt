@@ -6,8 +6,8 @@
 //!
 //! **The model** (`specs/`). `Tables` says what a table is, `Changes` which changes are allowed and what table each
 //! leaves, `Text` how a table is spelled, number by number, and `Reading` where a text that spells none goes
-//! wrong first. Both go by a [`Grammar`]: extents are listed one by one, as a group writes them, or by `Segments`, the
-//! fewest runs of consecutive ones, there and back; nothing writes these to a device yet.
+//! wrong first. Both go by a [`Grammar`]: extents are listed one by one, as version 1 of the format has them, or by `Segments`,
+//! the fewest runs of consecutive ones, as version 2 has them and as a group writes them.
 //! `Roomy` has beside the table the rows, and the extents of each volume, that may still be added
 //! without memory.
 //!

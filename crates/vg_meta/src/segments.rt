@@ -1,8 +1,8 @@
 //! Extents as segments: the first of them, how many there are, and which may stand behind extents that were read.
 
-ghost use Rattle.std.specs.Prelude.{◌≡◌, ◌≢◌, ◌≤◌, ◌<◌, ◌+◌, ◌^◌, ◌++◌, ◌∷◌, ◌↔◌, [], Some, length, slice_get, IsTrue, IfSome, IfNone, OnOk};
+ghost use Rattle.std.specs.Prelude.{◌≡◌, ◌≢◌, ◌≤◌, ◌<◌, ◌+◌, ◌-◌, ◌^◌, ◌++◌, ◌∷◌, ◌↔◌, [], Some, length, min, slice_get, IsTrue, IfSome, IfNone, OnOk};
 ghost use Rattle.std.specs.List.{range_with_len};
-ghost use Rattle.vg_meta.specs.Segments.{CountsUp, GoesOn, segments};
+ghost use Rattle.vg_meta.specs.Segments.{CountsUp, GoesOn, follows, segments, beginnings};
 
 use sm_base::NoMemory;
 
@@ -61,18 +61,37 @@ pub fn split_segment<'a>(
     Some((Segment { first, count }, behind, left))
 }
 
-/// How many segments extents have that stand in two slices.
-pub fn count_segments(extents: &[u32], more: &[u32]) -> usize
-    requires { length (extents.now ++ more.now) < 2 ^ 32 }
-    ensures { result ≡ length (segments (extents.now ++ more.now)) }
+// Whether an extent follows the one in front of it, where there is one.
+fn follows(last: Option<u32>, extent: u32) -> bool
+    ensures { result ≡ follows last extent }
 {
+    match last {
+        Some(last) => u64::from(last) + 1 == u64::from(extent),
+        None => false,
+    }
+}
+
+// How many extents do not follow the one in front of them.
+fn count_beginnings(last: Option<u32>, extents: &[u32]) -> usize
+    ensures { result ≡ beginnings last extents.now }
+{
+    let mut last = last;
     let mut count = 0;
-    let mut rest = (extents, more);
-    while let Some((_, extents, more)) = split_segment(rest.0, rest.1) {
-        count += 1;
-        rest = (extents, more);
+    for extent in extents {
+        if !follows(last, *extent) {
+            count += 1;
+        }
+        last = Some(*extent);
     }
     count
+}
+
+/// How many segments extents have that stand in two slices, or the greatest `usize` where there are more.
+pub fn count_segments(extents: &[u32], more: &[u32]) -> usize
+    ensures { result ≡ min (length (segments (extents.now ++ more.now))) (2 ^ 64 - 1) }
+{
+    let front = count_beginnings(None, extents);
+    front.saturating_add(count_beginnings(extents.last().copied(), more))
 }
 
 /// Whether a segment may stand behind extents, where extents are counted up to `count` and the volume may have `most`.

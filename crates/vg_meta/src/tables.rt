@@ -195,14 +195,14 @@ impl Table {
         changed_length(&self.volumes, change).saturating_add(12) <= limit as usize
     }
 
-    /// Writes the text to the buffer's beginning, its extents listed, and answers its length in bytes. The bytes past it stay.
+    /// Writes the text by segments to the buffer's beginning, and answers its length in bytes. The bytes past it stay.
     pub fn encode(&self, to: &mut [u8]) -> usize
         requires fits { length (text (table_alone self.now)) ≤ length to.old }
         requires numbers { HasText (table_alone self.now) }
         ensures text { to.new ≡ text (table_alone self.now) ++ drop (length (text (table_alone self.now))) to.old }
         ensures length { result ≡ length (text (table_alone self.now)) }
     {
-        self.encode_by(Grammar::Listed, to)
+        self.encode_by(Grammar::Segmented, to)
     }
 
     /// Writes the text by a grammar to the buffer's beginning, and answers its length in bytes. The bytes past it stay.
@@ -217,8 +217,8 @@ impl Table {
         put_volumes(to, volumes_at, grammar, &self.volumes)
     }
 
-    /// Writes the text of the table that a change leaves to the buffer's beginning, its extents listed, and answers its length
-    /// in bytes. The bytes past it stay, and so does this table. It takes no memory.
+    /// Writes the text by segments of the table that a change leaves to the buffer's beginning, and answers its length in
+    /// bytes. The bytes past it stay, and so does this table. It takes no memory.
     pub fn encode_changed(&self, change: &Change, to: &mut [u8]) -> usize
         requires allowed { Permits (2 ^ 32) (table_alone self.now) change.now }
         requires fits { length (text (applied (table_alone self.now) change.now)) ≤ length to.old }
@@ -226,7 +226,7 @@ impl Table {
         ensures text { to.new ≡ text (applied (table_alone self.now) change.now) ++ drop (length (text (applied (table_alone self.now) change.now))) to.old }
         ensures length { result ≡ length (text (applied (table_alone self.now) change.now)) }
     {
-        self.encode_changed_by(Grammar::Listed, change, to)
+        self.encode_changed_by(Grammar::Segmented, change, to)
     }
 
     /// Writes the text by a grammar of the table that a change leaves to the buffer's beginning, and answers its length in
@@ -244,13 +244,13 @@ impl Table {
         put_changed(to, volumes_at, grammar, &self.volumes, change)
     }
 
-    /// The table that the bytes spell, its extents listed, where extents are counted up to `extents`. Else the first place at which
+    /// The table that the bytes spell by segments, where extents are counted up to `extents`. Else the first place at which
     /// the bytes are damaged, or want of memory.
     pub fn decode(alloc: Global, bytes: &[u8], extents: u32) -> Result<Table, DecodeFault>
         ensures spells { IfOk result (λ t. Spells extents bytes.now (table_alone t)) }
         ensures fault { IfErr result (IsDecodeFault extents bytes.now) }
     {
-        Table::decode_by(alloc, Grammar::Listed, bytes, extents)
+        Table::decode_by(alloc, Grammar::Segmented, bytes, extents)
     }
 
     /// The table that the bytes spell by a grammar, where extents are counted up to `extents`: each of its extents is below that

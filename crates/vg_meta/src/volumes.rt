@@ -28,7 +28,6 @@ impl Model for Volume {
 }
 
 impl Volume {
-    ghost use Rattle.vg_meta.specs.Text.{volume_text};
     ghost use Rattle.vg_meta.specs.Changes.{made, grown, cut_to, renamed, tagged, has_tag};
 
     /// The name.
@@ -141,18 +140,6 @@ impl Volume {
             Tag::Hidden => self.hidden,
             Tag::Fresh => self.fresh,
         }
-    }
-
-    // The length of the volume's text in bytes.
-    pub(crate) fn text_length(&self) -> usize
-        ensures { result ≡ min (length (volume_text self.now.row)) (2 ^ 64 - 1) }
-    {
-        let mut name = [0; 128];
-        let size = self.name.spell(&mut name);
-        self.extents
-            .len()
-            .saturating_mul(4)
-            .saturating_add(size + 6)
     }
 
     // Another name.

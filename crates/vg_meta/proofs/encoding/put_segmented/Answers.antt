@@ -1,4 +1,4 @@
-use Rattle.std.proofs.Common.{◌++◌, ℕ, length, subst, arith}
+use Rattle.std.proofs.Common.{◌≡◌, ◌++◌, ℕ, length, subst, arith}
 use Rattle.std.specs.List.{flat_map}
 use Rattle.byteorder.specs.Endian.{big_bytes}
 use Rattle.vg_meta.specs.Segments.{segments}
@@ -22,6 +22,7 @@ put_segments-requires-clause-room c =
 pub returns : goal.returns
 returns c =
     let es = c.args.extents.now ++ c.args.more.now in
-    let first = subst (λ (n : ℕ). WritesText c.args.at (big_bytes 4 n) c.args.to.now c.put_number-segments_at.new.to c.put_number-segments_at.result) c.count_segments.ensures c.put_number-segments_at.ensures in
+    let count : c.count_segments.result ≡ length (segments es) = omega (arith, c.count_segments.ensures, few-segments es, c.requires.few) in
+    let first = subst (λ (n : ℕ). WritesText c.args.at (big_bytes 4 n) c.args.to.now c.put_number-segments_at.new.to c.put_number-segments_at.result) count c.put_number-segments_at.ensures in
     puts_then c.args.at _ _ (big_bytes 4 (length (segments es))) (flat_map (big_bytes 4) (numbers_of (segments es))) c.args.to.now _ _
     (omega (arith, length-segmented es, c.requires.room)) first c.put_segments.ensures

@@ -1,16 +1,12 @@
-use Rattle.std.proofs.Common.{◌++◌, length, ap, arith}
-use Rattle.vg_meta.proofs.SegmentLaws.{few-segments}
-use Rattle.vg_meta.proofs.SegmentSteps.{left_most}
+use Rattle.std.proofs.Common.{◌≡◌, ◌++◌, ℕ, None, Option, arith, ap, sym, ◌∙◌}
+use Rattle.vg_meta.specs.Segments.{beginnings}
+use Rattle.vg_meta.proofs.SegmentLaws.{beginnings-append, last_at, last_behind, length-segments}
 use Rattle.vg_meta.proofs.segments.count_segments.Goals as goal
 
-pub overflow_add-count : goal.overflow_add-count
-overflow_add-count c = omega (arith, c.loop-extents.invariant.counted, few-segments (c.args.extents.now ++ c.args.more.now), c.requires)
-
-pub loop-extents-preserved : goal.loop-extents-preserved
-loop-extents-preserved c =
-    let rest = c.loop-extents.rest.0.now ++ c.loop-extents.rest.1.now in
-    let next = c.in-Some.extents.now ++ c.in-Some.more.now in
-    record {
-      few = omega (arith, left_most rest next _ c.in-Some.ensures.split, c.loop-extents.invariant.few);
-      counted = omega (arith, ap length c.in-Some.ensures.split, c.loop-extents.invariant.counted);
-    }
+pub returns : goal.returns
+returns c =
+    let es = c.args.extents.now in
+    let ms = c.args.more.now in
+    let last : c.copied.result ≡ last_behind None es = c.copied.ensures ∙ c.last.ensures.value ∙ sym (last_at es) in
+    let behind : beginnings c.copied.result ms ≡ beginnings (last_behind None es) ms = ap (λ (o : Option ℕ). beginnings o ms) last in
+    omega (arith, length-segments (es ++ ms), beginnings-append None es ms, behind, c.count_beginnings-front.ensures, c.count_beginnings.ensures, c.saturating_add.ensures)

@@ -1,7 +1,8 @@
 use Rattle.std.proofs.Common.{◌≡◌, ◌-◌, ◌^◌, ◌++◌, length, min, ap, ◌∙◌, arith, length-append}
 use Rattle.vg_meta.specs.Text.{volume_text}
 use Rattle.vg_meta.specs.Tables.{Row}
-use Rattle.vg_meta.proofs.WriteLaws.{length-volume_text, length-extents_text}
+use Rattle.vg_meta.proofs.SegmentTextLaws.{length-segmented}
+use Rattle.vg_meta.proofs.WriteLaws.{length-volume_text}
 use Rattle.vg_meta.proofs.entries.Entry.text_length.Goals as goal
 
 pub returns : goal.returns
@@ -12,10 +13,9 @@ returns c =
     omega (
       arith,
       length-volume_text r,
-      length-extents_text r.extents,
-      length-append i.extents.now i.more.now,
+      length-segmented r.extents,
       c.spell-size.ensures.length,
-      c.saturating_add-extents.ensures,
+      c.count_segments-segments.ensures,
       c.saturating_mul.ensures,
       c.saturating_add.ensures,
     ) in
