@@ -1,8 +1,8 @@
 -- What is written of a label and of a header is read as that label and that header.
-use Rattle.std.proofs.Common.{◌≡◌, ℕ, ◌+◌, ◌<◌, ◌≤◌, ◌^◌, true, List, ◌++◌, length, take, drop, replicate, sum, refl, sym, ap, ◌∙◌, append_assoc, Ok, arith}
+use Rattle.std.proofs.Common.{◌≡◌, ℕ, ◌+◌, ◌<◌, ◌≤◌, ◌^◌, true, leb, min, length-append, List, ◌++◌, length, take, drop, replicate, sum, refl, sym, ap, ◌∙◌, append_assoc, Ok, arith}
 use Rattle.std.proofs.Math.Seq.{drop-append-add, take-append_seam}
-use Rattle.std.proofs.lemmas.Bool.{le-leb, le-ltb}
-use Rattle.std.proofs.lemmas.List.{drop-drop}
+use Rattle.std.proofs.lemmas.Bool.{and_parts, le-leb, le-ltb, leb-true}
+use Rattle.std.proofs.lemmas.List.{drop-drop, length-replicate, length-take}
 use Rattle.std.proofs.lemmas.Nat.{from_be_bytes-to_be_bytes_4}
 use Rattle.std.proofs.lemmas.Slice.Eq.{bytes_eq-Decides}
 use Rattle.std.specs.Int.{w32, from_be_bytes}
@@ -10,8 +10,9 @@ use Rattle.std.specs.Str.{bytes_eq}
 use Rattle.sm_base.specs.Numbers.{IsGeometry}
 use Rattle.vg_layout.specs.Places.{extents_on, label_place, record_extents, slot_bytes}
 use Rattle.vg_layout.specs.Sectors.{Plate, Pointer, number, number_at, label_cookie, sealed, label_front, label_sector, plate_in, version_in, header_front, header_sector, pointer_in}
-use Rattle.vg_layout.specs.Opening.{frame_in, is_header_right, is_version, plate_of, pointer_by, pointer_of}
-use Rattle.vg_layout.proofs.SectorLaws.{label_right}
+use Rattle.vg_layout.specs.Opening.{frame_in, is_header_right, is_version, plate_of, pointer_by, pointer_of, version_of}
+use Rattle.vg_layout.proofs.SectorLaws.{geometry_from, label_right}
+use Rattle.vg_layout.proofs.StandingLaws.{IsRightPlate, right_few}
 
 -- ---- a label
 
@@ -64,6 +65,40 @@ cookie_again v p = (bytes_eq-Decides (take 8 (label_sector v p)) label_cookie).1
 pub version_again : (v : ℕ) (p : Plate) → v < 2 ^ 32 → version_in (label_sector v p) ≡ v
 unfolding label_sector label_front sealed
 version_again v p low = from_be_bytes-to_be_bytes_4 v low
+
+-- the UUID of a label that is spelled by its own fields has 16 bytes
+identity_long : (v : ℕ) (p : Plate) (s : List ℕ) → s ≡ label_sector v p → plate_in s ≡ p → length p.identity ≡ 16
+unfolding plate_in behind
+identity_long v p s is fields =
+    let own : take 16 (drop 12 s) ≡ p.identity = ap (λ (q : Plate). q.identity) fields in
+    let rest : length (behind v p) ≡ length (number p.extent ++ (number p.block ++ (number p.entries ++ (number p.count ++ (number p.layout ++ replicate 460 0))))) + length (number (sum (label_front v p))) =
+    length-append (number p.extent ++ (number p.block ++ (number p.entries ++ (number p.count ++ (number p.layout ++ replicate 460 0))))) (number (sum (label_front v p))) in
+    let more = length-append (number p.extent) (number p.block ++ (number p.entries ++ (number p.count ++ (number p.layout ++ replicate 460 0)))) in
+    let more2 = length-append (number p.block) (number p.entries ++ (number p.count ++ (number p.layout ++ replicate 460 0))) in
+    let more3 = length-append (number p.entries) (number p.count ++ (number p.layout ++ replicate 460 0)) in
+    let more4 = length-append (number p.count) (number p.layout ++ replicate 460 0) in
+    let more5 = length-append (number p.layout) (replicate 460 0) in
+    let whole : length (p.identity ++ behind v p) ≡ length p.identity + length (behind v p) = length-append p.identity (behind v p) in
+    let cut : length (take 16 (p.identity ++ behind v p)) ≡ min 16 (length (p.identity ++ behind v p)) = length-take 16 (p.identity ++ behind v p) in
+    let same : p.identity ≡ take 16 (p.identity ++ behind v p) = sym own ∙ ap (λ (l : List ℕ). take 16 (drop 12 l)) is ∙ ap (take 16) (from_identity v p) in
+    let long : length p.identity ≡ length (take 16 (p.identity ++ behind v p)) = ap length same in
+    let zeros : length {A = ℕ} (replicate 460 0) ≡ 460 = length-replicate {A = ℕ} 460 0 in
+    omega (arith, long, cut, whole, rest, more, more2, more3, more4, more5, zeros)
+
+-- the fields of a label that is right
+pub right_fields : {size : ℕ} {m : ℕ → List ℕ} {p : Plate} → IsRightPlate size m p → IsFields p
+right_fields {size} {m} {p} right =
+    let g = geometry_from p.extent p.block p.entries right.sizes in
+    let parts = and_parts (leb 1 (version_of m)) (leb (version_of m) 2) right.version in
+    let few = leb-true _ _ parts.1 in
+    record {
+      extent = omega (arith, g.extent_most);
+      block = omega (arith, g.block_most);
+      entries = omega (arith, g.entries_most);
+      count = omega (arith, right_few right);
+      layout = omega (arith, right.layout, few);
+      identity = identity_long (version_of m) p (m label_place) right.spelled right.fields;
+    }
 
 -- the sizes of a label are in their ranges, and its layout and its extents in theirs
 pub record HasSizes (size version : ℕ) (p : Plate) : Type 0 where

@@ -1,6 +1,6 @@
 -- The tests of a label and of a table header, in the words of the program.
 use Rattle.std.proofs.Common.{◌≡◌, ℕ, ◌<◌, ◌≤◌, Bool, true, false, ◌&&◌, leb, ltb, List, [], ◌++◌, refl, append_assoc, arith}
-use Rattle.std.proofs.lemmas.Bool.{and_parts, eqb-true, leb-false, leb-true, le-leb, le-ltb, lt-ltb}
+use Rattle.std.proofs.lemmas.Bool.{and_parts, leb-false, leb-true, le-leb, le-ltb, lt-ltb}
 use Rattle.std.proofs.lemmas.Slice.Eq.{bytes_eq-Decides}
 use Rattle.std.specs.Int.{is_power_of_two}
 use Rattle.std.specs.Str.{bytes_eq}
@@ -71,8 +71,8 @@ wrong_fields size sector version h = by (leb (number_at 44 sector) 1) refl h
 
     by : (b : Bool) → leb (number_at 44 sector) 1 ≡ b → (b && is_geometry p.extent p.block p.entries) ≡ false → is_label_right size sector ≡ false
     by false none wrong =
-        let one = eqb-true (version_in sector) 1 version in
-        let high : ltb p.layout (version_in sector) ≡ false = le-ltb p.layout (version_in sector) (omega (arith, one, leb-false _ _ none)) in
+        let most = leb-true _ _ (and_parts (leb 1 (version_in sector)) (leb (version_in sector) 2) version).1 in
+        let high : ltb p.layout (version_in sector) ≡ false = le-ltb p.layout (version_in sector) (omega (arith, most, leb-false _ _ none)) in
         rw high (none_right (bytes_eq sector (label_sector (version_in sector) p)) (is_geometry p.extent p.block p.entries && (leb p.count (extents_on p.layout size p.extent) && leb (record_extents p.extent) p.count)))
     by true some wrong =
         rw wrong (none_behind (bytes_eq sector (label_sector (version_in sector) p)) (ltb p.layout (version_in sector)) (leb p.count (extents_on p.layout size p.extent) && leb (record_extents p.extent) p.count))

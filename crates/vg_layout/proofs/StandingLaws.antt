@@ -1,8 +1,9 @@
 -- What an image shows of a label and a header that are right; it shows one pointer and one table alone.
-use Rattle.std.proofs.Common.{◌≡◌, ℕ, ◌+◌, ◌-◌, ◌*◌, ◌/◌, ◌<◌, ◌≤◌, Bool, true, false, cond, not, leb, ltb, eqb, List, take, Result, Ok, Err, refl, sym, ap, subst, ◌∙◌, arith}
+use Rattle.std.proofs.Common.{◌≡◌, ◌⊎◌, inl, inr, zero, suc, ℕ, ◌+◌, ◌-◌, ◌*◌, ◌/◌, ◌<◌, ◌≤◌, Bool, true, false, cond, not, leb, ltb, eqb, List, take, Result, Ok, Err, refl, sym, ap, subst, ◌∙◌, arith}
 use Rattle.std.proofs.Math.Nat.{mul-le-mul_right, div-mul-le_self}
-use Rattle.std.proofs.lemmas.Bool.{and_parts, eqb-true, leb-true, ltb-true}
+use Rattle.std.proofs.lemmas.Bool.{and_parts, leb-true, ltb-true}
 use Rattle.std.proofs.lemmas.Grind.{div_ceil_times}
+use Rattle.std.proofs.lemmas.Slice.Eq.{bytes_eq-Decides}
 use Rattle.std.specs.Int.{is_power_of_two}
 use Rattle.std.specs.Str.{bytes_eq}
 use Rattle.sm_base.specs.Limits.{extent_limit}
@@ -46,6 +47,8 @@ pointer_right m h e = pointer_right_by (frame_in m) (m (frame_in m).header) h e
 pub record IsRightPlate (size : ℕ) (m : ℕ → List ℕ) (p : Plate) : Type 0 where
   pub version : is_version (version_of m) ≡ true
   pub fields : plate_in (m label_place) ≡ p
+  pub spelled : m label_place ≡ label_sector (version_of m) p
+  pub sizes : is_geometry p.extent p.block p.entries ≡ true
   pub layout : p.layout < version_of m
   pub most : p.count ≤ extents_on p.layout size p.extent
   pub least : record_extents p.extent ≤ p.count
@@ -71,22 +74,25 @@ plate_right size m p e = go (ltb size 2) (not (bytes_eq (take 8 (m label_place))
         let powers = and_parts (is_power_of_two q.extent) _ sizes.0 in
         let wide = and_parts (leb 32 q.extent) _ powers.1 in
         let is : IsRightPlate size m q =
-        record { version = v; fields = refl; layout = ltb-true _ _ layouts.0; most = leb-true _ _ counts.0; least = leb-true _ _ counts.1; extent = leb-true _ _ wide.0 } in
+        record { version = v; fields = refl; spelled = (bytes_eq-Decides (m label_place) (label_sector (version_of m) q)).0 right.0; sizes = sizes.0; layout = ltb-true _ _ layouts.0; most = leb-true _ _ counts.0; least = leb-true _ _ counts.1; extent = leb-true _ _ wide.0 } in
         subst (IsRightPlate size m) same is
 
--- the version is the one that an opening takes
-pub plate_version : (size : ℕ) (m : ℕ → List ℕ) (p : Plate) → plate_of size m ≡ Ok p → version_of m ≡ 1
-plate_version size m p e = eqb-true (version_of m) 1 (plate_right size m p e).version
+-- the version is 1 or 2
+pub plate_version : (size : ℕ) (m : ℕ → List ℕ) (p : Plate) → plate_of size m ≡ Ok p → (version_of m ≡ 1) ⊎ (version_of m ≡ 2)
+plate_version size m p e =
+    let parts = and_parts (leb 1 (version_of m)) (leb (version_of m) 2) (plate_right size m p e).version in
+    one_or_two (version_of m) (leb-true _ _ parts.0) (leb-true _ _ parts.1)
+  where
+    one_or_two : (v : ℕ) → 1 ≤ v → v ≤ 2 → (v ≡ 1) ⊎ (v ≡ 2)
+    one_or_two zero some most = absurd (omega (arith, some))
+    one_or_two (suc zero) some most = inl refl
+    one_or_two (suc (suc zero)) some most = inr refl
+    one_or_two (suc (suc (suc n))) some most = absurd (omega (arith, most))
 
--- by which extents are listed
-pub spells_listed : (size : ℕ) (m : ℕ → List ℕ) (p : Plate) (bytes : List ℕ) (t : VolumeTable) → plate_of size m ≡ Ok p → Spells p.count bytes t
-    → SpellsBy (grammar_of (version_of m)) p.count bytes t
-unfolding grammar_of
-spells_listed size m p bytes t e = subst (λ (v : ℕ). SpellsBy (grammar_of v) p.count bytes t) (sym (plate_version size m p e))
-
-pub grammar_listed : (size : ℕ) (m : ℕ → List ℕ) (p : Plate) → plate_of size m ≡ Ok p → grammar_of (version_of m) ≡ Listed
-unfolding grammar_of
-grammar_listed size m p e = ap grammar_of (plate_version size m p e)
+-- what is spelled by the grammar of a version is spelled by that of an image of this version
+pub spells_by : (m : ℕ → List ℕ) (version count : ℕ) (bytes : List ℕ) (t : VolumeTable) → version_of m ≡ version → SpellsBy (grammar_of version) count bytes t
+    → SpellsBy (grammar_of (version_of m)) count bytes t
+spells_by m version count bytes t is = subst (λ (v : ℕ). SpellsBy (grammar_of v) count bytes t) (sym is)
 
 -- the label says the frame
 pub plate_frame : (size : ℕ) (m : ℕ → List ℕ) (p : Plate) → plate_of size m ≡ Ok p → frame_in m ≡ frame_of (version_of m) p.layout
@@ -96,14 +102,25 @@ plate_frame size m p e = ap (λ (q : Plate). frame_of (version_of m) q.layout) (
 pub plate_apart : (size : ℕ) (m : ℕ → List ℕ) (p : Plate) → plate_of size m ≡ Ok p → IsApart (frame_in m) (area_place p.layout)
 plate_apart size m p e = subst (λ (f : Frame). IsApart f (area_place p.layout)) (sym (plate_frame size m p e)) (frame_apart (version_of m) p.layout)
 
--- a group has at most 65,536 extents
+-- no layout has more extents
+most_few : (layout : ℕ) → most_extents layout ≤ 1048576
+unfolding most_extents
+most_few layout = by (eqb layout 0)
+  where
+    by : (b : Bool) → cond b 65536 1048576 ≤ 1048576
+    by true = omega arith
+    by false = omega arith
+
+-- a group has no more extents than any layout
+pub right_few : {size : ℕ} {m : ℕ → List ℕ} {p : Plate} → IsRightPlate size m p → p.count ≤ extent_limit
+unfolding extents_on
+right_few {size} {m} {p} right =
+    let most = right.most in
+    let few : most_extents p.layout ≤ 1048576 = most_few p.layout in
+    omega (arith, most, few)
+
 pub plate_few : (size : ℕ) (m : ℕ → List ℕ) (p : Plate) → plate_of size m ≡ Ok p → p.count ≤ extent_limit
-unfolding extents_on most_extents
-plate_few size m p e =
-    let right = plate_right size m p e in
-    let narrow : p.layout ≡ 0 = omega (arith, right.layout, plate_version size m p e) in
-    let most : p.count ≤ extents_on 0 size p.extent = subst (λ (l : ℕ). p.count ≤ extents_on l size p.extent) narrow right.most in
-    omega (arith, most)
+plate_few size m p e = right_few (plate_right size m p e)
 
 -- and they are on the device
 pub plate_area : (size : ℕ) (m : ℕ → List ℕ) (p : Plate) → plate_of size m ≡ Ok p → area_place p.layout + p.count * p.extent ≤ size

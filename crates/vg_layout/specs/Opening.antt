@@ -1,7 +1,7 @@
 -- What stands on a device, by the first five checks of an opening (this project's format): the label, the table
 -- header and the text of the table. The first check that fails gives the answer.
 --   1. The device has at least 2 sectors and the label begins with its letters, else it is no repository.
---   2. The version is 1, else it is unsupported.
+--   2. The version is 1 or 2, else it is unsupported.
 --   3. The label is right: the layout is one of its version, the sizes are in their ranges, the extents are on the device
 --      and hold at least the volume of records, and the sector is the spelling of its fields.
 --   4. The table header, which stands where the label's version and layout say, is right: the slot is 0 or 1, the text is no
@@ -33,9 +33,9 @@ grammar_of version = if version == 1 then Listed else Segmented
 
 -- a version that an opening takes
 abbrev pub is_version : ℕ → Bool
-is_version version = version == 1
+is_version version = nat_le 1 version && nat_le version 2
 
--- a label that is right on a device of so many sectors: version 1 has layout 0, and version 2 would have 0 or 1
+-- a label that is right on a device of so many sectors: version 1 has layout 0, and version 2 has 0 or 1
 unfoldable pub is_label_right : ℕ → List ℕ → Bool
 is_label_right size sector =
     let p = plate_in sector in

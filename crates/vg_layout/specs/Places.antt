@@ -5,8 +5,7 @@
 --   version 1               1            2        1,026              1,024         4,096           65,536
 --   version 2, narrow   2,050        2,051            2              2,045         4,096           65,536
 --   version 2, wide     2,050        4,096       20,736             16,640        37,376        1,048,576
--- An opening takes version 1 alone, and a format makes it.
-use Rattle.std.specs.Prelude.{◌⊎◌, ◌<◌, ◌≤◌, ℕ, zero, suc, ◌+◌, ◌-◌, ◌*◌, ◌/◌, ◌==◌, min, List, [], ◌++◌, take, if◌then◌else◌}
+use Rattle.std.specs.Prelude.{◌⊎◌, ◌<◌, ◌≤◌, ℕ, zero, suc, ◌+◌, ◌-◌, ◌*◌, ◌/◌, ◌==◌, min, nat_lt, List, [], ◌++◌, take, if◌then◌else◌}
 use Rattle.sm_base.specs.Numbers.{div_up}
 
 -- where the table header and the two slots of the table's text begin, and how many sectors a slot has
@@ -42,10 +41,6 @@ slot_place f slot = if slot == 0 then f.first else f.second
 abbrev pub slot_bytes : Frame → ℕ
 slot_bytes f = 512 * f.room
 
--- the layout that a format makes
-abbrev pub new_layout : ℕ
-new_layout = 0
-
 -- where the extents begin in a layout
 unfoldable pub area_place : ℕ → ℕ
 area_place layout = if layout == 0 then 4096 else 37376
@@ -57,6 +52,14 @@ most_extents layout = if layout == 0 then 65536 else 1048576
 -- the number of extents that a device of so many sectors has in a layout: whole ones, and no more than the layout's most
 unfoldable pub extents_on : ℕ → ℕ → ℕ → ℕ
 extents_on layout size extent = min ((size - area_place layout) / extent) (most_extents layout)
+
+-- the layout that gives a device more extents, the narrow one where both give as many
+unfoldable pub best_layout : ℕ → ℕ → ℕ
+best_layout size extent = if nat_lt (extents_on 0 size extent) (extents_on 1 size extent) then 1 else 0
+
+-- the number of extents of a new group on a device
+abbrev pub new_extents : ℕ → ℕ → ℕ
+new_extents size extent = extents_on (best_layout size extent) size extent
 
 -- the extents of the volume of records, which has 512 sectors' worth of them
 unfoldable pub record_extents : ℕ → ℕ

@@ -11,8 +11,10 @@ use crate::places::{Layout, extents_on, record_extents};
 use sm_base::{Geometry, OpenFault, Place};
 use uuid::Uuid;
 
-/// The version of the format that an opening takes.
-const VERSION: u32 = 1;
+/// The versions of the format that an opening takes: the first and the last.
+const FIRST_VERSION: u32 = 1;
+
+const LAST_VERSION: u32 = 2;
 
 /// What a label says beside its version.
 #[derive(Clone, Copy, PartialEq, Eq)]
@@ -28,6 +30,13 @@ pub struct GroupLabel {
 }
 
 impl GroupLabel {
+    /// The version that the sector of a label says.
+    pub fn version(bytes: &[u8; 512]) -> u32
+        ensures { result ≡ version_in bytes.now }
+    {
+        number_at(bytes, 8)
+    }
+
     /// What the label of a device of so many sectors says: the first three checks of an opening.
     ///
     /// # Errors
@@ -41,8 +50,8 @@ impl GroupLabel {
         if sectors < 2 || bytes_of(bytes, 0) != *b"LVHDREPO" {
             return Err(OpenFault::NotARepository);
         }
-        let version = number_at(bytes, 8);
-        if version != VERSION {
+        let version = GroupLabel::version(bytes);
+        if version < FIRST_VERSION || LAST_VERSION < version {
             return Err(OpenFault::Unsupported { version });
         }
         match GroupLabel::right(sectors, bytes) {
@@ -62,7 +71,7 @@ impl GroupLabel {
         ensures none { IfNone result (is_label_right sectors bytes.now ≡ false) }
     {
         let label = GroupLabel::fields_of(bytes)?;
-        let version = number_at(bytes, 8);
+        let version = GroupLabel::version(bytes);
         let mut written = [0; 512];
         label.write(version, &mut written);
         let most = extents_on(sectors, label.layout, &label.geometry);

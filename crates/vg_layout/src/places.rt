@@ -1,7 +1,7 @@
 //! Where the parts of a volume group stand on its device. A place is the number of a sector.
 
 ghost use Rattle.std.specs.Prelude.{◌≡◌, ◌≤◌, ◌-◌, ◌*◌, false, nat_le, IfSome, IfNone};
-ghost use Rattle.vg_layout.specs.Places.{area_place, extents_on, frame_of, most_extents, record_extents, slot_bytes, slot_place};
+ghost use Rattle.vg_layout.specs.Places.{area_place, best_layout, extents_on, frame_of, most_extents, record_extents, slot_bytes, slot_place};
 ghost use Rattle.vg_layout.specs.Fields.{layout_number, places_in, slot_number};
 
 use sm_base::{Geometry, RECORD_LIMIT};
@@ -36,6 +36,19 @@ impl Layout {
         match self {
             Layout::Narrow => 0,
             Layout::Wide => 1,
+        }
+    }
+
+    /// The layout that gives a device of so many sectors more extents: the narrow one where both give as many.
+    #[tactic(auto, unfolding(crate::specs::Places::best_layout))]
+    pub fn best(sectors: u64, geometry: &Geometry) -> Layout
+        ensures { layout_number result ≡ best_layout sectors geometry.now.extent }
+    {
+        let narrow = extents_on(sectors, Layout::Narrow, geometry);
+        if narrow < extents_on(sectors, Layout::Wide, geometry) {
+            Layout::Wide
+        } else {
+            Layout::Narrow
         }
     }
 

@@ -5,7 +5,7 @@ use Rattle.vg_meta.specs.Tables.{VolumeTable}
 
 -- the version of a repository by which commits are made
 abbrev pub current_version : ℕ
-current_version = 1
+current_version = 2
 
 -- this table, and of the area any choice sector by sector
 pub record IsBefore (size : ℕ) (table : VolumeTable) (area : Held) (left : VolumeTable) (image : ℕ → List ℕ) : Type 0 where

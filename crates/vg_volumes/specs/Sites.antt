@@ -1,5 +1,5 @@
 -- What never changes in a volume group, and what stays the same from call to call.
-use Rattle.std.specs.Prelude.{ℕ, ◌*◌, ◌≤◌, List, length}
+use Rattle.std.specs.Prelude.{ℕ, ◌*◌, ◌≤◌, List, length, nat_le, if◌then◌else◌}
 use Rattle.sm_base.specs.declared.names.Name.{Name}
 use Rattle.sm_base.specs.declared.sizes.Geometry.{Geometry}
 use Rattle.sm_disk.specs.Held.{Held}
@@ -31,9 +31,10 @@ size_of s t n = span s.geometry.extent (extents_of (rows t n))
 abbrev pub volume_of : Site → VolumeTable → Held → Name → Held
 volume_of s t area n = volume s.geometry.extent (extents_of (rows t n)) area
 
--- the most bytes that a table's text may have where a group has so many extents: those of a slot, whatever their number
+-- the most bytes that a table's text may have where a group has so many extents: those of a slot of the narrow layout where these may
+-- stand in it, and of the wide one where they are more
 abbrev pub text_limit : ℕ → ℕ
-text_limit count = 524288
+text_limit count = if nat_le count 65536 then 1047040 else 8519680
 
 -- the text of the table after a change is within the limit for so many extents
 abbrev pub Fits : ℕ → VolumeTable → Change → Type 0

@@ -12,7 +12,7 @@
 //! A store stands on a device, and may share it with what is no part of it: no call changes a place `beside` the
 //! store, and a read and a sync change nothing of the whole `device`.
 //!
-//! Commits are made by the current version of the format alone (`CURRENT_VERSION`, today the only one). A store of an earlier version
+//! Commits are made by the current version of the format alone (`CURRENT_VERSION`, which is 2). A store of an earlier version
 //! answers its table and its sectors, and `upgrade` takes it over: the table and the extents stay, and what a stop leaves in between
 //! might have been left before.
 //!

@@ -10,19 +10,23 @@ ghost use Rattle.vg_volumes.specs.Commits.{IsBefore, IsEither, current_version};
 ghost use Rattle.vg_volumes.specs.Sites.{Site, area_size, size_of, volume_of, Fits, NoLessRoom, RoomAfter, text_limit};
 ghost use Rattle.vg_volumes.specs.Volumes.{SameElsewhere};
 
-use sm_base::{Failed, Geometry, Name, NoMemory, TEXT_LIMIT};
+use sm_base::{Failed, Geometry, Name, NoMemory};
 use uuid::Uuid;
 use vg_meta::{Change, Table};
 
 /// The version of a repository by which commits are made.
-pub const CURRENT_VERSION: u32 = 1;
+pub const CURRENT_VERSION: u32 = 2;
 
-/// The most bytes that a table's text may have where a group has so many extents: the same for any number of them.
+/// The most bytes that a table's text may have where a group has so many extents: those of a slot of the narrow layout, or of
+/// the wide one.
 pub fn text_limit(extents: u32) -> u32
     ensures { result ≡ text_limit extents }
 {
-    let _any = extents;
-    TEXT_LIMIT
+    if extents <= 65_536 {
+        1_047_040
+    } else {
+        8_519_680
+    }
 }
 
 /// A store of volumes. Clauses on content hold where the store tells its content (`told`).
@@ -61,7 +65,7 @@ pub trait Store {
     fn geometry(&self) -> Geometry
         ensures { result ≡ (site self.now).geometry };
 
-    /// The number of extents, at most 65,536.
+    /// The number of extents, at most 1,048,576.
     fn extents(&self) -> u32
         ensures count { result ≡ (site self.now).count }
         ensures few { (site self.now).count ≤ extent_limit }

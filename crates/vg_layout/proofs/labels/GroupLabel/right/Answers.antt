@@ -10,5 +10,5 @@ pub returns-then-least-label-clause-right : goal.returns-then-least-label-clause
 returns-then-least-label-clause-right c =
     let l = c.in_ok-label.label in
     let same : c.args.bytes.now ≡ c.write.new.to = search rules in
-    label_right c.args.sectors c.number_at-version.result c.args.bytes.now (plate l) (sym c.number_at-version.ensures) c.in_ok-label.ensures.some (same ∙ c.write.ensures)
+    label_right c.args.sectors c.version-version.result c.args.bytes.now (plate l) (sym c.version-version.ensures) c.in_ok-label.ensures.some (same ∙ c.write.ensures)
     (rw (← c.number.ensures) c.if-number-version.true) l.geometry.in_range (rw (← c.extents_on-most.ensures) c.if-label-most.true) (rw (← c.record_extents-least.ensures) c.if-least-label.true)
