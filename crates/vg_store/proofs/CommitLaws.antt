@@ -1,5 +1,5 @@
 -- What a crash leaves at each stage of a commit.
-use Rattle.std.proofs.Common.{◌≡◌, ℕ, ◌+◌, ◌-◌, ◌*◌, ◌<◌, ◌≤◌, ◌^◌, ◌⊎◌, inl, inr, List, length, take, Ok, refl, sym, ap, subst, ◌∙◌, arith}
+use Rattle.std.proofs.Common.{◌≡◌, ℕ, ◌+◌, ◌-◌, ◌*◌, ◌<◌, ◌≤◌, ◌⊎◌, inl, inr, List, length, take, Ok, refl, sym, ap, subst, ◌∙◌, arith}
 use Rattle.std.proofs.lemmas.Bool.{cases_eq}
 use Rattle.sm_base.specs.Limits.{extent_limit}
 use Rattle.sm_base.specs.Numbers.{div_up}
@@ -10,13 +10,13 @@ use Rattle.sm_disk.proofs.SectorLaws.{sector-one}
 use Rattle.sm_disk.specs.Sectors.{sector}
 use Rattle.vg_layout.proofs.RoundTrips.{header_again}
 use Rattle.vg_meta.specs.Tables.{VolumeTable}
-use Rattle.vg_meta.specs.Reading.{SpellsBy}
-use Rattle.vg_layout.specs.Places.{Frame, IsApart, area_place, frame_of, label_place, slot_bytes, slot_place}
-use Rattle.vg_layout.specs.Sectors.{Plate, Pointer, header_sector, plate_in}
-use Rattle.vg_layout.specs.Opening.{StandsOn, frame_in, grammar_of, plate_of, pointer_of, text_in, version_of}
+use Rattle.vg_layout.specs.Places.{Frame, IsApart, area_place, label_place, slot_bytes, slot_place}
+use Rattle.vg_layout.specs.Sectors.{Plate, Pointer, header_sector, plate_in, version_in}
+use Rattle.vg_layout.specs.Opening.{StandsOn, frame_in, plate_of, pointer_of, text_in, version_of}
 use Rattle.vg_volumes.specs.Commits.{IsBefore, IsEither}
 use Rattle.vg_store.specs.Groups.{LeavesGroup, area_of, IsGroup, IsNext}
-use Rattle.vg_store.proofs.ImageLaws.{frame_room, frame_same, plate_apart, plate_same, pointer_same, slot_behind, slot_front, spells_same, text_same, text_written, stands_from, stands_once, sectors_most, pointer_right, IsRightPointer}
+use Rattle.vg_store.specs.Leaving.{spells_current}
+use Rattle.vg_store.proofs.ImageLaws.{frame_room, frame_same, plate_apart, plate_same, pointer_same, slot_behind, slot_front, text_same, text_written, stands_from, stands_once, sectors_most, pointer_right, IsRightPointer}
 
 -- an image that shows in front of the extents of a layout what a read gives, but perhaps in some sectors
 abbrev pub ShowsElsewhere : ℕ → ℕ → ℕ → Held → (ℕ → List ℕ) → Type 0
@@ -60,7 +60,7 @@ pub stands_before : (size : ℕ) (h : Held) (p : Plate) (at : Pointer) (t : Volu
 stands_before size h p at t bytes m place len g is most shows =
     stands_from size m p at t bytes (plate_same size h.floor m label ∙ g.rests.labelled)
     (pointer_same h.floor m label (shows (frame_in h.floor).header apart.front.0 other.header) ∙ g.rests.headed) (text_same h.floor m at label slot ∙ g.rests.text) g.summed
-    (spells_same h.floor m p.count bytes t label g.spelled)
+    (spells_current m p.count bytes t (ap version_in label ∙ g.rests.current) g.spelled)
   where
     right : IsRightPointer (frame_in h.floor) at
     right = pointer_right h.floor at g.rests.headed
@@ -141,7 +141,7 @@ staged_reads size a b p at t bytes written place q g s below apart = s.elsewhere
 pub record IsStep (size : ℕ) (a b : Held) (p : Plate) (at next : Pointer) (t u : VolumeTable) (bytes written : List ℕ) (place : ℕ) : Type 0 where
   pub group : IsGroup size a p at t bytes
   pub staged : IsStaged a b place written
-  pub is_next : IsNext (frame_in a.floor) (grammar_of (version_of a.floor)) p at next u written
+  pub is_next : IsNext (frame_in a.floor) p at next u written
   pub is_place : place ≡ slot_place (frame_in a.floor) next.slot
 
 -- it is no longer than a slot, which is the one that is not in use
@@ -209,7 +209,7 @@ next_stands : (size : ℕ) (a b : Held) (p : Plate) (at next : Pointer) (t u : V
     → IsStep size a b p at next t u bytes written place → ShowsNext size a p next written m → StandsOn size m (record { plate = p; pointer = next; table = u })
 next_stands size a b p at next t u bytes written place m s shown =
     stands_from size m p next u (take next.size written) shown.labelled shown.headed shown.text s.is_next.total
-    (spells_same a.floor m p.count (take next.size written) u shown.label s.is_next.spelled)
+    (spells_current m p.count (take next.size written) u (ap version_in shown.label ∙ s.group.rests.current) s.is_next.spelled)
 
 -- but for the header an image shows what a read gave once the text lasted
 header_shown : (size header : ℕ) (b c : Held) (head : List ℕ) (m : ℕ → List ℕ) → IsSettled b → length head ≡ 512 → Reaches (Puts header head) b c → Allows size c m
@@ -296,9 +296,9 @@ pub group_after : (size : ℕ) (a b c : Held) (p : Plate) (at next : Pointer) (t
     → head ≡ header_sector next → length head ≡ 512 → IsStaged b c (frame_in a.floor).header head → IsGroup size c p next u (take next.size written)
 group_after size a b c p at next t u bytes written head place s head_is long e =
     record {
-      rests = record { still = λ q v below m. may_settled c q v (e.settled q) m ∙ reads-settled c q (e.settled q); labelled = shows.labelled; headed = shows.headed; text = shows.text };
+      rests = record { still = λ q v below m. may_settled c q v (e.settled q) m ∙ reads-settled c q (e.settled q); current = ap version_in shows.label ∙ s.group.rests.current; labelled = shows.labelled; headed = shows.headed; text = shows.text };
       summed = s.is_next.total;
-      spelled = spells_same a.floor c.floor p.count (take next.size written) u shows.label s.is_next.spelled;
+      spelled = s.is_next.spelled;
       few = s.group.few;
     }
   where
@@ -336,9 +336,3 @@ pub stands_now : (size : ℕ) (h : Held) (p : Plate) (at : Pointer) (t : VolumeT
 stands_now size h p at t bytes m room g allowed =
     stands_before size h p at t bytes m (slot_place (frame_in h.floor) (1 - at.slot)) 0 g refl (omega arith)
     (λ q below apart. g.rests.still q (m q) below (allowed q (omega arith)))
-
--- while nothing failed, a stop leaves the one table and any choice of the extents' sectors
-pub leaves_before : (size area : ℕ) (h : Held) (p : Plate) (at : Pointer) (t u : VolumeTable) (bytes : List ℕ) (image : ℕ → List ℕ) → area_place p.layout + area ≤ size
-    → IsGroup size h p at t bytes → LeavesGroup size h p u image → IsBefore area t (area_of p.layout h) u image
-leaves_before size area h p at t u bytes image fits g l =
-    before_from size area h h p at t u image g.few l (stands_now size h p at t bytes l.whole (omega arith) g l.allowed) (λ q below. l.allowed (area_place p.layout + q) (omega arith))

@@ -1,9 +1,9 @@
 -- Where the two writes of a flip go.
-use Rattle.std.proofs.Common.{◌≡◌, ◌≢◌, ℕ, zero, suc, ◌+◌, ◌*◌, ◌%◌, ◌<◌, ◌≤◌, ◌⊎◌, inl, inr, List, sym, ap, subst, ◌∙◌, ◌-◌, arith}
+use Rattle.std.proofs.Common.{◌≡◌, ℕ, ◌+◌, ◌*◌, ◌%◌, ◌<◌, ◌≤◌, ◌⊎◌, inl, inr, List, sym, ap, subst, ◌∙◌, ◌-◌, arith}
 use Rattle.sm_base.specs.Numbers.{div_up}
 use Rattle.sm_disk.specs.Held.{Held, IsIn, IsWhole, Puts, Reaches}
 use Rattle.sm_disk.proofs.HeldLaws.{in_one}
-use Rattle.vg_layout.specs.Places.{Frame, IsApart, area_place, frame_of, old_frame, slot_bytes, slot_place}
+use Rattle.vg_layout.specs.Places.{Frame, IsApart, area_place, frame_of, slot_bytes, slot_place}
 use Rattle.vg_layout.specs.declared.places.Slot.{Slot}
 use Rattle.vg_layout.specs.declared.places.Slot.TheVariants.{Zero, One}
 use Rattle.vg_layout.specs.Fields.{slot_number}
@@ -11,22 +11,14 @@ use Rattle.vg_volumes.specs.Commits.{current_version}
 use Rattle.vg_layout.specs.Opening.{frame_in}
 use Rattle.vg_layout.specs.Sectors.{Plate, Pointer}
 use Rattle.vg_meta.specs.Tables.{VolumeTable}
-use Rattle.vg_store.specs.Groups.{IsFrameOf, IsNextOf, slots_end}
+use Rattle.vg_store.specs.Groups.{IsFrameOf, IsNextOf}
+use Rattle.vg_store.proofs.BesideLaws.{IsNoPart}
 use Rattle.vg_store.proofs.CommitLaws.{IsStaged, IsStep}
 use Rattle.vg_store.proofs.ImageLaws.{frame_apart, plate_area, sectors_most, sectors_hold, slot_front}
 
--- the frame by which commits are made
-pub current_frame : (layout : ℕ) → IsFrameOf (frame_of current_version layout) layout
-unfolding frame_of
-current_frame layout = record { apart = frame_apart current_version layout; header = λ q past below is. omega (arith, past, is); slots = λ s q low past below. by s q low past }
-  where
-    by : (s q : ℕ) → s ≤ 1 → slots_end ≤ q → (q < slot_place old_frame s) ⊎ (slot_place old_frame s + 1024 ≤ q)
-    by zero q low past = inr (omega (arith, past))
-    by (suc zero) q low past = inr (omega (arith, past))
-    by (suc (suc s)) q low past = absurd (omega (arith, low))
-
-pub current_of : (layout : ℕ) (f : Frame) → f ≡ frame_of current_version layout → IsFrameOf f layout
-current_of layout f is = subst (λ (k : Frame). IsFrameOf k layout) (sym is) (current_frame layout)
+-- the parts of the frame by which commits are made stand apart
+pub current_apart : (layout : ℕ) (f : Frame) → IsFrameOf f layout → IsApart f (area_place layout)
+current_apart layout f is = subst (λ (k : Frame). IsApart k (area_place layout)) (sym is) (frame_apart current_version layout)
 
 slot_low : (s : Slot) → slot_number s ≤ 1
 slot_low Zero = omega arith
@@ -40,18 +32,22 @@ in_front f from s place len size apart is long most =
     let front = slot_front (slot_number s) (slot_low s) apart in
     omega (arith, is, long, few, front)
 
--- and lies beside no group
+-- and lies where the frame has something
 pub slot_clear : (f : Frame) (layout : ℕ) (s : Slot) (place len size : ℕ) → IsFrameOf f layout → place ≡ slot_place f (slot_number s) → len ≡ 512 * div_up size 512 → size ≤ slot_bytes f
-    → (q : ℕ) → slots_end ≤ q → q < area_place layout → IsIn place len q → ⊥
-slot_clear f layout s place len size own is long most q past below here = by (own.slots (slot_number s) q (slot_low s) past below)
+    → (q : ℕ) → IsNoPart (frame_of current_version layout) q → IsIn place len q → ⊥
+slot_clear f layout s place len size own is long most q none here =
+    let free : IsNoPart f q = subst (λ (k : Frame). IsNoPart k q) (sym own) none in
+    by (free.slots (slot_number s) (slot_low s))
   where
     by : (q < slot_place f (slot_number s)) ⊎ (slot_place f (slot_number s) + f.room ≤ q) → ⊥
     by (inl before) = omega (arith, is, before, here.0)
     by (inr behind) = omega (arith, is, behind, here.1, long, sectors_most f size most)
 
--- nor does what is written at the header
-pub header_clear : (f : Frame) (layout len : ℕ) → IsFrameOf f layout → len ≡ 512 → (q : ℕ) → slots_end ≤ q → q < area_place layout → IsIn f.header len q → ⊥
-header_clear f layout len own long q past below here = own.header q past below (in_one f.header len q long here)
+-- and so does what is written at the header
+pub header_clear : (f : Frame) (layout len : ℕ) → IsFrameOf f layout → len ≡ 512 → (q : ℕ) → IsNoPart (frame_of current_version layout) q → IsIn f.header len q → ⊥
+header_clear f layout len own long q none here =
+    let free : IsNoPart f q = subst (λ (k : Frame). IsNoPart k q) (sym own) none in
+    free.header (in_one f.header len q long here)
 
 pub header_front : (f : Frame) (from len : ℕ) → IsApart f from → len ≡ 512 → 512 * f.header + len ≤ 512 * from
 header_front f from len apart long = omega (arith, apart.front.0, long)

@@ -1,14 +1,19 @@
 -- A group goes on standing where a stop leaves in front of the extents nothing that it could not leave before.
-use Rattle.std.proofs.Common.{◌≡◌, ℕ, ◌<◌, ◌≤◌, cond, ltb, ◌⊎◌, inl, inr, List, sum, refl, sym, ap, subst, ◌∙◌, arith}
+use Rattle.std.proofs.Common.{◌≡◌, ℕ, ◌<◌, ◌≤◌, cond, ltb, ◌⊎◌, inl, inr, List, length, sum, refl, sym, ap, subst, ◌∙◌, arith}
 use Rattle.std.proofs.lemmas.Bool.{lt-ltb, le-ltb, cases_lt}
 use Rattle.sm_disk.specs.Held.{Held, May, Allows, Keeps, SameHeld, reads}
 use Rattle.sm_disk.proofs.HeldLaws.{May-reads, may-at, Keeps-same, Allows-keeps}
 use Rattle.vg_meta.specs.Tables.{VolumeTable}
 use Rattle.vg_meta.specs.Reading.{SpellsBy}
-use Rattle.vg_layout.specs.Places.{IsApart, area_place, label_place}
-use Rattle.vg_layout.specs.Sectors.{Plate, Pointer}
+use Rattle.vg_meta.specs.Text.{text}
+use Rattle.vg_layout.specs.Places.{IsApart, area_place, frame_of, label_place, slot_bytes}
+use Rattle.vg_layout.specs.Sectors.{Plate, Pointer, version_in}
 use Rattle.vg_layout.specs.Opening.{frame_in, grammar_of, text_in, version_of}
-use Rattle.vg_store.specs.Groups.{Rests, GroupStands, LeavesGroup}
+use Rattle.vg_volumes.specs.Commits.{current_version}
+use Rattle.vg_upgrade.specs.Upgrades.{IsBeingTaken}
+use Rattle.vg_upgrade.proofs.RestLaws.{taken_again, taken_less}
+use Rattle.vg_store.specs.Groups.{IsVersionOf, Rests, GroupStands, LeavesGroup}
+use Rattle.vg_store.specs.Leaving.{fits_early, layout_early, place_early}
 use Rattle.vg_store.specs.Runs.{SameInFront}
 use Rattle.vg_store.proofs.ImageLaws.{plate_apart, plate_same, pointer_front, spells_same, text_front}
 
@@ -30,6 +35,7 @@ rests_still {size} {wide} {old} {new} {p} {at} {bytes} same no_more r =
     let P : ℕ → Type 0 = λ n. Rests n new p at bytes in
     subst P (sym same) (record {
       still = λ q v low m. r.still q v low (no_more q v low m) ∙ sym (floor q low);
+      current = ap version_in (floor label_place (omega (arith, apart.front.0))) ∙ r.current;
       labelled = plate_same size old.floor new.floor (floor label_place (omega (arith, apart.front.0))) ∙ r.labelled;
       headed = pointer_front (area_place p.layout) old.floor new.floor apart floor ∙ r.headed;
       text = text_front (area_place p.layout) old.floor new.floor at apart r.headed floor ∙ r.text;
@@ -42,7 +48,7 @@ rests_still {size} {wide} {old} {new} {p} {at} {bytes} same no_more r =
     floor q low = r.still q (new.floor q) low (no_more q (new.floor q) low (inl refl))
 
 -- an image stands where another stands that is the same in front of the extents
-standing_from : (size : ℕ) (f m : ℕ → List ℕ) (p : Plate) → ((q : ℕ) → q < area_place p.layout → m q ≡ f q) → GroupStands size f p → GroupStands size m p
+pub standing_from : (size : ℕ) (f m : ℕ → List ℕ) (p : Plate) → ((q : ℕ) → q < area_place p.layout → m q ≡ f q) → GroupStands size f p → GroupStands size m p
 standing_from size f m p same s =
     let apart = plate_apart size f p s.stands.labelled in
     let label = same label_place (omega (arith, apart.front.0)) in
@@ -88,6 +94,15 @@ stands_still {size} {wide} old new p same no_more stands =
     let P : ℕ → Type 0 = λ n. (image : ℕ → List ℕ) → Allows n new image → GroupStands n image p in
     subst P (sym same) (λ image allowed. standing_from size (front_of (area_place p.layout) old image) image p (λ q low. sym (front_in (area_place p.layout) old image q low))
     (stands (front_of (area_place p.layout) old image) (front_allowed p.layout size old new image no_more allowed)))
+
+-- and a group goes on being taken over
+pub taken_still : {size wide version bytes : ℕ} {old new : Held} {p : Plate} {at : Pointer} (t : VolumeTable) → wide ≡ size → IsVersionOf version p.layout → version < current_version
+    → bytes ≡ slot_bytes (frame_of current_version p.layout) → length (text t) ≤ bytes → LeavesNoMore p.layout old new → IsBeingTaken size old p at t → IsBeingTaken wide new p at t
+taken_still {size} {wide} {version} {bytes} {old} {new} {p} {at} t same known early room fits no_more taken =
+    let narrow = layout_early known early in
+    let place = place_early narrow in
+    let P : ℕ → Type 0 = λ n. IsBeingTaken n new p at t in
+    subst P (sym same) (taken_again (taken_less (fits_early t narrow room fits) (λ q v low m. no_more q v (omega (arith, low, place)) m) taken))
 
 -- a sync, failed or not, leaves no more
 pub LeavesGroup-keeps : {size wide : ℕ} {old new : Held} {p : Plate} {t : VolumeTable} {image : ℕ → List ℕ} → wide ≡ size → Keeps old new

@@ -10,4 +10,5 @@ pub mod OpeningLaws
 pub mod PartLaws
 pub mod RunLaws
 pub mod StoreLaws
+pub mod UpgradedLaws
 pub mod FlipLaws

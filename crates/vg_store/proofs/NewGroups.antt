@@ -1,8 +1,8 @@
 -- The new group stands where its label, its header and its text do.
-use Rattle.std.proofs.Common.{◌≡◌, ℕ, ◌+◌, ◌-◌, ◌*◌, ◌/◌, ◌<◌, ◌≤◌, ◌^◌, ◌⊎◌, inl, inr, false, List, length, take, sum, Ok, refl, sym, ap, ap₂, subst, ◌∙◌, arith}
+use Rattle.std.proofs.Common.{min, ◌≡◌, ℕ, ◌+◌, ◌-◌, ◌*◌, ◌/◌, ◌<◌, ◌≤◌, ◌^◌, ◌⊎◌, inl, inr, Bool, true, false, cond, eqb, ltb, List, length, take, sum, Ok, refl, sym, ap, ap₂, subst, ◌∙◌, arith}
 use Rattle.std.specs.List.{flat_map, range_with_len}
-use Rattle.std.proofs.Math.Nat.{mul-le-mul_right, le-div_iff_mul-le}
-use Rattle.std.proofs.lemmas.Bool.{cases_lt}
+use Rattle.std.proofs.Math.Nat.{mul-le-mul_right, le-div_iff_mul-le, div-mul-le_self}
+use Rattle.std.proofs.lemmas.Bool.{cases_lt, ltb-true}
 use Rattle.std.proofs.lemmas.Grind.{div_ceil_times}
 use Rattle.std.proofs.lemmas.List.{append-nil}
 use Rattle.std.proofs.lemmas.List.FromFn.{length-range_with_len}
@@ -17,25 +17,30 @@ use Rattle.sm_disk.specs.Held.{Held}
 use Rattle.sm_disk.proofs.SectorLaws.{sector-one}
 use Rattle.vg_meta.specs.Tables.{Row, VolumeTable, used, new_table}
 use Rattle.vg_meta.specs.Text.{text, volume_text, HasText}
-use Rattle.vg_meta.specs.Reading.{Spells}
+use Rattle.vg_meta.specs.Reading.{Spells, SpellsBy}
 use Rattle.vg_meta.proofs.RangeLaws.{IsTable-new}
-use Rattle.vg_meta.proofs.WriteLaws.{length-text, length-volume_text, length-extents_text}
-use Rattle.vg_layout.specs.Places.{Frame, area_place, extents_on, frame_of, most_extents, new_layout, record_extents, slot_bytes, slot_place}
-use Rattle.vg_layout.specs.Sectors.{Plate, Pointer, header_sector}
-use Rattle.vg_layout.specs.Opening.{frame_in, plate_of, pointer_of, text_in, version_of}
-use Rattle.vg_layout.proofs.RoundTrips.{IsFields, HasSizes, header_again, label_again}
+use Rattle.vg_meta.proofs.SegmentTextLaws.{length-segmented}
+use Rattle.vg_meta.proofs.SegmentLaws.{few-segments}
+use Rattle.vg_meta.proofs.WriteLaws.{length-text, length-volume_text}
+use Rattle.vg_layout.specs.Places.{Frame, area_place, best_layout, extents_on, frame_of, most_extents, new_extents, record_extents, slot_bytes, slot_place}
+use Rattle.vg_layout.specs.Sectors.{Plate, Pointer, header_sector, version_in}
+use Rattle.vg_layout.specs.Opening.{frame_in, grammar_of, plate_of, pointer_of, text_in, version_of}
+use Rattle.vg_layout.proofs.RoundTrips.{IsFields, HasSizes, header_again, label_again, version_again}
 use Rattle.vg_volumes.specs.Commits.{current_version}
 use Rattle.vg_store.specs.Formats.{IsFormatted, IsLaidOut, IsLeftByFormat, IsLeftOf, least_size, new_frame, new_group}
-use Rattle.vg_store.proofs.ImageLaws.{plate_frame, plate_version, spells_listed, stands_from, text_written}
+use Rattle.vg_store.proofs.FormatLaws.{new_room}
+use Rattle.vg_store.proofs.ImageLaws.{plate_frame, spells_by, stands_from, text_written}
 
 -- ---- the sizes
 
-pub record FitsRecords (size extent : ℕ) : Type 0 where
+-- a layout that has the records' extents on a device
+pub record FitsRecords (size extent layout : ℕ) : Type 0 where
   pub few : record_extents extent ≤ 16
-  pub room : area_place new_layout + 512 ≤ size
-  pub large : 512 ≤ extents_on new_layout size extent * extent
-  pub least : record_extents extent ≤ extents_on new_layout size extent
-  pub most : extents_on new_layout size extent ≤ extent_limit
+  pub low : layout < current_version
+  pub room : area_place layout + 512 ≤ size
+  pub large : 512 ≤ extents_on layout size extent * extent
+  pub least : record_extents extent ≤ extents_on layout size extent
+  pub most : extents_on layout size extent ≤ extent_limit
 
 records_hold : (extent : ℕ) → 32 ≤ extent → (512 ≤ record_extents extent * extent) × (record_extents extent * extent < 512 + extent)
 unfolding record_extents
@@ -50,33 +55,74 @@ records_few extent wide = by (cases_lt 16 (record_extents extent))
         let more : 17 * extent ≤ record_extents extent * extent = mul-le-mul_right extent many in
         absurd (omega (arith, more, (records_hold extent wide).1, wide))
 
-pub fits_records : (size extent : ℕ) → 32 ≤ extent → least_size extent ≤ size → FitsRecords size extent
+-- no layout has more extents
+few_extents : (layout size extent : ℕ) → extents_on layout size extent ≤ extent_limit
 unfolding extents_on most_extents
-fits_records size extent wide enough =
-    let few = records_few extent wide in
-    let hold = records_hold extent wide in
+few_extents layout size extent = by (eqb layout 0)
+  where
+    by : (b : Bool) → min ((size - area_place layout) / extent) (cond b 65536 1048576) ≤ 1048576
+    by true = omega arith
+    by false = omega arith
+
+-- those that it has stand on the device
+extents_within : (layout size extent : ℕ) → extents_on layout size extent * extent ≤ size - area_place layout
+unfolding extents_on
+extents_within layout size extent =
+    let few : extents_on layout size extent ≤ (size - area_place layout) / extent = omega arith in
+    let most : extents_on layout size extent * extent ≤ (size - area_place layout) / extent * extent = mul-le-mul_right extent few in
+    omega (arith, most, div-mul-le_self (size - area_place layout) extent)
+
+-- the best layout is one of the two, and none has more extents than it
+best_low : (size extent : ℕ) → best_layout size extent < current_version
+unfolding best_layout
+best_low size extent = by (ltb (extents_on 0 size extent) (extents_on 1 size extent))
+  where
+    by : (b : Bool) → cond b 1 0 < 2
+    by true = omega arith
+    by false = omega arith
+
+best_most : (size extent : ℕ) → extents_on 0 size extent ≤ new_extents size extent
+unfolding best_layout
+best_most size extent = by (ltb (extents_on 0 size extent) (extents_on 1 size extent)) (ltb-true (extents_on 0 size extent) (extents_on 1 size extent))
+  where
+    by : (b : Bool) → (b ≡ true → extents_on 0 size extent < extents_on 1 size extent) → extents_on 0 size extent ≤ extents_on (cond b 1 0) size extent
+    by true more = omega (arith, more refl)
+    by false more = omega arith
+
+-- the narrow layout has the records' extents where the device is large enough
+narrow_least : (size extent : ℕ) → 32 ≤ extent → least_size extent ≤ size → record_extents extent ≤ extents_on 0 size extent
+unfolding extents_on most_extents
+narrow_least size extent wide enough =
     let some : 0 < extent = omega arith in
-    let front : record_extents extent * extent ≤ size - area_place new_layout = omega arith in
-    let within : record_extents extent ≤ (size - area_place new_layout) / extent = (le-div_iff_mul-le some).1 front in
-    let least : record_extents extent ≤ extents_on new_layout size extent = omega (arith, within, few) in
-    let more : record_extents extent * extent ≤ extents_on new_layout size extent * extent = mul-le-mul_right extent least in
+    let front : record_extents extent * extent ≤ size - area_place 0 = omega arith in
+    let within : record_extents extent ≤ (size - area_place 0) / extent = (le-div_iff_mul-le some).1 front in
+    omega (arith, within, records_few extent wide)
+
+pub fits_records : (size extent : ℕ) → 32 ≤ extent → least_size extent ≤ size → FitsRecords size extent (best_layout size extent)
+fits_records size extent wide enough =
+    let hold = records_hold extent wide in
+    let least : record_extents extent ≤ new_extents size extent = omega (arith, narrow_least size extent wide enough, best_most size extent) in
+    let more : record_extents extent * extent ≤ new_extents size extent * extent = mul-le-mul_right extent least in
+    let within = extents_within (best_layout size extent) size extent in
     record {
-      few = few;
-      room = omega (arith, hold.0);
+      few = records_few extent wide;
+      low = best_low size extent;
+      room = omega (arith, hold.0, more, within);
       large = omega (arith, hold.0, more);
       least = least;
-      most = omega arith;
+      most = few_extents (best_layout size extent) size extent;
     }
 
 -- ---- the table
 
-pub new_text : (n : ℕ) → length (text (new_table n)) ≡ 21 + 4 * n
+pub new_text : (n : ℕ) → length (text (new_table n)) ≤ 21 + 8 * n
 unfolding spelling
 new_text n =
     let t = new_table n in
-    let row : Row = record { name = Mgt; hidden = false; fresh = false; extents = range_with_len 0 n } in
+    let es = range_with_len 0 n in
+    let row : Row = record { name = Mgt; hidden = false; fresh = false; extents = es } in
     let alone : length (flat_map volume_text t.volumes) ≡ length (volume_text row) = ap length (append-nil (volume_text row)) in
-    omega (arith, length-text t, alone, length-volume_text row, length-extents_text (range_with_len 0 n), length-range_with_len 0 n)
+    omega (arith, length-text t, alone, length-volume_text row, length-segmented es, few-segments es, length-range_with_len 0 n)
 
 pub new_has_text : (n : ℕ) → n ≤ 16 → HasText (new_table n)
 new_has_text n few = record {
@@ -86,6 +132,11 @@ new_has_text n few = record {
 
 pub new_spells : (count n : ℕ) → n ≤ count → n ≤ 16 → Spells count (text (new_table n)) (new_table n)
 new_spells count n le few = record { spelled = refl; table = IsTable-new count n le; fits = new_has_text n few }
+
+-- a commit's grammar is the one by segments
+by_segments : (count : ℕ) (bytes : List ℕ) (t : VolumeTable) → Spells count bytes t → SpellsBy (grammar_of current_version) count bytes t
+unfolding grammar_of
+by_segments count bytes t s = s
 
 -- ---- all of it
 
@@ -98,21 +149,16 @@ one_most : (n : ℕ) → n ≤ 512 → 512 * div_up n 512 ≤ 512
 unfolding div_up
 one_most n few = omega arith
 
-pub text_shown : (h : Pointer) (written bytes : List ℕ) (m : ℕ → List ℕ) → frame_in m ≡ new_frame → h.size ≤ 512 → length written ≡ 512 → take h.size written ≡ bytes
-    → m (slot_place new_frame h.slot) ≡ written → text_in m h ≡ bytes
-text_shown h written bytes m frame few long is there =
+pub text_shown : (h : Pointer) (written bytes : List ℕ) (m : ℕ → List ℕ) (layout : ℕ) → frame_in m ≡ new_frame layout → h.size ≤ 512 → length written ≡ 512 → take h.size written ≡ bytes
+    → m (slot_place (new_frame layout) h.slot) ≡ written → text_in m h ≡ bytes
+text_shown h written bytes m layout frame few long is there =
     text_written m h written (omega (arith, long, one_most h.size few)) same ∙ is
   where
     same : (i : ℕ) → i < div_up h.size 512 → m (slot_place (frame_in m) h.slot + i) ≡ sector written i
     same i below =
         let first : i ≡ 0 = one_sector h.size i few below in
-        let place : slot_place (frame_in m) h.slot + i ≡ slot_place new_frame h.slot = ap (λ (f : Frame). slot_place f h.slot + i) frame ∙ omega (arith, first) in
+        let place : slot_place (frame_in m) h.slot + i ≡ slot_place (new_frame layout) h.slot = ap (λ (f : Frame). slot_place f h.slot + i) frame ∙ omega (arith, first) in
         ap m place ∙ there ∙ sym (ap (sector written) first ∙ sector-one written long)
-
--- is no longer than a slot
-new_room : 512 ≤ slot_bytes new_frame
-unfolding frame_of
-new_room = omega arith
 
 -- what was laid out for a new group
 pub record IsForNew (size : ℕ) (g : Geometry) (repository written : List ℕ) : Type 0 where
@@ -121,14 +167,14 @@ pub record IsForNew (size : ℕ) (g : Geometry) (repository written : List ℕ) 
   pub long : length written ≡ 512
   pub text : take (length (text (new_table (record_extents g.extent)))) written ≡ text (new_table (record_extents g.extent))
 
-new_fields : (size : ℕ) (g : Geometry) (repository : List ℕ) → extents_on new_layout size g.extent ≤ extent_limit → length repository ≡ 16
+new_fields : (size : ℕ) (g : Geometry) (repository : List ℕ) → FitsRecords size g.extent (best_layout size g.extent) → length repository ≡ 16
     → IsFields (new_group size g repository).plate
-new_fields size g repository few long = record {
+new_fields size g repository fits long = record {
   extent = omega (arith, g.in_range.extent_most);
   block = omega (arith, g.in_range.block_most);
   entries = omega (arith, g.in_range.entries_most);
-  count = omega (arith, few);
-  layout = omega arith;
+  count = omega (arith, fits.most);
+  layout = omega (arith, fits.low);
   identity = long;
 }
 
@@ -136,8 +182,8 @@ pub formatted_new : (size : ℕ) (g : Geometry) (repository written : List ℕ) 
     → IsForNew size g repository written → IsLaidOut (new_group size g repository).plate (new_group size g repository).pointer written m
     → IsFormatted size m g repository
 formatted_new size g repository written m enough new laid = record {
-  stands = stands_from size m p h t (text t) labelled headed (text_shown h written (text t) m frame short new.long new.text laid.filled.text) refl
-      (spells_listed size m p (text t) t labelled (new_spells p.count n fits.least fits.few));
+  stands = stands_from size m p h t (text t) labelled headed (text_shown h written (text t) m p.layout frame short new.long new.text laid.filled.text) refl
+      (spells_by m current_version p.count (text t) t version (by_segments p.count (text t) t (new_spells p.count n fits.least fits.few)));
   records = laid.filled.records;
 }
   where
@@ -153,24 +199,27 @@ formatted_new size g repository written m enough new laid = record {
     h : Pointer
     h = (new_group size g repository).pointer
 
-    fits : FitsRecords size g.extent
+    fits : FitsRecords size g.extent p.layout
     fits = fits_records size g.extent g.in_range.extent_least enough
 
     short : length (text t) ≤ 512
     short = omega (arith, new_text n, fits.few)
 
     sizes : HasSizes size current_version p
-    sizes = record { layout = omega arith; sizes = g.in_range; most = omega arith; least = fits.least }
+    sizes = record { layout = fits.low; sizes = g.in_range; most = omega arith; least = fits.least }
 
     labelled : plate_of size m ≡ Ok p
-    labelled = label_again size current_version p m (omega (arith, fits.room)) refl (omega arith) (new_fields size g repository fits.most new.identity) sizes laid.label
+    labelled = label_again size current_version p m (omega (arith, fits.room)) refl (omega arith) (new_fields size g repository fits new.identity) sizes laid.label
 
-    frame : frame_in m ≡ new_frame
-    frame = plate_frame size m p labelled ∙ ap (λ (v : ℕ). frame_of v new_layout) (plate_version size m p labelled)
+    version : version_of m ≡ current_version
+    version = ap version_in laid.label ∙ version_again current_version p (omega arith)
+
+    frame : frame_in m ≡ new_frame p.layout
+    frame = plate_frame size m p labelled ∙ ap (λ (v : ℕ). frame_of v p.layout) version
 
     headed : pointer_of m ≡ Ok h
     headed =
-        header_again h m (omega arith) (subst (λ (f : Frame). h.size ≤ slot_bytes f) (sym frame) (omega (arith, short, new_room))) (omega (arith, short)) new.total
+        header_again h m (omega arith) (subst (λ (f : Frame). h.size ≤ slot_bytes f) (sym frame) (omega (arith, short, new_room p.layout))) (omega (arith, short)) new.total
         (subst (λ (f : Frame). m f.header ≡ header_sector h) (sym frame) laid.filled.header)
 
 pub formatted_from : (size : ℕ) (g : Geometry) (repository written : List ℕ) (p : Plate) (h : Pointer) → least_size g.extent ≤ size
@@ -191,7 +240,7 @@ left_from size old g repository written p h image finished (inl was) = inl was
 left_from size old g repository written p h image finished (inr (inl none)) = inr (inl none)
 left_from size old g repository written p h image finished (inr (inr laid)) = inr (inr (finished laid))
 
-pub enough_from : (size sectors top r a b extent : ℕ) → top ≡ area_place new_layout → r ≡ record_extents extent → a ≡ r → b ≡ extent → sectors ≡ size → top + a * b ≤ sectors
+pub enough_from : (size sectors top r a b extent : ℕ) → top ≡ area_place 0 → r ≡ record_extents extent → a ≡ r → b ≡ extent → sectors ≡ size → top + a * b ≤ sectors
     → least_size extent ≤ size
 enough_from size sectors top r a b extent top_is r_is a_is b_is size_is le =
     let same : a * b ≡ record_extents extent * extent = ap₂ (λ x y. x * y) (a_is ∙ r_is) b_is in omega (arith, same, top_is, size_is, le)

@@ -1,5 +1,5 @@
 -- What an opening answers of one sector that it read.
-use Rattle.std.proofs.Common.{◌≡◌, ℕ, ◌+◌, ◌-◌, ◌*◌, ◌<◌, ◌≤◌, Bool, true, false, cond, not, eqb, ltb, List, ◌++◌, length, take, sum, Result, Ok, Err, refl, sym, ap, subst, ◌∙◌, arith}
+use Rattle.std.proofs.Common.{◌≡◌, ℕ, ◌+◌, ◌-◌, ◌*◌, ◌<◌, ◌≤◌, ◌⊎◌, inl, inr, Bool, true, false, cond, not, eqb, ltb, List, ◌++◌, length, take, sum, Result, Ok, Err, refl, sym, ap, subst, ◌∙◌, arith}
 use Rattle.std.proofs.lemmas.List.{take-append-le}
 use Rattle.std.proofs.lemmas.Bool.{lt-ltb}
 use Rattle.std.specs.Str.{bytes_eq}
@@ -11,14 +11,15 @@ use Rattle.sm_disk.specs.Held.{Held, Gave, SameHeld, reads}
 use Rattle.sm_disk.proofs.HeldLaws.{SameHeld-then, reads-same}
 use Rattle.sm_disk.specs.Sectors.{sector}
 use Rattle.vg_meta.specs.declared.grammars.Grammar.{Grammar}
-use Rattle.vg_meta.specs.declared.grammars.Grammar.TheVariants.{Listed}
-use Rattle.vg_meta.specs.Reading.{IsDamagedBy, no_sequence, no_number, no_volume, bytes_follow, told}
-use Rattle.vg_layout.specs.Places.{Frame, frame_of, old_frame, label_place, slot_place, slot_text}
-use Rattle.vg_layout.specs.Sectors.{Plate, Pointer, number_at, label_cookie, plate_in, pointer_in}
-use Rattle.vg_layout.specs.Opening.{IsRefused, by_header, by_sum, by_text, frame_in, grammar_of, version_of, plate_of, pointer_by, pointer_of, is_label_right, is_header_right, text_in}
+use Rattle.vg_meta.specs.Tables.{VolumeTable}
+use Rattle.vg_meta.specs.Text.{text_by}
+use Rattle.vg_meta.specs.Reading.{SpellsBy, IsDamagedBy, no_sequence, no_number, no_volume, bytes_follow, told}
+use Rattle.vg_layout.specs.Places.{Frame, IsApart, area_place, extents_on, frame_of, old_frame, narrow_frame, wide_frame, label_place, slot_bytes, slot_place, slot_text}
+use Rattle.vg_layout.specs.Sectors.{Plate, Pointer, label_cookie, plate_in, pointer_in, version_in}
+use Rattle.vg_layout.specs.Opening.{IsRefused, by_header, by_sum, by_text, frame_in, grammar_of, version_of, plate_of, pointer_by, pointer_of, is_version, is_label_right, is_header_right, text_in}
 use Rattle.vg_volumes.specs.Commits.{current_version}
-use Rattle.vg_store.specs.Openings.{IsAnswer, IsTextRefused, by_sum as sum_wrong, by_text as text_wrong}
-use Rattle.vg_store.proofs.ImageLaws.{grammar_listed, plate_frame, plate_same, plate_version, pointer_seen, slot_same, slot_written, sectors_hold}
+use Rattle.vg_store.specs.Openings.{HasLabel, HasTextOf, IsAnswer, IsFoundOn, IsKnown, IsTextAnswer, IsTextRefused, ShowsLabel, by_sum as sum_wrong, by_text as text_wrong}
+use Rattle.vg_store.proofs.ImageLaws.{apart_within, frame_apart, frame_room, plate_area, plate_frame, plate_right, plate_same, plate_version, pointer_seen, slot_same, slot_written, sectors_hold, stands_from}
 
 pub too_small : (size : ℕ) (m : ℕ → List ℕ) → size < 2 → plate_of size m ≡ Err NotARepository
 unfolding plate_of
@@ -27,10 +28,10 @@ too_small size m h = rw (lt-ltb size 2 h) refl
 -- a label is never answered with a fault of the device
 no_device : (size : ℕ) (m : ℕ → List ℕ) → plate_of size m ≡ Err Device → ⊥
 unfolding plate_of
-no_device size m e = go (ltb size 2) (not (bytes_eq (take 8 (m label_place)) label_cookie)) (not (eqb (number_at 8 (m label_place)) 1)) (is_label_right size (m label_place)) e
+no_device size m e = go (ltb size 2) (not (bytes_eq (take 8 (m label_place)) label_cookie)) (not (is_version (version_of m))) (is_label_right size (m label_place)) e
   where
     go : (a b c d : Bool)
-        → cond a (Err NotARepository) (cond b (Err NotARepository) (cond c (Err (Unsupported (number_at 8 (m label_place)))) (cond d (Ok (plate_in (m label_place))) (Err (Damaged Label))))) ≡ Err Device → ⊥
+        → cond a (Err NotARepository) (cond b (Err NotARepository) (cond c (Err (Unsupported (version_of m))) (cond d (Ok (plate_in (m label_place))) (Err (Damaged Label))))) ≡ Err Device → ⊥
     go true b c d x = cc
     go false true c d x = cc
     go false false true d x = cc
@@ -61,18 +62,57 @@ header_answer T before now f s v (Damaged place) is calm h = (λ told. ap (point
 header_answer T before now f s v Device is calm h = absurd (no_header_device f s h)
 header_answer T before now f s v NoMemory is calm h = calm
 
-pub frame_old : (layout : ℕ) → old_frame ≡ frame_of current_version layout
-unfolding frame_of
-frame_old layout = refl
+-- ---- the label
 
--- the current version has one frame for each layout
-pub frame_any : (layout other : ℕ) → frame_of current_version layout ≡ frame_of current_version other
-unfolding frame_of
-frame_any layout other = refl
+-- a label that is right is one that an opening takes
+pub label_taken : (size version : ℕ) (s : List ℕ) (p : Plate) → version ≡ version_in s → plate_of size (λ q. s) ≡ Ok p → HasLabel size version p
+unfolding extents_on
+label_taken size version s p is label =
+    let right = plate_right size (λ q. s) p label in
+    let low = right.layout in
+    let most = right.most in
+    record {
+      known = record { some = omega (arith, is, low); most = at_most (plate_version size (λ q. s) p label); narrow = omega (arith, is, low) };
+      few = omega (arith, most);
+      area = plate_area size (λ q. s) p label;
+    }
+  where
+    at_most : (version_in s ≡ 1) ⊎ (version_in s ≡ 2) → version ≤ 2
+    at_most (inl one) = omega (arith, is, one)
+    at_most (inr two) = omega (arith, is, two)
 
--- the frame by which a group is read that an opening takes
-pub frame_found : (size : ℕ) (m : ℕ → List ℕ) (p : Plate) → plate_of size m ≡ Ok p → frame_in m ≡ frame_of current_version p.layout
-frame_found size m p e = plate_frame size m p e ∙ ap (λ (v : ℕ). frame_of v p.layout) (plate_version size m p e)
+pub label_shown : (size version : ℕ) (s : List ℕ) (m : ℕ → List ℕ) (p : Plate) → version ≡ version_in s → s ≡ m label_place → plate_of size (λ q. s) ≡ Ok p → ShowsLabel size m version p
+label_shown size version s m p is there label = record {
+  says = ap version_in (sym there) ∙ sym is;
+  labelled = plate_same size (λ q. s) m (sym there) ∙ label;
+}
+
+-- the frame by which an image is read that shows a label
+pub frame_shown : {size version : ℕ} {m : ℕ → List ℕ} {p : Plate} → ShowsLabel size m version p → frame_in m ≡ frame_of version p.layout
+frame_shown {size} {version} {m} {p} l = plate_frame size m p l.labelled ∙ ap (λ (v : ℕ). frame_of v p.layout) l.says
+
+-- no version has larger slots in a layout than the current one
+pub slot_within : (version layout : ℕ) → slot_bytes (frame_of version layout) ≤ slot_bytes (frame_of current_version layout)
+unfolding frame_of
+slot_within version layout = by (eqb version 1) (eqb layout 0)
+  where
+    by : (old narrow : Bool) → slot_bytes (cond old old_frame (cond narrow narrow_frame wide_frame)) ≤ slot_bytes (cond narrow narrow_frame wide_frame)
+    by true true = omega arith
+    by true false = omega arith
+    by false true = omega arith
+    by false false = omega arith
+
+-- the frame by which a group is read has its parts apart on the device, and its texts have room in a buffer of the layout
+pub apart_on : {size now version : ℕ} {p : Plate} (f : Frame) → f ≡ frame_of version p.layout → HasLabel size version p → now ≡ size → IsApart f now
+apart_on {size} {now} {version} {p} f is label same =
+    let fits = label.area in
+    apart_within (subst (λ (k : Frame). IsApart k (area_place p.layout)) (sym is) (frame_apart version p.layout)) (omega (arith, fits, same))
+
+pub slot_most : (version layout : ℕ) (f : Frame) → f ≡ frame_of version layout → slot_bytes f ≤ 8519680
+slot_most version layout f is = subst (λ (k : Frame). slot_bytes k ≤ 8519680) (sym is) (frame_room version layout)
+
+pub room_for : (version layout bytes : ℕ) (f : Frame) → f ≡ frame_of version layout → bytes ≡ slot_bytes (frame_of current_version layout) → slot_bytes f ≤ bytes
+room_for version layout bytes f is room = subst (λ (k : Frame). slot_bytes k ≤ bytes) (sym is) (omega (arith, room, slot_within version layout))
 
 -- ---- the text
 
@@ -119,30 +159,61 @@ answer_from P Q before mid now Device same wider is = omega (arith, same, is)
 answer_from P Q before mid now NoMemory same wider is = is ∙ same
 
 -- the device shows the pointer that was read behind the label
-pub pointer_there : (size : ℕ) (a b : Held) (p : Plate) (f : Frame) (r : Result Pointer OpenFault) → SameHeld a b → plate_of size (reads a) ≡ Ok p → f ≡ frame_of current_version p.layout
+pub pointer_there : {size version : ℕ} (a b : Held) (p : Plate) (f : Frame) (r : Result Pointer OpenFault) → SameHeld a b → ShowsLabel size (reads a) version p → f ≡ frame_of version p.layout
     → pointer_by f (reads b f.header) ≡ r → pointer_of (reads a) ≡ r
-pointer_there size a b p f r same label is header =
-    pointer_seen (reads a) f (frame_found size (reads a) p label ∙ sym is) ∙ ap (pointer_by f) (sym (reads-same same f.header)) ∙ header
+pointer_there a b p f r same label is header =
+    pointer_seen (reads a) f (frame_shown label ∙ sym is) ∙ ap (pointer_by f) (sym (reads-same same f.header)) ∙ header
 
 -- and the text that was read behind the header
-pub text_there : (size : ℕ) (a c : Held) (p : Plate) (f : Frame) (h : Pointer) → SameHeld a c → plate_of size (reads a) ≡ Ok p → f ≡ frame_of current_version p.layout
+text_there : {size version : ℕ} (a c : Held) (p : Plate) (f : Frame) (h : Pointer) → SameHeld a c → ShowsLabel size (reads a) version p → f ≡ frame_of version p.layout
     → text_in (reads a) h ≡ slot_text f (reads c) h.slot h.size
-text_there size a c p f h same label is =
-    ap (λ (k : Frame). slot_text k (reads a) h.slot h.size) (frame_found size (reads a) p label ∙ sym is) ∙ sym (slot_same f (reads a) (reads c) h.slot h.size (λ q from below. reads-same same q))
+text_there a c p f h same label is =
+    ap (λ (k : Frame). slot_text k (reads a) h.slot h.size) (frame_shown label ∙ sym is) ∙ sym (slot_same f (reads a) (reads c) h.slot h.size (λ q from below. reads-same same q))
 
-pub refused_header : (size : ℕ) (a b : Held) (p : Plate) (f : Frame) (e : OpenFault) → SameHeld a b → plate_of size (reads a) ≡ Ok p → f ≡ frame_of current_version p.layout
+pub refused_header : {size version : ℕ} (a b : Held) (p : Plate) (f : Frame) (e : OpenFault) → SameHeld a b → ShowsLabel size (reads a) version p → f ≡ frame_of version p.layout
     → pointer_by f (reads b f.header) ≡ Err e → IsRefused size (reads a) e
-refused_header size a b p f e same label is header = by_header p e label (pointer_there size a b p f (Err e) same label is header)
+refused_header a b p f e same label is header = by_header p e label.labelled (pointer_there a b p f (Err e) same label is header)
 
 text_refused : (size : ℕ) (m : ℕ → List ℕ) (p : Plate) (h : Pointer) (e : OpenFault) → plate_of size m ≡ Ok p → pointer_of m ≡ Ok h
     → IsTextRefused (grammar_of (version_of m)) p.count h.total (text_in m h) e → IsRefused size m e
 text_refused size m p h _ label header (sum_wrong other) = by_sum p h label header other
 text_refused size m p h _ label header (text_wrong place right damaged) = by_text p h place label header right damaged
 
-pub refused_text : (size : ℕ) (a b c : Held) (p : Plate) (f : Frame) (h : Pointer) (e : OpenFault) → SameHeld a b → SameHeld b c → plate_of size (reads a) ≡ Ok p → f ≡ frame_of current_version p.layout
-    → pointer_by f (reads b f.header) ≡ Ok h → IsTextRefused Listed p.count h.total (slot_text f (reads c) h.slot h.size) e → IsRefused size (reads a) e
-refused_text size a b c p f h e same again label is header wrong =
-    let texts = text_there size a c p f h (SameHeld-then same again) label is in
-    text_refused size (reads a) p h e label (pointer_there size a b p f (Ok h) same label is header)
-    (subst (λ (g : Grammar). IsTextRefused g p.count h.total (text_in (reads a) h) e) (sym (grammar_listed size (reads a) p label))
-    (subst (λ (b : List ℕ). IsTextRefused Listed p.count h.total b e) (sym texts) wrong))
+pub refused_text : {size version : ℕ} (a b c : Held) (p : Plate) (f : Frame) (g : Grammar) (h : Pointer) (e : OpenFault) → SameHeld a b → SameHeld b c → ShowsLabel size (reads a) version p
+    → f ≡ frame_of version p.layout → g ≡ grammar_of version → pointer_by f (reads b f.header) ≡ Ok h → IsTextAnswer g f p.count h c e → IsRefused size (reads a) e
+refused_text {size} {version} a b c p f g h e same again label is spelling header wrong =
+    let texts = text_there a c p f h (SameHeld-then same again) label is in
+    let grammar : grammar_of (version_of (reads a)) ≡ g = ap grammar_of label.says ∙ sym spelling in
+    text_refused size (reads a) p h e label.labelled (pointer_there a b p f (Ok h) same label is header)
+    (subst (λ (k : Grammar). IsTextRefused k p.count h.total (text_in (reads a) h) e) (sym grammar)
+    (subst (λ (b : List ℕ). IsTextRefused g p.count h.total b e) (sym texts) wrong))
+
+-- ---- what was found
+
+-- a text that spells a table is the one that a pointer names
+pub text_named : (g : Grammar) (count : ℕ) (at : Pointer) (t : VolumeTable) (bytes : List ℕ) → SpellsBy g count bytes t → length bytes ≡ at.size → sum bytes ≡ at.total → HasTextOf g count at t
+text_named g count at t bytes s long total = record {
+  spelled = record { spelled = refl; table = s.table; fits = s.fits };
+  size = ap length (sym s.spelled) ∙ long;
+  total = ap sum (sym s.spelled) ∙ total;
+}
+
+pub known_from : {size version : ℕ} (p : Plate) (f : Frame) (g : Grammar) (at : Pointer) (t : VolumeTable) → HasLabel size version p → f ≡ frame_of version p.layout → g ≡ grammar_of version
+    → at.size ≤ slot_bytes f → HasTextOf g p.count at t → IsKnown size version p at t
+known_from p f g at t label is spelling short table = record {
+  label = label;
+  table = subst (λ (k : Grammar). HasTextOf k p.count at t) spelling table;
+  short = subst (λ (k : Frame). at.size ≤ slot_bytes k) is short;
+}
+
+pub found_from : {size version : ℕ} (a b c : Held) (p : Plate) (f : Frame) (g : Grammar) (h : Pointer) (t : VolumeTable) → SameHeld a b → SameHeld b c → ShowsLabel size (reads a) version p
+    → f ≡ frame_of version p.layout → g ≡ grammar_of version → pointer_by f (reads b f.header) ≡ Ok h → slot_text f (reads c) h.slot h.size ≡ text_by g t → HasTextOf g p.count h t
+    → IsFoundOn size (reads a) version p h t
+found_from {size} {version} a b c p f g h t same again label is spelling header text table = record {
+  says = label.says;
+  stands = stands_from size (reads a) p h t (text_by g t) label.labelled (pointer_there a b p f (Ok h) same label is header) (text_there a c p f h (SameHeld-then same again) label is ∙ text) table.total
+      (subst (λ (k : Grammar). SpellsBy k p.count (text_by g t) t) (sym grammar) table.spelled);
+}
+  where
+    grammar : grammar_of (version_of (reads a)) ≡ g
+    grammar = ap grammar_of label.says ∙ sym spelling

@@ -1,5 +1,5 @@
--- What formatting a device leaves (this project's format): a group of one volume, that of the records, whose
--- records are all free.
+-- What formatting a device leaves (this project's format): a group of version 2, in the layout that gives the device more
+-- extents, with one volume, that of the records, whose records are all free.
 use Rattle.std.specs.Prelude.{◌≡◌, ℕ, ◌+◌, ◌*◌, ◌<◌, ◌≤◌, ◌⊎◌, List, length, sum, Err}
 use Rattle.sm_base.specs.declared.faults.OpenFault.TheVariants.{NotARepository}
 use Rattle.sm_base.specs.declared.sizes.Geometry.{Geometry}
@@ -7,17 +7,17 @@ use Rattle.sm_disk.specs.Held.{Held, Allows, Rose}
 use Rattle.sm_disk.specs.Sectors.{sector, zeros}
 use Rattle.vg_meta.specs.Tables.{new_table}
 use Rattle.vg_meta.specs.Text.{text}
-use Rattle.vg_layout.specs.Places.{Frame, area_place, extents_on, frame_of, label_place, new_layout, record_extents, slot_place}
+use Rattle.vg_layout.specs.Places.{Frame, area_place, best_layout, frame_of, label_place, new_extents, record_extents, slot_place}
 use Rattle.vg_layout.specs.Sectors.{Plate, Pointer, header_sector, label_sector}
 use Rattle.vg_layout.specs.Opening.{GroupFound, StandsOn, plate_of}
 use Rattle.vg_volumes.specs.Commits.{current_version}
-use Rattle.vg_store.specs.Groups.{slots_end}
+use Rattle.vg_store.specs.Groups.{beside_of}
 use Rattle.vg_store.specs.declared.formats.FormatFault.{FormatFault}
 use Rattle.vg_store.specs.declared.formats.FormatFault.TheVariants.{TooSmall, Device, NoMemory}
 
--- the fewest sectors of a device that can be formatted: the extents of the records fit
+-- the fewest sectors of a device that can be formatted: in the narrow layout the extents of the records fit
 abbrev pub least_size : ℕ → ℕ
-least_size extent = area_place new_layout + record_extents extent * extent
+least_size extent = area_place 0 + record_extents extent * extent
 
 -- the group of a device of so many sectors that was formatted: its label says these sizes and this repository, and
 -- its table, that of a new group, stands in slot 0
@@ -25,7 +25,7 @@ abbrev pub new_group : ℕ → Geometry → List ℕ → GroupFound
 new_group size g repository =
     let t = new_table (record_extents g.extent) in
     record {
-      plate = record { extent = g.extent; block = g.block; entries = g.entries; count = extents_on new_layout size g.extent; layout = new_layout; identity = repository };
+      plate = record { extent = g.extent; block = g.block; entries = g.entries; count = new_extents size g.extent; layout = best_layout size g.extent; identity = repository };
       pointer = record { slot = 0; size = length (text t); total = sum (text t) };
       table = t;
     }
@@ -33,7 +33,7 @@ new_group size g repository =
 -- a format was finished: the new group stands, and each of the 512 records is free
 pub record IsFormatted (size : ℕ) (image : ℕ → List ℕ) (g : Geometry) (repository : List ℕ) : Type 0 where
   pub stands : StandsOn size image (new_group size g repository)
-  pub records : (q : ℕ) → q < 512 → image (area_place new_layout + q) ≡ zeros
+  pub records : (q : ℕ) → q < 512 → image (area_place (best_layout size g.extent) + q) ≡ zeros
 
 -- a stop leaves what it might have left before the format, or no repository, or what a finished format leaves
 abbrev pub IsLeftByFormat : ℕ → Held → Geometry → List ℕ → (ℕ → List ℕ) → Type 0
@@ -51,32 +51,37 @@ IsFormatFault size least Unchanged before now NoMemory = Unchanged
 abbrev pub IsBlank : List ℕ → Type 0
 IsBlank bytes = (i : ℕ) → 512 * i + 512 ≤ length bytes → sector bytes i ≡ zeros
 
--- a place that a format writes: in front of the slots' end, or that of a record
-abbrev pub IsFormatPlace : ℕ → Type 0
-IsFormatPlace q = (q < slots_end) ⊎ ((area_place new_layout ≤ q) × (q < area_place new_layout + 512))
+-- what is held of the places that are no part of the group that a format makes on a device of so many sectors
+abbrev pub beside_new : ℕ → ℕ → Held → Held
+beside_new size extent h = beside_of (best_layout size extent) (new_extents size extent * extent) h
+
+-- the frame of a new group in a layout
+abbrev pub new_frame : ℕ → Frame
+new_frame layout = frame_of current_version layout
+
+-- a place that a format in this layout writes: the label's, the header's, the first of slot 0, or that of a record
+abbrev pub IsFormatPlace : ℕ → ℕ → Type 0
+IsFormatPlace layout q =
+    (q ≡ label_place) ⊎ ((q ≡ (new_frame layout).header) ⊎ ((q ≡ slot_place (new_frame layout) 0) ⊎ ((area_place layout ≤ q) × (q < area_place layout + 512))))
 
 -- a write at such a place
-abbrev pub IsFormatWrite : ℕ → List ℕ → Type 0
-IsFormatWrite q v = IsFormatPlace q
+abbrev pub IsFormatWrite : ℕ → ℕ → List ℕ → Type 0
+IsFormatWrite layout q v = IsFormatPlace layout q
 
 -- one of anything but the label
-abbrev pub IsBehindLabel : ℕ → List ℕ → Type 0
-IsBehindLabel q v = (label_place < q) × IsFormatPlace q
+abbrev pub IsBehindLabel : ℕ → ℕ → List ℕ → Type 0
+IsBehindLabel layout q v = (label_place < q) × IsFormatPlace layout q
 
--- the frame of the group that a format makes
-abbrev pub new_frame : Frame
-new_frame = frame_of current_version new_layout
-
--- behind the label stand this header, this text and free records
-pub record StandsBehindLabel (h : Pointer) (written : List ℕ) (image : ℕ → List ℕ) : Type 0 where
-  pub header : image new_frame.header ≡ header_sector h
-  pub text : image (slot_place new_frame h.slot) ≡ written
-  pub records : (q : ℕ) → q < 512 → image (area_place new_layout + q) ≡ zeros
+-- behind the label stand, in this layout, this header, this text and free records
+pub record StandsBehindLabel (layout : ℕ) (h : Pointer) (written : List ℕ) (image : ℕ → List ℕ) : Type 0 where
+  pub header : image (new_frame layout).header ≡ header_sector h
+  pub text : image (slot_place (new_frame layout) h.slot) ≡ written
+  pub records : (q : ℕ) → q < 512 → image (area_place layout + q) ≡ zeros
 
 -- and this label in front of them
 pub record IsLaidOut (p : Plate) (h : Pointer) (written : List ℕ) (image : ℕ → List ℕ) : Type 0 where
   pub label : image label_place ≡ label_sector current_version p
-  pub filled : StandsBehindLabel h written image
+  pub filled : StandsBehindLabel p.layout h written image
 
 -- a stop leaves what it might have left before, or no repository, or all of that
 abbrev pub IsLeftOf : ℕ → Held → Plate → Pointer → List ℕ → (ℕ → List ℕ) → Type 0

@@ -1,28 +1,31 @@
 -- What stands on the device of an open volume group, and what a stop may leave of it (this project's format).
-use Rattle.std.specs.Prelude.{◌≡◌, ◌≢◌, ℕ, ◌+◌, ◌-◌, ◌*◌, ◌^◌, ◌<◌, ◌≤◌, ◌⊎◌, Bool, ◌&&◌, ◌||◌, nat_lt, nat_le, if◌then◌else◌, List, [], length, take, sum, Ok}
+use Rattle.std.specs.Prelude.{◌≡◌, ℕ, ◌+◌, ◌-◌, ◌*◌, ◌^◌, ◌<◌, ◌≤◌, ◌⊎◌, Bool, ◌&&◌, ◌||◌, not, ◌==◌, nat_lt, nat_le, if◌then◌else◌, List, [], length, take, sum, Ok}
 use Rattle.sm_base.specs.Limits.{extent_limit}
 use Rattle.sm_base.specs.Numbers.{div_up}
 use Rattle.sm_disk.specs.Held.{Held, May, Allows, moved}
 use Rattle.vg_meta.specs.Tables.{VolumeTable}
-use Rattle.vg_meta.specs.Reading.{SpellsBy}
-use Rattle.vg_meta.specs.declared.grammars.Grammar.{Grammar}
-use Rattle.vg_layout.specs.Places.{Frame, IsApart, area_place, old_frame, slot_bytes, slot_place}
+use Rattle.vg_meta.specs.Reading.{Spells}
+use Rattle.vg_layout.specs.Places.{Frame, area_place, frame_of, label_place, slot_bytes, slot_place}
 use Rattle.vg_layout.specs.Sectors.{Plate, Pointer}
-use Rattle.vg_layout.specs.Opening.{StandsOn, frame_in, grammar_of, plate_of, pointer_of, text_in, version_of}
-use Rattle.vg_volumes.specs.Commits.{IsEither}
+use Rattle.vg_layout.specs.Opening.{StandsOn, frame_in, plate_of, pointer_of, text_in, version_of}
+use Rattle.vg_volumes.specs.Commits.{IsEither, current_version}
 
 -- the sectors of all extents of a layout: those of the device from the first extent on
 abbrev pub area_of : ℕ → Held → Held
 area_of layout h = moved (λ q. area_place layout + q) h
 
--- where the second slot of the table ends, in the frame of version 1
-abbrev pub slots_end : ℕ
-slots_end = slot_place old_frame 1 + old_frame.room
+-- a place of a frame's slot
+abbrev pub is_in_slot : Frame → ℕ → ℕ → Bool
+is_in_slot f slot p = nat_le (slot_place f slot) p && nat_lt p (slot_place f slot + f.room)
 
--- a place of the device that is no part of a group in this layout with so many sectors in its extents: behind the slots and in
--- front of the extents, or behind the last extent
+-- a place of a frame: the label's, the header's, or one of a slot
+abbrev pub is_of_frame : Frame → ℕ → Bool
+is_of_frame f p = p == label_place || (p == f.header || (is_in_slot f 0 p || is_in_slot f 1 p))
+
+-- a place of the device that is no part of a group in this layout with so many sectors in its extents: in front of the extents where
+-- the layout's frame has nothing, or behind the last extent
 abbrev pub is_beside : ℕ → ℕ → ℕ → Bool
-is_beside layout area p = (nat_le slots_end p && nat_lt p (area_place layout)) || nat_le (area_place layout + area) p
+is_beside layout area p = (nat_lt p (area_place layout) && not (is_of_frame (frame_of current_version layout) p)) || nat_le (area_place layout + area) p
 
 -- what is held of those places
 unfoldable pub beside_of : ℕ → ℕ → Held → Held
@@ -31,15 +34,20 @@ beside_of layout area h = record {
   pending = λ p. if is_beside layout area p then h.pending p else [];
 }
 
--- the parts of a frame stand apart in front of the extents of a layout, and none of them stands beside the group
-pub record IsFrameOf (f : Frame) (layout : ℕ) : Type 0 where
-  pub apart : IsApart f (area_place layout)
-  pub header : (q : ℕ) → slots_end ≤ q → q < area_place layout → q ≢ f.header
-  pub slots : (s q : ℕ) → s ≤ 1 → slots_end ≤ q → q < area_place layout → (q < slot_place f s) ⊎ (slot_place f s + f.room ≤ q)
+-- the frame by which a layout's commits are made
+abbrev pub IsFrameOf : Frame → ℕ → Type 0
+IsFrameOf f layout = f ≡ frame_of current_version layout
 
--- in front of the extents a stop leaves what stands there: this label, this header and this text
+-- a version that a group may have in a layout: the first has the narrow one alone
+pub record IsVersionOf (version layout : ℕ) : Type 0 where
+  pub some : 1 ≤ version
+  pub most : version ≤ current_version
+  pub narrow : layout < version
+
+-- in front of the extents a stop leaves what stands there: this label, of the current version, this header and this text
 pub record Rests (size : ℕ) (h : Held) (p : Plate) (at : Pointer) (bytes : List ℕ) : Type 0 where
   pub still : (q : ℕ) (v : List ℕ) → q < area_place p.layout → May h q v → v ≡ h.floor q
+  pub current : version_of h.floor ≡ current_version
   pub labelled : plate_of size h.floor ≡ Ok p
   pub headed : pointer_of h.floor ≡ Ok at
   pub text : text_in h.floor at ≡ bytes
@@ -63,23 +71,23 @@ pub record LeavesGroup (size : ℕ) (h : Held) (p : Plate) (t : VolumeTable) (im
 pub record IsGroup (size : ℕ) (h : Held) (p : Plate) (at : Pointer) (t : VolumeTable) (bytes : List ℕ) : Type 0 where
   pub rests : Rests size h p at bytes
   pub summed : sum bytes ≡ at.total
-  pub spelled : SpellsBy (grammar_of (version_of h.floor)) p.count bytes t
+  pub spelled : Spells p.count bytes t
   pub few : p.count ≤ extent_limit
 
--- a header of the other slot of a frame, and sectors that begin with its text, which spells the next table by a grammar
-pub record IsNext (f : Frame) (g : Grammar) (p : Plate) (at next : Pointer) (u : VolumeTable) (written : List ℕ) : Type 0 where
+-- a header of the other slot of a frame, and sectors that begin with its text, which spells the next table
+pub record IsNext (f : Frame) (p : Plate) (at next : Pointer) (u : VolumeTable) (written : List ℕ) : Type 0 where
   pub slot : next.slot ≡ 1 - at.slot
   pub size : next.size ≤ slot_bytes f
   pub total_fits : next.total < 2 ^ 32
   pub long : length written ≡ 512 * div_up next.size 512
   pub total : sum (take next.size written) ≡ next.total
-  pub spelled : SpellsBy g p.count (take next.size written) u
+  pub spelled : Spells p.count (take next.size written) u
 
 -- a group stands, by this frame, and a header and sectors are those of a next table of it
 pub record IsNextOf (size : ℕ) (h : Held) (f : Frame) (p : Plate) (at : Pointer) (t : VolumeTable) (bytes : List ℕ) (next : Pointer) (u : VolumeTable) (written : List ℕ) : Type 0 where
   pub group : IsGroup size h p at t bytes
   pub frame : f ≡ frame_in h.floor
-  pub is_next : IsNext (frame_in h.floor) (grammar_of (version_of h.floor)) p at next u written
+  pub is_next : IsNext (frame_in h.floor) p at next u written
 
 -- after a flip of a group to its next table, which may have failed, a stop leaves one of the two
 abbrev pub LeavesEither : ℕ → Held → Held → Frame → Pointer → List ℕ → Type 0

@@ -1,11 +1,11 @@
 //! The commit: a change of the table, and the flip to the table that it leaves.
 
-ghost use Rattle.std.specs.Prelude.{◌≡◌, ◌≤◌, ◌<◌, ◌+◌, ◌*◌, ◌^◌, ℕ, List, true, false, OnOk, OnErr, length};
+ghost use Rattle.std.specs.Prelude.{◌≡◌, ◌≤◌, ◌<◌, ◌*◌, ◌^◌, ℕ, List, true, false, OnOk, OnErr, length};
 ghost use Rattle.sm_disk.specs.Held.{IsCounted, IsSettled, Keeps};
 ghost use Rattle.vg_meta.specs.Tables.{VolumeTable};
 ghost use Rattle.vg_meta.specs.Roomy.{table_alone};
 ghost use Rattle.vg_meta.specs.Changes.{Permits, HasRoom, applied};
-ghost use Rattle.vg_meta.specs.Text.{text};
+ghost use Rattle.vg_meta.specs.Text.{HasText, text};
 ghost use Rattle.vg_layout.specs.Fields.{layout_number, plate, pointer};
 ghost use Rattle.vg_volumes.specs.Commits.{IsEither};
 ghost use Rattle.vg_volumes.specs.Sites.{Fits, RoomAfter};
@@ -25,6 +25,7 @@ fn next_header(table: &Table, change: &Change, slot: Slot, buffer: &mut [u8]) ->
     requires allowed { Permits (2 ^ 32) (table_alone table.now) change.now }
     requires fits { length (text (applied (table_alone table.now) change.now)) ≤ length buffer.old }
     requires few { length buffer.old ≤ 8519680 }
+    requires numbers { HasText (applied (table_alone table.now) change.now) }
     ensures slot { result.slot ≡ slot }
     ensures head { IsPointerOf (applied (table_alone table.now) change.now) (pointer result) buffer.new }
     ensures long { length buffer.new ≡ length buffer.old }

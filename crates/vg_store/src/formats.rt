@@ -1,17 +1,17 @@
-//! A device is formatted: a new group stands on it, and all that stood there is gone.
+//! A device is formatted: a new group of version 2 stands on it, and all that stood there is gone. It is in the layout that
+//! gives the device more extents, the narrow one where both give as many.
 //!
 //! The label is taken away first, and written last, each with a sync. So a device on which this stopped holds what it
 //! held, no repository, or the new group, whole. What is no part of the new group is left as it is.
 
-ghost use Rattle.std.specs.Prelude.{◌≡◌, ◌≤◌, ◌<◌, ◌+◌, ◌*◌, ℕ, Err, IfOk, IfErr, OnOk, List, take, vec_len};
+ghost use Rattle.std.specs.Prelude.{◌≡◌, ◌≤◌, ◌<◌, ◌+◌, ℕ, Err, IfOk, IfErr, OnOk, List, take, vec_len};
 ghost use Rattle.sm_disk.specs.Held.{Allows, IsCounted, IsSettled, Keeps, Reaches, reads};
 ghost use Rattle.std.proofs.Props.{props};
 ghost use Rattle.vg_meta.specs.Text.{text};
-ghost use Rattle.vg_layout.specs.Places.{area_place, extents_on, new_layout, record_extents};
-ghost use Rattle.vg_layout.specs.Fields.{places_in, plate, pointer};
-ghost use Rattle.vg_store.specs.Groups.{beside_of};
+ghost use Rattle.vg_layout.specs.Places.{area_place, new_extents, record_extents};
+ghost use Rattle.vg_layout.specs.Fields.{layout_number, plate, pointer, slot_number};
 ghost use Rattle.vg_store.specs.declared.formats.FormatFault.TheVariants.{TooSmall};
-ghost use Rattle.vg_store.specs.Formats.{IsBehindLabel, IsBlank, StandsBehindLabel, IsFormatFault, IsFormatWrite, IsFormatted, IsLaidOut, IsLeftByFormat, IsLeftOf, least_size, new_frame, new_group};
+ghost use Rattle.vg_store.specs.Formats.{IsBehindLabel, IsBlank, StandsBehindLabel, IsFormatFault, IsFormatWrite, IsFormatted, IsLaidOut, IsLeftByFormat, IsLeftOf, beside_new, least_size, new_group};
 
 use sm_base::{Failed, Geometry, NoMemory};
 use sm_disk::{Disk, put, write_sector};
@@ -23,9 +23,6 @@ use vg_layout::{
 };
 use vg_meta::Table;
 use vg_volumes::CURRENT_VERSION;
-
-/// The layout of a new group.
-const LAYOUT: Layout = Layout::Narrow;
 
 /// The bytes of all records.
 const RECORDS: usize = 512 * 512;
@@ -53,8 +50,9 @@ pub enum FormatFault {
     NoMemory,
 }
 
-/// Makes a new group of the device: its table has the sequence number 1 and one volume, that of the records, which
-/// has the first extents, and each record is free. All memory is taken before the first write.
+/// Makes a new group of the device, in the layout that gives it more extents: its table has the sequence number 1 and one
+/// volume, that of the records, which has the first extents, and each record is free. All memory is taken before the
+/// first write.
 ///
 /// # Errors
 ///
@@ -71,17 +69,16 @@ pub fn format<D: Disk>(
     ensures calm { OnOk result (D.faults disk.new ≡ D.faults disk.old) }
     ensures small { D.size disk.old < least_size geometry.extent → result ≡ Err (TooSmall (least_size geometry.extent)) }
     ensures fault { IfErr result (IsFormatFault (D.size disk.old) (least_size geometry.extent) (disk.new ≡ disk.old) (D.faults disk.old) (D.faults disk.new)) }
-    ensures extents { IfOk result (λ f. f.extents ≡ extents_on new_layout (D.size disk.old) geometry.extent) }
+    ensures extents { IfOk result (λ f. f.extents ≡ new_extents (D.size disk.old) geometry.extent) }
     ensures free { IfOk result (λ f. f.free + record_extents geometry.extent ≡ f.extents) }
-    ensures beside { D.told → Keeps (beside_of new_layout (extents_on new_layout (D.size disk.old) geometry.extent * geometry.extent) (D.held disk.old))
-        (beside_of new_layout (extents_on new_layout (D.size disk.old) geometry.extent * geometry.extent) (D.held disk.new)) }
+    ensures beside { D.told → Keeps (beside_new (D.size disk.old) geometry.extent (D.held disk.old)) (beside_new (D.size disk.old) geometry.extent (D.held disk.new)) }
     ensures settled { OnOk result (D.told → IsSettled (D.held disk.new)) }
     ensures formatted { OnOk result (D.told → IsFormatted (D.size disk.old) (D.held disk.new).floor geometry repository) }
     ensures crash { D.told → (image : ℕ → List ℕ) → Allows (D.size disk.old) (D.held disk.new) image → IsLeftByFormat (D.size disk.old) (D.held disk.old) geometry repository image }
 {
     let sectors = disk.sectors();
     let records = record_extents(&geometry);
-    let least = LAYOUT.area() + u64::from(records) * u64::from(geometry.extent);
+    let least = Layout::Narrow.area() + u64::from(records) * u64::from(geometry.extent);
     if sectors < least {
         return Err(FormatFault::TooSmall { sectors: least });
     }
@@ -102,11 +99,13 @@ pub fn format<D: Disk>(
 #[derive(Drop)]
 struct Draft {
     label: GroupLabel,
+    // It names slot 0.
     header: TableHeader,
     // The sector of the table's text, which is filled up with zeros.
     text: [u8; 512],
     // The sectors of the records.
     records: Vec<u8>,
+    ghost first: { slot_number header.slot ≡ 0 },
     ghost long: { vec_len records ≡ 262144 },
     ghost blank: { IsBlank records.items } by { Prim.hlevel props },
 }
@@ -132,10 +131,11 @@ impl Draft {
             length: length as u32,
             sum: sum_of(&text[..length]),
         };
+        let layout = Layout::best(sectors, &geometry);
         let label = GroupLabel {
             geometry,
-            extents: extents_on(sectors, LAYOUT, &geometry),
-            layout: LAYOUT,
+            extents: extents_on(sectors, layout, &geometry),
+            layout,
             repository,
         };
         Ok(Draft {
@@ -160,11 +160,11 @@ fn blank_bytes(alloc: Global, bytes: usize) -> Result<Vec<u8>, NoMemory>
 
 // Takes the label away, fills the sectors behind it, and writes the new label, each with a sync.
 fn lay_out<D: Disk>(disk: &mut D, draft: &Draft) -> Result<(), Failed>
-    requires room { area_place new_layout + 512 ≤ D.size disk.old }
+    requires room { area_place (layout_number draft.now.label.layout) + 512 ≤ D.size disk.old }
     ensures size { D.size disk.new ≡ D.size disk.old }
     ensures counts { D.faults disk.old ≤ D.faults disk.new }
     ensures cause { IsCounted result (D.faults disk.old) (D.faults disk.new) }
-    ensures reaches { D.told → Reaches IsFormatWrite (D.held disk.old) (D.held disk.new) }
+    ensures reaches { D.told → Reaches (IsFormatWrite (layout_number draft.now.label.layout)) (D.held disk.old) (D.held disk.new) }
     ensures settled { OnOk result (D.told → IsSettled (D.held disk.new)) }
     ensures laid { OnOk result (D.told → IsLaidOut (plate draft.now.label) (pointer draft.now.header) draft.now.text (D.held disk.new).floor) }
     ensures crash { D.told → (image : ℕ → List ℕ) → Allows (D.size disk.old) (D.held disk.new) image → IsLeftOf (D.size disk.old) (D.held disk.old) (plate draft.now.label) (pointer draft.now.header) draft.now.text image }
@@ -179,16 +179,17 @@ fn lay_out<D: Disk>(disk: &mut D, draft: &Draft) -> Result<(), Failed>
 
 // Writes the records, the text into the slot of its header and the header, and syncs.
 fn fill<D: Disk>(disk: &mut D, draft: &Draft) -> Result<(), Failed>
-    requires room { area_place new_layout + 512 ≤ D.size disk.old }
+    requires room { area_place (layout_number draft.now.label.layout) + 512 ≤ D.size disk.old }
     ensures size { D.size disk.new ≡ D.size disk.old }
     ensures counts { D.faults disk.old ≤ D.faults disk.new }
     ensures cause { IsCounted result (D.faults disk.old) (D.faults disk.new) }
-    ensures reaches { D.told → Reaches IsBehindLabel (D.held disk.old) (D.held disk.new) }
+    ensures reaches { D.told → Reaches (IsBehindLabel (layout_number draft.now.label.layout)) (D.held disk.old) (D.held disk.new) }
     ensures settled { OnOk result (D.told → IsSettled (D.held disk.new)) }
-    ensures filled { OnOk result (D.told → StandsBehindLabel (pointer draft.now.header) draft.now.text (reads (D.held disk.new))) }
+    ensures filled { OnOk result (D.told → StandsBehindLabel (layout_number draft.now.label.layout) (pointer draft.now.header) draft.now.text (reads (D.held disk.new))) }
 {
-    let frame = Frame::of(CURRENT_VERSION, LAYOUT);
-    disk.write(LAYOUT.area(), &draft.records)?;
+    let layout = draft.label.layout;
+    let frame = Frame::of(CURRENT_VERSION, layout);
+    disk.write(layout.area(), &draft.records)?;
     write_sector(disk, draft.header.slot.place(&frame), &draft.text)?;
     let mut sector = [0; 512];
     draft.header.write(&mut sector);

@@ -1,33 +1,30 @@
 //! The first five checks of an opening: the first that fails gives the answer.
 
-ghost use Rattle.std.specs.Prelude.{◌≡◌, ◌≤◌, ◌+◌, ◌*◌, Ok, Err, IfOk, IfErr, OnOk, length, take, sum};
-ghost use Rattle.sm_base.specs.Limits.{extent_limit};
+ghost use Rattle.std.specs.Prelude.{◌≡◌, ◌≤◌, ◌*◌, Ok, Err, IfOk, IfErr, OnOk, length, take, vec_len};
 ghost use Rattle.sm_disk.specs.Held.{IsCounted, SameHeld, reads};
 ghost use Rattle.vg_meta.specs.Roomy.{table_alone};
-ghost use Rattle.vg_meta.specs.Reading.{Spells};
-ghost use Rattle.vg_meta.specs.declared.grammars.Grammar.TheVariants.{Listed};
-ghost use Rattle.vg_meta.specs.Text.{text};
+ghost use Rattle.vg_meta.specs.Text.{text_by};
 ghost use Rattle.vg_layout.specs.Fields.{layout_number, places_in, plate, pointer, slot_number};
-ghost use Rattle.vg_layout.specs.Opening.{IsRefused, plate_of, pointer_by, pointer_of, text_in};
-ghost use Rattle.vg_layout.specs.Places.{IsApart, area_place, old_frame, slot_bytes, slot_text};
-ghost use Rattle.vg_store.specs.Openings.{IsAnswer, IsTextRefused};
+ghost use Rattle.vg_layout.specs.Opening.{IsRefused, grammar_of, plate_of, pointer_by};
+ghost use Rattle.vg_layout.specs.Places.{IsApart, frame_of, slot_bytes, slot_text};
+ghost use Rattle.vg_volumes.specs.Commits.{current_version};
+ghost use Rattle.vg_store.specs.Openings.{HasLabel, HasTextOf, IsAnswer, IsFoundOn, IsKnown, IsTextAnswer, ShowsLabel};
 
-use sm_base::{Failed, OpenFault, Place};
+use sm_base::{Failed, NoMemory, OpenFault, Place};
 use sm_disk::{Disk, read_sector};
 use std::alloc::Global;
-use vg_layout::{Frame, GroupLabel, LABEL, TableHeader, sum_of};
-use vg_meta::{DecodeFault, Table};
+use vg_layout::{Frame, GroupLabel, LABEL, Layout, TableHeader, sum_of};
+use vg_meta::{DecodeFault, Grammar, Table};
 use vg_volumes::CURRENT_VERSION;
 
-/// The label, by the first three checks.
-pub(crate) fn label_on<D: Disk>(disk: &mut D) -> Result<GroupLabel, OpenFault>
+/// The label and its version, by the first three checks.
+pub(crate) fn label_on<D: Disk>(disk: &mut D) -> Result<(GroupLabel, u32), OpenFault>
     ensures size { D.size disk.new ≡ D.size disk.old }
     ensures counts { D.faults disk.old ≤ D.faults disk.new }
     ensures calm { OnOk result (D.faults disk.new ≡ D.faults disk.old) }
     ensures same { D.told → SameHeld (D.held disk.old) (D.held disk.new) }
-    ensures area { IfOk result (λ l. area_place (layout_number l.layout) + l.extents * l.geometry.extent ≤ D.size disk.old) }
-    ensures few { IfOk result (λ l. l.extents ≤ extent_limit) }
-    ensures ok { IfOk result (λ l. D.told → plate_of (D.size disk.old) (reads (D.held disk.old)) ≡ Ok (plate l)) }
+    ensures sizes { IfOk result (λ l. HasLabel (D.size disk.old) l.1 (plate l.0)) }
+    ensures ok { IfOk result (λ l. D.told → ShowsLabel (D.size disk.old) (reads (D.held disk.old)) l.1 (plate l.0)) }
     ensures err { IfErr result (IsAnswer (λ e. D.told → plate_of (D.size disk.old) (reads (D.held disk.old)) ≡ Err e) (D.faults disk.old) (D.faults disk.new)) }
 {
     let sectors = disk.sectors();
@@ -38,7 +35,7 @@ pub(crate) fn label_on<D: Disk>(disk: &mut D) -> Result<GroupLabel, OpenFault>
         return Err(OpenFault::Device);
     };
     match GroupLabel::read(sectors, &sector) {
-        Ok(label) => Ok(label),
+        Ok(label) => Ok((label, GroupLabel::version(&sector))),
         Err(fault) => Err(fault),
     }
 }
@@ -71,12 +68,13 @@ fn read_text<D: Disk>(
     buffer: &mut [u8],
 ) -> Result<(), Failed>
     requires apart { IsApart (places_in frame.now) (D.size disk.old) }
-    requires buffer { length buffer.old ≡ slot_bytes (places_in frame.now) }
+    requires buffer { slot_bytes (places_in frame.now) ≤ length buffer.old }
     requires fits { header.now.length ≤ slot_bytes (places_in frame.now) }
     ensures size { D.size disk.new ≡ D.size disk.old }
     ensures counts { D.faults disk.old ≤ D.faults disk.new }
     ensures cause { IsCounted result (D.faults disk.old) (D.faults disk.new) }
     ensures same { D.told → SameHeld (D.held disk.old) (D.held disk.new) }
+    ensures long { length buffer.new ≡ length buffer.old }
     ensures text { OnOk result (D.told → take header.now.length buffer.new ≡ slot_text (places_in frame.now) (reads (D.held disk.old)) (slot_number header.now.slot) header.now.length) }
 {
     if header.length == 0 {
@@ -88,27 +86,28 @@ fn read_text<D: Disk>(
     Ok(())
 }
 
-/// The table whose text a header names in a frame, by the fifth check.
+/// The table whose text by a grammar a header names in a frame, by the fifth check.
 pub(crate) fn table_on<D: Disk>(
     alloc: Global,
     disk: &mut D,
     frame: &Frame,
+    grammar: Grammar,
     extents: u32,
     header: &TableHeader,
     buffer: &mut [u8],
 ) -> Result<Table, OpenFault>
     requires apart { IsApart (places_in frame.now) (D.size disk.old) }
-    requires buffer { length buffer.old ≡ slot_bytes (places_in frame.now) }
+    requires buffer { slot_bytes (places_in frame.now) ≤ length buffer.old }
     requires few { slot_bytes (places_in frame.now) ≤ 8519680 }
     requires fits { header.now.length ≤ slot_bytes (places_in frame.now) }
     ensures size { D.size disk.new ≡ D.size disk.old }
     ensures counts { D.faults disk.old ≤ D.faults disk.new }
     ensures calm { OnOk result (D.faults disk.new ≡ D.faults disk.old) }
     ensures same { D.told → SameHeld (D.held disk.old) (D.held disk.new) }
-    ensures spelled { IfOk result (λ t. Spells extents (text (table_alone t)) (table_alone t)) }
-    ensures summed { IfOk result (λ t. sum (text (table_alone t)) ≡ header.now.sum) }
-    ensures stands { IfOk result (λ t. D.told → slot_text (places_in frame.now) (reads (D.held disk.old)) (slot_number header.now.slot) header.now.length ≡ text (table_alone t)) }
-    ensures err { IfErr result (IsAnswer (λ e. D.told → IsTextRefused Listed extents header.now.sum (slot_text (places_in frame.now) (reads (D.held disk.old)) (slot_number header.now.slot) header.now.length) e) (D.faults disk.old) (D.faults disk.new)) }
+    ensures long { length buffer.new ≡ length buffer.old }
+    ensures table { IfOk result (λ t. HasTextOf grammar extents (pointer header.now) (table_alone t)) }
+    ensures stands { IfOk result (λ t. D.told → slot_text (places_in frame.now) (reads (D.held disk.old)) (slot_number header.now.slot) header.now.length ≡ text_by grammar (table_alone t)) }
+    ensures err { IfErr result (IsAnswer (λ e. D.told → IsTextAnswer grammar (places_in frame.now) extents (pointer header.now) (D.held disk.old) e) (D.faults disk.old) (D.faults disk.new)) }
 {
     let Ok(()) = read_text(disk, frame, header, buffer) else {
         return Err(OpenFault::Device);
@@ -119,7 +118,7 @@ pub(crate) fn table_on<D: Disk>(
             place: Place::TableSum,
         });
     }
-    match Table::decode(alloc, text, extents) {
+    match Table::decode_by(alloc, grammar, text, extents) {
         Ok(table) => Ok(table),
         Err(DecodeFault::Damaged { at }) => Err(OpenFault::Damaged {
             place: Place::Table { at },
@@ -128,49 +127,80 @@ pub(crate) fn table_on<D: Disk>(
     }
 }
 
-/// What the checks of an opening learn.
-pub(crate) struct Found {
-    pub label: GroupLabel,
-    pub header: TableHeader,
-    pub table: Table,
+/// The grammar of a version's texts.
+#[tactic(auto, unfolding(vg_layout::specs::Opening::grammar_of))]
+fn grammar_of(version: u32) -> Grammar
+    ensures { result ≡ grammar_of version }
+{
+    if version == 1 {
+        Grammar::Listed
+    } else {
+        Grammar::Segmented
+    }
 }
 
-/// The label, the header and the table, by the five checks: the first that fails gives the answer.
-pub(crate) fn find<D: Disk>(
-    alloc: Global,
-    disk: &mut D,
-    buffer: &mut [u8],
-) -> Result<Found, OpenFault>
-    requires { length buffer.old ≡ slot_bytes old_frame }
+/// A buffer for the texts of a layout: it has the bytes of a slot of the current version.
+fn buffer_of(alloc: Global, layout: Layout) -> Result<Vec<u8>, NoMemory>
+    ensures long { IfOk result (λ b. vec_len b ≡ slot_bytes (frame_of current_version (layout_number layout))) }
+{
+    let bytes = Frame::of(CURRENT_VERSION, layout).slot_bytes();
+    let Ok(buffer) = vec![in alloc; 0u8; bytes as usize] else {
+        return Err(NoMemory);
+    };
+    Ok(buffer)
+}
+
+/// What the checks of an opening learn, and the buffer that the table's text was read into.
+pub(crate) struct Found {
+    pub label: GroupLabel,
+    pub version: u32,
+    pub header: TableHeader,
+    pub table: Table,
+    pub buffer: Vec<u8>,
+}
+
+/// The label, the header and the table, by the five checks: the first that fails gives the answer. Header and text are read in the
+/// frame, and by the grammar, of the version and layout that the label says. The buffer is taken once the label is right.
+pub(crate) fn find<D: Disk>(alloc: Global, disk: &mut D) -> Result<Found, OpenFault>
     ensures size { D.size disk.new ≡ D.size disk.old }
     ensures counts { D.faults disk.old ≤ D.faults disk.new }
     ensures calm { OnOk result (D.faults disk.new ≡ D.faults disk.old) }
     ensures same { D.told → SameHeld (D.held disk.old) (D.held disk.new) }
-    ensures label { IfOk result (λ f. D.told → plate_of (D.size disk.old) (reads (D.held disk.old)) ≡ Ok (plate f.label)) }
-    ensures header { IfOk result (λ f. D.told → pointer_of (reads (D.held disk.old)) ≡ Ok (pointer f.header)) }
-    ensures few { IfOk result (λ f. f.label.extents ≤ extent_limit) }
-    ensures area { IfOk result (λ f. area_place (layout_number f.label.layout) + f.label.extents * f.label.geometry.extent ≤ D.size disk.old) }
-    ensures spelled { IfOk result (λ f. Spells f.label.extents (text (table_alone f.table)) (table_alone f.table)) }
-    ensures summed { IfOk result (λ f. sum (text (table_alone f.table)) ≡ f.header.sum) }
-    ensures stands { IfOk result (λ f. D.told → text_in (reads (D.held disk.old)) (pointer f.header) ≡ text (table_alone f.table)) }
+    ensures buffer { IfOk result (λ f. vec_len f.buffer ≡ slot_bytes (frame_of current_version (layout_number f.label.layout))) }
+    ensures known { IfOk result (λ f. IsKnown (D.size disk.old) f.version (plate f.label) (pointer f.header) (table_alone f.table)) }
+    ensures found { IfOk result (λ f. D.told → IsFoundOn (D.size disk.old) (reads (D.held disk.old)) f.version (plate f.label) (pointer f.header) (table_alone f.table)) }
     ensures err { IfErr result (IsAnswer (λ e. D.told → IsRefused (D.size disk.old) (reads (D.held disk.old)) e) (D.faults disk.old) (D.faults disk.new)) }
 {
-    let label = match label_on(disk) {
-        Ok(label) => label,
+    let (label, version) = match label_on(disk) {
+        Ok(found) => found,
         Err(fault) => return Err(fault),
     };
-    let frame = Frame::of(CURRENT_VERSION, label.layout);
+    let Ok(mut buffer) = buffer_of(alloc, label.layout) else {
+        return Err(OpenFault::NoMemory);
+    };
+    let frame = Frame::of(version, label.layout);
     let header = match header_on(disk, &frame) {
         Ok(header) => header,
         Err(fault) => return Err(fault),
     };
-    let table = match table_on(alloc, disk, &frame, label.extents, &header, buffer) {
+    let grammar = grammar_of(version);
+    let table = match table_on(
+        alloc,
+        disk,
+        &frame,
+        grammar,
+        label.extents,
+        &header,
+        &mut buffer,
+    ) {
         Ok(table) => table,
         Err(fault) => return Err(fault),
     };
     Ok(Found {
         label,
+        version,
         header,
         table,
+        buffer,
     })
 }

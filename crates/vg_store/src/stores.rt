@@ -1,4 +1,4 @@
-//! A volume group as a store of volumes.
+//! A volume group as a store of volumes. Of an earlier version it makes no commit, until it is taken over.
 
 use crate::groups::Group;
 use crate::volumes::{read_volume, write_volume};
@@ -6,19 +6,16 @@ use sm_base::{Failed, Geometry, Name, NoMemory};
 use sm_disk::Disk;
 use uuid::Uuid;
 use vg_meta::{Change, Table};
+use vg_upgrade::take_over;
 use vg_volumes::{CURRENT_VERSION, Store, text_limit};
 
 impl<D: Disk> Store for Group<D> {
-    ghost use Rattle.std.proofs.Common.{refl};
-    ghost use Rattle.std.proofs.Math.Nat.{le_refl, lt_irrefl};
-    ghost use Rattle.vg_volumes.specs.Commits.{current_version};
-    ghost use Rattle.std.specs.Prelude.{ℕ, ◌*◌, List};
+    ghost use Rattle.std.specs.Prelude.{◌*◌, vec_len};
     ghost use Rattle.vg_meta.specs.Roomy.{table_alone};
     ghost use Rattle.vg_layout.specs.Fields.{layout_number, plate, pointer};
-    ghost use Rattle.vg_layout.proofs.StandingLaws.{spells_listed};
     ghost use Rattle.vg_store.specs.Groups.{LeavesGroup, area_of, beside_of};
     ghost use Rattle.vg_meta.specs.Text.{text};
-    ghost use Rattle.vg_store.specs.Leaving.{leaves_one, leaves_reads};
+    ghost use Rattle.vg_store.specs.Leaving.{leaves_early, leaves_one, leaves_reads};
 
     ghost told = { D.told };
 
@@ -34,7 +31,7 @@ impl<D: Disk> Store for Group<D> {
 
     ghost failed = { λ g. g.failed };
 
-    ghost version = { λ g. current_version };
+    ghost version = { λ g. g.version };
 
     ghost leaves = { λ g t image. LeavesGroup (D.size g.disk) (D.held g.disk) (plate g.label) t image };
 
@@ -58,10 +55,17 @@ impl<D: Disk> Store for Group<D> {
     }
 
     fn version(&self) -> u32 {
-        CURRENT_VERSION
+        self.version
     }
 
     fn upgrade(&mut self) -> Result<(), Failed> {
+        if self.version == CURRENT_VERSION {
+            return Ok(());
+        }
+        let header = take_over(&mut self.disk, &self.label, &self.table, &mut self.buffer)?;
+        self.header = header;
+        self.version = CURRENT_VERSION;
+        self.failed = false;
         Ok(())
     }
 
@@ -129,13 +133,13 @@ impl<D: Disk> Store for Group<D> {
         self.disk.sync()
     }
 
-    ghost versions = { λ s. le_refl current_version };
+    ghost versions = { λ s. s.known.most };
 
-    ghost current = { λ s usable. refl };
+    ghost current = { λ s usable. s.current usable };
 
-    ghost leaves_old = { λ s told old. absurd (lt_irrefl current_version old) };
+    ghost leaves_old = { λ s told early t image left. leaves_early (D.size s.disk) (s.label.extents * s.label.geometry.extent) (D.held s.disk) (plate s.label) (pointer s.header) (table_alone s.table) t s.version (vec_len s.buffer) image s.area s.few s.known early s.room s.fits (s.taken told early) left };
 
-    ghost leaves_now = { λ s told usable t image left. leaves_one (D.size s.disk) (s.label.extents * s.label.geometry.extent) (D.held s.disk) (plate s.label) (pointer s.header) (table_alone s.table) t (text (table_alone s.table)) image s.area (s.rests told usable) s.summed (spells_listed (D.size s.disk) (D.held s.disk).floor (plate s.label) (text (table_alone s.table)) (table_alone s.table) (s.rests told usable).labelled s.spelled) left };
+    ghost leaves_now = { λ s told usable t image left. leaves_one (D.size s.disk) (s.label.extents * s.label.geometry.extent) (D.held s.disk) (plate s.label) (pointer s.header) (table_alone s.table) t (text (table_alone s.table)) image s.area (s.rests told usable) (s.summed usable) s.spelled left };
 
-    ghost leaves_read = { λ s told usable. leaves_reads (D.size s.disk) (D.held s.disk) (plate s.label) (pointer s.header) (table_alone s.table) (text (table_alone s.table)) (s.rests told usable) s.summed (spells_listed (D.size s.disk) (D.held s.disk).floor (plate s.label) (text (table_alone s.table)) (table_alone s.table) (s.rests told usable).labelled s.spelled) };
+    ghost leaves_read = { λ s told usable. leaves_reads (D.size s.disk) (D.held s.disk) (plate s.label) (pointer s.header) (table_alone s.table) (text (table_alone s.table)) (s.rests told usable) (s.summed usable) s.spelled };
 }

@@ -1,14 +1,10 @@
-use Rattle.std.proofs.Common.{◌≤◌, length, drop, arith}
-use Rattle.vg_meta.proofs.CommitLaws.{HasText-short}
+use Rattle.std.proofs.Common.{◌≤◌, length, drop}
 use Rattle.vg_meta.specs.Roomy.{table_alone}
 use Rattle.vg_meta.specs.Text.{text}
 use Rattle.vg_meta.specs.Changes.{applied}
 use Rattle.vg_layout.specs.Fields.{pointer}
 use Rattle.vg_store.proofs.CommittedLaws.{head_from, long_as_before}
 use Rattle.vg_store.proofs.commits.next_header.Goals as goal
-
-pub encode_changed-length-requires-clause-numbers : goal.encode_changed-length-requires-clause-numbers
-encode_changed-length-requires-clause-numbers c = HasText-short (applied (table_alone c.args.table.now) c.args.change.now) (omega (arith, c.requires.fits, c.requires.few))
 
 pub returns-clause-head : goal.returns-clause-head
 returns-clause-head c =

@@ -4,7 +4,7 @@ use Rattle.vg_layout.specs.Fields.{places_in, pointer}
 use Rattle.vg_layout.specs.Places.{area_place}
 use Rattle.vg_store.proofs.CommitLaws.{slot_crash, slot_stands, header_crash, header_stands, group_after, area_same}
 use Rattle.vg_store.proofs.BesideLaws.{beside_reached}
-use Rattle.vg_store.proofs.FlipLaws.{in_front, slot_clear, header_clear, header_front, whole_from, len_most, reaches_area, other_place, in_slot, step_of, header_puts, header_staged}
+use Rattle.vg_store.proofs.FlipLaws.{current_apart, in_front, slot_clear, header_clear, header_front, whole_from, len_most, reaches_area, other_place, in_slot, step_of, header_puts, header_staged}
 use Rattle.vg_store.proofs.flips.flip.Goals as goal
 
 pub put-requires : goal.put-requires
@@ -15,7 +15,7 @@ put-requires g c =
 pub returns-in_err-put-clause-keeps : goal.returns-in_err-put-clause-keeps
 returns-in_err-put-clause-keeps g c = λ told layout own.
     area_same layout c.place.result _ _ c.args.text.now
-    (in_front (places_in c.args.frame.now) (area_place layout) c.args.next.now.slot c.place.result (length c.args.text.now) c.args.next.now.length own.apart c.place.ensures c.requires.sectors c.requires.fits)
+    (in_front (places_in c.args.frame.now) (area_place layout) c.args.next.now.slot c.place.result (length c.args.text.now) c.args.next.now.length (current_apart layout (places_in c.args.frame.now) own) c.place.ensures c.requires.sectors c.requires.fits)
     (c.put.ensures.reaches told)
 
 pub returns-in_err-put-clause-crash : goal.returns-in_err-put-clause-crash
@@ -32,7 +32,7 @@ pub returns-in_err-put-clause-beside : goal.returns-in_err-put-clause-beside
 returns-in_err-put-clause-beside g c = λ told layout area own.
     beside_reached layout area c.place.result _ _ c.args.text.now
     (slot_clear (places_in c.args.frame.now) layout c.args.next.now.slot c.place.result (length c.args.text.now) c.args.next.now.length own c.place.ensures c.requires.sectors c.requires.fits)
-    (in_front (places_in c.args.frame.now) (area_place layout) c.args.next.now.slot c.place.result (length c.args.text.now) c.args.next.now.length own.apart c.place.ensures c.requires.sectors c.requires.fits)
+    (in_front (places_in c.args.frame.now) (area_place layout) c.args.next.now.slot c.place.result (length c.args.text.now) c.args.next.now.length (current_apart layout (places_in c.args.frame.now) own) c.place.ensures c.requires.sectors c.requires.fits)
     (c.put.ensures.reaches told)
 
 pub returns-in_err-put-2-clause-keeps : goal.returns-in_err-put-2-clause-keeps
@@ -40,9 +40,9 @@ returns-in_err-put-2-clause-keeps g c = λ told layout own.
     let long : length c.write.new.to ≡ 512 = omega arith in
     Keeps-then
     (area_same layout c.place.result _ _ c.args.text.now
-    (in_front (places_in c.args.frame.now) (area_place layout) c.args.next.now.slot c.place.result (length c.args.text.now) c.args.next.now.length own.apart c.place.ensures c.requires.sectors c.requires.fits)
+    (in_front (places_in c.args.frame.now) (area_place layout) c.args.next.now.slot c.place.result (length c.args.text.now) c.args.next.now.length (current_apart layout (places_in c.args.frame.now) own) c.place.ensures c.requires.sectors c.requires.fits)
     (c.put.ensures.reaches told))
-    (area_same layout c.args.frame.now.header _ _ c.write.new.to (header_front (places_in c.args.frame.now) (area_place layout) (length c.write.new.to) own.apart long) (c.put-2.ensures.reaches told))
+    (area_same layout c.args.frame.now.header _ _ c.write.new.to (header_front (places_in c.args.frame.now) (area_place layout) (length c.write.new.to) (current_apart layout (places_in c.args.frame.now) own) long) (c.put-2.ensures.reaches told))
 
 pub returns-in_err-put-2-clause-crash : goal.returns-in_err-put-2-clause-crash
 returns-in_err-put-2-clause-crash g c = λ told area p at t u bytes n fits v image left.
@@ -64,19 +64,19 @@ returns-in_err-put-2-clause-beside g c = λ told layout area own.
     Keeps-then
     (beside_reached layout area c.place.result _ _ c.args.text.now
     (slot_clear (places_in c.args.frame.now) layout c.args.next.now.slot c.place.result (length c.args.text.now) c.args.next.now.length own c.place.ensures c.requires.sectors c.requires.fits)
-    (in_front (places_in c.args.frame.now) (area_place layout) c.args.next.now.slot c.place.result (length c.args.text.now) c.args.next.now.length own.apart c.place.ensures c.requires.sectors c.requires.fits)
+    (in_front (places_in c.args.frame.now) (area_place layout) c.args.next.now.slot c.place.result (length c.args.text.now) c.args.next.now.length (current_apart layout (places_in c.args.frame.now) own) c.place.ensures c.requires.sectors c.requires.fits)
     (c.put.ensures.reaches told))
     (beside_reached layout area c.args.frame.now.header _ _ c.write.new.to (header_clear (places_in c.args.frame.now) layout (length c.write.new.to) own long)
-    (header_front (places_in c.args.frame.now) (area_place layout) (length c.write.new.to) own.apart long) (c.put-2.ensures.reaches told))
+    (header_front (places_in c.args.frame.now) (area_place layout) (length c.write.new.to) (current_apart layout (places_in c.args.frame.now) own) long) (c.put-2.ensures.reaches told))
 
 pub returns-clause-keeps : goal.returns-clause-keeps
 returns-clause-keeps g c = λ told layout own.
     let long : length c.write.new.to ≡ 512 = omega arith in
     Keeps-then
     (area_same layout c.place.result _ _ c.args.text.now
-    (in_front (places_in c.args.frame.now) (area_place layout) c.args.next.now.slot c.place.result (length c.args.text.now) c.args.next.now.length own.apart c.place.ensures c.requires.sectors c.requires.fits)
+    (in_front (places_in c.args.frame.now) (area_place layout) c.args.next.now.slot c.place.result (length c.args.text.now) c.args.next.now.length (current_apart layout (places_in c.args.frame.now) own) c.place.ensures c.requires.sectors c.requires.fits)
     (c.put.ensures.reaches told))
-    (area_same layout c.args.frame.now.header _ _ c.write.new.to (header_front (places_in c.args.frame.now) (area_place layout) (length c.write.new.to) own.apart long) (c.put-2.ensures.reaches told))
+    (area_same layout c.args.frame.now.header _ _ c.write.new.to (header_front (places_in c.args.frame.now) (area_place layout) (length c.write.new.to) (current_apart layout (places_in c.args.frame.now) own) long) (c.put-2.ensures.reaches told))
 
 pub returns-clause-crash : goal.returns-clause-crash
 returns-clause-crash g c = λ told area p at t u bytes n fits v image left.
@@ -106,7 +106,7 @@ returns-clause-beside g c = λ told layout area own.
     Keeps-then
     (beside_reached layout area c.place.result _ _ c.args.text.now
     (slot_clear (places_in c.args.frame.now) layout c.args.next.now.slot c.place.result (length c.args.text.now) c.args.next.now.length own c.place.ensures c.requires.sectors c.requires.fits)
-    (in_front (places_in c.args.frame.now) (area_place layout) c.args.next.now.slot c.place.result (length c.args.text.now) c.args.next.now.length own.apart c.place.ensures c.requires.sectors c.requires.fits)
+    (in_front (places_in c.args.frame.now) (area_place layout) c.args.next.now.slot c.place.result (length c.args.text.now) c.args.next.now.length (current_apart layout (places_in c.args.frame.now) own) c.place.ensures c.requires.sectors c.requires.fits)
     (c.put.ensures.reaches told))
     (beside_reached layout area c.args.frame.now.header _ _ c.write.new.to (header_clear (places_in c.args.frame.now) layout (length c.write.new.to) own long)
-    (header_front (places_in c.args.frame.now) (area_place layout) (length c.write.new.to) own.apart long) (c.put-2.ensures.reaches told))
+    (header_front (places_in c.args.frame.now) (area_place layout) (length c.write.new.to) (current_apart layout (places_in c.args.frame.now) own) long) (c.put-2.ensures.reaches told))

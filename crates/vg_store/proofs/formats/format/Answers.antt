@@ -1,12 +1,12 @@
-use Rattle.std.proofs.Common.{◌≡◌, ◌<◌, ◌≤◌, ◌*◌, ◌^◌, length, take, ap, arith, rules}
+use Rattle.std.proofs.Common.{◌≡◌, ℕ, ◌+◌, ◌<◌, ◌≤◌, ◌*◌, ◌^◌, length, take, ap, subst, sym, arith, rules}
+use Rattle.sm_disk.specs.Held.{Reaches}
 use Rattle.vg_meta.specs.Text.{text}
-use Rattle.vg_layout.specs.Fields.{plate, pointer}
-use Rattle.vg_layout.specs.Places.{extents_on, new_layout}
+use Rattle.vg_layout.specs.Fields.{layout_number, plate, pointer}
+use Rattle.vg_layout.specs.Places.{area_place, best_layout, new_extents}
 use Rattle.vg_layout.specs.Sectors.{Plate}
-use Rattle.vg_store.specs.Formats.{new_group}
-use Rattle.vg_store.proofs.BesideLaws.{beside_formatted}
+use Rattle.vg_store.specs.Formats.{IsFormatWrite, new_group}
 use Rattle.std.proofs.lemmas.Nat.{mul-le}
-use Rattle.vg_store.proofs.FormatLaws.{area_new}
+use Rattle.vg_store.proofs.FormatLaws.{beside_formatted, narrow_area}
 use Rattle.vg_store.proofs.NewGroups.{fits_records, records_few, formatted_from, left_from, enough_from}
 use Rattle.vg_store.proofs.formats.format.Goals as goal
 
@@ -15,7 +15,8 @@ lay_out-requires g c =
     let size = g.D.Disk.size c.args.disk.now in
     let e = c.args.geometry.extent in
     let enough = enough_from size c.sectors-sectors.result c.area.result c.record_extents-records.result c.from.result c.from-2.result e c.area.ensures c.record_extents-records.ensures c.from.ensures c.from-2.ensures c.sectors-sectors.ensures.size c.if-sectors-least.false in
-    record { room = (fits_records size e c.args.geometry.in_range.extent_least enough).room }
+    let layout : layout_number c.in-Ok.draft.label.layout ≡ best_layout size e = rw (← c.sectors-sectors.ensures.size) (ap (λ (p : Plate). p.layout) c.in-Ok.ensures.label) in
+    record { room = subst (λ (l : ℕ). area_place l + 512 ≤ size) (sym layout) (fits_records size e c.args.geometry.in_range.extent_least enough).room }
 
 pub returns-in_default-lay_out-clause-crash : goal.returns-in_default-lay_out-clause-crash
 returns-in_default-lay_out-clause-crash g c = λ told image allowed.
@@ -38,7 +39,7 @@ overflow_sub-result g c =
     let size = g.D.Disk.size c.args.disk.now in
     let e = c.args.geometry.extent in
     let enough = enough_from size c.sectors-sectors.result c.area.result c.record_extents-records.result c.from.result c.from-2.result e c.area.ensures c.record_extents-records.ensures c.from.ensures c.from-2.ensures c.sectors-sectors.ensures.size c.if-sectors-least.false in
-    let count : c.in-Ok.draft.label.extents ≡ extents_on new_layout size e = rw (← c.sectors-sectors.ensures.size) (ap (λ (p : Plate). p.count) c.in-Ok.ensures.label) in
+    let count : c.in-Ok.draft.label.extents ≡ new_extents size e = rw (← c.sectors-sectors.ensures.size) (ap (λ (p : Plate). p.count) c.in-Ok.ensures.label) in
     omega (arith, (fits_records size e c.args.geometry.in_range.extent_least enough).least, count, c.record_extents-records.ensures)
 
 pub returns-clause-free : goal.returns-clause-free
@@ -46,7 +47,7 @@ returns-clause-free g c =
     let size = g.D.Disk.size c.args.disk.now in
     let e = c.args.geometry.extent in
     let enough = enough_from size c.sectors-sectors.result c.area.result c.record_extents-records.result c.from.result c.from-2.result e c.area.ensures c.record_extents-records.ensures c.from.ensures c.from-2.ensures c.sectors-sectors.ensures.size c.if-sectors-least.false in
-    let count : c.in-Ok.draft.label.extents ≡ extents_on new_layout size e = rw (← c.sectors-sectors.ensures.size) (ap (λ (p : Plate). p.count) c.in-Ok.ensures.label) in
+    let count : c.in-Ok.draft.label.extents ≡ new_extents size e = rw (← c.sectors-sectors.ensures.size) (ap (λ (p : Plate). p.count) c.in-Ok.ensures.label) in
     omega (arith, (fits_records size e c.args.geometry.in_range.extent_least enough).least, count, c.record_extents-records.ensures)
 
 pub returns-clause-formatted : goal.returns-clause-formatted
@@ -86,18 +87,26 @@ returns-in_default-lay_out-clause-beside g c = λ told.
     let size = g.D.Disk.size c.args.disk.now in
     let e = c.args.geometry.extent in
     let enough = enough_from size c.sectors-sectors.result c.area.result c.record_extents-records.result c.from.result c.from-2.result e c.area.ensures c.record_extents-records.ensures c.from.ensures c.from-2.ensures c.sectors-sectors.ensures.size c.if-sectors-least.false in
-    beside_formatted (extents_on new_layout size e * e) _ _ (fits_records size e c.args.geometry.in_range.extent_least enough).large (c.lay_out.ensures.reaches told)
+    let layout : layout_number c.in-Ok.draft.label.layout ≡ best_layout size e = rw (← c.sectors-sectors.ensures.size) (ap (λ (p : Plate). p.layout) c.in-Ok.ensures.label) in
+    let old = g.D.Disk.held c.args.disk.now in
+    let new = g.D.Disk.held c.lay_out.new.disk in
+    beside_formatted (best_layout size e) (new_extents size e * e) old new (fits_records size e c.args.geometry.in_range.extent_least enough).large
+    (subst (λ (l : ℕ). Reaches (IsFormatWrite l) old new) layout (c.lay_out.ensures.reaches told))
 
 pub returns-clause-beside : goal.returns-clause-beside
 returns-clause-beside g c = λ told.
     let size = g.D.Disk.size c.args.disk.now in
     let e = c.args.geometry.extent in
     let enough = enough_from size c.sectors-sectors.result c.area.result c.record_extents-records.result c.from.result c.from-2.result e c.area.ensures c.record_extents-records.ensures c.from.ensures c.from-2.ensures c.sectors-sectors.ensures.size c.if-sectors-least.false in
-    beside_formatted (extents_on new_layout size e * e) _ _ (fits_records size e c.args.geometry.in_range.extent_least enough).large (c.lay_out.ensures.reaches told)
+    let layout : layout_number c.in-Ok.draft.label.layout ≡ best_layout size e = rw (← c.sectors-sectors.ensures.size) (ap (λ (p : Plate). p.layout) c.in-Ok.ensures.label) in
+    let old = g.D.Disk.held c.args.disk.now in
+    let new = g.D.Disk.held c.lay_out.new.disk in
+    beside_formatted (best_layout size e) (new_extents size e * e) old new (fits_records size e c.args.geometry.in_range.extent_least enough).large
+    (subst (λ (l : ℕ). Reaches (IsFormatWrite l) old new) layout (c.lay_out.ensures.reaches told))
 
 pub overflow_add-least : goal.overflow_add-least
 overflow_add-least g c =
     let e = c.args.geometry.extent in
     let few = records_few e c.args.geometry.in_range.extent_least in
     let most : c.from.result * c.from-2.result ≤ 16 * 8192 = mul-le c.from.result c.from-2.result 16 8192 (omega (arith, few, c.record_extents-records.ensures, c.from.ensures)) (omega (arith, c.from-2.ensures, c.args.geometry.in_range.extent_most)) in
-    omega (arith, most, c.area.ensures, area_new)
+    omega (arith, most, c.area.ensures, narrow_area)

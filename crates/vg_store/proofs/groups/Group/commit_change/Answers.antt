@@ -4,25 +4,31 @@ use Rattle.vg_meta.specs.Changes.{applied}
 use Rattle.vg_meta.specs.Roomy.{table_alone}
 use Rattle.vg_meta.specs.Tables.{VolumeTable}
 use Rattle.vg_meta.specs.Text.{text}
-use Rattle.vg_meta.specs.declared.grammars.Grammar.TheVariants.{Listed}
 use Rattle.vg_layout.specs.Fields.{layout_number, places_in, plate, pointer, slot_number}
 use Rattle.vg_layout.specs.Places.{area_place, slot_bytes}
 use Rattle.vg_layout.proofs.FrameLaws.{apart_within}
 use Rattle.vg_store.specs.Groups.{IsGroup, IsNext, IsNextOf}
-use Rattle.vg_store.proofs.CommittedLaws.{IsFront, some_text, front_reach, buffer_shown, fits_slot, next_from, next_of, slot_few, group_from, group_flipped, spelled_again, either_stands, room_after}
-use Rattle.vg_store.proofs.FlipLaws.{current_of}
+use Rattle.vg_store.proofs.CommittedLaws.{IsFront, some_text, front_reach, buffer_shown, fits_slot, next_from, next_of, not_early, numbers_after, text_fits, slot_few, group_from, group_flipped, spelled_again, either_stands, room_after}
+use Rattle.vg_store.specs.Leaving.{few_extents}
+use Rattle.vg_store.proofs.FlipLaws.{current_apart}
 use Rattle.vg_store.proofs.OpenedLaws.{group_stands}
 use Rattle.vg_store.proofs.groups.Group.commit_change.Goals as goal
 
 pub next_header-next-requires-clause-allowed : goal.next_header-next-requires-clause-allowed
 next_header-next-requires-clause-allowed g c =
-    Permits-wider c.args.self.now.label.extents (2 ^ 32) (table_alone c.args.self.now.table) c.args.change (omega (arith, c.args.self.now.few)) c.requires.allowed
+    Permits-wider c.args.self.now.label.extents (2 ^ 32) (table_alone c.args.self.now.table) c.args.change (omega (arith, few_extents (layout_number c.args.self.now.label.layout) c.args.self.now.few)) c.requires.allowed
 
 pub next_header-next-requires-clause-fits : goal.next_header-next-requires-clause-fits
 next_header-next-requires-clause-fits g c =
     let s = c.args.self.now in
-    let fits = fits_slot s.label.extents (layout_number s.label.layout) (length (text (applied (table_alone s.table) c.args.change))) (places_in c.of-frame.result) c.of-frame.ensures c.requires.fits in
+    let fits = fits_slot s.label.extents (layout_number s.label.layout) (length (text (applied (table_alone s.table) c.args.change))) (places_in c.of-frame.result) c.of-frame.ensures s.few c.requires.fits in
     omega (arith, fits, ap slot_bytes c.of-frame.ensures, s.room, c.deref_mut.ensures.len)
+
+pub next_header-next-requires-clause-numbers : goal.next_header-next-requires-clause-numbers
+next_header-next-requires-clause-numbers g c =
+    let s = c.args.self.now in
+    numbers_after s.label.extents (slot_bytes (places_in c.of-frame.result)) (table_alone s.table) c.args.change s.spelled.table c.requires.allowed (few_extents (layout_number s.label.layout) s.few)
+    (fits_slot s.label.extents (layout_number s.label.layout) (length (text (applied (table_alone s.table) c.args.change))) (places_in c.of-frame.result) c.of-frame.ensures s.few c.requires.fits) (slot_few (layout_number s.label.layout) (places_in c.of-frame.result) c.of-frame.ensures)
 
 pub next_header-next-requires-clause-few : goal.next_header-next-requires-clause-few
 next_header-next-requires-clause-few g c =
@@ -33,7 +39,7 @@ pub split_at-requires : goal.split_at-requires
 split_at-requires g c =
     let s = c.args.self.now in
     let short : c.next_header-next.result.length ≤ slot_bytes (places_in c.of-frame.result) =
-    fits_slot s.label.extents (layout_number s.label.layout) c.next_header-next.result.length (places_in c.of-frame.result) c.of-frame.ensures (omega (arith, c.next_header-next.ensures.head.size, c.requires.fits))
+    fits_slot s.label.extents (layout_number s.label.layout) c.next_header-next.result.length (places_in c.of-frame.result) c.of-frame.ensures s.few (omega (arith, c.next_header-next.ensures.head.size, c.requires.fits))
     in
     let reach = front_reach (places_in c.of-frame.result) c.next_header-next.result.length c.div_ceil-sectors.result short c.div_ceil-sectors.ensures in
     omega (arith, reach.1, ap slot_bytes c.of-frame.ensures, c.deref.ensures.len, s.room)
@@ -41,7 +47,7 @@ split_at-requires g c =
 pub flip-requires-clause-apart : goal.flip-requires-clause-apart
 flip-requires-clause-apart g c =
     let s = c.args.self.now in
-    apart_within (current_of (layout_number s.label.layout) (places_in c.of-frame.result) c.of-frame.ensures).apart (omega (arith, s.area))
+    apart_within (current_apart (layout_number s.label.layout) (places_in c.of-frame.result) c.of-frame.ensures) (omega (arith, s.area))
 
 pub flip-requires-clause-some : goal.flip-requires-clause-some
 flip-requires-clause-some g c = omega (arith, c.next_header-next.ensures.head.size, some_text (applied (table_alone c.args.self.now.table) c.args.change))
@@ -49,7 +55,7 @@ flip-requires-clause-some g c = omega (arith, c.next_header-next.ensures.head.si
 pub flip-requires-clause-fits : goal.flip-requires-clause-fits
 flip-requires-clause-fits g c =
     let s = c.args.self.now in
-    fits_slot s.label.extents (layout_number s.label.layout) c.next_header-next.result.length (places_in c.of-frame.result) c.of-frame.ensures (omega (arith, c.next_header-next.ensures.head.size, c.requires.fits))
+    fits_slot s.label.extents (layout_number s.label.layout) c.next_header-next.result.length (places_in c.of-frame.result) c.of-frame.ensures s.few (omega (arith, c.next_header-next.ensures.head.size, c.requires.fits))
 
 pub flip-requires-clause-sectors : goal.flip-requires-clause-sectors
 flip-requires-clause-sectors g c =
@@ -63,10 +69,11 @@ flip-requires-clause-sectors g c =
       front = c.split_at.ensures.front ∙ ap (take (512 * c.div_ceil-sectors.result)) (c.deref.ensures.value ∙ buffer_shown s.buffer.len s.buffer.items c.next_header-next.new.buffer (c.next_header-next.ensures.long ∙ c.deref_mut.ensures.len));
     }
     in
-    let next : IsNext (places_in c.of-frame.result) Listed (plate s.label) (pointer s.header) (pointer c.next_header-next.result) u written =
+    let next : IsNext (places_in c.of-frame.result) (plate s.label) (pointer s.header) (pointer c.next_header-next.result) u written =
     next_from (places_in c.of-frame.result) (plate s.label) (pointer s.header) (pointer c.next_header-next.result) (table_alone s.table) c.args.change (text (table_alone s.table)) c.next_header-next.new.buffer written c.div_ceil-sectors.result
-    (slot_few (layout_number s.label.layout) (places_in c.of-frame.result) c.of-frame.ensures) s.spelled c.requires.allowed
-    (fits_slot s.label.extents (layout_number s.label.layout) (length (text u)) (places_in c.of-frame.result) c.of-frame.ensures c.requires.fits) (ap slot_number c.next_header-next.ensures.slot ∙ c.other.ensures) c.next_header-next.ensures.head front
+    (numbers_after s.label.extents (slot_bytes (places_in c.of-frame.result)) (table_alone s.table) c.args.change s.spelled.table c.requires.allowed (few_extents (layout_number s.label.layout) s.few)
+    (fits_slot s.label.extents (layout_number s.label.layout) (length (text (applied (table_alone s.table) c.args.change))) (places_in c.of-frame.result) c.of-frame.ensures s.few c.requires.fits) (slot_few (layout_number s.label.layout) (places_in c.of-frame.result) c.of-frame.ensures)) s.spelled c.requires.allowed
+    (fits_slot s.label.extents (layout_number s.label.layout) (length (text u)) (places_in c.of-frame.result) c.of-frame.ensures s.few c.requires.fits) (ap slot_number c.next_header-next.ensures.slot ∙ c.other.ensures) c.next_header-next.ensures.head front
     in
     next.long
 
@@ -82,14 +89,15 @@ invariant_of-self g c =
       front = c.split_at.ensures.front ∙ ap (take (512 * c.div_ceil-sectors.result)) (c.deref.ensures.value ∙ buffer_shown s.buffer.len s.buffer.items c.next_header-next.new.buffer (c.next_header-next.ensures.long ∙ c.deref_mut.ensures.len));
     }
     in
-    let next : IsNext (places_in c.of-frame.result) Listed (plate s.label) (pointer s.header) (pointer c.next_header-next.result) u written =
+    let next : IsNext (places_in c.of-frame.result) (plate s.label) (pointer s.header) (pointer c.next_header-next.result) u written =
     next_from (places_in c.of-frame.result) (plate s.label) (pointer s.header) (pointer c.next_header-next.result) (table_alone s.table) c.args.change (text (table_alone s.table)) c.next_header-next.new.buffer written c.div_ceil-sectors.result
-    (slot_few (layout_number s.label.layout) (places_in c.of-frame.result) c.of-frame.ensures) s.spelled c.requires.allowed
-    (fits_slot s.label.extents (layout_number s.label.layout) (length (text u)) (places_in c.of-frame.result) c.of-frame.ensures c.requires.fits) (ap slot_number c.next_header-next.ensures.slot ∙ c.other.ensures) c.next_header-next.ensures.head front
+    (numbers_after s.label.extents (slot_bytes (places_in c.of-frame.result)) (table_alone s.table) c.args.change s.spelled.table c.requires.allowed (few_extents (layout_number s.label.layout) s.few)
+    (fits_slot s.label.extents (layout_number s.label.layout) (length (text (applied (table_alone s.table) c.args.change))) (places_in c.of-frame.result) c.of-frame.ensures s.few c.requires.fits) (slot_few (layout_number s.label.layout) (places_in c.of-frame.result) c.of-frame.ensures)) s.spelled c.requires.allowed
+    (fits_slot s.label.extents (layout_number s.label.layout) (length (text u)) (places_in c.of-frame.result) c.of-frame.ensures s.few c.requires.fits) (ap slot_number c.next_header-next.ensures.slot ∙ c.other.ensures) c.next_header-next.ensures.head front
     in
     let d = g.D.Disk in
     let group : d.told → IsGroup (d.size s.disk) (d.held s.disk) (plate s.label) (pointer s.header) (table_alone s.table) (text (table_alone s.table)) =
-    λ told. group_from (d.size s.disk) (d.held s.disk) (plate s.label) (pointer s.header) (table_alone s.table) (s.rests told c.requires.usable) s.summed s.spelled
+    λ told. group_from (d.size s.disk) (d.held s.disk) (plate s.label) (pointer s.header) (table_alone s.table) (s.rests told c.requires.usable) (s.summed c.requires.usable) s.spelled
     in
     let step : d.told → IsNextOf (d.size s.disk) (d.held s.disk) (places_in c.of-frame.result) (plate s.label) (pointer s.header) (table_alone s.table) (text (table_alone s.table)) (pointer c.next_header-next.result) u written =
     λ told. next_of (d.size s.disk) (d.held s.disk) (places_in c.of-frame.result) (plate s.label) (pointer s.header) (pointer c.next_header-next.result) (table_alone s.table) u (text (table_alone s.table)) written c.of-frame.ensures (group told) next
@@ -97,10 +105,14 @@ invariant_of-self g c =
     record {
       few = s.few;
       area = rw c.flip.ensures.size s.area;
+      known = s.known;
       room = s.room;
       spelled = s.spelled;
-      summed = s.summed;
+      fits = s.fits;
+      current = λ usable. absurd cc;
+      summed = λ usable. absurd cc;
       rests = λ told usable. absurd cc;
+      taken = λ told early. absurd (not_early (s.current c.requires.usable) early);
       stands = λ told image allowed. either_stands (d.size c.flip.new.disk) image (plate s.label) (pointer s.header) (pointer c.next_header-next.result) (table_alone s.table) u
           (rw c.flip.ensures.size (c.flip.ensures.stands told (plate s.label) (pointer s.header) (table_alone s.table) u (text (table_alone s.table)) (step told) image (rw (← c.flip.ensures.size) allowed)));
     }
@@ -117,14 +129,15 @@ returns-in_default-clause-crash g c =
       front = c.split_at.ensures.front ∙ ap (take (512 * c.div_ceil-sectors.result)) (c.deref.ensures.value ∙ buffer_shown s.buffer.len s.buffer.items c.next_header-next.new.buffer (c.next_header-next.ensures.long ∙ c.deref_mut.ensures.len));
     }
     in
-    let next : IsNext (places_in c.of-frame.result) Listed (plate s.label) (pointer s.header) (pointer c.next_header-next.result) u written =
+    let next : IsNext (places_in c.of-frame.result) (plate s.label) (pointer s.header) (pointer c.next_header-next.result) u written =
     next_from (places_in c.of-frame.result) (plate s.label) (pointer s.header) (pointer c.next_header-next.result) (table_alone s.table) c.args.change (text (table_alone s.table)) c.next_header-next.new.buffer written c.div_ceil-sectors.result
-    (slot_few (layout_number s.label.layout) (places_in c.of-frame.result) c.of-frame.ensures) s.spelled c.requires.allowed
-    (fits_slot s.label.extents (layout_number s.label.layout) (length (text u)) (places_in c.of-frame.result) c.of-frame.ensures c.requires.fits) (ap slot_number c.next_header-next.ensures.slot ∙ c.other.ensures) c.next_header-next.ensures.head front
+    (numbers_after s.label.extents (slot_bytes (places_in c.of-frame.result)) (table_alone s.table) c.args.change s.spelled.table c.requires.allowed (few_extents (layout_number s.label.layout) s.few)
+    (fits_slot s.label.extents (layout_number s.label.layout) (length (text (applied (table_alone s.table) c.args.change))) (places_in c.of-frame.result) c.of-frame.ensures s.few c.requires.fits) (slot_few (layout_number s.label.layout) (places_in c.of-frame.result) c.of-frame.ensures)) s.spelled c.requires.allowed
+    (fits_slot s.label.extents (layout_number s.label.layout) (length (text u)) (places_in c.of-frame.result) c.of-frame.ensures s.few c.requires.fits) (ap slot_number c.next_header-next.ensures.slot ∙ c.other.ensures) c.next_header-next.ensures.head front
     in
     let d = g.D.Disk in
     let group : d.told → IsGroup (d.size s.disk) (d.held s.disk) (plate s.label) (pointer s.header) (table_alone s.table) (text (table_alone s.table)) =
-    λ told. group_from (d.size s.disk) (d.held s.disk) (plate s.label) (pointer s.header) (table_alone s.table) (s.rests told c.requires.usable) s.summed s.spelled
+    λ told. group_from (d.size s.disk) (d.held s.disk) (plate s.label) (pointer s.header) (table_alone s.table) (s.rests told c.requires.usable) (s.summed c.requires.usable) s.spelled
     in
     let step : d.told → IsNextOf (d.size s.disk) (d.held s.disk) (places_in c.of-frame.result) (plate s.label) (pointer s.header) (table_alone s.table) (text (table_alone s.table)) (pointer c.next_header-next.result) u written =
     λ told. next_of (d.size s.disk) (d.held s.disk) (places_in c.of-frame.result) (plate s.label) (pointer s.header) (pointer c.next_header-next.result) (table_alone s.table) u (text (table_alone s.table)) written c.of-frame.ensures (group told) next
@@ -134,7 +147,7 @@ returns-in_default-clause-crash g c =
 
 pub apply-requires-clause-allowed : goal.apply-requires-clause-allowed
 apply-requires-clause-allowed g c =
-    Permits-wider c.args.self.now.label.extents (2 ^ 32) (table_alone c.args.self.now.table) c.args.change (omega (arith, c.args.self.now.few)) c.requires.allowed
+    Permits-wider c.args.self.now.label.extents (2 ^ 32) (table_alone c.args.self.now.table) c.args.change (omega (arith, few_extents (layout_number c.args.self.now.label.layout) c.args.self.now.few)) c.requires.allowed
 
 pub invariant_of-self-2 : goal.invariant_of-self-2
 invariant_of-self-2 g c =
@@ -148,14 +161,15 @@ invariant_of-self-2 g c =
       front = c.split_at.ensures.front ∙ ap (take (512 * c.div_ceil-sectors.result)) (c.deref.ensures.value ∙ buffer_shown s.buffer.len s.buffer.items c.next_header-next.new.buffer (c.next_header-next.ensures.long ∙ c.deref_mut.ensures.len));
     }
     in
-    let next : IsNext (places_in c.of-frame.result) Listed (plate s.label) (pointer s.header) (pointer c.next_header-next.result) u written =
+    let next : IsNext (places_in c.of-frame.result) (plate s.label) (pointer s.header) (pointer c.next_header-next.result) u written =
     next_from (places_in c.of-frame.result) (plate s.label) (pointer s.header) (pointer c.next_header-next.result) (table_alone s.table) c.args.change (text (table_alone s.table)) c.next_header-next.new.buffer written c.div_ceil-sectors.result
-    (slot_few (layout_number s.label.layout) (places_in c.of-frame.result) c.of-frame.ensures) s.spelled c.requires.allowed
-    (fits_slot s.label.extents (layout_number s.label.layout) (length (text u)) (places_in c.of-frame.result) c.of-frame.ensures c.requires.fits) (ap slot_number c.next_header-next.ensures.slot ∙ c.other.ensures) c.next_header-next.ensures.head front
+    (numbers_after s.label.extents (slot_bytes (places_in c.of-frame.result)) (table_alone s.table) c.args.change s.spelled.table c.requires.allowed (few_extents (layout_number s.label.layout) s.few)
+    (fits_slot s.label.extents (layout_number s.label.layout) (length (text (applied (table_alone s.table) c.args.change))) (places_in c.of-frame.result) c.of-frame.ensures s.few c.requires.fits) (slot_few (layout_number s.label.layout) (places_in c.of-frame.result) c.of-frame.ensures)) s.spelled c.requires.allowed
+    (fits_slot s.label.extents (layout_number s.label.layout) (length (text u)) (places_in c.of-frame.result) c.of-frame.ensures s.few c.requires.fits) (ap slot_number c.next_header-next.ensures.slot ∙ c.other.ensures) c.next_header-next.ensures.head front
     in
     let d = g.D.Disk in
     let group : d.told → IsGroup (d.size s.disk) (d.held s.disk) (plate s.label) (pointer s.header) (table_alone s.table) (text (table_alone s.table)) =
-    λ told. group_from (d.size s.disk) (d.held s.disk) (plate s.label) (pointer s.header) (table_alone s.table) (s.rests told c.requires.usable) s.summed s.spelled
+    λ told. group_from (d.size s.disk) (d.held s.disk) (plate s.label) (pointer s.header) (table_alone s.table) (s.rests told c.requires.usable) (s.summed c.requires.usable) s.spelled
     in
     let step : d.told → IsNextOf (d.size s.disk) (d.held s.disk) (places_in c.of-frame.result) (plate s.label) (pointer s.header) (table_alone s.table) (text (table_alone s.table)) (pointer c.next_header-next.result) u written =
     λ told. next_of (d.size s.disk) (d.held s.disk) (places_in c.of-frame.result) (plate s.label) (pointer s.header) (pointer c.next_header-next.result) (table_alone s.table) u (text (table_alone s.table)) written c.of-frame.ensures (group told) next
@@ -170,10 +184,15 @@ invariant_of-self-2 g c =
     record {
       few = s.few;
       area = fits;
+      known = s.known;
       room = s.room;
       spelled = spelled_again s.label.extents (take c.next_header-next.result.length written) u v c.apply.ensures.table next.spelled;
-      summed = ap (λ (w : VolumeTable). sum (text w)) c.apply.ensures.table ∙ sym c.next_header-next.ensures.head.total;
+      fits = text_fits u v (places_in c.of-frame.result) (layout_number s.label.layout) c.of-frame.ensures s.room c.apply.ensures.table
+          (fits_slot s.label.extents (layout_number s.label.layout) (length (text u)) (places_in c.of-frame.result) c.of-frame.ensures s.few c.requires.fits);
+      current = s.current;
+      summed = λ usable. ap (λ (w : VolumeTable). sum (text w)) c.apply.ensures.table ∙ sym c.next_header-next.ensures.head.total;
       rests = λ told usable. (flipped told).rests;
+      taken = λ told early. absurd (not_early (s.current c.requires.usable) early);
       stands = λ told image allowed. group_stands (d.size c.flip.new.disk) (s.label.extents * s.label.geometry.extent) (d.held c.flip.new.disk) (plate s.label) h v (text v) image fits (flipped told) allowed;
     }
 
@@ -195,14 +214,15 @@ returns-clause-crash g c =
       front = c.split_at.ensures.front ∙ ap (take (512 * c.div_ceil-sectors.result)) (c.deref.ensures.value ∙ buffer_shown s.buffer.len s.buffer.items c.next_header-next.new.buffer (c.next_header-next.ensures.long ∙ c.deref_mut.ensures.len));
     }
     in
-    let next : IsNext (places_in c.of-frame.result) Listed (plate s.label) (pointer s.header) (pointer c.next_header-next.result) u written =
+    let next : IsNext (places_in c.of-frame.result) (plate s.label) (pointer s.header) (pointer c.next_header-next.result) u written =
     next_from (places_in c.of-frame.result) (plate s.label) (pointer s.header) (pointer c.next_header-next.result) (table_alone s.table) c.args.change (text (table_alone s.table)) c.next_header-next.new.buffer written c.div_ceil-sectors.result
-    (slot_few (layout_number s.label.layout) (places_in c.of-frame.result) c.of-frame.ensures) s.spelled c.requires.allowed
-    (fits_slot s.label.extents (layout_number s.label.layout) (length (text u)) (places_in c.of-frame.result) c.of-frame.ensures c.requires.fits) (ap slot_number c.next_header-next.ensures.slot ∙ c.other.ensures) c.next_header-next.ensures.head front
+    (numbers_after s.label.extents (slot_bytes (places_in c.of-frame.result)) (table_alone s.table) c.args.change s.spelled.table c.requires.allowed (few_extents (layout_number s.label.layout) s.few)
+    (fits_slot s.label.extents (layout_number s.label.layout) (length (text (applied (table_alone s.table) c.args.change))) (places_in c.of-frame.result) c.of-frame.ensures s.few c.requires.fits) (slot_few (layout_number s.label.layout) (places_in c.of-frame.result) c.of-frame.ensures)) s.spelled c.requires.allowed
+    (fits_slot s.label.extents (layout_number s.label.layout) (length (text u)) (places_in c.of-frame.result) c.of-frame.ensures s.few c.requires.fits) (ap slot_number c.next_header-next.ensures.slot ∙ c.other.ensures) c.next_header-next.ensures.head front
     in
     let d = g.D.Disk in
     let group : d.told → IsGroup (d.size s.disk) (d.held s.disk) (plate s.label) (pointer s.header) (table_alone s.table) (text (table_alone s.table)) =
-    λ told. group_from (d.size s.disk) (d.held s.disk) (plate s.label) (pointer s.header) (table_alone s.table) (s.rests told c.requires.usable) s.summed s.spelled
+    λ told. group_from (d.size s.disk) (d.held s.disk) (plate s.label) (pointer s.header) (table_alone s.table) (s.rests told c.requires.usable) (s.summed c.requires.usable) s.spelled
     in
     let step : d.told → IsNextOf (d.size s.disk) (d.held s.disk) (places_in c.of-frame.result) (plate s.label) (pointer s.header) (table_alone s.table) (text (table_alone s.table)) (pointer c.next_header-next.result) u written =
     λ told. next_of (d.size s.disk) (d.held s.disk) (places_in c.of-frame.result) (plate s.label) (pointer s.header) (pointer c.next_header-next.result) (table_alone s.table) u (text (table_alone s.table)) written c.of-frame.ensures (group told) next
@@ -213,19 +233,19 @@ returns-clause-crash g c =
 pub returns-in_default-clause-keeps : goal.returns-in_default-clause-keeps
 returns-in_default-clause-keeps g c = λ told.
     let l = layout_number c.args.self.now.label.layout in
-    c.flip.ensures.keeps told l (current_of l (places_in c.of-frame.result) c.of-frame.ensures)
+    c.flip.ensures.keeps told l c.of-frame.ensures
 
 pub returns-in_default-clause-beside : goal.returns-in_default-clause-beside
 returns-in_default-clause-beside g c = λ told area.
     let l = layout_number c.args.self.now.label.layout in
-    c.flip.ensures.beside told l area (current_of l (places_in c.of-frame.result) c.of-frame.ensures)
+    c.flip.ensures.beside told l area c.of-frame.ensures
 
 pub returns-clause-keeps : goal.returns-clause-keeps
 returns-clause-keeps g c = λ told.
     let l = layout_number c.args.self.now.label.layout in
-    c.flip.ensures.keeps told l (current_of l (places_in c.of-frame.result) c.of-frame.ensures)
+    c.flip.ensures.keeps told l c.of-frame.ensures
 
 pub returns-clause-beside : goal.returns-clause-beside
 returns-clause-beside g c = λ told area.
     let l = layout_number c.args.self.now.label.layout in
-    c.flip.ensures.beside told l area (current_of l (places_in c.of-frame.result) c.of-frame.ensures)
+    c.flip.ensures.beside told l area c.of-frame.ensures

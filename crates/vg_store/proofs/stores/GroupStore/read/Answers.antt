@@ -3,7 +3,7 @@ use Rattle.vg_layout.specs.Fields.{layout_number, plate}
 use Rattle.vg_meta.specs.Roomy.{table_alone}
 use Rattle.sm_disk.proofs.HeldLaws.{Keeps-same}
 use Rattle.vg_store.proofs.BesideLaws.{beside_kept}
-use Rattle.vg_store.proofs.HoldingLaws.{no_more-same, rests_still, stands_still}
+use Rattle.vg_store.proofs.HoldingLaws.{no_more-same, rests_still, stands_still, taken_still}
 use Rattle.vg_store.proofs.StoreLaws.{extents_on_device}
 use Rattle.vg_store.proofs.stores.GroupStore.read.Goals as goal
 
@@ -20,10 +20,14 @@ invariant_of-self g c =
     record {
       few = s.few;
       area = omega (arith, s.area, same);
+      known = s.known;
       room = s.room;
       spelled = s.spelled;
+      fits = s.fits;
+      current = s.current;
       summed = s.summed;
       rests = λ told usable. rests_still same (no_more-same (layout_number s.label.layout) (c.read_volume.ensures.same told)) (s.rests told usable);
+      taken = λ told early. taken_still (table_alone s.table) same s.known early s.room s.fits (no_more-same (layout_number s.label.layout) (c.read_volume.ensures.same told)) (s.taken told early);
       stands = λ told. stands_still (g.D.Disk.held s.disk) (g.D.Disk.held c.read_volume.new.disk) (plate s.label) same (no_more-same (layout_number s.label.layout) (c.read_volume.ensures.same told)) (s.stands told);
     }
 

@@ -3,7 +3,7 @@ use Rattle.vg_layout.specs.Fields.{layout_number, plate}
 use Rattle.vg_layout.specs.Places.{area_place}
 use Rattle.vg_meta.specs.Roomy.{table_alone}
 use Rattle.vg_store.proofs.BesideLaws.{beside_written}
-use Rattle.vg_store.proofs.HoldingLaws.{no_more-front, rests_still, stands_still}
+use Rattle.vg_store.proofs.HoldingLaws.{no_more-front, rests_still, stands_still, taken_still}
 use Rattle.vg_store.proofs.StoreLaws.{extents_on_device}
 use Rattle.vg_store.proofs.stores.GroupStore.write.Goals as goal
 
@@ -20,10 +20,14 @@ invariant_of-self g c =
     record {
       few = s.few;
       area = omega (arith, s.area, same);
+      known = s.known;
       room = s.room;
       spelled = s.spelled;
+      fits = s.fits;
+      current = s.current;
       summed = s.summed;
       rests = λ told usable. rests_still same (no_more-front (c.write_volume.ensures.front told)) (s.rests told usable);
+      taken = λ told early. taken_still (table_alone s.table) same s.known early s.room s.fits (no_more-front (c.write_volume.ensures.front told)) (s.taken told early);
       stands = λ told. stands_still (g.D.Disk.held s.disk) (g.D.Disk.held c.write_volume.new.disk) (plate s.label) same (no_more-front (c.write_volume.ensures.front told)) (s.stands told);
     }
 

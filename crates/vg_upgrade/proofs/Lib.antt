@@ -1,0 +1,3 @@
+pub mod UpgradeLaws
+pub mod StepLaws
+pub mod RestLaws
