@@ -209,7 +209,7 @@ module _ {S : Type 0} {g : Ghosts S} {a b : S} (n : Memory) {k : Bool} {v p : Na
     usable = stays.failed ∙ usable;
     allowed = permits_put;
     room = row;
-    fits = subst (λ y. Fits (g.site a).count y change) (sym stays.table) (fits_put (g.site a) (tab g a) (known n) k v p h);
+    fits = subst₂ (λ (x : Site) y. Fits x.count y change) (sym stays.site) (sym stays.table) (fits_put (g.site a) (tab g a) (known n) k v p h);
   }
 
   module _ {x : S} (c : Commits g (Create (copy_entry k v p) false []) b x) (l : Memory) (is : known l ≡ after (g.site a) (tab g a) (known n) k v p h) where

@@ -1,10 +1,10 @@
 -- The text of a table of few images and of one journal entry at most fits its slot, so that of a table of which memory is
 -- orderly.
-use Rattle.std.proofs.Common.{◌≡◌, suc, ℕ, ◌+◌, ◌*◌, ◌≤◌, Bool, true, false, cond, List, [], ◌∷◌, length, filter, refl, sym, ap, ◌∙◌, subst, arith, length-append}
+use Rattle.std.proofs.Common.{◌≡◌, suc, ℕ, ◌+◌, ◌*◌, ◌≤◌, Bool, true, false, cond, leb, List, [], ◌∷◌, length, filter, refl, sym, ap, ◌∙◌, subst, arith, length-append}
 use Rattle.std.specs.List.{AllByRecursion, flat_map}
 use Rattle.std.specs.List.Sorted.{IsStrictlySortedBy}
 use Rattle.std.specs.declared.cmp.Ordering.TheVariants.{Less}
-use Rattle.std.proofs.lemmas.Bool.{true≢false}
+use Rattle.std.proofs.lemmas.Bool.{leb-true, true≢false}
 use Rattle.sm_base.proofs.KindLaws.{by_kind}
 use Rattle.sm_base.specs.Limits.{extent_limit}
 use Rattle.sm_base.specs.declared.names.Name.{Name}
@@ -22,12 +22,14 @@ use Rattle.vg_meta.specs.Text.{text, volume_text}
 use Rattle.vg_meta.proofs.DecodeLaws.{used-le}
 use Rattle.vg_meta.proofs.NameLaws.{less_other}
 use Rattle.vg_meta.proofs.RowLaws.{IsRising}
-use Rattle.vg_meta.proofs.WriteLaws.{length-text, length-volume_text, length-extents_text}
+use Rattle.vg_meta.proofs.SegmentLaws.{few-segments}
+use Rattle.vg_meta.proofs.SegmentTextLaws.{length-segmented}
+use Rattle.vg_meta.proofs.WriteLaws.{length-text, length-volume_text}
 use Rattle.vg_volumes.specs.Sites.{Site, text_limit}
 use Rattle.sm_ready.specs.Known.{Known, entry_of}
 use Rattle.sm_ready.specs.Orderly.{IsOrderly}
 
-long_volumes : (rs : List Row) → AllByRecursion IsVolume rs → length (flat_map volume_text rs) ≤ 122 * length rs + 4 * length (extents_in rs)
+long_volumes : (rs : List Row) → AllByRecursion IsVolume rs → length (flat_map volume_text rs) ≤ 122 * length rs + 8 * length (extents_in rs)
 long_volumes [] all = omega arith
 long_volumes (r ∷ rs) all =
     omega (
@@ -35,7 +37,8 @@ long_volumes (r ∷ rs) all =
       long_volumes rs all.1,
       length-append (volume_text r) (flat_map volume_text rs),
       length-volume_text r,
-      length-extents_text r.extents,
+      length-segmented r.extents,
+      few-segments r.extents,
       length-spelling-le r.name all.0.name,
       length-append r.extents (extents_in rs),
     )
@@ -80,10 +83,17 @@ one_entry (op.Copy v p cursor) = omega arith
 one_entry (op.Relink v p) = omega arith
 one_entry (op.Leaf l p cursor) = omega arith
 
+-- 12 bytes and 122 for each of 505 volumes, and 8 for each extent
+limit_holds : (count : ℕ) → count ≤ extent_limit → 8 * count + 61622 ≤ text_limit count
+limit_holds count few = (elim (leb count 65536) as (λ b. leb count 65536 ≡ b → 8 * count + 61622 ≤ cond b 1047040 8519680) [
+  | true ↦ λ h. omega (arith, leb-true _ _ h)
+  | false ↦ λ h. omega (arith, few)
+]) refl
+
 -- a table of few images and of few entries
 pub fits_entries : (count : ℕ) (t : VolumeTable) → IsTable count t → count ≤ extent_limit → length (images t) ≤ image_limit → length (names_in t is_entry) ≤ 4 → length (text t) ≤ text_limit count
 fits_entries count t table extents few entries =
-    omega (arith, length-text t, long_volumes t.volumes table.volumes.each, one_other t.volumes table.volumes.rising, entries, few, used-le count t.volumes table.volumes, extents)
+    omega (arith, length-text t, long_volumes t.volumes table.volumes.each, one_other t.volumes table.volumes.rising, entries, few, used-le count t.volumes table.volumes, limit_holds count extents)
 
 -- and of one entry at most
 pub fits_few : (count : ℕ) (t : VolumeTable) → IsTable count t → count ≤ extent_limit → length (images t) ≤ image_limit → length (names_in t is_entry) ≤ 1 → length (text t) ≤ text_limit count

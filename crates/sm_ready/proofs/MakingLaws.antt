@@ -105,7 +105,7 @@ module _ {S : Type 0} {g : Ghosts S} {a : S} {m : Memory} {own : Name} {es : Lis
         usable = stays.failed ∙ c.usable;
         allowed = subst₂ (λ x y. Permits x.count y (Mark own Fresh false)) (sym (stays.site ∙ c.site)) (sym (stays.table ∙ c.table)) (made_is (g.site a) (tab g a) (known m) own es added k r h.begins).allows;
         room = tt;
-        fits = subst (λ y. Fits (g.site a).count y (Mark own Fresh false)) (sym (stays.table ∙ c.table)) (fits_made (g.site a) (tab g a) (known m) own es added k r h.begins);
+        fits = subst₂ (λ x y. Fits x.count y (Mark own Fresh false)) (sym (stays.site ∙ c.site)) (sym (stays.table ∙ c.table)) (fits_made (g.site a) (tab g a) (known m) own es added k r h.begins);
       }
 
       module _ {f : S} (e : Commits g (Mark own Fresh false) d f) where

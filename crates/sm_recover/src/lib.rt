@@ -18,7 +18,7 @@
 //! is that of the table in which nothing is under way (`memory.rt`): of a fork the new images go, and the base, where it is
 //! there, is the disk's image, shown; of a leaf's folding the image that goes on has the leaf's name, shown; of a link the image stands
 //! over its parent still. Then a repository of an earlier version is taken over, which changes neither its table nor its sectors
-//! (`settling.rt`; there is one version today). Then the folding of a leaf is ended (`folding.rt`), a commit each: where the leaf was
+//! (`settling.rt`). Then the folding of a leaf is ended (`folding.rt`), a commit each: where the leaf was
 //! renamed an enlargement of its parent is undone, and the parent takes its name; from then on the image is shown and the old leaf goes; the entry goes last. Then
 //! the entry of a copy goes, and the fork
 //! or the enlargement is undone (`undoing.rt`), a commit each (`steps.rt`): of an enlargement the image's volume is cut to the

@@ -100,7 +100,8 @@ fn count_of(number: u64) -> u32
     number.min(u64::from(u32::MAX)) as u32
 }
 
-/// The first cause of images, sequence numbers and extents, for a command whose size is not bad.
+/// The first cause of images, sequence numbers and extents, for a command whose size is not bad. Free extents are counted only
+/// where the command needs some.
 fn refuse_by_room(
     table: &Table,
     memory: &Memory,
@@ -125,6 +126,9 @@ fn refuse_by_room(
         return Some(Refusal::SequenceSpent);
     }
     let need = need(memory, geometry, command);
+    if need == 0 {
+        return None;
+    }
     let free = free(table, extents);
     if u64::from(free) < need {
         return Some(Refusal::NoSpace {

@@ -19,6 +19,7 @@ use Rattle.sm_base.specs.declared.names.Name.TheVariants.{Mgt, Vhd, Raw, Old, Cl
 use Rattle.sm_base.specs.declared.faults.OpenFault.TheVariants.{NotARepository, Unsupported, Damaged}
 use Rattle.sm_base.specs.declared.faults.Place.TheVariants.{Label}
 use Rattle.sm_disk.specs.Sectors.{zeros}
+use Rattle.vg_layout.proofs.StandingLaws.{plate_right}
 use Rattle.vg_layout.specs.Opening.{GroupFound, is_label_right, plate_of}
 use Rattle.vg_layout.specs.Places.{area_place, label_place}
 use Rattle.vg_layout.specs.Sectors.{Plate, is_geometry, label_cookie, label_sector, number_at, plate_in, version_in}
@@ -236,42 +237,27 @@ long-uuid count t table u n stands =
 
 -- the sizes of a label that is right are in their ranges
 plate-geometry : (size : ℕ) (m : ℕ → List ℕ) (p : Plate) → plate_of size m ≡ Ok p → IsGeometry p.extent p.block p.entries
-unfolding plate_of is_label_right is_geometry
+unfolding is_geometry
 plate-geometry size m p e =
-    go (nat_lt size 2) (not (bytes_eq (take 8 (m label_place)) label_cookie)) (not (number_at 8 (m label_place) == 1)) (is_label_right size (m label_place)) refl e
-  where
-    go : (a b c d : Bool) → is_label_right size (m label_place) ≡ d
-        → cond a (Err NotARepository) (cond b (Err NotARepository) (cond c (Err (Unsupported (number_at 8 (m label_place)))) (cond d (Ok (plate_in (m label_place))) (Err (Damaged Label))))) ≡ Ok p
-        → IsGeometry p.extent p.block p.entries
-    go true b c d r x = absurd cc
-    go false true c d r x = absurd cc
-    go false false true d r x = absurd cc
-    go false false false false r x = absurd cc
-    go false false false true r x =
-        let q = plate_in (m label_place) in
-        let same : q ≡ p = cc in
-        let right = and_parts (bytes_eq (m label_place) (label_sector (version_in (m label_place)) q)) _ r in
-        let layouts = and_parts (nat_lt q.layout (version_in (m label_place))) _ right.1 in
-        let sizes = (and_parts (is_geometry q.extent q.block q.entries) _ layouts.1).0 in
-        let p1 = and_parts (is_power_of_two q.extent) _ sizes in
-        let p2 = and_parts (nat_le 32 q.extent) _ p1.1 in
-        let p3 = and_parts (nat_le q.extent 8192) _ p2.1 in
-        let p4 = and_parts (is_power_of_two q.block) _ p3.1 in
-        let p5 = and_parts (nat_le 8 q.block) _ p4.1 in
-        let p6 = and_parts (nat_le q.block 4096) _ p5.1 in
-        let p7 = and_parts (nat_le q.block q.extent) _ p6.1 in
-        let p8 = and_parts (nat_le 1 q.entries) (nat_le q.entries 1044480) p7.1 in
-        subst (λ (k : Plate). IsGeometry k.extent k.block k.entries) same (record {
-          extent_power = p1.0;
-          extent_least = leb-true 32 q.extent p2.0;
-          extent_most = leb-true q.extent 8192 p3.0;
-          block_power = p4.0;
-          block_least = leb-true 8 q.block p5.0;
-          block_most = leb-true q.block 4096 p6.0;
-          within = leb-true q.block q.extent p7.0;
-          entries_least = leb-true 1 q.entries p8.0;
-          entries_most = leb-true q.entries 1044480 p8.1;
-        })
+    let p1 = and_parts (is_power_of_two p.extent) _ (plate_right size m p e).sizes in
+    let p2 = and_parts (nat_le 32 p.extent) _ p1.1 in
+    let p3 = and_parts (nat_le p.extent 8192) _ p2.1 in
+    let p4 = and_parts (is_power_of_two p.block) _ p3.1 in
+    let p5 = and_parts (nat_le 8 p.block) _ p4.1 in
+    let p6 = and_parts (nat_le p.block 4096) _ p5.1 in
+    let p7 = and_parts (nat_le p.block p.extent) _ p6.1 in
+    let p8 = and_parts (nat_le 1 p.entries) (nat_le p.entries 1044480) p7.1 in
+    record {
+      extent_power = p1.0;
+      extent_least = leb-true 32 p.extent p2.0;
+      extent_most = leb-true p.extent 8192 p3.0;
+      block_power = p4.0;
+      block_least = leb-true 8 p.block p5.0;
+      block_most = leb-true p.block 4096 p6.0;
+      within = leb-true p.block p.extent p7.0;
+      entries_least = leb-true 1 p.entries p8.0;
+      entries_most = leb-true p.entries 1044480 p8.1;
+    }
 
 module _ (size : ℕ) (image : ℕ → List ℕ) (g : GroupFound) (s : IsSoundImage size image g) where
   abbrev c : Content

@@ -1,5 +1,6 @@
 use Rattle.std.proofs.Common.{◌*◌, ◌≤◌, true, Err, refl, sym, ap, ap₂, ◌∙◌, subst, arith}
 use Rattle.std.proofs.Math.Nat.{mul-le-mul}
+use Rattle.sm_base.specs.Limits.{extent_limit}
 use Rattle.sm_base.specs.declared.sizes.Geometry.{Geometry}
 use Rattle.vg_meta.specs.Changes.{AreFree}
 use Rattle.vg_meta.specs.Roomy.{table_alone}
@@ -36,7 +37,7 @@ pub overflow_mul-result-in-Ok-make_raw : goal.overflow_mul-result-in-Ok-make_raw
 overflow_mul-result-in-Ok-make_raw g c =
     let need = c.extents_needed-need.ensures.extents ∙ ap (λ (h : Geometry). extents_for h.extent c.args.size) c.geometry-geometry.ensures in
     let most = enough (g.S.Store.site c.args.store.now) _ _ _ c.args.label.now c.args.size c.requires.session.orderly c.requires.session.tidy c.requires.allowed in
-    let many : c.extents_needed-need.result ≤ 65536 = omega (arith, need, most) in
+    let many : c.extents_needed-need.result ≤ extent_limit = omega (arith, need, most) in
     let wide : c.from.result ≤ 8192 = omega (arith, c.from.ensures, c.geometry-geometry.result.in_range.extent_most) in
     omega (arith, mul-le-mul many wide)
 

@@ -1,5 +1,6 @@
 use Rattle.std.proofs.Common.{◌≡◌, ◌*◌, ◌<◌, ◌≤◌, true, false, length, refl, sym, ap, ap₂, ◌∙◌, arith, subst}
 use Rattle.std.proofs.Math.Nat.{mul-le-mul}
+use Rattle.sm_base.specs.Limits.{extent_limit}
 use Rattle.sm_base.specs.declared.names.Name.TheVariants.{Raw}
 use Rattle.sm_base.specs.declared.sizes.Geometry.{Geometry}
 use Rattle.sm_disk.proofs.HeldLaws.{Keeps-none}
@@ -30,7 +31,7 @@ overflow_cast-count g c =
 pub overflow_mul-sectors : goal.overflow_mul-sectors
 overflow_mul-sectors g c =
     let r = c.requires in
-    let most : c.from.result ≤ 65536 = omega (arith, c.from.ensures, c.len-count.ensures, enough (g.S.Store.site c.args.store.now) (table_alone (g.S.Store.table c.args.store.now)) (known c.args.memory.now) c.args.entry.uuid c.args.entry.label r.disk.size r.session.orderly r.session.tidy r.disk.accepted, r.disk.many, c.args.extents.ok.0) in
+    let most : c.from.result ≤ extent_limit = omega (arith, c.from.ensures, c.len-count.ensures, enough (g.S.Store.site c.args.store.now) (table_alone (g.S.Store.table c.args.store.now)) (known c.args.memory.now) c.args.entry.uuid c.args.entry.label r.disk.size r.session.orderly r.session.tidy r.disk.accepted, r.disk.many, c.args.extents.ok.0) in
     let wide : c.from-2.result ≤ 8192 = omega (arith, c.from-2.ensures, c.geometry.result.in_range.extent_most) in
     omega (arith, mul-le-mul most wide)
 

@@ -1,6 +1,8 @@
 use Rattle.std.proofs.Common.{ap, refl, sym, ⊎_elim, ◌∙◌, subst}
 use Rattle.sm_disk.proofs.HeldLaws.{Keeps-none, Keeps-then}
 use Rattle.vg_meta.specs.Roomy.{table_alone}
+use Rattle.vg_meta.specs.declared.changes.Change.TheVariants.{Remove}
+use Rattle.vg_volumes.specs.Sites.{Fits, Site}
 use Rattle.vg_volumes.specs.Stored.{stored}
 use Rattle.sm_recover.specs.Repairs.{IsChecked}
 use Rattle.sm_ready.proofs.AgainLaws.{again_none, again_then, again_less, orderly_less, stop_then, stop_now, stop_less}
@@ -14,7 +16,9 @@ pub commit-requires-clause-allowed : goal.commit-requires-clause-allowed
 commit-requires-clause-allowed g c = may_remove c.loop-name.invariant.checked.table (new_at c.in-Some.name c.table.ensures.table c.in-Some.ensures.some)
 
 pub commit-requires-clause-fits : goal.commit-requires-clause-fits
-commit-requires-clause-fits g c = text_fits (checked_one c.in-Some.name c.loop-name.invariant.checked (new_at c.in-Some.name c.table.ensures.table c.in-Some.ensures.some))
+commit-requires-clause-fits g c =
+    subst (λ (s : Site). Fits s.count (table_alone (g.S.Store.table c.loop-name.store)) (Remove c.in-Some.name)) (sym c.loop-name.invariant.site)
+    (text_fits (checked_one c.in-Some.name c.loop-name.invariant.checked (new_at c.in-Some.name c.table.ensures.table c.in-Some.ensures.some)))
 
 pub loop-name-smaller : goal.loop-name-smaller
 loop-name-smaller g c = removed_shorter _ _ c.in-Some.name (new_at c.in-Some.name c.table.ensures.table c.in-Some.ensures.some) c.in_ok-commit.ensures.changed.0

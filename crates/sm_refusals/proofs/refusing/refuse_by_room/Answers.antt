@@ -28,6 +28,14 @@ returns-then-is_too_many c = λ s same o tidy good.
 pub returns-then-is_spent : goal.returns-then-is_spent
 returns-then-is_spent c = λ s same o tidy good. passed_by _ _ _ _ (sym (c.is_deep.ensures s _ o tidy) ∙ c.if-is_deep.false) (passed_by _ _ _ _ (sym (c.is_too_many.ensures s _ o tidy) ∙ c.if-is_too_many.false) (caught _ _ _ (sym (c.is_spent.ensures s _) ∙ c.if-is_spent.true)))
 
+pub returns-then-need-eq0 : goal.returns-then-need-eq0
+unfolding lacks_space
+returns-then-need-eq0 c = λ s same o tidy good.
+    let t = table_alone c.args.table.now in
+    let m = known c.args.memory.now in
+    let needed = c.need-need.ensures s t same.same_sizes o tidy good in
+    passed_by _ _ _ _ (sym (c.is_deep.ensures s _ o tidy) ∙ c.if-is_deep.false) (passed_by _ _ _ _ (sym (c.is_too_many.ensures s _ o tidy) ∙ c.if-is_too_many.false) (passed_by _ _ _ _ (sym (c.is_spent.ensures s _) ∙ c.if-is_spent.false) (passed_by _ _ _ _ (le-ltb (free (shape_in s t m)) (need (shape_in s t m) c.args.command.now) (omega (arith, needed, c.if-need-eq0.true))) refl)))
+
 pub returns-then-from-need : goal.returns-then-from-need
 unfolding lacks_space
 returns-then-from-need c = λ s same o tidy good.
