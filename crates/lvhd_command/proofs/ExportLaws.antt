@@ -45,12 +45,12 @@ use Rattle.lvhd_command.specs.declared.statuses.Status.{Status}
 use Rattle.lvhd_command.specs.declared.statuses.Status.TheVariants.{Done, Words, Device, Source, Sink, Refused, Memory, TooLong, Denied}
 use Rattle.lvhd_command.specs.declared.words.Form.TheVariants.{Export}
 use Rattle.lvhd_command.specs.declared.words.Wanted.{Wanted}
-use Rattle.lvhd_command.specs.Devices.{IsKeptDevice, IsOpenedOn, IsSoundOn, plate_at}
-use Rattle.lvhd_command.specs.Exporting.{ContentSaid, ContentSent, ExportDid, ExportSaid, IsContentFile, IsFileOf, IsAsOpened, IsNotOpened, IsUnknown, LacksDisk, StandsAs, StandsOpened, export_status, unknown_line}
+use Rattle.lvhd_command.specs.Devices.{IsKeptDevice, IsOneTable, IsOpenedOn, IsSoundOn, StandsAlways, plate_at}
+use Rattle.lvhd_command.specs.Exporting.{ContentSaid, ContentSent, ExportSent, ExportSaid, IsContentFile, IsFileOf, IsAsOpened, IsNotOpened, IsUnknown, LacksDisk, StandsAs, StandsOpened, export_status, unknown_line}
 use Rattle.lvhd_command.specs.Running.{HasSaid, HasStayed, HasTold, IsGivenBack, RunSides, ToldOf}
 use Rattle.lvhd_command.proofs.ExactLaws.{sound_or_refused}
-use Rattle.lvhd_command.proofs.OpenLaws.{StandsAlways, content_once, kept_device, kept_sound, shown_device}
-use Rattle.lvhd_command.proofs.RunLaws.{IsOneTable, IsStateWith, fewer_after, reads_as}
+use Rattle.lvhd_command.proofs.OpenLaws.{content_once, kept_device, kept_sound, shown_device}
+use Rattle.lvhd_command.proofs.RunLaws.{IsStateWith, fewer_after, reads_as}
 
 -- ---- the disk of a UUID, by what is in memory
 
@@ -164,7 +164,7 @@ shown_once size image ds es a b = b.shown ∙ ap disks (content_once size image 
 pub unknown_of : (s : RunSides) (c : Content) (u : List ℕ) → Shows s.size (reads s.old) (disks c) → LacksDisk c u → IsUnknown s u
 unknown_of s c u shown lacks = λ ds there d i named. lacks d (subst (In d) (shown_once s.size (reads s.old) (disks c) ds shown there) i) named
 
-pub did_of : (s : RunSides) (c : Content) (u : List ℕ) (now : ℕ) (status : Status) → HoldsContent s c → now < 2 ^ 32 → ContentSent c u now s.had_got s.got status → ExportDid s u now status
+pub did_of : (s : RunSides) (c : Content) (u : List ℕ) (now : ℕ) (status : Status) → HoldsContent s c → now < 2 ^ 32 → ContentSent c u now s.had_got s.got status → ExportSent s u now status
 did_of s c u now Done h early sent = (sent.0, file_of s c u now sent.0 h early sent.1, sent.2)
 did_of s c u now Sink h early sent = (sent.0, ⊎_elim (λ file. inl (file_of s c u now sent.0 h early file)) (λ none. inr (unknown_of s c u h.shown none.0, none.1)) sent.1, sent.2)
 did_of s c u now Device h early sent = inr (sent.0, file_of s c u now sent.0 h early sent.1, sent.2)
@@ -209,7 +209,7 @@ few_told (opening.Unsupported v) had got before now status h = few_line (opening
 few_told (opening.Damaged p) had got before now status h = few_line (opening.Damaged p) had got before now status h.1
 
 -- a device on which all checks pass failed, or memory was wanting: nothing was sent
-pub did_refused : (s : RunSides) (u : List ℕ) (now : ℕ) (status : Status) → IsSoundOn s.size (reads s.old) → HasSaid s status → ExportDid s u now status
+pub did_refused : (s : RunSides) (u : List ℕ) (now : ℕ) (status : Status) → IsSoundOn s.size (reads s.old) → HasSaid s status → ExportSent s u now status
 did_refused s u now Done sound said = absurd said
 did_refused s u now Words sound said = absurd said
 did_refused s u now Device sound said = inl said
@@ -269,7 +269,7 @@ closed_said size old new (opening.Damaged place) had got before now status told 
 -- ---- the whole
 
 -- where no call failed, the disk that a read shows was sent, or memory was wanting
-pub export_completes : (s : RunSides) (u : List ℕ) (now : ℕ) (ds : List Disk) (d : Disk) (status : Status) → ExportDid s u now status → Shows s.size (reads s.old) ds → In d ds → d.uuid ≡ u
+pub export_completes : (s : RunSides) (u : List ℕ) (now : ℕ) (ds : List Disk) (d : Disk) (status : Status) → ExportSent s u now status → Shows s.size (reads s.old) ds → In d ds → d.uuid ≡ u
     → (status ≡ Device → ⊥) → (status ≡ Sink → ⊥) → (status ≡ Done) ⊎ (status ≡ Memory)
 export_completes s u now ds d Done did shown i named device sink = inl refl
 export_completes s u now ds d Memory did shown i named device sink = inr refl
@@ -282,7 +282,7 @@ export_completes s u now ds d Source did shown i named device sink = absurd did
 export_completes s u now ds d TooLong did shown i named device sink = absurd did
 
 -- and where no disk has the UUID this was said, or memory was wanting
-pub export_denies : (s : RunSides) (u : List ℕ) (now : ℕ) (status : Status) → ExportDid s u now status → IsUnknown s u → (status ≡ Device → ⊥) → (status ≡ Sink → ⊥) → (status ≡ Denied) ⊎ (status ≡ Memory)
+pub export_denies : (s : RunSides) (u : List ℕ) (now : ℕ) (status : Status) → ExportSent s u now status → IsUnknown s u → (status ≡ Device → ⊥) → (status ≡ Sink → ⊥) → (status ≡ Denied) ⊎ (status ≡ Memory)
 export_denies s u now Denied did unknown device sink = inl refl
 export_denies s u now Memory did unknown device sink = inr refl
 export_denies s u now Done did unknown device sink = let f = did.1 in absurd (unknown (disks f.content) f.shown f.file.disk f.file.there f.file.named)

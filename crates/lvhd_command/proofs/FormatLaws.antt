@@ -7,9 +7,8 @@ use Rattle.sm_base.specs.declared.sizes.Geometry.{Geometry}
 use Rattle.sm_disk.specs.Held.{Held, Keeps}
 use Rattle.sm_disk.specs.Streams.{Adds}
 use Rattle.sm_script.specs.Pieces.{Writes}
-use Rattle.vg_layout.specs.Places.{extents_on, new_layout, record_extents}
-use Rattle.vg_store.specs.Formats.{least_size}
-use Rattle.vg_store.specs.Groups.{beside_of}
+use Rattle.vg_layout.specs.Places.{new_extents, record_extents}
+use Rattle.vg_store.specs.Formats.{beside_new, least_size}
 use Rattle.lvhd_command.specs.declared.statuses.Status.{Status}
 use Rattle.lvhd_command.specs.declared.statuses.Status.TheVariants.{Done, Refused, Sink}
 use Rattle.lvhd_command.specs.declared.words.Form.TheVariants.{Format}
@@ -38,7 +37,7 @@ said_too_small s a g sectors p to w said same sizes small is =
 
 pub said_formatted : (s : Sides) (a : Asked) (g : Geometry) (extents free : ℕ) (p : Result ⊤ Failed) (to : Status)
     → Writes (line_of (formatted_words extents free)) s.had s.got s.sink_faults s.sink_faults_now p → to ≡ cond (is_err p) Sink Done
-    → HasFormatted s a g → extents ≡ extents_on new_layout s.size g.extent → free + record_extents g.extent ≡ extents → FormatDid s a to
+    → HasFormatted s a g → extents ≡ new_extents s.size g.extent → free + record_extents g.extent ≡ extents → FormatDid s a to
 said_formatted s a g extents free p to w said has is rest =
     let line : IsFormattedLine s g (line_of (formatted_words extents free)) = record { free = free; rest = rest ∙ is; text = ap (λ n. line_of (formatted_words n free)) is } in
     said_line s a (line_of (formatted_words extents free)) p Done to w said (λ adds. (g, has, (line_of (formatted_words extents free), line, adds))) (of_success g has line)
@@ -60,10 +59,10 @@ cannot_as size a b same cannot = subst (λ (r : Request). CannotFormat size (ask
 
 -- the sizes are those of one geometry alone
 pub beside_sizes : (size : ℕ) (a : Asked) (g : Geometry) (old new : Held) → HasSizes a g
-    → Keeps (beside_of new_layout (extents_on new_layout size g.extent * g.extent) old) (beside_of new_layout (extents_on new_layout size g.extent * g.extent) new) → KeepsBesideNew size a old new
+    → Keeps (beside_new size g.extent old) (beside_new size g.extent new) → KeepsBesideNew size a old new
 beside_sizes size a g old new sizes k = λ h other.
     let same : g.extent ≡ h.extent = omega (arith, sizes.extent, other.extent) in
-    subst (λ n. Keeps (beside_of new_layout (extents_on new_layout size n * n) old) (beside_of new_layout (extents_on new_layout size n * n) new)) same k
+    subst (λ n. Keeps (beside_new size n old) (beside_new size n new)) same k
 
 -- a line that went out failed no call
 pub said_calm : (line : List ℕ) (had got : Option (List ℕ)) (before now : ℕ) (p : Result ⊤ Failed) (status to : Status) → Writes line had got before now p

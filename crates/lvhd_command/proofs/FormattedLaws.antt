@@ -20,7 +20,7 @@ use Rattle.sm_record.specs.Records.{reading}
 use Rattle.sm_record.specs.declared.records.Reading.TheVariants.{Free}
 use Rattle.sm_record.proofs.RoundTrips.{reading_zeros}
 use Rattle.vg_meta.specs.Tables.{IsTable, VolumeTable, Row, row_of, name_eq, new_table}
-use Rattle.vg_layout.specs.Places.{area_place, extents_on, label_place, new_layout, record_extents}
+use Rattle.vg_layout.specs.Places.{area_place, best_layout, label_place, new_extents, record_extents}
 use Rattle.vg_layout.specs.Sectors.{Plate, Pointer}
 use Rattle.vg_layout.specs.Opening.{GroupFound, StandsOn, text_in}
 use Rattle.vg_layout.proofs.ImageLaws.{plate_apart, plate_area, plate_few, plate_same, pointer_front, spells_same, stands_from, stands_once, text_front}
@@ -159,7 +159,7 @@ new_within count (suc n) t =
     omega (arith, range_within 0 n count below)
 
 -- so the records are on the device
-formatted_room : (size : ℕ) (image : ℕ → List ℕ) (g : Geometry) (repository : List ℕ) → IsFormatted size image g repository → area_place new_layout + 512 ≤ size
+formatted_room : (size : ℕ) (image : ℕ → List ℕ) (g : Geometry) (repository : List ℕ) → IsFormatted size image g repository → area_place (best_layout size g.extent) + 512 ≤ size
 formatted_room size image g repository f =
     let p : Plate = (new_group size g repository).plate in
     let area = plate_area size image p f.stands.labelled in
@@ -172,16 +172,17 @@ formatted_same : (size : ℕ) (image other : ℕ → List ℕ) (g : Geometry) (r
 formatted_same size image other g repository f same =
     let s : GroupFound = new_group size g repository in
     let room = formatted_room size image g repository f in
-    let front = λ (q : ℕ) (below : q < area_place new_layout). same q (omega (arith, room, below)) in
+    let from = area_place s.plate.layout in
+    let front = λ (q : ℕ) (below : q < from). same q (omega (arith, room, below)) in
     let apart = plate_apart size image s.plate f.stands.labelled in
     let label = front label_place (omega (arith, apart.front.0)) in
     record {
       stands = stands_from size other s.plate s.pointer s.table (text_in image s.pointer)
           (plate_same size image other label ∙ f.stands.labelled)
-          (pointer_front (area_place new_layout) image other apart front ∙ f.stands.headed)
-          (text_front (area_place new_layout) image other s.pointer apart f.stands.headed front) f.stands.summed
+          (pointer_front from image other apart front ∙ f.stands.headed)
+          (text_front from image other s.pointer apart f.stands.headed front) f.stands.summed
           (spells_same image other s.plate.count (text_in image s.pointer) s.table label f.stands.spelled);
-      records = λ q below. same (area_place new_layout + q) (omega (arith, room, below)) ∙ f.records q below;
+      records = λ q below. same (from + q) (omega (arith, room, below)) ∙ f.records q below;
     }
 
 pub formatted_allowed : (size : ℕ) (h : Held) (g : Geometry) (repository : List ℕ) → IsFormatted size h.floor g repository → IsSettled h
@@ -234,7 +235,7 @@ opened_at p t image = opened (record { extent = p.extent; block = p.block; entri
 
 -- a device that was formatted: no disks, and that shape
 pub formatted_start : (size : ℕ) (image : ℕ → List ℕ) (g : Geometry) (repository : List ℕ) (ds : List Disk) (shape : Shape) → IsFormatted size image g repository → Shows size image ds → IsOpenedOn size image shape
-    → (ds ≡ []) × (shape ≡ new_shape g.extent g.block g.entries (extents_on new_layout size g.extent) (record_extents g.extent))
+    → (ds ≡ []) × (shape ≡ new_shape g.extent g.block g.entries (new_extents size g.extent) (record_extents g.extent))
 unfolding opened_at
 formatted_start size image g repository ds shape f shown o =
     let s : GroupFound = new_group size g repository in

@@ -6,9 +6,11 @@ use Rattle.sm_base.specs.declared.faults.OpenFault.TheVariants as fault
 use Rattle.sm_disk.specs.Held.{Held, Allows, Keeps, reads}
 use Rattle.sm_disk.proofs.HeldLaws.{Allows-keeps, Allows-reads}
 use Rattle.sm_machine.specs.Disks.{Disk}
+use Rattle.vg_layout.specs.Fields.{layout_number}
 use Rattle.vg_layout.specs.Places.{area_place}
 use Rattle.vg_layout.specs.Sectors.{Plate, Pointer}
 use Rattle.vg_layout.specs.Opening.{GroupFound, StandsOn, plate_of}
+use Rattle.vg_layout.specs.declared.labels.GroupLabel.{GroupLabel}
 use Rattle.vg_layout.proofs.StandingLaws.{stands_once, plate_few}
 use Rattle.vg_meta.specs.Tables.{VolumeTable}
 use Rattle.vg_store.specs.Groups.{GroupStands, LeavesGroup, area_of}
@@ -26,7 +28,7 @@ use Rattle.sm_standing.specs.Keeping.{HoldsWell, IsKept}
 use Rattle.sm_standing.specs.Opened.{opened}
 use Rattle.sm_machine.specs.Shapes.{Shape}
 use Rattle.sm_standing.specs.Standing.{disks}
-use Rattle.lvhd_command.specs.Devices.{HoldsWellOn, IsKeptDevice, MayShowOn, IsSoundOn, IsRefusedOn, IsOpenedOn, plate_at}
+use Rattle.lvhd_command.specs.Devices.{HoldsWellOn, IsKeptDevice, MayShowOn, IsSoundOn, IsRefusedOn, IsOpenedOn, StandsAlways, plate_at}
 use Rattle.lvhd_command.specs.Devices.IsRefusedOn.{by_content}
 use Rattle.lvhd_command.specs.Running.{IsLeftBefore, ShowsNothingNew}
 
@@ -35,6 +37,10 @@ use Rattle.lvhd_command.specs.Running.{IsLeftBefore, ShowsNothingNew}
 -- the sectors of the extents of an image, by a layout
 abbrev pub extents_in : ℕ → (ℕ → List ℕ) → ℕ → List ℕ
 extents_in layout image q = image (area_place layout + q)
+
+-- what never changes of the group with this label on a device of so many sectors
+abbrev pub site_on : GroupLabel → ℕ → Site
+site_on l size = record { geometry = l.geometry; count = l.extents; layout = layout_number l.layout; identity = l.repository; sectors = size }
 
 -- the sizes and the number of a site, with this pointer and table
 abbrev pub standing : Site → Pointer → VolumeTable → GroupFound
@@ -60,10 +66,6 @@ pub shown_standing : (size : ℕ) (m : ℕ → List ℕ) (site : Site) (at : Poi
 shown_standing size m site at t ds stands s = s.shown ∙ ap disks (content_once size m (standing site at t) s.group stands s.stands)
 
 -- ---- what a stop of the device leaves, by what its group leaves
-
--- a group stands on each image that the device allows
-abbrev pub StandsAlways : ℕ → Held → Site → Type 0
-StandsAlways size h site = (image : ℕ → List ℕ) → Allows size h image → GroupStands size image (plate_at site)
 
 pub left_of : (size : ℕ) (h : Held) (site : Site) (image : ℕ → List ℕ) → Allows size h image → (s : GroupStands size image (plate_at site)) → LeavesGroup size h (plate_at site) s.table (extents_in site.layout image)
 left_of size h site image allowed s = record { whole = image; allowed = allowed; pointer = s.pointer; stands = s.stands; sectors = λ q. refl }

@@ -35,11 +35,11 @@ use Rattle.sm_standing.specs.Shapes.{IsStateOf}
 use Rattle.sm_standing.specs.Standing.{disks}
 use Rattle.lvhd_command.specs.declared.statuses.Status.{Status}
 use Rattle.lvhd_command.specs.declared.statuses.Status.TheVariants.{Done, Words, Device, Source, Sink, Refused, Memory, TooLong, Denied}
-use Rattle.lvhd_command.specs.Devices.{IsOpenedOn, IsSoundOn, IsRefusedOn, plate_at}
+use Rattle.lvhd_command.specs.Devices.{IsOneTable, IsOpenedOn, IsSoundOn, IsRefusedOn, StandsAlways, plate_at}
 use Rattle.lvhd_command.specs.Exporting.{StandsAs}
 use Rattle.lvhd_command.specs.Running.{RunSides, HasRunOn, HasStayed, ReadsAsState, EndsAs, ShowsOnly, IsGivenBack, ToldOf, HasTold, HasSaid, status_of}
 use Rattle.lvhd_command.specs.Texts.{line_of, fault_words}
-use Rattle.lvhd_command.proofs.OpenLaws.{standing, extents_in, StandsAlways, kept_device, shown_device, shown_standing}
+use Rattle.lvhd_command.proofs.OpenLaws.{standing, extents_in, kept_device, shown_device, shown_standing}
 
 -- ---- a run's facts, with other words for what a stop leaves
 
@@ -71,10 +71,6 @@ pub record IsStateWith (site : Site) (t : VolumeTable) (area : Held) (σ : State
 pub session_state : (site : Site) (t : VolumeTable) (area : Held) (m : Known) → IsOrderly site t m → IsTidy t m → IsReady site t area m → IsStateWith site t area (state_in site t area m)
 unfolding shape_in
 session_state site t area m o tidy ready = record { state = law_state site t area m o tidy ready; entries = o.entries }
-
--- a session's table is the only one that a stop leaves
-abbrev pub IsOneTable : ℕ → Site → Held → VolumeTable → Type 0
-IsOneTable size site after t = (u : VolumeTable) (image : ℕ → List ℕ) → LeavesGroup size after (plate_at site) u image → u ≡ t
 
 -- what stands on a device that was given back, as a read gives it: the session's content, with its table
 pub record StandsBack (size : ℕ) (site : Site) (held after : Held) (t : VolumeTable) : Type 0 where

@@ -33,7 +33,7 @@ use Rattle.lvhd_command.specs.declared.statuses.Status.TheVariants.{Done, Words,
 use Rattle.lvhd_command.specs.declared.words.Form.TheVariants.{Trial}
 use Rattle.lvhd_command.specs.Devices.{IsKeptDevice, IsOpenedOn, IsRefusedOn, IsSoundOn}
 use Rattle.lvhd_command.specs.Formatting.{HasSizes, Sides}
-use Rattle.vg_layout.specs.Places.{area_place, extents_on, new_layout}
+use Rattle.vg_layout.specs.Places.{area_place, best_layout, new_extents}
 use Rattle.vg_layout.specs.Sectors.{Plate}
 use Rattle.vg_store.specs.Formats.{new_group}
 use Rattle.lvhd_command.specs.Running.{HasTold}
@@ -110,7 +110,7 @@ start_is size image g repository σ f sizes shown o =
     let extent : g.extent ≡ 32 = omega (arith, sizes.extent) in
     let block : g.block ≡ 8 = omega (arith, sizes.block) in
     ap₂ (λ (ds : List Disk) (x : Shape). record { disks = ds; shape = x }) s.0
-    (s.1 ∙ (ap₂ (λ e b. new_shape e b g.entries (extents_on new_layout size e) (record_extents e)) extent block ∙ ap (λ n. new_shape 32 8 n (extents_on new_layout size 32) (record_extents 32)) sizes.entries))
+    (s.1 ∙ (ap₂ (λ e b. new_shape e b g.entries (new_extents size e) (record_extents e)) extent block ∙ ap (λ n. new_shape 32 8 n (new_extents size 32) (record_extents 32)) sizes.entries))
 
 -- of the lines on an open repository
 pub trial_did : (s : Sides) (number : ℕ) (start : State) (status : Status) → start ≡ trial_start s.size → SessionTried s.size s.new s.had s.got start number status → TrialDid s number status
@@ -186,7 +186,7 @@ said_not_done (Ok u) status is done = (let x = sym is ∙ done in cc)
 said_not_done (Err e) status is done = (let x = sym is ∙ done in cc)
 
 mk : ℕ → ℕ → ℕ → ℕ → List ℕ → Plate
-mk size e b n u = record { extent = e; block = b; entries = n; count = extents_on new_layout size e; layout = new_layout; identity = u }
+mk size e b n u = record { extent = e; block = b; entries = n; count = new_extents size e; layout = best_layout size e; identity = u }
 
 pub same_plate : (size : ℕ) (a b : Geometry) (u w : List ℕ) → HasSizes trial_asked a → HasSizes trial_asked b → u ≡ w → (new_group size a u).plate ≡ (new_group size b w).plate
 unfolding mk

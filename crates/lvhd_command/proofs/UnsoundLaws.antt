@@ -11,17 +11,13 @@ use Rattle.vg_layout.specs.Sectors.{Plate, Pointer}
 use Rattle.vg_meta.specs.Tables.{VolumeTable}
 use Rattle.vg_store.specs.Groups.{area_of, beside_of}
 use Rattle.vg_store.proofs.BesideLaws.{beside_kept}
-use Rattle.vg_volumes.specs.Sites.{Site, area_size}
-use Rattle.lvhd_command.specs.Devices.{IsRefusedOn, plate_at}
+use Rattle.vg_volumes.specs.Sites.{Site}
+use Rattle.lvhd_command.specs.Devices.{IsRefusedOn, beside_at, plate_at}
 use Rattle.lvhd_command.specs.Running.{KeepsBeside}
 use Rattle.lvhd_command.proofs.ExactLaws.{sound_or_refused}
 use Rattle.lvhd_command.proofs.OpenLaws.{standing, plate_once, sound_entry}
 
 -- ---- what stands beside the group that stood at the entry
-
--- what is held beside the group of a site
-abbrev pub beside_at : Site → Held → Held
-beside_at s h = beside_of s.layout (area_size s) h
 
 -- what was kept of the whole device was kept beside it
 pub beside_whole : (size : ℕ) (old new : Held) → Keeps old new → KeepsBeside size old new

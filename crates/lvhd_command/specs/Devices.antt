@@ -1,18 +1,15 @@
 -- What a stop of a device may show, and when a device is kept: whatever it leaves opens again (this project's format).
-use Rattle.std.specs.Prelude.{◌≡◌, ℕ, Bool, List, None, Some}
+use Rattle.std.specs.Prelude.{◌≡◌, ℕ, List, None, Some}
 use Rattle.sm_base.specs.declared.faults.OpenFault.{OpenFault}
 use Rattle.sm_base.specs.declared.faults.OpenFault.TheVariants.{Damaged}
 use Rattle.sm_base.specs.declared.faults.Place.{Place}
 use Rattle.sm_disk.specs.Held.{Held, Allows}
 use Rattle.sm_machine.specs.Disks.{Disk}
 use Rattle.vg_layout.specs.Opening.{GroupFound, StandsOn, IsRefused}
-use Rattle.vg_layout.specs.Fields.{layout_number}
 use Rattle.vg_layout.specs.Sectors.{Plate}
-use Rattle.vg_layout.specs.declared.labels.GroupLabel.{GroupLabel}
 use Rattle.vg_meta.specs.Tables.{VolumeTable}
-use Rattle.vg_store.specs.Groups.{LeavesGroup, area_of}
-use Rattle.vg_volumes.specs.Sites.{Site}
-use Rattle.sm_ready.specs.Stores.{Leaving, Left}
+use Rattle.vg_store.specs.Groups.{GroupStands, LeavesGroup, beside_of}
+use Rattle.vg_volumes.specs.Sites.{Site, area_size}
 use Rattle.sm_standing.specs.Checks.{first_fault}
 use Rattle.sm_machine.specs.Shapes.{Shape}
 use Rattle.sm_standing.specs.Devices.{IsKeptOn, Shows, content_of}
@@ -50,14 +47,18 @@ pub data IsRefusedOn (size : ℕ) (image : ℕ → List ℕ) : OpenFault → Typ
   by_group : (e : OpenFault) → IsRefused size image e → IsRefusedOn size image e
   by_content : (g : GroupFound) (p : Place) → StandsOn size image g → first_fault (content_of g image) ≡ Some p → IsRefusedOn size image (Damaged p)
 
--- what never changes of the group with this label on a device of so many sectors
-abbrev pub site_on : GroupLabel → ℕ → Site
-site_on l size = record { geometry = l.geometry; count = l.extents; layout = layout_number l.layout; identity = l.repository; sectors = size }
-
--- what the label of such a group says
+-- what the label of the group of this site says
 abbrev pub plate_at : Site → Plate
 plate_at s = record { extent = s.geometry.extent; block = s.geometry.block; entries = s.geometry.entries; count = s.count; layout = s.layout; identity = s.identity }
 
--- what a stop may leave of a group on this device: a table, and the sectors of the extents
-abbrev pub group_leaves : Type 0 → ℕ → Held → GroupLabel → Bool → VolumeTable → Leaving
-group_leaves told size h l failed t = Left told (site_on l size) (LeavesGroup size h (plate_at (site_on l size))) failed t (area_of (layout_number l.layout) h)
+-- a group with the label of this site stands on each image that the device allows
+abbrev pub StandsAlways : ℕ → Held → Site → Type 0
+StandsAlways size h s = (image : ℕ → List ℕ) → Allows size h image → GroupStands size image (plate_at s)
+
+-- this table is the only one that a stop leaves of the group of this site
+abbrev pub IsOneTable : ℕ → Site → Held → VolumeTable → Type 0
+IsOneTable size s h t = (u : VolumeTable) (image : ℕ → List ℕ) → LeavesGroup size h (plate_at s) u image → u ≡ t
+
+-- what is held beside the group of this site
+abbrev pub beside_at : Site → Held → Held
+beside_at s h = beside_of s.layout (area_size s) h

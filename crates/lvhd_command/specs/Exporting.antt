@@ -2,6 +2,7 @@
 -- kept: whatever a stop leaves of it opens again.
 use Rattle.std.specs.Prelude.{◌≡◌, ◌≢◌, ◌⊎◌, ℕ, List, [], ⊤, Option, None, Result, Ok, Err}
 use Rattle.common_laws.specs.Lists.{In}
+use Rattle.sm_base.specs.declared.faults.OpenFault.{OpenFault}
 use Rattle.sm_disk.specs.Held.{Held, Keeps, reads}
 use Rattle.sm_disk.specs.Streams.{Adds, AddsFront}
 use Rattle.sm_machine.specs.Disks.{Disk}
@@ -17,8 +18,8 @@ use Rattle.vhd_stream.specs.declared.exporting.ExportFault.{ExportFault}
 use Rattle.vhd_stream.specs.declared.exporting.ExportFault.TheVariants as fault
 use Rattle.lvhd_command.specs.declared.statuses.Status.{Status}
 use Rattle.lvhd_command.specs.declared.statuses.Status.TheVariants.{Done, Words, Device, Source, Sink, Refused, Memory, TooLong, Denied}
-use Rattle.lvhd_command.specs.Devices.{IsOpenedOn, MayShowOn}
-use Rattle.lvhd_command.specs.Running.{HasLabel, HasStayed, MayHaveLabel, ReadsAsState, RunSides, ShowsNothingNew}
+use Rattle.lvhd_command.specs.Devices.{IsKeptDevice, IsOpenedOn, IsRefusedOn, MayShowOn}
+use Rattle.lvhd_command.specs.Running.{HasLabel, HasStayed, KeepsBeside, MayHaveLabel, ReadsAsState, RunSides, ShowsNothingNew}
 use Rattle.lvhd_command.specs.Texts.{line_of, unknown_words}
 
 -- the sides of an export, which reads no source: what tells a device's size and what it holds, and what a sink holds; then the device and
@@ -70,16 +71,16 @@ unknown_line = line_of unknown_words
 
 -- what an export of the disk with a UUID sent, by its status: the whole file; a front of it, or of the line that no disk has the
 -- UUID; this line; or nothing
-abbrev pub ExportDid : RunSides → List ℕ → ℕ → Status → Type 0
-ExportDid s uuid now Done = (bytes : List ℕ) × IsFileOf s uuid now bytes × Adds s.had_got bytes s.got
-ExportDid s uuid now Sink = (bytes : List ℕ) × (IsFileOf s uuid now bytes ⊎ (IsUnknown s uuid × (bytes ≡ unknown_line))) × AddsFront s.had_got bytes s.got
-ExportDid s uuid now Device = Adds s.had_got [] s.got ⊎ ((bytes : List ℕ) × IsFileOf s uuid now bytes × AddsFront s.had_got bytes s.got)
-ExportDid s uuid now Denied = IsUnknown s uuid × Adds s.had_got unknown_line s.got
-ExportDid s uuid now Memory = Adds s.had_got [] s.got
-ExportDid s uuid now Refused = ⊥
-ExportDid s uuid now Words = ⊥
-ExportDid s uuid now Source = ⊥
-ExportDid s uuid now TooLong = ⊥
+abbrev pub ExportSent : RunSides → List ℕ → ℕ → Status → Type 0
+ExportSent s uuid now Done = (bytes : List ℕ) × IsFileOf s uuid now bytes × Adds s.had_got bytes s.got
+ExportSent s uuid now Sink = (bytes : List ℕ) × (IsFileOf s uuid now bytes ⊎ (IsUnknown s uuid × (bytes ≡ unknown_line))) × AddsFront s.had_got bytes s.got
+ExportSent s uuid now Device = Adds s.had_got [] s.got ⊎ ((bytes : List ℕ) × IsFileOf s uuid now bytes × AddsFront s.had_got bytes s.got)
+ExportSent s uuid now Denied = IsUnknown s uuid × Adds s.had_got unknown_line s.got
+ExportSent s uuid now Memory = Adds s.had_got [] s.got
+ExportSent s uuid now Refused = ⊥
+ExportSent s uuid now Words = ⊥
+ExportSent s uuid now Source = ⊥
+ExportSent s uuid now TooLong = ⊥
 
 -- what the sink got where a line was printed or nothing, whatever the device held: the cause of a refusal, where nothing was written, the
 -- line that no disk has the UUID, or nothing where memory was wanting
@@ -122,6 +123,17 @@ IsAsOpened size old new Memory = StandsOpened size old new ⊎ IsNotOpened size 
 IsAsOpened size old new Words = ⊥
 IsAsOpened size old new Source = ⊥
 IsAsOpened size old new TooLong = ⊥
+
+-- What an export of the disk with a UUID did. Whatever the device held: what the sink got where a line was printed or nothing, what is beside the
+-- repository, and that a device on which a check of an opening fails stayed as it is. Of a device that is kept: what was sent, that it is
+-- kept, and that it is as an opening left it.
+pub record ExportDid (s : RunSides) (uuid : List ℕ) (now : ℕ) (status : Status) : Type 0 where
+  pub said : ExportSaid s status
+  pub beside : KeepsBeside s.size s.old s.new
+  pub unsound : (e : OpenFault) → IsRefusedOn s.size (reads s.old) e → HasStayed s status
+  pub sent : IsKeptDevice s.size s.old → ExportSent s uuid now status
+  pub kept : IsKeptDevice s.size s.old → IsKeptDevice s.size s.new
+  pub opened : IsKeptDevice s.size s.old → IsAsOpened s.size s.old s.new status
 
 -- the status of an export
 abbrev pub export_status : Result ⊤ ExportFault → Status

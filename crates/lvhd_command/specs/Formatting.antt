@@ -4,9 +4,8 @@ use Rattle.sm_base.specs.Numbers.{IsGeometry}
 use Rattle.sm_base.specs.declared.sizes.Geometry.{Geometry}
 use Rattle.sm_disk.specs.Held.{Held, Allows, IsSettled, Keeps, Rose}
 use Rattle.sm_disk.specs.Streams.{Adds, AddsFront}
-use Rattle.vg_layout.specs.Places.{extents_on, new_layout, record_extents}
-use Rattle.vg_store.specs.Formats.{IsFormatted, IsLeftByFormat, least_size}
-use Rattle.vg_store.specs.Groups.{beside_of}
+use Rattle.vg_layout.specs.Places.{new_extents, record_extents}
+use Rattle.vg_store.specs.Formats.{IsFormatted, IsLeftByFormat, beside_new, least_size}
 use Rattle.lvhd_command.specs.declared.words.Request.{Request}
 use Rattle.lvhd_command.specs.declared.statuses.Status.{Status}
 use Rattle.lvhd_command.specs.declared.statuses.Status.TheVariants.{Done, Words, Device, Source, Sink, Refused, Memory, TooLong, Denied}
@@ -73,7 +72,7 @@ pub data CannotFormat (size : ℕ) (a : Asked) : Type 0 where
 -- of each place that is no part of a repository of these sizes a read gives the same, and a stop leaves nothing new
 abbrev pub KeepsBesideNew : ℕ → Asked → Held → Held → Type 0
 KeepsBesideNew size a old new = (g : Geometry) → HasSizes a g
-    → Keeps (beside_of new_layout (extents_on new_layout size g.extent * g.extent) old) (beside_of new_layout (extents_on new_layout size g.extent * g.extent) new)
+    → Keeps (beside_new size g.extent old) (beside_new size g.extent new)
 
 -- a new repository stands, and nothing is pending
 pub record HasFormatted (s : Sides) (a : Asked) (g : Geometry) : Type 0 where
@@ -85,8 +84,8 @@ pub record HasFormatted (s : Sides) (a : Asked) (g : Geometry) : Type 0 where
 -- the line that says so, with the number of extents and how many of them are free
 pub record IsFormattedLine (s : Sides) (g : Geometry) (line : List ℕ) : Type 0 where
   pub free : ℕ
-  pub rest : free + record_extents g.extent ≡ extents_on new_layout s.size g.extent
-  pub text : line ≡ line_of (formatted_words (extents_on new_layout s.size g.extent) free)
+  pub rest : free + record_extents g.extent ≡ new_extents s.size g.extent
+  pub text : line ≡ line_of (formatted_words (new_extents s.size g.extent) free)
 
 -- the line of a refusal: bad sizes before a device that is too small
 pub data IsRefusalLine (s : Sides) (a : Asked) : List ℕ → Type 0 where

@@ -2,6 +2,7 @@ pub mod Devices
 pub mod Exporting
 pub mod Formatting
 pub mod Running
+pub mod Sessions
 pub mod Statuses
 pub mod Texts
 pub mod Words

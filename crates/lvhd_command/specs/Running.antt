@@ -11,7 +11,7 @@ use Rattle.sm_machine.specs.Steps.{State}
 use Rattle.vg_layout.specs.Opening.{GroupFound, StandsOn, plate_of}
 use Rattle.vg_layout.specs.Sectors.{Plate}
 use Rattle.vg_meta.specs.Tables.{VolumeTable}
-use Rattle.vg_store.specs.Groups.{GroupStands, LeavesGroup, area_of, beside_of}
+use Rattle.vg_store.specs.Groups.{LeavesGroup, area_of, beside_of}
 use Rattle.vg_volumes.specs.Sites.{Site}
 use Rattle.sm_run.specs.Runs.{HasRun}
 use Rattle.sm_run.specs.declared.runs.RunFault.{RunFault}
@@ -22,7 +22,7 @@ use Rattle.sm_standing.specs.Shapes.{IsStateOf}
 use Rattle.sm_ready.specs.Known.{entry_of}
 use Rattle.lvhd_command.specs.declared.statuses.Status.{Status}
 use Rattle.lvhd_command.specs.declared.statuses.Status.TheVariants.{Done, Words, Device, Source, Sink, Refused, Memory, TooLong, Denied}
-use Rattle.lvhd_command.specs.Devices.{IsKeptDevice, MayShowOn, IsSoundOn, IsRefusedOn, IsOpenedOn, plate_at}
+use Rattle.lvhd_command.specs.Devices.{IsKeptDevice, MayShowOn, IsSoundOn, IsRefusedOn, IsOpenedOn, StandsAlways, plate_at}
 use Rattle.lvhd_command.specs.Texts.{line_of, fault_words}
 
 -- the device's size, what it held before and holds now; what the source had left before and has left now; what the sink
@@ -75,11 +75,12 @@ abbrev pub EndsAs : Result ⊤ RunFault → ℕ → Held → State → Status �
 EndsAs (Ok _) size new end status = ((status ≡ Done) × IsSettled new × ShowsOnly size new end.disks) ⊎ (status ≡ Device)
 EndsAs (Err f) size new end status = status ≡ status_of (Err f)
 
--- on each image that the device allows now stands the label that a read gave at the entry
+-- on each image that the device allows now the label says, beside its version, what it said in what a read gave at the entry
 abbrev pub HasLabel : ℕ → Held → Held → Type 0
 HasLabel size old new = (image : ℕ → List ℕ) → Allows size new image → plate_of size image ≡ plate_of size (reads old)
 
--- each image that the device allows now is one that it allowed before, or the label stands on it that a read gave at the entry
+-- each image that the device allows now is one that it allowed before, or its label says, beside its version, what it said in what a
+-- read gave at the entry
 abbrev pub MayHaveLabel : ℕ → Held → Held → Type 0
 MayHaveLabel size old new = (image : ℕ → List ℕ) → Allows size new image → Allows size old image ⊎ (plate_of size image ≡ plate_of size (reads old))
 
@@ -112,7 +113,7 @@ HasSaid s Denied = ⊥
 -- a device that a session gave back, beside what the session held last: a group stands on whatever a stop leaves, which the
 -- session might have left too, and the extents read as they did
 pub record IsGivenBack (size : ℕ) (site : Site) (held after : Held) : Type 0 where
-  pub stands : (image : ℕ → List ℕ) → Allows size after image → GroupStands size image (plate_at site)
+  pub stands : StandsAlways size after site
   pub fewer : (t : VolumeTable) (image : ℕ → List ℕ) → LeavesGroup size after (plate_at site) t image → LeavesGroup size held (plate_at site) t image
   pub extents : Keeps (area_of site.layout held) (area_of site.layout after)
 
@@ -127,7 +128,8 @@ abbrev pub ShowsNothingNew : ℕ → Held → Held → Type 0
 ShowsNothingNew size old new = (image : ℕ → List ℕ) → Allows size new image
     → IsLeftBefore size old image ⊎ ((ds : List Disk) → Shows size image ds → Shows size (reads old) ds)
 
--- of each place that is no part of the group that stood at the entry a read gives the same, and a stop leaves nothing new
+-- of each place that is no part of a group of version 2 with the layout and the extents of the label at the entry a read gives the
+-- same, and a stop leaves nothing new
 abbrev pub KeepsBeside : ℕ → Held → Held → Type 0
 KeepsBeside size old new = (p : Plate) → plate_of size (reads old) ≡ Ok p
     → Keeps (beside_of p.layout (p.count * p.extent) old) (beside_of p.layout (p.count * p.extent) new)

@@ -14,7 +14,7 @@ use Rattle.sm_trial.specs.declared.tallies.Tally.{Tally}
 use Rattle.sm_trial.specs.Tallies.{HasTried}
 use Rattle.vg_layout.specs.Opening.{plate_of}
 use Rattle.vg_layout.specs.Sectors.{Plate}
-use Rattle.vg_layout.specs.Places.{extents_on, new_layout, record_extents}
+use Rattle.vg_layout.specs.Places.{new_extents, record_extents}
 use Rattle.vg_store.specs.Formats.{new_group}
 use Rattle.lvhd_command.specs.declared.statuses.Status.{Status}
 use Rattle.lvhd_command.specs.declared.statuses.Status.TheVariants.{Done, Words, Device, Source, Sink, Refused, Memory, TooLong, Denied}
@@ -33,7 +33,7 @@ trial_least = 4608
 
 -- what it starts from: a new repository of these sizes on a device of so many sectors, without disks and images
 abbrev pub trial_start : ℕ → State
-trial_start size = record { disks = []; shape = new_shape 32 8 64 (extents_on new_layout size 32) (record_extents 32) }
+trial_start size = record { disks = []; shape = new_shape 32 8 64 (new_extents size 32) (record_extents 32) }
 
 -- the words of the summary: the number, how many lines were accepted and refused, the disks, images and free extents in the end, and
 -- the sum of all bytes of all replies

@@ -1,22 +1,15 @@
 //! The word `export`.
 
-ghost use Rattle.std.specs.Prelude.{◌≡◌, ◌≢◌, ◌≤◌, ◌⊎◌, ℕ, List, false};
-ghost use Rattle.sm_base.specs.declared.faults.OpenFault.{OpenFault};
-ghost use Rattle.sm_disk.specs.Held.{Allows, HasSectors, Keeps, Rose, reads};
+ghost use Rattle.std.specs.Prelude.{◌≡◌, ◌≢◌, ◌≤◌, false};
+ghost use Rattle.sm_disk.specs.Held.{HasSectors, Keeps, Rose};
 ghost use Rattle.sm_ready.specs.Framing.{IsBetweenSteps};
-ghost use Rattle.sm_ready.specs.Known.{known};
-ghost use Rattle.sm_ready.specs.Ready.{IsReady};
 ghost use Rattle.sm_ready.specs.Sessions.{IsReadyStore};
-ghost use Rattle.sm_ready.specs.Stores.{content_now, store_content};
-ghost use Rattle.vg_layout.specs.Fields.{layout_number, plate};
-ghost use Rattle.vg_meta.specs.Roomy.{table_alone};
-ghost use Rattle.vg_meta.specs.Tables.{VolumeTable};
-ghost use Rattle.vg_store.specs.Groups.{GroupStands, LeavesGroup, area_of};
+ghost use Rattle.sm_ready.specs.Stores.{store_content};
 ghost use Rattle.vg_volumes.specs.Stored.{OnlyReads};
-ghost use Rattle.lvhd_command.specs.declared.statuses.Status.TheVariants.{Denied, Device, Memory, Refused, Sink as SinkFailed, Source, TooLong, Words};
-ghost use Rattle.lvhd_command.specs.Devices.{IsKeptDevice, IsRefusedOn, site_on};
-ghost use Rattle.lvhd_command.specs.Exporting.{ContentSaid, ContentSent, ExportDid, ExportSaid, IsAsOpened, export_sides, export_status};
-ghost use Rattle.lvhd_command.specs.Running.{HasStayed, KeepsBeside};
+ghost use Rattle.lvhd_command.specs.declared.statuses.Status.TheVariants.{Device, Sink as SinkFailed, Source, TooLong, Words};
+ghost use Rattle.lvhd_command.specs.Devices.{IsOneTable, StandsAlways};
+ghost use Rattle.lvhd_command.specs.Exporting.{ContentSaid, ContentSent, ExportDid, export_sides, export_status};
+ghost use Rattle.lvhd_command.specs.Sessions.{IsReadySession, content_read, site_of, table_of};
 
 use crate::formatting::said;
 use crate::opening::{into_disk, open};
@@ -51,14 +44,7 @@ pub fn run_export<D: Disk, K: Sink>(
     ensures sink { result.0 ≡ SinkFailed → Rose (K.faults sink.old) (K.faults sink.new) }
     ensures calm { result.0 ≢ Device → D.faults result.1 ≡ D.faults disk }
     ensures sink_calm { result.0 ≢ SinkFailed → K.faults sink.new ≡ K.faults sink.old }
-    ensures did { D.told → IsKeptDevice (D.size disk) (D.held disk)
-        → ExportDid (export_sides D.size D.held K.content disk result.1 sink.old sink.new) wanted.now.disk now result.0 }
-    ensures said { D.told → ExportSaid (export_sides D.size D.held K.content disk result.1 sink.old sink.new) result.0 }
-    ensures kept { D.told → IsKeptDevice (D.size disk) (D.held disk) → IsKeptDevice (D.size disk) (D.held result.1) }
-    ensures opened { D.told → IsKeptDevice (D.size disk) (D.held disk) → IsAsOpened (D.size disk) (D.held disk) (D.held result.1) result.0 }
-    ensures beside { D.told → KeepsBeside (D.size disk) (D.held disk) (D.held result.1) }
-    ensures unsound { D.told → (e : OpenFault) → IsRefusedOn (D.size disk) (reads (D.held disk)) e
-        → HasStayed (export_sides D.size D.held K.content disk result.1 sink.old sink.new) result.0 }
+    ensures did { D.told → ExportDid (export_sides D.size D.held K.content disk result.1 sink.old sink.new) wanted.now.disk now result.0 }
 {
     match open(alloc, disk, now) {
         Ok(session) => send_disk(alloc, &wanted.disk, now, session, sink),
@@ -83,13 +69,12 @@ fn send_disk<D: Disk, K: Sink>(
     ensures calm { result.0 ≢ Device → D.faults result.1 ≡ D.faults session.store.inner.disk }
     ensures sink_calm { result.0 ≢ SinkFailed → K.faults sink.new ≡ K.faults sink.old }
     ensures keeps { D.told → Keeps (D.held session.store.inner.disk) (D.held result.1) }
-    ensures stands { D.told → (image : ℕ → List ℕ) → Allows (D.size result.1) (D.held result.1) image → GroupStands (D.size result.1) image (plate session.store.inner.label) }
+    ensures stands { D.told → StandsAlways (D.size result.1) (D.held result.1) (site_of session) }
     ensures sectors { D.told → HasSectors (D.size result.1) (D.held result.1) }
-    ensures one { D.told → (t : VolumeTable) (image : ℕ → List ℕ) → LeavesGroup (D.size result.1) (D.held result.1) (plate session.store.inner.label) t image → t ≡ table_alone session.store.inner.table }
+    ensures one { D.told → IsOneTable (D.size result.1) (site_of session) (D.held result.1) (table_of session) }
     ensures said { ContentSaid (K.content sink.old) (K.content sink.new) result.0 }
-    ensures sent { D.told → IsReady (site_on session.store.inner.label (D.size session.store.inner.disk)) (table_alone session.store.inner.table) (area_of (layout_number session.store.inner.label.layout) (D.held session.store.inner.disk)) (known session.memory)
-        → ContentSent (content_now (site_on session.store.inner.label (D.size session.store.inner.disk)) (table_alone session.store.inner.table) (area_of (layout_number session.store.inner.label.layout) (D.held session.store.inner.disk))) uuid.now now
-        (K.content sink.old) (K.content sink.new) result.0 }
+    ensures sent { D.told → IsReadySession session
+        → ContentSent (content_read session) uuid.now now (K.content sink.old) (K.content sink.new) result.0 }
 {
     let (store, memory) = session.into_parts();
     let mut cache = store;

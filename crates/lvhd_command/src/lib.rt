@@ -6,16 +6,17 @@
 //!
 //! **The model** (`specs/`). `Words` says what the words ask for, `Texts` the lines that the program prints of itself,
 //! `Statuses` the exit status. `Devices`: a device is kept where each image that a stop may leave of it opens again
-//! (`IsKeptDevice`), and it may show the disks of each such image (`MayShowOn`). `Formatting`, `Running`, `Trials` and
-//! `Exporting` say by status what each word did.
+//! (`IsKeptDevice`), and it may show the disks of each such image (`MayShowOn`). `Sessions`: the site, the table, the content and the state of
+//! an open session. `Formatting`, `Running`, `Trials` and `Exporting` say by status what each word did.
 //!
 //! **What it promises.** [`lvhd`] on a device that tells its content and is kept, with the word `run`, at every return: the
 //! device is kept; what the sink got are the machine's replies to the lines that were read, and a front of one more; and
 //! whatever a stop leaves shows the disks after the lines read, the interrupted one wholly there or absent, each sector
 //! as it was after some prefix that reaches the last acknowledged line that changed more than sectors (`RunDid`, which
 //! cites `HasRun` of `sm_run`). At status 0 the script was read to its end, every line was answered, and a stop shows the
-//! machine's disks alone; a read gives them, and no record of no disk. The label stays, and so does all that stands on the
-//! device beside the repository (`KeepsBeside`).
+//! machine's disks alone; a read gives them, and no record of no disk. The label's sizes and UUID stay, and so does all that stands on the
+//! device beside the repository (`KeepsBeside`). A repository of version 1 is taken over by version 2 as it is opened: the same group
+//! stands on whatever a stop leaves, by the one or by the other.
 //!
 //! On a device on which a check of an opening fails, kept or not, one line says why, nothing is read of the script, and
 //! nothing is written, whatever the status (`HasStayed`). A kept device that was not opened for another cause shows nothing
@@ -31,8 +32,9 @@
 //!
 //! With the word `export`, on a device that is kept: at status 0 the sink got the file of the disk, by `ExportOf` of what a read of
 //! the device gives now, and read as the standard says this file holds the sectors of the disk (`IsFileOf`); with another status a front of
-//! it, or the line that says why not, or a front of that (`ExportDid`). The device is kept, and as an opening leaves it, with the disks
-//! that it had, in the shape that an opening makes (`IsAsOpened`). What is printed of a refusal is so whatever the device holds (`ExportSaid`).
+//! it, or the line that says why not, or a front of that (`ExportSent`). The device is kept, and as an opening leaves it, with the disks
+//! that it had, in the shape that an opening makes (`IsAsOpened`). What is printed of a refusal is so whatever the device holds (`ExportSaid`). All
+//! of it is one record, `ExportDid`.
 //!
 //! The statuses of a fault come exactly where a call failed. Want of memory has no cause; it comes before the first write but in an export,
 //! whose opening may have made its repairs by then, and in a trial, which it may end at any line.

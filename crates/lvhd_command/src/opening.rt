@@ -3,24 +3,20 @@
 ghost use Rattle.std.specs.Prelude.{◌≡◌, ◌≤◌, ◌*◌, ℕ, List, false, Ok, IfOk, IfErr};
 ghost use Rattle.sm_base.specs.declared.faults.OpenFault.{OpenFault};
 ghost use Rattle.sm_disk.specs.Held.{Allows, Keeps, IsSettled, reads};
-ghost use Rattle.sm_machine.specs.Disks.{Disk};
 ghost use Rattle.sm_standing.specs.Devices.{Shows};
-ghost use Rattle.sm_standing.specs.Standing.{disks};
 ghost use Rattle.vg_meta.specs.Roomy.{table_alone};
 ghost use Rattle.vg_meta.specs.Tables.{VolumeTable};
 ghost use Rattle.vg_layout.specs.Fields.{layout_number, plate, pointer};
 ghost use Rattle.vg_layout.specs.Opening.{IsRefused, StandsOn, plate_of};
-ghost use Rattle.vg_volumes.specs.Commits.{IsBefore};
+ghost use Rattle.vg_volumes.specs.Commits.{IsBefore, current_version};
 ghost use Rattle.vg_store.specs.Groups.{GroupStands, LeavesGroup, area_of};
 ghost use Rattle.vg_store.specs.Openings.{IsAnswer};
-ghost use Rattle.sm_ready.specs.Known.{known, shape_in};
-ghost use Rattle.sm_ready.specs.Ready.{IsReady};
-ghost use Rattle.sm_ready.specs.Sessions.{KeepsAll, state_in};
-ghost use Rattle.sm_ready.specs.Stores.{MayShow, content_now};
+ghost use Rattle.sm_ready.specs.Stores.{MayShow};
 ghost use Rattle.sm_recover.specs.Repairs.{UnlessDeviceFailed};
 ghost use Rattle.sm_run.specs.Runs.{BeginsSettled};
-ghost use Rattle.lvhd_command.specs.Devices.{HoldsWellOn, IsKeptDevice, IsSoundOn, IsRefusedOn, IsOpenedOn, group_leaves, plate_at, site_on};
+ghost use Rattle.lvhd_command.specs.Devices.{HoldsWellOn, IsKeptDevice, IsSoundOn, IsRefusedOn, IsOpenedOn, plate_at};
 ghost use Rattle.lvhd_command.specs.Running.{ShowsNothingNew, KeepsBeside, MayHaveLabel};
+ghost use Rattle.lvhd_command.specs.Sessions.{IsReadySession, KeepsSession, session_leaves, site_of, state_of};
 
 use sm_base::OpenFault;
 use sm_cache::Cache;
@@ -32,7 +28,7 @@ use vg_store::Group;
 /// How many sectors of the repository are kept in memory, at most.
 const KEPT_SECTORS: usize = 1_024;
 
-/// Opens the repository on a device: it is synced, all checks are made, and what a stop has left is repaired. `now` is in
+/// Opens the repository on a device: it is synced, all checks are made, a repository of version 1 is taken over, and what a stop has left is repaired. `now` is in
 /// seconds since 2000-01-01 00:00 UTC. What is promised of the sectors and of the disks rests on what no check sees: that each
 /// slot of a VHD image holds a sector, and that an image whose children are being linked past it was copied. It is so on a device
 /// that is kept.
@@ -50,19 +46,15 @@ pub fn open<D: Disk>(
     ensures whole { IfOk result (λ s. s.broken ≡ false) }
     ensures now { IfOk result (λ s. s.now ≡ now) }
     ensures sound { IfOk result (λ s. D.told → IsSoundOn (D.size disk) (reads (D.held disk))) }
-    ensures ready { IfOk result (λ s. D.told → HoldsWellOn (D.size disk) (reads (D.held disk))
-        → IsReady (site_on s.store.inner.label (D.size s.store.inner.disk)) (table_alone s.store.inner.table) (area_of (layout_number s.store.inner.label.layout) (D.held s.store.inner.disk)) (known s.memory)) }
+    ensures ready { IfOk result (λ s. D.told → HoldsWellOn (D.size disk) (reads (D.held disk)) → IsReadySession s) }
     ensures shown { IfOk result (λ s. D.told → HoldsWellOn (D.size disk) (reads (D.held disk))
-        → Shows (D.size disk) (reads (D.held disk)) (disks (content_now (site_on s.store.inner.label (D.size s.store.inner.disk)) (table_alone s.store.inner.table) (area_of (layout_number s.store.inner.label.layout) (D.held s.store.inner.disk))))) }
+        → Shows (D.size disk) (reads (D.held disk)) (state_of s).disks) }
     ensures opened { IfOk result (λ s. D.told → HoldsWellOn (D.size disk) (reads (D.held disk))
-        → IsOpenedOn (D.size disk) (reads (D.held disk)) (shape_in (site_on s.store.inner.label (D.size s.store.inner.disk)) (table_alone s.store.inner.table) (known s.memory))) }
-    ensures label { IfOk result (λ s. D.told → plate_of (D.size disk) (reads (D.held disk)) ≡ Ok (plate_at (site_on s.store.inner.label (D.size s.store.inner.disk)))) }
-    ensures kept { IfOk result (λ s. D.told → HoldsWellOn (D.size disk) (reads (D.held disk))
-        → KeepsAll (site_on s.store.inner.label (D.size s.store.inner.disk))
-        (group_leaves D.told (D.size s.store.inner.disk) (D.held s.store.inner.disk) s.store.inner.label s.store.inner.failed (table_alone s.store.inner.table))) }
+        → IsOpenedOn (D.size disk) (reads (D.held disk)) (state_of s).shape) }
+    ensures label { IfOk result (λ s. D.told → plate_of (D.size disk) (reads (D.held disk)) ≡ Ok (plate_at (site_of s))) }
+    ensures kept { IfOk result (λ s. D.told → HoldsWellOn (D.size disk) (reads (D.held disk)) → KeepsSession s) }
     ensures begins { IfOk result (λ s. D.told → HoldsWellOn (D.size disk) (reads (D.held disk))
-        → BeginsSettled (state_in (site_on s.store.inner.label (D.size s.store.inner.disk)) (table_alone s.store.inner.table) (area_of (layout_number s.store.inner.label.layout) (D.held s.store.inner.disk)) (known s.memory))
-        (MayShow (site_on s.store.inner.label (D.size s.store.inner.disk)) (group_leaves D.told (D.size s.store.inner.disk) (D.held s.store.inner.disk) s.store.inner.label s.store.inner.failed (table_alone s.store.inner.table)))) }
+        → BeginsSettled (state_of s) (MayShow (site_of s) (session_leaves s))) }
     ensures beside { IfOk result (λ s. D.told → KeepsBeside (D.size disk) (D.held disk) (D.held s.store.inner.disk)) }
     ensures size_back { IfErr result (λ e. D.size e.1 ≡ D.size disk) }
     ensures counts_back { IfErr result (λ e. D.faults disk ≤ D.faults e.1) }
@@ -96,7 +88,7 @@ fn open_group<D: Disk>(alloc: Global, disk: D) -> Result<Cache<Group<D>>, (OpenF
     ensures keeps { IfOk result (λ c. D.told → Keeps (D.held disk) (D.held c.inner.disk)) }
     ensures area { IfOk result (λ c. D.told → Keeps (area_of (layout_number c.inner.label.layout) (D.held disk)) (area_of (layout_number c.inner.label.layout) (D.held c.inner.disk))) }
     ensures settled { IfOk result (λ c. D.told → IsSettled (D.held c.inner.disk)) }
-    ensures usable { IfOk result (λ c. c.inner.failed ≡ false) }
+    ensures usable { IfOk result (λ c. c.inner.version ≡ current_version → c.inner.failed ≡ false) }
     ensures stands { IfOk result (λ c. D.told → StandsOn (D.size disk) (reads (D.held disk))
         (record { plate = plate c.inner.label; pointer = pointer c.inner.header; table = table_alone c.inner.table })) }
     ensures size_back { IfErr result (λ e. D.size e.1 ≡ D.size disk) }

@@ -1,19 +1,12 @@
 //! The word `run`.
 
-ghost use Rattle.std.specs.Prelude.{◌≡◌, ◌≢◌, ◌≤◌, ◌⊎◌, ℕ, List, false, Err};
+ghost use Rattle.std.specs.Prelude.{◌≡◌, ◌≢◌, ◌≤◌, ◌⊎◌, false, Err};
 ghost use Rattle.sm_base.specs.declared.faults.OpenFault.{OpenFault};
-ghost use Rattle.sm_disk.specs.Held.{Allows, IsSettled, Keeps, Rose, reads};
-ghost use Rattle.sm_ready.specs.Known.{known};
-ghost use Rattle.sm_ready.specs.Ready.{IsReady};
-ghost use Rattle.sm_ready.specs.Stores.{content_now};
-ghost use Rattle.sm_standing.specs.Standing.{disks};
-ghost use Rattle.vg_layout.specs.Fields.{layout_number, plate};
-ghost use Rattle.vg_meta.specs.Roomy.{table_alone};
-ghost use Rattle.vg_meta.specs.Tables.{VolumeTable};
-ghost use Rattle.vg_store.specs.Groups.{GroupStands, LeavesGroup, area_of};
+ghost use Rattle.sm_disk.specs.Held.{IsSettled, Keeps, Rose, reads};
 ghost use Rattle.lvhd_command.specs.declared.statuses.Status.TheVariants.{Done, Device, Memory, Refused, Sink as SinkFailed, Source as SourceFailed, Words};
-ghost use Rattle.lvhd_command.specs.Devices.{IsKeptDevice, IsRefusedOn, site_on};
+ghost use Rattle.lvhd_command.specs.Devices.{IsKeptDevice, IsOneTable, IsRefusedOn, StandsAlways};
 ghost use Rattle.lvhd_command.specs.Running.{RunDid, HasStayed, IsGivenBack, KeepsBeside, ShowsOnly, HasTold, sides, status_of};
+ghost use Rattle.lvhd_command.specs.Sessions.{IsReadySession, site_of, state_of, table_of};
 
 use crate::formatting::said;
 use crate::opening::{into_disk, open};
@@ -97,8 +90,9 @@ fn status_of_fault(fault: RunFault) -> Status
 /// The device of a session, as it is. No call is made on it.
 pub(crate) fn leave<D: Disk>(session: Session<Cache<Group<D>>>) -> D
     ensures disk { result ≡ session.store.inner.disk }
-    ensures stands { D.told → (image : ℕ → List ℕ) → Allows (D.size session.store.inner.disk) (D.held session.store.inner.disk) image → GroupStands (D.size session.store.inner.disk) image (plate session.store.inner.label) }
-    ensures one { D.told → session.broken ≡ false → (t : VolumeTable) (image : ℕ → List ℕ) → LeavesGroup (D.size session.store.inner.disk) (D.held session.store.inner.disk) (plate session.store.inner.label) t image → t ≡ table_alone session.store.inner.table }
+    ensures stands { D.told → StandsAlways (D.size session.store.inner.disk) (D.held session.store.inner.disk) (site_of session) }
+    ensures one { D.told → session.broken ≡ false
+        → IsOneTable (D.size session.store.inner.disk) (site_of session) (D.held session.store.inner.disk) (table_of session) }
 {
     into_disk(session.into_store())
 }
@@ -111,10 +105,11 @@ pub(crate) fn close<D: Disk>(session: Session<Cache<Group<D>>>) -> (Status, D)
     ensures device { result.0 ≡ Device → Rose (D.faults session.store.inner.disk) (D.faults result.1) }
     ensures calm { result.0 ≢ Device → D.faults result.1 ≡ D.faults session.store.inner.disk }
     ensures keeps { D.told → Keeps (D.held session.store.inner.disk) (D.held result.1) }
-    ensures back { D.told → IsGivenBack (D.size session.store.inner.disk) (site_on session.store.inner.label (D.size session.store.inner.disk)) (D.held session.store.inner.disk) (D.held result.1) }
-    ensures one { D.told → session.broken ≡ false → (t : VolumeTable) (image : ℕ → List ℕ) → LeavesGroup (D.size session.store.inner.disk) (D.held result.1) (plate session.store.inner.label) t image → t ≡ table_alone session.store.inner.table }
-    ensures shown { D.told → session.broken ≡ false → IsReady (site_on session.store.inner.label (D.size session.store.inner.disk)) (table_alone session.store.inner.table) (area_of (layout_number session.store.inner.label.layout) (D.held session.store.inner.disk)) (known session.memory)
-        → IsSettled (D.held result.1) → ShowsOnly (D.size session.store.inner.disk) (D.held result.1) (disks (content_now (site_on session.store.inner.label (D.size session.store.inner.disk)) (table_alone session.store.inner.table) (area_of (layout_number session.store.inner.label.layout) (D.held session.store.inner.disk)))) }
+    ensures back { D.told → IsGivenBack (D.size session.store.inner.disk) (site_of session) (D.held session.store.inner.disk) (D.held result.1) }
+    ensures one { D.told → session.broken ≡ false
+        → IsOneTable (D.size session.store.inner.disk) (site_of session) (D.held result.1) (table_of session) }
+    ensures shown { D.told → session.broken ≡ false → IsReadySession session → IsSettled (D.held result.1)
+        → ShowsOnly (D.size session.store.inner.disk) (D.held result.1) (state_of session).disks }
 {
     let mut disk = leave(session);
     match disk.sync() {

@@ -11,7 +11,7 @@ ghost use Rattle.lvhd_command.specs.declared.words.Form.TheVariants.{Format, Run
 ghost use Rattle.lvhd_command.specs.declared.words.Request.{Request};
 ghost use Rattle.lvhd_command.specs.declared.words.Wanted.{Wanted};
 ghost use Rattle.lvhd_command.specs.Devices.{IsKeptDevice, IsRefusedOn};
-ghost use Rattle.lvhd_command.specs.Exporting.{ExportDid, ExportSaid, IsAsOpened, IsUnknown, export_sides};
+ghost use Rattle.lvhd_command.specs.Exporting.{ExportDid, IsUnknown, export_sides};
 ghost use Rattle.lvhd_command.specs.Formatting.{FormatDid, CannotFormat, KeepsBesideNew, asked, format_sides};
 ghost use Rattle.lvhd_command.specs.Running.{RunDid, HasStayed, KeepsBeside, sides};
 ghost use Rattle.lvhd_command.specs.Trials.{IsLabelledForTrial, TrialDid, trial_asked, trial_least};
@@ -82,16 +82,8 @@ pub fn lvhd<D: Disk, S: Source, K: Sink>(
     ensures complete_trial { (number : ℕ) → Asks words.now (Some (Trial number)) → D.told → trial_least ≤ D.size disk
         → (Rose (D.faults disk) (D.faults result.1) → ⊥) → (Rose (K.faults sink.old) (K.faults sink.new) → ⊥)
         → (result.0 ≡ status.Done) ⊎ (result.0 ≡ status.Memory) }
-    ensures export { (wanted : Wanted) → Asks words.now (Some (Export wanted)) → (source.new ≡ source.old) × (D.told → IsKeptDevice (D.size disk) (D.held disk)
+    ensures export { (wanted : Wanted) → Asks words.now (Some (Export wanted)) → (source.new ≡ source.old) × (D.told
         → ExportDid (export_sides D.size D.held K.content disk result.1 sink.old sink.new) wanted.disk now result.0) }
-    ensures export_said { (wanted : Wanted) → Asks words.now (Some (Export wanted)) → D.told
-        → ExportSaid (export_sides D.size D.held K.content disk result.1 sink.old sink.new) result.0 }
-    ensures export_kept { (wanted : Wanted) → Asks words.now (Some (Export wanted)) → D.told → IsKeptDevice (D.size disk) (D.held disk) → IsKeptDevice (D.size disk) (D.held result.1) }
-    ensures export_opened { (wanted : Wanted) → Asks words.now (Some (Export wanted)) → D.told → IsKeptDevice (D.size disk) (D.held disk)
-        → IsAsOpened (D.size disk) (D.held disk) (D.held result.1) result.0 }
-    ensures export_beside { (wanted : Wanted) → Asks words.now (Some (Export wanted)) → D.told → KeepsBeside (D.size disk) (D.held disk) (D.held result.1) }
-    ensures export_unsound { (wanted : Wanted) → Asks words.now (Some (Export wanted)) → D.told → (e : OpenFault) → IsRefusedOn (D.size disk) (reads (D.held disk)) e
-        → HasStayed (export_sides D.size D.held K.content disk result.1 sink.old sink.new) result.0 }
     ensures complete_export { (wanted : Wanted) (ds : List DiskOf) (d : DiskOf) → Asks words.now (Some (Export wanted)) → D.told → IsKeptDevice (D.size disk) (D.held disk)
         → Shows (D.size disk) (reads (D.held disk)) ds → In d ds → d.uuid ≡ wanted.disk
         → (Rose (D.faults disk) (D.faults result.1) → ⊥) → (Rose (K.faults sink.old) (K.faults sink.new) → ⊥)

@@ -2,18 +2,12 @@
 
 ghost use Rattle.std.specs.Prelude.{◌≡◌, ◌≢◌, ◌≤◌, ◌<◌, ◌⊎◌, false};
 ghost use Rattle.sm_disk.specs.Held.{Keeps, Rose};
-ghost use Rattle.sm_ready.specs.Known.{known};
-ghost use Rattle.sm_ready.specs.Ready.{IsReady};
-ghost use Rattle.sm_ready.specs.Sessions.{KeepsAll, state_in};
 ghost use Rattle.sm_base.specs.declared.faults.CallFault.TheVariants as fault;
 ghost use Rattle.sm_script.specs.Pieces.{Writes};
-ghost use Rattle.vg_meta.specs.Roomy.{table_alone};
-ghost use Rattle.vg_layout.specs.Fields.{layout_number};
-ghost use Rattle.vg_store.specs.Groups.{area_of, beside_of};
-ghost use Rattle.vg_volumes.specs.Sites.{area_size};
 ghost use Rattle.lvhd_command.specs.declared.statuses.Status.TheVariants.{Device, Done, Memory, Sink as SinkFailed, Source, Words};
-ghost use Rattle.lvhd_command.specs.Devices.{IsKeptDevice, group_leaves, plate_at, site_on};
+ghost use Rattle.lvhd_command.specs.Devices.{IsKeptDevice, beside_at, plate_at};
 ghost use Rattle.lvhd_command.specs.Formatting.{KeepsBesideNew, format_sides};
+ghost use Rattle.lvhd_command.specs.Sessions.{IsReadySession, KeepsSession, site_of, state_of};
 ghost use Rattle.lvhd_command.specs.Texts.{line_of};
 ghost use Rattle.lvhd_command.specs.Trials.{HasPlate, IsLabelledForTrial, RestsAs, SaysTrial, SessionTried, TrialDid, summary_words, trial_asked, trial_least};
 
@@ -99,16 +93,10 @@ fn try_session<D: Disk, K: Sink>(
     ensures sink { result.0 ≡ SinkFailed → Rose (K.faults sink.old) (K.faults sink.new) }
     ensures calm { result.0 ≢ Device → D.faults result.1 ≡ D.faults session.store.inner.disk }
     ensures sink_calm { result.0 ≢ SinkFailed → K.faults sink.new ≡ K.faults sink.old }
-    ensures tried { D.told
-        → IsReady (site_on session.store.inner.label (D.size session.store.inner.disk)) (table_alone session.store.inner.table) (area_of (layout_number session.store.inner.label.layout) (D.held session.store.inner.disk)) (known session.memory)
-        → KeepsAll (site_on session.store.inner.label (D.size session.store.inner.disk))
-        (group_leaves D.told (D.size session.store.inner.disk) (D.held session.store.inner.disk) session.store.inner.label session.store.inner.failed (table_alone session.store.inner.table))
-        → SessionTried (D.size session.store.inner.disk) (D.held result.1) (K.content sink.old) (K.content sink.new)
-        (state_in (site_on session.store.inner.label (D.size session.store.inner.disk)) (table_alone session.store.inner.table) (area_of (layout_number session.store.inner.label.layout) (D.held session.store.inner.disk)) (known session.memory)) number result.0 }
-    ensures label { D.told → result.0 ≡ Done → HasPlate (D.size session.store.inner.disk) (D.held result.1)
-        (plate_at (site_on session.store.inner.label (D.size session.store.inner.disk))) }
-    ensures beside { D.told → Keeps (beside_of (layout_number session.store.inner.label.layout) (area_size (site_on session.store.inner.label (D.size session.store.inner.disk))) (D.held session.store.inner.disk))
-        (beside_of (layout_number session.store.inner.label.layout) (area_size (site_on session.store.inner.label (D.size session.store.inner.disk))) (D.held result.1)) }
+    ensures tried { D.told → IsReadySession session → KeepsSession session → SessionTried (D.size session.store.inner.disk) (D.held result.1)
+        (K.content sink.old) (K.content sink.new) (state_of session) number result.0 }
+    ensures label { D.told → result.0 ≡ Done → HasPlate (D.size session.store.inner.disk) (D.held result.1) (plate_at (site_of session)) }
+    ensures beside { D.told → Keeps (beside_at (site_of session) (D.held session.store.inner.disk)) (beside_at (site_of session) (D.held result.1)) }
 {
     let mut session = session;
     let tally = match try_lines(alloc, &mut session, number) {
@@ -150,18 +138,11 @@ fn say<D: Disk, K: Sink>(
     ensures sink { result.0 ≡ SinkFailed → Rose (K.faults sink.old) (K.faults sink.new) }
     ensures calm { result.0 ≢ Device → D.faults result.1 ≡ D.faults session.store.inner.disk }
     ensures sink_calm { result.0 ≢ SinkFailed → K.faults sink.new ≡ K.faults sink.old }
-    ensures label { D.told → HasPlate (D.size session.store.inner.disk) (D.held result.1)
-        (plate_at (site_on session.store.inner.label (D.size session.store.inner.disk))) }
+    ensures label { D.told → HasPlate (D.size session.store.inner.disk) (D.held result.1) (plate_at (site_of session)) }
     ensures keeps { D.told → Keeps (D.held session.store.inner.disk) (D.held result.1) }
-    ensures kept { D.told → KeepsAll (site_on session.store.inner.label (D.size session.store.inner.disk))
-        (group_leaves D.told (D.size session.store.inner.disk) (D.held session.store.inner.disk) session.store.inner.label session.store.inner.failed (table_alone session.store.inner.table))
-        → IsKeptDevice (D.size session.store.inner.disk) (D.held result.1) }
-    ensures rests { D.told
-        → IsReady (site_on session.store.inner.label (D.size session.store.inner.disk)) (table_alone session.store.inner.table) (area_of (layout_number session.store.inner.label.layout) (D.held session.store.inner.disk)) (known session.memory)
-        → KeepsAll (site_on session.store.inner.label (D.size session.store.inner.disk))
-        (group_leaves D.told (D.size session.store.inner.disk) (D.held session.store.inner.disk) session.store.inner.label session.store.inner.failed (table_alone session.store.inner.table))
-        → result.0 ≢ Device → RestsAs (D.size session.store.inner.disk) (D.held result.1)
-        (state_in (site_on session.store.inner.label (D.size session.store.inner.disk)) (table_alone session.store.inner.table) (area_of (layout_number session.store.inner.label.layout) (D.held session.store.inner.disk)) (known session.memory)) }
+    ensures kept { D.told → KeepsSession session → IsKeptDevice (D.size session.store.inner.disk) (D.held result.1) }
+    ensures rests { D.told → IsReadySession session → KeepsSession session → result.0 ≢ Device
+        → RestsAs (D.size session.store.inner.disk) (D.held result.1) (state_of session) }
 {
     let (status, disk) = close(session);
     match status {

@@ -1,7 +1,8 @@
 use Rattle.std.proofs.Common.{sym, ap, ◌∙◌, subst}
 use Rattle.vg_layout.specs.Sectors.{Plate}
-use Rattle.vg_store.specs.Groups.{GroupStands, LeavesGroup}
-use Rattle.lvhd_command.specs.Devices.{plate_at}
+use Rattle.vg_store.specs.Groups.{LeavesGroup}
+use Rattle.vg_volumes.specs.Sites.{Site}
+use Rattle.lvhd_command.specs.Devices.{StandsAlways, plate_at}
 use Rattle.lvhd_command.proofs.exporting.send_disk.Goals as goal
 
 pub send_or_refuse-status-requires : goal.send_or_refuse-status-requires
@@ -13,9 +14,9 @@ returns-clause-calm g c = λ other.
     ap g.D.Disk.faults c.into_disk-disk.ensures.disk ∙ calm other
 
 pub returns-clause-stands : goal.returns-clause-stands
-returns-clause-stands g c = λ told image allowed.
+returns-clause-stands g c = λ told.
     let reads = rw c.into_parts-store.ensures.store at c.send_or_refuse-status.ensures.reads in
-    subst (λ (p : Plate). GroupStands (g.D.Disk.size c.into_disk-disk.result) image p) (ap plate_at reads.stays.site) (c.into_disk-disk.ensures.stands told image allowed)
+    subst (λ (s : Site). StandsAlways (g.D.Disk.size c.into_disk-disk.result) (g.D.Disk.held c.into_disk-disk.result) s) reads.stays.site (c.into_disk-disk.ensures.stands told)
 
 pub returns-clause-one : goal.returns-clause-one
 returns-clause-one g c = λ told t image l.

@@ -9,10 +9,10 @@ use Rattle.vg_store.specs.Groups.{LeavesGroup, area_of, beside_of}
 use Rattle.vg_volumes.specs.Sites.{Site, area_size}
 use Rattle.sm_checks.specs.Openable.{IsOpeningStopped}
 use Rattle.sm_ready.specs.Stores.{content_now}
-use Rattle.lvhd_command.specs.Devices.{IsRefusedOn, site_on, plate_at}
+use Rattle.lvhd_command.specs.Devices.{IsRefusedOn, StandsAlways, beside_at, plate_at}
 use Rattle.lvhd_command.specs.Devices.IsRefusedOn.{by_group}
-use Rattle.lvhd_command.proofs.OpenLaws.{StandsAlways, sound_entry, shown_entry, opened_entry, answer_as, refused_content, kept_back, shown_back, repaired_sized, always_sized, unless, unless_from, kept_well, well_entry}
-use Rattle.lvhd_command.proofs.UnsoundLaws.{beside_at, beside_whole, beside_then, never_sound}
+use Rattle.lvhd_command.proofs.OpenLaws.{site_on, sound_entry, shown_entry, opened_entry, answer_as, refused_content, kept_back, shown_back, repaired_sized, always_sized, unless, unless_from, kept_well, well_entry}
+use Rattle.lvhd_command.proofs.UnsoundLaws.{beside_whole, beside_then, never_sound}
 use Rattle.lvhd_command.proofs.opening.open.Goals as goal
 
 pub returns-in-Err-clause-refused : goal.returns-in-Err-clause-refused

@@ -1,18 +1,17 @@
 use Rattle.std.proofs.Common.{◌≡◌, inl, inr, ⊎_elim, Ok, sym, refl, ap, ◌∙◌, subst}
 use Rattle.sm_disk.specs.Held.{Keeps}
 use Rattle.sm_disk.proofs.HeldLaws.{Keeps-none}
-use Rattle.vg_meta.specs.Roomy.{table_alone}
-use Rattle.vg_layout.specs.Fields.{layout_number}
-use Rattle.vg_store.specs.Groups.{area_of, beside_of}
-use Rattle.vg_volumes.specs.Sites.{Site, area_size}
+use Rattle.vg_store.specs.Groups.{area_of}
+use Rattle.vg_volumes.specs.Sites.{Site}
 use Rattle.sm_ready.specs.Known.{known}
 use Rattle.sm_run.specs.declared.runs.RunFault.TheVariants as fault
-use Rattle.lvhd_command.specs.Devices.{plate_at, site_on}
+use Rattle.lvhd_command.specs.Devices.{IsOneTable, beside_at, plate_at}
 use Rattle.lvhd_command.specs.Running.{RunSides, IsGivenBack}
+use Rattle.lvhd_command.specs.Sessions.{site_of, table_of}
 use Rattle.lvhd_command.proofs.OpenLaws.{kept_well}
-use Rattle.lvhd_command.proofs.RunLaws.{IsOneTable, has_run_sized, back_itself, ok_not_err, ends_done, ends_early, ended_not, refused_calm, refused_sink_calm, session_state, said_refused, has_stayed, stayed_poor, kept_off, left_of, done_not_kept_off}
+use Rattle.lvhd_command.proofs.RunLaws.{has_run_sized, back_itself, ok_not_err, ends_done, ends_early, ended_not, refused_calm, refused_sink_calm, session_state, said_refused, has_stayed, stayed_poor, kept_off, left_of, done_not_kept_off}
 use Rattle.lvhd_command.proofs.ExactLaws.{never_so, never_poor, sound_or_refused}
-use Rattle.lvhd_command.proofs.UnsoundLaws.{beside_at, beside_whole, beside_then, beside_last}
+use Rattle.lvhd_command.proofs.UnsoundLaws.{beside_whole, beside_then, beside_last}
 use Rattle.lvhd_command.proofs.running.run_script.Goals as goal
 
 pub returns-in-Err-clause-did : goal.returns-in-Err-clause-did
@@ -49,15 +48,15 @@ returns-in-Ok-run-clause-did g c = λ told kept.
     let e = c.in-Ok-open.ensures in
     let m = c.run.new.machine in
     let n = g.D.Disk.size m.store.inner.disk in
-    let site : Site = site_on m.store.inner.label n in
+    let site : Site = site_of m in
     let is_size : n ≡ s.size = ap (λ (x : Site). x.sectors) c.run.ensures.site ∙ e.size in
     let labelled = e.label told ∙ ap (λ (x : Site). Ok (plate_at x)) (sym c.run.ensures.site) in
     let slots = kept_well (g.D.Disk.size c.args.disk) (g.D.Disk.held c.args.disk) kept in
     let r = c.run.ensures.run told (e.whole, e.ready told slots) (e.kept told slots) (e.begins told slots) in
     let ready = r.ready (λ failed. ok_not_err c.run.result _ _ c.in-Ok-run.is failed) in
-    inl (has_run_sized s c.close.result.0 n site (table_alone m.store.inner.table) (g.D.Disk.held m.store.inner.disk) _ _ c.run.result _ g.D.Disk.told m.store.inner.failed is_size (e.sound told) (e.shown told slots) (e.opened told slots) r
+    inl (has_run_sized s c.close.result.0 n site (table_of m) (g.D.Disk.held m.store.inner.disk) _ _ c.run.result _ g.D.Disk.told m.store.inner.failed is_size (e.sound told) (e.shown told slots) (e.opened told slots) r
     (c.close.ensures.back told) (λ q. c.close.ensures.one told q.0)
-    (λ q. session_state site (table_alone m.store.inner.table) (area_of (layout_number m.store.inner.label.layout) (g.D.Disk.held m.store.inner.disk)) (known m.memory) ((m.between q.0).orderly) ((m.between q.0).tidy) q.1)
+    (λ q. session_state site (table_of m) (area_of site.layout (g.D.Disk.held m.store.inner.disk)) (known m.memory) ((m.between q.0).orderly) ((m.between q.0).tidy) q.1)
     (ends_done s.size n s.new _ c.run.result _ c.close.result.0 g.D.Disk.told told c.in-Ok-run.is is_size c.close.ensures.status (c.close.ensures.shown told ready.0 ready.1)) labelled)
 
 pub returns-clause-did : goal.returns-clause-did
@@ -74,15 +73,15 @@ returns-clause-did g c = λ told kept.
     let e = c.in-Ok-open.ensures in
     let m = c.run.new.machine in
     let n = g.D.Disk.size m.store.inner.disk in
-    let site : Site = site_on m.store.inner.label n in
+    let site : Site = site_of m in
     let is_size : n ≡ s.size = ap (λ (x : Site). x.sectors) c.run.ensures.site ∙ e.size in
     let labelled = e.label told ∙ ap (λ (x : Site). Ok (plate_at x)) (sym c.run.ensures.site) in
     let slots = kept_well (g.D.Disk.size c.args.disk) (g.D.Disk.held c.args.disk) kept in
     let r = c.run.ensures.run told (e.whole, e.ready told slots) (e.kept told slots) (e.begins told slots) in
     let back = subst (λ d. IsGivenBack n site (g.D.Disk.held m.store.inner.disk) (g.D.Disk.held d)) (sym c.leave.ensures.disk) (back_itself n site (g.D.Disk.held m.store.inner.disk) (c.leave.ensures.stands told)) in
-    inl (has_run_sized s c.status_of_fault.result n site (table_alone m.store.inner.table) (g.D.Disk.held m.store.inner.disk) _ _ c.run.result _ g.D.Disk.told m.store.inner.failed is_size (e.sound told) (e.shown told slots) (e.opened told slots) r
-    back (λ q. subst (λ d. IsOneTable n site (g.D.Disk.held d) (table_alone m.store.inner.table)) (sym c.leave.ensures.disk) (c.leave.ensures.one told q.0))
-    (λ q. session_state site (table_alone m.store.inner.table) (area_of (layout_number m.store.inner.label.layout) (g.D.Disk.held m.store.inner.disk)) (known m.memory) ((m.between q.0).orderly) ((m.between q.0).tidy) q.1)
+    inl (has_run_sized s c.status_of_fault.result n site (table_of m) (g.D.Disk.held m.store.inner.disk) _ _ c.run.result _ g.D.Disk.told m.store.inner.failed is_size (e.sound told) (e.shown told slots) (e.opened told slots) r
+    back (λ q. subst (λ d. IsOneTable n site (g.D.Disk.held d) (table_of m)) (sym c.leave.ensures.disk) (c.leave.ensures.one told q.0))
+    (λ q. session_state site (table_of m) (area_of site.layout (g.D.Disk.held m.store.inner.disk)) (known m.memory) ((m.between q.0).orderly) ((m.between q.0).tidy) q.1)
     (ends_early s.size s.new _ c.run.result c.in-Err-run.fault c.status_of_fault.result c.in-Err-run.is c.status_of_fault.ensures) labelled)
 
 pub returns-in-Err-clause-unsound : goal.returns-in-Err-clause-unsound
@@ -162,7 +161,7 @@ returns-in-Ok-run-clause-beside g c = λ told.
     let s = c.in-Ok-open.session in
     let m = c.run.new.machine in
     let e = c.in-Ok-open.ensures in
-    let site : Site = site_on m.store.inner.label (g.D.Disk.size m.store.inner.disk) in
+    let site : Site = site_of m in
     let labelled = e.label told ∙ ap (λ (x : Site). Ok (plate_at x)) (sym c.run.ensures.site) in
     let k = subst (λ (n : Site). Keeps (beside_at n (g.D.Disk.held s.store.inner.disk)) (beside_at site (g.D.Disk.held m.store.inner.disk))) (sym c.run.ensures.site) (c.run.ensures.beside told) in
     beside_last size old (g.D.Disk.held m.store.inner.disk) _ (beside_then size old (g.D.Disk.held s.store.inner.disk) (g.D.Disk.held m.store.inner.disk) site labelled (e.beside told) k)
@@ -175,7 +174,7 @@ returns-clause-beside g c = λ told.
     let s = c.in-Ok-open.session in
     let m = c.run.new.machine in
     let e = c.in-Ok-open.ensures in
-    let site : Site = site_on m.store.inner.label (g.D.Disk.size m.store.inner.disk) in
+    let site : Site = site_of m in
     let labelled = e.label told ∙ ap (λ (x : Site). Ok (plate_at x)) (sym c.run.ensures.site) in
     let k = subst (λ (n : Site). Keeps (beside_at n (g.D.Disk.held s.store.inner.disk)) (beside_at site (g.D.Disk.held m.store.inner.disk))) (sym c.run.ensures.site) (c.run.ensures.beside told) in
     beside_last size old (g.D.Disk.held m.store.inner.disk) _ (beside_then size old (g.D.Disk.held s.store.inner.disk) (g.D.Disk.held m.store.inner.disk) site labelled (e.beside told) k)

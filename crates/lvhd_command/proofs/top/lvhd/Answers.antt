@@ -58,33 +58,18 @@ pub returns-in-Some-Export-clause-export : goal.returns-in-Some-Export-clause-ex
 returns-in-Some-Export-clause-export g c = λ wanted is.
     let here = c.in-Some-Export.is ∙ ap (λ (f : Form). Some f) c.in-Some-Export.field-0-is in
     let s : RunSides = export_sides g.D.Disk.size g.D.Disk.held g.K.Sink.content c.args.disk c.run_export.result.1 c.args.sink.now c.run_export.new.sink in
-    (refl, λ told kept. subst (λ (w : Wanted). ExportDid s w.disk c.args.now c.run_export.result.0) (same_wanted c.in-Some-Export.wanted wanted (sym here ∙ c.read.ensures ∙ is)) (c.run_export.ensures.did told kept))
-
-pub returns-in-Some-Export-clause-export_said : goal.returns-in-Some-Export-clause-export_said
-returns-in-Some-Export-clause-export_said g c = λ wanted is told. c.run_export.ensures.said told
-
-pub returns-in-Some-Export-clause-export_kept : goal.returns-in-Some-Export-clause-export_kept
-returns-in-Some-Export-clause-export_kept g c = λ wanted is told kept. c.run_export.ensures.kept told kept
-
-pub returns-in-Some-Export-clause-export_opened : goal.returns-in-Some-Export-clause-export_opened
-returns-in-Some-Export-clause-export_opened g c = λ wanted is told kept. c.run_export.ensures.opened told kept
-
-pub returns-in-Some-Export-clause-export_beside : goal.returns-in-Some-Export-clause-export_beside
-returns-in-Some-Export-clause-export_beside g c = λ wanted is told. c.run_export.ensures.beside told
-
-pub returns-in-Some-Export-clause-export_unsound : goal.returns-in-Some-Export-clause-export_unsound
-returns-in-Some-Export-clause-export_unsound g c = λ wanted is told e on. c.run_export.ensures.unsound told e on
+    (refl, λ told. subst (λ (w : Wanted). ExportDid s w.disk c.args.now c.run_export.result.0) (same_wanted c.in-Some-Export.wanted wanted (sym here ∙ c.read.ensures ∙ is)) (c.run_export.ensures.did told))
 
 pub returns-in-Some-Export-clause-complete_export : goal.returns-in-Some-Export-clause-complete_export
 returns-in-Some-Export-clause-complete_export g c = λ wanted ds d is told kept shown i named dev snk.
     let here = c.in-Some-Export.is ∙ ap (λ (f : Form). Some f) c.in-Some-Export.field-0-is in
     let same = same_wanted c.in-Some-Export.wanted wanted (sym here ∙ c.read.ensures ∙ is) in
     let s : RunSides = export_sides g.D.Disk.size g.D.Disk.held g.K.Sink.content c.args.disk c.run_export.result.1 c.args.sink.now c.run_export.new.sink in
-    export_completes s c.in-Some-Export.wanted.disk c.args.now ds d c.run_export.result.0 (c.run_export.ensures.did told kept) shown i (named ∙ ap (λ (w : Wanted). w.disk) (sym same)) (λ e. dev (c.run_export.ensures.device e)) (λ e. snk (c.run_export.ensures.sink e))
+    export_completes s c.in-Some-Export.wanted.disk c.args.now ds d c.run_export.result.0 ((c.run_export.ensures.did told).sent kept) shown i (named ∙ ap (λ (w : Wanted). w.disk) (sym same)) (λ e. dev (c.run_export.ensures.device e)) (λ e. snk (c.run_export.ensures.sink e))
 
 pub returns-in-Some-Export-clause-complete_unknown : goal.returns-in-Some-Export-clause-complete_unknown
 returns-in-Some-Export-clause-complete_unknown g c = λ wanted is told kept unknown dev snk.
     let here = c.in-Some-Export.is ∙ ap (λ (f : Form). Some f) c.in-Some-Export.field-0-is in
     let same = same_wanted c.in-Some-Export.wanted wanted (sym here ∙ c.read.ensures ∙ is) in
     let s : RunSides = export_sides g.D.Disk.size g.D.Disk.held g.K.Sink.content c.args.disk c.run_export.result.1 c.args.sink.now c.run_export.new.sink in
-    export_denies s c.in-Some-Export.wanted.disk c.args.now c.run_export.result.0 (c.run_export.ensures.did told kept) (subst (λ (w : Wanted). IsUnknown s w.disk) (sym same) unknown) (λ e. dev (c.run_export.ensures.device e)) (λ e. snk (c.run_export.ensures.sink e))
+    export_denies s c.in-Some-Export.wanted.disk c.args.now c.run_export.result.0 ((c.run_export.ensures.did told).sent kept) (subst (λ (w : Wanted). IsUnknown s w.disk) (sym same) unknown) (λ e. dev (c.run_export.ensures.device e)) (λ e. snk (c.run_export.ensures.sink e))

@@ -3,17 +3,14 @@ use Rattle.sm_disk.specs.Held.{Keeps, reads}
 use Rattle.sm_disk.proofs.HeldLaws.{Allows-reads, Keeps-then}
 use Rattle.sm_disk.proofs.StreamLaws.{Adds-none}
 use Rattle.sm_machine.specs.Steps.{State}
-use Rattle.sm_ready.specs.Known.{known}
-use Rattle.sm_ready.specs.Sessions.{state_in}
 use Rattle.sm_standing.specs.Devices.{Shows}
-use Rattle.vg_meta.specs.Roomy.{table_alone}
 use Rattle.vg_layout.specs.Sectors.{Plate}
 use Rattle.vg_layout.specs.Opening.{plate_of}
 use Rattle.vg_store.specs.Formats.{new_group}
-use Rattle.vg_layout.specs.Fields.{layout_number}
-use Rattle.vg_store.specs.Groups.{area_of, beside_of}
+use Rattle.vg_store.specs.Groups.{beside_of}
 use Rattle.vg_store.specs.Openings.{IsAnswer}
-use Rattle.lvhd_command.specs.Devices.{HoldsWellOn, IsKeptDevice, IsOpenedOn, IsRefusedOn, plate_at, site_on}
+use Rattle.lvhd_command.specs.Devices.{HoldsWellOn, IsKeptDevice, IsOpenedOn, IsRefusedOn, plate_at}
+use Rattle.lvhd_command.specs.Sessions.{site_of, state_of}
 use Rattle.lvhd_command.specs.Trials.{HasPlate, SessionTried}
 use Rattle.lvhd_command.proofs.FormatLaws.{beside_sizes, said_calm}
 use Rattle.lvhd_command.proofs.FormattedLaws.{device_kept, formatted_allowed}
@@ -34,7 +31,7 @@ returns-in-Ok-open-clause-did g c = λ told.
     let slots : HoldsWellOn (g.D.Disk.size c.format.new.disk) (reads h) = kept_well _ h (subst (λ n. IsKeptDevice n h) (sym c.format.ensures.size) kept) in
     let e = c.in-Ok-open.ensures in
     let s = c.in-Ok-open.session in
-    let start : State = state_in (site_on s.store.inner.label (g.D.Disk.size s.store.inner.disk)) (table_alone s.store.inner.table) (area_of (layout_number s.store.inner.label.layout) (g.D.Disk.held s.store.inner.disk)) (known s.memory) in
+    let start : State = state_of s in
     trial_did _ c.args.number start c.try_session.result.0
     (start_is size (reads h) made _ start (formatted_allowed size h made _ formatted settled (reads h) (Allows-reads size h)) (record { extent = sizes.0; block = sizes.1; entries = sizes.2 })
     (subst (λ n. Shows n (reads h) start.disks) c.format.ensures.size (e.shown told slots)) (subst (λ n. IsOpenedOn n (reads h) start.shape) c.format.ensures.size (e.opened told slots)))
@@ -83,7 +80,7 @@ returns-in-Ok-open-clause-label g c = λ told done other sized.
     let e = c.in-Ok-open.ensures in
     let s = c.in-Ok-open.session in
     let is_size = e.size ∙ c.format.ensures.size in
-    let p : Plate = plate_at (site_on s.store.inner.label (g.D.Disk.size s.store.inner.disk)) in
+    let p : Plate = plate_at (site_of s) in
     let f = formatted_allowed size h made _ (c.in-Ok.ensures.formatted told) (c.in-Ok.ensures.settled told) (reads h) (Allows-reads size h) in
     let here = plate_once size (reads h) p (new_group size made _).plate (sym (ap (λ n. plate_of n (reads h)) c.format.ensures.size) ∙ e.label told) f.stands.labelled in
     let same = same_plate size made other _ _ (record { extent = sizes.0; block = sizes.1; entries = sizes.2 }) sized c.from_bytes.ensures in
@@ -105,7 +102,7 @@ returns-in-Ok-open-clause-beside g c = λ told.
     let e = c.in-Ok-open.ensures in
     let s = c.in-Ok-open.session in
     let n = g.D.Disk.size c.format.new.disk in
-    let p : Plate = plate_at (site_on s.store.inner.label (g.D.Disk.size s.store.inner.disk)) in
+    let p : Plate = plate_at (site_of s) in
     let f = formatted_allowed size h made _ (c.in-Ok.ensures.formatted told) (c.in-Ok.ensures.settled told) (reads h) (Allows-reads size h) in
     let labelled = ap (λ k. plate_of k (reads h)) c.format.ensures.size ∙ f.stands.labelled in
     let here = plate_once n (reads h) p (new_group size made _).plate (e.label told) labelled in

@@ -1,13 +1,11 @@
 use Rattle.std.proofs.Common.{◌≡◌, ◌⊎◌, inl, inr, sym, ◌∙◌}
-use Rattle.vg_meta.specs.Roomy.{table_alone}
-use Rattle.vg_layout.specs.Fields.{layout_number}
 use Rattle.vg_store.specs.Groups.{area_of}
 use Rattle.vg_volumes.specs.Sites.{Site}
 use Rattle.sm_ready.specs.Known.{known}
 use Rattle.sm_disk.specs.Held.{IsSettled}
 use Rattle.lvhd_command.specs.declared.statuses.Status.{Status}
 use Rattle.lvhd_command.specs.declared.statuses.Status.TheVariants.{Device, Done}
-use Rattle.lvhd_command.specs.Devices.{site_on}
+use Rattle.lvhd_command.specs.Sessions.{site_of, table_of}
 use Rattle.lvhd_command.proofs.FormatLaws.{said_calm}
 use Rattle.lvhd_command.proofs.OpenLaws.{kept_device}
 use Rattle.lvhd_command.proofs.RunLaws.{reads_as, session_state}
@@ -24,7 +22,7 @@ pub returns-in-Done-clause-kept : goal.returns-in-Done-clause-kept
 returns-in-Done-clause-kept g c = λ told keeps.
     let s = c.args.session in
     let size = g.D.Disk.size s.store.inner.disk in
-    let site : Site = site_on s.store.inner.label size in
+    let site : Site = site_of s in
     let back = c.close-status.ensures.back told in
     kept_device size (g.D.Disk.held c.close-status.result.1) site back.stands (λ u image l. keeps u image (inl (back.fewer u image l)))
 
@@ -32,7 +30,7 @@ pub returns-in_default-clause-kept : goal.returns-in_default-clause-kept
 returns-in_default-clause-kept g c = λ told keeps.
     let s = c.args.session in
     let size = g.D.Disk.size s.store.inner.disk in
-    let site : Site = site_on s.store.inner.label size in
+    let site : Site = site_of s in
     let back = c.close-status.ensures.back told in
     kept_device size (g.D.Disk.held c.close-status.result.1) site back.stands (λ u image l. keeps u image (inl (back.fewer u image l)))
 
@@ -44,7 +42,7 @@ pub returns-in-Done-clause-rests : goal.returns-in-Done-clause-rests
 returns-in-Done-clause-rests g c = λ told ready keeps other.
     let s = c.args.session in
     let size = g.D.Disk.size s.store.inner.disk in
-    let site : Site = site_on s.store.inner.label size in
+    let site : Site = site_of s in
     let e = c.close-status.ensures in
     let back = e.back told in
     let whole = c.requires.whole in
@@ -52,8 +50,8 @@ returns-in-Done-clause-rests g c = λ told ready keeps other.
     record {
       settled = settled;
       only = e.shown told whole ready settled;
-      reads = reads_as size site (g.D.Disk.held s.store.inner.disk) (g.D.Disk.held c.close-status.result.1) (table_alone s.store.inner.table) _ back (e.one told whole)
-          (session_state site (table_alone s.store.inner.table) (area_of (layout_number s.store.inner.label.layout) (g.D.Disk.held s.store.inner.disk)) (known s.memory) ((s.between whole).orderly) ((s.between whole).tidy) ready);
+      reads = reads_as size site (g.D.Disk.held s.store.inner.disk) (g.D.Disk.held c.close-status.result.1) (table_of s) _ back (e.one told whole)
+          (session_state site (table_of s) (area_of site.layout (g.D.Disk.held s.store.inner.disk)) (known s.memory) ((s.between whole).orderly) ((s.between whole).tidy) ready);
       kept = returns-in-Done-clause-kept g c told keeps;
     }
 

@@ -1,16 +1,12 @@
 use Rattle.std.proofs.Common.{◌≡◌, ◌<◌, ◌^◌, inl, sym, ap, ◌∙◌, subst, subst₂}
 use Rattle.sm_machine.specs.Steps.{State}
-use Rattle.sm_ready.specs.Known.{known, shape_in}
-use Rattle.sm_ready.specs.Sessions.{state_in}
-use Rattle.vg_meta.specs.Roomy.{table_alone}
-use Rattle.vg_layout.specs.Fields.{layout_number}
-use Rattle.lvhd_command.proofs.UnsoundLaws.{beside_at}
-use Rattle.vg_store.specs.Groups.{area_of, beside_of}
+use Rattle.sm_ready.specs.Known.{shape_in}
 use Rattle.vg_store.proofs.BesideLaws.{beside_kept}
 use Rattle.sm_disk.specs.Held.{Keeps}
 use Rattle.sm_disk.proofs.HeldLaws.{Keeps-then}
 use Rattle.vg_volumes.specs.Sites.{Site, area_size}
-use Rattle.lvhd_command.specs.Devices.{IsKeptDevice, plate_at, site_on}
+use Rattle.lvhd_command.specs.Devices.{IsKeptDevice, beside_at, plate_at}
+use Rattle.lvhd_command.specs.Sessions.{site_of, state_of}
 use Rattle.lvhd_command.specs.Trials.{HasPlate, RestsAs}
 use Rattle.lvhd_command.proofs.OpenLaws.{kept_device}
 use Rattle.lvhd_command.proofs.TrialLaws.{call_failed, call_not_done, counted_still, counted_words, session_said}
@@ -26,7 +22,7 @@ returns-in-Err-clause-tried g c = λ told ready keeps.
     call_failed _ _ _ _ _ c.in-Err.why c.status_of_call.result c.status_of_call.ensures
     (subst (λ d. IsKeptDevice (g.D.Disk.size c.args.session.store.inner.disk) (g.D.Disk.held d)) (sym c.leave.ensures.disk)
     (subst (λ z. IsKeptDevice z (g.D.Disk.held m.store.inner.disk)) is_size
-    (kept_device n (g.D.Disk.held m.store.inner.disk) (site_on m.store.inner.label n) (c.leave.ensures.stands told) (λ u image l. k u image (inl l)))))
+    (kept_device n (g.D.Disk.held m.store.inner.disk) (site_of m) (c.leave.ensures.stands told) (λ u image l. k u image (inl l)))))
 
 pub returns-in-Err-count_all-clause-tried : goal.returns-in-Err-count_all-clause-tried
 returns-in-Err-count_all-clause-tried g c = λ told ready keeps.
@@ -39,7 +35,7 @@ returns-in-Err-count_all-clause-tried g c = λ told ready keeps.
     call_failed _ _ _ _ _ c.in-Err-count_all.why c.status_of_call-in-Err-count_all.result c.status_of_call-in-Err-count_all.ensures
     (subst (λ d. IsKeptDevice (g.D.Disk.size c.args.session.store.inner.disk) (g.D.Disk.held d)) (sym c.leave-in-Err-count_all.ensures.disk)
     (subst (λ z. IsKeptDevice z (g.D.Disk.held m.store.inner.disk)) is_size
-    (kept_device n (g.D.Disk.held m.store.inner.disk) (site_on m.store.inner.label n) (c.leave-in-Err-count_all.ensures.stands told) (λ u image l. k u image (inl l)))))
+    (kept_device n (g.D.Disk.held m.store.inner.disk) (site_of m) (c.leave-in-Err-count_all.ensures.stands told) (λ u image l. k u image (inl l)))))
 
 pub returns-clause-tried : goal.returns-clause-tried
 unfolding shape_in
@@ -53,8 +49,8 @@ returns-clause-tried g c = λ told ready keeps.
     let tried = c.in-Ok.ensures.tried told (whole, ready) keeps in
     let k = c.count_all.ensures.kept told tried.1 (c.try_lines.ensures.kept told (whole, ready) keeps) in
     let counted = c.in-Ok-count_all.ensures.counted told tried.1 in
-    let σ : State = state_in (site_on first.store.inner.label (g.D.Disk.size first.store.inner.disk)) (table_alone first.store.inner.table) (area_of (layout_number first.store.inner.label.layout) (g.D.Disk.held first.store.inner.disk)) (known first.memory) in
-    let last : State = state_in (site_on m.store.inner.label n) (table_alone m.store.inner.table) (area_of (layout_number m.store.inner.label.layout) (g.D.Disk.held m.store.inner.disk)) (known m.memory) in
+    let σ : State = state_of first in
+    let last : State = state_of m in
     let few : σ.shape.sequence < 2 ^ 48 = ((first.between tried.1.0).orderly).table.sequence in
     session_said _ _ _ _ _ _ _ c.say.result.0 c.say.ensures.said
     (λ other. record {
@@ -81,7 +77,7 @@ pub returns-in-Err-clause-beside : goal.returns-in-Err-clause-beside
 returns-in-Err-clause-beside g c = λ told.
     let s = c.args.session in
     let m = c.try_lines.new.machine in
-    let n : Site = (site_on s.store.inner.label (g.D.Disk.size s.store.inner.disk)) in
+    let n : Site = site_of s in
     subst (λ d. Keeps (beside_at n (g.D.Disk.held s.store.inner.disk)) (beside_at n (g.D.Disk.held d))) (sym c.leave.ensures.disk)
     (subst (λ (k : Site). Keeps (beside_at n (g.D.Disk.held s.store.inner.disk)) (beside_at k (g.D.Disk.held m.store.inner.disk))) c.try_lines.ensures.site (c.try_lines.ensures.beside told))
 
@@ -90,7 +86,7 @@ returns-in-Err-count_all-clause-beside g c = λ told.
     let s = c.args.session in
     let first = c.try_lines.new.machine in
     let m = c.count_all.new.machine in
-    let n : Site = (site_on s.store.inner.label (g.D.Disk.size s.store.inner.disk)) in
+    let n : Site = site_of s in
     let a = subst (λ (k : Site). Keeps (beside_at n (g.D.Disk.held s.store.inner.disk)) (beside_at k (g.D.Disk.held first.store.inner.disk))) c.try_lines.ensures.site (c.try_lines.ensures.beside told) in
     let b = subst₂ (λ (j k : Site). Keeps (beside_at j (g.D.Disk.held first.store.inner.disk)) (beside_at k (g.D.Disk.held m.store.inner.disk))) c.try_lines.ensures.site (c.count_all.ensures.site ∙ c.try_lines.ensures.site) (c.count_all.ensures.beside told) in
     subst (λ d. Keeps (beside_at n (g.D.Disk.held s.store.inner.disk)) (beside_at n (g.D.Disk.held d))) (sym c.leave-in-Err-count_all.ensures.disk) (Keeps-then a b)
@@ -100,7 +96,7 @@ returns-clause-beside g c = λ told.
     let s = c.args.session in
     let first = c.try_lines.new.machine in
     let m = c.count_all.new.machine in
-    let n : Site = (site_on s.store.inner.label (g.D.Disk.size s.store.inner.disk)) in
+    let n : Site = site_of s in
     let a = subst (λ (k : Site). Keeps (beside_at n (g.D.Disk.held s.store.inner.disk)) (beside_at k (g.D.Disk.held first.store.inner.disk))) c.try_lines.ensures.site (c.try_lines.ensures.beside told) in
     let b = subst₂ (λ (j k : Site). Keeps (beside_at j (g.D.Disk.held first.store.inner.disk)) (beside_at k (g.D.Disk.held m.store.inner.disk))) c.try_lines.ensures.site (c.count_all.ensures.site ∙ c.try_lines.ensures.site) (c.count_all.ensures.beside told) in
     Keeps-then (Keeps-then a b) (beside_kept n.layout (area_size n) (c.say.ensures.keeps told))
