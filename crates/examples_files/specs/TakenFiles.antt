@@ -42,6 +42,10 @@ differencing_file = footer_bytes (record (export_footer 128 small_uuid 0) { kind
 unfoldable pub short_table_file : File
 short_table_file = with_table (record small_header { entries = 15 }) (table_of 4 13)
 
+-- the exported file with a header of 130 entries, so that its table has two sectors, up to the end of the first, which is this one
+unfoldable pub half_table_file : List ℕ → File
+half_table_file table = take 4 (with_table (record small_header { entries = 130 }) table)
+
 -- the exported file, its first block in the table
 unfoldable pub in_table_file : File
 in_table_file = with_table small_header (table_of 3 13)

@@ -5,7 +5,7 @@ ghost use Rattle.std.specs.List.{concat};
 ghost use Rattle.vhd_import.specs.declared.denials.Denial.TheVariants.{BadFile, BadSize, Cut, Differencing, NoSpace};
 ghost use Rattle.vhd_import.specs.Verdicts.{Denied, Long, Made, imported, verdict, verdict_of};
 ghost use Rattle.examples_files.specs.SmallFiles.{small_disk, small_file, small_uuid};
-ghost use Rattle.examples_files.specs.TakenFiles.{differencing_file, fixed_file, in_table_file, moved_file, overlapping_file, plain_sector, short_table_file, small_target};
+ghost use Rattle.examples_files.specs.TakenFiles.{differencing_file, fixed_file, half_table_file, in_table_file, moved_file, overlapping_file, plain_sector, short_table_file, small_target, table_of};
 
 /// Files of which a disk is made: the exported file, the same without the footer at its end and with a sector put in, and a fixed one, of which
 /// the disk is a whole block.
@@ -25,6 +25,8 @@ pub fn refused_files()
     ensures differencing { verdict_of small_target (concat differencing_file) ≡ Denied Differencing }
     ensures no_header { verdict_of small_target (concat (take 1 small_file ++ (plain_sector ∷ drop 2 small_file))) ≡ Denied (BadFile 1) }
     ensures few_entries { verdict_of small_target (concat short_table_file) ≡ Denied (BadFile 0) }
+    ensures half_table { verdict_of small_target (concat (half_table_file (table_of 5 14))) ≡ Denied (Cut 4) }
+    ensures half_table_wrong { verdict_of small_target (concat (half_table_file (table_of 4 14))) ≡ Denied (BadFile 3) }
     ensures in_table { verdict_of small_target (concat in_table_file) ≡ Denied (BadFile 3) }
     ensures overlapping { verdict_of small_target (concat overlapping_file) ≡ Denied (BadFile 3) }
     ensures other_size { verdict_of small_target (concat (fixed_file 512)) ≡ Denied (BadFile 2) }

@@ -39,8 +39,8 @@ use Rattle.examples_ready.proofs.TableSteps.{each, below_by, distinct_by, first_
 
 -- ---- too large a group
 
-pub wide_only : 65537 ≤ extent_limit → IsOrderly (site_of 65537) plain_table plain_known
-wide_only h = orderly_with 65537 first_slot (codes "b") (lit≤ tt) refl h first_stands
+pub wide_only : 1048577 ≤ extent_limit → IsOrderly (site_of 1048577) plain_table plain_known
+wide_only h = orderly_with 1048577 first_slot (codes "b") (lit≤ tt) refl h first_stands
 
 -- ---- a place too few
 

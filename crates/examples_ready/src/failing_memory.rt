@@ -22,8 +22,8 @@ ghost use Rattle.examples_ready.specs.WorkedRows.{site, site_of, sizes};
 
 /// The group has an extent more than a group may have.
 pub fn example_wide()
-    ensures fails { ¬ IsOrderly (site_of 65537) plain_table plain_known }
-    ensures only { 65537 ≤ extent_limit → IsOrderly (site_of 65537) plain_table plain_known }
+    ensures fails { ¬ IsOrderly (site_of 1048577) plain_table plain_known }
+    ensures only { 1048577 ≤ extent_limit → IsOrderly (site_of 1048577) plain_table plain_known }
 {}
 
 /// Memory has a place too few.

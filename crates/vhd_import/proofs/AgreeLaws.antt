@@ -1,6 +1,6 @@
 -- What a sector decides depends on the sectors up to it alone.
 use Rattle.std.proofs.Common.{◌≡◌, ⊎_elim, ℕ, zero, suc, ◌+◌, ◌-◌, ◌*◌, ◌/◌, ◌%◌, ◌<◌, ◌≤◌, Bool, true, false, not, ◌&&◌, List, [], ◌∷◌, ◌++◌, length, Option, Some, None, refl, sym, ap, ◌∙◌, arith}
-use Rattle.std.specs.Prelude.{nat_lt, nat_le, ◌==◌, ◌||◌, is_some, if◌then◌else◌}
+use Rattle.std.specs.Prelude.{min, nat_lt, nat_le, ◌==◌, ◌||◌, is_some, if◌then◌else◌}
 use Rattle.std.specs.List.{find}
 use Rattle.std.specs.Option.{option_map_or}
 use Rattle.std.specs.Result.{result_ok}
@@ -19,13 +19,13 @@ use Rattle.vhd_map.specs.Places.{blank, word}
 use Rattle.vhd_stream.specs.Files.{File, FileLayout, entry, layout_of, sector_at, table_end}
 use Rattle.vhd_import.specs.declared.denials.Denial.{Denial}
 use Rattle.vhd_import.specs.declared.denials.Denial.TheVariants.{BadFile, BadSize, Differencing}
-use Rattle.vhd_import.specs.Heads.{footer_at, header_at, is_dynamic, is_kind, layout_at, size_at, without_parent}
+use Rattle.vhd_import.specs.Heads.{any_header, exceeds, footer_at, header_at, is_dynamic, is_kind, lacks_entries, layout_at, size_at, without_parent}
 use Rattle.vhd_import.specs.Laws.{AgreeUpTo}
 use Rattle.vhd_import.specs.Puts.{Put, block_put, dynamic_put, fixed_put, has_sector, put_at}
 use Rattle.vhd_import.specs.Room.{Target, block_of, distinct_blocks, extents_for, filled_at, is_too_large, lacks, lacks_space, used}
 use Rattle.vhd_import.specs.Tables.{is_entry_wrong, is_named, is_table_wrong}
-use Rattle.vhd_import.specs.Verdicts.{denial_at, dynamic_denials, fixed_denials, wrong_table}
-use Rattle.vhd_import.proofs.HeadLaws.{end-behind, entry-within, headed}
+use Rattle.vhd_import.specs.Verdicts.{denial_at, dynamic_denials, fixed_denials, read_up_to, wrong_table}
+use Rattle.vhd_import.proofs.HeadLaws.{begin-behind, end-behind, entry-within, headed}
 use Rattle.vhd_import.proofs.TestLaws.{filter_map-same, find-same, some_below-same}
 
 same_cons : {A : Type 0} (a b : A) (xs ys : List A) → a ≡ b → xs ≡ ys → (a ∷ xs) ≡ (b ∷ ys)
@@ -45,14 +45,15 @@ early-put file j early = by (layout_at file) refl
         rw e refl
 
 early-table : (file : File) (k : ℕ) → k < 3 → option_map_or (wrong_table file k) (layout_at file) None ≡ None
+unfolding some_below
 early-table file k early = by (layout_at file) refl
   where
     by : (o : Option FileLayout) → layout_at file ≡ o → option_map_or (wrong_table file k) o None ≡ None
     by None is = refl
     by (Some f) is =
-        let end = end-behind file f is in
-        let e : (k + 1 == table_end f) ≡ false = grind (arith, nat_tests) in
-        rw e refl
+        let behind = begin-behind file f is in
+        let none : min f.blocks (128 * (k + 1 - f.table)) ≡ 0 = omega (arith, behind, early) in
+        rw none refl
 
 -- a test that is asked once sector 2 was read
 from-two : (k : ℕ) (a b : Bool) → (2 ≤ k → a ≡ b) → ((k == 2) && a) ≡ ((k == 2) && b)
@@ -73,11 +74,19 @@ module _ (k : ℕ) (x y : File) (agree : AgreeUpTo k x y) where
   unfolding size_at
   same-size = ap (λ (o : Option Footer). option_map_or (λ f. f.current / 512) o 0) same-footer
 
+  same-any : 2 ≤ k → any_header x ≡ any_header y
+  same-any far =
+      ap (λ s. result_ok (header_read (s ++ sector_at x 2))) (agree 1 (omega (arith, far))) ∙ ap (λ s. result_ok (header_read (sector_at y 1 ++ s))) (agree 2 far)
+
   same-header : 2 ≤ k → header_at x ≡ header_at y
   unfolding header_at
-  same-header far =
-      ap (λ s. result_ok (header_read (s ++ sector_at x 2)) >>= without_parent) (agree 1 (omega (arith, far)))
-      ∙ ap (λ s. result_ok (header_read (sector_at y 1 ++ s)) >>= without_parent) (agree 2 far)
+  same-header far = ap (λ (o : Option Header). o >>= without_parent) (same-any far)
+
+  same-exceeds : 2 ≤ k → lacks_entries x ≡ lacks_entries y
+  unfolding lacks_entries
+  same-exceeds far =
+      ap (λ (o : Option Footer). option_map_or (λ f. option_map_or (exceeds f) (any_header x) false) o false) same-footer
+      ∙ ap (λ (o : Option Header). option_map_or (λ f. option_map_or (exceeds f) o false) (footer_at y 0) false) (same-any far)
 
   same-layout : 2 ≤ k → layout_at x ≡ layout_at y
   unfolding layout_at
@@ -88,20 +97,23 @@ module _ (k : ℕ) (x y : File) (agree : AgreeUpTo k x y) where
 
   -- ---- entries
 
-  same-entry : (f : FileLayout) (b : ℕ) → b < f.entries → table_end f ≤ k + 1 → entry f x b ≡ entry f y b
+  same-read : (f : FileLayout) (b : ℕ) → f.table + b / 128 ≤ k → entry f x b ≡ entry f y b
   unfolding entry
-  same-entry f b below end = ap (λ s. word s (b % 128)) (agree (f.table + b / 128) (omega (arith, entry-within f b below, end)))
+  same-read f b within = ap (λ s. word s (b % 128)) (agree (f.table + b / 128) within)
 
-  same-wrong : (f : FileLayout) (b : ℕ) → b < f.entries → table_end f ≤ k + 1 → is_entry_wrong f x b ≡ is_entry_wrong f y b
+  same-entry : (f : FileLayout) (b : ℕ) → b < f.entries → table_end f ≤ k + 1 → entry f x b ≡ entry f y b
+  same-entry f b below end = same-read f b (omega (arith, entry-within f b below, end))
+
+  same-wrong : (f : FileLayout) (b : ℕ) → f.table + b / 128 ≤ k → is_entry_wrong f x b ≡ is_entry_wrong f y b
   unfolding is_entry_wrong
-  same-wrong f b below end =
+  same-wrong f b within =
       let clash : ℕ → ℕ → Bool = λ d e. not (d == blank) && (nat_lt e (d + (1 + f.block)) && nat_lt d (e + (1 + f.block))) in
-      ap (λ e. not (e == blank) && (nat_lt e (table_end f) || some_below (λ c. clash (entry f x c) e) b)) (same-entry f b below end)
+      ap (λ e. not (e == blank) && (nat_lt e (table_end f) || some_below (λ c. clash (entry f x c) e) b)) (same-read f b within)
       ∙ ap (λ s. not (entry f y b == blank) && (nat_lt (entry f y b) (table_end f) || s))
-      (some_below-same (λ c. clash (entry f x c) (entry f y b)) (λ c. clash (entry f y c) (entry f y b)) b (λ c less. ap (λ d. clash d (entry f y b)) (same-entry f c (omega (arith, less, below)) end)))
+      (some_below-same (λ c. clash (entry f x c) (entry f y b)) (λ c. clash (entry f y c) (entry f y b)) b (λ c less. ap (λ d. clash d (entry f y b)) (same-read f c (omega (arith, less, within)))))
 
-  same-table : (f : FileLayout) → f.blocks ≤ f.entries → table_end f ≤ k + 1 → is_table_wrong f x ≡ is_table_wrong f y
-  same-table f fits end = some_below-same (is_entry_wrong f x) (is_entry_wrong f y) f.blocks (λ b less. same-wrong f b (omega (arith, less, fits)) end)
+  same-table : (f : FileLayout) → f.blocks ≤ 128 * (k + 1 - f.table) → is_table_wrong f x ≡ is_table_wrong f y
+  same-table f read = some_below-same (is_entry_wrong f x) (is_entry_wrong f y) f.blocks (λ b less. same-wrong f b (omega (arith, less, read)))
 
   -- ---- puts
 
@@ -182,25 +194,21 @@ module _ (k : ℕ) (x y : File) (agree : AgreeUpTo k x y) where
   same-wrong_table : option_map_or (wrong_table x k) (layout_at x) None ≡ option_map_or (wrong_table y k) (layout_at y) None
   same-wrong_table = ⊎_elim (λ (early : k < 2). early-table x k (omega (arith, early)) ∙ sym (early-table y k (omega (arith, early)))) far (cases_lt k 2)
     where
-      ends : (f : FileLayout) → f.blocks ≤ f.entries → (b : Bool) → (k + 1 == table_end f) ≡ b → given (b && is_table_wrong f x) (BadFile f.table) ≡ given (b && is_table_wrong f y) (BadFile f.table)
-      ends f fits true is = let end : table_end f ≤ k + 1 = grind (arith, nat_tests) in ap (λ w. given w (BadFile f.table)) (same-table f fits end)
-      ends f fits false is = refl
-
-      by : (o : Option FileLayout) → layout_at y ≡ o → option_map_or (wrong_table x k) o None ≡ option_map_or (wrong_table y k) o None
-      by None is = refl
-      by (Some f) is = ends f (headed y f is).fits (k + 1 == table_end f) refl
+      by : (o : Option FileLayout) → option_map_or (wrong_table x k) o None ≡ option_map_or (wrong_table y k) o None
+      by None = refl
+      by (Some f) = ap (λ w. given w (BadFile f.table)) (same-table (read_up_to k f) (omega arith))
 
       far : 2 ≤ k → option_map_or (wrong_table x k) (layout_at x) None ≡ option_map_or (wrong_table y k) (layout_at y) None
-      far late = ap (λ (o : Option FileLayout). option_map_or (wrong_table x k) o None) (same-layout late) ∙ by (layout_at y) refl
+      far late = ap (λ (o : Option FileLayout). option_map_or (wrong_table x k) o None) (same-layout late) ∙ by (layout_at y)
 
   same-dynamic_denials : (t : Target) → dynamic_denials t x k ≡ dynamic_denials t y k
   unfolding dynamic_denials
   same-dynamic_denials t =
-      let headless : Bool → Option Denial = λ b. given b (BadFile 1) in
       let short : Bool → Option Denial = λ b. given b (BadFile 0) in
+      let headless : Bool → Option Denial = λ b. given b (BadFile 1) in
       let large : ℕ → Option Denial = λ n. given ((k == 0) && is_too_large t n) BadSize in
-      same_cons _ _ _ _ (ap headless (from-two k (not (is_some (header_at x))) (not (is_some (header_at y))) (λ far. ap (λ (o : Option Header). not (is_some o)) (same-header far))))
-      (same_cons _ _ _ _ (ap short (from-two k (not (is_some (layout_at x))) (not (is_some (layout_at y))) (λ far. ap (λ (o : Option FileLayout). not (is_some o)) (same-layout far))))
+      same_cons _ _ _ _ (ap short (from-two k (lacks_entries x) (lacks_entries y) same-exceeds))
+      (same_cons _ _ _ _ (ap headless (from-two k (not (is_some (layout_at x))) (not (is_some (layout_at y))) (λ far. ap (λ (o : Option FileLayout). not (is_some o)) (same-layout far))))
       (same_cons _ _ _ _ same-wrong_table
       (same_cons _ _ _ _ (ap large same-size)
       (same_cons _ _ _ _ (same-lacks t k (omega arith)) refl))))

@@ -2,8 +2,9 @@
 use Rattle.std.proofs.Common.{◌≡◌, inl, inr, ℕ, ◌+◌, ◌/◌, ◌%◌, ◌<◌, ◌≤◌, Bool, true, false, ◌&&◌, List, [], ◌∷◌, ◌++◌, Option, Some, None, Result, Ok, refl, sym, ap, ◌∙◌, arith}
 use Rattle.std.specs.Prelude.{nat_le, ◌==◌, is_some, if◌then◌else◌}
 use Rattle.std.specs.Int.{is_power_of_two}
+use Rattle.std.specs.Option.{option_map_or}
 use Rattle.std.specs.Result.{result_ok}
-use Rattle.std.proofs.lemmas.Bool.{and_parts}
+use Rattle.std.proofs.lemmas.Bool.{and_parts, le-ltb}
 use Rattle.std.proofs.lemmas.Bool.Decides.{nat_tests}
 use Rattle.common_laws.specs.Lists.{In, given, ◌>>=◌}
 use Rattle.common_laws.proofs.Options.{bind-some}
@@ -15,7 +16,7 @@ use Rattle.vhd_fields.specs.declared.headers.Header.{Header}
 use Rattle.vhd_fields.specs.Fields.{first_fault, number_at, unless_fault}
 use Rattle.vhd_fields.specs.Headers.{header_fault, header_fields, header_read, header_tests, is_block, is_entries, is_table_offset}
 use Rattle.vhd_stream.specs.Files.{File, FileLayout, layout_of, sector_at, table_end}
-use Rattle.vhd_import.specs.Heads.{footer_at, header_at, is_kind, layout_at, without_parent}
+use Rattle.vhd_import.specs.Heads.{any_header, exceeds, footer_at, header_at, is_kind, lacks_entries, layout_at, without_parent}
 use Rattle.vhd_import.proofs.TestLaws.{is-given, read-ok, same_some}
 
 pub of-kind : (kind : ℕ) (o : Option Footer) → is_kind kind o ≡ true → (f : Footer) × (o ≡ Some f) × (f.kind ≡ kind)
@@ -78,6 +79,18 @@ layout-is file a h footer header fits =
     ap (λ (o : Option Footer). o >>= (λ x. header_at file >>= ends x)) footer ∙ ap (λ (o : Option Header). o >>= ends a) header
     ∙ ap (λ b. given b (layout_of a h)) t
 
+-- where a file has its numbers, the table has entries enough
+pub entries-enough : (file : File) (f : FileLayout) → layout_at file ≡ Some f → lacks_entries file ≡ false
+unfolding lacks_entries
+entries-enough file f is =
+    let h = headed file f is in
+    let same : h.header.entries ≡ f.entries = ap (λ (x : FileLayout). x.entries) (sym h.layout_is) in
+    let many : (layout_of h.footer h.header).blocks ≡ f.blocks = ap (λ (x : FileLayout). x.blocks) (sym h.layout_is) in
+    let fits : exceeds h.footer h.header ≡ false = le-ltb h.header.entries (layout_of h.footer h.header).blocks (omega (arith, h.fits, same, many)) in
+    let header : any_header file ≡ Some h.header = ap (λ (r : Result Header FieldFault). result_ok r) h.header_reads in
+    ap (λ (o : Option Footer). option_map_or (λ a. option_map_or (exceeds a) (any_header file) false) o false) h.footer_reads
+    ∙ ap (λ (o : Option Header). option_map_or (exceeds h.footer) o false) header ∙ fits
+
 -- ---- where the table stands
 
 passes : (ts : List (Bool × FieldFault)) → first_fault ts ≡ None → (t : Bool × FieldFault) → In t ts → t.0 ≡ true
@@ -116,15 +129,21 @@ block-some bytes h reads =
     let low : 4096 ≤ n = let t : nat_le 4096 n ≡ true = (and_parts (is_power_of_two n) (nat_le 4096 n) (and_parts (is_power_of_two n && nat_le 4096 n) (nat_le n 2097152) good).0).1 in grind (arith, nat_tests) in
     omega (arith, low, at)
 
--- the table of a file ends behind its footer and header
+-- the table of a file begins behind its footer and header
+pub begin-behind : (file : File) (f : FileLayout) → layout_at file ≡ Some f → 3 ≤ f.table
+begin-behind file f is =
+    let h = headed file f is in
+    let low = table-behind (sector_at file 1 ++ sector_at file 2) h.header h.header_reads in
+    omega (arith, low.0, ap (λ (x : FileLayout). x.table) h.layout_is)
+
+-- and ends there, since it has an entry
 pub end-behind : (file : File) (f : FileLayout) → layout_at file ≡ Some f → 4 ≤ table_end f
 unfolding div_up
 end-behind file f is =
     let h = headed file f is in
     let low = table-behind (sector_at file 1 ++ sector_at file 2) h.header h.header_reads in
-    let three : 3 ≤ f.table = omega (arith, low.0, ap (λ (x : FileLayout). x.table) h.layout_is) in
     let some : 1 ≤ f.entries = omega (arith, low.1, ap (λ (x : FileLayout). x.entries) h.layout_is) in
-    omega (arith, three, some)
+    omega (arith, begin-behind file f is, some)
 
 -- the same, of a file by its definition
 pub end-of-header : (bytes : List ℕ) (a : Footer) (h : Header) → header_read bytes ≡ Ok h → 4 ≤ table_end (layout_of a h)

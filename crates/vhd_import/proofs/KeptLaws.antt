@@ -12,12 +12,12 @@ use Rattle.common_laws.proofs.Lists.{In-numbers}
 use Rattle.sm_base.specs.Numbers.{div_up}
 use Rattle.sm_disk.specs.Streams.{Takes}
 use Rattle.sm_disk.proofs.StreamLaws.{Takes-none, Takes-then}
+use Rattle.sm_run.specs.Runs.{IsSpent}
 use Rattle.vhd_map.specs.Places.{blank, word}
 use Rattle.vhd_stream.specs.Files.{File, FileLayout, entry, sector_at}
 use Rattle.vhd_import.specs.declared.tables.Entry.{Entry}
-use Rattle.vhd_import.specs.declared.tables.TableFault.{TableFault}
-use Rattle.vhd_import.specs.declared.tables.TableFault.TheVariants.{End, NoMemory, Source}
-use Rattle.vhd_import.specs.Entries.{HasLeftTable, HasReadWhole, IsPart, IsPartRead, IsTableRead, entries_from, entry_for, table_entry}
+use Rattle.vhd_import.specs.declared.tables.TableRead.{TableRead}
+use Rattle.vhd_import.specs.Entries.{IsPartRead, IsSomeRead, IsTableRead, entries_from, entry_for, table_entry}
 use Rattle.vhd_import.proofs.TestLaws.{filter_map-same}
 
 pub numbers-append : (a n m : ℕ) → numbers a (n + m) ≡ numbers a n ++ numbers (a + n) m
@@ -129,54 +129,57 @@ more-kept had mid left index blocks count kept after sector before then now k lo
         ∙ no-more (λ b. word sector (b - 128 * index)) (128 * index) (entries_from (table_entry k.sectors) 0 (min blocks (128 * index)))
         ∙ front ∙ ap (entries_from (table_entry all) 0) same
 
-pub all-kept : (had left : Option (List ℕ)) (index entries blocks : ℕ) (kept : List Entry) (before now : ℕ) → IsKept had left index blocks kept before now → index ≡ div_up entries 128 → blocks ≤ entries → IsTableRead had left entries blocks kept
-unfolding div_up
-all-kept had left index entries blocks kept before now k is fits = record {
+-- what was read of a table that was read whole
+pub all-kept : (had left : Option (List ℕ)) (index entries blocks : ℕ) (t : TableRead) (before now : ℕ) → IsKept had left index blocks t.kept.items before now → index ≡ div_up entries 128 → t.sectors ≡ index → IsTableRead had left entries blocks t
+all-kept had left index entries blocks t before now k is same = record {
   sectors = k.sectors;
-  whole = k.whole;
-  count = k.count ∙ is;
-  takes = k.takes;
-  kept_are = let all : min blocks (128 * index) ≡ blocks = omega (arith, is, fits) in k.kept_are ∙ ap (entries_from (table_entry k.sectors) 0) all;
+  part = [];
+  read = record { whole = k.whole; less = omega arith; takes = subst (λ bytes. Takes had bytes left) (sym (append-nil (concat k.sectors))) k.takes };
+  count = k.count ∙ sym same;
+  all = inl (same ∙ is, refl);
+  kept_are = k.kept_are ∙ ap (λ n. entries_from (table_entry k.sectors) 0 (min blocks (128 * n))) (sym same);
 }
 
-pub part-kept : (had mid left : Option (List ℕ)) (index blocks : ℕ) (kept : List Entry) (before now : ℕ) → IsKept had mid index blocks kept before now → IsPart mid left → IsPartRead had left index
-part-kept had mid left index blocks kept before now k p = record {
+part-read : (had mid left : Option (List ℕ)) (index blocks : ℕ) (kept : List Entry) (part : List ℕ) (before now : ℕ) → (k : IsKept had mid index blocks kept before now) → length part < 512 → Takes mid part left → IsPartRead had left k.sectors part
+part-read had mid left index blocks kept part before now k less takes = record { whole = k.whole; less = less; takes = Takes-then had mid left (concat k.sectors) part k.takes takes }
+
+-- of one in which the file ended
+pub ended-kept : (had mid left : Option (List ℕ)) (index entries blocks : ℕ) (t : TableRead) (part : List ℕ) (before now : ℕ) → IsKept had mid index blocks t.kept.items before now → length part < 512 → Takes mid part left → IsSpent left
+    → index < div_up entries 128 → t.sectors ≡ index → IsTableRead had left entries blocks t
+ended-kept had mid left index entries blocks t part before now k less takes spent more same = record {
   sectors = k.sectors;
-  part = p.0;
-  whole = k.whole;
-  counted = k.count;
-  less = p.1;
-  takes = Takes-then had mid left (concat k.sectors) p.0 k.takes p.2;
+  part = part;
+  read = part-read had mid left index blocks t.kept.items part before now k less takes;
+  count = k.count ∙ sym same;
+  all = inr (omega (arith, more, same), spent);
+  kept_are = k.kept_are ∙ ap (λ n. entries_from (table_entry k.sectors) 0 (min blocks (128 * n))) (sym same);
 }
 
--- what was read where a sector of the table was not read whole
-pub left-kept : (had mid left : Option (List ℕ)) (index entries blocks : ℕ) (kept : List Entry) (sector : List ℕ) (before now : ℕ) (fault : TableFault) → IsKept had mid index blocks kept before now → HasReadWhole (Err fault) mid sector left index
-    → index < div_up entries 128 → HasLeftTable fault had left entries
-left-kept had mid left index entries blocks kept sector before now (End n) k (same, part, spent) less = (subst (λ i. IsPartRead had left i) (sym same) (part-kept had mid left index blocks kept before now k part), omega (arith, same, less), spent)
-left-kept had mid left index entries blocks kept sector before now Source k part less = (index, part-kept had mid left index blocks kept before now k part)
-left-kept had mid left index entries blocks kept sector before now NoMemory k h less = absurd h
+-- of one of which a sector was not read
+pub left-kept : (had mid left : Option (List ℕ)) (index blocks : ℕ) (kept : List Entry) (before now : ℕ) → IsKept had mid index blocks kept before now → (part : List ℕ) × (length part < 512) × Takes mid part left → IsSomeRead had left
+left-kept had mid left index blocks kept before now k p = (k.sectors, p.0, part-read had mid left index blocks kept p.0 before now k p.1 p.2)
 
--- and where a sector was, but its entries not kept
-pub whole-left : (had mid left : Option (List ℕ)) (index blocks : ℕ) (kept : List Entry) (sector : List ℕ) (before now : ℕ) → IsKept had mid index blocks kept before now → length sector ≡ 512 → Takes mid sector left → IsPartRead had left (index + 1)
+-- and of one of which a sector was, but its entries not kept
+pub whole-left : (had mid left : Option (List ℕ)) (index blocks : ℕ) (kept : List Entry) (sector : List ℕ) (before now : ℕ) → IsKept had mid index blocks kept before now → length sector ≡ 512 → Takes mid sector left → IsSomeRead had left
 unfolding IsLong
 whole-left had mid left index blocks kept sector before now k long takes =
     let bytes : concat (k.sectors ++ sector ∷ []) ++ [] ≡ concat k.sectors ++ sector =
-    append-nil (concat (k.sectors ++ sector ∷ [])) ∙ concat-append k.sectors (sector ∷ []) ∙ ap (λ (l : List ℕ). concat k.sectors ++ l) (append-nil sector) in
-    record {
-      sectors = k.sectors ++ sector ∷ [];
-      part = [];
-      whole = All-append IsLong k.sectors (sector ∷ []) k.whole (All-cons IsLong sector [] long (All-nil IsLong));
-      counted = omega (arith, length-append k.sectors (sector ∷ []), k.count);
-      less = omega arith;
-      takes = subst (λ b. Takes had b left) (sym bytes) (Takes-then had mid left (concat k.sectors) sector k.takes takes);
-    }
+    append-nil (concat (k.sectors ++ sector ∷ [])) ∙ concat-append k.sectors (sector ∷ []) ∙ ap (λ (l : List ℕ). concat k.sectors ++ l) (append-nil sector) in (
+      k.sectors ++ sector ∷ [],
+      [],
+      record {
+        whole = All-append IsLong k.sectors (sector ∷ []) k.whole (All-cons IsLong sector [] long (All-nil IsLong));
+        less = omega arith;
+        takes = subst (λ b. Takes had b left) (sym bytes) (Takes-then had mid left (concat k.sectors) sector k.takes takes);
+      },
+    )
 
 -- what is kept of a table is what the file says, in which it stands behind so many sectors
-pub kept-of-file : (f : FileLayout) (front sectors rest : File) → length front ≡ f.table → length sectors ≡ div_up f.entries 128 → f.blocks ≤ f.entries
+pub kept-of-file : (f : FileLayout) (front sectors rest : File) → length front ≡ f.table → f.blocks ≤ 128 * length sectors
     → entries_from (table_entry sectors) 0 f.blocks ≡ entries_from (entry f (front ++ (sectors ++ rest))) 0 f.blocks
-unfolding table_entry entry div_up
-kept-of-file f front sectors rest at count fits = entries-same (table_entry sectors) (entry f (front ++ (sectors ++ rest))) 0 f.blocks (λ b low high.
+unfolding table_entry entry
+kept-of-file f front sectors rest at fits = entries-same (table_entry sectors) (entry f (front ++ (sectors ++ rest))) 0 f.blocks (λ b low high.
     let place : f.table + b / 128 ≡ length front + b / 128 = omega (arith, at) in
     let same : sector_at (front ++ (sectors ++ rest)) (f.table + b / 128) ≡ sector_at sectors (b / 128) =
-    ap (sector_at (front ++ (sectors ++ rest))) place ∙ get_or-append-add front (sectors ++ rest) (b / 128) [] ∙ get_or-append sectors rest [] (b / 128) (omega (arith, high, fits, count)) in
+    ap (sector_at (front ++ (sectors ++ rest))) place ∙ get_or-append-add front (sectors ++ rest) (b / 128) [] ∙ get_or-append sectors rest [] (b / 128) (omega (arith, high, fits)) in
     ap (λ s. word s (b % 128)) (sym same))

@@ -1,6 +1,6 @@
 -- What is made of a file is what the file holds.
 use Rattle.std.proofs.Common.{◌≡◌, ◌⊎◌, inl, inr, ⊎_elim, ℕ, zero, suc, ◌+◌, ◌-◌, ◌*◌, ◌/◌, ◌<◌, ◌≤◌, Bool, true, false, not, ◌&&◌, List, [], length, map, get_or, Option, Some, None, Result, refl, sym, ap, ◌∙◌, arith, subst}
-use Rattle.std.specs.Prelude.{◌==◌, if◌then◌else◌}
+use Rattle.std.specs.Prelude.{◌==◌, min, if◌then◌else◌}
 use Rattle.std.specs.List.{range_with_len}
 use Rattle.std.specs.Option.{option_map_or}
 use Rattle.std.specs.Result.{result_ok}
@@ -9,6 +9,7 @@ use Rattle.std.proofs.lemmas.Bool.Decides.{nat_tests}
 use Rattle.std.proofs.lemmas.List.FromFn.{length-map-range_with_len, get_or-map-range_with_len}
 use Rattle.common_laws.specs.Lists.{first_some, given, numbers}
 use Rattle.common_laws.proofs.Lists.{In-map_at, none_first, numbers-In}
+use Rattle.sm_base.specs.Numbers.{div_up}
 use Rattle.vhd_fields.specs.declared.faults.FieldFault.{FieldFault}
 use Rattle.vhd_fields.specs.declared.footers.Footer.{Footer}
 use Rattle.vhd_fields.specs.Footers.{footer_read}
@@ -18,7 +19,7 @@ use Rattle.vhd_import.specs.declared.denials.Denial.TheVariants.{BadFile, Cut, D
 use Rattle.vhd_import.specs.Heads.{footer_at, is_dynamic, is_kind, layout_at, size_at}
 use Rattle.vhd_import.specs.Room.{Target}
 use Rattle.vhd_import.specs.Tables.{is_table_wrong}
-use Rattle.vhd_import.specs.Verdicts.{Denied, Long, Made, Verdict, denial_at, denial_at_end, dynamic_denials, ends_as, fixed_denials, is_footed, is_whole, sectors_of, verdict, wrong_table}
+use Rattle.vhd_import.specs.Verdicts.{Denied, Long, Made, Verdict, denial_at, denial_at_end, dynamic_denials, ends_as, fixed_denials, is_footed, is_whole, read_up_to, sectors_of, verdict, wrong_table}
 use Rattle.vhd_import.proofs.HeadLaws.{end-behind, headed, of-kind}
 use Rattle.vhd_import.proofs.TableLaws.{table-right, whole-end}
 use Rattle.vhd_import.proofs.TestLaws.{not-given, read-ok}
@@ -110,14 +111,13 @@ nonempty t file u = by (length file) refl
     by (suc n) is = omega (arith, is)
 
 table-passed : (t : Target) (file : File) (k : ℕ) (f : FileLayout) → is_dynamic file ≡ true → layout_at file ≡ Some f → denial_at t file k ≡ None → k + 1 ≡ table_end f → is_table_wrong f file ≡ false
-unfolding dynamic_denials
+unfolding dynamic_denials div_up
 table-passed t file k f dynamic at h last =
     let all : first_some (dynamic_denials t file k) ≡ None = rw dynamic at h in
     let third = none_first (dynamic_denials t file k) all (option_map_or (wrong_table file k) (layout_at file) None) (inr (inr (inl refl))) in
-    let right : given ((k + 1 == table_end f) && is_table_wrong f file) (BadFile f.table) ≡ None = rw at at third in
-    let wrong = not-given _ (BadFile f.table) right in
-    let e : (k + 1 == table_end f) ≡ true = grind (arith, nat_tests) in
-    rw e at wrong
+    let right : given (is_table_wrong (read_up_to k f) file) (BadFile f.table) ≡ None = rw at at third in
+    let whole : min f.blocks (128 * (k + 1 - f.table)) ≡ f.blocks = omega (arith, (headed file f at).fits, last) in
+    ap (λ n. is_table_wrong (record f { blocks = n }) file) (sym whole) ∙ not-given _ (BadFile f.table) right
 
 as-map : (n : ℕ) (f : ℕ → List ℕ) (sectors : List (List ℕ)) → sectors ≡ map f (range_with_len 0 n) → AreSectors n f sectors
 as-map n f sectors is = record {

@@ -118,6 +118,14 @@ right-apart f file table = some_below-none (is_entry_wrong f file) f.blocks (λ 
 pub right-table : (f : FileLayout) (file : File) → IsTable f file → is_table_wrong f file ≡ false
 right-table f file table = right-apart f file (record { behind = table.behind; apart = table.apart })
 
+-- so is the front of one, of as many blocks as it has or fewer
+pub right-front : (f : FileLayout) (file : File) (n : ℕ) → n ≤ f.blocks → IsTable f file → is_table_wrong (record f { blocks = n }) file ≡ false
+unfolding entry
+right-front f file n few table = right-apart (record f { blocks = n }) file (record { behind = λ b is. table.behind b (there b is); apart = λ b c is other. table.apart b c (there b is) (there c other) })
+  where
+    there : (b : ℕ) → IsThere (record f { blocks = n }) file b → IsThere f file b
+    there b is = record { below = omega (arith, is.below, few); named = is.named }
+
 pub right-whole : (f : FileLayout) (file : File) → table_end f ≤ length file → IsTable f file → is_whole file f ≡ true
 unfolding is_whole
 right-whole f file end table =

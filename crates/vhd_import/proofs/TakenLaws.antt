@@ -17,17 +17,17 @@ use Rattle.vhd_fields.specs.Footers.{footer_read, footer_tests}
 use Rattle.vhd_stream.specs.Files.{File, FileLayout, FileOf, IsCutInto, IsDynamic, IsFixed, file_sector, layout_of, sector_at, table_end}
 use Rattle.vhd_import.specs.declared.denials.Denial.{Denial}
 use Rattle.vhd_import.specs.declared.denials.Denial.TheVariants.{BadFile, BadSize, Differencing}
-use Rattle.vhd_import.specs.Heads.{footer_at, header_at, is_dynamic, is_kind, layout_at, size_at}
+use Rattle.vhd_import.specs.Heads.{footer_at, is_dynamic, is_kind, layout_at, size_at}
 use Rattle.vhd_import.specs.Laws.{HasRoomFor}
 use Rattle.vhd_import.specs.Room.{Target, is_too_large}
 use Rattle.vhd_import.specs.Tables.{is_table_wrong}
 use Rattle.vhd_import.specs.Verdicts.{Denied, Made, Verdict, denial_at, denial_at_end, dynamic_denials, ends_as, fixed_denials, is_footed, is_whole, sector_limit, sectors_of, verdict, verdict_of, wrong_table}
 use Rattle.vhd_import.proofs.BytesLaws.{are-cut, cut-is, cut-joined, length-joined}
-use Rattle.vhd_import.proofs.HeadLaws.{end-of-header, header-is}
+use Rattle.vhd_import.proofs.HeadLaws.{end-of-header, entries-enough}
 use Rattle.vhd_import.proofs.MadeLaws.{IsUndenied, made, made-holds}
 use Rattle.vhd_import.proofs.PutLaws.{known, not-dynamic, puts-dynamic, puts-fixed}
 use Rattle.vhd_import.proofs.RoomLaws.{fits-size, roomy}
-use Rattle.vhd_import.proofs.TableLaws.{right-table, right-whole}
+use Rattle.vhd_import.proofs.TableLaws.{right-front, right-whole}
 
 -- ---- a disk is made
 
@@ -55,14 +55,14 @@ unfolding dynamic_denials
 dynamic-none t file sectors d room k less =
     let f : FileLayout = layout_of d.footer d.header in
     let w = known file sectors d in
-    let head : not (is_some (header_at file)) ≡ false = ap (λ (o : Option _). not (is_some o)) (header-is file d.header d.header_reads d.alone) in
     let some : not (is_some (layout_at file)) ≡ false = ap (λ (o : Option FileLayout). not (is_some o)) w.layout in
     let right : option_map_or (wrong_table file k) (layout_at file) None ≡ None =
-    ap (λ (o : Option FileLayout). option_map_or (wrong_table file k) o None) w.layout ∙ not-asked (k + 1 == table_end f) (is_table_wrong f file) (BadFile f.table) (right-table f file d.table) in
+    ap (λ (o : Option FileLayout). option_map_or (wrong_table file k) o None) w.layout
+    ∙ ap (λ b. given b (BadFile f.table)) (right-front f file (min f.blocks (128 * (k + 1 - f.table))) (omega arith) d.table) in
     let small : is_too_large t (size_at file) ≡ false =
     ap (is_too_large t) w.sized ∙ fits-size t (d.footer.current / 512) (d.footer.current / 512) room.geometry (subst (λ n. div_up n t.block ≤ t.entries) d.disk.count room.size) (omega arith) in
     let free = roomy t file sectors k room (puts-dynamic file sectors d) less in
-    let none : first_some (dynamic_denials t file k) ≡ None = first_none (dynamic_denials t file k) (λ o i. each o i (not-asked (k == 2) _ (BadFile 1) head) (not-asked (k == 2) _ (BadFile 0) some) right (not-asked (k == 0) _ BadSize small) free) in
+    let none : first_some (dynamic_denials t file k) ≡ None = first_none (dynamic_denials t file k) (λ o i. each o i (not-asked (k == 2) _ (BadFile 0) (entries-enough file f w.layout)) (not-asked (k == 2) _ (BadFile 1) some) right (not-asked (k == 0) _ BadSize small) free) in
     rw w.dynamic none
   where
     each : {a b c e r : Option Denial} (o : Option Denial) → In o (a ∷ b ∷ c ∷ e ∷ r ∷ []) → a ≡ None → b ≡ None → c ≡ None → e ≡ None → r ≡ None → o ≡ None

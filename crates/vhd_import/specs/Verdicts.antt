@@ -1,6 +1,6 @@
 -- What an import answers to the bytes that a source gives: the sectors of a disk, or why the file is not taken. Each denial comes at the
--- first sector at which it is decided; of several that one sector decides the first counts, in the order of this page. A header and a
--- table are read whole before they are judged.
+-- first sector at which it is decided; of several that one sector decides the first counts, in the order of this page. A header is read
+-- whole before it is judged; an entry of the table is wrong by what stands in front of it in the table.
 use Rattle.std.specs.Prelude.{ℕ, ◌+◌, ◌-◌, ◌*◌, ◌/◌, ◌%◌, ◌==◌, ◌&&◌, ◌||◌, not, nat_lt, nat_le, Bool, false, List, [], ◌∷◌, ◌++◌, length, map, replicate, codes, Option, None, Some, is_some, if◌then◌else◌, min}
 use Rattle.std.specs.List.{range_with_len}
 use Rattle.std.specs.Option.{option_map_or}
@@ -12,22 +12,26 @@ use Rattle.vhd_layout.specs.Readings.{each_below}
 use Rattle.vhd_stream.specs.Files.{File, FileLayout, block_end, file_sector, sector_at, table_end}
 use Rattle.vhd_import.specs.declared.denials.Denial.{Denial}
 use Rattle.vhd_import.specs.declared.denials.Denial.TheVariants.{BadFile, BadSize, Cut, Differencing}
-use Rattle.vhd_import.specs.Heads.{footer_at, header_at, is_dynamic, is_kind, layout_at, size_at}
+use Rattle.vhd_import.specs.Heads.{footer_at, is_dynamic, is_kind, lacks_entries, layout_at, size_at}
 use Rattle.vhd_import.specs.Room.{Target, is_too_large, lacks_space}
 use Rattle.vhd_import.specs.Tables.{is_table_wrong, is_named}
 
 -- ---- what a sector decides
 
--- the table ends with sector k and is wrong
-abbrev pub wrong_table : File → ℕ → FileLayout → Option Denial
-wrong_table file k f = given ((k + 1 == table_end f) && is_table_wrong f file) (BadFile f.table)
+-- the numbers of a file whose table was read up to sector k: of the blocks whose entries stand there
+abbrev pub read_up_to : ℕ → FileLayout → FileLayout
+read_up_to k f = record f { blocks = min f.blocks (128 * (k + 1 - f.table)) }
 
--- What sector k of a dynamic file may decide: that it has no header, that the table has too few entries, that the table is wrong, that the
--- disk is too large, and that extents are wanting.
+-- an entry is wrong that stands in the table up to sector k
+abbrev pub wrong_table : File → ℕ → FileLayout → Option Denial
+wrong_table file k f = given (is_table_wrong (read_up_to k f) file) (BadFile f.table)
+
+-- What sector k of a dynamic file may decide: that its table has too few entries, that it has no header without a parent, that the table is
+-- wrong, that the disk is too large, and that extents are wanting.
 unfoldable pub dynamic_denials : Target → File → ℕ → List (Option Denial)
 dynamic_denials t file k =
-    given ((k == 2) && not (is_some (header_at file))) (BadFile 1)
-    ∷ given ((k == 2) && not (is_some (layout_at file))) (BadFile 0)
+    given ((k == 2) && lacks_entries file) (BadFile 0)
+    ∷ given ((k == 2) && not (is_some (layout_at file))) (BadFile 1)
     ∷ option_map_or (wrong_table file k) (layout_at file) None
     ∷ given ((k == 0) && is_too_large t (size_at file)) BadSize
     ∷ lacks_space t file k

@@ -6,7 +6,7 @@ pub enum Denial {
     /// The first sector is the footer of a differencing disk.
     Differencing,
     /// What the file says here is wrong: 0 where a dynamic disk has more blocks than the table has entries, 1 where no header without
-    /// a parent reads, the first sector of the table where an entry is wrong, and the last sector where it is no footer of the fixed disk
+    /// a parent reads, the first sector of the table where an entry in it is wrong, and the last sector where it is no footer of the fixed disk
     /// in front of it.
     BadFile { sector: u64 },
     /// The file ended too early, behind so many whole sectors.

@@ -56,13 +56,13 @@ pub fn numbers_of(sectors: u64, header: &[u8; 1024]) -> Result<FileNumbers, Deni
     let Ok(header) = Header::read(header) else {
         return Err(Denial::BadFile { sector: 1 });
     };
-    if header.parent.is_some() {
-        return Err(Denial::BadFile { sector: 1 });
-    }
     let block = header.block / 512;
     let blocks = sectors.div_ceil(u64::from(block));
     if blocks > u64::from(header.entries) {
         return Err(Denial::BadFile { sector: 0 });
+    }
+    if header.parent.is_some() {
+        return Err(Denial::BadFile { sector: 1 });
     }
     Ok(FileNumbers {
         table: header.table_offset / 512,

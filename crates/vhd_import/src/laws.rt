@@ -37,10 +37,10 @@ pub fn law_front()
     ensures slots { (t : Target) (front rest : File) (count : ℕ) → count ≤ length front → used t (front ++ rest) count ≡ used t front count }
 {}
 
-/// What is kept of a table that was read is what the file says, in which the table stands behind so many sectors.
+/// What is kept of a table, or of as much of it as was read, is what the file says, in which it stands behind so many sectors.
 pub fn law_table()
     ensures { (f : FileLayout) (front sectors rest : File)
-        → length front ≡ f.table → length sectors ≡ div_up f.entries 128 → f.blocks ≤ f.entries
+        → length front ≡ f.table → f.blocks ≤ 128 * length sectors
         → entries_from (table_entry sectors) 0 f.blocks ≡ entries_from (entry f (front ++ (sectors ++ rest))) 0 f.blocks }
 {}
 

@@ -33,4 +33,4 @@ pub use denials::Denial;
 pub use heads::{Beginning, FileNumbers, beginning_of, is_footed, is_too_large, numbers_of};
 pub use laws::{law_front, law_imported, law_made, law_put, law_table, law_taken, law_used};
 pub use reading::{Part, read_sector};
-pub use tables::{Entry, TableFault, read_table, sort_entries};
+pub use tables::{Entry, TableFault, TableRead, read_table, sort_entries};

@@ -1,13 +1,13 @@
 //! The table of a dynamic file: its entries read, sorted by their places, and tested.
 
-ghost use Rattle.std.specs.Prelude.{◌≡◌, ◌≢◌, ◌+◌, ◌*◌, ◌-◌, ◌^◌, ◌<◌, ◌≤◌, ℕ, not, ◌++◌, Err, IfErr, IfOk, IsPermutation, OnOk};
+ghost use Rattle.std.specs.Prelude.{◌≡◌, ◌≢◌, ◌+◌, ◌*◌, ◌-◌, ◌^◌, ◌<◌, ◌≤◌, ℕ, not, ◌++◌, Err, IfOk, IsPermutation, OnErr, OnOk};
 ghost use Rattle.std.specs.List.Sorted.{IsNonDecreasingBy};
 ghost use Rattle.sm_disk.specs.Held.{Rose};
 ghost use Rattle.vhd_map.specs.Places.{word};
 ghost use Rattle.vhd_stream.specs.Files.{File, FileLayout, entry as entry_of, table_end};
 ghost use Rattle.vhd_import.specs.declared.tables.TableFault.TheVariants.{Source as SourceFailed};
 ghost use Rattle.vhd_import.specs.Apart.{stand_apart as apart_of};
-ghost use Rattle.vhd_import.specs.Entries.{HasLeftTable, HasReadWhole, IsTableRead, entries_from};
+ghost use Rattle.vhd_import.specs.Entries.{IsSomeRead, IsTableRead, entries_from};
 ghost use Rattle.vhd_import.specs.Tables.{is_table_wrong};
 
 use crate::reading::{Part, read_sector};
@@ -28,11 +28,17 @@ pub struct Entry {
     pub block: u32,
 }
 
+/// What was read of a table.
+pub struct TableRead {
+    /// The entries that name a place, in order of the blocks.
+    pub kept: Vec<Entry>,
+    /// The sectors that came whole, fewer than the table has where the file ended there.
+    pub sectors: u32,
+}
+
 /// Why a table was not read.
 #[derive(Clone, Copy)]
 pub enum TableFault {
-    /// The file ended behind so many whole sectors of the table.
-    End(u32),
     /// A call of the source failed.
     Source,
     /// There is no memory for the entries.
@@ -74,46 +80,42 @@ fn add_entries(
     Ok(())
 }
 
-/// Reads a sector of a table, of which so many were read before.
-fn read_whole<S: Source>(source: &mut S, to: &mut [u8; 512], count: u32) -> Result<(), TableFault>
-    ensures read { HasReadWhole result (S.content source.old) to.new (S.content source.new) count }
-    ensures counts { S.faults source.old ≤ S.faults source.new }
-    ensures cause { result ≡ Err SourceFailed → Rose (S.faults source.old) (S.faults source.new) }
-    ensures calm { result ≢ Err SourceFailed → S.faults source.new ≡ S.faults source.old }
-{
-    match read_sector(source, to) {
-        Ok(Part::Whole) => Ok(()),
-        Ok(Part::End(_)) => Err(TableFault::End(count)),
-        Err(_) => Err(TableFault::Source),
-    }
-}
-
-/// Reads a table of so many entries, and keeps of those of the disk's blocks the ones that name a place, in order of the blocks.
+/// Reads a table of so many entries, and keeps of those of the disk's blocks the ones that name a place.
 pub fn read_table<S: Source>(
     alloc: Global,
     source: &mut S,
     entries: u32,
     blocks: u32,
-) -> Result<Vec<Entry>, TableFault>
+) -> Result<TableRead, TableFault>
     requires fits { blocks ≤ entries }
     requires few { entries ≤ 1044480 }
-    ensures read { IfOk result (λ kept. IsTableRead (S.content source.old) (S.content source.new) entries blocks kept.items) }
-    ensures left { IfErr result (λ fault. HasLeftTable fault (S.content source.old) (S.content source.new) entries) }
+    ensures read { IfOk result (IsTableRead (S.content source.old) (S.content source.new) entries blocks) }
+    ensures left { OnErr result (IsSomeRead (S.content source.old) (S.content source.new)) }
     ensures counts { S.faults source.old ≤ S.faults source.new }
     ensures cause { result ≡ Err SourceFailed → Rose (S.faults source.old) (S.faults source.new) }
     ensures calm { result ≢ Err SourceFailed → S.faults source.new ≡ S.faults source.old }
 {
     let mut kept = Vec::new(alloc);
     let mut sector = [0; 512];
-    for index in 0..entries.div_ceil(PER_SECTOR) {
-        read_whole(source, &mut sector, index)?;
+    let sectors = entries.div_ceil(PER_SECTOR);
+    for index in 0..sectors {
+        match read_sector(source, &mut sector) {
+            Ok(Part::Whole) => {}
+            Ok(Part::End(_)) => {
+                return Ok(TableRead {
+                    kept,
+                    sectors: index,
+                });
+            }
+            Err(_) => return Err(TableFault::Source),
+        }
         let first = PER_SECTOR * index;
         let count = blocks.saturating_sub(first).min(PER_SECTOR);
         let Ok(()) = add_entries(&mut kept, &sector, first, count) else {
             return Err(TableFault::NoMemory);
         };
     }
-    Ok(kept)
+    Ok(TableRead { kept, sectors })
 }
 
 /// Whether entries stand one behind the other, the first at a sector or behind it, each with its bitmap and so many sectors.

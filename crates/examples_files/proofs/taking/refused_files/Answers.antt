@@ -13,47 +13,55 @@ use Rattle.vhd_map.specs.Bitmaps.{is_set}
 use Rattle.vhd_map.specs.Places.{word}
 use Rattle.vhd_stream.specs.Exports.{entry_of, full_bitmap, piece, place, table_sector}
 use Rattle.vhd_stream.specs.Files.{entry, sector_in}
-use Rattle.vhd_import.specs.Heads.{footer_at, header_at, layout_at, size_at}
+use Rattle.vhd_import.specs.Heads.{footer_at, header_at, lacks_entries, layout_at, size_at}
 use Rattle.vhd_import.specs.Puts.{dynamic_put, put_at}
 use Rattle.vhd_import.specs.Room.{distinct_blocks, filled_at, lacks_space, used}
 use Rattle.vhd_import.specs.Tables.{is_entry_wrong}
 use Rattle.vhd_import.specs.Verdicts.{denial_at_end, dynamic_denials, fixed_denials, imported, is_footed, is_whole, verdict}
 use Rattle.examples_files.specs.SmallFiles.{small_disk, small_file}
-use Rattle.examples_files.specs.TakenFiles.{differencing_file, fixed_file, in_table_file, moved_file, overlapping_file, short_table_file}
+use Rattle.examples_files.specs.TakenFiles.{differencing_file, fixed_file, half_table_file, in_table_file, moved_file, overlapping_file, short_table_file}
 use Rattle.examples_files.proofs.taking.refused_files.Goals as goal
 
 pub returns-clause-empty : goal.returns-clause-empty
-unfolding numbers div_up first thin zeros cut_sectors checksum sealed geometry footer_back footer_bytes footer_fields footer_front footer_tests header_back header_bytes header_fields header_front header_tests parent_bytes parent_read each_below some_below is_set word entry_of full_bitmap piece place table_sector entry sector_in footer_at header_at layout_at size_at dynamic_put put_at distinct_blocks filled_at lacks_space used is_entry_wrong denial_at_end dynamic_denials fixed_denials imported is_footed is_whole verdict small_disk small_file differencing_file fixed_file in_table_file moved_file overlapping_file short_table_file lib.Count.ones
+unfolding numbers div_up first thin zeros cut_sectors checksum sealed geometry footer_back footer_bytes footer_fields footer_front footer_tests header_back header_bytes header_fields header_front header_tests parent_bytes parent_read each_below some_below is_set word entry_of full_bitmap piece place table_sector entry sector_in footer_at header_at lacks_entries layout_at size_at dynamic_put put_at distinct_blocks filled_at lacks_space used is_entry_wrong denial_at_end dynamic_denials fixed_denials imported is_footed is_whole verdict small_disk small_file differencing_file fixed_file half_table_file in_table_file moved_file overlapping_file short_table_file lib.Count.ones
 returns-clause-empty c = refl
 
 pub returns-clause-in_header : goal.returns-clause-in_header
-unfolding numbers div_up first thin zeros cut_sectors checksum sealed geometry footer_back footer_bytes footer_fields footer_front footer_tests header_back header_bytes header_fields header_front header_tests parent_bytes parent_read each_below some_below is_set word entry_of full_bitmap piece place table_sector entry sector_in footer_at header_at layout_at size_at dynamic_put put_at distinct_blocks filled_at lacks_space used is_entry_wrong denial_at_end dynamic_denials fixed_denials imported is_footed is_whole verdict small_disk small_file differencing_file fixed_file in_table_file moved_file overlapping_file short_table_file lib.Count.ones
+unfolding numbers div_up first thin zeros cut_sectors checksum sealed geometry footer_back footer_bytes footer_fields footer_front footer_tests header_back header_bytes header_fields header_front header_tests parent_bytes parent_read each_below some_below is_set word entry_of full_bitmap piece place table_sector entry sector_in footer_at header_at lacks_entries layout_at size_at dynamic_put put_at distinct_blocks filled_at lacks_space used is_entry_wrong denial_at_end dynamic_denials fixed_denials imported is_footed is_whole verdict small_disk small_file differencing_file fixed_file half_table_file in_table_file moved_file overlapping_file short_table_file lib.Count.ones
 returns-clause-in_header c = refl
 
 pub returns-clause-in_block : goal.returns-clause-in_block
-unfolding numbers div_up first thin zeros cut_sectors checksum sealed geometry footer_back footer_bytes footer_fields footer_front footer_tests header_back header_bytes header_fields header_front header_tests parent_bytes parent_read each_below some_below is_set word entry_of full_bitmap piece place table_sector entry sector_in footer_at header_at layout_at size_at dynamic_put put_at distinct_blocks filled_at lacks_space used is_entry_wrong denial_at_end dynamic_denials fixed_denials imported is_footed is_whole verdict small_disk small_file differencing_file fixed_file in_table_file moved_file overlapping_file short_table_file lib.Count.ones
+unfolding numbers div_up first thin zeros cut_sectors checksum sealed geometry footer_back footer_bytes footer_fields footer_front footer_tests header_back header_bytes header_fields header_front header_tests parent_bytes parent_read each_below some_below is_set word entry_of full_bitmap piece place table_sector entry sector_in footer_at header_at lacks_entries layout_at size_at dynamic_put put_at distinct_blocks filled_at lacks_space used is_entry_wrong denial_at_end dynamic_denials fixed_denials imported is_footed is_whole verdict small_disk small_file differencing_file fixed_file half_table_file in_table_file moved_file overlapping_file short_table_file lib.Count.ones
 returns-clause-in_block c = refl
 
 pub returns-clause-differencing : goal.returns-clause-differencing
-unfolding numbers div_up first thin zeros cut_sectors checksum sealed geometry footer_back footer_bytes footer_fields footer_front footer_tests header_back header_bytes header_fields header_front header_tests parent_bytes parent_read each_below some_below is_set word entry_of full_bitmap piece place table_sector entry sector_in footer_at header_at layout_at size_at dynamic_put put_at distinct_blocks filled_at lacks_space used is_entry_wrong denial_at_end dynamic_denials fixed_denials imported is_footed is_whole verdict small_disk small_file differencing_file fixed_file in_table_file moved_file overlapping_file short_table_file lib.Count.ones
+unfolding numbers div_up first thin zeros cut_sectors checksum sealed geometry footer_back footer_bytes footer_fields footer_front footer_tests header_back header_bytes header_fields header_front header_tests parent_bytes parent_read each_below some_below is_set word entry_of full_bitmap piece place table_sector entry sector_in footer_at header_at lacks_entries layout_at size_at dynamic_put put_at distinct_blocks filled_at lacks_space used is_entry_wrong denial_at_end dynamic_denials fixed_denials imported is_footed is_whole verdict small_disk small_file differencing_file fixed_file half_table_file in_table_file moved_file overlapping_file short_table_file lib.Count.ones
 returns-clause-differencing c = refl
 
 pub returns-clause-no_header : goal.returns-clause-no_header
-unfolding numbers div_up first thin zeros cut_sectors checksum sealed geometry footer_back footer_bytes footer_fields footer_front footer_tests header_back header_bytes header_fields header_front header_tests parent_bytes parent_read each_below some_below is_set word entry_of full_bitmap piece place table_sector entry sector_in footer_at header_at layout_at size_at dynamic_put put_at distinct_blocks filled_at lacks_space used is_entry_wrong denial_at_end dynamic_denials fixed_denials imported is_footed is_whole verdict small_disk small_file differencing_file fixed_file in_table_file moved_file overlapping_file short_table_file lib.Count.ones
+unfolding numbers div_up first thin zeros cut_sectors checksum sealed geometry footer_back footer_bytes footer_fields footer_front footer_tests header_back header_bytes header_fields header_front header_tests parent_bytes parent_read each_below some_below is_set word entry_of full_bitmap piece place table_sector entry sector_in footer_at header_at lacks_entries layout_at size_at dynamic_put put_at distinct_blocks filled_at lacks_space used is_entry_wrong denial_at_end dynamic_denials fixed_denials imported is_footed is_whole verdict small_disk small_file differencing_file fixed_file half_table_file in_table_file moved_file overlapping_file short_table_file lib.Count.ones
 returns-clause-no_header c = refl
 
 pub returns-clause-few_entries : goal.returns-clause-few_entries
-unfolding numbers div_up first thin zeros cut_sectors checksum sealed geometry footer_back footer_bytes footer_fields footer_front footer_tests header_back header_bytes header_fields header_front header_tests parent_bytes parent_read each_below some_below is_set word entry_of full_bitmap piece place table_sector entry sector_in footer_at header_at layout_at size_at dynamic_put put_at distinct_blocks filled_at lacks_space used is_entry_wrong denial_at_end dynamic_denials fixed_denials imported is_footed is_whole verdict small_disk small_file differencing_file fixed_file in_table_file moved_file overlapping_file short_table_file lib.Count.ones
+unfolding numbers div_up first thin zeros cut_sectors checksum sealed geometry footer_back footer_bytes footer_fields footer_front footer_tests header_back header_bytes header_fields header_front header_tests parent_bytes parent_read each_below some_below is_set word entry_of full_bitmap piece place table_sector entry sector_in footer_at header_at lacks_entries layout_at size_at dynamic_put put_at distinct_blocks filled_at lacks_space used is_entry_wrong denial_at_end dynamic_denials fixed_denials imported is_footed is_whole verdict small_disk small_file differencing_file fixed_file half_table_file in_table_file moved_file overlapping_file short_table_file lib.Count.ones
 returns-clause-few_entries c = refl
 
+pub returns-clause-half_table : goal.returns-clause-half_table
+unfolding numbers div_up first thin zeros cut_sectors checksum sealed geometry footer_back footer_bytes footer_fields footer_front footer_tests header_back header_bytes header_fields header_front header_tests parent_bytes parent_read each_below some_below is_set word entry_of full_bitmap piece place table_sector entry sector_in footer_at header_at lacks_entries layout_at size_at dynamic_put put_at distinct_blocks filled_at lacks_space used is_entry_wrong denial_at_end dynamic_denials fixed_denials imported is_footed is_whole verdict small_disk small_file differencing_file fixed_file half_table_file in_table_file moved_file overlapping_file short_table_file lib.Count.ones
+returns-clause-half_table c = refl
+
+pub returns-clause-half_table_wrong : goal.returns-clause-half_table_wrong
+unfolding numbers div_up first thin zeros cut_sectors checksum sealed geometry footer_back footer_bytes footer_fields footer_front footer_tests header_back header_bytes header_fields header_front header_tests parent_bytes parent_read each_below some_below is_set word entry_of full_bitmap piece place table_sector entry sector_in footer_at header_at lacks_entries layout_at size_at dynamic_put put_at distinct_blocks filled_at lacks_space used is_entry_wrong denial_at_end dynamic_denials fixed_denials imported is_footed is_whole verdict small_disk small_file differencing_file fixed_file half_table_file in_table_file moved_file overlapping_file short_table_file lib.Count.ones
+returns-clause-half_table_wrong c = refl
+
 pub returns-clause-in_table : goal.returns-clause-in_table
-unfolding numbers div_up first thin zeros cut_sectors checksum sealed geometry footer_back footer_bytes footer_fields footer_front footer_tests header_back header_bytes header_fields header_front header_tests parent_bytes parent_read each_below some_below is_set word entry_of full_bitmap piece place table_sector entry sector_in footer_at header_at layout_at size_at dynamic_put put_at distinct_blocks filled_at lacks_space used is_entry_wrong denial_at_end dynamic_denials fixed_denials imported is_footed is_whole verdict small_disk small_file differencing_file fixed_file in_table_file moved_file overlapping_file short_table_file lib.Count.ones
+unfolding numbers div_up first thin zeros cut_sectors checksum sealed geometry footer_back footer_bytes footer_fields footer_front footer_tests header_back header_bytes header_fields header_front header_tests parent_bytes parent_read each_below some_below is_set word entry_of full_bitmap piece place table_sector entry sector_in footer_at header_at lacks_entries layout_at size_at dynamic_put put_at distinct_blocks filled_at lacks_space used is_entry_wrong denial_at_end dynamic_denials fixed_denials imported is_footed is_whole verdict small_disk small_file differencing_file fixed_file half_table_file in_table_file moved_file overlapping_file short_table_file lib.Count.ones
 returns-clause-in_table c = refl
 
 pub returns-clause-overlapping : goal.returns-clause-overlapping
-unfolding numbers div_up first thin zeros cut_sectors checksum sealed geometry footer_back footer_bytes footer_fields footer_front footer_tests header_back header_bytes header_fields header_front header_tests parent_bytes parent_read each_below some_below is_set word entry_of full_bitmap piece place table_sector entry sector_in footer_at header_at layout_at size_at dynamic_put put_at distinct_blocks filled_at lacks_space used is_entry_wrong denial_at_end dynamic_denials fixed_denials imported is_footed is_whole verdict small_disk small_file differencing_file fixed_file in_table_file moved_file overlapping_file short_table_file lib.Count.ones
+unfolding numbers div_up first thin zeros cut_sectors checksum sealed geometry footer_back footer_bytes footer_fields footer_front footer_tests header_back header_bytes header_fields header_front header_tests parent_bytes parent_read each_below some_below is_set word entry_of full_bitmap piece place table_sector entry sector_in footer_at header_at lacks_entries layout_at size_at dynamic_put put_at distinct_blocks filled_at lacks_space used is_entry_wrong denial_at_end dynamic_denials fixed_denials imported is_footed is_whole verdict small_disk small_file differencing_file fixed_file half_table_file in_table_file moved_file overlapping_file short_table_file lib.Count.ones
 returns-clause-overlapping c = refl
 
 pub returns-clause-other_size : goal.returns-clause-other_size
-unfolding numbers div_up first thin zeros cut_sectors checksum sealed geometry footer_back footer_bytes footer_fields footer_front footer_tests header_back header_bytes header_fields header_front header_tests parent_bytes parent_read each_below some_below is_set word entry_of full_bitmap piece place table_sector entry sector_in footer_at header_at layout_at size_at dynamic_put put_at distinct_blocks filled_at lacks_space used is_entry_wrong denial_at_end dynamic_denials fixed_denials imported is_footed is_whole verdict small_disk small_file differencing_file fixed_file in_table_file moved_file overlapping_file short_table_file lib.Count.ones
+unfolding numbers div_up first thin zeros cut_sectors checksum sealed geometry footer_back footer_bytes footer_fields footer_front footer_tests header_back header_bytes header_fields header_front header_tests parent_bytes parent_read each_below some_below is_set word entry_of full_bitmap piece place table_sector entry sector_in footer_at header_at lacks_entries layout_at size_at dynamic_put put_at distinct_blocks filled_at lacks_space used is_entry_wrong denial_at_end dynamic_denials fixed_denials imported is_footed is_whole verdict small_disk small_file differencing_file fixed_file half_table_file in_table_file moved_file overlapping_file short_table_file lib.Count.ones
 returns-clause-other_size c = refl

@@ -13,7 +13,10 @@ returns-in_default-clause-denied c = λ t file dynamic sized here. unread-denied
 
 pub returns-then-is_some-clause-denied : goal.returns-then-is_some-clause-denied
 returns-then-is_some-clause-denied c = λ t file dynamic sized here.
-    parent-denied t file c.in-Ok.header dynamic (ap header_read here ∙ sym c.read.ensures.exact ∙ c.in-Ok.is) (sym c.is_some.ensures ∙ c.if-is_some.true)
+    let reads = sym c.read.ensures.exact ∙ c.in-Ok.is in
+    let some = block-some c.args.header.now c.in-Ok.header reads in
+    let count : c.div_ceil-blocks.result ≡ div_up c.args.sectors (c.in-Ok.header.block / 512) = c.div_ceil-blocks.ensures ∙ ap (div_ceil c.args.sectors) c.from.ensures ∙ div_up-div_ceil c.args.sectors (c.in-Ok.header.block / 512) some in
+    parent-denied t file c.args.sectors c.in-Ok.header dynamic sized (ap header_read here ∙ reads) (sym c.is_some.ensures ∙ c.if-is_some.true) (omega (arith, count, c.if-blocks-from.false, c.from-2.ensures))
 
 pub div_ceil-blocks-requires : goal.div_ceil-blocks-requires
 div_ceil-blocks-requires c = omega (arith, c.from.ensures, block-some c.args.header.now c.in-Ok.header (sym c.read.ensures.exact ∙ c.in-Ok.is))
@@ -23,7 +26,7 @@ returns-then-blocks-from-clause-denied c = λ t file dynamic sized here.
     let reads = sym c.read.ensures.exact ∙ c.in-Ok.is in
     let some = block-some c.args.header.now c.in-Ok.header reads in
     let count : c.div_ceil-blocks.result ≡ div_up c.args.sectors (c.in-Ok.header.block / 512) = c.div_ceil-blocks.ensures ∙ ap (div_ceil c.args.sectors) c.from.ensures ∙ div_up-div_ceil c.args.sectors (c.in-Ok.header.block / 512) some in
-    short-denied t file c.args.sectors c.in-Ok.header dynamic sized (ap header_read here ∙ reads) (none_of_some c.in-Ok.header.parent (sym c.is_some.ensures ∙ c.if-is_some.false)) (omega (arith, count, c.if-blocks-from.true, c.from-2.ensures))
+    short-denied t file c.args.sectors c.in-Ok.header dynamic sized (ap header_read here ∙ reads) (omega (arith, count, c.if-blocks-from.true, c.from-2.ensures))
 
 pub returns-clause-numbers : goal.returns-clause-numbers
 returns-clause-numbers c = λ file dynamic sized here.
