@@ -39,7 +39,7 @@ fn formatted(alloc: Global) -> Result<MemDisk, Difference> {
 /// The group on a device, over which at most so many sectors are kept.
 fn cached(alloc: Global, disk: MemDisk, sectors: usize) -> Result<Cache<Group<MemDisk>>, Difference>
     requires { 0 < sectors }
-    ensures usable { IfOk result (λ c. c.inner.failed ≡ false) }
+    ensures usable { IfOk result (λ c. c.inner.version ≡ 2 → c.inner.failed ≡ false) }
     ensures settled { IfOk result (λ c. IsSettled (held_by c.inner.disk.slots)) }
 {
     let group = match Group::open(alloc, disk) {

@@ -73,10 +73,10 @@ nine a b c d e f g h i j = simp append_assoc
 eight : (a b c d e f g h i j : List ℕ) → (a ++ (b ++ (c ++ (d ++ (e ++ (f ++ (g ++ (h ++ i)))))))) ++ j ≡ (a ++ (b ++ (c ++ (d ++ (e ++ (f ++ (g ++ h))))))) ++ (i ++ j)
 eight a b c d e f g h i j = simp append_assoc
 
-label_spelled : (s : List ℕ) → IsSector s → at 0 8 s ≡ label_cookie → number_at 8 s ≡ 1 → are_zeros (at 48 460 s) ≡ true → sum (at 0 508 s) ≡ number_at 508 s
-    → s ≡ label_sector 1 (plate_in s)
+label_spelled : (s : List ℕ) → IsSector s → at 0 8 s ≡ label_cookie → are_zeros (at 48 460 s) ≡ true → sum (at 0 508 s) ≡ number_at 508 s
+    → s ≡ label_sector (number_at 8 s) (plate_in s)
 unfolding label_sector label_front plate_in
-label_spelled s sector cookie version zeros total =
+label_spelled s sector cookie zeros total =
     let back = drop 508 s in
     let join = λ (x y : List ℕ). x ++ y in
     let filled : at 48 460 s ≡ replicate 460 0 = zeros_from (at 48 460 s) zeros ∙ ap (λ (n : ℕ). replicate n 0) (length-at 48 460 s (omega (arith, sector.long))) in
@@ -87,38 +87,39 @@ label_spelled s sector cookie version zeros total =
     let d32 = cut 32 4 s ∙ ap₂ join (sym (number_is 32 s sector (omega arith))) d36 in
     let d28 = cut 28 4 s ∙ ap₂ join (sym (number_is 28 s sector (omega arith))) d32 in
     let d12 = cut 12 16 s ∙ ap (λ (x : List ℕ). at 12 16 s ++ x) d28 in
-    let d8 = cut 8 4 s ∙ ap₂ join (sym (number_is 8 s sector (omega arith)) ∙ ap number version) d12 in
+    let d8 = cut 8 4 s ∙ ap₂ join (sym (number_is 8 s sector (omega arith))) d12 in
     let d0 = cut 0 8 s ∙ ap₂ join cookie d8 in
-    let parts : s ≡ label_front 1 (plate_in s) ++ back =
-    d0 ∙ nine label_cookie (number 1) (at 12 16 s) (number (number_at 28 s)) (number (number_at 32 s)) (number (number_at 36 s)) (number (number_at 40 s)) (number (number_at 44 s)) (replicate 460 0) back in
-    sealed_from s (label_front 1 (plate_in s)) sector parts total
+    let parts : s ≡ label_front (number_at 8 s) (plate_in s) ++ back =
+    d0 ∙ nine label_cookie (number (number_at 8 s)) (at 12 16 s) (number (number_at 28 s)) (number (number_at 32 s)) (number (number_at 36 s)) (number (number_at 40 s)) (number (number_at 44 s)) (replicate 460 0) back in
+    sealed_from s (label_front (number_at 8 s) (plate_in s)) sector parts total
 
-label_zeros : (s : List ℕ) → IsSector s → s ≡ label_sector 1 (plate_in s) → are_zeros (at 48 460 s) ≡ true
+label_zeros : (s : List ℕ) → IsSector s → s ≡ label_sector (number_at 8 s) (plate_in s) → are_zeros (at 48 460 s) ≡ true
 unfolding label_sector label_front plate_in sealed
 label_zeros s sector is =
     let id = at 12 16 s in
-    let front = label_cookie ++ (number 1 ++ (id ++ (number (number_at 28 s) ++ (number (number_at 32 s) ++ (number (number_at 36 s) ++ (number (number_at 40 s) ++ number (number_at 44 s))))))) in
-    let end = number (sum (label_front 1 (plate_in s))) in
+    let front = label_cookie ++ (number (number_at 8 s) ++ (id ++ (number (number_at 28 s) ++ (number (number_at 32 s) ++ (number (number_at 36 s) ++ (number (number_at 40 s) ++ number (number_at 44 s))))))) in
+    let end = number (sum (label_front (number_at 8 s) (plate_in s))) in
     let regrouped : s ≡ front ++ (replicate 460 0 ++ end) =
-    is ∙ eight label_cookie (number 1) id (number (number_at 28 s)) (number (number_at 32 s)) (number (number_at 36 s)) (number (number_at 40 s)) (number (number_at 44 s)) (replicate 460 0) end in
+    is ∙ eight label_cookie (number (number_at 8 s)) id (number (number_at 28 s)) (number (number_at 32 s)) (number (number_at 36 s)) (number (number_at 40 s)) (number (number_at 44 s)) (replicate 460 0) end in
     let long : length id ≡ 16 = length-at 12 16 s (omega (arith, sector.long)) in
     let tail : List ℕ = number (number_at 28 s) ++ (number (number_at 32 s) ++ (number (number_at 36 s) ++ (number (number_at 40 s) ++ number (number_at 44 s)))) in
     let size : length front ≡ 48 = omega (arith, long, length-append id tail) in
     let there : at 48 460 s ≡ replicate 460 0 = ap (at 48 460) regrouped ∙ at_is 48 460 front (replicate 460 0) end size (length-replicate {A = ℕ} 460 0) in
     ap are_zeros there ∙ is_zeros-zeros 460
 
-label_total : (s : List ℕ) → IsSector s → s ≡ label_sector 1 (plate_in s) → sum (at 0 508 s) ≡ number_at 508 s
+label_total : (s : List ℕ) → IsSector s → s ≡ label_sector (number_at 8 s) (plate_in s) → sum (at 0 508 s) ≡ number_at 508 s
 unfolding label_sector
-label_total s sector is = sum_right s (label_front 1 (plate_in s)) sector is
+label_total s sector is = sum_right s (label_front (number_at 8 s) (plate_in s)) sector is
 
--- behind its letters and its version, a label of version 1 is the spelling of its fields where its zeros and its sum are right
-pub label_same : (s : List ℕ) → IsSector s → take 8 s ≡ label_cookie → number_at 8 s ≡ 1
-    → (are_zeros (at 48 460 s) && eqb (sum (at 0 508 s)) (number_at 508 s)) ≡ bytes_eq s (label_sector 1 (plate_in s))
-label_same s sector cookie version =
-    same_from (are_zeros (at 48 460 s) && eqb (sum (at 0 508 s)) (number_at 508 s)) (bytes_eq s (label_sector 1 (plate_in s)))
+-- behind its letters, a label is the spelling of its version and its fields where its zeros and its sum are right
+pub label_same : (s : List ℕ) → IsSector s → take 8 s ≡ label_cookie
+    → (are_zeros (at 48 460 s) && eqb (sum (at 0 508 s)) (number_at 508 s)) ≡ bytes_eq s (label_sector (number_at 8 s) (plate_in s))
+label_same s sector cookie =
+    let label = label_sector (number_at 8 s) (plate_in s) in
+    same_from (are_zeros (at 48 460 s) && eqb (sum (at 0 508 s)) (number_at 508 s)) (bytes_eq s label)
     (λ h. let p = and_parts (are_zeros (at 48 460 s)) (eqb (sum (at 0 508 s)) (number_at 508 s)) h in
-    (bytes_eq-Decides s (label_sector 1 (plate_in s))).1 (label_spelled s sector cookie version p.0 (eqb-true (sum (at 0 508 s)) (number_at 508 s) p.1)))
-    (λ h. let is = (bytes_eq-Decides s (label_sector 1 (plate_in s))).0 h in
+    (bytes_eq-Decides s label).1 (label_spelled s sector cookie p.0 (eqb-true (sum (at 0 508 s)) (number_at 508 s) p.1)))
+    (λ h. let is = (bytes_eq-Decides s label).0 h in
     and_from (are_zeros (at 48 460 s)) (eqb (sum (at 0 508 s)) (number_at 508 s)) (label_zeros s sector is)
     (eq-eqb (sum (at 0 508 s)) (number_at 508 s) (label_total s sector is)))
 

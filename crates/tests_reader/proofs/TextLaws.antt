@@ -13,15 +13,18 @@ use Rattle.sm_base.proofs.OrderLemmas.{name_cmp_total}
 use Rattle.tests_reader.specs.Answers.{IsText}
 use Rattle.tests_reader.specs.SoFar.{IsSoFar, rises}
 use Rattle.vg_meta.specs.Tables.{Row, AreVolumes, IsVolume, extents_in, is_one_of}
-use Rattle.vg_meta.specs.Reading.{IsDamagedAt, no_number}
+use Rattle.vg_meta.specs.Reading.{IsDamagedBy, no_number}
 use Rattle.vg_meta.specs.Taken.{are_new}
-use Rattle.vg_meta.specs.Text.{volume_text}
+use Rattle.vg_meta.specs.Segments.{AreFew}
+use Rattle.vg_meta.specs.Text.{volume_by}
+use Rattle.vg_meta.specs.declared.grammars.Grammar.{Grammar}
 use Rattle.vg_meta.proofs.ChangeLaws.{once_from}
-use Rattle.vg_meta.proofs.DecodeLaws.{damaged_volume, damaged_end, spells_whole}
-use Rattle.vg_meta.proofs.ExtentLaws.{All-weaken}
+use Rattle.vg_meta.proofs.DecodeLaws.{damaged_volume, damaged_end, spells_whole, used-le}
+use Rattle.vg_meta.proofs.ExtentLaws.{All-weaken, times-append}
 use Rattle.vg_meta.proofs.NameLaws.{less_from}
 use Rattle.vg_meta.proofs.Places.{All-push}
-use Rattle.vg_meta.proofs.PushLaws.{next_from, read_is_next, volumes_push}
+use Rattle.vg_meta.proofs.FreeLaws.{all_from}
+use Rattle.vg_meta.proofs.PushLaws.{next_from, read_is_next_by, volumes_push}
 use Rattle.vg_meta.proofs.ReadSteps.{no_volumes}
 use Rattle.vg_meta.proofs.TakenLaws.{new_once, once_new, taken}
 use Rattle.vg_meta.proofs.WriteLaws.{flat_map-push}
@@ -81,18 +84,18 @@ unfolding name_cmp
 cmp_is spelled v n is = ap (λ (l : List ℕ). slice_cmp nat_cmp l (spelling n)) is
 
 -- the volume that stands next
-pub record IsFound (count : ℕ) (bytes : List ℕ) (v : Row) (spelled after : List ℕ) : Type 0 where
+pub record IsFound (g : Grammar) (count : ℕ) (bytes : List ℕ) (v : Row) (spelled after : List ℕ) : Type 0 where
   pub low : count < 2 ^ 32
   pub volume : IsVolume v
   pub few : length v.extents < 2 ^ 32
   pub fit : AllByRecursion (λ e. e < 2 ^ 32) v.extents
   pub named : spelled ≡ spelling v.name
-  pub text : bytes ≡ volume_text v ++ after
+  pub text : bytes ≡ volume_by g v ++ after
 
-pub so_more : (count : ℕ) (bytes : List ℕ) (v : Row) (spelled after met now : List ℕ) (before : Option (List ℕ)) → IsFound count bytes v spelled after
+pub so_more : (g : Grammar) (count : ℕ) (bytes : List ℕ) (v : Row) (spelled after met now : List ℕ) (before : Option (List ℕ)) → IsFound g count bytes v spelled after
     → rises before spelled ≡ true → are_new count met v.extents ≡ true → now ≡ met ++ v.extents
     → (rs : List Row) → IsSoFar count rs before met → IsSoFar count (rs ++ v ∷ []) (Some spelled) now
-so_more count bytes v spelled after met now before f risen new is rs so =
+so_more g count bytes v spelled after met now before f risen new is rs so =
     let behind : AllByRecursion (λ (r : Row). name_cmp r.name v.name ≡ Less) rs = (so.behind v.name).0 (ap (rises before) (sym f.named) ∙ risen) in
     record {
       volumes = volumes_push count rs v so.volumes f.volume behind
@@ -105,44 +108,53 @@ so_more count bytes v spelled after met now before f risen new is rs so =
     }
 
 -- where the name does not rise, or an extent is not new, no volume stands there
-pub so_stop : (count : ℕ) (bytes : List ℕ) (v : Row) (spelled after met : List ℕ) (before : Option (List ℕ)) → IsFound count bytes v spelled after
+pub so_stop : (g : Grammar) (count : ℕ) (bytes : List ℕ) (v : Row) (spelled after met : List ℕ) (before : Option (List ℕ)) → IsFound g count bytes v spelled after
     → (rises before spelled ≡ false) ⊎ (are_new count met v.extents ≡ false)
     → (rs : List Row) → IsSoFar count rs before met
-    → (r : Row) (rest : List ℕ) → length r.extents < 2 ^ 32 → AreVolumes count (rs ++ r ∷ []) → bytes ≢ volume_text r ++ rest
-so_stop count bytes v spelled after met before f (inl falls) rs so r rest few vs e =
-    let next = read_is_next bytes count rs v after f.low f.volume f.few f.fit f.text r rest few vs e in
+    → (r : Row) (rest : List ℕ) → length r.extents < 2 ^ 32 → AreVolumes count (rs ++ r ∷ []) → bytes ≢ volume_by g r ++ rest
+so_stop g count bytes v spelled after met before f (inl falls) rs so r rest few vs e =
+    let next = read_is_next_by g bytes count rs v after f.low f.volume f.few f.fit f.text r rest few vs e in
     true≢false (sym ((so.behind v.name).1 next.behind) ∙ ap (rises before) (sym f.named) ∙ falls)
-so_stop count bytes v spelled after met before f (inr again) rs so r rest few vs e =
-    let next = read_is_next bytes count rs v after f.low f.volume f.few f.fit f.text r rest few vs e in
+so_stop g count bytes v spelled after met before f (inr again) rs so r rest few vs e =
+    let next = read_is_next_by g bytes count rs v after f.low f.volume f.few f.fit f.text r rest few vs e in
     true≢false (sym (once_new count (extents_in rs) v.extents next.extents) ∙ ap (λ (l : List ℕ). are_new count l v.extents) (sym so.all) ∙ again)
 
+-- the extents of one more volume are below the count, and no more than it
+few_there : (count : ℕ) (rs : List Row) (r : Row) → AreVolumes count (rs ++ r ∷ []) → AreFew count count r.extents
+few_there count rs r vs =
+    let next = next_from count rs r vs in
+    record {
+      below = all_from (λ (x : ℕ). x < count) r.extents (λ x k. next.extents.below x (omega (arith, times-append x (extents_in rs) r.extents)));
+      few = omega (arith, used-le count (rs ++ r ∷ []) vs, ap length (flat_map-push (λ (x : Row). x.extents) rs r), length-append (extents_in rs) r.extents);
+    }
+
 -- where no volume at all stands there, none does that goes on with those in front
-pub so_none : (count : ℕ) (bytes : List ℕ) → ((r : Row) (rest : List ℕ) → IsVolume r → length r.extents < 2 ^ 32 → bytes ≢ volume_text r ++ rest)
-    → (rs : List Row) (r : Row) (rest : List ℕ) → length r.extents < 2 ^ 32 → AreVolumes count (rs ++ r ∷ []) → bytes ≢ volume_text r ++ rest
-so_none count bytes none rs r rest few vs e = none r rest (next_from count rs r vs).volume few e
+pub so_none : (g : Grammar) (count : ℕ) (bytes : List ℕ) → ((r : Row) (rest : List ℕ) → IsVolume r → AreFew count count r.extents → bytes ≢ volume_by g r ++ rest)
+    → (rs : List Row) (r : Row) (rest : List ℕ) → length r.extents < 2 ^ 32 → AreVolumes count (rs ++ r ∷ []) → bytes ≢ volume_by g r ++ rest
+so_none g count bytes none rs r rest few vs e = none r rest (next_from count rs r vs).volume (few_there count rs r vs) e
 
 -- ---- the whole text
 
 -- so many volumes were read behind the two numbers
-pub record IsRead (count : ℕ) (bytes rest : List ℕ) (before : Option (List ℕ)) (met : List ℕ) (i : ℕ) : Type 0 where
+pub record IsRead (g : Grammar) (count : ℕ) (bytes rest : List ℕ) (before : Option (List ℕ)) (met : List ℕ) (i : ℕ) : Type 0 where
   pub rows : List Row
   pub so : IsSoFar count rows before met
   pub many : length rows ≡ i
-  pub read : bytes ≡ flat_map volume_text rows ++ rest
+  pub read : bytes ≡ flat_map (volume_by g) rows ++ rest
 
-pub read_first : (count : ℕ) (bytes : List ℕ) → IsRead count bytes bytes None [] 0
-read_first count bytes = record { rows = []; so = so_first count; many = refl; read = refl }
+pub read_first : (g : Grammar) (count : ℕ) (bytes : List ℕ) → IsRead g count bytes bytes None [] 0
+read_first g count bytes = record { rows = []; so = so_first count; many = refl; read = refl }
 
-pub read_more : (count : ℕ) (bytes rest after : List ℕ) (before : Option (List ℕ)) (v : Row) (spelled met now : List ℕ) (i : ℕ) → IsRead count bytes rest before met i
-    → rest ≡ volume_text v ++ after → ((rs : List Row) → IsSoFar count rs before met → IsSoFar count (rs ++ v ∷ []) (Some spelled) now)
-    → IsRead count bytes after (Some spelled) now (i + 1)
-read_more count bytes rest after before v spelled met now i r text more = record {
+pub read_more : (g : Grammar) (count : ℕ) (bytes rest after : List ℕ) (before : Option (List ℕ)) (v : Row) (spelled met now : List ℕ) (i : ℕ) → IsRead g count bytes rest before met i
+    → rest ≡ volume_by g v ++ after → ((rs : List Row) → IsSoFar count rs before met → IsSoFar count (rs ++ v ∷ []) (Some spelled) now)
+    → IsRead g count bytes after (Some spelled) now (i + 1)
+read_more g count bytes rest after before v spelled met now i r text more = record {
   rows = r.rows ++ v ∷ [];
   so = more r.rows r.so;
   many = omega (arith, length-append r.rows (v ∷ []), r.many);
-  read = r.read ∙ ap (λ (l : List ℕ). flat_map volume_text r.rows ++ l) text
-      ∙ sym (append_assoc (flat_map volume_text r.rows) (volume_text v) after)
-      ∙ ap (λ (l : List ℕ). l ++ after) (sym (flat_map-push volume_text r.rows v));
+  read = r.read ∙ ap (λ (l : List ℕ). flat_map (volume_by g) r.rows ++ l) text
+      ∙ sym (append_assoc (flat_map (volume_by g) r.rows) (volume_by g v) after)
+      ∙ ap (λ (l : List ℕ). l ++ after) (sym (flat_map-push (volume_by g) r.rows v));
 }
 
 -- ---- what the reader answers
@@ -155,15 +167,15 @@ pub none_left : (bytes : List ℕ) → eqb (length bytes) 0 ≡ true → bytes �
 none_left [] e = refl
 none_left (b ∷ bytes) e = absurd (let k = eqb-true (length (b ∷ bytes)) 0 e in omega (arith, k))
 
-pub no_number_there : (count s : ℕ) (bytes rest : List ℕ) → bytes ≡ big_bytes 8 s ++ rest → s < 2 ^ 48 → length rest < 4 → IsDamagedAt count bytes 8
-no_number_there count s bytes rest read small short = no_number s rest small read short
+pub no_number_there : (g : Grammar) (count s : ℕ) (bytes rest : List ℕ) → bytes ≡ big_bytes 8 s ++ rest → s < 2 ^ 48 → length rest < 4 → IsDamagedBy g count bytes 8
+no_number_there g count s bytes rest read small short = no_number s rest small read short
 
 -- behind fewer volumes than there are told no volume stands
-pub no_volume_there : (count s n : ℕ) (bytes behind volumes rest : List ℕ) (before : Option (List ℕ)) (met : List ℕ) (i : ℕ) → bytes ≡ big_bytes 8 s ++ behind
-    → behind ≡ big_bytes 4 n ++ volumes → s < 2 ^ 48 → n < 2 ^ 32 → IsRead count volumes rest before met i → i < n
-    → ((rs : List Row) → IsSoFar count rs before met → (r : Row) (more : List ℕ) → length r.extents < 2 ^ 32 → AreVolumes count (rs ++ r ∷ []) → rest ≢ volume_text r ++ more)
-    → IsDamagedAt count bytes (length bytes - length rest)
-no_volume_there count s n bytes behind volumes rest before met i a b small few r fewer none =
+pub no_volume_there : (g : Grammar) (count s n : ℕ) (bytes behind volumes rest : List ℕ) (before : Option (List ℕ)) (met : List ℕ) (i : ℕ) → bytes ≡ big_bytes 8 s ++ behind
+    → behind ≡ big_bytes 4 n ++ volumes → s < 2 ^ 48 → n < 2 ^ 32 → IsRead g count volumes rest before met i → i < n
+    → ((rs : List Row) → IsSoFar count rs before met → (r : Row) (more : List ℕ) → length r.extents < 2 ^ 32 → AreVolumes count (rs ++ r ∷ []) → rest ≢ volume_by g r ++ more)
+    → IsDamagedBy g count bytes (length bytes - length rest)
+no_volume_there g count s n bytes behind volumes rest before met i a b small few r fewer none =
     damaged_volume count s n (length rest) bytes behind volumes a b small few (record {
       front = r.rows;
       rest = rest;
@@ -175,16 +187,16 @@ no_volume_there count s n bytes behind volumes rest before met i a b small few r
     })
 
 -- bytes follow the last volume
-pub bytes_there : (count s n : ℕ) (bytes behind volumes rest : List ℕ) (before : Option (List ℕ)) (met : List ℕ) (i : ℕ) → bytes ≡ big_bytes 8 s ++ behind
-    → behind ≡ big_bytes 4 n ++ volumes → s < 2 ^ 48 → n < 2 ^ 32 → IsRead count volumes rest before met i → i ≡ n → 0 < length rest
-    → IsDamagedAt count bytes (length bytes - length rest)
-bytes_there count s n bytes behind volumes rest before met i a b small few r all some =
+pub bytes_there : (g : Grammar) (count s n : ℕ) (bytes behind volumes rest : List ℕ) (before : Option (List ℕ)) (met : List ℕ) (i : ℕ) → bytes ≡ big_bytes 8 s ++ behind
+    → behind ≡ big_bytes 4 n ++ volumes → s < 2 ^ 48 → n < 2 ^ 32 → IsRead g count volumes rest before met i → i ≡ n → 0 < length rest
+    → IsDamagedBy g count bytes (length bytes - length rest)
+bytes_there g count s n bytes behind volumes rest before met i a b small few r all some =
     damaged_end count s n bytes behind volumes rest r.rows a b small few r.read r.so.volumes (r.many ∙ all) some
 
 -- the bytes are the text of a table
-pub whole : (count s n : ℕ) (bytes behind volumes rest : List ℕ) (before : Option (List ℕ)) (met : List ℕ) (i : ℕ) → count < 2 ^ 32 → bytes ≡ big_bytes 8 s ++ behind
-    → behind ≡ big_bytes 4 n ++ volumes → s < 2 ^ 48 → n < 2 ^ 32 → IsRead count volumes rest before met i → i ≡ n → rest ≡ [] → IsText count bytes
-whole count s n bytes behind volumes rest before met i low a b small few r all none = record {
+pub whole : (g : Grammar) (count s n : ℕ) (bytes behind volumes rest : List ℕ) (before : Option (List ℕ)) (met : List ℕ) (i : ℕ) → count < 2 ^ 32 → bytes ≡ big_bytes 8 s ++ behind
+    → behind ≡ big_bytes 4 n ++ volumes → s < 2 ^ 48 → n < 2 ^ 32 → IsRead g count volumes rest before met i → i ≡ n → rest ≡ [] → IsText g count bytes
+whole g count s n bytes behind volumes rest before met i low a b small few r all none = record {
   table = record { sequence = s; volumes = r.rows };
   spells = spells_whole count s n bytes behind volumes rest r.rows a b small few low r.read r.so.volumes (r.many ∙ all) none;
 }

@@ -16,7 +16,7 @@ pub fn number(bytes: &[u8], at: usize) -> u32
 
 /// The sum of bytes.
 fn sum_of(bytes: &[u8]) -> u32
-    requires { length bytes.now ≤ 524288 }
+    requires { length bytes.now ≤ 8519680 }
     ensures { result ≡ sum bytes.now }
 {
     bytes.iter().map(|byte| u32::from(*byte)).sum()
@@ -26,7 +26,7 @@ fn sum_of(bytes: &[u8]) -> u32
 pub fn sum_between(bytes: &[u8], from: usize, to: usize) -> u32
     requires order { from ≤ to }
     requires within { to ≤ length bytes.now }
-    requires few { to - from ≤ 524288 }
+    requires few { to - from ≤ 8519680 }
     ensures { result ≡ sum (take (to - from) (drop from bytes.now)) }
 {
     sum_of(&bytes[from..to])

@@ -1,21 +1,17 @@
 //! The label and the table header, tested field by field.
 
-ghost use Rattle.std.specs.Prelude.{◌≡◌, ◌<◌, ◌≤◌, ◌-◌, ◌==◌, ◌&&◌, nat_le, IsTrue, length, take, drop, sum, Ok, Err, IfSome, IfNone};
+ghost use Rattle.std.specs.Prelude.{◌≡◌, ◌<◌, ◌≤◌, ◌-◌, ◌==◌, ◌&&◌, nat_le, nat_lt, IsTrue, length, take, drop, sum, Ok, Err, IfSome, IfNone};
 ghost use Rattle.std.specs.List.{list_all};
 ghost use Rattle.std.specs.Str.{bytes_eq};
 ghost use Rattle.sm_disk.specs.Sectors.{IsSector};
+ghost use Rattle.tests_reader.specs.Frames.{places};
 ghost use Rattle.vg_layout.specs.Opening.{is_header_right as is_header_right_of, is_label_right as is_label_right_of, plate_of};
-ghost use Rattle.vg_layout.specs.Places.{area_place, extents_on, most_extents, old_frame, record_extents};
+ghost use Rattle.vg_layout.specs.Places.{extents_on, record_extents, slot_bytes};
 ghost use Rattle.vg_layout.specs.Sectors.{header_cookie, header_sector, is_geometry as is_geometry_of, label_cookie, label_sector, number_at, plate_in, pointer_in};
 
 use crate::bytes::{are_zeros, number, sum_between};
+use crate::frames::{Frame, area_of, most_of};
 use sm_base::{OpenFault, Place};
-
-/// The sectors in front of the extents.
-const AREA: u64 = 4096;
-
-/// The most bytes of a table's text, which are those of a slot.
-const TEXT_LIMIT: u32 = 524_288;
 
 /// Whether the three sizes are in their ranges.
 #[tactic(auto, unfolding(vg_layout::specs::Sectors::is_geometry))]
@@ -32,14 +28,14 @@ fn is_geometry(extent: u32, block: u32, entries: u32) -> bool
     block <= extent && 1 <= entries && entries <= 1_044_480
 }
 
-/// The most extents of a device of so many sectors in the narrow layout: whole ones, and few.
-#[tactic(auto, unfolding(vg_layout::specs::Places::extents_on, vg_layout::specs::Places::area_place, vg_layout::specs::Places::most_extents))]
-fn most_on(sectors: u64, extent: u32) -> u32
+/// The most extents of a device of so many sectors in a layout: whole ones, and few.
+#[tactic(auto, unfolding(vg_layout::specs::Places::extents_on))]
+fn most_on(layout: u32, sectors: u64, extent: u32) -> u32
     requires { 0 < extent }
-    ensures { result ≡ extents_on 0 sectors extent }
+    ensures { result ≡ extents_on layout sectors extent }
 {
-    let whole = sectors.saturating_sub(AREA) / u64::from(extent);
-    whole.min(65_536) as u32
+    let whole = sectors.saturating_sub(area_of(layout)) / u64::from(extent);
+    whole.min(most_of(layout)) as u32
 }
 
 /// The extents in which the records have room.
@@ -51,12 +47,12 @@ fn least_for(extent: u32) -> u32
     512_u32.div_ceil(extent)
 }
 
-/// Whether so many extents are on a device of so many sectors in the narrow layout, and the records have room in them.
-fn are_on(sectors: u64, extent: u32, count: u32) -> bool
+/// Whether so many extents are on a device of so many sectors in a layout, and the records have room in them.
+fn are_on(layout: u32, sectors: u64, extent: u32, count: u32) -> bool
     requires { 0 < extent }
-    ensures { result ≡ (nat_le count (extents_on 0 sectors extent) && nat_le (record_extents extent) count) }
+    ensures { result ≡ (nat_le count (extents_on layout sectors extent) && nat_le (record_extents extent) count) }
 {
-    let most = most_on(sectors, extent);
+    let most = most_on(layout, sectors, extent);
     let least = least_for(extent);
     count <= most && least <= count
 }
@@ -84,31 +80,30 @@ fn is_filled(sector: &[u8; 512], from: usize) -> bool
     are_zeros(sector, from, 508) && is_sealed(sector)
 }
 
-/// Whether a label is spelled right behind its letters and its version.
+/// Whether a label is spelled right behind its letters.
 fn is_label_spelled(label: &[u8; 512]) -> bool
-    requires cookie { take 8 label.now ≡ label_cookie }
-    requires version { number_at 8 label.now ≡ 1 }
-    ensures { result ≡ bytes_eq label.now (label_sector 1 (plate_in label.now)) }
+    requires { take 8 label.now ≡ label_cookie }
+    ensures { result ≡ bytes_eq label.now (label_sector (number_at 8 label.now) (plate_in label.now)) }
 {
     law_sector(label);
     is_filled(label, 48)
 }
 
-/// Whether each field of a label is right behind its letters and its version.
+/// Whether each field of a label is right behind its letters. Version 1 has layout 0, and version 2 has 0 or 1.
 #[tactic(auto, unfolding(vg_layout::specs::Opening::is_label_right, vg_layout::specs::Sectors::plate_in))]
 fn is_label_right(sectors: u64, label: &[u8; 512]) -> bool
-    requires cookie { take 8 label.now ≡ label_cookie }
-    requires version { number_at 8 label.now ≡ 1 }
+    requires { take 8 label.now ≡ label_cookie }
     ensures { result ≡ is_label_right_of sectors label.now }
 {
+    let layout = number(label, 44);
     let extent = number(label, 28);
-    if !is_label_spelled(label) || number(label, 44) != 0 {
+    if !is_label_spelled(label) || number(label, 8) <= layout {
         return false;
     }
     if !is_geometry(extent, number(label, 32), number(label, 36)) {
         return false;
     }
-    are_on(sectors, extent, number(label, 40))
+    are_on(layout, sectors, extent, number(label, 40))
 }
 
 /// Whether a sector begins with these letters.
@@ -128,7 +123,7 @@ pub fn label_fault(sectors: u64, label: &[u8; 512]) -> Option<OpenFault>
         return Some(OpenFault::NotARepository);
     }
     let version = number(label, 8);
-    if version != 1 {
+    if version < 1 || 2 < version {
         return Some(OpenFault::Unsupported { version });
     }
     if is_label_right(sectors, label) {
@@ -147,12 +142,13 @@ fn is_header_spelled(header: &[u8; 512]) -> bool
     begins_with(header, b"LVHDTABL") && is_filled(header, 20)
 }
 
-/// Whether each field of a table header of version 1 is right.
+/// Whether each field of a table header is right in a frame.
 #[tactic(auto, unfolding(vg_layout::specs::Opening::is_header_right, vg_layout::specs::Sectors::pointer_in))]
-pub fn is_header_right(header: &[u8; 512]) -> bool
-    ensures exact { result ≡ is_header_right_of old_frame header.now }
+pub fn is_header_right(frame: &Frame, header: &[u8; 512]) -> bool
+    ensures exact { result ≡ is_header_right_of (places frame.now) header.now }
     ensures slot { IsTrue result → number_at 8 header.now ≤ 1 }
-    ensures few { IsTrue result → number_at 12 header.now ≤ 524288 }
+    ensures few { IsTrue result → number_at 12 header.now ≤ slot_bytes (places frame.now) }
 {
-    is_header_spelled(header) && number(header, 8) <= 1 && number(header, 12) <= TEXT_LIMIT
+    let most = 512 * u64::from(frame.room);
+    is_header_spelled(header) && number(header, 8) <= 1 && u64::from(number(header, 12)) <= most
 }

@@ -3,6 +3,8 @@
 //! **What it is.** The same question as an opening's, answered in another way: the device is one slice of bytes and not
 //! calls of a device, each field is tested by itself, and a text is read volume by volume with the names and extents
 //! that were met so far. It is slow and shares no code with the volume group, so tests hold the one against the other.
+//! It reads both versions: the label says which one, and the layout, and by these two go the places of header and slots, the
+//! extents at most, and the grammar of the text.
 //! Nothing is kept here, and nothing is written. Offsets and lengths are in bytes.
 //!
 //! **What is promised** (`specs/Answers.antt`). [`opening_fault`] answers by the definitions of an opening: the refusal of
@@ -14,12 +16,14 @@
 #![tactic(auto)]
 
 mod bytes;
+mod frames;
 mod heads;
 mod openings;
 mod texts;
 mod volumes;
 
 pub use bytes::{are_zeros, number, sum_between};
+pub use frames::{Frame, frame_of};
 pub use heads::{is_header_right, label_fault};
 pub use openings::{opening_fault, text_of};
 pub use texts::text_damage;

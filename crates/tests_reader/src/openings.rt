@@ -3,33 +3,33 @@
 ghost use Rattle.std.specs.Prelude.{◌≡◌, ◌≤◌, ◌<◌, ◌/◌, ◌+◌, ◌*◌, ◌⊎◌, true, false, length, sum, IfSome, IfNone, IfOk};
 ghost use Rattle.sm_disk.specs.Sectors.{sector as sector_of};
 ghost use Rattle.tests_reader.specs.Answers.{IsFault, IsTextFault};
-ghost use Rattle.vg_layout.specs.Opening.{is_header_right as is_header_right_of};
-ghost use Rattle.vg_layout.specs.Places.{old_frame, slot_text};
+ghost use Rattle.tests_reader.specs.Frames.{places, slot_end};
+ghost use Rattle.vg_layout.specs.Opening.{grammar_of as grammar_of_version, is_header_right as is_header_right_of};
+ghost use Rattle.vg_layout.specs.Places.{slot_bytes, slot_text};
 ghost use Rattle.vg_layout.specs.Sectors.{number_at};
 
 use crate::bytes::{number, sum_between};
+use crate::frames::{Frame, frame_of, slot_begin};
 use crate::heads::{is_header_right, label_fault};
 use crate::texts::text_damage;
 use sm_base::{OpenFault, Place};
 use std::alloc::{AllocError, Global};
+use vg_meta::Grammar;
 
-/// The bytes in front of slot 0.
-const FRONT: usize = 1024;
-
-/// The bytes of a slot.
-const SLOT: usize = 524_288;
-
-/// The text that a header of version 1 names; `None` where the header is not right, or the device ends in the slots.
-pub fn text_of<'a>(device: &'a [u8], header: &[u8; 512]) -> Option<&'a [u8]>
-    ensures right { IfSome result (λ text. is_header_right_of old_frame header.now ≡ true) }
-    ensures text { IfSome result (λ text. text.now ≡ slot_text old_frame (sector_of device.now) (number_at 8 header.now) (number_at 12 header.now)) }
-    ensures few { IfSome result (λ text. length text.now ≤ 524288) }
-    ensures none { IfNone result ((is_header_right_of old_frame header.now ≡ false) ⊎ (length device.now < 1049600)) }
+/// The text that a header names in a frame; `None` where the header is not right, or the device ends in the slot.
+pub fn text_of<'a>(device: &'a [u8], frame: &Frame, header: &[u8; 512]) -> Option<&'a [u8]>
+    ensures right { IfSome result (λ text. is_header_right_of (places frame.now) header.now ≡ true) }
+    ensures text { IfSome result (λ text. text.now ≡ slot_text (places frame.now) (sector_of device.now) (number_at 8 header.now) (number_at 12 header.now)) }
+    ensures few { IfSome result (λ text. length text.now ≤ slot_bytes (places frame.now)) }
+    ensures none { IfNone result ((is_header_right_of (places frame.now) header.now ≡ false) ⊎ (length device.now < slot_end (places frame.now) (number_at 8 header.now))) }
 {
-    if !is_header_right(header) || device.len() < FRONT + 2 * SLOT {
+    if !is_header_right(frame, header) {
         return None;
     }
-    let begin = FRONT + number(header, 8) as usize * SLOT;
+    let begin = 512 * slot_begin(frame, number(header, 8)) as usize;
+    if device.len() < begin + 512 * frame.room as usize {
+        return None;
+    }
     let end = begin + number(header, 12) as usize;
     Some(&device[begin..end])
 }
@@ -37,24 +37,37 @@ pub fn text_of<'a>(device: &'a [u8], header: &[u8; 512]) -> Option<&'a [u8]>
 /// Why a table is refused whose text has this sum by its header, where extents are counted up to `count`.
 fn text_fault(
     alloc: Global,
+    grammar: Grammar,
     text: &[u8],
     sum: u32,
     count: u32,
 ) -> Result<Option<OpenFault>, AllocError>
-    requires { length text.now ≤ 524288 }
-    ensures { IfOk result (IsTextFault count sum text.now) }
+    requires { length text.now ≤ 8519680 }
+    ensures { IfOk result (IsTextFault grammar count sum text.now) }
 {
     if sum_between(text, 0, text.len()) != sum {
         return Ok(Some(OpenFault::Damaged {
             place: Place::TableSum,
         }));
     }
-    let Some(at) = text_damage(alloc, text, count)? else {
+    let Some(at) = text_damage(alloc, grammar, text, count)? else {
         return Ok(None);
     };
     Ok(Some(OpenFault::Damaged {
         place: Place::Table { at: at as u32 },
     }))
+}
+
+/// The grammar of a version's text.
+#[tactic(auto, unfolding(vg_layout::specs::Opening::grammar_of))]
+fn grammar_of(version: u32) -> Grammar
+    ensures { result ≡ grammar_of_version version }
+{
+    if version == 1 {
+        Grammar::Listed
+    } else {
+        Grammar::Segmented
+    }
 }
 
 /// A sector of a device.
@@ -80,11 +93,20 @@ pub fn opening_fault(alloc: Global, device: &[u8]) -> Result<Option<OpenFault>, 
     if let Some(fault) = label_fault(sectors, &label) {
         return Ok(Some(fault));
     }
-    let header = sector(device, 1);
-    let Some(text) = text_of(device, &header) else {
+    let version = number(&label, 8);
+    let frame = frame_of(version, number(&label, 44));
+    let header = sector(device, frame.header as usize);
+    let Some(text) = text_of(device, &frame, &header) else {
         return Ok(Some(OpenFault::Damaged {
             place: Place::Header,
         }));
     };
-    text_fault(alloc, text, number(&header, 16), number(&label, 40))
+    let grammar = grammar_of(version);
+    text_fault(
+        alloc,
+        grammar,
+        text,
+        number(&header, 16),
+        number(&label, 40),
+    )
 }

@@ -6,11 +6,12 @@ ghost use Rattle.tests_reader.specs.Answers.{IsDamage};
 ghost use Rattle.tests_reader.specs.SoFar.{IsSoFar, row, rises as rises_of, seen};
 ghost use Rattle.vg_meta.specs.Tables.{Row, AreVolumes};
 ghost use Rattle.vg_meta.specs.Taken.{are_new as are_new_of};
-ghost use Rattle.vg_meta.specs.Text.{volume_text};
+ghost use Rattle.vg_meta.specs.Text.{volume_by};
 
 use crate::volumes::{Volume, long_number_at, number_at, volume_at};
 use std::alloc::{AllocError, Global};
 use std::cmp::Ordering;
+use vg_meta::Grammar;
 
 /// The sequence numbers are below this.
 const SEQUENCES: u64 = 281_474_976_710_656;
@@ -43,17 +44,18 @@ fn are_new(met: &mut Vec<u32>, extents: &[u32], count: u32) -> Result<bool, Allo
 /// stands there.
 fn next_volume<'a>(
     alloc: Global,
+    grammar: Grammar,
     before: Option<&'a [u8]>,
     met: &mut Vec<u32>,
     count: u32,
     bytes: &'a [u8],
 ) -> Result<Option<(Volume, &'a [u8], &'a [u8])>, AllocError>
-    ensures text { IfOk result (λ found. IfSome found (λ x. bytes.now ≡ volume_text (row x.0) ++ x.2.now)) }
+    ensures text { IfOk result (λ found. IfSome found (λ x. bytes.now ≡ volume_by grammar (row x.0) ++ x.2.now)) }
     ensures next { IfOk result (λ found. IfSome found (λ x. (rs : List Row) → IsSoFar count rs (seen before.entry) met.old.items → IsSoFar count (rs ++ row x.0 ∷ []) (Some x.1.now) met.new.items)) }
     ensures none { IfOk result (λ found. IfNone found ((rs : List Row) → IsSoFar count rs (seen before.entry) met.old.items
-        → (r : Row) (rest : List ℕ) → length r.extents < 2 ^ 32 → AreVolumes count (rs ++ r ∷ []) → bytes.now ≢ volume_text r ++ rest)) }
+        → (r : Row) (rest : List ℕ) → length r.extents < 2 ^ 32 → AreVolumes count (rs ++ r ∷ []) → bytes.now ≢ volume_by grammar r ++ rest)) }
 {
-    let Some((volume, spelled, rest)) = volume_at(alloc, bytes)? else {
+    let Some((volume, spelled, rest)) = volume_at(alloc, grammar, bytes, count)? else {
         return Ok(None);
     };
     if rises(before, spelled) && are_new(met, &volume.extents, count)? {
@@ -63,10 +65,15 @@ fn next_volume<'a>(
     }
 }
 
-/// The place at which a text is damaged first, where extents are counted up to `count`, or `None` where it spells a
-/// table.
-pub fn text_damage(alloc: Global, text: &[u8], count: u32) -> Result<Option<usize>, AllocError>
-    ensures damage { IfOk result (IsDamage count text.now) }
+/// The place at which a text is damaged first by a grammar, where extents are counted up to `count`, or `None` where it spells
+/// a table.
+pub fn text_damage(
+    alloc: Global,
+    grammar: Grammar,
+    text: &[u8],
+    count: u32,
+) -> Result<Option<usize>, AllocError>
+    ensures damage { IfOk result (IsDamage grammar count text.now) }
     ensures within { IfOk result (λ found. IfSome found (λ at. at ≤ 8 + length text.now)) }
 {
     let Some((sequence, behind)) = long_number_at(text) else {
@@ -81,7 +88,9 @@ pub fn text_damage(alloc: Global, text: &[u8], count: u32) -> Result<Option<usiz
     let mut before = None;
     let mut met = Vec::new(alloc);
     for _ in 0..volumes {
-        let Some((_volume, spelled, after)) = next_volume(alloc, before, &mut met, count, rest)?
+        let Some((_volume, spelled, after)) = next_volume(
+            alloc, grammar, before, &mut met, count, rest,
+        )?
         else {
             return Ok(Some(text.len() - rest.len()));
         };

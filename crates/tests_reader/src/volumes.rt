@@ -1,17 +1,20 @@
 //! A volume of a table's text, read from its first byte on.
 
-ghost use Rattle.std.specs.Prelude.{◌≡◌, ◌≢◌, ◌<◌, ◌^◌, ◌++◌, ◌∷◌, ℕ, Bool, List, length, IfSome, IfNone, IfOk};
-ghost use Rattle.std.specs.List.{AllByRecursion};
+ghost use Rattle.std.specs.Prelude.{◌≡◌, ◌≢◌, ◌<◌, ◌+◌, ◌^◌, ◌++◌, ◌∷◌, ◌↔◌, ℕ, Bool, List, length, IsTrue, IfSome, IfNone, IfOk};
+ghost use Rattle.std.specs.List.{AllByRecursion, range_with_len};
 ghost use Rattle.byteorder.specs.Endian.{big_bytes};
 ghost use Rattle.sm_base.specs.declared.names.Name.{Name};
 ghost use Rattle.sm_base.specs.Names.{IsName, spelling};
 ghost use Rattle.tests_reader.specs.SoFar.{row};
+ghost use Rattle.vg_meta.specs.declared.grammars.Grammar.TheVariants.{Segmented};
+ghost use Rattle.vg_meta.specs.Segments.{AreFew, GoesOn};
 ghost use Rattle.vg_meta.specs.Tables.{Row, IsVolume, suits as suits_of};
-ghost use Rattle.vg_meta.specs.Text.{flags_of, extents_text, volume_text};
+ghost use Rattle.vg_meta.specs.Text.{extents_by, flags_of, listed_extents, volume_by};
 
 use byteorder::{BigEndian, ByteOrder};
 use sm_base::Name;
 use std::alloc::{AllocError, Global};
+use vg_meta::Grammar;
 
 /// A volume of a text.
 #[derive(Drop)]
@@ -82,12 +85,12 @@ fn flags_at(bytes: &[u8]) -> Option<(bool, bool, &[u8])>
     Some((*flags == 1 || *flags == 3, *flags >= 2, rest))
 }
 
-/// Extents behind their number, and the bytes behind them; `None` where none stand so.
-fn extents_at(alloc: Global, bytes: &[u8]) -> Result<Option<(Vec<u32>, &[u8])>, AllocError>
+/// Extents behind their number, one by one, and the bytes behind them; `None` where none stand so.
+fn listed_at(alloc: Global, bytes: &[u8]) -> Result<Option<(Vec<u32>, &[u8])>, AllocError>
     ensures few { IfOk result (λ found. IfSome found (λ x. length x.0.items < 2 ^ 32)) }
     ensures fit { IfOk result (λ found. IfSome found (λ x. AllByRecursion (λ e. e < 2 ^ 32) x.0.items)) }
-    ensures extents { IfOk result (λ found. IfSome found (λ x. bytes.now ≡ extents_text x.0.items ++ x.1.now)) }
-    ensures none { IfOk result (λ found. IfNone found ((es rest : List ℕ) → length es < 2 ^ 32 → bytes.now ≢ extents_text es ++ rest)) }
+    ensures extents { IfOk result (λ found. IfSome found (λ x. bytes.now ≡ listed_extents x.0.items ++ x.1.now)) }
+    ensures none { IfOk result (λ found. IfNone found ((es rest : List ℕ) → length es < 2 ^ 32 → bytes.now ≢ listed_extents es ++ rest)) }
 {
     let Some((count, mut rest)) = number_at(bytes) else {
         return Ok(None);
@@ -101,6 +104,92 @@ fn extents_at(alloc: Global, bytes: &[u8]) -> Result<Option<(Vec<u32>, &[u8])>, 
         rest = after;
     }
     Ok(Some((extents, rest)))
+}
+
+/// Two numbers of four bytes, and the bytes behind them; `None` where they are not there.
+fn pair_at(bytes: &[u8]) -> Option<(u32, u32, &[u8])>
+    ensures numbers { IfSome result (λ x. bytes.now ≡ big_bytes 4 x.0 ++ (big_bytes 4 x.1 ++ x.2.now)) }
+    ensures fit { IfSome result (λ x. (x.0 < 2 ^ 32) × (x.1 < 2 ^ 32)) }
+    ensures none { IfNone result (length bytes.now < 8) }
+{
+    if bytes.len() < 8 {
+        return None;
+    }
+    let (first, behind) = number_at(bytes)?;
+    let (second, rest) = number_at(behind)?;
+    Some((first, second, rest))
+}
+
+/// Whether a segment, its first extent and how many it has, may stand behind the extents that a volume has so far, where
+/// extents are counted up to `count`.
+fn goes_on(extents: &[u32], first: u32, many: u32, count: u32) -> bool
+    requires { length extents.now < 2 ^ 32 }
+    ensures { IsTrue result ↔ GoesOn count count extents.now first many }
+{
+    let begins_elsewhere = match extents.last() {
+        Some(last) => u64::from(*last) + 1 != u64::from(first),
+        None => true,
+    };
+    let end = u64::from(first) + u64::from(many);
+    let all = extents.len() as u64 + u64::from(many);
+    many > 0 && begins_elsewhere && end <= u64::from(count) && all <= u64::from(count)
+}
+
+/// Pushes so many extents that follow one another.
+fn push_run(extents: &mut Vec<u32>, first: u32, many: u32) -> Result<(), AllocError>
+    requires { first + many < 2 ^ 32 }
+    ensures { IfOk result (λ done. extents.new.items ≡ extents.old.items ++ range_with_len first many) }
+{
+    for extent in first..first + many {
+        extents.push(extent)?;
+    }
+    Ok(())
+}
+
+/// Extents by segments behind the number of these, and the bytes behind them, where extents are counted up to `count`; `None`
+/// where none stand so.
+fn segmented_at(
+    alloc: Global,
+    bytes: &[u8],
+    count: u32,
+) -> Result<Option<(Vec<u32>, &[u8])>, AllocError>
+    ensures few { IfOk result (λ found. IfSome found (λ x. AreFew count count x.0.items)) }
+    ensures extents { IfOk result (λ found. IfSome found (λ x. bytes.now ≡ extents_by Segmented x.0.items ++ x.1.now)) }
+    ensures none { IfOk result (λ found. IfNone found ((es rest : List ℕ) → AreFew count count es → bytes.now ≢ extents_by Segmented es ++ rest)) }
+{
+    let Some((number, mut rest)) = number_at(bytes) else {
+        return Ok(None);
+    };
+    let mut extents = Vec::new(alloc);
+    for _ in 0..number {
+        let Some((first, many, after)) = pair_at(rest) else {
+            return Ok(None);
+        };
+        if !goes_on(&extents, first, many, count) {
+            return Ok(None);
+        }
+        push_run(&mut extents, first, many)?;
+        rest = after;
+    }
+    Ok(Some((extents, rest)))
+}
+
+/// Extents by a grammar, and the bytes behind them, where extents are counted up to `count`; `None` where none stand so.
+fn extents_at(
+    alloc: Global,
+    grammar: Grammar,
+    bytes: &[u8],
+    count: u32,
+) -> Result<Option<(Vec<u32>, &[u8])>, AllocError>
+    ensures few { IfOk result (λ found. IfSome found (λ x. length x.0.items < 2 ^ 32)) }
+    ensures fit { IfOk result (λ found. IfSome found (λ x. AllByRecursion (λ e. e < 2 ^ 32) x.0.items)) }
+    ensures extents { IfOk result (λ found. IfSome found (λ x. bytes.now ≡ extents_by grammar x.0.items ++ x.1.now)) }
+    ensures none { IfOk result (λ found. IfNone found ((es rest : List ℕ) → AreFew count count es → bytes.now ≢ extents_by grammar es ++ rest)) }
+{
+    match grammar {
+        Grammar::Listed => listed_at(alloc, bytes),
+        Grammar::Segmented => segmented_at(alloc, bytes, count),
+    }
 }
 
 /// Whether marks and extents suit the kind of the name.
@@ -120,14 +209,20 @@ fn suits(volume: &Volume) -> bool
     }
 }
 
-/// A volume with what its kind has, the spelling of its name, and the bytes behind it; `None` where none stands so.
-pub fn volume_at(alloc: Global, bytes: &[u8]) -> Result<Option<(Volume, &[u8], &[u8])>, AllocError>
+/// A volume with what its kind has, the spelling of its name, and the bytes behind it, where extents are counted up to
+/// `count`; `None` where none stands so.
+pub fn volume_at(
+    alloc: Global,
+    grammar: Grammar,
+    bytes: &[u8],
+    count: u32,
+) -> Result<Option<(Volume, &[u8], &[u8])>, AllocError>
     ensures volume { IfOk result (λ found. IfSome found (λ x. IsVolume (row x.0))) }
     ensures few { IfOk result (λ found. IfSome found (λ x. length x.0.extents.items < 2 ^ 32)) }
     ensures fit { IfOk result (λ found. IfSome found (λ x. AllByRecursion (λ e. e < 2 ^ 32) x.0.extents.items)) }
     ensures spelled { IfOk result (λ found. IfSome found (λ x. x.1.now ≡ spelling x.0.name)) }
-    ensures text { IfOk result (λ found. IfSome found (λ x. bytes.now ≡ volume_text (row x.0) ++ x.2.now)) }
-    ensures none { IfOk result (λ found. IfNone found ((r : Row) (rest : List ℕ) → IsVolume r → length r.extents < 2 ^ 32 → bytes.now ≢ volume_text r ++ rest)) }
+    ensures text { IfOk result (λ found. IfSome found (λ x. bytes.now ≡ volume_by grammar (row x.0) ++ x.2.now)) }
+    ensures none { IfOk result (λ found. IfNone found ((r : Row) (rest : List ℕ) → IsVolume r → AreFew count count r.extents → bytes.now ≢ volume_by grammar r ++ rest)) }
 {
     let Some((name, spelled, behind)) = name_at(bytes) else {
         return Ok(None);
@@ -135,7 +230,7 @@ pub fn volume_at(alloc: Global, bytes: &[u8]) -> Result<Option<(Volume, &[u8], &
     let Some((hidden, fresh, behind)) = flags_at(behind) else {
         return Ok(None);
     };
-    let Some((extents, behind)) = extents_at(alloc, behind)? else {
+    let Some((extents, behind)) = extents_at(alloc, grammar, behind, count)? else {
         return Ok(None);
     };
     let volume = Volume {

@@ -1,26 +1,41 @@
 //! Each byte of a new group's label, header and text is changed, and an opening answers what the reference reader
-//! finds.
+//! finds. The same is done to an older group, of version 1, whose bytes are worked by hand.
 
 use sm_base::{OpenFault, Place};
 use sm_disk::{Disk, MemDisk, write_sector};
 use std::alloc::Global;
 use std::test::Fail;
-use tests_reader::{number, opening_fault, sum_between, text_of};
-use tests_support::formatted;
+use tests_reader::{frame_of, number, opening_fault, sum_between, text_of};
+use tests_support::{REPOSITORY, formatted, holds};
 use vg_store::Group;
 
 /// The sectors of the device: extents for the records alone.
 const SECTORS: usize = 4608;
 
-/// The bytes of the label, the header and the text, which stand in sectors 0, 1 and 2.
-const LABEL: usize = 512;
+/// Where the header and the text of a group begin on its device, and the bytes of the text. The label is in front.
+#[derive(Clone, Copy)]
+struct Places {
+    header: usize,
+    text: usize,
+    length: usize,
+}
 
-const HEADER: usize = 1024;
+/// Of a new group: the header stands in sector 2,050, the text in sector 2,051.
+const NEW: Places = Places {
+    header: 1_049_600,
+    text: LAST,
+    length: 29,
+};
 
-const TEXT: usize = 1109;
+/// Of one of version 1: the header stands in sector 1, the text in sector 2.
+const OLDER: Places = Places {
+    header: 512,
+    text: 1024,
+    length: 85,
+};
 
-/// The sectors of the label, the header and the text.
-const FRONT: usize = 1536;
+/// The offset of the last sector of a front.
+const LAST: usize = 1_050_112;
 
 /// How a byte is changed.
 #[derive(Clone, Copy)]
@@ -59,19 +74,19 @@ fn bytes_of(alloc: Global, disk: &mut MemDisk) -> Result<Vec<u8>, Fail> {
     Ok(bytes)
 }
 
-/// The label or the header of a device.
+/// A sector of the front of a device.
 fn head(device: &[u8], at: usize) -> Result<[u8; 512], Fail> {
     let mut sector = [0; 512];
-    if device.len() < FRONT || at > 1024 {
+    if device.len() < LAST + 512 || at > LAST {
         return Err(Fail::from("a front"));
     }
     sector.copy_from_slice(&device[at..at + 512]);
     Ok(sector)
 }
 
-/// Puts a sector in front of a device.
+/// Puts a sector into the front of a device.
 fn set_head(device: &mut [u8], at: usize, sector: &[u8; 512]) -> Result<(), Fail> {
-    if device.len() < FRONT || at > 1024 {
+    if device.len() < LAST + 512 || at > LAST {
         return Err(Fail::from("a front"));
     }
     device[at..at + 512].copy_from_slice(sector);
@@ -85,20 +100,21 @@ fn seal(sector: &mut [u8; 512]) {
 }
 
 /// Makes the sums of a device right.
-fn make_right(device: &mut [u8], sums: Sums) -> Result<(), Fail> {
+fn make_right(device: &mut [u8], places: Places, sums: Sums) -> Result<(), Fail> {
     if sums == Sums::Left {
         return Ok(());
     }
     let mut label = head(device, 0)?;
-    let mut header = head(device, 512)?;
+    let mut header = head(device, places.header)?;
     seal(&mut label);
     seal(&mut header);
-    if let (Sums::All, Some(text)) = (sums, text_of(device, &header)) {
+    let frame = frame_of(number(&label, 8), number(&label, 44));
+    if let (Sums::All, Some(text)) = (sums, text_of(device, &frame, &header)) {
         put(&mut header, 16, sum_between(text, 0, text.len()));
         seal(&mut header);
     }
     set_head(device, 0, &label)?;
-    set_head(device, 512, &header)
+    set_head(device, places.header, &header)
 }
 
 /// The byte after a change.
@@ -130,10 +146,11 @@ fn fault(alloc: Global, disk: MemDisk) -> Option<OpenFault> {
 }
 
 /// Writes the front of a device, which lasts.
-fn write_front(disk: &mut MemDisk, device: &[u8]) -> Result<(), Fail> {
-    for at in 0..3 {
-        if at < disk.sectors() {
-            write_sector(disk, at, &head(device, 512 * at as usize)?)?;
+fn write_front(disk: &mut MemDisk, device: &[u8], places: Places) -> Result<(), Fail> {
+    for at in [0, places.header, places.text] {
+        let sector = (at / 512) as u64;
+        if sector < disk.sectors() {
+            write_sector(disk, sector, &head(device, at)?)?;
         }
     }
     disk.sync()?;
@@ -146,21 +163,59 @@ fn new_bytes(alloc: Global) -> Result<Vec<u8>, Fail> {
     bytes_of(alloc, &mut disk)
 }
 
+/// The label of a group of version 1 of 16 extents, and its header.
+fn older_heads() -> ([u8; 512], [u8; 512]) {
+    let mut label = [0; 512];
+    label[..8].copy_from_slice(b"LVHDREPO");
+    put(&mut label, 8, 1);
+    label[12..28].copy_from_slice(&REPOSITORY);
+    for (at, value) in [(28, 32), (32, 8), (36, 64), (40, 16), (508, 3085)] {
+        put(&mut label, at, value);
+    }
+    let mut header = [0; 512];
+    header[..8].copy_from_slice(b"LVHDTABL");
+    for (at, value) in [(12, 85), (16, 373), (508, 796)] {
+        put(&mut header, at, value);
+    }
+    (label, header)
+}
+
+/// The text of a new group of version 1: the sequence number 1, and one volume, which has each of 16 extents by its number.
+fn older_text() -> [u8; 512] {
+    let mut text = [0; 512];
+    for (at, value) in [(4, 1), (8, 1), (17, 16)] {
+        put(&mut text, at, value);
+    }
+    text[12..16].copy_from_slice(b"\x03MGT");
+    for extent in 0..16u32 {
+        put(&mut text, 21 + 4 * extent as usize, extent);
+    }
+    text
+}
+
+/// All bytes of a device with a new group of version 1.
+fn older_bytes(alloc: Global) -> Result<Vec<u8>, Fail> {
+    let mut bytes = vec![in alloc; 0; 512 * SECTORS]?;
+    let (label, header) = older_heads();
+    set_front(&mut bytes, OLDER, &[label, header, older_text()])?;
+    Ok(bytes)
+}
+
 /// A device with these bytes. Only the front is written: all else is zeros, as the records of a new group are.
-fn device_of(alloc: Global, bytes: &[u8]) -> Result<MemDisk, Fail> {
+fn device_of(alloc: Global, bytes: &[u8], places: Places) -> Result<MemDisk, Fail> {
     let mut disk = MemDisk::new(alloc, SECTORS as u64)?;
-    write_front(&mut disk, bytes)?;
+    write_front(&mut disk, bytes, places)?;
     Ok(disk)
 }
 
 /// What an opening answers a changed byte where no sum was made right, by the offset of the byte.
-fn by_offset(device: &[u8], at: usize) -> Result<OpenFault, Fail> {
+fn by_offset(device: &[u8], places: Places, at: usize) -> Result<OpenFault, Fail> {
     let version = number(&head(device, 0)?, 8);
     let place = match at {
         0..8 => return Ok(OpenFault::NotARepository),
-        8..12 => return Ok(OpenFault::Unsupported { version }),
-        12..512 => Place::Label,
-        512..1024 => Place::Header,
+        8..12 if version != 1 && version != 2 => return Ok(OpenFault::Unsupported { version }),
+        8..512 => Place::Label,
+        _ if at < places.text => Place::Header,
         _ => Place::TableSum,
     };
     Ok(OpenFault::Damaged { place })
@@ -171,30 +226,35 @@ fn open_changed(
     alloc: Global,
     disk: &mut MemDisk,
     bytes: &mut [u8],
+    places: Places,
     at: usize,
     change: Change,
     sums: Sums,
 ) -> Result<bool, Fail> {
     set(bytes, at, change)?;
-    make_right(bytes, sums)?;
-    write_front(disk, bytes)?;
+    make_right(bytes, places, sums)?;
+    write_front(disk, bytes, places)?;
     let fault = fault(alloc, disk.left(alloc, &[])?);
     let wanted = opening_fault(alloc, bytes)?;
-    let plain = sums != Sums::Left || fault == Some(by_offset(bytes, at)?);
+    let plain = sums != Sums::Left || fault == Some(by_offset(bytes, places, at)?);
     Ok(fault == wanted && plain)
 }
 
 /// The three sectors of the front of a device.
-fn front(device: &[u8]) -> Result<[[u8; 512]; 3], Fail> {
-    Ok([head(device, 0)?, head(device, 512)?, head(device, 1024)?])
+fn front(device: &[u8], places: Places) -> Result<[[u8; 512]; 3], Fail> {
+    Ok([
+        head(device, 0)?,
+        head(device, places.header)?,
+        head(device, places.text)?,
+    ])
 }
 
 /// Puts a front on a device.
-fn set_front(device: &mut [u8], front: &[[u8; 512]; 3]) -> Result<(), Fail> {
+fn set_front(device: &mut [u8], places: Places, front: &[[u8; 512]; 3]) -> Result<(), Fail> {
     let [label, header, text] = front;
     set_head(device, 0, label)?;
-    set_head(device, 512, header)?;
-    set_head(device, 1024, text)
+    set_head(device, places.header, header)?;
+    set_head(device, places.text, text)
 }
 
 /// Whether both changes of a byte are answered right. The front is put back.
@@ -202,33 +262,49 @@ fn is_answered(
     alloc: Global,
     disk: &mut MemDisk,
     bytes: &mut [u8],
+    places: Places,
     at: usize,
     sums: Sums,
 ) -> Result<bool, Fail> {
-    let whole = front(bytes)?;
-    let flipped = open_changed(alloc, disk, bytes, at, Change::Flip, sums)?;
-    set_front(bytes, &whole)?;
-    let raised = open_changed(alloc, disk, bytes, at, Change::Raise, sums)?;
-    set_front(bytes, &whole)?;
+    let whole = front(bytes, places)?;
+    let flipped = open_changed(alloc, disk, bytes, places, at, Change::Flip, sums)?;
+    set_front(bytes, places, &whole)?;
+    let raised = open_changed(alloc, disk, bytes, places, at, Change::Raise, sums)?;
+    set_front(bytes, places, &whole)?;
     Ok(flipped && raised)
 }
 
-/// Bytes from an offset up to another, and which sums are made right.
-const ROWS: [(usize, usize, Sums); 7] = [
-    (0, LABEL, Sums::Left),
-    (0, LABEL, Sums::Own),
-    (LABEL, HEADER, Sums::Left),
-    (LABEL, HEADER, Sums::Own),
-    (LABEL, HEADER, Sums::All),
-    (HEADER, TEXT, Sums::Left),
-    (HEADER, TEXT, Sums::All),
-];
+/// Where the bytes that are changed begin, how many they are, and which sums are made right.
+fn rows(places: Places) -> [(usize, usize, Sums); 7] {
+    let Places {
+        header,
+        text,
+        length,
+    } = places;
+    [
+        (0, 512, Sums::Left),
+        (0, 512, Sums::Own),
+        (header, 512, Sums::Left),
+        (header, 512, Sums::Own),
+        (header, 512, Sums::All),
+        (text, length, Sums::Left),
+        (text, length, Sums::All),
+    ]
+}
 
-/// No change of a byte is answered wrong.
-fn are_answered(alloc: Global, disk: &mut MemDisk, bytes: &mut [u8]) -> Result<(), Fail> {
-    for (from, to, sums) in ROWS {
-        for at in from..to {
-            if !is_answered(alloc, disk, bytes, at, sums)? {
+/// A group stands on a device, and no change of a byte of its front is answered wrong.
+fn are_answered(
+    alloc: Global,
+    disk: &mut MemDisk,
+    bytes: &mut [u8],
+    places: Places,
+) -> Result<(), Fail> {
+    let fault = fault(alloc, disk.left(alloc, &[])?);
+    holds(fault.is_none(), "a group")?;
+    for (from, count, sums) in rows(places) {
+        for index in 0..count {
+            let at = from.saturating_add(index);
+            if !is_answered(alloc, disk, bytes, places, at, sums)? {
                 return Err(Fail::new(format_args!("byte {at}")));
             }
         }
@@ -239,6 +315,13 @@ fn are_answered(alloc: Global, disk: &mut MemDisk, bytes: &mut [u8]) -> Result<(
 #[test]
 fn each_byte_of_the_label_the_header_and_the_text(rt: HostRuntime) -> Result<(), Fail> {
     let mut bytes = new_bytes(rt.alloc())?;
-    let mut disk = device_of(rt.alloc(), &bytes)?;
-    are_answered(rt.alloc(), &mut disk, &mut bytes)
+    let mut disk = device_of(rt.alloc(), &bytes, NEW)?;
+    are_answered(rt.alloc(), &mut disk, &mut bytes, NEW)
+}
+
+#[test]
+fn each_byte_of_an_older_label_header_and_text(rt: HostRuntime) -> Result<(), Fail> {
+    let mut bytes = older_bytes(rt.alloc())?;
+    let mut disk = device_of(rt.alloc(), &bytes, OLDER)?;
+    are_answered(rt.alloc(), &mut disk, &mut bytes, OLDER)
 }

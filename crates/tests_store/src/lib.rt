@@ -4,8 +4,8 @@
 //!
 //! The records of the disks and the journal's entries are kept over both stores, a volume group on a device in memory
 //! and a store in memory, by the same calls. Calls of the store fail: the caller is told, and what stood before stands.
-//! Each byte of a new group's label, header and text is changed, with the sums left and with the sums made right again,
-//! and an opening answers what the reference reader finds. A device of stale bytes is formatted; a commit on it stops at
+//! Each byte of a new group's label, header and text is changed, and of those of a group of version 1, with the sums left and
+//! with the sums made right again, and an opening answers what the reference reader finds. A device of stale bytes is formatted; a commit on it stops at
 //! each of its calls, and what is left has the earlier table or the next. The sectors of a volume stand in its extents.
 //! Tables that are spelled right and make no sense are refused with the place of the first damage.
 //!

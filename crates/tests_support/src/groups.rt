@@ -9,14 +9,20 @@ use sm_disk::MemDisk;
 use std::alloc::Global;
 use std::test::Fail;
 use vg_store::Group;
-use vg_volumes::Store;
+use vg_volumes::{CURRENT_VERSION, Store};
 
-/// The group on a device.
+/// The group on a device, which is of the current version.
 pub fn opened(alloc: Global, disk: MemDisk) -> Result<Group<MemDisk>, Fail>
     ensures { IfOk result (λ g. g.failed ≡ false) }
 {
     match Group::open(alloc, disk) {
-        Ok(group) => Ok(group),
+        Ok(group) => {
+            if group.version() != CURRENT_VERSION {
+                let _disk = group.into_disk();
+                return Err(Fail::from("the current version"));
+            }
+            Ok(group)
+        }
         Err((_fault, _disk)) => Err(Fail::from("a group")),
     }
 }

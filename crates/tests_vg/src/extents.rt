@@ -10,7 +10,7 @@ use vg_meta::Table;
 
 /// Two volumes: the records on extents 0 and 1, and an image on 6 and 3.
 const SMALL: &[u8] =
-    b"\x00\x00\x00\x00\x00\x00\x00\x02\x00\x00\x00\x02\x03MGT\x00\x00\x00\x00\x02\x00\x00\x00\x00\x00\x00\x00\x01\x28VHD-11111111-1111-1111-1111-111111111111\x00\x00\x00\x00\x02\x00\x00\x00\x06\x00\x00\x00\x03";
+    b"\x00\x00\x00\x00\x00\x00\x00\x02\x00\x00\x00\x02\x03MGT\x00\x00\x00\x00\x01\x00\x00\x00\x00\x00\x00\x00\x02\x28VHD-11111111-1111-1111-1111-111111111111\x00\x00\x00\x00\x02\x00\x00\x00\x06\x00\x00\x00\x01\x00\x00\x00\x03\x00\x00\x00\x01";
 
 /// So many of 8 extents are found.
 fn finds(
@@ -78,16 +78,16 @@ fn free_extents_are_kept_as_runs(rt: HostRuntime) -> Result<(), Fail> {
     Ok(())
 }
 
-/// The 67 extents behind the others are found, and no more.
+/// The 8 extents behind the others are found, and no more.
 fn finds_the_last(rt: &impl Abort, alloc: Global, table: &Table) -> Result<(), Fail> {
-    let found = first_fit(alloc, table, 65536, 67)?;
-    assert!(rt; found.iter().copied().eq(65469..65536));
-    lacks(rt, alloc, table, 65536, 67, 68);
+    let found = first_fit(alloc, table, 1_048_576, 8)?;
+    assert!(rt; found.iter().copied().eq(1_048_568..1_048_576));
+    lacks(rt, alloc, table, 1_048_576, 8, 9);
     Ok(())
 }
 
 #[test]
-fn at_65536_extents_and_500_volumes(rt: HostRuntime) -> Result<(), Fail> {
-    let table = Table::decode(rt.alloc(), &large_text(rt.alloc())?, 65536)?;
+fn at_1048576_extents_and_500_volumes(rt: HostRuntime) -> Result<(), Fail> {
+    let table = Table::decode(rt.alloc(), &large_text(rt.alloc())?, 1_048_576)?;
     finds_the_last(&rt, rt.alloc(), &table)
 }

@@ -1,23 +1,10 @@
-//! Texts whose extents stand by segments, worked by hand.
+//! Segments of a volume, worked by hand.
 
-ghost use Rattle.std.specs.Prelude.{◌^◌};
-ghost use Rattle.vg_meta.specs.Roomy.{table_alone};
-ghost use Rattle.vg_meta.specs.Changes.{Permits};
-
-use crate::tables::{filled, growth};
-use sm_base::Name;
+use crate::texts::{becomes, extents, image, place};
 use std::alloc::{AllocError, Global};
 use std::process::Abort;
 use std::test::Fail;
-use tests_support::holds;
-use uuid::Uuid;
-use vg_meta::{Change, DecodeFault, Extents, Grammar, Table};
-
-/// A new group whose records have 16 extents: the sequence number 1 and one volume, which has the length of its name, the
-/// name, no flags, one segment, and of this its first extent and the number of its extents. Its bytes add up to 254.
-const NEW: [u8; 29] = [
-    0, 0, 0, 0, 0, 0, 0, 1, 0, 0, 0, 1, 3, 0x4d, 0x47, 0x54, 0, 0, 0, 0, 1, 0, 0, 0, 0, 0, 0, 0, 16,
-];
+use vg_meta::Change;
 
 /// Two volumes, of which the first has the records on extents 0 and 1: with the sequence number in front 29 bytes.
 const RECORDS: &[u8] =
@@ -32,10 +19,6 @@ const ENTRY: &[u8] =
 
 /// A segment: its first extent, and how many it has.
 type Pair = (u32, u32);
-
-fn image() -> Name {
-    Name::Vhd(Uuid::from_bytes([0x11; 16]))
-}
 
 // A text of the records and one volume more, which says that it has so many segments, and has these.
 fn text(
@@ -65,55 +48,6 @@ fn on(alloc: Global, sequence: u8, segments: &[Pair]) -> Result<Vec<u8>, AllocEr
         segments.len().min(9) as u32,
         segments,
     )
-}
-
-// Where bytes are damaged, or `None` where they spell a table.
-fn place(alloc: Global, bytes: &[u8], extents: u32) -> Option<u32> {
-    match Table::decode_by(alloc, Grammar::Segmented, bytes, extents) {
-        Err(DecodeFault::Damaged { at }) => Some(at),
-        Ok(_) | Err(DecodeFault::NoMemory) => None,
-    }
-}
-
-// The table's text by segments.
-fn written(alloc: Global, table: &Table) -> Result<Vec<u8>, Fail> {
-    let size = table.length().saturating_mul(2);
-    let mut bytes = filled(alloc, size)?;
-    let length = table.encode_by(Grammar::Segmented, &mut bytes);
-    bytes.truncate(length);
-    Ok(bytes)
-}
-
-// The text by segments that the table foretells of a change.
-fn foretold(alloc: Global, table: &Table, change: &Change) -> Result<Vec<u8>, Fail>
-    requires { Permits (2 ^ 32) (table_alone table.now) change.now }
-{
-    let size = table
-        .length()
-        .saturating_add(growth(change))
-        .saturating_mul(2);
-    let mut bytes = filled(alloc, size)?;
-    let length = table.encode_changed_by(Grammar::Segmented, change, &mut bytes);
-    bytes.truncate(length);
-    Ok(bytes)
-}
-
-/// A table of the worked text has the records alone, on the first 16 extents.
-fn is_read(table: &Table) -> Result<(), Fail> {
-    let records = table.get(&Name::Mgt).ok_or("no records")?;
-    let all = [0, 1, 2, 3, 4, 5, 6, 7, 8, 9, 10, 11, 12, 13, 14, 15];
-    let is_right = table.seq() == 1
-        && table.volumes().len() == 1
-        && records.extents() == all.as_slice();
-    holds(is_right, "the table of the worked text")
-}
-
-#[test]
-fn a_new_group_in_29_bytes(rt: HostRuntime) -> Result<(), Fail> {
-    assert!(rt; NEW.iter().map(|byte| u32::from(*byte)).sum::<u32>() == 254);
-    let text = written(rt.alloc(), &Table::formatted(rt.alloc(), 16)?)?;
-    assert!(rt; text.as_slice() == NEW.as_slice());
-    is_read(&Table::decode_by(rt.alloc(), Grammar::Segmented, &NEW, 16)?)
 }
 
 #[test]
@@ -169,36 +103,17 @@ fn an_entry_has_no_segment(rt: HostRuntime) -> Result<(), Fail> {
     Ok(())
 }
 
-// A change of the image is foretold as this text, and the table that it leaves has it.
-fn does(
-    rt: &impl Abort,
-    alloc: Global,
-    table: &Table,
-    change: &Change,
-    after: &[u8],
-) -> Result<(), Fail> {
-    if !table.allows(change, 8) {
-        Err("not allowed")?;
-    }
-    let told = foretold(alloc, table, change)?;
-    assert!(rt; told.as_slice() == after);
-    Ok(())
-}
-
 // The image on these segments, a change, and the image on those.
 fn changes(
     rt: &impl Abort,
     alloc: Global,
     before: &[Pair],
-    change: &Change,
+    change: Change,
     after: &[Pair],
 ) -> Result<(), Fail> {
-    let bytes = on(alloc, 9, before)?;
-    let table = Table::decode_by(alloc, Grammar::Segmented, &bytes, 8)?;
-    let again = written(alloc, &table)?;
-    assert!(rt; again.as_slice() == bytes.as_slice());
-    let bytes = on(alloc, 10, after)?;
-    does(rt, alloc, &table, change, &bytes)
+    let before = on(alloc, 9, before)?;
+    let after = on(alloc, 10, after)?;
+    becomes(rt, alloc, &before, change, &after)
 }
 
 // The image gets more extents.
@@ -211,9 +126,9 @@ fn grows(
 ) -> Result<(), Fail> {
     let change = Change::Grow {
         name: image(),
-        extents: Extents::new(more.to_vec(alloc)?),
+        extents: extents(alloc, more)?,
     };
-    changes(rt, alloc, before, &change, after)
+    changes(rt, alloc, before, change, after)
 }
 
 #[test]
@@ -236,5 +151,5 @@ fn an_image_is_cut_within_a_segment(rt: HostRuntime) -> Result<(), Fail> {
         name: image(),
         keep: 2,
     };
-    changes(&rt, rt.alloc(), &[(7, 1), (3, 2)], &cut, &[(7, 1), (3, 1)])
+    changes(&rt, rt.alloc(), &[(7, 1), (3, 2)], cut, &[(7, 1), (3, 1)])
 }

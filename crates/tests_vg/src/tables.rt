@@ -1,30 +1,24 @@
-//! Texts, places and changes, worked by hand.
-
-ghost use Rattle.std.specs.Prelude.{◌≡◌, ◌^◌, ◌<◌, ◌≤◌, length, OnOk, IfOk};
-ghost use Rattle.vg_meta.specs.Roomy.{table_alone};
-ghost use Rattle.vg_meta.specs.Changes.{Permits, HasRoom};
-ghost use Rattle.vg_meta.specs.Text.{text, HasText};
-ghost use Rattle.vg_meta.specs.Growth.{growth as growth_of};
+//! Texts, places and changes, worked by hand, by the grammar that is written: a volume's extents are segments, each its first extent
+//! and the number of its extents.
 
 use crate::large::large_text;
+use crate::texts::{becomes, extents, image, place, written};
 use sm_base::Name;
 use std::alloc::{AllocError, Global};
 use std::process::Abort;
 use std::test::Fail;
 use tests_support::holds;
 use uuid::Uuid;
-use vg_meta::{Change, DecodeFault, Extents, Table, Tag};
+use vg_meta::{Change, Table, Tag};
 
-/// A new group whose records have 16 extents: the sequence number 1 and one volume, which has the length of
-/// its name, the name, no flags, the number of its extents, and these. Its bytes add up to 373.
-const NEW: [u8; 85] = [
-    0, 0, 0, 0, 0, 0, 0, 1, 0, 0, 0, 1, 3, 0x4d, 0x47, 0x54, 0, 0, 0, 0, 16, 0, 0, 0, 0, 0, 0, 0,
-    1, 0, 0, 0, 2, 0, 0, 0, 3, 0, 0, 0, 4, 0, 0, 0, 5, 0, 0, 0, 6, 0, 0, 0, 7, 0, 0, 0, 8, 0, 0, 0,
-    9, 0, 0, 0, 10, 0, 0, 0, 11, 0, 0, 0, 12, 0, 0, 0, 13, 0, 0, 0, 14, 0, 0, 0, 15,
+/// A new group whose records have 16 extents: the sequence number 1 and one volume, which has the length of its name, the
+/// name, no flags, one segment, and of this its first extent and the number of its extents. Its bytes add up to 254.
+const NEW: [u8; 29] = [
+    0, 0, 0, 0, 0, 0, 0, 1, 0, 0, 0, 1, 3, 0x4d, 0x47, 0x54, 0, 0, 0, 0, 1, 0, 0, 0, 0, 0, 0, 0, 16,
 ];
 
 /// The text of the records' volume on extents 0 and 1.
-const RECORDS: &[u8] = b"\x03MGT\x00\x00\x00\x00\x02\x00\x00\x00\x00\x00\x00\x00\x01";
+const RECORDS: &[u8] = b"\x03MGT\x00\x00\x00\x00\x01\x00\x00\x00\x00\x00\x00\x00\x02";
 
 /// The length of an image's name, and the name.
 const IMAGE: &[u8] = b"\x28VHD-11111111-1111-1111-1111-111111111111";
@@ -42,30 +36,32 @@ const AGAIN: &[u8] = b"\x03MGT";
 /// No name.
 const CAPITALS: &[u8] = b"\x28VHD-AAAAAAAA-1111-1111-1111-111111111111";
 
-/// What stands behind a name: the flags, the number of extents, and the extents.
+/// What stands behind a name: the flags, the number of segments, and the segments.
 const ON_NONE: &[u8] = &[0, 0, 0, 0, 0];
 
-const ON_1: &[u8] = &[0, 0, 0, 0, 1, 0, 0, 0, 1];
+const ON_1: &[u8] = &[0, 0, 0, 0, 1, 0, 0, 0, 1, 0, 0, 0, 1];
 
-const ON_3: &[u8] = &[0, 0, 0, 0, 1, 0, 0, 0, 3];
+const ON_3: &[u8] = &[0, 0, 0, 0, 1, 0, 0, 0, 3, 0, 0, 0, 1];
 
-const ON_3_FRESH: &[u8] = &[2, 0, 0, 0, 1, 0, 0, 0, 3];
+const ON_3_FRESH: &[u8] = &[2, 0, 0, 0, 1, 0, 0, 0, 3, 0, 0, 0, 1];
 
-const ON_3_MARKED: &[u8] = &[3, 0, 0, 0, 1, 0, 0, 0, 3];
+const ON_3_MARKED: &[u8] = &[3, 0, 0, 0, 1, 0, 0, 0, 3, 0, 0, 0, 1];
 
-const ON_3_AND_MORE: &[u8] = &[0, 0, 0, 0, 1, 0, 0, 0, 3, 0];
+const ON_3_AND_MORE: &[u8] = &[0, 0, 0, 0, 1, 0, 0, 0, 3, 0, 0, 0, 1, 0];
 
-const ON_3_AND_2: &[u8] = &[0, 0, 0, 0, 2, 0, 0, 0, 3, 0, 0, 0, 2];
-
-const ON_3_AND_2_FRESH: &[u8] = &[2, 0, 0, 0, 2, 0, 0, 0, 3, 0, 0, 0, 2];
-
-const ON_FOUR: &[u8] = &[
-    0, 0, 0, 0, 4, 0, 0, 0, 3, 0, 0, 0, 2, 0, 0, 0, 7, 0, 0, 0, 5,
+const ON_3_AND_2: &[u8] = &[
+    0, 0, 0, 0, 2, 0, 0, 0, 3, 0, 0, 0, 1, 0, 0, 0, 2, 0, 0, 0, 1,
 ];
 
-fn image() -> Name {
-    Name::Vhd(Uuid::from_bytes([0x11; 16]))
-}
+const ON_3_AND_2_FRESH: &[u8] = &[
+    2, 0, 0, 0, 2, 0, 0, 0, 3, 0, 0, 0, 1, 0, 0, 0, 2, 0, 0, 0, 1,
+];
+
+/// On 3, 2, 7 and 5.
+const ON_FOUR: &[u8] = &[
+    0, 0, 0, 0, 4, 0, 0, 0, 3, 0, 0, 0, 1, 0, 0, 0, 2, 0, 0, 0, 1, 0, 0, 0, 7, 0, 0, 0, 1, 0, 0, 0,
+    5, 0, 0, 0, 1,
+];
 
 fn other() -> Name {
     Name::Raw(Uuid::from_bytes([0xab; 16]))
@@ -98,17 +94,6 @@ fn joined(
     Ok(bytes)
 }
 
-/// A new table's text is the worked one.
-fn is_written(alloc: Global, table: &Table) -> Result<(), Fail> {
-    let mut text = buffer(alloc, table)?;
-    let length = table.encode(&mut text);
-    let is_right = length == 85
-        && table.length() == 85
-        && text.starts_with(&NEW)
-        && text.ends_with(&[0xff; 3]);
-    holds(is_right, "the text of a new table")
-}
-
 /// A table of the worked text has the records alone.
 fn is_read(table: &Table) -> Result<(), Fail> {
     let records = table.get(&Name::Mgt).ok_or("no records")?;
@@ -122,18 +107,11 @@ fn is_read(table: &Table) -> Result<(), Fail> {
 }
 
 #[test]
-fn a_new_group_in_85_bytes(rt: HostRuntime) -> Result<(), Fail> {
-    assert!(rt; NEW.iter().map(|byte| u32::from(*byte)).sum::<u32>() == 373);
-    is_written(rt.alloc(), &Table::formatted(rt.alloc(), 16)?)?;
+fn a_new_group_in_29_bytes(rt: HostRuntime) -> Result<(), Fail> {
+    assert!(rt; NEW.iter().map(|byte| u32::from(*byte)).sum::<u32>() == 254);
+    let text = written(rt.alloc(), &Table::formatted(rt.alloc(), 16)?)?;
+    assert!(rt; text.as_slice() == NEW.as_slice());
     is_read(&Table::decode(rt.alloc(), &NEW, 16)?)
-}
-
-// Where bytes are damaged, or `None` where they spell a table.
-fn place(alloc: Global, bytes: &[u8], extents: u32) -> Option<u32> {
-    match Table::decode(alloc, bytes, extents) {
-        Err(DecodeFault::Damaged { at }) => Some(at),
-        Ok(_) | Err(DecodeFault::NoMemory) => None,
-    }
 }
 
 #[test]
@@ -144,19 +122,20 @@ fn a_changed_byte_is_found(rt: HostRuntime) {
     let rows = [
         (1, 1, 0, "a sequence number of 49 bits"),
         (11, 0, 12, "no volume, and bytes behind"),
-        (11, 2, 85, "a second volume that is not there"),
+        (11, 2, 29, "a second volume that is not there"),
         (12, 0, 12, "a name of no bytes"),
         (15, 0x55, 12, "no name"),
         (16, 1, 12, "records that are hidden"),
         (16, 4, 12, "flags 4"),
-        (20, 17, 12, "an extent that is not there"),
-        (20, 15, 81, "bytes behind the last volume"),
-        (84, 0, 12, "an extent that stands twice"),
-        (84, 16, 12, "an extent that is too high"),
+        (20, 2, 12, "a segment that is not there"),
+        (20, 0, 21, "bytes behind the last volume"),
+        (24, 1, 12, "a segment that ends too high"),
+        (28, 0, 12, "an empty segment"),
+        (28, 17, 12, "a segment that is too long"),
     ];
     for (at, byte, want, what) in rows {
         let mut bytes = NEW;
-        if at < 85 {
+        if at < 29 {
             bytes[at] = byte;
         }
         assert!(rt; place(rt.alloc(), &bytes, 16) == Some(want), "{what}");
@@ -172,7 +151,8 @@ fn a_text_cut_off_is_found(rt: HostRuntime) {
         (11, 8),
         (12, 12),
         (13, 12),
-        (84, 12),
+        (20, 12),
+        (28, 12),
     ] {
         let text = &NEW[..NEW.len().min(length)];
         assert!(rt; place(rt.alloc(), text, 16) == Some(want), "of {length}");
@@ -185,7 +165,7 @@ fn a_second_volume_is_judged_by_the_first(rt: HostRuntime) -> Result<(), Fail> {
         (IMAGE, ON_3, None, "an image"),
         (IMAGE, ON_3_MARKED, None, "an image with both marks"),
         (ENTRY, ON_NONE, None, "a journal entry"),
-        (IMAGE, ON_3_AND_MORE, Some(79), "a byte behind"),
+        (IMAGE, ON_3_AND_MORE, Some(83), "a byte behind"),
         (IMAGE, ON_1, Some(29), "an extent of the first"),
         (IMAGE, ON_NONE, Some(29), "an image of no extents"),
         (ENTRY, ON_3, Some(29), "an entry with an extent"),
@@ -217,132 +197,11 @@ fn is_found(table: &Table) -> Result<(), Fail> {
 #[test]
 fn volumes_are_found_by_name(rt: HostRuntime) -> Result<(), Fail> {
     let front = [0, 0, 0, 0, 0, 1, 0, 9, 0, 0, 0, 2];
-    let marks = [3, 0, 0, 0, 2, 0, 0, 0, 3, 0, 0, 0, 2];
+    let marks = [
+        3, 0, 0, 0, 2, 0, 0, 0, 3, 0, 0, 0, 1, 0, 0, 0, 2, 0, 0, 0, 1,
+    ];
     let bytes = joined(rt.alloc(), &front, RECORDS, IMAGE, &marks)?;
     is_found(&Table::decode(rt.alloc(), &bytes, 4)?)
-}
-
-/// So many bytes, each of them ff.
-pub fn filled(alloc: Global, size: usize) -> Result<Vec<u8>, Fail>
-    ensures size { IfOk result (λ v. length v.items ≡ size) }
-    ensures short { IfOk result (λ v. size < 2 ^ 32) }
-{
-    if size > 1_000_000 {
-        Err("a long text")?;
-    }
-    Ok(vec![in alloc; 0xff; size]?)
-}
-
-// A buffer for the table's text with 3 bytes to spare, full of ff.
-fn buffer(alloc: Global, table: &Table) -> Result<Vec<u8>, Fail>
-    ensures fits { IfOk result (λ v. length (text (table_alone table.now)) ≤ length v.items) }
-    ensures numbers { IfOk result (λ v. HasText (table_alone table.now)) }
-{
-    let size = table.length().saturating_add(3);
-    let bytes = filled(alloc, size)?;
-    Ok(bytes)
-}
-
-/// The most bytes that a change adds to a text.
-pub fn growth(change: &Change) -> usize
-    ensures { growth_of change.now ≤ result }
-{
-    match change {
-        Change::Create { name, extents, .. } => {
-            let size = name.spell(&mut [0; 128]);
-            6 + size + 4 * extents.as_slice().len()
-        }
-        Change::Grow { extents, .. } => 4 * extents.as_slice().len(),
-        Change::Rename { to, .. } => to.spell(&mut [0; 128]),
-        Change::Remove { .. } | Change::Cut { .. } | Change::Mark { .. } => 0,
-    }
-}
-
-// The text that the table foretells of a change.
-fn foretold(alloc: Global, table: &Table, change: &Change) -> Result<Vec<u8>, Fail>
-    requires { Permits (2 ^ 32) (table_alone table.now) change.now }
-{
-    let size = table.length().saturating_add(growth(change));
-    let mut bytes = filled(alloc, size)?;
-    let length = table.encode_changed(change, &mut bytes);
-    bytes.truncate(length);
-    Ok(bytes)
-}
-
-// Makes the room that a change wants.
-fn make_room(table: &mut Table, change: &Change) -> Result<(), Fail>
-    ensures table { table_alone table.new ≡ table_alone table.old }
-    ensures room { OnOk result (HasRoom table.new change.now) }
-{
-    match change {
-        Change::Create { .. } => table.reserve(1)?,
-        Change::Grow { name, extents } => {
-            table.get(name).ok_or("no volume")?;
-            table.reserve_extents(name, extents.as_slice().len())?;
-        }
-        Change::Remove { .. } | Change::Rename { .. } | Change::Cut { .. } | Change::Mark { .. } =>
-            {}
-    }
-    Ok(())
-}
-
-// The table's text is this one.
-fn has_text(rt: &impl Abort, alloc: Global, table: &Table, bytes: &[u8]) -> Result<(), Fail> {
-    let mut text = buffer(alloc, table)?;
-    let length = table.encode(&mut text);
-    text.truncate(length);
-    assert!(rt; text.as_slice() == bytes);
-    Ok(())
-}
-
-// The table foretells this text of a change.
-fn is_foretold(
-    rt: &impl Abort,
-    alloc: Global,
-    table: &Table,
-    change: &Change,
-    bytes: &[u8],
-) -> Result<(), Fail>
-    requires { Permits (2 ^ 32) (table_alone table.now) change.now }
-{
-    let told = foretold(alloc, table, change)?;
-    assert!(rt; told.as_slice() == bytes);
-    Ok(())
-}
-
-// Does a change of a table of 8 extents. The text that the table foretells, and the text of the table that it
-// becomes, are the wanted one.
-fn does(
-    rt: &impl Abort,
-    alloc: Global,
-    table: &mut Table,
-    change: Change,
-    after: &[u8],
-) -> Result<(), Fail> {
-    if !table.allows(&change, 8) {
-        Err("not allowed")?;
-    }
-    is_foretold(rt, alloc, table, &change, after)?;
-    make_room(table, &change)?;
-    table.apply(change);
-    has_text(rt, alloc, table, after)
-}
-
-// Does a change of the table of a text.
-fn becomes(
-    rt: &impl Abort,
-    alloc: Global,
-    before: &[u8],
-    change: Change,
-    after: &[u8],
-) -> Result<(), Fail> {
-    let mut table = Table::decode(alloc, before, 8)?;
-    does(rt, alloc, &mut table, change, after)
-}
-
-// Extents of these numbers.
-fn extents(alloc: Global, list: &[u32]) -> Result<Extents, AllocError> {
-    Ok(Extents::new(list.to_vec(alloc)?))
 }
 
 // A text of the records and one volume more.
@@ -473,13 +332,13 @@ fn grow(alloc: Global, list: &[u32]) -> Result<Change, AllocError> {
 
 // Whether the image 498 may grow by these extents.
 fn allows(alloc: Global, table: &Table, list: &[u32]) -> Result<bool, Fail> {
-    Ok(table.allows(&grow(alloc, list)?, 65536))
+    Ok(table.allows(&grow(alloc, list)?, 1_048_576))
 }
 
 // The extents that are left, in rising order.
 fn free_extents(alloc: Global) -> Result<Vec<u32>, AllocError> {
     let mut list = Vec::new(alloc);
-    for extent in 65469..65536 {
+    for extent in 1_048_568..1_048_576 {
         list.push(extent)?;
     }
     Ok(list)
@@ -490,23 +349,25 @@ fn takes(alloc: Global, table: &Table, list: &mut Vec<u32>) -> Result<bool, Fail
     let rising = allows(alloc, table, list)?;
     list.reverse();
     let falling = allows(alloc, table, list)?;
-    list.push(65468)?;
+    list.push(1_048_567)?;
     let more = allows(alloc, table, list)?;
     Ok(rising && falling && !more)
 }
 
 /// The largest table takes all extents that are left in either order, and none that it has.
 fn is_full(alloc: Global, table: &Table) -> Result<(), Fail> {
-    let is_large = table.volumes().len() == 500 && table.length() == 284_851;
+    let is_large = table.volumes().len() == 500 && table.length() == 30_967;
     let mut list = free_extents(alloc)?;
     let is_taken = takes(alloc, table, &mut list)?;
     holds(is_large && is_taken, "the largest table")
 }
 
 #[test]
-fn at_65536_extents_and_500_volumes(rt: HostRuntime) -> Result<(), Fail> {
+fn at_1048576_extents_and_500_volumes(rt: HostRuntime) -> Result<(), Fail> {
     let bytes = large_text(rt.alloc())?;
-    let table = Table::decode(rt.alloc(), &bytes, 65536)?;
+    let table = Table::decode(rt.alloc(), &bytes, 1_048_576)?;
     is_full(rt.alloc(), &table)?;
-    has_text(&rt, rt.alloc(), &table, &bytes)
+    let text = written(rt.alloc(), &table)?;
+    assert!(rt; text.as_slice() == bytes.as_slice());
+    Ok(())
 }

@@ -10,7 +10,7 @@ use tests_support::prepare;
 use uuid::Uuid;
 use vg_meta::{Change, Extents};
 use vg_store::Group;
-use vg_volumes::Store;
+use vg_volumes::{CURRENT_VERSION, Store};
 
 /// A device in memory of which no clause tells the content. It counts its syncs and its reads.
 #[derive(Drop)]
@@ -68,12 +68,18 @@ pub fn volume(byte: u8) -> Name {
     Name::Vhd(Uuid::from_bytes(bytes))
 }
 
-/// The group on a device.
+/// The group on a device, which is of the current version.
 pub fn opened(alloc: Global, disk: MemDisk) -> Result<Group<Untold>, Fail>
     ensures { IfOk result (λ g. g.failed ≡ false) }
 {
     match Group::open(alloc, Untold::new(disk)) {
-        Ok(group) => Ok(group),
+        Ok(group) => {
+            if group.version() != CURRENT_VERSION {
+                let _disk = group.into_disk();
+                return Err(Fail::from("the current version"));
+            }
+            Ok(group)
+        }
         Err((_fault, _disk)) => Err(Fail::from("the group is opened")),
     }
 }

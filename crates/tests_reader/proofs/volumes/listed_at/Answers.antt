@@ -1,6 +1,6 @@
 use Rattle.std.proofs.Common.{arith}
 use Rattle.vg_meta.proofs.ReadLaws.{extents_cut}
-use Rattle.tests_reader.proofs.volumes.extents_at.Goals as goal
+use Rattle.tests_reader.proofs.volumes.listed_at.Goals as goal
 
 pub returns-in_default-number_at-clause-none : goal.returns-in_default-number_at-clause-none
 returns-in_default-number_at-clause-none c =
