@@ -3,6 +3,7 @@
 ghost use Rattle.std.specs.Prelude.{◌≡◌, false, IfOk, OnOk};
 ghost use Rattle.vg_meta.specs.Roomy.{table_alone};
 ghost use Rattle.vg_meta.specs.Changes.{Permits, HasRoom};
+ghost use Rattle.vg_volumes.specs.Commits.{current_version};
 ghost use Rattle.vg_volumes.specs.Sites.{Fits};
 ghost use Rattle.vg_volumes.specs.Stored.{CanCommit};
 
@@ -15,11 +16,11 @@ use sm_span::Span;
 use std::alloc::Global;
 use vg_meta::{Change, Extents, Tag};
 use vg_store::Group;
-use vg_volumes::Store;
+use vg_volumes::{CURRENT_VERSION, Store};
 
 /// The group on a device.
 pub fn opened(alloc: Global, device: Device) -> Result<Group<Span<MemDisk, MemDisk>>, Wrong>
-    ensures { IfOk result (λ g. g.failed ≡ false) }
+    ensures { IfOk result (λ g. g.version ≡ current_version → g.failed ≡ false) }
 {
     match Group::open(alloc, device.span(alloc)?) {
         Ok(group) => Ok(group),
@@ -98,8 +99,11 @@ fn prepare<S: Store>(alloc: Global, store: &mut S, change: &Change) -> Result<()
 
 /// Does a change, where it may be done.
 fn commit<S: Store>(alloc: Global, store: &mut S, change: Change) -> Result<(), Wrong>
-    requires { S.failed store.old ≡ false }
+    requires { S.version store.old ≡ current_version → S.failed store.old ≡ false }
 {
+    if store.version() != CURRENT_VERSION {
+        return Err(found(alloc, "a commit in a group of an earlier version"));
+    }
     prepare(alloc, store, &change)?;
     store.commit(change)?;
     Ok(())

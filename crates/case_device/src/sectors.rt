@@ -8,11 +8,38 @@ use sm_base::Name;
 use std::alloc::Global;
 use vg_volumes::Store;
 
-/// The first sector of the first extent.
-const FRONT: u64 = 4096;
+/// The first sectors of a group's parts: the table's header, the two slots of its text, of so many sectors each, and the extents.
+#[derive(Clone, Copy)]
+struct Parts {
+    header: u64,
+    slots: [u64; 2],
+    slot_sectors: u64,
+    extents: u64,
+}
 
-/// The sectors of a slot of the table's text.
-const SLOT_SECTORS: u64 = 1024;
+/// The parts of a group of version 1.
+const OLD: Parts = Parts {
+    header: 1,
+    slots: [2, 1026],
+    slot_sectors: 1024,
+    extents: 4096,
+};
+
+/// Those of version 2 in the narrow layout.
+const NARROW: Parts = Parts {
+    header: 2050,
+    slots: [2051, 2],
+    slot_sectors: 2045,
+    extents: 4096,
+};
+
+/// Those of version 2 in the wide layout.
+const WIDE: Parts = Parts {
+    header: 2050,
+    slots: [4096, 20736],
+    slot_sectors: 16640,
+    extents: 37376,
+};
 
 /// Which sums stand over a sector.
 #[derive(Clone, Copy)]
@@ -61,21 +88,39 @@ fn sum_front(sector: &[u8; 512], count: usize) -> u32 {
     sum
 }
 
-/// The first sector of the slot that the header names.
-fn slot_of(header: &[u8; 512]) -> u64 {
-    if number_at(header, 8) == 1 {
-        2 + SLOT_SECTORS
+/// The parts of the group on a device, by the version and the layout that its label says.
+fn parts_of(alloc: Global, disk: &mut Device) -> Result<Parts, Wrong> {
+    let label = disk.read(alloc, 0)?;
+    if number_at(&label, 8) == 1 {
+        Ok(OLD)
+    } else if number_at(&label, 44) == 1 {
+        Ok(WIDE)
     } else {
-        2
+        Ok(NARROW)
+    }
+}
+
+/// The first sector of the slot that the header names.
+fn slot_of(parts: &Parts, header: &[u8; 512]) -> u64 {
+    let [first, second] = parts.slots;
+    if number_at(header, 8) == 1 {
+        second
+    } else {
+        first
     }
 }
 
 /// The sum of the table's text.
-fn text_sum(alloc: Global, disk: &mut Device, header: &[u8; 512]) -> Result<u32, Wrong> {
-    let slot = slot_of(header);
+fn text_sum(
+    alloc: Global,
+    disk: &mut Device,
+    parts: &Parts,
+    header: &[u8; 512],
+) -> Result<u32, Wrong> {
+    let slot = slot_of(parts, header);
     let mut left = number_at(header, 12) as usize;
     let mut sum = 0u32;
-    for index in 0..SLOT_SECTORS {
+    for index in 0..parts.slot_sectors {
         if left == 0 {
             break;
         }
@@ -96,11 +141,12 @@ fn seal(alloc: Global, disk: &mut Device, at: u64) -> Result<(), Wrong> {
 
 /// Makes the sums of the table right.
 fn seal_table(alloc: Global, disk: &mut Device) -> Result<(), Wrong> {
-    let mut header = disk.read(alloc, 1)?;
-    let sum = text_sum(alloc, disk, &header)?;
+    let parts = parts_of(alloc, disk)?;
+    let mut header = disk.read(alloc, parts.header)?;
+    let sum = text_sum(alloc, disk, &parts, &header)?;
     put_at(&mut header, 16, &sum.to_be_bytes());
-    disk.write(alloc, 1, &header)?;
-    seal(alloc, disk, 1)
+    disk.write(alloc, parts.header, &header)?;
+    seal(alloc, disk, parts.header)
 }
 
 /// Makes the checksum of a footer right.
@@ -162,8 +208,14 @@ fn image_sums(at: u64, size: u64) -> Sums {
     }
 }
 
-/// A sector of a volume.
-fn volume_sector(alloc: Global, disk: &Device, volume: &str, at: At) -> Result<Summed, Wrong> {
+/// A sector of a volume, where the extents begin at this sector of the device.
+fn volume_sector(
+    alloc: Global,
+    disk: &Device,
+    front: u64,
+    volume: &str,
+    at: At,
+) -> Result<Summed, Wrong> {
     let (extents, extent) = extents_of(alloc, disk, volume)?;
     let size = extent.saturating_mul(extents.len() as u64);
     let at = match at {
@@ -177,20 +229,26 @@ fn volume_sector(alloc: Global, disk: &Device, volume: &str, at: At) -> Result<S
     };
     let begin = u64::from(*number).saturating_mul(extent);
     Ok(Summed {
-        sector: begin.saturating_add(within).saturating_add(FRONT),
+        sector: begin.saturating_add(within).saturating_add(front),
         sums: image_sums(at, size),
     })
 }
 
 /// The sector that a case names.
 fn sector_of(alloc: Global, disk: &mut Device, site: Site<'_>) -> Result<Summed, Wrong> {
+    let parts = parts_of(alloc, disk)?;
     let (sector, sums) = match site {
         Site::Label => (0, Sums::Own),
-        Site::Header => (1, Sums::Table),
-        Site::Text => (slot_of(&disk.read(alloc, 1)?), Sums::Table),
-        Site::Record(number) => (number.saturating_add(FRONT), Sums::Own),
+        Site::Header => (parts.header, Sums::Table),
+        Site::Text => (
+            slot_of(&parts, &disk.read(alloc, parts.header)?),
+            Sums::Table,
+        ),
+        Site::Record(number) => (number.saturating_add(parts.extents), Sums::Own),
         Site::Sector(at) => (at, Sums::Nothing),
-        Site::Volume { name, at } => return volume_sector(alloc, disk, name, at),
+        Site::Volume { name, at } => {
+            return volume_sector(alloc, disk, parts.extents, name, at);
+        }
     };
     Ok(Summed { sector, sums })
 }
