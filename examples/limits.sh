@@ -3,8 +3,9 @@
 # which is refused; 20,000 accepted lines in one run over three disks; 500 VHD disks made and all attached; 20,000 writes, fills
 # and reads of one disk; a fill over a whole disk of 8,192 blocks; a chain of 30 images that is read 200 times, and one more, which
 # is refused; that disk of 8,192 blocks sent as a VHD file through a chain of 30 images; clones until 500 images stand, and one more; 120 snapshots of one disk made and given up while it is written, and
-# what they leave collected; and a disk of one block enlarged by one block 2,000 times while it is attached and written. Prints each reply
-# once, at most 24 characters of it, with how often it came.
+# what they leave collected; a disk of one block enlarged by one block 2,000 times while it is attached and written; 500 disks over 1,048,576
+# extents, of which half and then nearly all are given out so that no two of a disk are neighbours; and a full repository of version 1, taken over.
+# Prints each reply once, at most 24 characters of it, with how often it came.
 set -e
 root=$(cd "$(dirname "$0")/.." && pwd)
 program="$root/crates/lvhd/out/lvhd"
@@ -141,3 +142,46 @@ awk -v disk="$disk" 'BEGIN {
 grep -c '^ok' "$work/replies"
 sed -n 4001p "$work/replies"
 tail -n 2 "$work/replies" | cut -c1-24
+# A new repository of so many bytes with 500 VHD disks, of one extent each.
+many() {
+    truncate -s "$2" "$work/$1.img"
+    "$program" "$work/$1.img" format 16384 16384 1024 "$repository"
+    awk 'BEGIN { for (i = 1; i <= 500; i++) printf "create 11111111-1111-4111-8111-%012d 16384 vhd disk\n", i }' >"$work/script"
+    counted "$work/$1.img" "$work/script"
+}
+# The version that the label says, and the bytes of the table's text, as a header at that sector says.
+told() {
+    echo "version $(od -An -tu1 -j11 -N1 "$1" | tr -d ' '), $(od -An -tu4 --endian=big -j$((512 * $2 + 12)) -N4 "$1" | tr -d ' ') bytes of text"
+}
+# Disks are deleted, made, attached, enlarged and written; one gets a snapshot, and the collector takes three steps.
+awk 'BEGIN {
+    print "stat"
+    for (i = 1; i <= 3; i++) printf "delete 11111111-1111-4111-8111-%012d\n", i
+    print "create 22222222-2222-4222-8222-222222222222 4096 vhd new"
+    print "attach 22222222-2222-4222-8222-222222222222 rw"
+    print "resize 22222222-2222-4222-8222-222222222222 2097152"
+    print "fill 22222222-2222-4222-8222-222222222222 96 4000 5a"
+    print "read 22222222-2222-4222-8222-222222222222 4095 1"
+    printf "snapshot 11111111-1111-4111-8111-%012d 33333333-3333-4333-8333-333333333333\n", 4
+    print "gc"
+    print "gc"
+    print "gc"
+    print "stat"
+}' >"$work/few"
+# Half of 1,048,576 extents are dealt out to the disks in turn by examples/damage.py, so that each is a piece of its own in the table's text; and then
+# nearly all of them, so that the text is all but the longest that there is.
+many apart 17199005696
+cp --sparse=always "$work/apart.img" "$work/dealt.img"
+for place in apart dealt; do
+    python3 "$root/examples/damage.py" "$work/$place.img" "$place"
+    told "$work/$place.img" 2050
+    counted "$work/$place.img" "$work/few"
+done
+# A full repository of version 1, of 65,536 extents: a run without a line takes it over, and then the same lines.
+many old 1075838976
+python3 "$root/examples/damage.py" "$work/old.img" dealt
+python3 "$root/examples/damage.py" "$work/old.img" old
+told "$work/old.img" 1
+(ulimit -v 65536; "$program" "$work/old.img" run </dev/null)
+told "$work/old.img" 2050
+counted "$work/old.img" "$work/few"

@@ -64,7 +64,8 @@ def up(number, unit):
 class Machine:
     def __init__(self, extent, block, entries, sectors):
         self.extent, self.block, self.entries = extent // 512, block // 512, entries
-        self.extents = min(65536, (sectors - 4096) // self.extent)
+        # The layout that gives more extents: they begin at one sector or at another, and are so many at most.
+        self.extents = max(min(most, max(sectors - begin, 0) // self.extent) for begin, most in ((4096, 65536), (37376, 1048576)))
         self.sequence, self.disks, self.images, self.attached, self.operation = 1, {}, {}, {}, None
 
     # ---- numbers

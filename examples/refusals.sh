@@ -90,7 +90,7 @@ said 'format, a block above the extent' zeros.img format 16384 32768 64 "$reposi
 said 'format of a file of 1 MiB' small.img format 16384 4096 64 "$repository"
 said 'run on zeros' zeros.img run
 echo '== damaged places'
-for place in label version header sum text mgt images journal image tree record disk; do
+for place in label version layout header sum text mgt images journal image tree record disk; do
     cp "$work/sound.img" "$work/damaged.img"
     python3 "$root/examples/damage.py" "$work/damaged.img" "$place"
     cp "$work/damaged.img" "$work/before.img"
