@@ -16,7 +16,7 @@
 //! once, and reading a line takes none. Printing takes none, and writes a word of at most 128 bytes at a time.
 //!
 //! For other words than those of a script, as the program's own, there are [`number_in`] and [`uuid_in`], which
-//! read one, and [`Word`] and [`write_line`], which print a line of them.
+//! read one, and [`Word`] and [`write_line`], which print a line of them; [`write_refusal_line`] prints one of a refusal.
 //!
 //! A [`Trial`] draws the lines of a large script from a number, the same for the same number, and takes no memory.
 //!
@@ -43,6 +43,7 @@ pub use lines::Line;
 pub use pieces::write_line;
 pub use printing::Print;
 pub use readings::Reading;
+pub use refusals::write_refusal_line;
 pub use sm_machine::{Bytes, Command, DiskRow, DiskRows, LineBytes, Reply, StatRow, StatRows};
 pub use trials::Trial;
 pub use words::Word;

@@ -63,7 +63,7 @@ fn write_parts<K: Sink>(sink: &mut K, reply: &Reply) -> Result<(), Failed>
         Reply::List(rows) => write_list(sink, rows),
         Reply::Stat(rows) => write_stat(sink, rows),
         Reply::Gc(plan, op) => write_plan(sink, plan, op),
-        Reply::No(refusal) => write_refusal(sink, refusal),
+        Reply::No(refusal) => write_refusal(sink, b"no", refusal),
     }
 }
 

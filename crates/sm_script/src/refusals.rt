@@ -1,35 +1,54 @@
 //! The refusals.
 
-ghost use Rattle.std.specs.Prelude.{◌≤◌, ◌∷◌, codes, length};
-ghost use Rattle.sm_machine.specs.Replies.{by_spaces, reply_parts};
-ghost use Rattle.sm_machine.specs.declared.replies.Reply.TheVariants as reply;
+ghost use Rattle.std.specs.Prelude.{◌≤◌, [], ◌∷◌, ◌++◌, length};
+ghost use Rattle.sm_machine.specs.Replies.{by_spaces, refusal_parts};
 ghost use Rattle.sm_script.specs.Pieces.{Writes};
 
 use crate::pieces::{write_joined, write_led};
 use crate::words::Word;
 use sm_base::{Failed, Refusal};
-use sm_disk::Sink;
+use sm_disk::{Sink, write_all};
 
-/// Writes `no`, a refusal's name, and its numbers.
-pub fn write_refusal<K: Sink>(sink: &mut K, refusal: &Refusal) -> Result<(), Failed>
-    ensures { Writes (by_spaces (reply_parts (reply.No refusal.now)))
+/// Writes a line: a first word of at most 128 bytes, a refusal's name, and its numbers.
+pub fn write_refusal_line<K: Sink>(
+    sink: &mut K,
+    first: &[u8],
+    refusal: &Refusal,
+) -> Result<(), Failed>
+    requires { length first.now ≤ 128 }
+    ensures { Writes (by_spaces (first.now ∷ refusal_parts refusal.now) ++ 10 ∷ [])
+        (K.content sink.old) (K.content sink.new) (K.faults sink.old) (K.faults sink.new) result }
+{
+    write_refusal(sink, first, refusal)?;
+    write_all(sink, b"\n")
+}
+
+/// Writes a first word, a refusal's name, and its numbers.
+pub(crate) fn write_refusal<K: Sink>(
+    sink: &mut K,
+    first: &[u8],
+    refusal: &Refusal,
+) -> Result<(), Failed>
+    requires { length first.now ≤ 128 }
+    ensures { Writes (by_spaces (first.now ∷ refusal_parts refusal.now))
         (K.content sink.old) (K.content sink.new) (K.faults sink.old) (K.faults sink.new) result }
 {
     match refusal {
-        Refusal::BadLine => write_no(sink, b"BadLine", &[]),
-        Refusal::ReservedName => write_no(sink, b"ReservedName", &[]),
-        Refusal::UnknownDisk => write_no(sink, b"UnknownDisk", &[]),
-        Refusal::NameTaken => write_no(sink, b"NameTaken", &[]),
-        Refusal::InUse => write_no(sink, b"InUse", &[]),
-        Refusal::NotAttached => write_no(sink, b"NotAttached", &[]),
-        Refusal::ReadOnly => write_no(sink, b"ReadOnly", &[]),
-        Refusal::RawDisk => write_no(sink, b"RawDisk", &[]),
-        Refusal::OutOfRange => write_no(sink, b"OutOfRange", &[]),
-        Refusal::BadSize => write_no(sink, b"BadSize", &[]),
-        Refusal::Shrink => write_no(sink, b"Shrink", &[]),
+        Refusal::BadLine => write_named(sink, first, b"BadLine", &[]),
+        Refusal::ReservedName => write_named(sink, first, b"ReservedName", &[]),
+        Refusal::UnknownDisk => write_named(sink, first, b"UnknownDisk", &[]),
+        Refusal::NameTaken => write_named(sink, first, b"NameTaken", &[]),
+        Refusal::InUse => write_named(sink, first, b"InUse", &[]),
+        Refusal::NotAttached => write_named(sink, first, b"NotAttached", &[]),
+        Refusal::ReadOnly => write_named(sink, first, b"ReadOnly", &[]),
+        Refusal::RawDisk => write_named(sink, first, b"RawDisk", &[]),
+        Refusal::OutOfRange => write_named(sink, first, b"OutOfRange", &[]),
+        Refusal::BadSize => write_named(sink, first, b"BadSize", &[]),
+        Refusal::Shrink => write_named(sink, first, b"Shrink", &[]),
         Refusal::ChainTooLong { depth } => {
-            write_no(
+            write_named(
                 sink,
+                first,
                 b"ChainTooLong",
                 &[Word::text(b"depth"), Word::count(*depth)],
             )
@@ -41,9 +60,9 @@ pub fn write_refusal<K: Sink>(sink: &mut K, refusal: &Refusal) -> Result<(), Fai
                 Word::text(b"need"),
                 Word::count(*need),
             ];
-            write_no(sink, b"TooMany", &numbers)
+            write_named(sink, first, b"TooMany", &numbers)
         }
-        Refusal::SequenceSpent => write_no(sink, b"SequenceSpent", &[]),
+        Refusal::SequenceSpent => write_named(sink, first, b"SequenceSpent", &[]),
         Refusal::NoSpace { need, free } => {
             let numbers = [
                 Word::text(b"need"),
@@ -51,20 +70,22 @@ pub fn write_refusal<K: Sink>(sink: &mut K, refusal: &Refusal) -> Result<(), Fai
                 Word::text(b"free"),
                 Word::count(*free),
             ];
-            write_no(sink, b"NoSpace", &numbers)
+            write_named(sink, first, b"NoSpace", &numbers)
         }
-        Refusal::NoMemory => write_no(sink, b"NoMemory", &[]),
-        Refusal::Differencing => write_no(sink, b"Differencing", &[]),
+        Refusal::NoMemory => write_named(sink, first, b"NoMemory", &[]),
+        Refusal::Differencing => write_named(sink, first, b"Differencing", &[]),
         Refusal::BadFile { sector } => {
-            write_no(
+            write_named(
                 sink,
+                first,
                 b"BadFile",
                 &[Word::text(b"sector"), Word::number(*sector)],
             )
         }
         Refusal::Cut { sector } => {
-            write_no(
+            write_named(
                 sink,
+                first,
                 b"Cut",
                 &[Word::text(b"sector"), Word::number(*sector)],
             )
@@ -72,12 +93,18 @@ pub fn write_refusal<K: Sink>(sink: &mut K, refusal: &Refusal) -> Result<(), Fai
     }
 }
 
-// Writes `no`, a name, and further words.
-fn write_no<K: Sink>(sink: &mut K, name: &[u8], more: &[Word]) -> Result<(), Failed>
-    requires { length name.now ≤ 128 }
-    ensures { Writes (by_spaces (codes "no" ∷ name.now ∷ more.now))
+// Writes a first word, a name, and further words.
+fn write_named<K: Sink>(
+    sink: &mut K,
+    first: &[u8],
+    name: &[u8],
+    more: &[Word],
+) -> Result<(), Failed>
+    requires first { length first.now ≤ 128 }
+    requires name { length name.now ≤ 128 }
+    ensures { Writes (by_spaces (first.now ∷ name.now ∷ more.now))
         (K.content sink.old) (K.content sink.new) (K.faults sink.old) (K.faults sink.new) result }
 {
-    write_joined(sink, b' ', &[Word::text(b"no"), Word::text(name)])?;
+    write_joined(sink, b' ', &[Word::text(first), Word::text(name)])?;
     write_led(sink, b' ', more)
 }

@@ -28,4 +28,5 @@ pub returns-in-Gc : goal.returns-in-Gc
 returns-in-Gc g c = Writes-same (ap (λ r. by_spaces (reply_parts r)) (sym c.in-Gc.is)) c.write_plan.ensures
 
 pub returns-in-No : goal.returns-in-No
+unfolding reply_parts
 returns-in-No g c = Writes-same (ap (λ r. by_spaces (reply_parts r)) (sym c.in-No.is)) c.write_refusal.ensures
