@@ -6,6 +6,7 @@ pub mod EditLaws
 pub mod ExtentLaws
 pub mod FreeLaws
 pub mod GrowthLaws
+pub mod Halving
 pub mod LengthLaws
 pub mod NameLaws
 pub mod NumberLaws

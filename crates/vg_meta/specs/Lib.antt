@@ -1,5 +1,6 @@
 pub mod Changes
 pub mod Faults
+pub mod Halves
 pub mod Held
 pub mod Roomy
 pub mod Proper

@@ -18,8 +18,9 @@
 //! [`Table::encode`] writes; of other bytes it says where the first part stands that does not fit. [`Table::encode_by`],
 //! [`Table::encode_changed_by`] and [`Table::decode_by`] do the same by either grammar, of which [`law_one_spelling`],
 //! [`law_segments`] and [`law_length`] say what they have in common. Lengths and
-//! places are in bytes, extents are counted. Finding a volume costs a pass over the names, reading a text one over it, and writing
-//! it one over the extents, by segments two.
+//! places are in bytes, extents are counted. Finding a volume costs a look-up by halving ([`Table::find`]), and none where it
+//! stands at a place that the caller knows or behind it ([`Table::get_near`]); a change costs a pass over the names, reading a text one
+//! over it, and writing it one over the extents, by segments two.
 #![tactic(auto)]
 
 mod allowed;

@@ -20,7 +20,7 @@ use crate::grammars::Grammar;
 use crate::lengths::changed_length;
 use crate::reading::{Stopped, volumes_at};
 use crate::splices::{changed_count, put_changed, raised};
-use crate::volumes::{Volume, named, place};
+use crate::volumes::{Volume, place_in_order, place_near};
 use sm_base::{LAST_SEQUENCE, Name, NoMemory};
 use std::alloc::Global;
 use std::marker::Model;
@@ -84,12 +84,12 @@ impl Table {
         Extents::new(Vec::new(*self.volumes.allocator()))
     }
 
-    /// The place of a volume in `volumes`, or `None` exactly where no volume has the name.
+    /// The place of a volume in `volumes`, by halving, or `None` exactly where no volume has the name.
     pub fn find(&self, name: &Name) -> Option<usize>
         ensures found { IfSome result (IsPlace self.now.rows name.now) }
         ensures none { IfNone result (rows (table_alone self.now) name.now ≡ None) }
     {
-        place(&self.volumes, name)
+        place_in_order(&self.volumes, name)
     }
 
     /// A volume, or `None` exactly where no volume has the name.
@@ -97,7 +97,27 @@ impl Table {
         ensures found { IfSome result (λ v. IsHeld self.now.rows name.now v.now) }
         ensures none { IfNone result (rows (table_alone self.now) name.now ≡ None) }
     {
-        named(&self.volumes, name)
+        let at = self.find(name)?;
+        Some(&self.volumes[at])
+    }
+
+    /// A volume as `get` answers it, which is sought at the place `near` and the one behind it before it is sought by halving; `near`
+    /// is its place afterwards. So volumes that are asked for in order of name, each as often as may be, cost two looks each time.
+    pub fn get_near(&self, name: &Name, near: &mut usize) -> Option<&Volume>
+        ensures found { IfSome result (λ v. IsHeld self.now.rows name.now v.now) }
+        ensures none { IfNone result (rows (table_alone self.now) name.now ≡ None) }
+    {
+        let at = self.find_near(name, *near)?;
+        *near = at;
+        Some(&self.volumes[at])
+    }
+
+    // The place of a volume as `find` answers it, sought at two places before it is sought by halving.
+    fn find_near(&self, name: &Name, near: usize) -> Option<usize>
+        ensures found { IfSome result (IsPlace self.now.rows name.now) }
+        ensures none { IfNone result (rows (table_alone self.now) name.now ≡ None) }
+    {
+        place_near(&self.volumes, name, near)
     }
 
     /// How many rows may be added without memory.

@@ -1,6 +1,7 @@
 //! A volume of the group.
 
 ghost use Rattle.std.specs.Prelude.{◌≡◌, ◌≤◌, ◌+◌, ◌-◌, ◌^◌, min, ◌↔◌, IsTrue, None, IfSome, IfNone, OnOk, OnErr, length, Bool, List};
+ghost use Rattle.vg_meta.specs.Halves.{AreUpTo, IsInOrder};
 ghost use Rattle.vg_meta.specs.Tables.{Row, row_of};
 ghost use Rattle.vg_meta.specs.Roomy.{rows_alone, IsHeld, IsPlace};
 
@@ -162,6 +163,48 @@ pub fn place(volumes: &[Volume], name: &Name) -> Option<usize>
         }
     }
     None
+}
+
+/// How many volumes have names that are not behind this one, by halving. The volumes are in order of name.
+fn count_up_to(volumes: &[Volume], name: &Name) -> usize
+    requires rising { IsInOrder (λ v. v.row.name) volumes.now }
+    ensures within { result ≤ length volumes.now }
+    ensures up_to { AreUpTo (λ v. v.row.name) name.now volumes.now result }
+{
+    volumes.partition_point(|volume| !name.compare(&volume.name).is_lt())
+}
+
+/// The place of the volume of this name, by halving. The volumes are in order of name.
+pub fn place_in_order(volumes: &[Volume], name: &Name) -> Option<usize>
+    requires rising { IsInOrder (λ v. v.row.name) volumes.now }
+    ensures found { IfSome result (IsPlace volumes.now name.now) }
+    ensures none { IfNone result (row_of (rows_alone volumes.now) name.now ≡ None) }
+{
+    let count = count_up_to(volumes, name);
+    if count == 0 {
+        return None;
+    }
+    let last = count - 1;
+    if volumes[last].is_named(name) {
+        Some(last)
+    } else {
+        None
+    }
+}
+
+/// The place of the volume of this name, sought at `near` and the place behind it before it is sought by halving. The volumes
+/// are in order of name.
+pub fn place_near(volumes: &[Volume], name: &Name, near: usize) -> Option<usize>
+    requires rising { IsInOrder (λ v. v.row.name) volumes.now }
+    ensures found { IfSome result (IsPlace volumes.now name.now) }
+    ensures none { IfNone result (row_of (rows_alone volumes.now) name.now ≡ None) }
+{
+    for at in near..volumes.len().min(near.saturating_add(2)) {
+        if volumes[at].is_named(name) {
+            return Some(at);
+        }
+    }
+    place_in_order(volumes, name)
 }
 
 /// The first volume of this name.

@@ -38,6 +38,8 @@ pub struct Group<D: Disk> {
     pub(crate) buffer: Vec<u8>,
     // No commit may be made: one has failed, or the version is an earlier one.
     pub(crate) failed: bool,
+    // The place in the table at which the volume stood that was read or written last: the next one is sought from there on.
+    pub(crate) near: usize,
     // The extents are as few as the layout has, and on the device.
     ghost few: { label.extents ≤ most_extents (layout_number label.layout) },
     ghost area: { area_place (layout_number label.layout) + label.extents * label.geometry.extent ≤ D.size disk },
@@ -102,6 +104,7 @@ impl<D: Disk> Group<D> {
                 table,
                 buffer,
                 failed: version != CURRENT_VERSION,
+                near: 0,
             }),
             Err(fault) => Err((fault, disk)),
         }
@@ -161,6 +164,7 @@ impl<D: Disk> Group<D> {
             table: _,
             buffer: _,
             failed: _,
+            near: _,
         } = self;
         disk
     }

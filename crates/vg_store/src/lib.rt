@@ -35,8 +35,8 @@
 //! **What it costs.** An opening takes a buffer of the bytes of a slot, 1,047,040 in the narrow layout and 8,519,680 in the wide one,
 //! once the label is right, and what the table takes. A flip is two writes and two syncs and writes only the sectors that the text
 //! reaches. A commit writes the next text into the buffer and takes no memory. An upgrade is three writes and two syncs, of the
-//! sectors that the text reaches and two more, and takes no memory. A read or a write finds the volume by a pass over the names,
-//! takes no memory, and is one call of the device for each run. A format is eight calls of the device, and takes 256 KiB and the
+//! sectors that the text reaches and two more, and takes no memory. A read or a write finds the volume at the place of the call before
+//! or behind it, else by halving, takes no memory, and is one call of the device for each run. A format is eight calls of the device, and takes 256 KiB and the
 //! table before the first of them.
 #![tactic(auto)]
 

@@ -100,7 +100,7 @@ impl<D: Disk> Store for Group<D> {
     }
 
     fn read(&mut self, volume: &Name, at: u64, to: &mut [u8]) -> Result<(), Failed> {
-        let Some(volume) = self.table.get(volume) else {
+        let Some(volume) = self.table.get_near(volume, &mut self.near) else {
             unreachable!()
         };
         let extent = self.label.geometry.extent;
@@ -115,7 +115,7 @@ impl<D: Disk> Store for Group<D> {
     }
 
     fn write(&mut self, volume: &Name, at: u64, from: &[u8]) -> Result<(), Failed> {
-        let Some(volume) = self.table.get(volume) else {
+        let Some(volume) = self.table.get_near(volume, &mut self.near) else {
             unreachable!()
         };
         let extent = self.label.geometry.extent;

@@ -16,7 +16,8 @@
 //! **In which units.** Extents are those of the volume group, counted; images are counted; the sizes in an image are in
 //! sectors of 512 bytes.
 //!
-//! **What it costs.** Each look-up is one pass over the rows; `depth` makes one for each image that it counts, 31 at most.
+//! **What it costs.** Each look-up by name is one by halving; `depth` makes one for each image that it counts, 31 at most.
+//! `child_count` and `least_child` are a pass over the rows.
 //! `read` reads each run of sectors that one image holds in one call of the store, and a bitmap of each VHD image that it
 //! asks. `reserve` alone takes memory: `add` puts a row into the place that was made before, and moves those behind it.
 //!

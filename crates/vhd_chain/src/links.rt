@@ -4,13 +4,14 @@ ghost use Rattle.std.specs.Prelude.{◌≡◌, ◌↔◌, IsTrue, Some, length, 
 ghost use Rattle.std.specs.Option.{option_copied};
 ghost use Rattle.sm_machine.specs.Shapes.{chain_limit};
 ghost use Rattle.vhd_image.specs.Bodies.{parent_name};
-ghost use Rattle.vhd_chain.specs.Trees.{tree_row, children, first_name, chain_length};
+ghost use Rattle.vhd_chain.specs.Trees.{AreOrdered, tree_row, children, first_name, chain_length};
 
 use crate::rows::{TreeRow, place};
 use sm_base::{CHAIN_LIMIT, Name};
 
 /// The row of this name.
 pub fn named<'a>(rows: &'a [TreeRow], name: &Name) -> Option<&'a TreeRow>
+    requires order { AreOrdered rows.now }
     ensures { option_copied result ≡ tree_row rows.now name.now }
 {
     let at = place(rows, name)?;
@@ -54,6 +55,7 @@ pub fn first_child(rows: &[TreeRow], parent: &Name) -> Option<Name>
 
 /// The number of images of the chain from this name up, counted up to one more than a chain has.
 pub fn chain(rows: &[TreeRow], name: &Name) -> u32
+    requires order { AreOrdered rows.now }
     ensures { result ≡ chain_length rows.now (suc chain_limit) name.now }
 {
     let mut next = *name;

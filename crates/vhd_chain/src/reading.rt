@@ -6,6 +6,7 @@ ghost use Rattle.sm_disk.specs.Held.{IsWhole};
 ghost use Rattle.sm_disk.specs.Sectors.{sector as sector_of};
 ghost use Rattle.vg_volumes.specs.Stored.{stored, OnlyReads, Counts};
 ghost use Rattle.vhd_image.specs.Bodies.{sector_count};
+ghost use Rattle.vhd_chain.specs.Trees.{AreOrdered};
 ghost use Rattle.vhd_chain.specs.Pieces.{reaching, HoldsAll, IsPiece, AreFilled};
 ghost use Rattle.vhd_chain.specs.Reading.{chain_reads, AllStand, AllAreTrue, AreRead};
 
@@ -38,6 +39,7 @@ impl Piece<'_> {
 
 /// The image of this name, where it reaches past this sector.
 fn image_at<'a>(rows: &'a [TreeRow], name: &Name, sector: u64) -> Option<&'a Image>
+    requires order { AreOrdered rows.now }
     ensures { option_copied result ≡ reaching rows.now name.now sector }
 {
     let row = named(rows, name)?;
@@ -66,6 +68,7 @@ fn piece_from<'a, S: Store>(
     sector: u64,
     most: u32,
 ) -> Result<Piece<'a>, Failed>
+    requires order { AreOrdered rows.now }
     requires stand { AllStand (stored S.Store store.old) rows.now }
     requires true_now { S.told → AllAreTrue (stored S.Store store.old) rows.now }
     requires some { 0 < most }
@@ -130,6 +133,7 @@ fn read_on<S: Store>(
     to: &mut [u8],
     done: usize,
 ) -> Result<usize, Failed>
+    requires order { AreOrdered rows.now }
     requires stand { AllStand (stored S.Store store.old) rows.now }
     requires true_now { S.told → AllAreTrue (stored S.Store store.old) rows.now }
     requires whole { IsWhole sector (length to.old) (2 ^ 32) }

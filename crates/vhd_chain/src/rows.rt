@@ -1,7 +1,8 @@
 //! The rows of the tree, each found by its name.
 
 ghost use Rattle.std.specs.Prelude.{◌≡◌, ◌↔◌, IsTrue, ◌≤◌, ◌++◌, ◌∷◌, take, drop, length, IfSome, IfNone, None};
-ghost use Rattle.vhd_chain.specs.Trees.{tree_row, row_name, with_row};
+ghost use Rattle.vg_meta.specs.Halves.{AreUpTo};
+ghost use Rattle.vhd_chain.specs.Trees.{AreOrdered, tree_row, row_name, with_row};
 ghost use Rattle.vhd_chain.specs.declared.rows.TreeRow.{TreeRow};
 ghost use Rattle.vhd_chain.specs.Places.{IsPlace};
 
@@ -26,28 +27,38 @@ fn is_named(row: &TreeRow, name: &Name) -> bool
     row.image.name() == *name
 }
 
-/// The place of the row of this name.
+/// How many rows have names that are not behind this one, by halving.
+fn count_up_to(rows: &[TreeRow], name: &Name) -> usize
+    requires order { AreOrdered rows.now }
+    ensures within { result ≤ length rows.now }
+    ensures up_to { AreUpTo row_name name.now rows.now result }
+{
+    rows.partition_point(|row| !name.compare(&row.image.name()).is_lt())
+}
+
+/// The place of the row of this name, by halving.
 pub fn place(rows: &[TreeRow], name: &Name) -> Option<usize>
+    requires order { AreOrdered rows.now }
     ensures found { IfSome result (IsPlace rows.now name.now) }
     ensures none { IfNone result (tree_row rows.now name.now ≡ None) }
 {
-    for (at, row) in rows.iter().enumerate() {
-        if is_named(row, name) {
-            return Some(at);
-        }
+    let count = count_up_to(rows, name);
+    if count == 0 {
+        return None;
     }
-    None
+    let last = count - 1;
+    if is_named(&rows[last], name) {
+        Some(last)
+    } else {
+        None
+    }
 }
 
-/// The place at which a row of this name is put in.
+/// The place at which a row of this name is put in, by halving.
 pub fn slot(rows: &[TreeRow], name: &Name) -> usize
+    requires order { AreOrdered rows.now }
     ensures within { result ≤ length rows.now }
     ensures place { (r : TreeRow) → row_name r ≡ name.now → take result rows.now ++ r ∷ drop result rows.now ≡ with_row r rows.now }
 {
-    for (at, row) in rows.iter().enumerate() {
-        if name.compare(&row.image.name()).is_lt() {
-            return at;
-        }
-    }
-    rows.len()
+    count_up_to(rows, name)
 }
