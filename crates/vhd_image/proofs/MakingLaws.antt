@@ -11,23 +11,32 @@ use Rattle.std.proofs.lemmas.List.{length-replicate, take-append-drop}
 use Rattle.std.proofs.lemmas.Nat.{mul-le}
 use Rattle.std.proofs.lemmas.Option.{none-some}
 use Rattle.sm_base.specs.Numbers.{first, div_up, IsGeometry}
+use Rattle.sm_base.proofs.NumberLemmas.{first-ge}
 use Rattle.sm_base.specs.declared.names.Name.{Name}
 use Rattle.sm_base.specs.declared.sizes.Geometry.{Geometry}
 use Rattle.vg_meta.specs.Tables.{Row, row_of, extents_of, extents_in, name_eq}
+use Rattle.vhd_fields.specs.declared.footers.Footer.{Footer}
 use Rattle.vhd_fields.specs.declared.headers.Header.{Header}
 use Rattle.vhd_fields.specs.Footers.{IsFooter, footer_read, is_size}
 use Rattle.vhd_fields.specs.Headers.{IsHeader, header_read, is_block, is_entries}
 use Rattle.vhd_fields.specs.ParentNames.{IsParent}
-use Rattle.vhd_map.specs.Places.{blank, word}
-use Rattle.vhd_map.proofs.SlotLemmas.{top_of-replicate}
-use Rattle.vhd_layout.specs.Layouts.{Sectors}
-use Rattle.vhd_layout.specs.Images.{IsImage, IsFooterOf, IsHeaderOf, header_at}
-use Rattle.vhd_layout.proofs.ImageLaws.{table-first}
+use Rattle.sm_disk.specs.Held.{Held}
+use Rattle.vg_volumes.specs.Volumes.{KeepsAt}
+use Rattle.vhd_map.specs.Places.{code, word}
+use Rattle.vhd_map.specs.Slots.{slot_of, top_of, IsMap}
+use Rattle.vhd_map.proofs.SlotLemmas.{top_of-past, top_of-replicate}
+use Rattle.vhd_layout.specs.Layouts.{Sectors, entries_in_sectors, slot_count}
+use Rattle.vhd_layout.specs.Images.{IsHead, IsFooterOf, IsHeaderOf, header_at}
+use Rattle.vhd_layout.proofs.ImageLaws.{slots-fit}
 use Rattle.vhd_volumes.specs.Truth.{layout_in, HasRoomFor, IsStanding}
 use Rattle.vhd_image.specs.declared.images.Body.{Body}
-use Rattle.vhd_image.specs.Made.{IsDiskSize, MayHave, new_header, new_footer, IsBlankTo}
-use Rattle.vhd_image.proofs.ContentLaws.{is-layout}
-use Rattle.vhd_image.proofs.OpeningLaws.{footer-own}
+use Rattle.vhd_volumes.specs.Steady.{IsHeadSector}
+use Rattle.vhd_volumes.specs.Writes.{KeepsBut}
+use Rattle.vhd_image.specs.Calls.{MayPut}
+use Rattle.vhd_image.specs.Made.{IsDiskSize, MayHave, new_header, new_footer, HasEntriesTo, IsInSlots, IsInTable, IsMapOf}
+use Rattle.vhd_image.specs.Opened.{FitsIn, IsTableTo}
+use Rattle.vhd_image.proofs.CallLaws.{put-others}
+use Rattle.vhd_image.proofs.OpeningLaws.{footer-own, stands-from}
 use Rattle.vhd_image.proofs.TableLaws.{slot_of-blank}
 
 -- ---- the size of a volume
@@ -128,25 +137,29 @@ module _ (g : Geometry) (n now sectors : ℕ) (uid : List ℕ) (size : IsDiskSiz
 
   -- ---- what is written reads as it
 
-  pub made : (v : Sectors) (parent : Option Body) → IsGeometry g.extent g.block g.entries → HasRoomFor g 0 n → footer_read (v (n - 1)) ≡ Ok (new_footer now sectors uid parent) → header_at v ≡ Some (new_header g parent)
-      → IsBlankTo (first g.entries) v → IsImage (layout_in g (new_footer now sectors uid parent) n) v (new_footer now sectors uid parent) (new_header g parent) (λ b. None)
-  made v parent ok room last header table = record {
-    head = record {
-      footer_reads = footer-own n v (new_footer now sectors uid parent) (ap result_ok last);
-      footer_fits = footer-made parent;
-      header_reads = header;
-      header_fits = header-made parent;
-      room = omega (arith, room);
-    };
-    table = λ b below.
-        let here = table-first (layout_in g (new_footer now sectors uid parent) n) b (is-layout g (new_footer now sectors uid parent) n ok) below in
-        table (3 + b / 128) (omega arith) here (b % 128) (omega arith);
-    slots = record {
-      sized = λ b k has. absurd (none-some k has);
-      fits = λ b k has. absurd (none-some k has);
-      once = λ a b k has has'. absurd (none-some k has);
-    };
+  pub head-sealed : (v : Sectors) (parent : Option Body) → first g.entries + 1 ≤ n → footer_read (v (n - 1)) ≡ Ok (new_footer now sectors uid parent) → header_at v ≡ Some (new_header g parent)
+      → IsHead (layout_in g (new_footer now sectors uid parent) n) v (new_footer now sectors uid parent) (new_header g parent)
+  head-sealed v parent room last header = record {
+    footer_reads = footer-own n v (new_footer now sectors uid parent) (ap result_ok last);
+    footer_fits = footer-made parent;
+    header_reads = header;
+    header_fits = header-made parent;
+    room = room;
   }
+
+  pub fits-sealed : (parent : Option Body) (m : List (Option ℕ)) → IsMap m → IsMapOf g sectors m → HasRoomFor g (top_of m) n → FitsIn (layout_in g (new_footer now sectors uid parent) n) m
+  fits-sealed parent m good is room =
+      let l = layout_in g (new_footer now sectors uid parent) n in
+      let fit : top_of m ≤ slot_count l = slots-fit l (top_of m) room in
+      record {
+        sized = λ b k has. omega (arith, is.sized b k has, in_sectors parent);
+        few = λ b k has. omega (arith, fit, top_of-past m b k has, good.below b k has, is.entries);
+      }
+
+  pub stands-sealed : (parent : Option Body) (volume : Name) (m : List (Option ℕ)) → first g.entries + 1 ≤ n → IsMap m → IsMapOf g sectors m → HasRoomFor g (top_of m) n
+      → IsStanding g n (record { volume = volume; footer = new_footer now sectors uid parent; header = new_header g parent }) m
+  stands-sealed parent volume m low good is room =
+      stands-from g n (record { volume = volume; footer = new_footer now sectors uid parent; header = new_header g parent }) m is.entries (footer-made parent) (header-made parent) low (fits-sealed parent m good is room)
 
   pub made-stands : (parent : Option Body) (volume : Name) → HasRoomFor g 0 n → IsStanding g n (record { volume = volume; footer = new_footer now sectors uid parent; header = new_header g parent }) (replicate g.entries None)
   made-stands parent volume room =
@@ -178,9 +191,46 @@ pub rows-end : (entries rows : ℕ) → rows ≡ entries / 128 + min 1 (entries 
 unfolding first div_up
 rows-end entries rows are = omega (arith, are)
 
-pub blank-more : (index : ℕ) (old new : Sectors) (bytes : List ℕ) → IsBlankTo (3 + index) old → ((p : ℕ) → p ≢ 3 + index → new p ≡ old p) → new (3 + index) ≡ bytes
-    → ((j : ℕ) → j < 128 → word bytes j ≡ blank) → IsBlankTo (3 + (index + 1)) new
-blank-more index old new bytes so_far others here empty p from below j small = ⊎_elim
-    (λ at. ap (λ (x : List ℕ). word x j) (ap new at ∙ here) ∙ empty j small)
-    (λ away. ap (λ (x : List ℕ). word x j) (others p away) ∙ so_far p from (omega arith) j small)
-    (cases_eq p (3 + index))
+pub rows-cover : (entries index rows b : ℕ) → rows ≡ entries / 128 + min 1 (entries % 128) → rows ≤ index → b < 128 * div_up entries 128 → b < 128 * index
+unfolding div_up
+rows-cover entries index rows b are past below = omega (arith, are, past, below)
+
+pub entries-more : (index : ℕ) (g : Geometry) (m : List (Option ℕ)) (old new : Sectors) (bytes : List ℕ) → HasEntriesTo (128 * index) g m old → ((p : ℕ) → p ≢ 3 + index → new p ≡ old p) → new (3 + index) ≡ bytes
+    → ((j : ℕ) → j < 128 → word bytes j ≡ code (first g.entries) g.block (slot_of m (128 * index + j))) → HasEntriesTo (128 * (index + 1)) g m new
+entries-more index g m old new bytes so_far others here each b below = ⊎_elim
+    (λ row. let at : 128 * index + b % 128 ≡ b = omega arith in
+    ap (λ (i : ℕ). word (new (3 + i)) (b % 128)) row ∙ (ap (λ (x : List ℕ). word x (b % 128)) here
+    ∙ (each (b % 128) (omega arith) ∙ ap (λ (x : ℕ). code (first g.entries) g.block (slot_of m x)) at)))
+    (λ other. ap (λ (x : List ℕ). word x (b % 128)) (others (3 + b / 128) (λ e. other (omega (arith, e)))) ∙ so_far b (omega arith))
+    (cases_eq (b / 128) index)
+
+-- the entries of a table that is whole are those of an image
+pub table-whole : (g : Geometry) (f : Footer) (n : ℕ) (m : List (Option ℕ)) (v : Sectors) → HasEntriesTo (128 * div_up g.entries 128) g m v → IsTableTo (entries_in_sectors (layout_in g f n)) (layout_in g f n) v m
+unfolding entries_in_sectors
+table-whole g f n m v has b below = has b below
+
+-- a sector of the table is in front of a first one
+pub table-front : (g : Geometry) (b : ℕ) → b < 128 * div_up g.entries 128 → 3 + b / 128 < first g.entries
+unfolding first div_up
+table-front g b below = omega (arith, below)
+
+-- ---- what stays
+
+-- at fewer places more is kept
+pub keeps_fewer : {P Q : ℕ → Type 0} {a b : Held} → ((p : ℕ) → Q p → P p) → KeepsAt P a b → KeepsAt Q a b
+keeps_fewer less k = record { reads = λ p at. k.reads p (less p at); may = λ p v at m. k.may p v (less p at) m }
+
+-- a sector that was to be written keeps each other place
+pub keeps_put : (W : ℕ → Type 0) (place : ℕ) (bytes : List ℕ) {a b : Held} → W place → MayPut place bytes a b → KeepsBut W a b
+keeps_put W place bytes at put = keeps_fewer (λ p away e. away (subst W (sym e) at)) (put-others place bytes put)
+
+module _ (g : Geometry) (n : ℕ) (some : 1 ≤ g.entries) where
+  -- a sector of the head
+  pub slots_put : (place : ℕ) (bytes : List ℕ) {a b : Held} → IsHeadSector n place → MayPut place bytes a b → KeepsAt (IsInSlots g n) a b
+  slots_put place bytes at put = keeps_fewer (λ p inside e. ⊎_elim (λ front. omega (arith, front, e, inside.0, first-ge g.entries some)) (λ last. omega (arith, last, e, inside.1)) at) (put-others place bytes put)
+
+  pub slots_header : {a b : Held} → KeepsBut (λ p. (1 ≤ p) × (p < 3)) a b → KeepsAt (IsInSlots g n) a b
+  slots_header k = keeps_fewer (λ p inside at. omega (arith, at.1, inside.0, first-ge g.entries some)) k
+
+  pub slots_table : {r : Geometry} {a b : Held} → r ≡ g → KeepsBut (IsInTable r) a b → KeepsAt (IsInSlots g n) a b
+  slots_table e k = keeps_fewer (λ p inside at. omega (arith, at.1, inside.0, ap (λ (x : Geometry). first x.entries) e)) k

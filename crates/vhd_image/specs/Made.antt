@@ -1,6 +1,7 @@
 -- The head of a new image, and the link of an image to its parent (Virtual Hard Disk Image Format Specification 1.0, with
 -- this project's profile).
-use Rattle.std.specs.Prelude.{◌≡◌, ℕ, ◌*◌, ◌/◌, ◌≤◌, ◌<◌, List, codes, replicate, Option, None, Some}
+use Rattle.std.specs.Prelude.{◌≡◌, ℕ, ◌+◌, ◌*◌, ◌/◌, ◌≤◌, ◌<◌, List, length, codes, replicate, Option, None, Some}
+use Rattle.sm_base.specs.Numbers.{first}
 use Rattle.sm_base.specs.declared.names.Name.{Name}
 use Rattle.sm_base.specs.declared.sizes.Geometry.{Geometry}
 use Rattle.sm_disk.specs.Held.{Held, reads}
@@ -8,8 +9,9 @@ use Rattle.vg_volumes.specs.Stored.{Stored}
 use Rattle.vhd_fields.specs.ParentNames.{IsParent}
 use Rattle.vhd_fields.specs.declared.footers.Footer.{Footer}
 use Rattle.vhd_fields.specs.declared.headers.Header.{Header}
-use Rattle.vhd_map.specs.Places.{blank, word}
-use Rattle.vhd_layout.specs.Layouts.{Sectors}
+use Rattle.vhd_map.specs.Places.{code}
+use Rattle.vhd_map.specs.Slots.{slot_of}
+use Rattle.vhd_layout.specs.Layouts.{Sectors, entry}
 use Rattle.vhd_layout.specs.Images.{IsImage}
 use Rattle.vhd_volumes.specs.declared.heads.Head.{Head}
 use Rattle.vhd_volumes.specs.Truth.{layout_now}
@@ -91,6 +93,19 @@ IsParentImage parent = IsParent (Some (volume_name parent))
 abbrev pub MayHave : ℕ → Body → Type 0
 MayHave sectors parent = IsParentImage parent × (sector_count parent ≤ sectors)
 
--- the sectors of the table up to this one have blank entries alone
-abbrev pub IsBlankTo : ℕ → Sectors → Type 0
-IsBlankTo end v = (p : ℕ) → 3 ≤ p → p < end → (j : ℕ) → j < 128 → word (v p) j ≡ blank
+-- the map may be that of a disk of so many sectors: it has the repository's number of entries, and blocks of the disk alone have slots
+pub record IsMapOf (g : Geometry) (sectors : ℕ) (m : List (Option ℕ)) : Type 0 where
+  pub entries : length m ≡ g.entries
+  pub sized : (b slot : ℕ) → slot_of m b ≡ Some slot → b < sectors / g.block
+
+-- a sector of the table
+abbrev pub IsInTable : Geometry → ℕ → Type 0
+IsInTable g p = (3 ≤ p) × (p < first g.entries)
+
+-- a sector between the table and the last of so many
+abbrev pub IsInSlots : Geometry → ℕ → ℕ → Type 0
+IsInSlots g sectors p = (first g.entries ≤ p) × (p + 1 < sectors)
+
+-- each entry of the table in front of this one is that of the map
+abbrev pub HasEntriesTo : ℕ → Geometry → List (Option ℕ) → Sectors → Type 0
+HasEntriesTo end g m v = (b : ℕ) → b < end → entry v b ≡ code (first g.entries) g.block (slot_of m b)

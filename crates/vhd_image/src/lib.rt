@@ -7,8 +7,8 @@
 //! **In which units.** Sectors are of 512 bytes, counted from the begin of the disk or of the volume; extents, blocks
 //! and slots are counted from 0; the sizes in a footer are in bytes.
 //!
-//! **What a stop may leave.** `open`, `read_own`, `run` and `read_held` write nothing. `make` writes an image that no
-//! one reads before it is synced: only once it has succeeded does a read give the image. `set_size`, `set_parent` and
+//! **What a stop may leave.** `open`, `read_own`, `run` and `read_held` write nothing. `make`, and `seal` with slots that were filled before, write
+//! an image that no one reads before it is synced: only once it has succeeded does a read give the image, and what the slots hold stays. `set_size`, `set_parent` and
 //! `end` write the head of an image that is in use: at each of their returns, whatever a stop may leave is a valid
 //! image with the map and the held sectors of one that a stop could leave before, and with its size or the new one,
 //! with its parent or the new one, or in all the same (`specs/Changes`). At all sectors but those that they write a
@@ -19,8 +19,8 @@
 //!
 //! **What it costs.** `open` reads two footers at most, the header and each sector of the table once, and takes the
 //! map's memory; no other call takes memory. `read_own` reads two sectors at most. `run` says how far an image holds
-//! sectors alike, for one sector read at most, and `read_held` then reads so many in one call of the store. `make`
-//! writes four sectors and those of the table; `set_size` writes two sectors; `set_parent` reads two and writes one;
+//! sectors alike, for one sector read at most, and `read_held` then reads so many in one call of the store. `make` and `seal`
+//! write four sectors and those of the table; `set_size` writes two sectors; `set_parent` reads two and writes one;
 //! `end` writes one. `write` is one write of a raw image's volume, or of a byte that is repeated one for each piece of it that is in
 //! memory, and for a VHD image costs what `vhd_write` says: one sync at most, whatever its length. So does `write_marked`, which puts some sectors
 //! of one block: one write for each run of them, and one sync at most.

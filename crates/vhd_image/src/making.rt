@@ -2,23 +2,25 @@
 
 ghost use Rattle.std.specs.Prelude.{◌≡◌, ◌++◌, ◌≢◌, ℕ, ◌+◌, ◌-◌, ◌*◌, ◌<◌, ◌≤◌, ◌⊎◌, Ok, Some, None, OnOk, OnErr, IfOk, length, replicate, ◌^◌};
 ghost use Rattle.std.specs.Option.{ForSome, option_copied};
-ghost use Rattle.sm_base.specs.Numbers.{first};
-ghost use Rattle.sm_disk.specs.Held.{reads};
+ghost use Rattle.sm_base.specs.Numbers.{first, div_up};
 ghost use Rattle.vhd_fields.specs.Footers.{IsFooter, footer_bytes, footer_read};
 ghost use Rattle.vhd_fields.specs.Headers.{IsHeader, header_bytes};
-ghost use Rattle.vhd_map.specs.Places.{blank};
+ghost use Rattle.vhd_map.specs.Slots.{top_of};
 ghost use Rattle.vhd_layout.specs.Images.{header_at};
-ghost use Rattle.vhd_layout.specs.Layouts.{entry};
 ghost use Rattle.vg_volumes.specs.Stored.{stored, sectors_in, WorksOn, Counts};
 ghost use Rattle.vhd_volumes.specs.Steps.{Holds, Does, Gives};
 ghost use Rattle.vhd_volumes.specs.Truth.{HasRoomIn};
+ghost use Rattle.vhd_volumes.specs.Writes.{KeepsBut};
+ghost use Rattle.vg_volumes.specs.Volumes.{KeepsAt};
+ghost use Rattle.vhd_image.specs.Opened.{ReadsAsImage};
 ghost use Rattle.vhd_image.specs.Bodies.{StandsIn};
 ghost use Rattle.vhd_image.specs.Calls.{MayPut};
-ghost use Rattle.vhd_image.specs.Made.{IsBlankTo, IsDiskSize, MayHave, linked, new_footer, new_header, stamp_of, uid_of, new_head, IsNewImage};
+ghost use Rattle.vhd_image.specs.Made.{HasEntriesTo, IsInTable, IsInSlots, IsMapOf, IsDiskSize, MayHave, linked, new_footer, new_header, stamp_of, uid_of, new_head, IsNewImage};
 ghost use Rattle.vhd_image.specs.declared.images.Body.TheVariants.{Vhd};
 
 use crate::bytes::halves;
 use crate::images::{Body, Image};
+use crate::opening::see_slots;
 use crate::sizes::sectors_in;
 use crate::steps::put_sector;
 use sm_base::{Failed, Geometry, Name};
@@ -124,8 +126,7 @@ fn put_header<S: Store>(store: &mut S, volume: &Name, header: &Header) -> Result
     ensures cause { Counts S.Store result store.old store.new }
     ensures header { OnOk result (Gives S.Store volume.now (λ r. header_at r ≡ Some header.now) store.new) }
     ensures bytes { OnOk result (Gives S.Store volume.now (λ r. r 1 ++ r 2 ≡ header_bytes header.now) store.new) }
-    ensures others { Does S.Store volume.now (λ old new. (p : ℕ) → p ≢ 1 → p ≢ 2 → reads new p
-        ≡ reads old p) store.old store.new }
+    ensures others { Does S.Store volume.now (KeepsBut (λ p. (1 ≤ p) × (p < 3))) store.old store.new }
 {
     let mut bytes = [0; 1024];
     header.write(&mut bytes);
@@ -135,20 +136,20 @@ fn put_header<S: Store>(store: &mut S, volume: &Name, header: &Header) -> Result
     Ok(())
 }
 
-/// Writes the table of a blank map, sector by sector.
+/// Writes the table of a map, sector by sector.
 fn put_table<S: Store>(
     store: &mut S,
     geometry: &Geometry,
     volume: &Name,
     map: &Map,
 ) -> Result<(), Failed>
-    requires blank { map.now ≡ replicate geometry.now.entries None }
+    requires entries { length map.now ≡ geometry.now.entries }
     requires room { first geometry.now.entries ≤ sectors_in (stored S.Store store.old) volume.now }
     ensures works { WorksOn S.Store volume.now store.old store.new }
     ensures cause { Counts S.Store result store.old store.new }
-    ensures table { OnOk result (Gives S.Store volume.now (IsBlankTo (first geometry.now.entries)) store.new) }
-    ensures front { Does S.Store volume.now (λ old new. (p : ℕ) → p < 3 → reads new p
-        ≡ reads old p) store.old store.new }
+    ensures table { OnOk result (Gives S.Store volume.now
+        (HasEntriesTo (128 * div_up geometry.now.entries 128) geometry.now map.now) store.new) }
+    ensures others { Does S.Store volume.now (KeepsBut (IsInTable geometry.now)) store.old store.new }
 {
     for index in 0..geometry.entries.div_ceil(128) {
         let mut bytes = [0; 512];
@@ -203,7 +204,58 @@ impl Image {
         ensures copy { OnOk result (Gives S.Store volume.now
             (λ r. footer_read (r 0) ≡ Ok (new_footer now sectors uid (option_copied parent.entry))) store.new) }
     {
+        Image::seal(store, volume, map, uid, sectors, parent, now)
+    }
+
+    /// Makes an image of what a volume holds in its slots: the footer's copy in sector 0, the header in sectors 1 and 2, the
+    /// table of this map of T entries, and the footer in the volume's last sector. What the slots hold stays as it is. It takes
+    /// no memory, and makes no sync. The size is in sectors, `now` in seconds since the beginning of the year 2000.
+    ///
+    /// # Errors
+    ///
+    /// The store failed; what the volume holds outside its slots then is open.
+    pub fn seal<S: Store>(
+        store: &mut S,
+        volume: &Name,
+        map: Map,
+        uid: Uuid,
+        sectors: u64,
+        parent: Option<&Image>,
+        now: u32,
+    ) -> Result<Image, Failed>
+        requires map { IsMapOf (S.site store.old).geometry sectors map }
+        requires room { HasRoomIn (stored S.Store store.old) volume.now (top_of map) }
+        requires size { IsDiskSize (S.site store.old).geometry sectors }
+        requires parent { ForSome (option_copied parent) (MayHave sectors) }
+        ensures works { WorksOn S.Store volume.now store.old store.new }
+        ensures cause { Counts S.Store result store.old store.new }
+        ensures fields { IfOk result (λ image. image ≡ Vhd
+            (new_head (S.site store.old).geometry volume.now now sectors uid (option_copied parent.entry)) map) }
+        ensures stands { IfOk result (StandsIn (S.site store.old).geometry
+            (sectors_in (stored S.Store store.old) volume.now)) }
+        // A read of the volume gives this image, with the slots of the map.
+        ensures image { OnOk result (Holds S.Store volume.now
+            (λ h. ReadsAsImage (S.site store.old).geometry (sectors_in (stored S.Store store.old) volume.now) h
+            (new_head (S.site store.old).geometry volume.now now sectors uid
+            (option_copied parent.entry)) map) store.new) }
+        // Each sector between the table and the last sector is as it was.
+        ensures slots { Does S.Store volume.now
+            (KeepsAt (IsInSlots (S.site store.old).geometry (sectors_in (stored S.Store store.old) volume.now)))
+            store.old store.new }
+        // Its footers and its header, byte for byte.
+        ensures last { OnOk result (Gives S.Store volume.now
+            (λ r. r (sectors_in (stored S.Store store.old) volume.now - 1) ≡ footer_bytes
+            (new_footer now sectors uid (option_copied parent.entry))) store.new) }
+        ensures first { OnOk result (Gives S.Store volume.now
+            (λ r. r 0 ≡ footer_bytes (new_footer now sectors uid (option_copied parent.entry))) store.new) }
+        ensures header { OnOk result (Gives S.Store volume.now
+            (λ r. r 1 ++ r 2 ≡ header_bytes
+            (new_header (S.site store.old).geometry (option_copied parent.entry))) store.new) }
+        ensures copy { OnOk result (Gives S.Store volume.now
+            (λ r. footer_read (r 0) ≡ Ok (new_footer now sectors uid (option_copied parent.entry))) store.new) }
+    {
         let geometry = store.geometry();
+        see_slots(&map);
         let last = sectors_in(store, volume) - 1;
         let footer = new_footer(now, sectors, uid, parent);
         let header = new_header(&geometry, parent);

@@ -129,7 +129,7 @@ fn slots_in(geometry: &Geometry, footer: &Footer, sectors: u64) -> u32
 }
 
 /// Each slot of a map is below its number of entries, and no slot stands twice.
-fn see_slots(map: &Map)
+pub(crate) fn see_slots(map: &Map)
     requires { 0 < length map.now }
     ensures { IsMap map.now }
 {

@@ -1,9 +1,10 @@
-use Rattle.std.proofs.Common.{◌++◌, ℕ, List, ap₂, ◌∙◌, arith}
+use Rattle.std.proofs.Common.{◌++◌, ℕ, ◌<◌, ◌≤◌, List, ap₂, ◌∙◌, arith}
 use Rattle.std.proofs.lemmas.List.{take-append-drop}
 use Rattle.sm_disk.specs.Held.{reads}
 use Rattle.vg_volumes.specs.Stored.{stored, held_in}
 use Rattle.vg_volumes.proofs.StoredLaws.{works_then}
-use Rattle.vhd_image.proofs.MakingLaws.{header-wrote}
+use Rattle.vg_volumes.proofs.VolumeLaws.{KeepsAt-then}
+use Rattle.vhd_image.proofs.MakingLaws.{header-wrote, keeps_put}
 use Rattle.vhd_image.proofs.making.put_header.Goals as goal
 
 pub returns-in_err-put_sector-2-clause-works : goal.returns-in_err-put_sector-2-clause-works
@@ -24,3 +25,18 @@ returns-clause-bytes g c = λ told.
     let one = (c.put_sector-2.ensures.may_put told).others 1 (λ e. omega arith) ∙ c.in_ok-put_sector.ensures.put told ∙ c.halves.ensures.front in
     let two = c.in_ok-put_sector-2.ensures.put told ∙ c.halves.ensures.back in
     ap₂ (λ (front back : List ℕ). front ++ back) one two ∙ take-append-drop 512 c.write.new.to ∙ c.write.ensures.bytes
+
+-- sectors 1 and 2
+abbrev in_header : ℕ → Type 0
+in_header p = (1 ≤ p) × (p < 3)
+
+pub returns-in_err-put_sector-clause-others : goal.returns-in_err-put_sector-clause-others
+returns-in_err-put_sector-clause-others g c = λ told. keeps_put in_header 1 _ (omega arith, omega arith) (c.put_sector.ensures.may_put told)
+
+pub returns-in_err-put_sector-2-clause-others : goal.returns-in_err-put_sector-2-clause-others
+returns-in_err-put_sector-2-clause-others g c = λ told.
+    KeepsAt-then (keeps_put in_header 1 _ (omega arith, omega arith) (c.put_sector.ensures.may_put told)) (keeps_put in_header 2 _ (omega arith, omega arith) (c.put_sector-2.ensures.may_put told))
+
+pub returns-clause-others : goal.returns-clause-others
+returns-clause-others g c = λ told.
+    KeepsAt-then (keeps_put in_header 1 _ (omega arith, omega arith) (c.put_sector.ensures.may_put told)) (keeps_put in_header 2 _ (omega arith, omega arith) (c.put_sector-2.ensures.may_put told))
