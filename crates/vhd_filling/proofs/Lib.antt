@@ -1,0 +1,5 @@
+pub mod EndLaws
+pub mod FilledLaws
+pub mod GrownLaws
+pub mod PageLaws
+pub mod StoreLaws
