@@ -33,7 +33,8 @@ use Rattle.sm_ready.specs.Orderly.{IsOrderly}
 use Rattle.sm_ready.specs.Ready.{IsTidy}
 use Rattle.sm_ready.specs.Stores.{content_in, store_content}
 use Rattle.sm_ready.proofs.AfterLaws.{other_keeps}
-use Rattle.sm_ready.proofs.GoneLaws.{images_same, orderly_gone}
+use Rattle.sm_ready.proofs.BesideLaws.{images_beside, orderly_beside}
+use Rattle.sm_ready.proofs.GoneLaws.{goes_alone}
 use Rattle.sm_ready.proofs.LeftLaws.{image_quiet, left_now}
 use Rattle.sm_ready.proofs.Orders.{named_row}
 use Rattle.sm_ready.proofs.RepairLaws.{all_quiet, gone_ready, gone_disks, gone_stop, same_left, swept_ready, swept_now}
@@ -71,25 +72,25 @@ stop_now x m t image stop r =
 module _ (x : Stored) (n : Name) (new : IsNewVolume x.table n) where
   pub orderly_less : (y : Stored) (m : Known) → y.site ≡ x.site → y.table ≡ applied x.table (Remove n) → IsOrderly x.site x.table m → IsOrderly y.site y.table m
   orderly_less y m site table o =
-      subst₂ (λ s t. IsOrderly s t m) (sym site) (sym table) (orderly_gone x.site x.table m n new.0 o (new_beside n new o))
+      subst₂ (λ s t. IsOrderly s t m) (sym site) (sym table) (orderly_beside x.site x.table m n new.0 (Remove n) o (new_beside n new o) (goes_alone o.table (new_beside n new o)))
 
   pub again_less : (y : Stored) (m : Known) → y.site ≡ x.site → y.table ≡ applied x.table (Remove n) → Keeps x.area y.area → IsSettled y.area → RestsAgain x y m m
   again_less y m site table keeps settled =
       subst₂ (λ s t. RestsAgain x (record { site = s; table = t; area = y.area }) m m) (sym site) (sym table) (record {
         rest = λ r. record {
-          orderly = orderly_gone x.site x.table m n new.0 r.orderly (new_beside n new r.orderly);
-          ready = gone_ready x.site x.table x.area m n new.0 r.orderly r.ready (new_beside n new r.orderly) r.idle y.area keeps settled;
+          orderly = orderly_less (record { site = x.site; table = applied x.table (Remove n); area = y.area }) m refl refl r.orderly;
+          ready = gone_ready x.site x.table x.area m n new.0 r.orderly r.ready (new_beside n new r.orderly) y.area keeps settled;
           settled = settled;
           idle = r.idle;
         };
-        same_disks = λ r. gone_disks x.site x.table x.area m n new.0 r.orderly r.ready (new_beside n new r.orderly) r.idle y.area keeps settled;
+        same_disks = λ r. gone_disks x.site x.table x.area m n new.0 r.orderly r.ready (new_beside n new r.orderly) y.area keeps settled;
         same_images = λ r k. ap (λ f. image_of (content_in x.site (applied x.table (Remove n)) f) k) (fun_ext keeps.reads)
-            ∙ images_same x.site x.table x.area m n new.0 r.orderly r.ready (new_beside n new r.orderly) r.idle k;
+            ∙ images_beside x.site x.table x.area m n new.0 (Remove n) r.orderly r.ready (new_beside n new r.orderly) (goes_alone r.orderly.table (new_beside n new r.orderly)) k;
       })
 
   pub stop_less : (m : Known) (t : VolumeTable) (image : ℕ → List ℕ) → IsEitherOf x (Remove n) t image → IsAtRest x m → IsSame (content_of x) (content_in x.site t image)
   stop_less m t image either r =
-      ⊎_elim (λ before. stop_now x m t image before r) (gone_stop x.site x.table x.area m n new.0 r.orderly r.ready (new_beside n new r.orderly) r.idle t image) either
+      ⊎_elim (λ before. stop_now x m t image before r) (gone_stop x.site x.table x.area m n new.0 r.orderly r.ready (new_beside n new r.orderly) t image) either
 
 -- ---- records of no disk are wiped
 

@@ -60,7 +60,7 @@ module _ {S : Type 0} {g : Ghosts S} (r : TreeRow) where
 
   module _ {a b : S} where
     -- where the table has the same extents for it, and all of the area is kept
-    volume_area : g.site b ≡ g.site a → extents_of (rows (tab g b) (row_name r)) ≡ extents_of (rows (tab g a) (row_name r)) → Keeps (g.area a) (g.area b) → KeepsVolume g a b r
+    pub volume_area : g.site b ≡ g.site a → extents_of (rows (tab g b) (row_name r)) ≡ extents_of (rows (tab g a) (row_name r)) → Keeps (g.area a) (g.area b) → KeepsVolume g a b r
     volume_area site extents keeps = record {
       size = ap₂ (λ (s : Site) es. span s.geometry.extent es) site extents;
       keeps = subst₂ (λ (s : Site) es. Keeps (held_in (stored g a) (row_name r)) (volume s.geometry.extent es (g.area b))) (sym site) (sym extents)

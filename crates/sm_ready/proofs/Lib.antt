@@ -26,6 +26,7 @@ pub mod StepLaws
 pub mod ReachLaws
 pub mod FitLaws
 pub mod TakenLaws
+pub mod BesideLaws
 pub mod GoneLaws
 pub mod StrayLaws
 pub mod RepairLaws
@@ -38,6 +39,7 @@ pub mod AgainLaws
 pub mod LoadLaws
 pub mod NumberLaws
 pub mod BegunLaws
+pub mod BeginLaws
 pub mod NewLaws
 pub mod ChainLaws
 pub mod MakingLaws

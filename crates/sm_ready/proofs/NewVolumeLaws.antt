@@ -19,7 +19,7 @@ use Rattle.sm_standing.proofs.DisksShown.{row_of-In}
 use Rattle.sm_ready.specs.Known.{Known}
 use Rattle.sm_ready.specs.Orderly.{IsOrderly}
 use Rattle.sm_ready.specs.Repairs.{IsNewVolume}
-use Rattle.sm_ready.proofs.GoneLaws.{IsBeside}
+use Rattle.sm_ready.proofs.BesideLaws.{IsBeside}
 use Rattle.sm_ready.proofs.RowLaws.{found_in}
 
 -- ---- it may go
@@ -39,7 +39,7 @@ module _ {count : ℕ} {t : VolumeTable} {n : Name} (table : IsTable count t) (n
   pub may_remove : Permits count t (Remove n)
   may_remove = record { row = new.0; there = new.1; not_mgt = not_records }
 
-pub new_beside : {s : Site} {t : VolumeTable} {m : Known} (n : Name) (new : IsNewVolume t n) → IsOrderly s t m → IsBeside s t n new.0
+pub new_beside : {s : Site} {t : VolumeTable} {m : Known} (n : Name) (new : IsNewVolume t n) → IsOrderly s t m → IsBeside s t n new.0 (Remove n)
 new_beside {s} {t} {m} n new o =
     let at = row_of-In t.volumes n new.0 new.1 in
     record {

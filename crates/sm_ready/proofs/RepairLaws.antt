@@ -4,7 +4,6 @@ use Rattle.std.proofs.Common.{◌≡◌, inl, ℕ, ◌*◌, nat_lt, Bool, true, 
 use Rattle.std.proofs.Math.Path.{fun_ext}
 use Rattle.sm_base.specs.declared.names.Name.{Name}
 use Rattle.sm_base.specs.declared.names.Name.TheVariants.{Mgt}
-use Rattle.sm_base.specs.declared.operations.Op.TheVariants as op
 use Rattle.sm_disk.specs.Held.{Held, IsSettled, Keeps, reads}
 use Rattle.sm_disk.proofs.HeldLaws.{Keeps-then}
 use Rattle.vg_meta.specs.Changes.{applied}
@@ -28,7 +27,8 @@ use Rattle.sm_ready.specs.Ready.{IsReady}
 use Rattle.sm_ready.specs.Repairs.{IsSame}
 use Rattle.sm_ready.specs.Stores.{content_in, content_now}
 use Rattle.sm_ready.proofs.CommitLaws.{law_settled, rested, volume_rested}
-use Rattle.sm_ready.proofs.GoneLaws.{IsBeside, orderly_gone, ready_gone, disks_gone}
+use Rattle.sm_ready.proofs.BesideLaws.{IsBeside, disks_beside, orderly_beside, ready_beside}
+use Rattle.sm_ready.proofs.GoneLaws.{goes_alone}
 use Rattle.sm_ready.proofs.KeptLaws.{law_kept}
 use Rattle.sm_ready.proofs.LeftLaws.{IsLeft, image_quiet, left_in, left_now, ready_places}
 use Rattle.sm_ready.proofs.OperationLaws.{below_alike}
@@ -62,19 +62,19 @@ same_left s t area m image o ready settled left = record {
 
 -- ---- a new volume goes
 
-module _ (s : Site) (t : VolumeTable) (old : Held) (m : Known) (x : Name) (r : Row) (o : IsOrderly s t m) (ready : IsReady s t old m) (h : IsBeside s t x r) (idle : m.op ≡ op.Idle) where
+module _ (s : Site) (t : VolumeTable) (old : Held) (m : Known) (x : Name) (r : Row) (o : IsOrderly s t m) (ready : IsReady s t old m) (h : IsBeside s t x r (Remove x)) where
   -- after its commit
   pub gone_ready : (new : Held) → Keeps old new → IsSettled new → IsReady s (applied t (Remove x)) new m
-  gone_ready new keeps settled = subst (λ a. IsReady s (applied t (Remove x)) a m) (sym (rested old new keeps settled)) (ready_gone s t old m x r o ready h idle)
+  gone_ready new keeps settled = subst (λ a. IsReady s (applied t (Remove x)) a m) (sym (rested old new keeps settled)) (ready_beside s t old m x r (Remove x) o ready h (goes_alone o.table h))
 
   pub gone_disks : (new : Held) → Keeps old new → IsSettled new → disks (content_now s (applied t (Remove x)) new) ≡ disks (content_now s t old)
-  gone_disks new keeps settled = ap (λ a. disks (content_now s (applied t (Remove x)) a)) (rested old new keeps settled) ∙ disks_gone s t old m x r o ready h idle
+  gone_disks new keeps settled = ap (λ a. disks (content_now s (applied t (Remove x)) a)) (rested old new keeps settled) ∙ disks_beside s t old m x r (Remove x) o ready h (goes_alone o.table h)
 
   -- a stop behind it
   pub gone_stop : (v : VolumeTable) (image : ℕ → List ℕ) → IsAfter (area_size s) (applied t (Remove x)) old v image → IsSame (content_now s t old) (content_in s v image)
   gone_stop v image after =
-      let w = same_left s (applied t (Remove x)) (at_rest (reads old)) m image (orderly_gone s t m x r o h) (ready_gone s t old m x r o ready h idle) (λ p. refl) (λ p below. inl (after.sectors p below)) in
-      subst (λ l. IsSame (content_now s t old) (content_in s l image)) (sym after.table_is) (record { kept = w.kept; same_disks = w.same_disks ∙ disks_gone s t old m x r o ready h idle })
+      let w = same_left s (applied t (Remove x)) (at_rest (reads old)) m image (orderly_beside s t m x r (Remove x) o h (goes_alone o.table h)) (ready_beside s t old m x r (Remove x) o ready h (goes_alone o.table h)) (λ p. refl) (λ p below. inl (after.sectors p below)) in
+      subst (λ l. IsSame (content_now s t old) (content_in s l image)) (sym after.table_is) (record { kept = w.kept; same_disks = w.same_disks ∙ disks_beside s t old m x r (Remove x) o ready h (goes_alone o.table h) })
 
 -- ---- records of no disk are wiped, and a sync makes it last
 

@@ -16,7 +16,8 @@
 //! may leave while it is made, and that the store is ready behind it: a single commit (`CommitLaws`), a new volume beside the
 //! images (`FirstLaws`), its record (`MiddleLaws`), its mark taken away (`LastLaws`), an image that nobody uses (`RemoveLaws`),
 //! a guest's write into a VHD image (`GuestLaws`) and into a raw one (`RawGuestLaws`), both by what a stop leaves of the image
-//! (`StopLaws`), and that the store is ready behind it (`AfterLaws`).
+//! (`StopLaws`), and that the store is ready behind it (`AfterLaws`). A new volume beside the images goes, or gets more extents, and no
+//! disk changes (`GoneLaws`, `law_gone` and `law_grew`; both by `BesideLaws`, of any change of one new volume alone).
 //!
 //! For an opening, whatever kind its images have: the rows that are read off a table (`LoadLaws`) and the places of the
 //! records make memory that is orderly (`BegunLaws`); it is at rest again behind each repair (`AgainLaws`), where a volume
@@ -34,7 +35,8 @@
 //! refused, answered, accepted or stopped (`TakenLaws`), by the commands that are built or by all; what a stop leaves in a
 //! chain of calls of the store (`ChainLaws`), and what it shows at rest (`ShowLaws`); the image of the disk that a command
 //! names (`OwnLaws`); a command that makes all last and changes memory alone (`SyncLaws`, `UsedLaws`), and one that gives a
-//! disk another label (`LabelLaws`); an image and its disk's record made in two commits (`NewLaws`, `MakingLaws`), whatever
+//! disk another label (`LabelLaws`); a new volume for an image, and the place of its disk's record (`BeginLaws`); an image and
+//! its disk's record made in two commits (`NewLaws`, `MakingLaws`), whatever
 //! is attached and whatever operation runs (`OperationLaws`); a VHD image that was just made, which is steady and, without
 //! a parent, reads as zeros (`MadeLaws`); the machine's tables as maps of images (`MapLaws`); room for rows (`RoomLaws`,
 //! `RowRoomLaws`); what is asked of the visible image of a UUID (`ShownLaws`); a list in order with one element more
