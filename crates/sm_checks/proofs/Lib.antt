@@ -5,6 +5,7 @@ pub mod OpeningLaws
 pub mod LoadedLaws
 pub mod TableLaws
 pub mod EntryLaws
+pub mod EntryOrder
 pub mod KnownLaws
 pub mod ReadLaws
 pub mod FoundLaws

@@ -10,7 +10,8 @@ use Rattle.sm_base.specs.declared.faults.Place.TheVariants as at
 use Rattle.sm_base.specs.declared.names.Name.{Name}
 use Rattle.sm_base.specs.declared.names.Name.TheVariants.{Mgt, Vhd, Raw, Old, Clone, Inflate, Coalesce, Relink, Leaf}
 use Rattle.vg_meta.specs.Roomy.{RoomyRow, RoomyTable, table_alone}
-use Rattle.vg_meta.specs.Tables.{Row, name_eq}
+use Rattle.vg_meta.specs.Tables.{Row, VolumeTable, name_eq}
+use Rattle.vg_meta.proofs.NameLaws.{name_eq-other}
 use Rattle.common_laws.specs.Lists.{In}
 use Rattle.common_laws.proofs.Lists.{In-map}
 use Rattle.sm_machine.specs.Shapes.{ImageRow, parent_of, same_image, chain_limit}
@@ -25,7 +26,7 @@ use Rattle.sm_standing.specs.Entries.{is_hidden}
 use Rattle.sm_standing.specs.Outlines.{Link, Outline}
 use Rattle.sm_ready.specs.Known.{machine_row}
 use Rattle.sm_ready.specs.Outlined.{link_in}
-use Rattle.sm_checks.specs.Faults.{HasChildren, HasLinks, is_linked_in, is_misplaced_in, is_parent_right_in, tree_wrong_in}
+use Rattle.sm_checks.specs.Faults.{HasChildren, HasLinks, are_parents_hidden, has_hidden_parent, is_linked_in, is_misplaced_in, is_parent_right_in, tree_wrong_in}
 use Rattle.sm_checks.proofs.CheckLaws.{find_same, first_at, held_name}
 
 -- ---- by memory
@@ -222,3 +223,17 @@ module _ (xs : List TreeRow) (x : Outline) (links : HasLinks xs x) where
             let z = up y.0 p y.1 linked in
             let long = chain_step (suc k) n l is ∙ ap (λ o. suc (elim o as (λ _. ℕ) [ None ↦ 0 | Some q ↦ chain_length x (suc k) q ])) same in
             subst (λ o. EndsWithin k o (map machine_row xs)) (sym over) (rest p _ (links p ∙ ap link_in z.1) (omega (arith, long, short)))
+
+-- ---- visible images
+
+-- where all parents are hidden, an image that is not hidden has no children
+pub no_children : (t : VolumeTable) (xs : List TreeRow) (n : Name) → are_parents_hidden t xs ≡ true → is_hidden t n ≡ false → children_in xs n ≡ []
+no_children t [] n all seen = refl
+no_children t (x ∷ xs) n all seen =
+    let p = both_true (has_hidden_parent t x) (are_parents_hidden t xs) all in
+    let other : is_child_of n x ≡ false = by (parent_name x.image) p.0 in
+    rw other (no_children t xs n p.1 seen)
+  where
+    by : (o : Option Name) → elim o [ None ↦ true | Some p ↦ is_hidden t p ] ≡ true → elim o [ None ↦ false | Some q ↦ name_eq q n ] ≡ false
+    by None h = refl
+    by (Some q) h = name_eq-other q n (λ e. true≢false (sym h ∙ ap (is_hidden t) e ∙ seen))

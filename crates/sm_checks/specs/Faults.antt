@@ -1,7 +1,7 @@
 -- The checks of an opening, by what each of them looks at: the table with the sizes alone, the images in memory, or the
 -- places of the records beside the table.
 use Rattle.std.specs.Prelude.{◌≡◌, ◌⊎◌, ℕ, suc, Bool, true, false, ◌&&◌, ◌||◌, ◌==◌, not, nat_le, List, [], ◌∷◌, length, Option, Some, None, is_some, count_by, if◌then◌else◌}
-use Rattle.std.specs.List.{list_any, slice_get}
+use Rattle.std.specs.List.{list_all, list_any, slice_get}
 use Rattle.std.specs.Str.{bytes_eq}
 use Rattle.sm_base.specs.declared.faults.Place.{Place}
 use Rattle.sm_base.specs.declared.names.Name.{Name}
@@ -201,6 +201,13 @@ is_parent_right_in t xs size p = is_hidden t p && is_no_larger size (link_in (tr
 -- an image's parent is right where it has one
 abbrev pub is_linked_in : VolumeTable → List TreeRow → Body → Bool
 is_linked_in t xs image = elim (parent_name image) [ None ↦ true | Some p ↦ is_parent_right_in t xs (sector_count image) p ]
+
+-- whether an image's parent, where it has one, is there, not new and hidden, and whether that is so of all images in memory
+abbrev pub has_hidden_parent : VolumeTable → TreeRow → Bool
+has_hidden_parent t y = elim (parent_name y.image) [ None ↦ true | Some p ↦ is_hidden t p ]
+
+abbrev pub are_parents_hidden : VolumeTable → List TreeRow → Bool
+are_parents_hidden t xs = list_all (has_hidden_parent t) xs
 
 -- an image in memory that is linked wrongly, whose chain is too long, or that is visible and has children
 abbrev pub is_misplaced_in : VolumeTable → List TreeRow → Row → Option TreeRow → Bool

@@ -1,6 +1,8 @@
 //! The entries in a table, of each of the two groups: those of forks and of enlargements, and those of copies, of links and of leaves.
+//! They are sought among the entries alone, which stand behind all other volumes.
 
 ghost use Rattle.std.specs.Prelude.{◌≡◌, find, filter, position, slice_get};
+ghost use Rattle.sm_base.specs.Kinds.{is_entry};
 ghost use Rattle.std.specs.Option.{option_copied};
 ghost use Rattle.sm_standing.specs.Entries.{folding, head, is_folding, is_making, making, second};
 ghost use Rattle.vg_meta.specs.Roomy.{table_alone};
@@ -12,7 +14,7 @@ use vg_meta::{Table, Volume};
 pub fn entry_in(table: &Table) -> Option<Name>
     ensures { result ≡ head (making (table_alone table.now)) }
 {
-    let volume = first_making(table.volumes())?;
+    let volume = first_making(entries_of(table))?;
     Some(volume.name())
 }
 
@@ -20,7 +22,7 @@ pub fn entry_in(table: &Table) -> Option<Name>
 pub fn second_entry(table: &Table) -> Option<Name>
     ensures { result ≡ second (making (table_alone table.now)) }
 {
-    let volume = second_making(table.volumes())?;
+    let volume = second_making(entries_of(table))?;
     Some(volume.name())
 }
 
@@ -28,7 +30,7 @@ pub fn second_entry(table: &Table) -> Option<Name>
 pub fn folding_in(table: &Table) -> Option<Name>
     ensures { result ≡ head (folding (table_alone table.now)) }
 {
-    let volume = first_folding(table.volumes())?;
+    let volume = first_folding(entries_of(table))?;
     Some(volume.name())
 }
 
@@ -36,8 +38,17 @@ pub fn folding_in(table: &Table) -> Option<Name>
 pub fn second_folding_in(table: &Table) -> Option<Name>
     ensures { result ≡ second (folding (table_alone table.now)) }
 {
-    let volume = second_folding(table.volumes())?;
+    let volume = second_folding(entries_of(table))?;
     Some(volume.name())
+}
+
+/// The journal entries, behind all other volumes, by halving.
+fn entries_of(table: &Table) -> &[Volume]
+    ensures { result.now ≡ filter (λ v. is_entry v.row.name) table.now.rows }
+{
+    let volumes = table.volumes();
+    let first = volumes.partition_point(|volume| !volume.name().is_entry());
+    &volumes[first..]
 }
 
 fn second_making(volumes: &[Volume]) -> Option<&Volume>

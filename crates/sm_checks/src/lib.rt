@@ -21,9 +21,10 @@
 //! order of name, each once, with room for all that may come; one that is being enlarged is read in the extents that it had, since in
 //! those behind them anything may stand.
 //!
-//! **What it costs.** The checks go over the volumes once each, and twice where a volume looks for another, as each image looks for the
-//! entry under which it may lie; the check of trees goes over the images in memory once for each image of the chain of each VHD image,
-//! and three times more, and that of a fork's entry once. They read of each VHD image the footer, the header and the table, at most 3
+//! **What it costs.** The checks go over the volumes once each; where a volume looks for another, or an image for its parent, it is found by
+//! halving, and so are the entries, which stand behind all other volumes. The check of trees makes such a look-up for each image of the chain
+//! of each VHD image. It goes over the images in memory once, and once more for each visible image where some parent is not hidden; that of a
+//! fork's entry goes over them once. They read of each VHD image the footer, the header and the table, at most 3
 //! sectors and one for each 128 entries, and one more where the last sector holds no footer; and they go over the 512 places once for
 //! each disk. [`load`] takes the memory for the 500 images that the tree may come to have before it reads any, and then for each VHD image
 //! that of its map, 4 bytes an entry; nothing else takes any.

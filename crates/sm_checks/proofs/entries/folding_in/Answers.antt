@@ -1,12 +1,14 @@
-use Rattle.std.proofs.Common.{◌≡◌, None, Some, ap, rules}
+use Rattle.std.proofs.Common.{◌≡◌, None, Some, refl, ap, rules}
 use Rattle.sm_standing.specs.Entries.{is_folding}
 use Rattle.sm_checks.proofs.CheckLaws.{first_entry_at}
+use Rattle.sm_checks.proofs.EntryOrder.{first_among, folding_entries}
 use Rattle.sm_checks.proofs.entries.folding_in.Goals as goal
 
 pub returns-in_err-volume : goal.returns-in_err-volume
 returns-in_err-volume c =
     let none : c.from_residual.result ≡ None = search rules in
-    first_entry_at is_folding c.args.table.now c.volumes.ensures.volumes c.in_err-volume.ensures none
+    first_entry_at is_folding c.args.table.now refl (first_among is_folding c.args.table.now folding_entries c.entries_of.ensures c.in_err-volume.ensures) none
 
 pub returns : goal.returns
-returns c = first_entry_at is_folding c.args.table.now c.volumes.ensures.volumes c.in_ok-volume.ensures (ap Some c.name.ensures.name)
+returns c =
+    first_entry_at is_folding c.args.table.now refl (first_among is_folding c.args.table.now folding_entries c.entries_of.ensures c.in_ok-volume.ensures) (ap Some c.name.ensures.name)
