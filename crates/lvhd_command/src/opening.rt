@@ -11,6 +11,7 @@ ghost use Rattle.vg_layout.specs.Opening.{IsRefused, StandsOn, plate_of};
 ghost use Rattle.vg_volumes.specs.Commits.{IsBefore, current_version};
 ghost use Rattle.vg_store.specs.Groups.{GroupStands, LeavesGroup, area_of};
 ghost use Rattle.vg_store.specs.Openings.{IsAnswer};
+ghost use Rattle.sm_ready.specs.Sessions.{IsAtEase};
 ghost use Rattle.sm_ready.specs.Stores.{MayShow};
 ghost use Rattle.sm_recover.specs.Repairs.{UnlessDeviceFailed};
 ghost use Rattle.sm_run.specs.Runs.{BeginsSettled};
@@ -45,6 +46,7 @@ pub fn open<D: Disk>(
     ensures calm { IfOk result (λ s. D.faults s.store.inner.disk ≡ D.faults disk) }
     ensures whole { IfOk result (λ s. s.broken ≡ false) }
     ensures now { IfOk result (λ s. s.now ≡ now) }
+    ensures ease { IfOk result (λ s. IsAtEase s.memory) }
     ensures sound { IfOk result (λ s. D.told → IsSoundOn (D.size disk) (reads (D.held disk))) }
     ensures ready { IfOk result (λ s. D.told → HoldsWellOn (D.size disk) (reads (D.held disk)) → IsReadySession s) }
     ensures shown { IfOk result (λ s. D.told → HoldsWellOn (D.size disk) (reads (D.held disk))

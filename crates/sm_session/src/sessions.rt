@@ -15,7 +15,7 @@ ghost use Rattle.vg_volumes.specs.Stored.{OnlyReads, Leaves};
 ghost use Rattle.sm_ready.specs.Framing.{IsBetweenSteps};
 ghost use Rattle.sm_ready.specs.Known.{known, shape_in};
 ghost use Rattle.sm_ready.specs.Proper.{IsBetweenSteps-prop};
-ghost use Rattle.sm_ready.specs.Sessions.{IsReadyStore, KeepsAll, store_state};
+ghost use Rattle.sm_ready.specs.Sessions.{IsAtEase, IsReadyStore, KeepsAll, store_state};
 ghost use Rattle.sm_ready.specs.Stores.{MayShow, StoreLeaves, content_in, store_content};
 ghost use Rattle.sm_run.specs.Runs.{BeginsSettled};
 ghost use Rattle.sm_standing.specs.Checks.{first_fault};
@@ -79,6 +79,7 @@ impl<S: Store> Session<S> {
         ensures few { IfOk result (λ s. HasFewEnds (table_alone (S.table store)) (table_alone (S.table s.store))) }
         ensures whole { IfOk result (λ s. s.broken ≡ false) }
         ensures now { IfOk result (λ s. s.now ≡ now) }
+        ensures ease { IfOk result (λ s. IsAtEase s.memory) }
         ensures sound { IfOk result (λ s. S.told → first_fault (store_content S.Store store) ≡ None) }
         ensures ready { IfOk result (λ s. S.told → HoldsWell (store_content S.Store store) → IsReadyStore S.Store s.store s.memory) }
         ensures settled { IfOk result (λ s. S.told → IsSettled (S.area s.store)) }
