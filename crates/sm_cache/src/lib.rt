@@ -13,8 +13,8 @@
 //!
 //! **What a stop may leave.** What the store below may leave: its `leaves` is this one's.
 //!
-//! **What it costs.** A read of one sector is one look-up, a write one for each of its sectors; but where these are more than the entries,
-//! the entries are gone over first, and there are look-ups only where one of them is among these sectors. There is no call beside the one of
+//! **What it costs.** A read or a write of one sector takes at most two look-ups, a longer write one for each of its sectors; but where these are
+//! more than the entries, the entries are gone over first, and there are look-ups only where one of them is among these sectors. There is no call beside the one of
 //! the store below. `Cache::new` takes the room of the look-ups. A read that makes an entry takes some 600 bytes for it, and goes on without
 //! where there are none; no other call takes memory beside what the store below takes.
 #![tactic(auto)]
