@@ -2,7 +2,7 @@
 
 ghost use Rattle.std.specs.Prelude.{◌≡◌, [], ◌∷◌, ◌++◌, drop, length, take, false, true};
 ghost use Rattle.std.specs.List.{concat};
-ghost use Rattle.vhd_import.specs.declared.denials.Denial.TheVariants.{BadFile, BadSize, Cut, Differencing, NoSpace};
+ghost use Rattle.sm_base.specs.declared.refusals.Refusal.TheVariants.{BadFile, BadSize, Cut, Differencing, NoSpace};
 ghost use Rattle.vhd_import.specs.Verdicts.{Denied, Long, Made, imported, verdict, verdict_of};
 ghost use Rattle.examples_files.specs.SmallFiles.{small_disk, small_file, small_uuid};
 ghost use Rattle.examples_files.specs.TakenFiles.{differencing_file, fixed_file, half_table_file, in_table_file, moved_file, overlapping_file, plain_sector, short_table_file, small_target, table_of};

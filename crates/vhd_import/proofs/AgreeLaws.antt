@@ -17,8 +17,8 @@ use Rattle.vhd_layout.specs.Readings.{some_below}
 use Rattle.vhd_map.specs.Bitmaps.{is_set}
 use Rattle.vhd_map.specs.Places.{blank, word}
 use Rattle.vhd_stream.specs.Files.{File, FileLayout, entry, layout_of, sector_at, table_end}
-use Rattle.vhd_import.specs.declared.denials.Denial.{Denial}
-use Rattle.vhd_import.specs.declared.denials.Denial.TheVariants.{BadFile, BadSize, Differencing}
+use Rattle.sm_base.specs.declared.refusals.Refusal.{Refusal}
+use Rattle.sm_base.specs.declared.refusals.Refusal.TheVariants.{BadFile, BadSize, Differencing}
 use Rattle.vhd_import.specs.Heads.{any_header, exceeds, footer_at, header_at, is_dynamic, is_kind, lacks_entries, layout_at, size_at, without_parent}
 use Rattle.vhd_import.specs.Laws.{AgreeUpTo}
 use Rattle.vhd_import.specs.Puts.{Put, block_put, dynamic_put, fixed_put, has_sector, put_at}
@@ -33,7 +33,7 @@ same_cons a b xs ys h k = ap (λ x. x ∷ xs) h ∙ ap (λ zs. b ∷ zs) k
 
 -- ---- sectors in front of the table
 
-early-put : (file : File) (j : ℕ) → j < 4 → (layout_at file >>= (λ f. dynamic_put f file j)) ≡ None
+pub early-put : (file : File) (j : ℕ) → j < 4 → (layout_at file >>= (λ f. dynamic_put f file j)) ≡ None
 unfolding dynamic_put
 early-put file j early = by (layout_at file) refl
   where
@@ -44,7 +44,7 @@ early-put file j early = by (layout_at file) refl
         let e : nat_le (table_end f) j ≡ false = grind (arith, nat_tests) in
         rw e refl
 
-early-table : (file : File) (k : ℕ) → k < 3 → option_map_or (wrong_table file k) (layout_at file) None ≡ None
+pub early-table : (file : File) (k : ℕ) → k < 3 → option_map_or (wrong_table file k) (layout_at file) None ≡ None
 unfolding some_below
 early-table file k early = by (layout_at file) refl
   where
@@ -67,10 +67,10 @@ module _ (k : ℕ) (x y : File) (agree : AgreeUpTo k x y) where
   unfolding footer_at
   same-footer = ap (λ s. result_ok (footer_read s)) (agree 0 (omega arith))
 
-  same-kind : (kind : ℕ) → is_kind kind (footer_at x 0) ≡ is_kind kind (footer_at y 0)
+  pub same-kind : (kind : ℕ) → is_kind kind (footer_at x 0) ≡ is_kind kind (footer_at y 0)
   same-kind kind = ap (is_kind kind) same-footer
 
-  same-size : size_at x ≡ size_at y
+  pub same-size : size_at x ≡ size_at y
   unfolding size_at
   same-size = ap (λ (o : Option Footer). option_map_or (λ f. f.current / 512) o 0) same-footer
 
@@ -88,7 +88,7 @@ module _ (k : ℕ) (x y : File) (agree : AgreeUpTo k x y) where
       ap (λ (o : Option Footer). option_map_or (λ f. option_map_or (exceeds f) (any_header x) false) o false) same-footer
       ∙ ap (λ (o : Option Header). option_map_or (λ f. option_map_or (exceeds f) o false) (footer_at y 0) false) (same-any far)
 
-  same-layout : 2 ≤ k → layout_at x ≡ layout_at y
+  pub same-layout : 2 ≤ k → layout_at x ≡ layout_at y
   unfolding layout_at
   same-layout far =
       let ends : Footer → Header → Option FileLayout = λ a h. given (nat_le (layout_of a h).blocks h.entries) (layout_of a h) in
@@ -101,7 +101,7 @@ module _ (k : ℕ) (x y : File) (agree : AgreeUpTo k x y) where
   unfolding entry
   same-read f b within = ap (λ s. word s (b % 128)) (agree (f.table + b / 128) within)
 
-  same-entry : (f : FileLayout) (b : ℕ) → b < f.entries → table_end f ≤ k + 1 → entry f x b ≡ entry f y b
+  pub same-entry : (f : FileLayout) (b : ℕ) → b < f.entries → table_end f ≤ k + 1 → entry f x b ≡ entry f y b
   same-entry f b below end = same-read f b (omega (arith, entry-within f b below, end))
 
   same-wrong : (f : FileLayout) (b : ℕ) → f.table + b / 128 ≤ k → is_entry_wrong f x b ≡ is_entry_wrong f y b
@@ -112,7 +112,7 @@ module _ (k : ℕ) (x y : File) (agree : AgreeUpTo k x y) where
       ∙ ap (λ s. not (entry f y b == blank) && (nat_lt (entry f y b) (table_end f) || s))
       (some_below-same (λ c. clash (entry f x c) (entry f y b)) (λ c. clash (entry f y c) (entry f y b)) b (λ c less. ap (λ d. clash d (entry f y b)) (same-read f c (omega (arith, less, within)))))
 
-  same-table : (f : FileLayout) → f.blocks ≤ 128 * (k + 1 - f.table) → is_table_wrong f x ≡ is_table_wrong f y
+  pub same-table : (f : FileLayout) → f.blocks ≤ 128 * (k + 1 - f.table) → is_table_wrong f x ≡ is_table_wrong f y
   same-table f read = some_below-same (is_entry_wrong f x) (is_entry_wrong f y) f.blocks (λ b less. same-wrong f b (omega (arith, less, read)))
 
   -- ---- puts
@@ -185,7 +185,7 @@ module _ (k : ℕ) (x y : File) (agree : AgreeUpTo k x y) where
   unfolding lacks_space
   same-lacks t zero within = refl
   same-lacks t (suc i) within =
-      let room : ℕ → ℕ → Option Denial = λ a b. lacks (extents_for t b - extents_for t a) (t.free - extents_for t a) in
+      let room : ℕ → ℕ → Option Refusal = λ a b. lacks (extents_for t b - extents_for t a) (t.free - extents_for t a) in
       ap (λ a. room a (used t x (suc (suc i)))) (same-used t (suc i) (omega (arith, within)))
       ∙ ap (λ b. room (used t y (suc i)) b) (same-used t (suc (suc i)) (omega (arith, within)))
 
@@ -204,9 +204,9 @@ module _ (k : ℕ) (x y : File) (agree : AgreeUpTo k x y) where
   same-dynamic_denials : (t : Target) → dynamic_denials t x k ≡ dynamic_denials t y k
   unfolding dynamic_denials
   same-dynamic_denials t =
-      let short : Bool → Option Denial = λ b. given b (BadFile 0) in
-      let headless : Bool → Option Denial = λ b. given b (BadFile 1) in
-      let large : ℕ → Option Denial = λ n. given ((k == 0) && is_too_large t n) BadSize in
+      let short : Bool → Option Refusal = λ b. given b (BadFile 0) in
+      let headless : Bool → Option Refusal = λ b. given b (BadFile 1) in
+      let large : ℕ → Option Refusal = λ n. given ((k == 0) && is_too_large t n) BadSize in
       same_cons _ _ _ _ (ap short (from-two k (lacks_entries x) (lacks_entries y) same-exceeds))
       (same_cons _ _ _ _ (ap headless (from-two k (not (is_some (layout_at x))) (not (is_some (layout_at y))) (λ far. ap (λ (o : Option FileLayout). not (is_some o)) (same-layout far))))
       (same_cons _ _ _ _ same-wrong_table
@@ -216,8 +216,8 @@ module _ (k : ℕ) (x y : File) (agree : AgreeUpTo k x y) where
   same-fixed_denials : (t : Target) → fixed_denials t x k ≡ fixed_denials t y k
   unfolding fixed_denials
   same-fixed_denials t =
-      let differs : Bool → Option Denial = λ b. given ((k == 0) && b) Differencing in
-      same_cons _ _ _ _ (ap differs (same-kind 4)) (ap (λ (o : Option Denial). given (is_too_large t k) BadSize ∷ o ∷ []) (same-lacks t k (omega arith)))
+      let differs : Bool → Option Refusal = λ b. given ((k == 0) && b) Differencing in
+      same_cons _ _ _ _ (ap differs (same-kind 4)) (ap (λ (o : Option Refusal). given (is_too_large t k) BadSize ∷ o ∷ []) (same-lacks t k (omega arith)))
 
   pub same-denial : (t : Target) → denial_at t x k ≡ denial_at t y k
   same-denial t = ap (λ b. first_some (if b then dynamic_denials t x k else fixed_denials t x k)) (same-kind 3) ∙ by (is_dynamic y)

@@ -12,7 +12,7 @@ use Rattle.vhd_fields.specs.declared.headers.Header.{Header}
 use Rattle.vhd_fields.specs.Footers.{footer_read}
 use Rattle.vhd_fields.specs.Headers.{header_read}
 use Rattle.vhd_stream.specs.Files.{File, FileLayout, layout_of, sector_at}
-use Rattle.vhd_import.specs.declared.denials.Denial.TheVariants.{BadFile}
+use Rattle.sm_base.specs.declared.refusals.Refusal.TheVariants.{BadFile}
 use Rattle.vhd_import.specs.Heads.{any_header, exceeds, footer_at, header_at, is_dynamic, is_kind, lacks_entries, layout_at, size_at, without_parent}
 use Rattle.vhd_import.specs.Room.{Target}
 use Rattle.vhd_import.specs.Verdicts.{denial_at, dynamic_denials, is_footed}

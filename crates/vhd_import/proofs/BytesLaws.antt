@@ -16,13 +16,13 @@ pub length-joined : (file : File) → AllByRecursion (λ s. length s ≡ 512) fi
 length-joined [] whole = refl
 length-joined (s ∷ file) whole = omega (arith, length-append s (concat file), length-joined file whole.1, whole.0)
 
-take-front : (xs ys : List ℕ) (n : ℕ) → length xs ≡ n → take n (xs ++ ys) ≡ xs
+pub take-front : (xs ys : List ℕ) (n : ℕ) → length xs ≡ n → take n (xs ++ ys) ≡ xs
 take-front [] ys zero is = refl
 take-front [] ys (suc n) is = absurd (omega (arith, is))
 take-front (x ∷ xs) ys zero is = absurd (omega (arith, is))
 take-front (x ∷ xs) ys (suc n) is = ap (λ (l : List ℕ). x ∷ l) (take-front xs ys n (omega (arith, is)))
 
-drop-front : (xs ys : List ℕ) (n : ℕ) → length xs ≡ n → drop n (xs ++ ys) ≡ ys
+pub drop-front : (xs ys : List ℕ) (n : ℕ) → length xs ≡ n → drop n (xs ++ ys) ≡ ys
 drop-front [] ys zero is = refl
 drop-front [] ys (suc n) is = absurd (omega (arith, is))
 drop-front (x ∷ xs) ys zero is = absurd (omega (arith, is))

@@ -93,7 +93,7 @@ entries-enough file f is =
 
 -- ---- where the table stands
 
-passes : (ts : List (Bool × FieldFault)) → first_fault ts ≡ None → (t : Bool × FieldFault) → In t ts → t.0 ≡ true
+pub passes : (ts : List (Bool × FieldFault)) → first_fault ts ≡ None → (t : Bool × FieldFault) → In t ts → t.0 ≡ true
 passes [] h t i = absurd i
 passes (x ∷ ts) h t i = by (x.0) refl (λ e j. passes ts e t j) i
   where
@@ -102,7 +102,7 @@ passes (x ∷ ts) h t i = by (x.0) refl (λ e j. passes ts e t j) i
     by true is rest (inr j) = let e : first_fault ts ≡ None = rw is at h in rest e j
     by false is rest j = absurd (let e : Some x.1 ≡ None = rw is at h in cc e)
 
-read-fields : {A : Type 0} (o : Option FieldFault) (x y : A) → unless_fault o x ≡ Ok y → (o ≡ None) × (x ≡ y)
+pub read-fields : {A : Type 0} (o : Option FieldFault) (x y : A) → unless_fault o x ≡ Ok y → (o ≡ None) × (x ≡ y)
 read-fields None x y h = (refl, cc h)
 read-fields (Some e) x y h = absurd (cc h)
 

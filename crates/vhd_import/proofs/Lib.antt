@@ -4,12 +4,16 @@ pub mod BeginningLaws
 pub mod BytesLaws
 pub mod DiskLaws
 pub mod EntryLaws
+pub mod FilledLaws
+pub mod FixedLaws
+pub mod FrontLaws
 pub mod HeadLaws
 pub mod KeptLaws
 pub mod MadeLaws
 pub mod PutLaws
 pub mod ReadLaws
 pub mod RoomLaws
+pub mod SkipLaws
 pub mod StepLaws
 pub mod TableLaws
 pub mod TakenLaws

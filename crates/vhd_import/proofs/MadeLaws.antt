@@ -14,8 +14,8 @@ use Rattle.vhd_fields.specs.declared.faults.FieldFault.{FieldFault}
 use Rattle.vhd_fields.specs.declared.footers.Footer.{Footer}
 use Rattle.vhd_fields.specs.Footers.{footer_read}
 use Rattle.vhd_stream.specs.Files.{AreSectors, BeginsAsDynamic, File, FileLayout, IsDynamic, IsFixed, IsTable, file_sector, sector_at, table_end}
-use Rattle.vhd_import.specs.declared.denials.Denial.{Denial}
-use Rattle.vhd_import.specs.declared.denials.Denial.TheVariants.{BadFile, Cut, Differencing}
+use Rattle.sm_base.specs.declared.refusals.Refusal.{Refusal}
+use Rattle.sm_base.specs.declared.refusals.Refusal.TheVariants.{BadFile, Cut, Differencing}
 use Rattle.vhd_import.specs.Heads.{footer_at, is_dynamic, is_kind, layout_at, size_at}
 use Rattle.vhd_import.specs.Room.{Target}
 use Rattle.vhd_import.specs.Tables.{is_table_wrong}
@@ -30,7 +30,7 @@ pub record IsUndenied (t : Target) (file : File) : Type 0 where
   pub none : (k : ℕ) → k < length file → denial_at t file k ≡ None
   pub ended : denial_at_end file false ≡ None
 
-not_made : (d : Denial) (sectors : List (List ℕ)) → Denied d ≡ Made sectors → ⊥
+not_made : (d : Refusal) (sectors : List (List ℕ)) → Denied d ≡ Made sectors → ⊥
 not_made d sectors h = cc h
 
 not_long : (sectors : List (List ℕ)) → Long ≡ Made sectors → ⊥
@@ -39,15 +39,15 @@ not_long sectors h = cc h
 same_made : (a b : List (List ℕ)) → Made a ≡ Made b → a ≡ b
 same_made a b h = cc h
 
-end-of : File → Option Denial → Verdict
+end-of : File → Option Refusal → Verdict
 end-of file o = elim o [ Some d ↦ Denied d | None ↦ Made (sectors_of file) ]
 
-ended-made : (file : File) (inside : Bool) (sectors : List (List ℕ)) (o : Option Denial) → denial_at_end file inside ≡ o → ends_as file inside ≡ Made sectors → (denial_at_end file inside ≡ None) × (sectors ≡ sectors_of file)
+ended-made : (file : File) (inside : Bool) (sectors : List (List ℕ)) (o : Option Refusal) → denial_at_end file inside ≡ o → ends_as file inside ≡ Made sectors → (denial_at_end file inside ≡ None) × (sectors ≡ sectors_of file)
 unfolding end-of
 ended-made file inside sectors (Some d) is h = absurd (not_made d sectors (ap (end-of file) (sym is) ∙ h))
 ended-made file inside sectors None is h = (is, sym (same_made (sectors_of file) sectors (ap (end-of file) (sym is) ∙ h)))
 
-choice : (file : File) (inside past : Bool) → Option Denial → Verdict
+choice : (file : File) (inside past : Bool) → Option Refusal → Verdict
 choice file inside past o = elim o [ Some d ↦ Denied d | None ↦ if past then Long else ends_as file inside ]
 
 whole-ended : (file : File) (inside : Bool) → denial_at_end file inside ≡ None → inside ≡ false
@@ -62,7 +62,7 @@ pub record IsMade (t : Target) (file : File) (inside past : Bool) (sectors : Lis
   pub short : past ≡ false
   pub sectors_are : sectors ≡ sectors_of file
 
-chosen : (t : Target) (file : File) (inside past : Bool) (sectors : List (List ℕ)) (o : Option Denial) → first_some (map (denial_at t file) (numbers 0 (length file))) ≡ o → choice file inside past o ≡ Made sectors
+chosen : (t : Target) (file : File) (inside past : Bool) (sectors : List (List ℕ)) (o : Option Refusal) → first_some (map (denial_at t file) (numbers 0 (length file))) ≡ o → choice file inside past o ≡ Made sectors
     → IsMade t file inside past sectors
 unfolding choice
 chosen t file inside past sectors (Some d) is h = absurd (not_made d sectors h)
@@ -125,7 +125,7 @@ as-map n f sectors is = record {
   each = λ k less. ap (λ (l : List (List ℕ)). get_or l k []) is ∙ get_or-map-range_with_len f 0 n k k [] less (omega arith);
 }
 
-dynamic-holds : (t : Target) (file : File) (sectors : List (List ℕ)) → is_dynamic file ≡ true → IsUndenied t file → sectors ≡ sectors_of file → IsDynamic file sectors
+pub dynamic-holds : (t : Target) (file : File) (sectors : List (List ℕ)) → is_dynamic file ≡ true → IsUndenied t file → sectors ≡ sectors_of file → IsDynamic file sectors
 unfolding footer_at size_at
 dynamic-holds t file sectors dynamic u is =
     let kind = of-kind 3 (footer_at file 0) dynamic in
@@ -171,13 +171,13 @@ plain-of t file plain u begins =
     cc (sym n ∙ one))
     begins.kind
 
-record IsFooted (file : File) : Type 0 where
-  footer : Footer
-  reads : footer_at file (length file - 1) ≡ Some footer
-  kind : footer.kind ≡ 2
-  size : footer.current ≡ 512 * (length file - 1)
+pub record IsFooted (file : File) : Type 0 where
+  pub footer : Footer
+  pub reads : footer_at file (length file - 1) ≡ Some footer
+  pub kind : footer.kind ≡ 2
+  pub size : footer.current ≡ 512 * (length file - 1)
 
-footed : (file : File) → is_footed file ≡ true → IsFooted file
+pub footed : (file : File) → is_footed file ≡ true → IsFooted file
 unfolding is_footed
 footed file h = by (footer_at file (length file - 1)) refl
   where
@@ -188,7 +188,7 @@ footed file h = by (footer_at file (length file - 1)) refl
         let parts = and_parts (f.kind == 2) (f.current == 512 * (length file - 1)) e in
         record { footer = f; reads = is; kind = let k = parts.0 in grind (arith, nat_tests); size = let k = parts.1 in grind (arith, nat_tests) }
 
-fixed-holds : (t : Target) (file : File) (sectors : List (List ℕ)) → is_dynamic file ≡ false → IsUndenied t file → sectors ≡ sectors_of file → IsFixed file sectors
+pub fixed-holds : (t : Target) (file : File) (sectors : List (List ℕ)) → is_dynamic file ≡ false → IsUndenied t file → sectors ≡ sectors_of file → IsFixed file sectors
 unfolding denial_at_end footer_at
 fixed-holds t file sectors plain u is =
     let some = nonempty t file u in

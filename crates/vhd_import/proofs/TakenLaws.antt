@@ -15,8 +15,8 @@ use Rattle.sm_base.specs.Numbers.{div_up}
 use Rattle.sm_machine.specs.Disks.{cut_sectors}
 use Rattle.vhd_fields.specs.Footers.{footer_read, footer_tests}
 use Rattle.vhd_stream.specs.Files.{File, FileLayout, FileOf, IsCutInto, IsDynamic, IsFixed, file_sector, layout_of, sector_at, table_end}
-use Rattle.vhd_import.specs.declared.denials.Denial.{Denial}
-use Rattle.vhd_import.specs.declared.denials.Denial.TheVariants.{BadFile, BadSize, Differencing}
+use Rattle.sm_base.specs.declared.refusals.Refusal.{Refusal}
+use Rattle.sm_base.specs.declared.refusals.Refusal.TheVariants.{BadFile, BadSize, Differencing}
 use Rattle.vhd_import.specs.Heads.{footer_at, is_dynamic, is_kind, layout_at, size_at}
 use Rattle.vhd_import.specs.Laws.{HasRoomFor}
 use Rattle.vhd_import.specs.Room.{Target, is_too_large}
@@ -39,12 +39,12 @@ undenied-made t file sectors u is =
     let k = In-map (denial_at t file) (numbers 0 (length file)) o i in
     let n = In-numbers 0 (length file) k.0 k.1 in
     k.2 ∙ u.none k.0 (omega (arith, n.1))) in
-    let first : Option Denial → Verdict = λ o. elim o [ Some d ↦ Denied d | None ↦ ends_as file false ] in
-    let last : Option Denial → Verdict = λ o. elim o [ Some d ↦ Denied d | None ↦ Made (sectors_of file) ] in
+    let first : Option Refusal → Verdict = λ o. elim o [ Some d ↦ Denied d | None ↦ ends_as file false ] in
+    let last : Option Refusal → Verdict = λ o. elim o [ Some d ↦ Denied d | None ↦ Made (sectors_of file) ] in
     ap first none ∙ ap last u.ended ∙ ap Made is
 
 -- a test of one sector fails where what it asks fails
-not-asked : (a b : Bool) (d : Denial) → b ≡ false → given (a && b) d ≡ None
+pub not-asked : (a b : Bool) (d : Refusal) → b ≡ false → given (a && b) d ≡ None
 not-asked true b d is = rw is refl
 not-asked false b d is = refl
 
@@ -65,7 +65,7 @@ dynamic-none t file sectors d room k less =
     let none : first_some (dynamic_denials t file k) ≡ None = first_none (dynamic_denials t file k) (λ o i. each o i (not-asked (k == 2) _ (BadFile 0) (entries-enough file f w.layout)) (not-asked (k == 2) _ (BadFile 1) some) right (not-asked (k == 0) _ BadSize small) free) in
     rw w.dynamic none
   where
-    each : {a b c e r : Option Denial} (o : Option Denial) → In o (a ∷ b ∷ c ∷ e ∷ r ∷ []) → a ≡ None → b ≡ None → c ≡ None → e ≡ None → r ≡ None → o ≡ None
+    each : {a b c e r : Option Refusal} (o : Option Refusal) → In o (a ∷ b ∷ c ∷ e ∷ r ∷ []) → a ≡ None → b ≡ None → c ≡ None → e ≡ None → r ≡ None → o ≡ None
     each o (inl is) ha hb hc he hr = is ∙ ha
     each o (inr (inl is)) ha hb hc he hr = is ∙ hb
     each o (inr (inr (inl is))) ha hb hc he hr = is ∙ hc
@@ -103,7 +103,7 @@ fixed-none t file sectors d room k less =
     let none : first_some (fixed_denials t file k) ≡ None = first_none (fixed_denials t file k) (λ o i. each o i (not-asked (k == 0) _ Differencing same) (ap (λ b. given b BadSize) small) free) in
     rw plain none
   where
-    each : {a b c : Option Denial} (o : Option Denial) → In o (a ∷ b ∷ c ∷ []) → a ≡ None → b ≡ None → c ≡ None → o ≡ None
+    each : {a b c : Option Refusal} (o : Option Refusal) → In o (a ∷ b ∷ c ∷ []) → a ≡ None → b ≡ None → c ≡ None → o ≡ None
     each o (inl is) ha hb hc = is ∙ ha
     each o (inr (inl is)) ha hb hc = is ∙ hb
     each o (inr (inr (inl is))) ha hb hc = is ∙ hc

@@ -3,6 +3,8 @@ pub mod Beginnings
 pub mod Entries
 pub mod Heads
 pub mod Laws
+pub mod Making
+pub mod Progress
 pub mod Puts
 pub mod Reading
 pub mod Room

@@ -6,8 +6,8 @@ use Rattle.std.specs.Str.{bytes_eq}
 use Rattle.common_laws.specs.Lists.{given, numbers, ◌>>=◌}
 use Rattle.sm_base.specs.Numbers.{div_up, thin}
 use Rattle.sm_disk.specs.Sectors.{zeros}
-use Rattle.vhd_import.specs.declared.denials.Denial.{Denial}
-use Rattle.vhd_import.specs.declared.denials.Denial.TheVariants.{NoSpace}
+use Rattle.sm_base.specs.declared.refusals.Refusal.{Refusal}
+use Rattle.sm_base.specs.declared.refusals.Refusal.TheVariants.{NoSpace}
 use Rattle.vhd_stream.specs.Files.{File}
 use Rattle.vhd_import.specs.Puts.{Put, put_at}
 
@@ -39,12 +39,12 @@ abbrev pub extents_for : Target → ℕ → ℕ
 extents_for t slots = thin t.extent t.block t.entries slots
 
 -- more extents are needed than are free
-abbrev pub lacks : ℕ → ℕ → Option Denial
+abbrev pub lacks : ℕ → ℕ → Option Refusal
 lacks need free = given (nat_lt free need) (NoSpace need free)
 
 -- Sector k asks for more extents than are free: those of an image without slots once sector 0 was read, and those by which the slots
 -- that it fills make the image longer.
-unfoldable pub lacks_space : Target → File → ℕ → Option Denial
+unfoldable pub lacks_space : Target → File → ℕ → Option Refusal
 lacks_space t file zero = lacks (extents_for t 0) t.free
 lacks_space t file (suc k) =
     let old : ℕ = extents_for t (used t file (suc k)) in

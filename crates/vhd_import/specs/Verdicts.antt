@@ -10,8 +10,8 @@ use Rattle.sm_disk.specs.Sectors.{zeros}
 use Rattle.sm_machine.specs.Disks.{Disk, cut_sectors}
 use Rattle.vhd_layout.specs.Readings.{each_below}
 use Rattle.vhd_stream.specs.Files.{File, FileLayout, block_end, file_sector, sector_at, table_end}
-use Rattle.vhd_import.specs.declared.denials.Denial.{Denial}
-use Rattle.vhd_import.specs.declared.denials.Denial.TheVariants.{BadFile, BadSize, Cut, Differencing}
+use Rattle.sm_base.specs.declared.refusals.Refusal.{Refusal}
+use Rattle.sm_base.specs.declared.refusals.Refusal.TheVariants.{BadFile, BadSize, Cut, Differencing}
 use Rattle.vhd_import.specs.Heads.{footer_at, is_dynamic, is_kind, lacks_entries, layout_at, size_at}
 use Rattle.vhd_import.specs.Room.{Target, is_too_large, lacks_space}
 use Rattle.vhd_import.specs.Tables.{is_table_wrong, is_named}
@@ -23,12 +23,12 @@ abbrev pub read_up_to : ℕ → FileLayout → FileLayout
 read_up_to k f = record f { blocks = min f.blocks (128 * (k + 1 - f.table)) }
 
 -- an entry is wrong that stands in the table up to sector k
-abbrev pub wrong_table : File → ℕ → FileLayout → Option Denial
+abbrev pub wrong_table : File → ℕ → FileLayout → Option Refusal
 wrong_table file k f = given (is_table_wrong (read_up_to k f) file) (BadFile f.table)
 
 -- What sector k of a dynamic file may decide: that its table has too few entries, that it has no header without a parent, that the table is
 -- wrong, that the disk is too large, and that extents are wanting.
-unfoldable pub dynamic_denials : Target → File → ℕ → List (Option Denial)
+unfoldable pub dynamic_denials : Target → File → ℕ → List (Option Refusal)
 dynamic_denials t file k =
     given ((k == 2) && lacks_entries file) (BadFile 0)
     ∷ given ((k == 2) && not (is_some (layout_at file))) (BadFile 1)
@@ -39,7 +39,7 @@ dynamic_denials t file k =
 
 -- What sector k of any other file may decide: that it is a differencing one, that the disk is too large, of which k sectors are then known,
 -- and that extents are wanting.
-unfoldable pub fixed_denials : Target → File → ℕ → List (Option Denial)
+unfoldable pub fixed_denials : Target → File → ℕ → List (Option Refusal)
 fixed_denials t file k =
     given ((k == 0) && is_kind 4 (footer_at file 0)) Differencing
     ∷ given (is_too_large t k) BadSize
@@ -47,7 +47,7 @@ fixed_denials t file k =
     ∷ []
 
 -- why a file is not taken, where sector k decides it
-abbrev pub denial_at : Target → File → ℕ → Option Denial
+abbrev pub denial_at : Target → File → ℕ → Option Refusal
 denial_at t file k = first_some (if is_dynamic file then dynamic_denials t file k else fixed_denials t file k)
 
 -- ---- what the end decides
@@ -63,7 +63,7 @@ is_footed file = option_map_or (λ f. (f.kind == 2) && (f.current == 512 * (leng
 
 -- Why a file is not taken, where its end decides it: it ends inside a sector or has none, a dynamic one before its table or a block was
 -- whole; a fixed one has no footer at its end.
-unfoldable pub denial_at_end : File → Bool → Option Denial
+unfoldable pub denial_at_end : File → Bool → Option Refusal
 denial_at_end file inside =
     if inside || (length file == 0) then Some (Cut (length file))
     else if is_dynamic file then given (not (option_map_or (is_whole file) (layout_at file) false)) (Cut (length file))
@@ -74,7 +74,7 @@ denial_at_end file inside =
 -- what an import answers to a file: a disk with these sectors, a denial, or that it is longer than is read
 pub data Verdict : Type 0 where
   Made : List (List ℕ) → Verdict
-  Denied : Denial → Verdict
+  Denied : Refusal → Verdict
   Long : Verdict
 
 -- the sectors of the disk that a file holds

@@ -7,7 +7,7 @@ ghost use Rattle.vhd_import.specs.Heads.{is_dynamic, layout_at, size_at};
 ghost use Rattle.vhd_import.specs.Room.{Target, is_too_large as too_large};
 ghost use Rattle.vhd_import.specs.Verdicts.{denial_at, is_footed as footed};
 
-use crate::denials::Denial;
+use sm_base::Refusal;
 use vhd_fields::{Footer, Header};
 
 /// What the first sector of a file says.
@@ -47,22 +47,22 @@ pub fn beginning_of(first: &[u8; 512]) -> Beginning
 }
 
 /// The numbers of a dynamic file by the sectors of its disk and by its header, or why it is not taken.
-pub fn numbers_of(sectors: u64, header: &[u8; 1024]) -> Result<FileNumbers, Denial>
+pub fn numbers_of(sectors: u64, header: &[u8; 1024]) -> Result<FileNumbers, Refusal>
     ensures numbers { IfOk result (λ numbers. (file : File) → is_dynamic file ≡ true → size_at file ≡ sectors
         → sector_at file 1 ++ sector_at file 2 ≡ header.now → layout_at file ≡ Some (layout_by numbers)) }
     ensures denied { IfErr result (λ denial. (t : Target) (file : File) → is_dynamic file ≡ true → size_at file ≡ sectors
         → sector_at file 1 ++ sector_at file 2 ≡ header.now → denial_at t file 2 ≡ Some denial) }
 {
     let Ok(header) = Header::read(header) else {
-        return Err(Denial::BadFile { sector: 1 });
+        return Err(Refusal::BadFile { sector: 1 });
     };
     let block = header.block / 512;
     let blocks = sectors.div_ceil(u64::from(block));
     if blocks > u64::from(header.entries) {
-        return Err(Denial::BadFile { sector: 0 });
+        return Err(Refusal::BadFile { sector: 0 });
     }
     if header.parent.is_some() {
-        return Err(Denial::BadFile { sector: 1 });
+        return Err(Refusal::BadFile { sector: 1 });
     }
     Ok(FileNumbers {
         table: header.table_offset / 512,
