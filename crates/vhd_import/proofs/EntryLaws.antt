@@ -97,7 +97,7 @@ rising (e ∷ d ∷ es) h = (h 0 1 e (omega arith) (omega arith), rising (d ∷ 
 
 -- ---- entries that stand apart
 
-from-behind : (from long : ℕ) (es : List Entry) (d : Entry) → stand_apart from long es ≡ true → In d es → from ≤ d.place
+pub from-behind : (from long : ℕ) (es : List Entry) (d : Entry) → stand_apart from long es ≡ true → In d es → from ≤ d.place
 unfolding stand_apart
 from-behind from long [] d h i = absurd i
 from-behind from long (e ∷ es) d h (inl is) = let t = (and_parts (nat_le from e.place) _ h).0 in let low : from ≤ e.place = grind (arith, nat_tests) in omega (arith, low, ap place_of is)
@@ -167,7 +167,7 @@ module _ (f : FileLayout) (file : File) (es : List Entry) (same : IsPermutation 
   listed : List Entry
   listed = entries_from (entry f file) 0 f.blocks
 
-  entry-listed : (b : ℕ) → IsThere f file b → In (record { place = entry f file b; block = b }) es
+  pub entry-listed : (b : ℕ) → IsThere f file b → In (record { place = entry f file b; block = b }) es
   unfolding entries_from
   entry-listed b is =
       let e : Entry = record { place = entry f file b; block = b } in
@@ -175,7 +175,7 @@ module _ (f : FileLayout) (file : File) (es : List Entry) (same : IsPermutation 
       let g : entry_for (entry f file b) b ≡ Some e = ap (λ t. given t e) n in
       In-permutation (entries_from (entry f file) 0 f.blocks) es e same (given-In (λ c. entry_for (entry f file c) c) (numbers 0 f.blocks) b e (numbers-In 0 f.blocks b (omega arith) (omega (arith, is.below))) g)
 
-  listed-entry : (e : Entry) → In e es → IsThere f file e.block × (e.place ≡ entry f file e.block)
+  pub listed-entry : (e : Entry) → In e es → IsThere f file e.block × (e.place ≡ entry f file e.block)
   unfolding entries_from
   listed-entry e i =
       let j = In-permutation es (entries_from (entry f file) 0 f.blocks) e (IsPermutation-sym (entries_from (entry f file) 0 f.blocks) es same) i in

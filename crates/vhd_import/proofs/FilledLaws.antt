@@ -1,22 +1,22 @@
 -- What was put on a disk: its slots, and what its sectors hold.
-use Rattle.std.proofs.Common.{◌≡◌, ◌⊎◌, inl, inr, ⊎_elim, ℕ, zero, suc, ◌+◌, ◌-◌, ◌<◌, ◌≤◌, Bool, true, false, List, [], ◌∷◌, length, get_or, Option, Some, None, refl, sym, ap, ◌∙◌, arith, subst}
+use Rattle.std.proofs.Common.{◌≡◌, ◌⊎◌, inl, inr, ⊎_elim, ℕ, zero, suc, ◌-◌, ◌<◌, Bool, true, false, List, [], ◌∷◌, length, get_or, Option, Some, None, refl, sym, ap, ◌∙◌, arith}
 use Rattle.std.specs.Prelude.{◌==◌, nat_lt, if◌then◌else◌}
 use Rattle.std.specs.List.{cons_option, filter_map, list_any}
 use Rattle.std.proofs.lemmas.Bool.{cases_lt}
 use Rattle.std.proofs.lemmas.Bool.Decides.{nat_tests}
-use Rattle.std.proofs.lemmas.List.{get_or_default, get_or_past}
+use Rattle.std.proofs.lemmas.List.{get_or_default}
 use Rattle.common_laws.specs.Lists.{In, numbers, ◌>>=◌}
 use Rattle.common_laws.proofs.Lists.{In-numbers, numbers-In}
 use Rattle.common_laws.proofs.Options.{bind-some}
 use Rattle.sm_base.specs.declared.refusals.Refusal.{Refusal}
 use Rattle.sm_disk.specs.Sectors.{zeros}
-use Rattle.vhd_stream.specs.Files.{File, sector_at}
+use Rattle.vhd_stream.specs.Files.{File}
 use Rattle.vhd_import.specs.Making.{filled, put_lacks, slots_of}
 use Rattle.vhd_import.specs.Progress.{puts_of}
 use Rattle.vhd_import.specs.Puts.{Put, put_at}
 use Rattle.vhd_import.specs.Room.{Target, block_of, distinct_blocks, extents_for, filled_at, lacks, lacks_space, used}
 use Rattle.vhd_import.proofs.PutLaws.{IsOf, PutsOnly}
-use Rattle.vhd_import.proofs.TestLaws.{any-given, count_by-more, given-any, same_some}
+use Rattle.vhd_import.proofs.TestLaws.{any-given, count_by-more, given-any}
 
 -- ---- puts of a file
 

@@ -1,9 +1,7 @@
 -- A fixed file, sector by sector.
-use Rattle.std.proofs.Common.{◌≡◌, ◌⊎◌, inl, inr, ⊎_elim, ℕ, zero, suc, ◌+◌, ◌-◌, ◌*◌, ◌/◌, ◌%◌, ◌<◌, ◌≤◌, Bool, true, false, not, ◌&&◌, List, [], ◌∷◌, ◌++◌, length, get_or, take, Option, Some, None, Result, Ok, Err, refl, sym, ap, ◌∙◌, arith, subst}
+use Rattle.std.proofs.Common.{◌≡◌, inl, inr, ⊎_elim, ℕ, suc, ◌+◌, ◌-◌, ◌/◌, ◌%◌, ◌<◌, ◌≤◌, Bool, true, false, not, ◌&&◌, List, [], ◌∷◌, ◌++◌, length, take, Option, Some, None, Result, Ok, Err, refl, sym, ap, ◌∙◌, arith, subst}
 use Rattle.std.specs.Prelude.{◌==◌, IfErr, IfOk, OnOk, nat_lt, if◌then◌else◌}
 use Rattle.std.specs.List.{cons_option}
-use Rattle.std.specs.Option.{option_map_or}
-use Rattle.std.specs.Result.{result_ok}
 use Rattle.std.proofs.Math.ListN.{get_or-append}
 use Rattle.std.proofs.Math.Nat.{div-eq_of_lt, div-lt_iff_lt-mul}
 use Rattle.std.proofs.lemmas.Bool.{and_parts, cases_lt}
@@ -15,20 +13,18 @@ use Rattle.sm_base.specs.declared.refusals.Refusal.TheVariants.{BadFile, BadSize
 use Rattle.sm_base.specs.Numbers.{div_up}
 use Rattle.sm_disk.specs.Sectors.{zeros}
 use Rattle.sm_disk.specs.Streams.{Takes}
-use Rattle.sm_disk.proofs.StreamLaws.{Takes-none}
 use Rattle.sm_run.specs.Runs.{IsSpent}
 use Rattle.vhd_fields.specs.declared.faults.FieldFault.TheVariants.{Field}
 use Rattle.vhd_fields.specs.declared.footers.Footer.{Footer}
 use Rattle.vhd_fields.specs.Fields.{number_at}
 use Rattle.vhd_fields.specs.Footers.{footer_fault, footer_fields, footer_read, footer_tests, is_size}
-use Rattle.vhd_stream.specs.Files.{File, FileLayout, sector_at}
+use Rattle.vhd_stream.specs.Files.{File, sector_at}
 use Rattle.vhd_import.specs.declared.faults.ImportFault.{ImportFault}
 use Rattle.vhd_import.specs.declared.faults.ImportFault.TheVariants as fault
-use Rattle.vhd_import.specs.declared.heads.Beginning.{Beginning}
 use Rattle.vhd_import.specs.declared.heads.Beginning.TheVariants.{Other}
 use Rattle.vhd_import.specs.declared.reading.Part.TheVariants.{End}
 use Rattle.vhd_import.specs.Beginnings.{BeginsSo}
-use Rattle.vhd_import.specs.Heads.{footer_at, is_dynamic, is_kind, layout_at}
+use Rattle.vhd_import.specs.Heads.{footer_at, is_kind, layout_at}
 use Rattle.vhd_import.specs.Making.{HasAnsweredRoom, begin_lacks, filled, put_lacks}
 use Rattle.vhd_import.specs.Progress.{AreCounted, EndDenies, FaultSays, HasImported, HasNext, HasRead, IsMadeOf, puts_of}
 use Rattle.vhd_import.specs.Puts.{Put, dynamic_put, fixed_put, put_at}

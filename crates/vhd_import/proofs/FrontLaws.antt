@@ -1,7 +1,7 @@
 -- A file of which a front was read, and what is answered to it.
 use Rattle.std.proofs.Common.{◌≡◌, ⊎_elim, ℕ, zero, suc, ◌+◌, ◌-◌, ◌*◌, ◌/◌, ◌%◌, ◌<◌, ◌≤◌, Bool, true, false, List, [], ◌∷◌, ◌++◌, length, length-append, map, drop, take, Option, Some, None, Result, Err, refl, sym, ap, ◌∙◌, arith, subst, append_assoc}
 use Rattle.std.specs.Prelude.{All, IfErr, min, nat_lt, if◌then◌else◌}
-use Rattle.std.specs.List.{AllByRecursion, concat, cons_option, filter_map, list_any}
+use Rattle.std.specs.List.{AllByRecursion, concat, cons_option}
 use Rattle.std.proofs.lemmas.Bool.{cases_lt}
 use Rattle.std.proofs.lemmas.Bool.Decides.{nat_tests}
 use Rattle.std.proofs.lemmas.List.{append-nil, length-take}
@@ -98,8 +98,8 @@ first-at f k a (suc n) r none is low high = ⊎_elim
 answer : Target → File → Bool → Bool → Option Refusal → Verdict
 answer t file inside past o = elim o [ Some d ↦ Denied d | None ↦ if past then Long else ends_as file inside ]
 
--- the last of these sectors denies the file, and none before it does
-denied : (t : Target) (front : File) (rest : List ℕ) (k : ℕ) (r : Refusal) → All (λ s. length s ≡ 512) front → length front ≡ k + 1 → length front ≤ sector_limit
+-- one of these sectors denies the file, and none before it does
+denied : (t : Target) (front : File) (rest : List ℕ) (k : ℕ) (r : Refusal) → All (λ s. length s ≡ 512) front → k < length front → length front ≤ sector_limit
     → ((j : ℕ) → j < k → denial_at t front j ≡ None) → denial_at t front k ≡ Some r → verdict_of t (concat front ++ rest) ≡ Denied r
 unfolding verdict answer
 denied t front rest k r whole count few none is =
@@ -169,11 +169,11 @@ refused-says t (Some bytes) mid left front puts s r h long more takes is =
     let both = Takes-then (Some bytes) mid left (concat front) s h.takes takes in
     let here : bytes ≡ concat (front ++ s ∷ []) ++ both.0 = both.2 ∙ ap (λ (l : List ℕ). l ++ both.0) (sym (joined-more front s)) in
     subst (λ b. verdict_of t b ≡ Denied r) (sym here)
-    (denied t (front ++ s ∷ []) both.0 (length front) r (All-append (λ x. length x ≡ 512) front (s ∷ []) h.whole (All-cons (λ x. length x ≡ 512) s [] long (All-nil (λ x. length x ≡ 512)))) (count-more front s) (omega (arith, count-more front s, more))
+    (denied t (front ++ s ∷ []) both.0 (length front) r (All-append (λ x. length x ≡ 512) front (s ∷ []) h.whole (All-cons (λ x. length x ≡ 512) s [] long (All-nil (λ x. length x ≡ 512)))) (omega (arith, count-more front s)) (omega (arith, count-more front s, more))
     (λ j less. same-denial j (front ++ s ∷ []) front (agree-front front (s ∷ []) j less) t ∙ h.undenied j less) is)
 
--- the sector that was read last denies the file, and what it puts is not asked
-pub last-says : (t : Target) (had left : Option (List ℕ)) (front : File) (k : ℕ) (r : Refusal) → All (λ s. length s ≡ 512) front → length front ≡ k + 1 → length front ≤ sector_limit → Takes had (concat front) left
+-- a sector that was read denies the file, and none before it does
+pub last-says : (t : Target) (had left : Option (List ℕ)) (front : File) (k : ℕ) (r : Refusal) → All (λ s. length s ≡ 512) front → k < length front → length front ≤ sector_limit → Takes had (concat front) left
     → ((j : ℕ) → j < k → denial_at t front j ≡ None) → denial_at t front k ≡ Some r → FaultSays t had (fault.Refused r)
 last-says t None left front k r whole count few takes none is = tt
 last-says t (Some bytes) left front k r whole count few takes none is = subst (λ b. verdict_of t b ≡ Denied r) (sym takes.2) (denied t front takes.0 k r whole count few none is)

@@ -129,6 +129,20 @@ block-some bytes h reads =
     let low : 4096 ≤ n = let t : nat_le 4096 n ≡ true = (and_parts (is_power_of_two n) (nat_le 4096 n) (and_parts (is_power_of_two n && nat_le 4096 n) (nat_le n 2097152) good).0).1 in grind (arith, nat_tests) in
     omega (arith, low, at)
 
+-- where the table of a header may begin, how many entries it may have, and how long a block may be
+pub header-bounds : (bytes : List ℕ) (h : Header) → header_read bytes ≡ Ok h → (3 ≤ h.table_offset / 512) × (h.entries ≤ 1044480) × (h.block / 512 ≤ 4096)
+unfolding header_tests header_fields
+header-bounds bytes h reads =
+    let parts = read-fields (header_fault bytes) (header_fields bytes) h reads in
+    let many : is_entries (number_at 28 4 bytes) ≡ true = passes (header_tests bytes) parts.0 (is_entries (number_at 28 4 bytes), Field 28) (inr (inr (inr (inr (inl refl))))) in
+    let good : is_block (number_at 32 4 bytes) ≡ true = passes (header_tests bytes) parts.0 (is_block (number_at 32 4 bytes), Field 32) (inr (inr (inr (inr (inr (inl refl)))))) in
+    let count : number_at 28 4 bytes ≡ h.entries = ap (λ (x : Header). x.entries) parts.1 in
+    let long : number_at 32 4 bytes ≡ h.block = ap (λ (x : Header). x.block) parts.1 in
+    let few : number_at 28 4 bytes ≤ 1044480 = let t : nat_le (number_at 28 4 bytes) 1044480 ≡ true = (and_parts (nat_le 1 (number_at 28 4 bytes)) (nat_le (number_at 28 4 bytes) 1044480) many).1 in grind (arith, nat_tests) in
+    let short : number_at 32 4 bytes ≤ 2097152 = let t : nat_le (number_at 32 4 bytes) 2097152 ≡ true = (and_parts (is_power_of_two (number_at 32 4 bytes) && nat_le 4096 (number_at 32 4 bytes)) (nat_le (number_at 32 4 bytes) 2097152) good).1 in grind (arith, nat_tests) in
+    let behind = table-behind bytes h reads in
+    (omega (arith, behind.0), omega (arith, few, count), omega (arith, short, long))
+
 -- the table of a file begins behind its footer and header
 pub begin-behind : (file : File) (f : FileLayout) → layout_at file ≡ Some f → 3 ≤ f.table
 begin-behind file f is =

@@ -1,15 +1,22 @@
 pub mod AgreeLaws
 pub mod ApartLaws
 pub mod BeginningLaws
+pub mod BlockLaws
 pub mod BytesLaws
 pub mod DiskLaws
+pub mod DynamicLaws
+pub mod EndLaws
 pub mod EntryLaws
+pub mod FileLaws
 pub mod FilledLaws
 pub mod FixedLaws
 pub mod FrontLaws
 pub mod HeadLaws
+pub mod HeaderLaws
+pub mod InBlockLaws
 pub mod KeptLaws
 pub mod MadeLaws
+pub mod PlaceLaws
 pub mod PutLaws
 pub mod ReadLaws
 pub mod RoomLaws
@@ -18,3 +25,4 @@ pub mod StepLaws
 pub mod TableLaws
 pub mod TakenLaws
 pub mod TestLaws
+pub mod WalkLaws

@@ -119,7 +119,7 @@ table-passed t file k f dynamic at h last =
     let whole : min f.blocks (128 * (k + 1 - f.table)) ≡ f.blocks = omega (arith, (headed file f at).fits, last) in
     ap (λ n. is_table_wrong (record f { blocks = n }) file) (sym whole) ∙ not-given _ (BadFile f.table) right
 
-as-map : (n : ℕ) (f : ℕ → List ℕ) (sectors : List (List ℕ)) → sectors ≡ map f (range_with_len 0 n) → AreSectors n f sectors
+pub as-map : (n : ℕ) (f : ℕ → List ℕ) (sectors : List (List ℕ)) → sectors ≡ map f (range_with_len 0 n) → AreSectors n f sectors
 as-map n f sectors is = record {
   count = ap (λ (l : List (List ℕ)). length l) is ∙ length-map-range_with_len f 0 n;
   each = λ k less. ap (λ (l : List (List ℕ)). get_or l k []) is ∙ get_or-map-range_with_len f 0 n k k [] less (omega arith);

@@ -15,6 +15,7 @@ use Rattle.vhd_fields.specs.declared.footers.Footer.{Footer}
 use Rattle.vhd_map.specs.Bitmaps.{is_set}
 use Rattle.vhd_map.specs.Places.{blank}
 use Rattle.vhd_stream.specs.Files.{BeginsAsDynamic, File, FileLayout, IsDynamic, IsFixed, entry, file_sector, layout_of, sector_at, sector_in, table_end}
+use Rattle.vhd_import.specs.Blocks.{IsKnown}
 use Rattle.vhd_import.specs.Heads.{footer_at, is_dynamic, is_kind, layout_at, size_at}
 use Rattle.vhd_import.specs.Puts.{Put, block_put, dynamic_put, fixed_put, has_sector, put_at}
 use Rattle.vhd_import.specs.Tables.{is_named}
@@ -31,12 +32,6 @@ abbrev pub PutsOnly : File → List (List ℕ) → Type 0
 PutsOnly file sectors = (k : ℕ) (p : Put) → k < length file → put_at file k ≡ Some p → IsOf sectors p
 
 -- ---- a dynamic file
-
--- what a dynamic file says of itself
-pub record IsKnown (file : File) (f : FileLayout) (size : ℕ) : Type 0 where
-  pub dynamic : is_dynamic file ≡ true
-  pub layout : layout_at file ≡ Some f
-  pub sized : size_at file ≡ size
 
 pub known : (file : File) (sectors : List (List ℕ)) → (d : IsDynamic file sectors) → IsKnown file (layout_of d.footer d.header) (d.footer.current / 512)
 unfolding footer_at size_at

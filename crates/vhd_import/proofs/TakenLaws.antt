@@ -14,13 +14,12 @@ use Rattle.vhd_fields.specs.declared.footers.Footer.{Footer}
 use Rattle.sm_base.specs.Numbers.{div_up}
 use Rattle.sm_machine.specs.Disks.{cut_sectors}
 use Rattle.vhd_fields.specs.Footers.{footer_read, footer_tests}
-use Rattle.vhd_stream.specs.Files.{File, FileLayout, FileOf, IsCutInto, IsDynamic, IsFixed, file_sector, layout_of, sector_at, table_end}
+use Rattle.vhd_stream.specs.Files.{File, FileLayout, FileOf, IsCutInto, IsDynamic, IsFixed, file_sector, layout_of, sector_at}
 use Rattle.sm_base.specs.declared.refusals.Refusal.{Refusal}
 use Rattle.sm_base.specs.declared.refusals.Refusal.TheVariants.{BadFile, BadSize, Differencing}
 use Rattle.vhd_import.specs.Heads.{footer_at, is_dynamic, is_kind, layout_at, size_at}
 use Rattle.vhd_import.specs.Laws.{HasRoomFor}
 use Rattle.vhd_import.specs.Room.{Target, is_too_large}
-use Rattle.vhd_import.specs.Tables.{is_table_wrong}
 use Rattle.vhd_import.specs.Verdicts.{Denied, Made, Verdict, denial_at, denial_at_end, dynamic_denials, ends_as, fixed_denials, is_footed, is_whole, sector_limit, sectors_of, verdict, verdict_of, wrong_table}
 use Rattle.vhd_import.proofs.BytesLaws.{are-cut, cut-is, cut-joined, length-joined}
 use Rattle.vhd_import.proofs.HeadLaws.{end-of-header, entries-enough}

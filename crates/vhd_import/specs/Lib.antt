@@ -1,5 +1,7 @@
 pub mod Apart
 pub mod Beginnings
+pub mod Blocks
+pub mod Dynamics
 pub mod Entries
 pub mod Heads
 pub mod Laws

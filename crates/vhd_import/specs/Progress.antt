@@ -1,5 +1,5 @@
 -- How far an import has come: the sectors of a file that were read, what was put on the disk, and what its faults say of the file.
-use Rattle.std.specs.Prelude.{◌≡◌, ℕ, zero, suc, ◌+◌, ◌<◌, ◌≤◌, Bool, false, List, [], ◌++◌, length, take, All, IfErr, IfOk, IfSome, OnOk, Option, None, Some, Result, ⊤, slice_index_or}
+use Rattle.std.specs.Prelude.{◌≡◌, ℕ, zero, suc, ◌<◌, ◌≤◌, Bool, List, [], ◌++◌, length, take, All, IfErr, IfOk, IfSome, OnOk, Option, None, Some, Result, ⊤, slice_index_or}
 use Rattle.std.specs.List.{concat, cons_option}
 use Rattle.sm_base.specs.declared.refusals.Refusal.TheVariants.{Cut}
 use Rattle.sm_disk.specs.Held.{Rose}

@@ -1,6 +1,6 @@
 //! What the first sectors and the last one of a file say.
 
-ghost use Rattle.std.specs.Prelude.{◌≡◌, ◌+◌, ◌^◌, ◌<◌, ℕ, List, ◌∷◌, ◌++◌, length, IfErr, IfOk, Some, true};
+ghost use Rattle.std.specs.Prelude.{◌≡◌, ◌+◌, ◌^◌, ◌<◌, ◌≤◌, ℕ, List, ◌∷◌, ◌++◌, length, IfErr, IfOk, Some, true};
 ghost use Rattle.vhd_stream.specs.Files.{File, sector_at};
 ghost use Rattle.vhd_import.specs.Beginnings.{BeginsSo, layout_by};
 ghost use Rattle.vhd_import.specs.Heads.{is_dynamic, layout_at, size_at};
@@ -52,6 +52,7 @@ pub fn numbers_of(sectors: u64, header: &[u8; 1024]) -> Result<FileNumbers, Refu
         → sector_at file 1 ++ sector_at file 2 ≡ header.now → layout_at file ≡ Some (layout_by numbers)) }
     ensures denied { IfErr result (λ denial. (t : Target) (file : File) → is_dynamic file ≡ true → size_at file ≡ sectors
         → sector_at file 1 ++ sector_at file 2 ≡ header.now → denial_at t file 2 ≡ Some denial) }
+    ensures bounds { IfOk result (λ n. (3 ≤ n.table) × (n.entries ≤ 1044480) × (n.blocks ≤ n.entries) × (n.block ≤ 4096)) }
 {
     let Ok(header) = Header::read(header) else {
         return Err(Refusal::BadFile { sector: 1 });

@@ -138,6 +138,7 @@ fn stand_apart(entries: &[Entry], end: u64, block: u32) -> bool
 pub fn sort_entries(entries: &mut Vec<Entry>, end: u64, block: u32) -> bool
     ensures same { IsPermutation entries.old.items entries.new.items }
     ensures sorted { IsNonDecreasingBy (λ e. e.place) entries.new.items }
+    ensures stands { result ≡ apart_of end (1 + block) entries.new.items }
     ensures right { (f : FileLayout) (file : File) → table_end f ≡ end → f.block ≡ block
         → entries.old.items ≡ entries_from (entry_of f file) 0 f.blocks → result ≡ not (is_table_wrong f file) }
 {

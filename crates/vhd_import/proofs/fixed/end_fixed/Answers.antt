@@ -1,6 +1,6 @@
-use Rattle.std.proofs.Common.{◌≡◌, ◌+◌, ◌-◌, ◌<◌, refl, sym, ap, ◌∙◌, arith, subst}
+use Rattle.std.proofs.Common.{◌-◌, refl, sym, ◌∙◌, arith, subst}
 use Rattle.std.specs.Prelude.{nat_lt}
-use Rattle.vhd_import.specs.Progress.{AreCounted, EndDenies, FaultCounts}
+use Rattle.vhd_import.specs.Progress.{EndDenies, FaultCounts}
 use Rattle.vhd_import.proofs.FixedLaws.{bad-end, cut-end, made-end, some-end}
 use Rattle.vhd_import.proofs.fixed.end_fixed.Goals as goal
 

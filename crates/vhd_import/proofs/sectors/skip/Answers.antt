@@ -1,4 +1,4 @@
-use Rattle.std.proofs.Common.{◌≡◌, ◌++◌, Err, refl, sym, ◌∙◌, arith, rules}
+use Rattle.std.proofs.Common.{◌≡◌, ◌++◌, Err, refl, ◌∙◌, arith, rules}
 use Rattle.vhd_import.proofs.FrontLaws.{counts-err, says-err}
 use Rattle.vhd_import.proofs.SkipLaws.{more-skipped}
 use Rattle.vhd_import.proofs.sectors.skip.Goals as goal

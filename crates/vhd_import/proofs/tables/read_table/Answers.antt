@@ -1,4 +1,4 @@
-use Rattle.std.proofs.Common.{◌≡◌, ◌+◌, ◌<◌, Ok, length, take, arith, refl, subst}
+use Rattle.std.proofs.Common.{◌<◌, Ok, length, take, arith, refl, subst}
 use Rattle.std.proofs.lemmas.List.{length-take}
 use Rattle.sm_base.specs.Numbers.{div_up}
 use Rattle.vhd_import.specs.Reading.{HasReadSector}

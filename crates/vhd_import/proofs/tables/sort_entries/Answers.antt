@@ -11,6 +11,9 @@ use Rattle.vhd_import.proofs.tables.sort_entries.Goals as goal
 pub returns-clause-sorted : goal.returns-clause-sorted
 returns-clause-sorted c = IsNonDecreasingBy-from_sort_by_key (λ (e : Entry). e.place) _ c.sort_unstable_by_key.ensures.sorted (λ a r q k. search rules)
 
+pub returns-clause-stands : goal.returns-clause-stands
+returns-clause-stands c = c.stand_apart.ensures ∙ ap (stand_apart c.args.end (1 + c.args.block)) c.deref.ensures.value
+
 pub returns-clause-right : goal.returns-clause-right
 returns-clause-right c = λ f file end block listed.
     let sorted : IsNonDecreasingBy (λ (e : Entry). e.place) c.sort_unstable_by_key.new.self.items = IsNonDecreasingBy-from_sort_by_key (λ (e : Entry). e.place) _ c.sort_unstable_by_key.ensures.sorted (λ a r q k. search rules) in

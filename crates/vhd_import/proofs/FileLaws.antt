@@ -1,0 +1,68 @@
+-- The first sector of a file, and what is answered where it decides.
+use Rattle.std.proofs.Common.{◌≡◌, inl, inr, ℕ, ◌/◌, ◌%◌, ◌<◌, Bool, true, false, not, ◌&&◌, List, [], ◌∷◌, length, Option, Some, Ok, refl, sym, ap, ◌∙◌, arith}
+use Rattle.std.specs.Prelude.{◌==◌}
+use Rattle.std.specs.Option.{option_map_or}
+use Rattle.std.proofs.lemmas.Bool.{and_parts}
+use Rattle.std.proofs.lemmas.Bool.Decides.{nat_tests}
+use Rattle.common_laws.specs.Lists.{first_some, given}
+use Rattle.sm_base.specs.declared.refusals.Refusal.{Refusal}
+use Rattle.sm_base.specs.declared.refusals.Refusal.TheVariants.{Cut, Differencing as Differs}
+use Rattle.sm_disk.specs.Streams.{Takes}
+use Rattle.vhd_fields.specs.declared.faults.FieldFault.TheVariants.{Field}
+use Rattle.vhd_fields.specs.declared.footers.Footer.{Footer}
+use Rattle.vhd_fields.specs.Fields.{number_at}
+use Rattle.vhd_fields.specs.Footers.{footer_fault, footer_fields, footer_read, footer_tests, is_size}
+use Rattle.vhd_stream.specs.Files.{File, sector_at}
+use Rattle.vhd_import.specs.declared.faults.ImportFault.TheVariants as fault
+use Rattle.vhd_import.specs.declared.heads.Beginning.TheVariants.{Differencing, Dynamic}
+use Rattle.vhd_import.specs.Beginnings.{BeginsSo}
+use Rattle.vhd_import.specs.Heads.{footer_at, is_kind, size_at}
+use Rattle.vhd_import.specs.Progress.{FaultSays}
+use Rattle.vhd_import.specs.Room.{Target}
+use Rattle.vhd_import.specs.Verdicts.{denial_at, denial_at_end, fixed_denials}
+use Rattle.vhd_import.proofs.FrontLaws.{none-read, refused-says}
+use Rattle.vhd_import.proofs.HeadLaws.{of-kind, passes, read-fields}
+use Rattle.vhd_import.proofs.TestLaws.{read-ok}
+
+-- a file without sectors is cut
+pub open-none : (inside : Bool) → denial_at_end [] inside ≡ Some (Cut 0)
+unfolding denial_at_end
+open-none true = refl
+open-none false = refl
+
+-- a differencing file is denied by its first sector
+first-of-three : (a b c : Option Refusal) (r : Refusal) → a ≡ Some r → first_some (a ∷ b ∷ c ∷ []) ≡ Some r
+first-of-three a b c r is = rw is refl
+
+differs-denial : (t : Target) (file : File) → BeginsSo Differencing file → denial_at t file 0 ≡ Some Differs
+unfolding fixed_denials
+differs-denial t file begins =
+    let differs : given ((0 == 0) && is_kind 4 (footer_at file 0)) Differs ≡ Some Differs = ap (λ b. given ((0 == 0) && b) Differs) begins.1 in
+    rw begins.0 (first-of-three _ _ _ Differs differs)
+
+pub differencing-says : (t : Target) (had left : Option (List ℕ)) (first : List ℕ) → length first ≡ 512 → BeginsSo Differencing (first ∷ []) → Takes had first left → FaultSays t had (fault.Refused Differs)
+differencing-says t had left first full begins takes = refused-says t had had left [] [] first Differs (none-read t had) full (omega arith) takes (differs-denial t (first ∷ []) begins)
+
+-- ---- a footer says some sectors
+
+some-size : (bytes : List ℕ) (f : Footer) → footer_read bytes ≡ Ok f → 0 < f.current / 512
+unfolding footer_tests footer_fields
+some-size bytes f reads =
+    let parts = read-fields (footer_fault bytes) (footer_fields bytes) f reads in
+    let n : ℕ = number_at 48 8 bytes in
+    let good : is_size n ≡ true = passes (footer_tests bytes) parts.0 (is_size n, Field 48) (inr (inr (inr (inr (inl refl))))) in
+    let at : n ≡ f.current = ap (λ (x : Footer). x.current) parts.1 in
+    let both = and_parts (n % 512 == 0) (not (n == 0)) good in
+    let whole : n % 512 ≡ 0 = let t : (n % 512 == 0) ≡ true = both.0 in grind (arith, nat_tests) in
+    let more : 0 < n = let t : not (n == 0) ≡ true = both.1 in grind (arith, nat_tests) in
+    omega (arith, more, whole, at)
+
+-- so a dynamic file holds a disk of some
+pub some-dynamic : (file : File) (n : ℕ) → BeginsSo (Dynamic n) file → 0 < n
+unfolding footer_at size_at
+some-dynamic file n begins =
+    let f = of-kind 3 (footer_at file 0) begins.0 in
+    let reads = read-ok (footer_read (sector_at file 0)) f.0 f.1 in
+    let some = some-size (sector_at file 0) f.0 reads in
+    let sized : f.0.current / 512 ≡ n = ap (λ (o : Option Footer). option_map_or (λ x. x.current / 512) o 0) (sym f.1) ∙ begins.1 in
+    omega (arith, some, sized)
