@@ -261,7 +261,7 @@ impl Filling {
     }
 
     /// Writes the page, and head and table of an image without a parent with what was put: so many sectors, a whole number of
-    /// blocks, made `now`, in seconds since the beginning of the year 2000. Nothing is synced.
+    /// blocks, made `now`, in seconds since the beginning of the year 2000. It makes no sync, which no clause says.
     ///
     /// # Errors
     ///

@@ -16,7 +16,8 @@ use sm_disk::Source;
 use std::alloc::Global;
 
 /// Reads a VHD file once, from its begin to its end, into a new disk of a repository with so many sectors a block, of whose tables each has
-/// so many entries. It answers the sectors of the disk. What its first sector refuses comes before the disk has a volume.
+/// so many entries. It answers the sectors of the disk. Where its first sector is refused the disk has no volume yet, which no clause says; nor does
+/// one say which bytes were put, but only what the disk then holds.
 pub fn read_file<S: Source, N: NewDisk>(
     alloc: Global,
     entries: u32,
