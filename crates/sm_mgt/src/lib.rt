@@ -11,14 +11,17 @@
 //! store, and `load` changes nothing of the whole device.
 //!
 //! `load` takes memory for the places, and reads the 512 sectors once. No other call takes memory; `put` looks
-//! at each place at most twice, and the others once.
+//! at each place at most twice, and the others once. Where the records of many UUIDs are counted, [`UuidCounts`] sorts
+//! the UUIDs once and finds each by halving.
 //!
-//! The definitions are in `specs/`: `Places`.
+//! The definitions are in `specs/`: `Places`, and `Counts` for the UUIDs in order.
 #![tactic(auto)]
 
 mod agreement;
+mod counts;
 mod management;
 
 pub use agreement::laws;
+pub use counts::UuidCounts;
 pub use management::Mgt;
 pub use sm_record::Record;

@@ -14,6 +14,7 @@ ghost use Rattle.sm_record.specs.declared.records.Reading.TheVariants.{Damaged};
 ghost use Rattle.vg_volumes.specs.Stored.{OnlyReads, Writes, Counts, Faults};
 ghost use Rattle.sm_mgt.specs.Places.{HasAllPlaces, records_of, ReadsAsPlaces, IsDamagedFirst, ArePlaces, IsProperPlace, as_reading, place_count, Agrees, IsFirstDamaged, is_of, place_for, record_in, HasRecordAt, cleared, TornZeros, WroteZeros};
 
+use crate::counts::UuidCounts;
 use sm_base::{Failed, Name, OpenFault, Place};
 use sm_record::{Reading, Record};
 use std::alloc::Global;
@@ -191,6 +192,13 @@ impl Mgt {
         ensures { result ≡ count_by (is_of uuid.now) self.now }
     {
         count_of(&self.places, uuid)
+    }
+
+    /// The records with their UUIDs in order, to count those of many UUIDs. It sorts 512 UUIDs in place, and takes no memory.
+    pub fn uuid_counts(&self) -> UuidCounts<'_>
+        ensures { result ≡ self.now }
+    {
+        UuidCounts::of(&self.places)
     }
 
     /// The record in this place, where one is.

@@ -1,0 +1,13 @@
+use Rattle.std.proofs.Common.{rules, sym}
+use Rattle.std.proofs.lemmas.List.Sorted.{IsPartitionPoint-from_clause}
+use Rattle.std.specs.Ordering.{is_lt}
+use Rattle.sm_mgt.specs.Counts.{uuid_order}
+use Rattle.sm_mgt.proofs.CountLaws.{parted_before, point_counts}
+use Rattle.sm_mgt.proofs.counts.count_before.Goals as goal
+
+pub returns : goal.returns
+returns c =
+    let u = c.args.uuid.now in
+    let us = c.args.uuids.now in
+    sym (point_counts (λ v. is_lt (uuid_order v u)) us c.partition_point.result c.partition_point.ensures.bound
+    (IsPartitionPoint-from_clause (λ v. is_lt (uuid_order v u)) us _ c.partition_point.ensures.partitioned (parted_before u us c.requires.sorted) (λ a r q k. search rules)))
