@@ -27,7 +27,7 @@ abbrev pub held_name : Option RoomyRow → Option Name
 held_name None = None
 held_name (Some h) = Some h.row.name
 
-held_first : (test : Row → Bool) (hs : List RoomyRow) → first_name test (rows_alone hs) ≡ held_name (find (λ h. test h.row) hs)
+pub held_first : (test : Row → Bool) (hs : List RoomyRow) → first_name test (rows_alone hs) ≡ held_name (find (λ h. test h.row) hs)
 unfolding first_name
 held_first test [] = refl
 held_first test (h ∷ hs) = by (test h.row) (held_first test hs)

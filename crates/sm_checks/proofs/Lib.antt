@@ -11,3 +11,4 @@ pub mod ReadLaws
 pub mod FoundLaws
 pub mod TreeLaws
 pub mod TurnLaws
+pub mod ParentLaws

@@ -32,7 +32,7 @@ In-right [] ys x i = i
 In-right (y ∷ xs) ys x i = inr (In-right xs ys x i)
 
 -- a list of which an element is known
-not_empty : {A : Type 0} (xs : List A) (x : A) → In x xs → (length xs == 0) ≡ false
+pub not_empty : {A : Type 0} (xs : List A) (x : A) → In x xs → (length xs == 0) ≡ false
 not_empty [] x i = absurd i
 not_empty {A} (y ∷ xs) x i = ne_eqb (length (y ∷ xs)) 0 (λ e. absurd (omega (arith, e)))
 

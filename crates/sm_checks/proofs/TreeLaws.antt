@@ -1,17 +1,14 @@
 -- The check of trees: what it says by the images in memory, and that where it passes each parent is in memory, and each chain
 -- ends.
 use Rattle.std.proofs.Common.{◌≡◌, inl, inr, ℕ, zero, suc, ◌≤◌, Bool, true, false, cond, not, ◌&&◌, ◌||◌, ◌==◌, List, [], ◌∷◌, length, map, filter, Option, Some, None, refl, sym, ap, ap₂, ◌∙◌, subst, arith, nat_le}
-use Rattle.std.specs.List.{cons_option, filter_map, find}
+use Rattle.std.specs.List.{cons_option, filter_map}
 use Rattle.std.proofs.lemmas.Bool.{true≢false, leb-true}
 use Rattle.std.proofs.lemmas.Option.{same_Some}
 use Rattle.common_laws.proofs.Booleans.{not_false}
-use Rattle.sm_base.specs.declared.faults.Place.{Place}
 use Rattle.sm_base.specs.declared.faults.Place.TheVariants as at
 use Rattle.sm_base.specs.declared.names.Name.{Name}
 use Rattle.sm_base.specs.declared.names.Name.TheVariants.{Mgt, Vhd, Raw, Old, Clone, Inflate, Coalesce, Relink, Leaf}
-use Rattle.vg_meta.specs.Roomy.{RoomyRow, RoomyTable, table_alone}
-use Rattle.vg_meta.specs.Tables.{Row, VolumeTable, name_eq}
-use Rattle.vg_meta.proofs.NameLaws.{name_eq-other}
+use Rattle.vg_meta.specs.Tables.{Row, name_eq}
 use Rattle.common_laws.specs.Lists.{In}
 use Rattle.common_laws.proofs.Lists.{In-map}
 use Rattle.sm_machine.specs.Shapes.{ImageRow, parent_of, same_image, chain_limit}
@@ -26,8 +23,8 @@ use Rattle.sm_standing.specs.Entries.{is_hidden}
 use Rattle.sm_standing.specs.Outlines.{Link, Outline}
 use Rattle.sm_ready.specs.Known.{machine_row}
 use Rattle.sm_ready.specs.Outlined.{link_in}
-use Rattle.sm_checks.specs.Faults.{HasChildren, HasLinks, are_parents_hidden, has_hidden_parent, is_linked_in, is_misplaced_in, is_parent_right_in, tree_wrong_in}
-use Rattle.sm_checks.proofs.CheckLaws.{find_same, first_at, held_name}
+use Rattle.sm_checks.specs.Faults.{HasChildren, HasLinks, is_linked_in, is_misplaced_in, is_parent_right_in, tree_wrong_in}
+use Rattle.sm_checks.proofs.CheckLaws.{find_same}
 
 -- ---- by memory
 
@@ -86,13 +83,11 @@ module _ (xs : List TreeRow) (x : Outline) (links : HasLinks xs x) where
     wrong_seen r (Relink a p) named = refl
     wrong_seen r (Leaf l p) named = refl
 
--- what is found among the volumes is what the check names
-pub trees_at : (k : RoomyTable) (xs : List TreeRow) (x : Outline) {hs : List RoomyRow} {o : Option RoomyRow} {answer : Option Place} → x.table ≡ table_alone k → HasLinks xs x → HasChildren xs x → hs ≡ k.rows
-    → o ≡ find (λ h. tree_wrong_in (table_alone k) xs h.row h.row.name) hs → answer ≡ placed at.Tree (held_name o) → answer ≡ tree_fault x
+-- by memory the check names the same
+pub tree_seen : (xs : List TreeRow) (x : Outline) → HasLinks xs x → HasChildren xs x → tree_fault x ≡ placed at.Tree (first_name (λ r. tree_wrong_in x.table xs r r.name) x.table.volumes)
 unfolding tree_fault first_name
-trees_at k xs x is links counted held found said =
-    first_at at.Tree (λ t r. tree_wrong_in t xs r r.name) k is held found said
-    ∙ ap (λ q. placed at.Tree (name_in q)) (find_same (λ r. tree_wrong_in x.table xs r r.name) (is_tree_wrong x) x.table.volumes (λ r i. wrong_seen xs x links counted r r.name refl))
+tree_seen xs x links counted =
+    sym (ap (λ q. placed at.Tree (name_in q)) (find_same (λ r. tree_wrong_in x.table xs r r.name) (is_tree_wrong x) x.table.volumes (λ r i. wrong_seen xs x links counted r r.name refl)))
 
 -- ---- children
 
@@ -223,17 +218,3 @@ module _ (xs : List TreeRow) (x : Outline) (links : HasLinks xs x) where
             let z = up y.0 p y.1 linked in
             let long = chain_step (suc k) n l is ∙ ap (λ o. suc (elim o as (λ _. ℕ) [ None ↦ 0 | Some q ↦ chain_length x (suc k) q ])) same in
             subst (λ o. EndsWithin k o (map machine_row xs)) (sym over) (rest p _ (links p ∙ ap link_in z.1) (omega (arith, long, short)))
-
--- ---- visible images
-
--- where all parents are hidden, an image that is not hidden has no children
-pub no_children : (t : VolumeTable) (xs : List TreeRow) (n : Name) → are_parents_hidden t xs ≡ true → is_hidden t n ≡ false → children_in xs n ≡ []
-no_children t [] n all seen = refl
-no_children t (x ∷ xs) n all seen =
-    let p = both_true (has_hidden_parent t x) (are_parents_hidden t xs) all in
-    let other : is_child_of n x ≡ false = by (parent_name x.image) p.0 in
-    rw other (no_children t xs n p.1 seen)
-  where
-    by : (o : Option Name) → elim o [ None ↦ true | Some p ↦ is_hidden t p ] ≡ true → elim o [ None ↦ false | Some q ↦ name_eq q n ] ≡ false
-    by None h = refl
-    by (Some q) h = name_eq-other q n (λ e. true≢false (sym h ∙ ap (is_hidden t) e ∙ seen))

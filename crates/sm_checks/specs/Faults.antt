@@ -1,14 +1,16 @@
 -- The checks of an opening, by what each of them looks at: the table with the sizes alone, the images in memory, or the
 -- places of the records beside the table.
 use Rattle.std.specs.Prelude.{◌≡◌, ◌⊎◌, ℕ, suc, Bool, true, false, ◌&&◌, ◌||◌, ◌==◌, not, nat_le, List, [], ◌∷◌, length, Option, Some, None, is_some, count_by, if◌then◌else◌}
-use Rattle.std.specs.List.{list_all, list_any, slice_get}
+use Rattle.std.specs.List.{list_any, slice_get}
 use Rattle.std.specs.Str.{bytes_eq}
 use Rattle.sm_base.specs.declared.faults.Place.{Place}
 use Rattle.sm_base.specs.declared.names.Name.{Name}
 use Rattle.sm_base.specs.declared.names.Name.TheVariants.{Mgt, Vhd, Raw, Old, Clone, Inflate, Coalesce, Relink, Leaf}
 use Rattle.sm_base.specs.declared.sizes.Geometry.{Geometry}
 use Rattle.std.specs.declared.cmp.Ordering.TheVariants.{Less}
-use Rattle.vg_meta.specs.Tables.{Row, VolumeTable}
+use Rattle.std.specs.Ordering.{is_lt}
+use Rattle.sm_base.specs.Names.{name_cmp}
+use Rattle.vg_meta.specs.Tables.{Row, VolumeTable, rows}
 use Rattle.sm_machine.specs.Disks.{uuid_before}
 use Rattle.sm_machine.specs.Shapes.{chain_limit, same_image}
 use Rattle.common_laws.specs.Lists.{In, given}
@@ -17,7 +19,7 @@ use Rattle.sm_mgt.specs.Places.{place_count, is_of, as_reading}
 use Rattle.sm_standing.specs.Checks.{record_volume_fault, too_many_fault, misnamed_fault, second_entry_fault, lost_entry_fault, old_leaf_fault}
 use Rattle.sm_standing.specs.Checks.{invalid_fault, tree_fault, entry_link_fault, has_uuid, is_no_larger, children}
 use Rattle.sm_standing.specs.Outlines.{Outline}
-use Rattle.sm_standing.specs.Entries.{folding_uuids, image_with, is_among, is_coalescing, is_folding_leaf, is_fork_made, is_hidden, is_inflating, is_leaf_copied, is_leaf_renamed, is_leaf_swapped, is_old_of, is_past, is_there, is_visible}
+use Rattle.sm_standing.specs.Entries.{folding_uuids, image_with, is_among, is_coalescing, is_folding_leaf, is_fork_made, is_hidden, is_inflating, is_leaf_copied, is_leaf_renamed, is_leaf_swapped, is_old_of, is_past, is_there, is_visible, of_row}
 use Rattle.sm_standing.specs.Ordered.{uuid_cmp}
 use Rattle.sm_standing.specs.Standing.{standing_volume}
 use Rattle.vhd_image.specs.Bodies.{parent_name, sector_count}
@@ -202,12 +204,51 @@ is_parent_right_in t xs size p = is_hidden t p && is_no_larger size (link_in (tr
 abbrev pub is_linked_in : VolumeTable → List TreeRow → Body → Bool
 is_linked_in t xs image = elim (parent_name image) [ None ↦ true | Some p ↦ is_parent_right_in t xs (sector_count image) p ]
 
--- whether an image's parent, where it has one, is there, not new and hidden, and whether that is so of all images in memory
-abbrev pub has_hidden_parent : VolumeTable → TreeRow → Bool
-has_hidden_parent t y = elim (parent_name y.image) [ None ↦ true | Some p ↦ is_hidden t p ]
+-- an image in memory that is linked wrongly, or whose chain is too long
+abbrev pub is_astray_in : VolumeTable → List TreeRow → Row → Option TreeRow → Bool
+is_astray_in t xs r None = false
+is_astray_in t xs r (Some y) = not (is_linked_in t xs y.image && nat_le (chain_length xs (suc chain_limit) r.name) chain_limit)
 
-abbrev pub are_parents_hidden : VolumeTable → List TreeRow → Bool
-are_parents_hidden t xs = list_all (has_hidden_parent t) xs
+-- so of VHD images alone
+abbrev pub is_tree_astray : VolumeTable → List TreeRow → Row → Name → Bool
+is_tree_astray t xs r (Vhd u) = is_astray_in t xs r (tree_row xs (Vhd u))
+is_tree_astray t xs r Mgt = false
+is_tree_astray t xs r (Raw u) = false
+is_tree_astray t xs r (Old u) = false
+is_tree_astray t xs r (Clone disk base twin) = false
+is_tree_astray t xs r (Inflate image extents) = false
+is_tree_astray t xs r (Coalesce child parent) = false
+is_tree_astray t xs r (Relink child parent) = false
+is_tree_astray t xs r (Leaf leaf parent) = false
+
+-- whether a volume is there and not hidden, also while it is new
+abbrev pub is_unhidden : VolumeTable → Name → Bool
+is_unhidden t n = of_row (λ r. not r.hidden) (rows t n)
+
+-- a VHD image in memory that is not hidden, and so may be no parent
+abbrev pub is_leaf_name : VolumeTable → List TreeRow → Name → Bool
+is_leaf_name t xs (Vhd u) = is_some (tree_row xs (Vhd u)) && is_unhidden t (Vhd u)
+is_leaf_name t xs Mgt = false
+is_leaf_name t xs (Raw u) = false
+is_leaf_name t xs (Old u) = false
+is_leaf_name t xs (Clone disk base twin) = false
+is_leaf_name t xs (Inflate image extents) = false
+is_leaf_name t xs (Coalesce child parent) = false
+is_leaf_name t xs (Relink child parent) = false
+is_leaf_name t xs (Leaf leaf parent) = false
+
+-- an image's parent, where it is such a one
+abbrev pub leaf_parent : VolumeTable → List TreeRow → TreeRow → Option Name
+leaf_parent t xs y = elim (parent_name y.image) [ None ↦ None | Some p ↦ given (is_leaf_name t xs p) p ]
+
+-- the name of such a parent of an image in memory
+abbrev pub IsLeafParent : VolumeTable → List TreeRow → Name → Type 0
+IsLeafParent t xs n = (y : TreeRow) × In y xs × (leaf_parent t xs y ≡ Some n)
+
+-- one of the names of which a fact holds, with no such name before it; none where there are none
+abbrev pub IsFirstName : (Name → Type 0) → Option Name → Type 0
+IsFirstName P None = (n : Name) → P n → ⊥
+IsFirstName P (Some n) = P n × ((m : Name) → P m → is_lt (name_cmp m n) ≡ false)
 
 -- an image in memory that is linked wrongly, whose chain is too long, or that is visible and has children
 abbrev pub is_misplaced_in : VolumeTable → List TreeRow → Row → Option TreeRow → Bool

@@ -82,7 +82,7 @@ fn second_fault(table: &Table) -> Option<Place>
 }
 
 /// The lesser of two names, where there are two.
-fn lesser(first: Option<Name>, second: Option<Name>) -> Option<Name>
+pub fn lesser(first: Option<Name>, second: Option<Name>) -> Option<Name>
     ensures { result ≡ lesser first second }
 {
     let (Some(one), Some(other)) = (first, second) else {

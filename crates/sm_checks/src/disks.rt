@@ -14,7 +14,7 @@ use crate::entries::{entry_in, folding_in};
 use crate::leaves::{is_leaf_renamed, is_leaf_swapped};
 use crate::volumes::{image_with, is_visible};
 use sm_base::{Name, Place};
-use sm_mgt::Mgt;
+use sm_mgt::{Mgt, UuidCounts};
 use uuid::Uuid;
 use vg_meta::{Table, Volume};
 
@@ -22,7 +22,7 @@ use vg_meta::{Table, Volume};
 pub fn disk_fault(table: &Table, mgt: &Mgt) -> Option<Place>
     ensures { (x : Outline) → x.table ≡ table_alone table.now → HasPlaces mgt.now x → result ≡ disk_fault x }
 {
-    let uuid = least_unrecorded(table, mgt)?;
+    let uuid = least_unrecorded(table, &mgt.uuid_counts())?;
     Some(Place::Disk { uuid })
 }
 
@@ -105,26 +105,26 @@ fn is_shown(table: &Table, uuid: &Uuid) -> bool
     is_visible(table, &Name::Vhd(*uuid)) || is_visible(table, &Name::Raw(*uuid))
 }
 
-fn least_unrecorded(table: &Table, mgt: &Mgt) -> Option<Uuid>
-    ensures { IsLeast (λ u. is_unrecorded_in (table_alone table.now) mgt.now u ≡ true) result }
+fn least_unrecorded(table: &Table, counts: &UuidCounts<'_>) -> Option<Uuid>
+    ensures { IsLeast (λ u. is_unrecorded_in (table_alone table.now) counts.now u ≡ true) result }
 {
     let mut least = None;
     for volume in table.volumes() {
-        least = lesser(least, unrecorded(volume, table, mgt));
+        least = lesser(least, unrecorded(volume, table, counts));
     }
     least
 }
 
 /// The UUID of an image, and that of the disk of a fork or of a leaf's folding, where it is a disk that has no record or several.
 #[tactic(auto, unfolding(crate::specs::Faults::unrecorded))]
-fn unrecorded(volume: &Volume, table: &Table, mgt: &Mgt) -> Option<Uuid>
-    ensures { result ≡ unrecorded (table_alone table.now) mgt.now volume.now.row.name }
+fn unrecorded(volume: &Volume, table: &Table, counts: &UuidCounts<'_>) -> Option<Uuid>
+    ensures { result ≡ unrecorded (table_alone table.now) counts.now volume.now.row.name }
 {
     match volume.name() {
-        Name::Vhd(uuid) => wrong_disk(uuid, table, mgt),
-        Name::Raw(uuid) => wrong_disk(uuid, table, mgt),
-        Name::Clone { disk, .. } => wrong_disk(disk, table, mgt),
-        Name::Leaf { leaf, .. } => wrong_disk(leaf, table, mgt),
+        Name::Vhd(uuid) => wrong_disk(uuid, table, counts),
+        Name::Raw(uuid) => wrong_disk(uuid, table, counts),
+        Name::Clone { disk, .. } => wrong_disk(disk, table, counts),
+        Name::Leaf { leaf, .. } => wrong_disk(leaf, table, counts),
         Name::Mgt
         | Name::Old(_)
         | Name::Inflate { .. }
@@ -134,10 +134,10 @@ fn unrecorded(volume: &Volume, table: &Table, mgt: &Mgt) -> Option<Uuid>
 }
 
 /// A UUID, where it is a disk that has no record or several.
-fn wrong_disk(uuid: Uuid, table: &Table, mgt: &Mgt) -> Option<Uuid>
-    ensures { result ≡ given (is_unrecorded_in (table_alone table.now) mgt.now uuid) uuid }
+fn wrong_disk(uuid: Uuid, table: &Table, counts: &UuidCounts<'_>) -> Option<Uuid>
+    ensures { result ≡ given (is_unrecorded_in (table_alone table.now) counts.now uuid) uuid }
 {
-    if is_disk(table, &uuid) && mgt.count(&uuid) != 1 {
+    if is_disk(table, &uuid) && counts.count(&uuid) != 1 {
         Some(uuid)
     } else {
         None

@@ -23,10 +23,11 @@
 //!
 //! **What it costs.** The checks go over the volumes once each; where a volume looks for another, or an image for its parent, it is found by
 //! halving, and so are the entries, which stand behind all other volumes. The check of trees makes such a look-up for each image of the chain
-//! of each VHD image. It goes over the images in memory once, and once more for each visible image where some parent is not hidden; that of a
-//! fork's entry goes over them once. They read of each VHD image the footer, the header and the table, at most 3
-//! sectors and one for each 128 entries, and one more where the last sector holds no footer; and they go over the 512 places once for
-//! each disk. [`load`] takes the memory for the 500 images that the tree may come to have before it reads any, and then for each VHD image
+//! of each VHD image. It goes over the images in memory once, and looks up the parent of each: of the visible images that are parents the
+//! first is found so, whether there are none or many. That of a fork's entry goes over them once. They read of each VHD image the footer,
+//! the header and the table, at most 3 sectors and one for each 128 entries, and one more where the last sector holds no footer. The check
+//! of disks sorts the UUIDs of the 512 places once, in an array of its own, and counts the records of each disk by halving.
+//! [`load`] takes the memory for the 500 images that the tree may come to have before it reads any, and then for each VHD image
 //! that of its map, 4 bytes an entry; nothing else takes any.
 #![tactic(auto)]
 

@@ -1,15 +1,16 @@
 //! The check that looks at the images in memory beside the table: each stands in its tree as it should.
 
-ghost use Rattle.std.specs.Prelude.{◌≡◌, ◌==◌, find, length};
+ghost use Rattle.std.specs.Prelude.{◌≡◌, find};
 ghost use Rattle.std.specs.Option.{option_copied};
-ghost use Rattle.sm_standing.specs.Checks.{is_no_larger, tree_fault};
+ghost use Rattle.sm_standing.specs.Checks.{first_name, is_no_larger, tree_fault};
 ghost use Rattle.sm_standing.specs.Outlines.{Outline};
-ghost use Rattle.vg_meta.specs.Roomy.{table_alone};
-ghost use Rattle.vhd_chain.specs.Trees.{children, tree_row};
+ghost use Rattle.vg_meta.specs.Roomy.{rows_alone, table_alone};
+ghost use Rattle.vhd_chain.specs.Trees.{tree_row};
 ghost use Rattle.sm_ready.specs.Outlined.{link_in};
-ghost use Rattle.sm_checks.specs.Faults.{HasChildren, HasLinks, are_parents_hidden, has_hidden_parent, is_linked_in, tree_wrong_in};
+ghost use Rattle.sm_checks.specs.Faults.{HasChildren, HasLinks, IsFirstName, IsLeafParent, is_leaf_name, is_linked_in, is_tree_astray, leaf_parent};
 
-use crate::volumes::is_hidden;
+use crate::checks::lesser;
+use crate::volumes::{is_hidden, is_unhidden};
 use sm_base::{CHAIN_LIMIT, Name, Place};
 use vg_meta::{Table, Volume};
 use vhd_chain::{Tree, TreeRow};
@@ -20,32 +21,30 @@ use vhd_image::Image;
 pub fn tree_fault(table: &Table, tree: &Tree) -> Option<Place>
     ensures { (x : Outline) → x.table ≡ table_alone table.now → HasLinks tree.now.rows x → HasChildren tree.now.rows x → result ≡ tree_fault x }
 {
-    let hidden = are_parents_hidden(table, tree.rows());
-    let volume = first_misplaced(table.volumes(), table, tree, hidden)?;
-    Some(Place::Tree {
-        name: volume.name(),
-    })
+    let name = lesser(
+        first_astray(table.volumes(), table, tree),
+        first_leaf_parent(table, tree),
+    )?;
+    Some(Place::Tree { name })
 }
 
-/// The first of the volumes, where it is told whether all parents are hidden.
-fn first_misplaced<'a>(
-    volumes: &'a [Volume],
-    table: &Table,
-    tree: &Tree,
-    hidden: bool,
-) -> Option<&'a Volume>
-    requires hidden { hidden ≡ are_parents_hidden (table_alone table.now) tree.now.rows }
-    ensures { option_copied result ≡ find (λ v. tree_wrong_in (table_alone table.now) tree.now.rows v.row v.row.name) volumes.now }
+/// The name of the first volume whose image is linked wrongly, or whose chain is too long.
+fn first_astray(volumes: &[Volume], table: &Table, tree: &Tree) -> Option<Name>
+    ensures { result ≡ first_name (λ r. is_tree_astray (table_alone table.now) tree.now.rows r r.name) (rows_alone volumes.now) }
 {
-    volumes
-        .iter()
-        .find(|volume| is_misplaced(volume, table, tree, hidden))
+    let volume = astray_in(volumes, table, tree)?;
+    Some(volume.name())
 }
 
-/// Whether a volume is that of a VHD image that does not stand in its tree as it should.
-fn is_misplaced(volume: &Volume, table: &Table, tree: &Tree, hidden: bool) -> bool
-    requires hidden { hidden ≡ are_parents_hidden (table_alone table.now) tree.now.rows }
-    ensures { result ≡ tree_wrong_in (table_alone table.now) tree.now.rows volume.now.row volume.now.row.name }
+fn astray_in<'a>(volumes: &'a [Volume], table: &Table, tree: &Tree) -> Option<&'a Volume>
+    ensures { option_copied result ≡ find (λ v. is_tree_astray (table_alone table.now) tree.now.rows v.row v.row.name) volumes.now }
+{
+    volumes.iter().find(|volume| is_astray(volume, table, tree))
+}
+
+/// Whether a volume is that of a VHD image in memory that is linked wrongly, or whose chain is too long.
+fn is_astray(volume: &Volume, table: &Table, tree: &Tree) -> bool
+    ensures { result ≡ is_tree_astray (table_alone table.now) tree.now.rows volume.now.row volume.now.row.name }
 {
     let name = volume.name();
     let Name::Vhd(_) = name else {
@@ -54,37 +53,41 @@ fn is_misplaced(volume: &Volume, table: &Table, tree: &Tree, hidden: bool) -> bo
     let Some(row) = tree.get(&name) else {
         return false;
     };
-    let is_placed = is_linked(&row.image, table, tree)
-        && tree.depth(&name) <= CHAIN_LIMIT
-        && (volume.is_hidden() || is_childless(&name, table, tree, hidden));
+    let is_placed = is_linked(&row.image, table, tree) && tree.depth(&name) <= CHAIN_LIMIT;
     !is_placed
 }
 
-/// Whether no image has the one of this name as parent. Where all parents are hidden, and it is not, none is looked at.
-fn is_childless(name: &Name, table: &Table, tree: &Tree, hidden: bool) -> bool
-    requires hidden { hidden ≡ are_parents_hidden (table_alone table.now) tree.now.rows }
-    ensures { result ≡ (length (children tree.now.rows name.now) == 0) }
+/// The first name of a parent that is a VHD image in memory and not hidden.
+fn first_leaf_parent(table: &Table, tree: &Tree) -> Option<Name>
+    ensures { IsFirstName (IsLeafParent (table_alone table.now) tree.now.rows) result }
 {
-    if hidden && !is_hidden(table, name) {
-        return true;
+    let mut first = None;
+    for row in tree.rows() {
+        first = lesser(first, leaf_parent(row, table, tree));
     }
-    tree.child_count(name) == 0
+    first
 }
 
-/// Whether each image's parent, where it has one, is there, not new and hidden.
-fn are_parents_hidden(table: &Table, rows: &[TreeRow]) -> bool
-    ensures { result ≡ are_parents_hidden (table_alone table.now) rows.now }
-{
-    rows.iter().all(|row| has_hidden_parent(table, row))
-}
-
-/// Whether an image's parent, where it has one, is there, not new and hidden.
-fn has_hidden_parent(table: &Table, row: &TreeRow) -> bool
-    ensures { result ≡ has_hidden_parent (table_alone table.now) row.now }
+/// An image's parent, where it is a VHD image in memory and not hidden.
+fn leaf_parent(row: &TreeRow, table: &Table, tree: &Tree) -> Option<Name>
+    ensures { result ≡ leaf_parent (table_alone table.now) tree.now.rows row.now }
 {
     match row.image.parent() {
-        Some(parent) => is_hidden(table, &parent),
-        None => true,
+        Some(parent) if is_leaf(&parent, table, tree) => Some(parent),
+        _ => None,
+    }
+}
+
+/// Whether a name is that of a VHD image in memory that is not hidden.
+fn is_leaf(name: &Name, table: &Table, tree: &Tree) -> bool
+    ensures { result ≡ is_leaf_name (table_alone table.now) tree.now.rows name.now }
+{
+    let Name::Vhd(_) = name else {
+        return false;
+    };
+    match tree.get(name) {
+        Some(_) => is_unhidden(table, name),
+        None => false,
     }
 }
 

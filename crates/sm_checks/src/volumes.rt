@@ -3,6 +3,7 @@
 ghost use Rattle.std.specs.Prelude.{◌≡◌};
 ghost use Rattle.sm_standing.specs.Entries.{image_with, is_filled, is_hidden, is_there, is_visible, is_visible_or_gone};
 ghost use Rattle.vg_meta.specs.Roomy.{table_alone};
+ghost use Rattle.sm_checks.specs.Faults.{is_unhidden};
 
 use sm_base::Name;
 use uuid::Uuid;
@@ -40,6 +41,16 @@ pub fn is_hidden(table: &Table, name: &Name) -> bool
 {
     match table.get(name) {
         Some(volume) => volume.is_hidden() && !volume.is_fresh(),
+        None => false,
+    }
+}
+
+/// Whether a volume is there and visible, also while it is new.
+pub fn is_unhidden(table: &Table, name: &Name) -> bool
+    ensures { result ≡ is_unhidden (table_alone table.now) name.now }
+{
+    match table.get(name) {
+        Some(volume) => !volume.is_hidden(),
         None => false,
     }
 }

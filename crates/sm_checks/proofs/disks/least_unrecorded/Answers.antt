@@ -8,5 +8,5 @@ use Rattle.sm_checks.proofs.disks.least_unrecorded.Goals as goal
 pub returns : goal.returns
 returns c =
     let t = table_alone c.args.table.now in
-    let all : c.loop-volume.least ≡ fold (with_unrecorded t c.args.mgt.now) None c.args.table.now.rows = grind (arith, common_steps) in
-    subst (IsLeast (λ u. is_unrecorded_in t c.args.mgt.now u ≡ true)) (sym all) (least_unrecorded c.args.table.now c.args.mgt.now)
+    let all : c.loop-volume.least ≡ fold (with_unrecorded t c.args.counts.now) None c.args.table.now.rows = grind (arith, common_steps) in
+    subst (IsLeast (λ u. is_unrecorded_in t c.args.counts.now u ≡ true)) (sym all) (least_unrecorded c.args.table.now c.args.counts.now)

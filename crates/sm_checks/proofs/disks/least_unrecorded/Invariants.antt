@@ -5,4 +5,4 @@ use Rattle.sm_checks.proofs.disks.least_unrecorded.Given as goal
 
 -- the least among the volumes so far
 abbrev pub invariant-loop-volume : goal.invariant-loop-volume
-invariant-loop-volume l = l.least ≡ fold (with_unrecorded (table_alone l.table) l.mgt) None (take l.volume-index l.table.rows)
+invariant-loop-volume l = l.least ≡ fold (with_unrecorded (table_alone l.table) l.counts) None (take l.volume-index l.table.rows)
