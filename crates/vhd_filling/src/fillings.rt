@@ -249,6 +249,10 @@ impl Filling {
         ensures geometry { OnOk result (self.new.geometry ≡ self.old.geometry) }
         ensures as_many { OnOk result ((TakesSlot self.old sector bytes.now → ⊥) → slots_taken self.new ≡ slots_taken self.old) }
         ensures one_more { OnOk result (TakesSlot self.old sector bytes.now → slots_taken self.new ≡ slots_taken self.old + 1) }
+        // A block gets a slot where bytes that are not all zeros are put into it, and no other one does.
+        ensures map { OnOk result ((TakesSlot self.old sector bytes.now → ⊥) → self.new.map ≡ self.old.map) }
+        ensures map_more { OnOk result (TakesSlot self.old sector bytes.now
+            → self.new.map ≡ with_slot (sector / self.old.geometry.block) self.old.map) }
         ensures blocks { OnOk result ((count : ℕ) → sector / self.old.geometry.block < count
             → HasBlocksBelow count self.old → HasBlocksBelow count self.new) }
         ensures held { OnOk result (S.told
