@@ -3,6 +3,8 @@
 //! of 64 bits: no sum wraps.
 
 ghost use Rattle.std.specs.Prelude.{◌≡◌, ◌≤◌, ◌+◌, ◌==◌, ◌&&◌, ◌||◌, is_some, length, nat_lt, not};
+ghost use Rattle.std.specs.Str.{bytes_eq};
+ghost use Rattle.sm_base.specs.Names.{is_base as is_base_uuid};
 ghost use Rattle.vg_meta.specs.Tables.{VolumeTable};
 ghost use Rattle.vg_meta.specs.Roomy.{table_alone};
 ghost use Rattle.vg_volumes.specs.Sites.{Site};
@@ -20,13 +22,20 @@ use vg_meta::Table;
 /// The most sectors of one read.
 const READ_LIMIT: u64 = 128;
 
+/// Whether a UUID is nil or has the form that base images have.
+pub(crate) fn is_reserved_uuid(disk: &Uuid) -> bool
+    ensures { result ≡ (bytes_eq disk.now machine.nil || is_base_uuid disk.now) }
+{
+    disk.is_nil() || is_base(disk)
+}
+
 /// Whether the new UUID is nil or has the form that base images have.
 #[tactic(auto, unfolding(sm_machine::specs::Refusals::is_reserved))]
 pub(crate) fn is_reserved(command: &Command) -> bool
     ensures { result ≡ machine.is_reserved command.now }
 {
     match new_uuid(command) {
-        Some(disk) => disk.is_nil() || is_base(&disk),
+        Some(disk) => is_reserved_uuid(&disk),
         None => false,
     }
 }
@@ -49,7 +58,7 @@ pub(crate) fn is_unknown(memory: &Memory, command: &Command) -> bool
 }
 
 /// Whether an image has the UUID, visible or hidden.
-fn has_image(memory: &Memory, disk: &Uuid) -> bool
+pub(crate) fn has_image(memory: &Memory, disk: &Uuid) -> bool
     ensures { result ≡ has_image_in memory.now.tree.rows disk.now }
 {
     memory.tree.get(&Name::Vhd(*disk)).is_some() || memory.tree.get(&Name::Raw(*disk)).is_some()

@@ -94,7 +94,7 @@ fn refuse_by_size(
 }
 
 /// A count of images or of extents, which is below 2^32.
-fn count_of(number: u64) -> u32
+pub(crate) fn count_of(number: u64) -> u32
     ensures { number < 2 ^ 32 → result ≡ number }
 {
     number.min(u64::from(u32::MAX)) as u32
