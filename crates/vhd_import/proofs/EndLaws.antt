@@ -1,6 +1,6 @@
 -- A dynamic file that was read to its end.
 use Rattle.std.proofs.Common.{◌≡◌, ◌⊎◌, inl, inr, ⊎_elim, ℕ, ◌+◌, ◌*◌, ◌/◌, ◌%◌, ◌<◌, ◌≤◌, true, false, List, [], ◌++◌, length, length-append, get_or, Option, Some, None, refl, sym, ap, ◌∙◌, arith, subst, append_assoc}
-use Rattle.std.specs.Prelude.{◌==◌, IfSome}
+use Rattle.std.specs.Prelude.{◌==◌, All, IfSome}
 use Rattle.std.specs.Option.{option_map_or}
 use Rattle.std.proofs.lemmas.Bool.{cases_Bool, cases_lt}
 use Rattle.std.proofs.lemmas.Bool.Decides.{nat_tests}
@@ -18,13 +18,14 @@ use Rattle.vhd_stream.specs.Files.{AreSectors, File, FileLayout, IsThere, block_
 use Rattle.vhd_import.specs.Blocks.{IsPastBlocks, IsTabled}
 use Rattle.vhd_import.specs.Heads.{layout_at, size_at}
 use Rattle.vhd_import.specs.Making.{filled}
-use Rattle.vhd_import.specs.Progress.{HasRead, IsMadeOf, IsQuiet}
+use Rattle.vhd_import.specs.Progress.{HasRead, IsMadeOf, IsQuiet, puts_of}
 use Rattle.vhd_import.specs.Puts.{Put, put_at}
 use Rattle.vhd_import.specs.Room.{Target}
 use Rattle.vhd_import.specs.Verdicts.{denial_at_end, is_whole, sector_limit, sectors_of}
+use Rattle.vhd_import.proofs.BelowLaws.{dynamic-within}
 use Rattle.vhd_import.proofs.BlockLaws.{below-up, set-data, tabled-more}
 use Rattle.vhd_import.proofs.FilledLaws.{filled-file}
-use Rattle.vhd_import.proofs.FrontLaws.{end-makes}
+use Rattle.vhd_import.proofs.FrontLaws.{end-makes, file-is}
 use Rattle.vhd_import.proofs.HeadLaws.{block-some, end-behind, headed}
 use Rattle.vhd_import.proofs.MadeLaws.{IsUndenied, as-map, dynamic-holds}
 use Rattle.vhd_import.proofs.PutLaws.{puts-dynamic}
@@ -95,12 +96,14 @@ module _ (t : Target) (file : File) (f : FileLayout) (size : ℕ) (w : IsTabled 
   pub made-dynamic : (bytes : List ℕ) (left : Option (List ℕ)) (puts : List Put) → HasRead t (Some bytes) left file puts → IsSpent left → IsMadeOf t bytes size puts
   made-dynamic bytes left puts r spent =
       let undenied : IsUndenied t file = record { none = r.undenied; ended = whole-end } in
-      let holds = dynamic-holds t file (sectors_of file) w.known.dynamic undenied refl in (
-        sectors_of file,
-        end-makes t bytes left left file puts r (Takes-none left) spent whole-end,
-        sectors-are.count,
-        λ s. ap (λ l. filled l s) r.puts_are ∙ filled-file file (sectors_of file) s (puts-dynamic file (sectors_of file) holds) (put-or-zeros s),
-      )
+      let holds = dynamic-holds t file (sectors_of file) w.known.dynamic undenied refl in
+      record {
+        sectors = sectors_of file;
+        made = end-makes t bytes left left file puts r (Takes-none left) spent whole-end;
+        long = sectors-are.count;
+        puts_are = r.puts_are ∙ ap (λ (x : File). puts_of x (length x)) (sym (file-is t bytes left left file puts r (Takes-none left) spent));
+        filled_are = λ s. ap (λ l. filled l s) r.puts_are ∙ filled-file file (sectors_of file) s (puts-dynamic file (sectors_of file) holds) (put-or-zeros s);
+      }
 
 -- ---- behind the blocks
 
@@ -127,3 +130,9 @@ module _ (t : Target) (had mid : Option (List ℕ)) (front : File) (holds : List
       by : (o : Option (List ℕ)) → HasRead t o left ((front ++ p.goes.more) ++ rest) p.goes.puts → IfSome o (λ bytes. IsMadeOf t bytes size p.goes.puts)
       by None r = tt
       by (Some bytes) r = made-dynamic t ((front ++ p.goes.more) ++ rest) f size tabled past bytes left p.goes.puts r spent
+
+  -- each of its puts lies within the disk
+  pub below-dynamic : (left : Option (List ℕ)) (rest : File) → HasRead t had left ((front ++ p.goes.more) ++ rest) p.goes.puts → All (λ (q : Put). q.sector < size) p.goes.puts
+  below-dynamic left rest read =
+      let known = (tabled-more (front ++ p.goes.more) rest f size (tabled-more front p.goes.more f size w)).known in
+      subst (λ (l : List Put). All (λ (q : Put). q.sector < size) l) (sym read.puts_are) (dynamic-within ((front ++ p.goes.more) ++ rest) size known.dynamic known.sized)

@@ -1,6 +1,6 @@
 -- The first sector of a file, and what is answered where it decides.
-use Rattle.std.proofs.Common.{◌≡◌, inl, inr, ℕ, ◌/◌, ◌%◌, ◌<◌, Bool, true, false, not, ◌&&◌, List, [], ◌∷◌, length, Option, Some, Ok, refl, sym, ap, ◌∙◌, arith}
-use Rattle.std.specs.Prelude.{◌==◌}
+use Rattle.std.proofs.Common.{◌≡◌, ◌⊎◌, inl, inr, ℕ, ◌/◌, ◌%◌, ◌<◌, Bool, true, false, not, ◌&&◌, List, [], ◌∷◌, length, Option, Some, None, Ok, refl, sym, ap, ◌∙◌, arith, subst}
+use Rattle.std.specs.Prelude.{◌==◌, IfSome}
 use Rattle.std.specs.Option.{option_map_or}
 use Rattle.std.proofs.lemmas.Bool.{and_parts}
 use Rattle.std.proofs.lemmas.Bool.Decides.{nat_tests}
@@ -14,15 +14,16 @@ use Rattle.vhd_fields.specs.Fields.{number_at}
 use Rattle.vhd_fields.specs.Footers.{footer_fault, footer_fields, footer_read, footer_tests, is_size}
 use Rattle.vhd_stream.specs.Files.{File, sector_at}
 use Rattle.vhd_import.specs.declared.faults.ImportFault.TheVariants as fault
-use Rattle.vhd_import.specs.declared.heads.Beginning.TheVariants.{Differencing, Dynamic}
+use Rattle.vhd_import.specs.declared.heads.Beginning.{Beginning}
+use Rattle.vhd_import.specs.declared.heads.Beginning.TheVariants.{Differencing, Dynamic, Other}
 use Rattle.vhd_import.specs.Beginnings.{BeginsSo}
-use Rattle.vhd_import.specs.Heads.{footer_at, is_kind, size_at}
+use Rattle.vhd_import.specs.Heads.{footer_at, is_dynamic, is_kind, size_at}
 use Rattle.vhd_import.specs.Progress.{FaultSays}
-use Rattle.vhd_import.specs.Room.{Target}
-use Rattle.vhd_import.specs.Verdicts.{denial_at, denial_at_end, fixed_denials}
-use Rattle.vhd_import.proofs.FrontLaws.{none-read, refused-says}
+use Rattle.vhd_import.specs.Room.{Target, is_too_large}
+use Rattle.vhd_import.specs.Verdicts.{IsRefusedFirst, denial_at, denial_at_end, file_of, fixed_denials}
+use Rattle.vhd_import.proofs.FrontLaws.{begins-with, none-read, refused-says}
 use Rattle.vhd_import.proofs.HeadLaws.{of-kind, passes, read-fields}
-use Rattle.vhd_import.proofs.TestLaws.{read-ok}
+use Rattle.vhd_import.proofs.TestLaws.{read-ok, same_some}
 
 -- a file without sectors is cut
 pub open-none : (inside : Bool) → denial_at_end [] inside ≡ Some (Cut 0)
@@ -66,3 +67,39 @@ some-dynamic file n begins =
     let some = some-size (sector_at file 0) f.0 reads in
     let sized : f.0.current / 512 ≡ n = ap (λ (o : Option Footer). option_map_or (λ x. x.current / 512) o 0) (sym f.1) ∙ begins.1 in
     omega (arith, some, sized)
+
+-- ---- a file that its first sector refuses
+
+-- the same, of the sectors of a file
+abbrev pub RefusesFirst : Target → File → Type 0
+RefusesFirst t file = (is_kind 4 (footer_at file 0) ≡ true) ⊎ ((is_dynamic file ≡ true) × (is_too_large t (size_at file) ≡ true))
+
+two-kinds : (o : Option Footer) → is_kind 3 o ≡ true → is_kind 4 o ≡ true → ⊥
+two-kinds o three four =
+    let f = of-kind 3 o three in
+    let g = of-kind 4 o four in
+    let same : f.0 ≡ g.0 = same_some f.0 g.0 (sym f.1 ∙ g.1) in
+    omega (arith, f.2, g.2, ap (λ (x : Footer). x.kind) same)
+
+-- the disk of a dynamic file that it refuses is too large
+pub dynamic-large : (t : Target) (file : File) (n : ℕ) → BeginsSo (Dynamic n) file → RefusesFirst t file → is_too_large t n ≡ true
+dynamic-large t file n begins (inl four) = absurd (two-kinds (footer_at file 0) begins.0 four)
+dynamic-large t file n begins (inr large) = ap (is_too_large t) (sym begins.1) ∙ large.1
+
+-- and no file that begins otherwise is refused by it
+pub other-taken : (t : Target) (file : File) → BeginsSo Other file → RefusesFirst t file → ⊥
+other-taken t file begins (inl four) = let e : true ≡ false = sym four ∙ begins.1 in cc e
+other-taken t file begins (inr large) = let e : true ≡ false = sym large.0 ∙ begins.0 in cc e
+
+-- what holds where a file that begins so is refused by its first sector
+pub where-refused : (t : Target) (had left : Option (List ℕ)) (first : List ℕ) (b : Beginning) (P : Type 0) → length first ≡ 512 → ((rest : File) → BeginsSo b (first ∷ rest)) → Takes had first left
+    → ((file : File) → BeginsSo b file → RefusesFirst t file → P) → IfSome had (λ bytes. IsRefusedFirst t bytes → P)
+where-refused t None left first b P full begins takes all = tt
+where-refused t (Some bytes) left first b P full begins takes all = λ refused.
+    let w = begins-with bytes left first full takes in
+    all (file_of bytes) (subst (BeginsSo b) (sym w.1) (begins w.0)) refused
+
+-- and what holds of any file holds there
+pub refused-or-not : (t : Target) (had : Option (List ℕ)) (P : Type 0) → P → IfSome had (λ bytes. IsRefusedFirst t bytes → P)
+refused-or-not t None P p = tt
+refused-or-not t (Some bytes) P p = λ refused. p

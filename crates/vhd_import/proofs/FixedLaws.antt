@@ -1,6 +1,6 @@
 -- A fixed file, sector by sector.
 use Rattle.std.proofs.Common.{◌≡◌, inl, inr, ⊎_elim, ℕ, suc, ◌+◌, ◌-◌, ◌/◌, ◌%◌, ◌<◌, ◌≤◌, Bool, true, false, not, ◌&&◌, List, [], ◌∷◌, ◌++◌, length, take, Option, Some, None, Result, Ok, Err, refl, sym, ap, ◌∙◌, arith, subst}
-use Rattle.std.specs.Prelude.{◌==◌, IfErr, IfOk, OnOk, nat_lt, if◌then◌else◌}
+use Rattle.std.specs.Prelude.{◌==◌, All, IfErr, IfOk, OnOk, nat_lt, if◌then◌else◌}
 use Rattle.std.specs.List.{cons_option}
 use Rattle.std.proofs.Math.ListN.{get_or-append}
 use Rattle.std.proofs.Math.Nat.{div-eq_of_lt, div-lt_iff_lt-mul}
@@ -30,8 +30,9 @@ use Rattle.vhd_import.specs.Progress.{AreCounted, EndDenies, FaultSays, HasImpor
 use Rattle.vhd_import.specs.Puts.{Put, dynamic_put, fixed_put, put_at}
 use Rattle.vhd_import.specs.Room.{Target, is_too_large, lacks_space}
 use Rattle.vhd_import.specs.Verdicts.{denial_at, denial_at_end, fixed_denials, is_footed, sector_limit, sectors_of}
+use Rattle.vhd_import.proofs.BelowLaws.{fixed-within}
 use Rattle.vhd_import.proofs.FilledLaws.{filled-file, lacks-put}
-use Rattle.vhd_import.proofs.FrontLaws.{count-more, end-makes, end-says, more-read, none-read, puts-front, refused-says}
+use Rattle.vhd_import.proofs.FrontLaws.{count-more, end-makes, end-says, file-is, more-read, none-read, puts-front, refused-says}
 use Rattle.vhd_import.proofs.MadeLaws.{IsUndenied, fixed-holds, footed}
 use Rattle.vhd_import.proofs.HeadLaws.{passes, read-fields}
 use Rattle.vhd_import.proofs.PutLaws.{puts-fixed}
@@ -190,16 +191,23 @@ pub made-fixed : (t : Target) (bytes : List ℕ) (mid left : Option (List ℕ)) 
 made-fixed t bytes mid left n held puts f still spent is =
     let undenied : IsUndenied t f.front = record { none = f.read.undenied; ended = is } in
     let holds = fixed-holds t f.front (sectors_of f.front) f.plain.0 undenied refl in
-    let count : length (sectors_of f.front) ≡ n = omega (arith, holds.disk.count, f.long) in (
-      sectors_of f.front,
-      end-makes t bytes mid left f.front puts f.read still spent is,
-      count,
-      λ s. ap (λ l. filled l s) f.read.puts_are ∙ filled-file f.front (sectors_of f.front) s (puts-fixed f.front (sectors_of f.front) holds)
+    let count : length (sectors_of f.front) ≡ n = omega (arith, holds.disk.count, f.long) in
+    record {
+      sectors = sectors_of f.front;
+      made = end-makes t bytes mid left f.front puts f.read still spent is;
+      long = count;
+      puts_are = f.read.puts_are ∙ ap (λ (x : File). puts_of x (length x)) (sym (file-is t bytes mid left f.front puts f.read still spent));
+      filled_are = λ s. ap (λ l. filled l s) f.read.puts_are ∙ filled-file f.front (sectors_of f.front) s (puts-fixed f.front (sectors_of f.front) holds)
           (⊎_elim
           (λ (low : s < n). inl (suc s, record { sector = s; bytes = sector_at f.front s }, omega (arith, low, f.long), later-put f.front s f.plain, refl))
           (λ (high : n ≤ s). inr (get_or_past (sectors_of f.front) s zeros (omega (arith, high, count))))
-          (cases_lt s n)),
-    )
+          (cases_lt s n));
+    }
+
+-- each of its puts lies within it
+below-fixed : (t : Target) (had left : Option (List ℕ)) (count n : ℕ) (held : List ℕ) (puts : List Put) → IsFixedRead t had left count held puts → n + 1 ≡ count → All (λ (p : Put). p.sector < n) puts
+below-fixed t had left count n held puts f is =
+    subst (λ (l : List Put). All (λ (p : Put). p.sector < n) l) (sym f.read.puts_are) (fixed-within f.front n f.plain.0 (omega (arith, f.long, is)))
 
 -- ---- how a fixed file may end
 
@@ -282,13 +290,21 @@ end-answers t had mid left count n held to holds puts (Err e) f h next full made
           (subst (λ m. EndDenies f.front (nat_lt 0 m) e) (sym short) (denied f.front f.long f.last f.plain)),
       tt,
     )
-end-answers t None mid left count n held to holds puts (Ok k) f h next full made denied = (tt, (puts, h, tt))
+end-answers t None mid left count n held to holds puts (Ok k) f h next full made denied =
+    (tt, record { puts = puts; held = h; below = below-fixed t None mid count k held puts f made.0; made = tt })
 end-answers t (Some bytes) mid left count n held to holds puts (Ok k) f h next full made denied =
     let g : IsFixedRead t (Some bytes) mid (k + 1) held puts = subst (λ m. IsFixedRead t (Some bytes) mid m held puts) (sym made.0) f in
     let none : take n to ≡ [] = ap (λ m. take m to) made.1 in
     let still : Takes mid [] left = subst (λ b. Takes mid b left) none next.2 in
-    let last : sector_at g.front k ≡ held = let e : k + 1 - 1 ≡ k = omega arith in ap (sector_at g.front) (sym e) ∙ g.last in
-    (tt, (puts, h, made-fixed t bytes mid left k held puts g still next.3 (made.3 g.front (g.long ∙ made.0) last g.plain)))
+    let last : sector_at g.front k ≡ held = let e : k + 1 - 1 ≡ k = omega arith in ap (sector_at g.front) (sym e) ∙ g.last in (
+      tt,
+      record {
+        puts = puts;
+        held = h;
+        below = below-fixed t (Some bytes) mid count k held puts f made.0;
+        made = made-fixed t bytes mid left k held puts g still next.3 (made.3 g.front (g.long ∙ made.0) last g.plain);
+      },
+    )
 
 pub on-ok : {T E : Type 0} (r : Result T E) (P : Type 0) → P → OnOk r P
 on-ok (Ok x) P p = p

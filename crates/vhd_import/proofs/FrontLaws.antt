@@ -22,7 +22,7 @@ use Rattle.vhd_import.specs.declared.reading.Part.TheVariants.{End}
 use Rattle.vhd_import.specs.Progress.{AreCounted, FaultCounts, FaultSays, HasNext, HasRead, IsOpen, puts_of}
 use Rattle.vhd_import.specs.Puts.{Put, put_at}
 use Rattle.vhd_import.specs.Room.{Target}
-use Rattle.vhd_import.specs.Verdicts.{Denied, Long, Made, Verdict, denial_at, denial_at_end, ends_as, sector_limit, sectors_of, verdict, verdict_of}
+use Rattle.vhd_import.specs.Verdicts.{Denied, Long, Made, Verdict, denial_at, denial_at_end, ends_as, file_of, sector_limit, sectors_of, verdict, verdict_of}
 use Rattle.vhd_import.proofs.AgreeLaws.{agree-front, same-denial, same-put}
 use Rattle.vhd_import.proofs.BytesLaws.{drop-front, length-joined, take-front}
 
@@ -221,6 +221,26 @@ pub end-makes : (t : Target) (bytes : List ℕ) (mid left : Option (List ℕ)) (
 unfolding by-end
 end-makes t bytes mid left front puts h still spent is =
     ended-as t bytes mid left front puts [] h still spent (omega arith) (λ some. absurd (omega (arith, some))) ∙ ap (by-end front) is
+
+-- the sectors of a file that was read to its end are those that were read
+pub file-is : (t : Target) (bytes : List ℕ) (mid left : Option (List ℕ)) (front : File) (puts : List Put) → HasRead t (Some bytes) mid front puts → Takes mid [] left → IsSpent left → file_of bytes ≡ front
+file-is t bytes mid left front puts h still spent =
+    let whole : bytes ≡ concat front ++ [] = spent-bytes bytes mid left (concat front) [] h.takes still spent in
+    let all : AllByRecursion (λ s. length s ≡ 512) front = recursion_from_All (λ s. length s ≡ 512) front h.whole in
+    let long : length bytes ≡ 512 * length front = ap (λ (b : List ℕ). length b) whole ∙ omega (arith, length-append (concat front) [], length-joined front all) in
+    ap (cut_sectors (min (length bytes / 512) sector_limit)) whole ∙ cut-all front [] (min (length bytes / 512) sector_limit) h.whole (omega (arith, long, h.few))
+
+-- and a file begins with the sector that was read of it first
+pub begins-with : (bytes : List ℕ) (left : Option (List ℕ)) (first : List ℕ) → length first ≡ 512 → Takes (Some bytes) first left → (rest : File) × (file_of bytes ≡ first ∷ rest)
+begins-with bytes left first full takes =
+    let front : File = first ∷ [] in
+    let rest : List ℕ = takes.0 in
+    let one : AllByRecursion (λ s. length s ≡ 512) front = (full, tt) in
+    let is : bytes ≡ concat front ++ rest = takes.2 ∙ ap (λ (l : List ℕ). l ++ rest) (sym (append-nil first)) in
+    let long : length bytes ≡ 512 + length rest = ap (λ (b : List ℕ). length b) takes.2 ∙ omega (arith, length-append first rest, full) in
+    let n : ℕ = min (length bytes / 512) sector_limit in
+    let enough : n ≡ length front + (n - 1) = omega (arith, long) in
+    (cut_sectors (n - 1) rest, ap (cut_sectors n) is ∙ ap (λ x. cut_sectors x (concat front ++ rest)) enough ∙ cut-front front rest (n - 1) one)
 
 -- ---- a fault that is passed on
 

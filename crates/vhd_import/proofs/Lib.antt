@@ -1,6 +1,7 @@
 pub mod AgreeLaws
 pub mod ApartLaws
 pub mod BeginningLaws
+pub mod BelowLaws
 pub mod BlockLaws
 pub mod BytesLaws
 pub mod DiskLaws

@@ -14,7 +14,7 @@ use Rattle.vhd_import.specs.declared.reading.Part.TheVariants.{End, Whole}
 use Rattle.vhd_import.specs.Making.{filled}
 use Rattle.vhd_import.specs.Puts.{Put, put_at}
 use Rattle.vhd_import.specs.Room.{Target}
-use Rattle.vhd_import.specs.Verdicts.{Denied, Long, Made, denial_at, denial_at_end, sector_limit, verdict_of}
+use Rattle.vhd_import.specs.Verdicts.{Denied, Long, Made, denial_at, denial_at_end, file_of, sector_limit, verdict_of}
 
 -- what the first so many sectors of a file put on the disk, the newest first
 unfoldable pub puts_of : File → ℕ → List Put
@@ -68,13 +68,22 @@ pub record IsQuiet (t : Target) (front : File) (until : ℕ) : Type 0 where
 abbrev pub IsOpenUntil : File → ℕ → Type 0
 IsOpenUntil front until = (more : File) → length (front ++ more) < until → IsOpen (front ++ more)
 
--- Bytes were read, of which a disk of so many sectors is made, and it holds these sectors, and then zeros.
-abbrev pub IsMadeOf : Target → List ℕ → ℕ → List Put → Type 0
-IsMadeOf t bytes size puts =
-    (sectors : List (List ℕ)) × (verdict_of t bytes ≡ Made sectors) × (length sectors ≡ size) × ((s : ℕ) → filled puts s ≡ slice_index_or sectors s zeros)
+-- Bytes were read, of which a disk of so many sectors is made: just what their sectors put was put on it, and it holds these sectors, and
+-- then zeros.
+pub record IsMadeOf (t : Target) (bytes : List ℕ) (size : ℕ) (puts : List Put) : Type 0 where
+  pub sectors : List (List ℕ)
+  pub made : verdict_of t bytes ≡ Made sectors
+  pub long : length sectors ≡ size
+  pub puts_are : puts ≡ puts_of (file_of bytes) (length (file_of bytes))
+  pub filled_are : (s : ℕ) → filled puts s ≡ slice_index_or sectors s zeros
 
--- What is answered to a file: a fault says so, where the file is told. Where a disk is made, it holds some puts, which make it the one that
--- the file holds.
+-- A disk of so many sectors holds some puts, each within it, which make it the one that the file holds, where that is told.
+pub record HasMade (t : Target) (had : Option (List ℕ)) (holds : List Put → Type 0) (size : ℕ) : Type 0 where
+  pub puts : List Put
+  pub held : holds puts
+  pub below : All (λ (p : Put). p.sector < size) puts
+  pub made : IfSome had (λ bytes. IsMadeOf t bytes size puts)
+
+-- what is answered to a file: a fault says so, where the file is told, or a disk is made that holds it
 abbrev pub HasImported : Target → Option (List ℕ) → Result ℕ ImportFault → (List Put → Type 0) → Type 0
-HasImported t had result holds =
-    IfErr result (FaultSays t had) × IfOk result (λ size. (puts : List Put) × holds puts × IfSome had (λ bytes. IsMadeOf t bytes size puts))
+HasImported t had result holds = IfErr result (FaultSays t had) × IfOk result (HasMade t had holds)

@@ -11,7 +11,7 @@ ghost use Rattle.vhd_import.specs.Beginnings.{BeginsSo, layout_by};
 ghost use Rattle.vhd_import.specs.Dynamics.{HasBegun, HasFront, HasHeader, HasPlaces, IsBeforeTable, IsStopped, IsTablePart};
 ghost use Rattle.vhd_import.specs.Progress.{AreCounted, FaultSays, HasImported};
 ghost use Rattle.vhd_import.specs.Puts.{Put};
-ghost use Rattle.vhd_import.specs.Room.{Target};
+ghost use Rattle.vhd_import.specs.Room.{Target, is_too_large as too_large};
 ghost use Rattle.vhd_import.specs.Verdicts.{sector_limit};
 
 use crate::blocks::read_blocks;
@@ -178,6 +178,7 @@ pub fn read_dynamic<S: Source, N: NewDisk>(
     requires new { N.begun disk.old ≡ false }
     ensures answered { (had : Option (List ℕ)) (first : List ℕ) → length first ≡ 512 → BeginsSo (Dynamic sectors) (first ∷ []) → Takes had first (S.content source.old)
         → HasImported (N.target disk.old) had result (N.holds disk.new) }
+    ensures unbegun { too_large (N.target disk.old) sectors ≡ true → N.begun disk.new ≡ false }
     ensures spent { OnOk result (IsSpent (S.content source.new)) }
     ensures size { IfOk result (λ size. size ≡ sectors) }
     ensures fits { IfOk result (λ size. div_up size block ≤ entries) }

@@ -1,9 +1,10 @@
 //! A whole file, read into a new disk.
 
-ghost use Rattle.std.specs.Prelude.{◌≡◌, ◌<◌, ◌≤◌, IfOk, OnOk, false, true};
+ghost use Rattle.std.specs.Prelude.{◌≡◌, ◌<◌, ◌≤◌, IfOk, IfSome, OnOk, false, true};
 ghost use Rattle.sm_base.specs.Numbers.{div_up};
 ghost use Rattle.sm_run.specs.Runs.{IsSpent};
 ghost use Rattle.vhd_import.specs.Progress.{AreCounted, HasImported};
+ghost use Rattle.vhd_import.specs.Verdicts.{IsRefusedFirst};
 
 use crate::disks::NewDisk;
 use crate::dynamic::read_dynamic;
@@ -16,8 +17,7 @@ use sm_disk::Source;
 use std::alloc::Global;
 
 /// Reads a VHD file once, from its begin to its end, into a new disk of a repository with so many sectors a block, of whose tables each has
-/// so many entries. It answers the sectors of the disk. Where its first sector is refused the disk has no volume yet, which no clause says; nor does
-/// one say which bytes were put, but only what the disk then holds.
+/// so many entries. It answers the sectors of the disk. Where its first sector is refused the disk has no volume yet.
 pub fn read_file<S: Source, N: NewDisk>(
     alloc: Global,
     entries: u32,
@@ -30,6 +30,8 @@ pub fn read_file<S: Source, N: NewDisk>(
     requires block { (N.target disk.old).block ≡ block }
     requires new { N.begun disk.old ≡ false }
     ensures answered { HasImported (N.target disk.old) (S.content source.old) result (N.holds disk.new) }
+    // A file that its first sector refuses begins no disk.
+    ensures unbegun { IfSome (S.content source.old) (λ bytes. IsRefusedFirst (N.target disk.old) bytes → N.begun disk.new ≡ false) }
     ensures spent { OnOk result (IsSpent (S.content source.new)) }
     ensures some { IfOk result (λ size. 0 < size) }
     ensures fits { IfOk result (λ size. div_up size block ≤ entries) }

@@ -2,8 +2,7 @@
 //!
 //! **What is kept here.** Nothing: a file is read once, from its begin, a sector at a time ([`read_sector`]), and of its table the
 //! entries are kept that name a place ([`read_table`], [`sort_entries`]). A disk is made of it put by put, by whoever has one
-//! ([`NewDisk`]); no call here knows a store. A file is read whole ([`read_file`]), fixed ([`read_fixed`]) or dynamic. No word of the program
-//! asks for an import yet.
+//! ([`NewDisk`]); no call here knows a store. A file is read whole ([`read_file`]), fixed ([`read_fixed`]) or dynamic.
 //!
 //! **The model** (`specs/`). A file is a list of sectors of 512 bytes, as in `vhd_stream`. `Verdicts` says what an import answers to
 //! bytes (`verdict_of`): the sectors of a disk, why the file is not taken, or that it is longer than is read. Each sector may
@@ -22,9 +21,11 @@
 //! reads a file there are the entries of its table (`law_table`), what each sector puts (`law_put`), and how many slots that takes
 //! (`law_used`). The disk that is made is whole blocks (`law_imported`). `read_file` reads a file, fixed or dynamic, and answers what `verdict_of`
 //! says of the bytes: the disk holds the sectors of the file and then zeros, or the refusal is the file's denial, or the file is longer than is
-//! read. A refusal for want of extents comes exactly where the disk has too few for its puts. A fault of the device or of the source is told
-//! only where its count rose. A table is judged once all of it was read, or as much as the file has: a fault of the source in it, or a want
-//! of memory, is told before its wrong entries are.
+//! read. Where a disk is made, just what the file's sectors put was put on it, in their order, each within the disk; a file that its first
+//! sector refuses begins no disk. A refusal comes where the bytes have it, and for want of extents exactly where the disk
+//! has too few for its puts, but where memory is wanting first. A fault of the device
+//! or of the source is told only where its count rose. A table is judged once all of it was read, or as much as the file has: a fault of the
+//! source in it, or a want of memory, is told before its wrong entries are.
 //!
 //! **What it costs.** A sector is read by as many calls of the source as it comes in pieces. Memory is taken for the entries of a table that
 //! name a place, eight bytes each; they are sorted in place.

@@ -5,7 +5,7 @@ use Rattle.vhd_import.specs.Blocks.{IsBeforeBlocks, IsPastBlocks}
 use Rattle.vhd_import.specs.Making.{begin_lacks}
 use Rattle.vhd_import.specs.Progress.{FaultSays}
 use Rattle.vhd_import.specs.Room.{Target, is_too_large}
-use Rattle.vhd_import.proofs.EndLaws.{ends-dynamic, quiet-rest}
+use Rattle.vhd_import.proofs.EndLaws.{below-dynamic, ends-dynamic, quiet-rest}
 use Rattle.vhd_import.proofs.FixedLaws.{imported-err, room-says}
 use Rattle.vhd_import.proofs.FrontLaws.{counts-err}
 use Rattle.vhd_import.proofs.HeaderLaws.{begin-says, begun-read, large-says}
@@ -95,8 +95,15 @@ returns-clause-answered g c = λ had first long begins takes.
     let p = subst (λ (x : Target). IsPastBlocks x had (g.S.Source.content c.read_blocks.new.source) front (g.N.NewDisk.holds c.read_blocks.new.disk) r.layout c.in_ok-last.last) c.in_ok-begin_disk.ensures.target
     (c.in_ok-last.ensures.read had front [] r.layout before r.block r.end c.in_ok-begin_disk.ensures.holds) in
     let quiet = quiet-rest t had _ front (g.N.NewDisk.holds c.read_blocks.new.disk) r.layout c.args.sectors c.in_ok-last.last r.places.before.tabled p in
-    let rest = c.in_ok-skip_rest.ensures.read t had (front ++ p.goes.more) p.goes.puts p.goes.read p.goes.long quiet in
-    (tt, (p.goes.puts, p.goes.held, ends-dynamic t had _ front (g.N.NewDisk.holds c.read_blocks.new.disk) r.layout c.args.sectors c.in_ok-last.last r.places.before.tabled p _ rest.0 rest.1 c.in_ok-skip_rest.ensures.spent))
+    let rest = c.in_ok-skip_rest.ensures.read t had (front ++ p.goes.more) p.goes.puts p.goes.read p.goes.long quiet in (
+      tt,
+      record {
+        puts = p.goes.puts;
+        held = p.goes.held;
+        below = below-dynamic t had _ front (g.N.NewDisk.holds c.read_blocks.new.disk) r.layout c.args.sectors c.in_ok-last.last r.places.before.tabled p _ rest.0 rest.1;
+        made = ends-dynamic t had _ front (g.N.NewDisk.holds c.read_blocks.new.disk) r.layout c.args.sectors c.in_ok-last.last r.places.before.tabled p _ rest.0 rest.1 c.in_ok-skip_rest.ensures.spent;
+      },
+    )
 
 pub returns-clause-counts : goal.returns-clause-counts
 returns-clause-counts g c = (

@@ -1,10 +1,11 @@
-use Rattle.std.proofs.Common.{◌≡◌, ◌<◌, ◌∷◌, [], Err, refl, rules, subst, arith}
+use Rattle.std.proofs.Common.{◌≡◌, ◌<◌, ◌∷◌, [], Err, false, refl, rules, subst, arith}
 use Rattle.std.proofs.lemmas.Result.{IfOk-weaker}
 use Rattle.vhd_import.specs.declared.heads.Beginning.{Beginning}
+use Rattle.vhd_import.specs.declared.heads.Beginning.TheVariants.{Dynamic, Other}
 use Rattle.vhd_import.specs.Beginnings.{BeginsSo}
 use Rattle.vhd_import.specs.Progress.{AreCounted}
 use Rattle.vhd_import.specs.Room.{Target}
-use Rattle.vhd_import.proofs.FileLaws.{differencing-says, open-none, some-dynamic}
+use Rattle.vhd_import.proofs.FileLaws.{differencing-says, dynamic-large, open-none, other-taken, refused-or-not, some-dynamic, where-refused}
 use Rattle.vhd_import.proofs.FixedLaws.{imported-err}
 use Rattle.vhd_import.proofs.FrontLaws.{counts-err, none-read}
 use Rattle.vhd_import.proofs.files.read_file.Goals as goal
@@ -56,3 +57,25 @@ returns-in-Dynamic-clause-counts g c =
 pub returns-in-Other-clause-counts : goal.returns-in-Other-clause-counts
 returns-in-Other-clause-counts g c =
     subst (λ n. AreCounted c.read_fixed.result n (g.S.Source.faults c.read_fixed.new.source) (g.N.NewDisk.faults c.args.disk.now) (g.N.NewDisk.faults c.read_fixed.new.disk)) (c.in_ok-whole_sector.ensures.counts 0).0.0 c.read_fixed.ensures.counts
+
+pub returns-in_err-whole_sector-clause-unbegun : goal.returns-in_err-whole_sector-clause-unbegun
+returns-in_err-whole_sector-clause-unbegun g c = refused-or-not (g.N.NewDisk.target c.args.disk.now) (g.S.Source.content c.args.source.now) (g.N.NewDisk.begun c.args.disk.now ≡ false) c.requires.new
+
+pub returns-in-Differencing-clause-unbegun : goal.returns-in-Differencing-clause-unbegun
+returns-in-Differencing-clause-unbegun g c = refused-or-not (g.N.NewDisk.target c.args.disk.now) (g.S.Source.content c.args.source.now) (g.N.NewDisk.begun c.args.disk.now ≡ false) c.requires.new
+
+pub returns-in-Dynamic-clause-unbegun : goal.returns-in-Dynamic-clause-unbegun
+returns-in-Dynamic-clause-unbegun g c =
+    let t : Target = g.N.NewDisk.target c.args.disk.now in
+    let first = c.whole_sector.new.to in
+    where-refused t _ _ first (Dynamic c.in-Dynamic.sectors) (g.N.NewDisk.begun c.read_dynamic.new.disk ≡ false) c.whole_sector.array_long
+    (λ rest. subst (λ (b : Beginning). BeginsSo b (first ∷ rest)) c.in-Dynamic.is (c.beginning_of.ensures rest)) c.in_ok-whole_sector.ensures.read.1
+    (λ file begins refused. c.read_dynamic.ensures.unbegun (dynamic-large t file c.in-Dynamic.sectors begins refused))
+
+pub returns-in-Other-clause-unbegun : goal.returns-in-Other-clause-unbegun
+returns-in-Other-clause-unbegun g c =
+    let t : Target = g.N.NewDisk.target c.args.disk.now in
+    let first = c.whole_sector.new.to in
+    where-refused t _ _ first Other (g.N.NewDisk.begun c.read_fixed.new.disk ≡ false) c.whole_sector.array_long
+    (λ rest. subst (λ (b : Beginning). BeginsSo b (first ∷ rest)) c.in-Other.is (c.beginning_of.ensures rest)) c.in_ok-whole_sector.ensures.read.1
+    (λ file begins refused. absurd (other-taken t file begins refused))
