@@ -1,6 +1,0 @@
-pub mod AddedLaws
-pub mod MomentLaws
-pub mod ImportLaws
-pub mod BackLaws
-pub mod EndLaws
-pub mod CompleteLaws

@@ -1,0 +1,14 @@
+pub mod AddedLaws
+pub mod MomentLaws
+pub mod ImportLaws
+pub mod BackLaws
+pub mod EndLaws
+pub mod CompleteLaws
+pub mod RoomLaws
+pub mod BlockLaws
+pub mod FillLaws
+pub mod AnswerLaws
+pub mod PutLaws
+pub mod SinceLaws
+pub mod WriteLaws
+pub mod FaultLaws

@@ -1,0 +1,5 @@
+pub mod Imports
+pub mod Rooms
+pub mod Endings
+pub mod Disks
+pub mod Proper
