@@ -1,11 +1,11 @@
-//! The program: `lvhd PATH format EXTENT BLOCK ENTRIES UUID`, `lvhd PATH run`, `lvhd PATH export U`, the same with `span PATH PATH2` in
-//! place of PATH, and `lvhd trial N`.
+//! The program: `lvhd PATH format EXTENT BLOCK ENTRIES UUID`, `lvhd PATH run`, `lvhd PATH export U`, `lvhd PATH import U`, the same with
+//! `span PATH PATH2` in place of PATH, and `lvhd trial N`.
 //!
-//! The file at PATH is the device, or the file at PATH with that at PATH2 behind it, each of them locked; the script comes on standard
+//! The file at PATH is the device, or the file at PATH with that at PATH2 behind it, each of them locked; the script, or the file of an import, comes on standard
 //! input, and the replies, or the bytes of an exported file, go to standard output. What is
 //! asked for is done by the proved top call; here the file and the streams are opened, and the status is handed to the
-//! system. The program prints nothing of its own. Where a standard stream is closed, or another run has the file, nothing of `format`, `run`
-//! and `export` is done. Standard input is read in pieces, so behind a fault more of it may have been taken than was answered. A trial works
+//! system. The program prints nothing of its own. Where a standard stream is closed, or another run has the file, nothing of `format`, `run`,
+//! `export` and `import` is done. Standard input is read in pieces, so behind a fault more of it may have been taken than was answered. A trial works
 //! on a device in memory, and opens no file: one that is itself called `trial` is reached as `./trial`.
 #![tactic(auto)]
 

@@ -3,6 +3,7 @@ pub mod ExactLaws
 pub mod ExportLaws
 pub mod FormatLaws
 pub mod FormattedLaws
+pub mod ImportLaws
 pub mod OpenLaws
 pub mod RunLaws
 pub mod SoundText

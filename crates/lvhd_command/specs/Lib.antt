@@ -1,6 +1,7 @@
 pub mod Devices
 pub mod Exporting
 pub mod Formatting
+pub mod Importing
 pub mod Running
 pub mod Sessions
 pub mod Statuses

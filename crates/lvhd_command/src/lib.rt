@@ -1,13 +1,13 @@
-//! The program, over any device, source and sink: a repository is made of a device, a script is answered on it, or the lines that a
-//! number draws are tried on a new one, or a disk is sent as a VHD file.
+//! The program, over any device, source and sink: a repository is made of a device, a script is answered on it, the lines that a
+//! number draws are tried on a new one, a disk is sent as a VHD file, or one is made of such a file.
 //!
-//! **What is kept here.** Nothing. [`lvhd`] takes the words, the device, the source of the script and the sink of the
+//! **What is kept here.** Nothing. [`lvhd`] takes the words, the device, the source of the script or of a file and the sink of the
 //! replies, and hands the device back at every return. A device is counted in sectors of 512 bytes.
 //!
 //! **The model** (`specs/`). `Words` says what the words ask for, `Texts` the lines that the program prints of itself,
 //! `Statuses` the exit status. `Devices`: a device is kept where each image that a stop may leave of it opens again
 //! (`IsKeptDevice`), and it may show the disks of each such image (`MayShowOn`). `Sessions`: the site, the table, the content and the state of
-//! an open session. `Formatting`, `Running`, `Trials` and `Exporting` say by status what each word did.
+//! an open session. `Formatting`, `Running`, `Trials`, `Exporting` and `Importing` say by status what each word did.
 //!
 //! **What it promises.** [`lvhd`] on a device that tells its content and is kept, with the word `run`, at every return: the
 //! device is kept; what the sink got are the machine's replies to the lines that were read, and a front of one more; and
@@ -36,15 +36,25 @@
 //! that it had, in the shape that an opening makes (`IsAsOpened`). What is printed of a refusal is so whatever the device holds (`ExportSaid`). All
 //! of it is one record, `ExportDid`.
 //!
-//! The statuses of a fault come exactly where a call failed. Want of memory has no cause; it comes before the first write but in an export,
-//! whose opening may have made its repairs by then, and in a trial, which it may end at any line.
+//! With the word `import`, on a device that is kept: at status 0 the source was read to its end, nothing is pending, and a stop shows the disks
+//! from before and the one that the bytes of the source hold, and no others; at status 3 these or the disks from before; with any other
+//! status the disks from before, sector by sector (`ImportLeft`). At status 10 one line says what refuses the file, by the shape of the
+//! repository or by the bytes (`ImportTold`). The device is kept at every return, and its label stays. Where the UUID, the number of
+//! images or the sequence number refuses it nothing is read of the source (`IsRefusedAtOnce`). A VHD file that there is room for is taken
+//! where no call fails (`IsImportable`). What holds at each status is one record, `ImportDid`.
+//!
+//! The statuses of a fault come exactly where a call failed; an import has two failed calls and status 3 where the source failed, and then the
+//! device, as the new volume was to be removed. Want of memory has no cause; it comes before the first write but in an export,
+//! whose opening may have made its repairs by then, in an import, and in a trial, which it may end at any line.
 //!
 //! **What it costs.** `run` takes one line buffer, then the memory of an opening, and what a step takes; the script is read
-//! byte by byte. `export` takes the memory of an opening, and that of one block and its bitmap.
+//! byte by byte. `export` takes the memory of an opening, and that of one block and its bitmap; `import` that of an opening, of the table of the new image and
+//! of the entries of the file's table, and a page.
 #![tactic(auto)]
 
 mod exporting;
 mod formatting;
+mod importing;
 mod laws;
 mod opening;
 mod running;

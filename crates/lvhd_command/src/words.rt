@@ -1,7 +1,7 @@
 //! The program's words.
 
 ghost use Rattle.std.specs.Prelude.{◌≡◌, map};
-ghost use Rattle.lvhd_command.specs.Words.{export_of, form_of, format_of, trial_of};
+ghost use Rattle.lvhd_command.specs.Words.{export_of, form_of, format_of, import_of, trial_of};
 
 use sm_script::{number_in, uuid_in};
 use uuid::Uuid;
@@ -16,7 +16,7 @@ pub struct Request {
     pub repository: Uuid,
 }
 
-/// Which disk is to be sent as a file.
+/// Which disk is to be sent as a file, or made of one.
 #[derive(Clone, Copy)]
 pub struct Wanted {
     pub disk: Uuid,
@@ -33,6 +33,8 @@ pub enum Form {
     Trial { number: u64 },
     /// Send a disk as a VHD file.
     Export(Wanted),
+    /// Make a disk of a VHD file.
+    Import(Wanted),
 }
 
 impl Form {
@@ -54,6 +56,8 @@ impl Form {
                     trial_form(second)
                 } else if word.as_bytes() == b"export".as_slice() {
                     export_form(second)
+                } else if word.as_bytes() == b"import".as_slice() {
+                    import_form(second)
                 } else {
                     None
                 }
@@ -96,6 +100,15 @@ fn export_form(disk: &str) -> Option<Form>
     ensures { result ≡ export_of disk.now }
 {
     Some(Form::Export(Wanted {
+        disk: uuid_in(disk.as_bytes())?,
+    }))
+}
+
+/// The word of `import` behind the first.
+fn import_form(disk: &str) -> Option<Form>
+    ensures { result ≡ import_of disk.now }
+{
+    Some(Form::Import(Wanted {
         disk: uuid_in(disk.as_bytes())?,
     }))
 }

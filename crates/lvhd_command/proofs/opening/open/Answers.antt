@@ -5,8 +5,8 @@ use Rattle.sm_disk.proofs.HeldLaws.{Allows-keeps, Keeps-then}
 use Rattle.vg_layout.specs.Fields.{layout_number, plate, pointer}
 use Rattle.vg_layout.specs.Opening.{IsRefused}
 use Rattle.vg_meta.specs.Roomy.{table_alone}
-use Rattle.vg_store.specs.Groups.{LeavesGroup, area_of, beside_of}
-use Rattle.vg_volumes.specs.Sites.{Site, area_size}
+use Rattle.vg_store.specs.Groups.{LeavesGroup, area_of}
+use Rattle.vg_volumes.specs.Sites.{Site}
 use Rattle.sm_checks.specs.Openable.{IsOpeningStopped}
 use Rattle.sm_ready.specs.Stores.{content_now}
 use Rattle.lvhd_command.specs.Devices.{IsRefusedOn, StandsAlways, beside_at, plate_at}

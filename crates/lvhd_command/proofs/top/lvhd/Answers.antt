@@ -4,10 +4,12 @@ use Rattle.lvhd_command.specs.declared.words.Wanted.{Wanted}
 use Rattle.lvhd_command.proofs.ExactLaws.{completes}
 use Rattle.lvhd_command.proofs.ExportLaws.{export_completes, export_denies, same_wanted}
 use Rattle.lvhd_command.proofs.FormatLaws.{same_request, beside_as, did_as, cannot_as}
+use Rattle.lvhd_command.proofs.ImportLaws.{import_completes, same_import}
 use Rattle.lvhd_command.proofs.OpenLaws.{kept_sound}
 use Rattle.lvhd_command.specs.Exporting.{ExportDid, IsUnknown, export_sides}
 use Rattle.lvhd_command.specs.Formatting.{Sides, format_sides}
-use Rattle.lvhd_command.specs.Running.{RunSides}
+use Rattle.lvhd_command.specs.Importing.{ImportDid, IsImportable, IsRefusedAtOnce}
+use Rattle.lvhd_command.specs.Running.{RunSides, sides}
 use Rattle.lvhd_command.specs.Trials.{TrialDid}
 use Rattle.lvhd_command.proofs.TrialLaws.{same_number, trial_completes}
 use Rattle.lvhd_command.proofs.top.lvhd.Goals as goal
@@ -73,3 +75,31 @@ returns-in-Some-Export-clause-complete_unknown g c = λ wanted is told kept unkn
     let same = same_wanted c.in-Some-Export.wanted wanted (sym here ∙ c.read.ensures ∙ is) in
     let s : RunSides = export_sides g.D.Disk.size g.D.Disk.held g.K.Sink.content c.args.disk c.run_export.result.1 c.args.sink.now c.run_export.new.sink in
     export_denies s c.in-Some-Export.wanted.disk c.args.now c.run_export.result.0 ((c.run_export.ensures.did told).sent kept) (subst (λ (w : Wanted). IsUnknown s w.disk) (sym same) unknown) (λ e. dev (c.run_export.ensures.device e)) (λ e. snk (c.run_export.ensures.sink e))
+
+pub returns-in-Some-Import-clause-source_calm : goal.returns-in-Some-Import-clause-source_calm
+returns-in-Some-Import-clause-source_calm g c = λ device other.
+    let here = c.in-Some-Import.is ∙ ap (λ (f : Form). Some f) c.in-Some-Import.field-0-is in
+    c.run_import.ensures.source_calm other (device c.in-Some-Import.wanted (sym c.read.ensures ∙ here))
+
+pub returns-in-Some-Import-clause-import : goal.returns-in-Some-Import-clause-import
+returns-in-Some-Import-clause-import g c = λ wanted is told.
+    let here = c.in-Some-Import.is ∙ ap (λ (f : Form). Some f) c.in-Some-Import.field-0-is in
+    let s : RunSides = sides g.D.Disk.size g.D.Disk.held g.S.Source.content g.K.Sink.content c.args.disk c.run_import.result.1 c.args.source.now c.run_import.new.source c.args.sink.now c.run_import.new.sink in
+    subst (λ (w : Wanted). ImportDid s w.disk c.run_import.result.0) (same_import c.in-Some-Import.wanted wanted (sym here ∙ c.read.ensures ∙ is)) (c.run_import.ensures.did told)
+
+pub returns-in-Some-Import-clause-import_unread : goal.returns-in-Some-Import-clause-import_unread
+returns-in-Some-Import-clause-import_unread g c = λ wanted is told kept r.
+    let here = c.in-Some-Import.is ∙ ap (λ (f : Form). Some f) c.in-Some-Import.field-0-is in
+    let s : RunSides = sides g.D.Disk.size g.D.Disk.held g.S.Source.content g.K.Sink.content c.args.disk c.run_import.result.1 c.args.source.now c.run_import.new.source c.args.sink.now c.run_import.new.sink in
+    c.run_import.ensures.unread told kept (subst (λ (w : Wanted). IsRefusedAtOnce s w.disk) (sym (same_import c.in-Some-Import.wanted wanted (sym here ∙ c.read.ensures ∙ is))) r)
+
+pub returns-in-Some-Import-clause-complete_import : goal.returns-in-Some-Import-clause-complete_import
+returns-in-Some-Import-clause-complete_import g c = λ wanted is told kept may dev src snk.
+    let here = c.in-Some-Import.is ∙ ap (λ (f : Form). Some f) c.in-Some-Import.field-0-is in
+    let s : RunSides = sides g.D.Disk.size g.D.Disk.held g.S.Source.content g.K.Sink.content c.args.disk c.run_import.result.1 c.args.source.now c.run_import.new.source c.args.sink.now c.run_import.new.sink in
+    let mine = subst (λ (w : Wanted). IsImportable s w.disk) (sym (same_import c.in-Some-Import.wanted wanted (sym here ∙ c.read.ensures ∙ is))) may in
+    import_completes s c.in-Some-Import.wanted.disk c.run_import.result.0 ((c.run_import.ensures.did told).tried kept) mine (kept_sound s.size s.old kept)
+    (λ e. dev (c.run_import.ensures.device e)) (λ e. src (c.run_import.ensures.source e)) (λ e. snk (c.run_import.ensures.sink e))
+
+pub returns-in-Some-Run-clause-source_calm : goal.returns-in-Some-Run-clause-source_calm
+returns-in-Some-Run-clause-source_calm g c = λ _ other. c.run_script.ensures.source_calm other
