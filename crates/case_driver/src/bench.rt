@@ -2,10 +2,11 @@
 
 use crate::calls::{calls, costs};
 use crate::devices::{device, formatted, misspelled, refused, tried};
+use crate::imports::imported;
 use case_device::{Book, Device, committed, has, set};
 use case_runs::{Answered, Tester, probe};
 use case_text::{Act, Entry, File, Script, Step, Units, compare, text_of};
-use case_words::{Wrong, found};
+use case_words::{Wrong, bytes_of, found};
 use lvhd_command::Status;
 use std::alloc::Global;
 
@@ -25,6 +26,8 @@ pub struct Bench<'a> {
     pub known: Known<'a>,
     /// How many calls of the device the last line made of which that was asked.
     pub cost: Option<u64>,
+    /// The bytes of the file that is imported next.
+    pub file: Vec<u8>,
 }
 
 impl<'a> Bench<'a> {
@@ -42,6 +45,7 @@ impl<'a> Bench<'a> {
             disk: usual.copy(alloc)?,
             known,
             cost: None,
+            file: Vec::new(alloc),
         })
     }
 }
@@ -158,6 +162,10 @@ fn handle(alloc: Global, bench: &mut Bench<'_>, act: Act<'_>) -> Result<(), Wron
             bench.known.is_held = false;
             Ok(())
         }
+        Act::File(words) => {
+            bench.file = bytes_of(alloc, words)?;
+            Ok(())
+        }
         Act::After(_) => Ok(()),
         _ => Err(found(alloc, "this is not done here")),
     }
@@ -176,6 +184,9 @@ pub fn perform<'a>(
         Act::Format { words, line, units } => format(tester, bench, words, line, units),
         Act::Words(words) => misspelled(tester, &mut bench.disk, words),
         Act::Trial { number, line } => tried(tester, &mut bench.disk, number, line),
+        Act::Import { uuid, line } => {
+            imported(tester, bench, file.steps(entry.script), uuid, line)
+        }
         Act::Shows => shows(tester, bench),
         Act::Calls(number) => calls(tester, bench, file.steps(entry.script), number),
         Act::Costs(cost) => costs(tester, bench, file.steps(entry.script), cost),

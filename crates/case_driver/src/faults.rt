@@ -71,7 +71,7 @@ fn is_front_of_lines(whole: &str, printed: &str) -> bool {
 }
 
 /// The streams of a run with a fault.
-fn streams_of(fault: Fault, number: u64) -> Streams {
+pub fn streams_of(fault: Fault, number: u64) -> Streams {
     match fault {
         Fault::Stop(_) | Fault::Fail(_) => WHOLE,
         Fault::Sink => Streams {
@@ -87,7 +87,7 @@ fn streams_of(fault: Fault, number: u64) -> Streams {
 }
 
 /// The device of a case, which fails as it is told.
-fn disturbed(alloc: Global, disk: &Device, fault: Fault, number: u64) -> Result<Device, Wrong> {
+pub fn disturbed(alloc: Global, disk: &Device, fault: Fault, number: u64) -> Result<Device, Wrong> {
     let mut disk = disk.copy(alloc)?;
     match fault {
         Fault::Stop(part) => disk.stop(part, number),
@@ -148,7 +148,7 @@ fn is_right(sound: &Sound<'_>, number: u64, lines: usize, printed: &str) -> bool
 }
 
 /// The status of a run whose fault was met.
-fn status_of(fault: Fault) -> Status {
+pub fn status_of(fault: Fault) -> Status {
     match fault {
         Fault::Stop(_) | Fault::Fail(_) => Status::Device,
         Fault::Sink => Status::Sink,

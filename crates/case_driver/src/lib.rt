@@ -14,6 +14,7 @@ mod cases;
 mod choices;
 mod devices;
 mod faults;
+mod imports;
 mod printing;
 
 pub use printing::work_through;

@@ -90,17 +90,17 @@ impl Tester {
         }
     }
 
-    /// Runs the program on a device.
-    pub fn run_with(
+    /// Runs the program on a device, with a source of these bytes.
+    pub fn run_bytes(
         &mut self,
         disk: &mut Device,
         words: &[&str],
-        script: &str,
+        bytes: &[u8],
         streams: Streams,
     ) -> Result<Outcome, Wrong> {
         count(&mut self.counts.runs);
         let piece = streams.piece.max(1);
-        let mut source = MemSource::new(self.alloc, script.as_bytes(), piece, streams.until)?;
+        let mut source = MemSource::new(self.alloc, bytes, piece, streams.until)?;
         let mut sink = MemSink::new(self.alloc, streams.room)?;
         let taken = mem::replace(disk, Device::new(self.alloc, 0)?);
         let span = taken.span(self.alloc)?;
@@ -110,6 +110,17 @@ impl Tester {
             status,
             printed: text_of(self.alloc, &sink)?,
         })
+    }
+
+    /// Runs the program on a device, with a source of this text.
+    pub fn run_with(
+        &mut self,
+        disk: &mut Device,
+        words: &[&str],
+        script: &str,
+        streams: Streams,
+    ) -> Result<Outcome, Wrong> {
+        self.run_bytes(disk, words, script.as_bytes(), streams)
     }
 
     /// Runs a script on a device.

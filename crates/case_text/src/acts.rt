@@ -84,6 +84,13 @@ pub enum Act<'a> {
         number: &'a str,
         line: &'a str,
     },
+    /// The bytes of the file that is imported below.
+    File(&'a str),
+    /// The file is imported as a disk with this UUID: that prints nothing, or this error. The script makes such a disk.
+    Import {
+        uuid: &'a str,
+        line: &'a str,
+    },
     /// The script is answered.
     Run,
     /// An opening is refused by this line.
@@ -128,6 +135,7 @@ impl Act<'_> {
     pub fn takes_script(&self) -> bool {
         match self {
             Act::Run | Act::Try(_) | Act::Calls(_) | Act::Costs(_) | Act::Unread(_) => true,
+            Act::Import { .. } => true,
             _ => false,
         }
     }
@@ -174,6 +182,16 @@ fn trial<'a>(words: &'a str) -> Result<Act<'a>, &'static str> {
     match words.split_once(" => ") {
         Some((number, line)) => Ok(Act::Trial { number, line }),
         None => Err("no line that the trial prints"),
+    }
+}
+
+fn import<'a>(words: &'a str) -> Result<Act<'a>, &'static str> {
+    match words.split_once(" => ") {
+        Some((uuid, line)) if line == "ok" || line.starts_with("error ") => {
+            Ok(Act::Import { uuid, line })
+        }
+        Some(_) => Err("no such end of an import"),
+        None => Err("no end of the import"),
     }
 }
 
@@ -308,6 +326,8 @@ pub fn act_of<'a>(line: &'a str) -> Result<Act<'a>, &'static str> {
         "format" => format(words),
         "trial" => trial(words),
         "words" => Ok(Act::Words(words)),
+        "file" => Ok(Act::File(words)),
+        "import" => import(words),
         "run" => Ok(run(words)),
         "again" => again(words),
         "ends" => ends(words),
