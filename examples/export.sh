@@ -4,10 +4,6 @@
 # behind three random scripts. Where qemu-img and vhdiinfo are installed they have to read the same of the files.
 root=$(cd "$(dirname "$0")/.." && pwd)
 . "$root/examples/shown.sh"
-# The UUID that a letter stands for.
-uuid() {
-    echo " $1" | long | tr -d ' '
-}
 # Runs words with no line, and says how that ended.
 ended() {
     status=0
@@ -19,17 +15,6 @@ sent() {
     status=0
     "$program" "$1" export "$(uuid "$2")" >"$3" </dev/null || status=$?
     echo "export $2: $(wc -c <"$3") bytes, status $status"
-}
-# So many sectors of a disk, by lines of `read`.
-by_lines() {
-    {
-        echo "attach $2 ro"
-        at=0
-        while [ "$at" -lt "$3" ]; do
-            echo "read $2 $at $(($3 - at < 128 ? $3 - at : 128))"
-            at=$((at + 128))
-        done
-    } | long | "$program" "$1" run | python3 -c 'import sys; [sys.stdout.buffer.write(bytes.fromhex(line[3:])) for line in sys.stdin]'
 }
 # A file has the bytes that the model makes of its disk, but for the stamps.
 as_the_model() {
@@ -64,23 +49,7 @@ ended "$work/empty.img" export "$(uuid A)"
 cmp "$work/repo.img" "$work/before.img" && echo 'the repository is as it was'
 echo '== over a base and enlarged, its snapshot, raw, over a raw base and enlarged, its clone'
 formatted "$work/disks.img" 4M
-shown "$work/disks.img" <<'END'
-create A 65536 vhd disk
-attach A rw
-fill A 0 24 a1
-snapshot A B
-fill A 20 10 a2
-resize A 100000
-create C 20000 raw plain
-attach C rw
-fill C 3 2 c1
-create D 16384 raw base
-attach D rw
-fill D 0 32 d1
-clone D E
-resize D 32768
-fill D 30 10 d2
-END
+five_disks | shown "$work/disks.img"
 cp "$work/script" "$work/disks"
 python3 "$root/examples/model.py" files 16384 4096 64 8192 "$work" <"$work/disks"
 for disk in A B C D E; do

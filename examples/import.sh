@@ -4,10 +4,6 @@
 # and, where qemu-img is installed, files that it made.
 root=$(cd "$(dirname "$0")/.." && pwd)
 . "$root/examples/shown.sh"
-# The UUID that a letter stands for.
-uuid() {
-    echo " $1" | long | tr -d ' '
-}
 # Makes a disk of what comes on standard input, and says how that ended.
 imported() {
     status=0
@@ -20,17 +16,6 @@ in_pieces() {
 data = open(sys.argv[2], "rb").read()
 for at in range(0, len(data), int(sys.argv[1])):
     os.write(1, data[at : at + int(sys.argv[1])])' "$1" "$2"
-}
-# So many sectors of a disk, by lines of `read`.
-by_lines() {
-    {
-        echo "attach $2 ro"
-        at=0
-        while [ "$at" -lt "$3" ]; do
-            echo "read $2 $at $(($3 - at < 128 ? $3 - at : 128))"
-            at=$((at + 128))
-        done
-    } | long | "$program" "$1" run | python3 -c 'import sys; [sys.stdout.buffer.write(bytes.fromhex(line[3:])) for line in sys.stdin]'
 }
 # The bytes of a disk, by an export and the plain reader.
 bytes_of() {
@@ -115,23 +100,7 @@ chain=66666666-6666-4666-8666-666666666666
 formatted "$work/disks.img" 16M
 formatted "$work/again.img" 16M
 {
-    cat <<'END'
-create A 65536 vhd disk
-attach A rw
-fill A 0 24 a1
-snapshot A B
-fill A 20 10 a2
-resize A 100000
-create C 20000 raw plain
-attach C rw
-fill C 3 2 c1
-create D 16384 raw base
-attach D rw
-fill D 0 32 d1
-clone D E
-resize D 32768
-fill D 30 10 d2
-END
+    five_disks
     echo "create $chain 65536 vhd chain"
     echo "attach $chain rw"
     for number in $(seq 29); do

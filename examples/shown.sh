@@ -38,3 +38,38 @@ shown() {
     short <"$work/answers" | awk 'NR == FNR { asked[NR] = $0; next } { printf "%-37s %s\n", asked[FNR], $0 }' "$work/asked" -
     [ "$status" -eq 0 ] || echo "status $status"
 }
+# The UUID that a letter stands for.
+uuid() {
+    echo " $1" | long | tr -d ' '
+}
+# So many sectors of a disk, by lines of `read`.
+by_lines() {
+    {
+        echo "attach $2 ro"
+        at=0
+        while [ "$at" -lt "$3" ]; do
+            echo "read $2 $at $(($3 - at < 128 ? $3 - at : 128))"
+            at=$((at + 128))
+        done
+    } | long | "$program" "$1" run | python3 -c 'import sys; [sys.stdout.buffer.write(bytes.fromhex(line[3:])) for line in sys.stdin]'
+}
+# Lines that make five disks: over a base and enlarged, its snapshot, a raw one, one over a raw base and enlarged, its clone.
+five_disks() {
+    cat <<'END'
+create A 65536 vhd disk
+attach A rw
+fill A 0 24 a1
+snapshot A B
+fill A 20 10 a2
+resize A 100000
+create C 20000 raw plain
+attach C rw
+fill C 3 2 c1
+create D 16384 raw base
+attach D rw
+fill D 0 32 d1
+clone D E
+resize D 32768
+fill D 30 10 d2
+END
+}
