@@ -8,7 +8,7 @@ use Rattle.std.proofs.lemmas.Bool.Decides.{nat_tests}
 use Rattle.std.specs.List.{list_all}
 use Rattle.sm_base.specs.Labels.{is_label_byte}
 use Rattle.sm_base.specs.declared.names.Name.{Name}
-use Rattle.sm_base.specs.declared.names.Name.TheVariants.{Mgt, Vhd, Raw, Old, Clone, Inflate, Coalesce, Relink, Leaf}
+use Rattle.sm_base.specs.declared.names.Name.TheVariants.{Mgt, Vhd, Raw, Old, Cbt, Clone, Inflate, Coalesce, Relink, Leaf}
 use Rattle.sm_base.specs.Names.{uuid_text, spelling, IsName}
 use Rattle.sm_base.specs.Texts.{placed}
 use Rattle.sm_base.proofs.TextLemmas.{length-uuid_text, placed-zero}
@@ -28,6 +28,7 @@ length_of Mgt = 3
 length_of (Vhd u) = 40
 length_of (Raw u) = 39
 length_of (Old u) = 40
+length_of (Cbt u) = 40
 length_of (Clone disk base twin) = 116
 length_of (Inflate image extents) = 45 + length (decimal extents)
 length_of (Coalesce child parent) = 82
@@ -43,6 +44,7 @@ length-spelling Mgt = refl
 length-spelling (Vhd u) = omega (arith, after (codes "VHD-") (uuid_text u), length-uuid_text u)
 length-spelling (Raw u) = omega (arith, after (codes "LV-") (uuid_text u), length-uuid_text u)
 length-spelling (Old u) = omega (arith, after (codes "OLD_") (uuid_text u), length-uuid_text u)
+length-spelling (Cbt u) = omega (arith, after (codes "CBT-") (uuid_text u), length-uuid_text u)
 length-spelling (Clone disk base twin) =
     omega (arith, length-append (uuid_text disk) (codes "_" ++ (uuid_text base ++ (codes "_" ++ uuid_text twin))), length-append (uuid_text base) (codes "_" ++ uuid_text twin), length-uuid_text disk, length-uuid_text base, length-uuid_text twin)
 length-spelling (Inflate image extents) =
@@ -60,6 +62,7 @@ length-spelling-le Mgt is = omega (arith, length-spelling Mgt)
 length-spelling-le (Vhd u) is = omega (arith, length-spelling (Vhd u))
 length-spelling-le (Raw u) is = omega (arith, length-spelling (Raw u))
 length-spelling-le (Old u) is = omega (arith, length-spelling (Old u))
+length-spelling-le (Cbt u) is = omega (arith, length-spelling (Cbt u))
 length-spelling-le (Clone disk base twin) is = omega (arith, length-spelling (Clone disk base twin))
 length-spelling-le (Inflate image extents) is =
     omega (arith, length-spelling (Inflate image extents), length-decimal-le 10 extents (omega arith) (omega (arith, is.2)) (omega (arith, is.2)))

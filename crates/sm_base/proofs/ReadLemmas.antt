@@ -5,7 +5,7 @@ use Rattle.std.specs.List.{starts_with}
 use Rattle.std.proofs.Common.{ap₂}
 use Rattle.std.proofs.lemmas.Fmt.{decimal_injective}
 use Rattle.sm_base.specs.declared.names.Name.{Name}
-use Rattle.sm_base.specs.declared.names.Name.TheVariants.{Mgt, Vhd, Raw, Old, Clone, Inflate, Coalesce, Relink, Leaf}
+use Rattle.sm_base.specs.declared.names.Name.TheVariants.{Mgt, Vhd, Raw, Old, Cbt, Clone, Inflate, Coalesce, Relink, Leaf}
 use Rattle.sm_base.specs.Kinds.{is_entry}
 use Rattle.sm_base.specs.Names.{IsUuid, uuid_text, spelling, IsName}
 use Rattle.sm_base.proofs.TextLemmas.{length-uuid_text, uuid_text-injective}
@@ -129,6 +129,16 @@ old_parts bytes start (Old u) is e = record {
 }
 old_parts bytes start n is e = other (codes "OLD_") bytes (spelling n) (One Old 4 bytes n) start e refl
 
+pub cbt_parts : (bytes : List ℕ) → true ≡ starts_with nat_eq bytes (codes "CBT-") → (n : Name) → IsName n → spelling n ≡ bytes → One Cbt 4 bytes n
+unfolding spelling IsName
+cbt_parts bytes start (Cbt u) is e = record {
+  uuid = u;
+  same = refl;
+  is = is;
+  text = along 4 bytes (spelling (Cbt u)) (uuid_text u) e (last_at (codes "CBT-") u 4 refl);
+}
+cbt_parts bytes start n is e = other (codes "CBT-") bytes (spelling n) (One Cbt 4 bytes n) start e refl
+
 pub clone_parts : (bytes : List ℕ) → true ≡ starts_with nat_eq bytes (codes "clone_") → (n : Name) → IsName n → spelling n ≡ bytes → Three bytes n
 unfolding spelling IsName
 clone_parts bytes start (Clone disk base twin) is e =
@@ -215,17 +225,18 @@ begun front bytes text P start e has =
 
 -- where none of these fronts stands, the name is that of an entry
 pub entry_only : (bytes : List ℕ) → bytes ≢ codes "MGT" → false ≡ starts_with nat_eq bytes (codes "VHD-") → false ≡ starts_with nat_eq bytes (codes "LV-")
-    → false ≡ starts_with nat_eq bytes (codes "OLD_") → (n : Name) → spelling n ≡ bytes → IsTrue (is_entry n)
+    → false ≡ starts_with nat_eq bytes (codes "OLD_") → false ≡ starts_with nat_eq bytes (codes "CBT-") → (n : Name) → spelling n ≡ bytes → IsTrue (is_entry n)
 unfolding spelling
-entry_only bytes mgt vhd raw old Mgt e = absurd (mgt (sym e))
-entry_only bytes mgt vhd raw old (Vhd u) e = begun (codes "VHD-") bytes (spelling (Vhd u)) _ vhd e refl
-entry_only bytes mgt vhd raw old (Raw u) e = begun (codes "LV-") bytes (spelling (Raw u)) _ raw e refl
-entry_only bytes mgt vhd raw old (Old u) e = begun (codes "OLD_") bytes (spelling (Old u)) _ old e refl
-entry_only bytes mgt vhd raw old (Clone disk base twin) e = refl
-entry_only bytes mgt vhd raw old (Inflate image extents) e = refl
-entry_only bytes mgt vhd raw old (Coalesce child parent) e = refl
-entry_only bytes mgt vhd raw old (Relink child parent) e = refl
-entry_only bytes mgt vhd raw old (Leaf leaf parent) e = refl
+entry_only bytes mgt vhd raw old cbt Mgt e = absurd (mgt (sym e))
+entry_only bytes mgt vhd raw old cbt (Vhd u) e = begun (codes "VHD-") bytes (spelling (Vhd u)) _ vhd e refl
+entry_only bytes mgt vhd raw old cbt (Raw u) e = begun (codes "LV-") bytes (spelling (Raw u)) _ raw e refl
+entry_only bytes mgt vhd raw old cbt (Old u) e = begun (codes "OLD_") bytes (spelling (Old u)) _ old e refl
+entry_only bytes mgt vhd raw old cbt (Cbt u) e = begun (codes "CBT-") bytes (spelling (Cbt u)) _ cbt e refl
+entry_only bytes mgt vhd raw old cbt (Clone disk base twin) e = refl
+entry_only bytes mgt vhd raw old cbt (Inflate image extents) e = refl
+entry_only bytes mgt vhd raw old cbt (Coalesce child parent) e = refl
+entry_only bytes mgt vhd raw old cbt (Relink child parent) e = refl
+entry_only bytes mgt vhd raw old cbt (Leaf leaf parent) e = refl
 
 -- where none of these fronts stands, the name is of no entry
 pub no_entry : (bytes : List ℕ) → false ≡ starts_with nat_eq bytes (codes "clone_") → false ≡ starts_with nat_eq bytes (codes "inflate_")
@@ -236,6 +247,7 @@ no_entry bytes clone inflate coalesce relink leaf Mgt is e = cc
 no_entry bytes clone inflate coalesce relink leaf (Vhd u) is e = cc
 no_entry bytes clone inflate coalesce relink leaf (Raw u) is e = cc
 no_entry bytes clone inflate coalesce relink leaf (Old u) is e = cc
+no_entry bytes clone inflate coalesce relink leaf (Cbt u) is e = cc
 no_entry bytes clone inflate coalesce relink leaf (Clone a b t) is e = begun (codes "clone_") bytes (spelling (Clone a b t)) ⊥ clone e refl
 no_entry bytes clone inflate coalesce relink leaf (Inflate a b) is e = begun (codes "inflate_") bytes (spelling (Inflate a b)) ⊥ inflate e refl
 no_entry bytes clone inflate coalesce relink leaf (Coalesce a b) is e = begun (codes "coalesce_") bytes (spelling (Coalesce a b)) ⊥ coalesce e refl
@@ -277,6 +289,8 @@ spelling-injective (Raw u) m is_n is_m e =
     One-same Raw 3 (spelling (Raw u)) (Raw u) m (raw_parts (spelling (Raw u)) refl (Raw u) is_n refl) (raw_parts (spelling (Raw u)) refl m is_m (sym e))
 spelling-injective (Old u) m is_n is_m e =
     One-same Old 4 (spelling (Old u)) (Old u) m (old_parts (spelling (Old u)) refl (Old u) is_n refl) (old_parts (spelling (Old u)) refl m is_m (sym e))
+spelling-injective (Cbt u) m is_n is_m e =
+    One-same Cbt 4 (spelling (Cbt u)) (Cbt u) m (cbt_parts (spelling (Cbt u)) refl (Cbt u) is_n refl) (cbt_parts (spelling (Cbt u)) refl m is_m (sym e))
 spelling-injective (Clone a b t) m is_n is_m e =
     let text = spelling (Clone a b t) in
     Three-same text (Clone a b t) m (clone_parts text refl (Clone a b t) is_n refl) (clone_parts text refl m is_m (sym e))

@@ -8,7 +8,7 @@ use Rattle.std.specs.Int.{w64, to_be_bytes}
 use Rattle.std.specs.Str.{bytes_eq}
 use Rattle.uuid.specs.Text.{hyphenated_text, lower}
 use Rattle.sm_base.specs.declared.names.Name.{Name}
-use Rattle.sm_base.specs.declared.names.Name.TheVariants.{Mgt, Vhd, Raw, Old, Clone, Inflate, Coalesce, Relink, Leaf}
+use Rattle.sm_base.specs.declared.names.Name.TheVariants.{Mgt, Vhd, Raw, Old, Cbt, Clone, Inflate, Coalesce, Relink, Leaf}
 
 -- sixteen bytes
 pub record IsUuid (u : List ℕ) : Type 0 where
@@ -25,6 +25,7 @@ spelling Mgt = codes "MGT"
 spelling (Vhd u) = codes "VHD-" ++ uuid_text u
 spelling (Raw u) = codes "LV-" ++ uuid_text u
 spelling (Old u) = codes "OLD_" ++ uuid_text u
+spelling (Cbt u) = codes "CBT-" ++ uuid_text u
 spelling (Clone disk base twin) =
     codes "clone_" ++ (uuid_text disk ++ (codes "_" ++ (uuid_text base ++ (codes "_" ++ uuid_text twin))))
 spelling (Inflate image extents) = codes "inflate_" ++ (uuid_text image ++ (codes "_" ++ decimal extents))
@@ -38,6 +39,7 @@ IsName Mgt = Unit {0}
 IsName (Vhd u) = IsUuid u
 IsName (Raw u) = IsUuid u
 IsName (Old u) = IsUuid u
+IsName (Cbt u) = IsUuid u
 IsName (Clone disk base twin) = IsUuid disk × IsUuid base × IsUuid twin
 IsName (Inflate image extents) = IsUuid image × (0 < extents) × (extents < 2 ^ 32)
 IsName (Coalesce child parent) = IsUuid child × IsUuid parent

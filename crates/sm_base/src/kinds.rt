@@ -1,7 +1,7 @@
 //! What a volume is, by its name.
 
 ghost use Rattle.std.specs.Prelude.{◌≡◌};
-ghost use Rattle.sm_base.specs.Kinds.{kind, holds_data, is_image, is_entry};
+ghost use Rattle.sm_base.specs.Kinds.{kind, holds_data, is_image, is_entry, is_log};
 
 use crate::names::Name;
 
@@ -16,6 +16,8 @@ pub enum Kind {
     RawImage,
     /// The old leaf of a leaf-coalesce.
     OldLeaf,
+    /// The log of a tracked disk.
+    Log,
     /// A journal entry.
     Entry,
 }
@@ -30,6 +32,7 @@ impl Name {
             Name::Vhd(_) => Kind::VhdImage,
             Name::Raw(_) => Kind::RawImage,
             Name::Old(_) => Kind::OldLeaf,
+            Name::Cbt(_) => Kind::Log,
             Name::Clone { .. }
             | Name::Inflate { .. }
             | Name::Coalesce { .. }
@@ -44,7 +47,17 @@ impl Name {
     {
         match self.kind() {
             Kind::VhdImage | Kind::RawImage | Kind::OldLeaf => true,
-            Kind::Records | Kind::Entry => false,
+            Kind::Records | Kind::Log | Kind::Entry => false,
+        }
+    }
+
+    /// Whether a volume of this name is the log of a tracked disk.
+    pub fn is_log(&self) -> bool
+        ensures log { result ≡ is_log self.now }
+    {
+        match self.kind() {
+            Kind::Log => true,
+            Kind::Records | Kind::VhdImage | Kind::RawImage | Kind::OldLeaf | Kind::Entry => false,
         }
     }
 
@@ -54,7 +67,7 @@ impl Name {
     {
         match self.kind() {
             Kind::Entry => true,
-            Kind::Records | Kind::VhdImage | Kind::RawImage | Kind::OldLeaf => false,
+            Kind::Records | Kind::VhdImage | Kind::RawImage | Kind::OldLeaf | Kind::Log => false,
         }
     }
 }

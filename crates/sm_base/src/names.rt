@@ -13,7 +13,7 @@ use crate::texts::{decimal_at, put, put_decimal, put_uuid, uuid_at};
 use std::cmp::Ordering;
 use uuid::Uuid;
 
-/// The name of a volume of the group. The first four kinds hold data, the others are journal entries.
+/// The name of a volume of the group. The last five are journal entries, which hold nothing; the others hold data.
 #[derive(Clone, Copy, PartialEq, Eq, Hash)]
 pub enum Name {
     /// The volume of the disks' records.
@@ -24,6 +24,8 @@ pub enum Name {
     Raw(Uuid),
     /// The old leaf of a leaf-coalesce, which is on its way out.
     Old(Uuid),
+    /// The log of a tracked disk.
+    Cbt(Uuid),
     /// A fork is being made: the disk becomes the base, and the twin is the new disk.
     Clone { disk: Uuid, base: Uuid, twin: Uuid },
     /// An image is being enlarged, and had so many extents before.
@@ -65,6 +67,7 @@ impl Name {
             Name::Vhd(uuid) => put_uuid(to, 0, b"VHD-", uuid),
             Name::Raw(uuid) => put_uuid(to, 0, b"LV-", uuid),
             Name::Old(uuid) => put_uuid(to, 0, b"OLD_", uuid),
+            Name::Cbt(uuid) => put_uuid(to, 0, b"CBT-", uuid),
             Name::Clone { disk, base, twin } => {
                 let disk_end = put_uuid(to, 0, b"clone_", disk);
                 let base_end = put_uuid(to, disk_end, b"_", base);
@@ -118,6 +121,9 @@ fn parse(bytes: &[u8]) -> Option<Name>
     } else if bytes.starts_with(b"OLD_") {
         let uuid = uuid_at(bytes, 4)?;
         Some(Name::Old(uuid))
+    } else if bytes.starts_with(b"CBT-") {
+        let uuid = uuid_at(bytes, 4)?;
+        Some(Name::Cbt(uuid))
     } else {
         parse_entry(bytes)
     }

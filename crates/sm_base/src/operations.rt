@@ -33,6 +33,14 @@ pub enum Op {
         parent: Name,
         cursor: u32,
     },
+    /// Copying the blocks of the leaf of an attached disk into its parent, which will take its name. So many blocks below the
+    /// cursor were written to since they were copied.
+    Live {
+        leaf: Name,
+        parent: Name,
+        cursor: u32,
+        dirty: u32,
+    },
 }
 
 /// The collector's next step. `to` is a number of extents.
@@ -58,6 +66,8 @@ pub enum Plan {
     Begin { child: Name, parent: Name, to: u32 },
     /// Begin to fold a leaf into its parent, which is to have so many extents.
     Leaf { leaf: Name, parent: Name, to: u32 },
+    /// Begin to fold the leaf of an attached disk into its parent, which is to have so many extents.
+    Live { leaf: Name, parent: Name, to: u32 },
     /// There is work, and no room for any of it. In extents.
     Blocked { need: u32, free: u32 },
     /// Nothing is to be done.

@@ -9,7 +9,8 @@ use Rattle.vg_meta.specs.declared.changes.Change.{Change}
 use Rattle.vg_meta.specs.declared.changes.Change.TheVariants.{Create, Remove, Rename, Grow, Cut, Mark}
 use Rattle.sm_base.specs.Kinds.{is_image, is_entry}
 use Rattle.vg_meta.specs.Tables.{Row, VolumeTable, rows, row_of, used, name_eq, is_one_of, extents_of, extents_in, AreVolumes, IsTable, IsSpread}
-use Rattle.vg_meta.specs.Changes.{without, put_some, applied, made, grown, cut_to, renamed, tagged, AreFree, AreUnused, Permits, AllowsRename, Changes, SpeaksOf}
+use Rattle.vg_meta.specs.declared.changes.Tag.TheVariants.{Hidden, Fresh}
+use Rattle.vg_meta.specs.Changes.{without, put_some, applied, made, grown, cut_to, renamed, tagged, AreFree, AreUnused, Permits, takes_tag, AllowsRename, Changes, SpeaksOf}
 use Rattle.vg_meta.proofs.NameLaws.{name_eq-true, name_eq-false}
 use Rattle.vg_meta.proofs.RowLaws.{row_of-put_same, row_of-put_other, row_of-without_other, row_of-with_row_same, row_of-with_row_other, row_of-without_same}
 use Rattle.vg_meta.proofs.ExtentLaws.{times, unused-times, times-unused, times-row, times-two_rows, slice_get-times, one_place, All-weaken, Once}
@@ -85,7 +86,8 @@ mgt_not_named count t (Rename from to) a (inr e) = kind_of_mgt to a.same_kind e
     kind_of_mgt n (inr p) e = true≢false (sym p.1 ∙ ap is_entry (sym e))
 mgt_not_named count t (Grow name es) a e = true≢false (sym a.image ∙ ap is_image (sym e))
 mgt_not_named count t (Cut name keep) a e = true≢false (sym a.image ∙ ap is_image (sym e))
-mgt_not_named count t (Mark name tag on) a e = true≢false (sym a.image ∙ ap is_image (sym e))
+mgt_not_named count t (Mark name Hidden on) a e = true≢false (sym a.taking ∙ ap is_image (sym e))
+mgt_not_named count t (Mark name Fresh on) a e = true≢false (sym a.taking ∙ ap (takes_tag Fresh) (sym e))
 
 -- each change leaves it
 pub mgt_stays : (count : ℕ) (t : VolumeTable) (change : Change) → IsTable count t → Permits count t change → rows (applied t change) Mgt ≡ rows t Mgt

@@ -1,5 +1,5 @@
 -- What changes keep: a table stays a table, and by name a change does what its case says.
-use Rattle.std.proofs.Common.{◌≡◌, ◌≢◌, ℕ, zero, suc, ◌+◌, ◌<◌, ◌≤◌, Bool, true, List, length, Some, None, refl, sym, ap, subst, ◌∙◌, arith, inl, inr, ⊎_elim, length-append, length-take}
+use Rattle.std.proofs.Common.{◌≡◌, ◌≢◌, ℕ, zero, suc, ◌+◌, ◌<◌, ◌≤◌, Bool, true, false, List, length, Some, None, refl, sym, ap, subst, ◌∙◌, arith, inl, inr, ⊎_elim, length-append, length-take}
 use Rattle.std.specs.Prelude.{◌⊎◌, nat_lt}
 use Rattle.std.specs.List.{AllByRecursion}
 use Rattle.std.specs.List.Sorted.{IsStrictlySortedBy}
@@ -10,10 +10,10 @@ use Rattle.vg_meta.specs.declared.changes.Tag.{Tag}
 use Rattle.vg_meta.specs.declared.changes.Tag.TheVariants.{Hidden, Fresh}
 use Rattle.vg_meta.specs.declared.changes.Change.{Change}
 use Rattle.vg_meta.specs.declared.changes.Change.TheVariants.{Create, Remove, Rename, Grow, Cut, Mark}
-use Rattle.sm_base.proofs.KindLaws.{entry-no_image}
-use Rattle.sm_base.specs.Kinds.{is_image, is_entry}
+use Rattle.sm_base.proofs.KindLaws.{entry-no_image, entry-no_log}
+use Rattle.sm_base.specs.Kinds.{is_image, is_log, is_entry}
 use Rattle.vg_meta.specs.Tables.{Row, VolumeTable, rows, row_of, used, suits, extents_in, IsVolume, AreVolumes, IsTable}
-use Rattle.vg_meta.specs.Changes.{put, without, with_row, put_some, changed, applied, made, grown, cut_to, renamed, tagged, Permits, AllowsCreate, AllowsRename, AllowsGrow, AllowsCut, AllowsMark}
+use Rattle.vg_meta.specs.Changes.{put, without, with_row, put_some, changed, applied, made, grown, cut_to, renamed, tagged, Permits, takes_tag, AllowsCreate, AllowsRename, AllowsGrow, AllowsCut, AllowsMark}
 use Rattle.vg_meta.proofs.RowLaws.{row_of-name, All-row_of, All-put, row_of-without_other, All-without, All-with_row, names_of-with_row, IsRising, rising-put, rising-without}
 use Rattle.vg_meta.proofs.ExtentLaws.{times, times-append, times-take, below_times, times_below, distinct-times, times-distinct, times-put, times-without, times-with_row, All-weaken, Once, free_once}
 
@@ -44,7 +44,7 @@ image_suits r h = rw h refl
 kind_renamed : (r : Row) (to : Name) → ((is_image r.name ≡ true) × (is_image to ≡ true)) ⊎ ((is_entry r.name ≡ true) × (is_entry to ≡ true))
     → suits (renamed to r) ≡ suits r
 kind_renamed r to (inl p) = rw (p.0, p.1) refl
-kind_renamed r to (inr p) = rw (entry-no_image r.name p.0, entry-no_image to p.1, p.0, p.1) refl
+kind_renamed r to (inr p) = rw (entry-no_image r.name p.0, entry-no_image to p.1, entry-no_log r.name p.0, entry-no_log to p.1, p.0, p.1) refl
 
 pub tagged_name : (tag : Tag) (on : Bool) (r : Row) → (tagged tag on r).name ≡ r.name
 tagged_name Hidden on r = refl
@@ -53,6 +53,15 @@ tagged_name Fresh on r = refl
 tagged_extents : (tag : Tag) (on : Bool) (r : Row) → (tagged tag on r).extents ≡ r.extents
 tagged_extents Hidden on r = refl
 tagged_extents Fresh on r = refl
+
+-- a mark that a volume takes
+tag_suits : (tag : Tag) (on : Bool) (r : Row) → takes_tag tag r.name ≡ true → suits (tagged tag on r) ≡ suits r
+tag_suits Hidden on r h = rw h refl
+tag_suits Fresh on r h = by (is_image r.name) refl
+  where
+    by : (b : Bool) → is_image r.name ≡ b → suits (tagged Fresh on r) ≡ suits r
+    by true e = rw e refl
+    by false e = let log : is_log r.name ≡ true = rw e at h in rw (e, log) refl
 
 -- an image with extents
 image_volume : (r : Row) → IsName r.name → is_image r.name ≡ true → 0 < length r.extents → IsVolume r
@@ -173,11 +182,10 @@ marked count t name tag on v a =
     let r = a.row in
     let o = once_from count rs v in
     let is = All-row_of IsVolume rs name r v.each a.there in
-    let image = found_image rs name r a.there a.image in
+    let taking : takes_tag tag r.name ≡ true = ap (takes_tag tag) (row_of-name rs name r a.there) ∙ a.taking in
     let same = tagged_extents tag on r in
     edited count rs name (tagged tag on) r v a.there (tagged_name tag on)
-    (image_volume (tagged tag on r) (subst IsName (sym (tagged_name tag on r)) is.name) (ap is_image (tagged_name tag on r) ∙ image)
-    (rw same (image_extents r is image)))
+    (record { name = subst IsName (sym (tagged_name tag on r)) is.name; kind = tag_suits tag on r taking ∙ is.kind })
     (λ e. rw same (omega (arith, o.once e)))
     (λ e h. absurd (let k : times e r.extents < times e r.extents = rw same at h in omega arith))
 

@@ -1,20 +1,14 @@
 -- How long the texts of volumes are with one more, and without one.
-use Rattle.std.proofs.Common.{◌≡◌, ℕ, Bool, ◌+◌, ◌*◌, ◌≤◌, List, [], ◌∷◌, length, Some, None, refl, arith, length-append}
+use Rattle.std.proofs.Common.{◌≡◌, ℕ, ◌+◌, List, [], ◌∷◌, length, Some, None, refl, arith, length-append}
 use Rattle.std.specs.Ordering.{is_lt}
 use Rattle.std.specs.Prelude.{Option}
 use Rattle.std.proofs.lemmas.Bool.{cond_both}
-use Rattle.std.proofs.lemmas.List.{length-take}
 use Rattle.sm_base.specs.declared.names.Name.{Name}
-use Rattle.sm_base.specs.Names.{name_cmp, spelling}
-use Rattle.vg_meta.specs.declared.changes.Tag.{Tag}
-use Rattle.vg_meta.specs.declared.changes.Tag.TheVariants.{Hidden, Fresh}
-use Rattle.vg_meta.specs.declared.changes.Change.{Change}
-use Rattle.vg_meta.specs.declared.changes.Change.TheVariants.{Create, Remove, Rename, Grow, Cut, Mark}
-use Rattle.vg_meta.specs.Tables.{Row, VolumeTable, row_of, name_eq}
-use Rattle.vg_meta.specs.Text.{volume_text, text}
-use Rattle.vg_meta.specs.Changes.{put, without, with_row, put_some, applied, made, renamed, grown, cut_to, tagged}
+use Rattle.sm_base.specs.Names.{name_cmp}
+use Rattle.vg_meta.specs.Tables.{Row, row_of, name_eq}
+use Rattle.vg_meta.specs.Text.{volume_text}
+use Rattle.vg_meta.specs.Changes.{put, without}
 use Rattle.vg_meta.specs.Writing.{volumes_text}
-use Rattle.vg_meta.proofs.WriteLaws.{length-volume_text, length-listed_extents, length-text}
 
 pub volumes-put : (r : Row) (rs : List Row) → length (volumes_text (put r rs)) ≡ length (volume_text r) + length (volumes_text rs)
 unfolding put

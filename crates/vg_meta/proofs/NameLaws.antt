@@ -7,7 +7,7 @@ use Rattle.std.specs.declared.cmp.Ordering.TheVariants.{Less, Equal, Greater}
 use Rattle.std.proofs.lemmas.Bool.{true≢false, eqb-true, eq-eqb, and_parts, and_from}
 use Rattle.common_laws.proofs.Bytes.{bytes_eq-same, bytes_eq-refl}
 use Rattle.sm_base.specs.declared.names.Name.{Name}
-use Rattle.sm_base.specs.declared.names.Name.TheVariants.{Mgt, Vhd, Raw, Old, Clone, Inflate, Coalesce, Relink, Leaf}
+use Rattle.sm_base.specs.declared.names.Name.TheVariants.{Mgt, Vhd, Raw, Old, Cbt, Clone, Inflate, Coalesce, Relink, Leaf}
 use Rattle.sm_base.specs.Names.{IsName, name_cmp}
 use Rattle.sm_base.proofs.OrderLemmas.{name_cmp_total, name_cmp-itself, name_cmp-same}
 use Rattle.vg_meta.specs.Tables.{name_eq}
@@ -19,6 +19,7 @@ name_eq-true Mgt Mgt h = refl
 name_eq-true (Vhd u) (Vhd v) h = ap Vhd (bytes_eq-same u v h)
 name_eq-true (Raw u) (Raw v) h = ap Raw (bytes_eq-same u v h)
 name_eq-true (Old u) (Old v) h = ap Old (bytes_eq-same u v h)
+name_eq-true (Cbt u) (Cbt v) h = ap Cbt (bytes_eq-same u v h)
 name_eq-true (Clone d b t) (Clone e c u) h =
     let p = and_parts (bytes_eq d e && bytes_eq b c) (bytes_eq t u) h in
     let q = and_parts (bytes_eq d e) (bytes_eq b c) p.0 in
@@ -46,6 +47,7 @@ name_eq-refl Mgt = refl
 name_eq-refl (Vhd u) = bytes_eq-refl u
 name_eq-refl (Raw u) = bytes_eq-refl u
 name_eq-refl (Old u) = bytes_eq-refl u
+name_eq-refl (Cbt u) = bytes_eq-refl u
 name_eq-refl (Clone d b t) = and_from _ _ (and_from _ _ (bytes_eq-refl d) (bytes_eq-refl b)) (bytes_eq-refl t)
 name_eq-refl (Inflate i m) = and_from _ _ (bytes_eq-refl i) (eq-eqb m m refl)
 name_eq-refl (Coalesce c p) = and_from _ _ (bytes_eq-refl c) (bytes_eq-refl p)

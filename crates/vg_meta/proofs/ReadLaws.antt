@@ -5,7 +5,7 @@ use Rattle.std.specs.List.{flat_map, AllByRecursion}
 use Rattle.std.proofs.lemmas.Bool.{true≢false, ne_eqb, lt-ltb}
 use Rattle.byteorder.specs.Endian.{big_bytes}
 use Rattle.sm_base.specs.declared.names.Name.{Name}
-use Rattle.sm_base.specs.Kinds.{is_image, is_entry}
+use Rattle.sm_base.specs.Kinds.{is_image, is_log, is_entry}
 use Rattle.sm_base.specs.Names.{IsName, spelling}
 use Rattle.sm_base.proofs.ReadLemmas.{spelling-injective}
 use Rattle.vg_meta.specs.Tables.{Row, IsVolume, suits}
@@ -140,7 +140,7 @@ suits_alike : (n : Name) (hidden fresh : Bool) (es fs : List ℕ) → eqb (lengt
     → (let r : Row = record { name = n; hidden = hidden; fresh = fresh; extents = es } in
     let s : Row = record { name = n; hidden = hidden; fresh = fresh; extents = fs } in suits r ≡ suits s)
 suits_alike n hidden fresh es fs none =
-    ap₂ (λ (x y : Bool). cond (is_image n) x (not hidden && (not fresh && (not (is_entry n) || y)))) (some_alike es fs none) none
+    ap₂ (λ (x y : Bool). cond (is_image n) x (not (is_log n) && (not hidden && (not fresh && (not (is_entry n) || y))))) (some_alike es fs none) none
   where
     some_alike : (es fs : List ℕ) → eqb (length es) 0 ≡ eqb (length fs) 0 → ltb 0 (length es) ≡ ltb 0 (length fs)
     some_alike [] [] none = refl

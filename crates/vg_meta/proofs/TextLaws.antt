@@ -4,7 +4,7 @@ use Rattle.std.specs.Prelude.{filter}
 use Rattle.std.specs.List.{flat_map, AllByRecursion}
 use Rattle.std.proofs.lemmas.Bool.{true≢false}
 use Rattle.sm_base.specs.declared.names.Name.{Name}
-use Rattle.sm_base.specs.declared.names.Name.TheVariants.{Mgt, Vhd, Raw, Old, Clone, Inflate, Coalesce, Relink, Leaf}
+use Rattle.sm_base.specs.declared.names.Name.TheVariants.{Mgt, Vhd, Raw, Old, Cbt, Clone, Inflate, Coalesce, Relink, Leaf}
 use Rattle.sm_base.specs.Kinds.{is_image}
 use Rattle.sm_base.specs.Names.{spelling}
 use Rattle.sm_base.proofs.NameLemmas.{length-spelling, length-spelling-le}
@@ -105,6 +105,7 @@ image_spelling Mgt is = absurd (true≢false (sym is))
 image_spelling (Vhd u) is = omega (arith, length-spelling (Vhd u))
 image_spelling (Raw u) is = omega (arith, length-spelling (Raw u))
 image_spelling (Old u) is = omega (arith, length-spelling (Old u))
+image_spelling (Cbt u) is = absurd (true≢false (sym is))
 image_spelling (Clone d b t) is = absurd (true≢false (sym is))
 image_spelling (Inflate i m) is = absurd (true≢false (sym is))
 image_spelling (Coalesce c p) is = absurd (true≢false (sym is))

@@ -1,6 +1,6 @@
 -- The six changes of a table (this project's format): when each is allowed, and what it leaves. Each change
 -- raises the sequence number by one, or leaves 2^48 - 1.
-use Rattle.std.specs.Prelude.{◌≡◌, ◌≢◌, ℕ, ◌+◌, ◌-◌, ◌<◌, ◌≤◌, ◌^◌, min, Bool, true, false, not, IsTrue, nat_eq, if◌then◌else◌, ◌⊎◌, List, [], ◌∷◌, ◌++◌, length, take, Option, Some, None}
+use Rattle.std.specs.Prelude.{◌≡◌, ◌≢◌, ℕ, ◌+◌, ◌-◌, ◌<◌, ◌≤◌, ◌^◌, min, Bool, true, false, not, ◌||◌, IsTrue, nat_eq, if◌then◌else◌, ◌⊎◌, List, [], ◌∷◌, ◌++◌, length, take, Option, Some, None}
 use Rattle.std.specs.List.{AllByRecursion, IsDistinct}
 use Rattle.std.specs.Ordering.{is_lt}
 use Rattle.sm_base.specs.declared.names.Name.{Name}
@@ -10,7 +10,7 @@ use Rattle.vg_meta.specs.declared.changes.Tag.{Tag}
 use Rattle.vg_meta.specs.declared.changes.Tag.TheVariants.{Hidden, Fresh}
 use Rattle.vg_meta.specs.declared.changes.Change.{Change}
 use Rattle.vg_meta.specs.declared.changes.Change.TheVariants.{Create, Remove, Rename, Grow, Cut, Mark}
-use Rattle.sm_base.specs.Kinds.{is_image, is_entry}
+use Rattle.sm_base.specs.Kinds.{is_image, is_log, is_entry}
 use Rattle.vg_meta.specs.Tables.{Row, VolumeTable, Rows, row_of, extents_in, name_eq, is_one_of, suits, extents_of}
 use Rattle.vg_meta.specs.Roomy.{RoomyTable, places}
 
@@ -84,11 +84,16 @@ pub record AllowsCut (rs : List Row) (name : Name) (keep : ℕ) : Type 0 where
   pub some_kept : 0 < keep
   pub some_gone : keep < length row.extents
 
--- an image has the mark otherwise
+-- an image has both marks, a log may be new
+abbrev pub takes_tag : Tag → Name → Bool
+takes_tag Hidden n = is_image n
+takes_tag Fresh n = is_image n || is_log n
+
+-- a volume that takes the mark has it otherwise
 pub record AllowsMark (rs : List Row) (name : Name) (tag : Tag) (on : Bool) : Type 0 where
   pub row : Row
   pub there : row_of rs name ≡ Some row
-  pub image : is_image name ≡ true
+  pub taking : takes_tag tag name ≡ true
   pub otherwise : has_tag tag row ≡ not on
 
 -- when a change of volumes is allowed, where extents are counted up to a count

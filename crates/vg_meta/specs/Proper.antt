@@ -2,7 +2,7 @@
 use Rattle.std.specs.Prelude.{ℕ, List}
 use Rattle.std.proofs.Props.{props}
 use Rattle.sm_base.specs.declared.names.Name.{Name}
-use Rattle.sm_base.specs.declared.names.Name.TheVariants.{Mgt, Vhd, Raw, Old, Clone, Inflate, Coalesce, Relink, Leaf}
+use Rattle.sm_base.specs.declared.names.Name.TheVariants.{Mgt, Vhd, Raw, Old, Cbt, Clone, Inflate, Coalesce, Relink, Leaf}
 use Rattle.sm_base.specs.Names.{IsUuid, IsName}
 
 IsUuid-prop : (u : List ℕ) → IsProp (IsUuid u)
@@ -14,6 +14,7 @@ IsName-prop Mgt = hlevel props
 IsName-prop (Vhd u) = IsUuid-prop u
 IsName-prop (Raw u) = IsUuid-prop u
 IsName-prop (Old u) = IsUuid-prop u
+IsName-prop (Cbt u) = IsUuid-prop u
 IsName-prop (Clone disk base twin) = hlevel (props, IsUuid-prop)
 IsName-prop (Inflate image extents) = hlevel (props, IsUuid-prop)
 IsName-prop (Coalesce child parent) = hlevel (props, IsUuid-prop)

@@ -6,9 +6,9 @@ use Rattle.std.specs.Prelude.{◌≡◌, ℕ, ◌<◌, ◌^◌, Bool, true, fals
 use Rattle.std.specs.List.{flat_map, list_any, range_with_len, AllByRecursion, IsDistinct}
 use Rattle.std.specs.List.Sorted.{IsStrictlySortedBy}
 use Rattle.sm_base.specs.declared.names.Name.{Name}
-use Rattle.sm_base.specs.declared.names.Name.TheVariants.{Mgt, Vhd, Raw, Old, Clone, Inflate, Coalesce, Relink, Leaf}
+use Rattle.sm_base.specs.declared.names.Name.TheVariants.{Mgt, Vhd, Raw, Old, Cbt, Clone, Inflate, Coalesce, Relink, Leaf}
 use Rattle.sm_base.specs.Names.{IsName, name_cmp}
-use Rattle.sm_base.specs.Kinds.{is_image, is_entry}
+use Rattle.sm_base.specs.Kinds.{is_image, is_log, is_entry}
 
 -- a volume
 pub record Row : Type 0 where
@@ -28,6 +28,7 @@ name_eq Mgt Mgt = true
 name_eq (Vhd u) (Vhd v) = bytes_eq u v
 name_eq (Raw u) (Raw v) = bytes_eq u v
 name_eq (Old u) (Old v) = bytes_eq u v
+name_eq (Cbt u) (Cbt v) = bytes_eq u v
 name_eq (Clone d b t) (Clone e c u) = bytes_eq d e && bytes_eq b c && bytes_eq t u
 name_eq (Inflate i m) (Inflate j n) = bytes_eq i j && (m == n)
 name_eq (Coalesce c p) (Coalesce d q) = bytes_eq c d && bytes_eq p q
@@ -35,11 +36,11 @@ name_eq (Relink c p) (Relink d q) = bytes_eq c d && bytes_eq p q
 name_eq (Leaf l p) (Leaf m q) = bytes_eq l m && bytes_eq p q
 name_eq _ _ = false
 
--- an image has at least one extent; no other volume has marks; a journal entry has no extents
+-- an image has at least one extent; no other volume has marks, a journal entry has no extents, and no volume is a log
 abbrev pub suits : Row → Bool
 suits r =
     if is_image r.name then nat_lt 0 (length r.extents)
-    else not r.hidden && (not r.fresh && (not (is_entry r.name) || (length r.extents == 0)))
+    else not (is_log r.name) && (not r.hidden && (not r.fresh && (not (is_entry r.name) || (length r.extents == 0))))
 
 -- what a volume of a table is
 pub record IsVolume (r : Row) : Type 0 where

@@ -3,7 +3,7 @@
 ghost use Rattle.std.specs.Prelude.{◌≡◌, ◌↔◌, IsTrue, is_some, nat_lt, length};
 ghost use Rattle.vg_meta.specs.Tables.{Row, row_of, suits};
 ghost use Rattle.vg_meta.specs.Roomy.{rows_alone};
-ghost use Rattle.vg_meta.specs.Changes.{AllowsIn, AllowsCreate, AllowsRemove, AllowsRename, AllowsGrow, AllowsCut, AllowsMark};
+ghost use Rattle.vg_meta.specs.Changes.{AllowsIn, AllowsCreate, AllowsRemove, AllowsRename, AllowsGrow, AllowsCut, AllowsMark, takes_tag};
 
 use crate::changes::{Change, Tag};
 use crate::free::are_free;
@@ -36,7 +36,7 @@ pub fn suits_kind(name: &Name, hidden: bool, fresh: bool, extents: &[u32]) -> bo
     if name.is_image() {
         !extents.is_empty()
     } else {
-        !hidden && !fresh && (!name.is_entry() || extents.is_empty())
+        !name.is_log() && !hidden && !fresh && (!name.is_entry() || extents.is_empty())
     }
 }
 
@@ -91,11 +91,21 @@ fn may_cut(volumes: &[Volume], name: &Name, keep: u32) -> bool
     name.is_image() && keep > 0 && (keep as usize) < volume.extents().len()
 }
 
+// Whether a volume of this name may have the mark.
+fn takes_tag(name: &Name, tag: Tag) -> bool
+    ensures { result ≡ takes_tag tag name.now }
+{
+    match tag {
+        Tag::Hidden => name.is_image(),
+        Tag::Fresh => name.is_image() || name.is_log(),
+    }
+}
+
 fn may_mark(volumes: &[Volume], name: &Name, tag: Tag, on: bool) -> bool
     ensures { IsTrue result ↔ AllowsMark (rows_alone volumes.now) name.now tag on }
 {
     let Some(volume) = named(volumes, name) else {
         return false;
     };
-    name.is_image() && volume.has(tag) != on
+    takes_tag(name, tag) && volume.has(tag) != on
 }

@@ -12,7 +12,9 @@ pub fn is_proper(name: &Name) -> bool
 {
     match name {
         Name::Mgt => true,
-        Name::Vhd(uuid) | Name::Raw(uuid) | Name::Old(uuid) => is_uuid(uuid.as_bytes()),
+        Name::Vhd(uuid) | Name::Raw(uuid) | Name::Old(uuid) | Name::Cbt(uuid) => {
+            is_uuid(uuid.as_bytes())
+        }
         Name::Clone { disk, base, twin } => {
             is_uuid(disk.as_bytes()) && is_uuid(base.as_bytes()) && is_uuid(twin.as_bytes())
         }

@@ -10,7 +10,7 @@ use Rattle.std.proofs.lemmas.Slice.Eq.{bytes_eq-Decides}
 use Rattle.uuid.specs.Text.{parsed}
 use Rattle.common_laws.proofs.Bytes.{bytes_eq-same, bytes_eq-refl}
 use Rattle.sm_base.specs.declared.names.Name.{Name}
-use Rattle.sm_base.specs.declared.names.Name.TheVariants.{Mgt, Vhd, Raw, Old, Clone, Inflate, Coalesce, Relink, Leaf}
+use Rattle.sm_base.specs.declared.names.Name.TheVariants.{Mgt, Vhd, Raw, Old, Cbt, Clone, Inflate, Coalesce, Relink, Leaf}
 use Rattle.sm_base.specs.Names.{IsUuid, IsName, spelling, uuid_text}
 use Rattle.sm_base.proofs.NameLemmas.{length-spelling}
 use Rattle.sm_base.proofs.TextLemmas.{length-uuid_text, parsed-uuid_text, IsUuid-from_parsed}
@@ -78,6 +78,7 @@ parent_again (Some (Raw u)) is =
     rw (some, no_vhd, raw_again u is.0) refl
 parent_again (Some Mgt) is = absurd cc
 parent_again (Some (Old u)) is = absurd cc
+parent_again (Some (Cbt u)) is = absurd cc
 parent_again (Some (Clone disk base twin)) is = absurd cc
 parent_again (Some (Inflate image extents)) is = absurd cc
 parent_again (Some (Coalesce child parent)) is = absurd cc
@@ -148,6 +149,7 @@ length_parent (Some (Raw u)) is =
     omega (arith, length-append (utf16 (spelling (Raw u))) (replicate (512 - 2 * length (spelling (Raw u))) 0), length-utf16 (spelling (Raw u)), length-spelling (Raw u), length-replicate {A = ℕ} (512 - 2 * length (spelling (Raw u))) 0)
 length_parent (Some Mgt) is = absurd cc
 length_parent (Some (Old u)) is = absurd cc
+length_parent (Some (Cbt u)) is = absurd cc
 length_parent (Some (Clone disk base twin)) is = absurd cc
 length_parent (Some (Inflate image extents)) is = absurd cc
 length_parent (Some (Coalesce child parent)) is = absurd cc
@@ -262,6 +264,7 @@ ends_in_zeros (Some (Vhd u)) is = zeros_at_end (Vhd u) (omega (arith, length-spe
 ends_in_zeros (Some (Raw u)) is = zeros_at_end (Raw u) (omega (arith, length-spelling (Raw u)))
 ends_in_zeros (Some Mgt) is = absurd cc
 ends_in_zeros (Some (Old u)) is = absurd cc
+ends_in_zeros (Some (Cbt u)) is = absurd cc
 ends_in_zeros (Some (Clone disk base twin)) is = absurd cc
 ends_in_zeros (Some (Inflate image extents)) is = absurd cc
 ends_in_zeros (Some (Coalesce child parent)) is = absurd cc

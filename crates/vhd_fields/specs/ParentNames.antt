@@ -6,7 +6,7 @@ use Rattle.std.specs.Option.{option_or}
 use Rattle.std.specs.Str.{bytes_eq}
 use Rattle.uuid.specs.Text.{parsed}
 use Rattle.sm_base.specs.declared.names.Name.{Name}
-use Rattle.sm_base.specs.declared.names.Name.TheVariants.{Mgt, Vhd, Raw, Old, Clone, Inflate, Coalesce, Relink, Leaf}
+use Rattle.sm_base.specs.declared.names.Name.TheVariants.{Mgt, Vhd, Raw, Old, Cbt, Clone, Inflate, Coalesce, Relink, Leaf}
 use Rattle.sm_base.specs.Names.{IsName, spelling}
 
 -- ASCII characters in UTF-16 big-endian: a zero byte before each
@@ -31,6 +31,7 @@ is_image (Vhd u) = true
 is_image (Raw u) = true
 is_image Mgt = false
 is_image (Old u) = false
+is_image (Cbt u) = false
 is_image (Clone disk base twin) = false
 is_image (Inflate image extents) = false
 is_image (Coalesce child parent) = false

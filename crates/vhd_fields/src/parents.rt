@@ -88,6 +88,7 @@ fn is_image(name: &Name) -> bool
         Name::Vhd(_) | Name::Raw(_) => true,
         Name::Mgt
         | Name::Old(_)
+        | Name::Cbt(_)
         | Name::Clone { .. }
         | Name::Inflate { .. }
         | Name::Coalesce { .. }

@@ -1,5 +1,5 @@
-use Rattle.std.proofs.Common.{◌≡◌, ◌+◌, ℕ, get_or, length, cond, true, false, drop, ap, sym, ◌∙◌, arith}
-use Rattle.vg_meta.specs.Segments.{beginnings, follows}
+use Rattle.std.proofs.Common.{◌≡◌, ℕ, get_or, cond, true, false, ap, arith}
+use Rattle.vg_meta.specs.Segments.{follows}
 use Rattle.vg_meta.proofs.SegmentLaws.{begun_all, begun_more}
 use Rattle.vg_meta.proofs.segments.count_beginnings.Goals.{then-not-follows, else-not-follows}
 use Rattle.vg_meta.proofs.segments.count_beginnings.Goals as goal

@@ -1,7 +1,7 @@
 use Rattle.std.proofs.Common.{◌≡◌, ◌++◌, ℕ, codes, decimal, length, arith, ap, sym, ◌∙◌}
 use Rattle.std.proofs.lemmas.Fmt.{length-decimal-le}
 use Rattle.sm_base.specs.declared.names.Name.{Name}
-use Rattle.sm_base.specs.declared.names.Name.TheVariants.{Mgt, Vhd, Raw, Old, Clone, Inflate, Coalesce, Relink, Leaf}
+use Rattle.sm_base.specs.declared.names.Name.TheVariants.{Mgt, Vhd, Raw, Old, Cbt, Clone, Inflate, Coalesce, Relink, Leaf}
 use Rattle.sm_base.specs.Names.{uuid_text, spelling}
 use Rattle.sm_base.proofs.TextLemmas.{placed-behind}
 use Rattle.sm_base.proofs.NameLemmas.{spelled, length_of, length-spelling}
@@ -41,6 +41,14 @@ returns-in-Old-clause-text c =
 
 pub returns-in-Old-clause-length : goal.returns-in-Old-clause-length
 returns-in-Old-clause-length c = same_length c.args.self.now (Old c.in-Old.uuid) c.put_uuid-in-Old.result c.in-Old.is (omega (arith, c.put_uuid-in-Old.ensures.end))
+
+pub returns-in-Cbt-clause-text : goal.returns-in-Cbt-clause-text
+unfolding spelling
+returns-in-Cbt-clause-text c =
+    spelled c.args.self.now (Cbt c.in-Cbt.uuid) c.args.to.now c.put_uuid-in-Cbt.new.to c.in-Cbt.is c.put_uuid-in-Cbt.ensures.written
+
+pub returns-in-Cbt-clause-length : goal.returns-in-Cbt-clause-length
+returns-in-Cbt-clause-length c = same_length c.args.self.now (Cbt c.in-Cbt.uuid) c.put_uuid-in-Cbt.result c.in-Cbt.is (omega (arith, c.put_uuid-in-Cbt.ensures.end))
 
 pub returns-in-Clone-clause-text : goal.returns-in-Clone-clause-text
 unfolding spelling

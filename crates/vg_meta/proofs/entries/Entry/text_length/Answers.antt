@@ -1,4 +1,4 @@
-use Rattle.std.proofs.Common.{◌≡◌, ◌-◌, ◌^◌, ◌++◌, length, min, ap, ◌∙◌, arith, length-append}
+use Rattle.std.proofs.Common.{◌≡◌, ◌-◌, ◌^◌, ◌++◌, length, min, ap, ◌∙◌, arith}
 use Rattle.vg_meta.specs.Text.{volume_text}
 use Rattle.vg_meta.specs.Tables.{Row}
 use Rattle.vg_meta.proofs.SegmentTextLaws.{length-segmented}
