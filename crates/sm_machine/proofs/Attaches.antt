@@ -1,5 +1,5 @@
 -- A disk that is attached keeps a shape well-formed.
-use Rattle.std.proofs.Common.{◌≡◌, ℕ, ◌+◌, ◌-◌, ◌*◌, ◌<◌, ◌≤◌, Bool, true, false, not, ◌⊎◌, List, [], ◌∷◌, ◌++◌, map, Option, Some, None, refl, sym, ap, ◌∙◌, subst, inl, inr, arith}
+use Rattle.std.proofs.Common.{◌≡◌, ℕ, ◌+◌, ◌-◌, ◌*◌, ◌<◌, ◌≤◌, Bool, true, false, cond, not, ◌⊎◌, List, [], ◌∷◌, ◌++◌, map, Option, Some, None, refl, sym, ap, ◌∙◌, subst, inl, inr, arith}
 use Rattle.std.specs.Prelude.{is_none, nat_lt}
 use Rattle.std.specs.Str.{bytes_eq}
 use Rattle.std.proofs.lemmas.Bool.{ltb-false, and_from}
@@ -8,20 +8,23 @@ use Rattle.common_laws.proofs.Options.{none_of_some}
 use Rattle.sm_base.specs.declared.names.Name.{Name}
 use Rattle.sm_base.specs.declared.operations.Mode.{Mode}
 use Rattle.sm_base.specs.declared.operations.Mode.TheVariants.{Ro, Rw}
-use Rattle.sm_base.specs.declared.operations.Op.{Op}
-use Rattle.sm_base.specs.declared.operations.Op.TheVariants as op
+use Rattle.sm_machine.specs.Operations.{Op}
+use Rattle.sm_machine.specs.Operations as op
 use Rattle.sm_machine.specs.declared.commands.Command.TheVariants.{Attach}
-use Rattle.common_laws.specs.Lists.{In, Distinct, when}
-use Rattle.sm_machine.specs.Shapes.{Shape, ImageRow, DiskRecord, Attachment, image_uuid, is_vhd, is_image_of, disk_record, attached_as, mode_in, image_extents, free, thick_in}
+use Rattle.common_laws.specs.Lists.{In, Distinct, when, ◌>>=◌}
+use Rattle.std.specs.List.{find}
+use Rattle.std.specs.Str.{bytes_eq}
+use Rattle.sm_machine.specs.Shapes.{Shape, ImageRow, DiskRecord, Attachment, image_uuid, is_vhd, is_image_of, disk_record, attached_as, is_there, mode_in, slot_at, image_extents, free, thick_in}
 use Rattle.sm_machine.specs.Refusals.{of_some, named, lacking, with_image_of, need, is_unknown, is_in_use, is_read_only, is_snapshot, lacks_space}
 use Rattle.sm_machine.specs.Commits.{folds}
 use Rattle.sm_machine.specs.Steps.{attach_shape}
 use Rattle.sm_machine.specs.WellFormed.{IsWellFormed, IsImageRow, HasImage, HasRecord, IsOperation}
+use Rattle.std.specs.Prelude.{is_some, length}
 use Rattle.common_laws.proofs.Lists.{In-map, In-map_at, In-append, Distinct-key, find-only, find-some}
 use Rattle.sm_machine.proofs.Changes.{when-key}
 use Rattle.sm_machine.proofs.Passed.{IsPassed}
-use Rattle.sm_machine.proofs.Mapped.{keeps_images, keeps_mapped, extents-change_one, only_mapped, link_mapped}
-use Rattle.sm_machine.proofs.Guests.{disks_own, disk_image_is, mode_none, none_mode, link_same, only_same}
+use Rattle.sm_machine.proofs.Mapped.{keeps_images, keeps_mapped, extents-change_one, only_mapped, link_mapped, live_mapped}
+use Rattle.sm_machine.proofs.Guests.{disks_own, disk_image_is, mode_none, none_mode, link_same, live_same, only_same}
 
 -- one more element, which is new
 Distinct-push : {A B : Type 0} (k : A → B) (xs : List A) (x : A) → Distinct (map k xs) → ((y : A) → In y xs → k y ≡ k x → ⊥) → Distinct (map k (xs ++ x ∷ []))
@@ -94,11 +97,25 @@ module _ (s : Shape) (w : IsWellFormed s) (u : List ℕ) (mode : Mode) (p : IsPa
     | inr r ↦ (let t : bytes_eq (image_uuid l) u ≡ true = subst (λ (v : List ℕ). bytes_eq v u ≡ true) (sym (ap (λ (b : Attachment). b.disk) r) ∙ q) (bytes_eq-refl u) in cc)
   ])
 
+  -- a disk that is attached already stays so
+  other_mode : (v : List ℕ) (xs ys : List Attachment) → is_some (mode_in v xs) ≡ true → mode_in v (xs ++ ys) ≡ mode_in v xs
+  other_mode v [] ys e = cc
+  other_mode v (x ∷ xs) ys e = by (bytes_eq x.disk v) refl (other_mode v xs ys)
+    where
+      by : (c : Bool) → bytes_eq x.disk v ≡ c → (is_some (mode_in v xs) ≡ true → mode_in v (xs ++ ys) ≡ mode_in v xs) → mode_in v (x ∷ (xs ++ ys)) ≡ mode_in v (x ∷ xs)
+      by true f rest = ap (λ c. cond c (Some x) (find (λ (a : Attachment). bytes_eq a.disk v) (xs ++ ys)) >>= (λ a. Some a.mode)) f
+          ∙ sym (ap (λ c. cond c (Some x) (find (λ (a : Attachment). bytes_eq a.disk v) xs) >>= (λ a. Some a.mode)) f)
+      by false f rest =
+          let there : is_some (mode_in v xs) ≡ true = sym (ap (λ c. is_some (cond c (Some x) (find (λ (a : Attachment). bytes_eq a.disk v) xs) >>= (λ a. Some a.mode))) f) ∙ e in
+          ap (λ c. cond c (Some x) (find (λ (a : Attachment). bytes_eq a.disk v) (xs ++ ys)) >>= (λ a. Some a.mode)) f ∙ rest there
+          ∙ sym (ap (λ c. cond c (Some x) (find (λ (a : Attachment). bytes_eq a.disk v) xs) >>= (λ a. Some a.mode)) f)
+
   operation_ro : (o : Op) → folds o u ≡ false → IsOperation s o → IsOperation (record s { records = s.records; attached = attached'; op = o }) o
   unfolding folds
   operation_ro op.Idle e h = tt
   operation_ro (op.Copy v n cursor) e h = only_same s w s.records attached' (op.Copy v n cursor) true v n h
   operation_ro (op.Relink v n) e h = link_same s w s.records attached' (op.Relink v n) true v n h
+  operation_ro (op.Live l n cursor dirty) e h = live_same s w s.records attached' (op.Live l n cursor dirty) l n cursor dirty (other_mode (image_uuid l) s.attached (added ∷ []) h.attached) h
   operation_ro (op.Leaf l n cursor) e h = (only_same s w s.records attached' (op.Leaf l n cursor) false l n h.0, h.1, other_leaf l e h.2)
 
 -- ---- for reading alone
@@ -216,11 +233,19 @@ module _ (s : Shape) (w : IsWellFormed s) (u : List ℕ) (p : IsPassed s (Attach
   sizes_kept : (y : ImageRow) → (on_attach y).size ≡ y.size
   sizes_kept = attach_key (λ (i : ImageRow). i.size) (λ y. refl)
 
+  more_kept : (y : ImageRow) (c : Bool) → y.extents ≤ (when c to_thick y).extents
+  more_kept y true = omega arith
+  more_kept y false = omega arith
+
   pub attach_rw_operation : (o : Op) → folds o u ≡ false → IsOperation s o → IsOperation (attached_shape o) o
   unfolding folds
   attach_rw_operation op.Idle e h = tt
   attach_rw_operation (op.Copy v n cursor) e h = only_mapped s w on_attach names_kept marks_kept parents_kept attached_rw (op.Copy v n cursor) true v n h (sizes_kept h.link.child) (λ q k m. sizes_kept q)
   attach_rw_operation (op.Relink v n) e h = link_mapped s w on_attach names_kept marks_kept parents_kept attached_rw (op.Relink v n) true v n h
+  attach_rw_operation (op.Live l n cursor dirty) e h = live_mapped s w on_attach names_kept marks_kept parents_kept attached_rw (op.Live l n cursor dirty) l n cursor dirty dirty h
+      (other_mode s w u Rw p (image_uuid l) s.attached (added s w u Rw p ∷ []) h.attached) (λ y k. sizes_kept y) (λ q k m. more_kept q (is_image_of u q))
+      (subst (λ (k : ℕ). cursor ≤ k) (sym (attach_key (λ (i : ImageRow). length i.slots) (λ y. refl) h.only.link.child)) h.within)
+      (λ b i. (let f = h.blocks b i in (f.0, ap (λ (xs : List (Option ℕ)). is_there (slot_at xs b)) (attach_key (λ (i : ImageRow). i.slots) (λ y. refl) h.only.link.child) ∙ f.1)))
   attach_rw_operation (op.Leaf l n cursor) e h = (only_mapped s w on_attach names_kept marks_kept parents_kept attached_rw (op.Leaf l n cursor) false l n h.0 (sizes_kept h.0.link.child) (λ q k m. sizes_kept q), h.1, other_leaf s w u Rw p l e h.2)
 
   pub attach_rw_keeps : (o : Op) → IsOperation (attached_shape o) o → IsWellFormed (record (attach_shape s u Rw) { op = o })

@@ -6,10 +6,10 @@ use Rattle.std.proofs.lemmas.Bool.{and_parts, eqb-true, leb-true}
 use Rattle.common_laws.proofs.Options.{none_of_some}
 use Rattle.common_laws.proofs.Booleans.{not_true, or_cases}
 use Rattle.sm_base.specs.declared.names.Name.{Name}
-use Rattle.sm_base.specs.declared.operations.Op.{Op}
+use Rattle.sm_machine.specs.Operations.{Op}
 use Rattle.common_laws.specs.Lists.{◌>>=◌, In, when, given}
 use Rattle.sm_machine.specs.Shapes.{Shape, ImageRow, same_image, is_image, find_image, image_uuid, is_vhd, on_image, is_parent, children, attached_as, top, image_extents, free, thin_in, thick_in}
-use Rattle.sm_machine.specs.Collector.{Pair, is_childless, has_one_child, with_parent, pair_of, leaf_of, pairs, leaves, target, fits, count_either, size_of}
+use Rattle.sm_machine.specs.Collector.{Pair, is_childless, has_one_child, with_parent, pair_of, is_written, leaf_of, live_of, lives, needed, pairs, leaves, target, fits, count_either, size_of}
 use Rattle.sm_machine.specs.WellFormed.{IsWellFormed, IsImageRow, IsSize, HasParent, IsOnlyChild, IsOperation}
 use Rattle.sm_machine.proofs.Faces.{AreSeen, seen_map}
 use Rattle.common_laws.proofs.Lists.{In-map, In-map_at, filter-In, Distinct-key, find-some}
@@ -126,6 +126,28 @@ chosen_leaf s pair h =
       parent_vhd = c.1;
     }
 
+-- a live leaf is attached, and its parent is a VHD image
+pub record IsLiveLeaf (s : Shape) (pair : Pair) : Type 0 where
+  pub foldable : IsFoldable s false pair
+  pub attached : is_some (attached_as (image_uuid pair.child.name) s) ≡ true
+  pub parent_vhd : is_vhd pair.parent.name ≡ true
+
+pub chosen_live : (s : Shape) (pair : Pair) → In pair (lives s) → IsLiveLeaf s pair
+unfolding live_of
+chosen_live s pair h =
+    let r : (v : ImageRow) × In v s.images × (live_of s v ≡ Some pair) = In-filter_map (live_of s) s.images pair h in
+    let v : ImageRow = r.0 in
+    let a = given_some (not v.hidden && is_vhd v.name) v _ pair r.2 in
+    let b = given_some (is_some (attached_as (image_uuid v.name) s)) v _ pair a.1 in
+    let marks : (not v.hidden ≡ true) × (is_vhd v.name ≡ true) = and_parts (not v.hidden) (is_vhd v.name) a.0 in
+    let c : (with_parent s v ≡ Some pair) × (is_vhd pair.parent.name ≡ true) = last_step s v pair (λ (p : Pair). is_vhd p.parent.name) b.1 in
+    let l : IsLinked s v pair = linked_pair s v pair c.0 in
+    record {
+      foldable = foldable_from s false v pair r.1 (not_true v.hidden marks.0) marks.1 l (inl c.1);
+      attached = subst (λ (x : ImageRow). is_some (attached_as (image_uuid x.name) s) ≡ true) l.is_child b.0;
+      parent_vhd = c.1;
+    }
+
 -- ---- the parent gets room and the child's size
 
 only_one : {A : Type 0} (xs : List A) (x y : A) → length xs ≡ 1 → In x xs → In y xs → x ≡ y
@@ -198,11 +220,11 @@ module _ (s : Shape) (w : IsWellFormed s) (hidden : Bool) (pair : Pair) (f : IsF
   target_by true e = (subst (λ (n : ℕ). parent.extents ≤ n) (sym (ap target_of e)) (omega arith), λ q. cc)
     where
       target_of : Bool → ℕ
-      target_of c = elim c [ true ↦ max parent.extents (thin_in s (max (top parent.slots) (count_either parent.slots child.slots))) | false ↦ parent.extents ]
+      target_of c = elim c [ true ↦ max parent.extents (needed s pair) | false ↦ parent.extents ]
   target_by false e = (subst (λ (n : ℕ). parent.extents ≤ n) (sym (ap target_of e)) (omega arith), λ q. ap target_of e)
     where
       target_of : Bool → ℕ
-      target_of c = elim c [ true ↦ max parent.extents (thin_in s (max (top parent.slots) (count_either parent.slots child.slots))) | false ↦ parent.extents ]
+      target_of c = elim c [ true ↦ max parent.extents (needed s pair) | false ↦ parent.extents ]
 
   at_least : parent.extents ≤ to
   at_least = (target_by (is_vhd parent.name) refl).0
@@ -307,6 +329,24 @@ module _ (s : Shape) (w : IsWellFormed s) (hidden : Bool) (pair : Pair) (f : IsF
       grown_size : (y : ImageRow) (c : Bool) → c ≡ true → (when c grow y).size ≡ size_of child.name s
       grown_size y true e = refl
       grown_size y false e = cc
+
+  -- where the child is written to the parent gets room for all its blocks
+  pub begin_thick : is_vhd parent.name ≡ true → is_written s child ≡ true → (q : ImageRow) → In q (map on_grow s.images) → q.name ≡ parent.name → thick_in s q.size ≤ q.extents
+  unfolding target
+  begin_thick vhd written q h e =
+      let r : (y : ImageRow) × In y s.images × (q ≡ on_grow y) = In-map on_grow s.images q h in
+      let n : r.0.name ≡ parent.name = sym (ap (λ (x : ImageRow). x.name) r.2 ∙ grow_names r.0) ∙ e in
+      let t : is_image parent.name r.0 ≡ true = ap (λ (m : Name). same_image m parent.name) n ∙ same_image-refl parent.name (w.images parent f.parent_there).named in
+      subst (λ (z : ImageRow). thick_in s z.size ≤ z.extents) (sym r.2) (grown_thick r.0 (is_image parent.name r.0) t)
+    where
+      all : (c d : Bool) → c ≡ true → d ≡ true → thick_in s child.size ≤ elim c as (λ _. ℕ) [ true ↦ max parent.extents (elim d as (λ _. ℕ) [ true ↦ thick_in s child.size | false ↦ thin_in s (max (top parent.slots) (count_either parent.slots child.slots)) ]) | false ↦ parent.extents ]
+      all true true e f = omega arith
+      all true false e f = cc
+      all false d e f = cc
+
+      grown_thick : (y : ImageRow) (c : Bool) → c ≡ true → thick_in s (when c grow y).size ≤ (when c grow y).extents
+      grown_thick y true e = subst (λ (k : ℕ). thick_in s k ≤ to) (sym child_size) (all (is_vhd parent.name) (is_written s child) vhd written)
+      grown_thick y false e = cc
 
 -- users see the same images
 module _ (s : Shape) (w : IsWellFormed s) (hidden : Bool) (pair : Pair) (f : IsFoldable s hidden pair) (enough : fits s pair ≡ true) where

@@ -7,8 +7,8 @@ use Rattle.common_laws.proofs.Bytes.{bytes_eq-same, bytes_eq-refl}
 use Rattle.common_laws.proofs.Booleans.{not_true}
 use Rattle.sm_base.specs.declared.names.Name.{Name}
 use Rattle.sm_base.specs.declared.operations.Mode.TheVariants.{Rw}
-use Rattle.sm_base.specs.declared.operations.Op.{Op}
-use Rattle.sm_base.specs.declared.operations.Op.TheVariants as op
+use Rattle.sm_machine.specs.Operations.{Op}
+use Rattle.sm_machine.specs.Operations as op
 use Rattle.common_laws.specs.Lists.{◌>>=◌, In, when}
 use Rattle.sm_machine.specs.Shapes.{Shape, ImageRow, Attachment, is_image, image_uuid, is_vhd, on_image, attached_as, is_rw, top, image_extents, thin_in, thick_in}
 use Rattle.sm_machine.specs.Collector.{is_loose, is_written, given_block, with_block}
@@ -120,26 +120,26 @@ module _ (s : Shape) (w : IsWellFormed s) (p : Name) (b : ℕ) where
       by_kind z true = h z (with_block b z.slots)
       by_kind z false = refl
 
-  block_table : (y : ImageRow) → length (on_copy y).slots ≡ length y.slots
+  pub block_table : (y : ImageRow) → length (on_copy y).slots ≡ length y.slots
   block_table y = when-key (λ (z : ImageRow). length z.slots) (given_block b) (λ z. by_kind z (is_vhd z.name)) (is_image p y) y
     where
       by_kind : (z : ImageRow) (c : Bool) → length ((elim c as (λ _. ImageRow) [ true ↦ record z { slots = with_block b z.slots } | false ↦ z ]).slots) ≡ length z.slots
       by_kind z true = length-block b z.slots
       by_kind z false = refl
 
-  copy_names : (y : ImageRow) → (on_copy y).name ≡ y.name
+  pub copy_names : (y : ImageRow) → (on_copy y).name ≡ y.name
   copy_names = block_key (λ (x : ImageRow). x.name) (λ y xs. refl)
 
-  copy_marks : (y : ImageRow) → (on_copy y).hidden ≡ y.hidden
+  pub copy_marks : (y : ImageRow) → (on_copy y).hidden ≡ y.hidden
   copy_marks = block_key (λ (x : ImageRow). x.hidden) (λ y xs. refl)
 
-  copy_links : (y : ImageRow) → (on_copy y).parent ≡ y.parent
+  pub copy_links : (y : ImageRow) → (on_copy y).parent ≡ y.parent
   copy_links = block_key (λ (x : ImageRow). x.parent) (λ y xs. refl)
 
-  copy_sizes : (y : ImageRow) → (on_copy y).size ≡ y.size
+  pub copy_sizes : (y : ImageRow) → (on_copy y).size ≡ y.size
   copy_sizes = block_key (λ (x : ImageRow). x.size) (λ y xs. refl)
 
-  copy_extents : (y : ImageRow) → (on_copy y).extents ≡ y.extents
+  pub copy_extents : (y : ImageRow) → (on_copy y).extents ≡ y.extents
   copy_extents = block_key (λ (x : ImageRow). x.extents) (λ y xs. refl)
 
   abbrev pub copied_shape : Op → Shape

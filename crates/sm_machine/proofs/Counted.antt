@@ -1,10 +1,10 @@
 -- A higher sequence number keeps a shape well-formed.
-use Rattle.std.proofs.Common.{ℕ, ◌<◌, ◌≤◌, Bool, true, false, arith}
+use Rattle.std.proofs.Common.{ℕ, ◌<◌, ◌≤◌, Bool, true, false, List, arith}
 use Rattle.sm_base.specs.declared.names.Name.{Name}
-use Rattle.sm_base.specs.declared.operations.Op.{Op}
-use Rattle.sm_base.specs.declared.operations.Op.TheVariants as op
+use Rattle.sm_machine.specs.Operations.{Op}
+use Rattle.sm_machine.specs.Operations as op
 use Rattle.sm_machine.specs.Shapes.{Shape, ImageRow, last_sequence}
-use Rattle.sm_machine.specs.WellFormed.{IsImageRow, IsChild, IsOnlyChild, IsOperation, IsWellFormed, table_length}
+use Rattle.sm_machine.specs.WellFormed.{IsImageRow, IsChild, IsLive, IsOnlyChild, IsOperation, IsWellFormed, table_length}
 
 module _ (s : Shape) (n : ℕ) where
   abbrev counted : Shape
@@ -17,10 +17,15 @@ module _ (s : Shape) (n : ℕ) where
   unfolding link_counted
   only_counted hidden v p h = record { link = link_counted hidden v p h.link; only = h.only; same_size = h.same_size }
 
+  live_counted : (l p : Name) (cursor : ℕ) (dirty : List ℕ) → IsLive s l p cursor dirty → IsLive counted l p cursor dirty
+  unfolding link_counted only_counted
+  live_counted l p cursor dirty h = record { only = only_counted false l p h.only; parent_vhd = h.parent_vhd; attached = h.attached; thick = h.thick; within = h.within; blocks = h.blocks }
+
   operation_counted : (o : Op) → IsOperation s o → IsOperation counted o
   operation_counted op.Idle h = tt
   operation_counted (op.Copy v p cursor) h = only_counted true v p h
   operation_counted (op.Relink v p) h = link_counted true v p h
+  operation_counted (op.Live l p cursor dirty) h = live_counted l p cursor dirty h
   operation_counted (op.Leaf l p cursor) h = (only_counted false l p h.0, h.1, h.2)
 
   image_counted : (i : ImageRow) → IsImageRow s i → IsImageRow counted i

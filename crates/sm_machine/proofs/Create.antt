@@ -10,8 +10,8 @@ use Rattle.sm_base.specs.Names.{is_base, base_uuid}
 use Rattle.sm_base.specs.Numbers.{div_up}
 use Rattle.sm_base.specs.declared.names.Name.{Name}
 use Rattle.sm_base.specs.declared.operations.Mode.TheVariants.{Rw}
-use Rattle.sm_base.specs.declared.operations.Op.{Op}
-use Rattle.sm_base.specs.declared.operations.Op.TheVariants as op
+use Rattle.sm_machine.specs.Operations.{Op}
+use Rattle.sm_machine.specs.Operations as op
 use Rattle.sm_machine.specs.declared.commands.Command.TheVariants.{Create}
 use Rattle.common_laws.specs.Lists.{◌>>=◌, In, Distinct}
 use Rattle.sm_machine.specs.Disks.{sector_bytes}
@@ -295,10 +295,18 @@ module _ (s : Shape) (w : IsWellFormed s) (u : List ℕ) (bytes : ℕ) (raw : Bo
   }
 
   operation_good : (o : Op) → IsOperation s o → IsOperation s' o
-  unfolding shape_next is_given_up gives_up shape_after
+  unfolding shape_next is_given_up gives_up shape_after link_good only_good
   operation_good op.Idle h = tt
   operation_good (op.Copy v n cursor) h = only_good true v n h
   operation_good (op.Relink v n) h = link_good true v n h
+  operation_good (op.Live l n cursor dirty) h = record {
+    only = only_good false l n h.only;
+    parent_vhd = h.parent_vhd;
+    attached = h.attached;
+    thick = λ rw q g k. elim (in_images q g) [ inl e ↦ absurd (not_parent false l n h.only.link q e k) | inr j ↦ h.thick rw q j k ];
+    within = h.within;
+    blocks = h.blocks;
+  }
   operation_good (op.Leaf l n cursor) h = (only_good false l n h.0, h.1, attached_same l h.2)
     where
       attached_same : (l : Name) → attached_as (image_uuid l) s ≡ None → attached_as (image_uuid l) s' ≡ None

@@ -1,18 +1,20 @@
 -- Each step of the collector but the blocked and the idle one works off debt.
 use Rattle.std.proofs.Common.{◌≡◌, ℕ, zero, suc, ◌+◌, ◌<◌, ◌≤◌, Bool, true, false, not, ◌&&◌, List, [], ◌∷◌, ◌++◌, length, drop, Option, Some, None, refl, sym, ap, ◌∙◌, subst, inl, inr, arith}
 use Rattle.std.specs.Prelude.{nat_lt}
+use Rattle.sm_machine.specs.Operations.{dirty_limit, without_dirty}
+use Rattle.sm_machine.proofs.Lives.{without_less}
 use Rattle.std.specs.List.{find, filter, list_any}
 use Rattle.std.specs.Option.{option_map}
-use Rattle.std.proofs.lemmas.Bool.{ltb-true, and_parts}
+use Rattle.std.proofs.lemmas.Bool.{lt-ltb, ltb-true, and_parts}
 use Rattle.std.proofs.lemmas.List.{length-map}
 use Rattle.sm_base.specs.declared.names.Name.{Name}
-use Rattle.sm_base.specs.declared.operations.Op.{Op}
-use Rattle.sm_base.specs.declared.operations.Op.TheVariants as op
+use Rattle.sm_machine.specs.Operations.{Op}
+use Rattle.sm_machine.specs.Operations as op
 use Rattle.sm_base.specs.declared.operations.Plan.{Plan}
 use Rattle.sm_base.specs.declared.operations.Plan.TheVariants as plan
 use Rattle.common_laws.specs.Lists.{In, when, change}
 use Rattle.sm_machine.specs.Shapes.{Shape, ImageRow, same_image, is_image, find_image, image_uuid, is_vhd, with_image, without_image, on_image, is_parent, children, parent_of, count_blocks, top, thin_in, image_extents}
-use Rattle.sm_machine.specs.Collector.{Pair, Debt, IsLess, debt, phase, items_left, next_step, plan_idle, plan_running, plan_copy, copy_or, relink_or, blocked, table_of, next_block, pairs, leaves, fits, target, is_garbage, is_loose, is_written, collected, copied, turned, linked, swapped, given_block, with_found, as_leaf, with_block}
+use Rattle.sm_machine.specs.Collector.{Pair, Debt, IsLess, debt, phase, items_left, next_step, plan_idle, plan_running, plan_copy, copy_or, relink_or, blocked, clean_or, table_of, next_block, pairs, leaves, lives, fits, target, is_garbage, is_loose, is_written, collected, copied, turned, linked, swapped, given_block, given_blocks, with_found, as_leaf, with_block}
 use Rattle.sm_machine.specs.WellFormed.{IsWellFormed, IsChild, HasParent, EndsWithin}
 use Rattle.sm_machine.specs.declared.commands.Command.TheVariants.{Gc}
 use Rattle.sm_machine.specs.Commits.{is_given_up, gives_up}
@@ -22,7 +24,7 @@ use Rattle.common_laws.proofs.Lists.{find-some, In-filter, filter-In, length-ins
 use Rattle.sm_machine.proofs.Changes.{when-key, find-map, filter-map_less, filter_less, list_any-some}
 use Rattle.sm_machine.proofs.Chains.{find_image-in, parent_of-in}
 use Rattle.sm_machine.proofs.ImageNames.{same_image-sound, same_image-refl, other_image}
-use Rattle.sm_machine.proofs.Tables.{count-next}
+use Rattle.sm_machine.proofs.Tables.{count-next, next_found}
 
 -- ---- no image is its own parent
 
@@ -138,19 +140,24 @@ module _ (s : Shape) (w : IsWellFormed (record s { op = op.Idle })) where
   unfolding debt phase collected
   leaf_begun child parent to g = clean _ (list_any-find (is_garbage resting) s.images g) (begun_debt (length s.images) _ _ _ _ (length-on_image parent _ s.images))
 
-  abbrev idle_by : Option ImageRow → Option ImageRow → Option Pair → Option Pair → Plan
-  idle_by g l p q = elim g [ Some i ↦ plan.Remove i.name | None ↦ elim l [ Some i ↦ plan.Deflate i.name (loose_to i) | None ↦ elim p [ Some a ↦ plan.Begin a.child.name a.parent.name (target resting a) | None ↦ elim q [ Some a ↦ plan.Leaf a.child.name a.parent.name (target resting a) | None ↦ blocked resting (pairs resting ++ leaves resting) ] ] ] ]
+  live_begun : (child parent : Name) (to : ℕ) → find (is_garbage resting) s.images ≡ None → IsLess (debt (collected (plan.Live child parent to) resting)) (debt resting)
+  unfolding debt phase collected
+  live_begun child parent to g = clean _ (list_any-find (is_garbage resting) s.images g) (begun_debt (length s.images) _ _ _ _ (length-on_image parent _ s.images))
 
-  by_rules : (g l : Option ImageRow) (p q : Option Pair) → find (is_garbage resting) s.images ≡ g → find (is_loose resting) s.images ≡ l → is_working (idle_by g l p q) ≡ true → IsLess (debt (collected (idle_by g l p q) resting)) (debt resting)
-  by_rules (Some i) l p q a b h = removed i a
-  by_rules None (Some i) p q a b h = cut i a b
-  by_rules None None (Some x) q a b h = begun x.child.name x.parent.name (target resting x) a
-  by_rules None None None (Some x) a b h = leaf_begun x.child.name x.parent.name (target resting x) a
-  by_rules None None None None a b h = absurd (blocked_rests resting (pairs resting ++ leaves resting) h)
+  abbrev idle_by : Option ImageRow → Option ImageRow → Option Pair → Option Pair → Option Pair → Plan
+  idle_by g l p q r = elim g [ Some i ↦ plan.Remove i.name | None ↦ elim l [ Some i ↦ plan.Deflate i.name (loose_to i) | None ↦ elim p [ Some a ↦ plan.Begin a.child.name a.parent.name (target resting a) | None ↦ elim q [ Some a ↦ plan.Leaf a.child.name a.parent.name (target resting a) | None ↦ elim r [ Some a ↦ plan.Live a.child.name a.parent.name (target resting a) | None ↦ blocked resting (pairs resting ++ (leaves resting ++ lives resting)) ] ] ] ] ]
+
+  by_rules : (g l : Option ImageRow) (p q r : Option Pair) → find (is_garbage resting) s.images ≡ g → find (is_loose resting) s.images ≡ l → is_working (idle_by g l p q r) ≡ true → IsLess (debt (collected (idle_by g l p q r) resting)) (debt resting)
+  by_rules (Some i) l p q r a b h = removed i a
+  by_rules None (Some i) p q r a b h = cut i a b
+  by_rules None None (Some x) q r a b h = begun x.child.name x.parent.name (target resting x) a
+  by_rules None None None (Some x) r a b h = leaf_begun x.child.name x.parent.name (target resting x) a
+  by_rules None None None None (Some x) a b h = live_begun x.child.name x.parent.name (target resting x) a
+  by_rules None None None None None a b h = absurd (blocked_rests resting (pairs resting ++ (leaves resting ++ lives resting)) h)
 
   idle_lowers : is_working (plan_idle resting) ≡ true → IsLess (debt (collected (plan_idle resting) resting)) (debt resting)
   unfolding plan_idle
-  idle_lowers h = by_rules (find (is_garbage resting) s.images) (find (is_loose resting) s.images) (find (fits resting) (pairs resting)) (find (fits resting) (leaves resting)) refl refl h
+  idle_lowers h = by_rules (find (is_garbage resting) s.images) (find (is_loose resting) s.images) (find (fits resting) (pairs resting)) (find (fits resting) (leaves resting)) (find (fits resting) (lives resting)) refl refl h
 
 -- ---- a block is copied
 
@@ -199,6 +206,14 @@ module _ (s : Shape) (w : IsWellFormed s) (v p : Name) (c : ImageRow) (there : I
       let r : count_blocks (drop (b + 1) c.slots) < count_blocks (drop cursor c.slots) = count-next cursor b c.slots n in
       subst (λ (xs : List (Option ℕ)). count_blocks (drop (b + 1) xs) < count_blocks (drop cursor (table_of v s))) (sym (table_is s' e))
       (subst (λ (xs : List (Option ℕ)). count_blocks (drop (b + 1) c.slots) < count_blocks (drop cursor xs)) (sym table_was) r)
+
+-- the table of the copied image stays
+pub table_same : (s : Shape) (w : IsWellFormed s) (v p : Name) (c : ImageRow) → In c s.images → c.name ≡ v → c.parent ≡ Some p → (b : ℕ) (s' : Shape) → s'.images ≡ on_image p (given_block b) s.images → table_of v s' ≡ table_of v s
+unfolding slots_of
+table_same s w v p c there called linked_to b s' e =
+    ap (λ (images : List ImageRow). slots_of (find_image v images)) e
+    ∙ ap slots_of (subst (λ (n : Name). find_image n (on_image p (given_block b) s.images) ≡ Some c) called (table_kept s.images p b c (found_row s w c there) (parent_apart s w c p there linked_to)))
+    ∙ sym (ap slots_of (subst (λ (n : Name). find_image n s.images ≡ Some c) called (found_row s w c there)))
 
 -- ---- a copy
 
@@ -347,6 +362,88 @@ module _ (s : Shape) (l p : Name) (cursor : ℕ) (w : IsWellFormed (record s { o
   unfolding plan_running
   folding_lowers = by_leaf_block (next_block cursor (table_of l folding)) refl
 
+-- ---- the leaf of an attached disk is folded
+
+live_less : (n n' a a' u u' : ℕ) → n' ≡ n → a' < a → IsLess (record { images = n'; phase = 3; left = a'; used = u' }) (record { images = n; phase = 3; left = a; used = u })
+live_less n n' a a' u u' e h = inr (e, inr (refl, inl h))
+
+module _ (s : Shape) (l p : Name) (cursor : ℕ) (dirty : List ℕ) (w : IsWellFormed (record s { op = op.Live l p cursor dirty })) where
+  abbrev living : Shape
+  living = record s { op = op.Live l p cursor dirty }
+
+  abbrev live_link : IsChild living false l p
+  live_link = w.operation.only.link
+
+  abbrev live_after : Op → ℕ → Shape
+  live_after o b = record s { images = on_image p (given_block b) s.images; op = o }
+
+  live_copy_lowers : (b : ℕ) → next_block cursor (table_of l living) ≡ Some b → IsLess (debt (collected (plan.Copy b) living)) (debt living)
+  unfolding debt phase items_left collected copied
+  live_copy_lowers b e = by (nat_lt b cursor) refl
+    where
+      by : (c : Bool) → nat_lt b cursor ≡ c → IsLess (debt (live_after (elim c as (λ _. Op) [ true ↦ op.Live l p cursor (without_dirty b dirty) | false ↦ op.Live l p (b + 1) dirty ]) b)) (debt living)
+      by true f = (let low : b < cursor = ltb-true b cursor f in let high : cursor ≤ b = (next_found cursor b (table_of l living) e).0 in absurd (omega arith))
+      by false f = live_less (length s.images) _ _ _ _ _ (length-on_image p (given_block b) s.images)
+          (let less = left_less living w l p live_link.child live_link.there live_link.is_named live_link.linked cursor b e (live_after (op.Live l p (b + 1) dirty) b) refl in omega (arith, less))
+
+  -- a dirty block is copied again
+  live_clean_lowers : (b : ℕ) → In b dirty → IsLess (debt (collected (plan.Copy b) living)) (debt living)
+  unfolding debt phase items_left collected copied
+  live_clean_lowers b i = by (nat_lt b cursor) refl
+    where
+      below : b < cursor
+      below = (w.operation.blocks b i).0
+
+      by : (c : Bool) → nat_lt b cursor ≡ c → IsLess (debt (live_after (elim c as (λ _. Op) [ true ↦ op.Live l p cursor (without_dirty b dirty) | false ↦ op.Live l p (b + 1) dirty ]) b)) (debt living)
+      by true f = live_less (length s.images) _ _ _ _ _ (length-on_image p (given_block b) s.images)
+          (let fewer = without_less b dirty i in
+          let same : count_blocks (drop cursor (table_of l (live_after (op.Live l p cursor (without_dirty b dirty)) b))) ≡ count_blocks (drop cursor (table_of l living)) =
+          ap (λ xs. count_blocks (drop cursor xs)) (table_same living w l p live_link.child live_link.there live_link.is_named live_link.linked b (live_after (op.Live l p cursor (without_dirty b dirty)) b) refl) in omega (arith, fewer, same))
+      by false f = (let t : nat_lt b cursor ≡ true = lt-ltb b cursor below in cc)
+
+  live_parent : HasParent s.images live_link.child p
+  live_parent = w.parents live_link.child p live_link.there live_link.linked
+
+  live_without_both : length (without_image p (without_image l s.images)) + 2 ≤ length s.images
+  live_without_both =
+      let c : ImageRow = live_link.child in
+      let a : length (without_image l s.images) < length s.images = filter_less (λ (j : ImageRow). not (is_image l j)) s.images c live_link.there
+      (ap not (subst (λ (n : Name). is_image n c ≡ true) live_link.is_named (is_itself living w c live_link.there))) in
+      let q : ImageRow = live_parent.parent in
+      let apart : q.name ≡ l → ⊥ = λ (e : q.name ≡ l). parent_apart living w c p live_link.there live_link.linked (live_link.is_named ∙ (sym e ∙ live_parent.is_named)) in
+      let stays : In q (without_image l s.images) = filter-In (λ (j : ImageRow). not (is_image l j)) s.images q live_parent.there (ap not (other_image q.name l apart)) in
+      let b : length (without_image p (without_image l s.images)) < length (without_image l s.images) = filter_less (λ (j : ImageRow). not (is_image p j)) (without_image l s.images) q stays
+      (ap not (subst (λ (n : Name). is_image n q ≡ true) live_parent.is_named (is_itself living w q live_parent.there))) in
+      omega arith
+
+  live_found_le : (o : Option ImageRow) (f : ImageRow → ImageRow) (images : List ImageRow) → length (with_found o f images) ≤ length images + 1
+  unfolding with_image
+  live_found_le None f images = omega arith
+  live_found_le (Some i) f images = let e : length (with_image (f i) images) ≡ suc (length images) = length-insert_by _ (f i) images in omega arith
+
+  live_swap_lowers : IsLess (debt (collected plan.Swap living)) (debt living)
+  unfolding debt collected swapped
+  live_swap_lowers =
+      let a : length (without_image p (without_image l s.images)) + 2 ≤ length s.images = live_without_both in
+      let b = live_found_le (find_image p s.images) (λ q. as_leaf l (given_blocks dirty q)) (without_image p (without_image l s.images)) in
+      inl (omega (arith, a, b))
+
+  live_clean : (ds : List ℕ) → ((b : ℕ) → In b ds → In b dirty) → IsLess (debt (collected (clean_or ds) living)) (debt living)
+  live_clean [] all = live_swap_lowers
+  live_clean (d ∷ ds) all = by (nat_lt dirty_limit (length (d ∷ ds)))
+    where
+      by : (c : Bool) → IsLess (debt (collected (elim c as (λ _. Plan) [ true ↦ plan.Copy d | false ↦ plan.Swap ]) living)) (debt living)
+      by true = live_clean_lowers d (all d (inl refl))
+      by false = live_swap_lowers
+
+  by_live_block : (o : Option ℕ) → next_block cursor (table_of l living) ≡ o → IsLess (debt (collected (copy_or (clean_or dirty) o) living)) (debt living)
+  by_live_block None e = live_clean dirty (λ b i. i)
+  by_live_block (Some b) e = live_copy_lowers b e
+
+  living_lowers : IsLess (debt (collected (plan_running living (op.Live l p cursor dirty)) living)) (debt living)
+  unfolding plan_running
+  living_lowers = by_live_block (next_block cursor (table_of l living)) refl
+
 -- ---- every step
 
 with_operation : (s : Shape) (o : Op) → IsWellFormed (record s { op = o }) → is_working (plan_running (record s { op = o }) o) ≡ true → IsLess (debt (collected (plan_running (record s { op = o }) o) (record s { op = o }))) (debt (record s { op = o }))
@@ -355,6 +452,7 @@ with_operation s op.Idle w h = idle_lowers s w h
 with_operation s (op.Copy v p cursor) w h = copying_lowers s v p cursor w
 with_operation s (op.Relink v p) w h = linking_lowers s v p w
 with_operation s (op.Leaf l p cursor) w h = folding_lowers s l p cursor w
+with_operation s (op.Live l p cursor dirty) w h = living_lowers s l p cursor dirty w
 
 pub collected_lowers : (s : Shape) → IsWellFormed s → is_working (next_step s) ≡ true → IsLess (debt (collected (next_step s) s)) (debt s)
 unfolding next_step

@@ -6,8 +6,8 @@ use Rattle.std.proofs.lemmas.Bool.{and_parts, eqb-true}
 use Rattle.common_laws.proofs.Bytes.{bytes_eq-apart, bytes_eq-refl}
 use Rattle.common_laws.proofs.Options.{none_of_some}
 use Rattle.sm_base.specs.declared.names.Name.{Name}
-use Rattle.sm_base.specs.declared.operations.Op.{Op}
-use Rattle.sm_base.specs.declared.operations.Op.TheVariants as op
+use Rattle.sm_machine.specs.Operations.{Op}
+use Rattle.sm_machine.specs.Operations as op
 use Rattle.sm_machine.specs.declared.commands.Command.TheVariants.{Delete}
 use Rattle.common_laws.specs.Lists.{In, Distinct, Sorted}
 use Rattle.sm_machine.specs.Shapes.{Shape, ImageRow, DiskRecord, Attachment, same_image, is_image, image_uuid, is_image_of, is_parent, children, parent_of, attached_as, image_extents, without_image}
@@ -165,10 +165,18 @@ module _ (s : Shape) (w : IsWellFormed s) (u : List ℕ) (p : IsPassed s (Delete
       operation
 
   pub delete_operation : (o : Op) → folds o u ≡ false → IsOperation s o → IsOperation (deleted o) o
-  unfolding folds
+  unfolding folds link_left only_left
   delete_operation op.Idle e h = tt
   delete_operation (op.Copy v n cursor) e h = only_left s w stays parents_stay' left_records (op.Copy v n cursor) true v n h (ap not (hidden_is_no_disk u h.link.child h.link.is_shown))
   delete_operation (op.Relink v n) e h = link_left s w stays parents_stay' left_records (op.Relink v n) true v n h (ap not (hidden_is_no_disk u h.child h.is_shown))
+  delete_operation (op.Live l n cursor dirty) e h = record {
+    only = only_left s w stays parents_stay' left_records (op.Live l n cursor dirty) false l n h.only (ap not (not_its_leaf u h.only.link.child l h.only.link.is_named e));
+    parent_vhd = h.parent_vhd;
+    attached = h.attached;
+    thick = λ rw q k m. h.thick rw q (In-filter stays s.images q k).0 m;
+    within = h.within;
+    blocks = h.blocks;
+  }
   delete_operation (op.Leaf l n cursor) e h = (only_left s w stays parents_stay' left_records (op.Leaf l n cursor) false l n h.0 (ap not (not_its_leaf u h.0.link.child l h.0.link.is_named e)), h.1, h.2)
 
 -- ---- a hidden image without children

@@ -11,14 +11,14 @@ use Rattle.sm_base.specs.Numbers.{thick}
 use Rattle.sm_base.specs.declared.names.Name.{Name}
 use Rattle.sm_base.specs.declared.names.Name.TheVariants.{Vhd, Raw}
 use Rattle.sm_base.specs.declared.operations.Mode.TheVariants.{Rw}
-use Rattle.sm_base.specs.declared.operations.Op.{Op}
-use Rattle.sm_base.specs.declared.operations.Op.TheVariants as op
+use Rattle.sm_machine.specs.Operations.{Op}
+use Rattle.sm_machine.specs.Operations as op
 use Rattle.common_laws.specs.Lists.{In, Distinct, Sorted}
 use Rattle.sm_machine.specs.Shapes.{Shape, ImageRow, DiskRecord, Attachment, last_sequence, same_image, is_image, image_uuid, is_vhd, renamed, disk_image, disk_record, parent_of, chain, with_image, without_image, attached_as, is_rw, image_extents, free, thick_in, chain_limit}
 use Rattle.sm_machine.specs.Refusals.{depth, with_image_of, fork_need, wanted}
 use Rattle.sm_machine.specs.Commits.{folds}
 use Rattle.sm_machine.specs.Steps.{with_record, child_image, fork_images, fork_records, fork_shape}
-use Rattle.sm_machine.specs.WellFormed.{IsWellFormed, IsImageRow, HasParent, HasImage, HasRecord, IsChild, IsOnlyChild, IsOperation, EndsWithin, is_image_name, table_length, name_le}
+use Rattle.sm_machine.specs.WellFormed.{IsWellFormed, IsImageRow, HasParent, HasImage, HasRecord, IsChild, IsLive, IsOnlyChild, IsOperation, EndsWithin, is_image_name, table_length, name_le}
 use Rattle.common_laws.proofs.Lists.{In-map, In-map_at, In-insert, In-insert_new, In-insert_old, Distinct-key, Distinct-filter, Distinct-insert, Sorted-filter, length-insert_by, find-some, find-only}
 use Rattle.sm_machine.proofs.Changes.{filter_less}
 use Rattle.sm_machine.proofs.Chains.{parent_of-in, ends_alike, OfName, IsThere}
@@ -517,10 +517,26 @@ module _ (s : Shape) (w : IsWellFormed s) (u twin : List ℕ) (f : IsForkable s 
 
     module _ (n : ℕ) (above : s.sequence < n) (most : n ≤ last_sequence) where
       pub fork_operation : (o : Op) → folds o u ≡ false → IsOperation s o → IsOperation (fork n above most o) o
-      unfolding folds
+      unfolding folds link_forked only_forked
       fork_operation op.Idle e h = tt
       fork_operation (op.Copy v p cursor) e h = only_forked n above most (op.Copy v p cursor) true v p h (hidden_other h.link.child h.link.there h.link.is_shown)
       fork_operation (op.Relink v p) e h = link_forked n above most (op.Relink v p) true v p h (hidden_other h.child h.there h.is_shown)
+      fork_operation (op.Live l p cursor dirty) e h = record {
+        only = only_forked n above most (op.Live l p cursor dirty) false l p h.only (leaf_other h.only.link.child l h.only.link.is_named e);
+        parent_vhd = h.parent_vhd;
+        attached = h.attached;
+        thick = λ rw. by_rows (λ (x : ImageRow). x.name ≡ p → thick_in s x.size ≤ x.extents)
+            (λ q. absurd (no_twin (up h).parent (up h).there (ap image_uuid ((up h).is_named ∙ sym q) ∙ other_uuid)))
+            (λ q. (let same : (up h).parent ≡ own = same_own (up h).parent (up h).there (ap image_uuid ((up h).is_named ∙ sym q) ∙ mine_uuid) in
+            let c : true ≡ false = sym (up h).is_hidden ∙ (ap (λ (i : ImageRow). i.hidden) same ∙ own_shown) in cc))
+            (λ q. absurd (no_base (up h).parent (up h).there (ap image_uuid ((up h).is_named ∙ sym q) ∙ base_name_uuid)))
+            (λ x k q. h.thick rw x (was x k) q);
+        within = h.within;
+        blocks = h.blocks;
+      }
+        where
+          up : IsLive s l p cursor dirty → HasParent s.images h.only.link.child p
+          up h' = w.parents h.only.link.child p h.only.link.there h.only.link.linked
       fork_operation (op.Leaf l p cursor) e h = (only_forked n above most (op.Leaf l p cursor) false l p h.0 (leaf_other h.0.link.child l h.0.link.is_named e), h.1, h.2)
 
 -- users see the disk's image, the twin's, and the others

@@ -16,6 +16,7 @@ pub mod Guests
 pub mod Idle
 pub mod ImageNames
 pub mod Listed
+pub mod Lives
 pub mod Mapped
 pub mod Moments
 pub mod New
@@ -27,4 +28,5 @@ pub mod Steps
 pub mod Swaps
 pub mod Tables
 pub mod Together
+pub mod Told
 pub mod Uses

@@ -3,13 +3,14 @@ use Rattle.std.proofs.Common.{◌≡◌, ℕ, ◌+◌, ◌*◌, ◌<◌, ◌≤�
 use Rattle.std.specs.Option.{option_map}
 use Rattle.std.proofs.lemmas.List.{length-map}
 use Rattle.sm_base.specs.declared.names.Name.{Name}
-use Rattle.sm_base.specs.declared.operations.Op.{Op}
-use Rattle.sm_base.specs.declared.operations.Op.TheVariants as op
+use Rattle.sm_machine.specs.Operations.{Op}
+use Rattle.sm_machine.specs.Operations as op
 use Rattle.sm_base.specs.declared.operations.Mode.TheVariants.{Rw}
 use Rattle.common_laws.specs.Lists.{◌>>=◌, In, Distinct, Sorted, when, change}
-use Rattle.sm_machine.specs.Shapes.{Shape, ImageRow, DiskRecord, Attachment, same_image, is_image, find_image, image_uuid, is_vhd, parent_of, mode_in, image_extents, thick_in}
-use Rattle.sm_machine.specs.WellFormed.{IsWellFormed, IsImageRow, IsSize, HasParent, HasImage, HasRecord, AreAttachments, IsChild, IsOnlyChild, IsOperation, EndsWithin, is_image_name, table_length, name_le, uuid_le}
-use Rattle.common_laws.proofs.Lists.{In-map, In-map_at}
+use Rattle.sm_machine.specs.Shapes.{Shape, ImageRow, DiskRecord, Attachment, same_image, is_image, find_image, attached_as, image_uuid, is_rw, is_there, is_vhd, parent_of, mode_in, slot_at, image_extents, thick_in}
+use Rattle.sm_machine.specs.WellFormed.{IsWellFormed, IsImageRow, IsSize, HasParent, HasImage, HasRecord, AreAttachments, IsChild, IsLive, IsOnlyChild, IsOperation, EndsWithin, is_image_name, table_length, name_le, uuid_le}
+use Rattle.std.specs.Prelude.{is_some}
+use Rattle.common_laws.proofs.Lists.{Distinct-key, In-map, In-map_at}
 use Rattle.sm_machine.proofs.Changes.{find-map}
 use Rattle.sm_machine.proofs.Chains.{ends_alike}
 
@@ -159,14 +160,47 @@ module _ (s : Shape) (w : IsWellFormed s) (g : ImageRow → ImageRow)
           ap (λ (z : ImageRow). z.size) r.2 ∙ (same_parent r.0 r.1 n ∙ (h.same_size r.0 r.1 n ∙ sym same_child)));
     }
 
+    -- a live folding, where its parent keeps its room and the dirty blocks have slots
+    pub live_changed : (l p : Name) (cursor : ℕ) (dirty dirty' : List ℕ) → (h : IsLive s l p cursor dirty) → mode_in (image_uuid l) attached ≡ attached_as (image_uuid l) s → (g h.only.link.child).size ≡ h.only.link.child.size
+        → ((q : ImageRow) → In q s.images → q.name ≡ p → (g q).size ≡ q.size)
+        → ((q : ImageRow) → In q s.images → q.name ≡ p → q.extents ≤ (g q).extents)
+        → cursor ≤ length (g h.only.link.child).slots
+        → ((b : ℕ) → In b dirty' → (b < cursor) × (is_there (slot_at (g h.only.link.child).slots b) ≡ true)) → IsLive after l p cursor dirty'
+    unfolding only_mapped link_mapped
+    live_changed l p cursor dirty dirty' h mode child same room long slots = record {
+      only = only_mapped false l p h.only child same;
+      parent_vhd = h.parent_vhd;
+      attached = ap is_some mode ∙ h.attached;
+      thick = λ rw x k e. (let r : (y : ImageRow) × In y s.images × (x ≡ g y) = In-map g s.images x k in
+          let n : r.0.name ≡ p = sym (ap (λ (z : ImageRow). z.name) r.2 ∙ name_kept r.0) ∙ e in
+          let was : thick_in s r.0.size ≤ r.0.extents = h.thick (sym (ap is_rw mode) ∙ rw) r.0 r.1 n in
+          let more : r.0.extents ≤ (g r.0).extents = room r.0 r.1 n in
+          let less : thick_in s (g r.0).size ≤ (g r.0).extents = subst (λ (k : ℕ). thick_in s k ≤ (g r.0).extents) (sym (same r.0 r.1 n)) (omega arith) in
+          subst (λ (z : ImageRow). thick_in s z.size ≤ z.extents) (sym r.2) less);
+      within = long;
+      blocks = slots;
+    }
+
+    pub live_mapped : (l p : Name) (cursor : ℕ) (dirty dirty' : List ℕ) → (h : IsLive s l p cursor dirty) → mode_in (image_uuid l) attached ≡ attached_as (image_uuid l) s → ((y : ImageRow) → In y s.images → (g y).size ≡ y.size)
+        → ((q : ImageRow) → In q s.images → q.name ≡ p → q.extents ≤ (g q).extents)
+        → cursor ≤ length (g h.only.link.child).slots
+        → ((b : ℕ) → In b dirty' → (b < cursor) × (is_there (slot_at (g h.only.link.child).slots b) ≡ true)) → IsLive after l p cursor dirty'
+    live_mapped l p cursor dirty dirty' h mode same room long slots = live_changed l p cursor dirty dirty' h mode (same h.only.link.child h.only.link.there) (λ q k m. same q k) room long slots
+
     -- the same operation, where no size of its images changes
-    pub operation_mapped : attached ≡ s.attached → ((y : ImageRow) → In y s.images → (g y).size ≡ y.size) → IsOperation s o → IsOperation after o
-    operation_mapped e same h = by_operation o e same h
+    pub operation_mapped : attached ≡ s.attached → ((y : ImageRow) → In y s.images → (g y).size ≡ y.size) → ((q : ImageRow) → In q s.images → q.hidden ≡ true → q.extents ≤ (g q).extents)
+        → ((y : ImageRow) → length (g y).slots ≡ length y.slots) → ((y : ImageRow) (b : ℕ) → is_there (slot_at y.slots b) ≡ true → is_there (slot_at (g y).slots b) ≡ true) → (o' : Op) → IsOperation s o' → IsOperation after o'
+    operation_mapped e same room long slots o' h = by_operation o' e same h
       where
         by_operation : (o' : Op) → attached ≡ s.attached → ((y : ImageRow) → In y s.images → (g y).size ≡ y.size) → IsOperation s o' → IsOperation after o'
         by_operation op.Idle e same h = tt
         by_operation (op.Copy v p cursor) e same h = only_mapped true v p h (same h.link.child h.link.there) (λ q k m. same q k)
         by_operation (op.Relink v p) e same h = link_mapped true v p h
+        by_operation (op.Live l p cursor dirty) e same h = live_mapped l p cursor dirty dirty h (ap (mode_in (image_uuid l)) e) same
+            (λ q k n. room q k (let z = w.parents h.only.link.child p h.only.link.there h.only.link.linked in
+            ap (λ (x : ImageRow). x.hidden) (Distinct-key (λ (x : ImageRow). image_uuid x.name) s.images q z.parent w.one_image k z.there (ap image_uuid (n ∙ sym z.is_named))) ∙ z.is_hidden))
+            (subst (λ (n : ℕ). cursor ≤ n) (sym (long h.only.link.child)) h.within)
+            (λ b i. (let f = h.blocks b i in (f.0, slots h.only.link.child b f.1)))
         by_operation (op.Leaf l p cursor) e same h = (only_mapped false l p h.0 (same h.0.link.child h.0.link.there) (λ q k m. same q k), h.1, subst (λ (xs : List Attachment). mode_in (image_uuid l) xs ≡ None) (sym e) h.2)
 
 -- an image with the same name, size, extents and parent, and a table as long

@@ -8,7 +8,7 @@ use Rattle.sm_machine.specs.Shapes.{Shape, ImageRow, free, image_extents, image_
 use Rattle.sm_machine.specs.WellFormed.{IsImageRow, IsOperation, IsWellFormed}
 use Rattle.sm_machine.proofs.Changes.{when-key}
 use Rattle.sm_machine.proofs.ImageNames.{same_image-sound, same_image-refl}
-use Rattle.sm_machine.proofs.Mapped.{keeps_mapped, attachments_mapped, operation_mapped, extents-change_one, extents-map_same}
+use Rattle.sm_machine.proofs.Mapped.{keeps_mapped, attachments_mapped, extents-change_one, extents-map_same}
 
 -- what holds of the changed image, and of each other one as it is, holds of each
 module _ (s : Shape) (w : IsWellFormed s) (i : ImageRow) (there : In i s.images) (f : ImageRow → ImageRow) where
@@ -57,8 +57,8 @@ module _ (s : Shape) (i : ImageRow) (extents : ℕ) (w : IsWellFormed s) (m : Ma
     raw = λ not_vhd. absurd (true≢false (sym m.vhd ∙ not_vhd));
   }
 
-  pub extents_keep : IsWellFormed (with_extents extents i s)
-  extents_keep =
+  pub extents_keep : IsOperation (with_extents extents i s) s.op → IsWellFormed (with_extents extents i s)
+  extents_keep operation =
       let sizes = key s w i m.there sized (λ y. y.size) (λ y. refl) in
       let name = key s w i m.there sized (λ y. y.name) (λ y. refl) in
       let hidden = key s w i m.there sized (λ y. y.hidden) (λ y. refl) in
@@ -69,7 +69,7 @@ module _ (s : Shape) (i : ImageRow) (extents : ℕ) (w : IsWellFormed s) (m : Ma
       (attachments_mapped s w at name hidden parent s.attached s.op refl
       (λ a y h rw k hid uuid vhd thick. by_image s w i m.there sized (λ x z. x.hidden ≡ false → image_uuid x.name ≡ a.disk → thick_in s x.size ≤ x.extents → thick_in s z.size ≤ z.extents)
       (λ shown own _. m.thick a h rw shown own) (λ x j _ _ same. same) y k hid uuid thick))
-      (operation_mapped s w at name hidden parent s.attached s.op refl (λ y h. sizes y) w.operation)
+      operation
 
 -- ---- a greater size
 

@@ -3,14 +3,15 @@ use Rattle.std.proofs.Common.{◌≡◌, ℕ, ◌+◌, ◌-◌, ◌<◌, ◌≤�
 use Rattle.std.specs.Prelude.{nat_lt}
 use Rattle.std.specs.Str.{bytes_eq}
 use Rattle.std.proofs.lemmas.Bool.{ltb-false}
+use Rattle.std.specs.Prelude.{length}
 use Rattle.std.specs.List.{find}
 use Rattle.sm_base.specs.declared.operations.Mode.TheVariants.{Rw}
 use Rattle.sm_base.specs.declared.names.Name.{Name}
-use Rattle.sm_base.specs.declared.operations.Op.{Op}
-use Rattle.sm_base.specs.declared.operations.Op.TheVariants as op
+use Rattle.sm_machine.specs.Operations.{Op}
+use Rattle.sm_machine.specs.Operations as op
 use Rattle.sm_machine.specs.declared.commands.Command.TheVariants.{Resize}
 use Rattle.common_laws.specs.Lists.{In, when}
-use Rattle.sm_machine.specs.Shapes.{Shape, ImageRow, Attachment, image_uuid, is_vhd, is_image_of, attached_as, free, image_extents, is_ro, is_rw, thick_in}
+use Rattle.sm_machine.specs.Shapes.{Shape, ImageRow, Attachment, image_uuid, is_vhd, is_image_of, is_there, slot_at, attached_as, free, image_extents, is_ro, is_rw, thick_in}
 use Rattle.sm_machine.specs.Refusals.{of_some, rounded, is_in_use, is_raw_disk, is_bad_size, is_shrink, lacking_larger, lacks_space, need, with_image_of}
 use Rattle.sm_machine.specs.Commits.{folds}
 use Rattle.sm_machine.specs.Steps.{resize_shape}
@@ -20,7 +21,7 @@ use Rattle.sm_machine.proofs.Collects.{attached_mode}
 use Rattle.sm_machine.proofs.Changes.{when-key}
 use Rattle.sm_machine.proofs.Create.{new_size}
 use Rattle.sm_machine.proofs.Passed.{IsPassed}
-use Rattle.sm_machine.proofs.Mapped.{keeps_mapped, extents-change_one, attachments_mapped, only_mapped, link_mapped}
+use Rattle.sm_machine.proofs.Mapped.{keeps_mapped, extents-change_one, attachments_mapped, only_mapped, link_mapped, live_changed}
 use Rattle.sm_machine.proofs.Guests.{disks_own, disk_image_is}
 
 -- the image of a leaf that is not the disk's
@@ -152,11 +153,20 @@ module _ (s : Shape) (w : IsWellFormed s) (u : List ℕ) (bytes : ℕ) (p : IsPa
   only_resized o hidden v n h e = only_mapped s w on_resize (resized_key (λ (i : ImageRow). i.name) (λ y. refl)) (resized_key (λ (i : ImageRow). i.hidden) (λ y. refl)) (resized_key (λ (i : ImageRow). i.parent) (λ y. refl))
       s.attached o hidden v n h (same_of h.link.child e) (parent_same h.link.child n h.link.there h.link.linked)
 
+  more_by : (y : ImageRow) (c : Bool) → y.extents ≤ (when c to_size y).extents
+  more_by y true = omega arith
+  more_by y false = omega arith
+
   pub operation_resized : (o : Op) → folds o u ≡ false → IsOperation s o → IsOperation (resized o) o
   unfolding folds
   operation_resized op.Idle e h = tt
   operation_resized (op.Copy v n cursor) e h = only_resized (op.Copy v n cursor) true v n h (hidden_is_no_disk u h.link.child h.link.is_shown)
   operation_resized (op.Relink v n) e h = link_mapped s w on_resize (resized_key (λ (i : ImageRow). i.name) (λ y. refl)) (resized_key (λ (i : ImageRow). i.hidden) (λ y. refl)) (resized_key (λ (i : ImageRow). i.parent) (λ y. refl)) s.attached (op.Relink v n) true v n h
+  operation_resized (op.Live l n cursor dirty) e h = live_changed s w on_resize (resized_key (λ (i : ImageRow). i.name) (λ y. refl)) (resized_key (λ (i : ImageRow). i.hidden) (λ y. refl)) (resized_key (λ (i : ImageRow). i.parent) (λ y. refl))
+      s.attached (op.Live l n cursor dirty) l n cursor dirty dirty h refl (same_of h.only.link.child (not_its_leaf u h.only.link.child l h.only.link.is_named e)) (parent_same h.only.link.child n h.only.link.there h.only.link.linked)
+      (λ q k m. more_by q (is_image_of u q))
+      (subst (λ (k : ℕ). cursor ≤ k) (sym (resized_key (λ (i : ImageRow). length i.slots) (λ y. refl) h.only.link.child)) h.within)
+      (λ b i. (let f = h.blocks b i in (f.0, ap (λ (xs : List (Option ℕ)). is_there (slot_at xs b)) (resized_key (λ (i : ImageRow). i.slots) (λ y. refl) h.only.link.child) ∙ f.1)))
   operation_resized (op.Leaf l n cursor) e h = (only_resized (op.Leaf l n cursor) false l n h.0 (not_its_leaf u h.0.link.child l h.0.link.is_named e), h.1, h.2)
 
   pub resize_keeps : (o : Op) → IsOperation (resized o) o → IsWellFormed (record (resize_shape s u bytes) { op = o })

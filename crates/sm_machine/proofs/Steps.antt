@@ -3,7 +3,7 @@ use Rattle.std.proofs.Common.{◌≡◌, ℕ, ◌+◌, ◌-◌, ◌^◌, ◌<◌
 use Rattle.std.specs.Prelude.{length}
 use Rattle.std.proofs.lemmas.Bool.{leb-false, or_parts}
 use Rattle.sm_base.specs.declared.operations.Mode.TheVariants.{Ro, Rw}
-use Rattle.sm_base.specs.declared.operations.Op.TheVariants as op
+use Rattle.sm_machine.specs.Operations as op
 use Rattle.sm_base.specs.declared.refusals.Refusal.{Refusal}
 use Rattle.sm_machine.specs.declared.commands.Command.{Command}
 use Rattle.sm_machine.specs.declared.commands.Command.TheVariants.{Create, Delete, Attach, Detach, Snapshot, Clone, Resize, Label, Write, Fill, Read, Flush, Gc, List as Listing, Stat}
@@ -12,13 +12,13 @@ use Rattle.sm_machine.specs.Shapes.{Shape, risen, last_sequence}
 use Rattle.sm_machine.specs.Refusals.{refusal, named, new_uuid, forked, images_needed, need, is_reserved, is_unknown, is_taken, is_deep, is_too_many, is_spent, lacks_space}
 use Rattle.sm_machine.specs.Collector.{next_step, collected}
 use Rattle.sm_machine.specs.Commits.{folds, gives_up, is_given_up, commits, own_commits, one_if}
-use Rattle.sm_machine.specs.Steps.{State, accepted, unless_refused, step, given_up, shape_after, shape_next, delete_shape, attach_shape, resize_shape, fork_shape}
+use Rattle.sm_machine.specs.Steps.{State, accepted, unless_refused, step, given_up, shape_after, shape_next, delete_shape, attach_shape, detach_shape, resize_shape, fork_shape}
 use Rattle.sm_machine.specs.WellFormed.{IsWellFormed}
 use Rattle.sm_machine.proofs.Passed.{IsPassed, passed}
 use Rattle.sm_machine.proofs.Numbers.{risen-up, risen-last}
 use Rattle.sm_machine.proofs.Counted.{keeps_counted}
 use Rattle.sm_machine.proofs.Create.{created}
-use Rattle.sm_machine.proofs.Guests.{write_keeps, label_keeps, detach_keeps}
+use Rattle.sm_machine.proofs.Guests.{write_keeps, label_keeps, detach_keeps, detach_operation}
 use Rattle.sm_machine.proofs.Resizes.{resize_keeps, operation_resized}
 use Rattle.sm_machine.proofs.Attaches.{attach_ro_keeps, attach_ro_operation, attach_rw_keeps, attach_rw_operation}
 use Rattle.sm_machine.proofs.Deletes.{delete_keeps, delete_operation}
@@ -34,6 +34,10 @@ counted s t k w e h = keeps_counted t (risen s.sequence k) h (subst (λ (n : ℕ
 delete_given : (s : Shape) → IsWellFormed s → (u : _) → IsPassed s (Delete u) → (b : Bool) → folds s.op u ≡ b → IsWellFormed (given_up b (delete_shape s u))
 delete_given s w u p true e = delete_keeps s w u p op.Idle tt
 delete_given s w u p false e = delete_keeps s w u p s.op (delete_operation s w u p s.op e w.operation)
+
+detach_given : (s : Shape) → IsWellFormed s → (u : _) → (b : Bool) → folds s.op u ≡ b → IsWellFormed (given_up b (detach_shape s u))
+detach_given s w u true e = detach_keeps s w u op.Idle tt
+detach_given s w u false e = detach_keeps s w u s.op (detach_operation s w u s.op e w.operation)
 
 given_sequence : (b : Bool) (t : Shape) → (given_up b t).sequence ≡ t.sequence
 given_sequence true t = refl
@@ -85,7 +89,7 @@ next_keeps s (Create u size raw label) w p = created s w u size raw label p
 next_keeps s (Delete u) w p = counted s (given_up (folds s.op u) (delete_shape s u)) (one_if (folds s.op u) + 1) w (given_sequence (folds s.op u) (delete_shape s u)) (delete_given s w u p (folds s.op u) refl)
 next_keeps s (Attach u Ro) w p = counted s (given_up (folds s.op u) (attach_shape s u Ro)) _ w (given_sequence (folds s.op u) (attach_shape s u Ro)) (ro_given s w u p (folds s.op u) refl)
 next_keeps s (Attach u Rw) w p = counted s (given_up (folds s.op u) (attach_shape s u Rw)) _ w (given_sequence (folds s.op u) (attach_shape s u Rw)) (rw_given s w u p (folds s.op u) refl)
-next_keeps s (Detach u) w p = counted s _ _ w refl (detach_keeps s w u)
+next_keeps s (Detach u) w p = counted s (given_up (folds s.op u) (detach_shape s u)) _ w (given_sequence (folds s.op u) (detach_shape s u)) (detach_given s w u (folds s.op u) refl)
 next_keeps s (Snapshot u twin) w p = fork_given s w u twin (snapshot_facts s u twin p) true (one_if (folds s.op u) + 8) (at_least_eight (folds s.op u)) (folds s.op u) refl
 next_keeps s (Clone u twin) w p = fork_given s w u twin (clone_facts s u twin p) false (one_if (folds s.op u) + 8) (at_least_eight (folds s.op u)) (folds s.op u) refl
 next_keeps s (Resize u size) w p = counted s (given_up (folds s.op u) (resize_shape s u size)) _ w (given_sequence (folds s.op u) (resize_shape s u size)) (resize_given s w u size p (folds s.op u) refl)

@@ -3,19 +3,26 @@ use Rattle.std.proofs.Common.{◌≡◌, ℕ, suc, ◌+◌, ◌<◌, ◌≤◌, 
 use Rattle.std.specs.List.{filter}
 use Rattle.sm_base.specs.declared.names.Name.{Name}
 use Rattle.sm_base.specs.declared.names.Name.TheVariants.{Vhd}
-use Rattle.sm_base.specs.declared.operations.Op.TheVariants as op
-use Rattle.common_laws.specs.Lists.{In, Distinct}
-use Rattle.sm_machine.specs.Shapes.{Shape, ImageRow, DiskRecord, Attachment, same_image, is_image, find_image, image_uuid, is_vhd, parent_of, with_image, without_image, image_extents}
-use Rattle.sm_machine.specs.Collector.{as_leaf, with_found, swapped}
-use Rattle.sm_machine.specs.WellFormed.{IsWellFormed, IsImageRow, HasParent, HasImage, HasRecord, IsChild, EndsWithin, is_image_name, table_length}
+use Rattle.sm_machine.specs.Operations.{Op}
+use Rattle.sm_machine.specs.Operations as op
+use Rattle.sm_base.specs.declared.operations.Mode.TheVariants.{Rw}
+use Rattle.common_laws.specs.Lists.{In, Distinct, when}
+use Rattle.sm_machine.specs.Shapes.{Shape, ImageRow, DiskRecord, Attachment, same_image, is_image, find_image, image_uuid, is_rw, is_there, is_vhd, on_image, parent_of, slot_at, with_image, without_image, image_extents, thick_in}
+use Rattle.sm_machine.specs.Collector.{as_leaf, given_block, given_blocks, with_block, with_found, swapped}
+use Rattle.sm_machine.specs.WellFormed.{IsWellFormed, IsImageRow, HasParent, HasImage, HasRecord, IsChild, IsLive, IsOnlyChild, EndsWithin, is_image_name, table_length}
 use Rattle.sm_machine.proofs.Faces.{AreSeen}
-use Rattle.common_laws.proofs.Lists.{In-map, In-filter, filter-In, In-insert, In-insert_new, In-insert_old, Distinct-key, Distinct-filter, Distinct-insert, Sorted-filter, length-insert_by}
-use Rattle.sm_machine.proofs.Changes.{filter_less}
+use Rattle.common_laws.proofs.Lists.{find-some, In-map, In-filter, filter-In, In-insert, In-insert_new, In-insert_old, Distinct-key, Distinct-filter, Distinct-insert, Sorted-filter, length-insert_by}
+use Rattle.sm_machine.proofs.Changes.{filter_less, find-map, when-key}
+use Rattle.std.specs.Option.{option_map}
+use Rattle.std.proofs.Common.{ap₂}
 use Rattle.sm_machine.proofs.Chains.{parent_of-in, ends_alike, OfName, IsThere}
 use Rattle.sm_machine.proofs.ImageNames.{same_image-sound, other_image, images_sorted}
 use Rattle.sm_machine.proofs.Numbers.{extents-with_image}
 use Rattle.sm_machine.proofs.Guests.{mode_none}
-use Rattle.sm_machine.proofs.Debts.{parent_apart, found_row, is_itself}
+use Rattle.sm_machine.proofs.Debts.{parent_apart, found_row, given_block_name, is_itself}
+use Rattle.sm_machine.proofs.Collects.{attached_mode, block_table, copy_extents, copy_keeps, copy_links, copy_marks, copy_names, copy_sizes, on_copy}
+use Rattle.sm_machine.proofs.Lives.{there_given, there_when}
+use Rattle.sm_machine.proofs.Mapped.{live_mapped}
 use Rattle.sm_machine.proofs.Deletes.{extents-filter}
 
 -- the extents of what stays, where one goes
@@ -44,32 +51,34 @@ In-without n xs x h = let r : In x xs × (not (is_image n x) ≡ true) = In-filt
 pub In-without_kept : (n : Name) (xs : List ImageRow) (x : ImageRow) → In x xs → (x.name ≡ n → ⊥) → In x (without_image n xs)
 In-without_kept n xs x h apart = filter-In (λ (i : ImageRow). not (is_image n i)) xs x h (ap not (other_image x.name n apart))
 
-module _ (s : Shape) (l p : Name) (cursor : ℕ) (w : IsWellFormed (record s { op = op.Leaf l p cursor })) where
-  abbrev folding : Shape
-  folding = record s { op = op.Leaf l p cursor }
+-- the operation folds a leaf whose parent has room for all blocks where the disk is written to
+module _ (s : Shape) (o : Op) (l p : Name) (w : IsWellFormed (record s { op = o })) (only : IsOnlyChild (record s { op = o }) false l p) (parent_vhd : is_vhd p ≡ true)
+    (roomy : (a : Attachment) → In a s.attached → a.mode ≡ Rw → image_uuid l ≡ a.disk → (q : ImageRow) → In q s.images → q.name ≡ p → thick_in s q.size ≤ q.extents) where
+  abbrev pub folding : Shape
+  folding = record s { op = o }
 
-  abbrev link : IsChild folding false l p
-  link = w.operation.0.link
+  abbrev pub link : IsChild folding false l p
+  link = only.link
 
-  abbrev leaf : ImageRow
+  abbrev pub leaf : ImageRow
   leaf = link.child
 
-  abbrev over : HasParent s.images leaf p
+  abbrev pub over : HasParent s.images leaf p
   over = w.parents leaf p link.there link.linked
 
-  abbrev base : ImageRow
+  abbrev pub base : ImageRow
   base = over.parent
 
-  abbrev moved : ImageRow
+  abbrev pub moved : ImageRow
   moved = as_leaf l base
 
-  abbrev rest : List ImageRow
+  abbrev pub rest : List ImageRow
   rest = without_image p (without_image l s.images)
 
-  abbrev swapped_images : List ImageRow
+  abbrev pub swapped_images : List ImageRow
   swapped_images = with_image moved rest
 
-  found_base : find_image p s.images ≡ Some base
+  pub found_base : find_image p s.images ≡ Some base
   found_base = subst (λ (n : Name). find_image n s.images ≡ Some base) over.is_named (found_row folding w base over.there)
 
   was : (x : ImageRow) → In x rest → In x s.images
@@ -123,7 +132,7 @@ module _ (s : Shape) (l p : Name) (cursor : ℕ) (w : IsWellFormed (record s { o
   unfolding table_length
   moved_image =
       let g : IsImageRow folding base = w.images base over.there in
-      let b : table_length s base.name ≡ s.entries = ap (table_length s) over.is_named ∙ (vhd_name p w.operation.1).1 in
+      let b : table_length s base.name ≡ s.entries = ap (table_length s) over.is_named ∙ (vhd_name p parent_vhd).1 in
       record { named = (vhd_name l link.vhd).0; whole = g.whole; volume = g.volume; table = g.table ∙ (b ∙ sym (vhd_name l link.vhd).1); raw = λ e. (let q : is_vhd l ≡ true = link.vhd in cc) }
 
   -- a hidden parent is not the leaf, and the base has no child but the leaf
@@ -133,7 +142,7 @@ module _ (s : Shape) (l p : Name) (cursor : ℕ) (w : IsWellFormed (record s { o
       let a : g.parent.name ≡ l → ⊥ = λ (q : g.parent.name ≡ l).
       let same : g.parent ≡ leaf = same_leaf g.parent g.there (ap image_uuid q) in
       let f : true ≡ false = sym g.is_hidden ∙ (ap (λ (i : ImageRow). i.hidden) same ∙ link.is_shown) in cc in
-      let b : g.parent.name ≡ p → ⊥ = λ (q : g.parent.name ≡ p). apart (w.operation.0.only x h (e ∙ ap Some (sym g.is_named ∙ q))) in
+      let b : g.parent.name ≡ p → ⊥ = λ (q : g.parent.name ≡ p). apart (only.only x h (e ∙ ap Some (sym g.is_named ∙ q))) in
       record { parent = g.parent; there = stays g.parent g.there a b; is_named = g.is_named; is_hidden = g.is_hidden; not_larger = g.not_larger }
 
   base_not_leaf : base.name ≡ l → ⊥
@@ -218,8 +227,8 @@ module _ (s : Shape) (l p : Name) (cursor : ℕ) (w : IsWellFormed (record s { o
       let r : length s.images ≤ 500 = w.few in
       omega arith
 
-  not_attached : (a : Attachment) (x : ImageRow) → In a s.attached → x ≡ moved → image_uuid x.name ≡ a.disk → ⊥
-  not_attached a x h q e = mode_none (image_uuid l) s.attached w.operation.2 a h (sym e ∙ ap (λ (i : ImageRow). image_uuid i.name) q)
+  moved_thick : (a : Attachment) (x : ImageRow) → In a s.attached → a.mode ≡ Rw → x ≡ moved → image_uuid x.name ≡ a.disk → thick_in s x.size ≤ x.extents
+  moved_thick a x h m q e = subst (λ (z : ImageRow). thick_in s z.size ≤ z.extents) (sym q) (roomy a h m (sym (ap (λ (i : ImageRow). image_uuid i.name) q) ∙ e) base over.there over.is_named)
 
   images_good : (x : ImageRow) → In x swapped_images → IsImageRow s x
   unfolding table_length
@@ -228,7 +237,7 @@ module _ (s : Shape) (l p : Name) (cursor : ℕ) (w : IsWellFormed (record s { o
     | inr k ↦ (let g : IsImageRow folding x = w.images x (was x k) in record { named = g.named; whole = g.whole; volume = g.volume; table = g.table; raw = g.raw })
   ]
 
-  swap_good : IsWellFormed (record s { images = swapped_images; op = op.Idle })
+  pub swap_good : IsWellFormed (record s { images = swapped_images; op = op.Idle })
   unfolding table_length
   swap_good = record {
     geometry = w.geometry;
@@ -256,33 +265,187 @@ module _ (s : Shape) (l p : Name) (cursor : ℕ) (w : IsWellFormed (record s { o
       once = w.attachments.once;
       disks = w.attachments.disks;
       writable = w.attachments.writable;
-      thick = λ a x h m k hid u v. elim (in_swapped x k) [ inl q ↦ absurd (not_attached a x h q u) | inr g ↦ w.attachments.thick a x h m (was x g) hid u v ];
+      thick = λ a x h m k hid u v. elim (in_swapped x k) [ inl q ↦ moved_thick a x h m q u | inr g ↦ w.attachments.thick a x h m (was x g) hid u v ];
     };
     operation = tt;
   }
 
-  pub swap_keeps : IsWellFormed (swapped (op.Leaf l p cursor) folding)
-  unfolding swapped
-  swap_keeps = subst (λ (o : Option ImageRow). IsWellFormed (record s { images = with_found o (as_leaf l) rest; op = op.Idle })) (sym found_base) swap_good
+-- ---- a leaf that is not attached
+
+leaf_roomy : (s : Shape) (l p : Name) (cursor : ℕ) → IsWellFormed (record s { op = op.Leaf l p cursor }) → (a : Attachment) → In a s.attached → a.mode ≡ Rw → image_uuid l ≡ a.disk → (q : ImageRow) → In q s.images → q.name ≡ p → thick_in s q.size ≤ q.extents
+leaf_roomy s l p cursor w a h m e q k n = absurd (mode_none (image_uuid l) s.attached w.operation.2 a h (sym e))
+
+pub swap_keeps : (s : Shape) (l p : Name) (cursor : ℕ) → (w : IsWellFormed (record s { op = op.Leaf l p cursor })) → IsWellFormed (swapped (op.Leaf l p cursor) (record s { op = op.Leaf l p cursor }))
+unfolding swapped
+swap_keeps s l p cursor w =
+    let o : Op = op.Leaf l p cursor in
+    subst (λ (x : Option ImageRow). IsWellFormed (record s { images = with_found x (as_leaf l) (without_image p (without_image l s.images)); op = op.Idle }))
+    (sym (found_base s o l p w w.operation.0 w.operation.1 (leaf_roomy s l p cursor w))) (swap_good s o l p w w.operation.0 w.operation.1 (leaf_roomy s l p cursor w))
+
+-- ---- a leaf that is attached: its dirty blocks are copied first
+
+-- a change by name, and then another
+twice : (p : Name) (f g : ImageRow → ImageRow) → ((y : ImageRow) → (f y).name ≡ y.name) → (xs : List ImageRow) → on_image p g (on_image p f xs) ≡ on_image p (λ y. g (f y)) xs
+twice p f g named [] = refl
+twice p f g named (x ∷ xs) = ap₂ (λ (y : ImageRow) (ys : List ImageRow). y ∷ ys) (by (is_image p x) refl) (twice p f g named xs)
+  where
+    by : (c : Bool) → is_image p x ≡ c → when (is_image p (when c f x)) g (when c f x) ≡ when c (λ y. g (f y)) x
+    by true e = ap (λ b. when b g (f x)) (ap (λ (n : Name). same_image n p) (named x) ∙ e)
+    by false e = ap (λ b. when b g x) e
+
+-- one that does nothing
+nothing : (p : Name) (xs : List ImageRow) → on_image p (λ y. y) xs ≡ xs
+nothing p [] = refl
+nothing p (x ∷ xs) = ap₂ (λ (y : ImageRow) (ys : List ImageRow). y ∷ ys) (by (is_image p x)) (nothing p xs)
+  where
+    by : (c : Bool) → when c (λ (y : ImageRow). y) x ≡ x
+    by true = refl
+    by false = refl
+
+pub blocks_name : (bs : List ℕ) (y : ImageRow) → (given_blocks bs y).name ≡ y.name
+unfolding given_blocks
+blocks_name [] y = refl
+blocks_name (b ∷ bs) y = blocks_name bs (given_block b y) ∙ given_block_name b y
+
+pub blocks_size : (bs : List ℕ) (y : ImageRow) → (given_blocks bs y).size ≡ y.size
+unfolding given_blocks
+blocks_size [] y = refl
+blocks_size (b ∷ bs) y = blocks_size bs (given_block b y) ∙ by (is_vhd y.name)
+  where
+    by : (c : Bool) → (elim c as (λ _. ImageRow) [ true ↦ record y { slots = with_block b y.slots } | false ↦ y ]).size ≡ y.size
+    by true = refl
+    by false = refl
+
+-- its images, once the parent has these blocks
+abbrev pub with_given : Shape → Name → List ℕ → Op → Shape
+with_given s p bs o = record s { images = on_image p (given_blocks bs) s.images; op = o }
+
+given_slot : (p : Name) (b c : ℕ) (y : ImageRow) → is_there (slot_at y.slots c) ≡ true → is_there (slot_at (when (is_image p y) (given_block b) y).slots c) ≡ true
+given_slot p b c y e = there_when c (is_image p y) (given_block b) y (λ z f. there_given b c z f) e
+
+pub given_keeps : (bs : List ℕ) (s : Shape) (l p : Name) (cursor : ℕ) (dirty : List ℕ) → IsWellFormed (record s { op = op.Live l p cursor dirty }) → IsWellFormed (with_given s p bs (op.Live l p cursor dirty))
+unfolding given_blocks
+given_keeps [] s l p cursor dirty w = subst (λ (xs : List ImageRow). IsWellFormed (record s { images = xs; op = op.Live l p cursor dirty })) (sym (nothing p s.images)) w
+given_keeps (b ∷ bs) s l p cursor dirty w =
+    let o : Op = op.Live l p cursor dirty in
+    let t : Shape = record s { op = o } in
+    let h : IsLive t l p cursor dirty = w.operation in
+    let one : IsWellFormed (record s { images = on_image p (given_block b) s.images; op = o }) = copy_keeps t w p b o
+    (live_mapped t w (on_copy t w p b) (copy_names t w p b) (copy_marks t w p b) (copy_links t w p b) s.attached o l p cursor dirty dirty h refl
+    (λ y k. copy_sizes t w p b y) (λ q k n. subst (λ (m : ℕ). q.extents ≤ m) (sym (copy_extents t w p b q)) (omega arith))
+    (subst (λ (m : ℕ). cursor ≤ m) (sym (block_table t w p b h.only.link.child)) h.within)
+    (λ c i. (let f = h.blocks c i in (f.0, given_slot p b c h.only.link.child f.1)))) in
+    subst (λ (xs : List ImageRow). IsWellFormed (record s { images = xs; op = o })) (twice p (given_block b) (given_blocks bs) (given_block_name b) s.images)
+    (given_keeps bs (record s { images = on_image p (given_block b) s.images }) l p cursor dirty one)
+
+-- without that image all is as it was
+without_given : (p : Name) (f : ImageRow → ImageRow) → ((y : ImageRow) → (f y).name ≡ y.name) → (xs : List ImageRow) → without_image p (on_image p f xs) ≡ without_image p xs
+without_given p f named [] = refl
+without_given p f named (x ∷ xs) = by (is_image p x) refl (without_given p f named xs)
+  where
+    by : (c : Bool) → is_image p x ≡ c → without_image p (on_image p f xs) ≡ without_image p xs
+        → cond (not (is_image p (when c f x))) (when c f x ∷ without_image p (on_image p f xs)) (without_image p (on_image p f xs)) ≡ cond (not (is_image p x)) (x ∷ without_image p xs) (without_image p xs)
+    by true e rest = ap (λ b. cond (not b) (f x ∷ without_image p (on_image p f xs)) (without_image p (on_image p f xs))) (ap (λ (n : Name). same_image n p) (named x) ∙ e) ∙ rest
+        ∙ sym (ap (λ b. cond (not b) (x ∷ without_image p xs) (without_image p xs)) e)
+    by false e rest = ap (λ (ys : List ImageRow). cond (not (is_image p x)) (x ∷ ys) ys) rest
+
+-- and it may be left out of others before
+given_without : (l p : Name) (f : ImageRow → ImageRow) → ((y : ImageRow) → (f y).name ≡ y.name) → (xs : List ImageRow) → without_image l (on_image p f xs) ≡ on_image p f (without_image l xs)
+given_without l p f named [] = refl
+given_without l p f named (x ∷ xs) = by (is_image l x) refl (given_without l p f named xs)
+  where
+    keeps : (c : Bool) → (when c f x).name ≡ x.name
+    keeps true = named x
+    keeps false = refl
+
+    by : (c : Bool) → is_image l x ≡ c → without_image l (on_image p f xs) ≡ on_image p f (without_image l xs)
+        → cond (not (is_image l (when (is_image p x) f x))) (when (is_image p x) f x ∷ without_image l (on_image p f xs)) (without_image l (on_image p f xs)) ≡ on_image p f (cond (not c) (x ∷ without_image l xs) (without_image l xs))
+    by true e rest = ap (λ b. cond (not b) (when (is_image p x) f x ∷ without_image l (on_image p f xs)) (without_image l (on_image p f xs))) (ap (λ (n : Name). same_image n l) (keeps (is_image p x)) ∙ e) ∙ rest
+    by false e rest = ap (λ b. cond (not b) (when (is_image p x) f x ∷ without_image l (on_image p f xs)) (without_image l (on_image p f xs))) (ap (λ (n : Name). same_image n l) (keeps (is_image p x)) ∙ e)
+        ∙ ap (λ (ys : List ImageRow). when (is_image p x) f x ∷ ys) rest
+
+live_roomy : (s : Shape) (l p : Name) (cursor : ℕ) (dirty : List ℕ) → IsWellFormed (record s { op = op.Live l p cursor dirty }) → (a : Attachment) → In a s.attached → a.mode ≡ Rw → image_uuid l ≡ a.disk → (q : ImageRow) → In q s.images → q.name ≡ p → thick_in s q.size ≤ q.extents
+live_roomy s l p cursor dirty w a h m e q k n =
+    w.operation.thick (ap is_rw (attached_mode (record s { op = op.Live l p cursor dirty }) w a (image_uuid l) h (sym e) ∙ ap Some m)) q k n
+
+pub swap_live : (s : Shape) (l p : Name) (cursor : ℕ) (dirty : List ℕ) → (w : IsWellFormed (record s { op = op.Live l p cursor dirty })) → IsWellFormed (swapped (op.Live l p cursor dirty) (record s { op = op.Live l p cursor dirty }))
+unfolding swapped
+swap_live s l p cursor dirty w =
+    let o : Op = op.Live l p cursor dirty in
+    let t : Shape = record s { images = on_image p (given_blocks dirty) s.images } in
+    let v : IsWellFormed (record t { op = o }) = given_keeps dirty s l p cursor dirty w in
+    let was : find_image p s.images ≡ Some (base s o l p w w.operation.only w.operation.parent_vhd (live_roomy s l p cursor dirty w)) = found_base s o l p w w.operation.only w.operation.parent_vhd (live_roomy s l p cursor dirty w) in
+    let now : find_image p t.images ≡ Some (base t o l p v v.operation.only v.operation.parent_vhd (live_roomy t l p cursor dirty v)) = found_base t o l p v v.operation.only v.operation.parent_vhd (live_roomy t l p cursor dirty v) in
+    let moved_is : find_image p t.images ≡ option_map (λ (y : ImageRow). when (is_image p y) (given_blocks dirty) y) (find_image p s.images) =
+    find-map (is_image p) (λ (y : ImageRow). when (is_image p y) (given_blocks dirty) y) (λ y. ap (λ (n : Name). same_image n p) (when-key (λ (z : ImageRow). z.name) (given_blocks dirty) (blocks_name dirty) (is_image p y) y)) s.images in
+    let rest_is : without_image p (without_image l t.images) ≡ without_image p (without_image l s.images) =
+    ap (without_image p) (given_without l p (given_blocks dirty) (blocks_name dirty) s.images) ∙ without_given p (given_blocks dirty) (blocks_name dirty) (without_image l s.images) in
+    let good : IsWellFormed (record t { images = with_found (find_image p t.images) (as_leaf l) (without_image p (without_image l t.images)); op = op.Idle }) =
+    subst (λ (x : Option ImageRow). IsWellFormed (record t { images = with_found x (as_leaf l) (without_image p (without_image l t.images)); op = op.Idle })) (sym now) (swap_good t o l p v v.operation.only v.operation.parent_vhd (live_roomy t l p cursor dirty v)) in
+    subst (λ (xs : List ImageRow). IsWellFormed (record s { images = xs; op = op.Idle })) (same_images s l p dirty t.images moved_is rest_is (find-found p s.images)) good
+  where
+    find-found : (p : Name) (xs : List ImageRow) (y : ImageRow) → find_image p xs ≡ Some y → is_image p y ≡ true
+    find-found p xs y e = (find-some (is_image p) xs y e).1
+
+    same_images : (s : Shape) (l p : Name) (dirty : List ℕ) (ys : List ImageRow) → find_image p ys ≡ option_map (λ (y : ImageRow). when (is_image p y) (given_blocks dirty) y) (find_image p s.images)
+        → without_image p (without_image l ys) ≡ without_image p (without_image l s.images) → ((y : ImageRow) → find_image p s.images ≡ Some y → is_image p y ≡ true)
+        → with_found (find_image p ys) (as_leaf l) (without_image p (without_image l ys)) ≡ with_found (find_image p s.images) (λ q. as_leaf l (given_blocks dirty q)) (without_image p (without_image l s.images))
+    same_images s l p dirty ys found rest own =
+        ap₂ (λ (x : Option ImageRow) (zs : List ImageRow). with_found x (as_leaf l) zs) found rest ∙ by (find_image p s.images) refl
+      where
+        by : (x : Option ImageRow) → find_image p s.images ≡ x → with_found (option_map (λ (y : ImageRow). when (is_image p y) (given_blocks dirty) y) x) (as_leaf l) (without_image p (without_image l s.images))
+            ≡ with_found x (λ q. as_leaf l (given_blocks dirty q)) (without_image p (without_image l s.images))
+        by None e = refl
+        by (Some y) e = ap (λ b. with_image (as_leaf l (when b (given_blocks dirty) y)) (without_image p (without_image l s.images))) (own y e)
 
 -- users see the same images
-module _ (s : Shape) (l p : Name) (cursor : ℕ) (w : IsWellFormed (record s { op = op.Leaf l p cursor })) where
-  seen_swapped : AreSeen s.images (swapped_images s l p cursor w)
-  seen_swapped i h e = elim (in_swapped s l p cursor w i h) [
+module _ (s : Shape) (o : Op) (l p : Name) (w : IsWellFormed (record s { op = o })) (only : IsOnlyChild (record s { op = o }) false l p) (parent_vhd : is_vhd p ≡ true)
+    (roomy : (a : Attachment) → In a s.attached → a.mode ≡ Rw → image_uuid l ≡ a.disk → (q : ImageRow) → In q s.images → q.name ≡ p → thick_in s q.size ≤ q.extents) where
+  pub seen_swapped : AreSeen s.images (swapped_images s o l p w only parent_vhd roomy)
+  seen_swapped i h e = elim (in_swapped s o l p w only parent_vhd roomy i h) [
     | inl q ↦ (
-      leaf s l p cursor w,
-      (link s l p cursor w).there,
-      (link s l p cursor w).is_shown,
-      ap image_uuid (link s l p cursor w).is_named ∙ sym (ap (λ (x : ImageRow). image_uuid x.name) q),
-      sym (w.operation.0.same_size (base s l p cursor w) (over s l p cursor w).there (over s l p cursor w).is_named) ∙ sym (ap (λ (x : ImageRow). x.size) q),
+      leaf s o l p w only parent_vhd roomy,
+      (link s o l p w only parent_vhd roomy).there,
+      (link s o l p w only parent_vhd roomy).is_shown,
+      ap image_uuid (link s o l p w only parent_vhd roomy).is_named ∙ sym (ap (λ (x : ImageRow). image_uuid x.name) q),
+      sym (only.same_size (base s o l p w only parent_vhd roomy) (over s o l p w only parent_vhd roomy).there (over s o l p w only parent_vhd roomy).is_named) ∙ sym (ap (λ (x : ImageRow). x.size) q),
     )
-    | inr k ↦ (i, was s l p cursor w i k, e, refl, refl)
+    | inr k ↦ (i, was s o l p w only parent_vhd roomy i k, e, refl, refl)
   ]
 
-  pub swap_seen : AreSeen s.images ((swapped (op.Leaf l p cursor) (folding s l p cursor w)).images)
-  unfolding swapped
-  swap_seen = subst (λ (o : Option ImageRow). AreSeen s.images (with_found o (as_leaf l) (rest s l p cursor w))) (sym (found_base s l p cursor w)) (seen_swapped)
+  -- the same, where the parent has blocks
+  pub seen_given : (bs : List ℕ) → AreSeen s.images (with_image (as_leaf l (given_blocks bs (base s o l p w only parent_vhd roomy))) (rest s o l p w only parent_vhd roomy))
+  unfolding with_image
+  seen_given bs i h e = elim (In-insert _ (as_leaf l (given_blocks bs (base s o l p w only parent_vhd roomy))) (rest s o l p w only parent_vhd roomy) i h) [
+    | inl q ↦ (
+      leaf s o l p w only parent_vhd roomy,
+      (link s o l p w only parent_vhd roomy).there,
+      (link s o l p w only parent_vhd roomy).is_shown,
+      ap image_uuid (link s o l p w only parent_vhd roomy).is_named ∙ sym (ap (λ (x : ImageRow). image_uuid x.name) q),
+      sym (only.same_size (base s o l p w only parent_vhd roomy) (over s o l p w only parent_vhd roomy).there (over s o l p w only parent_vhd roomy).is_named) ∙ sym (ap (λ (x : ImageRow). x.size) q ∙ blocks_size bs (base s o l p w only parent_vhd roomy)),
+    )
+    | inr k ↦ (i, was s o l p w only parent_vhd roomy i k, e, refl, refl)
+  ]
+
+pub swap_seen : (s : Shape) (l p : Name) (cursor : ℕ) → (w : IsWellFormed (record s { op = op.Leaf l p cursor })) → AreSeen s.images ((swapped (op.Leaf l p cursor) (record s { op = op.Leaf l p cursor })).images)
+unfolding swapped
+swap_seen s l p cursor w =
+    let o : Op = op.Leaf l p cursor in
+    subst (λ (x : Option ImageRow). AreSeen s.images (with_found x (as_leaf l) (without_image p (without_image l s.images))))
+    (sym (found_base s o l p w w.operation.0 w.operation.1 (leaf_roomy s l p cursor w))) (seen_swapped s o l p w w.operation.0 w.operation.1 (leaf_roomy s l p cursor w))
 
 pub swap_records : (s : Shape) (l p : Name) (cursor : ℕ) → (swapped (op.Leaf l p cursor) (record s { op = op.Leaf l p cursor })).records ≡ s.records
 unfolding swapped
 swap_records s l p cursor = refl
+
+pub live_seen : (s : Shape) (l p : Name) (cursor : ℕ) (dirty : List ℕ) → (w : IsWellFormed (record s { op = op.Live l p cursor dirty })) → AreSeen s.images ((swapped (op.Live l p cursor dirty) (record s { op = op.Live l p cursor dirty })).images)
+unfolding swapped
+live_seen s l p cursor dirty w =
+    let o : Op = op.Live l p cursor dirty in
+    let r = live_roomy s l p cursor dirty w in
+    subst (λ (x : Option ImageRow). AreSeen s.images (with_found x (λ q. as_leaf l (given_blocks dirty q)) (without_image p (without_image l s.images))))
+    (sym (found_base s o l p w w.operation.only w.operation.parent_vhd r)) (seen_given s o l p w w.operation.only w.operation.parent_vhd r dirty)
+
+pub live_records : (s : Shape) (l p : Name) (cursor : ℕ) (dirty : List ℕ) → (swapped (op.Live l p cursor dirty) (record s { op = op.Live l p cursor dirty })).records ≡ s.records
+unfolding swapped
+live_records s l p cursor dirty = refl

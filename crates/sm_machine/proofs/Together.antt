@@ -9,8 +9,8 @@ use Rattle.std.proofs.lemmas.List.{length-replicate}
 use Rattle.common_laws.proofs.Bytes.{bytes_eq-same, bytes_eq-refl}
 use Rattle.sm_base.specs.declared.names.Name.{Name}
 use Rattle.sm_base.specs.declared.operations.Mode.TheVariants.{Ro, Rw}
-use Rattle.sm_base.specs.declared.operations.Op.{Op}
-use Rattle.sm_base.specs.declared.operations.Op.TheVariants as op
+use Rattle.sm_machine.specs.Operations.{Op}
+use Rattle.sm_machine.specs.Operations as op
 use Rattle.sm_base.specs.declared.refusals.Refusal.{Refusal}
 use Rattle.sm_machine.specs.declared.commands.Command.{Command}
 use Rattle.sm_machine.specs.declared.commands.Command.TheVariants.{Create, Delete, Attach, Detach, Snapshot, Clone, Resize, Label, Write, Fill, Read, Flush, Gc, List as Listing, Stat}
@@ -20,7 +20,7 @@ use Rattle.sm_machine.specs.Shapes.{Shape, ImageRow, DiskRecord, image_uuid, is_
 use Rattle.sm_machine.specs.Refusals.{of_some, refusal, rounded, lacking, lacking_larger, new_uuid, is_taken, is_shrink, is_outside, is_out_of_range}
 use Rattle.sm_base.specs.declared.operations.Plan.{Plan}
 use Rattle.sm_base.specs.declared.operations.Plan.TheVariants as plan
-use Rattle.sm_machine.specs.Collector.{Pair, next_step, plan_idle, plan_running, plan_copy, copy_or, relink_or, blocked, table_of, next_block, pairs, leaves, fits, target, is_garbage, is_loose, enlarged, collected, copied, turned, linked, given_block}
+use Rattle.sm_machine.specs.Collector.{Pair, next_step, plan_idle, plan_running, plan_copy, copy_or, relink_or, blocked, table_of, next_block, clean_or, pairs, leaves, lives, fits, target, is_garbage, is_loose, enlarged, collected, copied, turned, linked, given_block}
 use Rattle.sm_machine.specs.Commits.{is_given_up}
 use Rattle.sm_machine.specs.Steps.{State, accepted, unless_refused, step, given_up, shape_after, shape_next, disks_next, is_record, with_record, fork_disks, fork_records, fork_images, fork_shape, new_image, write_shape, written_image, attach_images, written_disk, grown_disk}
 use Rattle.sm_machine.specs.WellFormed.{IsWellFormed, HasImage, AreDisksOf, record_of}
@@ -37,8 +37,10 @@ use Rattle.sm_machine.proofs.Steps.{snapshot_facts, clone_facts}
 use Rattle.sm_machine.proofs.Guests.{disks_own, disk_image_is, on_write, written_key}
 use Rattle.sm_machine.proofs.Attaches.{is_its_image}
 use Rattle.sm_machine.proofs.Collects.{on_copy, block_key}
-use Rattle.sm_machine.proofs.Begins.{IsFoldable, chosen_pair, chosen_leaf, begin_seen}
-use Rattle.sm_machine.proofs.Swaps.{swap_seen, swap_records}
+use Rattle.sm_machine.proofs.Begins.{IsFoldable, chosen_pair, chosen_leaf, chosen_live, begin_seen}
+use Rattle.sm_machine.proofs.Swaps.{live_records, live_seen, swap_seen, swap_records}
+use Rattle.sm_machine.specs.Operations.{dirty_limit}
+use Rattle.std.specs.Prelude.{nat_lt}
 
 -- ---- lists of sectors
 
@@ -138,30 +140,31 @@ module _ (s : Shape) (w : IsWellFormed (record s { op = op.Idle })) where
   pairs_seen : (hidden : Bool) (p : Pair) (f : IsFoldable resting hidden p) → fits resting p ≡ true → AreSeen s.images (enlarged p.child.name p.parent.name (target resting p) resting)
   pairs_seen hidden p f e = begin_seen resting w hidden p f e
 
-  abbrev idle_by : Option ImageRow → Option ImageRow → Option Pair → Option Pair → Plan
-  idle_by g l p q = elim g [ Some i ↦ plan.Remove i.name | None ↦ elim l [ Some i ↦ plan.Deflate i.name (thin_in resting (top i.slots)) | None ↦ elim p [ Some a ↦ plan.Begin a.child.name a.parent.name (target resting a) | None ↦ elim q [ Some a ↦ plan.Leaf a.child.name a.parent.name (target resting a) | None ↦ blocked resting (pairs resting ++ leaves resting) ] ] ] ]
+  abbrev idle_by : Option ImageRow → Option ImageRow → Option Pair → Option Pair → Option Pair → Plan
+  idle_by g l p q r = elim g [ Some i ↦ plan.Remove i.name | None ↦ elim l [ Some i ↦ plan.Deflate i.name (thin_in resting (top i.slots)) | None ↦ elim p [ Some a ↦ plan.Begin a.child.name a.parent.name (target resting a) | None ↦ elim q [ Some a ↦ plan.Leaf a.child.name a.parent.name (target resting a) | None ↦ elim r [ Some a ↦ plan.Live a.child.name a.parent.name (target resting a) | None ↦ blocked resting (pairs resting ++ (leaves resting ++ lives resting)) ] ] ] ] ]
 
   rests : (ps : List Pair) → (Unit {0}) × ((collected (blocked resting ps) resting).records ≡ s.records) × AreSeen s.images (collected (blocked resting ps) resting).images
   unfolding collected
   rests [] = (tt, refl, seen_same s.images)
   rests (p ∷ ps) = (tt, refl, seen_same s.images)
 
-  idle_seen : (g l : Option ImageRow) (p q : Option Pair) → find (fits resting) (pairs resting) ≡ p → find (fits resting) (leaves resting) ≡ q
-      → ((collected (idle_by g l p q) resting).records ≡ s.records) × AreSeen s.images (collected (idle_by g l p q) resting).images
+  idle_seen : (g l : Option ImageRow) (p q r : Option Pair) → find (fits resting) (pairs resting) ≡ p → find (fits resting) (leaves resting) ≡ q → find (fits resting) (lives resting) ≡ r
+      → ((collected (idle_by g l p q r) resting).records ≡ s.records) × AreSeen s.images (collected (idle_by g l p q r) resting).images
   unfolding collected
-  idle_seen (Some i) l p q a b = (refl, seen_filter (λ (j : ImageRow). not (is_image i.name j)) s.images)
-  idle_seen None (Some i) p q a b = (
+  idle_seen (Some i) l p q r a b c = (refl, seen_filter (λ (j : ImageRow). not (is_image i.name j)) s.images)
+  idle_seen None (Some i) p q r a b c = (
     refl,
     seen_map (λ (y : ImageRow). when (is_image i.name y) (λ (j : ImageRow). record j { extents = thin_in resting (top i.slots) }) y) s.images
         (λ y. when-key (λ (x : ImageRow). image_uuid x.name) _ (λ z. refl) (is_image i.name y) y) (λ y. when-key (λ (x : ImageRow). x.hidden) _ (λ z. refl) (is_image i.name y) y) (λ y h e. when-key (λ (x : ImageRow). x.size) _ (λ z. refl) (is_image i.name y) y),
   )
-  idle_seen None None (Some p) q a b = (refl, (let f : In p (pairs resting) × (fits resting p ≡ true) = find-some (fits resting) (pairs resting) p a in pairs_seen true p (chosen_pair resting p f.0) f.1))
-  idle_seen None None None (Some p) a b = (refl, (let f : In p (leaves resting) × (fits resting p ≡ true) = find-some (fits resting) (leaves resting) p b in pairs_seen false p (chosen_leaf resting p f.0).foldable f.1))
-  idle_seen None None None None a b = let r = rests (pairs resting ++ leaves resting) in (r.1, r.2)
+  idle_seen None None (Some p) q r a b c = (refl, (let f : In p (pairs resting) × (fits resting p ≡ true) = find-some (fits resting) (pairs resting) p a in pairs_seen true p (chosen_pair resting p f.0) f.1))
+  idle_seen None None None None (Some p) a b c = (refl, (let f : In p (lives resting) × (fits resting p ≡ true) = find-some (fits resting) (lives resting) p c in pairs_seen false p (chosen_live resting p f.0).foldable f.1))
+  idle_seen None None None (Some p) r a b c = (refl, (let f : In p (leaves resting) × (fits resting p ≡ true) = find-some (fits resting) (leaves resting) p b in pairs_seen false p (chosen_leaf resting p f.0).foldable f.1))
+  idle_seen None None None None None a b c = let r = rests (pairs resting ++ (leaves resting ++ lives resting)) in (r.1, r.2)
 
   plan_seen : ((collected (plan_idle resting) resting).records ≡ s.records) × AreSeen s.images (collected (plan_idle resting) resting).images
   unfolding plan_idle
-  plan_seen = idle_seen (find (is_garbage resting) s.images) (find (is_loose resting) s.images) (find (fits resting) (pairs resting)) (find (fits resting) (leaves resting)) refl refl
+  plan_seen = idle_seen (find (is_garbage resting) s.images) (find (is_loose resting) s.images) (find (fits resting) (pairs resting)) (find (fits resting) (leaves resting)) (find (fits resting) (lives resting)) refl refl refl
 
 copied_seen : (s : Shape) (w : IsWellFormed s) (p : Name) (b : ℕ) → AreSeen s.images (on_image p (given_block b) s.images)
 copied_seen s w p b = seen_map (on_copy s w p b) s.images (block_key s w p b (λ (x : ImageRow). image_uuid x.name) (λ y xs. refl)) (block_key s w p b (λ (x : ImageRow). x.hidden) (λ y xs. refl)) (λ y h e. block_key s w p b (λ (x : ImageRow). x.size) (λ y xs. refl) y)
@@ -193,11 +196,31 @@ unfolding Kept collected copied
 folding_seen s l p cursor w None = (swap_records s l p cursor, swap_seen s l p cursor w)
 folding_seen s l p cursor w (Some b) = (refl, copied_seen (record s { op = op.Leaf l p cursor }) w p b)
 
+live_block_seen : (s : Shape) (p : Name) (b : ℕ) (o : Op) → IsWellFormed (record s { op = o }) → AreSeen s.images (on_image p (given_block b) s.images)
+live_block_seen s p b o w = copied_seen (record s { op = o }) w p b
+
+living_seen : (s : Shape) (l p : Name) (cursor : ℕ) (dirty : List ℕ) (w : IsWellFormed (record s { op = op.Live l p cursor dirty })) (o : Option ℕ) → Kept s (collected (copy_or (clean_or dirty) o) (record s { op = op.Live l p cursor dirty }))
+unfolding Kept collected copied
+living_seen s l p cursor dirty w (Some b) = (refl, live_block_seen s p b (op.Live l p cursor dirty) w)
+living_seen s l p cursor dirty w None = by dirty
+  where
+    swap : Kept s (collected plan.Swap (record s { op = op.Live l p cursor dirty }))
+    swap = (live_records s l p cursor dirty, live_seen s l p cursor dirty w)
+
+    by : (ds : List ℕ) → Kept s (collected (clean_or ds) (record s { op = op.Live l p cursor dirty }))
+    by [] = swap
+    by (d ∷ ds) = choose (nat_lt dirty_limit (length (d ∷ ds)))
+      where
+        choose : (c : Bool) → Kept s (collected (elim c as (λ _. Plan) [ true ↦ plan.Copy d | false ↦ plan.Swap ]) (record s { op = op.Live l p cursor dirty }))
+        choose true = (refl, live_block_seen s p d (op.Live l p cursor dirty) w)
+        choose false = swap
+
 gc_seen : (s : Shape) (o : Op) → IsWellFormed (record s { op = o }) → Kept s (collected (plan_running (record s { op = o }) o) (record s { op = o }))
 unfolding Kept plan_running
 gc_seen s op.Idle w = plan_seen s w
 gc_seen s (op.Copy v p cursor) w = copying_seen s v p cursor w (children v s.images)
 gc_seen s (op.Relink v p) w = linking_seen s v p (children v s.images)
+gc_seen s (op.Live l p cursor dirty) w = living_seen s l p cursor dirty w (next_block cursor (table_of l (record s { op = op.Live l p cursor dirty })))
 gc_seen s (op.Leaf l p cursor) w = folding_seen s l p cursor w (next_block cursor (table_of l (record s { op = op.Leaf l p cursor })))
 
 collected_seen : (s : Shape) → IsWellFormed s → Kept s (collected (next_step s) s)

@@ -5,12 +5,13 @@ use Rattle.std.specs.Prelude.{ℕ, ◌+◌, ◌-◌, ◌<◌, ◌≡◌, ◌⊎�
 use Rattle.std.specs.List.{filter_map, find, list_any, slice_set}
 use Rattle.std.specs.Option.{unwrap_or}
 use Rattle.sm_base.specs.declared.names.Name.{Name}
-use Rattle.sm_base.specs.declared.operations.Op.{Op}
-use Rattle.sm_base.specs.declared.operations.Op.TheVariants as op
+use Rattle.sm_machine.specs.Operations.{Op}
+use Rattle.sm_machine.specs.Operations as op
 use Rattle.sm_base.specs.declared.operations.Plan.{Plan}
 use Rattle.sm_base.specs.declared.operations.Plan.TheVariants as plan
 use Rattle.common_laws.specs.Lists.{given, numbers, ◌>>=◌}
-use Rattle.sm_machine.specs.Shapes.{Shape, ImageRow, image_uuid, is_vhd, slot_at, is_there, count_blocks, top, has_slot, find_image, with_image, without_image, on_image, children, attached_as, is_rw, image_extents, free, thin_in}
+use Rattle.sm_machine.specs.Operations.{advanced, dirty_limit}
+use Rattle.sm_machine.specs.Shapes.{Shape, ImageRow, image_uuid, is_vhd, slot_at, is_there, count_blocks, top, has_slot, find_image, with_image, without_image, on_image, children, attached_as, is_rw, image_extents, free, thick_in, thin_in}
 
 -- ---- tables
 
@@ -41,9 +42,17 @@ pub record Pair : Type 0 where
   pub child : ImageRow
   pub parent : ImageRow
 
--- the extents that the parent is to have: those that it has, or as many as the blocks of both need
+-- the own image of a disk that is attached for writing
+abbrev pub is_written : Shape → ImageRow → Bool
+is_written s i = not i.hidden && is_rw (attached_as (image_uuid i.name) s)
+
+-- the extents that a VHD parent needs: as many as the blocks of both, or as many as all blocks where the child is written to
+abbrev pub needed : Shape → Pair → ℕ
+needed s p = elim (is_written s p.child) [ true ↦ thick_in s p.child.size | false ↦ thin_in s (max (top p.parent.slots) (count_either p.parent.slots p.child.slots)) ]
+
+-- the extents that the parent is to have: those that it has, or those that it needs
 unfoldable pub target : Shape → Pair → ℕ
-target s p = elim (is_vhd p.parent.name) [ true ↦ max p.parent.extents (thin_in s (max (top p.parent.slots) (count_either p.parent.slots p.child.slots))) | false ↦ p.parent.extents ]
+target s p = elim (is_vhd p.parent.name) [ true ↦ max p.parent.extents (needed s p) | false ↦ p.parent.extents ]
 
 -- the extents that the parent is to gain
 abbrev pub growth : Shape → Pair → ℕ
@@ -83,6 +92,14 @@ leaf_of s l = do
   pair ← with_parent s leaf
   given (is_vhd pair.parent.name) pair
 
+-- the VHD image of a disk that is attached, whose parent is a VHD image
+unfoldable pub live_of : Shape → ImageRow → Option Pair
+live_of s l = do
+  image ← given (not l.hidden && is_vhd l.name) l
+  leaf ← given (is_some (attached_as (image_uuid image.name) s)) image
+  pair ← with_parent s leaf
+  given (is_vhd pair.parent.name) pair
+
 -- all of them, in order of the child's name
 abbrev pub pairs : Shape → List Pair
 pairs s = filter_map (pair_of s) s.images
@@ -90,15 +107,14 @@ pairs s = filter_map (pair_of s) s.images
 abbrev pub leaves : Shape → List Pair
 leaves s = filter_map (leaf_of s) s.images
 
+abbrev pub lives : Shape → List Pair
+lives s = filter_map (live_of s) s.images
+
 -- ---- what may be removed and cut
 
 -- a hidden image that has no children
 abbrev pub is_garbage : Shape → ImageRow → Bool
 is_garbage s i = i.hidden && is_childless s i
-
--- the own image of a disk that is attached for writing
-abbrev pub is_written : Shape → ImageRow → Bool
-is_written s i = not i.hidden && is_rw (attached_as (image_uuid i.name) s)
 
 -- a VHD image that has more extents than its slots need, and is not being written to
 abbrev pub is_loose : Shape → ImageRow → Bool
@@ -126,7 +142,10 @@ plan_idle s = elim (find (is_garbage s) s.images) [
       | Some p ↦ plan.Begin p.child.name p.parent.name (target s p)
       | None ↦ elim (find (fits s) (leaves s)) [
         | Some p ↦ plan.Leaf p.child.name p.parent.name (target s p)
-        | None ↦ blocked s (pairs s ++ leaves s)
+        | None ↦ elim (find (fits s) (lives s)) [
+          | Some p ↦ plan.Live p.child.name p.parent.name (target s p)
+          | None ↦ blocked s (pairs s ++ (leaves s ++ lives s))
+        ]
       ]
     ]
   ]
@@ -151,12 +170,18 @@ abbrev pub plan_copy : Shape → Name → ℕ → List ImageRow → Plan
 plan_copy s child cursor [] = plan.Abandon
 plan_copy s child cursor (i ∷ others) = copy_or plan.Turn (next_block cursor (table_of child s))
 
+-- no block is left to copy: where too many are dirty the least of them is copied again, else the parent takes the leaf's place
+abbrev pub clean_or : List ℕ → Plan
+clean_or [] = plan.Swap
+clean_or (b ∷ dirty) = elim (nat_lt dirty_limit (length (b ∷ dirty))) [ true ↦ plan.Copy b | false ↦ plan.Swap ]
+
 -- the next step while this operation runs
 unfoldable pub plan_running : Shape → Op → Plan
 plan_running s op.Idle = plan_idle s
 plan_running s (op.Copy child parent cursor) = plan_copy s child cursor (children child s.images)
 plan_running s (op.Relink child parent) = relink_or (children child s.images)
 plan_running s (op.Leaf leaf parent cursor) = copy_or plan.Swap (next_block cursor (table_of leaf s))
+plan_running s (op.Live leaf parent cursor dirty) = copy_or (clean_or dirty) (next_block cursor (table_of leaf s))
 
 -- the collector's next step
 unfoldable pub next_step : Shape → Plan
@@ -168,21 +193,34 @@ next_step s = plan_running s s.op
 abbrev pub given_block : ℕ → ImageRow → ImageRow
 given_block b p = elim (is_vhd p.name) [ true ↦ record p { slots = with_block b p.slots } | false ↦ p ]
 
--- the parent gets the block, and the cursor goes on
+-- the parent gets these blocks, one after the other
+unfoldable pub given_blocks : List ℕ → ImageRow → ImageRow
+given_blocks [] p = p
+given_blocks (b ∷ bs) p = given_blocks bs (given_block b p)
+
+-- the parent gets the block, and the operation goes on
 unfoldable pub copied : Op → ℕ → Shape → Shape
-copied (op.Copy child parent cursor) b s = record s { images = on_image parent (given_block b) s.images; op = op.Copy child parent (b + 1) }
-copied (op.Leaf leaf parent cursor) b s = record s { images = on_image parent (given_block b) s.images; op = op.Leaf leaf parent (b + 1) }
-copied _ b s = s
+copied (op.Copy child parent cursor) b s = record s { images = on_image parent (given_block b) s.images; op = advanced b (op.Copy child parent cursor) }
+copied (op.Leaf leaf parent cursor) b s = record s { images = on_image parent (given_block b) s.images; op = advanced b (op.Leaf leaf parent cursor) }
+copied (op.Live leaf parent cursor dirty) b s = record s { images = on_image parent (given_block b) s.images; op = advanced b (op.Live leaf parent cursor dirty) }
+copied op.Idle b s = s
+copied (op.Relink child parent) b s = s
 
 -- a copy whose blocks are all copied goes on by linking the children
 unfoldable pub turned : Op → Op
 turned (op.Copy child parent cursor) = op.Relink child parent
-turned o = o
+turned op.Idle = op.Idle
+turned (op.Relink child parent) = op.Relink child parent
+turned (op.Leaf leaf parent cursor) = op.Leaf leaf parent cursor
+turned (op.Live leaf parent cursor dirty) = op.Live leaf parent cursor dirty
 
 -- the child reads through the operation's parent from now on
 unfoldable pub linked : Op → Name → Shape → Shape
 linked (op.Relink v parent) child s = record s { images = on_image child (λ i. record i { parent = Some parent }) s.images }
-linked _ child s = s
+linked op.Idle child s = s
+linked (op.Copy v parent cursor) child s = s
+linked (op.Leaf leaf parent cursor) child s = s
+linked (op.Live leaf parent cursor dirty) child s = s
 
 -- the parent under the leaf's name, for users to see
 abbrev pub as_leaf : Name → ImageRow → ImageRow
@@ -195,7 +233,10 @@ with_found (Some i) f images = with_image (f i) images
 -- the leaf's image goes, and the parent takes its name
 unfoldable pub swapped : Op → Shape → Shape
 swapped (op.Leaf leaf parent cursor) s = record s { images = with_found (find_image parent s.images) (as_leaf leaf) (without_image parent (without_image leaf s.images)); op = op.Idle }
-swapped _ s = s
+swapped (op.Live leaf parent cursor dirty) s = record s { images = with_found (find_image parent s.images) (λ p. as_leaf leaf (given_blocks dirty p)) (without_image parent (without_image leaf s.images)); op = op.Idle }
+swapped op.Idle s = s
+swapped (op.Copy child parent cursor) s = s
+swapped (op.Relink child parent) s = s
 
 -- the size of the image of a name
 abbrev pub size_of : Name → Shape → ℕ
@@ -217,6 +258,7 @@ collected (plan.Remove name) s = record s { images = without_image name s.images
 collected (plan.Deflate name to) s = record s { images = on_image name (λ i. record i { extents = to }) s.images }
 collected (plan.Begin child parent to) s = record s { images = enlarged child parent to s; op = op.Copy child parent 0 }
 collected (plan.Leaf leaf parent to) s = record s { images = enlarged leaf parent to s; op = op.Leaf leaf parent 0 }
+collected (plan.Live leaf parent to) s = record s { images = enlarged leaf parent to s; op = op.Live leaf parent 0 [] }
 collected (plan.Blocked need room) s = s
 collected plan.Idle s = s
 
@@ -236,6 +278,7 @@ phase s op.Idle = elim (list_any (is_garbage s) s.images) [ true ↦ 1 | false �
 phase s (op.Copy child parent cursor) = 3
 phase s (op.Relink child parent) = 2
 phase s (op.Leaf leaf parent cursor) = 3
+phase s (op.Live leaf parent cursor dirty) = 3
 
 -- the blocks from the cursor on, or the children that are to be linked
 unfoldable pub items_left : Shape → Op → ℕ
@@ -243,6 +286,7 @@ items_left s op.Idle = 0
 items_left s (op.Copy child parent cursor) = count_blocks (drop cursor (table_of child s))
 items_left s (op.Relink child parent) = length (children child s.images)
 items_left s (op.Leaf leaf parent cursor) = count_blocks (drop cursor (table_of leaf s))
+items_left s (op.Live leaf parent cursor dirty) = count_blocks (drop cursor (table_of leaf s)) + length dirty
 
 -- how much the collector has left to do: images first, then the phase, then what is left of the phase, then the extents in use
 unfoldable pub debt : Shape → Debt

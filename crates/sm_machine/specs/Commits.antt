@@ -4,12 +4,12 @@ use Rattle.std.specs.Prelude.{ℕ, ◌+◌, nat_lt, Bool, true, false, List, Opt
 use Rattle.std.specs.Str.{bytes_eq}
 use Rattle.sm_base.specs.declared.names.Name.{Name}
 use Rattle.sm_base.specs.declared.operations.Mode.TheVariants.{Rw}
-use Rattle.sm_base.specs.declared.operations.Op.{Op}
-use Rattle.sm_base.specs.declared.operations.Op.TheVariants as op
+use Rattle.sm_machine.specs.Operations.{Op}
+use Rattle.sm_machine.specs.Operations as op
 use Rattle.sm_base.specs.declared.operations.Plan.{Plan}
 use Rattle.sm_base.specs.declared.operations.Plan.TheVariants as plan
 use Rattle.sm_machine.specs.declared.commands.Command.{Command}
-use Rattle.sm_machine.specs.declared.commands.Command.TheVariants.{Create, Delete, Attach, Snapshot, Clone, Resize, Gc}
+use Rattle.sm_machine.specs.declared.commands.Command.TheVariants.{Create, Delete, Attach, Detach, Snapshot, Clone, Resize, Gc}
 use Rattle.sm_machine.specs.Shapes.{Shape, image_uuid, find_image}
 use Rattle.sm_machine.specs.Refusals.{need}
 use Rattle.sm_machine.specs.Collector.{next_step}
@@ -17,7 +17,10 @@ use Rattle.sm_machine.specs.Collector.{next_step}
 -- whether the running operation folds the leaf of this disk
 unfoldable pub folds : Op → List ℕ → Bool
 folds (op.Leaf leaf parent cursor) u = bytes_eq (image_uuid leaf) u
-folds _ u = false
+folds (op.Live leaf parent cursor dirty) u = bytes_eq (image_uuid leaf) u
+folds op.Idle u = false
+folds (op.Copy child parent cursor) u = false
+folds (op.Relink child parent) u = false
 
 -- the disk whose folding a command gives up
 unfoldable pub gives_up : Command → Option (List ℕ)
@@ -26,6 +29,7 @@ gives_up (Snapshot u twin) = Some u
 gives_up (Clone u twin) = Some u
 gives_up (Resize u size) = Some u
 gives_up (Delete u) = Some u
+gives_up (Detach u) = Some u
 gives_up _ = None
 
 -- whether the command gives the running operation up: its entry is removed by the first commit
@@ -58,6 +62,7 @@ plan_commits s (plan.Remove name) = 1
 plan_commits s (plan.Deflate name to) = 1
 plan_commits s (plan.Begin child parent to) = growth_commits (nat_lt (extents_of parent s) to) + 1
 plan_commits s (plan.Leaf leaf parent to) = growth_commits (nat_lt (extents_of parent s) to) + 1
+plan_commits s (plan.Live leaf parent to) = growth_commits (nat_lt (extents_of parent s) to) + 1
 plan_commits s (plan.Blocked needed room) = 0
 plan_commits s plan.Idle = 0
 

@@ -4,7 +4,7 @@ use Rattle.std.specs.List.{filter, list_any}
 use Rattle.common_laws.specs.Lists.{In}
 use Rattle.sm_base.specs.declared.names.Name.{Name}
 use Rattle.sm_base.specs.declared.operations.Mode.TheVariants.{Rw}
-use Rattle.sm_base.specs.declared.operations.Op.TheVariants as op
+use Rattle.sm_machine.specs.Operations as op
 use Rattle.sm_base.specs.declared.operations.Plan.{Plan}
 use Rattle.sm_base.specs.declared.operations.Plan.TheVariants as plan
 use Rattle.sm_base.specs.declared.refusals.Refusal.{Refusal}
@@ -13,7 +13,7 @@ use Rattle.sm_machine.specs.declared.replies.Reply.TheVariants as reply
 use Rattle.sm_base.specs.Numbers.{IsGeometry}
 use Rattle.sm_machine.specs.declared.commands.Command.TheVariants.{Gc}
 use Rattle.sm_machine.specs.Shapes.{Shape, ImageRow, Attachment, free, image_uuid, is_image_of, is_vhd, new_shape, on_image, reads_through, refs, thick_in, with_image, without_image}
-use Rattle.sm_machine.specs.Collector.{next_step, is_garbage, is_loose, pairs, leaves, debt, IsLess}
+use Rattle.sm_machine.specs.Collector.{next_step, is_garbage, is_loose, pairs, leaves, lives, debt, IsLess}
 use Rattle.sm_machine.specs.Steps.{State, is_attached, shape_next, step}
 use Rattle.sm_machine.specs.WellFormed.{AreDisksOf, IsOperation, IsSize, IsWellFormed}
 
@@ -28,6 +28,7 @@ pub record IsDone (s : Shape) : Type 0 where
   pub none_loose : list_any (is_loose s) s.images ≡ false
   pub no_pair : pairs s ≡ []
   pub no_leaf : leaves s ≡ []
+  pub no_live : lives s ≡ []
 
 -- the collector is idle only where nothing is left to do
 abbrev pub IdleIsDone : Type 0
@@ -79,7 +80,7 @@ with_extents extents i s = record s { images = on_image i.name (λ y. record y {
 
 -- a volume that is enlarged or cut keeps a shape well-formed
 abbrev pub ExtentsKeepShape : Type 0
-ExtentsKeepShape = (s : Shape) (i : ImageRow) (extents : ℕ) → IsWellFormed s → MayHave s i extents → IsWellFormed (with_extents extents i s)
+ExtentsKeepShape = (s : Shape) (i : ImageRow) (extents : ℕ) → IsWellFormed s → MayHave s i extents → IsOperation (with_extents extents i s) s.op → IsWellFormed (with_extents extents i s)
 
 -- a VHD image may have this greater size: each image that reads through it is as large, and each of its blocks has room
 -- where its disk is attached for writing

@@ -3,6 +3,7 @@ pub mod Commits
 pub mod Disks
 pub mod Laws
 pub mod Lines
+pub mod Operations
 pub mod Refusals
 pub mod Replies
 pub mod Runs

@@ -70,6 +70,7 @@ op_text op.Idle = codes "none"
 op_text (op.Copy child parent cursor) = by_commas (codes "copy" ∷ spelling child ∷ spelling parent ∷ decimal cursor ∷ [])
 op_text (op.Relink child parent) = by_commas (codes "relink" ∷ spelling child ∷ spelling parent ∷ [])
 op_text (op.Leaf leaf parent cursor) = by_commas (codes "leaf" ∷ spelling leaf ∷ spelling parent ∷ decimal cursor ∷ [])
+op_text (op.Live leaf parent cursor dirty) = by_commas (codes "live" ∷ spelling leaf ∷ spelling parent ∷ decimal cursor ∷ decimal dirty ∷ [])
 
 -- the child or the leaf of the running operation
 abbrev pub worked_on : Op → List (List ℕ)
@@ -77,6 +78,7 @@ worked_on op.Idle = []
 worked_on (op.Copy child parent cursor) = spelling child ∷ []
 worked_on (op.Relink child parent) = spelling child ∷ []
 worked_on (op.Leaf leaf parent cursor) = spelling leaf ∷ []
+worked_on (op.Live leaf parent cursor dirty) = spelling leaf ∷ []
 
 -- a step of the collector, taken while this operation ran
 unfoldable pub plan_parts : Plan → Op → List (List ℕ)
@@ -90,6 +92,7 @@ plan_parts (plan.Remove name) o = codes "remove" ∷ spelling name ∷ []
 plan_parts (plan.Deflate name to) o = codes "deflate" ∷ spelling name ∷ []
 plan_parts (plan.Begin child parent to) o = codes "begin" ∷ spelling child ∷ []
 plan_parts (plan.Leaf leaf parent to) o = codes "leaf" ∷ spelling leaf ∷ []
+plan_parts (plan.Live leaf parent to) o = codes "live" ∷ spelling leaf ∷ []
 plan_parts (plan.Blocked need free) o = codes "blocked" ∷ codes "need" ∷ decimal need ∷ codes "free" ∷ decimal free ∷ []
 plan_parts plan.Idle o = codes "idle" ∷ []
 

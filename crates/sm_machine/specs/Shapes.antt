@@ -9,11 +9,11 @@ use Rattle.std.specs.Str.{bytes_eq}
 use Rattle.sm_base.specs.Names.{name_cmp}
 use Rattle.sm_base.specs.Numbers.{thin, thick}
 use Rattle.sm_base.specs.declared.names.Name.{Name}
-use Rattle.sm_base.specs.declared.names.Name.TheVariants.{Mgt, Vhd, Raw, Old, Clone, Inflate, Coalesce, Relink, Leaf}
+use Rattle.sm_base.specs.declared.names.Name.TheVariants.{Mgt, Vhd, Raw, Old, Cbt, Clone, Inflate, Coalesce, Relink, Leaf}
 use Rattle.sm_base.specs.declared.operations.Mode.{Mode}
 use Rattle.sm_base.specs.declared.operations.Mode.TheVariants.{Ro, Rw}
-use Rattle.sm_base.specs.declared.operations.Op.{Op}
-use Rattle.sm_base.specs.declared.operations.Op.TheVariants.{Idle}
+use Rattle.sm_machine.specs.Operations.{Op}
+use Rattle.sm_machine.specs.Operations.{Idle}
 use Rattle.common_laws.specs.Lists.{change, insert_by, ◌>>=◌}
 
 -- an image: its volume's name and number of extents, whether it is hidden from users, the image that it reads through
@@ -97,6 +97,7 @@ same_image (Raw u) (Raw v) = bytes_eq u v
 same_image (Vhd u) Mgt = false
 same_image (Vhd u) (Raw v) = false
 same_image (Vhd u) (Old v) = false
+same_image (Vhd u) (Cbt v) = false
 same_image (Vhd u) (Clone disk base twin) = false
 same_image (Vhd u) (Inflate image extents) = false
 same_image (Vhd u) (Coalesce child parent) = false
@@ -105,6 +106,7 @@ same_image (Vhd u) (Leaf leaf parent) = false
 same_image (Raw u) Mgt = false
 same_image (Raw u) (Vhd v) = false
 same_image (Raw u) (Old v) = false
+same_image (Raw u) (Cbt v) = false
 same_image (Raw u) (Clone disk base twin) = false
 same_image (Raw u) (Inflate image extents) = false
 same_image (Raw u) (Coalesce child parent) = false
@@ -112,6 +114,7 @@ same_image (Raw u) (Relink child parent) = false
 same_image (Raw u) (Leaf leaf parent) = false
 same_image Mgt n = false
 same_image (Old u) n = false
+same_image (Cbt u) n = false
 same_image (Clone disk base twin) n = false
 same_image (Inflate image extents) n = false
 same_image (Coalesce child parent) n = false
@@ -124,6 +127,7 @@ image_uuid (Vhd u) = u
 image_uuid (Raw u) = u
 image_uuid Mgt = []
 image_uuid (Old u) = []
+image_uuid (Cbt u) = []
 image_uuid (Clone disk base twin) = []
 image_uuid (Inflate image extents) = []
 image_uuid (Coalesce child parent) = []
@@ -136,6 +140,7 @@ is_vhd (Vhd u) = true
 is_vhd Mgt = false
 is_vhd (Raw u) = false
 is_vhd (Old u) = false
+is_vhd (Cbt u) = false
 is_vhd (Clone disk base twin) = false
 is_vhd (Inflate image extents) = false
 is_vhd (Coalesce child parent) = false
@@ -148,6 +153,7 @@ renamed (Vhd u) v = Vhd v
 renamed (Raw u) v = Raw v
 renamed Mgt v = Mgt
 renamed (Old u) v = Old u
+renamed (Cbt u) v = Cbt u
 renamed (Clone disk base twin) v = Clone disk base twin
 renamed (Inflate image extents) v = Inflate image extents
 renamed (Coalesce child parent) v = Coalesce child parent
@@ -271,9 +277,10 @@ image_extents (i ∷ images) = i.extents + image_extents images
 unfoldable pub free : Shape → ℕ
 free s = s.extents - (s.others + image_extents s.images)
 
--- the extents of an image with so many slots, and of one whose size has a slot for each block
+-- the extents of an image with so many slots
 abbrev pub thin_in : Shape → ℕ → ℕ
 thin_in s slots = thin s.extent s.block s.entries slots
 
+-- the extents of an image of so many sectors with a slot for each block
 abbrev pub thick_in : Shape → ℕ → ℕ
 thick_in s size = thick s.extent s.block s.entries size

@@ -9,7 +9,8 @@ use Rattle.sm_base.specs.declared.names.Name.{Name}
 use Rattle.sm_base.specs.declared.names.Name.TheVariants.{Vhd, Raw}
 use Rattle.sm_base.specs.declared.operations.Mode.{Mode}
 use Rattle.sm_base.specs.declared.operations.Mode.TheVariants.{Ro, Rw}
-use Rattle.sm_base.specs.declared.operations.Op.TheVariants as op
+use Rattle.sm_machine.specs.Operations.{Op}
+use Rattle.sm_machine.specs.Operations as op
 use Rattle.sm_base.specs.declared.refusals.Refusal.{Refusal}
 use Rattle.sm_base.specs.declared.refusals.Refusal.TheVariants.{BadLine}
 use Rattle.sm_machine.specs.declared.commands.Command.{Command}
@@ -21,8 +22,9 @@ use Rattle.sm_machine.specs.declared.replies.Reply.TheVariants as reply
 use Rattle.sm_machine.specs.Stats.{Stats}
 use Rattle.sm_machine.specs.Lines.{spelled}
 use Rattle.common_laws.specs.Lists.{change, insert_by, numbers}
+use Rattle.sm_machine.specs.Operations.{dirtied, told}
 use Rattle.sm_machine.specs.Disks.{Disk, sector_bytes, uuid_before, filled, sectors_of_bytes, overwritten, bytes_at, is_disk, with_disk, on_disk}
-use Rattle.sm_machine.specs.Shapes.{Shape, ImageRow, DiskRecord, Attachment, risen, is_vhd, renamed, count_blocks, is_image_of, disk_image, attached_as, is_rw, refs, free, with_image, without_image}
+use Rattle.sm_machine.specs.Shapes.{Shape, ImageRow, DiskRecord, Attachment, image_uuid, risen, is_vhd, renamed, count_blocks, is_image_of, disk_image, attached_as, is_rw, refs, free, with_image, without_image}
 use Rattle.sm_machine.specs.Refusals.{refusal, rounded, new_extents, wanted, lacking, lacking_larger}
 use Rattle.sm_machine.specs.Collector.{with_block, next_step, collected}
 use Rattle.sm_machine.specs.Commits.{commits, is_given_up}
@@ -124,8 +126,16 @@ resize_shape s u bytes = record s { images = change (is_image_of u) (λ i. recor
 abbrev pub label_shape : Shape → List ℕ → List ℕ → Shape
 label_shape s u text = record s { records = change (is_record u) (λ r. record r { label = text }) s.records }
 
+-- of a live folding of the disk's own image those blocks that are below the cursor are dirty
+unfoldable pub written_op : List ℕ → List ℕ → Op → Op
+written_op u blocks (op.Live l p cursor dirty) = op.Live l p cursor (elim (bytes_eq (image_uuid l) u) [ true ↦ dirtied cursor blocks dirty | false ↦ dirty ])
+written_op u blocks op.Idle = op.Idle
+written_op u blocks (op.Copy child parent cursor) = op.Copy child parent cursor
+written_op u blocks (op.Relink child parent) = op.Relink child parent
+written_op u blocks (op.Leaf leaf parent cursor) = op.Leaf leaf parent cursor
+
 abbrev pub write_shape : Shape → List ℕ → ℕ → ℕ → Shape
-write_shape s u sector count = record s { images = change (is_image_of u) (written_image s sector count) s.images }
+write_shape s u sector count = record s { images = change (is_image_of u) (written_image s sector count) s.images; op = written_op u (blocks_touched s sector count) s.op }
 
 -- the shape after an accepted command
 unfoldable pub shape_after : Shape → Command → Shape
@@ -193,7 +203,7 @@ abbrev pub stat_row : Shape → ImageRow → StatRow
 stat_row s i = record { name = i.name; hidden = i.hidden; parent = i.parent; size = i.size * sector_bytes; blocks = count_blocks i.slots; extents = i.extents; refs = refs i.name s }
 
 abbrev pub stats : Shape → Stats
-stats s = record { seq = s.sequence; free = free s; op = s.op; rows = map (stat_row s) s.images }
+stats s = record { seq = s.sequence; free = free s; op = told s.op; rows = map (stat_row s) s.images }
 
 abbrev pub read_from : ℕ → ℕ → Option Disk → List ℕ
 read_from sector count None = []
@@ -213,7 +223,7 @@ reply_to disks s (Write u sector bytes) = reply.Done
 reply_to disks s (Fill u sector count byte) = reply.Done
 reply_to disks s (Read u sector count) = reply.Bytes (read_from sector count (find (is_disk u) disks))
 reply_to disks s (Flush u) = reply.Done
-reply_to disks s Gc = reply.Gc (next_step s) s.op
+reply_to disks s Gc = reply.Gc (next_step s) (told s.op)
 reply_to disks s Listing = reply.List (map disk_row disks)
 reply_to disks s Stat = reply.Stat (stats s)
 

@@ -4,13 +4,14 @@ use Rattle.std.specs.Ordering.{is_lt}
 use Rattle.sm_base.specs.Names.{name_cmp, base_uuid}
 use Rattle.sm_base.specs.Numbers.{IsGeometry}
 use Rattle.sm_base.specs.declared.names.Name.{Name}
-use Rattle.sm_base.specs.declared.names.Name.TheVariants.{Mgt, Vhd, Raw, Old, Clone, Inflate, Coalesce, Relink, Leaf}
+use Rattle.sm_base.specs.declared.names.Name.TheVariants.{Mgt, Vhd, Raw, Old, Cbt, Clone, Inflate, Coalesce, Relink, Leaf}
 use Rattle.sm_base.specs.declared.operations.Mode.TheVariants.{Rw}
-use Rattle.sm_base.specs.declared.operations.Op.{Op}
-use Rattle.sm_base.specs.declared.operations.Op.TheVariants as op
+use Rattle.sm_machine.specs.Operations.{Op}
+use Rattle.sm_machine.specs.Operations as op
 use Rattle.sm_machine.specs.Disks.{Disk, uuid_before}
+use Rattle.std.specs.Prelude.{is_some}
 use Rattle.common_laws.specs.Lists.{In, Distinct, Sorted}
-use Rattle.sm_machine.specs.Shapes.{Shape, ImageRow, DiskRecord, Attachment, image_limit, chain_limit, last_sequence, image_uuid, is_vhd, parent_of, attached_as, image_extents, thick_in}
+use Rattle.sm_machine.specs.Shapes.{Shape, ImageRow, DiskRecord, Attachment, image_limit, chain_limit, last_sequence, image_uuid, is_rw, is_there, is_vhd, parent_of, slot_at, attached_as, image_extents, thick_in}
 
 -- ---- one image
 
@@ -20,6 +21,7 @@ is_image_name (Vhd u) = true
 is_image_name (Raw u) = true
 is_image_name Mgt = false
 is_image_name (Old u) = false
+is_image_name (Cbt u) = false
 is_image_name (Clone disk base twin) = false
 is_image_name (Inflate image extents) = false
 is_image_name (Coalesce child parent) = false
@@ -32,6 +34,7 @@ table_length s (Vhd u) = s.entries
 table_length s Mgt = 0
 table_length s (Raw u) = 0
 table_length s (Old u) = 0
+table_length s (Cbt u) = 0
 table_length s (Clone disk base twin) = 0
 table_length s (Inflate image extents) = 0
 table_length s (Coalesce child parent) = 0
@@ -100,12 +103,23 @@ pub record IsOnlyChild (s : Shape) (hidden : Bool) (v p : Name) : Type 0 where
   pub only : (i : ImageRow) → In i s.images → i.parent ≡ Some p → i.name ≡ v
   pub same_size : (q : ImageRow) → In q s.images → q.name ≡ p → q.size ≡ link.child.size
 
--- the images of an operation are there; the leaf of one that folds a leaf is not attached
+-- a leaf of a disk that is attached is folded: its parent has extents for all blocks where the disk is written to; dirty blocks are
+-- blocks of the leaf below the cursor
+pub record IsLive (s : Shape) (l p : Name) (cursor : ℕ) (dirty : List ℕ) : Type 0 where
+  pub only : IsOnlyChild s false l p
+  pub parent_vhd : is_vhd p ≡ true
+  pub attached : is_some (attached_as (image_uuid l) s) ≡ true
+  pub thick : is_rw (attached_as (image_uuid l) s) ≡ true → (q : ImageRow) → In q s.images → q.name ≡ p → thick_in s q.size ≤ q.extents
+  pub within : cursor ≤ length only.link.child.slots
+  pub blocks : (b : ℕ) → In b dirty → (b < cursor) × (is_there (slot_at only.link.child.slots b) ≡ true)
+
+-- the images of an operation are there; the leaf of one that folds a leaf is not attached, that of a live one is
 abbrev pub IsOperation : Shape → Op → Type 0
 IsOperation s op.Idle = Unit {0}
 IsOperation s (op.Copy v p cursor) = IsOnlyChild s true v p
 IsOperation s (op.Relink v p) = IsChild s true v p
 IsOperation s (op.Leaf l p cursor) = IsOnlyChild s false l p × (is_vhd p ≡ true) × (attached_as (image_uuid l) s ≡ None)
+IsOperation s (op.Live l p cursor dirty) = IsLive s l p cursor dirty
 
 -- ---- the shape
 

@@ -12,6 +12,7 @@
 //! - `Lines`: a script cut into lines, and the command that a line spells.
 //! - `Replies`: a reply as it is printed. `Stats` is what one of them tells.
 //! - `Disks`: the disks, each a list of sectors.
+//! - `Operations`: the collector's operation, with the blocks that are dirty.
 //! - `Shapes`: the images with their tables, records, attachments and the running operation.
 //! - `Refusals`: why a command is refused, by the shape alone, first cause first.
 //! - `Commits`: by how much the sequence number rises.

@@ -45,6 +45,7 @@ IsSpent content = IfSome content (λ left. left ≡ [])
 unfoldable pub begins : Plan → Bool
 begins (plan.Begin child parent to) = true
 begins (plan.Leaf leaf parent to) = true
+begins (plan.Live leaf parent to) = true
 begins _ = false
 
 -- Whether want of memory may take the place of a command's answer in this shape: of a step of the collector only where it begins to fold
