@@ -4,7 +4,7 @@ use Rattle.std.proofs.Common.{◌≡◌, ◌⊎◌, inl, inr, ℕ, ◌*◌, ◌<
 use Rattle.sm_base.specs.Numbers.{IsGeometry, div_up}
 use Rattle.sm_base.proofs.NumberLemmas.{le-div_up}
 use Rattle.sm_base.specs.declared.names.Name.{Name}
-use Rattle.sm_base.specs.declared.names.Name.TheVariants.{Mgt, Vhd, Raw, Old, Clone, Inflate, Coalesce, Relink, Leaf}
+use Rattle.sm_base.specs.declared.names.Name.TheVariants.{Mgt, Vhd, Raw, Old, Cbt, Clone, Inflate, Coalesce, Relink, Leaf}
 use Rattle.vg_layout.specs.Places.{record_extents}
 use Rattle.vg_meta.specs.Tables.{Row, IsTable, extents_of, rows}
 use Rattle.vg_meta.proofs.ByName.{spread}
@@ -55,6 +55,7 @@ apart_of_none Mgt = refl
 apart_of_none (Vhd u) = refl
 apart_of_none (Raw u) = refl
 apart_of_none (Old u) = refl
+apart_of_none (Cbt u) = refl
 apart_of_none (Clone x y z) = refl
 apart_of_none (Inflate x y) = refl
 apart_of_none (Coalesce x y) = refl

@@ -6,7 +6,7 @@ use Rattle.sm_base.specs.Kinds.{is_image as is_data, is_entry}
 use Rattle.sm_base.specs.declared.faults.Place.{Place}
 use Rattle.sm_base.specs.declared.faults.Place.TheVariants as at
 use Rattle.sm_base.specs.declared.names.Name.{Name}
-use Rattle.sm_base.specs.declared.names.Name.TheVariants.{Mgt, Vhd, Raw, Old, Clone, Inflate, Coalesce, Relink, Leaf}
+use Rattle.sm_base.specs.declared.names.Name.TheVariants.{Mgt, Vhd, Raw, Old, Cbt, Clone, Inflate, Coalesce, Relink, Leaf}
 use Rattle.vg_layout.specs.Places.{record_extents}
 use Rattle.vg_meta.specs.Tables.{VolumeTable, Row, rows}
 use Rattle.common_laws.specs.Lists.{In, given}
@@ -155,6 +155,14 @@ module _ (a b : Outline) (us : List (List ℕ)) (w : IsAlikeApart a b us) where
           linked = ap (is_entry_linked b) named;
         }
     by_name r i (Old v) named apart = absurd (true≢false (sym apart))
+    by_name r i (Cbt v) named apart = record {
+      named = ap (misnamed_as b.table) named;
+      at_stage = ap (λ n. is_entry n && not (is_at_stage b.table n && are_past b.table n)) named;
+      owned = ap (is_orphaned b.table) named;
+      valid = ap (λ n. not r.fresh && is_image_wrong b r n) named ∙ and_false (not r.fresh);
+      placed = ap (tree_wrong_as b r) named;
+      linked = ap (is_entry_linked b) named;
+    }
     by_name r i (Clone x y z) named apart = absurd (true≢false (sym apart))
     by_name r i (Inflate x y) named apart = absurd (true≢false (sym apart))
     by_name r i (Coalesce x y) named apart = absurd (true≢false (sym apart))

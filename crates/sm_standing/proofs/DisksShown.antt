@@ -10,7 +10,7 @@ use Rattle.std.proofs.lemmas.Map.Lookups.{exact_bytes}
 use Rattle.std.proofs.lemmas.Slice.Eq.{bytes_eq-Decides}
 use Rattle.common_laws.specs.Lists.{In}
 use Rattle.sm_base.specs.declared.names.Name.{Name}
-use Rattle.sm_base.specs.declared.names.Name.TheVariants.{Mgt, Vhd, Raw, Old, Clone, Inflate, Coalesce, Relink, Leaf}
+use Rattle.sm_base.specs.declared.names.Name.TheVariants.{Mgt, Vhd, Raw, Old, Cbt, Clone, Inflate, Coalesce, Relink, Leaf}
 use Rattle.vg_meta.specs.Tables.{VolumeTable, Row, rows, row_of, name_eq, names_of}
 use Rattle.sm_standing.specs.Entries.{names_in, head, making, folding, is_making, is_folding, is_visible, of_row, is_leaf_renamed, is_leaf_swapped, image_with}
 use Rattle.sm_standing.specs.Standing.{uuids, with_uuid, in_order, candidates, standing_volume, stands_plainly, stands_forked, stands_folded, under}
@@ -202,6 +202,7 @@ folded-step t Mgt u n plainly r h is from k = from k
 folded-step t (Vhd v) u n plainly r h is from k = from k
 folded-step t (Raw v) u n plainly r h is from k = from k
 folded-step t (Old v) u n plainly r h is from k = from k
+folded-step t (Cbt v) u n plainly r h is from k = from k
 folded-step t (Clone d b w) u n plainly r h is from k = from k
 folded-step t (Inflate i m) u n plainly r h is from k = from k
 folded-step t (Coalesce c p) u n plainly r h is from k = from k

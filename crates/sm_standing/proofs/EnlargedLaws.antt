@@ -7,7 +7,7 @@ use Rattle.std.proofs.lemmas.Option.{same_Some}
 use Rattle.common_laws.proofs.Bytes.{bytes_eq-same, bytes_eq-refl}
 use Rattle.common_laws.specs.Lists.{◌>>=◌}
 use Rattle.sm_base.specs.declared.names.Name.{Name}
-use Rattle.sm_base.specs.declared.names.Name.TheVariants.{Mgt, Vhd, Raw, Old, Clone, Inflate, Coalesce, Relink, Leaf}
+use Rattle.sm_base.specs.declared.names.Name.TheVariants.{Mgt, Vhd, Raw, Old, Cbt, Clone, Inflate, Coalesce, Relink, Leaf}
 use Rattle.vg_meta.specs.Tables.{Row, extents_of}
 use Rattle.vg_meta.proofs.NameLaws.{name_eq-true}
 use Rattle.sm_machine.specs.Shapes.{same_image}
@@ -106,6 +106,7 @@ module _ (a b : Content) (u : List ℕ) (extents : ℕ) (w : IsEnlargingOn a b u
   images_enlarging (Raw v) = raw_alike v
   images_enlarging Mgt = refl
   images_enlarging (Old v) = refl
+  images_enlarging (Cbt v) = refl
   images_enlarging (Clone x y z) = refl
   images_enlarging (Inflate x y) = refl
   images_enlarging (Coalesce x y) = refl

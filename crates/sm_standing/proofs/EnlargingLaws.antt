@@ -12,7 +12,7 @@ use Rattle.sm_base.specs.Kinds.{is_image as is_data, is_entry}
 use Rattle.sm_base.specs.declared.faults.Place.{Place}
 use Rattle.sm_base.specs.declared.faults.Place.TheVariants as at
 use Rattle.sm_base.specs.declared.names.Name.{Name}
-use Rattle.sm_base.specs.declared.names.Name.TheVariants.{Mgt, Vhd, Raw, Old, Clone, Inflate, Coalesce, Relink, Leaf}
+use Rattle.sm_base.specs.declared.names.Name.TheVariants.{Mgt, Vhd, Raw, Old, Cbt, Clone, Inflate, Coalesce, Relink, Leaf}
 use Rattle.vg_meta.specs.Tables.{VolumeTable, Row, rows, row_of, names_of, name_eq}
 use Rattle.vg_meta.proofs.NameLaws.{name_eq-other, name_eq-true}
 use Rattle.common_laws.specs.Lists.{In, given}
@@ -279,6 +279,7 @@ module _ (o : Outline) (t : VolumeTable) (u : List ℕ) (extents : ℕ) (w : IsE
   twin_alike (Raw v) = there_alike (Vhd v) (vhd_other v)
   twin_alike Mgt = refl
   twin_alike (Old v) = refl
+  twin_alike (Cbt v) = refl
   twin_alike (Clone a b c) = refl
   twin_alike (Inflate a b) = refl
   twin_alike (Coalesce a b) = refl
@@ -332,6 +333,7 @@ module _ (o : Outline) (t : VolumeTable) (u : List ℕ) (extents : ℕ) (w : IsE
   stage_alike (Vhd v) no_making = refl
   stage_alike (Raw v) no_making = refl
   stage_alike (Old v) no_making = refl
+  stage_alike (Cbt v) no_making = refl
   stage_alike (Clone a b c) no_making = absurd (true≢false no_making)
   stage_alike (Inflate a b) no_making = absurd (true≢false no_making)
   stage_alike (Coalesce a b) no_making = coalescing_alike a b
@@ -387,6 +389,7 @@ module _ (o : Outline) (t : VolumeTable) (u : List ℕ) (extents : ℕ) (w : IsE
   old_alike v (Vhd x) = refl
   old_alike v (Raw x) = refl
   old_alike v (Old x) = refl
+  old_alike v (Cbt x) = refl
   old_alike v (Clone a b c) = refl
   old_alike v (Inflate a b) = refl
   old_alike v (Coalesce a b) = refl
@@ -394,6 +397,7 @@ module _ (o : Outline) (t : VolumeTable) (u : List ℕ) (extents : ℕ) (w : IsE
 
   orphaned_alike : (n : Name) → is_orphaned t n ≡ is_orphaned o.table n
   orphaned_alike (Old v) = ap (λ ns. not (list_any (is_old_of t v) ns)) folding_same ∙ ap (λ f. not (list_any f (folding o.table))) (fun_ext (old_alike v))
+  orphaned_alike (Cbt v) = refl
   orphaned_alike Mgt = refl
   orphaned_alike (Vhd x) = refl
   orphaned_alike (Raw x) = refl
@@ -414,6 +418,7 @@ module _ (o : Outline) (t : VolumeTable) (u : List ℕ) (extents : ℕ) (w : IsE
   wrong_alike q r (Raw v) one is = ap (λ es. nat_lt (o.entries * o.block) (span o.extent es)) (one.same (λ own. let x = sym is ∙ own in cc))
   wrong_alike q r Mgt one is = refl
   wrong_alike q r (Old v) one is = refl
+  wrong_alike q r (Cbt v) one is = refl
   wrong_alike q r (Clone a b c) one is = refl
   wrong_alike q r (Inflate a b) one is = refl
   wrong_alike q r (Coalesce a b) one is = refl
@@ -466,6 +471,7 @@ module _ (o : Outline) (t : VolumeTable) (u : List ℕ) (extents : ℕ) (w : IsE
   tree_alike q r (Raw v) one = refl
   tree_alike q r Mgt one = refl
   tree_alike q r (Old v) one = refl
+  tree_alike q r (Cbt v) one = refl
   tree_alike q r (Clone a b c) one = refl
   tree_alike q r (Inflate a b) one = refl
   tree_alike q r (Coalesce a b) one = refl
@@ -495,6 +501,7 @@ module _ (o : Outline) (t : VolumeTable) (u : List ℕ) (extents : ℕ) (w : IsE
   entry_alike (Vhd v) no_making = refl
   entry_alike (Raw v) no_making = refl
   entry_alike (Old v) no_making = refl
+  entry_alike (Cbt v) no_making = refl
   entry_alike (Clone a b c) no_making = absurd (true≢false no_making)
   entry_alike (Inflate a b) no_making = absurd (true≢false no_making)
   entry_alike (Coalesce a b) no_making = ap (λ k. has_parent_of o a b (λ v p. true) && (k == 1)) (children_of_alike b)
@@ -520,6 +527,7 @@ module _ (o : Outline) (t : VolumeTable) (u : List ℕ) (extents : ℕ) (w : IsE
   folded_stands (Vhd x) v p q same = same
   folded_stands (Raw x) v p q same = same
   folded_stands (Old x) v p q same = same
+  folded_stands (Cbt x) v p q same = same
   folded_stands (Clone a b c) v p q same = same
   folded_stands (Inflate a b) v p q same = same
   folded_stands (Coalesce a b) v p q same = same

@@ -4,7 +4,7 @@ use Rattle.std.specs.List.{filter, list_any}
 use Rattle.sm_base.specs.Kinds.{is_image as is_data, is_entry}
 use Rattle.sm_base.specs.Numbers.{IsGeometry}
 use Rattle.sm_base.specs.declared.names.Name.{Name}
-use Rattle.sm_base.specs.declared.names.Name.TheVariants.{Mgt, Vhd, Raw, Old, Clone, Inflate, Coalesce, Relink, Leaf}
+use Rattle.sm_base.specs.declared.names.Name.TheVariants.{Mgt, Vhd, Raw, Old, Cbt, Clone, Inflate, Coalesce, Relink, Leaf}
 use Rattle.common_laws.specs.Lists.{In, ◌>>=◌}
 use Rattle.common_laws.proofs.Booleans.{all_hold, not_false}
 use Rattle.common_laws.proofs.Bytes.{bytes_eq-apart, bytes_eq-refl}
@@ -594,6 +594,7 @@ module _ (c : Content) (disk base twin : List ℕ) (n : Name) (table : IsTable c
         by (Clone a k w) b made is simple away = absurd (no_entry (Clone a k w) is refl)
         by (Inflate u k) b made is simple away = absurd (no_entry (Inflate u k) is refl)
         by (Old u) b made is simple away = absurd (true≢false (sym simple))
+        by (Cbt u) b made is simple away = refl
         by (Coalesce a k) b made is simple away = absurd (true≢false (sym simple))
         by (Relink a k) b made is simple away = absurd (true≢false (sym simple))
         by (Leaf a k) b made is simple away = absurd (true≢false (sym simple))

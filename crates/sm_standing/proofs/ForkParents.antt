@@ -9,7 +9,7 @@ use Rattle.common_laws.proofs.Booleans.{not_false}
 use Rattle.common_laws.proofs.Bytes.{bytes_eq-refl, bytes_eq-same}
 use Rattle.common_laws.proofs.Lists.{filter-In, In-left}
 use Rattle.sm_base.specs.declared.names.Name.{Name}
-use Rattle.sm_base.specs.declared.names.Name.TheVariants.{Mgt, Vhd, Raw, Old, Clone, Inflate, Coalesce, Relink, Leaf}
+use Rattle.sm_base.specs.declared.names.Name.TheVariants.{Mgt, Vhd, Raw, Old, Cbt, Clone, Inflate, Coalesce, Relink, Leaf}
 use Rattle.vg_meta.specs.Tables.{Row, rows}
 use Rattle.vg_meta.proofs.RowLaws.{row_of-name}
 use Rattle.sm_machine.specs.Shapes.{same_image}
@@ -51,6 +51,7 @@ module _ (c : Content) where
   is_child (Raw u) q i at up = absurd (none-some q (sym (raw_top u i (row c (Raw u)) refl at) ∙ up))
   is_child Mgt q i at up = absurd (none-some i at)
   is_child (Old u) q i at up = absurd (none-some i at)
+  is_child (Cbt u) q i at up = absurd (none-some i at)
   is_child (Clone x y z) q i at up = absurd (none-some i at)
   is_child (Inflate x y) q i at up = absurd (none-some i at)
   is_child (Coalesce x y) q i at up = absurd (none-some i at)

@@ -145,7 +145,7 @@ module _ (count : ℕ) (t : VolumeTable) (disk base twin : List ℕ) (n : Name) 
       image_name x (inr is) = ap is_data is
 
       pub may_show : Permits count v (Mark m Hidden false)
-      may_show = record { row = kept_as σ.own m hidden; there = p.there; image = image_name m base_is; otherwise = is_hid }
+      may_show = record { row = kept_as σ.own m hidden; there = p.there; taking = image_name m base_is; otherwise = is_hid }
 
       abbrev shown : VolumeTable
       shown = applied v (Mark m Hidden false)

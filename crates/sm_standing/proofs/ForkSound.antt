@@ -12,7 +12,7 @@ use Rattle.common_laws.proofs.Lists.{In-filter, filter-In, In-map_at, In-numbers
 use Rattle.sm_base.specs.Kinds.{is_entry}
 use Rattle.sm_base.specs.declared.faults.Place.TheVariants as at
 use Rattle.sm_base.specs.declared.names.Name.{Name}
-use Rattle.sm_base.specs.declared.names.Name.TheVariants.{Mgt, Vhd, Raw, Old, Clone, Inflate, Coalesce, Relink, Leaf}
+use Rattle.sm_base.specs.declared.names.Name.TheVariants.{Mgt, Vhd, Raw, Old, Cbt, Clone, Inflate, Coalesce, Relink, Leaf}
 use Rattle.vg_meta.specs.Tables.{VolumeTable, Row, rows, names_of}
 use Rattle.sm_machine.specs.Shapes.{same_image, image_limit}
 use Rattle.sm_standing.specs.Apart.{is_apart}
@@ -144,6 +144,7 @@ module _ (a b : Content) (disk base twin : List ℕ) (n m : Name) (i : Image) (h
   old_same u (Vhd x) apart = refl
   old_same u (Raw x) apart = refl
   old_same u (Old x) apart = refl
+  old_same u (Cbt x) apart = refl
   old_same u (Clone x y z) apart = refl
   old_same u (Inflate x y) apart = refl
   old_same u (Coalesce x y) apart = refl
@@ -365,6 +366,7 @@ module _ (a b : Content) (disk base twin : List ℕ) (n m : Name) (i : Image) (h
   passes r there (Vhd u) is e = near_passes h sound k r there (ap (is_apart us) is ∙ e)
   passes r there (Raw u) is e = near_passes h sound k r there (ap (is_apart us) is ∙ e)
   passes r there (Old u) is e = old_passes r u there is
+  passes r there (Cbt u) is e = absurd (true≢false e)
   passes r there (Clone x y z) is e = entry_passes h sound k r (making_of r there (ap is_making is))
   passes r there (Inflate x y) is e = absurd (let w = sym is ∙ making_of r there (ap is_making is) in cc)
   passes r there (Coalesce c p) is e = coalesce_passes r c p there is

@@ -9,7 +9,7 @@ use Rattle.common_laws.proofs.Bytes.{bytes_eq-refl}
 use Rattle.common_laws.proofs.Lists.{filter-In, In-map_at}
 use Rattle.sm_base.specs.Kinds.{is_image as is_data}
 use Rattle.sm_base.specs.declared.names.Name.{Name}
-use Rattle.sm_base.specs.declared.names.Name.TheVariants.{Mgt, Vhd, Raw, Old, Clone, Inflate, Coalesce, Relink, Leaf}
+use Rattle.sm_base.specs.declared.names.Name.TheVariants.{Mgt, Vhd, Raw, Old, Cbt, Clone, Inflate, Coalesce, Relink, Leaf}
 use Rattle.vg_meta.specs.Tables.{VolumeTable, Row, rows, names_of}
 use Rattle.vg_meta.proofs.RowLaws.{row_of-name}
 use Rattle.sm_standing.specs.Apart.{is_apart}
@@ -120,6 +120,7 @@ module _ (disk base twin : List ℕ) where
   not_apart (Inflate x y) simple h = inl refl
   not_apart Mgt simple h = absurd (true≢false h)
   not_apart (Old u) simple h = absurd (true≢false (sym simple))
+  not_apart (Cbt u) simple h = absurd (true≢false h)
   not_apart (Coalesce x y) simple h = absurd (true≢false (sym simple))
   not_apart (Relink x y) simple h = absurd (true≢false (sym simple))
   not_apart (Leaf x y) simple h = absurd (true≢false (sym simple))

@@ -8,7 +8,7 @@ use Rattle.common_laws.specs.Lists.{In, ◌>>=◌}
 use Rattle.common_laws.proofs.Bytes.{bytes_eq-apart, same_or_not}
 use Rattle.common_laws.proofs.Lists.{filter-In, In-map_at}
 use Rattle.sm_base.specs.declared.names.Name.{Name}
-use Rattle.sm_base.specs.declared.names.Name.TheVariants.{Mgt, Vhd, Raw, Old, Clone, Inflate, Coalesce, Relink, Leaf}
+use Rattle.sm_base.specs.declared.names.Name.TheVariants.{Mgt, Vhd, Raw, Old, Cbt, Clone, Inflate, Coalesce, Relink, Leaf}
 use Rattle.vg_meta.specs.declared.changes.Change.{Change}
 use Rattle.vg_meta.specs.declared.changes.Change.TheVariants.{Cut, Mark, Remove, Rename}
 use Rattle.vg_meta.specs.declared.changes.Tag.TheVariants.{Hidden}
@@ -47,6 +47,7 @@ none_simple x sound none = all-of (λ r. is_simple r ≡ true) x.table.volumes (
     by r i (Clone x y z) at = ap is_simple_name at
     by r i (Inflate x y) at = ap is_simple_name at
     by r i (Old u) at = absurd (true≢false (sym (ap (is_orphaned x.table) at ∙ ap (λ ns. not (list_any (is_old_of x.table u) ns)) none) ∙ (sound_all x sound).owned r i))
+    by r i (Cbt u) at = ap is_simple_name at
     by r i (Coalesce x y) at = absurd (fold r i (ap is_folding at))
     by r i (Relink x y) at = absurd (fold r i (ap is_folding at))
     by r i (Leaf x y) at = absurd (fold r i (ap is_folding at))

@@ -83,7 +83,7 @@ module _ {count : ℕ} (x : Outline) (table : IsTable count x.table) (homes : Ha
 
     module _ (hid : own.hidden ≡ true) where
       pub may_show : Permits count t (Mark (Vhd leaf) Hidden false)
-      may_show = record { row = own; there = before; image = refl; otherwise = hid }
+      may_show = record { row = own; there = before; taking = refl; otherwise = hid }
 
       abbrev pub shown : VolumeTable
       shown = applied t (Mark (Vhd leaf) Hidden false)

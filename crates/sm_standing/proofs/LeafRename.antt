@@ -12,7 +12,7 @@ use Rattle.common_laws.proofs.Options.{none_of_some}
 use Rattle.sm_base.specs.Kinds.{is_image as is_data}
 use Rattle.sm_base.specs.Names.{IsName}
 use Rattle.sm_base.specs.declared.names.Name.{Name}
-use Rattle.sm_base.specs.declared.names.Name.TheVariants.{Mgt, Vhd, Raw, Old, Clone, Inflate, Coalesce, Relink, Leaf}
+use Rattle.sm_base.specs.declared.names.Name.TheVariants.{Mgt, Vhd, Raw, Old, Cbt, Clone, Inflate, Coalesce, Relink, Leaf}
 use Rattle.vg_meta.specs.Changes.{Permits, applied, put, put_some, renamed, without}
 use Rattle.vg_meta.specs.declared.changes.Change.TheVariants.{Rename}
 use Rattle.vg_meta.specs.Tables.{VolumeTable, Row, IsTable, IsVolume, extents_of, name_eq, names_of, rows}
@@ -468,6 +468,7 @@ module _ {count : ℕ} (x : Outline) (table : IsTable count x.table) (homes : Ha
       of (inr at) = absurd (none-some r (sym parent_gone ∙ ap (rows again) (sym (named ∙ ap Vhd at)) ∙ found r i))
   passes r i (Raw u) named e m = absurd (none-some r (sym (raw_none u (near_one (is_among us u) e)).1 ∙ ap (rows again) (sym named) ∙ found r i))
   passes r i (Old u) named e m = old_passes r u i named
+  passes r i (Cbt u) named e m = absurd (true≢false e)
   passes r i (Clone a c d) named e m = absurd (true≢false m)
   passes r i (Inflate a c) named e m = absurd (true≢false m)
   passes r i (Coalesce a c) named e m = let z = sym named ∙ folding_in r i (ap is_folding named) in cc

@@ -9,7 +9,7 @@ use Rattle.common_laws.proofs.Bytes.{bytes_eq-refl, bytes_eq-same}
 use Rattle.common_laws.proofs.Lists.{filter-In, In-map_at}
 use Rattle.common_laws.proofs.Options.{is_some-parts}
 use Rattle.sm_base.specs.declared.names.Name.{Name}
-use Rattle.sm_base.specs.declared.names.Name.TheVariants.{Mgt, Vhd, Raw, Old, Clone, Inflate, Coalesce, Relink, Leaf}
+use Rattle.sm_base.specs.declared.names.Name.TheVariants.{Mgt, Vhd, Raw, Old, Cbt, Clone, Inflate, Coalesce, Relink, Leaf}
 use Rattle.vg_meta.specs.Tables.{VolumeTable, Row, names_of, rows}
 use Rattle.vg_meta.proofs.RowLaws.{row_of-name}
 use Rattle.sm_machine.specs.Shapes.{same_image}
@@ -72,6 +72,7 @@ module _ (o : Outline) (homes : HasImages o) where
   image_kind (Raw u) l h = (u, inr refl)
   image_kind Mgt l h = absurd (none-some l (sym (homes.named Mgt refl) ∙ h))
   image_kind (Old u) l h = absurd (none-some l (sym (homes.named (Old u) refl) ∙ h))
+  image_kind (Cbt u) l h = absurd (none-some l (sym (homes.named (Cbt u) refl) ∙ h))
   image_kind (Clone x y z) l h = absurd (none-some l (sym (homes.named (Clone x y z) refl) ∙ h))
   image_kind (Inflate x y) l h = absurd (none-some l (sym (homes.named (Inflate x y) refl) ∙ h))
   image_kind (Coalesce x y) l h = absurd (none-some l (sym (homes.named (Coalesce x y) refl) ∙ h))

@@ -7,7 +7,7 @@ use Rattle.common_laws.proofs.Booleans.{not_false, all_hold}
 use Rattle.common_laws.proofs.Bytes.{bytes_eq-same}
 use Rattle.common_laws.proofs.Lists.{filter-In, In-map_at}
 use Rattle.sm_base.specs.declared.names.Name.{Name}
-use Rattle.sm_base.specs.declared.names.Name.TheVariants.{Mgt, Vhd, Raw, Old, Clone, Inflate, Coalesce, Relink, Leaf}
+use Rattle.sm_base.specs.declared.names.Name.TheVariants.{Mgt, Vhd, Raw, Old, Cbt, Clone, Inflate, Coalesce, Relink, Leaf}
 use Rattle.vg_meta.specs.Changes.{tagged}
 use Rattle.vg_meta.specs.declared.changes.Tag.TheVariants.{Hidden}
 use Rattle.vg_meta.specs.Tables.{VolumeTable, Row, IsTable, extents_of, names_of, rows}
@@ -57,6 +57,7 @@ module _ (c : Content) (w : VolumeTable) where
   image_same (Raw u) row making = ap raw_by row
   image_same Mgt row making = refl
   image_same (Old v) row making = refl
+  image_same (Cbt v) row making = refl
   image_same (Clone x y z) row making = refl
   image_same (Inflate x y) row making = refl
   image_same (Coalesce x y) row making = refl
@@ -178,6 +179,7 @@ module _ {count : ℕ} {x : Outline} {leaf parent : List ℕ} {w : VolumeTable} 
             ap (image_of b) name ∙ image_same a w (Raw leaf) k.raw k.making ∙ ap (image_of a) (sym name)
         by false is Mgt at = ap (image_of b) at ∙ none_of Mgt refl ∙ ap (image_of a) (sym at)
         by false is (Old u) at = ap (image_of b) at ∙ none_of (Old u) refl ∙ ap (image_of a) (sym at)
+        by false is (Cbt u) at = ap (image_of b) at ∙ none_of (Cbt u) refl ∙ ap (image_of a) (sym at)
         by false is (Clone d f g) at = ap (image_of b) at ∙ none_of (Clone d f g) refl ∙ ap (image_of a) (sym at)
         by false is (Inflate d f) at = ap (image_of b) at ∙ none_of (Inflate d f) refl ∙ ap (image_of a) (sym at)
         by false is (Coalesce d f) at = ap (image_of b) at ∙ none_of (Coalesce d f) refl ∙ ap (image_of a) (sym at)
@@ -337,6 +339,7 @@ module _ {count : ℕ} (x : Outline) (homes : HasImages x) (sound : fault_of x �
       let same = among_one leaf u (near_one (is_among us u) e) in
       absurd (true≢false (sym (ap is_some (sym (ap (rows w) (named ∙ ap Raw same)) ∙ found r i)) ∙ ap is_some k.raw ∙ raw_gone))
   passes r i (Old u) named e m = old_passes r u i named
+  passes r i (Cbt u) named e m = absurd (true≢false e)
   passes r i (Clone a c d) named e m = absurd (true≢false m)
   passes r i (Inflate a c) named e m = absurd (true≢false m)
   passes r i (Coalesce a c) named e m = absurd (not_folding r i (ap is_folding named) (λ is. let z = sym named ∙ is in cc))

@@ -10,7 +10,7 @@ use Rattle.common_laws.proofs.Lists.{In-append, In-filter, In-left, In-map_at, I
 use Rattle.sm_base.specs.Kinds.{is_entry}
 use Rattle.sm_base.specs.declared.faults.Place.TheVariants as at
 use Rattle.sm_base.specs.declared.names.Name.{Name}
-use Rattle.sm_base.specs.declared.names.Name.TheVariants.{Mgt, Vhd, Raw, Old, Clone, Inflate, Coalesce, Relink, Leaf}
+use Rattle.sm_base.specs.declared.names.Name.TheVariants.{Mgt, Vhd, Raw, Old, Cbt, Clone, Inflate, Coalesce, Relink, Leaf}
 use Rattle.vg_meta.specs.Tables.{VolumeTable, Row, rows, names_of}
 use Rattle.sm_machine.specs.Shapes.{same_image, image_limit}
 use Rattle.sm_machine.proofs.ImageNames.{same_image-sound}
@@ -279,6 +279,7 @@ module _ {old new : Outline} {leaf parent : List ℕ} {us : List (List ℕ)} (so
   passes r there e (Vhd u) is = k.volumes r there e (ap is_making is)
   passes r there e (Raw u) is = k.volumes r there e (ap is_making is)
   passes r there e (Old u) is = k.volumes r there e (ap is_making is)
+  passes r there e (Cbt u) is = k.volumes r there e (ap is_making is)
   passes r there e (Coalesce x y) is = k.volumes r there e (ap is_making is)
   passes r there e (Relink x y) is = k.volumes r there e (ap is_making is)
   passes r there e (Leaf x y) is = k.volumes r there e (ap is_making is)

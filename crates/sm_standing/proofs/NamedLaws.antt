@@ -5,7 +5,7 @@ use Rattle.std.proofs.lemmas.Bool.{true≢false, lt-ltb, ltb-true}
 use Rattle.sm_base.specs.Kinds.{is_image}
 use Rattle.sm_base.specs.Names.{is_base}
 use Rattle.sm_base.specs.declared.names.Name.{Name}
-use Rattle.sm_base.specs.declared.names.Name.TheVariants.{Mgt, Vhd, Raw, Old, Clone, Inflate, Coalesce, Relink, Leaf}
+use Rattle.sm_base.specs.declared.names.Name.TheVariants.{Mgt, Vhd, Raw, Old, Cbt, Clone, Inflate, Coalesce, Relink, Leaf}
 use Rattle.vg_meta.specs.Tables.{VolumeTable, Row}
 use Rattle.sm_standing.specs.Checks.{has_twin, is_misnamed}
 use Rattle.sm_standing.specs.Entries.{base_number, is_past, are_past, is_there, uuids_in}
@@ -30,6 +30,7 @@ twin_gone t u (Vhd v) fewer e = fewer (Raw v) e
 twin_gone t u (Raw v) fewer e = fewer (Vhd v) e
 twin_gone t u Mgt fewer e = refl
 twin_gone t u (Old v) fewer e = refl
+twin_gone t u (Cbt v) fewer e = refl
 twin_gone t u (Clone d b w) fewer e = refl
 twin_gone t u (Inflate v k) fewer e = refl
 twin_gone t u (Coalesce c p) fewer e = refl

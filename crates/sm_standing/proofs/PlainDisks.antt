@@ -2,7 +2,7 @@
 use Rattle.std.proofs.Common.{◌≡◌, ℕ, zero, suc, ◌+◌, ◌<◌, ◌≤◌, inl, inr, true, false, cond, List, [], ◌∷◌, map, Some, None, refl, sym, ap, ap₂, ◌∙◌, subst, arith, nat_lt}
 use Rattle.std.specs.List.{AllByRecursion, filter}
 use Rattle.sm_base.specs.declared.names.Name.{Name}
-use Rattle.sm_base.specs.declared.names.Name.TheVariants.{Mgt, Vhd, Raw, Clone, Inflate}
+use Rattle.sm_base.specs.declared.names.Name.TheVariants.{Mgt, Vhd, Raw, Cbt, Clone, Inflate}
 use Rattle.vg_meta.specs.Tables.{VolumeTable, Row, names_of}
 use Rattle.std.proofs.lemmas.Bool.{lt-ltb}
 use Rattle.sm_disk.specs.Sectors.{zeros}
@@ -25,6 +25,7 @@ plain_is_no_entry : (n : Name) → is_plain_name n ≡ true → (is_making n ≡
 plain_is_no_entry Mgt h = (refl, refl)
 plain_is_no_entry (Raw u) h = (refl, refl)
 plain_is_no_entry (Vhd u) h = (refl, refl)
+plain_is_no_entry (Cbt u) h = (refl, refl)
 plain_is_no_entry _ h = absurd (let x = h in cc)
 
 pub no_making : (rs : List Row) → AllByRecursion (λ r. is_plain r ≡ true) rs → filter is_making (names_of rs) ≡ []
@@ -39,6 +40,7 @@ simple_is_no_folding : (n : Name) → is_simple_name n ≡ true → is_folding n
 simple_is_no_folding Mgt h = refl
 simple_is_no_folding (Raw u) h = refl
 simple_is_no_folding (Vhd u) h = refl
+simple_is_no_folding (Cbt u) h = refl
 simple_is_no_folding (Clone disk base twin) h = refl
 simple_is_no_folding (Inflate u extents) h = refl
 simple_is_no_folding _ h = absurd (let x = h in cc)

@@ -11,7 +11,7 @@ use Rattle.common_laws.proofs.Booleans.{not_false}
 use Rattle.sm_base.specs.declared.faults.Place.{Place}
 use Rattle.sm_base.specs.declared.faults.Place.TheVariants as at
 use Rattle.sm_base.specs.declared.names.Name.{Name}
-use Rattle.sm_base.specs.declared.names.Name.TheVariants.{Mgt, Vhd, Raw, Old, Clone, Inflate, Coalesce, Relink, Leaf}
+use Rattle.sm_base.specs.declared.names.Name.TheVariants.{Mgt, Vhd, Raw, Cbt, Old, Clone, Inflate, Coalesce, Relink, Leaf}
 use Rattle.vg_layout.specs.Places.{record_extents}
 use Rattle.sm_base.specs.Kinds.{is_entry}
 use Rattle.vg_meta.specs.Tables.{VolumeTable, Row, names_of, rows}
@@ -45,6 +45,7 @@ unfolding is_entry_linked
 not_special Mgt h = record { no_journal = refl; no_old_name = λ t. refl; linked = λ o. refl }
 not_special (Raw u) h = record { no_journal = refl; no_old_name = λ t. refl; linked = λ o. refl }
 not_special (Vhd u) h = record { no_journal = refl; no_old_name = λ t. refl; linked = λ o. refl }
+not_special (Cbt u) h = record { no_journal = refl; no_old_name = λ t. refl; linked = λ o. refl }
 not_special _ h = absurd (true≢false (sym h))
 
 -- nor is a known one
@@ -56,6 +57,7 @@ pub not_ahead : (n : Name) → is_known_name n ≡ true → NotAhead n
 not_ahead Mgt h = record { no_leaf_entry = refl; no_old_name = λ t. refl }
 not_ahead (Raw u) h = record { no_leaf_entry = refl; no_old_name = λ t. refl }
 not_ahead (Vhd u) h = record { no_leaf_entry = refl; no_old_name = λ t. refl }
+not_ahead (Cbt u) h = record { no_leaf_entry = refl; no_old_name = λ t. refl }
 not_ahead (Clone disk base twin) h = record { no_leaf_entry = refl; no_old_name = λ t. refl }
 not_ahead (Inflate u extents) h = record { no_leaf_entry = refl; no_old_name = λ t. refl }
 not_ahead (Coalesce child parent) h = record { no_leaf_entry = refl; no_old_name = λ t. refl }
@@ -67,6 +69,7 @@ pub simple_known_name : (n : Name) → is_simple_name n ≡ true → is_known_na
 simple_known_name Mgt h = refl
 simple_known_name (Raw u) h = h
 simple_known_name (Vhd u) h = h
+simple_known_name (Cbt u) h = h
 simple_known_name (Clone disk base twin) h = h
 simple_known_name (Inflate u extents) h = h
 simple_known_name _ h = absurd (true≢false (sym h))
@@ -75,6 +78,7 @@ pub known_simple_name : (n : Name) → is_known_name n ≡ true → is_folding n
 known_simple_name Mgt h no_entry = refl
 known_simple_name (Raw u) h no_entry = refl
 known_simple_name (Vhd u) h no_entry = refl
+known_simple_name (Cbt u) h no_entry = refl
 known_simple_name (Clone disk base twin) h no_entry = refl
 known_simple_name (Inflate u extents) h no_entry = refl
 known_simple_name (Old u) h no_entry = absurd (true≢false (sym h))
@@ -88,12 +92,14 @@ pub plain_simple_name : (n : Name) → is_plain_name n ≡ true → is_simple_na
 plain_simple_name Mgt h = refl
 plain_simple_name (Raw u) h = h
 plain_simple_name (Vhd u) h = h
+plain_simple_name (Cbt u) h = h
 plain_simple_name _ h = absurd (true≢false (sym h))
 
 pub simple_plain_name : (n : Name) → is_simple_name n ≡ true → is_making n ≡ false → is_plain_name n ≡ true
 simple_plain_name Mgt h no_entry = refl
 simple_plain_name (Raw u) h no_entry = h
 simple_plain_name (Vhd u) h no_entry = h
+simple_plain_name (Cbt u) h no_entry = h
 simple_plain_name (Clone disk base twin) h no_entry = absurd (true≢false no_entry)
 simple_plain_name (Inflate u extents) h no_entry = absurd (true≢false no_entry)
 simple_plain_name _ h no_entry = absurd (true≢false (sym h))

@@ -8,7 +8,7 @@ use Rattle.std.proofs.Math.Nat.{div-lt_iff_lt-mul}
 use Rattle.common_laws.specs.Lists.{numbers}
 use Rattle.sm_base.specs.Numbers.{IsGeometry}
 use Rattle.sm_base.specs.declared.names.Name.{Name}
-use Rattle.sm_base.specs.declared.names.Name.TheVariants.{Mgt, Vhd, Raw, Old, Clone, Inflate, Coalesce, Relink, Leaf}
+use Rattle.sm_base.specs.declared.names.Name.TheVariants.{Mgt, Vhd, Raw, Old, Cbt, Clone, Inflate, Coalesce, Relink, Leaf}
 use Rattle.vg_meta.specs.Tables.{VolumeTable, IsTable, extents_of, row_of, rows, name_eq}
 use Rattle.vg_meta.proofs.ByName.{spread}
 use Rattle.vg_meta.proofs.NameLaws.{name_eq-true, name_eq-false}
@@ -120,6 +120,7 @@ module _ (c : Content) (u : List ℕ) (extents : ℕ) (w : IsBeingEnlarged c.tab
   images_at sequence (Raw v) = refl
   images_at sequence Mgt = refl
   images_at sequence (Old v) = refl
+  images_at sequence (Cbt v) = refl
   images_at sequence (Clone x y z) = refl
   images_at sequence (Inflate x y) = refl
   images_at sequence (Coalesce x y) = refl

@@ -10,7 +10,7 @@ use Rattle.common_laws.proofs.Lists.{In-filter, In-map, In-map_at}
 use Rattle.sm_base.specs.Kinds.{is_image as is_data, is_entry}
 use Rattle.sm_base.specs.Names.{IsName}
 use Rattle.sm_base.specs.declared.names.Name.{Name}
-use Rattle.sm_base.specs.declared.names.Name.TheVariants.{Mgt, Vhd, Raw, Old, Inflate, Clone, Coalesce, Relink, Leaf}
+use Rattle.sm_base.specs.declared.names.Name.TheVariants.{Mgt, Vhd, Raw, Old, Cbt, Inflate, Clone, Coalesce, Relink, Leaf}
 use Rattle.vg_meta.specs.Tables.{VolumeTable, Row, IsTable, IsVolume, rows, row_of, names_of, name_eq}
 use Rattle.vg_meta.specs.Changes.{Permits, applied, cut_to, raised, with_row, without}
 use Rattle.vg_meta.specs.declared.changes.Change.{Change}
@@ -404,6 +404,7 @@ few_back t Mgt = omega arith
 few_back t (Vhd u) = omega arith
 few_back t (Raw u) = omega arith
 few_back t (Old u) = omega arith
+few_back t (Cbt u) = omega arith
 few_back t (Coalesce x y) = omega arith
 few_back t (Relink x y) = omega arith
 few_back t (Leaf x y) = omega arith

@@ -11,7 +11,7 @@ use Rattle.sm_base.specs.Kinds.{is_image as is_data, is_entry}
 use Rattle.sm_base.specs.declared.faults.Place.{Place}
 use Rattle.sm_base.specs.declared.faults.Place.TheVariants as at
 use Rattle.sm_base.specs.declared.names.Name.{Name}
-use Rattle.sm_base.specs.declared.names.Name.TheVariants.{Mgt, Vhd, Raw, Old, Clone, Inflate, Coalesce, Relink, Leaf}
+use Rattle.sm_base.specs.declared.names.Name.TheVariants.{Mgt, Vhd, Raw, Old, Cbt, Clone, Inflate, Coalesce, Relink, Leaf}
 use Rattle.vg_meta.specs.Changes.{without}
 use Rattle.vg_meta.specs.Tables.{VolumeTable, Row, rows}
 use Rattle.vg_meta.proofs.RowLaws.{All-without}
@@ -98,6 +98,7 @@ module _ (o : Outline) (quiet : (n : Name) → is_folding n ≡ true → o.links
   tree_as r Mgt = refl
   tree_as r (Raw v) = refl
   tree_as r (Old v) = refl
+  tree_as r (Cbt v) = refl
   tree_as r (Clone x y z) = refl
   tree_as r (Inflate x y) = refl
   tree_as r (Coalesce x y) = refl
@@ -114,6 +115,7 @@ module _ (o : Outline) (quiet : (n : Name) → is_folding n ≡ true → o.links
   wrong_as r Mgt = refl
   wrong_as r (Raw v) = refl
   wrong_as r (Old v) = refl
+  wrong_as r (Cbt v) = refl
   wrong_as r (Clone x y z) = refl
   wrong_as r (Inflate x y) = refl
   wrong_as r (Coalesce x y) = refl
@@ -137,6 +139,7 @@ module _ (o : Outline) (quiet : (n : Name) → is_folding n ≡ true → o.links
   linked_as (Clone disk base twin) simple = fork_bare disk base twin
   linked_as Mgt simple = refl
   linked_as (Vhd v) simple = refl
+  linked_as (Cbt v) simple = refl
   linked_as (Raw v) simple = refl
   linked_as (Inflate x y) simple = refl
   linked_as _ simple = absurd (true≢false (sym simple))
@@ -153,6 +156,7 @@ module _ (o : Outline) (quiet : (n : Name) → is_folding n ≡ true → o.links
   forked_bare u (Vhd x) p = refl
   forked_bare u (Raw x) p = refl
   forked_bare u (Old x) p = refl
+  forked_bare u (Cbt x) p = refl
   forked_bare u (Inflate x y) p = refl
   forked_bare u (Coalesce x y) p = refl
   forked_bare u (Relink x y) p = refl
@@ -203,6 +207,7 @@ module _ (o : Outline) (quiet : (n : Name) → is_folding n ≡ true → o.links
     stage_to (Inflate u extents) simple is = inflating_bare e f t sequence u extents ∙ is
     stage_to Mgt simple is = refl
     stage_to (Vhd v) simple is = refl
+    stage_to (Cbt v) simple is = refl
     stage_to (Raw v) simple is = refl
     stage_to _ simple is = absurd (true≢false (sym simple))
 
@@ -219,6 +224,7 @@ module _ (o : Outline) (quiet : (n : Name) → is_folding n ≡ true → o.links
     stage_from (Inflate u extents) simple apart is = sym (inflating_bare e f t sequence u extents) ∙ is
     stage_from Mgt simple apart is = refl
     stage_from (Vhd v) simple apart is = refl
+    stage_from (Cbt v) simple apart is = refl
     stage_from (Raw v) simple apart is = refl
     stage_from _ simple apart is = absurd (true≢false (sym simple))
 

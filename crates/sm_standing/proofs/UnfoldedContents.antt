@@ -7,7 +7,7 @@ use Rattle.std.proofs.lemmas.Bool.{true≢false}
 use Rattle.common_laws.specs.Lists.{In, numbers, ◌>>=◌}
 use Rattle.sm_base.specs.Kinds.{is_image as is_data, is_entry}
 use Rattle.sm_base.specs.declared.names.Name.{Name}
-use Rattle.sm_base.specs.declared.names.Name.TheVariants.{Mgt, Vhd, Raw, Old, Clone, Inflate, Coalesce, Relink, Leaf}
+use Rattle.sm_base.specs.declared.names.Name.TheVariants.{Mgt, Vhd, Raw, Old, Cbt, Clone, Inflate, Coalesce, Relink, Leaf}
 use Rattle.vg_meta.specs.Changes.{without}
 use Rattle.vg_meta.specs.Tables.{VolumeTable, Row, extents_of, rows}
 use Rattle.vg_volumes.specs.Volumes.{piece, span}
@@ -70,6 +70,7 @@ module _ (c : Content) (e : Name) (f : IsFold e) (sequence : ℕ) where
   images_bare (Raw u) = ap raw_by (rows_bare e f t sequence (Raw u) refl)
   images_bare Mgt = refl
   images_bare (Old v) = refl
+  images_bare (Cbt v) = refl
   images_bare (Clone x y z) = refl
   images_bare (Inflate x y) = refl
   images_bare (Coalesce x y) = refl

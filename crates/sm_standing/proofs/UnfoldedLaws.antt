@@ -9,7 +9,7 @@ use Rattle.common_laws.specs.Lists.{In}
 use Rattle.common_laws.proofs.Lists.{find-some}
 use Rattle.sm_base.specs.Kinds.{is_image as is_data, is_entry}
 use Rattle.sm_base.specs.declared.names.Name.{Name}
-use Rattle.sm_base.specs.declared.names.Name.TheVariants.{Mgt, Vhd, Raw, Old, Clone, Inflate, Coalesce, Relink, Leaf}
+use Rattle.sm_base.specs.declared.names.Name.TheVariants.{Mgt, Vhd, Raw, Old, Cbt, Clone, Inflate, Coalesce, Relink, Leaf}
 use Rattle.vg_meta.specs.Changes.{without}
 use Rattle.vg_meta.specs.Tables.{VolumeTable, Row, name_eq, names_of, row_of, rows}
 use Rattle.vg_meta.proofs.NameLaws.{name_eq-false, name_eq-other, name_eq-true}
@@ -196,6 +196,7 @@ module _ (e : Name) (f : IsFold e) (t : VolumeTable) (sequence : ℕ) where
   twin_bare (Raw u) = ap is_some (rows_bare (Vhd u) refl)
   twin_bare Mgt = refl
   twin_bare (Old u) = refl
+  twin_bare (Cbt u) = refl
   twin_bare (Clone x y z) = refl
   twin_bare (Inflate x y) = refl
   twin_bare (Coalesce x y) = refl

@@ -8,7 +8,7 @@ use Rattle.std.proofs.lemmas.Bool.{true≢false}
 use Rattle.sm_base.specs.Names.{name_cmp}
 use Rattle.sm_base.proofs.OrderLemmas.{name_cmp_total}
 use Rattle.sm_base.specs.declared.names.Name.{Name}
-use Rattle.sm_base.specs.declared.names.Name.TheVariants.{Mgt, Vhd, Raw, Old, Clone, Inflate, Coalesce, Relink, Leaf}
+use Rattle.sm_base.specs.declared.names.Name.TheVariants.{Mgt, Vhd, Raw, Old, Cbt, Clone, Inflate, Coalesce, Relink, Leaf}
 use Rattle.vg_meta.specs.Changes.{Permits, applied, changed, cut_to, put, put_some, raised, renamed, tagged, with_row, without}
 use Rattle.vg_meta.specs.declared.changes.Change.{Change}
 use Rattle.vg_meta.specs.declared.changes.Change.TheVariants.{Create, Remove, Rename, Grow, Cut, Mark}
@@ -38,6 +38,7 @@ AllSpare cs = AllByRecursion Spares cs
 pub plain_apart : (n : Name) → is_plain_name n ≡ true → is_folding n ≡ false
 plain_apart Mgt is = refl
 plain_apart (Vhd u) is = refl
+plain_apart (Cbt u) is = refl
 plain_apart (Raw u) is = refl
 plain_apart _ is = absurd (true≢false (sym is))
 
@@ -52,6 +53,7 @@ under_plain (Raw b) u = refl
 under_plain Mgt u = refl
 under_plain (Vhd x) u = refl
 under_plain (Old x) u = refl
+under_plain (Cbt x) u = refl
 under_plain (Clone x y z) u = refl
 under_plain (Inflate x y) u = refl
 under_plain (Coalesce x y) u = refl
@@ -77,6 +79,7 @@ spare_back t Mgt = tt
 spare_back t (Vhd x) = tt
 spare_back t (Raw x) = tt
 spare_back t (Old x) = tt
+spare_back t (Cbt x) = tt
 spare_back t (Coalesce x y) = tt
 spare_back t (Relink x y) = tt
 spare_back t (Leaf x y) = tt
@@ -208,7 +211,7 @@ module _ (e : Name) (f : IsFold e) where
   permits_with count sequence t (Remove n) one may = record { row = may.row; there = sym (row_bare t.volumes n one) ∙ may.there; not_mgt = may.not_mgt }
   permits_with count sequence t (Cut n k) one may =
       record { row = may.row; there = sym (row_bare t.volumes n one) ∙ may.there; image = may.image; some_kept = may.some_kept; some_gone = may.some_gone }
-  permits_with count sequence t (Mark n tag on) one may = record { row = may.row; there = sym (row_bare t.volumes n one) ∙ may.there; image = may.image; otherwise = may.otherwise }
+  permits_with count sequence t (Mark n tag on) one may = record { row = may.row; there = sym (row_bare t.volumes n one) ∙ may.there; taking = may.taking; otherwise = may.otherwise }
   permits_with count sequence t (Rename n m) one may = record {
     row = may.row;
     there = sym (row_bare t.volumes n one.0) ∙ may.there;
@@ -277,6 +280,7 @@ module _ (e : Name) (f : IsFold e) where
   back_bare sequence t (Vhd x) = refl
   back_bare sequence t (Raw x) = refl
   back_bare sequence t (Old x) = refl
+  back_bare sequence t (Cbt x) = refl
   back_bare sequence t (Coalesce x y) = refl
   back_bare sequence t (Relink x y) = refl
   back_bare sequence t (Leaf x y) = refl

@@ -2,7 +2,7 @@
 -- itself (this project's format). Entries and old leaves, of which there are few, are looked at one by one.
 use Rattle.std.specs.Prelude.{◌≡◌, ℕ, ◌≤◌, Bool, true, false, List, length, Some, None}
 use Rattle.sm_base.specs.declared.names.Name.{Name}
-use Rattle.sm_base.specs.declared.names.Name.TheVariants.{Mgt, Vhd, Raw, Old, Clone, Inflate, Coalesce, Relink, Leaf}
+use Rattle.sm_base.specs.declared.names.Name.TheVariants.{Mgt, Vhd, Raw, Old, Cbt, Clone, Inflate, Coalesce, Relink, Leaf}
 use Rattle.common_laws.specs.Lists.{In}
 use Rattle.vg_meta.specs.Tables.{Row, rows}
 use Rattle.sm_standing.specs.Apart.{is_apart}
@@ -21,6 +21,7 @@ pub record PassesAlone (o : Outline) (r : Row) : Type 0 where
 -- the volume of records, or a VHD or raw image of none of the UUIDs
 abbrev pub is_settled_name : List (List ℕ) → Name → Bool
 is_settled_name us Mgt = true
+is_settled_name us (Cbt u) = true
 is_settled_name us (Vhd u) = is_apart us (Vhd u)
 is_settled_name us (Raw u) = is_apart us (Raw u)
 is_settled_name us (Old u) = false

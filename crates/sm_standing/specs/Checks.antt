@@ -20,7 +20,7 @@ use Rattle.sm_base.specs.Names.{name_cmp}
 use Rattle.sm_base.specs.declared.faults.Place.{Place}
 use Rattle.sm_base.specs.declared.faults.Place.TheVariants as at
 use Rattle.sm_base.specs.declared.names.Name.{Name}
-use Rattle.sm_base.specs.declared.names.Name.TheVariants.{Mgt, Vhd, Raw, Old, Clone, Inflate, Coalesce, Relink, Leaf}
+use Rattle.sm_base.specs.declared.names.Name.TheVariants.{Mgt, Vhd, Raw, Old, Cbt, Clone, Inflate, Coalesce, Relink, Leaf}
 use Rattle.vg_layout.specs.Places.{record_extents}
 use Rattle.sm_base.specs.Kinds.{is_image as is_data, is_entry}
 use Rattle.vg_meta.specs.Tables.{VolumeTable, Row, rows}
@@ -70,6 +70,7 @@ has_twin t (Vhd u) = is_there t (Raw u)
 has_twin t (Raw u) = is_there t (Vhd u)
 has_twin t Mgt = false
 has_twin t (Old u) = false
+has_twin t (Cbt u) = false
 has_twin t (Clone disk base twin) = false
 has_twin t (Inflate image extents) = false
 has_twin t (Coalesce child parent) = false
@@ -103,6 +104,7 @@ lost_entry_fault o = placed at.Journal (first_name (is_lost o.table) o.table.vol
 
 abbrev pub is_orphaned : VolumeTable → Name → Bool
 is_orphaned t (Old u) = not (list_any (is_old_of t u) (folding t))
+is_orphaned t (Cbt u) = false
 is_orphaned t Mgt = false
 is_orphaned t (Vhd u) = false
 is_orphaned t (Raw u) = false
@@ -126,6 +128,7 @@ is_image_wrong o r (Vhd u) = is_none (o.links (Vhd u))
 is_image_wrong o r (Raw u) = is_oversize o.extent o.block o.entries r
 is_image_wrong o r Mgt = false
 is_image_wrong o r (Old u) = false
+is_image_wrong o r (Cbt u) = false
 is_image_wrong o r (Clone disk base twin) = false
 is_image_wrong o r (Inflate image extents) = false
 is_image_wrong o r (Coalesce child parent) = false
@@ -187,6 +190,7 @@ tree_wrong_as o r (Vhd u) = is_misplaced o r (o.links (Vhd u))
 tree_wrong_as o r Mgt = false
 tree_wrong_as o r (Raw u) = false
 tree_wrong_as o r (Old u) = false
+tree_wrong_as o r (Cbt u) = false
 tree_wrong_as o r (Clone disk base twin) = false
 tree_wrong_as o r (Inflate image extents) = false
 tree_wrong_as o r (Coalesce child parent) = false
@@ -255,6 +259,7 @@ is_entry_linked o Mgt = true
 is_entry_linked o (Vhd u) = true
 is_entry_linked o (Raw u) = true
 is_entry_linked o (Old u) = true
+is_entry_linked o (Cbt u) = true
 is_entry_linked o (Inflate image extents) = true
 
 -- the first journal entry, by name, whose images are not linked as its stage wants
@@ -324,6 +329,7 @@ is_leaf_entry Mgt = false
 is_leaf_entry (Vhd u) = false
 is_leaf_entry (Raw u) = false
 is_leaf_entry (Old u) = false
+is_leaf_entry (Cbt u) = false
 is_leaf_entry (Clone disk base twin) = false
 is_leaf_entry (Inflate image extents) = false
 is_leaf_entry (Coalesce child parent) = false

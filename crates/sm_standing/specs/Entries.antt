@@ -6,7 +6,7 @@ use Rattle.std.specs.Int.{w64, from_be_bytes}
 use Rattle.std.specs.Str.{bytes_eq}
 use Rattle.sm_base.specs.Names.{is_base}
 use Rattle.sm_base.specs.declared.names.Name.{Name}
-use Rattle.sm_base.specs.declared.names.Name.TheVariants.{Mgt, Vhd, Raw, Old, Clone, Inflate, Coalesce, Relink, Leaf}
+use Rattle.sm_base.specs.declared.names.Name.TheVariants.{Mgt, Vhd, Raw, Old, Cbt, Clone, Inflate, Coalesce, Relink, Leaf}
 use Rattle.vg_meta.specs.Tables.{VolumeTable, Row, rows, names_of}
 
 -- ---- volumes as the entries speak of them
@@ -58,6 +58,7 @@ is_folding Mgt = false
 is_folding (Vhd u) = false
 is_folding (Raw u) = false
 is_folding (Old u) = false
+is_folding (Cbt u) = false
 is_folding (Clone disk base twin) = false
 is_folding (Inflate image extents) = false
 
@@ -69,6 +70,7 @@ is_making Mgt = false
 is_making (Vhd u) = false
 is_making (Raw u) = false
 is_making (Old u) = false
+is_making (Cbt u) = false
 is_making (Coalesce child parent) = false
 is_making (Relink child parent) = false
 is_making (Leaf leaf parent) = false
@@ -111,6 +113,7 @@ uuids_in Mgt = []
 uuids_in (Vhd u) = u ∷ []
 uuids_in (Raw u) = u ∷ []
 uuids_in (Old u) = u ∷ []
+uuids_in (Cbt u) = []
 uuids_in (Clone disk base twin) = disk ∷ base ∷ twin ∷ []
 uuids_in (Inflate image extents) = image ∷ []
 uuids_in (Coalesce child parent) = child ∷ parent ∷ []
@@ -189,6 +192,7 @@ is_at_stage t Mgt = true
 is_at_stage t (Vhd u) = true
 is_at_stage t (Raw u) = true
 is_at_stage t (Old u) = true
+is_at_stage t (Cbt u) = true
 is_at_stage t (Clone disk base twin) = is_forking t disk base twin
 is_at_stage t (Inflate image extents) = is_inflating t image extents
 is_at_stage t (Coalesce child parent) = is_coalescing t child parent
@@ -202,6 +206,7 @@ is_old_of t u Mgt = false
 is_old_of t u (Vhd v) = false
 is_old_of t u (Raw v) = false
 is_old_of t u (Old v) = false
+is_old_of t u (Cbt v) = false
 is_old_of t u (Clone disk base twin) = false
 is_old_of t u (Inflate image extents) = false
 is_old_of t u (Coalesce child parent) = false

@@ -3,7 +3,7 @@
 -- parent: a turn. A sector past an image's own size is zeros. A raw image holds each of its sectors.
 use Rattle.std.specs.Prelude.{ℕ, ◌*◌, zero, suc, nat_lt, List, length, map, [], Option, Some, None, if◌then◌else◌}
 use Rattle.sm_base.specs.declared.names.Name.{Name}
-use Rattle.sm_base.specs.declared.names.Name.TheVariants.{Mgt, Vhd, Raw, Old, Clone, Inflate, Coalesce, Relink, Leaf}
+use Rattle.sm_base.specs.declared.names.Name.TheVariants.{Mgt, Vhd, Raw, Old, Cbt, Clone, Inflate, Coalesce, Relink, Leaf}
 use Rattle.sm_disk.specs.Sectors.{zeros}
 use Rattle.vg_meta.specs.Tables.{Row}
 use Rattle.common_laws.specs.Lists.{numbers, ◌>>=◌}
@@ -27,6 +27,7 @@ image_extents entries n all = elim (head entries) [ None ↦ all | Some e ↦ en
     entry_extents (Vhd u) n all = all
     entry_extents (Raw u) n all = all
     entry_extents (Old u) n all = all
+    entry_extents (Cbt u) n all = all
     entry_extents (Clone disk base twin) n all = all
     entry_extents (Coalesce child parent) n all = all
     entry_extents (Relink child parent) n all = all
@@ -50,6 +51,7 @@ image_of c (Vhd u) = do
   if r.fresh then None else vhd_image c (Vhd u) r
 image_of c Mgt = None
 image_of c (Old u) = None
+image_of c (Cbt u) = None
 image_of c (Clone disk base twin) = None
 image_of c (Inflate image extents) = None
 image_of c (Coalesce child parent) = None

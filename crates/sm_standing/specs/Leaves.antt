@@ -3,7 +3,7 @@
 use Rattle.std.specs.Prelude.{◌≡◌, ℕ, List, [], ◌∷◌, take, Option, None, Some, if◌then◌else◌}
 use Rattle.common_laws.specs.Lists.{◌>>=◌}
 use Rattle.sm_base.specs.declared.names.Name.{Name}
-use Rattle.sm_base.specs.declared.names.Name.TheVariants.{Mgt, Vhd, Raw, Old, Clone, Inflate, Coalesce, Relink, Leaf}
+use Rattle.sm_base.specs.declared.names.Name.TheVariants.{Mgt, Vhd, Raw, Old, Cbt, Clone, Inflate, Coalesce, Relink, Leaf}
 use Rattle.sm_base.specs.Numbers.{IsGeometry}
 use Rattle.vg_meta.specs.Tables.{IsTable, VolumeTable, name_eq}
 use Rattle.sm_standing.specs.Checks.{first_fault}
@@ -42,6 +42,7 @@ from_leaf t (Some Mgt) n = Some n
 from_leaf t (Some (Vhd u)) n = Some n
 from_leaf t (Some (Raw u)) n = Some n
 from_leaf t (Some (Old u)) n = Some n
+from_leaf t (Some (Cbt u)) n = Some n
 from_leaf t (Some (Clone disk base twin)) n = Some n
 from_leaf t (Some (Inflate image extents)) n = Some n
 from_leaf t (Some (Coalesce child parent)) n = Some n

@@ -12,7 +12,7 @@ use Rattle.std.specs.Prelude.{ℕ, not, nat_lt, Bool, false, List, [], ◌∷◌
 use Rattle.std.specs.List.{filter}
 use Rattle.std.specs.Str.{bytes_eq}
 use Rattle.sm_base.specs.declared.names.Name.{Name}
-use Rattle.sm_base.specs.declared.names.Name.TheVariants.{Mgt, Vhd, Raw, Old, Clone, Inflate, Coalesce, Relink, Leaf}
+use Rattle.sm_base.specs.declared.names.Name.TheVariants.{Mgt, Vhd, Raw, Old, Cbt, Clone, Inflate, Coalesce, Relink, Leaf}
 use Rattle.vg_meta.specs.Changes.{applied}
 use Rattle.vg_meta.specs.Tables.{Row, VolumeTable, name_eq, rows}
 use Rattle.vg_meta.specs.declared.changes.Change.{Change}
@@ -44,6 +44,7 @@ under_name (Raw b) u = Raw u
 under_name Mgt u = Vhd u
 under_name (Vhd v) u = Vhd u
 under_name (Old v) u = Vhd u
+under_name (Cbt v) u = Vhd u
 under_name (Clone disk base twin) u = Vhd u
 under_name (Inflate image extents) u = Vhd u
 under_name (Coalesce child parent) u = Vhd u
@@ -64,6 +65,7 @@ changes_back t Mgt = []
 changes_back t (Vhd u) = []
 changes_back t (Raw u) = []
 changes_back t (Old u) = []
+changes_back t (Cbt u) = []
 changes_back t (Coalesce child parent) = []
 changes_back t (Relink child parent) = []
 changes_back t (Leaf leaf parent) = []
@@ -86,6 +88,7 @@ parent_changes t parent (Some Mgt) = []
 parent_changes t parent (Some (Vhd u)) = []
 parent_changes t parent (Some (Raw u)) = []
 parent_changes t parent (Some (Old u)) = []
+parent_changes t parent (Some (Cbt u)) = []
 parent_changes t parent (Some (Clone disk base twin)) = []
 parent_changes t parent (Some (Coalesce child above)) = []
 parent_changes t parent (Some (Relink child above)) = []
@@ -111,6 +114,7 @@ changes_ending t (Some Mgt) = Remove Mgt ∷ []
 changes_ending t (Some (Vhd u)) = Remove (Vhd u) ∷ []
 changes_ending t (Some (Raw u)) = Remove (Raw u) ∷ []
 changes_ending t (Some (Old u)) = Remove (Old u) ∷ []
+changes_ending t (Some (Cbt u)) = Remove (Cbt u) ∷ []
 changes_ending t (Some (Clone disk base twin)) = Remove (Clone disk base twin) ∷ []
 changes_ending t (Some (Inflate image extents)) = Remove (Inflate image extents) ∷ []
 changes_ending t (Some (Coalesce child parent)) = Remove (Coalesce child parent) ∷ []
@@ -143,6 +147,7 @@ linked_by t (Some Mgt) s = s
 linked_by t (Some (Vhd u)) s = s
 linked_by t (Some (Raw u)) s = s
 linked_by t (Some (Old u)) s = s
+linked_by t (Some (Cbt u)) s = s
 linked_by t (Some (Clone disk base twin)) s = s
 linked_by t (Some (Inflate image extents)) s = s
 linked_by t (Some (Coalesce child parent)) s = s

@@ -4,13 +4,14 @@
 use Rattle.std.specs.Prelude.{◌≡◌, Bool, true, false}
 use Rattle.std.specs.List.{AllByRecursion}
 use Rattle.sm_base.specs.declared.names.Name.{Name}
-use Rattle.sm_base.specs.declared.names.Name.TheVariants.{Mgt, Vhd, Raw, Old, Clone, Inflate, Coalesce, Relink, Leaf}
+use Rattle.sm_base.specs.declared.names.Name.TheVariants.{Mgt, Vhd, Raw, Old, Cbt, Clone, Inflate, Coalesce, Relink, Leaf}
 use Rattle.vg_meta.specs.Tables.{Row, VolumeTable}
 
 abbrev pub is_plain_name : Name → Bool
 is_plain_name Mgt = true
 is_plain_name (Vhd u) = true
 is_plain_name (Raw u) = true
+is_plain_name (Cbt u) = true
 is_plain_name (Old u) = false
 is_plain_name (Clone disk base twin) = false
 is_plain_name (Inflate image extents) = false
@@ -30,6 +31,7 @@ abbrev pub is_simple_name : Name → Bool
 is_simple_name Mgt = true
 is_simple_name (Vhd u) = true
 is_simple_name (Raw u) = true
+is_simple_name (Cbt u) = true
 is_simple_name (Clone disk base twin) = true
 is_simple_name (Inflate image extents) = true
 is_simple_name (Old u) = false

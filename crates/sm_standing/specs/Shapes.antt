@@ -2,7 +2,7 @@
 -- project's format).
 use Rattle.std.specs.Prelude.{◌≡◌, ℕ, List, [], length, map, Option, Some, None}
 use Rattle.std.specs.List.{filter_map, sum}
-use Rattle.sm_base.specs.declared.operations.Op.TheVariants.{Idle}
+use Rattle.sm_machine.specs.Operations.{Idle}
 use Rattle.vg_meta.specs.Tables.{Row}
 use Rattle.sm_machine.specs.Disks.{Disk}
 use Rattle.sm_machine.specs.Shapes.{Shape, ImageRow, DiskRecord}

@@ -8,7 +8,7 @@ use Rattle.std.specs.List.{filter_map, find, flat_map}
 use Rattle.std.specs.Str.{bytes_eq}
 use Rattle.common_laws.specs.Lists.{In, ◌>>=◌}
 use Rattle.sm_base.specs.declared.names.Name.{Name}
-use Rattle.sm_base.specs.declared.names.Name.TheVariants.{Mgt, Vhd, Raw, Old, Clone, Inflate, Coalesce, Relink, Leaf}
+use Rattle.sm_base.specs.declared.names.Name.TheVariants.{Mgt, Vhd, Raw, Old, Cbt, Clone, Inflate, Coalesce, Relink, Leaf}
 use Rattle.vg_meta.specs.Tables.{VolumeTable}
 use Rattle.sm_machine.specs.Disks.{Disk, uuid_before}
 use Rattle.sm_record.specs.declared.records.Record.{Record}
@@ -30,6 +30,7 @@ stands_forked t Mgt u plainly = plainly
 stands_forked t (Vhd v) u plainly = plainly
 stands_forked t (Raw v) u plainly = plainly
 stands_forked t (Old v) u plainly = plainly
+stands_forked t (Cbt v) u plainly = plainly
 stands_forked t (Inflate image extents) u plainly = plainly
 stands_forked t (Coalesce child parent) u plainly = plainly
 stands_forked t (Relink child parent) u plainly = plainly
@@ -45,6 +46,7 @@ stands_folded t Mgt u plainly = plainly
 stands_folded t (Vhd v) u plainly = plainly
 stands_folded t (Raw v) u plainly = plainly
 stands_folded t (Old v) u plainly = plainly
+stands_folded t (Cbt v) u plainly = plainly
 stands_folded t (Clone disk base twin) u plainly = plainly
 stands_folded t (Inflate image extents) u plainly = plainly
 stands_folded t (Coalesce child parent) u plainly = plainly
@@ -69,6 +71,7 @@ candidates (Clone disk base twin) = disk ∷ []
 candidates (Leaf leaf parent) = leaf ∷ []
 candidates Mgt = []
 candidates (Old u) = []
+candidates (Cbt u) = []
 candidates (Inflate image extents) = []
 candidates (Coalesce child parent) = []
 candidates (Relink child parent) = []

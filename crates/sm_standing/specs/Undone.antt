@@ -3,7 +3,7 @@
 use Rattle.std.specs.Prelude.{◌≡◌, ℕ, ◌*◌, ◌<◌, ◌≤◌, ◌||◌, false, List, [], ◌∷◌, length, take, Option, None, Some, if◌then◌else◌}
 use Rattle.common_laws.specs.Lists.{◌>>=◌}
 use Rattle.sm_base.specs.declared.names.Name.{Name}
-use Rattle.sm_base.specs.declared.names.Name.TheVariants.{Mgt, Vhd, Raw, Old, Clone, Inflate, Coalesce, Relink, Leaf}
+use Rattle.sm_base.specs.declared.names.Name.TheVariants.{Mgt, Vhd, Raw, Old, Cbt, Clone, Inflate, Coalesce, Relink, Leaf}
 use Rattle.vg_meta.specs.Changes.{Permits, applied}
 use Rattle.vg_meta.specs.Tables.{Row, VolumeTable, name_eq, rows}
 use Rattle.vg_meta.specs.declared.changes.Change.{Change}
@@ -36,6 +36,7 @@ from_entry t Mgt n = Some n
 from_entry t (Vhd u) n = Some n
 from_entry t (Raw u) n = Some n
 from_entry t (Old u) n = Some n
+from_entry t (Cbt u) n = Some n
 from_entry t (Inflate image extents) n = Some n
 from_entry t (Coalesce child parent) n = Some n
 from_entry t (Relink child parent) n = Some n
