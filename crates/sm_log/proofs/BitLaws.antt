@@ -1,5 +1,5 @@
 -- Bits that are set, and bits of two lists together.
-use Rattle.std.proofs.Common.{◌≡◌, ◌≢◌, ℕ, zero, suc, ◌<◌, ◌||◌, Bool, true, false, List, [], ◌∷◌, length, refl, sym, ap, ◌∙◌, inl, inr, arith, subst}
+use Rattle.std.proofs.Common.{◌≡◌, ◌≢◌, ℕ, zero, suc, ◌<◌, ◌≤◌, ◌||◌, Bool, true, false, List, [], ◌∷◌, length, refl, sym, ap, ◌∙◌, inl, inr, arith, subst}
 use Rattle.std.specs.List.{slice_set}
 use Rattle.common_laws.specs.Lists.{In}
 use Rattle.sm_log.specs.Logs.{Log, bit, marked, either, united}
@@ -81,9 +81,10 @@ unfolding marked
 marked-others [] bits k out = refl
 marked-others (j ∷ ks) bits k out = marked-others ks (slice_set bits j true) k (λ i. out (inr i)) ∙ set-other bits j k (λ e. out (inl e))
 
--- as many bits as each has
-pub length-either : (xs ys : List Bool) → length xs ≡ length ys → length (either xs ys) ≡ length xs
+-- as many bits as the first has, where the second has no more
+pub length-either : (xs ys : List Bool) → length ys ≤ length xs → length (either xs ys) ≡ length xs
 unfolding either
-length-either [] ys long = sym long
+length-either [] [] long = refl
+length-either [] (y ∷ ys) long = absurd (omega (arith, long))
 length-either (x ∷ xs) [] long = refl
 length-either (x ∷ xs) (y ∷ ys) long = ap suc (length-either xs ys (omega (arith, long)))

@@ -157,19 +157,19 @@ seen-set pieces first n end old new kept set e within =
         let far : first + n ≤ k = omega (arith, late, e) in
         marked-others (numbers first n) (bits_in pieces old) k (not_in first n k (inr far)) ∙ kept-bit pieces old kept k ∙ sym (set.behind k late)
 
-pub kept-either : (pieces : ℕ) (others old new : List ℕ) → AreKept pieces old → AreKept pieces others → AreEither others old new → AreKept pieces new
-kept-either pieces others old new kept there both = record {
+pub kept-either : (pieces less : ℕ) (others old new : List ℕ) → less ≤ pieces → AreKept pieces old → AreKept less others → AreEither others old new → AreKept pieces new
+kept-either pieces less others old new few kept there both = record {
   long = both.long ∙ kept.long;
-  clear = λ k far. both.bits k ∙ ap₂ (λ (x y : Bool). x || y) (kept.clear k far) (there.clear k far);
+  clear = λ k far. both.bits k ∙ ap₂ (λ (x y : Bool). x || y) (kept.clear k far) (there.clear k (omega (arith, few, far)));
 }
 
-pub seen-either : (pieces : ℕ) (others old new : List ℕ) → AreKept pieces old → AreKept pieces others → AreEither others old new
-    → bits_in pieces new ≡ either (bits_in pieces old) (bits_in pieces others)
-seen-either pieces others old new kept there both =
-    seen pieces new (either (bits_in pieces old) (bits_in pieces others))
-    (length-either (bits_in pieces old) (bits_in pieces others) (length-bits pieces old ∙ sym (length-bits pieces others)) ∙ length-bits pieces old)
-    (λ k w. bit-either (bits_in pieces old) (bits_in pieces others) k
-    ∙ ap₂ (λ (x y : Bool). x || y) (kept-bit pieces old kept k) (kept-bit pieces others there k) ∙ sym (both.bits k))
+pub seen-either : (pieces less : ℕ) (others old new : List ℕ) → less ≤ pieces → AreKept pieces old → AreKept less others → AreEither others old new
+    → bits_in pieces new ≡ either (bits_in pieces old) (bits_in less others)
+seen-either pieces less others old new few kept there both =
+    seen pieces new (either (bits_in pieces old) (bits_in less others))
+    (length-either (bits_in pieces old) (bits_in less others) (omega (arith, few, length-bits pieces old, length-bits less others)) ∙ length-bits pieces old)
+    (λ k w. bit-either (bits_in pieces old) (bits_in less others) k
+    ∙ ap₂ (λ (x y : Bool). x || y) (kept-bit pieces old kept k) (kept-bit less others there k) ∙ sym (both.bits k))
 
 -- a byte with the bits of two
 or_flag : (x y : ℕ) → x < 2 → y < 2 → eqb (max x y) 1 ≡ (eqb x 1 || eqb y 1)

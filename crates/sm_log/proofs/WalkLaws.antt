@@ -1,5 +1,5 @@
 -- Where the walk leads from one snapshot's log back to another's, each piece in which the two disks differ is in what it gives.
-use Rattle.std.proofs.Common.{◌≡◌, ◌≢◌, ℕ, zero, suc, ◌/◌, ◌==◌, Bool, true, false, List, [], ◌∷◌, length, replicate, Option, Some, None, refl, sym, ap, ◌∙◌, inl, inr, subst, if◌then◌else◌, ◌||◌}
+use Rattle.std.proofs.Common.{◌≡◌, ◌≢◌, ℕ, zero, suc, ◌/◌, ◌==◌, Bool, true, false, List, [], ◌∷◌, length, replicate, Option, Some, None, refl, sym, ap, ◌∙◌, inl, inr, subst, if◌then◌else◌, ◌||◌, arith}
 use Rattle.std.specs.List.{find}
 use Rattle.std.specs.Str.{bytes_eq}
 use Rattle.std.proofs.lemmas.Bool.{eqb-true, eq-eqb}
@@ -147,7 +147,7 @@ unfolding united
 united_long pieces [] h = length-replicate {A = Bool} pieces false
 united_long pieces (l ∷ ls) h =
     let rest : length (united (replicate pieces false) ls) ≡ pieces = united_long pieces ls (λ m i. h m (inr i)) in
-    length-either l.bits (united (replicate pieces false) ls) (h l (inl refl) ∙ sym rest) ∙ h l (inl refl)
+    length-either l.bits (united (replicate pieces false) ls) (omega (arith, h l (inl refl), rest)) ∙ h l (inl refl)
 
 -- what is answered has a bit for each piece
 pub changed_long : (logs : List Log) (u n : List ℕ) (pieces : ℕ) (bits : List Bool) → ((l : Log) → In l logs → length l.bits ≡ pieces)

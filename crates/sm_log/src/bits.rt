@@ -92,9 +92,9 @@ impl Bits {
         self.bytes.fill(0);
     }
 
-    /// Sets each bit that is set in the other.
+    /// Sets each bit that is set in the other, which is of no more pieces.
     pub fn add(&mut self, other: &Bits)
-        requires { length self.old ≡ length other.now }
+        requires { length other.now ≤ length self.old }
         ensures { self.new ≡ either self.old other.now }
     {
         unite(&mut self.bytes, &other.bytes);
@@ -234,7 +234,7 @@ fn take_all(bytes: &mut [u8], first: usize, end: usize, sector: &[u8; 512])
 
 /// Sets each bit that is set in the others.
 fn unite(bytes: &mut [u8], others: &[u8])
-    requires { length bytes.old ≡ length others.now }
+    requires { length others.now ≤ length bytes.old }
     ensures { AreEither others.now bytes.old bytes.new }
 {
     for i in 0..others.len() {
