@@ -1,13 +1,14 @@
 //! The lists of disks and of images.
 
-ghost use Rattle.std.specs.Prelude.{◌∷◌, map};
-ghost use Rattle.sm_machine.specs.Replies.{by_spaces, disk_text, image_text, op_text, reply_parts};
+ghost use Rattle.std.specs.Prelude.{◌≤◌, [], ◌∷◌, decimal, length, map};
+ghost use Rattle.sm_base.specs.Names.{spelling};
+ghost use Rattle.sm_machine.specs.Replies.{by_commas, by_spaces, disk_text, image_text, op_text, reply_parts};
 ghost use Rattle.sm_machine.specs.declared.replies.Reply.TheVariants as reply;
 ghost use Rattle.sm_script.specs.Pieces.{Writes, led};
 
 use crate::pieces::{write_joined, write_led};
 use crate::words::Word;
-use sm_base::{Failed, Op};
+use sm_base::{Failed, Name, Op};
 use sm_disk::{Sink, write_all};
 use sm_machine::{DiskRow, DiskRows, StatRow, StatRows};
 
@@ -79,15 +80,7 @@ fn write_op<K: Sink>(sink: &mut K, op: &Op) -> Result<(), Failed>
             child,
             parent,
             cursor,
-        } => {
-            let words = [
-                Word::text(b"copy"),
-                Word::name(child),
-                Word::name(parent),
-                Word::count(*cursor),
-            ];
-            write_joined(sink, b',', &words)
-        }
+        } => write_copying(sink, b"copy", child, parent, *cursor),
         Op::Relink { child, parent } => {
             let words = [Word::text(b"relink"), Word::name(child), Word::name(parent)];
             write_joined(sink, b',', &words)
@@ -96,16 +89,38 @@ fn write_op<K: Sink>(sink: &mut K, op: &Op) -> Result<(), Failed>
             leaf,
             parent,
             cursor,
+        } => write_copying(sink, b"leaf", leaf, parent, *cursor),
+        Op::Live {
+            leaf,
+            parent,
+            cursor,
+            dirty,
         } => {
-            let words = [
-                Word::text(b"leaf"),
-                Word::name(leaf),
-                Word::name(parent),
-                Word::count(*cursor),
-            ];
-            write_joined(sink, b',', &words)
+            write_copying(sink, b"live", leaf, parent, *cursor)?;
+            write_led(sink, b',', &[Word::count(*dirty)])
         }
     }
+}
+
+// Writes an operation that copies blocks: its name, the image whose blocks are copied, the image that gets them, and the cursor.
+fn write_copying<K: Sink>(
+    sink: &mut K,
+    word: &[u8],
+    from: &Name,
+    into: &Name,
+    cursor: u32,
+) -> Result<(), Failed>
+    requires { length word.now ≤ 128 }
+    ensures { Writes (by_commas (word.now ∷ spelling from.now ∷ spelling into.now ∷ decimal cursor ∷ []))
+        (K.content sink.old) (K.content sink.new) (K.faults sink.old) (K.faults sink.new) result }
+{
+    let words = [
+        Word::text(word),
+        Word::name(from),
+        Word::name(into),
+        Word::count(cursor),
+    ];
+    write_joined(sink, b',', &words)
 }
 
 // Writes a part for each image, with a space in front of it.

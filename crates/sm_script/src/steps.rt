@@ -27,6 +27,7 @@ pub fn write_plan<K: Sink>(sink: &mut K, plan: &Plan, op: &Op) -> Result<(), Fai
         Plan::Deflate { name, .. } => write_choice(sink, b"deflate", name),
         Plan::Begin { child, .. } => write_choice(sink, b"begin", child),
         Plan::Leaf { leaf, .. } => write_choice(sink, b"leaf", leaf),
+        Plan::Live { leaf, .. } => write_choice(sink, b"live", leaf),
         Plan::Blocked { need, free } => write_blocked(sink, *need, *free),
         Plan::Idle => write_alone(sink, b"idle"),
     }
@@ -53,6 +54,7 @@ fn volume_of(op: &Op) -> Option<&Name>
         Op::Copy { child, .. } => Some(child),
         Op::Relink { child, .. } => Some(child),
         Op::Leaf { leaf, .. } => Some(leaf),
+        Op::Live { leaf, .. } => Some(leaf),
     }
 }
 

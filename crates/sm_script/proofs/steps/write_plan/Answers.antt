@@ -44,6 +44,10 @@ pub returns-in-Leaf : goal.returns-in-Leaf
 unfolding reply_parts plan_parts
 returns-in-Leaf g c = Writes-same (ap (λ p. by_spaces (reply_parts (reply.Gc p c.args.op.now))) (sym c.in-Leaf.is)) c.write_choice-in-Leaf.ensures
 
+pub returns-in-Live : goal.returns-in-Live
+unfolding reply_parts plan_parts
+returns-in-Live g c = Writes-same (ap (λ p. by_spaces (reply_parts (reply.Gc p c.args.op.now))) (sym c.in-Live.is)) c.write_choice-in-Live.ensures
+
 pub returns-in-Blocked : goal.returns-in-Blocked
 unfolding reply_parts plan_parts
 returns-in-Blocked g c = Writes-same (ap (λ p. by_spaces (reply_parts (reply.Gc p c.args.op.now))) (sym c.in-Blocked.is)) c.write_blocked.ensures
