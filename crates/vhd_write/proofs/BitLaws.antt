@@ -110,6 +110,17 @@ only-then l M b x y only more = λ i on. ⊎_elim (λ same. only i (sym same ∙
 
 -- ---- all bitmaps
 
+-- a bit that is set stays set
+pub bits-stay : (l : Layout) (M : ℕ → Type 0) (m : Slots) (b p : ℕ) {a z : Held} → Reaches (PutsBitsAll l M m (reads a)) a z → HasBits l M b (reads a p) → HasBits l M b (reads z p)
+bits-stay l M m b p {a} {z} r set = λ i within here. by i (set i within here) (r.gives p)
+  where
+    more : (i : ℕ) → is_set (reads a p) i ≡ true → (c : ℕ) → HasMoreBits l M c (reads a p) (reads z p) → is_set (reads z p) i ≡ true
+    more i on c h = ⊎_elim (λ same. same ∙ on) (λ new. new.0) (h i)
+
+    by : (i : ℕ) → is_set (reads a p) i ≡ true → (reads z p ≡ reads a p) ⊎ PutsBitsAll l M m (reads a) p (reads z p) → is_set (reads z p) i ≡ true
+    by i on (inl same) = ap (λ x. is_set x i) same ∙ on
+    by i on (inr (c, k, has, h)) = more i on c h.more
+
 module _ (l : Layout) (M : ℕ → Type 0) (n : List (Option ℕ)) (good : IsMap n) where
   pub bits-reaches : (c : ℕ) {a y z : Held} → Reaches (PutsBitsAll l M (slot_of n) (reads a)) a y → Reaches (PutsBitsOf l M (slot_of n c) c (reads y)) y z → Reaches (PutsBitsAll l M (slot_of n) (reads a)) a z
   bits-reaches c {a} {y} {z} r s = Reaches-then r (Reaches-wider go s)

@@ -1,6 +1,7 @@
 -- A write into one block.
-use Rattle.std.proofs.Common.{◌≡◌, ℕ, ◌+◌, ◌-◌, ◌*◌, ◌/◌, ◌<◌, ◌≤◌, ◌⊎◌, Bool, List, length, Option, Some, None, is_some, refl, sym, ap, ◌∙◌, subst, inl, inr, ⊎_elim, arith}
-use Rattle.std.proofs.lemmas.Bool.{cases_eq}
+use Rattle.std.proofs.Common.{◌≡◌, ℕ, ◌+◌, ◌-◌, ◌*◌, ◌/◌, ◌<◌, ◌≤◌, ◌⊎◌, Bool, true, false, List, length, Option, Some, None, is_some, refl, sym, ap, ◌∙◌, subst, inl, inr, ⊎_elim, arith}
+use Rattle.std.specs.Bool.{OnFalse}
+use Rattle.std.proofs.lemmas.Bool.{cases_eq, true≢false}
 use Rattle.std.proofs.lemmas.Nat.{mul-add-lt}
 use Rattle.std.proofs.lemmas.Option.{none-some}
 use Rattle.sm_base.specs.declared.sizes.Geometry.{Geometry}
@@ -13,7 +14,7 @@ use Rattle.vhd_volumes.specs.declared.heads.Head.{Head}
 use Rattle.vhd_volumes.specs.Truth.{IsTrueOf, IsStanding, HasRoomFor, layout_in, disk_blocks}
 use Rattle.vhd_volumes.specs.Writes.{IsGuarded, KeepsHeads, HasWritten, with_block}
 use Rattle.vhd_write.specs.Marks.{IsMarkedIn, PutsMarkedIn}
-use Rattle.vhd_write.specs.Passes.{ArePut, HasBits, GoesOn, IsFinished, IsFull, IsPut, IsTableSector, PutsBitsAll, PutsBitsOf, PutsBlock, PutsData, PutsEntries, PutsTable}
+use Rattle.vhd_write.specs.Passes.{ArePut, AreSet, HasBits, GoesOn, IsFinished, IsFull, IsPut, IsTableSector, PutsBitsAll, PutsBitsOf, PutsBlock, PutsData, PutsEntries, PutsTable}
 use Rattle.vhd_write.specs.Spans.{Given}
 use Rattle.vhd_write.specs.WritePlaces.{IsWritePlace, KeepsToPlaces, Touches}
 use Rattle.vhd_write.proofs.ExitLaws.{ShowsAll, all-put, guarded-after, guarded-first, new-slots, shows-after, shows-first, table-after, true-after, true-first, written-after, written-first}
@@ -49,6 +50,12 @@ puts-first {l} {l'} b marks bytes m {x} {y} {z} e same r = Reaches-then (Reaches
 pub put-first : {l l' : Layout} (b : ℕ) (marks bytes : List ℕ) (o n : Option ℕ) (r : Sectors) → l' ≡ l → IsPut l' (PutsMarkedIn l'.block b marks bytes) (IsMarkedIn l'.block b marks) o n b r
     → IsPut l (PutsMarkedIn l.block b marks bytes) (IsMarkedIn l.block b marks) o n b r
 put-first {l} {l'} b marks bytes o n r e h = subst (λ q. IsPut q (PutsMarkedIn q.block b marks bytes) (IsMarkedIn q.block b marks) o n b r) e h
+
+-- a block that had no slot has a new one, which holds the bits of the given sectors
+pub put-set-one : {told : Type 0} {l : Layout} {W : ℕ → List ℕ → Type 0} {M : ℕ → Type 0} {n : Option ℕ} {b : ℕ} {r : Sectors} (held : Bool) (o : Option ℕ) → held ≡ is_some o → (told → IsPut l W M o n b r) → OnFalse held (told → AreSet l M n b r)
+put-set-one true o had put = tt
+put-set-one false None had put = λ told k has. ((put told).fresh k refl has).each
+put-set-one false (Some j) had put = absurd (true≢false (sym had))
 
 -- ---- what a write of the marked sectors of a block leaves at each of its returns
 

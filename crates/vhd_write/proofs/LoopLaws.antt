@@ -1,19 +1,19 @@
 -- The first pass, block by block.
 use Rattle.std.proofs.Common.{◌≡◌, ◌≢◌, ℕ, ◌+◌, ◌-◌, ◌*◌, ◌/◌, ◌<◌, ◌≤◌, ◌⊎◌, Bool, true, false, List, length, Option, Some, None, sym, ap, ◌∙◌, subst, inl, inr, ⊎_elim, arith}
-use Rattle.std.specs.Bool.{OnTrue}
+use Rattle.std.specs.Bool.{OnTrue, OnFalse}
 use Rattle.std.proofs.lemmas.Bool.{cases_lt, cases_eq, true≢false}
 use Rattle.std.proofs.Math.Nat.{div-mul-le_self}
 use Rattle.std.proofs.lemmas.Nat.{le-div, mul-le, mod_below, div-add-mod'}
-use Rattle.std.proofs.lemmas.Option.{none-some}
+use Rattle.std.proofs.lemmas.Option.{none-some, same_Some}
 use Rattle.sm_disk.specs.Held.{Held, IsIn, Puts, Reaches, reads}
 use Rattle.sm_disk.proofs.ReachesLaws.{Reaches-then, Reaches-wider}
 use Rattle.vhd_map.specs.Bitmaps.{is_set}
-use Rattle.vhd_map.specs.Slots.{slot_of, least_free_slot}
-use Rattle.vhd_map.proofs.SlotLemmas.{unused-no_block, least_free_slot-free}
+use Rattle.vhd_map.specs.Slots.{slot_of, top_of, least_free_slot}
+use Rattle.vhd_map.proofs.SlotLemmas.{unused-no_block, least_free_slot-free, top_of-past}
 use Rattle.vhd_layout.specs.Layouts.{Sectors, Layout, Slots, place, slot_count}
-use Rattle.vhd_layout.proofs.ImageLaws.{place-same}
-use Rattle.vhd_volumes.specs.Writes.{with_block}
-use Rattle.vhd_write.specs.Passes.{PutsSlot, PutsBlock, PutsData, IsPut, ArePut, IsFull}
+use Rattle.vhd_layout.proofs.ImageLaws.{option_cases, place-same}
+use Rattle.vhd_volumes.specs.Writes.{HasGrown, with_block}
+use Rattle.vhd_write.specs.Passes.{PutsSlot, PutsBlock, PutsData, IsPut, ArePut, AreAllNewSet, IsFull}
 use Rattle.vhd_write.specs.Spans.{IsSpan, Given}
 
 -- the first block is before the end
@@ -130,6 +130,16 @@ module _ (l : Layout) (W : ℕ → List ℕ → Type 0) (M : ℕ → Type 0) (fi
       (λ apart. subst (λ o. IsPut l W M (slot_of m b) o b (reads z)) (sym (others b apart)) (put_kept s b apart (before b (omega arith))))
       (cases_eq b c)
 
+-- a slot that is not below the top of the map before is new, and holds the bits of the given sectors
+pub put-set : {l : Layout} {W : ℕ → List ℕ → Type 0} {M : ℕ → Type 0} {m n : List (Option ℕ)} {end : ℕ} {r : Sectors} (first : ℕ) → HasGrown m n → ArePut l W M (slot_of m) (slot_of n) end r → AreAllNewSet l M (top_of m) (slot_of n) first end r
+put-set {l} {W} {M} {m} {n} {end} {r} first grown put = λ b low high k has new. ((put b high).fresh k (without b k has new) has).each
+  where
+    without : (b k : ℕ) → slot_of n b ≡ Some k → top_of m ≤ k → slot_of m b ≡ None
+    without b k has new = ⊎_elim
+        (λ none. none)
+        (λ had. absurd (omega (arith, new, top_of-past m b had.0 had.1, same_Some had.0 k (sym (grown.keeps b had.0 had.1) ∙ has))))
+        (option_cases (slot_of m b))
+
 -- one block more that is full
 pub full-more : (P : ℕ → Type 0) (first c : ℕ) → ((b : ℕ) → first ≤ b → b < c → P b) → P c → (b : ℕ) → first ≤ b → b < c + 1 → P b
 full-more P first c before here = λ b low high. ⊎_elim (λ same. subst P (sym same) here) (λ apart. before b low (omega arith)) (cases_eq b c)
@@ -143,3 +153,8 @@ full-as {told} l M b m {r} {r'} (k, has, bits) same =
 pub true_on : {P : Type 0} (b : Bool) → b ≡ true → OnTrue b P → P
 true_on true e p = p
 true_on false e p = absurd (true≢false (sym e))
+
+-- and on one that is false
+pub false_on : {P : Type 0} (b : Bool) → b ≡ false → OnFalse b P → P
+false_on true e p = absurd (true≢false e)
+false_on false e p = p

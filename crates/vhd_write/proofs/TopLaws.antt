@@ -13,13 +13,13 @@ use Rattle.vhd_layout.proofs.ImageLaws.{option_cases, layout-of}
 use Rattle.vhd_volumes.specs.declared.heads.Head.{Head}
 use Rattle.vhd_volumes.specs.Truth.{IsTrueOf, IsStanding, HasRoomFor, layout_in, disk_sectors, disk_blocks}
 use Rattle.vhd_volumes.specs.Writes.{IsGuarded, KeepsHeads, HasWritten, HasGrown, with_blocks, written_map}
-use Rattle.vhd_write.specs.Passes.{PutsData, ArePut, HasBits, IsFull, IsTableSector, GoesOn, IsFinished}
+use Rattle.vhd_write.specs.Passes.{PutsData, ArePut, AreAllNewSet, HasBits, IsFull, IsTableSector, GoesOn, IsFinished}
 use Rattle.vhd_write.specs.Spans.{IsSpan, Given}
 use Rattle.vhd_write.specs.WritePlaces.{IsWritePlace, KeepsToPlaces}
-use Rattle.vhd_write.specs.WriteSpans.{IsSpanOf}
+use Rattle.vhd_write.specs.WriteSpans.{AreNewSetIn, IsSpanOf}
 use Rattle.vhd_write.specs.declared.spans.Span.{Span}
 use Rattle.vhd_write.proofs.MapLaws.{with_blocks-held}
-use Rattle.vhd_write.proofs.LoopLaws.{span-order}
+use Rattle.vhd_write.proofs.LoopLaws.{span-order, put-set}
 use Rattle.vhd_write.proofs.GivenLaws.{IsGivenBy, IsWithin, given-puts, span-within}
 use Rattle.vhd_write.proofs.FirstLaws.{first-bitmap}
 use Rattle.vhd_write.proofs.RestLaws.{AllPut}
@@ -126,6 +126,10 @@ module _ {geo : Geometry} {n0 : ℕ} {head : Head} {m : List (Option ℕ)} {at :
 
         pub written-now : HasWritten l (Puts at from) old mid
         written-now = subst (λ x. HasWritten l (Puts x from) old mid) fits.sector (written-first l ok (Puts span.sector from) (IsIn span.sector (length from)) by head m old was r within shows)
+
+      -- new slots have the bits already
+      pub new-set : {l' : Layout} → l' ≡ layout_in geo head.footer n0 → AreNewSetIn l' span (top_of m) (slot_of n) (reads mid)
+      new-set {l'} same = subst₂ (λ y x. AreAllNewSet y (IsIn span.sector x) (top_of m) (slot_of n) span.first span.end (reads mid)) (sym same) long (put-set span.first given.grown put)
 
       -- ---- behind the sync
 

@@ -105,6 +105,14 @@ AreSet l M slot b r = (k : ℕ) → slot ≡ Some k → HasBits l M b (r (place 
 abbrev pub AreAllSet : Layout → (ℕ → Type 0) → Slots → ℕ → ℕ → Sectors → Type 0
 AreAllSet l M m first end r = (b : ℕ) → first ≤ b → b < end → AreSet l M (m b) b r
 
+-- where block b has a slot that is not below `fresh`, they are set there
+abbrev pub AreNewSet : Layout → (ℕ → Type 0) → ℕ → Option ℕ → ℕ → Sectors → Type 0
+AreNewSet l M fresh slot b r = (k : ℕ) → slot ≡ Some k → fresh ≤ k → HasBits l M b (r (place l k 0))
+
+-- so in each block from `first` to one before `end`
+abbrev pub AreAllNewSet : Layout → (ℕ → Type 0) → ℕ → Slots → ℕ → ℕ → Sectors → Type 0
+AreAllNewSet l M fresh m first end r = (b : ℕ) → first ≤ b → b < end → AreNewSet l M fresh (m b) b r
+
 -- block b has a slot, and the bits of the given sectors are set there
 abbrev pub IsFull : Type 0 → Layout → (ℕ → Type 0) → Slots → ℕ → Sectors → Type 0
 IsFull told l M m b r = (k : ℕ) × (m b ≡ Some k) × (told → HasBits l M b (r (place l k 0)))

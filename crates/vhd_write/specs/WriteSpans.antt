@@ -9,7 +9,7 @@ use Rattle.vhd_map.specs.Slots.{slot_of}
 use Rattle.vhd_volumes.specs.declared.heads.Head.{Head}
 use Rattle.vhd_volumes.specs.Truth.{disk_blocks, layout_now}
 use Rattle.vhd_layout.specs.Layouts.{Layout, Slots, Sectors}
-use Rattle.vhd_write.specs.Passes.{IsFull, AreAllSet, IsFinished}
+use Rattle.vhd_write.specs.Passes.{IsFull, AreAllSet, AreAllNewSet, IsFinished}
 use Rattle.vhd_write.specs.declared.spans.Span.{Span}
 
 -- the span of a write of so many bytes, from this sector on, into the disk with this footer
@@ -31,6 +31,10 @@ AreFullNow g s head span m = (b : ℕ) → span.first ≤ b → b < span.end →
 -- in each block of the span the bits of the written sectors are set
 abbrev pub AreSetIn : Layout → Span → Slots → Sectors → Type 0
 AreSetIn l span m r = AreAllSet l (IsIn span.sector (512 * span.count)) m span.first span.end r
+
+-- in each block of the span with a slot that is not below `fresh` they are
+abbrev pub AreNewSetIn : Layout → Span → ℕ → Slots → Sectors → Type 0
+AreNewSetIn l span fresh m r = AreAllNewSet l (IsIn span.sector (512 * span.count)) fresh m span.first span.end r
 
 -- the write with this span is finished
 abbrev pub IsFinishedIn : Layout → Span → Slots → Bool → Held → Held → Type 0

@@ -12,7 +12,7 @@
 //! 1. Block by block, in rising order: where the block has a slot the bytes go into it; where it has none they go into
 //!    the map's least free slot, whose bitmap is put too, with the bits of just these sectors. No table names that slot
 //!    yet, and no bitmap of a slot in use has a new bit.
-//! 2. After the sync, the bits of the written sectors are set in the bitmaps of blocks that had a slot.
+//! 2. After the sync, the bits of the written sectors are set in the bitmaps of blocks that had a slot. Those of new slots are not read again.
 //! 3. Where a block is new, the sectors of the block allocation table with the blocks' entries are written from the map
 //!    in memory, and not read.
 //!
@@ -33,8 +33,9 @@
 //!
 //! **What it costs.** No memory. Of the store: one write for each block touched, and one more for each of them that is
 //! new; one read for each bitmap up to the first that lacks a bit; and then, only where a bit or a slot was missing, one
-//! sync, one read for each block, and one write for each bitmap that lacks a bit; and where a slot was missing, one write
-//! for each sector of the table that has a touched block's entry. So a write of any length makes one sync at most. It
+//! sync, one read for each block that had a slot, and one write for each bitmap that lacks a bit; and where a slot was missing, one write
+//! for each sector of the table that has a touched block's entry. A new slot with a number below one that was in use before
+//! costs a read too; a stop may leave a map with such a gap. So a write of any length makes one sync at most. It
 //! writes no sector of a slot but the bitmap and those that are given. Of a byte that is repeated, a piece of less than a
 //! block is written as often as the block takes it. `put_payload` is one write of given bytes, and of a byte that is
 //! repeated one for each piece, without a sync.

@@ -1,7 +1,7 @@
 //! A write of the marked sectors of one block.
 
 ghost use Rattle.std.specs.Prelude.{◌≡◌, ◌⊎◌, ℕ, ◌+◌, ◌*◌, ◌/◌, ◌<◌, ◌≤◌, length, None, Some, true, false, OnOk, OnErr, IfOk};
-ghost use Rattle.std.specs.Bool.{OnTrue};
+ghost use Rattle.std.specs.Bool.{OnTrue, OnFalse};
 ghost use Rattle.sm_disk.specs.Held.{Reaches, SameHeld, reads};
 ghost use Rattle.vhd_map.specs.Slots.{slot_of, top_of, IsMap};
 ghost use Rattle.vg_volumes.specs.Stored.{stored, sectors_in, held_in, WorksOn, Counts};
@@ -155,7 +155,7 @@ fn set_marks<S: Store>(
     Ok(())
 }
 
-/// Syncs, sets the bits of the marked sectors, and writes the block's entry, unless the block had a slot.
+/// Syncs, and then sets the bits of the marked sectors where the block had a slot. A new slot has them: of such a block the entry is written.
 fn end_block<S: Store>(
     store: &mut S,
     head: &Head,
@@ -168,6 +168,9 @@ fn end_block<S: Store>(
     requires within { block < length map.now }
     requires room { HasRoomIn (stored S.Store store.old) head.now.volume (top_of map.now) }
     requires some { HasMark (S.site store.old).geometry.block marks.now }
+    requires set { OnFalse held (Gives S.Store head.now.volume
+        (AreSet (layout_now (stored S.Store store.old) head.now)
+        (IsMarkedIn (S.site store.old).geometry.block block marks.now) (slot_of map.now block) block) store.old) }
     ensures works { WorksOn S.Store head.now.volume store.old store.new }
     ensures cause { Counts S.Store result store.old store.new }
     ensures goes { Does S.Store head.now.volume
@@ -179,8 +182,8 @@ fn end_block<S: Store>(
         store.old store.new) }
 {
     settle(store, &head.volume)?;
-    set_marks(store, head, map, block, marks)?;
     if held {
+        set_marks(store, head, map, block, marks)?;
         return Ok(());
     }
     put_entries(store, head, map, block / PER_SECTOR)?;

@@ -148,10 +148,11 @@ pub fn write<S: Store>(
 {
     let span = span_of(store, head, sector, from);
     let held = has_slots(map, &span);
+    let fresh = map.top();
     let complete = first_pass(store, head, map, &span, from)?;
     if complete {
         return Ok(());
     }
-    finish(store, head, map, &span, held)?;
+    finish(store, head, map, &span, held, fresh)?;
     Ok(())
 }

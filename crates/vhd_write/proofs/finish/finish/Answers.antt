@@ -1,8 +1,22 @@
-use Rattle.std.proofs.Common.{refl, inr}
+use Rattle.std.proofs.Common.{◌*◌, ◌∙◌, refl, sym, ap, subst, inr}
+use Rattle.sm_disk.specs.Held.{IsIn, reads}
+use Rattle.vhd_map.specs.Bitmaps.{is_set}
+use Rattle.vhd_map.specs.Slots.{slot_of}
+use Rattle.vhd_layout.specs.Layouts.{place}
+use Rattle.vg_volumes.specs.Stored.{stored, held_in}
+use Rattle.vhd_volumes.specs.Truth.{layout_now}
+use Rattle.vhd_write.specs.WriteSpans.{AreNewSetIn}
 use Rattle.vg_volumes.proofs.StoredLaws.{works_then}
 use Rattle.vhd_write.proofs.FinishLaws.{goes-bits, finished-bits, goes-table, finished-table}
 use Rattle.vhd_write.proofs.WorkLaws.{works_layout}
 use Rattle.vhd_write.proofs.finish.finish.Goals as goal
+
+pub set_bitmaps-requires-clause-set : goal.set_bitmaps-requires-clause-set
+set_bitmaps-requires-clause-set g c = λ told.
+    let l = layout_now (stored g.S.Store c.args.store.now) c.args.head.now in
+    let after = reads (held_in (stored g.S.Store c.settle.new.store) c.args.head.now.volume) in
+    subst (λ x. AreNewSetIn x c.args.span.now c.args.fresh (slot_of c.args.map.now) after) (sym (works_layout c.args.head.now c.settle.ensures.works))
+    (λ b low high k has new i within here. ap (λ x. is_set x i) ((c.settle.ensures.keeps told).reads (place l k 0)) ∙ c.requires.set told b low high k has new i within here)
 
 -- ---- the store
 

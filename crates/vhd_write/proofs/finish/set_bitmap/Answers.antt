@@ -2,6 +2,7 @@ use Rattle.std.proofs.Common.{◌≡◌, ℕ, ◌+◌, ◌*◌, ◌<◌, ◌≤�
 use Rattle.sm_disk.specs.Held.{IsIn, reads}
 use Rattle.vhd_map.specs.Slots.{slot_of}
 use Rattle.sm_disk.proofs.HeldLaws.{reads-same}
+use Rattle.std.proofs.lemmas.Option.{same_Some}
 use Rattle.vhd_map.specs.Bitmaps.{is_set}
 use Rattle.vg_volumes.specs.Stored.{stored, held_in}
 use Rattle.vg_volumes.proofs.StoredLaws.{works_then, size_stays}
@@ -21,6 +22,9 @@ get-requires g c =
     let is = place_is c.place_of-at.result _ (g.S.Store.site c.args.store.now).geometry slot slot 0 c.place_of-at.ensures c.geometry.ensures refl in
     let below = slot-in l c.args.map.now c.args.block slot has c.requires.room in
     place-low l slot c.place_of-at.result _ below is refl
+
+pub returns-then-slot-fresh-clause-done : goal.returns-then-slot-fresh-clause-done
+returns-then-slot-fresh-clause-done g c = λ told k has. c.requires.set told k has (omega (arith, c.if-slot-fresh.true, same_Some c.in-Some.slot k (c.in-Some.ensures.slot ∙ has)))
 
 pub returns-then-has_bits-clause-done : goal.returns-then-has_bits-clause-done
 returns-then-has_bits-clause-done g c = λ told.

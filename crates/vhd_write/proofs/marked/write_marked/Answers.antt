@@ -8,7 +8,7 @@ use Rattle.vhd_map.specs.Slots.{slot_of, top_of}
 use Rattle.vhd_volumes.specs.Truth.{HasRoomIn, IsTrueOf, StandsNow, layout_now}
 use Rattle.vhd_write.specs.Marks.{HasMark, IsMarkedIn, PutsMarkedIn}
 use Rattle.vhd_write.specs.Passes.{GoesOn, IsFinished, IsPut}
-use Rattle.vhd_write.proofs.BlockLaws.{block-guarded, block-heads, block-keeps, block-stands, block-still, block-written, guarded-on, heads-on, keeps-on, put-first, puts-first, still-on, written-on}
+use Rattle.vhd_write.proofs.BlockLaws.{block-guarded, block-heads, block-keeps, block-stands, block-still, block-written, guarded-on, heads-on, keeps-on, put-first, put-set-one, puts-first, still-on, written-on}
 use Rattle.vhd_write.proofs.LoopLaws.{true_on}
 use Rattle.vhd_write.proofs.MapLaws.{with_block-gives}
 use Rattle.vhd_write.proofs.WorkLaws.{works_layout, works_room}
@@ -38,6 +38,12 @@ pub end_block-requires-clause-within : goal.end_block-requires-clause-within
 end_block-requires-clause-within g c =
     let long = (with_block-gives c.args.block c.args.map.now).grown.long in
     omega (arith, long, ap length c.in_ok-put_sectors.ensures.put, c.requires.stands.entries, c.requires.stands.most, c.requires.within)
+
+pub end_block-requires-clause-set : goal.end_block-requires-clause-set
+end_block-requires-clause-set g c =
+    let had : c.is_some-held.result ≡ is_some (slot_of c.args.map.now c.args.block) = search rules in
+    put-set-one c.is_some-held.result (slot_of c.args.map.now c.args.block) had
+    (λ told. put-first c.args.block c.args.marks.now c.args.bytes.now _ _ _ (sym (works_layout c.args.head.now c.put_sectors.ensures.works)) (c.in_ok-put_sectors.ensures.done told))
 
 -- ---- the store
 

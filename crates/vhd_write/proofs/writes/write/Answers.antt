@@ -1,7 +1,13 @@
+use Rattle.std.proofs.Common.{sym, subst}
+use Rattle.sm_disk.specs.Held.{reads}
+use Rattle.vhd_map.specs.Slots.{slot_of}
+use Rattle.vg_volumes.specs.Stored.{stored, held_in}
 use Rattle.vg_volumes.proofs.StoredLaws.{works_then}
+use Rattle.vhd_volumes.specs.Truth.{layout_now}
+use Rattle.vhd_write.specs.WriteSpans.{AreNewSetIn}
 use Rattle.vhd_write.proofs.LoopLaws.{true_on}
 use Rattle.vhd_write.proofs.WorkLaws.{works_layout, works_room}
-use Rattle.vhd_write.proofs.TopLaws.{room-all, new-map, new-room, new-stands, guarded-now, heads-now, places-now, still-now, written-now, guarded-then, heads-then, places-then, still-then, written-then}
+use Rattle.vhd_write.proofs.TopLaws.{room-all, new-map, new-room, new-set, new-stands, guarded-now, heads-now, places-now, still-now, written-now, guarded-then, heads-then, places-then, still-then, written-then}
 use Rattle.vhd_write.proofs.writes.write.Goals as goal
 
 pub first_pass-requires-clause-slots : goal.first_pass-requires-clause-slots
@@ -10,6 +16,14 @@ first_pass-requires-clause-slots g c = room-all c.args.from.now c.requires.stand
 pub finish-requires-clause-room : goal.finish-requires-clause-room
 finish-requires-clause-room g c = works_room _ c.first_pass.ensures.works
     (new-room c.args.from.now c.requires.stands c.requires.whole c.requires.slots c.span_of-span.ensures c.in_ok-complete.ensures.given)
+
+pub finish-requires-clause-set : goal.finish-requires-clause-set
+finish-requires-clause-set g c = λ told.
+    let l = layout_now (stored g.S.Store c.first_pass.new.store) c.args.head.now in
+    let mid = reads (held_in (stored g.S.Store c.first_pass.new.store) c.args.head.now.volume) in
+    subst (λ x. AreNewSetIn l c.span_of-span.result x (slot_of c.first_pass.new.map) mid) (sym c.top-fresh.ensures.top)
+    (new-set c.args.from.now c.requires.stands c.requires.whole c.requires.slots c.span_of-span.ensures (c.requires.is_true told) (c.first_pass.ensures.reaches told)
+    c.in_ok-complete.ensures.given (c.in_ok-complete.ensures.done told) (works_layout c.args.head.now c.first_pass.ensures.works))
 
 -- ---- the store
 
