@@ -1,7 +1,7 @@
 -- The entries of the journal (this project's format): volumes without extents, each of which says all in its name.
 use Rattle.std.specs.Prelude.{Bool, true, false, ◌||◌, nat_lt, count_by, List, []}
 use Rattle.sm_base.specs.declared.names.Name.{Name}
-use Rattle.sm_base.specs.declared.names.Name.TheVariants.{Mgt, Vhd, Raw, Old, Clone, Inflate, Coalesce, Relink, Leaf}
+use Rattle.sm_base.specs.declared.names.Name.TheVariants.{Mgt, Vhd, Raw, Old, Cbt, Clone, Inflate, Coalesce, Relink, Leaf}
 use Rattle.vg_meta.specs.declared.changes.Change.{Change}
 use Rattle.vg_meta.specs.declared.changes.Change.TheVariants.{Create}
 
@@ -11,6 +11,7 @@ is_operation Mgt = false
 is_operation (Vhd u) = false
 is_operation (Raw u) = false
 is_operation (Old u) = false
+is_operation (Cbt u) = false
 is_operation (Clone disk base twin) = false
 is_operation (Inflate image extents) = false
 is_operation (Coalesce child parent) = true
@@ -23,6 +24,7 @@ is_call Mgt = false
 is_call (Vhd u) = false
 is_call (Raw u) = false
 is_call (Old u) = false
+is_call (Cbt u) = false
 is_call (Clone disk base twin) = true
 is_call (Inflate image extents) = true
 is_call (Coalesce child parent) = false

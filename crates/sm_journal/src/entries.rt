@@ -30,6 +30,7 @@ fn is_operation_entry(volume: &Volume) -> bool
         | Name::Vhd(_)
         | Name::Raw(_)
         | Name::Old(_)
+        | Name::Cbt(_)
         | Name::Clone { .. }
         | Name::Inflate { .. } => false,
     }
@@ -45,6 +46,7 @@ fn is_call_entry(volume: &Volume) -> bool
         | Name::Vhd(_)
         | Name::Raw(_)
         | Name::Old(_)
+        | Name::Cbt(_)
         | Name::Coalesce { .. }
         | Name::Relink { .. }
         | Name::Leaf { .. } => false,

@@ -12,7 +12,7 @@ abbrev pub uuid_in : Option Record → Option (List ℕ)
 uuid_in None = None
 uuid_in (Some r) = Some r.uuid
 
--- UUIDs are ordered by their bytes, and none is before each
+-- UUIDs are ordered by their bytes, and a place without a record comes before each of them
 abbrev pub uuid_order : Option (List ℕ) → Option (List ℕ) → Ordering
 uuid_order = option_cmp (slice_cmp nat_cmp)
 

@@ -8,8 +8,8 @@ use Rattle.std.proofs.lemmas.List.Sums.{sum_by-append}
 use Rattle.sm_base.specs.declared.names.Name.{Name}
 use Rattle.sm_base.specs.declared.operations.Mode.{Mode}
 use Rattle.sm_refs.specs.Attached.{Attached, same_name, same_uuid, without, count_of, tally, has, one_in}
-use Rattle.sm_refs.specs.FromScratch.{Use, refs_from_scratch, IsFromScratch, Call, Enters, LeavesChain, Forks, Relinks, DoesCall, GoesAway, GetsBase, LosesOut, ChangesUses, Runs}
-use Rattle.sm_refs.specs.FromScratch.Call.{Enter, Leave, Forked, Relinked}
+use Rattle.sm_refs.specs.FromScratch.{Use, refs_from_scratch, IsFromScratch, Call, Enters, LeavesChain, Forks, Relinks, Swaps, DoesCall, GoesAway, GetsBase, LosesOut, LosesParent, ChangesUses, Runs}
+use Rattle.sm_refs.specs.FromScratch.Call.{Enter, Leave, Forked, Relinked, Swapped}
 use Rattle.sm_refs.proofs.NameLemmas.{uuid_from_same, name_from_same, apart_from_other, same_uuid-refl}
 
 -- ---- counting
@@ -38,6 +38,10 @@ alike R q s each (x ∷ xs) [] all = absurd all
 alike R q s each (x ∷ xs) (y ∷ ys) all =
     let here : cond (q y) 1 0 ≡ cond (s x) 1 0 = ap {B = ℕ} (λ b. cond b 1 0) (each x y all.0) in
     omega (arith, one_more q y ys, one_more s x xs, here, alike R q s each xs ys all.1)
+
+count_none : {X : Type 0} (xs : List X) → count_by (λ x. false) xs ≡ 0
+count_none [] = refl
+count_none (x ∷ xs) = omega (arith, one_more (λ y. false) x xs, count_none xs)
 
 -- ---- the disks
 
@@ -128,11 +132,27 @@ module _ (old new : Attached) (uses now : List Use) (is : IsFromScratch old uses
           let other : v ≢ out = apart_from_other out v e in
           does.others v other ∙ is.counts v ∙ sym (alike (LosesOut child out) (λ (u : Use). has u.chain v) (λ (u : Use). has u.chain v) (λ x y loses. loses.others v other) uses now changed)
 
+  swapped : (parent : Name) → Swaps parent old new → AllZip (LosesParent parent) uses now → IsFromScratch new now
+  swapped parent does changed = record {
+    disks = does.disks ∙ is.disks ∙ sym (same_disks (LosesParent parent) (λ u v loses. (loses.disk, loses.mode)) uses now changed);
+    counts = λ v. by v (same_name parent v) refl;
+  }
+    where
+      none : refs_from_scratch now parent ≡ 0
+      none = alike (LosesParent parent) (λ (u : Use). has u.chain parent) (λ u. false) (λ x y loses. loses.loses) uses now changed ∙ count_none uses
+
+      by : (v : Name) (b : Bool) → same_name parent v ≡ b → count_of new v ≡ refs_from_scratch now v
+      by v true e = subst (λ m. count_of new m ≡ refs_from_scratch now m) (name_from_same parent v e) (does.counted ∙ sym none)
+      by v false e =
+          let other : v ≢ parent = apart_from_other parent v e in
+          does.others v other ∙ is.counts v ∙ sym (alike (LosesParent parent) (λ (u : Use). has u.chain v) (λ (u : Use). has u.chain v) (λ x y loses. loses.others v other) uses now changed)
+
 pub kept_right : (call : Call) (old new : Attached) (uses now : List Use) → IsFromScratch old uses → DoesCall call old new → ChangesUses call uses now → IsFromScratch new now
 kept_right (Enter disk mode chain) old new uses now is does changed = entered old new uses now is disk mode chain does changed
 kept_right (Leave disk chain) old new uses now is does changed = left old new uses now is disk chain does changed
 kept_right (Forked leaf base) old new uses now is does changed = forked old new uses now is leaf base does changed
 kept_right (Relinked child out) old new uses now is does changed = relinked old new uses now is child out does changed
+kept_right (Swapped parent) old new uses now is does changed = swapped old new uses now is parent does changed
 
 pub nothing_attached : (a : Attached) → a.disks ≡ [] → a.counts ≡ [] → IsFromScratch a []
 nothing_attached a none no_count = record { disks = none; counts = λ v. ap (λ cs. tally cs v) no_count }

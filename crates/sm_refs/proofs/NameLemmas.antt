@@ -3,7 +3,7 @@ use Rattle.std.proofs.Common.{◌≡◌, ◌≢◌, ℕ, true, false, ◌&&◌, 
 use Rattle.std.specs.Cmp.{IsEquivalence}
 use Rattle.std.proofs.lemmas.Bool.{and_parts, eqb-true, false_from_ne_true, false≢true}
 use Rattle.sm_base.specs.declared.names.Name.{Name}
-use Rattle.sm_base.specs.declared.names.Name.TheVariants.{Mgt, Vhd, Raw, Old, Clone, Inflate, Coalesce, Relink, Leaf}
+use Rattle.sm_base.specs.declared.names.Name.TheVariants.{Mgt, Vhd, Raw, Old, Cbt, Clone, Inflate, Coalesce, Relink, Leaf}
 use Rattle.sm_base.specs.contracts.names.NameEq.TheImpl.Laws.{laws-law}
 use Rattle.uuid.specs.contracts.UuidEq.TheImpl.Laws.{laws-law as uuid_laws}
 use Rattle.sm_refs.specs.Attached.{same_name, same_uuid}
@@ -45,6 +45,7 @@ name_from_same Mgt Mgt h = refl
 name_from_same (Vhd u) (Vhd v) h = ap Vhd (uuid_from_same u v h)
 name_from_same (Raw u) (Raw v) h = ap Raw (uuid_from_same u v h)
 name_from_same (Old u) (Old v) h = ap Old (uuid_from_same u v h)
+name_from_same (Cbt u) (Cbt v) h = ap Cbt (uuid_from_same u v h)
 name_from_same (Clone u v w) (Clone u' v' w') h = three u v w u' v' w' h
 name_from_same (Inflate u n) (Inflate u' n') h = enlarged u u' n n' h
 name_from_same (Coalesce u v) (Coalesce u' v') h = two Coalesce u v u' v' h

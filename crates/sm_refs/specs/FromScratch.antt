@@ -1,6 +1,6 @@
 -- The number of users of each volume, counted from scratch over the attached disks and their chains, and what the
 -- calls do to these chains (this project's own). Attachments keep no chain: here stands what their counts mean.
-use Rattle.std.specs.Prelude.{◌≡◌, ◌≢◌, ℕ, ◌+◌, true, not, ◌&&◌, List, [], ◌∷◌, ◌++◌, map, count_by, All}
+use Rattle.std.specs.Prelude.{◌≡◌, ◌≢◌, ℕ, ◌+◌, true, false, not, ◌&&◌, List, [], ◌∷◌, ◌++◌, map, count_by, All}
 use Rattle.std.specs.List.{AllZip}
 use Rattle.sm_base.specs.declared.names.Name.{Name}
 use Rattle.sm_base.specs.declared.operations.Mode.{Mode}
@@ -27,6 +27,7 @@ pub data Call : Type 0 where
   Leave : (disk : List ℕ) (chain : List Name) → Call
   Forked : (leaf base : Name) → Call
   Relinked : (child out : Name) → Call
+  Swapped : (parent : Name) → Call
 
 -- ---- what each call does to what is kept, by its contract
 
@@ -48,11 +49,17 @@ pub record Relinks (child out : Name) (old new : Attached) : Type 0 where
   pub counted : count_of new out + count_of old child ≡ count_of old out
   pub others : (volume : Name) → volume ≢ out → count_of new volume ≡ count_of old volume
 
+pub record Swaps (parent : Name) (old new : Attached) : Type 0 where
+  pub disks : new.disks ≡ old.disks
+  pub counted : count_of new parent ≡ 0
+  pub others : (volume : Name) → volume ≢ parent → count_of new volume ≡ count_of old volume
+
 abbrev pub DoesCall : Call → Attached → Attached → Type 0
 DoesCall (Enter disk mode chain) = Enters disk mode chain
 DoesCall (Leave disk chain) = LeavesChain disk chain
 DoesCall (Forked leaf base) = Forks leaf base
 DoesCall (Relinked child out) = Relinks child out
+DoesCall (Swapped parent) = Swaps parent
 
 -- ---- what has happened to the disks and their chains
 
@@ -82,11 +89,19 @@ pub record LosesOut (child out : Name) (old new : Use) : Type 0 where
   pub loses : has new.chain out ≡ (has old.chain out && not (has old.chain child))
   pub others : (volume : Name) → volume ≢ out → has new.chain volume ≡ has old.chain volume
 
+-- a chain has the parent no more, whose volume stands under the leaf's name, and no other volume comes or goes
+pub record LosesParent (parent : Name) (old new : Use) : Type 0 where
+  pub disk : new.disk ≡ old.disk
+  pub mode : new.mode ≡ old.mode
+  pub loses : has new.chain parent ≡ false
+  pub others : (volume : Name) → volume ≢ parent → has new.chain volume ≡ has old.chain volume
+
 abbrev pub ChangesUses : Call → List Use → List Use → Type 0
 ChangesUses (Enter disk mode chain) old new = new ≡ old ++ (record { disk = disk; mode = mode; chain = chain }) ∷ []
 ChangesUses (Leave disk chain) old new = GoesAway disk chain old new
 ChangesUses (Forked leaf base) old new = AllZip (GetsBase leaf base) old new
 ChangesUses (Relinked child out) old new = AllZip (LosesOut child out) old new
+ChangesUses (Swapped parent) old new = AllZip (LosesParent parent) old new
 
 -- ---- the laws
 

@@ -121,4 +121,15 @@ impl Attachments {
         let users = self.count(out) - self.count(child);
         tallies::set_count(&mut self.counts, out, users);
     }
+
+    /// Notes that the leaf of an attached disk was folded into `parent`, whose volume has got the leaf's name, so that no
+    /// chain has the parent's name any more. The leaf's name stays in each chain that had it, and keeps its count.
+    pub fn swapped(&mut self, parent: &Name)
+        ensures parent { count_of self.new parent.now ≡ 0 }
+        ensures others { (volume : Name) → volume ≢ parent.now → count_of self.new volume ≡ count_of self.old volume }
+        ensures disks { self.new.disks ≡ self.old.disks }
+        ensures room { self.old.room ≤ self.new.room }
+    {
+        tallies::set_count(&mut self.counts, parent, 0);
+    }
 }

@@ -2,7 +2,7 @@
 //!
 //! Kept here: two maps in memory, of the attached disks with their modes in the order of attaching, and of the
 //! volumes in use with their counts, which are above 0. No tree and no chain is kept: whoever attaches,
-//! detaches, forks or relinks hands in the names. Counts are numbers of disks. Nothing here is on a device, so
+//! detaches, forks, relinks or swaps hands in the names. Counts are numbers of disks. Nothing here is on a device, so
 //! a stop leaves nothing, and after opening nothing is attached.
 //!
 //! A contract sees an `Attachments` as both lists and a number, `room` (`specs/Attached.antt`): so many disks

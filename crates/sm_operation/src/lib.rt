@@ -1,0 +1,15 @@
+//! What the collector is doing, as a session keeps it in memory: the operation that runs, and of one that folds the leaf of an attached
+//! disk the blocks that are dirty, those that the guest wrote to since they were copied.
+//!
+//! **What it is.** [`Operation`] stands for the machine's operation (`Operations` of `sm_machine`), with its dirty blocks in rising order;
+//! [`Operation::told`] tells it with their number alone.
+//!
+//! **What it costs.** A byte for each block that an image may have at most, 1,044,480, which are taken once, as it is made; nothing else
+//! takes memory. Only `new`, `set` and `least_dirty` go over them. Nothing here is on a device, and a stop leaves nothing.
+//!
+//! The definitions are in `specs/`: `Kept` (how an operation is kept, and which of its blocks are dirty).
+#![tactic(auto)]
+
+mod operations;
+
+pub use operations::{BLOCK_LIMIT, Operation};
