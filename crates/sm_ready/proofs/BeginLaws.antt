@@ -12,7 +12,7 @@ use Rattle.std.proofs.lemmas.Slice.Eq.{bytes_eq-Decides}
 use Rattle.common_laws.specs.Lists.{In}
 use Rattle.common_laws.proofs.Lists.{find_none, list_any-find}
 use Rattle.common_laws.proofs.Options.{none_of_some}
-use Rattle.sm_base.specs.Kinds.{is_entry, is_image}
+use Rattle.sm_base.specs.Kinds.{is_entry, is_image, is_log}
 use Rattle.sm_base.specs.Names.{IsName, is_base, name_cmp}
 use Rattle.sm_base.specs.declared.names.Name.{Name}
 use Rattle.sm_base.specs.declared.names.Name.TheVariants.{Vhd, Raw}
@@ -143,7 +143,7 @@ module _ (s : Site) (t : VolumeTable) (m : Known) (own : Name) (es u : List ℕ)
     name_proper = b.proper;
     new_name = gone own b.image b.uuid;
     not_mgt = λ e. true≢false (sym b.image ∙ ap is_image_name e ∙ mgt_image);
-    kind = subst (λ x. cond x (nat_lt 0 (length es)) (not false && (not true && (not (is_entry own) || (length es == 0)))) ≡ true) (sym (image_named own b.image)) (lt-ltb 0 (length es) b.some_extents);
+    kind = subst (λ x. cond x (nat_lt 0 (length es)) (not (is_log own) && (not false && (not true && (not (is_entry own) || (length es == 0))))) ≡ true) (sym (image_named own b.image)) (lt-ltb 0 (length es) b.some_extents);
     extents_free = b.extents_free;
   }
 

@@ -10,7 +10,7 @@ use Rattle.sm_base.specs.Names.{base_uuid}
 use Rattle.sm_base.specs.Numbers.{IsGeometry}
 use Rattle.sm_base.specs.declared.names.Name.{Name}
 use Rattle.sm_base.specs.declared.names.Name.TheVariants.{Mgt, Raw, Vhd}
-use Rattle.sm_base.specs.declared.operations.Op.TheVariants.{Idle}
+use Rattle.sm_machine.specs.Operations.{Idle}
 use Rattle.sm_disk.specs.Held.{Held, IsSettled}
 use Rattle.vg_meta.specs.Tables.{IsTable, VolumeTable, Row, rows, extents_of}
 use Rattle.vg_meta.proofs.DecodeLaws.{used-le}

@@ -7,7 +7,7 @@ use Rattle.std.proofs.Props.{props}
 use Rattle.std.proofs.lemmas.Option.{none-some}
 use Rattle.sm_base.specs.Kinds.{is_entry}
 use Rattle.sm_base.specs.declared.names.Name.{Name}
-use Rattle.sm_base.specs.declared.names.Name.TheVariants.{Mgt, Vhd, Raw, Old, Clone, Inflate, Coalesce, Relink, Leaf}
+use Rattle.sm_base.specs.declared.names.Name.TheVariants.{Mgt, Vhd, Raw, Old, Cbt, Clone, Inflate, Coalesce, Relink, Leaf}
 use Rattle.sm_disk.specs.Held.{Held, reads}
 use Rattle.vg_meta.specs.Tables.{VolumeTable, Row, rows, extents_of, name_eq}
 use Rattle.vg_meta.specs.Changes.{Permits, applied, raised}
@@ -177,6 +177,7 @@ module _ (s : Site) (t : VolumeTable) (old : Held) (m : Known) (x : Name) (r : R
       })
   retabled Mgt y other is = refl
   retabled (Old u) y other is = refl
+  retabled (Cbt u) y other is = refl
   retabled (Clone d b w) y other is = refl
   retabled (Inflate u j) y other is = refl
   retabled (Coalesce k p) y other is = refl
@@ -189,6 +190,7 @@ module _ (s : Site) (t : VolumeTable) (old : Held) (m : Known) (x : Name) (r : R
   none_after (Raw u) e = none_of_raw now u e
   none_after Mgt e = refl
   none_after (Old u) e = refl
+  none_after (Cbt u) e = refl
   none_after (Clone d b w) e = refl
   none_after (Inflate u j) e = refl
   none_after (Coalesce k p) e = refl

@@ -5,7 +5,7 @@ use Rattle.std.proofs.Math.Logic.{∥∥₁_elim}
 use Rattle.std.proofs.Props.{props}
 use Rattle.std.proofs.lemmas.Option.{none-some}
 use Rattle.sm_base.specs.declared.names.Name.{Name}
-use Rattle.sm_base.specs.declared.names.Name.TheVariants.{Mgt, Vhd, Raw, Old, Clone, Inflate, Coalesce, Relink, Leaf}
+use Rattle.sm_base.specs.declared.names.Name.TheVariants.{Mgt, Vhd, Raw, Old, Cbt, Clone, Inflate, Coalesce, Relink, Leaf}
 use Rattle.sm_disk.specs.Held.{Held, reads}
 use Rattle.vg_meta.specs.Tables.{VolumeTable, Row, rows, extents_of, name_eq}
 use Rattle.vg_meta.specs.Changes.{Permits, applied, made}
@@ -104,6 +104,7 @@ module _ (s : Site) (t : VolumeTable) (old : Held) (m : Known) (x : Name) (es : 
       })
   retabled Mgt y other is = refl
   retabled (Old u) y other is = refl
+  retabled (Cbt u) y other is = refl
   retabled (Clone d b w) y other is = refl
   retabled (Inflate u j) y other is = refl
   retabled (Coalesce c p) y other is = refl
@@ -116,6 +117,7 @@ module _ (s : Site) (t : VolumeTable) (old : Held) (m : Known) (x : Name) (es : 
   none_before (Raw u) e = none_of_raw was u e
   none_before Mgt e = refl
   none_before (Old u) e = refl
+  none_before (Cbt u) e = refl
   none_before (Clone d b w) e = refl
   none_before (Inflate u j) e = refl
   none_before (Coalesce c p) e = refl

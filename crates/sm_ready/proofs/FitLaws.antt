@@ -9,9 +9,9 @@ use Rattle.sm_base.proofs.KindLaws.{by_kind}
 use Rattle.sm_base.specs.Limits.{extent_limit}
 use Rattle.sm_base.specs.declared.names.Name.{Name}
 use Rattle.sm_base.specs.declared.names.Name.TheVariants.{Mgt}
-use Rattle.sm_base.specs.declared.operations.Op.{Op}
-use Rattle.sm_base.specs.declared.operations.Op.TheVariants as op
-use Rattle.sm_base.specs.Kinds.{is_image, is_entry}
+use Rattle.sm_machine.specs.Operations.{Op}
+use Rattle.sm_machine.specs.Operations as op
+use Rattle.sm_base.specs.Kinds.{is_image, is_log, is_entry}
 use Rattle.sm_base.specs.Names.{name_cmp}
 use Rattle.sm_base.proofs.NameLemmas.{length-spelling-le}
 use Rattle.vg_meta.specs.Tables.{VolumeTable, Row, IsTable, IsVolume, names_of, extents_in}
@@ -20,6 +20,7 @@ use Rattle.sm_standing.specs.Checks.{images}
 use Rattle.sm_standing.specs.Entries.{names_in}
 use Rattle.vg_meta.specs.Text.{text, volume_text}
 use Rattle.vg_meta.proofs.DecodeLaws.{used-le}
+use Rattle.vg_meta.proofs.LogLaws.{volume_no_log}
 use Rattle.vg_meta.proofs.NameLaws.{less_other}
 use Rattle.vg_meta.proofs.RowLaws.{IsRising}
 use Rattle.vg_meta.proofs.SegmentLaws.{few-segments}
@@ -51,7 +52,7 @@ image_rows rs = filter (λ r. is_image r.name) rs
 abbrev entries : List Row → List Name
 entries rs = filter is_entry (names_of rs)
 
--- a name that is none of an image's and no entry's is that of the records
+-- a volume that is no image and no entry is one more
 step : (b c : Bool) (r : Row) (rs : List Row) (most : ℕ) → (b ≡ false → c ≡ false → suc (length rs) ≤ length (image_rows rs) + length (entries rs) + most)
     → length rs ≤ length (image_rows rs) + length (entries rs) + most
     → suc (length rs) ≤ length (cond b (r ∷ image_rows rs) (image_rows rs)) + length (cond c (r.name ∷ entries rs) (entries rs)) + most
@@ -60,28 +61,31 @@ step true false r rs most none rest = omega (arith, rest)
 step false true r rs most none rest = omega (arith, rest)
 step false false r rs most none rest = none refl refl
 
--- what is neither an image nor an entry has the records
-pub the_records : (n : Name) → is_image n ≡ false → is_entry n ≡ false → n ≡ Mgt
-the_records n no_image no_entry = by_kind n (λ is. is) (λ image. absurd (true≢false (sym image ∙ no_image))) (λ entry. absurd (true≢false (sym entry ∙ no_entry)))
+-- what is neither an image nor an entry nor a log has the records
+pub the_records : (n : Name) → is_image n ≡ false → is_entry n ≡ false → is_log n ≡ false → n ≡ Mgt
+the_records n no_image no_entry no_log = by_kind n (λ is. is)
+    (λ image. absurd (true≢false (sym image ∙ no_image))) (λ log. absurd (true≢false (sym log ∙ no_log))) (λ entry. absurd (true≢false (sym entry ∙ no_entry)))
 
 -- behind the volume of records all are images or entries
-behind : (rs : List Row) → AllByRecursion (λ (m : Name). name_cmp Mgt m ≡ Less) (names_of rs) → length rs ≤ length (image_rows rs) + length (entries rs) + 0
-behind [] all = omega arith
-behind (r ∷ rs) all = step (is_image r.name) (is_entry r.name) r rs 0 (λ e f. absurd (less_other Mgt r.name all.0 (sym (the_records r.name e f)))) (behind rs all.1)
+behind : (rs : List Row) → AllByRecursion IsVolume rs → AllByRecursion (λ (m : Name). name_cmp Mgt m ≡ Less) (names_of rs) → length rs ≤ length (image_rows rs) + length (entries rs) + 0
+behind [] each all = omega arith
+behind (r ∷ rs) each all =
+    step (is_image r.name) (is_entry r.name) r rs 0 (λ e f. absurd (less_other Mgt r.name all.0 (sym (the_records r.name e f (volume_no_log r each.0))))) (behind rs each.1 all.1)
 
-one_other : (rs : List Row) → IsRising rs → length rs ≤ length (image_rows rs) + length (entries rs) + 1
+one_other : (rs : List Row) → AllByRecursion IsVolume rs → IsRising rs → length rs ≤ length (image_rows rs) + length (entries rs) + 1
 unfolding IsStrictlySortedBy
-one_other [] rising = omega arith
-one_other (r ∷ rs) rising = step (is_image r.name) (is_entry r.name) r rs 1 (λ e f. first (the_records r.name e f)) (one_other rs rising.1)
+one_other [] each rising = omega arith
+one_other (r ∷ rs) each rising = step (is_image r.name) (is_entry r.name) r rs 1 (λ e f. first (the_records r.name e f (volume_no_log r each.0))) (one_other rs each.1 rising.1)
   where
     first : r.name ≡ Mgt → suc (length rs) ≤ length (image_rows rs) + length (entries rs) + 1
-    first is = let rest = behind rs (subst (λ (n : Name). AllByRecursion (λ (m : Name). name_cmp n m ≡ Less) (names_of rs)) is rising.0) in omega (arith, rest)
+    first is = let rest = behind rs each.1 (subst (λ (n : Name). AllByRecursion (λ (m : Name). name_cmp n m ≡ Less) (names_of rs)) is rising.0) in omega (arith, rest)
 
 one_entry : (o : Op) → length (entry_of o) ≤ 1
 one_entry op.Idle = omega arith
 one_entry (op.Copy v p cursor) = omega arith
 one_entry (op.Relink v p) = omega arith
 one_entry (op.Leaf l p cursor) = omega arith
+one_entry (op.Live l p cursor dirty) = omega arith
 
 -- 12 bytes and 122 for each of 505 volumes, and 8 for each extent
 limit_holds : (count : ℕ) → count ≤ extent_limit → 8 * count + 61622 ≤ text_limit count
@@ -93,7 +97,7 @@ limit_holds count few = (elim (leb count 65536) as (λ b. leb count 65536 ≡ b 
 -- a table of few images and of few entries
 pub fits_entries : (count : ℕ) (t : VolumeTable) → IsTable count t → count ≤ extent_limit → length (images t) ≤ image_limit → length (names_in t is_entry) ≤ 4 → length (text t) ≤ text_limit count
 fits_entries count t table extents few entries =
-    omega (arith, length-text t, long_volumes t.volumes table.volumes.each, one_other t.volumes table.volumes.rising, entries, few, used-le count t.volumes table.volumes, limit_holds count extents)
+    omega (arith, length-text t, long_volumes t.volumes table.volumes.each, one_other t.volumes table.volumes.each table.volumes.rising, entries, few, used-le count t.volumes table.volumes, limit_holds count extents)
 
 -- and of one entry at most
 pub fits_few : (count : ℕ) (t : VolumeTable) → IsTable count t → count ≤ extent_limit → length (images t) ≤ image_limit → length (names_in t is_entry) ≤ 1 → length (text t) ≤ text_limit count

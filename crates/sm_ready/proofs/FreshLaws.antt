@@ -6,8 +6,8 @@ use Rattle.std.specs.List.{filter}
 use Rattle.std.specs.Ordering.{is_lt}
 use Rattle.sm_base.specs.Names.{name_cmp}
 use Rattle.sm_base.specs.declared.names.Name.{Name}
-use Rattle.sm_base.specs.declared.names.Name.TheVariants.{Mgt, Vhd, Raw, Old, Clone, Inflate, Coalesce, Relink, Leaf}
-use Rattle.sm_base.specs.declared.operations.Op.{Op}
+use Rattle.sm_base.specs.declared.names.Name.TheVariants.{Mgt, Vhd, Raw, Old, Cbt, Clone, Inflate, Coalesce, Relink, Leaf}
+use Rattle.sm_machine.specs.Operations.{Op}
 use Rattle.vg_meta.specs.Tables.{VolumeTable, Row, rows, names_of, extents_of, name_eq}
 use Rattle.sm_base.specs.Kinds.{is_image, is_entry}
 use Rattle.vg_meta.specs.Changes.{Permits, applied, raised, put, made}
@@ -25,7 +25,7 @@ use Rattle.sm_ready.specs.Known.{Known, shape_in, row_face, tree_face}
 use Rattle.vhd_chain.specs.Trees.{tree_row}
 use Rattle.sm_ready.specs.Orderly.{IsOrderly, IsRoomyIn}
 use Rattle.sm_ready.proofs.Orders.{unrowed}
-use Rattle.sm_base.specs.declared.operations.Op.TheVariants as op
+use Rattle.sm_machine.specs.Operations as op
 
 pub In-put : (x r : Row) (rs : List Row) → In r (put x rs) → (r ≡ x) ⊎ In r rs
 unfolding put
@@ -53,6 +53,18 @@ operation_raised σ k op.Idle h = tt
 operation_raised σ k (op.Copy v p c) h = record { link = record { child = h.link.child; there = h.link.there; is_named = h.link.is_named; is_shown = h.link.is_shown; vhd = h.link.vhd; linked = h.link.linked }; only = h.only; same_size = h.same_size }
 operation_raised σ k (op.Relink v p) h = record { child = h.child; there = h.there; is_named = h.is_named; is_shown = h.is_shown; vhd = h.vhd; linked = h.linked }
 operation_raised σ k (op.Leaf l p c) h = (record { link = record { child = h.0.link.child; there = h.0.link.there; is_named = h.0.link.is_named; is_shown = h.0.link.is_shown; vhd = h.0.link.vhd; linked = h.0.link.linked }; only = h.0.only; same_size = h.0.same_size }, h.1, h.2)
+operation_raised σ k (op.Live l p c dirty) h = record {
+  only = record {
+    link = record { child = h.only.link.child; there = h.only.link.there; is_named = h.only.link.is_named; is_shown = h.only.link.is_shown; vhd = h.only.link.vhd; linked = h.only.link.linked };
+    only = h.only.only;
+    same_size = h.only.same_size;
+  };
+  parent_vhd = h.parent_vhd;
+  attached = h.attached;
+  thick = h.thick;
+  within = h.within;
+  blocks = h.blocks;
+}
 
 table_same : (σ : Shape) (k : ℕ) (n : Name) → table_length σ n ≡ table_length (record σ { sequence = k }) n
 unfolding table_length
@@ -60,6 +72,7 @@ table_same σ k (Vhd u) = refl
 table_same σ k (Raw u) = refl
 table_same σ k Mgt = refl
 table_same σ k (Old u) = refl
+table_same σ k (Cbt u) = refl
 table_same σ k (Clone d b w) = refl
 table_same σ k (Inflate u x) = refl
 table_same σ k (Coalesce c p) = refl
@@ -93,6 +106,7 @@ roomy_raised σ k op.Idle h = tt
 roomy_raised σ k (op.Copy v p c) h = h
 roomy_raised σ k (op.Relink v p) h = tt
 roomy_raised σ k (op.Leaf l p c) h = h
+roomy_raised σ k (op.Live l p c dirty) h = h
 
 pub refs_raised : (σ : Shape) (k : ℕ) (n : Name) → refs n (record σ { sequence = k }) ≡ refs n σ
 unfolding refs
@@ -118,6 +132,7 @@ image_no_journal (Vhd u) e = (refl, refl)
 image_no_journal (Raw u) e = (refl, refl)
 image_no_journal Mgt e = absurd (true≢false (sym e))
 image_no_journal (Old u) e = (refl, refl)
+image_no_journal (Cbt u) e = absurd (true≢false (sym e))
 image_no_journal (Clone d b w) e = absurd (true≢false (sym e))
 image_no_journal (Inflate u k) e = absurd (true≢false (sym e))
 image_no_journal (Coalesce c p) e = absurd (true≢false (sym e))

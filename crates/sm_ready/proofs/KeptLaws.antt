@@ -1,6 +1,6 @@
 -- What a stop leaves of a ready store is kept.
 use Rattle.vhd_image.specs.Bodies.{sector_count, parent_name}
-use Rattle.std.proofs.Common.{◌≡◌, ◌≢◌, inl, inr, ⊎_elim, ℕ, ◌+◌, ◌*◌, ◌/◌, ◌%◌, ◌<◌, ◌≤◌, ◌==◌, nat_lt, Bool, true, false, cond, List, length, Option, Some, None, refl, sym, ap, ap₂, ◌∙◌, subst, arith, not, ◌&&◌}
+use Rattle.std.proofs.Common.{◌≡◌, ◌≢◌, inl, inr, ⊎_elim, ℕ, ◌+◌, ◌*◌, ◌/◌, ◌%◌, ◌<◌, ◌≤◌, ◌==◌, nat_lt, Bool, true, false, cond, List, [], length, Option, Some, None, refl, sym, ap, ap₂, ◌∙◌, subst, arith, not, ◌&&◌}
 use Rattle.std.specs.List.{slice_get, range_with_len}
 use Rattle.std.proofs.Math.Logic.{∥∥₁_elim}
 use Rattle.std.proofs.Props.{props}
@@ -11,8 +11,8 @@ use Rattle.std.proofs.lemmas.List.FromFn.{length-range_with_len, get_or-range_wi
 use Rattle.std.proofs.lemmas.Option.{none-some, same_Some, slice_get-map, slice_get_within, slice_get-get_or}
 use Rattle.std.proofs.Math.Nat.{mul_comm, mul-le-mul_right}
 use Rattle.sm_base.specs.declared.names.Name.{Name}
-use Rattle.sm_base.specs.declared.names.Name.TheVariants.{Mgt, Vhd, Raw, Old, Clone, Inflate, Coalesce, Relink, Leaf}
-use Rattle.sm_base.specs.declared.operations.Op.{Op}
+use Rattle.sm_base.specs.declared.names.Name.TheVariants.{Mgt, Vhd, Raw, Old, Cbt, Clone, Inflate, Coalesce, Relink, Leaf}
+use Rattle.sm_machine.specs.Operations.{Op}
 use Rattle.sm_disk.specs.Held.{Held, reads}
 use Rattle.vg_meta.specs.Tables.{VolumeTable, Row, rows, names_of}
 use Rattle.sm_base.specs.Kinds.{is_entry}
@@ -44,7 +44,7 @@ use Rattle.sm_ready.proofs.RowLaws.{tree_found}
 use Rattle.sm_ready.proofs.SoundLaws.{sound}
 use Rattle.sm_ready.specs.Orderly.{IsOrderly}
 use Rattle.sm_ready.specs.Stores.{content_in, content_now}
-use Rattle.sm_base.specs.declared.operations.Op.TheVariants as op
+use Rattle.sm_machine.specs.Operations as op
 
 -- the size of an image of the machine, in what a read gives
 size_now : (s : Site) (t : VolumeTable) (area : Held) (m : Known) (n : Name) (i : Image) (c : ImageRow) → IsOrderly s t m → IsFirm s t area m → IsWellFormed (shape_in s t m) → In c (shape_in s t m).images → c.name ≡ n
@@ -62,7 +62,7 @@ size_now s t area m n i c o ready w there named is =
 pub relink_large : (s : Site) (t : VolumeTable) (area : Held) (m : Known) → IsOrderly s t m → IsFirm s t area m → IsWellFormed (shape_in s t m)
     → (v p : Name) (c q : ImageRow) → m.op ≡ op.Relink v p → In c (shape_in s t m).images → In q (shape_in s t m).images → c.name ≡ v → q.name ≡ p → c.size ≤ q.size
 relink_large s t area m o ready w v p c q is in_c in_q named_c named_q =
-    let below : IsHeldBelow (content_now s t area) v p s.geometry.entries = subst (IsBelow (content_now s t area)) is ready.below in
+    let below : IsHeldBelow (content_now s t area) v p s.geometry.entries [] = subst (IsBelow (content_now s t area)) is ready.below in
     omega (arith, size_now s t area m v below.child c o ready w in_c named_c below.image, size_now s t area m p below.parent q o ready w in_q named_q below.under, below.size)
 
 -- no check fails of what memory tells
@@ -144,6 +144,8 @@ relink_of (op.Relink v p) child parent (inl is) = record { v = v; p = p; is = re
 relink_of (op.Relink v p) child parent (inr i) = absurd i
 relink_of (op.Leaf l p c) child parent (inl is) = absurd (let x = is in cc)
 relink_of (op.Leaf l p c) child parent (inr i) = absurd i
+relink_of (op.Live l p c dirty) child parent (inl is) = absurd (let x = is in cc)
+relink_of (op.Live l p c dirty) child parent (inr i) = absurd i
 
 pub vhd_named : (n : Name) → is_vhd n ≡ true → n ≡ Vhd (image_uuid n)
 unfolding is_vhd image_uuid
@@ -151,6 +153,7 @@ vhd_named (Vhd u) e = refl
 vhd_named (Raw u) e = absurd (true≢false (sym e))
 vhd_named Mgt e = absurd (true≢false (sym e))
 vhd_named (Old u) e = absurd (true≢false (sym e))
+vhd_named (Cbt u) e = absurd (true≢false (sym e))
 vhd_named (Clone d b w) e = absurd (true≢false (sym e))
 vhd_named (Inflate u k) e = absurd (true≢false (sym e))
 vhd_named (Coalesce c p) e = absurd (true≢false (sym e))
@@ -182,7 +185,7 @@ linking_left s t area m image o ready left child parent r v p n there child_is l
     e : IsRelink m.op child parent
     e = entry_relink s t m child parent r o there
 
-    below : IsHeldBelow (content_now s t area) e.v e.p s.geometry.entries
+    below : IsHeldBelow (content_now s t area) e.v e.p s.geometry.entries []
     below = subst (IsBelow (content_now s t area)) e.is ready.below
 
     by : IsWellFormed (shape_in s t m) → IsChild (shape_in s t m) true e.v e.p → p.own k ≡ Some bytes
@@ -203,7 +206,7 @@ linking_left s t area m image o ready left child parent r v p n there child_is l
         let size : v.size ≡ whole.0 * s.geometry.block = ap (λ (z : Link). z.size) l ∙ sym (ap (λ (z : ImageRow). z.size) y.2) ∙ whole.1 in
         let inside : k < v.size = sized (rows t (Vhd child)) refl in
         let small : k < s.geometry.entries * s.geometry.block = omega (arith, inside, size, mul-le s.geometry.block whole.0 s.geometry.entries whole.3) in
-        ap (λ (z : Image). z.own k) p_same ∙ below.held k bytes small (ap (λ (z : Image). z.own k) (sym v_same) ∙ has)
+        ap (λ (z : Image). z.own k) p_same ∙ below.held k bytes small refl (ap (λ (z : Image). z.own k) (sym v_same) ∙ has)
       where
         mul-le : (b x y : ℕ) → x ≤ y → x * b ≤ y * b
         mul-le b x y le = mul-le-mul_right b le

@@ -11,8 +11,8 @@ use Rattle.std.proofs.Props.{props}
 use Rattle.std.proofs.lemmas.Bool.{false_from_ne_true}
 use Rattle.std.proofs.lemmas.Option.{none-some}
 use Rattle.sm_base.specs.declared.names.Name.{Name}
-use Rattle.sm_base.specs.declared.operations.Op.{Op}
-use Rattle.sm_base.specs.declared.operations.Op.TheVariants as op
+use Rattle.sm_machine.specs.Operations.{Op}
+use Rattle.sm_machine.specs.Operations as op
 use Rattle.common_laws.specs.Lists.{◌>>=◌, In, change, numbers, when}
 use Rattle.common_laws.proofs.Bytes.{bytes_eq-refl, bytes_eq-same}
 use Rattle.common_laws.proofs.Lists.{find-some, In-numbers}
@@ -161,6 +161,7 @@ roomy_records σ rs op.Idle h = tt
 roomy_records σ rs (op.Copy v p cursor) h = h
 roomy_records σ rs (op.Relink v p) h = tt
 roomy_records σ rs (op.Leaf l p cursor) h = h
+roomy_records σ rs (op.Live l p cursor dirty) h = h
 
 pub orderly_labelled : (s : Site) (t : VolumeTable) (m : Known) (u text : List ℕ) (k : ℕ) (r : Record) → IsOrderly s t m → IsToLabel m u k r → refusal (shape_in s t m) (Label u text) ≡ None
     → IsOrderly s t (with_place k (relabelled text r) m)

@@ -19,7 +19,7 @@ use Rattle.sm_refs.specs.Attached.{count_of}
 use Rattle.sm_ready.proofs.ShapeLaws.{uuid_less, standing_shown, plainly_stands, content_records}
 use Rattle.sm_base.specs.Names.{name_cmp}
 use Rattle.sm_base.specs.declared.names.Name.{Name}
-use Rattle.sm_base.specs.declared.names.Name.TheVariants.{Mgt, Vhd, Raw, Old, Clone, Inflate, Coalesce, Relink, Leaf}
+use Rattle.sm_base.specs.declared.names.Name.TheVariants.{Mgt, Vhd, Raw, Old, Cbt, Clone, Inflate, Coalesce, Relink, Leaf}
 use Rattle.sm_disk.specs.Held.{Held, Keeps, reads as held_reads}
 use Rattle.sm_disk.proofs.HeldLaws.{Keeps-then}
 use Rattle.vg_meta.specs.Tables.{VolumeTable, Row, IsTable, rows, extents_of, name_eq}
@@ -405,6 +405,7 @@ module _ (s : Site) (t : VolumeTable) (m : Known) (old new : Held) (own : Name) 
       })
   retabled Mgt x other is = refl
   retabled (Old u) x other is = refl
+  retabled (Cbt u) x other is = refl
   retabled (Clone d b w) x other is = refl
   retabled (Inflate u j) x other is = refl
   retabled (Coalesce c p) x other is = refl

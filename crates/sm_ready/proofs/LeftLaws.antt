@@ -7,7 +7,7 @@ use Rattle.std.proofs.lemmas.List.{get_or_past}
 use Rattle.std.proofs.lemmas.Option.{none-some, slice_get-get_or}
 use Rattle.sm_base.proofs.NumberLemmas.{le-div_up}
 use Rattle.sm_base.specs.declared.names.Name.{Name}
-use Rattle.sm_base.specs.declared.names.Name.TheVariants.{Mgt, Vhd, Raw, Old, Clone, Inflate, Coalesce, Relink, Leaf}
+use Rattle.sm_base.specs.declared.names.Name.TheVariants.{Mgt, Vhd, Raw, Old, Cbt, Clone, Inflate, Coalesce, Relink, Leaf}
 use Rattle.sm_disk.specs.Held.{Held, Allows, reads, newest}
 use Rattle.sm_disk.proofs.HeldLaws.{Allows-reads}
 use Rattle.vg_layout.specs.Places.{record_extents}
@@ -220,6 +220,7 @@ links_left s t area m image (Vhd u) o ready left = vhd_link s t area m image u (
 links_left s t area m image (Raw u) o ready left = raw_link s t area m image u (rows t (Raw u)) o ready refl
 links_left s t area m image Mgt o ready left = no_link s t m (content_in s t image) Mgt o refl (other_row s t m Mgt o refl)
 links_left s t area m image (Old u) o ready left = no_link s t m (content_in s t image) (Old u) o refl (other_row s t m (Old u) o refl)
+links_left s t area m image (Cbt u) o ready left = no_link s t m (content_in s t image) (Cbt u) o refl (other_row s t m (Cbt u) o refl)
 links_left s t area m image (Clone d b w) o ready left = no_link s t m (content_in s t image) (Clone d b w) o refl (other_row s t m (Clone d b w) o refl)
 links_left s t area m image (Inflate u k) o ready left = no_link s t m (content_in s t image) (Inflate u k) o refl (other_row s t m (Inflate u k) o refl)
 links_left s t area m image (Coalesce v p) o ready left = no_link s t m (content_in s t image) (Coalesce v p) o refl (other_row s t m (Coalesce v p) o refl)
@@ -318,6 +319,7 @@ image_quiet s t area m image (Vhd u) o ready left settled = vhd_quiet s t area m
 image_quiet s t area m image (Raw u) o ready left settled = raw_quiet s t area m image u (rows t (Raw u)) o ready left refl settled
 image_quiet s t area m image Mgt o ready left settled = refl
 image_quiet s t area m image (Old u) o ready left settled = refl
+image_quiet s t area m image (Cbt u) o ready left settled = refl
 image_quiet s t area m image (Clone d b w) o ready left settled = refl
 image_quiet s t area m image (Inflate u k) o ready left settled = refl
 image_quiet s t area m image (Coalesce v p) o ready left settled = refl

@@ -74,3 +74,7 @@ pub mod FramingLaws
 pub mod ChainNames
 pub mod UseLaws
 pub mod EntryKinds
+pub mod DirtyLaws
+pub mod HeldLaws
+pub mod NowLaws
+pub mod RoomyLaws

@@ -18,7 +18,7 @@ use Rattle.vg_volumes.proofs.StoredLaws.{did_in, beside_in, size_stays}
 use Rattle.vg_volumes.proofs.VolumeLaws.{KeepsAt-none, KeepsElsewhere-same}
 use Rattle.vhd_chain.specs.declared.rows.TreeRow.{TreeRow}
 use Rattle.vhd_chain.specs.Trees.{Tree, with_row}
-use Rattle.sm_base.specs.declared.operations.Op.{Op}
+use Rattle.sm_machine.specs.Operations.{Op}
 use Rattle.sm_refs.specs.Attached.{Attached}
 use Rattle.vhd_image.specs.Steady.{IsSteady}
 use Rattle.sm_machine.specs.Disks.{Disk, with_disk}

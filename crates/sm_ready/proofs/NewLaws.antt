@@ -1,13 +1,13 @@
 -- A command makes an image and the record of its disk, in two commits: what is known before, and that each commit is
 -- allowed and leaves table and memory orderly.
-use Rattle.std.proofs.Common.{◌≡◌, ⊎_elim, suc, ℕ, ◌+◌, ◌*◌, ◌<◌, ◌≤◌, Bool, true, false, cond, List, [], ◌∷◌, length, map, filter, Some, None, refl, sym, ap, ◌∙◌, subst}
+use Rattle.std.proofs.Common.{◌≡◌, ⊎_elim, suc, ℕ, ◌+◌, ◌*◌, ◌<◌, ◌≤◌, Bool, true, false, ◌||◌, cond, List, [], ◌∷◌, length, map, filter, Some, None, refl, sym, ap, ◌∙◌, subst}
 use Rattle.std.proofs.Math.Logic.{∥∥₁_elim, ∥∥₁_map}
 use Rattle.std.proofs.Props.{props}
 use Rattle.std.proofs.lemmas.Bool.{true≢false}
 use Rattle.std.proofs.lemmas.Slice.Eq.{bytes_eq-Decides}
 use Rattle.common_laws.specs.Lists.{In}
 use Rattle.common_laws.proofs.Lists.{In-map}
-use Rattle.sm_base.specs.Kinds.{is_image}
+use Rattle.sm_base.specs.Kinds.{is_image, is_log}
 use Rattle.sm_base.specs.Names.{IsName, is_base}
 use Rattle.sm_base.specs.declared.names.Name.{Name}
 use Rattle.vg_meta.specs.Tables.{VolumeTable, Row, rows, names_of}
@@ -144,7 +144,7 @@ module _ (s : Site) (t : VolumeTable) (m : Known) (own : Name) (es : List ℕ) (
     there = there;
     fresh = refl;
     visible = refl;
-    allows = record { row = made own true es; there = there; image = image_named own b.image; otherwise = refl };
+    allows = record { row = made own true es; there = there; taking = ap (λ b. b || is_log own) (image_named own b.image); otherwise = refl };
     image = b.image;
     uuid = b.uuid;
     named = b.named;

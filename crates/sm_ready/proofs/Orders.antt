@@ -6,8 +6,8 @@ use Rattle.std.proofs.lemmas.Bool.{true≢false}
 use Rattle.std.proofs.lemmas.Option.{none-some, same_Some}
 use Rattle.sm_base.specs.Numbers.{IsGeometry}
 use Rattle.sm_base.specs.declared.names.Name.{Name}
-use Rattle.sm_base.specs.declared.names.Name.TheVariants.{Mgt, Vhd, Raw, Old, Clone, Inflate, Coalesce, Relink, Leaf}
-use Rattle.sm_base.specs.declared.operations.Op.{Op}
+use Rattle.sm_base.specs.declared.names.Name.TheVariants.{Mgt, Vhd, Raw, Old, Cbt, Clone, Inflate, Coalesce, Relink, Leaf}
+use Rattle.sm_machine.specs.Operations.{Op}
 use Rattle.vg_meta.specs.Tables.{VolumeTable, Row, rows, name_eq, names_of}
 use Rattle.sm_base.specs.Kinds.{is_image, is_entry}
 use Rattle.vg_meta.proofs.NameLaws.{name_eq-true}
@@ -26,7 +26,7 @@ use Rattle.vhd_chain.specs.Trees.{row_name, tree_row}
 use Rattle.sm_ready.specs.Orderly.{IsOrderly}
 use Rattle.sm_standing.specs.Volumes.{IsAtSize}
 use Rattle.sm_standing.proofs.ImageSectors.{whole_none}
-use Rattle.sm_base.specs.declared.operations.Op.TheVariants as op
+use Rattle.sm_machine.specs.Operations as op
 use Rattle.vhd_image.specs.declared.images.Body.TheVariants as body
 
 pub geometry_of : (s : Site) (t : VolumeTable) (m : Known) → IsOrderly s t m → IsGeometry s.geometry.extent s.geometry.block s.geometry.entries
@@ -152,6 +152,7 @@ making_journal Mgt e = absurd (true≢false (sym e))
 making_journal (Vhd u) e = absurd (true≢false (sym e))
 making_journal (Raw u) e = absurd (true≢false (sym e))
 making_journal (Old u) e = absurd (true≢false (sym e))
+making_journal (Cbt u) e = absurd (true≢false (sym e))
 making_journal (Clone d b w) e = refl
 making_journal (Inflate u k) e = refl
 making_journal (Coalesce v p) e = refl
@@ -166,6 +167,8 @@ entry_folds (op.Relink v p) n (inl is) e = true≢false (sym e ∙ ap is_making 
 entry_folds (op.Relink v p) n (inr i) e = absurd i
 entry_folds (op.Leaf v p c) n (inl is) e = true≢false (sym e ∙ ap is_making is)
 entry_folds (op.Leaf v p c) n (inr i) e = absurd i
+entry_folds (op.Live l p c dirty) n (inl is) e = true≢false (sym e ∙ ap is_making is)
+entry_folds (op.Live l p c dirty) n (inr i) e = absurd i
 
 pub none_of : (ns : List Name) → ((n : Name) → In n ns → ⊥) → ns ≡ []
 none_of [] none = refl

@@ -8,7 +8,7 @@ use Rattle.std.proofs.lemmas.Option.{same_Some}
 use Rattle.std.specs.List.{filter}
 use Rattle.std.specs.Str.{bytes_eq}
 use Rattle.sm_base.specs.declared.names.Name.{Name}
-use Rattle.sm_base.specs.declared.names.Name.TheVariants.{Mgt, Vhd, Raw, Old, Clone, Inflate, Coalesce, Relink, Leaf}
+use Rattle.sm_base.specs.declared.names.Name.TheVariants.{Mgt, Vhd, Raw, Old, Cbt, Clone, Inflate, Coalesce, Relink, Leaf}
 use Rattle.sm_disk.specs.Held.{Held, reads}
 use Rattle.vg_meta.specs.Tables.{VolumeTable, Row, rows, extents_of, names_of, name_eq}
 use Rattle.sm_base.specs.Kinds.{is_entry}
@@ -32,7 +32,7 @@ use Rattle.sm_machine.specs.declared.commands.Command.TheVariants.{Gc}
 use Rattle.common_laws.proofs.Lists.{In-filter, filter-In, In-map_at, In-map}
 use Rattle.sm_machine.proofs.Listed.{map-filter}
 use Rattle.sm_machine.proofs.Steps.{step_keeps_shape}
-use Rattle.sm_base.specs.declared.operations.Op.{Op}
+use Rattle.sm_machine.specs.Operations.{Op}
 use Rattle.sm_base.specs.declared.refusals.Refusal.{Refusal}
 use Rattle.sm_machine.specs.Refusals.{refusal}
 use Rattle.sm_machine.proofs.ImageNames.{same_image-sound, same_image-refl}
@@ -63,7 +63,7 @@ use Rattle.sm_ready.specs.Stores.{Leaving, content_now}
 use Rattle.sm_standing.specs.Standing.{disks}
 use Rattle.sm_ready.proofs.CommitLaws.{law_single_commit, volume_rested}
 use Rattle.sm_ready.proofs.RestLaws.{IsOfRow, ready_rest}
-use Rattle.sm_base.specs.declared.operations.Op.TheVariants as op
+use Rattle.sm_machine.specs.Operations as op
 use Rattle.sm_base.specs.declared.operations.Plan.TheVariants as plan
 use Rattle.sm_base.specs.declared.operations.Plan as plan_type
 
@@ -174,6 +174,7 @@ no_journal (Vhd u) e = refl
 no_journal (Raw u) e = refl
 no_journal Mgt e = refl
 no_journal (Old u) e = refl
+no_journal (Cbt u) e = refl
 no_journal (Clone d b w) e = absurd (true≢false (sym e))
 no_journal (Inflate u k) e = absurd (true≢false (sym e))
 no_journal (Coalesce c p) e = absurd (true≢false (sym e))
@@ -272,6 +273,7 @@ image_kept s t old m m' x (Raw u) (Some v) o o' allows other is =
     })
 image_kept s t old m m' x Mgt v o o' allows other is = refl
 image_kept s t old m m' x (Old u) v o o' allows other is = refl
+image_kept s t old m m' x (Cbt u) v o o' allows other is = refl
 image_kept s t old m m' x (Clone d b w) v o o' allows other is = refl
 image_kept s t old m m' x (Inflate u k) v o o' allows other is = refl
 image_kept s t old m m' x (Coalesce c p) v o o' allows other is = refl

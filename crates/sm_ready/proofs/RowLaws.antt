@@ -7,7 +7,7 @@ use Rattle.std.specs.List.Sorted.{IsStrictlySortedBy}
 use Rattle.std.specs.declared.cmp.Ordering.TheVariants.{Less}
 use Rattle.sm_base.specs.Names.{name_cmp}
 use Rattle.sm_base.specs.declared.names.Name.{Name}
-use Rattle.sm_base.specs.declared.names.Name.TheVariants.{Mgt, Vhd, Raw, Old, Clone, Inflate, Coalesce, Relink, Leaf}
+use Rattle.sm_base.specs.declared.names.Name.TheVariants.{Mgt, Vhd, Raw, Old, Cbt, Clone, Inflate, Coalesce, Relink, Leaf}
 use Rattle.vg_meta.specs.Tables.{VolumeTable, Row, rows, row_of, names_of}
 use Rattle.sm_base.specs.Kinds.{is_image}
 use Rattle.vg_meta.proofs.NameLaws.{name_eq-same, name_eq-other, less_other}
@@ -55,6 +55,7 @@ image_named (Vhd u) e = refl
 image_named (Raw u) e = refl
 image_named Mgt e = absurd (true≢false (sym e))
 image_named (Old u) e = refl
+image_named (Cbt u) e = absurd (true≢false (sym e))
 image_named (Clone d b w) e = absurd (true≢false (sym e))
 image_named (Inflate u k) e = absurd (true≢false (sym e))
 image_named (Coalesce v p) e = absurd (true≢false (sym e))

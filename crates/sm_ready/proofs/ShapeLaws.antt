@@ -23,13 +23,13 @@ use Rattle.std.specs.Str.{bytes_eq}
 use Rattle.sm_base.specs.Names.{IsName, name_cmp}
 use Rattle.sm_base.proofs.OrderLemmas.{name_cmp_total}
 use Rattle.sm_base.specs.declared.names.Name.{Name}
-use Rattle.sm_base.specs.declared.names.Name.TheVariants.{Mgt, Vhd, Raw, Old, Clone, Inflate, Coalesce, Relink, Leaf}
-use Rattle.sm_base.specs.declared.operations.Op.TheVariants.{Idle}
+use Rattle.sm_base.specs.declared.names.Name.TheVariants.{Mgt, Vhd, Raw, Old, Cbt, Clone, Inflate, Coalesce, Relink, Leaf}
+use Rattle.sm_machine.specs.Operations.{Idle}
 use Rattle.sm_disk.specs.Held.{Held, reads}
 use Rattle.sm_disk.proofs.HeldLaws.{Allows-reads}
 use Rattle.vg_layout.specs.Places.{record_extents}
 use Rattle.vg_meta.specs.Tables.{VolumeTable, Row, IsVolume, rows, row_of, extents_of, names_of, name_eq}
-use Rattle.sm_base.specs.Kinds.{is_image, is_entry}
+use Rattle.sm_base.specs.Kinds.{is_image, is_log, is_entry}
 use Rattle.vg_meta.proofs.NameLaws.{name_eq-same, name_eq-other, name_eq-true, less_other, before_from, name_eq-false}
 use Rattle.vg_meta.proofs.RowLaws.{row_of-name, All-row_of}
 use Rattle.vg_volumes.specs.Sites.{Site, volume_of}
@@ -196,6 +196,7 @@ seen_by s t area m (Vhd u) r o ready there full = inl (vhd_seen s t area m u r o
 seen_by s t area m (Raw u) r o ready there full = inl (raw_seen s t area m u r o ready there full)
 seen_by s t area m Mgt r o ready there full = unseen s t area m Mgt r (row_of-name t.volumes Mgt r there) refl refl
 seen_by s t area m (Old u) r o ready there full = unseen s t area m (Old u) r (row_of-name t.volumes (Old u) r there) refl refl
+seen_by s t area m (Cbt u) r o ready there full = unseen s t area m (Cbt u) r (row_of-name t.volumes (Cbt u) r there) refl refl
 seen_by s t area m (Clone d b w) r o ready there full = unseen s t area m (Clone d b w) r (row_of-name t.volumes (Clone d b w) r there) refl refl
 seen_by s t area m (Inflate u k) r o ready there full = unseen s t area m (Inflate u k) r (row_of-name t.volumes (Inflate u k) r there) refl refl
 seen_by s t area m (Coalesce v p) r o ready there full = unseen s t area m (Coalesce v p) r (row_of-name t.volumes (Coalesce v p) r there) refl refl
@@ -303,7 +304,7 @@ no_length r e = eqb-true (length r.extents) 0 (and_right (not r.fresh) (length r
     and_right false b e = absurd (true≢false (sym e))
 
 abbrev pub suits_as : Row → Name → Bool
-suits_as r n = cond (is_image n) (nat_lt 0 (length r.extents)) (not r.hidden && (not r.fresh && (not (is_entry n) || (length r.extents == 0))))
+suits_as r n = cond (is_image n) (nat_lt 0 (length r.extents)) (not (is_log n) && (not r.hidden && (not r.fresh && (not (is_entry n) || (length r.extents == 0)))))
 
 pub no_extents : (r : Row) (n : Name) → suits_as r n ≡ true → is_image_name n ≡ false → n ≢ Mgt → ((u : List ℕ) → n ≢ Old u) → length r.extents ≡ 0
 unfolding is_image_name
@@ -311,6 +312,7 @@ no_extents r (Vhd u) v none other old = absurd (true≢false none)
 no_extents r (Raw u) v none other old = absurd (true≢false none)
 no_extents r Mgt v none other old = absurd (other refl)
 no_extents r (Old u) v none other old = absurd (old u refl)
+no_extents r (Cbt u) v none other old = absurd (true≢false (sym v))
 no_extents r (Clone d b w) v none other old = no_length r v
 no_extents r (Inflate u k) v none other old = no_length r v
 no_extents r (Coalesce c p) v none other old = no_length r v
@@ -494,6 +496,7 @@ folded_plainly t Mgt u plainly none = refl
 folded_plainly t (Vhd v) u plainly none = refl
 folded_plainly t (Raw v) u plainly none = refl
 folded_plainly t (Old v) u plainly none = refl
+folded_plainly t (Cbt v) u plainly none = refl
 folded_plainly t (Clone d b w) u plainly none = refl
 folded_plainly t (Inflate v k) u plainly none = refl
 folded_plainly t (Coalesce c p) u plainly none = refl
@@ -537,6 +540,7 @@ stands_visible t (Raw v) u image same visible = by (is_visible t (Vhd u))
     by false = (Raw u, ap (λ b. cond b (Some (Raw u)) None) (ap (λ w. is_visible t (Raw w)) (sym same) ∙ visible))
 stands_visible t Mgt u image same visible = absurd (true≢false (sym image))
 stands_visible t (Old v) u image same visible = absurd (true≢false (sym image))
+stands_visible t (Cbt v) u image same visible = absurd (true≢false (sym image))
 stands_visible t (Clone d b w) u image same visible = absurd (true≢false (sym image))
 stands_visible t (Inflate v k) u image same visible = absurd (true≢false (sym image))
 stands_visible t (Coalesce c p) u image same visible = absurd (true≢false (sym image))

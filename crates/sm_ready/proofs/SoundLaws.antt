@@ -11,8 +11,8 @@ use Rattle.std.proofs.Math.Nat.{mul-le-mul_right}
 use Rattle.sm_base.specs.Names.{IsName, IsUuid, is_base, name_cmp}
 use Rattle.sm_base.specs.declared.faults.Place.{Place}
 use Rattle.sm_base.specs.declared.names.Name.{Name}
-use Rattle.sm_base.specs.declared.names.Name.TheVariants.{Mgt, Vhd, Raw, Old, Clone, Inflate, Coalesce, Relink, Leaf}
-use Rattle.sm_base.specs.declared.operations.Op.{Op}
+use Rattle.sm_base.specs.declared.names.Name.TheVariants.{Mgt, Vhd, Raw, Old, Cbt, Clone, Inflate, Coalesce, Relink, Leaf}
+use Rattle.sm_machine.specs.Operations.{Op}
 use Rattle.vg_layout.specs.Places.{record_extents}
 use Rattle.vg_meta.specs.Tables.{VolumeTable, Row, IsVolume, rows, extents_of, names_of}
 use Rattle.sm_base.specs.Kinds.{is_image as is_data, is_entry}
@@ -45,7 +45,7 @@ use Rattle.sm_standing.specs.Outlines.{Outline, Link}
 use Rattle.sm_mgt.specs.Places.{as_reading}
 use Rattle.sm_ready.proofs.RowLaws.{tree_found, found_in, volume_there, image_named, All-In}
 use Rattle.sm_base.specs.declared.faults.Place.TheVariants as at
-use Rattle.sm_base.specs.declared.operations.Op.TheVariants as op
+use Rattle.sm_machine.specs.Operations as op
 
 given_none : {A : Type 0} (b : Bool) (x : A) → b ≡ false → given b x ≡ None
 given_none true x e = absurd (true≢false e)
@@ -126,6 +126,7 @@ other_linked c Mgt e = refl
 other_linked c (Vhd u) e = refl
 other_linked c (Raw u) e = refl
 other_linked c (Old u) e = refl
+other_linked c (Cbt u) e = refl
 other_linked c (Clone d b k) e = absurd (true≢false e)
 other_linked c (Inflate u k) e = refl
 other_linked c (Coalesce a b) e = absurd (true≢false e)
@@ -211,6 +212,7 @@ module _ (s : Site) (t : VolumeTable) (m : Known) (o : IsOrderly s t m) (w : IsW
   vhd_named (Raw u) e = absurd (true≢false (sym e))
   vhd_named Mgt e = absurd (true≢false (sym e))
   vhd_named (Old u) e = absurd (true≢false (sym e))
+  vhd_named (Cbt u) e = absurd (true≢false (sym e))
   vhd_named (Clone d b w) e = absurd (true≢false (sym e))
   vhd_named (Inflate u k) e = absurd (true≢false (sym e))
   vhd_named (Coalesce c p) e = absurd (true≢false (sym e))
@@ -227,6 +229,7 @@ module _ (s : Site) (t : VolumeTable) (m : Known) (o : IsOrderly s t m) (w : IsW
       by false = h
   hidden_either Mgt e h = absurd (true≢false (sym e))
   hidden_either (Old u) e h = absurd (true≢false (sym e))
+  hidden_either (Cbt u) e h = absurd (true≢false (sym e))
   hidden_either (Clone d b w) e h = absurd (true≢false (sym e))
   hidden_either (Inflate u k) e h = absurd (true≢false (sym e))
   hidden_either (Coalesce c p) e h = absurd (true≢false (sym e))
@@ -261,6 +264,8 @@ module _ (s : Site) (t : VolumeTable) (m : Known) (o : IsOrderly s t m) (w : IsW
   staged (op.Relink v p) n h (inr i) = absurd i
   staged (op.Leaf l p c) n h (inl is) = ap (is_at_stage t) is ∙ or_left (is_leaf_copied t (image_uuid l) (image_uuid p)) (is_leaf_renamed t (image_uuid l) (image_uuid p) || (is_leaf_swapped t (image_uuid l) (image_uuid p) || is_leaf_folded t (image_uuid l) (image_uuid p))) (leaf_copied l p h.0 h.1)
   staged (op.Leaf l p c) n h (inr i) = absurd i
+  staged (op.Live l p c dirty) n h (inl is) = ap (is_at_stage t) is ∙ or_left (is_leaf_copied t (image_uuid l) (image_uuid p)) (is_leaf_renamed t (image_uuid l) (image_uuid p) || (is_leaf_swapped t (image_uuid l) (image_uuid p) || is_leaf_folded t (image_uuid l) (image_uuid p))) (leaf_copied l p h.only h.parent_vhd)
+  staged (op.Live l p c dirty) n h (inr i) = absurd i
 
   -- ---- 11: parents and chains
 
@@ -326,6 +331,7 @@ module _ (s : Site) (t : VolumeTable) (m : Known) (o : IsOrderly s t m) (w : IsW
   uuid_named (Raw u) e = or_right (same_image (Raw u) (Vhd u)) (same_image (Raw u) (Raw u)) (same_image-refl (Raw u) refl)
   uuid_named Mgt e = absurd (true≢false (sym e))
   uuid_named (Old u) e = absurd (true≢false (sym e))
+  uuid_named (Cbt u) e = absurd (true≢false (sym e))
   uuid_named (Clone d b w) e = absurd (true≢false (sym e))
   uuid_named (Inflate u k) e = absurd (true≢false (sym e))
   uuid_named (Coalesce c p) e = absurd (true≢false (sym e))
@@ -454,6 +460,8 @@ module _ (s : Site) (t : VolumeTable) (m : Known) (o : IsOrderly s t m) (w : IsW
   past_entry (op.Relink v p) n h (inr i) = absurd i
   past_entry (op.Leaf l p c) n h (inl is) = ap (are_past t) is ∙ past_both false l p h.0.link
   past_entry (op.Leaf l p c) n h (inr i) = absurd i
+  past_entry (op.Live l p c dirty) n h (inl is) = ap (are_past t) is ∙ past_both false l p h.only.link
+  past_entry (op.Live l p c dirty) n h (inr i) = absurd i
 
   record_volume_none : record_volume_fault (outline_in s t m) ≡ None
   unfolding record_volume_fault outline_in
@@ -479,6 +487,7 @@ module _ (s : Site) (t : VolumeTable) (m : Known) (o : IsOrderly s t m) (w : IsW
     where
       by : (n : Name) {x : Row} → rows t n ≡ Some x → is_orphaned t n ≡ false
       by (Old u) {x} e = absurd (none-some x (sym (no_old u) ∙ e))
+      by (Cbt u) {x} e = refl
       by Mgt {x} e = refl
       by (Vhd u) {x} e = refl
       by (Raw u) {x} e = refl
@@ -535,6 +544,7 @@ module _ (s : Site) (t : VolumeTable) (m : Known) (o : IsOrderly s t m) (w : IsW
       by r (Raw u) e = unless r (is_oversize s.geometry.extent s.geometry.block s.geometry.entries r) (λ full. raw r u e full)
       by r Mgt e = and_false (not r.fresh)
       by r (Old u) e = and_false (not r.fresh)
+      by r (Cbt u) e = and_false (not r.fresh)
       by r (Clone d b c) e = and_false (not r.fresh)
       by r (Inflate u k) e = and_false (not r.fresh)
       by r (Coalesce c p) e = and_false (not r.fresh)
@@ -573,6 +583,7 @@ module _ (s : Site) (t : VolumeTable) (m : Known) (o : IsOrderly s t m) (w : IsW
       by r (Raw u) e = refl
       by r Mgt e = refl
       by r (Old u) e = refl
+      by r (Cbt u) e = refl
       by r (Clone d b c) e = refl
       by r (Inflate u k) e = refl
       by r (Coalesce c p) e = refl
@@ -592,6 +603,7 @@ module _ (s : Site) (t : VolumeTable) (m : Known) (o : IsOrderly s t m) (w : IsW
       ∙ ap (λ a. length (children (outline_in s t m) a)) is ∙ one_child true v p c
   one_with v p Mgt c is e = absurd (true≢false (sym e))
   one_with v p (Old u) c is e = absurd (true≢false (sym e))
+  one_with v p (Cbt u) c is e = absurd (true≢false (sym e))
   one_with v p (Clone d b k) c is e = absurd (true≢false (sym e))
   one_with v p (Inflate u k) c is e = absurd (true≢false (sym e))
   one_with v p (Coalesce a b) c is e = absurd (true≢false (sym e))
@@ -612,6 +624,8 @@ module _ (s : Site) (t : VolumeTable) (m : Known) (o : IsOrderly s t m) (w : IsW
   linked_entry (op.Relink v p) n h (inr i) level = absurd i
   linked_entry (op.Leaf l p c) n h (inl is) level = ap (is_entry_linked (outline_in s t m)) is ∙ leaf_linked l p h.0 h.1
   linked_entry (op.Leaf l p c) n h (inr i) level = absurd i
+  linked_entry (op.Live l p c dirty) n h (inl is) level = ap (is_entry_linked (outline_in s t m)) is ∙ leaf_linked l p h.only h.parent_vhd
+  linked_entry (op.Live l p c dirty) n h (inr i) level = absurd i
 
   places_right : record_fault (outline_in s t m) ≡ None
   unfolding record_fault outline_in
@@ -642,6 +656,7 @@ module _ (s : Site) (t : VolumeTable) (m : Known) (o : IsOrderly s t m) (w : IsW
       by (op.Copy v p c) = refl
       by (op.Relink v p) = refl
       by (op.Leaf l p c) = refl
+      by (op.Live l p c dirty) = refl
 
   misnamed_none : misnamed_fault (outline_in s t m) ≡ None
   unfolding misnamed_fault outline_in
@@ -700,6 +715,7 @@ module _ (s : Site) (t : VolumeTable) (m : Known) (o : IsOrderly s t m) (w : IsW
       filled_right r (Raw u) e full = ap₂ (λ a b. a || not b) (no_vhd u r e full) (past (Raw u) u r refl e full (raw_uuid u))
       filled_right r Mgt e full = refl
       filled_right r (Old u) e full = absurd (none-some r (sym (no_old u) ∙ e))
+      filled_right r (Cbt u) e full = refl
       filled_right r (Clone d b c) e full = refl
       filled_right r (Inflate u k) e full = refl
       filled_right r (Coalesce c p) e full = refl

@@ -6,7 +6,7 @@ use Rattle.std.proofs.Props.{props}
 use Rattle.std.proofs.lemmas.Bool.{true≢false, le-ltb, cases_lt}
 use Rattle.std.proofs.lemmas.Option.{none-some, same_Some}
 use Rattle.sm_base.specs.declared.names.Name.{Name}
-use Rattle.sm_base.specs.declared.names.Name.TheVariants.{Mgt, Vhd, Relink, Raw, Old, Clone, Inflate, Coalesce, Leaf}
+use Rattle.sm_base.specs.declared.names.Name.TheVariants.{Mgt, Vhd, Relink, Raw, Old, Cbt, Clone, Inflate, Coalesce, Leaf}
 use Rattle.sm_disk.specs.Held.{Held}
 use Rattle.vg_meta.specs.Tables.{VolumeTable, Row, rows, name_eq}
 use Rattle.vg_meta.proofs.NameLaws.{name_eq-true, name_eq-false}
@@ -67,6 +67,7 @@ image_by_sectors s t m a b (Raw u) (Some r) o is same =
     raw_same (content_in s t a) (content_in s t b) u u r r (record { extent = refl; block = refl; entries = refl; before = is; after = is; extents = refl; fresh = refl; sectors = same })
 image_by_sectors s t m a b Mgt x o is same = refl
 image_by_sectors s t m a b (Old u) x o is same = refl
+image_by_sectors s t m a b (Cbt u) x o is same = refl
 image_by_sectors s t m a b (Clone d c w) x o is same = refl
 image_by_sectors s t m a b (Inflate u k) x o is same = refl
 image_by_sectors s t m a b (Coalesce c p) x o is same = refl

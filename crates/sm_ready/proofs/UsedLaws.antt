@@ -1,8 +1,8 @@
 -- Other attachments beside the same images.
 use Rattle.std.proofs.Common.{◌≡◌, List}
 use Rattle.sm_base.specs.declared.names.Name.{Name}
-use Rattle.sm_base.specs.declared.operations.Op.{Op}
-use Rattle.sm_base.specs.declared.operations.Op.TheVariants as op
+use Rattle.sm_machine.specs.Operations.{Op}
+use Rattle.sm_machine.specs.Operations as op
 use Rattle.sm_disk.specs.Held.{Held, IsSettled}
 use Rattle.vg_meta.specs.Tables.{VolumeTable}
 use Rattle.vg_volumes.specs.Sites.{Site}
@@ -24,6 +24,7 @@ roomy_used σ xs op.Idle h = tt
 roomy_used σ xs (op.Copy v p cursor) h = h
 roomy_used σ xs (op.Relink v p) h = tt
 roomy_used σ xs (op.Leaf l p cursor) h = h
+roomy_used σ xs (op.Live l p cursor dirty) h = h
 
 -- memory is orderly with them, where the shape is well-formed and each image is counted as often as it is used
 pub orderly_used : (s : Site) (t : VolumeTable) (m : Known) (a : Attached) → IsOrderly s t m → ∥ IsWellFormed (shape_in s t (with_attached a m)) ∥₁ → ((n : Name) → count_of a n ≡ refs n (shape_in s t (with_attached a m)))

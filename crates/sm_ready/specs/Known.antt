@@ -3,8 +3,8 @@ use Rattle.std.specs.Prelude.{ℕ, Bool, false, ◌||◌, is_some, List, [], ◌
 use Rattle.std.specs.List.{filter, list_any}
 use Rattle.sm_base.specs.declared.names.Name.{Name}
 use Rattle.sm_base.specs.declared.names.Name.TheVariants as name
-use Rattle.sm_base.specs.declared.operations.Op.{Op}
-use Rattle.sm_base.specs.declared.operations.Op.TheVariants as op
+use Rattle.sm_machine.specs.Operations.{Op}
+use Rattle.sm_machine.specs.Operations as op
 use Rattle.vg_layout.specs.Places.{record_extents}
 use Rattle.vg_meta.specs.Tables.{VolumeTable, Row}
 use Rattle.vg_volumes.specs.Sites.{Site}
@@ -80,6 +80,7 @@ entry_of op.Idle = []
 entry_of (op.Copy v p cursor) = name.Coalesce (image_uuid v) (image_uuid p) ∷ []
 entry_of (op.Relink v p) = name.Relink (image_uuid v) (image_uuid p) ∷ []
 entry_of (op.Leaf l p cursor) = name.Leaf (image_uuid l) (image_uuid p) ∷ []
+entry_of (op.Live l p cursor dirty) = name.Leaf (image_uuid l) (image_uuid p) ∷ []
 
 -- what the table, and what memory, says of an image's volume: whether it is hidden, and how many extents it has
 pub record Face : Type 0 where

@@ -3,7 +3,7 @@ use Rattle.std.specs.Prelude.{◌≡◌, ◌*◌, ◌≤◌, max, true, false, l
 use Rattle.sm_base.specs.Limits.{extent_limit}
 use Rattle.sm_base.specs.declared.names.Name.{Name}
 use Rattle.sm_base.specs.declared.names.Name.TheVariants.{Mgt}
-use Rattle.sm_base.specs.declared.operations.Op.{Op}
+use Rattle.sm_machine.specs.Operations.{Op}
 use Rattle.vg_layout.specs.Places.{record_extents}
 use Rattle.vg_meta.specs.Tables.{VolumeTable, Row, IsTable, rows, extents_of}
 use Rattle.sm_base.specs.Kinds.{is_image, is_entry}
@@ -20,7 +20,7 @@ use Rattle.sm_refs.specs.Attached.{count_of}
 use Rattle.sm_ready.specs.Known.{Known, shape_in, entry_of, row_face, tree_face}
 use Rattle.vhd_chain.specs.declared.rows.TreeRow.{TreeRow}
 use Rattle.vhd_chain.specs.Trees.{tree_row}
-use Rattle.sm_base.specs.declared.operations.Op.TheVariants as op
+use Rattle.sm_machine.specs.Operations as op
 
 -- a parent of a copy has room for the blocks that either image has
 abbrev pub IsRoomyFor : Shape → Name → Name → Type 0
@@ -32,6 +32,7 @@ IsRoomyIn s op.Idle = Unit {0}
 IsRoomyIn s (op.Copy v p cursor) = IsRoomyFor s v p
 IsRoomyIn s (op.Relink v p) = Unit {0}
 IsRoomyIn s (op.Leaf l p cursor) = IsRoomyFor s l p
+IsRoomyIn s (op.Live l p cursor dirty) = IsRoomyFor s l p
 
 abbrev pub IsRoomy : Shape → Type 0
 IsRoomy s = IsRoomyIn s s.op

@@ -2,7 +2,7 @@
 use Rattle.std.specs.Prelude.{ℕ}
 use Rattle.std.proofs.Props.{props}
 use Rattle.sm_base.specs.declared.sizes.Geometry.{Geometry}
-use Rattle.sm_base.specs.declared.operations.Op.{Op}
+use Rattle.sm_machine.specs.Operations.{Op}
 use Rattle.vg_meta.specs.Tables.{VolumeTable}
 use Rattle.vg_meta.specs.Proper.{IsName-prop}
 use Rattle.vg_volumes.specs.Sites.{Site}
@@ -16,7 +16,7 @@ use Rattle.sm_ready.specs.Known.{Known}
 use Rattle.sm_ready.specs.Orderly.{IsOrderly, IsRoomyIn}
 use Rattle.sm_ready.specs.Ready.{IsTidy}
 use Rattle.sm_ready.specs.declared.memory.Memory.{Memory}
-use Rattle.sm_base.specs.declared.operations.Op.TheVariants as op
+use Rattle.sm_machine.specs.Operations as op
 
 StandsIn-prop : (g : Geometry) (n : ℕ) (b : Body) → IsProp (StandsIn g n b)
 StandsIn-prop g n (Raw volume size) = hlevel props
@@ -27,6 +27,7 @@ IsRoomyIn-prop s op.Idle = hlevel props
 IsRoomyIn-prop s (op.Copy v p cursor) = hlevel props
 IsRoomyIn-prop s (op.Relink v p) = hlevel props
 IsRoomyIn-prop s (op.Leaf l p cursor) = hlevel props
+IsRoomyIn-prop s (op.Live l p cursor dirty) = hlevel props
 
 pub IsOrderly-prop : (s : Site) (t : VolumeTable) (m : Known) → IsProp (IsOrderly s t m)
 IsOrderly-prop s t m = hlevel (props, IsName-prop, StandsIn-prop, IsRoomyIn-prop)

@@ -1,7 +1,7 @@
 -- What holds of the sectors between two steps, where they are told.
-use Rattle.std.specs.Prelude.{◌≡◌, ℕ, ◌*◌, ◌<◌, Bool, true, false, not, ◌&&◌, List, length, Option, None, Some, slice_index_or}
+use Rattle.std.specs.Prelude.{◌≡◌, ℕ, ◌*◌, ◌/◌, ◌<◌, Bool, true, false, not, ◌&&◌, List, [], length, Option, None, Some, slice_index_or}
 use Rattle.sm_base.specs.declared.names.Name.{Name}
-use Rattle.sm_base.specs.declared.operations.Op.{Op}
+use Rattle.sm_machine.specs.Operations.{Op, is_dirty}
 use Rattle.sm_disk.specs.Held.{Held}
 use Rattle.vg_meta.specs.Tables.{VolumeTable, Row}
 use Rattle.vg_volumes.specs.Sites.{Site, volume_of}
@@ -17,7 +17,7 @@ use Rattle.sm_mgt.specs.Places.{Agrees, records_held, place_count, as_reading}
 use Rattle.vhd_image.specs.Steady.{IsSteady}
 use Rattle.vhd_volumes.specs.Steady.{IsQuiet}
 use Rattle.sm_ready.specs.Stores.{content_in, content_now}
-use Rattle.sm_base.specs.declared.operations.Op.TheVariants as op
+use Rattle.sm_machine.specs.Operations as op
 
 -- the own image of a disk that is attached for writing
 abbrev pub is_written_as : Shape → Name → Option ImageRow → Bool
@@ -27,20 +27,21 @@ is_written_as s n (Some i) = not i.hidden && is_rw (attached_as (image_uuid n) s
 unfoldable pub is_written_in : Shape → Name → Bool
 is_written_in s n = is_written_as s n (find_image n s.images)
 
--- p holds alike what n holds in the blocks below the cursor, and is as large
-pub record IsHeldBelow (c : Content) (n p : Name) (cursor : ℕ) : Type 0 where
+-- p holds alike what n holds in the blocks that are settled, those below the cursor that are not dirty, and is as large
+pub record IsHeldBelow (c : Content) (n p : Name) (cursor : ℕ) (dirty : List ℕ) : Type 0 where
   pub child : Image
   pub parent : Image
   pub image : image_of c n ≡ Some child
   pub under : image_of c p ≡ Some parent
   pub size : parent.size ≡ child.size
-  pub held : (k : ℕ) (bytes : List ℕ) → k < cursor * c.block → child.own k ≡ Some bytes → parent.own k ≡ Some bytes
+  pub held : (k : ℕ) (bytes : List ℕ) → k < cursor * c.block → is_dirty (k / c.block) dirty ≡ false → child.own k ≡ Some bytes → parent.own k ≡ Some bytes
 
 abbrev pub IsBelow : Content → Op → Type 0
 IsBelow c op.Idle = Unit {0}
-IsBelow c (op.Copy v p cursor) = IsHeldBelow c v p cursor
-IsBelow c (op.Relink v p) = IsHeldBelow c v p c.entries
-IsBelow c (op.Leaf l p cursor) = IsHeldBelow c l p cursor
+IsBelow c (op.Copy v p cursor) = IsHeldBelow c v p cursor []
+IsBelow c (op.Relink v p) = IsHeldBelow c v p c.entries []
+IsBelow c (op.Leaf l p cursor) = IsHeldBelow c l p cursor []
+IsBelow c (op.Live l p cursor dirty) = IsHeldBelow c l p cursor dirty
 
 -- the images: what a stop may leave of each is that image, and of one that is not written to, what a read gives
 pub record IsFirm (s : Site) (t : VolumeTable) (area : Held) (m : Known) : Type 0 where

@@ -3,7 +3,7 @@
 use Rattle.std.specs.Prelude.{◌≡◌, ◌⊎◌, ℕ, true, false, List, length, Option, Some, None, is_some}
 use Rattle.std.specs.List.{slice_get}
 use Rattle.sm_base.specs.declared.names.Name.{Name}
-use Rattle.sm_base.specs.declared.operations.Op.TheVariants.{Idle}
+use Rattle.sm_machine.specs.Operations.{Idle}
 use Rattle.sm_disk.specs.Held.{Held, IsSettled, May}
 use Rattle.sm_disk.specs.Sectors.{zeros}
 use Rattle.vg_meta.specs.Tables.{VolumeTable, Row, rows}

@@ -105,6 +105,7 @@ pub fn is_vhd(row: &TreeRow) -> bool
         Name::Mgt
         | Name::Raw(_)
         | Name::Old(_)
+        | Name::Cbt(_)
         | Name::Clone { .. }
         | Name::Inflate { .. }
         | Name::Coalesce { .. }

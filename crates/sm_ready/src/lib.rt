@@ -42,6 +42,8 @@
 //! `RowRoomLaws`); what is asked of the visible image of a UUID (`ShownLaws`); a list in order with one element more
 //! (`InsertLaws`); a row that was taken out of the tree, changed and put back (`PutBackLaws`); that an image stands in its volume
 //! and is true of it (`TruthLaws`), and stays so (`FrameLaws`); a visible image at which the operation does not work (`ApartLaws`);
+//! what the parent of a copy holds of its child, behind a guest's write into the child and behind the copy of one block (`HeldLaws`,
+//! `DirtyLaws`), and that it has room for the blocks of both (`RoomyLaws`); an image of memory as a read gives it (`NowLaws`);
 //! a disk that grows, as the disks show it (`RaisedLaws`), and what a stop leaves of it (`GrownLaws`); changes made one after the
 //! other (`RunLaws`).
 //!
@@ -58,4 +60,4 @@ mod needs;
 
 pub use asking::{forked, image, image_name, is_vhd, named, new_uuid};
 pub use memory::Memory;
-pub use needs::{extents_needed, need, rounded};
+pub use needs::{extents_needed, need, rounded, thick};

@@ -1,7 +1,7 @@
 //! What is in memory.
 
-use sm_base::Op;
 use sm_mgt::Mgt;
+use sm_operation::Operation;
 use sm_refs::Attachments;
 use vhd_chain::Tree;
 
@@ -15,5 +15,5 @@ pub struct Memory {
     /// The attached disks, and how many of them use each volume.
     pub attached: Attachments,
     /// What the collector is doing.
-    pub operation: Op,
+    pub operation: Operation,
 }

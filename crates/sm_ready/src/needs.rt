@@ -34,7 +34,7 @@ pub fn rounded(geometry: &Geometry, raw: bool, size: u64) -> u64
 }
 
 /// The extents of an image of so many sectors of which each block has a slot. No image has more blocks than its table.
-fn thick(geometry: &Geometry, sectors: u64) -> u64
+pub fn thick(geometry: &Geometry, sectors: u64) -> u64
     ensures exact { sectors ≤ geometry.now.entries * geometry.now.block → Sizes (λ σ. thick_in σ sectors) geometry.now result }
     ensures few { result < 2 ^ 32 }
 {
