@@ -4,8 +4,8 @@ use Rattle.std.proofs.lemmas.Bool.{true≢false}
 use Rattle.sm_base.specs.declared.names.Name.{Name}
 use Rattle.sm_base.specs.declared.names.Name.TheVariants.{Leaf}
 use Rattle.sm_base.specs.declared.operations.Mode.TheVariants.{Ro, Rw}
-use Rattle.sm_base.specs.declared.operations.Op.{Op}
-use Rattle.sm_base.specs.declared.operations.Op.TheVariants as op
+use Rattle.sm_machine.specs.Operations.{Op}
+use Rattle.sm_machine.specs.Operations as op
 use Rattle.sm_disk.specs.Held.{IsSettled}
 use Rattle.vg_meta.specs.Changes.{applied}
 use Rattle.vg_meta.specs.Tables.{VolumeTable}
@@ -49,6 +49,7 @@ unfolding refusal is_unknown is_taken is_in_use is_not_attached is_read_only is_
 refusal_abandoned s (Delete u) own = refl
 refusal_abandoned s (Attach u Rw) own = refl
 refusal_abandoned s (Attach u Ro) own = refl
+refusal_abandoned s (Detach u) own = refl
 refusal_abandoned s (Resize u size) own = refl
 refusal_abandoned s _ own = absurd (true≢false (sym own))
 
@@ -58,6 +59,7 @@ unfolding need rounded
 need_abandoned s (Delete u) own = refl
 need_abandoned s (Attach u Rw) own = refl
 need_abandoned s (Attach u Ro) own = refl
+need_abandoned s (Detach u) own = refl
 need_abandoned s (Resize u size) own = refl
 need_abandoned s _ own = absurd (true≢false (sym own))
 
@@ -67,6 +69,7 @@ unfolding own_commits need rounded
 own_abandoned s (Delete u) own = refl
 own_abandoned s (Attach u Rw) own = refl
 own_abandoned s (Attach u Ro) own = refl
+own_abandoned s (Detach u) own = refl
 own_abandoned s (Resize u size) own = refl
 own_abandoned s _ own = absurd (true≢false (sym own))
 
@@ -77,6 +80,7 @@ unfolding shape_after rounded
 after_abandoned s (Delete u) k own = refl
 after_abandoned s (Attach u Rw) k own = refl
 after_abandoned s (Attach u Ro) k own = refl
+after_abandoned s (Detach u) k own = refl
 after_abandoned s (Resize u size) k own = refl
 after_abandoned s _ k own = absurd (true≢false (sym own))
 
@@ -256,7 +260,7 @@ module _ {S : Type 0} {g : Ghosts S} {u : List ℕ} {a b : S} {m k : Memory} (w 
       by false is = subst (λ (x : S). (number ≤ (tab g x).sequence) × ((tab g x).sequence ≤ number + 1)) (sym (w.none is).0) (omega arith, omega arith)
       by true is =
           let l = leaf_folded m.operation (folding_of m.operation u is) in
-          let raised = ap (λ (t : VolumeTable). t.sequence) (gone is (Leaf (image_uuid l.0) (image_uuid l.1)) (ap entry_of l.3)).table in
+          let raised = ap (λ (t : VolumeTable). t.sequence) (gone is (Leaf (image_uuid l.0) (image_uuid l.1)) l.2).table in
           let small = o.table.sequence in
           (omega (arith, raised, small), omega (arith, raised))
 
@@ -276,13 +280,12 @@ module _ {S : Type 0} {g : Ghosts S} {u : List ℕ} {a b : S} {m k : Memory} (w 
           subst₂ (λ (x : S) (y : Memory). IsOrderly (g.site x) (record (tab g x) { sequence = number }) (known y)) (sym same.0) (sym same.1) o
       by true is =
           let l = leaf_folded m.operation (folding_of m.operation u is) in
-          let entry : entry_of m.operation ≡ Leaf (image_uuid l.0) (image_uuid l.1) ∷ [] = ap entry_of l.3 in
-          let c = gone is (Leaf (image_uuid l.0) (image_uuid l.1)) entry in
+          let c = gone is (Leaf (image_uuid l.0) (image_uuid l.1)) l.2 in
           let over : k.operation ≡ op.Idle = operation ∙ ap (λ (f : Bool). cond f op.Idle m.operation) is in
           subst₂ (λ (s : Site) (t : VolumeTable). IsOrderly s (record t { sequence = number }) (known k)) (sym w.site) (sym c.table)
           (subst (λ (x : Known). IsOrderly (g.site a) (record (applied (tab g a) (Remove (Leaf (image_uuid l.0) (image_uuid l.1)))) { sequence = number }) x)
           (sym (known_is ∙ ap (λ (x : Op). let y : Known = record (known m) { op = x } in y) over))
-          (orderly_before (ends g a m o l.3 refl refl)))
+          (orderly_before (ends g a m o refl l.2 refl)))
 
   module _ (c : Command) (fork : is_fork c ≡ true) where
     -- no cause refuses it

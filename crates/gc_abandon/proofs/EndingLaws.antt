@@ -1,16 +1,20 @@
 -- An operation of the collector ends, or is replaced by another: one commit of its journal entry. Memory is ready behind it, and
 -- no disk changes.
-use Rattle.std.proofs.Common.{◌≡◌, inl, inr, ℕ, true, false, List, [], ◌∷◌, Some, refl, sym, ap, ap₂, ◌∙◌, subst, subst₂, arith}
+use Rattle.std.proofs.Common.{◌≡◌, inl, inr, ℕ, Bool, true, false, List, [], ◌∷◌, Option, Some, None, refl, sym, ap, ap₂, ◌∙◌, subst, subst₂, arith}
 use Rattle.std.proofs.Math.Logic.{∥∥₁_elim}
 use Rattle.std.proofs.Props.{props}
 use Rattle.std.proofs.lemmas.Bool.{true≢false}
+use Rattle.std.proofs.lemmas.Option.{none-some, same_Some}
+use Rattle.std.specs.Str.{bytes_eq}
 use Rattle.common_laws.specs.Lists.{In}
 use Rattle.common_laws.proofs.Lists.{In-filter}
 use Rattle.sm_base.specs.Kinds.{is_entry}
 use Rattle.sm_base.proofs.KindLaws.{image-no_entry}
 use Rattle.sm_base.specs.declared.names.Name.{Name}
-use Rattle.sm_base.specs.declared.operations.Op.{Op}
-use Rattle.sm_base.specs.declared.operations.Op.TheVariants as op
+use Rattle.sm_base.specs.declared.names.Name.TheVariants.{Leaf}
+use Rattle.sm_base.specs.declared.operations.Op.{Op as Told}
+use Rattle.sm_machine.specs.Operations.{Op, told}
+use Rattle.sm_machine.specs.Operations as op
 use Rattle.sm_disk.specs.Held.{Held, reads}
 use Rattle.vg_volumes.specs.Commits.{IsBefore}
 use Rattle.vg_meta.specs.Tables.{Row, VolumeTable, names_of, rows}
@@ -24,6 +28,7 @@ use Rattle.vg_volumes.specs.declared.stores.Store.{Ghosts}
 use Rattle.vhd_chain.specs.Trees.{row_name}
 use Rattle.sm_machine.specs.Collector.{leaves}
 use Rattle.sm_machine.specs.Commits.{folds}
+use Rattle.sm_machine.specs.Shapes.{image_uuid}
 use Rattle.sm_machine.specs.WellFormed.{IsOperation, IsWellFormed, is_image_name}
 use Rattle.sm_standing.specs.Entries.{names_in}
 use Rattle.sm_standing.specs.Standing.{disks}
@@ -47,7 +52,7 @@ use Rattle.sm_ready.proofs.Orders.{named_row}
 use Rattle.sm_ready.proofs.RoomLaws.{rows_commits}
 use Rattle.sm_ready.proofs.RowLaws.{image_named}
 use Rattle.sm_ready.proofs.TakenLaws.{IsTold}
-use Rattle.gc_abandon.specs.Abandoning.{folding}
+use Rattle.gc_abandon.specs.Abandoning.{folded_pair, folding}
 use Rattle.gc_abandon.proofs.EntryLaws.{IsReentered, disks_entry, entered, entry_gone, extents_entry, image_entry, orderly_entry, past_raised, ready_rested, shape_entry, tidy_entry}
 
 -- ---- an entry goes, or is replaced
@@ -98,14 +103,73 @@ only_one same = (let z = same in cc)
 pub folding_of : (o : Op) (u : List ℕ) → folds o u ≡ true → folding o ≡ true
 unfolding folds
 folding_of (op.Leaf l p cursor) u is = refl
-folding_of _ u is = absurd (true≢false (sym is))
+folding_of (op.Live l p cursor dirty) u is = refl
+folding_of op.Idle u is = absurd (true≢false (sym is))
+folding_of (op.Copy v p cursor) u is = absurd (true≢false (sym is))
+folding_of (op.Relink v p) u is = absurd (true≢false (sym is))
 
 -- a leaf is folded
-pub leaf_folded : (o : Op) → folding o ≡ true → (l p : Name) × (cursor : ℕ) × (o ≡ op.Leaf l p cursor)
-leaf_folded (op.Leaf l p cursor) is = (l, p, cursor, refl)
+pub leaf_folded : (o : Op) → folding o ≡ true → (l p : Name) × (entry_of o ≡ Leaf (image_uuid l) (image_uuid p) ∷ [])
+leaf_folded (op.Leaf l p cursor) is = (l, p, refl)
+leaf_folded (op.Live l p cursor dirty) is = (l, p, refl)
 leaf_folded op.Idle is = absurd (true≢false (sym is))
 leaf_folded (op.Copy v p cursor) is = absurd (true≢false (sym is))
 leaf_folded (op.Relink v p) is = absurd (true≢false (sym is))
+
+-- what is told of it has the leaf and its parent
+pub record IsPair (o : Op) (l p : Name) : Type 0 where
+  pub entry : entry_of o ≡ Leaf (image_uuid l) (image_uuid p) ∷ []
+  pub child : WorksAt o l
+  pub parent : WorksAt o p
+
+pair_told : (o : Op) (l p : Name) → folded_pair (told o) ≡ Some (l, p) → IsPair o l p
+unfolding told
+pair_told op.Idle l p is = absurd (none-some (l, p) is)
+pair_told (op.Copy v q cursor) l p is = absurd (none-some (l, p) is)
+pair_told (op.Relink v q) l p is = absurd (none-some (l, p) is)
+pair_told (op.Leaf v q cursor) l p is = by v q (ap (λ (x : Name × Name). x.0) (same_Some (v, q) (l, p) is)) (ap (λ (x : Name × Name). x.1) (same_Some (v, q) (l, p) is))
+  where
+    by : (v q : Name) → v ≡ l → q ≡ p → IsPair (op.Leaf v q cursor) l p
+    by v q child parent = record { entry = ap₂ (λ x y. Leaf (image_uuid x) (image_uuid y) ∷ []) child parent; child = inl (sym child); parent = inr (sym parent) }
+pair_told (op.Live v q cursor dirty) l p is = by v q (ap (λ (x : Name × Name). x.0) (same_Some (v, q) (l, p) is)) (ap (λ (x : Name × Name). x.1) (same_Some (v, q) (l, p) is))
+  where
+    by : (v q : Name) → v ≡ l → q ≡ p → IsPair (op.Live v q cursor dirty) l p
+    by v q child parent = record { entry = ap₂ (λ x y. Leaf (image_uuid x) (image_uuid y) ∷ []) child parent; child = inl (sym child); parent = inr (sym parent) }
+
+-- and where it has none, none is folded
+none_told : (o : Op) → folded_pair (told o) ≡ None → folding o ≡ false
+unfolding told
+none_told op.Idle is = refl
+none_told (op.Copy v p cursor) is = refl
+none_told (op.Relink v p) is = refl
+none_told (op.Leaf l p cursor) is = absurd (none-some (l, p) (sym is))
+none_told (op.Live l p cursor dirty) is = absurd (none-some (l, p) (sym is))
+
+-- whether it folds the leaf of a disk
+folds_told : (o : Op) (u : List ℕ) → folds o u ≡ elim (folded_pair (told o)) [ None ↦ false | Some x ↦ bytes_eq (image_uuid x.0) u ]
+unfolding told folds
+folds_told op.Idle u = refl
+folds_told (op.Copy v p cursor) u = refl
+folds_told (op.Relink v p) u = refl
+folds_told (op.Leaf l p cursor) u = refl
+folds_told (op.Live l p cursor dirty) u = refl
+
+-- of what was told, and the pair that was found in it
+module _ (o : Op) (t : Told) (r : Option (Name × Name)) (is : told o ≡ t) (found : r ≡ folded_pair t) where
+  here : r ≡ folded_pair (told o)
+  here = found ∙ ap folded_pair (sym is)
+
+  pub pair_found : (l p : Name) → r ≡ Some (l, p) → IsPair o l p
+  pair_found l p some = pair_told o l p (sym here ∙ some)
+
+  pub none_found : r ≡ None → folding o ≡ false
+  none_found none = none_told o (sym here ∙ none)
+
+  pub folds_found : (u : List ℕ) (l p : Name) → r ≡ Some (l, p) → folds o u ≡ bytes_eq (image_uuid l) u
+  folds_found u l p some = folds_told o u ∙ ap (λ (x : Option (Name × Name)). elim x as (λ _. Bool) [ None ↦ false | Some y ↦ bytes_eq (image_uuid y.0) u ]) (sym here ∙ some)
+
+  pub folds_none : (u : List ℕ) → r ≡ None → folds o u ≡ false
+  folds_none u none = folds_told o u ∙ ap (λ (x : Option (Name × Name)). elim x as (λ _. Bool) [ None ↦ false | Some y ↦ bytes_eq (image_uuid y.0) u ]) (sym here ∙ none)
 
 module _ {s : Site} {t : VolumeTable} {m : Known} {x : Op} {change : Change} (h : IsEnding s t m x change) where
   abbrev next : VolumeTable
@@ -188,6 +252,12 @@ module _ {S : Type 0} (g : Ghosts S) (a : S) (m : Memory) {x : Op} {change : Cha
         → HasDone (g.site a) (tab g a) (tab g b) (g.area a) (g.area b) (known ended) (StoreLeaves g a) (StoreLeaves g b) ok (disks (store_content g a))
     done_end k stop ok = subst (λ z. HasDone (g.site a) (tab g a) z (g.area a) (g.area b) (known ended) (StoreLeaves g a) (StoreLeaves g b) ok (disks (store_content g a))) (sym c.table)
         (done_next h (g.area a) (g.area b) (StoreLeaves g a) (StoreLeaves g b) ok k.ready (λ image at. inr (k.told, k.usable, at)) (commit_made g change ok refl refl k.told c stop))
+
+    -- whatever memory is, where it says the same
+    pub done_as : IsTold g a m → ((v : VolumeTable) (image : ℕ → List ℕ) → g.leaves b v image → IsEitherOf (stored g a) change v image) → (n : Memory) → n ≡ ended → (ok : Type 0)
+        → HasDone (g.site a) (tab g a) (tab g b) (g.area a) (g.area b) (known n) (StoreLeaves g a) (StoreLeaves g b) ok (disks (store_content g a))
+    done_as k stop n is ok =
+        subst (λ z. HasDone (g.site a) (tab g a) (tab g b) (g.area a) (g.area b) (known z) (StoreLeaves g a) (StoreLeaves g b) ok (disks (store_content g a))) (sym is) (done_end k stop ok)
 
   -- the commit failed
   pub failed_end : IsTold g a m → {b : S} (n : Memory) (ok : Type 0) → (ok → ⊥) → FailsToCommit g a b

@@ -4,13 +4,13 @@ use Rattle.std.proofs.Common.{◌≡◌, suc, ℕ, ◌^◌, ◌*◌, ◌<◌, �
 use Rattle.std.proofs.Math.Logic.{∥∥₁_map}
 use Rattle.std.proofs.lemmas.Bool.{and_parts, lt-ltb, ltb-true, true≢false}
 use Rattle.std.specs.List.Sorted.{IsStrictlySortedBy}
-use Rattle.sm_base.specs.Kinds.{is_entry, is_image}
+use Rattle.sm_base.specs.Kinds.{is_entry, is_image, is_log}
 use Rattle.sm_base.specs.Names.{base_uuid, name_cmp}
 use Rattle.sm_base.proofs.OrderLemmas.{name_cmp_total}
 use Rattle.sm_base.specs.declared.names.Name.{Name}
 use Rattle.sm_base.specs.declared.names.Name.TheVariants.{Mgt, Vhd, Raw}
-use Rattle.sm_base.specs.declared.operations.Op.{Op}
-use Rattle.sm_base.specs.declared.operations.Op.TheVariants as op
+use Rattle.sm_machine.specs.Operations.{Op}
+use Rattle.sm_machine.specs.Operations as op
 use Rattle.sm_disk.specs.Held.{Held, reads}
 use Rattle.vg_meta.specs.Tables.{IsTable, IsVolume, Row, VolumeTable, extents_of, names_of, rows}
 use Rattle.vg_volumes.specs.Sites.{Site}
@@ -98,7 +98,9 @@ fresh_image r v new = by (is_image r.name) refl
     by : (b : Bool) → is_image r.name ≡ b → b ≡ true
     by true e = refl
     by false e =
-        let kind : (not r.hidden && (not r.fresh && no_extents)) ≡ true = sym (ap (λ b. cond b some_extents (not r.hidden && (not r.fresh && no_extents))) e) ∙ v.kind in
+        let unmarked : Bool = not r.hidden && (not r.fresh && no_extents) in
+        let other : (not (is_log r.name) && unmarked) ≡ true = sym (ap (λ b. cond b some_extents (not (is_log r.name) && unmarked)) e) ∙ v.kind in
+        let kind = (and_parts (not (is_log r.name)) unmarked other).1 in
         let old = (and_parts (not r.fresh) no_extents (and_parts (not r.hidden) (not r.fresh && no_extents) kind).1).0 in
         absurd (true≢false (sym old ∙ ap not new))
 
@@ -117,12 +119,21 @@ operation_as σ k y op.Idle h = tt
 operation_as σ k y (op.Copy v p c) h = record { link = child_as σ k y h.link; only = h.only; same_size = h.same_size }
 operation_as σ k y (op.Relink v p) h = child_as σ k y h
 operation_as σ k y (op.Leaf l p c) h = (record { link = child_as σ k y h.0.link; only = h.0.only; same_size = h.0.same_size }, h.1, h.2)
+operation_as σ k y (op.Live l p c dirty) h = record {
+  only = record { link = child_as σ k y h.only.link; only = h.only.only; same_size = h.only.same_size };
+  parent_vhd = h.parent_vhd;
+  attached = h.attached;
+  thick = h.thick;
+  within = h.within;
+  blocks = h.blocks;
+}
 
 roomy_as : (σ : Shape) (k : ℕ) (y x : Op) → IsRoomyIn σ x → IsRoomyIn (record σ { sequence = k; op = y }) x
 roomy_as σ k y op.Idle h = tt
 roomy_as σ k y (op.Copy v p c) h = h
 roomy_as σ k y (op.Relink v p) h = tt
 roomy_as σ k y (op.Leaf l p c) h = h
+roomy_as σ k y (op.Live l p c dirty) h = h
 
 table_as : (σ : Shape) (k : ℕ) (y : Op) (n : Name) → table_length σ n ≡ table_length (record σ { sequence = k; op = y }) n
 unfolding table_length

@@ -3,8 +3,8 @@ use Rattle.std.proofs.Common.{◌≡◌, Bool, true, false, List, ℕ, [], ◌�
 use Rattle.std.specs.Str.{bytes_eq}
 use Rattle.sm_base.specs.declared.names.Name.{Name}
 use Rattle.sm_base.specs.declared.names.Name.TheVariants.{Leaf}
-use Rattle.sm_base.specs.declared.operations.Op.{Op}
-use Rattle.sm_base.specs.declared.operations.Op.TheVariants as op
+use Rattle.sm_machine.specs.Operations.{Op}
+use Rattle.sm_machine.specs.Operations as op
 use Rattle.vg_meta.specs.Changes.{applied}
 use Rattle.vg_meta.specs.declared.changes.Change.TheVariants.{Remove}
 use Rattle.vg_volumes.specs.Stored.{Commits}
@@ -21,6 +21,12 @@ table_by : {S : Type 0} (g : Ghosts S) (a b : S) (u : List ℕ) (o : Op) → (fo
     → tab g b ≡ unfolded_table o u (tab g a)
 unfolding folds
 table_by g a b u (op.Leaf l p cursor) none gone = by (bytes_eq (image_uuid l) u) none gone
+  where
+    by : (f : Bool) → (f ≡ false → b ≡ a) → (f ≡ true → (e : Name) → Leaf (image_uuid l) (image_uuid p) ∷ [] ≡ e ∷ [] → Commits g (Remove e) a b)
+        → tab g b ≡ cond f (applied (tab g a) (Remove (Leaf (image_uuid l) (image_uuid p)))) (tab g a)
+    by false none gone = ap (tab g) (none refl)
+    by true none gone = (gone refl (Leaf (image_uuid l) (image_uuid p)) refl).table
+table_by g a b u (op.Live l p cursor dirty) none gone = by (bytes_eq (image_uuid l) u) none gone
   where
     by : (f : Bool) → (f ≡ false → b ≡ a) → (f ≡ true → (e : Name) → Leaf (image_uuid l) (image_uuid p) ∷ [] ≡ e ∷ [] → Commits g (Remove e) a b)
         → tab g b ≡ cond f (applied (tab g a) (Remove (Leaf (image_uuid l) (image_uuid p)))) (tab g a)

@@ -1,10 +1,10 @@
 //! The fold of a leaf is given up: the journal entry of the operation goes, by one commit.
 
-ghost use Rattle.std.specs.Prelude.{◌≡◌, ℕ, true, false, [], ◌∷◌, OnErr, OnOk};
+ghost use Rattle.std.specs.Prelude.{◌≡◌, true, false, Some, [], ◌∷◌, OnErr, OnOk};
 ghost use Rattle.std.specs.declared.result.Result.TheVariants.{Ok};
 ghost use Rattle.sm_base.specs.declared.names.Name.{Name as NameModel};
 ghost use Rattle.sm_base.specs.declared.names.Name.TheVariants.{Leaf};
-ghost use Rattle.sm_base.specs.declared.operations.Op.TheVariants as op;
+ghost use Rattle.sm_machine.specs.Operations.{Idle, Op as OpModel, told};
 ghost use Rattle.sm_disk.specs.Held.{Keeps};
 ghost use Rattle.vg_meta.specs.Roomy.{table_alone};
 ghost use Rattle.vg_meta.specs.declared.changes.Change.TheVariants.{Remove};
@@ -19,7 +19,7 @@ ghost use Rattle.sm_ready.specs.Framing.{IsBetweenSteps, StepsOn};
 ghost use Rattle.sm_ready.specs.Known.{entry_of, known};
 ghost use Rattle.sm_ready.specs.Sessions.{IsReadyStore};
 ghost use Rattle.sm_ready.specs.Stores.{StoreLeaves, store_content};
-ghost use Rattle.gc_abandon.specs.Abandoning.{abandoned, abandoned_where, folding, unfolded};
+ghost use Rattle.gc_abandon.specs.Abandoning.{abandoned, abandoned_where, folded_pair, folding, unfolded};
 
 use sm_base::{Failed, Name, Op};
 use sm_journal::drop_entry;
@@ -37,6 +37,7 @@ pub fn uuid_of(name: &Name) -> Uuid
         Name::Vhd(uuid) | Name::Raw(uuid) => uuid,
         Name::Mgt
         | Name::Old(_)
+        | Name::Cbt(_)
         | Name::Clone { .. }
         | Name::Inflate { .. }
         | Name::Coalesce { .. }
@@ -57,6 +58,19 @@ pub fn leaf_entry(leaf: &Name, parent: &Name) -> Name
     }
 }
 
+/// The leaf that the operation folds, and its parent.
+fn folded(operation: &Op) -> Option<(Name, Name)>
+    ensures { result ≡ folded_pair operation.now }
+{
+    match *operation {
+        Op::Leaf { leaf, parent, .. } => Some((leaf, parent)),
+        Op::Live { leaf, parent, .. } => Some((leaf, parent)),
+        Op::Idle => None,
+        Op::Copy { .. } => None,
+        Op::Relink { .. } => None,
+    }
+}
+
 /// Gives the fold of a leaf up: its entry goes, by one commit. No disk changes, since what was copied reads alike from leaf and
 /// parent. It takes no memory.
 ///
@@ -70,7 +84,7 @@ fn abandon_leaf<S: Store>(store: &mut S, memory: &mut Memory) -> Result<(), Fail
     ensures cause { Counts S.Store result store.old store.new }
     ensures session_still { OnOk result (IsBetweenSteps S.Store store.new memory.new) }
     ensures keeps { S.told → Keeps (S.area store.old) (S.area store.new) }
-    ensures operation { OnOk result (memory.new.operation ≡ op.Idle) }
+    ensures operation { OnOk result (memory.new.operation ≡ Idle) }
     ensures others { (memory.new.tree ≡ memory.old.tree) × (memory.new.records ≡ memory.old.records) × (memory.new.attached ≡ memory.old.attached) }
     ensures commits { OnOk result ((e : NameModel) → entry_of memory.old.operation ≡ e ∷ [] → Commits S.Store (Remove e) store.old store.new) }
     ensures shape { OnOk result (store_shape S.Store store.new memory.new ≡ abandoned (store_shape S.Store store.old memory.old)) }
@@ -78,24 +92,23 @@ fn abandon_leaf<S: Store>(store: &mut S, memory: &mut Memory) -> Result<(), Fail
         → HasDone (S.site store.old) (table_alone (S.table store.old)) (table_alone (S.table store.new)) (S.area store.old) (S.area store.new) (known memory.new)
         (StoreLeaves S.Store store.old) (StoreLeaves S.Store store.new) (result ≡ Ok tt) (disks (store_content S.Store store.old)) }
 {
-    let Op::Leaf { leaf, parent, .. } = memory.operation else {
+    let Some((leaf, parent)) = folded(&memory.operation.told()) else {
         unreachable!()
     };
     drop_entry(store, &leaf_entry(&leaf, &parent))?;
-    memory.operation = Op::Idle;
+    memory.operation.set(Op::Idle);
     Ok(())
 }
 
-/// Whether the operation folds the leaf of this disk.
-#[tactic(auto, unfolding(sm_machine::specs::Commits::folds))]
-fn is_folded(operation: &Op, disk: &Uuid) -> bool
-    requires { (leaf parent : NameModel) (cursor : ℕ) → operation.now ≡ op.Leaf leaf parent cursor → is_image_name leaf ≡ true }
-    ensures { result ≡ folds operation.now disk.now }
+/// Whether the operation folds the leaf of this disk, as the operation is told.
+pub fn is_folded(operation: &Op, disk: &Uuid) -> bool
+    requires { (leaf parent : NameModel) → folded_pair operation.now ≡ Some (leaf, parent) → is_image_name leaf ≡ true }
+    ensures { (o : OpModel) → told o ≡ operation.now → result ≡ folds o disk.now }
 {
-    match operation {
-        Op::Leaf { leaf, .. } => uuid_of(leaf) == *disk,
-        _ => false,
-    }
+    let Some((leaf, _)) = folded(operation) else {
+        return false;
+    };
+    uuid_of(&leaf) == *disk
 }
 
 /// Begins a command on a disk: where the running operation folds the leaf of this disk, it is given up, by one commit; else nothing
@@ -120,7 +133,7 @@ pub fn give_up<S: Store>(store: &mut S, memory: &mut Memory, disk: &Uuid) -> Res
         → HasDone (S.site store.old) (table_alone (S.table store.old)) (table_alone (S.table store.new)) (S.area store.old) (S.area store.new) (known memory.new)
         (StoreLeaves S.Store store.old) (StoreLeaves S.Store store.new) (result ≡ Ok tt) (disks (store_content S.Store store.old)) }
 {
-    if !is_folded(&memory.operation, disk) {
+    if !is_folded(&memory.operation.told(), disk) {
         return Ok(());
     }
     abandon_leaf(store, memory)

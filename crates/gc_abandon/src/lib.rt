@@ -2,9 +2,9 @@
 //!
 //! **What is kept here.** Nothing: each call works on a store and on what a session has in memory.
 //!
-//! **What it is.** Attach, snapshot, clone, resize and delete of the disk whose leaf is being folded give the folding up, behind all
-//! refusals and all taking of memory: so where memory is wanting all is as it was. `give_up` does so where the running operation folds
-//! the leaf of this disk, and else nothing. It leaves the machine's shape without the operation, one commit later (`abandoned`). What
+//! **What it is.** Attach, detach, snapshot, clone, resize and delete of the disk whose leaf is being folded give the folding up, whether
+//! the disk is attached or not, behind all refusals and all taking of memory: so where memory is wanting all is as it was. `give_up` does
+//! so where the running operation folds the leaf of this disk, and else nothing; [`is_folded`] says which. It leaves the machine's shape without the operation, one commit later (`abandoned`). What
 //! the command makes of that shape and of its disks the machine makes of those from before: but for a fork, whose base has the number
 //! from before. It is asked between two steps of a session (`IsBetweenSteps` of `sm_ready`), and leaves the session there where it
 //! succeeds.
@@ -21,4 +21,4 @@
 
 mod abandoning;
 
-pub use abandoning::{give_up, leaf_entry, uuid_of};
+pub use abandoning::{give_up, is_folded, leaf_entry, uuid_of};

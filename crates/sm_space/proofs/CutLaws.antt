@@ -10,7 +10,8 @@ use Rattle.sm_base.specs.Numbers.{thin, first}
 use Rattle.sm_base.proofs.NumberLemmas.{le-div_up}
 use Rattle.sm_base.specs.declared.names.Name.{Name}
 use Rattle.sm_base.specs.declared.names.Name.TheVariants.{Mgt, Vhd}
-use Rattle.sm_base.specs.declared.operations.Op.TheVariants as op
+use Rattle.sm_machine.specs.Operations.{Op}
+use Rattle.sm_machine.specs.Operations as op
 use Rattle.sm_base.specs.declared.sizes.Geometry.{Geometry}
 use Rattle.vg_meta.specs.Tables.{Row, VolumeTable, IsTable, extents_of, names_of, rows}
 use Rattle.vg_meta.specs.Changes.{Permits, applied, cut_to}
@@ -31,7 +32,7 @@ use Rattle.common_laws.proofs.Lists.{In-map, In-map_at}
 use Rattle.sm_machine.specs.Collector.{collected, is_written}
 use Rattle.sm_machine.specs.Laws.{MayHave}
 use Rattle.sm_machine.specs.Shapes.{ImageRow, Shape, attached_as, image_uuid, is_rw, is_vhd, on_image, refs, risen, top}
-use Rattle.sm_machine.specs.WellFormed.{IsWellFormed}
+use Rattle.sm_machine.specs.WellFormed.{IsOperation, IsWellFormed}
 use Rattle.sm_machine.proofs.Chains.{find_image-in}
 use Rattle.sm_machine.proofs.Collects.{attached_mode}
 use Rattle.sm_machine.proofs.Moments.{extents_keep}
@@ -206,7 +207,8 @@ module _ (s : Site) (t : VolumeTable) (m : Known) (u : List ℕ) (to : ℕ) (row
   well = ∥∥₁_map h.orderly.well_formed (λ w. subst IsWellFormed (sym cut_shape)
       (raised_well (record (shape_in s t m) { images = on_image (Vhd u) (λ i. record i { extents = to }) (shape_in s t m).images }) (risen t.sequence 1) (omega (arith, h.orderly.table.sequence)) (omega arith)
       (subst (λ n. IsWellFormed (record (shape_in s t m) { images = on_image n (λ i. record i { extents = to }) (shape_in s t m).images }))
-      (in_rows s t m u row h.orderly h.found).1 (extents_keep (shape_in s t m) (machine_row row) to w (may_have w)))))
+      (in_rows s t m u row h.orderly h.found).1 (extents_keep (shape_in s t m) (machine_row row) to w (may_have w)
+      (subst (λ (o : Op). IsOperation (record (shape_in s t m) { images = on_image (row_name row) (λ i. record i { extents = to }) (shape_in s t m).images }) o) (sym h.idle) tt)))))
 
   -- ---- memory is orderly and tidy behind it
 

@@ -1,5 +1,5 @@
 -- A volume gets more extents, as a run of four calls: what it asks, what is known at its end, and why each moment is fine.
-use Rattle.std.proofs.Common.{◌≡◌, ◌≢◌, inr, ℕ, ◌+◌, ◌-◌, ◌*◌, ◌<◌, ◌≤◌, false, List, [], ◌∷◌, ◌++◌, length, Option, refl, sym, ap, ap₂, ◌∙◌, subst, subst₂, arith}
+use Rattle.std.proofs.Common.{◌≡◌, ◌≢◌, inl, inr, ℕ, ◌+◌, ◌-◌, ◌*◌, ◌<◌, ◌≤◌, false, List, [], ◌∷◌, ◌++◌, length, Option, refl, sym, ap, ap₂, ◌∙◌, subst, subst₂, arith}
 use Rattle.std.proofs.lemmas.Bool.{true≢false}
 use Rattle.common_laws.specs.Lists.{In}
 use Rattle.sm_base.specs.declared.names.Name.{Name}
@@ -39,22 +39,23 @@ use Rattle.sm_ready.specs.Orderly.{IsOrderly}
 use Rattle.sm_ready.specs.Ready.{IsTidy}
 use Rattle.sm_ready.specs.Framing.{IsBetweenSteps}
 use Rattle.sm_ready.specs.Sessions.{IsReadyStore}
-use Rattle.sm_ready.specs.Stores.{StoreLeaves, store_content}
+use Rattle.sm_ready.specs.Stores.{MayShow, StoreLeaves, content_in, store_content}
 use Rattle.sm_ready.specs.declared.memory.Memory.{Memory}
 use Rattle.sm_ready.proofs.AfterLaws.{other_keeps}
 use Rattle.sm_ready.proofs.ChainLaws.{might_show, tab}
-use Rattle.sm_ready.proofs.CommitLaws.{IsSafe, ready_safe}
+use Rattle.sm_ready.proofs.CommitLaws.{IsSafe, law_settled, ready_safe, volume_rested}
 use Rattle.sm_ready.proofs.FrameLaws.{KeepsVolume}
-use Rattle.sm_ready.proofs.LeftLaws.{extent_some}
+use Rattle.sm_ready.proofs.LeftLaws.{IsLeft, extent_some}
 use Rattle.sm_ready.proofs.Orders.{In-tree_row, geometry_of, named_row, vhd_row}
 use Rattle.sm_ready.proofs.RestLaws.{keeps_rest}
 use Rattle.sm_journal.specs.Entries.{putting}
 use Rattle.sm_calls.specs.Calls.{Call, CanRun, Commit, DoesRun, GoesWell, IsReadyWith, ShowsBetween}
+use Rattle.sm_calls.proofs.CallLaws.{law_among}
 use Rattle.sm_calls.proofs.StoreLaws.{law_run, ready_fine, run_then, safe_fine}
 use Rattle.sm_space.specs.Inflating.{CanEnd, CanEndIn, EndsIn, IfRow, IsEnlarged, WritesEnd, footer_call, growth_calls, inflated, with_extents}
 use Rattle.sm_space.proofs.EndLaws.{disks_ended, ready_ended}
 use Rattle.sm_space.proofs.InflatingLaws.{GrowsIn, own_name, tree_room_sized}
-use Rattle.sm_space.proofs.MomentLaws.{front_larger, front_noted, front_written, moment_larger, moment_noted, moment_safe}
+use Rattle.sm_space.proofs.MomentLaws.{front_larger, front_noted, front_written, moment_larger, moment_noted, moment_safe, moment_shows}
 use Rattle.sm_space.proofs.OrderlyLaws.{after, ended, ended_other, ended_own, ended_shape, ended_volumes, fits_ended, fits_larger, fits_noted, larger, larger_own, larger_size, larger_table, may_drop, may_grow, may_note, noted, only, orderly_ended, own, tidy_ended}
 use Rattle.sm_space.proofs.SizedLaws.{sized, turned_same}
 use Rattle.sm_space.proofs.TrueLaws.{body_ended, true_sized, volume_ended}
@@ -255,3 +256,31 @@ module _ {S : Type 0} {g : Ghosts S} {a : S} {m : Memory} {u es : List ℕ} {row
 
     pub done : {z : S} {came ok : Type 0} (n : Known) → DoesRun g calls a z came → (ok → came × (n ≡ then)) → HasDoneFrom s (tab g z) (g.area z) n (StoreLeaves g a) (StoreLeaves g z) ok was was
     done n run by = law_run n told run well by
+
+    -- whatever a stop leaves among them shows the disks of an image that might be left before
+    shows : GoesWell (λ v image. MayShow s (StoreLeaves g a) (disks (content_in s v image))) (λ x. Unit {0}) (stored g a) calls
+    shows = record {
+      first = λ image allowed. record { table = t; image = image; left = inr (told, h.usable, record { table_is = refl; sectors = allowed }); shown = refl };
+      next = (
+        moment_shows s t (known m) u es row h.grows (g.area a) ready (noted s t (known m) u es row h.grows) rest (StoreLeaves g a) (moment_noted s t (known m) u es row h.grows (g.area a) ready)
+            (front_noted s t (known m) u es row h.grows (g.area a) ready) (might_show g h.usable told),
+        (
+          moment_shows s t (known m) u es row h.grows (g.area a) ready t2 rest (StoreLeaves g a) (moment_larger s t (known m) u es row h.grows (g.area a) ready)
+              (front_larger s t (known m) u es row h.grows (g.area a) ready) (might_show g h.usable told),
+          (
+            λ area did. moment_shows s t (known m) u es row h.grows (g.area a) ready t2 area (StoreLeaves g a) (moment_larger s t (known m) u es row h.grows (g.area a) ready)
+                (front_written s t (known m) u es row h.grows (g.area a) ready area did.beside (but area did)) (might_show g h.usable told),
+            λ area did done. (last_shows area did done, tt),
+          ),
+        ),
+      );
+    }
+      where
+        last_shows : (area : Held) → WritesEnd s t2 (Vhd u) o to rest area → EndsIn s t2 (Vhd u) o to rest area → (image : ℕ → List ℕ) → IsLeft s (at_rest (reads area)) image → MayShow s (StoreLeaves g a) (disks (content_in s t3 image))
+        last_shows area did done image left =
+            let last = last_ready area did done in
+            subst (λ (ds : List Disk). MayShow s (StoreLeaves g a) ds)
+            (sym (law_settled s t3 (at_rest (reads area)) then image (orderly_ended s t (known m) u es row h.grows) last.ready (volume_rested s t3 (reads area)) left ∙ last.shown)) (might_show g h.usable told)
+
+    pub still : {z : S} {came : Type 0} → DoesRun g calls a z came → (v : VolumeTable) (image : ℕ → List ℕ) → g.leaves z v image → MayShow s (StoreLeaves g a) (disks (content_in s v image))
+    still run v image l = law_among (λ v image. MayShow s (StoreLeaves g a) (disks (content_in s v image))) (λ x. Unit {0}) (stored g a) calls shows v image (run.left told v image (inl l))

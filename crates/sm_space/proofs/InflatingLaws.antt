@@ -7,6 +7,7 @@ use Rattle.sm_disk.specs.Held.{Held, reads}
 use Rattle.vg_meta.specs.Tables.{VolumeTable, rows, free as free_of}
 use Rattle.vg_extents.specs.Fits.{AreLeastFree}
 use Rattle.vg_meta.specs.declared.changes.Change.{Change}
+use Rattle.vg_volumes.specs.Sites.{Site}
 use Rattle.vg_volumes.specs.Stored.{IsChoiceOf, OnlyReads, Stored, stored}
 use Rattle.vg_volumes.specs.declared.stores.Store.{Ghosts}
 use Rattle.vhd_volumes.specs.declared.heads.Head.{Head}
@@ -15,7 +16,8 @@ use Rattle.vhd_image.specs.declared.images.Body.{Body}
 use Rattle.vhd_image.specs.declared.images.Body.TheVariants as body
 use Rattle.vhd_chain.specs.Trees.{tree_row}
 use Rattle.vhd_chain.specs.declared.rows.TreeRow.{TreeRow}
-use Rattle.sm_base.specs.declared.operations.Op.{Op}
+use Rattle.sm_machine.specs.Disks.{Disk}
+use Rattle.sm_machine.specs.Operations.{Op}
 use Rattle.sm_refs.specs.Attached.{Attached}
 use Rattle.sm_record.specs.declared.records.Record.{Record}
 use Rattle.sm_run.specs.Between.{IsBetween}
@@ -70,6 +72,17 @@ only_read {g = g} {a} {b} m orderly usable told ready now reads area fewer n ok 
     (⊎_elim (λ k. inl (fewer v image k)) (λ w. inr (w.0, usable, subst (λ (x : Stored). IsChoiceOf x v image) (stored_same reads area) w.2)) l) in
     subst (λ y. IsKept (content_in (g.site a) y image) × IsBetween (MayShow (g.site a) (StoreLeaves g a)) (disks (store_content g a)) (disks (store_content g a)) (disks (content_in (g.site a) y image))) (sym here.table_is)
     (safe.kept image here.sectors, inl (safe.shown image here.sectors))))
+
+-- what might be left behind it might be left before it
+pub still_read : {S : Type 0} {g : Ghosts S} {a b : S} → OnlyReads g a b → g.area b ≡ g.area a → ((v : VolumeTable) (image : ℕ → List ℕ) → g.leaves b v image → g.leaves a v image)
+    → (ds : Site → List Disk) → MayShow (g.site b) (StoreLeaves g b) (ds (g.site b)) → MayShow (g.site a) (StoreLeaves g a) (ds (g.site a))
+still_read {g = g} {a} {b} reads area fewer ds may =
+    subst (λ s. MayShow s (StoreLeaves g a) (ds s)) reads.stays.site (record {
+      table = may.table;
+      image = may.image;
+      left = ⊎_elim (λ l. inl (fewer may.table may.image l)) (λ w. inr (w.0, sym reads.stays.failed ∙ w.1, subst (λ (x : Stored). IsChoiceOf x may.table may.image) (stored_same reads area) w.2)) may.left;
+      shown = may.shown;
+    })
 
 -- ---- what is known before
 

@@ -76,8 +76,7 @@ keeps_room g a b m u o none gone = by (folds m.operation u) refl
     by false is = subst (λ x. KeepsRoom g a x) (sym (none is)) (record { taken = refl; spare = omega arith; spare_places = λ n image. omega arith })
     by true is =
         let w = leaf_folded m.operation (folding_of m.operation u is) in
-        let entry : entry_of m.operation ≡ Leaf (image_uuid w.0) (image_uuid w.1) ∷ [] = ap entry_of w.3 in
-        entry_goes g a b m (image_uuid w.0) (image_uuid w.1) o entry (gone is (Leaf (image_uuid w.0) (image_uuid w.1)) entry)
+        entry_goes g a b m (image_uuid w.0) (image_uuid w.1) o w.2 (gone is (Leaf (image_uuid w.0) (image_uuid w.1)) w.2)
 
 module _ {S : Type 0} {g : Ghosts S} {a b : S} (k : KeepsRoom g a b) where
   free_kept : (count : ℕ) → free count (tab g b) ≡ free count (tab g a)

@@ -177,3 +177,8 @@ module _ (s : Site) (t : VolumeTable) (m : Known) (u es : List ℕ) (row : TreeR
           sectors = λ w k bytes has. (disks before_it, might, subst (λ (ds : List Disk). HasSector ds w k bytes) same has);
         };
   }
+
+  -- and it shows the disks from before, all sectors at once
+  pub moment_shows : (v : VolumeTable) (area : Held) (before : Leaving) → IsMoment v → IsFront v area → MayShow s before (disks before_it) → (image : ℕ → List ℕ) → IsLeft s area image → MayShow s before (disks (content_in s v image))
+  moment_shows v area before moment front might image left =
+      subst (λ (ds : List Disk). MayShow s before ds) (sym (enlarging_disks before_it (content_in s v image) u row.extents (enlarging v area moment front image left))) might

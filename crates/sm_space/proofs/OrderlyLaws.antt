@@ -9,8 +9,8 @@ use Rattle.sm_base.specs.Kinds.{is_image, is_entry}
 use Rattle.sm_base.specs.Names.{IsName, IsUuid}
 use Rattle.sm_base.specs.declared.names.Name.{Name}
 use Rattle.sm_base.specs.declared.names.Name.TheVariants.{Mgt, Vhd, Inflate}
-use Rattle.sm_base.specs.declared.operations.Op.{Op}
-use Rattle.sm_base.specs.declared.operations.Op.TheVariants as op
+use Rattle.sm_machine.specs.Operations.{Op}
+use Rattle.sm_machine.specs.Operations as op
 use Rattle.sm_base.specs.declared.sizes.Geometry.{Geometry}
 use Rattle.vg_meta.specs.Tables.{Row, VolumeTable, IsTable, extents_of, is_one_of, names_of, row_of, rows, free as free_of}
 use Rattle.vg_meta.specs.Changes.{AreFree, Permits, applied, grown, made, with_row}
@@ -32,8 +32,10 @@ use Rattle.common_laws.specs.Lists.{In, when}
 use Rattle.common_laws.proofs.Lists.{In-map, In-map_at, filter-In}
 use Rattle.sm_machine.specs.Collector.{count_either}
 use Rattle.sm_machine.specs.Laws.{IsSeenAlike, MayHave}
-use Rattle.sm_machine.specs.Shapes.{ImageRow, Shape, is_image as is_image_in, is_vhd, on_image, refs, risen, thin_in, top}
-use Rattle.sm_machine.specs.WellFormed.{IsWellFormed}
+use Rattle.sm_machine.specs.Shapes.{ImageRow, Shape, is_image as is_image_in, is_there, is_vhd, on_image, refs, risen, slot_at, thin_in, top}
+use Rattle.sm_machine.specs.WellFormed.{IsOperation, IsWellFormed}
+use Rattle.sm_machine.proofs.Changes.{when-key}
+use Rattle.sm_machine.proofs.Mapped.{operation_mapped}
 use Rattle.sm_machine.proofs.Moments.{extents_keep}
 use Rattle.sm_machine.proofs.ImageNames.{same_image-sound}
 use Rattle.sm_machine.proofs.Uses.{changed_uses}
@@ -126,12 +128,32 @@ module _ (u : List ℕ) (to : ℕ) (σ : Shape) (more : (y : ImageRow) → In y 
   roomy_inflated (op.Copy v p cursor) had = roomy_for v p had
   roomy_inflated (op.Relink v p) had = tt
   roomy_inflated (op.Leaf l p cursor) had = roomy_for l p had
+  roomy_inflated (op.Live l p cursor dirty) had = roomy_for l p had
 
 few_entries_of : (o : Op) → length (entry_of o) ≤ 1
 few_entries_of op.Idle = omega arith
 few_entries_of (op.Copy v p cursor) = omega arith
 few_entries_of (op.Relink v p) = omega arith
 few_entries_of (op.Leaf l p cursor) = omega arith
+few_entries_of (op.Live l p cursor dirty) = omega arith
+
+-- ---- the images of an operation stay, and its parent has no less room
+
+module _ (u : List ℕ) (to : ℕ) (σ : Shape) (w : IsWellFormed σ) (more : (y : ImageRow) → In y σ.images → is_image_in (Vhd u) y ≡ true → y.extents ≤ to) where
+  turned_key : {B : Type 0} (k : ImageRow → B) → ((i : ImageRow) → k (record i { extents = to }) ≡ k i) → (y : ImageRow) → k (turned_row u to σ y) ≡ k y
+  turned_key k same y = when-key k (λ i. record i { extents = to }) same (is_image_in (Vhd u) y) y
+
+  no_less : (y : ImageRow) → In y σ.images → y.extents ≤ (turned_row u to σ y).extents
+  no_less y i = by (is_image_in (Vhd u) y) refl
+    where
+      by : (b : Bool) → is_image_in (Vhd u) y ≡ b → y.extents ≤ (when b (λ i. record i { extents = to }) y).extents
+      by true own = more y i own
+      by false other = omega arith
+
+  pub operation_turned : (o : Op) → IsOperation σ o → IsOperation (record σ { images = on_image (Vhd u) (λ i. record i { extents = to }) σ.images }) o
+  operation_turned o h = operation_mapped σ w (turned_row u to σ) (turned_key (λ y. y.name) (λ y. refl)) (turned_key (λ y. y.hidden) (λ y. refl)) (turned_key (λ y. y.parent) (λ y. refl)) σ.attached σ.op refl
+      (λ y i. turned_key (λ (z : ImageRow). z.size) (λ y. refl) y) (λ q i hidden. no_less q i) (turned_key (λ y. length y.slots) (λ y. refl))
+      (λ y b there. ap (λ v. is_there (slot_at v b)) (turned_key (λ (z : ImageRow). z.slots) (λ y. refl) y) ∙ there) o h
 
 module _ (s : Site) (t : VolumeTable) (m : Known) (u es : List ℕ) (row : TreeRow) (h : IsToGrow s t m u es row) where
   abbrev pub entry : Name
@@ -325,7 +347,9 @@ module _ (s : Site) (t : VolumeTable) (m : Known) (u es : List ℕ) (row : TreeR
   unfolding shape_in
   well = ∥∥₁_map h.orderly.well_formed (λ w. subst IsWellFormed (sym ended_shape)
       (raised_well (record (shape_in s t m) { images = on_image (Vhd u) (λ i. record i { extents = to }) (shape_in s t m).images }) (risen t.sequence 3) (omega (arith, h.orderly.table.sequence)) (omega arith)
-      (subst (λ n. IsWellFormed (record (shape_in s t m) { images = on_image n (λ i. record i { extents = to }) (shape_in s t m).images })) in_rows.1 (extents_keep (shape_in s t m) (machine_row row) to w (may_have w)))))
+      (subst (λ n. IsWellFormed (record (shape_in s t m) { images = on_image n (λ i. record i { extents = to }) (shape_in s t m).images })) in_rows.1 (extents_keep (shape_in s t m) (machine_row row) to w (may_have w)
+      (subst (λ n. IsOperation (record (shape_in s t m) { images = on_image n (λ i. record i { extents = to }) (shape_in s t m).images }) m.op) (sym in_rows.1)
+      (operation_turned u to (shape_in s t m) w none_larger m.op w.operation))))))
 
   -- no volume is new
   none_new : (r : Row) → In r ended.volumes → r.fresh ≡ false

@@ -4,18 +4,16 @@ use Rattle.std.proofs.Math.Logic.{∥∥₁_elim, ∥∥₁_map}
 use Rattle.std.proofs.Math.Nat.{le_of_mul-le-mul_right, mul-div_cancel}
 use Rattle.std.proofs.Props.{props}
 use Rattle.std.specs.Prelude.{if◌then◌else◌, is_some}
-use Rattle.std.specs.Str.{bytes_eq}
-use Rattle.std.proofs.lemmas.Bool.{true≢false, eqb-false, ltb-false, or_parts}
+use Rattle.std.proofs.lemmas.Bool.{eqb-false, ltb-false, or_parts}
 use Rattle.sm_base.proofs.NumberLemmas.{div_up-pos}
 use Rattle.sm_base.specs.Numbers.{div_up}
 use Rattle.std.proofs.lemmas.Option.{none-some, same_Some}
 use Rattle.sm_base.specs.declared.names.Name.{Name}
 use Rattle.sm_base.specs.declared.names.Name.TheVariants.{Vhd, Raw}
-use Rattle.sm_base.specs.declared.operations.Op.{Op}
-use Rattle.sm_base.specs.declared.operations.Op.TheVariants as op
+use Rattle.sm_machine.specs.Operations.{Op}
+use Rattle.sm_machine.specs.Operations as op
 use Rattle.common_laws.specs.Lists.{In, change, when}
 use Rattle.common_laws.proofs.Booleans.{not_false}
-use Rattle.common_laws.proofs.Bytes.{bytes_eq-refl}
 use Rattle.sm_disk.specs.Held.{Held}
 use Rattle.sm_standing.specs.Checks.{fault_of}
 use Rattle.sm_ready.specs.Outlined.{outline_in}
@@ -182,6 +180,7 @@ module _ {s : Site} {t : VolumeTable} {m : Known} {u : List ℕ} {bytes : ℕ} {
   roomy_sized (op.Copy v p cursor) room = roomy_for v p room
   roomy_sized (op.Relink v p) room = tt
   roomy_sized (op.Leaf l p cursor) room = roomy_for l p room
+  roomy_sized (op.Live l p cursor dirty) room = roomy_for l p room
 
   -- memory is orderly with it
   pub orderly_grown : StandsIn s.geometry (own.extents * s.geometry.extent) next.image → IsOrderly s t grown
@@ -212,9 +211,8 @@ module _ {s : Site} {t : VolumeTable} {m : Known} {u : List ℕ} {bytes : ℕ} {
   -- ---- the operation works at other images
 
   pub works_apart : (n : Name) → WorksAt m.op n → n ≢ row_name own
-  unfolding shape_in is_given_up folds gives_up
-  works_apart = apart.works_apart s t m own h.orderly h.there h.shown (λ w l p cursor is same.
-      true≢false (sym (ap (λ v. bytes_eq v u) (ap image_uuid (sym same) ∙ h.uuid) ∙ bytes_eq-refl u) ∙ sym (ap (λ o. folds o u) is) ∙ h.kept_up))
+  unfolding shape_in is_given_up gives_up
+  works_apart = apart.works_apart s t m own h.orderly h.there h.shown (ap (folds m.op) h.uuid ∙ h.kept_up)
 
   -- an image of another name was there
   was_there : (x : ImageRow) → In x (map machine_row grown.rows) → x.name ≢ row_name own → In x (map machine_row m.rows)

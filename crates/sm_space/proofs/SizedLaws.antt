@@ -11,7 +11,7 @@ use Rattle.std.proofs.lemmas.Option.{none-some, same_Some}
 use Rattle.common_laws.specs.Lists.{In, insert_by, when}
 use Rattle.common_laws.proofs.Lists.{In-map, In-map_at}
 use Rattle.sm_base.specs.declared.names.Name.{Name}
-use Rattle.sm_base.specs.declared.names.Name.TheVariants.{Mgt, Vhd, Raw, Old, Clone, Inflate, Coalesce, Relink, Leaf}
+use Rattle.sm_base.specs.declared.names.Name.TheVariants.{Mgt, Vhd, Raw, Old, Cbt, Clone, Inflate, Coalesce, Relink, Leaf}
 use Rattle.vg_meta.specs.Tables.{name_eq}
 use Rattle.vg_meta.proofs.NameLaws.{name_eq-other, name_eq-true, name_eq-false}
 use Rattle.vhd_chain.specs.Trees.{has_name, is_before, row_name, tree_row, with_row, without}
@@ -123,6 +123,7 @@ image_named Mgt u = refl
 image_named (Vhd v) u = refl
 image_named (Raw v) u = refl
 image_named (Old v) u = refl
+image_named (Cbt v) u = refl
 image_named (Clone d b t) u = refl
 image_named (Inflate v k) u = refl
 image_named (Coalesce v p) u = refl

@@ -3,7 +3,7 @@
 use Rattle.std.proofs.Common.{◌≡◌, ◌≢◌, ⊎_elim, ℕ, ◌<◌, ◌&&◌, not, Bool, false, cond, List, Option, Some, None, refl, sym, ap, ap₂, ◌∙◌, arith}
 use Rattle.sm_base.specs.Kinds.{is_entry}
 use Rattle.sm_base.specs.declared.names.Name.{Name}
-use Rattle.sm_base.specs.declared.names.Name.TheVariants.{Mgt, Vhd, Raw, Old, Clone, Inflate, Coalesce, Relink, Leaf}
+use Rattle.sm_base.specs.declared.names.Name.TheVariants.{Mgt, Vhd, Raw, Old, Cbt, Clone, Inflate, Coalesce, Relink, Leaf}
 use Rattle.sm_disk.specs.Held.{Held}
 use Rattle.vg_meta.specs.Tables.{Row, VolumeTable, rows}
 use Rattle.vg_volumes.specs.Sites.{Site, size_of}
@@ -78,6 +78,7 @@ module _ (s : Site) (t y : VolumeTable) (m k : Known) (old new : Held) (u : List
   images_turned (Raw v) = raw_image v (rows t (Raw v)) refl
   images_turned Mgt = refl
   images_turned (Old v) = refl
+  images_turned (Cbt v) = refl
   images_turned (Clone a b c) = refl
   images_turned (Inflate a b) = refl
   images_turned (Coalesce a b) = refl

@@ -13,7 +13,7 @@ ghost use Rattle.vg_meta.specs.Changes.{HasRoom, Permits, applied};
 ghost use Rattle.vg_meta.specs.Roomy.{table_alone};
 ghost use Rattle.vg_meta.specs.Tables.{VolumeTable, free as free_of};
 ghost use Rattle.vg_meta.specs.declared.changes.Change.TheVariants.{Grow};
-ghost use Rattle.vg_volumes.specs.Stored.{OnlyReads, WorksOn, Counts};
+ghost use Rattle.vg_volumes.specs.Stored.{OnlyReads, WorksOn, Counts, Leaves};
 ghost use Rattle.vhd_volumes.specs.Steps.{Does};
 ghost use Rattle.vhd_volumes.specs.Writes.{KeepsBut};
 ghost use Rattle.vhd_image.specs.Bodies.{IfVhdDoes};
@@ -26,7 +26,7 @@ ghost use Rattle.sm_ready.specs.Done.{HasDone};
 ghost use Rattle.sm_ready.specs.Framing.{CountsDevice, IsBetweenSteps, StepsOn};
 ghost use Rattle.sm_ready.specs.Known.{known};
 ghost use Rattle.sm_ready.specs.Sessions.{IsReadyStore};
-ghost use Rattle.sm_ready.specs.Stores.{StoreLeaves, store_content};
+ghost use Rattle.sm_ready.specs.Stores.{MayShow, StoreLeaves, content_in, store_content};
 ghost use Rattle.sm_calls.specs.Calls.{CanRun, DoesRun};
 ghost use Rattle.sm_space.specs.Inflating.{CanEnd, CanEndIn, IfRow, growth_calls, extents_in, inflated, with_extents, HasFree, IsBelow, IsEnlarged, IsGrowth};
 
@@ -210,6 +210,8 @@ pub fn enlarge<S: Store>(
     ensures done { S.told → IsReadyStore S.Store store.old memory.old
         → HasDone (S.site store.old) (table_alone (S.table store.old)) (table_alone (S.table store.new)) (S.area store.old) (S.area store.new) (known memory.new)
         (StoreLeaves S.Store store.old) (StoreLeaves S.Store store.new) (result ≡ Ok tt) (disks (store_content S.Store store.old)) }
+    ensures still { S.told → IsReadyStore S.Store store.old memory.old
+        → Leaves S.Store store.new (λ t image. MayShow (S.site store.old) (StoreLeaves S.Store store.old) (disks (content_in (S.site store.old) t image))) }
 {
     let name = Name::Vhd(*disk);
     let entry = Name::Inflate {
@@ -249,6 +251,8 @@ pub fn inflate<S: Store>(
     ensures done { S.told → IsReadyStore S.Store store.old memory.old
         → HasDone (S.site store.old) (table_alone (S.table store.old)) (table_alone (S.table store.new)) (S.area store.old) (S.area store.new) (known memory.new)
         (StoreLeaves S.Store store.old) (StoreLeaves S.Store store.new) (result ≡ Ok tt) (disks (store_content S.Store store.old)) }
+    ensures still { S.told → IsReadyStore S.Store store.old memory.old
+        → Leaves S.Store store.new (λ t image. MayShow (S.site store.old) (StoreLeaves S.Store store.old) (disks (content_in (S.site store.old) t image))) }
 {
     let Ok(growth) = plan_growth(alloc, store, memory, disk, to) else {
         return Err(CallFault::NoMemory);

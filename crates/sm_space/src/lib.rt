@@ -5,7 +5,8 @@
 //! **What it promises.** `inflate` gives the volume of a VHD image more extents, the least that are free, and writes the image's
 //! footer at the new end. While it works a journal entry says how many extents the image had, so that a stop at any moment
 //! leaves the disks from before, and the image is read in the extents that it had. Behind the last commit it is read in all of
-//! them. No disk changes. `plan_growth` takes the memory for that and writes nothing, and `enlarge` does the rest: so a caller may give the
+//! them. No disk changes, and whatever a stop leaves shows the disks, all sectors at once, of an image that it might leave as the call began
+//! (`still`). `plan_growth` takes the memory for that and writes nothing, and `enlarge` does the rest: so a caller may give the
 //! folding of a leaf up in between. `deflate` cuts the volume of a VHD image to its first extents, where its slots have room in these: it
 //! writes the image's footer at the end of them and then commits the cut. A stop at any moment leaves the disks from before; in
 //! front of the commit the image is read in the extents that it had, with the footer that it had, and behind it in those that it

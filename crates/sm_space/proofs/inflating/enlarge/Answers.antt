@@ -12,7 +12,7 @@ use Rattle.sm_ready.proofs.ChainLaws.{err_not_ok}
 use Rattle.sm_calls.specs.Calls.{CanRun, DoesRun}
 use Rattle.sm_calls.proofs.StoreLaws.{run_steps}
 use Rattle.sm_space.specs.Inflating.{CanEndIn, extents_in, growth_calls}
-use Rattle.sm_space.proofs.GrowthLaws.{can_calls, done, enlarged_end, image_there, session_end, shape_end}
+use Rattle.sm_space.proofs.GrowthLaws.{can_calls, done, enlarged_end, image_there, session_end, shape_end, still}
 use Rattle.sm_space.proofs.InflatingLaws.{grows_in, known_after, least_is, sum_is}
 use Rattle.sm_space.proofs.inflating.enlarge.Goals as goal
 
@@ -56,6 +56,17 @@ returns-in_err-run_growth-clause-done g c =
     let sum = sum_is g.S.Store a m u c.args.to c.args.growth r.session.orderly r.session.tidy r.session.usable r.there r.growth in
     let run = run_is (Inflate u) (Vhd u) m.tree.rows c.args.to (c.extents_of.ensures ∙ ap extents_in r.there.there) r.growth.is c.in_err-run_growth.ensures.cut in
     λ told ready. done h c.args.to sum told ready _ run (λ fine. absurd (err_not_ok _ tt c.from_residual.ensures.0 fine))
+
+pub returns-in_err-run_growth-clause-still : goal.returns-in_err-run_growth-clause-still
+returns-in_err-run_growth-clause-still g c =
+    let r = c.requires in
+    let a = c.args.store.now in
+    let m = c.args.memory.now in
+    let u = c.args.disk.now in
+    let h = grows_in g.S.Store a m u c.args.to c.args.growth r.session.orderly r.session.tidy r.session.usable r.there r.growth in
+    let sum = sum_is g.S.Store a m u c.args.to c.args.growth r.session.orderly r.session.tidy r.session.usable r.there r.growth in
+    let run = run_is (Inflate u) (Vhd u) m.tree.rows c.args.to (c.extents_of.ensures ∙ ap extents_in r.there.there) r.growth.is c.in_err-run_growth.ensures.cut in
+    λ told ready again. still h c.args.to sum told ready run
 
 pub returns-clause-step : goal.returns-clause-step
 returns-clause-step g c = run_steps c.in_ok-run_growth.ensures.run
@@ -109,3 +120,14 @@ returns-clause-done g c =
     let o = c.set_extents.ensures.others in
     let is = known_after m c.set_extents.new.memory u c.args.to (r.there.row.extents + length r.growth.extents) sum c.set_extents.ensures.rows o.0 o.1 o.2 in
     λ told ready. done h c.args.to sum told ready _ run (λ fine. (tt, is))
+
+pub returns-clause-still : goal.returns-clause-still
+returns-clause-still g c =
+    let r = c.requires in
+    let a = c.args.store.now in
+    let m = c.args.memory.now in
+    let u = c.args.disk.now in
+    let h = grows_in g.S.Store a m u c.args.to c.args.growth r.session.orderly r.session.tidy r.session.usable r.there r.growth in
+    let sum = sum_is g.S.Store a m u c.args.to c.args.growth r.session.orderly r.session.tidy r.session.usable r.there r.growth in
+    let run = run_is (Inflate u) (Vhd u) m.tree.rows c.args.to (c.extents_of.ensures ∙ ap extents_in r.there.there) r.growth.is c.in_ok-run_growth.ensures.run in
+    λ told ready again. still h c.args.to sum told ready run
