@@ -230,14 +230,15 @@ mode_was s t m u passes = by (mode_of m.attached u) (sym (ap is_none (mode_alike
     by None e = absurd (true≢false e)
     by (Some x) e = refl
 
-module _ (s : Site) (t : VolumeTable) (m : Known) (u : List ℕ) (a : Attached) (o : IsOrderly s t m) (own : IsOwn m u) (passes : refusal (shape_in s t m) (Detach u) ≡ None) (ds : a.disks ≡ without u m.attached.disks) (less : CountsLess (names s t m u o own) m.attached a) where
+module _ (s : Site) (t : VolumeTable) (m : Known) (u : List ℕ) (a : Attached) (o : IsOrderly s t m) (own : IsOwn m u) (passes : refusal (shape_in s t m) (Detach u) ≡ None) (keeps : is_given_up (shape_in s t m) (Detach u) ≡ false)
+    (ds : a.disks ≡ without u m.attached.disks) (less : CountsLess (names s t m u o own) m.attached a) where
   fewer_attached : shape_in s t (with_attached a m) ≡ record (shape_in s t m) { attached = filter (λ b. not (is_attached u b)) (shape_in s t m).attached }
   unfolding shape_in
   fewer_attached = ap (λ xs. record (shape_in s t m) { attached = xs }) (ap (map attachment) ds ∙ others_alike u m.attached.disks)
 
   pub detached_shape : shape_in s t (with_attached a m) ≡ shape_next (shape_in s t m) (Detach u)
-  unfolding shape_after is_given_up gives_up own_commits
-  detached_shape = ∥∥₁_elim o.well_formed (hlevel props) (λ w. fewer_attached ∙ sym (next_shape (shape_in s t m) (Detach u) w refl refl))
+  unfolding shape_after own_commits
+  detached_shape = ∥∥₁_elim o.well_formed (hlevel props) (λ w. fewer_attached ∙ sym (next_shape (shape_in s t m) (Detach u) w keeps refl))
 
   pub detached_orderly : IsOrderly s t (with_attached a m)
   detached_orderly = orderly_used s t m a o

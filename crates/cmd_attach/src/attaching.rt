@@ -45,13 +45,14 @@ pub(crate) fn note<S: Store>(
     Ok(())
 }
 
-/// Notes that a disk is no longer attached. Makes all last first.
+/// Notes that a disk is no longer attached, where no operation is given up. Makes all last first.
 ///
 /// # Errors
 /// The sync failed; the disk is attached as before.
-pub fn detach<S: Store>(store: &mut S, memory: &mut Memory, disk: &Uuid) -> Result<(), Failed>
+pub(crate) fn leave<S: Store>(store: &mut S, memory: &mut Memory, disk: &Uuid) -> Result<(), Failed>
     requires session { IsBetweenSteps S.Store store.old memory.old }
     requires allowed { IsAllowed S.Store (command.Detach disk.now) store.old memory.old }
+    requires kept_up { IsKeptUp S.Store (command.Detach disk.now) store.old memory.old }
     ensures stays { Stays S.Store store.old store.new }
     ensures cause { Counts S.Store result store.old store.new }
     ensures session_still { IsBetweenSteps S.Store store.new memory.new }

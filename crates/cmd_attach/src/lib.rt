@@ -20,7 +20,8 @@
 
 mod attaching;
 mod chains;
+mod detaching;
 mod enlarging;
 
-pub use attaching::detach;
+pub use detaching::detach;
 pub use enlarging::attach;

@@ -61,7 +61,7 @@ use Rattle.sm_ready.specs.Sessions.{HasTreeRoom, IsOrderlyStore, IsTidyStore}
 use Rattle.sm_ready.specs.Does.{ShapesAs, StoreDoes}
 use Rattle.sm_ready.specs.Frames.{HasTrueImages}
 use Rattle.sm_refs.specs.Attached.{Attached}
-use Rattle.sm_base.specs.declared.operations.Op.{Op}
+use Rattle.sm_machine.specs.Operations.{Op}
 use Rattle.sm_ready.specs.Stores.{MayShow, StoreLeaves, content_in, content_now, store_content}
 use Rattle.sm_ready.specs.declared.memory.Memory.{Memory}
 use Rattle.sm_ready.proofs.AfterLaws.{other_keeps}

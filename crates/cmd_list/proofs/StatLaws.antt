@@ -2,6 +2,8 @@
 use Rattle.std.proofs.Common.{◌≡◌, ℕ, ◌*◌, List, length, map, sym, ap, ap₂, ◌∙◌}
 use Rattle.std.proofs.Math.Logic.{∥∥₁_elim}
 use Rattle.std.proofs.Props.{props}
+use Rattle.sm_base.specs.declared.operations.Op.{Op as Told}
+use Rattle.sm_machine.specs.Operations.{told as told_operation}
 use Rattle.common_laws.specs.Lists.{In}
 use Rattle.vg_meta.specs.Tables.{VolumeTable, free as free_of}
 use Rattle.vg_volumes.specs.Sites.{Site}
@@ -40,19 +42,20 @@ row_now s t m r o w i =
 rows_now : (s : Site) (t : VolumeTable) (m : Known) → IsOrderly s t m → IsWellFormed (shape_in s t m) → image_rows m.attached m.rows ≡ map (stat_row (shape_in s t m)) (map machine_row m.rows)
 rows_now s t m o w = sym (turned_twice (stat_row (shape_in s t m)) machine_row (image_row m.attached) m.rows (λ r i. sym (row_now s t m r o w i)))
 
--- what is told, by the sequence number, the free extents and the rows
-abbrev stats_with : Known → ℕ → ℕ → List StatRow → Stats
-stats_with m seq free rows = record { seq = seq; free = free; op = m.op; rows = rows }
+-- what is told, by the sequence number, the free extents, the operation and the rows
+abbrev stats_with : ℕ → ℕ → Told → List StatRow → Stats
+stats_with seq free o rows = record { seq = seq; free = free; op = o; rows = rows }
 
 stats_now : (s : Site) (t : VolumeTable) (m : Known) → IsOrderly s t m → IsTidy t m → IsWellFormed (shape_in s t m)
-    → stats_with m t.sequence (length (free_of s.count t)) (image_rows m.attached m.rows) ≡ stats (shape_in s t m)
+    → stats_with t.sequence (length (free_of s.count t)) (told_operation m.op) (image_rows m.attached m.rows) ≡ stats (shape_in s t m)
 unfolding shape_in
-stats_now s t m o tidy w = ap₂ (stats_with m t.sequence) (sym (free_counted s t m tidy.none_new o)) (rows_now s t m o w)
+stats_now s t m o tidy w = ap₂ (λ n rows. stats_with t.sequence n (told_operation m.op) rows) (sym (free_counted s t m tidy.none_new o)) (rows_now s t m o w)
 
 -- and so the machine answers, whatever its disks are
-pub law_stat : (s : Site) (ds : List Disk) (t : VolumeTable) (m : Known) (extents seq free : ℕ) (rows : List StatRow) → s.count ≡ extents → seq ≡ t.sequence → free ≡ length (free_of extents t)
-    → rows ≡ image_rows m.attached m.rows → IsOrderly s t m → IsTidy t m → reply.Stat (stats_with m seq free rows) ≡ reply_to ds (shape_in s t m) StatImages
+pub law_stat : (s : Site) (ds : List Disk) (t : VolumeTable) (m : Known) (extents seq free : ℕ) (said : Told) (rows : List StatRow) → s.count ≡ extents → seq ≡ t.sequence → free ≡ length (free_of extents t)
+    → said ≡ told_operation m.op → rows ≡ image_rows m.attached m.rows → IsOrderly s t m → IsTidy t m → reply.Stat (stats_with seq free said rows) ≡ reply_to ds (shape_in s t m) StatImages
 unfolding reply_to
-law_stat s ds t m extents seq free rows count number left are o tidy =
-    ap reply.Stat (ap (λ k. stats_with m k free rows) number ∙ ap₂ (stats_with m t.sequence) (left ∙ ap (λ n. length (free_of n t)) (sym count)) are
+law_stat s ds t m extents seq free said rows count number left tells are o tidy =
+    ap reply.Stat (ap₂ (λ k x. stats_with k free x rows) number tells
+    ∙ ap₂ (λ n xs. stats_with t.sequence n (told_operation m.op) xs) (left ∙ ap (λ n. length (free_of n t)) (sym count)) are
     ∙ ∥∥₁_elim o.well_formed (hlevel props) (λ w. stats_now s t m o tidy w))

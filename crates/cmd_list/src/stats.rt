@@ -82,7 +82,7 @@ pub fn stat(alloc: Global, table: &Table, memory: &Memory, extents: u32) -> Repl
         Ok(rows) => Reply::Stat(StatRows {
             seq: table.seq(),
             free: free(table, extents),
-            op: memory.operation,
+            op: memory.operation.told(),
             rows,
         }),
         Err(_) => Reply::No(Refusal::NoMemory),

@@ -13,8 +13,8 @@ use Rattle.sm_base.specs.Kinds.{is_entry, is_image}
 use Rattle.sm_base.specs.Names.{IsUuid}
 use Rattle.sm_base.specs.declared.names.Name.{Name}
 use Rattle.sm_base.specs.declared.names.Name.TheVariants as name
-use Rattle.sm_base.specs.declared.operations.Op.{Op}
-use Rattle.sm_base.specs.declared.operations.Op.TheVariants as op
+use Rattle.sm_machine.specs.Operations.{Op}
+use Rattle.sm_machine.specs.Operations as op
 use Rattle.vg_meta.specs.Changes.{made}
 use Rattle.vg_meta.specs.Tables.{IsTable, Row, VolumeTable, extents_of, names_of, rows}
 use Rattle.vg_volumes.specs.Sites.{Site}
@@ -95,6 +95,7 @@ module _ (σ : Shape) (w : IsWellFormed σ) (u twin : List ℕ) (f : IsForkable 
   by_op (op.Copy v p cursor) away h n works = child_kept true v p n h.link (hidden_kept h.link.child h.link.there h.link.is_shown) works
   by_op (op.Relink v p) away h n works = child_kept true v p n h (hidden_kept h.child h.there h.is_shown) works
   by_op (op.Leaf l p cursor) away h n works = child_kept false l p n h.0.link (leaf_kept l p h.0.link.child h.0.link.there h.0.link.is_named away) works
+  by_op (op.Live l p cursor dirty) away h n works = child_kept false l p n h.only.link (leaf_kept l p h.only.link.child h.only.link.there h.only.link.is_named away) works
 
   pub works_kept : (n : Name) → WorksAt σ.op n → IsThere (kept σ w u twin f its at) n
   works_kept n works = by_op σ.op not_its w.operation n works
@@ -124,6 +125,7 @@ module _ (σ : Shape) (well : ∥ IsWellFormed σ ∥₁) (u twin : List ℕ) (f
   roomy_by (op.Copy v p cursor) is had = roomy_pair v p (subst (λ o. WorksAt o v) (sym is) (inl refl)) (subst (λ o. WorksAt o p) (sym is) (inr refl)) had
   roomy_by (op.Relink v p) is had = tt
   roomy_by (op.Leaf l p cursor) is had = roomy_pair l p (subst (λ o. WorksAt o l) (sym is) (inl refl)) (subst (λ o. WorksAt o p) (sym is) (inr refl)) had
+  roomy_by (op.Live l p cursor dirty) is had = roomy_pair l p (subst (λ o. WorksAt o l) (sym is) (inl refl)) (subst (λ o. WorksAt o p) (sym is) (inr refl)) had
 
   pub roomy_then : IsRoomyIn σ σ.op → IsRoomyIn then σ.op
   roomy_then had = roomy_by σ.op refl had
@@ -136,6 +138,7 @@ of_collector name.Mgt e = refl
 of_collector (name.Vhd v) e = refl
 of_collector (name.Raw v) e = refl
 of_collector (name.Old v) e = refl
+of_collector (name.Cbt v) e = refl
 of_collector (name.Clone d b v) e = absurd (true≢false e)
 of_collector (name.Inflate v k) e = absurd (true≢false e)
 of_collector (name.Coalesce v p) e = refl

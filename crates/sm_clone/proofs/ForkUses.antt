@@ -10,7 +10,7 @@ use Rattle.common_laws.proofs.Lists.{Distinct-key, In-insert_new, In-insert_old,
 use Rattle.sm_base.specs.Names.{base_uuid}
 use Rattle.sm_base.specs.declared.names.Name.{Name}
 use Rattle.sm_base.specs.declared.names.Name.TheVariants.{Vhd}
-use Rattle.sm_base.specs.declared.operations.Op.TheVariants.{Idle}
+use Rattle.sm_machine.specs.Operations.{Idle}
 use Rattle.sm_machine.specs.Refusals.{wanted}
 use Rattle.sm_machine.specs.Shapes.{Attachment, ImageRow, Shape, attached_as, chain, chain_limit, disk_image, image_uuid, is_image_of, is_rw, parent_of, reads_through, refs, renamed, same_image, with_image, without_image}
 use Rattle.sm_machine.specs.Steps.{child_image, fork_images, fork_shape, forked_images}

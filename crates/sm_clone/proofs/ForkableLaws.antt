@@ -11,9 +11,9 @@ use Rattle.common_laws.proofs.Lists.{Distinct-key, In-filter, In-map, In-map_at,
 use Rattle.sm_base.specs.Kinds.{is_entry}
 use Rattle.sm_base.specs.Names.{base_uuid}
 use Rattle.sm_base.specs.declared.names.Name.{Name}
-use Rattle.sm_base.specs.declared.names.Name.TheVariants.{Mgt, Vhd, Raw, Old, Clone, Inflate, Coalesce, Relink, Leaf}
-use Rattle.sm_base.specs.declared.operations.Op.{Op}
-use Rattle.sm_base.specs.declared.operations.Op.TheVariants as op
+use Rattle.sm_base.specs.declared.names.Name.TheVariants.{Mgt, Vhd, Raw, Old, Cbt, Clone, Inflate, Coalesce, Relink, Leaf}
+use Rattle.sm_machine.specs.Operations.{Op}
+use Rattle.sm_machine.specs.Operations as op
 use Rattle.sm_disk.specs.Held.{Held, reads}
 use Rattle.vg_meta.specs.Tables.{Row, VolumeTable, name_eq, names_of, rows}
 use Rattle.vg_volumes.specs.Sites.{Site}
@@ -86,6 +86,7 @@ apart_image us (Vhd u) e none = ap (λ b. not (b || false)) none
 apart_image us (Raw u) e none = ap (λ b. not (b || false)) none
 apart_image us Mgt e none = absurd (true≢false (sym e))
 apart_image us (Old u) e none = absurd (true≢false (sym e))
+apart_image us (Cbt u) e none = absurd (true≢false (sym e))
 apart_image us (Clone d b w) e none = absurd (true≢false (sym e))
 apart_image us (Inflate u k) e none = absurd (true≢false (sym e))
 apart_image us (Coalesce v p) e none = absurd (true≢false (sym e))
@@ -121,6 +122,7 @@ folds_entry Mgt e = absurd (true≢false (sym e))
 folds_entry (Vhd u) e = absurd (true≢false (sym e))
 folds_entry (Raw u) e = absurd (true≢false (sym e))
 folds_entry (Old u) e = absurd (true≢false (sym e))
+folds_entry (Cbt u) e = absurd (true≢false (sym e))
 folds_entry (Clone d b w) e = absurd (true≢false (sym e))
 folds_entry (Inflate u k) e = absurd (true≢false (sym e))
 folds_entry (Coalesce v p) e = refl
@@ -251,6 +253,8 @@ module _ (s : Site) (t : VolumeTable) (m : Known) (u twin : List ℕ) (read_only
   entry_apart w (op.Relink v p) h keeps n (inr i) = absurd i
   entry_apart w (op.Leaf l p c) h keeps n (inl is) = ap (λ y. list_any (is_among us) (uuids_in y)) is ∙ pair_apart l p (child_apart w false l p h.0.link (inr (leaf_other l keeps)))
   entry_apart w (op.Leaf l p c) h keeps n (inr i) = absurd i
+  entry_apart w (op.Live l p c dirty) h keeps n (inl is) = ap (λ y. list_any (is_among us) (uuids_in y)) is ∙ pair_apart l p (child_apart w false l p h.only.link (inr (leaf_other l keeps)))
+  entry_apart w (op.Live l p c dirty) h keeps n (inr i) = absurd i
 
   worked : IsWellFormed σ → (x : Op) → IsOperation σ x → folds x u ≡ false → (n : Name) → WorksAt x n → is_among us (image_uuid n) ≡ false
   unfolding folds
@@ -258,6 +262,7 @@ module _ (s : Site) (t : VolumeTable) (m : Known) (u twin : List ℕ) (read_only
   worked w (op.Copy v p c) h keeps n works = one_of v p n (child_apart w true v p h.link (inl refl)) works
   worked w (op.Relink v p) h keeps n works = one_of v p n (child_apart w true v p h (inl refl)) works
   worked w (op.Leaf l p c) h keeps n works = one_of l p n (child_apart w false l p h.0.link (inr (leaf_other l keeps))) works
+  worked w (op.Live l p c dirty) h keeps n works = one_of l p n (child_apart w false l p h.only.link (inr (leaf_other l keeps))) works
 
   kept_folds : is_given_up σ (forking u twin read_only) ≡ false → folds σ.op u ≡ false
   unfolding is_given_up gives_up
@@ -323,6 +328,7 @@ module _ (s : Site) (t : VolumeTable) (m : Known) (u twin : List ℕ) (read_only
   speaks_own keeps (Vhd v) r there e = image_speaks (Vhd v) r refl there e
   speaks_own keeps (Raw v) r there e = image_speaks (Raw v) r refl there e
   speaks_own keeps (Old v) r there e = absurd (none-some r (sym (no_old s t m v o) ∙ there))
+  speaks_own keeps (Cbt v) r there e = absurd (true≢false e)
   speaks_own keeps (Clone d b w) r there e = absurd (entry_none keeps (Clone d b w) r refl there e)
   speaks_own keeps (Inflate i n) r there e = absurd (entry_none keeps (Inflate i n) r refl there e)
   speaks_own keeps (Coalesce v p) r there e = absurd (entry_none keeps (Coalesce v p) r refl there e)

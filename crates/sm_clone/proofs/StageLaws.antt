@@ -3,11 +3,11 @@ use Rattle.std.proofs.Common.{◌≡◌, ◌≢◌, inl, ⊎_elim, ℕ, ◌+◌,
 use Rattle.std.specs.List.{IsDistinct}
 use Rattle.std.specs.Ordering.{is_lt}
 use Rattle.std.proofs.lemmas.Bool.{true≢false, lt-ltb}
-use Rattle.sm_base.specs.Kinds.{is_image, is_entry}
+use Rattle.sm_base.specs.Kinds.{is_image, is_log, is_entry}
 use Rattle.sm_base.specs.Names.{IsName, name_cmp}
 use Rattle.sm_base.specs.declared.names.Name.{Name}
 use Rattle.sm_base.specs.declared.names.Name.TheVariants.{Mgt}
-use Rattle.sm_base.proofs.KindLaws.{image-no_entry}
+use Rattle.sm_base.proofs.KindLaws.{image-no_entry, entry-no_log}
 use Rattle.vg_meta.specs.Tables.{IsTable, Row, VolumeTable, extents_in, is_one_of, name_eq, names_of, row_of, rows}
 use Rattle.vg_meta.specs.Changes.{AreFree, Permits, applied, made, put, put_some, renamed, tagged, with_row, without}
 use Rattle.vg_meta.specs.declared.changes.Change.TheVariants.{Create, Mark, Remove, Rename}
@@ -224,7 +224,7 @@ module _ (count : ℕ) (t : VolumeTable) (o b l w e : Name) (own twins : List �
     name_proper = h.entry_proper;
     new_name = h.no_entry;
     not_mgt = λ is. true≢false (sym h.entry_is ∙ ap is_entry is);
-    kind = rw (h.entry_no_image, h.entry_is) refl;
+    kind = rw (h.entry_no_image, entry-no_log e h.entry_is, h.entry_is) refl;
     extents_free = record { below = tt; unused = tt; distinct = tt };
   }
 
@@ -298,7 +298,7 @@ module _ (count : ℕ) (t : VolumeTable) (o b l w e : Name) (own twins : List �
   }
 
   pub may_3 : Permits count table_2 (Mark b Hidden true)
-  may_3 = record { row = moved_row; there = stage_2.base; image = h.base_image; otherwise = h.shown }
+  may_3 = record { row = moved_row; there = stage_2.base; taking = h.base_image; otherwise = h.shown }
 
   -- a mark changes no name
   marked_names : (test : Name → Bool) (n : Name) (f : Row → Row) (rs : List Row) → ((r : Row) → (f r).name ≡ r.name) → filter test (names_of (with_row n f rs)) ≡ filter test (names_of rs)
@@ -348,8 +348,8 @@ module _ (count : ℕ) (t : VolumeTable) (o b l w e : Name) (own twins : List �
 
   -- the new volume of an image with extents has its kind
   new_kind : (n : Name) (es : List ℕ) → is_image n ≡ true → 0 < length es
-      → cond (is_image n) (nat_lt 0 (length es)) (not false && (not true && (not (is_entry n) || (length es == 0)))) ≡ true
-  new_kind n es image some = ap (λ x. cond x (nat_lt 0 (length es)) (not false && (not true && (not (is_entry n) || (length es == 0))))) image ∙ lt-ltb 0 (length es) some
+      → cond (is_image n) (nat_lt 0 (length es)) (not (is_log n) && (not false && (not true && (not (is_entry n) || (length es == 0))))) ≡ true
+  new_kind n es image some = ap (λ x. cond x (nat_lt 0 (length es)) (not (is_log n) && (not false && (not true && (not (is_entry n) || (length es == 0)))))) image ∙ lt-ltb 0 (length es) some
 
   pub may_4 : Permits count table_3 (Create l true own)
   may_4 = record { name_proper = h.leaf_proper; new_name = stage_3.leaf; not_mgt = not_mgt l h.leaf_image; kind = new_kind l own h.leaf_image h.some_own; extents_free = own_free }
@@ -405,7 +405,7 @@ module _ (count : ℕ) (t : VolumeTable) (o b l w e : Name) (own twins : List �
   -- ---- behind the writes
 
   pub may_6 : Permits count table_5 (Mark l Fresh false)
-  may_6 = record { row = leaf_row; there = stage_5.leaf; image = h.leaf_image; otherwise = refl }
+  may_6 = record { row = leaf_row; there = stage_5.leaf; taking = ap (λ b. b || is_log l) h.leaf_image; otherwise = refl }
 
   pub stage_6 : Stage table_6 6 2 None (Some hidden_row) (Some leaf_filled) (Some twin_row) (Some entry_row) (e ∷ []) (own ++ twins)
   stage_6 = let c = changes_by_name count table_5 (Mark l Fresh false) stage_5.table may_6 in
@@ -426,7 +426,7 @@ module _ (count : ℕ) (t : VolumeTable) (o b l w e : Name) (own twins : List �
       }
 
   pub may_7 : Permits count table_6 (Mark w Fresh false)
-  may_7 = record { row = twin_row; there = stage_6.twin; image = h.twin_image; otherwise = refl }
+  may_7 = record { row = twin_row; there = stage_6.twin; taking = ap (λ b. b || is_log w) h.twin_image; otherwise = refl }
 
   pub stage_7 : Stage table_7 7 2 None (Some hidden_row) (Some leaf_filled) (Some twin_filled) (Some entry_row) (e ∷ []) (own ++ twins)
   stage_7 = let c = changes_by_name count table_6 (Mark w Fresh false) stage_6.table may_7 in

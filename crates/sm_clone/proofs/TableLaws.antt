@@ -12,8 +12,8 @@ use Rattle.sm_base.specs.Names.{IsName, IsUuid, base_front, base_uuid, is_base}
 use Rattle.sm_base.specs.Numbers.{thick}
 use Rattle.sm_base.specs.declared.names.Name.{Name}
 use Rattle.sm_base.specs.declared.names.Name.TheVariants as name
-use Rattle.sm_base.specs.declared.operations.Op.{Op}
-use Rattle.sm_base.specs.declared.operations.Op.TheVariants as op
+use Rattle.sm_machine.specs.Operations.{Op}
+use Rattle.sm_machine.specs.Operations as op
 use Rattle.vg_meta.specs.Tables.{IsTable, IsVolume, Row, VolumeTable, names_of, rows}
 use Rattle.vg_meta.specs.Changes.{applied, made, renamed as moved_as, tagged}
 use Rattle.vg_meta.specs.Text.{text}
@@ -99,6 +99,7 @@ few_entries op.Idle = omega arith
 few_entries (op.Copy v p cursor) = omega arith
 few_entries (op.Relink v p) = omega arith
 few_entries (op.Leaf l p cursor) = omega arith
+few_entries (op.Live l p cursor dirty) = omega arith
 
 -- ---- the fork
 

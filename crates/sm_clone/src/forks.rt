@@ -30,6 +30,7 @@ fn renamed(name: &Name, uuid: &Uuid) -> Name
         Name::Raw(_) => Name::Raw(*uuid),
         Name::Mgt
         | Name::Old(_)
+        | Name::Cbt(_)
         | Name::Clone { .. }
         | Name::Inflate { .. }
         | Name::Coalesce { .. }

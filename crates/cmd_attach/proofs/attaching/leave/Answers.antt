@@ -16,7 +16,7 @@ use Rattle.sm_ready.proofs.UsedLaws.{ready_used, with_attached}
 use Rattle.sm_space.proofs.SyncedLaws.{between_synced}
 use Rattle.cmd_attach.proofs.AttachedLaws.{between_used, chain_is, counted_in, detach_disks, detached_orderly, detached_shape, differ, images_all, mode_was, own_detach}
 use Rattle.cmd_attach.proofs.ChainLaws.{In-at}
-use Rattle.cmd_attach.proofs.attaching.detach.Goals as goal
+use Rattle.cmd_attach.proofs.attaching.leave.Goals as goal
 
 pub chain_into-count-requires-clause-images : goal.chain_into-count-requires-clause-images
 chain_into-count-requires-clause-images g c = images_all _ _ (known c.args.memory.now) c.requires.session.orderly
@@ -43,7 +43,7 @@ shaped g c =
     let own = own_detach _ _ (known c.args.memory.now) c.args.disk.now c.requires.session.orderly c.requires.allowed in
     let is = chain_is _ _ (known c.args.memory.now) c.args.disk.now c.requires.session.orderly own c.image_name-leaf.result _ c.image_name-leaf.ensures c.chain_into-count.ensures.names in
     let at : shape_in (g.S.Store.site c.args.store.now) (table_alone (g.S.Store.table c.args.store.now)) (with_attached c.leave.new.self (known c.args.memory.now)) ≡ shape_next (shape_in (g.S.Store.site c.args.store.now) (table_alone (g.S.Store.table c.args.store.now)) (known c.args.memory.now)) (command.Detach c.args.disk.now) =
-    detached_shape _ _ (known c.args.memory.now) c.args.disk.now c.leave.new.self c.requires.session.orderly own c.requires.allowed c.leave.ensures.disks
+    detached_shape _ _ (known c.args.memory.now) c.args.disk.now c.leave.new.self c.requires.session.orderly own c.requires.allowed c.requires.kept_up c.leave.ensures.disks
     (subst (λ (ns : List Name). CountsLess ns c.args.memory.now.attached c.leave.new.self) is c.leave.ensures.counts) in
     subst₂ (λ s t. shape_in s t (with_attached c.leave.new.self (known c.args.memory.now)) ≡ shape_next (shape_in (g.S.Store.site c.args.store.now) (table_alone (g.S.Store.table c.args.store.now)) (known c.args.memory.now)) (command.Detach c.args.disk.now))
     (sym c.sync.ensures.site) (sym c.sync.ensures.table.0) at
@@ -67,7 +67,7 @@ returns-clause-session_still g c =
     let e = c.sync.ensures in
     let own = own_detach _ _ (known c.args.memory.now) c.args.disk.now r.orderly c.requires.allowed in
     let is = chain_is _ _ (known c.args.memory.now) c.args.disk.now r.orderly own c.image_name-leaf.result _ c.image_name-leaf.ensures c.chain_into-count.ensures.names in
-    let orderly = detached_orderly _ _ (known c.args.memory.now) c.args.disk.now c.leave.new.self r.orderly own c.requires.allowed c.leave.ensures.disks
+    let orderly = detached_orderly _ _ (known c.args.memory.now) c.args.disk.now c.leave.new.self r.orderly own c.requires.allowed c.requires.kept_up c.leave.ensures.disks
     (subst (λ (ns : List Name). CountsLess ns c.args.memory.now.attached c.leave.new.self) is c.leave.ensures.counts) in
     between_synced (record c.args.memory.now { attached = c.leave.new.self }) (stays_from {g = g.S.Store} e.site e.table e.no_less e.counts e.beside) e.keeps
     (between_used c.args.memory.now c.leave.new.self orderly c.leave.ensures.room r)
