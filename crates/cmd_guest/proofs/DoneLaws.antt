@@ -1,5 +1,5 @@
 -- A guest's write as a session tells it: what a store and memory are behind it.
-use Rattle.std.proofs.Common.{◌≡◌, inr, ⊎_elim, ℕ, ◌+◌, ◌*◌, ◌/◌, ◌%◌, ◌^◌, ◌==◌, ◌<◌, ◌≤◌, not, ◌&&◌, Bool, true, false, List, length, Option, Some, None, Ok, Err, refl, sym, ap, ap₂, ◌∙◌, subst, subst₂, arith, eqb-true}
+use Rattle.std.proofs.Common.{◌≡◌, ◌⊎◌, inr, ⊎_elim, ℕ, ◌+◌, ◌*◌, ◌/◌, ◌%◌, ◌^◌, ◌==◌, ◌<◌, ◌≤◌, not, ◌&&◌, Bool, true, false, List, length, Option, Some, None, Ok, Err, refl, sym, ap, ap₂, ◌∙◌, subst, subst₂, arith, eqb-true}
 use Rattle.std.proofs.Math.Logic.{∥∥₁_elim, ∥∥₁_map}
 use Rattle.std.proofs.Props.{props}
 use Rattle.std.proofs.lemmas.Bool.{true≢false}
@@ -10,7 +10,7 @@ use Rattle.common_laws.specs.Lists.{In}
 use Rattle.common_laws.proofs.Lists.{In-map_at}
 use Rattle.sm_base.specs.declared.faults.Failed.{Failed}
 use Rattle.sm_base.specs.declared.names.Name.{Name}
-use Rattle.sm_disk.specs.Held.{Held, Allows, IsWhole}
+use Rattle.sm_disk.specs.Held.{Held, Allows, IsWhole, reads}
 use Rattle.vg_meta.specs.Roomy.{table_alone}
 use Rattle.vg_meta.specs.Tables.{VolumeTable}
 use Rattle.vg_volumes.specs.Sites.{Site, area_size, size_of, volume_of}
@@ -19,7 +19,7 @@ use Rattle.vg_volumes.specs.declared.stores.Store.{Ghosts}
 use Rattle.vhd_volumes.specs.Steps.{Does, Holds}
 use Rattle.vhd_volumes.specs.Writes.{KeepsHeads}
 use Rattle.vhd_chain.specs.Reading.{AllAreTrue}
-use Rattle.vhd_image.specs.Bodies.{ImageIsTrue, StandsIn, TrueIn, IfVhdDoes, sector_count, volume_name}
+use Rattle.vhd_image.specs.Bodies.{ImageIsTrue, StandsIn, TrueIn, IfVhdDoes, own_of, sector_count, volume_name}
 use Rattle.vhd_image.specs.Steady.{IsSteady}
 use Rattle.vhd_image.specs.Written.{HasRoomToWrite, IsWriting, IsBodyWritten, MayHaveGrown, written}
 use Rattle.vhd_image.specs.declared.images.Body.{Body}
@@ -65,10 +65,10 @@ use Rattle.cmd_guest.proofs.AskLaws.{room_own, whole_bytes, within_own}
 use Rattle.cmd_guest.proofs.OwnLaws.{IsOwn, own_row}
 use Rattle.cmd_guest.specs.Writing.{own_name}
 use Rattle.cmd_guest.proofs.ReadLaws.{or_none}
-use Rattle.cmd_guest.proofs.ReplacedLaws.{IsLike, orderly_replaced, others, ready_replaced, replaced, shape_replaced, stray_replaced, there_replaced}
+use Rattle.cmd_guest.proofs.ReplacedLaws.{IsLike, behind_write, orderly_replaced, others, ready_replaced, shape_replaced, stray_replaced, there_replaced}
 use Rattle.cmd_guest.proofs.TakenLaws.{few_numbers, shape_unnumbered}
 use Rattle.cmd_guest.proofs.DiskLaws.{over}
-use Rattle.cmd_guest.proofs.WriteLaws.{bytes_next, disks_next, like_grown, row_written, with_image, written_stop}
+use Rattle.cmd_guest.proofs.WriteLaws.{bytes_next, disks_next, like_grown, own_outside, row_written, with_image, written_stop}
 
 -- the shape behind a write, which makes no commit and gives nothing up
 pub write_next : (σ : Shape) (u : List ℕ) (at : ℕ) (bytes : List ℕ) → σ.sequence < 2 ^ 48 → shape_next σ (Write u at bytes) ≡ write_shape σ u at (length bytes / 512)
@@ -130,7 +130,8 @@ module _ (s : Site) (t : VolumeTable) (m : Known) (u : List ℕ) (r : TreeRow) (
 -- ---- of a store
 
 module _ {S : Type 0} (g : Ghosts S) (a b : S) (m n : Memory) (u : List ℕ) (at : ℕ) (bytes : List ℕ) (r : TreeRow) (new : Body) (orderly : IsOrderlyStore g a m) (allowed : IsAllowed g (Write u at bytes) a m)
-    (found : tree_row m.tree.rows (own_name m.tree.rows u) ≡ Some r) (works : WorksOn g (row_name r) a b) (grown : MayHaveGrown r.image new) (memory : known n ≡ replaced (with_image new r) (known m)) where
+    (found : tree_row m.tree.rows (own_name m.tree.rows u) ≡ Some r) (works : WorksOn g (row_name r) a b) (grown : MayHaveGrown r.image new)
+    (memory : known n ≡ behind_write (g.site a) (table_alone (g.table a)) (known m) u at (length bytes / 512) (with_image new r)) where
   abbrev s : Site
   s = g.site a
 
@@ -158,7 +159,7 @@ module _ {S : Type 0} (g : Ghosts S) (a b : S) (m n : Memory) (u : List ℕ) (at
     row : machine_row (with_image new r) ≡ written_image (shape_in s t (known m)) at (length bytes / 512) (machine_row r)
     row = row_written s t (known m) r new at (length bytes) orderly own.there (let e = (geometry_of s t (known m) orderly).block_least in omega (arith, e)) (some_fits s t (known m) u r orderly own at bytes allowed).0 is
 
-    shaped : shape_in s t (replaced (with_image new r) (known m)) ≡ write_shape (shape_in s t (known m)) u at (length bytes / 512)
+    shaped : shape_in s t (behind_write s t (known m) u at (length bytes / 512) (with_image new r)) ≡ write_shape (shape_in s t (known m)) u at (length bytes / 512)
     shaped = shape_replaced s t (known m) u r (with_image new r) orderly own like at (length bytes / 512) row
 
     -- the shape of what is in memory is the machine's
@@ -170,7 +171,7 @@ module _ {S : Type 0} (g : Ghosts S) (a b : S) (m n : Memory) (u : List ℕ) (at
     orderly_after : StandsIn s.geometry (size_of s t (row_name r)) new → IsOrderlyStore g b n
     orderly_after stands =
         subst (λ (x : Site). IsOrderly x (table_alone (g.table b)) (known n)) (sym works.stays.site) (subst (λ (x : VolumeTable). IsOrderly s x (known n)) (sym works.stays.table)
-        (subst (IsOrderly s t) (sym memory) (orderly_replaced s t (known m) u r (with_image new r) orderly own like at (length bytes / 512) row
+        (subst (IsOrderly s t) (sym memory) (orderly_replaced s t (known m) u r (with_image new r) orderly own like at (length bytes / 512) row grown
         (subst (λ k. StandsIn s.geometry k new) (row_sectors s t (known m) orderly r own.there) stands))))
 
     tidy_after : IsTidyStore g a m → IsTidyStore g b n
@@ -181,7 +182,7 @@ module _ {S : Type 0} (g : Ghosts S) (a b : S) (m n : Memory) (u : List ℕ) (at
 
     -- the session is between two steps, as it was
     pub between_after : StandsIn s.geometry (size_of s t (row_name r)) new → Holds g (row_name r) (λ x. TrueIn s.geometry (sectors_in (stored g a) (row_name r)) x new) b
-        → IsBesideTree m n → IsBetweenSteps g a m → IsBetweenSteps g b n
+        → IsBesideTree (record m { operation = n.operation }) n → IsBetweenSteps g a m → IsBetweenSteps g b n
     between_after stands truth beside i = record {
       usable = works.stays.failed ∙ i.usable;
       orderly = orderly_after stands;
@@ -239,8 +240,8 @@ module _ {S : Type 0} (g : Ghosts S) (a b : S) (m n : Memory) (u : List ℕ) (at
         (heads : IfVhdDoes g r.image (λ head slots. KeepsHeads (sectors_in (stored g a) head.volume)) a b)
         (truth : Holds g (row_name r) (λ x. TrueIn s.geometry (sectors_in (stored g a) (row_name r)) x new) b)
         (done : Does g (row_name r) (IsBodyWritten s.geometry (sectors_in (stored g a) (row_name r)) r.image at bytes) a b) where
-      still : IsOrderly s t (replaced (with_image new r) (known m))
-      still = orderly_replaced s t (known m) u r (with_image new r) orderly own like at (length bytes / 512) (row is) (subst (λ k. StandsIn s.geometry k new) (row_sectors s t (known m) orderly r own.there) stands)
+      still : IsOrderly s t (behind_write s t (known m) u at (length bytes / 512) (with_image new r))
+      still = orderly_replaced s t (known m) u r (with_image new r) orderly own like at (length bytes / 512) (row is) grown (subst (λ k. StandsIn s.geometry k new) (row_sectors s t (known m) orderly r own.there) stands)
 
       steady : IsSteady s.geometry (r.extents * s.geometry.extent) (volume_of s t (g.area b) (row_name r)) new
       steady =
@@ -251,8 +252,16 @@ module _ {S : Type 0} (g : Ghosts S) (a b : S) (m n : Memory) (u : List ℕ) (at
           (subst (λ (y : VolumeTable). IsSteady s.geometry (size_of s y (volume_name new)) (volume_of s y (g.area b) (volume_name new)) new) works.stays.table
           (subst (λ (x : Site). IsSteady x.geometry (size_of x (table_alone (g.table b)) (volume_name new)) (volume_of x (table_alone (g.table b)) (g.area b) (volume_name new)) new) works.stays.site now)))
 
-      ready_now : IsReady s t (g.area b) (replaced (with_image new r) (known m))
-      ready_now = ready_replaced s t (known m) u r (with_image new r) orderly own like (g.area a) (g.area b) (works.elsewhere told) ready steady
+      -- beside the sectors that were written the image holds what it held
+      outside : (k : ℕ) → (k < at) ⊎ (at + length bytes / 512 ≤ k) → own_of s.geometry (size_of s t (row_name r)) new (reads (volume_of s t (g.area b) (row_name r))) k
+          ≡ own_of s.geometry (size_of s t (row_name r)) r.image (reads (volume_of s t (g.area a) (row_name r))) k
+      outside k away = ap (λ x. own_of s.geometry (size_of s t (row_name r)) x (reads (volume_of s t (g.area b) (row_name r))) k) is
+          ∙ own_outside s.geometry (size_of s t (row_name r)) at bytes r.image (volume_of s t (g.area a) (row_name r)) (volume_of s t (g.area b) (row_name r))
+          (subst (λ (x : Held). IsBodyWritten s.geometry (size_of s t (row_name r)) r.image at bytes (volume_of s t (g.area a) (row_name r)) x) held (done told)) k
+          (λ here. let e = even s t (known m) u r orderly own at bytes allowed in ⊎_elim (λ low. omega (arith, low, here.0)) (λ high. omega (arith, high, here.1, e)) away)
+
+      ready_now : IsReady s t (g.area b) (behind_write s t (known m) u at (length bytes / 512) (with_image new r))
+      ready_now = ready_replaced s t (known m) u r (with_image new r) orderly own like (g.area a) (g.area b) (works.elsewhere told) at (length bytes / 512) (some_fits s t (known m) u r orderly own at bytes allowed).0 still ready steady outside
           (λ p. ap (λ (x : Shape). is_written_in x p) (shaped is) ∙ written_same s t (known m) u r orderly own at bytes allowed (length bytes / 512) p) (written_own s t (known m) u r orderly own at bytes allowed)
 
       shown : disks (content_now s t (g.area b)) ≡ on_disk u (over at (length bytes / 512) bytes) (disks (content_now s t (g.area a)))
@@ -261,7 +270,7 @@ module _ {S : Type 0} (g : Ghosts S) (a b : S) (m n : Memory) (u : List ℕ) (at
           let same : with_image new r ≡ q = ap (λ x. with_image x r) is in
           disks_next s t (known m) u r orderly own (g.area a) (g.area b) ready at bytes (even s t (known m) u r orderly own at bytes allowed) (some_fits s t (known m) u r orderly own at bytes allowed).1 (works.elsewhere told)
           (subst (λ (x : Held). IsBodyWritten s.geometry (size_of s t (row_name r)) r.image at bytes (volume_of s t (g.area a) (row_name r)) x) held (done told))
-          (subst (IsLike r) same like) (subst (λ x. IsOrderly s t (replaced x (known m))) same still) (subst (λ x. IsFirm s t (g.area b) (replaced x (known m))) same ready_now.firm)
+          (subst (IsLike r) same like) (subst (λ x. IsOrderly s t (behind_write s t (known m) u at (length bytes / 512) x)) same still) (subst (λ x. IsFirm s t (g.area b) (behind_write s t (known m) u at (length bytes / 512) x)) same ready_now.firm)
           (subst (λ x. In x (with_replaced x m.tree.rows)) same (there_replaced s t (known m) u r (with_image new r) orderly own like))
 
       machine_shape : (step (store_state g a m) (Write u at bytes)).after.shape ≡ write_shape (shape_in s t (known m)) u at (length bytes / 512)

@@ -4,6 +4,7 @@ pub mod TakenLaws
 pub mod ReplacedLaws
 pub mod AskLaws
 pub mod SectorLists
+pub mod MarkLaws
 pub mod NowLaws
 pub mod ReadLaws
 pub mod DiskLaws

@@ -60,7 +60,7 @@ use Rattle.cmd_guest.proofs.AskLaws.{le-div, raw_name, vhd_name}
 use Rattle.cmd_guest.proofs.DiskLaws.{IsWritten, disks_written, has_bytes, over}
 use Rattle.cmd_guest.proofs.NowLaws.{IsNow, disk_found, disk_own, row_now, row_read, stands_in}
 use Rattle.cmd_guest.proofs.OwnLaws.{IsOwn}
-use Rattle.cmd_guest.proofs.ReplacedLaws.{IsLike, image_other, others, replaced}
+use Rattle.cmd_guest.proofs.ReplacedLaws.{IsLike, behind_write, image_other, others}
 
 -- ---- the written image, in memory
 
@@ -122,7 +122,7 @@ own_inside : (g : Geometry) (n at : ℕ) (bytes : List ℕ) (b : Body) (old new 
 own_inside g n at bytes (body.Raw volume size) old new done k low below here = ap (λ c. cond c (Some (reads new k)) None) (lt-ltb k size below) ∙ ap Some (reads-wrote done k here)
 own_inside g n at bytes (body.Vhd head slots) old new done k low below here = done.inside k (sector_of bytes (k - at)) (here, refl)
 
-own_outside : (g : Geometry) (n at : ℕ) (bytes : List ℕ) (b : Body) (old new : Held) → IsBodyWritten g n b at bytes old new → (k : ℕ) → (IsIn at (length bytes) k → ⊥)
+pub own_outside : (g : Geometry) (n at : ℕ) (bytes : List ℕ) (b : Body) (old new : Held) → IsBodyWritten g n b at bytes old new → (k : ℕ) → (IsIn at (length bytes) k → ⊥)
     → own_of g n (written g.block at (length bytes) b) (reads new) k ≡ own_of g n b (reads old) k
 own_outside g n at bytes (body.Raw volume size) old new done k away = ap (λ x. cond (nat_lt k size) (Some x) None) (reads-at old new k (done.floor k) (done.outside k away))
 own_outside g n at bytes (body.Vhd head slots) old new done k away = done.outside k (λ value puts. away puts.0)
@@ -172,11 +172,11 @@ module _ (s : Site) (t : VolumeTable) (m : Known) (u : List ℕ) (r : TreeRow) (
 
   -- and they are those that a read gives
   module _ (done : IsBodyWritten s.geometry (size_of s t (row_name r)) r.image at bytes (volume_of s t old (row_name r)) (volume_of s t new (row_name r))) (like : IsLike r (with_image (written s.geometry.block at (length bytes) r.image) r))
-      (orderly : IsOrderly s t (replaced (with_image (written s.geometry.block at (length bytes) r.image) r) m)) (firm : IsFirm s t new (replaced (with_image (written s.geometry.block at (length bytes) r.image) r) m))
-      (there : In (with_image (written s.geometry.block at (length bytes) r.image) r) (replaced (with_image (written s.geometry.block at (length bytes) r.image) r) m).rows) where
+      (orderly : IsOrderly s t (behind_write s t m u at (length bytes / 512) (with_image (written s.geometry.block at (length bytes) r.image) r))) (firm : IsFirm s t new (behind_write s t m u at (length bytes / 512) (with_image (written s.geometry.block at (length bytes) r.image) r)))
+      (there : In (with_image (written s.geometry.block at (length bytes) r.image) r) (behind_write s t m u at (length bytes / 512) (with_image (written s.geometry.block at (length bytes) r.image) r)).rows) where
     now : IsNow (content_now s t new) (row_name r) s.geometry (size_of s t (row_name r)) (written s.geometry.block at (length bytes) r.image) (reads (volume_of s t new (row_name r)))
     now = subst (λ x. IsNow (content_now s t new) x s.geometry (size_of s t x) (written s.geometry.block at (length bytes) r.image) (reads (volume_of s t new x))) like.name
-        (row_now s t new (replaced (with_image (written s.geometry.block at (length bytes) r.image) r) m) orderly firm (with_image (written s.geometry.block at (length bytes) r.image) r) there)
+        (row_now s t new (behind_write s t m u at (length bytes / 512) (with_image (written s.geometry.block at (length bytes) r.image) r)) orderly firm (with_image (written s.geometry.block at (length bytes) r.image) r) there)
 
     record_apart : Mgt ≢ row_name r
     record_apart same = true≢false (sym (named_row s t m r o h.there) ∙ ap is_image_name (sym same) ∙ mgt_image)

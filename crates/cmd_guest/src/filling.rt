@@ -41,7 +41,7 @@ fn fill_with<S: Store>(
     ensures stays { Stays S.Store store.old store.new }
     ensures cause { Counts S.Store result store.old store.new }
     ensures writes { WritesOnly S.Store memory.old disk.now sector (replicate (512 * count) byte) store.old store.new }
-    ensures beside_tree { IsBesideTree memory.old memory.new }
+    ensures beside_tree { IsBesideTree (record memory.old { operation = memory.new.operation }) memory.new }
     ensures session_still { OnOk result (IsBetweenSteps S.Store store.new memory.new) }
     ensures shape { OnOk result (ShapesAs S.Store (Fill disk.now sector count byte) store.old memory.old store.new memory.new) }
     ensures taken { S.told → IsReadyStore S.Store store.old memory.old
@@ -51,7 +51,7 @@ fn fill_with<S: Store>(
     let piece = &mut piece[..SECTOR * most as usize];
     piece.fill(byte);
     let from = Payload::repeated(piece, byte, count);
-    put(store, memory, disk, sector, &from)
+    put(store, memory, disk, sector, count, &from)
 }
 
 /// Fills so many sectors of a disk, at least one, with a byte, from a sector on. It takes no memory but a buffer of the pool,
@@ -76,7 +76,7 @@ pub fn fill<S: Store>(
     ensures cause { Counts S.Store result store.old store.new }
     ensures pool { pool.new ≡ pool.old }
     ensures writes { WritesOnly S.Store memory.old disk.now sector (replicate (512 * count) byte) store.old store.new }
-    ensures beside_tree { IsBesideTree memory.old memory.new }
+    ensures beside_tree { IsBesideTree (record memory.old { operation = memory.new.operation }) memory.new }
     ensures session_still { OnOk result (IsBetweenSteps S.Store store.new memory.new) }
     ensures shape { OnOk result (ShapesAs S.Store (Fill disk.now sector count byte) store.old memory.old store.new memory.new) }
     ensures taken { S.told → IsReadyStore S.Store store.old memory.old

@@ -23,6 +23,7 @@
 
 mod filling;
 mod flushing;
+mod marking;
 mod reading;
 mod writing;
 
