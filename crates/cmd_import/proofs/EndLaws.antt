@@ -1,11 +1,12 @@
 -- The end of an import whose file was read whole: its image is sealed and its disk completed, or a call of the store failed.
 use Rattle.std.proofs.Common.{◌≡◌, inr, ℕ, ◌+◌, ◌-◌, ◌*◌, ◌/◌, ◌^◌, min, Bool, true, false, List, length, map, Option, None, Some, Result, Err, Ok, refl, sym, ap, ap₂, ◌∙◌, subst, subst₂, arith}
 use Rattle.std.specs.Int.{div_ceil}
-use Rattle.std.specs.Prelude.{IfSome}
+use Rattle.std.specs.Prelude.{IfSome, OnOk}
 use Rattle.std.proofs.lemmas.Bool.{true≢false}
 use Rattle.common_laws.specs.Lists.{numbers}
 use Rattle.sm_base.proofs.NumberLemmas.{div_up-div_ceil}
 use Rattle.sm_base.specs.Names.{base_uuid}
+use Rattle.sm_base.specs.declared.names.Name.{Name}
 use Rattle.sm_base.specs.declared.names.Name.TheVariants.{Vhd}
 use Rattle.vg_meta.specs.Changes.{tagged}
 use Rattle.vg_meta.specs.Tables.{VolumeTable, extents_of}
@@ -19,6 +20,8 @@ use Rattle.sm_base.specs.declared.sizes.Geometry.{Geometry}
 use Rattle.sm_disk.specs.Held.{reads}
 use Rattle.sm_machine.specs.Disks.{Disk, with_disk}
 use Rattle.sm_standing.specs.Standing.{disks}
+use Rattle.sm_ready.specs.Frames.{HasCommits}
+use Rattle.sm_ready.specs.Framing.{StepsOn}
 use Rattle.sm_ready.specs.Known.{known}
 use Rattle.sm_ready.specs.Sessions.{IsReadyStore}
 use Rattle.sm_ready.specs.Stores.{store_content}
@@ -108,20 +111,43 @@ module _ {S : Type 0} (g : Ghosts S) (b d : S) (m : Memory) (u : List ℕ) (f : 
             };
           }
 
+-- ---- the commits
+
+-- the end makes one commit
+pub few_works : {S : Type 0} {g : Ghosts S} {n : Name} {a b : S} → WorksOn g n a b → HasCommits 1 (tab g a) (tab g b)
+few_works works = let same = ap (λ (t : VolumeTable). t.sequence) works.stays.table in omega (arith, same)
+
+pub few_then : {S : Type 0} {g : Ghosts S} {n : Name} {a b d : S} → WorksOn g n a b → StepsOn g 1 b d → HasCommits 1 (tab g a) (tab g d)
+few_then works steps = let same = ap (λ (t : VolumeTable). t.sequence) works.stays.table in let one = steps.few in omega (arith, same, one)
+
+-- which leaves the volume its extents
+pub marked_extents : {S : Type 0} (g : Ghosts S) (b d e : S) (m : Memory) (u : List ℕ) (f : Filling) → IsFilled g b m u f → WorksOn g f.volume b d → tab g e ≡ marked (tab g d) (Vhd u)
+    → extents_of_volume (tab g e) (Vhd u) ≡ extents_of_volume (tab g d) (Vhd u)
+marked_extents g b d e m u f filling works table =
+    let h = importing_sealed g b d m u f filling works in
+    ap (λ t. extents_of_volume t (Vhd u)) table
+    ∙ ap (λ o. length (extents_of o)) (row_of-with_row_same (tab g d).volumes (Vhd u) (tagged Fresh false) h.volume.row (λ q. refl) h.volume.there)
+    ∙ sym (ap (λ o. length (extents_of o)) h.volume.there)
+
+-- so in all they are no more than the volume has extents, and one
+pub few_ends : {S : Type 0} (g : Ghosts S) (a s e : S) (u v : List ℕ) (r : Result ℕ ImportFault) → v ≡ u → HasCommits (extents_of_volume (tab g s) (Vhd v)) (tab g a) (tab g s) → HasCommits 1 (tab g s) (tab g e)
+    → OnOk r (extents_of_volume (tab g e) (Vhd u) ≡ extents_of_volume (tab g s) (Vhd u)) → OnOk r (HasCommits (extents_of_volume (tab g e) (Vhd u) + 1) (tab g a) (tab g e))
+few_ends g a s e u v (Ok size) named had one same =
+    let here = subst (λ w. HasCommits (extents_of_volume (tab g s) (Vhd w)) (tab g a) (tab g s)) named had in
+    let kept : extents_of_volume (tab g e) (Vhd u) ≡ extents_of_volume (tab g s) (Vhd u) = same in
+    omega (arith, here, one, kept)
+few_ends g a s e u v (Err fault) named had one same = tt
+
 -- the image that came into the tree
 pub new_image : {S : Type 0} (g : Ghosts S) (b d e : S) (m n : Memory) (u : List ℕ) (f : Filling) (now whole number size : ℕ) (uid : List ℕ) (image : Body) → IsFilled g b m u f → WorksOn g f.volume b d
     → uid ≡ base_uuid number → number ≡ (tab g b).sequence → image ≡ body.Vhd (new_head (g.site b).geometry f.volume now whole uid None) f.map → tab g e ≡ marked (tab g d) (Vhd u)
     → n.tree.rows ≡ with_row (row_of image (extents_of_volume (tab g d) (Vhd u))) m.tree.rows → size ≡ 512 * whole → HasNewImage (g.site b) (tab g e) u now size m n
 new_image g b d e m n u f now whole number size uid image filling works uid_is number_is fields table rows_are size_is =
-    let h = importing_sealed g b d m u f filling works in
     let x = (g.site b).geometry in
     let whole_is : whole ≡ size / 512 = omega (arith, size_is) in
     let image_is : image ≡ body.Vhd (new_head x (Vhd u) now (size / 512) (base_uuid number) None) f.map =
     fields ∙ ap (λ v. body.Vhd (new_head x v now whole uid None) f.map) filling.volume ∙ ap₂ (λ k i. body.Vhd (new_head x (Vhd u) now k i None) f.map) whole_is uid_is in
-    let extents_are : extents_of_volume (tab g d) (Vhd u) ≡ extents_of_volume (tab g e) (Vhd u) =
-    ap (λ o. length (extents_of o)) h.volume.there
-    ∙ sym (ap (λ t. extents_of_volume t (Vhd u)) table
-    ∙ ap (λ o. length (extents_of o)) (row_of-with_row_same (tab g d).volumes (Vhd u) (tagged Fresh false) h.volume.row (λ q. refl) h.volume.there)) in
+    let extents_are = sym (marked_extents g b d e m u f filling works table) in
     record {
       number = number;
       slots = f.map;

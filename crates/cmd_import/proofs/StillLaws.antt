@@ -81,6 +81,7 @@ since_new g a k w s m u b v store memory disk unbegun going = record {
   stops = λ told ready over. absurd (true≢false (sym over ∙ going));
   counts = let same = ap g.faults store in omega (arith, same);
   failed = λ over begun. absurd (true≢false (sym over ∙ going));
+  few = λ whole begun. absurd (true≢false (sym begun ∙ unbegun));
 }
 
 -- the disk's volume stands, by what was taken out of it

@@ -3,9 +3,11 @@
 ghost use Rattle.std.specs.Prelude.{◌≡◌, ◌<◌, ◌≤◌, ◌*◌, ℕ, List, Option, true, false, IfOk, IfErr, OnOk, length};
 ghost use Rattle.uuid.specs.Parts.{is_nil_bytes};
 ghost use Rattle.sm_base.specs.Names.{IsUuid};
+ghost use Rattle.sm_base.specs.declared.names.Name.TheVariants.{Vhd};
 ghost use Rattle.sm_base.specs.Numbers.{div_up};
 ghost use Rattle.sm_disk.specs.Held.{Keeps};
 ghost use Rattle.sm_machine.specs.Disks.{sector_bytes};
+ghost use Rattle.sm_ready.specs.Frames.{HasCommits};
 ghost use Rattle.sm_ready.specs.Framing.{IsBetweenSteps};
 ghost use Rattle.sm_record.specs.Records.{IsRecord};
 ghost use Rattle.vg_meta.specs.Roomy.{table_alone};
@@ -13,7 +15,7 @@ ghost use Rattle.vg_volumes.specs.Stored.{Counts};
 ghost use Rattle.vhd_filling.specs.Filled.{HasBlocksBelow};
 ghost use Rattle.vhd_import.specs.declared.faults.ImportFault.TheVariants.{Device};
 ghost use Rattle.sm_importing.specs.Disks.{Begin, IsFilled, IsSince};
-ghost use Rattle.sm_importing.specs.Imports.{ImportsSince};
+ghost use Rattle.sm_importing.specs.Imports.{ImportsSince, extents_of_volume};
 ghost use Rattle.cmd_import.specs.Ends.{EndsFrom, HasMadeIn, IsCut, UndoCounts, import_record};
 ghost use Rattle.cmd_import.specs.Importing.{HasImported, HasNewImage, whole_blocks};
 
@@ -71,6 +73,8 @@ fn complete_disk<S: Store>(
     ensures beside { S.told → Keeps (S.beside store.old) (S.beside store.new) }
     ensures cause { Counts S.Store result store.old store.new }
     ensures counts { S.faults store.old ≤ S.faults store.new }
+    ensures few { HasCommits 1 (table_alone (S.table store.old)) (table_alone (S.table store.new)) }
+    ensures extents { OnOk result (extents_of_volume (table_alone (S.table store.new)) (Vhd uuid.now) ≡ extents_of_volume (table_alone (S.table store.old)) (Vhd uuid.now)) }
     ensures device { IfErr result (λ fault. fault ≡ Device) }
     ensures size { IfOk result (λ size. size ≡ sector_bytes * whole_blocks (S.site store.old).geometry.block sectors) }
     ensures session { OnOk result (IsBetweenSteps S.Store store.new memory.new) }
@@ -108,6 +112,8 @@ pub(crate) fn end_import<S: Store>(
     ensures beside { S.told → Keeps (S.beside disk.store) (S.beside result.1) }
     ensures cause { Counts S.Store result.0 disk.store result.1 }
     ensures counts { S.faults disk.store ≤ S.faults result.1 }
+    ensures few { HasCommits 1 (table_alone (S.table disk.store)) (table_alone (S.table result.1)) }
+    ensures extents { OnOk result.0 (extents_of_volume (table_alone (S.table result.1)) (Vhd uuid.now) ≡ extents_of_volume (table_alone (S.table disk.store)) (Vhd uuid.now)) }
     ensures device { IfErr result.0 (λ fault. fault ≡ Device) }
     ensures size { IfOk result.0 (λ size. size ≡ sector_bytes * whole_blocks (S.site disk.store).geometry.block sectors) }
     ensures session { OnOk result.0 (IsBetweenSteps S.Store result.1 result.2) }

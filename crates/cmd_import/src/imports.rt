@@ -1,14 +1,17 @@
 //! An import.
 
-ghost use Rattle.std.specs.Prelude.{◌≡◌, Some, Err, IfErr, IfOk, IfSome, OnOk};
+ghost use Rattle.std.specs.Prelude.{◌≡◌, ◌+◌, Some, Err, IfErr, IfOk, IfSome, OnOk};
 ghost use Rattle.sm_disk.specs.Held.{Keeps};
 ghost use Rattle.vg_meta.specs.Roomy.{table_alone};
+ghost use Rattle.sm_ready.specs.Frames.{HasCommits};
 ghost use Rattle.sm_ready.specs.Framing.{IsBetweenSteps};
 ghost use Rattle.sm_ready.specs.Sessions.{IsAtEase, IsReadyStore};
 ghost use Rattle.sm_run.specs.Runs.{IsSpent};
+ghost use Rattle.sm_base.specs.declared.names.Name.TheVariants.{Vhd};
 ghost use Rattle.sm_base.specs.declared.refusals.Refusal.{Refusal as RefusalOf};
 ghost use Rattle.sm_refusals.specs.Importing.{entry_refusal};
 ghost use Rattle.vhd_import.specs.declared.faults.ImportFault.TheVariants.{Device, Refused};
+ghost use Rattle.sm_importing.specs.Imports.{extents_of_volume};
 ghost use Rattle.cmd_import.specs.Importing.{Answers, EndCounts, HasImported, HasNewImage, shape_of};
 
 use crate::ending::{end_import, undo_import};
@@ -50,6 +53,8 @@ pub fn import<S: Store, R: Source>(
     ensures answered { IfSome (R.content source.old) (λ bytes. Answers (shape_of S.Store store memory) uuid.now bytes result.0) }
     ensures session_still { OnOk result.0 (IsBetweenSteps S.Store result.1 result.2) }
     ensures image { IfOk result.0 (λ size. HasNewImage (S.site store) (table_alone (S.table result.1)) uuid.now now size memory result.2) }
+    // No more commits were made than the disk's volume has extents, and one at the end.
+    ensures few { OnOk result.0 (HasCommits (extents_of_volume (table_alone (S.table result.1)) (Vhd uuid.now) + 1) (table_alone (S.table store)) (table_alone (S.table result.1))) }
     // Behind any fault but Device the new volume is gone: table and memory agree as before, and memory is what it was.
     ensures restored { IfErr result.0 (λ fault. (fault ≡ Device → ⊥) → IsBetweenSteps S.Store result.1 result.2 × (result.2 ≡ memory)) }
     ensures spent { OnOk result.0 (IsSpent (R.content source.new)) }

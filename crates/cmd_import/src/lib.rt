@@ -18,8 +18,8 @@
 //! **In which units.** Sizes of files and answers are in bytes; those of disks in sectors of 512 bytes, blocks and extents of the repository.
 //!
 //! **What it costs.** The image's map and one page of memory, and what `sm_importing` takes for the volume; two commits, one more for each slot
-//! that needs further extents, and one to remove the volume. A block that holds another byte than zero is written once, as a whole, and again
-//! each time that the file comes back to it.
+//! that needs further extents, and one to remove the volume. Where it succeeds there are no more of them than the volume has extents, and one.
+//! A block that holds another byte than zero is written once, as a whole, and again each time that the file comes back to it.
 //!
 //! The definitions are in `specs/`: `Importing` (what is answered, and what was done to the store) and `Ends` (what the end does since the
 //! begin). The laws are `EntryLaws` (what follows where nothing refuses), `AnswerLaws` (what is answered by what was read), `BlockLaws` and

@@ -4,8 +4,8 @@ use Rattle.std.proofs.lemmas.Bool.{true≢false}
 use Rattle.sm_base.specs.Names.{is_base, base_uuid}
 use Rattle.sm_base.specs.declared.names.Name.{Name}
 use Rattle.sm_base.specs.declared.operations.Mode.TheVariants.{Rw}
-use Rattle.sm_base.specs.declared.operations.Op.{Op}
-use Rattle.sm_base.specs.declared.operations.Op.TheVariants as op
+use Rattle.sm_machine.specs.Operations.{Op}
+use Rattle.sm_machine.specs.Operations as op
 use Rattle.common_laws.specs.Lists.{◌>>=◌, In, Distinct}
 use Rattle.common_laws.proofs.Lists.{In-map, In-insert, In-insert_new, In-insert_old, Distinct-insert, length-insert_by}
 use Rattle.sm_machine.specs.Shapes.{Attachment, DiskRecord, ImageRow, Shape, image_extents, image_limit, image_uuid, is_image, is_vhd, last_sequence, parent_of, thick_in, with_image}
@@ -169,10 +169,19 @@ module _ (s : Shape) (w : IsWellFormed s) (new : ImageRow) (r : DiskRecord) (h :
   }
 
   operation_good : (o : Op) → IsOperation s o → IsOperation s' o
+  unfolding only_good link_good
   operation_good op.Idle c = tt
   operation_good (op.Copy v n cursor) c = only_good true v n c
   operation_good (op.Relink v n) c = link_good true v n c
   operation_good (op.Leaf l n cursor) c = (only_good false l n c.0, c.1, c.2)
+  operation_good (op.Live l n cursor dirty) c = record {
+    only = only_good false l n c.only;
+    parent_vhd = c.parent_vhd;
+    attached = c.attached;
+    thick = λ rw q g e. elim (in_images q g) [ inl is ↦ absurd (not_parent false l n c.only.link q is e) | inr old ↦ c.thick rw q old e ];
+    within = c.within;
+    blocks = c.blocks;
+  }
 
   room_good : s.others + image_extents images' ≤ s.extents
   room_good = omega (arith, extents-with_image new s.images, h.room)

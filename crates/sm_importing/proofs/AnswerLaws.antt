@@ -14,3 +14,8 @@ err_by (Err e) f = f e refl
 
 pub err_has : {E P : Type 0} (r : Result (Unit {0}) E) (e : E) → r ≡ Err e → OnErr r P → P
 err_has {P = P} r e is h = subst (λ x. OnErr x P) is h
+
+-- what holds where it succeeds and where it fails
+pub by_result : {E P : Type 0} (r : Result (Unit {0}) E) → OnOk r P → OnErr r P → P
+by_result (Ok x) fine failed = fine
+by_result (Err e) fine failed = failed

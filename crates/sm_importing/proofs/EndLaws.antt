@@ -1,12 +1,12 @@
 -- The end of an import, by site, table and sectors: the disk's record is put, and the commit that takes the mark away makes the volume the
 -- disk's. In front of it a stop leaves the disks from before, behind it these and the new one.
-use Rattle.std.proofs.Common.{◌≡◌, ◌≢◌, ℕ, suc, ◌+◌, ◌*◌, ◌≤◌, Bool, true, false, cond, List, [], ◌∷◌, length, map, filter, Option, Some, None, refl, sym, ap, ap₂, ◌∙◌, subst, arith}
+use Rattle.std.proofs.Common.{◌≡◌, ◌≢◌, ℕ, suc, ◌+◌, ◌*◌, ◌≤◌, Bool, true, false, ◌||◌, cond, List, [], ◌∷◌, length, map, filter, Option, Some, None, refl, sym, ap, ap₂, ◌∙◌, subst, arith}
 use Rattle.std.proofs.Math.Logic.{∥∥₁_map}
 use Rattle.std.proofs.lemmas.Bool.{true≢false}
 use Rattle.std.proofs.lemmas.List.{length-append, length-map}
 use Rattle.std.proofs.lemmas.Option.{none-some}
 use Rattle.std.proofs.lemmas.Slice.Eq.{bytes_eq-Decides}
-use Rattle.sm_base.specs.Kinds.{is_image}
+use Rattle.sm_base.specs.Kinds.{is_image, is_log}
 use Rattle.sm_base.specs.Names.{is_base}
 use Rattle.sm_base.specs.declared.names.Name.{Name}
 use Rattle.sm_base.specs.declared.names.Name.TheVariants.{Mgt}
@@ -147,7 +147,7 @@ module _ (s : Site) (t : VolumeTable) (m : Known) (own : Name) (added : TreeRow)
   }
 
   pub mark_allowed : Permits s.count t (Mark own Fresh false)
-  mark_allowed = record { row = row; there = h.there; image = image_named own h.image; otherwise = h.fresh }
+  mark_allowed = record { row = row; there = h.there; taking = ap (λ b. b || is_log own) (image_named own h.image); otherwise = h.fresh }
 
   stray : IsStray m k r
   stray = stray_for s t m k r h.orderly h.no_stray h.absent h.placed

@@ -2,6 +2,7 @@
 use Rattle.std.proofs.Common.{◌≡◌, ⊎_elim, ℕ, ◌+◌, ◌-◌, ◌<◌, ◌≤◌, ◌++◌, List, [], length, refl, sym, ap, ap₂, ◌∙◌, subst, subst₂, arith}
 use Rattle.std.proofs.lemmas.Bool.{cases_lt}
 use Rattle.std.proofs.lemmas.List.{append-nil, length-append}
+use Rattle.sm_base.specs.declared.names.Name.{Name}
 use Rattle.sm_base.specs.declared.names.Name.TheVariants.{Vhd}
 use Rattle.sm_disk.specs.Held.{Keeps, reads}
 use Rattle.vg_meta.specs.Changes.{grown, without}
@@ -18,12 +19,20 @@ use Rattle.vhd_filling.specs.Filled.{Fills, HoldsSame, held_now, slots_taken}
 use Rattle.vhd_filling.specs.declared.fillings.Filling.{Filling}
 use Rattle.vhd_filling.proofs.FilledLaws.{StaysFilled}
 use Rattle.vhd_filling.proofs.GrownLaws.{kept_filled}
+use Rattle.sm_ready.specs.Frames.{HasCommits}
 use Rattle.sm_ready.specs.declared.memory.Memory.{Memory}
 use Rattle.sm_ready.proofs.ChainLaws.{tab}
-use Rattle.sm_importing.specs.Imports.{IsGrown, IsImporting, SameBeside, extents_of_volume, thin_in}
+use Rattle.sm_importing.specs.Imports.{GrowsEachCommit, IsGrown, IsImporting, SameBeside, extents_of_volume, thin_in}
 use Rattle.sm_importing.specs.Disks.{IsFilled, IsFilledTo, room_for}
 use Rattle.sm_importing.proofs.ImportLaws.{importing_works}
 use Rattle.sm_importing.proofs.RoomLaws.{least_enough, thin_more, thin_room}
+
+-- without a commit a volume gets no extents
+pub grows_same : (n : Name) {t next : VolumeTable} → next ≡ t → GrowsEachCommit n t next
+grows_same n is =
+    let extents = ap (λ t. extents_of_volume t n) is in
+    let number = ap (λ (t : VolumeTable). t.sequence) is in
+    record { longer = omega (arith, extents); few = omega (arith, number) }
 
 -- the extents that no volume beside this one has stay
 pub room_same : {S : Type 0} (g : Ghosts S) (a b : S) (u : List ℕ) → g.site b ≡ g.site a → tab g b ≡ tab g a → room_for g b u ≡ room_for g a u
@@ -147,6 +156,23 @@ module _ {S : Type 0} {g : Ghosts S} where
     filled_more = ⊎_elim
         (λ lacks. filled_grown h site kept importing (is_grown lacks) lacks)
         (λ enough. subst (λ s. IsFilledTo g s m u f (slots_taken f + 1)) (sym (same enough)) (filled_idle h enough))
+        (cases_lt own wanted)
+
+    -- where the volume got no extents, nothing was done
+    pub still_more : extents_of_volume (tab g b) (Vhd u) ≡ own → b ≡ a
+    still_more had =
+        let now = filled_more.extents in
+        let sites = ap (λ (x : Site). thin_in x (slots_taken f + 1)) site in
+        same (omega (arith, had, now, sites))
+
+    -- else its one commit brought one at least
+    pub grows_more : HasCommits 1 (tab g a) (tab g b) → GrowsEachCommit (Vhd u) (tab g a) (tab g b)
+    grows_more one =
+        let now = filled_more.extents in
+        let sites = ap (λ (x : Site). thin_in x (slots_taken f + 1)) site in
+        ⊎_elim
+        (λ (lacks : own < wanted). record { longer = omega (arith, now, sites, lacks); few = omega (arith, now, sites, lacks, one) })
+        (λ (enough : wanted ≤ own). grows_same (Vhd u) (ap (λ s. tab g s) (same enough)))
         (cases_lt own wanted)
 
     pub holds_more : g.told → HoldsSame (held_now g f a) (held_now g f b)

@@ -21,14 +21,16 @@ use Rattle.vhd_filling.proofs.FilledLaws.{with_slot-count, with_slot-new}
 use Rattle.vhd_import.specs.Making.{AnswersRoom, begin_lacks, filled, put_lacks, slots_of}
 use Rattle.vhd_import.specs.Puts.{Put}
 use Rattle.vhd_import.specs.Room.{Target, extents_for}
+use Rattle.sm_ready.specs.Frames.{HasCommits}
 use Rattle.sm_ready.specs.declared.memory.Memory.{Memory}
 use Rattle.sm_ready.proofs.ChainLaws.{tab}
-use Rattle.sm_importing.specs.Imports.{IsBegun, IsImporting, thin_in}
+use Rattle.sm_importing.specs.Imports.{IsBegun, IsImporting, extents_of_volume, thin_in}
 use Rattle.sm_importing.specs.Rooms.{IsLack}
 use Rattle.sm_importing.specs.declared.faults.RoomFault.{RoomFault}
 use Rattle.sm_importing.specs.declared.faults.RoomFault.TheVariants.{NoSpace, NoMemory, Device}
 use Rattle.sm_importing.specs.Disks.{HoldsPuts, IsFilled, IsToBegin, put_fault, room_beside, room_for, target_of}
 use Rattle.sm_importing.proofs.BlockLaws.{asks_enough, asks_more, asks_nothing, blocks_more, blocks_same, lacks_none, lacks_some, slots_are, takes_or_not}
+use Rattle.sm_importing.proofs.ImportLaws.{thin_some}
 use Rattle.sm_importing.proofs.RoomLaws.{least_enough, made_long, room_made, room_split}
 
 put_of : ℕ → List ℕ → Put
@@ -151,6 +153,13 @@ module _ {S : Type 0} {g : Ghosts S} where
             volume = h.volume;
             extents = ap (λ o. length (extents_of o)) v.there ∙ long ∙ w.least.many ∙ ap₂ (λ (x : Site) (j : ℕ). thin_in x j) (sym site) (sym h.blank.slots);
           }
+
+      -- its one commit gave it an extent at least
+      pub begun_few : HasCommits 1 (tab g a) (tab g b) → HasCommits (extents_of_volume (tab g b) (Vhd u)) (tab g a) (tab g b)
+      begun_few one =
+          let many = begun_filled.extents in
+          let some = thin_some (g.site b) (slots_taken f) in
+          omega (arith, one, many, some)
 
       pub begun_room : room ≡ room_for g b u
       begun_room = h.room_is ∙ sym (ap (λ (x : Site). room_beside x.count (tab g b) (Vhd u)) site ∙ room_made (g.site a).count (tab g a) (tab g b) (Vhd u) h.session.orderly.table others)

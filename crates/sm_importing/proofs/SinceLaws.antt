@@ -1,12 +1,15 @@
 -- What holds of the store that an import was begun on, as its volume is made, written to and grows, and where a call fails.
 use Rattle.std.proofs.Common.{◌≡◌, ◌≤◌, Bool, true, false, List, ℕ, refl, sym, ◌∙◌, subst, subst₂, arith}
 use Rattle.std.proofs.lemmas.Bool.{true≢false}
+use Rattle.sm_base.specs.declared.names.Name.TheVariants.{Vhd}
 use Rattle.sm_disk.specs.Held.{Keeps, Rose}
 use Rattle.sm_disk.proofs.HeldLaws.{Keeps-then}
 use Rattle.vg_volumes.specs.declared.stores.Store.{Ghosts}
+use Rattle.sm_ready.specs.Frames.{HasCommits}
 use Rattle.sm_ready.specs.Sessions.{IsReadyStore}
 use Rattle.sm_ready.specs.declared.memory.Memory.{Memory}
-use Rattle.sm_importing.specs.Imports.{GoesOnImporting, ImportsSince, LeavesStill, StopsImporting}
+use Rattle.sm_ready.proofs.ChainLaws.{tab}
+use Rattle.sm_importing.specs.Imports.{GoesOnImporting, GrowsEachCommit, ImportsSince, LeavesStill, StopsImporting, extents_of_volume}
 use Rattle.sm_importing.specs.Disks.{Begin, IsSince}
 
 module _ {S : Type 0} {g : Ghosts S} {o : Begin S} {s : S} {m : Memory} {u : List ℕ} (n : S) (site : g.site n ≡ g.site s) (kept : g.told → Keeps (g.beside s) (g.beside n))
@@ -20,8 +23,8 @@ module _ {S : Type 0} {g : Ghosts S} {o : Begin S} {s : S} {m : Memory} {u : Lis
     ready_at : IsReadyStore g o.store o.memory → IsReadyStore g s m
     ready_at ready = subst₂ (λ x y. IsReadyStore g x y) (sym at) (sym h.memory) ready
 
-    pub since_made : (g.told → IsReadyStore g s m → ImportsSince g u m s n) → IsSince g o n m u true false
-    since_made goes = record {
+    pub since_made : HasCommits (extents_of_volume (tab g n) (Vhd u)) (tab g s) (tab g n) → (g.told → IsReadyStore g s m → ImportsSince g u m s n) → IsSince g o n m u true false
+    since_made few goes = record {
       memory = h.memory;
       disk = h.disk;
       site = site ∙ h.site;
@@ -32,6 +35,7 @@ module _ {S : Type 0} {g : Ghosts S} {o : Begin S} {s : S} {m : Memory} {u : Lis
       stops = λ told ready over. absurd (true≢false (sym over));
       counts = omega (arith, h.counts, more);
       failed = λ over begun. absurd (true≢false (sym over));
+      few = λ whole begun. subst (λ x. HasCommits (extents_of_volume (tab g n) (Vhd u)) (tab g x) (tab g n)) at few;
     }
 
     pub since_unmade : (g.told → IsReadyStore g s m → LeavesStill g s n) → IsSince g o n m u false true
@@ -45,6 +49,7 @@ module _ {S : Type 0} {g : Ghosts S} {o : Begin S} {s : S} {m : Memory} {u : Lis
       stops = λ told ready over. subst (λ x. LeavesStill g x n) at (stops told (ready_at ready));
       counts = omega (arith, h.counts, more);
       failed = λ over begun. absurd (true≢false (sym begun));
+      few = λ whole begun. absurd (true≢false whole);
     }
 
     pub since_cut : Rose (g.faults s) (g.faults n) → (g.told → IsReadyStore g s m → LeavesStill g s n) → IsSince g o n m u true true
@@ -58,6 +63,7 @@ module _ {S : Type 0} {g : Ghosts S} {o : Begin S} {s : S} {m : Memory} {u : Lis
       stops = λ told ready over. subst (λ x. LeavesStill g x n) at (stops told (ready_at ready));
       counts = omega (arith, h.counts, more);
       failed = λ over begun. omega (arith, h.counts, rose);
+      few = λ whole begun. absurd (true≢false whole);
     }
 
   -- ---- behind that
@@ -68,8 +74,8 @@ module _ {S : Type 0} {g : Ghosts S} {o : Begin S} {s : S} {m : Memory} {u : Lis
         let i = h.goes_on told ready refl refl in
         subst₂ (λ z y. ImportsSince g z y o.store s) (sym h.disk) (sym h.memory) i
 
-    pub since_goes_on : GoesOnImporting g u m s n → IsSince g o n m u true false
-    since_goes_on goes = record {
+    pub since_goes_on : GrowsEachCommit (Vhd u) (tab g s) (tab g n) → GoesOnImporting g u m s n → IsSince g o n m u true false
+    since_goes_on grows goes = record {
       memory = h.memory;
       disk = h.disk;
       site = site ∙ h.site;
@@ -79,6 +85,7 @@ module _ {S : Type 0} {g : Ghosts S} {o : Begin S} {s : S} {m : Memory} {u : Lis
       stops = λ told ready over. absurd (true≢false (sym over));
       counts = omega (arith, h.counts, more);
       failed = λ over begun. absurd (true≢false (sym over));
+      few = λ whole begun. let had = h.few refl refl in omega (arith, had, grows.longer, grows.few);
     }
 
     pub since_stopped : Rose (g.faults s) (g.faults n) → StopsImporting g u m s n → IsSince g o n m u true true
@@ -92,19 +99,23 @@ module _ {S : Type 0} {g : Ghosts S} {o : Begin S} {s : S} {m : Memory} {u : Lis
       stops = λ told ready over. stops o.store (before told ready);
       counts = omega (arith, h.counts, more);
       failed = λ over begun. omega (arith, h.counts, rose);
+      few = λ whole begun. absurd (true≢false whole);
     }
 
   -- ---- the same by what the disk says of itself
 
   module _ {b v : Bool} (whole : v ≡ false) where
+    pub made_since : b ≡ false → HasCommits (extents_of_volume (tab g n) (Vhd u)) (tab g s) (tab g n) → (g.told → IsReadyStore g s m → ImportsSince g u m s n) → IsSince g o s m u b v → IsSince g o n m u true v
+    made_since new few goes h = subst (λ y. IsSince g o n m u true y) (sym whole) (since_made (subst₂ (λ x y. IsSince g o s m u x y) new whole h) few goes)
+
     pub unmade_since : b ≡ false → (g.told → IsReadyStore g s m → LeavesStill g s n) → IsSince g o s m u b v → IsSince g o n m u b true
     unmade_since new stops h = subst (λ x. IsSince g o n m u x true) (sym new) (since_unmade (subst₂ (λ x y. IsSince g o s m u x y) new whole h) stops)
 
     pub cut_since : b ≡ false → Rose (g.faults s) (g.faults n) → (g.told → IsReadyStore g s m → LeavesStill g s n) → IsSince g o s m u b v → IsSince g o n m u true true
     cut_since new rose stops h = since_cut (subst₂ (λ x y. IsSince g o s m u x y) new whole h) rose stops
 
-    pub put_since : b ≡ true → GoesOnImporting g u m s n → IsSince g o s m u b v → IsSince g o n m u b v
-    put_since begun goes h = subst₂ (λ x y. IsSince g o n m u x y) (sym begun) (sym whole) (since_goes_on (subst₂ (λ x y. IsSince g o s m u x y) begun whole h) goes)
+    pub put_since : b ≡ true → GrowsEachCommit (Vhd u) (tab g s) (tab g n) → GoesOnImporting g u m s n → IsSince g o s m u b v → IsSince g o n m u b v
+    put_since begun grows goes h = subst₂ (λ x y. IsSince g o n m u x y) (sym begun) (sym whole) (since_goes_on (subst₂ (λ x y. IsSince g o s m u x y) begun whole h) grows goes)
 
     pub stopped_since : b ≡ true → Rose (g.faults s) (g.faults n) → StopsImporting g u m s n → IsSince g o s m u b v → IsSince g o n m u b true
     stopped_since begun rose stops h = subst (λ x. IsSince g o n m u x true) (sym begun) (since_stopped (subst₂ (λ x y. IsSince g o s m u x y) begun whole h) rose stops)

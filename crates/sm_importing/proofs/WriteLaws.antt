@@ -1,13 +1,16 @@
 -- A put on a disk that is imported, over its store: the room that it asks, and what it leaves.
-use Rattle.std.proofs.Common.{◌≡◌, ⊎_elim, ℕ, ◌+◌, List, sym, subst, arith}
+use Rattle.std.proofs.Common.{◌≡◌, ⊎_elim, ℕ, ◌+◌, List, sym, ap, ◌∙◌, subst, arith}
 use Rattle.sm_base.specs.declared.names.Name.TheVariants.{Vhd}
-use Rattle.vg_volumes.specs.Stored.{WorksOn, stored}
+use Rattle.vg_volumes.specs.Stored.{SameBeside, WorksOn, stored}
 use Rattle.vg_volumes.specs.declared.stores.Store.{Ghosts}
 use Rattle.vhd_filling.specs.Filled.{Fills, TakesSlot, slots_taken}
 use Rattle.vhd_filling.specs.declared.fillings.Filling.{Filling}
 use Rattle.vhd_volumes.specs.Truth.{HasRoomIn}
+use Rattle.sm_ready.specs.Framing.{StepsOn}
 use Rattle.sm_ready.specs.declared.memory.Memory.{Memory}
-use Rattle.sm_importing.specs.Imports.{GoesOnImporting, IsImporting, StopsImporting}
+use Rattle.sm_ready.proofs.ChainLaws.{tab}
+use Rattle.sm_ready.proofs.FramingLaws.{more_steps, stays_now, then_steps}
+use Rattle.sm_importing.specs.Imports.{GoesOnImporting, GrowsEachCommit, IsImporting, StopsImporting, extents_of_volume}
 use Rattle.sm_importing.specs.Disks.{HasPutRoom, IsFilled, IsFilledTo}
 use Rattle.sm_importing.proofs.BlockLaws.{takes_or_not}
 use Rattle.sm_importing.proofs.FillLaws.{filled_works, slots_room}
@@ -45,3 +48,17 @@ module _ {S : Type 0} {g : Ghosts S} {s : S} {m : Memory} {u : List ℕ} {f : Fi
 
     pub put_stops : {a : S} → LeavesNow g → GoesOnImporting g u m a s → StopsImporting g u m a d
     put_stops leaves goes o since = (put_goes_on leaves goes o since).so_far.left
+
+    -- behind the growth no commit is made, and nothing is synced
+    pub put_steps : {a : S} → LeavesNow g → StepsOn g 1 a s → StepsOn g 1 a d
+    put_steps leaves steps = more_steps (omega arith) (then_steps steps (stays_now leaves room_importing.usable works.stays))
+
+    pub put_grows : {a : S} → GrowsEachCommit (Vhd u) (tab g a) (tab g s) → GrowsEachCommit (Vhd u) (tab g a) (tab g d)
+    put_grows {a} grows = subst (λ t. GrowsEachCommit (Vhd u) (tab g a) t) (sym works.stays.table) grows
+
+    pub put_still : {a : S} → (extents_of_volume (tab g s) (Vhd u) ≡ extents_of_volume (tab g a) (Vhd u) → s ≡ a) → (g.told → SameBeside f.volume (stored g s) (stored g d))
+        → extents_of_volume (tab g d) (Vhd u) ≡ extents_of_volume (tab g a) (Vhd u) → g.told → SameBeside (Vhd u) (stored g a) (stored g d)
+    put_still same beside had told =
+        let was = sym (ap (λ t. extents_of_volume t (Vhd u)) works.stays.table) ∙ had in
+        subst (λ x. SameBeside (Vhd u) (stored g x) (stored g d)) (same was)
+        (subst (λ n. SameBeside n (stored g s) (stored g d)) room_volume (beside told))

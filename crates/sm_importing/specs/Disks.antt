@@ -11,6 +11,7 @@ use Rattle.vg_meta.specs.Changes.{without}
 use Rattle.vg_meta.specs.Roomy.{table_alone}
 use Rattle.vg_meta.specs.Tables.{VolumeTable, extents_in, free as free_of}
 use Rattle.vg_volumes.specs.declared.stores.Store.{Ghosts}
+use Rattle.sm_ready.specs.Frames.{HasCommits}
 use Rattle.sm_ready.specs.Framing.{IsBetweenSteps}
 use Rattle.sm_ready.specs.Known.{known}
 use Rattle.sm_ready.specs.Sessions.{IsReadyStore}
@@ -118,7 +119,7 @@ pub record Begin (S : Type 0) : Type 0 where
 
 -- Since the begin the same disk is imported, at the same site, and what is beside the store is kept. Nothing was done to the store before
 -- the volume was made; whatever a stop leaves since then shows the disks from before, also where the import is over. Where it is over and the
--- volume may be there, a call of the store failed.
+-- volume may be there, a call of the store failed. While it goes on, no more commits were made than its volume has extents.
 pub record IsSince {S : Type 0} (g : Ghosts S) (o : Begin S) (s : S) (m : Memory) (u : List ℕ) (begun over : Bool) : Type 0 where
   pub memory : m ≡ o.memory
   pub disk : u ≡ o.disk
@@ -129,3 +130,4 @@ pub record IsSince {S : Type 0} (g : Ghosts S) (o : Begin S) (s : S) (m : Memory
   pub stops : g.told → IsReadyStore g o.store o.memory → over ≡ true → LeavesStill g o.store s
   pub counts : g.faults o.store ≤ g.faults s
   pub failed : over ≡ true → begun ≡ true → Rose (g.faults o.store) (g.faults s)
+  pub few : over ≡ false → begun ≡ true → HasCommits (extents_of_volume (table_alone (g.table s)) (Vhd u)) (table_alone (g.table o.store)) (table_alone (g.table s))

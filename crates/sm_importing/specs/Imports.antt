@@ -1,6 +1,6 @@
 -- A disk that is imported: what is asked at its begin, what stands in table, memory and sectors until its end, and what a stop leaves of
 -- that (this project's own).
-use Rattle.std.specs.Prelude.{◌≡◌, ℕ, ◌+◌, ◌≤◌, true, false, List, Some, IsSome, length}
+use Rattle.std.specs.Prelude.{◌≡◌, ℕ, ◌+◌, ◌-◌, ◌≤◌, true, false, List, Some, IsSome, length}
 use Rattle.uuid.specs.Parts.{is_nil_bytes}
 use Rattle.sm_base.specs.Names.{is_base}
 use Rattle.sm_base.specs.Numbers.{thin}
@@ -23,7 +23,7 @@ use Rattle.sm_machine.specs.Shapes.{image_limit}
 use Rattle.sm_mgt.specs.Places.{place_for}
 use Rattle.sm_standing.specs.Standing.{disks}
 use Rattle.sm_ready.specs.Done.{HasDone, at_rest}
-use Rattle.sm_ready.specs.Frames.{HasTrueImages}
+use Rattle.sm_ready.specs.Frames.{HasCommits, HasTrueImages}
 use Rattle.sm_ready.specs.Known.{Known, has_image, known}
 use Rattle.sm_ready.specs.Ready.{HasNoStray, IsReady}
 use Rattle.sm_ready.specs.Sessions.{HasAttachmentRoom, HasRows, HasTreeRoom, IsOrderlyStore}
@@ -122,6 +122,11 @@ SameBeside n t next = without n next.volumes ≡ without n t.volumes
 -- how many extents the volume of this name has
 abbrev pub extents_of_volume : VolumeTable → Name → ℕ
 extents_of_volume t n = length (extents_of (rows t n))
+
+-- the volume of this name lost no extents, and each commit brought it one at least
+pub record GrowsEachCommit (n : Name) (t next : VolumeTable) : Type 0 where
+  pub longer : extents_of_volume t n ≤ extents_of_volume next n
+  pub few : HasCommits (extents_of_volume next n - extents_of_volume t n) t next
 
 -- the extents of an image with so many slots
 abbrev pub thin_in : Site → ℕ → ℕ

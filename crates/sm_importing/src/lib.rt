@@ -28,7 +28,8 @@
 //! **In which units.** Sectors have 512 bytes and are counted from 0, by the disk; room is counted in extents, and slots from 0.
 //!
 //! **What it costs.** `begin`, `give_up` and `complete` make one commit, `grow` one or none; `complete` writes one sector and syncs once.
-//! A put makes at most one commit, and writes and reads one slot at most, where its block is another than that of the put before.
+//! A put makes at most one commit, none where the volume gets no extents, and syncs nothing else; it writes and reads one slot at most, where its
+//! block is another than that of the put before.
 //! `begin` and `grow` take memory for the list of the extents, for the runs of those in use and one mark for each extent of the repository, and
 //! `grow` for the places of the extents in the table; a put that takes a slot takes what `grow` does, and `give_up` and `complete` take none.
 //! Rows of the table and of the tree were there before (`HasRows`, `HasTreeRoom`), so that `begin` finds one.

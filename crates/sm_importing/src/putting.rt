@@ -2,11 +2,11 @@
 
 ghost use Rattle.std.specs.Prelude.{◌≡◌, ◌≢◌, ◌+◌, ◌-◌, ◌/◌, ◌<◌, ◌≤◌, ◌∷◌, ℕ, List, IfErr, OnOk, OnErr, length};
 ghost use Rattle.std.specs.declared.result.Result.TheVariants.{Err};
-ghost use Rattle.sm_disk.specs.Held.{Keeps, Rose};
+ghost use Rattle.sm_disk.specs.Held.{Rose};
 ghost use Rattle.sm_base.specs.declared.names.Name.TheVariants.{Vhd};
 ghost use Rattle.vg_meta.specs.Roomy.{table_alone};
 ghost use Rattle.vg_meta.specs.Tables.{free as free_of};
-ghost use Rattle.vg_volumes.specs.Stored.{Faults};
+ghost use Rattle.vg_volumes.specs.Stored.{Faults, SameBeside, stored};
 ghost use Rattle.vhd_filling.specs.Filled.{HoldsSame, TakesSlot, held_now, slots_taken};
 ghost use Rattle.vhd_import.specs.Making.{AnswersRoom, put_lacks};
 ghost use Rattle.vhd_import.specs.Puts.{Put};
@@ -14,7 +14,7 @@ ghost use Rattle.vhd_import.specs.Room.{Target};
 ghost use Rattle.vhd_import.specs.declared.disks.PutFault.TheVariants as put;
 ghost use Rattle.sm_ready.specs.Framing.{StepsOn};
 ghost use Rattle.sm_importing.specs.declared.faults.RoomFault.TheVariants.{Device};
-ghost use Rattle.sm_importing.specs.Imports.{GoesOnImporting, StopsImporting, thin_in};
+ghost use Rattle.sm_importing.specs.Imports.{GoesOnImporting, GrowsEachCommit, StopsImporting, extents_of_volume, thin_in};
 ghost use Rattle.sm_importing.specs.Rooms.{CountsRoom, IsLack};
 ghost use Rattle.sm_importing.specs.Disks.{HasPutRoom, HoldsPuts, IsFilled, PutsAs, is_device as is_device_of, put_fault as put_fault_of, room_for, target_of};
 
@@ -65,6 +65,9 @@ fn make_room<S: Store>(
     ensures cause { CountsRoom S.Store result store.old store.new }
     ensures room { OnOk result (HasPutRoom S.Store store.new memory.now disk.now filling.now sector bytes.now) }
     ensures held { OnOk result (S.told → HoldsSame (held_now S.Store filling.now store.old) (held_now S.Store filling.now store.new)) }
+    ensures still { OnOk result (extents_of_volume (table_alone (S.table store.new)) (Vhd disk.now) ≡ extents_of_volume (table_alone (S.table store.old)) (Vhd disk.now)
+        → store.new ≡ store.old) }
+    ensures grows { (result ≡ Err Device → ⊥) → GrowsEachCommit (Vhd disk.now) (table_alone (S.table store.old)) (table_alone (S.table store.new)) }
     ensures enough { OnOk result (TakesSlot filling.now sector bytes.now
         → thin_in (S.site store.old) (slots_taken filling.now + 1) - thin_in (S.site store.old) (slots_taken filling.now)
         ≤ length (free_of (S.site store.old).count (table_alone (S.table store.old)))) }
@@ -98,9 +101,11 @@ pub(crate) fn put_sector<S: Store>(
 ) -> Result<(), PutFault>
     requires filled { IsFilled S.Store store.old memory.now disk.now filling.old }
     requires within { sector / filling.old.geometry.block < filling.old.geometry.entries }
-    ensures site { S.site store.new ≡ S.site store.old }
-    ensures beside { S.told → Keeps (S.beside store.old) (S.beside store.new) }
-    ensures counts { S.faults store.old ≤ S.faults store.new }
+    ensures step { StepsOn S.Store 1 store.old store.new }
+    // It makes no commit but the one that gives the volume extents, and without that one nothing else is synced.
+    ensures grows { (result ≡ Err put.Device → ⊥) → GrowsEachCommit (Vhd disk.now) (table_alone (S.table store.old)) (table_alone (S.table store.new)) }
+    ensures still { OnOk result (extents_of_volume (table_alone (S.table store.new)) (Vhd disk.now) ≡ extents_of_volume (table_alone (S.table store.old)) (Vhd disk.now)
+        → S.told → SameBeside (Vhd disk.now) (stored S.Store store.old) (stored S.Store store.new)) }
     ensures device { result ≡ Err put.Device → Faults S.Store store.old store.new }
     ensures calm { (result ≡ Err put.Device → ⊥) → S.faults store.new ≡ S.faults store.old }
     ensures filled { (result ≡ Err put.Device → ⊥) → IsFilled S.Store store.new memory.now disk.now filling.new }

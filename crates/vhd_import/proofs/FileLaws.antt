@@ -1,5 +1,5 @@
 -- The first sector of a file, and what is answered where it decides.
-use Rattle.std.proofs.Common.{◌≡◌, ◌⊎◌, inl, inr, ℕ, ◌/◌, ◌%◌, ◌<◌, Bool, true, false, not, ◌&&◌, List, [], ◌∷◌, length, Option, Some, None, Ok, refl, sym, ap, ◌∙◌, arith, subst}
+use Rattle.std.proofs.Common.{◌≡◌, ◌⊎◌, ⊎_elim, inl, inr, ℕ, ◌+◌, ◌/◌, ◌%◌, ◌<◌, ◌≤◌, Bool, true, false, not, ◌&&◌, List, [], ◌∷◌, length, length-append, Option, Some, None, Ok, refl, sym, ap, ◌∙◌, arith, subst}
 use Rattle.std.specs.Prelude.{◌==◌, IfSome}
 use Rattle.std.specs.Option.{option_map_or}
 use Rattle.std.proofs.lemmas.Bool.{and_parts}
@@ -91,13 +91,20 @@ pub other-taken : (t : Target) (file : File) → BeginsSo Other file → Refuses
 other-taken t file begins (inl four) = let e : true ≡ false = sym four ∙ begins.1 in cc e
 other-taken t file begins (inr large) = let e : true ≡ false = sym large.0 ∙ begins.0 in cc e
 
+-- a file of which a sector was read is not shorter than one
+not-shorter : (bytes : List ℕ) (left : Option (List ℕ)) (first : List ℕ) → length first ≡ 512 → Takes (Some bytes) first left → 512 ≤ length bytes
+not-shorter bytes left first full takes =
+    let long : length bytes ≡ length first + length takes.0 = ap (λ (b : List ℕ). length b) takes.2 ∙ length-append first takes.0 in
+    omega (arith, long, full)
+
 -- what holds where a file that begins so is refused by its first sector
 pub where-refused : (t : Target) (had left : Option (List ℕ)) (first : List ℕ) (b : Beginning) (P : Type 0) → length first ≡ 512 → ((rest : File) → BeginsSo b (first ∷ rest)) → Takes had first left
     → ((file : File) → BeginsSo b file → RefusesFirst t file → P) → IfSome had (λ bytes. IsRefusedFirst t bytes → P)
 where-refused t None left first b P full begins takes all = tt
 where-refused t (Some bytes) left first b P full begins takes all = λ refused.
     let w = begins-with bytes left first full takes in
-    all (file_of bytes) (subst (BeginsSo b) (sym w.1) (begins w.0)) refused
+    let whole = not-shorter bytes left first full takes in
+    ⊎_elim (λ short. absurd (omega (arith, short, whole))) (all (file_of bytes) (subst (BeginsSo b) (sym w.1) (begins w.0))) refused
 
 -- and what holds of any file holds there
 pub refused-or-not : (t : Target) (had : Option (List ℕ)) (P : Type 0) → P → IfSome had (λ bytes. IsRefusedFirst t bytes → P)

@@ -1,7 +1,7 @@
 -- What an import answers to the bytes that a source gives: the sectors of a disk, or why the file is not taken. Each denial comes at the
 -- first sector at which it is decided; of several that one sector decides the first counts, in the order of this page. A header is read
 -- whole before it is judged; an entry of the table is wrong by what stands in front of it in the table.
-use Rattle.std.specs.Prelude.{◌≡◌, ◌⊎◌, ℕ, ◌+◌, ◌-◌, ◌*◌, ◌/◌, ◌%◌, ◌==◌, ◌&&◌, ◌||◌, not, nat_lt, nat_le, Bool, true, false, List, [], ◌∷◌, ◌++◌, length, map, replicate, codes, Option, None, Some, is_some, if◌then◌else◌, min}
+use Rattle.std.specs.Prelude.{◌≡◌, ◌⊎◌, ℕ, ◌+◌, ◌-◌, ◌*◌, ◌/◌, ◌%◌, ◌<◌, ◌==◌, ◌&&◌, ◌||◌, not, nat_lt, nat_le, Bool, true, false, List, [], ◌∷◌, ◌++◌, length, map, replicate, codes, Option, None, Some, is_some, if◌then◌else◌, min}
 use Rattle.std.specs.List.{range_with_len}
 use Rattle.std.specs.Option.{option_map_or}
 use Rattle.common_laws.specs.Lists.{first_some, given, numbers}
@@ -108,10 +108,10 @@ file_of bytes = cut_sectors (min (length bytes / 512) sector_limit) bytes
 abbrev pub verdict_of : Target → List ℕ → Verdict
 verdict_of t bytes = verdict t (file_of bytes) (nat_lt 0 (length bytes % 512)) (nat_lt (512 * sector_limit) (length bytes))
 
--- the first sector refuses a file: it begins as a differencing one, or as a dynamic one of a disk that is too large
+-- the first sector refuses a file: it is not whole, or the file begins as a differencing one, or as a dynamic one of a disk that is too large
 abbrev pub IsRefusedFirst : Target → List ℕ → Type 0
 IsRefusedFirst t bytes =
-    (is_kind 4 (footer_at (file_of bytes) 0) ≡ true) ⊎ ((is_dynamic (file_of bytes) ≡ true) × (is_too_large t (size_at (file_of bytes)) ≡ true))
+    (length bytes < 512) ⊎ ((is_kind 4 (footer_at (file_of bytes) 0) ≡ true) ⊎ ((is_dynamic (file_of bytes) ≡ true) × (is_too_large t (size_at (file_of bytes)) ≡ true)))
 
 -- The disk that is made of a file with these sectors, in a repository with so many sectors a block: of no other disk and not for reading
 -- alone, with zeros behind the sectors up to the whole block.

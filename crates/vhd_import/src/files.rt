@@ -17,7 +17,7 @@ use sm_disk::Source;
 use std::alloc::Global;
 
 /// Reads a VHD file once, from its begin to its end, into a new disk of a repository with so many sectors a block, of whose tables each has
-/// so many entries. It answers the sectors of the disk. Where its first sector is refused the disk has no volume yet.
+/// so many entries. It answers the sectors of the disk. Where the first sector of the file is not whole, or is refused, the disk has no volume yet.
 pub fn read_file<S: Source, N: NewDisk>(
     alloc: Global,
     entries: u32,
@@ -30,7 +30,7 @@ pub fn read_file<S: Source, N: NewDisk>(
     requires block { (N.target disk.old).block ≡ block }
     requires new { N.begun disk.old ≡ false }
     ensures answered { HasImported (N.target disk.old) (S.content source.old) result (N.holds disk.new) }
-    // A file that its first sector refuses begins no disk.
+    // A file that is shorter than a sector, or that its first one refuses, begins no disk.
     ensures unbegun { IfSome (S.content source.old) (λ bytes. IsRefusedFirst (N.target disk.old) bytes → N.begun disk.new ≡ false) }
     ensures spent { OnOk result (IsSpent (S.content source.new)) }
     ensures some { IfOk result (λ size. 0 < size) }

@@ -1,9 +1,8 @@
 -- A disk of a sound image can be exported: so its file holds it.
-use Rattle.std.proofs.Common.{◌≡◌, ◌⊎◌, inl, inr, ℕ, zero, suc, ◌+◌, ◌*◌, ◌/◌, ◌%◌, ◌^◌, ◌<◌, ◌≤◌, nat_lt, Bool, true, false, cond, List, [], ◌∷◌, length, map, take, Option, Some, None, Ok, Err, refl, sym, ap, ◌∙◌, subst, arith}
-use Rattle.std.specs.Prelude.{◌==◌, nat_le, All, IsTrue, not}
+use Rattle.std.proofs.Common.{◌≡◌, ◌⊎◌, inl, inr, ℕ, zero, suc, ◌+◌, ◌*◌, ◌/◌, ◌%◌, ◌^◌, ◌<◌, ◌≤◌, nat_lt, Bool, true, false, cond, List, [], ◌∷◌, length, map, Option, Some, None, Ok, refl, sym, ap, ◌∙◌, subst, arith}
+use Rattle.std.specs.Prelude.{◌==◌, nat_le, All, IsTrue}
 use Rattle.std.specs.Int.{is_power_of_two}
 use Rattle.std.specs.List.{concat, flat_map, range_with_len}
-use Rattle.std.specs.Str.{bytes_eq}
 use Rattle.std.proofs.Math.Nat.{mul-le-mul_right}
 use Rattle.std.proofs.lemmas.List.{length-replicate}
 use Rattle.std.proofs.lemmas.List.Elements.{All-cons, All-nil}
@@ -15,14 +14,12 @@ use Rattle.common_laws.proofs.Lists.{In-append}
 use Rattle.sm_base.specs.Numbers.{IsGeometry}
 use Rattle.sm_base.specs.Names.{IsName, IsUuid}
 use Rattle.sm_base.specs.declared.names.Name.{Name}
-use Rattle.sm_base.specs.declared.names.Name.TheVariants.{Mgt, Vhd, Raw, Old, Clone, Inflate, Coalesce, Relink, Leaf}
-use Rattle.sm_base.specs.declared.faults.OpenFault.TheVariants.{NotARepository, Unsupported, Damaged}
-use Rattle.sm_base.specs.declared.faults.Place.TheVariants.{Label}
+use Rattle.sm_base.specs.declared.names.Name.TheVariants.{Mgt, Vhd, Raw, Old, Cbt, Clone, Inflate, Coalesce, Relink, Leaf}
 use Rattle.sm_disk.specs.Sectors.{zeros}
 use Rattle.vg_layout.proofs.StandingLaws.{plate_right}
-use Rattle.vg_layout.specs.Opening.{GroupFound, is_label_right, plate_of}
-use Rattle.vg_layout.specs.Places.{area_place, label_place}
-use Rattle.vg_layout.specs.Sectors.{Plate, is_geometry, label_cookie, label_sector, number_at, plate_in, version_in}
+use Rattle.vg_layout.specs.Opening.{GroupFound, plate_of}
+use Rattle.vg_layout.specs.Places.{area_place}
+use Rattle.vg_layout.specs.Sectors.{Plate, is_geometry}
 use Rattle.vg_layout.proofs.StandingLaws.{plate_area}
 use Rattle.vg_meta.specs.Tables.{IsTable, IsVolume, Row, VolumeTable}
 use Rattle.vg_volumes.specs.Volumes.{piece}
@@ -109,6 +106,7 @@ module _ (c : Content) (whole : (p : ℕ) → IsLong (c.area p)) where
   long-own (Raw u) i is s bytes h = long-raw u i is s bytes h
   long-own Mgt i is s bytes h = absurd (none-some i is)
   long-own (Old u) i is s bytes h = absurd (none-some i is)
+  long-own (Cbt u) i is s bytes h = absurd (none-some i is)
   long-own (Clone disk base twin) i is s bytes h = absurd (none-some i is)
   long-own (Inflate image extents) i is s bytes h = absurd (none-some i is)
   long-own (Coalesce child parent) i is s bytes h = absurd (none-some i is)
@@ -223,6 +221,7 @@ long-candidate (Clone disk base twin) u is h = long-one u disk is.0 h
 long-candidate (Leaf leaf parent) u is h = long-one u leaf is.0 h
 long-candidate Mgt u is h = absurd h
 long-candidate (Old v) u is h = absurd h
+long-candidate (Cbt v) u is h = absurd h
 long-candidate (Inflate image extents) u is h = absurd h
 long-candidate (Coalesce child parent) u is h = absurd h
 long-candidate (Relink child parent) u is h = absurd h

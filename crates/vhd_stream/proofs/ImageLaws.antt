@@ -10,9 +10,9 @@ use Rattle.std.proofs.lemmas.Option.{none-some, same_Some}
 use Rattle.common_laws.specs.Lists.{In, ◌>>=◌}
 use Rattle.common_laws.proofs.Lists.{In-filter, In-map}
 use Rattle.sm_base.specs.Numbers.{IsGeometry}
-use Rattle.sm_base.specs.Kinds.{is_entry, is_image}
+use Rattle.sm_base.specs.Kinds.{is_entry, is_image, is_log}
 use Rattle.sm_base.specs.declared.names.Name.{Name}
-use Rattle.sm_base.specs.declared.names.Name.TheVariants.{Mgt, Vhd, Raw, Old, Clone, Inflate, Coalesce, Relink, Leaf}
+use Rattle.sm_base.specs.declared.names.Name.TheVariants.{Mgt, Vhd, Raw, Old, Cbt, Clone, Inflate, Coalesce, Relink, Leaf}
 use Rattle.vg_meta.specs.Tables.{Row, VolumeTable, IsTable, IsVolume, suits, rows, names_of, extents_of}
 use Rattle.vg_meta.proofs.RowLaws.{row_of-name}
 use Rattle.vhd_fields.specs.declared.footers.Footer.{Footer}
@@ -113,6 +113,7 @@ module _ (c : Content) (table : IsTable c.count c.table) (geometry : IsGeometry 
   folded (Vhd v) u n plainly h rest = rest h
   folded (Raw v) u n plainly h rest = rest h
   folded (Old v) u n plainly h rest = rest h
+  folded (Cbt v) u n plainly h rest = rest h
   folded (Clone disk base twin) u n plainly h rest = rest h
   folded (Inflate image extents) u n plainly h rest = rest h
   folded (Coalesce child parent) u n plainly h rest = rest h
@@ -182,6 +183,7 @@ module _ (c : Content) (table : IsTable c.count c.table) (geometry : IsGeometry 
   forked (Vhd v) u n plainly first h rest = rest h
   forked (Raw v) u n plainly first h rest = rest h
   forked (Old v) u n plainly first h rest = rest h
+  forked (Cbt v) u n plainly first h rest = rest h
   forked (Inflate image extents) u n plainly first h rest = rest h
   forked (Coalesce child parent) u n plainly first h rest = rest h
   forked (Relink child parent) u n plainly first h rest = rest h
@@ -261,7 +263,8 @@ module _ (c : Content) (table : IsTable c.count c.table) (geometry : IsGeometry 
   some_extents : (u : List ℕ) (r : Row) → r.name ≡ Raw u → suits r ≡ true → 0 < length r.extents
   some_extents u r named suited =
       ltb-true 0 (length r.extents)
-      (sym (ap (λ (m : Name). cond (is_image m) (nat_lt 0 (length r.extents)) (not r.hidden && (not r.fresh && (not (is_entry m) || (length r.extents == 0))))) named) ∙ suited)
+      (sym (ap (λ (m : Name). cond (is_image m) (nat_lt 0 (length r.extents)) (not (is_log m) && (not r.hidden && (not r.fresh && (not (is_entry m) || (length r.extents == 0)))))) named)
+      ∙ suited)
 
   of_raw : (u : List ℕ) (r : Row) → rows t (Raw u) ≡ Some r → r.fresh ≡ false → IsOfBlocks (Raw u)
   unfolding image_of raw_image

@@ -13,7 +13,7 @@ use Rattle.sm_importing.proofs.FillLaws.{slots_room}
 use Rattle.vhd_image.specs.Made.{IsDiskSize}
 use Rattle.vhd_filling.specs.Filled.{slots_taken}
 use Rattle.vhd_import.specs.declared.faults.ImportFault.TheVariants.{Device}
-use Rattle.cmd_import.proofs.EndLaws.{cut_ends, importing_sealed, made_ends, new_image, since_sealed, whole_are}
+use Rattle.cmd_import.proofs.EndLaws.{cut_ends, few_then, few_works, importing_sealed, made_ends, marked_extents, new_image, since_sealed, whole_are}
 use Rattle.cmd_import.proofs.MadeLaws.{made_steady}
 use Rattle.cmd_import.proofs.SizeLaws.{blocks_are, whole_few, whole_proper}
 use Rattle.cmd_import.proofs.StillLaws.{ends_still}
@@ -101,3 +101,19 @@ returns-clause-image g c =
     (x.table ∙ ap (λ (r : Record). marked (table_alone (g.S.Store.table d)) (Vhd r.uuid)) c.record_of.ensures.is)
     (x.image_row ∙ ap (λ (r : Record). with_row (row_of c.in-Ok.image (extents_of_volume (table_alone (g.S.Store.table d)) (Vhd r.uuid))) c.args.memory.now.tree.rows) c.record_of.ensures.is)
     refl
+
+pub returns-in_default-clause-few : goal.returns-in_default-clause-few
+returns-in_default-clause-few g c = few_works c.finish.ensures.works
+
+pub returns-in_default-complete-clause-few : goal.returns-in_default-complete-clause-few
+returns-in_default-complete-clause-few g c = few_then c.finish.ensures.works c.complete.ensures.step
+
+pub returns-clause-few : goal.returns-clause-few
+returns-clause-few g c = few_then c.finish.ensures.works c.complete.ensures.step
+
+pub returns-clause-extents : goal.returns-clause-extents
+returns-clause-extents g c =
+    let d = c.finish.new.store in
+    marked_extents g.S.Store c.args.store.now d c.complete.new.store c.args.memory.now c.args.uuid.now c.args.filling c.requires.filled c.finish.ensures.works
+    (c.in-Ok-complete.ensures.table ∙ ap (λ (r : Record). marked (table_alone (g.S.Store.table d)) (Vhd r.uuid)) c.record_of.ensures.is)
+    ∙ ap (λ t. extents_of_volume t (Vhd c.args.uuid.now)) c.finish.ensures.works.stays.table

@@ -10,7 +10,7 @@ use Rattle.cmd_import.specs.Ends.{IsCut}
 use Rattle.cmd_import.specs.Importing.{HasNewImage, shape_of}
 use Rattle.cmd_import.proofs.AnswerLaws.{answers_fault, answers_made}
 use Rattle.cmd_import.proofs.BlockLaws.{blocks_below}
-use Rattle.cmd_import.proofs.EndLaws.{made_in}
+use Rattle.cmd_import.proofs.EndLaws.{few_ends, made_in}
 use Rattle.cmd_import.proofs.EntryLaws.{entry_none, may_import, target_is}
 use Rattle.cmd_import.proofs.StillLaws.{begin_of, end_counts, ends_still, since_new, untouched, with_memory}
 use Rattle.cmd_import.proofs.imports.import.Goals as goal
@@ -142,3 +142,12 @@ returns-in-Err-clause-restored g c =
     let u = c.undo_import in
     let since = c.read_file.ensures.since (begin_of c.args.store c.args.memory c.args.uuid.now) (since_new g.S.Store c.args.store c.args.memory c.args.uuid.now _ _ _ _ _ d.store d.memory d.disk d.begun.0 d.begun.1) in
     with_memory (IsBetweenSteps g.S.Store u.result.1 u.result.2) (u.result.2 ≡ c.args.memory) u.result.0 u.ensures.restored (u.ensures.memory ∙ since.memory)
+
+pub returns-in-Ok-read_file-clause-few : goal.returns-in-Ok-read_file-clause-few
+returns-in-Ok-read_file-clause-few g c =
+    let d = c.new-disk.ensures in
+    let n = c.read_file.new.disk in
+    let e = c.end_import in
+    let since = c.read_file.ensures.since (begin_of c.args.store c.args.memory c.args.uuid.now) (since_new g.S.Store c.args.store c.args.memory c.args.uuid.now _ _ _ _ _ d.store d.memory d.disk d.begun.0 d.begun.1) in
+    let had = since.few c.in-Ok-read_file.ensures.answered.1.held.0 c.in-Ok-read_file.ensures.begun in
+    few_ends g.S.Store c.args.store n.store e.result.1 c.args.uuid.now n.disk e.result.0 since.disk had e.ensures.few e.ensures.extents

@@ -1,9 +1,10 @@
-use Rattle.std.proofs.Common.{◌<◌, ap, arith}
+use Rattle.std.proofs.Common.{◌<◌, refl, ap, arith}
+use Rattle.sm_base.specs.declared.names.Name.TheVariants.{Vhd}
 use Rattle.sm_base.specs.declared.sizes.Geometry.{Geometry}
 use Rattle.vhd_filling.specs.Filled.{slots_taken}
-use Rattle.sm_importing.proofs.AnswerLaws.{err_by, err_has, ok_by, ok_has}
+use Rattle.sm_importing.proofs.AnswerLaws.{by_result, err_by, err_has, ok_by, ok_has}
 use Rattle.sm_importing.proofs.BlockLaws.{slots_below}
-use Rattle.sm_importing.proofs.FillLaws.{enough_more, filled_more, filled_same, holds_more}
+use Rattle.sm_importing.proofs.FillLaws.{enough_more, filled_more, filled_same, grows_more, grows_same, holds_more, still_more}
 use Rattle.sm_importing.proofs.putting.make_room.Goals as goal
 
 pub returns-then-not-takes_slot-clause-stops : goal.returns-then-not-takes_slot-clause-stops
@@ -38,3 +39,18 @@ pub returns-clause-poor : goal.returns-clause-poor
 returns-clause-poor g c =
     let e = c.grow.ensures in
     err_by c.grow.result (λ fault is calm. let poor = err_has c.grow.result fault is e.poor calm in filled_same c.requires.filled e.step.site e.keeps poor.0 poor.1)
+
+pub returns-then-not-takes_slot-clause-grows : goal.returns-then-not-takes_slot-clause-grows
+returns-then-not-takes_slot-clause-grows g c = λ calm. grows_same (Vhd c.args.disk.now) refl
+
+pub returns-clause-still : goal.returns-clause-still
+returns-clause-still g c =
+    let e = c.grow.ensures in
+    ok_by c.grow.result (λ is. still_more c.requires.filled e.step.site e.keeps (ok_has c.grow.result is e.importing) c.slots.result c.slots.ensures e.idle (ok_has c.grow.result is e.grown))
+
+pub returns-clause-grows : goal.returns-clause-grows
+returns-clause-grows g c = λ calm.
+    let e = c.grow.ensures in
+    by_result c.grow.result
+    (ok_by c.grow.result (λ is. grows_more c.requires.filled e.step.site e.keeps (ok_has c.grow.result is e.importing) c.slots.result c.slots.ensures e.idle (ok_has c.grow.result is e.grown) e.step.few))
+    (err_by c.grow.result (λ fault is. grows_same (Vhd c.args.disk.now) (err_has c.grow.result fault is e.poor calm).1))

@@ -1,11 +1,10 @@
 use Rattle.std.proofs.Common.{Err, sym, subst}
-use Rattle.sm_disk.proofs.HeldLaws.{Keeps-then}
 use Rattle.vhd_import.specs.Making.{AnswersRoom, put_lacks}
 use Rattle.vhd_import.specs.declared.disks.PutFault.{PutFault}
 use Rattle.sm_importing.specs.Disks.{room_for, target_of}
 use Rattle.sm_importing.proofs.FaultLaws.{device_not, ok_not}
 use Rattle.sm_importing.proofs.PutLaws.{asks_lack, asks_room, holds_put}
-use Rattle.sm_importing.proofs.WriteLaws.{put_filled, put_goes_on, put_stops, room_fills, room_had, room_more}
+use Rattle.sm_importing.proofs.WriteLaws.{put_filled, put_goes_on, put_grows, put_steps, put_still, put_stops, room_fills, room_had, room_more}
 use Rattle.sm_importing.proofs.putting.put_sector.Goals as goal
 
 pub put-requires-clause-fills : goal.put-requires-clause-fills
@@ -19,8 +18,14 @@ put-requires-clause-room_more g c = room_more c.in-Ok.ensures.room
 
 -- ---- the sector was put
 
-pub returns-in-Ok-put-clause-beside : goal.returns-in-Ok-put-clause-beside
-returns-in-Ok-put-clause-beside g c = λ told. Keeps-then (c.make_room-room.ensures.step.beside told) (c.put.ensures.works.stays.beside told)
+pub returns-in-Ok-put-clause-step : goal.returns-in-Ok-put-clause-step
+returns-in-Ok-put-clause-step g c = put_steps c.in-Ok.ensures.room c.put.ensures.works g.met.S.Store.leaves_now c.make_room-room.ensures.step
+
+pub returns-in-Ok-put-clause-grows : goal.returns-in-Ok-put-clause-grows
+returns-in-Ok-put-clause-grows g c = λ calm. put_grows c.in-Ok.ensures.room c.put.ensures.works (c.make_room-room.ensures.grows (ok_not _ _ _ c.in-Ok.is))
+
+pub returns-in-Ok-put-clause-still : goal.returns-in-Ok-put-clause-still
+returns-in-Ok-put-clause-still g c = λ had told. put_still c.in-Ok.ensures.room c.put.ensures.works c.in-Ok.ensures.still c.put.ensures.beside had told
 
 pub returns-in-Ok-put-clause-filled : goal.returns-in-Ok-put-clause-filled
 returns-in-Ok-put-clause-filled g c = λ calm.
@@ -46,8 +51,8 @@ returns-in-Ok-put-clause-stops g c = λ o since.
 
 -- ---- a call of the store failed
 
-pub returns-in-Err-put-clause-beside : goal.returns-in-Err-put-clause-beside
-returns-in-Err-put-clause-beside g c = λ told. Keeps-then (c.make_room-room.ensures.step.beside told) (c.put.ensures.works.stays.beside told)
+pub returns-in-Err-put-clause-step : goal.returns-in-Err-put-clause-step
+returns-in-Err-put-clause-step g c = put_steps c.in-Ok.ensures.room c.put.ensures.works g.met.S.Store.leaves_now c.make_room-room.ensures.step
 
 pub returns-in-Err-put-clause-stops : goal.returns-in-Err-put-clause-stops
 returns-in-Err-put-clause-stops g c = λ o since.
@@ -60,6 +65,10 @@ returns-in-Err-clause-room g c = λ puts holds.
     let lacking = put_lacks (target_of c.args.filling.now.geometry (room_for g.S.Store c.args.store.now c.args.disk.now)) (record { sector = c.args.sector; bytes = c.args.bytes.now }) puts in
     subst (λ (why : PutFault). AnswersRoom lacking (Err why)) (sym c.put_fault.ensures)
     (asks_lack c.requires.filled c.args.sector c.args.bytes.now c.requires.within puts holds c.in-Err.fault c.in-Err.ensures.takes c.in-Err.ensures.lack)
+
+pub returns-in-Err-clause-grows : goal.returns-in-Err-clause-grows
+returns-in-Err-clause-grows g c = λ calm.
+    c.make_room-room.ensures.grows (device_not c.make_room-room.result c.in-Err.fault c.put_fault.result c.in-Err.is c.put_fault.ensures calm)
 
 pub returns-in-Err-clause-since : goal.returns-in-Err-clause-since
 returns-in-Err-clause-since g c = λ calm.

@@ -3,11 +3,11 @@ use Rattle.std.proofs.lemmas.Bool.{true≢false}
 use Rattle.vhd_import.specs.Making.{AnswersRoom, begin_lacks}
 use Rattle.vhd_import.specs.declared.disks.PutFault.{PutFault}
 use Rattle.sm_importing.specs.Disks.{target_of}
-use Rattle.sm_importing.proofs.PutLaws.{begin_enough, begin_lack, begun_filled, begun_holds, begun_room}
+use Rattle.sm_importing.proofs.PutLaws.{begin_enough, begin_lack, begun_few, begun_filled, begun_holds, begun_room}
 use Rattle.sm_ready.proofs.FramingLaws.{reads_between}
 use Rattle.sm_importing.proofs.AnswerLaws.{err_has}
 use Rattle.sm_importing.proofs.FaultLaws.{device_is, device_not, not_device, put_device}
-use Rattle.sm_importing.proofs.SinceLaws.{cut_since, unmade_since}
+use Rattle.sm_importing.proofs.SinceLaws.{cut_since, made_since, unmade_since}
 use Rattle.sm_importing.proofs.disks.ImportingNewDisk.begin.Goals as goal
 
 pub invariant_of-self : goal.invariant_of-self
@@ -36,6 +36,14 @@ returns-in-Ok-clause-room g c =
     let whole = c.if-self.false in
     let e = c.in-Ok.ensures in
     begin_enough (s.to_begin whole c.requires.new) s.sizes (s.sizes_are whole) e.step.site e.importing e.table e.volumes
+
+pub returns-in-Ok-clause-since : goal.returns-in-Ok-clause-since
+returns-in-Ok-clause-since g c = λ o h.
+    let s = c.args.self.now in
+    let whole = c.if-self.false in
+    let e = c.in-Ok.ensures in
+    let few = begun_few (s.to_begin whole c.requires.new) s.sizes (s.sizes_are whole) e.step.site e.importing e.table e.volumes e.step.few in
+    made_since c.begin-made.new.store e.step.site e.step.beside e.step.counts whole c.requires.new few e.since h
 
 pub returns-then-is_device-clause-since : goal.returns-then-is_device-clause-since
 returns-then-is_device-clause-since g c = λ o h.
