@@ -18,8 +18,8 @@ use Rattle.vhd_image.specs.declared.images.Body.TheVariants as body
 use Rattle.vhd_chain.specs.Reading.{slots_of}
 use Rattle.vhd_chain.specs.Trees.{row_name, tree_row}
 use Rattle.vhd_chain.specs.declared.rows.TreeRow.{TreeRow}
-use Rattle.sm_machine.specs.Collector.{Pair, count_either, has_one_child, is_childless, leaf_of, pair_of, target, with_parent}
-use Rattle.sm_machine.specs.Shapes.{ImageRow, Shape, attached_as, count_blocks, find_image, image_uuid, is_vhd, thin_in, top}
+use Rattle.sm_machine.specs.Collector.{Pair, count_either, has_one_child, is_childless, is_written, leaf_of, live_of, needed, pair_of, target, with_parent}
+use Rattle.sm_machine.specs.Shapes.{ImageRow, Shape, attached_as, count_blocks, find_image, image_uuid, is_vhd, thick_in, thin_in, top}
 use Rattle.sm_machine.specs.WellFormed.{IsWellFormed, table_length}
 use Rattle.sm_ready.specs.Known.{Known, machine_row, shape_in}
 use Rattle.sm_ready.specs.Orderly.{IsOrderly}
@@ -68,6 +68,10 @@ pair_by σ v b is = in_turn v.hidden (is_vhd v.name) (λ i. not (is_childless σ
 pub leaf_by : (σ : Shape) (v : ImageRow) (b : Bool) → b ≡ (not v.hidden && (is_vhd v.name && not (is_some (attached_as (image_uuid v.name) σ)))) → leaf_of σ v ≡ (given b v >>= tested leaf_test σ)
 unfolding leaf_of
 leaf_by σ v b is = in_turn (not v.hidden) (is_vhd v.name) (λ i. not (is_some (attached_as (image_uuid i.name) σ))) v (tested leaf_test σ) ∙ ap (λ c. given c v >>= tested leaf_test σ) (sym is)
+
+pub live_by : (σ : Shape) (v : ImageRow) (b : Bool) → b ≡ (not v.hidden && (is_vhd v.name && is_some (attached_as (image_uuid v.name) σ))) → live_of σ v ≡ (given b v >>= tested leaf_test σ)
+unfolding live_of
+live_by σ v b is = in_turn (not v.hidden) (is_vhd v.name) (λ i. is_some (attached_as (image_uuid i.name) σ)) v (tested leaf_test σ) ∙ ap (λ c. given c v >>= tested leaf_test σ) (sym is)
 
 -- the answer, by what the image and its parent pass
 module _ (σ : Shape) (v : ImageRow) (b : Bool) (test : Pair → Bool) (whole : Option Pair) (is : whole ≡ (given b v >>= tested test σ)) where
@@ -120,10 +124,18 @@ module _ (s : Site) (t : VolumeTable) (m : Known) (o : IsOrderly s t m) where
 
 -- ---- the room that a parent needs
 
-pub target_vhd : (σ : Shape) (p : Pair) → is_vhd p.parent.name ≡ true → target σ p ≡ max p.parent.extents (thin_in σ (max (top p.parent.slots) (count_either p.parent.slots p.child.slots)))
+pub needed_thick : (σ : Shape) (p : Pair) → is_written σ p.child ≡ true → thick_in σ p.child.size ≡ needed σ p
+needed_thick σ p is =
+    sym (ap (λ b. elim b as (λ _. ℕ) [ true ↦ thick_in σ p.child.size | false ↦ thin_in σ (max (top p.parent.slots) (count_either p.parent.slots p.child.slots)) ]) is)
+
+pub needed_thin : (σ : Shape) (p : Pair) → is_written σ p.child ≡ false → thin_in σ (max (top p.parent.slots) (count_either p.parent.slots p.child.slots)) ≡ needed σ p
+needed_thin σ p is =
+    sym (ap (λ b. elim b as (λ _. ℕ) [ true ↦ thick_in σ p.child.size | false ↦ thin_in σ (max (top p.parent.slots) (count_either p.parent.slots p.child.slots)) ]) is)
+
+pub target_vhd : (σ : Shape) (p : Pair) → is_vhd p.parent.name ≡ true → target σ p ≡ max p.parent.extents (needed σ p)
 unfolding target
-target_vhd σ p is = ap (λ b. elim b as (λ _. ℕ) [ true ↦ max p.parent.extents (thin_in σ (max (top p.parent.slots) (count_either p.parent.slots p.child.slots))) | false ↦ p.parent.extents ]) is
+target_vhd σ p is = ap (λ b. elim b as (λ _. ℕ) [ true ↦ max p.parent.extents (needed σ p) | false ↦ p.parent.extents ]) is
 
 pub target_raw : (σ : Shape) (p : Pair) → is_vhd p.parent.name ≡ false → target σ p ≡ p.parent.extents
 unfolding target
-target_raw σ p is = ap (λ b. elim b as (λ _. ℕ) [ true ↦ max p.parent.extents (thin_in σ (max (top p.parent.slots) (count_either p.parent.slots p.child.slots))) | false ↦ p.parent.extents ]) is
+target_raw σ p is = ap (λ b. elim b as (λ _. ℕ) [ true ↦ max p.parent.extents (needed σ p) | false ↦ p.parent.extents ]) is

@@ -1,5 +1,6 @@
 -- The rules of the collector in their order, each by the rows in memory, and what it does while an operation runs.
-use Rattle.std.proofs.Common.{◌≡◌, ℕ, ◌<◌, List, [], ◌∷◌, map, length, Option, Some, None, refl, sym, ap, ◌∙◌, arith}
+use Rattle.std.proofs.Common.{◌≡◌, ℕ, ◌<◌, ◌≤◌, nat_lt, Bool, true, false, List, [], ◌∷◌, map, length, Option, Some, None, refl, sym, ap, ◌∙◌, arith}
+use Rattle.std.proofs.lemmas.Bool.{lt-ltb, ltb-true}
 use Rattle.std.proofs.lemmas.Option.{none-some, same_Some}
 use Rattle.std.specs.List.{find}
 use Rattle.std.specs.Option.{option_map}
@@ -12,8 +13,10 @@ use Rattle.common_laws.specs.Lists.{first_some, given}
 use Rattle.vhd_chain.specs.Reading.{slots_of}
 use Rattle.vhd_chain.specs.Trees.{first_name, row_name}
 use Rattle.vhd_chain.specs.declared.rows.TreeRow.{TreeRow}
-use Rattle.sm_machine.specs.Collector.{Pair, copy_or, fits, is_garbage, is_loose, leaves, next_block, pairs, plan_copy, plan_idle, relink_or, table_of, target}
+use Rattle.sm_machine.specs.Collector.{Pair, clean_or, copy_or, fits, is_garbage, is_loose, leaves, lives, next_block, pairs, plan_copy, plan_idle, relink_or, table_of, target}
+use Rattle.sm_machine.specs.Operations.{dirty_limit}
 use Rattle.sm_machine.specs.Shapes.{ImageRow, Shape, thin_in, top}
+use Rattle.sm_operation.specs.Kept.{least}
 use Rattle.sm_ready.specs.Known.{Known, machine_row, shape_in}
 use Rattle.gc_plan.specs.Planning.{begun, begun_at, candidate_of, candidates, deflation, else_plan, fold_next, folding, growth_of, least_of, removal}
 use Rattle.gc_plan.specs.declared.pairs.Kind.{Kind}
@@ -32,7 +35,8 @@ idle_by σ =
     after (λ (i : ImageRow). plan.Remove i.name) (find (is_garbage σ) σ.images) _
     ∙ ap (else_plan (removal σ)) (after (λ (i : ImageRow). plan.Deflate i.name (thin_in σ (top i.slots))) (find (is_loose σ) σ.images) _
     ∙ ap (else_plan (deflation σ)) (after (λ (p : Pair). plan.Begin p.child.name p.parent.name (target σ p)) (find (fits σ) (pairs σ)) _
-    ∙ ap (else_plan (folding kind.Hidden σ)) (after (λ (p : Pair). plan.Leaf p.child.name p.parent.name (target σ p)) (find (fits σ) (leaves σ)) _)))
+    ∙ ap (else_plan (folding kind.Hidden σ)) (after (λ (p : Pair). plan.Leaf p.child.name p.parent.name (target σ p)) (find (fits σ) (leaves σ)) _
+    ∙ ap (else_plan (folding kind.Leaf σ)) (after (λ (p : Pair). plan.Live p.child.name p.parent.name (target σ p)) (find (fits σ) (lives σ)) _))))
 
 -- ---- each rule by the rows
 
@@ -83,3 +87,19 @@ copy_given_up σ n cursor (i ∷ is) none = absurd (omega (arith, none))
 pub copy_goes_on : (σ : Shape) (n : Name) (cursor : ℕ) (is : List ImageRow) → 0 < length is → copy_or plan.Turn (next_block cursor (table_of n σ)) ≡ plan_copy σ n cursor is
 copy_goes_on σ n cursor [] some = absurd (omega (arith, some))
 copy_goes_on σ n cursor (i ∷ is) some = refl
+
+-- few blocks are dirty: the parent takes the leaf's place
+pub clean_few : (dirty : List ℕ) → length dirty ≤ dirty_limit → plan.Swap ≡ clean_or dirty
+clean_few [] few = refl
+clean_few (b ∷ dirty) few = by (nat_lt dirty_limit (length (b ∷ dirty))) refl
+  where
+    by : (x : Bool) → nat_lt dirty_limit (length (b ∷ dirty)) ≡ x → plan.Swap ≡ elim x as (λ _. Plan) [ true ↦ plan.Copy b | false ↦ plan.Swap ]
+    by true is = absurd (let more = ltb-true dirty_limit (length (b ∷ dirty)) is in omega (arith, few, more))
+    by false is = refl
+
+-- many are: the least of them is copied
+pub clean_many : (dirty : List ℕ) (o : Option ℕ) → dirty_limit < length dirty → o ≡ least dirty → copy_or plan.Swap o ≡ clean_or dirty
+clean_many [] o many is = absurd (omega (arith, many))
+clean_many (b ∷ dirty) o many is =
+    ap (copy_or plan.Swap) is
+    ∙ sym (ap (λ x. elim x as (λ _. Plan) [ true ↦ plan.Copy b | false ↦ plan.Swap ]) (lt-ltb dirty_limit (length (b ∷ dirty)) many))

@@ -1,5 +1,5 @@
 -- The first answer among those of a list's elements, and the least of those, element by element.
-use Rattle.std.proofs.Common.{◌≡◌, inl, inr, ℕ, zero, suc, ◌+◌, ◌<◌, ◌≤◌, Bool, true, false, cond, List, [], ◌∷◌, ◌++◌, map, length, drop, get_or, Option, Some, None, refl, sym, ap, ◌∙◌, arith}
+use Rattle.std.proofs.Common.{◌≡◌, inl, inr, ℕ, zero, suc, ◌+◌, ◌<◌, ◌≤◌, Bool, true, false, cond, List, [], ◌∷◌, ◌++◌, map, length, drop, get_or, Option, Some, None, refl, sym, ap, ap₂, ◌∙◌, arith}
 use Rattle.std.specs.Prelude.{is_some}
 use Rattle.std.proofs.lemmas.Bool.{true≢false}
 use Rattle.std.specs.List.{cons_option, filter_map, find}
@@ -98,11 +98,17 @@ least_selected σ h f (x ∷ xs) = by (h (f x)) (least_selected σ h f xs)
     by None rest = rest
     by (Some p) rest = least_first σ p (filter_map h (map f xs)) ∙ ap (lesser (Some (growth σ p))) rest
 
-pub least_both : (σ : Shape) (ps qs : List Pair) → least_of σ (ps ++ qs) ≡ lesser (least_of σ ps) (least_of σ qs)
+least_both : (σ : Shape) (ps qs : List Pair) → least_of σ (ps ++ qs) ≡ lesser (least_of σ ps) (least_of σ qs)
 least_both σ [] qs = refl
 least_both σ (p ∷ ps) qs =
     least_first σ p (ps ++ qs) ∙ ap (lesser (Some (growth σ p))) (least_both σ ps qs)
     ∙ sym (lesser_twice (Some (growth σ p)) (least_of σ ps) (least_of σ qs)) ∙ ap (λ o. lesser o (least_of σ qs)) (sym (least_first σ p ps))
+
+-- and of three lists, by the least of each
+pub least_three : (σ : Shape) (ps qs rs : List Pair) {a b c : Option ℕ} → a ≡ least_of σ ps → b ≡ least_of σ qs → c ≡ least_of σ rs → least_of σ (ps ++ (qs ++ rs)) ≡ lesser a (lesser b c)
+least_three σ ps qs rs {a} {b} {c} p q r =
+    least_both σ ps (qs ++ rs) ∙ ap (lesser (least_of σ ps)) (least_both σ qs rs)
+    ∙ ap₂ lesser (sym p) (ap₂ lesser (sym q) (sym r))
 
 module _ {A : Type 0} (F : A → Option ℕ) (xs : List A) (i : ℕ) where
   pub least_more : (o : Option ℕ) (x : A) → i < length xs → x ≡ get_or xs i x → lesser (lesser o (F x)) (least_in (map F (drop (i + 1) xs))) ≡ lesser o (least_in (map F (drop i xs)))

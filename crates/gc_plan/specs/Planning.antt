@@ -59,6 +59,7 @@ FillsPair says sizes room m p answer =
 abbrev pub candidate_of : Kind → Shape → ImageRow → Option machine.Pair
 candidate_of kind.Hidden σ = machine.pair_of σ
 candidate_of kind.Leaf σ = machine.leaf_of σ
+candidate_of kind.Live σ = machine.live_of σ
 
 abbrev pub candidates : Kind → Shape → List machine.Pair
 candidates k σ = filter_map (candidate_of k σ) σ.images
@@ -67,6 +68,7 @@ candidates k σ = filter_map (candidate_of k σ) σ.images
 abbrev pub begun : Kind → Shape → machine.Pair → Plan
 begun kind.Hidden σ = λ p. plan.Begin p.child.name p.parent.name (machine.target σ p)
 begun kind.Leaf σ = λ p. plan.Leaf p.child.name p.parent.name (machine.target σ p)
+begun kind.Live σ = λ p. plan.Live p.child.name p.parent.name (machine.target σ p)
 
 -- the same for one image, where it is of this kind and there is room
 abbrev pub begun_at : Kind → Shape → ImageRow → Option Plan
@@ -102,6 +104,10 @@ abbrev pub else_plan : Option Plan → Plan → Plan
 else_plan None other = other
 else_plan (Some p) other = p
 
+-- where no folding can begin
+abbrev pub blocked_next : Shape → Plan
+blocked_next σ = machine.blocked σ (machine.pairs σ ++ (machine.leaves σ ++ machine.lives σ))
+
 -- where nothing is to be removed or cut
 abbrev pub fold_next : Shape → Plan
-fold_next σ = else_plan (folding kind.Hidden σ) (else_plan (folding kind.Leaf σ) (machine.blocked σ (machine.pairs σ ++ machine.leaves σ)))
+fold_next σ = else_plan (folding kind.Hidden σ) (else_plan (folding kind.Leaf σ) (else_plan (folding kind.Live σ) (blocked_next σ)))

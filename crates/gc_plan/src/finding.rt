@@ -1,17 +1,15 @@
 //! The rules of a collector that is at rest, one function each: the step that a rule gives for the image of the least name at
 //! which it applies. Each is one pass over the images.
 
-ghost use Rattle.std.specs.Prelude.{◌≡◌, ◌++◌};
-ghost use Rattle.sm_machine.specs.Collector as machine;
-ghost use Rattle.sm_machine.specs.Collector.{pairs, leaves};
-ghost use Rattle.sm_ready.specs.Known.{Known, known};
+ghost use Rattle.std.specs.Prelude.{◌≡◌};
+ghost use Rattle.sm_ready.specs.Known.{known};
 ghost use Rattle.sm_ready.specs.Refusing.{Measures, Recalls};
 ghost use Rattle.gc_plan.specs.Counting.{AreCounted};
 ghost use Rattle.gc_plan.specs.Planning as rules;
-ghost use Rattle.gc_plan.specs.Planning.{Fills, FillsOf, MeasuresOf, MeasuresPair, begun, begun_at, candidates, growth_of, least_of};
+ghost use Rattle.gc_plan.specs.Planning.{Fills, FillsOf, MeasuresOf, MeasuresPair, begun, begun_at, blocked_next, candidates, growth_of, least_of};
 
 use crate::counting::ChildCounts;
-use crate::images::{is_garbage, is_loose, needed};
+use crate::images::{enough, is_garbage, is_loose};
 use crate::pairs::{Kind, Pair, candidate, fits, growth, target};
 use sm_base::{Geometry, Plan};
 use sm_ready::Memory;
@@ -42,7 +40,7 @@ pub(crate) fn deflation(memory: &Memory, geometry: &Geometry) -> Option<Plan>
         if is_loose(memory, geometry, row) {
             return Some(Plan::Deflate {
                 name: row.image.name(),
-                to: needed(geometry, row),
+                to: enough(geometry, row),
             });
         }
     }
@@ -50,15 +48,20 @@ pub(crate) fn deflation(memory: &Memory, geometry: &Geometry) -> Option<Plan>
 }
 
 /// The step that begins to fold an image of this kind into its parent.
-fn begin(geometry: &Geometry, kind: Kind, pair: &Pair<'_>) -> Plan
-    ensures { (m : Known) → MeasuresPair (begun kind) geometry.now m pair.now result }
+fn begin(memory: &Memory, geometry: &Geometry, kind: Kind, pair: &Pair<'_>) -> Plan
+    ensures { MeasuresPair (begun kind) geometry.now (known memory.now) pair.now result }
 {
     let child = pair.child.image.name();
     let parent = pair.parent.image.name();
-    let to = target(geometry, pair);
+    let to = target(memory, geometry, pair);
     match kind {
         Kind::Hidden => Plan::Begin { child, parent, to },
         Kind::Leaf => Plan::Leaf {
+            leaf: child,
+            parent,
+            to,
+        },
+        Kind::Live => Plan::Live {
             leaf: child,
             parent,
             to,
@@ -79,8 +82,8 @@ fn begin_at(
     ensures { FillsOf (begun_at kind) geometry.now free (known memory.now) row.now result }
 {
     let pair = candidate(memory, counts, kind, row)?;
-    if fits(geometry, free, &pair) {
-        Some(begin(geometry, kind, &pair))
+    if fits(memory, geometry, free, &pair) {
+        Some(begin(memory, geometry, kind, &pair))
     } else {
         None
     }
@@ -132,7 +135,7 @@ fn growth_at(
     ensures { MeasuresOf (growth_of kind) geometry.now (known memory.now) row.now result }
 {
     let pair = candidate(memory, counts, kind, row)?;
-    Some(growth(geometry, &pair))
+    Some(growth(memory, geometry, &pair))
 }
 
 /// The least extents that a parent of an image of this kind is to gain.
@@ -156,11 +159,12 @@ fn least_growth(
 /// Where images are left and there is room for none, the least room that one needs; else nothing is to be done.
 pub(crate) fn blocked(memory: &Memory, counts: &ChildCounts, geometry: &Geometry, free: u32) -> Plan
     requires counted { AreCounted memory.now.tree.rows counts.now }
-    ensures { Fills (λ σ. machine.blocked σ (pairs σ ++ leaves σ)) geometry.now free (known memory.now) result }
+    ensures { Fills blocked_next geometry.now free (known memory.now) result }
 {
     let hidden = least_growth(memory, counts, geometry, Kind::Hidden);
     let leaf = least_growth(memory, counts, geometry, Kind::Leaf);
-    match lesser(hidden, leaf) {
+    let live = least_growth(memory, counts, geometry, Kind::Live);
+    match lesser(hidden, lesser(leaf, live)) {
         Some(need) => Plan::Blocked { need, free },
         None => Plan::Idle,
     }

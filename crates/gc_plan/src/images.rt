@@ -1,7 +1,7 @@
 //! What the collector asks of one image: one function a notion of the machine, each of which answers what the machine's of the
 //! same name says of the shape in memory. Slots and blocks are counted from 0, and room is counted in extents.
 
-ghost use Rattle.std.specs.Prelude.{◌≡◌, ◌≤◌, is_some, length};
+ghost use Rattle.std.specs.Prelude.{◌≡◌, ◌≤◌, ◌*◌, is_some, length};
 ghost use Rattle.sm_machine.specs.Collector as machine;
 ghost use Rattle.sm_machine.specs.Collector.{table_of};
 ghost use Rattle.sm_machine.specs.Shapes as shapes;
@@ -28,6 +28,7 @@ pub(crate) fn is_vhd(row: &TreeRow) -> bool
         Name::Mgt
         | Name::Raw(_)
         | Name::Old(_)
+        | Name::Cbt(_)
         | Name::Clone { .. }
         | Name::Inflate { .. }
         | Name::Coalesce { .. }
@@ -45,6 +46,7 @@ fn mode(memory: &Memory, row: &TreeRow) -> Option<Mode>
         Name::Raw(disk) => memory.attached.mode(&disk),
         Name::Mgt
         | Name::Old(_)
+        | Name::Cbt(_)
         | Name::Clone { .. }
         | Name::Inflate { .. }
         | Name::Coalesce { .. }
@@ -96,7 +98,7 @@ pub(crate) fn is_garbage(memory: &Memory, counts: &ChildCounts, row: &TreeRow) -
 }
 
 /// Whether an image is the own one of a disk that is attached for writing.
-fn is_written(memory: &Memory, row: &TreeRow) -> bool
+pub(crate) fn is_written(memory: &Memory, row: &TreeRow) -> bool
     ensures { RecallsOf machine.is_written (known memory.now) row.now result }
 {
     !row.hidden && is_rw(mode(memory, row))
@@ -121,8 +123,8 @@ pub(crate) fn top(row: &TreeRow) -> u32
     }
 }
 
-/// The extents that an image needs for its slots.
-pub(crate) fn needed(geometry: &Geometry, row: &TreeRow) -> u32
+/// The extents that are enough for the slots of an image.
+pub(crate) fn enough(geometry: &Geometry, row: &TreeRow) -> u32
     ensures { (m : Known) → MeasuresOf (λ σ i. thin_in σ (shapes.top i.slots)) geometry.now m row.now result }
 {
     thin(geometry, top(row))
@@ -132,7 +134,7 @@ pub(crate) fn needed(geometry: &Geometry, row: &TreeRow) -> u32
 pub(crate) fn is_loose(memory: &Memory, geometry: &Geometry, row: &TreeRow) -> bool
     ensures { MeasuresOf machine.is_loose geometry.now (known memory.now) row.now result }
 {
-    is_vhd(row) && !is_written(memory, row) && needed(geometry, row) < row.extents
+    is_vhd(row) && !is_written(memory, row) && enough(geometry, row) < row.extents
 }
 
 /// The least block from this one on that has a slot in the table of the image of this name.

@@ -4,6 +4,7 @@ ghost use Rattle.std.specs.Prelude.{◌≡◌, ◌≤◌, length};
 ghost use Rattle.vg_meta.specs.Roomy.{table_alone};
 ghost use Rattle.sm_machine.specs.Collector as machine;
 ghost use Rattle.sm_machine.specs.Shapes.{children};
+ghost use Rattle.sm_operation.specs.Kept.{dirty_in};
 ghost use Rattle.sm_ready.specs.Known.{known};
 ghost use Rattle.sm_ready.specs.Refusing.{Answers, Recalls};
 ghost use Rattle.gc_plan.specs.Counting.{AreCounted};
@@ -14,9 +15,13 @@ use crate::finding::{blocked, deflation, folding, removal};
 use crate::images::next_block;
 use crate::pairs::Kind;
 use sm_base::{Geometry, Name, Op, Plan};
+use sm_operation::Operation;
 use sm_ready::Memory;
 use vg_extents::free;
 use vg_meta::Table;
+
+/// The most blocks that may be dirty where a parent takes the place of an attached disk's leaf.
+const DIRTY_LIMIT: u32 = 16;
 
 /// Nothing is to be removed or cut: the first image that can be folded.
 fn plan_fold(memory: &Memory, counts: &ChildCounts, geometry: &Geometry, free: u32) -> Plan
@@ -27,7 +32,10 @@ fn plan_fold(memory: &Memory, counts: &ChildCounts, geometry: &Geometry, free: u
         Some(plan) => plan,
         None => match folding(memory, counts, geometry, free, Kind::Leaf) {
             Some(plan) => plan,
-            None => blocked(memory, counts, geometry, free),
+            None => match folding(memory, counts, geometry, free, Kind::Live) {
+                Some(plan) => plan,
+                None => blocked(memory, counts, geometry, free),
+            },
         },
     }
 }
@@ -82,6 +90,18 @@ fn plan_relink(memory: &Memory, child: &Name) -> Plan
     }
 }
 
+/// No block is left to copy of a live folding: where too many are dirty the least of them is copied again, else the parent takes the leaf's
+/// place.
+fn clean_or(operation: &Operation, count: u32) -> Plan
+    requires { count ≡ length (dirty_in operation.now) }
+    ensures { result ≡ machine.clean_or (dirty_in operation.now) }
+{
+    if count <= DIRTY_LIMIT {
+        return Plan::Swap;
+    }
+    copy_or(Plan::Swap, operation.least_dirty())
+}
+
 /// The collector's next step, by table and memory alone. A repository has `extents` extents in all. It takes no memory and makes
 /// no call; where no operation runs it counts the children of the images anew.
 pub fn plan(
@@ -95,7 +115,7 @@ pub fn plan(
     ensures exact { Answers machine.next_step geometry.now extents (table_alone table.now) (known memory.now) result }
     ensures room { length counts.new ≡ length counts.old }
 {
-    match memory.operation {
+    match memory.operation.told() {
         Op::Idle => {
             counts.count(&memory.tree);
             plan_idle(table, memory, counts, geometry, extents)
@@ -103,5 +123,14 @@ pub fn plan(
         Op::Copy { child, cursor, .. } => plan_copy(memory, &child, cursor),
         Op::Relink { child, .. } => plan_relink(memory, &child),
         Op::Leaf { leaf, cursor, .. } => copy_or(Plan::Swap, next_block(memory, &leaf, cursor)),
+        Op::Live {
+            leaf,
+            cursor,
+            dirty,
+            ..
+        } => {
+            let done = clean_or(&memory.operation, dirty);
+            copy_or(done, next_block(memory, &leaf, cursor))
+        }
     }
 }

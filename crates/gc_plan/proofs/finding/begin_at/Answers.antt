@@ -16,8 +16,8 @@ returns-then-fits c = λ s t same o tidy room i.
     let σ = shape_in s t m in
     let q = as_pair c.in_ok-pair.pair in
     let there = c.in_ok-pair.ensures.there i in
-    ap Some (c.begin.ensures m s t same o tidy there)
-    ∙ ap (λ b. given b (begun c.args.kind σ q)) (sym c.if-fits.true ∙ c.fits.ensures m s t same o tidy room there)
+    ap Some (c.begin.ensures s t same o tidy there)
+    ∙ ap (λ b. given b (begun c.args.kind σ q)) (sym c.if-fits.true ∙ c.fits.ensures s t same o tidy room there)
     ∙ ap (λ (x : Option Pair). x >>= (λ p. given (fits σ p) (begun c.args.kind σ p))) (c.in_ok-pair.ensures.exact s t o tidy i)
 
 pub returns-else-fits : goal.returns-else-fits
@@ -26,5 +26,5 @@ returns-else-fits c = λ s t same o tidy room i.
     let σ = shape_in s t m in
     let q = as_pair c.in_ok-pair.pair in
     let there = c.in_ok-pair.ensures.there i in
-    ap (λ b. given b (begun c.args.kind σ q)) (sym c.if-fits.false ∙ c.fits.ensures m s t same o tidy room there)
+    ap (λ b. given b (begun c.args.kind σ q)) (sym c.if-fits.false ∙ c.fits.ensures s t same o tidy room there)
     ∙ ap (λ (x : Option Pair). x >>= (λ p. given (fits σ p) (begun c.args.kind σ p))) (c.in_ok-pair.ensures.exact s t o tidy i)

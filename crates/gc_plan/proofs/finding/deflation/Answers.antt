@@ -31,7 +31,7 @@ returns-then-is_loose c = λ s t same o tidy.
     let x = c.row-item.result in
     let there = subst (λ (rs : List TreeRow). In x rs) c.rows-rows.ensures.rows (item_in rows c.loop-row.row-index x c.loop-row-test.true c.row-item.is) in
     let cut = plan.Deflate (row_name x) (thin_in σ (top (slots_of x.image))) in
-    ap₂ (λ n k. Some (plan.Deflate n k)) c.name.ensures (c.needed.ensures m s t same o tidy there)
+    ap₂ (λ n k. Some (plan.Deflate n k)) c.name.ensures (c.enough.ensures m s t same o tidy there)
     ∙ sym (caught (deflated σ) rows c.loop-row.row-index x cut c.loop-row-test.true c.row-item.is (ap (λ b. given b cut) (sym (c.is_loose.ensures s t same o tidy there) ∙ c.if-is_loose.true)))
     ∙ c.loop-row.invariant s t same o tidy ∙ ap (λ (rs : List TreeRow). first_some (map (deflated σ) rs)) c.rows-rows.ensures.rows ∙ sym (deflation_in s t m)
 

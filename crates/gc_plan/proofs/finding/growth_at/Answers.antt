@@ -11,4 +11,4 @@ returns-in_err-pair c = λ s t same o tidy i.
 pub returns : goal.returns
 returns c = λ s t same o tidy i.
     let m = known c.args.memory.now in
-    ap Some (c.growth.ensures m s t same o tidy (c.in_ok-pair.ensures.there i)) ∙ ap (option_map (growth (shape_in s t m))) (c.in_ok-pair.ensures.exact s t o tidy i)
+    ap Some (c.growth.ensures s t same o tidy (c.in_ok-pair.ensures.there i)) ∙ ap (option_map (growth (shape_in s t m))) (c.in_ok-pair.ensures.exact s t o tidy i)

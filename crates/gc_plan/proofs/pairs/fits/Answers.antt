@@ -3,4 +3,4 @@ use Rattle.std.specs.Prelude.{nat_le}
 use Rattle.gc_plan.proofs.pairs.fits.Goals as goal
 
 pub returns : goal.returns
-returns c = λ m s t same o tidy room p. ap₂ nat_le (c.growth.ensures m s t same o tidy p) room
+returns c = λ s t same o tidy room p. ap₂ nat_le (c.growth.ensures s t same o tidy p) room

@@ -3,7 +3,7 @@ use Rattle.sm_base.specs.declared.sizes.Geometry.{Geometry}
 use Rattle.sm_machine.specs.Shapes.{thin_in}
 use Rattle.sm_ready.specs.Known.{shape_in}
 use Rattle.gc_plan.proofs.ImageLaws.{table_few}
-use Rattle.gc_plan.proofs.images.needed.Goals as goal
+use Rattle.gc_plan.proofs.images.enough.Goals as goal
 
 pub returns : goal.returns
 returns c = λ m s t same o tidy i.
