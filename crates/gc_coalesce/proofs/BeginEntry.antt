@@ -1,5 +1,5 @@
--- The entry of a copy, of a hidden image or of a leaf, is put, once its parent has the child's size: what the commit asks, what a stop leaves, and what is known behind it.
-use Rattle.std.proofs.Common.{◌≡◌, ℕ, ◌<◌, Bool, true, false, List, [], Option, Some, None, refl, sym, ap, ap₂, ◌∙◌, subst, subst₂, arith}
+-- The entry of a copy, of a hidden image or of a disk's leaf, is put, once its parent has the child's size: what the commit asks, what a stop leaves, and what is known behind it.
+use Rattle.std.proofs.Common.{◌≡◌, inl, inr, ℕ, ◌<◌, Bool, true, false, List, [], Option, Some, None, refl, sym, ap, ap₂, ◌∙◌, subst, subst₂, arith}
 use Rattle.std.proofs.Math.Logic.{∥∥₁_elim}
 use Rattle.std.proofs.Props.{props}
 use Rattle.std.specs.List.{IsDistinct}
@@ -11,21 +11,22 @@ use Rattle.sm_base.specs.Kinds.{is_entry}
 use Rattle.sm_base.specs.Names.{IsName, IsUuid}
 use Rattle.sm_base.specs.declared.names.Name.{Name}
 use Rattle.sm_base.specs.declared.names.Name.TheVariants.{Vhd, Raw}
-use Rattle.sm_base.specs.declared.operations.Op.TheVariants as op
+use Rattle.sm_machine.specs.Operations as op
 use Rattle.sm_disk.specs.Held.{Held, reads}
 use Rattle.vg_meta.specs.Changes.{Permits, applied}
 use Rattle.vg_meta.specs.Tables.{IsTable, Row, VolumeTable, names_of, rows}
 use Rattle.vg_meta.specs.declared.changes.Change.{Change}
 use Rattle.vg_meta.specs.declared.changes.Change.TheVariants.{Create}
 use Rattle.vg_meta.proofs.NameLaws.{name_eq-true}
-use Rattle.vg_volumes.specs.Sites.{Fits, Site}
+use Rattle.vg_volumes.specs.Commits.{IsBefore, IsEither}
+use Rattle.vg_volumes.specs.Sites.{Fits, Site, area_size}
 use Rattle.vg_volumes.specs.Stored.{CanCommit, Commits, FailsToCommit, IsChoiceOf, IsEitherOf, Stays, stored}
 use Rattle.vg_volumes.specs.declared.stores.Store.{Ghosts}
 use Rattle.vhd_image.specs.Bodies.{sector_count}
 use Rattle.vhd_chain.specs.Trees.{row_name, tree_row}
 use Rattle.vhd_chain.specs.declared.rows.TreeRow.{TreeRow}
 use Rattle.sm_machine.specs.Disks.{Disk}
-use Rattle.sm_machine.specs.Shapes.{ImageRow, Shape, attached_as, image_uuid, is_vhd, risen}
+use Rattle.sm_machine.specs.Shapes.{ImageRow, Shape, image_uuid, risen}
 use Rattle.sm_machine.specs.WellFormed.{IsOnlyChild, is_image_name}
 use Rattle.sm_run.specs.Between.{IsBetween}
 use Rattle.sm_standing.specs.Images.{Image, image_of}
@@ -44,19 +45,20 @@ use Rattle.sm_ready.specs.Ready.{IsFirm, IsHeldBelow, IsReady, IsTidy}
 use Rattle.sm_ready.specs.Sessions.{IsOrderlyStore, IsTidyStore}
 use Rattle.sm_ready.specs.Stores.{MayShow, StoreLeaves, content_in, content_now, store_content}
 use Rattle.sm_ready.specs.declared.memory.Memory.{Memory}
-use Rattle.sm_ready.proofs.ChainLaws.{commit_failed, commit_made, only_crash, stopped_at, tab}
-use Rattle.sm_ready.proofs.CommitLaws.{IsSafe, law_commit, rested}
+use Rattle.sm_ready.proofs.ChainLaws.{commit_failed, commit_made, might_show, only_crash, stopped_at, tab}
+use Rattle.sm_ready.proofs.CommitLaws.{IsSafe, law_commit, law_settled, rested, volume_rested}
 use Rattle.sm_ready.proofs.FitLaws.{fits_orderly}
 use Rattle.sm_ready.proofs.FrameLaws.{true_kept, volume_commits}
-use Rattle.sm_ready.proofs.LeftLaws.{left_in, left_now, links_left}
+use Rattle.sm_ready.proofs.LeftLaws.{IsLeft, left_in, left_now, links_left}
 use Rattle.sm_ready.proofs.OperationLaws.{below_alike}
 use Rattle.sm_ready.proofs.Orders.{In-tree_row, named_row}
 use Rattle.sm_ready.proofs.PutBackLaws.{row_proper}
 use Rattle.gc_coalesce.specs.Beginning.{CanBegin, CanEnter, KeepsExtents, LeavesStill, copy_entry, entered, raised}
-use Rattle.gc_coalesce.specs.Copying.{copy_of}
+use Rattle.gc_coalesce.specs.Copying.{copy_of, dirty_of, is_hidden}
+use Rattle.gc_coalesce.specs.declared.kinds.Kind.{Kind}
 use Rattle.gc_coalesce.proofs.BeginExtents.{extents_put}
-use Rattle.gc_coalesce.proofs.BeginShapes.{roomy, works}
-use Rattle.gc_coalesce.proofs.CopyKinds.{below_in, entry_no_image, entry_no_records, entry_proper, entry_suits, is_its_entry, its_entry, roomy_in, runs}
+use Rattle.gc_coalesce.proofs.BeginShapes.{leaf_in, roomy, works}
+use Rattle.gc_coalesce.proofs.CopyKinds.{IsLeafIn, below_in, entry_no_image, entry_no_records, entry_proper, entry_suits, is_its_entry, its_entry, roomy_in, runs_first}
 use Rattle.gc_coalesce.proofs.BeginStores.{IsRowOf, child_found, child_row, parent_found, parent_row, row_of}
 use Rattle.gc_abandon.proofs.EntryLaws as entries
 
@@ -84,7 +86,7 @@ module _ (s : Site) (t : VolumeTable) (m : Known) (v p : Name) (o : IsOrderly s 
 
 -- ---- nothing is copied yet
 
-module _ (s : Site) (t : VolumeTable) (m : Known) (k : Bool) (v p : Name) (o : IsOrderly s t m) (works : IsOnlyChild (shape_in s t m) k v p) where
+module _ (s : Site) (t : VolumeTable) (m : Known) (hidden : Bool) (v p : Name) (o : IsOrderly s t m) (works : IsOnlyChild (shape_in s t m) hidden v p) where
   child_at : IsRowOf m works.link.child
   child_at = row_of s t m works.link.child o works.link.there
 
@@ -111,11 +113,11 @@ module _ (s : Site) (t : VolumeTable) (m : Known) (k : Bool) (v p : Name) (o : I
       let at = In-tree_row m.rows p parent_at.0 parent_at.1 in
       works.same_size (machine_row parent_at.0) (In-map_at machine_row m.rows parent_at.0 at.0) at.1 ∙ ap (λ (i : ImageRow). i.size) child_at.is
 
-  pub below_none : (area : Held) → IsFirm s t area m → IsHeldBelow (content_now s t area) v p 0
-  below_none area firm =
+  pub below_none : (area : Held) (dirty : List ℕ) → IsFirm s t area m → IsHeldBelow (content_now s t area) v p 0 dirty
+  below_none area dirty firm =
       let c = at_image v child_at.row child_is in
       let q = at_image p parent_at.0 parent_at.1 in
-      record { child = c.0; parent = q.0; image = c.1; under = q.1; size = q.2 ∙ same_size ∙ sym c.2; held = λ at bytes below. absurd (omega (arith, below)) }
+      record { child = c.0; parent = q.0; image = c.1; under = q.1; size = q.2 ∙ same_size ∙ sym c.2; held = λ at bytes below clean. absurd (omega (arith, below)) }
     where
       at_image : (n : Name) (r : TreeRow) → tree_row m.rows n ≡ Some r → (i : Image) × (image_of (content_now s t area) n ≡ Some i) × (i.size ≡ sector_count r.image)
       at_image n r found = by (image_of (content_now s t area) n) refl (links_left s t area m (reads area) n o firm (left_in s t m area (reads area) o (left_now s area)) ∙ ap link_in found)
@@ -127,17 +129,17 @@ module _ (s : Site) (t : VolumeTable) (m : Known) (k : Bool) (v p : Name) (o : I
 -- ---- the table and memory
 
 -- memory is orderly, no operation runs, and a copy may begin
-pub record IsToEnter (s : Site) (t : VolumeTable) (m : Known) (k : Bool) (v p : Name) : Type 0 where
+pub record IsToEnter (s : Site) (t : VolumeTable) (m : Known) (k : Kind) (v p : Name) : Type 0 where
   pub orderly : IsOrderly s t m
   pub tidy : IsTidy t m
   pub idle : m.op ≡ op.Idle
   pub child_uuid : IsUuid (image_uuid v)
   pub parent_uuid : IsUuid (image_uuid p)
-  pub works : IsOnlyChild (shape_in s t m) k v p
-  pub leaf : k ≡ false → (is_vhd p ≡ true) × (attached_as (image_uuid v) (shape_in s t m) ≡ None)
+  pub works : IsOnlyChild (shape_in s t m) (is_hidden k) v p
+  pub leaf : IsLeafIn (shape_in s t m) k v p
   pub roomy : IsRoomyFor (shape_in s t m) v p
 
-module _ (s : Site) (t : VolumeTable) (m : Known) (k : Bool) (v p : Name) (h : IsToEnter s t m k v p) where
+module _ (s : Site) (t : VolumeTable) (m : Known) (k : Kind) (v p : Name) (h : IsToEnter s t m k v p) where
   abbrev entry : Name
   entry = copy_entry k v p
 
@@ -145,7 +147,7 @@ module _ (s : Site) (t : VolumeTable) (m : Known) (k : Bool) (v p : Name) (h : I
   next = applied t (Create (copy_entry k v p) false [])
 
   abbrev pub after : Known
-  after = record m { op = copy_of k v p 0 }
+  after = record m { op = copy_of k v p 0 [] }
 
   none_there : names_in t is_entry ≡ []
   none_there = h.orderly.entries ∙ ap entry_of h.idle
@@ -173,31 +175,31 @@ module _ (s : Site) (t : VolumeTable) (m : Known) (k : Bool) (v p : Name) (h : I
   put_table : entries.IsReentered s t (applied t (Create (copy_entry k v p) false []))
   put_table = entries.entered s t (Create entry false []) h.orderly.table may_put (λ n of. ap is_entry of ∙ is_its_entry k v p)
 
-  pub orderly_put : IsOrderly s (applied t (Create (copy_entry k v p) false [])) (record m { op = copy_of k v p 0 })
-  orderly_put = entries.orderly_entry s t next m h.orderly put_table (copy_of k v p 0) (entries.entry_put t entry false [] (is_its_entry k v p) none_there ∙ sym (its_entry k v p 0))
-      (λ w. runs (shape_in s t m) k v p 0 h.works h.leaf) (roomy_in (shape_in s t m) k v p 0 h.roomy)
+  pub orderly_put : IsOrderly s (applied t (Create (copy_entry k v p) false [])) (record m { op = copy_of k v p 0 [] })
+  orderly_put = entries.orderly_entry s t next m h.orderly put_table (copy_of k v p 0 []) (entries.entry_put t entry false [] (is_its_entry k v p) none_there ∙ sym (its_entry k v p 0 []))
+      (λ w. runs_first (shape_in s t m) k v p h.works h.leaf) (roomy_in (shape_in s t m) k v p 0 [] h.roomy)
 
-  pub tidy_put : IsTidy (applied t (Create (copy_entry k v p) false [])) (record m { op = copy_of k v p 0 })
-  tidy_put = entries.tidy_entry s t next m (copy_of k v p 0) put_table h.tidy
+  pub tidy_put : IsTidy (applied t (Create (copy_entry k v p) false [])) (record m { op = copy_of k v p 0 [] })
+  tidy_put = entries.tidy_entry s t next m (copy_of k v p 0 []) put_table h.tidy
 
   pub fits_put : Fits s.count t (Create (copy_entry k v p) false [])
   fits_put = fits_orderly s next after orderly_put
 
-  pub shape_put : shape_in s (applied t (Create (copy_entry k v p) false [])) (record m { op = copy_of k v p 0 }) ≡ record (shape_in s t m) { sequence = risen t.sequence 1; op = copy_of k v p 0 }
-  shape_put = entries.shape_entry s t next m (copy_of k v p 0) ∙ ap (λ (n : ℕ). let x : Shape = record (shape_in s t m) { sequence = n; op = copy_of k v p 0 } in x) (omega arith)
+  pub shape_put : shape_in s (applied t (Create (copy_entry k v p) false [])) (record m { op = copy_of k v p 0 [] }) ≡ record (shape_in s t m) { sequence = risen t.sequence 1; op = copy_of k v p 0 [] }
+  shape_put = entries.shape_entry s t next m (copy_of k v p 0 []) ∙ ap (λ (n : ℕ). let x : Shape = record (shape_in s t m) { sequence = n; op = copy_of k v p 0 [] } in x) (omega arith)
 
   pub disks_put : (image : ℕ → List ℕ) → disks (content_in s (applied t (Create (copy_entry k v p) false [])) image) ≡ disks (content_in s t image)
   disks_put image = entries.disks_entry s t next m after image h.orderly orderly_put put_table.same
 
-  pub ready_put : (area : Held) → IsReady s t area m → IsReady s (applied t (Create (copy_entry k v p) false [])) area (record m { op = copy_of k v p 0 })
+  pub ready_put : (area : Held) → IsReady s t area m → IsReady s (applied t (Create (copy_entry k v p) false [])) area (record m { op = copy_of k v p 0 [] })
   ready_put area ready =
-      entries.ready_entry s t next m (copy_of k v p 0) (entries.extents_entry s t next m h.orderly put_table) area ready
-      (below_alike (content_now s t area) (content_now s next area) (copy_of k v p 0) refl refl (λ n _. entries.image_entry s t next m after (reads area) h.orderly orderly_put put_table.same n)
-      (below_in (content_now s t area) k v p 0 (below_none s t m k v p h.orderly h.works area ready.firm)))
+      entries.ready_entry s t next m (copy_of k v p 0 []) (entries.extents_entry s t next m h.orderly put_table) area ready
+      (below_alike (content_now s t area) (content_now s next area) (copy_of k v p 0 []) refl refl (λ n _. entries.image_entry s t next m after (reads area) h.orderly orderly_put put_table.same n)
+      (below_in (content_now s t area) k v p 0 [] (below_none s t m (is_hidden k) v p h.orderly h.works area (dirty_of k []) ready.firm)))
 
 -- ---- the commit
 
-module _ {S : Type 0} {g : Ghosts S} {a b : S} (n : Memory) {k : Bool} {v p : Name} (h : IsToEnter (g.site a) (tab g a) (known n) k v p) (stays : Stays g a b) (usable : g.failed a ≡ false) where
+module _ {S : Type 0} {g : Ghosts S} {a b : S} (n : Memory) {k : Kind} {v p : Name} (h : IsToEnter (g.site a) (tab g a) (known n) k v p) (stays : Stays g a b) (usable : g.failed a ≡ false) where
   abbrev change : Change
   change = Create (copy_entry k v p) false []
 
@@ -231,7 +233,7 @@ module _ {S : Type 0} {g : Ghosts S} {a b : S} (n : Memory) {k : Bool} {v p : Na
     pub shape_end : (σ : Shape) → shape_in (g.site a) (tab g a) (known n) ≡ raised v p σ → (tab g a).sequence ≡ σ.sequence → store_shape g x l ≡ entered k v p σ
     shape_end σ shape number =
         ap₂ (λ (y : Site) (z : VolumeTable). shape_in y z (known l)) site_end table_end ∙ ap (shape_in (g.site a) (next (g.site a) (tab g a) (known n) k v p h)) is ∙ shape_put (g.site a) (tab g a) (known n) k v p h
-        ∙ ap₂ (λ (y : Shape) j. let z : Shape = record y { sequence = risen j 1; op = copy_of k v p 0 } in z) shape number
+        ∙ ap₂ (λ (y : Shape) j. let z : Shape = record y { sequence = risen j 1; op = copy_of k v p 0 [] } in z) shape number
 
     not_entry : (r : TreeRow) → In r n.tree.rows → row_name r ≡ copy_entry k v p → ⊥
     not_entry r i of = true≢false (sym (named_row (g.site a) (tab g a) (known n) r h.orderly i) ∙ ap is_image_name of ∙ entry_no_image k v p)
@@ -280,15 +282,37 @@ module _ {S : Type 0} {g : Ghosts S} {a b : S} (n : Memory) {k : Bool} {v p : Na
             crash = crash {x = x} ok (commit_made g change ok stays.site stays.table told c either);
           })
 
+      -- and whatever a stop leaves of the commit shows the disks of an image that might be left before
+      pub put_still : {x : S} → ((z : VolumeTable) (image : ℕ → List ℕ) → g.leaves x z image → IsEitherOf (stored g b) (Create (copy_entry k v p) false []) z image)
+          → (z : VolumeTable) (image : ℕ → List ℕ) → g.leaves x z image → MayShow (g.site a) (StoreLeaves g a) (disks (content_in (g.site a) z image))
+      put_still either z image l = by (subst₂ (λ (y : Site) w. IsEither (area_size y) w (applied w change) (g.area b) z image) stays.site stays.table (either z image l))
+        where
+          by : IsEither (area_size (g.site a)) (tab g a) (next (g.site a) (tab g a) (known n) k v p h) (g.area b) z image → MayShow (g.site a) (StoreLeaves g a) (disks (content_in (g.site a) z image))
+          by (inl at) = subst (λ y. MayShow (g.site a) (StoreLeaves g a) (disks (content_in (g.site a) y image))) (sym at.table_is) (leaves.still image at.sectors)
+          by (inr then) =
+              let left : IsLeft (g.site a) (at_rest (reads (g.area b))) image = λ q below. inl (then.sectors q below) in
+              subst (λ (ds : List Disk). MayShow (g.site a) (StoreLeaves g a) ds)
+              (sym (ap (λ y. disks (content_in (g.site a) y image)) then.table_is
+              ∙ law_settled (g.site a) (next (g.site a) (tab g a) (known n) k v p h) (at_rest (reads (g.area b))) (after (g.site a) (tab g a) (known n) k v p h) image (orderly_put (g.site a) (tab g a) (known n) k v p h) ready_then
+              (volume_rested (g.site a) (next (g.site a) (tab g a) (known n) k v p h) (reads (g.area b))) left ∙ disks_then))
+              (might_show g usable told)
+
 -- the parent's footers were not written
 pub raise_failed : {S : Type 0} {g : Ghosts S} {a b : S} → Stays g a b → LeavesStill (g.site a) (tab g a) (g.area b) (StoreLeaves g a) (disks (store_content g a))
     → ((z : VolumeTable) (image : ℕ → List ℕ) → g.leaves b z image → IsChoiceOf (stored g b) z image) → (k : Known) (ok : Type 0) → (ok → ⊥)
     → HasDoneFrom (g.site a) (tab g b) (g.area b) k (StoreLeaves g a) (StoreLeaves g b) ok (disks (store_content g a)) (disks (store_content g a))
 raise_failed {g = g} {a} {b} stays leaves choice k ok never = stopped_at g k ok (disks (store_content g a)) never stays.site stays.table (record { kept = leaves.kept; shown = leaves.shown }) choice
 
+pub raise_still : {S : Type 0} {g : Ghosts S} {a b : S} → Stays g a b → LeavesStill (g.site a) (tab g a) (g.area b) (StoreLeaves g a) (disks (store_content g a))
+    → ((z : VolumeTable) (image : ℕ → List ℕ) → g.leaves b z image → IsChoiceOf (stored g b) z image)
+    → (z : VolumeTable) (image : ℕ → List ℕ) → g.leaves b z image → MayShow (g.site a) (StoreLeaves g a) (disks (content_in (g.site a) z image))
+raise_still {g = g} {a} {b} stays leaves choice z image l =
+    let at = subst₂ (λ (y : Site) w. IsBefore (area_size y) w (g.area b) z image) stays.site stays.table (choice z image l) in
+    subst (λ y. MayShow (g.site a) (StoreLeaves g a) (disks (content_in (g.site a) y image))) (sym at.table_is) (leaves.still image at.sectors)
+
 -- ---- memory behind the raise
 
-pub to_enter : {S : Type 0} {g : Ghosts S} {a b : S} (m n : Memory) {k : Bool} {v p : Name} → IsOrderlyStore g a m → CanBegin (store_shape g a m) k v p → Stays g a b → IsOrderlyStore g b n → IsTidyStore g b n → store_shape g b n ≡ raised v p (store_shape g a m)
+pub to_enter : {S : Type 0} {g : Ghosts S} {a b : S} (m n : Memory) {k : Kind} {v p : Name} → IsOrderlyStore g a m → CanBegin (store_shape g a m) k v p → Stays g a b → IsOrderlyStore g b n → IsTidyStore g b n → store_shape g b n ≡ raised v p (store_shape g a m)
     → n.operation ≡ m.operation → IsToEnter (g.site a) (tab g a) (known n) k v p
 unfolding shape_in
 to_enter {g = g} {a} {b} m n {k} {v} {p} o h stays orderly tidy shape operation =
@@ -299,7 +323,7 @@ to_enter {g = g} {a} {b} m n {k} {v} {p} o h stays orderly tidy shape operation 
       idle = operation ∙ h.pair.idle;
       child_uuid = (child_named (g.site a) (tab g a) (known m) v p o h.pair).1;
       parent_uuid = (parent_named (g.site a) (tab g a) (known m) v p o h.pair).1;
-      works = subst (λ (σ : Shape). IsOnlyChild σ k v p) (sym same) (works (shape_in (g.site a) (tab g a) (known m)) v p o.well_formed h.pair k h.shown);
-      leaf = λ is. (let l = h.leaf is in (l.0, subst (λ (σ : Shape). attached_as (image_uuid v) σ ≡ None) (sym same) l.1));
+      works = subst (λ (σ : Shape). IsOnlyChild σ (is_hidden k) v p) (sym same) (works (shape_in (g.site a) (tab g a) (known m)) v p o.well_formed h.pair (is_hidden k) h.shown);
+      leaf = subst (λ (σ : Shape). IsLeafIn σ k v p) (sym same) (leaf_in (shape_in (g.site a) (tab g a) (known m)) v p o.well_formed h.pair k h.shown h.leaf);
       roomy = subst (λ (σ : Shape). IsRoomyFor σ v p) (sym same) (roomy (shape_in (g.site a) (tab g a) (known m)) v p o.well_formed h.pair);
     }

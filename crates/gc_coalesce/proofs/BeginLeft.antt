@@ -9,7 +9,7 @@ use Rattle.std.proofs.lemmas.Option.{same_Some}
 use Rattle.common_laws.specs.Lists.{numbers, ◌>>=◌}
 use Rattle.sm_base.specs.declared.names.Name.{Name}
 use Rattle.sm_base.specs.declared.names.Name.TheVariants.{Vhd, Raw, Relink}
-use Rattle.sm_base.specs.declared.operations.Op.TheVariants as op
+use Rattle.sm_machine.specs.Operations as op
 use Rattle.sm_disk.specs.Held.{Held, Keeps, reads}
 use Rattle.sm_disk.proofs.HeldLaws.{Keeps-then}
 use Rattle.vg_meta.specs.Tables.{Row, VolumeTable, extents_of, rows}
@@ -116,6 +116,9 @@ module _ {s : Site} {t : VolumeTable} {m : Known} {old new : Held} {u : List ℕ
     still_now : (before : Leaving) → ((other : Sectors) → IsLeft s old other → before t other) → IsStill (MayShow s before) (disks (content_now s t old)) (disks (content_in s t image))
     still_now before might = subst (IsStill (MayShow s before) (disks (content_now s t old))) (sym disks_beside) (still s t old m before g.earlier o h.ready g.might (might g.earlier g.might))
 
+    shows_now : (before : Leaving) → ((other : Sectors) → IsLeft s old other → before t other) → MayShow s before (disks (content_in s t image))
+    shows_now before might = record { table = t; image = g.earlier; left = might g.earlier g.might; shown = disks_beside }
+
     -- where the image of the area is what a read gives, the images of the earlier one are those that a read gave
     read_before : image ≡ reads new → (n : Name) → image_of (content_in s t g.earlier) n ≡ image_of (content_now s t old) n
     read_before is n = ⊎_elim
@@ -132,7 +135,7 @@ module _ {s : Site} {t : VolumeTable} {m : Known} {old new : Held} {u : List ℕ
   -- ---- of all of them
 
   pub leaves_still : (before : Leaving) → ((other : Sectors) → IsLeft s old other → before t other) → LeavesStill s t new before (disks (content_now s t old))
-  leaves_still before might = record { kept = λ image left. kept_now image left; shown = λ image left. still_now image left before might }
+  leaves_still before might = record { kept = λ image left. kept_now image left; shown = λ image left. still_now image left before might; still = λ image left. shows_now image left before might }
 
   pub disks_now : disks (content_now s t new) ≡ disks (content_now s t old)
   disks_now = read_disks (reads new) (left_now s new) refl

@@ -6,7 +6,7 @@ use Rattle.std.proofs.Props.{props}
 use Rattle.common_laws.specs.Lists.{In}
 use Rattle.common_laws.proofs.Lists.{In-map_at}
 use Rattle.sm_base.specs.declared.names.Name.TheVariants.{Vhd}
-use Rattle.sm_base.specs.declared.operations.Op.TheVariants as op
+use Rattle.sm_machine.specs.Operations as op
 use Rattle.vg_meta.specs.Tables.{VolumeTable}
 use Rattle.vg_volumes.specs.Sites.{Site}
 use Rattle.vhd_image.specs.Bodies.{IsVhd, sector_count}

@@ -1,6 +1,6 @@
--- The machine's shape where the collector's next step begins a copy, of a hidden image or of a leaf: what the step says of the image and its parent, and that
+-- The machine's shape where the collector's next step begins a copy, of a hidden image or of a disk's leaf: what the step says of the image and its parent, and that
 -- the two ways to the shape behind it agree: at once, and once the parent has its extents and the child's size.
-use Rattle.std.proofs.Common.{◌≡◌, ℕ, suc, ◌+◌, ◌-◌, ◌<◌, ◌≤◌, inl, inr, Bool, true, false, max, nat_lt, List, [], ◌∷◌, ◌++◌, length, map, Option, Some, None, refl, sym, ap, ap₂, ◌∙◌, subst, subst₂, arith}
+use Rattle.std.proofs.Common.{◌≡◌, ℕ, suc, ◌+◌, ◌-◌, ◌<◌, ◌≤◌, inl, inr, ◌&&◌, not, Bool, true, false, max, nat_lt, is_some, List, [], ◌∷◌, ◌++◌, length, map, Option, Some, None, refl, sym, ap, ap₂, ◌∙◌, subst, subst₂, arith}
 use Rattle.std.proofs.Math.Logic.{∥∥₁_elim}
 use Rattle.std.proofs.Props.{props}
 use Rattle.std.specs.List.{find}
@@ -9,34 +9,38 @@ use Rattle.std.proofs.lemmas.Bool.{eqb-true, leb-true, le-ltb, lt-ltb, true≢fa
 use Rattle.common_laws.specs.Lists.{In, when}
 use Rattle.common_laws.proofs.Lists.{Distinct-key, In-map, In-map_at, filter-In, find-some}
 use Rattle.sm_base.specs.declared.names.Name.{Name}
-use Rattle.sm_base.specs.declared.operations.Op.TheVariants as op
+use Rattle.sm_machine.specs.Operations as op
+use Rattle.sm_base.specs.declared.operations.Plan.{Plan}
 use Rattle.sm_base.specs.declared.operations.Plan.TheVariants as plan
-use Rattle.sm_machine.specs.Collector.{Pair, blocked, count_either, enlarged, fits, is_garbage, is_loose, leaves, next_step, pairs, plan_idle, plan_running, size_of, target}
+use Rattle.sm_machine.specs.Collector.{Pair, blocked, count_either, enlarged, fits, is_garbage, is_loose, is_written, leaves, lives, needed, next_step, pairs, plan_idle, plan_running, size_of, target}
 use Rattle.sm_machine.specs.Commits.{extents_of, growth_commits}
 use Rattle.sm_machine.specs.Laws.{MayGrow}
-use Rattle.sm_machine.specs.Shapes.{ImageRow, Shape, attached_as, children, find_image, free, image_uuid, is_image, is_parent, is_vhd, on_image, risen, same_image, thin_in, top}
+use Rattle.sm_machine.specs.Shapes.{ImageRow, Shape, attached_as, children, find_image, free, image_uuid, is_image, is_parent, is_rw, is_vhd, on_image, risen, same_image, thick_in, thin_in, top}
 use Rattle.sm_machine.specs.Steps.{shape_next}
 use Rattle.sm_machine.specs.WellFormed.{HasParent, IsOnlyChild, IsWellFormed}
 use Rattle.sm_machine.specs.declared.commands.Command.TheVariants.{Gc}
-use Rattle.sm_machine.proofs.Begins.{IsFoldable, chosen_leaf, chosen_pair}
+use Rattle.sm_machine.proofs.Begins.{IsFoldable, chosen_leaf, chosen_live, chosen_pair}
 use Rattle.sm_machine.proofs.Changes.{find-map, when-key}
 use Rattle.sm_machine.proofs.Collects.{same_row}
 use Rattle.sm_machine.proofs.Debts.{found_row, is_itself, parent_apart}
 use Rattle.sm_machine.proofs.ImageNames.{other_image, same_image-refl}
 use Rattle.sm_ready.specs.Orderly.{IsRoomyFor}
-use Rattle.gc_coalesce.specs.Beginning.{CanBegin, CanEnter, begins, entered, raised}
-use Rattle.gc_coalesce.specs.Copying.{copy_of}
-use Rattle.gc_coalesce.proofs.CopyKinds.{begins_idle, begun_of}
+use Rattle.gc_coalesce.specs.Beginning.{CanBegin, CanEnter, IsLeafOver, begins, entered, raised}
+use Rattle.gc_coalesce.specs.Copying.{copy_of, is_hidden}
+use Rattle.gc_coalesce.specs.declared.kinds.Kind.{Kind}
+use Rattle.gc_coalesce.specs.declared.kinds.Kind.TheVariants as kinds
+use Rattle.gc_coalesce.proofs.CopyKinds.{IsLeafIn, begins_idle, begun_of}
 use Rattle.gc_coalesce.proofs.PlannedLaws.{gc_shape}
 
 -- ---- what the plan says
 
-abbrev pairs_of : Bool → Shape → List Pair
-pairs_of true s = pairs s
-pairs_of false s = leaves s
+abbrev pairs_of : Kind → Shape → List Pair
+pairs_of kinds.Hidden s = pairs s
+pairs_of kinds.Leaf s = leaves s
+pairs_of kinds.Live s = lives s
 
 -- the step begins a copy of this pair
-pub record IsPlanned (s : Shape) (k : Bool) (v p : Name) (to : ℕ) : Type 0 where
+pub record IsPlanned (s : Shape) (k : Kind) (v p : Name) (to : ℕ) : Type 0 where
   pub pair : Pair
   pub there : In pair (pairs_of k s)
   pub enough : fits s pair ≡ true
@@ -46,41 +50,67 @@ pub record IsPlanned (s : Shape) (k : Bool) (v p : Name) (to : ℕ) : Type 0 whe
   pub extents : target s pair ≡ to
 
 module _ (s : Shape) (v p : Name) (to : ℕ) where
-  not_blocked : (k : Bool) (ps : List Pair) → blocked s ps ≡ begins k v p to → ⊥
-  not_blocked true [] e = (let z = e in cc)
-  not_blocked true (x ∷ xs) e = (let z = e in cc)
-  not_blocked false [] e = (let z = e in cc)
-  not_blocked false (x ∷ xs) e = (let z = e in cc)
+  not_blocked : (k : Kind) (ps : List Pair) → blocked s ps ≡ begins k v p to → ⊥
+  not_blocked kinds.Hidden [] e = (let z = e in cc)
+  not_blocked kinds.Hidden (x ∷ xs) e = (let z = e in cc)
+  not_blocked kinds.Leaf [] e = (let z = e in cc)
+  not_blocked kinds.Leaf (x ∷ xs) e = (let z = e in cc)
+  not_blocked kinds.Live [] e = (let z = e in cc)
+  not_blocked kinds.Live (x ∷ xs) e = (let z = e in cc)
 
-  chosen : (k : Bool) (x : Pair) → find (fits s) (pairs_of k s) ≡ Some x → s.op ≡ op.Idle → begins k x.child.name x.parent.name (target s x) ≡ begins k v p to → IsPlanned s k v p to
+  chosen : (k : Kind) (x : Pair) → find (fits s) (pairs_of k s) ≡ Some x → s.op ≡ op.Idle → begins k x.child.name x.parent.name (target s x) ≡ begins k v p to → IsPlanned s k v p to
   chosen k x found idle e =
       let f = find-some (fits s) (pairs_of k s) x found in
       let n = names k e in
       record { pair = x; there = f.0; enough = f.1; idle = idle; child = n.0; parent = n.1; extents = n.2 }
     where
-      names : (k : Bool) → begins k x.child.name x.parent.name (target s x) ≡ begins k v p to → (x.child.name ≡ v) × (x.parent.name ≡ p) × (target s x ≡ to)
-      names true e = ((let n : x.child.name ≡ v = cc in n), (let n : x.parent.name ≡ p = cc in n), (let n : target s x ≡ to = cc in n))
-      names false e = ((let n : x.child.name ≡ v = cc in n), (let n : x.parent.name ≡ p = cc in n), (let n : target s x ≡ to = cc in n))
+      names : (k : Kind) → begins k x.child.name x.parent.name (target s x) ≡ begins k v p to → (x.child.name ≡ v) × (x.parent.name ≡ p) × (target s x ≡ to)
+      names kinds.Hidden e = ((let n : x.child.name ≡ v = cc in n), (let n : x.parent.name ≡ p = cc in n), (let n : target s x ≡ to = cc in n))
+      names kinds.Leaf e = ((let n : x.child.name ≡ v = cc in n), (let n : x.parent.name ≡ p = cc in n), (let n : target s x ≡ to = cc in n))
+      names kinds.Live e = ((let n : x.child.name ≡ v = cc in n), (let n : x.parent.name ≡ p = cc in n), (let n : target s x ≡ to = cc in n))
 
-  by_rules : (k : Bool) (g l : Option ImageRow) (q r : Option Pair) → find (fits s) (pairs s) ≡ q → find (fits s) (leaves s) ≡ r → s.op ≡ op.Idle
-      → elim g [ Some i ↦ plan.Remove i.name | None ↦ elim l [ Some i ↦ plan.Deflate i.name (thin_in s (top i.slots)) | None ↦ elim q [ Some x ↦ plan.Begin x.child.name x.parent.name (target s x) | None ↦ elim r [ Some x ↦ plan.Leaf x.child.name x.parent.name (target s x) | None ↦ blocked s (pairs s ++ leaves s) ] ] ] ]
-      ≡ begins k v p to → IsPlanned s k v p to
-  by_rules true (Some i) l q r pair leaf o e = absurd (let z = e in cc)
-  by_rules true None (Some i) q r pair leaf o e = absurd (let z = e in cc)
-  by_rules true None None (Some x) r pair leaf o e = chosen true x pair o e
-  by_rules true None None None (Some x) pair leaf o e = absurd (let z = e in cc)
-  by_rules true None None None None pair leaf o e = absurd (not_blocked true (pairs s ++ leaves s) e)
-  by_rules false (Some i) l q r pair leaf o e = absurd (let z = e in cc)
-  by_rules false None (Some i) q r pair leaf o e = absurd (let z = e in cc)
-  by_rules false None None (Some x) r pair leaf o e = absurd (let z = e in cc)
-  by_rules false None None None (Some x) pair leaf o e = chosen false x leaf o e
-  by_rules false None None None None pair leaf o e = absurd (not_blocked false (pairs s ++ leaves s) e)
+  -- the plan of a collector that is at rest, by the first image or pair of each rule
+  abbrev by_rule : Option ImageRow → Option ImageRow → Option Pair → Option Pair → Option Pair → Plan
+  by_rule g l q r o = elim g [
+    | Some i ↦ plan.Remove i.name
+    | None ↦ elim l [
+      | Some i ↦ plan.Deflate i.name (thin_in s (top i.slots))
+      | None ↦ elim q [
+        | Some x ↦ plan.Begin x.child.name x.parent.name (target s x)
+        | None ↦ elim r [
+          | Some x ↦ plan.Leaf x.child.name x.parent.name (target s x)
+          | None ↦ elim o [ Some x ↦ plan.Live x.child.name x.parent.name (target s x) | None ↦ blocked s (pairs s ++ (leaves s ++ lives s)) ]
+        ]
+      ]
+    ]
+  ]
 
-  by_idle : (k : Bool) → s.op ≡ op.Idle → plan_idle s ≡ begins k v p to → IsPlanned s k v p to
+  by_rules : (k : Kind) (g l : Option ImageRow) (q r o : Option Pair) → find (fits s) (pairs s) ≡ q → find (fits s) (leaves s) ≡ r → find (fits s) (lives s) ≡ o → s.op ≡ op.Idle → by_rule g l q r o ≡ begins k v p to
+      → IsPlanned s k v p to
+  by_rules kinds.Hidden (Some i) l q r o pair leaf live idle e = absurd (let z = e in cc)
+  by_rules kinds.Hidden None (Some i) q r o pair leaf live idle e = absurd (let z = e in cc)
+  by_rules kinds.Hidden None None (Some x) r o pair leaf live idle e = chosen kinds.Hidden x pair idle e
+  by_rules kinds.Hidden None None None (Some x) o pair leaf live idle e = absurd (let z = e in cc)
+  by_rules kinds.Hidden None None None None (Some x) pair leaf live idle e = absurd (let z = e in cc)
+  by_rules kinds.Hidden None None None None None pair leaf live idle e = absurd (not_blocked kinds.Hidden (pairs s ++ (leaves s ++ lives s)) e)
+  by_rules kinds.Leaf (Some i) l q r o pair leaf live idle e = absurd (let z = e in cc)
+  by_rules kinds.Leaf None (Some i) q r o pair leaf live idle e = absurd (let z = e in cc)
+  by_rules kinds.Leaf None None (Some x) r o pair leaf live idle e = absurd (let z = e in cc)
+  by_rules kinds.Leaf None None None (Some x) o pair leaf live idle e = chosen kinds.Leaf x leaf idle e
+  by_rules kinds.Leaf None None None None (Some x) pair leaf live idle e = absurd (let z = e in cc)
+  by_rules kinds.Leaf None None None None None pair leaf live idle e = absurd (not_blocked kinds.Leaf (pairs s ++ (leaves s ++ lives s)) e)
+  by_rules kinds.Live (Some i) l q r o pair leaf live idle e = absurd (let z = e in cc)
+  by_rules kinds.Live None (Some i) q r o pair leaf live idle e = absurd (let z = e in cc)
+  by_rules kinds.Live None None (Some x) r o pair leaf live idle e = absurd (let z = e in cc)
+  by_rules kinds.Live None None None (Some x) o pair leaf live idle e = absurd (let z = e in cc)
+  by_rules kinds.Live None None None None (Some x) pair leaf live idle e = chosen kinds.Live x live idle e
+  by_rules kinds.Live None None None None None pair leaf live idle e = absurd (not_blocked kinds.Live (pairs s ++ (leaves s ++ lives s)) e)
+
+  by_idle : (k : Kind) → s.op ≡ op.Idle → plan_idle s ≡ begins k v p to → IsPlanned s k v p to
   unfolding plan_idle
-  by_idle k o e = by_rules k (find (is_garbage s) s.images) (find (is_loose s) s.images) (find (fits s) (pairs s)) (find (fits s) (leaves s)) refl refl o e
+  by_idle k idle e = by_rules k (find (is_garbage s) s.images) (find (is_loose s) s.images) (find (fits s) (pairs s)) (find (fits s) (leaves s)) (find (fits s) (lives s)) refl refl refl idle e
 
-  pub planned : (k : Bool) → next_step s ≡ begins k v p to → IsPlanned s k v p to
+  pub planned : (k : Kind) → next_step s ≡ begins k v p to → IsPlanned s k v p to
   unfolding next_step plan_running
   planned k e =
       let idle = begins_idle s k v p to s.op e in
@@ -114,25 +144,30 @@ size_by (Some i) = i.size
 
 -- ---- where a step begins a copy
 
-module _ (s : Shape) (k : Bool) (v p : Name) (to : ℕ) (x : ∥ IsWellFormed s ∥₁) (h : IsPlanned s k v p to) where
+module _ (s : Shape) (k : Kind) (v p : Name) (to : ℕ) (x : ∥ IsWellFormed s ∥₁) (h : IsPlanned s k v p to) where
   abbrev child : ImageRow
   child = h.pair.child
 
   abbrev parent : ImageRow
   parent = h.pair.parent
 
-  pub foldable : IsFoldable s k h.pair
+  pub foldable : IsFoldable s (is_hidden k) h.pair
   foldable = by k h.there
     where
-      by : (c : Bool) → In h.pair (pairs_of c s) → IsFoldable s c h.pair
-      by true there = chosen_pair s h.pair there
-      by false there = (chosen_leaf s h.pair there).foldable
+      by : (c : Kind) → In h.pair (pairs_of c s) → IsFoldable s (is_hidden c) h.pair
+      by kinds.Hidden there = chosen_pair s h.pair there
+      by kinds.Leaf there = (chosen_leaf s h.pair there).foldable
+      by kinds.Live there = (chosen_live s h.pair there).foldable
 
-  leaf_parts : k ≡ false → (is_vhd h.pair.parent.name ≡ true) × (attached_as (image_uuid h.pair.child.name) s ≡ None)
-  leaf_parts is = let l = chosen_leaf s h.pair (subst (λ c. In h.pair (pairs_of c s)) is h.there) in (l.parent_vhd, l.free_leaf)
+  pub parent_smaller : h.pair.parent.size ≤ h.pair.child.size
+  parent_smaller = ∥∥₁_elim x (hlevel props) (λ w.
+      let q = w.parents h.pair.child h.pair.parent.name foldable.child_there foldable.link in
+      subst (λ (y : ImageRow). y.size ≤ h.pair.child.size)
+      (Distinct-key (λ (y : ImageRow). image_uuid y.name) s.images q.parent h.pair.parent w.one_image q.there foldable.parent_there (ap image_uuid q.is_named)) q.not_larger)
 
-  abbrev needed : ℕ
-  needed = thin_in s (max (top h.pair.parent.slots) (count_either h.pair.parent.slots h.pair.child.slots))
+  -- the extents for the blocks of both
+  abbrev pub blocks_need : ℕ
+  blocks_need = thin_in s (max (top h.pair.parent.slots) (count_either h.pair.parent.slots h.pair.child.slots))
 
   only_child : (i : ImageRow) → In i s.images → i.parent ≡ Some h.pair.parent.name → i ≡ h.pair.child
   unfolding children
@@ -145,13 +180,39 @@ module _ (s : Shape) (k : Bool) (v p : Name) (to : ℕ) (x : ∥ IsWellFormed s 
       (filter-In (λ (j : ImageRow). is_parent parent.name j.parent) s.images child foldable.child_there (is child foldable.link))
 
   -- the extents that the parent is to have
-  to_vhd : is_vhd h.pair.parent.name ≡ true → to ≡ max h.pair.parent.extents needed
+  to_vhd : is_vhd h.pair.parent.name ≡ true → to ≡ max h.pair.parent.extents (needed s h.pair)
   unfolding target
-  to_vhd e = sym h.extents ∙ ap (λ c. elim c as (λ _. ℕ) [ true ↦ max h.pair.parent.extents needed | false ↦ h.pair.parent.extents ]) e
+  to_vhd e = sym h.extents ∙ ap (λ c. elim c as (λ _. ℕ) [ true ↦ max h.pair.parent.extents (needed s h.pair) | false ↦ h.pair.parent.extents ]) e
 
   to_raw : is_vhd h.pair.parent.name ≡ false → to ≡ h.pair.parent.extents
   unfolding target
-  to_raw e = sym h.extents ∙ ap (λ c. elim c as (λ _. ℕ) [ true ↦ max h.pair.parent.extents needed | false ↦ h.pair.parent.extents ]) e
+  to_raw e = sym h.extents ∙ ap (λ c. elim c as (λ _. ℕ) [ true ↦ max h.pair.parent.extents (needed s h.pair) | false ↦ h.pair.parent.extents ]) e
+
+  abbrev need_by : Bool → ℕ
+  need_by c = elim c [ true ↦ thick_in s h.pair.child.size | false ↦ blocks_need ]
+
+  -- all blocks of a child that is written to
+  pub to_thick : is_vhd h.pair.parent.name ≡ true → is_written s h.pair.child ≡ true → thick_in s h.pair.child.size ≤ to
+  to_thick vhd written = let is : needed s h.pair ≡ thick_in s h.pair.child.size = ap need_by written in omega (arith, to_vhd vhd, is)
+
+  -- and what is asked of a leaf besides, by its kind, also in a shape with the same attachments and geometry
+  leaf_over : (τ : Shape) → attached_as (image_uuid h.pair.child.name) τ ≡ attached_as (image_uuid h.pair.child.name) s → thick_in τ h.pair.child.size ≡ thick_in s h.pair.child.size
+      → (q : ImageRow) → q.name ≡ h.pair.parent.name → to ≤ q.extents → IsLeafOver τ k h.pair.child q
+  leaf_over τ mode thick q named enough = by k h.there
+    where
+      shown : (b : Bool) → b ≡ false → is_rw (attached_as (image_uuid h.pair.child.name) s) ≡ true → not b && is_rw (attached_as (image_uuid h.pair.child.name) s) ≡ true
+      shown true e rw = absurd (true≢false e)
+      shown false e rw = rw
+
+      by : (c : Kind) → In h.pair (pairs_of c s) → IsLeafOver τ c h.pair.child q
+      by kinds.Hidden there = tt
+      by kinds.Leaf there = (let l = chosen_leaf s h.pair there in (ap is_vhd named ∙ l.parent_vhd, mode ∙ l.free_leaf))
+      by kinds.Live there =
+          let l = chosen_live s h.pair there in (
+            ap is_vhd named ∙ l.parent_vhd,
+            ap is_some mode ∙ l.attached,
+            λ rw. (let all = to_thick l.parent_vhd (shown h.pair.child.hidden l.foldable.shown (sym (ap is_rw mode) ∙ rw)) in omega (arith, all, thick, enough)),
+          )
 
   pub at_least : h.pair.parent.extents ≤ to
   at_least = by (is_vhd parent.name) refl
@@ -171,12 +232,20 @@ module _ (s : Shape) (k : Bool) (v p : Name) (to : ℕ) (x : ∥ IsWellFormed s 
   pub gains_free : to - h.pair.parent.extents ≤ free s
   gains_free = omega (arith, leb-true (target s h.pair - parent.extents) (free s) h.enough, h.extents)
 
-  room : is_vhd h.pair.parent.name ≡ true → needed ≤ to
-  room e = omega (arith, to_vhd e)
+  -- where a parent with extents for all blocks of its child has them for the blocks of both
+  abbrev pub IsRoomyThick : Type 0
+  IsRoomyThick = is_vhd h.pair.parent.name ≡ true → thick_in s h.pair.child.size ≤ to → blocks_need ≤ to
+
+  room : IsRoomyThick → is_vhd h.pair.parent.name ≡ true → blocks_need ≤ to
+  room roomy vhd = by (is_written s h.pair.child) refl
+    where
+      by : (c : Bool) → is_written s h.pair.child ≡ c → blocks_need ≤ to
+      by true e = roomy vhd (to_thick vhd e)
+      by false e = let is : needed s h.pair ≡ blocks_need = ap need_by e in omega (arith, to_vhd vhd, is)
 
   -- no extents are wanting
-  pub can_begin : to ≤ h.pair.parent.extents → CanBegin s k v p
-  can_begin most = subst₂ (CanBegin s k) h.child h.parent (record {
+  pub can_begin : IsRoomyThick → to ≤ h.pair.parent.extents → CanBegin s k v p
+  can_begin roomy most = subst₂ (CanBegin s k) h.child h.parent (record {
     pair = record {
       child = child;
       parent = parent;
@@ -188,11 +257,11 @@ module _ (s : Shape) (k : Bool) (v p : Name) (to : ℕ) (x : ∥ IsWellFormed s 
       linked = foldable.link;
       only = only_child;
       kind = foldable.kind;
-      room = λ e. omega (arith, room e, most);
+      room = λ e. omega (arith, room roomy e, most);
       idle = h.idle;
     };
     shown = foldable.shown;
-    leaf = leaf_parts;
+    leaf = leaf_over s refl refl parent refl most;
   })
 
   -- ---- once it has them
@@ -218,8 +287,8 @@ module _ (s : Shape) (k : Bool) (v p : Name) (to : ℕ) (x : ∥ IsWellFormed s 
   name_key : (y : ImageRow) → (at y).name ≡ y.name
   name_key y = when-key (λ (i : ImageRow). i.name) widen (λ i. refl) (is_image parent.name y) y
 
-  pub can_begin_wide : (j : ℕ) → CanBegin (record s { sequence = j; images = on_image p (λ i. record i { extents = to }) s.images }) k v p
-  can_begin_wide j = subst₂ (λ a b. CanBegin (record s { sequence = j; images = on_image b (λ i. record i { extents = to }) s.images }) k a b) h.child h.parent (record {
+  pub can_begin_wide : IsRoomyThick → (j : ℕ) → CanBegin (record s { sequence = j; images = on_image p (λ i. record i { extents = to }) s.images }) k v p
+  can_begin_wide roomy j = subst₂ (λ a b. CanBegin (record s { sequence = j; images = on_image b (λ i. record i { extents = to }) s.images }) k a b) h.child h.parent (record {
     pair = record {
       child = child;
       parent = widen parent;
@@ -233,11 +302,11 @@ module _ (s : Shape) (k : Bool) (v p : Name) (to : ℕ) (x : ∥ IsWellFormed s 
           let is = only_child y.0 y.1 (sym (ap (λ (z : ImageRow). z.parent) y.2 ∙ parent_key y.0) ∙ e) in
           y.2 ∙ ap at is ∙ child_same);
       kind = foldable.kind;
-      room = room;
+      room = room roomy;
       idle = h.idle;
     };
     shown = foldable.shown;
-    leaf = leaf_parts;
+    leaf = leaf_over (wide j) refl refl (widen parent) refl (omega arith);
   })
 
   -- ---- the shape behind the step
@@ -255,7 +324,7 @@ module _ (s : Shape) (k : Bool) (v p : Name) (to : ℕ) (x : ∥ IsWellFormed s 
   parent_extents = ap (λ (o : Option ImageRow). elim o as (λ _. ℕ) [ None ↦ 0 | Some i ↦ i.extents ]) (∥∥₁_elim x (hlevel props) (λ w. found_row s w parent foldable.parent_there))
 
   abbrev begun : ℕ → Shape
-  begun n = record s { sequence = n; images = enlarged h.pair.child.name h.pair.parent.name to s; op = copy_of k h.pair.child.name h.pair.parent.name 0 }
+  begun n = record s { sequence = n; images = enlarged h.pair.child.name h.pair.parent.name to s; op = copy_of k h.pair.child.name h.pair.parent.name 0 [] }
 
   next_is : next_step s ≡ begins k h.pair.child.name h.pair.parent.name to → shape_next s Gc ≡ begun (risen s.sequence (0 + (growth_commits (nat_lt (extents_of h.pair.parent.name s) to) + 1)))
   next_is e = gc_shape s _ e ∙ begun_of s k h.pair.child.name h.pair.parent.name to (λ n. risen s.sequence (0 + n))
@@ -270,7 +339,7 @@ module _ (s : Shape) (k : Bool) (v p : Name) (to : ℕ) (x : ∥ IsWellFormed s 
   entered_next most e =
       let same : parent.extents ≡ to = omega (arith, most, at_least) in
       sym (ap₂ (λ a b. entered k a b s) h.child h.parent)
-      ∙ ap (λ (is : List ImageRow). let x : Shape = record s { sequence = risen s.sequence 1; images = is; op = copy_of k child.name parent.name 0 } in x) (map_in _ _ s.images (row_same same))
+      ∙ ap (λ (is : List ImageRow). let x : Shape = record s { sequence = risen s.sequence 1; images = is; op = copy_of k child.name parent.name 0 [] } in x) (map_in _ _ s.images (row_same same))
       ∙ ap begun (omega arith)
       ∙ sym (commits_by false (le-ltb parent.extents to most) (named_step e))
     where
@@ -286,7 +355,7 @@ module _ (s : Shape) (k : Bool) (v p : Name) (to : ℕ) (x : ∥ IsWellFormed s 
       → entered k v p (record s { sequence = risen s.sequence 3; images = on_image p (λ i. record i { extents = to }) s.images }) ≡ shape_next s Gc
   entered_next_wide less e =
       sym (ap₂ (λ a b. entered k a b (record s { sequence = risen s.sequence 3; images = on_image b (λ i. record i { extents = to }) s.images })) h.child h.parent)
-      ∙ ap₂ (λ (n : ℕ) (is : List ImageRow). let x : Shape = record s { sequence = n; images = is; op = copy_of k child.name parent.name 0 } in x) (omega arith)
+      ∙ ap₂ (λ (n : ℕ) (is : List ImageRow). let x : Shape = record s { sequence = n; images = is; op = copy_of k child.name parent.name 0 [] } in x) (omega arith)
       (ap (λ n. on_image parent.name (λ i. record i { size = n }) (on_image parent.name widen s.images)) (child_size_wide (risen s.sequence 3) ∙ sym child_size) ∙ twice parent.name (λ i. record i { size = size_of child.name s }) widen (λ y. refl) s.images)
       ∙ sym (commits_by true (lt-ltb parent.extents to less) (named_step e))
 
@@ -359,8 +428,8 @@ module _ (s : Shape) (v p : Name) (x : ∥ IsWellFormed s ∥₁) (h : CanEnter 
       y.2 ∙ ap on is ∙ child_on
 
   -- the images of the operation are there
-  pub works : (k : Bool) → h.child.hidden ≡ k → IsOnlyChild (raised v p s) k v p
-  works k shown = record {
+  pub works : (hidden : Bool) → h.child.hidden ≡ hidden → IsOnlyChild (raised v p s) hidden v p
+  works hidden shown = record {
     link = record {
       child = h.child;
       there = subst (λ x. In x (map on s.images)) child_on (In-map_at on s.images h.child h.child_there);
@@ -397,3 +466,19 @@ module _ (s : Shape) (v p : Name) (x : ∥ IsWellFormed s ∥₁) (h : CanEnter 
       let least = h.room vhd in
       let is = ap₂ (λ x y. thin_in s (max (top x) (count_either x y))) d.0 c.0 in
       omega (arith, least, is, d.1)
+
+  -- and what is known of a leaf besides
+  pub leaf_in : (k : Kind) → h.child.hidden ≡ is_hidden k → IsLeafOver s k h.child h.parent → IsLeafIn (raised v p s) k v p
+  unfolding works
+  leaf_in kinds.Hidden shown l = tt
+  leaf_in kinds.Leaf shown l = (ap is_vhd (sym h.parent_named) ∙ l.0, ap (λ n. attached_as (image_uuid n) s) (sym h.child_named) ∙ l.1)
+  leaf_in kinds.Live shown l =
+      let mode = ap (λ n. attached_as (image_uuid n) s) (sym h.child_named) in (
+        ap is_vhd (sym h.parent_named) ∙ l.0,
+        ap is_some mode ∙ l.1,
+        λ rw q there named.
+            let d = row_of h.parent h.parent_there q there (named ∙ sym h.parent_named) in
+            let size : thick_in s q.size ≡ thick_in s h.child.size = ap (thick_in s) ((works false shown).same_size q there named) in
+            let all = l.2 (sym (ap is_rw mode) ∙ rw) in
+            omega (arith, size, all, d.1),
+      )

@@ -119,7 +119,11 @@ module _ (s : Site) (t : VolumeTable) (m : Known) (v p : Name) (o : IsOrderly s 
 pub safe_ready : {S : Type 0} {g : Ghosts S} {a : S} {m : Memory} → IsTold g a m → LeavesStill (g.site a) (tab g a) (g.area a) (StoreLeaves g a) (disks (store_content g a)) × IsReady (g.site a) (tab g a) (at_rest (reads (g.area a))) (known m)
 safe_ready {g = g} {a} {m} i =
     let safe = ready_safe (g.site a) (tab g a) (g.area a) (known m) (StoreLeaves g a) i.orderly i.ready (λ image is. inr (i.told, i.usable, is)) in (
-      record { kept = safe.kept; shown = safe.shown },
+      record {
+        kept = safe.kept;
+        shown = safe.shown;
+        still = λ image left. record { table = tab g a; image = image; left = inr (i.told, i.usable, record { table_is = refl; sectors = left }); shown = refl };
+      },
       ready_synced (g.site a) (tab g a) (g.area a) (at_rest (reads (g.area a))) (known m) i.ready (keeps_rest (g.area a)) (λ p. refl),
     )
 

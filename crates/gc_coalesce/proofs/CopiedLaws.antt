@@ -14,7 +14,7 @@ use Rattle.common_laws.specs.Lists.{In}
 use Rattle.common_laws.proofs.Lists.{In-map, none_find, numbers-In}
 use Rattle.sm_base.specs.declared.names.Name.{Name}
 use Rattle.sm_base.specs.declared.names.Name.TheVariants.{Vhd}
-use Rattle.sm_base.specs.declared.operations.Op.TheVariants as op
+use Rattle.sm_machine.specs.Operations as op
 use Rattle.sm_disk.specs.Held.{Held, reads}
 use Rattle.vg_meta.specs.Tables.{Row, VolumeTable, rows}
 use Rattle.vg_meta.proofs.RowLaws.{row_of-name}
@@ -120,7 +120,7 @@ image_read s t area m i u o firm w there named =
 
 -- all blocks of the child were copied, so the parent holds all that it holds
 pub all_copied : (s : Site) (t : VolumeTable) (area : Held) (m : Known) (v p : Name) (cursor : ℕ) → IsOrderly s t m → IsFirm s t area m → m.op ≡ op.Copy v p cursor
-    → next_block cursor (table_of v (shape_in s t m)) ≡ None → IsHeldBelow (content_now s t area) v p s.geometry.entries
+    → next_block cursor (table_of v (shape_in s t m)) ≡ None → IsHeldBelow (content_now s t area) v p s.geometry.entries []
 unfolding shape_in
 all_copied s t area m v p cursor o firm is none = record {
   child = below.child;
@@ -128,11 +128,11 @@ all_copied s t area m v p cursor o firm is none = record {
   image = below.image;
   under = below.under;
   size = below.size;
-  held = λ k bytes inside has. ⊎_elim (λ front. below.held k bytes front has)
+  held = λ k bytes inside clean has. ⊎_elim (λ front. below.held k bytes front clean has)
       (λ behind. absurd (∥∥₁_elim o.well_formed (hlevel props) (λ w. past w k bytes inside has behind))) (cases_lt k (cursor * s.geometry.block));
 }
   where
-    below : IsHeldBelow (content_now s t area) v p cursor
+    below : IsHeldBelow (content_now s t area) v p cursor []
     below = subst (IsBelow (content_now s t area)) is firm.below
 
     some : 0 < s.geometry.block

@@ -49,9 +49,9 @@ can_copy g a m {b = b} {i = i} {q = q} h truth = record {
   room = subst (λ n. HasRoomForBlock (g.site a).geometry n b q.image) (sym (row_sectors (g.site a) (tab g a) (known m) h.orderly q (there h))) (block_room h);
 }
 
--- the cursor behind the block is a number of a block
-pub cursor_below : {s : Site} {t : VolumeTable} {m : Known} {v p : Name} {cursor b : ℕ} {i q : TreeRow} → IsToCopy s t m v p cursor b i q → b < 4294967295
-cursor_below {s} {t} {m} {b = b} {i = i} h =
+-- it is a block that an image may have
+pub block_below : {s : Site} {t : VolumeTable} {m : Known} {v p : Name} {cursor b : ℕ} {i q : TreeRow} → IsToCopy s t m v p cursor b i q → b < 1044480
+block_below {s} {t} {m} {b = b} {i = i} h =
     let w = child_head h in
     let k = child_slot h in
     let long = (subst (λ x. StandsIn s.geometry (i.extents * s.geometry.extent) x) w.is (h.orderly.stands i (child_there h))).entries in

@@ -1,12 +1,11 @@
 -- A store while a block is copied: whatever a stop leaves is kept, shows the disks from before, and has the parent masked by the child.
-use Rattle.std.proofs.Common.{◌≡◌, inl, inr, ⊎_elim, ℕ, not, ◌&&◌, Bool, false, List, map, Option, Some, None, refl, sym, ap, ◌∙◌, subst, subst₂}
+use Rattle.std.proofs.Common.{◌≡◌, inl, inr, ⊎_elim, ℕ, not, ◌&&◌, false, List, map, Option, Some, None, refl, sym, ap, ◌∙◌, subst, subst₂}
 use Rattle.std.proofs.Math.Logic.{∥∥₁_elim}
 use Rattle.std.proofs.Props.{props}
 use Rattle.std.proofs.lemmas.Option.{same_Some}
 use Rattle.common_laws.proofs.Lists.{In-map_at}
 use Rattle.sm_base.specs.declared.names.Name.{Name}
-use Rattle.sm_base.specs.declared.operations.Op.{Op}
-use Rattle.sm_base.specs.declared.operations.Plan.TheVariants as plan
+use Rattle.sm_machine.specs.Operations.{Op}
 use Rattle.sm_disk.specs.Held.{Allows, IsSettled, reads}
 use Rattle.vg_meta.specs.Tables.{VolumeTable, rows, extents_of}
 use Rattle.vg_volumes.specs.Sites.{Site, area_size, size_of, volume_of}
@@ -18,7 +17,6 @@ use Rattle.vhd_image.specs.Bodies.{own_of}
 use Rattle.vhd_image.specs.declared.images.Body.{Body}
 use Rattle.vhd_chain.specs.Reading.{own_read}
 use Rattle.vhd_chain.specs.Trees.{row_name, tree_row}
-use Rattle.sm_machine.specs.Collector.{next_step}
 use Rattle.vhd_chain.specs.declared.rows.TreeRow.{TreeRow}
 use Rattle.sm_machine.specs.Disks.{Disk}
 use Rattle.sm_machine.specs.Runs.{HasSector, face}
@@ -43,10 +41,10 @@ use Rattle.sm_ready.proofs.LeftLaws.{IsLeft, image_still, left_in}
 use Rattle.sm_ready.proofs.SyncLaws.{IsSynced, behind_content, behind_sync, synced_failed}
 use Rattle.sm_ready.proofs.TakenLaws.{IsTold}
 use Rattle.gc_coalesce.specs.Blocks.{Copies, IsMaskedBy}
-use Rattle.gc_coalesce.specs.Copying.{IsCopyOf, IsMasked, IsParentMasked, copy_of}
+use Rattle.gc_coalesce.specs.Copying.{IsCopyOf, IsMasked, IsParentMasked, MayCopy}
 use Rattle.gc_coalesce.proofs.CopyKinds.{masked_of}
 use Rattle.gc_coalesce.proofs.CopyLeftLaws.{copy_kept, copy_left}
-use Rattle.gc_coalesce.proofs.CopyPlanLaws.{IsToCopy, child_named, hidden, named, no_child, no_parent, there}
+use Rattle.gc_coalesce.proofs.CopyPlanLaws.{IsToCopy, child_named, hidden, named, no_child, no_parent, there, to_copy_in}
 use Rattle.gc_coalesce.proofs.CopyShownLaws.{IsCopyLeft, disks_copied}
 
 -- ---- contents
@@ -60,8 +58,8 @@ shown_masked c d v p h x y z x_is y_is z_is k = ⊎_elim
 same_masked : (c d : Content) (v p : Name) → image_of d p ≡ image_of c p → IsParentMasked c d v p
 same_masked c d v p same x y z x_is y_is z_is k = inl (ap (λ (w : Image). w.own k) (same_Some z y (sym z_is ∙ same ∙ y_is)))
 
-pub masked_op : (o : Op) (k : Bool) (v p : Name) (cursor : ℕ) (c d : Content) → o ≡ copy_of k v p cursor → IsParentMasked c d v p → IsMasked o c d
-masked_op o k v p cursor c d is masked = subst (λ x. IsMasked x c d) (sym is) (masked_of c d k v p cursor masked)
+pub masked_op : (o : Op) (v p : Name) (c d : Content) → IsCopyOf o v p → IsParentMasked c d v p → IsMasked o c d
+masked_op o v p c d is masked = subst (λ x. IsMasked x c d) (sym is.3) (masked_of c d is.0 v p is.1 is.2 masked)
 
 -- the disks are the machine's
 pub disks_gc : (ds : List Disk) (σ : _) → disks_next ds σ Gc ≡ ds
@@ -86,15 +84,15 @@ module _ {S : Type 0} (g : Ghosts S) {a : S} {m : Memory} {v p : Name} {cursor b
       (image_still (g.site a) (tab g a) (g.area a) (known m) image p h.orderly told.ready.firm (left_in (g.site a) (tab g a) (known m) (g.area a) image h.orderly x.sectors) not_written))
 
 -- and in front of what is taken out of memory
-pub masked_first : {S : Type 0} (g : Ghosts S) (a : S) (m : Memory) (v p : Name) (b : ℕ) → IsCopyOf m.operation v p → next_step (store_shape g a m) ≡ plan.Copy b → IsTold g a m
+pub masked_first : {S : Type 0} (g : Ghosts S) (a : S) (m : Memory) (v p : Name) (b : ℕ) → IsCopyOf m.operation v p → MayCopy m.operation (store_shape g a m) b → IsTold g a m
     → (t : VolumeTable) (image : ℕ → List ℕ) → IsChoiceOf (stored g a) t image → IsMasked m.operation (store_content g a) (content_in (g.site a) t image)
-masked_first g a m v p b is planned told t image x = masked_op m.operation is.0 v p is.1 _ _ is.2 (by (tree_row m.tree.rows v) (tree_row m.tree.rows p) refl refl)
+masked_first g a m v p b is may told t image x = masked_op m.operation v p _ _ is (by (tree_row m.tree.rows v) (tree_row m.tree.rows p) refl refl)
   where
     by : (i q : Option TreeRow) → tree_row m.tree.rows v ≡ i → tree_row m.tree.rows p ≡ q → IsParentMasked (store_content g a) (content_in (g.site a) t image) v p
     by None q child parent = absurd (no_child told.orderly v p is child)
     by (Some i) None child parent = absurd (no_parent told.orderly v p is parent)
     by (Some i) (Some q) child parent =
-        let h : IsToCopy (g.site a) (tab g a) (known m) v p is.1 b i q = record { orderly = told.orderly; kind = is.0; op = is.2; planned = planned; child = child; parent = parent } in
+        let h : IsToCopy (g.site a) (tab g a) (known m) v p is.1 b i q = to_copy_in told.orderly v p is may child parent in
         masked_before g h told t image x
 
 -- what a sync leaves, was left before it
@@ -154,7 +152,7 @@ module _ {S : Type 0} (g : Ghosts S) {b d : S} {m : Memory} {v p : Name} {cursor
   pub masked_since : {a : S} → IsTold g a m → IsSynced g a b → (w : VolumeTable) (image : ℕ → List ℕ) → IsChoiceOf (stored g d) w image
       → IsMasked m.operation (store_content g a) (content_in (g.site a) w image)
   masked_since {a} first y w image x =
-      masked_op m.operation h.kind v p cursor _ _ h.op
+      masked_op m.operation v p _ _ (h.kind, cursor, h.dirty, h.op)
       (subst₂ (λ c z. IsParentMasked c (content_in z w image) v p) (behind_content first y) y.site (masked_at w image x))
 
   module _ (later : (w : VolumeTable) (image : ℕ → List ℕ) → g.leaves d w image → IsChoiceOf (stored g d) w image) where

@@ -55,7 +55,7 @@ use Rattle.sm_ready.proofs.StopLaws.{image_by_sectors, name_or_not}
 use Rattle.sm_ready.proofs.TruthLaws.{row_found}
 use Rattle.gc_coalesce.specs.Blocks.{IsMaskedBy}
 use Rattle.gc_coalesce.proofs.CopyKinds.{no_relink}
-use Rattle.gc_coalesce.proofs.CopyNowLaws.{IsNow, row_now}
+use Rattle.sm_ready.proofs.NowLaws.{IsNow, row_now}
 use Rattle.gc_coalesce.proofs.CopyPlanLaws.{IsToCopy, child_named, child_there, hidden, named, only, same_size, there}
 use Rattle.gc_coalesce.proofs.CopyShownLaws.{IsCopyLeft}
 
@@ -253,5 +253,5 @@ module _ {s : Site} {t : VolumeTable} {m : Known} {v p : Name} {cursor b : ℕ} 
           holding = λ u x is. ⊎_elim
               (λ same. subst (IsHolding s.geometry.block) (same_Some parent_left.now x (sym parent_left.after ∙ ap (image_of (content_in s t image)) (sym same) ∙ is)) (parent_left.holding u same))
               (λ other. kept.holding u x (sym (image_other (Vhd u) other) ∙ is)) (name_or_not (Vhd u) p);
-          linking = λ child parent r x y n entry child_is linked under. absurd (no_relink h.kind v p cursor (sym h.op ∙ (entry_relink s t m child parent r h.orderly entry).is));
+          linking = λ child parent r x y n entry child_is linked under. absurd (no_relink h.kind v p cursor h.dirty (sym h.op ∙ (entry_relink s t m child parent r h.orderly entry).is));
         }

@@ -9,7 +9,7 @@ use Rattle.common_laws.specs.Lists.{In, when}
 use Rattle.common_laws.proofs.Lists.{In-map, In-map_at}
 use Rattle.sm_base.specs.Numbers.{div_up, first, thin}
 use Rattle.sm_base.specs.declared.names.Name.{Name}
-use Rattle.sm_base.specs.declared.operations.Op.{Op}
+use Rattle.sm_machine.specs.Operations.{Op}
 use Rattle.sm_base.specs.declared.sizes.Geometry.{Geometry}
 use Rattle.sm_base.proofs.NumberLemmas.{div_up-le, le-div_up}
 use Rattle.vg_meta.specs.Tables.{VolumeTable}
@@ -23,14 +23,19 @@ use Rattle.vhd_image.specs.declared.images.Body.TheVariants as body
 use Rattle.vhd_chain.specs.Reading.{slots_of}
 use Rattle.vhd_chain.specs.Trees.{row_name, tree_row, with_replaced}
 use Rattle.vhd_chain.specs.declared.rows.TreeRow.{TreeRow}
-use Rattle.sm_machine.specs.Collector.{collected, copied, count_either, given_block, with_block}
+use Rattle.sm_machine.specs.Collector.{collected, copied, count_either, given_block, next_step, with_block}
+use Rattle.sm_base.specs.declared.operations.Plan.TheVariants as plan
 use Rattle.sm_machine.specs.Commits.{gives_up, is_given_up, own_commits, plan_commits}
-use Rattle.sm_machine.specs.Shapes.{DiskRecord, ImageRow, Shape, image_uuid, is_image, is_image_of, is_vhd, mode_in, on_image, refs, same_image, thin_in, top}
+use Rattle.sm_machine.specs.Operations.{advanced}
+use Rattle.sm_machine.specs.Operations as op
+use Rattle.sm_machine.specs.Shapes.{DiskRecord, ImageRow, Shape, image_uuid, is_image, is_image_of, is_vhd, on_image, refs, same_image, thin_in, top}
 use Rattle.sm_machine.specs.Steps.{shape_after, shape_next}
 use Rattle.sm_machine.specs.WellFormed.{IsOnlyChild, IsOperation, IsWellFormed, is_image_name}
 use Rattle.sm_machine.specs.declared.commands.Command.TheVariants.{Gc}
-use Rattle.sm_machine.proofs.Collects.{block_key, copied_shape, copy_keeps, copy_only, operation_changes}
+use Rattle.sm_machine.proofs.Collects.{block_key, block_table, copied_shape, copy_extents, copy_keeps, copy_links, copy_marks, copy_names, copy_sizes, on_copy, operation_changes}
 use Rattle.sm_machine.proofs.ImageNames.{other_image, same_image-refl}
+use Rattle.sm_machine.proofs.Lives.{there_given, there_when}
+use Rattle.sm_machine.proofs.Mapped.{operation_mapped}
 use Rattle.sm_machine.proofs.Uses.{changed_uses}
 use Rattle.sm_ready.specs.Known.{Known, entry_of, is_shown, machine_row, records_in, shape_in}
 use Rattle.sm_ready.specs.Orderly.{IsOrderly, IsRoomyFor, IsRoomyIn}
@@ -44,9 +49,11 @@ use Rattle.sm_ready.proofs.PutBackLaws.{any_replaced, face_replaced, map_replace
 use Rattle.sm_ready.proofs.ShapeLaws.{shown_same}
 use Rattle.sm_ready.proofs.TruthLaws.{row_found}
 use Rattle.vhd_image.specs.Written.{HasRoomForBlock, MayHaveSlot, with_slot}
-use Rattle.gc_coalesce.proofs.CopyPlanLaws.{IsToCopy, apart, child_named, child_there, child_vhd, copies_only, copy_runs, has_slot, named, there}
-use Rattle.gc_coalesce.specs.Copying.{advanced, copy_of}
-use Rattle.gc_coalesce.proofs.CopyKinds.{advanced_is, copied_of, its_entry, leaf_of, roomy_in, roomy_of, runs}
+use Rattle.gc_coalesce.proofs.CopyPlanLaws.{IsToCopy, apart, child_named, child_there, child_vhd, copy_runs, has_slot, its_slots, named, there}
+use Rattle.gc_coalesce.specs.Copying.{copy_of}
+use Rattle.gc_coalesce.specs.declared.kinds.Kind.{Kind}
+use Rattle.gc_coalesce.specs.declared.kinds.Kind.TheVariants as kinds
+use Rattle.gc_coalesce.proofs.CopyKinds.{IsWithin, copied_of, its_entry, roomy_in, roomy_of, runs_next}
 use Rattle.gc_coalesce.proofs.CopyRoomLaws.{room_of, slot_either, slot_top}
 
 -- the row with this image
@@ -83,6 +90,43 @@ thin_more g few many less =
     let one = le-div_up (first g.entries + many * (1 + g.block) + 1) g.extent (omega (arith, some)) in
     let two = mul-le few (1 + g.block) many (1 + g.block) less (omega arith) in
     div_up-le (first g.entries + few * (1 + g.block) + 1) g.extent (div_up (first g.entries + many * (1 + g.block) + 1) g.extent) (omega (arith, some)) (omega (arith, one, two))
+
+-- ---- the same images under another operation
+
+only_still : (σ : Shape) (o : Op) (hidden : Bool) (v p : Name) → IsOnlyChild σ hidden v p → IsOnlyChild (record σ { op = o }) hidden v p
+only_still σ o hidden v p c = record {
+  link = record { child = c.link.child; there = c.link.there; is_named = c.link.is_named; is_shown = c.link.is_shown; vhd = c.link.vhd; linked = c.link.linked };
+  only = c.only;
+  same_size = c.same_size;
+}
+
+pub runs_still : (σ : Shape) (k : Kind) (v p : Name) (cursor : ℕ) (dirty : List ℕ) (o : Op) → IsOperation σ (copy_of k v p cursor dirty) → IsOperation (record σ { op = o }) (copy_of k v p cursor dirty)
+unfolding only_still
+runs_still σ kinds.Hidden v p cursor dirty o h = only_still σ o true v p h
+runs_still σ kinds.Leaf v p cursor dirty o h = (only_still σ o false v p h.0, h.1, h.2)
+runs_still σ kinds.Live v p cursor dirty o h = record {
+  only = only_still σ o false v p h.only;
+  parent_vhd = h.parent_vhd;
+  attached = h.attached;
+  thick = h.thick;
+  within = h.within;
+  blocks = h.blocks;
+}
+
+-- a copy makes no commit
+same_number : (σ : Shape) (o : Op) (b : ℕ) → record (copied o b σ) { sequence = σ.sequence } ≡ copied o b σ
+unfolding copied
+same_number σ op.Idle b = refl
+same_number σ (op.Copy v p cursor) b = refl
+same_number σ (op.Relink v p) b = refl
+same_number σ (op.Leaf l p cursor) b = refl
+same_number σ (op.Live l p cursor dirty) b = refl
+
+-- a planned block is copied by the collector's step
+pub copied_next : (σ : Shape) (b : ℕ) → ∥ IsWellFormed σ ∥₁ → next_step σ ≡ plan.Copy b → copied σ.op b σ ≡ shape_next σ Gc
+unfolding shape_after own_commits plan_commits is_given_up gives_up collected
+copied_next σ b x planned = ∥∥₁_elim x (hlevel props) (λ w.
+    sym (next_shape σ Gc w refl (ap (plan_commits σ) planned) ∙ ap (λ y. record (collected y σ) { sequence = σ.sequence }) planned ∙ same_number σ σ.op b))
 
 module _ {s : Site} {t : VolumeTable} {m : Known} {v p : Name} {cursor b : ℕ} {i q : TreeRow} (h : IsToCopy s t m v p cursor b i q) where
   abbrev σ : Shape
@@ -133,21 +177,21 @@ module _ {s : Site} {t : VolumeTable} {m : Known} {v p : Name} {cursor b : ℕ} 
     tidy_behind tidy = record { none_new = tidy.none_new; no_stray = λ r j. shown_behind r.uuid ∙ tidy.no_stray r j }
 
   -- it is the machine's where the parent got the slot
-  pub shape_copied : (d : Body) → d ≡ with_slot b q.image → shape_in s t (behind d q b m) ≡ shape_next σ Gc
-  unfolding shape_in shape_after own_commits plan_commits is_given_up gives_up collected
-  shape_copied d is = ∥∥₁_elim h.orderly.well_formed (hlevel props) (λ w.
+  pub shape_given : (d : Body) → d ≡ with_slot b q.image → shape_in s t (behind d q b m) ≡ copied m.op b (shape_in s t m)
+  unfolding shape_in
+  shape_given d is =
       shape_behind d (given_block b) (ap volume_name is ∙ slot_name b q.image) (ap (λ x. machine_row (with_image x q)) is ∙ row_copied)
-      ∙ sym (next_shape σ Gc w refl (ap (plan_commits σ) h.planned) ∙ ap (λ x. record (collected x σ) { sequence = σ.sequence }) h.planned ∙ step))
-    where
-      step : record (copied σ.op b σ) { sequence = σ.sequence } ≡ record σ { images = on_image p (given_block b) σ.images; op = advanced b σ.op }
-      step = subst (λ o. record (copied o b σ) { sequence = σ.sequence } ≡ record σ { images = on_image p (given_block b) σ.images; op = advanced b o }) (sym h.op)
-          (copied_of σ h.kind v p cursor b σ.sequence)
+      ∙ sym (subst (λ o. copied o b σ ≡ record σ { images = on_image p (given_block b) σ.images; op = advanced b o }) (sym h.op) (copied_of σ h.kind v p cursor b h.dirty))
+
+  pub shape_copied : next_step (shape_in s t m) ≡ plan.Copy b → (d : Body) → d ≡ with_slot b q.image → shape_in s t (behind d q b m) ≡ shape_next (shape_in s t m) Gc
+  unfolding shape_in
+  shape_copied planned d is = shape_given d is ∙ copied_next (shape_in s t m) b h.orderly.well_formed planned
 
   -- ---- memory is orderly
 
   room_in : IsRoomyFor σ v p
   unfolding shape_in
-  room_in = roomy_of (shape_in s t m) h.kind v p cursor (subst (IsRoomyIn (shape_in s t m)) h.op h.orderly.roomy)
+  room_in = roomy_of (shape_in s t m) h.kind v p cursor h.dirty (subst (IsRoomyIn (shape_in s t m)) h.op h.orderly.roomy)
 
   same_images : (xs : List ImageRow) → on_image p (λ y. y) xs ≡ xs
   same_images [] = refl
@@ -156,14 +200,6 @@ module _ {s : Site} {t : VolumeTable} {m : Known} {v p : Name} {cursor b : ℕ} 
       by : (c : Bool) → when c (λ y. y) x ≡ x
       by true = refl
       by false = refl
-
-  only_behind : (o : Op) (k : Bool) → IsOnlyChild σ k v p → IsOnlyChild (record (shape_in s t m) { op = o }) k v p
-  unfolding shape_in
-  only_behind o k c = record {
-    link = record { child = c.link.child; there = c.link.there; is_named = c.link.is_named; is_shown = c.link.is_shown; vhd = c.link.vhd; linked = c.link.linked };
-    only = c.only;
-    same_size = c.same_size;
-  }
 
   module _ (d : Body) (may : MayHaveSlot b q.image d) where
     abbrev o' : Op
@@ -180,24 +216,28 @@ module _ {s : Site} {t : VolumeTable} {m : Known} {v p : Name} {cursor b : ℕ} 
     still_is is = shape_behind d (λ y. y) name (ap (λ x. machine_row (with_image x q)) is)
         ∙ ap (λ (xs : List ImageRow). record (shape_in s t m) { images = xs; op = advanced b m.op }) (same_images σ.images)
 
-    slot_is : d ≡ with_slot b q.image → shape_in s t (behind d q b m) ≡ record (shape_in s t m) { images = on_image p (given_block b) (shape_in s t m).images; op = advanced b m.op }
+    pub slot_is : d ≡ with_slot b q.image → shape_in s t (behind d q b m) ≡ record (shape_in s t m) { images = on_image p (given_block b) (shape_in s t m).images; op = advanced b m.op }
     slot_is is = shape_behind d (given_block b) name (ap (λ x. machine_row (with_image x q)) is ∙ row_copied)
 
-    goes_on : advanced b m.op ≡ copy_of h.kind v p (b + 1)
-    goes_on = ap (advanced b) h.op ∙ advanced_is h.kind v p cursor b
+    goes_on : advanced b m.op ≡ copy_of h.kind v p h.next.cursor_then h.next.dirty_then
+    goes_on = ap (advanced b) h.op ∙ h.next.goes
 
-    -- the operation goes on in a shape with its images and attachments
-    runs_on : IsWellFormed σ → (τ : Op → Shape) → ((o : Op) → IsOnlyChild σ h.kind v p → IsOnlyChild (τ o) h.kind v p) → ((o : Op) → (τ o).attached ≡ σ.attached) → IsOperation (τ (advanced b m.op)) (advanced b m.op)
-    runs_on w τ only attached =
-        let o = copy_of h.kind v p (b + 1) in
-        subst (λ x. IsOperation (τ x) x) (sym goes_on)
-        (runs (τ o) h.kind v p (b + 1) (only o (copies_only h w)) (λ is. (let l = leaf_of σ h.kind v p cursor (copy_runs h w) is in
-        (l.0, ap (mode_in (image_uuid v)) (attached o) ∙ l.1))))
+    -- the operation goes on among its images
+    runs_then : IsWellFormed (shape_in s t m) → IsOperation (shape_in s t m) (copy_of h.kind v p h.next.cursor_then h.next.dirty_then)
+    unfolding shape_in
+    runs_then w = runs_next σ h.kind v p cursor h.next.cursor_then h.dirty h.next.dirty_then (copy_runs h w)
+        (subst (IsWithin h.kind h.next.cursor_then h.next.dirty_then) (sym (its_slots h w)) h.next.within)
+
+    -- also where the parent has the block
+    runs_given : (w : IsWellFormed (shape_in s t m)) → IsOperation (copied_shape (shape_in s t m) w p b o') (copy_of h.kind v p h.next.cursor_then h.next.dirty_then)
+    runs_given w = operation_mapped σ w (on_copy σ w p b) (copy_names σ w p b) (copy_marks σ w p b) (copy_links σ w p b) σ.attached o' refl (λ y k. copy_sizes σ w p b y)
+        (λ y k hidden. subst (λ n. y.extents ≤ n) (sym (copy_extents σ w p b y)) (omega arith)) (block_table σ w p b)
+        (λ y c e. there_when c (is_image p y) (given_block b) y (λ z f. there_given b c z f) e) (copy_of h.kind v p h.next.cursor_then h.next.dirty_then) (runs_then w)
 
     well : IsWellFormed σ → IsWellFormed (shape_in s t (behind d q b m))
     well w = ⊎_elim
-        (λ is. subst IsWellFormed (sym (still_is is)) (operation_changes σ w o' (runs_on w (λ o. record (shape_in s t m) { op = o }) (λ o. only_behind o h.kind) (λ o. refl))))
-        (λ is. subst IsWellFormed (sym (slot_is is)) (copy_keeps σ w p b o' (runs_on w (copied_shape σ w p b) (λ o. copy_only σ w p b o h.kind v) (λ o. refl)))) may
+        (λ is. subst IsWellFormed (sym (still_is is)) (operation_changes σ w o' (subst (IsOperation (record (shape_in s t m) { op = o' })) (sym goes_on) (runs_still σ h.kind v p h.next.cursor_then h.next.dirty_then o' (runs_then w)))))
+        (λ is. subst IsWellFormed (sym (slot_is is)) (copy_keeps σ w p b o' (subst (IsOperation (copied_shape σ w p b o')) (sym goes_on) (runs_given w)))) may
 
     uses : IsWellFormed σ → (n : Name) → refs n (shape_in s t (behind d q b m)) ≡ refs n σ
     unfolding refs
@@ -269,11 +309,11 @@ module _ {s : Site} {t : VolumeTable} {m : Known} {v p : Name} {cursor b : ℕ} 
           new_named = o.new_named;
           images = λ n is. o.images n is ∙ sym (face_replaced s t m o q (with_image d q) (there h) name refl refl n);
           places = o.places;
-          entries = o.entries ∙ ap entry_of h.op ∙ its_entry h.kind v p cursor ∙ sym (ap entry_of goes_on ∙ its_entry h.kind v p (b + 1));
+          entries = o.entries ∙ ap entry_of h.op ∙ its_entry h.kind v p cursor h.dirty ∙ sym (ap entry_of goes_on ∙ its_entry h.kind v p h.next.cursor_then h.next.dirty_then);
           stands = λ x j. ⊎_elim (λ old. o.stands x old.0) (λ new. subst (λ (y : TreeRow). StandsIn s.geometry (y.extents * s.geometry.extent) y.image) (sym new) stands) (rows_behind x j);
           well_formed = ∥∥₁_map o.well_formed well;
           roomy = subst (IsRoomyIn (shape_in s t (behind d q b m))) (sym goes_on)
-              (roomy_in (shape_in s t (behind d q b m)) h.kind v p (b + 1) (roomy_behind room_in));
+              (roomy_in (shape_in s t (behind d q b m)) h.kind v p h.next.cursor_then h.next.dirty_then (roomy_behind room_in));
           counts = λ n. o.counts n ∙ sym (∥∥₁_elim o.well_formed (hlevel props) (λ w. uses w n));
         }
 

@@ -1,9 +1,9 @@
 -- Once a block was copied and all lasts, the store is ready with the cursor behind the block, and the shape is the machine's.
-use Rattle.std.proofs.Common.{◌≡◌, ◌≢◌, ⊎_elim, ℕ, ◌+◌, ◌*◌, ◌/◌, ◌<◌, ◌≤◌, List, length, Option, Some, None, refl, sym, ap, ap₂, ◌∙◌, subst, subst₂, arith}
+use Rattle.std.proofs.Common.{◌≡◌, ◌≢◌, inl, inr, ⊎_elim, ℕ, ◌+◌, ◌*◌, ◌/◌, ◌<◌, ◌≤◌, List, length, Option, Some, None, refl, sym, ap, ap₂, ◌∙◌, subst, subst₂, arith}
 use Rattle.std.proofs.Math.Path.{fun_ext}
 use Rattle.std.specs.List.{slice_get}
 use Rattle.std.proofs.lemmas.Bool.{cases_lt}
-use Rattle.std.proofs.lemmas.Nat.{div-mul-add, div_below, le-div, mul-le}
+use Rattle.std.proofs.lemmas.Nat.{div-mul-add, le-div, mul-le}
 use Rattle.std.proofs.lemmas.Option.{none-some, same_Some, slice_get-get_or}
 use Rattle.common_laws.specs.Lists.{In, when}
 use Rattle.common_laws.proofs.Lists.{In-map_at}
@@ -33,7 +33,9 @@ use Rattle.vhd_image.proofs.ContentLaws.{is-layout, own-no_slot}
 use Rattle.vhd_chain.specs.Reading.{own_read, slots_of}
 use Rattle.vhd_chain.specs.Trees.{has_name, row_name, with_replaced}
 use Rattle.vhd_chain.specs.declared.rows.TreeRow.{TreeRow}
-use Rattle.sm_machine.specs.Shapes.{image_uuid}
+use Rattle.std.proofs.Math.Nat.{div-mul-le_self}
+use Rattle.sm_machine.specs.Operations.{advanced}
+use Rattle.sm_machine.specs.Shapes.{image_uuid, slot_at}
 use Rattle.sm_mgt.specs.Places.{records_held}
 use Rattle.sm_standing.specs.Images.{Image, image_of}
 use Rattle.sm_standing.specs.Standing.{disks}
@@ -44,6 +46,7 @@ use Rattle.sm_ready.specs.Ready.{IsBelow, IsHeldBelow, IsReady}
 use Rattle.sm_ready.specs.Stores.{StoreLeaves, content_now, store_content}
 use Rattle.sm_ready.specs.declared.memory.Memory.{Memory}
 use Rattle.sm_ready.proofs.ChainLaws.{tab}
+use Rattle.sm_ready.proofs.HeldLaws.{held_copied}
 use Rattle.sm_ready.proofs.KeptLaws.{law_kept, vhd_named}
 use Rattle.sm_ready.proofs.LeftLaws.{IsLeft, left_in, left_now, now_sector, ready_places}
 use Rattle.sm_ready.proofs.Orders.{HasHead, geometry_of, vhd_row}
@@ -55,14 +58,14 @@ use Rattle.sm_ready.proofs.TakenLaws.{IsTold}
 use Rattle.sm_ready.proofs.TruthLaws.{row_sectors}
 use Rattle.vhd_image.specs.Written.{MayHaveSlot, with_slot}
 use Rattle.gc_coalesce.specs.Blocks.{Copies, HasCopied, IsMaskedBy, own_held}
-use Rattle.gc_coalesce.specs.Copying.{advanced}
+use Rattle.gc_coalesce.specs.Copying.{dirty_of}
 use Rattle.gc_coalesce.proofs.CopyBlockLaws.{add_one, grown_count, own_grown}
 use Rattle.gc_coalesce.proofs.CopyCrashLaws.{crash_synced, keeps_parent, left_copied, masked_parent}
-use Rattle.gc_coalesce.proofs.CopyKinds.{advanced_is, below_in, below_of}
+use Rattle.gc_coalesce.proofs.CopyKinds.{below_in, below_of}
 use Rattle.gc_coalesce.proofs.CopyLeftLaws.{child_now, kept_other, not_records, parent_now}
 use Rattle.gc_coalesce.proofs.CopyMemoryLaws.{behind, may_name, orderly_behind, rows_behind, with_image}
-use Rattle.gc_coalesce.proofs.CopyNowLaws.{IsNow, row_now}
-use Rattle.gc_coalesce.proofs.CopyPlanLaws.{IsToCopy, apart, child_named, child_there, child_vhd, has_slot, named, none_between, same_size, there}
+use Rattle.sm_ready.proofs.NowLaws.{IsNow, row_now}
+use Rattle.gc_coalesce.proofs.CopyPlanLaws.{IsToCopy, apart, child_named, child_there, child_vhd, has_slot, named, same_size, there}
 use Rattle.gc_coalesce.proofs.CopyShownLaws.{disks_copied}
 
 -- ---- the block lies within the images
@@ -181,41 +184,57 @@ module _ {S : Type 0} (g : Ghosts S) {b d : S} (e : S) (m : Memory) {v p : Name}
         ∙ ap (λ (x : Sectors). own_of s.geometry (size_of s t p) q.image x k) (sym (fun_ext kept_parent.reads))
         ∙ sym (own_grown s.geometry (size_of s t p) q.image new (reads (volume_of s t (g.area e) p)) k copies.grown) ∙ sym (parent_end.own k)
 
-    -- ---- the parent holds alike what the child holds below the cursor
-
-    abbrev wb : ℕ
-    wb = (g.site b).geometry.block
+    -- ---- the parent holds alike what the child holds in the blocks that are settled
 
     some_block : 0 < (g.site b).geometry.block
     some_block = let least = (g.site b).geometry.in_range.block_least in omega (arith, least)
 
-    -- blocks between the cursor and the block are not held
-    none_held : (k : ℕ) → cursor * (g.site b).geometry.block ≤ k → k < blk * (g.site b).geometry.block → child_b.image.own k ≡ None
-    none_held k low below =
+    -- nothing is held of a block that has no slot
+    none_held : (k : ℕ) → k / (g.site b).geometry.block < blk → slot_at (slots_of i.image) (k / (g.site b).geometry.block) ≡ None → child_b.image.own k ≡ None
+    none_held k below free =
         let w = child_head h in
         let steady = subst (λ x. IsSteady s.geometry (i.extents * s.geometry.extent) (volume_of s t (g.area b) (row_name i)) x) w.is (told.ready.firm.images i (child_there h)) in
         let long : size_of s t v ≡ i.extents * s.geometry.extent = ap (size_of s t) (sym (child_named h)) ∙ row_sectors s t (known m) h.orderly i (child_there h) in
         let count = ap sector_count w.is in
         let empty : slot_of w.slots (k / (g.site b).geometry.block) ≡ None =
         sym (ap (λ x. slot_of (slots_of x) (k / (g.site b).geometry.block)) w.is)
-        ∙ none_between h (k / (g.site b).geometry.block) (le-div cursor k (g.site b).geometry.block some_block low) (div_below k (g.site b).geometry.block blk some_block below) in
+        ∙ free in
+        let before : k < blk * (g.site b).geometry.block = ⊎_elim (λ low. low) (λ past. absurd (let z = le-div blk k (g.site b).geometry.block some_block past in omega (arith, z, below))) (cases_lt k (blk * (g.site b).geometry.block)) in
         child_b.own k
         ∙ ap₂ (λ n x. own_of s.geometry n x (reads (volume_of s t (g.area b) v)) k) long w.is
         ∙ ap (λ n. own_of s.geometry (i.extents * s.geometry.extent) (body.Vhd w.head w.slots) (reads (volume_of s t (g.area b) n)) k) (sym (child_named h))
         ∙ own-no_slot (layout_in s.geometry w.head.footer (i.extents * s.geometry.extent)) (reads (volume_of s t (g.area b) (row_name i))) w.head.footer w.head.header (slot_of w.slots) k
-        (is-layout s.geometry w.head.footer (i.extents * s.geometry.extent) (geometry_of s t (known m) h.orderly)) steady.is_true.now (let within = block_within h in omega (arith, within, below, count)) empty
+        (is-layout s.geometry w.head.footer (i.extents * s.geometry.extent) (geometry_of s t (known m) h.orderly)) steady.is_true.now (let within = block_within h in omega (arith, within, before, count)) empty
 
-    held_below : (k : ℕ) (bytes : List ℕ) → k < (blk + 1) * (g.site b).geometry.block → child_b.image.own k ≡ Some bytes → parent_end.image.own k ≡ Some bytes
-    held_below k bytes below has = ⊎_elim
-        (λ early. ⊎_elim
-        (λ old.
-        let was : IsHeldBelow (content_now s t (g.area b)) v p cursor = below_of (content_now s t (g.area b)) h.kind v p cursor (subst (IsBelow (content_now s t (g.area b))) h.op told.ready.firm.below) in
-        let child_is : was.child ≡ child_b.image = same_Some was.child child_b.image (sym was.image ∙ child_b.there) in
-        let parent_is : was.parent ≡ parent_b.image = same_Some was.parent parent_b.image (sym was.under ∙ parent_b.there) in
-        sym (held_d k) ∙ done.kept told.told k bytes (child_read k ∙ has)
-        (held_b k ∙ ap (λ (z : Image). z.own k) (sym parent_is) ∙ was.held k bytes old (ap (λ (z : Image). z.own k) child_is ∙ has)))
-        (λ between. absurd (none-some bytes (sym (none_held k between early) ∙ has))) (cases_lt k (cursor * (g.site b).geometry.block)))
-        (λ here. sym (held_d k) ∙ done.copied told.told k bytes here (let e = add_one blk (g.site b).geometry.block in omega (arith, below, e)) (child_read k ∙ has)) (cases_lt k (blk * (g.site b).geometry.block))
+    was_below : IsHeldBelow (content_now s t (g.area b)) v p cursor (dirty_of h.kind h.dirty)
+    was_below = below_of (content_now s t (g.area b)) h.kind v p cursor h.dirty (subst (IsBelow (content_now s t (g.area b))) h.op told.ready.firm.below)
+
+    child_is : was_below.child ≡ child_b.image
+    child_is = same_Some was_below.child child_b.image (sym was_below.image ∙ child_b.there)
+
+    parent_is : was_below.parent ≡ parent_b.image
+    parent_is = same_Some was_below.parent parent_b.image (sym was_below.under ∙ parent_b.there)
+
+    was_own : (k : ℕ) (bytes : List ℕ) → was_below.child.own k ≡ Some bytes → own_read (stored g b) i.image k ≡ Some bytes
+    was_own k bytes has = child_read k ∙ ap (λ (z : Image). z.own k) (sym child_is) ∙ has
+
+    held_below : IsHeldBelow (content_now s t (g.area e)) v p h.next.cursor_then (dirty_of h.kind h.next.dirty_then)
+    held_below = held_copied (content_now s t (g.area b)) (content_now s t (g.area e)) v p cursor h.next.cursor_then (dirty_of h.kind h.dirty) (dirty_of h.kind h.next.dirty_then) blk some_block (record {
+      block = refl;
+      child_same = image_end v (apart h);
+      was = was_below;
+      now = parent_end.image;
+      there = parent_end.there;
+      size = parent_end.size ∙ grown_count q.image new copies.grown ∙ sym (ap (λ (z : Image). z.size) parent_is ∙ parent_b.size);
+      copied = λ k bytes here has.
+          let low : blk * (g.site b).geometry.block ≤ k = subst (λ x. x * (g.site b).geometry.block ≤ k) here (div-mul-le_self k (g.site b).geometry.block) in
+          let high : k < (blk + 1) * (g.site b).geometry.block = ⊎_elim (λ less. less) (λ past. absurd (let z = le-div (blk + 1) k (g.site b).geometry.block some_block past in omega (arith, z, here))) (cases_lt k ((blk + 1) * (g.site b).geometry.block)) in
+          sym (held_d k) ∙ done.copied told.told k bytes low (let x = add_one blk (g.site b).geometry.block in omega (arith, high, x)) (was_own k bytes has);
+      kept = λ k bytes has had. sym (held_d k) ∙ done.kept told.told k bytes (was_own k bytes has) (held_b k ∙ ap (λ (z : Image). z.own k) (sym parent_is) ∙ had);
+      rest = λ x below clean. ⊎_elim (λ here. inl here)
+          (λ other. ⊎_elim (λ old. inr (inl old))
+          (λ free. inr (inr (λ k at. ap (λ (z : Image). z.own k) child_is ∙ none_held k (omega (arith, at, free.0)) (ap (slot_at (slots_of i.image)) at ∙ free.1)))) other) (h.next.rest x below clean);
+    })
 
     -- ---- the store is ready
 
@@ -228,14 +247,7 @@ module _ {S : Type 0} (g : Ghosts S) {b d : S} (e : S) (m : Memory) {v p : Name}
             (λ is. subst (λ (x : TreeRow). IsSteady s.geometry (x.extents * s.geometry.extent) (volume_of s t (g.area e) (row_name x)) x.image) (sym is)
             (subst (λ n. IsSteady s.geometry wide (volume_of s t (g.area e) n) new) (sym next_name) steady_new)) (rows_behind h new done.slot r j);
         quiet = λ r j _. all_quiet s t (g.area e) last (row_name r);
-        below = subst (IsBelow (content_now s t (g.area e))) (sym (ap (advanced blk) h.op ∙ advanced_is h.kind v p cursor blk)) (below_in (content_now s t (g.area e)) h.kind v p (blk + 1) (record {
-          child = child_b.image;
-          parent = parent_end.image;
-          image = image_end v (apart h) ∙ child_b.there;
-          under = parent_end.there;
-          size = parent_end.size ∙ grown_count q.image new copies.grown ∙ same_size h ∙ sym child_b.size;
-          held = held_below;
-        }));
+        below = subst (IsBelow (content_now s t (g.area e))) (sym (ap (advanced blk) h.op ∙ h.next.goes)) (below_in (content_now s t (g.area e)) h.kind v p h.next.cursor_then h.next.dirty_then held_below);
       };
       records = agrees_keeps (records_held s t (g.area b)) (records_held s t (g.area e)) m.records
           (kept_all Mgt (not_records h (g.area b) (g.area d) told.ready settled (keeps_parent g h new copies told settled))) told.ready.records;

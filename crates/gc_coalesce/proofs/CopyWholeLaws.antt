@@ -1,5 +1,5 @@
 -- A block that is copied, from the first sync on: what each of its ends leaves.
-use Rattle.std.proofs.Common.{◌≡◌, ℕ, ◌*◌, inl, List, false, refl, sym, ap, ap₂, ◌∙◌, subst, subst₂}
+use Rattle.std.proofs.Common.{◌≡◌, ℕ, ◌*◌, inl, List, true, false, refl, sym, ap, ap₂, ◌∙◌, subst, subst₂}
 use Rattle.sm_base.specs.declared.names.Name.{Name}
 use Rattle.sm_disk.specs.Held.{IsSettled, Keeps}
 use Rattle.vg_meta.specs.Tables.{VolumeTable}
@@ -8,9 +8,12 @@ use Rattle.vg_volumes.specs.declared.stores.Store.{Ghosts}
 use Rattle.vhd_image.specs.declared.images.Body.{Body}
 use Rattle.vhd_chain.specs.Trees.{with_replaced}
 use Rattle.vhd_chain.specs.declared.rows.TreeRow.{TreeRow}
-use Rattle.sm_machine.specs.Collector.{IsLess, debt}
+use Rattle.sm_machine.specs.Collector.{IsLess, copied, debt, next_step}
+use Rattle.sm_machine.specs.Operations.{advanced, is_dirty}
+use Rattle.sm_operation.specs.Kept.{dirty_in}
+use Rattle.sm_base.specs.declared.operations.Plan.TheVariants as plan
 use Rattle.sm_machine.specs.declared.commands.Command.TheVariants.{Gc}
-use Rattle.sm_ready.specs.Does.{ShapesAs, StoreDoes, store_shape}
+use Rattle.sm_ready.specs.Does.{StoreDoes, store_shape}
 use Rattle.sm_ready.specs.Frames.{HasTrueImages}
 use Rattle.sm_ready.specs.Known.{Known, known, machine_row, shape_in}
 use Rattle.sm_ready.specs.Orderly.{IsOrderly}
@@ -23,11 +26,12 @@ use Rattle.sm_ready.proofs.FrameLaws.{true_stays}
 use Rattle.sm_ready.proofs.SyncLaws.{IsSynced, told_behind}
 use Rattle.sm_ready.proofs.TakenLaws.{IsTold, is_told}
 use Rattle.gc_coalesce.specs.Blocks.{Copies, HasCopied}
-use Rattle.gc_coalesce.specs.Copying.{IsMasked, advanced}
+use Rattle.gc_coalesce.specs.Copying.{IsMasked}
 use Rattle.gc_coalesce.proofs.CopyCallLaws.{to_copy_at, true_copied}
 use Rattle.gc_coalesce.proofs.CopyCrashLaws.{copy_failed, from_before, masked_since, sync_failed, synced_choice}
 use Rattle.gc_coalesce.proofs.CopyDebt.{lowers}
-use Rattle.gc_coalesce.proofs.CopyMemoryLaws.{behind, may_name, orderly_behind, shape_copied, tidy_behind, with_image}
+use Rattle.gc_coalesce.proofs.CopyMemoryLaws.{behind, may_name, orderly_behind, shape_given, tidy_behind, with_image}
+use Rattle.gc_coalesce.proofs.CopyNext.{swap_stays}
 use Rattle.gc_coalesce.proofs.CopyPlanLaws.{IsToCopy, named}
 use Rattle.gc_coalesce.proofs.LinkEnds.{IsRested}
 use Rattle.gc_coalesce.proofs.SyncedLaws.{synced_again, written_synced}
@@ -134,13 +138,16 @@ module _ {S : Type 0} {g : Ghosts S} {a b d : S} {m : Memory} {v p : Name} {curs
       whole_is : store_shape g e n ≡ shape_in (g.site a) (tab g a) (behind new q blk (known m))
       whole_is = ap₂ (λ s t. shape_in s t (known n)) (site_is ∙ u.sync.site) (table_is ∙ u.sync.table) ∙ ap (shape_in (g.site a) (tab g a)) memory_is
 
-      pub whole_lowered : ∥ IsLess (debt (store_shape g e n)) (debt (store_shape g a m)) ∥₁
-      whole_lowered = subst (λ σ. ∥ IsLess (debt σ) (debt (store_shape g a m)) ∥₁) (sym whole_is) (lowers u.images new done.slot)
+      pub whole_lowered : next_step (store_shape g a m) ≡ plan.Copy blk → ∥ IsLess (debt (store_shape g e n)) (debt (store_shape g a m)) ∥₁
+      whole_lowered planned = subst (λ σ. ∥ IsLess (debt σ) (debt (store_shape g a m)) ∥₁) (sym whole_is) (lowers u.images planned new done.slot)
+
+      pub whole_next : is_dirty blk (dirty_in m.operation) ≡ true → next_step (store_shape g a m) ≡ plan.Swap → next_step (store_shape g e n) ≡ plan.Swap
+      whole_next dirty planned = ap next_step whole_is ∙ swap_stays u.images new done.slot dirty planned
 
       module _ (settled : g.told → IsSettled (g.area e)) where
-        pub whole_shape : g.told → IsReadyStore g a m → ShapesAs g Gc a m e n
+        pub whole_shape : g.told → IsReadyStore g a m → store_shape g e n ≡ copied m.operation blk (store_shape g a m)
         whole_shape told ready =
-            whole_is ∙ shape_copied u.images new (slot_new g e m images_b new u.copies done (told_b told ready) (u.settled told) (synced_e told) (settled told))
+            whole_is ∙ shape_given u.images new (slot_new g e m images_b new u.copies done (told_b told ready) (u.settled told) (synced_e told) (settled told))
 
         pub whole_done : (ok : Type 0) → g.told → IsReadyStore g a m → StoreDoes g Gc a m e n ok
         whole_done ok told ready =

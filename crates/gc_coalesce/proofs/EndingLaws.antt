@@ -6,8 +6,8 @@ use Rattle.sm_base.specs.Kinds.{is_entry}
 use Rattle.sm_base.specs.Names.{IsName}
 use Rattle.sm_base.specs.declared.names.Name.{Name}
 use Rattle.sm_base.specs.declared.names.Name.TheVariants.{Coalesce, Relink}
-use Rattle.sm_base.specs.declared.operations.Op.{Op}
-use Rattle.sm_base.specs.declared.operations.Op.TheVariants as op
+use Rattle.sm_machine.specs.Operations.{Op}
+use Rattle.sm_machine.specs.Operations as op
 use Rattle.sm_base.specs.declared.operations.Plan.TheVariants as plan
 use Rattle.vg_meta.specs.Tables.{IsVolume, Row, VolumeTable, names_of, rows}
 use Rattle.vg_meta.specs.Changes.{raised}
@@ -33,7 +33,7 @@ use Rattle.sm_ready.specs.declared.memory.Memory.{Memory}
 use Rattle.sm_ready.proofs.ChainLaws.{tab}
 use Rattle.sm_ready.proofs.RowLaws.{All-In, In-names}
 use Rattle.sm_ready.proofs.TakenLaws.{IsTold}
-use Rattle.gc_abandon.proofs.EndingLaws.{IsEnding, done_end, entry_row, failed_end}
+use Rattle.gc_abandon.proofs.EndingLaws.{IsEnding, done_as, entry_row, failed_end}
 use Rattle.gc_coalesce.proofs.CopiedLaws.{all_copied}
 use Rattle.gc_coalesce.proofs.PlannedLaws.{gc_shape, none_left}
 use Rattle.gc_abandon.proofs.EntryLaws.{entry_replaced}
@@ -100,9 +100,9 @@ module _ {S : Type 0} (g : Ghosts S) (a : S) (m : Memory) (o : IsOrderlyStore g 
 module _ {S : Type 0} (g : Ghosts S) (a : S) (m : Memory) {x : Op} {change : Change} (h : IsEnding (g.site a) (tab g a) (known m) x change) where
   -- as a step of the collector
   module _ {b : S} (c : Commits g change a b) where
-    pub gc_end : IsTold g a m → ((v : VolumeTable) (image : ℕ → List ℕ) → g.leaves b v image → IsEitherOf (stored g a) change v image) → (ok : Type 0) → StoreDoes g Gc a m b (record m { operation = x }) ok
+    pub gc_end : IsTold g a m → ((v : VolumeTable) (image : ℕ → List ℕ) → g.leaves b v image → IsEitherOf (stored g a) change v image) → (n : Memory) → n ≡ record m { operation = x } → (ok : Type 0) → StoreDoes g Gc a m b n ok
     unfolding disks_next
-    gc_end k stop ok = done_end g a m h c k stop ok
+    gc_end k stop n is ok = done_as g a m h c k stop n is ok
 
   pub gc_failed : IsTold g a m → {b : S} (n : Memory) (ok : Type 0) → (ok → ⊥) → FailsToCommit g a b
       → ((v : VolumeTable) (image : ℕ → List ℕ) → g.leaves b v image → IsEitherOf (stored g a) change v image) → StoreDoes g Gc a m b n ok

@@ -17,6 +17,7 @@ pub mod BeginLeft
 pub mod BeginStores
 pub mod BeginExtents
 pub mod BeginEntry
+pub mod BeginRoom
 pub mod BeginRows
 pub mod BeginSteps
 pub mod CopyBlockLaws
@@ -25,10 +26,11 @@ pub mod CopyKinds
 pub mod CopyPlanLaws
 pub mod CopyMemoryLaws
 pub mod CopyDebt
+pub mod CopyNext
 pub mod CopyShownLaws
-pub mod CopyNowLaws
 pub mod CopyLeftLaws
 pub mod CopyCrashLaws
 pub mod CopyReadyLaws
 pub mod CopyCallLaws
 pub mod CopyWholeLaws
+pub mod CopyStillLaws

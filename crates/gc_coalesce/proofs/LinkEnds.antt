@@ -2,7 +2,7 @@
 use Rattle.std.proofs.Common.{◌≡◌, ℕ, true, false, List, refl, sym, ap, ◌∙◌, subst₂}
 use Rattle.common_laws.specs.Lists.{In}
 use Rattle.sm_base.specs.declared.names.Name.{Name}
-use Rattle.sm_base.specs.declared.names.Name.TheVariants.{Clone, Coalesce, Inflate, Leaf, Mgt, Old, Raw, Relink, Vhd}
+use Rattle.sm_base.specs.declared.names.Name.TheVariants.{Clone, Coalesce, Inflate, Leaf, Mgt, Old, Cbt, Raw, Relink, Vhd}
 use Rattle.sm_disk.specs.Held.{IsSettled, Keeps}
 use Rattle.vg_meta.specs.Tables.{VolumeTable}
 use Rattle.vg_volumes.specs.Stored.{IsChoiceOf, Stays, WorksOn, sectors_in, stored}
@@ -68,6 +68,7 @@ parent_named (Vhd u) e = refl
 parent_named (Raw u) e = refl
 parent_named Mgt e = e
 parent_named (Old u) e = e
+parent_named (Cbt u) e = e
 parent_named (Clone d b k) e = e
 parent_named (Inflate u k) e = e
 parent_named (Coalesce v p) e = e

@@ -11,7 +11,7 @@ use Rattle.common_laws.specs.Lists.{◌>>=◌, In, when}
 use Rattle.common_laws.proofs.Lists.{In-map, In-map_at, find-some}
 use Rattle.sm_base.specs.declared.names.Name.{Name}
 use Rattle.sm_base.specs.declared.names.Name.TheVariants.{Vhd}
-use Rattle.sm_base.specs.declared.operations.Op.TheVariants as op
+use Rattle.sm_machine.specs.Operations as op
 use Rattle.sm_base.specs.declared.operations.Plan.TheVariants as plan
 use Rattle.sm_base.specs.declared.sizes.Geometry.{Geometry}
 use Rattle.sm_disk.specs.Held.{Held}

@@ -1,6 +1,6 @@
 -- What a stop leaves while a child is linked past an image, of a ready store in which nothing was pending: its image is that one, with
 -- the old parent or the new one, and all else is the same. So it is kept, and shows the disks from before.
-use Rattle.std.proofs.Common.{◌≡◌, ◌≢◌, ◌⊎◌, inl, inr, ⊎_elim, ℕ, ◌*◌, ◌<◌, cond, List, length, Option, Some, None, refl, sym, ap, ap₂, ◌∙◌, subst, arith}
+use Rattle.std.proofs.Common.{◌≡◌, ◌≢◌, ◌⊎◌, inl, inr, ⊎_elim, ℕ, ◌*◌, ◌<◌, cond, List, [], length, Option, Some, None, refl, sym, ap, ap₂, ◌∙◌, subst, arith}
 use Rattle.std.proofs.Math.Path.{fun_ext}
 use Rattle.std.proofs.lemmas.Bool.{cases_lt, cond-true, le-ltb}
 use Rattle.std.proofs.lemmas.Option.{none-some, same_Some}
@@ -10,7 +10,7 @@ use Rattle.common_laws.proofs.Lists.{In-filter, In-map}
 use Rattle.sm_base.specs.Kinds.{is_entry}
 use Rattle.sm_base.specs.declared.names.Name.{Name}
 use Rattle.sm_base.specs.declared.names.Name.TheVariants.{Mgt, Relink, Vhd}
-use Rattle.sm_base.specs.declared.operations.Op.TheVariants as op
+use Rattle.sm_machine.specs.Operations as op
 use Rattle.sm_disk.specs.Held.{Allows, Held, reads}
 use Rattle.sm_disk.proofs.HeldLaws.{Allows-keeps}
 use Rattle.vg_meta.specs.Tables.{Row, VolumeTable, extents_of, names_of, rows}
@@ -101,7 +101,7 @@ module _ (s : Site) (t : VolumeTable) (m : Known) (old new : Held) (child v p : 
   not_p same = not_parent h.links (h.named ∙ same)
 
   -- the image and its parent, of which the operation speaks
-  held : IsHeldBelow (content_now s t old) v p s.geometry.entries
+  held : IsHeldBelow (content_now s t old) v p s.geometry.entries []
   held = subst (IsBelow (content_now s t old)) h.links.is h.ready.firm.below
 
   held_parent : held.child.parent ≡ Some p

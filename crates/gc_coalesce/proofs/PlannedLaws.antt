@@ -1,17 +1,17 @@
 -- What the collector's plan says of the operation that runs, and the shape after its step.
-use Rattle.std.proofs.Common.{◌≡◌, ℕ, ◌+◌, Bool, true, false, List, [], ◌∷◌, ◌++◌, Option, Some, None, refl, sym, ap, ◌∙◌}
+use Rattle.std.proofs.Common.{◌≡◌, ℕ, ◌+◌, nat_lt, Bool, true, false, List, [], ◌∷◌, ◌++◌, length, Option, Some, None, refl, sym, ap, ◌∙◌}
 use Rattle.std.proofs.lemmas.Bool.{true≢false}
 use Rattle.std.specs.List.{find}
 use Rattle.common_laws.specs.Lists.{In}
 use Rattle.common_laws.proofs.Lists.{find-some}
 use Rattle.sm_base.specs.declared.names.Name.{Name}
-use Rattle.sm_base.specs.declared.operations.Op.{Op}
-use Rattle.sm_base.specs.declared.operations.Op.TheVariants as op
+use Rattle.sm_machine.specs.Operations.{Op, dirty_limit}
+use Rattle.sm_machine.specs.Operations as op
 use Rattle.sm_base.specs.declared.operations.Plan.{Plan}
 use Rattle.sm_base.specs.declared.operations.Plan.TheVariants as plan
 use Rattle.vg_meta.specs.Tables.{VolumeTable}
 use Rattle.vg_volumes.specs.Sites.{Site}
-use Rattle.sm_machine.specs.Collector.{Pair, blocked, collected, copy_or, fits, is_garbage, is_loose, leaves, next_block, next_step, pairs, plan_copy, plan_idle, plan_running, relink_or, table_of, target}
+use Rattle.sm_machine.specs.Collector.{Pair, blocked, clean_or, collected, copy_or, fits, is_garbage, is_loose, leaves, lives, next_block, next_step, pairs, plan_copy, plan_idle, plan_running, relink_or, table_of, target}
 use Rattle.sm_machine.specs.Commits.{commits, gives_up, is_given_up, own_commits, plan_commits}
 use Rattle.sm_machine.specs.Shapes.{ImageRow, Shape, children, risen, thin_in, top}
 use Rattle.sm_machine.specs.Steps.{shape_after, shape_next}
@@ -37,10 +37,13 @@ may_plan (op.Relink v p) _ = false
 may_plan (op.Leaf l p cursor) (plan.Copy b) = true
 may_plan (op.Leaf l p cursor) plan.Swap = true
 may_plan (op.Leaf l p cursor) _ = false
+may_plan (op.Live l p cursor dirty) (plan.Copy b) = true
+may_plan (op.Live l p cursor dirty) plan.Swap = true
+may_plan (op.Live l p cursor dirty) _ = false
 
 module _ (σ : Shape) where
-  abbrev idle_by : Option ImageRow → Option ImageRow → Option Pair → Option Pair → Plan
-  idle_by g l p q = elim g [
+  abbrev idle_by : Option ImageRow → Option ImageRow → Option Pair → Option Pair → Option Pair → Plan
+  idle_by g l p q r = elim g [
     | Some i ↦ plan.Remove i.name
     | None ↦ elim l [
       | Some i ↦ plan.Deflate i.name (thin_in σ (top i.slots))
@@ -48,7 +51,10 @@ module _ (σ : Shape) where
         | Some a ↦ plan.Begin a.child.name a.parent.name (target σ a)
         | None ↦ elim q [
           | Some a ↦ plan.Leaf a.child.name a.parent.name (target σ a)
-          | None ↦ blocked σ (pairs σ ++ leaves σ)
+          | None ↦ elim r [
+            | Some a ↦ plan.Live a.child.name a.parent.name (target σ a)
+            | None ↦ blocked σ (pairs σ ++ (leaves σ ++ lives σ))
+          ]
         ]
       ]
     ]
@@ -58,12 +64,13 @@ module _ (σ : Shape) where
   may_block [] = refl
   may_block (p ∷ ps) = refl
 
-  may_idle : (g l : Option ImageRow) (p q : Option Pair) → may_plan op.Idle (idle_by g l p q) ≡ true
-  may_idle (Some i) l p q = refl
-  may_idle None (Some i) p q = refl
-  may_idle None None (Some a) q = refl
-  may_idle None None None (Some a) = refl
-  may_idle None None None None = may_block (pairs σ ++ leaves σ)
+  may_idle : (g l : Option ImageRow) (p q r : Option Pair) → may_plan op.Idle (idle_by g l p q r) ≡ true
+  may_idle (Some i) l p q r = refl
+  may_idle None (Some i) p q r = refl
+  may_idle None None (Some a) q r = refl
+  may_idle None None None (Some a) r = refl
+  may_idle None None None None (Some a) = refl
+  may_idle None None None None None = may_block (pairs σ ++ (leaves σ ++ lives σ))
 
   may_copy : (v p : Name) (cursor : ℕ) (is : List ImageRow) (b : Option ℕ) → next_block cursor (table_of v σ) ≡ b → may_plan (op.Copy v p cursor) (plan_copy σ v cursor is) ≡ true
   may_copy v p cursor [] b e = refl
@@ -78,12 +85,25 @@ module _ (σ : Shape) where
   may_fold l p cursor None = refl
   may_fold l p cursor (Some b) = refl
 
+  may_clean : (l p : Name) (cursor : ℕ) (dirty ds : List ℕ) → may_plan (op.Live l p cursor dirty) (clean_or ds) ≡ true
+  may_clean l p cursor dirty [] = refl
+  may_clean l p cursor dirty (d ∷ ds) = by (nat_lt dirty_limit (length (d ∷ ds)))
+    where
+      by : (c : Bool) → may_plan (op.Live l p cursor dirty) (elim c as (λ _. Plan) [ true ↦ plan.Copy d | false ↦ plan.Swap ]) ≡ true
+      by true = refl
+      by false = refl
+
+  may_live : (l p : Name) (cursor : ℕ) (dirty : List ℕ) (b : Option ℕ) → may_plan (op.Live l p cursor dirty) (copy_or (clean_or dirty) b) ≡ true
+  may_live l p cursor dirty None = may_clean l p cursor dirty dirty
+  may_live l p cursor dirty (Some b) = refl
+
   pub plan_may : (x : Op) → may_plan x (plan_running σ x) ≡ true
   unfolding plan_running plan_idle
-  plan_may op.Idle = may_idle (find (is_garbage σ) σ.images) (find (is_loose σ) σ.images) (find (fits σ) (pairs σ)) (find (fits σ) (leaves σ))
+  plan_may op.Idle = may_idle (find (is_garbage σ) σ.images) (find (is_loose σ) σ.images) (find (fits σ) (pairs σ)) (find (fits σ) (leaves σ)) (find (fits σ) (lives σ))
   plan_may (op.Copy v p cursor) = may_copy v p cursor (children v σ.images) (next_block cursor (table_of v σ)) refl
   plan_may (op.Relink v p) = may_link v p (children v σ.images)
   plan_may (op.Leaf l p cursor) = may_fold l p cursor (next_block cursor (table_of l σ))
+  plan_may (op.Live l p cursor dirty) = may_live l p cursor dirty (next_block cursor (table_of l σ))
 
   -- no other step is planned
   never : {q : Plan} (x : Op) → plan_running σ x ≡ q → may_plan x q ≡ false → ⊥
@@ -107,20 +127,22 @@ module _ (σ : Shape) where
   unfolding next_step plan_running plan_idle
   removal_planned x planned = by σ.op refl planned
     where
-      found : σ.op ≡ op.Idle → (g l : Option ImageRow) (p q : Option Pair) → find (is_garbage σ) σ.images ≡ g → idle_by g l p q ≡ plan.Remove x → IsPlannedRemoval x
-      found idle (Some i) l p q at e =
+      found : σ.op ≡ op.Idle → (g l : Option ImageRow) (p q r : Option Pair) → find (is_garbage σ) σ.images ≡ g → idle_by g l p q r ≡ plan.Remove x → IsPlannedRemoval x
+      found idle (Some i) l p q r at e =
           let w : In i σ.images × (is_garbage σ i ≡ true) = find-some (is_garbage σ) σ.images i at in
           record { idle = idle; image = i; there = w.0; is_named = (let z = e in cc); garbage = w.1 }
-      found idle None (Some i) p q at e = absurd (let z = e in cc)
-      found idle None None (Some a) q at e = absurd (let z = e in cc)
-      found idle None None None (Some a) at e = absurd (let z = e in cc)
-      found idle None None None None at e = absurd (blocks_none x (pairs σ ++ leaves σ) e)
+      found idle None (Some i) p q r at e = absurd (let z = e in cc)
+      found idle None None (Some a) q r at e = absurd (let z = e in cc)
+      found idle None None None (Some a) r at e = absurd (let z = e in cc)
+      found idle None None None None (Some a) at e = absurd (let z = e in cc)
+      found idle None None None None None at e = absurd (blocks_none x (pairs σ ++ (leaves σ ++ lives σ)) e)
 
       by : (y : Op) → σ.op ≡ y → plan_running σ y ≡ plan.Remove x → IsPlannedRemoval x
-      by op.Idle is e = found is (find (is_garbage σ) σ.images) (find (is_loose σ) σ.images) (find (fits σ) (pairs σ)) (find (fits σ) (leaves σ)) refl e
+      by op.Idle is e = found is (find (is_garbage σ) σ.images) (find (is_loose σ) σ.images) (find (fits σ) (pairs σ)) (find (fits σ) (leaves σ)) (find (fits σ) (lives σ)) refl e
       by (op.Copy v p cursor) is e = absurd (never (op.Copy v p cursor) e refl)
       by (op.Relink v p) is e = absurd (never (op.Relink v p) e refl)
       by (op.Leaf l p cursor) is e = absurd (never (op.Leaf l p cursor) e refl)
+      by (op.Live l p cursor dirty) is e = absurd (never (op.Live l p cursor dirty) e refl)
 
   -- ---- the shape after a step
 
@@ -140,6 +162,7 @@ module _ (s : Site) (t : VolumeTable) (m : Known) where
       by op.Idle is e = absurd (never (shape_in s t m) op.Idle e refl)
       by (op.Relink v p) is e = absurd (never (shape_in s t m) (op.Relink v p) e refl)
       by (op.Leaf l p cursor) is e = absurd (never (shape_in s t m) (op.Leaf l p cursor) e refl)
+      by (op.Live l p cursor dirty) is e = absurd (never (shape_in s t m) (op.Live l p cursor dirty) e refl)
 
   pub turn_planned : next_step (shape_in s t m) ≡ plan.Turn → (v p : Name) × (cursor : ℕ) × (m.op ≡ op.Copy v p cursor)
   unfolding next_step shape_in
@@ -150,6 +173,7 @@ module _ (s : Site) (t : VolumeTable) (m : Known) where
       by op.Idle is e = absurd (never (shape_in s t m) op.Idle e refl)
       by (op.Relink v p) is e = absurd (never (shape_in s t m) (op.Relink v p) e refl)
       by (op.Leaf l p cursor) is e = absurd (never (shape_in s t m) (op.Leaf l p cursor) e refl)
+      by (op.Live l p cursor dirty) is e = absurd (never (shape_in s t m) (op.Live l p cursor dirty) e refl)
 
   -- and no block is left to copy
   pub none_left : (v p : Name) (cursor : ℕ) → next_step (shape_in s t m) ≡ plan.Turn → m.op ≡ op.Copy v p cursor → next_block cursor (table_of v (shape_in s t m)) ≡ None
@@ -173,3 +197,4 @@ module _ (s : Site) (t : VolumeTable) (m : Known) where
       by op.Idle is e = absurd (never (shape_in s t m) op.Idle e refl)
       by (op.Copy v p cursor) is e = absurd (never (shape_in s t m) (op.Copy v p cursor) e refl)
       by (op.Leaf l p cursor) is e = absurd (never (shape_in s t m) (op.Leaf l p cursor) e refl)
+      by (op.Live l p cursor dirty) is e = absurd (never (shape_in s t m) (op.Live l p cursor dirty) e refl)

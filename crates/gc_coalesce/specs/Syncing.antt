@@ -1,8 +1,8 @@
 -- What a call leaves that makes all last before it writes one image (this project's format).
 use Rattle.std.specs.Prelude.{◌≡◌, ◌⊎◌, ℕ, ◌<◌, List}
 use Rattle.sm_base.specs.declared.names.Name.{Name}
-use Rattle.sm_base.specs.declared.operations.Op.{Op}
-use Rattle.sm_base.specs.declared.operations.Op.TheVariants as op
+use Rattle.sm_machine.specs.Operations.{Op}
+use Rattle.sm_machine.specs.Operations as op
 use Rattle.sm_disk.specs.Held.{reads}
 use Rattle.vg_meta.specs.Tables.{extents_of, rows}
 use Rattle.vg_volumes.specs.Sites.{area_size}
@@ -20,6 +20,8 @@ LeavesSynced g n old new = Leaves g new (λ t image. g.leaves old t image ⊎ Is
 
 -- where a copy runs, whatever a stop leaves was left before, or holds beside the copy's parent what a read gave: the parent alone is written
 abbrev pub CopySynced : {S : Type 0} → Ghosts S → Op → S → S → Type 0
+CopySynced g op.Idle old new = Unit {0}
 CopySynced g (op.Copy child parent cursor) old new = LeavesSynced g parent old new
+CopySynced g (op.Relink child parent) old new = Unit {0}
 CopySynced g (op.Leaf leaf parent cursor) old new = LeavesSynced g parent old new
-CopySynced g _ old new = Unit {0}
+CopySynced g (op.Live leaf parent cursor dirty) old new = LeavesSynced g parent old new

@@ -13,7 +13,7 @@ ghost use Rattle.vg_volumes.specs.Stored.{Counts};
 ghost use Rattle.sm_machine.specs.Shapes.{image_uuid};
 ghost use Rattle.sm_machine.specs.WellFormed.{is_image_name};
 ghost use Rattle.sm_base.specs.declared.operations.Plan.TheVariants as plan;
-ghost use Rattle.sm_base.specs.declared.operations.Op.TheVariants as op;
+ghost use Rattle.sm_machine.specs.Operations as op;
 ghost use Rattle.sm_machine.specs.Collector.{next_step, turned};
 ghost use Rattle.sm_machine.specs.declared.commands.Command.TheVariants as command;
 ghost use Rattle.sm_ready.specs.Does.{ShapesAs, StoreDoes, store_shape};
@@ -68,11 +68,11 @@ pub fn abandon<S: Store>(store: &mut S, memory: &mut Memory) -> Result<(), Faile
     ensures shape { OnOk result (ShapesAs S.Store command.Gc store.old memory.old store.new memory.new) }
     ensures done { S.told → IsReadyStore S.Store store.old memory.old → StoreDoes S.Store command.Gc store.old memory.old store.new memory.new (result ≡ Ok tt) }
 {
-    let Op::Copy { child, parent, .. } = memory.operation else {
+    let Op::Copy { child, parent, .. } = memory.operation.told() else {
         unreachable!()
     };
     drop_entry(store, &copy_entry(&child, &parent))?;
-    memory.operation = Op::Idle;
+    memory.operation.set(Op::Idle);
     Ok(())
 }
 
@@ -94,7 +94,7 @@ pub fn turn<S: Store>(store: &mut S, memory: &mut Memory) -> Result<(), Failed>
     ensures shape { OnOk result (ShapesAs S.Store command.Gc store.old memory.old store.new memory.new) }
     ensures done { S.told → IsReadyStore S.Store store.old memory.old → StoreDoes S.Store command.Gc store.old memory.old store.new memory.new (result ≡ Ok tt) }
 {
-    let Op::Copy { child, parent, .. } = memory.operation else {
+    let Op::Copy { child, parent, .. } = memory.operation.told() else {
         unreachable!()
     };
     replace(
@@ -102,7 +102,7 @@ pub fn turn<S: Store>(store: &mut S, memory: &mut Memory) -> Result<(), Failed>
         copy_entry(&child, &parent),
         link_entry(&child, &parent),
     )?;
-    memory.operation = Op::Relink { child, parent };
+    memory.operation.set(Op::Relink { child, parent });
     Ok(())
 }
 
@@ -131,10 +131,10 @@ pub fn finish<S: Store>(store: &mut S, memory: &mut Memory) -> Result<(), Failed
     ensures shape { OnOk result (ShapesAs S.Store command.Gc store.old memory.old store.new memory.new) }
     ensures done { S.told → IsReadyStore S.Store store.old memory.old → StoreDoes S.Store command.Gc store.old memory.old store.new memory.new (result ≡ Ok tt) }
 {
-    let Op::Relink { child, parent } = memory.operation else {
+    let Op::Relink { child, parent } = memory.operation.told() else {
         unreachable!()
     };
     drop_entry(store, &link_entry(&child, &parent))?;
-    memory.operation = Op::Idle;
+    memory.operation.set(Op::Idle);
     Ok(())
 }

@@ -46,7 +46,7 @@ pub fn relink_one<S: Store>(store: &mut S, memory: &mut Memory, child: &Name) ->
     ensures done { S.told → IsReadyStore S.Store store.old memory.old → StoreDoes S.Store command.Gc store.old memory.old store.new memory.new (result ≡ Ok tt) }
     ensures first { LeavesSynced S.Store child.now store.old store.new }
 {
-    let Op::Relink { child: out, parent } = memory.operation else {
+    let Op::Relink { child: out, parent } = memory.operation.told() else {
         unreachable!()
     };
     store.sync()?; // what was written before

@@ -1,4 +1,9 @@
-use Rattle.std.proofs.Common.{inl, inr, refl, sym, subst, ◌∙◌}
+use Rattle.std.proofs.Common.{inl, inr, refl, sym, ap, subst, ◌∙◌}
+use Rattle.sm_machine.specs.Operations.{told}
+use Rattle.sm_machine.proofs.Told.{told_copy}
+use Rattle.sm_machine.specs.declared.commands.Command.TheVariants.{Gc}
+use Rattle.sm_ready.specs.Does.{ShapesAs}
+use Rattle.sm_ready.specs.Framing.{IsBetweenSteps}
 use Rattle.sm_ready.specs.Known.{known}
 use Rattle.vg_meta.specs.declared.changes.Change.TheVariants.{Remove}
 use Rattle.sm_ready.proofs.ChainLaws.{err_not_ok}
@@ -11,26 +16,27 @@ use Rattle.gc_coalesce.proofs.PlannedLaws.{abandon_planned}
 use Rattle.gc_coalesce.proofs.ending.abandon.Goals as goal
 
 pub unreachable-requires : goal.unreachable-requires
+unfolding told
 unreachable-requires g c =
     let w = abandon_planned _ _ (known c.args.memory.now) c.requires.planned in
-    c.in_default.not-Copy w.0 w.1 w.2 w.3
+    c.in_default.not-Copy w.0 w.1 w.2 (c.told.ensures ∙ ap told w.3)
 
 pub copy_entry-requires-clause-child : goal.copy_entry-requires-clause-child
-copy_entry-requires-clause-child g c = worked_named _ _ (known c.args.memory.now) c.in-Copy.child c.requires.session.orderly (subst (λ x. WorksAt x c.in-Copy.child) (sym c.in-Copy.is) (inl refl))
+copy_entry-requires-clause-child g c = worked_named _ _ (known c.args.memory.now) c.in-Copy.child c.requires.session.orderly (subst (λ x. WorksAt x c.in-Copy.child) (sym (told_copy _ _ _ _ (sym c.told.ensures ∙ c.in-Copy.is))) (inl refl))
 
 pub copy_entry-requires-clause-parent : goal.copy_entry-requires-clause-parent
-copy_entry-requires-clause-parent g c = worked_named _ _ (known c.args.memory.now) c.in-Copy.parent c.requires.session.orderly (subst (λ x. WorksAt x c.in-Copy.parent) (sym c.in-Copy.is) (inr refl))
+copy_entry-requires-clause-parent g c = worked_named _ _ (known c.args.memory.now) c.in-Copy.parent c.requires.session.orderly (subst (λ x. WorksAt x c.in-Copy.parent) (sym (told_copy _ _ _ _ (sym c.told.ensures ∙ c.in-Copy.is))) (inr refl))
 
 pub drop_entry-requires : goal.drop_entry-requires
 drop_entry-requires g c =
     let r = c.requires in
-    let h = ends g.S.Store c.args.store.now c.args.memory.now r.session.orderly c.in-Copy.is refl c.copy_entry.ensures in
+    let h = ends g.S.Store c.args.store.now c.args.memory.now r.session.orderly (told_copy _ _ _ _ (sym c.told.ensures ∙ c.in-Copy.is)) refl c.copy_entry.ensures in
     can_end g.S.Store c.args.store.now c.args.memory.now h r.session.usable
 
 pub returns-in_err-drop_entry-clause-done : goal.returns-in_err-drop_entry-clause-done
 returns-in_err-drop_entry-clause-done g c = λ told ready.
     let r = c.requires in
-    let h = ends g.S.Store c.args.store.now c.args.memory.now r.session.orderly c.in-Copy.is refl c.copy_entry.ensures in
+    let h = ends g.S.Store c.args.store.now c.args.memory.now r.session.orderly (told_copy _ _ _ _ (sym c.told.ensures ∙ c.in-Copy.is)) refl c.copy_entry.ensures in
     gc_failed g.S.Store c.args.store.now c.args.memory.now h
     (is_told g.S.Store c.args.store.now c.args.memory.now r.session.orderly r.session.usable told ready (g.met.S.Store.leaves_now c.args.store.now told r.session.usable))
     c.args.memory.now _ (λ fine. err_not_ok _ tt c.from_residual.ensures.0 fine) c.in_err-drop_entry.ensures.fails (c.drop_entry.ensures.crash told)
@@ -38,15 +44,17 @@ returns-in_err-drop_entry-clause-done g c = λ told ready.
 pub returns-clause-shape : goal.returns-clause-shape
 returns-clause-shape g c =
     let r = c.requires in
-    let h = ends g.S.Store c.args.store.now c.args.memory.now r.session.orderly c.in-Copy.is refl c.copy_entry.ensures in
-    shape_end g.S.Store c.args.store.now c.args.memory.now h c.in_ok-drop_entry.ensures.commits ∙ step_abandon _ _ (known c.args.memory.now) r.planned
+    let h = ends g.S.Store c.args.store.now c.args.memory.now r.session.orderly (told_copy _ _ _ _ (sym c.told.ensures ∙ c.in-Copy.is)) refl c.copy_entry.ensures in
+    subst (λ o. ShapesAs g.S.Store Gc c.args.store.now c.args.memory.now c.drop_entry.new.store (record c.args.memory.now { operation = o })) (sym c.set.ensures)
+    (shape_end g.S.Store c.args.store.now c.args.memory.now h c.in_ok-drop_entry.ensures.commits ∙ step_abandon _ _ (known c.args.memory.now) r.planned)
 
 pub returns-clause-done : goal.returns-clause-done
 returns-clause-done g c = λ told ready.
     let r = c.requires in
-    let h = ends g.S.Store c.args.store.now c.args.memory.now r.session.orderly c.in-Copy.is refl c.copy_entry.ensures in
+    let h = ends g.S.Store c.args.store.now c.args.memory.now r.session.orderly (told_copy _ _ _ _ (sym c.told.ensures ∙ c.in-Copy.is)) refl c.copy_entry.ensures in
     gc_end g.S.Store c.args.store.now c.args.memory.now h c.in_ok-drop_entry.ensures.commits
-    (is_told g.S.Store c.args.store.now c.args.memory.now r.session.orderly r.session.usable told ready (g.met.S.Store.leaves_now c.args.store.now told r.session.usable)) (c.drop_entry.ensures.crash told) _
+    (is_told g.S.Store c.args.store.now c.args.memory.now r.session.orderly r.session.usable told ready (g.met.S.Store.leaves_now c.args.store.now told r.session.usable)) (c.drop_entry.ensures.crash told)
+    (record c.args.memory.now { operation = c.set.new.self }) (ap (λ o. record c.args.memory.now { operation = o }) c.set.ensures) _
 
 pub returns-in_err-drop_entry-clause-step : goal.returns-in_err-drop_entry-clause-step
 returns-in_err-drop_entry-clause-step g c = failed_steps (Remove c.copy_entry.result) c.in_err-drop_entry.ensures.fails c.drop_entry.ensures.crash
@@ -57,5 +65,7 @@ returns-clause-step g c = commit_steps c.in_ok-drop_entry.ensures.commits c.drop
 pub returns-clause-session_still : goal.returns-clause-session_still
 returns-clause-session_still g c =
     let r = c.requires in
-    let h = ends g.S.Store c.args.store.now c.args.memory.now r.session.orderly c.in-Copy.is refl c.copy_entry.ensures in
-    between_end g.S.Store c.args.store.now c.args.memory.now h c.in_ok-drop_entry.ensures.commits r.session
+    let h = ends g.S.Store c.args.store.now c.args.memory.now r.session.orderly (told_copy _ _ _ _ (sym c.told.ensures ∙ c.in-Copy.is)) refl c.copy_entry.ensures in
+    subst (λ o. IsBetweenSteps g.S.Store c.drop_entry.new.store (record c.args.memory.now { operation = o })) (sym c.set.ensures)
+    (between_end g.S.Store c.args.store.now c.args.memory.now h c.in_ok-drop_entry.ensures.commits r.session
+    )

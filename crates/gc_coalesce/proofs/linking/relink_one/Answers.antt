@@ -7,6 +7,8 @@ use Rattle.vg_volumes.proofs.StoredLaws.{stays_from, stays_then}
 use Rattle.vg_volumes.specs.Stored.{WorksOn}
 use Rattle.vhd_chain.specs.Trees.{row_name, tree_row, with_replaced}
 use Rattle.vhd_chain.proofs.ByName.{tree_row-without_other, tree_row-without_same}
+use Rattle.sm_machine.specs.Operations.{told}
+use Rattle.sm_machine.proofs.Told.{told_relink}
 use Rattle.sm_ready.specs.Known.{Known, known, shape_in}
 use Rattle.sm_ready.specs.Orderly.{IsOrderly}
 use Rattle.sm_ready.specs.Ready.{IsTidy}
@@ -24,7 +26,8 @@ use Rattle.gc_coalesce.proofs.linking.relink_one.Given.{Over}
 use Rattle.gc_coalesce.proofs.linking.relink_one.Goals as goal
 
 pub unreachable-requires : goal.unreachable-requires
-unreachable-requires g c = runs _ _ (known c.args.memory.now) c.args.child.now c.requires.planned c.in_default.not-Relink
+unfolding told
+unreachable-requires g c = runs _ _ (known c.args.memory.now) c.args.child.now c.requires.planned (λ v p is. c.in_default.not-Relink v p (c.told.ensures ∙ ap told is))
 
 pub returns-in_err-sync-clause-done : goal.returns-in_err-sync-clause-done
 returns-in_err-sync-clause-done g c = λ told ready.
@@ -35,11 +38,11 @@ returns-in_err-sync-clause-done g c = λ told ready.
 
 pub unreachable-requires-in_default-take : goal.unreachable-requires-in_default-take
 unreachable-requires-in_default-take g c =
-    child_found _ _ (known c.args.memory.now) c.args.child.now c.in-Relink.out c.in-Relink.parent _ c.requires.orderly c.in-Relink.is c.requires.planned c.take.ensures.taken c.in_default-take.is
+    child_found _ _ (known c.args.memory.now) c.args.child.now c.in-Relink.out c.in-Relink.parent _ c.requires.orderly (told_relink _ _ _ (sym c.told.ensures ∙ c.in-Relink.is)) c.requires.planned c.take.ensures.taken c.in_default-take.is
 
 -- the child, whose row was taken out: before its parent is looked up
 abbrev looked : (g : Over) (c : goal.In_default-get g) → IsToLinkIn g.S.Store c.args.store.now c.args.memory.now c.args.child.now c.in-Relink.out c.in-Relink.parent c.in-Some.row
-looked g c = to_link _ _ (known c.args.memory.now) c.args.child.now _ _ _ c.requires.orderly c.in-Relink.is c.requires.planned c.take.ensures.taken c.in-Some.row c.in-Some.is
+looked g c = to_link _ _ (known c.args.memory.now) c.args.child.now _ _ _ c.requires.orderly (told_relink _ _ _ (sym c.told.ensures ∙ c.in-Relink.is)) c.requires.planned c.take.ensures.taken c.in-Some.row c.in-Some.is
 
 pub unreachable-requires-in_default-get : goal.unreachable-requires-in_default-get
 unreachable-requires-in_default-get g c = above_found (looked g c)
@@ -49,7 +52,7 @@ unreachable-requires-in_default-get g c = above_found (looked g c)
 -- before it is linked
 abbrev taken : (g : Over) (c : goal.After-set_parent-arg-2-1 g)
     → IsToLinkIn g.S.Store c.args.store.now c.args.memory.now c.args.child.now c.in-Relink.out c.in-Relink.parent c.in-Some.row
-taken g c = to_link _ _ (known c.args.memory.now) c.args.child.now _ _ _ c.requires.orderly c.in-Relink.is c.requires.planned c.take.ensures.taken c.in-Some.row c.in-Some.is
+taken g c = to_link _ _ (known c.args.memory.now) c.args.child.now _ _ _ c.requires.orderly (told_relink _ _ _ (sym c.told.ensures ∙ c.in-Relink.is)) c.requires.planned c.take.ensures.taken c.in-Some.row c.in-Some.is
 
 -- and the same once all rests
 abbrev resting : (g : Over) (c : goal.After-set_parent-arg-2-1 g)
@@ -78,7 +81,7 @@ set_parent-linked-requires-clause-true_now g c = λ told. row_true g.S.Store c.s
 
 -- once it is linked, or the link failed
 abbrev linked : (g : Over) (c : goal.After-add-arg-1 g) → IsToLinkIn g.S.Store c.args.store.now c.args.memory.now c.args.child.now c.in-Relink.out c.in-Relink.parent c.in-Some.row
-linked g c = to_link _ _ (known c.args.memory.now) c.args.child.now _ _ _ c.requires.orderly c.in-Relink.is c.requires.planned c.take.ensures.taken c.in-Some.row c.in-Some.is
+linked g c = to_link _ _ (known c.args.memory.now) c.args.child.now _ _ _ c.requires.orderly (told_relink _ _ _ (sym c.told.ensures ∙ c.in-Relink.is)) c.requires.planned c.take.ensures.taken c.in-Some.row c.in-Some.is
 
 named_still : (g : Over) (c : goal.After-add-arg-1 g) → row_name (with_image c.set_parent-linked.new.self c.in-Some.row) ≡ row_name c.in-Some.row
 named_still g c =
@@ -94,7 +97,7 @@ add-requires-clause-absent g c =
 -- where the link failed
 abbrev unlinked : (g : Over) (c : goal.After-from_residual-in_err-linked g)
     → IsToLinkIn g.S.Store c.args.store.now c.args.memory.now c.args.child.now c.in-Relink.out c.in-Relink.parent c.in-Some.row
-unlinked g c = to_link _ _ (known c.args.memory.now) c.args.child.now _ _ _ c.requires.orderly c.in-Relink.is c.requires.planned c.take.ensures.taken c.in-Some.row c.in-Some.is
+unlinked g c = to_link _ _ (known c.args.memory.now) c.args.child.now _ _ _ c.requires.orderly (told_relink _ _ _ (sym c.told.ensures ∙ c.in-Relink.is)) c.requires.planned c.take.ensures.taken c.in-Some.row c.in-Some.is
 
 abbrev unlinked_above : (g : Over) (c : goal.After-from_residual-in_err-linked g) → In c.in-Some-get.above.now c.args.memory.now.tree.rows × (row_name c.in-Some-get.above.now ≡ c.in-Relink.parent)
 unlinked_above g c =
@@ -121,7 +124,7 @@ returns-in_err-linked-clause-done g c = λ told ready.
 -- where the sync behind it failed
 abbrev unsynced : (g : Over) (c : goal.After-from_residual-in_err-sync-2 g)
     → IsToLinkIn g.S.Store c.args.store.now c.args.memory.now c.args.child.now c.in-Relink.out c.in-Relink.parent c.in-Some.row
-unsynced g c = to_link _ _ (known c.args.memory.now) c.args.child.now _ _ _ c.requires.orderly c.in-Relink.is c.requires.planned c.take.ensures.taken c.in-Some.row c.in-Some.is
+unsynced g c = to_link _ _ (known c.args.memory.now) c.args.child.now _ _ _ c.requires.orderly (told_relink _ _ _ (sym c.told.ensures ∙ c.in-Relink.is)) c.requires.planned c.take.ensures.taken c.in-Some.row c.in-Some.is
 
 abbrev unsynced_above : (g : Over) (c : goal.After-from_residual-in_err-sync-2 g) → In c.in-Some-get.above.now c.args.memory.now.tree.rows × (row_name c.in-Some-get.above.now ≡ c.in-Relink.parent)
 unsynced_above g c =
@@ -148,14 +151,14 @@ returns-in_err-sync-2-clause-done g c = λ told ready.
 
 -- before it is counted
 abbrev noting : (g : Over) (c : goal.After-out-2-1 g) → IsToLinkIn g.S.Store c.args.store.now c.args.memory.now c.args.child.now c.in-Relink.out c.in-Relink.parent c.in-Some.row
-noting g c = to_link _ _ (known c.args.memory.now) c.args.child.now _ _ _ c.requires.orderly c.in-Relink.is c.requires.planned c.take.ensures.taken c.in-Some.row c.in-Some.is
+noting g c = to_link _ _ (known c.args.memory.now) c.args.child.now _ _ _ c.requires.orderly (told_relink _ _ _ (sym c.told.ensures ∙ c.in-Relink.is)) c.requires.planned c.take.ensures.taken c.in-Some.row c.in-Some.is
 
 pub relinked-requires : goal.relinked-requires
 relinked-requires g c = record { enough = enough (noting g c) }
 
 -- once all lasts
 abbrev lasting : (g : Over) (c : goal.After-relinked g) → IsToLinkIn g.S.Store c.args.store.now c.args.memory.now c.args.child.now c.in-Relink.out c.in-Relink.parent c.in-Some.row
-lasting g c = to_link _ _ (known c.args.memory.now) c.args.child.now _ _ _ c.requires.orderly c.in-Relink.is c.requires.planned c.take.ensures.taken c.in-Some.row c.in-Some.is
+lasting g c = to_link _ _ (known c.args.memory.now) c.args.child.now _ _ _ c.requires.orderly (told_relink _ _ _ (sym c.told.ensures ∙ c.in-Relink.is)) c.requires.planned c.take.ensures.taken c.in-Some.row c.in-Some.is
 
 abbrev lasting_above : (g : Over) (c : goal.After-relinked g) → In c.in-Some-get.above.now c.args.memory.now.tree.rows × (row_name c.in-Some-get.above.now ≡ c.in-Relink.parent)
 lasting_above g c =
