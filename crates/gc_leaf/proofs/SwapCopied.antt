@@ -41,7 +41,7 @@ use Rattle.gc_coalesce.proofs.CopiedLaws.{held_slot, image_read}
 use Rattle.gc_coalesce.proofs.LinkChains.{all_short}
 use Rattle.gc_leaf.proofs.SwapNames.{folding_among}
 use Rattle.gc_leaf.proofs.SwapPair.{child, entry_alone, leaf_is, leaf_linked, leaf_small, leaf_vol, no_raw_parent, parent_is, parent_other, parent_vol, u, v}
-use Rattle.gc_leaf.proofs.SwapSteps.{IsToSwap, none_left}
+use Rattle.gc_leaf.proofs.SwapSteps.{IsToSwap, below_of, none_left}
 
 -- ---- an image by itself
 
@@ -80,8 +80,8 @@ module _ {s : Site} {t : VolumeTable} {m : Known} {l p : Name} {cursor : ℕ} (h
   abbrev a : Content
   a = content_now s t old
 
-  below : IsHeldBelow a (Vhd leaf) (Vhd parent) cursor
-  below = subst₂ (λ x y. IsHeldBelow a x y cursor) (leaf_is h) (parent_is h) (subst (IsBelow a) h.is ready.firm.below)
+  below : IsHeldBelow a (Vhd leaf) (Vhd parent) cursor []
+  below = subst₂ (λ x y. IsHeldBelow a x y cursor []) (leaf_is h) (parent_is h) (below_of a h.attached l p cursor [] refl (subst (IsBelow a) h.is ready.firm.below))
 
   -- the leaf's image, and the parent's
   pub leaf_image : Image
@@ -119,7 +119,7 @@ module _ {s : Site} {t : VolumeTable} {m : Known} {l p : Name} {cursor : ℕ} (h
       let long : length image.slots ≡ s.geometry.entries = sym (ap (λ (xs : List (Option ℕ)). length xs) i.slots) ∙ (w.images c.child c.there).table ∙ ap (table_length (shape_in s t m)) named in
       let slot : is_there (slot_at image.slots b) ≡ true = held_slot s.geometry.block s.geometry.entries i.sectors i.held k bytes holds within in
       let no_slot : is_there (slot_at image.slots b) ≡ false =
-      no_slot_from cursor b image.slots (ap (next_block cursor) (sym table) ∙ none_left s t m l p cursor h.planned h.is) (omega (arith, within, long)) (le-div cursor k s.geometry.block some behind) in
+      no_slot_from cursor b image.slots (ap (next_block cursor) (sym table) ∙ none_left s t m h.attached l p cursor h.planned h.is) (omega (arith, within, long)) (le-div cursor k s.geometry.block some behind) in
       true≢false (sym slot ∙ no_slot)
 
   copied : IsCopied a (Vhd leaf) (Vhd parent) below.child below.parent
@@ -128,7 +128,7 @@ module _ {s : Site} {t : VolumeTable} {m : Known} {l p : Name} {cursor : ℕ} (h
     parent = ap (λ (x : Link). x.parent) leaf_link ∙ leaf_linked h;
     below = below.under;
     size = below.size;
-    held = λ k bytes has. ⊎_elim (λ front. below.held k bytes front has) (λ behind. absurd (∥∥₁_elim h.orderly.well_formed (hlevel props) (λ w. past w k bytes has behind)))
+    held = λ k bytes has. ⊎_elim (λ front. below.held k bytes front refl has) (λ behind. absurd (∥∥₁_elim h.orderly.well_formed (hlevel props) (λ w. past w k bytes has behind)))
         (cases_lt k (cursor * s.geometry.block));
   }
 

@@ -1,9 +1,10 @@
 -- Behind a swap: memory is orderly and tidy under the last table, and ready on what a read gave.
-use Rattle.std.proofs.Common.{◌≡◌, ◌≢◌, ◌⊎◌, inl, inr, ⊎_elim, ℕ, ◌*◌, Bool, true, false, List, [], ◌∷◌, length, map, Some, None, refl, sym, ap, ◌∙◌, subst, arith}
+use Rattle.std.proofs.Common.{◌≡◌, ◌≢◌, ◌⊎◌, inl, inr, ⊎_elim, ℕ, ◌*◌, ◌≤◌, not, Bool, true, false, cond, List, [], ◌∷◌, filter, length, map, unwrap_or, Option, Some, None, refl, sym, ap, ◌∙◌, subst, arith}
 use Rattle.std.proofs.Math.Logic.{∥∥₁_elim}
 use Rattle.std.proofs.Props.{props}
 use Rattle.std.proofs.lemmas.Bool.{le-ltb, true≢false}
 use Rattle.std.proofs.lemmas.Option.{none-some, same_Some}
+use Rattle.std.specs.Map.{lookup}
 use Rattle.common_laws.specs.Lists.{Distinct, In, first_some, given}
 use Rattle.common_laws.proofs.Lists.{In-map_at}
 use Rattle.sm_base.specs.declared.names.Name.{Name}
@@ -21,20 +22,24 @@ use Rattle.vhd_image.specs.Bodies.{StandsIn, in_volume}
 use Rattle.vhd_image.specs.Steady.{IsSteady}
 use Rattle.vhd_image.specs.declared.images.Body.{Body}
 use Rattle.vhd_image.specs.declared.images.Body.TheVariants as body
-use Rattle.vhd_chain.specs.Trees.{row_name}
+use Rattle.vhd_chain.specs.Trees.{row_name, tree_row}
 use Rattle.vhd_chain.specs.declared.rows.TreeRow.{TreeRow}
 use Rattle.sm_base.specs.declared.refusals.Refusal.TheVariants.{NoSpace}
 use Rattle.sm_machine.specs.Refusals.{forked, is_bad_size, is_deep, is_in_use, is_not_attached, is_out_of_range, is_raw_disk, is_read_only, is_reserved, is_shrink, is_spent, is_taken, is_too_many, is_unknown, lacks_space, named, need, new_uuid, refusal}
-use Rattle.sm_machine.specs.Shapes.{ImageRow, Shape, free, image_uuid, refs}
+use Rattle.sm_machine.specs.Collector.{as_leaf}
+use Rattle.sm_machine.specs.Shapes.{ImageRow, Shape, free, image_uuid, refs, with_image, without_image}
 use Rattle.sm_machine.specs.Steps.{State}
 use Rattle.sm_machine.specs.WellFormed.{IsOperation, IsWellFormed, is_image_name}
 use Rattle.sm_machine.specs.declared.commands.Command.TheVariants.{Gc}
+use Rattle.sm_refs.specs.Attached.{Attached, count_of, same_name}
+use Rattle.sm_refs.proofs.NameLemmas.{other_name, same_name-refl}
+use Rattle.sm_refs.proofs.TallyLemmas.{lookup-without}
 use Rattle.sm_mgt.specs.Places.{Agrees, records_held}
 use Rattle.sm_record.specs.declared.records.Record.{Record}
 use Rattle.sm_standing.proofs.DisksShown.{row_of-In}
 use Rattle.sm_ready.specs.Done.{at_rest}
-use Rattle.sm_ready.specs.Known.{Known, machine_row, shape_in}
-use Rattle.sm_ready.specs.Orderly.{IsOrderly}
+use Rattle.sm_ready.specs.Known.{Known, machine_row, shape_in, tree_face}
+use Rattle.sm_ready.specs.Orderly.{IsOrderly, IsRoomy}
 use Rattle.sm_ready.specs.Ready.{IsReady, IsTidy}
 use Rattle.sm_ready.proofs.CommitLaws.{volume_rested}
 use Rattle.sm_ready.proofs.NewLaws.{well_target}
@@ -43,10 +48,11 @@ use Rattle.sm_ready.proofs.Orders.{In-tree_row, named_row}
 use Rattle.sm_ready.proofs.RestLaws.{agrees_keeps, keeps_rest, steady_keeps}
 use Rattle.sm_ready.proofs.RowLaws.{found_in, image_named}
 use Rattle.gc_abandon.proofs.EntryLaws.{fresh_image}
-use Rattle.gc_leaf.proofs.SwapMemory.{folded, folded_name, images_alike, images_then, in_then, known_as, known_is, known_then, name_or, parent_row, shape_as, shown_still}
+use Rattle.gc_leaf.specs.Swapping.{CountsAs, IsUncounted, folding_of, swapped_rows}
+use Rattle.gc_leaf.proofs.SwapMemory.{folded, folded_name, images_alike, images_then, in_then, known_as, known_is, known_then, known_with, name_or, parent_found, parent_row, rows_then, shape_as, shape_with, shown_still}
 use Rattle.gc_leaf.proofs.SwapPair.{leaf_is, parent_is, parent_vol, u, v}
-use Rattle.gc_leaf.proofs.SwapSteps.{IsToSwap}
-use Rattle.gc_leaf.proofs.SwapUses.{swap_uses}
+use Rattle.gc_leaf.proofs.SwapSteps.{IsToSwap, free_of, only_of}
+use Rattle.gc_leaf.proofs.SwapUses.{live_gone, live_uses, swap_uses}
 use Rattle.gc_leaf.proofs.SwapTables.{shown_row, stage_5, table_then}
 
 -- the collector is never refused
@@ -132,41 +138,126 @@ module _ {s : Site} {t : VolumeTable} {m : Known} {l p : Name} {cursor : ℕ} (h
   well : ∥ IsWellFormed (shape_in s last (known_as h)) ∥₁
   well = well_target s t m Gc state (shape_in s last (known_as h)) h.orderly refl (shape_as h ∙ sym (step_shape state Gc (never_refused (shape_in s t m))))
 
-  -- each image is used as often as before
-  counts_then : (n : Name) → refs n (shape_in s last (known_as h)) ≡ refs n (shape_in s t m)
-  unfolding shape_in refs
-  counts_then n = ∥∥₁_elim h.orderly.well_formed (hlevel props) (λ w. ∥∥₁_elim well (hlevel props) (λ z.
-      let works = subst (IsOperation (shape_in s t m)) h.is w.operation in
-      let uses = swap_uses (shape_in s t m) l p w works.0 works.2 (machine_row (parent_row h)) (In-map_at machine_row m.rows (parent_row h) parent_at.0) (parent_at.1
-      ∙ sym (parent_is h)) (parent_vol h).image_shown
-      (subst (λ is. Distinct (map (λ (i : ImageRow). image_uuid i.name) is)) (images_then h) z.one_image) n in
-      ap (λ is. refs n (record (shape_in s t m) { images = is })) (images_then h) ∙ uses))
-
-  orderly_as : IsOrderly s last (known_as h)
-  unfolding shape_in
-  orderly_as = record {
-    table = (stage_5 h).table;
-    few_extents = h.orderly.few_extents;
-    record_volume = ap (λ x. length (extents_of x)) mgt_same ∙ h.orderly.record_volume;
-    few = (stage_5 h).few;
-    new_named = λ r i fresh. absurd (true≢false (sym fresh ∙ none_new r i));
-    images = images_alike h;
-    places = h.orderly.places;
-    entries = (stage_5 h).entries_are;
-    stands = λ r i. ⊎_elim
-        (λ is. subst (λ (q : TreeRow). StandsIn s.geometry (q.extents * s.geometry.extent) q.image) (sym is)
-        (stands_in s.geometry ((parent_row h).extents * s.geometry.extent) l (parent_row h).image (h.orderly.stands (parent_row h) parent_at.0)))
-        (λ w. h.orderly.stands r w.0) (in_then h r i);
-    well_formed = well;
-    roomy = tt;
-    counts = λ n. h.orderly.counts n ∙ sym (counts_then n);
-  }
-
-  pub orderly_then : IsOrderly s last (known_then h)
-  orderly_then = subst (IsOrderly s last) (sym (known_is h)) orderly_as
-
-  pub tidy_then : IsTidy last (known_then h)
+  tidy_then : IsTidy last (known_then h)
   tidy_then = subst (IsTidy last) (sym (known_is h)) (record { none_new = none_new; no_stray = λ (r : Record) i. shown_still h r.uuid ∙ h.tidy.no_stray r i })
+
+  roomy_as : IsRoomy (shape_in s last (known_as h))
+  unfolding shape_in
+  roomy_as = tt
+
+  -- the counts, which are those of the attachments from before where the leaf is not attached, and else of those without the parent's
+
+  parent_image : is_image_name p ≡ true
+  unfolding is_image_name
+  parent_image = ap is_image_name (parent_is h)
+
+  base_there : In (machine_row (parent_row h)) (map machine_row m.rows)
+  base_there = In-map_at machine_row m.rows (parent_row h) parent_at.0
+
+  module _ (w : IsWellFormed (shape_in s t m)) (z : IsWellFormed (shape_in s last (known_as h))) where
+    works : IsOperation (shape_in s t m) (folding_of h.attached l p cursor [])
+    unfolding shape_in
+    works = subst (IsOperation (shape_in s t m)) h.is w.operation
+
+    differ : Distinct (map (λ (i : ImageRow). image_uuid i.name) (with_image (as_leaf l (machine_row (parent_row h))) (without_image p (without_image l (map machine_row m.rows)))))
+    unfolding shape_in
+    differ = subst (λ is. Distinct (map (λ (i : ImageRow). image_uuid i.name) is)) (images_then h) z.one_image
+
+    swapped_refs : (n : Name) → refs n (shape_in s last (known_as h)) ≡ refs n (record (shape_in s t m) { images = with_image (as_leaf l (machine_row (parent_row h))) (without_image p (without_image l (map machine_row m.rows))) })
+    unfolding shape_in refs
+    swapped_refs n = ap (λ is. refs n (record (shape_in s t m) { images = is })) (images_then h)
+
+    counts_by : (attached : Bool) → IsOperation (shape_in s t m) (folding_of attached l p cursor []) → (att : Attached) → CountsAs (folding_of attached l p cursor []) p m.attached att → (n : Name)
+        → count_of att n ≡ refs n (shape_in s last (known_as h))
+    unfolding shape_in
+    counts_by false o att same n =
+        ap (λ (x : Attached). count_of x n) same ∙ h.orderly.counts n
+        ∙ sym (swapped_refs n ∙ swap_uses (shape_in s t m) l p w (only_of (shape_in s t m) false l p cursor [] o) parent_image (machine_row (parent_row h)) base_there (parent_at.1 ∙ sym (parent_is h))
+        (parent_vol h).image_shown differ (free_of (shape_in s t m) l p cursor [] o) n (name_or n p))
+    counts_by true o att gone n = by (name_or n p)
+      where
+        by : (n ≡ p) ⊎ (n ≢ p) → count_of att n ≡ refs n (shape_in s last (known_as h))
+        by (inl is) = ap (count_of att) is ∙ gone.gone
+            ∙ sym (swapped_refs n ∙ ap (λ x. refs x (record (shape_in s t m) { images = with_image (as_leaf l (machine_row (parent_row h))) (without_image p (without_image l (map machine_row m.rows))) })) is
+            ∙ live_gone (shape_in s t m) l p w (only_of (shape_in s t m) true l p cursor [] o) parent_image (machine_row (parent_row h)) base_there (parent_at.1 ∙ sym (parent_is h)) (parent_vol h).image_shown differ)
+        by (inr other) = gone.others n other ∙ h.orderly.counts n
+            ∙ sym (swapped_refs n ∙ live_uses (shape_in s t m) l p w (only_of (shape_in s t m) true l p cursor [] o) parent_image (machine_row (parent_row h)) base_there (parent_at.1 ∙ sym (parent_is h))
+            (parent_vol h).image_shown differ n other)
+
+  -- attachments that are so
+  abbrev uncounted : Attached
+  uncounted = record m.attached { counts = filter (λ (e : Name × ℕ). not (same_name p e.0)) m.attached.counts }
+
+  uncounted_is : IsUncounted p m.attached uncounted
+  uncounted_is = record {
+    disks = refl;
+    gone = ap tally_of (lookup-without m.attached.counts p p ∙ ap (λ c. cond c None (lookup (same_name p) m.attached.counts)) (same_name-refl p));
+    others = λ n other. ap tally_of (lookup-without m.attached.counts p n ∙ ap (λ c. cond c None (lookup (same_name n) m.attached.counts)) (other_name p n (λ is. other (sym is))));
+    room = omega arith;
+  }
+    where
+      tally_of : Option ℕ → ℕ
+      tally_of o = unwrap_or o 0
+
+  counted_by : (attached : Bool) → (att : Attached) × CountsAs (folding_of attached l p cursor []) p m.attached att
+  counted_by true = (uncounted, uncounted_is)
+  counted_by false = (m.attached, refl)
+
+  pub counted_then : Attached
+  counted_then = (counted_by h.attached).0
+
+  pub counted_as : CountsAs m.op p m.attached counted_then
+  unfolding counted_then
+  counted_as = subst (λ o. CountsAs o p m.attached (counted_by h.attached).0) (sym h.is) (counted_by h.attached).1
+
+  module _ (att : Attached) (so : CountsAs m.op p m.attached att) where
+    as_folding : CountsAs (folding_of h.attached l p cursor []) p m.attached att
+    as_folding = subst (λ o. CountsAs o p m.attached att) h.is so
+
+    pub same_disks : att.disks ≡ m.attached.disks
+    same_disks = by h.attached as_folding
+      where
+        by : (attached : Bool) → CountsAs (folding_of attached l p cursor []) p m.attached att → att.disks ≡ m.attached.disks
+        by true w = w.disks
+        by false w = ap (λ (x : Attached). x.disks) w
+
+    pub same_room : m.attached.room ≤ att.room
+    same_room = by h.attached as_folding
+      where
+        by : (attached : Bool) → CountsAs (folding_of attached l p cursor []) p m.attached att → m.attached.room ≤ att.room
+        by true w = w.room
+        by false w = let same = ap (λ (x : Attached). x.room) w in omega (arith, same)
+
+    counts_then : (n : Name) → count_of att n ≡ refs n (shape_in s last (known_as h))
+    counts_then n = ∥∥₁_elim h.orderly.well_formed (hlevel props) (λ w. ∥∥₁_elim well (hlevel props) (λ z. counts_by w z h.attached (works w z) att as_folding n))
+
+    shape_as_with : shape_in s last (known_with h att) ≡ shape_in s last (known_as h)
+    shape_as_with = shape_with h att same_disks ∙ ap (shape_in s last) (known_is h)
+
+    rows_are : swapped_rows l (tree_row m.rows p) p m.rows ≡ rows_then h
+    rows_are = ap (λ o. swapped_rows l o p m.rows) (parent_found h)
+
+    pub orderly_then : IsOrderly s last (known_with h att)
+    orderly_then = record {
+      table = (stage_5 h).table;
+      few_extents = h.orderly.few_extents;
+      record_volume = ap (λ x. length (extents_of x)) mgt_same ∙ h.orderly.record_volume;
+      few = (stage_5 h).few;
+      new_named = λ r i fresh. absurd (true≢false (sym fresh ∙ none_new r i));
+      images = λ n is. images_alike h n is ∙ ap (λ rs. tree_face (tree_row rs n)) (sym rows_are);
+      places = h.orderly.places;
+      entries = (stage_5 h).entries_are;
+      stands = λ r i. ⊎_elim
+          (λ is. subst (λ (q : TreeRow). StandsIn s.geometry (q.extents * s.geometry.extent) q.image) (sym is)
+          (stands_in s.geometry ((parent_row h).extents * s.geometry.extent) l (parent_row h).image (h.orderly.stands (parent_row h) parent_at.0)))
+          (λ w. h.orderly.stands r w.0) (in_then h r (subst (In r) rows_are i));
+      well_formed = subst (λ σ. ∥ IsWellFormed σ ∥₁) (sym shape_as_with) well;
+      roomy = subst (λ σ. IsRoomy σ) (sym shape_as_with) roomy_as;
+      counts = λ n. counts_then n ∙ sym (ap (refs n) shape_as_with);
+    }
+
+    pub tidy_with : IsTidy last (known_with h att)
+    tidy_with = record { none_new = tidy_then.none_new; no_stray = tidy_then.no_stray }
 
   -- ---- ready
 
@@ -200,3 +291,10 @@ module _ {s : Site} {t : VolumeTable} {m : Known} {l p : Name} {cursor : ℕ} (h
 
     pub ready_then : IsReady s last end (known_then h)
     ready_then = subst (IsReady s last end) (sym (known_is h)) ready_as
+
+    pub ready_with : (att : Attached) → IsReady s last end (known_with h att)
+    ready_with att = record {
+      firm = record { images = ready_then.firm.images; quiet = λ r i _. volume_rested s last (reads old) (row_name r); below = tt };
+      records = ready_then.records;
+      recorded = ready_then.recorded;
+    }

@@ -5,14 +5,15 @@ use Rattle.std.proofs.Props.{props}
 use Rattle.std.proofs.lemmas.Bool.{true≢false}
 use Rattle.std.proofs.lemmas.Option.{same_Some}
 use Rattle.common_laws.specs.Lists.{In}
-use Rattle.common_laws.proofs.Bytes.{bytes_eq-apart, bytes_eq-refl}
+use Rattle.common_laws.proofs.Bytes.{bytes_eq-apart, bytes_eq-refl, same_or_not}
 use Rattle.common_laws.proofs.Lists.{In-filter, In-insert, In-insert_new, In-map_at}
 use Rattle.sm_base.specs.Kinds.{is_image}
 use Rattle.sm_base.proofs.KindLaws.{image-no_entry}
 use Rattle.sm_base.specs.declared.names.Name.{Name}
 use Rattle.sm_base.specs.declared.names.Name.TheVariants.{Old, Vhd}
-use Rattle.sm_base.specs.declared.operations.Op.{Op}
-use Rattle.sm_base.specs.declared.operations.Op.TheVariants as op
+use Rattle.sm_machine.specs.Operations.{Op}
+use Rattle.sm_machine.specs.Operations as op
+use Rattle.sm_base.specs.declared.operations.Mode.{Mode}
 use Rattle.sm_base.specs.declared.operations.Plan.TheVariants as plan
 use Rattle.vg_meta.specs.Tables.{VolumeTable, name_eq, rows}
 use Rattle.vg_meta.proofs.NameLaws.{name_eq-false, name_eq-same, name_eq-true}
@@ -30,6 +31,7 @@ use Rattle.sm_machine.specs.WellFormed.{is_image_name}
 use Rattle.sm_machine.specs.declared.commands.Command.TheVariants.{Gc}
 use Rattle.sm_machine.proofs.Chains.{find_image-in}
 use Rattle.sm_machine.proofs.ImageNames.{other_image, same_image-refl}
+use Rattle.sm_refs.specs.Attached.{Attached}
 use Rattle.sm_ready.specs.Known.{Known, is_shown, machine_row, records_in, row_face, shape_in, shown_places, tree_face}
 use Rattle.sm_ready.proofs.LastLaws.{images_with, shown_with}
 use Rattle.sm_ready.proofs.Orders.{In-tree_row, filled_face, named_row, other_row}
@@ -38,9 +40,8 @@ use Rattle.sm_ready.proofs.ShapeLaws.{any_at, any_filter, shown_same}
 use Rattle.gc_coalesce.proofs.PlannedLaws.{gc_shape}
 use Rattle.gc_leaf.specs.Swapping.{leaf_row, swapped_rows}
 use Rattle.gc_leaf.proofs.SwapFold.{named_in}
-use Rattle.gc_leaf.proofs.SwapMoments.{uuid_or}
 use Rattle.gc_leaf.proofs.SwapPair.{apart, leaf_is, leaf_vol, parent_is, parent_vol, u, v, vhd_uuid}
-use Rattle.gc_leaf.proofs.SwapSteps.{IsToSwap}
+use Rattle.gc_leaf.proofs.SwapSteps.{IsToSwap, swapped_is}
 use Rattle.gc_leaf.proofs.SwapTables.{shown_row, stage_5, table_then}
 
 -- ---- names
@@ -175,7 +176,7 @@ module _ {s : Site} {t : VolumeTable} {m : Known} {l p : Name} {cursor : ℕ} (h
 
   pub shown_still : (x : List ℕ) → is_shown rows_then x ≡ is_shown m.rows x
   unfolding shape_in shown_test
-  shown_still x = by (uuid_or x (u h))
+  shown_still x = by (same_or_not x (u h))
     where
       leaf_in : In (leaf_vol h).image m.rows × (row_name (leaf_vol h).image ≡ Vhd (u h))
       leaf_in = In-tree_row m.rows (Vhd (u h)) (leaf_vol h).image (leaf_vol h).found
@@ -251,9 +252,10 @@ module _ {s : Site} {t : VolumeTable} {m : Known} {l p : Name} {cursor : ℕ} (h
       ∙ ap (mk (risen t.sequence 5) (records_in (shown_places m.rows m.places))) images_then
 
   collected_is : collected plan.Swap (shape_in s t m) ≡ mk t.sequence (records_in (shown_places m.rows m.places)) machine_images
-  unfolding shape_in collected swapped_shape
+  unfolding shape_in collected
   collected_is =
       ap (λ (o : Op). swapped_shape o (shape_in s t m)) h.is
+      ∙ swapped_is (shape_in s t m) h.attached l p cursor
       ∙ ap (λ (o : Option ImageRow). mk t.sequence (records_in (shown_places m.rows m.places)) (with_found o (as_leaf l) (without_image p (without_image l (map machine_row m.rows))))) found_machine
 
   pub shape_as : shape_in s (table_then h) known_as ≡ shape_next (shape_in s t m) Gc
@@ -265,3 +267,12 @@ module _ {s : Site} {t : VolumeTable} {m : Known} {l p : Name} {cursor : ℕ} (h
 
   pub shape_then : shape_in s (table_then h) known_then ≡ shape_next (shape_in s t m) Gc
   shape_then = ap (shape_in s (table_then h)) known_is ∙ shape_as
+
+  -- ---- with other counts of the same attached disks
+
+  abbrev pub known_with : Attached → Known
+  known_with att = record m { rows = swapped_rows l (tree_row m.rows p) p m.rows; attached = att; op = op.Idle }
+
+  pub shape_with : (att : Attached) → att.disks ≡ m.attached.disks → shape_in s (table_then h) (known_with att) ≡ shape_in s (table_then h) known_then
+  unfolding shape_in
+  shape_with att same = ap (λ (ds : List (List ℕ × Mode)). record (shape_in s (table_then h) known_then) { attached = map (λ a. record { disk = a.0; mode = a.1 }) ds }) same

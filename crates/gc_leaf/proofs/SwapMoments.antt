@@ -1,83 +1,68 @@
--- Whatever a stop leaves among the commits of a swap is kept and shows the disks from before.
-use Rattle.std.proofs.Common.{◌≡◌, ◌≢◌, ◌⊎◌, inl, inr, ⊎_elim, ℕ, ◌<◌, ◌&&◌, ◌||◌, not, Bool, true, false, List, [], ◌∷◌, filter, get_or, length, Option, Some, None, is_some, map, refl, sym, ap, ap₂, ◌∙◌, subst, arith, bytes_eq}
-use Rattle.std.proofs.lemmas.Bool.{or_right, true≢false}
+-- Whatever a stop leaves among the commits of a swap is kept and shows the disks from before. Behind the first of them, the leaf's
+-- rename, each volume is looked at. From there on the commits are those by which an opening ends the folding of a leaf that was cut
+-- short, so what they leave is kept and shows the same disks (`law_leaf` of `sm_standing`).
+use Rattle.std.proofs.Common.{◌≡◌, ◌≢◌, ◌⊎◌, inl, inr, ⊎_elim, ℕ, ◌≤◌, ◌&&◌, ◌||◌, not, Bool, true, false, cond, List, [], ◌∷◌, ◌++◌, filter, get_or, length, take, Option, Some, None, is_some, map, refl, sym, ap, ap₂, ◌∙◌, subst, arith}
+use Rattle.std.proofs.lemmas.Bool.{true≢false}
 use Rattle.std.proofs.lemmas.Option.{none-some}
-use Rattle.std.proofs.lemmas.Slice.Eq.{bytes_eq-Decides}
 use Rattle.common_laws.specs.Lists.{In}
-use Rattle.common_laws.proofs.Bytes.{bytes_eq-refl}
+use Rattle.common_laws.proofs.Bytes.{same_or_not}
 use Rattle.common_laws.proofs.Lists.{In-map_at, filter-In}
 use Rattle.sm_base.specs.Kinds.{is_entry}
+use Rattle.sm_base.specs.Numbers.{IsGeometry}
 use Rattle.sm_base.specs.declared.names.Name.{Name}
-use Rattle.sm_base.specs.declared.names.Name.TheVariants.{Mgt, Vhd, Raw, Old, Clone, Inflate, Coalesce, Relink, Leaf}
-use Rattle.sm_disk.specs.Held.{Allows, Held, reads}
+use Rattle.sm_base.specs.declared.names.Name.TheVariants.{Mgt, Vhd, Raw, Old, Cbt, Clone, Inflate, Coalesce, Relink, Leaf}
+use Rattle.sm_disk.specs.Held.{Held, reads}
+use Rattle.sm_disk.proofs.HeldLaws.{may_settled}
 use Rattle.vg_meta.specs.Tables.{Row, VolumeTable, extents_of, names_of, rows}
+use Rattle.vg_meta.specs.declared.changes.Change.{Change}
+use Rattle.vg_meta.specs.declared.changes.Change.TheVariants.{Mark, Remove, Rename}
+use Rattle.vg_meta.specs.declared.changes.Tag.TheVariants.{Hidden}
+use Rattle.vg_meta.proofs.ByName.{changes_by_name}
 use Rattle.vg_meta.proofs.RowLaws.{row_of-name}
 use Rattle.vg_volumes.specs.Commits.{IsBefore}
-use Rattle.vg_volumes.specs.Sites.{Site, area_size, size_of, volume_of}
-use Rattle.vg_volumes.specs.Volumes.{span, volume}
+use Rattle.vg_volumes.specs.Sites.{Site, area_size}
+use Rattle.vg_volumes.specs.Volumes.{piece}
 use Rattle.sm_machine.specs.Disks.{Disk}
 use Rattle.sm_machine.specs.Runs.{HasSector, face}
 use Rattle.sm_record.specs.Records.{reading}
 use Rattle.sm_record.specs.declared.records.Record.{Record}
 use Rattle.sm_mgt.specs.Places.{as_reading}
 use Rattle.sm_standing.specs.Apart.{IsSameApart, is_apart}
-use Rattle.sm_standing.specs.Checks.{is_damaged}
-use Rattle.sm_standing.specs.Contents.{Content, is_record_of, reading_at, record_count, records, sectors_of}
-use Rattle.sm_standing.specs.Entries.{folding, head, is_among, is_folding, is_leaf_folded, is_leaf_renamed, is_leaf_swapped, is_making, making, names_in, of_row}
+use Rattle.sm_standing.specs.Checks.{first_fault, is_damaged}
+use Rattle.sm_standing.specs.Contents.{Content, is_record_of, reading_at, records, sectors_of}
+use Rattle.sm_standing.specs.Entries.{folding, head, is_among, is_folding, is_leaf_renamed, is_leaf_swapped, is_making, making, of_row}
 use Rattle.sm_standing.specs.Images.{Image, image_of}
-use Rattle.sm_standing.specs.Keeping.{IsHolding, IsKept}
+use Rattle.sm_standing.specs.Keeping.{HoldsWell, IsHolding, IsKept}
+use Rattle.sm_standing.specs.Leaves.{IsEnding}
+use Rattle.sm_standing.specs.Opened.{applied_all, end_changes, leaf_gone, parent_changes, wanted}
 use Rattle.sm_standing.specs.Standing.{disks, stands_plainly}
-use Rattle.sm_standing.specs.Swaps.{IsLeafAway, IsLeafGone, IsParentNamed, IsSwapping, swapped}
-use Rattle.sm_standing.specs.Volumes.{IsSameVolume}
-use Rattle.sm_standing.proofs.ImageSectors.{gone, raw_same, vhd_same, whole_none}
-use Rattle.sm_standing.proofs.RecordLists.{first_of, record_of_first, records_same}
+use Rattle.sm_standing.specs.Swaps.{swapped}
+use Rattle.sm_standing.specs.Undone.{IsSameArea}
 use Rattle.sm_standing.proofs.DisksShown.{row_of-In}
-use Rattle.sm_standing.proofs.SwapLaws.{swapping}
-use Rattle.sm_standing.proofs.WorldLaws.{commit_before}
+use Rattle.sm_standing.proofs.ImageSectors.{same_images, vhd_same, whole_none}
+use Rattle.sm_standing.proofs.LeafContents.{left_kept, left_on_the_way, left_shown}
+use Rattle.sm_standing.proofs.LeafEnds.{ends_are}
+use Rattle.sm_standing.proofs.RecordLists.{first_of, record_of_first, records_same}
+use Rattle.sm_standing.proofs.SwapLaws.{leaf_among, swapping, which}
 use Rattle.sm_ready.specs.Done.{at_rest}
 use Rattle.sm_ready.specs.Known.{Known}
 use Rattle.sm_ready.specs.Ready.{IsReady}
 use Rattle.sm_ready.specs.Stores.{Leaving, MayShow, content_in, content_now}
-use Rattle.sm_ready.proofs.CommitLaws.{IsSafe, ready_safe, volume_rested}
+use Rattle.sm_ready.proofs.CommitLaws.{IsSafe, ready_safe}
 use Rattle.sm_ready.proofs.KeptLaws.{law_kept}
-use Rattle.sm_ready.proofs.LeftLaws.{IsLeft, extent_some, left_in, left_now, mgt_long, none_of_vhd, now_sector, place_reads, ready_places}
+use Rattle.sm_ready.proofs.LeftLaws.{IsLeft, left_in, left_now, none_of_vhd, place_reads, ready_places}
 use Rattle.sm_ready.proofs.Orders.{geometry_of, whole}
 use Rattle.sm_ready.proofs.RowLaws.{found_in}
 use Rattle.sm_calls.specs.Calls.{GoesWell, ShowsBetween, commits}
 use Rattle.sm_calls.proofs.StoreLaws.{safe_fine}
-use Rattle.gc_leaf.specs.Moments.{IsSwapMoment, IsSwapStage}
-use Rattle.gc_leaf.specs.Swapping.{front_changes}
+use Rattle.gc_leaf.specs.Moments.{IsSwapMoment}
+use Rattle.gc_leaf.specs.Swapping.{front_changes, swap_changes}
 use Rattle.gc_leaf.proofs.SwapCopied.{hidden_away, leaf_image, parent_image, stands_none, swappable}
 use Rattle.gc_leaf.proofs.SwapNames.{folding_among, making_among}
-use Rattle.gc_leaf.proofs.SwapPair.{entry_alone, no_raw_leaf, no_raw_parent, none_old, parent_vol, u, v}
+use Rattle.gc_leaf.proofs.SwapPair.{no_raw_leaf, no_raw_parent, none_old, parent_vol, u, v}
 use Rattle.gc_leaf.proofs.SwapSound.{swap_sound}
 use Rattle.gc_leaf.proofs.SwapSteps.{IsToSwap}
-use Rattle.gc_leaf.proofs.SwapTables.{IsSwapTable, base_was, named_row, old_row, shown_row, stage_1, stage_2, stage_3, stage_4, stage_5, table_1, table_2, table_3, table_4, table_then}
-
-pub uuid_or : (x y : List ℕ) → (x ≡ y) ⊎ (x ≢ y)
-uuid_or x y = by (bytes_eq x y) refl
-  where
-    by : (b : Bool) → bytes_eq x y ≡ b → (x ≡ y) ⊎ (x ≢ y)
-    by true e = inl ((bytes_eq-Decides x y).0 e)
-    by false e = inr (λ is. true≢false (sym (ap (bytes_eq x) (sym is) ∙ bytes_eq-refl x) ∙ e))
-
--- ---- the stages
-
-module _ (x : VolumeTable) (l p : List ℕ) where
-  renamed_at : (g b : Row) → rows x (Old l) ≡ Some g → rows x (Vhd p) ≡ Some b → b.hidden ≡ true → b.fresh ≡ false → rows x (Vhd l) ≡ None → rows x (Raw l) ≡ None → is_leaf_renamed x l p ≡ true
-  renamed_at g b old base hidden filled none raw =
-      ap₂ (λ c d. c && d) (ap is_some old)
-      (ap₂ (λ c d. c && d) (ap (of_row (λ r. r.hidden && not r.fresh)) base ∙ ap₂ (λ c d. c && not d) hidden filled) (ap₂ (λ c d. not (is_some c) && not (is_some d)) none raw))
-
-  swapped_at : (g b : Row) → rows x (Old l) ≡ Some g → rows x (Vhd l) ≡ Some b → b.fresh ≡ false → rows x (Vhd p) ≡ None → is_leaf_swapped x l p ≡ true
-  swapped_at g b old leaf filled none =
-      ap₂ (λ c d. c && d) (ap is_some old) (ap₂ (λ c d. c && d) (ap (of_row (λ r. not r.fresh)) leaf ∙ ap not filled) (ap (λ c. not (is_some c)) none))
-
-  folded_at : (b : Row) → rows x (Old l) ≡ None → rows x (Vhd l) ≡ Some b → b.hidden ≡ false → b.fresh ≡ false → rows x (Vhd p) ≡ None → is_leaf_folded x l p ≡ true
-  folded_at b old leaf shown filled none =
-      ap₂ (λ c d. c && d) (ap (of_row (λ r. not r.hidden && not r.fresh)) leaf ∙ ap₂ (λ c d. not c && not d) shown filled) (ap₂ (λ c d. not (is_some c) && not (is_some d)) old none)
-
--- ---- a moment
+use Rattle.gc_leaf.proofs.SwapTables.{base_was, may_1, stage_1, table_1, table_2, table_3, table_4, table_then}
 
 module _ {s : Site} {t : VolumeTable} {m : Known} {l p : Name} {cursor : ℕ} (h : IsToSwap s t m l p cursor) where
   abbrev leaf : List ℕ
@@ -89,416 +74,269 @@ module _ {s : Site} {t : VolumeTable} {m : Known} {l p : Name} {cursor : ℕ} (h
   abbrev us : List (List ℕ)
   us = swapped leaf parent
 
-  abbrev entry : List Name
-  entry = Leaf leaf parent ∷ []
+  -- ---- the table behind the leaf's rename
 
-  -- a table behind one of the commits, with the entry or without: the parent's image lies in n
-  record IsMomentTable (x : VolumeTable) (n : Name) (ns : List Name) : Type 0 where
-    leaf_now : Option Row
-    base_now : Option Row
-    gone_now : Option Row
-    is : IsSwapTable s.count t leaf parent x leaf_now base_now gone_now ns
-    either : (ns ≡ entry) ⊎ (ns ≡ [])
-    stage : IsSwapStage x leaf parent n
+  abbrev x : VolumeTable
+  x = table_1 h
+
+  -- each volume but the leaf is as it was
+  other_row : (y : Name) → y ≢ Vhd leaf → y ≢ Old leaf → rows x y ≡ rows t y
+  other_row y not_leaf not_old = let c = changes_by_name s.count t (Rename (Vhd leaf) (Old leaf)) h.orderly.table (may_1 h) in c.others y (λ of. ⊎_elim not_leaf not_old of)
+
+  raw_row : (w : List ℕ) → rows x (Raw w) ≡ rows t (Raw w)
+  raw_row w = other_row (Raw w) (λ e. (let z = e in cc)) (λ e. (let z = e in cc))
+
+  base_row : rows x (Vhd parent) ≡ rows t (Vhd parent)
+  base_row = (stage_1 h).base_row ∙ sym (parent_vol h).there
+
+  near : is_apart us (Vhd leaf) ≡ false
+  near = ap (λ c. not (c || false)) (leaf_among leaf parent)
+
+  apart_row : (y : Name) → is_apart us y ≡ true → rows x y ≡ rows t y
+  apart_row y apart = other_row y (λ is. true≢false (sym apart ∙ ap (is_apart us) is ∙ near)) (λ is. true≢false (sym apart ∙ ap (is_apart us) is ∙ near))
+
+  raised : t.sequence ≤ x.sequence
+  raised = omega (arith, h.orderly.table.sequence)
+
+  making_now : making x ≡ []
+  making_now = making_among (names_of x.volumes) ∙ ap (filter is_making) (stage_1 h).entries_are
+
+  folding_now : folding x ≡ Leaf leaf parent ∷ []
+  folding_now = folding_among (names_of x.volumes) ∙ ap (filter is_folding) (stage_1 h).entries_are
+
+  renamed_now : is_leaf_renamed x leaf parent ≡ true
+  renamed_now =
+      ap₂ (λ c d. c && d) (ap is_some (stage_1 h).gone_row)
+      (ap₂ (λ c d. c && d) (ap (of_row (λ r. r.hidden && not r.fresh)) (stage_1 h).base_row ∙ ap₂ (λ c d. c && not d) (parent_vol h).shown (parent_vol h).filled)
+      (ap₂ (λ c d. not (is_some c) && not (is_some d)) (stage_1 h).leaf_row (raw_row leaf ∙ no_raw_leaf h)))
+
+  -- ---- which of its volumes have a name that speaks of the two
+
+  found : (r : Row) → In r x.volumes → rows x r.name ≡ Some r
+  found r i = found_in x.volumes (stage_1 h).table.volumes.rising r i
+
+  none_at : {A : Type 0} (r : Row) → In r x.volumes → rows x r.name ≡ None → A
+  none_at r i none = absurd (none-some r (sym none ∙ found r i))
+
+  -- there is no other entry
+  entry_is : (r : Row) → In r x.volumes → is_entry r.name ≡ true → r.name ≡ Leaf leaf parent
+  entry_is r i e = by (subst (In r.name) (stage_1 h).entries_are (filter-In is_entry (names_of x.volumes) r.name (In-map_at (λ (y : Row). y.name) x.volumes r i) e))
+    where
+      by : In r.name (Leaf leaf parent ∷ []) → r.name ≡ Leaf leaf parent
+      by (inl is) = is
+      by (inr none) = absurd none
+
+  one_of_two : (w : List ℕ) → not (is_among us w || false) ≡ false → (w ≡ leaf) ⊎ (w ≡ parent)
+  one_of_two w e = by (which leaf parent w).cases
+    where
+      by : (w ≡ leaf) ⊎ ((w ≡ parent) ⊎ (is_among us w ≡ false)) → (w ≡ leaf) ⊎ (w ≡ parent)
+      by (inl at) = inl at
+      by (inr (inl at)) = inr at
+      by (inr (inr other)) = absurd (true≢false (sym (ap (λ c. not (c || false)) other) ∙ e))
+
+  raw_none : (w : List ℕ) → (w ≡ leaf) ⊎ (w ≡ parent) → rows x (Raw w) ≡ None
+  raw_none w (inl at) = raw_row w ∙ ap (λ y. rows t (Raw y)) at ∙ no_raw_leaf h
+  raw_none w (inr at) = raw_row w ∙ ap (λ y. rows t (Raw y)) at ∙ no_raw_parent h
+
+  near_named : (r : Row) → In r x.volumes → (y : Name) → r.name ≡ y → is_apart us y ≡ false → (r.name ≡ Leaf leaf parent) ⊎ ((r.name ≡ Vhd parent) ⊎ (r.name ≡ Old leaf))
+  near_named r i Mgt is e = absurd (true≢false e)
+  near_named r i (Vhd w) is e = ⊎_elim (λ at. none_at r i (ap (rows x) (is ∙ ap Vhd at) ∙ (stage_1 h).leaf_row)) (λ at. inr (inl (is ∙ ap Vhd at))) (one_of_two w e)
+  near_named r i (Raw w) is e = none_at r i (ap (rows x) is ∙ raw_none w (one_of_two w e))
+  near_named r i (Old w) is e =
+      ⊎_elim (λ same. inr (inr (is ∙ ap Old same)))
+      (λ other. none_at r i (ap (rows x) is ∙ other_row (Old w) (λ z. (let y = z in cc)) (λ z. other (let y = z in cc)) ∙ none_old h w)) (same_or_not w leaf)
+  near_named r i (Cbt w) is e = absurd (true≢false e)
+  near_named r i (Clone d b w) is e = inl (entry_is r i (ap is_entry is))
+  near_named r i (Inflate w j) is e = inl (entry_is r i (ap is_entry is))
+  near_named r i (Coalesce c q) is e = inl (entry_is r i (ap is_entry is))
+  near_named r i (Relink c q) is e = inl (entry_is r i (ap is_entry is))
+  near_named r i (Leaf c q) is e = inl (entry_is r i (ap is_entry is))
+
+  -- ---- the changes left are those by which an opening ends the folding of the leaf
+
+  abbrev changes_left : List Change
+  changes_left = Rename (Vhd parent) (Vhd leaf) ∷ Mark (Vhd leaf) Hidden false ∷ leaf_gone leaf parent
+
+  -- what they are where the leaf was not renamed
+  abbrev otherwise : List Change
+  otherwise =
+      cond (is_leaf_swapped x leaf parent) (wanted (of_row (λ r. r.hidden) (rows x (Vhd leaf))) (Mark (Vhd leaf) Hidden false) ++ leaf_gone leaf parent) (Remove (Leaf leaf parent) ∷ [])
+
+  ends_so : end_changes x ≡ changes_left
+  ends_so = ends_are x leaf parent folding_now ∙ ap₂ (λ b ns. cond b (parent_changes x parent (head ns) ++ changes_left) otherwise) renamed_now making_now
+
+  ending : (k : ℕ) (y : VolumeTable) → y ≡ applied_all x (take k changes_left) → IsEnding x y
+  ending k y is = (k, is ∙ ap (λ cs. applied_all x (take k cs)) (sym ends_so))
+
+  -- ---- what a read gives behind the rename
+
+  module _ (old : Held) (ready : IsReady s t old m) where
+    abbrev a : Content
+    a = content_now s t old
+
+    abbrev b : Content
+    b = content_in s x (reads old)
+
+    geometry : IsGeometry s.geometry.extent s.geometry.block s.geometry.entries
+    geometry = geometry_of s t m h.orderly
+
+    same_sectors : (y : Name) → rows x y ≡ rows t y → (q : ℕ) → sectors_of b y q ≡ sectors_of a y q
+    unfolding sectors_of
+    same_sectors y same q = ap (λ r. piece s.geometry.extent (extents_of r) (reads old) q) same
+
+    same_apart : IsSameApart a b us
+    same_apart = same_images a b us geometry (record {
+      extent = refl;
+      block = refl;
+      entries = refl;
+      rows = apart_row;
+      sectors = λ y q apart below. same_sectors y (apart_row y apart) q;
+      whole = λ y apart. whole s t m y h.orderly;
+      still_whole = λ y apart. whole_none x y making_now;
+    })
+
+    parent_same : image_of b (Vhd parent) ≡ image_of a (Vhd parent)
+    parent_same = vhd_same a b parent parent (base_was h) (base_was h) geometry (record {
+      extent = refl;
+      block = refl;
+      entries = refl;
+      before = (parent_vol h).there;
+      after = (stage_1 h).base_row;
+      extents = refl;
+      fresh = refl;
+      sectors = λ q below. same_sectors (Vhd parent) base_row q;
+    }) (whole s t m (Vhd parent) h.orderly) (whole_none x (Vhd parent) making_now)
+
+    readings : (q : ℕ) → reading_at b q ≡ reading_at a q
+    readings q = ap reading (same_sectors Mgt (apart_row Mgt refl) q)
+
+    records_kept : (w : List ℕ) → filter (is_record_of w) (records b) ≡ filter (is_record_of w) (records a)
+    records_kept w = records_same a b w (λ q below. readings q)
+
+    undamaged : (y : Option Record) → is_damaged (as_reading y) ≡ false
+    undamaged None = refl
+    undamaged (Some r) = refl
+
     no_parent : stands_plainly x parent ≡ None
-    now : Row
-    moved : rows x n ≡ Some now
-    still : now.fresh ≡ false
-    extents : now.extents ≡ (base_was h).extents
-    alias : List ℕ
-    named : n ≡ Vhd alias
-    leaf_or : (leaf_now ≡ None) ⊎ (Vhd leaf ≡ n)
-    base_or : (base_now ≡ None) ⊎ (Vhd parent ≡ n)
+    no_parent = stands_none x parent (hidden_away (base_was h) (rows x (Vhd parent)) (stage_1 h).base_row (parent_vol h).shown) (raw_none parent (inr refl))
 
-  raw_same_row : (x : VolumeTable) {a b c : Option Row} {ns : List Name} → IsSwapTable s.count t leaf parent x a b c ns → (w : List ℕ) → rows x (Raw w) ≡ rows t (Raw w)
-  raw_same_row x st w = st.others (Raw w) (λ e. (let z = e in cc)) (λ e. (let z = e in cc)) (λ e. (let z = e in cc)) refl
+    first_moment : IsSwapMoment a b leaf parent (Vhd parent)
+    first_moment = record {
+      extent = refl;
+      block = refl;
+      entries = refl;
+      table = (stage_1 h).table;
+      later = raised;
+      making = making_now;
+      folding = folding_now;
+      apart = same_apart;
+      stage = inl (renamed_now, refl);
+      no_parent = no_parent;
+      few = (stage_1 h).few;
+      now = base_was h;
+      moved = (stage_1 h).base_row;
+      image = parent_same;
+      volumes = λ r i near. near_named r i r.name refl near;
+      right = λ q below. ap is_damaged (readings q ∙ place_reads s t old m h.orderly ready q below) ∙ undamaged (get_or m.places q None);
+      recorded = λ w. ap (λ (rs : List Record). length rs) (records_kept w);
+    }
 
-  moment_1 : IsMomentTable (table_1 h) (Vhd parent) entry
-  moment_1 = record {
-    leaf_now = None;
-    base_now = Some (base_was h);
-    gone_now = Some (old_row h);
-    is = stage_1 h;
-    either = inl refl;
-    stage = inl (
-      renamed_at (table_1 h) leaf parent (old_row h) (base_was h) (stage_1 h).gone_row (stage_1 h).base_row (parent_vol h).shown (parent_vol h).filled (stage_1 h).leaf_row
-          (raw_same_row (table_1 h) (stage_1 h) leaf ∙ no_raw_leaf h),
-      refl,
-    );
-    no_parent = stands_none (table_1 h) parent (hidden_away (base_was h) (rows (table_1 h) (Vhd parent)) (stage_1 h).base_row (parent_vol h).shown)
-        (raw_same_row (table_1 h) (stage_1 h) parent ∙ no_raw_parent h);
-    now = base_was h;
-    moved = (stage_1 h).base_row;
-    still = (parent_vol h).filled;
-    extents = refl;
-    alias = parent;
-    named = refl;
-    leaf_or = inl refl;
-    base_or = inr refl;
-  }
+    first_disks : disks b ≡ disks a
+    first_disks = swapping a b leaf parent (Vhd parent) (leaf_image h old ready) (parent_image h old ready) (swappable h old ready) (record {
+      stage = inl (ap head folding_now, renamed_now, refl);
+      none_making = making_now;
+      apart = same_apart;
+      no_parent = no_parent;
+      image = parent_same;
+      recorded = λ w. record_of_first b w ∙ ap first_of (records_kept w) ∙ sym (record_of_first a w);
+    })
 
-  gone_shown : (o : Option Row) → o ≡ None → of_row (λ r. not r.hidden && not r.fresh) o ≡ false
-  gone_shown o is = ap (of_row (λ r. not r.hidden && not r.fresh)) is
+    was_kept : IsKept a
+    was_kept = law_kept s t old m (reads old) h.orderly ready.firm (left_in s t m old (reads old) h.orderly (left_now s old)) (ready_places s t old m (reads old) h.orderly ready (left_now s old))
 
-  moment_2 : IsMomentTable (table_2 h) (Vhd leaf) entry
-  moment_2 = record {
-    leaf_now = Some (named_row h);
-    base_now = None;
-    gone_now = Some (old_row h);
-    is = stage_2 h;
-    either = inl refl;
-    stage = inr (inl (swapped_at (table_2 h) leaf parent (old_row h) (named_row h) (stage_2 h).gone_row (stage_2 h).leaf_row (parent_vol h).filled (stage_2 h).base_row, refl));
-    no_parent = stands_none (table_2 h) parent (gone_shown (rows (table_2 h) (Vhd parent)) (stage_2 h).base_row) (raw_same_row (table_2 h) (stage_2 h) parent ∙ no_raw_parent h);
-    now = named_row h;
-    moved = (stage_2 h).leaf_row;
-    still = (parent_vol h).filled;
-    extents = refl;
-    alias = leaf;
-    named = refl;
-    leaf_or = inr refl;
-    base_or = inl refl;
-  }
+    first_sound : first_fault b ≡ None
+    first_sound = swap_sound a b leaf parent (Vhd parent) (leaf_image h old ready) (parent_image h old ready) (swappable h old ready) was_kept.sound first_moment
 
-  moment_3 : IsMomentTable (table_3 h) (Vhd leaf) entry
-  moment_3 = record {
-    leaf_now = Some (shown_row h);
-    base_now = None;
-    gone_now = Some (old_row h);
-    is = stage_3 h;
-    either = inl refl;
-    stage = inr (inl (swapped_at (table_3 h) leaf parent (old_row h) (shown_row h) (stage_3 h).gone_row (stage_3 h).leaf_row (parent_vol h).filled (stage_3 h).base_row, refl));
-    no_parent = stands_none (table_3 h) parent (gone_shown (rows (table_3 h) (Vhd parent)) (stage_3 h).base_row) (raw_same_row (table_3 h) (stage_3 h) parent ∙ no_raw_parent h);
-    now = shown_row h;
-    moved = (stage_3 h).leaf_row;
-    still = (parent_vol h).filled;
-    extents = refl;
-    alias = leaf;
-    named = refl;
-    leaf_or = inr refl;
-    base_or = inl refl;
-  }
-
-  moment_4 : IsMomentTable (table_4 h) (Vhd leaf) entry
-  moment_4 = record {
-    leaf_now = Some (shown_row h);
-    base_now = None;
-    gone_now = None;
-    is = stage_4 h;
-    either = inl refl;
-    stage = inr (inr (folded_at (table_4 h) leaf parent (shown_row h) (stage_4 h).gone_row (stage_4 h).leaf_row refl (parent_vol h).filled (stage_4 h).base_row, refl));
-    no_parent = stands_none (table_4 h) parent (gone_shown (rows (table_4 h) (Vhd parent)) (stage_4 h).base_row) (raw_same_row (table_4 h) (stage_4 h) parent ∙ no_raw_parent h);
-    now = shown_row h;
-    moved = (stage_4 h).leaf_row;
-    still = (parent_vol h).filled;
-    extents = refl;
-    alias = leaf;
-    named = refl;
-    leaf_or = inr refl;
-    base_or = inl refl;
-  }
-
-  moment_5 : IsMomentTable (table_then h) (Vhd leaf) []
-  moment_5 = record {
-    leaf_now = Some (shown_row h);
-    base_now = None;
-    gone_now = None;
-    is = stage_5 h;
-    either = inr refl;
-    stage = inr (inr (folded_at (table_then h) leaf parent (shown_row h) (stage_5 h).gone_row (stage_5 h).leaf_row refl (parent_vol h).filled (stage_5 h).base_row, refl));
-    no_parent = stands_none (table_then h) parent (gone_shown (rows (table_then h) (Vhd parent)) (stage_5 h).base_row) (raw_same_row (table_then h) (stage_5 h) parent ∙ no_raw_parent h);
-    now = shown_row h;
-    moved = (stage_5 h).leaf_row;
-    still = (parent_vol h).filled;
-    extents = refl;
-    alias = leaf;
-    named = refl;
-    leaf_or = inr refl;
-    base_or = inl refl;
-  }
-
-  -- ---- volumes of such a table
-
-  module _ (x : VolumeTable) (n : Name) (ns : List Name) (k : IsMomentTable x n ns) where
-    making_now : making x ≡ []
-    making_now = making_among (names_of x.volumes) ∙ ap (filter is_making) k.is.entries_are ∙ ⊎_elim (λ e. ap (filter is_making) e) (λ e. ap (filter is_making) e) k.either
-
-    folding_now : folding x ≡ ns
-    folding_now = folding_among (names_of x.volumes) ∙ ap (filter is_folding) k.is.entries_are
-        ∙ ⊎_elim (λ e. ap (filter is_folding) e ∙ sym e) (λ e. ap (filter is_folding) e ∙ sym e) k.either
-
-    -- there is no other entry
-    of_entries : (y : Name) → In y ns → y ≡ Leaf leaf parent
-    of_entries y i = ⊎_elim (λ e. by (subst (In y) e i)) (λ e. absurd (subst (In y) e i)) k.either
+    -- no slot of an image is empty, and no children are being linked
+    holds_well : HoldsWell b
+    holds_well = record {
+      holding = λ w i is. each w i is (is_apart us (Vhd w)) refl;
+      linking = λ c q r i j y there is linked under. absurd (no_relink c q r there);
+    }
       where
-        by : In y entry → y ≡ Leaf leaf parent
-        by (inl is) = is
-        by (inr none) = absurd none
+        each : (w : List ℕ) (i : Image) → image_of b (Vhd w) ≡ Some i → (c : Bool) → is_apart us (Vhd w) ≡ c → IsHolding s.geometry.block i
+        each w i is true apart = was_kept.holding w i (sym (same_apart.images (Vhd w) apart) ∙ is)
+        each w i is false e = ⊎_elim
+            (λ at. absurd (none-some i (sym (none_of_vhd b w (ap (λ y. rows x (Vhd y)) at ∙ (stage_1 h).leaf_row)) ∙ is)))
+            (λ at. was_kept.holding parent i (sym parent_same ∙ ap (λ y. image_of b (Vhd y)) (sym at) ∙ is)) (one_of_two w e)
 
-    found : (r : Row) → In r x.volumes → rows x r.name ≡ Some r
-    found r i = found_in x.volumes k.is.table.volumes.rising r i
+        no_relink : (c q : List ℕ) (r : Row) → rows x (Relink c q) ≡ Some r → ⊥
+        no_relink c q r there =
+            let name : r.name ≡ Relink c q = row_of-name x.volumes (Relink c q) r there in
+            let is : r.name ≡ Leaf leaf parent = entry_is r (row_of-In x.volumes (Relink c q) r there).0 (ap is_entry name) in
+            (let z = sym name ∙ is in cc)
 
-    entry_is : (r : Row) → In r x.volumes → is_entry r.name ≡ true → r.name ≡ Leaf leaf parent
-    entry_is r i e = of_entries r.name (subst (In r.name) k.is.entries_are (filter-In is_entry (names_of x.volumes) r.name (In-map_at (λ (y : Row). y.name) x.volumes r i) e))
+    -- ---- whatever a stop leaves from then on
 
-    -- which names speak of the two
-    among_or : (w : List ℕ) → is_among us w ≡ true → (leaf ≡ w) ⊎ (parent ≡ w)
-    among_or w e = two (bytes_eq leaf w) (bytes_eq parent w) refl refl e
-      where
-        two : (c d : Bool) → bytes_eq leaf w ≡ c → bytes_eq parent w ≡ d → (c || (d || false)) ≡ true → (leaf ≡ w) ⊎ (parent ≡ w)
-        two true d is_c is_d f = inl ((bytes_eq-Decides leaf w).0 is_c)
-        two false true is_c is_d f = inr ((bytes_eq-Decides parent w).0 is_d)
-        two false false is_c is_d f = absurd (true≢false (sym f))
+    abbrev IsLater : VolumeTable → (ℕ → List ℕ) → Type 0
+    IsLater y image = IsKept (content_in s y image) × (disks (content_in s y image) ≡ disks a)
 
-    near_one : (w : List ℕ) → not (is_among us w || false) ≡ false → is_among us w ≡ true
-    near_one w e = of (is_among us w) e
-      where
-        of : (c : Bool) → not (c || false) ≡ false → c ≡ true
-        of true f = refl
-        of false f = absurd (true≢false f)
+    later : (y : VolumeTable) → IsEnding x y → (image : ℕ → List ℕ) → IsLeft s (at_rest (reads old)) image → IsLater y image
+    later y so image left =
+        let way = left_on_the_way b first_sound (stage_1 h).table geometry leaf parent folding_now y so in
+        let same : IsSameArea b image = λ q below. may_settled (at_rest (reads old)) q (image q) refl (left q below) in
+        (left_kept b y way geometry holds_well image same, left_shown b y way geometry image same ∙ first_disks)
 
-    named_none : {A : Type 0} (r : Row) → In r x.volumes → rows x r.name ≡ None → A
-    named_none r i none = absurd (none-some r (sym none ∙ found r i))
-
-    vhd_is : (r : Row) → In r x.volumes → (w : List ℕ) → r.name ≡ Vhd w → (leaf ≡ w) ⊎ (parent ≡ w) → r.name ≡ n
-    vhd_is r i w is (inl at) = ⊎_elim (λ none. named_none r i (ap (rows x) (is ∙ ap Vhd (sym at)) ∙ k.is.leaf_row ∙ none)) (λ here. is ∙ ap Vhd (sym at) ∙ here) k.leaf_or
-    vhd_is r i w is (inr at) = ⊎_elim (λ none. named_none r i (ap (rows x) (is ∙ ap Vhd (sym at)) ∙ k.is.base_row ∙ none)) (λ here. is ∙ ap Vhd (sym at) ∙ here) k.base_or
-
-    raw_none : (w : List ℕ) → (leaf ≡ w) ⊎ (parent ≡ w) → rows x (Raw w) ≡ None
-    raw_none w (inl at) = raw_same_row x k.is w ∙ ap (λ y. rows t (Raw y)) (sym at) ∙ no_raw_leaf h
-    raw_none w (inr at) = raw_same_row x k.is w ∙ ap (λ y. rows t (Raw y)) (sym at) ∙ no_raw_parent h
-
-    old_is : (r : Row) → In r x.volumes → (w : List ℕ) → r.name ≡ Old w → (leaf ≡ w) ⊎ (parent ≡ w) → r.name ≡ Old leaf
-    old_is r i w is (inl at) = is ∙ ap Old (sym at)
-    old_is r i w is (inr at) = ⊎_elim (λ same. is ∙ ap Old same) (λ other.
-        named_none r i (ap (rows x) is ∙ k.is.others (Old w) (λ e. (let z = e in cc)) (λ e. (let z = e in cc)) (λ e. other (let z = e in cc)) refl ∙ none_old h w)) (uuid_or w leaf)
-
-    near_named : (r : Row) → In r x.volumes → (y : Name) → r.name ≡ y → is_apart us y ≡ false → (r.name ≡ Leaf leaf parent) ⊎ ((r.name ≡ n) ⊎ (r.name ≡ Old leaf))
-    near_named r i Mgt is e = absurd (true≢false e)
-    near_named r i (Vhd w) is e = inr (inl (vhd_is r i w is (among_or w (near_one w e))))
-    near_named r i (Raw w) is e = named_none r i (ap (rows x) is ∙ raw_none w (among_or w (near_one w e)))
-    near_named r i (Old w) is e = inr (inr (old_is r i w is (among_or w (near_one w e))))
-    near_named r i (Clone d b w) is e = inl (entry_is r i (ap is_entry is))
-    near_named r i (Inflate w j) is e = inl (entry_is r i (ap is_entry is))
-    near_named r i (Coalesce c q) is e = inl (entry_is r i (ap is_entry is))
-    near_named r i (Relink c q) is e = inl (entry_is r i (ap is_entry is))
-    near_named r i (Leaf c q) is e = inl (entry_is r i (ap is_entry is))
-
-    -- a name apart is that of the same volume as before
-    apart_row : (y : Name) → is_apart us y ≡ true → rows x y ≡ rows t y
-    apart_row y apart = by y apart (is_entry y) refl
-      where
-        near : (w : List ℕ) → (w ≡ leaf) ⊎ (w ≡ parent) → is_apart us (Vhd w) ≡ true → ⊥
-        near w (inl is) e = true≢false (sym e ∙ ap (λ c. not (c || false)) (ap (is_among us) is ∙ ap (λ c. c || (bytes_eq parent leaf || false)) (bytes_eq-refl leaf)))
-        near w (inr is) e = true≢false (sym e ∙ ap (λ c. not (c || false)) (ap (is_among us) is
-            ∙ or_right (bytes_eq leaf parent) (bytes_eq parent parent || false) (ap (λ c. c || false) (bytes_eq-refl parent))))
-
-        by : (y : Name) → is_apart us y ≡ true → (c : Bool) → is_entry y ≡ c → rows x y ≡ rows t y
-        by y e false none =
-            k.is.others y (λ is. near leaf (inl refl) (sym (ap (is_apart us) is) ∙ e)) (λ is. near parent (inr refl) (sym (ap (is_apart us) is)
-            ∙ e)) (λ is. near leaf (inl refl) (sym (ap (is_apart us) is) ∙ e)) none
-        by y e true kind = absent (rows x y) refl (rows t y) refl
-          where
-            other : y ≢ Leaf leaf parent
-            other is = true≢false (sym e ∙ ap (is_apart us) is
-                ∙ ap (λ c. not (c || (is_among us parent || false))) (ap (λ c. c || (bytes_eq parent leaf || false)) (bytes_eq-refl leaf)))
-
-            none_here : (z : VolumeTable) (es : List Name) → ((q : Name) → In q es → q ≡ Leaf leaf parent) → names_in z is_entry ≡ es → (r : Row) → rows z y ≡ Some r → ⊥
-            none_here z es all are r at = other (all y (subst (In y) are (filter-In is_entry (names_of z.volumes) y
-                (subst (λ q. In q (names_of z.volumes)) (row_of-name z.volumes y r at) (In-map_at (λ (q : Row). q.name) z.volumes r (row_of-In z.volumes y r at).0)) kind)))
-
-            of_entry : (q : Name) → In q entry → q ≡ Leaf leaf parent
-            of_entry q (inl is) = is
-            of_entry q (inr none) = absurd none
-
-            absent : (a : Option Row) → rows x y ≡ a → (b : Option Row) → rows t y ≡ b → rows x y ≡ rows t y
-            absent None is_a None is_b = is_a ∙ sym is_b
-            absent (Some r) is_a b is_b = absurd (none_here x ns of_entries k.is.entries_are r is_a)
-            absent None is_a (Some r) is_b = absurd (none_here t entry of_entry (entry_alone h) r is_b)
-
-    -- ---- what a stop leaves of it
-
-    module _ (old : Held) (ready : IsReady s t old m) (image : ℕ → List ℕ) (left : IsLeft s (at_rest (reads old)) image) where
-      abbrev a : Content
-      a = content_now s t old
-
-      abbrev rest : Held
-      rest = at_rest (reads old)
-
-      abbrev b : Content
-      b = content_in s x image
-
-      abbrev extent : ℕ
-      extent = s.geometry.extent
-
-      left_any : (y : Name) → Allows (size_of s x y) (volume_of s x rest y) (sectors_of b y)
-      left_any y q below = commit_before (content_now s x rest) rest x image k.is.table (extent_some s t m h.orderly) (record { table_is = refl; sectors = left }) y q below
-
-      -- a volume of now, on the extents of one of before
-      kept_sector : (y z : Name) → extents_of (rows x z) ≡ extents_of (rows t y) → (q : ℕ) → q < size_of s t y → sectors_of b z q ≡ sectors_of a y q
-      kept_sector y z same q below =
-          volume_rested s x (reads old) z q (sectors_of b z q) (left_any z q (omega (arith, below, ap (λ (es : List ℕ). span extent es) same)))
-          ∙ ap (λ (es : List ℕ). reads (volume extent es rest) q) same
-          ∙ sym (now_sector s t rest y q below)
-
-      same_volume : (y z : Name) (r w : Row) → rows t y ≡ Some r → rows x z ≡ Some w → w.extents ≡ r.extents → w.fresh ≡ r.fresh → IsSameVolume a b y z r w
-      same_volume y z r w was is extents fresh = record {
-        extent = refl;
-        block = refl;
-        entries = refl;
-        before = was;
-        after = is;
-        extents = extents;
-        fresh = fresh;
-        sectors = kept_sector y z (ap extents_of is ∙ extents ∙ sym (ap extents_of was));
-      }
-
-      image_apart : (y : Name) → is_apart us y ≡ true → image_of b y ≡ image_of a y
-      unfolding image_of
-      image_apart (Vhd w) apart = by (rows t (Vhd w)) refl
-        where
-          by : (r : Option Row) → rows t (Vhd w) ≡ r → image_of b (Vhd w) ≡ image_of a (Vhd w)
-          by None is = gone a b (Vhd w) is (apart_row (Vhd w) apart ∙ is)
-          by (Some r) is = vhd_same a b w w r r (geometry_of s t m h.orderly) (same_volume (Vhd w) (Vhd w) r r is (apart_row (Vhd w) apart ∙ is) refl refl) (whole s t m (Vhd w) h.orderly)
-              (whole_none x (Vhd w) making_now)
-      image_apart (Raw w) apart = by (rows t (Raw w)) refl
-        where
-          by : (r : Option Row) → rows t (Raw w) ≡ r → image_of b (Raw w) ≡ image_of a (Raw w)
-          by None is = gone a b (Raw w) is (apart_row (Raw w) apart ∙ is)
-          by (Some r) is = raw_same a b w w r r (same_volume (Raw w) (Raw w) r r is (apart_row (Raw w) apart ∙ is) refl refl)
-      image_apart _ apart = refl
-
-      same_apart : IsSameApart a b us
-      same_apart = record { rows = apart_row; images = image_apart }
-
-      image_moved : image_of b n ≡ image_of a (Vhd parent)
-      image_moved =
-          ap (image_of b) k.named
-          ∙ vhd_same a b parent k.alias (base_was h) k.now (geometry_of s t m h.orderly)
-          (same_volume (Vhd parent) (Vhd k.alias) (base_was h) k.now (parent_vol h).there (ap (rows x) (sym k.named) ∙ k.moved) k.extents (k.still ∙ sym (parent_vol h).filled))
-          (whole s t m (Vhd parent) h.orderly) (whole_none x (Vhd k.alias) making_now)
-
-      -- ---- records
-
-      readings : (q : ℕ) → q < record_count → reading_at b q ≡ reading_at a q
-      readings q below = ap reading (kept_sector Mgt Mgt (ap extents_of (apart_row Mgt refl)) q (omega (arith, below, mgt_long s t m h.orderly)))
-
-      records_kept : (w : List ℕ) → filter (is_record_of w) (records b) ≡ filter (is_record_of w) (records a)
-      records_kept w = records_same a b w readings
-
-      undamaged : (y : Option Record) → is_damaged (as_reading y) ≡ false
-      undamaged None = refl
-      undamaged (Some r) = refl
-
-      -- ---- the moment
-
-      moment_of : ns ≡ entry → IsSwapMoment a b leaf parent n
-      moment_of stands = record {
-        extent = refl;
-        block = refl;
-        entries = refl;
-        table = k.is.table;
-        later = k.is.later;
-        making = making_now;
-        folding = folding_now ∙ stands;
-        apart = same_apart;
-        stage = k.stage;
-        no_parent = k.no_parent;
-        few = k.is.few;
-        now = k.now;
-        moved = k.moved;
-        image = image_moved;
-        volumes = λ r i near. near_named r i r.name refl near;
-        right = λ q below. ap is_damaged (readings q below ∙ place_reads s t old m h.orderly ready q below) ∙ undamaged (get_or m.places q None);
-        recorded = λ w. ap (λ (rs : List Record). length rs) (records_kept w);
-      }
-
-      moment_swapping : (ns ≡ entry) ⊎ ((ns ≡ []) × (is_leaf_folded x leaf parent ≡ true) × (n ≡ Vhd leaf)) → IsSwapping a b leaf parent n
-      moment_swapping which = record {
-        stage = ⊎_elim (λ stands. by stands k.stage) (λ w. inr (inr (inr (folding_now ∙ w.0), w.1, w.2))) which;
-        none_making = making_now;
-        apart = same_apart;
-        no_parent = k.no_parent;
-        image = image_moved;
-        recorded = λ w. record_of_first b w ∙ ap first_of (records_kept w) ∙ sym (record_of_first a w);
-      }
-        where
-          by : ns ≡ entry → IsSwapStage x leaf parent n → IsLeafAway x leaf parent n ⊎ (IsParentNamed x leaf parent n ⊎ IsLeafGone x leaf parent n)
-          by stands (inl w) = inl (ap head (folding_now ∙ stands), w.0, w.1)
-          by stands (inr (inl w)) = inr (inl (ap head (folding_now ∙ stands), w.0, w.1))
-          by stands (inr (inr w)) = inr (inr (inl (ap head (folding_now ∙ stands)), w.0, w.1))
-
-      was_kept : IsKept a
-      was_kept = law_kept s t old m (reads old) h.orderly ready.firm (left_in s t m old (reads old) h.orderly (left_now s old)) (ready_places s t old m (reads old) h.orderly ready (left_now s old))
-
-      -- no slot of an image is empty
-      holding_row : (w : List ℕ) (i : Image) (y : Option Row) → rows x (Vhd w) ≡ y → image_of b (Vhd w) ≡ Some i → IsHolding s.geometry.block i
-      holding_row w i None none is = absurd (none-some i (sym (none_of_vhd b w none) ∙ is))
-      holding_row w i (Some r) there is = by (is_apart us (Vhd w)) refl
-        where
-          name : r.name ≡ Vhd w
-          name = row_of-name x.volumes (Vhd w) r there
-
-          of : (r.name ≡ Leaf leaf parent) ⊎ ((r.name ≡ n) ⊎ (r.name ≡ Old leaf)) → IsHolding s.geometry.block i
-          of (inl e) = absurd (let z = sym name ∙ e in cc)
-          of (inr (inl e)) = was_kept.holding parent i (sym image_moved ∙ ap (image_of b) (sym e ∙ name) ∙ is)
-          of (inr (inr e)) = absurd (let z = sym name ∙ e in cc)
-
-          by : (c : Bool) → is_apart us (Vhd w) ≡ c → IsHolding s.geometry.block i
-          by true apart = was_kept.holding w i (sym (image_apart (Vhd w) apart) ∙ is)
-          by false near = of (near_named r (row_of-In x.volumes (Vhd w) r there).0 r.name refl (ap (is_apart us) name ∙ near))
-
-      -- no children are being linked
-      no_relink : (c q : List ℕ) (r : Row) → rows x (Relink c q) ≡ Some r → ⊥
-      no_relink c q r there =
-          let name : r.name ≡ Relink c q = row_of-name x.volumes (Relink c q) r there in
-          let is : r.name ≡ Leaf leaf parent = entry_is r (row_of-In x.volumes (Relink c q) r there).0 (ap is_entry name) in
-          (let z = sym name ∙ is in cc)
-
-      moment_kept : ns ≡ entry → IsKept b
-      moment_kept stands = record {
-        sound = swap_sound a b leaf parent n (leaf_image h old ready) (parent_image h old ready) (swappable h old ready) was_kept.sound (moment_of stands);
-        holding = λ w i is. holding_row w i (rows x (Vhd w)) refl is;
-        linking = λ c q r i j y there is linked under. absurd (no_relink c q r there);
-      }
-
-      moment_disks : (ns ≡ entry) ⊎ ((ns ≡ []) × (is_leaf_folded x leaf parent ≡ true) × (n ≡ Vhd leaf)) → disks b ≡ disks a
-      moment_disks which = swapping a b leaf parent n (leaf_image h old ready) (parent_image h old ready) (swappable h old ready) (moment_swapping which)
-
-    -- each moment is safe
-    moment_safe : ns ≡ entry → (old : Held) → IsReady s t old m → (before : Leaving) → MayShow s before (disks (content_now s t old))
-        → IsSafe s x (at_rest (reads old)) before (disks (content_now s t old))
-    moment_safe stands old ready before might = record {
-      kept = λ image left. moment_kept old ready image left stands;
+    -- it is safe
+    later_safe : (y : VolumeTable) → IsEnding x y → (before : Leaving) → MayShow s before (disks a) → IsSafe s y (at_rest (reads old)) before (disks a)
+    later_safe y so before might = record {
+      kept = λ image left. (later y so image left).0;
       shown = λ image left.
-          let same = moment_disks old ready image left (inl stands) in
+          let same = (later y so image left).1 in
           record {
             faces = ap (map face) same;
-            sectors = λ w q bytes has. (disks (content_now s t old), might, subst (λ (ds : List Disk). HasSector ds w q bytes) same has);
+            sectors = λ w q bytes has. (disks a, might, subst (λ (ds : List Disk). HasSector ds w q bytes) same has);
           };
     }
 
-  -- whatever a stop leaves in front of the last commit is fine
-  pub front_fine : (old : Held) → IsReady s t old m → (before : Leaving) → MayShow s before (disks (content_now s t old)) → ((image : ℕ → List ℕ) → IsBefore (area_size s) t old t image → before t image)
-      → GoesWell (ShowsBetween s before (disks (content_now s t old)) (disks (content_now s t old))) (λ x. x ≡ record { site = s; table = table_4 h; area = at_rest (reads old) }) (record { site = s; table = t; area = old })
-      (commits (front_changes leaf parent))
-  front_fine old ready before might stays =
-      let was = disks (content_now s t old) in
-      record {
-        first = safe_fine was (ready_safe s t old m before h.orderly ready stays);
-        next = (
-          safe_fine was (moment_safe (table_1 h) (Vhd parent) entry moment_1 refl old ready before might),
-          (
-            safe_fine was (moment_safe (table_2 h) (Vhd leaf) entry moment_2 refl old ready before might),
-            (
-              safe_fine was (moment_safe (table_3 h) (Vhd leaf) entry moment_3 refl old ready before might),
-              (safe_fine was (moment_safe (table_4 h) (Vhd leaf) entry moment_4 refl old ready before might), refl),
-            ),
-          ),
-        );
-      }
+    -- and it shows the disks from before, all sectors at once
+    later_shows : (y : VolumeTable) → IsEnding x y → (before : Leaving) → MayShow s before (disks a) → (image : ℕ → List ℕ) → IsLeft s (at_rest (reads old)) image → MayShow s before (disks (content_in s y image))
+    later_shows y so before might image left = subst (λ (ds : List Disk). MayShow s before ds) (sym (later y so image left).1) might
 
-  -- and behind the last commit the disks are those from before
-  pub disks_then : (old : Held) → IsReady s t old m → disks (content_now s (table_then h) (at_rest (reads old))) ≡ disks (content_now s t old)
-  disks_then old ready =
-      moment_disks (table_then h) (Vhd leaf) [] moment_5 old ready (reads (at_rest (reads old))) (left_now s (at_rest (reads old)))
-      (inr (refl, folded_at (table_then h) leaf parent (shown_row h) (stage_5 h).gone_row (stage_5 h).leaf_row refl (parent_vol h).filled (stage_5 h).base_row, refl))
+    -- whatever a stop leaves in front of the last commit is fine
+    pub front_fine : (before : Leaving) → MayShow s before (disks a) → ((image : ℕ → List ℕ) → IsBefore (area_size s) t old t image → before t image)
+        → GoesWell (ShowsBetween s before (disks a) (disks a)) (λ y. y ≡ record { site = s; table = table_4 h; area = at_rest (reads old) }) (record { site = s; table = t; area = old }) (commits (front_changes leaf parent))
+    front_fine before might stays = record {
+      first = safe_fine (disks a) (ready_safe s t old m before h.orderly ready stays);
+      next = (
+        safe_fine (disks a) (later_safe x (ending 0 x refl) before might),
+        (
+          safe_fine (disks a) (later_safe (table_2 h) (ending 1 (table_2 h) refl) before might),
+          (
+            safe_fine (disks a) (later_safe (table_3 h) (ending 2 (table_3 h) refl) before might),
+            (safe_fine (disks a) (later_safe (table_4 h) (ending 3 (table_4 h) refl) before might), refl),
+          ),
+        ),
+      );
+    }
+
+    -- and behind the last commit the disks are those from before
+    pub disks_then : disks (content_now s (table_then h) (at_rest (reads old))) ≡ disks a
+    disks_then = (later (table_then h) (ending 4 (table_then h) refl) (reads (at_rest (reads old))) (left_now s (at_rest (reads old)))).1
+
+    -- whatever a stop leaves among the commits shows the disks of an image that might be left before
+    pub moments_show : (before : Leaving) → MayShow s before (disks a) → ((image : ℕ → List ℕ) → IsBefore (area_size s) t old t image → before t image)
+        → GoesWell (λ y image. MayShow s before (disks (content_in s y image))) (λ y. Unit {0}) (record { site = s; table = t; area = old }) (commits (swap_changes leaf parent))
+    moments_show before might stays = record {
+      first = λ image allowed. record { table = t; image = image; left = stays image (record { table_is = refl; sectors = allowed }); shown = refl };
+      next = (
+        later_shows x (ending 0 x refl) before might,
+        (
+          later_shows (table_2 h) (ending 1 (table_2 h) refl) before might,
+          (
+            later_shows (table_3 h) (ending 2 (table_3 h) refl) before might,
+            (later_shows (table_4 h) (ending 3 (table_4 h) refl) before might, (later_shows (table_then h) (ending 4 (table_then h) refl) before might, tt)),
+          ),
+        ),
+      );
+    }

@@ -4,7 +4,7 @@ use Rattle.std.specs.Ordering.{is_lt}
 use Rattle.sm_base.specs.Kinds.{is_entry, is_image}
 use Rattle.sm_base.specs.Names.{name_cmp}
 use Rattle.sm_base.specs.declared.names.Name.{Name}
-use Rattle.sm_base.specs.declared.names.Name.TheVariants.{Mgt, Vhd, Raw, Old, Clone, Inflate, Coalesce, Relink, Leaf}
+use Rattle.sm_base.specs.declared.names.Name.TheVariants.{Mgt, Vhd, Raw, Old, Cbt, Clone, Inflate, Coalesce, Relink, Leaf}
 use Rattle.vg_meta.specs.Tables.{Row, VolumeTable, name_eq, names_of, row_of, rows}
 use Rattle.vg_meta.specs.Changes.{applied, put, put_some, renamed, without}
 use Rattle.vg_meta.specs.declared.changes.Change.TheVariants.{Rename}
@@ -64,6 +64,7 @@ group_step Mgt ns ms h = h
 group_step (Vhd u) ns ms h = h
 group_step (Raw u) ns ms h = h
 group_step (Old u) ns ms h = h
+group_step (Cbt u) ns ms h = h
 group_step (Clone d b w) ns ms h = h
 group_step (Inflate u k) ns ms h = h
 group_step (Coalesce v p) ns ms h = ap (λ xs. Coalesce v p ∷ xs) h
@@ -75,6 +76,7 @@ making_step Mgt ns ms h = h
 making_step (Vhd u) ns ms h = h
 making_step (Raw u) ns ms h = h
 making_step (Old u) ns ms h = h
+making_step (Cbt u) ns ms h = h
 making_step (Clone d b w) ns ms h = ap (λ xs. Clone d b w ∷ xs) h
 making_step (Inflate u k) ns ms h = ap (λ xs. Inflate u k ∷ xs) h
 making_step (Coalesce v p) ns ms h = h

@@ -31,7 +31,7 @@ use Rattle.sm_ready.proofs.KeptLaws.{vhd_named}
 use Rattle.sm_ready.proofs.Orders.{In-tree_row, rowed}
 use Rattle.sm_ready.proofs.RowLaws.{HasVolume, tree_found, volume_there}
 use Rattle.sm_ready.proofs.ShapeLaws.{no_old}
-use Rattle.gc_leaf.proofs.SwapSteps.{IsToSwap}
+use Rattle.gc_leaf.proofs.SwapSteps.{IsToSwap, entry_is, only_of}
 
 -- a volume of this name, hidden or not, and the row of memory behind it
 pub record IsHeld (t : VolumeTable) (m : Known) (n : Name) (hidden : Bool) : Type 0 where
@@ -76,7 +76,7 @@ module _ {s : Site} {t : VolumeTable} {m : Known} {l p : Name} {cursor : ℕ} (h
 
   pub child : IsWellFormed (shape_in s t m) → IsOnlyChild (shape_in s t m) false l p
   unfolding shape_in
-  child w = (subst (IsOperation (shape_in s t m)) h.is w.operation).0
+  child w = only_of (shape_in s t m) h.attached l p cursor [] (subst (IsOperation (shape_in s t m)) h.is w.operation)
 
   leaf_image : IsWellFormed (shape_in s t m) → Image l false
   unfolding shape_in
@@ -219,4 +219,4 @@ module _ {s : Site} {t : VolumeTable} {m : Known} {l p : Name} {cursor : ℕ} (h
   -- ---- the entry
 
   pub entry_alone : names_in t is_entry ≡ Leaf u v ∷ []
-  entry_alone = h.orderly.entries ∙ ap entry_of h.is
+  entry_alone = h.orderly.entries ∙ ap entry_of h.is ∙ entry_is h.attached l p cursor []

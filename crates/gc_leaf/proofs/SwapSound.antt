@@ -1,40 +1,47 @@
 -- From the leaf's rename on, while the entry of a swap is there, all checks of an opening pass that passed before it.
+-- A moment here is any content with these volumes, as the law has it, and not one that the commits made: its area, its sequence number and
+-- the old leaf's extents are free. So a later one need not stand behind a first one, and all three stages are shown, where `law_leaf` of
+-- `sm_standing` tells only what the commits make of a content.
 use Rattle.std.proofs.Common.{◌≡◌, ◌≢◌, ◌⊎◌, inl, inr, ⊎_elim, ℕ, suc, ◌≤◌, ◌==◌, ◌&&◌, ◌||◌, not, nat_lt, nat_le, Bool, true, false, cond, List, [], ◌∷◌, length, Option, Some, None, is_some, is_none, refl, sym, ap, ap₂, ◌∙◌, subst, bytes_eq}
-use Rattle.std.specs.List.{filter, find, list_any}
+use Rattle.std.specs.List.{filter, list_any}
 use Rattle.std.proofs.lemmas.Bool.{true≢false, le-ltb, eqb-true, eq-eqb, and_parts, or_left, or_right, and_right, false_from_ne_true}
 use Rattle.std.proofs.lemmas.Option.{none-some, same_Some}
 use Rattle.common_laws.specs.Lists.{In, numbers, ◌>>=◌}
 use Rattle.common_laws.proofs.Booleans.{all_hold, not_true}
 use Rattle.common_laws.proofs.Options.{is_some-parts}
 use Rattle.common_laws.proofs.Bytes.{bytes_eq-refl, bytes_eq-apart}
-use Rattle.common_laws.proofs.Lists.{In-filter, filter-In, In-map, In-map_at, In-numbers, find_none, none_find}
+use Rattle.common_laws.proofs.Lists.{In-filter, filter-In, In-map, In-map_at, In-numbers, find_none}
 use Rattle.std.proofs.lemmas.Slice.Eq.{bytes_eq-Decides}
 use Rattle.sm_base.specs.declared.faults.Place.TheVariants as at
 use Rattle.sm_base.specs.declared.names.Name.{Name}
-use Rattle.sm_base.specs.declared.names.Name.TheVariants.{Mgt, Vhd, Raw, Old, Clone, Inflate, Coalesce, Relink, Leaf}
+use Rattle.sm_base.specs.declared.names.Name.TheVariants.{Mgt, Vhd, Raw, Old, Cbt, Clone, Inflate, Coalesce, Relink, Leaf}
 use Rattle.vg_meta.specs.Tables.{VolumeTable, Row, rows, names_of}
 use Rattle.vg_meta.proofs.NameLaws.{name_eq-true}
 use Rattle.sm_machine.specs.Shapes.{image_limit}
 use Rattle.sm_standing.specs.Apart.{is_apart}
 use Rattle.sm_standing.specs.Besides.{IsBeside, PassesAlone, is_settled_name}
 use Rattle.sm_standing.specs.Changes.{parent_of}
-use Rattle.sm_standing.specs.Checks.{too_many_fault, images, second_entry_fault, lesser, placed, lost_entry_fault, is_lost, is_orphaned, old_leaf_fault, is_image_wrong, children, parent_is, chain_length, is_no_larger, is_parent_right, is_linked, is_misplaced, is_tree_wrong, tree_wrong_as, tree_fault, is_leaf_linked, is_entry_linked, is_damaged, record_place, record_fault, disk_uuids, is_unrecorded, disk_place, disk_fault, first_fault}
+use Rattle.sm_standing.specs.Checks.{too_many_fault, images, second_entry_fault, lesser, placed, is_orphaned, is_image_wrong, children, parent_is, chain_length, is_no_larger, is_parent_right, is_linked, is_misplaced, tree_wrong_as, is_leaf_linked, is_entry_linked, is_damaged, record_place, record_fault, disk_uuids, is_unrecorded, disk_place, disk_fault, first_fault}
 use Rattle.sm_standing.specs.Contents.{Content, record_count, is_record_of}
 use Rattle.sm_standing.specs.Entries.{of_row, is_there, is_visible, is_hidden, is_folding, is_making, folding, head, second, is_past, are_past, uuids_in, is_among, is_folding_leaf, is_leaf_copied, is_leaf_renamed, is_leaf_swapped, is_at_stage, is_old_of}
 use Rattle.sm_standing.specs.Images.{Image, image_of}
 use Rattle.sm_standing.specs.Outlines.{Outline, Link, link_of, outline}
-use Rattle.sm_standing.specs.Standing.{standing_volume, stands_folded, stands_plainly, under, uuids}
+use Rattle.sm_standing.specs.PlainSound.{AllSound}
+use Rattle.sm_standing.specs.Standing.{standing_volume, uuids}
 use Rattle.sm_standing.specs.Swaps.{IsSwappable, swapped}
-use Rattle.sm_standing.proofs.ApartLaws.{beside, stands_beside, plainly_same}
+use Rattle.sm_standing.proofs.ApartLaws.{stands_beside, plainly_same}
 use Rattle.sm_standing.proofs.BesideLaws.{IsAlikeApart, beside_sound, chain_alike}
 use Rattle.sm_standing.proofs.Counts.{found_in, no_member, none_left}
-use Rattle.sm_standing.proofs.DisksShown.{row_of-In, stands_listed}
-use Rattle.sm_standing.proofs.FaultLaws.{all_none, named_none, given_none}
+use Rattle.sm_standing.proofs.DisksShown.{row_of-In}
+use Rattle.sm_standing.proofs.FaultLaws.{given_none}
 use Rattle.sm_standing.proofs.ForkImages.{misnamed_as, lost_as}
 use Rattle.sm_standing.proofs.ForkPlaces.{under_parent}
 use Rattle.sm_standing.proofs.ImageLaws.{image_there, parent-is}
+use Rattle.sm_standing.proofs.LeafRename.{parent_among}
 use Rattle.sm_standing.proofs.NamedLaws.{all_past}
 use Rattle.sm_standing.proofs.OutlineLaws.{outline_records_same, reading_within}
+use Rattle.sm_standing.proofs.PlainKept.{sound_all}
+use Rattle.sm_standing.proofs.SwapLaws.{beside_plain, hidden_there, leaf_among}
 use Rattle.gc_leaf.specs.Moments.{IsSwapMoment, IsSwapStage}
 
 -- ---- names that have no image
@@ -46,17 +53,6 @@ old_image c u = refl
 entry_image : (c : Content) (l p : List ℕ) → image_of c (Leaf l p) ≡ None
 unfolding image_of
 entry_image c l p = refl
-
--- ---- where another UUID stands
-
-entry_other : (t : VolumeTable) (leaf parent u : List ℕ) (plainly : Option Name) → bytes_eq u leaf ≡ false → stands_folded t (Leaf leaf parent) u plainly ≡ plainly
-entry_other t leaf parent u plainly off =
-    ap (λ s. cond (s && is_leaf_renamed t leaf parent) (Some (Vhd parent)) (cond (s && is_leaf_swapped t leaf parent) (Some (Vhd leaf)) plainly)) off
-
-beside_other : (t : VolumeTable) (leaf parent u : List ℕ) → head (folding t) ≡ Some (Leaf leaf parent) → bytes_eq u leaf ≡ false → beside t u ≡ stands_plainly t u
-beside_other t leaf parent u entry off =
-    ap (λ o. under (λ e. stands_folded t e u) o (stands_plainly t u)) entry
-    ∙ entry_other t leaf parent u (stands_plainly t u) off
 
 -- ---- the moment
 
@@ -73,19 +69,16 @@ module _ (a b : Content) (leaf parent : List ℕ) (m : Name) (i q : Image) (h : 
   abbrev t : VolumeTable
   t = b.table
 
+  passed : AllSound old
+  passed = sound_all old sound
+
   -- ---- which names speak of the two
 
-  among_leaf : is_among us leaf ≡ true
-  among_leaf = ap (λ l. l || (bytes_eq parent leaf || false)) (bytes_eq-refl leaf)
-
-  among_parent : is_among us parent ≡ true
-  among_parent = or_right (bytes_eq leaf parent) (bytes_eq parent parent || false) (ap (λ l. l || false) (bytes_eq-refl parent))
-
   near_leaf : is_apart us (Vhd leaf) ≡ false
-  near_leaf = ap (λ c. not (c || false)) among_leaf
+  near_leaf = ap (λ c. not (c || false)) (leaf_among leaf parent)
 
   near_parent : is_apart us (Vhd parent) ≡ false
-  near_parent = ap (λ c. not (c || false)) among_parent
+  near_parent = ap (λ c. not (c || false)) (parent_among leaf parent)
 
   m_name : (m ≡ Vhd parent) ⊎ (m ≡ Vhd leaf)
   m_name = by k.stage
@@ -137,23 +130,13 @@ module _ (a b : Content) (leaf parent : List ℕ) (m : Name) (i q : Image) (h : 
 
   -- ---- the entries
 
-  single : second (folding a.table) ≡ None
-  unfolding second_entry_fault
-  single =
-      none_of (second (folding a.table))
-      (sym (ap (λ ns. placed at.Journal (lesser (second (folding a.table)) (second ns))) h.none_making) ∙ all_none (outline a) sound (second_entry_fault old) (inr (inr (inr (inl refl)))))
-    where
-      none_of : (x : Option Name) → placed at.Journal (lesser x None) ≡ None → x ≡ None
-      none_of None e = refl
-      none_of (Some x) e = absurd (let y = e in cc)
-
   folding_was : folding a.table ≡ Leaf leaf parent ∷ []
   folding_was = by (folding a.table) refl
     where
       by : (ns : List Name) → folding a.table ≡ ns → folding a.table ≡ Leaf leaf parent ∷ []
       by [] is = absurd (none-some (Leaf leaf parent) (sym (ap head is) ∙ h.entry))
       by (e ∷ []) is = is ∙ ap (λ x. x ∷ []) (same_Some e (Leaf leaf parent) (sym (ap head is) ∙ h.entry))
-      by (e ∷ f ∷ ns) is = absurd (none-some f (sym single ∙ ap second is))
+      by (e ∷ f ∷ ns) is = absurd (none-some f (sym passed.one_folding ∙ ap second is))
 
   named_in : (test : Name → Bool) (r : Row) → In r t.volumes → test r.name ≡ true → In r.name (filter test (names_of t.volumes))
   named_in test r there e = filter-In test (names_of t.volumes) r.name (In-map_at (λ (x : Row). x.name) t.volumes r there) e
@@ -177,25 +160,13 @@ module _ (a b : Content) (leaf parent : List ℕ) (m : Name) (i q : Image) (h : 
 
   -- ---- what the checks said
 
-  lost_before : (r : Row) → In r a.table.volumes → is_lost a.table r ≡ false
-  unfolding lost_entry_fault
-  lost_before = named_none at.Journal (is_lost a.table) a.table.volumes (all_none (outline a) sound (lost_entry_fault old) (inr (inr (inr (inr (inl refl))))))
-
-  orphaned_before : (r : Row) → In r a.table.volumes → is_orphaned a.table r.name ≡ false
-  unfolding old_leaf_fault
-  orphaned_before = named_none at.Image (λ r. is_orphaned a.table r.name) a.table.volumes (all_none (outline a) sound (old_leaf_fault old) (inr (inr (inr (inr (inr (inl refl)))))))
-
-  tree_before : (r : Row) → In r a.table.volumes → is_tree_wrong old r ≡ false
-  unfolding tree_fault
-  tree_before = named_none at.Tree (is_tree_wrong old) a.table.volumes (all_none (outline a) sound (tree_fault old) (inr (inr (inr (inr (inr (inr (inr (inl refl)))))))))
-
   later : a.table.sequence ≤ t.sequence
   later = k.later
 
   -- both UUIDs were given before the table's number
   past_before : are_past a.table (Leaf leaf parent) ≡ true
   unfolding is_at_stage
-  past_before = of (is_folding_leaf a.table leaf parent) (are_past a.table (Leaf leaf parent)) (sym (ap (lost_as a.table) entry_was.2) ∙ lost_before entry_was.0 entry_was.1)
+  past_before = of (is_folding_leaf a.table leaf parent) (are_past a.table (Leaf leaf parent)) (sym (ap (lost_as a.table) entry_was.2) ∙ passed.at_stage entry_was.0 entry_was.1)
     where
       of : (x y : Bool) → not (x && y) ≡ false → y ≡ true
       of true true e = refl
@@ -284,7 +255,7 @@ module _ (a b : Content) (leaf parent : List ℕ) (m : Name) (i q : Image) (h : 
       (w.0, v.0, v.1)
 
   placed_before : is_misplaced old parent_was.0 (Some own_link) ≡ false
-  placed_before = ap (is_misplaced old parent_was.0) (sym parent_link) ∙ sym (ap (tree_wrong_as old parent_was.0) parent_was.2) ∙ tree_before parent_was.0 parent_was.1
+  placed_before = ap (is_misplaced old parent_was.0) (sym parent_link) ∙ sym (ap (tree_wrong_as old parent_was.0) parent_was.2) ∙ passed.placed parent_was.0 parent_was.1
 
   linked_before : is_linked old own_link ≡ true
   linked_before = of (is_linked old own_link) _ placed_before
@@ -353,7 +324,7 @@ module _ (a b : Content) (leaf parent : List ℕ) (m : Name) (i q : Image) (h : 
 
   own_passes : (r : Row) → In r t.volumes → r.name ≡ m → PassesAlone new r
   unfolding is_entry_linked
-  own_passes r there is = subst (PassesAlone new) (sym at_now) (⊎_elim (λ e. vhd parent e among_parent past_parent) (λ e. vhd leaf e among_leaf past_leaf) m_name)
+  own_passes r there is = subst (PassesAlone new) (sym at_now) (⊎_elim (λ e. vhd parent e (parent_among leaf parent) past_parent) (λ e. vhd leaf e (leaf_among leaf parent) past_leaf) m_name)
     where
       at_now : r ≡ k.now
       at_now = same_Some r k.now (sym (found r there) ∙ ap (rows t) is ∙ k.moved)
@@ -391,12 +362,8 @@ module _ (a b : Content) (leaf parent : List ℕ) (m : Name) (i q : Image) (h : 
       there_old e = ap (λ x. is_visible t (Vhd leaf) && (is_hidden t (Vhd parent) && not x)) e
           ∙ ap (λ x. is_visible t (Vhd leaf) && x) (and_right (is_hidden t (Vhd parent)) false refl) ∙ and_right (is_visible t (Vhd leaf)) false refl
 
-      hidden_there : (o : Option Row) → is_some o ≡ false → of_row (λ r. r.hidden && not r.fresh) o ≡ false
-      hidden_there None e = refl
-      hidden_there (Some r) e = absurd (true≢false e)
-
       gone : is_there t (Vhd parent) ≡ false → is_leaf_copied t leaf parent ≡ false
-      gone e = ap (λ x. is_visible t (Vhd leaf) && (x && not (is_there t (Old leaf)))) (hidden_there (rows t (Vhd parent)) e) ∙ and_right (is_visible t (Vhd leaf)) false refl
+      gone e = ap (λ x. is_visible t (Vhd leaf) && (x && not (is_there t (Old leaf)))) (hidden_there t (Vhd parent) e) ∙ and_right (is_visible t (Vhd leaf)) false refl
 
       by : IsSwapStage t leaf parent m → is_leaf_copied t leaf parent ≡ false
       by (inl w) = there_old (and_parts (is_there t (Old leaf)) _ w.0).0
@@ -445,7 +412,7 @@ module _ (a b : Content) (leaf parent : List ℕ) (m : Name) (i q : Image) (h : 
       by : (c : Bool) → is_apart us r.name ≡ c → u ≡ leaf
       by true apart =
           was (bytes_eq leaf u) refl (is_leaf_renamed a.table leaf parent || is_leaf_swapped a.table leaf parent)
-          (sym (ap (λ ns. not (list_any (is_old_of a.table u) ns)) folding_was) ∙ sym (ap (is_orphaned a.table) is) ∙ orphaned_before r (before r there apart))
+          (sym (ap (λ ns. not (list_any (is_old_of a.table u) ns)) folding_was) ∙ sym (ap (is_orphaned a.table) is) ∙ passed.owned r (before r there apart))
       by false near = of (k.volumes r there near)
 
   old_passes : (r : Row) → In r t.volumes → r.name ≡ Old leaf → PassesAlone new r
@@ -482,6 +449,7 @@ module _ (a b : Content) (leaf parent : List ℕ) (m : Name) (i q : Image) (h : 
   passes r there (Vhd u) is e = near_passes r there (ap (is_apart us) is ∙ e)
   passes r there (Raw u) is e = near_passes r there (ap (is_apart us) is ∙ e)
   passes r there (Old u) is e = old_passes r there (is ∙ ap Old (old_name r u there is))
+  passes r there (Cbt u) is e = absurd (true≢false e)
   passes r there (Clone x y z) is e = absurd (no_making r there (ap is_making is))
   passes r there (Inflate x y) is e = absurd (no_making r there (ap is_making is))
   passes r there (Coalesce c p) is e = entry_passes r (folding_of r there (ap is_folding is))
@@ -498,7 +466,7 @@ module _ (a b : Content) (leaf parent : List ℕ) (m : Name) (i q : Image) (h : 
       entry = ap head k.folding
 
       parent_gone : standing_volume t parent ≡ None
-      parent_gone = stands_beside t parent k.making ∙ beside_other t leaf parent parent entry (bytes_eq-apart parent leaf (λ is. two_names (ap Vhd is))) ∙ k.no_parent
+      parent_gone = stands_beside t parent k.making ∙ beside_plain t leaf parent parent (inl entry) (bytes_eq-apart parent leaf (λ is. two_names (ap Vhd is))) ∙ k.no_parent
 
       by : (l p : Bool) → bytes_eq leaf u ≡ l → bytes_eq parent u ≡ p → is_some (standing_volume a.table u) ≡ true
       by true p is_l is_p = ap (λ v. is_some (standing_volume a.table v)) (sym ((bytes_eq-Decides leaf u).0 is_l)) ∙ ap is_some h.stood
@@ -508,29 +476,15 @@ module _ (a b : Content) (leaf parent : List ℕ) (m : Name) (i q : Image) (h : 
       by false false is_l is_p =
           let other : is_among us u ≡ false = ap₂ (λ l r. l || r) is_l (ap (λ p. p || false) is_p) in
           let off : bytes_eq u leaf ≡ false = bytes_eq-apart u leaf (λ is. true≢false (sym (ap (bytes_eq leaf) is ∙ bytes_eq-refl leaf) ∙ is_l)) in
-          ap is_some (stands_beside a.table u h.none_making ∙ beside_other a.table leaf parent u h.entry off ∙ sym (plainly_same a b us u k.apart other)
-          ∙ sym (beside_other t leaf parent u entry off) ∙ sym (stands_beside t u k.making)) ∙ e
-
-  recorded_before : (u : List ℕ) → In u (disk_uuids old) → is_unrecorded old u ≡ false
-  unfolding disk_fault
-  recorded_before = none_find (is_unrecorded old) (disk_uuids old) (none_of (find (is_unrecorded old) (disk_uuids old))
-      (all_none (outline a) sound (disk_fault old) (inr (inr (inr (inr (inr (inr (inr (inr (inr (inr (inl refl)))))))))))))
-    where
-      none_of : (x : Option (List ℕ)) → disk_place x ≡ None → x ≡ None
-      none_of None e = refl
-      none_of (Some u) e = absurd (let y = e in cc)
-
-  listed : (u : List ℕ) → is_some (standing_volume a.table u) ≡ true → In u (disk_uuids old)
-  listed u e =
-      let w = is_some-parts (standing_volume a.table u) e in
-      filter-In (λ v. is_some (standing_volume a.table v)) (uuids a.table) u (stands_listed a.table u w.0 w.1) e
+          ap is_some (stands_beside a.table u h.none_making ∙ beside_plain a.table leaf parent u (inl h.entry) off ∙ sym (plainly_same a b us u k.apart other)
+          ∙ sym (beside_plain t leaf parent u (inl entry) off) ∙ sym (stands_beside t u k.making)) ∙ e
 
   recorded_now : (u : List ℕ) → In u (disk_uuids new) → is_unrecorded new u ≡ false
   recorded_now u inside =
-      let w = stood_before u (In-filter (λ v. is_some (standing_volume t v)) (uuids t) u inside).1 in
+      let stood = stood_before u (In-filter (λ v. is_some (standing_volume t v)) (uuids t) u inside).1 in
+      let disk = is_some-parts (standing_volume a.table u) stood in
       ap (λ rs. not (length (filter (is_record_of u) rs) == 1)) (outline_records_same b)
-      ∙ ap (λ j. not (j == 1)) (k.recorded u)
-      ∙ sym (ap (λ rs. not (length (filter (is_record_of u) rs) == 1)) (outline_records_same a)) ∙ recorded_before u (listed u w)
+      ∙ ap (λ j. not (j == 1)) (k.recorded u ∙ sym (ap (λ rs. length (filter (is_record_of u) rs)) (outline_records_same a)) ∙ passed.recorded u disk.0 disk.1)
 
   disks_right : disk_fault new ≡ None
   unfolding disk_fault

@@ -1,4 +1,6 @@
 -- The tables of a swap, one after each of its commits: what each volume is by name, that each commit is allowed, and that its text fits.
+-- A store that does not tell its content makes these commits too, so that they are allowed is shown from the table alone. What `law_leaf`
+-- of `sm_standing` says of all but the first asks for a content whose checks pass.
 use Rattle.std.proofs.Common.{◌≡◌, ◌≢◌, inl, ⊎_elim, ℕ, ◌≤◌, Bool, true, false, List, [], ◌∷◌, filter, length, Option, Some, None, refl, sym, ap, ◌∙◌, subst, arith}
 use Rattle.std.proofs.lemmas.Bool.{true≢false}
 use Rattle.std.proofs.lemmas.Option.{same_Some}
@@ -36,7 +38,6 @@ use Rattle.gc_leaf.proofs.SwapSteps.{IsToSwap}
 -- a table of a swap, with the volumes of these three names, and all others as before
 pub record IsSwapTable (count : ℕ) (t : VolumeTable) (u v : List ℕ) (x : VolumeTable) (leaf base gone : Option Row) (entries : List Name) : Type 0 where
   pub table : IsTable count x
-  pub later : t.sequence ≤ x.sequence
   pub leaf_row : rows x (Vhd u) ≡ leaf
   pub base_row : rows x (Vhd v) ≡ base
   pub gone_row : rows x (Old u) ≡ gone
@@ -102,7 +103,6 @@ module _ {s : Site} {t : VolumeTable} {m : Known} {l p : Name} {cursor : ℕ} (h
   pub stage_0 : Stage t (Some own_row) (Some base_was) None entry
   stage_0 = record {
     table = h.orderly.table;
-    later = omega arith;
     leaf_row = (leaf_vol h).there;
     base_row = (parent_vol h).there;
     gone_row = none_old h leaf;
@@ -117,7 +117,6 @@ module _ {s : Site} {t : VolumeTable} {m : Known} {l p : Name} {cursor : ℕ} (h
   pub stage_1 : Stage table_1 None (Some base_was) (Some old_row) entry
   stage_1 = let c = changes_by_name s.count t (Rename (Vhd leaf) (Old leaf)) h.orderly.table may_1 in record {
     table = IsTable-applied s.count t (Rename (Vhd leaf) (Old leaf)) h.orderly.table may_1;
-    later = omega (arith, h.orderly.table.sequence);
     leaf_row = c.does.3;
     base_row = c.others (Vhd parent) (λ of. ⊎_elim (λ is. leaf_parent (sym is)) (λ is. (let x = is in cc)) of) ∙ stage_0.base_row;
     gone_row = c.does.4 ∙ ap (λ r. Some (renamed (Old leaf) r)) (same_Some c.does.0 own_row (sym c.does.1 ∙ stage_0.leaf_row));
@@ -132,7 +131,6 @@ module _ {s : Site} {t : VolumeTable} {m : Known} {l p : Name} {cursor : ℕ} (h
   pub stage_2 : Stage table_2 (Some named_row) None (Some old_row) entry
   stage_2 = let c = changes_by_name s.count table_1 (Rename (Vhd parent) (Vhd leaf)) stage_1.table may_2 in record {
     table = IsTable-applied s.count table_1 (Rename (Vhd parent) (Vhd leaf)) stage_1.table may_2;
-    later = omega (arith, stage_1.table.sequence, stage_1.later);
     leaf_row = c.does.4 ∙ ap (λ r. Some (renamed (Vhd leaf) r)) (same_Some c.does.0 base_was (sym c.does.1 ∙ stage_1.base_row));
     base_row = c.does.3;
     gone_row = c.others (Old leaf) (λ of. ⊎_elim (λ is. (let x = is in cc)) (λ is. (let x = is in cc)) of) ∙ stage_1.gone_row;
@@ -142,7 +140,7 @@ module _ {s : Site} {t : VolumeTable} {m : Known} {l p : Name} {cursor : ℕ} (h
   }
 
   pub may_3 : Permits s.count table_2 (Mark (Vhd leaf) Hidden false)
-  may_3 = record { row = named_row; there = stage_2.leaf_row; image = refl; otherwise = (parent_vol h).shown }
+  may_3 = record { row = named_row; there = stage_2.leaf_row; taking = refl; otherwise = (parent_vol h).shown }
 
   marked : (test : Name → Bool) → names_in table_3 test ≡ names_in table_2 test
   marked test = ap (filter test) (names_of-with_row table_2.volumes (Vhd leaf) (tagged Hidden false) (tagged_name Hidden false))
@@ -150,7 +148,6 @@ module _ {s : Site} {t : VolumeTable} {m : Known} {l p : Name} {cursor : ℕ} (h
   pub stage_3 : Stage table_3 (Some shown_row) None (Some old_row) entry
   stage_3 = let c = changes_by_name s.count table_2 (Mark (Vhd leaf) Hidden false) stage_2.table may_3 in record {
     table = IsTable-applied s.count table_2 (Mark (Vhd leaf) Hidden false) stage_2.table may_3;
-    later = omega (arith, stage_2.table.sequence, stage_2.later);
     leaf_row = c.does.2 ∙ ap (λ r. Some (tagged Hidden false r)) (same_Some c.does.0 named_row (sym c.does.1 ∙ stage_2.leaf_row));
     base_row = c.others (Vhd parent) (λ is. leaf_parent (sym is)) ∙ stage_2.base_row;
     gone_row = c.others (Old leaf) (λ is. (let x = is in cc)) ∙ stage_2.gone_row;
@@ -165,7 +162,6 @@ module _ {s : Site} {t : VolumeTable} {m : Known} {l p : Name} {cursor : ℕ} (h
   pub stage_4 : Stage table_4 (Some shown_row) None None entry
   stage_4 = let c = changes_by_name s.count table_3 (Remove (Old leaf)) stage_3.table may_4 in record {
     table = IsTable-applied s.count table_3 (Remove (Old leaf)) stage_3.table may_4;
-    later = omega (arith, stage_3.table.sequence, stage_3.later);
     leaf_row = c.others (Vhd leaf) (λ is. (let x = is in cc)) ∙ stage_3.leaf_row;
     base_row = c.others (Vhd parent) (λ is. (let x = is in cc)) ∙ stage_3.base_row;
     gone_row = c.does.2;
@@ -184,7 +180,6 @@ module _ {s : Site} {t : VolumeTable} {m : Known} {l p : Name} {cursor : ℕ} (h
   pub stage_5 : Stage table_then (Some shown_row) None None []
   stage_5 = let c = changes_by_name s.count table_4 (Remove (Leaf leaf parent)) stage_4.table may_5 in record {
     table = IsTable-applied s.count table_4 (Remove (Leaf leaf parent)) stage_4.table may_5;
-    later = omega (arith, stage_4.table.sequence, stage_4.later);
     leaf_row = c.others (Vhd leaf) (λ is. (let x = is in cc)) ∙ stage_4.leaf_row;
     base_row = c.others (Vhd parent) (λ is. (let x = is in cc)) ∙ stage_4.base_row;
     gone_row = c.others (Old leaf) (λ is. (let x = is in cc)) ∙ stage_4.gone_row;

@@ -1,5 +1,5 @@
 -- The changes of a swap, and what it makes of the volumes and of the images in memory (this project's format).
-use Rattle.std.specs.Prelude.{◌≡◌, ◌≢◌, IsSome, ℕ, false, List, [], ◌∷◌, Option, Some, None}
+use Rattle.std.specs.Prelude.{◌≡◌, ◌≢◌, ◌≤◌, IsSome, ℕ, Bool, true, false, List, [], ◌∷◌, Option, Some, None}
 use Rattle.std.specs.Option.{option_map}
 use Rattle.sm_base.specs.Kinds.{is_entry}
 use Rattle.sm_base.specs.Names.{IsName}
@@ -9,9 +9,31 @@ use Rattle.vg_meta.specs.Tables.{Row, VolumeTable, rows}
 use Rattle.vg_meta.specs.declared.changes.Change.{Change}
 use Rattle.vg_meta.specs.declared.changes.Change.TheVariants.{Mark, Remove, Rename}
 use Rattle.vg_meta.specs.declared.changes.Tag.TheVariants.{Hidden}
+use Rattle.sm_machine.specs.Operations.{Op}
+use Rattle.sm_machine.specs.Operations as op
+use Rattle.sm_refs.specs.Attached.{Attached, count_of}
 use Rattle.vhd_image.specs.Bodies.{in_volume}
 use Rattle.vhd_chain.specs.Trees.{Tree, tree_row, with_row, without}
 use Rattle.vhd_chain.specs.declared.rows.TreeRow.{TreeRow}
+
+-- ---- the operation
+
+-- a leaf is folded, attached or not
+abbrev pub is_folding : Op → Bool
+is_folding op.Idle = false
+is_folding (op.Copy child parent cursor) = false
+is_folding (op.Relink child parent) = false
+is_folding (op.Leaf leaf parent cursor) = true
+is_folding (op.Live leaf parent cursor dirty) = true
+
+-- the folding of l into p, by whether the disk of l is attached
+abbrev pub folding_of : Bool → Name → Name → ℕ → List ℕ → Op
+folding_of true l p cursor dirty = op.Live l p cursor dirty
+folding_of false l p cursor dirty = op.Leaf l p cursor
+
+-- the operation folds l into p
+abbrev pub IsFoldingOf : Op → Name → Name → Type 0
+IsFoldingOf o l p = (attached : Bool) × (cursor : ℕ) × (dirty : List ℕ) × (o ≡ folding_of attached l p cursor dirty)
 
 -- ---- the commits
 
@@ -55,3 +77,20 @@ pub record CanFold (t : Tree) (leaf parent : Name) : Type 0 where
   pub parent_there : IsSome (tree_row t.rows parent)
   pub apart : parent ≢ leaf
   pub named : IsName leaf
+
+-- ---- the attachments
+
+-- none is counted under the parent's name any more; each other volume is used as often as before
+pub record IsUncounted (parent : Name) (old new : Attached) : Type 0 where
+  pub disks : new.disks ≡ old.disks
+  pub gone : count_of new parent ≡ 0
+  pub others : (n : Name) → n ≢ parent → count_of new n ≡ count_of old n
+  pub room : old.room ≤ new.room
+
+-- the attachments behind a swap are those from before; or where the folded leaf is attached, none is counted under the parent's name any more
+abbrev pub CountsAs : Op → Name → Attached → Attached → Type 0
+CountsAs op.Idle parent old new = new ≡ old
+CountsAs (op.Copy v p cursor) parent old new = new ≡ old
+CountsAs (op.Relink v p) parent old new = new ≡ old
+CountsAs (op.Leaf l p cursor) parent old new = new ≡ old
+CountsAs (op.Live l p cursor dirty) parent old new = IsUncounted parent old new
