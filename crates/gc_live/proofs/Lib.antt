@@ -1,0 +1,3 @@
+pub mod CleanedShapes
+pub mod CleaningLaws
+pub mod SwapLaws
