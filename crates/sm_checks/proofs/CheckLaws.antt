@@ -7,7 +7,7 @@ use Rattle.std.proofs.lemmas.Option.{none-some, same_Some}
 use Rattle.sm_base.specs.declared.faults.Place.{Place}
 use Rattle.sm_base.specs.declared.faults.Place.TheVariants as at
 use Rattle.sm_base.specs.declared.names.Name.{Name}
-use Rattle.sm_base.specs.declared.names.Name.TheVariants.{Mgt, Vhd, Raw, Old, Clone, Inflate, Coalesce, Relink, Leaf}
+use Rattle.sm_base.specs.declared.names.Name.TheVariants.{Mgt, Vhd, Raw, Old, Cbt, Clone, Inflate, Coalesce, Relink, Leaf}
 use Rattle.sm_base.specs.declared.sizes.Geometry.{Geometry}
 use Rattle.vg_meta.specs.Tables.{VolumeTable, Row, names_of, rows}
 use Rattle.sm_base.specs.Kinds.{is_image as is_data, is_entry}
@@ -224,6 +224,7 @@ lost_as t Mgt = refl
 lost_as t (Vhd u) = refl
 lost_as t (Raw u) = refl
 lost_as t (Old u) = refl
+lost_as t (Cbt u) = refl
 lost_as t (Coalesce c p) = copy_lost (is_coalescing t c p) (is_past t.sequence c) (is_past t.sequence p)
 lost_as t (Relink c p) = copy_lost (is_coalescing t c p) (is_past t.sequence c) (is_past t.sequence p)
 lost_as t (Leaf l p) = copy_lost (is_folding_leaf t l p) (is_past t.sequence l) (is_past t.sequence p)
@@ -251,6 +252,7 @@ old_as t (Old u) one = ap not (by (folding t) one)
 old_as t Mgt one = refl
 old_as t (Vhd u) one = refl
 old_as t (Raw u) one = refl
+old_as t (Cbt u) one = refl
 old_as t (Clone d b w) one = refl
 old_as t (Inflate u e) one = refl
 old_as t (Coalesce c p) one = refl

@@ -12,7 +12,7 @@ use Rattle.std.proofs.lemmas.Cmp.{nat_list_cmp_total}
 use Rattle.std.proofs.lemmas.List.Sums.{length-filter}
 use Rattle.std.proofs.lemmas.Map.Lookups.{exact_bytes}
 use Rattle.sm_base.specs.declared.names.Name.{Name}
-use Rattle.sm_base.specs.declared.names.Name.TheVariants.{Mgt, Vhd, Raw, Old, Clone, Inflate, Coalesce, Relink, Leaf}
+use Rattle.sm_base.specs.declared.names.Name.TheVariants.{Mgt, Vhd, Raw, Old, Cbt, Clone, Inflate, Coalesce, Relink, Leaf}
 use Rattle.vg_meta.specs.Tables.{VolumeTable, Row, rows}
 use Rattle.vg_meta.specs.Roomy.{RoomyTable, RoomyRow, table_alone}
 use Rattle.common_laws.specs.Lists.{In, given, numbers}
@@ -76,6 +76,7 @@ module _ (t : VolumeTable) (u : List ℕ) where
   folded (Some (Vhd v)) = own
   folded (Some (Raw v)) = own
   folded (Some (Old v)) = own
+  folded (Some (Cbt v)) = own
   folded (Some (Clone d b w)) = own
   folded (Some (Inflate v e)) = own
   folded (Some (Coalesce c p)) = own
@@ -106,6 +107,7 @@ module _ (t : VolumeTable) (u : List ℕ) where
   by_making (Some (Vhd v)) = alone_is
   by_making (Some (Raw v)) = alone_is
   by_making (Some (Old v)) = alone_is
+  by_making (Some (Cbt v)) = alone_is
   by_making (Some (Coalesce c p)) = alone_is
   by_making (Some (Relink c p)) = alone_is
   by_making (Some (Leaf l p)) = alone_is
@@ -126,6 +128,7 @@ swapping_none t known u = by (head (folding t)) (λ n is. (first_folding t n kno
     by (Some (Vhd v)) each = refl
     by (Some (Raw v)) each = refl
     by (Some (Old v)) each = refl
+    by (Some (Cbt v)) each = refl
     by (Some (Clone d b w)) each = refl
     by (Some (Inflate v e)) each = refl
     by (Some (Coalesce c p)) each = refl
@@ -284,6 +287,7 @@ module _ (k : RoomyTable) (places : List (Option Record)) (u : List ℕ) (wrong 
   of_name (Leaf l p) (inr i) = absurd i
   of_name Mgt i = absurd i
   of_name (Old v) i = absurd i
+  of_name (Cbt v) i = absurd i
   of_name (Inflate v e) i = absurd i
   of_name (Coalesce c p) i = absurd i
   of_name (Relink c p) i = absurd i

@@ -5,7 +5,7 @@ use Rattle.std.specs.List.Sorted.{IsStrictlySortedBy, IsPartitionPoint, IsPartit
 use Rattle.std.specs.declared.cmp.Ordering.TheVariants.{Less}
 use Rattle.std.proofs.lemmas.Bool.{true≢false}
 use Rattle.sm_base.specs.declared.names.Name.{Name}
-use Rattle.sm_base.specs.declared.names.Name.TheVariants.{Mgt, Vhd, Raw, Old, Clone, Inflate, Coalesce, Relink, Leaf}
+use Rattle.sm_base.specs.declared.names.Name.TheVariants.{Mgt, Vhd, Raw, Old, Cbt, Clone, Inflate, Coalesce, Relink, Leaf}
 use Rattle.sm_base.specs.Kinds.{is_entry}
 use Rattle.sm_base.specs.Names.{name_cmp, spelling}
 use Rattle.sm_base.proofs.OrderLemmas.{name_cmp_total}
@@ -35,10 +35,15 @@ other_first (Raw u) (Coalesce c p) h k = refl
 other_first (Raw u) (Relink c p) h k = refl
 other_first (Raw u) (Leaf l p) h k = refl
 other_first (Old u) (Clone d b t) h k = refl
+other_first (Cbt u) (Clone d b t) h k = refl
 other_first (Old u) (Inflate i m) h k = refl
+other_first (Cbt u) (Inflate i m) h k = refl
 other_first (Old u) (Coalesce c p) h k = refl
+other_first (Cbt u) (Coalesce c p) h k = refl
 other_first (Old u) (Relink c p) h k = refl
+other_first (Cbt u) (Relink c p) h k = refl
 other_first (Old u) (Leaf l p) h k = refl
+other_first (Cbt u) (Leaf l p) h k = refl
 other_first _ _ h k = absurd cc
 
 -- what is less than the name of no entry is that of none
@@ -123,6 +128,7 @@ making_entries Mgt h = refl
 making_entries (Vhd u) h = refl
 making_entries (Raw u) h = refl
 making_entries (Old u) h = refl
+making_entries (Cbt u) h = refl
 making_entries (Clone d b t) h = absurd (true≢false h)
 making_entries (Inflate i m) h = absurd (true≢false h)
 making_entries (Coalesce c p) h = refl
@@ -134,6 +140,7 @@ folding_entries Mgt h = refl
 folding_entries (Vhd u) h = refl
 folding_entries (Raw u) h = refl
 folding_entries (Old u) h = refl
+folding_entries (Cbt u) h = refl
 folding_entries (Clone d b t) h = refl
 folding_entries (Inflate i m) h = refl
 folding_entries (Coalesce c p) h = absurd (true≢false h)

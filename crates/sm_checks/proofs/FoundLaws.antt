@@ -3,7 +3,7 @@ use Rattle.std.proofs.Common.{◌≡◌, inl, inr, ℕ, ◌*◌, ◌<◌, Bool, 
 use Rattle.std.proofs.lemmas.Bool.{true≢false, cond-true, le-ltb, lt-ltb}
 use Rattle.sm_machine.specs.WellFormed.{is_image_name}
 use Rattle.sm_base.specs.declared.names.Name.{Name}
-use Rattle.sm_base.specs.declared.names.Name.TheVariants.{Mgt, Vhd, Raw, Old, Clone, Inflate, Coalesce, Relink, Leaf}
+use Rattle.sm_base.specs.declared.names.Name.TheVariants.{Mgt, Vhd, Raw, Old, Cbt, Clone, Inflate, Coalesce, Relink, Leaf}
 use Rattle.sm_disk.specs.Held.{Held, reads}
 use Rattle.vg_meta.specs.Tables.{Row, VolumeTable, rows}
 use Rattle.vg_volumes.specs.Sites.{Site, volume_of}
@@ -102,6 +102,7 @@ module _ (told : Type 0) (s : Site) (t : VolumeTable) (area : Held) (r : Row) wh
   link_named (Vhd u) (body.Vhd head m) sized there filled read known = link_there s t area u r sized there filled head m read.stands (read.gives known)
   link_named Mgt image sized there filled read known = absurd read
   link_named (Old u) image sized there filled read known = absurd read
+  link_named (Cbt u) image sized there filled read known = absurd read
   link_named (Clone d b w) image sized there filled read known = absurd read
   link_named (Inflate u e) image sized there filled read known = absurd read
   link_named (Coalesce x y) image sized there filled read known = absurd read
@@ -122,6 +123,7 @@ module _ (told : Type 0) (s : Site) (t : VolumeTable) (area : Held) (r : Row) wh
     valid_named (Vhd u) image read found = ap (λ o. not r.fresh && is_none o) found ∙ and_no (not r.fresh)
     valid_named Mgt image read found = absurd read
     valid_named (Old u) image read found = absurd read
+    valid_named (Cbt u) image read found = absurd read
     valid_named (Clone d b w) image read found = absurd read
     valid_named (Inflate u e) image read found = absurd read
     valid_named (Coalesce a b) image read found = absurd read
@@ -138,6 +140,7 @@ module _ (told : Type 0) (s : Site) (t : VolumeTable) (area : Held) (r : Row) wh
   invalid_named (Vhd u) sized there filled none known = ap (λ o. is_none (link_of o)) (none_there s t area u r sized there filled (none known))
   invalid_named Mgt sized there filled none known = absurd none
   invalid_named (Old u) sized there filled none known = absurd none
+  invalid_named (Cbt u) sized there filled none known = absurd none
   invalid_named (Clone d b w) sized there filled none known = absurd none
   invalid_named (Inflate u e) sized there filled none known = absurd none
   invalid_named (Coalesce a b) sized there filled none known = absurd none
@@ -154,6 +157,7 @@ wrong_kind x r Mgt other = refl
 wrong_kind x r (Vhd u) other = absurd (true≢false other)
 wrong_kind x r (Raw u) other = absurd (true≢false other)
 wrong_kind x r (Old u) other = refl
+wrong_kind x r (Cbt u) other = refl
 wrong_kind x r (Clone d b w) other = refl
 wrong_kind x r (Inflate u e) other = refl
 wrong_kind x r (Coalesce a b) other = refl
@@ -176,6 +180,7 @@ wrong_read ns x q (Raw u) is = ap (λ r. is_image_wrong x r (Raw u)) (other_whol
 wrong_read ns x q (Vhd u) is = refl
 wrong_read ns x q Mgt is = refl
 wrong_read ns x q (Old u) is = refl
+wrong_read ns x q (Cbt u) is = refl
 wrong_read ns x q (Clone d b w) is = refl
 wrong_read ns x q (Inflate u e) is = refl
 wrong_read ns x q (Coalesce a b) is = refl
@@ -201,6 +206,7 @@ module _ (s : Site) (t : VolumeTable) (area : Held) (c : IsStaged s t) where
   wrong_short r (Raw u) = refl
   wrong_short r Mgt = refl
   wrong_short r (Old u) = refl
+  wrong_short r (Cbt u) = refl
   wrong_short r (Clone d b w) = refl
   wrong_short r (Inflate u e) = refl
   wrong_short r (Coalesce a b) = refl

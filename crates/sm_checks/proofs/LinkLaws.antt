@@ -6,7 +6,7 @@ use Rattle.std.proofs.lemmas.List.{length-append}
 use Rattle.sm_base.specs.declared.faults.Place.{Place}
 use Rattle.sm_base.specs.declared.faults.Place.TheVariants as at
 use Rattle.sm_base.specs.declared.names.Name.{Name}
-use Rattle.sm_base.specs.declared.names.Name.TheVariants.{Mgt, Vhd, Raw, Old, Clone, Inflate, Coalesce, Relink, Leaf}
+use Rattle.sm_base.specs.declared.names.Name.TheVariants.{Mgt, Vhd, Raw, Old, Cbt, Clone, Inflate, Coalesce, Relink, Leaf}
 use Rattle.vg_meta.specs.Roomy.{RoomyRow, RoomyTable, table_alone}
 use Rattle.vg_meta.specs.Tables.{Row}
 use Rattle.common_laws.specs.Lists.{In, ◌>>=◌}
@@ -224,6 +224,7 @@ module _ (xs : List TreeRow) (x : Outline) (links : HasLinks xs x) (seen : HasVo
   unlinked_seen counted (Vhd u) = refl
   unlinked_seen counted (Raw u) = refl
   unlinked_seen counted (Old u) = refl
+  unlinked_seen counted (Cbt u) = refl
   unlinked_seen counted (Inflate u e) = refl
   unlinked_seen counted (Coalesce c p) = ap not (copy_seen counted c p)
   unlinked_seen counted (Relink c p) = ap not (link_seen c p)

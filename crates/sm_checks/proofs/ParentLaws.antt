@@ -10,7 +10,7 @@ use Rattle.std.proofs.lemmas.Option.{same_Some}
 use Rattle.common_laws.specs.Lists.{In, given}
 use Rattle.common_laws.proofs.Lists.{In-filter, filter-In, In-map_at, find-some}
 use Rattle.sm_base.specs.declared.names.Name.{Name}
-use Rattle.sm_base.specs.declared.names.Name.TheVariants.{Mgt, Vhd, Raw, Old, Clone, Inflate, Coalesce, Relink, Leaf}
+use Rattle.sm_base.specs.declared.names.Name.TheVariants.{Mgt, Vhd, Raw, Old, Cbt, Clone, Inflate, Coalesce, Relink, Leaf}
 use Rattle.sm_base.specs.Names.{name_cmp}
 use Rattle.sm_base.proofs.OrderLemmas.{name_cmp-itself}
 use Rattle.sm_machine.proofs.ImageNames.{before_le, le_chain, names_total}
@@ -176,6 +176,7 @@ is_bad_parent xs r (Vhd u) = has_children xs r (tree_row xs (Vhd u))
 is_bad_parent xs r Mgt = false
 is_bad_parent xs r (Raw u) = false
 is_bad_parent xs r (Old u) = false
+is_bad_parent xs r (Cbt u) = false
 is_bad_parent xs r (Clone disk base twin) = false
 is_bad_parent xs r (Inflate image extents) = false
 is_bad_parent xs r (Coalesce child parent) = false
@@ -198,6 +199,7 @@ wrong_either t xs r (Vhd u) = by (tree_row xs (Vhd u))
 wrong_either t xs r Mgt = refl
 wrong_either t xs r (Raw u) = refl
 wrong_either t xs r (Old u) = refl
+wrong_either t xs r (Cbt u) = refl
 wrong_either t xs r (Clone disk base twin) = refl
 wrong_either t xs r (Inflate image extents) = refl
 wrong_either t xs r (Coalesce child parent) = refl
@@ -249,6 +251,7 @@ module _ (t : VolumeTable) (xs : List TreeRow) (rising : IsStrictlySortedBy name
       by Mgt named bad = absurd (true≢false (sym bad))
       by (Raw u) named bad = absurd (true≢false (sym bad))
       by (Old u) named bad = absurd (true≢false (sym bad))
+      by (Cbt u) named bad = absurd (true≢false (sym bad))
       by (Clone d b w) named bad = absurd (true≢false (sym bad))
       by (Inflate u e) named bad = absurd (true≢false (sym bad))
       by (Coalesce a p) named bad = absurd (true≢false (sym bad))
@@ -275,6 +278,7 @@ module _ (t : VolumeTable) (xs : List TreeRow) (rising : IsStrictlySortedBy name
   leaf_bad Mgt leaf y i is = absurd (true≢false (sym leaf))
   leaf_bad (Raw u) leaf y i is = absurd (true≢false (sym leaf))
   leaf_bad (Old u) leaf y i is = absurd (true≢false (sym leaf))
+  leaf_bad (Cbt u) leaf y i is = absurd (true≢false (sym leaf))
   leaf_bad (Clone d b w) leaf y i is = absurd (true≢false (sym leaf))
   leaf_bad (Inflate u e) leaf y i is = absurd (true≢false (sym leaf))
   leaf_bad (Coalesce a p) leaf y i is = absurd (true≢false (sym leaf))

@@ -7,12 +7,12 @@ use Rattle.std.proofs.lemmas.List.{get_or-take, length-map, length-take-le}
 use Rattle.std.proofs.lemmas.Nat.{div_below}
 use Rattle.std.proofs.lemmas.Option.{none-some, same_Some, slice_get-map, slice_get_read}
 use Rattle.std.proofs.Math.Nat.{mul-le-mul_right}
-use Rattle.sm_base.specs.Kinds.{is_image, is_entry}
+use Rattle.sm_base.specs.Kinds.{is_image, is_log, is_entry}
 use Rattle.sm_base.specs.declared.faults.OpenFault.{OpenFault}
 use Rattle.sm_base.specs.declared.faults.OpenFault.TheVariants as fault
 use Rattle.sm_base.specs.declared.faults.Place.TheVariants as at
 use Rattle.sm_base.specs.declared.names.Name.{Name}
-use Rattle.sm_base.specs.declared.names.Name.TheVariants.{Mgt, Vhd, Raw, Old, Clone, Inflate, Coalesce, Relink, Leaf}
+use Rattle.sm_base.specs.declared.names.Name.TheVariants.{Mgt, Vhd, Raw, Old, Cbt, Clone, Inflate, Coalesce, Relink, Leaf}
 use Rattle.sm_base.specs.declared.sizes.Geometry.{Geometry}
 use Rattle.sm_disk.specs.Held.{Held, reads}
 use Rattle.vg_meta.specs.Tables.{Row, VolumeTable, IsVolume, extents_of, rows, suits}
@@ -88,6 +88,7 @@ unfolding is_image_name
 image_named (Vhd u) known image = refl
 image_named (Raw u) known image = refl
 image_named Mgt known image = absurd (true≢false (sym image))
+image_named (Cbt u) known image = absurd (true≢false (sym image))
 image_named (Inflate u e) known image = absurd (true≢false (sym image))
 image_named (Clone d b w) known image = absurd (true≢false (sym image))
 image_named (Coalesce v p) known image = absurd (true≢false (sym image))
@@ -96,7 +97,8 @@ image_named _ known image = absurd (true≢false (sym known))
 
 pub some_extents : (r : Row) → suits r ≡ true → is_image r.name ≡ true → 0 < length r.extents
 some_extents r right image =
-    ltb-true 0 (length r.extents) (sym (ap (λ b. cond b (nat_lt 0 (length r.extents)) (not r.hidden && (not r.fresh && (not (is_entry r.name) || (length r.extents == 0))))) image) ∙ right)
+    ltb-true 0 (length r.extents) (sym (ap (λ b. cond b (nat_lt 0 (length r.extents)) (not (is_log r.name) && (not r.hidden && (not r.fresh && (not (is_entry r.name) || (length r.extents == 0)))))) image)
+    ∙ right)
 
 abbrev alone : RoomyRow → Row
 alone h = h.row
@@ -177,6 +179,7 @@ module _ (told : Type 0) (g : Geometry) (sectors : ℕ) (h k : Held) (same : Sam
   read_below (Vhd u) image read = record { vhd = read.vhd; stands = read.stands; gives = λ known. vhd_below image (read.gives known) }
   read_below Mgt image read = read
   read_below (Old u) image read = read
+  read_below (Cbt u) image read = read
   read_below (Clone d b w) image read = read
   read_below (Inflate u e) image read = read
   read_below (Coalesce v p) image read = read
@@ -188,6 +191,7 @@ module _ (told : Type 0) (g : Geometry) (sectors : ℕ) (h k : Held) (same : Sam
   none_below (Vhd u) none = λ known valid. none known (valid_below g sectors (reads k) (reads h) (λ p below. sym (same p below)) valid)
   none_below Mgt none = none
   none_below (Old u) none = none
+  none_below (Cbt u) none = none
   none_below (Clone d b w) none = none
   none_below (Inflate u e) none = none
   none_below (Coalesce v p) none = none
@@ -203,6 +207,7 @@ not_vhd u (Vhd v) other = absurd (other v refl)
 not_vhd u Mgt other = refl
 not_vhd u (Raw v) other = refl
 not_vhd u (Old v) other = refl
+not_vhd u (Cbt v) other = refl
 not_vhd u (Clone d b w) other = refl
 not_vhd u (Inflate v e) other = refl
 not_vhd u (Coalesce v p) other = refl

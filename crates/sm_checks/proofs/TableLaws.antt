@@ -10,7 +10,7 @@ use Rattle.std.proofs.lemmas.Bool.{true≢false}
 use Rattle.std.proofs.lemmas.List.{take_all}
 use Rattle.sm_base.specs.Names.{name_cmp}
 use Rattle.sm_base.specs.declared.names.Name.{Name}
-use Rattle.sm_base.specs.declared.names.Name.TheVariants.{Mgt, Vhd, Raw, Old, Clone, Inflate, Coalesce, Relink, Leaf}
+use Rattle.sm_base.specs.declared.names.Name.TheVariants.{Mgt, Vhd, Raw, Old, Cbt, Clone, Inflate, Coalesce, Relink, Leaf}
 use Rattle.vg_meta.specs.Changes.{cut_to, with_row, without}
 use Rattle.vg_meta.specs.Tables.{Row, VolumeTable, name_eq, names_of, row_of, rows}
 use Rattle.vg_meta.proofs.NameLaws.{less_other, name_eq-false, name_eq-other, name_eq-true}
@@ -53,6 +53,7 @@ own_name u (Vhd v) = by (bytes_eq u v) (bytes_eq v u) refl refl
 own_name u Mgt = refl
 own_name u (Raw v) = refl
 own_name u (Old v) = refl
+own_name u (Cbt v) = refl
 own_name u (Clone d b t) = refl
 own_name u (Inflate v k) = refl
 own_name u (Coalesce v p) = refl
@@ -105,6 +106,7 @@ other_entry Mgt n all other = refl
 other_entry (Vhd v) n all other = refl
 other_entry (Raw v) n all other = refl
 other_entry (Old v) n all other = refl
+other_entry (Cbt v) n all other = refl
 other_entry (Clone d b t) n all other = refl
 other_entry (Coalesce v p) n all other = refl
 other_entry (Relink v p) n all other = refl
@@ -135,6 +137,7 @@ whole_alone t n is other = by n is other
     by (Vhd u) is other = record { table = ap (λ ns. shortened_by t (head ns)) is; extents = λ m all. ap (λ ns. image_extents ns m all) is }
     by (Raw u) is other = record { table = ap (λ ns. shortened_by t (head ns)) is; extents = λ m all. ap (λ ns. image_extents ns m all) is }
     by (Old u) is other = record { table = ap (λ ns. shortened_by t (head ns)) is; extents = λ m all. ap (λ ns. image_extents ns m all) is }
+    by (Cbt u) is other = record { table = ap (λ ns. shortened_by t (head ns)) is; extents = λ m all. ap (λ ns. image_extents ns m all) is }
     by (Clone d b w) is other = record { table = ap (λ ns. shortened_by t (head ns)) is; extents = λ m all. ap (λ ns. image_extents ns m all) is }
     by (Coalesce v p) is other = record { table = ap (λ ns. shortened_by t (head ns)) is; extents = λ m all. ap (λ ns. image_extents ns m all) is }
     by (Relink v p) is other = record { table = ap (λ ns. shortened_by t (head ns)) is; extents = λ m all. ap (λ ns. image_extents ns m all) is }
@@ -247,6 +250,7 @@ module _ {s : Site} {t : VolumeTable} (c : IsStaged s t) where
       of (Vhd v) found = inl (whole_alone t (Vhd v) (head_alone (making t) (Vhd v) found c.one_entry) (λ u k is. let x = is in cc))
       of (Raw v) found = inl (whole_alone t (Raw v) (head_alone (making t) (Raw v) found c.one_entry) (λ u k is. let x = is in cc))
       of (Old v) found = inl (whole_alone t (Old v) (head_alone (making t) (Old v) found c.one_entry) (λ u k is. let x = is in cc))
+      of (Cbt v) found = inl (whole_alone t (Cbt v) (head_alone (making t) (Cbt v) found c.one_entry) (λ u k is. let x = is in cc))
       of (Clone d b w) found = inl (whole_alone t (Clone d b w) (head_alone (making t) (Clone d b w) found c.one_entry) (λ u k is. let x = is in cc))
       of (Coalesce v p) found = inl (whole_alone t (Coalesce v p) (head_alone (making t) (Coalesce v p) found c.one_entry) (λ u k is. let x = is in cc))
       of (Relink v p) found = inl (whole_alone t (Relink v p) (head_alone (making t) (Relink v p) found c.one_entry) (λ u k is. let x = is in cc))

@@ -7,7 +7,7 @@ use Rattle.std.proofs.lemmas.Option.{same_Some}
 use Rattle.common_laws.proofs.Booleans.{not_false}
 use Rattle.sm_base.specs.declared.faults.Place.TheVariants as at
 use Rattle.sm_base.specs.declared.names.Name.{Name}
-use Rattle.sm_base.specs.declared.names.Name.TheVariants.{Mgt, Vhd, Raw, Old, Clone, Inflate, Coalesce, Relink, Leaf}
+use Rattle.sm_base.specs.declared.names.Name.TheVariants.{Mgt, Vhd, Raw, Old, Cbt, Clone, Inflate, Coalesce, Relink, Leaf}
 use Rattle.vg_meta.specs.Tables.{Row, name_eq}
 use Rattle.common_laws.specs.Lists.{In}
 use Rattle.common_laws.proofs.Lists.{In-map}
@@ -77,6 +77,7 @@ module _ (xs : List TreeRow) (x : Outline) (links : HasLinks xs x) where
     wrong_seen r Mgt named = refl
     wrong_seen r (Raw u) named = refl
     wrong_seen r (Old u) named = refl
+    wrong_seen r (Cbt u) named = refl
     wrong_seen r (Clone d b w) named = refl
     wrong_seen r (Inflate u e) named = refl
     wrong_seen r (Coalesce a p) named = refl
@@ -98,6 +99,7 @@ named_vhd (Vhd v) u = refl
 named_vhd Mgt u = refl
 named_vhd (Raw v) u = refl
 named_vhd (Old v) u = refl
+named_vhd (Cbt v) u = refl
 named_vhd (Clone d b w) u = refl
 named_vhd (Inflate v e) u = refl
 named_vhd (Coalesce a p) u = refl
@@ -110,6 +112,7 @@ named_raw (Raw v) u = refl
 named_raw Mgt u = refl
 named_raw (Vhd v) u = refl
 named_raw (Old v) u = refl
+named_raw (Cbt v) u = refl
 named_raw (Clone d b w) u = refl
 named_raw (Inflate v e) u = refl
 named_raw (Coalesce a p) u = refl

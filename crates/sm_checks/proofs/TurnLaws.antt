@@ -15,7 +15,7 @@ use Rattle.sm_base.specs.Names.{IsName, name_cmp}
 use Rattle.sm_base.specs.declared.faults.OpenFault.{OpenFault}
 use Rattle.sm_base.specs.declared.faults.Place.TheVariants as at
 use Rattle.sm_base.specs.declared.names.Name.{Name}
-use Rattle.sm_base.specs.declared.names.Name.TheVariants.{Mgt, Vhd, Raw, Old, Clone, Inflate, Coalesce, Relink, Leaf}
+use Rattle.sm_base.specs.declared.names.Name.TheVariants.{Mgt, Vhd, Raw, Old, Cbt, Clone, Inflate, Coalesce, Relink, Leaf}
 use Rattle.vg_meta.specs.Tables.{Row, VolumeTable, IsVolume, names_of}
 use Rattle.vg_meta.specs.Roomy.{RoomyRow, RoomyTable, rows_alone, table_alone}
 use Rattle.vg_volumes.specs.Sites.{Site}
@@ -146,6 +146,7 @@ module _ {S : Type 0} {g : Ghosts S} {a b : S} (only : OnlyReads g a b) (c : IsO
   }
   kept_as Mgt image k read = read
   kept_as (Old u) image k read = read
+  kept_as (Cbt u) image k read = read
   kept_as (Clone d b w) image k read = read
   kept_as (Inflate u e) image k read = read
   kept_as (Coalesce v p) image k read = read
@@ -168,6 +169,7 @@ module _ {S : Type 0} {g : Ghosts S} {a b : S} (only : OnlyReads g a b) (c : IsO
   none_kept (Vhd u) k none = λ told. subst (λ (y : Stored). HasNoImage y.site.geometry (k * y.site.geometry.extent) (held_in y (Vhd u))) (same_stored told) (none told)
   none_kept Mgt k none = none
   none_kept (Old u) k none = none
+  none_kept (Cbt u) k none = none
   none_kept (Clone d b w) k none = none
   none_kept (Inflate u e) k none = none
   none_kept (Coalesce v p) k none = none

@@ -5,7 +5,7 @@ use Rattle.std.specs.List.{list_any, slice_get}
 use Rattle.std.specs.Str.{bytes_eq}
 use Rattle.sm_base.specs.declared.faults.Place.{Place}
 use Rattle.sm_base.specs.declared.names.Name.{Name}
-use Rattle.sm_base.specs.declared.names.Name.TheVariants.{Mgt, Vhd, Raw, Old, Clone, Inflate, Coalesce, Relink, Leaf}
+use Rattle.sm_base.specs.declared.names.Name.TheVariants.{Mgt, Vhd, Raw, Old, Cbt, Clone, Inflate, Coalesce, Relink, Leaf}
 use Rattle.sm_base.specs.declared.sizes.Geometry.{Geometry}
 use Rattle.std.specs.declared.cmp.Ordering.TheVariants.{Less}
 use Rattle.std.specs.Ordering.{is_lt}
@@ -91,6 +91,7 @@ is_entry_lost t Mgt = false
 is_entry_lost t (Vhd u) = false
 is_entry_lost t (Raw u) = false
 is_entry_lost t (Old u) = false
+is_entry_lost t (Cbt u) = false
 
 -- an old leaf that does not belong to this entry, where there is one
 abbrev pub is_old_by : VolumeTable → List ℕ → Option Name → Bool
@@ -99,6 +100,7 @@ is_old_by t u (Some e) = is_old_of t u e
 
 abbrev pub is_old_besides : VolumeTable → Option Name → Name → Bool
 is_old_besides t e (Old u) = not (is_old_by t u e)
+is_old_besides t e (Cbt u) = false
 is_old_besides t e Mgt = false
 is_old_besides t e (Vhd u) = false
 is_old_besides t e (Raw u) = false
@@ -194,6 +196,7 @@ is_unlinked_in t xs Mgt = false
 is_unlinked_in t xs (Vhd u) = false
 is_unlinked_in t xs (Raw u) = false
 is_unlinked_in t xs (Old u) = false
+is_unlinked_in t xs (Cbt u) = false
 is_unlinked_in t xs (Inflate image extents) = false
 
 -- a parent that is there in memory, not new, hidden and not larger
@@ -215,6 +218,7 @@ is_tree_astray t xs r (Vhd u) = is_astray_in t xs r (tree_row xs (Vhd u))
 is_tree_astray t xs r Mgt = false
 is_tree_astray t xs r (Raw u) = false
 is_tree_astray t xs r (Old u) = false
+is_tree_astray t xs r (Cbt u) = false
 is_tree_astray t xs r (Clone disk base twin) = false
 is_tree_astray t xs r (Inflate image extents) = false
 is_tree_astray t xs r (Coalesce child parent) = false
@@ -231,6 +235,7 @@ is_leaf_name t xs (Vhd u) = is_some (tree_row xs (Vhd u)) && is_unhidden t (Vhd 
 is_leaf_name t xs Mgt = false
 is_leaf_name t xs (Raw u) = false
 is_leaf_name t xs (Old u) = false
+is_leaf_name t xs (Cbt u) = false
 is_leaf_name t xs (Clone disk base twin) = false
 is_leaf_name t xs (Inflate image extents) = false
 is_leaf_name t xs (Coalesce child parent) = false
@@ -263,6 +268,7 @@ tree_wrong_in t xs r (Vhd u) = is_misplaced_in t xs r (tree_row xs (Vhd u))
 tree_wrong_in t xs r Mgt = false
 tree_wrong_in t xs r (Raw u) = false
 tree_wrong_in t xs r (Old u) = false
+tree_wrong_in t xs r (Cbt u) = false
 tree_wrong_in t xs r (Clone disk base twin) = false
 tree_wrong_in t xs r (Inflate image extents) = false
 tree_wrong_in t xs r (Coalesce child parent) = false
@@ -289,6 +295,7 @@ is_disk_if t alone (Some Mgt) u = alone
 is_disk_if t alone (Some (Vhd own)) u = alone
 is_disk_if t alone (Some (Raw own)) u = alone
 is_disk_if t alone (Some (Old own)) u = alone
+is_disk_if t alone (Some (Cbt own)) u = alone
 is_disk_if t alone (Some (Inflate image extents)) u = alone
 is_disk_if t alone (Some (Coalesce child parent)) u = alone
 is_disk_if t alone (Some (Relink child parent)) u = alone
@@ -306,6 +313,7 @@ is_swapping t (Some Mgt) u = false
 is_swapping t (Some (Vhd own)) u = false
 is_swapping t (Some (Raw own)) u = false
 is_swapping t (Some (Old own)) u = false
+is_swapping t (Some (Cbt own)) u = false
 is_swapping t (Some (Clone disk base twin)) u = false
 is_swapping t (Some (Inflate image extents)) u = false
 is_swapping t (Some (Coalesce child parent)) u = false
@@ -326,6 +334,7 @@ unrecorded t places (Clone disk base twin) = given (is_unrecorded_in t places di
 unrecorded t places (Leaf leaf parent) = given (is_unrecorded_in t places leaf) leaf
 unrecorded t places Mgt = None
 unrecorded t places (Old u) = None
+unrecorded t places (Cbt u) = None
 unrecorded t places (Inflate image extents) = None
 unrecorded t places (Coalesce child parent) = None
 unrecorded t places (Relink child parent) = None

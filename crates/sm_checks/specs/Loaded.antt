@@ -6,7 +6,7 @@ use Rattle.sm_base.specs.declared.faults.OpenFault.{OpenFault}
 use Rattle.sm_base.specs.declared.faults.OpenFault.TheVariants as fault
 use Rattle.sm_base.specs.declared.faults.Place.TheVariants as at
 use Rattle.sm_base.specs.declared.names.Name.{Name}
-use Rattle.sm_base.specs.declared.names.Name.TheVariants.{Mgt, Vhd, Raw, Old, Clone, Inflate, Coalesce, Relink, Leaf}
+use Rattle.sm_base.specs.declared.names.Name.TheVariants.{Mgt, Vhd, Raw, Old, Cbt, Clone, Inflate, Coalesce, Relink, Leaf}
 use Rattle.sm_base.specs.declared.sizes.Geometry.{Geometry}
 use Rattle.sm_disk.specs.Held.{Held}
 use Rattle.vg_meta.specs.Tables.{Row, VolumeTable}
@@ -43,6 +43,7 @@ shortened_by t (Some Mgt) = t
 shortened_by t (Some (Vhd u)) = t
 shortened_by t (Some (Raw u)) = t
 shortened_by t (Some (Old u)) = t
+shortened_by t (Some (Cbt u)) = t
 shortened_by t (Some (Clone disk base twin)) = t
 shortened_by t (Some (Coalesce child parent)) = t
 shortened_by t (Some (Relink child parent)) = t
@@ -97,6 +98,7 @@ IsReadAs told g sectors h (Raw u) image = IsRawRead g sectors (Raw u) image
 IsReadAs told g sectors h (Vhd u) image = IsVhdRead told g sectors h image
 IsReadAs told g sectors h Mgt image = ⊥
 IsReadAs told g sectors h (Old u) image = ⊥
+IsReadAs told g sectors h (Cbt u) image = ⊥
 IsReadAs told g sectors h (Clone disk base twin) image = ⊥
 IsReadAs told g sectors h (Inflate grown extents) image = ⊥
 IsReadAs told g sectors h (Coalesce child parent) image = ⊥
@@ -109,6 +111,7 @@ IsNoneRead told g sectors h (Raw u) = g.entries * g.block < sectors
 IsNoneRead told g sectors h (Vhd u) = told → HasNoImage g sectors h
 IsNoneRead told g sectors h Mgt = ⊥
 IsNoneRead told g sectors h (Old u) = ⊥
+IsNoneRead told g sectors h (Cbt u) = ⊥
 IsNoneRead told g sectors h (Clone disk base twin) = ⊥
 IsNoneRead told g sectors h (Inflate image extents) = ⊥
 IsNoneRead told g sectors h (Coalesce child parent) = ⊥

@@ -150,7 +150,7 @@ fn is_lost(name: &Name, table: &Table) -> bool
         Name::Coalesce { child, parent } => !is_copy_placed(table, child, parent),
         Name::Relink { child, parent } => !is_copy_placed(table, child, parent),
         Name::Leaf { leaf, parent } => !is_leaf_placed(table, leaf, parent),
-        Name::Mgt | Name::Vhd(_) | Name::Raw(_) | Name::Old(_) => false,
+        Name::Mgt | Name::Vhd(_) | Name::Raw(_) | Name::Old(_) | Name::Cbt(_) => false,
     }
 }
 
@@ -220,6 +220,7 @@ fn is_misnamed(volume: &Volume, table: &Table) -> bool
         Name::Raw(uuid) => has(table, &Name::Vhd(uuid)) || !is_past(table.seq(), &uuid),
         Name::Old(uuid) => !is_past(table.seq(), &uuid),
         Name::Mgt
+        | Name::Cbt(_)
         | Name::Clone { .. }
         | Name::Inflate { .. }
         | Name::Coalesce { .. }

@@ -68,6 +68,7 @@ fn is_swapped_by(table: &Table, entry: &Name, uuid: &Uuid) -> bool
         | Name::Vhd(_)
         | Name::Raw(_)
         | Name::Old(_)
+        | Name::Cbt(_)
         | Name::Clone { .. }
         | Name::Inflate { .. }
         | Name::Coalesce { .. }
@@ -91,6 +92,7 @@ fn is_disk_if(table: &Table, alone: bool, entry: &Name, uuid: &Uuid) -> bool
         | Name::Vhd(_)
         | Name::Raw(_)
         | Name::Old(_)
+        | Name::Cbt(_)
         | Name::Inflate { .. }
         | Name::Coalesce { .. }
         | Name::Relink { .. }
@@ -127,6 +129,7 @@ fn unrecorded(volume: &Volume, table: &Table, counts: &UuidCounts<'_>) -> Option
         Name::Leaf { leaf, .. } => wrong_disk(leaf, table, counts),
         Name::Mgt
         | Name::Old(_)
+        | Name::Cbt(_)
         | Name::Inflate { .. }
         | Name::Coalesce { .. }
         | Name::Relink { .. } => None,

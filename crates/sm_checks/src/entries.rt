@@ -79,6 +79,7 @@ fn is_making(name: &Name) -> bool
         | Name::Vhd(_)
         | Name::Raw(_)
         | Name::Old(_)
+        | Name::Cbt(_)
         | Name::Coalesce { .. }
         | Name::Relink { .. }
         | Name::Leaf { .. } => false,
@@ -113,6 +114,7 @@ fn is_folding(name: &Name) -> bool
         | Name::Vhd(_)
         | Name::Raw(_)
         | Name::Old(_)
+        | Name::Cbt(_)
         | Name::Clone { .. }
         | Name::Inflate { .. } => false,
     }

@@ -37,6 +37,7 @@ fn is_apart(table: &Table, disk: &Uuid, base: &Uuid, twin: &Uuid) -> bool
         | Name::Vhd(_)
         | Name::Raw(_)
         | Name::Old(_)
+        | Name::Cbt(_)
         | Name::Clone { .. }
         | Name::Inflate { .. } => return true,
     };

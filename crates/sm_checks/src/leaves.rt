@@ -69,6 +69,7 @@ pub fn is_old_of(table: &Table, leaf: &Uuid, entry: &Name) -> bool
         | Name::Vhd(_)
         | Name::Raw(_)
         | Name::Old(_)
+        | Name::Cbt(_)
         | Name::Clone { .. }
         | Name::Inflate { .. }
         | Name::Coalesce { .. }

@@ -53,7 +53,12 @@ fn is_unlinked(name: &Name, table: &Table, tree: &Tree) -> bool
         Name::Coalesce { child, parent } => !is_copy(tree, child, parent),
         Name::Relink { child, parent } => !is_link(tree, child, parent),
         Name::Leaf { leaf, parent } => !is_leaf_linked(table, tree, leaf, parent),
-        Name::Mgt | Name::Vhd(_) | Name::Raw(_) | Name::Old(_) | Name::Inflate { .. } => false,
+        Name::Mgt
+        | Name::Vhd(_)
+        | Name::Raw(_)
+        | Name::Old(_)
+        | Name::Cbt(_)
+        | Name::Inflate { .. } => false,
     }
 }
 
@@ -114,6 +119,7 @@ fn is_named(name: &Name, uuid: &Uuid) -> bool
         Name::Mgt
         | Name::Raw(_)
         | Name::Old(_)
+        | Name::Cbt(_)
         | Name::Clone { .. }
         | Name::Inflate { .. }
         | Name::Coalesce { .. }
@@ -204,6 +210,7 @@ fn has_uuid(name: &Name, uuid: &Uuid) -> bool
         Name::Raw(own) => *own == *uuid,
         Name::Mgt
         | Name::Old(_)
+        | Name::Cbt(_)
         | Name::Clone { .. }
         | Name::Inflate { .. }
         | Name::Coalesce { .. }

@@ -97,6 +97,7 @@ fn is_read(name: &Name) -> bool
         Name::Vhd(_) | Name::Raw(_) => true,
         Name::Mgt
         | Name::Old(_)
+        | Name::Cbt(_)
         | Name::Clone { .. }
         | Name::Inflate { .. }
         | Name::Coalesce { .. }
@@ -131,6 +132,7 @@ fn extents_by(entry: &Name, name: &Name, all: u32) -> u32
         | Name::Vhd(_)
         | Name::Raw(_)
         | Name::Old(_)
+        | Name::Cbt(_)
         | Name::Clone { .. }
         | Name::Coalesce { .. }
         | Name::Relink { .. }
@@ -147,6 +149,7 @@ pub fn is_vhd_of(name: &Name, image: &Uuid) -> bool
         Name::Mgt
         | Name::Raw(_)
         | Name::Old(_)
+        | Name::Cbt(_)
         | Name::Clone { .. }
         | Name::Inflate { .. }
         | Name::Coalesce { .. }
@@ -176,6 +179,7 @@ fn image_in<S: Store>(
         Name::Mgt
         | Name::Raw(_)
         | Name::Old(_)
+        | Name::Cbt(_)
         | Name::Clone { .. }
         | Name::Inflate { .. }
         | Name::Coalesce { .. }

@@ -70,7 +70,7 @@ module _ (count : ℕ) (extents : count ≤ extent_limit) where
 
   pub show_where : (t : VolumeTable) (n : Name) (r : Row) (b : Bool) → IsSmall count t → is_image n ≡ true → rows t n ≡ Some r → r.hidden ≡ b → May t (wanted b (Mark n Hidden false)) (λ u. IsShown t u n r)
   show_where t n r true small image there hidden =
-      let allowed : Permits count t (Mark n Hidden false) = record { row = r; there = there; image = image; otherwise = hidden } in
+      let allowed : Permits count t (Mark n Hidden false) = record { row = r; there = there; taking = image; otherwise = hidden } in
       let changes = changes_by_name count t (Mark n Hidden false) small.table allowed in
       let same = same_Some changes.does.0 r (sym changes.does.1 ∙ there) in
       record {

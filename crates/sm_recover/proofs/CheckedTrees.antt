@@ -1,10 +1,10 @@
 -- What the checks say of the images as they are read, and of the places of the records.
 use Rattle.std.proofs.Common.{suc, ◌≡◌, ◌⊎◌, inl, inr, ℕ, ◌*◌, ◌≤◌, true, false, not, ◌&&◌, List, length, map, filter, Option, Some, None, is_some, refl, sym, ap, ◌∙◌, subst, arith}
-use Rattle.std.proofs.lemmas.Bool.{true≢false, eqb-true}
+use Rattle.std.proofs.lemmas.Bool.{true≢false}
 use Rattle.std.proofs.lemmas.List.Sums.{length-filter}
 use Rattle.std.proofs.lemmas.Option.{none-some, get_or_from_slice_get}
 use Rattle.sm_base.specs.declared.names.Name.{Name}
-use Rattle.sm_base.specs.declared.names.Name.TheVariants.{Mgt, Vhd, Raw, Old, Clone, Inflate, Coalesce, Relink, Leaf}
+use Rattle.sm_base.specs.declared.names.Name.TheVariants.{Mgt, Vhd, Raw, Old, Cbt, Clone, Inflate, Coalesce, Relink, Leaf}
 use Rattle.sm_base.specs.declared.sizes.Geometry.{Geometry}
 use Rattle.sm_disk.specs.Held.{Held}
 use Rattle.vg_meta.specs.Tables.{VolumeTable, Row, rows}
@@ -49,6 +49,7 @@ raw_or_vhd told g h (Raw u) image sectors read = inl (ap parent_name read.is)
 raw_or_vhd told g h (Vhd u) image sectors read = inr (u, refl)
 raw_or_vhd told g h Mgt image sectors read = absurd read
 raw_or_vhd told g h (Old u) image sectors read = absurd read
+raw_or_vhd told g h (Cbt u) image sectors read = absurd read
 raw_or_vhd told g h (Clone d b w) image sectors read = absurd read
 raw_or_vhd told g h (Inflate u e) image sectors read = absurd read
 raw_or_vhd told g h (Coalesce a p) image sectors read = absurd read

@@ -9,7 +9,7 @@ use Rattle.common_laws.proofs.Lists.{In-filter}
 use Rattle.sm_base.specs.Limits.{extent_limit}
 use Rattle.sm_base.specs.Kinds.{is_image, is_entry}
 use Rattle.sm_base.specs.declared.names.Name.{Name}
-use Rattle.sm_base.specs.declared.names.Name.TheVariants.{Mgt, Vhd, Raw, Old, Clone, Inflate, Coalesce, Relink, Leaf}
+use Rattle.sm_base.specs.declared.names.Name.TheVariants.{Mgt, Vhd, Raw, Old, Cbt, Clone, Inflate, Coalesce, Relink, Leaf}
 use Rattle.sm_base.proofs.OrderLemmas.{name_cmp_total}
 use Rattle.std.specs.Cmp.{IsTotalOrder}
 use Rattle.vg_meta.specs.Changes.{Changes, Permits, SpeaksOf, applied, cut_to, renamed, tagged}
@@ -95,7 +95,7 @@ allowed_beside count e t (Create name fresh es) beside a = absurd beside.0
 allowed_beside count e t (Grow name es) beside a = absurd beside.0
 allowed_beside count e t (Remove name) beside a = record { row = a.row; there = sym (row_of-without_other t.volumes e name (λ is. beside.1 is)) ∙ a.there; not_mgt = a.not_mgt }
 allowed_beside count e t (Cut name keep) beside a = record { row = a.row; there = sym (row_of-without_other t.volumes e name (λ is. beside.1 is)) ∙ a.there; image = a.image; some_kept = a.some_kept; some_gone = a.some_gone }
-allowed_beside count e t (Mark name tag on) beside a = record { row = a.row; there = sym (row_of-without_other t.volumes e name (λ is. beside.1 is)) ∙ a.there; image = a.image; otherwise = a.otherwise }
+allowed_beside count e t (Mark name tag on) beside a = record { row = a.row; there = sym (row_of-without_other t.volumes e name (λ is. beside.1 is)) ∙ a.there; taking = a.taking; otherwise = a.otherwise }
 allowed_beside count e t (Rename from to) beside a = record {
   row = a.row;
   there = sym (row_of-without_other t.volumes e from (λ is. beside.1 (inl is))) ∙ a.there;
@@ -192,6 +192,7 @@ module _ (e : Name) (folds : is_folding e ≡ true) where
   back_beside t (Vhd u) = tt
   back_beside t (Raw u) = tt
   back_beside t (Old u) = tt
+  back_beside t (Cbt u) = tt
   back_beside t (Coalesce v p) = tt
   back_beside t (Relink v p) = tt
   back_beside t (Leaf l p) = tt
@@ -211,6 +212,7 @@ entry_groups Mgt = refl
 entry_groups (Vhd u) = refl
 entry_groups (Raw u) = refl
 entry_groups (Old u) = refl
+entry_groups (Cbt u) = refl
 entry_groups (Clone d b w) = refl
 entry_groups (Inflate u k) = refl
 entry_groups (Coalesce v p) = refl
@@ -275,6 +277,7 @@ end_case {s} {t} c = by (head (folding t)) refl
     of (Vhd u) f = absurd (true≢false (sym f.folds))
     of (Raw u) f = absurd (true≢false (sym f.folds))
     of (Old u) f = absurd (true≢false (sym f.folds))
+    of (Cbt u) f = absurd (true≢false (sym f.folds))
     of (Clone d b w) f = absurd (true≢false (sym f.folds))
     of (Inflate u k) f = absurd (true≢false (sym f.folds))
 

@@ -6,7 +6,7 @@ use Rattle.std.proofs.lemmas.Bool.{true≢false}
 use Rattle.common_laws.proofs.Booleans.{not_true}
 use Rattle.common_laws.proofs.Bytes.{bytes_eq-refl}
 use Rattle.sm_base.specs.declared.names.Name.{Name}
-use Rattle.sm_base.specs.declared.names.Name.TheVariants.{Mgt, Vhd, Raw, Old, Clone, Inflate, Coalesce, Relink, Leaf}
+use Rattle.sm_base.specs.declared.names.Name.TheVariants.{Mgt, Vhd, Raw, Old, Cbt, Clone, Inflate, Coalesce, Relink, Leaf}
 use Rattle.vg_meta.specs.Tables.{VolumeTable, rows}
 use Rattle.vg_volumes.specs.Sites.{Site}
 use Rattle.vg_volumes.specs.declared.stores.Store.{Ghosts}
@@ -51,6 +51,7 @@ same_back t u ys (Some Mgt) base = refl
 same_back t u ys (Some (Vhd v)) base = refl
 same_back t u ys (Some (Raw v)) base = refl
 same_back t u ys (Some (Old v)) base = refl
+same_back t u ys (Some (Cbt v)) base = refl
 same_back t u ys (Some (Inflate v e)) base = refl
 same_back t u ys (Some (Coalesce v p)) base = refl
 same_back t u ys (Some (Relink v p)) base = refl

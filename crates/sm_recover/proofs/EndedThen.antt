@@ -9,7 +9,7 @@ use Rattle.common_laws.proofs.Booleans.{not_false}
 use Rattle.common_laws.proofs.Lists.{In-map_at, filter-In}
 use Rattle.sm_base.specs.Limits.{extent_limit}
 use Rattle.sm_base.specs.declared.names.Name.{Name}
-use Rattle.sm_base.specs.declared.names.Name.TheVariants.{Mgt, Vhd, Raw, Old, Clone, Inflate, Coalesce, Relink, Leaf}
+use Rattle.sm_base.specs.declared.names.Name.TheVariants.{Mgt, Vhd, Raw, Old, Cbt, Clone, Inflate, Coalesce, Relink, Leaf}
 use Rattle.vg_meta.specs.Changes.{applied}
 use Rattle.vg_meta.specs.Tables.{Row, VolumeTable, names_of, rows}
 use Rattle.vg_meta.specs.declared.changes.Change.{Change}
@@ -79,6 +79,7 @@ known_of {s} {t} c other = all-of (λ r. is_known r ≡ true) t.volumes (λ r i.
         of (Vhd v) i h = true≢false (sym h)
         of (Raw v) i h = true≢false (sym h)
         of (Old v) i h = true≢false (sym h)
+        of (Cbt v) i h = true≢false (sym h)
         of (Clone d b w) i h = true≢false (sym h)
         of (Inflate v e) i h = true≢false (sym h)
         of (Coalesce v p) i h = true≢false (sym h)
@@ -87,6 +88,7 @@ known_of {s} {t} c other = all-of (λ r. is_known r ≡ true) t.volumes (λ r i.
     by : (r : Row) → In r t.volumes → (n : Name) → r.name ≡ n → is_known r ≡ true
     by r i (Leaf l p) is = absurd (other l p (is_head (folding t) (Leaf l p) c.one_folding (subst (λ m. In m (folding t)) is (folds r i (ap is_folding is)))))
     by r i (Old u) is = absurd (old_none u (sym (ap (is_orphaned t) is) ∙ c.owned r i))
+    by r i (Cbt u) is = ap is_known_name is
     by r i Mgt is = ap is_known_name is
     by r i (Vhd u) is = ap is_known_name is
     by r i (Raw u) is = ap is_known_name is
@@ -117,6 +119,7 @@ leaf_or_not (Some Mgt) = inr (λ l p is. let x = is in cc)
 leaf_or_not (Some (Vhd v)) = inr (λ l p is. let x = is in cc)
 leaf_or_not (Some (Raw v)) = inr (λ l p is. let x = is in cc)
 leaf_or_not (Some (Old v)) = inr (λ l p is. let x = is in cc)
+leaf_or_not (Some (Cbt v)) = inr (λ l p is. let x = is in cc)
 leaf_or_not (Some (Clone d b w)) = inr (λ l p is. let x = is in cc)
 leaf_or_not (Some (Inflate v e)) = inr (λ l p is. let x = is in cc)
 leaf_or_not (Some (Coalesce v p)) = inr (λ l p is. let x = is in cc)
@@ -135,6 +138,7 @@ is_unled t xs (Some Mgt) other = record { nothing = refl; same = refl; can = tt 
 is_unled t xs (Some (Vhd v)) other = record { nothing = refl; same = refl; can = tt }
 is_unled t xs (Some (Raw v)) other = record { nothing = refl; same = refl; can = tt }
 is_unled t xs (Some (Old v)) other = record { nothing = refl; same = refl; can = tt }
+is_unled t xs (Some (Cbt v)) other = record { nothing = refl; same = refl; can = tt }
 is_unled t xs (Some (Clone d b w)) other = record { nothing = refl; same = refl; can = tt }
 is_unled t xs (Some (Inflate v e)) other = record { nothing = refl; same = refl; can = tt }
 is_unled t xs (Some (Coalesce v p)) other = record { nothing = refl; same = refl; can = tt }
@@ -169,6 +173,7 @@ module _ (P : Change → Type 0) (cut : (n : Name) (k : ℕ) → P (Cut n k)) (g
   of_parent t p (Some (Vhd v)) = tt
   of_parent t p (Some (Raw v)) = tt
   of_parent t p (Some (Old v)) = tt
+  of_parent t p (Some (Cbt v)) = tt
   of_parent t p (Some (Clone d b w)) = tt
   of_parent t p (Some (Coalesce v q)) = tt
   of_parent t p (Some (Relink v q)) = tt

@@ -1,7 +1,7 @@
 -- The rows in memory once the folding of a leaf is ended, by the entry that is found.
 use Rattle.std.proofs.Common.{◌≡◌, ◌≢◌, ℕ, List, Some, None, refl, ap}
 use Rattle.sm_base.specs.declared.names.Name.{Name}
-use Rattle.sm_base.specs.declared.names.Name.TheVariants.{Mgt, Vhd, Raw, Old, Clone, Inflate, Coalesce, Relink, Leaf}
+use Rattle.sm_base.specs.declared.names.Name.TheVariants.{Mgt, Vhd, Raw, Old, Cbt, Clone, Inflate, Coalesce, Relink, Leaf}
 use Rattle.vg_meta.specs.Tables.{VolumeTable}
 use Rattle.sm_standing.specs.Entries.{folding, head}
 use Rattle.vhd_chain.specs.declared.rows.TreeRow.{TreeRow}
@@ -22,6 +22,7 @@ other_ended t Mgt xs other = refl
 other_ended t (Vhd u) xs other = refl
 other_ended t (Raw u) xs other = refl
 other_ended t (Old u) xs other = refl
+other_ended t (Cbt u) xs other = refl
 other_ended t (Clone d b w) xs other = refl
 other_ended t (Inflate u e) xs other = refl
 other_ended t (Coalesce v p) xs other = refl

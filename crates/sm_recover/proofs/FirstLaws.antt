@@ -8,7 +8,7 @@ use Rattle.common_laws.specs.Lists.{In}
 use Rattle.common_laws.proofs.Options.{is_some-parts}
 use Rattle.sm_base.specs.Kinds.{is_image}
 use Rattle.sm_base.specs.declared.names.Name.{Name}
-use Rattle.sm_base.specs.declared.names.Name.TheVariants.{Mgt, Vhd, Raw, Old, Clone, Inflate, Coalesce, Relink, Leaf}
+use Rattle.sm_base.specs.declared.names.Name.TheVariants.{Mgt, Vhd, Raw, Old, Cbt, Clone, Inflate, Coalesce, Relink, Leaf}
 use Rattle.sm_disk.specs.Held.{IsSettled}
 use Rattle.vg_meta.specs.Changes.{applied}
 use Rattle.vg_meta.specs.Tables.{IsTable, Row, VolumeTable, rows}
@@ -113,6 +113,7 @@ module _ {s : Site} {u : VolumeTable} (c : IsUndoable s u) (k : ℕ) (named : (r
   under_past d Mgt past = ap (λ x. x && true) past
   under_past d (Vhd b) past = ap (λ x. x && true) past
   under_past d (Old b) past = ap (λ x. x && true) past
+  under_past d (Cbt b) past = ap (λ x. x && true) past
   under_past d (Clone a b w) past = ap (λ x. x && true) past
   under_past d (Inflate a b) past = ap (λ x. x && true) past
   under_past d (Coalesce a b) past = ap (λ x. x && true) past
@@ -147,6 +148,7 @@ module _ {s : Site} {u : VolumeTable} (c : IsUndoable s u) (k : ℕ) (named : (r
       by (Some (Vhd v)) found = absurd (not_making c (Vhd v) found refl)
       by (Some (Raw v)) found = absurd (not_making c (Raw v) found refl)
       by (Some (Old v)) found = absurd (not_making c (Old v) found refl)
+      by (Some (Cbt v)) found = absurd (not_making c (Cbt v) found refl)
       by (Some (Coalesce v p)) found = absurd (not_making c (Coalesce v p) found refl)
       by (Some (Relink v p)) found = absurd (not_making c (Relink v p) found refl)
       by (Some (Leaf l p)) found = absurd (not_making c (Leaf l p) found refl)

@@ -8,7 +8,7 @@ use Rattle.sm_base.specs.Kinds.{is_image}
 use Rattle.sm_machine.specs.WellFormed.{is_image_name}
 use Rattle.sm_base.specs.Names.{IsName}
 use Rattle.sm_base.specs.declared.names.Name.{Name}
-use Rattle.sm_base.specs.declared.names.Name.TheVariants.{Mgt, Vhd, Raw, Old, Clone, Inflate, Coalesce, Relink, Leaf}
+use Rattle.sm_base.specs.declared.names.Name.TheVariants.{Mgt, Vhd, Raw, Old, Cbt, Clone, Inflate, Coalesce, Relink, Leaf}
 use Rattle.sm_base.specs.declared.sizes.Geometry.{Geometry}
 use Rattle.sm_base.proofs.OrderLemmas.{name_cmp-same}
 use Rattle.sm_disk.specs.Held.{Held}
@@ -98,6 +98,7 @@ read_renamed told g sectors h (Vhd v) d (body.Vhd top m) read =
     }
 read_renamed told g sectors h Mgt d image read = absurd read
 read_renamed told g sectors h (Old u) d image read = absurd read
+read_renamed told g sectors h (Cbt u) d image read = absurd read
 read_renamed told g sectors h (Clone x y z) d image read = absurd read
 read_renamed told g sectors h (Inflate u e) d image read = absurd read
 read_renamed told g sectors h (Coalesce a p) d image read = absurd read
@@ -513,6 +514,7 @@ module _ {S : Type 0} (g : Ghosts S) (store : S) (xs : List TreeRow) (places : L
     twin_still (Raw v) not_own not_raw gone = gone_still (Vhd v) (λ is. to_by (λ n. Vhd v ≡ n → ⊥) (λ x e same. not_raw (let y = same in let z : v ≡ d = cc in ap Raw z)) (λ x e same. let y = same in cc) is) gone
     twin_still Mgt not_own not_raw gone = refl
     twin_still (Old v) not_own not_raw gone = refl
+    twin_still (Cbt v) not_own not_raw gone = refl
     twin_still (Clone x y z) not_own not_raw gone = refl
     twin_still (Inflate v e) not_own not_raw gone = refl
     twin_still (Coalesce v p) not_own not_raw gone = refl

@@ -7,7 +7,7 @@ use Rattle.std.specs.declared.cmp.Ordering.TheVariants.{Less}
 use Rattle.std.proofs.lemmas.Option.{none-some}
 use Rattle.sm_base.specs.Names.{name_cmp}
 use Rattle.sm_base.specs.declared.names.Name.{Name}
-use Rattle.sm_base.specs.declared.names.Name.TheVariants.{Mgt, Vhd, Raw, Old, Clone, Inflate, Coalesce, Relink, Leaf}
+use Rattle.sm_base.specs.declared.names.Name.TheVariants.{Mgt, Vhd, Raw, Old, Cbt, Clone, Inflate, Coalesce, Relink, Leaf}
 use Rattle.vg_meta.specs.Tables.{VolumeTable, name_eq}
 use Rattle.vg_meta.proofs.NameLaws.{less_other, name_eq-other, name_eq-true}
 use Rattle.sm_standing.specs.Entries.{head, making}
@@ -76,6 +76,7 @@ other_back t Mgt xs other = refl
 other_back t (Vhd u) xs other = refl
 other_back t (Raw u) xs other = refl
 other_back t (Old u) xs other = refl
+other_back t (Cbt u) xs other = refl
 other_back t (Inflate u e) xs other = refl
 other_back t (Coalesce v p) xs other = refl
 other_back t (Relink v p) xs other = refl

@@ -2,7 +2,7 @@
 use Rattle.std.proofs.Common.{◌≡◌, ◌≢◌, ⊎_elim, ℕ, zero, suc, List, [], length, take, Option, Some, None, refl, sym, ap, ap₂, ◌∙◌, subst, subst₂, arith}
 use Rattle.std.specs.List.{AllByRecursion}
 use Rattle.sm_base.specs.declared.names.Name.{Name}
-use Rattle.sm_base.specs.declared.names.Name.TheVariants.{Mgt, Vhd, Raw, Old, Clone, Inflate, Coalesce, Relink, Leaf}
+use Rattle.sm_base.specs.declared.names.Name.TheVariants.{Mgt, Vhd, Raw, Old, Cbt, Clone, Inflate, Coalesce, Relink, Leaf}
 use Rattle.sm_disk.specs.Held.{Held, IsSettled, reads}
 use Rattle.vg_meta.specs.Roomy.{table_alone}
 use Rattle.vg_meta.specs.Tables.{VolumeTable}
@@ -126,6 +126,7 @@ ends_old t (Some Mgt) = tt
 ends_old t (Some (Vhd v)) = tt
 ends_old t (Some (Raw v)) = tt
 ends_old t (Some (Old v)) = tt
+ends_old t (Some (Cbt v)) = tt
 ends_old t (Some (Clone d b w)) = tt
 ends_old t (Some (Inflate v e)) = tt
 ends_old t (Some (Coalesce v p)) = tt

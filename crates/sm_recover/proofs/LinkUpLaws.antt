@@ -8,8 +8,8 @@ use Rattle.common_laws.specs.Lists.{◌>>=◌}
 use Rattle.common_laws.proofs.Lists.{In-map_at}
 use Rattle.sm_base.specs.Kinds.{is_entry}
 use Rattle.sm_base.specs.declared.names.Name.{Name}
-use Rattle.sm_base.specs.declared.names.Name.TheVariants.{Mgt, Vhd, Raw, Old, Clone, Inflate, Coalesce, Relink, Leaf}
-use Rattle.sm_base.specs.declared.operations.Op.TheVariants as op
+use Rattle.sm_base.specs.declared.names.Name.TheVariants.{Mgt, Vhd, Raw, Old, Cbt, Clone, Inflate, Coalesce, Relink, Leaf}
+use Rattle.sm_machine.specs.Operations as op
 use Rattle.sm_disk.specs.Held.{Held, reads}
 use Rattle.vg_meta.specs.Changes.{applied}
 use Rattle.vg_meta.specs.Tables.{Row, VolumeTable, names_of, rows}
@@ -55,6 +55,7 @@ plain_no_entry Mgt h = refl
 plain_no_entry (Vhd u) h = refl
 plain_no_entry (Raw u) h = refl
 plain_no_entry (Old u) h = absurd (true≢false (sym h))
+plain_no_entry (Cbt u) h = refl
 plain_no_entry (Clone d b w) h = absurd (true≢false (sym h))
 plain_no_entry (Inflate u k) h = absurd (true≢false (sym h))
 plain_no_entry (Coalesce v p) h = absurd (true≢false (sym h))
@@ -139,7 +140,7 @@ module _ (s : Site) (t : VolumeTable) (c q : List ℕ) (k : IsLinking s t c q) (
             image = v.is;
             under = u.is;
             size = u.size ∙ l.same_size ∙ sym v.size;
-            held = λ j bytes under holds. kept.linking c q k.entry v.image u.image p k.there v.is (v.parent ∙ l.linked) u.is j bytes holds;
+            held = λ j bytes under clean holds. kept.linking c q k.entry v.image u.image p k.there v.is (v.parent ∙ l.linked) u.is j bytes holds;
           }
 
       pub ready_running : IsReady s t area running
@@ -165,6 +166,7 @@ found_link s t xs (Some Mgt) v able is = absurd able
 found_link s t xs (Some (Vhd u)) v able is = absurd able
 found_link s t xs (Some (Raw u)) v able is = absurd able
 found_link s t xs (Some (Old u)) v able is = absurd able
+found_link s t xs (Some (Cbt u)) v able is = absurd able
 found_link s t xs (Some (Clone d b w)) v able is = absurd able
 found_link s t xs (Some (Inflate u j)) v able is = absurd able
 found_link s t xs (Some (Coalesce u j)) v able is = absurd able
@@ -177,6 +179,7 @@ no_link s t xs (Some Mgt) able is = absurd able
 no_link s t xs (Some (Vhd u)) able is = absurd able
 no_link s t xs (Some (Raw u)) able is = absurd able
 no_link s t xs (Some (Old u)) able is = absurd able
+no_link s t xs (Some (Cbt u)) able is = absurd able
 no_link s t xs (Some (Clone d b w)) able is = absurd able
 no_link s t xs (Some (Inflate u j)) able is = absurd able
 no_link s t xs (Some (Coalesce u j)) able is = absurd able

@@ -9,7 +9,7 @@ use Rattle.common_laws.proofs.Bytes.{bytes_eq-refl, bytes_eq-same}
 use Rattle.common_laws.specs.Lists.{In}
 use Rattle.sm_base.specs.Kinds.{is_entry, is_image as is_data}
 use Rattle.sm_base.specs.declared.names.Name.{Name}
-use Rattle.sm_base.specs.declared.names.Name.TheVariants.{Mgt, Vhd, Raw, Old, Clone, Inflate, Coalesce, Relink, Leaf}
+use Rattle.sm_base.specs.declared.names.Name.TheVariants.{Mgt, Vhd, Raw, Old, Cbt, Clone, Inflate, Coalesce, Relink, Leaf}
 use Rattle.vg_meta.specs.Tables.{Row, VolumeTable, rows}
 use Rattle.vg_meta.proofs.RowLaws.{row_of-name}
 use Rattle.vg_volumes.specs.Sites.{Site}
@@ -129,6 +129,7 @@ row_kept {s} {t} c xs v n i is = by (head (making t)) refl
     at (Vhd u) found = refl
     at (Raw u) found = refl
     at (Old u) found = refl
+    at (Cbt u) found = refl
     at (Inflate u e) found = refl
     at (Coalesce a p) found = refl
     at (Relink a p) found = refl

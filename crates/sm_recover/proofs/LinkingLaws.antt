@@ -10,8 +10,8 @@ use Rattle.std.proofs.lemmas.Option.{none-some, same_Some}
 use Rattle.common_laws.specs.Lists.{In, when}
 use Rattle.common_laws.proofs.Lists.{In-filter, In-map, In-map_at}
 use Rattle.sm_base.specs.declared.names.Name.{Name}
-use Rattle.sm_base.specs.declared.operations.Op.{Op}
-use Rattle.sm_base.specs.declared.operations.Op.TheVariants as op
+use Rattle.sm_machine.specs.Operations.{Op}
+use Rattle.sm_machine.specs.Operations as op
 use Rattle.sm_base.specs.declared.operations.Plan.TheVariants as plan
 use Rattle.sm_disk.specs.Held.{IsSettled}
 use Rattle.vg_meta.specs.Roomy.{table_alone}
@@ -273,6 +273,7 @@ of_op (op.Relink w p) v links use_it = use_it p (ap (λ n. op.Relink n p) links)
 of_op op.Idle v links use_it = absurd links
 of_op (op.Copy w p k) v links use_it = absurd links
 of_op (op.Leaf w p k) v links use_it = absurd links
+of_op (op.Live w p k dirty) v links use_it = absurd links
 
 module _ {S : Type 0} (g : Ghosts S) where
   -- none was linked yet

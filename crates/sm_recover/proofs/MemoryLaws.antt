@@ -3,7 +3,7 @@
 use Rattle.std.proofs.Common.{◌≡◌, ℕ, false, List, [], ◌∷◌, length, Option, Some, None, is_some, refl, sym, ap, ◌∙◌, subst}
 use Rattle.std.proofs.lemmas.Option.{none-some}
 use Rattle.sm_base.specs.declared.names.Name.{Name}
-use Rattle.sm_base.specs.declared.names.Name.TheVariants.{Mgt, Vhd, Raw, Old, Clone, Inflate, Coalesce, Relink, Leaf}
+use Rattle.sm_base.specs.declared.names.Name.TheVariants.{Mgt, Vhd, Raw, Old, Cbt, Clone, Inflate, Coalesce, Relink, Leaf}
 use Rattle.vg_meta.specs.Tables.{Row, VolumeTable, rows}
 use Rattle.vg_volumes.specs.declared.stores.Store.{Ghosts}
 use Rattle.common_laws.specs.Lists.{In}
@@ -88,6 +88,7 @@ module _ {S : Type 0} (g : Ghosts S) (store : S) (xs : List TreeRow) (places : L
       by (Some (Vhd u)) found = absurd (not_making c (Vhd u) found refl)
       by (Some (Raw u)) found = absurd (not_making c (Raw u) found refl)
       by (Some (Old u)) found = absurd (not_making c (Old u) found refl)
+      by (Some (Cbt u)) found = absurd (not_making c (Cbt u) found refl)
       by (Some (Coalesce v p)) found = absurd (not_making c (Coalesce v p) found refl)
       by (Some (Relink v p)) found = absurd (not_making c (Relink v p) found refl)
       by (Some (Leaf l p)) found = absurd (not_making c (Leaf l p) found refl)

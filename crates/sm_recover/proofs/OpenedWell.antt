@@ -3,12 +3,13 @@
 use Rattle.std.proofs.Common.{◌≡◌, ◌≢◌, ℕ, ◌*◌, ◌<◌, ◌≤◌, Bool, true, false, not, ◌&&◌, ◌||◌, List, [], length, map, filter, Option, Some, is_some, refl, sym, ap, ap₂, ◌∙◌, subst, subst₂, arith}
 use Rattle.std.proofs.lemmas.Bool.{true≢false}
 use Rattle.std.proofs.Math.Nat.{mul_assoc, le-mul_of_pos_right, le_of_mul-le-mul_right}
-use Rattle.sm_base.specs.Kinds.{is_image}
+use Rattle.sm_base.specs.Kinds.{is_image, is_log}
 use Rattle.sm_base.specs.declared.names.Name.{Name}
-use Rattle.sm_base.specs.declared.names.Name.TheVariants.{Mgt, Vhd, Raw, Old, Clone, Inflate, Coalesce, Relink, Leaf}
-use Rattle.sm_base.specs.declared.operations.Op.TheVariants.{Idle}
+use Rattle.sm_base.specs.declared.names.Name.TheVariants.{Mgt, Vhd, Raw, Old, Cbt, Clone, Inflate, Coalesce, Relink, Leaf}
+use Rattle.sm_machine.specs.Operations.{Idle}
 use Rattle.sm_base.specs.declared.sizes.Geometry.{Geometry}
 use Rattle.sm_disk.specs.Held.{Held, IsSettled, reads}
+use Rattle.vg_meta.proofs.LogLaws.{volume_no_log}
 use Rattle.vg_meta.specs.Tables.{VolumeTable, Row, IsVolume, extents_of, rows}
 use Rattle.vg_volumes.specs.Sites.{Site, volume_of}
 use Rattle.vg_volumes.specs.Stored.{held_in, sectors_in}
@@ -73,12 +74,13 @@ size_whole extent block entries long m is within some_block some_long fits =
 
 -- ---- an image that was read
 
-plain_image : (n : Name) → is_plain_name n ≡ true → n ≢ Mgt → is_image_name n ≡ true
+plain_image : (n : Name) → is_plain_name n ≡ true → is_log n ≡ false → n ≢ Mgt → is_image_name n ≡ true
 unfolding is_image_name
-plain_image Mgt h other = absurd (other refl)
-plain_image (Vhd u) h other = refl
-plain_image (Raw u) h other = refl
-plain_image _ h other = absurd (true≢false (sym h))
+plain_image Mgt h no_log other = absurd (other refl)
+plain_image (Vhd u) h no_log other = refl
+plain_image (Raw u) h no_log other = refl
+plain_image (Cbt u) h no_log other = absurd (true≢false no_log)
+plain_image _ h no_log other = absurd (true≢false (sym h))
 
 abbrev row_by : Body → Bool → ℕ → TreeRow
 row_by image hidden k = record { image = image; hidden = hidden; extents = k }
@@ -107,6 +109,7 @@ module _ (told : Type 0) (s : Site) (t : VolumeTable) (m : Known) (h : Held) whe
   }
   row_proper Mgt image hidden k read some named = absurd read
   row_proper (Old u) image hidden k read some named = absurd read
+  row_proper (Cbt u) image hidden k read some named = absurd read
   row_proper (Clone d b w) image hidden k read some named = absurd read
   row_proper (Inflate u e) image hidden k read some named = absurd read
   row_proper (Coalesce a p) image hidden k read some named = absurd read
@@ -119,6 +122,7 @@ row_stands told g h (Raw u) image sectors read = subst (StandsIn g sectors) (sym
 row_stands told g h (Vhd u) image sectors read = read.stands
 row_stands told g h Mgt image sectors read = absurd read
 row_stands told g h (Old u) image sectors read = absurd read
+row_stands told g h (Cbt u) image sectors read = absurd read
 row_stands told g h (Clone d b w) image sectors read = absurd read
 row_stands told g h (Inflate u e) image sectors read = absurd read
 row_stands told g h (Coalesce a p) image sectors read = absurd read
@@ -171,6 +175,9 @@ module _ {S : Type 0} (g : Ghosts S) (store : S) (xs : List TreeRow) (places : L
   plain_at : (r : Row) → In r t.volumes → is_plain r ≡ true
   plain_at r i = all-In (λ (x : Row). is_plain x ≡ true) t.volumes r d.plain i
 
+  no_log_at : (r : Row) → In r t.volumes → is_log r.name ≡ false
+  no_log_at r i = volume_no_log r (all-In IsVolume t.volumes r d.table.volumes.each i)
+
   records_same : rows t Mgt ≡ rows was Mgt
   records_same = records_undone c
 
@@ -201,10 +208,10 @@ module _ {S : Type 0} (g : Ghosts S) (store : S) (xs : List TreeRow) (places : L
       record_volume = d.record_volume;
       few = d.few_images;
       named = k.named;
-      new_image = λ r i new. plain_image r.name (plain_at r i) (not_records d.table (r, found_in t.volumes d.table.volumes.rising r i, new));
+      new_image = λ r i new. plain_image r.name (plain_at r i) (no_log_at r i) (not_records d.table (r, found_in t.volumes d.table.volumes.rising r i, new));
       no_entry = no_entry t d.plain;
       from = read_from xs;
-      all = λ r i image filled. read_each t.volumes xs each r i (plain_image r.name (plain_at r i) (λ is. true≢false (sym image ∙ ap is_image is))) filled;
+      all = λ r i image filled. read_each t.volumes xs each r i (plain_image r.name (plain_at r i) (no_log_at r i) (λ is. true≢false (sym image ∙ ap is_image is))) filled;
       proper = proper;
       parents = k.parents;
       chains = k.chains;
@@ -250,6 +257,7 @@ module _ {S : Type 0} (g : Ghosts S) (store : S) (xs : List TreeRow) (places : L
         (held_before u r there filled head m read.stands (read.gives told)))
     steady_named r Mgt image there filled read = absurd read
     steady_named r (Old u) image there filled read = absurd read
+    steady_named r (Cbt u) image there filled read = absurd read
     steady_named r (Clone d b w) image there filled read = absurd read
     steady_named r (Inflate u e) image there filled read = absurd read
     steady_named r (Coalesce a p) image there filled read = absurd read
@@ -277,6 +285,7 @@ module _ {S : Type 0} (g : Ghosts S) (store : S) (xs : List TreeRow) (places : L
         true_quiet s.geometry (sectors_by s r) head m s.geometry.in_range (held_in (stored_with g store (undone was)) (Vhd u)) (all_quiet s t (g.area store) settled (Vhd u)) (read.gives told)
     true_named r Mgt image read = absurd read
     true_named r (Old u) image read = absurd read
+    true_named r (Cbt u) image read = absurd read
     true_named r (Clone d b w) image read = absurd read
     true_named r (Inflate u e) image read = absurd read
     true_named r (Coalesce a p) image read = absurd read

@@ -5,7 +5,7 @@ use Rattle.std.proofs.lemmas.Option.{none-some, same_Some}
 use Rattle.sm_machine.specs.WellFormed.{is_image_name}
 use Rattle.sm_base.specs.declared.faults.Place.TheVariants as at
 use Rattle.sm_base.specs.declared.names.Name.{Name}
-use Rattle.sm_base.specs.declared.names.Name.TheVariants.{Mgt, Vhd, Raw, Old, Clone, Inflate, Coalesce, Relink, Leaf}
+use Rattle.sm_base.specs.declared.names.Name.TheVariants.{Mgt, Vhd, Raw, Old, Cbt, Clone, Inflate, Coalesce, Relink, Leaf}
 use Rattle.vg_meta.specs.Tables.{Row, VolumeTable, name_eq, rows}
 use Rattle.vg_meta.proofs.RowLaws.{row_of-name}
 use Rattle.vg_volumes.specs.declared.stores.Store.{Ghosts}
@@ -160,6 +160,7 @@ module _ {S : Type 0} (g : Ghosts S) (store : S) {t : VolumeTable} (c : IsStaged
     no_image (Raw u) none = no_raw u (rows t (Raw u)) refl none
     no_image Mgt none = refl
     no_image (Old u) none = refl
+    no_image (Cbt u) none = refl
     no_image (Clone d b w) none = refl
     no_image (Inflate u e) none = refl
     no_image (Coalesce a p) none = refl

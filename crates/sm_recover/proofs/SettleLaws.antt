@@ -1,7 +1,7 @@
 -- An opening from the checks on: what stands behind each of its parts is what the checks read, without what was under way.
 use Rattle.std.proofs.Common.{◌≡◌, ◌*◌, ℕ, List, [], length, Option, Some, None, refl, sym, ap, ap₂, ◌∙◌, subst, subst₂}
 use Rattle.sm_base.specs.declared.names.Name.{Name}
-use Rattle.sm_base.specs.declared.names.Name.TheVariants.{Mgt, Vhd, Raw, Old, Clone, Inflate, Coalesce, Relink, Leaf}
+use Rattle.sm_base.specs.declared.names.Name.TheVariants.{Mgt, Vhd, Raw, Old, Cbt, Clone, Inflate, Coalesce, Relink, Leaf}
 use Rattle.sm_disk.specs.Held.{Held, IsSettled, Keeps, reads}
 use Rattle.vg_meta.specs.Roomy.{table_alone}
 use Rattle.vg_meta.specs.Tables.{VolumeTable, extents_of, rows}
@@ -166,6 +166,7 @@ module _ {S : Type 0} {g : Ghosts S} {a b d : S} (r : OnlyReads g a b) (site : g
         up_numbered (Some (Vhd u)) σ k = refl
         up_numbered (Some (Raw u)) σ k = refl
         up_numbered (Some (Old u)) σ k = refl
+        up_numbered (Some (Cbt u)) σ k = refl
         up_numbered (Some (Clone u v w)) σ k = refl
         up_numbered (Some (Inflate u v)) σ k = refl
         up_numbered (Some (Coalesce u v)) σ k = refl

@@ -1,6 +1,6 @@
 -- Behind the checks, and once the repository was taken over to the current version: what stands is as it was, and in front of the repairs
 -- a stop leaves the one table.
-use Rattle.std.proofs.Common.{◌≡◌, ◌<◌, ◌≤◌, ◌⊎◌, inl, inr, ap, ap₂, sym, subst, ◌∙◌, arith, List, ℕ, false}
+use Rattle.std.proofs.Common.{◌≡◌, ◌<◌, ◌≤◌, inl, inr, ap, ap₂, sym, subst, ◌∙◌, arith, List, ℕ, false}
 use Rattle.std.proofs.Math.Nat.{eq-or-lt_of_le}
 use Rattle.sm_disk.specs.Held.{Held, IsSettled}
 use Rattle.vg_meta.specs.Roomy.{table_alone}

@@ -3,7 +3,7 @@ use Rattle.std.proofs.Common.{◌≡◌, inl, inr, ℕ, ◌≤◌, Bool, true, f
 use Rattle.std.proofs.Math.Path.{fun_ext}
 use Rattle.std.specs.List.{AllByRecursion}
 use Rattle.sm_base.specs.declared.names.Name.{Name}
-use Rattle.sm_base.specs.declared.names.Name.TheVariants.{Mgt, Vhd, Raw, Old, Clone, Inflate, Coalesce, Relink, Leaf}
+use Rattle.sm_base.specs.declared.names.Name.TheVariants.{Mgt, Vhd, Raw, Old, Cbt, Clone, Inflate, Coalesce, Relink, Leaf}
 use Rattle.sm_base.specs.Kinds.{is_image}
 use Rattle.sm_disk.specs.Held.{Held, IsSettled, Keeps}
 use Rattle.sm_disk.proofs.HeldLaws.{reads-settled}
@@ -62,6 +62,7 @@ back_old t Mgt = tt
 back_old t (Vhd u) = tt
 back_old t (Raw u) = tt
 back_old t (Old u) = tt
+back_old t (Cbt u) = tt
 back_old t (Coalesce v p) = tt
 back_old t (Relink v p) = tt
 back_old t (Leaf l p) = tt

@@ -8,7 +8,7 @@ use Rattle.sm_base.specs.Limits.{extent_limit}
 use Rattle.sm_base.specs.Kinds.{is_image, is_entry}
 use Rattle.sm_base.specs.Names.{IsName}
 use Rattle.sm_base.specs.declared.names.Name.{Name}
-use Rattle.sm_base.specs.declared.names.Name.TheVariants.{Mgt, Vhd, Raw, Old, Clone, Inflate, Coalesce, Relink, Leaf}
+use Rattle.sm_base.specs.declared.names.Name.TheVariants.{Mgt, Vhd, Raw, Old, Cbt, Clone, Inflate, Coalesce, Relink, Leaf}
 use Rattle.vg_meta.specs.Changes.{Permits, applied}
 use Rattle.vg_meta.specs.Tables.{Row, VolumeTable, names_of, rows}
 use Rattle.vg_meta.specs.declared.changes.Change.{Change}
@@ -218,6 +218,7 @@ simple_entry : (n : Name) → is_simple_name n ≡ true → is_entry n ≡ is_ma
 simple_entry Mgt h = refl
 simple_entry (Vhd u) h = refl
 simple_entry (Raw u) h = refl
+simple_entry (Cbt u) h = refl
 simple_entry (Clone d b w) h = refl
 simple_entry (Inflate u e) h = refl
 simple_entry _ h = absurd (true≢false (sym h))
@@ -251,6 +252,7 @@ back_allowed Mgt c found = tt
 back_allowed (Vhd u) c found = tt
 back_allowed (Raw u) c found = tt
 back_allowed (Old u) c found = tt
+back_allowed (Cbt u) c found = tt
 back_allowed (Coalesce v p) c found = tt
 back_allowed (Relink v p) c found = tt
 back_allowed (Leaf l p) c found = tt

@@ -6,7 +6,7 @@ use Rattle.common_laws.specs.Lists.{In}
 use Rattle.common_laws.proofs.Lists.{In-filter, In-map_at, filter-In}
 use Rattle.sm_base.specs.Kinds.{is_image}
 use Rattle.sm_base.specs.declared.names.Name.{Name}
-use Rattle.sm_base.specs.declared.names.Name.TheVariants.{Mgt, Vhd, Raw, Old, Clone, Inflate, Coalesce, Relink, Leaf}
+use Rattle.sm_base.specs.declared.names.Name.TheVariants.{Mgt, Vhd, Raw, Old, Cbt, Clone, Inflate, Coalesce, Relink, Leaf}
 use Rattle.vg_meta.specs.Tables.{Row, VolumeTable, extents_of, name_eq, names_of, rows}
 use Rattle.vg_meta.proofs.NameLaws.{name_eq-false, name_eq-true}
 use Rattle.vg_volumes.specs.Sites.{Site}
@@ -192,6 +192,7 @@ module _ {s : Site} {t : VolumeTable} (c : IsUndoable s t) where
       by (Some (Vhd u)) found = absurd (not_making (Vhd u) found refl)
       by (Some (Raw u)) found = absurd (not_making (Raw u) found refl)
       by (Some (Old u)) found = absurd (not_making (Old u) found refl)
+      by (Some (Cbt u)) found = absurd (not_making (Cbt u) found refl)
       by (Some (Coalesce v p)) found = absurd (not_making (Coalesce v p) found refl)
       by (Some (Relink v p)) found = absurd (not_making (Relink v p) found refl)
       by (Some (Leaf l p)) found = absurd (not_making (Leaf l p) found refl)
@@ -213,6 +214,7 @@ module _ {s : Site} {t : VolumeTable} (c : IsUndoable s t) where
       by (Some (Vhd u)) found = absurd (not_making (Vhd u) found refl)
       by (Some (Raw u)) found = absurd (not_making (Raw u) found refl)
       by (Some (Old u)) found = absurd (not_making (Old u) found refl)
+      by (Some (Cbt u)) found = absurd (not_making (Cbt u) found refl)
       by (Some (Coalesce v p)) found = absurd (not_making (Coalesce v p) found refl)
       by (Some (Relink v p)) found = absurd (not_making (Relink v p) found refl)
       by (Some (Leaf l p)) found = absurd (not_making (Leaf l p) found refl)

@@ -10,7 +10,7 @@ use Rattle.common_laws.proofs.Booleans.{not_false}
 use Rattle.common_laws.proofs.Lists.{In-filter, In-map_at, filter-In}
 use Rattle.sm_base.specs.Kinds.{is_image, is_entry}
 use Rattle.sm_base.specs.declared.names.Name.{Name}
-use Rattle.sm_base.specs.declared.names.Name.TheVariants.{Mgt, Vhd, Raw, Old, Clone, Inflate, Coalesce, Relink, Leaf}
+use Rattle.sm_base.specs.declared.names.Name.TheVariants.{Mgt, Vhd, Raw, Old, Cbt, Clone, Inflate, Coalesce, Relink, Leaf}
 use Rattle.std.specs.Str.{bytes_eq}
 use Rattle.vg_meta.specs.Changes.{Permits, applied, without}
 use Rattle.vg_meta.specs.Tables.{IsTable, Row, VolumeTable, extents_of, name_eq, names_of, rows}
@@ -92,6 +92,7 @@ folds_not_makes Mgt folds = absurd (true≢false (sym folds))
 folds_not_makes (Vhd u) folds = absurd (true≢false (sym folds))
 folds_not_makes (Raw u) folds = absurd (true≢false (sym folds))
 folds_not_makes (Old u) folds = absurd (true≢false (sym folds))
+folds_not_makes (Cbt u) folds = absurd (true≢false (sym folds))
 folds_not_makes (Clone d b w) folds = absurd (true≢false (sym folds))
 folds_not_makes (Inflate u k) folds = absurd (true≢false (sym folds))
 
@@ -105,6 +106,7 @@ known_simple (Coalesce v p) known plain = absurd (true≢false plain)
 known_simple (Relink v p) known plain = absurd (true≢false plain)
 known_simple (Leaf l p) known plain = absurd (true≢false plain)
 known_simple (Old u) known plain = absurd (true≢false (sym known))
+known_simple (Cbt u) known plain = refl
 
 -- ---- stages, by the volumes that are no entries of a copy or of a link
 
@@ -236,6 +238,7 @@ module _ (t : VolumeTable) (e : Name) (f : HasFolding t e) where
     stage_still Mgt simple h = refl
     stage_still (Vhd u) simple h = refl
     stage_still (Raw u) simple h = refl
+    stage_still (Cbt u) simple h = refl
     stage_still (Clone d b w) simple h =
         let k = and_parts (is_forking t d b w) (are_past t (Clone d b w)) (not_false _ h) in
         ap₂ (λ x y. not (x && y)) (forking_still d b w k.0) (all_past (uuids_in (Clone d b w)) t.sequence q.sequence later k.1)
@@ -266,6 +269,7 @@ module _ (t : VolumeTable) (e : Name) (f : HasFolding t e) where
       back (Vhd u) = refl
       back (Raw u) = refl
       back (Old u) = refl
+      back (Cbt u) = refl
       back (Coalesce v p) = refl
       back (Relink v p) = refl
       back (Leaf l p) = refl

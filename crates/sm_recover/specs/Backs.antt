@@ -3,7 +3,7 @@
 use Rattle.std.specs.Prelude.{◌≡◌, ℕ, false, List, Option, None, Some}
 use Rattle.sm_base.specs.Names.{IsName}
 use Rattle.sm_base.specs.declared.names.Name.{Name}
-use Rattle.sm_base.specs.declared.names.Name.TheVariants.{Mgt, Vhd, Raw, Old, Clone, Inflate, Coalesce, Relink, Leaf}
+use Rattle.sm_base.specs.declared.names.Name.TheVariants.{Mgt, Vhd, Raw, Old, Cbt, Clone, Inflate, Coalesce, Relink, Leaf}
 use Rattle.vg_meta.specs.Tables.{VolumeTable}
 use Rattle.sm_standing.specs.Entries.{head, image_with, making}
 use Rattle.sm_standing.specs.Opened.{under_name}
@@ -30,6 +30,7 @@ entry_back t (Some Mgt) xs = xs
 entry_back t (Some (Vhd u)) xs = xs
 entry_back t (Some (Raw u)) xs = xs
 entry_back t (Some (Old u)) xs = xs
+entry_back t (Some (Cbt u)) xs = xs
 entry_back t (Some (Inflate image extents)) xs = xs
 entry_back t (Some (Coalesce child parent)) xs = xs
 entry_back t (Some (Relink child parent)) xs = xs

@@ -3,7 +3,7 @@
 use Rattle.std.specs.Prelude.{◌≡◌, ℕ, ◌+◌, ◌≤◌, true, false, List, [], ◌∷◌, ◌++◌, length, Option, None, Some, if◌then◌else◌}
 use Rattle.sm_base.specs.Names.{IsName}
 use Rattle.sm_base.specs.declared.names.Name.{Name}
-use Rattle.sm_base.specs.declared.names.Name.TheVariants.{Mgt, Vhd, Raw, Old, Clone, Inflate, Coalesce, Relink, Leaf}
+use Rattle.sm_base.specs.declared.names.Name.TheVariants.{Mgt, Vhd, Raw, Old, Cbt, Clone, Inflate, Coalesce, Relink, Leaf}
 use Rattle.vg_meta.specs.Roomy.{table_alone}
 use Rattle.vg_meta.specs.Tables.{VolumeTable}
 use Rattle.vg_meta.specs.declared.changes.Change.{Change}
@@ -38,6 +38,7 @@ leaf_ends t (Some Mgt) = []
 leaf_ends t (Some (Vhd u)) = []
 leaf_ends t (Some (Raw u)) = []
 leaf_ends t (Some (Old u)) = []
+leaf_ends t (Some (Cbt u)) = []
 leaf_ends t (Some (Clone disk base twin)) = []
 leaf_ends t (Some (Inflate image extents)) = []
 leaf_ends t (Some (Coalesce child parent)) = []
@@ -56,6 +57,7 @@ leaf_back t (Some Mgt) xs = xs
 leaf_back t (Some (Vhd u)) xs = xs
 leaf_back t (Some (Raw u)) xs = xs
 leaf_back t (Some (Old u)) xs = xs
+leaf_back t (Some (Cbt u)) xs = xs
 leaf_back t (Some (Clone disk base twin)) xs = xs
 leaf_back t (Some (Inflate image extents)) xs = xs
 leaf_back t (Some (Coalesce child parent)) xs = xs
@@ -73,6 +75,7 @@ CanEnd t (Some Mgt) xs = Unit {0}
 CanEnd t (Some (Vhd u)) xs = Unit {0}
 CanEnd t (Some (Raw u)) xs = Unit {0}
 CanEnd t (Some (Old u)) xs = Unit {0}
+CanEnd t (Some (Cbt u)) xs = Unit {0}
 CanEnd t (Some (Clone disk base twin)) xs = Unit {0}
 CanEnd t (Some (Inflate image extents)) xs = Unit {0}
 CanEnd t (Some (Coalesce child parent)) xs = Unit {0}

@@ -1,9 +1,9 @@
 -- The children of an image that goes are linked, one after the other, to the image's parent.
 use Rattle.std.specs.Prelude.{◌≡◌, ◌≤◌, false, List, [], ◌∷◌, length, Option, Some, None}
 use Rattle.sm_base.specs.declared.names.Name.{Name}
-use Rattle.sm_base.specs.declared.names.Name.TheVariants.{Mgt, Vhd, Raw, Old, Clone, Inflate, Coalesce, Relink, Leaf}
-use Rattle.sm_base.specs.declared.operations.Op.{Op}
-use Rattle.sm_base.specs.declared.operations.Op.TheVariants as op
+use Rattle.sm_base.specs.declared.names.Name.TheVariants.{Mgt, Vhd, Raw, Old, Cbt, Clone, Inflate, Coalesce, Relink, Leaf}
+use Rattle.sm_machine.specs.Operations.{Op}
+use Rattle.sm_machine.specs.Operations as op
 use Rattle.sm_disk.specs.Held.{IsSettled, Keeps}
 use Rattle.vg_meta.specs.Roomy.{table_alone}
 use Rattle.vg_meta.specs.Changes.{applied}
@@ -29,12 +29,18 @@ use Rattle.sm_checks.specs.Links.{HasLink}
 -- an operation links the children of an image
 abbrev pub LinksPast : Name → Op → Type 0
 LinksPast n (op.Relink v p) = v ≡ n
-LinksPast n _ = ⊥
+LinksPast n op.Idle = ⊥
+LinksPast n (op.Copy v p cursor) = ⊥
+LinksPast n (op.Leaf l p cursor) = ⊥
+LinksPast n (op.Live l p cursor dirty) = ⊥
 
 -- the shape, once each of them is linked
 abbrev pub linked_on : Op → Shape → Shape
 linked_on (op.Relink v p) s = linked_past v p s
-linked_on _ s = s
+linked_on op.Idle s = s
+linked_on (op.Copy v p cursor) s = s
+linked_on (op.Leaf l p cursor) s = s
+linked_on (op.Live l p cursor dirty) s = s
 
 -- the image whose children are being linked, by the entry of a link
 abbrev pub link_image : Option Name → Option Name
@@ -44,6 +50,7 @@ link_image (Some Mgt) = None
 link_image (Some (Vhd u)) = None
 link_image (Some (Raw u)) = None
 link_image (Some (Old u)) = None
+link_image (Some (Cbt u)) = None
 link_image (Some (Clone disk base twin)) = None
 link_image (Some (Inflate image extents)) = None
 link_image (Some (Coalesce child parent)) = None
@@ -57,6 +64,7 @@ LinkedBy (Some Mgt) xs before after = after ≡ before
 LinkedBy (Some (Vhd u)) xs before after = after ≡ before
 LinkedBy (Some (Raw u)) xs before after = after ≡ before
 LinkedBy (Some (Old u)) xs before after = after ≡ before
+LinkedBy (Some (Cbt u)) xs before after = after ≡ before
 LinkedBy (Some (Clone disk base twin)) xs before after = after ≡ before
 LinkedBy (Some (Inflate image extents)) xs before after = after ≡ before
 LinkedBy (Some (Coalesce child parent)) xs before after = after ≡ before

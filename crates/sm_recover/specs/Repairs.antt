@@ -6,7 +6,7 @@ use Rattle.sm_base.specs.declared.faults.OpenFault.{OpenFault}
 use Rattle.sm_base.specs.declared.faults.OpenFault.TheVariants as fault
 use Rattle.sm_base.specs.Kinds.{is_image}
 use Rattle.sm_base.specs.declared.names.Name.{Name}
-use Rattle.sm_base.specs.declared.names.Name.TheVariants.{Mgt, Vhd, Raw, Old, Clone, Inflate, Coalesce, Relink, Leaf}
+use Rattle.sm_base.specs.declared.names.Name.TheVariants.{Mgt, Vhd, Raw, Old, Cbt, Clone, Inflate, Coalesce, Relink, Leaf}
 use Rattle.sm_disk.specs.Held.{IsSettled, reads}
 use Rattle.vg_layout.specs.Places.{record_extents}
 use Rattle.vg_meta.specs.Changes.{applied}
@@ -77,6 +77,7 @@ IsLinkable s t xs (Some Mgt) = ⊥
 IsLinkable s t xs (Some (Vhd u)) = ⊥
 IsLinkable s t xs (Some (Raw u)) = ⊥
 IsLinkable s t xs (Some (Old u)) = ⊥
+IsLinkable s t xs (Some (Cbt u)) = ⊥
 IsLinkable s t xs (Some (Clone disk base twin)) = ⊥
 IsLinkable s t xs (Some (Inflate image extents)) = ⊥
 IsLinkable s t xs (Some (Coalesce child parent)) = ⊥

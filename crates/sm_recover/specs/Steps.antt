@@ -1,7 +1,7 @@
 -- Changes of a table, made one after the other by a commit each: what all of them make, and what stands while they are made.
 use Rattle.std.specs.Prelude.{◌≡◌, ℕ, ◌≤◌, Bool, true, false, List, [], ◌∷◌, ◌++◌, take, Option, None, Some}
 use Rattle.sm_base.specs.declared.names.Name.{Name}
-use Rattle.sm_base.specs.declared.names.Name.TheVariants.{Mgt, Vhd, Raw, Old, Clone, Inflate, Coalesce, Relink, Leaf}
+use Rattle.sm_base.specs.declared.names.Name.TheVariants.{Mgt, Vhd, Raw, Old, Cbt, Clone, Inflate, Coalesce, Relink, Leaf}
 use Rattle.sm_disk.specs.Held.{Keeps, IsSettled}
 use Rattle.vg_meta.specs.Roomy.{table_alone}
 use Rattle.vg_meta.specs.Tables.{VolumeTable, rows}
@@ -53,6 +53,7 @@ is_copy Mgt = false
 is_copy (Vhd u) = false
 is_copy (Raw u) = false
 is_copy (Old u) = false
+is_copy (Cbt u) = false
 is_copy (Clone disk base twin) = false
 is_copy (Inflate image extents) = false
 is_copy (Relink child parent) = false

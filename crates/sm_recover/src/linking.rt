@@ -57,7 +57,7 @@ pub fn link_up<S: Store>(store: &mut S, memory: &mut Memory) -> Result<(), Faile
     let Some(parent) = memory.tree.parent(&child) else {
         return Ok(());
     };
-    memory.operation = Op::Relink { child, parent };
+    memory.operation.set(Op::Relink { child, parent });
     link_all(store, memory, &child)?;
     Ok(())
 }

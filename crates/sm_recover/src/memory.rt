@@ -116,6 +116,7 @@ pub fn under_name(base: &Name, disk: &Uuid) -> Name
         Name::Mgt
         | Name::Vhd(_)
         | Name::Old(_)
+        | Name::Cbt(_)
         | Name::Clone { .. }
         | Name::Inflate { .. }
         | Name::Coalesce { .. }

@@ -30,9 +30,10 @@ ghost use Rattle.vg_meta.specs.Roomy.{table_alone};
 ghost use Rattle.vhd_chain.specs.Reading.{AllAreTrue};
 
 use crate::memory::{give_back, take_name};
-use sm_base::{IMAGE_LIMIT, NoMemory, Op, OpenFault, Place};
+use sm_base::{IMAGE_LIMIT, NoMemory, OpenFault, Place};
 use sm_checks::{disk_fault, link_fault, load, table_fault, tree_fault};
 use sm_mgt::Mgt;
+use sm_operation::Operation;
 use sm_ready::Memory;
 use sm_refs::Attachments;
 use std::alloc::Global;
@@ -72,13 +73,16 @@ pub fn checked_with_room<S: Store>(alloc: Global, store: &mut S) -> Result<Memor
     let Ok(attached) = Attachments::new(alloc, IMAGE_LIMIT) else {
         return Err(OpenFault::NoMemory);
     };
+    let Ok(operation) = Operation::new(alloc) else {
+        return Err(OpenFault::NoMemory);
+    };
     take_name(&mut tree, store.table());
     give_back(&mut tree, store.table());
     Ok(Memory {
         tree,
         records,
         attached,
-        operation: Op::Idle,
+        operation,
     })
 }
 

@@ -87,6 +87,7 @@ fn is_copy(name: &Name) -> bool
         | Name::Vhd(_)
         | Name::Raw(_)
         | Name::Old(_)
+        | Name::Cbt(_)
         | Name::Clone { .. }
         | Name::Inflate { .. }
         | Name::Relink { .. }
@@ -124,6 +125,7 @@ fn undo_entry<S: Store>(store: &mut S, entry: &Name) -> Result<(), Failed>
         | Name::Vhd(_)
         | Name::Raw(_)
         | Name::Old(_)
+        | Name::Cbt(_)
         | Name::Coalesce { .. }
         | Name::Relink { .. }
         | Name::Leaf { .. } => (),

@@ -1,7 +1,8 @@
-use Rattle.std.proofs.Common.{sym, ap, ◌∙◌}
+use Rattle.std.proofs.Common.{sym, ap, ◌∙◌, subst}
 use Rattle.vg_meta.specs.Roomy.{table_alone}
 use Rattle.sm_standing.specs.Entries.{folding, head}
-use Rattle.sm_recover.specs.Linking.{link_image}
+use Rattle.sm_ready.specs.Sessions.{IsOrderlyStore, IsReadyStore}
+use Rattle.sm_recover.specs.Linking.{LinksAll, link_image}
 use Rattle.sm_recover.proofs.LinkingLaws.{links_none, links_rest}
 use Rattle.sm_recover.proofs.LinkUpLaws.{all_rest, all_shape, all_table, begun_orderly, begun_ready, none_orderly, none_rest, none_shape, same_table}
 use Rattle.sm_recover.proofs.linking.link_up.Goals as goal
@@ -33,33 +34,36 @@ returns-in_default-clause-crash g c = λ told t image leaves begun.
     links_rest g.S.Store (links_none g.S.Store a c.args.memory.now c.requires.usable (returns-in_default-clause-orderly g c) c.requires.true_now) told (g.met.S.Store.leaves_now a told c.requires.usable) begun.settled rest.ready leaves
 
 pub link_all-requires-clause-orderly : goal.link_all-requires-clause-orderly
-link_all-requires-clause-orderly g c =
-    begun_orderly g.S.Store c.args.store.now c.args.memory.now c.requires.linkable c.requires.orderly c.in-Some.child c.in-Some-parent.parent
-    (sym c.in-Some.is ∙ c.linked_image.ensures ∙ ap (λ k. link_image (head (folding (table_alone k)))) c.table.ensures.table) (sym c.in-Some-parent.is ∙ c.parent.ensures)
+link_all-requires-clause-orderly g c = subst (λ o. IsOrderlyStore g.S.Store c.args.store.now (record c.args.memory.now { operation = o })) (sym c.set.ensures)
+    (begun_orderly g.S.Store c.args.store.now c.args.memory.now c.requires.linkable c.requires.orderly c.in-Some.child c.in-Some-parent.parent
+    (sym c.in-Some.is ∙ c.linked_image.ensures ∙ ap (λ k. link_image (head (folding (table_alone k)))) c.table.ensures.table) (sym c.in-Some-parent.is ∙ c.parent.ensures))
 
 pub returns-in_err-link_all-clause-crash : goal.returns-in_err-link_all-clause-crash
 returns-in_err-link_all-clause-crash g c = λ told t image leaves begun.
     c.link_all.ensures.crash told t image leaves begun.settled
-    (begun_ready g.S.Store c.args.store.now c.args.memory.now c.requires.linkable c.requires.orderly c.in-Some.child c.in-Some-parent.parent
-    (sym c.in-Some.is ∙ c.linked_image.ensures ∙ ap (λ k. link_image (head (folding (table_alone k)))) c.table.ensures.table) (sym c.in-Some-parent.is ∙ c.parent.ensures) begun)
+    (subst (λ o. IsReadyStore g.S.Store c.args.store.now (record c.args.memory.now { operation = o })) (sym c.set.ensures) (begun_ready g.S.Store c.args.store.now c.args.memory.now c.requires.linkable c.requires.orderly c.in-Some.child c.in-Some-parent.parent
+    (sym c.in-Some.is ∙ c.linked_image.ensures ∙ ap (λ k. link_image (head (folding (table_alone k)))) c.table.ensures.table) (sym c.in-Some-parent.is ∙ c.parent.ensures) begun))
 
 pub returns-clause-unfolded : goal.returns-clause-unfolded
 returns-clause-unfolded g c =
     all_table g.S.Store c.args.store.now c.args.memory.now c.requires.linkable c.requires.orderly c.in-Some.child c.in-Some-parent.parent
-    (sym c.in-Some.is ∙ c.linked_image.ensures ∙ ap (λ k. link_image (head (folding (table_alone k)))) c.table.ensures.table) (sym c.in-Some-parent.is ∙ c.parent.ensures) c.in_ok-link_all.ensures.all
+    (sym c.in-Some.is ∙ c.linked_image.ensures ∙ ap (λ k. link_image (head (folding (table_alone k)))) c.table.ensures.table) (sym c.in-Some-parent.is ∙ c.parent.ensures)
+    (subst (λ o. LinksAll g.S.Store c.args.store.now (record c.args.memory.now { operation = o }) c.link_all.new.store c.link_all.new.memory) c.set.ensures c.in_ok-link_all.ensures.all)
 
 pub returns-clause-rest : goal.returns-clause-rest
 returns-clause-rest g c =
     all_rest g.S.Store c.args.store.now c.args.memory.now c.requires.linkable c.requires.orderly c.in-Some.child c.in-Some-parent.parent
-    (sym c.in-Some.is ∙ c.linked_image.ensures ∙ ap (λ k. link_image (head (folding (table_alone k)))) c.table.ensures.table) (sym c.in-Some-parent.is ∙ c.parent.ensures) c.in_ok-link_all.ensures.all
+    (sym c.in-Some.is ∙ c.linked_image.ensures ∙ ap (λ k. link_image (head (folding (table_alone k)))) c.table.ensures.table) (sym c.in-Some-parent.is ∙ c.parent.ensures)
+    (subst (λ o. LinksAll g.S.Store c.args.store.now (record c.args.memory.now { operation = o }) c.link_all.new.store c.link_all.new.memory) c.set.ensures c.in_ok-link_all.ensures.all)
 
 pub returns-clause-shape : goal.returns-clause-shape
 returns-clause-shape g c =
     all_shape g.S.Store c.args.store.now c.args.memory.now c.requires.linkable c.requires.orderly c.in-Some.child c.in-Some-parent.parent
-    (sym c.in-Some.is ∙ c.linked_image.ensures ∙ ap (λ k. link_image (head (folding (table_alone k)))) c.table.ensures.table) (sym c.in-Some-parent.is ∙ c.parent.ensures) c.in_ok-link_all.ensures.all c.requires.at_ease.idle
+    (sym c.in-Some.is ∙ c.linked_image.ensures ∙ ap (λ k. link_image (head (folding (table_alone k)))) c.table.ensures.table) (sym c.in-Some-parent.is ∙ c.parent.ensures)
+    (subst (λ o. LinksAll g.S.Store c.args.store.now (record c.args.memory.now { operation = o }) c.link_all.new.store c.link_all.new.memory) c.set.ensures c.in_ok-link_all.ensures.all) c.requires.at_ease.idle
 
 pub returns-clause-crash : goal.returns-clause-crash
 returns-clause-crash g c = λ told t image leaves begun.
     c.link_all.ensures.crash told t image leaves begun.settled
-    (begun_ready g.S.Store c.args.store.now c.args.memory.now c.requires.linkable c.requires.orderly c.in-Some.child c.in-Some-parent.parent
-    (sym c.in-Some.is ∙ c.linked_image.ensures ∙ ap (λ k. link_image (head (folding (table_alone k)))) c.table.ensures.table) (sym c.in-Some-parent.is ∙ c.parent.ensures) begun)
+    (subst (λ o. IsReadyStore g.S.Store c.args.store.now (record c.args.memory.now { operation = o })) (sym c.set.ensures) (begun_ready g.S.Store c.args.store.now c.args.memory.now c.requires.linkable c.requires.orderly c.in-Some.child c.in-Some-parent.parent
+    (sym c.in-Some.is ∙ c.linked_image.ensures ∙ ap (λ k. link_image (head (folding (table_alone k)))) c.table.ensures.table) (sym c.in-Some-parent.is ∙ c.parent.ensures) begun))
