@@ -12,7 +12,7 @@ use Rattle.sm_base.proofs.NumberLemmas.{le-div_up}
 use Rattle.sm_disk.specs.Held.{Held, Allows, IsSettled}
 use Rattle.sm_disk.specs.Sectors.{zeros}
 use Rattle.sm_disk.proofs.HeldLaws.{allows_settled, reads-settled}
-use Rattle.sm_base.specs.declared.operations.Op.TheVariants.{Idle}
+use Rattle.sm_machine.specs.Operations.{Idle}
 use Rattle.sm_machine.specs.Disks.{Disk}
 use Rattle.sm_machine.specs.Shapes.{Shape, new_shape}
 use Rattle.common_laws.specs.Lists.{In}

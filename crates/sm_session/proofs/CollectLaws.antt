@@ -1,17 +1,17 @@
 -- What the collector's next step says of the operation, which steps there are, and what is told of them.
-use Rattle.std.proofs.Common.{◌≡◌, ◌⊎◌, inl, inr, ℕ, ◌^◌, ◌<◌, true, false, List, [], ◌∷◌, ◌++◌, Option, Some, None, Result, OnOk, refl, sym, ap, ◌∙◌, subst, arith}
+use Rattle.std.proofs.Common.{◌≡◌, ◌⊎◌, inl, inr, ℕ, ◌^◌, ◌<◌, nat_lt, length, Bool, true, false, List, [], ◌∷◌, ◌++◌, Option, Some, None, Result, OnOk, refl, sym, ap, ◌∙◌, subst, arith}
 use Rattle.std.specs.List.{find}
 use Rattle.std.proofs.lemmas.Bool.{true≢false, le-ltb}
 use Rattle.std.proofs.Math.Logic.{∥∥₁_map}
 use Rattle.std.proofs.lemmas.Result.{on_ok_weaker}
 use Rattle.common_laws.specs.Lists.{first_some, given}
 use Rattle.sm_base.specs.declared.names.Name.{Name}
-use Rattle.sm_base.specs.declared.operations.Op.{Op}
-use Rattle.sm_base.specs.declared.operations.Op.TheVariants as op
+use Rattle.sm_machine.specs.Operations.{Op, dirty_limit, told}
+use Rattle.sm_machine.specs.Operations as op
 use Rattle.sm_base.specs.declared.operations.Plan.{Plan}
 use Rattle.sm_base.specs.declared.operations.Plan.TheVariants as plan
 use Rattle.sm_base.specs.declared.refusals.Refusal.TheVariants.{NoSpace}
-use Rattle.sm_machine.specs.Collector.{IsLess, Pair, blocked, collected, copy_or, debt, fits, is_garbage, is_loose, leaves, next_block, next_step, pairs, plan_copy, plan_idle, plan_running, relink_or, table_of, target}
+use Rattle.sm_machine.specs.Collector.{IsLess, Pair, blocked, clean_or, collected, copy_or, debt, fits, is_garbage, is_loose, leaves, lives, next_block, next_step, pairs, plan_copy, plan_idle, plan_running, relink_or, table_of, target}
 use Rattle.sm_machine.specs.Commits.{gives_up, is_given_up, own_commits, plan_commits}
 use Rattle.sm_machine.specs.Laws.{is_working}
 use Rattle.sm_machine.specs.Refusals.{refusal, is_reserved, is_unknown, is_taken, is_in_use, is_not_attached, is_read_only, is_raw_disk, is_out_of_range, is_bad_size, is_shrink, is_deep, is_too_many, is_spent, lacks_space, need, named, new_uuid, forked}
@@ -38,30 +38,34 @@ Goes o _ = Unit {0}
 
 goes_running : (s : Shape) (o : Op) → Goes o (plan_running s o)
 unfolding plan_running plan_idle
-goes_running s op.Idle = by_rules (find (is_garbage s) s.images) (find (is_loose s) s.images) (find (fits s) (pairs s)) (find (fits s) (leaves s))
+goes_running s op.Idle = by_rules (find (is_garbage s) s.images) (find (is_loose s) s.images) (find (fits s) (pairs s)) (find (fits s) (leaves s)) (find (fits s) (lives s))
   where
     rests : (ps : List Pair) → Goes op.Idle (blocked s ps)
     rests [] = tt
     rests (p ∷ ps) = tt
 
-    idle_by : Option ImageRow → Option ImageRow → Option Pair → Option Pair → Plan
-    idle_by g l p q = elim g [
+    idle_by : Option ImageRow → Option ImageRow → Option Pair → Option Pair → Option Pair → Plan
+    idle_by g l p q x = elim g [
       | Some i ↦ plan.Remove i.name
       | None ↦ elim l [
         | Some i ↦ plan.Deflate i.name (thin_in s (top i.slots))
         | None ↦ elim p [
           | Some a ↦ plan.Begin a.child.name a.parent.name (target s a)
-          | None ↦ elim q [ Some a ↦ plan.Leaf a.child.name a.parent.name (target s a) | None ↦ blocked s (pairs s ++ leaves s) ]
+          | None ↦ elim q [
+            | Some a ↦ plan.Leaf a.child.name a.parent.name (target s a)
+            | None ↦ elim x [ Some a ↦ plan.Live a.child.name a.parent.name (target s a) | None ↦ blocked s (pairs s ++ (leaves s ++ lives s)) ]
+          ]
         ]
       ]
     ]
 
-    by_rules : (g l : Option ImageRow) (p q : Option Pair) → Goes op.Idle (idle_by g l p q)
-    by_rules (Some i) l p q = tt
-    by_rules None (Some i) p q = tt
-    by_rules None None (Some a) q = tt
-    by_rules None None None (Some a) = tt
-    by_rules None None None None = rests (pairs s ++ leaves s)
+    by_rules : (g l : Option ImageRow) (p q x : Option Pair) → Goes op.Idle (idle_by g l p q x)
+    by_rules (Some i) l p q x = tt
+    by_rules None (Some i) p q x = tt
+    by_rules None None (Some a) q x = tt
+    by_rules None None None (Some a) x = tt
+    by_rules None None None None (Some a) = tt
+    by_rules None None None None None = rests (pairs s ++ (leaves s ++ lives s))
 goes_running s (op.Copy v p cursor) = by (children v s.images)
   where
     copies : (o : Option ℕ) → Goes (op.Copy v p cursor) (copy_or plan.Turn o)
@@ -81,6 +85,19 @@ goes_running s (op.Leaf l p cursor) = copies (next_block cursor (table_of l s))
     copies : (o : Option ℕ) → Goes (op.Leaf l p cursor) (copy_or plan.Swap o)
     copies None = tt
     copies (Some b) = refl
+goes_running s (op.Live l p cursor dirty) = copies (next_block cursor (table_of l s))
+  where
+    cleans : (bs : List ℕ) → Goes (op.Live l p cursor dirty) (clean_or bs)
+    cleans [] = tt
+    cleans (b ∷ bs) = by (nat_lt dirty_limit (length (b ∷ bs)))
+      where
+        by : (c : Bool) → Goes (op.Live l p cursor dirty) (elim c as (λ _. Plan) [ true ↦ plan.Copy b | false ↦ plan.Swap ])
+        by true = refl
+        by false = tt
+
+    copies : (o : Option ℕ) → Goes (op.Live l p cursor dirty) (copy_or (clean_or dirty) o)
+    copies None = cleans dirty
+    copies (Some b) = refl
 
 goes : (s : Shape) (q : Plan) → next_step s ≡ q → Goes s.op q
 unfolding next_step
@@ -98,21 +115,26 @@ others_work plan.Idle no_blocked no_idle = absurd (no_idle refl)
 others_work _ no_blocked no_idle = refl
 
 -- and begins nothing
-pub others_spare : (q : Plan) → ((child parent : Name) (to : ℕ) → q ≡ plan.Begin child parent to → ⊥) → ((leaf parent : Name) (to : ℕ) → q ≡ plan.Leaf leaf parent to → ⊥) → begins q ≡ false
+pub others_spare : (q : Plan) → ((child parent : Name) (to : ℕ) → q ≡ plan.Begin child parent to → ⊥) → ((leaf parent : Name) (to : ℕ) → q ≡ plan.Leaf leaf parent to → ⊥)
+    → ((leaf parent : Name) (to : ℕ) → q ≡ plan.Live leaf parent to → ⊥) → begins q ≡ false
 unfolding begins
-others_spare (plan.Begin child parent to) no_begin no_leaf = absurd (no_begin child parent to refl)
-others_spare (plan.Leaf leaf parent to) no_begin no_leaf = absurd (no_leaf leaf parent to refl)
-others_spare _ no_begin no_leaf = refl
+others_spare (plan.Begin child parent to) no_begin no_leaf no_live = absurd (no_begin child parent to refl)
+others_spare (plan.Leaf leaf parent to) no_begin no_leaf no_live = absurd (no_leaf leaf parent to refl)
+others_spare (plan.Live leaf parent to) no_begin no_leaf no_live = absurd (no_live leaf parent to refl)
+others_spare _ no_begin no_leaf no_live = refl
 
--- it is two that begin
-pub starts : (q : Plan) → ((child : Name) × (parent : Name) × (to : ℕ) × (q ≡ plan.Begin child parent to)) ⊎ ((leaf : Name) × (parent : Name) × (to : ℕ) × (q ≡ plan.Leaf leaf parent to)) → begins q ≡ true
+-- it is three that begin
+pub starts : (q : Plan) → ((child : Name) × (parent : Name) × (to : ℕ) × (q ≡ plan.Begin child parent to))
+    ⊎ (((leaf : Name) × (parent : Name) × (to : ℕ) × (q ≡ plan.Leaf leaf parent to)) ⊎ ((leaf : Name) × (parent : Name) × (to : ℕ) × (q ≡ plan.Live leaf parent to))) → begins q ≡ true
 unfolding begins
 starts q (inl is) = ap begins is.3
-starts q (inr is) = ap begins is.3
+starts q (inr (inl is)) = ap begins is.3
+starts q (inr (inr is)) = ap begins is.3
 
 -- one that begins is one of them
-pub two_begin : (q : Plan) → begins q ≡ true → ((child parent : Name) (to : ℕ) → q ≡ plan.Begin child parent to → ⊥) → ((leaf parent : Name) (to : ℕ) → q ≡ plan.Leaf leaf parent to → ⊥) → ⊥
-two_begin q begun no_begin no_leaf = true≢false (sym begun ∙ others_spare q no_begin no_leaf)
+pub three_begin : (q : Plan) → begins q ≡ true → ((child parent : Name) (to : ℕ) → q ≡ plan.Begin child parent to → ⊥) → ((leaf parent : Name) (to : ℕ) → q ≡ plan.Leaf leaf parent to → ⊥)
+    → ((leaf parent : Name) (to : ℕ) → q ≡ plan.Live leaf parent to → ⊥) → ⊥
+three_begin q begun no_begin no_leaf no_live = true≢false (sym begun ∙ others_spare q no_begin no_leaf no_live)
 
 -- a step that does something and begins nothing is one of eight
 pub eight_work : (q : Plan) → is_working q ≡ true → begins q ≡ false
@@ -130,6 +152,7 @@ eight_work plan.Swap working no_begin re de co tu li fi sw ab = sw refl
 eight_work plan.Abandon working no_begin re de co tu li fi sw ab = ab refl
 eight_work (plan.Begin child parent to) working no_begin re de co tu li fi sw ab = true≢false no_begin
 eight_work (plan.Leaf leaf parent to) working no_begin re de co tu li fi sw ab = true≢false no_begin
+eight_work (plan.Live leaf parent to) working no_begin re de co tu li fi sw ab = true≢false no_begin
 eight_work (plan.Blocked needed room) working no_begin re de co tu li fi sw ab = true≢false (sym working)
 eight_work plan.Idle working no_begin re de co tu li fi sw ab = true≢false (sym working)
 

@@ -29,6 +29,7 @@ unfoldable pub most_commits : Command → ℕ
 most_commits (Create u size raw label) = 2
 most_commits (Delete u) = 2
 most_commits (Attach u mode) = 4
+most_commits (Detach u) = 1
 most_commits (Snapshot u twin) = 9
 most_commits (Clone u twin) = 9
 most_commits (Resize u size) = 4

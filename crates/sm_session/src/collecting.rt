@@ -19,8 +19,10 @@ ghost use Rattle.sm_ready.specs.Sessions.{IsReadyStore};
 ghost use Rattle.sm_ready.specs.Taken.{StoreTakes};
 ghost use Rattle.sm_run.specs.Runs.{begins};
 
-use gc_coalesce::{abandon, begin, begin_leaf, copy_block, finish, relink_one, remove, turn};
-use gc_leaf::swap;
+use gc_coalesce::{
+    abandon, begin, begin_leaf, begin_live, copy_block, finish, relink_one, remove, turn,
+};
+use gc_live::swap;
 use gc_plan::ChildCounts;
 use sm_base::{CallFault, Failed, Name, Plan, Refusal};
 use sm_machine::Reply;
@@ -87,9 +89,11 @@ fn collect<S: Store>(
     ensures taken { S.told → IsReadyStore S.Store store.old memory.old
         → StoreTakes S.Store command.Gc store.old memory.old store.new memory.new result }
 {
-    let operation = memory.operation;
+    let operation = memory.operation.told();
     match &plan {
-        Plan::Begin { .. } | Plan::Leaf { .. } => match start(alloc, store, memory, &plan) {
+        Plan::Begin { .. } | Plan::Leaf { .. } | Plan::Live { .. } => match start(
+            alloc, store, memory, &plan,
+        ) {
             Ok(()) => Ok(Reply::Gc(plan, operation)),
             Err(CallFault::NoMemory) => Ok(Reply::No(Refusal::NoMemory)),
             Err(CallFault::Device) => Err(Failed),
@@ -102,7 +106,7 @@ fn collect<S: Store>(
     }
 }
 
-/// Begins to fold an image into its parent: a hidden one, or the leaf of a disk that is not attached. It alone takes memory.
+/// Begins to fold an image into its parent: a hidden one, or the leaf of a disk, attached or not. It alone takes memory.
 fn start<S: Store>(
     alloc: Global,
     store: &mut S,
@@ -124,6 +128,7 @@ fn start<S: Store>(
     match plan {
         Plan::Begin { child, parent, to } => begin(alloc, store, memory, child, parent, *to),
         Plan::Leaf { leaf, parent, to } => begin_leaf(alloc, store, memory, leaf, parent, *to),
+        Plan::Live { leaf, parent, to } => begin_live(alloc, store, memory, leaf, parent, *to),
         _ => unreachable!(),
     }
 }
@@ -160,7 +165,7 @@ fn work<S: Store>(
         Plan::Turn => turn(store, memory),
         Plan::RelinkOne { child } => relink_one(store, memory, &child),
         Plan::Finish => finish(store, memory),
-        Plan::Swap => swap(store, memory),
+        Plan::Swap => swap(store, memory, pool),
         Plan::Abandon => abandon(store, memory),
         _ => unreachable!(),
     }

@@ -1,4 +1,4 @@
-use Rattle.std.proofs.Common.{arith, ◌≡◌, true, IfOk, Err, inr, refl, sym, ap, ◌∙◌, subst}
+use Rattle.std.proofs.Common.{arith, ◌≡◌, true, IfOk, Err, inr, refl, sym, ap, ap₂, ◌∙◌, subst}
 use Rattle.std.proofs.lemmas.Bool.{true≢false}
 use Rattle.std.proofs.lemmas.Result.{err_from_is_err_and}
 use Rattle.sm_machine.specs.Collector.{IsLess, debt}
@@ -22,7 +22,7 @@ pub work-requires-clause-working : goal.work-requires-clause-working
 work-requires-clause-working g c = others_work c.args.plan c.in_default.not-Blocked c.in_default.not-Idle
 
 pub work-requires-clause-no_begin : goal.work-requires-clause-no_begin
-work-requires-clause-no_begin g c = others_spare c.args.plan c.in_default.not-Begin c.in_default.not-Leaf
+work-requires-clause-no_begin g c = others_spare c.args.plan c.in_default.not-Begin c.in_default.not-Leaf c.in_default.not-Live
 
 pub returns-in_err-work-in_default-clause-lowered : goal.returns-in_err-work-in_default-clause-lowered
 returns-in_err-work-in_default-clause-lowered g c =
@@ -53,7 +53,7 @@ pub returns-in_ok-work-in_default-clause-taken : goal.returns-in_ok-work-in_defa
 unfolding reply_to shape_in
 returns-in_ok-work-in_default-clause-taken g c = λ told ready.
     let here = is_told g.S.Store c.args.store.now c.args.memory.now c.requires.session.orderly c.requires.session.usable told ready (g.met.S.Store.leaves_now c.args.store.now told c.requires.session.usable) in
-    let replied = ap (λ q. reply.Gc q c.args.memory.now.operation) (sym c.requires.planned) in
+    let replied = ap₂ (λ q o. reply.Gc q o) (sym c.requires.planned) c.told-operation.ensures in
     does_ok here Gc c.work.new.memory (never_refused (store_shape g.S.Store c.args.store.now c.args.memory.now)) (c.work.ensures.done told ready)
     _ replied c.in_ok-work-in_default.was c.work.ensures.step.site (c.in_ok-work-in_default.ensures.shape told ready)
 
@@ -76,7 +76,7 @@ pub returns-in-Ok-clause-taken : goal.returns-in-Ok-clause-taken
 unfolding reply_to shape_in
 returns-in-Ok-clause-taken g c = λ told ready.
     let here = is_told g.S.Store c.args.store.now c.args.memory.now c.requires.session.orderly c.requires.session.usable told ready (g.met.S.Store.leaves_now c.args.store.now told c.requires.session.usable) in
-    let replied = ap (λ q. reply.Gc q c.args.memory.now.operation) (sym c.requires.planned) in
+    let replied = ap₂ (λ q o. reply.Gc q o) (sym c.requires.planned) c.told-operation.ensures in
     does_ok here Gc c.start.new.memory (never_refused (store_shape g.S.Store c.args.store.now c.args.memory.now)) (c.start.ensures.done told ready)
     _ replied c.in-Ok.is c.start.ensures.step.site c.in-Ok.ensures.shape
 
@@ -102,7 +102,7 @@ pub returns-in-Blocked-clause-taken : goal.returns-in-Blocked-clause-taken
 unfolding is_settling reply_to shape_in
 returns-in-Blocked-clause-taken g c = λ told ready.
     let σ = store_state g.S.Store c.args.store.now c.args.memory.now in
-    let replied = ap (λ q. reply.Gc q c.args.memory.now.operation) (sym c.requires.planned) in
+    let replied = ap₂ (λ q o. reply.Gc q o) (sym c.requires.planned) c.told-operation.ensures in
     let still = gc_rests σ c.requires.session.orderly.table.sequence (ap is_working c.requires.planned ∙ rests c.args.plan c.in-Blocked.is) in
     let here = is_told g.S.Store c.args.store.now c.args.memory.now c.requires.session.orderly c.requires.session.usable told ready (g.met.S.Store.leaves_now c.args.store.now told c.requires.session.usable) in
     taken_answered here Gc (inr (replied ∙ sym (gc_reply σ))) still refl

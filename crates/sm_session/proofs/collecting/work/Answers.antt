@@ -75,10 +75,6 @@ pub returns-in-Abandon-clause-lowered : goal.returns-in-Abandon-clause-lowered
 returns-in-Abandon-clause-lowered g c =
     work_lowers (store_shape g.S.Store c.args.store.now c.args.memory.now) _ c.requires.session.orderly.well_formed (ap is_working c.requires.planned ∙ c.requires.working) c.abandon.result c.abandon.ensures.shape
 
-pub returns-in-Swap-clause-lowered : goal.returns-in-Swap-clause-lowered
-returns-in-Swap-clause-lowered g c =
-    work_lowers (store_shape g.S.Store c.args.store.now c.args.memory.now) _ c.requires.session.orderly.well_formed (ap is_working c.requires.planned ∙ c.requires.working) c.swap.result c.swap.ensures.shape
-
 pub returns-in-Remove-clause-step : goal.returns-in-Remove-clause-step
 returns-in-Remove-clause-step g c = more_steps (omega arith) c.remove.ensures.step
 

@@ -55,7 +55,7 @@ pub returns-in_ok-detach-in-Detach-clause-taken : goal.returns-in_ok-detach-in-D
 unfolding reply_to
 returns-in_ok-detach-in-Detach-clause-taken g c = λ told ready.
     does_ok (is_told g.S.Store c.args.store.now c.args.memory.now c.requires.session.orderly c.requires.session.usable told ready (g.met.S.Store.leaves_now c.args.store.now told c.requires.session.usable)) c.args.command.now c.detach.new.memory c.requires.allowed (subst (λ k. StoreDoes g.S.Store k c.args.store.now c.args.memory.now c.detach.new.store c.detach.new.memory (c.detach.result ≡ Ok tt)) (sym c.in-Detach.is) (c.detach.ensures.done told ready))
-    _ (sym (ap (reply_to (store_state g.S.Store c.args.store.now c.args.memory.now).disks (store_state g.S.Store c.args.store.now c.args.memory.now).shape) c.in-Detach.is)) c.in_ok-detach-in-Detach.was c.detach.ensures.stays.site (subst (λ k. ShapesAs g.S.Store k c.args.store.now c.args.memory.now c.detach.new.store c.detach.new.memory) (sym c.in-Detach.is) c.in_ok-detach-in-Detach.ensures.shape)
+    _ (sym (ap (reply_to (store_state g.S.Store c.args.store.now c.args.memory.now).disks (store_state g.S.Store c.args.store.now c.args.memory.now).shape) c.in-Detach.is)) c.in_ok-detach-in-Detach.was c.detach.ensures.step.site (subst (λ k. ShapesAs g.S.Store k c.args.store.now c.args.memory.now c.detach.new.store c.detach.new.memory) (sym c.in-Detach.is) c.in_ok-detach-in-Detach.ensures.shape)
 
 pub returns-in_err-write-in-Write-clause-taken : goal.returns-in_err-write-in-Write-clause-taken
 returns-in_err-write-in-Write-clause-taken g c = λ told ready.
@@ -139,10 +139,12 @@ pub returns-in-Err-NoMemory-clause-session_still : goal.returns-in-Err-NoMemory-
 returns-in-Err-NoMemory-clause-session_still g c = let p = c.attach.ensures.poor (c.in-Err-NoMemory.is ∙ ap (λ f. Err f) c.in-Err-NoMemory.field-0-is) in between_poor c.args.memory.now c.attach.new.memory p.0 p.2 c.requires.session
 
 pub returns-in_err-detach-in-Detach-clause-step : goal.returns-in_err-detach-in-Detach-clause-step
-returns-in_err-detach-in-Detach-clause-step g c = steps_stay (most_commits c.args.command.now) (λ told usable t image. g.met.S.Store.leaves_now c.detach.new.store told usable t image) c.requires.session.usable c.detach.ensures.stays
+unfolding most_commits
+returns-in_err-detach-in-Detach-clause-step g c = steps_by c.args.command.now _ 1 c.in-Detach.is (omega arith) c.detach.ensures.step
 
 pub returns-in_ok-detach-in-Detach-clause-step : goal.returns-in_ok-detach-in-Detach-clause-step
-returns-in_ok-detach-in-Detach-clause-step g c = steps_stay (most_commits c.args.command.now) (λ told usable t image. g.met.S.Store.leaves_now c.detach.new.store told usable t image) c.requires.session.usable c.detach.ensures.stays
+unfolding most_commits
+returns-in_ok-detach-in-Detach-clause-step g c = steps_by c.args.command.now _ 1 c.in-Detach.is (omega arith) c.detach.ensures.step
 
 pub returns-in_err-write-in-Write-clause-step : goal.returns-in_err-write-in-Write-clause-step
 returns-in_err-write-in-Write-clause-step g c = steps_stay (most_commits c.args.command.now) (λ told usable t image. g.met.S.Store.leaves_now c.write.new.store told usable t image) c.requires.session.usable c.write.ensures.stays
