@@ -3,7 +3,7 @@ use Rattle.std.proofs.Common.{◌≡◌, ℕ, ◌+◌, ◌*◌, false, List, [],
 use Rattle.std.specs.List.{find, filter_map, sum, cons_option}
 use Rattle.sm_base.specs.Names.{name_cmp, spelling, uuid_text}
 use Rattle.sm_base.specs.declared.names.Name.TheVariants.{Vhd}
-use Rattle.sm_base.specs.declared.operations.Op.TheVariants.{Idle}
+use Rattle.sm_machine.specs.Operations.{Idle}
 use Rattle.uuid.specs.Text.{by_index}
 use Rattle.common_laws.specs.Lists.{numbers}
 use Rattle.sm_machine.specs.Disks.{Disk}

@@ -3,7 +3,7 @@ use Rattle.std.proofs.Common.{◌≡◌, ℕ, Bool, true, false, List, [], ◌�
 use Rattle.std.specs.List.{find, filter_map, sum, cons_option}
 use Rattle.sm_base.specs.declared.names.Name.{Name}
 use Rattle.sm_base.specs.declared.names.Name.TheVariants.{Mgt, Vhd, Old, Clone, Leaf}
-use Rattle.sm_base.specs.declared.operations.Op.TheVariants.{Idle}
+use Rattle.sm_machine.specs.Operations.{Idle}
 use Rattle.sm_machine.specs.Disks.{Disk}
 use Rattle.common_laws.specs.Lists.{numbers, insert_by}
 use Rattle.sm_machine.specs.Shapes.{Shape, ImageRow, with_image}

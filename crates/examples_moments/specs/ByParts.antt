@@ -14,7 +14,7 @@ use Rattle.std.specs.Prelude.{ℕ, ◌&&◌, not, nat_lt, Bool, false, List, [],
 use Rattle.std.specs.List.{filter, filter_map, list_any, sum}
 use Rattle.sm_base.specs.declared.names.Name.{Name}
 use Rattle.sm_base.specs.declared.names.Name.TheVariants.{Vhd, Old, Clone, Inflate, Coalesce, Relink, Leaf}
-use Rattle.sm_base.specs.declared.operations.Op.TheVariants.{Idle}
+use Rattle.sm_machine.specs.Operations.{Idle}
 use Rattle.vg_meta.specs.Tables.{Row, VolumeTable, name_eq}
 use Rattle.common_laws.specs.Lists.{when}
 use Rattle.sm_machine.specs.Shapes.{Shape, ImageRow, risen, same_image, with_image}

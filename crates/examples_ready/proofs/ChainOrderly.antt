@@ -4,8 +4,7 @@ use Rattle.std.proofs.lemmas.Option.{none-some}
 use Rattle.sm_base.specs.Names.{name_cmp, spelling, uuid_text, base_uuid}
 use Rattle.sm_base.specs.Numbers.{first as first_sector, div_up}
 use Rattle.sm_base.specs.declared.names.Name.{Name}
-use Rattle.sm_base.specs.declared.operations.Op.{Op}
-use Rattle.sm_base.specs.declared.operations.Op.TheVariants.{Idle}
+use Rattle.sm_machine.specs.Operations.{Op, Idle}
 use Rattle.sm_base.specs.declared.names.Name.TheVariants.{Vhd}
 use Rattle.uuid.specs.Text.{by_index}
 use Rattle.common_laws.specs.Lists.{In, numbers, insert_by}

@@ -3,7 +3,7 @@
 use Rattle.std.proofs.Common.{◌≡◌, ◌≢◌, ℕ, ◌+◌, ◌*◌, ◌≤◌, true, List, [], ◌∷◌, get_or, Option, Some, refl, sym, ap, ◌∙◌, arith}
 use Rattle.std.proofs.lemmas.Option.{same_Some}
 use Rattle.sm_base.specs.declared.names.Name.{Name}
-use Rattle.sm_base.specs.declared.operations.Op.{Op}
+use Rattle.sm_machine.specs.Operations.{Op}
 use Rattle.vg_meta.specs.Tables.{VolumeTable}
 use Rattle.examples_moments.proofs.WorkedDisks.{filled_held, top_held}
 use Rattle.sm_base.specs.declared.names.Name.TheVariants.{Mgt, Vhd, Coalesce, Relink}
@@ -110,23 +110,23 @@ module _ (entry : Name) (none : making (chain_table entry) ≡ []) (byte : ℕ) 
       (λ s low. area_first below_image disk_image between_image recorded (32 * 16 + s) s refl low) (top_valid byte)
 
   -- where it is not the hidden image's, the base does not hold alike what that holds
-  pub not_held_below : byte ≢ 34 → (cursor : ℕ) → 1 ≤ cursor → ¬ IsHeldBelow (content_now site t held_area) (Vhd second) (Vhd base) cursor
+  pub not_held_below : byte ≢ 34 → (cursor : ℕ) → 1 ≤ cursor → ¬ IsHeldBelow (content_now site t held_area) (Vhd second) (Vhd base) cursor []
   not_held_below other cursor some h =
       let child = same_Some h.child (filled 34) (sym h.image ∙ between_there) in
       let parent = same_Some h.parent (top byte) (sym h.under ∙ base_there) in
-      let held = h.held 0 (sector_of 34) (omega (arith, some)) (ap (λ i. i.own 0) child ∙ filled_held) in
+      let held = h.held 0 (sector_of 34) (omega (arith, some)) refl (ap (λ i. i.own 0) child ∙ filled_held) in
       let same = same_Some (sector_of byte) (sector_of 34) (sym (top_held byte) ∙ ap (λ i. i.own 0) (sym parent) ∙ held) in
       other (ap (λ (s : List ℕ). get_or s 0 0) same)
 
 -- where it is, the base does, below any cursor
-pub held_below : (entry : Name) (cursor : ℕ) → making (chain_table entry) ≡ [] → IsHeldBelow (content_now site (chain_table entry) chain_area) (Vhd second) (Vhd base) cursor
+pub held_below : (entry : Name) (cursor : ℕ) → making (chain_table entry) ≡ [] → IsHeldBelow (content_now site (chain_table entry) chain_area) (Vhd second) (Vhd base) cursor []
 held_below entry cursor none = record {
   child = filled 34;
   parent = top 34;
   image = between_there entry none 34;
   under = base_there entry none 34;
   size = top_size 34 ∙ sym (filled_size 34);
-  held = λ k bytes below has. ap (λ (own : ℕ → Option (List ℕ)). own k) (held_alike 34) ∙ has;
+  held = λ k bytes below clean has. ap (λ (own : ℕ → Option (List ℕ)). own k) (held_alike 34) ∙ has;
 }
 
 -- ---- a copy, and a link after it

@@ -6,7 +6,7 @@ use Rattle.sm_base.specs.Kinds.{is_image}
 use Rattle.sm_base.specs.Names.{IsName, name_cmp, spelling, uuid_text}
 use Rattle.sm_base.specs.Numbers.{thin, first as first_sector, div_up}
 use Rattle.sm_base.specs.declared.names.Name.{Name}
-use Rattle.sm_base.specs.declared.names.Name.TheVariants.{Mgt, Raw, Vhd, Old, Clone, Inflate, Coalesce, Relink, Leaf}
+use Rattle.sm_base.specs.declared.names.Name.TheVariants.{Mgt, Raw, Vhd, Old, Cbt, Clone, Inflate, Coalesce, Relink, Leaf}
 use Rattle.uuid.specs.Text.{by_index}
 use Rattle.common_laws.specs.Lists.{In, numbers}
 use Rattle.vg_meta.specs.Tables.{IsTable, rows, row_of, name_eq}
@@ -45,6 +45,7 @@ copy_faces Mgt h = absurd (let e = h in cc)
 copy_faces (Vhd u) h = face_step (bytes_eq first u) _ _ _ _ refl (face_step (bytes_eq second u) _ _ _ _ refl (face_step (bytes_eq base u) _ _ None None refl refl))
 copy_faces (Raw u) h = refl
 copy_faces (Old u) h = refl
+copy_faces (Cbt u) h = refl
 copy_faces (Clone a b c) h = absurd (let e = h in cc)
 copy_faces (Inflate a n) h = absurd (let e = h in cc)
 copy_faces (Coalesce a b) h = absurd (let e = h in cc)

@@ -9,7 +9,7 @@ use Rattle.sm_base.specs.Kinds.{is_image}
 use Rattle.sm_base.specs.Names.{IsName, IsUuid, is_base, name_cmp, spelling, uuid_text}
 use Rattle.sm_base.specs.Numbers.{div_up}
 use Rattle.sm_base.specs.declared.names.Name.{Name}
-use Rattle.sm_base.specs.declared.names.Name.TheVariants.{Mgt, Raw, Vhd, Old, Clone, Inflate, Coalesce, Relink, Leaf}
+use Rattle.sm_base.specs.declared.names.Name.TheVariants.{Mgt, Raw, Vhd, Old, Cbt, Clone, Inflate, Coalesce, Relink, Leaf}
 use Rattle.uuid.specs.Text.{by_index}
 use Rattle.vg_layout.specs.Places.{record_extents}
 use Rattle.vg_meta.specs.Tables.{IsTable, IsVolume, Row, extents_in, suits, names_of, rows, row_of, name_eq}
@@ -123,6 +123,7 @@ crowd_faces Mgt h = absurd (let e = h in cc)
 crowd_faces (Vhd u) h = face_step (bytes_eq first u) _ _ (row_of (crowd 499) (Vhd u)) None first_face (news_none 256 499 (Vhd u))
 crowd_faces (Raw u) h = face_step (bytes_eq second u) _ _ (row_of (crowd 499) (Raw u)) None refl (news_none 256 499 (Raw u))
 crowd_faces (Old u) h = news_none 256 499 (Old u)
+crowd_faces (Cbt u) h = news_none 256 499 (Cbt u)
 crowd_faces (Clone a b c) h = absurd (let e = h in cc)
 crowd_faces (Inflate a n) h = absurd (let e = h in cc)
 crowd_faces (Coalesce a b) h = absurd (let e = h in cc)

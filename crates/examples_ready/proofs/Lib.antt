@@ -11,6 +11,8 @@ pub mod CopyOrderly
 pub mod LinkOrderly
 pub mod PairReady
 pub mod ChainReady
+pub mod LiveOrderly
+pub mod LiveReady
 pub mod TableFails
 pub mod MemoryFails
 pub mod SectorFails

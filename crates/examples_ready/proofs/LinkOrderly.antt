@@ -5,7 +5,7 @@ use Rattle.sm_base.specs.Kinds.{is_image}
 use Rattle.sm_base.specs.Names.{IsName, name_cmp, spelling, uuid_text}
 use Rattle.sm_base.specs.Numbers.{div_up}
 use Rattle.sm_base.specs.declared.names.Name.{Name}
-use Rattle.sm_base.specs.declared.names.Name.TheVariants.{Mgt, Raw, Vhd, Old, Clone, Inflate, Coalesce, Relink, Leaf}
+use Rattle.sm_base.specs.declared.names.Name.TheVariants.{Mgt, Raw, Vhd, Old, Cbt, Clone, Inflate, Coalesce, Relink, Leaf}
 use Rattle.uuid.specs.Text.{by_index}
 use Rattle.common_laws.specs.Lists.{numbers}
 use Rattle.vg_meta.specs.Tables.{IsTable, rows, row_of, name_eq}
@@ -48,6 +48,7 @@ link_faces Mgt h = absurd (let e = h in cc)
 link_faces (Vhd u) h = copy_faces (Vhd u) h
 link_faces (Raw u) h = copy_faces (Raw u) h
 link_faces (Old u) h = copy_faces (Old u) h
+link_faces (Cbt u) h = copy_faces (Cbt u) h
 link_faces (Clone a b c) h = absurd (let e = h in cc)
 link_faces (Inflate a n) h = absurd (let e = h in cc)
 link_faces (Coalesce a b) h = absurd (let e = h in cc)

@@ -11,7 +11,7 @@ use Rattle.std.specs.List.Sorted.{IsStrictlySortedBy}
 use Rattle.uuid.specs.Text.{by_index}
 use Rattle.sm_base.specs.Numbers.{first as first_sector, div_up}
 use Rattle.sm_base.specs.declared.names.Name.{Name}
-use Rattle.sm_base.specs.declared.names.Name.TheVariants.{Mgt, Raw, Vhd, Old, Clone, Inflate, Coalesce, Relink, Leaf}
+use Rattle.sm_base.specs.declared.names.Name.TheVariants.{Mgt, Raw, Vhd, Old, Cbt, Clone, Inflate, Coalesce, Relink, Leaf}
 use Rattle.sm_base.specs.Kinds.{is_image}
 use Rattle.sm_machine.specs.Shapes.{DiskRecord, chain, image_uuid, refs, same_image}
 use Rattle.sm_machine.specs.Steps.{with_record}
@@ -87,6 +87,7 @@ entryless_faces Mgt h = absurd (let e = h in cc)
 entryless_faces (Vhd u) h = face_step (bytes_eq first u) _ _ _ _ refl (face_step (bytes_eq second u) _ _ _ _ refl (face_step (bytes_eq base u) _ _ None None refl refl))
 entryless_faces (Raw u) h = refl
 entryless_faces (Old u) h = refl
+entryless_faces (Cbt u) h = refl
 entryless_faces (Clone a b c) h = absurd (let e = h in cc)
 entryless_faces (Inflate a n) h = absurd (let e = h in cc)
 entryless_faces (Coalesce a b) h = absurd (let e = h in cc)

@@ -8,7 +8,7 @@ use Rattle.sm_base.specs.Kinds.{is_image}
 use Rattle.sm_base.specs.Names.{IsName, name_cmp, spelling, uuid_text, base_uuid}
 use Rattle.sm_base.specs.Numbers.{thick, thin, first as first_sector, div_up}
 use Rattle.sm_base.specs.declared.names.Name.{Name}
-use Rattle.sm_base.specs.declared.names.Name.TheVariants.{Mgt, Raw, Vhd, Old, Clone, Inflate, Coalesce, Relink, Leaf}
+use Rattle.sm_base.specs.declared.names.Name.TheVariants.{Mgt, Raw, Vhd, Old, Cbt, Clone, Inflate, Coalesce, Relink, Leaf}
 use Rattle.uuid.specs.Text.{by_index}
 use Rattle.common_laws.specs.Lists.{In, numbers, insert_by}
 use Rattle.vg_meta.specs.Tables.{IsTable, Row, rows, row_of, name_eq}
@@ -62,6 +62,7 @@ plain_faces slots Mgt h = absurd (let e = h in cc)
 plain_faces slots (Vhd u) h = face_step (bytes_eq first u) _ _ None None refl refl
 plain_faces slots (Raw u) h = face_step (bytes_eq second u) _ _ None None refl refl
 plain_faces slots (Old u) h = refl
+plain_faces slots (Cbt u) h = refl
 plain_faces slots (Clone a b c) h = absurd (let e = h in cc)
 plain_faces slots (Inflate a n) h = absurd (let e = h in cc)
 plain_faces slots (Coalesce a b) h = absurd (let e = h in cc)

@@ -6,7 +6,7 @@ use Rattle.sm_base.specs.Kinds.{is_image}
 use Rattle.sm_base.specs.Names.{IsName, name_cmp, spelling, uuid_text}
 use Rattle.sm_base.specs.Numbers.{thin, first as first_sector, div_up}
 use Rattle.sm_base.specs.declared.names.Name.{Name}
-use Rattle.sm_base.specs.declared.names.Name.TheVariants.{Mgt, Raw, Vhd, Old, Clone, Inflate, Coalesce, Relink, Leaf}
+use Rattle.sm_base.specs.declared.names.Name.TheVariants.{Mgt, Raw, Vhd, Old, Cbt, Clone, Inflate, Coalesce, Relink, Leaf}
 use Rattle.sm_machine.specs.Collector.{count_either}
 use Rattle.sm_machine.specs.Shapes.{count_blocks, image_uuid, is_vhd, refs, top}
 use Rattle.sm_machine.specs.WellFormed.{IsWellFormed}
@@ -49,6 +49,7 @@ tight_faces Mgt h = absurd (let e = h in cc)
 tight_faces (Vhd u) h = face_step (bytes_eq first u) _ _ _ _ refl (face_step (bytes_eq second u) _ _ _ _ refl (face_step (bytes_eq base u) _ _ None None refl refl))
 tight_faces (Raw u) h = refl
 tight_faces (Old u) h = refl
+tight_faces (Cbt u) h = refl
 tight_faces (Clone a b c) h = absurd (let e = h in cc)
 tight_faces (Inflate a n) h = absurd (let e = h in cc)
 tight_faces (Coalesce a b) h = absurd (let e = h in cc)

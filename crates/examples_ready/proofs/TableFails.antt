@@ -7,7 +7,7 @@ use Rattle.sm_base.specs.Kinds.{is_image}
 use Rattle.sm_base.specs.Names.{IsName, IsUuid, name_cmp, spelling, uuid_text, is_base}
 use Rattle.sm_base.specs.Numbers.{div_up}
 use Rattle.sm_base.specs.declared.names.Name.{Name}
-use Rattle.sm_base.specs.declared.names.Name.TheVariants.{Mgt, Raw, Vhd, Old, Clone, Inflate, Coalesce, Relink, Leaf}
+use Rattle.sm_base.specs.declared.names.Name.TheVariants.{Mgt, Raw, Vhd, Old, Cbt, Clone, Inflate, Coalesce, Relink, Leaf}
 use Rattle.uuid.specs.Text.{by_index}
 use Rattle.common_laws.specs.Lists.{In, numbers}
 use Rattle.vg_layout.specs.Places.{record_extents}
@@ -36,6 +36,7 @@ shared_faces Mgt h = absurd (let e = h in cc)
 shared_faces (Vhd u) h = face_step (bytes_eq first u) _ _ _ _ refl (face_step (bytes_eq second u) _ _ _ _ refl (face_step (bytes_eq base u) _ _ None None refl refl))
 shared_faces (Raw u) h = refl
 shared_faces (Old u) h = refl
+shared_faces (Cbt u) h = refl
 shared_faces (Clone a b c) h = absurd (let e = h in cc)
 shared_faces (Inflate a n) h = absurd (let e = h in cc)
 shared_faces (Coalesce a b) h = absurd (let e = h in cc)
@@ -88,6 +89,7 @@ short_faces Mgt h = absurd (let e = h in cc)
 short_faces (Vhd u) h = face_step (bytes_eq first u) _ _ None None refl refl
 short_faces (Raw u) h = face_step (bytes_eq second u) _ _ None None refl refl
 short_faces (Old u) h = refl
+short_faces (Cbt u) h = refl
 short_faces (Clone a b c) h = absurd (let e = h in cc)
 short_faces (Inflate a n) h = absurd (let e = h in cc)
 short_faces (Coalesce a b) h = absurd (let e = h in cc)
@@ -184,6 +186,7 @@ twin_faces Mgt h = absurd (let e = h in cc)
 twin_faces (Vhd u) h = face_step (bytes_eq first u) _ _ _ None refl (new_face (bytes_eq second u) _ refl)
 twin_faces (Raw u) h = face_step (bytes_eq second u) _ _ None None refl refl
 twin_faces (Old u) h = refl
+twin_faces (Cbt u) h = refl
 twin_faces (Clone a b c) h = absurd (let e = h in cc)
 twin_faces (Inflate a n) h = absurd (let e = h in cc)
 twin_faces (Coalesce a b) h = absurd (let e = h in cc)
@@ -234,6 +237,7 @@ begun_faces Mgt h = absurd (let e = h in cc)
 begun_faces (Vhd u) h = face_step (bytes_eq first u) _ _ _ None refl (new_face (bytes_eq third u) _ refl)
 begun_faces (Raw u) h = face_step (bytes_eq second u) _ _ None None refl refl
 begun_faces (Old u) h = refl
+begun_faces (Cbt u) h = refl
 begun_faces (Clone a b c) h = absurd (let e = h in cc)
 begun_faces (Inflate a n) h = absurd (let e = h in cc)
 begun_faces (Coalesce a b) h = absurd (let e = h in cc)

@@ -1,12 +1,11 @@
--- Five worked repositories, each with its table, its memory, its sectors and the machine's shape of it: two disks by
--- themselves; a disk and its snapshot over their base; a copy that is under way; a link after it; and a disk that a guest
--- writes to. Images lie behind the records, which have extents 0 to 15.
+-- Six worked repositories, each with its table, its memory, its sectors and the machine's shape of it: two disks by
+-- themselves; a disk and its snapshot over their base; a copy that is under way; a link after it; a disk that a guest
+-- writes to; and the fold of the leaf of an attached disk. Images lie behind the records, which have extents 0 to 15.
 use Rattle.std.specs.Prelude.{ℕ, ◌==◌, true, false, List, [], ◌∷◌, replicate, codes, Option, Some, None, if◌then◌else◌}
 use Rattle.sm_base.specs.declared.names.Name.{Name}
 use Rattle.sm_base.specs.declared.names.Name.TheVariants as name
 use Rattle.sm_base.specs.declared.names.Name.TheVariants.{Raw, Vhd, Coalesce}
-use Rattle.sm_base.specs.declared.operations.Op.{Op}
-use Rattle.sm_base.specs.declared.operations.Op.TheVariants.{Idle, Copy, Relink}
+use Rattle.sm_machine.specs.Operations.{Op, Idle, Copy, Relink, Live}
 use Rattle.sm_base.specs.declared.operations.Mode.TheVariants.{Rw}
 use Rattle.common_laws.specs.Lists.{numbers}
 use Rattle.sm_disk.specs.Held.{Held}
@@ -204,3 +203,30 @@ written_area = record { floor = plain_image; pending = λ p. if p == 517 then se
 
 abbrev pub written_shape : Shape
 written_shape = let s = plain_shape in record s { attached = record { disk = first; mode = Rw } ∷ [] }
+
+-- ---- a live folding: the image of a disk that is attached for writing is folded into the hidden base under it. Block 0 was copied, of byte
+-- 17, and then the guest wrote byte 34 to it: so it is dirty
+
+abbrev pub live : List ℕ → Op
+live dirty = Live (Vhd first) (Vhd base) 1 dirty
+
+-- memory with these blocks as the dirty ones
+abbrev pub live_known : List ℕ → Known
+live_known dirty = record {
+  rows = vhd_row false (head_over (Vhd base) first) first_slot ∷ vhd_row true (top_head base) first_slot ∷ [];
+  places = Some first_record ∷ replicate 511 None;
+  attached = record { disks = (first, Rw) ∷ []; counts = (Vhd first, 1) ∷ (Vhd base, 1) ∷ []; room = 2 };
+  op = live dirty;
+}
+
+abbrev pub live_area : Held
+live_area = at_rest (area_of (top_image 17) (filled_child (Vhd base) 34) empty (first_record ∷ []))
+
+abbrev pub live_shape : List ℕ → Shape
+live_shape dirty =
+    let s = shape_with
+    (record_of first_record ∷ [])
+    (record { name = Vhd first; hidden = false; parent = Some (Vhd base); size = 128; slots = first_slot; extents = 5 }
+    ∷ record { name = Vhd base; hidden = true; parent = None; size = 128; slots = first_slot; extents = 5 }
+    ∷ []) in
+    record s { attached = record { disk = first; mode = Rw } ∷ []; op = live dirty }

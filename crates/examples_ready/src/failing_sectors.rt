@@ -1,6 +1,6 @@
 //! Memory and sectors that fail one field of the invariant of the sectors.
 
-ghost use Rattle.std.specs.Prelude.{◌≡◌, ◌*◌, false};
+ghost use Rattle.std.specs.Prelude.{◌≡◌, ◌*◌, false, []};
 ghost use Rattle.common_laws.specs.Lists.{In};
 ghost use Rattle.sm_mgt.specs.Places.{Agrees, records_held};
 ghost use Rattle.vg_volumes.specs.Sites.{volume_of};
@@ -12,9 +12,10 @@ ghost use Rattle.sm_ready.specs.Known.{shape_in};
 ghost use Rattle.sm_ready.specs.Orderly.{IsOrderly};
 ghost use Rattle.sm_ready.specs.Ready.{IsBelow, IsReady, is_written_in};
 ghost use Rattle.sm_ready.specs.Stores.{content_now};
+ghost use Rattle.examples_moments.specs.Worked.{leaf_copied};
 ghost use Rattle.examples_ready.specs.FailingMemory.{forgotten_known, relabelled_known};
 ghost use Rattle.examples_ready.specs.FailingSectors.{uncopied_area, unsynced_area};
-ghost use Rattle.examples_ready.specs.Repositories.{copy, copy_table, copy_known, link, link_table, link_known, plain_table, plain_known, plain_area, written_area};
+ghost use Rattle.examples_ready.specs.Repositories.{copy, copy_table, copy_known, link, link_table, link_known, live, live_known, live_area, plain_table, plain_known, plain_area, written_area};
 ghost use Rattle.examples_ready.specs.WorkedRows.{site, sizes};
 
 /// The volume names a slot that memory does not.
@@ -41,6 +42,13 @@ pub fn example_unheld()
     ensures orderly { IsOrderly site link_table link_known }
     ensures fails { ¬ IsReady site link_table uncopied_area link_known }
     ensures only { IsBelow (content_now site link_table uncopied_area) link → IsReady site link_table uncopied_area link_known }
+{}
+
+/// The guest wrote to a block behind the cursor of a live folding, and the block is not among the dirty ones.
+pub fn example_unmarked()
+    ensures orderly { IsOrderly site leaf_copied (live_known []) }
+    ensures fails { ¬ IsReady site leaf_copied live_area (live_known []) }
+    ensures only { IsBelow (content_now site leaf_copied live_area) (live []) → IsReady site leaf_copied live_area (live_known []) }
 {}
 
 /// Memory has a label that was not written.

@@ -1,7 +1,7 @@
 -- Scripts with their replies, each on a new repository of 64 extents of 16 KiB, of which the volume of records has 16,
 -- with blocks of 4 KiB and tables of 64 entries.
 use Rattle.std.specs.Prelude.{◌≡◌, ℕ, zero, suc, List, [], ◌∷◌, ◌++◌, map}
-use Rattle.sm_base.specs.declared.operations.Op.TheVariants as op
+use Rattle.sm_machine.specs.Operations as op
 use Rattle.sm_machine.specs.Replies.{printed}
 use Rattle.sm_machine.specs.Steps.{State, Outcome, step_line}
 

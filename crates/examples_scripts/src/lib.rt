@@ -15,7 +15,7 @@ ghost use Rattle.examples_scripts.specs.RawDisks.{raw_disks};
 ghost use Rattle.examples_scripts.specs.Disks.{empty, grown, one_disk, order, refused, reserved, sizes, spent};
 ghost use Rattle.examples_scripts.specs.Crowds.{crowded_from, crowded};
 ghost use Rattle.examples_scripts.specs.Guests.{attached_grows, fork_room, snapshot_of_attached, guest_writes, shared_base, no_room, raw_base};
-ghost use Rattle.examples_scripts.specs.Collecting.{coalesce, given_up, fold, blocked};
+ghost use Rattle.examples_scripts.specs.Collecting.{coalesce, given_up, fold, live, live_many, live_new_block, live_given_up, blocked};
 ghost use Rattle.examples_scripts.specs.Scripts.{IsAnswered, after, new, spent_from};
 
 /// Raw disks, and refusals by name, room and size.
@@ -101,6 +101,26 @@ pub fn script_given_up()
 /// A leaf is folded into its base, given up once by an attachment.
 pub fn script_fold()
     ensures replies { IsAnswered new fold }
+{}
+
+/// The leaf of an attached disk is folded while its guest writes.
+pub fn script_live()
+    ensures replies { IsAnswered new live }
+{}
+
+/// More blocks are written to again than may be dirty.
+pub fn script_live_many()
+    ensures replies { IsAnswered new live_many }
+{}
+
+/// A block that neither image had is written to behind the cursor of the folding of an attached disk's leaf.
+pub fn script_live_new_block()
+    ensures replies { IsAnswered new live_new_block }
+{}
+
+/// The folding of an attached disk's leaf is given up as the disk grows, and once more as it is detached.
+pub fn script_live_given_up()
+    ensures replies { IsAnswered new live_given_up }
 {}
 
 /// The room for a fold comes when a disk goes.

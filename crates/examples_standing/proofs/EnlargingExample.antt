@@ -4,7 +4,7 @@ use Rattle.std.specs.Str.{bytes_eq}
 use Rattle.std.proofs.lemmas.Bool.{true≢false}
 use Rattle.std.proofs.lemmas.Option.{none-some, same_Some}
 use Rattle.sm_base.specs.declared.names.Name.{Name}
-use Rattle.sm_base.specs.declared.names.Name.TheVariants.{Mgt, Vhd, Raw, Old, Clone, Inflate, Coalesce, Relink, Leaf}
+use Rattle.sm_base.specs.declared.names.Name.TheVariants.{Mgt, Vhd, Raw, Old, Cbt, Clone, Inflate, Coalesce, Relink, Leaf}
 use Rattle.vg_meta.specs.Tables.{Row, rows, row_of, name_eq}
 use Rattle.common_laws.specs.Lists.{In}
 use Rattle.sm_standing.specs.Apart.{is_apart}
@@ -60,6 +60,7 @@ rows_alike Mgt apart = refl
 rows_alike (Vhd v) apart = ap (λ b. cond b (Some (sized_row false (Vhd one) (16 ∷ 17 ∷ 18 ∷ []))) None) (other_name v apart) ∙ sym (ap (λ b. cond b (Some (sized_row false (Vhd one) (16 ∷ []))) None) (other_name v apart))
 rows_alike (Raw v) apart = refl
 rows_alike (Old v) apart = refl
+rows_alike (Cbt v) apart = refl
 rows_alike (Clone x y z) apart = refl
 rows_alike (Inflate v k) apart = ap (λ b. cond (b && (1 == k)) (Some (sized_row false (Inflate one 1) [])) None) (other_name v apart)
 rows_alike (Coalesce x y) apart = refl
@@ -96,6 +97,7 @@ thin_beside = record {
     no_parent Mgt p i apart is linked = absurd (none-some i is)
     no_parent (Raw v) p i apart is linked = absurd (none-some i is)
     no_parent (Old v) p i apart is linked = absurd (none-some i is)
+    no_parent (Cbt v) p i apart is linked = absurd (none-some i is)
     no_parent (Clone x y z) p i apart is linked = absurd (none-some i is)
     no_parent (Inflate v k) p i apart is linked = absurd (none-some i is)
     no_parent (Coalesce x y) p i apart is linked = absurd (none-some i is)

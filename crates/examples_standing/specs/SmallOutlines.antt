@@ -3,7 +3,7 @@
 -- linked to it.
 use Rattle.std.specs.Prelude.{ℕ, Bool, ◌==◌, false, true, bytes_eq, List, [], ◌∷◌, ◌++◌, map, Option, None, Some, if◌then◌else◌}
 use Rattle.sm_base.specs.declared.names.Name.{Name}
-use Rattle.sm_base.specs.declared.names.Name.TheVariants.{Mgt, Vhd, Raw, Old, Clone, Inflate, Coalesce, Relink, Leaf}
+use Rattle.sm_base.specs.declared.names.Name.TheVariants.{Mgt, Vhd, Raw, Old, Cbt, Clone, Inflate, Coalesce, Relink, Leaf}
 use Rattle.vg_meta.specs.Tables.{Row, VolumeTable}
 use Rattle.sm_record.specs.declared.records.Reading.{Reading}
 use Rattle.sm_record.specs.declared.records.Reading.TheVariants.{Free, Taken}
@@ -19,6 +19,7 @@ thin_links (Vhd u) = Some (record { size = 32; parent = None })
 thin_links Mgt = None
 thin_links (Raw u) = None
 thin_links (Old u) = None
+thin_links (Cbt u) = None
 thin_links (Clone disk base twin) = None
 thin_links (Inflate image extents) = None
 thin_links (Coalesce child into) = None
@@ -57,6 +58,7 @@ mixed_links parent (Vhd u) = Some (record { size = 32; parent = parent })
 mixed_links parent (Raw u) = Some (record { size = 32; parent = None })
 mixed_links parent Mgt = None
 mixed_links parent (Old u) = None
+mixed_links parent (Cbt u) = None
 mixed_links parent (Clone disk base twin) = None
 mixed_links parent (Inflate image extents) = None
 mixed_links parent (Coalesce child into) = None
@@ -83,6 +85,7 @@ forking_links parent (Vhd u) = if bytes_eq u two then Some (record { size = 32; 
 forking_links parent Mgt = None
 forking_links parent (Raw u) = None
 forking_links parent (Old u) = None
+forking_links parent (Cbt u) = None
 forking_links parent (Clone disk base twin) = None
 forking_links parent (Inflate image extents) = None
 forking_links parent (Coalesce child into) = None
@@ -106,6 +109,7 @@ folding_links parent size (Vhd u) = if bytes_eq u one then Some (record { size =
 folding_links parent size Mgt = None
 folding_links parent size (Raw u) = None
 folding_links parent size (Old u) = None
+folding_links parent size (Cbt u) = None
 folding_links parent size (Clone disk base twin) = None
 folding_links parent size (Inflate image extents) = None
 folding_links parent size (Coalesce child into) = None
