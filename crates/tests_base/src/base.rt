@@ -35,6 +35,7 @@ fn names(rt: HostRuntime) -> Result<(), Fail> {
         (Name::Vhd(disk), "VHD-11111111-2222-4333-8444-555555555555"),
         (Name::Raw(twin), "LV-01234567-89ab-4cde-8f01-23456789abcd"),
         (Name::Old(base), "OLD_6c766864-0000-8000-8000-00000000000a"),
+        (Name::Cbt(twin), "CBT-01234567-89ab-4cde-8f01-23456789abcd"),
         (
             Name::Clone { disk, base, twin },
             "clone_11111111-2222-4333-8444-555555555555_6c766864-0000-8000-8000-00000000000a_01234567-89ab-4cde-8f01-23456789abcd",

@@ -392,6 +392,15 @@ fn folding() -> Op {
     }
 }
 
+fn living() -> Op {
+    Op::Live {
+        leaf: leaf(),
+        parent: parent(),
+        cursor: 5,
+        dirty: 2,
+    }
+}
+
 #[test]
 fn steps_of_the_collector(rt: HostRuntime) -> Result<(), Fail> {
     let rows = [
@@ -462,6 +471,20 @@ fn steps_of_the_collector(rt: HostRuntime) -> Result<(), Fail> {
             },
             Op::Idle,
             "ok gc leaf VHD-11111111-1111-1111-1111-111111111111\n",
+        ),
+        (
+            Plan::Live {
+                leaf: leaf(),
+                parent: parent(),
+                to: 4,
+            },
+            Op::Idle,
+            "ok gc live VHD-11111111-1111-1111-1111-111111111111\n",
+        ),
+        (
+            Plan::Swap,
+            living(),
+            "ok gc swap VHD-11111111-1111-1111-1111-111111111111\n",
         ),
         (
             Plan::Blocked { need: 9, free: 8 },
@@ -597,6 +620,15 @@ fn images_and_room(rt: HostRuntime) -> Result<(), Fail> {
                 cursor: 7,
             },
             "ok seq 281474976710655 free 5 op copy,MGT,MGT,7 images 0\n",
+        ),
+        (
+            Op::Live {
+                leaf: Name::Vhd(second()),
+                parent: Name::Mgt,
+                cursor: 7,
+                dirty: 3,
+            },
+            "ok seq 281474976710655 free 5 op live,VHD-abababab-abab-abab-abab-abababababab,MGT,7,3 images 0\n",
         ),
     ];
     for (op, text) in rows {

@@ -53,6 +53,7 @@ fn is_parent(name: &Name) -> bool
         Name::Vhd(_) | Name::Raw(_) => is_name(name),
         Name::Mgt
         | Name::Old(_)
+        | Name::Cbt(_)
         | Name::Clone { .. }
         | Name::Inflate { .. }
         | Name::Coalesce { .. }

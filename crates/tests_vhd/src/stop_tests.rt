@@ -24,9 +24,9 @@ const EXTENTS: [u32; 19] = [
 const IMAGE_CALLS: u64 = 4;
 
 /// The calls of the write: it reads the bitmaps of the first two blocks, of which the second lacks bits; writes the bytes of
-/// three blocks, and the bitmap of the third, which is new; syncs; reads three bitmaps, writes the one that lacks bits, and one
-/// sector of the table.
-const WRITE_CALLS: u64 = 12;
+/// three blocks, and the bitmap of the third, which is new; syncs; reads the first two bitmaps again, writes the one that lacks bits, and
+/// one sector of the table.
+const WRITE_CALLS: u64 = 11;
 
 /// What the image holds of a sector before the write: of block 1 all sectors, of block 2 three.
 fn earlier(at: u64) -> Option<[u8; 512]> {
