@@ -159,3 +159,16 @@ impl Device {
         Ok(device)
     }
 }
+
+/// Whether two devices have the same sectors.
+pub fn same_sectors(alloc: Global, one: &mut Device, other: &mut Device) -> Result<bool, Wrong> {
+    if one.sectors() != other.sectors() {
+        return Ok(false);
+    }
+    for at in 0..one.sectors() {
+        if one.read(alloc, at)? != other.read(alloc, at)? {
+            return Ok(false);
+        }
+    }
+    Ok(true)
+}

@@ -15,6 +15,6 @@ mod groups;
 mod sectors;
 
 pub use book::{Book, Disk};
-pub use devices::{Choice, Device};
+pub use devices::{Choice, Device, same_sectors};
 pub use groups::committed;
 pub use sectors::{has, set};

@@ -1,7 +1,6 @@
 //! How many calls of the device a script makes.
 
-use crate::bench::{Bench, answered};
-use case_runs::{Tester, are_calls, calls_within};
+use case_runs::{Bench, Tester, answered, are_calls, calls_within};
 use case_text::{Cost, Part, Step};
 use case_words::{Wrong, found};
 

@@ -1,9 +1,9 @@
 //! Cases, each worked from its beginning, and what is said of each.
 
-use crate::bench::{Bench, perform};
-use crate::faults::each;
+use crate::acts::perform;
 use case_device::Device;
-use case_runs::{Tester, count};
+use case_faults::with_faults;
+use case_runs::{Bench, Tester, count};
 use case_text::{Act, File, Head, Kind};
 use case_words::Wrong;
 use std::alloc::{AllocError, Global};
@@ -26,7 +26,7 @@ fn work_on<'a>(
         let (done, is_over) = match entry.act {
             Act::Try(words) => {
                 let rest = file.behind(head, index);
-                (each(tester, bench, file, entry, rest, words), true)
+                (with_faults(tester, bench, file, entry, rest, words), true)
             }
             _ => (perform(tester, bench, file, entry), false),
         };

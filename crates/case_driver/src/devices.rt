@@ -1,6 +1,6 @@
 //! Devices, formats and refusals.
 
-use case_device::{Choice, Device};
+use case_device::{Choice, Device, same_sectors};
 use case_runs::{Outcome, RUN, Streams, Tester, WHOLE};
 use case_text::Part;
 use case_words::{Wrong, differs, found};
@@ -47,19 +47,6 @@ pub fn usual_device(tester: &mut Tester) -> Result<Device, Wrong> {
     formatted(tester, &mut disk, words, "ok extents 64 free 48")?;
     spoil(tester.alloc, &mut disk, USUAL_FREE)?;
     disk.copy(tester.alloc)
-}
-
-/// Whether two devices have the same sectors.
-pub fn same_sectors(alloc: Global, one: &mut Device, other: &mut Device) -> Result<bool, Wrong> {
-    if one.sectors() != other.sectors() {
-        return Ok(false);
-    }
-    for at in 0..one.sectors() {
-        if one.read(alloc, at)? != other.read(alloc, at)? {
-            return Ok(false);
-        }
-    }
-    Ok(true)
 }
 
 /// Whether a device is as it was, by what a stop leaves at least and by what it leaves of one value more.

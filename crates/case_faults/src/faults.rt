@@ -1,12 +1,10 @@
 //! Faults of a run, each in turn, and what is done on what each leaves.
 
-use crate::bench::{Bench, answered, followed};
 use crate::choices::{Chosen, choices_of, left_by};
-use crate::devices::same_sectors;
-use case_device::{Book, Choice, Device};
+use case_device::{Book, Choice, Device, same_sectors};
 use case_runs::{
-    Answered, Outcome, RUN, Streams, Tester, WHOLE, are_calls, calls_of, calls_within, collects,
-    count, probe, probe_copy,
+    Answered, Bench, Outcome, RUN, Streams, Tester, WHOLE, answered, are_calls, calls_of,
+    calls_within, collects, count, followed, probe, probe_copy,
 };
 use case_text::{
     Act, Entry, FIRST_VALUES, Fault, File, Left, Part, Script, Step, text_of, trial_of,
@@ -624,7 +622,7 @@ fn calls_behind(tester: &mut Tester, disk: &Device, steps: &[Step<'_>]) -> Resul
 
 /// A run without a fault is answered as it is to be, and then its faults are tried: what stands behind it in the case is done on what
 /// each leaves.
-pub fn each<'a>(
+pub fn with_faults<'a>(
     tester: &mut Tester,
     bench: &mut Bench<'a>,
     file: &File<'a>,

@@ -1,10 +1,9 @@
 //! A file that is imported: whole, in pieces, and with each fault in turn.
 
-use crate::bench::{Bench, followed};
 use crate::choices::{choices_of, left_by};
 use crate::faults::{disturbed, status_of, streams_of};
 use case_device::{Book, Device};
-use case_runs::{Answered, Outcome, Streams, Tester, WHOLE, count, probe_copy};
+use case_runs::{Answered, Bench, Outcome, Streams, Tester, WHOLE, count, followed, probe_copy};
 use case_text::{Fault, Part, Step};
 use case_words::{Wrong, differs, found};
 use lvhd_command::Status;
