@@ -21,11 +21,7 @@ as_the_model() {
     python3 "$root/examples/vhd.py" unstamped "$1" | cmp - "$2"
 }
 formatted "$work/repo.img" 3M
-shown "$work/repo.img" <<'END'
-create A 65536 vhd x
-attach A rw
-fill A 7 2 ab
-END
+one_disk | shown "$work/repo.img"
 cp "$work/repo.img" "$work/before.img"
 first=$(date +%s)
 sent "$work/repo.img" A "$work/A.vhd"

@@ -22,11 +22,7 @@ bytes_of() {
     "$program" "$1" export "$(uuid "$2")" >"$work/again.vhd" </dev/null && python3 "$root/examples/vhd.py" raw "$work/again.vhd"
 }
 formatted "$work/repo.img" 3M
-shown "$work/repo.img" <<'END'
-create A 65536 vhd x
-attach A rw
-fill A 7 2 ab
-END
+one_disk | shown "$work/repo.img"
 "$program" "$work/repo.img" export "$(uuid A)" >"$work/A.vhd" </dev/null
 echo '== an exported disk, in pieces of 1 and of 1,000 bytes'
 for piece in 1 1000; do

@@ -84,6 +84,10 @@ class Machine:
 
     # ---- images
 
+    def is_written(self, name):
+        """Whether it is the own image of a disk that is attached for writing."""
+        return not self.images[name].hidden and self.attached.get(uuid_of(name)) == "rw"
+
     def own(self, disk):
         """The name of a disk's image."""
         return next(kind + disk for kind in ("VHD-", "LV-") if kind + disk in self.images and not self.images[kind + disk].hidden)
@@ -172,7 +176,7 @@ class Machine:
 
     def give_up(self, name):
         """The folding of a leaf is given up by a call on its disk."""
-        if self.operation and self.operation[0] == "leaf" and self.operation[1] == name:
+        if self.operation and self.operation[0] in ("leaf", "live") and self.operation[1] == name:
             self.operation = None
             self.commit(1)
 
@@ -224,6 +228,7 @@ class Machine:
     def detach(self, disk):
         self.test_names(disk, None)
         self.test(disk not in self.attached, "NotAttached")
+        self.give_up(self.own(disk))
         del self.attached[disk]
         return "ok"
 
@@ -284,9 +289,12 @@ class Machine:
 
     def put(self, disk, sector, sectors):
         image = self.guest(disk, sector, len(sectors), True)
+        name = self.own(disk)
         for place, data in enumerate(sectors, sector):
-            if is_vhd(self.own(disk)):
+            if is_vhd(name):
                 image.give(place // self.block)
+            if self.operation and self.operation[:2] == ("live", name) and place // self.block < self.operation[3]:
+                self.dirty.add(place // self.block)
             image.sectors[place] = data
         return "ok"
 
@@ -345,15 +353,18 @@ class Machine:
             for name, image in sorted(self.images.items())
         ]
         operation = ",".join(map(str, self.operation)) if self.operation else "none"
+        operation += f",{len(self.dirty)}" if operation.startswith("live") else ""
         return " ".join(["ok seq", str(self.sequence), "free", str(self.free()), "op", operation, "images", str(len(rows)), *rows])
 
     # ---- the collector
 
     def target(self, child, parent):
-        """The extents of the parent once the child is folded into it."""
+        """The extents of the parent once the child is folded into it: those for all blocks where a guest writes to the child."""
         above, below = self.images[child], self.images[parent]
         if not is_vhd(parent):
             return below.extents
+        if self.is_written(child):
+            return max(below.extents, self.thick(above.size))
         return max(below.extents, self.thin(max(below.top(), len(set(below.slots) | set(above.slots)))))
 
     def begin(self, kind, child, parent):
@@ -362,7 +373,7 @@ class Machine:
         if target > below.extents:
             self.commit(3)
         below.extents, below.size = target, self.images[child].size
-        self.operation = (kind, child, parent, 0)
+        self.operation, self.dirty = (kind, child, parent, 0), set()
         self.commit(1)
 
     def copy(self, kind, child, parent, block):
@@ -370,7 +381,8 @@ class Machine:
         if is_vhd(parent):
             below.give(block)
         below.sectors.update({place: data for place, data in above.sectors.items() if place // self.block == block})
-        self.operation = (kind, child, parent, block + 1)
+        self.dirty.discard(block)
+        self.operation = (kind, child, parent, max(self.operation[3], block + 1))
         return f"ok gc copy {child} {block}"
 
     def go_on(self):
@@ -391,6 +403,10 @@ class Machine:
         left = [block for block in self.images[child].slots if block >= self.operation[3]]
         if left:
             return self.copy(kind, child, parent, min(left))
+        if kind == "live" and len(self.dirty) > 16:
+            return self.copy(kind, child, parent, min(self.dirty))
+        for block in sorted(self.dirty):
+            self.copy(kind, child, parent, block)
         if kind == "copy":
             self.operation = ("relink", child, parent)
             self.commit(1)
@@ -409,11 +425,17 @@ class Machine:
         return len(self.children(image.parent)) == 1 and (is_vhd(image.parent) or self.images[image.parent].size == image.size)
 
     def is_leaf(self, name):
-        """The image of a disk that is not attached, whose parent is a VHD image and has no other child."""
+        """A disk's VHD image whose parent is a VHD image and has no other child."""
         image = self.images[name]
-        if image.hidden or not is_vhd(name) or uuid_of(name) in self.attached or not image.parent:
+        if image.hidden or not is_vhd(name) or not image.parent:
             return False
         return is_vhd(image.parent) and len(self.children(image.parent)) == 1
+
+    def is_idle_leaf(self, name):
+        return self.is_leaf(name) and uuid_of(name) not in self.attached
+
+    def is_live_leaf(self, name):
+        return self.is_leaf(name) and uuid_of(name) in self.attached
 
     def tidy(self):
         """A hidden image without children goes; one that has more extents than it needs is cut."""
@@ -423,8 +445,7 @@ class Machine:
                 self.commit(1)
                 return f"ok gc remove {name}"
         for name, image in sorted(self.images.items()):
-            written = not image.hidden and self.attached.get(uuid_of(name)) == "rw"
-            if is_vhd(name) and not written and image.extents > self.thin(image.top()):
+            if is_vhd(name) and not self.is_written(name) and image.extents > self.thin(image.top()):
                 image.extents = self.thin(image.top())
                 self.commit(1)
                 return f"ok gc deflate {name}"
@@ -437,7 +458,7 @@ class Machine:
         if done:
             return done
         needs = []
-        for word, kind, fits in (("begin", "copy", self.is_pair), ("leaf", "leaf", self.is_leaf)):
+        for word, kind, fits in (("begin", "copy", self.is_pair), ("leaf", "leaf", self.is_idle_leaf), ("live", "live", self.is_live_leaf)):
             for name in sorted(filter(fits, self.images)):
                 parent = self.images[name].parent
                 need = self.target(name, parent) - self.images[parent].extents
@@ -512,10 +533,40 @@ def leaf_lines(draw):
     ]
 
 
+def live_lines(draw):
+    """Lines under which the leaf of a disk that stays attached is folded while its guest writes. Either that goes on, and all blocks are written
+    at the end of it; or it is given up at times and begun anew."""
+    disk, goes_on, mode = draw.choice(DISKS), draw.randrange(2) == 0, draw.choice(["rw", "rw", "rw", "ro"])
+    blocks = draw.choice([18, 21, 24] if goes_on else [8, 12, 18])
+
+    def fill():
+        return f"fill {disk} {draw.randrange(8 * blocks - 16)} {draw.randint(1, 16)} {draw.randrange(256):02x}"
+
+    def whole():
+        return f"fill {disk} 0 {8 * blocks} {draw.randrange(256):02x}"
+
+    def gives_up():
+        words = ["detach", "detach", f"snapshot {SPARE}", f"clone {SPARE}", f"resize {4096 * (blocks + draw.randint(0, 4))}", "delete", "attach ro", "resize 4096"]
+        word, _, rest = draw.choice(words).partition(" ")
+        return [f"{word} {disk} {rest}".rstrip(), "stat", f"attach {disk} {mode}", f"delete {SPARE}"]
+
+    yield from [f"delete {disk}", f"create {disk} {4096 * blocks} vhd live", f"attach {disk} rw", fill(), f"snapshot {disk} {SPARE}", f"delete {SPARE}"]
+    yield from [whole() if goes_on else fill(), f"detach {disk}", f"attach {disk} {mode}"]
+    for step in range(blocks + draw.randint(-2, 4) if goes_on else draw.randint(2, 12)):
+        yield "gc"
+        if draw.randrange(3) == 0:
+            yield fill()
+        if not goes_on and draw.randrange(6) == 0:
+            yield from gives_up()
+    yield from [whole() if goes_on else fill(), "stat", *["gc"] * draw.randint(0, 4), "stat", *["gc"] * draw.randint(1, 6)]
+    yield from [f"read {disk} 0 {min(128, 8 * blocks)}", f"detach {disk}"]
+
+
 def random_lines(draw):
-    """Single lines, and those of folded leaves with single ones in between."""
+    """Single lines, and those of folded leaves, of detached and of attached disks, with single ones in between."""
     while True:
-        lines = leaf_lines(draw) if draw.randrange(20) == 0 else [""]
+        kind = draw.randrange(20)
+        lines = leaf_lines(draw) if kind == 0 else live_lines(draw) if kind == 1 else [""]
         for line in lines:
             if not line or draw.randrange(12) == 0:
                 yield random_line(draw, draw.choice(DISKS))

@@ -1,6 +1,6 @@
 #!/bin/sh
 # Random scripts of 2,500 lines on a real file: guests' writes and reads, forks, deletions and steps of the collector in any order, with
-# leaves that are folded and foldings that are given up.
+# leaves of detached and of attached disks that are folded while guests write, and foldings that are given up.
 # Each reply is compared, byte for byte, with that of examples/model.py, a plain model of what the lines mean.
 set -e
 root=$(cd "$(dirname "$0")/.." && pwd)

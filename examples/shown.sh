@@ -53,6 +53,14 @@ by_lines() {
         done
     } | long | "$program" "$1" run | python3 -c 'import sys; [sys.stdout.buffer.write(bytes.fromhex(line[3:])) for line in sys.stdin]'
 }
+# Lines that make one disk with two sectors, attached.
+one_disk() {
+    cat <<'END'
+create A 65536 vhd x
+attach A rw
+fill A 7 2 ab
+END
+}
 # Lines that make five disks: over a base and enlarged, its snapshot, a raw one, one over a raw base and enlarged, its clone.
 five_disks() {
     cat <<'END'
