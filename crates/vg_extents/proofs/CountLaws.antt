@@ -1,14 +1,16 @@
 -- Free and used extents together are all.
-use Rattle.std.proofs.Common.{◌≡◌, ℕ, zero, suc, ◌+◌, ◌-◌, ◌<◌, ◌≤◌, Bool, true, false, not, cond, ltb, eqb, List, [], ◌∷◌, ◌++◌, length, get_or, take, Result, Ok, Err, IfOk, Vec, Global, refl, sym, ap, subst, ◌∙◌, arith, ⊎_elim}
+use Rattle.std.proofs.Common.{◌≡◌, ℕ, zero, suc, ◌+◌, ◌-◌, ◌<◌, ◌≤◌, Bool, true, false, not, cond, ltb, eqb, List, [], ◌∷◌, ◌++◌, length, get_or, take, drop, Result, Ok, Err, IfOk, Vec, Global, refl, sym, ap, subst, ◌∙◌, arith, ⊎_elim}
 use Rattle.std.specs.List.{filter, count_by, range_with_len, IsDistinct, AllByRecursion}
 use Rattle.std.proofs.lemmas.Bool.Decides.{nat_tests}
 use Rattle.std.proofs.lemmas.List.Sums.{sum_by-append}
 use Rattle.std.proofs.lemmas.Bool.{cond_both, not-true, cond-false, cases_Bool, le-ltb}
-use Rattle.std.proofs.lemmas.List.{append-nil, length-append, take-append-le, take_all, length-take, take-take}
+use Rattle.std.proofs.lemmas.List.{append-nil, length-append, take-append-le, take_all, length-take, take-take, drop_more}
+use Rattle.std.proofs.Math.ListN.{drop_of_length-le}
 use Rattle.std.proofs.lemmas.List.Elements.{filter-append}
 use Rattle.common_laws.proofs.Lists.{take_next}
 use Rattle.vg_meta.specs.Taken.{IsMarked}
 use Rattle.vg_extents.specs.Fits.{AreLeastFree, IsShortOf}
+use Rattle.vg_extents.specs.Runs.{behind_last}
 use Rattle.vg_extents.specs.declared.faults.FitFault.{FitFault}
 use Rattle.vg_extents.specs.declared.faults.FitFault.TheVariants.{NoSpace, NoMemory}
 use Rattle.vg_meta.specs.Tables.{Row, VolumeTable, used, free, extents_in, is_one_of}
@@ -111,6 +113,42 @@ found_full marks need n m found le is full =
 -- all were looked at, and no more are found than are needed
 pub found_all : (marks : List Bool) (need n : ℕ) (found : List ℕ) → found ≡ without_mark marks n → length found ≤ need → found ≡ take need (without_mark marks n)
 found_all marks need n found is few = is ∙ sym (take_all need (without_mark marks n) (omega (arith, ap length is)))
+
+-- ---- the marks that are left
+
+-- the next of them
+pub next_mark : {left rest : List Bool} (marks : List Bool) (e : ℕ) (mark : Bool) → e < length marks → left ≡ drop e marks → left ≡ mark ∷ rest → (get_or marks e false ≡ mark) × (rest ≡ drop (e + 1) marks)
+next_mark marks e mark lt is next =
+    let front = sym next ∙ is ∙ drop_more marks e false lt in
+    (sym (ap (λ (l : List Bool). get_or l 0 false) front), ap (drop 1) front)
+
+-- an extent that has a mark leaves as many to be found
+pub behind_marked : {left rest : List Bool} (need found : ℕ) (mark : Bool) → found < need → left ≡ mark ∷ rest → mark ≡ true → behind_last (need - found) left ≡ behind_last (need - found) rest
+behind_marked {left} {rest} need found mark lt next marked =
+    let more : need - found ≡ suc (need - (found + 1)) = omega (arith, lt) in
+    ap (behind_last (need - found)) next ∙ rw marked (rw more refl)
+
+-- one that has none leaves one less
+pub behind_unmarked : {left rest : List Bool} (need found : ℕ) (mark : Bool) → found < need → left ≡ mark ∷ rest → mark ≡ false → behind_last (need - found) left ≡ behind_last (need - (found + 1)) rest
+behind_unmarked {left} {rest} need found mark lt next fresh =
+    let more : need - found ≡ suc (need - (found + 1)) = omega (arith, lt) in
+    ap (behind_last (need - found)) next ∙ rw fresh (rw more refl)
+
+-- all were found
+pub behind_full : (need found : ℕ) (left : List Bool) → found ≡ need → behind_last (need - found) left ≡ left
+behind_full need found left full =
+    let none : need - found ≡ 0 = omega (arith, full) in
+    ap (λ (n : ℕ). behind_last n left) none
+
+-- no mark is left
+pub behind_end : (need e : ℕ) (marks left : List Bool) → length marks ≤ e → left ≡ drop e marks → left ≡ behind_last need left
+behind_end need e marks left le is =
+    let gone : left ≡ [] = is ∙ drop_of_length-le marks le in
+    subst (λ (l : List Bool). l ≡ behind_last need l) (sym gone) (none need)
+  where
+    none : (n : ℕ) → [] ≡ behind_last n []
+    none zero = refl
+    none (suc n) = refl
 
 -- ---- volumes
 

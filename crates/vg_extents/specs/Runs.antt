@@ -1,5 +1,5 @@
 -- Extents as runs (this project's own): rising, and never two runs where one would do.
-use Rattle.std.specs.Prelude.{ℕ, ◌+◌, ◌≤◌, List, [], ◌∷◌, map}
+use Rattle.std.specs.Prelude.{ℕ, zero, suc, ◌+◌, ◌≤◌, Bool, List, [], ◌∷◌, map, if◌then◌else◌}
 use Rattle.vg_meta.specs.Segments.{Segment, spread_all}
 use Rattle.vg_extents.specs.declared.runs.Run.{Run}
 
@@ -18,3 +18,9 @@ extents_of rs = spread_all (segments_of rs)
 abbrev pub AreApart : ℕ → ℕ → List Segment → Type 0
 AreApart from end [] = from ≤ end + 1
 AreApart from end (s ∷ ss) = (from ≤ s.first) × (1 ≤ s.count) × AreApart (s.first + s.count + 1) end ss
+
+-- the marks behind the one at which so many extents without a mark are found: all of them where none is needed, and none where there are fewer
+abbrev pub behind_last : ℕ → List Bool → List Bool
+behind_last zero marks = marks
+behind_last (suc need) [] = []
+behind_last (suc need) (mark ∷ marks) = if mark then behind_last (suc need) marks else behind_last need marks

@@ -2,16 +2,18 @@
 
 ghost use Rattle.std.specs.Prelude.{◌≡◌, ◌≢◌, ◌<◌, ◌≤◌, ◌+◌, ◌-◌, ◌^◌, ◌++◌, ◌∷◌, [], length, take, filter, not, false, slice_index_or, IsTrue, IsFalse, IfOk, IfErr, OnOk};
 ghost use Rattle.std.specs.List.{range_with_len};
+ghost use Rattle.std.specs.Slice.Iter.{iter_rest};
 ghost use Rattle.vg_meta.specs.Tables.{free as free_of};
 ghost use Rattle.vg_meta.specs.Roomy.{table_alone};
 ghost use Rattle.vg_extents.specs.Fits.{IsShortOf};
-ghost use Rattle.vg_extents.specs.Runs.{AreApart, extents_of, segments_of};
+ghost use Rattle.vg_extents.specs.Runs.{AreApart, behind_last, extents_of, segments_of};
 
 use crate::faults::FitFault;
 use crate::marks::marked;
 use sm_base::NoMemory;
 use std::alloc::Global;
 use std::marker::Model;
+use std::slice::Iter;
 use vg_meta::Table;
 
 /// So many extents that follow one another, from a first one on.
@@ -56,7 +58,7 @@ impl Runs {
         ensures { IfOk result (λ runs. runs ≡ take need (free_of extents (table_alone table.now))) }
     {
         let marks = marked(alloc, table.volumes(), extents)?;
-        let runs = unmarked(alloc, &marks, need)?;
+        let runs = unmarked(alloc, &mut marks.iter(), need)?;
         Ok(Runs { runs })
     }
 
@@ -125,12 +127,13 @@ fn put(found: &mut Vec<u32>, run: Run, most: u32) -> Result<(), NoMemory>
     Ok(())
 }
 
-// The least extents without a mark as runs, at most so many extents.
-fn unmarked(alloc: Global, marks: &[bool], need: u32) -> Result<Vec<Run>, NoMemory>
-    requires { length marks.now < 2 ^ 32 }
-    ensures apart { IfOk result (λ runs. AreApart 0 (length marks.now) (segments_of runs.items)) }
+// The least extents without a mark as runs, at most so many extents. No mark is taken behind that of the last one needed.
+fn unmarked(alloc: Global, marks: &mut Iter<bool>, need: u32) -> Result<Vec<Run>, NoMemory>
+    requires { length (iter_rest marks.old) < 2 ^ 32 }
+    ensures apart { IfOk result (λ runs. AreApart 0 (length (iter_rest marks.old)) (segments_of runs.items)) }
     ensures least { IfOk result (λ runs. extents_of runs.items
-        ≡ take need (filter (λ e. not (slice_index_or marks.now e false)) (range_with_len 0 (length marks.now)))) }
+        ≡ take need (filter (λ e. not (slice_index_or (iter_rest marks.old) e false)) (range_with_len 0 (length (iter_rest marks.old))))) }
+    ensures early { IfOk result (λ _. iter_rest marks.new ≡ behind_last need (iter_rest marks.old)) }
 {
     let mut runs = Vec::new(alloc);
     let mut found = 0;
@@ -138,7 +141,10 @@ fn unmarked(alloc: Global, marks: &[bool], need: u32) -> Result<Vec<Run>, NoMemo
         if found == need {
             return Ok(runs);
         }
-        if marks[extent as usize] {
+        let Some(mark) = marks.next() else {
+            unreachable!()
+        };
+        if *mark {
             continue;
         }
         add(&mut runs, extent)?;
