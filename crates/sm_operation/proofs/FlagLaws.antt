@@ -1,10 +1,10 @@
 -- Flags that are set and cleared, as the places that are flagged.
-use Rattle.std.proofs.Common.{◌≡◌, ◌≢◌, ℕ, zero, suc, ◌+◌, ◌<◌, ◌≤◌, ◌==◌, not, nat_lt, Bool, true, false, cond, List, [], ◌∷◌, length, replicate, drop, slice_index_or, slice_set, Option, None, Some, if◌then◌else◌, refl, sym, ap, ap₂, ◌∙◌, subst, eqb-true, arith}
-use Rattle.std.specs.List.{filter}
-use Rattle.std.proofs.lemmas.Bool.{eqb-false, lt-ltb, ltb-true, true≢false}
+use Rattle.std.proofs.Common.{◌≡◌, ◌≢◌, ℕ, zero, suc, ◌+◌, ◌-◌, ◌<◌, ◌≤◌, ◌==◌, not, nat_lt, Bool, true, false, cond, List, [], ◌∷◌, ◌++◌, length, replicate, drop, slice_index_or, slice_set, Some, if◌then◌else◌, refl, sym, ap, ap₂, ◌∙◌, subst, eqb-true, arith}
+use Rattle.std.proofs.lemmas.Bool.{lt-ltb, ltb-true, true≢false}
+use Rattle.std.proofs.lemmas.List.{length-replicate}
 use Rattle.sm_machine.specs.Operations.{with_dirty, without_dirty}
 use Rattle.sm_machine.proofs.Lives.{is_same}
-use Rattle.sm_operation.specs.Kept.{flagged, least}
+use Rattle.sm_operation.specs.Kept.{flagged, least, lengthened}
 
 -- ---- numbers
 
@@ -29,6 +29,44 @@ pub none_flagged : (k n : ℕ) → flagged k (replicate n false) ≡ []
 unfolding flagged
 none_flagged k zero = refl
 none_flagged k (suc n) = none_flagged (k + 1) n
+
+-- more flags that are clear behind others: none more is flagged
+pub flagged_behind : (k n : ℕ) (bs : List Bool) → flagged k (bs ++ replicate n false) ≡ flagged k bs
+unfolding flagged
+flagged_behind k n [] = none_flagged k n
+flagged_behind k n (true ∷ bs) = ap (λ (xs : List ℕ). k ∷ xs) (flagged_behind (k + 1) n bs)
+flagged_behind k n (false ∷ bs) = flagged_behind (k + 1) n bs
+
+-- and one that was clear, or not there, is clear
+none_set : (n b : ℕ) → slice_index_or (replicate n false) b false ≡ false
+none_set zero b = refl
+none_set (suc n) zero = refl
+none_set (suc n) (suc b) = none_set n b
+
+pub clear_behind : (n b : ℕ) (bs : List Bool) → slice_index_or (bs ++ replicate n false) b false ≡ slice_index_or bs b false
+clear_behind n b [] = none_set n b
+clear_behind n zero (x ∷ bs) = refl
+clear_behind n (suc b) (x ∷ bs) = clear_behind n b bs
+
+pub length_behind : (n : ℕ) (bs : List Bool) → length (bs ++ replicate n false) ≡ length bs + n
+length_behind n [] = let e = by n in omega (arith, e)
+  where
+    by : (k : ℕ) → length (replicate k false) ≡ k
+    by k = length-replicate k false
+length_behind n (x ∷ bs) = let e = length_behind n bs in omega (arith, e)
+
+-- there are at least so many then, and no more than these or those
+pub lengthened_long : (n : ℕ) (bs : List Bool) → n ≤ length (lengthened n bs)
+lengthened_long n bs = let e = length_behind (n - length bs) bs in omega (arith, e)
+
+pub lengthened_few : (n m : ℕ) (bs : List Bool) → n ≤ m → length bs ≤ m → length (lengthened n bs) ≤ m
+lengthened_few n m bs some few = let e = length_behind (n - length bs) bs in omega (arith, e, some, few)
+
+-- a flag that is set is there
+pub set_within : (b : ℕ) (bs : List Bool) → slice_index_or bs b false ≡ true → b < length bs
+set_within b [] set = absurd (true≢false (sym set))
+set_within zero (x ∷ bs) set = omega arith
+set_within (suc b) (x ∷ bs) set = let e = set_within b bs set in omega (arith, e)
 
 -- no more than there are flags
 pub few_flagged : (k : ℕ) (bs : List Bool) → length (flagged k bs) ≤ length bs

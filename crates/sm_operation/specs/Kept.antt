@@ -1,5 +1,5 @@
--- How an operation is kept: as it is told, beside a flag for each block that an image may have (this project's own).
-use Rattle.std.specs.Prelude.{◌≡◌, ℕ, ◌+◌, Bool, List, [], ◌∷◌, length, Option, None, Some, if◌then◌else◌}
+-- How an operation is kept: as it is told, beside flags of the first blocks; blocks behind the last flag are not dirty (this project's own).
+use Rattle.std.specs.Prelude.{◌≡◌, ℕ, ◌+◌, ◌-◌, ◌≤◌, Bool, false, List, [], ◌∷◌, ◌++◌, length, replicate, Option, None, Some, if◌then◌else◌}
 use Rattle.sm_base.specs.declared.operations.Op.{Op as Told}
 use Rattle.sm_base.specs.declared.operations.Op.TheVariants as as_told
 use Rattle.sm_machine.specs.Operations.{Op}
@@ -13,6 +13,10 @@ block_limit = 1044480
 unfoldable pub flagged : ℕ → List Bool → List ℕ
 flagged k [] = []
 flagged k (b ∷ bs) = if b then k ∷ flagged (k + 1) bs else flagged (k + 1) bs
+
+-- at least so many flags: the new ones are clear
+abbrev pub lengthened : ℕ → List Bool → List Bool
+lengthened count bs = bs ++ replicate (count - length bs) false
 
 -- the operation with the blocks whose flags are set
 abbrev pub seen : Told → List Bool → Op
@@ -30,9 +34,10 @@ count_of (as_told.Relink v p) = 0
 count_of (as_told.Leaf l p cursor) = 0
 count_of (as_told.Live l p cursor count) = count
 
--- there is a flag for each block that an image may have, and as many are set as are told
-pub record AreCounted (o : Told) (bs : List Bool) : Type 0 where
-  pub room : length bs ≡ block_limit
+-- there are places for the flags of all blocks that an image may have, and as many flags are set as are told
+pub record AreCounted (o : Told) (places : ℕ) (bs : List Bool) : Type 0 where
+  pub room : block_limit ≤ places
+  pub few : length bs ≤ block_limit
   pub counted : length (flagged 0 bs) ≡ count_of o
 
 -- the dirty blocks of an operation

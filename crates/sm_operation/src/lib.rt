@@ -4,8 +4,9 @@
 //! **What it is.** [`Operation`] stands for the machine's operation (`Operations` of `sm_machine`), with its dirty blocks in rising order;
 //! [`Operation::told`] tells it with their number alone.
 //!
-//! **What it costs.** A byte for each block that an image may have at most, 1,044,480, which are taken once, as it is made; nothing else
-//! takes memory. Only `new`, `set` and `least_dirty` go over them. Nothing here is on a device, and a stop leaves nothing.
+//! **What it costs.** Room of a byte for each block that an image may have at most, 1,044,480, is taken once, as it is made, and nothing is
+//! written there; nothing else takes memory. A byte is written for each block up to the last one that gets dirty, by the first `touch`
+//! that reaches it, and `least_dirty` goes over these. Nothing here is on a device, and a stop leaves nothing.
 //!
 //! The definitions are in `specs/`: `Kept` (how an operation is kept, and which of its blocks are dirty).
 #![tactic(auto)]

@@ -1,8 +1,8 @@
 //! The operation in memory.
 
-ghost use Rattle.std.specs.Prelude.{◌≡◌, ◌<◌, ◌^◌, Bool, List, [], false, length, replicate, slice_index_or, slice_set, IfOk};
+ghost use Rattle.std.specs.Prelude.{◌≡◌, ◌<◌, ◌≤◌, ◌+◌, ◌^◌, Bool, List, [], true, false, length, slice_index_or, slice_set, vec_capacity, IfOk};
 ghost use Rattle.sm_machine.specs.Operations.{Idle, advanced, begun, told, touched};
-ghost use Rattle.sm_operation.specs.Kept.{count_of, dirty_in, flagged, least, seen};
+ghost use Rattle.sm_operation.specs.Kept.{count_of, dirty_in, flagged, least, lengthened, seen};
 
 use sm_base::{NoMemory, Op};
 use std::alloc::Global;
@@ -11,7 +11,8 @@ use std::marker::Model;
 /// The most blocks that an image may have.
 pub const BLOCK_LIMIT: u32 = 1_044_480;
 
-/// What the collector is doing, and the blocks that are dirty: a flag for each block that an image may have.
+/// What the collector is doing, and the blocks that are dirty: a flag for each block up to the last one that was dirty, in room for all
+/// that an image may have.
 #[derive(Drop)]
 pub struct Operation {
     op: Op,
@@ -23,19 +24,22 @@ impl Model for Operation {
 
     ghost Value = { Op };
 
+    ghost use Rattle.std.specs.Prelude.{vec_capacity};
     ghost use Rattle.sm_operation.specs.Kept.{AreCounted, seen};
 
     ghost view = { λ o. seen o.op o.dirty.items };
 
-    ghost invariant = { λ o. AreCounted o.op o.dirty.items };
+    ghost invariant = { λ o. AreCounted o.op (vec_capacity o.dirty) o.dirty.items };
 }
 
 impl Operation {
-    /// No operation runs. It takes a byte for each block that an image may have.
+    /// No operation runs. It takes room of a byte for each block that an image may have, and writes none of it.
     pub fn new(alloc: Global) -> Result<Operation, NoMemory>
         ensures { IfOk result (λ o. o ≡ Idle) }
     {
-        let dirty = clear(alloc, BLOCK_LIMIT as usize)?;
+        let Ok(dirty) = Vec::with_capacity(alloc, BLOCK_LIMIT as usize) else {
+            return Err(NoMemory);
+        };
         Ok(Operation {
             op: Op::Idle,
             dirty,
@@ -53,7 +57,7 @@ impl Operation {
     pub fn set(&mut self, op: Op)
         ensures { self.new ≡ begun op }
     {
-        clear_all(&mut self.dirty);
+        self.dirty.clear();
         self.op = fresh(op);
     }
 
@@ -77,7 +81,7 @@ impl Operation {
         if is_set(&self.dirty, block as usize) {
             return;
         }
-        set(&mut self.dirty, block as usize, true);
+        mark(&mut self.dirty, block as usize);
         self.op = Op::Live {
             leaf,
             parent,
@@ -124,7 +128,7 @@ impl Operation {
                 if !is_set(&self.dirty, block as usize) {
                     return;
                 }
-                set(&mut self.dirty, block as usize, false);
+                clear(&mut self.dirty, block as usize);
                 self.op = Op::Live {
                     leaf,
                     parent,
@@ -148,27 +152,34 @@ impl Operation {
     }
 }
 
-/// Whether a flag is set.
+/// Whether a flag is set; one that is not there is clear.
 fn is_set(flags: &[bool], place: usize) -> bool
-    requires { place < length flags.now }
     ensures { result ≡ slice_index_or flags.now place false }
 {
-    flags[place]
+    flags.get(place).copied().unwrap_or(false)
 }
 
-/// Sets a flag, or clears it.
-fn set(flags: &mut Vec<bool>, place: usize, to: bool)
+/// Sets a flag. Those in front of it that are not there yet are clear then.
+fn mark(flags: &mut Vec<bool>, place: usize)
+    requires { place < vec_capacity flags.old }
+    ensures flags { flags.new.items ≡ slice_set (lengthened (place + 1) flags.old.items) place true }
+    ensures room { vec_capacity flags.old ≤ vec_capacity flags.new }
+{
+    if flags.len() <= place {
+        let Ok(()) = flags.resize(place + 1, false) else {
+            unreachable!()
+        };
+    }
+    flags[place] = true;
+}
+
+/// Clears a flag that is there.
+fn clear(flags: &mut Vec<bool>, place: usize)
     requires { place < length flags.old.items }
-    ensures { flags.new.items ≡ slice_set flags.old.items place to }
+    ensures flags { flags.new.items ≡ slice_set flags.old.items place false }
+    ensures room { vec_capacity flags.old ≤ vec_capacity flags.new }
 {
-    flags[place] = to;
-}
-
-/// Clears all flags.
-fn clear_all(flags: &mut Vec<bool>)
-    ensures { flags.new.items ≡ replicate (length flags.old.items) false }
-{
-    flags.fill(false);
+    flags[place] = false;
 }
 
 /// The first place whose flag is set.
@@ -182,16 +193,6 @@ fn least_set(flags: &[bool]) -> Option<u32>
         }
     }
     None
-}
-
-/// So many flags, none of them set.
-fn clear(alloc: Global, count: usize) -> Result<Vec<bool>, NoMemory>
-    ensures { IfOk result (λ v. v.items ≡ replicate count false) }
-{
-    let Ok(flags) = vec![in alloc; false; count] else {
-        return Err(NoMemory);
-    };
-    Ok(flags)
 }
 
 /// The operation with no dirty block.

@@ -1,4 +1,4 @@
-use Rattle.std.proofs.Common.{◌≡◌, Some, refl, sym, ap, ◌∙◌, arith}
+use Rattle.std.proofs.Common.{Some, refl, sym, ap, ◌∙◌, arith}
 use Rattle.sm_operation.specs.Kept.{least}
 use Rattle.sm_operation.proofs.FlagLaws.{flagged_end, flagged_here, flagged_next}
 use Rattle.sm_operation.proofs.operations.least_set.Goals as goal

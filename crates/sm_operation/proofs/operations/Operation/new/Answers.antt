@@ -6,4 +6,4 @@ use Rattle.sm_operation.proofs.operations.Operation.new.Goals as goal
 
 pub invariant_of-result : goal.invariant_of-result
 unfolding block_limit
-invariant_of-result c = subst (AreCounted Idle) (sym c.in_ok-dirty.ensures) (counted_clear Idle 1044480 refl refl)
+invariant_of-result c = subst (AreCounted Idle _) (sym c.in-Ok.ensures.items) (counted_clear Idle _ c.in-Ok.ensures.capacity refl)
