@@ -1,14 +1,15 @@
--- A higher sequence number keeps a shape well-formed.
-use Rattle.std.proofs.Common.{ℕ, ◌<◌, ◌≤◌, Bool, true, false, List, arith}
+-- A higher sequence number keeps a shape well-formed, whatever logs it has, where the extents of others fit.
+use Rattle.std.proofs.Common.{ℕ, ◌+◌, ◌<◌, ◌≤◌, Bool, true, false, List, arith}
 use Rattle.sm_base.specs.declared.names.Name.{Name}
+use Rattle.sm_log.specs.Logs.{Log}
 use Rattle.sm_machine.specs.Operations.{Op}
 use Rattle.sm_machine.specs.Operations as op
-use Rattle.sm_machine.specs.Shapes.{Shape, ImageRow, last_sequence}
+use Rattle.sm_machine.specs.Shapes.{Shape, ImageRow, last_sequence, image_extents}
 use Rattle.sm_machine.specs.WellFormed.{IsImageRow, IsChild, IsLive, IsOnlyChild, IsOperation, IsWellFormed, table_length}
 
-module _ (s : Shape) (n : ℕ) where
+module _ (s : Shape) (n others : ℕ) (logs : List Log) where
   abbrev counted : Shape
-  counted = record s { sequence = n }
+  counted = record s { sequence = n; others = others; logs = logs }
 
   link_counted : (hidden : Bool) (v p : Name) → IsChild s hidden v p → IsChild counted hidden v p
   link_counted hidden v p h = record { child = h.child; there = h.there; is_named = h.is_named; is_shown = h.is_shown; vhd = h.vhd; linked = h.linked }
@@ -32,12 +33,12 @@ module _ (s : Shape) (n : ℕ) where
   unfolding table_length
   image_counted i g = record { named = g.named; whole = g.whole; volume = g.volume; table = g.table; raw = g.raw }
 
-  pub keeps_counted : IsWellFormed s → s.sequence ≤ n → n ≤ last_sequence → IsWellFormed counted
-  keeps_counted w h g = record {
+  pub keeps_counted : IsWellFormed s → s.sequence ≤ n → n ≤ last_sequence → others + image_extents s.images ≤ s.extents → IsWellFormed counted
+  keeps_counted w h g room = record {
     geometry = w.geometry;
     blocks = w.blocks;
     sequence = g;
-    room = w.room;
+    room = room;
     few = w.few;
     images_in_order = w.images_in_order;
     one_image = w.one_image;

@@ -356,13 +356,18 @@ module _ (s : Shape) (w : IsWellFormed s) (u twin : List ℕ) (f : IsForkable s 
 
   -- ---- numbers
 
-  room_good : s.others + image_extents forked ≤ s.extents
-  unfolding free
-  room_good =
+  pub forked_extents : image_extents forked ≤ image_extents s.images + fork_need s u own
+  forked_extents =
       let a : image_extents forked ≡ other.extents + image_extents (with_image mine (with_image base rest)) = extents-with_image other _ in
       let b : image_extents (with_image mine (with_image base rest)) ≡ mine.extents + image_extents (with_image base rest) = extents-with_image mine _ in
       let c : image_extents (with_image base rest) ≡ own.extents + image_extents rest = extents-with_image base rest in
       let d : image_extents rest + own.extents ≤ image_extents s.images = extents-filter_out (λ (i : ImageRow). not (is_image own.name i)) s.images own own_there (ap not (is_itself s w own own_there)) in
+      omega arith
+
+  room_good : s.others + image_extents forked ≤ s.extents
+  unfolding free
+  room_good =
+      let a : image_extents forked ≤ image_extents s.images + fork_need s u own = forked_extents in
       let n : fork_need s u own ≤ s.extents - (s.others + image_extents s.images) = enough in
       let r : s.others + image_extents s.images ≤ s.extents = w.room in
       omega arith
@@ -543,6 +548,10 @@ module _ (s : Shape) (w : IsWellFormed s) (u twin : List ℕ) (f : IsForkable s 
 module _ (s : Shape) (w : IsWellFormed s) (u twin : List ℕ) (f : IsForkable s u twin) where
   pub fork_images_are : fork_images s u twin (disk_image u s) ≡ forked s w u twin f
   fork_images_are = ap (fork_images s u twin) (found_own s w u twin f)
+
+  -- the images have no more extents than before and those that a fork needs
+  pub fork_extents : image_extents (fork_images s u twin (disk_image u s)) ≤ image_extents s.images + with_image_of (fork_need s u) (disk_image u s)
+  fork_extents = subst (λ (o : Option ImageRow). image_extents (fork_images s u twin o) ≤ image_extents s.images + with_image_of (fork_need s u) o) (sym (found_own s w u twin f)) (forked_extents s w u twin f)
 
   pub fork_records_are : (read_only : Bool) → fork_records u twin read_only (disk_record u s) s.records ≡ records' s w u twin f read_only
   fork_records_are read_only = ap (λ (r : Option DiskRecord). fork_records u twin read_only r s.records) (found_record s w u twin f)

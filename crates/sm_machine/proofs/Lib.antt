@@ -1,5 +1,6 @@
 pub mod Attaches
 pub mod Begins
+pub mod BegunLogs
 pub mod Chains
 pub mod Changes
 pub mod Collects
@@ -16,6 +17,9 @@ pub mod Guests
 pub mod Idle
 pub mod ImageNames
 pub mod Listed
+pub mod LogDisks
+pub mod LogLists
+pub mod LogRoom
 pub mod Lives
 pub mod Mapped
 pub mod Moments
@@ -28,5 +32,8 @@ pub mod Steps
 pub mod Swaps
 pub mod Tables
 pub mod Together
+pub mod Tracked
+pub mod TrackedLogs
+pub mod TrackedTruth
 pub mod Told
 pub mod Uses

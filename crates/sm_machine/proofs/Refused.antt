@@ -8,6 +8,7 @@ use Rattle.sm_machine.specs.Disks.{Disk}
 use Rattle.sm_machine.specs.Shapes.{Shape}
 use Rattle.sm_machine.specs.Refusals.{refusal}
 use Rattle.sm_machine.specs.Steps.{State, reply_to, accepted, unless_refused, step}
+use Rattle.sm_machine.specs.Tracking.{tracked_step, tracked_unless}
 
 -- an accepted command is not answered with a refusal
 accepted_reply : (disks : List Disk) (s : Shape) (c : Command) (r : Refusal) → reply_to disks s c ≡ reply.No r → ⊥
@@ -36,3 +37,12 @@ by_refusal None σ c r e = absurd (accepted_reply σ.disks σ.shape c r e)
 pub refused_keeps : (σ : State) (c : Command) (r : Refusal) → (step σ c).reply ≡ reply.No r → (step σ c).after ≡ σ
 unfolding step
 refused_keeps σ c r e = by_refusal (refusal σ.shape c) σ c r e
+
+tracked_by : (o : Option Refusal) (σ : State) (c : Command) (r : Refusal) → (tracked_unless o σ c).reply ≡ reply.No r → (tracked_unless o σ c).after ≡ σ
+unfolding accepted
+tracked_by (Some q) σ c r e = refl
+tracked_by None σ c r e = absurd (accepted_reply σ.disks σ.shape c r e)
+
+pub tracked_refused : (σ : State) (c : Command) (r : Refusal) → (tracked_step σ c).reply ≡ reply.No r → (tracked_step σ c).after ≡ σ
+unfolding tracked_step
+tracked_refused σ c r e = tracked_by (refusal σ.shape c) σ c r e

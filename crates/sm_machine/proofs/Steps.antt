@@ -27,7 +27,7 @@ use Rattle.sm_machine.proofs.GcSteps.{gc_keeps, gc_sequence}
 
 -- the commits are counted
 counted : (s t : Shape) (k : ℕ) → IsWellFormed s → t.sequence ≡ s.sequence → IsWellFormed t → IsWellFormed (record t { sequence = risen s.sequence k })
-counted s t k w e h = keeps_counted t (risen s.sequence k) h (subst (λ (n : ℕ). n ≤ risen s.sequence k) (sym e) (risen-up s.sequence k w.sequence)) (risen-last s.sequence k)
+counted s t k w e h = keeps_counted t (risen s.sequence k) t.others t.logs h (subst (λ (n : ℕ). n ≤ risen s.sequence k) (sym e) (risen-up s.sequence k w.sequence)) (risen-last s.sequence k) h.room
 
 -- ---- commands that give a fold of their disk's leaf up
 
@@ -65,7 +65,7 @@ pub clone_facts : (s : Shape) (u twin : _) → IsPassed s (Clone u twin) → IsF
 unfolding is_reserved is_unknown is_taken is_deep is_too_many is_spent lacks_space named new_uuid forked images_needed need
 clone_facts s u twin p = record { not_base = (or_parts _ _ p.reserved).1; not_taken = p.taken; is_known = p.unknown; not_deep = p.deep; not_many = p.too_many; not_spent = p.spent; has_space = p.space }
 
-risen-above : (n k : ℕ) → n < 2 ^ 48 - 16 → 8 ≤ k → n < risen n k
+pub risen-above : (n k : ℕ) → n < 2 ^ 48 - 16 → 8 ≤ k → n < risen n k
 risen-above n k h g = omega arith
 
 fork_given : (s : Shape) → IsWellFormed s → (u twin : _) → IsForkable s u twin → (read_only : Bool) (k : ℕ) → 8 ≤ k → (b : Bool) → folds s.op u ≡ b → IsWellFormed (record (given_up b (fork_shape s u twin read_only)) { sequence = risen s.sequence k })
@@ -77,13 +77,13 @@ fork_given s w u twin f read_only k h b e =
     by_given true q above most = fork_keeps s w u twin f read_only (risen s.sequence k) above most op.Idle tt
     by_given false q above most = fork_keeps s w u twin f read_only (risen s.sequence k) above most s.op (fork_operation s w u twin f read_only (risen s.sequence k) above most s.op q w.operation)
 
-at_least_eight : (b : Bool) → 8 ≤ one_if b + 8
+pub at_least_eight : (b : Bool) → 8 ≤ one_if b + 8
 at_least_eight true = omega arith
 at_least_eight false = omega arith
 
 -- ---- every command
 
-next_keeps : (s : Shape) (c : Command) → IsWellFormed s → IsPassed s c → IsWellFormed (shape_next s c)
+pub next_keeps : (s : Shape) (c : Command) → IsWellFormed s → IsPassed s c → IsWellFormed (shape_next s c)
 unfolding shape_next is_given_up gives_up shape_after commits own_commits
 next_keeps s (Create u size raw label) w p = created s w u size raw label p
 next_keeps s (Delete u) w p = counted s (given_up (folds s.op u) (delete_shape s u)) (one_if (folds s.op u) + 1) w (given_sequence (folds s.op u) (delete_shape s u)) (delete_given s w u p (folds s.op u) refl)

@@ -44,12 +44,12 @@ use Rattle.std.specs.Prelude.{nat_lt}
 
 -- ---- lists of sectors
 
-length-cut : (n : ℕ) (bytes : List ℕ) → length (cut_sectors n bytes) ≡ n
+pub length-cut : (n : ℕ) (bytes : List ℕ) → length (cut_sectors n bytes) ≡ n
 unfolding cut_sectors
 length-cut zero bytes = refl
 length-cut (suc n) bytes = ap suc (length-cut n (drop sector_bytes bytes))
 
-length-overwritten : (at : ℕ) (new old : List (List ℕ)) → at + length new ≤ length old → length (overwritten at new old) ≡ length old
+pub length-overwritten : (at : ℕ) (new old : List (List ℕ)) → at + length new ≤ length old → length (overwritten at new old) ≡ length old
 unfolding overwritten
 length-overwritten at new old h = simp (length-append, length-take, length-drop) (omega arith)
 
@@ -123,7 +123,7 @@ module _ (disks : List Disk) (s : Shape) (w : IsWellFormed s) (a : AreDisksOf di
             (r.0, r.1, q.0 ∙ sym (ap (λ (x : Disk). x.uuid) r.2), q.1 ∙ sym (ap (λ (x : Disk). length x.sectors) r.2))
 
   -- sectors within the disk
-  within : (u : List ℕ) (sector count : ℕ) → is_outside s u sector count ≡ false → (d : Disk) → In d disks → d.uuid ≡ u → sector + count ≤ length d.sectors
+  pub within : (u : List ℕ) (sector count : ℕ) → is_outside s u sector count ≡ false → (d : Disk) → In d disks → d.uuid ≡ u → sector + count ≤ length d.sectors
   within u sector count e d h q =
       let k : (i : ImageRow) × In i s.images × (is_image_of u i ≡ true) × (disk_image u s ≡ Some i) × (length d.sectors ≡ i.size) = its_size d u h q in
       let t : of_some (λ (i : ImageRow). nat_lt i.size (sector + count)) (disk_image u s) ≡ false = (or_parts (count == 0) _ e).1 in
@@ -420,7 +420,7 @@ after_together disks s Gc w a p = let k : Kept s (collected (next_step s) s) = c
 after_together disks s Listing w a p = a
 after_together disks s Stat w a p = a
 
-next_together : (disks : List Disk) (s : Shape) (c : Command) → IsWellFormed s → AreDisksOf disks s → IsPassed s c → AreDisksOf (disks_next disks s c) (shape_next s c)
+pub next_together : (disks : List Disk) (s : Shape) (c : Command) → IsWellFormed s → AreDisksOf disks s → IsPassed s c → AreDisksOf (disks_next disks s c) (shape_next s c)
 unfolding shape_next
 next_together disks s c w a p = alike (disks_next disks s c) (shape_after s c) _ (given_records (is_given_up s c) (shape_after s c)) (given_images (is_given_up s c) (shape_after s c)) (after_together disks s c w a p)
 

@@ -1,5 +1,5 @@
 -- Laws of the machine: what holds of every step, whatever the definitions look like.
-use Rattle.std.specs.Prelude.{◌≡◌, ◌≢◌, ℕ, ◌+◌, ◌*◌, ◌<◌, ◌≤◌, Bool, true, false, not, [], ◌∷◌, ◌++◌, map, Some, if◌then◌else◌}
+use Rattle.std.specs.Prelude.{◌≡◌, ◌≢◌, ℕ, ◌+◌, ◌*◌, ◌<◌, ◌≤◌, Bool, true, false, not, List, [], ◌∷◌, ◌++◌, map, Some, None, if◌then◌else◌}
 use Rattle.std.specs.List.{filter, list_any}
 use Rattle.common_laws.specs.Lists.{In}
 use Rattle.sm_base.specs.declared.names.Name.{Name}
@@ -11,11 +11,18 @@ use Rattle.sm_base.specs.declared.refusals.Refusal.{Refusal}
 use Rattle.sm_machine.specs.declared.commands.Command.{Command}
 use Rattle.sm_machine.specs.declared.replies.Reply.TheVariants as reply
 use Rattle.sm_base.specs.Numbers.{IsGeometry}
+use Rattle.sm_log.specs.Logs.{log_of}
+use Rattle.sm_log.specs.Told.{Tells}
 use Rattle.sm_machine.specs.declared.commands.Command.TheVariants.{Gc}
-use Rattle.sm_machine.specs.Shapes.{Shape, ImageRow, Attachment, free, image_uuid, is_image_of, is_vhd, new_shape, on_image, reads_through, refs, thick_in, with_image, without_image}
+use Rattle.sm_machine.specs.Disks.{Disk}
+use Rattle.sm_machine.specs.Shapes.{Shape, ImageRow, Attachment, free, image_uuid, is_image_of, is_vhd, new_shape, on_image, reads_through, refs, risen, thick_in, with_image, without_image}
 use Rattle.sm_machine.specs.Collector.{next_step, is_garbage, is_loose, pairs, leaves, lives, debt, IsLess}
+use Rattle.sm_machine.specs.Runs.{HasSector}
 use Rattle.sm_machine.specs.Steps.{State, is_attached, shape_next, step}
-use Rattle.sm_machine.specs.WellFormed.{AreDisksOf, IsOperation, IsSize, IsWellFormed}
+use Rattle.sm_machine.specs.Commits.{commits}
+use Rattle.sm_machine.specs.Refusals.{need, refusal}
+use Rattle.sm_machine.specs.Tracking.{AreGoodLogs, AreUntracked, begun, ended, is_tracked, log_commits, log_need, log_room, tracked, tracked_step}
+use Rattle.sm_machine.specs.WellFormed.{AreDisksOf, HasRecord, IsOperation, IsSize, IsWellFormed}
 
 -- a refused command changes neither disks nor shape
 abbrev pub RefusedKeeps : Type 0
@@ -128,3 +135,55 @@ pub record UsesFollow : Type 0 where
   pub attached : (s : Shape) (a : Attachment) (n : Name) → refs n (record s { attached = s.attached ++ a ∷ [] }) ≡ refs n s + one_if (reads_through n s a.disk)
   pub detached : (s : Shape) (a : Attachment) (n : Name) → IsWellFormed s → In a s.attached
       → refs n s ≡ refs n (record s { attached = filter (λ b. not (is_attached a.disk b)) s.attached }) + one_if (reads_through n s a.disk)
+
+-- ---- logs
+
+-- a step with what it does to logs keeps a shape well-formed, where a snapshot's log finds room behind its images
+abbrev pub TrackedStepKeepsShape : Type 0
+TrackedStepKeepsShape = (σ : State) (c : Command) → IsWellFormed σ.shape → AreGoodLogs σ.shape → log_need σ.shape c ≤ free (shape_next σ.shape c)
+    → IsWellFormed ((tracked_step σ c).after.shape)
+
+-- a snapshot's log finds room where the extents are free that a command takes for images and logs together
+abbrev pub TrackedRoom : Type 0
+TrackedRoom = (s : Shape) (c : Command) → IsWellFormed s → refusal s c ≡ None → need s c + log_need s c ≤ free s → log_need s c ≤ free (shape_next s c)
+
+-- a step with what it does to logs keeps them good, where no tracked disk gets another size
+abbrev pub TrackedStepKeepsLogs : Type 0
+TrackedStepKeepsLogs = (σ : State) (c : Command) → IsWellFormed σ.shape → AreGoodLogs σ.shape → is_tracked σ.shape c ≡ false → AreGoodLogs ((tracked_step σ c).after.shape)
+
+-- a step with what it does to logs keeps true what these tell of disks: where sectors of two disks differ, of which one was begun where the
+-- other was taken, the later one's log names the piece
+abbrev pub TrackedStepTells : Type 0
+TrackedStepTells = (σ : State) (c : Command) → IsWellFormed σ.shape → AreDisksOf σ.disks σ.shape → AreGoodLogs σ.shape → is_tracked σ.shape c ≡ false
+    → Tells (HasSector σ.disks) σ.shape.logs → Tells (HasSector ((tracked_step σ c).after.disks)) ((tracked_step σ c).after.shape.logs)
+
+-- a step with what it does to logs keeps disks and shape together
+abbrev pub TrackedStepKeepsDisks : Type 0
+TrackedStepKeepsDisks = (σ : State) (c : Command) → IsWellFormed σ.shape → AreDisksOf σ.disks σ.shape
+    → AreDisksOf ((tracked_step σ c).after.disks) ((tracked_step σ c).after.shape)
+
+-- a step with what it does to logs: disks and reply are those of the step without, and so is all of it where no disk is tracked; a refused
+-- command changes nothing; the commits of both are counted
+pub record TrackedStepFollows : Type 0 where
+  pub disks : (σ : State) (c : Command) → (tracked_step σ c).after.disks ≡ (step σ c).after.disks
+  pub answer : (σ : State) (c : Command) → (tracked_step σ c).reply ≡ (step σ c).reply
+  pub untracked : (σ : State) (c : Command) → IsWellFormed σ.shape → AreUntracked σ.shape → tracked_step σ c ≡ step σ c
+  pub refused : (σ : State) (c : Command) (r : Refusal) → (tracked_step σ c).reply ≡ reply.No r → (tracked_step σ c).after ≡ σ
+  pub counted : (s : Shape) (c : Command) → (tracked s c (shape_next s c)).sequence ≡ risen s.sequence (commits s c + log_commits s c)
+
+-- tracking begins for a disk that is there and has no log: the shape stays well-formed where its log finds room, logs stay good, and what
+-- they tell stays true
+pub record TrackingBegins : Type 0 where
+  pub shape : (s : Shape) (u : List ℕ) → IsWellFormed s → AreGoodLogs s → log_room s u ≤ free s → IsWellFormed (begun s u)
+  pub logs : (s : Shape) (u : List ℕ) → IsWellFormed s → AreGoodLogs s → HasRecord s u → log_of u s.logs ≡ None → AreGoodLogs (begun s u)
+  pub tells : (disks : List Disk) (s : Shape) (u : List ℕ) → Tells (HasSector disks) s.logs → Tells (HasSector disks) (begun s u).logs
+
+-- tracking ends: the shape stays well-formed, logs stay good, and what they tell stays true
+pub record TrackingEnds : Type 0 where
+  pub shape : (s : Shape) (u : List ℕ) → IsWellFormed s → AreGoodLogs s → IsWellFormed (ended s u)
+  pub logs : (s : Shape) (u : List ℕ) → IsWellFormed s → AreGoodLogs s → AreGoodLogs (ended s u)
+  pub tells : (disks : List Disk) (s : Shape) (u : List ℕ) → Tells (HasSector disks) s.logs → Tells (HasSector disks) (ended s u).logs
+
+-- a shape without logs has good ones
+abbrev pub UntrackedIsGood : Type 0
+UntrackedIsGood = (s : Shape) → AreUntracked s → AreGoodLogs s

@@ -10,4 +10,5 @@ pub mod Runs
 pub mod Shapes
 pub mod Stats
 pub mod Steps
+pub mod Tracking
 pub mod WellFormed

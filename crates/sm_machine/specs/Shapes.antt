@@ -15,6 +15,7 @@ use Rattle.sm_base.specs.declared.operations.Mode.TheVariants.{Ro, Rw}
 use Rattle.sm_machine.specs.Operations.{Op}
 use Rattle.sm_machine.specs.Operations.{Idle}
 use Rattle.common_laws.specs.Lists.{change, insert_by, ◌>>=◌}
+use Rattle.sm_log.specs.Logs.{Log}
 
 -- an image: its volume's name and number of extents, whether it is hidden from users, the image that it reads through
 -- where it has no sector of its own, its size in sectors, and its table
@@ -39,8 +40,8 @@ pub record Attachment : Type 0 where
   pub mode : Mode
 
 -- `extent` and `block` are in sectors, `entries` is the number of entries of each image's table, `extents` is the number
--- of extents of the repository, `others` the number of those that volumes other than these images have. Records stand
--- in order of UUID, images in order of name, attachments in the order in which they were made
+-- of extents of the repository, `others` the number of those that volumes other than these images have, logs among them.
+-- Records and logs stand in order of UUID, images in order of name, attachments in the order in which they were made
 pub record Shape : Type 0 where
   pub sequence : ℕ
   pub extent : ℕ
@@ -50,6 +51,7 @@ pub record Shape : Type 0 where
   pub others : ℕ
   pub records : List DiskRecord
   pub images : List ImageRow
+  pub logs : List Log
   pub attached : List Attachment
   pub op : Op
 
@@ -64,6 +66,7 @@ new_shape extent block entries extents others = record {
   others = others;
   records = [];
   images = [];
+  logs = [];
   attached = [];
   op = Idle;
 }

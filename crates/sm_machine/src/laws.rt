@@ -1,6 +1,6 @@
 //! Laws of the machine. Each function does nothing: its clause is the law, and the check proves it.
 
-ghost use Rattle.sm_machine.specs.Laws.{CollectorKeepsDisks, ExtentsKeepShape, IdleIsDone, NewHasNoDisks, NewIsWellFormed, RefusedKeeps, SizeKeepsShape, StepKeepsDisks, StepKeepsShape, StepLowersDebt, UsesFollow};
+ghost use Rattle.sm_machine.specs.Laws.{CollectorKeepsDisks, ExtentsKeepShape, IdleIsDone, NewHasNoDisks, NewIsWellFormed, RefusedKeeps, SizeKeepsShape, StepKeepsDisks, StepKeepsShape, StepLowersDebt, TrackedRoom, TrackedStepFollows, TrackedStepKeepsDisks, TrackedStepKeepsLogs, TrackedStepKeepsShape, TrackedStepTells, TrackingBegins, TrackingEnds, UntrackedIsGood, UsesFollow};
 
 /// A refused command changes neither disks nor shape.
 pub fn refused_step_keeps()
@@ -50,4 +50,34 @@ pub fn moments_keep_shape()
 /// How many attached disks read through an image, after a change of the images or of the attachments.
 pub fn uses_follow()
     ensures { UsesFollow }
+{}
+
+/// A step with what it does to logs keeps a shape well-formed, where the log that it makes finds room behind the step. It does
+/// where so much is free before it.
+pub fn tracked_step_keeps_shape()
+    ensures shape { TrackedStepKeepsShape }
+    ensures room { TrackedRoom }
+{}
+
+/// A step with what it does to logs keeps them good, where it gives no tracked disk another size.
+pub fn tracked_step_keeps_logs()
+    ensures { TrackedStepKeepsLogs }
+{}
+
+/// What logs tell of disks stays true over a step, where it gives no tracked disk another size.
+pub fn tracked_step_tells()
+    ensures { TrackedStepTells }
+{}
+
+/// What a step does to logs changes neither disks nor reply, and is nothing where no disk is tracked.
+pub fn tracked_step_follows()
+    ensures disks { TrackedStepKeepsDisks }
+    ensures step { TrackedStepFollows }
+{}
+
+/// Tracking begins for a disk, and ends: the shape stays well-formed, logs stay good, and what they tell stays true.
+pub fn tracking_keeps()
+    ensures begins { TrackingBegins }
+    ensures ends { TrackingEnds }
+    ensures none { UntrackedIsGood }
 {}

@@ -18,6 +18,7 @@
 //! - `Commits`: by how much the sequence number rises.
 //! - `Collector`: the collector's next step, what it does, and the debt that it works off.
 //! - `Steps`: the step of each command.
+//! - `Tracking`: what a command does to the logs of tracked disks, and which logs there are.
 //! - `Runs`: a run over lines, and what may be seen after a stop.
 //! - `WellFormed`: which shapes there are.
 //! - `Laws`: what the module [`laws`] proves of all of these.
