@@ -2,6 +2,7 @@ pub mod Contents
 pub mod Entries
 pub mod Images
 pub mod Standing
+pub mod Logs
 pub mod Outlines
 pub mod Answering
 pub mod Checks

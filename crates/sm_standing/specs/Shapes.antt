@@ -9,6 +9,7 @@ use Rattle.sm_machine.specs.Shapes.{Shape, ImageRow, DiskRecord}
 use Rattle.sm_machine.specs.Steps.{State}
 use Rattle.sm_standing.specs.Contents.{Content}
 use Rattle.sm_standing.specs.Images.{Image, image_of}
+use Rattle.sm_standing.specs.Logs.{logs}
 use Rattle.sm_standing.specs.Standing.{HasNoStray, disks}
 
 -- the row of an image
@@ -41,6 +42,7 @@ shape c = record {
   others = sum (map (other_extents c) c.table.volumes);
   records = map disk_record (disks c);
   images = image_rows c;
+  logs = logs c;
   attached = [];
   op = Idle;
 }
