@@ -1,0 +1,3 @@
+pub mod BitLaws
+pub mod NextLaws
+pub mod ReadLaws

@@ -1,0 +1,52 @@
+use Rattle.std.proofs.Common.{◌+◌, List, Ok, drop, length, ap, sym, ◌∙◌, arith}
+use Rattle.vg_volumes.specs.Stored.{stored}
+use Rattle.vg_volumes.proofs.StoredLaws.{reads_then}
+use Rattle.sm_log.specs.Logs.{Log}
+use Rattle.sm_standing.specs.Contents.{Content}
+use Rattle.sm_log_reading.specs.Reading.{content_of}
+use Rattle.sm_log_reading.specs.Right.{logs_behind, next_log}
+use Rattle.sm_log_reading.proofs.NextLaws.{behind_end, behind_next, behind_wrong, content_same, later_reason, length-with_log}
+use Rattle.sm_log_reading.proofs.logs.read_logs.Goals as goal
+
+pub returns-in-Err-clause-only : goal.returns-in-Err-clause-only
+returns-in-Err-clause-only g c = reads_then c.loop-disk.invariant.only c.read_next.ensures.only
+
+pub returns-in-Err-clause-cause : goal.returns-in-Err-clause-cause
+returns-in-Err-clause-cause g c =
+    let i = c.loop-disk.invariant in
+    let d = c.disk-item.result in
+    let now = content_of (stored g.S.Store c.args.store.now) in
+    later_reason g.S.Store c.args.store.now c.loop-disk.store c.read_next.new.store c.in-Err.fault i.calm
+    (λ told u wrong. sym (i.so_far told) ∙ behind_wrong now c.loop-disk.logs c.args.disks.now c.loop-disk.disk-index d u c.loop-disk-test.true c.disk-item.is
+    (sym (ap (λ (x : Content). next_log x c.loop-disk.logs d) (content_same i.only told)) ∙ wrong)) c.in-Err.ensures.cause
+
+pub loop-disk-preserved-in_default-found : goal.loop-disk-preserved-in_default-found
+loop-disk-preserved-in_default-found g c =
+    let i = c.loop-disk.invariant in
+    let d = c.disk-item.result in
+    let now = content_of (stored g.S.Store c.args.store.now) in
+    record {
+      calm = c.in-Ok-read_next.ensures.calm (λ is. absurd cc) ∙ i.calm;
+      only = reads_then i.only c.read_next.ensures.only;
+      few = omega (arith, i.few);
+      so_far = λ told. sym (behind_next now c.loop-disk.logs c.args.disks.now c.loop-disk.disk-index d _ c.loop-disk-test.true c.disk-item.is
+          (sym (ap (λ (x : Content). next_log x c.loop-disk.logs d) (content_same i.only told)) ∙ c.in-Ok-read_next.ensures.next told ∙ ap Ok c.in_default-found.is)) ∙ i.so_far told;
+    }
+
+pub loop-disk-preserved : goal.loop-disk-preserved
+loop-disk-preserved g c =
+    let i = c.loop-disk.invariant in
+    let d = c.disk-item.result in
+    let now = content_of (stored g.S.Store c.args.store.now) in
+    record {
+      calm = c.in-Ok-read_next.ensures.calm (λ is. absurd cc) ∙ i.calm;
+      only = reads_then i.only c.read_next.ensures.only;
+      few = omega (arith, i.few, ap length c.insert.ensures, length-with_log c.in-Some.log c.loop-disk.logs);
+      so_far = λ told. ap (λ (ls : List Log). logs_behind now ls (drop (c.loop-disk.disk-index + 1) c.args.disks.now)) c.insert.ensures
+          ∙ sym (behind_next now c.loop-disk.logs c.args.disks.now c.loop-disk.disk-index d _ c.loop-disk-test.true c.disk-item.is
+          (sym (ap (λ (x : Content). next_log x c.loop-disk.logs d) (content_same i.only told)) ∙ c.in-Ok-read_next.ensures.next told ∙ ap Ok c.in-Some.is)) ∙ i.so_far told;
+    }
+
+pub returns-clause-logs : goal.returns-clause-logs
+returns-clause-logs g c = λ told.
+    sym (c.loop-disk.invariant.so_far told) ∙ behind_end (content_of (stored g.S.Store c.args.store.now)) c.loop-disk.logs c.args.disks.now c.loop-disk.disk-index (omega (arith, c.loop-disk-test.false))
