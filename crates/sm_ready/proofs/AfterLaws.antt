@@ -3,7 +3,7 @@ use Rattle.vhd_image.specs.declared.images.Body.{Body}
 use Rattle.std.proofs.Common.{◌≡◌, ◌≢◌, ◌⊎◌, inl, inr, ℕ, ◌*◌, ◌<◌, ◌≤◌, nat_lt, Bool, true, false, cond, List, [], length, Option, refl, sym, ap, ◌∙◌, subst}
 use Rattle.std.proofs.lemmas.Bool.{lt-ltb, le-ltb, cases_lt}
 use Rattle.sm_base.specs.declared.names.Name.{Name}
-use Rattle.sm_base.specs.declared.names.Name.TheVariants.{Mgt, Vhd}
+use Rattle.sm_base.specs.declared.names.Name.TheVariants.{Mgt, Vhd, Cbt}
 use Rattle.sm_disk.specs.Held.{Held, Keeps, May, newest, reads}
 use Rattle.vg_meta.specs.Tables.{VolumeTable, Row, IsTable, rows, extents_of}
 use Rattle.vg_meta.proofs.ByName.{spread}
@@ -11,6 +11,7 @@ use Rattle.vg_volumes.specs.Sites.{Site, volume_of}
 use Rattle.vg_volumes.specs.Volumes.{span, spot, volume, KeepsElsewhere}
 use Rattle.vhd_volumes.specs.Truth.{IsTrueIn}
 use Rattle.common_laws.specs.Lists.{In}
+use Rattle.sm_standing.specs.Logs.{IsLogged}
 use Rattle.sm_standing.proofs.WorldLaws.{elsewhere}
 use Rattle.sm_ready.specs.Known.{Known, shape_in}
 use Rattle.vhd_chain.specs.declared.rows.TreeRow.{TreeRow}
@@ -22,6 +23,7 @@ use Rattle.vhd_image.specs.Steady.{IsSteady}
 use Rattle.sm_ready.specs.Stores.{content_now}
 use Rattle.sm_ready.proofs.GuestLaws.{Writes}
 use Rattle.sm_ready.proofs.LeftLaws.{extent_some}
+use Rattle.sm_ready.proofs.LogLaws.{HoldsLogs, holds_keeps, holds_ready}
 use Rattle.sm_ready.proofs.RestLaws.{agrees_keeps, steady_keeps}
 use Rattle.vhd_image.specs.declared.images.Body.TheVariants as body
 
@@ -88,15 +90,20 @@ module _ (s : Site) (t : VolumeTable) (m m' : Known) (old new : Held) (u : List 
   pub ready_written : IsTrueIn s.geometry (length r.extents * s.geometry.extent) (volume_of s t new (Vhd u)) h.at.head slots → Heads
       → ((q : TreeRow) → In q m'.rows → IsAfterRow m (Vhd u) (body.Vhd h.at.head slots) (length r.extents) q)
       → ((n : Name) → is_written_in (shape_in s t m') n ≡ false → (n ≢ Vhd u) × (is_written_in (shape_in s t m) n ≡ false))
-      → m'.places ≡ m.places → IsBelow (content_now s t new) m'.op → IsReady s t new m'
-  ready_written truth heads from quiet places below = record {
+      → m'.places ≡ m.places → m'.logs ≡ m.logs → IsBelow (content_now s t new) m'.op → IsReady s t new m'
+  ready_written truth heads from quiet places logs below = record {
     firm = record { images = λ q i. image q (from q i); quiet = λ q i still. let w = quiet (row_name q) still in still_quiet q w.0 w.1 (from q i); below = below };
     records = subst (λ p. Agrees (records_held s t new) p) (sym places) (agrees_keeps (records_held s t old) (records_held s t new) m.places (keeps Mgt (λ e. let x = e in cc)) h.ready.records);
     recorded = quiet_keeps (records_held s t old) (records_held s t new) (keeps Mgt (λ e. let x = e in cc)) h.ready.recorded;
+    logs = subst (IsLogged (content_now s t new)) (sym logs) held.logs;
+    logged = held.quiet;
   }
     where
       keeps : (n : Name) → n ≢ Vhd u → Keeps (volume_of s t old n) (volume_of s t new n)
       keeps n other = other_keeps s t old new (Vhd u) n h.orderly.table (extent_some s t m h.orderly) h.keeps other
+
+      held : HoldsLogs s t new m.logs
+      held = holds_keeps (holds_ready s t old m h.orderly h.ready) new (λ v. keeps (Cbt v) (λ e. let x = e in cc))
 
       still_quiet : (q : TreeRow) → row_name q ≢ Vhd u → is_written_in (shape_in s t m) (row_name q) ≡ false → IsAfterRow m (Vhd u) (body.Vhd h.at.head slots) (length r.extents) q → IsQuiet (volume_of s t new (row_name q))
       still_quiet q other still (inl w) = quiet_keeps (volume_of s t old (row_name q)) (volume_of s t new (row_name q)) (keeps (row_name q) other) (h.ready.firm.quiet q w.1 still)

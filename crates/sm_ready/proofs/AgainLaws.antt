@@ -4,7 +4,7 @@ use Rattle.std.proofs.Math.Path.{fun_ext}
 use Rattle.std.proofs.lemmas.Bool.{true≢false}
 use Rattle.std.proofs.lemmas.Option.{unwrap_or-slice_get, get_or_from_slice_get, slice_get-get_or}
 use Rattle.sm_base.specs.declared.names.Name.{Name}
-use Rattle.sm_base.specs.declared.names.Name.TheVariants.{Mgt}
+use Rattle.sm_base.specs.declared.names.Name.TheVariants.{Mgt, Cbt}
 use Rattle.sm_disk.specs.Held.{IsSettled, Keeps, reads}
 use Rattle.sm_disk.specs.Sectors.{zeros}
 use Rattle.vg_meta.specs.Changes.{applied}
@@ -46,12 +46,13 @@ use Rattle.sm_ready.proofs.NewVolumeLaws.{new_beside}
 -- ---- one repair after another
 
 pub again_none : (x : Stored) (m : Known) → RestsAgain x x m m
-again_none x m = record { rest = λ r. r; same_disks = λ r. refl; same_images = λ r n. refl }
+again_none x m = record { rest = λ r. r; same_disks = λ r. refl; same_logs = refl; same_images = λ r n. refl }
 
 pub again_then : {x y z : Stored} {a b c : Known} → RestsAgain x y a b → RestsAgain y z b c → RestsAgain x z a c
 again_then p q = record {
   rest = λ r. q.rest (p.rest r);
   same_disks = λ r. q.same_disks (p.rest r) ∙ p.same_disks r;
+  same_logs = q.same_logs ∙ p.same_logs;
   same_images = λ r n. q.same_images (p.rest r) n ∙ p.same_images r n;
 }
 
@@ -84,6 +85,7 @@ module _ (x : Stored) (n : Name) (new : IsNewVolume x.table n) where
           idle = r.idle;
         };
         same_disks = λ r. gone_disks x.site x.table x.area m n new.0 r.orderly r.ready (new_beside n new r.orderly) y.area keeps settled;
+        same_logs = refl;
         same_images = λ r k. ap (λ f. image_of (content_in x.site (applied x.table (Remove n)) f) k) (fun_ext keeps.reads)
             ∙ images_beside x.site x.table x.area m n new.0 (Remove n) r.orderly r.ready (new_beside n new r.orderly) (goes_alone r.orderly.table (new_beside n new r.orderly)) k;
       })
@@ -128,6 +130,8 @@ module _ {S : Type 0} {g : Ghosts S} where
   swept {a} {b} {m} w told o = record {
     images = λ q i. other_keeps (g.site a) (table_alone (g.table a)) (g.area a) (g.area b) Mgt (row_name q) o.table (omega (arith, (g.site a).geometry.in_range.extent_least))
         (KeepsElsewhere-same (w.beside told)) (λ e. true≢false (sym (named_row (g.site a) (table_alone (g.table a)) m q o i) ∙ ap is_image_name e));
+    logs = λ u. other_keeps (g.site a) (table_alone (g.table a)) (g.area a) (g.area b) Mgt (Cbt u) o.table (omega (arith, (g.site a).geometry.in_range.extent_least))
+        (KeepsElsewhere-same (w.beside told)) (λ e. let z = e in cc);
     records = λ p v below may. ⊎_elim (λ was. inl was)
         (λ z. inr (
           ap reading z.0 ∙ reading_zeros 512,
@@ -167,6 +171,7 @@ module _ {S : Type 0} {g : Ghosts S} where
           idle = r.idle;
         };
         same_disks = λ r. swept_now (g.site a) (table_alone (g.table a)) m (g.area a) (g.area b) (g.area d) r.orderly r.ready (swept w told r.orderly) keeps r.settled;
+        same_logs = refl;
         same_images = λ r n. ap (λ f. image_of (content_in (g.site a) (table_alone (g.table a)) f) n) (fun_ext keeps.reads)
             ∙ image_quiet (g.site a) (table_alone (g.table a)) (g.area a) m (reads (g.area b)) n r.orderly r.ready.firm
             (swept_in (g.site a) (table_alone (g.table a)) m (g.area a) (g.area b) r.orderly r.ready (swept w told r.orderly) (reads (g.area b)) (left_now (g.site a) (g.area b)))

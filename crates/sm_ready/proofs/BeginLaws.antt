@@ -1,6 +1,6 @@
 -- A new volume for an image whose UUID no image has: that its commit is allowed and leaves table and memory orderly, and that the
 -- disk's record goes into a free place.
-use Rattle.std.proofs.Common.{◌≡◌, ◌≢◌, ⊎_elim, ℕ, ◌+◌, ◌<◌, ◌≤◌, ◌==◌, Bool, true, false, cond, ◌&&◌, ◌||◌, not, nat_lt, bytes_eq, List, [], ◌∷◌, length, filter, get_or, position, is_none, is_some, Option, Some, None, refl, sym, ap, ap₂, ◌∙◌, subst, arith}
+use Rattle.std.proofs.Common.{◌≡◌, ◌≢◌, ⊎_elim, ℕ, ◌+◌, ◌<◌, ◌≤◌, Bool, true, false, cond, ◌&&◌, ◌||◌, not, nat_lt, bytes_eq, List, [], ◌∷◌, length, filter, get_or, position, is_none, is_some, Option, Some, None, refl, sym, ap, ap₂, ◌∙◌, subst, arith}
 use Rattle.std.proofs.Math.Logic.{∥∥₁_elim}
 use Rattle.std.proofs.Props.{props}
 use Rattle.std.specs.Option.{option_or}
@@ -12,11 +12,11 @@ use Rattle.std.proofs.lemmas.Slice.Eq.{bytes_eq-Decides}
 use Rattle.common_laws.specs.Lists.{In}
 use Rattle.common_laws.proofs.Lists.{find_none, list_any-find}
 use Rattle.common_laws.proofs.Options.{none_of_some}
-use Rattle.sm_base.specs.Kinds.{is_entry, is_image, is_log}
+use Rattle.sm_base.specs.Kinds.{is_image}
 use Rattle.sm_base.specs.Names.{IsName, is_base, name_cmp}
 use Rattle.sm_base.specs.declared.names.Name.{Name}
-use Rattle.sm_base.specs.declared.names.Name.TheVariants.{Vhd, Raw}
-use Rattle.vg_meta.specs.Tables.{VolumeTable, Row, rows}
+use Rattle.sm_base.specs.declared.names.Name.TheVariants.{Mgt, Vhd, Raw, Old, Cbt, Clone, Inflate, Coalesce, Relink, Leaf}
+use Rattle.vg_meta.specs.Tables.{VolumeTable, Row, rows, suits}
 use Rattle.vg_meta.specs.Changes.{AreFree, Permits, applied, made, put}
 use Rattle.vg_meta.specs.declared.changes.Change.TheVariants.{Create}
 use Rattle.vg_meta.proofs.RowLaws.{row_of-put_same, row_of-put_other}
@@ -123,6 +123,20 @@ pub record IsToBegin (s : Site) (t : VolumeTable) (m : Known) (own : Name) (es u
   pub some_extents : 0 < length es
   pub extents_free : AreFree s.count t.volumes es
 
+-- a new volume for an image suits a table, where it has an extent
+image_suits : (n : Name) (es : List ℕ) → is_image_name n ≡ true → nat_lt 0 (length es) ≡ true → suits (made n true es) ≡ true
+unfolding is_image_name
+image_suits (Vhd u) es image some = some
+image_suits (Raw u) es image some = some
+image_suits Mgt es image some = absurd (true≢false (sym image))
+image_suits (Old u) es image some = absurd (true≢false (sym image))
+image_suits (Cbt u) es image some = absurd (true≢false (sym image))
+image_suits (Clone d b w) es image some = absurd (true≢false (sym image))
+image_suits (Inflate u k) es image some = absurd (true≢false (sym image))
+image_suits (Coalesce v p) es image some = absurd (true≢false (sym image))
+image_suits (Relink v p) es image some = absurd (true≢false (sym image))
+image_suits (Leaf l p) es image some = absurd (true≢false (sym image))
+
 module _ (s : Site) (t : VolumeTable) (m : Known) (own : Name) (es u : List ℕ) (b : IsToBegin s t m own es u) where
   abbrev next : VolumeTable
   next = applied t (Create own true es)
@@ -143,7 +157,7 @@ module _ (s : Site) (t : VolumeTable) (m : Known) (own : Name) (es u : List ℕ)
     name_proper = b.proper;
     new_name = gone own b.image b.uuid;
     not_mgt = λ e. true≢false (sym b.image ∙ ap is_image_name e ∙ mgt_image);
-    kind = subst (λ x. cond x (nat_lt 0 (length es)) (not (is_log own) && (not false && (not true && (not (is_entry own) || (length es == 0))))) ≡ true) (sym (image_named own b.image)) (lt-ltb 0 (length es) b.some_extents);
+    kind = image_suits own es b.image (lt-ltb 0 (length es) b.some_extents);
     extents_free = b.extents_free;
   }
 

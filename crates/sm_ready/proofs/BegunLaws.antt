@@ -9,7 +9,9 @@ use Rattle.sm_base.specs.Kinds.{is_entry, is_image}
 use Rattle.sm_base.specs.Names.{base_uuid}
 use Rattle.sm_base.specs.Numbers.{IsGeometry}
 use Rattle.sm_base.specs.declared.names.Name.{Name}
-use Rattle.sm_base.specs.declared.names.Name.TheVariants.{Mgt, Raw, Vhd}
+use Rattle.sm_base.specs.declared.names.Name.TheVariants.{Mgt, Raw, Vhd, Cbt}
+use Rattle.sm_log.specs.Logs.{log_extents}
+use Rattle.sm_logs.proofs.OrderLaws.{rising_first}
 use Rattle.sm_machine.specs.Operations.{Idle}
 use Rattle.sm_disk.specs.Held.{Held, IsSettled}
 use Rattle.vg_meta.specs.Tables.{IsTable, VolumeTable, Row, rows, extents_of}
@@ -29,12 +31,13 @@ use Rattle.sm_record.specs.declared.records.Record.{Record}
 use Rattle.sm_mgt.specs.Places.{Agrees, records_held, is_of, place_count}
 use Rattle.sm_standing.specs.Checks.{is_misnamed, images, has_twin}
 use Rattle.sm_standing.specs.Entries.{are_past, is_there, base_number, is_past, names_in}
+use Rattle.sm_standing.specs.Logs.{IsLogged}
 use Rattle.sm_standing.specs.Standing.{standing_volume}
 use Rattle.vhd_chain.specs.Trees.{row_name, tree_row}
 use Rattle.vhd_chain.specs.declared.rows.TreeRow.{TreeRow}
 use Rattle.vhd_image.specs.Bodies.{StandsIn}
 use Rattle.vhd_image.specs.Steady.{IsSteady}
-use Rattle.sm_ready.specs.Known.{Known, machine_row, machine_record, shape_in, records_in, shown_places, is_shown, is_shown_place, tree_face}
+use Rattle.sm_ready.specs.Known.{Known, machine_row, machine_record, shape_in, records_in, shown_places, is_shown, is_shown_place, row_face, tree_face}
 use Rattle.sm_ready.specs.Orderly.{IsOrderly}
 use Rattle.sm_ready.specs.Ready.{IsReady, IsBelow}
 use Rattle.sm_ready.specs.Stores.{content_now}
@@ -50,7 +53,7 @@ use Rattle.sm_standing.proofs.Orders.{In-filter_map}
 
 -- memory with these rows and places, and nothing under way
 abbrev pub begun_with : List TreeRow → List (Option Record) → ℕ → Known
-begun_with xs places room = record { rows = xs; places = places; attached = record { disks = []; counts = []; room = room }; op = Idle }
+begun_with xs places room = record { rows = xs; places = places; logs = []; attached = record { disks = []; counts = []; room = room }; op = Idle }
 
 -- what the checks say of a table without journal entries, of the rows that were read off it, and of the places of the records
 pub record IsRead (s : Site) (t : VolumeTable) (read : Row → Option TreeRow) (xs : List TreeRow) (places : List (Option Record)) : Type 0 where
@@ -62,6 +65,7 @@ pub record IsRead (s : Site) (t : VolumeTable) (read : Row → Option TreeRow) (
   pub named : (r : Row) → In r t.volumes → is_misnamed t r ≡ false
   pub new_image : (r : Row) → In r t.volumes → r.fresh ≡ true → is_image_name r.name ≡ true
   pub no_entry : names_in t is_entry ≡ []
+  pub no_log : (u : List ℕ) → row_face (rows t (Cbt u)) ≡ None
   -- the rows: each image that is not new has one, and chains end
   pub from : (r : Row) (x : TreeRow) → read r ≡ Some x → IsReadFrom r x
   pub all : (r : Row) → In r t.volumes → is_image r.name ≡ true → r.fresh ≡ false → (x : TreeRow) × (read r ≡ Some x)
@@ -200,7 +204,7 @@ module _ {s : Site} {t : VolumeTable} {read : Row → Option TreeRow} {xs : List
       same_named t (row_name x) (row_name y) (b.proper 0 x i).named (b.proper 0 y j).named (there_at t w.0 (row_name y) b.table.volumes.rising w.1 w.2) (free x i) same)
 
   pub begun_well : (room : ℕ) → IsWellFormed (shape_in s t (begun_with xs places room))
-  unfolding shape_in
+  unfolding shape_in log_extents
   begun_well room = record {
     geometry = g;
     blocks = whole_blocks s.geometry.extent s.geometry.block g.extent_power g.block_power g.within;
@@ -245,6 +249,10 @@ module _ {s : Site} {t : VolumeTable} {read : Row → Option TreeRow} {xs : List
     images = λ n image.
         faces_same read b.from t.volumes b.table.volumes.rising b.all (subst (λ ys. Distinct (map (λ i. image_uuid i.name) (map machine_row ys))) b.rows_are distinct) n image
         ∙ ap (λ ys. tree_face (tree_row ys n)) (sym b.rows_are);
+    logs = b.no_log;
+    few_logs = omega arith;
+    logs_in_order = rising_first;
+    log_room = λ l i. absurd i;
     places = b.long;
     entries = b.no_entry;
     stands = b.stands;
@@ -253,10 +261,10 @@ module _ {s : Site} {t : VolumeTable} {read : Row → Option TreeRow} {xs : List
     counts = λ n. refl;
   }
 
--- and ready, where nothing is pending and the places are those of the store
+-- and ready, where nothing is pending, and the places and logs are those of the store
 pub begun_ready : (s : Site) (t : VolumeTable) (area : Held) (m : Known) → ((x : TreeRow) → In x m.rows → IsSteady s.geometry (x.extents * s.geometry.extent) (volume_of s t area (row_name x)) x.image)
-    → IsSettled area → Agrees (records_held s t area) m.places → m.op ≡ Idle → IsReady s t area m
-begun_ready s t area m steady settled agrees idle = record {
+    → IsSettled area → Agrees (records_held s t area) m.places → IsLogged (content_now s t area) m.logs → m.op ≡ Idle → IsReady s t area m
+begun_ready s t area m steady settled agrees logs idle = record {
   firm = record {
     images = steady;
     quiet = λ x i still. all_quiet s t area settled (row_name x);
@@ -264,4 +272,6 @@ begun_ready s t area m steady settled agrees idle = record {
   };
   records = agrees;
   recorded = all_quiet s t area settled Mgt;
+  logs = logs;
+  logged = λ u. all_quiet s t area settled (Cbt u);
 }

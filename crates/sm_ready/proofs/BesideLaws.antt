@@ -41,6 +41,8 @@ use Rattle.sm_ready.specs.Ready.{IsReady}
 use Rattle.sm_ready.specs.Stores.{Leaving, content_now}
 use Rattle.sm_ready.proofs.CommitLaws.{law_single_commit, volume_rested}
 use Rattle.sm_ready.proofs.FreshLaws.{raised_well, refs_raised, roomy_raised}
+use Rattle.sm_ready.proofs.LogLaws.{holds_commit, holds_ready}
+use Rattle.sm_ready.proofs.LogRows.{name_apart}
 use Rattle.sm_ready.proofs.LeftLaws.{none_of_vhd, none_of_raw}
 use Rattle.sm_ready.proofs.OperationLaws.{below_alike}
 use Rattle.sm_ready.proofs.Orders.{fresh_face, geometry_of, new_unrowed, whole}
@@ -123,6 +125,10 @@ module _ (s : Site) (t : VolumeTable) (m : Known) (x : Name) (r : Row) (c : Chan
     images = λ n e. ⊎_elim
         (λ same. ap row_face (ap (rows next) same) ∙ unfaced (rows next x) alone.own ∙ sym (unfaced (rows t x) new_or_none) ∙ sym (ap row_face (ap (rows t) same)) ∙ o.images n e)
         (λ other. ap row_face (alone.others n other) ∙ o.images n e) (name_case n);
+    logs = λ u. ap row_face (alone.others (Cbt u) (name_apart x h.image u)) ∙ o.logs u;
+    few_logs = o.few_logs;
+    logs_in_order = o.logs_in_order;
+    log_room = o.log_room;
     entries = alone.entries ∙ o.entries;
     places = o.places;
     stands = o.stands;
@@ -234,7 +240,9 @@ module _ (s : Site) (t : VolumeTable) (old : Held) (m : Known) (x : Name) (r : R
   -- memory is ready on a device at rest
   pub ready_beside : IsReady s (applied t c) (at_rest (reads old)) m
   unfolding shape_in
-  ready_beside = ready_rest s t (applied t c) old m m ready from (ap extents_of (mgt_stays s.count t c o.table h.allows)) refl (volume_rested s (applied t c) (reads old))
+  ready_beside = ready_rest s t (applied t c) old m m ready from (ap extents_of (mgt_stays s.count t c o.table h.allows)) refl
+      (holds_commit (holds_ready s t old m o ready) (applied t c) (λ u. row_still (Cbt u) (name_apart x h.image u)) (λ u. volume_rested s (applied t c) (reads old) (Cbt u))).logs
+      (volume_rested s (applied t c) (reads old))
       (below_alike was now m.op refl refl (λ n _. images_beside n) ready.firm.below)
     where
       from : (q : TreeRow) → In q m.rows → IsOfRow t (applied t c) m q
@@ -248,4 +256,4 @@ module _ (s : Site) (t : VolumeTable) (old : Held) (m : Known) (x : Name) (r : R
       → IsCommit s t (applied t c) old new leaves ok
       → HasDone s t (applied t c) old new m before leaves ok (disks was)
   law_beside new before leaves ok might commit =
-      law_single_commit s t (applied t c) old new m m before leaves ok (disks was) o ready still ready_beside might commit disks_beside
+      law_single_commit s t (applied t c) old new m m before leaves ok (disks was) o ready still ready_beside might commit disks_beside refl

@@ -19,6 +19,7 @@ use Rattle.vg_volumes.specs.declared.stores.Store.{Ghosts}
 use Rattle.sm_machine.specs.Disks.{Disk}
 use Rattle.sm_run.specs.Between.{IsBetween}
 use Rattle.sm_standing.specs.Keeping.{IsKept}
+use Rattle.sm_standing.specs.Logs.{IsLogged}
 use Rattle.sm_standing.specs.Standing.{disks}
 use Rattle.sm_standing.proofs.WorldLaws.{other_floor, other_pending}
 use Rattle.sm_ready.specs.Done.{HasDone, HasDoneFrom, IsCommit}
@@ -29,6 +30,7 @@ use Rattle.sm_ready.specs.declared.memory.Memory.{Memory}
 use Rattle.sm_ready.specs.Stores.{Leaving, MayShow, StoreLeaves, content_in, store_content}
 use Rattle.sm_ready.proofs.CommitLaws.{IsSafe}
 use Rattle.sm_ready.proofs.LeaveLaws.{left_commit, left_choice}
+use Rattle.sm_ready.proofs.LeftLaws.{IsLeft}
 use Rattle.sm_ready.proofs.TakenLaws.{held_same}
 
 abbrev pub tab : {S : Type 0} → Ghosts S → S → VolumeTable
@@ -44,8 +46,9 @@ err_not_ok (Err y) x h e = (let z = e in cc)
 -- a call that did not succeed owes what a stop leaves, and no more
 pub only_crash : {s : Site} {u : VolumeTable} {new : Held} {m : Known} {before leaves : Leaving} {ok : Type 0} {was ds : List Disk} → (ok → ⊥)
     → ((v : VolumeTable) (image : ℕ → List ℕ) → leaves v image → IsKept (content_in s v image) × IsBetween (MayShow s before) was ds (disks (content_in s v image)))
+    → ((v : VolumeTable) (image : ℕ → List ℕ) → leaves v image → IsLogged (content_in s v image) m.logs)
     → HasDoneFrom s u new m before leaves ok was ds
-only_crash never crash = record { ready = λ fine. absurd (never fine); settled = λ fine. absurd (never fine); shown = λ fine. absurd (never fine); crash = crash }
+only_crash never crash logged = record { ready = λ fine. absurd (never fine); settled = λ fine. absurd (never fine); shown = λ fine. absurd (never fine); crash = crash; logged = logged }
 
 -- the disks from before, still there, are so whatever comes after
 pub still_before : {s : Site} {before : Leaving} {was : List Disk} (ds now : List Disk) → MayShow s before was → IsBetween (MayShow s before) was was now → IsBetween (MayShow s before) was ds now
@@ -94,11 +97,14 @@ module _ {S : Type 0} (g : Ghosts S) where
   -- ---- between two commits: a stop at a safe moment
 
   pub stopped_at : {x : S} {s : Site} {t : VolumeTable} {before : Leaving} {was : List Disk} (n : Known) (ok : Type 0) (ds : List Disk) → (ok → ⊥) → g.site x ≡ s → tab g x ≡ t → IsSafe s t (g.area x) before was
-      → ((v : VolumeTable) (image : ℕ → List ℕ) → g.leaves x v image → IsChoiceOf (stored g x) v image) → HasDoneFrom s (tab g x) (g.area x) n before (StoreLeaves g x) ok was ds
-  stopped_at {x} {s} {t} {before} {was} n ok ds never site table safe choice = only_crash never (λ v image l.
-      let here : IsBefore (area_size s) t (g.area x) v image =
-      subst₂ (λ y z. IsBefore (area_size y) z (g.area x) v image) site table (left_choice g.told (g.site x) (tab g x) (g.area x) (g.leaves x) (g.failed x) choice v image l) in
-      subst (λ y. IsKept (content_in s y image) × IsBetween (MayShow s before) was ds (disks (content_in s y image))) (sym here.table_is) (safe.kept image here.sectors, inl (safe.shown image here.sectors)))
+      → ((image : ℕ → List ℕ) → IsLeft s (g.area x) image → IsLogged (content_in s t image) n.logs) → ((v : VolumeTable) (image : ℕ → List ℕ) → g.leaves x v image → IsChoiceOf (stored g x) v image) → HasDoneFrom s (tab g x) (g.area x) n before (StoreLeaves g x) ok was ds
+  stopped_at {x} {s} {t} {before} {was} n ok ds never site table safe logged choice = only_crash never
+      (λ v image l. let at = here v image l in
+      subst (λ y. IsKept (content_in s y image) × IsBetween (MayShow s before) was ds (disks (content_in s y image))) (sym at.table_is) (safe.kept image at.sectors, inl (safe.shown image at.sectors)))
+      (λ v image l. let at = here v image l in subst (λ y. IsLogged (content_in s y image) n.logs) (sym at.table_is) (logged image at.sectors))
+    where
+      here : (v : VolumeTable) (image : ℕ → List ℕ) → StoreLeaves g x v image → IsBefore (area_size s) t (g.area x) v image
+      here v image l = subst₂ (λ y z. IsBefore (area_size y) z (g.area x) v image) site table (left_choice g.told (g.site x) (tab g x) (g.area x) (g.leaves x) (g.failed x) choice v image l)
 
 module _ {S : Type 0} {g : Ghosts S} where
   -- ---- in front of it: a call that only read
@@ -123,6 +129,7 @@ module _ {S : Type 0} {g : Ghosts S} where
         settled = λ f. told.settled (passes f);
         shown = λ f. told.shown (passes f);
         crash = λ v image l. let c = told.crash v image l in (c.0, wider_between before c.1);
+        logged = told.logged;
       }
     where
       before : (v : VolumeTable) (image : ℕ → List ℕ) → StoreLeaves g p v image → StoreLeaves g a v image

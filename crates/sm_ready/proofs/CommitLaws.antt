@@ -2,15 +2,18 @@
 use Rattle.std.proofs.Common.{◌≡◌, inl, inr, ℕ, nat_lt, Bool, true, false, cond, List, [], map, refl, sym, ap, ap₂, ◌∙◌, subst}
 use Rattle.std.proofs.Math.Path.{fun_ext}
 use Rattle.sm_base.specs.declared.names.Name.{Name}
+use Rattle.sm_base.specs.declared.names.Name.TheVariants.{Cbt}
 use Rattle.sm_disk.specs.Held.{Held, Keeps, IsSettled, reads}
 use Rattle.sm_disk.proofs.HeldLaws.{reads-settled, may_settled}
-use Rattle.vg_meta.specs.Tables.{VolumeTable, rows, extents_of}
+use Rattle.vg_meta.specs.Tables.{IsTable, VolumeTable, rows, extents_of}
 use Rattle.vg_volumes.specs.Commits.{IsBefore, IsEither}
 use Rattle.vg_volumes.specs.Sites.{Site, area_size, volume_of}
 use Rattle.vg_volumes.specs.Volumes.{span, volume}
 use Rattle.sm_machine.specs.Disks.{Disk}
 use Rattle.sm_machine.specs.Runs.{face, HasSector}
+use Rattle.sm_log.specs.Logs.{Log}
 use Rattle.sm_standing.specs.Keeping.{IsKept}
+use Rattle.sm_standing.specs.Logs.{IsLogged}
 use Rattle.sm_standing.specs.Standing.{disks}
 use Rattle.sm_run.specs.Between.{IsBetween, IsStill, IsAlready}
 use Rattle.sm_ready.specs.Done.{HasDone, IsCommit, at_rest}
@@ -21,6 +24,7 @@ use Rattle.vhd_volumes.specs.Steady.{IsQuiet}
 use Rattle.sm_ready.specs.Stores.{Leaving, MayShow, content_in, content_now}
 use Rattle.sm_ready.proofs.AlikeLaws.{disks_alike, faces_alike}
 use Rattle.sm_ready.proofs.KeptLaws.{law_kept}
+use Rattle.sm_ready.proofs.LogLaws.{HoldsLogs, holds_commit, holds_ready, logged_either}
 use Rattle.sm_ready.proofs.LeftLaws.{IsLeft, left_in, law_left_now, image_quiet, ready_places}
 
 -- what is held where nothing is pending, and reads are kept
@@ -94,14 +98,21 @@ law_commit s t u old new m' before leaves ok was ds safe o' ready' commit is v i
               (law_settled s u (at_rest (reads old)) m' image o' ready' (volume_rested s u (reads old)) left ∙ is)),
         )
 
+-- whatever a commit leaves that keeps the rows of logs
+pub logged_commit : {s : Site} {t u : VolumeTable} {old new : Held} {ls : List Log} {leaves : Leaving} {ok : Type 0} → HoldsLogs s t old ls → IsTable s.count t → IsTable s.count u
+    → ((w : List ℕ) → rows u (Cbt w) ≡ rows t (Cbt w)) → IsCommit s t u old new leaves ok → (v : VolumeTable) (image : ℕ → List ℕ) → leaves v image → IsLogged (content_in s v image) ls
+logged_commit {s} {t} {u} {old} holds table next same commit v image l =
+    logged_either holds (holds_commit holds u same (λ w. volume_rested s u (reads old) (Cbt w))) table next v image (commit.crash v image l)
+
 pub law_single_commit : (s : Site) (t u : VolumeTable) (old new : Held) (m m' : Known) (before leaves : Leaving) (ok : Type 0) (ds : List Disk)
     → IsOrderly s t m → IsReady s t old m → IsOrderly s u m' → IsReady s u (at_rest (reads old)) m'
     → ((image : ℕ → List ℕ) → IsBefore (area_size s) t old t image → before t image)
     → IsCommit s t u old new leaves ok → disks (content_now s u (at_rest (reads old))) ≡ ds
-    → HasDone s t u old new m' before leaves ok ds
-law_single_commit s t u old new m m' before leaves ok ds o ready o' ready' might commit is = record {
+    → m'.logs ≡ m.logs → HasDone s t u old new m' before leaves ok ds
+law_single_commit s t u old new m m' before leaves ok ds o ready o' ready' might commit is same_logs = record {
   ready = λ fine. subst (λ h. IsReady s u h m') (sym (rested old new commit.keeps (commit.settled fine))) ready';
   settled = commit.settled;
   shown = λ fine. ap (λ h. disks (content_now s u h)) (rested old new commit.keeps (commit.settled fine)) ∙ is;
   crash = law_commit s t u old new m' before leaves ok (disks (content_now s t old)) ds (ready_safe s t old m before o ready might) o' ready' commit is;
+  logged = λ v image l. logged_either (subst (HoldsLogs s t old) (sym same_logs) (holds_ready s t old m o ready)) (holds_ready s u (at_rest (reads old)) m' o' ready') o.table o'.table v image (commit.crash v image l);
 }

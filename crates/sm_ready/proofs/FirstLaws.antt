@@ -40,6 +40,8 @@ use Rattle.sm_standing.proofs.ImageSectors.{vhd_same, raw_same}
 use Rattle.sm_ready.proofs.LeftLaws.{none_of_vhd, none_of_raw}
 use Rattle.sm_ready.proofs.Orders.{geometry_of, whole, unrowed}
 use Rattle.sm_ready.proofs.OperationLaws.{below_alike}
+use Rattle.sm_ready.proofs.LogLaws.{holds_commit, holds_ready}
+use Rattle.sm_ready.proofs.LogRows.{name_apart}
 use Rattle.sm_ready.proofs.RestLaws.{IsOfRow, ready_rest}
 use Rattle.sm_ready.proofs.RowLaws.{tree_found, image_named}
 use Rattle.sm_ready.proofs.ShapeLaws.{HasNoNew, plainly_stands}
@@ -156,7 +158,9 @@ module _ (s : Site) (t : VolumeTable) (old : Held) (m : Known) (x : Name) (es : 
 
   pub ready_new : IsReady s (applied t (Create x true es)) (at_rest (reads old)) m
   unfolding shape_in
-  ready_new = ready_rest s t (applied t (Create x true es)) old m m ready from (ap extents_of (mgt_stays s.count t (Create x true es) o.table h.allows)) refl (volume_rested s (applied t (Create x true es)) (reads old))
+  ready_new = ready_rest s t (applied t (Create x true es)) old m m ready from (ap extents_of (mgt_stays s.count t (Create x true es) o.table h.allows)) refl
+      (holds_commit (holds_ready s t old m o ready) (applied t (Create x true es)) (λ u. other_row (Cbt u) (name_apart x h.image u)) (λ u. volume_rested s (applied t (Create x true es)) (reads old) (Cbt u))).logs
+      (volume_rested s (applied t (Create x true es)) (reads old))
       (below_alike was now m.op refl refl (λ n _. images_same n) ready.firm.below)
     where
       from : (q : TreeRow) → In q m.rows → IsOfRow t (applied t (Create x true es)) m q
@@ -169,4 +173,4 @@ module _ (s : Site) (t : VolumeTable) (old : Held) (m : Known) (x : Name) (es : 
       → IsCommit s t (applied t (Create x true es)) old new leaves ok
       → HasDone s t (applied t (Create x true es)) old new m before leaves ok (disks was)
   law_new new before leaves ok might commit =
-      law_single_commit s t (applied t (Create x true es)) old new m m before leaves ok (disks was) o ready still ready_new might commit disks_new
+      law_single_commit s t (applied t (Create x true es)) old new m m before leaves ok (disks was) o ready still ready_new might commit disks_new refl

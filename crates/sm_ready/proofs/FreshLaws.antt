@@ -22,6 +22,7 @@ use Rattle.sm_machine.specs.WellFormed.{IsWellFormed, IsOperation, is_image_name
 use Rattle.sm_standing.specs.Checks.{images, is_misnamed}
 use Rattle.sm_standing.specs.Entries.{is_visible, of_row}
 use Rattle.sm_ready.specs.Known.{Known, shape_in, row_face, tree_face}
+use Rattle.sm_ready.proofs.LogRows.{name_apart}
 use Rattle.vhd_chain.specs.Trees.{tree_row}
 use Rattle.sm_ready.specs.Orderly.{IsOrderly, IsRoomyIn}
 use Rattle.sm_ready.proofs.Orders.{unrowed}
@@ -157,6 +158,10 @@ orderly_new s t m x es o none_new allows image few right =
       images = λ n e. ⊎_elim
           (λ same. ap row_face (ap (rows (applied t (Create x true es))) same ∙ by_name.does.1) ∙ sym (ap tree_face (ap (tree_row m.rows) same ∙ unrowed s t m x o kind.1 by_name.does.0)))
           (λ other. ap row_face (by_name.others n other) ∙ o.images n e) (name_or_not n x);
+      logs = λ u. ap row_face (by_name.others (Cbt u) (name_apart x image u)) ∙ o.logs u;
+      few_logs = o.few_logs;
+      logs_in_order = o.logs_in_order;
+      log_room = o.log_room;
       entries = names_put (made x true es) t.volumes kind.0 ∙ o.entries;
       places = o.places;
       stands = o.stands;

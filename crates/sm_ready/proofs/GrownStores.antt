@@ -4,7 +4,7 @@ use Rattle.std.proofs.Common.{◌≡◌, ◌≢◌, inl, inr, ⊎_elim, ℕ, ◌
 use Rattle.std.proofs.lemmas.Option.{same_Some}
 use Rattle.common_laws.specs.Lists.{In}
 use Rattle.sm_base.specs.declared.names.Name.{Name}
-use Rattle.sm_base.specs.declared.names.Name.TheVariants.{Mgt, Vhd}
+use Rattle.sm_base.specs.declared.names.Name.TheVariants.{Mgt, Vhd, Cbt}
 use Rattle.sm_disk.specs.Held.{Held, IsSettled, Keeps}
 use Rattle.vg_meta.specs.Tables.{VolumeTable, extents_of, rows}
 use Rattle.vg_volumes.specs.Sites.{Site, volume_of}
@@ -35,6 +35,8 @@ use Rattle.sm_ready.proofs.ChainLaws.{tab}
 use Rattle.sm_ready.proofs.FrameLaws.{KeepsVolume, not_mgt, true_turned, volume_stays, volume_then, volume_works}
 use Rattle.sm_ready.proofs.GrownLaws.{IsGrowing, Resizes, growing}
 use Rattle.sm_ready.proofs.LeftLaws.{IsLeft, IsVhdIn, size_there, vhd_in}
+use Rattle.sm_ready.proofs.LogLaws.{holds_keeps, holds_ready}
+use Rattle.sm_ready.proofs.LogRows.{name_apart}
 use Rattle.sm_ready.proofs.Orders.{named_row}
 use Rattle.sm_ready.proofs.RepairLaws.{all_quiet}
 use Rattle.sm_ready.proofs.RestLaws.{agrees_keeps, steady_keeps, true_keeps}
@@ -60,6 +62,8 @@ ready_sized s t m old new own size o there ready kept settled steady below = rec
   };
   records = agrees_keeps (records_held s t old) (records_held s t new) m.places (kept Mgt (λ same. not_mgt s t m o own there (sym same))) ready.records;
   recorded = all_quiet s t new settled Mgt;
+  logs = (holds_keeps (holds_ready s t old m o ready) new (λ u. kept (Cbt u) (name_apart (row_name own) (named_row s t m own o there) u))).logs;
+  logged = λ u. all_quiet s t new settled (Cbt u);
 }
 
 module _ {S : Type 0} (g : Ghosts S) (a b : S) (m : Memory) (size : ℕ) (r : TreeRow) (o : IsOrderly (g.site a) (tab g a) (known m)) (there : In r m.tree.rows) (works : WorksOn g (row_name r) a b) where

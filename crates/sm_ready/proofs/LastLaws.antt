@@ -65,8 +65,10 @@ use Rattle.sm_ready.specs.Ready.{IsReady, HasNoStray}
 use Rattle.vhd_volumes.specs.Steady.{IsQuiet}
 use Rattle.vhd_image.specs.Steady.{IsSteady}
 use Rattle.sm_ready.specs.Stores.{Leaving, MayShow, content_in, content_now}
-use Rattle.sm_ready.proofs.CommitLaws.{volume_rested, rested, law_commit}
+use Rattle.sm_ready.proofs.CommitLaws.{logged_commit, volume_rested, rested, law_commit}
 use Rattle.sm_standing.proofs.ImageSectors.{vhd_same, raw_same}
+use Rattle.sm_ready.proofs.LogLaws.{HoldsLogs, holds_commit, holds_keeps, holds_ready}
+use Rattle.sm_ready.proofs.LogRows.{name_apart}
 use Rattle.sm_ready.proofs.LeftLaws.{left_in, left_now, links_left, image_quiet, place_reads, none_of_vhd, none_of_raw}
 use Rattle.sm_ready.specs.Outlined.{link_in}
 use Rattle.sm_standing.specs.Outlines.{Link, link_of}
@@ -342,6 +344,10 @@ module _ (s : Site) (t : VolumeTable) (m : Known) (own : Name) (added : TreeRow)
     few = g.few;
     new_named = λ q i new. absurd (true≢false (sym new ∙ none_new q i));
     images = λ n e. image n e (name_or_not n own);
+    logs = λ u. ap row_face (row_other (Cbt u) (name_apart own h.image u)) ∙ h.orderly.logs u;
+    few_logs = h.orderly.few_logs;
+    logs_in_order = h.orderly.logs_in_order;
+    log_room = h.orderly.log_room;
     entries = ap (filter is_entry) (names_of-with_row t.volumes own (tagged Fresh false) (λ q. refl)) ∙ h.orderly.entries;
     places = length-set m.places k (Some r) ∙ h.orderly.places;
     stands = λ q i. ⊎_elim (λ is. subst (λ z. StandsIn s.geometry (z.extents * s.geometry.extent) z.image) (sym is) h.stands) (λ j. h.orderly.stands q j)
@@ -421,6 +427,10 @@ module _ (s : Site) (t : VolumeTable) (m : Known) (old new : Held) (own : Name) 
   kept_volume : (n : Name) → Keeps (volume_of s t new n) (volume_of s (after t own) (at_rest (held_reads new)) n)
   kept_volume n = subst (λ es. Keeps (volume_of s t new n) (volume s.geometry.extent es (at_rest (held_reads new)))) (sym (same_extents s t m own added k r row h n)) (Keeps-volume s.geometry.extent (extents_of (rows t n)) (keeps_rest new))
 
+  -- the logs are as they were
+  held_logs : HoldsLogs s t new m.logs
+  held_logs = holds_keeps (holds_ready s t old m h.orderly f.ready) new f.middle.logs
+
   pub ready_last : IsReady s (after t own) (at_rest (held_reads new)) (made_memory added k r m)
   ready_last = record {
     firm = record {
@@ -430,6 +440,8 @@ module _ (s : Site) (t : VolumeTable) (m : Known) (old new : Held) (own : Name) 
     };
     records = agrees_keeps (records_held s t new) (records_held s (after t own) (at_rest (held_reads new))) (set m.places k (Some r)) (kept_volume Mgt) f.agrees;
     recorded = volume_rested s (after t own) (held_reads new) Mgt;
+    logs = (holds_commit held_logs (after t own) (λ u. row_other s t m own added k r row h g (Cbt u) (name_apart own h.image u)) (λ u. volume_rested s (after t own) (held_reads new) (Cbt u))).logs;
+    logged = λ u. volume_rested s (after t own) (held_reads new) (Cbt u);
   }
     where
       image : (q : TreeRow) → (q ≡ added) ⊎ In q m.rows → IsSteady s.geometry (q.extents * s.geometry.extent) (volume_of s (after t own) (at_rest (held_reads new)) (row_name q)) q.image
@@ -573,4 +585,5 @@ module _ (s : Site) (t : VolumeTable) (m : Known) (old new : Held) (own : Name) 
     shown = λ fine. ap (λ a. disks (content_now s (after t own) a)) (rested new end commit.keeps (commit.settled fine)) ∙ disks_last;
     crash = law_commit s t (after t own) new end (made_memory added k r m) before leaves ok (disks was_content) (with_disk made_disk (disks was_content))
         (middle_safe s t m old new k r before (disks was_content) h.orderly f.ready h.stray f.middle f.settled refl might) (orderly_last s t m own added k r row h g) (ready_last) commit disks_last;
+    logged = logged_commit held_logs h.orderly.table (orderly_last s t m own added k r row h g).table (λ u. row_other s t m own added k r row h g (Cbt u) (name_apart own h.image u)) commit;
   }

@@ -4,6 +4,9 @@ pub mod Orders
 pub mod LeftLaws
 pub mod AlikeLaws
 pub mod RowLaws
+pub mod LogOrder
+pub mod LogRows
+pub mod LogLaws
 pub mod SoundLaws
 pub mod KeptLaws
 pub mod FreshLaws
@@ -29,6 +32,7 @@ pub mod TakenLaws
 pub mod BesideLaws
 pub mod GoneLaws
 pub mod StrayLaws
+pub mod StateLaws
 pub mod RepairLaws
 pub mod SizeLaws
 pub mod NewVolumeLaws
@@ -78,3 +82,4 @@ pub mod DirtyLaws
 pub mod HeldLaws
 pub mod NowLaws
 pub mod RoomyLaws
+pub mod LogStores

@@ -32,7 +32,7 @@ use Rattle.vhd_chain.specs.declared.rows.TreeRow.{TreeRow}
 use Rattle.sm_ready.specs.Known.{machine_row, row_face, tree_face}
 use Rattle.sm_ready.proofs.Orders.{filled_face, fresh_face}
 use Rattle.sm_ready.proofs.RowLaws.{All-In, found_in, tree_found}
-use Rattle.sm_ready.proofs.ShapeLaws.{row_cmp, rising_rows}
+use Rattle.sm_ready.proofs.RowLaws.{row_cmp, rising_rows}
 
 -- a row was read off the volume of an image that is not new
 pub record IsReadFrom (r : Row) (x : TreeRow) : Type 0 where

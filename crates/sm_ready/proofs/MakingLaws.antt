@@ -1,6 +1,6 @@
 -- A command makes an image and the record of its disk in a store: a commit that makes the volume, marked new; work on it,
 -- and the record; a commit that takes the mark away. What a stop leaves at each point, and what is known at the end.
-use Rattle.std.proofs.Common.{◌≡◌, inr, ℕ, ◌*◌, ◌≤◌, true, false, List, set, Option, Some, refl, sym, ap, ap₂, ◌∙◌, subst, subst₂}
+use Rattle.std.proofs.Common.{◌≡◌, inr, ℕ, ◌*◌, ◌≤◌, true, false, List, set, Option, Some, refl, sym, ap, ap₂, ◌∙◌, subst, subst₂, []}
 use Rattle.sm_base.specs.declared.names.Name.{Name}
 use Rattle.sm_base.specs.declared.names.Name.TheVariants.{Mgt}
 use Rattle.sm_disk.specs.Held.{Held, Keeps, Torn, Wrote, reads}
@@ -29,6 +29,7 @@ use Rattle.sm_record.specs.Records.{IsRecord, record_sector, reading}
 use Rattle.sm_record.proofs.RoundTrips.{sector_fits, reading_again}
 use Rattle.sm_mgt.proofs.AgreeLaws.{agrees_put}
 use Rattle.sm_mgt.specs.Places.{HasAllPlaces, place_count, records_held}
+use Rattle.sm_standing.specs.Logs.{IsLogged}
 use Rattle.sm_standing.specs.Standing.{disk_in, disks}
 use Rattle.sm_ready.specs.Done.{HasDone, HasDoneFrom, IsCommit, at_rest}
 use Rattle.sm_ready.specs.Known.{Known, known}
@@ -36,13 +37,14 @@ use Rattle.sm_ready.specs.Middle.{IsMiddle}
 use Rattle.sm_ready.specs.Orderly.{IsOrderly}
 use Rattle.sm_ready.specs.Ready.{IsTidy}
 use Rattle.sm_ready.specs.Sessions.{IsOrderlyStore, IsReadyStore, IsTidyStore}
-use Rattle.sm_ready.specs.Stores.{MayShow, StoreLeaves, content_now, store_content}
+use Rattle.sm_ready.specs.Stores.{MayShow, StoreLeaves, content_in, content_now, store_content}
 use Rattle.sm_ready.specs.declared.memory.Memory.{Memory}
 use Rattle.sm_ready.proofs.ChainLaws.{tab, only_crash, still_before, might_show, commit_made, commit_failed, stopped_at}
 use Rattle.sm_ready.proofs.CommitLaws.{IsSafe}
 use Rattle.sm_ready.proofs.FirstLaws.{law_new}
 use Rattle.sm_ready.proofs.LastLaws.{IsWritten, after, law_made, made_memory}
-use Rattle.sm_ready.proofs.LeftLaws.{mgt_long}
+use Rattle.sm_ready.proofs.LeftLaws.{IsLeft, mgt_long}
+use Rattle.sm_ready.proofs.LogLaws.{holds_keeps, holds_ready, logged_left}
 use Rattle.sm_ready.proofs.MiddleLaws.{middle_safe}
 use Rattle.sm_ready.proofs.NewLaws.{IsToMake, allowed, is_new, orderly_begun, fits_begun, there, stray, made_is, stepped_is, orderly_made, fits_made, tidy_made}
 use Rattle.sm_ready.proofs.ReachLaws.{reached}
@@ -125,9 +127,9 @@ module _ {S : Type 0} {g : Ghosts S} {a : S} {m : Memory} {own : Name} {es : Lis
 pub known_made : (m f n : Memory) (added : TreeRow) (k : ℕ) (r : Record) → f.tree ≡ m.tree → f.attached ≡ m.attached → f.operation ≡ m.operation → f.records ≡ set m.records k (Some r)
     → n.tree.rows ≡ with_row added f.tree.rows → n.records ≡ f.records → n.attached ≡ f.attached → n.operation ≡ f.operation → known n ≡ made_memory added k r (known m)
 known_made m f n added k r tree attached operation records rows_are records_are attached_are operation_is =
-    ap₂ (λ (rs : List TreeRow) (ps : List (Option Record)). let x : Known = record { rows = rs; places = ps; attached = n.attached; op = n.operation } in x)
+    ap₂ (λ (rs : List TreeRow) (ps : List (Option Record)). let x : Known = record { rows = rs; places = ps; logs = []; attached = n.attached; op = n.operation } in x)
     (rows_are ∙ ap (λ (x : Tree). with_row added x.rows) tree) (records_are ∙ records)
-    ∙ ap₂ (λ (x : Attached) (o : Op). let y : Known = record { rows = with_row added m.tree.rows; places = set m.records k (Some r); attached = x; op = o } in y) (attached_are ∙ attached) (operation_is ∙ operation)
+    ∙ ap₂ (λ (x : Attached) (o : Op). let y : Known = record { rows = with_row added m.tree.rows; places = set m.records k (Some r); logs = []; attached = x; op = o } in y) (attached_are ∙ attached) (operation_is ∙ operation)
 
 -- ---- what a stop leaves, and what is done at the end
 
@@ -146,11 +148,12 @@ module _ {S : Type 0} {g : Ghosts S} {a : S} {m : Memory} {own : Name} {es : Lis
       law_new s (tab g a) (g.area a) (known m) own es h.begins.orderly ready (is_new s (tab g a) (known m) own es added k r h.begins) (g.area x) (StoreLeaves g a) (StoreLeaves g x) ok
       (λ image is. inr (told, h.usable, is)) commit
 
-  pub begin_failed : {x : S} (n : Known) (ok : Type 0) (ds : List Disk) → (ok → ⊥) → FailsToCommit g a x → ((v : VolumeTable) (image : ℕ → List ℕ) → g.leaves x v image → IsEitherOf (stored g a) (Create own true es) v image)
+  pub begin_failed : {x : S} (n : Known) (ok : Type 0) (ds : List Disk) → (ok → ⊥) → n.logs ≡ (known m).logs → FailsToCommit g a x → ((v : VolumeTable) (image : ℕ → List ℕ) → g.leaves x v image → IsEitherOf (stored g a) (Create own true es) v image)
       → HasDone s (tab g a) (tab g x) (g.area a) (g.area x) n (StoreLeaves g a) (StoreLeaves g x) ok ds
-  begin_failed {x} n ok ds never fails crash =
+  begin_failed {x} n ok ds never same_logs fails crash =
       let done = first ok (commit_failed g (Create own true es) ok never refl refl told fails crash) in
       only_crash never (λ v image l. let c = done.crash v image l in (c.0, still_before ds _ (might_show g h.usable told) c.1))
+      (λ v image l. subst (IsLogged (content_in s v image)) (sym same_logs) (done.logged v image l))
 
   -- where it succeeded
   module _ {b : S} (c : Commits g (Create own true es) a b) (b_crash : (v : VolumeTable) (image : ℕ → List ℕ) → g.leaves b v image → IsEitherOf (stored g a) (Create own true es) v image)
@@ -165,9 +168,16 @@ module _ {S : Type 0} {g : Ghosts S} {a : S} {m : Memory} {own : Name} {es : Lis
     safe = middle_safe s t1 (known m) (g.area b) (g.area d) k r (StoreLeaves g a) was (orderly_begun s (tab g a) (known m) own es added k r h.begins) (done_first.ready tt)
         (stray s (tab g a) (known m) own es added k r h.begins) middle_here (all_quiet s t1 (g.area b) (c.settled told)) (done_first.shown tt) (might_show g h.usable told)
 
-    pub fill_failed : (n : Known) (ok : Type 0) (ds : List Disk) → (ok → ⊥) → ((v : VolumeTable) (image : ℕ → List ℕ) → g.leaves d v image → IsChoiceOf (stored g d) v image)
+    pub fill_failed : (n : Known) (ok : Type 0) (ds : List Disk) → (ok → ⊥) → n.logs ≡ (known m).logs → ((v : VolumeTable) (image : ℕ → List ℕ) → g.leaves d v image → IsChoiceOf (stored g d) v image)
         → HasDone s (tab g a) (tab g d) (g.area a) (g.area d) n (StoreLeaves g a) (StoreLeaves g d) ok ds
-    fill_failed n ok ds never choice = stopped_at g n ok ds never (stays.site ∙ c.site) (stays.table ∙ c.table) safe choice
+    fill_failed n ok ds never same_logs choice = stopped_at g n ok ds never (stays.site ∙ c.site) (stays.table ∙ c.table) safe logged choice
+      where
+        begun : IsOrderly s t1 (known m)
+        begun = orderly_begun s (tab g a) (known m) own es added k r h.begins
+
+        logged : (image : ℕ → List ℕ) → IsLeft s (g.area d) image → IsLogged (content_in s t1 image) n.logs
+        logged image left = subst (IsLogged (content_in s t1 image)) (sym same_logs)
+            (logged_left (holds_keeps (holds_ready s t1 (g.area b) (known m) begun (done_first.ready tt)) (g.area d) middle_here.logs) begun.table image left)
 
     -- the image and the record are written
     module _ (mid : Held) (kept : Keeps (records_held (g.site b) (tab g b) (g.area b)) mid) (put : Wrote k (record_sector r) mid (records_held (g.site b) (tab g b) (g.area d)))
@@ -191,10 +201,11 @@ module _ {S : Type 0} {g : Ghosts S} {a : S} {m : Memory} {own : Name} {es : Lis
           (law_made s t1 (known m) (g.area b) (g.area d) own added k r (made own true es) (made_is s (tab g a) (known m) own es added k r h.begins) (stepped_is s (tab g a) (known m) own es added k r h.begins) written
           (g.area x) (StoreLeaves g a) (StoreLeaves g x) ok (subst (MayShow s (StoreLeaves g a)) (sym (done_first.shown tt)) (might_show g h.usable told)) commit)
 
-      pub end_failed : {x : S} (n : Known) (ok : Type 0) → (ok → ⊥) → FailsToCommit g d x → ((v : VolumeTable) (image : ℕ → List ℕ) → g.leaves x v image → IsEitherOf (stored g d) (Mark own Fresh false) v image)
+      pub end_failed : {x : S} (n : Known) (ok : Type 0) → (ok → ⊥) → n.logs ≡ (known m).logs → FailsToCommit g d x → ((v : VolumeTable) (image : ℕ → List ℕ) → g.leaves x v image → IsEitherOf (stored g d) (Mark own Fresh false) v image)
           → HasDone s (tab g a) (tab g x) (g.area a) (g.area x) n (StoreLeaves g a) (StoreLeaves g x) ok (with_disk made_disk was)
-      end_failed n ok never fails crash =
-          only_crash never (last ok (commit_failed g (Mark own Fresh false) ok never (stays.site ∙ c.site) (stays.table ∙ c.table) told fails crash)).crash
+      end_failed n ok never same_logs fails crash =
+          let done = last ok (commit_failed g (Mark own Fresh false) ok never (stays.site ∙ c.site) (stays.table ∙ c.table) told fails crash) in
+          only_crash never done.crash (λ v image l. subst (IsLogged (content_in s v image)) (sym same_logs) (done.logged v image l))
 
       pub end_made : {x : S} (n : Memory) (ok : Type 0) → Commits g (Mark own Fresh false) d x → ((v : VolumeTable) (image : ℕ → List ℕ) → g.leaves x v image → IsEitherOf (stored g d) (Mark own Fresh false) v image)
           → known n ≡ made_memory added k r (known m) → HasDone s (tab g a) (tab g x) (g.area a) (g.area x) (known n) (StoreLeaves g a) (StoreLeaves g x) ok (with_disk made_disk was)

@@ -67,6 +67,10 @@ orderly_put s t m k r stray o = let same = shape_put s t m k r stray in record {
   record_volume = o.record_volume;
   few = o.few;
   new_named = o.new_named;
+  logs = o.logs;
+  few_logs = o.few_logs;
+  logs_in_order = o.logs_in_order;
+  log_room = o.log_room;
   images = o.images;
   places = length-set m.places k (Some r) ∙ o.places;
   entries = o.entries;

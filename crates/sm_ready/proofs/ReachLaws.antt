@@ -5,7 +5,7 @@ use Rattle.std.proofs.Props.{props}
 use Rattle.std.proofs.lemmas.Option.{none-some}
 use Rattle.std.proofs.lemmas.Bool.{true≢false}
 use Rattle.sm_base.specs.declared.names.Name.{Name}
-use Rattle.sm_base.specs.declared.names.Name.TheVariants.{Mgt}
+use Rattle.sm_base.specs.declared.names.Name.TheVariants.{Mgt, Cbt}
 use Rattle.sm_disk.specs.Held.{Held, Torn}
 use Rattle.sm_disk.specs.Sectors.{sector}
 use Rattle.sm_disk.proofs.HeldLaws.{Keeps-then, may-torn, in_one}
@@ -25,6 +25,7 @@ use Rattle.sm_mgt.specs.Places.{records_held}
 use Rattle.sm_ready.proofs.AfterLaws.{other_keeps}
 use Rattle.sm_ready.proofs.LeftLaws.{extent_some}
 use Rattle.sm_ready.specs.Middle.{IsMiddle}
+use Rattle.sm_ready.proofs.LogRows.{name_apart}
 use Rattle.sm_ready.proofs.Orders.{new_unrowed, named_row}
 use Rattle.sm_ready.proofs.RowLaws.{tree_found, image_named}
 
@@ -41,6 +42,8 @@ unfolding shape_in
 reached s t m old mid new x k r row bytes o image there fresh first then torn long reads = record {
   images = λ q i. Keeps-then (other_keeps s t old mid x (row_name q) o.table (extent_some s t m o) first (away q i))
       (other_keeps s t mid new Mgt (row_name q) o.table (extent_some s t m o) then (λ e. mgt_no_image (sym (ap is_image_name e) ∙ named_row s t m q o i)));
+  logs = λ u. Keeps-then (other_keeps s t old mid x (Cbt u) o.table (extent_some s t m o) first (name_apart x image u))
+      (other_keeps s t mid new Mgt (Cbt u) o.table (extent_some s t m o) then (λ e. let z = e in cc));
   records = λ p v below may. ⊎_elim
       (λ was. inl ((other_keeps s t old mid x Mgt o.table (extent_some s t m o) first (λ e. mgt_no_image (ap is_image_name e ∙ image))).may p v was))
       (λ w. let at : p ≡ k = in_one k (length bytes) p long w.0 in inr (at, ap reading (w.1 ∙ ap (λ j. sector bytes (j - k)) at ∙ ap (sector bytes) (omega arith)) ∙ reads))

@@ -50,6 +50,8 @@ use Rattle.sm_ready.specs.Outlined.{link_in}
 use Rattle.sm_standing.specs.Outlines.{link_of}
 use Rattle.sm_ready.specs.Ready.{IsBelow, IsReady}
 use Rattle.sm_standing.proofs.ImageSectors.{vhd_same, raw_same}
+use Rattle.sm_ready.proofs.LogLaws.{holds_commit, holds_ready}
+use Rattle.sm_ready.proofs.LogRows.{name_apart}
 use Rattle.sm_ready.proofs.LeftLaws.{left_in, links_left, left_now, none_of_vhd, none_of_raw}
 use Rattle.sm_ready.proofs.Orders.{geometry_of, rowed, whole, none_making, none_of, In-tree_row}
 use Rattle.sm_ready.proofs.EntryKinds.{folding_journal}
@@ -221,6 +223,10 @@ orderly_removed s t m x r σ o g is allows =
       images = λ n e. ⊎_elim
           (λ same. ap row_face (ap (rows (applied t (Remove x))) same ∙ by_name.does.2) ∙ sym (ap tree_face (ap (tree_row (without_row x m).rows) same ∙ tree_gone m.rows x g.image)))
           (λ other. ap row_face (by_name.others n other) ∙ o.images n e ∙ sym (ap tree_face (tree_without m.rows x n other))) (name_or_not n x);
+      logs = λ u. ap row_face (by_name.others (Cbt u) (name_apart x g.image u)) ∙ o.logs u;
+      few_logs = o.few_logs;
+      logs_in_order = o.logs_in_order;
+      log_room = o.log_room;
       entries = names_without t.volumes x (no_journal x g.image) ∙ o.entries;
       places = o.places;
       stands = λ q i. o.stands q (In-filter (λ r. not (same_image (row_name r) x)) m.rows q i).0;
@@ -338,8 +344,10 @@ pub law_remove : (s : Site) (t : VolumeTable) (old new : Held) (m : Known) (x : 
 law_remove s t old new m x r before leaves ok o ready g allows might commit =
     law_single_commit s t (applied t (Remove x)) old new m (without_row x m) before leaves ok (disks (content_now s t old)) o ready
     (orderly_removed s t m x r (record { disks = []; shape = shape_in s t m }) o g refl allows)
-    (ready_rest s t (applied t (Remove x)) old m (without_row x m) ready from (ap extents_of (mgt_stays s.count t (Remove x) o.table allows)) refl (volume_rested s (applied t (Remove x)) (reads old)) (subst (IsBelow (after s t old x)) (sym g.idle) tt))
-    might commit (removed_disks_same s t old m x r o ready g allows)
+    (ready_rest s t (applied t (Remove x)) old m (without_row x m) ready from (ap extents_of (mgt_stays s.count t (Remove x) o.table allows)) refl
+    (holds_commit (holds_ready s t old m o ready) (applied t (Remove x)) (λ u. same_rows s t m x (Cbt u) o allows (name_apart x g.image u)) (λ u. volume_rested s (applied t (Remove x)) (reads old) (Cbt u))).logs
+    (volume_rested s (applied t (Remove x)) (reads old)) (subst (IsBelow (after s t old x)) (sym g.idle) tt))
+    might commit (removed_disks_same s t old m x r o ready g allows) refl
   where
     from : (q : TreeRow) → In q (without_row x m).rows → IsOfRow t (applied t (Remove x)) m q
     from q i =

@@ -3,7 +3,7 @@
 use Rattle.std.proofs.Common.{◌≡◌, inl, ℕ, ◌*◌, nat_lt, Bool, true, false, cond, List, [], Option, refl, sym, ap, ◌∙◌, subst}
 use Rattle.std.proofs.Math.Path.{fun_ext}
 use Rattle.sm_base.specs.declared.names.Name.{Name}
-use Rattle.sm_base.specs.declared.names.Name.TheVariants.{Mgt}
+use Rattle.sm_base.specs.declared.names.Name.TheVariants.{Mgt, Cbt}
 use Rattle.sm_disk.specs.Held.{Held, IsSettled, Keeps, reads}
 use Rattle.sm_disk.proofs.HeldLaws.{Keeps-then}
 use Rattle.vg_meta.specs.Changes.{applied}
@@ -31,6 +31,7 @@ use Rattle.sm_ready.proofs.BesideLaws.{IsBeside, disks_beside, orderly_beside, r
 use Rattle.sm_ready.proofs.GoneLaws.{goes_alone}
 use Rattle.sm_ready.proofs.KeptLaws.{law_kept}
 use Rattle.sm_ready.proofs.LeftLaws.{IsLeft, image_quiet, left_in, left_now, ready_places}
+use Rattle.sm_ready.proofs.LogLaws.{holds_keeps, holds_ready}
 use Rattle.sm_ready.proofs.OperationLaws.{below_alike}
 use Rattle.sm_ready.proofs.RestLaws.{ready_rest, steady_keeps}
 use Rattle.sm_ready.proofs.StrayLaws.{IsSwept, swept_disks, swept_in, with_places}
@@ -51,7 +52,7 @@ all_quiet s t area settled n = quiet_settled (volume_of s t area n) (volume_sett
 pub ready_synced : (s : Site) (t : VolumeTable) (old new : Held) (m : Known) → IsReady s t old m → Keeps old new → IsSettled new → IsReady s t new m
 ready_synced s t old new m ready keeps settled =
     subst (λ h. IsReady s t h m) (sym (rested old new keeps settled))
-    (ready_rest s t t old m m ready (λ r i. record { row = r; there = i; image = refl; extents = refl; same = refl }) refl refl (volume_rested s t (reads old)) ready.firm.below)
+    (ready_rest s t t old m m ready (λ r i. record { row = r; there = i; image = refl; extents = refl; same = refl }) refl refl ready.logs (volume_rested s t (reads old)) ready.firm.below)
 
 -- what a stop leaves of a ready store in which nothing is pending
 pub same_left : (s : Site) (t : VolumeTable) (area : Held) (m : Known) (image : ℕ → List ℕ) → IsOrderly s t m → IsReady s t area m → IsSettled area → IsLeft s area image → IsSame (content_now s t area) (content_in s t image)
@@ -94,6 +95,8 @@ module _ (s : Site) (t : VolumeTable) (m : Known) (old mid new : Held) (o : IsOr
     };
     records = agrees;
     recorded = all_quiet s t new settled Mgt;
+    logs = (holds_keeps (holds_ready s t old m o ready) new (λ u. Keeps-then (swept.logs u) (Keeps-volume s.geometry.extent (extents_of (rows t (Cbt u))) keeps))).logs;
+    logged = λ u. all_quiet s t new settled (Cbt u);
   }
 
   pub swept_now : IsSettled old → disks (content_now s t new) ≡ disks (content_now s t old)

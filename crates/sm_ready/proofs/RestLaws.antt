@@ -3,7 +3,7 @@ use Rattle.std.proofs.Common.{◌≡◌, ℕ, ◌*◌, List, Option, refl, sym, 
 use Rattle.std.proofs.Math.Path.{fun_ext}
 use Rattle.sm_base.specs.declared.sizes.Geometry.{Geometry}
 use Rattle.sm_base.specs.declared.names.Name.{Name}
-use Rattle.sm_base.specs.declared.names.Name.TheVariants.{Mgt}
+use Rattle.sm_base.specs.declared.names.Name.TheVariants.{Mgt, Cbt}
 use Rattle.sm_disk.specs.Held.{Held, Keeps, May, reads}
 use Rattle.sm_disk.proofs.HeldLaws.{May-reads, may_settled, Allows-keeps}
 use Rattle.vg_meta.specs.Tables.{VolumeTable, rows, extents_of}
@@ -19,6 +19,7 @@ use Rattle.common_laws.specs.Lists.{In}
 use Rattle.sm_record.specs.Records.{reading}
 use Rattle.sm_record.specs.declared.records.Record.{Record}
 use Rattle.vhd_image.specs.declared.images.Body.{Body}
+use Rattle.sm_standing.specs.Logs.{IsLogged}
 use Rattle.sm_ready.specs.Done.{at_rest}
 use Rattle.sm_ready.specs.Known.{Known}
 use Rattle.vhd_chain.specs.declared.rows.TreeRow.{TreeRow}
@@ -75,14 +76,16 @@ pub record IsOfRow (t u : VolumeTable) (m : Known) (r : TreeRow) : Type 0 where
   pub same : extents_of (rows u (row_name r)) ≡ extents_of (rows t (row_name row))
 
 pub ready_rest : (s : Site) (t u : VolumeTable) (old : Held) (m m' : Known) → IsReady s t old m → ((r : TreeRow) → In r m'.rows → IsOfRow t u m r)
-    → extents_of (rows u Mgt) ≡ extents_of (rows t Mgt) → m'.places ≡ m.places → ((n : Name) → IsQuiet (volume_of s u (at_rest (reads old)) n))
+    → extents_of (rows u Mgt) ≡ extents_of (rows t Mgt) → m'.places ≡ m.places → IsLogged (content_now s u (at_rest (reads old))) m'.logs → ((n : Name) → IsQuiet (volume_of s u (at_rest (reads old)) n))
     → IsBelow (content_now s u (at_rest (reads old))) m'.op → IsReady s u (at_rest (reads old)) m'
-ready_rest s t u old m m' ready from mgt places quiet below = record {
+ready_rest s t u old m m' ready from mgt places logs quiet below = record {
   firm = record { images = λ r i. steady r (from r i); quiet = λ r i _. quiet (row_name r); below = below };
   records = subst (λ p. Agrees (records_held s u (at_rest (reads old))) p) (sym places)
       (subst (λ es. Agrees (volume s.geometry.extent es (at_rest (reads old))) m.places) (sym mgt)
       (agrees_keeps (records_held s t old) (volume s.geometry.extent (extents_of (rows t Mgt)) (at_rest (reads old))) m.places (Keeps-volume s.geometry.extent (extents_of (rows t Mgt)) (keeps_rest old)) ready.records));
   recorded = quiet Mgt;
+  logs = logs;
+  logged = λ v. quiet (Cbt v);
 }
   where
     steady : (r : TreeRow) → IsOfRow t u m r → IsSteady s.geometry (r.extents * s.geometry.extent) (volume_of s u (at_rest (reads old)) (row_name r)) r.image

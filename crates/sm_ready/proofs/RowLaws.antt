@@ -4,6 +4,7 @@ use Rattle.std.proofs.lemmas.Bool.{true≢false}
 use Rattle.std.proofs.lemmas.Option.{none-some}
 use Rattle.std.specs.List.{AllByRecursion}
 use Rattle.std.specs.List.Sorted.{IsStrictlySortedBy}
+use Rattle.std.specs.declared.cmp.Ordering.{Ordering}
 use Rattle.std.specs.declared.cmp.Ordering.TheVariants.{Less}
 use Rattle.sm_base.specs.Names.{name_cmp}
 use Rattle.sm_base.specs.declared.names.Name.{Name}
@@ -15,6 +16,7 @@ use Rattle.vg_volumes.specs.Sites.{Site}
 use Rattle.common_laws.specs.Lists.{In, Distinct}
 use Rattle.sm_machine.specs.Shapes.{ImageRow, image_uuid}
 use Rattle.sm_machine.specs.WellFormed.{is_image_name}
+use Rattle.sm_standing.specs.Ordered.{Rising}
 use Rattle.common_laws.proofs.Lists.{In-map_at}
 use Rattle.sm_ready.proofs.Orders.{fresh_face}
 use Rattle.sm_ready.specs.Known.{Face, Known, machine_row, row_face, tree_face}
@@ -29,6 +31,14 @@ All-In P (y ∷ ys) x a (inr i) = All-In P ys x a.1 i
 
 pub In-names : (rs : List Row) (r : Row) → In r rs → In r.name (names_of rs)
 In-names rs r i = In-map_at (λ (x : Row). x.name) rs r i
+
+abbrev pub row_cmp : Row → Row → Ordering
+row_cmp a b = name_cmp a.name b.name
+
+pub rising_rows : (rs : List Row) → IsStrictlySortedBy name_cmp (names_of rs) → Rising row_cmp rs
+unfolding IsStrictlySortedBy
+rising_rows [] sorted = tt
+rising_rows (r ∷ rs) sorted = ((λ x i. All-In (λ n. name_cmp r.name n ≡ Less) (names_of rs) x.name sorted.0 (In-names rs x i)), rising_rows rs sorted.1)
 
 pub found_in : (rs : List Row) → IsStrictlySortedBy name_cmp (names_of rs) → (r : Row) → In r rs → row_of rs r.name ≡ Some r
 unfolding row_of IsStrictlySortedBy

@@ -1,9 +1,7 @@
 -- The shape of what a read gives is the shape of what is in memory, but for attachments and the operation.
 use Rattle.vhd_image.specs.Bodies.{sector_count, parent_name}
-use Rattle.std.proofs.Common.{◌≡◌, ◌≢◌, ◌⊎◌, inl, inr, ℕ, zero, suc, ◌+◌, ◌*◌, ◌<◌, not, nat_lt, Bool, true, false, cond, List, [], ◌∷◌, length, map, get_or, Option, Some, None, refl, sym, ap, ap₂, ◌∙◌, subst, arith, ◌&&◌, ◌||◌, ◌==◌}
-use Rattle.std.proofs.Math.Logic.{∥∥₁_elim}
+use Rattle.std.proofs.Common.{◌≡◌, ◌≢◌, ◌⊎◌, inl, inr, ℕ, zero, suc, ◌+◌, ◌*◌, ◌<◌, not, Bool, true, false, cond, List, [], ◌∷◌, length, map, get_or, Option, Some, None, refl, sym, ap, ap₂, ◌∙◌, subst, arith, ◌&&◌, ◌||◌, ◌==◌}
 use Rattle.std.proofs.Math.Path.{fun_ext}
-use Rattle.std.proofs.Props.{props}
 use Rattle.std.proofs.lemmas.Bool.{true≢false, eqb-true}
 use Rattle.std.proofs.lemmas.List.{ext_get_or, length-map}
 use Rattle.std.proofs.lemmas.List.FromFn.{length-range_with_len}
@@ -14,7 +12,6 @@ use Rattle.std.specs.List.Sorted.{IsStrictlySortedBy}
 use Rattle.std.specs.Ordering.{is_lt, is_eq, ordering_reverse}
 use Rattle.std.specs.declared.cmp.Ordering.{Ordering}
 use Rattle.std.specs.declared.cmp.Ordering.TheVariants.{Less, Equal, Greater}
-use Rattle.std.proofs.lemmas.List.Sums.{sum-map, sum_by-cons}
 use Rattle.std.proofs.lemmas.Cmp.{nat_list_cmp_total}
 use Rattle.std.proofs.lemmas.Slice.Eq.{bytes_eq-Decides}
 use Rattle.std.specs.Cmp.Lexicographic.{texts_ties}
@@ -24,12 +21,12 @@ use Rattle.sm_base.specs.Names.{IsName, name_cmp}
 use Rattle.sm_base.proofs.OrderLemmas.{name_cmp_total}
 use Rattle.sm_base.specs.declared.names.Name.{Name}
 use Rattle.sm_base.specs.declared.names.Name.TheVariants.{Mgt, Vhd, Raw, Old, Cbt, Clone, Inflate, Coalesce, Relink, Leaf}
-use Rattle.sm_machine.specs.Operations.{Idle}
+use Rattle.sm_log.specs.Logs.{log_extents}
 use Rattle.sm_disk.specs.Held.{Held, reads}
 use Rattle.sm_disk.proofs.HeldLaws.{Allows-reads}
 use Rattle.vg_layout.specs.Places.{record_extents}
-use Rattle.vg_meta.specs.Tables.{VolumeTable, Row, IsVolume, rows, row_of, extents_of, names_of, name_eq}
-use Rattle.sm_base.specs.Kinds.{is_image, is_log, is_entry}
+use Rattle.vg_meta.specs.Tables.{VolumeTable, Row, IsVolume, rows, row_of, extents_of, names_of, name_eq, suits}
+use Rattle.sm_base.specs.Kinds.{is_image, is_log}
 use Rattle.vg_meta.proofs.NameLaws.{name_eq-same, name_eq-other, name_eq-true, less_other, before_from, name_eq-false}
 use Rattle.vg_meta.proofs.RowLaws.{row_of-name, All-row_of}
 use Rattle.vg_volumes.specs.Sites.{Site, volume_of}
@@ -41,13 +38,13 @@ use Rattle.vhd_layout.proofs.ReadingLaws.{layout-at, slots-of_table}
 use Rattle.vhd_volumes.specs.Truth.{layout_in, disk_blocks}
 use Rattle.sm_machine.specs.Disks.{Disk, uuid_before}
 use Rattle.common_laws.specs.Lists.{In, Sorted, Distinct, insert_by, numbers, ◌>>=◌}
-use Rattle.sm_machine.specs.Shapes.{Shape, ImageRow, DiskRecord, image_uuid, is_image_of}
+use Rattle.sm_machine.specs.Shapes.{ImageRow, DiskRecord, image_uuid, is_image_of}
 use Rattle.sm_machine.specs.WellFormed.{IsWellFormed, name_le, is_image_name, uuid_le}
 use Rattle.common_laws.proofs.Lists.{In-map, In-map_at, In-filter, filter-In, In-insert, In-insert_new, In-insert_old, Distinct-key, find-some, find-only, In-numbers, numbers-In}
 use Rattle.sm_standing.specs.Contents.{Content, row, sectors_of, records, record_of, record_count, reading_at, taken, is_record_of}
 use Rattle.sm_standing.specs.Images.{Image, image_of, raw_image}
 use Rattle.sm_standing.specs.Ordered.{Rising, uuid_cmp, disk_cmp}
-use Rattle.sm_standing.specs.Shapes.{shape, unattached, row_of as shape_row, image_row, image_rows, other_extents, disk_record}
+use Rattle.sm_standing.specs.Shapes.{row_of as shape_row, image_row, image_rows, other_extents, disk_record}
 use Rattle.sm_standing.specs.Standing.{disks, standing_volume, stands_plainly, stands_folded, stands_forked, under, disk_at, disk_in}
 use Rattle.sm_standing.proofs.DisksShown.{row_of-In}
 use Rattle.sm_standing.proofs.Orders.{rising_ext, In-filter_map, filter_map-In, rising-filter_map}
@@ -60,7 +57,8 @@ use Rattle.vhd_chain.specs.Reading.{slots_of}
 use Rattle.sm_ready.specs.Known.{machine_record, Known, shape_in, machine_row, records_in, shown_places, is_shown, is_shown_place}
 use Rattle.sm_mgt.specs.Places.{as_reading}
 use Rattle.sm_ready.proofs.LeftLaws.{place_reads, vhd_of, raw_of, vhd_in, now_sector}
-use Rattle.sm_ready.proofs.RowLaws.{All-In, In-names, found_in, tree_found, image_named, HasVolume, volume_there}
+use Rattle.sm_ready.proofs.RowLaws.{All-In, In-names, found_in, tree_found, image_named, HasVolume, volume_there, row_cmp, rising_rows}
+use Rattle.sm_ready.proofs.LogRows.{log-no_image, log_extents_counted, sum-cons, sum_but_logs}
 use Rattle.vhd_chain.specs.declared.rows.TreeRow.{TreeRow}
 use Rattle.vhd_chain.specs.Trees.{row_name, tree_row}
 use Rattle.sm_ready.specs.Orderly.{IsOrderly}
@@ -76,14 +74,6 @@ use Rattle.sm_standing.specs.Contents as content
 -- between two steps no volume is new
 abbrev pub HasNoNew : VolumeTable → Type 0
 HasNoNew t = (r : Row) → In r t.volumes → r.fresh ≡ false
-
-abbrev pub row_cmp : Row → Row → Ordering
-row_cmp a b = name_cmp a.name b.name
-
-pub rising_rows : (rs : List Row) → IsStrictlySortedBy name_cmp (names_of rs) → Rising row_cmp rs
-unfolding IsStrictlySortedBy
-rising_rows [] sorted = tt
-rising_rows (r ∷ rs) sorted = ((λ x i. All-In (λ n. name_cmp r.name n ≡ Less) (names_of rs) x.name sorted.0 (In-names rs x i)), rising_rows rs sorted.1)
 
 -- ---- the map of a VHD image
 
@@ -232,7 +222,7 @@ row_named c r d e = by (image_of c r.name) e
     by None is = absurd (none-some d is)
     by (Some i) is = sym (ap (λ (z : ImageRow). z.name) (same_Some (image_row r i) d is))
 
-images_now : (s : Site) (t : VolumeTable) (area : Held) (m : Known) → HasNoNew t → IsOrderly s t m → IsFirm s t area m → IsWellFormed (shape_in s t m) → image_rows (content_now s t area) ≡ map machine_row m.rows
+pub images_now : (s : Site) (t : VolumeTable) (area : Held) (m : Known) → HasNoNew t → IsOrderly s t m → IsFirm s t area m → IsWellFormed (shape_in s t m) → image_rows (content_now s t area) ≡ map machine_row m.rows
 unfolding shape_in
 images_now s t area m none_new o ready w =
     rising_ext image_cmp image_total (image_rows c) (map machine_row m.rows) left_rising right_rising within without
@@ -295,7 +285,7 @@ other_by c r = by (shape_row c r)
     by None = refl
     by (Some i) = refl
 
--- a volume that is neither an image nor that of the records has no extents
+-- a volume that is neither an image nor a log nor that of the records has no extents
 no_length : (r : Row) → (not r.hidden && (not r.fresh && (length r.extents == 0))) ≡ true → length r.extents ≡ 0
 no_length r e = eqb-true (length r.extents) 0 (and_right (not r.fresh) (length r.extents == 0) (and_right (not r.hidden) (not r.fresh && (length r.extents == 0)) e))
   where
@@ -304,23 +294,20 @@ no_length r e = eqb-true (length r.extents) 0 (and_right (not r.fresh) (length r
     and_right false b e = absurd (true≢false (sym e))
 
 abbrev pub suits_as : Row → Name → Bool
-suits_as r n = cond (is_image n) (nat_lt 0 (length r.extents)) (not (is_log n) && (not r.hidden && (not r.fresh && (not (is_entry n) || (length r.extents == 0)))))
+suits_as r n = suits (record { name = n; hidden = r.hidden; fresh = r.fresh; extents = r.extents })
 
-pub no_extents : (r : Row) (n : Name) → suits_as r n ≡ true → is_image_name n ≡ false → n ≢ Mgt → ((u : List ℕ) → n ≢ Old u) → length r.extents ≡ 0
+pub no_extents : (r : Row) (n : Name) → suits_as r n ≡ true → is_image_name n ≡ false → n ≢ Mgt → is_log n ≡ false → ((u : List ℕ) → n ≢ Old u) → length r.extents ≡ 0
 unfolding is_image_name
-no_extents r (Vhd u) v none other old = absurd (true≢false none)
-no_extents r (Raw u) v none other old = absurd (true≢false none)
-no_extents r Mgt v none other old = absurd (other refl)
-no_extents r (Old u) v none other old = absurd (old u refl)
-no_extents r (Cbt u) v none other old = absurd (true≢false (sym v))
-no_extents r (Clone d b w) v none other old = no_length r v
-no_extents r (Inflate u k) v none other old = no_length r v
-no_extents r (Coalesce c p) v none other old = no_length r v
-no_extents r (Relink c p) v none other old = no_length r v
-no_extents r (Leaf l p) v none other old = no_length r v
-
-pub sum-cons : (f : Row → ℕ) (r : Row) (rs : List Row) → sum (map f (r ∷ rs)) ≡ f r + sum (map f rs)
-sum-cons f r rs = sum-map f (r ∷ rs) ∙ sum_by-cons f r rs ∙ ap (λ n. f r + n) (sym (sum-map f rs))
+no_extents r (Vhd u) v none other log old = absurd (true≢false none)
+no_extents r (Raw u) v none other log old = absurd (true≢false none)
+no_extents r Mgt v none other log old = absurd (other refl)
+no_extents r (Old u) v none other log old = absurd (old u refl)
+no_extents r (Cbt u) v none other log old = absurd (true≢false log)
+no_extents r (Clone d b w) v none other log old = no_length r v
+no_extents r (Inflate u k) v none other log old = no_length r v
+no_extents r (Coalesce c p) v none other log old = no_length r v
+no_extents r (Relink c p) v none other log old = no_length r v
+no_extents r (Leaf l p) v none other log old = no_length r v
 
 mgt_or_not : (n : Name) → (n ≡ Mgt) ⊎ (n ≢ Mgt)
 mgt_or_not n = by (name_eq n Mgt) refl
@@ -353,8 +340,17 @@ pub mgt_image : is_image_name Mgt ≡ false
 unfolding is_image_name
 mgt_image = refl
 
-others_now : (s : Site) (t : VolumeTable) (area : Held) (m : Known) → HasNoNew t → IsOrderly s t m → IsFirm s t area m → sum (map (other_extents (content_now s t area)) t.volumes) ≡ length (extents_of (rows t Mgt))
-others_now s t area m none_new o ready = sum_mgt (other_extents c) t.volumes o.table.volumes.rising here others
+mgt_log : (r : Row) → r.name ≡ Mgt → is_log r.name ≡ false
+mgt_log r is = ap is_log is
+
+pub others_now : (s : Site) (t : VolumeTable) (area : Held) (m : Known) → HasNoNew t → IsOrderly s t m → IsFirm s t area m
+    → sum (map (other_extents (content_now s t area)) t.volumes) ≡ log_extents m.logs + record_extents s.geometry.extent
+others_now s t area m none_new o ready =
+    sum_but_logs (other_extents c) t.volumes logs
+    ∙ ap₂ (λ a b. a + b) (log_extents_counted s t m o)
+    (sum_mgt (λ r. cond (is_log r.name) 0 (other_extents c r)) t.volumes o.table.volumes.rising
+    (λ r i is. ap (λ b. cond b 0 (other_extents c r)) (mgt_log r is) ∙ here r i is)
+    (λ r i other. rest r i other (is_log r.name) refl) ∙ o.record_volume)
   where
     c : Content
     c = content_now s t area
@@ -369,8 +365,15 @@ others_now s t area m none_new o ready = sum_mgt (other_extents c) t.volumes o.t
         by (inl x) = absurd (true≢false (sym (named_row s t m x.at.row o x.at.there) ∙ ap is_image_name (x.at.named ∙ is) ∙ mgt_image))
         by (inr none) = other_by c r ∙ ap (extents_by r) none.1
 
-    others : (r : Row) → In r t.volumes → r.name ≢ Mgt → other_extents c r ≡ 0
-    others r i other = by (seen r i)
+    logs : (r : Row) → In r t.volumes → is_log r.name ≡ true → other_extents c r ≡ length r.extents
+    logs r i is = by (seen r i)
+      where
+        by : Seen s t area m r.name r → other_extents c r ≡ length r.extents
+        by (inl x) = absurd (true≢false (sym (image_named r.name (ap is_image_name (sym x.at.named) ∙ named_row s t m x.at.row o x.at.there)) ∙ log-no_image r.name is))
+        by (inr none) = other_by c r ∙ ap (extents_by r) none.1
+
+    others : (r : Row) → In r t.volumes → r.name ≢ Mgt → is_log r.name ≡ false → other_extents c r ≡ 0
+    others r i other no_log = by (seen r i)
       where
         old : is_image_name r.name ≡ false → (u : List ℕ) → r.name ≢ Old u
         old none u is =
@@ -380,7 +383,11 @@ others_now s t area m none_new o ready = sum_mgt (other_extents c) t.volumes o.t
 
         by : Seen s t area m r.name r → other_extents c r ≡ 0
         by (inl x) = other_by c r ∙ ap (extents_by r) x.seen
-        by (inr none) = other_by c r ∙ ap (extents_by r) none.1 ∙ no_extents r r.name (All-In IsVolume t.volumes r o.table.volumes.each i).kind none.0 other (old none.0)
+        by (inr none) = other_by c r ∙ ap (extents_by r) none.1 ∙ no_extents r r.name (All-In IsVolume t.volumes r o.table.volumes.each i).kind none.0 other no_log (old none.0)
+
+    rest : (r : Row) → In r t.volumes → r.name ≢ Mgt → (b : Bool) → is_log r.name ≡ b → cond b 0 (other_extents c r) ≡ 0
+    rest r i other true is = refl
+    rest r i other false is = others r i other is
 
 -- ---- the records
 
@@ -652,26 +659,3 @@ records_now s t area m o ready w =
         let n = stands_now s t m r.uuid y.0 o w y.1 (sym (ap (λ (z : ImageRow). z.hidden) y.2) ∙ h.2) (sym (ap (λ (z : ImageRow). image_uuid z.name) y.2) ∙ h.3 ∙ ap (λ (z : DiskRecord). z.uuid) f.is) in
         subst (λ z. In z (map disk_record (disks c))) (sym f.is)
         (In-map_at disk_record (disks c) (disk_in c r.uuid r n.0) (at_disks c r.uuid (disk_in c r.uuid r n.0) (disk_shown c n.0 r n.1 recorded)))
-
--- ---- all of it
-
-abbrev shape_with : Site → VolumeTable → ℕ → List DiskRecord → List ImageRow → Shape
-shape_with s t others records images = record {
-  sequence = t.sequence;
-  extent = s.geometry.extent;
-  block = s.geometry.block;
-  entries = s.geometry.entries;
-  extents = s.count;
-  others = others;
-  records = records;
-  images = images;
-  attached = [];
-  op = Idle;
-}
-
-pub law_shape : (s : Site) (t : VolumeTable) (area : Held) (m : Known) → HasNoNew t → IsOrderly s t m → IsReady s t area m
-    → shape (content_now s t area) ≡ unattached (shape_in s t m)
-unfolding shape shape_in
-law_shape s t area m none_new o ready = ∥∥₁_elim o.well_formed (hlevel props) (λ w.
-    ap₂ (λ (k : ℕ) (rs : List DiskRecord). shape_with s t k rs (image_rows (content_now s t area))) (others_now s t area m none_new o ready.firm ∙ o.record_volume) (records_now s t area m o ready w)
-    ∙ ap (shape_with s t (record_extents s.geometry.extent) (records_in (shown_places m.rows m.places))) (images_now s t area m none_new o ready.firm w))

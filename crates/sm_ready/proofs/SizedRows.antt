@@ -132,6 +132,10 @@ module _ (s : Site) (t : VolumeTable) (m : Known) (o : IsOrderly s t m) (own : T
       record_volume = o.record_volume;
       few = o.few;
       new_named = o.new_named;
+      logs = o.logs;
+      few_logs = o.few_logs;
+      logs_in_order = o.logs_in_order;
+      log_room = o.log_room;
       images = λ n is. o.images n is ∙ sym (face_replaced s t m o own (sized size own) there (sized_name size own.image) refl refl n);
       places = o.places;
       entries = o.entries;

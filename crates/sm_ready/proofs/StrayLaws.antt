@@ -9,7 +9,7 @@ use Rattle.std.proofs.lemmas.Option.{slice_get-get_or}
 use Rattle.std.proofs.lemmas.Slice.Eq.{bytes_eq-Decides}
 use Rattle.std.specs.Str.{bytes_eq}
 use Rattle.sm_base.specs.declared.names.Name.{Name}
-use Rattle.sm_base.specs.declared.names.Name.TheVariants.{Mgt}
+use Rattle.sm_base.specs.declared.names.Name.TheVariants.{Mgt, Cbt}
 use Rattle.sm_disk.specs.Held.{Held, Keeps, May, reads}
 use Rattle.sm_disk.proofs.HeldLaws.{Allows-keeps}
 use Rattle.vg_meta.specs.Tables.{VolumeTable}
@@ -26,7 +26,6 @@ use Rattle.sm_mgt.specs.Places.{place_count, records_held, as_reading}
 use Rattle.sm_standing.specs.Contents.{Content, sectors_of, reading_at, record_count, records, record_of, is_record_of, taken}
 use Rattle.sm_standing.specs.Images.{image_of}
 use Rattle.sm_standing.specs.Keeping.{IsKept}
-use Rattle.sm_standing.specs.Shapes.{IsStateOf}
 use Rattle.sm_standing.specs.Standing.{standing_volume, disk_at, disk_in, disks}
 use Rattle.sm_standing.proofs.DiskLists.{disks_same}
 use Rattle.sm_standing.proofs.RecordLists.{record_of_first, first_of}
@@ -36,13 +35,12 @@ use Rattle.vhd_chain.specs.declared.rows.TreeRow.{TreeRow}
 use Rattle.vhd_volumes.specs.Steady.{IsQuiet}
 use Rattle.sm_ready.specs.Known.{Known, machine_row, shape_in, records_in, shown_places, is_shown, is_shown_place}
 use Rattle.sm_ready.specs.Orderly.{IsOrderly, IsRoomyIn}
-use Rattle.sm_ready.specs.Ready.{IsFirm, IsReady, IsTidy, HoldsPlaces, is_written_in}
-use Rattle.sm_ready.specs.Sessions.{state_in}
+use Rattle.sm_ready.specs.Ready.{IsFirm, IsReady, HoldsPlaces, is_written_in}
 use Rattle.sm_ready.specs.Stores.{content_in, content_now}
 use Rattle.sm_ready.proofs.KeptLaws.{law_kept}
 use Rattle.sm_ready.proofs.LeftLaws.{IsLeft, IsLeftIn, left_volume, image_quiet, place_reads, mgt_long}
 use Rattle.sm_ready.proofs.OnceLaws.{any_In}
-use Rattle.sm_ready.proofs.ShapeLaws.{as_taken, content_records, law_shape, standing_shown, stands_now}
+use Rattle.sm_ready.proofs.ShapeLaws.{as_taken, standing_shown, stands_now}
 
 -- ---- which records are stray
 
@@ -63,7 +61,7 @@ visible_of xs u h =
     shown_of true e = absurd (true≢false (sym e))
     shown_of false e = refl
 
-shown_stands : (s : Site) (t : VolumeTable) (m : Known) (u : List ℕ) → IsOrderly s t m → is_shown m.rows u ≡ true → is_some (standing_volume t u) ≡ true
+pub shown_stands : (s : Site) (t : VolumeTable) (m : Known) (u : List ℕ) → IsOrderly s t m → is_shown m.rows u ≡ true → is_some (standing_volume t u) ≡ true
 shown_stands s t m u o shown = ∥∥₁_elim o.well_formed (hlevel props) (λ w.
     let v = visible_of m.rows u shown in
     ap is_some (stands_now s t m u v.row o w v.there v.shown v.uuid).1)
@@ -71,16 +69,6 @@ shown_stands s t m u o shown = ∥∥₁_elim o.well_formed (hlevel props) (λ w
 -- no visible image in memory has the UUID of a record of no disk
 pub stray_unseen : (s : Site) (t : VolumeTable) (m : Known) (u : List ℕ) → IsOrderly s t m → is_some (standing_volume t u) ≡ false → is_shown m.rows u ≡ false
 stray_unseen s t m u o stray = false_from_ne_true (is_shown m.rows u) (λ e. true≢false (sym (shown_stands s t m u o e) ∙ stray))
-
--- ---- what a read gives
-
--- between two commands it gives the machine's state
-pub law_state : (s : Site) (t : VolumeTable) (area : Held) (m : Known) → IsOrderly s t m → IsTidy t m → IsReady s t area m → IsStateOf (content_now s t area) (state_in s t area m)
-law_state s t area m o tidy ready = record {
-  same_disks = refl;
-  same_shape = sym (law_shape s t area m tidy.none_new o ready);
-  no_stray = λ r i. shown_stands s t m r.uuid o (tidy.no_stray r (content_records s t area m r o ready i));
-}
 
 -- ---- memory without some of them
 
@@ -127,6 +115,10 @@ orderly_freed s t m ps o f =
       record_volume = o.record_volume;
       few = o.few;
       new_named = o.new_named;
+      logs = o.logs;
+      few_logs = o.few_logs;
+      logs_in_order = o.logs_in_order;
+      log_room = o.log_room;
       images = o.images;
       places = f.long ∙ o.places;
       entries = o.entries;
@@ -174,9 +166,10 @@ kept_past f (x ∷ ps) a (suc k) past = kept_past f ps (a + 1) k (omega (arith, 
 
 -- ---- what a stop leaves
 
--- zeros were written over some records of no visible image: each image's volume is as it was, and each other record
+-- zeros were written over some records of no visible image: each volume of an image or of a log is as it was, and each other record
 pub record IsSwept (s : Site) (t : VolumeTable) (m : Known) (old new : Held) : Type 0 where
   pub images : (q : TreeRow) → In q m.rows → Keeps (volume_of s t old (row_name q)) (volume_of s t new (row_name q))
+  pub logs : (u : List ℕ) → Keeps (volume_of s t old (Cbt u)) (volume_of s t new (Cbt u))
   pub records : (p : ℕ) (v : List ℕ) → p < place_count → May (records_held s t new) p v → May (records_held s t old) p v ⊎ ((reading v ≡ Free) × IsUnseen m.rows (get_or m.places p None))
 
 left_out : (test : Record → Bool) (f g : Option Record) (rest more : List Record)

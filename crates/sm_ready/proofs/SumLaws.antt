@@ -7,7 +7,7 @@ use Rattle.std.specs.declared.cmp.Ordering.TheVariants.{Less}
 use Rattle.std.proofs.lemmas.Bool.{true≢false, lt-ltb}
 use Rattle.std.proofs.lemmas.List.Sums.{sum_by-cons}
 use Rattle.std.proofs.lemmas.Option.{none-some, same_Some}
-use Rattle.sm_base.specs.Kinds.{is_image}
+use Rattle.sm_base.specs.Kinds.{is_image, is_log}
 use Rattle.sm_base.specs.Names.{IsName, name_cmp}
 use Rattle.sm_base.specs.declared.names.Name.{Name}
 use Rattle.sm_base.specs.declared.names.Name.TheVariants.{Mgt, Vhd, Raw}
@@ -18,6 +18,7 @@ use Rattle.vg_extents.proofs.CountLaws.{low, length-free}
 use Rattle.vg_volumes.specs.Sites.{Site}
 use Rattle.common_laws.specs.Lists.{In}
 use Rattle.common_laws.proofs.Lists.{In-map, In-map_at}
+use Rattle.sm_log.specs.Logs.{log_extents}
 use Rattle.sm_machine.specs.Shapes.{ImageRow, image_extents, free}
 use Rattle.sm_machine.specs.WellFormed.{IsWellFormed, is_image_name}
 use Rattle.sm_standing.specs.Checks.{images}
@@ -29,8 +30,9 @@ use Rattle.vhd_chain.specs.declared.rows.TreeRow.{TreeRow}
 use Rattle.sm_ready.specs.Known.{Known, machine_row, shape_in}
 use Rattle.sm_ready.specs.Orderly.{IsOrderly}
 use Rattle.sm_ready.proofs.Orders.{rowed, named_row}
-use Rattle.sm_ready.proofs.ShapeLaws.{HasNoNew, row_cmp, image_cmp, rising_rows, image_total, rising_images, sum-cons, sum_mgt, no_extents}
-use Rattle.sm_ready.proofs.RowLaws.{tree_found, found_in, volume_there, image_named, All-In}
+use Rattle.sm_ready.proofs.ShapeLaws.{HasNoNew, image_cmp, image_total, rising_images, sum_mgt, no_extents}
+use Rattle.sm_ready.proofs.LogRows.{log-no_image, log_extents_counted, sum-cons, sum_but_logs}
+use Rattle.sm_ready.proofs.RowLaws.{tree_found, found_in, volume_there, image_named, All-In, row_cmp, rising_rows}
 
 -- an image's row with nothing but its name and its number of extents
 abbrev blank : ImageRow → ImageRow
@@ -150,26 +152,34 @@ extents_split (r ∷ rs) =
     by true = omega arith
     by false = omega arith
 
-image_or : (s : Site) (t : VolumeTable) (m : Known) (r : Row) → IsOrderly s t m → In r t.volumes → is_image r.name ≡ false → r.name ≢ Mgt → length r.extents ≡ 0
+image_or : (s : Site) (t : VolumeTable) (m : Known) (r : Row) → IsOrderly s t m → In r t.volumes → is_image r.name ≡ false → is_log r.name ≡ false → r.name ≢ Mgt → length r.extents ≡ 0
 unfolding is_image_name
-image_or s t m r o i none other = no_extents r r.name (All-In IsVolume t.volumes r o.table.volumes.each i).kind (no_image r.name none) other (λ u is. true≢false (sym (ap is_image is) ∙ none))
+image_or s t m r o i none no_log other = no_extents r r.name (All-In IsVolume t.volumes r o.table.volumes.each i).kind (no_image r.name none) other no_log (λ u is. true≢false (sym (ap is_image is) ∙ none))
   where
     no_image : (n : Name) → is_image n ≡ false → is_image_name n ≡ false
     no_image (Vhd u) e = absurd (true≢false e)
     no_image (Raw u) e = absurd (true≢false e)
     no_image _ e = refl
 
-others_counted : (s : Site) (t : VolumeTable) (m : Known) → IsOrderly s t m → sum (map other_of t.volumes) ≡ record_extents s.geometry.extent
-others_counted s t m o = sum_mgt other_of t.volumes o.table.volumes.rising (λ r i is. ap (λ n. cond (is_image n) 0 (length r.extents)) is) others ∙ o.record_volume
+-- which are the logs of memory, and the records
+others_counted : (s : Site) (t : VolumeTable) (m : Known) → IsOrderly s t m → sum (map other_of t.volumes) ≡ log_extents m.logs + record_extents s.geometry.extent
+others_counted s t m o =
+    sum_but_logs other_of t.volumes (λ r i is. log_other r is)
+    ∙ ap₂ (λ a b. a + b) (log_extents_counted s t m o)
+    (sum_mgt (λ r. cond (is_log r.name) 0 (other_of r)) t.volumes o.table.volumes.rising (λ r i is. ap (λ n. cond (is_log n) 0 (cond (is_image n) 0 (length r.extents))) is) others ∙ o.record_volume)
   where
-    others : (r : Row) → In r t.volumes → r.name ≢ Mgt → other_of r ≡ 0
-    others r i other = by (is_image r.name) refl
-      where
-        by : (b : Bool) → is_image r.name ≡ b → cond b 0 (length r.extents) ≡ 0
-        by true e = refl
-        by false e = image_or s t m r o i e other
+    log_other : (r : Row) → is_log r.name ≡ true → other_of r ≡ length r.extents
+    log_other r is = ap (λ b. cond b 0 (length r.extents)) (log-no_image r.name is)
 
-pub extents_counted : (s : Site) (t : VolumeTable) (m : Known) → HasNoNew t → IsOrderly s t m → length (used t) ≡ record_extents s.geometry.extent + image_extents (map machine_row m.rows)
+    others : (r : Row) → In r t.volumes → r.name ≢ Mgt → cond (is_log r.name) 0 (other_of r) ≡ 0
+    others r i other = by (is_log r.name) (is_image r.name) refl refl
+      where
+        by : (a b : Bool) → is_log r.name ≡ a → is_image r.name ≡ b → cond a 0 (cond b 0 (length r.extents)) ≡ 0
+        by true b log e = refl
+        by false true log e = refl
+        by false false log e = image_or s t m r o i e log other
+
+pub extents_counted : (s : Site) (t : VolumeTable) (m : Known) → HasNoNew t → IsOrderly s t m → length (used t) ≡ log_extents m.logs + record_extents s.geometry.extent + image_extents (map machine_row m.rows)
 unfolding shape_in
 extents_counted s t m none_new o = ∥∥₁_elim o.well_formed (hlevel props) (λ w.
     extents_split t.volumes ∙ ap₂ (λ a b. a + b) (others_counted s t m o) (ap (λ (xs : List ImageRow). image_extents xs) (sized_same s t m none_new o w) ∙ extents-blank (map machine_row m.rows)))

@@ -11,6 +11,7 @@ use Rattle.vg_volumes.specs.declared.stores.Store.{Ghosts}
 use Rattle.sm_machine.specs.Disks.{Disk}
 use Rattle.sm_run.specs.Between.{IsBetween}
 use Rattle.sm_standing.specs.Keeping.{IsKept}
+use Rattle.sm_standing.specs.Logs.{IsLogged}
 use Rattle.sm_standing.specs.Standing.{disks}
 use Rattle.sm_ready.specs.Done.{HasDone}
 use Rattle.sm_ready.specs.Known.{Known, known}
@@ -21,6 +22,7 @@ use Rattle.sm_ready.specs.declared.memory.Memory.{Memory}
 use Rattle.sm_ready.proofs.ChainLaws.{only_crash, wider_between}
 use Rattle.sm_ready.proofs.CommitLaws.{IsSafe, ready_safe}
 use Rattle.sm_ready.proofs.LeaveLaws.{left_choice}
+use Rattle.sm_ready.proofs.LogLaws.{holds_ready, logged_before}
 use Rattle.sm_ready.proofs.RepairLaws.{ready_synced}
 use Rattle.sm_ready.proofs.TakenLaws.{IsTold}
 
@@ -54,22 +56,28 @@ module _ {S : Type 0} {g : Ghosts S} {a b : S} {m : Memory} (h : IsTold g a m) (
       subst (λ t. IsKept (content_in (g.site a) t image) × IsBetween (MayShow (g.site a) (StoreLeaves g a)) was ds (disks (content_in (g.site a) t image))) (sym here.table_is)
       (safe.kept image here.sectors, inl (safe.shown image here.sectors))
 
+  -- and has the logs of memory
+  synced_logged : (n : Known) → n.logs ≡ (known m).logs → (v : VolumeTable) (image : ℕ → List ℕ) → StoreLeaves g b v image → IsLogged (content_in (g.site a) v image) n.logs
+  synced_logged n same v image l = subst (IsLogged (content_in (g.site a) v image)) (sym same)
+      (logged_before (holds_ready (g.site a) (table_alone (g.table a)) (g.area a) (known m) h.orderly h.ready) h.orderly.table v image (left_before v image l))
+
   -- it failed
-  pub synced_failed : (n : Known) (ok : Type 0) (ds : List Disk) → (ok → ⊥) → HasDone (g.site a) (table_alone (g.table a)) (table_alone (g.table b)) (g.area a) (g.area b) n (StoreLeaves g a) (StoreLeaves g b) ok ds
-  synced_failed n ok ds never = only_crash never (synced_crash ds)
+  pub synced_failed : (n : Known) (ok : Type 0) (ds : List Disk) → (ok → ⊥) → n.logs ≡ (known m).logs → HasDone (g.site a) (table_alone (g.table a)) (table_alone (g.table b)) (g.area a) (g.area b) n (StoreLeaves g a) (StoreLeaves g b) ok ds
+  synced_failed n ok ds never same_logs = only_crash never (synced_crash ds) (synced_logged n same_logs)
 
   -- a read gives what it gave
   pub synced_content : content_now (g.site a) (table_alone (g.table b)) (g.area b) ≡ store_content g a
   synced_content = ap₂ (λ t image. content_in (g.site a) t image) y.table (fun_ext y.keeps.reads)
 
   -- all lasts, and memory is ready beside it
-  pub synced : (n : Known) (ok : Type 0) (ds : List Disk) → ds ≡ was → IsSettled (g.area b) → IsReady (g.site a) (table_alone (g.table a)) (g.area b) n
+  pub synced : (n : Known) (ok : Type 0) (ds : List Disk) → ds ≡ was → IsSettled (g.area b) → IsReady (g.site a) (table_alone (g.table a)) (g.area b) n → n.logs ≡ (known m).logs
       → HasDone (g.site a) (table_alone (g.table a)) (table_alone (g.table b)) (g.area a) (g.area b) n (StoreLeaves g a) (StoreLeaves g b) ok ds
-  synced n ok ds same settled ready = record {
+  synced n ok ds same settled ready same_logs = record {
     ready = λ _. subst (λ t. IsReady (g.site a) t (g.area b) n) (sym y.table) ready;
     settled = λ _. settled;
     shown = λ _. ap disks synced_content ∙ sym same;
     crash = synced_crash ds;
+    logged = synced_logged n same_logs;
   }
 
 -- what is done behind a sync is done from before it
@@ -88,6 +96,7 @@ behind_sync {g = g} {a} {b} {e} h y n ok ds done =
             wider_between (λ u i k. inr (h.told, h.usable, left_before h y u i k))
                 (subst (λ (was : List Disk). IsBetween (MayShow (g.site a) (StoreLeaves g b)) was ds (disks (content_in (g.site a) v image))) (ap disks (synced_content h y)) w.1),
           );
+      logged = at.logged;
     }
 
 -- what is known behind a sync

@@ -24,6 +24,7 @@ use Rattle.sm_machine.specs.Shapes.{Shape, risen}
 use Rattle.sm_machine.specs.Steps.{State, Outcome, step, given_up, shape_after, shape_next, disks_next, reply_to, accepted, refused, unless_refused}
 use Rattle.sm_run.specs.Between.{IsBetween}
 use Rattle.sm_standing.specs.Keeping.{IsKept}
+use Rattle.sm_standing.specs.Logs.{IsLogged}
 use Rattle.sm_standing.specs.Standing.{disks}
 use Rattle.sm_ready.specs.Done.{HasDone}
 use Rattle.sm_ready.specs.Known.{known, shape_in}
@@ -34,6 +35,7 @@ use Rattle.sm_ready.specs.Taken.{StoreTakes, StoreTakesTo}
 use Rattle.sm_ready.specs.declared.memory.Memory.{Memory}
 use Rattle.sm_ready.proofs.CommitLaws.{IsSafe, ready_safe}
 use Rattle.sm_ready.proofs.LeaveLaws.{left_choice}
+use Rattle.sm_ready.proofs.LogLaws.{holds_ready, logged_before}
 
 pub held_same : (a b : Held) → SameHeld a b → b ≡ a
 held_same a b e = ap₂ (λ (f : ℕ → List ℕ) (p : ℕ → List (List ℕ)). let h : Held = record { floor = f; pending = p } in h) (fun_ext (λ q. e.floor q)) (fun_ext (λ q. e.pending q))
@@ -61,6 +63,8 @@ module _ (o : Outcome) {S : Type 0} (g : Ghosts S) (a b : S) (m n : Memory) (com
         let here = left v image (before v image l) in
         subst (λ y. IsKept (content_in (g.site a) y image) × IsBetween (MayShow (g.site a) (StoreLeaves g a)) (disks (store_content g a)) o.after.disks (disks (content_in (g.site a) y image))) (sym here.table_is)
         (safe.kept image here.sectors, inl (safe.shown image here.sectors));
+    logged = λ v image l. subst (λ (x : Memory). IsLogged (content_in (g.site a) v image) (known x).logs) (sym same)
+        (logged_before (holds_ready (g.site a) (table_alone (g.table a)) (g.area a) (known m) orderly ready) orderly.table v image (left v image (before v image l)));
   }
     where
       area : g.area b ≡ g.area a
@@ -91,13 +95,14 @@ module _ (o : Outcome) {S : Type 0} (g : Ghosts S) (a b : S) (m n : Memory) (com
     ready = done.ready fine;
     settled = λ yes settles. done.settled fine;
     crash = done.crash;
+    logged = done.logged;
   }
 
   -- and one that failed
   pub taken_failed : (ok : Type 0) (f : Failed)
       → HasDone (g.site a) (table_alone (g.table a)) (table_alone (g.table b)) (g.area a) (g.area b) (known n) (StoreLeaves g a) (StoreLeaves g b) ok o.after.disks
       → StoreTakesTo o g command a m b n (Err f)
-  taken_failed ok f done = record { reply = tt; ready = tt; settled = tt; crash = done.crash }
+  taken_failed ok f done = record { reply = tt; ready = tt; settled = tt; crash = done.crash; logged = done.logged }
 
 -- ---- the step of a command
 

@@ -7,6 +7,7 @@ use Rattle.sm_machine.specs.Disks.{Disk}
 use Rattle.sm_machine.specs.Runs.{HasSector, face}
 use Rattle.sm_run.specs.Between.{HadSector, IsBetween}
 use Rattle.sm_standing.specs.Keeping.{IsKept}
+use Rattle.sm_standing.specs.Logs.{IsLogged}
 use Rattle.sm_standing.specs.Standing.{disks}
 use Rattle.sm_ready.specs.Done.{HasDone}
 use Rattle.sm_ready.specs.Known.{Known}
@@ -38,4 +39,5 @@ module _ {S : Type 0} {g : Ghosts S} {a b : S} {m k : Memory} (h : IsTold g a m)
         let w = done.crash v image l in
         let there = between ds (disks (content_in (g.site b) v image)) w.1 in
         (subst (λ s. IsKept (content_in s v image)) site w.0, subst (λ s. IsBetween (MayShow (g.site a) (StoreLeaves g a)) (disks (store_content g a)) ds (disks (content_in s v image))) site there);
+    logged = λ v image l. subst (λ s. IsLogged (content_in s v image) n.logs) site (done.logged v image l);
   }

@@ -36,6 +36,10 @@ orderly_used s t m a o well counted = record {
   record_volume = o.record_volume;
   few = o.few;
   new_named = o.new_named;
+  logs = o.logs;
+  few_logs = o.few_logs;
+  logs_in_order = o.logs_in_order;
+  log_room = o.log_room;
   images = o.images;
   places = o.places;
   entries = o.entries;
@@ -51,4 +55,6 @@ ready_used s t h m a ready settled = record {
   firm = record { images = ready.firm.images; quiet = λ r i _. all_quiet s t h settled (row_name r); below = ready.firm.below };
   records = ready.records;
   recorded = ready.recorded;
+  logs = ready.logs;
+  logged = ready.logged;
 }

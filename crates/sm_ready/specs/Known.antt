@@ -1,8 +1,9 @@
 -- What a session has in memory between two steps, and the machine's shape of it (this project's own).
-use Rattle.std.specs.Prelude.{ℕ, Bool, false, ◌||◌, is_some, List, [], ◌∷◌, map, length, Option, None, Some, if◌then◌else◌}
+use Rattle.std.specs.Prelude.{ℕ, ◌+◌, Bool, false, ◌||◌, is_some, List, [], ◌∷◌, map, length, Option, None, Some, if◌then◌else◌}
 use Rattle.std.specs.List.{filter, list_any}
 use Rattle.sm_base.specs.declared.names.Name.{Name}
 use Rattle.sm_base.specs.declared.names.Name.TheVariants as name
+use Rattle.sm_log.specs.Logs.{Log, log_extents}
 use Rattle.sm_machine.specs.Operations.{Op}
 use Rattle.sm_machine.specs.Operations as op
 use Rattle.vg_layout.specs.Places.{record_extents}
@@ -18,16 +19,18 @@ use Rattle.vhd_chain.specs.Trees.{row_name, tree_row}
 use Rattle.sm_ready.specs.declared.memory.Memory.{Memory}
 use Rattle.vhd_chain.specs.declared.rows.TreeRow.{TreeRow}
 
--- the images in order of name, the places of the records, the attachments, and the collector's operation
+-- the images in order of name, the places of the records, the logs of tracked disks in order of UUID, the attachments, and the
+-- collector's operation
 pub record Known : Type 0 where
   pub rows : List TreeRow
   pub places : List (Option Record)
+  pub logs : List Log
   pub attached : Attached
   pub op : Op
 
--- what a session's memory says
+-- what a session's memory says; it keeps no log yet, as no repository that is opened has one
 abbrev pub known : Memory → Known
-known m = record { rows = m.tree.rows; places = m.records; attached = m.attached; op = m.operation }
+known m = record { rows = m.tree.rows; places = m.records; logs = []; attached = m.attached; op = m.operation }
 
 -- an image as the machine has it
 abbrev pub machine_row : TreeRow → ImageRow
@@ -67,9 +70,10 @@ shape_in s t m = record {
   block = s.geometry.block;
   entries = s.geometry.entries;
   extents = s.count;
-  others = record_extents s.geometry.extent;
+  others = log_extents m.logs + record_extents s.geometry.extent;
   records = records_in (shown_places m.rows m.places);
   images = map machine_row m.rows;
+  logs = m.logs;
   attached = map (λ a. record { disk = a.0; mode = a.1 }) m.attached.disks;
   op = m.op;
 }
@@ -95,3 +99,8 @@ row_face (Some r) = if r.fresh then None else Some (record { hidden = r.hidden; 
 abbrev pub tree_face : Option TreeRow → Option Face
 tree_face None = None
 tree_face (Some r) = Some (record { hidden = r.hidden; extents = r.extents })
+
+-- of a log: its volume is not hidden
+abbrev pub log_face : Option Log → Option Face
+log_face None = None
+log_face (Some l) = Some (record { hidden = false; extents = l.extents })

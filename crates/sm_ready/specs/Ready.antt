@@ -1,8 +1,10 @@
 -- What holds of the sectors between two steps, where they are told.
 use Rattle.std.specs.Prelude.{◌≡◌, ℕ, ◌*◌, ◌/◌, ◌<◌, Bool, true, false, not, ◌&&◌, List, [], length, Option, None, Some, slice_index_or}
 use Rattle.sm_base.specs.declared.names.Name.{Name}
+use Rattle.sm_base.specs.declared.names.Name.TheVariants.{Cbt}
 use Rattle.sm_machine.specs.Operations.{Op, is_dirty}
 use Rattle.sm_disk.specs.Held.{Held}
+use Rattle.sm_log.specs.Logs.{Log}
 use Rattle.vg_meta.specs.Tables.{VolumeTable, Row}
 use Rattle.vg_volumes.specs.Sites.{Site, volume_of}
 use Rattle.common_laws.specs.Lists.{In}
@@ -10,6 +12,7 @@ use Rattle.sm_machine.specs.Shapes.{Shape, ImageRow, find_image, attached_as, is
 use Rattle.sm_record.specs.declared.records.Record.{Record}
 use Rattle.sm_standing.specs.Contents.{Content, reading_at}
 use Rattle.sm_standing.specs.Images.{Image, image_of}
+use Rattle.sm_standing.specs.Logs.{IsLogged}
 use Rattle.sm_ready.specs.Known.{Known, shape_in, is_shown}
 use Rattle.vhd_chain.specs.declared.rows.TreeRow.{TreeRow}
 use Rattle.vhd_chain.specs.Trees.{row_name}
@@ -54,15 +57,21 @@ pub record HoldsPlaces (s : Site) (t : VolumeTable) (image : ℕ → List ℕ) (
   pub long : length places ≡ place_count
   pub each : (k : ℕ) → k < place_count → reading_at (content_in s t image) k ≡ as_reading (slice_index_or places k None)
 
--- what a read gives of images and records is what memory says, and of no record anything is pending
+-- what a read gives of images, records and logs is what memory says, and of no record and no log anything is pending
 pub record IsReady (s : Site) (t : VolumeTable) (area : Held) (m : Known) : Type 0 where
   pub firm : IsFirm s t area m
   pub records : Agrees (records_held s t area) m.places
   pub recorded : IsQuiet (records_held s t area)
+  pub logs : IsLogged (content_now s t area) m.logs
+  pub logged : (u : List ℕ) → IsQuiet (volume_of s t area (Cbt u))
 
 -- each record is that of a visible image
 abbrev pub HasNoStray : Known → Type 0
 HasNoStray m = (r : Record) → In (Some r) m.places → is_shown m.rows r.uuid ≡ true
+
+-- each log is that of a visible image's disk
+abbrev pub HasNoStrayLog : Known → Type 0
+HasNoStrayLog m = (l : Log) → In l m.logs → is_shown m.rows l.disk ≡ true
 
 -- between two commands no volume is new and no record is stray
 pub record IsTidy (t : VolumeTable) (m : Known) : Type 0 where

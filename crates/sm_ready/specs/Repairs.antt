@@ -35,10 +35,11 @@ pub record IsSame (was now : Content) : Type 0 where
   pub kept : IsKept now
   pub same_disks : disks now ≡ disks was
 
--- what was at rest with one memory is so with another, and the store has the same disks and images
+-- what was at rest with one memory is so with another, which has the same logs, and the store has the same disks and images
 pub record RestsAgain (old new : Stored) (before after : Known) : Type 0 where
   pub rest : IsAtRest old before → IsAtRest new after
   pub same_disks : IsAtRest old before → disks (content_of new) ≡ disks (content_of old)
+  pub same_logs : after.logs ≡ before.logs
   pub same_images : IsAtRest old before → (n : Name) → image_of (content_of new) n ≡ image_of (content_of old) n
 
 -- this place in memory has the record of no disk

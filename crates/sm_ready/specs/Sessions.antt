@@ -40,9 +40,9 @@ store_state g s m = state_in (g.site s) (table_alone (g.table s)) (g.area s) (kn
 abbrev pub KeepsAll : Site → Leaving → Type 0
 KeepsAll site leaves = (t : VolumeTable) (image : ℕ → List ℕ) → leaves t image → IsKept (content_in site t image)
 
--- the most rows that a table may come to have: those of 500 images, of the volume of records, and of 4 journal entries
+-- the most rows that a table may come to have: those of 500 images, of 500 logs, of the volume of records, and of 4 journal entries
 abbrev pub row_limit : ℕ
-row_limit = 505
+row_limit = 1005
 
 -- a table may come to have all its rows without memory for them
 abbrev pub HasRows : RoomyTable → Type 0

@@ -14,6 +14,7 @@ use Rattle.sm_machine.specs.Runs.{is_accepted, is_settling}
 use Rattle.sm_machine.specs.Steps.{Outcome, step}
 use Rattle.sm_run.specs.Between.{IsBetween}
 use Rattle.sm_standing.specs.Keeping.{IsKept}
+use Rattle.sm_standing.specs.Logs.{IsLogged}
 use Rattle.sm_standing.specs.Standing.{disks}
 use Rattle.sm_ready.specs.Known.{Known, known}
 use Rattle.sm_ready.specs.Ready.{IsReady}
@@ -22,14 +23,15 @@ use Rattle.sm_ready.specs.Stores.{Leaving, MayShow, StoreLeaves, content_in}
 use Rattle.sm_ready.specs.declared.memory.Memory.{Memory}
 
 -- The answer and the state are these, or memory was wanting and all is as it was; at an answer the sectors are as memory
--- says, and behind a command that makes all last nothing is pending; and whatever a stop leaves is kept, and shows disks
--- between those from before and those from after.
+-- says, and behind a command that makes all last nothing is pending; and whatever a stop leaves is kept, shows disks
+-- between those from before and those from after, and has the logs of memory after the command.
 pub record HasTakenTo (o : Outcome) (s : Site) (command : Command) (t : VolumeTable) (area : Held) (m : Known) (u : VolumeTable) (now : Held) (n : Known) (before leaves : Leaving) (result : Result Reply Failed) : Type 0 where
   pub reply : IfOk result (λ r. ((r ≡ No NoMemory) × (state_in s u now n ≡ state_in s t area m)) ⊎ ((r ≡ o.reply) × (state_in s u now n ≡ o.after)))
   pub ready : OnOk result (IsReady s u now n)
   pub settled : IfOk result (λ r. is_accepted r ≡ true → is_settling command ≡ true → IsSettled now)
   pub crash : (v : VolumeTable) (image : ℕ → List ℕ) → leaves v image → IsKept (content_in s v image)
       × IsBetween (MayShow s before) (state_in s t area m).disks o.after.disks (disks (content_in s v image))
+  pub logged : (v : VolumeTable) (image : ℕ → List ℕ) → leaves v image → IsLogged (content_in s v image) n.logs
 
 -- of a store with its memory: a call takes this command to this reply and this state, or answers that memory is wanting and
 -- leaves the state; whatever a stop leaves is kept, with disks between those from before and those from after

@@ -8,11 +8,12 @@
 //! alone; `outline_in` is what the checks of an opening look at, read off the same. `IsOrderly` and `IsTidy` say what
 //! holds of table and memory, whatever a device holds; `IsReady` says what holds of the sectors: each image is steady, only
 //! own images of disks attached for writing have sectors that a stop may leave otherwise than a read gives them, and the
-//! records in memory are those that a read gives.
+//! records and the logs in memory are those that a read gives.
 //!
 //! **What it promises.** Of a store that is ready, whatever a stop leaves is kept: the checks of an opening pass, each block
-//! with a slot holds a sector (`KeptLaws`); it has the outline of memory (`LeftLaws`) and the machine's shape (`ShapeLaws`),
-//! and shows the disks that a read gives, but for what guests wrote (`AlikeLaws`). The laws by kind of change say what a stop
+//! with a slot holds a sector (`KeptLaws`); it has the outline of memory (`LeftLaws`) and its logs (`LogLaws`), and shows the disks
+//! that a read gives, but for what guests wrote (`AlikeLaws`). A read gives the machine's state (`StateLaws`, by `ShapeLaws` and
+//! `LogRows`). The laws by kind of change say what a stop
 //! may leave while it is made, and that the store is ready behind it: a single commit (`CommitLaws`), a new volume beside the
 //! images (`FirstLaws`), its record (`MiddleLaws`), its mark taken away (`LastLaws`), an image that nobody uses (`RemoveLaws`),
 //! a guest's write into a VHD image (`GuestLaws`) and into a raw one (`RawGuestLaws`), both by what a stop leaves of the image
@@ -33,7 +34,7 @@
 //! **What a command cites.** What is known where no cause refuses it (`RefusalLaws`), and of the extents that it takes
 //! (`NeedLaws`); what the machine looks up of a disk, by what is in memory (`LookLaws`); what was taken, whether it was
 //! refused, answered, accepted or stopped (`TakenLaws`), by the commands that are built or by all; what a stop leaves in a
-//! chain of calls of the store (`ChainLaws`), and what it shows at rest (`ShowLaws`); the image of the disk that a command
+//! chain of calls of the store (`ChainLaws`), with which logs (`LogStores`), and what it shows at rest (`ShowLaws`); the image of the disk that a command
 //! names (`OwnLaws`); a command that makes all last and changes memory alone (`SyncLaws`, `UsedLaws`), and one that gives a
 //! disk another label (`LabelLaws`); a new volume for an image, and the place of its disk's record (`BeginLaws`); an image and
 //! its disk's record made in two commits (`NewLaws`, `MakingLaws`), whatever
