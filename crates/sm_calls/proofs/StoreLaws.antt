@@ -11,7 +11,9 @@ use Rattle.vg_meta.specs.declared.changes.Change.{Change}
 use Rattle.vg_volumes.specs.Sites.{Site, area_size}
 use Rattle.vg_volumes.specs.Stored.{CanCommit, Commits, FailsToCommit, IsChoiceOf, IsEitherOf, Stays, Stored, stored}
 use Rattle.vg_volumes.specs.declared.stores.Store.{Ghosts}
+use Rattle.sm_log.specs.Logs.{Log}
 use Rattle.sm_machine.specs.Disks.{Disk}
+use Rattle.sm_standing.specs.Logs.{IsLogged}
 use Rattle.sm_standing.specs.Standing.{disks}
 use Rattle.sm_standing.specs.Opened.{applied_all}
 use Rattle.sm_ready.specs.Done.{HasDoneFrom, at_rest}
@@ -25,7 +27,8 @@ use Rattle.sm_ready.proofs.ChainLaws.{tab}
 use Rattle.sm_ready.proofs.CommitLaws.{IsSafe, already, law_settled, rested, volume_rested}
 use Rattle.sm_ready.proofs.KeptLaws.{law_kept}
 use Rattle.sm_ready.proofs.LeaveLaws.{left_choice}
-use Rattle.sm_ready.proofs.LeftLaws.{left_in, ready_places}
+use Rattle.sm_ready.proofs.LeftLaws.{IsLeft, left_in, ready_places}
+use Rattle.sm_ready.proofs.LogLaws.{holds_ready, logged_left}
 use Rattle.sm_ready.proofs.RoomLaws.{rows_commits, rows_stays}
 use Rattle.sm_ready.proofs.RunLaws.{applied_append, may_back, may_front}
 use Rattle.sm_calls.specs.Calls.{Call, CanRun, Commit, DoesRun, GoesOn, GoesWell, IsSoFar, RoomFor, IsAmong, IsFine, IsReadyWith, Settle, ShowsBetween, Work, changes, worked}
@@ -194,30 +197,36 @@ module _ {S : Type 0} {g : Ghosts S} where
   }
 
   -- and what it says of disks and stops
-  pub law_run : {a b : S} {calls : List Call} {came ok : Type 0} {was ds : List Disk} {n : Known} (k : Known) → g.told → DoesRun g calls a b came
-      → GoesWell (ShowsBetween (g.site a) (StoreLeaves g a) was ds) (IsReadyWith n ds) (stored g a) calls → (ok → came × (k ≡ n))
+  pub law_run : {a b : S} {calls : List Call} {came ok : Type 0} {was ds : List Disk} {ls : List Log} {n : Known} (k : Known) → g.told → DoesRun g calls a b came
+      → GoesWell (ShowsBetween (g.site a) (StoreLeaves g a) was ds ls) (IsReadyWith n ds) (stored g a) calls → k.logs ≡ ls → (ok → came × (k ≡ n))
       → HasDoneFrom (g.site a) (tab g b) (g.area b) k (StoreLeaves g a) (StoreLeaves g b) ok was ds
-  law_run {a} {b} {calls} {came} {ok} {was} {ds} {n} k told run well by = record {
+  law_run {a} {b} {calls} {came} {ok} {was} {ds} {ls} {n} k told run well same by = record {
     ready = λ fine. subst₂ (λ s m. IsReady s (tab g b) (g.area b) m) (run.site) (sym (by fine).1) (end (by fine).0).ready;
     settled = λ fine. (end (by fine).0).settled;
     shown = λ fine. subst (λ s. disks (content_now s (tab g b) (g.area b)) ≡ ds) run.site (end (by fine).0).shown;
-    crash = λ v image l. law_among (ShowsBetween (g.site a) (StoreLeaves g a) was ds) (IsReadyWith n ds) (stored g a) calls well v image (run.left told v image l);
+    crash = λ v image l. let w = among v image l in (w.0, w.1);
+    logged = λ v image l. subst (IsLogged (content_in (g.site a) v image)) (sym same) (let w = among v image l in w.2);
   }
     where
+      among : (v : VolumeTable) (image : ℕ → List ℕ) → StoreLeaves g b v image → ShowsBetween (g.site a) (StoreLeaves g a) was ds ls v image
+      among v image l = law_among (ShowsBetween (g.site a) (StoreLeaves g a) was ds ls) (IsReadyWith n ds) (stored g a) calls well v image (run.left told v image l)
+
       end : came → IsReadyWith n ds (stored g b)
-      end fine = law_end (ShowsBetween (g.site a) (StoreLeaves g a) was ds) (IsReadyWith n ds) (stored g a) (stored g b) calls well (run.ran fine told)
+      end fine = law_end (ShowsBetween (g.site a) (StoreLeaves g a) was ds ls) (IsReadyWith n ds) (stored g a) (stored g b) calls well (run.ran fine told)
 
 -- ---- moments
 
-pub safe_fine : {s : Site} {t : VolumeTable} {area : Held} {before : Leaving} {was : List Disk} (ds : List Disk) → IsSafe s t area before was → IsFine (ShowsBetween s before was ds) (record { site = s; table = t; area = area })
-safe_fine ds safe image left = (safe.kept image left, inl (safe.shown image left))
+pub safe_fine : {s : Site} {t : VolumeTable} {area : Held} {before : Leaving} {was : List Disk} (ls : List Log) (ds : List Disk) → IsSafe s t area before was
+    → ((image : ℕ → List ℕ) → IsLeft s area image → IsLogged (content_in s t image) ls) → IsFine (ShowsBetween s before was ds ls) (record { site = s; table = t; area = area })
+safe_fine ls ds safe logged image left = (safe.kept image left, inl (safe.shown image left), logged image left)
 
 -- at rest, with a table of which memory is ready
 pub ready_fine : (s : Site) (t : VolumeTable) (m : Known) (floor : ℕ → List ℕ) (before : Leaving) (was ds : List Disk) → IsOrderly s t m → IsReady s t (at_rest floor) m → disks (content_now s t (at_rest floor)) ≡ ds
-    → IsFine (ShowsBetween s before was ds) (record { site = s; table = t; area = at_rest floor })
+    → IsFine (ShowsBetween s before was ds m.logs) (record { site = s; table = t; area = at_rest floor })
 ready_fine s t m floor before was ds o ready is image left = (
   law_kept s t (at_rest floor) m image o ready.firm (left_in s t m (at_rest floor) image o left) (ready_places s t (at_rest floor) m image o ready left),
   inr (already (MayShow s before) ds (disks (content_in s t image)) (law_settled s t (at_rest floor) m image o ready (volume_rested s t floor) left ∙ is)),
+  logged_left (holds_ready s t (at_rest floor) m o ready) o.table image left,
 )
 
 -- ---- calls of a loop

@@ -10,9 +10,11 @@ use Rattle.vg_meta.specs.declared.changes.Change.TheVariants.{Create, Remove, Re
 use Rattle.vg_volumes.specs.Sites.{Site, area_size}
 use Rattle.vg_volumes.specs.Stored.{IsChoiceOf, Stored, stored}
 use Rattle.vg_volumes.specs.declared.stores.Store.{Ghosts}
+use Rattle.sm_log.specs.Logs.{Log}
 use Rattle.sm_machine.specs.Disks.{Disk}
 use Rattle.sm_run.specs.Between.{IsBetween}
 use Rattle.sm_standing.specs.Keeping.{IsKept}
+use Rattle.sm_standing.specs.Logs.{IsLogged}
 use Rattle.sm_standing.specs.Standing.{disks}
 use Rattle.sm_standing.specs.Opened.{applied_all}
 use Rattle.sm_ready.specs.Done.{at_rest}
@@ -136,9 +138,10 @@ pub record DoesRun {S : Type 0} (g : Ghosts S) (calls : List Call) (old new : S)
 
 -- ---- what a command shows
 
--- what a stop leaves is kept, and shows disks between those from before and those from after
-abbrev pub ShowsBetween : Site → Leaving → List Disk → List Disk → Leaving
-ShowsBetween s before was ds t image = IsKept (content_in s t image) × IsBetween (MayShow s before) was ds (disks (content_in s t image))
+-- what a stop leaves is kept, shows disks between those from before and those from after, and has these logs
+abbrev pub ShowsBetween : Site → Leaving → List Disk → List Disk → List Log → Leaving
+ShowsBetween s before was ds ls t image =
+    IsKept (content_in s t image) × IsBetween (MayShow s before) was ds (disks (content_in s t image)) × IsLogged (content_in s t image) ls
 
 -- a store is ready for what is in memory, with nothing pending, and a read gives these disks
 pub record IsReadyWith (m : Known) (ds : List Disk) (x : Stored) : Type 0 where
